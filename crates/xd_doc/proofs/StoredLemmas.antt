@@ -1,0 +1,270 @@
+-- On the documents of a list of nodes.
+use Rattle.std.proofs.Common.{Bool, true, false, ◌≡◌, ℕ, zero, suc, ◌+◌, ◌<◌, ◌≤◌, List, [], ◌∷◌, ◌++◌, length, get_or, Option, Some, None, refl, ap, sym, ◌∙◌, subst, arith, length-append, add-zero, add-one, zero-add, Vec, vec_len, rules, ⊎_elim}
+use Rattle.std.proofs.lemmas.List.{get_or_append_left}
+use Rattle.std.proofs.Math.Seq.{get_or-append_seam}
+use Rattle.std.specs.Str.{is_utf8}
+use Rattle.std.specs.List.{AllByRecursion}
+use Rattle.std.proofs.lemmas.Bool.{cases_lt}
+use Rattle.xd_doc.specs.Word.{is_word}
+use Rattle.xd_doc.specs.Document.{Document, empty, text, element, is_proper, has_item, rest_of, content_of, first_then, join, size}
+use Rattle.xd_doc.specs.Stored.{at_node, IsBelow, document_at, BelongsTo, item_before, is_proper_item, node_document, documents_after, documents, AreLinked, IsLinked, Keeps, IsOlder, first_of_document, firsts_then, IsSpine, copy_at, IsCopied, AreCopied, no_items}
+use Rattle.xd_doc.specs.declared.store.Seq.{Seq}
+use Rattle.xd_doc.specs.declared.store.Node.{Node}
+use Rattle.xd_doc.specs.declared.store.Item.{Item}
+use Rattle.xd_doc.specs.declared.store.Item.TheVariants.{Text, Elem}
+
+pub documents_after-append : (ds : List Document) (xs ys : List Node) → documents_after ds (xs ++ ys) ≡ documents_after (documents_after ds xs) ys
+documents_after-append ds [] ys = refl
+documents_after-append ds (x ∷ xs) ys = documents_after-append (ds ++ node_document ds x ∷ []) xs ys
+
+pub documents-push : (ns : List Node) (n : Node) → documents (ns ++ n ∷ []) ≡ documents ns ++ node_document (documents ns) n ∷ []
+documents-push ns n = documents_after-append [] ns (n ∷ [])
+
+pub length-documents_after : (ds : List Document) (ns : List Node) → length (documents_after ds ns) ≡ length ds + length ns
+length-documents_after ds [] = omega arith
+length-documents_after ds (n ∷ ns) = omega (arith, length-documents_after (ds ++ node_document ds n ∷ []) ns, length-append ds (node_document ds n ∷ []))
+
+pub length-documents : (ns : List Node) → length (documents ns) ≡ length ns
+length-documents ns = omega (arith, length-documents_after [] ns)
+
+-- a node's place is kept where the list grows
+pub at_node-append : (ds es : List Document) (o : Option ℕ) → IsBelow (length ds) o → at_node (ds ++ es) o ≡ at_node ds o
+at_node-append ds es None h = refl
+at_node-append ds es (Some i) h = get_or_append_left ds es empty i h
+
+pub IsBelow-append : (ds es : List Document) (o : Option ℕ) → IsBelow (length ds) o → IsBelow (length (ds ++ es)) o
+IsBelow-append ds es None h = tt
+IsBelow-append ds es (Some i) h = omega (arith, length-append ds es)
+
+pub BelongsTo-append : (ds es : List Document) (seq : Seq) → BelongsTo ds seq → BelongsTo (ds ++ es) seq
+BelongsTo-append ds es seq h =
+    let e = at_node-append ds es seq.node h.place in
+    record {
+      place = IsBelow-append ds es seq.node h.place;
+      proper = ap is_proper e ∙ h.proper;
+      filled = ap has_item e ∙ h.filled;
+    }
+
+pub Keeps-append : (ds es : List Document) → Keeps ds (ds ++ es)
+Keeps-append ds es = record {
+  belongs = BelongsTo-append ds es;
+  same = λ seq h. at_node-append ds es seq.node h.place;
+}
+
+pub Keeps-same : (ds : List Document) → Keeps ds ds
+Keeps-same ds = record { belongs = λ seq h. h; same = λ seq h. refl }
+
+pub Keeps-trans : (ds es fs : List Document) → Keeps ds es → Keeps es fs → Keeps ds fs
+Keeps-trans ds es fs a b = record {
+  belongs = λ seq h. b.belongs seq (a.belongs seq h);
+  same = λ seq h. b.same seq (a.belongs seq h) ∙ a.same seq h;
+}
+
+pub Keeps-documents_after : (ds : List Document) (ns : List Node) → Keeps ds (documents_after ds ns)
+Keeps-documents_after ds [] = Keeps-same ds
+Keeps-documents_after ds (n ∷ ns) = Keeps-trans ds (ds ++ node_document ds n ∷ []) (documents_after ds (n ∷ ns)) (Keeps-append ds (node_document ds n ∷ [])) (Keeps-documents_after (ds ++ node_document ds n ∷ []) ns)
+
+pub AreLinked-append : (ds : List Document) (ns : List Node) (n : Node) → AreLinked ds ns → IsLinked (documents_after ds ns) n → AreLinked ds (ns ++ n ∷ [])
+AreLinked-append ds [] n h l = (l, tt)
+AreLinked-append ds (m ∷ ns) n h l = (h.0, AreLinked-append (ds ++ node_document ds m ∷ []) ns n h.1 l)
+
+pub AreLinked-push : (ns : List Node) (n : Node) → AreLinked [] ns → IsLinked (documents ns) n → AreLinked [] (ns ++ n ∷ [])
+AreLinked-push ns n h l = AreLinked-append [] ns n h l
+
+pub item_before-proper : (i : Item) (c r : Document) → is_proper_item i ≡ true → is_proper c ≡ true → is_proper r ≡ true → is_proper (item_before i c r) ≡ true
+item_before-proper (Text s) c r h p q = rw (h, q)
+item_before-proper (Elem l) c r h p q = rw (h, p, q)
+
+pub item_before-filled : (i : Item) (c r : Document) → has_item (item_before i c r) ≡ true
+item_before-filled (Text s) c r = refl
+item_before-filled (Elem l) c r = refl
+
+-- a new node belongs to the documents with its own
+pub BelongsTo-new : (ds : List Document) (n : Node) → IsLinked ds n → BelongsTo (ds ++ node_document ds n ∷ []) (record { node = Some (length ds) })
+BelongsTo-new ds n h =
+    let e = get_or-append_seam ds (node_document ds n) [] empty in
+    record {
+      place = omega (arith, length-append ds (node_document ds n ∷ []));
+      proper = ap is_proper e ∙ item_before-proper n.item _ _ h.item h.content.proper h.next.proper;
+      filled = ap has_item e ∙ item_before-filled n.item _ _;
+    }
+
+-- what a node stands for, and that its links are older
+pub record StandsAt (ds : List Document) (i : ℕ) (n : Node) : Type 0 where
+  pub document : get_or ds i empty ≡ node_document ds n
+  pub linked : IsLinked ds n
+  pub content_older : IsBelow i n.content.node
+  pub next_older : IsBelow i n.next.node
+
+IsLinked-keeps : (ds es : List Document) (n : Node) → Keeps ds es → IsLinked ds n → IsLinked es n
+IsLinked-keeps ds es n k h = record { item = h.item; content = k.belongs n.content h.content; next = k.belongs n.next h.next }
+
+node_document-keeps : (ds es : List Document) (n : Node) → Keeps ds es → IsLinked ds n → node_document es n ≡ node_document ds n
+node_document-keeps ds es n k h =
+    ap (λ d. item_before n.item d (document_at es n.next)) (k.same n.content h.content)
+    ∙ ap (item_before n.item (document_at ds n.content)) (k.same n.next h.next)
+
+stands_first : (ds : List Document) (ns : List Node) (n : Node) → IsLinked ds n → StandsAt (documents_after ds (n ∷ ns)) (length ds) n
+stands_first ds ns n h =
+    let k = Keeps-documents_after ds (n ∷ ns) in
+    let later = Keeps-documents_after (ds ++ node_document ds n ∷ []) ns in
+    record {
+      document = later.same (record { node = Some (length ds) }) (BelongsTo-new ds n h) ∙ get_or-append_seam ds (node_document ds n) [] empty ∙ sym (node_document-keeps ds (documents_after ds (n ∷ ns)) n k h);
+      linked = IsLinked-keeps ds (documents_after ds (n ∷ ns)) n k h;
+      content_older = h.content.place;
+      next_older = h.next.place;
+    }
+
+stands_after : (ds : List Document) (ns : List Node) (i : ℕ) (n : Node) → AreLinked ds ns → i < length ns → n ≡ get_or ns i n → StandsAt (documents_after ds ns) (length ds + i) n
+stands_after ds [] i n h l e = absurd (omega arith)
+stands_after ds (m ∷ ns) zero n h l e =
+    let same : n ≡ m = e in
+    rw (add-zero, same) (stands_first ds ns m h.0)
+stands_after ds (m ∷ ns) (suc i) n h l e =
+    let e1 : length (ds ++ node_document ds m ∷ []) ≡ length ds + 1 = length-append ds (node_document ds m ∷ []) in
+    let e2 : length (ds ++ node_document ds m ∷ []) + i ≡ length ds + suc i = omega arith in
+    rw e2 at (stands_after (ds ++ node_document ds m ∷ []) ns i n h.1 (omega arith) e)
+
+-- the node at a place
+pub stands : (ns : List Node) (i : ℕ) (n : Node) → AreLinked [] ns → i < length ns → n ≡ get_or ns i n → StandsAt (documents ns) i n
+stands ns i n h l e = rw zero-add at (stands_after [] ns i n h l e)
+
+-- what is read at a place that a `Seq` of the store names
+pub record Reads (now : List Document) (seq : Seq) (n : Node) : Type 0 where
+  pub linked : IsLinked now n
+  pub document : document_at now seq ≡ node_document now n
+  pub content_older : IsOlder n.content seq
+  pub next_older : IsOlder n.next seq
+
+-- how many nodes a vector has
+pub length-nodes : {Z : Type 0} (v : Vec Node Z) (now : List Document) → documents v.items ≡ now → vec_len v ≡ length now
+length-nodes v now e =
+    let l : vec_len v ≡ length v.items = search rules in
+    l ∙ sym (length-documents v.items) ∙ ap length e
+
+-- the place is one of the vector
+pub in_vec : {Z : Type 0} (v : Vec Node Z) (now : List Document) (seq : Seq) (i : ℕ) → documents v.items ≡ now → BelongsTo now seq → seq.node ≡ Some i → i < vec_len v
+in_vec v now seq i e h s =
+    let p : IsBelow (length now) (Some i) = rw s at h.place in
+    omega (arith, length-nodes v now e)
+
+pub in_store : (ns : List Node) (now : List Document) (seq : Seq) (i : ℕ) → documents ns ≡ now → BelongsTo now seq → seq.node ≡ Some i → i < length ns
+in_store ns now seq i v h e =
+    let p : IsBelow (length now) (Some i) = rw e at h.place in
+    omega (arith, length-documents ns, ap length v)
+
+pub reads : (ns : List Node) (now : List Document) (seq : Seq) (i : ℕ) (n : Node) → AreLinked [] ns → documents ns ≡ now → BelongsTo now seq → seq.node ≡ Some i → n ≡ get_or ns i n → Reads now seq n
+reads ns now seq i n a v h e g =
+    let l = in_store ns now seq i v h e in
+    let s = rw v at (stands ns i n a l g) in
+    record {
+      linked = s.linked;
+      document = rw e s.document;
+      content_older = rw e s.content_older;
+      next_older = rw e s.next_older;
+    }
+
+pub rest_of-item_before : (i : Item) (c r : Document) → rest_of (item_before i c r) ≡ r
+rest_of-item_before (Text s) c r = refl
+rest_of-item_before (Elem l) c r = refl
+
+pub content_of-text : (i : Item) (s : List ℕ) (c r : Document) → i ≡ Text s → content_of (item_before i c r) ≡ empty
+content_of-text i s c r e = rw e
+
+pub content_of-element : (i : Item) (l : List ℕ) (c r : Document) → i ≡ Elem l → content_of (item_before i c r) ≡ c
+content_of-element i l c r e = rw e
+
+pub first-item_before : (i : Item) (c r : Document) → first_of_document (item_before i c r) ≡ Some i
+first-item_before (Text s) c r = refl
+first-item_before (Elem l) c r = refl
+
+pub firsts_then-append : (ds : List Document) (xs : List Seq) (seq : Seq) (d : Document) → firsts_then ds (xs ++ seq ∷ []) d ≡ firsts_then ds xs (first_then (document_at ds seq) d)
+firsts_then-append ds [] seq d = refl
+firsts_then-append ds (x ∷ xs) seq d = ap (first_then (document_at ds x)) (firsts_then-append ds xs seq d)
+
+pub first_then-join : (d e : Document) → first_then d (join (rest_of d) e) ≡ join d e
+first_then-join empty e = refl
+first_then-join (text s r) e = refl
+first_then-join (element l c r) e = refl
+
+-- the items so far, and what is left
+pub record SpineSoFar (ds : List Document) (seq : Seq) (seqs : List Seq) (rest : Seq) : Type 0 where
+  pub belong : AllByRecursion (BelongsTo ds) seqs
+  pub left : BelongsTo ds rest
+  pub items : (d : Document) → firsts_then ds seqs (join (document_at ds rest) d) ≡ join (document_at ds seq) d
+
+pub spine_none : (ds : List Document) (seq : Seq) → BelongsTo ds seq → SpineSoFar ds seq [] seq
+spine_none ds seq h = record { belong = tt; left = h; items = λ d. refl }
+
+pub belong-push : (ds : List Document) (xs : List Seq) (seq : Seq) → AllByRecursion (BelongsTo ds) xs → BelongsTo ds seq → AllByRecursion (BelongsTo ds) (xs ++ seq ∷ [])
+belong-push ds [] seq h b = (b, tt)
+belong-push ds (x ∷ xs) seq h b = (h.0, belong-push ds xs seq h.1 b)
+
+pub belong-front : (ds : List Document) (xs : List Seq) (seq : Seq) → AllByRecursion (BelongsTo ds) (xs ++ seq ∷ []) → AllByRecursion (BelongsTo ds) xs × BelongsTo ds seq
+belong-front ds [] seq h = (tt, h.0)
+belong-front ds (x ∷ xs) seq h = let b = belong-front ds xs seq h.1 in ((h.0, b.0), b.1)
+
+pub spine_more : (ds : List Document) (seq : Seq) (seqs : List Seq) (rest next : Seq) → SpineSoFar ds seq seqs rest → BelongsTo ds next → document_at ds next ≡ rest_of (document_at ds rest) → SpineSoFar ds seq (seqs ++ rest ∷ []) next
+spine_more ds seq seqs rest next h b e = record {
+  belong = belong-push ds seqs rest h.belong h.left;
+  left = b;
+  items = λ d. rw (firsts_then-append, e, first_then-join) (h.items d);
+}
+
+pub spine_all : (ds : List Document) (seq : Seq) (seqs : List Seq) (rest : Seq) → SpineSoFar ds seq seqs rest → document_at ds rest ≡ empty → IsSpine ds seq seqs
+spine_all ds seq seqs rest h e = record {
+  belong = h.belong;
+  items = λ d. let s = h.items d in rw e at s;
+}
+
+-- what follows an item is smaller
+pub size-rest_of : (d : Document) → has_item d ≡ true → size (rest_of d) < size d
+size-rest_of empty h = cc
+size-rest_of (text s r) h = omega arith
+size-rest_of (element l c r) h = omega arith
+
+pub is_empty : (d : Document) → has_item d ≡ false → d ≡ empty
+is_empty empty h = refl
+is_empty (text s r) h = cc
+is_empty (element l c r) h = cc
+
+pub first_then-item_before : (i : Item) (c r e : Document) → first_then (item_before i c r) e ≡ item_before i c e
+first_then-item_before (Text s) c r e = refl
+first_then-item_before (Elem l) c r e = refl
+
+pub copied_none : (ds es : List Document) → AreCopied ds es []
+copied_none ds es None h = record { belongs = record { place = tt; proper = refl; filled = refl }; same = refl }
+copied_none ds es (Some i) h = absurd (omega arith)
+
+-- one more node is copied
+pub copied_more : (ds es fs : List Document) (cs : List Seq) (c : Seq) → AreCopied ds es cs → Keeps es fs → BelongsTo fs c → document_at fs c ≡ get_or ds (length cs) empty → AreCopied ds fs (cs ++ c ∷ [])
+copied_more ds es fs cs c h k b e None l = record { belongs = record { place = tt; proper = refl; filled = refl }; same = refl }
+copied_more ds es fs cs c h k b e (Some i) l = ⊎_elim
+    (λ lt. let r = get_or_append_left cs (c ∷ []) no_items i lt in
+    let old = h (Some i) lt in
+    record {
+      belongs = rw r (k.belongs _ old.belongs);
+      same = rw r (k.same _ old.belongs ∙ old.same);
+    })
+    (λ ge. let at : i ≡ length cs = omega (arith, length-append cs (c ∷ [])) in
+    let r = get_or-append_seam cs c [] no_items in
+    record { belongs = rw (at, r) b; same = rw (at, r) e })
+    (cases_lt i (length cs))
+
+-- a copy of a node with copied links is linked
+pub linked_copy : (ds es : List Document) (cs : List Seq) (n : Node) (item : Item) (content next : Seq) → AreCopied ds es cs → IsLinked ds n → item ≡ n.item → IsBelow (length cs) n.content.node → IsBelow (length cs) n.next.node → content ≡ copy_at cs n.content.node → next ≡ copy_at cs n.next.node → IsLinked es (record { item = item; content = content; next = next })
+linked_copy ds es cs n item content next h l e c x ec ex = record {
+  item = ap is_proper_item e ∙ l.item;
+  content = rw ec (h n.content.node c).belongs;
+  next = rw ex (h n.next.node x).belongs;
+}
+
+pub document-copy : (ds es : List Document) (cs : List Seq) (n : Node) (item : Item) (content next : Seq) → AreCopied ds es cs → item ≡ n.item → IsBelow (length cs) n.content.node → IsBelow (length cs) n.next.node → content ≡ copy_at cs n.content.node → next ≡ copy_at cs n.next.node → node_document es (record { item = item; content = content; next = next }) ≡ node_document ds n
+document-copy ds es cs n item content next h e c x ec ex =
+    rw (e, ec, ex, (h n.content.node c).same, (h n.next.node x).same)
+
+-- the node at a place of the vector
+pub stands_in : {Z : Type 0} (v : Vec Node Z) (now : List Document) (i : ℕ) (n : Node) → AreLinked [] v.items → documents v.items ≡ now → i < vec_len v → n ≡ get_or v.items i n → StandsAt now i n
+stands_in v now i n a e l g =
+    let w : vec_len v ≡ length v.items = search rules in
+    rw e at (stands v.items i n a (omega arith) g)

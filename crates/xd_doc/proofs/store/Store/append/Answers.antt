@@ -1,0 +1,18 @@
+use Rattle.std.proofs.Common.{◌≡◌, ap, ◌∙◌, sym}
+use Rattle.xd_doc.specs.Document.{first_then}
+use Rattle.xd_doc.specs.Stored.{document_at, firsts_then, BelongsTo}
+use Rattle.xd_doc.proofs.StoredLemmas.{belong-front, firsts_then-append, Keeps-trans}
+use Rattle.xd_doc.proofs.store.Store.append.Goals as goal
+
+pub loop-seq-preserved : goal.loop-seq-preserved
+loop-seq-preserved c =
+    let i = c.loop-seq.invariant in
+    let b = belong-front c.args.self.now c.pop.new.self.items c.in-Some.seq (rw c.in-Some.ensures.items at i.belong) in
+    let e = i.keeps.same c.in-Some.seq b.1 in
+    let j = rw (c.in-Some.ensures.items, firsts_then-append) at i.joined in
+    record {
+      belong = b.0;
+      made = c.in_ok-made.ensures.belongs;
+      keeps = Keeps-trans _ _ _ i.keeps c.repeat.ensures.keeps;
+      joined = rw (c.in_ok-made.ensures.ok, e) j;
+    }

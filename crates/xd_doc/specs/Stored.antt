@@ -1,0 +1,107 @@
+-- What the nodes of a store stand for.
+use Rattle.std.specs.Prelude.{◌≡◌, ℕ, ◌+◌, ◌<◌, Bool, true, false, List, [], ◌∷◌, ◌++◌, length, Option, Some, None, is_some, slice_index_or}
+use Rattle.std.specs.Str.{is_utf8}
+use Rattle.std.specs.List.{AllByRecursion}
+use Rattle.xd_doc.specs.Word.{is_word}
+use Rattle.xd_doc.specs.Document.{Document, empty, text, element, is_proper, has_item, first_then, join}
+use Rattle.xd_doc.specs.declared.store.Seq.{Seq}
+use Rattle.xd_doc.specs.declared.store.Item.{Item}
+use Rattle.xd_doc.specs.declared.store.Item.TheVariants.{Text, Elem}
+use Rattle.xd_doc.specs.declared.store.Node.{Node}
+
+-- the `Seq` with no item
+abbrev pub no_items : Seq
+no_items = record { node = None }
+
+-- the document at a node, or the empty one
+abbrev pub at_node : List Document → Option ℕ → Document
+at_node ds None = empty
+at_node ds (Some i) = slice_index_or ds i empty
+
+-- the document that a `Seq` stands for
+abbrev pub document_at : List Document → Seq → Document
+document_at ds seq = at_node ds seq.node
+
+-- one of the first n nodes, or none
+abbrev pub IsBelow : ℕ → Option ℕ → Type 0
+IsBelow n None = Unit {0}
+IsBelow n (Some i) = i < n
+
+-- the `Seq` belongs to the store: its node is there, and stands for a proper document with an item
+pub record BelongsTo (ds : List Document) (seq : Seq) : Type 0 where
+  pub place : IsBelow (length ds) seq.node
+  pub proper : is_proper (document_at ds seq) ≡ true
+  pub filled : has_item (document_at ds seq) ≡ is_some seq.node
+
+-- an item before a document
+abbrev pub item_before : Item → Document → Document → Document
+item_before (Text s) c r = text s r
+item_before (Elem l) c r = element l c r
+
+abbrev pub is_proper_item : Item → Bool
+is_proper_item (Text s) = is_utf8 s
+is_proper_item (Elem l) = is_word l
+
+abbrev pub node_document : List Document → Node → Document
+node_document ds n = item_before n.item (document_at ds n.content) (document_at ds n.next)
+
+-- the nodes' documents, behind those of older nodes
+abbrev pub documents_after : List Document → List Node → List Document
+documents_after ds [] = ds
+documents_after ds (n ∷ ns) = documents_after (ds ++ node_document ds n ∷ []) ns
+
+abbrev pub documents : List Node → List Document
+documents ns = documents_after [] ns
+
+-- the first item, if there is one
+abbrev pub first_of_document : Document → Option Item
+first_of_document empty = None
+first_of_document (text s r) = Some (Text s)
+first_of_document (element l c r) = Some (Elem l)
+
+-- a node's item is proper, and its links are among these documents
+pub record IsLinked (ds : List Document) (n : Node) : Type 0 where
+  pub item : is_proper_item n.item ≡ true
+  pub content : BelongsTo ds n.content
+  pub next : BelongsTo ds n.next
+
+-- each node's links are among the documents of older nodes
+abbrev pub AreLinked : List Document → List Node → Type 0
+AreLinked ds [] = Unit {0}
+AreLinked ds (n ∷ ns) = IsLinked ds n × AreLinked (ds ++ node_document ds n ∷ []) ns
+
+-- each old document stands where it stood
+pub record Keeps (old new : List Document) : Type 0 where
+  pub belongs : (seq : Seq) → BelongsTo old seq → BelongsTo new seq
+  pub same : (seq : Seq) → BelongsTo old seq → document_at new seq ≡ document_at old seq
+
+abbrev pub place_of : Option ℕ → ℕ
+place_of None = 0
+place_of (Some i) = i
+
+-- a node older than the other; the empty one is older than each
+abbrev pub IsOlder : Seq → Seq → Type 0
+IsOlder a b = IsBelow (place_of b.node) a.node
+
+-- the first items of these, in order, and then a document
+abbrev pub firsts_then : List Document → List Seq → Document → Document
+firsts_then ds [] d = d
+firsts_then ds (seq ∷ seqs) d = first_then (document_at ds seq) (firsts_then ds seqs d)
+
+-- these are the nodes of the items of a document, in order
+pub record IsSpine (ds : List Document) (seq : Seq) (seqs : List Seq) : Type 0 where
+  pub belong : AllByRecursion (BelongsTo ds) seqs
+  pub items : (d : Document) → firsts_then ds seqs d ≡ join (document_at ds seq) d
+
+abbrev pub copy_at : List Seq → Option ℕ → Seq
+copy_at cs None = no_items
+copy_at cs (Some i) = slice_index_or cs i no_items
+
+-- a node's copy stands for what the node does
+pub record IsCopied (ds es : List Document) (cs : List Seq) (o : Option ℕ) : Type 0 where
+  pub belongs : BelongsTo es (copy_at cs o)
+  pub same : document_at es (copy_at cs o) ≡ at_node ds o
+
+-- each node so far is copied
+abbrev pub AreCopied : List Document → List Document → List Seq → Type 0
+AreCopied ds es cs = (o : Option ℕ) → IsBelow (length cs) o → IsCopied ds es cs o

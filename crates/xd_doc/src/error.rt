@@ -1,0 +1,20 @@
+//! The want of memory.
+
+use std::alloc::{AllocError, AllocFailed};
+
+/// There is not enough memory.
+#[derive(Clone, Copy, Debug, PartialEq, Eq)]
+pub struct NoMemory;
+
+impl From<AllocError> for NoMemory {
+    fn from(_error: AllocError) -> Self {
+        Self
+    }
+}
+
+impl<T: Drop> From<AllocFailed<T>> for NoMemory {
+    fn from(_error: AllocFailed<T>) -> Self {
+        Self
+    }
+}
+

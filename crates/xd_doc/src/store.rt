@@ -1,0 +1,283 @@
+//! The store: documents as nodes that are linked and shared.
+
+ghost use Rattle.std.specs.Prelude.{true, not, ◌↔◌, List, IsSome, None, ◌≡◌, ◌+◌, ◌++◌, ◌∷◌, [], length, IfOk, OnErr, OnOk, IsTrue};
+ghost use Rattle.std.specs.Option.{option_copied};
+ghost use Rattle.xd_doc.specs.Document.{Document, empty, text as text_before, element, rest_of, content_of, is_proper, has_item, first_then, join};
+ghost use Rattle.xd_doc.specs.Stored.{IsLinked, IsBelow, copy_at, IsSpine, node_document, no_items, is_proper_item, document_at, BelongsTo, Keeps, IsOlder, first_of_document};
+
+use crate::error::NoMemory;
+use crate::label::Label;
+use crate::text::Text;
+use std::alloc::Global;
+use std::marker::Model;
+
+
+/// A text, or an element's label.
+#[derive(Drop)]
+pub enum Item {
+    Text(Text),
+    Elem(Label),
+}
+
+/// A document of a store: empty, or what stands at a node.
+#[derive(Clone, Copy)]
+pub struct Seq {
+    node: Option<usize>,
+}
+
+#[derive(Drop)]
+struct Node {
+    item: Item,
+    content: Seq,
+    next: Seq,
+}
+
+/// Nodes whose links name older nodes.
+#[derive(Drop)]
+pub struct Store {
+    nodes: Vec<Node>,
+}
+
+impl Model for Store {
+    ghost use Rattle.std.specs.Prelude.{List, []};
+    ghost use Rattle.xd_doc.specs.Document.{Document, document_code};
+
+    ghost Value = { List Document };
+
+    ghost use Rattle.std.specs.Coded.{coded_list};
+
+    ghost coded = { coded_list document_code };
+
+    ghost use Rattle.xd_doc.specs.Stored.{documents, AreLinked};
+
+    ghost view = { λ s. documents s.nodes.items };
+
+    ghost invariant = { λ s. AreLinked [] s.nodes.items };
+}
+
+impl Seq {
+    pub fn is_empty(self) -> bool
+        ensures { (ds : List Document) → BelongsTo ds self → result ≡ not (has_item (document_at ds self)) }
+    {
+        self.node.is_none()
+    }
+
+    pub fn empty() -> Self
+        ensures { result ≡ no_items }
+    {
+        Self { node: None }
+    }
+}
+
+impl Store {
+    /// With no node.
+    pub fn new(alloc: Global) -> Self
+        ensures { result ≡ [] }
+    {
+        Self {
+            nodes: Vec::new(alloc),
+        }
+    }
+
+    /// The number of nodes.
+    pub fn len(&self) -> usize
+        ensures { result ≡ length self.now }
+    {
+        self.nodes.len()
+    }
+}
+
+impl Store {
+    /// The text followed by `next`.
+    pub fn text_node(&mut self, text: Text, next: Seq) -> Result<Seq, NoMemory>
+        requires { BelongsTo self.old next }
+        ensures ok { IfOk result (λ seq. document_at self.new seq ≡ text_before text (document_at self.old next)) }
+        ensures belongs { IfOk result (BelongsTo self.new) }
+        ensures grown { OnOk result (self.new ≡ self.old ++ text_before text (document_at self.old next) ∷ []) }
+        ensures keeps { Keeps self.old self.new }
+        ensures err { OnErr result (self.new ≡ self.old) }
+    {
+        let _spelled = text.as_str();
+        let node = Node {
+            item: Item::Text(text),
+            content: Seq::empty(),
+            next,
+        };
+        self.push_node(node)
+    }
+
+    /// The element followed by `next`.
+    pub fn elem_node(&mut self, label: Label, content: Seq, next: Seq) -> Result<Seq, NoMemory>
+        requires content { BelongsTo self.old content }
+        requires next { BelongsTo self.old next }
+        ensures ok { IfOk result (λ seq. document_at self.new seq ≡ element label (document_at self.old content) (document_at self.old next)) }
+        ensures belongs { IfOk result (BelongsTo self.new) }
+        ensures grown { OnOk result (self.new ≡ self.old ++ element label (document_at self.old content) (document_at self.old next) ∷ []) }
+        ensures keeps { Keeps self.old self.new }
+        ensures err { OnErr result (self.new ≡ self.old) }
+    {
+        let _spelled = label.as_str();
+        let node = Node {
+            item: Item::Elem(label),
+            content,
+            next,
+        };
+        self.push_node(node)
+    }
+
+    fn push_node(&mut self, node: Node) -> Result<Seq, NoMemory>
+        requires { IsLinked self.old node }
+        ensures ok { IfOk result (λ seq. document_at self.new seq ≡ node_document self.old node) }
+        ensures belongs { IfOk result (BelongsTo self.new) }
+        ensures grown { OnOk result (self.new ≡ self.old ++ node_document self.old node ∷ []) }
+        ensures keeps { Keeps self.old self.new }
+        ensures err { OnErr result (self.new ≡ self.old) }
+    {
+        let place = self.nodes.len();
+        self.nodes.push(node)?;
+        Ok(Seq { node: Some(place) })
+    }
+
+    /// The first item.
+    pub fn first(&self, seq: Seq) -> Option<&Item>
+        requires { BelongsTo self.now seq }
+        ensures { option_copied result ≡ first_of_document (document_at self.now seq) }
+    {
+        match seq.node {
+            None => None,
+            Some(place) => Some(&self.nodes[place].item),
+        }
+    }
+
+    /// What follows the first item.
+    pub fn next(&self, seq: Seq) -> Seq
+        requires { BelongsTo self.now seq }
+        ensures rest { document_at self.now result ≡ rest_of (document_at self.now seq) }
+        ensures belongs { BelongsTo self.now result }
+        ensures older { IsOlder result seq }
+    {
+        match seq.node {
+            None => Seq::empty(),
+            Some(place) => self.nodes[place].next,
+        }
+    }
+
+    /// The content of the first item.
+    pub fn content(&self, seq: Seq) -> Seq
+        requires { BelongsTo self.now seq }
+        ensures inner { document_at self.now result ≡ content_of (document_at self.now seq) }
+        ensures belongs { BelongsTo self.now result }
+        ensures older { IsOlder result seq }
+    {
+        match seq.node {
+            None => Seq::empty(),
+            Some(place) => {
+                let node = &self.nodes[place];
+                match &node.item {
+                    Item::Text(_) => Seq::empty(),
+                    Item::Elem(_) => node.content,
+                }
+            }
+        }
+    }
+}
+
+impl Item {
+    /// An equal item.
+    fn share(&self) -> Result<Self, NoMemory>
+        ensures { IfOk result (λ item. item ≡ self.now) }
+    {
+        match self {
+            Item::Text(text) => Ok(Item::Text(text.share()?)),
+            Item::Elem(label) => Ok(Item::Elem(label.share()?)),
+        }
+    }
+}
+
+impl Store {
+    /// The first document, and behind it the second, whose nodes it shares.
+    pub fn append(&mut self, front: Seq, back: Seq) -> Result<Seq, NoMemory>
+        requires front { BelongsTo self.old front }
+        requires back { BelongsTo self.old back }
+        ensures ok { IfOk result (λ seq. document_at self.new seq ≡ join (document_at self.old front) (document_at self.old back)) }
+        ensures belongs { IfOk result (BelongsTo self.new) }
+        ensures keeps { Keeps self.old self.new }
+    {
+        let mut spine = self.spine(front)?;
+        let mut made = back;
+        while let Some(seq) = spine.pop() {
+            made = self.repeat(seq, made)?;
+        }
+        Ok(made)
+    }
+
+    /// The nodes of a document's own items.
+    fn spine(&self, seq: Seq) -> Result<Vec<Seq>, NoMemory>
+        requires { BelongsTo self.now seq }
+        ensures { IfOk result (λ spine. IsSpine self.now seq spine.items) }
+    {
+        let mut spine = Vec::new(*self.nodes.allocator());
+        let mut rest = seq;
+        while !rest.is_empty() {
+            spine.push(rest)?;
+            rest = self.next(rest);
+        }
+        Ok(spine)
+    }
+
+    /// The first item of `seq`, followed by `next`.
+    fn repeat(&mut self, seq: Seq, next: Seq) -> Result<Seq, NoMemory>
+        requires seq { BelongsTo self.old seq }
+        requires next { BelongsTo self.old next }
+        ensures ok { IfOk result (λ made. document_at self.new made ≡ first_then (document_at self.old seq) (document_at self.old next)) }
+        ensures belongs { IfOk result (BelongsTo self.new) }
+        ensures keeps { Keeps self.old self.new }
+    {
+        let Some(place) = seq.node else {
+            return Ok(next);
+        };
+        let node = &self.nodes[place];
+        let copy = Node {
+            item: node.item.share()?,
+            content: node.content,
+            next,
+        };
+        self.push_node(copy)
+    }
+
+    /// The same document in another store. Each node up to the document's is copied.
+    pub fn copy_out(&self, alloc: Global, seq: Seq, into: &mut Store) -> Result<Seq, NoMemory>
+        requires { BelongsTo self.now seq }
+        ensures ok { IfOk result (λ copy. document_at into.new copy ≡ document_at self.now seq) }
+        ensures belongs { IfOk result (BelongsTo into.new) }
+        ensures keeps { Keeps into.old into.new }
+    {
+        let Some(place) = seq.node else {
+            return Ok(seq);
+        };
+        let nodes = &self.nodes;
+        let _count = nodes.len();
+        let mut copies = Vec::new(alloc);
+        for i in 0..place + 1 {
+            let node = &nodes[i];
+            let copy = Node {
+                item: node.item.share()?,
+                content: copy_of(&copies, node.content),
+                next: copy_of(&copies, node.next),
+            };
+            let made = into.push_node(copy)?;
+            copies.push(made)?;
+        }
+        Ok(copies[place])
+    }
+}
+
+fn copy_of(copies: &[Seq], link: Seq) -> Seq
+    requires { IsBelow (length copies.now) link.node }
+    ensures { result ≡ copy_at copies.now link.node }
+{
+    match link.node {
+        None => link,
+        Some(place) => copies[place],
+    }
+}
