@@ -1,13 +1,11 @@
 -- On the documents of a list of nodes.
-use Rattle.std.proofs.Common.{Bool, true, false, ◌≡◌, ℕ, zero, suc, ◌+◌, ◌<◌, ◌≤◌, List, [], ◌∷◌, ◌++◌, length, get_or, Option, Some, None, refl, ap, sym, ◌∙◌, subst, arith, length-append, add-zero, add-one, zero-add, Vec, vec_len, rules, ⊎_elim}
+use Rattle.std.proofs.Common.{true, false, ◌≡◌, ℕ, zero, suc, ◌+◌, ◌<◌, List, [], ◌∷◌, ◌++◌, length, get_or, Option, Some, None, refl, ap, sym, ◌∙◌, arith, length-append, add-zero, zero-add, Vec, vec_len, rules, ⊎_elim}
 use Rattle.std.proofs.lemmas.List.{get_or_append_left}
 use Rattle.std.proofs.Math.Seq.{get_or-append_seam}
-use Rattle.std.specs.Str.{is_utf8}
 use Rattle.std.specs.List.{AllByRecursion}
 use Rattle.std.proofs.lemmas.Bool.{cases_lt}
-use Rattle.xd_doc.specs.Word.{is_word}
 use Rattle.xd_doc.specs.Document.{Document, empty, text, element, is_proper, has_item, rest_of, content_of, first_then, join, size}
-use Rattle.xd_doc.specs.Stored.{at_node, IsBelow, document_at, BelongsTo, item_before, is_proper_item, node_document, documents_after, documents, AreLinked, IsLinked, Keeps, IsOlder, first_of_document, firsts_then, IsSpine, copy_at, IsCopied, AreCopied, no_items}
+use Rattle.xd_doc.specs.Stored.{at_node, IsBelow, document_at, BelongsTo, item_before, is_proper_item, node_document, documents_after, documents, AreLinked, IsLinked, Keeps, IsOlder, first_of_document, firsts_then, IsSpine, copy_at, AreCopied, no_items}
 use Rattle.xd_doc.specs.declared.store.Seq.{Seq}
 use Rattle.xd_doc.specs.declared.store.Node.{Node}
 use Rattle.xd_doc.specs.declared.store.Item.{Item}
@@ -268,3 +266,17 @@ pub stands_in : {Z : Type 0} (v : Vec Node Z) (now : List Document) (i : ℕ) (n
 stands_in v now i n a e l g =
     let w : vec_len v ≡ length v.items = search rules in
     rw e at (stands v.items i n a (omega arith) g)
+
+-- a number below that of the store's documents is the place of a node
+pub in_nodes : {Z : Type 0} (v : Vec Node Z) (now : List Document) (i : ℕ) → documents v.items ≡ now → i < length now → i < vec_len v
+in_nodes v now i e h = omega (arith, length-nodes v now e)
+
+-- what begins at a node belongs to the store
+pub belongs_at : (ns : List Node) (now : List Document) (i : ℕ) (n : Node) → AreLinked [] ns → documents ns ≡ now → i < length now → n ≡ get_or ns i n → BelongsTo now (record { node = Some i })
+belongs_at ns now i n a v h g =
+    let s = rw v at (stands ns i n a (omega (arith, length-documents ns, ap length v)) g) in
+    record {
+      place = h;
+      proper = ap is_proper s.document ∙ item_before-proper n.item _ _ s.linked.item s.linked.content.proper s.linked.next.proper;
+      filled = ap has_item s.document ∙ item_before-filled n.item _ _;
+    }

@@ -1,5 +1,5 @@
 -- What the nodes of a store stand for.
-use Rattle.std.specs.Prelude.{◌≡◌, ℕ, ◌+◌, ◌<◌, Bool, true, false, List, [], ◌∷◌, ◌++◌, length, Option, Some, None, is_some, slice_index_or}
+use Rattle.std.specs.Prelude.{◌≡◌, ℕ, ◌<◌, Bool, true, List, [], ◌∷◌, ◌++◌, length, Option, Some, None, is_some, slice_index_or}
 use Rattle.std.specs.Str.{is_utf8}
 use Rattle.std.specs.List.{AllByRecursion}
 use Rattle.xd_doc.specs.Word.{is_word}
@@ -12,6 +12,10 @@ use Rattle.xd_doc.specs.declared.store.Node.{Node}
 -- the `Seq` with no item
 abbrev pub no_items : Seq
 no_items = record { node = None }
+
+-- the number of the node where it begins
+abbrev pub place_in_store : Seq → Option ℕ
+place_in_store seq = seq.node
 
 -- the document at a node, or the empty one
 abbrev pub at_node : List Document → Option ℕ → Document

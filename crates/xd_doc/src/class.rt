@@ -1,41 +1,42 @@
 //! Classes of labels.
 
-ghost use Rattle.std.specs.Prelude.{◌≡◌, ◌≢◌, List, [], ℕ, true, IfOk};
-ghost use Rattle.std.specs.Ordering.{nat_cmp};
-ghost use Rattle.std.specs.Cmp.Lexicographic.{slice_cmp};
-ghost use Rattle.std.specs.List.Sorted.{IsStrictlySortedBy};
-ghost use Rattle.xd_doc.specs.Classes.{class_has, names_label};
+ghost use Rattle.std.specs.Prelude.{◌≡◌, ◌<◌, ◌⊎◌, List, ℕ, true, IfOk, vec_len};
+ghost use Rattle.xd_doc.specs.Classes.{IsClass, class_has, names_label};
 
 use crate::error::NoMemory;
 use crate::label::Label;
+use std::alloc::Global;
 use std::marker::Model;
 
-/// Labels in byte order without repeats, or all labels but these.
-#[derive(Drop)]
+/// A class of labels: those that it names, or all but those.
+///
+/// Its names stand in byte order, each once. A class that names nothing has all labels.
+#[derive(Debug, Drop)]
 pub struct Class {
     names: Vec<Label>,
     except: bool,
 }
 
 impl Model for Class {
-    ghost use Rattle.std.specs.Ordering.{nat_cmp};
-    ghost use Rattle.std.specs.Cmp.Lexicographic.{slice_cmp};
-    ghost use Rattle.std.specs.List.Sorted.{IsStrictlySortedBy};
-    ghost use Rattle.xd_doc.specs.Classes.{LabelClass};
+    ghost use Rattle.xd_doc.specs.Classes.{LabelClass, IsClass};
 
     ghost Value = { LabelClass };
 
     ghost view = { λ c. record { names = c.names.items; except = c.except } };
 
-    ghost invariant = { λ c. IsStrictlySortedBy (slice_cmp nat_cmp) c.names.items };
+    ghost invariant = { λ c. IsClass (record { names = c.names.items; except = c.except }) };
 }
 
 impl Class {
-    /// A class of these labels, or of all but these.
-    pub fn new(names: Vec<Label>, except: bool) -> Result<Self, NoMemory>
+    /// The class of these labels, or of all labels but these where `except` is true.
+    ///
+    /// The names may come in any order and may repeat. A class that is to have no label at all
+    /// can't be made.
+    pub fn new(_alloc: Global, names: Vec<Label>, except: bool) -> Result<Self, NoMemory>
+        requires { (0 < vec_len names) ⊎ (except ≡ true) }
         ensures labels { IfOk result (λ class. (l : List ℕ) → names_label class.names l ≡ names_label names.items l) }
-        ensures sorted { IfOk result (λ class. IsStrictlySortedBy (slice_cmp nat_cmp) class.names) }
         ensures except { IfOk result (λ class. class.except ≡ except) }
+        ensures valid { IfOk result IsClass }
     {
         let mut names = names;
         names.sort()?;
@@ -50,17 +51,17 @@ impl Class {
         self.names.contains(label) != self.except
     }
 
-    /// Whether the class has all labels but some.
+    /// Whether the class has every label that it doesn't name: exactly for excepted names.
     pub fn takes_others(&self) -> bool
         ensures { result ≡ self.now.except }
     {
         self.except
     }
 
-    /// The labels that it names.
+    /// The labels that it names, or excepts.
     pub fn names(&self) -> &[Label]
         ensures names { result.now ≡ self.now.names }
-        ensures sorted { IsStrictlySortedBy (slice_cmp nat_cmp) self.now.names }
+        ensures valid { IsClass self.now }
     {
         self.names.as_slice()
     }

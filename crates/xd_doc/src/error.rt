@@ -2,7 +2,7 @@
 
 use std::alloc::{AllocError, AllocFailed};
 
-/// There is not enough memory.
+/// There was not enough memory.
 #[derive(Clone, Copy, Debug, PartialEq, Eq)]
 pub struct NoMemory;
 
@@ -17,4 +17,3 @@ impl<T: Drop> From<AllocFailed<T>> for NoMemory {
         Self
     }
 }
-

@@ -1,4 +1,4 @@
-//! Words and texts that are shared.
+//! Labels: words that are shared.
 
 ghost use Rattle.std.specs.Prelude.{◌≡◌, true, IfOk, nat_eq, Some};
 ghost use Rattle.std.specs.Str.{is_utf8};
@@ -18,8 +18,10 @@ use std::hash::{Hash, Hasher};
 use std::marker::Model;
 use std::rc::RcStr;
 
-/// A shared word.
-#[derive(Drop)]
+/// A label: a word that is shared, an ASCII letter or `_` and then letters, digits and `_`.
+///
+/// Labels are equal, ordered and hashed by their bytes.
+#[derive(Debug, Drop)]
 pub struct Label {
     word: RcStr,
 }
@@ -37,7 +39,7 @@ impl Model for Label {
 }
 
 impl Label {
-    /// A label of its own.
+    /// The label that this word spells.
     pub fn new(alloc: Global, word: &str) -> Result<Self, NoMemory>
         requires { is_word word.now ≡ true }
         ensures { IfOk result (λ label. label ≡ word.now) }
@@ -46,6 +48,7 @@ impl Label {
         Ok(Self { word })
     }
 
+    /// Its word.
     pub fn as_str(&self) -> &str
         ensures bytes { result.now ≡ self.now }
         ensures word { is_word self.now ≡ true }

@@ -1,9 +1,9 @@
 //! The store: documents as nodes that are linked and shared.
 
-ghost use Rattle.std.specs.Prelude.{true, not, ◌↔◌, List, IsSome, None, ◌≡◌, ◌+◌, ◌++◌, ◌∷◌, [], length, IfOk, OnErr, OnOk, IsTrue};
+ghost use Rattle.std.specs.Prelude.{true, not, ◌↔◌, List, IsSome, None, Some, ◌≡◌, ◌+◌, ◌<◌, ◌++◌, ◌∷◌, [], length, IfOk, OnErr, OnOk, IsTrue, slice_index_or};
 ghost use Rattle.std.specs.Option.{option_copied};
 ghost use Rattle.xd_doc.specs.Document.{Document, empty, text as text_before, element, rest_of, content_of, is_proper, has_item, first_then, join};
-ghost use Rattle.xd_doc.specs.Stored.{IsLinked, IsBelow, copy_at, IsSpine, node_document, no_items, is_proper_item, document_at, BelongsTo, Keeps, IsOlder, first_of_document};
+ghost use Rattle.xd_doc.specs.Stored.{IsLinked, IsBelow, copy_at, IsSpine, node_document, no_items, place_in_store, is_proper_item, document_at, BelongsTo, Keeps, IsOlder, first_of_document};
 
 use crate::error::NoMemory;
 use crate::label::Label;
@@ -11,29 +11,37 @@ use crate::text::Text;
 use std::alloc::Global;
 use std::marker::Model;
 
-
-/// A text, or an element's label.
-#[derive(Drop)]
+/// What one item of a document is: a text, or an element with this label.
+///
+/// An element's content is no part of it: [`Store::content`] gives that.
+#[derive(Debug, Drop)]
 pub enum Item {
     Text(Text),
     Elem(Label),
 }
 
-/// A document of a store: empty, or what stands at a node.
-#[derive(Clone, Copy)]
+/// A document of a store: the empty one, or the one that begins at a node.
+///
+/// It means something only beside the store that it came from.
+#[derive(Clone, Copy, Debug)]
 pub struct Seq {
     node: Option<usize>,
 }
 
-#[derive(Drop)]
+/// An item, the content of an element, and what follows.
+#[derive(Debug, Drop)]
 struct Node {
     item: Item,
     content: Seq,
     next: Seq,
 }
 
-/// Nodes whose links name older nodes.
-#[derive(Drop)]
+/// Documents, kept as nodes in one vector.
+///
+/// Contracts see a store as the list of the documents that begin at its nodes, oldest first.
+/// A node links older nodes only, so it stands for one finite document for good, documents may
+/// share their contents and rests, and dropping a store never recurses.
+#[derive(Debug, Drop)]
 pub struct Store {
     nodes: Vec<Node>,
 }
@@ -56,21 +64,32 @@ impl Model for Store {
 }
 
 impl Seq {
+    /// The empty document. It belongs to every store.
+    pub fn empty() -> Self
+        ensures { result ≡ no_items }
+    {
+        Self { node: None }
+    }
+
+    /// Whether it is the empty document.
     pub fn is_empty(self) -> bool
         ensures { (ds : List Document) → BelongsTo ds self → result ≡ not (has_item (document_at ds self)) }
     {
         self.node.is_none()
     }
 
-    pub fn empty() -> Self
-        ensures { result ≡ no_items }
+    /// The number of the node where it begins, from 0; `None` for the empty document.
+    ///
+    /// [`Store::at`] is the way back.
+    pub fn place(self) -> Option<usize>
+        ensures { result ≡ place_in_store self }
     {
-        Self { node: None }
+        self.node
     }
 }
 
 impl Store {
-    /// With no node.
+    /// A store with no node. It takes no memory.
     pub fn new(alloc: Global) -> Self
         ensures { result ≡ [] }
     {
@@ -84,6 +103,17 @@ impl Store {
         ensures { result ≡ length self.now }
     {
         self.nodes.len()
+    }
+
+    /// The document that begins at the node of this number, from 0.
+    pub fn at(&self, number: usize) -> Seq
+        requires { number < length self.now }
+        ensures place { place_in_store result ≡ Some number }
+        ensures document { document_at self.now result ≡ slice_index_or self.now number empty }
+        ensures belongs { BelongsTo self.now result }
+    {
+        let _node = &self.nodes[number];
+        Seq { node: Some(number) }
     }
 }
 

@@ -9,8 +9,8 @@ use std::alloc::Global;
 use std::marker::Model;
 use std::rc::RcStr;
 
-/// A shared text.
-#[derive(Drop)]
+/// A text that is shared. Contracts see it as the bytes of its UTF-8.
+#[derive(Debug, Drop)]
 pub struct Text {
     text: RcStr,
 }
@@ -28,6 +28,7 @@ impl Model for Text {
 }
 
 impl Text {
+    /// A text of these characters.
     pub fn new(alloc: Global, text: &str) -> Result<Self, NoMemory>
         ensures { IfOk result (λ made. made ≡ text.now) }
     {
@@ -35,6 +36,7 @@ impl Text {
         Ok(Self { text })
     }
 
+    /// Its characters.
     pub fn as_str(&self) -> &str
         ensures bytes { result.now ≡ self.now }
         ensures text { is_utf8 self.now ≡ true }
@@ -50,4 +52,3 @@ impl Text {
         Ok(Self { text })
     }
 }
-

@@ -1,6 +1,3 @@
-use Rattle.std.proofs.Common.{◌≡◌, ap, ◌∙◌, sym}
-use Rattle.xd_doc.specs.Document.{first_then}
-use Rattle.xd_doc.specs.Stored.{document_at, firsts_then, BelongsTo}
 use Rattle.xd_doc.proofs.StoredLemmas.{belong-front, firsts_then-append, Keeps-trans}
 use Rattle.xd_doc.proofs.store.Store.append.Goals as goal
 

@@ -1,4 +1,3 @@
-use Rattle.std.proofs.Common.{ap, ◌∙◌}
 use Rattle.xd_doc.proofs.StoredLemmas.{in_vec, reads, content_of-text, content_of-element}
 use Rattle.xd_doc.proofs.store.Store.content.Goals as goal
 

@@ -1,6 +1,5 @@
-use Rattle.std.proofs.Common.{◌≡◌, ◌<◌, ◌≤◌, ℕ, ◌+◌, ap, ◌∙◌, sym, arith, rules, length, vec_len, subst}
-use Rattle.xd_doc.specs.Stored.{IsBelow, documents, node_document, at_node}
-use Rattle.xd_doc.proofs.StoredLemmas.{in_vec, stands_in, StandsAt, linked_copy, document-copy, copied_more, Keeps-trans}
+use Rattle.std.proofs.Common.{◌≡◌, ◌<◌, ◌∙◌, sym, arith, rules, length, vec_len}
+use Rattle.xd_doc.proofs.StoredLemmas.{in_vec, stands_in, linked_copy, document-copy, copied_more, Keeps-trans}
 use Rattle.xd_doc.proofs.store.Store.copy_out.Goals as goal
 
 pub overflow_add-i-end : goal.overflow_add-i-end

@@ -1,4 +1,3 @@
-use Rattle.std.proofs.Common.{sym}
 use Rattle.xd_doc.proofs.StoredLemmas.{in_vec, reads, first-item_before}
 use Rattle.xd_doc.proofs.store.Store.first.Goals as goal
 

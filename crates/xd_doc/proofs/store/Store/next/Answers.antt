@@ -1,5 +1,3 @@
-use Rattle.std.proofs.Common.{ap, ◌∙◌}
-use Rattle.xd_doc.specs.Document.{rest_of}
 use Rattle.xd_doc.proofs.StoredLemmas.{in_vec, reads, rest_of-item_before}
 use Rattle.xd_doc.proofs.store.Store.next.Goals as goal
 

@@ -1,8 +1,7 @@
-use Rattle.std.proofs.Common.{◌≡◌, List, Some, [], ◌∷◌, ◌++◌, sym, ap, ◌∙◌, length, subst}
+use Rattle.std.proofs.Common.{[], ◌∙◌}
 use Rattle.std.proofs.Math.Seq.{get_or-append_seam}
-use Rattle.xd_doc.specs.Document.{Document, empty}
-use Rattle.xd_doc.specs.Stored.{node_document, documents, Keeps, BelongsTo, IsLinked}
-use Rattle.xd_doc.specs.declared.store.Seq.{Seq}
+use Rattle.xd_doc.specs.Document.{empty}
+use Rattle.xd_doc.specs.Stored.{node_document}
 use Rattle.xd_doc.proofs.StoredLemmas.{length-nodes, documents-push, AreLinked-push, Keeps-append, BelongsTo-new}
 use Rattle.xd_doc.proofs.store.Store.push_node.Goals as goal
 

@@ -1,6 +1,3 @@
-use Rattle.std.proofs.Common.{ap, ◌∙◌, sym, IfOk, ◌≡◌}
-use Rattle.xd_doc.specs.Document.{first_then}
-use Rattle.xd_doc.specs.Stored.{document_at}
 use Rattle.xd_doc.proofs.StoredLemmas.{in_vec, reads, first_then-item_before}
 use Rattle.xd_doc.proofs.store.Store.repeat.Goals as goal
 

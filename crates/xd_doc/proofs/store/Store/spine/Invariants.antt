@@ -1,6 +1,5 @@
-use Rattle.std.proofs.Common.{◌≡◌}
-use Rattle.xd_doc.specs.Document.{Document, size, join}
-use Rattle.xd_doc.specs.Stored.{document_at, BelongsTo, firsts_then}
+use Rattle.xd_doc.specs.Document.{size}
+use Rattle.xd_doc.specs.Stored.{document_at}
 use Rattle.xd_doc.proofs.StoredLemmas.{SpineSoFar}
 use Rattle.xd_doc.proofs.store.Store.spine.Given as goal
 
