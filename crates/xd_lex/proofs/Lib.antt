@@ -1,0 +1,6 @@
+pub mod Scans
+pub mod Fronts
+pub mod Froms
+pub mod Skipped
+pub mod Escapes
+pub mod Pieces

@@ -1,0 +1,4 @@
+pub mod Scan
+pub mod Spelled
+pub mod Tokens
+pub mod Left
