@@ -4,3 +4,4 @@ pub mod Froms
 pub mod Skipped
 pub mod Escapes
 pub mod Pieces
+pub mod Canonical

@@ -2,3 +2,4 @@ pub mod Scan
 pub mod Spelled
 pub mod Tokens
 pub mod Left
+pub mod Reading

@@ -1,6 +1,6 @@
 //! The tokens of a text, one after the other.
 
-ghost use Rattle.std.specs.Prelude.{◌≡◌, ◌↔◌, ◌+◌, ◌<◌, ◌∷◌, ◌^◌, [], length, true, false, map, IfOk, IfErr, IsUtf8};
+ghost use Rattle.std.specs.Prelude.{All, ◌≡◌, ◌↔◌, ◌+◌, ◌<◌, ◌∷◌, ◌^◌, [], length, true, false, map, IfOk, IfErr, IsUtf8};
 ghost use Rattle.xd_lex.specs.declared.lexer.LexError.TheVariants.{NoMemory};
 ghost use Rattle.xd_lex.specs.Tokens.{lexeme_of, tokens_from, tokens_of, is_last, IsNotUtf8At, IsRefused};
 ghost use Rattle.xd_lex.specs.Left.{tokens_left, IsPlaced};
@@ -175,6 +175,7 @@ impl<'a> Lexer<'a> {
 pub fn tokens<'a>(alloc: Global, bytes: &'a [u8]) -> Result<Vec<Token<'a>>, LexError>
     ensures utf8 { IfOk result (λ _. IsUtf8 bytes.now) }
     ensures ok { IfOk result (λ v. map lexeme_of v.items ≡ tokens_of bytes.now) }
+    ensures spelled { IfOk result (λ v. All (λ token. IsSpelling token.kind token.text.now) v.items) }
     ensures err { IfErr result (λ e. IsRefused e bytes.now) }
 {
     let mut lexer = match Lexer::new(bytes) {

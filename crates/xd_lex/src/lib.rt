@@ -56,3 +56,6 @@ enum Front {
     Token(Kind, usize),
     Fault(LexFault),
 }
+
+#[cfg(test)]
+mod tests;
