@@ -5,3 +5,4 @@ pub mod Skipped
 pub mod Escapes
 pub mod Pieces
 pub mod Canonical
+pub mod ReadLemmas

@@ -2,11 +2,13 @@
 #![tactic(auto)]
 
 mod escape;
+mod laws;
 mod lexer;
 mod place;
 mod scan;
 
 pub use escape::unescape;
+pub use laws::lexing_laws;
 pub use lexer::{LexError, Lexer, NotUtf8, Token, tokens};
 
 /// What is wrong where no token begins.
