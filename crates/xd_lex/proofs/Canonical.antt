@@ -14,7 +14,7 @@ use Rattle.xd_lex.specs.declared.Front.TheVariants as fronts
 use Rattle.xd_lex.specs.Scan.{is_blank, symbol, of_text, of_word, front_of}
 use Rattle.xd_lex.specs.Tokens.{Lexeme, past, tokens_from}
 use Rattle.xd_lex.proofs.Escapes.{quoted-escaped}
-use Rattle.xd_lex.proofs.Pieces.{left_true, right_true}
+use Rattle.xd_lex.proofs.Choices.{left_true, right_true}
 use Rattle.xd_lex.proofs.Froms.{first, at_token}
 
 -- a token that is spelled by xs

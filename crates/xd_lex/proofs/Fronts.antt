@@ -9,6 +9,7 @@ use Rattle.std.proofs.lemmas.Bool.Decides.{nat_tests}
 use Rattle.std.proofs.lemmas.Str.{IsCharBoundary-after_ascii}
 use Rattle.std.proofs.lemmas.List.Sums.{take_while-cons}
 use Rattle.xd_doc.specs.Word.{is_word_start, is_word_part, are_word_parts, is_word}
+use Rattle.xd_lex.proofs.Choices.{choose, is_equal, both, not_true, left_true, right_true}
 use Rattle.xd_lex.specs.declared.Kind.{Kind}
 use Rattle.xd_lex.specs.declared.Kind.TheVariants as kinds
 use Rattle.xd_lex.specs.declared.LexFault.{LexFault}
@@ -24,10 +25,6 @@ pub record Reaches (bs : List ℕ) (n : ℕ) : Type 0 where
   pub positive : 0 < n
   pub within : n ≤ length bs
   pub ascii : get_or bs (n - 1) 0 < 128
-
-choose : {A : Type 0} (P : A → Type 0) (c : Bool) (x y : A) → (c ≡ true → P x) → (c ≡ false → P y) → P (cond c x y)
-choose P true x y f g = f refl
-choose P false x y f g = g refl
 
 further : (b : ℕ) (bs : List ℕ) (n : ℕ) → Reaches bs n → Reaches (b ∷ bs) (n + 1)
 further b bs zero r = absurd (omega (arith, r.positive))
@@ -54,9 +51,6 @@ one_more_reaches b bs (Err f) h = tt
 option_more_reaches : (b : ℕ) (bs : List ℕ) (r : Option ℕ) → IfReachesOption r bs → IfReachesOption (option_more r) (b ∷ bs)
 option_more_reaches b bs (Some n) h = further b bs n h
 option_more_reaches b bs None h = tt
-
-is_equal : (b c : ℕ) → (b == c) ≡ true → b ≡ c
-is_equal b c h = grind (arith, nat_tests)
 
 eq_34 : (b : ℕ) → (b == 34) ≡ true → b < 128
 eq_34 b h = grind (arith, nat_tests)
@@ -101,14 +95,6 @@ take_more b bs n = rw add-one refl
 pieces_more : (b : ℕ) (bs : List ℕ) (r : Result ℕ LexFault) (e f : Bool) → ((pieces : List ℕ) → are_pieces e pieces ≡ true → are_pieces f (b ∷ pieces) ≡ true) → IfPieces r e bs → IfPieces (one_more r) f (b ∷ bs)
 pieces_more b bs (Ok n) e f g h = (b ∷ h.0, g h.0 h.1, take_more b bs n ∙ ap (λ (xs : List ℕ). b ∷ xs) h.2)
 pieces_more b bs (Err x) e f g h = tt
-
-both : (a b : Bool) → a ≡ true → b ≡ true → (a && b) ≡ true
-both true b e h = h
-both false b e h = cc
-
-not_true : (a : Bool) → a ≡ false → not a ≡ true
-not_true false e = refl
-not_true true e = cc
 
 pub quoted_pieces : (escaped : Bool) (bs : List ℕ) → IfPieces (quoted escaped bs) escaped bs
 quoted_pieces true [] = tt
@@ -170,10 +156,6 @@ choose_fits : (bs : List ℕ) (c : Bool) (x y : Front) → (c ≡ true → Fits 
 choose_fits bs true x y f g = f refl
 choose_fits bs false x y f g = g refl
 
-and_right : (a b : Bool) → (a && b) ≡ true → b ≡ true
-and_right true b h = h
-and_right false b h = cc
-
 nonempty : (bs : List ℕ) → (slice_index bs 0 == 42) ≡ true → 0 < length bs
 nonempty [] h = cc
 nonempty (b ∷ bs) h = omega arith
@@ -201,15 +183,11 @@ arrow : (b : ℕ) (bs : List ℕ) → (slice_index bs 0 == 62) ≡ true → Reac
 arrow b [] h = cc
 arrow b (c ∷ bs) h = further b (c ∷ bs) 1 (one c bs (eq_ascii c 62 (omega arith) h))
 
-and_left : (a b : Bool) → (a && b) ≡ true → a ≡ true
-and_left true b h = refl
-and_left false b h = cc
-
 arrow_spelled : (b : ℕ) (bs : List ℕ) → ((b == 45) && (slice_index bs 0 == 62)) ≡ true → take 2 (b ∷ bs) ≡ 45 ∷ 62 ∷ []
-arrow_spelled b [] h = absurd (let r : (slice_index [] 0 == 62) ≡ true = and_right (b == 45) (slice_index [] 0 == 62) h in cc)
+arrow_spelled b [] h = absurd (let r : (slice_index [] 0 == 62) ≡ true = right_true (b == 45) (slice_index [] 0 == 62) h in cc)
 arrow_spelled b (c ∷ bs) h =
-    let l : b ≡ 45 = is_equal b 45 (and_left (b == 45) (c == 62) h) in
-    let r : c ≡ 62 = is_equal c 62 (and_right (b == 45) (c == 62) h) in
+    let l : b ≡ 45 = is_equal b 45 (left_true (b == 45) (c == 62) h) in
+    let r : c ≡ 62 = is_equal c 62 (right_true (b == 45) (c == 62) h) in
     ap (λ (x : ℕ). x ∷ c ∷ []) l ∙ ap (λ (x : ℕ). 45 ∷ x ∷ []) r
 
 abbrev last_front : ℕ → List ℕ → Front
@@ -219,10 +197,10 @@ pub fits : (b : ℕ) (bs : List ℕ) → Fits (front_of b bs) (b ∷ bs)
 unfolding front_of
 fits b bs =
     choose_fits _ _ _ _ (λ e. one b bs (blank_ascii b e)) (λ _.
-    choose_fits _ _ _ _ (λ e. comment_fits b bs (commented false (drop 1 bs)) (nonempty bs (and_right (b == 40) (slice_index bs 0 == 42) e)) (commented_reaches false (drop 1 bs))) (λ _.
+    choose_fits _ _ _ _ (λ e. comment_fits b bs (commented false (drop 1 bs)) (nonempty bs (right_true (b == 40) (slice_index bs 0 == 42) e)) (commented_reaches false (drop 1 bs))) (λ _.
     choose_fits _ _ _ _ (λ e. let n = length (take_while is_word_part bs) + 1 in choose_fits (b ∷ bs) (slice_index (b ∷ bs) n == 91) (fronts.Token kinds.Label (n + 1)) (fronts.Token kinds.Word n) (λ h. (bracket_at (b ∷ bs) n h, refl, (take n (b ∷ bs), word_of b bs e, with_bracket (b ∷ bs) n h))) (λ _. (word_reaches b bs (begins_ascii b e), refl, word_of b bs e))) (λ _.
     choose_fits (b ∷ bs) (b == 34) (of_text (quoted false bs)) (last_front b bs) (λ e. text_fits b bs (quoted false bs) (is_equal b 34 e) (quoted_reaches false bs) (quoted_pieces false bs)) (λ _.
-    choose_fits (b ∷ bs) ((b == 45) && (slice_index bs 0 == 62)) (fronts.Token kinds.Arrow 2) (of_symbol (symbol b)) (λ e. (arrow b bs (and_right (b == 45) (slice_index bs 0 == 62) e), refl, arrow_spelled b bs e)) (λ _.
+    choose_fits (b ∷ bs) ((b == 45) && (slice_index bs 0 == 62)) (fronts.Token kinds.Arrow 2) (of_symbol (symbol b)) (λ e. (arrow b bs (right_true (b == 45) (slice_index bs 0 == 62) e), refl, arrow_spelled b bs e)) (λ _.
     symbol_fits b bs (symbol b) (symbol_ascii b))))))
 
 -- so the text may be cut there

@@ -1,3 +1,4 @@
+pub mod Choices
 pub mod Scans
 pub mod Fronts
 pub mod Froms
