@@ -1,0 +1,6 @@
+pub mod Machine
+pub mod StoreItems
+pub mod Steps
+pub mod Runs
+pub mod CanonicalLemmas
+pub mod CanonicalSpells
