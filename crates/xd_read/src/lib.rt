@@ -2,6 +2,7 @@
 #![tactic(auto)]
 
 mod error;
+mod labels;
 mod laws;
 mod moves;
 mod read;

@@ -12,6 +12,7 @@ ghost use Rattle.xd_read.specs.Pending.{items_of, IsInStore, IsReaderReady, Pass
 ghost use Rattle.xd_read.specs.declared.moves.Expect.TheVariants as expects;
 
 use crate::error::ReadError;
+use crate::labels::Labels;
 use crate::moves::{Expect, Move, move_for};
 use std::alloc::Global;
 use xd_doc::{Label, NoMemory, Seq, Store, Text};
@@ -37,6 +38,7 @@ pub struct Reader {
     expect: Expect,
     finished: Vec<Finished>,
     elements: Vec<OpenElement>,
+    labels: Labels,
 }
 
 /// Stores the items from `start` on, and takes them away.
@@ -60,12 +62,12 @@ fn store_items(store: &mut Store, finished: &mut Vec<Finished>, start: usize) ->
 }
 
 /// The label that a token spells together with its bracket.
-fn label_of(alloc: Global, text: &str) -> Result<Label, NoMemory>
+fn label_of(alloc: Global, labels: &mut Labels, text: &str) -> Result<Label, NoMemory>
     requires { IsSpelling kinds.Label text.now }
     ensures { IfOk result (λ label. label ≡ word_of text.now) }
 {
     let (word, _bracket) = text.split_at(text.len() - 1);
-    Label::new(alloc, word)
+    labels.label(alloc, word)
 }
 
 impl Reader {
@@ -79,6 +81,7 @@ impl Reader {
             expect: Expect::Document,
             finished: Vec::new(alloc),
             elements: Vec::new(alloc),
+            labels: Labels::new(alloc),
         }
     }
 
@@ -102,7 +105,7 @@ impl Reader {
                 Ok(None)
             }
             Move::Open => {
-                let label = label_of(alloc, token.text)?;
+                let label = label_of(alloc, &mut self.labels, token.text)?;
                 self.open_element(label)?;
                 Ok(None)
             }
