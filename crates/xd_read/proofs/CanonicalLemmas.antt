@@ -1,12 +1,12 @@
 -- The canonical text of a document is UTF-8.
-use Rattle.std.proofs.Common.{◌≡◌, ℕ, zero, suc, ◌+◌, ◌<◌, ◌≤◌, List, [], ◌∷◌, ◌++◌, length, take, drop, get_or, Bool, true, false, cond, refl, sym, ap, subst, ◌∙◌, arith, append_assoc, length-append, IsUtf8}
+use Rattle.std.proofs.Common.{◌≡◌, ℕ, zero, suc, ◌+◌, ◌<◌, List, [], ◌∷◌, ◌++◌, length, get_or, Bool, true, false, cond, refl, sym, subst, arith, append_assoc, length-append, IsUtf8}
 use Rattle.std.specs.Prelude.{nat_eq, ◌&&◌}
-use Rattle.std.specs.Str.{is_utf8, IsCharBoundary, IsAscii}
-use Rattle.std.proofs.Math.Seq.{take-append_seam, drop-append_seam, drop-append-add}
+use Rattle.std.specs.Str.{is_utf8, IsCharBoundary}
+use Rattle.std.proofs.Math.Seq.{take-append_seam, drop-append-add}
 use Rattle.std.proofs.lemmas.Str.{IsUtf8-append, IsUtf8-nil, IsUtf8-take, IsUtf8-drop, IsUtf8-from_ascii, IsUtf8-from_is_utf8, IsCharBoundary-after_ascii}
 use Rattle.std.proofs.lemmas.Bool.Decides.{nat_tests}
 use Rattle.xd_doc.specs.Word.{is_word, is_word_start, is_word_part, are_word_parts}
-use Rattle.xd_doc.specs.Document.{Document, empty, text, element, is_proper, escaped, escaped_all, comma_before, items_text, canonical_text}
+use Rattle.xd_doc.specs.Document.{Document, empty, text, element, is_proper, escaped_all, comma_before, items_text, canonical_text}
 
 at_seam : (pre : List ℕ) (c : ℕ) (cs : List ℕ) → get_or (pre ++ c ∷ cs) (length pre) 0 ≡ c
 at_seam [] c cs = refl
@@ -28,9 +28,9 @@ behind_ascii pre c cs lt u =
 ascii_one : (c : ℕ) → c < 128 → IsUtf8 (c ∷ [])
 ascii_one c h = IsUtf8-from_ascii (c ∷ []) (λ i. at c h i)
   where
-  at : (c : ℕ) → c < 128 → (i : ℕ) → get_or (c ∷ []) i 0 < 128
-  at c h zero = h
-  at c h (suc i) = omega arith
+    at : (c : ℕ) → c < 128 → (i : ℕ) → get_or (c ∷ []) i 0 < 128
+    at c h zero = h
+    at c h (suc i) = omega arith
 
 cons_ascii : (c : ℕ) (cs : List ℕ) → c < 128 → IsUtf8 cs → IsUtf8 (c ∷ cs)
 cons_ascii c cs h u = IsUtf8-append (c ∷ []) cs (ascii_one c h) u

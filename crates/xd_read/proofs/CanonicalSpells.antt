@@ -1,5 +1,5 @@
 -- The canonical text of a document spells it.
-use Rattle.std.proofs.Common.{◌≡◌, ℕ, ◌+◌, ◌-◌, List, [], ◌∷◌, ◌++◌, length, take, Bool, true, refl, sym, ap, subst, ◌∙◌, arith, append_assoc, length-append, inl}
+use Rattle.std.proofs.Common.{◌≡◌, ℕ, ◌-◌, List, [], ◌∷◌, ◌++◌, length, true, refl, ap, subst, ◌∙◌, arith, append_assoc, length-append, inl}
 use Rattle.std.proofs.lemmas.List.{append-nil}
 use Rattle.std.specs.Prelude.{◌&&◌}
 use Rattle.std.specs.Str.{is_utf8}
@@ -8,10 +8,9 @@ use Rattle.xd_base.specs.declared.Place.{Place}
 use Rattle.xd_doc.specs.Word.{is_word}
 use Rattle.xd_doc.specs.Document.{Document, empty, text, element, is_proper, escaped_all, comma_before, items_text, canonical_text}
 use Rattle.xd_lex.specs.Tokens.{start, tokens_from, tokens_of, past}
-use Rattle.xd_lex.specs.Spelled.{unescaped}
 use Rattle.xd_lex.proofs.Escapes.{unescaped-escaped}
 use Rattle.xd_lex.proofs.Canonical.{tokens-quoted, tokens-label, tokens-comma, tokens-bracket_r, tokens-parens}
-use Rattle.xd_read.specs.Grammar.{Terminal, Text, Label, ParenL, ParenR, BracketR, Comma, End, Standing, Whole, Content, Behind, Items, Spells}
+use Rattle.xd_read.specs.Grammar.{Terminal, Text, Label, BracketR, Comma, Standing, Content, Behind, Items, Spells}
 use Rattle.xd_read.specs.Reading.{terminals_of, word_of, BytesSpell}
 use Rattle.xd_read.proofs.CanonicalLemmas.{and_left, and_right, canonical_text_utf8}
 
@@ -79,7 +78,8 @@ content_at (element l c r) p rest h =
         terminals_at (past k.next (93 ∷ [])) after,
         ap (terminals_at p) (element_parts l c r rest) ∙ label_at p l (items_text c ++ (93 ∷ after)) (and_left (is_word l) (is_proper c && is_proper r) h),
         subst (λ (ts : List Terminal). Items Content c (terminals_at (past p (l ++ 91 ∷ [])) (items_text c ++ (93 ∷ after))) ts) (bracket_at k.next after) k.items,
-        b.items);
+        b.items,
+      );
     }
 
 pub canonical_spells : (d : Document) → is_proper d ≡ true → Spells (terminals_of (tokens_of (canonical_text d))) d

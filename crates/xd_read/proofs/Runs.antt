@@ -50,7 +50,8 @@ stands_next all left now x old ds ds' r r' h e lt k p = record {
   more = lt;
   same = λ ts d. (
     (λ s. (p.same ts d).0 ((h.same (terminal_of x ∷ ts) d).0 (subst (λ (l : List Terminal). Spells l d) (one_more h.before x ts) s))),
-    (λ c. subst (λ (l : List Terminal). Spells l d) (sym (one_more h.before x ts)) ((h.same (terminal_of x ∷ ts) d).1 ((p.same ts d).1 c))));
+    (λ c. subst (λ (l : List Terminal). Spells l d) (sym (one_more h.before x ts)) ((h.same (terminal_of x ∷ ts) d).1 ((p.same ts d).1 c))),
+  );
 }
 
 -- the tokens that were read begin a document

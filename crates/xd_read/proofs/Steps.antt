@@ -131,7 +131,8 @@ passes_by ds e fs os k t m ds' e' fs' os' h r a =
       ready = r;
       same = λ ts d. (
         (λ c. subst (λ (o : Option State). Goes o ts d) s (forward (At e (front_of ds fs (reverse os)) (frames_of ds fs (reverse os))) (terminal k t) ts d c)),
-        (λ c. backward (At e (front_of ds fs (reverse os)) (frames_of ds fs (reverse os))) (terminal k t) ts d (subst (λ (o : Option State). Goes o ts d) (sym s) c)));
+        (λ c. backward (At e (front_of ds fs (reverse os)) (frames_of ds fs (reverse os))) (terminal k t) ts d (subst (λ (o : Option State). Goes o ts d) (sym s) c)),
+      );
     }
 
 pub stops_by : (ds : List Document) (e : Expect) (fs : List Finished) (os : List OpenElement) (k : Kind) (t : List ℕ) (m : Move) → move_for e k ≡ m → act m (front_of ds fs (reverse os)) (frames_of ds fs (reverse os)) t ≡ None → Stops ds e fs os (terminal k t)
@@ -159,8 +160,8 @@ pub text_passes : (ds : List Document) (e : Expect) (fs : List Finished) (os : L
 text_passes ds e fs os k t s fs' h r is pushed =
     subst (λ (x : List Finished). Passes ds e fs os (terminal k t) ds expects.More x os) (sym pushed)
     (passes_by ds e fs os k t moves.Text ds expects.More (fs ++ Text s ∷ []) os h
-      (record { finished = all-append (IsInStore ds) fs (Text s ∷ []) r.finished (tt, tt); marks = pushed_marks fs (Text s ∷ []) (reverse os) r.marks })
-      (rw (front_of-push ds fs (Text s ∷ []) (reverse os) r.marks, frames_of-push ds fs (Text s ∷ []) (reverse os) r.marks, is) refl))
+    (record { finished = all-append (IsInStore ds) fs (Text s ∷ []) r.finished (tt, tt); marks = pushed_marks fs (Text s ∷ []) (reverse os) r.marks })
+    (rw (front_of-push ds fs (Text s ∷ []) (reverse os) r.marks, frames_of-push ds fs (Text s ∷ []) (reverse os) r.marks, is) refl))
 
 open_last : (os : List OpenElement) (o : OpenElement) → reverse (os ++ o ∷ []) ≡ o ∷ reverse os
 open_last os o = reverse-append os (o ∷ [])
@@ -173,8 +174,8 @@ pub open_passes : (ds : List Document) (e : Expect) (fs : List Finished) (os : L
 open_passes ds e fs os k t o os' h r label start pushed =
     subst (λ (x : List OpenElement). Passes ds e fs os (terminal k t) ds expects.Content fs x) (sym pushed)
     (passes_by ds e fs os k t moves.Open ds expects.Content fs (os ++ o ∷ []) h
-      (record { finished = r.finished; marks = rw (open_last os o) (omega (arith, start), rw start r.marks) })
-      (rw (open_last os o) (rw (start, nothing_behind ds fs, take-length fs, label) refl)))
+    (record { finished = r.finished; marks = rw (open_last os o) (omega (arith, start), rw start r.marks) })
+    (rw (open_last os o) (rw (start, nothing_behind ds fs, take-length fs, label) refl)))
 
 all_drop : (ds : List Document) (n : ℕ) (fs : List Finished) → AllByRecursion (IsInStore ds) fs → AllByRecursion (IsInStore ds) (drop n fs)
 all_drop ds n fs h = all-back (IsInStore ds) (take n fs) (drop n fs) (subst (AllByRecursion (IsInStore ds)) (sym (take-append-drop n fs)) h)
@@ -208,8 +209,8 @@ close_passes ds e fs os k t es front o seq fs' h r popped kept b is pushed =
     let made = Element o.label seq ∷ [] in
     subst (λ (x : List Finished). Passes ds e fs os (terminal k t) es expects.More x front) (sym pushed)
     (passes_by ds e fs os k t moves.Close es expects.More (left ++ made) front h
-      (record { finished = all-append (IsInStore es) left made (in_store-kept ds es left kept left_in) (b, tt); marks = pushed_marks left made (reverse front) marks })
-      (rw (popped, open_last front o, front_of-push es left made (reverse front) marks, frames_of-push es left made (reverse front) marks, front_of-kept ds es left (reverse front) kept left_in, frames_of-kept ds es left (reverse front) kept left_in, is) refl))
+    (record { finished = all-append (IsInStore es) left made (in_store-kept ds es left kept left_in) (b, tt); marks = pushed_marks left made (reverse front) marks })
+    (rw (popped, open_last front o, front_of-push es left made (reverse front) marks, frames_of-push es left made (reverse front) marks, front_of-kept ds es left (reverse front) kept left_in, frames_of-kept ds es left (reverse front) kept left_in, is) refl))
 
 pub none_open : (ds : List Document) (e : Expect) (fs : List Finished) (os : List OpenElement) (k : Kind) (t : List ℕ) → move_for e k ≡ moves.Close → os ≡ [] → Stops ds e fs os (terminal k t)
 none_open ds e fs os k t h is = subst (λ (x : List OpenElement). Stops ds e fs x (terminal k t)) (sym is) (stops_by ds e fs [] k t moves.Close h refl)

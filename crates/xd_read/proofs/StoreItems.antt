@@ -102,6 +102,7 @@ same_length start n h k = omega arith
 
 pub stored_all : (ds es : List Document) (all left : List Finished) (start : ℕ) (seq : Seq) → StoredSoFar ds es all left start seq → length left ≤ start → (document_at es seq ≡ items_of ds (drop start all)) × (left ≡ take start all)
 stored_all ds es all left start seq h le =
-    let n = same_length start (length left) h.within le in
-    (h.same ∙ ap (items_of ds) (sym (drop-append_seam left h.rest)) ∙ ap (λ (k : ℕ). items_of ds (drop k (left ++ h.rest))) (sym n) ∙ ap (λ (l : List Finished). items_of ds (drop start l)) (sym h.split),
-     sym (take-append_seam left h.rest) ∙ ap (λ (k : ℕ). take k (left ++ h.rest)) (sym n) ∙ ap (take start) (sym h.split))
+    let n = same_length start (length left) h.within le in (
+      h.same ∙ ap (items_of ds) (sym (drop-append_seam left h.rest)) ∙ ap (λ (k : ℕ). items_of ds (drop k (left ++ h.rest))) (sym n) ∙ ap (λ (l : List Finished). items_of ds (drop start l)) (sym h.split),
+      sym (take-append_seam left h.rest) ∙ ap (λ (k : ℕ). take k (left ++ h.rest)) (sym n) ∙ ap (take start) (sym h.split),
+    )

@@ -7,5 +7,4 @@ pub fn reading_laws()
     ensures canonical { CanonicalTextSpells }
     ensures unique { SpellsAtMostOne }
     ensures read_back { CanonicalTextReadsBack }
-{
-}
+{}

@@ -12,6 +12,5 @@ pub use error::ReadError;
 pub use laws::reading_laws;
 pub use read::read_document;
 
-
 #[cfg(test)]
 mod tests;

@@ -1,14 +1,14 @@
 //! The reader's stack.
 
-ghost use Rattle.std.specs.Prelude.{◌≡◌, ◌↔◌, ◌≤◌, ◌∷◌, ◌++◌, [], length, take, drop, reverse, true, false, IfOk, IfErr, IfNone, IfSome, OnOk, OnErr};
+ghost use Rattle.std.specs.Prelude.{◌≡◌, ◌≤◌, ◌∷◌, ◌++◌, [], length, take, drop, true, false, IfOk, IfErr, IfNone, IfSome, OnOk};
 ghost use Rattle.std.specs.List.{AllByRecursion};
-ghost use Rattle.xd_doc.specs.Document.{Document};
 ghost use Rattle.xd_doc.specs.Stored.{document_at, BelongsTo, Keeps};
 ghost use Rattle.xd_lex.specs.Tokens.{lexeme_of, is_last};
 ghost use Rattle.xd_lex.specs.Spelled.{IsSpelling};
 ghost use Rattle.xd_lex.specs.declared.Kind.TheVariants as kinds;
 ghost use Rattle.xd_read.specs.Reading.{terminal_of, word_of, IfMalformed};
-ghost use Rattle.xd_read.specs.Pending.{items_of, IsInStore, IsReaderReady, PassesToken, EndsDocument, StopsAt, IsClosed};
+ghost use Rattle.xd_read.specs.Pending.{items_of, IsInStore, IsClosed, IsReaderReady};
+ghost use Rattle.xd_read.specs.Pending.{PassesToken, EndsDocument, StopsAt};
 ghost use Rattle.xd_read.specs.declared.moves.Expect.TheVariants as expects;
 
 use crate::error::ReadError;
@@ -42,10 +42,15 @@ pub struct Reader {
 }
 
 /// Stores the items from `start` on, and takes them away.
-fn store_items(store: &mut Store, finished: &mut Vec<Finished>, start: usize) -> Result<Seq, NoMemory>
+fn store_items(
+    store: &mut Store,
+    finished: &mut Vec<Finished>,
+    start: usize,
+) -> Result<Seq, NoMemory>
     requires start { start ≤ length finished.old.items }
     requires items { AllByRecursion (IsInStore store.old) finished.old.items }
-    ensures document { IfOk result (λ seq. document_at store.new seq ≡ items_of store.old (drop start finished.old.items)) }
+    ensures document { IfOk result (λ seq.
+        document_at store.new seq ≡ items_of store.old (drop start finished.old.items)) }
     ensures belongs { IfOk result (BelongsTo store.new) }
     ensures taken { OnOk result (finished.new.items ≡ take start finished.old.items) }
     ensures keeps { Keeps store.old store.new }
@@ -86,16 +91,24 @@ impl Reader {
     }
 
     /// Reads a token: goes on, or ends the document.
-    pub fn read(&mut self, alloc: Global, store: &mut Store, token: &Token<'_>) -> Result<Option<Seq>, ReadError>
+    pub fn read(
+        &mut self,
+        alloc: Global,
+        store: &mut Store,
+        token: &Token<'_>,
+    ) -> Result<Option<Seq>, ReadError>
         requires ready { IsReaderReady store.old self.old }
         requires spelled { IsSpelling token.now.kind token.now.text.now }
-        ensures passes { IfOk result (λ end. IfNone end (PassesToken store.old self.old (terminal_of (lexeme_of token.now)) store.new self.new)) }
+        ensures passes { IfOk result (λ end. IfNone end
+            (PassesToken store.old self.old (terminal_of (lexeme_of token.now)) store.new self.new)) }
         ensures more { IfOk result (λ end. IfNone end (is_last token.now.kind ≡ false)) }
-        ensures ends { IfOk result (λ end. IfSome end (λ seq. EndsDocument store.old self.old (terminal_of (lexeme_of token.now)) (document_at store.new seq))) }
+        ensures ends { IfOk result (λ end. IfSome end (λ seq.
+            EndsDocument store.old self.old (terminal_of (lexeme_of token.now)) (document_at store.new seq))) }
         ensures last { IfOk result (λ end. IfSome end (λ seq. is_last token.now.kind ≡ true)) }
         ensures belongs { IfOk result (λ end. IfSome end (BelongsTo store.new)) }
         ensures place { IfErr result (λ e. IfMalformed e (λ place. place ≡ token.now.place)) }
-        ensures stops { IfErr result (λ e. IfMalformed e (λ place. StopsAt store.old self.old (terminal_of (lexeme_of token.now)))) }
+        ensures stops { IfErr result (λ e. IfMalformed e (λ place.
+            StopsAt store.old self.old (terminal_of (lexeme_of token.now)))) }
         ensures keeps { Keeps store.old store.new }
     {
         match move_for(self.expect, token.kind) {
@@ -142,7 +155,8 @@ impl Reader {
     }
 
     fn open_element(&mut self, label: Label) -> Result<(), NoMemory>
-        ensures elements { OnOk result (self.new.elements.items ≡ self.old.elements.items ++ record { label = label; start = length self.old.finished.items } ∷ []) }
+        ensures elements { OnOk result (self.new.elements.items ≡ self.old.elements.items
+            ++ record { label = label; start = length self.old.finished.items } ∷ []) }
         ensures expect { OnOk result (self.new.expect ≡ expects.Content) }
         ensures finished { OnOk result (self.new.finished.items ≡ self.old.finished.items) }
     {
@@ -156,13 +170,15 @@ impl Reader {
     fn close_element(&mut self, store: &mut Store, element: OpenElement) -> Result<(), NoMemory>
         requires start { element.start ≤ length self.old.finished.items }
         requires items { AllByRecursion (IsInStore store.old) self.old.finished.items }
-        ensures closed { OnOk result (IsClosed store.old self.old.finished.items element store.new self.new.finished.items) }
+        ensures closed { OnOk result
+            (IsClosed store.old self.old.finished.items element store.new self.new.finished.items) }
         ensures expect { OnOk result (self.new.expect ≡ expects.More) }
         ensures elements { OnOk result (self.new.elements.items ≡ self.old.elements.items) }
         ensures keeps { Keeps store.old store.new }
     {
         let content = store_items(store, &mut self.finished, element.start)?;
-        self.finished.push(Finished::Element(element.label, content))?;
+        self.finished
+            .push(Finished::Element(element.label, content))?;
         self.expect = Expect::More;
         Ok(())
     }

@@ -15,10 +15,16 @@ fn fault(rt: &HostRuntime, bytes: &[u8]) -> Option<Place> {
 #[test]
 fn malformed_places(rt: HostRuntime) {
     assert_eq!(rt; fault(&rt, b"a[\"x\""), Some(Place { line: 1, column: 6 }));
-    assert_eq!(rt; fault(&rt, b"a[\"x\"],"), Some(Place { line: 1, column: 8 }));
+    assert_eq!(rt;
+        fault(&rt, b"a[\"x\"],"),
+        Some(Place { line: 1, column: 8 })
+    );
     assert_eq!(rt; fault(&rt, b""), Some(Place { line: 1, column: 1 }));
     assert_eq!(rt; fault(&rt, b"t\xff"), Some(Place { line: 1, column: 2 }));
-    assert_eq!(rt; fault(&rt, b"a[(),b[]]"), Some(Place { line: 1, column: 5 }));
+    assert_eq!(rt;
+        fault(&rt, b"a[(),b[]]"),
+        Some(Place { line: 1, column: 5 })
+    );
 }
 
 #[test]
@@ -45,7 +51,9 @@ fn escapes(rt: HostRuntime) -> Result<(), Fail> {
         return Err("refused")?;
     };
     let text = store.content(seq);
-    assert!(rt; matches!(store.first(text), Some(Item::Text(text)) if text.as_str() == "q\"\\\n\t"));
+    assert!(rt;
+        matches!(store.first(text), Some(Item::Text(text)) if text.as_str() == "q\"\\\n\t")
+    );
     Ok(())
 }
 
