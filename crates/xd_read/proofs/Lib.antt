@@ -4,3 +4,4 @@ pub mod Steps
 pub mod Runs
 pub mod CanonicalLemmas
 pub mod CanonicalSpells
+pub mod OneFault

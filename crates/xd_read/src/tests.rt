@@ -12,6 +12,15 @@ fn fault(rt: &HostRuntime, bytes: &[u8]) -> Option<Place> {
     }
 }
 
+/// How many nodes the document that the text spells has in a new store.
+fn nodes(rt: &HostRuntime, bytes: &[u8]) -> Option<usize> {
+    let mut store = Store::new(rt.alloc());
+    match read_document(rt.alloc(), &mut store, bytes) {
+        Ok(_) => Some(store.len()),
+        Err(_) => None,
+    }
+}
+
 #[test]
 fn malformed_places(rt: HostRuntime) {
     assert_eq!(rt; fault(&rt, b"a[\"x\""), Some(Place { line: 1, column: 6 }));
@@ -28,20 +37,10 @@ fn malformed_places(rt: HostRuntime) {
 }
 
 #[test]
-fn spaces_and_comments(rt: HostRuntime) -> Result<(), Fail> {
-    let mut store = Store::new(rt.alloc());
-    let Ok(seq) = read_document(rt.alloc(), &mut store, b"a[ \"x\" , (* c *) b[ () ] ]") else {
-        return Err("refused")?;
-    };
-    assert!(rt; matches!(store.first(seq), Some(Item::Elem(label)) if label.as_str() == "a"));
-    assert!(rt; store.next(seq).is_empty());
-    let x = store.content(seq);
-    assert!(rt; matches!(store.first(x), Some(Item::Text(text)) if text.as_str() == "x"));
-    let b = store.next(x);
-    assert!(rt; matches!(store.first(b), Some(Item::Elem(label)) if label.as_str() == "b"));
-    assert!(rt; store.content(b).is_empty());
-    assert!(rt; store.next(b).is_empty());
-    Ok(())
+fn documents(rt: HostRuntime) {
+    assert_eq!(rt; nodes(&rt, b"a[ \"x\" , (* c *) b[ () ] ]"), Some(3));
+    assert_eq!(rt; nodes(&rt, b"()"), Some(0));
+    assert_eq!(rt; nodes(&rt, b"a[()]"), Some(1));
 }
 
 #[test]
@@ -58,21 +57,6 @@ fn escapes(rt: HostRuntime) -> Result<(), Fail> {
 }
 
 #[test]
-fn nothing_inside(rt: HostRuntime) -> Result<(), Fail> {
-    let mut store = Store::new(rt.alloc());
-    let Ok(empty) = read_document(rt.alloc(), &mut store, b"()") else {
-        return Err("refused")?;
-    };
-    assert!(rt; empty.is_empty());
-    let Ok(element) = read_document(rt.alloc(), &mut store, b"a[()]") else {
-        return Err("refused")?;
-    };
-    assert!(rt; !element.is_empty());
-    assert!(rt; store.content(element).is_empty());
-    Ok(())
-}
-
-#[test]
 fn a_million_deep(rt: HostRuntime) -> Result<(), Fail> {
     let mut text = Vec::new(rt.alloc());
     for _ in 0..1_000_000 {
@@ -81,8 +65,6 @@ fn a_million_deep(rt: HostRuntime) -> Result<(), Fail> {
     for _ in 0..1_000_000 {
         text.push(b']')?;
     }
-    let mut store = Store::new(rt.alloc());
-    assert!(rt; read_document(rt.alloc(), &mut store, &text).is_ok());
-    assert_eq!(rt; store.len(), 1_000_000);
+    assert_eq!(rt; nodes(&rt, &text), Some(1_000_000));
     Ok(())
 }
