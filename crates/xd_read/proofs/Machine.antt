@@ -2,7 +2,7 @@
 use Rattle.std.proofs.Common.{◌≡◌, ℕ, List, [], ◌∷◌, ◌++◌, Option, Some, None, refl, sym, ap, subst, ◌∙◌, inl, inr}
 use Rattle.std.proofs.lemmas.List.{append-nil}
 use Rattle.xd_doc.specs.Document.{Document, empty, text, element, join}
-use Rattle.xd_read.specs.Grammar.{Terminal, Text, Label, ParenL, ParenR, BracketR, Comma, End, Other, Standing, Whole, Content, Behind, Lead, Items, Spells, Begins}
+use Rattle.xd_read.specs.Grammar.{Terminal, Text, Label, ParenL, ParenR, BracketR, Comma, End, Other, Standing, Whole, Content, Behind, Lead, Items, Spells}
 use Rattle.xd_read.specs.Completes.{Frame, Rest, Up, Completes}
 use Rattle.xd_read.specs.declared.moves.Expect.{Expect}
 use Rattle.xd_read.specs.declared.moves.Expect.TheVariants as expects
@@ -21,7 +21,7 @@ pub data State : Type 0 where
   At : Expect → Document → List Frame → State
   Done : Document → State
 
--- from this state, the tokens ts complete the document d
+-- from this state, the terminals ts complete the document d
 abbrev pub CompletesFrom : State → List Terminal → Document → Type 0
 CompletesFrom (At m front fs) ts d = Completes m front fs ts d
 CompletesFrom (Done e) ts d = (ts ≡ []) × (e ≡ d)
@@ -214,20 +214,14 @@ ends None d g = absurd g
 ends (Some (Done e)) d g = ap (λ (x : Document). Some (Done x)) g.1
 ends (Some (At m front fs)) d (r, us, rest, up) = absurd (up_nil fs (join front r) d (subst (λ (x : List Terminal). Up fs (join front r) x d) (sym (rest_nil m r us rest)) up))
 
--- a run keeps what completes, both ways
+-- a run keeps what completes
 pub goes_on : (ts more : List Terminal) (s : Option State) (d : Document) → Goes s (ts ++ more) d → Goes (run s ts) more d
 goes_on [] more None d g = absurd g
 goes_on (t ∷ ts) more None d g = absurd g
 goes_on [] more (Some s) d g = g
 goes_on (t ∷ ts) more (Some s) d g = goes_on ts more (step s t) d (forward s t (ts ++ more) d g)
 
-pub goes_back : (ts more : List Terminal) (s : Option State) (d : Document) → Goes (run s ts) more d → Goes s (ts ++ more) d
-goes_back [] more None d g = absurd g
-goes_back (t ∷ ts) more None d g = absurd g
-goes_back [] more (Some s) d g = g
-goes_back (t ∷ ts) more (Some s) d g = backward s t (ts ++ more) d (goes_back ts more (step s t) d g)
-
--- every state has tokens that complete some document
+-- every state has terminals that complete some document
 abbrev closers : List Frame → List Terminal
 closers [] = End ∷ []
 closers (f ∷ fs) = BracketR ∷ closers fs
@@ -259,22 +253,10 @@ completes_spelled ts d (r, us, rest, (e, f)) = subst (λ (x : Document). Items W
 done_is : (d e : Document) → Some (Done d) ≡ Some (Done e) → d ≡ e
 done_is d e h = cc
 
--- the tokens begin a document exactly where the machine has not stopped
-pub begins : (ts : List Terminal) (s : State) → run (Some begin) ts ≡ Some s → Begins ts
-begins ts s e =
-    let done = completion s in
-    (done.0, done.1, completes_spelled (ts ++ done.0) done.1 (goes_back ts done.0 (Some begin) done.1 (subst (λ o. Goes o done.0 done.1) (sym e) done.2)))
-
-pub stops : (ts : List Terminal) → run (Some begin) ts ≡ None → Begins ts → ⊥
-stops ts e (more, d, s) = subst (λ o. Goes o more d) e (goes_on ts more (Some begin) d (spelled_completes (ts ++ more) d s))
-
--- the tokens spell d exactly where the machine is done with d
-pub spells : (ts : List Terminal) (d : Document) → run (Some begin) ts ≡ Some (Done d) → Spells ts d
-spells ts d e = completes_spelled ts d (subst (λ (x : List Terminal). CompletesFrom begin x d) (append-nil ts) (goes_back ts [] (Some begin) d (subst (λ o. Goes o [] d) (sym e) (refl, refl))))
-
+-- terminals that spell d leave the machine done with d
 pub done : (ts : List Terminal) (d : Document) → Spells ts d → run (Some begin) ts ≡ Some (Done d)
 done ts d s = ends (run (Some begin) ts) d (goes_on ts [] (Some begin) d (subst (λ (x : List Terminal). CompletesFrom begin x d) (sym (append-nil ts)) (spelled_completes ts d s)))
 
--- the tokens spell at most one document
+-- the terminals spell at most one document
 pub one_document : (ts : List Terminal) (d e : Document) → Spells ts d → Spells ts e → d ≡ e
 one_document ts d e p q = done_is d e (sym (done ts d p) ∙ done ts e q)
