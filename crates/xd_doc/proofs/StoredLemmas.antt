@@ -1,11 +1,11 @@
 -- On the documents of a list of nodes.
-use Rattle.std.proofs.Common.{true, false, ◌≡◌, ℕ, zero, suc, ◌+◌, ◌<◌, List, [], ◌∷◌, ◌++◌, length, get_or, Option, Some, None, refl, ap, sym, ◌∙◌, arith, length-append, add-zero, zero-add, Vec, vec_len, rules, ⊎_elim}
-use Rattle.std.proofs.lemmas.List.{get_or_append_left}
+use Rattle.std.proofs.Common.{Bool, true, false, ◌≡◌, ◌≢◌, ℕ, zero, suc, ◌+◌, ◌-◌, ◌<◌, ◌≤◌, List, [], ◌∷◌, ◌++◌, length, get_or, get_or-set_same, get_or-set_other, length-set, Option, Some, None, refl, ap, sym, ◌∙◌, arith, length-append, add-zero, zero-add, Vec, vec_len, rules, ⊎_elim}
+use Rattle.std.proofs.lemmas.List.{get_or_append_left, get_or_past, get_or_default}
 use Rattle.std.proofs.Math.Seq.{get_or-append_seam}
 use Rattle.std.specs.List.{AllByRecursion}
-use Rattle.std.proofs.lemmas.Bool.{cases_lt}
+use Rattle.std.proofs.lemmas.Bool.{cases_lt, cases_eq}
 use Rattle.xd_doc.specs.Document.{Document, empty, text, element, is_proper, has_item, rest_of, content_of, first_then, join, size}
-use Rattle.xd_doc.specs.Stored.{at_node, IsBelow, document_at, BelongsTo, item_before, is_proper_item, node_document, documents_after, documents, AreLinked, IsLinked, Keeps, IsOlder, first_of_document, firsts_then, IsSpine, copy_at, AreCopied, no_items}
+use Rattle.xd_doc.specs.Stored.{at_node, IsBelow, document_at, BelongsTo, item_before, is_proper_item, node_document, documents_after, documents, AreLinked, IsLinked, Keeps, IsOlder, first_of_document, firsts_then, IsSpine, copy_at, AreCopied, HasCopy, IsMarked, IsClosed, with_mark, no_items}
 use Rattle.xd_doc.specs.declared.store.Seq.{Seq}
 use Rattle.xd_doc.specs.declared.store.Node.{Node}
 use Rattle.xd_doc.specs.declared.store.Item.{Item}
@@ -230,36 +230,88 @@ pub first_then-item_before : (i : Item) (c r e : Document) → first_then (item_
 first_then-item_before (Text s) c r e = refl
 first_then-item_before (Elem l) c r e = refl
 
-pub copied_none : (ds es : List Document) → AreCopied ds es []
-copied_none ds es None h = record { belongs = record { place = tt; proper = refl; filled = refl }; same = refl }
-copied_none ds es (Some i) h = absurd (omega arith)
+pub copied_none : (ds es : List Document) (ms : List Bool) → AreCopied ds es ms []
+copied_none ds es ms None h m = record { belongs = record { place = tt; proper = refl; filled = refl }; same = refl }
+copied_none ds es ms (Some i) h m = absurd (omega arith)
 
--- one more node is copied
-pub copied_more : (ds es fs : List Document) (cs : List Seq) (c : Seq) → AreCopied ds es cs → Keeps es fs → BelongsTo fs c → document_at fs c ≡ get_or ds (length cs) empty → AreCopied ds fs (cs ++ c ∷ [])
-copied_more ds es fs cs c h k b e None l = record { belongs = record { place = tt; proper = refl; filled = refl }; same = refl }
-copied_more ds es fs cs c h k b e (Some i) l = ⊎_elim
+-- one more node is copied, if it is marked
+pub copied_more : (ds es fs : List Document) (ms : List Bool) (cs : List Seq) (c : Seq) → AreCopied ds es ms cs → Keeps es fs → (IsMarked ms (Some (length cs)) → BelongsTo fs c × (document_at fs c ≡ get_or ds (length cs) empty)) → AreCopied ds fs ms (cs ++ c ∷ [])
+copied_more ds es fs ms cs c h k b None l m = record { belongs = record { place = tt; proper = refl; filled = refl }; same = refl }
+copied_more ds es fs ms cs c h k b (Some i) l m = ⊎_elim
     (λ lt. let r = get_or_append_left cs (c ∷ []) no_items i lt in
-    let old = h (Some i) lt in
+    let old = h (Some i) lt m in
     record {
       belongs = rw r (k.belongs _ old.belongs);
       same = rw r (k.same _ old.belongs ∙ old.same);
     })
     (λ ge. let at : i ≡ length cs = omega (arith, length-append cs (c ∷ [])) in
     let r = get_or-append_seam cs c [] no_items in
-    record { belongs = rw (at, r) b; same = rw (at, r) e })
+    let made = b (rw at at m) in
+    record { belongs = rw (at, r) made.0; same = rw (at, r) made.1 })
     (cases_lt i (length cs))
 
--- a copy of a node with copied links is linked
-pub linked_copy : (ds es : List Document) (cs : List Seq) (n : Node) (item : Item) (content next : Seq) → AreCopied ds es cs → IsLinked ds n → item ≡ n.item → IsBelow (length cs) n.content.node → IsBelow (length cs) n.next.node → content ≡ copy_at cs n.content.node → next ≡ copy_at cs n.next.node → IsLinked es (record { item = item; content = content; next = next })
-linked_copy ds es cs n item content next h l e c x ec ex = record {
-  item = ap is_proper_item e ∙ l.item;
-  content = rw ec (h n.content.node c).belongs;
-  next = rw ex (h n.next.node x).belongs;
-}
+pub has_copy : (ds es : List Document) (ms : List Bool) (cs : List Seq) (o : Option ℕ) → AreCopied ds es ms cs → IsBelow (length cs) o → IsMarked ms o → HasCopy es cs o
+has_copy ds es ms cs o h b m = record { place = b; belongs = (h o b m).belongs }
 
-pub document-copy : (ds es : List Document) (cs : List Seq) (n : Node) (item : Item) (content next : Seq) → AreCopied ds es cs → item ≡ n.item → IsBelow (length cs) n.content.node → IsBelow (length cs) n.next.node → content ≡ copy_at cs n.content.node → next ≡ copy_at cs n.next.node → node_document es (record { item = item; content = content; next = next }) ≡ node_document ds n
-document-copy ds es cs n item content next h e c x ec ex =
-    rw (e, ec, ex, (h n.content.node c).same, (h n.next.node x).same)
+-- a node whose links are copies stands for what the node does
+pub document-copy : (ds es : List Document) (ms : List Bool) (cs : List Seq) (n : Node) → AreCopied ds es ms cs → IsBelow (length cs) n.content.node → IsBelow (length cs) n.next.node → IsMarked ms n.content.node × IsMarked ms n.next.node → item_before n.item (document_at es (copy_at cs n.content.node)) (document_at es (copy_at cs n.next.node)) ≡ node_document ds n
+document-copy ds es ms cs n h c x m =
+    rw ((h n.content.node c m.0).same, (h n.next.node x m.1).same)
+
+pub IsBelow-more : (i j : ℕ) (o : Option ℕ) → i ≤ j → IsBelow i o → IsBelow j o
+IsBelow-more i j None h b = tt
+IsBelow-more i j (Some k) h b = omega arith
+
+-- a mark stays where marks are set
+pub IsMarked-with_mark : (ms : List Bool) (p o : Option ℕ) → IsBelow (length ms) p → IsMarked ms o → IsMarked (with_mark ms p) o
+IsMarked-with_mark ms None o h m = m
+IsMarked-with_mark ms (Some j) None h m = tt
+IsMarked-with_mark ms (Some j) (Some i) h m = ⊎_elim
+    (λ e. rw e (get_or-set_same ms j true false h))
+    (λ ne. get_or-set_other ms j i true false ne ∙ m)
+    (cases_eq i j)
+
+pub IsMarked-set : (ms : List Bool) (p : Option ℕ) → IsBelow (length ms) p → IsMarked (with_mark ms p) p
+IsMarked-set ms None h = tt
+IsMarked-set ms (Some j) h = get_or-set_same ms j true false h
+
+-- a mark at a lower place is no mark here
+pub with_mark-below : (ms : List Bool) (p : Option ℕ) (i j : ℕ) → IsBelow i p → i ≤ j → get_or (with_mark ms p) j false ≡ get_or ms j false
+with_mark-below ms None i j b h = refl
+with_mark-below ms (Some k) i j b h = let ne : j ≢ k = omega arith in get_or-set_other ms k j true false ne
+
+pub length-with_mark : (ms : List Bool) (p : Option ℕ) → length (with_mark ms p) ≡ length ms
+length-with_mark ms None = refl
+length-with_mark ms (Some i) = length-set ms i true
+
+-- past the end no node is marked
+pub closed_past : (ns : List Node) (ms : List Bool) (from : ℕ) → length ms ≤ from → IsClosed ns ms from
+closed_past ns ms from h i n f m e =
+    let past : get_or ms i false ≡ false = get_or_past ms i false (omega arith) in
+    cc
+
+-- a node that is not marked
+pub closed_skip : (ns : List Node) (ms : List Bool) (from : ℕ) (b : Bool) → 0 < from → IsClosed ns ms from → b ≡ get_or ms (from - 1) b → b ≡ false → from - 1 < length ms → IsClosed ns ms (from - 1)
+closed_skip ns ms from b pos h e f l i n g m a = ⊎_elim
+    (λ at. let r : get_or ms i false ≡ b = ap (λ k. get_or ms k false) at ∙ get_or_default ms (from - 1) false b l ∙ sym e in
+      cc)
+    (λ ne. h i n (omega arith) m a)
+    (cases_eq i (from - 1))
+
+-- a marked node, whose links are marked now
+pub closed_more : (ns : List Node) (ms : List Bool) (from : ℕ) (m : Node) → IsClosed ns ms from → from - 1 < length ns → m ≡ get_or ns (from - 1) m → from - 1 < length ms → IsBelow (from - 1) m.content.node → IsBelow (from - 1) m.next.node → IsClosed ns (with_mark (with_mark ms m.content.node) m.next.node) (from - 1)
+closed_more ns ms from m h ln a lm bc bn i n g k e =
+    let one = with_mark ms m.content.node in
+    let len : length one ≡ length ms = length-with_mark ms m.content.node in
+    let below : IsBelow (length ms) m.content.node = IsBelow-more (from - 1) (length ms) m.content.node (omega arith) bc in
+    let below' : IsBelow (length one) m.next.node = IsBelow-more (from - 1) (length one) m.next.node (omega arith) bn in
+    let later = λ (o : Option ℕ) (w : IsMarked ms o). IsMarked-with_mark one m.next.node o below' (IsMarked-with_mark ms m.content.node o below w) in
+    let was : get_or ms i false ≡ true = sym (with_mark-below ms m.content.node (from - 1) i bc g) ∙ sym (with_mark-below one m.next.node (from - 1) i bn g) ∙ k in
+    ⊎_elim
+    (λ at. let same : n ≡ m = e ∙ ap (λ j. get_or ns j n) at ∙ get_or_default ns (from - 1) n m ln ∙ sym a in
+      rw same (IsMarked-with_mark one m.next.node m.content.node below' (IsMarked-set ms m.content.node below), IsMarked-set one m.next.node below'))
+    (λ ne. let old = h i n (omega arith) was e in (later n.content.node old.0, later n.next.node old.1))
+    (cases_eq i (from - 1))
 
 -- the node at a place of the vector
 pub stands_in : {Z : Type 0} (v : Vec Node Z) (now : List Document) (i : ℕ) (n : Node) → AreLinked [] v.items → documents v.items ≡ now → i < vec_len v → n ≡ get_or v.items i n → StandsAt now i n
@@ -279,4 +331,28 @@ belongs_at ns now i n a v h g =
       place = h;
       proper = ap is_proper s.document ∙ item_before-proper n.item _ _ s.linked.item s.linked.content.proper s.linked.next.proper;
       filled = ap has_item s.document ∙ item_before-filled n.item _ _;
+    }
+
+-- a mark that was read
+pub mark_read : (ms : List Bool) (i : ℕ) (b : Bool) → i < length ms → b ≡ get_or ms i b → get_or ms i false ≡ b
+mark_read ms i b l e = get_or_default ms i false b l ∙ sym e
+
+-- a marked node whose links are copied
+pub record IsReady (ds es : List Document) (cs : List Seq) (i : ℕ) (n : Node) : Type 0 where
+  pub item : is_proper_item n.item ≡ true
+  pub content : HasCopy es cs n.content.node
+  pub next : HasCopy es cs n.next.node
+  pub document : item_before n.item (document_at es (copy_at cs n.content.node)) (document_at es (copy_at cs n.next.node)) ≡ get_or ds i empty
+
+pub is_ready : {Z : Type 0} (v : Vec Node Z) (ds es : List Document) (ms : List Bool) (cs : List Seq) (i : ℕ) (n : Node) → AreLinked [] v.items → documents v.items ≡ ds → i < vec_len v → n ≡ get_or v.items i n → IsClosed v.items ms 0 → IsMarked ms (Some i) → AreCopied ds es ms cs → length cs ≡ i → IsReady ds es cs i n
+is_ready v ds es ms cs i n a e l g closed m h count =
+    let s = stands_in v ds i n a e l g in
+    let links = closed i n (omega arith) m g in
+    let c : IsBelow (length cs) n.content.node = rw count s.content_older in
+    let x : IsBelow (length cs) n.next.node = rw count s.next_older in
+    record {
+      item = s.linked.item;
+      content = has_copy ds es ms cs n.content.node h c links.0;
+      next = has_copy ds es ms cs n.next.node h x links.1;
+      document = document-copy ds es ms cs n h c x links ∙ sym s.document;
     }

@@ -1,0 +1,10 @@
+use Rattle.std.proofs.Common.{◌≡◌, ◌+◌, Some, vec_len}
+use Rattle.xd_doc.specs.Stored.{IsMarked, IsClosed}
+use Rattle.xd_doc.proofs.store.reached_from.Given as goal
+
+abbrev pub invariant-loop-i : goal.invariant-loop-i
+invariant-loop-i l = record {
+  count : vec_len l.reached ≡ l.place + 1;
+  start : IsMarked l.reached.items (Some l.place);
+  closed : IsClosed l.nodes.items l.reached.items l.i;
+}
