@@ -285,6 +285,7 @@ impl Store {
         ensures ok { IfOk result (λ copy. document_at into.new copy ≡ document_at self.now seq) }
         ensures belongs { IfOk result (BelongsTo into.new) }
         ensures keeps { Keeps into.old into.new }
+        ensures once { length into.new ≤ length into.old + length self.now }
     {
         let Some(place) = seq.node else {
             return Ok(seq);

@@ -56,11 +56,13 @@ loop-i-preserved c =
           count = count;
           copied = rw (c.in_ok-push.ensures.items, w.copy-is) (copied_more _ _ _ _ c.loop-i.copies.items _ i.copied w.in_ok-copy.ensures.keeps (λ m. (w.in_ok-copy.ensures.belongs, rw e (d ∙ ready.document))));
           keeps = Keeps-trans _ _ _ i.keeps w.in_ok-copy.ensures.keeps;
+          once = omega (arith, w.in_ok-copy.ensures.one, i.once);
         })
       | else-index w ↦
         rw w.into-is (record {
           count = count;
           copied = rw (c.in_ok-push.ensures.items, w.copy-is) (copied_more _ _ _ _ c.loop-i.copies.items _ i.copied (Keeps-same _) (λ m. absurd (let f : get_or c.in_ok-reached.reached.items (length c.loop-i.copies.items) false ≡ false = rw e (r ∙ w.if-index.false) in cc)));
           keeps = i.keeps;
+          once = omega (arith, i.once);
         })
     ]
