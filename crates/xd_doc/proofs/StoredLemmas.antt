@@ -294,7 +294,7 @@ closed_past ns ms from h i n f m e =
 pub closed_skip : (ns : List Node) (ms : List Bool) (from : ℕ) (b : Bool) → 0 < from → IsClosed ns ms from → b ≡ get_or ms (from - 1) b → b ≡ false → from - 1 < length ms → IsClosed ns ms (from - 1)
 closed_skip ns ms from b pos h e f l i n g m a = ⊎_elim
     (λ at. let r : get_or ms i false ≡ b = ap (λ k. get_or ms k false) at ∙ get_or_default ms (from - 1) false b l ∙ sym e in
-      cc)
+    cc)
     (λ ne. h i n (omega arith) m a)
     (cases_eq i (from - 1))
 
@@ -309,7 +309,7 @@ closed_more ns ms from m h ln a lm bc bn i n g k e =
     let was : get_or ms i false ≡ true = sym (with_mark-below ms m.content.node (from - 1) i bc g) ∙ sym (with_mark-below one m.next.node (from - 1) i bn g) ∙ k in
     ⊎_elim
     (λ at. let same : n ≡ m = e ∙ ap (λ j. get_or ns j n) at ∙ get_or_default ns (from - 1) n m ln ∙ sym a in
-      rw same (IsMarked-with_mark one m.next.node m.content.node below' (IsMarked-set ms m.content.node below), IsMarked-set one m.next.node below'))
+    rw same (IsMarked-with_mark one m.next.node m.content.node below' (IsMarked-set ms m.content.node below), IsMarked-set one m.next.node below'))
     (λ ne. let old = h i n (omega arith) was e in (later n.content.node old.0, later n.next.node old.1))
     (cases_eq i (from - 1))
 

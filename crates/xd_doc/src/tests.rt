@@ -92,11 +92,17 @@ fn tells_labels_of_classes(rt: HostRuntime) -> Result<(), Fail> {
     let b = Label::new(rt.alloc(), "b")?;
 
     let one = Class::new(rt.alloc(), vec![in rt.alloc(); a.share()?]?, false)?;
-    assert_eq!(rt; (one.has(&a), one.has(&b), one.takes_others()), (true, false, false));
+    assert_eq!(rt;
+        (one.has(&a), one.has(&b), one.takes_others()),
+        (true, false, false)
+    );
 
     let names = vec![in rt.alloc(); b.share()?, a.share()?, b.share()?]?;
     let two = Class::new(rt.alloc(), names, false)?;
-    assert_eq!(rt; (two.has(&a), two.has(&b), two.takes_others()), (true, true, false));
+    assert_eq!(rt;
+        (two.has(&a), two.has(&b), two.takes_others()),
+        (true, true, false)
+    );
     let mut words = Vec::new(rt.alloc());
     for name in two.names() {
         words.extend_from_slice(name.as_str().as_bytes())?;
@@ -104,9 +110,15 @@ fn tells_labels_of_classes(rt: HostRuntime) -> Result<(), Fail> {
     assert_eq!(rt; words.as_slice(), b"ab".as_slice());
 
     let all = Class::new(rt.alloc(), Vec::new(rt.alloc()), true)?;
-    assert_eq!(rt; (all.has(&a), all.has(&b), all.takes_others()), (true, true, true));
+    assert_eq!(rt;
+        (all.has(&a), all.has(&b), all.takes_others()),
+        (true, true, true)
+    );
 
     let others = Class::new(rt.alloc(), vec![in rt.alloc(); a.share()?]?, true)?;
-    assert_eq!(rt; (others.has(&a), others.has(&b), others.takes_others()), (false, true, true));
+    assert_eq!(rt;
+        (others.has(&a), others.has(&b), others.takes_others()),
+        (false, true, true)
+    );
     Ok(())
 }

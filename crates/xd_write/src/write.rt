@@ -30,12 +30,7 @@ pub fn write_document(
     write_items(alloc, store, seq, out)
 }
 
-fn write_items(
-    alloc: Global,
-    store: &Store,
-    seq: Seq,
-    out: &mut Vec<u8>,
-) -> Result<(), NoMemory>
+fn write_items(alloc: Global, store: &Store, seq: Seq, out: &mut Vec<u8>) -> Result<(), NoMemory>
     requires { BelongsTo store.now seq }
     ensures ok { OnOk result (out.new.items ≡ out.old.items ++ items_text (document_at store.now seq)) }
     ensures err { OnErr result (AppendsPrefix (items_text (document_at store.now seq)) out.old.items out.new.items) }

@@ -1,6 +1,6 @@
-use Rattle.std.proofs.Common.{Some, ◌≡◌, ◌+◌, ◌-◌, ◌<◌, ◌≤◌, ◌∙◌, refl, arith, rules, length, vec_len, get_or-set_same}
-use Rattle.xd_doc.specs.Stored.{IsBelow, with_mark}
-use Rattle.xd_doc.proofs.StoredLemmas.{stands_in, IsBelow-more, IsMarked-with_mark, length-with_mark, closed_past, closed_skip, closed_more}
+use Rattle.std.proofs.Common.{Some, ◌≡◌, ◌-◌, refl, arith, rules, length, vec_len}
+use Rattle.xd_doc.specs.Stored.{with_mark}
+use Rattle.xd_doc.proofs.StoredLemmas.{stands_in, IsBelow-more, IsMarked-with_mark, length-with_mark, closed_skip, closed_more}
 use Rattle.xd_doc.proofs.store.reached_from.Goals as goal
 
 pub mark-requires : goal.mark-requires
@@ -35,7 +35,7 @@ loop-i-preserved-then-index c =
       count = omega arith;
       start = rw (c.mark-then-index.ensures.marks, c.mark.ensures.marks)
           (IsMarked-with_mark one m.next.node (Some c.args.place) (IsBelow-more _ (length one) _ (omega arith) s.next_older)
-            (IsMarked-with_mark c.loop-i.reached.items m.content.node (Some c.args.place) (IsBelow-more _ _ _ (omega arith) s.content_older) i.start));
+          (IsMarked-with_mark c.loop-i.reached.items m.content.node (Some c.args.place) (IsBelow-more _ _ _ (omega arith) s.content_older) i.start));
       closed = rw (c.mark-then-index.ensures.marks, c.mark.ensures.marks)
           (closed_more _ _ _ _ i.closed (omega arith) c.index-node.ensures (omega arith) s.content_older s.next_older);
     }

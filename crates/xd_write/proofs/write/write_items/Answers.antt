@@ -1,7 +1,7 @@
-use Rattle.std.proofs.Common.{◌≡◌, ◌+◌, ℕ, List, [], ◌∷◌, ◌++◌, ap, arith}
-use Rattle.xd_doc.specs.Document.{Document, items_text, size, rest_of, content_of, comma_before, element, text, escaped_all}
+use Rattle.std.proofs.Common.{◌≡◌, ◌+◌, [], ◌∷◌, ◌++◌, ap, arith}
+use Rattle.xd_doc.specs.Document.{items_text, size, rest_of, content_of, comma_before, escaped_all}
 use Rattle.xd_doc.specs.Stored.{document_at}
-use Rattle.xd_write.proofs.WriteLemmas.{closing, weight, after_content, is_text, is_element, is_empty, closing-push, weight-push, belong-push, belong-front, on_err, written_part, written_more, piece_part, piece_written, pieces_written, label_part, label_written}
+use Rattle.xd_write.proofs.WriteLemmas.{closing, is_text, is_element, is_empty, closing-push, weight-push, belong-push, belong-front, on_err, written_part, piece_part, piece_written, pieces_written, label_part, label_written}
 use Rattle.xd_write.proofs.write.write_items.Goals as goal
 
 pub loop-outers-smaller-in-Continue-branch-2 : goal.loop-outers-smaller-in-Continue-branch-2

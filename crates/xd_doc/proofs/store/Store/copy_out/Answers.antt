@@ -49,20 +49,20 @@ loop-i-preserved c =
     let r = mark_read c.in_ok-reached.reached.items c.loop-i.i _ (omega arith) c.index.ensures in
     let count : vec_len c.push.new.self ≡ c.loop-i.i + 1 = omega (arith, c.in_ok-push.ensures.len) in
     elim c.if-index.branch [
-      then-index+in_ok-copy w ↦
-        let ready = is_ready c.self.inside.nodes _ _ _ c.loop-i.copies.items _ _ c.self.invariant c.self.view_is (omega arith) w.index-then-index.ensures c.in_ok-reached.ensures.closed (r ∙ w.if-index.true) i.copied e in
-        let d = rw w.deref.ensures.value at w.in_ok-copy.ensures.ok in
-        rw w.into-is (record {
-          count = count;
-          copied = rw (c.in_ok-push.ensures.items, w.copy-is) (copied_more _ _ _ _ c.loop-i.copies.items _ i.copied w.in_ok-copy.ensures.keeps (λ m. (w.in_ok-copy.ensures.belongs, rw e (d ∙ ready.document))));
-          keeps = Keeps-trans _ _ _ i.keeps w.in_ok-copy.ensures.keeps;
-          once = omega (arith, w.in_ok-copy.ensures.one, i.once);
-        })
+      | then-index+in_ok-copy w ↦
+          let ready = is_ready c.self.inside.nodes _ _ _ c.loop-i.copies.items _ _ c.self.invariant c.self.view_is (omega arith) w.index-then-index.ensures c.in_ok-reached.ensures.closed (r ∙ w.if-index.true) i.copied e in
+          let d = rw w.deref.ensures.value at w.in_ok-copy.ensures.ok in
+          rw w.into-is (record {
+            count = count;
+            copied = rw (c.in_ok-push.ensures.items, w.copy-is) (copied_more _ _ _ _ c.loop-i.copies.items _ i.copied w.in_ok-copy.ensures.keeps (λ m. (w.in_ok-copy.ensures.belongs, rw e (d ∙ ready.document))));
+            keeps = Keeps-trans _ _ _ i.keeps w.in_ok-copy.ensures.keeps;
+            once = omega (arith, w.in_ok-copy.ensures.one, i.once);
+          })
       | else-index w ↦
-        rw w.into-is (record {
-          count = count;
-          copied = rw (c.in_ok-push.ensures.items, w.copy-is) (copied_more _ _ _ _ c.loop-i.copies.items _ i.copied (Keeps-same _) (λ m. absurd (let f : get_or c.in_ok-reached.reached.items (length c.loop-i.copies.items) false ≡ false = rw e (r ∙ w.if-index.false) in cc)));
-          keeps = i.keeps;
-          once = omega (arith, i.once);
-        })
+          rw w.into-is (record {
+            count = count;
+            copied = rw (c.in_ok-push.ensures.items, w.copy-is) (copied_more _ _ _ _ c.loop-i.copies.items _ i.copied (Keeps-same _) (λ m. absurd (let f : get_or c.in_ok-reached.reached.items (length c.loop-i.copies.items) false ≡ false = rw e (r ∙ w.if-index.false) in cc)));
+            keeps = i.keeps;
+            once = omega (arith, i.once);
+          })
     ]
