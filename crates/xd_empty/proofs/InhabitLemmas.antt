@@ -1,18 +1,17 @@
 -- On states that have documents and states that have none.
-use Rattle.std.proofs.Common.{◌≡◌, ◌≢◌, ℕ, zero, suc, ◌+◌, ◌-◌, ◌<◌, ◌≤◌, ◌⊎◌, Bool, true, false, ◌&&◌, Option, Some, None, List, [], ◌∷◌, ◌++◌, length, get_or, set, get_or-set_same, get_or-set_other, refl, ap, sym, ◌∙◌, arith, ⊎_elim, length-append}
-use Rattle.std.specs.List.{All, list_any}
+use Rattle.std.proofs.Common.{◌≡◌, ℕ, zero, suc, ◌+◌, ◌-◌, ◌<◌, Bool, true, false, ◌&&◌, Option, Some, None, List, [], ◌∷◌, ◌++◌, length, get_or, set, get_or-set_same, get_or-set_other, refl, ap, sym, ◌∙◌, arith, ⊎_elim}
 use Rattle.std.specs.Option.{is_some}
 use Rattle.std.proofs.lemmas.List.{get_or_past, get_or_default}
-use Rattle.std.proofs.lemmas.List.Folds.{list_any_at, list_any_none}
-use Rattle.std.proofs.lemmas.Bool.{cases_lt, cases_eq}
+use Rattle.std.proofs.lemmas.List.Folds.{list_any_none}
+use Rattle.std.proofs.lemmas.Bool.{cases_eq}
 use Rattle.xd_doc.specs.Document.{Document, empty, text, element}
-use Rattle.xd_doc.specs.Stored.{document_at, BelongsTo, Keeps}
+use Rattle.xd_doc.specs.Stored.{Keeps}
 use Rattle.xd_doc.specs.Classes.{class_has}
 use Rattle.xd_doc.specs.declared.store.Seq.{Seq}
 use Rattle.xd_auto.specs.declared.auto.State.{State}
 use Rattle.xd_auto.specs.declared.auto.LabelMove.{LabelMove}
-use Rattle.xd_auto.specs.Automaton.{Automaton, StateMoves, accepts, moves_at, no_moves, state_number}
-use Rattle.xd_empty.specs.Inhabited.{IsWitness, IsFound, IsUnknown, AreWitnesses, LabelStuck, TextStuck, IsStuck, StuckFrom, unknown}
+use Rattle.xd_auto.specs.Automaton.{Automaton, accepts, moves_at, no_moves, state_number}
+use Rattle.xd_empty.specs.Inhabited.{IsWitness, IsUnknown, AreWitnesses, LabelStuck, IsStuck, StuckFrom, unknown}
 
 and_first : (x y : Bool) → (x && (false && y)) ≡ false
 and_first true y = refl
@@ -30,7 +29,7 @@ none_accepted a fs h (text t r) s u =
     list_any_none (λ q. accepts a r q) (moves_at a s).texts (λ k d lt. none_accepted a fs h r (get_or (moves_at a s).texts k d) ((h s (omega arith) u).texts k d lt))
 none_accepted a fs h (element l c r) s u =
     list_any_none (λ m. class_has m.class l && (accepts a c m.content && accepts a r m.rest)) (moves_at a s).labels
-      (λ k d lt. step (get_or (moves_at a s).labels k d) (λ q w. none_accepted a fs h c q w) (λ q w. none_accepted a fs h r q w) ((h s (omega arith) u).labels k d lt))
+    (λ k d lt. step (get_or (moves_at a s).labels k d) (λ q w. none_accepted a fs h c q w) (λ q w. none_accepted a fs h r q w) ((h s (omega arith) u).labels k d lt))
   where
     step : (m : LabelMove) → ((q : State) → IsUnknown fs q → accepts a c q ≡ false) → ((q : State) → IsUnknown fs q → accepts a r q ≡ false) → LabelStuck fs m → (class_has m.class l && (accepts a c m.content && accepts a r m.rest)) ≡ false
     step m hc hr k = ⊎_elim
@@ -60,9 +59,9 @@ none-push (f ∷ fs) h (suc k) = none-push fs (λ n. h (suc n)) k
 pub witnesses_more : (a : Automaton) (ds : List Document) (fs : List (Option Seq)) (t : State) (seq : Seq) → AreWitnesses a ds fs → state_number t < length fs → IsWitness a ds t seq → AreWitnesses a ds (set fs (state_number t) (Some seq))
 witnesses_more a ds fs t seq w l h s other f = ⊎_elim
     (λ e. let same : s ≡ t = ap (λ n. record { number = n }) e in
-      let made : Some seq ≡ Some other = sym (get_or-set_same fs (state_number t) (Some seq) None l) ∙ ap (λ n. get_or (set fs (state_number t) (Some seq)) n None) (sym e) ∙ f in
-      let o : other ≡ seq = cc in
-      rw (same, o) h)
+    let made : Some seq ≡ Some other = sym (get_or-set_same fs (state_number t) (Some seq) None l) ∙ ap (λ n. get_or (set fs (state_number t) (Some seq)) n None) (sym e) ∙ f in
+    let o : other ≡ seq = cc in
+    rw (same, o) h)
     (λ ne. w s other (sym (get_or-set_other fs (state_number t) (state_number s) (Some seq) None ne) ∙ f))
     (cases_eq (state_number s) (state_number t))
 
@@ -92,27 +91,6 @@ stuck_more a fs from t pos at h here s l u = ⊎_elim
     (λ e. let same : s ≡ t = ap (λ n. record { number = n }) (e ∙ sym at) in rw same (here (rw same at u)))
     (λ ne. h s (omega arith) u)
     (cases_eq (state_number s) (from - 1))
-
--- a document by a move on a text
-pub by_text : (a : Automaton) (ds es : List Document) (fs : List (Option Seq)) (s next : State) (t : List ℕ) (rest seq : Seq) (k : ℕ) → AreWitnesses a ds fs → k < length (moves_at a s).texts → next ≡ get_or (moves_at a s).texts k next → IsFound fs next rest → BelongsTo es seq → document_at es seq ≡ text t (document_at ds rest) → IsWitness a es s seq
-by_text a ds es fs s next t rest seq k w l at f b e =
-    let r = (w next rest f).accepted in
-    record {
-      belongs = b;
-      accepted = ap (λ d. accepts a d s) e ∙ list_any_at (λ q. accepts a (document_at ds rest) q) (moves_at a s).texts k next l (ap (λ q. accepts a (document_at ds rest) q) (sym at) ∙ r);
-    }
-
-and_all : (x y z : Bool) → x ≡ true → y ≡ true → z ≡ true → (x && (y && z)) ≡ true
-and_all x y z e f g = rw (e, f, g) refl
-
--- a document by a move on an element
-pub by_element : (a : Automaton) (ds es : List Document) (fs : List (Option Seq)) (s : State) (m : LabelMove) (label : List ℕ) (content rest seq : Seq) (k : ℕ) → AreWitnesses a ds fs → k < length (moves_at a s).labels → m ≡ get_or (moves_at a s).labels k m → class_has m.class label ≡ true → IsFound fs m.content content → IsFound fs m.rest rest → BelongsTo es seq → document_at es seq ≡ element label (document_at ds content) (document_at ds rest) → IsWitness a es s seq
-by_element a ds es fs s m label content rest seq k w l at has fc fr b e =
-    let p = λ (x : LabelMove). class_has x.class label && (accepts a (document_at ds content) x.content && accepts a (document_at ds rest) x.rest) in
-    record {
-      belongs = b;
-      accepted = ap (λ d. accepts a d s) e ∙ list_any_at p (moves_at a s).labels k m l (ap p (sym at) ∙ and_all _ _ _ has (w m.content content fc).accepted (w m.rest rest fr).accepted);
-    }
 
 -- what was read of the documents so far
 pub found_read : (fs : List (Option Seq)) (n : ℕ) (o : Option Seq) (seq : Seq) → n < length fs → o ≡ get_or fs n o → o ≡ Some seq → get_or fs n None ≡ Some seq

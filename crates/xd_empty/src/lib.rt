@@ -3,5 +3,7 @@
 
 mod inhabit;
 mod label;
+#[cfg(test)]
+mod tests;
 
 pub use inhabit::inhabitant;

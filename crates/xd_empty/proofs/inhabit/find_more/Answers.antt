@@ -1,4 +1,4 @@
-use Rattle.std.proofs.Common.{◌≡◌, ◌+◌, ◌-◌, ◌<◌, ◌≤◌, None, Some, Ok, ap, ◌∙◌, sym, arith, rules, length, vec_len}
+use Rattle.std.proofs.Common.{◌≡◌, ◌-◌, ◌<◌, Ok, ap, arith, rules, length, vec_len}
 use Rattle.xd_doc.proofs.StoredLemmas.{Keeps-trans}
 use Rattle.xd_empty.proofs.InhabitLemmas.{unknown_read, witnesses_keep, witnesses_more, unknown-set, stuck_more}
 use Rattle.xd_empty.proofs.inhabit.find_more.Goals as goal

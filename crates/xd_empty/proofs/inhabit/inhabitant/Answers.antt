@@ -1,4 +1,4 @@
-use Rattle.std.proofs.Common.{◌≡◌, ◌<◌, None, Ok, ap, ◌∙◌, sym, arith, rules, length, vec_len, get_or}
+use Rattle.std.proofs.Common.{◌≡◌, ◌<◌, Ok, ap, arith, rules, length, vec_len}
 use Rattle.xd_empty.proofs.InhabitLemmas.{found_read, none_read, none_accepted}
 use Rattle.xd_empty.proofs.inhabit.inhabitant.Goals as goal
 

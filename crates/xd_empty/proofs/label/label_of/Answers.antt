@@ -1,4 +1,4 @@
-use Rattle.std.proofs.Common.{◌≡◌, ◌∙◌, true, sym, arith, ap}
+use Rattle.std.proofs.Common.{◌≡◌, ◌∙◌, true, sym}
 use Rattle.std.proofs.lemmas.Result.{IfOk-weaker}
 use Rattle.xd_doc.specs.Classes.{class_has}
 use Rattle.xd_empty.proofs.LabelLemmas.{some_name, first_named}

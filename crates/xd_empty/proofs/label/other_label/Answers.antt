@@ -1,6 +1,6 @@
-use Rattle.std.proofs.Common.{◌≡◌, ◌+◌, ◌≤◌, ◌++◌, ◌∷◌, [], ◌∙◌, sym, ap, arith, rules, length}
+use Rattle.std.proofs.Common.{◌≡◌, ◌∙◌, sym, ap, arith, rules, length}
 use Rattle.std.specs.String.{string_bytes, string_len}
-use Rattle.xd_empty.proofs.LabelLemmas.{longest, longest_named, excepted_named, word_more}
+use Rattle.xd_empty.proofs.LabelLemmas.{longest_named, excepted_named, word_more}
 use Rattle.xd_empty.proofs.label.other_label.Goals as goal
 
 pub loop-word-smaller : goal.loop-word-smaller
