@@ -1,11 +1,11 @@
 -- On the documents of a list of nodes.
-use Rattle.std.proofs.Common.{Bool, true, false, ◌≡◌, ◌≢◌, ℕ, zero, suc, ◌+◌, ◌-◌, ◌<◌, ◌≤◌, List, [], ◌∷◌, ◌++◌, length, get_or, get_or-set_same, get_or-set_other, length-set, Option, Some, None, refl, ap, sym, ◌∙◌, arith, length-append, add-zero, zero-add, Vec, vec_len, rules, ⊎_elim}
-use Rattle.std.proofs.lemmas.List.{get_or_append_left, get_or_past, get_or_default}
+use Rattle.std.proofs.Common.{Bool, true, false, ◌≡◌, ◌≢◌, ℕ, zero, suc, ◌+◌, ◌-◌, ◌<◌, ◌≤◌, List, [], ◌∷◌, ◌++◌, cond, length, drop, replicate, set, get_or, add-one, drop-cons, get_or-set_same, get_or-set_other, length-set, Option, Some, None, refl, ap, sym, ◌∙◌, arith, length-append, add-zero, zero-add, Vec, vec_len, rules, ⊎_elim}
+use Rattle.std.proofs.lemmas.List.{get_or_append_left, get_or_past, get_or_default, length-replicate}
 use Rattle.std.proofs.Math.Seq.{get_or-append_seam}
 use Rattle.std.specs.List.{AllByRecursion}
 use Rattle.std.proofs.lemmas.Bool.{cases_lt, cases_eq}
 use Rattle.xd_doc.specs.Document.{Document, empty, text, element, is_proper, has_item, rest_of, content_of, first_then, join, size}
-use Rattle.xd_doc.specs.Stored.{at_node, IsBelow, document_at, BelongsTo, item_before, is_proper_item, node_document, documents_after, documents, AreLinked, IsLinked, Keeps, IsOlder, first_of_document, firsts_then, IsSpine, copy_at, AreCopied, HasCopy, IsMarked, IsClosed, with_mark, no_items}
+use Rattle.xd_doc.specs.Stored.{at_node, IsBelow, document_at, BelongsTo, item_before, is_proper_item, node_document, documents_after, documents, AreLinked, IsLinked, IsBare, marks_in, Keeps, IsOlder, first_of_document, firsts_then, IsSpine, copy_at, AreCopied, HasCopy, IsMarked, IsClosed, with_mark, no_items}
 use Rattle.xd_doc.specs.declared.store.Seq.{Seq}
 use Rattle.xd_doc.specs.declared.store.Node.{Node}
 use Rattle.xd_doc.specs.declared.store.Item.{Item}
@@ -95,7 +95,7 @@ pub record StandsAt (ds : List Document) (i : ℕ) (n : Node) : Type 0 where
   pub next_older : IsBelow i n.next.node
 
 IsLinked-keeps : (ds es : List Document) (n : Node) → Keeps ds es → IsLinked ds n → IsLinked es n
-IsLinked-keeps ds es n k h = record { item = h.item; content = k.belongs n.content h.content; next = k.belongs n.next h.next }
+IsLinked-keeps ds es n k h = record { bare = h.bare; item = h.item; content = k.belongs n.content h.content; next = k.belongs n.next h.next }
 
 node_document-keeps : (ds es : List Document) (n : Node) → Keeps ds es → IsLinked ds n → node_document es n ≡ node_document ds n
 node_document-keeps ds es n k h =
@@ -333,6 +333,26 @@ belongs_at ns now i n a v h g =
       filled = ap has_item s.document ∙ item_before-filled n.item _ _;
     }
 
+-- a copy of a text has no content either
+pub bare_copy : (i : Item) (content : Seq) (cs : List Seq) → IsBare i content → IsBare i (copy_at cs content.node)
+bare_copy (Text s) content cs h = rw h refl
+bare_copy (Elem l) content cs h = tt
+
+pub bare_same : (i j : Item) (content : Seq) → i ≡ j → IsBare j content → IsBare i content
+bare_same i j content e h = rw e h
+
+size-parts : (i : Item) (ds : List Document) (content next : Seq) → IsBare i content → size (item_before i (document_at ds content) (document_at ds next)) ≡ size (document_at ds content) + size (document_at ds next) + 1
+size-parts (Text s) ds content next h =
+    let e : size (document_at ds content) ≡ 0 = ap (λ (c : Seq). size (document_at ds c)) h in
+    omega arith
+size-parts (Elem l) ds content next h = refl
+
+-- A bound on the marks that are still to come: of the first n nodes, each mark counts the items of the node's document; each further mark counts one.
+abbrev pub owed : List Document → ℕ → ℕ → List Bool → ℕ
+owed ds k zero ms = marks_in ms
+owed ds k (suc n) [] = 0
+owed ds k (suc n) (m ∷ ms) = cond m (size (get_or ds k empty)) 0 + owed ds (k + 1) n ms
+
 -- a mark that was read
 pub mark_read : (ms : List Bool) (i : ℕ) (b : Bool) → i < length ms → b ≡ get_or ms i b → get_or ms i false ≡ b
 mark_read ms i b l e = get_or_default ms i false b l ∙ sym e
@@ -340,6 +360,7 @@ mark_read ms i b l e = get_or_default ms i false b l ∙ sym e
 -- a marked node whose links are copied
 pub record IsReady (ds es : List Document) (cs : List Seq) (i : ℕ) (n : Node) : Type 0 where
   pub item : is_proper_item n.item ≡ true
+  pub bare : IsBare n.item n.content
   pub content : HasCopy es cs n.content.node
   pub next : HasCopy es cs n.next.node
   pub document : item_before n.item (document_at es (copy_at cs n.content.node)) (document_at es (copy_at cs n.next.node)) ≡ get_or ds i empty
@@ -352,7 +373,82 @@ is_ready v ds es ms cs i n a e l g closed m h count =
     let x : IsBelow (length cs) n.next.node = rw count s.next_older in
     record {
       item = s.linked.item;
+      bare = s.linked.bare;
       content = has_copy ds es ms cs n.content.node h c links.0;
       next = has_copy ds es ms cs n.next.node h x links.1;
       document = document-copy ds es ms cs n h c x links ∙ sym s.document;
     }
+
+-- one more mark
+owed-set : (ds : List Document) (k n j : ℕ) (ms : List Bool) → j < n → j < length ms → owed ds k n (set ms j true) ≤ owed ds k n ms + size (get_or ds (k + j) empty)
+owed-set ds k zero j ms l h = absurd (omega arith)
+owed-set ds k (suc n) j [] l h = absurd (omega arith)
+owed-set ds k (suc n) zero (m ∷ ms) l h = rw add-zero (first m)
+  where
+    first : (m : Bool) → size (get_or ds k empty) + owed ds (k + 1) n ms ≤ (cond m (size (get_or ds k empty)) 0 + owed ds (k + 1) n ms) + size (get_or ds k empty)
+    first true = omega arith
+    first false = omega arith
+owed-set ds k (suc n) (suc j) (m ∷ ms) l h =
+    let ih = owed-set ds (k + 1) n j ms (omega arith) (omega arith) in
+    let e : (k + 1) + j ≡ k + suc j = omega arith in
+    let same : size (get_or ds ((k + 1) + j) empty) ≡ size (get_or ds (k + suc j) empty) = ap (λ i. size (get_or ds i empty)) e in
+    omega arith
+
+owed-with_mark : (ds : List Document) (n : ℕ) (ms : List Bool) (p : Option ℕ) → IsBelow n p → n ≤ length ms → owed ds 0 n (with_mark ms p) ≤ owed ds 0 n ms + size (at_node ds p)
+owed-with_mark ds n ms None b l = omega arith
+owed-with_mark ds n ms (Some j) b l =
+    let h = owed-set ds 0 n j ms b (omega arith) in
+    let e : size (get_or ds (0 + j) empty) ≡ size (get_or ds j empty) = ap (λ i. size (get_or ds i empty)) (zero-add j) in
+    omega arith
+
+-- the next node is marked, or not
+owed-marked : (ds : List Document) (k n : ℕ) (ms : List Bool) → get_or ms n false ≡ true → owed ds k n ms + size (get_or ds (k + n) empty) ≡ owed ds k (suc n) ms + 1
+owed-marked ds k zero [] h = cc
+owed-marked ds k zero (m ∷ ms) h = rw (add-zero, h) (omega arith)
+owed-marked ds k (suc n) [] h = cc
+owed-marked ds k (suc n) (m ∷ ms) h =
+    let ih = owed-marked ds (k + 1) n ms h in
+    let e : (k + 1) + n ≡ k + suc n = omega arith in
+    let same : size (get_or ds ((k + 1) + n) empty) ≡ size (get_or ds (k + suc n) empty) = ap (λ i. size (get_or ds i empty)) e in
+    omega arith
+
+owed-unmarked : (ds : List Document) (k n : ℕ) (ms : List Bool) → get_or ms n false ≡ false → owed ds k n ms ≡ owed ds k (suc n) ms
+owed-unmarked ds k zero [] h = refl
+owed-unmarked ds k zero (m ∷ ms) h = rw h refl
+owed-unmarked ds k (suc n) [] h = refl
+owed-unmarked ds k (suc n) (m ∷ ms) h = ap (λ x. cond m (size (get_or ds k empty)) 0 + x) (owed-unmarked ds (k + 1) n ms h)
+
+owed-replicate : (ds : List Document) (k n c : ℕ) → owed ds k n (replicate c false) ≡ 0
+owed-replicate ds k zero zero = refl
+owed-replicate ds k zero (suc c) = zero-add (marks_in (replicate c false)) ∙ owed-replicate ds k zero c
+owed-replicate ds k (suc n) zero = refl
+owed-replicate ds k (suc n) (suc c) = zero-add (owed ds (k + 1) n (replicate c false)) ∙ owed-replicate ds (k + 1) n c
+
+-- the first mark
+pub owed_first : (ds : List Document) (place : ℕ) → owed ds 0 (place + 1) (set (replicate (place + 1) false) place true) ≤ size (at_node ds (Some place))
+owed_first ds place =
+    let h = owed-with_mark ds (place + 1) (replicate (place + 1) false) (Some place) (omega arith) (omega (arith, length-replicate {A = Bool} (place + 1) false)) in
+    omega (arith, owed-replicate ds 0 (place + 1) (place + 1))
+
+-- the next node's mark is spent on its own copy and on the marks of its links
+pub owed_more : (ds : List Document) (from : ℕ) (ms : List Bool) (m : Node) → 0 < from → from ≤ length ms → get_or ms (from - 1) false ≡ true → StandsAt ds (from - 1) m → owed ds 0 (from - 1) (with_mark (with_mark ms m.content.node) m.next.node) ≤ owed ds 0 from ms
+owed_more ds from ms m pos l h s =
+    let n = from - 1 in
+    let e : suc (from - 1) ≡ from = omega arith in
+    let one = owed-with_mark ds (from - 1) ms m.content.node s.content_older (omega arith) in
+    let len : length (with_mark ms m.content.node) ≡ length ms = length-with_mark ms m.content.node in
+    let two = owed-with_mark ds (from - 1) (with_mark ms m.content.node) m.next.node s.next_older (omega arith) in
+    let here = owed-marked ds 0 (from - 1) ms h in
+    let at : size (get_or ds (0 + (from - 1)) empty) ≡ size (get_or ds (from - 1) empty) = ap (λ i. size (get_or ds i empty)) (zero-add (from - 1)) in
+    let doc : size (get_or ds (from - 1) empty) ≡ size (document_at ds m.content) + size (document_at ds m.next) + 1 = ap size s.document ∙ size-parts m.item ds m.content m.next s.linked.bare in
+    let next : owed ds 0 (suc (from - 1)) ms ≡ owed ds 0 from ms = ap (λ i. owed ds 0 i ms) e in
+    omega arith
+
+pub owed_skip : (ds : List Document) (from : ℕ) (ms : List Bool) → 0 < from → get_or ms (from - 1) false ≡ false → owed ds 0 (from - 1) ms ≡ owed ds 0 from ms
+owed_skip ds from ms pos h =
+    let e : suc (from - 1) ≡ from = omega arith in
+    owed-unmarked ds 0 (from - 1) ms h ∙ ap (λ i. owed ds 0 i ms) e
+
+-- the marks from a place on
+pub marks_in-drop : (ms : List Bool) (i : ℕ) → i < length ms → marks_in (drop i ms) ≡ cond (get_or ms i false) 1 0 + marks_in (drop (i + 1) ms)
+marks_in-drop ms i l = rw add-one (ap marks_in (drop-cons ms i false l))

@@ -2,8 +2,8 @@
 
 ghost use Rattle.std.specs.Prelude.{true, not, ◌↔◌, List, IsSome, None, Some, ◌≡◌, ◌+◌, ◌<◌, ◌++◌, ◌∷◌, [], length, IfOk, OnErr, OnOk, IsTrue, slice_index_or, ◌≤◌, vec_len};
 ghost use Rattle.std.specs.Option.{option_copied};
-ghost use Rattle.xd_doc.specs.Document.{Document, empty, text as text_before, element, rest_of, content_of, is_proper, has_item, first_then, join};
-ghost use Rattle.xd_doc.specs.Stored.{IsLinked, AreLinked, IsBelow, HasCopy, IsMarked, IsClosed, with_mark, item_before, copy_at, IsSpine, node_document, no_items, place_in_store, is_proper_item, document_at, BelongsTo, Keeps, IsOlder, first_of_document};
+ghost use Rattle.xd_doc.specs.Document.{Document, empty, text as text_before, element, rest_of, content_of, is_proper, has_item, first_then, join, size};
+ghost use Rattle.xd_doc.specs.Stored.{IsLinked, IsBare, marks_in, at_node, documents, AreLinked, IsBelow, HasCopy, IsMarked, IsClosed, with_mark, item_before, copy_at, IsSpine, node_document, no_items, place_in_store, is_proper_item, document_at, BelongsTo, Keeps, IsOlder, first_of_document};
 
 use crate::error::NoMemory;
 use crate::label::Label;
@@ -286,6 +286,7 @@ impl Store {
         ensures belongs { IfOk result (BelongsTo into.new) }
         ensures keeps { Keeps into.old into.new }
         ensures once { length into.new ≤ length into.old + length self.now }
+        ensures few { length into.new ≤ length into.old + size (document_at self.now seq) }
     {
         let Some(place) = seq.node else {
             return Ok(seq);
@@ -313,6 +314,7 @@ fn reached_from(alloc: Global, nodes: &Vec<Node>, place: usize) -> Result<Vec<bo
     ensures count { IfOk result (λ reached. vec_len reached ≡ place + 1) }
     ensures place { IfOk result (λ reached. IsMarked reached.items (Some place)) }
     ensures closed { IfOk result (λ reached. IsClosed nodes.now.items reached.items 0) }
+    ensures few { IfOk result (λ reached. marks_in reached.items ≤ size (at_node (documents nodes.now.items) (Some place))) }
 {
     let _count = nodes.len();
     let mut reached = vec![in alloc; false; place + 1]?;
@@ -342,10 +344,12 @@ fn copy_node(node: &Node, copies: &[Seq], into: &mut Store) -> Result<Seq, NoMem
     requires item { is_proper_item node.now.item ≡ true }
     requires content { HasCopy into.old copies.now node.now.content.node }
     requires next { HasCopy into.old copies.now node.now.next.node }
+    requires bare { IsBare node.now.item node.now.content }
     ensures ok { IfOk result (λ copy. document_at into.new copy ≡ item_before node.now.item (document_at into.old (copy_at copies.now node.now.content.node)) (document_at into.old (copy_at copies.now node.now.next.node))) }
     ensures belongs { IfOk result (BelongsTo into.new) }
     ensures keeps { Keeps into.old into.new }
     ensures one { length into.new ≤ length into.old + 1 }
+    ensures err { OnErr result (into.new ≡ into.old) }
 {
     let copy = Node {
         item: node.item.share()?,
