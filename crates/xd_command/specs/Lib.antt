@@ -1,0 +1,5 @@
+pub mod FirstForm
+pub mod Reading
+pub mod Form
+pub mod Sent
+pub mod Membership
