@@ -1,5 +1,5 @@
 -- What stands around a type is closed from the inside out.
-use Rattle.std.proofs.Common.{◌≡◌, ℕ, zero, suc, ◌+◌, ◌<◌, ◌≤◌, Bool, true, false, cond, List, [], ◌∷◌, ◌++◌, length, take, drop, reverse, Option, Some, None, refl, sym, ap, subst, ◌∙◌, append_assoc, arith, get_or}
+use Rattle.std.proofs.Common.{◌≡◌, ℕ, suc, ◌<◌, true, false, cond, List, [], ◌∷◌, ◌++◌, length, take, reverse, Some, None, refl, sym, ap, ◌∙◌, append_assoc, get_or}
 use Rattle.std.proofs.lemmas.List.{append-nil, reverse-append}
 use Rattle.std.proofs.Math.Seq.{take-suc}
 use Rattle.xd_lex.specs.declared.Kind.{Kind}

@@ -1,20 +1,19 @@
 -- Types of the first form, and the documents that fit them.
-use Rattle.std.proofs.Common.{◌≡◌, ℕ, zero, suc, ◌+◌, ◌<◌, ◌≤◌, Bool, true, false, cond, ◌⊎◌, inl, inr, ◌↔◌, ◌||◌, not, IsTrue, List, [], ◌∷◌, ◌++◌, length, map, Option, Some, None, get_or, refl, sym, ap, subst, ◌∙◌, append_assoc, arith, rules, length-append}
+use Rattle.std.proofs.Common.{◌≡◌, ℕ, zero, suc, ◌+◌, ◌<◌, ◌≤◌, Bool, true, false, cond, ◌↔◌, ◌||◌, not, IsTrue, List, [], ◌∷◌, ◌++◌, length, Option, Some, None, get_or, refl, sym, ap, subst, ◌∙◌, append_assoc, arith, length-append}
 use Rattle.std.specs.Option.{option_map}
 use Rattle.std.specs.Str.{bytes_eq}
-use Rattle.std.proofs.lemmas.List.{append-nil}
 use Rattle.xd_doc.specs.Document.{Document, empty, text, element, has_item}
 use Rattle.xd_doc.specs.Classes.{class_has}
-use Rattle.xd_syntax.specs.Tree.{Tree, Empty, Text, Name, Elem, Definitions, body, environment}
-use Rattle.xd_syntax.specs.Words.{any_word, string_word}
-use Rattle.xd_syntax.specs.Fits.{Fits, fits_empty, fits_name, fits_elem, IsOneText, IsOneElement}
-use Rattle.xd_syntax.proofs.FitsLaws.{empty_only, text_only, text_fits, element_only, element_fits, defined_name, any_fits}
+use Rattle.xd_syntax.specs.Tree.{Empty, Text, Name, Elem, Definitions, body, environment}
+use Rattle.xd_syntax.specs.Words.{any_word}
+use Rattle.xd_syntax.specs.Fits.{Fits, fits_empty, fits_name, fits_elem, IsOneText}
+use Rattle.xd_syntax.proofs.FitsLaws.{empty_only, text_only, text_fits, element_only, defined_name, any_fits}
 use Rattle.xd_command.specs.declared.first_form.Around.{Around}
 use Rattle.xd_command.specs.declared.first_form.Around.TheVariants.{Parens, Labeled}
 use Rattle.xd_command.specs.declared.first_form.Core.{Core}
 use Rattle.xd_command.specs.declared.first_form.Core.TheVariants as cores
 use Rattle.xd_command.specs.declared.first_form.Definition.{Definition}
-use Rattle.xd_command.specs.FirstForm.{Inside, nothing, named, Written, only, type_named, type_tree, definitions_of}
+use Rattle.xd_command.specs.FirstForm.{Inside, nothing, named, Written, only, type_tree, definitions_of}
 use Rattle.xd_command.specs.Reading.{IsCore, AreLookedUp, position_of}
 use Rattle.xd_command.specs.Membership.{AreOrdered, IsBelow, IsAround}
 use Rattle.xd_command.proofs.Names.{equal, same}
@@ -100,7 +99,7 @@ core-more ds more (named w) cores.Text h = h
 core-more ds more (named w) cores.Any h = h
 core-more ds more (named w) (cores.Defined k) h = (h.0, h.1, position-more ds more w k h.2)
 
-core-below : (ds : List Written) (i : Inside) (c : Core) → IsCore ds i c → IsBelow (length ds) c
+pub core-below : (ds : List Written) (i : Inside) (c : Core) → IsCore ds i c → IsBelow (length ds) c
 core-below ds nothing cores.Empty h = tt
 core-below ds nothing cores.Text h = absurd h
 core-below ds nothing cores.Any h = absurd h

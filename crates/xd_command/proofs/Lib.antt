@@ -4,3 +4,5 @@ pub mod Names
 pub mod Opened
 pub mod Programs
 pub mod Fitting
+pub mod Growth
+pub mod Steps

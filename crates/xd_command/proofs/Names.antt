@@ -1,5 +1,5 @@
 -- The names that definitions have, and their numbers.
-use Rattle.std.proofs.Common.{◌≡◌, ◌≢◌, ℕ, zero, suc, ◌+◌, Bool, true, false, cond, not, ◌&&◌, ◌||◌, List, [], ◌∷◌, ◌++◌, length, map, Option, Some, None, is_some, refl, sym, ap, subst, ◌∙◌, append_assoc, arith, if◌then◌else◌, String, Vec}
+use Rattle.std.proofs.Common.{◌≡◌, ℕ, suc, Bool, true, false, cond, not, ◌&&◌, ◌||◌, List, [], ◌∷◌, ◌++◌, length, Option, Some, None, is_some, refl, sym, ap, subst, ◌∙◌, append_assoc, String}
 use Rattle.std.proofs.lemmas.List.{append-nil}
 use Rattle.std.proofs.lemmas.Slice.Eq.{bytes_eq-Decides}
 use Rattle.std.proofs.lemmas.Map.Text.{btree_map_updates_text}
@@ -8,14 +8,12 @@ use Rattle.std.specs.Ordering.{nat_cmp}
 use Rattle.std.specs.Cmp.Lexicographic.{slice_cmp}
 use Rattle.std.specs.Str.{bytes_eq}
 use Rattle.std.specs.String.{string_bytes, string_cmp}
-use Rattle.std.specs.BTreeMap.{BTreeMap, get_by_text, UpdatesBy}
-use Rattle.xd_syntax.specs.Words.{any_word, string_word, has_word, is_type_name}
-use Rattle.xd_command.specs.declared.first_form.Around.{Around}
-use Rattle.xd_command.specs.declared.first_form.Core.{Core}
+use Rattle.std.specs.BTreeMap.{get_by_text, UpdatesBy}
+use Rattle.xd_syntax.specs.Words.{any_word, string_word, has_word}
 use Rattle.xd_command.specs.declared.first_form.Core.TheVariants as cores
 use Rattle.xd_command.specs.declared.first_form.Definition.{Definition}
 use Rattle.xd_command.specs.declared.first_form.Definitions.{Definitions}
-use Rattle.xd_command.specs.FirstForm.{Sign, Inside, nothing, named, Written, is_something, is_known, is_new, is_reserved, are_definitions}
+use Rattle.xd_command.specs.FirstForm.{Sign, named, Written, is_something, is_known, is_new, is_reserved, are_definitions}
 use Rattle.xd_command.specs.Reading.{Keeps, IsCore, IsDefined, AreLookedUp, position_of, names_of}
 
 pub differs : (a b : List ℕ) → (b ≡ a → ⊥) → bytes_eq a b ≡ false
@@ -147,7 +145,7 @@ valid-push names (x ∷ ds) d v n s k =
     let v1 = both_right (is_new names x.name) _ v in
     let v2 = both_right (is_something x.around x.inside) _ v1 in
     both _ _ (both_left (is_new names x.name) _ v) (both _ _ (both_left (is_something x.around x.inside) _ v1) (both _ _ (both_left (is_known names x.inside) _ v2)
-      (valid-push (names ++ x.name ∷ []) ds d (both_right (is_known names x.inside) _ v2) (rw (← names-push names x ds) at n) s (rw (← names-push names x ds) at k))))
+    (valid-push (names ++ x.name ∷ []) ds d (both_right (is_known names x.inside) _ v2) (rw (← names-push names x ds) at n) s (rw (← names-push names x ds) at k))))
 
 fresh_word : (names : List (List ℕ)) (w : List ℕ) → is_new names w ≡ true → has_word names w ≡ false
 fresh_word names w e = not_true (has_word names w) (both_right (not (is_reserved w)) (not (has_word names w)) e)
@@ -158,12 +156,12 @@ pub keeps-push : {A : Type 0} (kept new : Definitions) (ds : List Written) (ts u
     UpdatesBy string_cmp (λ q. slice_cmp nat_cmp (string_bytes name) (string_bytes q)) kept.names new.names (Some n) → Keeps new (ds ++ d.written ∷ [])
 keeps-push kept new ds ts us name k h d e n c u = record {
   found = λ w.
-    let count : n ≡ length ds = c ∙ looked_up-length [] ds kept.definitions.items h.each in
-    btree_map_updates_text (string_bytes name) kept.names new.names (Some n) u w
-    ∙ ap (λ x. cond (bytes_eq x w) (Some n) (get_by_text kept.names w)) d.called
-    ∙ ap (λ x. cond (bytes_eq d.written.name w) (Some x) (get_by_text kept.names w)) count
-    ∙ ap (λ x. cond (bytes_eq d.written.name w) (Some (length ds)) x) (h.found w)
-    ∙ sym (position-new ds d.written (fresh_word (names_of ds) d.written.name d.fresh) w);
+      let count : n ≡ length ds = c ∙ looked_up-length [] ds kept.definitions.items h.each in
+      btree_map_updates_text (string_bytes name) kept.names new.names (Some n) u w
+      ∙ ap (λ x. cond (bytes_eq x w) (Some n) (get_by_text kept.names w)) d.called
+      ∙ ap (λ x. cond (bytes_eq d.written.name w) (Some x) (get_by_text kept.names w)) count
+      ∙ ap (λ x. cond (bytes_eq d.written.name w) (Some (length ds)) x) (h.found w)
+      ∙ sym (position-new ds d.written (fresh_word (names_of ds) d.written.name d.fresh) w);
   each = subst (λ ks. AreLookedUp [] (ds ++ d.written ∷ []) ks) (sym e) (looked_up-push [] ds kept.definitions.items d.written k h.each d.around d.core);
   valid = valid-push [] ds d.written h.valid d.fresh d.something d.known;
 }

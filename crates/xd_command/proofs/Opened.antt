@@ -1,16 +1,15 @@
 -- What opens a type, up to what stands inside.
-use Rattle.std.proofs.Common.{◌≡◌, ◌≢◌, ℕ, zero, suc, ◌+◌, ◌<◌, ◌≤◌, Bool, true, false, cond, ◌⊎◌, inl, inr, List, [], ◌∷◌, ◌++◌, length, take, drop, reverse, map, Option, Some, None, IsSome, refl, sym, ap, subst, ◌∙◌, append_assoc, arith, rules, length-append}
+use Rattle.std.proofs.Common.{◌≡◌, ◌≢◌, ℕ, Bool, true, false, cond, ◌⊎◌, inl, inr, List, [], ◌∷◌, ◌++◌, length, drop, reverse, Option, Some, None, IsSome, refl, sym, ap, subst, ◌∙◌, arith, rules, length-append}
 use Rattle.std.specs.Prelude.{nat_le, IfSome, IfNone}
-use Rattle.std.proofs.lemmas.List.{append-nil, reverse-append, take_all}
+use Rattle.std.proofs.lemmas.List.{reverse-append, take_all}
 use Rattle.std.proofs.Math.Seq.{take-append_seam, drop-append_seam}
 use Rattle.xd_lex.specs.declared.Kind.{Kind}
 use Rattle.xd_lex.specs.declared.Kind.TheVariants as kinds
 use Rattle.xd_lex.specs.Tokens.{Lexeme, is_last}
 use Rattle.xd_command.specs.declared.first_form.Around.{Around}
-use Rattle.xd_command.specs.declared.first_form.Core.{Core}
 use Rattle.xd_command.specs.declared.first_form.Core.TheVariants as cores
 use Rattle.xd_command.specs.declared.first_form.Opening.{Opening}
-use Rattle.xd_command.specs.FirstForm.{Sign, Word, sign, sign_of, signs_of, Inside, nothing, named, Written, type_signs, is_something, is_known}
+use Rattle.xd_command.specs.FirstForm.{Sign, sign, signs_of, nothing, named, Written, is_something, is_known}
 use Rattle.xd_command.specs.Reading.{TypeRead, closing, opening, closes, ClosesLast, IsCore, IsOpened, HasNoType, names_of}
 use Rattle.xd_command.proofs.Types.{reads, was_closed, close_token, nothing_token, closes_more}
 
@@ -90,7 +89,7 @@ module _ (ts : List Sign) (A : List Around) (old new : List Lexeme) (x : Lexeme)
           inside = nothing;
           within = rw (s, l.count) (omega (arith, length-append l.front (l.last ∷ [])));
           read = nothing_at l.front l.last l.split ∙ ap (λ q. cond q (closing (reverse l.front) (l.last ∷ []) nothing (signs_of new)) None) l.closed
-            ∙ rw (s, l.count, take-append_seam l.front (l.last ∷ []), drop-append_seam l.front (l.last ∷ []));
+              ∙ rw (s, l.count, take-append_seam l.front (l.last ∷ []), drop-append_seam l.front (l.last ∷ []));
           core = subst (IsCore ds nothing) (sym h.1) tt;
           known = refl;
           something = rw s (something_nothing l.front l.last);

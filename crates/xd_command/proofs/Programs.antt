@@ -1,7 +1,6 @@
 -- A program of the first form, definition by definition.
-use Rattle.std.proofs.Common.{◌≡◌, ◌≢◌, ℕ, zero, suc, ◌+◌, ◌<◌, ◌≤◌, Bool, true, false, cond, ◌⊎◌, inl, inr, List, [], ◌∷◌, ◌++◌, length, take, drop, reverse, map, Option, Some, None, refl, sym, ap, subst, ◌∙◌, append_assoc, arith, rules}
-use Rattle.std.specs.Prelude.{nat_le, IsUtf8}
-use Rattle.std.specs.List.{list_all}
+use Rattle.std.proofs.Common.{◌≡◌, ℕ, Bool, true, false, List, [], ◌∷◌, ◌++◌, length, take, drop, reverse, Some, None, refl, sym, ap, subst, ◌∙◌, append_assoc}
+use Rattle.std.specs.Prelude.{nat_le}
 use Rattle.std.proofs.lemmas.List.{append-nil, take-append-drop, reverse-reverse}
 use Rattle.xd_lex.specs.declared.Kind.{Kind}
 use Rattle.xd_lex.specs.declared.Kind.TheVariants as kinds
@@ -11,8 +10,8 @@ use Rattle.xd_command.specs.declared.first_form.Around.{Around}
 use Rattle.xd_command.specs.declared.first_form.Definition.{Definition}
 use Rattle.xd_command.specs.declared.first_form.Definitions.{Definitions}
 use Rattle.xd_command.specs.declared.first_form.Opening.{Opening}
-use Rattle.xd_command.specs.FirstForm.{Sign, Word, Label, ParenL, ParenR, BracketR, Equals, End, Other, sign, sign_of, signs_of, Inside, nothing, named, Written, type_signs, type_word, program_signs, is_something, is_known, is_new, is_plain, are_definitions, definitions_of, SpellsDefinitions}
-use Rattle.xd_command.specs.Reading.{TypeRead, closing, opening, IsOpened, IsTypeRead, HasNoType, IsDefined, AddsDefinition, HasNoDefinition, IsProgramRead, Keeps, names_of}
+use Rattle.xd_command.specs.FirstForm.{Sign, Word, Equals, End, sign, sign_of, signs_of, Inside, Written, type_signs, type_word, program_signs, is_something, is_known, is_new, are_definitions, SpellsDefinitions}
+use Rattle.xd_command.specs.Reading.{TypeRead, closing, opening, IsOpened, IsTypeRead, HasNoType, IsDefined, AddsDefinition, HasNoDefinition, Keeps, names_of}
 use Rattle.xd_command.proofs.Types.{reads, was_closed, is_spelled}
 use Rattle.xd_command.proofs.Opened.{no_type, no_type_none}
 use Rattle.xd_command.proofs.Names.{both_left, both_right}
@@ -195,13 +194,13 @@ module _ (ts : List Sign) (kept : Definitions) (old mid : List Lexeme) (x : Lexe
   program_more k t new us a =
       let v = valid_at [] h.written a.written [] a.keeps.valid in
       let here : signs_of old ≡ Word type_word ∷ (Word a.written.name ∷ (Equals ∷ (type_signs a.written.around a.written.inside ++ us))) =
-        ap signs_of token ∙ ap (λ s. s ∷ signs_of mid) (word_sign x k) ∙ ap (λ (w : List ℕ). Word w ∷ signs_of mid) t ∙ ap (λ l. Word type_word ∷ l) a.signs in
+      ap signs_of token ∙ ap (λ s. s ∷ signs_of mid) (word_sign x k) ∙ ap (λ (w : List ℕ). Word w ∷ signs_of mid) t ∙ ap (λ l. Word type_word ∷ l) a.signs in
       record {
         written = h.written ++ a.written ∷ [];
         keeps = a.keeps;
         spelled = λ vs e.
-          ap program_signs (append_assoc h.written (a.written ∷ []) vs)
-          ∙ h.spelled (a.written ∷ vs) (ap (λ l. Word type_word ∷ (Word a.written.name ∷ (Equals ∷ (type_signs a.written.around a.written.inside ++ l)))) e ∙ sym here);
+            ap program_signs (append_assoc h.written (a.written ∷ []) vs)
+            ∙ h.spelled (a.written ∷ vs) (ap (λ l. Word type_word ∷ (Word a.written.name ∷ (Equals ∷ (type_signs a.written.around a.written.inside ++ l)))) e ∙ sym here);
         only = λ vs w e. go vs w (h.only vs w e).0 (h.only vs w e).1 (h.only vs w e).2 v.something here;
       }
     where

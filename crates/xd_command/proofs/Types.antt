@@ -1,15 +1,13 @@
 -- Types of the first form, read token by token.
-use Rattle.std.proofs.Common.{◌≡◌, ◌≢◌, ℕ, zero, suc, ◌+◌, ◌-◌, ◌<◌, ◌≤◌, Bool, true, false, cond, ◌⊎◌, inl, inr, List, [], ◌∷◌, ◌++◌, length, take, drop, reverse, map, Option, Some, None, refl, sym, ap, subst, ◌∙◌, append_assoc, arith, nat_eq, get_or, if◌then◌else◌}
-use Rattle.std.proofs.lemmas.List.{append-nil, take-append-drop, reverse-append, reverse-reverse}
-use Rattle.std.proofs.Math.Seq.{take-suc}
-use Rattle.std.specs.Prelude.{nat_le}
+use Rattle.std.proofs.Common.{◌≡◌, ◌≢◌, ℕ, true, false, cond, List, [], ◌∷◌, ◌++◌, reverse, Option, Some, None, refl, sym, ap, ◌∙◌, append_assoc}
+use Rattle.std.proofs.lemmas.List.{reverse-append}
 use Rattle.xd_lex.specs.declared.Kind.{Kind}
 use Rattle.xd_lex.specs.declared.Kind.TheVariants as kinds
 use Rattle.xd_lex.specs.Tokens.{is_last}
 use Rattle.xd_command.specs.declared.first_form.Around.{Around}
 use Rattle.xd_command.specs.declared.first_form.Around.TheVariants.{Parens, Labeled}
-use Rattle.xd_command.specs.FirstForm.{Sign, Word, Label, ParenL, ParenR, BracketR, Equals, End, Other, sign, Inside, nothing, named, Written, before, behind, type_signs, is_something, is_known}
-use Rattle.xd_command.specs.Reading.{TypeRead, closing, opening, closes, IsOpened, HasNoType}
+use Rattle.xd_command.specs.FirstForm.{Sign, Word, Label, ParenL, ParenR, BracketR, Equals, End, Other, sign, Inside, nothing, named, before, behind, type_signs, is_something}
+use Rattle.xd_command.specs.Reading.{TypeRead, closing, opening, closes}
 
 -- what is written of a type whose outer parts are still open, the innermost first
 abbrev pub assemble : List Around → List Sign → List Sign

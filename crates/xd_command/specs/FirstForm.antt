@@ -3,7 +3,7 @@
 --
 --   program = { "type" Word "=" type } End
 --   type    = "(" ")" | "(" type ")" | Word | Label [ type ] "]"
-use Rattle.std.specs.Prelude.{◌≡◌, ◌⊎◌, ℕ, ◌-◌, Bool, true, false, ◌&&◌, ◌||◌, not, nat_le, List, [], ◌∷◌, ◌++◌, length, take, map, IsUtf8, if◌then◌else◌, nat_eq, codes}
+use Rattle.std.specs.Prelude.{◌≡◌, ℕ, ◌-◌, Bool, true, false, ◌&&◌, ◌||◌, not, nat_le, List, [], ◌∷◌, ◌++◌, length, take, map, IsUtf8, if◌then◌else◌, nat_eq, codes}
 use Rattle.std.specs.List.{list_all}
 use Rattle.std.specs.Str.{bytes_eq}
 use Rattle.xd_doc.specs.Classes.{LabelClass}

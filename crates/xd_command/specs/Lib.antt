@@ -1,5 +1,8 @@
 pub mod FirstForm
 pub mod Reading
-pub mod Form
-pub mod Sent
 pub mod Membership
+pub mod Form
+pub mod Answer
+pub mod Outcome
+pub mod Sent
+pub mod Fetched

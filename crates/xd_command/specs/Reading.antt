@@ -1,5 +1,5 @@
 -- How the first form is read. Only private contracts speak of it.
-use Rattle.std.specs.Prelude.{◌≡◌, ◌≤◌, ◌<◌, ℕ, suc, Bool, true, false, List, [], ◌∷◌, ◌++◌, length, take, drop, reverse, map, Option, Some, None, is_some, if◌then◌else◌, slice_get, nat_le, IsUtf8}
+use Rattle.std.specs.Prelude.{◌≡◌, ◌≤◌, ℕ, suc, Bool, true, false, List, [], ◌∷◌, ◌++◌, length, take, drop, reverse, map, Option, Some, None, if◌then◌else◌, nat_le, IsUtf8}
 use Rattle.std.specs.List.{list_all}
 use Rattle.xd_lex.specs.Tokens.{tokens_of}
 use Rattle.std.specs.Option.{option_map}

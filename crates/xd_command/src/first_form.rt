@@ -154,7 +154,11 @@ impl Definitions {
                     let unclosed = around.len();
                     return match self.core(token.text) {
                         None => Ok(None),
-                        Some(core) => Ok(Some(Opening { around, unclosed, core })),
+                        Some(core) => Ok(Some(Opening {
+                            around,
+                            unclosed,
+                            core,
+                        })),
                     };
                 }
                 kind => return Ok(around_nothing(around, kind)),

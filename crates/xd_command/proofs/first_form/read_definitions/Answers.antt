@@ -1,7 +1,7 @@
-use Rattle.std.proofs.Common.{◌≡◌, ◌<◌, ◌≤◌, ◌↔◌, refl, sym, ap, ◌∙◌, arith, length, rules}
+use Rattle.std.proofs.Common.{sym, ap, ◌∙◌, arith, length}
 use Rattle.xd_lex.specs.Tokens.{is_last}
 use Rattle.xd_command.specs.FirstForm.{signs_of}
-use Rattle.xd_command.proofs.Programs.{program_start, program_more, program_end, other_token, other_word, no_definition, nothing_spelled}
+use Rattle.xd_command.proofs.Programs.{program_more, program_end, other_token, other_word, no_definition, nothing_spelled}
 use Rattle.xd_command.proofs.Names.{is_same, is_other}
 use Rattle.xd_command.proofs.first_form.read_definitions.Goals as goal
 

@@ -1,4 +1,4 @@
-use Rattle.std.proofs.Common.{◌≡◌, ◌<◌, length, List}
+use Rattle.std.proofs.Common.{◌<◌, length}
 use Rattle.xd_command.proofs.Programs.{ReadsProgram}
 use Rattle.xd_command.specs.FirstForm.{signs_of}
 use Rattle.xd_command.proofs.first_form.read_definitions.Given as goal

@@ -1,6 +1,5 @@
-use Rattle.std.proofs.Common.{◌≡◌, ◌<◌, ◌≤◌, sym, ap, subst, arith, length, refl}
-use Rattle.xd_command.specs.Membership.{IsBelow}
-use Rattle.xd_command.proofs.Fitting.{follows_start, follows_more, follows_none, follows_empty, follows_text, follows_any, below_more}
+use Rattle.std.proofs.Common.{arith, length}
+use Rattle.xd_command.proofs.Fitting.{follows_more, follows_none, follows_empty, follows_text, follows_any, below_more}
 use Rattle.xd_command.proofs.membership.fits.Goals as goal
 
 pub returns-in-Empty : goal.returns-in-Empty

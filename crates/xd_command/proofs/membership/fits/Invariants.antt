@@ -1,4 +1,4 @@
-use Rattle.std.proofs.Common.{length, List, [], ◌+◌, ◌↔◌}
+use Rattle.std.proofs.Common.{length, List, []}
 use Rattle.xd_doc.specs.Stored.{BelongsTo, document_at}
 use Rattle.xd_command.specs.FirstForm.{Written, Inside}
 use Rattle.xd_command.specs.Reading.{AreLookedUp, IsCore}

@@ -1,4 +1,4 @@
-use Rattle.std.proofs.Common.{arith, length, sym}
+use Rattle.std.proofs.Common.{arith}
 use Rattle.xd_command.proofs.Names.{keeps-push}
 use Rattle.xd_command.proofs.first_form.Definitions.add.Goals as goal
 

@@ -1,4 +1,4 @@
-use Rattle.std.proofs.Common.{refl, ap, arith, vec_len, length}
+use Rattle.std.proofs.Common.{refl, ap, arith, length}
 use Rattle.xd_command.specs.Reading.{Keeps}
 use Rattle.xd_command.specs.FirstForm.{signs_of}
 use Rattle.xd_command.proofs.Opened.{word_missing, word_opened, nothing_read, nothing_missing, nothing_left}

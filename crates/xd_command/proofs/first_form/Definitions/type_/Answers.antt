@@ -1,4 +1,4 @@
-use Rattle.std.proofs.Common.{refl, arith, vec_len, length, true, false}
+use Rattle.std.proofs.Common.{refl, arith, length}
 use Rattle.std.proofs.lemmas.Bool.{le-leb, lt-leb}
 use Rattle.xd_command.proofs.Programs.{type_closed, too_deep, not_closed}
 use Rattle.xd_command.proofs.first_form.Definitions.type_.Goals as goal
