@@ -1,0 +1,5 @@
+pub mod Words
+pub mod Tree
+pub mod Fits
+pub mod Table
+pub mod Types
