@@ -3,3 +3,16 @@ pub mod Tree
 pub mod Fits
 pub mod Table
 pub mod Types
+pub mod Placed
+pub mod Expression
+pub mod Program
+pub mod Ways
+pub mod Heads
+pub mod TypeText
+pub mod Order
+pub mod NameFaults
+pub mod RecursionFaults
+pub mod Meaning
+pub mod May
+pub mod CheckFaults
+pub mod Consistent
