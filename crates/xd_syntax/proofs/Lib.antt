@@ -1,2 +1,4 @@
 pub mod Trees
+pub mod PlacedTrees
 pub mod FitsLaws
+pub mod ExprTrees

@@ -4,7 +4,6 @@ use Rattle.xd_base.specs.declared.Place.{Place}
 use Rattle.xd_doc.specs.Document.{Document, is_proper}
 use Rattle.xd_doc.specs.Stored.{document_at, BelongsTo}
 use Rattle.xd_doc.specs.declared.store.Seq.{Seq}
-use Rattle.xd_syntax.specs.Tree.{Tree, Definitions}
 use Rattle.xd_syntax.specs.Placed.{PlacedTree, unplaced, place_of}
 use Rattle.xd_syntax.specs.Fits.{Fits}
 use Rattle.xd_syntax.specs.Order.{is_earlier, is_same_place}
@@ -52,7 +51,7 @@ lines_in_order ls = lines_after [] ls
 -- one line with a document that meets the fact, or no line where none does
 abbrev pub LineWhere : Place → LineKind → (Document → Type 0) → List Line → Type 0
 LineWhere p k A ls =
-  ((d : Document) × (is_proper d ≡ true) × A d × (ls ≡ record { place = p; kind = k; document = Some d } ∷ []))
+    ((d : Document) × (is_proper d ≡ true) × A d × (ls ≡ record { place = p; kind = k; document = Some d } ∷ []))
     ⊎ (((d : Document) → is_proper d ≡ true → A d → ⊥) × (ls ≡ []))
 
 -- the lines of two parts, the first part's first
@@ -83,7 +82,7 @@ abbrev mutual
   LinesOfArguments P V ps no_argument ls = ls ≡ []
   LinesOfArguments P V [] (argument e es) ls = Both (LinesOf P V e) (LinesOfArguments P V [] es) ls
   LinesOfArguments P V (q ∷ qs) (argument e es) ls =
-    Both (LinesOf P V e)
+      Both (LinesOf P V e)
       (Both (LineWhere (place_of_expression e) wrong_argument (Misfits P V e q.declared)) (LinesOfArguments P V qs es)) ls
 
   -- A clause that is live has the lines of its body; one that is not has a warning and nothing else. Behind the last
@@ -91,17 +90,17 @@ abbrev mutual
   pub LinesOfClauses : ProgramTree → Scope → Place → (Document → Type 0) → List PlacedTree → Clauses → List Line → Type 0
   LinesOfClauses P V p A earlier no_clause ls = LineWhere p not_exhaustive (Arrives (names_of P) A earlier) ls
   LinesOfClauses P V p A earlier (clause Q e cs) ls =
-    Both
+      Both
       (λ ms.
-        (IsLive (names_of P) A earlier Q × LinesOf P (in_clause (names_of P) A earlier Q V) e ms)
-          ⊎ ((IsLive (names_of P) A earlier Q → ⊥) × (ms ≡ record { place = place_of Q; kind = dead_clause; document = None } ∷ [])))
+      (IsLive (names_of P) A earlier Q × LinesOf P (in_clause (names_of P) A earlier Q V) e ms)
+      ⊎ ((IsLive (names_of P) A earlier Q → ⊥) × (ms ≡ record { place = place_of Q; kind = dead_clause; document = None } ∷ [])))
       (LinesOfClauses P V p A (Q ∷ earlier) cs) ls
 
 -- a function's body is looked at in the scope of its parameters
 abbrev pub LinesOfFunction : ProgramTree → FunctionDefinition → List Line → Type 0
 LinesOfFunction P f ls =
-  let V : Scope = parameters_scope (names_of P) f.parameters in
-  Both (LinesOf P V f.body) (LineWhere (place_of_expression f.body) wrong_result (Misfits P V f.body f.declared)) ls
+    let V : Scope = parameters_scope (names_of P) f.parameters in
+    Both (LinesOf P V f.body) (LineWhere (place_of_expression f.body) wrong_result (Misfits P V f.body f.declared)) ls
 
 abbrev pub LinesOfFunctions : ProgramTree → List FunctionDefinition → List Line → Type 0
 LinesOfFunctions P [] ls = ls ≡ []

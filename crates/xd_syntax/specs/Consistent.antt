@@ -1,13 +1,11 @@
 -- Proofs of inclusions: goals that rest on one another, and when they are consistent.
 -- (The rules are those by which TOPLAS 2005, section 5, decides inclusion; written down as a text they are this project's own.)
-use Rattle.std.specs.Prelude.{◌≡◌, ℕ, zero, suc, ◌+◌, ◌-◌, Bool, true, false, not, cond, ◌||◌, ◌&&◌, nat_eq, nat_lt, nat_le, List, [], ◌∷◌, ◌++◌, map, flat_map, length, Option, Some, None}
+use Rattle.std.specs.Prelude.{◌≡◌, ℕ, zero, suc, ◌+◌, Bool, true, false, not, cond, ◌||◌, ◌&&◌, nat_eq, List, [], ◌∷◌, ◌++◌, map, flat_map, length, Option, Some, None}
 use Rattle.std.specs.Str.{bytes_eq}
 use Rattle.std.specs.Ordering.{nat_cmp}
 use Rattle.std.specs.Cmp.Lexicographic.{slice_cmp, pointwise}
-use Rattle.std.specs.declared.cmp.Ordering.{Ordering}
 use Rattle.std.specs.declared.cmp.Ordering.TheVariants.{Less, Equal, Greater}
 use Rattle.xd_doc.specs.Classes.{LabelClass, class_has}
-use Rattle.xd_syntax.specs.Words.{has_word}
 use Rattle.xd_syntax.specs.Tree.{Tree, Empty, Text, Name, Elem, Seq, Alt, Star, Plus, Opt, Val, Definitions}
 use Rattle.xd_syntax.specs.Heads.{Head, heads, can_be_empty}
 use Rattle.xd_syntax.specs.Fits.{Included}
@@ -109,7 +107,7 @@ pub record Wanted : Type 0 where
 abbrev pub wanted_from : List (List ℕ) → ℕ → List Head → List Wanted
 wanted_from named n [] = []
 wanted_from named n (h ∷ hs) =
-  map (λ a. let w : Wanted = record { number = n; head = h; atom = a } in w) (atoms_of named h.class) ++ wanted_from named (n + 1) hs
+    map (λ a. let w : Wanted = record { number = n; head = h; atom = a } in w) (atoms_of named h.class) ++ wanted_from named (n + 1) hs
 
 -- the cases that a goal must have, in order
 abbrev pub wanted : Definitions → Goal → List Wanted
@@ -177,9 +175,9 @@ abbrev pub wrong_choice : List Goal → Atom → Head → List Head → Sides �
 wrong_choice gs a left hs s (settles_content g) = reason_unless (leaf_stands (λ h. h.content) left hs s.content (numbered gs g)) bad_leaf
 wrong_choice gs a left hs s (settles_rest g) = reason_unless (leaf_stands (λ h. h.rest) left hs s.rest (numbered gs g)) bad_leaf
 wrong_choice gs a left hs s (split_on j A B) =
-  or_next (reason_unless (split_allowed a hs s j) bad_split)
+    or_next (reason_unless (split_allowed a hs s j) bad_split)
     (or_next (wrong_choice gs a left hs (record { content = j ∷ s.content; rest = s.rest }) A)
-             (wrong_choice gs a left hs (record { content = s.content; rest = j ∷ s.rest }) B))
+    (wrong_choice gs a left hs (record { content = s.content; rest = j ∷ s.rest }) B))
 
 -- the numbers of the right heads that match
 abbrev pub matching : Atom → ℕ → List Head → List ℕ
@@ -215,7 +213,7 @@ wrong_cases gs hs n [] [] = None
 wrong_cases gs hs n [] (c ∷ cs) = Some (n, bad_case)
 wrong_cases gs hs n (w ∷ ws) [] = Some (n, bad_case)
 wrong_cases gs hs n (w ∷ ws) (c ∷ cs) =
-  or_next (at_line n (reason_unless (nat_eq c.head w.number && same_atom c.atom w.atom) bad_case))
+    or_next (at_line n (reason_unless (nat_eq c.head w.number && same_atom c.atom w.atom) bad_case))
     (or_next (at_line n (wrong_tree gs w.atom w.head hs c.choice)) (wrong_cases gs hs (n + 1) ws cs))
 
 abbrev pub right_is_empty : Definitions → Option Tree → Bool
@@ -233,8 +231,8 @@ empty_lines (Some j) = 1
 
 abbrev pub wrong_goal : Definitions → List Goal → Goal → Option Refusal
 wrong_goal E gs g =
-  let n : ℕ = g.line + 2 + length g.rights in
-  or_next (at_line n (reason_unless (empty_stands E g g.empty_right) bad_empty))
+    let n : ℕ = g.line + 2 + length g.rights in
+    or_next (at_line n (reason_unless (empty_stands E g g.empty_right) bad_empty))
     (wrong_cases gs (right_heads E g) (n + empty_lines g.empty_right) (wanted E g) g.cases)
 
 abbrev pub wrong_goals : Definitions → List Goal → List Goal → Option Refusal

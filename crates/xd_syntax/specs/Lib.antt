@@ -16,3 +16,7 @@ pub mod Meaning
 pub mod May
 pub mod CheckFaults
 pub mod Consistent
+pub mod Patterns
+pub mod Exprs
+pub mod FunctionRow
+pub mod Kept

@@ -1,14 +1,14 @@
 -- What an expression may be: the documents that its declared types and its matches let it be. (This project's own rule.)
 -- Between the clauses of a match the first that takes a document counts; inside a pattern every whole way counts.
-use Rattle.std.specs.Prelude.{◌≡◌, ℕ, Bool, true, false, cond, ◌⊎◌, List, [], ◌∷◌, ◌++◌, Option, Some, None}
+use Rattle.std.specs.Prelude.{◌≡◌, ℕ, Bool, true, false, ◌⊎◌, List, [], ◌∷◌, Option, Some, None}
 use Rattle.std.specs.Str.{bytes_eq}
-use Rattle.xd_doc.specs.Document.{Document, empty, text, element, join, is_proper}
+use Rattle.xd_doc.specs.Document.{Document, empty, text, element, is_proper}
 use Rattle.xd_syntax.specs.Words.{has_word}
-use Rattle.xd_syntax.specs.Tree.{Tree, Definitions}
+use Rattle.xd_syntax.specs.Tree.{Definitions}
 use Rattle.xd_syntax.specs.Placed.{PlacedTree, unplaced, variables}
 use Rattle.xd_syntax.specs.Fits.{Fits, Split, IsOneText}
 use Rattle.xd_syntax.specs.Ways.{Way, Among, IsWholeWay, Takes}
-use Rattle.xd_syntax.specs.Expression.{Expression, Nothing, Quoted, Variable, Tagged, Joined, Called, Matched, Arguments, Clauses, no_clause, clause}
+use Rattle.xd_syntax.specs.Expression.{Expression, Nothing, Quoted, Variable, Tagged, Joined, Called, Matched, Clauses, no_clause, clause}
 use Rattle.xd_syntax.specs.Program.{Parameter, FunctionDefinition, ProgramTree, names_of, function_of}
 
 -- what each variable may be
@@ -37,7 +37,7 @@ IsLive E A earlier P = (d : Document) × Arrives E A earlier d × Takes E (unpla
 -- some whole way of the pattern, on a document that comes to the clause, binds the variable to the document
 abbrev pub MayBind : Definitions → (Document → Type 0) → List PlacedTree → PlacedTree → List ℕ → Document → Type 0
 MayBind E A earlier P x d =
-  (whole : Document) × (way : Way) × Arrives E A earlier whole × IsWholeWay E (unplaced P) whole way × Among (x, d) way.bindings
+    (whole : Document) × (way : Way) × Arrives E A earlier whole × IsWholeWay E (unplaced P) whole way × Among (x, d) way.bindings
 
 -- the first fact where the test holds, else the second
 abbrev pub WhereTrue : Bool → Type 0 → Type 0 → Type 0
@@ -71,4 +71,4 @@ abbrev mutual
   pub MayClauses : ProgramTree → Scope → (Document → Type 0) → List PlacedTree → Clauses → Document → Type 0
   MayClauses P V A earlier no_clause d = ⊥
   MayClauses P V A earlier (clause Q e cs) d =
-    (IsLive (names_of P) A earlier Q × May P (in_clause (names_of P) A earlier Q V) e d) ⊎ MayClauses P V A (Q ∷ earlier) cs d
+      (IsLive (names_of P) A earlier Q × May P (in_clause (names_of P) A earlier Q V) e d) ⊎ MayClauses P V A (Q ∷ earlier) cs d

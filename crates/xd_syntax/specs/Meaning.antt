@@ -1,5 +1,5 @@
 -- The meaning of an expression on fuel (Hosoya and Pierce, TOIT 2003, section 4: evaluation; fuel is this project's own).
-use Rattle.std.specs.Prelude.{◌≡◌, ℕ, suc, zero, Bool, cond, List, [], ◌∷◌, ◌++◌, Option, Some, None}
+use Rattle.std.specs.Prelude.{ℕ, suc, zero, cond, List, [], ◌∷◌, ◌++◌, Option, Some, None}
 use Rattle.std.specs.Str.{bytes_eq}
 use Rattle.xd_doc.specs.Document.{Document, empty, text, element, join}
 use Rattle.xd_syntax.specs.Words.{main_word}
@@ -64,7 +64,7 @@ abbrev mutual
   pub chosen_by : Definitions → (ℕ → List ℕ → List Document → Outcome Document) → ℕ → Environment → Document → Clauses → Outcome Document
   chosen_by E C n env d no_clause = Stuck
   chosen_by E C n env d (clause P e cs) =
-    or_else (first E (unplaced P) d) (λ vs. value_by E C n (vs ++ env) e) (chosen_by E C n env d cs)
+      or_else (first E (unplaced P) d) (λ vs. value_by E C n (vs ++ env) e) (chosen_by E C n env d cs)
 
 -- the function's body, with its parameters bound
 abbrev pub body_by : (Environment → Expression → Outcome Document) → Option FunctionDefinition → List Document → Outcome Document

@@ -1,7 +1,6 @@
 -- Faults of names, of the number of arguments, and of variables that are not linear.
 use Rattle.std.specs.Prelude.{ℕ, ◌+◌, Bool, true, false, not, cond, ◌||◌, ◌&&◌, List, [], ◌∷◌, ◌++◌, map, flat_map, length, nat_eq, Option, Some, None}
 use Rattle.std.specs.List.{filter}
-use Rattle.std.specs.Str.{bytes_eq}
 use Rattle.xd_base.specs.declared.Place.{Place}
 use Rattle.xd_syntax.specs.Words.{has_word, any_word, string_word}
 use Rattle.xd_syntax.specs.Placed.{PlacedTree, Empty_at, Text_at, Name_at, Elem_at, Seq_at, Alt_at, Star_at, Plus_at, Opt_at, Val_at, variables}
@@ -36,7 +35,7 @@ parameter_spots ps = map (λ (p : Parameter). let s : Spot = record { word = p.n
 -- Names of types, of functions and of parameters are separate. `String` and `Any` count as seen among types.
 abbrev pub duplicate_names : ProgramTree → List Fault
 duplicate_names p =
-  duplicates (string_word ∷ (any_word ∷ [])) (map (λ (t : TypeDefinition). let s : Spot = record { word = t.name; place = t.place } in s) p.types)
+    duplicates (string_word ∷ (any_word ∷ [])) (map (λ (t : TypeDefinition). let s : Spot = record { word = t.name; place = t.place } in s) p.types)
     ++ duplicates [] (map (λ (f : FunctionDefinition). let s : Spot = record { word = f.name; place = f.place } in s) p.functions)
     ++ flat_map (λ (f : FunctionDefinition). duplicates [] (parameter_spots f.parameters)) p.functions
 
@@ -80,15 +79,15 @@ not_linear r earlier partial inner (Text_at p) = []
 not_linear r earlier partial inner (Name_at p x) = []
 not_linear r earlier partial inner (Elem_at p c T) = not_linear r earlier partial false T
 not_linear r earlier partial inner (Seq_at p T U) =
-  not_linear r earlier partial false T ++ not_linear r (variables T ++ earlier) (without (variables T) partial) false U
+    not_linear r earlier partial false T ++ not_linear r (variables T ++ earlier) (without (variables T) partial) false U
 not_linear r earlier partial inner (Alt_at p T U) =
-  let lacked : List (List ℕ) = cond inner partial (lacking_somewhere (Alt_at p T U) ++ partial) in
-  not_linear r earlier lacked false T ++ not_linear r earlier (without (variables T) lacked) true U
+    let lacked : List (List ℕ) = cond inner partial (lacking_somewhere (Alt_at p T U) ++ partial) in
+    not_linear r earlier lacked false T ++ not_linear r earlier (without (variables T) lacked) true U
 not_linear r earlier partial inner (Star_at p T) = not_linear true earlier partial false T
 not_linear r earlier partial inner (Plus_at p T) = not_linear true earlier partial false T
 not_linear r earlier partial inner (Opt_at p T) = not_linear true earlier partial false T
 not_linear r earlier partial inner (Val_at p x q T) =
-  fault_if (r || (has_word earlier x || has_word partial x)) q (NotLinear x)
+    fault_if (r || (has_word earlier x || has_word partial x)) q (NotLinear x)
     ++ not_linear r (x ∷ earlier) (without (x ∷ []) partial) false T
 
 abbrev pub pattern_faults : List (List ℕ) → PlacedTree → List Fault
@@ -121,17 +120,17 @@ abbrev mutual
   pub clause_faults : ProgramTree → List (List ℕ) → Clauses → List Fault
   clause_faults P scope no_clause = []
   clause_faults P scope (clause A e cs) =
-    pattern_faults (known_types P) A ++ expression_faults P (variables A ++ scope) e ++ clause_faults P scope cs
+      pattern_faults (known_types P) A ++ expression_faults P (variables A ++ scope) e ++ clause_faults P scope cs
 
 abbrev pub function_faults : ProgramTree → FunctionDefinition → List Fault
 function_faults P f =
-  flat_map (λ (q : Parameter). unknown_types (known_types P) q.declared) f.parameters
+    flat_map (λ (q : Parameter). unknown_types (known_types P) q.declared) f.parameters
     ++ unknown_types (known_types P) f.declared
     ++ expression_faults P (map (λ (q : Parameter). q.name) f.parameters) f.body
 
 -- all faults of names, arity and linearity, in order
 abbrev pub name_faults : ProgramTree → List Fault
 name_faults P =
-  in_order (duplicate_names P
+    in_order (duplicate_names P
     ++ flat_map (λ (t : TypeDefinition). unknown_types (known_types P) t.body) P.types
     ++ flat_map (function_faults P) P.functions)

@@ -1,6 +1,6 @@
 -- The ways in which a pattern takes a prefix of a document, in order of preference
 -- (Hosoya and Pierce, JFP 2003, section 3: first match; that a turn of a repetition takes something is this project's own).
-use Rattle.std.specs.Prelude.{◌≡◌, ℕ, suc, zero, ◌+◌, ◌*◌, nat_lt, Bool, true, false, not, cond, ◌⊎◌, List, [], ◌∷◌, ◌++◌, map, flat_map, Option, Some, None, length}
+use Rattle.std.specs.Prelude.{◌≡◌, ℕ, suc, zero, ◌+◌, ◌*◌, nat_lt, Bool, true, not, cond, ◌⊎◌, List, [], ◌∷◌, ◌++◌, map, flat_map, Option, Some, None, length}
 use Rattle.xd_doc.specs.Document.{Document, empty, text, element, join, size, has_item}
 use Rattle.xd_doc.specs.Classes.{LabelClass, class_has}
 use Rattle.xd_syntax.specs.Tree.{Tree, Empty, Text, Name, Elem, Seq, Alt, Star, Plus, Opt, Val, Definitions, body}
@@ -33,7 +33,7 @@ item_count (element l c r) = item_count r + 1
 abbrev pub turns : (Document → List Way) → ℕ → Document → List Way
 turns V zero d = no_item_way d ∷ []
 turns V (suc k) d =
-  flat_map (λ v. cond (nat_lt (item_count v.rest) (item_count d)) (map (then_way v) (turns V k v.rest)) []) (V d) ++ no_item_way d ∷ []
+    flat_map (λ v. cond (nat_lt (item_count v.rest) (item_count d)) (map (then_way v) (turns V k v.rest)) []) (V d) ++ no_item_way d ∷ []
 
 -- no more turns than there are items
 abbrev pub repetition : (Document → List Way) → Document → List Way
@@ -53,7 +53,7 @@ abbrev pub element_ways : LabelClass → (Document → List Way) → Document �
 element_ways k V empty = []
 element_ways k V (text s r) = []
 element_ways k V (element l c r) =
-  cond (class_has k l)
+    cond (class_has k l)
     (flat_map (λ v. cond (is_whole v) (record { bindings = v.bindings; taken = element l c empty; rest = r } ∷ []) []) (V c))
     []
 

@@ -1,8 +1,14 @@
 //! The syntax of types, patterns and programs, and what they mean.
 #![tactic(auto)]
 
+mod exprs;
 mod fault;
+mod patterns;
+mod program;
 mod types;
 
+pub use exprs::{Clause, ExprForm, ExprId, ExprNode, Exprs};
 pub use fault::{Fault, FaultKind, Warning};
+pub use patterns::{PatternForm, PatternId, PatternNode, Patterns};
+pub use program::{Function, Param, Program};
 pub use types::{TypeDef, TypeForm, TypeId, TypeNode, Types};
