@@ -2,3 +2,12 @@ pub mod Trees
 pub mod PlacedTrees
 pub mod FitsLaws
 pub mod ExprTrees
+pub mod Documents
+pub mod Members
+pub mod Pigeon
+pub mod Bare
+pub mod Within
+pub mod WaysFit
+pub mod FitsWays
+pub mod Unfoldings
+pub mod HeadsLaw

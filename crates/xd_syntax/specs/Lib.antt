@@ -20,3 +20,4 @@ pub mod Patterns
 pub mod Exprs
 pub mod FunctionRow
 pub mod Kept
+pub mod Guarded
