@@ -13,7 +13,7 @@ flat_none : {A B : Type 0} (f : A → List B) (xs : List A) → ((x : A) → f x
 flat_none f [] h = refl
 flat_none f (x ∷ xs) h = rw (h x, flat_none f xs h)
 
-cond_same : {A : Type 0} (b : Bool) (xs ys : List A) → (b ≡ true → xs ≡ ys) → cond b xs [] ≡ cond b ys []
+pub cond_same : {A : Type 0} (b : Bool) (xs ys : List A) → (b ≡ true → xs ≡ ys) → cond b xs [] ≡ cond b ys []
 cond_same true xs ys h = h refl
 cond_same false xs ys h = refl
 

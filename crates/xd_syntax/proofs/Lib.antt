@@ -11,3 +11,8 @@ pub mod WaysFit
 pub mod FitsWays
 pub mod Unfoldings
 pub mod HeadsLaw
+pub mod SoundGuarded
+pub mod FitsBound
+pub mod HeadsMore
+pub mod Fuel
+pub mod TheLaws

@@ -61,7 +61,7 @@ trail_short E g V t =
   let e = length-map E (λ (p : List ℕ × Tree). p.0) in
   omega (arith, h, e)
 
-size_join : (a b : Document) → size (join a b) ≡ size a + size b
+pub size_join : (a b : Document) → size (join a b) ≡ size a + size b
 size_join empty b = omega arith
 size_join (text s a) b = let i = size_join a b in omega arith
 size_join (element l c a) b = let i = size_join a b in omega arith
@@ -72,15 +72,15 @@ size_some (text s a) h = omega arith
 size_some (element l c a) h = omega arith
 
 -- a smaller document leaves room for a is_whole chain more
-room_below : (a b L n v : ℕ) → a + 1 ≤ b → b * L + L ≤ n + v → v ≤ L → a * L + L ≤ n + 0
+pub room_below : (a b L n v : ℕ) → a + 1 ≤ b → b * L + L ≤ n + v → v ≤ L → a * L + L ≤ n + 0
 room_below a b L n v h k l =
   let i : (a + 1) * L ≤ b * L = mul-le-mul_right L h in omega arith
 
-room_within : (a b L n v : ℕ) → a ≤ b → b * L + L ≤ n + v → a * L + L ≤ n + v
+pub room_within : (a b L n v : ℕ) → a ≤ b → b * L + L ≤ n + v → a * L + L ≤ n + v
 room_within a b L n v h k =
   let i : a * L ≤ b * L = mul-le-mul_right L h in omega arith
 
-rest_within : (a b d : Document) → join a b ≡ d → size b ≤ size d
+pub rest_within : (a b d : Document) → join a b ≡ d → size b ≤ size d
 rest_within a b d e = let i = size_join a b in let j : size (join a b) ≡ size d = ap size e in omega arith
 
 turns_same : (E : Definitions) (T : Tree) (V W : Document → List Way) (s : ℕ) → ((d : Document) → size d ≤ s → V d ≡ W d) →
@@ -100,7 +100,7 @@ in_turn_same V V' W W' d e h =
   flat_same (λ v. map (then_way v) (W v.rest)) (λ v. map (then_way v) (W' v.rest)) (V d) (λ v m. ap (map (then_way v)) (h v m))
     ∙ ap (flat_map (λ v. map (then_way v) (W' v.rest))) e
 
-rest_below : (a b d : Document) → join a b ≡ d → HasItem a → size b + 1 ≤ size d
+pub rest_below : (a b d : Document) → join a b ≡ d → HasItem a → size b + 1 ≤ size d
 rest_below a b d e h =
   let i = size_join a b in let j : size (join a b) ≡ size d = ap size e in let k = size_some a h in omega arith
 

@@ -21,3 +21,4 @@ pub mod Exprs
 pub mod FunctionRow
 pub mod Kept
 pub mod Guarded
+pub mod Laws

@@ -3,6 +3,7 @@
 
 mod exprs;
 mod fault;
+pub mod laws;
 mod patterns;
 mod program;
 mod types;
