@@ -16,3 +16,5 @@ pub mod FitsBound
 pub mod HeadsMore
 pub mod Fuel
 pub mod TheLaws
+pub mod KeptLaws
+pub mod NamedLaws

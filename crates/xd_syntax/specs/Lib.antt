@@ -22,3 +22,4 @@ pub mod FunctionRow
 pub mod Kept
 pub mod Guarded
 pub mod Laws
+pub mod Sound

@@ -6,10 +6,12 @@ mod fault;
 pub mod laws;
 mod patterns;
 mod program;
+mod sound;
 mod types;
 
 pub use exprs::{Clause, ExprForm, ExprId, ExprNode, Exprs};
 pub use fault::{Fault, FaultKind, Warning};
 pub use patterns::{PatternForm, PatternId, PatternNode, Patterns};
 pub use program::{Function, Param, Program};
+pub use sound::{Checked, SoundProgram};
 pub use types::{TypeDef, TypeForm, TypeId, TypeNode, Types};

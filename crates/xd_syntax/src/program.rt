@@ -1,14 +1,17 @@
 //! Programs: definitions of types and functions, over the nodes that they are made of.
 
-ghost use Rattle.std.specs.Prelude.{◌≡◌, ◌≤◌, length};
-ghost use Rattle.xd_syntax.specs.Kept.{ProgramTable, ProgramStands, FunctionStands};
+ghost use Rattle.std.specs.Prelude.{◌≡◌, ◌≤◌, false, length, IfOk, OnErr};
+ghost use Rattle.xd_syntax.specs.Table.{CanFollow, form_tree, tree_at};
+ghost use Rattle.xd_syntax.specs.Types.{form_of};
+ghost use Rattle.xd_syntax.specs.Kept.{ProgramTable, ProgramStands, AddsTypes, program_tree};
+ghost use Rattle.xd_syntax.specs.Sound.{IsTypeAt};
 
 use crate::exprs::{ExprId, Exprs};
 use crate::patterns::Patterns;
-use crate::types::{TypeDef, TypeId, Types};
+use crate::types::{TypeDef, TypeForm, TypeId, Types};
 use std::marker::Model;
 use xd_base::Place;
-use xd_doc::Label;
+use xd_doc::{Label, NoMemory};
 
 /// A parameter: its name, the place of the name, and its declared type.
 #[derive(Drop)]
@@ -166,5 +169,16 @@ impl Program {
         ensures stands { ProgramStands self.now }
     {
         self.functions.as_slice()
+    }
+
+    /// One more node of a type.
+    pub(crate) fn add_type(&mut self, place: Place, form: TypeForm) -> Result<TypeId, NoMemory>
+        requires { CanFollow false self.old.types (form_of form) }
+        ensures ok { IfOk result (IsTypeAt self.new.types (form_tree (tree_at self.old.types) (form_of form))) }
+        ensures adds { AddsTypes self.old self.new }
+        ensures same { program_tree self.new ≡ program_tree self.old }
+        ensures err { OnErr result (self.new ≡ self.old) }
+    {
+        self.types.add(place, form)
     }
 }
