@@ -18,3 +18,4 @@ pub mod Fuel
 pub mod TheLaws
 pub mod KeptLaws
 pub mod NamedLaws
+mod Samples
