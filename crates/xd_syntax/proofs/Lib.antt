@@ -19,3 +19,5 @@ pub mod TheLaws
 pub mod KeptLaws
 pub mod NamedLaws
 mod Samples
+pub mod SameClass
+pub mod AdoptLaws

@@ -1,7 +1,8 @@
 -- Words and the definitions that have them.
-use Rattle.std.proofs.Common.{◌≡◌, ℕ, Bool, true, false, cond, ◌||◌, ◌&&◌, not, List, [], ◌∷◌, map, Option, Some, None, refl, ap, sym, subst, ◌∙◌}
+use Rattle.std.proofs.Common.{◌≡◌, ℕ, Bool, true, false, cond, ◌||◌, ◌&&◌, not, List, [], ◌∷◌, map, Option, Some, None, Bor, is_some, refl, ap, sym, subst, ◌∙◌}
 use Rattle.std.specs.Str.{bytes_eq}
 use Rattle.std.specs.List.{AllByRecursion}
+use Rattle.std.specs.Option.{option_copied}
 use Rattle.std.proofs.lemmas.Slice.Eq.{bytes_eq-Decides}
 use Rattle.xd_syntax.specs.Words.{has_word, any_word, string_word, keywords, is_type_name}
 use Rattle.xd_syntax.specs.Table.{Row}
@@ -65,3 +66,24 @@ word_found types ds w d a h e =
   let r = named_word types ds w d a e in
   let s : bytes_eq string_word d.name ≡ false = subst (λ x. bytes_eq string_word x ≡ false) (sym r.1) h in
   (r.1, ap (λ b. not b && not (bytes_eq string_word d.name)) r.2 ∙ ap not s)
+
+has_named : (types : List Row) (ds : List TypeDef) (w : List ℕ) (d : TypeDef) → definition_of ds w ≡ Some d → has_word (names_in types ds) w ≡ true
+has_named types [] w d e = cc
+has_named types (f ∷ ds) w d e = go (bytes_eq f.name w) e (λ k. has_named types ds w d k)
+  where
+    go : (b : Bool) → cond b (Some f) (definition_of ds w) ≡ Some d → (definition_of ds w ≡ Some d → has_word (names_in types ds) w ≡ true) →
+      (b || has_word (names_in types ds) w) ≡ true
+    go true k rec = refl
+    go false k rec = rec k
+
+pub known_word : (types : List Row) (ds : List TypeDef) (w : List ℕ) → bytes_eq w any_word ≡ false →
+  is_some (definition_of ds w) ≡ (bytes_eq any_word w || has_word (names_in types ds) w)
+known_word types ds w h = go (definition_of ds w) refl
+  where
+    go : (o : Option TypeDef) → definition_of ds w ≡ o → is_some o ≡ (bytes_eq any_word w || has_word (names_in types ds) w)
+    go None e = undefined_word types ds w h e
+    go (Some d) e = let r = has_named types ds w d e in rw r (sym (or_true (bytes_eq any_word w)))
+
+pub copied_is_some : {X : Type 0} (r : Option (Bor X)) → is_some r ≡ is_some (option_copied r)
+copied_is_some None = refl
+copied_is_some (Some x) = refl

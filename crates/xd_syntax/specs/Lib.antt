@@ -23,3 +23,4 @@ pub mod Kept
 pub mod Guarded
 pub mod Laws
 pub mod Sound
+pub mod Adopt

@@ -1,12 +1,15 @@
 //! The syntax of types, patterns and programs, and what they mean.
 #![tactic(auto)]
 
+mod adopt;
 mod exprs;
 mod fault;
 pub mod laws;
 mod patterns;
 mod program;
 mod sound;
+#[cfg(test)]
+mod tests;
 mod types;
 
 pub use exprs::{Clause, ExprForm, ExprId, ExprNode, Exprs};

@@ -71,6 +71,21 @@ impl Model for Types {
     ghost invariant = { λ t. AreBuilt false t.nodes.items };
 }
 
+impl TypeId {
+    /// The number of the node.
+    pub(crate) fn at(self) -> usize
+        ensures { result ≡ self.at }
+    {
+        self.at
+    }
+
+    pub(crate) fn of(at: usize) -> Self
+        ensures { result ≡ record { at = at } }
+    {
+        Self { at }
+    }
+}
+
 impl TypeNode {
     pub fn place(&self) -> Place
         ensures { result ≡ self.now.place }
