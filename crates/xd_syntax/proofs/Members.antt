@@ -1,7 +1,6 @@
 -- members of lists, by recursion
-use Rattle.std.proofs.Common.{◌≡◌, ℕ, Bool, true, false, cond, ◌⊎◌, List, [], ◌∷◌, ◌++◌, map, flat_map, refl, ap, sym, inl, inr}
+use Rattle.std.proofs.Common.{◌≡◌, Bool, true, false, cond, ◌⊎◌, List, [], ◌∷◌, ◌++◌, map, flat_map, refl, ap, inl, inr}
 pub use Rattle.xd_syntax.specs.Ways.{Among}
-
 
 pub mem_append : {A : Type 0} (x : A) (xs ys : List A) → Among x (xs ++ ys) → Among x xs ⊎ Among x ys
 mem_append x [] ys h = inr h
@@ -30,7 +29,7 @@ map_mem f x (y ∷ xs) (inr h) = inr (map_mem f x xs h)
 pub mem_flat : {A B : Type 0} (f : A → List B) (y : B) (xs : List A) → Among y (flat_map f xs) → (x : A) × Among x xs × Among y (f x)
 mem_flat f y [] h = absurd h
 mem_flat f y (x ∷ xs) h =
-  elim (mem_append y (f x) (flat_map f xs) h)
+    elim (mem_append y (f x) (flat_map f xs) h)
     [ inl a ↦ (x, inl refl, a) | inr b ↦ let r = mem_flat f y xs b in (r.0, inr r.1, r.2) ]
 
 pub flat_mem : {A B : Type 0} (f : A → List B) (y : B) (x : A) (xs : List A) → Among x xs → Among y (f x) → Among y (flat_map f xs)

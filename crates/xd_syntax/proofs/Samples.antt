@@ -1,23 +1,22 @@
 -- Programs and documents on which the definitions compute what they should.
-use Rattle.std.proofs.Common.{◌≡◌, ℕ, ◌+◌, Bool, true, false, List, [], ◌∷◌, Option, Some, None, refl}
+use Rattle.std.proofs.Common.{◌≡◌, ℕ, true, false, List, [], ◌∷◌, Some, None, refl}
 use Rattle.std.specs.Prelude.{codes}
 use Rattle.xd_base.specs.declared.Place.{Place}
 use Rattle.xd_doc.specs.Document.{Document, empty, text, element}
 use Rattle.xd_doc.specs.Classes.{LabelClass}
 use Rattle.xd_syntax.specs.Words.{any_word, main_word}
 use Rattle.xd_syntax.specs.Tree.{Tree, Empty, Text, Name, Elem, Seq, Alt, Star, Plus, Opt, Val, Definitions, environment}
-use Rattle.xd_syntax.specs.Placed.{PlacedTree, Empty_at, Text_at, Name_at, Elem_at, Seq_at, Alt_at, Star_at, Plus_at, Opt_at, Val_at}
-use Rattle.xd_syntax.specs.Expression.{Expression, Nothing, Quoted, Variable, Tagged, Joined, Called, Matched, Arguments, no_argument, argument, Clauses, no_clause, clause}
+use Rattle.xd_syntax.specs.Placed.{PlacedTree, Empty_at, Text_at, Name_at, Elem_at, Seq_at, Alt_at, Star_at, Opt_at, Val_at}
+use Rattle.xd_syntax.specs.Expression.{Expression, Nothing, Variable, Tagged, Joined, Called, Matched, no_argument, argument, no_clause, clause}
 use Rattle.xd_syntax.specs.Program.{TypeDefinition, Parameter, FunctionDefinition, ProgramTree, names_of}
 use Rattle.xd_syntax.specs.Fits as F
 use Rattle.xd_syntax.specs.Fits.{Fits}
 use Rattle.xd_syntax.specs.Ways.{first}
 use Rattle.xd_syntax.specs.Heads.{Head, heads, can_be_empty}
 use Rattle.xd_syntax.specs.TypeText.{type_text, depth}
-use Rattle.xd_syntax.specs.Meaning.{Outcome, Done, Spent, Stuck, meaning}
+use Rattle.xd_syntax.specs.Meaning.{Done, Spent, Stuck, meaning}
 use Rattle.xd_syntax.specs.NameFaults.{fault_at, name_faults, not_linear}
 use Rattle.xd_syntax.specs.RecursionFaults.{arrived, kept, left_out, all_seen, AreRecursionFaults}
-use Rattle.xd_syntax.specs.declared.fault.Fault.{Fault}
 use Rattle.xd_syntax.specs.declared.fault.FaultKind.TheVariants.{DuplicateName, UnknownType, UnknownFunction, UnknownVariable, Arity, NotLinear, NotTail, Unguarded}
 
 abbrev at_place : ℕ → ℕ → Place
@@ -78,12 +77,12 @@ any_deep = refl
 -- First matches.
 
 greedy : first no_names (Seq (Val x (Star (tag a Empty))) (Val y (Star (tag a Empty)))) (element a empty (leaf a))
-  ≡ Some ((x, element a empty (leaf a)) ∷ (y, empty) ∷ [])
+    ≡ Some ((x, element a empty (leaf a)) ∷ (y, empty) ∷ [])
 greedy = refl
 
 -- the first branch that lets the whole succeed counts, though it takes less
 empty_branch_first : first no_names (Seq (Val x (Alt Empty (tag a Empty))) (Val y (Star (tag a Empty)))) (leaf a)
-  ≡ Some ((x, empty) ∷ (y, leaf a) ∷ [])
+    ≡ Some ((x, empty) ∷ (y, leaf a) ∷ [])
 empty_branch_first = refl
 
 -- a repetition of a repetition, and one whose part can be empty, end
@@ -95,12 +94,11 @@ star_of_empty = refl
 
 -- Heads.
 
-
 abbrev the_head : List ℕ → Tree → Tree → Head
 the_head l T R = record { class = Some (one l); content = T; rest = R }
 
 sequence_heads : heads no_names (Seq (Star (tag a Empty)) (tag b Text))
-  ≡ the_head a Empty (Seq (Star (tag a Empty)) (tag b Text)) ∷ the_head b Text Empty ∷ []
+    ≡ the_head a Empty (Seq (Star (tag a Empty)) (tag b Text)) ∷ the_head b Text Empty ∷ []
 unfolding heads can_be_empty
 sequence_heads = refl
 
@@ -142,14 +140,15 @@ param n q T = record { name = n; place = q; declared = T }
 abbrev unknown_names : ProgramTree
 unknown_names = record {
   types =
-    type_def (codes "A") (at_place 1 6) (Elem_at (at_place 1 10) (one a) (Name_at (at_place 1 12) (codes "B"))) ∷
-    type_def (codes "A") (at_place 2 6) (Elem_at (at_place 2 10) (one (codes "c")) (Empty_at (at_place 2 12))) ∷ [];
+      type_def (codes "A") (at_place 1 6) (Elem_at (at_place 1 10) (one a) (Name_at (at_place 1 12) (codes "B"))) ∷
+      type_def (codes "A") (at_place 2 6) (Elem_at (at_place 2 10) (one (codes "c")) (Empty_at (at_place 2 12))) ∷ [];
   functions =
-    fun (codes "f") (at_place 3 5) (param x (at_place 3 12) (Name_at (at_place 3 17) (codes "A")) ∷ []) (Name_at (at_place 3 22) (codes "A"))
-      (Called (at_place 3 26) (codes "g") (argument (Variable (at_place 3 28) y) no_argument)) ∷ [] }
+      fun (codes "f") (at_place 3 5) (param x (at_place 3 12) (Name_at (at_place 3 17) (codes "A")) ∷ []) (Name_at (at_place 3 22) (codes "A"))
+      (Called (at_place 3 26) (codes "g") (argument (Variable (at_place 3 28) y) no_argument)) ∷ [];
+}
 
 unknown_names_found : name_faults unknown_names
-  ≡ fault_at (at_place 1 12) (UnknownType (codes "B")) ∷ fault_at (at_place 2 6) (DuplicateName (codes "A"))
+    ≡ fault_at (at_place 1 12) (UnknownType (codes "B")) ∷ fault_at (at_place 2 6) (DuplicateName (codes "A"))
     ∷ fault_at (at_place 3 26) (UnknownFunction (codes "g")) ∷ fault_at (at_place 3 28) (UnknownVariable y) ∷ []
 unknown_names_found = refl
 
@@ -160,15 +159,16 @@ abbrev two_arguments : ProgramTree
 two_arguments = record {
   types = [];
   functions =
-    fun (codes "f") (at_place 1 5) (param x (at_place 1 12) any_at ∷ []) any_at
-      (Called (at_place 1 30) (codes "f") (argument (Variable p x) (argument (Variable p x) no_argument))) ∷ [] }
+      fun (codes "f") (at_place 1 5) (param x (at_place 1 12) any_at ∷ []) any_at
+      (Called (at_place 1 30) (codes "f") (argument (Variable p x) (argument (Variable p x) no_argument))) ∷ [];
+}
 
 two_arguments_found : name_faults two_arguments ≡ fault_at (at_place 1 30) (Arity (codes "f") 2 1) ∷ []
 two_arguments_found = refl
 
 -- a second occurrence in a sequence
 twice_in_a_row : not_linear false [] [] false (Seq_at p (Val_at p y (at_place 1 47) any_at) (Val_at p y (at_place 1 54) any_at))
-  ≡ fault_at (at_place 1 54) (NotLinear y) ∷ []
+    ≡ fault_at (at_place 1 54) (NotLinear y) ∷ []
 twice_in_a_row = refl
 
 -- a variable in each branch is linear, and one that a branch lacks is not, at its first occurrence
@@ -176,7 +176,7 @@ in_both_branches : not_linear false [] [] false (Alt_at p (Val_at p y (at_place 
 in_both_branches = refl
 
 in_two_of_three : not_linear false [] [] false (Alt_at p (Val_at p y (at_place 1 1) any_at) (Alt_at p (Val_at p y (at_place 1 2) any_at) (Empty_at p)))
-  ≡ fault_at (at_place 1 1) (NotLinear y) ∷ []
+    ≡ fault_at (at_place 1 1) (NotLinear y) ∷ []
 in_two_of_three = refl
 
 -- a variable within what it is bound to
@@ -207,7 +207,8 @@ in_the_middle_found = record {
   unguarded = [];
   outside_all = kept (refl, arrived) all_seen;
   unguarded_all = left_out (λ h. not_empty (h.0).0) all_seen;
-  listed = refl }
+  listed = refl;
+}
   where
     not_empty : Fits (names_of in_the_middle) (tag a Empty) empty → ⊥
     not_empty f = elim f [ ]
@@ -222,20 +223,22 @@ in_front_found = record {
   unguarded = record { owner = name_x; use_there = record { name = name_x; place = at_place 1 10; is_tail = true; before = [] } } ∷ [];
   outside_all = left_out (λ h. let e : true ≡ false = h.0 in cc) all_seen;
   unguarded_all = kept (tt, arrived) all_seen;
-  listed = refl }
+  listed = refl;
+}
 
 -- X,b[]
 abbrev in_front_and_middle : ProgramTree
 in_front_and_middle = one_type (Seq_at p (Name_at (at_place 1 10) name_x) (leaf_at b))
 
 in_front_and_middle_found : AreRecursionFaults in_front_and_middle
-  (fault_at (at_place 1 10) (NotTail name_x) ∷ fault_at (at_place 1 10) (Unguarded name_x) ∷ [])
+    (fault_at (at_place 1 10) (NotTail name_x) ∷ fault_at (at_place 1 10) (Unguarded name_x) ∷ [])
 in_front_and_middle_found = record {
   outside = record { owner = name_x; use_there = record { name = name_x; place = at_place 1 10; is_tail = false; before = [] } } ∷ [];
   unguarded = record { owner = name_x; use_there = record { name = name_x; place = at_place 1 10; is_tail = false; before = [] } } ∷ [];
   outside_all = kept (refl, arrived) all_seen;
   unguarded_all = kept (tt, arrived) all_seen;
-  listed = refl }
+  listed = refl;
+}
 
 -- Meanings: the telephone program.
 
@@ -270,12 +273,13 @@ abbrev telephones : ProgramTree
 telephones = record {
   types = named_type (codes "Name") name ∷ named_type (codes "Addr") addr ∷ named_type (codes "Tel") tel ∷ [];
   functions =
-    fun main_word p (param x p (Star_at p (Seq_at p name_type (Seq_at p addr_type (Opt_at p tel_type)))) ∷ []) (Star_at p (Seq_at p name_type tel_type))
+      fun main_word p (param x p (Star_at p (Seq_at p name_type (Seq_at p addr_type (Opt_at p tel_type)))) ∷ []) (Star_at p (Seq_at p name_type tel_type))
       (Matched p (Variable p x)
-        (clause (Seq_at p (Val_at p (codes "n") p name_type) (Seq_at p addr_type (Seq_at p (Val_at p (codes "t") p tel_type) (Val_at p rest p any_at))))
-          (Joined p (Variable p (codes "n")) (Joined p (Variable p (codes "t")) again))
-        (clause (Seq_at p name_type (Seq_at p addr_type (Val_at p rest p any_at))) again
-        (clause (Empty_at p) (Nothing p) no_clause)))) ∷ [] }
+      (clause (Seq_at p (Val_at p (codes "n") p name_type) (Seq_at p addr_type (Seq_at p (Val_at p (codes "t") p tel_type) (Val_at p rest p any_at))))
+      (Joined p (Variable p (codes "n")) (Joined p (Variable p (codes "t")) again))
+      (clause (Seq_at p name_type (Seq_at p addr_type (Val_at p rest p any_at))) again
+      (clause (Empty_at p) (Nothing p) no_clause)))) ∷ [];
+}
 
 abbrev entry : List ℕ → List ℕ → Document → Document
 entry l s d = element l (text s empty) d
@@ -304,7 +308,8 @@ outside_the_type = refl
 abbrev endless : ProgramTree
 endless = record {
   types = [];
-  functions = fun main_word p (param x p any_at ∷ []) any_at (Called p main_word (argument (Variable p x) no_argument)) ∷ [] }
+  functions = fun main_word p (param x p any_at ∷ []) any_at (Called p main_word (argument (Variable p x) no_argument)) ∷ [];
+}
 
 endless_spent : meaning endless 10 empty ≡ Spent
 endless_spent = refl
@@ -314,10 +319,11 @@ abbrev hiding : ProgramTree
 hiding = record {
   types = [];
   functions =
-    fun main_word p (param x p any_at ∷ []) any_at
+      fun main_word p (param x p any_at ∷ []) any_at
       (Matched p (Called p (codes "f") (argument (Called p (codes "f") (argument (Variable p x) no_argument)) no_argument))
-        (clause (Elem_at p (one a) (Val_at p x p any_at)) (Variable p x) no_clause)) ∷
-    fun (codes "f") p (param y p any_at ∷ []) any_at (Tagged p a (Variable p y)) ∷ [] }
+      (clause (Elem_at p (one a) (Val_at p x p any_at)) (Variable p x) no_clause)) ∷
+      fun (codes "f") p (param y p any_at ∷ []) any_at (Tagged p a (Variable p y)) ∷ [];
+}
 
 hidden : meaning hiding 3 (leaf b) ≡ Done (element a (leaf b) empty) 0
 hidden = refl

@@ -1,7 +1,7 @@
 -- The laws of the definitions.
-use Rattle.std.proofs.Common.{◌≡◌, ℕ, ◌+◌, ◌*◌, ◌≤◌, length, sym, arith}
-use Rattle.xd_doc.specs.Document.{Document, size}
-use Rattle.xd_syntax.specs.Program.{ProgramTree, names_of}
+use Rattle.std.proofs.Common.{◌+◌, ◌*◌, ◌≤◌, length, sym, arith}
+use Rattle.xd_doc.specs.Document.{size}
+use Rattle.xd_syntax.specs.Program.{names_of}
 use Rattle.xd_syntax.specs.Ways.{unfoldings}
 use Rattle.xd_syntax.specs.Laws.{PatternsAreTypes, WaysSettle, FitsSettles, FitsIsWithinSome, HeadsDecide, EmptyDecides, HeadsSettle, FuelIsLeft}
 use Rattle.xd_syntax.proofs.SoundGuarded.{guarded}
@@ -16,12 +16,12 @@ use Rattle.xd_syntax.proofs.Fuel.{fuel_is_left}
 
 pub patterns_are_types : PatternsAreTypes
 patterns_are_types P s A d =
-  (λ t. fits_bare (names_of P) (takes_fits (names_of P) A d t), λ f. fits_takes (names_of P) (guarded P s) A d (bare_fits (names_of P) A d f))
+    (λ t. fits_bare (names_of P) (takes_fits (names_of P) A d t), λ f. fits_takes (names_of P) (guarded P s) A d (bare_fits (names_of P) A d f))
 
 pub ways_settle : WaysSettle
 ways_settle P s A d n h =
-  let r : (size d + 1) * length (names_of P) ≤ unfoldings (names_of P) d = omega arith in
-  sym (stable (names_of P) (guarded P s) (unfoldings (names_of P) d) n h A d r)
+    let r : (size d + 1) * length (names_of P) ≤ unfoldings (names_of P) d = omega arith in
+    sym (stable (names_of P) (guarded P s) (unfoldings (names_of P) d) n h A d r)
 
 pub fits_settles : FitsSettles
 fits_settles P s T d n h = (within_bound (names_of P) (guarded P s) T d n h, λ w. from_within (names_of P) T d (n, w))
@@ -31,7 +31,7 @@ fits_is_within_some E T d = (λ f. to_within E f, from_within E T d)
 
 pub heads_decide : HeadsDecide
 heads_decide P s T d i =
-  (λ f. fits_head (names_of P) (guarded P s) T d f (filled d i), λ h. head_fits (names_of P) T h.0 d h.1 h.2)
+    (λ f. fits_head (names_of P) (guarded P s) T d f (filled d i), λ h. head_fits (names_of P) T h.0 d h.1 h.2)
 
 pub empty_decides : EmptyDecides
 empty_decides P s T = (empty_right (names_of P) T, empty_exact (names_of P) (guarded P s) T)

@@ -1,5 +1,5 @@
 -- the family and the relation by unfoldings are the same
-use Rattle.std.proofs.Common.{◌≡◌, ℕ, zero, suc, ◌+◌, ◌<◌, ◌≤◌, ◌⊎◌, inl, inr, refl, ap, sym, ◌∙◌, arith, subst, List, Option, Some, None, IsTrue}
+use Rattle.std.proofs.Common.{◌≡◌, ℕ, zero, suc, ◌+◌, ◌≤◌, inl, inr, refl, sym, arith, subst, List, Option, Some, None}
 use Rattle.xd_doc.specs.Document.{Document, empty, text, element}
 use Rattle.xd_doc.specs.Classes.{LabelClass}
 use Rattle.xd_syntax.specs.Tree.{Tree, Empty, Text, Name, Elem, Seq, Alt, Star, Plus, Opt, Val, Definitions, body}
@@ -40,7 +40,7 @@ names_mono : (E : Definitions) (n m : ℕ) → n ≤ m → (x : List ℕ) (d : D
 names_mono E zero m l x d f = absurd f
 names_mono E (suc n) zero l x d f = absurd (omega arith)
 names_mono E (suc n) (suc m) l x d f =
-  body_mono (fits_by (fits_name_within E n)) (fits_by (fits_name_within E m))
+    body_mono (fits_by (fits_name_within E n)) (fits_by (fits_name_within E m))
     (fits_mono (fits_name_within E n) (fits_name_within E m) (λ y k. names_mono E n m (omega arith) y k)) (body E x) d f
 
 up : (E : Definitions) (T : Tree) (d : Document) (n m : ℕ) → n ≤ m → FitsWithin E n T d → FitsWithin E m T d
@@ -55,16 +55,16 @@ to_within E F.fits_empty = (0, refl)
 to_within E F.fits_text = (0, refl)
 to_within E (F.fits_elem t f) = let a = to_within E f in (a.0, (refl, t, a.1))
 to_within E (F.fits_name {x} {T} {d} e f) = let a = to_within E f in
-  (suc a.0, subst (λ o. fits_definition (fits_by (fits_name_within E a.0)) o d) (sym e) a.1)
+    (suc a.0, subst (λ o. fits_definition (fits_by (fits_name_within E a.0)) o d) (sym e) a.1)
 to_within E (F.fits_seq {T} {U} a b e f g) = let p = to_within E f in let q = to_within E g in
-  (p.0 + q.0, (a, b, e, up E T a p.0 (p.0 + q.0) (omega arith) p.1, up E U b q.0 (p.0 + q.0) (omega arith) q.1))
+    (p.0 + q.0, (a, b, e, up E T a p.0 (p.0 + q.0) (omega arith) p.1, up E U b q.0 (p.0 + q.0) (omega arith) q.1))
 to_within E (F.fits_left f) = let a = to_within E f in (a.0, inl a.1)
 to_within E (F.fits_right f) = let a = to_within E f in (a.0, inr a.1)
 to_within E F.fits_no_turn = (0, no_turn)
 to_within E (F.fits_turn {T} a b e s f g) = let p = to_within E f in let q = to_within E g in
-  (p.0 + q.0, one_turn a b e s (up E T a p.0 (p.0 + q.0) (omega arith) p.1) (up E (Star T) b q.0 (p.0 + q.0) (omega arith) q.1))
+    (p.0 + q.0, one_turn a b e s (up E T a p.0 (p.0 + q.0) (omega arith) p.1) (up E (Star T) b q.0 (p.0 + q.0) (omega arith) q.1))
 to_within E (F.fits_plus {T} a b e f g) = let p = to_within E f in let q = to_within E g in
-  (p.0 + q.0, (a, b, e, up E T a p.0 (p.0 + q.0) (omega arith) p.1, up E (Star T) b q.0 (p.0 + q.0) (omega arith) q.1))
+    (p.0 + q.0, (a, b, e, up E T a p.0 (p.0 + q.0) (omega arith) p.1, up E (Star T) b q.0 (p.0 + q.0) (omega arith) q.1))
 to_within E F.fits_absent = (0, inl refl)
 to_within E (F.fits_present f) = let a = to_within E f in (a.0, inr a.1)
 to_within E (F.fits_val f) = to_within E f
@@ -105,7 +105,7 @@ body_fits E x N h (Some T) e d f = F.fits_name e (h T d f)
 names_fits : (E : Definitions) (n : ℕ) (x : List ℕ) (d : Document) → fits_name_within E n x d → Fits E (Name x) d
 names_fits E zero x d f = absurd f
 names_fits E (suc n) x d f =
-  body_fits E x (fits_by (fits_name_within E n)) (by_fits E (fits_name_within E n) (names_fits E n)) (body E x) refl d f
+    body_fits E x (fits_by (fits_name_within E n)) (by_fits E (fits_name_within E n) (names_fits E n)) (body E x) refl d f
 
 pub from_within : (E : Definitions) (T : Tree) (d : Document) → WithinSome E T d → Fits E T d
 from_within E T d f = by_fits E (fits_name_within E f.0) (names_fits E f.0) T d f.1

@@ -1,5 +1,5 @@
 -- A type taken into a program.
-use Rattle.std.specs.Prelude.{◌≡◌, ℕ, ◌<◌, Bool, true, false, ◌&&◌, List, [], ◌∷◌, map, length, get_or, Option, Some, None}
+use Rattle.std.specs.Prelude.{◌≡◌, ℕ, ◌<◌, Bool, true, false, ◌&&◌, List, [], ◌∷◌, map, length, get_or}
 use Rattle.xd_syntax.specs.Words.{has_word}
 use Rattle.xd_syntax.specs.Tree.{Tree, Empty, Text, Name, Elem, Seq, Alt, Star, Plus, Opt, Val}
 use Rattle.xd_syntax.specs.Table.{Row, tree_at, Form, empty_form, text_form, name_form, elem_form, seq_form, alt_form, star_form, plus_form, opt_form, val_form}
@@ -29,7 +29,7 @@ first_id = record { at = 0 }
 -- each node so far is copied: its copy is there and stands for the same type
 abbrev pub AreCopies : (from into : List Row) → List TypeId → Type 0
 AreCopies from into copies =
-  (i : ℕ) → i < length copies → ((get_or copies i first_id).at < length into) × (tree_at into (get_or copies i first_id).at ≡ tree_at from i)
+    (i : ℕ) → i < length copies → ((get_or copies i first_id).at < length into) × (tree_at into (get_or copies i first_id).at ≡ tree_at from i)
 
 -- all of these nodes have passed
 abbrev pub all_tested : List Bool → List ℕ → Bool

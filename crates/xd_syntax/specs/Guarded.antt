@@ -1,5 +1,5 @@
 -- Uses of names where everything before them can be empty, on trees without places.
-use Rattle.std.specs.Prelude.{◌≡◌, ℕ, List, Option, Some}
+use Rattle.std.specs.Prelude.{◌≡◌, ℕ, List, Some}
 use Rattle.xd_doc.specs.Document.{empty}
 use Rattle.xd_syntax.specs.Tree.{Tree, Name, Seq, Alt, Star, Plus, Opt, Val, Definitions, body}
 use Rattle.xd_syntax.specs.Fits.{Fits}

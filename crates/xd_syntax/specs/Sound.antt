@@ -1,5 +1,5 @@
 -- Types of a program by name.
-use Rattle.std.specs.Prelude.{◌≡◌, ℕ, Bool, true, false, cond, ◌||◌, List, [], ◌∷◌, Option, Some, None}
+use Rattle.std.specs.Prelude.{◌≡◌, ℕ, Bool, cond, ◌||◌, List, [], ◌∷◌, Option, Some, None}
 use Rattle.std.specs.Str.{bytes_eq}
 use Rattle.xd_syntax.specs.Words.{has_word, string_word, main_word}
 use Rattle.xd_syntax.specs.Tree.{Tree, Text, Name}

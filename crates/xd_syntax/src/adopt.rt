@@ -49,7 +49,11 @@ fn share_class(alloc: Global, class: &Class) -> Result<Class, NoMemory>
 }
 
 /// The same form over the copies of its parts.
-pub(crate) fn copy_form(alloc: Global, form: &TypeForm, copies: &[TypeId]) -> Result<TypeForm, NoMemory>
+pub(crate) fn copy_form(
+    alloc: Global,
+    form: &TypeForm,
+    copies: &[TypeId],
+) -> Result<TypeForm, NoMemory>
     requires { PartsBelow (length copies.now) (form_of form.now) }
     ensures { IfOk result (λ made. form_of made ≡ copied_form copies.now (form_of form.now)) }
 {

@@ -6,7 +6,7 @@ use Rattle.xd_syntax.proofs.program.Program.add_type.Goals as goal
 
 pub returns-clause-same : goal.returns-clause-same
 returns-clause-same c =
-  rw (← c.self.view_is)
+    rw (← c.self.view_is)
     (let p : ProgramTable = record { types = c.self.inside.types; patterns = c.self.inside.patterns; exprs = c.self.inside.exprs; type_defs = c.self.inside.type_defs.items; functions = c.self.inside.functions.items } in
-     subst (λ (ts : List Row). program_tree (record p { types = ts }) ≡ program_tree p) (sym c.add.ensures.keeps.grown)
-       (program_tree-grown p c.add.ensures.keeps.more c.self.invariant))
+    subst (λ (ts : List Row). program_tree (record p { types = ts }) ≡ program_tree p) (sym c.add.ensures.keeps.grown)
+    (program_tree-grown p c.add.ensures.keeps.more c.self.invariant))

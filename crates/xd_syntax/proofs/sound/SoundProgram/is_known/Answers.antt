@@ -9,7 +9,7 @@ use Rattle.xd_syntax.proofs.sound.SoundProgram.is_known.Goals as goal
 
 pub returns : goal.returns
 returns c =
-  c.is_some.ensures ∙ copied_is_some c.definition_named.result ∙ ap is_some c.definition_named.ensures
+    c.is_some.ensures ∙ copied_is_some c.definition_named.result ∙ ap is_some c.definition_named.ensures
     ∙ ap (λ ds. is_some (definition_of ds c.as_str-2.result.now)) c.type_defs.ensures.type_defs
     ∙ ap (λ w. is_some (definition_of c.self.inside.program.type_defs w)) c.as_str-2.ensures.bytes
     ∙ known_word c.self.inside.program.types _ c.args.word.now (subst (λ w. bytes_eq w any_word ≡ false) c.as_str.ensures.bytes (sym c.eq.ensures ∙ c.if-eq.false))
