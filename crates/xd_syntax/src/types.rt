@@ -1,6 +1,7 @@
 //! Types: nodes in a table.
 
 ghost use Rattle.std.specs.Prelude.{◌≡◌, ◌+◌, ◌++◌, ◌∷◌, [], false, length, take, IfOk, OnErr};
+ghost use Rattle.xd_syntax.specs.Placed.{placed_at, placed_form};
 ghost use Rattle.xd_syntax.specs.Table.{KeepsRows, CanFollow, PartsBelow, form_tree, tree_at};
 ghost use Rattle.xd_syntax.specs.Types.{BelongsTo, form_of, tree};
 
@@ -70,6 +71,21 @@ impl Model for Types {
     ghost invariant = { λ t. AreBuilt false t.nodes.items };
 }
 
+impl TypeId {
+    /// The number of the node.
+    pub(crate) fn at(self) -> usize
+        ensures { result ≡ self.at }
+    {
+        self.at
+    }
+
+    pub(crate) fn of(at: usize) -> Self
+        ensures { result ≡ record { at = at } }
+    {
+        Self { at }
+    }
+}
+
 impl TypeNode {
     pub fn place(&self) -> Place
         ensures { result ≡ self.now.place }
@@ -105,6 +121,7 @@ impl Types {
     pub fn add(&mut self, place: Place, form: TypeForm) -> Result<TypeId, NoMemory>
         requires { CanFollow false self.old (form_of form) }
         ensures tree { IfOk result (λ id. tree self.new id ≡ form_tree (tree_at self.old) (form_of form)) }
+        ensures placed { IfOk result (λ id. placed_at self.new id.at ≡ placed_form (placed_at self.old) place (form_of form)) }
         ensures belongs { IfOk result (BelongsTo self.new) }
         ensures grown { IfOk result (λ id. self.new ≡ self.old ++ record { place = place; form = form_of form } ∷ []) }
         ensures keeps { KeepsRows self.old self.new }
@@ -119,6 +136,7 @@ impl Types {
     pub fn node(&self, id: TypeId) -> &TypeNode
         requires { BelongsTo self.now id }
         ensures tree { tree self.now id ≡ form_tree (tree_at self.now) result.now.form }
+        ensures placed { placed_at self.now id.at ≡ placed_form (placed_at self.now) result.now.place result.now.form }
         ensures parts { PartsBelow id.at result.now.form }
         ensures merged { CanFollow false (take id.at self.now) result.now.form }
     {
