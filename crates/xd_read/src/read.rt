@@ -18,7 +18,7 @@ use xd_lex::Lexer;
 /// item     = Text | Label [ "(" ")" | items ] "]"
 /// ```
 ///
-/// `()` stands for a whole document or a whole content, and is no item of a list.
+/// `()` is read where a whole document or a whole content is expected, and nowhere else.
 pub fn read_document(alloc: Global, store: &mut Store, bytes: &[u8]) -> Result<Seq, ReadError>
     ensures ok { IfOk result (λ seq. BytesSpell bytes.now (document_at store.new seq)) }
     ensures belongs { IfOk result (BelongsTo store.new) }
