@@ -1,2 +1,4 @@
 pub mod Automaton
 pub mod Runs
+pub mod Marks
+pub mod Membership

@@ -2,5 +2,8 @@
 #![tactic(auto)]
 
 mod auto;
+mod marks;
+mod membership;
 
 pub use auto::{Auto, LabelMove, State};
+pub use membership::{Scratch, member};
