@@ -5,3 +5,6 @@ pub mod RunLaw
 pub mod Bits
 pub mod Walking
 pub mod Walks
+pub mod Copies
+pub mod Placing
+pub mod Following

@@ -2,3 +2,4 @@ pub mod Automaton
 pub mod Runs
 pub mod Marks
 pub mod Membership
+pub mod Copying

@@ -4,6 +4,8 @@ ghost use Rattle.std.specs.Prelude.{◌≡◌, ◌<◌, ◌++◌, ◌∷◌, [],
 ghost use Rattle.xd_auto.specs.Automaton.{Extends, IsClosed, IsState, KeepsAccepting, LeadsBelow, moves_at, no_moves, state_number, with_label_move, with_moves, with_text_move};
 ghost use Rattle.xd_auto.specs.Runs.{AcceptsByRuns};
 
+mod copying;
+
 use std::alloc::Global;
 use std::marker::Model;
 use xd_doc::{Class, NoMemory};
