@@ -46,12 +46,12 @@ following_starts a contents start base none order copies sized finds has = recor
   where
     alone : (i : ℕ) (e : State) → 0 < i → i < length order → ⊥
     alone i e lt below =
-      let first = ap (λ (t : State). copy_of copies t) (sym (finds.more.news 0 e (omega arith) (omega arith))) ∙ finds.placed.placed 0 e (omega arith) in
-      let other = ap (λ (t : State). copy_of copies t) (sym (finds.more.news i e (omega arith) below)) ∙ finds.placed.placed i e below in
-      let same : Some (state_at (base + 0)) ≡ Some (state_at (base + i)) = sym first ∙ other in
-      let states : state_at (base + 0) ≡ state_at (base + i) = cc in
-      let numbers : base + 0 ≡ base + i = ap (λ (t : State). t.number) states in
-      omega arith
+        let first = ap (λ (t : State). copy_of copies t) (sym (finds.more.news 0 e (omega arith) (omega arith))) ∙ finds.placed.placed 0 e (omega arith) in
+        let other = ap (λ (t : State). copy_of copies t) (sym (finds.more.news i e (omega arith) below)) ∙ finds.placed.placed i e below in
+        let same : Some (state_at (base + 0)) ≡ Some (state_at (base + i)) = sym first ∙ other in
+        let states : state_at (base + 0) ≡ state_at (base + i) = cc in
+        let numbers : base + 0 ≡ base + i = ap (λ (t : State). t.number) states in
+        omega arith
 
 -- all states that were found are followed
 pub following_ends : (a : Automaton) (contents : Bool) (start : State) (base done : ℕ) (order : List State) (copies : List (Option State))
@@ -71,8 +71,8 @@ module _ (a : Automaton) (contents : Bool) (start : State) (base done : ℕ) (st
   followed : FindsMore (LeadsTo a state) o1 c1 o3 c3
   followed =
       FindsMore-trans (LeadsTo a state) o1 c1 o2 c2 o3 c3
-        (FindsMore-weaker (IsTarget contents (moves_at a state).labels) (LeadsTo a state) o1 c1 o2 c2 (λ t p. by_element (any_target contents (moves_at a state).labels t p)) labels.more)
-        (FindsMore-weaker (Contains (moves_at a state).texts) (LeadsTo a state) o2 c2 o3 c3 (λ t p. by_text p) texts.more)
+      (FindsMore-weaker (IsTarget contents (moves_at a state).labels) (LeadsTo a state) o1 c1 o2 c2 (λ t p. by_element (any_target contents (moves_at a state).labels t p)) labels.more)
+      (FindsMore-weaker (Contains (moves_at a state).texts) (LeadsTo a state) o2 c2 o3 c3 (λ t p. by_text p) texts.more)
 
   -- the moves of one more state are followed
   pub following_step : (contents ≡ true → All (λ (m : LabelMove). HasCopy c2 m.content) (moves_at a state).labels) → All (λ (m : LabelMove). HasCopy c2 m.rest) (moves_at a state).labels
@@ -89,20 +89,21 @@ module _ (a : Automaton) (contents : Bool) (start : State) (base done : ℕ) (st
     where
       parent : (i : ℕ) (e : State) → 0 < i → i < length o3 → (i < length o1) ⊎ (length o1 ≤ i) → (k : ℕ) × (k < i) × LeadsTo a (get_or o3 k e) (get_or o3 i e)
       parent i e lt in3 (inl l) =
-        let p = old.parents i e lt l in
-        let k_in : p.0 < length o1 = omega (arith, p.1) in
-        (p.0, p.1, rw (followed.front p.0 e k_in, followed.front i e l) p.2)
+          let p = old.parents i e lt l in
+          let k_in : p.0 < length o1 = omega (arith, p.1) in
+          (p.0, p.1, rw (followed.front p.0 e k_in, followed.front i e l) p.2)
       parent i e lt in3 (inr g) =
-        (done, omega arith, rw (followed.front done e below, is e) (followed.news i e g in3))
+          (done, omega arith, rw (followed.front done e below, is e) (followed.news i e g in3))
+
       copied : (i : ℕ) (e : State) → (i < done) ⊎ (done ≤ i) → i < done + 1 → AreCopied contents c3 (moves_at a (get_or o3 i e))
       copied i e (inl l) lt =
-        let in1 : i < length o1 = omega arith in
-        rw (followed.front i e in1) (AreCopied-kept contents c1 c3 (moves_at a (get_or o1 i e)) followed.kept (old.closed i e l))
+          let in1 : i < length o1 = omega arith in
+          rw (followed.front i e in1) (AreCopied-kept contents c1 c3 (moves_at a (get_or o1 i e)) followed.kept (old.closed i e l))
       copied i e (inr g) lt =
-        let same : done ≡ i = omega arith in
-        let here : get_or o3 i e ≡ state = ap (λ n. get_or o3 n e) (sym same) ∙ followed.front done e below ∙ is e in
-        rw here (record {
-          content_copies = λ on. All-weaker (λ (m : LabelMove). HasCopy c2 m.content) (λ (m : LabelMove). HasCopy c3 m.content) (λ m p. texts.more.kept m.content p) (moves_at a state).labels (in_contents on);
-          rest_copies = All-weaker (λ (m : LabelMove). HasCopy c2 m.rest) (λ (m : LabelMove). HasCopy c3 m.rest) (λ m p. texts.more.kept m.rest p) (moves_at a state).labels in_rests;
-          text_copies = in_texts;
-        })
+          let same : done ≡ i = omega arith in
+          let here : get_or o3 i e ≡ state = ap (λ n. get_or o3 n e) (sym same) ∙ followed.front done e below ∙ is e in
+          rw here (record {
+            content_copies = λ on. All-weaker (λ (m : LabelMove). HasCopy c2 m.content) (λ (m : LabelMove). HasCopy c3 m.content) (λ m p. texts.more.kept m.content p) (moves_at a state).labels (in_contents on);
+            rest_copies = All-weaker (λ (m : LabelMove). HasCopy c2 m.rest) (λ (m : LabelMove). HasCopy c3 m.rest) (λ m p. texts.more.kept m.rest p) (moves_at a state).labels in_rests;
+            text_copies = in_texts;
+          })

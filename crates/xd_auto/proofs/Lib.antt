@@ -8,3 +8,4 @@ pub mod Walks
 pub mod Copies
 pub mod Placing
 pub mod Following
+pub mod Operating

@@ -27,9 +27,10 @@ FindsMore-trans Kind o1 c1 o2 c2 o3 c3 h k = record {
   longer = omega (arith, h.longer, k.longer);
   front = λ i e lt. let l : i < length o2 = omega (arith, h.longer) in k.front i e l ∙ h.front i e lt;
   news = λ i e le lt.
-    elim (cases_lt i (length o2))
-      [ inl l ↦ subst Kind (sym (k.front i e l)) (h.news i e le l)
-      | inr g ↦ k.news i e g lt ];
+      elim (cases_lt i (length o2)) [
+        | inl l ↦ subst Kind (sym (k.front i e l)) (h.news i e le l)
+        | inr g ↦ k.news i e g lt
+      ];
   sized = k.sized ∙ h.sized;
   kept = λ s p. k.kept s (h.kept s p);
 }
@@ -59,14 +60,14 @@ module _ (base : ℕ) (order : List State) (copies : List (Option State)) (s : S
   -- a state with a copy is another one
   another : (t c : State) → copy_of copies t ≡ Some c → t.number ≢ s.number
   another t c has e =
-    let both : copy_of copies t ≡ copy_of copies s = ap (λ n. get_or copies n None) e in
-    let no : Some c ≡ None = sym has ∙ both ∙ none in
-    cc
+      let both : copy_of copies t ≡ copy_of copies s = ap (λ n. get_or copies n None) e in
+      let no : Some c ≡ None = sym has ∙ both ∙ none in
+      cc
 
   pub placed_visit : ArePlaced base (order ++ s ∷ []) copies2
   placed_visit = record {
     states =
-      All-push (λ (t : State). t.number < length copies2) order s
+        All-push (λ (t : State). t.number < length copies2) order s
         (All-weaker (λ (t : State). t.number < length copies) (λ (t : State). t.number < length copies2) (λ t p. omega (arith, length-set copies s.number (Some (state_at (base + length order))))) order old.states)
         (omega (arith, length-set copies s.number (Some (state_at (base + length order)))));
     placed = λ i e lt. at i e lt (cases_lt i (length order));
@@ -75,23 +76,24 @@ module _ (base : ℕ) (order : List State) (copies : List (Option State)) (s : S
     where
       at : (i : ℕ) (e : State) → i < length (order ++ s ∷ []) → (i < length order) ⊎ (length order ≤ i) → copy_of copies2 (get_or (order ++ s ∷ []) i e) ≡ Some (state_at (base + i))
       at i e lt (inl l) =
-        let was = old.placed i e l in
-        ap (λ (t : State). copy_of copies2 t) (get_or_append_left order (s ∷ []) e i l)
+          let was = old.placed i e l in
+          ap (λ (t : State). copy_of copies2 t) (get_or_append_left order (s ∷ []) e i l)
           ∙ same_copy (get_or order i e) (another (get_or order i e) (state_at (base + i)) was) ∙ was
       at i e lt (inr g) =
-        let len : length (order ++ s ∷ []) ≡ length order + 1 = length_push order s in
-        let end : length order ≡ i = omega arith in
-        ap (λ (t : State). copy_of copies2 t) (get_or_at order s [] e i end) ∙ own_copy ∙ ap (λ n. Some (state_at (base + n))) end
+          let len : length (order ++ s ∷ []) ≡ length order + 1 = length_push order s in
+          let end : length order ≡ i = omega arith in
+          ap (λ (t : State). copy_of copies2 t) (get_or_at order s [] e i end) ∙ own_copy ∙ ap (λ n. Some (state_at (base + n))) end
+
       from : (t c : State) → copy_of copies2 t ≡ Some c → (t.number ≡ s.number) ⊎ (t.number ≢ s.number)
           → (i : ℕ) × (i < length (order ++ s ∷ [])) × (get_or (order ++ s ∷ []) i t ≡ t) × (c ≡ state_at (base + i))
       from t c is (inl e) =
-        let states : s ≡ t = ap (λ n. state_at n) (sym e) in
-        let copy : Some c ≡ Some (state_at (base + length order)) = sym is ∙ ap (λ n. get_or copies2 n None) e ∙ own_copy in
-        let same : c ≡ state_at (base + length order) = cc in
-        (length order, omega (arith, length_push order s), get_or_at order s [] t (length order) refl ∙ states, same)
+          let states : s ≡ t = ap (λ n. state_at n) (sym e) in
+          let copy : Some c ≡ Some (state_at (base + length order)) = sym is ∙ ap (λ n. get_or copies2 n None) e ∙ own_copy in
+          let same : c ≡ state_at (base + length order) = cc in
+          (length order, omega (arith, length_push order s), get_or_at order s [] t (length order) refl ∙ states, same)
       from t c is (inr ne) =
-        let was = old.listed t c (sym (same_copy t ne) ∙ is) in
-        (was.0, omega (arith, was.1, length_push order s), get_or_append_left order (s ∷ []) t was.0 was.1 ∙ was.2, was.3)
+          let was = old.listed t c (sym (same_copy t ne) ∙ is) in
+          (was.0, omega (arith, was.1, length_push order s), get_or_append_left order (s ∷ []) t was.0 was.1 ∙ was.2, was.3)
 
   pub finds_visit : FindsMore (λ t. t ≡ s) order copies (order ++ s ∷ []) copies2
   finds_visit = record {
@@ -107,10 +109,10 @@ module _ (base : ℕ) (order : List State) (copies : List (Option State)) (s : S
 
   pub steps_visit : length (order ++ s ∷ []) + uncopied copies2 ≡ length order + uncopied copies
   steps_visit =
-    let counts : Option State → ℕ = λ o. cond (not (is_some o)) 1 0 in
-    let sums = sum_by-set counts copies s.number (Some (state_at (base + length order))) None here in
-    let was : counts (get_or copies s.number None) ≡ counts None = ap counts none in
-    omega (arith, length_push order s, sums, was)
+      let counts : Option State → ℕ = λ o. cond (not (is_some o)) 1 0 in
+      let sums = sum_by-set counts copies s.number (Some (state_at (base + length order))) None here in
+      let was : counts (get_or copies s.number None) ≡ counts None = ap counts none in
+      omega (arith, length_push order s, sums, was)
 
 pub none_from : (o : Option State) → is_some o ≡ false → o ≡ None
 none_from None e = refl

@@ -1,10 +1,10 @@
 -- Copies of states: which states are reached, where their copies stand, and what the copies' moves are.
-use Rattle.std.specs.Prelude.{◌≡◌, ℕ, ◌+◌, ◌<◌, ◌≤◌, Bool, true, false, not, is_some, List, [], ◌∷◌, ◌++◌, length, map, slice_index_or, Option, Some, None}
+use Rattle.std.specs.Prelude.{◌≡◌, ℕ, ◌+◌, ◌<◌, ◌≤◌, Bool, true, false, not, ◌&&◌, ◌||◌, is_some, List, [], ◌∷◌, ◌++◌, length, map, slice_index_or, Option, Some, None}
 use Rattle.std.specs.List.{All, AllZip, Contains, count_by}
 use Rattle.xd_doc.specs.Classes.{LabelClass, class_has}
 use Rattle.xd_auto.specs.declared.auto.State.{State}
 use Rattle.xd_auto.specs.declared.auto.LabelMove.{LabelMove}
-use Rattle.xd_auto.specs.Automaton.{Automaton, StateMoves, moves_at}
+use Rattle.xd_auto.specs.Automaton.{Automaton, StateMoves, moves_at, no_moves}
 
 -- a label belongs to both or to neither
 abbrev pub SameLabels : LabelClass → LabelClass → Type 0
@@ -39,6 +39,26 @@ pub record AddsMoves (contents rests : List (Option State)) (moves old new : Sta
   pub last : new.last ≡ old.last
   pub labels : AddsCopies contents rests moves.labels old.labels new.labels
   pub texts : new.texts ≡ old.texts ++ map (moved rests) moves.texts
+
+-- the copy of a state; with a tail it goes on there too where the state accepts the empty document, which then is accepted where the tail accepts it
+pub record IsFrontCopy (a : Automaton) (contents rests : List (Option State)) (tail s : State) (made : StateMoves) : Type 0 where
+  pub front : StateMoves
+  pub copied : AddsMoves contents rests (moves_at a s) (no_moves ((moves_at a s).last && (moves_at a tail).last)) front
+  pub joined : (moves_at a s).last ≡ true → AddsMoves [] [] (moves_at a tail) front made
+  pub ended : (moves_at a s).last ≡ false → made ≡ front
+
+abbrev pub IsStateCopy : Automaton → List (Option State) → List (Option State) → Option State → State → StateMoves → Type 0
+IsStateCopy a contents rests None s made = AddsMoves contents rests (moves_at a s) (no_moves (moves_at a s).last) made
+IsStateCopy a contents rests (Some tail) s made = IsFrontCopy a contents rests tail s made
+
+abbrev pub AreStateCopies : Automaton → List (Option State) → List (Option State) → Option State → List State → List StateMoves → Type 0
+AreStateCopies a contents rests tail order made = AllZip (IsStateCopy a contents rests tail) order made
+
+-- the moves of two states
+pub record IsEither (a : Automaton) (one two : State) (made : StateMoves) : Type 0 where
+  pub front : StateMoves
+  pub first : AddsMoves [] [] (moves_at a one) (no_moves ((moves_at a one).last || (moves_at a two).last)) front
+  pub second : AddsMoves [] [] (moves_at a two) front made
 
 abbrev pub HasCopy : List (Option State) → State → Type 0
 HasCopy copies s = (c : State) × (copy_of copies s ≡ Some c)

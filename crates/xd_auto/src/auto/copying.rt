@@ -2,8 +2,9 @@
 
 ghost use Rattle.std.specs.Prelude.{◌≡◌, ℕ, ◌+◌, ◌^◌, ◌<◌, ◌++◌, ◌∷◌, true, length, map, IfOk, OnOk, Some, slice_index_or, vec_len};
 ghost use Rattle.std.specs.List.{All, Contains};
+ghost use Rattle.std.specs.Option.{IfSome};
 ghost use Rattle.xd_auto.specs.Automaton.{IsState, moves_at, no_moves, state_number};
-ghost use Rattle.xd_auto.specs.Copying.{AddsCopies, AddsMoves, AreCopied, ArePlaced, Finds, FindsMore, HasCopy, IsTarget, LabelBelow, Reached, SameLabels, copy_of, moved, uncopied};
+ghost use Rattle.xd_auto.specs.Copying.{AddsCopies, AddsMoves, AreCopied, ArePlaced, AreStateCopies, Finds, FindsMore, HasCopy, IsStateCopy, IsTarget, LabelBelow, Reached, SameLabels, copy_of, moved, uncopied};
 
 use super::{Auto, LabelMove, Moves, State};
 use std::alloc::Global;
@@ -54,7 +55,12 @@ impl Reach {
     }
 
     /// Finds the states of moves on an element.
-    fn visit_labels(&mut self, base: usize, contents: bool, moves: &[LabelMove]) -> Result<(), NoMemory>
+    fn visit_labels(
+        &mut self,
+        base: usize,
+        contents: bool,
+        moves: &[LabelMove],
+    ) -> Result<(), NoMemory>
         requires states { All (LabelBelow (length self.old.copies.items)) moves.now }
         requires base { base < 2 ^ 63 }
         requires placed { ArePlaced base self.old.order.items self.old.copies.items }
@@ -88,7 +94,13 @@ impl Reach {
 
 /// Finds the states that moves lead to from the first one on; contents count where `contents` is true.
 /// Copies are to stand from `base` on, in the order of the answer.
-pub fn reach_from(alloc: Global, auto: &Auto, start: State, base: usize, contents: bool) -> Result<Reach, NoMemory>
+pub fn reach_from(
+    alloc: Global,
+    auto: &Auto,
+    start: State,
+    base: usize,
+    contents: bool,
+) -> Result<Reach, NoMemory>
     requires start { IsState auto.now start }
     requires base { base < 2 ^ 63 }
     ensures { IfOk result (λ reach. Reached auto.now contents start base reach.order.items reach.copies.items) }
@@ -131,7 +143,12 @@ fn share_class(alloc: Global, class: &Class) -> Result<Class, NoMemory>
 }
 
 /// Adds copies of these moves.
-fn add_labels(into: &mut Vec<LabelMove>, moves: &[LabelMove], contents: &[Option<State>], rests: &[Option<State>]) -> Result<(), NoMemory>
+fn add_labels(
+    into: &mut Vec<LabelMove>,
+    moves: &[LabelMove],
+    contents: &[Option<State>],
+    rests: &[Option<State>],
+) -> Result<(), NoMemory>
     ensures ok { OnOk result (AddsCopies contents.now rests.now moves.now into.old.items into.new.items) }
 {
     let alloc = *into.allocator();
@@ -147,11 +164,83 @@ fn add_labels(into: &mut Vec<LabelMove>, moves: &[LabelMove], contents: &[Option
 }
 
 /// Adds moves to the copies of these states.
-fn add_texts(into: &mut Vec<State>, moves: &[State], rests: &[Option<State>]) -> Result<(), NoMemory>
+fn add_texts(
+    into: &mut Vec<State>,
+    moves: &[State],
+    rests: &[Option<State>],
+) -> Result<(), NoMemory>
     ensures ok { OnOk result (into.new.items ≡ into.old.items ++ map (moved rests.now) moves.now) }
 {
     for rest in moves {
         into.push(moved_to(rests, *rest))?;
     }
     Ok(())
+}
+
+/// Adds copies of a state's moves.
+pub fn add_moves(
+    into: &mut Moves,
+    auto: &Auto,
+    state: State,
+    contents: &[Option<State>],
+    rests: &[Option<State>],
+) -> Result<(), NoMemory>
+    requires { IsState auto.now state }
+    ensures ok { OnOk result (AddsMoves contents.now rests.now (moves_at auto.now state) into.old into.new) }
+{
+    add_labels(&mut into.labels, auto.label_moves(state), contents, rests)?;
+    add_texts(&mut into.texts, auto.text_moves(state), rests)?;
+    Ok(())
+}
+
+/// A copy of a state. With a tail it goes on there where the state accepts the empty document.
+fn copy_state(
+    alloc: Global,
+    auto: &Auto,
+    state: State,
+    contents: &[Option<State>],
+    rests: &[Option<State>],
+    tail: Option<State>,
+) -> Result<Moves, NoMemory>
+    requires state { IsState auto.now state }
+    requires tail { IfSome tail (IsState auto.now) }
+    ensures { IfOk result (IsStateCopy auto.now contents.now rests.now tail state) }
+{
+    let last = auto.is_last(state);
+    match tail {
+        None => {
+            let mut made = Moves::new(alloc, last);
+            add_moves(&mut made, auto, state, contents, rests)?;
+            Ok(made)
+        }
+        Some(tail) => {
+            let mut made = Moves::new(alloc, last && auto.is_last(tail));
+            add_moves(&mut made, auto, state, contents, rests)?;
+            if last {
+                add_moves(&mut made, auto, tail, &[], &[])?;
+            }
+            Ok(made)
+        }
+    }
+}
+
+/// Copies of states, in order.
+pub fn copy_states(
+    alloc: Global,
+    auto: &Auto,
+    order: &[State],
+    contents: &[Option<State>],
+    rests: &[Option<State>],
+    tail: Option<State>,
+) -> Result<Vec<Moves>, NoMemory>
+    requires states { All (IsState auto.now) order.now }
+    requires tail { IfSome tail (IsState auto.now) }
+    ensures { IfOk result (λ made. AreStateCopies auto.now contents.now rests.now tail order.now made.items) }
+{
+    let mut made = Vec::new(alloc);
+    for state in order {
+        let copy = copy_state(alloc, auto, *state, contents, rests, tail)?;
+        made.push(copy)?;
+    }
+    Ok(made)
 }

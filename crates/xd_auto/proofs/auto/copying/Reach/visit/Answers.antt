@@ -7,17 +7,17 @@ use Rattle.xd_auto.proofs.auto.copying.Reach.visit.Goals as goal
 pub returns-in_ok-push : goal.returns-in_ok-push
 returns-in_ok-push c =
     let none : copy_of c.args.self.now.copies.items c.args.state ≡ None =
-      sym (get_or_read c.args.self.now.copies.items c.args.state.number c.index.result.now c.requires.state c.index.ensures None) ∙ none_from c.index.result.now c.if-is_none.ensures in
+    sym (get_or_read c.args.self.now.copies.items c.args.state.number c.index.result.now c.requires.state c.index.ensures None) ∙ none_from c.index.result.now c.if-is_none.ensures in
     let len : c.len.result ≡ length c.args.self.now.order.items = search rules in
     rw (c.in_ok-push.ensures.items, len)
-      (record {
-        ok = record {
-          placed = placed_visit c.args.base c.args.self.now.order.items c.args.self.now.copies.items c.args.state c.requires.state none c.requires.placed;
-          more = finds_visit c.args.base c.args.self.now.order.items c.args.self.now.copies.items c.args.state c.requires.state none c.requires.placed;
-        };
-        copied = has_visit c.args.base c.args.self.now.order.items c.args.self.now.copies.items c.args.state c.requires.state none c.requires.placed;
-        steps = steps_visit c.args.base c.args.self.now.order.items c.args.self.now.copies.items c.args.state c.requires.state none c.requires.placed;
-      })
+    (record {
+      ok = record {
+        placed = placed_visit c.args.base c.args.self.now.order.items c.args.self.now.copies.items c.args.state c.requires.state none c.requires.placed;
+        more = finds_visit c.args.base c.args.self.now.order.items c.args.self.now.copies.items c.args.state c.requires.state none c.requires.placed;
+      };
+      copied = has_visit c.args.base c.args.self.now.order.items c.args.self.now.copies.items c.args.state c.requires.state none c.requires.placed;
+      steps = steps_visit c.args.base c.args.self.now.order.items c.args.self.now.copies.items c.args.state c.requires.state none c.requires.placed;
+    })
 
 pub returns-else-is_none : goal.returns-else-is_none
 returns-else-is_none c =

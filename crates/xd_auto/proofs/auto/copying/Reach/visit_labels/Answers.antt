@@ -17,18 +17,18 @@ loop-step-preserved c =
     record {
       placed = c.in_ok-visit.ensures.ok.placed;
       more = FindsMore-trans (IsTarget c.args.contents c.args.moves.now) _ _ _ _ _ _ c.loop-step.invariant.more
-        (FindsMore-trans (IsTarget c.args.contents c.args.moves.now) _ _ _ _ _ _
+          (FindsMore-trans (IsTarget c.args.contents c.args.moves.now) _ _ _ _ _ _
           (FindsMore-weaker (λ t. (c.args.contents ≡ true) × (t ≡ item.content)) (IsTarget c.args.contents c.args.moves.now) _ _ _ _ (λ t p. is_content item p.0 among (sym p.1)) one)
           (FindsMore-weaker (λ t. t ≡ item.rest) (IsTarget c.args.contents c.args.moves.now) _ _ _ _ (λ t p. is_rest item among (sym p)) two));
       in_contents = λ on.
-        All-more (λ (m : LabelMove). HasCopy c.visit.new.self.copies.items m.content) c.args.moves.now c.loop-step.step-index item c.loop-step-test.true
+          All-more (λ (m : LabelMove). HasCopy c.visit.new.self.copies.items m.content) c.args.moves.now c.loop-step.step-index item c.loop-step-test.true
           (All-weaker (λ (m : LabelMove). HasCopy c.loop-step.self.copies.items m.content) (λ (m : LabelMove). HasCopy c.visit.new.self.copies.items m.content)
-            (λ m p. two.kept m.content (one.kept m.content p)) (take c.loop-step.step-index c.args.moves.now) (c.loop-step.invariant.in_contents on))
+          (λ m p. two.kept m.content (one.kept m.content p)) (take c.loop-step.step-index c.args.moves.now) (c.loop-step.invariant.in_contents on))
           (subst (λ (m : LabelMove). HasCopy c.visit.new.self.copies.items m.content) c.step-item.is (two.kept item.content (c.in_ok-visit_content.ensures.copied on)));
       in_rests =
-        All-more (λ (m : LabelMove). HasCopy c.visit.new.self.copies.items m.rest) c.args.moves.now c.loop-step.step-index item c.loop-step-test.true
+          All-more (λ (m : LabelMove). HasCopy c.visit.new.self.copies.items m.rest) c.args.moves.now c.loop-step.step-index item c.loop-step-test.true
           (All-weaker (λ (m : LabelMove). HasCopy c.loop-step.self.copies.items m.rest) (λ (m : LabelMove). HasCopy c.visit.new.self.copies.items m.rest)
-            (λ m p. two.kept m.rest (one.kept m.rest p)) (take c.loop-step.step-index c.args.moves.now) c.loop-step.invariant.in_rests)
+          (λ m p. two.kept m.rest (one.kept m.rest p)) (take c.loop-step.step-index c.args.moves.now) c.loop-step.invariant.in_rests)
           (subst (λ (m : LabelMove). HasCopy c.visit.new.self.copies.items m.rest) c.step-item.is c.in_ok-visit.ensures.copied);
       steps = c.in_ok-visit.ensures.steps ∙ c.in_ok-visit_content.ensures.steps ∙ c.loop-step.invariant.steps;
     }

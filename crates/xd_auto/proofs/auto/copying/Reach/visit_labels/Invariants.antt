@@ -10,5 +10,5 @@ invariant-loop-step l = record {
   more : FindsMore (IsTarget l.contents l.moves) l.initial.self.order.items l.initial.self.copies.items l.self.order.items l.self.copies.items;
   in_contents : l.contents ≡ true → All (λ (m : LabelMove). HasCopy l.self.copies.items m.content) (take l.step-index l.moves);
   in_rests : All (λ (m : LabelMove). HasCopy l.self.copies.items m.rest) (take l.step-index l.moves);
-  steps : length l.self.order.items + uncopied l.self.copies.items ≡ length l.initial.self.order.items + uncopied l.initial.self.copies.items
+  steps : length l.self.order.items + uncopied l.self.copies.items ≡ length l.initial.self.order.items + uncopied l.initial.self.copies.items;
 }

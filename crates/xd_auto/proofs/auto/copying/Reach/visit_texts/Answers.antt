@@ -14,10 +14,10 @@ loop-rest-preserved c =
     record {
       placed = c.in_ok-visit.ensures.ok.placed;
       more = FindsMore-trans (Contains c.args.moves.now) _ _ _ _ _ _ c.loop-rest.invariant.more
-        (FindsMore-weaker (λ t. t ≡ item) (Contains c.args.moves.now) _ _ _ _ (λ t same. subst (Contains c.args.moves.now) (sym same) among) c.in_ok-visit.ensures.ok.more);
+          (FindsMore-weaker (λ t. t ≡ item) (Contains c.args.moves.now) _ _ _ _ (λ t same. subst (Contains c.args.moves.now) (sym same) among) c.in_ok-visit.ensures.ok.more);
       copied = All-more (HasCopy c.visit.new.self.copies.items) c.args.moves.now c.loop-rest.rest-index (record { number = 0 }) c.loop-rest-test.true
-        (All-weaker (HasCopy c.loop-rest.self.copies.items) (HasCopy c.visit.new.self.copies.items) c.in_ok-visit.ensures.ok.more.kept (take c.loop-rest.rest-index c.args.moves.now) c.loop-rest.invariant.copied)
-        c.in_ok-visit.ensures.copied;
+          (All-weaker (HasCopy c.loop-rest.self.copies.items) (HasCopy c.visit.new.self.copies.items) c.in_ok-visit.ensures.ok.more.kept (take c.loop-rest.rest-index c.args.moves.now) c.loop-rest.invariant.copied)
+          c.in_ok-visit.ensures.copied;
       steps = c.in_ok-visit.ensures.steps ∙ c.loop-rest.invariant.steps;
     }
 

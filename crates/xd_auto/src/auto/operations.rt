@@ -1,0 +1,70 @@
+//! Operations that make states for sets of documents.
+
+ghost use Rattle.std.specs.Prelude.{◌≡◌, ◌↔◌, ◌≤◌, ◌||◌, true, length, IfOk};
+ghost use Rattle.xd_doc.specs.Document.{Document};
+ghost use Rattle.xd_auto.specs.Automaton.{Extends, IsState, KeepsAccepting, accepts, state_number};
+ghost use Rattle.xd_auto.specs.Copying.{IsEither, IsReached};
+
+use super::copying::{add_moves, copy_states, reach_from};
+use super::{Auto, LabelMove, Moves, State};
+use std::alloc::Global;
+use xd_doc::NoMemory;
+
+impl Auto {
+    /// A state that accepts what either of two states accepts.
+    ///
+    /// It adds one state, which has copies of their moves.
+    pub fn union(&mut self, one: State, two: State) -> Result<State, NoMemory>
+        requires one { IsState self.old one }
+        requires two { IsState self.old two }
+        ensures ok { IfOk result (λ made. (d : Document) → accepts self.new d made ≡ (accepts self.old d one || accepts self.old d two)) }
+        ensures belongs { IfOk result (IsState self.new) }
+        ensures extends { Extends self.old self.new }
+        ensures keeps { KeepsAccepting self.old self.new }
+    {
+        let number = self.len();
+        let alloc = *self.states.allocator();
+        let mut made = Vec::new(alloc);
+        made.push(either(alloc, self, one, two)?)?;
+        self.extend(made)?;
+        Ok(State { number })
+    }
+
+    /// Copies a state of another automaton, which accepts the same.
+    ///
+    /// Only the states that it leads to are copied with it.
+    pub fn absorb(&mut self, other: &Auto, state: State) -> Result<State, NoMemory>
+        requires { IsState other.now state }
+        ensures ok { IfOk result (λ made. (d : Document) → accepts self.new d made ≡ accepts other.now d state) }
+        ensures belongs { IfOk result (IsState self.new) }
+        ensures copies { IfOk result (λ made. (s : State) → IsState self.new s → length self.old ≤ state_number s → IsReached self.new made s) }
+        ensures extends { Extends self.old self.new }
+        ensures keeps { KeepsAccepting self.old self.new }
+    {
+        let number = self.len();
+        let alloc = *self.states.allocator();
+        let reach = reach_from(alloc, other, state, number, true)?;
+        let made = copy_states(
+            alloc,
+            other,
+            &reach.order,
+            &reach.copies,
+            &reach.copies,
+            None,
+        )?;
+        self.extend(made)?;
+        Ok(State { number })
+    }
+}
+
+/// The moves of two states.
+fn either(alloc: Global, auto: &Auto, one: State, two: State) -> Result<Moves, NoMemory>
+    requires one { IsState auto.now one }
+    requires two { IsState auto.now two }
+    ensures { IfOk result (IsEither auto.now one two) }
+{
+    let mut made = Moves::new(alloc, auto.is_last(one) || auto.is_last(two));
+    add_moves(&mut made, auto, one, &[], &[])?;
+    add_moves(&mut made, auto, two, &[], &[])?;
+    Ok(made)
+}
