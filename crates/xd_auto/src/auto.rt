@@ -7,6 +7,8 @@ ghost use Rattle.xd_auto.specs.Runs.{AcceptsByRuns};
 
 mod copying;
 mod operations;
+
+pub use operations::trim;
 use std::alloc::Global;
 use std::marker::Model;
 use xd_doc::{Class, NoMemory};

@@ -5,5 +5,5 @@ mod auto;
 mod marks;
 mod membership;
 
-pub use auto::{Auto, LabelMove, State};
+pub use auto::{Auto, LabelMove, State, trim};
 pub use membership::{Scratch, member};

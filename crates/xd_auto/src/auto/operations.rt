@@ -68,3 +68,16 @@ fn either(alloc: Global, auto: &Auto, one: State, two: State) -> Result<Moves, N
     add_moves(&mut made, auto, two, &[], &[])?;
     Ok(made)
 }
+
+/// The part of an automaton that a state leads to: an automaton with the states that are reached
+/// from the answer's state alone, which accepts the same.
+pub fn trim(alloc: Global, auto: &Auto, state: State) -> Result<(Auto, State), NoMemory>
+    requires { IsState auto.now state }
+    ensures ok { IfOk result (λ made. (d : Document) → accepts made.0 d made.1 ≡ accepts auto.now d state) }
+    ensures belongs { IfOk result (λ made. IsState made.0 made.1) }
+    ensures reached { IfOk result (λ made. (s : State) → IsState made.0 s → IsReached made.0 made.1 s) }
+{
+    let mut made = Auto::new(alloc);
+    let start = made.absorb(auto, state)?;
+    Ok((made, start))
+}
