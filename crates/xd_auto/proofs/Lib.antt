@@ -9,3 +9,5 @@ pub mod Copies
 pub mod Placing
 pub mod Following
 pub mod Operating
+pub mod Wrapping
+pub mod Joining

@@ -71,17 +71,39 @@ module _ (a b : Automaton) (more : Extends a b) (keep : KeepsAccepting a b) wher
 pub moves_behind : (a more : Automaton) (i : ℕ) (d : StateMoves) → i < length more → moves_at (a ++ more) (state_at (length a + i)) ≡ get_or more i (no_moves false)
 moves_behind a more i d lt = get_or-append-add a more i (no_moves false)
 
+pub zip_at : {X Y : Type 0} (R : X → Y → Type 0) (xs : List X) (ys : List Y) (i : ℕ) (d : X) (e : Y) → AllZip R xs ys → i < length xs → R (get_or xs i d) (get_or ys i e) × (i < length ys)
+zip_at R [] ys i d e h lt = absurd (omega arith)
+zip_at R (u ∷ xs) [] i d e h lt = absurd h
+zip_at R (u ∷ xs) (v ∷ ys) zero d e h lt = (h.0, omega arith)
+zip_at R (u ∷ xs) (v ∷ ys) (suc i) d e h lt = let r = zip_at R xs ys i d e h.1 (omega arith) in (r.0, omega (arith, r.1))
+
+pub zip_length : {X Y : Type 0} (R : X → Y → Type 0) (xs : List X) (ys : List Y) → AllZip R xs ys → length ys ≡ length xs
+zip_length R [] [] h = refl
+zip_length R [] (v ∷ ys) h = absurd h
+zip_length R (u ∷ xs) [] h = absurd h
+zip_length R (u ∷ xs) (v ∷ ys) h = ap suc (zip_length R xs ys h.1)
+
+pub moved_is : (copies : List (Option State)) (s c : State) → copy_of copies s ≡ Some c → moved copies s ≡ c
+moved_is copies s c is = rw is refl
+
+module _ (a : Automaton) (contents : Bool) (start : State) (base : ℕ) (order : List State) (copies : List (Option State)) (reached : Reached a contents start base order copies) where
+  pub copy_below : (n : ℕ) → n ≡ length order → (s : State) → HasCopy copies s → (moved copies s).number < base + n
+  copy_below n all s h =
+      let l = reached.placed.listed s h.0 h.1 in
+      let is : (moved copies s).number ≡ base + l.0 = ap (λ (w : State). w.number) (moved_is copies s h.0 h.1 ∙ l.3) in
+      omega (arith, l.1)
+
+  pub start_copy : copy_of copies start ≡ Some (state_at base)
+  start_copy =
+      let p = reached.placed.placed 0 start reached.some in
+      let e : base + 0 ≡ base = omega arith in
+      ap (λ (w : State). copy_of copies w) (sym (reached.head start)) ∙ p ∙ ap (λ n. Some (state_at n)) e
+
 -- states that were copied with all that they lead to
 module _ (a old : Automaton) (start : State) (order : List State) (copies : List (Option State)) (made : List StateMoves)
     (reached : Reached a true start (length old) order copies) (made_so : AreStateCopies a copies copies None order made) where
   abbrev pub both : Automaton
   both = old ++ made
-
-  zip_at : {X Y : Type 0} (R : X → Y → Type 0) (xs : List X) (ys : List Y) (i : ℕ) (d : X) (e : Y) → AllZip R xs ys → i < length xs → R (get_or xs i d) (get_or ys i e) × (i < length ys)
-  zip_at R [] ys i d e h lt = absurd (omega arith)
-  zip_at R (u ∷ xs) [] i d e h lt = absurd h
-  zip_at R (u ∷ xs) (v ∷ ys) zero d e h lt = (h.0, omega arith)
-  zip_at R (u ∷ xs) (v ∷ ys) (suc i) d e h lt = let r = zip_at R xs ys i d e h.1 (omega arith) in (r.0, omega (arith, r.1))
 
   -- the copy of a state, and the copies of what it leads to
   record Copied (s c : State) : Type 0 where
@@ -98,9 +120,6 @@ module _ (a old : Automaton) (start : State) (order : List State) (copies : List
         targets = rw l.2 at (reached.closed l.0 s l.1);
       }
 
-  moved_is : (s c : State) → copy_of copies s ≡ Some c → moved copies s ≡ c
-  moved_is s c is = rw is refl
-
   pub copy_accepts : (d : Document) (s c : State) → copy_of copies s ≡ Some c → accepts both d c ≡ accepts a d s
   copy_accepts empty s c is = (copied s c is).moves.last
   copy_accepts (text t r) s c is =
@@ -108,28 +127,16 @@ module _ (a old : Automaton) (start : State) (order : List State) (copies : List
       adds_text copies copies (moves_at a s) (no_moves (moves_at a s).last) (moves_at both c) (λ q. accepts both r q) k.moves
       ∙ list_any-agree (λ q. accepts both r (moved copies q)) (λ q. accepts a r q) (moves_at a s).texts
       (λ i d lt. let h = k.targets.text_copies i d lt in
-      ap (λ (w : State). accepts both r w) (moved_is (get_or (moves_at a s).texts i d) h.0 h.1) ∙ copy_accepts r (get_or (moves_at a s).texts i d) h.0 h.1)
+      ap (λ (w : State). accepts both r w) (moved_is copies (get_or (moves_at a s).texts i d) h.0 h.1) ∙ copy_accepts r (get_or (moves_at a s).texts i d) h.0 h.1)
   copy_accepts (element l x r) s c is =
       let k = copied s c is in
       adds_element both copies copies (moves_at a s) (no_moves (moves_at a s).last) (moves_at both c)
       (λ (m : LabelMove). HasCopy copies m.content × HasCopy copies m.rest) (takes_element a l x r) l x r
-      (λ m h. rw (moved_is m.content h.0.0 h.0.1, moved_is m.rest h.1.0 h.1.1, copy_accepts x m.content h.0.0 h.0.1, copy_accepts r m.rest h.1.0 h.1.1) refl)
+      (λ m h. rw (moved_is copies m.content h.0.0 h.0.1, moved_is copies m.rest h.1.0 h.1.1, copy_accepts x m.content h.0.0 h.0.1, copy_accepts r m.rest h.1.0 h.1.1) refl)
       (λ i d lt. (k.targets.content_copies refl i d lt, k.targets.rest_copies i d lt)) k.moves
 
   pub made_length : length made ≡ length order
-  made_length = go order made made_so
-    where
-      go : (xs : List State) (ys : List StateMoves) → AreStateCopies a copies copies None xs ys → length ys ≡ length xs
-      go [] [] h = refl
-      go [] (v ∷ ys) h = absurd h
-      go (u ∷ xs) [] h = absurd h
-      go (u ∷ xs) (v ∷ ys) h = ap suc (go xs ys h.1)
-
-  copy_below : (s : State) → HasCopy copies s → (moved copies s).number < length old + length made
-  copy_below s h =
-      let l = reached.placed.listed s h.0 h.1 in
-      let is : (moved copies s).number ≡ length old + l.0 = ap (λ (w : State). w.number) (moved_is s h.0 h.1 ∙ l.3) in
-      omega (arith, l.1, made_length)
+  made_length = zip_length (IsStateCopy a copies copies None) order made made_so
 
   pub copies_below : All (LeadsBelow (length old + length made)) made
   copies_below i d lt =
@@ -137,34 +144,28 @@ module _ (a old : Automaton) (start : State) (order : List State) (copies : List
       let z = zip_at (IsStateCopy a copies copies None) order made i (state_at 0) d made_so in_order in
       let t = reached.closed i (state_at 0) in_order in
       adds_below (length old + length made) copies copies (moves_at a (get_or order i (state_at 0))) (no_moves (moves_at a (get_or order i (state_at 0))).last) (get_or made i d) (no_moves-below _ _)
-      (λ k e below. (copy_below (get_or (moves_at a (get_or order i (state_at 0))).labels k e).content (t.content_copies refl k e below), copy_below (get_or (moves_at a (get_or order i (state_at 0))).labels k e).rest (t.rest_copies k e below)))
-      (λ k e below. copy_below (get_or (moves_at a (get_or order i (state_at 0))).texts k e) (t.text_copies k e below)) z.0
-
-  pub start_copy : copy_of copies start ≡ Some (state_at (length old))
-  start_copy =
-      let p = reached.placed.placed 0 start reached.some in
-      let e : length old + 0 ≡ length old = omega arith in
-      ap (λ (w : State). copy_of copies w) (sym (reached.head start)) ∙ p ∙ ap (λ n. Some (state_at n)) e
+      (λ k e below. (copy_below a true start (length old) order copies reached (length made) made_length (get_or (moves_at a (get_or order i (state_at 0))).labels k e).content (t.content_copies refl k e below), copy_below a true start (length old) order copies reached (length made) made_length (get_or (moves_at a (get_or order i (state_at 0))).labels k e).rest (t.rest_copies k e below)))
+      (λ k e below. copy_below a true start (length old) order copies reached (length made) made_length (get_or (moves_at a (get_or order i (state_at 0))).texts k e) (t.text_copies k e below)) z.0
 
   -- a move to a state leads, at the copies, to its copy
   leads_copied : (s t c e : State) → copy_of copies s ≡ Some c → copy_of copies t ≡ Some e → LeadsTo a s t → LeadsTo both c e
   leads_copied s t c e is is_t (by_text among) =
       let k = copied s c is in
       let xs = (moves_at a s).texts in
-      let at : get_or (map (moved copies) xs) among.0 e ≡ e = get_or-map (moved copies) xs among.0 t e among.1 ∙ ap (moved copies) among.2 ∙ moved_is t e is_t in
+      let at : get_or (map (moved copies) xs) among.0 e ≡ e = get_or-map (moved copies) xs among.0 t e among.1 ∙ ap (moved copies) among.2 ∙ moved_is copies t e is_t in
       by_text (rw k.moves.texts (among.0, omega (arith, among.1, length-map xs (moved copies)), at))
   leads_copied s t c e is is_t (by_element (is_content m on among to)) =
       let k = copied s c is in
       let z = zip_at (IsCopy copies copies) (moves_at a s).labels k.moves.labels.more among.0 m m k.moves.labels.copies among.1 in
       let copy : IsCopy copies copies m (get_or k.moves.labels.more among.0 m) = rw among.2 at z.0 in
       by_element (is_content (get_or k.moves.labels.more among.0 m) refl (rw k.moves.labels.behind (among.0, z.1, get_or_default k.moves.labels.more among.0 (get_or k.moves.labels.more among.0 m) m z.1))
-      (copy.content ∙ ap (moved copies) to ∙ moved_is t e is_t))
+      (copy.content ∙ ap (moved copies) to ∙ moved_is copies t e is_t))
   leads_copied s t c e is is_t (by_element (is_rest m among to)) =
       let k = copied s c is in
       let z = zip_at (IsCopy copies copies) (moves_at a s).labels k.moves.labels.more among.0 m m k.moves.labels.copies among.1 in
       let copy : IsCopy copies copies m (get_or k.moves.labels.more among.0 m) = rw among.2 at z.0 in
       by_element (is_rest (get_or k.moves.labels.more among.0 m) (rw k.moves.labels.behind (among.0, z.1, get_or_default k.moves.labels.more among.0 (get_or k.moves.labels.more among.0 m) m z.1))
-      (copy.rest ∙ ap (moved copies) to ∙ moved_is t e is_t))
+      (copy.rest ∙ ap (moved copies) to ∙ moved_is copies t e is_t))
 
   -- each copy is reached from the first one
   reached_below : (n i : ℕ) → i < n → i < length order → IsReached both (state_at (length old)) (state_at (length old + i))

@@ -1,6 +1,7 @@
 -- Copies of states: which states are reached, where their copies stand, and what the copies' moves are.
-use Rattle.std.specs.Prelude.{◌≡◌, ℕ, ◌+◌, ◌<◌, ◌≤◌, Bool, true, false, not, ◌&&◌, ◌||◌, is_some, List, [], ◌∷◌, ◌++◌, length, map, slice_index_or, Option, Some, None}
+use Rattle.std.specs.Prelude.{◌≡◌, ℕ, ◌+◌, ◌<◌, ◌≤◌, Bool, true, false, not, nat_eq, ◌&&◌, ◌||◌, is_some, List, [], ◌∷◌, ◌++◌, length, map, slice_index_or, Option, Some, None}
 use Rattle.std.specs.List.{All, AllZip, Contains, count_by}
+use Rattle.std.specs.Cmp.Lexicographic.{pointwise}
 use Rattle.xd_doc.specs.Classes.{LabelClass, class_has}
 use Rattle.xd_auto.specs.declared.auto.State.{State}
 use Rattle.xd_auto.specs.declared.auto.LabelMove.{LabelMove}
@@ -59,6 +60,12 @@ pub record IsEither (a : Automaton) (one two : State) (made : StateMoves) : Type
   pub front : StateMoves
   pub first : AddsMoves [] [] (moves_at a one) (no_moves ((moves_at a one).last || (moves_at a two).last)) front
   pub second : AddsMoves [] [] (moves_at a two) front made
+
+-- one move, on an element with this label alone
+pub record IsAround (label : List ℕ) (content rest : State) (made : StateMoves) : Type 0 where
+  pub class : LabelClass
+  pub just : (l : List ℕ) → class_has class l ≡ pointwise nat_eq label l
+  pub is : made ≡ record { last = false; labels = record { class = class; content = content; rest = rest } ∷ []; texts = [] }
 
 abbrev pub HasCopy : List (Option State) → State → Type 0
 HasCopy copies s = (c : State) × (copy_of copies s ≡ Some c)

@@ -20,7 +20,7 @@ returns-clause-ok c = λ d.
     rw (c.deref.ensures.value, c.deref-2.ensures.value, c.deref-3.ensures.value) at c.in_ok-made.ensures in
     rw (c.in_ok-extend.ensures.ok, c.len-number.ensures.value)
     (copy_accepts c.args.other.now c.args.self.now c.args.state c.in_ok-reach.reach.order.items c.in_ok-reach.reach.copies.items c.in_ok-made.made.items reached so d c.args.state (state_at (length c.args.self.now))
-    (start_copy c.args.other.now c.args.self.now c.args.state c.in_ok-reach.reach.order.items c.in_ok-reach.reach.copies.items c.in_ok-made.made.items reached so))
+    (start_copy c.args.other.now true c.args.state (length c.args.self.now) c.in_ok-reach.reach.order.items c.in_ok-reach.reach.copies.items reached))
 
 pub returns-clause-belongs : goal.returns-clause-belongs
 returns-clause-belongs c =
