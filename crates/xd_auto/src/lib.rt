@@ -4,6 +4,8 @@
 mod auto;
 mod marks;
 mod membership;
+#[cfg(test)]
+mod tests;
 
 pub use auto::{Auto, LabelMove, State, trim};
 pub use membership::{Scratch, member};

@@ -110,12 +110,7 @@ fn either(alloc: Global, auto: &Auto, one: State, two: State) -> Result<Moves, N
 }
 
 /// One move, on an element with this label.
-fn around(
-    alloc: Global,
-    label: &Label,
-    content: State,
-    rest: State,
-) -> Result<Moves, NoMemory>
+fn around(alloc: Global, label: &Label, content: State, rest: State) -> Result<Moves, NoMemory>
     ensures { IfOk result (IsAround label.now content rest) }
 {
     let mut names = Vec::new(alloc);
