@@ -1,5 +1,5 @@
 -- States that accept what one state accepts, followed by what another accepts.
-use Rattle.std.proofs.Common.{ℕ, ◌≡◌, ◌⊎◌, ◌+◌, ◌<◌, Bool, true, false, ◌&&◌, ◌||◌, List, [], ◌++◌, length, get_or, Option, Some, None, arith, refl, sym, ap, subst, ◌∙◌, inl, inr, length-append}
+use Rattle.std.proofs.Common.{ℕ, ◌≡◌, ◌⊎◌, ◌+◌, ◌<◌, Bool, true, false, ◌&&◌, ◌||◌, List, [], ◌++◌, length, get_or, Option, Some, arith, refl, sym, ap, subst, ◌∙◌, inl, inr}
 use Rattle.std.proofs.Math.Bool.{or-false}
 use Rattle.std.specs.List.{All, list_any}
 use Rattle.xd_doc.specs.Document.{Document, empty, text, element, join}

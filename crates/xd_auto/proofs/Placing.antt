@@ -1,13 +1,12 @@
 -- Finding states and placing their copies.
-use Rattle.std.proofs.Common.{ℕ, zero, suc, ◌≡◌, ◌≢◌, ◌⊎◌, ◌+◌, ◌<◌, ◌≤◌, Bool, true, false, not, cond, List, [], ◌∷◌, ◌++◌, length, get_or, set, Option, Some, None, is_some, arith, refl, sym, subst, ap, ◌∙◌, inl, inr, get_or-set_other, get_or-set_same}
+use Rattle.std.proofs.Common.{ℕ, ◌≡◌, ◌≢◌, ◌⊎◌, ◌+◌, ◌<◌, ◌≤◌, true, false, not, cond, List, [], ◌∷◌, ◌++◌, length, get_or, set, Option, Some, None, is_some, arith, refl, sym, subst, ap, ◌∙◌, inl, inr, get_or-set_other, get_or-set_same}
 use Rattle.std.proofs.Math.ListN.{length-set}
-use Rattle.std.specs.List.{All}
 use Rattle.std.proofs.lemmas.Bool.{cases_eq, cases_lt}
 use Rattle.std.proofs.lemmas.List.{get_or_append_left, get_or_at, length_push}
 use Rattle.std.proofs.lemmas.List.Elements.{All-push, All-weaker}
 use Rattle.std.proofs.lemmas.List.Sums.{sum_by-set}
 use Rattle.xd_auto.specs.declared.auto.State.{State}
-use Rattle.xd_auto.specs.Copying.{ArePlaced, Finds, FindsMore, HasCopy, copy_of, uncopied}
+use Rattle.xd_auto.specs.Copying.{ArePlaced, FindsMore, HasCopy, copy_of, uncopied}
 
 abbrev pub state_at : ℕ → State
 state_at n = record { number = n }

@@ -1,4 +1,4 @@
-use Rattle.std.proofs.Common.{rules, ◌≡◌, ◌+◌, ◌<◌, true, None, length, length-append, arith, refl}
+use Rattle.std.proofs.Common.{true, None, length, length-append, arith}
 use Rattle.xd_auto.specs.Copying.{AreStateCopies, Reached}
 use Rattle.xd_auto.proofs.Operating.{copies_below, copy_accepts, copies_reached, made_length, start_copy}
 use Rattle.xd_auto.proofs.Placing.{state_at}

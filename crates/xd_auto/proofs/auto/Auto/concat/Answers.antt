@@ -1,4 +1,4 @@
-use Rattle.std.proofs.Common.{◌≡◌, ◌+◌, ◌<◌, [], false, Some, length, length-append, arith, refl}
+use Rattle.std.proofs.Common.{[], false, Some, length, length-append, arith}
 use Rattle.xd_auto.specs.Copying.{AreStateCopies, Reached}
 use Rattle.xd_auto.proofs.Joining.{concat_law, joined_below, joined_length}
 use Rattle.xd_auto.proofs.auto.Auto.concat.Goals as goal

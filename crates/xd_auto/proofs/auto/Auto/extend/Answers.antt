@@ -1,4 +1,3 @@
-use Rattle.std.proofs.Common.{rules}
 use Rattle.xd_auto.proofs.Closed.{IsClosed-append}
 use Rattle.xd_auto.proofs.Extending.{keeps, Extends-append}
 use Rattle.xd_auto.proofs.auto.Auto.extend.Goals as goal

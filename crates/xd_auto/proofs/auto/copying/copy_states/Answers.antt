@@ -1,6 +1,3 @@
-use Rattle.std.proofs.Common.{rules, get_or, ◌≡◌}
-use Rattle.std.proofs.lemmas.List.{get_or_default}
-use Rattle.xd_auto.specs.declared.auto.State.{State}
 use Rattle.xd_auto.specs.Copying.{IsStateCopy}
 use Rattle.xd_auto.proofs.Copies.{zip_more}
 use Rattle.xd_auto.proofs.auto.copying.copy_states.Goals as goal

@@ -1,4 +1,4 @@
-use Rattle.std.proofs.Common.{rules, ℕ, ◌≡◌, ◌<◌, ◌⊎◌, Bool, true, List, length, take, vec_len, arith, inl, inr, ap, ◌∙◌, sym}
+use Rattle.std.proofs.Common.{rules, ℕ, ◌≡◌, ◌<◌, ◌⊎◌, Bool, true, List, length, vec_len, arith, inl, inr, ap, ◌∙◌}
 use Rattle.std.proofs.lemmas.List.{take_all}
 use Rattle.xd_auto.proofs.auto.copying.share_class.Goals as goal
 

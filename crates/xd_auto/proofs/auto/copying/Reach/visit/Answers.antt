@@ -1,6 +1,6 @@
-use Rattle.std.proofs.Common.{rules, ◌≡◌, ◌∙◌, sym, refl, length, Option, None}
+use Rattle.std.proofs.Common.{rules, ◌≡◌, ◌∙◌, sym, refl, length, None}
 use Rattle.std.proofs.lemmas.List.{get_or_read}
-use Rattle.xd_auto.specs.Copying.{HasCopy, copy_of}
+use Rattle.xd_auto.specs.Copying.{copy_of}
 use Rattle.xd_auto.proofs.Placing.{placed_visit, finds_visit, has_visit, steps_visit, none_from, some_from, FindsMore-same}
 use Rattle.xd_auto.proofs.auto.copying.Reach.visit.Goals as goal
 

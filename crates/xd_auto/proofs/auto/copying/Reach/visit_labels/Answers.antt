@@ -1,8 +1,7 @@
-use Rattle.std.proofs.Common.{rules, ◌≡◌, ◌∙◌, sym, subst, length, take, List, true}
+use Rattle.std.proofs.Common.{◌≡◌, ◌∙◌, sym, subst, take, true}
 use Rattle.std.specs.List.{All, Contains}
 use Rattle.std.proofs.lemmas.List.{take_all}
 use Rattle.std.proofs.lemmas.List.Elements.{All-more, All-weaker}
-use Rattle.xd_auto.specs.declared.auto.State.{State}
 use Rattle.xd_auto.specs.declared.auto.LabelMove.{LabelMove}
 use Rattle.xd_auto.specs.Copying.{HasCopy, IsTarget, is_content, is_rest}
 use Rattle.xd_auto.proofs.Placing.{FindsMore-trans, FindsMore-weaker}
