@@ -3,12 +3,10 @@ use Rattle.std.proofs.Common.{ℕ, ◌+◌, ◌<◌, ◌≤◌, ◌≡◌, Bool,
 use Rattle.std.proofs.Math.ListN.{length-set}
 use Rattle.std.specs.List.{All}
 use Rattle.std.proofs.lemmas.List.Elements.{All-weaker, All-append, All-push, All-set, All-get_or, All-nil, All-cons}
+use Rattle.xd_auto.specs.Copying.{LabelBelow}
 use Rattle.xd_auto.specs.declared.auto.State.{State}
 use Rattle.xd_auto.specs.declared.auto.LabelMove.{LabelMove}
 use Rattle.xd_auto.specs.Automaton.{Automaton, StateMoves, IsState, LeadsBelow, IsClosed, no_moves, moves_at, with_moves}
-
-abbrev pub LabelBelow : ℕ → LabelMove → Type 0
-LabelBelow n m = (m.content.number < n) × (m.rest.number < n)
 
 pub LeadsBelow-more : (n m : ℕ) (moves : StateMoves) → n ≤ m → LeadsBelow n moves → LeadsBelow m moves
 LeadsBelow-more n m moves le h = record {

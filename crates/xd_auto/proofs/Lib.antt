@@ -2,3 +2,12 @@ pub mod Closed
 pub mod Extending
 pub mod Anys
 pub mod RunLaw
+pub mod Bits
+pub mod Walking
+pub mod Walks
+pub mod Copies
+pub mod Placing
+pub mod Following
+pub mod Operating
+pub mod Wrapping
+pub mod Joining

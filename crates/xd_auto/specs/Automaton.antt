@@ -1,7 +1,7 @@
 -- Tree automata over documents: states with moves, and which documents a state accepts.
-use Rattle.std.specs.Prelude.{◌≡◌, ℕ, ◌<◌, Bool, false, ◌&&◌, List, [], ◌∷◌, ◌++◌, length, slice_index_or, slice_set}
+use Rattle.std.specs.Prelude.{◌≡◌, ℕ, ◌<◌, Bool, true, false, ◌&&◌, List, [], ◌∷◌, ◌++◌, length, slice_index_or, slice_set}
 use Rattle.std.specs.List.{All, list_any}
-use Rattle.xd_doc.specs.Document.{Document, empty, text, element}
+use Rattle.xd_doc.specs.Document.{Document, empty, text, element, join}
 use Rattle.xd_doc.specs.Classes.{class_has}
 use Rattle.xd_auto.specs.declared.auto.State.{State}
 use Rattle.xd_auto.specs.declared.auto.LabelMove.{LabelMove}
@@ -65,3 +65,17 @@ with_label_move a s move = with_moves a s (record (moves_at a s) { labels = (mov
 
 abbrev pub with_text_move : Automaton → State → State → Automaton
 with_text_move a s rest = with_moves a s (record (moves_at a s) { texts = (moves_at a s).texts ++ rest ∷ [] })
+
+-- the document is one element with the label, whose content the state accepts
+pub record IsWrapped (a : Automaton) (label : List ℕ) (content : State) (d : Document) : Type 0 where
+  pub inside : Document
+  pub is : d ≡ element label inside empty
+  pub accepted : accepts a inside content ≡ true
+
+-- the document is one that the first state accepts, followed by one that the second accepts
+pub record IsJoined (a : Automaton) (one two : State) (d : Document) : Type 0 where
+  pub front : Document
+  pub back : Document
+  pub is : d ≡ join front back
+  pub front_accepted : accepts a front one ≡ true
+  pub back_accepted : accepts a back two ≡ true

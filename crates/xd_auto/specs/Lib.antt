@@ -1,2 +1,5 @@
 pub mod Automaton
 pub mod Runs
+pub mod Marks
+pub mod Membership
+pub mod Copying

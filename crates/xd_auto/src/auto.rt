@@ -1,9 +1,14 @@
 //! Automata: states with moves.
 
-ghost use Rattle.std.specs.Prelude.{◌≡◌, ◌<◌, ◌++◌, ◌∷◌, [], length, IfOk, OnOk, OnErr};
+ghost use Rattle.std.specs.Prelude.{◌≡◌, ◌+◌, ◌<◌, ◌++◌, ◌∷◌, [], length, IfOk, OnOk, OnErr};
+ghost use Rattle.std.specs.List.{All};
 ghost use Rattle.xd_auto.specs.Automaton.{Extends, IsClosed, IsState, KeepsAccepting, LeadsBelow, moves_at, no_moves, state_number, with_label_move, with_moves, with_text_move};
 ghost use Rattle.xd_auto.specs.Runs.{AcceptsByRuns};
 
+mod copying;
+mod operations;
+
+pub use operations::trim;
 use std::alloc::Global;
 use std::marker::Model;
 use xd_doc::{Class, NoMemory};
@@ -53,6 +58,19 @@ impl Model for Auto {
     ghost view = { λ a. a.states.items };
 
     ghost invariant = { λ a. IsClosed a.states.items };
+}
+
+impl Moves {
+    /// No moves.
+    fn new(alloc: Global, last: bool) -> Self
+        ensures { result ≡ no_moves last }
+    {
+        Self {
+            last,
+            labels: Vec::new(alloc),
+            texts: Vec::new(alloc),
+        }
+    }
 }
 
 impl State {
@@ -141,8 +159,22 @@ impl Auto {
         ensures keeps { KeepsAccepting self.old self.new }
     {
         let number = self.states.len();
-        push_state(&mut self.states, last)?;
+        let moves = Moves::new(*self.states.allocator(), last);
+        self.states.push(moves)?;
         Ok(State { number })
+    }
+
+    /// Adds states with their moves.
+    fn extend(&mut self, made: Vec<Moves>) -> Result<(), NoMemory>
+        requires { All (LeadsBelow (length self.old + length made.items)) made.items }
+        ensures ok { OnOk result (self.new ≡ self.old ++ made.items) }
+        ensures err { OnErr result (self.new ≡ self.old) }
+        ensures extends { Extends self.old self.new }
+        ensures keeps { KeepsAccepting self.old self.new }
+    {
+        let mut made = made;
+        self.states.append(&mut made)?;
+        Ok(())
     }
 
     /// One more move of the state on an element.
@@ -178,19 +210,6 @@ impl Auto {
         push_text(&mut self.states, from.number, rest)?;
         Ok(())
     }
-}
-
-fn push_state(states: &mut Vec<Moves>, last: bool) -> Result<(), NoMemory>
-    ensures ok { OnOk result (states.new.items ≡ states.old.items ++ no_moves last ∷ []) }
-    ensures err { OnErr result (states.new.items ≡ states.old.items) }
-{
-    let alloc = *states.allocator();
-    states.push(Moves {
-        last,
-        labels: Vec::new(alloc),
-        texts: Vec::new(alloc),
-    })?;
-    Ok(())
 }
 
 fn push_label(states: &mut Vec<Moves>, at: usize, step: LabelMove) -> Result<(), NoMemory>

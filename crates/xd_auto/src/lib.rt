@@ -2,5 +2,10 @@
 #![tactic(auto)]
 
 mod auto;
+mod marks;
+mod membership;
+#[cfg(test)]
+mod tests;
 
-pub use auto::{Auto, LabelMove, State};
+pub use auto::{Auto, LabelMove, State, trim};
+pub use membership::{Scratch, member};

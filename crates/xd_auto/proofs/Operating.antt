@@ -1,0 +1,184 @@
+-- What states accept that were made of others.
+use Rattle.std.proofs.Common.{ℕ, zero, suc, ◌≡◌, ◌+◌, ◌-◌, ◌<◌, ◌≤◌, Bool, true, false, ◌||◌, List, [], ◌∷◌, ◌++◌, length, get_or, map, Option, Some, None, arith, refl, sym, ap, subst, ◌∙◌, length-append}
+use Rattle.std.proofs.lemmas.List.{get_or_default, get_or-append-add, length-map, get_or-map}
+use Rattle.std.specs.List.{All, AllZip, list_any}
+use Rattle.std.proofs.lemmas.List.Elements.{All-head, All-tail, All-cons, All-nil, All-append, All-map}
+use Rattle.xd_doc.specs.Document.{Document, empty, text, element}
+use Rattle.xd_auto.specs.declared.auto.State.{State}
+use Rattle.xd_auto.specs.declared.auto.LabelMove.{LabelMove}
+use Rattle.xd_auto.specs.Automaton.{Automaton, StateMoves, IsState, IsClosed, LeadsBelow, Extends, KeepsAccepting, accepts, moves_at, no_moves}
+use Rattle.xd_auto.specs.Copying.{AddsMoves, AreCopied, AreStateCopies, HasCopy, IsCopy, IsEither, IsReached, IsStateCopy, is_content, is_rest, LabelBelow, LeadsTo, by_element, by_text, here, further, Reached, copy_of, moved}
+use Rattle.xd_auto.specs.Membership.{takes_element}
+use Rattle.xd_auto.proofs.Closed.{moves_at-closed, LeadsBelow-more, no_moves-below}
+use Rattle.xd_auto.proofs.Extending.{list_any-agree}
+use Rattle.xd_auto.proofs.Copies.{adds_text, adds_element}
+use Rattle.xd_auto.proofs.Placing.{state_at}
+
+pub zip_all : {X Y : Type 0} (R : X → Y → Type 0) (P : X → Type 0) (Q : Y → Type 0) → ((x : X) (y : Y) → P x → R x y → Q y) → (xs : List X) (ys : List Y) → AllZip R xs ys → All P xs → All Q ys
+zip_all R P Q f [] [] h all = All-nil Q
+zip_all R P Q f [] (v ∷ ys) h all = absurd h
+zip_all R P Q f (u ∷ xs) [] h all = absurd h
+zip_all R P Q f (u ∷ xs) (v ∷ ys) h all = All-cons Q v ys (f u v (All-head P u xs all) h.0) (zip_all R P Q f xs ys h.1 (All-tail P u xs all))
+
+-- moves lead below n where the old ones do, and the copies of what the copied ones lead to
+pub adds_below : (n : ℕ) (contents rests : List (Option State)) (moves old new : StateMoves) → LeadsBelow n old
+    → All (λ (m : LabelMove). ((moved contents m.content).number < n) × ((moved rests m.rest).number < n)) moves.labels
+    → All (λ (r : State). (moved rests r).number < n) moves.texts → AddsMoves contents rests moves old new → LeadsBelow n new
+adds_below n contents rests moves old new below labels texts h = record {
+  labels = rw h.labels.behind (All-append (LabelBelow n) old.labels h.labels.more below.labels
+      (zip_all (IsCopy contents rests) (λ (m : LabelMove). ((moved contents m.content).number < n) × ((moved rests m.rest).number < n)) (LabelBelow n)
+      (λ m k p copy. rw (copy.content, copy.rest) p) moves.labels h.labels.more h.labels.copies labels));
+  texts = rw h.texts (All-append (λ (r : State). r.number < n) old.texts (map (moved rests) moves.texts) below.texts
+      (All-map (λ (r : State). r.number < n) (moved rests) moves.texts texts));
+}
+
+-- moves that stay lead where they led
+pub stays_below : (a : Automaton) (n : ℕ) (s : State) (old new : StateMoves) → IsClosed a → IsState a s → length a ≤ n → LeadsBelow n old → AddsMoves [] [] (moves_at a s) old new → LeadsBelow n new
+stays_below a n s old new closed is le below h =
+    let own = LeadsBelow-more (length a) n (moves_at a s) le (moves_at-closed a s closed is) in
+    adds_below n [] [] (moves_at a s) old new below own.labels own.texts h
+
+pub either_below : (a : Automaton) (n : ℕ) (one two : State) (made : StateMoves) → IsClosed a → IsState a one → IsState a two → length a ≤ n → IsEither a one two made → LeadsBelow n made
+either_below a n one two made closed is_one is_two le h =
+    stays_below a n two h.front made closed is_two le
+    (stays_below a n one _ h.front closed is_one le (no_moves-below n ((moves_at a one).last || (moves_at a two).last)) h.first) h.second
+
+module _ (a b : Automaton) (more : Extends a b) (keep : KeepsAccepting a b) where
+  -- an old state's moves accept what the state did
+  pub old_text : (s : State) (t : List ℕ) (r : Document) → IsState a s → list_any (λ q. accepts b r q) (moves_at a s).texts ≡ accepts a (text t r) s
+  old_text s t r is = ap (λ (m : StateMoves). list_any (λ q. accepts b r q) m.texts) (sym (more.moves s is)) ∙ keep (text t r) s is
+
+  pub old_element : (s : State) (l : List ℕ) (c r : Document) → IsState a s → list_any (takes_element b l c r) (moves_at a s).labels ≡ accepts a (element l c r) s
+  old_element s l c r is = ap (λ (m : StateMoves). list_any (takes_element b l c r) m.labels) (sym (more.moves s is)) ∙ keep (element l c r) s is
+
+  -- a new state with the moves of two old ones
+  pub either_accepts : (one two u : State) → IsState a one → IsState a two → IsEither a one two (moves_at b u) → (d : Document) → accepts b d u ≡ (accepts a d one || accepts a d two)
+  either_accepts one two u is_one is_two h empty = h.second.last ∙ h.first.last
+  either_accepts one two u is_one is_two h (text t r) =
+      adds_text [] [] (moves_at a two) h.front (moves_at b u) (λ q. accepts b r q) h.second
+      ∙ ap (λ w. w || list_any (λ q. accepts b r q) (moves_at a two).texts)
+      (adds_text [] [] (moves_at a one) (no_moves ((moves_at a one).last || (moves_at a two).last)) h.front (λ q. accepts b r q) h.first ∙ old_text one t r is_one)
+      ∙ ap (λ w. accepts a (text t r) one || w) (old_text two t r is_two)
+  either_accepts one two u is_one is_two h (element l c r) =
+      adds_element b [] [] (moves_at a two) h.front (moves_at b u) (λ m. Unit {0}) (takes_element b l c r) l c r (λ m p. refl) (λ k d lt. tt) h.second
+      ∙ ap (λ w. w || list_any (takes_element b l c r) (moves_at a two).labels)
+      (adds_element b [] [] (moves_at a one) (no_moves ((moves_at a one).last || (moves_at a two).last)) h.front (λ m. Unit {0}) (takes_element b l c r) l c r (λ m p. refl) (λ k d lt. tt) h.first
+      ∙ old_element one l c r is_one)
+      ∙ ap (λ w. accepts a (element l c r) one || w) (old_element two l c r is_two)
+
+-- the state behind an automaton
+pub moves_behind : (a more : Automaton) (i : ℕ) (d : StateMoves) → i < length more → moves_at (a ++ more) (state_at (length a + i)) ≡ get_or more i (no_moves false)
+moves_behind a more i d lt = get_or-append-add a more i (no_moves false)
+
+pub zip_at : {X Y : Type 0} (R : X → Y → Type 0) (xs : List X) (ys : List Y) (i : ℕ) (d : X) (e : Y) → AllZip R xs ys → i < length xs → R (get_or xs i d) (get_or ys i e) × (i < length ys)
+zip_at R [] ys i d e h lt = absurd (omega arith)
+zip_at R (u ∷ xs) [] i d e h lt = absurd h
+zip_at R (u ∷ xs) (v ∷ ys) zero d e h lt = (h.0, omega arith)
+zip_at R (u ∷ xs) (v ∷ ys) (suc i) d e h lt = let r = zip_at R xs ys i d e h.1 (omega arith) in (r.0, omega (arith, r.1))
+
+pub zip_length : {X Y : Type 0} (R : X → Y → Type 0) (xs : List X) (ys : List Y) → AllZip R xs ys → length ys ≡ length xs
+zip_length R [] [] h = refl
+zip_length R [] (v ∷ ys) h = absurd h
+zip_length R (u ∷ xs) [] h = absurd h
+zip_length R (u ∷ xs) (v ∷ ys) h = ap suc (zip_length R xs ys h.1)
+
+pub moved_is : (copies : List (Option State)) (s c : State) → copy_of copies s ≡ Some c → moved copies s ≡ c
+moved_is copies s c is = rw is refl
+
+module _ (a : Automaton) (contents : Bool) (start : State) (base : ℕ) (order : List State) (copies : List (Option State)) (reached : Reached a contents start base order copies) where
+  pub copy_below : (n : ℕ) → n ≡ length order → (s : State) → HasCopy copies s → (moved copies s).number < base + n
+  copy_below n all s h =
+      let l = reached.placed.listed s h.0 h.1 in
+      let is : (moved copies s).number ≡ base + l.0 = ap (λ (w : State). w.number) (moved_is copies s h.0 h.1 ∙ l.3) in
+      omega (arith, l.1)
+
+  pub start_copy : copy_of copies start ≡ Some (state_at base)
+  start_copy =
+      let p = reached.placed.placed 0 start reached.some in
+      let e : base + 0 ≡ base = omega arith in
+      ap (λ (w : State). copy_of copies w) (sym (reached.head start)) ∙ p ∙ ap (λ n. Some (state_at n)) e
+
+-- states that were copied with all that they lead to
+module _ (a old : Automaton) (start : State) (order : List State) (copies : List (Option State)) (made : List StateMoves)
+    (reached : Reached a true start (length old) order copies) (made_so : AreStateCopies a copies copies None order made) where
+  abbrev pub both : Automaton
+  both = old ++ made
+
+  -- the copy of a state, and the copies of what it leads to
+  record Copied (s c : State) : Type 0 where
+    moves : AddsMoves copies copies (moves_at a s) (no_moves (moves_at a s).last) (moves_at both c)
+    targets : AreCopied true copies (moves_at a s)
+
+  copied : (s c : State) → copy_of copies s ≡ Some c → Copied s c
+  copied s c is =
+      let l = reached.placed.listed s c is in
+      let z = zip_at (IsStateCopy a copies copies None) order made l.0 s (no_moves false) made_so l.1 in
+      let at : moves_at both c ≡ get_or made l.0 (no_moves false) = ap (λ (w : State). moves_at both w) l.3 ∙ moves_behind old made l.0 (no_moves false) z.1 in
+      record {
+        moves = subst (λ (m : StateMoves). AddsMoves copies copies (moves_at a s) (no_moves (moves_at a s).last) m) (sym at) (rw l.2 at z.0);
+        targets = rw l.2 at (reached.closed l.0 s l.1);
+      }
+
+  pub copy_accepts : (d : Document) (s c : State) → copy_of copies s ≡ Some c → accepts both d c ≡ accepts a d s
+  copy_accepts empty s c is = (copied s c is).moves.last
+  copy_accepts (text t r) s c is =
+      let k = copied s c is in
+      adds_text copies copies (moves_at a s) (no_moves (moves_at a s).last) (moves_at both c) (λ q. accepts both r q) k.moves
+      ∙ list_any-agree (λ q. accepts both r (moved copies q)) (λ q. accepts a r q) (moves_at a s).texts
+      (λ i d lt. let h = k.targets.text_copies i d lt in
+      ap (λ (w : State). accepts both r w) (moved_is copies (get_or (moves_at a s).texts i d) h.0 h.1) ∙ copy_accepts r (get_or (moves_at a s).texts i d) h.0 h.1)
+  copy_accepts (element l x r) s c is =
+      let k = copied s c is in
+      adds_element both copies copies (moves_at a s) (no_moves (moves_at a s).last) (moves_at both c)
+      (λ (m : LabelMove). HasCopy copies m.content × HasCopy copies m.rest) (takes_element a l x r) l x r
+      (λ m h. rw (moved_is copies m.content h.0.0 h.0.1, moved_is copies m.rest h.1.0 h.1.1, copy_accepts x m.content h.0.0 h.0.1, copy_accepts r m.rest h.1.0 h.1.1) refl)
+      (λ i d lt. (k.targets.content_copies refl i d lt, k.targets.rest_copies i d lt)) k.moves
+
+  pub made_length : length made ≡ length order
+  made_length = zip_length (IsStateCopy a copies copies None) order made made_so
+
+  pub copies_below : All (LeadsBelow (length old + length made)) made
+  copies_below i d lt =
+      let in_order : i < length order = omega (arith, made_length) in
+      let z = zip_at (IsStateCopy a copies copies None) order made i (state_at 0) d made_so in_order in
+      let t = reached.closed i (state_at 0) in_order in
+      adds_below (length old + length made) copies copies (moves_at a (get_or order i (state_at 0))) (no_moves (moves_at a (get_or order i (state_at 0))).last) (get_or made i d) (no_moves-below _ _)
+      (λ k e below. (copy_below a true start (length old) order copies reached (length made) made_length (get_or (moves_at a (get_or order i (state_at 0))).labels k e).content (t.content_copies refl k e below), copy_below a true start (length old) order copies reached (length made) made_length (get_or (moves_at a (get_or order i (state_at 0))).labels k e).rest (t.rest_copies k e below)))
+      (λ k e below. copy_below a true start (length old) order copies reached (length made) made_length (get_or (moves_at a (get_or order i (state_at 0))).texts k e) (t.text_copies k e below)) z.0
+
+  -- a move to a state leads, at the copies, to its copy
+  leads_copied : (s t c e : State) → copy_of copies s ≡ Some c → copy_of copies t ≡ Some e → LeadsTo a s t → LeadsTo both c e
+  leads_copied s t c e is is_t (by_text among) =
+      let k = copied s c is in
+      let xs = (moves_at a s).texts in
+      let at : get_or (map (moved copies) xs) among.0 e ≡ e = get_or-map (moved copies) xs among.0 t e among.1 ∙ ap (moved copies) among.2 ∙ moved_is copies t e is_t in
+      by_text (rw k.moves.texts (among.0, omega (arith, among.1, length-map xs (moved copies)), at))
+  leads_copied s t c e is is_t (by_element (is_content m on among to)) =
+      let k = copied s c is in
+      let z = zip_at (IsCopy copies copies) (moves_at a s).labels k.moves.labels.more among.0 m m k.moves.labels.copies among.1 in
+      let copy : IsCopy copies copies m (get_or k.moves.labels.more among.0 m) = rw among.2 at z.0 in
+      by_element (is_content (get_or k.moves.labels.more among.0 m) refl (rw k.moves.labels.behind (among.0, z.1, get_or_default k.moves.labels.more among.0 (get_or k.moves.labels.more among.0 m) m z.1))
+      (copy.content ∙ ap (moved copies) to ∙ moved_is copies t e is_t))
+  leads_copied s t c e is is_t (by_element (is_rest m among to)) =
+      let k = copied s c is in
+      let z = zip_at (IsCopy copies copies) (moves_at a s).labels k.moves.labels.more among.0 m m k.moves.labels.copies among.1 in
+      let copy : IsCopy copies copies m (get_or k.moves.labels.more among.0 m) = rw among.2 at z.0 in
+      by_element (is_rest (get_or k.moves.labels.more among.0 m) (rw k.moves.labels.behind (among.0, z.1, get_or_default k.moves.labels.more among.0 (get_or k.moves.labels.more among.0 m) m z.1))
+      (copy.rest ∙ ap (moved copies) to ∙ moved_is copies t e is_t))
+
+  -- each copy is reached from the first one
+  reached_below : (n i : ℕ) → i < n → i < length order → IsReached both (state_at (length old)) (state_at (length old + i))
+  reached_below zero i lt below = absurd (omega arith)
+  reached_below (suc n) zero lt below = let e : length old + 0 ≡ length old = omega arith in rw e here
+  reached_below (suc n) (suc i) lt below =
+      let p = reached.parents (suc i) start (omega arith) below in
+      let k_in : p.0 < length order = omega (arith, p.1) in
+      further (state_at (length old + p.0)) (state_at (length old + suc i)) (reached_below n p.0 (omega (arith, p.1)) k_in)
+      (leads_copied (get_or order p.0 start) (get_or order (suc i) start) (state_at (length old + p.0)) (state_at (length old + suc i))
+      (reached.placed.placed p.0 start k_in) (reached.placed.placed (suc i) start below) p.2)
+
+  pub copies_reached : (s : State) → IsState both s → length old ≤ s.number → IsReached both (state_at (length old)) s
+  copies_reached s is above =
+      let below : s.number - length old < length order = omega (arith, made_length, length-append old made) in
+      let e : length old + (s.number - length old) ≡ s.number = omega arith in
+      subst (λ n. IsReached both (state_at (length old)) (state_at n)) e (reached_below (length order) (s.number - length old) below below)

@@ -1,0 +1,19 @@
+use Rattle.std.proofs.Common.{◌≡◌, ◌+◌, [], ◌∷◌, true, false, length, arith, refl, sym, subst}
+use Rattle.std.proofs.lemmas.List.{get_or_at}
+use Rattle.xd_auto.specs.Automaton.{StateMoves, moves_at, no_moves}
+use Rattle.xd_auto.specs.Copying.{IsAround}
+use Rattle.xd_auto.proofs.Operating.{moves_behind}
+use Rattle.xd_auto.proofs.Placing.{state_at}
+use Rattle.xd_auto.proofs.Wrapping.{wrap_law}
+use Rattle.xd_auto.proofs.auto.Auto.wrap.Goals as goal
+
+pub returns-clause-ok : goal.returns-clause-ok
+returns-clause-ok c =
+    let at : moves_at c.extend.new.self (state_at c.len-number.result) ≡ c.in_ok-around.field-0 =
+    rw (c.in_ok-extend.ensures.ok, c.in_ok-push-2.ensures.items, c.in_ok-push.ensures.items, c.new-made.ensures.items, c.len-number.ensures.value)
+    (get_or_at c.args.self.now c.in_ok-around.field-0 (c.new.result ∷ []) (no_moves false) (length c.args.self.now) refl) in
+    let end : moves_at c.extend.new.self (state_at (c.len-number.result + 1)) ≡ no_moves true =
+    rw (c.in_ok-extend.ensures.ok, c.in_ok-push-2.ensures.items, c.in_ok-push.ensures.items, c.new-made.ensures.items, c.len-number.ensures.value, c.new.ensures)
+    (moves_behind c.args.self.now (c.in_ok-around.field-0 ∷ no_moves true ∷ []) 1 (no_moves false) (omega arith)) in
+    wrap_law c.args.self.now c.extend.new.self c.in_ok-extend.ensures.keeps c.args.label.now c.args.content (state_at c.len-number.result) (state_at (c.len-number.result + 1)) c.requires
+    (subst (λ (m : StateMoves). IsAround c.args.label.now c.args.content (state_at (c.len-number.result + 1)) m) (sym at) c.in_ok-around.ensures) end

@@ -1,0 +1,139 @@
+//! Operations that make states for sets of documents.
+
+ghost use Rattle.std.specs.Prelude.{◌≡◌, ◌↔◌, ◌≤◌, ◌||◌, true, length, IfOk};
+ghost use Rattle.xd_doc.specs.Document.{Document};
+ghost use Rattle.xd_auto.specs.Automaton.{Extends, IsJoined, IsState, IsWrapped, KeepsAccepting, accepts, state_number};
+ghost use Rattle.xd_auto.specs.Copying.{IsAround, IsEither, IsReached};
+
+use super::copying::{add_moves, copy_states, reach_from};
+use super::{Auto, LabelMove, Moves, State};
+use std::alloc::Global;
+use xd_doc::{Class, Label, NoMemory};
+
+impl Auto {
+    /// A state that accepts what either of two states accepts.
+    ///
+    /// It adds one state, which has copies of their moves.
+    pub fn union(&mut self, one: State, two: State) -> Result<State, NoMemory>
+        requires one { IsState self.old one }
+        requires two { IsState self.old two }
+        ensures ok { IfOk result (λ made. (d : Document) → accepts self.new d made ≡ (accepts self.old d one || accepts self.old d two)) }
+        ensures belongs { IfOk result (IsState self.new) }
+        ensures extends { Extends self.old self.new }
+        ensures keeps { KeepsAccepting self.old self.new }
+    {
+        let number = self.len();
+        let alloc = *self.states.allocator();
+        let mut made = Vec::new(alloc);
+        made.push(either(alloc, self, one, two)?)?;
+        self.extend(made)?;
+        Ok(State { number })
+    }
+
+    /// A state that accepts what one state accepts, followed by what the other accepts.
+    ///
+    /// It adds copies of the states that the first leads to for what follows. Where a copied state
+    /// accepts the empty document, its copy has the moves of the second state too.
+    pub fn concat(&mut self, one: State, two: State) -> Result<State, NoMemory>
+        requires one { IsState self.old one }
+        requires two { IsState self.old two }
+        ensures ok { IfOk result (λ made. (d : Document) → (accepts self.new d made ≡ true) ↔ IsJoined self.old one two d) }
+        ensures belongs { IfOk result (IsState self.new) }
+        ensures extends { Extends self.old self.new }
+        ensures keeps { KeepsAccepting self.old self.new }
+    {
+        let number = self.len();
+        let alloc = *self.states.allocator();
+        let reach = reach_from(alloc, self, one, number, false)?;
+        let made = copy_states(alloc, self, &reach.order, &[], &reach.copies, Some(two))?;
+        self.extend(made)?;
+        Ok(State { number })
+    }
+
+    /// A state that accepts one element with this label, whose content the given state accepts.
+    ///
+    /// It adds two states.
+    pub fn wrap(&mut self, label: &Label, content: State) -> Result<State, NoMemory>
+        requires { IsState self.old content }
+        ensures ok { IfOk result (λ made. (d : Document) → (accepts self.new d made ≡ true) ↔ IsWrapped self.old label.now content d) }
+        ensures belongs { IfOk result (IsState self.new) }
+        ensures extends { Extends self.old self.new }
+        ensures keeps { KeepsAccepting self.old self.new }
+    {
+        let number = self.len();
+        let alloc = *self.states.allocator();
+        let end = State { number: number + 1 };
+        let mut made = Vec::new(alloc);
+        made.push(around(alloc, label, content, end)?)?;
+        made.push(Moves::new(alloc, true))?;
+        self.extend(made)?;
+        Ok(State { number })
+    }
+
+    /// Copies a state of another automaton, which accepts the same.
+    ///
+    /// Only the states that it leads to are copied with it.
+    pub fn absorb(&mut self, other: &Auto, state: State) -> Result<State, NoMemory>
+        requires { IsState other.now state }
+        ensures ok { IfOk result (λ made. (d : Document) → accepts self.new d made ≡ accepts other.now d state) }
+        ensures belongs { IfOk result (IsState self.new) }
+        ensures copies { IfOk result (λ made. (s : State) → IsState self.new s → length self.old ≤ state_number s → IsReached self.new made s) }
+        ensures extends { Extends self.old self.new }
+        ensures keeps { KeepsAccepting self.old self.new }
+    {
+        let number = self.len();
+        let alloc = *self.states.allocator();
+        let reach = reach_from(alloc, other, state, number, true)?;
+        let made = copy_states(
+            alloc,
+            other,
+            &reach.order,
+            &reach.copies,
+            &reach.copies,
+            None,
+        )?;
+        self.extend(made)?;
+        Ok(State { number })
+    }
+}
+
+/// The moves of two states.
+fn either(alloc: Global, auto: &Auto, one: State, two: State) -> Result<Moves, NoMemory>
+    requires one { IsState auto.now one }
+    requires two { IsState auto.now two }
+    ensures { IfOk result (IsEither auto.now one two) }
+{
+    let mut made = Moves::new(alloc, auto.is_last(one) || auto.is_last(two));
+    add_moves(&mut made, auto, one, &[], &[])?;
+    add_moves(&mut made, auto, two, &[], &[])?;
+    Ok(made)
+}
+
+/// One move, on an element with this label.
+fn around(alloc: Global, label: &Label, content: State, rest: State) -> Result<Moves, NoMemory>
+    ensures { IfOk result (IsAround label.now content rest) }
+{
+    let mut names = Vec::new(alloc);
+    names.push(label.share()?)?;
+    let class = Class::new(alloc, names, false)?;
+    let mut made = Moves::new(alloc, false);
+    made.labels.push(LabelMove {
+        class,
+        content,
+        rest,
+    })?;
+    Ok(made)
+}
+
+/// The part of an automaton that a state leads to: an automaton with the states that are reached
+/// from the answer's state alone, which accepts the same.
+pub fn trim(alloc: Global, auto: &Auto, state: State) -> Result<(Auto, State), NoMemory>
+    requires { IsState auto.now state }
+    ensures ok { IfOk result (λ made. (d : Document) → accepts made.0 d made.1 ≡ accepts auto.now d state) }
+    ensures belongs { IfOk result (λ made. IsState made.0 made.1) }
+    ensures reached { IfOk result (λ made. (s : State) → IsState made.0 s → IsReached made.0 made.1 s) }
+{
+    let mut made = Auto::new(alloc);
+    let start = made.absorb(auto, state)?;
+    Ok((made, start))
+}
