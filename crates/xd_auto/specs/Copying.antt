@@ -1,4 +1,4 @@
--- Copies of states: which states are reached, where their copies stand, and what the copies' moves are.
+-- Which states are reached from another; and how states are copied, of which only private contracts speak.
 use Rattle.std.specs.Prelude.{◌≡◌, ℕ, ◌+◌, ◌<◌, ◌≤◌, Bool, true, false, not, nat_eq, ◌&&◌, ◌||◌, is_some, List, [], ◌∷◌, ◌++◌, length, map, slice_index_or, Option, Some, None}
 use Rattle.std.specs.List.{All, AllZip, Contains, count_by}
 use Rattle.std.specs.Cmp.Lexicographic.{pointwise}

@@ -1,4 +1,4 @@
--- Rows of marks, one mark for each state, packed into words of 64 bits.
+-- Rows of marks, one mark for each state, packed into words of 64 bits. Only private contracts speak of them.
 use Rattle.std.specs.Prelude.{◌≡◌, ◌≢◌, ℕ, zero, suc, ◌+◌, ◌*◌, ◌/◌, ◌%◌, Bool, cond, List, nat_eq, slice_index_or}
 use Rattle.std.specs.Int.{bit_at}
 

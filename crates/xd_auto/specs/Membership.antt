@@ -1,4 +1,5 @@
--- How it is found out whether a state accepts a document: pairs of a node and a state that were asked for, their answers, and a stack of those that wait.
+-- The room of a scratch; and how it is found out whether a state accepts a document: pairs of a node and a state that
+-- were asked for, their answers, and a stack of those that wait. Of all but the room only private contracts speak.
 use Rattle.std.specs.Prelude.{◌≡◌, ℕ, ◌+◌, ◌*◌, ◌<◌, ◌≤◌, Bool, true, false, ◌&&◌, List, length, take, nat_eq, slice_index_or}
 use Rattle.std.specs.List.{AllPairs, list_any}
 use Rattle.xd_doc.specs.Document.{Document, empty, text, element}
