@@ -1,4 +1,4 @@
--- Documents: lists of items, where an item is a text, or an element with a label and a content.
+-- What a document is: items one after the other, each a text or a labelled element around another document.
 use Rattle.std.specs.Prelude.{◌≡◌, ℕ, ◌+◌, Bool, true, false, ◌&&◌, nat_eq, List, [], ◌∷◌, ◌++◌, cond, zero, suc}
 use Rattle.std.proofs.Common.{refl, ap, ◌∙◌}
 use Rattle.std.specs.Coded.{Coded, code_by, coded×, coded_ℕ, coded_list}
@@ -78,7 +78,8 @@ canonical_text empty = 40 ∷ 41 ∷ []
 canonical_text (text s r) = items_text (text s r)
 canonical_text (element l c r) = items_text (element l c r)
 
--- A code: the items in postfix order, after which each content and rest stands on a stack.
+-- By what follows the prover tells one document from another, since a model must be data that has a code: a
+-- document is written as its items in postfix order, and read back with a stack. No contract cites it.
 abbrev pub written : Document → List (ℕ × List ℕ) → List (ℕ × List ℕ)
 written empty ts = (0, []) ∷ ts
 written (text s r) ts = written r ((1, s) ∷ ts)

@@ -185,7 +185,7 @@ no_token_there b bs n kinds.End t r s l e = absurd (omega (arith, ap length s))
 no_token_there b bs n (kinds.Broken f) t r s l e = absurd (omega (arith, ap length s))
 
 strange_stands : (b : ℕ) (bs : List ℕ) → Strange b bs → BeginsNothing (b ∷ bs)
-strange_stands b bs n = record { no_blank = n.blank_no; no_quote = differs b 34 n.quote_no; no_token = no_token_there b bs n }
+strange_stands b bs n = record { some = omega arith; no_blank = n.blank_no; no_quote = differs b 34 n.quote_no; no_token = no_token_there b bs n }
 
 -- behind the `(*`
 comment_stands : (b c : ℕ) (bs : List ℕ) (r : Option ℕ) → b ≡ 40 → c ≡ 42 → IfEnd 0 r bs → (r ≡ None → HasNoEnd (0 ∷ bs)) → Stands (of_comment r) (b ∷ c ∷ bs)

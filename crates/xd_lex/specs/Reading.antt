@@ -34,8 +34,9 @@ EndsBefore kind rest = Unit {0}
 abbrev pub HasBadEscape : List ℕ → Type 0
 HasBadEscape bytes = (pieces : List ℕ) × (c : ℕ) × (rest : List ℕ) × (are_pieces false pieces ≡ true) × (is_escape c ≡ false) × (bytes ≡ (34 ∷ pieces) ++ 92 ∷ c ∷ rest)
 
--- no gap and no token begins these bytes, nor a quoted text
+-- there is a byte, and no gap, token or quoted text begins with it
 pub record BeginsNothing (bytes : List ℕ) : Type 0 where
+  pub some : 0 < length bytes
   pub no_blank : is_blank (slice_index bytes 0) ≡ false
   pub no_quote : slice_index bytes 0 ≢ 34
   pub no_token : (kind : Kind) (text rest : List ℕ) → IsSpelling kind text → 0 < length text → bytes ≡ text ++ rest → ⊥

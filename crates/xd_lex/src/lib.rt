@@ -16,7 +16,7 @@ pub use lexer::{LexError, Lexer, NotUtf8, Token, tokens};
 pub enum LexFault {
     /// A character begins no token, or a text has a `\` before a character that makes no escape.
     BadCharacter,
-    /// A text isn't closed.
+    /// A text isn't closed, and has no such `\`.
     OpenText,
     /// A comment isn't closed.
     OpenComment,

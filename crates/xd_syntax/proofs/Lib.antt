@@ -1,0 +1,23 @@
+pub mod Trees
+pub mod PlacedTrees
+pub mod FitsLaws
+pub mod ExprTrees
+pub mod Documents
+pub mod Members
+pub mod Pigeon
+pub mod Bare
+pub mod Within
+pub mod WaysFit
+pub mod FitsWays
+pub mod Unfoldings
+pub mod HeadsLaw
+pub mod SoundGuarded
+pub mod FitsBound
+pub mod HeadsMore
+pub mod Fuel
+pub mod TheLaws
+pub mod KeptLaws
+pub mod NamedLaws
+mod Samples
+pub mod SameClass
+pub mod AdoptLaws

@@ -1,0 +1,13 @@
+use Rattle.std.proofs.Common.{sym, subst}
+use Rattle.xd_syntax.specs.Expression.{ExprCanFollow}
+use Rattle.xd_syntax.specs.Exprs.{shape_of}
+use Rattle.xd_syntax.proofs.ExprTrees.{ExprsAreBuilt-push, expression_new}
+use Rattle.xd_syntax.proofs.exprs.Exprs.add.Goals as goal
+
+pub invariant_of-self-2 : goal.invariant_of-self-2
+invariant_of-self-2 c = rw c.in_ok-push.ensures.items
+    (ExprsAreBuilt-push c.self.inside.nodes.items _ c.self.invariant (subst (λ rs. ExprCanFollow rs (shape_of c.args.form)) (sym c.self.view_is) c.requires))
+
+pub returns-clause-expression : goal.returns-clause-expression
+returns-clause-expression c patterns =
+    rw (c.in_ok-push.ensures.items, c.len-at.ensures, ← c.self.view_is) (expression_new patterns c.self.inside.nodes.items _)

@@ -1,0 +1,18 @@
+use Rattle.std.proofs.Common.{◌≡◌, ◌<◌, length, get_or, sym, subst, ap, ◌∙◌, take}
+use Rattle.xd_syntax.specs.Expression.{ExprRow, ExprCanFollow, ExprPartsBelow, expression_at, shape_expression}
+use Rattle.xd_syntax.specs.Placed.{placed_at}
+use Rattle.xd_syntax.proofs.ExprTrees.{expression_is, follows_at, parts_at}
+use Rattle.xd_syntax.proofs.exprs.Exprs.node.Goals as goal
+
+pub returns : goal.returns
+returns c =
+    rw (← c.self.view_is)
+    (let l : c.args.id.at < length c.self.inside.nodes.items = rw c.self.view_is c.requires in
+    let e : get_or c.self.inside.nodes.items c.args.id.at c.index.result.now ≡ c.index.result.now = sym c.index.ensures in
+    record {
+      expression = λ patterns. expression_is patterns c.self.inside.nodes.items c.args.id.at c.index.result.now c.self.invariant l
+          ∙ ap (λ (r : ExprRow). shape_expression (placed_at patterns) (expression_at patterns c.self.inside.nodes.items) r.place r.form) e;
+      parts = subst (λ (r : ExprRow). ExprPartsBelow c.args.id.at r.form) e (parts_at c.self.inside.nodes.items c.args.id.at c.index.result.now c.self.invariant l);
+      merged = subst (λ (r : ExprRow). ExprCanFollow (take c.args.id.at c.self.inside.nodes.items) r.form) e
+          (follows_at c.self.inside.nodes.items c.args.id.at c.index.result.now c.self.invariant l);
+    })

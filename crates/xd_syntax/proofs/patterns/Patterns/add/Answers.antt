@@ -1,0 +1,18 @@
+use Rattle.std.proofs.Common.{true, sym, subst}
+use Rattle.xd_syntax.specs.Table.{CanFollow}
+use Rattle.xd_syntax.specs.Patterns.{form_of_pattern}
+use Rattle.xd_syntax.proofs.Trees.{AreBuilt-push, tree_new}
+use Rattle.xd_syntax.proofs.PlacedTrees.{placed_new}
+use Rattle.xd_syntax.proofs.patterns.Patterns.add.Goals as goal
+
+pub invariant_of-self-2 : goal.invariant_of-self-2
+invariant_of-self-2 c = rw c.in_ok-push.ensures.items
+    (AreBuilt-push true c.self.inside.nodes.items _ c.self.invariant (subst (λ rs. CanFollow true rs (form_of_pattern c.args.form)) (sym c.self.view_is) c.requires))
+
+pub returns-clause-tree : goal.returns-clause-tree
+returns-clause-tree c =
+    rw (c.in_ok-push.ensures.items, c.len-at.ensures, ← c.self.view_is) (tree_new c.self.inside.nodes.items _)
+
+pub returns-clause-placed : goal.returns-clause-placed
+returns-clause-placed c =
+    rw (c.in_ok-push.ensures.items, c.len-at.ensures, ← c.self.view_is) (placed_new c.self.inside.nodes.items _)

@@ -1,0 +1,12 @@
+use Rattle.std.proofs.Common.{◌≡◌, List, sym, subst}
+use Rattle.xd_syntax.specs.Table.{Row}
+use Rattle.xd_syntax.specs.Kept.{ProgramTable, program_tree}
+use Rattle.xd_syntax.proofs.KeptLaws.{program_tree-grown}
+use Rattle.xd_syntax.proofs.program.Program.add_type.Goals as goal
+
+pub returns-clause-same : goal.returns-clause-same
+returns-clause-same c =
+    rw (← c.self.view_is)
+    (let p : ProgramTable = record { types = c.self.inside.types; patterns = c.self.inside.patterns; exprs = c.self.inside.exprs; type_defs = c.self.inside.type_defs.items; functions = c.self.inside.functions.items } in
+    subst (λ (ts : List Row). program_tree (record p { types = ts }) ≡ program_tree p) (sym c.add.ensures.keeps.grown)
+    (program_tree-grown p c.add.ensures.keeps.more c.self.invariant))

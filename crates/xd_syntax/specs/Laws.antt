@@ -1,0 +1,46 @@
+-- Laws of the definitions.
+use Rattle.std.specs.Prelude.{◌≡◌, ℕ, ◌+◌, ◌≤◌, ◌↔◌, true, length}
+use Rattle.xd_doc.specs.Document.{Document, empty, has_item}
+use Rattle.xd_syntax.specs.Tree.{Tree, Definitions, bare}
+use Rattle.xd_syntax.specs.Fits.{Fits, FitsWithin}
+use Rattle.xd_syntax.specs.Ways.{Among, ways, ways_within, unfoldings, Takes}
+use Rattle.xd_syntax.specs.Heads.{Head, heads, heads_within, can_be_empty, Begins}
+use Rattle.xd_syntax.specs.Program.{ProgramTree, names_of}
+use Rattle.xd_syntax.specs.RecursionFaults.{IsSound}
+use Rattle.xd_syntax.specs.Meaning.{Done, meaning}
+
+-- a pattern takes a document exactly where the document fits the pattern with its binders dropped
+abbrev pub PatternsAreTypes : Type 0
+PatternsAreTypes = (P : ProgramTree) → IsSound P → (A : Tree) (d : Document) → Takes (names_of P) A d ↔ Fits (names_of P) (bare A) d
+
+-- more unfoldings give the same list of ways
+abbrev pub WaysSettle : Type 0
+WaysSettle = (P : ProgramTree) → IsSound P → (A : Tree) (d : Document) (n : ℕ) → unfoldings (names_of P) d ≤ n →
+    ways_within (names_of P) n A d ≡ ways (names_of P) A d
+
+-- what fits, fits within as many unfoldings, or more
+abbrev pub FitsSettles : Type 0
+FitsSettles = (P : ProgramTree) → IsSound P → (T : Tree) (d : Document) (n : ℕ) → unfoldings (names_of P) d ≤ n →
+    Fits (names_of P) T d ↔ FitsWithin (names_of P) n T d
+
+-- within any number of unfoldings, and within some, is the same as to fit, sound or not
+abbrev pub FitsIsWithinSome : Type 0
+FitsIsWithinSome = (E : Definitions) (T : Tree) (d : Document) → Fits E T d ↔ ((n : ℕ) × FitsWithin E n T d)
+
+-- a document with an item fits a type exactly where it begins as one of the type's heads
+abbrev pub HeadsDecide : Type 0
+HeadsDecide = (P : ProgramTree) → IsSound P → (T : Tree) (d : Document) → has_item d ≡ true →
+    Fits (names_of P) T d ↔ ((h : Head) × Among h (heads (names_of P) T) × Begins (names_of P) h d)
+
+-- the empty document fits a type exactly where the type can be empty
+abbrev pub EmptyDecides : Type 0
+EmptyDecides = (P : ProgramTree) → IsSound P → (T : Tree) → (can_be_empty (names_of P) T ≡ true) ↔ Fits (names_of P) T empty
+
+-- the list of heads is done: more unfoldings give the same one
+abbrev pub HeadsSettle : Type 0
+HeadsSettle = (P : ProgramTree) → IsSound P → (T : Tree) (n : ℕ) → length (names_of P) ≤ n →
+    heads_within (names_of P) n T ≡ heads (names_of P) T
+
+-- what is done with some calls is done with one more, and that one is left
+abbrev pub FuelIsLeft : Type 0
+FuelIsLeft = (P : ProgramTree) (n : ℕ) (d v : Document) (m : ℕ) → meaning P n d ≡ Done v m → meaning P (n + 1) d ≡ Done v (m + 1)

@@ -1,0 +1,136 @@
+-- Faults of names, of the number of arguments, and of variables that are not linear.
+use Rattle.std.specs.Prelude.{ℕ, ◌+◌, Bool, true, false, not, cond, ◌||◌, ◌&&◌, List, [], ◌∷◌, ◌++◌, map, flat_map, length, nat_eq, Option, Some, None}
+use Rattle.std.specs.List.{filter}
+use Rattle.xd_base.specs.declared.Place.{Place}
+use Rattle.xd_syntax.specs.Words.{has_word, any_word, string_word}
+use Rattle.xd_syntax.specs.Placed.{PlacedTree, Empty_at, Text_at, Name_at, Elem_at, Seq_at, Alt_at, Star_at, Plus_at, Opt_at, Val_at, variables}
+use Rattle.xd_syntax.specs.Expression.{Expression, Nothing, Quoted, Variable, Tagged, Joined, Called, Matched, Arguments, no_argument, argument, Clauses, no_clause, clause}
+use Rattle.xd_syntax.specs.Program.{TypeDefinition, Parameter, FunctionDefinition, ProgramTree, function_of}
+use Rattle.xd_syntax.specs.Order.{in_order}
+use Rattle.xd_syntax.specs.declared.fault.Fault.{Fault}
+use Rattle.xd_syntax.specs.declared.fault.FaultKind.{FaultKind}
+use Rattle.xd_syntax.specs.declared.fault.FaultKind.TheVariants.{DuplicateName, UnknownType, UnknownFunction, UnknownVariable, Arity, NotLinear}
+
+abbrev pub fault_at : Place → FaultKind → Fault
+fault_at p kind = record { place = Some p; kind = kind }
+
+-- a fault where the test holds
+abbrev pub fault_if : Bool → Place → FaultKind → List Fault
+fault_if b p kind = cond b (fault_at p kind ∷ []) []
+
+-- a word and its place
+pub record Spot : Type 0 where
+  pub word : List ℕ
+  pub place : Place
+
+-- Each word that was seen before has a fault.
+abbrev pub duplicates : List (List ℕ) → List Spot → List Fault
+duplicates seen [] = []
+duplicates seen (s ∷ ss) = fault_if (has_word seen s.word) s.place (DuplicateName s.word) ++ duplicates (s.word ∷ seen) ss
+
+-- the names of parameters, those of one function at a time
+abbrev pub parameter_spots : List Parameter → List Spot
+parameter_spots ps = map (λ (p : Parameter). let s : Spot = record { word = p.name; place = p.place } in s) ps
+
+-- Names of types, of functions and of parameters are separate. `String` and `Any` count as seen among types.
+abbrev pub duplicate_names : ProgramTree → List Fault
+duplicate_names p =
+    duplicates (string_word ∷ (any_word ∷ [])) (map (λ (t : TypeDefinition). let s : Spot = record { word = t.name; place = t.place } in s) p.types)
+    ++ duplicates [] (map (λ (f : FunctionDefinition). let s : Spot = record { word = f.name; place = f.place } in s) p.functions)
+    ++ flat_map (λ (f : FunctionDefinition). duplicates [] (parameter_spots f.parameters)) p.functions
+
+-- the names of types that are defined
+abbrev pub known_types : ProgramTree → List (List ℕ)
+known_types p = any_word ∷ map (λ (t : TypeDefinition). t.name) p.types
+
+-- uses of names of types that are not among these
+abbrev pub unknown_types : List (List ℕ) → PlacedTree → List Fault
+unknown_types known (Empty_at p) = []
+unknown_types known (Text_at p) = []
+unknown_types known (Name_at p x) = fault_if (not (has_word known x)) p (UnknownType x)
+unknown_types known (Elem_at p c T) = unknown_types known T
+unknown_types known (Seq_at p T U) = unknown_types known T ++ unknown_types known U
+unknown_types known (Alt_at p T U) = unknown_types known T ++ unknown_types known U
+unknown_types known (Star_at p T) = unknown_types known T
+unknown_types known (Plus_at p T) = unknown_types known T
+unknown_types known (Opt_at p T) = unknown_types known T
+unknown_types known (Val_at p x q T) = unknown_types known T
+
+-- a variable is in every branch of an alternative
+abbrev pub in_each_branch : List ℕ → PlacedTree → Bool
+in_each_branch x (Alt_at p T U) = has_word (variables T) x && in_each_branch x U
+in_each_branch x T = has_word (variables T) x
+
+-- the variables of an alternative that some branch lacks
+abbrev pub lacking_somewhere : PlacedTree → List (List ℕ)
+lacking_somewhere A = filter (λ x. not (in_each_branch x A)) (variables A)
+
+-- the words that are not among the first
+abbrev pub without : List (List ℕ) → List (List ℕ) → List (List ℕ)
+without gone xs = filter (λ x. not (has_word gone x)) xs
+
+-- Occurrences of variables that are not linear. `repeated`: a repetition or an option stands around. `earlier`: the
+-- variables that occurred before and not in another branch of an alternative around both. `partial`: the variables whose
+-- first occurrence in an alternative around comes now or later, and that a branch of that alternative lacks.
+-- `inner`: an alternative is the rest of the one around it.
+abbrev pub not_linear : (repeated : Bool) (earlier partial : List (List ℕ)) (inner : Bool) → PlacedTree → List Fault
+not_linear r earlier partial inner (Empty_at p) = []
+not_linear r earlier partial inner (Text_at p) = []
+not_linear r earlier partial inner (Name_at p x) = []
+not_linear r earlier partial inner (Elem_at p c T) = not_linear r earlier partial false T
+not_linear r earlier partial inner (Seq_at p T U) =
+    not_linear r earlier partial false T ++ not_linear r (variables T ++ earlier) (without (variables T) partial) false U
+not_linear r earlier partial inner (Alt_at p T U) =
+    let lacked : List (List ℕ) = cond inner partial (lacking_somewhere (Alt_at p T U) ++ partial) in
+    not_linear r earlier lacked false T ++ not_linear r earlier (without (variables T) lacked) true U
+not_linear r earlier partial inner (Star_at p T) = not_linear true earlier partial false T
+not_linear r earlier partial inner (Plus_at p T) = not_linear true earlier partial false T
+not_linear r earlier partial inner (Opt_at p T) = not_linear true earlier partial false T
+not_linear r earlier partial inner (Val_at p x q T) =
+    fault_if (r || (has_word earlier x || has_word partial x)) q (NotLinear x)
+    ++ not_linear r (x ∷ earlier) (without (x ∷ []) partial) false T
+
+abbrev pub pattern_faults : List (List ℕ) → PlacedTree → List Fault
+pattern_faults known P = unknown_types known P ++ not_linear false [] [] false P
+
+abbrev pub argument_count : Arguments → ℕ
+argument_count no_argument = 0
+argument_count (argument e es) = argument_count es + 1
+
+-- a call of no function, or with another number of arguments than the first function of the name wants
+abbrev pub call_faults : Option FunctionDefinition → Place → List ℕ → ℕ → List Fault
+call_faults None p f given = fault_at p (UnknownFunction f) ∷ []
+call_faults (Some g) p f given = fault_if (not (nat_eq given (length g.parameters))) p (Arity f given (length g.parameters))
+
+-- the faults of an expression, where these variables are in scope
+abbrev mutual
+  pub expression_faults : ProgramTree → List (List ℕ) → Expression → List Fault
+  expression_faults P scope (Nothing p) = []
+  expression_faults P scope (Quoted p s) = []
+  expression_faults P scope (Variable p x) = fault_if (not (has_word scope x)) p (UnknownVariable x)
+  expression_faults P scope (Tagged p l e) = expression_faults P scope e
+  expression_faults P scope (Joined p e f) = expression_faults P scope e ++ expression_faults P scope f
+  expression_faults P scope (Called p f es) = call_faults (function_of P.functions f) p f (argument_count es) ++ argument_faults P scope es
+  expression_faults P scope (Matched p e cs) = expression_faults P scope e ++ clause_faults P scope cs
+
+  pub argument_faults : ProgramTree → List (List ℕ) → Arguments → List Fault
+  argument_faults P scope no_argument = []
+  argument_faults P scope (argument e es) = expression_faults P scope e ++ argument_faults P scope es
+
+  pub clause_faults : ProgramTree → List (List ℕ) → Clauses → List Fault
+  clause_faults P scope no_clause = []
+  clause_faults P scope (clause A e cs) =
+      pattern_faults (known_types P) A ++ expression_faults P (variables A ++ scope) e ++ clause_faults P scope cs
+
+abbrev pub function_faults : ProgramTree → FunctionDefinition → List Fault
+function_faults P f =
+    flat_map (λ (q : Parameter). unknown_types (known_types P) q.declared) f.parameters
+    ++ unknown_types (known_types P) f.declared
+    ++ expression_faults P (map (λ (q : Parameter). q.name) f.parameters) f.body
+
+-- all faults of names, arity and linearity, in order
+abbrev pub name_faults : ProgramTree → List Fault
+name_faults P =
+    in_order (duplicate_names P
+    ++ flat_map (λ (t : TypeDefinition). unknown_types (known_types P) t.body) P.types
+    ++ flat_map (function_faults P) P.functions)

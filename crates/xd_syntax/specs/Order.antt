@@ -1,0 +1,54 @@
+-- Faults in order of place, then of number.
+use Rattle.std.specs.Prelude.{ℕ, Bool, true, false, cond, ◌||◌, ◌&&◌, nat_lt, nat_eq, List, [], ◌∷◌, Option, Some, None}
+use Rattle.xd_base.specs.declared.Place.{Place}
+use Rattle.xd_syntax.specs.declared.fault.Fault.{Fault}
+use Rattle.xd_syntax.specs.declared.fault.FaultKind.{FaultKind}
+use Rattle.xd_syntax.specs.declared.fault.FaultKind.TheVariants.{NotUtf8, Syntax, TooDeep, DuplicateName, UnknownType, UnknownFunction, UnknownVariable, Arity, NotLinear, NotTail, Unguarded, NotExhaustive, Argument, Result, NoSuchName, NoMain}
+
+-- an earlier line, or the same line and an earlier column
+abbrev pub is_earlier : Place → Place → Bool
+is_earlier p q = nat_lt p.line q.line || (nat_eq p.line q.line && nat_lt p.column q.column)
+
+abbrev pub is_same_place : Place → Place → Bool
+is_same_place p q = nat_eq p.line q.line && nat_eq p.column q.column
+
+abbrev pub number_of : FaultKind → ℕ
+number_of NotUtf8 = 1
+number_of Syntax = 2
+number_of TooDeep = 3
+number_of (DuplicateName w) = 4
+number_of (UnknownType w) = 5
+number_of (UnknownFunction w) = 6
+number_of (UnknownVariable w) = 7
+number_of (Arity w given wanted) = 8
+number_of (NotLinear w) = 9
+number_of (NotTail w) = 10
+number_of (Unguarded w) = 11
+number_of (NotExhaustive d) = 12
+number_of (Argument d) = 13
+number_of (Result d) = 14
+number_of (NoSuchName s) = 15
+number_of NoMain = 16
+
+-- a fault without a place stands before all others
+abbrev pub comes_before : Option Place → ℕ → Option Place → ℕ → Bool
+comes_before None m None n = nat_lt m n
+comes_before None m (Some q) n = true
+comes_before (Some p) m None n = false
+comes_before (Some p) m (Some q) n = is_earlier p q || (is_same_place p q && nat_lt m n)
+
+abbrev pub precedes : Fault → Fault → Bool
+precedes f g = comes_before f.place (number_of f.kind) g.place (number_of g.kind)
+
+-- a fault among faults in order, in front of those that it precedes and behind the others
+abbrev pub put_in : Fault → List Fault → List Fault
+put_in f [] = f ∷ []
+put_in f (g ∷ gs) = cond (precedes f g) (f ∷ (g ∷ gs)) (g ∷ put_in f gs)
+
+abbrev pub in_order_after : List Fault → List Fault → List Fault
+in_order_after done [] = done
+in_order_after done (f ∷ fs) = in_order_after (put_in f done) fs
+
+-- the faults in order of place, then of number
+abbrev pub in_order : List Fault → List Fault
+in_order fs = in_order_after [] fs

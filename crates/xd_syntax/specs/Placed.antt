@@ -1,0 +1,96 @@
+-- Types and patterns with the place of each node.
+use Rattle.std.specs.Prelude.{ℕ, List, [], ◌∷◌, ◌++◌, map, get_or}
+use Rattle.xd_base.specs.declared.Place.{Place}
+use Rattle.xd_doc.specs.Classes.{LabelClass}
+use Rattle.xd_syntax.specs.Tree.{Tree, Empty, Text, Name, Elem, Seq, Alt, Star, Plus, Opt, Val}
+use Rattle.xd_syntax.specs.Table.{Form, empty_form, text_form, name_form, elem_form, seq_form, alt_form, star_form, plus_form, opt_form, val_form, Row}
+
+-- Each node has its place first. A variable has the place of its word besides.
+pub data PlacedTree : Type 0 where
+  Empty_at : Place → PlacedTree
+  Text_at : Place → PlacedTree
+  Name_at : Place → (word : List ℕ) → PlacedTree
+  Elem_at : Place → (class : LabelClass) (content : PlacedTree) → PlacedTree
+  Seq_at : Place → (first rest : PlacedTree) → PlacedTree
+  Alt_at : Place → (first rest : PlacedTree) → PlacedTree
+  Star_at : Place → (part : PlacedTree) → PlacedTree
+  Plus_at : Place → (part : PlacedTree) → PlacedTree
+  Opt_at : Place → (part : PlacedTree) → PlacedTree
+  Val_at : Place → (variable : List ℕ) (word : Place) (part : PlacedTree) → PlacedTree
+
+-- the place of the node
+abbrev pub place_of : PlacedTree → Place
+place_of (Empty_at p) = p
+place_of (Text_at p) = p
+place_of (Name_at p x) = p
+place_of (Elem_at p c T) = p
+place_of (Seq_at p T U) = p
+place_of (Alt_at p T U) = p
+place_of (Star_at p T) = p
+place_of (Plus_at p T) = p
+place_of (Opt_at p T) = p
+place_of (Val_at p x q T) = p
+
+-- the tree, places aside
+abbrev pub unplaced : PlacedTree → Tree
+unplaced (Empty_at p) = Empty
+unplaced (Text_at p) = Text
+unplaced (Name_at p x) = Name x
+unplaced (Elem_at p c T) = Elem c (unplaced T)
+unplaced (Seq_at p T U) = Seq (unplaced T) (unplaced U)
+unplaced (Alt_at p T U) = Alt (unplaced T) (unplaced U)
+unplaced (Star_at p T) = Star (unplaced T)
+unplaced (Plus_at p T) = Plus (unplaced T)
+unplaced (Opt_at p T) = Opt (unplaced T)
+unplaced (Val_at p x q T) = Val x (unplaced T)
+
+-- The node of a list of parts. What stands behind the first part has the place of the second.
+abbrev pub placed_seq : Place → List PlacedTree → PlacedTree
+placed_seq p [] = Empty_at p
+placed_seq p (t ∷ []) = t
+placed_seq p (t ∷ (u ∷ us)) = Seq_at p t (placed_seq (place_of u) (u ∷ us))
+
+abbrev pub placed_alt : Place → List PlacedTree → PlacedTree
+placed_alt p [] = Empty_at p
+placed_alt p (t ∷ []) = t
+placed_alt p (t ∷ (u ∷ us)) = Alt_at p t (placed_alt (place_of u) (u ∷ us))
+
+-- the tree of a row whose parts have these trees
+abbrev pub placed_form : (ℕ → PlacedTree) → Place → Form → PlacedTree
+placed_form t p empty_form = Empty_at p
+placed_form t p text_form = Text_at p
+placed_form t p (name_form w) = Name_at p w
+placed_form t p (elem_form c i) = Elem_at p c (t i)
+placed_form t p (seq_form is) = placed_seq p (map t is)
+placed_form t p (alt_form is) = placed_alt p (map t is)
+placed_form t p (star_form i) = Star_at p (t i)
+placed_form t p (plus_form i) = Plus_at p (t i)
+placed_form t p (opt_form i) = Opt_at p (t i)
+placed_form t p (val_form x q i) = Val_at p x q (t i)
+
+abbrev pub the_start : Place
+the_start = record { line = 1; column = 1 }
+
+abbrev pub placed_in : List PlacedTree → ℕ → PlacedTree
+placed_in ts i = get_or ts i (Empty_at the_start)
+
+abbrev pub placed_after : List PlacedTree → List Row → List PlacedTree
+placed_after ts [] = ts
+placed_after ts (r ∷ rs) = placed_after (ts ++ placed_form (placed_in ts) r.place r.form ∷ []) rs
+
+-- the tree of the node with this number, with places
+unfoldable pub placed_at : List Row → ℕ → PlacedTree
+placed_at rs i = placed_in (placed_after [] rs) i
+
+-- an occurrence of a variable is named by the variable; these are those of a pattern, in order
+abbrev pub variables : PlacedTree → List (List ℕ)
+variables (Empty_at p) = []
+variables (Text_at p) = []
+variables (Name_at p x) = []
+variables (Elem_at p c T) = variables T
+variables (Seq_at p T U) = variables T ++ variables U
+variables (Alt_at p T U) = variables T ++ variables U
+variables (Star_at p T) = variables T
+variables (Plus_at p T) = variables T
+variables (Opt_at p T) = variables T
+variables (Val_at p x q T) = x ∷ variables T

@@ -1,0 +1,75 @@
+-- Types and patterns as trees, places aside.
+use Rattle.std.specs.Prelude.{ℕ, Bool, true, false, cond, List, [], ◌∷◌, Option, Some, None}
+use Rattle.std.specs.Str.{bytes_eq}
+use Rattle.xd_doc.specs.Classes.{LabelClass}
+use Rattle.xd_syntax.specs.Words.{any_word}
+
+-- A type or a pattern. A sequence or an alternative of more than two parts leans to the right.
+-- `Text` is the type `String`; `Val` binds a variable, and stands in patterns alone.
+pub data Tree : Type 0 where
+  Empty : Tree
+  Text : Tree
+  Name : (word : List ℕ) → Tree
+  Elem : (class : LabelClass) (content : Tree) → Tree
+  Seq : (first : Tree) (rest : Tree) → Tree
+  Alt : (first : Tree) (rest : Tree) → Tree
+  Star : (part : Tree) → Tree
+  Plus : (part : Tree) → Tree
+  Opt : (part : Tree) → Tree
+  Val : (variable : List ℕ) (part : Tree) → Tree
+
+-- names and what they stand for; the first of a name counts
+abbrev pub Definitions : Type 0
+Definitions = List (List ℕ × Tree)
+
+abbrev pub body : Definitions → List ℕ → Option Tree
+body [] x = None
+body (p ∷ ps) x = cond (bytes_eq p.0 x) (Some p.1) (body ps x)
+
+-- all labels
+abbrev pub all_labels : LabelClass
+all_labels = record { names = []; except = true }
+
+-- `(~[Any]|String)*`
+abbrev pub any_type : Tree
+any_type = Star (Alt (Elem all_labels (Name any_word)) Text)
+
+-- definitions together with that of `Any`
+abbrev pub environment : Definitions → Definitions
+environment E = (any_word, any_type) ∷ E
+
+-- the binders dropped
+abbrev pub bare : Tree → Tree
+bare Empty = Empty
+bare Text = Text
+bare (Name x) = Name x
+bare (Elem c T) = Elem c (bare T)
+bare (Seq T U) = Seq (bare T) (bare U)
+bare (Alt T U) = Alt (bare T) (bare U)
+bare (Star T) = Star (bare T)
+bare (Plus T) = Plus (bare T)
+bare (Opt T) = Opt (bare T)
+bare (Val x T) = bare T
+
+-- the sequence and the alternative of a list of parts
+abbrev pub seq_of : List Tree → Tree
+seq_of [] = Empty
+seq_of (t ∷ []) = t
+seq_of (t ∷ (u ∷ us)) = Seq t (seq_of (u ∷ us))
+
+abbrev pub alt_of : List Tree → Tree
+alt_of [] = Empty
+alt_of (t ∷ []) = t
+alt_of (t ∷ (u ∷ us)) = Alt t (alt_of (u ∷ us))
+
+abbrev pub is_empty : Tree → Bool
+is_empty Empty = true
+is_empty _ = false
+
+abbrev pub is_seq : Tree → Bool
+is_seq (Seq T U) = true
+is_seq _ = false
+
+abbrev pub is_alt : Tree → Bool
+is_alt (Alt T U) = true
+is_alt _ = false

@@ -1,0 +1,127 @@
+//! Expressions: nodes in a table.
+
+ghost use Rattle.std.specs.Prelude.{◌≡◌, ◌++◌, ◌∷◌, [], List, length, take, IfOk, OnErr};
+ghost use Rattle.xd_syntax.specs.Table.{Row};
+ghost use Rattle.xd_syntax.specs.Placed.{placed_at};
+ghost use Rattle.xd_syntax.specs.Expression.{KeepsExprs, ExprCanFollow, ExprPartsBelow, expression_at, shape_expression};
+ghost use Rattle.xd_syntax.specs.Exprs.{IsExpr, shape_of, expression};
+
+use crate::patterns::PatternId;
+use std::alloc::Global;
+use std::marker::Model;
+use xd_base::Place;
+use xd_doc::{Label, NoMemory, Text};
+
+/// The number of an expression's node.
+#[derive(Clone, Copy)]
+pub struct ExprId {
+    at: usize,
+}
+
+/// A clause of a match.
+#[derive(Clone, Copy)]
+pub struct Clause {
+    pub pattern: PatternId,
+    pub body: ExprId,
+}
+
+/// What a node is. Its parts are older nodes.
+#[derive(Drop)]
+pub enum ExprForm {
+    Empty,
+    Text(Text),
+    Var(Label),
+    Elem(Label, ExprId),
+    Seq(Vec<ExprId>),
+    Call(Label, Vec<ExprId>),
+    Match(ExprId, Vec<Clause>),
+}
+
+/// A node, and the place of its first token.
+#[derive(Drop)]
+pub struct ExprNode {
+    place: Place,
+    form: ExprForm,
+}
+
+impl Model for ExprNode {
+    ghost use Rattle.xd_syntax.specs.Expression.{ExprRow};
+    ghost use Rattle.xd_syntax.specs.Exprs.{shape_of};
+
+    ghost Value = { ExprRow };
+
+    ghost view = { λ n. record { place = n.place; form = shape_of n.form } };
+}
+
+/// Nodes of expressions, the oldest first.
+#[derive(Drop)]
+pub struct Exprs {
+    nodes: Vec<ExprNode>,
+}
+
+impl Model for Exprs {
+    ghost use Rattle.std.specs.Prelude.{List};
+    ghost use Rattle.xd_syntax.specs.Expression.{ExprRow, ExprsAreBuilt};
+
+    ghost Value = { List ExprRow };
+
+    ghost view = { λ t. t.nodes.items };
+
+    ghost invariant = { λ t. ExprsAreBuilt t.nodes.items };
+}
+
+impl ExprNode {
+    pub fn place(&self) -> Place
+        ensures { result ≡ self.now.place }
+    {
+        self.place
+    }
+
+    pub fn form(&self) -> &ExprForm
+        ensures { shape_of result.now ≡ self.now.form }
+    {
+        &self.form
+    }
+}
+
+impl Exprs {
+    /// With no node.
+    pub fn new(alloc: Global) -> Self
+        ensures { result ≡ [] }
+    {
+        Self {
+            nodes: Vec::new(alloc),
+        }
+    }
+
+    /// The number of nodes.
+    pub fn len(&self) -> usize
+        ensures { result ≡ length self.now }
+    {
+        self.nodes.len()
+    }
+
+    /// One more node.
+    pub fn add(&mut self, place: Place, form: ExprForm) -> Result<ExprId, NoMemory>
+        requires { ExprCanFollow self.old (shape_of form) }
+        ensures expression { IfOk result (λ id. (patterns : List Row) → expression patterns self.new id ≡ shape_expression (placed_at patterns) (expression_at patterns self.old) place (shape_of form)) }
+        ensures belongs { IfOk result (IsExpr self.new) }
+        ensures grown { IfOk result (λ id. self.new ≡ self.old ++ record { place = place; form = shape_of form } ∷ []) }
+        ensures keeps { KeepsExprs self.old self.new }
+        ensures err { OnErr result (self.new ≡ self.old) }
+    {
+        let at = self.len();
+        self.nodes.push(ExprNode { place, form })?;
+        Ok(ExprId { at })
+    }
+
+    /// The node of an expression.
+    pub fn node(&self, id: ExprId) -> &ExprNode
+        requires { IsExpr self.now id }
+        ensures expression { (patterns : List Row) → expression patterns self.now id ≡ shape_expression (placed_at patterns) (expression_at patterns self.now) result.now.place result.now.form }
+        ensures parts { ExprPartsBelow id.at result.now.form }
+        ensures merged { ExprCanFollow (take id.at self.now) result.now.form }
+    {
+        &self.nodes[id.at]
+    }
+}

@@ -1,0 +1,40 @@
+//! Faults and warnings.
+
+use xd_base::Place;
+use xd_doc::{Label, Seq, Text};
+
+/// What is wrong with a program, or with the words of a command.
+///
+/// `Arity` has the arguments given and those wanted. The documents belong to a store that the fault is handed with.
+#[derive(Drop)]
+pub enum FaultKind {
+    NotUtf8,
+    Syntax,
+    TooDeep,
+    DuplicateName(Label),
+    UnknownType(Label),
+    UnknownFunction(Label),
+    UnknownVariable(Label),
+    Arity(Label, u64, u64),
+    NotLinear(Label),
+    NotTail(Label),
+    Unguarded(Label),
+    NotExhaustive(Seq),
+    Argument(Seq),
+    Result(Seq),
+    NoSuchName(Text),
+    NoMain,
+}
+
+/// A fault. It has no place where it speaks of a command's words.
+#[derive(Drop)]
+pub struct Fault {
+    pub place: Option<Place>,
+    pub kind: FaultKind,
+}
+
+/// A clause that is never reached, at the first token of its pattern.
+#[derive(Clone, Copy, Debug, PartialEq, Eq)]
+pub struct Warning {
+    pub place: Place,
+}

@@ -1,0 +1,20 @@
+//! The syntax of types, patterns and programs, and what they mean.
+#![tactic(auto)]
+
+mod adopt;
+mod exprs;
+mod fault;
+pub mod laws;
+mod patterns;
+mod program;
+mod sound;
+#[cfg(test)]
+mod tests;
+mod types;
+
+pub use exprs::{Clause, ExprForm, ExprId, ExprNode, Exprs};
+pub use fault::{Fault, FaultKind, Warning};
+pub use patterns::{PatternForm, PatternId, PatternNode, Patterns};
+pub use program::{Function, Param, Program};
+pub use sound::{Checked, SoundProgram};
+pub use types::{TypeDef, TypeForm, TypeId, TypeNode, Types};

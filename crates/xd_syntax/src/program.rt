@@ -1,0 +1,184 @@
+//! Programs: definitions of types and functions, over the nodes that they are made of.
+
+ghost use Rattle.std.specs.Prelude.{◌≡◌, ◌≤◌, false, length, IfOk, OnErr};
+ghost use Rattle.xd_syntax.specs.Table.{CanFollow, form_tree, tree_at};
+ghost use Rattle.xd_syntax.specs.Types.{form_of};
+ghost use Rattle.xd_syntax.specs.Kept.{ProgramTable, ProgramStands, AddsTypes, program_tree};
+ghost use Rattle.xd_syntax.specs.Sound.{IsTypeAt};
+
+use crate::exprs::{ExprId, Exprs};
+use crate::patterns::Patterns;
+use crate::types::{TypeDef, TypeForm, TypeId, Types};
+use std::marker::Model;
+use xd_base::Place;
+use xd_doc::{Label, NoMemory};
+
+/// A parameter: its name, the place of the name, and its declared type.
+#[derive(Drop)]
+pub struct Param {
+    pub name: Label,
+    pub place: Place,
+    pub body: TypeId,
+}
+
+/// A function. It has one or more parameters.
+#[derive(Drop)]
+pub struct Function {
+    name: Label,
+    place: Place,
+    params: Vec<Param>,
+    result: TypeId,
+    body: ExprId,
+}
+
+impl Model for Function {
+    ghost use Rattle.std.specs.Prelude.{◌≤◌, length};
+    ghost use Rattle.xd_syntax.specs.FunctionRow.{FunctionRow};
+
+    ghost Value = { FunctionRow };
+
+    ghost view = { λ f. record { name = f.name; place = f.place; params = f.params.items; declared = f.result; body = f.body } };
+
+    ghost invariant = { λ f. 1 ≤ length f.params.items };
+}
+
+/// A program as it was read.
+#[derive(Drop)]
+pub struct Program {
+    types: Types,
+    patterns: Patterns,
+    exprs: Exprs,
+    type_defs: Vec<TypeDef>,
+    functions: Vec<Function>,
+}
+
+impl Model for Program {
+    ghost use Rattle.xd_syntax.specs.Kept.{ProgramTable, ProgramStands};
+
+    ghost Value = { ProgramTable };
+
+    ghost view = { λ p. record { types = p.types; patterns = p.patterns; exprs = p.exprs; type_defs = p.type_defs.items; functions = p.functions.items } };
+
+    ghost invariant = { λ p. ProgramStands (record { types = p.types; patterns = p.patterns; exprs = p.exprs; type_defs = p.type_defs.items; functions = p.functions.items }) };
+}
+
+impl Function {
+    pub fn new(
+        name: Label,
+        place: Place,
+        params: Vec<Param>,
+        result_type: TypeId,
+        body: ExprId,
+    ) -> Self
+        requires { 1 ≤ length params.items }
+        ensures { result ≡ record { name = name; place = place; params = params.items; declared = result_type; body = body } }
+    {
+        Self {
+            name,
+            place,
+            params,
+            result: result_type,
+            body,
+        }
+    }
+
+    pub fn name(&self) -> &Label
+        ensures { result.now ≡ self.now.name }
+    {
+        &self.name
+    }
+
+    /// The place of the name.
+    pub fn place(&self) -> Place
+        ensures { result ≡ self.now.place }
+    {
+        self.place
+    }
+
+    pub fn params(&self) -> &[Param]
+        ensures params { result.now ≡ self.now.params }
+        ensures some { 1 ≤ length self.now.params }
+    {
+        self.params.as_slice()
+    }
+
+    /// The declared type of the result.
+    pub fn result_type(&self) -> TypeId
+        ensures { result ≡ self.now.declared }
+    {
+        self.result
+    }
+
+    pub fn body(&self) -> ExprId
+        ensures { result ≡ self.now.body }
+    {
+        self.body
+    }
+}
+
+impl Program {
+    pub fn new(
+        types: Types,
+        patterns: Patterns,
+        exprs: Exprs,
+        type_defs: Vec<TypeDef>,
+        functions: Vec<Function>,
+    ) -> Self
+        requires { ProgramStands (record { types = types; patterns = patterns; exprs = exprs; type_defs = type_defs.items; functions = functions.items }) }
+        ensures { result ≡ record { types = types; patterns = patterns; exprs = exprs; type_defs = type_defs.items; functions = functions.items } }
+    {
+        Self {
+            types,
+            patterns,
+            exprs,
+            type_defs,
+            functions,
+        }
+    }
+
+    pub fn types(&self) -> &Types
+        ensures types { result.now ≡ self.now.types }
+        ensures stands { ProgramStands self.now }
+    {
+        &self.types
+    }
+
+    pub fn patterns(&self) -> &Patterns
+        ensures patterns { result.now ≡ self.now.patterns }
+        ensures stands { ProgramStands self.now }
+    {
+        &self.patterns
+    }
+
+    pub fn exprs(&self) -> &Exprs
+        ensures exprs { result.now ≡ self.now.exprs }
+        ensures stands { ProgramStands self.now }
+    {
+        &self.exprs
+    }
+
+    pub fn type_defs(&self) -> &[TypeDef]
+        ensures type_defs { result.now ≡ self.now.type_defs }
+        ensures stands { ProgramStands self.now }
+    {
+        self.type_defs.as_slice()
+    }
+
+    pub fn functions(&self) -> &[Function]
+        ensures functions { result.now ≡ self.now.functions }
+        ensures stands { ProgramStands self.now }
+    {
+        self.functions.as_slice()
+    }
+
+    /// One more node of a type.
+    pub(crate) fn add_type(&mut self, place: Place, form: TypeForm) -> Result<TypeId, NoMemory>
+        requires { CanFollow false self.old.types (form_of form) }
+        ensures ok { IfOk result (IsTypeAt self.new.types (form_tree (tree_at self.old.types) (form_of form))) }
+        ensures adds { AddsTypes self.old self.new }
+        ensures same { program_tree self.new ≡ program_tree self.old }
+        ensures err { OnErr result (self.new ≡ self.old) }
+    {
+        self.types.add(place, form)
+    }
+}

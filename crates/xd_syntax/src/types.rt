@@ -1,0 +1,145 @@
+//! Types: nodes in a table.
+
+ghost use Rattle.std.specs.Prelude.{◌≡◌, ◌+◌, ◌++◌, ◌∷◌, [], false, length, take, IfOk, OnErr};
+ghost use Rattle.xd_syntax.specs.Placed.{placed_at, placed_form};
+ghost use Rattle.xd_syntax.specs.Table.{KeepsRows, CanFollow, PartsBelow, form_tree, tree_at};
+ghost use Rattle.xd_syntax.specs.Types.{BelongsTo, form_of, tree};
+
+use std::alloc::Global;
+use std::marker::Model;
+use xd_base::Place;
+use xd_doc::{Class, Label, NoMemory};
+
+/// The number of a type's node.
+#[derive(Clone, Copy)]
+pub struct TypeId {
+    at: usize,
+}
+
+/// What a node is. Its parts are older nodes.
+#[derive(Drop)]
+pub enum TypeForm {
+    Empty,
+    Text,
+    Name(Label),
+    Elem(Class, TypeId),
+    Seq(Vec<TypeId>),
+    Alt(Vec<TypeId>),
+    Star(TypeId),
+    Plus(TypeId),
+    Opt(TypeId),
+}
+
+/// A node, and the place of its first token.
+#[derive(Drop)]
+pub struct TypeNode {
+    place: Place,
+    form: TypeForm,
+}
+
+impl Model for TypeNode {
+    ghost use Rattle.xd_syntax.specs.Table.{Row};
+    ghost use Rattle.xd_syntax.specs.Types.{form_of};
+
+    ghost Value = { Row };
+
+    ghost view = { λ n. record { place = n.place; form = form_of n.form } };
+}
+
+/// A definition of a type: its name, the place of the name, and what it stands for.
+#[derive(Drop)]
+pub struct TypeDef {
+    pub name: Label,
+    pub place: Place,
+    pub body: TypeId,
+}
+
+/// Nodes of types, the oldest first.
+#[derive(Drop)]
+pub struct Types {
+    nodes: Vec<TypeNode>,
+}
+
+impl Model for Types {
+    ghost use Rattle.std.specs.Prelude.{List, false};
+    ghost use Rattle.xd_syntax.specs.Table.{Row, AreBuilt};
+
+    ghost Value = { List Row };
+
+    ghost view = { λ t. t.nodes.items };
+
+    ghost invariant = { λ t. AreBuilt false t.nodes.items };
+}
+
+impl TypeId {
+    /// The number of the node.
+    pub(crate) fn at(self) -> usize
+        ensures { result ≡ self.at }
+    {
+        self.at
+    }
+
+    pub(crate) fn of(at: usize) -> Self
+        ensures { result ≡ record { at = at } }
+    {
+        Self { at }
+    }
+}
+
+impl TypeNode {
+    pub fn place(&self) -> Place
+        ensures { result ≡ self.now.place }
+    {
+        self.place
+    }
+
+    pub fn form(&self) -> &TypeForm
+        ensures { form_of result.now ≡ self.now.form }
+    {
+        &self.form
+    }
+}
+
+impl Types {
+    /// With no node.
+    pub fn new(alloc: Global) -> Self
+        ensures { result ≡ [] }
+    {
+        Self {
+            nodes: Vec::new(alloc),
+        }
+    }
+
+    /// The number of nodes.
+    pub fn len(&self) -> usize
+        ensures { result ≡ length self.now }
+    {
+        self.nodes.len()
+    }
+
+    /// One more node.
+    pub fn add(&mut self, place: Place, form: TypeForm) -> Result<TypeId, NoMemory>
+        requires { CanFollow false self.old (form_of form) }
+        ensures tree { IfOk result (λ id. tree self.new id ≡ form_tree (tree_at self.old) (form_of form)) }
+        ensures placed { IfOk result (λ id. placed_at self.new id.at ≡ placed_form (placed_at self.old) place (form_of form)) }
+        ensures belongs { IfOk result (BelongsTo self.new) }
+        ensures grown { IfOk result (λ id. self.new ≡ self.old ++ record { place = place; form = form_of form } ∷ []) }
+        ensures keeps { KeepsRows self.old self.new }
+        ensures err { OnErr result (self.new ≡ self.old) }
+    {
+        let at = self.len();
+        self.nodes.push(TypeNode { place, form })?;
+        Ok(TypeId { at })
+    }
+
+    /// The node of a type.
+    pub fn node(&self, id: TypeId) -> &TypeNode
+        requires { BelongsTo self.now id }
+        ensures tree { tree self.now id ≡ form_tree (tree_at self.now) result.now.form }
+        ensures placed { placed_at self.now id.at ≡ placed_form (placed_at self.now) result.now.place result.now.form }
+        ensures parts { PartsBelow id.at result.now.form }
+        ensures merged { CanFollow false (take id.at self.now) result.now.form }
+    {
+        &self.nodes[id.at]
+    }
+}

@@ -1,0 +1,33 @@
+//! The program `xduce`: files and the standard output around the command.
+#![tactic(auto)]
+
+mod file_shelf;
+mod stream_sink;
+#[cfg(test)]
+mod tests;
+
+use crate::file_shelf::FileShelf;
+use crate::stream_sink::StreamSink;
+use std::alloc::{AllocError, Global};
+use std::process::ExitCode;
+use std::rt::Env;
+use std::{env, io};
+
+/// The words after the program's name.
+fn words(rt: &(impl Env + AllocGlobal)) -> io::Result<Vec<String>> {
+    let mut words = Vec::new(rt.alloc());
+    for word in env::args(rt)?.skip(1) {
+        words.push(word)?;
+    }
+    Ok(words)
+}
+
+fn main(rt: HostRuntime) -> ExitCode {
+    let Ok(words) = words(&rt) else {
+        return ExitCode::from(5);
+    };
+    let mut shelf = FileShelf::new(&rt);
+    let mut sink = StreamSink::new(io::writer(&rt));
+    let status = xd_command::xduce(rt.alloc(), &words, &mut shelf, &mut sink);
+    ExitCode::from(status.code)
+}
