@@ -1,0 +1,219 @@
+-- A front that ends where a text ends is a whole text; a whole text begins with each of its fronts.
+use Rattle.std.proofs.Common.{◌≡◌, ℕ, ◌++◌, ◌⊎◌, Bool, true, false, List, [], ◌∷◌, refl, sym, subst, ◌∙◌, inl, inr}
+use Rattle.xd_parse.specs.declared.grammar.Nonterminal.{Nonterminal}
+use Rattle.xd_parse.specs.declared.grammar.Nonterminal.TheVariants as n
+use Rattle.xd_parse.specs.declared.grammar.Symbol.TheVariants.{Token, Opening, Closed, Unless, Part}
+use Rattle.xd_parse.specs.declared.grammar.Terminal.{Terminal}
+use Rattle.xd_parse.specs.declared.grammar.Terminal.TheVariants as t
+use Rattle.xd_parse.specs.Grammar.{Row, rules, IsOneOf, Extent, Whole, Front, MayEnd, Derives, end, token, opening, closed, unless, by}
+use Rattle.xd_parse.specs.Text.{ends_text}
+use Rattle.xd_parse.proofs.Derive.{view}
+
+abbrev is_nil : Row → Bool
+is_nil [] = true
+is_nil (x ∷ row) = false
+
+-- where `End` stands, nothing stands behind it; and `Broken` stands nowhere
+abbrev seal_token : Terminal → Bool → Bool → Bool
+seal_token t.End nil rest = nil
+seal_token t.Broken nil rest = false
+seal_token k nil rest = rest
+
+abbrev seal_part : Nonterminal → Bool → Bool → Bool
+seal_part n.Definitions nil rest = nil
+seal_part n.TypeText nil rest = nil
+seal_part part nil rest = rest
+
+abbrev pub sealed : Row → Bool
+sealed [] = false
+sealed (Token k ∷ row) = seal_token k (is_nil row) (sealed row)
+sealed (Opening k ∷ row) = seal_token k false (sealed row)
+sealed (Closed ∷ row) = sealed row
+sealed (Unless k ∷ row) = sealed row
+sealed (Part part ∷ row) = seal_part part (is_nil row) (sealed row)
+
+sealed_made : (part : Nonterminal) (made row : Row) → IsOneOf made (rules part) → sealed (Part part ∷ row) ≡ true → sealed (made ++ row) ≡ true
+sealed_made n.Definitions made [] (inl e) h = subst (λ (x : Row). sealed (x ++ []) ≡ true) (sym e) refl
+sealed_made n.Definitions made [] (inr (inl e)) h = subst (λ (x : Row). sealed (x ++ []) ≡ true) (sym e) refl
+sealed_made n.Definitions made [] (inr (inr (inl e))) h = subst (λ (x : Row). sealed (x ++ []) ≡ true) (sym e) refl
+sealed_made n.Definitions made [] (inr (inr (inr (none)))) h = absurd none
+sealed_made n.Definitions made (x ∷ row) one h = cc
+sealed_made n.Param made row (inl e) h = subst (λ (x : Row). sealed (x ++ row) ≡ true) (sym e) h
+sealed_made n.Param made row (inr (none)) h = absurd none
+sealed_made n.MoreParams made row (inl e) h = subst (λ (x : Row). sealed (x ++ row) ≡ true) (sym e) h
+sealed_made n.MoreParams made row (inr (inl e)) h = subst (λ (x : Row). sealed (x ++ row) ≡ true) (sym e) h
+sealed_made n.MoreParams made row (inr (inr (none))) h = absurd none
+sealed_made n.TypeText made [] (inl e) h = subst (λ (x : Row). sealed (x ++ []) ≡ true) (sym e) refl
+sealed_made n.TypeText made [] (inr (none)) h = absurd none
+sealed_made n.TypeText made (x ∷ row) one h = cc
+sealed_made n.Type made row (inl e) h = subst (λ (x : Row). sealed (x ++ row) ≡ true) (sym e) h
+sealed_made n.Type made row (inr (none)) h = absurd none
+sealed_made n.MoreTypes made row (inl e) h = subst (λ (x : Row). sealed (x ++ row) ≡ true) (sym e) h
+sealed_made n.MoreTypes made row (inr (inl e)) h = subst (λ (x : Row). sealed (x ++ row) ≡ true) (sym e) h
+sealed_made n.MoreTypes made row (inr (inr (none))) h = absurd none
+sealed_made n.TypeSeq made row (inl e) h = subst (λ (x : Row). sealed (x ++ row) ≡ true) (sym e) h
+sealed_made n.TypeSeq made row (inr (none)) h = absurd none
+sealed_made n.MoreTypeParts made row (inl e) h = subst (λ (x : Row). sealed (x ++ row) ≡ true) (sym e) h
+sealed_made n.MoreTypeParts made row (inr (inl e)) h = subst (λ (x : Row). sealed (x ++ row) ≡ true) (sym e) h
+sealed_made n.MoreTypeParts made row (inr (inr (none))) h = absurd none
+sealed_made n.TypePost made row (inl e) h = subst (λ (x : Row). sealed (x ++ row) ≡ true) (sym e) h
+sealed_made n.TypePost made row (inr (none)) h = absurd none
+sealed_made n.TypePrim made row (inl e) h = subst (λ (x : Row). sealed (x ++ row) ≡ true) (sym e) h
+sealed_made n.TypePrim made row (inr (inl e)) h = subst (λ (x : Row). sealed (x ++ row) ≡ true) (sym e) h
+sealed_made n.TypePrim made row (inr (inr (inl e))) h = subst (λ (x : Row). sealed (x ++ row) ≡ true) (sym e) h
+sealed_made n.TypePrim made row (inr (inr (inr (none)))) h = absurd none
+sealed_made n.TypeGroup made row (inl e) h = subst (λ (x : Row). sealed (x ++ row) ≡ true) (sym e) h
+sealed_made n.TypeGroup made row (inr (inl e)) h = subst (λ (x : Row). sealed (x ++ row) ≡ true) (sym e) h
+sealed_made n.TypeGroup made row (inr (inr (none))) h = absurd none
+sealed_made n.TypeContent made row (inl e) h = subst (λ (x : Row). sealed (x ++ row) ≡ true) (sym e) h
+sealed_made n.TypeContent made row (inr (inl e)) h = subst (λ (x : Row). sealed (x ++ row) ≡ true) (sym e) h
+sealed_made n.TypeContent made row (inr (inr (none))) h = absurd none
+sealed_made n.Pattern made row (inl e) h = subst (λ (x : Row). sealed (x ++ row) ≡ true) (sym e) h
+sealed_made n.Pattern made row (inr (none)) h = absurd none
+sealed_made n.MorePatterns made row (inl e) h = subst (λ (x : Row). sealed (x ++ row) ≡ true) (sym e) h
+sealed_made n.MorePatterns made row (inr (inl e)) h = subst (λ (x : Row). sealed (x ++ row) ≡ true) (sym e) h
+sealed_made n.MorePatterns made row (inr (inr (none))) h = absurd none
+sealed_made n.PatternSeq made row (inl e) h = subst (λ (x : Row). sealed (x ++ row) ≡ true) (sym e) h
+sealed_made n.PatternSeq made row (inr (none)) h = absurd none
+sealed_made n.MorePatternParts made row (inl e) h = subst (λ (x : Row). sealed (x ++ row) ≡ true) (sym e) h
+sealed_made n.MorePatternParts made row (inr (inl e)) h = subst (λ (x : Row). sealed (x ++ row) ≡ true) (sym e) h
+sealed_made n.MorePatternParts made row (inr (inr (none))) h = absurd none
+sealed_made n.PatternPost made row (inl e) h = subst (λ (x : Row). sealed (x ++ row) ≡ true) (sym e) h
+sealed_made n.PatternPost made row (inr (inl e)) h = subst (λ (x : Row). sealed (x ++ row) ≡ true) (sym e) h
+sealed_made n.PatternPost made row (inr (inr (none))) h = absurd none
+sealed_made n.PatternPrim made row (inl e) h = subst (λ (x : Row). sealed (x ++ row) ≡ true) (sym e) h
+sealed_made n.PatternPrim made row (inr (inl e)) h = subst (λ (x : Row). sealed (x ++ row) ≡ true) (sym e) h
+sealed_made n.PatternPrim made row (inr (inr (inl e))) h = subst (λ (x : Row). sealed (x ++ row) ≡ true) (sym e) h
+sealed_made n.PatternPrim made row (inr (inr (inr (none)))) h = absurd none
+sealed_made n.PatternGroup made row (inl e) h = subst (λ (x : Row). sealed (x ++ row) ≡ true) (sym e) h
+sealed_made n.PatternGroup made row (inr (inl e)) h = subst (λ (x : Row). sealed (x ++ row) ≡ true) (sym e) h
+sealed_made n.PatternGroup made row (inr (inr (none))) h = absurd none
+sealed_made n.PatternContent made row (inl e) h = subst (λ (x : Row). sealed (x ++ row) ≡ true) (sym e) h
+sealed_made n.PatternContent made row (inr (inl e)) h = subst (λ (x : Row). sealed (x ++ row) ≡ true) (sym e) h
+sealed_made n.PatternContent made row (inr (inr (none))) h = absurd none
+sealed_made n.Bound made row (inl e) h = subst (λ (x : Row). sealed (x ++ row) ≡ true) (sym e) h
+sealed_made n.Bound made row (inr (inl e)) h = subst (λ (x : Row). sealed (x ++ row) ≡ true) (sym e) h
+sealed_made n.Bound made row (inr (inr (none))) h = absurd none
+sealed_made n.Operator made row (inl e) h = subst (λ (x : Row). sealed (x ++ row) ≡ true) (sym e) h
+sealed_made n.Operator made row (inr (inl e)) h = subst (λ (x : Row). sealed (x ++ row) ≡ true) (sym e) h
+sealed_made n.Operator made row (inr (inr (inl e))) h = subst (λ (x : Row). sealed (x ++ row) ≡ true) (sym e) h
+sealed_made n.Operator made row (inr (inr (inr (inl e)))) h = subst (λ (x : Row). sealed (x ++ row) ≡ true) (sym e) h
+sealed_made n.Operator made row (inr (inr (inr (inr (none))))) h = absurd none
+sealed_made n.Class made row (inl e) h = subst (λ (x : Row). sealed (x ++ row) ≡ true) (sym e) h
+sealed_made n.Class made row (inr (inl e)) h = subst (λ (x : Row). sealed (x ++ row) ≡ true) (sym e) h
+sealed_made n.Class made row (inr (inr (inl e))) h = subst (λ (x : Row). sealed (x ++ row) ≡ true) (sym e) h
+sealed_made n.Class made row (inr (inr (inr (none)))) h = absurd none
+sealed_made n.Labels made row (inl e) h = subst (λ (x : Row). sealed (x ++ row) ≡ true) (sym e) h
+sealed_made n.Labels made row (inr (inl e)) h = subst (λ (x : Row). sealed (x ++ row) ≡ true) (sym e) h
+sealed_made n.Labels made row (inr (inr (none))) h = absurd none
+sealed_made n.Names made row (inl e) h = subst (λ (x : Row). sealed (x ++ row) ≡ true) (sym e) h
+sealed_made n.Names made row (inr (none)) h = absurd none
+sealed_made n.MoreNames made row (inl e) h = subst (λ (x : Row). sealed (x ++ row) ≡ true) (sym e) h
+sealed_made n.MoreNames made row (inr (inl e)) h = subst (λ (x : Row). sealed (x ++ row) ≡ true) (sym e) h
+sealed_made n.MoreNames made row (inr (inr (none))) h = absurd none
+sealed_made n.AnyWord made row (inl e) h = subst (λ (x : Row). sealed (x ++ row) ≡ true) (sym e) h
+sealed_made n.AnyWord made row (inr (inl e)) h = subst (λ (x : Row). sealed (x ++ row) ≡ true) (sym e) h
+sealed_made n.AnyWord made row (inr (inr (inl e))) h = subst (λ (x : Row). sealed (x ++ row) ≡ true) (sym e) h
+sealed_made n.AnyWord made row (inr (inr (inr (inl e)))) h = subst (λ (x : Row). sealed (x ++ row) ≡ true) (sym e) h
+sealed_made n.AnyWord made row (inr (inr (inr (inr (inl e))))) h = subst (λ (x : Row). sealed (x ++ row) ≡ true) (sym e) h
+sealed_made n.AnyWord made row (inr (inr (inr (inr (inr (inl e)))))) h = subst (λ (x : Row). sealed (x ++ row) ≡ true) (sym e) h
+sealed_made n.AnyWord made row (inr (inr (inr (inr (inr (inr (inl e))))))) h = subst (λ (x : Row). sealed (x ++ row) ≡ true) (sym e) h
+sealed_made n.AnyWord made row (inr (inr (inr (inr (inr (inr (inr (none)))))))) h = absurd none
+sealed_made n.Expr made row (inl e) h = subst (λ (x : Row). sealed (x ++ row) ≡ true) (sym e) h
+sealed_made n.Expr made row (inr (none)) h = absurd none
+sealed_made n.MoreItems made row (inl e) h = subst (λ (x : Row). sealed (x ++ row) ≡ true) (sym e) h
+sealed_made n.MoreItems made row (inr (inl e)) h = subst (λ (x : Row). sealed (x ++ row) ≡ true) (sym e) h
+sealed_made n.MoreItems made row (inr (inr (none))) h = absurd none
+sealed_made n.Item made row (inl e) h = subst (λ (x : Row). sealed (x ++ row) ≡ true) (sym e) h
+sealed_made n.Item made row (inr (inl e)) h = subst (λ (x : Row). sealed (x ++ row) ≡ true) (sym e) h
+sealed_made n.Item made row (inr (inr (inl e))) h = subst (λ (x : Row). sealed (x ++ row) ≡ true) (sym e) h
+sealed_made n.Item made row (inr (inr (inr (inl e)))) h = subst (λ (x : Row). sealed (x ++ row) ≡ true) (sym e) h
+sealed_made n.Item made row (inr (inr (inr (inr (inl e))))) h = subst (λ (x : Row). sealed (x ++ row) ≡ true) (sym e) h
+sealed_made n.Item made row (inr (inr (inr (inr (inr (none)))))) h = absurd none
+sealed_made n.ExprContent made row (inl e) h = subst (λ (x : Row). sealed (x ++ row) ≡ true) (sym e) h
+sealed_made n.ExprContent made row (inr (inl e)) h = subst (λ (x : Row). sealed (x ++ row) ≡ true) (sym e) h
+sealed_made n.ExprContent made row (inr (inr (none))) h = absurd none
+sealed_made n.Paren made row (inl e) h = subst (λ (x : Row). sealed (x ++ row) ≡ true) (sym e) h
+sealed_made n.Paren made row (inr (none)) h = absurd none
+sealed_made n.ParenContent made row (inl e) h = subst (λ (x : Row). sealed (x ++ row) ≡ true) (sym e) h
+sealed_made n.ParenContent made row (inr (inl e)) h = subst (λ (x : Row). sealed (x ++ row) ≡ true) (sym e) h
+sealed_made n.ParenContent made row (inr (inr (none))) h = absurd none
+sealed_made n.MoreParens made row (inl e) h = subst (λ (x : Row). sealed (x ++ row) ≡ true) (sym e) h
+sealed_made n.MoreParens made row (inr (inl e)) h = subst (λ (x : Row). sealed (x ++ row) ≡ true) (sym e) h
+sealed_made n.MoreParens made row (inr (inr (none))) h = absurd none
+sealed_made n.Clause made row (inl e) h = subst (λ (x : Row). sealed (x ++ row) ≡ true) (sym e) h
+sealed_made n.Clause made row (inr (none)) h = absurd none
+sealed_made n.MoreClauses made row (inl e) h = subst (λ (x : Row). sealed (x ++ row) ≡ true) (sym e) h
+sealed_made n.MoreClauses made row (inr (inl e)) h = subst (λ (x : Row). sealed (x ++ row) ≡ true) (sym e) h
+sealed_made n.MoreClauses made row (inr (inr (none))) h = absurd none
+
+after_token : (k : Terminal) (nil rest : Bool) → seal_token k nil rest ≡ true → (nil ≡ true) ⊎ (rest ≡ true)
+after_token t.End nil rest h = inl h
+after_token t.Broken nil rest h = cc
+after_token k nil rest h = inr h
+
+after_opening : (k : Terminal) (rest : Bool) → seal_token k false rest ≡ true → rest ≡ true
+after_opening t.End rest h = cc
+after_opening t.Broken rest h = cc
+after_opening k rest h = h
+
+at_last : (k : Terminal) (nil rest : Bool) → ends_text k ≡ true → seal_token k nil rest ≡ true → nil ≡ true
+at_last t.End nil rest e h = h
+at_last t.Broken nil rest e h = cc
+at_last k nil rest e h = cc
+
+nil_row : (e : Extent) (l d : ℕ) (row : Row) → is_nil row ≡ true → MayEnd Whole row
+nil_row e l d [] h = tt
+nil_row e l d (x ∷ row) h = cc
+
+nil_dead : (e : Extent) (l d : ℕ) (row : Row) (k : Terminal) (ts : List Terminal) → is_nil row ≡ true → Derives e l d row (k ∷ ts) → ⊥
+nil_dead e l d [] k ts h g = view g k ts refl
+nil_dead e l d (x ∷ row) k ts h g = cc
+
+no_end : (us : List Terminal) (k : Terminal) → [] ≡ us ++ k ∷ [] → ⊥
+no_end [] k e = cc
+no_end (u ∷ us) k e = cc
+
+head_is : (j k : Terminal) (us ts : List Terminal) → j ∷ us ≡ k ∷ ts → j ≡ k
+head_is j k us ts e = cc
+
+tail_is : (j k : Terminal) (us ts : List Terminal) → j ∷ us ≡ k ∷ ts → us ≡ ts
+tail_is j k us ts e = cc
+
+first_of_more : (us : List Terminal) (k : Terminal) → (j : Terminal) × ((vs : List Terminal) × (us ++ k ∷ [] ≡ j ∷ vs))
+first_of_more [] k = (k, ([], refl))
+first_of_more (u ∷ us) k = (u, (us ++ k ∷ [], refl))
+
+false_true : false ≡ true → ⊥
+false_true e = cc
+
+-- a row with its token taken, where more tokens come
+more_sealed : (l d : ℕ) (k : Terminal) (row : Row) (ts us : List Terminal) (last : Terminal) → seal_token k (is_nil row) (sealed row) ≡ true → Derives Front l d row ts → ts ≡ us ++ last ∷ [] → sealed row ≡ true
+more_sealed l d k row ts us last s g e = elim (after_token k (is_nil row) (sealed row) s) [
+  | inl nil ↦ absurd (nil_dead Front l d row (first_of_more us last).0 (first_of_more us last).1.0 nil (subst (Derives Front l d row) (e ∙ (first_of_more us last).1.1) g))
+  | inr rest ↦ rest
+]
+
+whole_nil : (l d : ℕ) (row : Row) (ts : List Terminal) → MayEnd Whole row → ts ≡ [] → Derives Whole l d row ts
+whole_nil l d row ts h e = subst (Derives Whole l d row) (sym e) (end h)
+
+-- a front with the last token of a text is the whole text
+pub ended : {l d : ℕ} {row : Row} {ts : List Terminal} → Derives Front l d row ts → (us : List Terminal) (last : Terminal) → ts ≡ us ++ last ∷ [] → ends_text last ≡ true → sealed row ≡ true → Derives Whole l d row ts
+ended (end h) us last e q s = absurd (no_end us last e)
+ended {l = l} (token {depth = d} {k = k} {row = row} {ts = ts} g) [] last e q s = token (whole_nil l d row ts (nil_row Front l d row (at_last k (is_nil row) (sealed row) (subst (λ (x : Terminal). ends_text x ≡ true) (sym (head_is k last ts [] e)) q) s)) (tail_is k last ts [] e))
+ended {l = l} (token {depth = d} {k = k} {row = row} {ts = ts} g) (u ∷ us) last e q s = token (ended g us last (tail_is k u ts (us ++ last ∷ []) e) q (more_sealed l d k row ts us last s g (tail_is k u ts (us ++ last ∷ []) e)))
+ended {l = l} (opening {depth = d} {k = k} {row = row} {ts = ts} h g) [] last e q s = absurd (false_true (at_last k false (sealed row) (subst (λ (x : Terminal). ends_text x ≡ true) (sym (head_is k last ts [] e)) q) s))
+ended {l = l} (opening {depth = d} {k = k} {row = row} {ts = ts} h g) (u ∷ us) last e q s = opening h (ended g us last (tail_is k u ts (us ++ last ∷ []) e) q (after_opening k (sealed row) s))
+ended (closed g) us last e q s = closed (ended g us last e q s)
+ended (unless ne g) us last e q s = unless ne (ended g us last e q s)
+ended (by {part = part} made {row = row} one g) us last e q s = by made one (ended g us last e q (sealed_made part made row one s))
+
+-- a whole text begins with each of its fronts
+pub front_of : {l d : ℕ} {row : Row} {ts : List Terminal} → Derives Whole l d row ts → (us vs : List Terminal) → ts ≡ us ++ vs → Derives Front l d row us
+front_of g [] vs e = end tt
+front_of (end h) (u ∷ us) vs e = cc
+front_of {l = l} (token {depth = d} {k = k} {row = row} {ts = ts} g) (u ∷ us) vs e = subst (λ (x : Terminal). Derives Front l d (Token k ∷ row) (x ∷ us)) (head_is k u ts (us ++ vs) e) (token (front_of g us vs (tail_is k u ts (us ++ vs) e)))
+front_of {l = l} (opening {depth = d} {k = k} {row = row} {ts = ts} h g) (u ∷ us) vs e = subst (λ (x : Terminal). Derives Front l d (Opening k ∷ row) (x ∷ us)) (head_is k u ts (us ++ vs) e) (opening h (front_of g us vs (tail_is k u ts (us ++ vs) e)))
+front_of (closed g) (u ∷ us) vs e = closed (front_of g (u ∷ us) vs e)
+front_of {l = l} (unless {depth = d} {j = j} {k = k} {row = row} {ts = ts} ne g) (u ∷ us) vs e = unless (λ q. ne (q ∙ sym (head_is k u ts (us ++ vs) e))) (front_of g (u ∷ us) vs e)
+front_of (by made one g) (u ∷ us) vs e = by made one (front_of g (u ∷ us) vs e)

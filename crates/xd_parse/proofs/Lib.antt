@@ -1,0 +1,6 @@
+pub mod Derive
+pub mod Shift
+pub mod Course
+pub mod Stands
+pub mod Ends
+pub mod TextLemmas

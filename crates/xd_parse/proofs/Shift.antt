@@ -1,0 +1,328 @@
+-- What one symbol on top of the stack does at a token.
+use Rattle.std.proofs.Common.{◌≡◌, ◌<◌, ◌≤◌, ℕ, suc, ◌++◌, Bool, true, false, cond, List, [], ◌∷◌, Option, Some, None, refl, sym, subst, inl, inr, arith}
+use Rattle.xd_parse.specs.declared.grammar.Nonterminal.{Nonterminal}
+use Rattle.xd_parse.specs.declared.grammar.Nonterminal.TheVariants as n
+use Rattle.xd_parse.specs.declared.grammar.Symbol.TheVariants.{Token, Opening, Closed, Unless, Part}
+use Rattle.xd_parse.specs.declared.grammar.Terminal.{Terminal}
+use Rattle.xd_parse.specs.declared.grammar.Terminal.TheVariants as t
+use Rattle.xd_parse.specs.declared.machine.Sort.{Sort}
+use Rattle.xd_parse.specs.declared.machine.Sort.TheVariants as sorts
+use Rattle.xd_parse.specs.declared.machine.Reading.{Reading}
+use Rattle.xd_parse.specs.declared.machine.Reading.TheVariants.{Plain, Opened}
+use Rattle.xd_parse.specs.declared.machine.Step.{Step}
+use Rattle.xd_parse.specs.declared.machine.Step.TheVariants.{Next, Syntax, TooDeep}
+use Rattle.xd_parse.specs.Grammar.{Row, rules, IsOneOf, Extent, Front, Derives, end, token, opening, closed, unless, by}
+use Rattle.xd_parse.specs.Fits.{same, first_fit, work}
+use Rattle.xd_parse.specs.Machine.{Reads, prim_group, group_of, entered, Turns, Shifts}
+use Rattle.xd_parse.proofs.Derive.{View, view, same-true, same-false, fits-true, may-true, chosen_none, chosen_is, chosen_only, is_group, rules_decided}
+
+pub turns_refl : (d : ℕ) (r : Row) (k : Terminal) → Turns d r k d r
+turns_refl d r k = record { on = λ e l ts h g. g; back = λ e l ts h g. g }
+
+pub turns_then : (d : ℕ) (r : Row) (k : Terminal) (e : ℕ) (s : Row) (f : ℕ) (q : Row) → Turns d r k e s → Turns e s k f q → Turns d r k f q
+turns_then d r k e s f q a b = record {
+  on = λ x l ts h g. b.on x l ts h (a.on x l ts h g);
+  back = λ x l ts h g. a.back x l ts h (b.back x l ts h g);
+}
+
+pub turns_shift : (d : ℕ) (r : Row) (k : Terminal) (e : ℕ) (s : Row) (step : Step) (f : ℕ) (q : Row) → Turns d r k e s → Shifts e s k step f q → Shifts d r k step f q
+turns_shift d r k e s (Next after) f q a b = record {
+  on = λ x l ts h g. b.on x l ts h (a.on x l ts h g);
+  back = λ x l ts h g. a.back x l ts h (b.back x l ts h g);
+}
+turns_shift d r k e s Syntax f q a b = record { dead = λ x l ts h g. b.dead x l ts h (a.on x l ts h g) }
+turns_shift d r k e s TooDeep f q a b = record {
+  dead = λ x ts g. b.dead x ts (a.on x 256 ts (omega arith) g);
+  limit = b.limit;
+  above = b.above;
+  alive = a.back Front b.limit [] b.above b.alive;
+}
+
+-- the empty row
+pub empty_stops : (d : ℕ) (k : Terminal) (f : ℕ) (q : Row) → Shifts d [] k Syntax f q
+empty_stops d k f q = record { dead = λ e l ts h g. view g k ts refl }
+
+-- a token
+pub token_next : (d : ℕ) (r : Row) (j k : Terminal) → same j k ≡ true → Shifts d (Token j ∷ r) k (Next Plain) d r
+token_next d r j k m = record {
+  on = λ e l ts h g. (view g k ts refl).1;
+  back = λ e l ts h g. subst (λ (x : Terminal). Derives e l d (Token j ∷ r) (x ∷ ts)) (same-true j k m) (token g);
+}
+
+pub token_stops : (d : ℕ) (r : Row) (j k : Terminal) (f : ℕ) (q : Row) → same j k ≡ false → Shifts d (Token j ∷ r) k Syntax f q
+token_stops d r j k f q m = record { dead = λ e l ts h g. same-false j k m (view g k ts refl).0 }
+
+pub opening_next : (d : ℕ) (r : Row) (j k : Terminal) → same j k ≡ true → d < 256 → Shifts d (Opening j ∷ r) k (Next Plain) (suc d) r
+opening_next d r j k m low = record {
+  on = λ e l ts h g. (view g k ts refl).2;
+  back = λ e l ts h g. subst (λ (x : Terminal). Derives e l d (Opening j ∷ r) (x ∷ ts)) (same-true j k m) (opening (omega arith) g);
+}
+
+pub opening_sinks : (d : ℕ) (r : Row) (j k : Terminal) (f : ℕ) (q : Row) → same j k ≡ true → 256 ≤ d → Shifts d (Opening j ∷ r) k TooDeep f q
+opening_sinks d r j k f q m high = record {
+  dead = λ e ts g. absurd (let low : d < 256 = (view g k ts refl).1 in omega arith);
+  limit = suc d;
+  above = omega arith;
+  alive = subst (λ (x : Terminal). Derives Front (suc d) d (Opening j ∷ r) (x ∷ [])) (same-true j k m) (opening (omega arith) (end tt));
+}
+
+pub opening_stops : (d : ℕ) (r : Row) (j k : Terminal) (f : ℕ) (q : Row) → same j k ≡ false → Shifts d (Opening j ∷ r) k Syntax f q
+opening_stops d r j k f q m = record { dead = λ e l ts h g. same-false j k m (view g k ts refl).0 }
+
+pub opening_enters : (d : ℕ) (r : Row) (j k : Terminal) (step : Step) (f : ℕ) → same j k ≡ true → entered d Plain step f → Shifts d (Opening j ∷ r) k step f r
+opening_enters d r j k (Next next) f m (is, low, new) =
+    subst (λ (x : Reading). Shifts d (Opening j ∷ r) k (Next x) f r) (sym is) (subst (λ (x : ℕ). Shifts d (Opening j ∷ r) k (Next Plain) x r) (sym new) (opening_next d r j k m low))
+opening_enters d r j k TooDeep f m high = opening_sinks d r j k f r m high
+opening_enters d r j k Syntax f m none = absurd none
+
+-- the end of a level
+zero_suc : (d e : ℕ) → d ≡ 0 → d ≡ suc e → ⊥
+zero_suc d e p q = omega arith
+
+pub closed_stops : (d : ℕ) (r : Row) (k : Terminal) (f : ℕ) (q : Row) → d ≡ 0 → Shifts d (Closed ∷ r) k Syntax f q
+closed_stops d r k f q z = record { dead = λ e l ts h g. let v : View e l d (Closed ∷ r) k ts = view g k ts refl in zero_suc d v.0 z v.1 }
+
+pub closed_turns : (d f : ℕ) (r : Row) (k : Terminal) → d ≡ suc f → Turns d (Closed ∷ r) k f r
+closed_turns d f r k is = record {
+  on = λ e l ts h g. let v : View e l d (Closed ∷ r) k ts = view g k ts refl in let q : v.0 ≡ f = omega (arith, v.1) in subst (λ (x : ℕ). Derives e l x r (k ∷ ts)) q v.2;
+  back = λ e l ts h g. subst (λ (x : ℕ). Derives e l x (Closed ∷ r) (k ∷ ts)) (sym is) (closed g);
+}
+
+-- a test of the next token
+pub unless_stops : (d : ℕ) (r : Row) (j k : Terminal) (f : ℕ) (q : Row) → same j k ≡ true → Shifts d (Unless j ∷ r) k Syntax f q
+unless_stops d r j k f q m = record { dead = λ e l ts h g. (view g k ts refl).0 (same-true j k m) }
+
+pub unless_turns : (d : ℕ) (r : Row) (j k : Terminal) → same j k ≡ false → Turns d (Unless j ∷ r) k d r
+unless_turns d r j k m = record {
+  on = λ e l ts h g. (view g k ts refl).1;
+  back = λ e l ts h g. unless (same-false j k m) g;
+}
+
+-- a nonterminal
+pub part_stops : (d : ℕ) (r : Row) (part : Nonterminal) (k : Terminal) (f : ℕ) (q : Row) → first_fit (rules part) k ≡ None → Shifts d (Part part ∷ r) k Syntax f q
+part_stops d r part k f q none = record {
+  dead = λ e l ts h g. let v : View e l d (Part part ∷ r) k ts = view g k ts refl in chosen_none (rules part) k none v.0 v.1 (fits-true v.0 r e l d k ts v.2);
+}
+
+pub part_turns : (d : ℕ) (r : Row) (part : Nonterminal) (k : Terminal) (made : Row) → is_group part k ≡ false → first_fit (rules part) k ≡ Some made → Turns d (Part part ∷ r) k d (made ++ r)
+part_turns d r part k made single is = record {
+  on = λ e l ts h g.
+      let v : View e l d (Part part ∷ r) k ts = view g k ts refl in
+      let q : v.0 ≡ made = chosen_only (rules part) k (rules_decided part k single) made is v.0 v.1 (fits-true v.0 r e l d k ts v.2) (may-true 8 v.0 r e l d k ts v.2) in
+      subst (λ (x : Row). Derives e l d (x ++ r) (k ∷ ts)) q v.2;
+  back = λ e l ts h g. by made (chosen_is (rules part) k made is) g;
+}
+
+-- ---- and the work falls
+
+rule_work : (part : Nonterminal) (made r : Row) → IsOneOf made (rules part) → work (made ++ r) < work (Part part ∷ r)
+rule_work n.Definitions made r (inl e) = subst (λ (x : Row). work (x ++ r) < work (Part n.Definitions ∷ r)) (sym e) (omega arith)
+rule_work n.Definitions made r (inr (inl e)) = subst (λ (x : Row). work (x ++ r) < work (Part n.Definitions ∷ r)) (sym e) (omega arith)
+rule_work n.Definitions made r (inr (inr (inl e))) = subst (λ (x : Row). work (x ++ r) < work (Part n.Definitions ∷ r)) (sym e) (omega arith)
+rule_work n.Definitions made r (inr (inr (inr (none)))) = absurd none
+rule_work n.Param made r (inl e) = subst (λ (x : Row). work (x ++ r) < work (Part n.Param ∷ r)) (sym e) (omega arith)
+rule_work n.Param made r (inr (none)) = absurd none
+rule_work n.MoreParams made r (inl e) = subst (λ (x : Row). work (x ++ r) < work (Part n.MoreParams ∷ r)) (sym e) (omega arith)
+rule_work n.MoreParams made r (inr (inl e)) = subst (λ (x : Row). work (x ++ r) < work (Part n.MoreParams ∷ r)) (sym e) (omega arith)
+rule_work n.MoreParams made r (inr (inr (none))) = absurd none
+rule_work n.TypeText made r (inl e) = subst (λ (x : Row). work (x ++ r) < work (Part n.TypeText ∷ r)) (sym e) (omega arith)
+rule_work n.TypeText made r (inr (none)) = absurd none
+rule_work n.Type made r (inl e) = subst (λ (x : Row). work (x ++ r) < work (Part n.Type ∷ r)) (sym e) (omega arith)
+rule_work n.Type made r (inr (none)) = absurd none
+rule_work n.MoreTypes made r (inl e) = subst (λ (x : Row). work (x ++ r) < work (Part n.MoreTypes ∷ r)) (sym e) (omega arith)
+rule_work n.MoreTypes made r (inr (inl e)) = subst (λ (x : Row). work (x ++ r) < work (Part n.MoreTypes ∷ r)) (sym e) (omega arith)
+rule_work n.MoreTypes made r (inr (inr (none))) = absurd none
+rule_work n.TypeSeq made r (inl e) = subst (λ (x : Row). work (x ++ r) < work (Part n.TypeSeq ∷ r)) (sym e) (omega arith)
+rule_work n.TypeSeq made r (inr (none)) = absurd none
+rule_work n.MoreTypeParts made r (inl e) = subst (λ (x : Row). work (x ++ r) < work (Part n.MoreTypeParts ∷ r)) (sym e) (omega arith)
+rule_work n.MoreTypeParts made r (inr (inl e)) = subst (λ (x : Row). work (x ++ r) < work (Part n.MoreTypeParts ∷ r)) (sym e) (omega arith)
+rule_work n.MoreTypeParts made r (inr (inr (none))) = absurd none
+rule_work n.TypePost made r (inl e) = subst (λ (x : Row). work (x ++ r) < work (Part n.TypePost ∷ r)) (sym e) (omega arith)
+rule_work n.TypePost made r (inr (none)) = absurd none
+rule_work n.TypePrim made r (inl e) = subst (λ (x : Row). work (x ++ r) < work (Part n.TypePrim ∷ r)) (sym e) (omega arith)
+rule_work n.TypePrim made r (inr (inl e)) = subst (λ (x : Row). work (x ++ r) < work (Part n.TypePrim ∷ r)) (sym e) (omega arith)
+rule_work n.TypePrim made r (inr (inr (inl e))) = subst (λ (x : Row). work (x ++ r) < work (Part n.TypePrim ∷ r)) (sym e) (omega arith)
+rule_work n.TypePrim made r (inr (inr (inr (none)))) = absurd none
+rule_work n.TypeGroup made r (inl e) = subst (λ (x : Row). work (x ++ r) < work (Part n.TypeGroup ∷ r)) (sym e) (omega arith)
+rule_work n.TypeGroup made r (inr (inl e)) = subst (λ (x : Row). work (x ++ r) < work (Part n.TypeGroup ∷ r)) (sym e) (omega arith)
+rule_work n.TypeGroup made r (inr (inr (none))) = absurd none
+rule_work n.TypeContent made r (inl e) = subst (λ (x : Row). work (x ++ r) < work (Part n.TypeContent ∷ r)) (sym e) (omega arith)
+rule_work n.TypeContent made r (inr (inl e)) = subst (λ (x : Row). work (x ++ r) < work (Part n.TypeContent ∷ r)) (sym e) (omega arith)
+rule_work n.TypeContent made r (inr (inr (none))) = absurd none
+rule_work n.Pattern made r (inl e) = subst (λ (x : Row). work (x ++ r) < work (Part n.Pattern ∷ r)) (sym e) (omega arith)
+rule_work n.Pattern made r (inr (none)) = absurd none
+rule_work n.MorePatterns made r (inl e) = subst (λ (x : Row). work (x ++ r) < work (Part n.MorePatterns ∷ r)) (sym e) (omega arith)
+rule_work n.MorePatterns made r (inr (inl e)) = subst (λ (x : Row). work (x ++ r) < work (Part n.MorePatterns ∷ r)) (sym e) (omega arith)
+rule_work n.MorePatterns made r (inr (inr (none))) = absurd none
+rule_work n.PatternSeq made r (inl e) = subst (λ (x : Row). work (x ++ r) < work (Part n.PatternSeq ∷ r)) (sym e) (omega arith)
+rule_work n.PatternSeq made r (inr (none)) = absurd none
+rule_work n.MorePatternParts made r (inl e) = subst (λ (x : Row). work (x ++ r) < work (Part n.MorePatternParts ∷ r)) (sym e) (omega arith)
+rule_work n.MorePatternParts made r (inr (inl e)) = subst (λ (x : Row). work (x ++ r) < work (Part n.MorePatternParts ∷ r)) (sym e) (omega arith)
+rule_work n.MorePatternParts made r (inr (inr (none))) = absurd none
+rule_work n.PatternPost made r (inl e) = subst (λ (x : Row). work (x ++ r) < work (Part n.PatternPost ∷ r)) (sym e) (omega arith)
+rule_work n.PatternPost made r (inr (inl e)) = subst (λ (x : Row). work (x ++ r) < work (Part n.PatternPost ∷ r)) (sym e) (omega arith)
+rule_work n.PatternPost made r (inr (inr (none))) = absurd none
+rule_work n.PatternPrim made r (inl e) = subst (λ (x : Row). work (x ++ r) < work (Part n.PatternPrim ∷ r)) (sym e) (omega arith)
+rule_work n.PatternPrim made r (inr (inl e)) = subst (λ (x : Row). work (x ++ r) < work (Part n.PatternPrim ∷ r)) (sym e) (omega arith)
+rule_work n.PatternPrim made r (inr (inr (inl e))) = subst (λ (x : Row). work (x ++ r) < work (Part n.PatternPrim ∷ r)) (sym e) (omega arith)
+rule_work n.PatternPrim made r (inr (inr (inr (none)))) = absurd none
+rule_work n.PatternGroup made r (inl e) = subst (λ (x : Row). work (x ++ r) < work (Part n.PatternGroup ∷ r)) (sym e) (omega arith)
+rule_work n.PatternGroup made r (inr (inl e)) = subst (λ (x : Row). work (x ++ r) < work (Part n.PatternGroup ∷ r)) (sym e) (omega arith)
+rule_work n.PatternGroup made r (inr (inr (none))) = absurd none
+rule_work n.PatternContent made r (inl e) = subst (λ (x : Row). work (x ++ r) < work (Part n.PatternContent ∷ r)) (sym e) (omega arith)
+rule_work n.PatternContent made r (inr (inl e)) = subst (λ (x : Row). work (x ++ r) < work (Part n.PatternContent ∷ r)) (sym e) (omega arith)
+rule_work n.PatternContent made r (inr (inr (none))) = absurd none
+rule_work n.Bound made r (inl e) = subst (λ (x : Row). work (x ++ r) < work (Part n.Bound ∷ r)) (sym e) (omega arith)
+rule_work n.Bound made r (inr (inl e)) = subst (λ (x : Row). work (x ++ r) < work (Part n.Bound ∷ r)) (sym e) (omega arith)
+rule_work n.Bound made r (inr (inr (none))) = absurd none
+rule_work n.Operator made r (inl e) = subst (λ (x : Row). work (x ++ r) < work (Part n.Operator ∷ r)) (sym e) (omega arith)
+rule_work n.Operator made r (inr (inl e)) = subst (λ (x : Row). work (x ++ r) < work (Part n.Operator ∷ r)) (sym e) (omega arith)
+rule_work n.Operator made r (inr (inr (inl e))) = subst (λ (x : Row). work (x ++ r) < work (Part n.Operator ∷ r)) (sym e) (omega arith)
+rule_work n.Operator made r (inr (inr (inr (inl e)))) = subst (λ (x : Row). work (x ++ r) < work (Part n.Operator ∷ r)) (sym e) (omega arith)
+rule_work n.Operator made r (inr (inr (inr (inr (none))))) = absurd none
+rule_work n.Class made r (inl e) = subst (λ (x : Row). work (x ++ r) < work (Part n.Class ∷ r)) (sym e) (omega arith)
+rule_work n.Class made r (inr (inl e)) = subst (λ (x : Row). work (x ++ r) < work (Part n.Class ∷ r)) (sym e) (omega arith)
+rule_work n.Class made r (inr (inr (inl e))) = subst (λ (x : Row). work (x ++ r) < work (Part n.Class ∷ r)) (sym e) (omega arith)
+rule_work n.Class made r (inr (inr (inr (none)))) = absurd none
+rule_work n.Labels made r (inl e) = subst (λ (x : Row). work (x ++ r) < work (Part n.Labels ∷ r)) (sym e) (omega arith)
+rule_work n.Labels made r (inr (inl e)) = subst (λ (x : Row). work (x ++ r) < work (Part n.Labels ∷ r)) (sym e) (omega arith)
+rule_work n.Labels made r (inr (inr (none))) = absurd none
+rule_work n.Names made r (inl e) = subst (λ (x : Row). work (x ++ r) < work (Part n.Names ∷ r)) (sym e) (omega arith)
+rule_work n.Names made r (inr (none)) = absurd none
+rule_work n.MoreNames made r (inl e) = subst (λ (x : Row). work (x ++ r) < work (Part n.MoreNames ∷ r)) (sym e) (omega arith)
+rule_work n.MoreNames made r (inr (inl e)) = subst (λ (x : Row). work (x ++ r) < work (Part n.MoreNames ∷ r)) (sym e) (omega arith)
+rule_work n.MoreNames made r (inr (inr (none))) = absurd none
+rule_work n.AnyWord made r (inl e) = subst (λ (x : Row). work (x ++ r) < work (Part n.AnyWord ∷ r)) (sym e) (omega arith)
+rule_work n.AnyWord made r (inr (inl e)) = subst (λ (x : Row). work (x ++ r) < work (Part n.AnyWord ∷ r)) (sym e) (omega arith)
+rule_work n.AnyWord made r (inr (inr (inl e))) = subst (λ (x : Row). work (x ++ r) < work (Part n.AnyWord ∷ r)) (sym e) (omega arith)
+rule_work n.AnyWord made r (inr (inr (inr (inl e)))) = subst (λ (x : Row). work (x ++ r) < work (Part n.AnyWord ∷ r)) (sym e) (omega arith)
+rule_work n.AnyWord made r (inr (inr (inr (inr (inl e))))) = subst (λ (x : Row). work (x ++ r) < work (Part n.AnyWord ∷ r)) (sym e) (omega arith)
+rule_work n.AnyWord made r (inr (inr (inr (inr (inr (inl e)))))) = subst (λ (x : Row). work (x ++ r) < work (Part n.AnyWord ∷ r)) (sym e) (omega arith)
+rule_work n.AnyWord made r (inr (inr (inr (inr (inr (inr (inl e))))))) = subst (λ (x : Row). work (x ++ r) < work (Part n.AnyWord ∷ r)) (sym e) (omega arith)
+rule_work n.AnyWord made r (inr (inr (inr (inr (inr (inr (inr (none)))))))) = absurd none
+rule_work n.Expr made r (inl e) = subst (λ (x : Row). work (x ++ r) < work (Part n.Expr ∷ r)) (sym e) (omega arith)
+rule_work n.Expr made r (inr (none)) = absurd none
+rule_work n.MoreItems made r (inl e) = subst (λ (x : Row). work (x ++ r) < work (Part n.MoreItems ∷ r)) (sym e) (omega arith)
+rule_work n.MoreItems made r (inr (inl e)) = subst (λ (x : Row). work (x ++ r) < work (Part n.MoreItems ∷ r)) (sym e) (omega arith)
+rule_work n.MoreItems made r (inr (inr (none))) = absurd none
+rule_work n.Item made r (inl e) = subst (λ (x : Row). work (x ++ r) < work (Part n.Item ∷ r)) (sym e) (omega arith)
+rule_work n.Item made r (inr (inl e)) = subst (λ (x : Row). work (x ++ r) < work (Part n.Item ∷ r)) (sym e) (omega arith)
+rule_work n.Item made r (inr (inr (inl e))) = subst (λ (x : Row). work (x ++ r) < work (Part n.Item ∷ r)) (sym e) (omega arith)
+rule_work n.Item made r (inr (inr (inr (inl e)))) = subst (λ (x : Row). work (x ++ r) < work (Part n.Item ∷ r)) (sym e) (omega arith)
+rule_work n.Item made r (inr (inr (inr (inr (inl e))))) = subst (λ (x : Row). work (x ++ r) < work (Part n.Item ∷ r)) (sym e) (omega arith)
+rule_work n.Item made r (inr (inr (inr (inr (inr (none)))))) = absurd none
+rule_work n.ExprContent made r (inl e) = subst (λ (x : Row). work (x ++ r) < work (Part n.ExprContent ∷ r)) (sym e) (omega arith)
+rule_work n.ExprContent made r (inr (inl e)) = subst (λ (x : Row). work (x ++ r) < work (Part n.ExprContent ∷ r)) (sym e) (omega arith)
+rule_work n.ExprContent made r (inr (inr (none))) = absurd none
+rule_work n.Paren made r (inl e) = subst (λ (x : Row). work (x ++ r) < work (Part n.Paren ∷ r)) (sym e) (omega arith)
+rule_work n.Paren made r (inr (none)) = absurd none
+rule_work n.ParenContent made r (inl e) = subst (λ (x : Row). work (x ++ r) < work (Part n.ParenContent ∷ r)) (sym e) (omega arith)
+rule_work n.ParenContent made r (inr (inl e)) = subst (λ (x : Row). work (x ++ r) < work (Part n.ParenContent ∷ r)) (sym e) (omega arith)
+rule_work n.ParenContent made r (inr (inr (none))) = absurd none
+rule_work n.MoreParens made r (inl e) = subst (λ (x : Row). work (x ++ r) < work (Part n.MoreParens ∷ r)) (sym e) (omega arith)
+rule_work n.MoreParens made r (inr (inl e)) = subst (λ (x : Row). work (x ++ r) < work (Part n.MoreParens ∷ r)) (sym e) (omega arith)
+rule_work n.MoreParens made r (inr (inr (none))) = absurd none
+rule_work n.Clause made r (inl e) = subst (λ (x : Row). work (x ++ r) < work (Part n.Clause ∷ r)) (sym e) (omega arith)
+rule_work n.Clause made r (inr (none)) = absurd none
+rule_work n.MoreClauses made r (inl e) = subst (λ (x : Row). work (x ++ r) < work (Part n.MoreClauses ∷ r)) (sym e) (omega arith)
+rule_work n.MoreClauses made r (inr (inl e)) = subst (λ (x : Row). work (x ++ r) < work (Part n.MoreClauses ∷ r)) (sym e) (omega arith)
+rule_work n.MoreClauses made r (inr (inr (none))) = absurd none
+
+pub part_work : (r : Row) (part : Nonterminal) (k : Terminal) (made : Row) → first_fit (rules part) k ≡ Some made → work (made ++ r) < work (Part part ∷ r)
+part_work r part k made is = rule_work part made r (chosen_is (rules part) k made is)
+
+-- ---- a parenthesis in a type or a pattern
+word_paren : t.Word ≡ t.ParenL → ⊥
+word_paren e = cc
+
+class_turns : (d : ℕ) (r : Row) → Turns d (Part n.Class ∷ r) t.ParenL d (Opening t.ParenL ∷ Part n.AnyWord ∷ Part n.MoreNames ∷ Token t.ParenR ∷ Closed ∷ Opening t.BracketL ∷ r)
+class_turns d r =
+    turns_then d (Part n.Class ∷ r) t.ParenL d (Part n.Labels ∷ r) d (Opening t.ParenL ∷ Part n.AnyWord ∷ Part n.MoreNames ∷ Token t.ParenR ∷ Closed ∷ Opening t.BracketL ∷ r)
+    (part_turns d r n.Class t.ParenL (Part n.Labels ∷ []) refl refl)
+    (turns_then d (Part n.Labels ∷ r) t.ParenL d (Part n.Names ∷ Opening t.BracketL ∷ r) d (Opening t.ParenL ∷ Part n.AnyWord ∷ Part n.MoreNames ∷ Token t.ParenR ∷ Closed ∷ Opening t.BracketL ∷ r)
+    (part_turns d r n.Labels t.ParenL (Part n.Names ∷ Opening t.BracketL ∷ []) refl refl)
+    (part_turns d (Opening t.BracketL ∷ r) n.Names t.ParenL (Opening t.ParenL ∷ Part n.AnyWord ∷ Part n.MoreNames ∷ Token t.ParenR ∷ Closed ∷ []) refl refl))
+
+group_rows_type : (e : Extent) (l d : ℕ) (r : Row) (ts : List Terminal) → 256 ≤ l → Derives e l d (Part n.TypePrim ∷ r) (t.ParenL ∷ ts) → (d < l) × Reads (Opened sorts.Type) e l (suc d) r ts
+group_rows_type e l d r ts h g = elim ((view g t.ParenL ts refl).1) [
+  | inl q ↦ (let w : View e l d (Token t.Word ∷ r) t.ParenL ts = view (subst (λ (x : Row). Derives e l d (x ++ r) (t.ParenL ∷ ts)) q (view g t.ParenL ts refl).2) t.ParenL ts refl in absurd (word_paren w.0))
+  | inr (inl q) ↦ (let w : View e l d (Opening t.ParenL ∷ Part n.TypeGroup ∷ r) t.ParenL ts = view (subst (λ (x : Row). Derives e l d (x ++ r) (t.ParenL ∷ ts)) q (view g t.ParenL ts refl).2) t.ParenL ts refl in (w.1, inl w.2))
+  | inr (inr (inl q)) ↦ (let w : View e l d (Opening t.ParenL ∷ Part n.AnyWord ∷ Part n.MoreNames ∷ Token t.ParenR ∷ Closed ∷ Opening t.BracketL ∷ Part n.TypeContent ∷ r) t.ParenL ts = view ((class_turns d (Part n.TypeContent ∷ r)).on e l ts h (subst (λ (x : Row). Derives e l d (x ++ r) (t.ParenL ∷ ts)) q (view g t.ParenL ts refl).2)) t.ParenL ts refl in (w.1, inr w.2))
+  | inr (inr (inr none)) ↦ absurd none
+]
+
+group_back_type : (e : Extent) (l d : ℕ) (r : Row) (ts : List Terminal) → 256 ≤ l → d < l → Reads (Opened sorts.Type) e l (suc d) r ts → Derives e l d (Part n.TypePrim ∷ r) (t.ParenL ∷ ts)
+group_back_type e l d r ts h low (inl g) = by (Opening t.ParenL ∷ Part n.TypeGroup ∷ []) (inr (inl refl)) (opening low g)
+group_back_type e l d r ts h low (inr g) = by (Part n.Class ∷ Part n.TypeContent ∷ []) (inr (inr (inl refl))) ((class_turns d (Part n.TypeContent ∷ r)).back e l ts h (opening low g))
+
+group_enters_type : (d : ℕ) (r : Row) (step : Step) (f : ℕ) → entered d (Opened sorts.Type) step f → Shifts d (Part n.TypePrim ∷ r) t.ParenL step f r
+group_enters_type d r (Next next) f (is, low, new) =
+    subst (λ (x : Reading). Shifts d (Part n.TypePrim ∷ r) t.ParenL (Next x) f r) (sym is) (subst (λ (x : ℕ). Shifts d (Part n.TypePrim ∷ r) t.ParenL (Next (Opened sorts.Type)) x r) (sym new) (record {
+      on = λ e l ts h g. (group_rows_type e l d r ts h g).1;
+      back = λ e l ts h g. group_back_type e l d r ts h (omega arith) g;
+    }))
+group_enters_type d r TooDeep f high = record {
+  dead = λ e ts g. absurd (let low : d < 256 = (group_rows_type e 256 d r ts (omega arith) g).0 in omega arith);
+  limit = suc d;
+  above = omega arith;
+  alive = by (Opening t.ParenL ∷ Part n.TypeGroup ∷ []) (inr (inl refl)) (opening (omega arith) (end tt));
+}
+group_enters_type d r Syntax f none = absurd none
+
+group_rows_pattern : (e : Extent) (l d : ℕ) (r : Row) (ts : List Terminal) → 256 ≤ l → Derives e l d (Part n.PatternPrim ∷ r) (t.ParenL ∷ ts) → (d < l) × Reads (Opened sorts.Pattern) e l (suc d) r ts
+group_rows_pattern e l d r ts h g = elim ((view g t.ParenL ts refl).1) [
+  | inl q ↦ (let w : View e l d (Token t.Word ∷ r) t.ParenL ts = view (subst (λ (x : Row). Derives e l d (x ++ r) (t.ParenL ∷ ts)) q (view g t.ParenL ts refl).2) t.ParenL ts refl in absurd (word_paren w.0))
+  | inr (inl q) ↦ (let w : View e l d (Opening t.ParenL ∷ Part n.PatternGroup ∷ r) t.ParenL ts = view (subst (λ (x : Row). Derives e l d (x ++ r) (t.ParenL ∷ ts)) q (view g t.ParenL ts refl).2) t.ParenL ts refl in (w.1, inl w.2))
+  | inr (inr (inl q)) ↦ (let w : View e l d (Opening t.ParenL ∷ Part n.AnyWord ∷ Part n.MoreNames ∷ Token t.ParenR ∷ Closed ∷ Opening t.BracketL ∷ Part n.PatternContent ∷ r) t.ParenL ts = view ((class_turns d (Part n.PatternContent ∷ r)).on e l ts h (subst (λ (x : Row). Derives e l d (x ++ r) (t.ParenL ∷ ts)) q (view g t.ParenL ts refl).2)) t.ParenL ts refl in (w.1, inr w.2))
+  | inr (inr (inr none)) ↦ absurd none
+]
+
+group_back_pattern : (e : Extent) (l d : ℕ) (r : Row) (ts : List Terminal) → 256 ≤ l → d < l → Reads (Opened sorts.Pattern) e l (suc d) r ts → Derives e l d (Part n.PatternPrim ∷ r) (t.ParenL ∷ ts)
+group_back_pattern e l d r ts h low (inl g) = by (Opening t.ParenL ∷ Part n.PatternGroup ∷ []) (inr (inl refl)) (opening low g)
+group_back_pattern e l d r ts h low (inr g) = by (Part n.Class ∷ Part n.PatternContent ∷ []) (inr (inr (inl refl))) ((class_turns d (Part n.PatternContent ∷ r)).back e l ts h (opening low g))
+
+group_enters_pattern : (d : ℕ) (r : Row) (step : Step) (f : ℕ) → entered d (Opened sorts.Pattern) step f → Shifts d (Part n.PatternPrim ∷ r) t.ParenL step f r
+group_enters_pattern d r (Next next) f (is, low, new) =
+    subst (λ (x : Reading). Shifts d (Part n.PatternPrim ∷ r) t.ParenL (Next x) f r) (sym is) (subst (λ (x : ℕ). Shifts d (Part n.PatternPrim ∷ r) t.ParenL (Next (Opened sorts.Pattern)) x r) (sym new) (record {
+      on = λ e l ts h g. (group_rows_pattern e l d r ts h g).1;
+      back = λ e l ts h g. group_back_pattern e l d r ts h (omega arith) g;
+    }))
+group_enters_pattern d r TooDeep f high = record {
+  dead = λ e ts g. absurd (let low : d < 256 = (group_rows_pattern e 256 d r ts (omega arith) g).0 in omega arith);
+  limit = suc d;
+  above = omega arith;
+  alive = by (Opening t.ParenL ∷ Part n.PatternGroup ∷ []) (inr (inl refl)) (opening (omega arith) (end tt));
+}
+group_enters_pattern d r Syntax f none = absurd none
+
+none_some : (s : Sort) → None ≡ Some s → ⊥
+none_some s e = cc
+
+some_sort : (s q : Sort) → Some s ≡ Some q → s ≡ q
+some_sort s q e = cc
+
+prim_enters : (part : Nonterminal) (sort : Sort) (d : ℕ) (r : Row) (step : Step) (f : ℕ) → prim_group part ≡ Some sort → entered d (Opened sort) step f → Shifts d (Part part ∷ r) t.ParenL step f r
+prim_enters n.TypePrim sort d r step f is en = group_enters_type d r step f (subst (λ (x : Sort). entered d (Opened x) step f) (sym (some_sort sorts.Type sort is)) en)
+prim_enters n.PatternPrim sort d r step f is en = group_enters_pattern d r step f (subst (λ (x : Sort). entered d (Opened x) step f) (sym (some_sort sorts.Pattern sort is)) en)
+prim_enters part sort d r step f is en = absurd (none_some sort is)
+
+group_at : (b : Bool) (o : Option Sort) (sort : Sort) → cond b o None ≡ Some sort → (b ≡ true) × (o ≡ Some sort)
+group_at true o sort e = (refl, e)
+group_at false o sort e = absurd (none_some sort e)
+
+pub group_enters : (part : Nonterminal) (k : Terminal) (sort : Sort) (d : ℕ) (r : Row) (step : Step) (f : ℕ) → group_of part k ≡ Some sort → entered d (Opened sort) step f → Shifts d (Part part ∷ r) k step f r
+group_enters part k sort d r step f is en =
+    let b : (same t.ParenL k ≡ true) × (prim_group part ≡ Some sort) = group_at (same t.ParenL k) (prim_group part) sort is in
+    subst (λ (x : Terminal). Shifts d (Part part ∷ r) x step f r) (same-true t.ParenL k b.0) (prim_enters part sort d r step f b.1 en)
+
+not_at : (b : Bool) (s : Sort) → cond b (Some s) None ≡ None → b ≡ false
+not_at true s e = absurd (none_some s (sym e))
+not_at false s e = refl
+
+not_group : (part : Nonterminal) (k : Terminal) → group_of part k ≡ None → is_group part k ≡ false
+not_group n.TypePrim k e = not_at (same t.ParenL k) sorts.Type e
+not_group n.PatternPrim k e = not_at (same t.ParenL k) sorts.Pattern e
+not_group part k e = refl
+
+pub part_goes : (d : ℕ) (r : Row) (part : Nonterminal) (k : Terminal) (made : Row) → group_of part k ≡ None → first_fit (rules part) k ≡ Some made → Turns d (Part part ∷ r) k d (made ++ r) × (work (made ++ r) < work (Part part ∷ r))
+part_goes d r part k made single is = (part_turns d r part k made (not_group part k single) is, part_work r part k made is)

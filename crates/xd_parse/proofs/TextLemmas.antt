@@ -1,0 +1,104 @@
+-- Texts from their tokens.
+use Rattle.std.proofs.Common.{◌≡◌, ◌<◌, ◌+◌, ℕ, zero, suc, ◌++◌, true, false, List, [], ◌∷◌, Option, Some, None, take, drop, length, get_or, map, refl, sym, ap, subst, ◌∙◌, arith}
+use Rattle.std.proofs.lemmas.List.{take-append-drop}
+use Rattle.std.specs.Prelude.{IsUtf8, MatchOption, IsSome}
+use Rattle.xd_lex.specs.declared.Kind.{Kind}
+use Rattle.xd_lex.specs.declared.Kind.TheVariants as kinds
+use Rattle.xd_lex.specs.Tokens.{Lexeme, lexeme_of, is_last, tokens_of}
+use Rattle.xd_lex.specs.Reading.{HasOneLast}
+use Rattle.xd_lex.proofs.ReadLemmas.{one_last}
+use Rattle.xd_parse.specs.declared.fault.Refusal.{Refusal}
+use Rattle.xd_parse.specs.declared.fault.Refusal.TheVariants as refusals
+use Rattle.xd_parse.specs.declared.grammar.Nonterminal.{Nonterminal}
+use Rattle.xd_parse.specs.declared.grammar.Nonterminal.TheVariants as n
+use Rattle.xd_parse.specs.declared.grammar.Symbol.TheVariants.{Part}
+use Rattle.xd_parse.specs.declared.grammar.Terminal.{Terminal}
+use Rattle.xd_parse.specs.declared.text.TextFault.{TextFault}
+use Rattle.xd_parse.specs.declared.text.TextFault.TheVariants as faults
+use Rattle.xd_parse.specs.Grammar.{Begins, Spells}
+use Rattle.xd_parse.specs.FirstFault.{IsFirstFault}
+use Rattle.xd_parse.specs.Text.{terminal_of, terminals_of, ends_text, is_text, SpellsText, IsPlaceAt, IsLexemeFault, IsTextFault, fault_of}
+use Rattle.xd_lex.specs.declared.lexer.Token.{Token}
+use Rattle.xd_base.specs.declared.Place.{Place}
+use Rattle.xd_parse.proofs.Ends.{sealed, ended, front_of}
+
+false_true : {A : Type 0} → false ≡ true → A
+false_true e = cc
+
+last_terminal : (kind : Kind) (text : List ℕ) → is_last kind ≡ true → ends_text (terminal_of kind text) ≡ true
+last_terminal kinds.End text h = refl
+last_terminal (kinds.Broken fault) text h = refl
+last_terminal kind text h = false_true h
+
+pub record LastIs (ts : List Terminal) : Type 0 where
+  pub front : List Terminal
+  pub last : Terminal
+  pub is : ts ≡ front ++ last ∷ []
+  pub ends : ends_text last ≡ true
+
+last_of : (ls : List Lexeme) → HasOneLast ls → LastIs (terminals_of ls)
+last_of [] h = absurd h
+last_of (l ∷ []) h = record { front = []; last = terminal_of l.kind l.text; is = refl; ends = last_terminal l.kind l.text h }
+last_of (l ∷ (m ∷ ls)) h = let more : LastIs (terminals_of (m ∷ ls)) = last_of (m ∷ ls) h.1 in record {
+  front = terminal_of l.kind l.text ∷ more.front;
+  last = more.last;
+  is = ap (λ (x : List Terminal). terminal_of l.kind l.text ∷ x) more.is;
+  ends = more.ends;
+}
+
+text_sealed : (part : Nonterminal) → is_text part ≡ true → sealed (Part part ∷ []) ≡ true
+text_sealed n.Definitions h = refl
+text_sealed n.TypeText h = refl
+text_sealed part h = false_true h
+
+pub spelled : (part : Nonterminal) (bytes : List ℕ) → is_text part ≡ true → IsUtf8 bytes → Begins 256 part (terminals_of (tokens_of bytes)) → SpellsText part bytes
+spelled part bytes h utf8 g = let last : LastIs (terminals_of (tokens_of bytes)) = last_of (tokens_of bytes) (one_last bytes) in record {
+  utf8 = utf8;
+  spells = ended g last.front last.last last.is last.ends (text_sealed part h);
+}
+
+take_drop : (k : ℕ) (ts : List Terminal) → ts ≡ take k ts ++ drop k ts
+take_drop k ts = sym (take-append-drop k ts)
+
+refused : (part : Nonterminal) (ts : List Terminal) (k : ℕ) (refusal : Refusal) → IsFirstFault part ts k refusal → Spells 256 part ts → ⊥
+refused part ts k refusals.Syntax f g = f.there 256 (front_of g (take (k + 1) ts) (drop (k + 1) ts) (take_drop (k + 1) ts))
+refused part ts k refusals.TooDeep f g = f.there.0 (front_of g (take (k + 1) ts) (drop (k + 1) ts) (take_drop (k + 1) ts))
+
+unspelled_at : (part : Nonterminal) (bytes : List ℕ) (fault : TextFault) → IsTextFault part bytes fault → SpellsText part bytes → ⊥
+unspelled_at part bytes (faults.NotUtf8 place) f s = f.refused s.utf8
+unspelled_at part bytes (faults.Syntax place) f s = refused part (terminals_of (tokens_of bytes)) f.1.index refusals.Syntax f.1.first s.spells
+unspelled_at part bytes (faults.TooDeep place) f s = refused part (terminals_of (tokens_of bytes)) f.1.index refusals.TooDeep f.1.first s.spells
+
+-- a text with a fault is not spelled
+pub unspelled : (part : Nonterminal) (bytes : List ℕ) (found : Option TextFault) → MatchOption found (SpellsText part bytes) (λ fault. IsTextFault part bytes fault) → IsSome found → SpellsText part bytes → ⊥
+unspelled part bytes None m some s = false_true some
+unspelled part bytes (Some fault) m some s = unspelled_at part bytes fault m s
+
+pub terminals_map : (xs : List Token) → map (λ (x : Token). terminal_of x.kind x.text.now) xs ≡ terminals_of (map lexeme_of xs)
+terminals_map [] = refl
+terminals_map (x ∷ xs) = ap (λ (ts : List Terminal). terminal_of x.kind x.text.now ∷ ts) (terminals_map xs)
+
+pub place_of : (xs : List Token) (i : ℕ) (d : Token) → i < length xs → IsPlaceAt (map lexeme_of xs) i (get_or xs i d).place
+place_of [] i d h = absurd (omega arith)
+place_of (x ∷ xs) zero d h = record { lexeme = lexeme_of x; stands = refl; at = refl }
+place_of (x ∷ xs) (suc i) d h = let more : IsPlaceAt (map lexeme_of xs) i (get_or xs i d).place = place_of xs i d (omega arith) in record { lexeme = more.lexeme; stands = more.stands; at = more.at }
+
+pub fault_lexeme : (part : Nonterminal) (ls : List Lexeme) (ts : List Terminal) (index : ℕ) (refusal : Refusal) (place : Place) → ts ≡ terminals_of ls → IsFirstFault part ts index refusal → IsPlaceAt ls index place → IsLexemeFault part ls (fault_of refusal place)
+fault_lexeme part ls ts index refusals.Syntax place e f p = record { index = index; first = subst (λ (x : List Terminal). IsFirstFault part x index refusals.Syntax) e f; placed = p }
+fault_lexeme part ls ts index refusals.TooDeep place e f p = record { index = index; first = subst (λ (x : List Terminal). IsFirstFault part x index refusals.TooDeep) e f; placed = p }
+
+text_of : (part : Nonterminal) (bytes : List ℕ) (fault : TextFault) → IsUtf8 bytes → IsLexemeFault part (tokens_of bytes) fault → IsTextFault part bytes fault
+text_of part bytes (faults.NotUtf8 place) utf8 f = absurd f
+text_of part bytes (faults.Syntax place) utf8 f = (utf8, f)
+text_of part bytes (faults.TooDeep place) utf8 f = (utf8, f)
+
+pub found_text : (part : Nonterminal) (bytes : List ℕ) (ls : List Lexeme) (found : Option TextFault) → is_text part ≡ true → IsUtf8 bytes → ls ≡ tokens_of bytes → MatchOption found (Begins 256 part (terminals_of ls)) (λ fault. IsLexemeFault part ls fault) → MatchOption found (SpellsText part bytes) (λ fault. IsTextFault part bytes fault)
+found_text part bytes ls None h utf8 e g = spelled part bytes h utf8 (subst (λ (x : List Lexeme). Begins 256 part (terminals_of x)) e g)
+found_text part bytes ls (Some fault) h utf8 e f = text_of part bytes fault utf8 (subst (λ (x : List Lexeme). IsLexemeFault part x fault) e f)
+
+-- the terminals of the tokens are what was read
+pub read_front : (part : Nonterminal) (xs : List Token) (ks ts : List Terminal) → ks ≡ map (λ (x : Token). terminal_of x.kind x.text.now) xs → ts ≡ ks → Begins 256 part ts → Begins 256 part (terminals_of (map lexeme_of xs))
+read_front part xs ks ts e f g = subst (Begins 256 part) (f ∙ e ∙ terminals_map xs) g
+
+pub read_fault : (part : Nonterminal) (xs : List Token) (ks ts : List Terminal) (index : ℕ) (refusal : Refusal) (place : Place) → ks ≡ map (λ (x : Token). terminal_of x.kind x.text.now) xs → ts ≡ ks → IsFirstFault part ts index refusal → IsPlaceAt (map lexeme_of xs) index place → IsLexemeFault part (map lexeme_of xs) (fault_of refusal place)
+read_fault part xs ks ts index refusal place e f g p = fault_lexeme part (map lexeme_of xs) ts index refusal place (f ∙ e ∙ terminals_map xs) g p

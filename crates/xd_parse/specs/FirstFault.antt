@@ -1,0 +1,26 @@
+-- The first token that no text goes on with.
+use Rattle.std.specs.Prelude.{◌≡◌, ◌<◌, ◌+◌, ℕ, List, [], ◌∷◌, length, take}
+use Rattle.xd_parse.specs.declared.fault.Refusal.{Refusal}
+use Rattle.xd_parse.specs.declared.fault.Refusal.TheVariants as refusals
+use Rattle.xd_parse.specs.declared.grammar.Nonterminal.{Nonterminal}
+use Rattle.xd_parse.specs.declared.grammar.Symbol.{Symbol}
+use Rattle.xd_parse.specs.declared.grammar.Symbol.TheVariants.{Part}
+use Rattle.xd_parse.specs.declared.grammar.Terminal.{Terminal}
+use Rattle.xd_parse.specs.declared.machine.Reading.{Reading}
+use Rattle.xd_parse.specs.declared.machine.Reading.TheVariants.{Plain}
+use Rattle.xd_parse.specs.Grammar.{Begins}
+
+-- The token n is the first that no text goes on with: without a limit of nesting, or else within it.
+abbrev pub IsRefusedAt : Nonterminal → List Terminal → ℕ → Refusal → Type 0
+IsRefusedAt part ts n refusals.Syntax = (limit : ℕ) → ¬ (Begins limit part (take (n + 1) ts))
+IsRefusedAt part ts n refusals.TooDeep = ¬ (Begins 256 part (take (n + 1) ts)) × ((limit : ℕ) × Begins limit part (take (n + 1) ts))
+
+pub record IsFirstFault (part : Nonterminal) (ts : List Terminal) (n : ℕ) (refusal : Refusal) : Type 0 where
+  pub within : n < length ts
+  pub before : Begins 256 part (take n ts)
+  pub there : IsRefusedAt part ts n refusal
+
+pub record IsStart (part : Nonterminal) (reading : Reading) (depth : ℕ) (stack : List Symbol) : Type 0 where
+  pub plain : reading ≡ Plain
+  pub flat : depth ≡ 0
+  pub one : stack ≡ Part part ∷ []

@@ -1,0 +1,6 @@
+pub mod Grammar
+pub mod Rows
+pub mod Fits
+pub mod Machine
+pub mod FirstFault
+pub mod Text

@@ -1,0 +1,14 @@
+//! Programs and types from bytes.
+#![tactic(auto)]
+
+mod fault;
+mod grammar;
+mod machine;
+mod text;
+
+pub use fault::{FirstFault, Refusal, first_fault};
+pub use grammar::{Nonterminal, Symbol, Terminal};
+pub use text::{TextFault, program_fault, type_fault};
+
+#[cfg(test)]
+mod tests;

@@ -1,0 +1,149 @@
+//! The fault of a text.
+
+ghost use Rattle.std.specs.Prelude.{◌≡◌, ◌<◌, true, length, map, IfOk, MatchOption, IsSome};
+ghost use Rattle.xd_lex.specs.Tokens.{lexeme_of};
+ghost use Rattle.xd_parse.specs.Grammar.{Begins};
+ghost use Rattle.xd_parse.specs.declared.grammar.Nonterminal.TheVariants as nonterminals;
+ghost use Rattle.xd_parse.specs.Text.{word_terminal, terminal_of, terminals_of, is_text, SpellsText, IsTextFault, IsPlaceAt, IsLexemeFault, fault_of};
+
+use crate::fault::{Refusal, first_fault};
+use crate::grammar::{Nonterminal, Terminal};
+use std::alloc::Global;
+use xd_base::Place;
+use xd_doc::NoMemory;
+use xd_lex::{Kind, LexError, Token, tokens};
+
+/// Why a text is no program, or no type, and where.
+#[derive(Clone, Copy, Debug, PartialEq, Eq)]
+pub enum TextFault {
+    /// It is not UTF-8; the place is the one after its longest front that is.
+    NotUtf8(Place),
+    /// No text goes on with the token at this place.
+    Syntax(Place),
+    /// The token at this place opens the level 257 of nesting.
+    TooDeep(Place),
+}
+
+/// What a word is to the grammar.
+fn word_terminal(word: &str) -> Terminal
+    ensures { result ≡ word_terminal word.now }
+{
+    if word == "type" {
+        Terminal::Type
+    } else if word == "fun" {
+        Terminal::Fun
+    } else if word == "val" {
+        Terminal::Val
+    } else if word == "as" {
+        Terminal::As
+    } else if word == "match" {
+        Terminal::Match
+    } else if word == "with" {
+        Terminal::With
+    } else {
+        Terminal::Word
+    }
+}
+
+/// What a token is to the grammar.
+fn terminal(kind: Kind, text: &str) -> Terminal
+    ensures { result ≡ terminal_of kind text.now }
+{
+    match kind {
+        Kind::Word => word_terminal(text),
+        Kind::Label => Terminal::Label,
+        Kind::Text => Terminal::Text,
+        Kind::ParenL => Terminal::ParenL,
+        Kind::ParenR => Terminal::ParenR,
+        Kind::BracketL => Terminal::BracketL,
+        Kind::BracketR => Terminal::BracketR,
+        Kind::Comma => Terminal::Comma,
+        Kind::Bar => Terminal::Bar,
+        Kind::Star => Terminal::Star,
+        Kind::Plus => Terminal::Plus,
+        Kind::Query => Terminal::Query,
+        Kind::Equals => Terminal::Equals,
+        Kind::Colon => Terminal::Colon,
+        Kind::Tilde => Terminal::Tilde,
+        Kind::Caret => Terminal::Caret,
+        Kind::Arrow => Terminal::Arrow,
+        Kind::End => Terminal::End,
+        Kind::Broken(_) => Terminal::Broken,
+    }
+}
+
+/// The fault at this token.
+fn fault_at(refusal: Refusal, place: Place) -> TextFault
+    ensures { result ≡ fault_of refusal place }
+{
+    match refusal {
+        Refusal::Syntax => TextFault::Syntax(place),
+        Refusal::TooDeep => TextFault::TooDeep(place),
+    }
+}
+
+/// The terminals of tokens.
+fn terminals(alloc: Global, all: &[Token]) -> Result<Vec<Terminal>, NoMemory>
+    ensures { IfOk result (λ made. made.items ≡ map (λ t. terminal_of t.kind t.text.now) all.now) }
+{
+    let made = all.iter().map(|t| terminal(t.kind, t.text)).collect(alloc)?;
+    Ok(made)
+}
+
+/// The place of a token.
+fn place_at(all: &[Token], index: usize) -> Place
+    requires { index < length all.now }
+    ensures { IsPlaceAt (map lexeme_of all.now) index result }
+{
+    all[index].place
+}
+
+/// The first fault of tokens, and its place.
+fn placed_fault(
+    alloc: Global,
+    part: Nonterminal,
+    all: &[Token],
+) -> Result<Option<TextFault>, NoMemory>
+    ensures { IfOk result (λ found. MatchOption found (Begins 256 part (terminals_of (map lexeme_of all.now))) (λ fault. IsLexemeFault part (map lexeme_of all.now) fault)) }
+{
+    let kinds = terminals(alloc, all)?;
+    match first_fault(alloc, part, kinds.as_slice())? {
+        None => Ok(None),
+        Some(fault) => {
+            let place = place_at(all, fault.index);
+            Ok(Some(fault_at(fault.refusal, place)))
+        }
+    }
+}
+
+fn text_fault(alloc: Global, part: Nonterminal, bytes: &[u8]) -> Result<Option<TextFault>, NoMemory>
+    requires { is_text part ≡ true }
+    ensures { IfOk result (λ found. MatchOption found (SpellsText part bytes.now) (λ fault. IsTextFault part bytes.now fault)) }
+{
+    let all = match tokens(alloc, bytes) {
+        Ok(all) => all,
+        Err(LexError::NotUtf8(place)) => return Ok(Some(TextFault::NotUtf8(place))),
+        Err(LexError::NoMemory) => return Err(NoMemory),
+    };
+    let found = placed_fault(alloc, part, all.as_slice())?;
+    Ok(found)
+}
+
+/// The fault of a program's text: not UTF-8, else the first token that no program goes on with or that opens too
+/// much nesting; `None` exactly where the text is a program within the nesting limit.
+pub fn program_fault(alloc: Global, bytes: &[u8]) -> Result<Option<TextFault>, NoMemory>
+    ensures fault { IfOk result (λ found. MatchOption found (SpellsText nonterminals.Definitions bytes.now) (λ fault. IsTextFault nonterminals.Definitions bytes.now fault)) }
+    ensures unspelled { IfOk result (λ found. IsSome found → ¬ (SpellsText nonterminals.Definitions bytes.now)) }
+{
+    let found = text_fault(alloc, Nonterminal::Definitions, bytes)?;
+    Ok(found)
+}
+
+/// The fault of a type's text, in the same way.
+pub fn type_fault(alloc: Global, bytes: &[u8]) -> Result<Option<TextFault>, NoMemory>
+    ensures fault { IfOk result (λ found. MatchOption found (SpellsText nonterminals.TypeText bytes.now) (λ fault. IsTextFault nonterminals.TypeText bytes.now fault)) }
+    ensures unspelled { IfOk result (λ found. IsSome found → ¬ (SpellsText nonterminals.TypeText bytes.now)) }
+{
+    let found = text_fault(alloc, Nonterminal::TypeText, bytes)?;
+    Ok(found)
+}
