@@ -147,7 +147,7 @@ fn goes_over_deep_and_wide_documents(rt: HostRuntime) -> Result<(), Fail> {
     auto.add_label_move(wide, one(alloc, "a")?, end, wide)?;
     for is_deep in [true, false] {
         let mut store = Store::new(alloc);
-        let seq = chain(alloc, &mut store, is_deep, 100_000)?;
+        let seq = chain(alloc, &mut store, is_deep, 1_000_000)?;
         let mut scratch = Scratch::reserve(alloc, auto.len(), store.len())?;
         assert_eq!(rt; member(&auto, deep, &store, seq, &mut scratch), is_deep);
         assert_eq!(rt; member(&auto, wide, &store, seq, &mut scratch), !is_deep);
