@@ -1,5 +1,5 @@
 -- What the nodes of a store stand for.
-use Rattle.std.specs.Prelude.{◌≡◌, ℕ, ◌<◌, Bool, true, List, [], ◌∷◌, ◌++◌, length, Option, Some, None, is_some, slice_index_or}
+use Rattle.std.specs.Prelude.{◌≡◌, ℕ, ◌+◌, ◌<◌, ◌≤◌, Bool, true, false, cond, List, [], ◌∷◌, ◌++◌, length, Option, Some, None, is_some, slice_index_or, slice_set}
 use Rattle.std.specs.Str.{is_utf8}
 use Rattle.std.specs.List.{AllByRecursion}
 use Rattle.xd_doc.specs.Word.{is_word}
@@ -63,8 +63,14 @@ first_of_document empty = None
 first_of_document (text s r) = Some (Text s)
 first_of_document (element l c r) = Some (Elem l)
 
+-- a text has no content
+abbrev pub IsBare : Item → Seq → Type 0
+IsBare (Text s) content = content ≡ no_items
+IsBare (Elem l) content = Unit {0}
+
 -- a node's item is proper, and its links are among these documents
 pub record IsLinked (ds : List Document) (n : Node) : Type 0 where
+  pub bare : IsBare n.item n.content
   pub item : is_proper_item n.item ≡ true
   pub content : BelongsTo ds n.content
   pub next : BelongsTo ds n.next
@@ -106,6 +112,29 @@ pub record IsCopied (ds es : List Document) (cs : List Seq) (o : Option ℕ) : T
   pub belongs : BelongsTo es (copy_at cs o)
   pub same : document_at es (copy_at cs o) ≡ at_node ds o
 
--- each node so far is copied
-abbrev pub AreCopied : List Document → List Document → List Seq → Type 0
-AreCopied ds es cs = (o : Option ℕ) → IsBelow (length cs) o → IsCopied ds es cs o
+-- what is marked: no node, or one of those whose mark is set
+abbrev pub IsMarked : List Bool → Option ℕ → Type 0
+IsMarked ms None = Unit {0}
+IsMarked ms (Some i) = slice_index_or ms i false ≡ true
+
+abbrev pub with_mark : List Bool → Option ℕ → List Bool
+with_mark ms None = ms
+with_mark ms (Some i) = slice_set ms i true
+
+-- how many are marked
+abbrev pub marks_in : List Bool → ℕ
+marks_in [] = 0
+marks_in (m ∷ ms) = cond m 1 0 + marks_in ms
+
+-- from this node on, the links of each marked node are marked
+abbrev pub IsClosed : List Node → List Bool → ℕ → Type 0
+IsClosed ns ms from = (i : ℕ) (n : Node) → from ≤ i → IsMarked ms (Some i) → n ≡ slice_index_or ns i n → IsMarked ms n.content.node × IsMarked ms n.next.node
+
+-- each node that is marked so far is copied
+abbrev pub AreCopied : List Document → List Document → List Bool → List Seq → Type 0
+AreCopied ds es ms cs = (o : Option ℕ) → IsBelow (length cs) o → IsMarked ms o → IsCopied ds es cs o
+
+-- the link has a copy that belongs to the store
+pub record HasCopy (es : List Document) (cs : List Seq) (o : Option ℕ) : Type 0 where
+  pub place : IsBelow (length cs) o
+  pub belongs : BelongsTo es (copy_at cs o)

@@ -5,6 +5,8 @@ mod class;
 mod error;
 mod label;
 mod store;
+#[cfg(test)]
+mod tests;
 mod text;
 
 pub use class::Class;

@@ -1,9 +1,9 @@
 //! The store: documents as nodes that are linked and shared.
 
-ghost use Rattle.std.specs.Prelude.{true, not, ◌↔◌, List, IsSome, None, Some, ◌≡◌, ◌+◌, ◌<◌, ◌++◌, ◌∷◌, [], length, IfOk, OnErr, OnOk, IsTrue, slice_index_or};
+ghost use Rattle.std.specs.Prelude.{true, not, ◌↔◌, List, IsSome, None, Some, ◌≡◌, ◌+◌, ◌<◌, ◌++◌, ◌∷◌, [], length, IfOk, OnErr, OnOk, IsTrue, slice_index_or, ◌≤◌, vec_len};
 ghost use Rattle.std.specs.Option.{option_copied};
-ghost use Rattle.xd_doc.specs.Document.{Document, empty, text as text_before, element, rest_of, content_of, is_proper, has_item, first_then, join};
-ghost use Rattle.xd_doc.specs.Stored.{IsLinked, IsBelow, copy_at, IsSpine, node_document, no_items, place_in_store, is_proper_item, document_at, BelongsTo, Keeps, IsOlder, first_of_document};
+ghost use Rattle.xd_doc.specs.Document.{Document, empty, text as text_before, element, rest_of, content_of, is_proper, has_item, first_then, join, size};
+ghost use Rattle.xd_doc.specs.Stored.{IsLinked, IsBare, marks_in, at_node, documents, AreLinked, IsBelow, HasCopy, IsMarked, IsClosed, with_mark, item_before, copy_at, IsSpine, node_document, no_items, place_in_store, is_proper_item, document_at, BelongsTo, Keeps, IsOlder, first_of_document};
 
 use crate::error::NoMemory;
 use crate::label::Label;
@@ -275,31 +275,88 @@ impl Store {
         self.push_node(copy)
     }
 
-    /// The same document in another store. Each node up to the document's is copied.
+    /// The same document in another store.
+    ///
+    /// It copies the nodes that the document reaches, each once, so contents and rests that are
+    /// shared stay shared. It takes time, and while it works memory, in proportion to the number
+    /// of nodes up to the document's own.
     pub fn copy_out(&self, alloc: Global, seq: Seq, into: &mut Store) -> Result<Seq, NoMemory>
         requires { BelongsTo self.now seq }
         ensures ok { IfOk result (λ copy. document_at into.new copy ≡ document_at self.now seq) }
         ensures belongs { IfOk result (BelongsTo into.new) }
         ensures keeps { Keeps into.old into.new }
+        ensures once { length into.new ≤ length into.old + length self.now }
+        ensures few { length into.new ≤ length into.old + size (document_at self.now seq) }
     {
         let Some(place) = seq.node else {
             return Ok(seq);
         };
         let nodes = &self.nodes;
         let _count = nodes.len();
-        let mut copies = Vec::new(alloc);
+        let reached = reached_from(alloc, nodes, place)?;
+        let mut copies = Vec::with_capacity(alloc, place + 1)?;
         for i in 0..place + 1 {
-            let node = &nodes[i];
-            let copy = Node {
-                item: node.item.share()?,
-                content: copy_of(&copies, node.content),
-                next: copy_of(&copies, node.next),
+            let copy = if reached[i] {
+                copy_node(&nodes[i], &copies, into)?
+            } else {
+                Seq::empty()
             };
-            let made = into.push_node(copy)?;
-            copies.push(made)?;
+            copies.push(copy)?;
         }
         Ok(copies[place])
     }
+}
+
+/// Which of the nodes up to this place are reached from it.
+fn reached_from(alloc: Global, nodes: &Vec<Node>, place: usize) -> Result<Vec<bool>, NoMemory>
+    requires place { place < vec_len nodes.now }
+    requires linked { AreLinked [] nodes.now.items }
+    ensures count { IfOk result (λ reached. vec_len reached ≡ place + 1) }
+    ensures place { IfOk result (λ reached. IsMarked reached.items (Some place)) }
+    ensures closed { IfOk result (λ reached. IsClosed nodes.now.items reached.items 0) }
+    ensures few { IfOk result (λ reached. marks_in reached.items ≤ size (at_node (documents nodes.now.items) (Some place))) }
+{
+    let _count = nodes.len();
+    let mut reached = vec![in alloc; false; place + 1]?;
+    reached[place] = true;
+    for i in (0..place + 1).rev() {
+        if reached[i] {
+            let node = &nodes[i];
+            mark(&mut reached, node.content);
+            mark(&mut reached, node.next);
+        }
+    }
+    Ok(reached)
+}
+
+fn mark(reached: &mut Vec<bool>, link: Seq)
+    requires { IsBelow (vec_len reached.old) link.node }
+    ensures marks { reached.new.items ≡ with_mark reached.old.items link.node }
+    ensures len { vec_len reached.new ≡ vec_len reached.old }
+{
+    if let Some(place) = link.node {
+        reached[place] = true;
+    }
+}
+
+/// A node in another store, where the copies of its links are known.
+fn copy_node(node: &Node, copies: &[Seq], into: &mut Store) -> Result<Seq, NoMemory>
+    requires item { is_proper_item node.now.item ≡ true }
+    requires content { HasCopy into.old copies.now node.now.content.node }
+    requires next { HasCopy into.old copies.now node.now.next.node }
+    requires bare { IsBare node.now.item node.now.content }
+    ensures ok { IfOk result (λ copy. document_at into.new copy ≡ item_before node.now.item (document_at into.old (copy_at copies.now node.now.content.node)) (document_at into.old (copy_at copies.now node.now.next.node))) }
+    ensures belongs { IfOk result (BelongsTo into.new) }
+    ensures keeps { Keeps into.old into.new }
+    ensures one { length into.new ≤ length into.old + 1 }
+    ensures err { OnErr result (into.new ≡ into.old) }
+{
+    let copy = Node {
+        item: node.item.share()?,
+        content: copy_of(copies, node.content),
+        next: copy_of(copies, node.next),
+    };
+    into.push_node(copy)
 }
 
 fn copy_of(copies: &[Seq], link: Seq) -> Seq

@@ -1,0 +1,4 @@
+pub mod Closed
+pub mod Extending
+pub mod Anys
+pub mod RunLaw

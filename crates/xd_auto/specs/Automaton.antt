@@ -1,0 +1,67 @@
+-- Tree automata over documents: states with moves, and which documents a state accepts.
+use Rattle.std.specs.Prelude.{◌≡◌, ℕ, ◌<◌, Bool, false, ◌&&◌, List, [], ◌∷◌, ◌++◌, length, slice_index_or, slice_set}
+use Rattle.std.specs.List.{All, list_any}
+use Rattle.xd_doc.specs.Document.{Document, empty, text, element}
+use Rattle.xd_doc.specs.Classes.{class_has}
+use Rattle.xd_auto.specs.declared.auto.State.{State}
+use Rattle.xd_auto.specs.declared.auto.LabelMove.{LabelMove}
+
+-- what a state has: whether it accepts the empty document, its moves on an element, and its moves on a text, each to a state for what follows
+pub record StateMoves : Type 0 where
+  pub last : Bool
+  pub labels : List LabelMove
+  pub texts : List State
+
+-- the states, by their numbers
+abbrev pub Automaton : Type 0
+Automaton = List StateMoves
+
+abbrev pub state_number : State → ℕ
+state_number s = s.number
+
+-- the state belongs to the automaton
+abbrev pub IsState : Automaton → State → Type 0
+IsState a s = state_number s < length a
+
+abbrev pub no_moves : Bool → StateMoves
+no_moves last = record { last = last; labels = []; texts = [] }
+
+-- what the state has
+abbrev pub moves_at : Automaton → State → StateMoves
+moves_at a s = slice_index_or a (state_number s) (no_moves false)
+
+-- whether the state accepts the document
+abbrev pub accepts : Automaton → Document → State → Bool
+accepts a empty s = (moves_at a s).last
+accepts a (text t rest) s = list_any (λ r. accepts a rest r) (moves_at a s).texts
+accepts a (element l content rest) s =
+    list_any (λ m. class_has m.class l && (accepts a content m.content && accepts a rest m.rest)) (moves_at a s).labels
+
+-- the moves lead to states below n
+pub record LeadsBelow (n : ℕ) (moves : StateMoves) : Type 0 where
+  pub labels : All (λ m. (state_number m.content < n) × (state_number m.rest < n)) moves.labels
+  pub texts : All (λ r. state_number r < n) moves.texts
+
+-- each move leads to a state of the automaton
+abbrev pub IsClosed : Automaton → Type 0
+IsClosed a = All (LeadsBelow (length a)) a
+
+-- each old state belongs to the new automaton too, with the moves that it had
+pub record Extends (old new : Automaton) : Type 0 where
+  pub states : (s : State) → IsState old s → IsState new s
+  pub moves : (s : State) → IsState old s → moves_at new s ≡ moves_at old s
+
+-- each old state accepts what it did
+abbrev pub KeepsAccepting : Automaton → Automaton → Type 0
+KeepsAccepting old new = (d : Document) (s : State) → IsState old s → accepts new d s ≡ accepts old d s
+
+-- the automaton with these moves at a state
+abbrev pub with_moves : Automaton → State → StateMoves → Automaton
+with_moves a s moves = slice_set a (state_number s) moves
+
+-- the automaton with one more move of a state, behind its others
+abbrev pub with_label_move : Automaton → State → LabelMove → Automaton
+with_label_move a s move = with_moves a s (record (moves_at a s) { labels = (moves_at a s).labels ++ move ∷ [] })
+
+abbrev pub with_text_move : Automaton → State → State → Automaton
+with_text_move a s rest = with_moves a s (record (moves_at a s) { texts = (moves_at a s).texts ++ rest ∷ [] })

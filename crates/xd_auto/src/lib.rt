@@ -1,0 +1,6 @@
+//! Tree automata over documents: acceptance, and operations that are exact on what states accept.
+#![tactic(auto)]
+
+mod auto;
+
+pub use auto::{Auto, LabelMove, State};

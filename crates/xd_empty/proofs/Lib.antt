@@ -1,0 +1,2 @@
+pub mod InhabitLemmas
+pub mod LabelLemmas

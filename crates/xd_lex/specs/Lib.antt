@@ -1,0 +1,5 @@
+pub mod Scan
+pub mod Spelled
+pub mod Tokens
+pub mod Left
+pub mod Reading

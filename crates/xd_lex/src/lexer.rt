@@ -1,0 +1,193 @@
+//! The tokens of a text, one after the other.
+
+ghost use Rattle.std.specs.Prelude.{All, ◌≡◌, ◌↔◌, ◌+◌, ◌<◌, ◌∷◌, ◌^◌, [], length, true, false, map, IfOk, IfErr, IsUtf8};
+ghost use Rattle.xd_lex.specs.declared.lexer.LexError.TheVariants.{NoMemory};
+ghost use Rattle.xd_lex.specs.Tokens.{lexeme_of, tokens_from, tokens_of, is_last, IsNotUtf8At, IsRefused};
+ghost use Rattle.xd_lex.specs.Left.{tokens_left, IsPlaced};
+ghost use Rattle.xd_lex.specs.Spelled.{IsSpelling};
+
+use crate::place::past;
+use crate::scan::front;
+use crate::{Front, Kind};
+use std::alloc::{AllocFailed, Global};
+use std::marker::Model;
+use xd_base::Place;
+
+/// A token, the slice that spells it, and the place of its first character.
+#[derive(Clone, Copy, Debug)]
+pub struct Token<'a> {
+    pub kind: Kind,
+    pub text: &'a str,
+    pub place: Place,
+}
+
+/// The bytes aren't UTF-8. The place is the one after their longest front that is.
+#[derive(Clone, Copy, Debug, PartialEq, Eq)]
+pub struct NotUtf8 {
+    pub place: Place,
+}
+
+/// Why there are no tokens.
+#[derive(Clone, Copy, Debug, PartialEq, Eq)]
+pub enum LexError {
+    NotUtf8(Place),
+    NoMemory,
+}
+
+impl<T: Drop> From<AllocFailed<T>> for LexError {
+    ghost from_gives = { λ _ e. e ≡ NoMemory };
+
+    fn from(_e: AllocFailed<T>) -> LexError {
+        LexError::NoMemory
+    }
+}
+
+impl Kind {
+    /// Whether no token comes after one of this kind.
+    pub fn is_last(self) -> bool
+        ensures { result ≡ is_last self }
+    {
+        match self {
+            Kind::End | Kind::Broken(_) => true,
+            _ => false,
+        }
+    }
+}
+
+/// A token, what stands behind it, and the place there.
+#[derive(Clone, Copy)]
+struct Cut<'a> {
+    token: Token<'a>,
+    rest: &'a str,
+    place: Place,
+}
+
+/// The first token of a text.
+fn first_token<'a>(text: &'a str, place: Place) -> Cut<'a>
+    requires { IsPlaced place text.now }
+    ensures first { tokens_from 0 place text.now ≡ lexeme_of result.token ∷ tokens_left (is_last result.token.kind) result.place result.rest.now }
+    ensures spelled { IsSpelling result.token.kind result.token.text.now }
+    ensures placed { IsPlaced result.place result.rest.now }
+{
+    let mut rest = text;
+    let mut place = place;
+    'gaps: while !rest.is_empty() {
+        match front(rest.as_bytes()) {
+            Front::Gap(n) => {
+                let (gap, behind) = rest.split_at(n);
+                place = past(place, gap.as_bytes());
+                rest = behind;
+            }
+            Front::Token(kind, n) => {
+                let (text, behind) = rest.split_at(n);
+                return Cut {
+                    token: Token { kind, text, place },
+                    rest: behind,
+                    place: past(place, text.as_bytes()),
+                };
+            }
+            Front::Fault(fault) => {
+                let kind = Kind::Broken(fault);
+                return Cut {
+                    token: Token {
+                        kind,
+                        text: "",
+                        place,
+                    },
+                    rest,
+                    place,
+                };
+            }
+        }
+    }
+    let kind = Kind::End;
+    Cut {
+        token: Token {
+            kind,
+            text: "",
+            place,
+        },
+        rest,
+        place,
+    }
+}
+
+/// Gives the tokens of a text one after the other, and takes no memory.
+#[derive(Drop)]
+pub struct Lexer<'a> {
+    rest: &'a str,
+    place: Place,
+    done: bool,
+}
+
+impl<'a> Model for Lexer<'a> {
+    ghost use Rattle.std.specs.Prelude.{List};
+    ghost use Rattle.xd_lex.specs.Tokens.{Lexeme};
+    ghost use Rattle.xd_lex.specs.Left.{tokens_left, IsPlaced};
+
+    ghost Value = { List Lexeme };
+
+    ghost view = { λ l. tokens_left l.done l.place l.rest.now };
+
+    ghost invariant = { λ l. IsPlaced l.place l.rest.now };
+}
+
+impl<'a> Lexer<'a> {
+    /// All tokens of a text.
+    pub fn new(bytes: &'a [u8]) -> Result<Lexer<'a>, NotUtf8>
+        ensures utf8 { IfOk result (λ _. IsUtf8 bytes.now) }
+        ensures ok { IfOk result (λ lexer. lexer ≡ tokens_of bytes.now) }
+        ensures some { IfOk result (λ lexer. 0 < length lexer) }
+        ensures err { IfErr result (λ e. IsNotUtf8At bytes.now e.place) }
+    {
+        let place = Place { line: 1, column: 1 };
+        match std::str::from_utf8(bytes) {
+            Ok(rest) => Ok(Lexer {
+                rest,
+                place,
+                done: false,
+            }),
+            Err(e) => {
+                let front = &bytes[..e.valid_up_to()];
+                let place = past(place, front);
+                Err(NotUtf8 { place })
+            }
+        }
+    }
+
+    /// The next token.
+    pub fn next_token(&mut self) -> Token<'a>
+        requires { 0 < length self.old }
+        ensures token { self.old ≡ lexeme_of result ∷ self.new }
+        ensures spelled { IsSpelling result.kind result.text.now }
+        ensures last { (is_last result.kind ≡ true) ↔ (self.new ≡ []) }
+        ensures more { is_last result.kind ≡ false → 0 < length self.new }
+    {
+        let cut = first_token(self.rest, self.place);
+        self.rest = cut.rest;
+        self.place = cut.place;
+        self.done = cut.token.kind.is_last();
+        cut.token
+    }
+}
+
+/// The tokens of a text, in order. The last is `End` or `Broken`.
+pub fn tokens<'a>(alloc: Global, bytes: &'a [u8]) -> Result<Vec<Token<'a>>, LexError>
+    ensures utf8 { IfOk result (λ _. IsUtf8 bytes.now) }
+    ensures ok { IfOk result (λ v. map lexeme_of v.items ≡ tokens_of bytes.now) }
+    ensures spelled { IfOk result (λ v. All (λ token. IsSpelling token.kind token.text.now) v.items) }
+    ensures err { IfErr result (λ e. IsRefused e bytes.now) }
+{
+    let mut lexer = match Lexer::new(bytes) {
+        Ok(lexer) => lexer,
+        Err(e) => return Err(LexError::NotUtf8(e.place)),
+    };
+    let mut all = Vec::new(alloc);
+    'tokens: loop {
+        let token = lexer.next_token();
+        all.push(token)?;
+        if token.kind.is_last() {
+            return Ok(all);
+        }
+    }
+}

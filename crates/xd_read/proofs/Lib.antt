@@ -1,0 +1,7 @@
+pub mod Machine
+pub mod StoreItems
+pub mod Steps
+pub mod Runs
+pub mod CanonicalLemmas
+pub mod CanonicalSpells
+pub mod OneFault

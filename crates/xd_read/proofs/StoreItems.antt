@@ -1,0 +1,108 @@
+-- Finished items, and their storing from the last to the first.
+use Rattle.std.proofs.Common.{◌≡◌, ℕ, ◌<◌, ◌≤◌, List, [], ◌∷◌, ◌++◌, length, take, drop, refl, sym, ap, subst, ◌∙◌, arith, length-append, append_assoc}
+use Rattle.std.specs.List.{AllByRecursion}
+use Rattle.std.proofs.Math.Seq.{take-append_seam, drop-append_seam}
+use Rattle.xd_doc.specs.Document.{Document, text, element, join}
+use Rattle.xd_doc.specs.Stored.{document_at, BelongsTo, Keeps, no_items}
+use Rattle.xd_doc.specs.declared.store.Seq.{Seq}
+use Rattle.xd_doc.proofs.StoredLemmas.{Keeps-same, Keeps-trans}
+use Rattle.xd_read.specs.declared.reader.Finished.{Finished}
+use Rattle.xd_read.specs.declared.reader.Finished.TheVariants.{Text, Element}
+use Rattle.xd_read.specs.Pending.{items_of, IsInStore}
+
+pub items_of-append : (ds : List Document) (xs ys : List Finished) → items_of ds (xs ++ ys) ≡ join (items_of ds xs) (items_of ds ys)
+items_of-append ds [] ys = refl
+items_of-append ds (Text s ∷ xs) ys = ap (text s) (items_of-append ds xs ys)
+items_of-append ds (Element l seq ∷ xs) ys = ap (element l (document_at ds seq)) (items_of-append ds xs ys)
+
+-- a store that keeps its documents keeps the items
+pub items_of-kept : (ds es : List Document) (xs : List Finished) → Keeps ds es → AllByRecursion (IsInStore ds) xs → items_of es xs ≡ items_of ds xs
+items_of-kept ds es [] k h = refl
+items_of-kept ds es (Text s ∷ xs) k h = ap (text s) (items_of-kept ds es xs k h.1)
+items_of-kept ds es (Element l seq ∷ xs) k h = rw (k.same seq h.0) (ap (element l (document_at ds seq)) (items_of-kept ds es xs k h.1))
+
+pub in_store-kept : (ds es : List Document) (xs : List Finished) → Keeps ds es → AllByRecursion (IsInStore ds) xs → AllByRecursion (IsInStore es) xs
+in_store-kept ds es [] k h = tt
+in_store-kept ds es (Text s ∷ xs) k h = (tt, in_store-kept ds es xs k h.1)
+in_store-kept ds es (Element l seq ∷ xs) k h = (k.belongs seq h.0, in_store-kept ds es xs k h.1)
+
+pub all-append : {X : Type 0} (P : X → Type 0) (xs ys : List X) → AllByRecursion P xs → AllByRecursion P ys → AllByRecursion P (xs ++ ys)
+all-append P [] ys h k = k
+all-append P (x ∷ xs) ys h k = (h.0, all-append P xs ys h.1 k)
+
+pub all-front : {X : Type 0} (P : X → Type 0) (xs ys : List X) → AllByRecursion P (xs ++ ys) → AllByRecursion P xs
+all-front P [] ys h = tt
+all-front P (x ∷ xs) ys h = (h.0, all-front P xs ys h.1)
+
+pub all-back : {X : Type 0} (P : X → Type 0) (xs ys : List X) → AllByRecursion P (xs ++ ys) → AllByRecursion P ys
+all-back P [] ys h = h
+all-back P (x ∷ xs) ys h = all-back P xs ys h.1
+
+-- the items behind those that are left are stored
+pub record StoredSoFar (ds es : List Document) (all left : List Finished) (start : ℕ) (seq : Seq) : Type 0 where
+  pub keeps : Keeps ds es
+  pub belongs : BelongsTo es seq
+  pub rest : List Finished
+  pub split : all ≡ left ++ rest
+  pub same : document_at es seq ≡ items_of ds rest
+  pub within : start ≤ length left
+
+nothing : (ds : List Document) → BelongsTo ds no_items
+nothing ds = record { place = tt; proper = refl; filled = refl }
+
+append-nil : (xs : List Finished) → xs ++ [] ≡ xs
+append-nil [] = refl
+append-nil (x ∷ xs) = ap (λ (ys : List Finished). x ∷ ys) (append-nil xs)
+
+pub stored_none : (ds : List Document) (all : List Finished) (start : ℕ) → start ≤ length all → StoredSoFar ds ds all all start no_items
+stored_none ds all start h = record {
+  keeps = Keeps-same ds;
+  belongs = nothing ds;
+  rest = [];
+  split = sym (append-nil all);
+  same = refl;
+  within = h;
+}
+
+shorter : (start : ℕ) (left : List Finished) (x : Finished) → start < length (left ++ x ∷ []) → start ≤ length left
+shorter start left x h = omega (arith, length-append left (x ∷ []))
+
+next_split : (all left now rest : List Finished) (x : Finished) → all ≡ left ++ rest → left ≡ now ++ x ∷ [] → all ≡ now ++ (x ∷ rest)
+next_split all left now rest x e f = e ∙ ap (λ (ys : List Finished). ys ++ rest) f ∙ append_assoc now (x ∷ []) rest
+
+pub stored_text : (ds es es' : List Document) (all left now : List Finished) (start : ℕ) (seq seq' : Seq) (s : List ℕ) → StoredSoFar ds es all left start seq → left ≡ now ++ Text s ∷ [] → start < length left → Keeps es es' → BelongsTo es' seq' → document_at es' seq' ≡ text s (document_at es seq) → StoredSoFar ds es' all now start seq'
+stored_text ds es es' all left now start seq seq' s h f lt k b e = record {
+  keeps = Keeps-trans ds es es' h.keeps k;
+  belongs = b;
+  rest = Text s ∷ h.rest;
+  split = next_split all left now h.rest (Text s) h.split f;
+  same = e ∙ ap (text s) h.same;
+  within = shorter start now (Text s) (subst (λ (l : List Finished). start < length l) f lt);
+}
+
+-- the content of an element that is taken
+pub content_in : (ds es : List Document) (all left now : List Finished) (start : ℕ) (seq content : Seq) (l : List ℕ) → StoredSoFar ds es all left start seq → AllByRecursion (IsInStore ds) all → left ≡ now ++ Element l content ∷ [] → BelongsTo ds content
+content_in ds es all left now start seq content l h a f =
+    (all-back (IsInStore ds) now (Element l content ∷ h.rest) (subst (AllByRecursion (IsInStore ds)) (next_split all left now h.rest (Element l content) h.split f) a)).0
+
+pub stored_element : (ds es es' : List Document) (all left now : List Finished) (start : ℕ) (seq seq' content : Seq) (l : List ℕ) → StoredSoFar ds es all left start seq → AllByRecursion (IsInStore ds) all → left ≡ now ++ Element l content ∷ [] → start < length left → Keeps es es' → BelongsTo es' seq' → document_at es' seq' ≡ element l (document_at es content) (document_at es seq) → StoredSoFar ds es' all now start seq'
+stored_element ds es es' all left now start seq seq' content l h a f lt k b e =
+    let c = content_in ds es all left now start seq content l h a f in
+    record {
+      keeps = Keeps-trans ds es es' h.keeps k;
+      belongs = b;
+      rest = Element l content ∷ h.rest;
+      split = next_split all left now h.rest (Element l content) h.split f;
+      same = e ∙ ap (λ (x : Document). element l x (document_at es seq)) (h.keeps.same content c) ∙ ap (element l (document_at ds content)) h.same;
+      within = shorter start now (Element l content) (subst (λ (l : List Finished). start < length l) f lt);
+    }
+
+same_length : (start n : ℕ) → start ≤ n → n ≤ start → start ≡ n
+same_length start n h k = omega arith
+
+pub stored_all : (ds es : List Document) (all left : List Finished) (start : ℕ) (seq : Seq) → StoredSoFar ds es all left start seq → length left ≤ start → (document_at es seq ≡ items_of ds (drop start all)) × (left ≡ take start all)
+stored_all ds es all left start seq h le =
+    let n = same_length start (length left) h.within le in (
+      h.same ∙ ap (items_of ds) (sym (drop-append_seam left h.rest)) ∙ ap (λ (k : ℕ). items_of ds (drop k (left ++ h.rest))) (sym n) ∙ ap (λ (l : List Finished). items_of ds (drop start l)) (sym h.split),
+      sym (take-append_seam left h.rest) ∙ ap (λ (k : ℕ). take k (left ++ h.rest)) (sym n) ∙ ap (take start) (sym h.split),
+    )

@@ -1,0 +1,6 @@
+pub mod Grammar
+pub mod Reading
+pub mod Laws
+pub mod Completes
+pub mod Moves
+pub mod Pending
