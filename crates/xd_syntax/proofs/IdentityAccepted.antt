@@ -1,5 +1,5 @@
 -- The program that tests build has no fault.
-use Rattle.std.proofs.Common.{◌≡◌, true, [], ◌∷◌, refl, inl, inr}
+use Rattle.std.proofs.Common.{◌≡◌, true, [], ◌∷◌, refl, sym, subst, inl, inr}
 use Rattle.xd_doc.specs.Document.{Document, is_proper}
 use Rattle.xd_syntax.specs.Placed.{Text_at, the_start}
 use Rattle.xd_syntax.specs.Expression.{Variable}
@@ -26,3 +26,9 @@ nothing_misfits d h m = elim m.0 [ inl a ↦ m.1 a.1 | inr b ↦ b.1 ]
 pub identity_accepted : IsAccepted identity_tree
 identity_accepted =
     ([], record { found = []; all = ([], [], ([], [], refl, inr (nothing_misfits, refl), refl), refl, refl); ordered = refl }, refl)
+
+pub sound_of : (P : ProgramTree) → P ≡ identity_tree → IsSound P
+sound_of P e = subst IsSound (sym e) identity_sound
+
+pub accepted_of : (P : ProgramTree) → P ≡ identity_tree → IsAccepted P
+accepted_of P e = subst IsAccepted (sym e) identity_accepted
