@@ -21,3 +21,5 @@ pub mod NamedLaws
 mod Samples
 pub mod SameClass
 pub mod AdoptLaws
+pub mod PlainCost
+pub mod IdentityAccepted

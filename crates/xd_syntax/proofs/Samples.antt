@@ -16,7 +16,8 @@ use Rattle.xd_syntax.specs.Heads.{Head, heads, can_be_empty}
 use Rattle.xd_syntax.specs.TypeText.{type_text, depth}
 use Rattle.xd_syntax.specs.Meaning.{Done, Spent, Stuck, meaning}
 use Rattle.xd_syntax.specs.NameFaults.{fault_at, name_faults, not_linear}
-use Rattle.xd_syntax.specs.RecursionFaults.{arrived, kept, left_out, all_seen, AreRecursionFaults}
+use Rattle.xd_syntax.specs.RecursionFaults.{arrived, kept, left_out, all_seen, AreRecursionFaults, IsSound}
+use Rattle.xd_syntax.specs.CheckFaults.{IsAccepted}
 use Rattle.xd_syntax.specs.declared.fault.FaultKind.TheVariants.{DuplicateName, UnknownType, UnknownFunction, UnknownVariable, Arity, NotLinear, NotTail, Unguarded}
 
 abbrev at_place : ℕ → ℕ → Place
@@ -105,6 +106,40 @@ sequence_heads = refl
 text_head : heads no_names Text ≡ record { class = None; content = Empty; rest = Empty } ∷ []
 unfolding heads
 text_head = refl
+
+empty_heads : heads no_names Empty ≡ []
+unfolding heads
+empty_heads = refl
+
+star_heads : heads no_names (Star (tag a Text)) ≡ the_head a Text (Star (tag a Text)) ∷ []
+unfolding heads
+star_heads = refl
+
+plus_heads : heads no_names (Plus (tag a Text)) ≡ the_head a Text (Star (tag a Text)) ∷ []
+unfolding heads
+plus_heads = refl
+
+option_heads : heads no_names (Opt (tag a Text)) ≡ the_head a Text Empty ∷ []
+unfolding heads
+option_heads = refl
+
+-- repeated heads stay
+alternative_heads : heads no_names (Alt (tag a Empty) (Alt (tag b Text) (tag a Empty)))
+    ≡ the_head a Empty Empty ∷ the_head b Text Empty ∷ the_head a Empty Empty ∷ []
+unfolding heads
+alternative_heads = refl
+
+-- the second part begins only where the first can be empty
+first_alone : heads no_names (Seq (tag a Empty) (tag b Text)) ≡ the_head a Empty (tag b Text) ∷ []
+unfolding heads can_be_empty
+first_alone = refl
+
+abbrev deep_a : Definitions
+deep_a = environment ((x, tag a (Name x)) ∷ [])
+
+name_heads : heads deep_a (Name x) ≡ the_head a (Name x) Empty ∷ []
+unfolding heads
+name_heads = refl
 
 -- Canonical texts and depths.
 
@@ -239,6 +274,28 @@ in_front_and_middle_found = record {
   unguarded_all = kept (tt, arrived) all_seen;
   listed = refl;
 }
+
+-- a[],X | ()
+abbrev tail_recursive : ProgramTree
+tail_recursive = one_type (Alt_at p (Seq_at p (leaf_at a) (Name_at (at_place 1 14) name_x)) (Empty_at p))
+
+tail_recursive_sound : IsSound tail_recursive
+tail_recursive_sound = record {
+  names = refl;
+  recursion = record {
+    outside = [];
+    unguarded = [];
+    outside_all = left_out (λ h. let e : true ≡ false = h.0 in cc) all_seen;
+    unguarded_all = left_out (λ h. not_empty (h.0).0) all_seen;
+    listed = refl;
+  };
+}
+  where
+    not_empty : Fits (names_of tail_recursive) (tag a Empty) empty → ⊥
+    not_empty f = elim f [ ]
+
+tail_recursive_accepted : IsAccepted tail_recursive
+tail_recursive_accepted = ([], record { found = []; all = refl; ordered = refl }, refl)
 
 -- Meanings: the telephone program.
 

@@ -33,7 +33,7 @@ rank wrong_argument = 13
 rank wrong_result = 14
 rank dead_clause = 17
 
--- by place, then by number; a warning comes after the faults of its place
+-- the earlier place comes first, then the smaller number, with a warning behind all faults
 abbrev pub line_precedes : Line → Line → Bool
 line_precedes l m = is_earlier l.place m.place || (is_same_place l.place m.place && nat_lt (rank l.kind) (rank m.kind))
 
@@ -96,7 +96,7 @@ abbrev mutual
       ⊎ ((IsLive (names_of P) A earlier Q → ⊥) × (ms ≡ record { place = place_of Q; kind = dead_clause; document = None } ∷ [])))
       (LinesOfClauses P V p A (Q ∷ earlier) cs) ls
 
--- a function's body is looked at in the scope of its parameters
+-- the lines of a function are those of its body, where its parameters are in scope
 abbrev pub LinesOfFunction : ProgramTree → FunctionDefinition → List Line → Type 0
 LinesOfFunction P f ls =
     let V : Scope = parameters_scope (names_of P) f.parameters in

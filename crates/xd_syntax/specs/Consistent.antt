@@ -1,5 +1,5 @@
 -- Proofs of inclusions: goals that rest on one another, and when they are consistent.
--- (The rules are those by which TOPLAS 2005, section 5, decides inclusion; written down as a text they are this project's own.)
+-- (The rules are those by which TOPLAS 2005, decides inclusion; written down as a text they are this project's own.)
 use Rattle.std.specs.Prelude.{◌≡◌, ℕ, zero, suc, ◌+◌, Bool, true, false, not, cond, ◌||◌, ◌&&◌, nat_eq, List, [], ◌∷◌, ◌++◌, map, flat_map, length, Option, Some, None}
 use Rattle.std.specs.Str.{bytes_eq}
 use Rattle.std.specs.Ordering.{nat_cmp}
@@ -29,7 +29,7 @@ pub record Case : Type 0 where
   pub choice : ChoiceTree
 
 -- Every document that fits the left fits one of the rights. `line` is that of the goal's first line; its left stands on the
--- next one, then its rights, then the line on being empty if there is one, then the cases, and then the line that ends it.
+-- next one, then its rights, then the line on being empty if there is one, and then the cases.
 pub record Goal : Type 0 where
   pub line : ℕ
   pub left : Tree
@@ -207,7 +207,7 @@ at_line n None = None
 at_line n (Some r) = Some (n, r)
 
 -- The cases from a line on are those wanted, one for one; a case too many is wrong where it stands, one too few at the line
--- that ends the goal.
+-- behind the last case, where the next goal or the end of the proof stands.
 abbrev pub wrong_cases : List Goal → List Head → ℕ → List Wanted → List Case → Option Refusal
 wrong_cases gs hs n [] [] = None
 wrong_cases gs hs n [] (c ∷ cs) = Some (n, bad_case)

@@ -82,18 +82,20 @@ expressions_after P es (r ∷ rs) = expressions_after P (es ++ shape_expression 
 unfoldable pub expression_at : (patterns : List Row) → List ExprRow → ℕ → Expression
 expression_at patterns rs i = expression_in (expressions_after (placed_at patterns) [] rs) i
 
+-- a sequence joins the parts of a sequence that stands in it, and drops what is empty
 abbrev pub is_joined_shape : ExprShape → Bool
 is_joined_shape (seq_shape is) = true
 is_joined_shape empty_shape = true
 is_joined_shape _ = false
 
--- the row with this number is neither a sequence nor empty
+-- the shape of the row with this number
 abbrev pub shape_at : List ExprRow → ℕ → ExprShape
 shape_at rs i = (get_or rs i (record { place = the_start; form = empty_shape })).form
 
 abbrev pub IsExprPart : List ExprRow → ℕ → Type 0
 IsExprPart rs i = i < length rs
 
+-- a part of a sequence is neither a sequence nor empty
 abbrev pub IsJoinedPart : List ExprRow → ℕ → Type 0
 IsJoinedPart rs i = IsExprPart rs i × (is_joined_shape (shape_at rs i) ≡ false)
 

@@ -1,4 +1,4 @@
--- Which documents fit a type (Hosoya, Vouillon and Pierce, TOPLAS 2005, section 2: the meaning of types).
+-- Which documents fit a type (Hosoya, Vouillon and Pierce, TOPLAS 2005: the meaning of types).
 use Rattle.std.specs.Prelude.{◌≡◌, ℕ, suc, zero, true, ◌⊎◌, List, [], ◌∷◌, Option, Some, None}
 use Rattle.xd_doc.specs.Document.{Document, empty, text, element, join, has_item, is_proper}
 use Rattle.xd_doc.specs.Classes.{LabelClass, class_has}
@@ -20,11 +20,12 @@ pub data Fits (E : Definitions) : Tree → Document → Type 0 where
   fits_name : {x : List ℕ} {T : Tree} {d : Document} → body E x ≡ Some T → Fits E T d → Fits E (Name x) d
   fits_val : {x : List ℕ} {T : Tree} {d : Document} → Fits E T d → Fits E (Val x T) d
 
--- every proper document that fits the type fits one of the others (TOPLAS 2005, section 2: subtyping)
+-- the document fits one of these types
 abbrev pub FitsSome : Definitions → List Tree → Document → Type 0
 FitsSome E [] d = ⊥
 FitsSome E (T ∷ Ts) d = Fits E T d ⊎ FitsSome E Ts d
 
+-- every proper document that fits the type fits one of the others (TOPLAS 2005: subtyping)
 abbrev pub Included : Definitions → Tree → List Tree → Type 0
 Included E T Us = (d : Document) → is_proper d ≡ true → Fits E T d → FitsSome E Us d
 

@@ -1,5 +1,5 @@
 -- Heads of a type: how the documents that fit it begin
--- (after Hosoya, Vouillon and Pierce, TOPLAS 2005, section 5; that the list has this order is this project's own).
+-- (after Hosoya, Vouillon and Pierce, TOPLAS 2005; that the list has this order is this project's own).
 use Rattle.std.specs.Prelude.{◌≡◌, ℕ, zero, suc, Bool, true, false, cond, ◌||◌, ◌&&◌, List, [], ◌∷◌, ◌++◌, map, length, Option, Some, None}
 use Rattle.xd_doc.specs.Document.{Document, empty, text, element}
 use Rattle.xd_doc.specs.Classes.{LabelClass, class_has}

@@ -24,3 +24,7 @@ pub mod Guarded
 pub mod Laws
 pub mod Sound
 pub mod Adopt
+pub mod PlainDocuments
+pub mod PlainTrees
+pub mod PlainWays
+pub mod Identity

@@ -1,4 +1,4 @@
--- The meaning of an expression on fuel (Hosoya and Pierce, TOIT 2003, section 4: evaluation; fuel is this project's own).
+-- The meaning of an expression on fuel (Hosoya and Pierce, TOIT 2003: evaluation; fuel is this project's own).
 use Rattle.std.specs.Prelude.{ℕ, suc, zero, cond, List, [], ◌∷◌, ◌++◌, Option, Some, None}
 use Rattle.std.specs.Str.{bytes_eq}
 use Rattle.xd_doc.specs.Document.{Document, empty, text, element, join}

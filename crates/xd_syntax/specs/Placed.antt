@@ -82,7 +82,7 @@ placed_after ts (r ∷ rs) = placed_after (ts ++ placed_form (placed_in ts) r.pl
 unfoldable pub placed_at : List Row → ℕ → PlacedTree
 placed_at rs i = placed_in (placed_after [] rs) i
 
--- an occurrence of a variable is named by the variable; these are those of a pattern, in order
+-- the variables of a pattern, one for each occurrence, in order
 abbrev pub variables : PlacedTree → List (List ℕ)
 variables (Empty_at p) = []
 variables (Text_at p) = []

@@ -1,5 +1,5 @@
 -- The ways in which a pattern takes a prefix of a document, in order of preference
--- (Hosoya and Pierce, JFP 2003, section 3: first match; that a turn of a repetition takes something is this project's own).
+-- (Hosoya and Pierce, JFP 2003: first match; that a turn of a repetition takes something is this project's own).
 use Rattle.std.specs.Prelude.{◌≡◌, ℕ, suc, zero, ◌+◌, ◌*◌, nat_lt, Bool, true, not, cond, ◌⊎◌, List, [], ◌∷◌, ◌++◌, map, flat_map, Option, Some, None, length}
 use Rattle.xd_doc.specs.Document.{Document, empty, text, element, join, size, has_item}
 use Rattle.xd_doc.specs.Classes.{LabelClass, class_has}
@@ -48,7 +48,7 @@ text_ways (element l c r) = []
 abbrev pub is_whole : Way → Bool
 is_whole w = not (has_item w.rest)
 
--- one element of the class, once for each way that takes its content whole
+-- an element of the class: as many ways as its content has that leave nothing
 abbrev pub element_ways : LabelClass → (Document → List Way) → Document → List Way
 element_ways k V empty = []
 element_ways k V (text s r) = []

@@ -26,7 +26,7 @@ pub enum FaultKind {
     NoMain,
 }
 
-/// A fault. It has no place where it speaks of a command's words.
+/// A fault. One that speaks of a command, as of a type that it names or of `main`, has no place.
 #[derive(Drop)]
 pub struct Fault {
     pub place: Option<Place>,

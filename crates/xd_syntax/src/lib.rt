@@ -6,6 +6,7 @@ mod exprs;
 mod fault;
 pub mod laws;
 mod patterns;
+pub mod plain;
 mod program;
 mod sound;
 #[cfg(test)]
