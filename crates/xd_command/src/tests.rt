@@ -213,10 +213,10 @@ fn texts_at_their_limits(rt: HostRuntime) -> Result<(), Fail> {
 #[test]
 fn a_document_that_nests_deep(rt: HostRuntime) -> Result<(), Fail> {
     let mut document = Vec::new(rt.alloc());
-    for _ in 0..100_000 {
+    for _ in 0..1_000_000 {
         document.extend_from_slice(b"a[")?;
     }
-    for _ in 0..100_000 {
+    for _ in 0..1_000_000 {
         document.push(b']')?;
     }
     let shelf = shelf(&rt, b"type A = a[String]", &document)?;
