@@ -19,7 +19,12 @@ pub mod TheLaws
 pub mod KeptLaws
 pub mod NamedLaws
 mod Samples
+mod ConsistentSamples
 pub mod SameClass
 pub mod AdoptLaws
 pub mod PlainCost
 pub mod IdentityAccepted
+pub mod SameTrees
+pub mod NamedAtoms
+pub mod ChoiceTrees
+pub mod ConsistentLaw

@@ -3,7 +3,7 @@ use Rattle.std.proofs.Common.{◌+◌, ◌*◌, ◌≤◌, length, sym, arith}
 use Rattle.xd_doc.specs.Document.{size}
 use Rattle.xd_syntax.specs.Program.{names_of}
 use Rattle.xd_syntax.specs.Ways.{unfoldings}
-use Rattle.xd_syntax.specs.Laws.{PatternsAreTypes, WaysSettle, FitsSettles, FitsIsWithinSome, HeadsDecide, EmptyDecides, HeadsSettle, FuelIsLeft}
+use Rattle.xd_syntax.specs.Laws.{PatternsAreTypes, WaysSettle, FitsSettles, FitsIsWithinSome, HeadsDecide, EmptyDecides, HeadsSettle, FuelIsLeft, ConsistentProofsHold}
 use Rattle.xd_syntax.proofs.SoundGuarded.{guarded}
 use Rattle.xd_syntax.proofs.Unfoldings.{stable, takes_fits, fits_takes}
 use Rattle.xd_syntax.proofs.Bare.{fits_bare, bare_fits}
@@ -13,6 +13,7 @@ use Rattle.xd_syntax.proofs.Documents.{filled}
 use Rattle.xd_syntax.proofs.HeadsLaw.{head_fits, fits_head, empty_right, empty_exact}
 use Rattle.xd_syntax.proofs.HeadsMore.{heads_settle}
 use Rattle.xd_syntax.proofs.Fuel.{fuel_is_left}
+use Rattle.xd_syntax.proofs.ConsistentLaw.{all_claims}
 
 pub patterns_are_types : PatternsAreTypes
 patterns_are_types P s A d =
@@ -41,3 +42,6 @@ heads_settle_in P s T n h = heads_settle (names_of P) (guarded P s) T n h
 
 pub fuel_left : FuelIsLeft
 fuel_left = fuel_is_left
+
+pub consistent_proofs_hold_in : ConsistentProofsHold
+consistent_proofs_hold_in P s goals c = all_claims (names_of P) (guarded P s) goals c

@@ -1,5 +1,5 @@
 -- Laws of the definitions.
-use Rattle.std.specs.Prelude.{◌≡◌, ℕ, ◌+◌, ◌≤◌, ◌↔◌, true, length}
+use Rattle.std.specs.Prelude.{◌≡◌, ℕ, ◌+◌, ◌≤◌, ◌↔◌, true, List, length}
 use Rattle.xd_doc.specs.Document.{Document, empty, has_item}
 use Rattle.xd_syntax.specs.Tree.{Tree, Definitions, bare}
 use Rattle.xd_syntax.specs.Fits.{Fits, FitsWithin}
@@ -8,6 +8,7 @@ use Rattle.xd_syntax.specs.Heads.{Head, heads, heads_within, can_be_empty, Begin
 use Rattle.xd_syntax.specs.Program.{ProgramTree, names_of}
 use Rattle.xd_syntax.specs.RecursionFaults.{IsSound}
 use Rattle.xd_syntax.specs.Meaning.{Done, meaning}
+use Rattle.xd_syntax.specs.Consistent.{Goal, IsConsistent, AllClaims}
 
 -- a pattern takes a document exactly where the document fits the pattern with its binders dropped
 abbrev pub PatternsAreTypes : Type 0
@@ -44,3 +45,7 @@ HeadsSettle = (P : ProgramTree) → IsSound P → (T : Tree) (n : ℕ) → lengt
 -- what is done with some calls is done with one more, and that one is left
 abbrev pub FuelIsLeft : Type 0
 FuelIsLeft = (P : ProgramTree) (n : ℕ) (d v : Document) (m : ℕ) → meaning P n d ≡ Done v m → meaning P (n + 1) d ≡ Done v (m + 1)
+
+-- in a consistent proof, over the definitions of a sound program, every goal's claim holds
+abbrev pub ConsistentProofsHold : Type 0
+ConsistentProofsHold = (P : ProgramTree) → IsSound P → (goals : List Goal) → IsConsistent (names_of P) goals → AllClaims (names_of P) goals

@@ -1,6 +1,6 @@
 //! Laws of the definitions, each the contract of a function that does nothing.
 
-ghost use Rattle.xd_syntax.specs.Laws.{PatternsAreTypes, WaysSettle, FitsSettles, FitsIsWithinSome, HeadsDecide, EmptyDecides, HeadsSettle, FuelIsLeft};
+ghost use Rattle.xd_syntax.specs.Laws.{PatternsAreTypes, WaysSettle, FitsSettles, FitsIsWithinSome, HeadsDecide, EmptyDecides, HeadsSettle, FuelIsLeft, ConsistentProofsHold};
 
 /// In a sound program a pattern takes exactly the documents that fit it as a type.
 pub fn patterns_are_types()
@@ -24,4 +24,9 @@ pub fn heads_decide()
 /// A meaning that is done stays so with more fuel.
 pub fn fuel_is_left()
     ensures { FuelIsLeft }
+{}
+
+/// A consistent proof of inclusions, over the types of a sound program, claims nothing that is false.
+pub fn consistent_proofs_hold()
+    ensures { ConsistentProofsHold }
 {}
