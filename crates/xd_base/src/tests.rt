@@ -54,6 +54,36 @@ fn a_shelf_fails_at_the_listed_call(rt: HostRuntime) -> Result<(), Fail> {
 }
 
 #[test]
+fn a_shelf_fails_at_its_first_call(rt: HostRuntime) -> Result<(), Fail> {
+    let mut shelf = MemoryShelf::new(rt.alloc());
+    assert_eq!(rt; shelf.add("t", b"type A = a[String]"), Ok(()));
+    assert_eq!(rt; shelf.fail_at(1), Ok(()));
+    assert_eq!(rt;
+        shelf.fetch(rt.alloc(), "t", 100).err(),
+        Some(FetchError::Failed)
+    );
+    assert_eq!(rt;
+        shelf.fetch(rt.alloc(), "t", 100)?.as_slice(),
+        b"type A = a[String]".as_slice()
+    );
+    Ok(())
+}
+
+#[test]
+fn a_sink_fails_at_its_first_call(rt: HostRuntime) {
+    let made = MemorySink::new(rt.alloc(), 100, 100);
+    let Ok(mut sink) = made else {
+        assert_eq!(rt; made.err(), None::<NoRoom>);
+        return;
+    };
+    assert_eq!(rt; sink.fail_at(1), Ok(()));
+    assert_eq!(rt; sink.put(b"accepted\n"), Err(PutError::Failed));
+    assert_eq!(rt; sink.written(), b"".as_slice());
+    assert_eq!(rt; sink.put(b"accepted\n"), Ok(9));
+    assert_eq!(rt; sink.written(), b"accepted\n".as_slice());
+}
+
+#[test]
 fn a_sink_takes_what_it_has_room_for(rt: HostRuntime) {
     let made = MemorySink::new(rt.alloc(), 5, 2);
     let Ok(mut sink) = made else {

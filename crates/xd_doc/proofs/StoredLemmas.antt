@@ -1,11 +1,10 @@
 -- On the documents of a list of nodes.
-use Rattle.std.proofs.Common.{Bool, true, false, ◌≡◌, ◌≢◌, ℕ, zero, suc, ◌+◌, ◌-◌, ◌<◌, ◌≤◌, List, [], ◌∷◌, ◌++◌, cond, length, drop, replicate, set, get_or, add-one, drop-cons, get_or-set_same, get_or-set_other, length-set, Option, Some, None, refl, ap, sym, ◌∙◌, arith, length-append, add-zero, zero-add, Vec, vec_len, rules, ⊎_elim}
-use Rattle.std.proofs.lemmas.List.{get_or_append_left, get_or_past, get_or_default, length-replicate}
+use Rattle.std.proofs.Common.{true, false, ◌≡◌, ℕ, zero, suc, ◌+◌, ◌<◌, ◌≤◌, List, [], ◌∷◌, ◌++◌, length, get_or, Option, Some, None, refl, ap, sym, ◌∙◌, arith, length-append, add-zero, zero-add, Vec, vec_len, rules}
+use Rattle.std.proofs.lemmas.List.{get_or_append_left}
 use Rattle.std.proofs.Math.Seq.{get_or-append_seam}
 use Rattle.std.specs.List.{AllByRecursion}
-use Rattle.std.proofs.lemmas.Bool.{cases_lt, cases_eq}
 use Rattle.xd_doc.specs.Document.{Document, empty, text, element, is_proper, has_item, rest_of, content_of, first_then, join, size}
-use Rattle.xd_doc.specs.Stored.{at_node, IsBelow, document_at, BelongsTo, item_before, is_proper_item, node_document, documents_after, documents, AreLinked, IsLinked, IsBare, marks_in, Keeps, IsOlder, first_of_document, firsts_then, IsSpine, copy_at, AreCopied, HasCopy, IsMarked, IsClosed, with_mark, no_items}
+use Rattle.xd_doc.specs.Stored.{at_node, IsBelow, document_at, BelongsTo, item_before, is_proper_item, node_document, documents_after, documents, AreLinked, IsLinked, IsBare, Keeps, IsOlder, first_of_document, firsts_then, IsSpine}
 use Rattle.xd_doc.specs.declared.store.Seq.{Seq}
 use Rattle.xd_doc.specs.declared.store.Node.{Node}
 use Rattle.xd_doc.specs.declared.store.Item.{Item}
@@ -230,88 +229,9 @@ pub first_then-item_before : (i : Item) (c r e : Document) → first_then (item_
 first_then-item_before (Text s) c r e = refl
 first_then-item_before (Elem l) c r e = refl
 
-pub copied_none : (ds es : List Document) (ms : List Bool) → AreCopied ds es ms []
-copied_none ds es ms None h m = record { belongs = record { place = tt; proper = refl; filled = refl }; same = refl }
-copied_none ds es ms (Some i) h m = absurd (omega arith)
-
--- one more node is copied, if it is marked
-pub copied_more : (ds es fs : List Document) (ms : List Bool) (cs : List Seq) (c : Seq) → AreCopied ds es ms cs → Keeps es fs → (IsMarked ms (Some (length cs)) → BelongsTo fs c × (document_at fs c ≡ get_or ds (length cs) empty)) → AreCopied ds fs ms (cs ++ c ∷ [])
-copied_more ds es fs ms cs c h k b None l m = record { belongs = record { place = tt; proper = refl; filled = refl }; same = refl }
-copied_more ds es fs ms cs c h k b (Some i) l m = ⊎_elim
-    (λ lt. let r = get_or_append_left cs (c ∷ []) no_items i lt in
-    let old = h (Some i) lt m in
-    record {
-      belongs = rw r (k.belongs _ old.belongs);
-      same = rw r (k.same _ old.belongs ∙ old.same);
-    })
-    (λ ge. let at : i ≡ length cs = omega (arith, length-append cs (c ∷ [])) in
-    let r = get_or-append_seam cs c [] no_items in
-    let made = b (rw at at m) in
-    record { belongs = rw (at, r) made.0; same = rw (at, r) made.1 })
-    (cases_lt i (length cs))
-
-pub has_copy : (ds es : List Document) (ms : List Bool) (cs : List Seq) (o : Option ℕ) → AreCopied ds es ms cs → IsBelow (length cs) o → IsMarked ms o → HasCopy es cs o
-has_copy ds es ms cs o h b m = record { place = b; belongs = (h o b m).belongs }
-
--- a node whose links are copies stands for what the node does
-pub document-copy : (ds es : List Document) (ms : List Bool) (cs : List Seq) (n : Node) → AreCopied ds es ms cs → IsBelow (length cs) n.content.node → IsBelow (length cs) n.next.node → IsMarked ms n.content.node × IsMarked ms n.next.node → item_before n.item (document_at es (copy_at cs n.content.node)) (document_at es (copy_at cs n.next.node)) ≡ node_document ds n
-document-copy ds es ms cs n h c x m =
-    rw ((h n.content.node c m.0).same, (h n.next.node x m.1).same)
-
 pub IsBelow-more : (i j : ℕ) (o : Option ℕ) → i ≤ j → IsBelow i o → IsBelow j o
 IsBelow-more i j None h b = tt
 IsBelow-more i j (Some k) h b = omega arith
-
--- a mark stays where marks are set
-pub IsMarked-with_mark : (ms : List Bool) (p o : Option ℕ) → IsBelow (length ms) p → IsMarked ms o → IsMarked (with_mark ms p) o
-IsMarked-with_mark ms None o h m = m
-IsMarked-with_mark ms (Some j) None h m = tt
-IsMarked-with_mark ms (Some j) (Some i) h m = ⊎_elim
-    (λ e. rw e (get_or-set_same ms j true false h))
-    (λ ne. get_or-set_other ms j i true false ne ∙ m)
-    (cases_eq i j)
-
-pub IsMarked-set : (ms : List Bool) (p : Option ℕ) → IsBelow (length ms) p → IsMarked (with_mark ms p) p
-IsMarked-set ms None h = tt
-IsMarked-set ms (Some j) h = get_or-set_same ms j true false h
-
--- a mark at a lower place is no mark here
-pub with_mark-below : (ms : List Bool) (p : Option ℕ) (i j : ℕ) → IsBelow i p → i ≤ j → get_or (with_mark ms p) j false ≡ get_or ms j false
-with_mark-below ms None i j b h = refl
-with_mark-below ms (Some k) i j b h = let ne : j ≢ k = omega arith in get_or-set_other ms k j true false ne
-
-pub length-with_mark : (ms : List Bool) (p : Option ℕ) → length (with_mark ms p) ≡ length ms
-length-with_mark ms None = refl
-length-with_mark ms (Some i) = length-set ms i true
-
--- past the end no node is marked
-pub closed_past : (ns : List Node) (ms : List Bool) (from : ℕ) → length ms ≤ from → IsClosed ns ms from
-closed_past ns ms from h i n f m e =
-    let past : get_or ms i false ≡ false = get_or_past ms i false (omega arith) in
-    cc
-
--- a node that is not marked
-pub closed_skip : (ns : List Node) (ms : List Bool) (from : ℕ) (b : Bool) → 0 < from → IsClosed ns ms from → b ≡ get_or ms (from - 1) b → b ≡ false → from - 1 < length ms → IsClosed ns ms (from - 1)
-closed_skip ns ms from b pos h e f l i n g m a = ⊎_elim
-    (λ at. let r : get_or ms i false ≡ b = ap (λ k. get_or ms k false) at ∙ get_or_default ms (from - 1) false b l ∙ sym e in
-    cc)
-    (λ ne. h i n (omega arith) m a)
-    (cases_eq i (from - 1))
-
--- a marked node, whose links are marked now
-pub closed_more : (ns : List Node) (ms : List Bool) (from : ℕ) (m : Node) → IsClosed ns ms from → from - 1 < length ns → m ≡ get_or ns (from - 1) m → from - 1 < length ms → IsBelow (from - 1) m.content.node → IsBelow (from - 1) m.next.node → IsClosed ns (with_mark (with_mark ms m.content.node) m.next.node) (from - 1)
-closed_more ns ms from m h ln a lm bc bn i n g k e =
-    let one = with_mark ms m.content.node in
-    let len : length one ≡ length ms = length-with_mark ms m.content.node in
-    let below : IsBelow (length ms) m.content.node = IsBelow-more (from - 1) (length ms) m.content.node (omega arith) bc in
-    let below' : IsBelow (length one) m.next.node = IsBelow-more (from - 1) (length one) m.next.node (omega arith) bn in
-    let later = λ (o : Option ℕ) (w : IsMarked ms o). IsMarked-with_mark one m.next.node o below' (IsMarked-with_mark ms m.content.node o below w) in
-    let was : get_or ms i false ≡ true = sym (with_mark-below ms m.content.node (from - 1) i bc g) ∙ sym (with_mark-below one m.next.node (from - 1) i bn g) ∙ k in
-    ⊎_elim
-    (λ at. let same : n ≡ m = e ∙ ap (λ j. get_or ns j n) at ∙ get_or_default ns (from - 1) n m ln ∙ sym a in
-    rw same (IsMarked-with_mark one m.next.node m.content.node below' (IsMarked-set ms m.content.node below), IsMarked-set one m.next.node below'))
-    (λ ne. let old = h i n (omega arith) was e in (later n.content.node old.0, later n.next.node old.1))
-    (cases_eq i (from - 1))
 
 -- the node at a place of the vector
 pub stands_in : {Z : Type 0} (v : Vec Node Z) (now : List Document) (i : ℕ) (n : Node) → AreLinked [] v.items → documents v.items ≡ now → i < vec_len v → n ≡ get_or v.items i n → StandsAt now i n
@@ -333,122 +253,11 @@ belongs_at ns now i n a v h g =
       filled = ap has_item s.document ∙ item_before-filled n.item _ _;
     }
 
--- a copy of a text has no content either
-pub bare_copy : (i : Item) (content : Seq) (cs : List Seq) → IsBare i content → IsBare i (copy_at cs content.node)
-bare_copy (Text s) content cs h = rw h refl
-bare_copy (Elem l) content cs h = tt
-
 pub bare_same : (i j : Item) (content : Seq) → i ≡ j → IsBare j content → IsBare i content
 bare_same i j content e h = rw e h
 
-size-parts : (i : Item) (ds : List Document) (content next : Seq) → IsBare i content → size (item_before i (document_at ds content) (document_at ds next)) ≡ size (document_at ds content) + size (document_at ds next) + 1
+pub size-parts : (i : Item) (ds : List Document) (content next : Seq) → IsBare i content → size (item_before i (document_at ds content) (document_at ds next)) ≡ size (document_at ds content) + size (document_at ds next) + 1
 size-parts (Text s) ds content next h =
     let e : size (document_at ds content) ≡ 0 = ap (λ (c : Seq). size (document_at ds c)) h in
     omega arith
 size-parts (Elem l) ds content next h = refl
-
--- A bound on the marks that are still to come: of the first n nodes, each mark counts the items of the node's document; each further mark counts one.
-abbrev pub owed : List Document → ℕ → ℕ → List Bool → ℕ
-owed ds k zero ms = marks_in ms
-owed ds k (suc n) [] = 0
-owed ds k (suc n) (m ∷ ms) = cond m (size (get_or ds k empty)) 0 + owed ds (k + 1) n ms
-
--- a mark that was read
-pub mark_read : (ms : List Bool) (i : ℕ) (b : Bool) → i < length ms → b ≡ get_or ms i b → get_or ms i false ≡ b
-mark_read ms i b l e = get_or_default ms i false b l ∙ sym e
-
--- a marked node whose links are copied
-pub record IsReady (ds es : List Document) (cs : List Seq) (i : ℕ) (n : Node) : Type 0 where
-  pub item : is_proper_item n.item ≡ true
-  pub bare : IsBare n.item n.content
-  pub content : HasCopy es cs n.content.node
-  pub next : HasCopy es cs n.next.node
-  pub document : item_before n.item (document_at es (copy_at cs n.content.node)) (document_at es (copy_at cs n.next.node)) ≡ get_or ds i empty
-
-pub is_ready : {Z : Type 0} (v : Vec Node Z) (ds es : List Document) (ms : List Bool) (cs : List Seq) (i : ℕ) (n : Node) → AreLinked [] v.items → documents v.items ≡ ds → i < vec_len v → n ≡ get_or v.items i n → IsClosed v.items ms 0 → IsMarked ms (Some i) → AreCopied ds es ms cs → length cs ≡ i → IsReady ds es cs i n
-is_ready v ds es ms cs i n a e l g closed m h count =
-    let s = stands_in v ds i n a e l g in
-    let links = closed i n (omega arith) m g in
-    let c : IsBelow (length cs) n.content.node = rw count s.content_older in
-    let x : IsBelow (length cs) n.next.node = rw count s.next_older in
-    record {
-      item = s.linked.item;
-      bare = s.linked.bare;
-      content = has_copy ds es ms cs n.content.node h c links.0;
-      next = has_copy ds es ms cs n.next.node h x links.1;
-      document = document-copy ds es ms cs n h c x links ∙ sym s.document;
-    }
-
--- one more mark
-owed-set : (ds : List Document) (k n j : ℕ) (ms : List Bool) → j < n → j < length ms → owed ds k n (set ms j true) ≤ owed ds k n ms + size (get_or ds (k + j) empty)
-owed-set ds k zero j ms l h = absurd (omega arith)
-owed-set ds k (suc n) j [] l h = absurd (omega arith)
-owed-set ds k (suc n) zero (m ∷ ms) l h = rw add-zero (first m)
-  where
-    first : (m : Bool) → size (get_or ds k empty) + owed ds (k + 1) n ms ≤ (cond m (size (get_or ds k empty)) 0 + owed ds (k + 1) n ms) + size (get_or ds k empty)
-    first true = omega arith
-    first false = omega arith
-owed-set ds k (suc n) (suc j) (m ∷ ms) l h =
-    let ih = owed-set ds (k + 1) n j ms (omega arith) (omega arith) in
-    let e : (k + 1) + j ≡ k + suc j = omega arith in
-    let same : size (get_or ds ((k + 1) + j) empty) ≡ size (get_or ds (k + suc j) empty) = ap (λ i. size (get_or ds i empty)) e in
-    omega arith
-
-owed-with_mark : (ds : List Document) (n : ℕ) (ms : List Bool) (p : Option ℕ) → IsBelow n p → n ≤ length ms → owed ds 0 n (with_mark ms p) ≤ owed ds 0 n ms + size (at_node ds p)
-owed-with_mark ds n ms None b l = omega arith
-owed-with_mark ds n ms (Some j) b l =
-    let h = owed-set ds 0 n j ms b (omega arith) in
-    let e : size (get_or ds (0 + j) empty) ≡ size (get_or ds j empty) = ap (λ i. size (get_or ds i empty)) (zero-add j) in
-    omega arith
-
--- the next node is marked, or not
-owed-marked : (ds : List Document) (k n : ℕ) (ms : List Bool) → get_or ms n false ≡ true → owed ds k n ms + size (get_or ds (k + n) empty) ≡ owed ds k (suc n) ms + 1
-owed-marked ds k zero [] h = cc
-owed-marked ds k zero (m ∷ ms) h = rw (add-zero, h) (omega arith)
-owed-marked ds k (suc n) [] h = cc
-owed-marked ds k (suc n) (m ∷ ms) h =
-    let ih = owed-marked ds (k + 1) n ms h in
-    let e : (k + 1) + n ≡ k + suc n = omega arith in
-    let same : size (get_or ds ((k + 1) + n) empty) ≡ size (get_or ds (k + suc n) empty) = ap (λ i. size (get_or ds i empty)) e in
-    omega arith
-
-owed-unmarked : (ds : List Document) (k n : ℕ) (ms : List Bool) → get_or ms n false ≡ false → owed ds k n ms ≡ owed ds k (suc n) ms
-owed-unmarked ds k zero [] h = refl
-owed-unmarked ds k zero (m ∷ ms) h = rw h refl
-owed-unmarked ds k (suc n) [] h = refl
-owed-unmarked ds k (suc n) (m ∷ ms) h = ap (λ x. cond m (size (get_or ds k empty)) 0 + x) (owed-unmarked ds (k + 1) n ms h)
-
-owed-replicate : (ds : List Document) (k n c : ℕ) → owed ds k n (replicate c false) ≡ 0
-owed-replicate ds k zero zero = refl
-owed-replicate ds k zero (suc c) = zero-add (marks_in (replicate c false)) ∙ owed-replicate ds k zero c
-owed-replicate ds k (suc n) zero = refl
-owed-replicate ds k (suc n) (suc c) = zero-add (owed ds (k + 1) n (replicate c false)) ∙ owed-replicate ds (k + 1) n c
-
--- the first mark
-pub owed_first : (ds : List Document) (place : ℕ) → owed ds 0 (place + 1) (set (replicate (place + 1) false) place true) ≤ size (at_node ds (Some place))
-owed_first ds place =
-    let h = owed-with_mark ds (place + 1) (replicate (place + 1) false) (Some place) (omega arith) (omega (arith, length-replicate {A = Bool} (place + 1) false)) in
-    omega (arith, owed-replicate ds 0 (place + 1) (place + 1))
-
--- the next node's mark is spent on its own copy and on the marks of its links
-pub owed_more : (ds : List Document) (from : ℕ) (ms : List Bool) (m : Node) → 0 < from → from ≤ length ms → get_or ms (from - 1) false ≡ true → StandsAt ds (from - 1) m → owed ds 0 (from - 1) (with_mark (with_mark ms m.content.node) m.next.node) ≤ owed ds 0 from ms
-owed_more ds from ms m pos l h s =
-    let n = from - 1 in
-    let e : suc (from - 1) ≡ from = omega arith in
-    let one = owed-with_mark ds (from - 1) ms m.content.node s.content_older (omega arith) in
-    let len : length (with_mark ms m.content.node) ≡ length ms = length-with_mark ms m.content.node in
-    let two = owed-with_mark ds (from - 1) (with_mark ms m.content.node) m.next.node s.next_older (omega arith) in
-    let here = owed-marked ds 0 (from - 1) ms h in
-    let at : size (get_or ds (0 + (from - 1)) empty) ≡ size (get_or ds (from - 1) empty) = ap (λ i. size (get_or ds i empty)) (zero-add (from - 1)) in
-    let doc : size (get_or ds (from - 1) empty) ≡ size (document_at ds m.content) + size (document_at ds m.next) + 1 = ap size s.document ∙ size-parts m.item ds m.content m.next s.linked.bare in
-    let next : owed ds 0 (suc (from - 1)) ms ≡ owed ds 0 from ms = ap (λ i. owed ds 0 i ms) e in
-    omega arith
-
-pub owed_skip : (ds : List Document) (from : ℕ) (ms : List Bool) → 0 < from → get_or ms (from - 1) false ≡ false → owed ds 0 (from - 1) ms ≡ owed ds 0 from ms
-owed_skip ds from ms pos h =
-    let e : suc (from - 1) ≡ from = omega arith in
-    owed-unmarked ds 0 (from - 1) ms h ∙ ap (λ i. owed ds 0 i ms) e
-
--- the marks from a place on
-pub marks_in-drop : (ms : List Bool) (i : ℕ) → i < length ms → marks_in (drop i ms) ≡ cond (get_or ms i false) 1 0 + marks_in (drop (i + 1) ms)
-marks_in-drop ms i l = rw add-one (ap marks_in (drop-cons ms i false l))

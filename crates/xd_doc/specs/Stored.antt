@@ -1,7 +1,8 @@
 -- What the nodes of a store stand for.
-use Rattle.std.specs.Prelude.{◌≡◌, ℕ, ◌+◌, ◌<◌, ◌≤◌, Bool, true, false, cond, List, [], ◌∷◌, ◌++◌, length, Option, Some, None, is_some, slice_index_or, slice_set}
+use Rattle.std.specs.Prelude.{◌≡◌, ℕ, ◌<◌, ◌⊎◌, Bool, true, List, [], ◌∷◌, ◌++◌, length, Option, Some, None, is_some, nat_eq, unwrap_or, slice_index_or}
 use Rattle.std.specs.Str.{is_utf8}
-use Rattle.std.specs.List.{AllByRecursion}
+use Rattle.std.specs.HashMap.{HashMap, get}
+use Rattle.std.specs.List.{AllByRecursion, Contains}
 use Rattle.xd_doc.specs.Word.{is_word}
 use Rattle.xd_doc.specs.Document.{Document, empty, text, element, is_proper, has_item, first_then, join}
 use Rattle.xd_doc.specs.declared.store.Seq.{Seq}
@@ -103,38 +104,17 @@ pub record IsSpine (ds : List Document) (seq : Seq) (seqs : List Seq) : Type 0 w
   pub belong : AllByRecursion (BelongsTo ds) seqs
   pub items : (d : Document) → firsts_then ds seqs d ≡ join (document_at ds seq) d
 
-abbrev pub copy_at : List Seq → Option ℕ → Seq
-copy_at cs None = no_items
-copy_at cs (Some i) = slice_index_or cs i no_items
+-- none, one of these places, or a place that is settled elsewhere
+abbrev pub IsMet : (ℕ → Type 0) → List ℕ → Option ℕ → Type 0
+IsMet settled places None = Unit {0}
+IsMet settled places (Some i) = Contains places i ⊎ settled i
 
--- a node's copy stands for what the node does
-pub record IsCopied (ds es : List Document) (cs : List Seq) (o : Option ℕ) : Type 0 where
-  pub belongs : BelongsTo es (copy_at cs o)
-  pub same : document_at es (copy_at cs o) ≡ at_node ds o
+-- each is the place of a node whose links stand behind it or are settled
+abbrev pub AreClosed : List Node → (ℕ → Type 0) → List ℕ → Type 0
+AreClosed ns settled [] = Unit {0}
+AreClosed ns settled (i ∷ is) = (i < length ns) × ((n : Node) → n ≡ slice_index_or ns i n → IsMet settled is n.content.node × IsMet settled is n.next.node) × AreClosed ns settled is
 
--- what is marked: no node, or one of those whose mark is set
-abbrev pub IsMarked : List Bool → Option ℕ → Type 0
-IsMarked ms None = Unit {0}
-IsMarked ms (Some i) = slice_index_or ms i false ≡ true
-
-abbrev pub with_mark : List Bool → Option ℕ → List Bool
-with_mark ms None = ms
-with_mark ms (Some i) = slice_set ms i true
-
--- how many are marked
-abbrev pub marks_in : List Bool → ℕ
-marks_in [] = 0
-marks_in (m ∷ ms) = cond m 1 0 + marks_in ms
-
--- from this node on, the links of each marked node are marked
-abbrev pub IsClosed : List Node → List Bool → ℕ → Type 0
-IsClosed ns ms from = (i : ℕ) (n : Node) → from ≤ i → IsMarked ms (Some i) → n ≡ slice_index_or ns i n → IsMarked ms n.content.node × IsMarked ms n.next.node
-
--- each node that is marked so far is copied
-abbrev pub AreCopied : List Document → List Document → List Bool → List Seq → Type 0
-AreCopied ds es ms cs = (o : Option ℕ) → IsBelow (length cs) o → IsMarked ms o → IsCopied ds es cs o
-
--- the link has a copy that belongs to the store
-pub record HasCopy (es : List Document) (cs : List Seq) (o : Option ℕ) : Type 0 where
-  pub place : IsBelow (length cs) o
-  pub belongs : BelongsTo es (copy_at cs o)
+-- the copy of the node at this place; none, where there is no place
+abbrev pub copy_at : {S : Type 0} → HashMap ℕ Seq S → Option ℕ → Seq
+copy_at copies None = no_items
+copy_at copies (Some i) = unwrap_or (get nat_eq copies i) no_items

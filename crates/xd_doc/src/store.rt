@@ -1,14 +1,18 @@
 //! The store: documents as nodes that are linked and shared.
 
 ghost use Rattle.std.specs.Prelude.{true, not, ◌↔◌, List, IsSome, None, Some, ◌≡◌, ◌+◌, ◌<◌, ◌++◌, ◌∷◌, [], length, IfOk, OnErr, OnOk, IsTrue, slice_index_or, ◌≤◌, vec_len};
-ghost use Rattle.std.specs.Option.{option_copied};
+ghost use Rattle.std.specs.BinaryHeap.{KeepsHeap, heap_items};
+ghost use Rattle.std.specs.List.Sorted.{IsPermutation};
+ghost use Rattle.std.specs.Option.{option_copied, option_to_list};
+ghost use Rattle.std.specs.Ordering.{nat_cmp};
 ghost use Rattle.xd_doc.specs.Document.{Document, empty, text as text_before, element, rest_of, content_of, is_proper, has_item, first_then, join, size};
-ghost use Rattle.xd_doc.specs.Stored.{IsLinked, IsBare, marks_in, at_node, documents, AreLinked, IsBelow, HasCopy, IsMarked, IsClosed, with_mark, item_before, copy_at, IsSpine, node_document, no_items, place_in_store, is_proper_item, document_at, BelongsTo, Keeps, IsOlder, first_of_document};
+ghost use Rattle.xd_doc.specs.Stored.{IsLinked, IsBare, at_node, documents, AreLinked, IsBelow, IsMet, AreClosed, item_before, copy_at, IsSpine, node_document, no_items, place_in_store, is_proper_item, document_at, BelongsTo, Keeps, IsOlder, first_of_document};
 
 use crate::error::NoMemory;
 use crate::label::Label;
 use crate::text::Text;
 use std::alloc::Global;
+use std::collections::{BinaryHeap, HashMap};
 use std::marker::Model;
 
 /// What one item of a document is: a text, or an element with this label.
@@ -277,9 +281,9 @@ impl Store {
 
     /// The same document in another store.
     ///
-    /// It copies the nodes that the document reaches, each once, so contents and rests that are
-    /// shared stay shared. It takes time, and while it works memory, in proportion to the number
-    /// of nodes up to the document's own.
+    /// It copies the n nodes that the document reaches, each once, so contents and rests that are
+    /// shared stay shared. It takes time in proportion to n log n, as far as hashing spreads their
+    /// numbers, and while it works memory in proportion to n, however many nodes the store has.
     pub fn copy_out(&self, alloc: Global, seq: Seq, into: &mut Store) -> Result<Seq, NoMemory>
         requires { BelongsTo self.now seq }
         ensures ok { IfOk result (λ copy. document_at into.new copy ≡ document_at self.now seq) }
@@ -288,62 +292,60 @@ impl Store {
         ensures once { length into.new ≤ length into.old + length self.now }
         ensures few { length into.new ≤ length into.old + size (document_at self.now seq) }
     {
-        let Some(place) = seq.node else {
-            return Ok(seq);
-        };
         let nodes = &self.nodes;
-        let _count = nodes.len();
-        let reached = reached_from(alloc, nodes, place)?;
-        let mut copies = Vec::with_capacity(alloc, place + 1)?;
-        for i in 0..place + 1 {
-            let copy = if reached[i] {
-                copy_node(&nodes[i], &copies, into)?
-            } else {
-                Seq::empty()
-            };
-            copies.push(copy)?;
+        let mut reached = reached_from(alloc, nodes, seq)?;
+        let mut copies = HashMap::with_capacity(alloc, reached.len())?;
+        while let Some(place) = reached.pop() {
+            let copy = copy_node(&nodes[place], &copies, into)?;
+            copies.insert(place, copy)?;
         }
-        Ok(copies[place])
+        Ok(copy_of(&copies, seq))
     }
 }
 
-/// Which of the nodes up to this place are reached from it.
-fn reached_from(alloc: Global, nodes: &Vec<Node>, place: usize) -> Result<Vec<bool>, NoMemory>
-    requires place { place < vec_len nodes.now }
+/// The places of the nodes that a document reaches, each once, the greatest first.
+///
+/// Links name older nodes, so the greatest place that still waits is met for the last time.
+fn reached_from(alloc: Global, nodes: &Vec<Node>, seq: Seq) -> Result<Vec<usize>, NoMemory>
+    requires place { IsBelow (vec_len nodes.now) seq.node }
     requires linked { AreLinked [] nodes.now.items }
-    ensures count { IfOk result (λ reached. vec_len reached ≡ place + 1) }
-    ensures place { IfOk result (λ reached. IsMarked reached.items (Some place)) }
-    ensures closed { IfOk result (λ reached. IsClosed nodes.now.items reached.items 0) }
-    ensures few { IfOk result (λ reached. marks_in reached.items ≤ size (at_node (documents nodes.now.items) (Some place))) }
+    ensures start { IfOk result (λ reached. IsMet (λ _. ⊥) reached.items seq.node) }
+    ensures closed { IfOk result (λ reached. AreClosed nodes.now.items (λ _. ⊥) reached.items) }
+    ensures once { IfOk result (λ reached. vec_len reached ≤ vec_len nodes.now) }
+    ensures few { IfOk result (λ reached. vec_len reached ≤ size (at_node (documents nodes.now.items) seq.node)) }
 {
-    let _count = nodes.len();
-    let mut reached = vec![in alloc; false; place + 1]?;
-    reached[place] = true;
-    for i in (0..place + 1).rev() {
-        if reached[i] {
-            let node = &nodes[i];
-            mark(&mut reached, node.content);
-            mark(&mut reached, node.next);
+    let mut reached = Vec::new(alloc);
+    let mut above = nodes.len();
+    let mut waiting = BinaryHeap::new(alloc);
+    wait_for(&mut waiting, seq)?;
+    while let Some(place) = waiting.pop() {
+        if place < above {
+            above = place;
+            reached.push(place)?;
+            let node = &nodes[place];
+            wait_for(&mut waiting, node.content)?;
+            wait_for(&mut waiting, node.next)?;
         }
     }
     Ok(reached)
 }
 
-fn mark(reached: &mut Vec<bool>, link: Seq)
-    requires { IsBelow (vec_len reached.old) link.node }
-    ensures marks { reached.new.items ≡ with_mark reached.old.items link.node }
-    ensures len { vec_len reached.new ≡ vec_len reached.old }
+/// Adds the place of the link, if it has one.
+fn wait_for(waiting: &mut BinaryHeap<usize>, link: Seq) -> Result<(), NoMemory>
+    ensures places { OnOk result (IsPermutation (option_to_list link.node ++ heap_items waiting.old) (heap_items waiting.new)) }
+    ensures heap { OnOk result (KeepsHeap nat_cmp (heap_items waiting.old) (heap_items waiting.new)) }
 {
     if let Some(place) = link.node {
-        reached[place] = true;
+        waiting.push(place)?;
     }
+    Ok(())
 }
 
 /// A node in another store, where the copies of its links are known.
-fn copy_node(node: &Node, copies: &[Seq], into: &mut Store) -> Result<Seq, NoMemory>
+fn copy_node(node: &Node, copies: &HashMap<usize, Seq>, into: &mut Store) -> Result<Seq, NoMemory>
     requires item { is_proper_item node.now.item ≡ true }
-    requires content { HasCopy into.old copies.now node.now.content.node }
-    requires next { HasCopy into.old copies.now node.now.next.node }
+    requires content { BelongsTo into.old (copy_at copies.now node.now.content.node) }
+    requires next { BelongsTo into.old (copy_at copies.now node.now.next.node) }
     requires bare { IsBare node.now.item node.now.content }
     ensures ok { IfOk result (λ copy. document_at into.new copy ≡ item_before node.now.item (document_at into.old (copy_at copies.now node.now.content.node)) (document_at into.old (copy_at copies.now node.now.next.node))) }
     ensures belongs { IfOk result (BelongsTo into.new) }
@@ -359,12 +361,10 @@ fn copy_node(node: &Node, copies: &[Seq], into: &mut Store) -> Result<Seq, NoMem
     into.push_node(copy)
 }
 
-fn copy_of(copies: &[Seq], link: Seq) -> Seq
-    requires { IsBelow (length copies.now) link.node }
+fn copy_of(copies: &HashMap<usize, Seq>, link: Seq) -> Seq
     ensures { result ≡ copy_at copies.now link.node }
 {
-    match link.node {
-        None => link,
-        Some(place) => copies[place],
-    }
+    link.node
+        .and_then(|place| copies.get(&place).copied())
+        .unwrap_or(Seq::empty())
 }

@@ -78,6 +78,40 @@ fn copies_what_is_reached_once(rt: HostRuntime) -> Result<(), Fail> {
 }
 
 #[test]
+fn copies_few_nodes_of_a_large_store(rt: HostRuntime) -> Result<(), Fail> {
+    let mut store = Store::new(rt.alloc());
+    let text = Text::new(rt.alloc(), "x")?;
+    for _ in 0..200_000 {
+        let _other = store.text_node(text.share()?, Seq::empty())?;
+    }
+    let name = field(rt.alloc(), &mut store, "name", "A")?;
+    let tel = field(rt.alloc(), &mut store, "tel", "1")?;
+    let both = store.append(name, tel)?;
+    assert_eq!(rt; store.len(), 200_005);
+    let mut into = Store::new(rt.alloc());
+    let copy = store.copy_out(rt.alloc(), both, &mut into)?;
+    assert_eq!(rt; into.len(), 4);
+    assert!(rt; begins_with_field(&into, copy, "name", "A"));
+    assert!(rt; begins_with_field(&into, into.next(copy), "tel", "1"));
+    assert!(rt; into.next(into.next(copy)).is_empty());
+    Ok(())
+}
+
+#[test]
+fn copies_a_million_levels(rt: HostRuntime) -> Result<(), Fail> {
+    let mut store = Store::new(rt.alloc());
+    let label = Label::new(rt.alloc(), "a")?;
+    let mut seq = Seq::empty();
+    for _ in 0..1_000_000 {
+        seq = store.elem_node(label.share()?, seq, Seq::empty())?;
+    }
+    let mut into = Store::new(rt.alloc());
+    let _copy = store.copy_out(rt.alloc(), seq, &mut into)?;
+    assert_eq!(rt; into.len(), 1_000_000);
+    Ok(())
+}
+
+#[test]
 fn shares(rt: HostRuntime) -> Result<(), Fail> {
     let label = Label::new(rt.alloc(), "name")?;
     assert!(rt; label.share()? == label);
