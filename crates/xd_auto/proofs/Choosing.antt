@@ -1,5 +1,5 @@
 -- Moves on an element are tried from one whose class has the label to the next.
-use Rattle.std.proofs.Common.{ℕ, ◌+◌, ◌<◌, ◌≤◌, ◌≡◌, ◌⊎◌, inl, inr, Bool, true, false, ◌&&◌, ◌||◌, List, length, take, get_or, arith, ap, refl, sym, subst, ◌∙◌}
+use Rattle.std.proofs.Common.{ℕ, ◌+◌, ◌<◌, ◌≤◌, ◌≡◌, ◌⊎◌, inl, inr, Bool, true, false, ◌&&◌, ◌||◌, List, length, take, get_or, arith, ap, refl, sym, ◌∙◌}
 use Rattle.std.specs.List.{list_any}
 use Rattle.std.proofs.Math.Seq.{take-length}
 use Rattle.std.proofs.lemmas.List.{get_or-take, length-take-le}
@@ -52,16 +52,6 @@ module _ (a : Automaton) (l : List ℕ) (content rest : Document) (moves : List 
       ∙ ap (λ b. b || takes_element a l content rest (get_or moves n step)) fails
       ∙ sym (ap (takes_element a l content rest) is)
       ∙ and_false_right (class_has step.class l) (accepts a content step.content && accepts a rest step.rest) stuck
-
-  -- a move with the label leads on
-  pub takes_at : (from n : ℕ) (step : LabelMove) → IsNextMove moves l from n → n < length moves → step ≡ get_or moves n step
-      → (accepts a content step.content && accepts a rest step.rest) ≡ true → list_any (takes_element a l content rest) moves ≡ true
-  takes_at from n step next lt is leads =
-      list_any_at (takes_element a l content rest) moves n step lt
-      (ap (takes_element a l content rest) (sym is)
-      ∙ ap (λ b. b && (accepts a content step.content && accepts a rest step.rest))
-      (ap (λ (m : LabelMove). class_has m.class l) is ∙ next.has step lt)
-      ∙ leads)
 
   -- no move leads on, where no further move has the label
   pub none_takes : (from : ℕ) → IsNextMove moves l from (length moves) → list_any (takes_element a l content rest) (take from moves) ≡ false

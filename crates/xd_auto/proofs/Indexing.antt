@@ -1,6 +1,6 @@
 -- The index of a state's moves by their labels.
-use Rattle.std.proofs.Common.{ℕ, ◌+◌, ◌-◌, ◌<◌, ◌≤◌, ◌≡◌, ◌⊎◌, inl, inr, Bool, true, false, ◌||◌, cond, List, [], ◌∷◌, ◌++◌, Option, Some, None, IsSome, Result, Ok, Err, OnErr, Vec, length, take, drop, get_or, nat_eq, ltb, length-append, arith, ap, refl, sym, subst, ◌∙◌}
-use Rattle.std.specs.List.{All, AllWithin, Contains, list_any}
+use Rattle.std.proofs.Common.{ℕ, ◌+◌, ◌-◌, ◌<◌, ◌≤◌, ◌≡◌, ◌⊎◌, inl, inr, Bool, true, false, ◌||◌, cond, List, [], ◌∷◌, ◌++◌, Option, Some, IsSome, Result, Ok, Err, OnErr, Vec, length, take, get_or, nat_eq, ltb, length-append, arith, ap, refl, sym, subst, ◌∙◌}
+use Rattle.std.specs.List.{Contains}
 use Rattle.std.specs.List.Sorted.{IsNonDecreasing, IsPartitionPoint}
 use Rattle.std.specs.Ordering.{is_eq, nat_cmp}
 use Rattle.std.specs.Cmp.Lexicographic.{pointwise, slice_cmp}
@@ -8,15 +8,14 @@ use Rattle.std.specs.BTreeMap.{BTreeMap, UpdatesBy, get}
 use Rattle.std.proofs.lemmas.Map.Text.{is_eq-slice_cmp}
 use Rattle.std.proofs.lemmas.Map.Lookups.{exact_bytes}
 use Rattle.std.proofs.lemmas.Map.Views.{tells_apart}
-use Rattle.std.proofs.lemmas.List.{get_or_append_left, get_or_default, get_or-take}
+use Rattle.std.proofs.lemmas.List.{get_or_append_left, get_or_default}
 use Rattle.std.proofs.lemmas.Grind.{get_or_default_zero}
 use Rattle.std.proofs.lemmas.Bool.{ltb-true}
 use Rattle.std.proofs.lemmas.List.Elements.{All-weaker, All-push, All-nil, Contains-append_left, Contains-push}
-use Rattle.std.proofs.lemmas.List.Folds.{list_any_none, list_any_more, list_any_at}
+use Rattle.std.proofs.lemmas.List.Folds.{list_any_more}
 use Rattle.std.proofs.lemmas.List.Sorted.{IsNonDecreasingBy-push}
-use Rattle.xd_doc.specs.Classes.{LabelClass, class_has, names_label}
+use Rattle.xd_doc.specs.Classes.{class_has, names_label}
 use Rattle.xd_auto.specs.declared.auto.LabelMove.{LabelMove}
-use Rattle.xd_auto.specs.Automaton.{IsNextMove}
 use Rattle.xd_auto.specs.Index.{AddsTo, IsIndex, RisesTo, numbers_at, numbers_of}
 
 pub RisesTo-nil : RisesTo 0 []
@@ -125,18 +124,6 @@ module _ (moves : List LabelMove) (n : ℕ) (named : List ℕ → List ℕ) (oth
       length_more : length moves ≤ length (moves ++ m ∷ [])
       length_more = omega (arith, length-append moves (m ∷ []))
 
-  -- a move that is neither in the list of the label nor among the others has not the label
-  pub unlisted_lacks : (l : List ℕ) (from number : ℕ) → IsIndex moves n named others
-      → ((k : ℕ) (d : LabelMove) → Contains (named l) k → from ≤ k → k < number → class_has (get_or moves k d).class l ≡ false)
-      → ((k : ℕ) (d : LabelMove) → Contains others k → from ≤ k → k < number → class_has (get_or moves k d).class l ≡ false)
-      → (k : ℕ) (d : LabelMove) → k < n → from ≤ k → k < number → class_has (get_or moves k d).class l ≡ false
-  unlisted_lacks l from number h under among k d lt low high = go (class_has (get_or moves k d).class l) refl
-    where
-      go : (b : Bool) → class_has (get_or moves k d).class l ≡ b → b ≡ false
-      go false e = refl
-      go true e =
-          sym e ∙ elim (h.listed k d l lt e) [ inl c ↦ under k d c low high | inr c ↦ among k d c low high ]
-
 pub IsIndex-none : (named : List ℕ → List ℕ) (others : List ℕ) → ((q : List ℕ) → named q ≡ []) → others ≡ [] → IsIndex [] 0 named others
 IsIndex-none named others e o = record {
   within = omega arith;
@@ -144,9 +131,6 @@ IsIndex-none named others e o = record {
   others_rise = subst (λ (xs : List ℕ). RisesTo 0 xs) (sym o) RisesTo-nil;
   listed = λ k d l lt has. absurd (omega arith);
 }
-
-pub Contains-none : (xs : List ℕ) (k : ℕ) → xs ≡ [] → Contains xs k → ⊥
-Contains-none xs k e c = let empty : length xs ≡ 0 = ap length e in omega (arith, c.1)
 
 pub is_some_found : {X : Type 0} (x : X) (o : Option X) → Some x ≡ o → IsSome o
 is_some_found {X} x o e = subst (λ (w : Option X). IsSome w) e refl
@@ -180,15 +164,3 @@ pub index_step : (moves : List LabelMove) (n : ℕ) (named : List ℕ → List �
 index_step moves n named others named' others' step h lt is k o new =
     IsIndex-more moves n named' others' (IsIndex-kept moves n named others named' others' h k o) lt
     (λ d q has. new q (subst (λ (w : LabelMove). class_has w.class q ≡ true) (get_or_default moves n d step lt ∙ sym is) has))
-
--- of the moves that the index has none has the label, before the first in its list and the first of the others
-pub first_lacks : (moves : List LabelMove) (n : ℕ) (named : List ℕ → List ℕ) (others : List ℕ) (l : List ℕ) (from x y number : ℕ) (xs : List ℕ)
-    → IsIndex moves n named others → named l ≡ xs
-    → ((k : ℕ) (d : LabelMove) → Contains xs k → from ≤ k → k < x → class_has (get_or moves k d).class l ≡ false)
-    → ((k : ℕ) (d : LabelMove) → Contains others k → from ≤ k → k < y → class_has (get_or moves k d).class l ≡ false)
-    → number ≤ x → number ≤ y
-    → (k : ℕ) (d : LabelMove) → k < n → from ≤ k → k < number → class_has (get_or moves k d).class l ≡ false
-first_lacks moves n named others l from x y number xs h is under among lex ley =
-    unlisted_lacks moves n named others l from number h
-    (λ k d c low high. under k d (subst (λ (zs : List ℕ). Contains zs k) is c) low (omega arith))
-    (λ k d c low high. among k d c low (omega arith))

@@ -1,5 +1,5 @@
 -- How a state's moves are found by their labels. Of this only private contracts speak.
-use Rattle.std.specs.Prelude.{◌≡◌, ℕ, ◌<◌, ◌≤◌, ◌⊎◌, Bool, true, List, [], length, slice_index_or, Option, Some, None, Vec, Contains}
+use Rattle.std.specs.Prelude.{◌≡◌, ℕ, ◌<◌, ◌≤◌, ◌⊎◌, true, List, [], length, slice_index_or, Option, Some, None, Vec, Contains}
 use Rattle.std.specs.List.{All}
 use Rattle.std.specs.List.Sorted.{IsNonDecreasing}
 use Rattle.std.specs.Ordering.{nat_cmp}

@@ -1,4 +1,3 @@
-use Rattle.std.proofs.Common.{rules}
 use Rattle.xd_auto.proofs.Copies.{AddsCopies-more}
 use Rattle.xd_auto.proofs.auto.copying.add_labels.Goals as goal
 

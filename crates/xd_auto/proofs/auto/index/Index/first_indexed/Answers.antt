@@ -1,6 +1,5 @@
-use Rattle.std.proofs.Common.{[], ap, sym, arith, ◌∙◌}
-use Rattle.xd_auto.specs.Index.{numbers_at, numbers_of}
-use Rattle.xd_auto.proofs.Indexing.{Contains-none, first_lacks}
+use Rattle.std.proofs.Common.{ap}
+use Rattle.xd_auto.specs.Index.{numbers_of}
 use Rattle.xd_auto.proofs.auto.index.Index.first_indexed.Goals as goal
 
 pub first_listed-named-requires-clause-numbers : goal.first_listed-named-requires-clause-numbers
