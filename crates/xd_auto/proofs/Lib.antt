@@ -11,3 +11,5 @@ pub mod Following
 pub mod Operating
 pub mod Wrapping
 pub mod Joining
+pub mod Indexing
+pub mod Choosing

@@ -1,5 +1,5 @@
 -- Tree automata over documents: states with moves, and which documents a state accepts.
-use Rattle.std.specs.Prelude.{◌≡◌, ℕ, ◌<◌, Bool, true, false, ◌&&◌, List, [], ◌∷◌, ◌++◌, length, slice_index_or, slice_set}
+use Rattle.std.specs.Prelude.{◌≡◌, ℕ, ◌<◌, ◌≤◌, Bool, true, false, ◌&&◌, List, [], ◌∷◌, ◌++◌, length, slice_index_or, slice_set}
 use Rattle.std.specs.List.{All, list_any}
 use Rattle.xd_doc.specs.Document.{Document, empty, text, element, join}
 use Rattle.xd_doc.specs.Classes.{class_has}
@@ -79,3 +79,10 @@ pub record IsJoined (a : Automaton) (one two : State) (d : Document) : Type 0 wh
   pub is : d ≡ join front back
   pub front_accepted : accepts a front one ≡ true
   pub back_accepted : accepts a back two ≡ true
+
+-- the first of the moves, from this number on, whose class has the label, or their number where there is none
+pub record IsNextMove (moves : List LabelMove) (label : List ℕ) (from number : ℕ) : Type 0 where
+  pub after : from ≤ number
+  pub within : number ≤ length moves
+  pub has : (d : LabelMove) → number < length moves → class_has (slice_index_or moves number d).class label ≡ true
+  pub lacks : (k : ℕ) (d : LabelMove) → from ≤ k → k < number → class_has (slice_index_or moves k d).class label ≡ false

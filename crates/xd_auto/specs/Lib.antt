@@ -1,4 +1,5 @@
 pub mod Automaton
+pub mod Index
 pub mod Runs
 pub mod Marks
 pub mod Membership

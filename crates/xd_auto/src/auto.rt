@@ -1,17 +1,20 @@
 //! Automata: states with moves.
 
-ghost use Rattle.std.specs.Prelude.{◌≡◌, ◌+◌, ◌<◌, ◌++◌, ◌∷◌, [], length, IfOk, OnOk, OnErr};
+ghost use Rattle.std.specs.Prelude.{◌≡◌, ◌+◌, ◌<◌, ◌≤◌, ◌++◌, ◌∷◌, [], length, IfOk, OnOk, OnErr};
 ghost use Rattle.std.specs.List.{All};
-ghost use Rattle.xd_auto.specs.Automaton.{Extends, IsClosed, IsState, KeepsAccepting, LeadsBelow, moves_at, no_moves, state_number, with_label_move, with_moves, with_text_move};
+ghost use Rattle.std.specs.Option.{IfSome, unwrap_or};
+ghost use Rattle.xd_auto.specs.Automaton.{Extends, IsClosed, IsNextMove, IsState, KeepsAccepting, LeadsBelow, moves_at, no_moves, state_number, with_label_move, with_moves, with_text_move};
 ghost use Rattle.xd_auto.specs.Runs.{AcceptsByRuns};
 
 mod copying;
+mod index;
 mod operations;
 
+use index::Index;
 pub use operations::trim;
 use std::alloc::Global;
 use std::marker::Model;
-use xd_doc::{Class, NoMemory};
+use xd_doc::{Class, Label, NoMemory};
 
 /// A state of an [`Auto`].
 #[derive(Clone, Copy, Debug, PartialEq, Eq)]
@@ -34,14 +37,18 @@ struct Moves {
     last: bool,
     labels: Vec<LabelMove>,
     texts: Vec<State>,
+    index: Index,
 }
 
 impl Model for Moves {
     ghost use Rattle.xd_auto.specs.Automaton.{StateMoves};
+    ghost use Rattle.xd_auto.specs.Index.{IsIndex, numbers_at};
 
     ghost Value = { StateMoves };
 
     ghost view = { λ m. record { last = m.last; labels = m.labels.items; texts = m.texts.items } };
+
+    ghost invariant = { λ m. IsIndex m.labels.items m.index.count (numbers_at m.index.named) m.index.others.items };
 }
 
 /// A tree automaton over documents.
@@ -69,7 +76,26 @@ impl Moves {
             last,
             labels: Vec::new(alloc),
             texts: Vec::new(alloc),
+            index: Index::new(alloc),
         }
+    }
+
+    /// One more move on an element.
+    fn push_label(&mut self, step: LabelMove) -> Result<(), NoMemory>
+        ensures ok { OnOk result (self.new ≡ record self.old { labels = self.old.labels ++ step ∷ [] }) }
+        ensures err { OnErr result (self.new ≡ self.old) }
+    {
+        self.index.extend(&self.labels)?;
+        self.labels.push(step)?;
+        Ok(())
+    }
+
+    /// The first move on an element, from this number on, whose class has the label, or their number.
+    fn next_label(&self, label: &Label, from: usize) -> usize
+        requires { from ≤ length self.now.labels }
+        ensures { IsNextMove self.now.labels label.now from result }
+    {
+        self.index.next(&self.labels, label, from)
     }
 }
 
@@ -126,6 +152,26 @@ impl Auto {
     {
         let moves = &self.states[state.number];
         moves.labels.as_slice()
+    }
+
+    /// The number of the first of the state's moves on an element, from this number on, whose class
+    /// has the label.
+    ///
+    /// Where the state has many moves it finds this in an index, by a binary search for the label
+    /// and one for the number. Moves whose class has all labels but some are walked.
+    pub fn next_label_move(&self, state: State, label: &Label, from: usize) -> Option<usize>
+        requires state { IsState self.now state }
+        requires from { from ≤ length (moves_at self.now state).labels }
+        ensures next { IsNextMove (moves_at self.now state).labels label.now from (unwrap_or result (length (moves_at self.now state).labels)) }
+        ensures some { IfSome result (λ number. number < length (moves_at self.now state).labels) }
+    {
+        let moves = &self.states[state.number];
+        let number = moves.next_label(label, from);
+        if number < moves.labels.len() {
+            Some(number)
+        } else {
+            None
+        }
     }
 
     /// The state's moves on a text: the states for what follows it.
@@ -218,7 +264,7 @@ fn push_label(states: &mut Vec<Moves>, at: usize, step: LabelMove) -> Result<(),
     ensures err { OnErr result (states.new.items ≡ states.old.items) }
 {
     let moves = &mut states[at];
-    moves.labels.push(step)?;
+    moves.push_label(step)?;
     Ok(())
 }
 

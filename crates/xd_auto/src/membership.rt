@@ -1,6 +1,6 @@
 //! Whether a state accepts a document of a store.
 
-ghost use Rattle.std.specs.Prelude.{◌≡◌, ℕ, ◌+◌, ◌*◌, ◌<◌, ◌≤◌, [], ◌∷◌, ◌++◌, Some, true, false, length, take, vec_len, vec_capacity, IfOk};
+ghost use Rattle.std.specs.Prelude.{◌≡◌, ℕ, ◌+◌, ◌*◌, ◌<◌, ◌≤◌, ◌&&◌, [], ◌∷◌, ◌++◌, Some, true, false, length, take, vec_len, vec_capacity, IfOk};
 ghost use Rattle.std.specs.List.{All, list_any};
 ghost use Rattle.xd_doc.specs.Document.{content_of, rest_of};
 ghost use Rattle.xd_doc.specs.Stored.{BelongsTo, document_at, place_in_store, place_of};
@@ -89,27 +89,16 @@ fn ask_content(auto: &Auto, store: &Store, known: &Known, seq: Seq, state: State
     ask(auto, store, known, store.content(seq), state)
 }
 
-/// Whether the move leads over the first item, an element with this label.
-fn try_move(
-    auto: &Auto,
-    store: &Store,
-    known: &Known,
-    seq: Seq,
-    label: &Label,
-    step: &LabelMove,
-) -> Answer
+/// Whether the move leads over the first item, an element with a label of its class.
+fn try_move(auto: &Auto, store: &Store, known: &Known, seq: Seq, step: &LabelMove) -> Answer
     requires content { IsState auto.now step.now.content }
     requires rest { IsState auto.now step.now.rest }
     requires width { length auto.now < 64 * known.now.width }
     requires seq { BelongsTo store.now seq }
     requires known { IsKnownBelow auto.now store.now known.now.asked.items known.now.accepted.items known.now.width (place_of (place_in_store seq)) }
-    ensures { AnswersFor (takes_element auto.now label.now (content_of (document_at store.now seq)) (rest_of (document_at store.now seq)) step.now)
+    ensures { AnswersFor (accepts auto.now (content_of (document_at store.now seq)) step.now.content && accepts auto.now (rest_of (document_at store.now seq)) step.now.rest)
         (MayWait auto.now known.now.asked.items known.now.width (place_of (place_in_store seq))) result }
 {
-    let class = &step.class;
-    if !class.has(label) {
-        return Answer::Settled(false);
-    }
     match ask_content(auto, store, known, seq, step.content) {
         Answer::Settled(true) => ask_rest(auto, store, known, seq, step.rest),
         other => other,
@@ -144,31 +133,32 @@ fn try_texts(
     Progress::Done(false)
 }
 
-/// Goes on over the moves on an element, from move `tried` on.
+/// Goes on over the moves of a state on an element, from move `tried` on.
 fn try_labels(
     auto: &Auto,
     store: &Store,
     known: &Known,
     seq: Seq,
     label: &Label,
-    moves: &[LabelMove],
+    state: State,
     tried: usize,
 ) -> Progress
-    requires states { All (λ m. IsState auto.now m.content × IsState auto.now m.rest) moves.now }
+    requires state { IsState auto.now state }
     requires width { length auto.now < 64 * known.now.width }
     requires seq { BelongsTo store.now seq }
     requires known { IsKnownBelow auto.now store.now known.now.asked.items known.now.accepted.items known.now.width (place_of (place_in_store seq)) }
-    requires tried { tried ≤ length moves.now }
-    requires fails { list_any (takes_element auto.now label.now (content_of (document_at store.now seq)) (rest_of (document_at store.now seq))) (take tried moves.now) ≡ false }
-    ensures { ProgressOver (takes_element auto.now label.now (content_of (document_at store.now seq)) (rest_of (document_at store.now seq))) moves.now tried
+    requires tried { tried ≤ length (moves_at auto.now state).labels }
+    requires fails { list_any (takes_element auto.now label.now (content_of (document_at store.now seq)) (rest_of (document_at store.now seq))) (take tried (moves_at auto.now state).labels) ≡ false }
+    ensures { ProgressOver (takes_element auto.now label.now (content_of (document_at store.now seq)) (rest_of (document_at store.now seq))) (moves_at auto.now state).labels tried
         (MayWait auto.now known.now.asked.items known.now.width (place_of (place_in_store seq))) result }
 {
-    for i in tried..moves.len() {
-        let step = &moves[i];
-        match try_move(auto, store, known, seq, label, step) {
+    let moves = auto.label_moves(state);
+    let mut from = tried;
+    while let Some(number) = auto.next_label_move(state, label, from) {
+        match try_move(auto, store, known, seq, &moves[number]) {
             Answer::Settled(true) => return Progress::Done(true),
-            Answer::Settled(false) => {}
-            Answer::Unasked(node, state) => return Progress::Waits(i, node, state),
+            Answer::Settled(false) => from = number + 1,
+            Answer::Unasked(node, asked) => return Progress::Waits(number, node, asked),
         }
     }
     Progress::Done(false)
@@ -201,7 +191,7 @@ fn advance(auto: &Auto, store: &Store, known: &Known, frame: Frame) -> Progress
             known,
             seq,
             label,
-            auto.label_moves(frame.state),
+            frame.state,
             frame.tried,
         ),
     }

@@ -1,6 +1,6 @@
 //! Automata and documents that are built by hand.
 
-ghost use Rattle.std.specs.Prelude.{◌≡◌, true, IfOk};
+ghost use Rattle.std.specs.Prelude.{◌≡◌, true, length, IfOk};
 ghost use Rattle.xd_doc.specs.Stored.{BelongsTo};
 ghost use Rattle.xd_doc.specs.Word.{is_word};
 ghost use Rattle.xd_auto.specs.Automaton.{IsState};
@@ -117,6 +117,81 @@ fn makes_states_of_states(rt: HostRuntime) -> Result<(), Fail> {
         [false, true, false, false, true, false, false].as_slice()
     );
     assert_eq!(rt; trimmed.len(), 2);
+    Ok(())
+}
+
+/// Moves on `b`, so many.
+fn add_moves(
+    alloc: Global,
+    auto: &mut Auto,
+    from: State,
+    to: State,
+    count: usize,
+) -> Result<(), NoMemory>
+    requires from { IsState auto.old from }
+    requires to { IsState auto.old to }
+    ensures { length auto.new ≡ length auto.old }
+{
+    for _ in 0..count {
+        auto.add_label_move(from, one(alloc, "b")?, to, to)?;
+    }
+    Ok(())
+}
+
+/// A state with 300 moves. Number 100 is on `a`, with a content that no document is; number 150 is
+/// on all labels but `a`, and number 200 on `a` and `c`, with a text in them; the others are on
+/// empty `b`.
+fn busy_state(alloc: Global, auto: &mut Auto) -> Result<State, NoMemory>
+    ensures { IfOk result (IsState auto.new) }
+{
+    let end = auto.add_state(true)?;
+    let nothing = auto.add_state(false)?;
+    let text = auto.add_state(false)?;
+    let busy = auto.add_state(false)?;
+    auto.add_text_move(text, end)?;
+    add_moves(alloc, auto, busy, end, 100)?;
+    auto.add_label_move(busy, one(alloc, "a")?, nothing, end)?;
+    add_moves(alloc, auto, busy, end, 49)?;
+    let a = vec![in alloc; Label::new(alloc, "a")?]?;
+    auto.add_label_move(busy, Class::new(alloc, a, true)?, text, end)?;
+    add_moves(alloc, auto, busy, end, 49)?;
+    let both = vec![in alloc; Label::new(alloc, "a")?, Label::new(alloc, "c")?]?;
+    auto.add_label_move(busy, Class::new(alloc, both, false)?, text, end)?;
+    add_moves(alloc, auto, busy, end, 99)?;
+    Ok(busy)
+}
+
+#[test]
+fn finds_the_moves_of_a_label_among_many(rt: HostRuntime) -> Result<(), Fail> {
+    let alloc = rt.alloc();
+    let mut auto = Auto::new(alloc);
+    let busy = busy_state(alloc, &mut auto)?;
+    assert_eq!(rt; auto.label_moves(busy).len(), 300);
+    let a = Label::new(alloc, "a")?;
+    let b = Label::new(alloc, "b")?;
+    let c = Label::new(alloc, "c")?;
+    assert_eq!(rt; auto.next_label_move(busy, &a, 0), Some(100));
+    assert_eq!(rt; auto.next_label_move(busy, &a, 101), Some(200));
+    assert_eq!(rt; auto.next_label_move(busy, &a, 201), None);
+    assert_eq!(rt; auto.next_label_move(busy, &b, 100), Some(101));
+    assert_eq!(rt; auto.next_label_move(busy, &b, 150), Some(150));
+    assert_eq!(rt; auto.next_label_move(busy, &b, 299), Some(299));
+    assert_eq!(rt; auto.next_label_move(busy, &c, 0), Some(150));
+    assert_eq!(rt; auto.next_label_move(busy, &c, 151), Some(200));
+    assert_eq!(rt; auto.next_label_move(busy, &c, 201), None);
+    Ok(())
+}
+
+#[test]
+fn accepts_by_any_move_of_a_label_among_many(rt: HostRuntime) -> Result<(), Fail> {
+    let alloc = rt.alloc();
+    let mut auto = Auto::new(alloc);
+    let busy = busy_state(alloc, &mut auto)?;
+    let answers = accepted(alloc, &auto, busy, &samples(alloc)?)?;
+    assert_eq!(rt;
+        answers.as_slice(),
+        [false, false, false, false, false, true, true].as_slice()
+    );
     Ok(())
 }
 

@@ -144,17 +144,19 @@ fn share_class(alloc: Global, class: &Class) -> Result<Class, NoMemory>
 
 /// Adds copies of these moves.
 fn add_labels(
-    into: &mut Vec<LabelMove>,
+    into: &mut Moves,
     moves: &[LabelMove],
     contents: &[Option<State>],
     rests: &[Option<State>],
 ) -> Result<(), NoMemory>
-    ensures ok { OnOk result (AddsCopies contents.now rests.now moves.now into.old.items into.new.items) }
+    ensures labels { OnOk result (AddsCopies contents.now rests.now moves.now into.old.labels into.new.labels) }
+    ensures last { OnOk result (into.new.last ≡ into.old.last) }
+    ensures texts { OnOk result (into.new.texts ≡ into.old.texts) }
 {
-    let alloc = *into.allocator();
+    let alloc = *into.labels.allocator();
     for step in moves {
         let class = share_class(alloc, &step.class)?;
-        into.push(LabelMove {
+        into.push_label(LabelMove {
             class,
             content: moved_to(contents, step.content),
             rest: moved_to(rests, step.rest),
@@ -188,7 +190,7 @@ pub fn add_moves(
     requires { IsState auto.now state }
     ensures ok { OnOk result (AddsMoves contents.now rests.now (moves_at auto.now state) into.old into.new) }
 {
-    add_labels(&mut into.labels, auto.label_moves(state), contents, rests)?;
+    add_labels(into, auto.label_moves(state), contents, rests)?;
     add_texts(&mut into.texts, auto.text_moves(state), rests)?;
     Ok(())
 }

@@ -117,7 +117,7 @@ fn around(alloc: Global, label: &Label, content: State, rest: State) -> Result<M
     names.push(label.share()?)?;
     let class = Class::new(alloc, names, false)?;
     let mut made = Moves::new(alloc, false);
-    made.labels.push(LabelMove {
+    made.push_label(LabelMove {
         class,
         content,
         rest,

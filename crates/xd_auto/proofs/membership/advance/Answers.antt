@@ -19,4 +19,4 @@ returns-in-Some-Elem c =
     sym (rw (c.in-Some-Elem.field-0-is, c.at-seq.ensures.place) at c.in-Some-Elem.ensures) in
     label_progress c.args.auto.now c.args.frame.state c.args.frame.tried (from_node c.args.store.now c.args.frame.node) c.in-Some-Elem.label
     (MayWait c.args.auto.now c.args.known.now.asked.items c.args.known.now.width c.args.frame.node) c.try_labels.result is
-    (rw (c.label_moves.ensures.value, c.at-seq.ensures.place) at c.try_labels.ensures)
+    (rw c.at-seq.ensures.place at c.try_labels.ensures)

@@ -1,6 +1,10 @@
-use Rattle.std.proofs.Common.{take}
+use Rattle.std.proofs.Common.{◌≡◌, take}
 use Rattle.xd_auto.specs.Copying.{AddsCopies}
 use Rattle.xd_auto.proofs.auto.copying.add_labels.Given as goal
 
 abbrev pub invariant-loop-step : goal.invariant-loop-step
-invariant-loop-step l = AddsCopies l.contents l.rests (take l.step-index l.moves) l.initial.into.items l.into.items
+invariant-loop-step l = record {
+  labels : AddsCopies l.contents l.rests (take l.step-index l.moves) l.initial.into.labels l.into.labels;
+  last : l.into.last ≡ l.initial.into.last;
+  texts : l.into.texts ≡ l.initial.into.texts;
+}

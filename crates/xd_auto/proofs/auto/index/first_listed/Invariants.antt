@@ -1,0 +1,12 @@
+use Rattle.std.proofs.Common.{◌≡◌, ◌≤◌, ◌<◌, ℕ, false, length, slice_index_or}
+use Rattle.xd_doc.specs.Classes.{class_has}
+use Rattle.xd_auto.specs.declared.auto.LabelMove.{LabelMove}
+use Rattle.xd_auto.proofs.auto.index.first_listed.Given as goal
+
+abbrev pub invariant-loop-place : goal.invariant-loop-place
+invariant-loop-place l = record {
+  passed : (i : ℕ) (d : LabelMove) → l.start ≤ i → i < l.place → slice_index_or l.numbers i 0 < length l.moves
+      → class_has (slice_index_or l.moves (slice_index_or l.numbers i 0) d).class l.label ≡ false;
+  end_is : l.place-end ≡ length l.numbers;
+  start_is : l.start ≤ length l.numbers;
+}
