@@ -22,4 +22,6 @@ mod Samples
 pub mod SameClass
 pub mod AdoptLaws
 pub mod PlainCost
+pub mod PlainFitting
+pub mod PlainMeaning
 pub mod IdentityAccepted
