@@ -4,6 +4,8 @@ mod document;
 mod evaluate;
 mod fits;
 mod program;
+#[cfg(test)]
+mod tests;
 mod tree;
 mod ways;
 
