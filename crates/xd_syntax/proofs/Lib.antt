@@ -23,6 +23,8 @@ mod ConsistentSamples
 pub mod SameClass
 pub mod AdoptLaws
 pub mod PlainCost
+pub mod PlainFitting
+pub mod PlainMeaning
 pub mod IdentityAccepted
 pub mod SameTrees
 pub mod NamedAtoms

@@ -111,6 +111,10 @@ empty_heads : heads no_names Empty ≡ []
 unfolding heads
 empty_heads = refl
 
+element_heads : heads no_names (tag a Text) ≡ the_head a Text Empty ∷ []
+unfolding heads
+element_heads = refl
+
 star_heads : heads no_names (Star (tag a Text)) ≡ the_head a Text (Star (tag a Text)) ∷ []
 unfolding heads
 star_heads = refl
@@ -200,6 +204,20 @@ two_arguments = record {
 
 two_arguments_found : name_faults two_arguments ≡ fault_at (at_place 1 30) (Arity (codes "f") 2 1) ∷ []
 two_arguments_found = refl
+
+-- a variable twice in a sequence of one clause's pattern
+abbrev twice_bound : ProgramTree
+twice_bound = record {
+  types = [];
+  functions =
+      fun (codes "f") (at_place 1 5) (param x (at_place 1 12) any_at ∷ []) any_at
+      (Matched (at_place 1 30) (Variable (at_place 1 36) x)
+      (clause (Seq_at (at_place 1 43) (Val_at (at_place 1 43) y (at_place 1 47) any_at) (Val_at (at_place 1 50) y (at_place 1 54) any_at))
+      (Variable (at_place 1 59) y) no_clause)) ∷ [];
+}
+
+twice_bound_found : name_faults twice_bound ≡ fault_at (at_place 1 54) (NotLinear y) ∷ []
+twice_bound_found = refl
 
 -- a second occurrence in a sequence
 twice_in_a_row : not_linear false [] [] false (Seq_at p (Val_at p y (at_place 1 47) any_at) (Val_at p y (at_place 1 54) any_at))

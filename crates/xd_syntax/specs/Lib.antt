@@ -27,4 +27,7 @@ pub mod Adopt
 pub mod PlainDocuments
 pub mod PlainTrees
 pub mod PlainWays
+pub mod PlainFits
+pub mod PlainPrograms
+pub mod PlainMeaning
 pub mod Identity

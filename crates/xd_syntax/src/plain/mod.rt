@@ -1,9 +1,19 @@
 //! Slow and short programs that compute the definitions, as yardsticks for tests.
 
 mod document;
+mod evaluate;
+mod fits;
+mod program;
+#[cfg(test)]
+mod tests;
 mod tree;
 mod ways;
 
 pub use document::PlainDocument;
+pub use evaluate::{NoValue, Valued, meaning, value};
+pub use fits::fits_within;
+pub use program::{
+    PlainArguments, PlainClauses, PlainExpression, PlainFunction, PlainParameter, PlainProgram,
+};
 pub use tree::{PlainDefinition, PlainTree};
 pub use ways::{Binding, PlainWay, first_within, ways_within};

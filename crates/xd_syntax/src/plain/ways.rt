@@ -340,7 +340,7 @@ fn one_bound(alloc: Global, variable: &Label, way: &PlainWay) -> Result<PlainWay
     })
 }
 
-fn push_bindings(
+pub(super) fn push_bindings(
     alloc: Global,
     made: &mut Vec<Binding>,
     bindings: &[Binding],
