@@ -1,0 +1,14 @@
+use Rattle.std.proofs.Common.{◌≡◌, ℕ, zero, suc, ◌+◌, ◌-◌, ◌*◌, ◌^◌, ◌<◌, ◌≤◌, ◌⊎◌, ◌≢◌, arith, rules, List, [], ◌∷◌, ◌++◌, length, get_or, set, take, vec_len, refl, ap, sym, subst, ◌∙◌, inl, inr}
+use Rattle.xd_rec.specs.Components.{standing_of, unseen}
+use Rattle.xd_rec.specs.declared.components.Standing.TheVariants.{Unseen}
+use Rattle.xd_rec.proofs.Finishing.{unseen_more, all_unseen}
+use Rattle.xd_rec.proofs.components.Search.new.Goals as goal
+
+pub loop-preserved : goal.loop-preserved
+loop-preserved c =
+    let e = c.in_ok-push.ensures.items in
+    record {
+      count = c.in_ok-push.ensures.len ∙ ap (λ n. n + 1) c.loop.invariant.count;
+      none = λ v. (rw e (all_unseen c.loop.standing.items c.loop.invariant.none v));
+      all = rw e (unseen_more c.loop.standing.items ∙ ap (λ n. n + 1) c.loop.invariant.all);
+    }
