@@ -1,14 +1,14 @@
 -- the nodes of the last segment are a component
-use Rattle.std.proofs.Common.{◌≡◌, ℕ, zero, suc, ◌+◌, ◌<◌, ◌≤◌, arith, ◌⊎◌, List, [], ◌∷◌, ◌++◌, length, get_or, set, take, refl, ap, sym, subst, ◌∙◌, inl, inr}
+use Rattle.std.proofs.Common.{◌≡◌, ℕ, ◌+◌, ◌<◌, ◌≤◌, arith, ◌⊎◌, List, [], ◌∷◌, ◌++◌, length, get_or, take, refl, ap, sym, subst, ◌∙◌, inl, inr}
 use Rattle.std.proofs.lemmas.List.{length_push, length-take-le, get_or_append_left, get_or_push, get_or-take}
-use Rattle.std.proofs.lemmas.Bool.{cases_lt, cases_eq}
-use Rattle.xd_rec.specs.Graph.{HasEdge, Path, stay, edge_then}
-use Rattle.xd_rec.specs.Components.{standing_of, node_at, no_segment, path_from, todo_from, unseen, NoneBetween, IsSettled, HasSource, IsSearched, IsDoneFrom}
+use Rattle.std.proofs.lemmas.Bool.{cases_lt}
+use Rattle.xd_rec.specs.Graph.{HasEdge, Path}
+use Rattle.xd_rec.specs.Components.{standing_of, node_at, no_segment, path_from, todo_from, NoneBetween, IsSettled, HasSource, IsSearched, IsDoneFrom}
 use Rattle.xd_rec.specs.declared.components.Standing.{Standing}
 use Rattle.xd_rec.specs.declared.components.Standing.TheVariants.{Unseen, Open, Done}
 use Rattle.xd_rec.specs.declared.components.Segment.{Segment}
 use Rattle.xd_rec.proofs.Lists.{all_push, all_front, all_last}
-use Rattle.xd_rec.proofs.Searching.{open_same, done_same_number, last_of, last_split}
+use Rattle.xd_rec.proofs.Searching.{open_same, done_same_number, last_split}
 
 module _ (g : List (List ℕ)) (st new : List Standing) (path todo : List ℕ) (segs : List Segment) (top : Segment) (fin : ℕ) (i : IsSearched g st path todo (segs ++ top ∷ []) fin)
     (no_edge : length todo ≡ top.todo_from) (d : IsDoneFrom st new top.path_from fin) where
@@ -64,10 +64,13 @@ module _ (g : List (List ℕ)) (st new : List Standing) (path todo : List ℕ) (
   was_open : (u p : ℕ) → standing_of new u ≡ Open p → (standing_of st u ≡ Open p) × (p < top.path_from)
   was_open u p e = elim (was u) [
     | inl o ↦ absurd (let x : Done fin ≡ Open p = sym (d.closed u o.0 o.1 o.2) ∙ e in cc)
-    | inr k ↦ (sym k ∙ e, (let o : standing_of st u ≡ Open p = sym k ∙ e in elim (cases_lt p top.path_from) [
-      | inl l ↦ l
-      | inr l ↦ absurd (let x : Done fin ≡ Open p = sym (d.closed u p o l) ∙ e in cc)
-    ]))
+    | inr k ↦ (
+      sym k ∙ e,
+      (let o : standing_of st u ≡ Open p = sym k ∙ e in elim (cases_lt p top.path_from) [
+        | inl l ↦ l
+        | inr l ↦ absurd (let x : Done fin ≡ Open p = sym (d.closed u p o l) ∙ e in cc)
+      ]),
+    )
   ]
 
   closed_reach : (p q : ℕ) → p ≤ q → q < length rest → Path g (node_at rest p) (node_at rest q)
@@ -102,10 +105,13 @@ module _ (g : List (List ℕ)) (st new : List Standing) (path todo : List ℕ) (
   closed_sources j l =
       let y = i.sources j l in
       let b = all_last no_segment (λ s. j < s.todo_from → y.0 < s.path_from) segs top y.4 (omega arith) in
-      let n = rest_length in
-      (y.0, omega arith, subst (λ x. HasEdge g x (node_at todo j)) (sym (at_rest y.0 b)) y.2,
-      all_front no_segment (λ s. s.todo_from ≤ j → s.path_from ≤ y.0) segs top y.3,
-      all_front no_segment (λ s. j < s.todo_from → y.0 < s.path_from) segs top y.4)
+      let n = rest_length in (
+        y.0,
+        omega arith,
+        subst (λ x. HasEdge g x (node_at todo j)) (sym (at_rest y.0 b)) y.2,
+        all_front no_segment (λ s. s.todo_from ≤ j → s.path_from ≤ y.0) segs top y.3,
+        all_front no_segment (λ s. j < s.todo_from → y.0 < s.path_from) segs top y.4,
+      )
 
   -- an edge from the last segment leads to a node that is done now
   edge_done : (p w : ℕ) → p < length path → top.path_from ≤ p → HasEdge g (node_at path p) w → (c : ℕ) × (standing_of new w ≡ Done c) × (c ≤ fin)
@@ -122,10 +128,10 @@ module _ (g : List (List ℕ)) (st new : List Standing) (path todo : List ℕ) (
   closed_done_edges u c w h e = elim (was_done u c h) [
     | inr o ↦ (let r = i.done_edges u c w o e in (r.0, done_kept w r.0 r.1, r.2))
     | inl (q, o) ↦
-      let z = i.on_path u o.0 o.1 in
-      let r = edge_done o.0 w z.0 o.2 (subst (λ x. HasEdge g x w) (sym z.1) e) in
-      let s = r.2 in
-      (r.0, r.1, omega arith)
+        let z = i.on_path u o.0 o.1 in
+        let r = edge_done o.0 w z.0 o.2 (subst (λ x. HasEdge g x w) (sym z.1) e) in
+        let s = r.2 in
+        (r.0, r.1, omega arith)
   ]
 
   -- nodes of the last segment reach each other
@@ -140,9 +146,9 @@ module _ (g : List (List ℕ)) (st new : List Standing) (path todo : List ℕ) (
   closed_done_same u w c h k = elim (was_done u c h) [
     | inl (q, o) ↦ elim (was_done w c k) [
       | inl (r, p) ↦
-        let y = i.on_path u o.0 o.1 in
-        let z = i.on_path w p.0 p.1 in
-        subst (λ x. Path g x w) y.1 (subst (Path g (node_at path o.0)) z.1 (within o.0 p.0 y.0 z.0 o.2 p.2))
+          let y = i.on_path u o.0 o.1 in
+          let z = i.on_path w p.0 p.1 in
+          subst (λ x. Path g x w) y.1 (subst (Path g (node_at path o.0)) z.1 (within o.0 p.0 y.0 z.0 o.2 p.2))
       | inr p ↦ absurd (let b = i.done_below w c p in omega arith)
     ]
     | inr o ↦ elim (was_done w c k) [

@@ -1,6 +1,6 @@
 -- marks of nodes that can be empty
-use Rattle.std.proofs.Common.{◌≡◌, ℕ, zero, suc, ◌+◌, ◌-◌, ◌*◌, ◌^◌, ◌<◌, ◌≤◌, ◌⊎◌, ◌≢◌, arith, rules, Bool, true, false, cond, nat_eq, List, [], ◌∷◌, ◌++◌, length, get_or, set, take, drop, Option, Some, None, vec_len, refl, ap, sym, subst, ◌∙◌, inl, inr}
-use Rattle.std.proofs.Common.{◌||◌, ◌&&◌, ◌↔◌, map}
+use Rattle.std.proofs.Common.{◌≡◌, ℕ, zero, suc, ◌+◌, ◌-◌, ◌<◌, ◌≤◌, ◌⊎◌, arith, Bool, true, false, cond, List, [], ◌∷◌, ◌++◌, length, get_or, set, take, Option, Some, None, refl, ap, sym, subst, ◌∙◌, inl, inr}
+use Rattle.std.proofs.Common.{◌||◌, ◌&&◌, map}
 use Rattle.std.specs.List.{AllByRecursion}
 use Rattle.std.specs.Str.{bytes_eq}
 use Rattle.std.proofs.lemmas.List.{length_push, length-set, get_or-set_same, get_or-set_other, get_or_past}
@@ -24,7 +24,7 @@ use Rattle.xd_rec.specs.Names.{meanings, first_of}
 use Rattle.xd_rec.specs.Graph.{HasEdge, successors}
 use Rattle.xd_rec.specs.Emptiness.{is_marked, body_marked, name_marked, all_marked, some_marked, form_marked, body_number, depends_on, no_row, form_at, body_at, AddsEdges, IsRead, AreRead, AreDependents, AreEmptyTypes, IsMarking, unmarked}
 use Rattle.xd_rec.proofs.Graphs.{with_edge, edges_kept, edge_made}
-use Rattle.xd_rec.proofs.NameLemmas.{IsFirst, first_found, first_missing, meaning_of, body_of, all_by_at}
+use Rattle.xd_rec.proofs.NameLemmas.{first_found, meaning_of, body_of}
 
 or_cases : (a b : Bool) → (a || b) ≡ true → (a ≡ true) ⊎ (b ≡ true)
 or_cases true b e = inl refl
@@ -189,7 +189,7 @@ marked_more types ds g marks waiting i b dep closed m li e =
       count = n ∙ c;
       right = λ j k. elim (cases_eq j i) [
         | inl q ↦ subst (λ x. Fits (meanings types ds) (tree_at types x) empty) (sym q)
-          (subst (λ t. Fits (meanings types ds) t empty) (sym (row_tree types b i li)) (form_right types ds marks m.right (form_at types i) e))
+            (subst (λ t. Fits (meanings types ds) t empty) (sym (row_tree types b i li)) (form_right types ds marks m.right (form_at types i) e))
         | inr q ↦ m.right j (sym (mark_other marks i j q) ∙ k)
       ];
       pending = λ j l. elim (cases_eq j i) [
@@ -436,13 +436,13 @@ pub read_more : (types : List Row) (n at : ℕ) (r : Row) → at ≡ n → n < l
 read_more types n at r e l row t p f h i k = elim (cases_eq i n) [
   | inr q ↦ h i (omega arith)
   | inl q ↦
-    let z : at ≡ i = omega arith in
-    let y : r.form ≡ form_at types i = form_read types at i r r.form z (omega arith) row refl in
-    record {
-      tree = subst (λ j. tree_at types j ≡ form_tree (tree_at types) (form_at types i)) z (t ∙ ap (form_tree (tree_at types)) y);
-      parts = subst (λ j. PartsBelow j (form_at types i)) z (subst (PartsBelow at) y p);
-      follows = subst (λ j. CanFollow false (take j types) (form_at types i)) z (subst (CanFollow false (take at types)) y f);
-    }
+      let z : at ≡ i = omega arith in
+      let y : r.form ≡ form_at types i = form_read types at i r r.form z (omega arith) row refl in
+      record {
+        tree = subst (λ j. tree_at types j ≡ form_tree (tree_at types) (form_at types i)) z (t ∙ ap (form_tree (tree_at types)) y);
+        parts = subst (λ j. PartsBelow j (form_at types i)) z (subst (PartsBelow at) y p);
+        follows = subst (λ j. CanFollow false (take j types) (form_at types i)) z (subst (CanFollow false (take at types)) y f);
+      }
 ]
 
 pub defined_in : (ds : List TypeDef) (w : List ℕ) (k : ℕ) → first_of ds w ≡ Some k → k < length ds

@@ -1,12 +1,11 @@
 -- uses as edges, and faults of uses
-use Rattle.std.proofs.Common.{◌≡◌, ℕ, zero, suc, ◌+◌, ◌-◌, ◌*◌, ◌^◌, ◌<◌, ◌≤◌, ◌⊎◌, ◌≢◌, ◌&&◌, ◌↔◌, arith, rules, Bool, true, false, not, cond, nat_eq, List, [], ◌∷◌, ◌++◌, length, get_or, set, take, drop, map, flat_map, reverse, Option, Some, None, vec_len, refl, ap, sym, subst, ◌∙◌, inl, inr}
-use Rattle.std.proofs.lemmas.List.{append_assoc, append-nil}
-use Rattle.xd_syntax.proofs.Members.{Among, mem_append, append_left, append_right}
+use Rattle.std.proofs.Common.{◌≡◌, ℕ, zero, suc, ◌<◌, arith, Bool, true, false, cond, List, [], ◌∷◌, ◌++◌, length, get_or, Some, refl, ap, sym, subst, ◌∙◌, inl, inr}
+use Rattle.xd_syntax.proofs.Members.{mem_append, append_left, append_right}
 use Rattle.xd_syntax.specs.declared.types.TypeDef.{TypeDef}
 use Rattle.xd_syntax.specs.declared.fault.Fault.{Fault}
 use Rattle.xd_rec.specs.Graph.{HasEdge, successors}
 use Rattle.xd_rec.specs.Names.{first_of}
-use Rattle.xd_rec.specs.Faults.{AreOwned, IsUsedIn, IsGraphOf, AddsUse, faults_of}
+use Rattle.xd_rec.specs.Faults.{AreOwned, IsGraphOf, AddsUse, faults_of}
 use Rattle.xd_rec.specs.declared.uses.TopUse.{TopUse}
 use Rattle.xd_rec.proofs.Graphs.{with_edge, edges_more, edges_kept, edge_made}
 use Rattle.std.proofs.lemmas.List.{length-set}
@@ -17,17 +16,18 @@ graph_none ds front g c n = record { count = c; edges = λ v w. (λ e. absurd (n
 pub graph_more : (ds : List TypeDef) (us : List TopUse) (u : TopUse) (front : Bool) (g h : List (List ℕ)) → IsGraphOf ds us front g → AddsUse ds u front g h → IsGraphOf ds (us ++ u ∷ []) front h
 graph_more ds us u front g h i a = record {
   count = a.count ∙ i.count;
-  edges = λ v w.
-  (λ e. elim (a.only v w e) [
-    | inl n ↦ record { used = u; listed = append_right u us (u ∷ []) (inl refl); owner = n.0; target = n.1; counts = n.2 }
-    | inr o ↦ (let r = (i.edges v w).0 o in record { used = r.used; listed = append_left r.used us (u ∷ []) r.listed; owner = r.owner; target = r.target; counts = r.counts })
-  ],
-  λ r. elim (mem_append r.used us (u ∷ []) r.listed) [
-    | inl m ↦ a.kept v w ((i.edges v w).1 (record { used = r.used; listed = m; owner = r.owner; target = r.target; counts = r.counts }))
-    | inr (inl q) ↦ subst (λ x. HasEdge h x w) (ap (λ (x : TopUse). x.owner) q ∙ r.owner)
-      (a.added w (ap (λ (x : TopUse). first_of ds x.name) q ∙ r.target) (λ k. ap (λ (x : TopUse). x.is_front) q ∙ r.counts k))
-    | inr (inr f) ↦ absurd f
-  ]);
+  edges = λ v w. (
+    λ e. elim (a.only v w e) [
+      | inl n ↦ record { used = u; listed = append_right u us (u ∷ []) (inl refl); owner = n.0; target = n.1; counts = n.2 }
+      | inr o ↦ (let r = (i.edges v w).0 o in record { used = r.used; listed = append_left r.used us (u ∷ []) r.listed; owner = r.owner; target = r.target; counts = r.counts })
+    ],
+    λ r. elim (mem_append r.used us (u ∷ []) r.listed) [
+      | inl m ↦ a.kept v w ((i.edges v w).1 (record { used = r.used; listed = m; owner = r.owner; target = r.target; counts = r.counts }))
+      | inr (inl q) ↦ subst (λ x. HasEdge h x w) (ap (λ (x : TopUse). x.owner) q ∙ r.owner)
+          (a.added w (ap (λ (x : TopUse). first_of ds x.name) q ∙ r.target) (λ k. ap (λ (x : TopUse). x.is_front) q ∙ r.counts k))
+      | inr (inr f) ↦ absurd f
+    ],
+  );
 }
 
 some_same : {A : Type 0} (x y : A) → Some x ≡ Some y → x ≡ y

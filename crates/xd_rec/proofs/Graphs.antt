@@ -46,9 +46,9 @@ edges_more g from to v w l h = elim (edges_set g from (successors g from ++ to �
 pub edges_kept : (g : List (List ℕ)) (from to v w : ℕ) → from < length g → HasEdge g v w → HasEdge (with_edge g from to) v w
 edges_kept g from to v w l h = elim (cases_eq v from) [
   | inl e ↦
-    subst (λ x. HasEdge (with_edge g from to) x w) (sym e)
-    (subst (Among w) (sym (get_or-set_same g from (successors g from ++ to ∷ []) [] l))
-    (append_left w (successors g from) (to ∷ []) (subst (λ x. HasEdge g x w) e h)))
+      subst (λ x. HasEdge (with_edge g from to) x w) (sym e)
+      (subst (Among w) (sym (get_or-set_same g from (successors g from ++ to ∷ []) [] l))
+      (append_left w (successors g from) (to ∷ []) (subst (λ x. HasEdge g x w) e h)))
   | inr n ↦ subst (Among w) (sym (get_or-set_other g from v (successors g from ++ to ∷ []) [] n)) h
 ]
 

@@ -1,5 +1,5 @@
 -- what holds of each element of a list, and one more at its end
-use Rattle.std.proofs.Common.{◌≡◌, ℕ, zero, suc, ◌+◌, ◌<◌, ◌≤◌, arith, ◌⊎◌, List, [], ◌∷◌, ◌++◌, length, get_or, refl, ap, sym, subst, ◌∙◌, inl, inr}
+use Rattle.std.proofs.Common.{◌≡◌, ℕ, zero, suc, ◌<◌, arith, List, [], ◌∷◌, ◌++◌, length, get_or, refl, sym, subst, inl, inr}
 use Rattle.std.proofs.lemmas.List.{length_push, get_or_append_left, get_or_push}
 use Rattle.std.proofs.lemmas.Bool.{cases_lt}
 use Rattle.xd_syntax.proofs.Members.{Among}
@@ -11,8 +11,8 @@ pub all_push : {A : Type 0} (d : A) (Q : A → Type 0) (xs : List A) (x : A) →
 all_push d Q xs x h q k l =
     let n = length_push xs x in
     elim (cases_lt k (length xs)) [
-    | inl m ↦ subst Q (sym (get_or_append_left xs (x ∷ []) d k m)) (h k m)
-    | inr m ↦ (let e : length xs ≡ k = omega arith in subst Q (sym (get_or_push xs x d k e)) q)
+      | inl m ↦ subst Q (sym (get_or_append_left xs (x ∷ []) d k m)) (h k m)
+      | inr m ↦ (let e : length xs ≡ k = omega arith in subst Q (sym (get_or_push xs x d k e)) q)
     ]
 
 pub all_front : {A : Type 0} (d : A) (Q : A → Type 0) (xs : List A) (x : A) → AllAt d Q (xs ++ x ∷ []) → AllAt d Q xs

@@ -1,5 +1,5 @@
 -- look-ups of names
-use Rattle.std.proofs.Common.{◌≡◌, ℕ, zero, suc, ◌+◌, ◌-◌, ◌<◌, ◌≤◌, arith, Bool, true, false, cond, List, [], ◌∷◌, map, length, get_or, drop, Option, Some, None, refl, ap, sym, subst, ◌∙◌}
+use Rattle.std.proofs.Common.{◌≡◌, ℕ, zero, suc, ◌+◌, ◌-◌, ◌<◌, ◌≤◌, arith, Bool, true, false, cond, List, [], ◌∷◌, map, length, get_or, drop, Option, Some, None, refl, ap, ◌∙◌}
 use Rattle.std.specs.List.{AllByRecursion}
 use Rattle.std.specs.Str.{bytes_eq}
 use Rattle.std.proofs.lemmas.List.{drop_more}
@@ -8,11 +8,11 @@ use Rattle.xd_syntax.specs.Tree.{Tree, body, any_type}
 use Rattle.xd_syntax.specs.Table.{Row, tree_at}
 use Rattle.xd_syntax.specs.Placed.{placed_at, unplaced}
 use Rattle.xd_syntax.specs.Program.{TypeDefinition}
-use Rattle.xd_syntax.specs.Kept.{TypeDefStands, type_definition}
+use Rattle.xd_syntax.specs.Kept.{type_definition}
 use Rattle.xd_syntax.specs.Sound.{definition_of}
 use Rattle.xd_syntax.specs.declared.types.TypeDef.{TypeDef}
 use Rattle.xd_syntax.proofs.PlacedTrees.{unplaced_at}
-use Rattle.xd_rec.specs.Names.{first_from, first_of, meanings}
+use Rattle.xd_rec.specs.Names.{first_from, meanings}
 
 pub all_by_at : {A : Type 0} (Q : A → Type 0) (xs : List A) → AllByRecursion Q xs → (i : ℕ) (d : A) → i < length xs → Q (get_or xs i d)
 all_by_at Q [] a i d l = absurd (omega arith)

@@ -1,9 +1,9 @@
 -- a node goes on the path, as a segment of its own
-use Rattle.std.proofs.Common.{◌≡◌, ℕ, zero, suc, ◌+◌, ◌-◌, ◌*◌, ◌^◌, ◌<◌, ◌≤◌, arith, ◌⊎◌, ◌≢◌, List, [], ◌∷◌, ◌++◌, length, get_or, set, refl, ap, sym, subst, ◌∙◌, inl, inr}
-use Rattle.std.proofs.lemmas.List.{length_push, length-append, length-set, get_or_append_left, get_or_push, get_or-append-add, get_or-set_same, get_or-set_other, get_or_past}
+use Rattle.std.proofs.Common.{◌≡◌, ℕ, zero, suc, ◌+◌, ◌-◌, ◌<◌, ◌≤◌, arith, ◌⊎◌, List, [], ◌∷◌, ◌++◌, length, get_or, set, refl, ap, sym, subst, ◌∙◌, inl, inr}
+use Rattle.std.proofs.lemmas.List.{length_push, length-append, length-set, get_or_append_left, get_or_push, get_or-append-add, get_or-set_same, get_or-set_other}
 use Rattle.std.proofs.lemmas.Bool.{cases_lt, cases_eq}
-use Rattle.xd_rec.specs.Graph.{successors, HasEdge, Path, stay, edge_then}
-use Rattle.xd_rec.specs.Components.{standing_of, node_at, no_segment, path_from, todo_from, unseen, NoneBetween, IsSettled, HasSource, IsSearched, StaySeen, work_left}
+use Rattle.xd_rec.specs.Graph.{successors, HasEdge, Path, stay}
+use Rattle.xd_rec.specs.Components.{standing_of, node_at, no_segment, path_from, todo_from, unseen, NoneBetween, IsSettled, HasSource, IsSearched}
 use Rattle.xd_rec.specs.declared.components.Standing.{Standing}
 use Rattle.xd_rec.specs.declared.components.Standing.TheVariants.{Unseen, Open, Done}
 use Rattle.xd_rec.specs.declared.components.Segment.{Segment}
@@ -61,15 +61,15 @@ module _ (g : List (List ℕ)) (st : List Standing) (path todo : List ℕ) (segs
   opened_on_path u p e =
       let n = length_push path v in
       elim (cases_eq u v) [
-      | inl q ↦ (let r : length path ≡ p = open_same (length path) p (sym here ∙ ap (standing_of new_st) (sym q) ∙ e) in (omega arith, last p r ∙ sym q))
-      | inr q ↦ (let r = i.on_path u p (sym (other u q) ∙ e) in let l = r.0 in (omega arith, front p l ∙ r.1))
+        | inl q ↦ (let r : length path ≡ p = open_same (length path) p (sym here ∙ ap (standing_of new_st) (sym q) ∙ e) in (omega arith, last p r ∙ sym q))
+        | inr q ↦ (let r = i.on_path u p (sym (other u q) ∙ e) in let l = r.0 in (omega arith, front p l ∙ r.1))
       ]
 
   opened_reach : (p q : ℕ) → p ≤ q → q < length new_path → Path g (node_at new_path p) (node_at new_path q)
   opened_reach p q h l = elim (split q l) [
     | inl a ↦
-      let b : p < length path = omega arith in
-      subst (λ x. Path g x (node_at new_path q)) (sym (front p b)) (subst (Path g (node_at path p)) (sym (front q a)) (i.reach p q h a))
+        let b : p < length path = omega arith in
+        subst (λ x. Path g x (node_at new_path q)) (sym (front p b)) (subst (Path g (node_at path p)) (sym (front q a)) (i.reach p q h a))
     | inr a ↦ elim (cases_lt p (length path)) [
       | inl b ↦ subst (λ x. Path g x (node_at new_path q)) (sym (front p b)) (subst (Path g (node_at path p)) (sym (last q a)) (reached p b))
       | inr b ↦ (let e : p ≡ q = omega arith in subst (λ x. Path g (node_at new_path x) (node_at new_path q)) (sym e) stay)
@@ -79,16 +79,16 @@ module _ (g : List (List ℕ)) (st : List Standing) (path todo : List ℕ) (segs
   opened_back : (p q : ℕ) → p ≤ q → q < length new_path → NoneBetween (segs ++ new_segment ∷ []) p q → Path g (node_at new_path q) (node_at new_path p)
   opened_back p q h l n = elim (split q l) [
     | inl a ↦
-      let b : p < length path = omega arith in
-      subst (λ x. Path g x (node_at new_path p)) (sym (front q a))
-      (subst (Path g (node_at path q)) (sym (front p b)) (i.back p q h a (all_front no_segment (λ s. (s.path_from ≤ p) ⊎ (q < s.path_from)) segs new_segment n)))
+        let b : p < length path = omega arith in
+        subst (λ x. Path g x (node_at new_path p)) (sym (front q a))
+        (subst (Path g (node_at path q)) (sym (front p b)) (i.back p q h a (all_front no_segment (λ s. (s.path_from ≤ p) ⊎ (q < s.path_from)) segs new_segment n)))
     | inr a ↦
-      let m = length_push segs new_segment in
-      let z : path_from (segs ++ new_segment ∷ []) (length segs) ≡ length path = ap (λ (s : Segment). s.path_from) (get_or_push segs new_segment no_segment (length segs) refl) in
-      elim (n (length segs) (omega arith)) [
-      | inl c ↦ (let e : p ≡ q = omega arith in subst (λ x. Path g (node_at new_path q) (node_at new_path x)) (sym e) stay)
-      | inr c ↦ absurd (omega arith)
-      ]
+        let m = length_push segs new_segment in
+        let z : path_from (segs ++ new_segment ∷ []) (length segs) ≡ length path = ap (λ (s : Segment). s.path_from) (get_or_push segs new_segment no_segment (length segs) refl) in
+        elim (n (length segs) (omega arith)) [
+          | inl c ↦ (let e : p ≡ q = omega arith in subst (λ x. Path g (node_at new_path q) (node_at new_path x)) (sym e) stay)
+          | inr c ↦ absurd (omega arith)
+        ]
   ]
 
   wait_at : (w : ℕ) → HasEdge g v w → (j : ℕ) × (j < length new_todo) × (node_at new_todo j ≡ w) × (length todo ≤ j)
@@ -102,9 +102,14 @@ module _ (g : List (List ℕ)) (st : List Standing) (path todo : List ℕ) (segs
   opened_edges p w l e = elim (split p l) [
     | inl a ↦ old a (i.edges p w a (subst (λ x. HasEdge g x w) (front p a) e))
     | inr a ↦
-      let r = wait_at w (subst (λ x. HasEdge g x w) (last p a) e) in
-      inr (inr (r.0, r.1, r.2, all_push no_segment (λ s. s.path_from ≤ p → s.todo_from ≤ r.0) segs new_segment
-      (λ k m h. (let z = (i.starts k m).1 in let y = r.3 in omega arith)) (λ h. r.3)))
+        let r = wait_at w (subst (λ x. HasEdge g x w) (last p a) e) in
+        inr (inr (
+          r.0,
+          r.1,
+          r.2,
+          all_push no_segment (λ s. s.path_from ≤ p → s.todo_from ≤ r.0) segs new_segment
+              (λ k m h. (let z = (i.starts k m).1 in let y = r.3 in omega arith)) (λ h. r.3),
+        ))
   ]
     where
       old : p < length path → IsSettled st todo segs p w → IsSettled new_st new_todo (segs ++ new_segment ∷ []) p w
@@ -114,25 +119,33 @@ module _ (g : List (List ℕ)) (st : List Standing) (path todo : List ℕ) (segs
       old a (inr (inr r)) =
           let n = length-append todo (successors g v) in
           let m = r.1 in
-          inr (inr (r.0, omega arith, get_or_append_left todo (successors g v) 0 r.0 m ∙ r.2,
-          all_push no_segment (λ s. s.path_from ≤ p → s.todo_from ≤ r.0) segs new_segment r.3 (λ h. absurd (omega arith))))
+          inr (inr (
+            r.0,
+            omega arith,
+            get_or_append_left todo (successors g v) 0 r.0 m ∙ r.2,
+            all_push no_segment (λ s. s.path_from ≤ p → s.todo_from ≤ r.0) segs new_segment r.3 (λ h. absurd (omega arith)),
+          ))
 
   opened_sources : (j : ℕ) → j < length new_todo → HasSource g new_path new_todo (segs ++ new_segment ∷ []) j
   opened_sources j l =
       let n = length-append todo (successors g v) in
       let m = length_push path v in
       elim (cases_lt j (length todo)) [
-      | inl a ↦ (let r = i.sources j a in let b = r.1 in
-        (r.0, omega arith,
-        subst (λ x. HasEdge g x (node_at new_todo j)) (sym (front r.0 b)) (subst (HasEdge g (node_at path r.0)) (sym (get_or_append_left todo (successors g v) 0 j a)) r.2),
-        all_push no_segment (λ s. s.todo_from ≤ j → s.path_from ≤ r.0) segs new_segment r.3 (λ h. absurd (omega arith)),
-        all_push no_segment (λ s. j < s.todo_from → r.0 < s.path_from) segs new_segment r.4 (λ h. b)))
-      | inr a ↦ (let d : (k : ℕ) × (length todo + k ≡ j) × (k < length (successors g v)) = (j - length todo, omega arith, omega arith) in
-        (length path, omega arith,
-        subst (λ x. HasEdge g x (node_at new_todo j)) (sym (last (length path) refl))
-        (subst (HasEdge g v) (sym (get_or-append-add todo (successors g v) d.0 0) ∙ ap (node_at new_todo) d.1) (among_at 0 (successors g v) d.0 d.2)),
-        all_push no_segment (λ s. s.todo_from ≤ j → s.path_from ≤ length path) segs new_segment (λ k b h. (let z = (i.starts k b).0 in omega arith)) (λ h. omega arith),
-        all_push no_segment (λ s. j < s.todo_from → length path < s.path_from) segs new_segment (λ k b h. (let z = (i.starts k b).1 in absurd (omega arith))) (λ h. absurd (omega arith))))
+        | inl a ↦ (let r = i.sources j a in let b = r.1 in (
+          r.0,
+          omega arith,
+          subst (λ x. HasEdge g x (node_at new_todo j)) (sym (front r.0 b)) (subst (HasEdge g (node_at path r.0)) (sym (get_or_append_left todo (successors g v) 0 j a)) r.2),
+          all_push no_segment (λ s. s.todo_from ≤ j → s.path_from ≤ r.0) segs new_segment r.3 (λ h. absurd (omega arith)),
+          all_push no_segment (λ s. j < s.todo_from → r.0 < s.path_from) segs new_segment r.4 (λ h. b),
+        ))
+        | inr a ↦ (let d : (k : ℕ) × (length todo + k ≡ j) × (k < length (successors g v)) = (j - length todo, omega arith, omega arith) in (
+          length path,
+          omega arith,
+          subst (λ x. HasEdge g x (node_at new_todo j)) (sym (last (length path) refl))
+              (subst (HasEdge g v) (sym (get_or-append-add todo (successors g v) d.0 0) ∙ ap (node_at new_todo) d.1) (among_at 0 (successors g v) d.0 d.2)),
+          all_push no_segment (λ s. s.todo_from ≤ j → s.path_from ≤ length path) segs new_segment (λ k b h. (let z = (i.starts k b).0 in omega arith)) (λ h. omega arith),
+          all_push no_segment (λ s. j < s.todo_from → length path < s.path_from) segs new_segment (λ k b h. (let z = (i.starts k b).1 in absurd (omega arith))) (λ h. absurd (omega arith)),
+        ))
       ]
 
   undone : (c : ℕ) (u : ℕ) → standing_of new_st u ≡ Done c → standing_of st u ≡ Done c
@@ -148,18 +161,18 @@ module _ (g : List (List ℕ)) (st : List Standing) (path todo : List ℕ) (segs
       let a = get_or_append_left segs (new_segment ∷ []) no_segment k (omega arith) in
       subst (λ s. (s.path_from < path_from (segs ++ new_segment ∷ []) l) × (s.todo_from ≤ todo_from (segs ++ new_segment ∷ []) l)) (sym a)
       (elim (cases_lt l (length segs)) [
-      | inl b ↦ subst (λ s. (path_from segs k < s.path_from) × (todo_from segs k ≤ s.todo_from)) (sym (get_or_append_left segs (new_segment ∷ []) no_segment l b)) (i.rising k l h b)
-      | inr b ↦
-        subst (λ s. (path_from segs k < s.path_from) × (todo_from segs k ≤ s.todo_from)) (sym (get_or_push segs new_segment no_segment l (omega arith)))
-        (i.starts k (omega arith))
+        | inl b ↦ subst (λ s. (path_from segs k < s.path_from) × (todo_from segs k ≤ s.todo_from)) (sym (get_or_append_left segs (new_segment ∷ []) no_segment l b)) (i.rising k l h b)
+        | inr b ↦
+            subst (λ s. (path_from segs k < s.path_from) × (todo_from segs k ≤ s.todo_from)) (sym (get_or_push segs new_segment no_segment l (omega arith)))
+            (i.starts k (omega arith))
       ])
 
   opened_first : 0 < length (segs ++ new_segment ∷ []) → (path_from (segs ++ new_segment ∷ []) 0 ≡ 0) × (todo_from (segs ++ new_segment ∷ []) 0 ≡ 0)
   opened_first z = elim (cases_lt 0 (length segs)) [
     | inl a ↦ subst (λ (s : Segment). (s.path_from ≡ 0) × (s.todo_from ≡ 0)) (sym (get_or_append_left segs (new_segment ∷ []) no_segment 0 a)) (i.first a)
     | inr a ↦
-      let e : length segs ≡ 0 = omega arith in
-      subst (λ (s : Segment). (s.path_from ≡ 0) × (s.todo_from ≡ 0)) (sym (get_or_push segs new_segment no_segment 0 e)) (i.ended e)
+        let e : length segs ≡ 0 = omega arith in
+        subst (λ (s : Segment). (s.path_from ≡ 0) × (s.todo_from ≡ 0)) (sym (get_or_push segs new_segment no_segment 0 e)) (i.ended e)
   ]
 
   pub opened : IsSearched g new_st new_path new_todo (segs ++ new_segment ∷ []) fin

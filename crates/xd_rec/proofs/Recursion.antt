@@ -1,6 +1,6 @@
 -- from components to faults of recursion
-use Rattle.std.proofs.Common.{◌≡◌, ℕ, zero, suc, ◌+◌, ◌-◌, ◌*◌, ◌^◌, ◌<◌, ◌≤◌, ◌⊎◌, ◌≢◌, ◌&&◌, ◌↔◌, arith, rules, Bool, true, false, not, cond, nat_eq, List, [], ◌∷◌, ◌++◌, length, get_or, set, take, drop, map, flat_map, reverse, Option, Some, None, vec_len, refl, ap, sym, subst, ◌∙◌, inl, inr}
-use Rattle.std.proofs.lemmas.List.{append_assoc, append-nil, map-append}
+use Rattle.std.proofs.Common.{◌≡◌, ℕ, zero, suc, ◌+◌, ◌-◌, ◌<◌, ◌≤◌, ◌&&◌, ◌↔◌, arith, Bool, true, false, not, cond, List, [], ◌∷◌, ◌++◌, length, get_or, map, Option, Some, None, refl, ap, sym, subst, ◌∙◌, inl, inr}
+use Rattle.std.proofs.lemmas.List.{map-append}
 use Rattle.std.specs.Str.{bytes_eq}
 use Rattle.std.proofs.lemmas.Slice.Eq.{bytes_eq-Decides}
 use Rattle.xd_doc.specs.Document.{empty}
@@ -9,22 +9,22 @@ use Rattle.xd_syntax.specs.Table.{Row}
 use Rattle.xd_syntax.specs.Placed.{PlacedTree, placed_at, the_start}
 use Rattle.xd_syntax.specs.Fits.{Fits}
 use Rattle.xd_syntax.specs.Order.{in_order}
-use Rattle.xd_syntax.specs.Program.{TypeDefinition, FunctionDefinition, ProgramTree, names_of}
+use Rattle.xd_syntax.specs.Program.{TypeDefinition, FunctionDefinition, ProgramTree}
 use Rattle.xd_syntax.specs.Kept.{type_definition}
 use Rattle.xd_syntax.specs.Sound.{definition_of}
-use Rattle.xd_syntax.specs.RecursionFaults.{Use, top_uses, AllCanBeEmpty, IsFrontUse, placed_body, UsesAtTop, Leads, arrived, use_then, AnyUse, IsOutsideTail, IsUnguarded, Keeps, all_seen, kept, left_out, UseIn, all_top_uses, not_tail_fault, unguarded_fault, AreRecursionFaults}
+use Rattle.xd_syntax.specs.RecursionFaults.{Use, top_uses, AllCanBeEmpty, IsFrontUse, placed_body, Leads, arrived, use_then, AnyUse, IsOutsideTail, IsUnguarded, Keeps, all_seen, kept, left_out, UseIn, all_top_uses, not_tail_fault, unguarded_fault, AreRecursionFaults}
 use Rattle.xd_syntax.specs.declared.types.TypeDef.{TypeDef}
 use Rattle.xd_syntax.specs.declared.fault.Fault.{Fault}
 use Rattle.xd_syntax.proofs.Members.{Among, mem_append, append_left, append_right, mem_map, map_mem}
 use Rattle.xd_rec.specs.Graph.{HasEdge, Path, stay, edge_then}
-use Rattle.xd_rec.specs.Components.{AreComponents, standing_of, has_same_number}
+use Rattle.xd_rec.specs.Components.{AreComponents}
 use Rattle.xd_rec.specs.Names.{first_from, first_of, meanings, AreUnique, program_of}
 use Rattle.xd_rec.specs.Uses.{all_empty, seen, tree_uses, uses_from}
-use Rattle.xd_rec.specs.Faults.{AreOwned, IsUsedIn, IsGraphOf, same_as, is_back, is_outside, is_unguarded, outside_fault, unguarded_use_fault, faults_of}
+use Rattle.xd_rec.specs.Faults.{AreOwned, IsGraphOf, same_as, is_back, is_outside, is_unguarded, outside_fault, unguarded_use_fault, faults_of}
 use Rattle.xd_rec.specs.declared.components.Standing.{Standing}
 use Rattle.xd_rec.specs.declared.uses.TopUse.{TopUse}
 use Rattle.xd_rec.proofs.EmptyLemmas.{defined_at, defined_in}
-use Rattle.xd_rec.proofs.NameLemmas.{IsFirst, first_found, first_missing}
+use Rattle.xd_rec.proofs.NameLemmas.{first_found, first_missing}
 
 abbrev no_def : TypeDef
 no_def = record { name = []; place = the_start; body = record { at = 0 } }
@@ -81,14 +81,14 @@ use_source : (Z : Tree → Bool) (types : List Row) (k : ℕ) (ds : List TypeDef
 use_source Z types k [] v m = absurd m
 use_source Z types k (d ∷ ds) v m = elim (mem_append v (tree_uses Z k (placed_at types d.body.at)) (uses_from Z (suc k) (map (type_definition types) ds)) m) [
   | inl a ↦
-    let r = mem_map (seen Z k) v (top_uses (placed_at types d.body.at)) a in
-    let e : k ≡ k + 0 = omega arith in
-    record { number = 0; high = omega arith; source = r.0; listed = r.1; is = sym r.2 ∙ ap (λ n. seen Z n r.0) e }
+      let r = mem_map (seen Z k) v (top_uses (placed_at types d.body.at)) a in
+      let e : k ≡ k + 0 = omega arith in
+      record { number = 0; high = omega arith; source = r.0; listed = r.1; is = sym r.2 ∙ ap (λ n. seen Z n r.0) e }
   | inr a ↦
-    let r = use_source Z types (suc k) ds v a in
-    let h = r.high in
-    let e : suc k + r.number ≡ k + suc r.number = omega arith in
-    record { number = suc r.number; high = omega arith; source = r.source; listed = r.listed; is = r.is ∙ ap (λ n. seen Z n r.source) e }
+      let r = use_source Z types (suc k) ds v a in
+      let h = r.high in
+      let e : suc k + r.number ≡ k + suc r.number = omega arith in
+      record { number = suc r.number; high = omega arith; source = r.source; listed = r.listed; is = r.is ∙ ap (λ n. seen Z n r.source) e }
 ]
 
 use_listed : (Z : Tree → Bool) (types : List Row) (k : ℕ) (ds : List TypeDef) (i : ℕ) (u : Use) → i < length ds → Among u (top_uses (body_at_number types ds i)) →
@@ -275,17 +275,19 @@ all_recursion_faults types ds fs unique Z decides g h st su ig ag ih ah faults e
       outside = kept_all (is_outside ds st) Z 0 ts;
       unguarded = kept_all (is_unguarded ds su) Z 0 ts;
       outside_all = keeps_all (is_outside ds st) Z (λ w. IsOutsideTail P w.owner w.use_there) types 0 ds (λ i u l m. (let z : i ≡ 0 + i = omega arith in
-          subst (λ n. Decided (is_outside ds st) Z (λ w. IsOutsideTail P w.owner w.use_there) n (name_at ds i) u) z
-          (λ t. (let r = and_true (not u.is_tail) (is_back ds st (seen Z i u)) t in
-            (not_true u.is_tail r.0, back_leads types ds fs unique Z false AnyUse (λ x a q. absurd (cc)) (λ x a. tt) g ig st ag i u r.1 l)),
-          λ q. (let b = leads_back types ds fs unique Z false AnyUse (λ x a z. absurd (cc)) (λ x a. tt) g ig st ag i u l m tt q.1 in
-            and_made (not u.is_tail) (is_back ds st (seen Z i u)) (not_made u.is_tail q.0) b))));
+          subst (λ n. Decided (is_outside ds st) Z (λ w. IsOutsideTail P w.owner w.use_there) n (name_at ds i) u) z (
+            λ t. (let r = and_true (not u.is_tail) (is_back ds st (seen Z i u)) t in
+                (not_true u.is_tail r.0, back_leads types ds fs unique Z false AnyUse (λ x a q. absurd (cc)) (λ x a. tt) g ig st ag i u r.1 l)),
+            λ q. (let b = leads_back types ds fs unique Z false AnyUse (λ x a z. absurd (cc)) (λ x a. tt) g ig st ag i u l m tt q.1 in
+                and_made (not u.is_tail) (is_back ds st (seen Z i u)) (not_made u.is_tail q.0) b),
+          )));
       unguarded_all = keeps_all (is_unguarded ds su) Z (λ w. IsUnguarded P w.owner w.use_there) types 0 ds (λ i u l m. (let z : i ≡ 0 + i = omega arith in
-          subst (λ n. Decided (is_unguarded ds su) Z (λ w. IsUnguarded P w.owner w.use_there) n (name_at ds i) u) z
-          (λ t. (let r = and_true (all_empty Z u.before) (is_back ds su (seen Z i u)) t in
-            (all_can E Z decides u.before r.0, back_leads types ds fs unique Z true (IsFrontUse E) (λ x a q. can_all E Z decides x.before a) (λ x a. all_can E Z decides x.before (a refl)) h ih su ah i u r.1 l)),
-          λ q. (let b = leads_back types ds fs unique Z true (IsFrontUse E) (λ x a z. can_all E Z decides x.before a) (λ x a. all_can E Z decides x.before (a refl)) h ih su ah i u l m q.0 q.1 in
-            and_made (all_empty Z u.before) (is_back ds su (seen Z i u)) (can_all E Z decides u.before q.0) b))));
+          subst (λ n. Decided (is_unguarded ds su) Z (λ w. IsUnguarded P w.owner w.use_there) n (name_at ds i) u) z (
+            λ t. (let r = and_true (all_empty Z u.before) (is_back ds su (seen Z i u)) t in
+                (all_can E Z decides u.before r.0, back_leads types ds fs unique Z true (IsFrontUse E) (λ x a q. can_all E Z decides x.before a) (λ x a. all_can E Z decides x.before (a refl)) h ih su ah i u r.1 l)),
+            λ q. (let b = leads_back types ds fs unique Z true (IsFrontUse E) (λ x a z. can_all E Z decides x.before a) (λ x a. all_can E Z decides x.before (a refl)) h ih su ah i u l m q.0 q.1 in
+                and_made (all_empty Z u.before) (is_back ds su (seen Z i u)) (can_all E Z decides u.before q.0) b),
+          )));
       listed = e ∙ ap in_order
           (ap (λ xs. xs ++ faults_of (is_unguarded ds su) unguarded_use_fault (uses_from Z 0 ts)) (all_faults (is_outside ds st) outside_fault not_tail_fault Z (λ k x u. refl) 0 ts)
           ∙ ap (λ xs. map not_tail_fault (kept_all (is_outside ds st) Z 0 ts) ++ xs) (all_faults (is_unguarded ds su) unguarded_use_fault unguarded_fault Z (λ k x u. refl) 0 ts));

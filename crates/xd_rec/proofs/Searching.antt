@@ -1,15 +1,14 @@
 -- each step of a search keeps what it knows
-use Rattle.std.proofs.Common.{◌≡◌, ℕ, zero, suc, ◌+◌, ◌*◌, ◌^◌, ◌<◌, ◌≤◌, arith, Bool, true, false, ◌⊎◌, ◌≢◌, List, [], ◌∷◌, ◌++◌, length, get_or, set, take, eqb, eq-eqb, eqb-true, refl, ap, sym, subst, ◌∙◌, inl, inr}
-use Rattle.std.proofs.lemmas.List.{length_push, length-append, length-set, length-take-le, get_or_append_left, get_or_push, get_or-append-add, get_or-set_same, get_or-set_other, get_or-take, get_or_past, take_all, take_more}
+use Rattle.std.proofs.Common.{◌≡◌, ℕ, ◌+◌, ◌<◌, ◌≤◌, arith, ◌⊎◌, List, [], ◌∷◌, ◌++◌, length, get_or, take, eqb, eq-eqb, eqb-true, refl, ap, sym, subst, ◌∙◌, inl, inr}
+use Rattle.std.proofs.lemmas.List.{length_push, length-take-le, get_or_append_left, get_or_push, take_all, take_more}
 use Rattle.std.proofs.lemmas.Bool.{cases_lt, cases_eq}
-use Rattle.xd_syntax.proofs.Members.{Among}
-use Rattle.xd_rec.specs.Graph.{successors, HasEdge, Path, stay, edge_then, IsClosed}
-use Rattle.xd_rec.specs.Components.{AreComponents, has_same_number, standing_of, node_at, no_segment, path_from, todo_from, unseen, NoneBetween, IsSettled, HasSource, IsSearched, StaySeen, IsDoneFrom, work_left}
+use Rattle.xd_rec.specs.Graph.{HasEdge, Path, stay, edge_then, IsClosed}
+use Rattle.xd_rec.specs.Components.{AreComponents, has_same_number, standing_of, node_at, no_segment, path_from, todo_from, unseen, NoneBetween, IsSettled, HasSource, IsSearched}
 use Rattle.xd_rec.specs.declared.components.Standing.{Standing}
 use Rattle.xd_rec.specs.declared.components.Standing.TheVariants.{Unseen, Open, Done}
 use Rattle.xd_rec.specs.declared.components.Segment.{Segment}
 use Rattle.xd_rec.proofs.Graphs.{path_then, path_edge}
-use Rattle.xd_rec.proofs.Lists.{AllAt, all_push, all_front, all_last, place_in, among_at}
+use Rattle.xd_rec.proofs.Lists.{all_push, all_front, all_last}
 
 place_of_open : Standing → ℕ
 place_of_open Unseen = 0
@@ -35,9 +34,9 @@ pub last_of : (g : List (List ℕ)) (st : List Standing) (path todo : List ℕ) 
 last_of g st path todo segs fin m i e k l = elim (cases_eq k m) [
   | inl q ↦ rw q (omega arith, omega arith)
   | inr n ↦
-    let a : k < m = omega arith in
-    let b : m < length segs = omega arith in
-    let r = i.rising k m a b in let u = r.0 in let w = r.1 in (omega arith, omega arith)
+      let a : k < m = omega arith in
+      let b : m < length segs = omega arith in
+      let r = i.rising k m a b in let u = r.0 in let w = r.1 in (omega arith, omega arith)
 ]
 
 -- the last edge leads to a node that is done or in the last segment
@@ -67,8 +66,11 @@ skipped g st path todo w segs fin m i e t s =
     done_or_open : (p v : ℕ) → w ≡ v → IsSettled st todo segs p v
     done_or_open p v q = elim s [
       | inl d ↦ inl (d.0, subst (λ x. standing_of st x ≡ Done d.0) q d.1)
-      | inr o ↦ inr (inl (o.0, subst (λ x. standing_of st x ≡ Open o.0) q o.1,
-          λ k l h. (let a = (last_of g st path (todo ++ w ∷ []) segs fin m i e k l).0 in let b = o.2 in omega arith)))
+      | inr o ↦ inr (inl (
+        o.0,
+        subst (λ x. standing_of st x ≡ Open o.0) q o.1,
+        λ k l h. (let a = (last_of g st path (todo ++ w ∷ []) segs fin m i e k l).0 in let b = o.2 in omega arith),
+      ))
     ]
 
     settled : (p v : ℕ) → IsSettled st (todo ++ w ∷ []) segs p v → IsSettled st todo segs p v
@@ -77,9 +79,9 @@ skipped g st path todo w segs fin m i e t s =
     settled p v (inr (inr r)) = elim (cases_lt r.0 (length todo)) [
       | inl a ↦ inr (inr (r.0, a, sym (get_or_append_left todo (w ∷ []) 0 r.0 a) ∙ r.2, r.3))
       | inr b ↦
-        let n = length_push todo w in
-        let c = r.1 in
-        let q : length todo ≡ r.0 = omega arith in done_or_open p v (sym (get_or_push todo w 0 r.0 q) ∙ r.2)
+          let n = length_push todo w in
+          let c = r.1 in
+          let q : length todo ≡ r.0 = omega arith in done_or_open p v (sym (get_or_push todo w 0 r.0 q) ∙ r.2)
     ]
 
     source : (j : ℕ) → j < length todo → HasSource g path todo segs j
@@ -254,12 +256,13 @@ pub are_components : (g : List (List ℕ)) (st : List Standing) (path todo : Lis
 are_components g st path todo segs fin i e n = record {
   count = i.count;
   same = λ v w lv lw.
-  let a = all_done g st path todo segs fin i e v (n v lv) in
-  let b = all_done g st path todo segs fin i e w (n w lw) in
-  let is : has_same_number (standing_of st v) (standing_of st w) ≡ eqb a.0 b.0 = ap (λ s. has_same_number s (standing_of st w)) a.1 ∙ ap (has_same_number (Done a.0)) b.1 in
-  (λ q. (let k : a.0 ≡ b.0 = eqb-true a.0 b.0 (sym is ∙ q) in
-    (i.done_same v w b.0 (a.1 ∙ ap Done k) b.1, i.done_same w v b.0 b.1 (a.1 ∙ ap Done k))),
-  λ q. (let x = descends g st path todo segs fin i q.0 a.0 b.0 a.1 b.1 in
-    let y = descends g st path todo segs fin i q.1 b.0 a.0 b.1 a.1 in
-    let k : a.0 ≡ b.0 = omega arith in is ∙ eq-eqb a.0 b.0 k));
+      let a = all_done g st path todo segs fin i e v (n v lv) in
+      let b = all_done g st path todo segs fin i e w (n w lw) in
+      let is : has_same_number (standing_of st v) (standing_of st w) ≡ eqb a.0 b.0 = ap (λ s. has_same_number s (standing_of st w)) a.1 ∙ ap (has_same_number (Done a.0)) b.1 in (
+        λ q. (let k : a.0 ≡ b.0 = eqb-true a.0 b.0 (sym is ∙ q) in
+            (i.done_same v w b.0 (a.1 ∙ ap Done k) b.1, i.done_same w v b.0 b.1 (a.1 ∙ ap Done k))),
+        λ q. (let x = descends g st path todo segs fin i q.0 a.0 b.0 a.1 b.1 in
+            let y = descends g st path todo segs fin i q.1 b.0 a.0 b.1 a.1 in
+            let k : a.0 ≡ b.0 = omega arith in is ∙ eq-eqb a.0 b.0 k),
+      );
 }

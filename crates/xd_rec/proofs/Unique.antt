@@ -1,19 +1,18 @@
 -- without faults of names each definition of a type is the first of its name
-use Rattle.std.proofs.Common.{◌≡◌, ℕ, zero, suc, ◌+◌, ◌-◌, ◌*◌, ◌^◌, ◌<◌, ◌≤◌, ◌⊎◌, ◌≢◌, ◌&&◌, ◌||◌, ◌↔◌, arith, rules, Bool, true, false, not, cond, nat_eq, List, [], ◌∷◌, ◌++◌, length, get_or, set, take, drop, map, flat_map, reverse, Option, Some, None, vec_len, refl, ap, sym, subst, ◌∙◌, inl, inr}
-use Rattle.std.proofs.lemmas.List.{length-append}
+use Rattle.std.proofs.Common.{◌≡◌, ℕ, zero, suc, ◌+◌, ◌<◌, ◌||◌, arith, Bool, true, false, cond, List, [], ◌∷◌, ◌++◌, length, get_or, map, Some, refl, ap, ◌∙◌}
 use Rattle.std.specs.Str.{bytes_eq}
 use Rattle.std.proofs.lemmas.Slice.Eq.{bytes_eq-Decides}
 use Rattle.xd_syntax.specs.Words.{has_word, any_word, string_word}
 use Rattle.xd_syntax.specs.Table.{Row}
 use Rattle.xd_syntax.specs.Order.{precedes, put_in, in_order_after, in_order}
-use Rattle.xd_syntax.specs.Program.{TypeDefinition, ProgramTree}
+use Rattle.xd_syntax.specs.Program.{TypeDefinition}
 use Rattle.xd_syntax.specs.Kept.{type_definition, ProgramTable, program_tree}
 use Rattle.xd_syntax.specs.NameFaults.{Spot, fault_if, duplicates, name_faults}
 use Rattle.xd_syntax.specs.declared.fault.Fault.{Fault}
 use Rattle.xd_syntax.specs.declared.fault.FaultKind.TheVariants.{DuplicateName}
 use Rattle.xd_syntax.specs.declared.types.TypeDef.{TypeDef}
 use Rattle.xd_base.specs.declared.Place.{Place}
-use Rattle.xd_rec.specs.Names.{first_from, first_of, AreUnique}
+use Rattle.xd_rec.specs.Names.{first_from, AreUnique}
 
 put_in-length : (f : Fault) (gs : List Fault) → length (put_in f gs) ≡ length gs + 1
 put_in-length f [] = refl
@@ -59,15 +58,19 @@ unique_after : (types : List Row) (ds : List TypeDef) (seen : List (List ℕ)) �
     (k : ℕ) (d : TypeDef) → k < length ds → (has_word seen (get_or ds k d).name ≡ false) × ((n : ℕ) → first_from n ds (get_or ds k d).name ≡ Some (n + k))
 unique_after types [] seen e k d l = absurd (omega arith)
 unique_after types (x ∷ ds) seen e zero d l =
-    let a = no_fault (has_word seen x.name) x.place x.name (first_none (fault_if (has_word seen x.name) x.place (DuplicateName x.name)) (duplicates (x.name ∷ seen) (map spot_of (map (type_definition types) ds))) e) in
-    (a, λ n. (let b = (bytes_eq-Decides x.name x.name).1 refl in let z : n ≡ n + 0 = omega arith in
-      ap (λ t. cond t (Some n) (first_from (suc n) ds x.name)) b ∙ ap Some z))
+    let a = no_fault (has_word seen x.name) x.place x.name (first_none (fault_if (has_word seen x.name) x.place (DuplicateName x.name)) (duplicates (x.name ∷ seen) (map spot_of (map (type_definition types) ds))) e) in (
+      a,
+      λ n. (let b = (bytes_eq-Decides x.name x.name).1 refl in let z : n ≡ n + 0 = omega arith in
+          ap (λ t. cond t (Some n) (first_from (suc n) ds x.name)) b ∙ ap Some z),
+    )
 unique_after types (x ∷ ds) seen e (suc k) d l =
     let r = rest_none (fault_if (has_word seen x.name) x.place (DuplicateName x.name)) (duplicates (x.name ∷ seen) (map spot_of (map (type_definition types) ds))) e in
     let i = unique_after types ds (x.name ∷ seen) r k d (omega arith) in
-    let o = or_false (bytes_eq x.name (get_or ds k d).name) (has_word seen (get_or ds k d).name) i.0 in
-    (o.1, λ n. (let z : suc n + k ≡ n + suc k = omega arith in
-      ap (λ t. cond t (Some n) (first_from (suc n) ds (get_or ds k d).name)) o.0 ∙ i.1 (suc n) ∙ ap Some z))
+    let o = or_false (bytes_eq x.name (get_or ds k d).name) (has_word seen (get_or ds k d).name) i.0 in (
+      o.1,
+      λ n. (let z : suc n + k ≡ n + suc k = omega arith in
+          ap (λ t. cond t (Some n) (first_from (suc n) ds (get_or ds k d).name)) o.0 ∙ i.1 (suc n) ∙ ap Some z),
+    )
 
 pub unique_names : (p : ProgramTable) → name_faults (program_tree p) ≡ [] → AreUnique p.type_defs
 unique_names p e k d l =

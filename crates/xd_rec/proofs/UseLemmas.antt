@@ -1,18 +1,17 @@
 -- the uses of a node are those of its parts
-use Rattle.std.proofs.Common.{◌≡◌, ℕ, zero, suc, ◌+◌, ◌-◌, ◌<◌, ◌≤◌, arith, Bool, true, false, ◌&&◌, ◌⊎◌, List, [], ◌∷◌, ◌++◌, map, flat_map, reverse, length, get_or, take, drop, refl, ap, sym, subst, ◌∙◌, inl, inr}
+use Rattle.std.proofs.Common.{◌≡◌, ℕ, suc, ◌+◌, ◌<◌, ◌≤◌, arith, Bool, true, false, ◌&&◌, List, [], ◌∷◌, ◌++◌, map, flat_map, reverse, length, refl, ap, sym, subst, ◌∙◌, inl, inr}
 use Rattle.std.specs.List.{AllByRecursion}
-use Rattle.std.proofs.lemmas.List.{append-nil, append_assoc, map-append, length-append, reverse-append}
+use Rattle.std.proofs.lemmas.List.{append-nil, append_assoc, map-append, reverse-append}
 use Rattle.xd_base.specs.declared.Place.{Place}
 use Rattle.xd_syntax.specs.Tree.{Tree}
 use Rattle.xd_syntax.specs.Table.{Row, Form, empty_form, text_form, name_form, elem_form, seq_form, alt_form, star_form, plus_form, opt_form, val_form, tree_at, PartsBelow, CanFollow}
 use Rattle.xd_syntax.specs.Placed.{PlacedTree, Empty_at, Text_at, Name_at, Elem_at, Seq_at, Alt_at, Star_at, Plus_at, Opt_at, Val_at, placed_at, placed_form, placed_seq, placed_alt, place_of, unplaced}
-use Rattle.xd_syntax.specs.Program.{TypeDefinition}
 use Rattle.xd_syntax.specs.Kept.{type_definition, TypeDefStands}
 use Rattle.xd_syntax.specs.RecursionFaults.{Use, top_uses, not_tail, behind_type}
 use Rattle.xd_syntax.specs.declared.types.TypeDef.{TypeDef}
 use Rattle.xd_syntax.proofs.PlacedTrees.{unplaced_at}
-use Rattle.xd_syntax.proofs.Members.{Among, mem_append}
-use Rattle.xd_rec.specs.Uses.{all_empty, seen, tree_uses, uses_from, placed_use, part_uses, parts_uses, is_none, sequence, alternatives, parts_of, own_use, IsListed, AllBelong, size, sizes}
+use Rattle.xd_syntax.proofs.Members.{mem_append}
+use Rattle.xd_rec.specs.Uses.{all_empty, seen, tree_uses, uses_from, placed_use, part_uses, parts_uses, sequence, alternatives, parts_of, own_use, IsListed, AllBelong, size, sizes}
 use Rattle.xd_rec.specs.declared.uses.TopUse.{TopUse}
 use Rattle.xd_rec.specs.declared.uses.Part.{Part}
 

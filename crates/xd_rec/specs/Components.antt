@@ -1,5 +1,5 @@
 -- Strongly connected components, and what a search for them has found so far.
-use Rattle.std.specs.Prelude.{◌≡◌, ℕ, ◌+◌, ◌*◌, ◌^◌, ◌<◌, ◌≤◌, zero, suc, Bool, true, false, ◌⊎◌, ◌↔◌, nat_eq, List, [], ◌∷◌, length, get_or}
+use Rattle.std.specs.Prelude.{◌≡◌, ℕ, ◌+◌, ◌*◌, ◌^◌, ◌<◌, ◌≤◌, Bool, true, false, ◌⊎◌, ◌↔◌, nat_eq, List, [], ◌∷◌, length, get_or}
 use Rattle.xd_rec.specs.Graph.{HasEdge, Path, AreMutual}
 use Rattle.xd_rec.specs.declared.components.Standing.{Standing}
 use Rattle.xd_rec.specs.declared.components.Standing.TheVariants.{Unseen, Open, Done}

@@ -1,5 +1,5 @@
 -- Graphs: for each node, a number, the nodes that its edges lead to.
-use Rattle.std.specs.Prelude.{◌≡◌, ℕ, ◌<◌, List, [], length, get_or}
+use Rattle.std.specs.Prelude.{ℕ, ◌<◌, List, [], length, get_or}
 use Rattle.xd_syntax.specs.Ways.{Among}
 
 -- the nodes that a node's edges lead to

@@ -85,13 +85,7 @@ fn add_dependents(
     ensures built { OnOk result (AreRead types.now) }
 {
     for at in 0..types.len() {
-        add_edges_to(
-            at,
-            types.node(TypeId::of(at)).form(),
-            defs,
-            names,
-            graph,
-        )?;
+        add_edges_to(at, types.node(TypeId::of(at)).form(), defs, names, graph)?;
     }
     Ok(())
 }

@@ -60,11 +60,7 @@ fn program_faults(alloc: Global, program: &Program) -> Result<Vec<Fault>, NoMemo
 }
 
 /// The faults of recursion of these definitions, in order.
-fn recursion_faults(
-    alloc: Global,
-    types: &Types,
-    defs: &[TypeDef],
-) -> Result<Vec<Fault>, NoMemory>
+fn recursion_faults(alloc: Global, types: &Types, defs: &[TypeDef]) -> Result<Vec<Fault>, NoMemory>
     requires stand { AllByRecursion (TypeDefStands types.now) defs.now }
     requires unique { AreUnique defs.now }
     ensures { IfOk result (λ faults. (fs : List FunctionDefinition) → AreRecursionFaults (program_of types.now defs.now fs) faults.items) }

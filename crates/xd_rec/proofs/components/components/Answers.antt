@@ -1,8 +1,8 @@
-use Rattle.std.proofs.Common.{◌≡◌, ℕ, zero, suc, ◌+◌, ◌-◌, ◌*◌, ◌^◌, ◌<◌, ◌≤◌, ◌⊎◌, ◌≢◌, arith, rules, List, [], ◌∷◌, ◌++◌, length, get_or, set, take, vec_len, refl, ap, sym, subst, ◌∙◌, inl, inr}
+use Rattle.std.proofs.Common.{arith, sym, subst}
 use Rattle.std.proofs.Common.{Vec, Global}
-use Rattle.xd_rec.specs.Components.{AreComponents, standing_of}
+use Rattle.xd_rec.specs.Components.{AreComponents}
 use Rattle.xd_rec.specs.declared.components.Standing.{Standing}
-use Rattle.xd_rec.proofs.Searching.{are_components, searched_none}
+use Rattle.xd_rec.proofs.Searching.{are_components}
 use Rattle.xd_rec.proofs.components.components.Goals as goal
 
 pub returns : goal.returns

@@ -1,7 +1,5 @@
-use Rattle.std.proofs.Common.{◌≡◌, ℕ, zero, suc, ◌+◌, ◌-◌, ◌*◌, ◌^◌, ◌<◌, ◌≤◌, ◌⊎◌, ◌≢◌, arith, rules, List, [], ◌∷◌, ◌++◌, length, get_or, set, take, vec_len, refl, ap, sym, subst, ◌∙◌, inl, inr}
-use Rattle.xd_rec.specs.Components.{standing_of, unseen, node_at}
-use Rattle.xd_rec.specs.declared.components.Standing.TheVariants.{Unseen, Open, Done}
-use Rattle.xd_rec.proofs.Finishing.{IsFinishing, finish_more, open_there}
+use Rattle.std.proofs.Common.{arith, refl, inl}
+use Rattle.xd_rec.proofs.Finishing.{finish_more}
 use Rattle.xd_rec.proofs.components.finish.Goals as goal
 
 pub loop-place-init : goal.loop-place-init

@@ -1,11 +1,11 @@
-use Rattle.std.proofs.Common.{◌≡◌, ℕ, zero, suc, ◌+◌, ◌-◌, ◌*◌, ◌^◌, ◌<◌, ◌≤◌, ◌⊎◌, ◌≢◌, arith, rules, Bool, true, false, cond, nat_eq, List, [], ◌∷◌, ◌++◌, length, get_or, set, take, drop, map, Option, Some, None, vec_len, refl, ap, sym, subst, ◌∙◌, inl, inr}
+use Rattle.std.proofs.Common.{◌≡◌, ◌<◌, arith, length, ap, sym, subst, ◌∙◌, inl, inr}
 use Rattle.xd_syntax.specs.Types.{form_of}
 use Rattle.xd_syntax.specs.declared.types.TypeId.{TypeId}
 use Rattle.xd_rec.specs.Graph.{HasEdge}
-use Rattle.xd_rec.specs.Emptiness.{AddsEdges, depends_on, form_at}
+use Rattle.xd_rec.specs.Emptiness.{depends_on, form_at}
 use Rattle.std.proofs.lemmas.Bool.{cases_eq}
 use Rattle.xd_syntax.proofs.Members.{Among}
-use Rattle.xd_rec.proofs.EmptyLemmas.{form_read, read_more, bodies_below, parts_up}
+use Rattle.xd_rec.proofs.EmptyLemmas.{form_read, read_more}
 use Rattle.xd_rec.proofs.empty.add_dependents.Goals as goal
 
 pub loop-at-preserved : goal.loop-at-preserved

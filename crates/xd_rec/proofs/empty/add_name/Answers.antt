@@ -1,6 +1,6 @@
-use Rattle.std.proofs.Common.{◌≡◌, ℕ, zero, suc, ◌+◌, ◌-◌, ◌*◌, ◌^◌, ◌<◌, ◌≤◌, ◌⊎◌, ◌≢◌, arith, rules, Bool, true, false, cond, nat_eq, List, [], ◌∷◌, ◌++◌, length, get_or, set, take, drop, map, Option, Some, None, vec_len, refl, ap, sym, subst, ◌∙◌, inl, inr}
+use Rattle.std.proofs.Common.{[], length, sym, subst}
 use Rattle.xd_syntax.specs.Sound.{definition_of}
-use Rattle.xd_rec.specs.Emptiness.{AddsEdges, body_at, body_number}
+use Rattle.xd_rec.specs.Emptiness.{AddsEdges}
 use Rattle.xd_rec.proofs.EmptyLemmas.{body_in, number_some, number_none, adds_none, adds_more}
 use Rattle.xd_rec.proofs.empty.add_name.Goals as goal
 

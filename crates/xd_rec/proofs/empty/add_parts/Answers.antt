@@ -1,11 +1,9 @@
-use Rattle.std.proofs.Common.{◌≡◌, ℕ, zero, suc, ◌+◌, ◌-◌, ◌*◌, ◌^◌, ◌<◌, ◌≤◌, ◌⊎◌, ◌≢◌, arith, rules, Bool, true, false, cond, nat_eq, List, [], ◌∷◌, ◌++◌, length, get_or, set, take, drop, map, Option, Some, None, vec_len, refl, ap, sym, subst, ◌∙◌, inl, inr}
+use Rattle.std.proofs.Common.{◌≡◌, ◌+◌, arith, [], ◌∷◌, ◌++◌, length, get_or, take}
 use Rattle.std.proofs.lemmas.List.{map_more}
 use Rattle.xd_syntax.specs.declared.types.TypeId.{TypeId}
 use Rattle.xd_syntax.specs.Types.{type_numbers}
-use Rattle.xd_rec.specs.Emptiness.{AddsEdges}
-use Rattle.xd_rec.proofs.EmptyLemmas.{adds_none, adds_more, part_in}
+use Rattle.xd_rec.proofs.EmptyLemmas.{adds_more, part_in}
 use Rattle.xd_rec.proofs.empty.add_parts.Goals as goal
-
 
 pub add-requires-clause-from : goal.add-requires-clause-from
 add-requires-clause-from c =

@@ -1,6 +1,4 @@
-use Rattle.std.proofs.Common.{◌≡◌, ℕ, zero, suc, ◌+◌, ◌-◌, ◌*◌, ◌^◌, ◌<◌, ◌≤◌, ◌⊎◌, ◌≢◌, arith, rules, Bool, true, false, cond, nat_eq, List, [], ◌∷◌, ◌++◌, length, get_or, set, take, drop, map, Option, Some, None, vec_len, refl, ap, sym, subst, ◌∙◌, inl, inr}
-use Rattle.xd_syntax.specs.declared.types.TypeDef.{TypeDef}
-use Rattle.xd_rec.specs.Names.{first_of}
+use Rattle.std.proofs.Common.{rules, Some, ap, sym, ◌∙◌}
 use Rattle.xd_rec.specs.Emptiness.{body_at}
 use Rattle.xd_rec.proofs.NameLemmas.{first_missing}
 use Rattle.xd_rec.proofs.EmptyLemmas.{defined_at, defined_in}

@@ -1,6 +1,5 @@
-use Rattle.std.proofs.Common.{◌≡◌, ℕ, zero, suc, ◌+◌, ◌-◌, ◌*◌, ◌^◌, ◌<◌, ◌≤◌, ◌⊎◌, ◌≢◌, arith, rules, Bool, true, false, cond, nat_eq, List, [], ◌∷◌, ◌++◌, length, get_or, set, take, drop, map, Option, Some, None, vec_len, refl, ap, sym, subst, ◌∙◌, inl, inr}
-use Rattle.xd_rec.specs.Emptiness.{IsMarking, AreEmptyTypes}
-use Rattle.xd_rec.proofs.EmptyLemmas.{IsListed, listed_more, marking_none, exact}
+use Rattle.std.proofs.Common.{◌≡◌, arith, length, refl, ◌∙◌}
+use Rattle.xd_rec.proofs.EmptyLemmas.{listed_more, marking_none, exact}
 use Rattle.xd_rec.proofs.empty.empty_types.Goals as goal
 
 pub loop-at-init : goal.loop-at-init

@@ -1,10 +1,10 @@
-use Rattle.std.proofs.Common.{◌≡◌, ℕ, zero, suc, ◌+◌, ◌-◌, ◌*◌, ◌^◌, ◌<◌, ◌≤◌, ◌⊎◌, ◌≢◌, arith, rules, Bool, true, false, cond, nat_eq, List, [], ◌∷◌, ◌++◌, length, get_or, set, take, drop, map, Option, Some, None, vec_len, refl, ap, sym, subst, ◌∙◌, inl, inr}
+use Rattle.std.proofs.Common.{◌≡◌, false, length, ap, sym, subst, ◌∙◌}
 use Rattle.std.proofs.Common.{◌||◌}
 use Rattle.xd_syntax.specs.Sound.{definition_of}
 use Rattle.std.specs.Str.{bytes_eq}
 use Rattle.xd_syntax.specs.Words.{any_word}
 use Rattle.xd_syntax.proofs.NamedLaws.{bytes_eq-turned}
-use Rattle.xd_rec.specs.Emptiness.{body_at, body_marked, is_marked}
+use Rattle.xd_rec.specs.Emptiness.{body_marked}
 use Rattle.xd_rec.proofs.EmptyLemmas.{body_in, marked_some, marked_none}
 use Rattle.xd_rec.proofs.empty.name_is_marked.Goals as goal
 

@@ -1,9 +1,9 @@
-use Rattle.std.proofs.Common.{◌≡◌, ℕ, zero, suc, ◌+◌, ◌-◌, ◌*◌, ◌^◌, ◌<◌, ◌≤◌, ◌⊎◌, ◌≢◌, arith, rules, Bool, true, false, cond, nat_eq, List, [], ◌∷◌, ◌++◌, length, get_or, set, take, drop, map, Option, Some, None, vec_len, refl, ap, sym, subst, ◌∙◌, inl, inr}
+use Rattle.std.proofs.Common.{◌≡◌, ◌<◌, arith, rules, true, false, [], ◌∷◌, ◌++◌, length, set, vec_len, ap, sym, subst, ◌∙◌, inl, inr}
 use Rattle.std.proofs.lemmas.List.{length-append, get_or_read, nil_from_length, append-nil}
 use Rattle.xd_syntax.specs.Types.{form_of}
 use Rattle.xd_syntax.specs.Table.{PartsBelow}
 use Rattle.xd_syntax.specs.declared.types.TypeId.{TypeId}
-use Rattle.xd_rec.specs.Emptiness.{IsMarking, visits_left, form_at, form_marked, is_marked}
+use Rattle.xd_rec.specs.Emptiness.{IsMarking, form_at, form_marked}
 use Rattle.xd_rec.proofs.EmptyLemmas.{visited, marked_more, unmarked_less, among_one, form_read, bodies_below, parts_up}
 use Rattle.xd_rec.proofs.empty.spread.Goals as goal
 

@@ -1,4 +1,4 @@
-use Rattle.std.proofs.Common.{◌≡◌, ℕ, zero, suc, ◌+◌, ◌-◌, ◌*◌, ◌^◌, ◌<◌, ◌≤◌, ◌⊎◌, ◌≢◌, ◌&&◌, ◌↔◌, arith, rules, Bool, true, false, not, cond, nat_eq, List, [], ◌∷◌, ◌++◌, length, get_or, set, take, drop, map, flat_map, reverse, Option, Some, None, vec_len, refl, ap, sym, subst, ◌∙◌, inl, inr}
+use Rattle.std.proofs.Common.{arith, cond, [], ◌∷◌, ◌++◌, take, ap, sym, ◌∙◌}
 use Rattle.std.proofs.lemmas.List.{take_more, append_assoc}
 use Rattle.xd_rec.specs.Faults.{faults_of, is_unguarded, unguarded_use_fault}
 use Rattle.xd_rec.specs.declared.uses.TopUse.{TopUse}
@@ -19,8 +19,10 @@ loop-top_use-preserved c =
     let u = c.top_use-item.result in
     let test = is_unguarded c.args.defs.now c.args.standing.now in
     let t = take_more us k u c.loop-top_use-test.true ∙ ap (λ x. take k us ++ x ∷ []) (sym c.top_use-item.is) in
-    record { found =
-        c.in_ok-add_if_unguarded.ensures
-        ∙ ap (λ fs. fs ++ cond (test u) (unguarded_use_fault u ∷ []) []) c.loop-top_use.invariant.found
-        ∙ append_assoc c.args.faults.now.items (faults_of test unguarded_use_fault (take k us)) (cond (test u) (unguarded_use_fault u ∷ []) [])
-        ∙ ap (λ fs. c.args.faults.now.items ++ fs) (sym (ap (faults_of test unguarded_use_fault) t ∙ faults_more test unguarded_use_fault (take k us) u)) }
+    record {
+      found =
+          c.in_ok-add_if_unguarded.ensures
+          ∙ ap (λ fs. fs ++ cond (test u) (unguarded_use_fault u ∷ []) []) c.loop-top_use.invariant.found
+          ∙ append_assoc c.args.faults.now.items (faults_of test unguarded_use_fault (take k us)) (cond (test u) (unguarded_use_fault u ∷ []) [])
+          ∙ ap (λ fs. c.args.faults.now.items ++ fs) (sym (ap (faults_of test unguarded_use_fault) t ∙ faults_more test unguarded_use_fault (take k us) u));
+    }

@@ -1,8 +1,7 @@
-use Rattle.std.proofs.Common.{◌≡◌, ℕ, zero, suc, ◌+◌, ◌-◌, ◌*◌, ◌^◌, ◌<◌, ◌≤◌, ◌⊎◌, ◌≢◌, ◌&&◌, ◌↔◌, arith, rules, Bool, true, false, not, cond, nat_eq, List, [], ◌∷◌, ◌++◌, length, get_or, set, take, drop, map, flat_map, reverse, Option, Some, None, vec_len, refl, ap, sym, subst, ◌∙◌, inl, inr}
-use Rattle.xd_rec.specs.Names.{first_of}
+use Rattle.std.proofs.Common.{arith, sym, subst, ◌∙◌}
 use Rattle.xd_rec.specs.Faults.{AddsUse}
 use Rattle.xd_rec.proofs.EmptyLemmas.{defined_in}
-use Rattle.xd_rec.proofs.FaultLemmas.{use_left_out, use_added}
+use Rattle.xd_rec.proofs.FaultLemmas.{use_added}
 use Rattle.xd_rec.proofs.faults.add_use.Goals as goal
 use Rattle.xd_rec.proofs.faults.add_use.Goals.{else-front_only-via-then-front_only+else-not-top_use, else-front_only-via-else-front_only}
 

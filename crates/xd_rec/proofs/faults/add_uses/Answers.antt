@@ -1,5 +1,5 @@
-use Rattle.std.proofs.Common.{◌≡◌, ℕ, zero, suc, ◌+◌, ◌-◌, ◌*◌, ◌^◌, ◌<◌, ◌≤◌, ◌⊎◌, ◌≢◌, ◌&&◌, ◌↔◌, arith, rules, Bool, true, false, not, cond, nat_eq, List, [], ◌∷◌, ◌++◌, length, get_or, set, take, drop, map, flat_map, reverse, Option, Some, None, vec_len, refl, ap, sym, subst, ◌∙◌, inl, inr}
-use Rattle.std.proofs.lemmas.List.{take_more, get_or_read}
+use Rattle.std.proofs.Common.{arith, [], ◌∷◌, ◌++◌, take, ap, sym, subst, ◌∙◌}
+use Rattle.std.proofs.lemmas.List.{take_more}
 use Rattle.xd_rec.specs.Faults.{IsGraphOf}
 use Rattle.xd_rec.specs.declared.uses.TopUse.{TopUse}
 use Rattle.xd_rec.proofs.FaultLemmas.{graph_none, graph_more, owned_at}
@@ -22,5 +22,7 @@ loop-top_use-preserved c =
     let k = c.loop-top_use.top_use-index in
     let u = c.top_use-item.result in
     let t = take_more us k u c.loop-top_use-test.true ∙ ap (λ x. take k us ++ x ∷ []) (sym c.top_use-item.is) in
-    record { graph = subst (λ xs. IsGraphOf c.args.defs.now xs c.args.front_only c.add_use.new.graph) (sym t)
-        (graph_more c.args.defs.now (take k us) u c.args.front_only c.loop-top_use.graph c.add_use.new.graph c.loop-top_use.invariant.graph c.in_ok-add_use.ensures) }
+    record {
+      graph = subst (λ xs. IsGraphOf c.args.defs.now xs c.args.front_only c.add_use.new.graph) (sym t)
+          (graph_more c.args.defs.now (take k us) u c.args.front_only c.loop-top_use.graph c.add_use.new.graph c.loop-top_use.invariant.graph c.in_ok-add_use.ensures);
+    }

@@ -1,4 +1,4 @@
-use Rattle.std.proofs.Common.{◌≡◌, ℕ, zero, suc, ◌+◌, ◌-◌, ◌*◌, ◌^◌, ◌<◌, ◌≤◌, ◌⊎◌, ◌≢◌, ◌&&◌, ◌↔◌, arith, rules, Bool, true, false, not, cond, nat_eq, List, [], ◌∷◌, ◌++◌, length, get_or, set, take, drop, map, flat_map, reverse, Option, Some, None, vec_len, refl, ap, sym, subst, ◌∙◌, inl, inr}
+use Rattle.std.proofs.Common.{take}
 use Rattle.xd_rec.specs.Faults.{IsGraphOf}
 use Rattle.xd_rec.proofs.faults.add_uses.Given as goal
 

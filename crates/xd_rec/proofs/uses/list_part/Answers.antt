@@ -1,9 +1,9 @@
-use Rattle.std.proofs.Common.{◌≡◌, ℕ, zero, suc, ◌+◌, ◌-◌, ◌*◌, ◌^◌, ◌<◌, ◌≤◌, ◌⊎◌, ◌≢◌, ◌&&◌, ◌↔◌, arith, rules, Bool, true, false, not, cond, nat_eq, List, [], ◌∷◌, ◌++◌, length, get_or, set, take, drop, map, flat_map, reverse, Option, Some, None, vec_len, refl, ap, sym, subst, ◌∙◌, inl, inr}
-use Rattle.xd_syntax.specs.Table.{Row, PartsBelow}
+use Rattle.std.proofs.Common.{◌≡◌, ◌++◌, take, ap, subst, ◌∙◌}
+use Rattle.xd_syntax.specs.Table.{PartsBelow}
 use Rattle.xd_syntax.specs.Types.{form_of}
 use Rattle.xd_syntax.specs.Placed.{placed_at, placed_form}
 use Rattle.xd_syntax.specs.declared.types.TypeId.{TypeId}
-use Rattle.xd_rec.specs.Uses.{IsListed, parts_of, own_use, test_of}
+use Rattle.xd_rec.specs.Uses.{parts_of, own_use, test_of}
 use Rattle.xd_rec.proofs.uses.list_part.Goals as goal
 
 pub returns : goal.returns

@@ -1,4 +1,4 @@
-use Rattle.std.proofs.Common.{◌≡◌, ℕ, zero, suc, ◌+◌, ◌-◌, ◌*◌, ◌^◌, ◌<◌, ◌≤◌, ◌⊎◌, ◌≢◌, ◌&&◌, arith, rules, Bool, true, false, cond, nat_eq, List, [], ◌∷◌, ◌++◌, length, get_or, set, take, drop, map, reverse, Option, Some, None, vec_len, refl, ap, sym, subst, ◌∙◌, inl, inr}
+use Rattle.std.proofs.Common.{◌≡◌, ◌<◌, ◌++◌, length}
 use Rattle.std.specs.List.{AllByRecursion}
 use Rattle.xd_syntax.specs.Types.{type_numbers}
 use Rattle.xd_rec.specs.Uses.{sequence, test_of}

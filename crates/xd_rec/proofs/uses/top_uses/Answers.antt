@@ -1,10 +1,8 @@
-use Rattle.std.proofs.Common.{◌≡◌, ℕ, zero, suc, ◌+◌, ◌-◌, ◌*◌, ◌^◌, ◌<◌, ◌≤◌, ◌⊎◌, ◌≢◌, ◌&&◌, ◌↔◌, arith, rules, Bool, true, false, not, cond, nat_eq, List, [], ◌∷◌, ◌++◌, length, get_or, set, take, drop, map, flat_map, reverse, Option, Some, None, vec_len, refl, ap, sym, subst, ◌∙◌, inl, inr}
+use Rattle.std.proofs.Common.{◌≡◌, ◌+◌, arith, true, [], ◌∷◌, ◌++◌, length, get_or, take, reverse, ap, sym, subst, ◌∙◌}
 use Rattle.std.proofs.lemmas.List.{take_more, take_all, length-take-le, append-nil}
-use Rattle.xd_syntax.specs.Table.{Row}
 use Rattle.xd_syntax.specs.declared.types.TypeDef.{TypeDef}
-use Rattle.xd_syntax.specs.Kept.{type_definition}
 use Rattle.xd_syntax.proofs.Members.{append_left}
-use Rattle.xd_rec.specs.Uses.{AllBelong, parts_uses, sizes, test_of, uses_from}
+use Rattle.xd_rec.specs.Uses.{AllBelong, parts_uses, sizes, test_of}
 use Rattle.xd_rec.specs.declared.uses.Part.{Part}
 use Rattle.xd_rec.proofs.EmptyLemmas.{among_one}
 use Rattle.xd_rec.proofs.UseLemmas.{definition_parts, definition_parts_more, definition_uses, definitions_belong, listed_uses, listed_belong, listed_less}
@@ -18,12 +16,13 @@ loop-owner-preserved c =
     let l = c.loop-owner-test.true in
     let z = length-take-le n ds (omega arith) in
     let e : 0 + length (take n ds) ≡ n = omega arith in
-    record { listed =
-      c.in_ok-push.ensures.items
-      ∙ ap (λ x. c.loop-owner.parts.items ++ (let p : Part = record { owner = n; at = x; is_tail = true; is_front = true } in p ∷ [])) (c.at.ensures ∙ ap (λ (x : TypeDef). x.body.at) c.index-defs-owner.is)
-      ∙ ap (λ ps. ps ++ (let p : Part = record { owner = n; at = (get_or ds n d).body.at; is_tail = true; is_front = true } in p ∷ [])) c.loop-owner.invariant.listed
-      ∙ sym (ap (definition_parts 0) (take_more ds n d l) ∙ definition_parts_more 0 (take n ds) (get_or ds n d)
-      ∙ ap (λ k. definition_parts 0 (take n ds) ++ (let p : Part = record { owner = k; at = (get_or ds n d).body.at; is_tail = true; is_front = true } in p ∷ [])) e)
+    record {
+      listed =
+          c.in_ok-push.ensures.items
+          ∙ ap (λ x. c.loop-owner.parts.items ++ (let p : Part = record { owner = n; at = x; is_tail = true; is_front = true } in p ∷ [])) (c.at.ensures ∙ ap (λ (x : TypeDef). x.body.at) c.index-defs-owner.is)
+          ∙ ap (λ ps. ps ++ (let p : Part = record { owner = n; at = (get_or ds n d).body.at; is_tail = true; is_front = true } in p ∷ [])) c.loop-owner.invariant.listed
+          ∙ sym (ap (definition_parts 0) (take_more ds n d l) ∙ definition_parts_more 0 (take n ds) (get_or ds n d)
+          ∙ ap (λ k. definition_parts 0 (take n ds) ++ (let p : Part = record { owner = k; at = (get_or ds n d).body.at; is_tail = true; is_front = true } in p ∷ [])) e);
     }
 
 pub loop-part-init : goal.loop-part-init

@@ -1,9 +1,7 @@
-use Rattle.std.proofs.Common.{◌≡◌, ℕ, zero, suc, ◌+◌, ◌-◌, ◌*◌, ◌^◌, ◌<◌, ◌≤◌, ◌⊎◌, ◌≢◌, arith, rules, List, [], ◌∷◌, ◌++◌, length, get_or, set, take, vec_len, refl, ap, sym, subst, ◌∙◌, inl, inr}
+use Rattle.std.proofs.Common.{◌≡◌, ◌+◌, ◌-◌, ◌<◌, arith, rules, length, get_or, take, vec_len, ap, sym, subst, ◌∙◌}
 use Rattle.std.proofs.lemmas.List.{length-take-le, get_or_read}
-use Rattle.xd_rec.specs.Components.{IsSearched, IsDoneFrom, StaySeen, work_left, no_segment, standing_of, node_at}
+use Rattle.xd_rec.specs.Components.{IsDoneFrom, no_segment, node_at}
 use Rattle.xd_rec.specs.declared.components.Segment.{Segment}
-use Rattle.xd_rec.specs.declared.components.Standing.{Standing}
-use Rattle.xd_rec.specs.declared.components.Standing.TheVariants.{Unseen, Open, Done}
 use Rattle.xd_rec.proofs.Closing.{closed_last, closed_seen_last}
 use Rattle.xd_rec.proofs.components.Search.close_segment.Goals as goal
 

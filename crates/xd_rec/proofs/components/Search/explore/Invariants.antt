@@ -1,4 +1,4 @@
-use Rattle.std.proofs.Common.{◌≡◌, ℕ, zero, suc, ◌+◌, ◌-◌, ◌*◌, ◌^◌, ◌<◌, ◌≤◌, ◌⊎◌, ◌≢◌, arith, rules, List, [], ◌∷◌, ◌++◌, length, get_or, set, take, vec_len, refl, ap, sym, subst, ◌∙◌, inl, inr}
+use Rattle.std.proofs.Common.{◌≡◌}
 use Rattle.xd_rec.specs.Components.{IsSearched, StaySeen, standing_of, work_left}
 use Rattle.xd_rec.specs.declared.components.Standing.TheVariants.{Unseen}
 use Rattle.xd_rec.proofs.components.Search.explore.Given as goal

@@ -1,6 +1,6 @@
-use Rattle.std.proofs.Common.{◌≡◌, ℕ, zero, suc, ◌+◌, ◌-◌, ◌*◌, ◌^◌, ◌<◌, ◌≤◌, ◌⊎◌, arith, rules, List, [], ◌∷◌, ◌++◌, length, get_or, set, take, vec_len, refl, ap, sym, subst, ◌∙◌, inl, inr}
+use Rattle.std.proofs.Common.{◌≡◌, ◌+◌, ◌-◌, arith, rules, length, take, vec_len, ap, sym, subst, ◌∙◌}
 use Rattle.std.proofs.lemmas.List.{length-take-le}
-use Rattle.xd_rec.specs.Components.{IsSearched, work_left}
+use Rattle.xd_rec.specs.Components.{IsSearched}
 use Rattle.xd_rec.proofs.Searching.{merged_last}
 use Rattle.xd_rec.proofs.components.Search.merge_segments.Goals as goal
 

@@ -1,6 +1,4 @@
-use Rattle.std.proofs.Common.{◌≡◌, ℕ, zero, suc, ◌+◌, ◌-◌, ◌*◌, ◌^◌, ◌<◌, ◌≤◌, ◌⊎◌, ◌≢◌, arith, rules, List, [], ◌∷◌, ◌++◌, length, get_or, set, take, vec_len, refl, ap, sym, subst, ◌∙◌, inl, inr}
-use Rattle.xd_rec.specs.Components.{standing_of, unseen}
-use Rattle.xd_rec.specs.declared.components.Standing.TheVariants.{Unseen}
+use Rattle.std.proofs.Common.{◌+◌, ap, ◌∙◌}
 use Rattle.xd_rec.proofs.Finishing.{unseen_more, all_unseen}
 use Rattle.xd_rec.proofs.components.Search.new.Goals as goal
 

@@ -1,10 +1,7 @@
-use Rattle.std.proofs.Common.{◌≡◌, ℕ, zero, suc, ◌+◌, ◌-◌, ◌*◌, ◌^◌, ◌<◌, ◌≤◌, ◌⊎◌, ◌≢◌, arith, rules, List, [], ◌∷◌, ◌++◌, length, get_or, set, take, vec_len, refl, ap, sym, subst, ◌∙◌, inl, inr}
+use Rattle.std.proofs.Common.{◌≡◌, ◌<◌, arith, rules, ◌++◌, length, set, vec_len, ap, sym, subst, ◌∙◌}
 use Rattle.std.proofs.lemmas.List.{length_push, length-append}
-use Rattle.xd_rec.specs.Graph.{successors}
-use Rattle.xd_rec.specs.Components.{IsSearched, StaySeen, standing_of, work_left, unseen}
-use Rattle.xd_rec.specs.declared.components.Standing.{Standing}
-use Rattle.xd_rec.specs.declared.components.Standing.TheVariants.{Unseen, Open, Done}
-use Rattle.xd_rec.specs.declared.components.Segment.{Segment}
+use Rattle.xd_rec.specs.Components.{StaySeen, standing_of}
+use Rattle.xd_rec.specs.declared.components.Standing.TheVariants.{Unseen, Open}
 use Rattle.xd_rec.proofs.Opening.{opened, opened_seen, opened_here, unseen_less}
 use Rattle.xd_rec.proofs.components.Search.open_segment.Goals as goal
 

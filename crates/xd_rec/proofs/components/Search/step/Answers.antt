@@ -1,9 +1,9 @@
-use Rattle.std.proofs.Common.{◌≡◌, ℕ, zero, suc, ◌+◌, ◌-◌, ◌*◌, ◌^◌, ◌<◌, ◌≤◌, ◌⊎◌, ◌≢◌, arith, rules, List, [], ◌∷◌, ◌++◌, length, get_or, set, take, vec_len, refl, ap, sym, subst, ◌∙◌, inl, inr}
+use Rattle.std.proofs.Common.{◌≡◌, ◌+◌, ◌-◌, ◌<◌, ◌≤◌, arith, rules, length, get_or, vec_len, ap, sym, subst, ◌∙◌, inl, inr}
 use Rattle.std.proofs.lemmas.List.{get_or_read}
 use Rattle.xd_rec.specs.Graph.{Path}
-use Rattle.xd_rec.specs.Components.{IsSearched, StaySeen, standing_of, node_at, work_left, todo_from, path_from, no_segment, IsKnown}
+use Rattle.xd_rec.specs.Components.{standing_of, node_at, todo_from, no_segment}
 use Rattle.xd_rec.specs.declared.components.Segment.{Segment}
-use Rattle.xd_rec.specs.declared.components.Standing.TheVariants.{Unseen, Open, Done}
+use Rattle.xd_rec.specs.declared.components.Standing.TheVariants.{Unseen}
 use Rattle.xd_rec.proofs.Searching.{last_source, waiting, target_in}
 use Rattle.xd_rec.proofs.components.Search.step.Goals as goal
 

@@ -1,9 +1,8 @@
-use Rattle.std.proofs.Common.{◌≡◌, ◌<◌, ℕ, List, Vec, Global, map, ◌++◌, ◌∷◌, [], length, get_or, set, sym, subst, ◌∙◌, ap, arith, rules}
+use Rattle.std.proofs.Common.{◌<◌, ℕ, Vec, Global, map, length, sym, subst, ◌∙◌, ap, arith}
 use Rattle.std.proofs.lemmas.List.{length-map}
-use Rattle.xd_rec.specs.Graph.{successors, IsClosed}
+use Rattle.xd_rec.specs.Graph.{IsClosed}
 use Rattle.xd_rec.proofs.Graphs.{closed_kept, closed_more, view_more, with_edge}
 use Rattle.xd_rec.proofs.graph.Graph.add.Goals as goal
-
 
 pub invariant_of-self : goal.invariant_of-self
 invariant_of-self c =

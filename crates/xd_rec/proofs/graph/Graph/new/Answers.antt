@@ -1,6 +1,5 @@
-use Rattle.std.proofs.Common.{◌≡◌, ℕ, [], List, Vec, Global, map, length, vec_len, arith, rules, ap, ◌∙◌, sym, refl, subst}
-use Rattle.xd_rec.specs.Graph.{successors}
-use Rattle.xd_rec.proofs.Graphs.{no_edges, bare_more}
+use Rattle.std.proofs.Common.{ℕ, Vec, Global, map}
+use Rattle.xd_rec.proofs.Graphs.{no_edges}
 use Rattle.xd_rec.proofs.graph.Graph.new.Goals as goal
 
 pub invariant_of-result : goal.invariant_of-result

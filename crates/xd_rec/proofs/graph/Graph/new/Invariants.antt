@@ -1,4 +1,4 @@
-use Rattle.std.proofs.Common.{◌≡◌, ℕ, [], List, Vec, Global, map, vec_len}
+use Rattle.std.proofs.Common.{◌≡◌, ℕ, [], Vec, Global, map, vec_len}
 use Rattle.xd_rec.specs.Graph.{successors}
 use Rattle.xd_rec.proofs.graph.Graph.new.Given as goal
 

@@ -1,4 +1,4 @@
-use Rattle.std.proofs.Common.{subst, sym}
+use Rattle.std.proofs.Common.{subst}
 use Rattle.xd_rec.specs.Graph.{IsClosed}
 use Rattle.xd_rec.proofs.graph.Graph.successors.Goals as goal
 
