@@ -5,3 +5,4 @@ pub mod Emptiness
 pub mod Uses
 pub mod Faults
 pub mod Soundness
+pub mod Samples

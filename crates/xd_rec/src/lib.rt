@@ -17,6 +17,8 @@ mod graph;
 pub mod laws;
 mod names;
 mod order;
+#[cfg(test)]
+mod tests;
 mod uses;
 
 use crate::components::components;
