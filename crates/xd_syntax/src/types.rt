@@ -1,6 +1,6 @@
 //! Types: nodes in a table.
 
-ghost use Rattle.std.specs.Prelude.{◌≡◌, ◌+◌, ◌++◌, ◌∷◌, [], false, length, take, IfOk, OnErr};
+ghost use Rattle.std.specs.Prelude.{◌≡◌, ◌+◌, ◌++◌, ◌∷◌, [], false, length, take, slice_index_or, IfOk, OnErr};
 ghost use Rattle.xd_syntax.specs.Placed.{placed_at, placed_form};
 ghost use Rattle.xd_syntax.specs.Table.{KeepsRows, CanFollow, PartsBelow, form_tree, tree_at};
 ghost use Rattle.xd_syntax.specs.Types.{BelongsTo, form_of, tree};
@@ -73,13 +73,14 @@ impl Model for Types {
 
 impl TypeId {
     /// The number of the node.
-    pub(crate) fn at(self) -> usize
+    pub fn at(self) -> usize
         ensures { result ≡ self.at }
     {
         self.at
     }
 
-    pub(crate) fn of(at: usize) -> Self
+    /// The type of the node with this number.
+    pub fn of(at: usize) -> Self
         ensures { result ≡ record { at = at } }
     {
         Self { at }
@@ -135,6 +136,7 @@ impl Types {
     /// The node of a type.
     pub fn node(&self, id: TypeId) -> &TypeNode
         requires { BelongsTo self.now id }
+        ensures row { result.now ≡ slice_index_or self.now id.at result.now }
         ensures tree { tree self.now id ≡ form_tree (tree_at self.now) result.now.form }
         ensures placed { placed_at self.now id.at ≡ placed_form (placed_at self.now) result.now.place result.now.form }
         ensures parts { PartsBelow id.at result.now.form }

@@ -11,6 +11,7 @@ returns c =
     (let l : c.args.id.at < length c.self.inside.nodes.items = rw c.self.view_is c.requires in
     let e : get_or c.self.inside.nodes.items c.args.id.at c.index.result.now ≡ c.index.result.now = sym c.index.ensures in
     record {
+      row = c.index.ensures;
       tree = tree_is false c.self.inside.nodes.items c.args.id.at c.index.result.now c.self.invariant l
           ∙ ap (λ (r : Row). form_tree (tree_at c.self.inside.nodes.items) r.form) e;
       placed = placed_is false c.self.inside.nodes.items c.args.id.at c.index.result.now c.self.invariant l

@@ -1,0 +1,14 @@
+pub mod Graphs
+pub mod Lists
+pub mod Searching
+pub mod Opening
+pub mod Closing
+pub mod Finishing
+pub mod NameLemmas
+pub mod EmptyLemmas
+pub mod UseLemmas
+pub mod Sorting
+pub mod Ranks
+pub mod FaultLemmas
+pub mod Recursion
+pub mod Unique

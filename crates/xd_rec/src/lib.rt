@@ -1,0 +1,82 @@
+//! Whether the types of a program recur outside tail position or unguarded.
+#![tactic(auto)]
+
+ghost use Rattle.std.specs.Prelude.{◌≡◌, ◌<◌, ℕ, List, [], Some, length, map, slice_index_or, IfOk};
+ghost use Rattle.std.specs.List.{AllByRecursion};
+ghost use Rattle.xd_syntax.specs.NameFaults.{name_faults};
+ghost use Rattle.xd_syntax.specs.Program.{FunctionDefinition};
+ghost use Rattle.xd_syntax.specs.Kept.{TypeDefStands, program_tree};
+ghost use Rattle.xd_rec.specs.Names.{AreUnique, program_of};
+ghost use Rattle.xd_syntax.specs.RecursionFaults.{AreRecursionFaults};
+ghost use Rattle.xd_rec.specs.Soundness.{IsSoundness};
+
+mod components;
+mod empty;
+mod faults;
+mod graph;
+pub mod laws;
+mod names;
+mod order;
+#[cfg(test)]
+mod tests;
+mod uses;
+
+use crate::components::components;
+use crate::empty::empty_types;
+use crate::faults::{add_outside, add_unguarded, use_graph};
+use crate::names::Names;
+use crate::order::sort_faults;
+use crate::uses::top_uses;
+use std::alloc::Global;
+use xd_doc::NoMemory;
+use xd_syntax::{Fault, Program, SoundProgram, TypeDef, Types};
+
+/// A program without faults of recursion, or the list of these faults.
+#[derive(Drop)]
+pub enum Soundness {
+    Sound(SoundProgram),
+    Faults(Vec<Fault>),
+}
+
+/// The program, where no type recurs outside tail position or unguarded; else the whole list of the uses that do,
+/// in order of place, then of number.
+///
+/// Its time is linear in the program's size, but for the sorting of faults, the look-up of names by their hash, and
+/// sequences of which part after part is found to be able to be empty.
+pub fn well_formed(alloc: Global, program: Program) -> Result<Soundness, NoMemory>
+    requires { name_faults (program_tree program) ≡ [] }
+    ensures { IfOk result (IsSoundness program) }
+{
+    let faults = program_faults(alloc, &program)?;
+    if faults.is_empty() {
+        return Ok(Soundness::Sound(SoundProgram::new(alloc, program)));
+    }
+    Ok(Soundness::Faults(faults))
+}
+
+fn program_faults(alloc: Global, program: &Program) -> Result<Vec<Fault>, NoMemory>
+    requires { name_faults (program_tree program.now) ≡ [] }
+    ensures { IfOk result (λ faults. AreRecursionFaults (program_tree program.now) faults.items) }
+{
+    recursion_faults(alloc, program.types(), program.type_defs())
+}
+
+/// The faults of recursion of these definitions, in order.
+fn recursion_faults(alloc: Global, types: &Types, defs: &[TypeDef]) -> Result<Vec<Fault>, NoMemory>
+    requires stand { AllByRecursion (TypeDefStands types.now) defs.now }
+    requires unique { AreUnique defs.now }
+    ensures { IfOk result (λ faults. (fs : List FunctionDefinition) → AreRecursionFaults (program_of types.now defs.now fs) faults.items) }
+{
+    let names = Names::new(alloc, defs)?;
+    let marks = empty_types(alloc, types, defs, &names)?;
+    let uses = top_uses(alloc, types, defs, &marks)?;
+    let use_chains = use_graph(alloc, defs, &names, &uses, false)?;
+    let front_chains = use_graph(alloc, defs, &names, &uses, true)?;
+    let mut faults = Vec::new(alloc);
+    let standing = components(alloc, &use_chains)?;
+    add_outside(defs, &names, &uses, &standing, &mut faults)?;
+    let standing = components(alloc, &front_chains)?;
+    add_unguarded(defs, &names, &uses, &standing, &mut faults)?;
+    sort_faults(&mut faults)?;
+    Ok(faults)
+}
