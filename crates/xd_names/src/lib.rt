@@ -1,0 +1,15 @@
+//! Faults of names, of numbers of arguments, and of variables that aren't linear.
+#![tactic(auto)]
+
+mod arities;
+mod duplicates;
+mod expressions;
+mod linear;
+mod names;
+mod order;
+mod program;
+mod scope;
+mod types;
+mod words;
+
+pub use program::resolve;
