@@ -9,6 +9,8 @@ mod names;
 mod order;
 mod program;
 mod scope;
+#[cfg(test)]
+mod tests;
 mod types;
 mod words;
 
