@@ -1,0 +1,17 @@
+//! Faults of names, of numbers of arguments, and of variables that aren't linear.
+#![tactic(auto)]
+
+mod arities;
+mod duplicates;
+mod expressions;
+mod linear;
+mod names;
+mod order;
+mod program;
+mod scope;
+#[cfg(test)]
+mod tests;
+mod types;
+mod words;
+
+pub use program::resolve;
