@@ -4,3 +4,7 @@ pub mod Fits
 pub mod Machine
 pub mod FirstFault
 pub mod Text
+pub mod Merged
+pub mod Values
+pub mod Means
+pub mod Reading

@@ -1,0 +1,33 @@
+-- What a parser function reads: the tool of the parser.
+use Rattle.std.specs.Prelude.{◌≡◌, List, [], ◌∷◌, ℕ, drop}
+use Rattle.xd_base.specs.declared.Place.{Place}
+use Rattle.xd_lex.specs.Tokens.{Lexeme, start}
+use Rattle.xd_parse.specs.declared.grammar.Nonterminal.{Nonterminal}
+use Rattle.xd_parse.specs.declared.grammar.Symbol.TheVariants.{Part}
+use Rattle.xd_parse.specs.declared.grammar.Terminal.{Terminal}
+use Rattle.xd_parse.specs.declared.grammar.Terminal.TheVariants as t
+use Rattle.xd_parse.specs.Values.{Value}
+use Rattle.xd_parse.specs.Means.{Means, terminal_at}
+
+-- the next token's terminal, place and text; where no token is left it is `Broken`, the start and empty
+abbrev pub front_terminal : List Lexeme → Terminal
+front_terminal [] = t.Broken
+front_terminal (l ∷ ls) = terminal_at l
+
+abbrev pub front_place : List Lexeme → Place
+front_place [] = start
+front_place (l ∷ ls) = l.place
+
+abbrev pub front_text : List Lexeme → List ℕ
+front_text [] = []
+front_text (l ∷ ls) = l.text
+
+-- the tokens behind the next one
+abbrev pub behind : List Lexeme → List Lexeme
+behind [] = []
+behind (l ∷ ls) = ls
+
+-- Whatever tokens spell the nonterminal from here on, and whatever it then stands for: they reach just to there, and it
+-- is just this.
+abbrev pub Reads : Nonterminal → (from to : List Lexeme) → Value → Type 0
+Reads part from to v = (rest : List Lexeme) (w : Value) → Means (Part part ∷ []) from rest (w ∷ []) → (rest ≡ to) × (w ≡ v)
