@@ -4,6 +4,7 @@ pub mod Course
 pub mod Stands
 pub mod Ends
 pub mod Rows
+pub mod Depth
 pub mod Spelled
 pub mod Ahead
 pub mod ByteOrder
