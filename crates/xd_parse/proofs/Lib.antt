@@ -5,6 +5,7 @@ pub mod Stands
 pub mod Ends
 pub mod Rows
 pub mod Depth
+pub mod Nesting
 pub mod Spelled
 pub mod Ahead
 pub mod ByteOrder
