@@ -5,3 +5,9 @@ pub mod Stands
 pub mod Ends
 pub mod Rows
 pub mod TextLemmas
+pub mod Keywords
+pub mod Grown
+pub mod JoinLemmas
+pub mod ExprRows
+pub mod Readers
+pub mod Adding

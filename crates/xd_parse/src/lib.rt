@@ -2,9 +2,12 @@
 #![tactic(auto)]
 
 mod cursor;
+mod expressions;
 mod fault;
 mod grammar;
+mod joining;
 mod machine;
+mod patterns;
 mod text;
 
 pub use fault::{FirstFault, Refusal, first_fault};
