@@ -12,3 +12,9 @@ pub mod ByteOrder
 pub mod ClassRows
 pub mod Keywords
 pub mod TextLemmas
+pub mod Keywords
+pub mod Grown
+pub mod JoinLemmas
+pub mod ExprRows
+pub mod Readers
+pub mod Adding

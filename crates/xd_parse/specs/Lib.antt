@@ -9,3 +9,4 @@ pub mod Merged
 pub mod Values
 pub mod Means
 pub mod Reading
+pub mod Grows

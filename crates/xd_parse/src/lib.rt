@@ -3,9 +3,12 @@
 
 mod classes;
 mod cursor;
+mod expressions;
 mod fault;
 mod grammar;
+mod joining;
 mod machine;
+mod patterns;
 mod text;
 
 pub use fault::{FirstFault, Refusal, first_fault};
