@@ -12,7 +12,6 @@ pub mod ByteOrder
 pub mod ClassRows
 pub mod Keywords
 pub mod TextLemmas
-pub mod Keywords
 pub mod Grown
 pub mod JoinLemmas
 pub mod ExprRows
