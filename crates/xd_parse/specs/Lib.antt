@@ -9,4 +9,5 @@ pub mod Merged
 pub mod Values
 pub mod Means
 pub mod Reading
+pub mod Nodes
 pub mod Grows

@@ -8,8 +8,12 @@ mod fault;
 mod grammar;
 mod joining;
 mod machine;
+mod merge;
+mod nodes;
 mod patterns;
 mod text;
+mod trees;
+mod types;
 
 pub use fault::{FirstFault, Refusal, first_fault};
 pub use grammar::{Nonterminal, Symbol, Terminal};
