@@ -12,9 +12,9 @@ add-requires-2 g c =
     let e : bytes_eq c.args.word.word string_word ≡ false = ap (λ s. bytes_eq s string_word) (sym c.as_str.ensures.bytes) ∙ sym c.eq.ensures ∙ c.if-eq.false in
     type_name c.args.word.word c.requires e
 
-pub returns : goal.returns
-returns g c =
+pub returns-clause-added : goal.returns-clause-added
+returns-clause-added g c =
     let e : bytes_eq c.args.word.word string_word ≡ false = ap (λ s. bytes_eq s string_word) (sym c.as_str.ensures.bytes) ∙ sym c.eq.ensures ∙ c.if-eq.false in
     IfOk-weaker c.add-2.result _ _
     (λ id a. subst (λ (T : PlacedTree). IsAdded (g.N.Nodes.rows c.args.nodes.now) (g.N.Nodes.rows c.add-2.new.self) T (g.N.Nodes.at id)) (sym (named_name c.args.word.word c.args.word.place e)) a)
-    c.add-2.ensures
+    c.add-2.ensures.added
