@@ -5,3 +5,6 @@ pub mod Stands
 pub mod Ends
 pub mod Rows
 pub mod TextLemmas
+pub mod Grown
+pub mod DefinitionRows
+pub mod Turned

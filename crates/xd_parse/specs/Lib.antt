@@ -8,3 +8,6 @@ pub mod Merged
 pub mod Values
 pub mod Means
 pub mod Reading
+pub mod Grows
+pub mod Definitions
+pub mod ParseFaults

@@ -2,13 +2,18 @@
 #![tactic(auto)]
 
 mod cursor;
+mod definitions;
+mod expressions;
 mod fault;
 mod grammar;
 mod machine;
+mod parse;
 mod text;
+mod types;
 
 pub use fault::{FirstFault, Refusal, first_fault};
 pub use grammar::{Nonterminal, Symbol, Terminal};
+pub use parse::{ParseError, parse_program, parse_type};
 pub use text::{TextFault, program_fault, type_fault};
 
 #[cfg(test)]
