@@ -13,19 +13,11 @@ use Rattle.xd_parse.specs.Text.{terminals_of, SpellsText}
 use Rattle.xd_parse.specs.Values.{Value, a_type, definitions}
 use Rattle.xd_parse.specs.Means.{Means, MeansAll, IsProgramText, IsTypeText}
 use Rattle.xd_parse.specs.Reading.{Reads, behind}
+use Rattle.xd_parse.proofs.Spelled.{read_all}
 use Rattle.xd_parse.proofs.Rows.{row_part, row_token, row_end, part_one}
 
-spelled_means : (limit : ℕ) (part : Nonterminal) (ls : List Lexeme) → Spells limit part (terminals_of ls) → (v : Value) × MeansAll part ls v
-spelled_means limit part ls s = ?
-
--- what was read of tokens that spell is what they stand for
-meant : (part : Nonterminal) (ls to : List Lexeme) (v : Value) → Spells 256 part (terminals_of ls) → Reads part ls to v → MeansAll part ls v
-meant part ls to v s r =
-    let m : (w : Value) × MeansAll part ls w = spelled_means 256 part ls s in
-    subst (MeansAll part ls) (r [] m.0 m.1).1 m.1
-
 tokens_meant : (part : Nonterminal) (bytes : List ℕ) (ls to : List Lexeme) (v : Value) → SpellsText part bytes → ls ≡ tokens_of bytes → Reads part ls to v → MeansAll part (tokens_of bytes) v
-tokens_meant part bytes ls to v s e r = meant part (tokens_of bytes) to v s.spells (subst (λ (xs : List Lexeme). Reads part xs to v) e r)
+tokens_meant part bytes ls to v s e r = read_all 256 part (tokens_of bytes) to v s.spells (subst (λ (xs : List Lexeme). Reads part xs to v) e r)
 
 pub program_meant : (bytes : List ℕ) (ls to : List Lexeme) (P : ProgramTree) → SpellsText n.Definitions bytes → ls ≡ tokens_of bytes → Reads n.Definitions ls to (definitions P) → IsProgramText bytes P
 program_meant bytes ls to P s e r = record { spells = s; means = tokens_meant n.Definitions bytes ls to (definitions P) s e r }

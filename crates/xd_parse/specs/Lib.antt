@@ -11,4 +11,4 @@ pub mod Means
 pub mod Reading
 pub mod Grows
 pub mod Definitions
-pub mod ParseFaults
+pub mod ParseErrors

@@ -8,9 +8,11 @@ ghost use Rattle.xd_syntax.specs.Table.{KeepsRows};
 ghost use Rattle.xd_syntax.specs.Types.{BelongsTo};
 ghost use Rattle.xd_syntax.specs.Kept.{program_tree};
 ghost use Rattle.xd_parse.specs.declared.grammar.Nonterminal.TheVariants as nonterminals;
+ghost use Rattle.xd_parse.specs.declared.parse.ParseError.TheVariants as errors;
 ghost use Rattle.xd_parse.specs.Text.{is_text, SpellsText};
 ghost use Rattle.xd_parse.specs.Means.{IsProgramText, IsTypeText};
-ghost use Rattle.xd_parse.specs.ParseFaults.{fault_with_place, IsParseFault, IsRefused};
+ghost use Rattle.xd_parse.specs.Faults.{reported};
+ghost use Rattle.xd_parse.specs.ParseErrors.{IsParseError, IsFault};
 
 use crate::cursor::Cursor;
 use crate::definitions::read_definitions;
@@ -31,7 +33,7 @@ pub enum ParseError {
 }
 
 impl From<NoMemory> for ParseError {
-    ghost from_gives = { λ _ e. e ≡ ParseError.NoMemory };
+    ghost from_gives = { λ _ e. e ≡ errors.NoMemory };
 
     fn from(_: NoMemory) -> Self {
         Self::NoMemory
@@ -39,8 +41,8 @@ impl From<NoMemory> for ParseError {
 }
 
 /// A text's fault, as a fault of the program.
-fn fault_with_place(found: TextFault) -> Fault
-    ensures { result ≡ fault_with_place found }
+fn reported(found: TextFault) -> Fault
+    ensures { result ≡ reported found }
 {
     let (place, kind) = match found {
         TextFault::NotUtf8(place) => (place, FaultKind::NotUtf8),
@@ -63,27 +65,28 @@ fn spelled_tokens<'a>(
     ensures tokens { IfOk result (λ all. map lexeme_of all.items ≡ tokens_of bytes.now) }
     ensures spelled { IfOk result (λ all. All (λ token. IsSpelling token.kind token.text.now) all.items) }
     ensures spells { IfOk result (λ all. SpellsText part bytes.now) }
-    ensures fault { IfErr result (IsParseFault part bytes.now) }
+    ensures fault { IfErr result (IsParseError part bytes.now) }
+    ensures unspelled { IfErr result (λ e. IsFault e → ¬ (SpellsText part bytes.now)) }
 {
     let all = match tokens(alloc, bytes) {
         Ok(all) => all,
         Err(LexError::NotUtf8(place)) => {
-            let fault = fault_with_place(TextFault::NotUtf8(place));
+            let fault = reported(TextFault::NotUtf8(place));
             return Err(ParseError::Fault(fault));
         }
         Err(LexError::NoMemory) => return Err(ParseError::NoMemory),
     };
     match placed_fault(alloc, part, all.as_slice())? {
         None => Ok(all),
-        Some(found) => Err(ParseError::Fault(fault_with_place(found))),
+        Some(found) => Err(ParseError::Fault(reported(found))),
     }
 }
 
 /// Reads the text of a program. Takes time linear in the text.
 pub fn parse_program(alloc: Global, bytes: &[u8]) -> Result<Program, ParseError>
     ensures program { IfOk result (λ p. IsProgramText bytes.now (program_tree p)) }
-    ensures fault { IfErr result (IsParseFault nonterminals.Definitions bytes.now) }
-    ensures unspelled { IfErr result (λ e. IsRefused e → ¬ (SpellsText nonterminals.Definitions bytes.now)) }
+    ensures fault { IfErr result (IsParseError nonterminals.Definitions bytes.now) }
+    ensures unspelled { IfErr result (λ e. IsFault e → ¬ (SpellsText nonterminals.Definitions bytes.now)) }
 {
     let all = spelled_tokens(alloc, Nonterminal::Definitions, bytes)?;
     let mut cursor = Cursor::new(all.as_slice());
@@ -100,8 +103,8 @@ pub fn parse_type(
     ensures type_text { IfOk result (λ id. IsTypeText bytes.now (placed_at types.new id.at)) }
     ensures belongs { IfOk result (BelongsTo types.new) }
     ensures keeps { KeepsRows types.old types.new }
-    ensures fault { IfErr result (IsParseFault nonterminals.TypeText bytes.now) }
-    ensures unspelled { IfErr result (λ e. IsRefused e → ¬ (SpellsText nonterminals.TypeText bytes.now)) }
+    ensures fault { IfErr result (IsParseError nonterminals.TypeText bytes.now) }
+    ensures unspelled { IfErr result (λ e. IsFault e → ¬ (SpellsText nonterminals.TypeText bytes.now)) }
 {
     let all = spelled_tokens(alloc, Nonterminal::TypeText, bytes)?;
     let mut cursor = Cursor::new(all.as_slice());
