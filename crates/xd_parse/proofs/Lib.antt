@@ -13,3 +13,4 @@ pub mod TextLemmas
 pub mod Grown
 pub mod DefinitionRows
 pub mod Turned
+mod ShownParts

@@ -24,11 +24,7 @@ use xd_doc::NoMemory;
 use xd_syntax::{Exprs, Function, Param, Patterns, Program, TypeDef, Types};
 
 /// Reads `(val x as T)`.
-fn read_param(
-    alloc: Global,
-    cursor: &mut Cursor<'_>,
-    types: &mut Types,
-) -> Result<Param, NoMemory>
+fn read_param(alloc: Global, cursor: &mut Cursor<'_>, types: &mut Types) -> Result<Param, NoMemory>
     ensures reads { IfOk result (λ q. Reads nonterminals.Param cursor.old cursor.new (a_parameter (parameter types.new q))) }
     ensures belongs { IfOk result (λ q. BelongsTo types.new q.body) }
     ensures keeps { KeepsRows types.old types.new }
@@ -113,16 +109,11 @@ fn read_function(
     let declared = read_type(alloc, cursor, types)?;
     cursor.step();
     let body = read_expr(alloc, cursor, patterns, exprs)?;
-    Ok(Function::new(
-        name.word, name.place, params, declared, body,
-    ))
+    Ok(Function::new(name.word, name.place, params, declared, body))
 }
 
 /// Reads a program: definitions up to the end of the text.
-pub(crate) fn read_definitions(
-    alloc: Global,
-    cursor: &mut Cursor<'_>,
-) -> Result<Program, NoMemory>
+pub(crate) fn read_definitions(alloc: Global, cursor: &mut Cursor<'_>) -> Result<Program, NoMemory>
     ensures { IfOk result (λ p. Reads nonterminals.Definitions cursor.old cursor.new (definitions (program_tree p))) }
 {
     let mut types = Types::new(alloc);
@@ -134,8 +125,7 @@ pub(crate) fn read_definitions(
         if cursor.at(Terminal::Type) {
             type_defs.push(read_type_def(alloc, cursor, &mut types)?)?;
         } else if cursor.at(Terminal::Fun) {
-            let function =
-                read_function(alloc, cursor, &mut types, &mut patterns, &mut exprs)?;
+            let function = read_function(alloc, cursor, &mut types, &mut patterns, &mut exprs)?;
             functions.push(function)?;
         } else {
             break;

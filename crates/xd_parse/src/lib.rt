@@ -19,3 +19,5 @@ pub use text::{TextFault, program_fault, type_fault};
 
 #[cfg(test)]
 mod tests;
+#[cfg(test)]
+mod tree_tests;

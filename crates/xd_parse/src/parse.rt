@@ -25,7 +25,7 @@ use xd_lex::{LexError, Token, tokens};
 use xd_syntax::{Fault, FaultKind, Program, TypeId, Types};
 
 /// Why no program, or no type, was read.
-#[derive(Drop)]
+#[derive(Debug, Drop)]
 pub enum ParseError {
     /// The text is none. The fault has a place.
     Fault(Fault),
@@ -95,11 +95,7 @@ pub fn parse_program(alloc: Global, bytes: &[u8]) -> Result<Program, ParseError>
 }
 
 /// Reads the text of a type, in the same way; its nodes are added to those of the table, which stay.
-pub fn parse_type(
-    alloc: Global,
-    types: &mut Types,
-    bytes: &[u8],
-) -> Result<TypeId, ParseError>
+pub fn parse_type(alloc: Global, types: &mut Types, bytes: &[u8]) -> Result<TypeId, ParseError>
     ensures type_text { IfOk result (λ id. IsTypeText bytes.now (placed_at types.new id.at)) }
     ensures belongs { IfOk result (BelongsTo types.new) }
     ensures keeps { KeepsRows types.old types.new }
