@@ -1,12 +1,10 @@
 -- What stays as the tables grow.
-use Rattle.std.proofs.Common.{◌≡◌, ℕ, suc, ◌<◌, arith, List, [], ◌∷◌, ◌++◌, length, map, refl, sym, ap, subst, ◌∙◌, length-append, append_assoc, append-nil}
+use Rattle.std.proofs.Common.{◌≡◌, ℕ, ◌<◌, arith, List, [], ◌∷◌, ◌++◌, length, map, refl, sym, ap, subst, ◌∙◌, length-append, append_assoc, append-nil}
 use Rattle.std.specs.List.{AllByRecursion}
 use Rattle.xd_base.specs.declared.Place.{Place}
 use Rattle.xd_syntax.specs.Placed.{PlacedTree, placed_at}
 use Rattle.xd_syntax.specs.Table.{Row, KeepsRows}
-use Rattle.xd_syntax.specs.Expression.{Expression, Clauses, clause, ExprRow, ExprShape, empty_shape, text_shape, var_shape, elem_shape, seq_shape, call_shape, match_shape, clauses_of, shape_expression, expression_in, expressions_after, expression_at, KeepsExprs, ShapePatternsBelong, PatternsBelong}
-use Rattle.xd_syntax.specs.Exprs.{expression}
-use Rattle.xd_syntax.specs.declared.exprs.ExprId.{ExprId}
+use Rattle.xd_syntax.specs.Expression.{Expression, ExprRow, ExprShape, empty_shape, text_shape, var_shape, elem_shape, seq_shape, call_shape, match_shape, clauses_of, shape_expression, expression_in, expressions_after, expression_at, KeepsExprs, ShapePatternsBelong, PatternsBelong}
 use Rattle.xd_syntax.proofs.PlacedTrees.{placed_kept}
 use Rattle.xd_syntax.proofs.ExprTrees.{expression_kept}
 use Rattle.xd_parse.specs.Grows.{Grows}

@@ -4,6 +4,8 @@ pub mod Course
 pub mod Stands
 pub mod Ends
 pub mod Rows
+pub mod Depth
+pub mod Nesting
 pub mod Spelled
 pub mod Ahead
 pub mod ByteOrder
@@ -14,3 +16,7 @@ pub mod Grown
 pub mod DefinitionRows
 pub mod Turned
 mod ShownParts
+pub mod JoinLemmas
+pub mod ExprRows
+pub mod Readers
+pub mod Adding

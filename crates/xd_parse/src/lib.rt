@@ -7,8 +7,10 @@ mod definitions;
 mod expressions;
 mod fault;
 mod grammar;
+mod joining;
 mod machine;
 mod parse;
+mod patterns;
 mod text;
 mod types;
 
