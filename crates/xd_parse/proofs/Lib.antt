@@ -4,4 +4,7 @@ pub mod Course
 pub mod Stands
 pub mod Ends
 pub mod Rows
+pub mod Merging
+pub mod TypeForms
+pub mod PatternForms
 pub mod TextLemmas

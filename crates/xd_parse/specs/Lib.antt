@@ -8,3 +8,4 @@ pub mod Merged
 pub mod Values
 pub mod Means
 pub mod Reading
+pub mod Nodes

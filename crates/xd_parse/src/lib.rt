@@ -5,6 +5,7 @@ mod cursor;
 mod fault;
 mod grammar;
 mod machine;
+mod nodes;
 mod text;
 
 pub use fault::{FirstFault, Refusal, first_fault};
