@@ -1,6 +1,6 @@
 -- The parts that nodes are as parts of a sequence, and as branches of an alternative.
-use Rattle.std.proofs.Common.{◌≡◌, ◌≢◌, ℕ, zero, suc, ◌+◌, ◌<◌, ◌≤◌, arith, Bool, true, false, ◌||◌, List, [], ◌∷◌, ◌++◌, map, length, take, drop, refl, ap, sym, ◌∙◌, subst, length-append, append-nil}
-use Rattle.std.proofs.lemmas.List.{map-append, take-append-drop}
+use Rattle.std.proofs.Common.{◌≡◌, ◌≢◌, ℕ, zero, suc, ◌+◌, ◌<◌, ◌≤◌, arith, Bool, true, false, ◌||◌, List, [], ◌∷◌, ◌++◌, map, length, take, drop, flat_map, refl, ap, sym, ◌∙◌, subst, length-append, append-nil, append_assoc, lit<, ◌==◌}
+use Rattle.std.proofs.lemmas.List.{map-append, take-append-drop, drop_all, length-map}
 use Rattle.std.specs.List.{AllByRecursion}
 use Rattle.xd_base.specs.declared.Place.{Place}
 use Rattle.xd_syntax.specs.Tree.{Tree, Empty, Text, Name, Elem, Seq, Alt, Star, Plus, Opt, Val, alt_of, seq_of, is_empty, is_seq, is_alt}
@@ -179,3 +179,59 @@ numbers_added at old more ids new e f = ap (map at) (e ∙ ap (λ xs. old ++ xs)
 
 pub number_added : {I : Type 0} (at : I → ℕ) (old new : List I) (id : I) → new ≡ old ++ id ∷ [] → map at new ≡ map at old ++ at id ∷ []
 number_added at old new id e = ap (map at) e ∙ map-append at old (id ∷ [])
+
+-- ---- parts collected one after the other
+pub record IsCollected (P : ℕ → Type 0) (parts_of : PlacedTree → List PlacedTree) (rs : List Row) (all left made : List ℕ) : Type 0 where
+  pub placed : map (placed_at rs) made ++ flat_map parts_of (map (placed_at rs) left) ≡ flat_map parts_of (map (placed_at rs) all)
+  pub fit : AllByRecursion P made
+  pub belong : AllByRecursion (λ i. i < length rs) left
+
+all_append : (P : ℕ → Type 0) (xs ys : List ℕ) → AllByRecursion P xs → AllByRecursion P ys → AllByRecursion P (xs ++ ys)
+all_append P [] ys a b = b
+all_append P (x ∷ xs) ys a b = (a.0, all_append P xs ys a.1 b)
+
+pub collected_start : (P : ℕ → Type 0) (parts_of : PlacedTree → List PlacedTree) (rs : List Row) (i : ℕ) (left made : List ℕ) → AllByRecursion (λ j. j < length rs) left →
+    AddsParts P rs (parts_of (placed_at rs i)) [] made → IsCollected P parts_of rs (i ∷ left) left made
+collected_start P parts_of rs i left made b a = record {
+  placed = ap (λ Ts. Ts ++ flat_map parts_of (map (placed_at rs) left)) (ap (map (placed_at rs)) a.grown ∙ a.placed);
+  fit = subst (AllByRecursion P) (sym a.grown) a.fit;
+  belong = b;
+}
+
+pub collected_step : (P : ℕ → Type 0) (parts_of : PlacedTree → List PlacedTree) (rs : List Row) (all : List ℕ) (i : ℕ) (left made new : List ℕ) →
+    IsCollected P parts_of rs all (i ∷ left) made → AddsParts P rs (parts_of (placed_at rs i)) made new → IsCollected P parts_of rs all left new
+collected_step P parts_of rs all i left made new c a = record {
+  placed = ap (λ Ts. Ts ++ flat_map parts_of (map (placed_at rs) left)) (ap (map (placed_at rs)) a.grown ∙ map-append (placed_at rs) made a.more ∙ ap (λ Ts. map (placed_at rs) made ++ Ts) a.placed)
+      ∙ append_assoc (map (placed_at rs) made) (parts_of (placed_at rs i)) (flat_map parts_of (map (placed_at rs) left)) ∙ c.placed;
+  fit = subst (AllByRecursion P) (sym a.grown) (all_append P made a.more c.fit a.fit);
+  belong = c.belong.1;
+}
+
+pub collected_end : (P : ℕ → Type 0) (parts_of : PlacedTree → List PlacedTree) (rs : List Row) (all made : List ℕ) →
+    IsCollected P parts_of rs all [] made → map (placed_at rs) made ≡ flat_map parts_of (map (placed_at rs) all)
+collected_end P parts_of rs all made c = sym (append-nil (map (placed_at rs) made)) ∙ c.placed
+
+-- ---- an alternative of two nodes has two branches
+some_branch : (T : PlacedTree) → 0 < length (parts_of_alt T)
+some_branch (Empty_at p) = lit< tt
+some_branch (Text_at p) = lit< tt
+some_branch (Name_at p w) = lit< tt
+some_branch (Elem_at p c T) = lit< tt
+some_branch (Seq_at p T U) = lit< tt
+some_branch (Alt_at p T U) = omega arith
+some_branch (Star_at p T) = lit< tt
+some_branch (Plus_at p T) = lit< tt
+some_branch (Opt_at p T) = lit< tt
+some_branch (Val_at p x q T) = lit< tt
+
+pub two_branches : {I : Type 0} (at : I → ℕ) (P : ℕ → Type 0) (rs : List Row) (i : ℕ) (more : List I) (k : ℕ) (made : List ℕ) → length more ≤ k → (length more == 0) ≡ false →
+    IsCollected P parts_of_alt rs (i ∷ map at more) (map at (drop k more)) made → 2 ≤ length made
+two_branches at P rs i [] k made h n c = absurd (true_false n)
+two_branches at P rs i (m ∷ more) k made h n c =
+    let e : drop k (m ∷ more) ≡ [] = drop_all k (m ∷ more) h in
+    let d : IsCollected P parts_of_alt rs (i ∷ map at (m ∷ more)) [] made = subst (λ xs. IsCollected P parts_of_alt rs (i ∷ map at (m ∷ more)) (map at xs) made) e c in
+    let l : length (map (placed_at rs) made) ≡ length (parts_of_alt (placed_at rs i) ++ (parts_of_alt (placed_at rs (at m)) ++ flat_map parts_of_alt (map (placed_at rs) (map at more))))
+    = ap length (collected_end P parts_of_alt rs (i ∷ map at (m ∷ more)) made d) in
+    let a = some_branch (placed_at rs i) in
+    let b = some_branch (placed_at rs (at m)) in
+    omega (arith, length-map made (placed_at rs), length-append (parts_of_alt (placed_at rs i)) (parts_of_alt (placed_at rs (at m)) ++ flat_map parts_of_alt (map (placed_at rs) (map at more))), length-append (parts_of_alt (placed_at rs (at m))) (flat_map parts_of_alt (map (placed_at rs) (map at more))))

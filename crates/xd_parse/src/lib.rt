@@ -5,6 +5,7 @@ mod cursor;
 mod fault;
 mod grammar;
 mod machine;
+mod merge;
 mod nodes;
 mod text;
 
