@@ -7,4 +7,8 @@ pub mod Rows
 pub mod Merging
 pub mod TypeForms
 pub mod PatternForms
+pub mod NodeRows
+pub mod ByteOrder
+pub mod ClassRows
+pub mod Keywords
 pub mod TextLemmas

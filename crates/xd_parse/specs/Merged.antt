@@ -50,14 +50,16 @@ abbrev pub sequence_of_expressions : Expression → List Expression → Expressi
 sequence_of_expressions e [] = e
 sequence_of_expressions e (f ∷ fs) = merged_expression (place_of_expression e) (flat_map parts_of_expression (e ∷ (f ∷ fs)))
 
+-- a word before a first word, as it, or with what comes of those behind it
+abbrev pub put_by : Ordering → (word first : List ℕ) (behind put : List (List ℕ)) → List (List ℕ)
+put_by orders.Less w x xs put = w ∷ (x ∷ xs)
+put_by orders.Equal w x xs put = x ∷ xs
+put_by orders.Greater w x xs put = x ∷ put
+
 -- a word among words in byte order, once
 abbrev pub put_word : List ℕ → List (List ℕ) → List (List ℕ)
 put_word w [] = w ∷ []
-put_word w (x ∷ xs) = elim (slice_cmp nat_cmp w x) [
-  | orders.Less ↦ w ∷ (x ∷ xs)
-  | orders.Equal ↦ x ∷ xs
-  | orders.Greater ↦ x ∷ put_word w xs
-]
+put_word w (x ∷ xs) = put_by (slice_cmp nat_cmp w x) w x xs (put_word w xs)
 
 -- words in byte order, each once
 abbrev pub in_byte_order : List (List ℕ) → List (List ℕ)

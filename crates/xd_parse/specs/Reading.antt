@@ -1,5 +1,5 @@
 -- What a parser function reads: the tool of the parser.
-use Rattle.std.specs.Prelude.{◌≡◌, List, [], ◌∷◌, ℕ, drop}
+use Rattle.std.specs.Prelude.{◌≡◌, List, [], ◌∷◌, ℕ, codes}
 use Rattle.xd_base.specs.declared.Place.{Place}
 use Rattle.xd_lex.specs.Tokens.{Lexeme, start}
 use Rattle.xd_parse.specs.declared.grammar.Nonterminal.{Nonterminal}
@@ -31,3 +31,13 @@ behind (l ∷ ls) = ls
 -- is just this.
 abbrev pub Reads : Nonterminal → (from to : List Lexeme) → Value → Type 0
 Reads part from to v = (rest : List Lexeme) (w : Value) → Means (Part part ∷ []) from rest (w ∷ []) → (rest ≡ to) × (w ≡ v)
+
+-- the word that a token is among labels, where keywords are words
+abbrev pub any_text : Terminal → List ℕ → List ℕ
+any_text t.Type s = codes "type"
+any_text t.Fun s = codes "fun"
+any_text t.Val s = codes "val"
+any_text t.As s = codes "as"
+any_text t.Match s = codes "match"
+any_text t.With s = codes "with"
+any_text k s = s

@@ -1,8 +1,9 @@
 //! The tokens that are left.
 
-ghost use Rattle.std.specs.Prelude.{All, ◌≡◌, ◌<◌, ◌≤◌, false, true, map, length, IfOk};
+ghost use Rattle.std.specs.Prelude.{All, ◌≡◌, ◌-◌, false, true, map, take, length, IfOk};
 ghost use Rattle.xd_lex.specs.Tokens.{lexeme_of};
-ghost use Rattle.xd_lex.specs.Spelled.{IsSpelling, unescaped};
+ghost use Rattle.xd_lex.specs.Spelled.{IsSpelling};
+ghost use Rattle.xd_lex.specs.declared.Kind.TheVariants as kinds;
 ghost use Rattle.xd_syntax.specs.Words.{has_word, keywords};
 ghost use Rattle.xd_parse.specs.declared.grammar.Terminal.TheVariants as terminals;
 ghost use Rattle.xd_doc.specs.Word.{is_word};
@@ -15,8 +16,8 @@ use crate::text::terminal;
 use std::alloc::Global;
 use std::marker::Model;
 use xd_base::Place;
-use xd_doc::{Label, NoMemory, Text};
-use xd_lex::{Token, unescape};
+use xd_doc::{Label, NoMemory};
+use xd_lex::{Kind, Token};
 
 /// A word and its place.
 #[derive(Drop)]
@@ -98,7 +99,7 @@ impl<'a> Cursor<'a> {
     }
 
     /// The next token's text where it is a word that is no keyword, else `_`.
-    fn word_text(&self) -> &'a str
+    pub fn word_text(&self) -> &'a str
         ensures word { front_terminal self.now ≡ terminals.Word → result.now ≡ front_text self.now }
         ensures plain { has_word keywords result.now ≡ false }
         ensures valid { is_word result.now ≡ true }
@@ -111,4 +112,40 @@ impl<'a> Cursor<'a> {
             None => "_",
         }
     }
+
+    /// Takes the next token as a label, without its bracket. Any other token, which no text has there that spells, is
+    /// taken as `_`.
+    pub fn label(&mut self, alloc: Global) -> Result<Word, NoMemory>
+        ensures word { IfOk result (λ w. front_terminal self.old ≡ terminals.Label → w.word ≡ take (length (front_text self.old) - 1) (front_text self.old)) }
+        ensures place { IfOk result (λ w. w.place ≡ front_place self.old) }
+        ensures left { IfOk result (λ w. self.new ≡ behind self.old) }
+    {
+        let word = Label::new(alloc, self.label_text())?;
+        let place = self.step();
+        Ok(Word { word, place })
+    }
+
+    /// The next token's word where it is a label, else `_`.
+    fn label_text(&self) -> &'a str
+        ensures word { front_terminal self.now ≡ terminals.Label → result.now ≡ take (length (front_text self.now) - 1) (front_text self.now) }
+        ensures valid { is_word result.now ≡ true }
+    {
+        match self.left.first() {
+            Some(token) => match token.kind {
+                Kind::Label => label_word(token.text),
+                _ => "_",
+            },
+            None => "_",
+        }
+    }
+}
+
+/// The word of a label, which ends with its bracket.
+fn label_word(text: &str) -> &str
+    requires { IsSpelling kinds.Label text.now }
+    ensures word { result.now ≡ take (length text.now - 1) text.now }
+    ensures valid { is_word result.now ≡ true }
+{
+    let (word, _bracket) = text.split_at(text.len() - 1);
+    word
 }

@@ -1,6 +1,7 @@
 //! Programs and types from bytes.
 #![tactic(auto)]
 
+mod classes;
 mod cursor;
 mod fault;
 mod grammar;
