@@ -6,6 +6,7 @@ use Rattle.xd_parse.specs.declared.grammar.Nonterminal.{Nonterminal}
 use Rattle.xd_parse.specs.declared.grammar.Symbol.TheVariants.{Part}
 use Rattle.xd_parse.specs.declared.grammar.Terminal.{Terminal}
 use Rattle.xd_parse.specs.declared.grammar.Terminal.TheVariants as t
+use Rattle.xd_parse.specs.Grammar.{Row}
 use Rattle.xd_parse.specs.Values.{Value}
 use Rattle.xd_parse.specs.Means.{Means, terminal_at}
 
@@ -31,6 +32,10 @@ behind (l ∷ ls) = ls
 -- is just this.
 abbrev pub Reads : Nonterminal → (from to : List Lexeme) → Value → Type 0
 Reads part from to v = (rest : List Lexeme) (w : Value) → Means (Part part ∷ []) from rest (w ∷ []) → (rest ≡ to) × (w ≡ v)
+
+-- no tokens spell the row from here on
+abbrev pub Unspelled : Row → List Lexeme → Type 0
+Unspelled row from = (rest : List Lexeme) (vs : List Value) → Means row from rest vs → ⊥
 
 -- the word that a token is among labels, where keywords are words
 abbrev pub any_text : Terminal → List ℕ → List ℕ

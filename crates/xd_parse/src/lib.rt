@@ -9,6 +9,7 @@ mod machine;
 mod merge;
 mod nodes;
 mod text;
+mod trees;
 
 pub use fault::{FirstFault, Refusal, first_fault};
 pub use grammar::{Nonterminal, Symbol, Terminal};
