@@ -8,6 +8,9 @@ pub mod Merging
 pub mod TypeForms
 pub mod PatternForms
 pub mod NodeRows
+pub mod Depth
+pub mod Spelled
+pub mod Ahead
 pub mod ByteOrder
 pub mod ClassRows
 pub mod Keywords

@@ -24,8 +24,8 @@ use Rattle.xd_parse.specs.Fits.{same, fits, first_fit}
 use Rattle.xd_parse.specs.Merged.{sequence, alternative}
 use Rattle.xd_parse.specs.Values.{Value, mark, word, absent, a_type, a_pattern, class, named, repeated, value_of}
 use Rattle.xd_parse.specs.Means.{Means, terminal_at}
-use Rattle.xd_parse.specs.Reading.{Reads, Unspelled, front_terminal, front_place, front_text, behind}
-use Rattle.xd_parse.specs.Nodes.{whole, more_branches, branch, more_parts, post, primary, group, content, node, nodes, binders, group_row, element_row, BeginsElement, IsAdded, ReadsNode, ReadsInto}
+use Rattle.xd_parse.specs.Reading.{Reads, SpellNo, group_row, element_row, front_terminal, front_place, front_text, behind}
+use Rattle.xd_parse.specs.Nodes.{whole, more_branches, branch, more_parts, post, primary, group, content, node, nodes, BeginsElement, IsAdded, ReadsNode, ReadsInto}
 use Rattle.xd_parse.proofs.Derive.{same-of, same-other, same-true, same-false, may, any_of, is_group}
 use Rattle.xd_parse.proofs.Rows.{MeansView, means_view, ReadsRow, row_end, row_token, row_opening, row_closed, row_unless, row_part, part_one, part_fit, by_row, empty_means, means_may}
 
@@ -213,7 +213,7 @@ only_class other one two three from rest vs m h k (inr (inl e)) = absurd (k (sub
 only_class other one two three from rest vs m h k (inr (inr (inl e))) = e
 only_class other one two three from rest vs m h k (inr (inr (inr z))) = absurd z
 
-pub primary_group : (s : Sort) (from to : List Lexeme) (v : Value) (U : PlacedTree) → front_terminal from ≡ t.ParenL → Unspelled (element_row s) from → Reads (group s) (behind from) to v →
+pub primary_group : (s : Sort) (from to : List Lexeme) (v : Value) (U : PlacedTree) → front_terminal from ≡ t.ParenL → SpellNo (element_row s) from → Reads (group s) (behind from) to v →
     value_of (primary s) (mark t.ParenL (front_place from) ∷ (v ∷ [])) ≡ node s U → Reads (primary s) from to (node s U)
 primary_group sorts.Type from to v U e h r m =
     subst (Reads n.TypePrim from to) m
@@ -241,7 +241,11 @@ opening_other : (j k : Terminal) (row : Row) (from rest : List Lexeme) (vs : Lis
 opening_other j k row from rest vs e h m =
     let v : MeansView (Opening j ∷ row) from rest vs = means_view m in same-false j k h (sym v.4 ∙ sym (ap front_terminal v.3) ∙ e)
 
-pub begins_listed : (s : Sort) (from : List Lexeme) → front_terminal from ≡ t.ParenL → Unspelled (group_row s) from → BeginsElement s from
+no_group : (s : Sort) (k : Terminal) (from : List Lexeme) → front_terminal from ≡ k → same t.ParenL k ≡ false → SpellNo (group_row s) from
+no_group sorts.Type k from e h rest vs m = opening_other t.ParenL k (Part n.TypeGroup ∷ []) from rest vs e h m
+no_group sorts.Pattern k from e h rest vs m = opening_other t.ParenL k (Part n.PatternGroup ∷ []) from rest vs e h m
+
+pub begins_listed : (s : Sort) (from : List Lexeme) → front_terminal from ≡ t.ParenL → SpellNo (group_row s) from → BeginsElement s from
 begins_listed s from e h = record { some = some_left t.ParenL from e refl; no_word = λ rest vs m. token_other t.Word t.ParenL [] from rest vs e refl m; no_group = h }
 
 -- a token that begins a class and no group
@@ -249,7 +253,7 @@ pub begins_class : (s : Sort) (k : Terminal) (from : List Lexeme) → front_term
 begins_class s k from e b w p = record {
   some = some_left k from e b;
   no_word = λ rest vs m. token_other t.Word k [] from rest vs e w m;
-  no_group = λ rest vs m. opening_other t.ParenL k (Part (group s) ∷ []) from rest vs e p m;
+  no_group = no_group s k from e p;
 }
 
 -- a token that begins no primary
@@ -510,7 +514,7 @@ word_read s from to old new i x p h f q e a =
     (subst (λ (y : List ℕ). Reads (primary s) from (behind from) (node s (named y (front_place from)))) (sym (f h)) (primary_word s from h))))
     (same_behind from to e)
 
-pub group_read : (s : Sort) (from here to : List Lexeme) (old new : List TableRow) (i : ℕ) (p : Place) → front_terminal from ≡ t.ParenL → Unspelled (element_row s) from → p ≡ front_place from →
+pub group_read : (s : Sort) (from here to : List Lexeme) (old new : List TableRow) (i : ℕ) (p : Place) → front_terminal from ≡ t.ParenL → SpellNo (element_row s) from → p ≡ front_place from →
     here ≡ behind from → ReadsInto s (primary s) (mark t.ParenL p ∷ []) (group s) here to old new i → ReadsNode s (primary s) from to old new i
 group_read s from here to old new i p h u q e r = record {
   reads = primary_group s from to r.value (placed_at new i) h u (subst (λ (x : List Lexeme). Reads (group s) x to r.value) e r.reads)
@@ -526,18 +530,18 @@ none_read s from to old new i T a b c d f e x =
     reads_added s (primary s) from to old old new T i (kept_same old) x (primary_none s from to (node s T) a b c d f) (same_behind from to e)
 
 -- ---- variables
-true_no : true ≡ false → ⊥
-true_no e = cc
+no_pattern : sorts.Type ≡ sorts.Pattern → ⊥
+no_pattern e = cc
 
-pub unbound_read : (s : Sort) (from to : List Lexeme) (old new : List TableRow) (i : ℕ) (T : PlacedTree) → binders s ≡ false → front_terminal from ≡ t.Val → to ≡ behind from → IsAdded old new T i →
+pub unbound_read : (s : Sort) (from to : List Lexeme) (old new : List TableRow) (i : ℕ) (T : PlacedTree) → s ≡ sorts.Type → front_terminal from ≡ t.Val → to ≡ behind from → IsAdded old new T i →
     ReadsNode s (post s) from to old new i
 unbound_read sorts.Type from to old new i T b h e a = reads_added sorts.Type n.TypePost from to old old new T i (kept_same old) a (no_variable from to T h) (same_behind from to e)
-unbound_read sorts.Pattern from to old new i T b h e a = absurd (true_no b)
+unbound_read sorts.Pattern from to old new i T b h e a = absurd (no_pattern (sym b))
 
-pub variable_read : (s : Sort) (from next here to : List Lexeme) (old new : List TableRow) (i : ℕ) (p q : Place) (x : List ℕ) → binders s ≡ true → front_terminal from ≡ t.Val → p ≡ front_place from →
+pub variable_read : (s : Sort) (from next here to : List Lexeme) (old new : List TableRow) (i : ℕ) (p q : Place) (x : List ℕ) → s ≡ sorts.Pattern → front_terminal from ≡ t.Val → p ≡ front_place from →
     next ≡ behind from → (front_terminal next ≡ t.Word → x ≡ front_text next) → q ≡ front_place next → here ≡ behind next →
     ReadsInto s (post s) (mark t.Val p ∷ (word x q ∷ [])) n.Bound here to old new i → ReadsNode s (post s) from to old new i
-variable_read sorts.Type from next here to old new i p q x b h pe ne f qe e r = absurd (true_no (sym b))
+variable_read sorts.Type from next here to old new i p q x b h pe ne f qe e r = absurd (no_pattern b)
 variable_read sorts.Pattern from next here to old new i p q x b h pe ne f qe e r = record {
   reads = variable_reads from to x q r.value (placed_at new i) h (λ k. f (ap front_terminal ne ∙ k) ∙ ap front_text ne) (qe ∙ ap front_place ne)
       (subst (λ (y : List Lexeme). Reads n.Bound y to r.value) (e ∙ ap behind ne) r.reads)
@@ -547,9 +551,9 @@ variable_read sorts.Pattern from next here to old new i p q x b h pe ne f qe e r
   fewer = (let u = same_behind from next ne in let v = same_behind next here e in let w = r.fewer in omega arith);
 }
 
-pub bound_read : (s : Sort) (from next to : List Lexeme) (old rows new : List TableRow) (j i : ℕ) (p q : Place) (x : List ℕ) → binders s ≡ true → same t.As (front_terminal from) ≡ true → next ≡ behind from →
+pub bound_read : (s : Sort) (from next to : List Lexeme) (old rows new : List TableRow) (j i : ℕ) (p q : Place) (x : List ℕ) → s ≡ sorts.Pattern → same t.As (front_terminal from) ≡ true → next ≡ behind from →
     ReadsNode s (post s) next to old rows j → IsAdded rows new (Val_at p x q (placed_at rows j)) i → ReadsInto s (post s) (mark t.Val p ∷ (word x q ∷ [])) n.Bound from to old new i
-bound_read sorts.Type from next to old rows new j i p q x b h e r a = absurd (true_no (sym b))
+bound_read sorts.Type from next to old rows new j i p q x b h e r a = absurd (no_pattern b)
 bound_read sorts.Pattern from next to old rows new j i p q x b h e r a = record {
   value = a_pattern (placed_at rows j);
   reads = bound_reads from to (placed_at rows j) (front_same t.As from h) (subst (λ (y : List Lexeme). Reads n.PatternPost y to (a_pattern (placed_at rows j))) e r.reads);
@@ -559,9 +563,9 @@ bound_read sorts.Pattern from next to old rows new j i p q x b h e r a = record 
   fewer = (let u = same_behind from next e in let v = r.fewer in omega arith);
 }
 
-pub any_read : (s : Sort) (from : List Lexeme) (old rows new : List TableRow) (j i : ℕ) (p q : Place) (x : List ℕ) → binders s ≡ true → same t.As (front_terminal from) ≡ false →
+pub any_read : (s : Sort) (from : List Lexeme) (old rows new : List TableRow) (j i : ℕ) (p q : Place) (x : List ℕ) → s ≡ sorts.Pattern → same t.As (front_terminal from) ≡ false →
     IsAdded old rows (Name_at q any_word) j → IsAdded rows new (Val_at p x q (placed_at rows j)) i → ReadsInto s (post s) (mark t.Val p ∷ (word x q ∷ [])) n.Bound from from old new i
-any_read sorts.Type from old rows new j i p q x b h r a = absurd (true_no (sym b))
+any_read sorts.Type from old rows new j i p q x b h r a = absurd (no_pattern b)
 any_read sorts.Pattern from old rows new j i p q x b h r a = record {
   value = absent;
   reads = bound_none from h;

@@ -43,7 +43,7 @@ row_end l rest ws m = let v : MeansView [] l rest ws = means_view m in (sym v.0,
 cons_values : (v w : Value) (vs ws : List Value) → v ≡ w → vs ≡ ws → v ∷ vs ≡ w ∷ ws
 cons_values v w vs ws e f = cc
 
-tail_lexemes : (l k : Lexeme) (ls ks : List Lexeme) → l ∷ ls ≡ k ∷ ks → ls ≡ ks
+pub tail_lexemes : (l k : Lexeme) (ls ks : List Lexeme) → l ∷ ls ≡ k ∷ ks → ls ≡ ks
 tail_lexemes l k ls ks e = cc
 
 head_lexemes : (l k : Lexeme) (ls ks : List Lexeme) → l ∷ ls ≡ k ∷ ks → l ≡ k
@@ -112,10 +112,10 @@ append_means (a_closing o) row rest ws m = a_closing (append_means o row rest ws
 append_means (a_bar ne o) row rest ws m = a_bar ne (append_means o row rest ws m)
 append_means (a_part made one o p) row rest ws m = a_part made one o (append_means p row rest ws m)
 
-same_at : (j k : Terminal) (l x : Lexeme) (ls xs : List Lexeme) → l ∷ ls ≡ x ∷ xs → terminal_at x ≡ j → terminal_at l ≡ k → same j k ≡ true
+pub same_at : (j k : Terminal) (l x : Lexeme) (ls xs : List Lexeme) → l ∷ ls ≡ x ∷ xs → terminal_at x ≡ j → terminal_at l ≡ k → same j k ≡ true
 same_at j k l x ls xs e f g = same-of j k (sym f ∙ ap terminal_at (sym (head_lexemes l x ls xs e)) ∙ g)
 
-other_at : (j k : Terminal) (l x : Lexeme) (ls xs : List Lexeme) → l ∷ ls ≡ x ∷ xs → j ≢ terminal_at x → terminal_at l ≡ k → same j k ≡ false
+pub other_at : (j k : Terminal) (l x : Lexeme) (ls xs : List Lexeme) → l ∷ ls ≡ x ∷ xs → j ≢ terminal_at x → terminal_at l ≡ k → same j k ≡ false
 other_at j k l x ls xs e f g = same-other j k (λ q. f (q ∙ sym g ∙ ap terminal_at (head_lexemes l x ls xs e)))
 
 pub means_fits : (made : Row) (l : Lexeme) (ls rest : List Lexeme) (ws : List Value) (k : Terminal) → terminal_at l ≡ k → Means made (l ∷ ls) rest ws → fits made k ≡ true
@@ -153,7 +153,7 @@ right_true false c h = cc
 false_true : false ≡ true → ⊥
 false_true h = cc
 
-abbrev all_rows : (Row → Bool) → List Row → Bool
+abbrev pub all_rows : (Row → Bool) → List Row → Bool
 all_rows p [] = true
 all_rows p (r ∷ rs) = cond (p r) (all_rows p rs) false
 
@@ -162,7 +162,7 @@ all_of p [] made one h = absurd one
 all_of p (r ∷ rs) made (inl e) h = subst (λ (x : Row). p x ≡ true) (sym e) (left_true (p r) (all_rows p rs) h)
 all_of p (r ∷ rs) made (inr one) h = all_of p rs made one (right_true (p r) (all_rows p rs) h)
 
-abbrev needs : ℕ → Row → Bool
+abbrev pub needs : ℕ → Row → Bool
 needs zero row = false
 needs (suc f) [] = false
 needs (suc f) (Token j ∷ row) = true
@@ -171,7 +171,7 @@ needs (suc f) (Unless j ∷ row) = true
 needs (suc f) (Closed ∷ row) = needs f row
 needs (suc f) (Part part ∷ row) = all_rows (λ (r : Row). needs f (r ++ row)) (rules part)
 
-needs_token : (f : ℕ) (row : Row) (rest : List Lexeme) (ws : List Value) → needs f row ≡ true → Means row [] rest ws → ⊥
+pub needs_token : (f : ℕ) (row : Row) (rest : List Lexeme) (ws : List Value) → needs f row ≡ true → Means row [] rest ws → ⊥
 needs_token zero row rest ws h m = false_true h
 needs_token (suc f) [] rest ws h m = false_true h
 needs_token (suc f) (Token j ∷ row) rest ws h m = let v : MeansView (Token j ∷ row) [] rest ws = means_view m in nil_lexemes v.0 v.1 v.3

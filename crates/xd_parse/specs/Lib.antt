@@ -4,6 +4,7 @@ pub mod Fits
 pub mod Machine
 pub mod FirstFault
 pub mod Text
+pub mod Faults
 pub mod Merged
 pub mod Values
 pub mod Means

@@ -6,15 +6,14 @@ use Rattle.xd_syntax.specs.Placed.{PlacedTree, placed_at}
 use Rattle.xd_lex.specs.Tokens.{Lexeme}
 use Rattle.xd_parse.specs.declared.grammar.Nonterminal.{Nonterminal}
 use Rattle.xd_parse.specs.declared.grammar.Nonterminal.TheVariants as n
-use Rattle.xd_parse.specs.declared.grammar.Symbol.TheVariants.{Token, Opening, Part}
+use Rattle.xd_parse.specs.declared.grammar.Symbol.TheVariants.{Token}
 use Rattle.xd_parse.specs.declared.grammar.Terminal.TheVariants as t
-use Rattle.xd_parse.specs.Grammar.{Row as GrammarRow}
 use Rattle.xd_parse.specs.declared.machine.Sort.{Sort}
 use Rattle.xd_parse.specs.declared.machine.Sort.TheVariants as sorts
 use Rattle.xd_parse.specs.declared.nodes.NodeForm.{NodeForm}
 use Rattle.xd_parse.specs.declared.nodes.NodeForm.TheVariants.{Empty, Text, Name, Elem, Seq, Alt, Star, Plus, Opt, Val}
 use Rattle.xd_parse.specs.Values.{Value, a_type, types, a_pattern, patterns, value_of}
-use Rattle.xd_parse.specs.Reading.{Reads, Unspelled}
+use Rattle.xd_parse.specs.Reading.{Reads, SpellNo, group_row}
 
 -- patterns bind variables
 abbrev pub binders : Sort → Bool
@@ -79,18 +78,11 @@ abbrev pub content : Sort → Nonterminal
 content sorts.Type = n.TypeContent
 content sorts.Pattern = n.PatternContent
 
--- the rows that a `(` begins
-abbrev pub group_row : Sort → GrammarRow
-group_row s = Opening t.ParenL ∷ (Part (group s) ∷ [])
-
-abbrev pub element_row : Sort → GrammarRow
-element_row s = Part n.Class ∷ (Part (content s) ∷ [])
-
 -- a token comes next, and from here on neither a word nor a group is spelled
 pub record BeginsElement (sort : Sort) (from : List Lexeme) : Type 0 where
   pub some : 0 < length from
-  pub no_word : Unspelled (Token t.Word ∷ []) from
-  pub no_group : Unspelled (group_row sort) from
+  pub no_word : SpellNo (Token t.Word ∷ []) from
+  pub no_group : SpellNo (group_row sort) from
 
 abbrev pub node : Sort → PlacedTree → Value
 node sorts.Type T = a_type T

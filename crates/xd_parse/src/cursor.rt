@@ -8,10 +8,10 @@ ghost use Rattle.xd_syntax.specs.Words.{has_word, keywords};
 ghost use Rattle.xd_parse.specs.declared.grammar.Terminal.TheVariants as terminals;
 ghost use Rattle.xd_doc.specs.Word.{is_word};
 ghost use Rattle.xd_parse.specs.Fits.{same};
-ghost use Rattle.xd_parse.specs.Reading.{behind, front_place, front_terminal, front_text};
+ghost use Rattle.xd_parse.specs.Reading.{SpellNo, behind, element_row, front_place, front_terminal, front_text, group_row};
 
 use crate::grammar::Terminal;
-use crate::machine::same;
+use crate::machine::{Course, Reading, Sort, course_at, same};
 use crate::text::terminal;
 use std::alloc::Global;
 use std::marker::Model;
@@ -110,6 +110,30 @@ impl<'a> Cursor<'a> {
                 _ => "_",
             },
             None => "_",
+        }
+    }
+
+    /// Whether the parenthesis that comes next opens the labels of a class, and no type or pattern in parentheses.
+    ///
+    /// Looks at the words and bars behind it, up to the first token that tells: so no token is looked at for more than
+    /// one parenthesis.
+    pub fn opens_class(&self, sort: Sort) -> bool
+        requires { front_terminal self.now ≡ terminals.ParenL }
+        ensures listed { result ≡ true → SpellNo (group_row sort) self.now }
+        ensures grouped { result ≡ false → SpellNo (element_row sort) self.now }
+    {
+        let mut ahead = Cursor { left: self.left };
+        let mut reading = Reading::Opened(sort);
+        ahead.step();
+        'tokens: loop {
+            match course_at(reading, ahead.peek()) {
+                Course::Both(next) => {
+                    reading = next;
+                    ahead.step();
+                }
+                Course::Main => return false,
+                Course::Listed => return true,
+            }
         }
     }
 

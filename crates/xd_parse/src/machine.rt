@@ -223,7 +223,7 @@ fn at_name(sort: Sort, kind: Terminal) -> Course
 }
 
 /// Which reading goes on.
-fn course_at(reading: Reading, kind: Terminal) -> Course
+pub(crate) fn course_at(reading: Reading, kind: Terminal) -> Course
     ensures { result ≡ course reading kind }
 {
     match reading {

@@ -41,9 +41,9 @@ pub(crate) trait Nodes {
 
     ghost at: { Self.Id → ℕ };
 
-    /// Whether nodes may bind variables.
-    fn binds() -> bool
-        ensures { result ≡ binders sort };
+    /// Whether the nodes are those of types or of patterns.
+    fn sort() -> Sort
+        ensures { result ≡ sort };
 
     /// One more node.
     fn add(&mut self, place: Place, form: NodeForm<Self::Id>) -> Result<Self::Id, NoMemory>
@@ -75,8 +75,8 @@ impl Nodes for Types {
 
     ghost at = { λ id. id.at };
 
-    fn binds() -> bool {
-        false
+    fn sort() -> Sort {
+        Sort::Type
     }
 
     fn add(&mut self, place: Place, form: NodeForm<TypeId>) -> Result<TypeId, NoMemory>
@@ -129,8 +129,8 @@ impl Nodes for Patterns {
 
     ghost at = { λ id. id.at };
 
-    fn binds() -> bool {
-        true
+    fn sort() -> Sort {
+        Sort::Pattern
     }
 
     fn add(&mut self, place: Place, form: NodeForm<PatternId>) -> Result<PatternId, NoMemory>

@@ -1,5 +1,9 @@
-use Rattle.std.proofs.Common.{ap, map, sym, ◌∙◌}
+use Rattle.std.proofs.Common.{ℕ, List, ap, map, sym, ◌∙◌, subst}
 use Rattle.std.proofs.lemmas.Result.{IfOk-weaker}
+use Rattle.xd_syntax.specs.Placed.{Name_at}
+use Rattle.xd_parse.specs.declared.machine.Sort.{Sort}
+use Rattle.xd_parse.specs.Reading.{SpellNo, element_row}
+use Rattle.xd_parse.specs.Nodes.{IsAdded}
 use Rattle.xd_parse.proofs.Merging.{number_added}
 use Rattle.xd_parse.proofs.NodeRows.{branches_on, parts_on, tree_read, branch_read, content_empty_read, content_full_read, group_empty_read, group_full_read, element_read, part_read, word_read, group_read, none_read, unbound_read, variable_read, bound_read, any_read}
 use Rattle.xd_parse.proofs.trees.+trees.Goals as goal
@@ -63,7 +67,7 @@ pub read_primary-returns-else-opens_class : goal.read_primary-returns-else-opens
 read_primary-returns-else-opens_class g t c =
     let h = sym c.peek.ensures ∙ c.in-ParenL.is in
     IfOk-weaker c.read_group.result _ _
-    (λ id r. group_read g.N.Nodes.sort _ _ _ _ _ _ _ h (c.opens_class.ensures.grouped h c.if-opens_class.false g.N.Nodes.sort) c.step-place.ensures.place c.step-place.ensures.left r)
+    (λ id r. group_read g.N.Nodes.sort _ _ _ _ _ _ _ h (subst (λ (k : Sort). SpellNo (element_row k) c.args.cursor.now) c.sort.ensures (c.opens_class.ensures.grouped c.if-opens_class.false)) c.step-place.ensures.place c.step-place.ensures.left r)
     c.read_group.ensures
 
 pub read_primary-returns-in_default : goal.read_primary-returns-in_default
@@ -73,6 +77,23 @@ read_primary-returns-in_default g t c =
     (λ id a. none_read g.N.Nodes.sort _ _ _ _ _ _ (λ e. no.not-Word (c.peek.ensures ∙ e)) (λ e. no.not-ParenL (c.peek.ensures ∙ e)) (λ e. no.not-Tilde (c.peek.ensures ∙ e))
     (λ e. no.not-Caret (c.peek.ensures ∙ e)) (λ e. no.not-Label (c.peek.ensures ∙ e)) c.step.ensures.left a) c.add.ensures
 
-pub read_variable-returns-then-not-binds : goal.read_variable-returns-then-not-binds
-read_variable-returns-then-not-binds g t c =
-    IfOk-weaker c.add.result _ _ (λ id a. unbound_read g.N.Nodes.sort _ _ _ _ _ _ ? c.requires c.step-place.ensures.left a) c.add.ensures
+pub read_bound-returns-then-at : goal.read_bound-returns-then-at
+read_bound-returns-then-at g t c =
+    IfOk-weaker c.add.result _ _ (λ id a. bound_read g.N.Nodes.sort _ _ _ _ _ _ _ _ _ _ _ c.requires (sym c.at.ensures ∙ c.if-at.true) c.step.ensures.left c.in_ok-bound.ensures a) c.add.ensures
+
+pub read_bound-returns : goal.read_bound-returns
+read_bound-returns g t c =
+    IfOk-weaker c.add-3.result _ _ (λ id a. any_read g.N.Nodes.sort _ _ _ _ _ _ _ _ _ c.requires (sym c.at.ensures ∙ c.if-at.false)
+    (subst (λ (x : List ℕ). IsAdded (g.N.Nodes.rows c.args.nodes.now) (g.N.Nodes.rows c.add-2.new.self) (Name_at c.args.variable.place x) (g.N.Nodes.at c.in_ok-bound-2.bound)) c.in_ok-any.ensures c.in_ok-bound-2.ensures) a)
+    c.add-3.ensures
+
+pub read_variable-returns-in-Type : goal.read_variable-returns-in-Type
+read_variable-returns-in-Type g t c =
+    IfOk-weaker c.add.result _ _ (λ id a. unbound_read g.N.Nodes.sort _ _ _ _ _ _ (sym c.sort.ensures ∙ c.in-Type.is) c.requires c.step-place.ensures.left a) c.add.ensures
+
+pub read_variable-returns-in_ok-variable-in-Pattern : goal.read_variable-returns-in_ok-variable-in-Pattern
+read_variable-returns-in_ok-variable-in-Pattern g t c =
+    let w = c.in_ok-variable-in-Pattern.ensures in
+    IfOk-weaker c.read_bound.result _ _
+    (λ id r. variable_read g.N.Nodes.sort _ _ _ _ _ _ _ _ _ _ (sym c.sort.ensures ∙ c.in-Pattern.is) c.requires c.step-place.ensures.place c.step-place.ensures.left w.word w.place w.left r)
+    c.read_bound.ensures
