@@ -1,13 +1,13 @@
 -- The parts that nodes are as parts of a sequence, and as branches of an alternative.
-use Rattle.std.proofs.Common.{◌≡◌, ◌≢◌, ℕ, zero, suc, ◌+◌, ◌<◌, ◌≤◌, arith, Bool, true, false, ◌||◌, List, [], ◌∷◌, ◌++◌, map, length, take, drop, flat_map, refl, ap, sym, ◌∙◌, subst, length-append, append-nil, append_assoc, lit<, ◌==◌}
+use Rattle.std.proofs.Common.{◌≡◌, ℕ, ◌<◌, ◌≤◌, arith, Bool, true, false, ◌||◌, List, [], ◌∷◌, ◌++◌, map, length, take, drop, flat_map, refl, ap, sym, ◌∙◌, subst, length-append, append-nil, append_assoc, lit<, ◌==◌}
 use Rattle.std.proofs.lemmas.List.{map-append, take-append-drop, drop_all, length-map}
 use Rattle.std.specs.List.{AllByRecursion}
 use Rattle.xd_base.specs.declared.Place.{Place}
-use Rattle.xd_syntax.specs.Tree.{Tree, Empty, Text, Name, Elem, Seq, Alt, Star, Plus, Opt, Val, alt_of, seq_of, is_empty, is_seq, is_alt}
-use Rattle.xd_syntax.specs.Table.{Row, Form, KeepsRows, empty_form, text_form, name_form, elem_form, seq_form, alt_form, star_form, plus_form, opt_form, val_form, form_tree, tree_at, CanFollow, IsPart, IsSeqPart, IsAltPart}
+use Rattle.xd_syntax.specs.Tree.{Tree, is_empty, is_seq, is_alt}
+use Rattle.xd_syntax.specs.Table.{Row, Form, empty_form, text_form, name_form, elem_form, seq_form, alt_form, star_form, plus_form, opt_form, val_form, form_tree, tree_at, CanFollow, IsSeqPart, IsAltPart}
 use Rattle.xd_syntax.specs.Placed.{PlacedTree, Empty_at, Text_at, Name_at, Elem_at, Seq_at, Alt_at, Star_at, Plus_at, Opt_at, Val_at, placed_at, placed_form, placed_seq, placed_alt, place_of, unplaced}
 use Rattle.xd_syntax.proofs.Trees.{tree_kept}
-use Rattle.xd_syntax.proofs.PlacedTrees.{placed_kept, unplaced_at}
+use Rattle.xd_syntax.proofs.PlacedTrees.{unplaced_at}
 use Rattle.xd_parse.specs.Merged.{parts_of_seq, parts_of_alt}
 use Rattle.xd_parse.specs.Nodes.{AddsParts}
 

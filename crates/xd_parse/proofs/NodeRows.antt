@@ -1,5 +1,5 @@
 -- The rows of types and of patterns.
-use Rattle.std.proofs.Common.{◌≡◌, ◌≢◌, ℕ, ◌+◌, ◌<◌, ◌≤◌, arith, ◌++◌, ◌⊎◌, Bool, true, false, cond, List, [], ◌∷◌, map, length, Some, refl, sym, ap, subst, ◌∙◌, inl, inr, length-append, append-nil, append_assoc}
+use Rattle.std.proofs.Common.{◌≡◌, ◌≢◌, ℕ, ◌+◌, ◌<◌, ◌≤◌, arith, ◌++◌, true, false, List, [], ◌∷◌, map, length, Some, refl, sym, ap, subst, ◌∙◌, inl, inr, length-append, append-nil, append_assoc}
 use Rattle.std.proofs.lemmas.List.{map-append}
 use Rattle.std.specs.List.{AllByRecursion}
 use Rattle.std.specs.Str.{bytes_eq}
@@ -20,13 +20,13 @@ use Rattle.xd_parse.specs.declared.grammar.Terminal.TheVariants as t
 use Rattle.xd_parse.specs.declared.machine.Sort.{Sort}
 use Rattle.xd_parse.specs.declared.machine.Sort.TheVariants as sorts
 use Rattle.xd_parse.specs.Grammar.{Row, rules, IsOneOf}
-use Rattle.xd_parse.specs.Fits.{same, fits, first_fit}
+use Rattle.xd_parse.specs.Fits.{same, first_fit}
 use Rattle.xd_parse.specs.Merged.{sequence, alternative}
 use Rattle.xd_parse.specs.Values.{Value, mark, word, absent, a_type, a_pattern, class, named, repeated, value_of}
-use Rattle.xd_parse.specs.Means.{Means, terminal_at}
+use Rattle.xd_parse.specs.Means.{Means}
 use Rattle.xd_parse.specs.Reading.{Reads, SpellNo, group_row, element_row, front_terminal, front_place, front_text, behind}
 use Rattle.xd_parse.specs.Nodes.{whole, more_branches, branch, more_parts, post, primary, group, content, node, nodes, BeginsElement, IsAdded, ReadsNode, ReadsInto}
-use Rattle.xd_parse.proofs.Derive.{same-of, same-other, same-true, same-false, may, any_of, is_group}
+use Rattle.xd_parse.proofs.Derive.{same-other, same-true, same-false, may, is_group}
 use Rattle.xd_parse.proofs.Rows.{MeansView, means_view, ReadsRow, row_end, row_token, row_opening, row_closed, row_unless, row_part, part_one, part_fit, by_row, empty_means, means_may}
 
 -- ---- tokens

@@ -1,4 +1,3 @@
-use Rattle.xd_parse.proofs.NodeRows.{whole_reads}
 use Rattle.std.proofs.Common.{sym, ◌∙◌}
 use Rattle.xd_parse.proofs.Merging.{two_branches}
 use Rattle.xd_parse.proofs.merge.alternative.Goals as goal

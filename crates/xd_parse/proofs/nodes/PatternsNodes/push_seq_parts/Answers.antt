@@ -1,7 +1,7 @@
 use Rattle.std.proofs.Common.{true, ap, sym, ◌∙◌}
 use Rattle.xd_syntax.specs.declared.patterns.PatternId.{PatternId}
 use Rattle.xd_syntax.specs.Patterns.{form_of_pattern}
-use Rattle.xd_parse.proofs.Merging.{adds_none, adds_seq, adds_one_seq, merges_in_seq, numbers_added, number_added}
+use Rattle.xd_parse.proofs.Merging.{adds_seq, adds_one_seq, merges_in_seq, numbers_added, number_added}
 use Rattle.xd_parse.proofs.PatternForms.{pattern_not_seq}
 use Rattle.xd_parse.proofs.nodes.PatternsNodes.push_seq_parts.Goals as goal
 

@@ -1,7 +1,7 @@
 use Rattle.std.proofs.Common.{false, ap, sym, ◌∙◌}
 use Rattle.xd_syntax.specs.declared.types.TypeId.{TypeId}
 use Rattle.xd_syntax.specs.Types.{form_of}
-use Rattle.xd_parse.proofs.Merging.{adds_none, adds_seq, adds_one_seq, merges_in_seq, numbers_added, number_added}
+use Rattle.xd_parse.proofs.Merging.{adds_seq, adds_one_seq, merges_in_seq, numbers_added, number_added}
 use Rattle.xd_parse.proofs.TypeForms.{type_not_seq}
 use Rattle.xd_parse.proofs.nodes.TypesNodes.push_seq_parts.Goals as goal
 
