@@ -115,16 +115,16 @@ PostWithin l d T = plain T × (d + post_depth T ≤ l)
 abbrev pub PrimWithin : (l d : ℕ) → PlacedTree → Type 0
 PrimWithin l d T = plain T × (d + prim_depth T ≤ l)
 
-seq_any : (l d : ℕ) (T : PlacedTree) → SeqWithin l d T → AnyWithin l d T
+pub seq_any : (l d : ℕ) (T : PlacedTree) → SeqWithin l d T → AnyWithin l d T
 seq_any l d T h = let u = up_seq T in let k = h.1 in (h.0, omega arith)
 
-post_seq : (l d : ℕ) (T : PlacedTree) → PostWithin l d T → SeqWithin l d T
+pub post_seq : (l d : ℕ) (T : PlacedTree) → PostWithin l d T → SeqWithin l d T
 post_seq l d T h = let u = up_post T in let k = h.1 in (h.0, omega arith)
 
-prim_post : (l d : ℕ) (T : PlacedTree) → PrimWithin l d T → PostWithin l d T
+pub prim_post : (l d : ℕ) (T : PlacedTree) → PrimWithin l d T → PostWithin l d T
 prim_post l d T h = let u = up_prim T in let k = h.1 in (h.0, omega arith)
 
-any_prim : (l d : ℕ) (T : PlacedTree) → AnyWithin l (suc d) T → PrimWithin l d T
+pub any_prim : (l d : ℕ) (T : PlacedTree) → AnyWithin l (suc d) T → PrimWithin l d T
 any_prim l d T h = let u = down_prim T in let k = h.1 in (h.0, omega arith)
 
 left_of : (a b d l : ℕ) → d + max a b ≤ l → d + a ≤ l
@@ -199,7 +199,7 @@ merged_within : (l d : ℕ) (p : Place) (Ts : List PlacedTree) → (Ts ≡ [] �
 merged_within l d p [] e a = (tt, e refl)
 merged_within l d p (T ∷ Ts) e a = placed_seq_within l d (place_of T) T Ts a.0 a.1
 
-sequence_within : (l d : ℕ) (T : PlacedTree) (Ts : List PlacedTree) → PostWithin l d T → AllPosts l d Ts → SeqWithin l d (sequence T Ts)
+pub sequence_within : (l d : ℕ) (T : PlacedTree) (Ts : List PlacedTree) → PostWithin l d T → AllPosts l d Ts → SeqWithin l d (sequence T Ts)
 sequence_within l d T [] h a = post_seq l d T h
 sequence_within l d T (U ∷ Us) h a = merged_within l d (place_of T) (flat_map parts_of_seq (T ∷ (U ∷ Us))) (λ e. empty_first l d T (flat_map parts_of_seq (U ∷ Us)) h e) (all_posts l d (T ∷ (U ∷ Us)) (h, a))
 
@@ -249,16 +249,16 @@ branches_within : (l d : ℕ) (p : Place) (Ts : List PlacedTree) → (Ts ≡ [] 
 branches_within l d p [] e a = absurd (e refl)
 branches_within l d p (T ∷ Ts) e a = placed_alt_within l d p T Ts a.0 a.1
 
-alternative_within : (l d : ℕ) (T : PlacedTree) (Ts : List PlacedTree) → SeqWithin l d T → AllSeqs l d Ts → AnyWithin l d (alternative T Ts)
+pub alternative_within : (l d : ℕ) (T : PlacedTree) (Ts : List PlacedTree) → SeqWithin l d T → AllSeqs l d Ts → AnyWithin l d (alternative T Ts)
 alternative_within l d T [] h a = seq_any l d T h
 alternative_within l d T (U ∷ Us) h a = branches_within l d (place_of T) (flat_map parts_of_alt (T ∷ (U ∷ Us))) (λ e. some_branch T (flat_map parts_of_alt (U ∷ Us)) e) (all_seqs l d (T ∷ (U ∷ Us)) (h, a))
 
-repeated_within : (l d : ℕ) (k : Terminal) (T : PlacedTree) → PrimWithin l d T → PostWithin l d (repeated k T)
+pub repeated_within : (l d : ℕ) (k : Terminal) (T : PlacedTree) → PrimWithin l d T → PostWithin l d (repeated k T)
 repeated_within l d t.Star T h = h
 repeated_within l d t.Plus T h = h
 repeated_within l d k T h = h
 
-named_within : (l d : ℕ) (x : List ℕ) (p : Place) → d ≤ l → PrimWithin l d (named x p)
+pub named_within : (l d : ℕ) (x : List ℕ) (p : Place) → d ≤ l → PrimWithin l d (named x p)
 named_within l d x p h = go (bytes_eq string_word x)
   where
     go : (b : Bool) → PrimWithin l d (cond b (Text_at p) (Name_at p x))

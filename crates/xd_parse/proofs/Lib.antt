@@ -9,9 +9,15 @@ pub mod TypeForms
 pub mod PatternForms
 pub mod NodeRows
 pub mod Depth
+pub mod Nesting
 pub mod Spelled
 pub mod Ahead
 pub mod ByteOrder
 pub mod ClassRows
 pub mod Keywords
 pub mod TextLemmas
+pub mod Grown
+pub mod JoinLemmas
+pub mod ExprRows
+pub mod Readers
+pub mod Adding

@@ -10,3 +10,4 @@ pub mod Values
 pub mod Means
 pub mod Reading
 pub mod Nodes
+pub mod Grows

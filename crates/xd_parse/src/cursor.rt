@@ -2,7 +2,7 @@
 
 ghost use Rattle.std.specs.Prelude.{All, ◌≡◌, ◌-◌, false, true, map, take, length, IfOk};
 ghost use Rattle.xd_lex.specs.Tokens.{lexeme_of};
-ghost use Rattle.xd_lex.specs.Spelled.{IsSpelling};
+ghost use Rattle.xd_lex.specs.Spelled.{IsSpelling, unescaped};
 ghost use Rattle.xd_lex.specs.declared.Kind.TheVariants as kinds;
 ghost use Rattle.xd_syntax.specs.Words.{has_word, keywords};
 ghost use Rattle.xd_parse.specs.declared.grammar.Terminal.TheVariants as terminals;
@@ -16,13 +16,20 @@ use crate::text::terminal;
 use std::alloc::Global;
 use std::marker::Model;
 use xd_base::Place;
-use xd_doc::{Label, NoMemory};
-use xd_lex::{Kind, Token};
+use xd_doc::{Label, NoMemory, Text};
+use xd_lex::{Kind, Token, unescape};
 
 /// A word and its place.
 #[derive(Drop)]
 pub struct Word {
     pub word: Label,
+    pub place: Place,
+}
+
+/// A quoted text, without its quotes and escapes, and its place.
+#[derive(Drop)]
+pub struct Quoted {
+    pub text: Text,
     pub place: Place,
 }
 
@@ -160,6 +167,31 @@ impl<'a> Cursor<'a> {
                 _ => "_",
             },
             None => "_",
+        }
+    }
+
+    /// Takes the next token as a quoted text. Any other token, which no text has there that spells, is taken as an
+    /// empty text.
+    pub fn quoted(&mut self, alloc: Global) -> Result<Quoted, NoMemory>
+        ensures text { IfOk result (λ q. front_terminal self.old ≡ terminals.Text → q.text ≡ unescaped (front_text self.old)) }
+        ensures place { IfOk result (λ q. q.place ≡ front_place self.old) }
+        ensures left { IfOk result (λ q. self.new ≡ behind self.old) }
+    {
+        let text = self.unescaped_text(alloc)?;
+        let place = self.step();
+        Ok(Quoted { text, place })
+    }
+
+    /// What the next token stands for where it is a quoted text, else an empty text.
+    fn unescaped_text(&self, alloc: Global) -> Result<Text, NoMemory>
+        ensures { IfOk result (λ text. front_terminal self.now ≡ terminals.Text → text ≡ unescaped (front_text self.now)) }
+    {
+        match self.left.first() {
+            Some(token) => match token.kind {
+                Kind::Text => unescape(alloc, token.text),
+                _ => Text::new(alloc, ""),
+            },
+            None => Text::new(alloc, ""),
         }
     }
 }

@@ -3,13 +3,17 @@
 
 mod classes;
 mod cursor;
+mod expressions;
 mod fault;
 mod grammar;
+mod joining;
 mod machine;
 mod merge;
 mod nodes;
+mod patterns;
 mod text;
 mod trees;
+mod types;
 
 pub use fault::{FirstFault, Refusal, first_fault};
 pub use grammar::{Nonterminal, Symbol, Terminal};

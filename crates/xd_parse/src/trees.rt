@@ -3,17 +3,14 @@
 //! They have one grammar, but for the variables of patterns. Each function reads what its nonterminal stands for; where
 //! no token comes that the nonterminal begins with, it may answer any node.
 
-ghost use Rattle.std.specs.Prelude.{◌≡◌, ◌<◌, ◌≤◌, ◌∷◌, [], false, length, IfOk, OnOk};
+ghost use Rattle.std.specs.Prelude.{◌≡◌, ◌<◌, ◌≤◌, ◌∷◌, [], false, length, IfOk};
 ghost use Rattle.xd_syntax.specs.Words.{has_word, keywords};
-ghost use Rattle.xd_syntax.specs.Table.{KeepsRows};
 ghost use Rattle.xd_syntax.specs.Placed.{placed_at};
-ghost use Rattle.xd_syntax.specs.Types.{BelongsTo};
-ghost use Rattle.xd_syntax.specs.Patterns.{IsPattern};
 ghost use Rattle.xd_parse.specs.declared.grammar.Nonterminal.TheVariants as nonterminals;
 ghost use Rattle.xd_parse.specs.declared.grammar.Terminal.TheVariants as terminals;
 ghost use Rattle.xd_parse.specs.declared.machine.Sort.TheVariants as sorts;
-ghost use Rattle.xd_parse.specs.Values.{a_type, a_pattern, mark, named, word};
-ghost use Rattle.xd_parse.specs.Reading.{Reads, front_terminal};
+ghost use Rattle.xd_parse.specs.Values.{mark, named, word};
+ghost use Rattle.xd_parse.specs.Reading.{front_terminal};
 ghost use Rattle.xd_parse.specs.Nodes.{whole, branch, post, primary, group, content, node, IsAdded, ReadsNode, ReadsInto, BeginsElement};
 
 use crate::classes::read_class;
@@ -25,35 +22,6 @@ use crate::nodes::{NodeForm, Nodes};
 use std::alloc::Global;
 use xd_base::Place;
 use xd_doc::{Label, NoMemory};
-use xd_syntax::{PatternId, Patterns, TypeId, Types};
-
-/// A type.
-pub(crate) fn read_type(
-    alloc: Global,
-    cursor: &mut Cursor<'_>,
-    types: &mut Types,
-) -> Result<TypeId, NoMemory>
-    ensures reads { IfOk result (λ id. Reads nonterminals.Type cursor.old cursor.new (a_type (placed_at types.new id.at))) }
-    ensures belongs { IfOk result (BelongsTo types.new) }
-    ensures keeps { OnOk result (KeepsRows types.old types.new) }
-    ensures fewer { OnOk result (length cursor.new ≤ length cursor.old) }
-{
-    read_tree(alloc, cursor, types)
-}
-
-/// A pattern with no `|` outside parentheses and brackets.
-pub(crate) fn read_pattern_seq(
-    alloc: Global,
-    cursor: &mut Cursor<'_>,
-    patterns: &mut Patterns,
-) -> Result<PatternId, NoMemory>
-    ensures reads { IfOk result (λ id. Reads nonterminals.PatternSeq cursor.old cursor.new (a_pattern (placed_at patterns.new id.at))) }
-    ensures belongs { IfOk result (IsPattern patterns.new) }
-    ensures keeps { OnOk result (KeepsRows patterns.old patterns.new) }
-    ensures fewer { OnOk result (length cursor.new ≤ length cursor.old) }
-{
-    read_branch(alloc, cursor, patterns)
-}
 
 /// The node of a word: `String` is the type of texts.
 fn add_named<N: Nodes>(nodes: &mut N, word: Word) -> Result<N::Id, NoMemory>
