@@ -4,6 +4,10 @@ pub mod Course
 pub mod Stands
 pub mod Ends
 pub mod Rows
+pub mod Merging
+pub mod TypeForms
+pub mod PatternForms
+pub mod NodeRows
 pub mod Depth
 pub mod Nesting
 pub mod Spelled

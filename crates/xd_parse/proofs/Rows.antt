@@ -220,7 +220,7 @@ part_needs n.MoreParens = refl
 part_needs n.Clause = refl
 part_needs n.MoreClauses = refl
 
-empty_means : (part : Nonterminal) (rest : List Lexeme) (ws : List Value) → Means (Part part ∷ []) [] rest ws → ⊥
+pub empty_means : (part : Nonterminal) (rest : List Lexeme) (ws : List Value) → Means (Part part ∷ []) [] rest ws → ⊥
 empty_means part rest ws m = needs_token 12 (Part part ∷ []) rest ws (part_needs part) m
 
 -- a nonterminal, by the row that the next token leaves

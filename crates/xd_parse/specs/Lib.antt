@@ -9,6 +9,7 @@ pub mod Merged
 pub mod Values
 pub mod Means
 pub mod Reading
+pub mod Nodes
 pub mod Grows
 pub mod Definitions
 pub mod ParseErrors

@@ -9,9 +9,12 @@ mod fault;
 mod grammar;
 mod joining;
 mod machine;
+mod merge;
+mod nodes;
 mod parse;
 mod patterns;
 mod text;
+mod trees;
 mod types;
 
 pub use fault::{FirstFault, Refusal, first_fault};

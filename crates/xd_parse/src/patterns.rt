@@ -1,4 +1,4 @@
-//! Patterns from tokens (to be written).
+//! Patterns from tokens.
 
 ghost use Rattle.std.specs.Prelude.{◌≤◌, length, IfOk};
 ghost use Rattle.xd_syntax.specs.Table.{KeepsRows};
@@ -9,6 +9,7 @@ ghost use Rattle.xd_parse.specs.Values.{a_pattern};
 ghost use Rattle.xd_parse.specs.Reading.{Reads};
 
 use crate::cursor::Cursor;
+use crate::trees::read_branch;
 use std::alloc::Global;
 use xd_doc::NoMemory;
 use xd_syntax::{PatternId, Patterns};
@@ -24,5 +25,5 @@ pub fn read_pattern_seq(
     ensures keeps { IfOk result (λ id. KeepsRows patterns.old patterns.new) }
     ensures left { IfOk result (λ id. length cursor.new ≤ length cursor.old) }
 {
-    Err(NoMemory)
+    read_branch(alloc, cursor, patterns)
 }
