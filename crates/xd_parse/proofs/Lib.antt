@@ -24,3 +24,4 @@ pub mod JoinLemmas
 pub mod ExprRows
 pub mod Readers
 pub mod Adding
+pub mod Kept
