@@ -22,8 +22,8 @@ pub fn read_type(
 ) -> Result<TypeId, NoMemory>
     ensures reads { IfOk result (λ id. Reads nonterminals.Type cursor.old cursor.new (a_type (placed_at types.new id.at))) }
     ensures belongs { IfOk result (BelongsTo types.new) }
-    ensures keeps { IfOk result (λ id. KeepsRows types.old types.new) }
-    ensures left { IfOk result (λ id. length cursor.new ≤ length cursor.old) }
+    ensures keeps { KeepsRows types.old types.new }
+    ensures fewer { IfOk result (λ id. length cursor.new ≤ length cursor.old) }
 {
     read_tree(alloc, cursor, types)
 }
