@@ -72,9 +72,6 @@ part_more sorts.Type from middle to T Ts e r q = fit_at n.MoreTypeParts _ t.Comm
 part_more sorts.Pattern from middle to T Ts e r q = fit_at n.MorePatternParts _ t.Comma from to _ e refl refl (row_token t.Comma _ from to _ (row_part n.PatternPost _ (behind from) middle to _ _ r (row_part n.MorePatternParts _ middle to to _ _ q (row_end to))))
 
 -- none more
-second_fit : (j : Terminal) (one two : Row) (k : Terminal) → same j k ≡ false → first_fit ((Token j ∷ one) ∷ ((Unless j ∷ []) ∷ [])) k ≡ Some (Unless j ∷ [])
-second_fit j one two k h = rw h refl
-
 pub branch_end : (s : Sort) (from : List Lexeme) → same t.Bar (front_terminal from) ≡ false → Reads (more_branches s) from from (nodes s [])
 branch_end sorts.Type from h = part_fit n.MoreTypes (Unless t.Bar ∷ []) from from [] refl (rw h refl) (row_unless t.Bar [] from from [] (row_end from))
 branch_end sorts.Pattern from h = part_fit n.MorePatterns (Unless t.Bar ∷ []) from from [] refl (rw h refl) (row_unless t.Bar [] from from [] (row_end from))

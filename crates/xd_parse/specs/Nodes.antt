@@ -20,6 +20,7 @@ abbrev pub binders : Sort → Bool
 binders sorts.Type = false
 binders sorts.Pattern = true
 
+-- what a node is, its parts as numbers of nodes
 abbrev pub shape : {I : Type 0} → (I → ℕ) → NodeForm I → Form
 shape at Empty = empty_form
 shape at Text = text_form
@@ -84,6 +85,7 @@ pub record BeginsElement (sort : Sort) (from : List Lexeme) : Type 0 where
   pub no_word : SpellNo (Token t.Word ∷ []) from
   pub no_group : SpellNo (group_row sort) from
 
+-- a tree, and trees, as what a symbol stands for
 abbrev pub node : Sort → PlacedTree → Value
 node sorts.Type T = a_type T
 node sorts.Pattern T = a_pattern T
