@@ -17,7 +17,11 @@ pub mod ClassRows
 pub mod Keywords
 pub mod TextLemmas
 pub mod Grown
+pub mod DefinitionRows
+pub mod Turned
+mod ShownParts
 pub mod JoinLemmas
 pub mod ExprRows
 pub mod Readers
 pub mod Adding
+pub mod Kept

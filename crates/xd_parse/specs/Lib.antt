@@ -11,3 +11,5 @@ pub mod Means
 pub mod Reading
 pub mod Nodes
 pub mod Grows
+pub mod Definitions
+pub mod ParseErrors

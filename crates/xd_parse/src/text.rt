@@ -99,7 +99,7 @@ fn place_at(all: &[Token], index: usize) -> Place
 }
 
 /// The first fault of tokens, and its place.
-fn placed_fault(
+pub(crate) fn placed_fault(
     alloc: Global,
     part: Nonterminal,
     all: &[Token],

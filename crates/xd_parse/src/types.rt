@@ -23,7 +23,7 @@ pub fn read_type(
     ensures reads { IfOk result (λ id. Reads nonterminals.Type cursor.old cursor.new (a_type (placed_at types.new id.at))) }
     ensures belongs { IfOk result (BelongsTo types.new) }
     ensures keeps { KeepsRows types.old types.new }
-    ensures left { IfOk result (λ id. length cursor.new ≤ length cursor.old) }
+    ensures fewer { IfOk result (λ id. length cursor.new ≤ length cursor.old) }
 {
     read_tree(alloc, cursor, types)
 }

@@ -6,7 +6,7 @@ use Rattle.std.proofs.Math.Seq.{get_or-append_seam}
 use Rattle.xd_base.specs.declared.Place.{Place}
 use Rattle.xd_syntax.specs.Table.{Row}
 use Rattle.xd_syntax.specs.Placed.{PlacedTree, placed_at, the_start}
-use Rattle.xd_syntax.specs.Expression.{Expression, Nothing, Tagged, Called, ExprRow, ExprShape, empty_shape, text_shape, var_shape, elem_shape, seq_shape, call_shape, match_shape, joined, arguments_of, clauses_of, shape_expression, expression_in, expressions_after, expression_at, IsJoinedPart, ExprCanFollow, ExprsAreBuiltAfter, ExprsAreBuilt, ExprPartsBelow}
+use Rattle.xd_syntax.specs.Expression.{Expression, Nothing, Tagged, Called, ExprRow, ExprShape, empty_shape, text_shape, var_shape, elem_shape, seq_shape, call_shape, match_shape, joined, arguments_of, clauses_of, shape_expression, expression_in, expressions_after, expression_at, IsJoinedPart, ExprCanFollow, ExprsAreBuiltAfter, ExprsAreBuilt, ExprPartsBelow, ShapePatternsBelong, PatternsBelong}
 
 joined_parts_below : (rs : List ExprRow) (is : List ℕ) → AllByRecursion (IsJoinedPart rs) is → AllByRecursion (λ i. i < length rs) is
 joined_parts_below rs [] a = tt
@@ -50,6 +50,12 @@ parts_at rs j d a h =
     length-take zero rs h = refl
     length-take (suc j) [] h = absurd (omega arith)
     length-take (suc j) (r ∷ rs) h = let i = length-take j rs (omega arith) in omega arith
+
+-- a node's patterns are among so many where those of all nodes are
+pub patterns_at : (n : ℕ) (rs : List ExprRow) (j : ℕ) (d : ExprRow) → PatternsBelong n rs → j < length rs → ShapePatternsBelong n (get_or rs j d).form
+patterns_at n [] j d b h = absurd (omega arith)
+patterns_at n (r ∷ rs) zero d b h = b.0
+patterns_at n (r ∷ rs) (suc j) d b h = patterns_at n rs j d b.1 (omega arith)
 
 same_parts : (t u : ℕ → Expression) (n : ℕ) → ((i : ℕ) → i < n → t i ≡ u i) → (is : List ℕ) → AllByRecursion (λ i. i < n) is → map t is ≡ map u is
 same_parts t u n h [] a = refl

@@ -1,9 +1,9 @@
 //! Expressions: nodes in a table.
 
-ghost use Rattle.std.specs.Prelude.{◌≡◌, ◌++◌, ◌∷◌, [], List, length, take, IfOk, OnErr};
+ghost use Rattle.std.specs.Prelude.{◌≡◌, ◌++◌, ◌∷◌, [], ℕ, List, length, take, IfOk, OnErr};
 ghost use Rattle.xd_syntax.specs.Table.{Row};
 ghost use Rattle.xd_syntax.specs.Placed.{placed_at};
-ghost use Rattle.xd_syntax.specs.Expression.{KeepsExprs, ExprCanFollow, ExprPartsBelow, expression_at, shape_at, shape_expression};
+ghost use Rattle.xd_syntax.specs.Expression.{KeepsExprs, ExprCanFollow, ExprPartsBelow, PatternsBelong, ShapePatternsBelong, expression_at, shape_at, shape_expression};
 ghost use Rattle.xd_syntax.specs.Exprs.{IsExpr, shape_of, expression};
 
 use crate::patterns::PatternId;
@@ -122,6 +122,7 @@ impl Exprs {
         ensures row { shape_at self.now id.at ≡ result.now.form }
         ensures parts { ExprPartsBelow id.at result.now.form }
         ensures merged { ExprCanFollow (take id.at self.now) result.now.form }
+        ensures clauses { (n : ℕ) → PatternsBelong n self.now → ShapePatternsBelong n result.now.form }
     {
         &self.nodes[id.at]
     }

@@ -1,8 +1,8 @@
 use Rattle.std.proofs.Common.{◌≡◌, ◌<◌, length, get_or, sym, subst, ap, ◌∙◌, take}
 use Rattle.std.proofs.lemmas.List.{get_or_default}
-use Rattle.xd_syntax.specs.Expression.{empty_shape, ExprRow, ExprCanFollow, ExprPartsBelow, expression_at, shape_expression}
+use Rattle.xd_syntax.specs.Expression.{empty_shape, ExprRow, ExprCanFollow, ExprPartsBelow, ShapePatternsBelong, expression_at, shape_expression}
 use Rattle.xd_syntax.specs.Placed.{placed_at, the_start}
-use Rattle.xd_syntax.proofs.ExprTrees.{expression_is, follows_at, parts_at}
+use Rattle.xd_syntax.proofs.ExprTrees.{expression_is, follows_at, parts_at, patterns_at}
 use Rattle.xd_syntax.proofs.exprs.Exprs.node.Goals as goal
 
 pub returns : goal.returns
@@ -17,4 +17,5 @@ returns c =
       parts = subst (λ (r : ExprRow). ExprPartsBelow c.args.id.at r.form) e (parts_at c.self.inside.nodes.items c.args.id.at c.index.result.now c.self.invariant l);
       merged = subst (λ (r : ExprRow). ExprCanFollow (take c.args.id.at c.self.inside.nodes.items) r.form) e
           (follows_at c.self.inside.nodes.items c.args.id.at c.index.result.now c.self.invariant l);
+      clauses = λ n b. subst (λ (r : ExprRow). ShapePatternsBelong n r.form) e (patterns_at n c.self.inside.nodes.items c.args.id.at c.index.result.now b l);
     })
