@@ -3,4 +3,25 @@ pub mod Shift
 pub mod Course
 pub mod Stands
 pub mod Ends
+pub mod Rows
+pub mod Merging
+pub mod TypeForms
+pub mod PatternForms
+pub mod NodeRows
+pub mod Depth
+pub mod Nesting
+pub mod Spelled
+pub mod Ahead
+pub mod ByteOrder
+pub mod ClassRows
+pub mod Keywords
 pub mod TextLemmas
+pub mod Grown
+pub mod DefinitionRows
+pub mod Turned
+mod ShownParts
+pub mod JoinLemmas
+pub mod ExprRows
+pub mod Readers
+pub mod Adding
+pub mod Kept

@@ -4,3 +4,12 @@ pub mod Fits
 pub mod Machine
 pub mod FirstFault
 pub mod Text
+pub mod Faults
+pub mod Merged
+pub mod Values
+pub mod Means
+pub mod Reading
+pub mod Nodes
+pub mod Grows
+pub mod Definitions
+pub mod ParseErrors

@@ -113,7 +113,7 @@ fn programs_are_read(rt: HostRuntime) -> Result<(), Fail> {
 }
 
 /// A text, so many times another, and a third.
-fn repeated(
+pub fn repeated(
     rt: &HostRuntime,
     front: &str,
     times: usize,

@@ -46,7 +46,7 @@ fn word_terminal(word: &str) -> Terminal
 }
 
 /// What a token is to the grammar.
-fn terminal(kind: Kind, text: &str) -> Terminal
+pub(crate) fn terminal(kind: Kind, text: &str) -> Terminal
     ensures { result ≡ terminal_of kind text.now }
 {
     match kind {
@@ -99,7 +99,7 @@ fn place_at(all: &[Token], index: usize) -> Place
 }
 
 /// The first fault of tokens, and its place.
-fn placed_fault(
+pub(crate) fn placed_fault(
     alloc: Global,
     part: Nonterminal,
     all: &[Token],

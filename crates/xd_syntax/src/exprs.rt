@@ -3,7 +3,7 @@
 ghost use Rattle.std.specs.Prelude.{◌≡◌, ◌++◌, ◌∷◌, [], ℕ, List, length, take, IfOk, OnErr};
 ghost use Rattle.xd_syntax.specs.Table.{Row};
 ghost use Rattle.xd_syntax.specs.Placed.{placed_at};
-ghost use Rattle.xd_syntax.specs.Expression.{KeepsExprs, ExprCanFollow, ExprPartsBelow, PatternsBelong, ShapePatternsBelong, expression_at, shape_expression};
+ghost use Rattle.xd_syntax.specs.Expression.{KeepsExprs, ExprCanFollow, ExprPartsBelow, PatternsBelong, ShapePatternsBelong, expression_at, shape_at, shape_expression};
 ghost use Rattle.xd_syntax.specs.Exprs.{IsExpr, shape_of, expression};
 
 use crate::patterns::PatternId;
@@ -119,6 +119,7 @@ impl Exprs {
     pub fn node(&self, id: ExprId) -> &ExprNode
         requires { IsExpr self.now id }
         ensures expression { (patterns : List Row) → expression patterns self.now id ≡ shape_expression (placed_at patterns) (expression_at patterns self.now) result.now.place result.now.form }
+        ensures row { shape_at self.now id.at ≡ result.now.form }
         ensures parts { ExprPartsBelow id.at result.now.form }
         ensures merged { ExprCanFollow (take id.at self.now) result.now.form }
         ensures clauses { (n : ℕ) → PatternsBelong n self.now → ShapePatternsBelong n result.now.form }

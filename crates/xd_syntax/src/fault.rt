@@ -6,7 +6,7 @@ use xd_doc::{Label, Seq, Text};
 /// What is wrong with a program, or with the words of a command.
 ///
 /// `Arity` has the arguments given and those wanted. The documents belong to a store that the fault is handed with.
-#[derive(Drop)]
+#[derive(Debug, Drop)]
 pub enum FaultKind {
     NotUtf8,
     Syntax,
@@ -27,7 +27,7 @@ pub enum FaultKind {
 }
 
 /// A fault. One that speaks of a command, as of a type that it names or of `main`, has no place.
-#[derive(Drop)]
+#[derive(Debug, Drop)]
 pub struct Fault {
     pub place: Option<Place>,
     pub kind: FaultKind,

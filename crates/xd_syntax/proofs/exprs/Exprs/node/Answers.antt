@@ -1,6 +1,7 @@
 use Rattle.std.proofs.Common.{◌≡◌, ◌<◌, length, get_or, sym, subst, ap, ◌∙◌, take}
-use Rattle.xd_syntax.specs.Expression.{ExprRow, ExprCanFollow, ExprPartsBelow, ShapePatternsBelong, expression_at, shape_expression}
-use Rattle.xd_syntax.specs.Placed.{placed_at}
+use Rattle.std.proofs.lemmas.List.{get_or_default}
+use Rattle.xd_syntax.specs.Expression.{empty_shape, ExprRow, ExprCanFollow, ExprPartsBelow, ShapePatternsBelong, expression_at, shape_expression}
+use Rattle.xd_syntax.specs.Placed.{placed_at, the_start}
 use Rattle.xd_syntax.proofs.ExprTrees.{expression_is, follows_at, parts_at, patterns_at}
 use Rattle.xd_syntax.proofs.exprs.Exprs.node.Goals as goal
 
@@ -12,6 +13,7 @@ returns c =
     record {
       expression = λ patterns. expression_is patterns c.self.inside.nodes.items c.args.id.at c.index.result.now c.self.invariant l
           ∙ ap (λ (r : ExprRow). shape_expression (placed_at patterns) (expression_at patterns c.self.inside.nodes.items) r.place r.form) e;
+      row = ap (λ (r : ExprRow). r.form) (get_or_default c.self.inside.nodes.items c.args.id.at (record { place = the_start; form = empty_shape }) c.index.result.now l ∙ e);
       parts = subst (λ (r : ExprRow). ExprPartsBelow c.args.id.at r.form) e (parts_at c.self.inside.nodes.items c.args.id.at c.index.result.now c.self.invariant l);
       merged = subst (λ (r : ExprRow). ExprCanFollow (take c.args.id.at c.self.inside.nodes.items) r.form) e
           (follows_at c.self.inside.nodes.items c.args.id.at c.index.result.now c.self.invariant l);

@@ -1,0 +1,36 @@
+use Rattle.std.proofs.Common.{[], arith, sym, subst}
+use Rattle.xd_syntax.specs.FunctionRow.{FunctionRow}
+use Rattle.xd_syntax.specs.Kept.{FunctionStands, function_definition}
+use Rattle.xd_parse.specs.declared.grammar.Terminal.TheVariants as t
+use Rattle.xd_parse.specs.Definitions.{ReadsInFront, one_function}
+use Rattle.xd_parse.proofs.DefinitionRows.{table, function_reads, params_kept, params_more, behind_less, behind_fewer}
+use Rattle.xd_parse.proofs.definitions.read_function.Goals as goal
+
+pub returns-clause-reads : goal.returns-clause-reads
+returns-clause-reads c =
+    subst (λ (f : FunctionRow). ReadsInFront (one_function (function_definition (table c.read_type.new.types c.read_expr.new.patterns c.read_expr.new.exprs [] []) f)) c.args.cursor.now c.read_expr.new.cursor) (sym c.new.ensures)
+    (function_reads c.args.cursor.now c.step.new.self c.word.new.self c.read_params.new.cursor c.step-2.new.self c.read_type.new.cursor c.step-3.new.self c.read_expr.new.cursor _ _ _ _ _ c.requires.front c.step.ensures.left (c.in_ok-name.ensures.word, c.in_ok-name.ensures.place) c.in_ok-name.ensures.left
+    (params_kept c.read_params.new.types c.read_type.new.types c.word.new.self c.read_params.new.cursor c.in_ok-params.params.items c.in_ok-declared.ensures.keeps c.in_ok-params.ensures.belong c.in_ok-params.ensures.reads)
+    c.step-2.ensures.left c.in_ok-declared.ensures.reads c.step-3.ensures.left c.in_ok-body.ensures.reads)
+
+pub returns-clause-stands : goal.returns-clause-stands
+returns-clause-stands c =
+    subst (λ (f : FunctionRow). FunctionStands c.read_type.new.types c.read_expr.new.exprs f) (sym c.new.ensures)
+    (record {
+      params = params_more c.read_params.new.types c.read_type.new.types c.in_ok-params.params.items c.in_ok-declared.ensures.keeps c.in_ok-params.ensures.belong;
+      declared = c.in_ok-declared.ensures.belongs;
+      body = c.in_ok-body.ensures.belongs;
+    })
+
+pub returns-clause-fewer : goal.returns-clause-fewer
+returns-clause-fewer c =
+    omega (
+      arith,
+      behind_fewer c.args.cursor.now c.step.new.self t.Fun (λ e. cc) c.requires.front c.step.ensures.left,
+      behind_less c.step.new.self c.word.new.self c.in_ok-name.ensures.left,
+      c.in_ok-params.ensures.fewer,
+      behind_less c.read_params.new.cursor c.step-2.new.self c.step-2.ensures.left,
+      c.in_ok-declared.ensures.fewer,
+      behind_less c.read_type.new.cursor c.step-3.new.self c.step-3.ensures.left,
+      c.in_ok-body.ensures.left,
+    )

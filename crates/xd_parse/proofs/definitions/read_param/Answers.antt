@@ -1,0 +1,19 @@
+use Rattle.std.proofs.Common.{arith, ap, length}
+use Rattle.xd_parse.proofs.DefinitionRows.{param_reads, behind_less}
+use Rattle.xd_parse.proofs.definitions.read_param.Goals as goal
+
+pub returns-clause-reads : goal.returns-clause-reads
+returns-clause-reads c =
+    param_reads c.args.cursor.now c.step.new.self c.step-2.new.self c.word.new.self c.step-3.new.self c.read_type.new.cursor c.step-4.new.self _ _ _ c.step.ensures.left c.step-2.ensures.left (c.in_ok-name.ensures.word, c.in_ok-name.ensures.place) c.in_ok-name.ensures.left c.step-3.ensures.left c.in_ok-body.ensures.reads c.step-4.ensures.left
+
+pub returns-clause-fewer : goal.returns-clause-fewer
+returns-clause-fewer c =
+    omega (
+      arith,
+      ap length c.step.ensures.left,
+      behind_less c.step.new.self c.step-2.new.self c.step-2.ensures.left,
+      behind_less c.step-2.new.self c.word.new.self c.in_ok-name.ensures.left,
+      behind_less c.word.new.self c.step-3.new.self c.step-3.ensures.left,
+      c.in_ok-body.ensures.fewer,
+      behind_less c.read_type.new.cursor c.step-4.new.self c.step-4.ensures.left,
+    )

@@ -1,0 +1,18 @@
+use Rattle.std.proofs.Common.{arith}
+use Rattle.xd_parse.specs.declared.grammar.Terminal.TheVariants as t
+use Rattle.xd_parse.proofs.DefinitionRows.{type_def_reads, behind_less, behind_fewer}
+use Rattle.xd_parse.proofs.definitions.read_type_def.Goals as goal
+
+pub returns-clause-reads : goal.returns-clause-reads
+returns-clause-reads c =
+    type_def_reads c.args.cursor.now c.step.new.self c.word.new.self c.step-2.new.self c.read_type.new.cursor _ _ _ c.requires c.step.ensures.left (c.in_ok-name.ensures.word, c.in_ok-name.ensures.place) c.in_ok-name.ensures.left c.step-2.ensures.left c.in_ok-body.ensures.reads
+
+pub returns-clause-fewer : goal.returns-clause-fewer
+returns-clause-fewer c =
+    omega (
+      arith,
+      behind_fewer c.args.cursor.now c.step.new.self t.Type (λ e. cc) c.requires c.step.ensures.left,
+      behind_less c.step.new.self c.word.new.self c.in_ok-name.ensures.left,
+      behind_less c.word.new.self c.step-2.new.self c.step-2.ensures.left,
+      c.in_ok-body.ensures.fewer,
+    )

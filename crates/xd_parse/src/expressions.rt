@@ -1,0 +1,223 @@
+//! Expressions from tokens, by recursive descent.
+//!
+//! The tokens are known to spell what is read. Where no item begins with the next token, any node is answered.
+//! A match takes each clause that stands behind it, and a name all parentheses, so the innermost match has a `|`.
+
+ghost use Rattle.std.specs.Prelude.{◌≡◌, ◌<◌, ◌≤◌, length, IfOk};
+ghost use Rattle.xd_syntax.specs.Placed.{placed_at};
+ghost use Rattle.xd_syntax.specs.Patterns.{IsPattern};
+ghost use Rattle.xd_syntax.specs.Expression.{PatternsBelong};
+ghost use Rattle.xd_syntax.specs.Exprs.{IsExpr, expression};
+ghost use Rattle.xd_parse.specs.declared.grammar.Nonterminal.TheVariants as nonterminals;
+ghost use Rattle.xd_parse.specs.declared.grammar.Terminal.TheVariants as terminals;
+ghost use Rattle.xd_parse.specs.Values.{an_expression, a_clause};
+ghost use Rattle.xd_parse.specs.Reading.{Reads, front_terminal};
+ghost use Rattle.xd_parse.specs.Grows.{Grows};
+
+use crate::cursor::Cursor;
+use crate::grammar::Terminal;
+use crate::joining::join;
+use crate::patterns::read_pattern_seq;
+use std::alloc::Global;
+use xd_doc::NoMemory;
+use xd_syntax::{Clause, ExprForm, ExprId, Exprs, Patterns};
+
+/// Reads an expression: items with commas between them.
+#[cycle(expressions)]
+pub fn read_expr(
+    alloc: Global,
+    cursor: &mut Cursor<'_>,
+    patterns: &mut Patterns,
+    exprs: &mut Exprs,
+) -> Result<ExprId, NoMemory>
+    requires { PatternsBelong (length patterns.old) exprs.old }
+    ensures reads { IfOk result (λ id. Reads nonterminals.Expr cursor.old cursor.new (an_expression (expression patterns.new exprs.new id))) }
+    ensures belongs { IfOk result (IsExpr exprs.new) }
+    ensures grows { IfOk result (λ id. Grows patterns.old exprs.old patterns.new exprs.new) }
+    ensures left { IfOk result (λ id. length cursor.new ≤ length cursor.old) }
+{
+    let first = read_item(alloc, cursor, patterns, exprs)?;
+    let mut more = Vec::new(alloc);
+    'items: while cursor.at(Terminal::Comma) {
+        cursor.step();
+        let item = read_item(alloc, cursor, patterns, exprs)?;
+        more.push(item)?;
+    }
+    join(alloc, exprs, first, more)
+}
+
+/// Reads a text, a variable, a call, an element, a match, or what is in parentheses.
+#[cycle(expressions)]
+fn read_item(
+    alloc: Global,
+    cursor: &mut Cursor<'_>,
+    patterns: &mut Patterns,
+    exprs: &mut Exprs,
+) -> Result<ExprId, NoMemory>
+    requires { PatternsBelong (length patterns.old) exprs.old }
+    ensures reads { IfOk result (λ id. Reads nonterminals.Item cursor.old cursor.new (an_expression (expression patterns.new exprs.new id))) }
+    ensures belongs { IfOk result (IsExpr exprs.new) }
+    ensures grows { IfOk result (λ id. Grows patterns.old exprs.old patterns.new exprs.new) }
+    ensures left { IfOk result (λ id. length cursor.new ≤ length cursor.old) }
+{
+    match cursor.peek() {
+        Terminal::Text => {
+            let quoted = cursor.quoted(alloc)?;
+            exprs.add(quoted.place, ExprForm::Text(quoted.text))
+        }
+        Terminal::Word => read_named(alloc, cursor, patterns, exprs),
+        Terminal::Label => read_element(alloc, cursor, patterns, exprs),
+        Terminal::Match => read_match(alloc, cursor, patterns, exprs),
+        Terminal::ParenL => read_paren(alloc, cursor, patterns, exprs),
+        _ => {
+            let place = cursor.step();
+            exprs.add(place, ExprForm::Empty)
+        }
+    }
+}
+
+/// Reads a variable, or a call with all the parentheses that stand behind its name.
+#[cycle(expressions)]
+fn read_named(
+    alloc: Global,
+    cursor: &mut Cursor<'_>,
+    patterns: &mut Patterns,
+    exprs: &mut Exprs,
+) -> Result<ExprId, NoMemory>
+    requires clauses { PatternsBelong (length patterns.old) exprs.old }
+    requires next { front_terminal cursor.old ≡ terminals.Word }
+    ensures reads { IfOk result (λ id. Reads nonterminals.Item cursor.old cursor.new (an_expression (expression patterns.new exprs.new id))) }
+    ensures belongs { IfOk result (IsExpr exprs.new) }
+    ensures grows { IfOk result (λ id. Grows patterns.old exprs.old patterns.new exprs.new) }
+    ensures left { IfOk result (λ id. length cursor.new < length cursor.old) }
+{
+    let name = cursor.word(alloc)?;
+    let mut arguments = Vec::new(alloc);
+    'arguments: while cursor.at(Terminal::ParenL) {
+        let argument = read_paren(alloc, cursor, patterns, exprs)?;
+        arguments.push(argument)?;
+    }
+    if arguments.is_empty() {
+        exprs.add(name.place, ExprForm::Var(name.word))
+    } else {
+        exprs.add(name.place, ExprForm::Call(name.word, arguments))
+    }
+}
+
+/// Reads an element. A content that is empty stands at the closing bracket.
+#[cycle(expressions)]
+fn read_element(
+    alloc: Global,
+    cursor: &mut Cursor<'_>,
+    patterns: &mut Patterns,
+    exprs: &mut Exprs,
+) -> Result<ExprId, NoMemory>
+    requires clauses { PatternsBelong (length patterns.old) exprs.old }
+    requires next { front_terminal cursor.old ≡ terminals.Label }
+    ensures reads { IfOk result (λ id. Reads nonterminals.Item cursor.old cursor.new (an_expression (expression patterns.new exprs.new id))) }
+    ensures belongs { IfOk result (IsExpr exprs.new) }
+    ensures grows { IfOk result (λ id. Grows patterns.old exprs.old patterns.new exprs.new) }
+    ensures left { IfOk result (λ id. length cursor.new < length cursor.old) }
+{
+    let label = cursor.label(alloc)?;
+    let content = read_content(alloc, cursor, patterns, exprs)?;
+    exprs.add(label.place, ExprForm::Elem(label.word, content))
+}
+
+/// Reads the content of an element, and the closing bracket. An empty one stands at the bracket.
+#[cycle(expressions)]
+fn read_content(
+    alloc: Global,
+    cursor: &mut Cursor<'_>,
+    patterns: &mut Patterns,
+    exprs: &mut Exprs,
+) -> Result<ExprId, NoMemory>
+    requires { PatternsBelong (length patterns.old) exprs.old }
+    ensures reads { IfOk result (λ id. Reads nonterminals.ExprContent cursor.old cursor.new (an_expression (expression patterns.new exprs.new id))) }
+    ensures belongs { IfOk result (IsExpr exprs.new) }
+    ensures grows { IfOk result (λ id. Grows patterns.old exprs.old patterns.new exprs.new) }
+    ensures left { IfOk result (λ id. length cursor.new ≤ length cursor.old) }
+{
+    if cursor.at(Terminal::BracketR) {
+        let place = cursor.step();
+        return exprs.add(place, ExprForm::Empty);
+    }
+    let content = read_expr(alloc, cursor, patterns, exprs)?;
+    cursor.step();
+    Ok(content)
+}
+
+/// Reads what is in parentheses. `()` is empty, at its `(`.
+#[cycle(expressions)]
+fn read_paren(
+    alloc: Global,
+    cursor: &mut Cursor<'_>,
+    patterns: &mut Patterns,
+    exprs: &mut Exprs,
+) -> Result<ExprId, NoMemory>
+    requires clauses { PatternsBelong (length patterns.old) exprs.old }
+    requires next { front_terminal cursor.old ≡ terminals.ParenL }
+    ensures reads { IfOk result (λ id. Reads nonterminals.Paren cursor.old cursor.new (an_expression (expression patterns.new exprs.new id))) }
+    ensures belongs { IfOk result (IsExpr exprs.new) }
+    ensures grows { IfOk result (λ id. Grows patterns.old exprs.old patterns.new exprs.new) }
+    ensures left { IfOk result (λ id. length cursor.new < length cursor.old) }
+{
+    let opening = cursor.step();
+    if cursor.at(Terminal::ParenR) {
+        cursor.step();
+        return exprs.add(opening, ExprForm::Empty);
+    }
+    let inner = read_expr(alloc, cursor, patterns, exprs)?;
+    cursor.step();
+    Ok(inner)
+}
+
+/// Reads a match with all the clauses that stand behind it.
+#[cycle(expressions)]
+fn read_match(
+    alloc: Global,
+    cursor: &mut Cursor<'_>,
+    patterns: &mut Patterns,
+    exprs: &mut Exprs,
+) -> Result<ExprId, NoMemory>
+    requires clauses { PatternsBelong (length patterns.old) exprs.old }
+    requires next { front_terminal cursor.old ≡ terminals.Match }
+    ensures reads { IfOk result (λ id. Reads nonterminals.Item cursor.old cursor.new (an_expression (expression patterns.new exprs.new id))) }
+    ensures belongs { IfOk result (IsExpr exprs.new) }
+    ensures grows { IfOk result (λ id. Grows patterns.old exprs.old patterns.new exprs.new) }
+    ensures left { IfOk result (λ id. length cursor.new < length cursor.old) }
+{
+    let place = cursor.step();
+    let scrutinee = read_expr(alloc, cursor, patterns, exprs)?;
+    cursor.step();
+    let mut clauses = Vec::new(alloc);
+    let first = read_clause(alloc, cursor, patterns, exprs)?;
+    clauses.push(first)?;
+    'clauses: while cursor.at(Terminal::Bar) {
+        cursor.step();
+        let clause = read_clause(alloc, cursor, patterns, exprs)?;
+        clauses.push(clause)?;
+    }
+    exprs.add(place, ExprForm::Match(scrutinee, clauses))
+}
+
+/// Reads a clause: a pattern, an arrow and a body.
+#[cycle(expressions)]
+fn read_clause(
+    alloc: Global,
+    cursor: &mut Cursor<'_>,
+    patterns: &mut Patterns,
+    exprs: &mut Exprs,
+) -> Result<Clause, NoMemory>
+    requires { PatternsBelong (length patterns.old) exprs.old }
+    ensures reads { IfOk result (λ made. Reads nonterminals.Clause cursor.old cursor.new (a_clause (placed_at patterns.new made.pattern.at) (expression patterns.new exprs.new made.body))) }
+    ensures pattern { IfOk result (λ made. IsPattern patterns.new made.pattern) }
+    ensures body { IfOk result (λ made. IsExpr exprs.new made.body) }
+    ensures grows { IfOk result (λ made. Grows patterns.old exprs.old patterns.new exprs.new) }
+    ensures left { IfOk result (λ made. length cursor.new ≤ length cursor.old) }
+{
+    let pattern = read_pattern_seq(alloc, cursor, patterns)?;
+    cursor.step();
+    let body = read_expr(alloc, cursor, patterns, exprs)?;
+    Ok(Clause { pattern, body })
+}

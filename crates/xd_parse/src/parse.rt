@@ -1,0 +1,109 @@
+//! Programs and types from bytes.
+
+ghost use Rattle.std.specs.Prelude.{◌≡◌, All, Some, true, map, IfOk, IfErr};
+ghost use Rattle.xd_lex.specs.Tokens.{lexeme_of, tokens_of};
+ghost use Rattle.xd_lex.specs.Spelled.{IsSpelling};
+ghost use Rattle.xd_syntax.specs.Placed.{placed_at};
+ghost use Rattle.xd_syntax.specs.Table.{KeepsRows};
+ghost use Rattle.xd_syntax.specs.Types.{BelongsTo};
+ghost use Rattle.xd_syntax.specs.Kept.{program_tree};
+ghost use Rattle.xd_parse.specs.declared.grammar.Nonterminal.TheVariants as nonterminals;
+ghost use Rattle.xd_parse.specs.declared.parse.ParseError.TheVariants as errors;
+ghost use Rattle.xd_parse.specs.Text.{is_text, SpellsText};
+ghost use Rattle.xd_parse.specs.Means.{IsProgramText, IsTypeText};
+ghost use Rattle.xd_parse.specs.Faults.{reported};
+ghost use Rattle.xd_parse.specs.ParseErrors.{IsParseError, IsFault};
+
+use crate::cursor::Cursor;
+use crate::definitions::read_definitions;
+use crate::grammar::Nonterminal;
+use crate::text::{TextFault, placed_fault};
+use crate::types::read_type;
+use std::alloc::Global;
+use xd_doc::NoMemory;
+use xd_lex::{LexError, Token, tokens};
+use xd_syntax::{Fault, FaultKind, Program, TypeId, Types};
+
+/// Why no program, or no type, was read.
+#[derive(Debug, Drop)]
+pub enum ParseError {
+    /// The text is none. The fault has a place.
+    Fault(Fault),
+    NoMemory,
+}
+
+impl From<NoMemory> for ParseError {
+    ghost from_gives = { λ _ e. e ≡ errors.NoMemory };
+
+    fn from(_: NoMemory) -> Self {
+        Self::NoMemory
+    }
+}
+
+/// A text's fault, as a fault of the program.
+fn reported(found: TextFault) -> Fault
+    ensures { result ≡ reported found }
+{
+    let (place, kind) = match found {
+        TextFault::NotUtf8(place) => (place, FaultKind::NotUtf8),
+        TextFault::Syntax(place) => (place, FaultKind::Syntax),
+        TextFault::TooDeep(place) => (place, FaultKind::TooDeep),
+    };
+    Fault {
+        place: Some(place),
+        kind,
+    }
+}
+
+/// The tokens of a text, where they spell the nonterminal.
+fn spelled_tokens<'a>(
+    alloc: Global,
+    part: Nonterminal,
+    bytes: &'a [u8],
+) -> Result<Vec<Token<'a>>, ParseError>
+    requires { is_text part ≡ true }
+    ensures tokens { IfOk result (λ all. map lexeme_of all.items ≡ tokens_of bytes.now) }
+    ensures spelled { IfOk result (λ all. All (λ token. IsSpelling token.kind token.text.now) all.items) }
+    ensures spells { IfOk result (λ all. SpellsText part bytes.now) }
+    ensures fault { IfErr result (IsParseError part bytes.now) }
+    ensures unspelled { IfErr result (λ e. IsFault e → ¬ (SpellsText part bytes.now)) }
+{
+    let all = match tokens(alloc, bytes) {
+        Ok(all) => all,
+        Err(LexError::NotUtf8(place)) => {
+            let fault = reported(TextFault::NotUtf8(place));
+            return Err(ParseError::Fault(fault));
+        }
+        Err(LexError::NoMemory) => return Err(ParseError::NoMemory),
+    };
+    match placed_fault(alloc, part, all.as_slice())? {
+        None => Ok(all),
+        Some(found) => Err(ParseError::Fault(reported(found))),
+    }
+}
+
+/// Reads the text of a program. Takes time linear in the text.
+pub fn parse_program(alloc: Global, bytes: &[u8]) -> Result<Program, ParseError>
+    ensures program { IfOk result (λ p. IsProgramText bytes.now (program_tree p)) }
+    ensures fault { IfErr result (IsParseError nonterminals.Definitions bytes.now) }
+    ensures unspelled { IfErr result (λ e. IsFault e → ¬ (SpellsText nonterminals.Definitions bytes.now)) }
+{
+    let all = spelled_tokens(alloc, Nonterminal::Definitions, bytes)?;
+    let mut cursor = Cursor::new(all.as_slice());
+    let program = read_definitions(alloc, &mut cursor)?;
+    Ok(program)
+}
+
+/// Reads the text of a type, in the same way; its nodes are added to those of the table, which stay.
+pub fn parse_type(alloc: Global, types: &mut Types, bytes: &[u8]) -> Result<TypeId, ParseError>
+    ensures type_text { IfOk result (λ id. IsTypeText bytes.now (placed_at types.new id.at)) }
+    ensures belongs { IfOk result (BelongsTo types.new) }
+    ensures keeps { KeepsRows types.old types.new }
+    ensures fault { IfErr result (IsParseError nonterminals.TypeText bytes.now) }
+    ensures unspelled { IfErr result (λ e. IsFault e → ¬ (SpellsText nonterminals.TypeText bytes.now)) }
+{
+    let all = spelled_tokens(alloc, Nonterminal::TypeText, bytes)?;
+    let mut cursor = Cursor::new(all.as_slice());
+    let id = read_type(alloc, &mut cursor, types)?;
+    Ok(id)
+}

@@ -1,0 +1,29 @@
+//! Types from tokens.
+
+ghost use Rattle.std.specs.Prelude.{◌≤◌, length, IfOk};
+ghost use Rattle.xd_syntax.specs.Table.{KeepsRows};
+ghost use Rattle.xd_syntax.specs.Placed.{placed_at};
+ghost use Rattle.xd_syntax.specs.Types.{BelongsTo};
+ghost use Rattle.xd_parse.specs.declared.grammar.Nonterminal.TheVariants as nonterminals;
+ghost use Rattle.xd_parse.specs.Values.{a_type};
+ghost use Rattle.xd_parse.specs.Reading.{Reads};
+
+use crate::cursor::Cursor;
+use crate::trees::read_tree;
+use std::alloc::Global;
+use xd_doc::NoMemory;
+use xd_syntax::{TypeId, Types};
+
+/// Reads a type.
+pub fn read_type(
+    alloc: Global,
+    cursor: &mut Cursor<'_>,
+    types: &mut Types,
+) -> Result<TypeId, NoMemory>
+    ensures reads { IfOk result (λ id. Reads nonterminals.Type cursor.old cursor.new (a_type (placed_at types.new id.at))) }
+    ensures belongs { IfOk result (BelongsTo types.new) }
+    ensures keeps { KeepsRows types.old types.new }
+    ensures fewer { IfOk result (λ id. length cursor.new ≤ length cursor.old) }
+{
+    read_tree(alloc, cursor, types)
+}
