@@ -1,6 +1,4 @@
-pub mod Sorting
 pub mod WordLemmas
-pub mod Ranks
 pub mod TreeLemmas
 pub mod LinearLemmas
 pub mod NameLemmas

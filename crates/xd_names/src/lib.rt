@@ -6,7 +6,6 @@ mod duplicates;
 mod expressions;
 mod linear;
 mod names;
-mod order;
 mod program;
 mod scope;
 #[cfg(test)]

@@ -12,13 +12,12 @@ ghost use Rattle.xd_names.specs.Spots.{param_spot};
 use crate::duplicates::{in_functions, in_params, in_types};
 use crate::expressions::in_expression;
 use crate::names::Names;
-use crate::order::sort_faults;
 use crate::scope::Scope;
 use crate::types::in_type;
 use crate::words::Words;
 use std::alloc::Global;
 use xd_doc::{Label, NoMemory};
-use xd_syntax::{Fault, Function, Param, Program, TypeDef, Types};
+use xd_syntax::{Fault, Function, Param, Program, TypeDef, Types, sort_faults};
 
 /// All faults of names, of numbers of arguments and of linearity, in order of place, then of number.
 ///

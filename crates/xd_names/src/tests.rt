@@ -1,7 +1,6 @@
 //! A call with ample memory.
 
 use super::resolve;
-use crate::order::number;
 use std::alloc::Global;
 use std::test::Fail;
 use xd_base::Place;
@@ -46,9 +45,9 @@ fn undefined_names_in_order_of_place(rt: HostRuntime) -> Result<(), Fail> {
     let program = undefined(alloc).ok().ok_or("memory")?;
     let faults = resolve(alloc, &program).ok().ok_or("memory")?;
     assert_eq!(rt; faults.len(), 3);
-    assert_eq!(rt; number(&faults[0].kind), 5);
-    assert_eq!(rt; number(&faults[1].kind), 5);
-    assert_eq!(rt; number(&faults[2].kind), 7);
+    assert_eq!(rt; faults[0].kind.number(), 5);
+    assert_eq!(rt; faults[1].kind.number(), 5);
+    assert_eq!(rt; faults[2].kind.number(), 7);
     assert_eq!(rt; faults[2].place, Some(BODY));
     Ok(())
 }

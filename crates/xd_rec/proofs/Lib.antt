@@ -7,8 +7,6 @@ pub mod Finishing
 pub mod NameLemmas
 pub mod EmptyLemmas
 pub mod UseLemmas
-pub mod Sorting
-pub mod Ranks
 pub mod FaultLemmas
 pub mod Recursion
 pub mod Unique

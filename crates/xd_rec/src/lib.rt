@@ -16,7 +16,6 @@ mod faults;
 mod graph;
 pub mod laws;
 mod names;
-mod order;
 #[cfg(test)]
 mod tests;
 mod uses;
@@ -25,11 +24,10 @@ use crate::components::components;
 use crate::empty::empty_types;
 use crate::faults::{add_outside, add_unguarded, use_graph};
 use crate::names::Names;
-use crate::order::sort_faults;
 use crate::uses::top_uses;
 use std::alloc::Global;
 use xd_doc::NoMemory;
-use xd_syntax::{Fault, Program, SoundProgram, TypeDef, Types};
+use xd_syntax::{Fault, Program, SoundProgram, TypeDef, Types, sort_faults};
 
 /// A program without faults of recursion, or the list of these faults.
 #[derive(Drop)]

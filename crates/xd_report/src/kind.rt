@@ -1,9 +1,8 @@
 //! What is wrong, in words.
 
-ghost use Rattle.std.specs.Prelude.{◌≡◌, ◌++◌, OnOk, codes, decimal};
+ghost use Rattle.std.specs.Prelude.{◌≡◌, ◌++◌, OnOk};
 ghost use Rattle.xd_doc.specs.Document.{canonical_text};
 ghost use Rattle.xd_doc.specs.Stored.{document_at, BelongsTo};
-ghost use Rattle.xd_syntax.specs.Order.{number_of};
 ghost use Rattle.xd_report.specs.Report.{kind_text, CarriesFrom};
 ghost use Rattle.xd_report.specs.Kept.{IsKept};
 
@@ -13,30 +12,6 @@ use std::alloc::Global;
 use xd_doc::{NoMemory, Seq, Store};
 use xd_syntax::FaultKind;
 use xd_write::write_document;
-
-/// The number of a kind of fault.
-pub fn number(kind: &FaultKind) -> u64
-    ensures { result ≡ number_of kind.now }
-{
-    match kind {
-        FaultKind::NotUtf8 => 1,
-        FaultKind::Syntax => 2,
-        FaultKind::TooDeep => 3,
-        FaultKind::DuplicateName(_) => 4,
-        FaultKind::UnknownType(_) => 5,
-        FaultKind::UnknownFunction(_) => 6,
-        FaultKind::UnknownVariable(_) => 7,
-        FaultKind::Arity(_, _, _) => 8,
-        FaultKind::NotLinear(_) => 9,
-        FaultKind::NotTail(_) => 10,
-        FaultKind::Unguarded(_) => 11,
-        FaultKind::NotExhaustive(_) => 12,
-        FaultKind::Argument(_) => 13,
-        FaultKind::Result(_) => 14,
-        FaultKind::NoSuchName(_) => 15,
-        FaultKind::NoMain => 16,
-    }
-}
 
 /// Appends what is wrong.
 pub fn write_kind(

@@ -4,7 +4,7 @@ ghost use Rattle.std.specs.Prelude.{◌≡◌, ◌++◌, OnOk, OnErr};
 ghost use Rattle.xd_report.specs.Report.{fault_front, fault_text, warning_text, CarriesFrom};
 ghost use Rattle.xd_report.specs.Kept.{IsKept};
 
-use crate::kind::{number, write_kind};
+use crate::kind::write_kind;
 use crate::texts::{write_place_front, write_texts};
 use itoa::Buffer;
 use std::alloc::Global;
@@ -45,7 +45,7 @@ fn write_fault(
 {
     let mut digits = Buffer::new();
     write_fault_front(fault.place, out)?;
-    write_texts(&["fault ", digits.format(number(&fault.kind)), ": "], out)?;
+    write_texts(&["fault ", digits.format(fault.kind.number()), ": "], out)?;
     write_kind(alloc, store, &fault.kind, out)?;
     out.push(b'\n')?;
     Ok(())

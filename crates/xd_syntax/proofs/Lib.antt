@@ -30,3 +30,5 @@ pub mod SameTrees
 pub mod NamedAtoms
 pub mod ChoiceTrees
 pub mod ConsistentLaw
+pub mod Sorting
+pub mod Ranks

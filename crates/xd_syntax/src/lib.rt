@@ -5,6 +5,7 @@ mod adopt;
 mod exprs;
 mod fault;
 pub mod laws;
+mod order;
 mod patterns;
 pub mod plain;
 mod program;
@@ -15,6 +16,7 @@ mod types;
 
 pub use exprs::{Clause, ExprForm, ExprId, ExprNode, Exprs};
 pub use fault::{Fault, FaultKind, Warning};
+pub use order::sort_faults;
 pub use patterns::{PatternForm, PatternId, PatternNode, Patterns};
 pub use program::{Function, Param, Program};
 pub use sound::{Checked, SoundProgram};

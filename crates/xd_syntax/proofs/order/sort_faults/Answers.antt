@@ -1,7 +1,7 @@
 use Rattle.std.proofs.Common.{rules}
 use Rattle.std.proofs.lemmas.List.Sorted.{answers_always}
-use Rattle.xd_names.proofs.Ranks.{rank, sorted_by_rank}
-use Rattle.xd_names.proofs.order.sort_faults.Goals as goal
+use Rattle.xd_syntax.proofs.Ranks.{rank, sorted_by_rank}
+use Rattle.xd_syntax.proofs.order.sort_faults.Goals as goal
 
 pub returns : goal.returns
 returns c =
