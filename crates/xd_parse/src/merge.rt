@@ -1,8 +1,8 @@
 //! Merging of parts into one node: no sequence is a part of a sequence, and no alternative a branch of one.
 
-ghost use Rattle.std.specs.Prelude.{◌≡◌, ◌<◌, map, length, MatchResult};
+ghost use Rattle.std.specs.Prelude.{◌≡◌, ◌<◌, map, length, IfOk};
 ghost use Rattle.std.specs.List.{AllByRecursion};
-ghost use Rattle.xd_syntax.specs.Table.{KeepsRows, IsSeqPart};
+ghost use Rattle.xd_syntax.specs.Table.{IsSeqPart, KeepsRows};
 ghost use Rattle.xd_syntax.specs.Placed.{placed_at};
 ghost use Rattle.xd_parse.specs.Merged.{merged_seq, sequence, alternative};
 ghost use Rattle.xd_parse.specs.Nodes.{IsAdded};
@@ -15,7 +15,8 @@ use xd_doc::NoMemory;
 /// The sequence of parts that are merged; it is empty, at the place given, where there are none.
 fn join<N: Nodes>(nodes: &mut N, empty: Place, parts: Vec<N::Id>) -> Result<N::Id, NoMemory>
     requires { AllByRecursion (IsSeqPart (N.rows nodes.old)) (map N.at parts.items) }
-    ensures { MatchResult result (λ id. IsAdded (N.rows nodes.old) (N.rows nodes.new) (merged_seq empty (map (placed_at (N.rows nodes.old)) (map N.at parts.items))) (N.at id)) (λ e. KeepsRows (N.rows nodes.old) (N.rows nodes.new)) }
+    ensures added { IfOk result (λ id. IsAdded (N.rows nodes.old) (N.rows nodes.new) (merged_seq empty (map (placed_at (N.rows nodes.old)) (map N.at parts.items))) (N.at id)) }
+    ensures keeps { KeepsRows (N.rows nodes.old) (N.rows nodes.new) }
 {
     match parts.as_slice() {
         [] => nodes.add(empty, NodeForm::Empty),
@@ -36,7 +37,8 @@ pub(crate) fn sequence<N: Nodes>(
 ) -> Result<N::Id, NoMemory>
     requires first { N.at first < length (N.rows nodes.old) }
     requires more { AllByRecursion (λ i. i < length (N.rows nodes.old)) (map N.at more.now) }
-    ensures { MatchResult result (λ id. IsAdded (N.rows nodes.old) (N.rows nodes.new) (sequence (placed_at (N.rows nodes.old) (N.at first)) (map (placed_at (N.rows nodes.old)) (map N.at more.now))) (N.at id)) (λ e. KeepsRows (N.rows nodes.old) (N.rows nodes.new)) }
+    ensures added { IfOk result (λ id. IsAdded (N.rows nodes.old) (N.rows nodes.new) (sequence (placed_at (N.rows nodes.old) (N.at first)) (map (placed_at (N.rows nodes.old)) (map N.at more.now))) (N.at id)) }
+    ensures keeps { KeepsRows (N.rows nodes.old) (N.rows nodes.new) }
 {
     if more.is_empty() {
         return Ok(first);
@@ -58,7 +60,8 @@ pub(crate) fn alternative<N: Nodes>(
 ) -> Result<N::Id, NoMemory>
     requires first { N.at first < length (N.rows nodes.old) }
     requires more { AllByRecursion (λ i. i < length (N.rows nodes.old)) (map N.at more.now) }
-    ensures { MatchResult result (λ id. IsAdded (N.rows nodes.old) (N.rows nodes.new) (alternative (placed_at (N.rows nodes.old) (N.at first)) (map (placed_at (N.rows nodes.old)) (map N.at more.now))) (N.at id)) (λ e. KeepsRows (N.rows nodes.old) (N.rows nodes.new)) }
+    ensures added { IfOk result (λ id. IsAdded (N.rows nodes.old) (N.rows nodes.new) (alternative (placed_at (N.rows nodes.old) (N.at first)) (map (placed_at (N.rows nodes.old)) (map N.at more.now))) (N.at id)) }
+    ensures keeps { KeepsRows (N.rows nodes.old) (N.rows nodes.new) }
 {
     if more.is_empty() {
         return Ok(first);

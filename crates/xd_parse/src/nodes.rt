@@ -1,9 +1,9 @@
 //! Tables of nodes: types and patterns, as the parser adds to them.
 
-ghost use Rattle.std.specs.Prelude.{◌≡◌, ◌<◌, ℕ, List, false, true, map, length, MatchResult, OnOk};
+ghost use Rattle.std.specs.Prelude.{◌≡◌, ◌<◌, ℕ, List, false, true, map, length, IfOk, OnOk};
 ghost use Rattle.xd_syntax.specs.declared.types.TypeId.{TypeId};
 ghost use Rattle.xd_syntax.specs.declared.patterns.PatternId.{PatternId};
-ghost use Rattle.xd_syntax.specs.Table.{KeepsRows, Row, CanFollow, IsSeqPart, IsAltPart};
+ghost use Rattle.xd_syntax.specs.Table.{Row, CanFollow, KeepsRows, IsSeqPart, IsAltPart};
 ghost use Rattle.xd_syntax.specs.Placed.{placed_at, placed_form, place_of};
 ghost use Rattle.xd_parse.specs.Merged.{parts_of_seq, parts_of_alt};
 ghost use Rattle.xd_parse.specs.Nodes.{binders, shape, IsAdded, AddsParts};
@@ -48,7 +48,8 @@ pub(crate) trait Nodes {
     /// One more node.
     fn add(&mut self, place: Place, form: NodeForm<Self::Id>) -> Result<Self::Id, NoMemory>
         requires { CanFollow (binders sort) (rows self.old) (shape at form) }
-        ensures { MatchResult result (λ id. IsAdded (rows self.old) (rows self.new) (placed_form (placed_at (rows self.old)) place (shape at form)) (at id)) (λ e. KeepsRows (rows self.old) (rows self.new)) };
+        ensures added { IfOk result (λ id. IsAdded (rows self.old) (rows self.new) (placed_form (placed_at (rows self.old)) place (shape at form)) (at id)) }
+        ensures keeps { KeepsRows (rows self.old) (rows self.new) };
 
     /// The place of a node.
     fn place(&self, id: Self::Id) -> Place
@@ -81,7 +82,8 @@ impl Nodes for Types {
 
     fn add(&mut self, place: Place, form: NodeForm<TypeId>) -> Result<TypeId, NoMemory>
         requires { CanFollow false self.old (shape (λ (id : TypeId). id.at) form) }
-        ensures { MatchResult result (λ id. IsAdded self.old self.new (placed_form (placed_at self.old) place (shape (λ (id : TypeId). id.at) form)) id.at) (λ e. KeepsRows self.old self.new) }
+        ensures added { IfOk result (λ id. IsAdded self.old self.new (placed_form (placed_at self.old) place (shape (λ (id : TypeId). id.at) form)) id.at) }
+        ensures keeps { KeepsRows self.old self.new }
     {
         let form = match form {
             NodeForm::Empty => TypeForm::Empty,
@@ -135,7 +137,8 @@ impl Nodes for Patterns {
 
     fn add(&mut self, place: Place, form: NodeForm<PatternId>) -> Result<PatternId, NoMemory>
         requires { CanFollow true self.old (shape (λ (id : PatternId). id.at) form) }
-        ensures { MatchResult result (λ id. IsAdded self.old self.new (placed_form (placed_at self.old) place (shape (λ (id : PatternId). id.at) form)) id.at) (λ e. KeepsRows self.old self.new) }
+        ensures added { IfOk result (λ id. IsAdded self.old self.new (placed_form (placed_at self.old) place (shape (λ (id : PatternId). id.at) form)) id.at) }
+        ensures keeps { KeepsRows self.old self.new }
     {
         let form = match form {
             NodeForm::Empty => PatternForm::Empty,

@@ -22,7 +22,7 @@ pub fn read_pattern_seq(
 ) -> Result<PatternId, NoMemory>
     ensures reads { IfOk result (λ id. Reads nonterminals.PatternSeq cursor.old cursor.new (a_pattern (placed_at patterns.new id.at))) }
     ensures belongs { IfOk result (IsPattern patterns.new) }
-    ensures keeps { IfOk result (λ id. KeepsRows patterns.old patterns.new) }
+    ensures keeps { KeepsRows patterns.old patterns.new }
     ensures left { IfOk result (λ id. length cursor.new ≤ length cursor.old) }
 {
     read_branch(alloc, cursor, patterns)

@@ -3,10 +3,10 @@
 //! They have one grammar, but for the variables of patterns. Each function reads what its nonterminal stands for; where
 //! no token comes that the nonterminal begins with, it may answer any node.
 
-ghost use Rattle.std.specs.Prelude.{◌≡◌, ◌<◌, ◌≤◌, ◌∷◌, [], false, length, MatchResult};
+ghost use Rattle.std.specs.Prelude.{◌≡◌, ◌<◌, ◌≤◌, ◌∷◌, [], false, length, IfOk};
 ghost use Rattle.xd_syntax.specs.Words.{has_word, keywords};
-ghost use Rattle.xd_syntax.specs.Table.{KeepsRows};
 ghost use Rattle.xd_syntax.specs.Placed.{placed_at};
+ghost use Rattle.xd_syntax.specs.Table.{KeepsRows};
 ghost use Rattle.xd_parse.specs.declared.grammar.Nonterminal.TheVariants as nonterminals;
 ghost use Rattle.xd_parse.specs.declared.grammar.Terminal.TheVariants as terminals;
 ghost use Rattle.xd_parse.specs.declared.machine.Sort.TheVariants as sorts;
@@ -27,7 +27,8 @@ use xd_doc::{Label, NoMemory};
 /// The node of a word: `String` is the type of texts.
 fn add_named<N: Nodes>(nodes: &mut N, word: Word) -> Result<N::Id, NoMemory>
     requires { has_word keywords word.word ≡ false }
-    ensures { MatchResult result (λ id. IsAdded (N.rows nodes.old) (N.rows nodes.new) (named word.word word.place) (N.at id)) (λ e. KeepsRows (N.rows nodes.old) (N.rows nodes.new)) }
+    ensures added { IfOk result (λ id. IsAdded (N.rows nodes.old) (N.rows nodes.new) (named word.word word.place) (N.at id)) }
+    ensures keeps { KeepsRows (N.rows nodes.old) (N.rows nodes.new) }
 {
     let Word { word, place } = word;
     if word.as_str() == "String" {
@@ -43,7 +44,8 @@ fn read_operator<N: Nodes>(
     part: N::Id,
 ) -> Result<N::Id, NoMemory>
     requires { N.at part < length (N.rows nodes.old) }
-    ensures { MatchResult result (λ id. ReadsInto N.sort (post N.sort) (node N.sort (placed_at (N.rows nodes.old) (N.at part)) ∷ []) nonterminals.Operator cursor.old cursor.new (N.rows nodes.old) (N.rows nodes.new) (N.at id)) (λ e. KeepsRows (N.rows nodes.old) (N.rows nodes.new)) }
+    ensures reads { IfOk result (λ id. ReadsInto N.sort (post N.sort) (node N.sort (placed_at (N.rows nodes.old) (N.at part)) ∷ []) nonterminals.Operator cursor.old cursor.new (N.rows nodes.old) (N.rows nodes.new) (N.at id)) }
+    ensures keeps { KeepsRows (N.rows nodes.old) (N.rows nodes.new) }
 {
     let form = match cursor.peek() {
         Terminal::Star => NodeForm::Star(part),
@@ -63,7 +65,8 @@ pub(crate) fn read_tree<N: Nodes>(
     cursor: &mut Cursor<'_>,
     nodes: &mut N,
 ) -> Result<N::Id, NoMemory>
-    ensures { MatchResult result (λ id. ReadsNode N.sort (whole N.sort) cursor.old cursor.new (N.rows nodes.old) (N.rows nodes.new) (N.at id)) (λ e. KeepsRows (N.rows nodes.old) (N.rows nodes.new)) }
+    ensures reads { IfOk result (λ id. ReadsNode N.sort (whole N.sort) cursor.old cursor.new (N.rows nodes.old) (N.rows nodes.new) (N.at id)) }
+    ensures keeps { KeepsRows (N.rows nodes.old) (N.rows nodes.new) }
 {
     let first = read_branch(alloc, cursor, nodes)?;
     let mut more = Vec::new(alloc);
@@ -81,7 +84,8 @@ pub(crate) fn read_branch<N: Nodes>(
     cursor: &mut Cursor<'_>,
     nodes: &mut N,
 ) -> Result<N::Id, NoMemory>
-    ensures { MatchResult result (λ id. ReadsNode N.sort (branch N.sort) cursor.old cursor.new (N.rows nodes.old) (N.rows nodes.new) (N.at id)) (λ e. KeepsRows (N.rows nodes.old) (N.rows nodes.new)) }
+    ensures reads { IfOk result (λ id. ReadsNode N.sort (branch N.sort) cursor.old cursor.new (N.rows nodes.old) (N.rows nodes.new) (N.at id)) }
+    ensures keeps { KeepsRows (N.rows nodes.old) (N.rows nodes.new) }
 {
     let first = read_part(alloc, cursor, nodes)?;
     let mut more = Vec::new(alloc);
@@ -99,7 +103,8 @@ fn read_part<N: Nodes>(
     cursor: &mut Cursor<'_>,
     nodes: &mut N,
 ) -> Result<N::Id, NoMemory>
-    ensures { MatchResult result (λ id. ReadsNode N.sort (post N.sort) cursor.old cursor.new (N.rows nodes.old) (N.rows nodes.new) (N.at id)) (λ e. KeepsRows (N.rows nodes.old) (N.rows nodes.new)) }
+    ensures reads { IfOk result (λ id. ReadsNode N.sort (post N.sort) cursor.old cursor.new (N.rows nodes.old) (N.rows nodes.new) (N.at id)) }
+    ensures keeps { KeepsRows (N.rows nodes.old) (N.rows nodes.new) }
 {
     if cursor.at(Terminal::Val) {
         return read_variable(alloc, cursor, nodes);
@@ -116,7 +121,8 @@ fn read_variable<N: Nodes>(
     nodes: &mut N,
 ) -> Result<N::Id, NoMemory>
     requires { front_terminal cursor.old ≡ terminals.Val }
-    ensures { MatchResult result (λ id. ReadsNode N.sort (post N.sort) cursor.old cursor.new (N.rows nodes.old) (N.rows nodes.new) (N.at id)) (λ e. KeepsRows (N.rows nodes.old) (N.rows nodes.new)) }
+    ensures reads { IfOk result (λ id. ReadsNode N.sort (post N.sort) cursor.old cursor.new (N.rows nodes.old) (N.rows nodes.new) (N.at id)) }
+    ensures keeps { KeepsRows (N.rows nodes.old) (N.rows nodes.new) }
 {
     let place = cursor.step();
     match N::sort() {
@@ -138,7 +144,8 @@ fn read_bound<N: Nodes>(
     variable: Word,
 ) -> Result<N::Id, NoMemory>
     requires { N.sort ≡ sorts.Pattern }
-    ensures { MatchResult result (λ id. ReadsInto N.sort (post N.sort) (mark terminals.Val place ∷ (word variable.word variable.place ∷ [])) nonterminals.Bound cursor.old cursor.new (N.rows nodes.old) (N.rows nodes.new) (N.at id)) (λ e. KeepsRows (N.rows nodes.old) (N.rows nodes.new)) }
+    ensures reads { IfOk result (λ id. ReadsInto N.sort (post N.sort) (mark terminals.Val place ∷ (word variable.word variable.place ∷ [])) nonterminals.Bound cursor.old cursor.new (N.rows nodes.old) (N.rows nodes.new) (N.at id)) }
+    ensures keeps { KeepsRows (N.rows nodes.old) (N.rows nodes.new) }
 {
     let Word { word, place: at } = variable;
     if cursor.at(Terminal::As) {
@@ -158,7 +165,8 @@ fn read_primary<N: Nodes>(
     cursor: &mut Cursor<'_>,
     nodes: &mut N,
 ) -> Result<N::Id, NoMemory>
-    ensures { MatchResult result (λ id. ReadsNode N.sort (primary N.sort) cursor.old cursor.new (N.rows nodes.old) (N.rows nodes.new) (N.at id)) (λ e. KeepsRows (N.rows nodes.old) (N.rows nodes.new)) }
+    ensures reads { IfOk result (λ id. ReadsNode N.sort (primary N.sort) cursor.old cursor.new (N.rows nodes.old) (N.rows nodes.new) (N.at id)) }
+    ensures keeps { KeepsRows (N.rows nodes.old) (N.rows nodes.new) }
 {
     match cursor.peek() {
         Terminal::Word => {
@@ -185,7 +193,8 @@ fn read_element<N: Nodes>(
     nodes: &mut N,
 ) -> Result<N::Id, NoMemory>
     requires { BeginsElement N.sort cursor.old }
-    ensures { MatchResult result (λ id. ReadsNode N.sort (primary N.sort) cursor.old cursor.new (N.rows nodes.old) (N.rows nodes.new) (N.at id)) (λ e. KeepsRows (N.rows nodes.old) (N.rows nodes.new)) }
+    ensures reads { IfOk result (λ id. ReadsNode N.sort (primary N.sort) cursor.old cursor.new (N.rows nodes.old) (N.rows nodes.new) (N.at id)) }
+    ensures keeps { KeepsRows (N.rows nodes.old) (N.rows nodes.new) }
 {
     let class = read_class(alloc, cursor)?;
     let content = read_content(alloc, cursor, nodes)?;
@@ -200,7 +209,8 @@ fn read_group<N: Nodes>(
     nodes: &mut N,
     place: Place,
 ) -> Result<N::Id, NoMemory>
-    ensures { MatchResult result (λ id. ReadsInto N.sort (primary N.sort) (mark terminals.ParenL place ∷ []) (group N.sort) cursor.old cursor.new (N.rows nodes.old) (N.rows nodes.new) (N.at id)) (λ e. KeepsRows (N.rows nodes.old) (N.rows nodes.new)) }
+    ensures reads { IfOk result (λ id. ReadsInto N.sort (primary N.sort) (mark terminals.ParenL place ∷ []) (group N.sort) cursor.old cursor.new (N.rows nodes.old) (N.rows nodes.new) (N.at id)) }
+    ensures keeps { KeepsRows (N.rows nodes.old) (N.rows nodes.new) }
 {
     if cursor.at(Terminal::ParenR) {
         cursor.step();
@@ -218,7 +228,8 @@ fn read_content<N: Nodes>(
     cursor: &mut Cursor<'_>,
     nodes: &mut N,
 ) -> Result<N::Id, NoMemory>
-    ensures { MatchResult result (λ id. ReadsNode N.sort (content N.sort) cursor.old cursor.new (N.rows nodes.old) (N.rows nodes.new) (N.at id)) (λ e. KeepsRows (N.rows nodes.old) (N.rows nodes.new)) }
+    ensures reads { IfOk result (λ id. ReadsNode N.sort (content N.sort) cursor.old cursor.new (N.rows nodes.old) (N.rows nodes.new) (N.at id)) }
+    ensures keeps { KeepsRows (N.rows nodes.old) (N.rows nodes.new) }
 {
     if cursor.at(Terminal::BracketR) {
         return nodes.add(cursor.step(), NodeForm::Empty);

@@ -1,9 +1,9 @@
 use Rattle.std.proofs.Common.{◌≡◌, false, ap, sym, ◌∙◌, subst}
+use Rattle.std.proofs.lemmas.Result.{IfOk-weaker}
 use Rattle.std.specs.Str.{bytes_eq}
 use Rattle.xd_syntax.specs.Words.{string_word}
 use Rattle.xd_syntax.specs.Placed.{PlacedTree}
 use Rattle.xd_parse.specs.Nodes.{IsAdded}
-use Rattle.xd_parse.proofs.Kept.{added_or_kept}
 use Rattle.xd_parse.proofs.NodeRows.{type_name, named_name}
 use Rattle.xd_parse.proofs.trees.add_named.Goals as goal
 
@@ -12,9 +12,9 @@ add-requires-2 g c =
     let e : bytes_eq c.args.word.word string_word ≡ false = ap (λ s. bytes_eq s string_word) (sym c.as_str.ensures.bytes) ∙ sym c.eq.ensures ∙ c.if-eq.false in
     type_name c.args.word.word c.requires e
 
-pub returns : goal.returns
-returns g c =
+pub returns-clause-added : goal.returns-clause-added
+returns-clause-added g c =
     let e : bytes_eq c.args.word.word string_word ≡ false = ap (λ s. bytes_eq s string_word) (sym c.as_str.ensures.bytes) ∙ sym c.eq.ensures ∙ c.if-eq.false in
-    added_or_kept c.add-2.result _ _ _ _
+    IfOk-weaker c.add-2.result _ _
     (λ id a. subst (λ (T : PlacedTree). IsAdded (g.N.Nodes.rows c.args.nodes.now) (g.N.Nodes.rows c.add-2.new.self) T (g.N.Nodes.at id)) (sym (named_name c.args.word.word c.args.word.place e)) a)
-    (λ k. k) c.add-2.ensures
+    c.add-2.ensures.added
