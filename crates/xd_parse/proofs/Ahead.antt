@@ -1,5 +1,5 @@
 -- Whether a parenthesis opens the labels of a class.
-use Rattle.std.proofs.Common.{◌≡◌, ◌<◌, ℕ, zero, suc, ◌++◌, Bool, true, false, cond, List, [], ◌∷◌, Option, Some, None, length, refl, sym, ap, subst, ◌∙◌, arith}
+use Rattle.std.proofs.Common.{◌≡◌, ◌<◌, ℕ, zero, suc, ◌++◌, Bool, true, false, List, [], ◌∷◌, Option, Some, None, length, refl, sym, ap, subst, arith}
 use Rattle.xd_lex.specs.Tokens.{Lexeme}
 use Rattle.xd_parse.specs.declared.grammar.Nonterminal.{Nonterminal}
 use Rattle.xd_parse.specs.declared.grammar.Nonterminal.TheVariants as n
@@ -12,8 +12,8 @@ use Rattle.xd_parse.specs.declared.machine.Reading.{Reading}
 use Rattle.xd_parse.specs.declared.machine.Reading.TheVariants.{Plain, Opened, Named, Barred, AfterVal, Shut}
 use Rattle.xd_parse.specs.declared.machine.Course.{Course}
 use Rattle.xd_parse.specs.declared.machine.Course.TheVariants.{Both, Main, Listed}
-use Rattle.xd_parse.specs.Grammar.{Row, rules, IsOneOf}
-use Rattle.xd_parse.specs.Fits.{same, first_fit}
+use Rattle.xd_parse.specs.Grammar.{Row, rules}
+use Rattle.xd_parse.specs.Fits.{first_fit}
 use Rattle.xd_parse.specs.Machine.{main_row, listed_row, course}
 use Rattle.xd_parse.specs.Values.{Value}
 use Rattle.xd_parse.specs.Means.{Means, terminal_at}

@@ -1,5 +1,5 @@
 -- What the rows of classes read.
-use Rattle.std.proofs.Common.{◌≡◌, ℕ, ◌-◌, ◌≤◌, ◌++◌, Bool, true, false, List, [], ◌∷◌, length, take, refl, sym, ap, subst, ◌∙◌, append-nil, append_assoc, arith}
+use Rattle.std.proofs.Common.{◌≡◌, ℕ, ◌-◌, ◌≤◌, ◌++◌, true, false, List, [], ◌∷◌, length, take, refl, sym, ap, subst, ◌∙◌, append-nil, append_assoc, arith}
 use Rattle.xd_base.specs.declared.Place.{Place}
 use Rattle.xd_lex.specs.Tokens.{Lexeme}
 use Rattle.xd_parse.specs.declared.grammar.Nonterminal.TheVariants as n
@@ -9,7 +9,7 @@ use Rattle.xd_parse.specs.declared.grammar.Terminal.TheVariants as t
 use Rattle.xd_parse.specs.Fits.{same}
 use Rattle.xd_parse.specs.Merged.{class_of}
 use Rattle.xd_parse.proofs.Derive.{same-true}
-use Rattle.xd_parse.specs.Values.{Value, token_of, names, labels, class}
+use Rattle.xd_parse.specs.Values.{names, labels, class}
 use Rattle.xd_parse.specs.Reading.{Reads, front_terminal, front_place, front_text, behind, any_text}
 use Rattle.xd_parse.proofs.Rows.{row_end, row_token, row_opening, row_closed, row_unless, row_part, part_one, part_fit, part_none}
 

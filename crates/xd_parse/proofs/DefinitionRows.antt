@@ -1,10 +1,10 @@
 -- What parameters and definitions read, and programs as their definitions are added.
-use Rattle.std.proofs.Common.{◌≡◌, ℕ, ◌<◌, ◌≤◌, arith, Bool, true, false, List, [], ◌∷◌, ◌++◌, Option, Some, None, length, map, refl, sym, ap, subst, ◌∙◌, append_assoc, append-nil}
+use Rattle.std.proofs.Common.{◌≡◌, ℕ, ◌<◌, ◌≤◌, arith, Bool, true, false, List, [], ◌∷◌, ◌++◌, Some, length, map, refl, sym, ap, subst, ◌∙◌, append_assoc, append-nil}
 use Rattle.std.proofs.lemmas.List.{map-append}
 use Rattle.std.specs.List.{AllByRecursion}
 use Rattle.xd_base.specs.declared.Place.{Place}
 use Rattle.xd_lex.specs.Tokens.{Lexeme}
-use Rattle.xd_syntax.specs.Placed.{PlacedTree, placed_at}
+use Rattle.xd_syntax.specs.Placed.{PlacedTree}
 use Rattle.xd_syntax.specs.Table.{Row as NodeRow, KeepsRows}
 use Rattle.xd_syntax.specs.Types.{BelongsTo}
 use Rattle.xd_syntax.specs.Expression.{Expression, ExprRow}
@@ -19,8 +19,7 @@ use Rattle.xd_parse.specs.declared.grammar.Terminal.{Terminal}
 use Rattle.xd_parse.specs.declared.grammar.Terminal.TheVariants as t
 use Rattle.xd_parse.specs.Grammar.{Row, rules}
 use Rattle.xd_parse.specs.Fits.{same, first_fit}
-use Rattle.xd_parse.specs.Values.{Value, mark, word, a_type, an_expression, a_parameter, parameters, definitions, token_of}
-use Rattle.xd_parse.specs.Means.{Means}
+use Rattle.xd_parse.specs.Values.{Value, word, a_type, an_expression, a_parameter, parameters, definitions, token_of}
 use Rattle.xd_parse.specs.Reading.{Reads, front_terminal, front_place, front_text, behind}
 use Rattle.xd_parse.specs.Definitions.{in_front, one_type, one_function, ReadsInFront, ReadsParameters}
 use Rattle.xd_parse.specs.Grows.{Grows}

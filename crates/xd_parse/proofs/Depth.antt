@@ -1,26 +1,16 @@
 -- The types of a text are no deeper than its nesting.
-use Rattle.std.proofs.Common.{◌≡◌, ◌<◌, ◌≤◌, ◌+◌, ◌-◌, ℕ, zero, suc, max, ◌++◌, ◌⊎◌, Bool, true, false, cond, List, [], ◌∷◌, map, flat_map, refl, sym, ap, subst, ◌∙◌, inl, inr, arith}
+use Rattle.std.proofs.Common.{◌≡◌, ◌≤◌, ◌+◌, ◌-◌, ℕ, suc, max, ◌++◌, Bool, true, false, cond, List, [], ◌∷◌, flat_map, refl, arith}
 use Rattle.std.proofs.Math.Nat.{le-max_left, le-max_right, max-le}
 use Rattle.std.specs.Str.{bytes_eq}
 use Rattle.xd_syntax.specs.Words.{string_word}
 use Rattle.std.specs.List.{AllByRecursion}
 use Rattle.xd_base.specs.declared.Place.{Place}
-use Rattle.xd_lex.specs.Tokens.{Lexeme}
-use Rattle.xd_syntax.specs.Tree as tree
-use Rattle.xd_syntax.specs.Tree.{Tree, is_empty}
 use Rattle.xd_syntax.specs.Placed.{PlacedTree, Empty_at, Text_at, Name_at, Elem_at, Seq_at, Alt_at, Star_at, Plus_at, Opt_at, Val_at, place_of, placed_seq, placed_alt, unplaced}
-use Rattle.xd_syntax.specs.TypeText.{any_type_level, sequence_level, postfix_level, primary_level, depth_at_level, depth}
-use Rattle.xd_syntax.specs.Program.{TypeDefinition, Parameter, FunctionDefinition, ProgramTree}
-use Rattle.xd_parse.specs.declared.grammar.Nonterminal.{Nonterminal}
-use Rattle.xd_parse.specs.declared.grammar.Nonterminal.TheVariants as n
-use Rattle.xd_parse.specs.declared.grammar.Symbol.TheVariants.{Token, Opening, Closed, Unless, Part}
+use Rattle.xd_syntax.specs.TypeText.{any_type_level, sequence_level, postfix_level, primary_level, depth_at_level}
 use Rattle.xd_parse.specs.declared.grammar.Terminal.{Terminal}
 use Rattle.xd_parse.specs.declared.grammar.Terminal.TheVariants as t
-use Rattle.xd_parse.specs.Grammar.{Row, rules, IsOneOf}
 use Rattle.xd_parse.specs.Merged.{parts_of_seq, parts_of_alt, merged_seq, sequence, alternative}
-use Rattle.xd_parse.specs.Values.{Value, mark, word, label, quoted, absent, a_type, types, a_pattern, patterns, names, labels, class, an_expression, expressions, a_clause, clauses, a_parameter, parameters, definitions, value_of, repeated, named}
-use Rattle.xd_parse.specs.Values as values
-use Rattle.xd_parse.proofs.Spelled.{MeansAt, ends_at, token_at, opening_at, closing_at, bar_at, part_at}
+use Rattle.xd_parse.specs.Values.{repeated, named}
 
 -- ---- how deep a type is at a level, beside the next
 abbrev pub any_depth : PlacedTree → ℕ

@@ -1,5 +1,5 @@
 -- A word that is no keyword.
-use Rattle.std.proofs.Common.{◌≡◌, ℕ, Bool, true, false, cond, List, refl, sym, ap, ◌∙◌}
+use Rattle.std.proofs.Common.{◌≡◌, ℕ, Bool, true, false, cond, List, refl, sym, ◌∙◌}
 use Rattle.std.specs.Prelude.{codes}
 use Rattle.std.specs.Str.{bytes_eq}
 use Rattle.xd_lex.specs.declared.Kind.{Kind}
@@ -8,7 +8,7 @@ use Rattle.xd_syntax.specs.Words.{has_word, keywords}
 use Rattle.xd_syntax.proofs.NamedLaws.{bytes_eq-turned}
 use Rattle.xd_parse.specs.declared.grammar.Terminal.{Terminal}
 use Rattle.xd_parse.specs.declared.grammar.Terminal.TheVariants as t
-use Rattle.xd_parse.specs.Fits.{number, same}
+use Rattle.xd_parse.specs.Fits.{same}
 use Rattle.xd_parse.specs.Text.{terminal_of, word_terminal}
 
 -- the test of a word against a keyword failed, where the result is no keyword

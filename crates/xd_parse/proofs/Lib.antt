@@ -24,4 +24,3 @@ pub mod JoinLemmas
 pub mod ExprRows
 pub mod Readers
 pub mod Adding
-pub mod Kept

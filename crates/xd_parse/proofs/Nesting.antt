@@ -1,5 +1,5 @@
 -- The types that a text stands for are no deeper than its nesting.
-use Rattle.std.proofs.Common.{◌≡◌, ◌<◌, ◌≤◌, ◌+◌, ℕ, zero, suc, ◌++◌, ◌⊎◌, Bool, true, false, cond, List, [], ◌∷◌, refl, sym, ap, subst, ◌∙◌, inl, inr, arith}
+use Rattle.std.proofs.Common.{◌≡◌, ◌<◌, ◌≤◌, ◌+◌, ℕ, zero, suc, ◌⊎◌, Bool, true, false, cond, List, [], ◌∷◌, refl, sym, ap, subst, ◌∙◌, inl, inr, arith}
 use Rattle.std.specs.List.{AllByRecursion}
 use Rattle.xd_base.specs.declared.Place.{Place}
 use Rattle.xd_doc.specs.Classes.{LabelClass}
@@ -13,7 +13,7 @@ use Rattle.xd_parse.specs.declared.grammar.Symbol.TheVariants.{Token, Opening, C
 use Rattle.xd_parse.specs.declared.grammar.Terminal.{Terminal}
 use Rattle.xd_parse.specs.declared.grammar.Terminal.TheVariants as t
 use Rattle.xd_parse.specs.Grammar.{Row, rules, IsOneOf}
-use Rattle.xd_parse.specs.Values.{Value, mark, word, label, absent, a_type, types, labels, class, an_expression, a_parameter, parameters, definitions, token_value, value_of, type_value, type_seq_value, more_types_value, type_post_value, type_prim_value, type_group_value, type_content_value, type_text_value, class_value, labels_value, param_value, more_params_value, definitions_value}
+use Rattle.xd_parse.specs.Values.{Value, mark, word, absent, a_type, types, class, an_expression, a_parameter, parameters, definitions, token_value, value_of, type_value, type_seq_value, more_types_value, type_post_value, type_prim_value, type_group_value, type_content_value, type_text_value, param_value, more_params_value, definitions_value}
 use Rattle.xd_parse.proofs.Depth.{plain, any_depth, AnyWithin, SeqWithin, PostWithin, PrimWithin, prim_post, any_prim, sequence_within, alternative_within, repeated_within, named_within}
 use Rattle.xd_parse.proofs.Spelled.{MeansAt, ends_at, token_at, opening_at, closing_at, bar_at, part_at, MeansWithin}
 

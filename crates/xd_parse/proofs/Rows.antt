@@ -1,20 +1,16 @@
 -- What rows of symbols read, part by part.
-use Rattle.std.proofs.Common.{◌≡◌, ◌≢◌, ℕ, zero, suc, ◌++◌, ◌⊎◌, Bool, true, false, cond, List, [], ◌∷◌, Option, Some, None, refl, sym, ap, subst, ◌∙◌, inl, inr}
-use Rattle.xd_base.specs.declared.Place.{Place}
+use Rattle.std.proofs.Common.{◌≡◌, ◌≢◌, ℕ, zero, suc, ◌++◌, Bool, true, false, cond, List, [], ◌∷◌, Some, None, refl, sym, ap, subst, ◌∙◌, inl, inr}
 use Rattle.xd_lex.specs.Tokens.{Lexeme}
 use Rattle.xd_parse.specs.declared.grammar.Nonterminal.{Nonterminal}
 use Rattle.xd_parse.specs.declared.grammar.Nonterminal.TheVariants as n
-use Rattle.xd_parse.specs.declared.grammar.Symbol.{Symbol}
 use Rattle.xd_parse.specs.declared.grammar.Symbol.TheVariants.{Token, Opening, Closed, Unless, Part}
 use Rattle.xd_parse.specs.declared.grammar.Terminal.{Terminal}
-use Rattle.xd_parse.specs.declared.grammar.Terminal.TheVariants as t
 use Rattle.xd_parse.specs.Grammar.{Row, rules, IsOneOf}
 use Rattle.xd_parse.specs.Fits.{same, fits, first_fit}
-use Rattle.xd_parse.specs.Text.{terminal_of}
 use Rattle.xd_parse.specs.Values.{Value, token_of, token_value, value_of}
 use Rattle.xd_parse.specs.Means.{Means, ends, a_token, an_opening, a_closing, a_bar, a_part, terminal_at}
 use Rattle.xd_parse.specs.Reading.{Reads, front_terminal, front_place, front_text, behind}
-use Rattle.xd_parse.proofs.Derive.{same-of, same-other, same-false, same-true, may, any_of, is_group, decided, rules_decided, chosen_none, chosen_only}
+use Rattle.xd_parse.proofs.Derive.{same-of, same-other, may, any_of, is_group, rules_decided, chosen_none, chosen_only}
 
 -- ---- what is read, by the row's first symbol
 abbrev pub MeansView : Row → (from to : List Lexeme) → List Value → Type 0

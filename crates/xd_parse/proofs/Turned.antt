@@ -1,6 +1,5 @@
 -- From what was read to what the text stands for: a text that spells has some value, and what was read is that value.
-use Rattle.std.proofs.Common.{◌≡◌, ℕ, List, [], ◌∷◌, true, refl, sym, ap, subst, ◌∙◌}
-use Rattle.std.specs.Prelude.{IsUtf8, Option, Some, None, MatchOption}
+use Rattle.std.proofs.Common.{◌≡◌, ℕ, List, [], ◌∷◌, refl, subst}
 use Rattle.xd_lex.specs.Tokens.{Lexeme, tokens_of}
 use Rattle.xd_syntax.specs.Placed.{PlacedTree}
 use Rattle.xd_syntax.specs.Program.{ProgramTree}
@@ -8,10 +7,9 @@ use Rattle.xd_parse.specs.declared.grammar.Nonterminal.{Nonterminal}
 use Rattle.xd_parse.specs.declared.grammar.Nonterminal.TheVariants as n
 use Rattle.xd_parse.specs.declared.grammar.Symbol.TheVariants.{Token, Part}
 use Rattle.xd_parse.specs.declared.grammar.Terminal.TheVariants as t
-use Rattle.xd_parse.specs.Grammar.{Spells}
-use Rattle.xd_parse.specs.Text.{terminals_of, SpellsText}
+use Rattle.xd_parse.specs.Text.{SpellsText}
 use Rattle.xd_parse.specs.Values.{Value, a_type, definitions}
-use Rattle.xd_parse.specs.Means.{Means, MeansAll, IsProgramText, IsTypeText}
+use Rattle.xd_parse.specs.Means.{MeansAll, IsProgramText, IsTypeText}
 use Rattle.xd_parse.specs.Reading.{Reads, behind}
 use Rattle.xd_parse.proofs.Spelled.{read_all}
 use Rattle.xd_parse.proofs.Rows.{row_part, row_token, row_end, part_one}

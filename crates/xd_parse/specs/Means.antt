@@ -1,5 +1,5 @@
 -- The syntax tree of a text.
-use Rattle.std.specs.Prelude.{◌≢◌, List, [], ◌∷◌, ℕ, IsUtf8}
+use Rattle.std.specs.Prelude.{◌≢◌, List, [], ◌∷◌, ℕ}
 use Rattle.xd_lex.specs.Tokens.{Lexeme, tokens_of}
 use Rattle.xd_syntax.specs.Placed.{PlacedTree}
 use Rattle.xd_syntax.specs.Program.{ProgramTree}

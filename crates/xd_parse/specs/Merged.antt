@@ -1,5 +1,5 @@
 -- How parts become one node: sequences and alternatives are merged, and the names of a class are put in order.
-use Rattle.std.specs.Prelude.{ℕ, Bool, List, [], ◌∷◌, ◌++◌, flat_map}
+use Rattle.std.specs.Prelude.{ℕ, Bool, List, [], ◌∷◌, flat_map}
 use Rattle.std.specs.Ordering.{nat_cmp}
 use Rattle.std.specs.Cmp.Lexicographic.{slice_cmp}
 use Rattle.std.specs.declared.cmp.Ordering.{Ordering}

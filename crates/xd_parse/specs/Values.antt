@@ -9,7 +9,7 @@ use Rattle.xd_lex.specs.Spelled.{unescaped}
 use Rattle.xd_syntax.specs.Words.{any_word, string_word}
 use Rattle.xd_syntax.specs.Placed.{PlacedTree, Empty_at, Text_at, Name_at, Elem_at, Star_at, Plus_at, Opt_at, Val_at, place_of}
 use Rattle.xd_syntax.specs.Expression.{Expression, Nothing, Quoted, Variable, Tagged, Called, Matched, Clauses, no_clause, clause, arguments_of}
-use Rattle.xd_syntax.specs.Program.{TypeDefinition, Parameter, FunctionDefinition, ProgramTree}
+use Rattle.xd_syntax.specs.Program.{Parameter, ProgramTree}
 use Rattle.xd_parse.specs.declared.grammar.Nonterminal.{Nonterminal}
 use Rattle.xd_parse.specs.declared.grammar.Nonterminal.TheVariants as n
 use Rattle.xd_parse.specs.declared.grammar.Terminal.{Terminal}

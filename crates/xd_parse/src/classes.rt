@@ -91,10 +91,7 @@ fn read_labels(alloc: Global, cursor: &mut Cursor<'_>) -> Result<PlacedLabels, N
 }
 
 /// A class and the bracket behind it.
-pub(crate) fn read_class(
-    alloc: Global,
-    cursor: &mut Cursor<'_>,
-) -> Result<PlacedClass, NoMemory>
+pub(crate) fn read_class(alloc: Global, cursor: &mut Cursor<'_>) -> Result<PlacedClass, NoMemory>
     ensures reads { IfOk result (λ c. Reads nonterminals.Class cursor.old cursor.new (class c.place c.class)) }
     ensures fewer { IfOk result (λ c. length cursor.new ≤ length (behind cursor.old)) }
 {

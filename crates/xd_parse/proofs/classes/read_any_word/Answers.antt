@@ -1,6 +1,5 @@
 use Rattle.std.proofs.Common.{sym, ◌∙◌}
 use Rattle.xd_parse.proofs.ClassRows.{any_word_reads}
-use Rattle.xd_parse.proofs.ByteOrder.{class_made}
 use Rattle.xd_parse.proofs.classes.read_any_word.Goals as goal
 
 pub returns-clause-reads : goal.returns-clause-reads

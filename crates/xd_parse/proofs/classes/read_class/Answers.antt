@@ -1,5 +1,5 @@
-use Rattle.std.proofs.Common.{◌≡◌, true, false, List, [], ◌∷◌, sym, ap, subst, ◌∙◌}
-use Rattle.xd_doc.specs.Classes.{LabelClass, names_label}
+use Rattle.std.proofs.Common.{◌≡◌, true, false, List, [], sym, ap, subst, ◌∙◌}
+use Rattle.xd_doc.specs.Classes.{names_label}
 use Rattle.xd_lex.specs.Tokens.{Lexeme}
 use Rattle.xd_parse.specs.declared.grammar.Nonterminal.TheVariants as n
 use Rattle.xd_parse.specs.Reading.{Reads}

@@ -1,4 +1,4 @@
-use Rattle.std.proofs.Common.{List, [], ◌∷◌, ◌++◌, sym, ap, subst, ◌∙◌}
+use Rattle.std.proofs.Common.{sym, ◌∙◌}
 use Rattle.xd_parse.proofs.ClassRows.{label_reads, listed_reads}
 use Rattle.xd_parse.proofs.classes.read_labels.Goals as goal
 

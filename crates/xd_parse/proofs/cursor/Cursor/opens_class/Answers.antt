@@ -1,7 +1,5 @@
-use Rattle.std.proofs.Common.{List, sym, ap, ◌∙◌}
+use Rattle.std.proofs.Common.{sym, ap, ◌∙◌}
 use Rattle.xd_parse.specs.Machine.{course}
-use Rattle.xd_parse.proofs.Spelled.{read_all}
-use Rattle.xd_parse.proofs.Nesting.{all_within}
 use Rattle.xd_parse.proofs.Ahead.{readings_begin, readings_go, main_alone, listed_alone}
 use Rattle.xd_parse.proofs.cursor.Cursor.opens_class.Goals as goal
 
