@@ -1,4 +1,5 @@
 pub mod FirstForm
+pub mod Loaded
 pub mod Reading
 pub mod Membership
 pub mod Form

@@ -23,16 +23,16 @@ pub data Out : Type 0 where
   Behind : Row → Out
   Unknown : Out
 
-abbrev out_of : Option Row → (Row → Out) → Out
+abbrev pub out_of : Option Row → (Row → Out) → Out
 out_of None f = Dead
 out_of (Some made) f = f made
 
-abbrev dead_too : Out → Out
+abbrev pub dead_too : Out → Out
 dead_too Dead = Dead
 dead_too (Behind r) = Unknown
 dead_too Unknown = Unknown
 
-abbrev if_plain : Bool → Out → Out
+abbrev pub if_plain : Bool → Out → Out
 if_plain true o = Unknown
 if_plain false o = o
 

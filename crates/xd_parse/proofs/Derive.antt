@@ -122,7 +122,7 @@ fits-true (Unless j ∷ made) row e limit depth k ts d = rw (same-other j k (vie
 fits-true (Part part ∷ made) row e limit depth k ts d = refl
 
 -- ---- the same to some depth
-abbrev any_row : (Row → Bool) → List Row → Bool
+abbrev pub any_row : (Row → Bool) → List Row → Bool
 any_row p [] = false
 any_row p (r ∷ rs) = cond (p r) true (any_row p rs)
 
@@ -135,7 +135,7 @@ may (suc f) (Closed ∷ row) k = may f row k
 may (suc f) (Unless j ∷ row) k = cond (same j k) false (may f row k)
 may (suc f) (Part part ∷ row) k = any_row (λ (r : Row). may f (r ++ row) k) (rules part)
 
-any_of : (p : Row → Bool) (rs : List Row) (made : Row) → IsOneOf made rs → p made ≡ true → any_row p rs ≡ true
+pub any_of : (p : Row → Bool) (rs : List Row) (made : Row) → IsOneOf made rs → p made ≡ true → any_row p rs ≡ true
 any_of p [] made one h = absurd one
 any_of p (r ∷ rs) made (inl e) h = let q : p r ≡ true = subst (λ (x : Row). p x ≡ true) e h in rw q refl
 any_of p (r ∷ rs) made (inr one) h = let q : any_row p rs ≡ true = any_of p rs made one h in elim (p r) as (λ b. cond b true (any_row p rs) ≡ true) [ true ↦ refl | false ↦ q ]

@@ -4,3 +4,9 @@ pub mod Fits
 pub mod Machine
 pub mod FirstFault
 pub mod Text
+pub mod Faults
+pub mod Parsed
+pub mod Merged
+pub mod Values
+pub mod Means
+pub mod Reading

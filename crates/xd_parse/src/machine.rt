@@ -55,7 +55,7 @@ pub enum Step {
 /// Levels of nesting that may be open.
 const LIMIT: usize = 256;
 
-fn same(a: Terminal, b: Terminal) -> bool
+pub(crate) fn same(a: Terminal, b: Terminal) -> bool
     ensures { result ≡ same a b }
 {
     a as u8 == b as u8
@@ -223,7 +223,7 @@ fn at_name(sort: Sort, kind: Terminal) -> Course
 }
 
 /// Which reading goes on.
-fn course_at(reading: Reading, kind: Terminal) -> Course
+pub(crate) fn course_at(reading: Reading, kind: Terminal) -> Course
     ensures { result ≡ course reading kind }
 {
     match reading {

@@ -46,7 +46,7 @@ fn word_terminal(word: &str) -> Terminal
 }
 
 /// What a token is to the grammar.
-fn terminal(kind: Kind, text: &str) -> Terminal
+pub(crate) fn terminal(kind: Kind, text: &str) -> Terminal
     ensures { result ≡ terminal_of kind text.now }
 {
     match kind {

@@ -1,0 +1,7 @@
+use Rattle.std.proofs.Common.{sym, ◌∙◌}
+use Rattle.xd_parse.proofs.ClassRows.{any_word_reads}
+use Rattle.xd_parse.proofs.ByteOrder.{class_made}
+use Rattle.xd_parse.proofs.classes.read_any_word.Goals as goal
+
+pub returns-clause-reads : goal.returns-clause-reads
+returns-clause-reads c = rw (c.step.ensures.left, c.in_ok-word.ensures, c.any_text.ensures.text) (any_word_reads c.peek.result c.args.cursor.now c.word_text.result.now (sym c.peek.ensures) (λ e. c.word_text.ensures.word (sym c.peek.ensures ∙ e)))

@@ -1,0 +1,19 @@
+use Rattle.std.proofs.Common.{List, sym, ap, ◌∙◌}
+use Rattle.xd_parse.specs.Machine.{course}
+use Rattle.xd_parse.proofs.Spelled.{read_all}
+use Rattle.xd_parse.proofs.Ahead.{readings_begin, readings_go, main_alone, listed_alone}
+use Rattle.xd_parse.proofs.cursor.Cursor.opens_class.Goals as goal
+
+pub tokens-init : goal.tokens-init
+tokens-init c = rw (c.step.ensures.left, c.self.view_is) (readings_begin c.args.sort c.args.self.now c.requires)
+
+pub tokens-preserved : goal.tokens-preserved
+tokens-preserved c =
+    rw c.step-in-Both.ensures.left (readings_go c.args.sort c.tokens.reading c.in-Both.next c.args.self.now c.tokens.ahead c.tokens.invariant
+    (sym (c.course_at.ensures ∙ ap (course c.tokens.reading) c.peek.ensures) ∙ c.in-Both.is))
+
+pub returns-in-Main-clause-grouped : goal.returns-in-Main-clause-grouped
+returns-in-Main-clause-grouped c = λ e. main_alone c.args.sort c.tokens.reading c.args.self.now c.tokens.ahead c.tokens.invariant (sym (c.course_at.ensures ∙ ap (course c.tokens.reading) c.peek.ensures) ∙ c.in-Main.is)
+
+pub returns-in-Listed-clause-listed : goal.returns-in-Listed-clause-listed
+returns-in-Listed-clause-listed c = λ e. listed_alone c.args.sort c.tokens.reading c.args.self.now c.tokens.ahead c.tokens.invariant (sym (c.course_at.ensures ∙ ap (course c.tokens.reading) c.peek.ensures) ∙ c.in-Listed.is)

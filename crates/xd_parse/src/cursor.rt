@@ -1,0 +1,175 @@
+//! The tokens that are left.
+
+ghost use Rattle.std.specs.Prelude.{All, ◌≡◌, ◌-◌, false, true, map, take, length, IfOk};
+ghost use Rattle.xd_lex.specs.Tokens.{lexeme_of};
+ghost use Rattle.xd_lex.specs.Spelled.{IsSpelling};
+ghost use Rattle.xd_lex.specs.declared.Kind.TheVariants as kinds;
+ghost use Rattle.xd_syntax.specs.Words.{has_word, keywords};
+ghost use Rattle.xd_parse.specs.declared.grammar.Terminal.TheVariants as terminals;
+ghost use Rattle.xd_doc.specs.Word.{is_word};
+ghost use Rattle.xd_parse.specs.Fits.{same};
+ghost use Rattle.xd_parse.specs.Reading.{SpellNo, behind, element_row, front_place, front_terminal, front_text, group_row};
+
+use crate::grammar::Terminal;
+use crate::machine::{Course, Reading, Sort, course_at, same};
+use crate::text::terminal;
+use std::alloc::Global;
+use std::marker::Model;
+use xd_base::Place;
+use xd_doc::{Label, NoMemory};
+use xd_lex::{Kind, Token};
+
+/// A word and its place.
+#[derive(Drop)]
+pub struct Word {
+    pub word: Label,
+    pub place: Place,
+}
+
+/// The tokens that are left of a text.
+#[derive(Drop)]
+pub struct Cursor<'a> {
+    left: &'a [Token<'a>],
+}
+
+impl<'a> Model for Cursor<'a> {
+    ghost use Rattle.std.specs.Prelude.{All, List, map};
+    ghost use Rattle.xd_lex.specs.Tokens.{Lexeme, lexeme_of};
+    ghost use Rattle.xd_lex.specs.Spelled.{IsSpelling};
+
+    ghost Value = { List Lexeme };
+
+    ghost view = { λ c. map lexeme_of c.left.now };
+
+    ghost invariant = { λ c. All (λ token. IsSpelling token.kind token.text.now) c.left.now };
+}
+
+impl<'a> Cursor<'a> {
+    pub fn new(tokens: &'a [Token<'a>]) -> Self
+        requires { All (λ token. IsSpelling token.kind token.text.now) tokens.now }
+        ensures { result ≡ map lexeme_of tokens.now }
+    {
+        Self { left: tokens }
+    }
+
+    /// What the next token is to the grammar; `Broken` where no token is left.
+    pub fn peek(&self) -> Terminal
+        ensures { result ≡ front_terminal self.now }
+    {
+        match self.left.first() {
+            Some(token) => terminal(token.kind, token.text),
+            None => Terminal::Broken,
+        }
+    }
+
+    /// Whether this token comes next.
+    pub fn at(&self, kind: Terminal) -> bool
+        ensures { result ≡ same kind (front_terminal self.now) }
+    {
+        same(kind, self.peek())
+    }
+
+    /// Goes behind the next token, and gives its place.
+    pub fn step(&mut self) -> Place
+        ensures place { result ≡ front_place self.old }
+        ensures left { self.new ≡ behind self.old }
+    {
+        match self.left {
+            [token, left @ ..] => {
+                let place = token.place;
+                self.left = left;
+                place
+            }
+            [] => Place { line: 1, column: 1 },
+        }
+    }
+
+    /// Takes the next token as a word that is no keyword. Any other token, which no text has there that spells, is
+    /// taken as `_`.
+    pub fn word(&mut self, alloc: Global) -> Result<Word, NoMemory>
+        ensures word { IfOk result (λ w. front_terminal self.old ≡ terminals.Word → w.word ≡ front_text self.old) }
+        ensures place { IfOk result (λ w. w.place ≡ front_place self.old) }
+        ensures plain { IfOk result (λ w. has_word keywords w.word ≡ false) }
+        ensures left { IfOk result (λ w. self.new ≡ behind self.old) }
+    {
+        let text = self.word_text();
+        let word = Label::new(alloc, text)?;
+        let place = self.step();
+        Ok(Word { word, place })
+    }
+
+    /// The next token's text where it is a word that is no keyword, else `_`.
+    pub fn word_text(&self) -> &'a str
+        ensures word { front_terminal self.now ≡ terminals.Word → result.now ≡ front_text self.now }
+        ensures plain { has_word keywords result.now ≡ false }
+        ensures valid { is_word result.now ≡ true }
+    {
+        match self.left.first() {
+            Some(token) => match terminal(token.kind, token.text) {
+                Terminal::Word => token.text,
+                _ => "_",
+            },
+            None => "_",
+        }
+    }
+
+    /// Whether the parenthesis that comes next opens the labels of a class, and no type or pattern in parentheses.
+    ///
+    /// Looks at the words and bars behind it, up to the first token that tells: so no token is looked at for more than
+    /// one parenthesis.
+    pub fn opens_class(&self, sort: Sort) -> bool
+        requires { front_terminal self.now ≡ terminals.ParenL }
+        ensures listed { result ≡ true → SpellNo (group_row sort) self.now }
+        ensures grouped { result ≡ false → SpellNo (element_row sort) self.now }
+    {
+        let mut ahead = Cursor { left: self.left };
+        let mut reading = Reading::Opened(sort);
+        ahead.step();
+        'tokens: loop {
+            match course_at(reading, ahead.peek()) {
+                Course::Both(next) => {
+                    reading = next;
+                    ahead.step();
+                }
+                Course::Main => return false,
+                Course::Listed => return true,
+            }
+        }
+    }
+
+    /// Takes the next token as a label, without its bracket. Any other token, which no text has there that spells, is
+    /// taken as `_`.
+    pub fn label(&mut self, alloc: Global) -> Result<Word, NoMemory>
+        ensures word { IfOk result (λ w. front_terminal self.old ≡ terminals.Label → w.word ≡ take (length (front_text self.old) - 1) (front_text self.old)) }
+        ensures place { IfOk result (λ w. w.place ≡ front_place self.old) }
+        ensures left { IfOk result (λ w. self.new ≡ behind self.old) }
+    {
+        let word = Label::new(alloc, self.label_text())?;
+        let place = self.step();
+        Ok(Word { word, place })
+    }
+
+    /// The next token's word where it is a label, else `_`.
+    fn label_text(&self) -> &'a str
+        ensures word { front_terminal self.now ≡ terminals.Label → result.now ≡ take (length (front_text self.now) - 1) (front_text self.now) }
+        ensures valid { is_word result.now ≡ true }
+    {
+        match self.left.first() {
+            Some(token) => match token.kind {
+                Kind::Label => label_word(token.text),
+                _ => "_",
+            },
+            None => "_",
+        }
+    }
+}
+
+/// The word of a label, which ends with its bracket.
+fn label_word(text: &str) -> &str
+    requires { IsSpelling kinds.Label text.now }
+    ensures word { result.now ≡ take (length text.now - 1) text.now }
+    ensures valid { is_word result.now ≡ true }
+{
+    let (word, _bracket) = text.split_at(text.len() - 1);
+    word
+}
