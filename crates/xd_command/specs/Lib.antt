@@ -1,7 +1,5 @@
 pub mod FirstForm
 pub mod Loaded
-pub mod Reading
-pub mod Membership
 pub mod Form
 pub mod Answer
 pub mod Outcome
