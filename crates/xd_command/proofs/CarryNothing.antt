@@ -1,18 +1,18 @@
 -- Faults of names and of recursion carry no documents.
-use Rattle.std.proofs.Common.{◌≡◌, ℕ, Bool, true, false, not, cond, ◌||◌, ◌⊎◌, inl, inr, List, [], ◌∷◌, ◌++◌, map, flat_map, length, nat_eq, Option, Some, None, refl, sym, subst}
+use Rattle.std.proofs.Common.{◌≡◌, ℕ, zero, suc, ◌<◌, arith, get_or, Bool, true, false, not, cond, ◌||◌, List, [], ◌∷◌, ◌++◌, map, flat_map, length, nat_eq, Option, Some, None, sym, subst}
 use Rattle.std.specs.List.{AllByRecursion}
 use Rattle.xd_base.specs.declared.Place.{Place}
 use Rattle.xd_syntax.specs.Placed.{PlacedTree, Empty_at, Text_at, Name_at, Elem_at, Seq_at, Alt_at, Star_at, Plus_at, Opt_at, Val_at, variables}
 use Rattle.xd_syntax.specs.Expression.{Expression, Nothing, Quoted, Variable, Tagged, Joined, Called, Matched, Arguments, no_argument, argument, Clauses, no_clause, clause}
 use Rattle.xd_syntax.specs.Program.{TypeDefinition, Parameter, FunctionDefinition, ProgramTree, function_of}
 use Rattle.xd_syntax.specs.Words.{has_word, any_word, string_word}
-use Rattle.xd_syntax.specs.Order.{precedes, put_in, in_order, in_order_after}
+use Rattle.xd_syntax.specs.Order.{precedes, put_in, in_order_after}
 use Rattle.xd_syntax.specs.NameFaults as names
 use Rattle.xd_syntax.specs.NameFaults.{Spot, fault_at, fault_if}
-use Rattle.xd_syntax.specs.RecursionFaults.{AreRecursionFaults, UseIn, not_tail_fault, unguarded_fault}
+use Rattle.xd_syntax.specs.RecursionFaults.{AreRecursionFaults, not_tail_fault, unguarded_fault}
 use Rattle.xd_syntax.specs.declared.fault.Fault.{Fault}
 use Rattle.xd_syntax.specs.declared.fault.FaultKind.{FaultKind}
-use Rattle.xd_syntax.specs.declared.fault.FaultKind.TheVariants.{DuplicateName, UnknownType, UnknownFunction, UnknownVariable, Arity, NotLinear, NotUtf8, Syntax, TooDeep}
+use Rattle.xd_syntax.specs.declared.fault.FaultKind.TheVariants.{DuplicateName, UnknownType, UnknownVariable, Arity, NotLinear}
 use Rattle.xd_parse.specs.Faults.{IsFirstTextFault, reported}
 use Rattle.xd_parse.specs.declared.grammar.Nonterminal.{Nonterminal}
 use Rattle.xd_parse.specs.declared.text.TextFault.{TextFault}
@@ -43,11 +43,11 @@ all_if false p k c = tt
 
 all_put : (f : Fault) (gs : List Fault) → CarriesNothing f → CarryNothing gs → CarryNothing (put_in f gs)
 all_put f [] c a = (c, tt)
-all_put f (g ∷ gs) c a = go (precedes f g)
+all_put f (g ∷ gs) c a = go (precedes f g) (all_put f gs c a.1)
   where
-    go : (b : Bool) → CarryNothing (cond b (f ∷ (g ∷ gs)) (g ∷ put_in f gs))
-    go true = (c, a)
-    go false = (a.0, all_put f gs c a.1)
+    go : (b : Bool) → CarryNothing (put_in f gs) → CarryNothing (cond b (f ∷ (g ∷ gs)) (g ∷ put_in f gs))
+    go true r = (c, a)
+    go false r = (a.0, r)
 
 all_ordered : (done fs : List Fault) → CarryNothing done → CarryNothing fs → CarryNothing (in_order_after done fs)
 all_ordered done [] a b = a
@@ -118,7 +118,15 @@ function_carry P f =
     (expression_carry P (map (λ (q : Parameter). q.name) f.parameters) f.body)
 
 duplicate_names_carry : (P : ProgramTree) → CarryNothing (names.duplicate_names P)
-duplicate_names_carry P = all_append _ _ (all_append _ _ (duplicates_carry _ _) (duplicates_carry _ _)) (all_flat (λ (f : FunctionDefinition). names.duplicates [] (names.parameter_spots f.parameters)) (λ f. duplicates_carry [] (names.parameter_spots f.parameters)) P.functions)
+duplicate_names_carry P =
+    let type_spots : List Spot = map (λ (t : TypeDefinition). let s : Spot = record { word = t.name; place = t.place } in s) P.types in
+    let function_spots : List Spot = map (λ (f : FunctionDefinition). let s : Spot = record { word = f.name; place = f.place } in s) P.functions in
+    let parameters : List Fault = flat_map (λ (f : FunctionDefinition). names.duplicates [] (names.parameter_spots f.parameters)) P.functions in
+    all_append (names.duplicates (string_word ∷ any_word ∷ []) type_spots ++ names.duplicates [] function_spots) parameters
+    (all_append (names.duplicates (string_word ∷ any_word ∷ []) type_spots) (names.duplicates [] function_spots)
+    (duplicates_carry (string_word ∷ any_word ∷ []) type_spots)
+    (duplicates_carry [] function_spots))
+    (all_flat (λ (f : FunctionDefinition). names.duplicates [] (names.parameter_spots f.parameters)) (λ f. duplicates_carry [] (names.parameter_spots f.parameters)) P.functions)
 
 pub names_carry : (P : ProgramTree) → CarryNothing (names.name_faults P)
 names_carry P =
@@ -139,3 +147,9 @@ reported_carries (faults.TooDeep p) = tt
 
 pub text_fault_carries : (part : Nonterminal) (bytes : List ℕ) (f : Fault) → IsFirstTextFault part bytes f → CarryNothing (f ∷ [])
 text_fault_carries part bytes f h = (subst CarriesNothing (sym h.2) (reported_carries h.0), tt)
+
+-- what each of a list has, one of them has
+pub all_at : {A : Type 0} (Q : A → Type 0) (xs : List A) (i : ℕ) (x : A) → AllByRecursion Q xs → i < length xs → x ≡ get_or xs i x → Q x
+all_at Q [] i x a l e = absurd (omega arith)
+all_at Q (y ∷ ys) zero x a l e = subst Q (sym e) a.0
+all_at Q (y ∷ ys) (suc i) x a l e = all_at Q ys i x a.1 (omega arith) e

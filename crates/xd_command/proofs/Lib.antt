@@ -1,2 +1,7 @@
 pub mod Growth
-mod CarryNothing
+pub mod CarryNothing
+pub mod Names
+pub mod Forms
+pub mod Fitting
+pub mod Steps
+pub mod Usage

@@ -5,3 +5,5 @@ pub mod Answer
 pub mod Outcome
 pub mod Sent
 pub mod Fetched
+pub mod Reading
+pub mod Membership

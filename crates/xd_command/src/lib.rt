@@ -14,8 +14,10 @@ use xd_doc::NoMemory;
 
 mod check;
 mod fetch;
+mod first_form;
 mod fits;
 mod load;
+mod membership;
 mod output;
 #[cfg(test)]
 mod tests;
