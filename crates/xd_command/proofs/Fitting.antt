@@ -1,193 +1,175 @@
 -- Types of the first form, and the documents that fit them.
-use Rattle.std.proofs.Common.{◌≡◌, ℕ, zero, suc, ◌+◌, ◌<◌, ◌≤◌, Bool, true, false, cond, ◌↔◌, ◌||◌, not, IsTrue, List, [], ◌∷◌, ◌++◌, length, Option, Some, None, get_or, refl, sym, ap, subst, ◌∙◌, append_assoc, arith, length-append}
+use Rattle.std.proofs.Common.{◌≡◌, ℕ, zero, suc, ◌+◌, ◌<◌, ◌≤◌, Bool, true, false, cond, ◌↔◌, not, IsTrue, List, [], ◌∷◌, ◌++◌, length, map, Option, Some, None, get_or, refl, sym, ap, subst, ◌∙◌, append_assoc, arith, length-append}
 use Rattle.std.specs.Option.{option_map}
 use Rattle.std.specs.Str.{bytes_eq}
 use Rattle.xd_doc.specs.Document.{Document, empty, text, element, has_item}
-use Rattle.xd_doc.specs.Classes.{class_has}
-use Rattle.xd_syntax.specs.Tree.{Empty, Text, Name, Elem, Definitions, body, environment}
+use Rattle.xd_syntax.specs.Tree.{Tree, Empty, Text, Name, Elem, Seq, Alt, Star, Plus, Opt, Val, Definitions, body, environment}
 use Rattle.xd_syntax.specs.Words.{any_word}
+use Rattle.xd_syntax.specs.Placed.{unplaced}
+use Rattle.xd_syntax.specs.Table.{Row}
+use Rattle.xd_syntax.specs.Types.{BelongsTo, tree}
+use Rattle.xd_syntax.specs.Kept.{TypeDefStands, type_definition}
+use Rattle.xd_syntax.specs.declared.types.TypeDef.{TypeDef}
+use Rattle.xd_syntax.proofs.PlacedTrees.{unplaced_at}
+use Rattle.std.specs.List.{AllByRecursion}
+use Rattle.xd_syntax.specs.Program.{TypeDefinition}
 use Rattle.xd_syntax.specs.Fits.{Fits, fits_empty, fits_name, fits_elem, IsOneText}
 use Rattle.xd_syntax.proofs.FitsLaws.{empty_only, text_only, text_fits, element_only, defined_name, any_fits}
-use Rattle.xd_command.specs.declared.first_form.Around.{Around}
-use Rattle.xd_command.specs.declared.first_form.Around.TheVariants.{Parens, Labeled}
 use Rattle.xd_command.specs.declared.first_form.Core.{Core}
 use Rattle.xd_command.specs.declared.first_form.Core.TheVariants as cores
-use Rattle.xd_command.specs.declared.first_form.Definition.{Definition}
-use Rattle.xd_command.specs.FirstForm.{Inside, nothing, named, Written, only, type_tree, definitions_of}
-use Rattle.xd_command.specs.Reading.{IsCore, AreLookedUp, position_of}
-use Rattle.xd_command.specs.Membership.{AreOrdered, IsBelow, IsAround}
-use Rattle.xd_command.proofs.Names.{equal, same}
+use Rattle.xd_command.specs.Reading.{AreCores, IsCore, innermost, position_of}
+use Rattle.xd_command.specs.Membership.{IsBelow, IsInside}
+use Rattle.xd_command.proofs.Names.{cores-length, position-below, position-more}
 
 -- how many definitions a core may lead to
 abbrev pub rank : Core → ℕ
 rank (cores.Defined k) = suc k
 rank c = zero
 
--- the document fits the first type exactly where the other document fits what stands inside
-pub record Follows (ds : List Written) (i : Inside) (d : Document) (c : Core) (e : Document) : Type 0 where
-  pub inside : Inside
-  pub core : IsCore ds inside c
-  pub from : Fits (environment (definitions_of ds)) (type_tree [] i) d → Fits (environment (definitions_of ds)) (type_tree [] inside) e
-  pub to : Fits (environment (definitions_of ds)) (type_tree [] inside) e → Fits (environment (definitions_of ds)) (type_tree [] i) d
+abbrev pub bodies : List TypeDefinition → Definitions
+bodies ds = map (λ (t : TypeDefinition). (t.name, unplaced t.body)) ds
 
-pub follows_start : (ds : List Written) (i : Inside) (d : Document) (c : Core) → IsCore ds i c → Follows ds i d c d
-follows_start ds i d c h = record { inside = i; core = h; from = λ f. f; to = λ f. f }
+-- the document fits the first type exactly where the other document fits what the core is
+pub record Follows (ds : List TypeDefinition) (T : Tree) (d : Document) (c : Core) (e : Document) : Type 0 where
+  pub inside : Tree
+  pub core : IsCore ds c inside
+  pub from : Fits (environment (bodies ds)) T d → Fits (environment (bodies ds)) inside e
+  pub to : Fits (environment (bodies ds)) inside e → Fits (environment (bodies ds)) T d
 
--- through what stands around
+pub follows_start : (ds : List TypeDefinition) (T : Tree) (d : Document) (c : Core) → IsCore ds c T → Follows ds T d c d
+follows_start ds T d c h = record { inside = T; core = h; from = λ f. f; to = λ f. f }
 
-only_has : (w : List ℕ) (l : List ℕ) → class_has (only w) l ≡ true → w ≡ l
-only_has w l e = equal w l (or_false (bytes_eq w l) e)
-  where
-    or_false : (b : Bool) → (b || false) ≡ true → b ≡ true
-    or_false true e = refl
-    or_false false e = e
+-- through the elements
 
-around_from : (E : Definitions) (os : List Around) (i : Inside) (d : Document) → Fits E (type_tree os i) d → (e : Document) × (IsAround os d e × Fits E (type_tree [] i) e)
-around_from E [] i d f = (d, (refl, f))
-around_from E (Parens ∷ os) i d f = around_from E os i d f
-around_from E (Labeled w ∷ os) i empty f = absurd (element_only E (only w) (type_tree os i) empty f)
-around_from E (Labeled w ∷ os) i (text s r) f = absurd (element_only E (only w) (type_tree os i) (text s r) f)
-around_from E (Labeled w ∷ os) i (element l c r) f =
-    let h = element_only E (only w) (type_tree os i) (element l c r) f in
-    let n = around_from E os i c h.2 in
-    let k : w ≡ l = only_has w l h.1 in
-    (n.0, ((c, rw (k, h.0) refl, n.1.0), n.1.1))
+inside_from : (E : Definitions) (T : Tree) (d : Document) → Fits E T d → (e : Document) × IsInside T d e × Fits E (innermost T) e
+inside_from E Empty d f = (d, refl, f)
+inside_from E Text d f = (d, refl, f)
+inside_from E (Name w) d f = (d, refl, f)
+inside_from E (Seq T U) d f = (d, refl, f)
+inside_from E (Alt T U) d f = (d, refl, f)
+inside_from E (Star T) d f = (d, refl, f)
+inside_from E (Plus T) d f = (d, refl, f)
+inside_from E (Opt T) d f = (d, refl, f)
+inside_from E (Val x T) d f = (d, refl, f)
+inside_from E (Elem k T) empty f = absurd (element_only E k T empty f)
+inside_from E (Elem k T) (text s r) f = absurd (element_only E k T (text s r) f)
+inside_from E (Elem k T) (element l c r) f =
+    let h = element_only E k T (element l c r) f in
+    let n = inside_from E T c h.2 in
+    (n.0, (l, c, ap (λ x. element l c x) h.0, h.1, n.1), n.2)
 
-around_to : (E : Definitions) (os : List Around) (i : Inside) (d e : Document) → IsAround os d e → Fits E (type_tree [] i) e → Fits E (type_tree os i) d
-around_to E [] i d e h f = subst (λ x. Fits E (type_tree [] i) x) (sym h) f
-around_to E (Parens ∷ os) i d e h f = around_to E os i d e h f
-around_to E (Labeled w ∷ os) i d e h f =
-    subst (λ x. Fits E (Elem (only w) (type_tree os i)) x) (sym h.1) (fits_elem (has_own w) (around_to E os i h.0 e h.2 f))
-  where
-    has_own : (w : List ℕ) → class_has (only w) w ≡ true
-    has_own w = ap (λ b. b || false) (same w)
+inside_to : (E : Definitions) (T : Tree) (d e : Document) → IsInside T d e → Fits E (innermost T) e → Fits E T d
+inside_to E Empty d e h f = subst (λ x. Fits E Empty x) (sym h) f
+inside_to E Text d e h f = subst (λ x. Fits E Text x) (sym h) f
+inside_to E (Name w) d e h f = subst (λ x. Fits E (Name w) x) (sym h) f
+inside_to E (Seq T U) d e h f = subst (λ x. Fits E (Seq T U) x) (sym h) f
+inside_to E (Alt T U) d e h f = subst (λ x. Fits E (Alt T U) x) (sym h) f
+inside_to E (Star T) d e h f = subst (λ x. Fits E (Star T) x) (sym h) f
+inside_to E (Plus T) d e h f = subst (λ x. Fits E (Plus T) x) (sym h) f
+inside_to E (Opt T) d e h f = subst (λ x. Fits E (Opt T) x) (sym h) f
+inside_to E (Val x T) d e h f = subst (λ y. Fits E (Val x T) y) (sym h) f
+inside_to E (Elem k T) d e h f = subst (λ x. Fits E (Elem k T) x) (sym h.2) (fits_elem h.3 (inside_to E T h.1 e h.4 f))
 
-around_same : (os : List Around) (d e f : Document) → IsAround os d e → IsAround os d f → e ≡ f
-around_same [] d e f h k = sym h ∙ k
-around_same (Parens ∷ os) d e f h k = around_same os d e f h k
-around_same (Labeled w ∷ os) d e f h k =
-    let c : element w h.0 empty ≡ element w k.0 empty = sym h.1 ∙ k.1 in
-    let g : h.0 ≡ k.0 = cc in around_same os k.0 e f (subst (λ x. IsAround os x e) g h.2) k.2
+inside_same : (T : Tree) (d e f : Document) → IsInside T d e → IsInside T d f → e ≡ f
+inside_same Empty d e f h k = sym h ∙ k
+inside_same Text d e f h k = sym h ∙ k
+inside_same (Name w) d e f h k = sym h ∙ k
+inside_same (Seq T U) d e f h k = sym h ∙ k
+inside_same (Alt T U) d e f h k = sym h ∙ k
+inside_same (Star T) d e f h k = sym h ∙ k
+inside_same (Plus T) d e f h k = sym h ∙ k
+inside_same (Opt T) d e f h k = sym h ∙ k
+inside_same (Val x T) d e f h k = sym h ∙ k
+inside_same (Elem c T) d e f h k =
+    let both : element h.0 h.1 empty ≡ element k.0 k.1 empty = sym h.2 ∙ k.2 in
+    let g : h.1 ≡ k.1 = cc in inside_same T k.1 e f (subst (λ x. IsInside T x e) g h.4) k.4
 
 -- the definition that a name has
 
-position-more : (ds more : List Written) (w : List ℕ) (k : ℕ) → position_of ds w ≡ Some k → position_of (ds ++ more) w ≡ Some k
-position-more [] more w k e = cc
-position-more (d ∷ ds) more w k e = by_answer (bytes_eq d.name w) (position_of ds w) (position-more ds more w) e
+core-more : (ds more : List TypeDefinition) (c : Core) (T : Tree) → IsCore ds c T → IsCore (ds ++ more) c T
+core-more ds more cores.Empty T h = h
+core-more ds more cores.Text T h = h
+core-more ds more cores.Any T h = h
+core-more ds more (cores.Defined k) T h = (h.0, h.1, h.2, position-more ds more h.0 k h.3)
+
+pub core-below : (ds : List TypeDefinition) (c : Core) (T : Tree) → IsCore ds c T → IsBelow (length ds) c
+core-below ds cores.Empty T h = tt
+core-below ds cores.Text T h = tt
+core-below ds cores.Any T h = tt
+core-below ds (cores.Defined k) T h = position-below ds h.0 k h.3
+
+-- the definition with a number, and its core
+pub record IsFound (ds all : List TypeDefinition) (w : List ℕ) (t : TypeDefinition) (c : Core) : Type 0 where
+  pub there : body (bodies ds) w ≡ Some (unplaced t.body)
+  pub core : IsCore all c (innermost (unplaced t.body))
+
+found : (earlier ds : List TypeDefinition) (cs : List Core) (w : List ℕ) (n : ℕ) (t : TypeDefinition) (c : Core) → AreCores earlier ds cs → position_of ds w ≡ Some n → t ≡ get_or ds n t → c ≡ get_or cs n c → IsFound ds (earlier ++ ds) w t c
+found earlier [] cs w n t c h e g k = cc
+found earlier (d ∷ ds) [] w n t c h e g k = absurd h
+found earlier (d ∷ ds) (y ∷ cs) w n t c h e g k = by_answer (bytes_eq d.name w) refl (position_of ds w) refl e (λ j p q r. found (earlier ++ d ∷ []) ds cs w j t c h.1 p q r)
   where
-    by_answer : (b : Bool) (o : Option ℕ) → ((j : ℕ) → o ≡ Some j → position_of (ds ++ more) w ≡ Some j) → cond b (Some 0) (option_map suc o) ≡ Some k → cond b (Some 0) (option_map suc (position_of (ds ++ more) w)) ≡ Some k
-    by_answer true o r e = e
-    by_answer false None r e = cc
-    by_answer false (Some j) r e = ap (option_map suc) (r j refl) ∙ e
-
-position-below : (ds : List Written) (w : List ℕ) (k : ℕ) → position_of ds w ≡ Some k → k < length ds
-position-below [] w k e = cc
-position-below (d ∷ ds) w k e = by_answer (bytes_eq d.name w) (position_of ds w) (position-below ds w) e
-  where
-    by_answer : (b : Bool) (o : Option ℕ) → ((j : ℕ) → o ≡ Some j → j < length ds) → cond b (Some 0) (option_map suc o) ≡ Some k → k < suc (length ds)
-    by_answer true o r e = let f : zero ≡ k = cc in omega arith
-    by_answer false None r e = cc
-    by_answer false (Some j) r e = let f : suc j ≡ k = cc in let g = r j refl in omega arith
-
-core-more : (ds more : List Written) (i : Inside) (c : Core) → IsCore ds i c → IsCore (ds ++ more) i c
-core-more ds more nothing cores.Empty h = tt
-core-more ds more nothing cores.Text h = absurd h
-core-more ds more nothing cores.Any h = absurd h
-core-more ds more nothing (cores.Defined k) h = absurd h
-core-more ds more (named w) cores.Empty h = absurd h
-core-more ds more (named w) cores.Text h = h
-core-more ds more (named w) cores.Any h = h
-core-more ds more (named w) (cores.Defined k) h = (h.0, h.1, position-more ds more w k h.2)
-
-pub core-below : (ds : List Written) (i : Inside) (c : Core) → IsCore ds i c → IsBelow (length ds) c
-core-below ds nothing cores.Empty h = tt
-core-below ds nothing cores.Text h = absurd h
-core-below ds nothing cores.Any h = absurd h
-core-below ds nothing (cores.Defined k) h = absurd h
-core-below ds (named w) cores.Empty h = absurd h
-core-below ds (named w) cores.Text h = tt
-core-below ds (named w) cores.Any h = tt
-core-below ds (named w) (cores.Defined k) h = position-below ds w k h.2
-
--- the definition with a number, and what is kept of it
-pub record IsFound (ds all : List Written) (w : List ℕ) (k : Definition) : Type 0 where
-  pub written : Written
-  pub body : body (definitions_of ds) w ≡ Some (type_tree written.around written.inside)
-  pub around : k.around.items ≡ written.around
-  pub core : IsCore all written.inside k.core
-
-found : (earlier ds : List Written) (ks : List Definition) (w : List ℕ) (n : ℕ) (k : Definition) → AreLookedUp earlier ds ks → position_of ds w ≡ Some n → k ≡ get_or ks n k → IsFound ds (earlier ++ ds) w k
-found earlier [] ks w n k h e g = cc
-found earlier (d ∷ ds) [] w n k h e g = absurd h
-found earlier (d ∷ ds) (y ∷ ks) w n k h e g = by_answer (bytes_eq d.name w) refl (position_of ds w) refl e (λ j p q. found (earlier ++ d ∷ []) ds ks w j k h.2 p q)
-  where
-    by_answer : (b : Bool) → bytes_eq d.name w ≡ b → (o : Option ℕ) → position_of ds w ≡ o → cond (bytes_eq d.name w) (Some 0) (option_map suc (position_of ds w)) ≡ Some n → ((j : ℕ) → position_of ds w ≡ Some j → k ≡ get_or ks j k → IsFound ds ((earlier ++ d ∷ []) ++ ds) w k) → IsFound (d ∷ ds) (earlier ++ (d ∷ ds)) w k
+    by_answer : (b : Bool) → bytes_eq d.name w ≡ b → (o : Option ℕ) → position_of ds w ≡ o → cond (bytes_eq d.name w) (Some 0) (option_map suc (position_of ds w)) ≡ Some n → ((j : ℕ) → position_of ds w ≡ Some j → t ≡ get_or ds j t → c ≡ get_or cs j c → IsFound ds ((earlier ++ d ∷ []) ++ ds) w t c) → IsFound (d ∷ ds) (earlier ++ (d ∷ ds)) w t c
     by_answer true b o p e' r =
         let z : ◌≡◌ {A = Option ℕ} (Some 0) (Some n) = rw b at e' in
         let n0 : n ≡ 0 = cc in
-        let k0 : k ≡ y = rw n0 at g in
+        let t0 : t ≡ d = rw n0 at g in
+        let c0 : c ≡ y = rw n0 at k in
         record {
-          written = d;
-          body = rw b;
-          around = rw k0 h.0;
-          core = rw k0 (core-more earlier (d ∷ ds) d.inside y.core h.1);
+          there = rw (b, t0);
+          core = rw (t0, c0) (core-more earlier (d ∷ ds) y (innermost (unplaced d.body)) h.0);
         }
     by_answer false b None p e' r = let z = rw (b, p) at e' in cc
     by_answer false b (Some j) p e' r' =
         let z : ◌≡◌ {A = Option ℕ} (Some (suc j)) (Some n) = rw (b, p) at e' in
         let n1 : n ≡ suc j = cc in
-        let r = r' j p (rw n1 at g) in
+        let r = r' j p (rw n1 at g) (rw n1 at k) in
         record {
-          written = r.written;
-          body = rw b r.body;
-          around = r.around;
-          core = subst (λ l. IsCore l r.written.inside k.core) (append_assoc earlier (d ∷ []) ds) r.core;
+          there = rw b r.there;
+          core = subst (λ l. IsCore l c (innermost (unplaced t.body))) (append_assoc earlier (d ∷ []) ds) r.core;
         }
 
 -- each definition names earlier ones alone
-ordered_after : (earlier ds : List Written) (ks : List Definition) → AreLookedUp earlier ds ks → (n : ℕ) (k : Definition) → n < length ks → k ≡ get_or ks n k → IsBelow (length earlier + n) k.core
-ordered_after earlier [] [] h n k l g = absurd (omega arith)
-ordered_after earlier [] (y ∷ ks) h n k l g = absurd h
-ordered_after earlier (d ∷ ds) [] h n k l g = absurd h
-ordered_after earlier (d ∷ ds) (y ∷ ks) h zero k l g =
+ordered_after : (earlier ds : List TypeDefinition) (cs : List Core) → AreCores earlier ds cs → (n : ℕ) (c : Core) → n < length cs → c ≡ get_or cs n c → IsBelow (length earlier + n) c
+ordered_after earlier [] [] h n c l g = absurd (omega arith)
+ordered_after earlier [] (y ∷ cs) h n c l g = absurd h
+ordered_after earlier (d ∷ ds) [] h n c l g = absurd h
+ordered_after earlier (d ∷ ds) (y ∷ cs) h zero c l g =
     let e : length earlier + 0 ≡ length earlier = omega arith in
-    let k0 : k ≡ y = g in rw (e, k0) (core-below earlier d.inside y.core h.1)
-ordered_after earlier (d ∷ ds) (y ∷ ks) h (suc n) k l g =
+    let k0 : c ≡ y = g in rw (e, k0) (core-below earlier y (innermost (unplaced d.body)) h.0)
+ordered_after earlier (d ∷ ds) (y ∷ cs) h (suc n) c l g =
     let e : length (earlier ++ d ∷ []) + n ≡ length earlier + suc n = omega (arith, length-append earlier (d ∷ [])) in
-    rw e at (ordered_after (earlier ++ d ∷ []) ds ks h.2 n k (omega arith) g)
+    rw e at (ordered_after (earlier ++ d ∷ []) ds cs h.1 n c (omega arith) g)
 
-pub ordered : (ds : List Written) (ks : List Definition) → AreLookedUp [] ds ks → AreOrdered ks
-ordered ds ks h n k l g = let e : 0 + n ≡ n = omega arith in rw e at (ordered_after [] ds ks h n k l g)
+pub ordered : (ds : List TypeDefinition) (cs : List Core) → AreCores [] ds cs → (n : ℕ) (c : Core) → n < length cs → c ≡ get_or cs n c → IsBelow n c
+ordered ds cs h n c l g = let e : 0 + n ≡ n = omega arith in rw e at (ordered_after [] ds cs h n c l g)
 
 -- one name further
 
 not_any : (w : List ℕ) → bytes_eq any_word w ≡ false → (E : Definitions) → body (environment E) w ≡ body E w
 not_any w e E = rw e
 
-step_name : (ds : List Written) (ks : List Definition) (n : ℕ) (k : Definition) (i : Inside) → AreLookedUp [] ds ks → k ≡ get_or ks n k → IsCore ds i (cores.Defined n) →
-    (inside : Inside) × (IsCore ds inside k.core × ((d : Document) → Fits (environment (definitions_of ds)) (type_tree [] i) d ↔ Fits (environment (definitions_of ds)) (type_tree k.around.items inside) d))
-step_name ds ks n k nothing h g c = absurd c
-step_name ds ks n k (named w) h g c =
-    let f = found [] ds ks w n k h c.2 g in
-    let b : body (environment (definitions_of ds)) w ≡ Some (type_tree f.written.around f.written.inside) = not_any w c.1 (definitions_of ds) ∙ f.body in
-    let t : type_tree [] (named w) ≡ Name w = ap (λ x. cond x Text (Name w)) c.0 in
-    (f.written.inside, (f.core, λ d. ((λ x. subst (λ os. Fits (environment (definitions_of ds)) (type_tree os f.written.inside) d) (sym f.around) (defined_name (environment (definitions_of ds)) w _ d b (rw t at x))), (λ x. rw t (fits_name b (subst (λ os. Fits (environment (definitions_of ds)) (type_tree os f.written.inside) d) f.around x))))))
+pub step_name : (ds : List TypeDefinition) (cs : List Core) (n : ℕ) (t : TypeDefinition) (c : Core) (T : Tree) → AreCores [] ds cs → t ≡ get_or ds n t → c ≡ get_or cs n c → IsCore ds (cores.Defined n) T →
+    IsCore ds c (innermost (unplaced t.body)) × ((d : Document) → Fits (environment (bodies ds)) T d ↔ Fits (environment (bodies ds)) (unplaced t.body) d)
+step_name ds cs n t c T h g k i =
+    let f = found [] ds cs i.0 n t c h i.3 g k in
+    let b : body (environment (bodies ds)) i.0 ≡ Some (unplaced t.body) = not_any i.0 i.2 (bodies ds) ∙ f.there in
+    (f.core, λ d. ((λ x. defined_name (environment (bodies ds)) i.0 (unplaced t.body) d b (subst (λ U. Fits (environment (bodies ds)) U d) i.1 x)), (λ x. subst (λ U. Fits (environment (bodies ds)) U d) (sym i.1) (fits_name b x))))
 
-pub follows_more : (ds : List Written) (ks : List Definition) (n : ℕ) (k : Definition) (i : Inside) (d e f : Document) → AreLookedUp [] ds ks → k ≡ get_or ks n k → Follows ds i d (cores.Defined n) e → IsAround k.around.items e f → Follows ds i d k.core f
-follows_more ds ks n k i d e f h g w a =
-    let s = step_name ds ks n k w.inside h g w.core in
-    let E : Definitions = environment (definitions_of ds) in
+pub follows_more : (ds : List TypeDefinition) (cs : List Core) (n : ℕ) (t : TypeDefinition) (c : Core) (T : Tree) (d e f : Document) → AreCores [] ds cs → t ≡ get_or ds n t → c ≡ get_or cs n c → Follows ds T d (cores.Defined n) e → IsInside (unplaced t.body) e f → Follows ds T d c f
+follows_more ds cs n t c T d e f h g k w a =
+    let s = step_name ds cs n t c w.inside h g k w.core in
+    let E : Definitions = environment (bodies ds) in
     record {
-      inside = s.0;
-      core = s.1.0;
-      from = λ x. let y = around_from E k.around.items s.0 e ((s.1.1 e).0 (w.from x)) in subst (λ q. Fits E (type_tree [] s.0) q) (around_same k.around.items e y.0 f y.1.0 a) y.1.1;
-      to = λ x. w.to ((s.1.1 e).1 (around_to E k.around.items s.0 e f a x));
+      inside = innermost (unplaced t.body);
+      core = s.0;
+      from = λ x. let y = inside_from E (unplaced t.body) e ((s.1 e).0 (w.from x)) in subst (λ q. Fits E (innermost (unplaced t.body)) q) (inside_same (unplaced t.body) e y.0 f y.1 a) y.2;
+      to = λ x. w.to ((s.1 e).1 (inside_to E (unplaced t.body) e f a x));
     }
 
-pub follows_none : (ds : List Written) (ks : List Definition) (n : ℕ) (k : Definition) (i : Inside) (d e : Document) → AreLookedUp [] ds ks → k ≡ get_or ks n k → Follows ds i d (cores.Defined n) e → ((f : Document) → IsAround k.around.items e f → ⊥) → Fits (environment (definitions_of ds)) (type_tree [] i) d → ⊥
-follows_none ds ks n k i d e h g w none x =
-    let s = step_name ds ks n k w.inside h g w.core in
-    let y = around_from (environment (definitions_of ds)) k.around.items s.0 e ((s.1.1 e).0 (w.from x)) in none y.0 y.1.0
+pub follows_none : (ds : List TypeDefinition) (cs : List Core) (n : ℕ) (t : TypeDefinition) (c : Core) (T : Tree) (d e : Document) → AreCores [] ds cs → t ≡ get_or ds n t → c ≡ get_or cs n c → Follows ds T d (cores.Defined n) e → ((f : Document) → IsInside (unplaced t.body) e f → ⊥) → Fits (environment (bodies ds)) T d → ⊥
+follows_none ds cs n t c T d e h g k w none x =
+    let s = step_name ds cs n t c w.inside h g k w.core in
+    let y = inside_from (environment (bodies ds)) (unplaced t.body) e ((s.1 e).0 (w.from x)) in none y.0 y.1
 
 -- the last step
 
@@ -196,35 +178,70 @@ is_empty_of empty h = refl
 is_empty_of (text s r) h = cc
 is_empty_of (element l c r) h = cc
 
-core_empty : (E : Definitions) (ds : List Written) (j : Inside) (x : Document) → IsCore ds j cores.Empty → (Fits E (type_tree [] j) x → x ≡ empty) × (x ≡ empty → Fits E (type_tree [] j) x)
-core_empty E ds nothing x h = (empty_only E x, λ e. subst (λ y. Fits E Empty y) (sym e) fits_empty)
-core_empty E ds (named w) x h = absurd h
+pub follows_empty : (ds : List TypeDefinition) (T : Tree) (d e : Document) (b : Bool) → Follows ds T d cores.Empty e → b ≡ not (has_item e) → IsTrue b ↔ Fits (environment (bodies ds)) T d
+follows_empty ds T d e b w q =
+    let E : Definitions = environment (bodies ds) in (
+      (λ t. w.to (subst (λ U. Fits E U e) (sym w.core) (subst (λ y. Fits E Empty y) (sym (is_empty_of e (sym q ∙ t))) fits_empty))),
+      (λ f. q ∙ ap (λ x. not (has_item x)) (empty_only E e (subst (λ U. Fits E U e) w.core (w.from f)))),
+    )
 
-core_text : (E : Definitions) (ds : List Written) (j : Inside) (x : Document) → IsCore ds j cores.Text → (Fits E (type_tree [] j) x → IsOneText x) × (IsOneText x → Fits E (type_tree [] j) x)
-core_text E ds nothing x h = absurd h
-core_text E ds (named w) x h =
-    let t : type_tree [] (named w) ≡ Text = ap (λ b. cond b Text (Name w)) h in
-    ((λ f. text_only E x (rw t at f)), (λ f. rw t (text_fits E x f)))
+pub follows_text : (ds : List TypeDefinition) (T : Tree) (d e : Document) (b : Bool) → Follows ds T d cores.Text e → IsTrue b ↔ IsOneText e → IsTrue b ↔ Fits (environment (bodies ds)) T d
+follows_text ds T d e b w q =
+    let E : Definitions = environment (bodies ds) in
+    ((λ t. w.to (subst (λ U. Fits E U e) (sym w.core) (text_fits E e (q.0 t)))), (λ f. q.1 (text_only E e (subst (λ U. Fits E U e) w.core (w.from f)))))
 
-core_any : (E : Definitions) (ds : List Written) (j : Inside) (x : Document) → IsCore ds j cores.Any → Fits (environment E) (type_tree [] j) x
-core_any E ds nothing x h = absurd h
-core_any E ds (named w) x h = subst (λ v. Fits (environment E) (type_tree [] (named v)) x) (equal any_word w h) (any_fits E x)
-
-pub follows_empty : (ds : List Written) (i : Inside) (d e : Document) (b : Bool) → Follows ds i d cores.Empty e → b ≡ not (has_item e) → IsTrue b ↔ Fits (environment (definitions_of ds)) (type_tree [] i) d
-follows_empty ds i d e b w q =
-    let k = core_empty (environment (definitions_of ds)) ds w.inside e w.core in
-    ((λ t. w.to (k.1 (is_empty_of e (sym q ∙ t)))), (λ f. q ∙ ap (λ x. not (has_item x)) (k.0 (w.from f))))
-
-pub follows_text : (ds : List Written) (i : Inside) (d e : Document) (b : Bool) → Follows ds i d cores.Text e → IsTrue b ↔ IsOneText e → IsTrue b ↔ Fits (environment (definitions_of ds)) (type_tree [] i) d
-follows_text ds i d e b w q =
-    let k = core_text (environment (definitions_of ds)) ds w.inside e w.core in
-    ((λ t. w.to (k.1 (q.0 t))), (λ f. q.1 (k.0 (w.from f))))
-
-pub follows_any : (ds : List Written) (i : Inside) (d e : Document) → Follows ds i d cores.Any e → IsTrue true ↔ Fits (environment (definitions_of ds)) (type_tree [] i) d
-follows_any ds i d e w = ((λ t. w.to (core_any (definitions_of ds) ds w.inside e w.core)), (λ f. refl))
+pub follows_any : (ds : List TypeDefinition) (T : Tree) (d e : Document) → Follows ds T d cores.Any e → IsTrue true ↔ Fits (environment (bodies ds)) T d
+follows_any ds T d e w = ((λ t. w.to (subst (λ U. Fits (environment (bodies ds)) U e) (sym w.core) (any_fits (bodies ds) e))), (λ f. refl))
 
 pub below_more : (k n : ℕ) (c : Core) → k ≤ n → IsBelow k c → IsBelow n c
 below_more k n cores.Empty l h = tt
 below_more k n cores.Text l h = tt
 below_more k n cores.Any l h = tt
 below_more k n (cores.Defined j) l h = omega arith
+
+-- the same by the rows that types are kept as
+
+at_default : {A : Type 0} (xs : List A) (n : ℕ) (d : A) → get_or xs n d ≡ get_or xs n (get_or xs n d)
+at_default [] n d = refl
+at_default (x ∷ xs) zero d = refl
+at_default (x ∷ xs) (suc n) d = at_default xs n d
+
+at_map : {A B : Type 0} (f : A → B) (xs : List A) (n : ℕ) (d : A) → f (get_or xs n d) ≡ get_or (map f xs) n (f d)
+at_map f [] n d = refl
+at_map f (x ∷ xs) zero d = refl
+at_map f (x ∷ xs) (suc n) d = at_map f xs n d
+
+same_length : {A B : Type 0} (f : A → B) (xs : List A) → length (map f xs) ≡ length xs
+same_length f [] = refl
+same_length f (x ∷ xs) = ap suc (same_length f xs)
+
+pub number_below : (types : List Row) (defs : List TypeDef) (cs : List Core) (n : ℕ) → AreCores [] (map (type_definition types) defs) cs → n < length cs → n < length defs
+number_below types defs cs n h l = omega (arith, cores-length [] (map (type_definition types) defs) cs h, same_length (type_definition types) defs)
+
+pub there_at : (types : List Row) (defs : List TypeDef) (n : ℕ) (r : TypeDef) → AllByRecursion (TypeDefStands types) defs → n < length defs → BelongsTo types (get_or defs n r).body
+there_at types [] n r a l = absurd (omega arith)
+there_at types (d ∷ ds) zero r a l = a.0.body
+there_at types (d ∷ ds) (suc n) r a l = there_at types ds n r a.1 (omega arith)
+
+pub kept_more : (types : List Row) (defs : List TypeDef) (cs : List Core) (n : ℕ) (r : TypeDef) (T : Tree) (d e f : Document) → AreCores [] (map (type_definition types) defs) cs →
+    Follows (map (type_definition types) defs) T d (cores.Defined n) e → IsInside (tree types (get_or defs n r).body) e f → Follows (map (type_definition types) defs) T d (get_or cs n cores.Empty) f
+kept_more types defs cs n r T d e f h w a =
+    follows_more (map (type_definition types) defs) cs n (type_definition types (get_or defs n r)) (get_or cs n cores.Empty) T d e f h
+    (ap (type_definition types) (at_default defs n r) ∙ at_map (type_definition types) defs n (get_or defs n r)) (at_default cs n cores.Empty) w
+    (subst (λ U. IsInside U e f) (sym (unplaced_at types (get_or defs n r).body.at)) a)
+
+pub kept_none : (types : List Row) (defs : List TypeDef) (cs : List Core) (n : ℕ) (r : TypeDef) (T : Tree) (d e : Document) → AreCores [] (map (type_definition types) defs) cs →
+    Follows (map (type_definition types) defs) T d (cores.Defined n) e → ((f : Document) → IsInside (tree types (get_or defs n r).body) e f → ⊥) → Fits (environment (bodies (map (type_definition types) defs))) T d → ⊥
+kept_none types defs cs n r T d e h w none x =
+    follows_none (map (type_definition types) defs) cs n (type_definition types (get_or defs n r)) (get_or cs n cores.Empty) T d e h
+    (ap (type_definition types) (at_default defs n r) ∙ at_map (type_definition types) defs n (get_or defs n r)) (at_default cs n cores.Empty) w
+    (λ f i. none f (subst (λ U. IsInside U e f) (unplaced_at types (get_or defs n r).body.at) i)) x
+
+pub rank_below : (n : ℕ) (c : Core) → IsBelow n c → rank c < suc n
+rank_below n cores.Empty h = omega arith
+rank_below n cores.Text h = omega arith
+rank_below n cores.Any h = omega arith
+rank_below n (cores.Defined j) h = omega arith
+
+pub core_below : (types : List Row) (defs : List TypeDef) (cs : List Core) (n : ℕ) → AreCores [] (map (type_definition types) defs) cs → n < length cs → IsBelow n (get_or cs n cores.Empty)
+core_below types defs cs n h l = ordered (map (type_definition types) defs) cs h n (get_or cs n cores.Empty) l (at_default cs n cores.Empty)

@@ -1,8 +1,7 @@
-pub mod Types
-pub mod Closing
-pub mod Names
-pub mod Opened
-pub mod Programs
-pub mod Fitting
 pub mod Growth
+pub mod CarryNothing
+pub mod Names
+pub mod Forms
+pub mod Fitting
 pub mod Steps
+pub mod Usage

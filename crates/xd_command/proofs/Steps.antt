@@ -1,16 +1,18 @@
--- What each step of `fits` answers.
-use Rattle.std.proofs.Common.{◌≡◌, ◌≢◌, ℕ, ◌+◌, ◌<◌, ◌≤◌, Bool, true, false, List, [], ◌∷◌, length, map, Option, Some, None, Result, Ok, Err, refl, sym, ap, subst, ◌∙◌, arith, length-take, inl, inr, ◌⊎◌}
+-- What each step of `fits` and of `check` answers.
+use Rattle.std.proofs.Common.{◌≡◌, ◌≢◌, ℕ, ◌+◌, ◌<◌, ◌≤◌, true, false, List, [], ◌∷◌, length, Option, Some, None, Result, Ok, Err, refl, sym, ap, subst, ◌∙◌, arith, length-take, inl, inr, ◌⊎◌}
 use Rattle.std.specs.Prelude.{IfOk, codes}
 use Rattle.std.proofs.lemmas.List.{take_all}
 use Rattle.xd_base.specs.Outside.{HasRisen, GivesFront, IsFrontOf, IsLacking}
-use Rattle.xd_syntax.specs.Tree.{Tree, Definitions, environment}
+use Rattle.xd_lex.specs.Tokens.{start}
 use Rattle.xd_syntax.specs.Fits as types
-use Rattle.xd_command.specs.FirstForm.{SpellsDefinitions, Written, named, is_known, definitions_of, type_named}
-use Rattle.xd_command.specs.Reading.{IsProgramRead, names_of}
-use Rattle.xd_command.specs.declared.first_form.Definitions as kept
+use Rattle.xd_syntax.specs.Program.{FunctionDefinition, ProgramTree, names_of}
+use Rattle.xd_syntax.specs.Sound.{is_defined, type_named}
+use Rattle.xd_syntax.specs.declared.fault.Fault.{Fault}
+use Rattle.xd_command.specs.FirstForm.{IsFirstForm}
 use Rattle.xd_command.specs.Fetched.{IsHeld}
-use Rattle.xd_command.specs.Form.{Fits}
-use Rattle.xd_command.specs.Answer.{Is, Answers, AnswersDocument, IsReady, is_type, cannot_read, too_long, syntax_fault, undefined_type, program_limit, document_limit}
+use Rattle.xd_command.specs.Form.{Check, Fits}
+use Rattle.xd_command.specs.Loaded.{AreTextFaults, IsSoundText, lines}
+use Rattle.xd_command.specs.Answer.{Is, Answers, AnswersCheck, AnswersDocument, IsReady, cannot_read, too_long, syntax_fault, undefined_type, program_limit, document_limit}
 use Rattle.xd_command.specs.Outcome.{Texts, IsWhole}
 
 pub IfOk-map : {A E : Type 0} (P Q : A → Type 0) (r : Result A E) → ((x : A) → P x → Q x) → IfOk r P → IfOk r Q
@@ -51,22 +53,42 @@ pub unread_later : (a b c : ℕ) {old new : Option Texts} (name : List ℕ) → 
 unread_later a b c {old} {new} name le e (inl r) = inl (risen_later a b c le r)
 unread_later a b c {old} {new} name le e (inr l) = inr (subst (λ o. IsLacking o name) e l)
 
--- the names of definitions
+pub other_than : (k code : ℕ) → code ≡ k → (k ≡ 3 → ⊥) → (k ≡ 4 → ⊥) → (k ≡ 5 → ⊥) → (code ≢ 3) × (code ≢ 4) × (code ≢ 5)
+other_than k code e a b c = ((λ f. a (sym e ∙ f)), (λ f. b (sym e ∙ f)), (λ f. c (sym e ∙ f)))
 
-names-definitions : (ds : List Written) → map (λ (d : List ℕ × Tree). d.0) (definitions_of ds) ≡ names_of ds
-names-definitions [] = refl
-names-definitions (d ∷ ds) = ap (λ l. d.name ∷ l) (names-definitions ds)
+faults_code : (code : ℕ) → code ≡ 1 → (code ≢ 3) × (code ≢ 4) × (code ≢ 5)
+faults_code code e = other_than 1 code e (λ f. omega arith) (λ f. omega arith) (λ f. omega arith)
 
-pub is_type-known : (ds : List Written) (name : List ℕ) → is_type (definitions_of ds) name ≡ is_known (names_of ds) (named name)
-is_type-known ds name = rw (names-definitions ds)
+long_code : (code : ℕ) → code ≡ 10 → (code ≢ 3) × (code ≢ 4) × (code ≢ 5)
+long_code code e = other_than 10 code e (λ f. omega arith) (λ f. omega arith) (λ f. omega arith)
 
-pub spells : (text : List ℕ) (k : kept.Definitions) → (r : IsProgramRead text k) → SpellsDefinitions text (definitions_of r.written)
-spells text k r = record { utf8 = r.utf8; plain = r.plain; written = r.written; signs = r.signs; valid = r.keeps.valid; definitions = refl }
+-- `check`
+module _ (file : List ℕ) (rose : Type 0) (code : ℕ) (out : List ℕ) where
+  pub check_unread : (holds : Option Texts) → rose ⊎ IsLacking holds file → Is 3 (cannot_read file) code out → IsWhole (Check file) holds rose code out
+  check_unread (Some texts) why e = inl (file, (refl, why), e)
+  check_unread None (inl r) e = inl (file, ((None, refl), r), e)
+  check_unread None (inr l) e = absurd l
 
+  check_text : (holds : Option Texts) (text : List ℕ) → IsHeld holds file text → (code ≢ 3) × (code ≢ 4) × (code ≢ 5) → Answers (Check file) (Some text) None code out → IsWhole (Check file) holds rose code out
+  check_text (Some texts) text h n a = inr (n.0, n.1, n.2, subst (λ o. Answers (Check file) o None code out) (sym h) a)
+  check_text None text h n a = inr (n.0, n.1, n.2, (Some text, (None, a)))
+
+  pub check_long : (holds : Option Texts) → (text : List ℕ) × (IsHeld holds file text × (program_limit < length text)) → Is 10 (too_long file) code out → IsWhole (Check file) holds rose code out
+  check_long holds l e = check_text holds l.0 l.1.0 (long_code code e.0) (inl (l.1.1, e))
+
+  checked_code : (text : List ℕ) → AnswersCheck text code out → (code ≢ 3) × (code ≢ 4) × (code ≢ 5)
+  checked_code text (inl a) = faults_code code a.2.0
+  checked_code text (inr a) = by_answer a.2
+    where
+      by_answer : ((a.0.functions ≡ []) × Is 0 (codes "accepted\n") code out) ⊎ ((f : FunctionDefinition) × (fs : List FunctionDefinition) × (a.0.functions ≡ f ∷ fs) × Is 1 (syntax_fault f.place) code out) → (code ≢ 3) × (code ≢ 4) × (code ≢ 5)
+      by_answer (inl y) = other_than 0 code y.1.0 (λ f. omega arith) (λ f. omega arith) (λ f. omega arith)
+      by_answer (inr n) = faults_code code n.3.0
+
+  pub checked : (holds : Option Texts) (text : List ℕ) → IsHeld holds file text → length text ≤ program_limit → AnswersCheck text code out → IsWhole (Check file) holds rose code out
+  checked holds text h l a = check_text holds text h (checked_code text a) (inr (l, a))
+
+-- `fits`
 module _ (file name document : List ℕ) (rose : Type 0) (code : ℕ) (out : List ℕ) where
-  other_than : (k : ℕ) → code ≡ k → (k ≡ 3 → ⊥) → (k ≡ 4 → ⊥) → (k ≡ 5 → ⊥) → (code ≢ 3) × (code ≢ 4) × (code ≢ 5)
-  other_than k e a b c = ((λ f. a (sym e ∙ f)), (λ f. b (sym e ∙ f)), (λ f. c (sym e ∙ f)))
-
   -- an answer that the program alone gives
   answer_program : (holds : Option Texts) (text : List ℕ) → IsHeld holds file text → (code ≢ 3) × (code ≢ 4) × (code ≢ 5) → ((other : Option (List ℕ)) → Answers (Fits file name document) (Some text) other code out) → IsWhole (Fits file name document) holds rose code out
   answer_program (Some texts) text h n a = inr (n.0, n.1, n.2, subst (λ o. Answers (Fits file name document) o (texts document) code out) (sym h) (a (texts document)))
@@ -88,38 +110,27 @@ module _ (file name document : List ℕ) (rose : Type 0) (code : ℕ) (out : Lis
   unread_document None text h r (inr l) e = absurd l
 
   pub long_program : (holds : Option Texts) → (text : List ℕ) × (IsHeld holds file text × (program_limit < length text)) → Is 10 (too_long file) code out → IsWhole (Fits file name document) holds rose code out
-  long_program holds l e =
-      answer_program holds l.0 l.1.0 (other_than 10 e.0 (λ f. omega arith) (λ f. omega arith) (λ f. omega arith)) (λ other. inl (l.1.1, e))
+  long_program holds l e = answer_program holds l.0 l.1.0 (long_code code e.0) (λ other. inl (l.1.1, e))
 
-  pub bad_program : (holds : Option Texts) (text : List ℕ) → IsHeld holds file text → length text ≤ program_limit → ((E : Definitions) → SpellsDefinitions text E → ⊥) → Is 1 syntax_fault code out → IsWhole (Fits file name document) holds rose code out
-  bad_program holds text h l n e =
-      answer_program holds text h (other_than 1 e.0 (λ f. omega arith) (λ f. omega arith) (λ f. omega arith)) (λ other. inr (l, inl (n, e)))
+  pub faulty_program : (holds : Option Texts) (text : List ℕ) → IsHeld holds file text → length text ≤ program_limit → (fs : List Fault) × AreTextFaults text fs × (code ≡ 1) × (out ≡ lines fs) → IsWhole (Fits file name document) holds rose code out
+  faulty_program holds text h l f = answer_program holds text h (faults_code code f.2) (λ other. inr (l, inl (f.0, f.1, (f.2, f.3))))
 
-  pub undefined_name : (holds : Option Texts) (text : List ℕ) (k : kept.Definitions) → IsHeld holds file text → length text ≤ program_limit → (r : IsProgramRead text k) → is_known (names_of r.written) (named name) ≡ false → Is 1 (undefined_type name) code out → IsWhole (Fits file name document) holds rose code out
-  undefined_name holds text k h l r u e =
-      answer_program holds text h (other_than 1 e.0 (λ f. omega arith) (λ f. omega arith) (λ f. omega arith))
-      (λ other. inr (l, inr (definitions_of r.written, spells text k r, inl ((λ t. let f : ◌≡◌ {A = Bool} false true = sym u ∙ sym (is_type-known r.written name) ∙ t in cc), e))))
+  pub other_program : (holds : Option Texts) (text : List ℕ) (P : ProgramTree) → IsHeld holds file text → length text ≤ program_limit → IsSoundText text P → (IsFirstForm P → ⊥) → Is 1 (syntax_fault start) code out → IsWhole (Fits file name document) holds rose code out
+  other_program holds text P h l s n e = answer_program holds text h (faults_code code e.0) (λ other. inr (l, inr (P, s, inl (n, e))))
 
-  defined_name : (text : List ℕ) (k : kept.Definitions) (r : IsProgramRead text k) → is_known (names_of r.written) (named name) ≡ true → is_type (definitions_of r.written) name ≡ true
-  defined_name text k r u = is_type-known r.written name ∙ u
+  pub undefined_name : (holds : Option Texts) (text : List ℕ) (P : ProgramTree) → IsHeld holds file text → length text ≤ program_limit → IsSoundText text P → IsFirstForm P → is_defined P name ≡ false → Is 1 (undefined_type name) code out → IsWhole (Fits file name document) holds rose code out
+  undefined_name holds text P h l s f u e = answer_program holds text h (faults_code code e.0) (λ other. inr (l, inr (P, s, inr (f, inl (u, e)))))
 
-  pub ready : (text : List ℕ) (k : kept.Definitions) → length text ≤ program_limit → (r : IsProgramRead text k) → is_known (names_of r.written) (named name) ≡ true → IsReady name (Some text)
-  ready text k l r u = (l, (definitions_of r.written, spells text k r, defined_name text k r u))
+  pub long_document : (holds : Option Texts) (text : List ℕ) (P : ProgramTree) → IsHeld holds file text → length text ≤ program_limit → IsSoundText text P → IsFirstForm P → is_defined P name ≡ true → (bytes : List ℕ) × (IsHeld holds document bytes × (document_limit < length bytes)) → Is 10 (too_long document) code out → IsWhole (Fits file name document) holds rose code out
+  long_document holds text P h l s f u b e = answer_both holds text b.0 h b.1.0 (long_code code e.0) (inr (l, inr (P, s, inr (f, inr (u, inl (b.1.1, e))))))
 
-  pub long_document : (holds : Option Texts) (text : List ℕ) (k : kept.Definitions) → IsHeld holds file text → length text ≤ program_limit → (r : IsProgramRead text k) → is_known (names_of r.written) (named name) ≡ true → (bytes : List ℕ) × (IsHeld holds document bytes × (document_limit < length bytes)) → Is 10 (too_long document) code out → IsWhole (Fits file name document) holds rose code out
-  long_document holds text k h l r u b e =
-      answer_both holds text b.0 h b.1.0 (other_than 10 e.0 (λ f. omega arith) (λ f. omega arith) (λ f. omega arith))
-      (inr (l, inr (definitions_of r.written, spells text k r, inr (defined_name text k r u, inl (b.1.1, e)))))
-
-  document_code : (E : Definitions) (bytes : List ℕ) → AnswersDocument E name bytes code out → (code ≢ 3) × (code ≢ 4) × (code ≢ 5)
-  document_code E bytes (inl a) = other_than 7 a.3.0 (λ f. omega arith) (λ f. omega arith) (λ f. omega arith)
-  document_code E bytes (inr a) = by_answer a.2
+  document_code : (P : ProgramTree) (bytes : List ℕ) → AnswersDocument (names_of P) name bytes code out → (code ≢ 3) × (code ≢ 4) × (code ≢ 5)
+  document_code P bytes (inl a) = other_than 7 code a.3.0 (λ f. omega arith) (λ f. omega arith) (λ f. omega arith)
+  document_code P bytes (inr a) = by_answer a.2
     where
-      by_answer : (types.Fits (environment E) (type_named name) a.0 × Is 0 (codes "yes\n") code out) ⊎ ((types.Fits (environment E) (type_named name) a.0 → ⊥) × Is 6 (codes "no\n") code out) → (code ≢ 3) × (code ≢ 4) × (code ≢ 5)
-      by_answer (inl y) = other_than 0 y.1.0 (λ f. omega arith) (λ f. omega arith) (λ f. omega arith)
-      by_answer (inr n) = other_than 6 n.1.0 (λ f. omega arith) (λ f. omega arith) (λ f. omega arith)
+      by_answer : (types.Fits (names_of P) (type_named name) a.0 × Is 0 (codes "yes\n") code out) ⊎ ((types.Fits (names_of P) (type_named name) a.0 → ⊥) × Is 6 (codes "no\n") code out) → (code ≢ 3) × (code ≢ 4) × (code ≢ 5)
+      by_answer (inl y) = other_than 0 code y.1.0 (λ f. omega arith) (λ f. omega arith) (λ f. omega arith)
+      by_answer (inr n) = other_than 6 code n.1.0 (λ f. omega arith) (λ f. omega arith) (λ f. omega arith)
 
-  pub tested : (holds : Option Texts) (text : List ℕ) (k : kept.Definitions) → IsHeld holds file text → length text ≤ program_limit → (r : IsProgramRead text k) → is_known (names_of r.written) (named name) ≡ true → (bytes : List ℕ) → IsHeld holds document bytes → length bytes ≤ document_limit → AnswersDocument (definitions_of r.written) name bytes code out → IsWhole (Fits file name document) holds rose code out
-  tested holds text k h l r u bytes b m a =
-      answer_both holds text bytes h b (document_code (definitions_of r.written) bytes a)
-      (inr (l, inr (definitions_of r.written, spells text k r, inr (defined_name text k r u, inr (m, a)))))
+  pub tested : (holds : Option Texts) (text : List ℕ) (P : ProgramTree) → IsHeld holds file text → length text ≤ program_limit → IsSoundText text P → IsFirstForm P → is_defined P name ≡ true → (bytes : List ℕ) → IsHeld holds document bytes → length bytes ≤ document_limit → AnswersDocument (names_of P) name bytes code out → IsWhole (Fits file name document) holds rose code out
+  tested holds text P h l s f u bytes b m a = answer_both holds text bytes h b (document_code P bytes a) (inr (l, inr (P, s, inr (f, inr (u, inr (m, a))))))

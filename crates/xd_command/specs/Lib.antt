@@ -1,8 +1,9 @@
 pub mod FirstForm
-pub mod Reading
-pub mod Membership
+pub mod Loaded
 pub mod Form
 pub mod Answer
 pub mod Outcome
 pub mod Sent
 pub mod Fetched
+pub mod Reading
+pub mod Membership

@@ -1,7 +1,7 @@
 -- How the status and what is written follow from the answer, from the shelf and from the sink.
 use Rattle.std.specs.Prelude.{◌≡◌, ◌≢◌, ℕ, ◌<◌, ◌⊎◌, List, [], ◌++◌, length, Option, Some, None}
 use Rattle.xd_base.specs.Outside.{HasGrown}
-use Rattle.xd_command.specs.Form.{Form, Fits, Usage}
+use Rattle.xd_command.specs.Form.{Form, Check, Fits, Usage}
 use Rattle.xd_command.specs.Answer.{Answers, Needs, cannot_read, Is}
 
 -- the texts of a shelf by their names
@@ -12,10 +12,12 @@ Texts = List ℕ → Option (List ℕ)
 abbrev pub program_of : Form → Texts → Option (List ℕ)
 program_of Usage texts = None
 program_of (Fits file name document) texts = texts file
+program_of (Check file) texts = texts file
 
 abbrev pub other_of : Form → Texts → Option (List ℕ)
 other_of Usage texts = None
 other_of (Fits file name document) texts = texts document
+other_of (Check file) texts = None
 
 -- The answer: where the shelf tells what it holds, from the texts that it holds; else from some texts.
 abbrev pub IsAnswer : Form → Option Texts → ℕ → List ℕ → Type 0

@@ -8,6 +8,12 @@ use std::alloc::Global;
 use xd_base::{FetchError, Shelf};
 use xd_doc::NoMemory;
 
+/// The greatest length of a program, in bytes.
+pub const PROGRAM_LIMIT: usize = 1 << 20;
+
+/// The greatest length of a document, in bytes.
+pub const DOCUMENT_LIMIT: usize = 1 << 24;
+
 /// What came of fetching a text.
 #[derive(Drop)]
 pub enum Fetched {

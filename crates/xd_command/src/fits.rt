@@ -1,47 +1,48 @@
 //! The command `fits`.
 
-ghost use Rattle.std.specs.Prelude.{◌≡◌, ◌≤◌, ℕ, List, [], IfOk, IsTrue, ◌↔◌, length};
+ghost use Rattle.std.specs.Prelude.{List, ℕ, IfOk, length};
 ghost use Rattle.xd_base.specs.Outside.{HasRisen};
-ghost use Rattle.xd_syntax.specs.Tree as tree;
-ghost use Rattle.xd_command.specs.FirstForm.{SpellsDefinitions, Written, named, definitions_of};
-ghost use Rattle.xd_command.specs.Membership.{AreOrdered, IsBelow};
-ghost use Rattle.xd_command.specs.Form as forms;
+ghost use Rattle.xd_syntax.specs.Kept.{program_tree};
+ghost use Rattle.xd_syntax.specs.Program.{names_of};
+ghost use Rattle.xd_syntax.specs.Sound.{type_named};
 ghost use Rattle.xd_command.specs.Answer as answers;
+ghost use Rattle.xd_command.specs.Form as forms;
+ghost use Rattle.xd_command.specs.Membership.{IsBelow};
 ghost use Rattle.xd_command.specs.Outcome.{IsWhole};
-ghost use Rattle.xd_command.specs.Reading.{AreLookedUp, IsCore, IsProgramRead};
+ghost use Rattle.xd_command.specs.Reading.{IsCore, Keeps};
 
-use crate::fetch::{Fetched, fetch};
-use crate::first_form::{Core, Definitions, read_definitions};
+use crate::fetch::{DOCUMENT_LIMIT, Fetched, PROGRAM_LIMIT, fetch};
+use crate::first_form::{Core, Definitions, first_form};
+use crate::load::{Loaded, load};
 use crate::membership;
 use crate::output::{self, Output};
 use std::alloc::Global;
-use xd_base::Shelf;
+use xd_base::{Place, Shelf};
 use xd_doc::{NoMemory, Store};
 use xd_read::{ReadError, read_document};
+use xd_syntax::Program;
 
-/// The greatest length of a program, in bytes.
-const PROGRAM_LIMIT: usize = 1 << 20;
-
-/// The greatest length of a document, in bytes.
-const DOCUMENT_LIMIT: usize = 1 << 24;
+/// Where a text begins.
+const START: Place = Place { line: 1, column: 1 };
 
 /// Whether the document of these bytes fits the type.
 fn test(
     alloc: Global,
+    program: &Program,
     definitions: &Definitions,
     core: Core,
     bytes: &[u8],
 ) -> Result<Output, NoMemory>
-    requires ordered { AreOrdered definitions.now.definitions.items }
-    requires below { IsBelow (length definitions.now.definitions.items) core }
-    ensures { IfOk result (λ output. (ds : List Written) (name : List ℕ) → AreLookedUp [] ds definitions.now.definitions.items → IsCore ds (named name) core → answers.AnswersDocument (definitions_of ds) name bytes.now output.code output.text.items) }
+    requires kept { Keeps definitions.now (program_tree program.now).types }
+    requires below { IsBelow (length definitions.now.cores.items) core }
+    ensures { IfOk result (λ output. (name : List ℕ) → IsCore (program_tree program.now).types core (type_named name) → answers.AnswersDocument (names_of (program_tree program.now)) name bytes.now output.code output.text.items) }
 {
     let mut store = Store::new(alloc);
     match read_document(alloc, &mut store, bytes) {
         Err(ReadError::NoMemory) => Err(NoMemory),
         Err(ReadError::Malformed(place)) => output::malformed_document(alloc, place),
         Ok(seq) => {
-            if membership::fits(&definitions.definitions, core, &store, seq) {
+            if membership::fits(program, &definitions.cores, core, &store, seq) {
                 output::line(alloc, 0, "yes\n", "", "")
             } else {
                 output::line(alloc, 6, "no\n", "", "")
@@ -60,16 +61,20 @@ pub fn fits<H: Shelf>(
 ) -> Result<Output, NoMemory>
     ensures { IfOk result (λ output. IsWhole (forms.Fits file.now name.now document.now) (H.holds shelf.old) (HasRisen (H.faults shelf.old) (H.faults shelf.new)) output.code output.text.items) }
 {
-    let program = match fetch(alloc, shelf, file, PROGRAM_LIMIT)? {
+    let text = match fetch(alloc, shelf, file, PROGRAM_LIMIT)? {
         Fetched::Text(text) => text,
         Fetched::TooLong => return output::too_long(alloc, file),
         Fetched::Unread => return output::cannot_read(alloc, file),
     };
-    let definitions = match read_definitions(alloc, &program)? {
-        Some(definitions) => definitions,
-        None => return output::syntax_fault(alloc),
+    let sound = match load(alloc, &text)? {
+        Loaded::Sound(sound) => sound,
+        Loaded::Faulty(output) => return Ok(output),
     };
-    let core = match definitions.core(name) {
+    let definitions = match first_form(alloc, sound.program())? {
+        Some(definitions) => definitions,
+        None => return output::syntax_fault(alloc, START),
+    };
+    let core = match definitions.find(name) {
         Some(core) => core,
         None => return output::undefined_type(alloc, name),
     };
@@ -78,5 +83,5 @@ pub fn fits<H: Shelf>(
         Fetched::TooLong => return output::too_long(alloc, document),
         Fetched::Unread => return output::cannot_read(alloc, document),
     };
-    test(alloc, &definitions, core, &bytes)
+    test(alloc, sound.program(), &definitions, core, &bytes)
 }

@@ -12,9 +12,11 @@ use std::alloc::Global;
 use xd_base::{Shelf, Sink};
 use xd_doc::NoMemory;
 
+mod check;
 mod fetch;
 mod first_form;
 mod fits;
+mod load;
 mod membership;
 mod output;
 #[cfg(test)]
@@ -40,6 +42,9 @@ fn prepare<H: Shelf>(alloc: Global, words: &[String], shelf: &mut H) -> Result<O
             document.as_str(),
             shelf,
         ),
+        [command, file] if command.as_str() == "check" => {
+            check::check(alloc, file.as_str(), shelf)
+        }
         _ => output::usage(alloc),
     }
 }

@@ -1,28 +1,32 @@
 //! Whether a document fits a type of the first form.
 
-ghost use Rattle.std.specs.Prelude.{◌≡◌, ◌<◌, ◌≤◌, ℕ, List, [], true, IsTrue, ◌↔◌, length, IfSome, IfNone, drop};
+ghost use Rattle.std.specs.Prelude.{◌≡◌, ◌<◌, ℕ, List, [], true, IsTrue, ◌↔◌, length, IfSome, IfNone};
+ghost use Rattle.xd_doc.specs.Classes.{class_has};
 ghost use Rattle.xd_doc.specs.Document.{Document, empty, element};
 ghost use Rattle.xd_doc.specs.Stored.{BelongsTo, document_at};
 ghost use Rattle.xd_syntax.specs.Fits as types;
-ghost use Rattle.xd_syntax.specs.Tree.{environment};
-ghost use Rattle.xd_command.specs.FirstForm.{Inside, Written, definitions_of, type_tree};
-ghost use Rattle.xd_command.specs.Reading.{IsCore, AreLookedUp};
-ghost use Rattle.xd_command.specs.Membership.{AreOrdered, IsBelow, IsAround};
+ghost use Rattle.xd_syntax.specs.Kept.{program_tree};
+ghost use Rattle.xd_syntax.specs.Program.{names_of};
+ghost use Rattle.xd_syntax.specs.Tree.{Tree};
+ghost use Rattle.xd_syntax.specs.Types as kept;
+ghost use Rattle.xd_command.specs.Reading.{AreCores, IsCore};
+ghost use Rattle.xd_command.specs.Membership.{IsBelow, IsInside};
 
-use crate::first_form::{Around, Core, Definition};
-use xd_doc::{Item, Label, Seq, Store};
+use crate::first_form::Core;
+use xd_doc::{Class, Item, Seq, Store};
+use xd_syntax::{Program, TypeForm, TypeId, Types};
 
-/// The content of the document's only item, where that is an element of this label.
-fn content_of(store: &Store, seq: Seq, label: &Label) -> Option<Seq>
+/// The content of the document's only item, where that is an element with a label of this class.
+fn content_of(store: &Store, seq: Seq, class: &Class) -> Option<Seq>
     requires { BelongsTo store.now seq }
     ensures belongs { IfSome result (BelongsTo store.now) }
-    ensures some { IfSome result (λ inner. document_at store.now seq ≡ element label.now (document_at store.now inner) empty) }
-    ensures none { IfNone result ((c : Document) → document_at store.now seq ≡ element label.now c empty → ⊥) }
+    ensures some { IfSome result (λ inner. (l : List ℕ) × (document_at store.now seq ≡ element l (document_at store.now inner) empty) × (class_has class.now l ≡ true)) }
+    ensures none { IfNone result ((l : List ℕ) (c : Document) → document_at store.now seq ≡ element l c empty → class_has class.now l ≡ true → ⊥) }
 {
-    let Some(Item::Elem(found)) = store.first(seq) else {
+    let Some(Item::Elem(label)) = store.first(seq) else {
         return None;
     };
-    if found.as_str() != label.as_str() {
+    if !class.has(label) {
         return None;
     }
     if !store.next(seq).is_empty() {
@@ -31,24 +35,28 @@ fn content_of(store: &Store, seq: Seq, label: &Label) -> Option<Seq>
     Some(store.content(seq))
 }
 
-/// The document inside of these parts, where it is one element around another.
-fn inside(around: &[Around], store: &Store, seq: Seq) -> Option<Seq>
-    requires { BelongsTo store.now seq }
+/// The document inside of the type's elements, where it is one element around another as these are.
+fn inside(types: &Types, id: TypeId, store: &Store, seq: Seq) -> Option<Seq>
+    requires there { kept.BelongsTo types.now id }
+    requires belongs { BelongsTo store.now seq }
     ensures belongs { IfSome result (BelongsTo store.now) }
-    ensures some { IfSome result (λ inner. IsAround around.now (document_at store.now seq) (document_at store.now inner)) }
-    ensures none { IfNone result ((inner : Document) → IsAround around.now (document_at store.now seq) inner → ⊥) }
+    ensures some { IfSome result (λ inner. IsInside (kept.tree types.now id) (document_at store.now seq) (document_at store.now inner)) }
+    ensures none { IfNone result ((inner : Document) → IsInside (kept.tree types.now id) (document_at store.now seq) inner → ⊥) }
 {
+    let mut id = id;
     let mut inner = seq;
-    for part in around {
-        match part {
-            Around::Parens => {}
-            Around::Labeled(label) => match content_of(store, inner, label) {
-                None => return None,
-                Some(content) => inner = content,
-            },
+    'parts: loop {
+        match types.node(id).form() {
+            TypeForm::Elem(class, content) => {
+                match content_of(store, inner, class) {
+                    None => return None,
+                    Some(found) => inner = found,
+                }
+                id = *content;
+            }
+            _ => return Some(inner),
         }
     }
-    Some(inner)
 }
 
 /// Whether the document is one text.
@@ -62,12 +70,14 @@ fn is_one_text(store: &Store, seq: Seq) -> bool
     store.next(seq).is_empty()
 }
 
-/// Whether the document fits the type, where each definition names earlier ones alone.
-pub fn fits(definitions: &[Definition], core: Core, store: &Store, seq: Seq) -> bool
+/// Whether the document fits the type that has this core alone, where these are the cores of the program's definitions.
+///
+/// Linear in the program and in the nesting of the document's part that the type describes.
+pub fn fits(program: &Program, cores: &[Core], core: Core, store: &Store, seq: Seq) -> bool
     requires belongs { BelongsTo store.now seq }
-    requires ordered { AreOrdered definitions.now }
-    requires below { IsBelow (length definitions.now) core }
-    ensures { (ds : List Written) (i : Inside) → AreLookedUp [] ds definitions.now → IsCore ds i core → IsTrue result ↔ types.Fits (environment (definitions_of ds)) (type_tree [] i) (document_at store.now seq) }
+    requires cores { AreCores [] (program_tree program.now).types cores.now }
+    requires below { IsBelow (length cores.now) core }
+    ensures { (T : Tree) → IsCore (program_tree program.now).types core T → IsTrue result ↔ types.Fits (names_of (program_tree program.now)) T (document_at store.now seq) }
 {
     let mut core = core;
     let mut seq = seq;
@@ -77,12 +87,12 @@ pub fn fits(definitions: &[Definition], core: Core, store: &Store, seq: Seq) -> 
             Core::Text => return is_one_text(store, seq),
             Core::Any => return true,
             Core::Defined(number) => {
-                let definition = &definitions[number];
-                match inside(&definition.around, store, seq) {
+                let body = program.type_defs()[number].body;
+                match inside(program.types(), body, store, seq) {
                     None => return false,
                     Some(inner) => seq = inner,
                 }
-                core = definition.core;
+                core = cores[number];
             }
         }
     }

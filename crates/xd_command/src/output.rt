@@ -1,15 +1,20 @@
 //! What the command writes.
 
-ghost use Rattle.std.specs.Prelude.{◌≡◌, ◌++◌, ◌<◌, ◌≤◌, ℕ, List, length, IfOk, OnOk, OnErr, decimal, codes};
+ghost use Rattle.std.specs.Prelude.{◌≡◌, ◌++◌, ◌<◌, ◌≤◌, ℕ, List, [], length, IfOk, OnOk, OnErr, decimal, codes};
 ghost use Rattle.std.specs.Bool.{OnTrue, OnFalse};
 ghost use Rattle.xd_base.specs.Outside.{HasRisen, HasGrown};
+ghost use Rattle.std.specs.List.{AllByRecursion};
+ghost use Rattle.xd_report.specs.Report.{CarriesFrom, fault_text};
 ghost use Rattle.xd_command.specs.Answer as answers;
+ghost use Rattle.xd_command.specs.Loaded.{lines};
 ghost use Rattle.xd_command.specs.Sent.{HasSentFront};
 
 use itoa::Buffer;
 use std::alloc::Global;
 use xd_base::{Place, Sink};
-use xd_doc::NoMemory;
+use xd_doc::{NoMemory, Store, Text};
+use xd_report::fault_line;
+use xd_syntax::{Fault, FaultKind};
 
 /// A whole text to be written, and the status that goes with it.
 #[derive(Drop)]
@@ -53,16 +58,50 @@ pub fn too_long(alloc: Global, name: &str) -> Result<Output, NoMemory>
     line(alloc, 10, "too long: ", name, "\n")
 }
 
-pub fn syntax_fault(alloc: Global) -> Result<Output, NoMemory>
-    ensures { IfOk result (λ output. answers.Is 1 answers.syntax_fault output.code output.text.items) }
+/// The report of `fault 2: syntax` at this place.
+pub fn syntax_fault(alloc: Global, place: Place) -> Result<Output, NoMemory>
+    ensures { IfOk result (λ output. answers.Is 1 (answers.syntax_fault place) output.code output.text.items) }
 {
-    line(alloc, 1, "1:1: fault 2: syntax\n", "", "")
+    let fault = Fault {
+        place: Some(place),
+        kind: FaultKind::Syntax,
+    };
+    report_one(alloc, &fault)
 }
 
+/// The report that no type has this name.
 pub fn undefined_type(alloc: Global, name: &str) -> Result<Output, NoMemory>
     ensures { IfOk result (λ output. answers.Is 1 (answers.undefined_type name.now) output.code output.text.items) }
 {
-    line(alloc, 1, "fault 15: type ", name, " is not defined\n")
+    let fault = Fault {
+        place: None,
+        kind: FaultKind::NoSuchName(Text::new(alloc, name)?),
+    };
+    report_one(alloc, &fault)
+}
+
+/// The report of one fault that carries no document.
+fn report_one(alloc: Global, fault: &Fault) -> Result<Output, NoMemory>
+    requires { CarriesFrom [] fault.now.kind }
+    ensures { IfOk result (λ output. answers.Is 1 (fault_text [] fault.now) output.code output.text.items) }
+{
+    let store = Store::new(alloc);
+    let mut text = Vec::new(alloc);
+    fault_line(alloc, &store, fault, &mut text)?;
+    Ok(Output { code: 1, text })
+}
+
+/// The report of faults that carry no documents.
+pub fn report(alloc: Global, faults: &[Fault]) -> Result<Output, NoMemory>
+    requires { AllByRecursion (λ f. CarriesFrom [] f.kind) faults.now }
+    ensures { IfOk result (λ output. answers.Is 1 (lines faults.now) output.code output.text.items) }
+{
+    let store = Store::new(alloc);
+    let mut text = Vec::new(alloc);
+    for fault in faults {
+        fault_line(alloc, &store, fault, &mut text)?;
+    }
+    Ok(Output { code: 1, text })
 }
 
 pub fn malformed_document(alloc: Global, place: Place) -> Result<Output, NoMemory>
@@ -73,7 +112,8 @@ pub fn malformed_document(alloc: Global, place: Place) -> Result<Output, NoMemor
     let mut text = Vec::from_slice(alloc, line.format(place.line).as_bytes())?;
     text.extend_from_slice(b":")?;
     text.extend_from_slice(column.format(place.column).as_bytes())?;
-    text.extend_from_slice(b": malformed document\n")?;
+    text.extend_from_slice(b": ")?;
+    text.extend_from_slice(b"malformed document\n")?;
     Ok(Output { code: 7, text })
 }
 
