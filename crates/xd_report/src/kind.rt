@@ -1,6 +1,6 @@
 //! What is wrong, in words.
 
-ghost use Rattle.std.specs.Prelude.{◌≡◌, ◌++◌, OnOk};
+ghost use Rattle.std.specs.Prelude.{◌≡◌, ◌++◌, OnOk, codes, decimal};
 ghost use Rattle.xd_doc.specs.Document.{canonical_text};
 ghost use Rattle.xd_doc.specs.Stored.{document_at, BelongsTo};
 ghost use Rattle.xd_report.specs.Report.{kind_text, CarriesFrom};
