@@ -1,5 +1,5 @@
 -- Programs and documents on which the definitions compute what they should.
-use Rattle.std.proofs.Common.{◌≡◌, ℕ, true, false, List, [], ◌∷◌, Some, None, refl}
+use Rattle.std.proofs.Common.{◌≡◌, ℕ, true, false, List, [], ◌∷◌, Some, None, refl, ap, ◌++◌, arith}
 use Rattle.std.specs.Prelude.{codes}
 use Rattle.xd_base.specs.declared.Place.{Place}
 use Rattle.xd_doc.specs.Document.{Document, empty, text, element}
@@ -14,7 +14,8 @@ use Rattle.xd_syntax.specs.Fits.{Fits}
 use Rattle.xd_syntax.specs.Ways.{first}
 use Rattle.xd_syntax.specs.Heads.{Head, heads, can_be_empty}
 use Rattle.xd_syntax.specs.TypeText.{type_text, depth}
-use Rattle.xd_syntax.specs.Meaning.{Done, Spent, Stuck, meaning}
+use Rattle.xd_syntax.specs.Meaning.{Done, Spent, Stuck, looked_up, done_or_stuck, or_else, meaning_with, meaning}
+use Rattle.xd_syntax.specs.PlainMeaning.{IsSettledWithin}
 use Rattle.xd_syntax.specs.NameFaults.{fault_at, name_faults, not_linear}
 use Rattle.xd_syntax.specs.RecursionFaults.{arrived, kept, left_out, all_seen, AreRecursionFaults, IsSound}
 use Rattle.xd_syntax.specs.CheckFaults.{IsAccepted}
@@ -402,3 +403,9 @@ hiding = record {
 
 hidden : meaning hiding 3 (leaf b) ≡ Done (element a (leaf b) empty) 0
 hidden = refl
+
+-- its one match is of a document that needs eight unfoldings
+hiding_settled : IsSettledWithin (names_of hiding) 8 (λ m. meaning_with m hiding 3 (leaf b))
+hiding_settled m h =
+    ap (λ o. or_else o (λ vs. done_or_stuck (looked_up (vs ++ (x, leaf b) ∷ []) x) 0) Stuck)
+    (h (Elem (one a) (Val x (Name any_word))) (element a (element a (leaf b) empty) empty) (omega arith))

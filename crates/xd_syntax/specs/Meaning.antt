@@ -3,7 +3,7 @@ use Rattle.std.specs.Prelude.{ℕ, suc, zero, cond, List, [], ◌∷◌, ◌++�
 use Rattle.std.specs.Str.{bytes_eq}
 use Rattle.xd_doc.specs.Document.{Document, empty, text, element, join}
 use Rattle.xd_syntax.specs.Words.{main_word}
-use Rattle.xd_syntax.specs.Tree.{Definitions}
+use Rattle.xd_syntax.specs.Tree.{Tree}
 use Rattle.xd_syntax.specs.Placed.{unplaced}
 use Rattle.xd_syntax.specs.Ways.{first}
 use Rattle.xd_syntax.specs.Expression.{Expression, Nothing, Quoted, Variable, Tagged, Joined, Called, Matched, Arguments, no_argument, argument, Clauses, no_clause, clause}
@@ -44,27 +44,31 @@ bound [] ds = []
 bound (p ∷ ps) [] = []
 bound (p ∷ ps) (d ∷ ds) = (p.name, d) ∷ bound ps ds
 
--- the value of an expression with n calls left, where C gives that of a call with the calls left
+-- what a pattern's first match binds, if the pattern takes the document
+abbrev pub Matcher : Type 0
+Matcher = Tree → Document → Option Environment
+
+-- the value of an expression with n calls left, where M gives first matches and C the value of a call with the calls left
 abbrev mutual
-  pub value_by : Definitions → (ℕ → List ℕ → List Document → Outcome Document) → ℕ → Environment → Expression → Outcome Document
-  value_by E C n env (Nothing p) = Done empty n
-  value_by E C n env (Quoted p s) = Done (text s empty) n
-  value_by E C n env (Variable p x) = done_or_stuck (looked_up env x) n
-  value_by E C n env (Tagged p l e) = and_then (value_by E C n env e) (λ d m. Done (element l d empty) m)
-  value_by E C n env (Joined p e f) = and_then (value_by E C n env e) (λ d m. and_then (value_by E C m env f) (λ c k. Done (join d c) k))
-  value_by E C n env (Called p f es) = and_then (values_by E C n env es) (λ ds m. C m f ds)
-  value_by E C n env (Matched p e cs) = and_then (value_by E C n env e) (λ d m. chosen_by E C m env d cs)
+  pub value_by : Matcher → (ℕ → List ℕ → List Document → Outcome Document) → ℕ → Environment → Expression → Outcome Document
+  value_by M C n env (Nothing p) = Done empty n
+  value_by M C n env (Quoted p s) = Done (text s empty) n
+  value_by M C n env (Variable p x) = done_or_stuck (looked_up env x) n
+  value_by M C n env (Tagged p l e) = and_then (value_by M C n env e) (λ d m. Done (element l d empty) m)
+  value_by M C n env (Joined p e f) = and_then (value_by M C n env e) (λ d m. and_then (value_by M C m env f) (λ c k. Done (join d c) k))
+  value_by M C n env (Called p f es) = and_then (values_by M C n env es) (λ ds m. C m f ds)
+  value_by M C n env (Matched p e cs) = and_then (value_by M C n env e) (λ d m. chosen_by M C m env d cs)
 
   -- of arguments, from left to right
-  pub values_by : Definitions → (ℕ → List ℕ → List Document → Outcome Document) → ℕ → Environment → Arguments → Outcome (List Document)
-  values_by E C n env no_argument = Done [] n
-  values_by E C n env (argument e es) = and_then (value_by E C n env e) (λ d m. and_then (values_by E C m env es) (λ ds k. Done (d ∷ ds) k))
+  pub values_by : Matcher → (ℕ → List ℕ → List Document → Outcome Document) → ℕ → Environment → Arguments → Outcome (List Document)
+  values_by M C n env no_argument = Done [] n
+  values_by M C n env (argument e es) = and_then (value_by M C n env e) (λ d m. and_then (values_by M C m env es) (λ ds k. Done (d ∷ ds) k))
 
   -- of the first clause whose pattern takes the document
-  pub chosen_by : Definitions → (ℕ → List ℕ → List Document → Outcome Document) → ℕ → Environment → Document → Clauses → Outcome Document
-  chosen_by E C n env d no_clause = Stuck
-  chosen_by E C n env d (clause P e cs) =
-      or_else (first E (unplaced P) d) (λ vs. value_by E C n (vs ++ env) e) (chosen_by E C n env d cs)
+  pub chosen_by : Matcher → (ℕ → List ℕ → List Document → Outcome Document) → ℕ → Environment → Document → Clauses → Outcome Document
+  chosen_by M C n env d no_clause = Stuck
+  chosen_by M C n env d (clause P e cs) =
+      or_else (M (unplaced P) d) (λ vs. value_by M C n (vs ++ env) e) (chosen_by M C n env d cs)
 
 -- the function's body, with its parameters bound
 abbrev pub body_by : (Environment → Expression → Outcome Document) → Option FunctionDefinition → List Document → Outcome Document
@@ -72,18 +76,29 @@ body_by V None ds = Stuck
 body_by V (Some f) ds = V (bound f.parameters ds) f.body
 
 -- a call with n calls left, where calls stand within one another at most so deep
-abbrev pub call_within : ProgramTree → (deep : ℕ) → ℕ → List ℕ → List Document → Outcome Document
-call_within P zero n f ds = Spent
-call_within P (suc k) zero f ds = Spent
-call_within P (suc k) (suc n) f ds = body_by (value_by (names_of P) (call_within P k) n) (function_of P.functions f) ds
+abbrev pub call_within : Matcher → ProgramTree → (deep : ℕ) → ℕ → List ℕ → List Document → Outcome Document
+call_within M P zero n f ds = Spent
+call_within M P (suc k) zero f ds = Spent
+call_within M P (suc k) (suc n) f ds = body_by (value_by M (call_within M P k) n) (function_of P.functions f) ds
 
 -- Each call takes one of the calls left, so calls stand within one another at most as deep as calls are left.
-abbrev pub call : ProgramTree → ℕ → List ℕ → List Document → Outcome Document
-call P n f ds = call_within P n n f ds
+abbrev pub call_with : Matcher → ProgramTree → ℕ → List ℕ → List Document → Outcome Document
+call_with M P n f ds = call_within M P n n f ds
 
-abbrev pub value : ProgramTree → ℕ → Environment → Expression → Outcome Document
-value P n env e = value_by (names_of P) (call_within P n) n env e
+abbrev pub value_with : Matcher → ProgramTree → ℕ → Environment → Expression → Outcome Document
+value_with M P n env e = value_by M (call_within M P n) n env e
 
 -- the call of `main` on a document, with n calls left
+abbrev pub meaning_with : Matcher → ProgramTree → ℕ → Document → Outcome Document
+meaning_with M P n d = call_with M P n main_word (d ∷ [])
+
+-- with the first matches of the program's patterns
+
+abbrev pub call : ProgramTree → ℕ → List ℕ → List Document → Outcome Document
+call P n f ds = call_with (first (names_of P)) P n f ds
+
+abbrev pub value : ProgramTree → ℕ → Environment → Expression → Outcome Document
+value P n env e = value_with (first (names_of P)) P n env e
+
 abbrev pub meaning : ProgramTree → ℕ → Document → Outcome Document
-meaning P n d = call P n main_word (d ∷ [])
+meaning P n d = meaning_with (first (names_of P)) P n d

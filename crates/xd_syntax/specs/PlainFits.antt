@@ -1,5 +1,5 @@
 -- The splits of a document into two that are it, joined.
-use Rattle.std.specs.Prelude.{ℕ, List, [], ◌∷◌, ◌++◌, map}
+use Rattle.std.specs.Prelude.{ℕ, List, [], ◌∷◌, map}
 use Rattle.xd_doc.specs.Document.{Document, empty, text, element}
 use Rattle.xd_syntax.specs.PlainDocuments.{document_of}
 use Rattle.xd_syntax.specs.declared.plain.fits.Split.{Split}

@@ -1,8 +1,10 @@
 -- What a plain evaluation tells.
-use Rattle.std.specs.Prelude.{◌≡◌, ℕ, List, map}
+use Rattle.std.specs.Prelude.{◌≡◌, ℕ, ◌≤◌, List, map, Result, Ok, Err}
 use Rattle.xd_doc.specs.Document.{Document}
 use Rattle.xd_syntax.specs.Meaning as M
-use Rattle.xd_syntax.specs.Meaning.{Outcome, Environment, value_by, values_by, chosen_by, call_within}
+use Rattle.xd_syntax.specs.Meaning.{Outcome, Environment, Matcher, value_by, values_by, chosen_by, call_within}
+use Rattle.xd_syntax.specs.Tree.{Tree, Definitions}
+use Rattle.xd_syntax.specs.Ways.{first, first_within, unfoldings}
 use Rattle.xd_syntax.specs.Program.{names_of}
 use Rattle.xd_syntax.specs.PlainDocuments.{document_of}
 use Rattle.xd_syntax.specs.PlainWays.{bindings_of}
@@ -13,25 +15,39 @@ use Rattle.xd_syntax.specs.declared.plain.program.PlainExpression.{PlainExpressi
 use Rattle.xd_syntax.specs.declared.plain.program.PlainArguments.{PlainArguments}
 use Rattle.xd_syntax.specs.declared.plain.program.PlainClauses.{PlainClauses}
 use Rattle.xd_syntax.specs.declared.plain.program.PlainProgram.{PlainProgram}
+use Rattle.xd_syntax.specs.declared.plain.evaluate.Valued.{Valued}
 use Rattle.xd_syntax.specs.declared.plain.evaluate.NoValue.{NoValue}
-use Rattle.xd_syntax.specs.declared.plain.evaluate.NoValue.TheVariants.{Spent, Stuck, TooLarge, NoMemory}
+use Rattle.xd_syntax.specs.declared.plain.evaluate.NoValue.TheVariants.{Spent, Stuck, NoMemory}
 
--- the outcome is this one; a want of memory, or of room in a number, tells nothing
+-- the outcome is this one; a want of memory tells nothing
 abbrev pub IsWithout : {A : Type 0} → NoValue → Outcome A → Type 0
 IsWithout Spent o = o ≡ M.Spent
 IsWithout Stuck o = o ≡ M.Stuck
-IsWithout TooLarge o = Unit {0}
 IsWithout NoMemory o = Unit {0}
+
+-- the answer is the outcome; a want of memory tells nothing
+abbrev pub IsAnswer : Result Valued NoValue → Outcome Document → Type 0
+IsAnswer (Ok v) o = o ≡ M.Done (document_of v.document) v.left
+IsAnswer (Err why) o = IsWithout why o
+
+-- whatever the matches of documents that need more than n unfoldings give, the outcome is the same
+abbrev pub IsSettledWithin : Definitions → ℕ → (Matcher → Outcome Document) → Type 0
+IsSettledWithin E n outcome =
+    (m : Matcher) → ((T : Tree) (d : Document) → unfoldings E d ≤ n → m T d ≡ first E T d) → outcome m ≡ outcome (first E)
 
 abbrev pub documents_of : List PlainDocument → List Document
 documents_of ds = map document_of ds
 
+-- the first matches within u unfoldings
+abbrev pub matches_of : PlainProgram → (u : ℕ) → Matcher
+matches_of p u = first_within (names_of (program_of p)) u
+
 -- with n calls left, where calls stand within one another at most k deep
-abbrev pub value_of : PlainProgram → (k n : ℕ) → List Binding → PlainExpression → Outcome Document
-value_of p k n vs e = value_by (names_of (program_of p)) (call_within (program_of p) k) n (bindings_of vs) (expression_of e)
+abbrev pub value_of : PlainProgram → (u k n : ℕ) → List Binding → PlainExpression → Outcome Document
+value_of p u k n vs e = value_by (matches_of p u) (call_within (matches_of p u) (program_of p) k) n (bindings_of vs) (expression_of e)
 
-abbrev pub values_of : PlainProgram → (k n : ℕ) → List Binding → PlainArguments → Outcome (List Document)
-values_of p k n vs es = values_by (names_of (program_of p)) (call_within (program_of p) k) n (bindings_of vs) (arguments_of es)
+abbrev pub values_of : PlainProgram → (u k n : ℕ) → List Binding → PlainArguments → Outcome (List Document)
+values_of p u k n vs es = values_by (matches_of p u) (call_within (matches_of p u) (program_of p) k) n (bindings_of vs) (arguments_of es)
 
-abbrev pub chosen_of : PlainProgram → (k n : ℕ) → List Binding → Document → PlainClauses → Outcome Document
-chosen_of p k n vs d cs = chosen_by (names_of (program_of p)) (call_within (program_of p) k) n (bindings_of vs) d (clauses_of cs)
+abbrev pub chosen_of : PlainProgram → (u k n : ℕ) → List Binding → Document → PlainClauses → Outcome Document
+chosen_of p u k n vs d cs = chosen_by (matches_of p u) (call_within (matches_of p u) (program_of p) k) n (bindings_of vs) d (clauses_of cs)

@@ -1,7 +1,7 @@
 //! Documents as lists of boxed items.
 
-ghost use Rattle.std.specs.Prelude.{◌≡◌, ◌+◌, ◌^◌, ◌≤◌, not, nat_lt, IfOk, IfSome, IfNone};
-ghost use Rattle.xd_doc.specs.Document.{join, has_item, size as size_of};
+ghost use Rattle.std.specs.Prelude.{◌≡◌, ◌+◌, not, nat_lt, IfOk};
+ghost use Rattle.xd_doc.specs.Document.{join, has_item};
 ghost use Rattle.xd_syntax.specs.Ways.{item_count};
 ghost use Rattle.xd_syntax.specs.PlainDocuments.{document_of};
 
@@ -25,21 +25,6 @@ impl PlainDocument {
             PlainDocument::Empty => true,
             PlainDocument::Text(_, _) => false,
             PlainDocument::Elem(_, _, _) => false,
-        }
-    }
-
-    /// The number of items at all depths, where it is below 2^64.
-    pub fn size(&self) -> Option<u64>
-        ensures some { IfSome result (λ n. n ≡ size_of (document_of self.now)) }
-        ensures none { IfNone result (2 ^ 64 ≤ size_of (document_of self.now)) }
-    {
-        match self {
-            PlainDocument::Empty => Some(0),
-            PlainDocument::Text(_, rest) => rest.size()?.checked_add(1),
-            PlainDocument::Elem(_, content, rest) => {
-                let inside = content.size()?.checked_add(1)?;
-                inside.checked_add(rest.size()?)
-            }
         }
     }
 

@@ -1,23 +1,23 @@
 //! The meaning of an expression on fuel.
 
-ghost use Rattle.std.specs.Prelude.{◌≡◌, ◌≤◌, ◌^◌, ◌∷◌, [], ◌++◌, map, IfOk, IfErr, IfSome, IfNone};
+ghost use Rattle.std.specs.Prelude.{◌≡◌, ◌∷◌, [], ◌++◌, map, IfOk, IfErr};
 ghost use Rattle.std.specs.Option.{option_copied};
 ghost use Rattle.xd_doc.specs.Document.{Document, empty, text as a_text, element as an_element};
 ghost use Rattle.xd_syntax.specs.Words.{main_word};
-ghost use Rattle.xd_syntax.specs.Ways.{first, unfoldings as needed};
+ghost use Rattle.xd_syntax.specs.Program.{names_of};
+ghost use Rattle.xd_syntax.specs.RecursionFaults.{IsSound};
 ghost use Rattle.xd_syntax.specs.Meaning as on_fuel;
 ghost use Rattle.xd_syntax.specs.PlainDocuments.{document_of};
-ghost use Rattle.xd_syntax.specs.PlainTrees.{tree_of, definitions_of, map_option};
+ghost use Rattle.xd_syntax.specs.PlainTrees.{map_option};
 ghost use Rattle.xd_syntax.specs.PlainWays.{bindings_of};
 ghost use Rattle.xd_syntax.specs.PlainPrograms.{parameter_of, expression_of, program_of, AnyIsFirst};
-ghost use Rattle.xd_syntax.specs.PlainMeaning.{IsWithout, documents_of, value_of, values_of, chosen_of};
+ghost use Rattle.xd_syntax.specs.PlainMeaning.{IsWithout, IsAnswer, IsSettledWithin, documents_of, matches_of, value_of, values_of, chosen_of};
 ghost use Rattle.xd_syntax.specs.declared.plain.evaluate.NoValue.TheVariants.{NoMemory as OutOfMemory};
 
 use crate::plain::document::PlainDocument;
 use crate::plain::program::{
     PlainArguments, PlainClauses, PlainExpression, PlainParameter, PlainProgram, function_named,
 };
-use crate::plain::tree::{PlainDefinition, PlainTree};
 use crate::plain::ways::{Binding, first_within, push_bindings};
 use std::alloc::Global;
 use xd_doc::{Label, NoMemory, Text};
@@ -43,8 +43,6 @@ pub enum NoValue {
     Spent,
     /// No clause takes the document, or nothing has the name.
     Stuck,
-    /// A match needs 2^64 unfoldings or more.
-    TooLarge,
     NoMemory,
 }
 
@@ -56,49 +54,61 @@ impl From<NoMemory> for NoValue {
     }
 }
 
-/// The value of an expression with so many calls left, where variables have these documents, the newest first.
+/// The value of an expression with so many calls left, where variables have these documents, the newest first, and a
+/// match may unfold names so many times.
+///
+/// In a sound program a match needs no more unfoldings than its document's size plus one times the number of
+/// definitions plus one, `Any` among them.
 pub fn value(
     alloc: Global,
     program: &PlainProgram,
+    unfoldings: u64,
     calls: u64,
     variables: &[Binding],
     expression: &PlainExpression,
 ) -> Result<Valued, NoValue>
     requires { AnyIsFirst program.now }
-    ensures done { IfOk result (λ valued. on_fuel.value (program_of program.now) calls (bindings_of variables.now) (expression_of expression.now) ≡ on_fuel.Done (document_of valued.document) valued.left) }
-    ensures ended { IfErr result (λ why. IsWithout why (on_fuel.value (program_of program.now) calls (bindings_of variables.now) (expression_of expression.now))) }
+    ensures done { IfOk result (λ valued. on_fuel.value_with (matches_of program.now unfoldings) (program_of program.now) calls (bindings_of variables.now) (expression_of expression.now) ≡ on_fuel.Done (document_of valued.document) valued.left) }
+    ensures ended { IfErr result (λ why. IsWithout why (on_fuel.value_with (matches_of program.now unfoldings) (program_of program.now) calls (bindings_of variables.now) (expression_of expression.now))) }
+    ensures enough { IsSound (program_of program.now) → IsSettledWithin (names_of (program_of program.now)) unfoldings (λ matches. on_fuel.value_with matches (program_of program.now) calls (bindings_of variables.now) (expression_of expression.now)) → IsAnswer result (on_fuel.value (program_of program.now) calls (bindings_of variables.now) (expression_of expression.now)) }
 {
-    value_within(alloc, program, calls, calls, variables, expression)
+    value_within(
+        alloc, program, unfoldings, calls, calls, variables, expression,
+    )
 }
 
-/// The value of the call of `main` on a document, with so many calls left.
+/// The value of the call of `main` on a document, with so many calls left and so many unfoldings in a match, as for
+/// `value`.
 pub fn meaning(
     alloc: Global,
     program: &PlainProgram,
+    unfoldings: u64,
     calls: u64,
     document: PlainDocument,
 ) -> Result<Valued, NoValue>
     requires { AnyIsFirst program.now }
-    ensures done { IfOk result (λ valued. on_fuel.meaning (program_of program.now) calls (document_of document) ≡ on_fuel.Done (document_of valued.document) valued.left) }
-    ensures ended { IfErr result (λ why. IsWithout why (on_fuel.meaning (program_of program.now) calls (document_of document))) }
+    ensures done { IfOk result (λ valued. on_fuel.meaning_with (matches_of program.now unfoldings) (program_of program.now) calls (document_of document) ≡ on_fuel.Done (document_of valued.document) valued.left) }
+    ensures ended { IfErr result (λ why. IsWithout why (on_fuel.meaning_with (matches_of program.now unfoldings) (program_of program.now) calls (document_of document))) }
+    ensures enough { IsSound (program_of program.now) → IsSettledWithin (names_of (program_of program.now)) unfoldings (λ matches. on_fuel.meaning_with matches (program_of program.now) calls (document_of document)) → IsAnswer result (on_fuel.meaning (program_of program.now) calls (document_of document)) }
 {
     let main = Label::new(alloc, "main")?;
     let documents = in_front(alloc, document, Vec::new(alloc))?;
-    call_within(alloc, program, calls, calls, &main, &documents)
+    call_within(alloc, program, unfoldings, calls, calls, &main, &documents)
 }
 
 #[cycle(value)]
 fn value_within(
     alloc: Global,
     program: &PlainProgram,
+    unfoldings: u64,
     deep: u64,
     calls: u64,
     variables: &[Binding],
     expression: &PlainExpression,
 ) -> Result<Valued, NoValue>
     requires { AnyIsFirst program.now }
-    ensures done { IfOk result (λ valued. value_of program.now deep calls variables.now expression.now ≡ on_fuel.Done (document_of valued.document) valued.left) }
-    ensures ended { IfErr result (λ why. IsWithout why (value_of program.now deep calls variables.now expression.now)) }
+    ensures done { IfOk result (λ valued. value_of program.now unfoldings deep calls variables.now expression.now ≡ on_fuel.Done (document_of valued.document) valued.left) }
+    ensures ended { IfErr result (λ why. IsWithout why (value_of program.now unfoldings deep calls variables.now expression.now)) }
 {
     match expression {
         PlainExpression::Empty => Ok(Valued {
@@ -123,7 +133,9 @@ fn value_within(
             })
         }
         PlainExpression::Elem(label, content) => {
-            let content = value_within(alloc, program, deep, calls, variables, content)?;
+            let content = value_within(
+                alloc, program, unfoldings, deep, calls, variables, content,
+            )?;
             let document = one_element(alloc, label, content.document)?;
             Ok(Valued {
                 document,
@@ -131,8 +143,10 @@ fn value_within(
             })
         }
         PlainExpression::Seq(first, rest) => {
-            let front = value_within(alloc, program, deep, calls, variables, first)?;
-            let back = value_within(alloc, program, deep, front.left, variables, rest)?;
+            let front = value_within(alloc, program, unfoldings, deep, calls, variables, first)?;
+            let back = value_within(
+                alloc, program, unfoldings, deep, front.left, variables, rest,
+            )?;
             let document = front.document.followed_by(alloc, &back.document)?;
             Ok(Valued {
                 document,
@@ -140,15 +154,28 @@ fn value_within(
             })
         }
         PlainExpression::Call(function, arguments) => {
-            let given = values_within(alloc, program, deep, calls, variables, arguments)?;
-            call_within(alloc, program, deep, given.left, function, &given.documents)
+            let given = values_within(
+                alloc, program, unfoldings, deep, calls, variables, arguments,
+            )?;
+            call_within(
+                alloc,
+                program,
+                unfoldings,
+                deep,
+                given.left,
+                function,
+                &given.documents,
+            )
         }
         PlainExpression::Match(scrutinee, clauses) => {
-            let matched = value_within(alloc, program, deep, calls, variables, scrutinee)?;
+            let matched = value_within(
+                alloc, program, unfoldings, deep, calls, variables, scrutinee,
+            )?;
             let document = &matched.document;
             chosen_within(
                 alloc,
                 program,
+                unfoldings,
                 deep,
                 matched.left,
                 variables,
@@ -164,14 +191,15 @@ fn value_within(
 fn values_within(
     alloc: Global,
     program: &PlainProgram,
+    unfoldings: u64,
     deep: u64,
     calls: u64,
     variables: &[Binding],
     arguments: &PlainArguments,
 ) -> Result<AllValued, NoValue>
     requires { AnyIsFirst program.now }
-    ensures done { IfOk result (λ valued. values_of program.now deep calls variables.now arguments.now ≡ on_fuel.Done (documents_of valued.documents.items) valued.left) }
-    ensures ended { IfErr result (λ why. IsWithout why (values_of program.now deep calls variables.now arguments.now)) }
+    ensures done { IfOk result (λ valued. values_of program.now unfoldings deep calls variables.now arguments.now ≡ on_fuel.Done (documents_of valued.documents.items) valued.left) }
+    ensures ended { IfErr result (λ why. IsWithout why (values_of program.now unfoldings deep calls variables.now arguments.now)) }
 {
     match arguments {
         PlainArguments::NoArgument => Ok(AllValued {
@@ -179,8 +207,10 @@ fn values_within(
             left: calls,
         }),
         PlainArguments::Argument(first, others) => {
-            let first = value_within(alloc, program, deep, calls, variables, first)?;
-            let others = values_within(alloc, program, deep, first.left, variables, others)?;
+            let first = value_within(alloc, program, unfoldings, deep, calls, variables, first)?;
+            let others = values_within(
+                alloc, program, unfoldings, deep, first.left, variables, others,
+            )?;
             let documents = in_front(alloc, first.document, others.documents)?;
             Ok(AllValued {
                 documents,
@@ -195,6 +225,7 @@ fn values_within(
 fn chosen_within(
     alloc: Global,
     program: &PlainProgram,
+    unfoldings: u64,
     deep: u64,
     calls: u64,
     variables: &[Binding],
@@ -202,17 +233,19 @@ fn chosen_within(
     clauses: &PlainClauses,
 ) -> Result<Valued, NoValue>
     requires { AnyIsFirst program.now }
-    ensures done { IfOk result (λ valued. chosen_of program.now deep calls variables.now (document_of document.now) clauses.now ≡ on_fuel.Done (document_of valued.document) valued.left) }
-    ensures ended { IfErr result (λ why. IsWithout why (chosen_of program.now deep calls variables.now (document_of document.now) clauses.now)) }
+    ensures done { IfOk result (λ valued. chosen_of program.now unfoldings deep calls variables.now (document_of document.now) clauses.now ≡ on_fuel.Done (document_of valued.document) valued.left) }
+    ensures ended { IfErr result (λ why. IsWithout why (chosen_of program.now unfoldings deep calls variables.now (document_of document.now) clauses.now)) }
 {
     match clauses {
         PlainClauses::NoClause => Err(NoValue::Stuck),
         PlainClauses::Clause(pattern, body, others) => {
-            match first_match(alloc, &program.definitions, pattern, document)? {
-                None => chosen_within(alloc, program, deep, calls, variables, document, others),
+            match first_within(alloc, &program.definitions, unfoldings, pattern, document)? {
+                None => chosen_within(
+                    alloc, program, unfoldings, deep, calls, variables, document, others,
+                ),
                 Some(bindings) => {
                     let inner = with_outer(alloc, bindings, variables)?;
-                    value_within(alloc, program, deep, calls, &inner, body)
+                    value_within(alloc, program, unfoldings, deep, calls, &inner, body)
                 }
             }
         }
@@ -224,14 +257,15 @@ fn chosen_within(
 fn call_within(
     alloc: Global,
     program: &PlainProgram,
+    unfoldings: u64,
     deep: u64,
     calls: u64,
     name: &Label,
     documents: &[PlainDocument],
 ) -> Result<Valued, NoValue>
     requires { AnyIsFirst program.now }
-    ensures done { IfOk result (λ valued. on_fuel.call_within (program_of program.now) deep calls name.now (documents_of documents.now) ≡ on_fuel.Done (document_of valued.document) valued.left) }
-    ensures ended { IfErr result (λ why. IsWithout why (on_fuel.call_within (program_of program.now) deep calls name.now (documents_of documents.now))) }
+    ensures done { IfOk result (λ valued. on_fuel.call_within (matches_of program.now unfoldings) (program_of program.now) deep calls name.now (documents_of documents.now) ≡ on_fuel.Done (document_of valued.document) valued.left) }
+    ensures ended { IfErr result (λ why. IsWithout why (on_fuel.call_within (matches_of program.now unfoldings) (program_of program.now) deep calls name.now (documents_of documents.now))) }
 {
     if deep == 0 {
         return Err(NoValue::Spent);
@@ -246,38 +280,12 @@ fn call_within(
     value_within(
         alloc,
         program,
+        unfoldings,
         deep - 1,
         calls - 1,
         &variables,
         &function.body,
     )
-}
-
-/// The bindings of the first match.
-fn first_match(
-    alloc: Global,
-    definitions: &[PlainDefinition],
-    pattern: &PlainTree,
-    document: &PlainDocument,
-) -> Result<Option<Vec<Binding>>, NoValue>
-    ensures found { IfOk result (λ found. map_option (λ bindings. bindings_of bindings.items) found ≡ first (definitions_of definitions.now) (tree_of pattern.now) (document_of document.now)) }
-    ensures ended { (o : on_fuel.Outcome Document) → IfErr result (λ why. IsWithout why o) }
-{
-    let Some(unfoldings) = unfoldings_needed(definitions, document) else {
-        return Err(NoValue::TooLarge);
-    };
-    let found = first_within(alloc, definitions, unfoldings, pattern, document)?;
-    Ok(found)
-}
-
-/// As many unfoldings as a sound program needs, where they are below 2^64.
-fn unfoldings_needed(definitions: &[PlainDefinition], document: &PlainDocument) -> Option<u64>
-    ensures some { IfSome result (λ n. n ≡ needed (definitions_of definitions.now) (document_of document.now)) }
-    ensures none { IfNone result (2 ^ 64 ≤ needed (definitions_of definitions.now) (document_of document.now)) }
-{
-    let items = document.size()?.checked_add(1)?;
-    let names = u64::try_from(definitions.len()).ok()?.checked_add(1)?;
-    items.checked_mul(names)
 }
 
 /// What the newest variable of this name has.

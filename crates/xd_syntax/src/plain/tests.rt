@@ -389,14 +389,13 @@ fn outcome(
 ) -> Result<String, AllocError>
     requires { AnyIsFirst program.now }
 {
-    match meaning(alloc, program, calls, document) {
+    match meaning(alloc, program, 1_000, calls, document) {
         Ok(valued) => {
             let document = spelled(alloc, &valued.document)?;
             format!(in alloc; "{}and {} left", document.as_str(), valued.left)
         }
         Err(NoValue::Spent) => format!(in alloc; "spent"),
         Err(NoValue::Stuck) => format!(in alloc; "stuck"),
-        Err(NoValue::TooLarge) => format!(in alloc; "too large"),
         Err(NoValue::NoMemory) => format!(in alloc; "no memory"),
     }
 }
@@ -442,7 +441,7 @@ fn value_of_element(alloc: Global) -> Result<Valued, NoValue> {
     let program = endless(alloc)?;
     let label = Label::new(alloc, "r")?;
     let expression = element_around(alloc, label)?;
-    value(alloc, &program, 0, &[], &expression)
+    value(alloc, &program, 1_000, 0, &[], &expression)
 }
 
 fn element_around(alloc: Global, label: Label) -> Result<PlainExpression, NoMemory> {

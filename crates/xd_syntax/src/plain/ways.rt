@@ -1,7 +1,7 @@
 //! The ways of a pattern on a document, all of them and in order.
 
 ghost use Rattle.std.specs.Prelude.{◌≡◌, ◌≤◌, ◌++◌, ◌∷◌, [], suc, nat_lt, cond, map, flat_map, IfOk, OnOk};
-ghost use Rattle.xd_syntax.specs.Ways.{no_item_way, then_way, text_ways, binding, turns, repetition, first, first_whole, ways_within as the_ways_within, unfoldings as needed, item_count};
+ghost use Rattle.xd_syntax.specs.Ways.{no_item_way, then_way, text_ways, binding, turns, repetition, first, first_whole, first_within as the_first_within, ways_within as the_ways_within, unfoldings as needed, item_count};
 ghost use Rattle.xd_syntax.specs.PlainDocuments.{document_of};
 ghost use Rattle.xd_syntax.specs.PlainTrees.{tree_of, definitions_of, map_option};
 ghost use Rattle.xd_syntax.specs.Program.{ProgramTree, names_of};
@@ -100,7 +100,7 @@ pub fn first_within(
     pattern: &PlainTree,
     document: &PlainDocument,
 ) -> Result<Option<Vec<Binding>>, NoMemory>
-    ensures within { IfOk result (λ found. map_option (λ bindings. bindings_of bindings.items) found ≡ first_whole (the_ways_within (definitions_of definitions.now) unfoldings (tree_of pattern.now) (document_of document.now))) }
+    ensures within { IfOk result (λ found. map_option (λ bindings. bindings_of bindings.items) found ≡ the_first_within (definitions_of definitions.now) unfoldings (tree_of pattern.now) (document_of document.now)) }
     ensures enough { (P : ProgramTree) → IsSound P → definitions_of definitions.now ≡ names_of P → needed (names_of P) (document_of document.now) ≤ unfoldings → IfOk result (λ found. map_option (λ bindings. bindings_of bindings.items) found ≡ first (names_of P) (tree_of pattern.now) (document_of document.now)) }
 {
     let ways = ways_within(alloc, definitions, unfoldings, pattern, document)?;

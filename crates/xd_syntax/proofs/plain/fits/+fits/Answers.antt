@@ -1,6 +1,6 @@
 use Rattle.std.proofs.Common.{◌≡◌, ◌+◌, ◌≤◌, ◌↔◌, IsTrue, IfOk, refl, ap, sym, ◌∙◌, subst, arith}
 use Rattle.xd_doc.specs.Document.{Document, size, has_item}
-use Rattle.xd_syntax.specs.Tree.{Tree, Seq, Star, Plus}
+use Rattle.xd_syntax.specs.Tree.{Seq, Star, Plus}
 use Rattle.xd_syntax.specs.Fits as types
 use Rattle.xd_syntax.specs.PlainDocuments.{document_of}
 use Rattle.xd_syntax.specs.PlainTrees.{tree_of, definitions_of}

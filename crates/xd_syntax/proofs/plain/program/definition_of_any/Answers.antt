@@ -1,8 +1,8 @@
 use Rattle.std.proofs.Common.{◌≡◌, inr, refl, ap, ◌∙◌}
 use Rattle.std.specs.List.Sorted.{IsStrictlySortedBy}
-use Rattle.xd_doc.specs.Classes.{LabelClass, IsClass, names_label}
+use Rattle.xd_doc.specs.Classes.{IsClass, names_label}
 use Rattle.xd_syntax.specs.Words.{any_word}
-use Rattle.xd_syntax.specs.Tree.{Tree, Name, Elem, Alt, Star, Text, all_labels}
+use Rattle.xd_syntax.specs.Tree.{Name, Elem, Alt, Star, Text, all_labels}
 use Rattle.xd_syntax.specs.PlainTrees.{tree_of}
 use Rattle.xd_syntax.proofs.SameClass.{same_class_of}
 use Rattle.xd_syntax.proofs.plain.program.definition_of_any.Goals as goal
