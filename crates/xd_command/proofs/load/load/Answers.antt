@@ -15,4 +15,4 @@ report-requires-then-not-is_empty c =
 pub report-requires-in-Faults : goal.report-requires-in-Faults
 report-requires-in-Faults c =
     let found = rw c.in-Faults.is at c.in_ok-sound.ensures in
-    subst CarryNothing (sym c.deref-in-Faults.ensures.value) (recursion_carry (program_tree c.in-Ok.program) c.in-Faults.faults.items found.0)
+    subst CarryNothing (sym c.deref-in-Faults.ensures.value) (recursion_carry (program_tree c.in-Ok.program) c.in-Faults.faults.items found.1)
