@@ -105,7 +105,7 @@ main_both : (next : Reading) → Main ≡ Both next → ⊥
 main_both next e = cc
 
 -- at the end of the tokens not both go on
-both_at_end : (reading next : Reading) → IsDouble reading → course reading t.Broken ≡ Both next → ⊥
+pub both_at_end : (reading next : Reading) → IsDouble reading → course reading t.Broken ≡ Both next → ⊥
 both_at_end Plain next two e = two
 both_at_end (Opened sorts.Type) next two e = main_both next e
 both_at_end (Opened sorts.Pattern) next two e = main_both next e

@@ -12,6 +12,7 @@ pub mod Depth
 pub mod Nesting
 pub mod Spelled
 pub mod Ahead
+pub mod Sure
 pub mod ByteOrder
 pub mod ClassRows
 pub mod Keywords

@@ -8,6 +8,7 @@ pub mod Faults
 pub mod Merged
 pub mod Values
 pub mod Means
+pub mod Laws
 pub mod Reading
 pub mod Nodes
 pub mod Grows

@@ -8,6 +8,7 @@ mod expressions;
 mod fault;
 mod grammar;
 mod joining;
+pub mod laws;
 mod machine;
 mod merge;
 mod nodes;
