@@ -23,8 +23,10 @@ use Rattle.xd_parse.specs.Values.{Value, word, a_type, an_expression, a_paramete
 use Rattle.xd_parse.specs.Reading.{Reads, front_terminal, front_place, front_text, behind}
 use Rattle.xd_parse.specs.Definitions.{in_front, one_type, one_function, ReadsInFront, ReadsParameters}
 use Rattle.xd_parse.specs.Grows.{Grows}
+use Rattle.xd_parse.specs.Shallow.{NoDeeper, TreeWithin, ParametersWithin, DefinitionsWithin}
 use Rattle.xd_parse.proofs.Derive.{same-true}
 use Rattle.xd_parse.proofs.Grown.{IsPattern-more, IsExpr-more, same_pattern, same_expression, Grows-refl}
+use Rattle.xd_parse.proofs.AddedDepth.{none_deeper, deeper_both}
 use Rattle.xd_parse.proofs.Rows.{MeansView, means_view, ReadsRow, row_end, row_token, row_opening, row_closed, row_unless, row_part, part_one, part_fit, part_none}
 
 -- ---- what is left behind a token
@@ -145,6 +147,27 @@ some_parameters from here types (q ∷ ps) so = omega arith
 pub some_params : (types : List NodeRow) (from here : List Lexeme) (ps : List Param) → Params types from here ps → 1 ≤ length ps
 some_params types from here ps so = some_parameters from here types ps so.reads
 
+-- ---- how deep the types of parameters are
+all_front : {X : Type 0} (P : X → Type 0) (xs ys : List X) → AllByRecursion P (xs ++ ys) → AllByRecursion P xs
+all_front P [] ys a = tt
+all_front P (x ∷ xs) ys a = (a.0, all_front P xs ys a.1)
+
+all_back : {X : Type 0} (P : X → Type 0) (xs ys : List X) → AllByRecursion P (xs ++ ys) → AllByRecursion P ys
+all_back P [] ys a = a
+all_back P (x ∷ xs) ys a = all_back P xs ys a.1
+
+parameters_apart : (old new : List NodeRow) (ps : List Param) (q : Param) (limit : ℕ) → KeepsRows old new → ParamsBelong old ps → ParametersWithin (map (parameter new) (ps ++ q ∷ [])) limit →
+    ParametersWithin (map (parameter old) ps ++ parameter new q ∷ []) limit
+parameters_apart old new ps q limit k b w =
+    subst (λ (qs : List Parameter). ParametersWithin qs limit) (map-append (parameter new) ps (q ∷ []) ∙ ap (λ (qs : List Parameter). qs ++ parameter new q ∷ []) (same_params old new ps k b)) w
+
+pub next_deeper : (old middle new : List NodeRow) (ps : List Param) (q : Param) → KeepsRows middle new → ParamsBelong middle ps → NoDeeper (ParametersWithin (map (parameter middle) ps)) old middle →
+    NoDeeper (TreeWithin (parameter new q).declared) middle new → NoDeeper (ParametersWithin (map (parameter new) (ps ++ q ∷ []))) old new
+next_deeper old middle new ps q k b c d =
+    deeper_both (ParametersWithin (map (parameter middle) ps)) (TreeWithin (parameter new q).declared) (ParametersWithin (map (parameter new) (ps ++ q ∷ []))) old middle new k
+    (λ limit o w. all_front (λ (x : Parameter). TreeWithin x.declared limit) (map (parameter middle) ps) (parameter new q ∷ []) (parameters_apart middle new ps q limit k b w))
+    (λ limit o w. (all_back (λ (x : Parameter). TreeWithin x.declared limit) (map (parameter middle) ps) (parameter new q ∷ []) (parameters_apart middle new ps q limit k b w)).0) c d
+
 -- ---- definitions
 abbrev type_row : Row
 type_row = Token t.Type ∷ Token t.Word ∷ Token t.Equals ∷ Part n.Type ∷ Part n.Definitions ∷ []
@@ -202,16 +225,36 @@ front_assoc P Q R = let e = append_assoc P.types Q.types R.types in let f = appe
 in_front_trans : (P Q : ProgramTree) (here middle there : List Lexeme) → ReadsInFront P here middle → ReadsInFront Q middle there → ReadsInFront (in_front P Q) here there
 in_front_trans P Q here middle there r s to R more = subst (λ (X : ProgramTree). Reads n.Definitions here to (definitions X)) (front_assoc P Q R) (r to (in_front Q R) (s to R more))
 
+-- of a function: its parameters, and then its result
+pub function_deeper : (old middle new : List NodeRow) (ps : List Param) (T : PlacedTree) → KeepsRows middle new → ParamsBelong middle ps → NoDeeper (ParametersWithin (map (parameter middle) ps)) old middle →
+    NoDeeper (TreeWithin T) middle new → NoDeeper (λ limit. ParametersWithin (map (parameter new) ps) limit × TreeWithin T limit) old new
+function_deeper old middle new ps T k b c d =
+    deeper_both (ParametersWithin (map (parameter middle) ps)) (TreeWithin T) (λ limit. ParametersWithin (map (parameter new) ps) limit × TreeWithin T limit) old middle new k
+    (λ limit o w. subst (λ (qs : List Parameter). ParametersWithin qs limit) (same_params middle new ps k b) w.0) (λ limit o w. w.1) c d
+
+-- the definitions in front, and those behind them
+definitions_front : (P Q : ProgramTree) (limit : ℕ) → DefinitionsWithin (in_front P Q) limit → DefinitionsWithin P limit
+definitions_front P Q limit w = (all_front _ P.types Q.types w.0, all_front _ P.functions Q.functions w.1)
+
+definitions_back : (P Q : ProgramTree) (limit : ℕ) → DefinitionsWithin (in_front P Q) limit → DefinitionsWithin Q limit
+definitions_back P Q limit w = (all_back _ P.types Q.types w.0, all_back _ P.functions Q.functions w.1)
+
+definitions_deeper : (types new : List NodeRow) (P Q R : ProgramTree) → R ≡ in_front P Q → KeepsRows types new → NoDeeper (DefinitionsWithin P) [] types → NoDeeper (DefinitionsWithin Q) types new → NoDeeper (DefinitionsWithin R) [] new
+definitions_deeper types new P Q R e k c d =
+    deeper_both (DefinitionsWithin P) (DefinitionsWithin Q) (DefinitionsWithin R) [] types new k
+    (λ limit o w. definitions_front P Q limit (subst (λ (X : ProgramTree). DefinitionsWithin X limit) e w)) (λ limit o w. definitions_back P Q limit (subst (λ (X : ProgramTree). DefinitionsWithin X limit) e w)) c d
+
 -- ---- the program that was collected
 pub record Collected (p : ProgramTable) (from here : List Lexeme) : Type 0 where
   pub stands : ProgramStands p
   pub reads : ReadsInFront (program_tree p) from here
+  pub no_deeper : NoDeeper (DefinitionsWithin (program_tree p)) [] p.types
 
 abbrev pub table : List NodeRow → List NodeRow → List ExprRow → List TypeDef → List FunctionRow → ProgramTable
 table types patterns exprs defs functions = record { types = types; patterns = patterns; exprs = exprs; type_defs = defs; functions = functions }
 
 pub none_collected : (from : List Lexeme) → Collected (table [] [] [] [] []) from from
-none_collected from = record { stands = record { clauses = tt; type_defs = tt; functions = tt }; reads = λ to Q more. more }
+none_collected from = record { stands = record { clauses = tt; type_defs = tt; functions = tt }; reads = λ to Q more. more; no_deeper = none_deeper (DefinitionsWithin nothing) [] }
 
 defs_more : (old new : List NodeRow) (defs : List TypeDef) → KeepsRows old new → AllByRecursion (TypeDefStands old) defs → AllByRecursion (TypeDefStands new) defs
 defs_more old new [] k a = tt
@@ -244,8 +287,8 @@ same_collected : (from here : List Lexeme) (P Q : ProgramTree) → P ≡ Q → R
 same_collected from here P Q e r = subst (λ (X : ProgramTree). ReadsInFront X from here) (sym e) r
 
 -- one more definition of a type
-pub type_def_collected : (types new patterns : List NodeRow) (exprs : List ExprRow) (defs : List TypeDef) (fs : List FunctionRow) (from here next : List Lexeme) (d : TypeDef) → Collected (table types patterns exprs defs fs) from here → KeepsRows types new → TypeDefStands new d → ReadsInFront (one_type (type_definition new d)) here next → Collected (table new patterns exprs (defs ++ d ∷ []) fs) from next
-type_def_collected types new patterns exprs defs fs from here next d c k h r =
+pub type_def_collected : (types new patterns : List NodeRow) (exprs : List ExprRow) (defs : List TypeDef) (fs : List FunctionRow) (from here next : List Lexeme) (d : TypeDef) → Collected (table types patterns exprs defs fs) from here → KeepsRows types new → TypeDefStands new d → ReadsInFront (one_type (type_definition new d)) here next → NoDeeper (DefinitionsWithin (one_type (type_definition new d))) types new → Collected (table new patterns exprs (defs ++ d ∷ []) fs) from next
+type_def_collected types new patterns exprs defs fs from here next d c k h r o =
     let p : ProgramTable = table types patterns exprs defs fs in
     let q : ProgramTable = table new patterns exprs (defs ++ d ∷ []) fs in
     let g : Grows patterns exprs patterns exprs = Grows-refl patterns exprs c.stands.clauses in
@@ -255,11 +298,12 @@ type_def_collected types new patterns exprs defs fs from here next d c k h r =
     record {
       stands = record { clauses = c.stands.clauses; type_defs = all_push (TypeDefStands new) defs d (defs_more types new defs k c.stands.type_defs) h; functions = functions_more p q fs k g c.stands.functions };
       reads = same_collected from next (program_tree q) _ e (in_front_trans (program_tree p) (one_type (type_definition new d)) from here next c.reads r);
+      no_deeper = definitions_deeper types new (program_tree p) (one_type (type_definition new d)) (program_tree q) e k c.no_deeper o;
     }
 
 -- one more function
-pub function_collected : (types new patterns ps : List NodeRow) (exprs es : List ExprRow) (defs : List TypeDef) (fs : List FunctionRow) (from here next : List Lexeme) (f : FunctionRow) → Collected (table types patterns exprs defs fs) from here → KeepsRows types new → Grows patterns exprs ps es → FunctionStands new es f → ReadsInFront (one_function (function_definition (table new ps es [] []) f)) here next → Collected (table new ps es defs (fs ++ f ∷ [])) from next
-function_collected types new patterns ps exprs es defs fs from here next f c k g h r =
+pub function_collected : (types new patterns ps : List NodeRow) (exprs es : List ExprRow) (defs : List TypeDef) (fs : List FunctionRow) (from here next : List Lexeme) (f : FunctionRow) → Collected (table types patterns exprs defs fs) from here → KeepsRows types new → Grows patterns exprs ps es → FunctionStands new es f → ReadsInFront (one_function (function_definition (table new ps es [] []) f)) here next → NoDeeper (DefinitionsWithin (one_function (function_definition (table new ps es [] []) f))) types new → Collected (table new ps es defs (fs ++ f ∷ [])) from next
+function_collected types new patterns ps exprs es defs fs from here next f c k g h r o =
     let p : ProgramTable = table types patterns exprs defs fs in
     let q : ProgramTable = table new ps es defs (fs ++ f ∷ []) in
     let e1 : map (type_definition new) defs ≡ map (type_definition types) defs ++ [] = same_defs types new defs k c.stands.type_defs ∙ sym (append-nil (map (type_definition types) defs)) in
@@ -268,6 +312,7 @@ function_collected types new patterns ps exprs es defs fs from here next f c k g
     record {
       stands = record { clauses = g.clauses; type_defs = defs_more types new defs k c.stands.type_defs; functions = all_push (FunctionStands new es) fs f (functions_more p q fs k g c.stands.functions) h };
       reads = same_collected from next (program_tree q) _ e (in_front_trans (program_tree p) (one_function (function_definition q f)) from here next c.reads r);
+      no_deeper = definitions_deeper types new (program_tree p) (one_function (function_definition q f)) (program_tree q) e k c.no_deeper o;
     }
 
 same_program : (ts us : List TypeDefinition) (fs gs : List FunctionDefinition) → ts ≡ us → fs ≡ gs → let P : ProgramTree = record { types = ts; functions = fs } in let Q : ProgramTree = record { types = us; functions = gs } in P ≡ Q

@@ -25,13 +25,13 @@ post_depth T = depth_at_level postfix_level (unplaced T)
 abbrev pub prim_depth : PlacedTree → ℕ
 prim_depth T = depth_at_level primary_level (unplaced T)
 
-le_refl : (m : ℕ) → m ≤ m
+pub le_refl : (m : ℕ) → m ≤ m
 le_refl m = omega arith
 
 le_suc : (m : ℕ) → m ≤ m + 1
 le_suc m = omega arith
 
-up_seq : (T : PlacedTree) → any_depth T ≤ seq_depth T
+pub up_seq : (T : PlacedTree) → any_depth T ≤ seq_depth T
 up_seq (Empty_at p) = omega arith
 up_seq (Text_at p) = omega arith
 up_seq (Name_at p x) = omega arith
@@ -43,7 +43,7 @@ up_seq (Plus_at p T) = le_refl _
 up_seq (Opt_at p T) = le_refl _
 up_seq (Val_at p x q T) = up_seq T
 
-up_post : (T : PlacedTree) → seq_depth T ≤ post_depth T
+pub up_post : (T : PlacedTree) → seq_depth T ≤ post_depth T
 up_post (Empty_at p) = omega arith
 up_post (Text_at p) = omega arith
 up_post (Name_at p x) = omega arith
@@ -55,7 +55,7 @@ up_post (Plus_at p T) = le_refl _
 up_post (Opt_at p T) = le_refl _
 up_post (Val_at p x q T) = up_post T
 
-up_prim : (T : PlacedTree) → post_depth T ≤ prim_depth T
+pub up_prim : (T : PlacedTree) → post_depth T ≤ prim_depth T
 up_prim (Empty_at p) = omega arith
 up_prim (Text_at p) = omega arith
 up_prim (Name_at p x) = omega arith
@@ -223,7 +223,7 @@ placed_alt_within l d p T (U ∷ Us) h a =
     let r : AnyWithin l d (placed_alt (place_of U) (U ∷ Us)) = placed_alt_within l d (place_of U) U Us a.0 a.1 in
     ((h.0, r.0), max_within (seq_depth T) (any_depth (placed_alt (place_of U) (U ∷ Us))) d l h.1 r.1)
 
-some_branch : (T : PlacedTree) (Us : List PlacedTree) → parts_of_alt T ++ Us ≡ [] → ⊥
+pub some_branch : (T : PlacedTree) (Us : List PlacedTree) → parts_of_alt T ++ Us ≡ [] → ⊥
 some_branch (Empty_at p) Us e = cons_not_nil _ _ e
 some_branch (Text_at p) Us e = cons_not_nil _ _ e
 some_branch (Name_at p x) Us e = cons_not_nil _ _ e

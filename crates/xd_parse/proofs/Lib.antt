@@ -10,6 +10,8 @@ pub mod PatternForms
 pub mod NodeRows
 pub mod Depth
 pub mod Nesting
+pub mod Deeper
+pub mod AddedDepth
 pub mod Spelled
 pub mod Ahead
 pub mod Sure
@@ -20,6 +22,7 @@ pub mod TextLemmas
 pub mod Grown
 pub mod DefinitionRows
 pub mod Turned
+pub mod ShallowTexts
 mod ShownParts
 pub mod JoinLemmas
 pub mod ExprRows

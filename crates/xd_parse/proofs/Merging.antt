@@ -1,15 +1,17 @@
 -- The parts that nodes are as parts of a sequence, and as branches of an alternative.
-use Rattle.std.proofs.Common.{◌≡◌, ℕ, ◌<◌, ◌≤◌, arith, Bool, true, false, ◌||◌, List, [], ◌∷◌, ◌++◌, map, length, take, drop, flat_map, refl, ap, sym, ◌∙◌, subst, length-append, append-nil, append_assoc, lit<, ◌==◌}
+use Rattle.std.proofs.Common.{◌≡◌, ℕ, ◌<◌, ◌≤◌, arith, Bool, true, false, ◌||◌, List, [], ◌∷◌, ◌++◌, map, length, take, drop, flat_map, refl, ap, sym, ◌∙◌, subst, length-append, append-nil, append_assoc, lit<, ◌==◌, Result, Ok, Err, IfOk}
 use Rattle.std.proofs.lemmas.List.{map-append, take-append-drop, drop_all, length-map}
 use Rattle.std.specs.List.{AllByRecursion}
 use Rattle.xd_base.specs.declared.Place.{Place}
 use Rattle.xd_syntax.specs.Tree.{Tree, is_empty, is_seq, is_alt}
-use Rattle.xd_syntax.specs.Table.{Row, Form, empty_form, text_form, name_form, elem_form, seq_form, alt_form, star_form, plus_form, opt_form, val_form, form_tree, tree_at, CanFollow, IsSeqPart, IsAltPart}
+use Rattle.xd_syntax.specs.Table.{Row, Form, empty_form, text_form, name_form, elem_form, seq_form, alt_form, star_form, plus_form, opt_form, val_form, form_tree, tree_at, CanFollow, IsSeqPart, IsAltPart, KeepsRows}
 use Rattle.xd_syntax.specs.Placed.{PlacedTree, Empty_at, Text_at, Name_at, Elem_at, Seq_at, Alt_at, Star_at, Plus_at, Opt_at, Val_at, placed_at, placed_form, placed_seq, placed_alt, place_of, unplaced}
 use Rattle.xd_syntax.proofs.Trees.{tree_kept}
-use Rattle.xd_syntax.proofs.PlacedTrees.{unplaced_at}
-use Rattle.xd_parse.specs.Merged.{parts_of_seq, parts_of_alt}
-use Rattle.xd_parse.specs.Nodes.{AddsParts}
+use Rattle.xd_syntax.proofs.PlacedTrees.{unplaced_at, placed_new}
+use Rattle.xd_parse.specs.Merged.{parts_of_seq, parts_of_alt, merged_seq, sequence}
+use Rattle.xd_parse.specs.Nodes.{AddsParts, IsAdded}
+use Rattle.xd_parse.specs.Shallow.{IsWhole, IsDeepest}
+use Rattle.xd_parse.proofs.Deeper.{AreWhole, merged_parts}
 
 -- a node's tree has the place of the node
 pub place_of-placed_form : (b : Bool) (older : List Row) (t : ℕ → PlacedTree) (p : Place) (f : Form) → CanFollow b older f → place_of (placed_form t p f) ≡ p
@@ -235,3 +237,86 @@ two_branches at P rs i (m ∷ more) k made h n c =
     let a = some_branch (placed_at rs i) in
     let b = some_branch (placed_at rs (at m)) in
     omega (arith, length-map made (placed_at rs), length-append (parts_of_alt (placed_at rs i)) (parts_of_alt (placed_at rs (at m)) ++ flat_map parts_of_alt (map (placed_at rs) (map at more))), length-append (parts_of_alt (placed_at rs (at m))) (flat_map parts_of_alt (map (placed_at rs) (map at more))))
+
+-- ---- a node is what its parts make
+seq_whole : (rs : List Row) (T : PlacedTree) (p : Place) (is : List ℕ) → place_of T ≡ p → AllByRecursion (IsSeqPart rs) is → T ≡ placed_seq p (map (placed_at rs) is) → IsWhole T
+seq_whole rs T p is h a e =
+    ap (λ q. placed_seq q (parts_of_seq T)) h ∙ ap (placed_seq p) (ap parts_of_seq e ∙ seq_parts rs p is a) ∙ sym e
+
+empty_whole : (T : PlacedTree) (p : Place) → T ≡ Empty_at p → IsWhole T
+empty_whole T p e = subst IsWhole (sym e) refl
+
+one_whole : (T : PlacedTree) → parts_of_seq T ≡ T ∷ [] → IsWhole T
+one_whole T e = ap (placed_seq (place_of T)) e
+
+other_whole : (b : Bool) (rs : List Row) (i : ℕ) (f : Form) → i < length rs → tree_at rs i ≡ form_tree (tree_at rs) f → CanFollow b (take i rs) f → merges_in_seq f ≡ false → IsWhole (placed_at rs i)
+other_whole b rs i f l q h m = one_whole (placed_at rs i) (one_seq_part rs i (l, ap (λ T. is_seq T || is_empty T) q ∙ seq_free b (take i rs) (tree_at rs) f h m))
+
+whole_form : (b : Bool) (rs : List Row) (i : ℕ) (p : Place) (f : Form) → i < length rs → placed_at rs i ≡ placed_form (placed_at rs) p f → tree_at rs i ≡ form_tree (tree_at rs) f → CanFollow b (take i rs) f → IsWhole (placed_at rs i)
+whole_form b rs i p empty_form l e q h = empty_whole (placed_at rs i) p e
+whole_form b rs i p (seq_form is) l e q h =
+    seq_whole rs (placed_at rs i) p is (ap place_of e ∙ place_of-placed_form b (take i rs) (placed_at rs) p (seq_form is) h) (seq_parts_of_front i rs is h.1) e
+whole_form b rs i p text_form l e q h = other_whole b rs i text_form l q h refl
+whole_form b rs i p (name_form w) l e q h = other_whole b rs i (name_form w) l q h refl
+whole_form b rs i p (elem_form c j) l e q h = other_whole b rs i (elem_form c j) l q h refl
+whole_form b rs i p (alt_form is) l e q h = other_whole b rs i (alt_form is) l q h refl
+whole_form b rs i p (star_form j) l e q h = other_whole b rs i (star_form j) l q h refl
+whole_form b rs i p (plus_form j) l e q h = other_whole b rs i (plus_form j) l q h refl
+whole_form b rs i p (opt_form j) l e q h = other_whole b rs i (opt_form j) l q h refl
+whole_form b rs i p (val_form x r j) l e q h = other_whole b rs i (val_form x r j) l q h refl
+
+pub whole_node : (b : Bool) (rs : List Row) (i : ℕ) (r : Row) → i < length rs → placed_at rs i ≡ placed_form (placed_at rs) r.place r.form → tree_at rs i ≡ form_tree (tree_at rs) r.form → CanFollow b (take i rs) r.form → IsWhole (placed_at rs i)
+whole_node b rs i r l e q h = whole_form b rs i r.place r.form l e q h
+
+-- the nodes that are left are whole, and so are all
+abbrev pub WholeSoFar : (rs : List Row) (all left : List ℕ) → Type 0
+WholeSoFar rs all left = AreWhole (map (placed_at rs) left) → AreWhole (map (placed_at rs) all)
+
+pub collected_parts : (rs new : List Row) (p : Place) (all made : List ℕ) (i : ℕ) → IsCollected (IsSeqPart rs) parts_of_seq rs all [] made → WholeSoFar rs all [] →
+    IsAdded rs new (merged_seq p (map (placed_at rs) made)) i → IsDeepest (placed_at new i) (map (placed_at rs) all)
+collected_parts rs new p all made i c w a = merged_parts p (map (placed_at rs) all) (placed_at new i) (w tt) (a.placed ∙ ap (merged_seq p) (collected_end (IsSeqPart rs) parts_of_seq rs all made c))
+
+-- ---- one row more
+pub added_only : (old new : List Row) (r : Row) → new ≡ old ++ r ∷ [] → (j : ℕ) → length old ≤ j → j < length new → placed_at new j ≡ placed_form (placed_at old) r.place r.form
+added_only old new r e j h k =
+    let n : length new ≡ length (old ++ r ∷ []) = ap length e in
+    let q : j ≡ length old = omega (arith, length-append old (r ∷ [])) in
+    ap (placed_at new) q ∙ ap (λ rs. placed_at rs (length old)) e ∙ placed_new old r
+
+pub none_added : (rs : List Row) (T : PlacedTree) (j : ℕ) → length rs ≤ j → j < length rs → placed_at rs j ≡ T
+none_added rs T j h k = absurd (omega arith)
+
+-- one node more, by its row
+pub added_node : {E I : Type 0} (r : Result I E) (at : I → ℕ) (old new : List Row) (p : Place) (f g : Form) → f ≡ g → KeepsRows old new → IfOk r (λ id. at id < length new) →
+    IfOk r (λ id. placed_at new (at id) ≡ placed_form (placed_at old) p f) → IfOk r (λ id. new ≡ old ++ record { place = p; form = f } ∷ []) → IfOk r (λ id. IsAdded old new (placed_form (placed_at old) p g) (at id))
+added_node (Ok id) at old new p f g e k b h n =
+    subst (λ (x : Form). IsAdded old new (placed_form (placed_at old) p x) (at id)) e (record { keeps = k; belongs = b; placed = h; only = added_only old new (record { place = p; form = f }) n })
+added_node (Err x) at old new p f g e k b h n = tt
+
+-- ---- the sequence of all that were collected
+all_collected : {I : Type 0} (at : I → ℕ) (rs : List Row) (all : List ℕ) (more : List I) (k : ℕ) (made : List ℕ) → length more ≤ k → IsCollected (IsSeqPart rs) parts_of_seq rs all (map at (drop k more)) made →
+    IsCollected (IsSeqPart rs) parts_of_seq rs all [] made
+all_collected at rs all more k made h c = subst (λ xs. IsCollected (IsSeqPart rs) parts_of_seq rs all (map at xs) made) (drop_all k more h) c
+
+all_whole : {I : Type 0} (at : I → ℕ) (rs : List Row) (all : List ℕ) (more : List I) (k : ℕ) → length more ≤ k → WholeSoFar rs all (map at (drop k more)) → WholeSoFar rs all []
+all_whole at rs all more k h w = subst (λ xs. WholeSoFar rs all (map at xs)) (drop_all k more h) w
+
+sequence_made : {I : Type 0} (at : I → ℕ) (rs : List Row) (i : ℕ) (more : List I) (p : Place) (made : List ℕ) → (length more == 0) ≡ false → p ≡ place_of (placed_at rs i) →
+    IsCollected (IsSeqPart rs) parts_of_seq rs (i ∷ map at more) [] made → merged_seq p (map (placed_at rs) made) ≡ sequence (placed_at rs i) (map (placed_at rs) (map at more))
+sequence_made at rs i [] p made n e c = absurd (true_false n)
+sequence_made at rs i (m ∷ more) p made n e c =
+    ap (λ q. merged_seq q (map (placed_at rs) made)) e ∙ ap (merged_seq (place_of (placed_at rs i))) (collected_end (IsSeqPart rs) parts_of_seq rs (i ∷ map at (m ∷ more)) made c)
+
+pub sequence_added : {E I : Type 0} (r : Result I E) (at : I → ℕ) (rs new : List Row) (i : ℕ) (more : List I) (k : ℕ) (p : Place) (made : List ℕ) → length more ≤ k → (length more == 0) ≡ false → p ≡ place_of (placed_at rs i) →
+    IsCollected (IsSeqPart rs) parts_of_seq rs (i ∷ map at more) (map at (drop k more)) made → IfOk r (λ id. IsAdded rs new (merged_seq p (map (placed_at rs) made)) (at id)) →
+    IfOk r (λ id. IsAdded rs new (sequence (placed_at rs i) (map (placed_at rs) (map at more))) (at id))
+sequence_added (Ok id) at rs new i more k p made h n e c a =
+    subst (λ (T : PlacedTree). IsAdded rs new T (at id)) (sequence_made at rs i more p made n e (all_collected at rs (i ∷ map at more) more k made h c)) a
+sequence_added (Err x) at rs new i more k p made h n e c a = tt
+
+pub sequence_deepest : {E I : Type 0} (r : Result I E) (at : I → ℕ) (rs new : List Row) (i : ℕ) (more : List I) (k : ℕ) (p : Place) (made : List ℕ) → length more ≤ k →
+    IsCollected (IsSeqPart rs) parts_of_seq rs (i ∷ map at more) (map at (drop k more)) made → WholeSoFar rs (i ∷ map at more) (map at (drop k more)) →
+    IfOk r (λ id. IsAdded rs new (merged_seq p (map (placed_at rs) made)) (at id)) → IfOk r (λ id. IsDeepest (placed_at new (at id)) (placed_at rs i ∷ map (placed_at rs) (map at more)))
+sequence_deepest (Ok id) at rs new i more k p made h c w a =
+    collected_parts rs new p (i ∷ map at more) made (at id) (all_collected at rs (i ∷ map at more) more k made h c) (all_whole at rs (i ∷ map at more) more k h w) a
+sequence_deepest (Err x) at rs new i more k p made h c w a = tt

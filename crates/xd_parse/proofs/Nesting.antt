@@ -97,13 +97,13 @@ levels (bar_at ne m) = levels m
 levels (part_at {d = d} {m = m} {part = part} made {row = row} one o p) = ap (λ (x : ℕ). out row x) (sym (out_of part (rules part) made (all_out part) one d) ∙ levels o) ∙ levels p
 
 -- ---- what is known of the types in a value
-abbrev TypeDefWithin : (l d : ℕ) → TypeDefinition → Type 0
+abbrev pub TypeDefWithin : (l d : ℕ) → TypeDefinition → Type 0
 TypeDefWithin l d t = AnyWithin l d t.body
 
-abbrev ParamWithin : (l d : ℕ) → Parameter → Type 0
+abbrev pub ParamWithin : (l d : ℕ) → Parameter → Type 0
 ParamWithin l d q = AnyWithin l d q.declared
 
-abbrev FunctionWithin : (l d : ℕ) → FunctionDefinition → Type 0
+abbrev pub FunctionWithin : (l d : ℕ) → FunctionDefinition → Type 0
 FunctionWithin l d f = AllByRecursion (ParamWithin l d) f.parameters × AnyWithin l d f.declared
 
 abbrev pub ProgramWithin : (l d : ℕ) → ProgramTree → Type 0

@@ -25,8 +25,11 @@ use Rattle.xd_parse.specs.Merged.{sequence, alternative}
 use Rattle.xd_parse.specs.Values.{Value, mark, word, absent, a_type, a_pattern, class, named, repeated, value_of}
 use Rattle.xd_parse.specs.Means.{Means}
 use Rattle.xd_parse.specs.Reading.{Reads, SpellNo, group_row, element_row, front_terminal, front_place, front_text, behind}
+use Rattle.xd_parse.specs.Shallow.{NoDeeper, TreeWithin, TreesWithin, IsDeepest}
 use Rattle.xd_parse.specs.Nodes.{whole, more_branches, branch, more_parts, post, primary, group, content, node, nodes, BeginsElement, IsAdded, ReadsNode, ReadsInto}
 use Rattle.xd_parse.proofs.Derive.{same-other, same-true, same-false, may, is_group}
+use Rattle.xd_parse.proofs.Deeper.{alternative_branches}
+use Rattle.xd_parse.proofs.AddedDepth.{IsIn, none_deeper, deeper_both, deeper_added, content_in, bound_in, operator_in}
 use Rattle.xd_parse.proofs.Rows.{MeansView, means_view, ReadsRow, row_end, row_token, row_opening, row_closed, row_unless, row_part, part_one, part_fit, by_row, empty_means, means_may}
 
 -- ---- tokens
@@ -325,9 +328,13 @@ kept_same old = record { more = []; grown = sym (append-nil old) }
 
 -- what is read is the node that was added
 pub reads_added : (s : Sort) (part : Nonterminal) (from to : List Lexeme) (old middle new : List TableRow) (T : PlacedTree) (i : ℕ) → KeepsRows old middle → IsAdded middle new T i →
-    Reads part from to (node s T) → length to ≤ length from → ReadsNode s part from to old new i
-reads_added s part from to old middle new T i k a r l =
-    record { reads = subst (λ (U : PlacedTree). Reads part from to (node s U)) (sym a.placed) r; keeps = kept_both old middle new k a.keeps; belongs = a.belongs; fewer = l }
+    Reads part from to (node s T) → length to ≤ length from → NoDeeper (TreeWithin T) old middle → ReadsNode s part from to old new i
+reads_added s part from to old middle new T i k a r l d =
+    record { reads = subst (λ (U : PlacedTree). Reads part from to (node s U)) (sym a.placed) r; keeps = kept_both old middle new k a.keeps; belongs = a.belongs; fewer = l; no_deeper = deeper_added old middle new T i a d }
+
+-- no new node is deeper than what it is part of
+deeper_in : (old new : List TableRow) (T U : PlacedTree) → IsIn T U → NoDeeper (TreeWithin T) old new → NoDeeper (TreeWithin U) old new
+deeper_in old new T U h d limit o w = d limit o (h limit o w)
 
 -- ---- nodes read one after the other
 pub record IsReadOn (s : Sort) (part : Nonterminal) (start here : List Lexeme) (old rows : List TableRow) (first : ℕ) (ids : List ℕ) : Type 0 where
@@ -336,9 +343,10 @@ pub record IsReadOn (s : Sort) (part : Nonterminal) (start here : List Lexeme) (
   pub first_stands : first < length old
   pub belong : AllByRecursion (λ i. i < length rows) ids
   pub fewer : length here ≤ length start
+  pub no_deeper : NoDeeper (TreesWithin (map (placed_at rows) ids)) old rows
 
 pub read_on_start : (s : Sort) (part : Nonterminal) (start : List Lexeme) (old : List TableRow) (first : ℕ) → first < length old → IsReadOn s part start start old old first []
-read_on_start s part start old first h = record { goes = λ to Us r. r; keeps = kept_same old; first_stands = h; belong = tt; fewer = omega arith }
+read_on_start s part start old first h = record { goes = λ to Us r. r; keeps = kept_same old; first_stands = h; belong = tt; fewer = omega arith; no_deeper = none_deeper (TreesWithin []) old }
 
 all_more : (old new : List TableRow) (ids : List ℕ) → KeepsRows old new → AllByRecursion (λ i. i < length old) ids → AllByRecursion (λ i. i < length new) ids
 all_more old new [] k a = tt
@@ -359,6 +367,19 @@ trees_and old new ids i Us k a =
     ∙ sym (append_assoc (map (placed_at new) ids) (placed_at new i ∷ []) Us)
     ∙ ap (λ Ts. Ts ++ Us) (sym (map-append (placed_at new) ids (i ∷ [])))
 
+-- trees in front, and the last one
+trees_front : (Ts : List PlacedTree) (T : PlacedTree) (limit : ℕ) → TreesWithin (Ts ++ T ∷ []) limit → TreesWithin Ts limit
+trees_front [] T limit h = tt
+trees_front (U ∷ Us) T limit h = (h.0, trees_front Us T limit h.1)
+
+trees_last : (Ts : List PlacedTree) (T : PlacedTree) (limit : ℕ) → TreesWithin (Ts ++ T ∷ []) limit → TreeWithin T limit
+trees_last [] T limit h = h.0
+trees_last (U ∷ Us) T limit h = trees_last Us T limit h.1
+
+trees_apart : (old new : List TableRow) (ids : List ℕ) (i : ℕ) (limit : ℕ) → KeepsRows old new → AllByRecursion (λ j. j < length old) ids → TreesWithin (map (placed_at new) (ids ++ i ∷ [])) limit →
+    TreesWithin (map (placed_at old) ids ++ placed_at new i ∷ []) limit
+trees_apart old new ids i limit k a h = subst (λ (Ts : List PlacedTree). TreesWithin Ts limit) (map-append (placed_at new) ids (i ∷ []) ∙ ap (λ Ts. Ts ++ placed_at new i ∷ []) (trees_more old new ids k a)) h
+
 -- one node more
 abbrev pub ReadsMore : Sort → (part next : Nonterminal) → (here there : List Lexeme) → Type 0
 ReadsMore s part next here there = (to : List Lexeme) (T : PlacedTree) (Us : List PlacedTree) → Reads next (behind here) there (node s T) → Reads part there to (nodes s Us) → Reads part here to (nodes s (T ∷ Us))
@@ -371,6 +392,9 @@ read_on_more s part next start here there old rows new first ids i c m r = recor
   first_stands = c.first_stands;
   belong = all_and (length new) ids i (all_more rows new ids r.keeps c.belong) r.belongs;
   fewer = (let a = c.fewer in let b = r.fewer in let d = behind_most here in omega arith);
+  no_deeper = deeper_both (TreesWithin (map (placed_at rows) ids)) (TreeWithin (placed_at new i)) (TreesWithin (map (placed_at new) (ids ++ i ∷ []))) old rows new r.keeps
+      (λ limit o h. trees_front (map (placed_at rows) ids) (placed_at new i) limit (trees_apart rows new ids i limit r.keeps c.belong h))
+      (λ limit o h. trees_last (map (placed_at rows) ids) (placed_at new i) limit (trees_apart rows new ids i limit r.keeps c.belong h)) c.no_deeper r.no_deeper;
 }
 
 pub branches_on : (s : Sort) (start here from there : List Lexeme) (old rows new : List TableRow) (first : ℕ) (ids : List ℕ) (i : ℕ) (more : List ℕ) → IsReadOn s (more_branches s) start here old rows first ids →
@@ -392,6 +416,14 @@ all_read : (s : Sort) (part : Nonterminal) (start here : List Lexeme) (old rows 
     Reads part here here (nodes s []) → Reads part start here (nodes s (map (placed_at rows) ids))
 all_read s part start here old rows first ids c r = subst (λ (Ts : List PlacedTree). Reads part start here (nodes s Ts)) (append-nil (map (placed_at rows) ids)) (c.goes here [] r)
 
+-- what was read first and what was read on, within what they are part of
+pub parts_deeper : (before old rows : List TableRow) (first : ℕ) (ids : List ℕ) (T : PlacedTree) → KeepsRows old rows → first < length old →
+    ((limit : ℕ) → 1 ≤ limit → TreeWithin T limit → TreesWithin (placed_at rows first ∷ map (placed_at rows) ids) limit) →
+    NoDeeper (TreeWithin (placed_at old first)) before old → NoDeeper (TreesWithin (map (placed_at rows) ids)) old rows → NoDeeper (TreeWithin T) before rows
+parts_deeper before old rows first ids T k f h a b =
+    deeper_both (TreeWithin (placed_at old first)) (TreesWithin (map (placed_at rows) ids)) (TreeWithin T) before old rows k
+    (λ limit o w. subst (λ (U : PlacedTree). TreeWithin U limit) (kept old rows first k f) (h limit o w).0) (λ limit o w. (h limit o w).1) a b
+
 pub tree_read : (s : Sort) (from start here : List Lexeme) (before old rows new : List TableRow) (first : ℕ) (ids : List ℕ) (i : ℕ) (more : List ℕ) → ReadsNode s (branch s) from start before old first →
     IsReadOn s (more_branches s) start here old rows first ids → same t.Bar (front_terminal here) ≡ false → IsAdded rows new (alternative (placed_at rows first) (map (placed_at rows) more)) i → more ≡ ids →
     ReadsNode s (whole s) from here before new i
@@ -401,16 +433,20 @@ tree_read s from start here before old rows new first ids i more r c h a m =
     (whole_reads s from start here _ _ (subst (λ (T : PlacedTree). Reads (branch s) from start (node s T)) (sym (kept old rows first c.keeps c.first_stands)) r.reads)
     (all_read s (more_branches s) start here old rows first ids c (branch_end s here h)))
     (let x = r.fewer in let y = c.fewer in omega arith)
+    (parts_deeper before old rows first ids (alternative (placed_at rows first) (map (placed_at rows) ids)) c.keeps c.first_stands (λ limit o w. alternative_branches limit (placed_at rows first) (map (placed_at rows) ids) w) r.no_deeper c.no_deeper)
 
 pub branch_read : (s : Sort) (from start here : List Lexeme) (before old rows new : List TableRow) (first : ℕ) (ids : List ℕ) (i : ℕ) (more : List ℕ) → ReadsNode s (post s) from start before old first →
-    IsReadOn s (more_parts s) start here old rows first ids → same t.Comma (front_terminal here) ≡ false → IsAdded rows new (sequence (placed_at rows first) (map (placed_at rows) more)) i → more ≡ ids →
-    ReadsNode s (branch s) from here before new i
-branch_read s from start here before old rows new first ids i more r c h a m =
+    IsReadOn s (more_parts s) start here old rows first ids → same t.Comma (front_terminal here) ≡ false → IsAdded rows new (sequence (placed_at rows first) (map (placed_at rows) more)) i →
+    IsDeepest (placed_at new i) (placed_at rows first ∷ map (placed_at rows) more) → more ≡ ids → ReadsNode s (branch s) from here before new i
+branch_read s from start here before old rows new first ids i more r c h a d m =
     reads_added s (branch s) from here before rows new _ i (kept_both before old rows r.keeps c.keeps)
     (subst (λ (js : List ℕ). IsAdded rows new (sequence (placed_at rows first) (map (placed_at rows) js)) i) m a)
     (branch_reads s from start here _ _ (subst (λ (T : PlacedTree). Reads (post s) from start (node s T)) (sym (kept old rows first c.keeps c.first_stands)) r.reads)
     (all_read s (more_parts s) start here old rows first ids c (part_end s here h)))
     (let x = r.fewer in let y = c.fewer in omega arith)
+    (parts_deeper before old rows first ids (sequence (placed_at rows first) (map (placed_at rows) ids)) c.keeps c.first_stands
+    (subst (λ (js : List ℕ). IsDeepest (sequence (placed_at rows first) (map (placed_at rows) js)) (placed_at rows first ∷ map (placed_at rows) js)) m
+    (subst (λ (T : PlacedTree). IsDeepest T (placed_at rows first ∷ map (placed_at rows) more)) a.placed d)) r.no_deeper c.no_deeper)
 
 -- an operator
 pub operator_read : (s : Sort) (k : Terminal) (from to : List Lexeme) (old new : List TableRow) (part i : ℕ) (U : PlacedTree) → to ≡ behind from →
@@ -423,6 +459,7 @@ operator_read s k from to old new part i U e r a u = record {
   keeps = a.keeps;
   belongs = a.belongs;
   fewer = subst (λ (x : List Lexeme). length x ≤ length from) (sym e) (behind_most from);
+  no_deeper = deeper_added old old new U i a (none_deeper (TreeWithin U) old);
 }
 
 pub operator_not_read : (s : Sort) (from : List Lexeme) (rows : List TableRow) (part : ℕ) → part < length rows →
@@ -435,6 +472,7 @@ operator_not_read s from rows part h a b d = record {
   keeps = kept_same rows;
   belongs = h;
   fewer = omega arith;
+  no_deeper = none_deeper (TreeWithin (placed_at rows part)) rows;
 }
 
 -- ---- words
@@ -454,7 +492,7 @@ content_empty_read s from to old new i p h e q a =
     reads_added s (content s) from to old old new (Empty_at p) i (kept_same old) a
     (subst (λ (x : List Lexeme). Reads (content s) from x (node s (Empty_at p))) (sym e)
     (subst (λ (x : Place). Reads (content s) from (behind from) (node s (Empty_at x))) (sym q) (content_empty s from (front_same t.BracketR from h))))
-    (same_behind from to e)
+    (same_behind from to e) (none_deeper (TreeWithin (Empty_at p)) old)
 
 pub content_full_read : (s : Sort) (from middle to : List Lexeme) (old new : List TableRow) (i : ℕ) → same t.BracketR (front_terminal from) ≡ false → ReadsNode s (whole s) from middle old new i →
     to ≡ behind middle → ReadsNode s (content s) from to old new i
@@ -463,6 +501,7 @@ content_full_read s from middle to old new i h r e = record {
   keeps = r.keeps;
   belongs = r.belongs;
   fewer = (let x = same_behind middle to e in let y = r.fewer in omega arith);
+  no_deeper = r.no_deeper;
 }
 
 pub group_empty_read : (s : Sort) (from to : List Lexeme) (old new : List TableRow) (i : ℕ) (p : Place) → same t.ParenR (front_terminal from) ≡ true → to ≡ behind from → IsAdded old new (Empty_at p) i →
@@ -474,6 +513,7 @@ group_empty_read s from to old new i p h e a = record {
   keeps = a.keeps;
   belongs = a.belongs;
   fewer = same_behind from to e;
+  no_deeper = deeper_added old old new (Empty_at p) i a (none_deeper (TreeWithin (Empty_at p)) old);
 }
 
 pub group_full_read : (s : Sort) (from middle to : List Lexeme) (old new : List TableRow) (i : ℕ) (p : Place) → same t.ParenR (front_terminal from) ≡ false → ReadsNode s (whole s) from middle old new i →
@@ -485,13 +525,14 @@ group_full_read s from middle to old new i p h r e = record {
   keeps = r.keeps;
   belongs = r.belongs;
   fewer = (let x = same_behind middle to e in let y = r.fewer in omega arith);
+  no_deeper = r.no_deeper;
 }
 
 pub element_read : (s : Sort) (from middle to : List Lexeme) (old rows new : List TableRow) (j i : ℕ) (p : Place) (c : LabelClass) → BeginsElement s from → Reads n.Class from middle (class p c) →
     length middle ≤ length (behind from) → ReadsNode s (content s) middle to old rows j → IsAdded rows new (Elem_at p c (placed_at rows j)) i → ReadsNode s (primary s) from to old new i
 element_read s from middle to old rows new j i p c b r l q a =
     reads_added s (primary s) from to old rows new (Elem_at p c (placed_at rows j)) i q.keeps a (primary_element s from middle to p c (placed_at rows j) b r q.reads)
-    (let x = q.fewer in let y = behind_most from in omega arith)
+    (let x = q.fewer in let y = behind_most from in omega arith) (deeper_in old rows (placed_at rows j) (Elem_at p c (placed_at rows j)) (content_in p c (placed_at rows j)) q.no_deeper)
 
 pub part_read : (s : Sort) (from middle to : List Lexeme) (old rows new : List TableRow) (j i : ℕ) → same t.Val (front_terminal from) ≡ false → ReadsNode s (primary s) from middle old rows j →
     ReadsInto s (post s) (node s (placed_at rows j) ∷ []) n.Operator middle to rows new i → ReadsNode s (post s) from to old new i
@@ -500,6 +541,8 @@ part_read s from middle to old rows new j i h r q = record {
   keeps = kept_both old rows new r.keeps q.keeps;
   belongs = q.belongs;
   fewer = (let x = r.fewer in let y = q.fewer in omega arith);
+  no_deeper = (let inside = operator_in s (placed_at rows j) (placed_at new i) q.value q.makes in
+      deeper_both (TreeWithin (placed_at rows j)) (TreeWithin (placed_at new i)) (TreeWithin (placed_at new i)) old rows new q.keeps inside (λ limit o w. w) r.no_deeper q.no_deeper);
 }
 
 pub word_read : (s : Sort) (from to : List Lexeme) (old new : List TableRow) (i : ℕ) (x : List ℕ) (p : Place) → front_terminal from ≡ t.Word → (front_terminal from ≡ t.Word → x ≡ front_text from) →
@@ -509,7 +552,7 @@ word_read s from to old new i x p h f q e a =
     (subst (λ (y : List Lexeme). Reads (primary s) from y (node s (named x p))) (sym e)
     (subst (λ (y : Place). Reads (primary s) from (behind from) (node s (named x y))) (sym q)
     (subst (λ (y : List ℕ). Reads (primary s) from (behind from) (node s (named y (front_place from)))) (sym (f h)) (primary_word s from h))))
-    (same_behind from to e)
+    (same_behind from to e) (none_deeper (TreeWithin (named x p)) old)
 
 pub group_read : (s : Sort) (from here to : List Lexeme) (old new : List TableRow) (i : ℕ) (p : Place) → front_terminal from ≡ t.ParenL → SpellNo (element_row s) from → p ≡ front_place from →
     here ≡ behind from → ReadsInto s (primary s) (mark t.ParenL p ∷ []) (group s) here to old new i → ReadsNode s (primary s) from to old new i
@@ -519,12 +562,13 @@ group_read s from here to old new i p h u q e r = record {
   keeps = r.keeps;
   belongs = r.belongs;
   fewer = (let x = same_behind from here e in let y = r.fewer in omega arith);
+  no_deeper = r.no_deeper;
 }
 
 pub none_read : (s : Sort) (from to : List Lexeme) (old new : List TableRow) (i : ℕ) (T : PlacedTree) → (front_terminal from ≡ t.Word → ⊥) → (front_terminal from ≡ t.ParenL → ⊥) →
     (front_terminal from ≡ t.Tilde → ⊥) → (front_terminal from ≡ t.Caret → ⊥) → (front_terminal from ≡ t.Label → ⊥) → to ≡ behind from → IsAdded old new T i → ReadsNode s (primary s) from to old new i
 none_read s from to old new i T a b c d f e x =
-    reads_added s (primary s) from to old old new T i (kept_same old) x (primary_none s from to (node s T) a b c d f) (same_behind from to e)
+    reads_added s (primary s) from to old old new T i (kept_same old) x (primary_none s from to (node s T) a b c d f) (same_behind from to e) (none_deeper (TreeWithin T) old)
 
 -- ---- variables
 no_pattern : sorts.Type ≡ sorts.Pattern → ⊥
@@ -532,7 +576,7 @@ no_pattern e = cc
 
 pub unbound_read : (s : Sort) (from to : List Lexeme) (old new : List TableRow) (i : ℕ) (T : PlacedTree) → s ≡ sorts.Type → front_terminal from ≡ t.Val → to ≡ behind from → IsAdded old new T i →
     ReadsNode s (post s) from to old new i
-unbound_read sorts.Type from to old new i T b h e a = reads_added sorts.Type n.TypePost from to old old new T i (kept_same old) a (no_variable from to T h) (same_behind from to e)
+unbound_read sorts.Type from to old new i T b h e a = reads_added sorts.Type n.TypePost from to old old new T i (kept_same old) a (no_variable from to T h) (same_behind from to e) (none_deeper (TreeWithin T) old)
 unbound_read sorts.Pattern from to old new i T b h e a = absurd (no_pattern (sym b))
 
 pub variable_read : (s : Sort) (from next here to : List Lexeme) (old new : List TableRow) (i : ℕ) (p q : Place) (x : List ℕ) → s ≡ sorts.Pattern → front_terminal from ≡ t.Val → p ≡ front_place from →
@@ -546,6 +590,7 @@ variable_read sorts.Pattern from next here to old new i p q x b h pe ne f qe e r
   keeps = r.keeps;
   belongs = r.belongs;
   fewer = (let u = same_behind from next ne in let v = same_behind next here e in let w = r.fewer in omega arith);
+  no_deeper = r.no_deeper;
 }
 
 pub bound_read : (s : Sort) (from next to : List Lexeme) (old rows new : List TableRow) (j i : ℕ) (p q : Place) (x : List ℕ) → s ≡ sorts.Pattern → same t.As (front_terminal from) ≡ true → next ≡ behind from →
@@ -558,6 +603,7 @@ bound_read sorts.Pattern from next to old rows new j i p q x b h e r a = record 
   keeps = kept_both old rows new r.keeps a.keeps;
   belongs = a.belongs;
   fewer = (let u = same_behind from next e in let v = r.fewer in omega arith);
+  no_deeper = deeper_added old rows new (Val_at p x q (placed_at rows j)) i a (deeper_in old rows (placed_at rows j) (Val_at p x q (placed_at rows j)) (bound_in p q x (placed_at rows j)) r.no_deeper);
 }
 
 pub any_read : (s : Sort) (from : List Lexeme) (old rows new : List TableRow) (j i : ℕ) (p q : Place) (x : List ℕ) → s ≡ sorts.Pattern → same t.As (front_terminal from) ≡ false →
@@ -570,4 +616,6 @@ any_read sorts.Pattern from old rows new j i p q x b h r a = record {
   keeps = kept_both old rows new r.keeps a.keeps;
   belongs = a.belongs;
   fewer = omega arith;
+  no_deeper = deeper_added old rows new (Val_at p x q (placed_at rows j)) i a
+      (deeper_in old rows (placed_at rows j) (Val_at p x q (placed_at rows j)) (bound_in p q x (placed_at rows j)) (deeper_added old old rows (Name_at q any_word) j r (none_deeper (TreeWithin (Name_at q any_word)) old)));
 }

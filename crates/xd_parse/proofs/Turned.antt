@@ -21,7 +21,7 @@ pub program_meant : (bytes : List ℕ) (ls to : List Lexeme) (P : ProgramTree) �
 program_meant bytes ls to P s e r = record { spells = s; means = tokens_meant n.Definitions bytes ls to (definitions P) s e r }
 
 -- a type up to the end of its text
-type_text_reads : (from to : List Lexeme) (T : PlacedTree) → Reads n.Type from to (a_type T) → Reads n.TypeText from (behind to) (a_type T)
+pub type_text_reads : (from to : List Lexeme) (T : PlacedTree) → Reads n.Type from to (a_type T) → Reads n.TypeText from (behind to) (a_type T)
 type_text_reads from to T r =
     part_one n.TypeText (Part n.Type ∷ Token t.End ∷ []) from (behind to) _ refl
     (row_part n.Type (Token t.End ∷ []) from to (behind to) (a_type T) _ r

@@ -14,3 +14,4 @@ pub mod Nodes
 pub mod Grows
 pub mod Definitions
 pub mod ParseErrors
+pub mod Shallow

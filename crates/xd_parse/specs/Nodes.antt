@@ -14,6 +14,7 @@ use Rattle.xd_parse.specs.declared.nodes.NodeForm.{NodeForm}
 use Rattle.xd_parse.specs.declared.nodes.NodeForm.TheVariants.{Empty, Text, Name, Elem, Seq, Alt, Star, Plus, Opt, Val}
 use Rattle.xd_parse.specs.Values.{Value, a_type, types, a_pattern, patterns, value_of}
 use Rattle.xd_parse.specs.Reading.{Reads, SpellNo, group_row}
+use Rattle.xd_parse.specs.Shallow.{NoDeeper, TreeWithin}
 
 -- patterns bind variables
 abbrev pub binders : Sort → Bool
@@ -33,11 +34,12 @@ shape at (Plus i) = plus_form (at i)
 shape at (Opt i) = opt_form (at i)
 shape at (Val x p i) = val_form x p (at i)
 
--- the node with this number is there and has this tree, and each old node stands where it stood
+-- the node with this number is there and has this tree, as each new node has, and each old node stands where it stood
 pub record IsAdded (old new : List Row) (T : PlacedTree) (i : ℕ) : Type 0 where
   pub keeps : KeepsRows old new
   pub belongs : i < length new
   pub placed : placed_at new i ≡ T
+  pub only : (j : ℕ) → length old ≤ j → j < length new → placed_at new j ≡ T
 
 -- numbers of nodes are added, of these parts
 pub record AddsParts (P : ℕ → Type 0) (rows : List Row) (parts : List PlacedTree) (old new : List ℕ) : Type 0 where
@@ -94,12 +96,13 @@ abbrev pub nodes : Sort → List PlacedTree → Value
 nodes sorts.Type Ts = types Ts
 nodes sorts.Pattern Ts = patterns Ts
 
--- The nonterminal is read, and is the node with this number. Each old node stands where it stood.
+-- The nonterminal is read, and is the node with this number. Each old node stands where it stood, and no new one is deeper than this.
 pub record ReadsNode (sort : Sort) (part : Nonterminal) (from to : List Lexeme) (old new : List Row) (i : ℕ) : Type 0 where
   pub reads : Reads part from to (node sort (placed_at new i))
   pub keeps : KeepsRows old new
   pub belongs : i < length new
   pub fewer : length to ≤ length from
+  pub no_deeper : NoDeeper (TreeWithin (placed_at new i)) old new
 
 -- The nonterminal is read; behind what stood before it, it completes the outer nonterminal, which is the node with this number.
 pub record ReadsInto (sort : Sort) (outer : Nonterminal) (before : List Value) (part : Nonterminal) (from to : List Lexeme) (old new : List Row) (i : ℕ) : Type 0 where
@@ -109,3 +112,4 @@ pub record ReadsInto (sort : Sort) (outer : Nonterminal) (before : List Value) (
   pub keeps : KeepsRows old new
   pub belongs : i < length new
   pub fewer : length to ≤ length from
+  pub no_deeper : NoDeeper (TreeWithin (placed_at new i)) old new

@@ -14,6 +14,7 @@ ghost use Rattle.xd_parse.specs.Values.{a_parameter, definitions};
 ghost use Rattle.xd_parse.specs.Reading.{Reads, front_terminal, behind};
 ghost use Rattle.xd_parse.specs.Definitions.{ReadsInFront, ReadsParameters, one_type, one_function};
 ghost use Rattle.xd_parse.specs.Grows.{Grows};
+ghost use Rattle.xd_parse.specs.Shallow.{NoDeeper, TreeWithin, ParametersWithin, DefinitionsWithin};
 
 use crate::cursor::Cursor;
 use crate::expressions::read_expr;
@@ -28,6 +29,7 @@ fn read_param(alloc: Global, cursor: &mut Cursor<'_>, types: &mut Types) -> Resu
     ensures reads { IfOk result (λ q. Reads nonterminals.Param cursor.old cursor.new (a_parameter (parameter types.new q))) }
     ensures belongs { IfOk result (λ q. BelongsTo types.new q.body) }
     ensures keeps { KeepsRows types.old types.new }
+    ensures no_deeper { IfOk result (λ q. NoDeeper (TreeWithin (parameter types.new q).declared) types.old types.new) }
     ensures fewer { IfOk result (λ q. length cursor.new ≤ length (behind cursor.old)) }
 {
     cursor.step();
@@ -53,6 +55,7 @@ fn read_params(
     ensures some { IfOk result (λ params. 1 ≤ length params.items) }
     ensures belong { IfOk result (λ params. AllByRecursion (λ q. BelongsTo types.new q.body) params.items) }
     ensures keeps { KeepsRows types.old types.new }
+    ensures no_deeper { IfOk result (λ params. NoDeeper (ParametersWithin (map (parameter types.new) params.items)) types.old types.new) }
     ensures fewer { IfOk result (λ params. length cursor.new ≤ length cursor.old) }
 {
     let mut params = Vec::new(alloc);
@@ -73,6 +76,7 @@ fn read_type_def(
     ensures reads { IfOk result (λ def. ReadsInFront (one_type (type_definition types.new def)) cursor.old cursor.new) }
     ensures stands { IfOk result (TypeDefStands types.new) }
     ensures keeps { KeepsRows types.old types.new }
+    ensures no_deeper { IfOk result (λ def. NoDeeper (DefinitionsWithin (one_type (type_definition types.new def))) types.old types.new) }
     ensures fewer { IfOk result (λ def. length cursor.new < length cursor.old) }
 {
     cursor.step();
@@ -99,6 +103,7 @@ fn read_function(
     ensures reads { IfOk result (λ f. ReadsInFront (one_function (function_definition (record { types = types.new; patterns = patterns.new; exprs = exprs.new; type_defs = []; functions = [] }) f)) cursor.old cursor.new) }
     ensures stands { IfOk result (FunctionStands types.new exprs.new) }
     ensures keeps { KeepsRows types.old types.new }
+    ensures no_deeper { IfOk result (λ f. NoDeeper (DefinitionsWithin (one_function (function_definition (record { types = types.new; patterns = patterns.new; exprs = exprs.new; type_defs = []; functions = [] }) f))) types.old types.new) }
     ensures grows { IfOk result (λ f. Grows patterns.old exprs.old patterns.new exprs.new) }
     ensures fewer { IfOk result (λ f. length cursor.new < length cursor.old) }
 {
@@ -114,7 +119,8 @@ fn read_function(
 
 /// Reads a program: definitions up to the end of the text.
 pub(crate) fn read_definitions(alloc: Global, cursor: &mut Cursor<'_>) -> Result<Program, NoMemory>
-    ensures { IfOk result (λ p. Reads nonterminals.Definitions cursor.old cursor.new (definitions (program_tree p))) }
+    ensures reads { IfOk result (λ p. Reads nonterminals.Definitions cursor.old cursor.new (definitions (program_tree p))) }
+    ensures no_deeper { IfOk result (λ p. NoDeeper (DefinitionsWithin (program_tree p)) [] p.types) }
 {
     let mut types = Types::new(alloc);
     let mut patterns = Patterns::new(alloc);

@@ -1,11 +1,12 @@
 //! Merging of parts into one node: no sequence is a part of a sequence, and no alternative a branch of one.
 
-ghost use Rattle.std.specs.Prelude.{◌≡◌, ◌<◌, map, length, IfOk};
+ghost use Rattle.std.specs.Prelude.{◌≡◌, ◌<◌, ◌∷◌, map, length, IfOk};
 ghost use Rattle.std.specs.List.{AllByRecursion};
 ghost use Rattle.xd_syntax.specs.Table.{IsSeqPart, KeepsRows};
 ghost use Rattle.xd_syntax.specs.Placed.{placed_at};
 ghost use Rattle.xd_parse.specs.Merged.{merged_seq, sequence, alternative};
 ghost use Rattle.xd_parse.specs.Nodes.{IsAdded};
+ghost use Rattle.xd_parse.specs.Shallow.{IsDeepest};
 
 use crate::nodes::{NodeForm, Nodes};
 use std::alloc::Global;
@@ -38,6 +39,7 @@ pub(crate) fn sequence<N: Nodes>(
     requires first { N.at first < length (N.rows nodes.old) }
     requires more { AllByRecursion (λ i. i < length (N.rows nodes.old)) (map N.at more.now) }
     ensures added { IfOk result (λ id. IsAdded (N.rows nodes.old) (N.rows nodes.new) (sequence (placed_at (N.rows nodes.old) (N.at first)) (map (placed_at (N.rows nodes.old)) (map N.at more.now))) (N.at id)) }
+    ensures deepest { IfOk result (λ id. IsDeepest (placed_at (N.rows nodes.new) (N.at id)) (placed_at (N.rows nodes.old) (N.at first) ∷ map (placed_at (N.rows nodes.old)) (map N.at more.now))) }
     ensures keeps { KeepsRows (N.rows nodes.old) (N.rows nodes.new) }
 {
     if more.is_empty() {

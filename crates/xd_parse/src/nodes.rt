@@ -6,6 +6,7 @@ ghost use Rattle.xd_syntax.specs.declared.patterns.PatternId.{PatternId};
 ghost use Rattle.xd_syntax.specs.Table.{Row, CanFollow, KeepsRows, IsSeqPart, IsAltPart};
 ghost use Rattle.xd_syntax.specs.Placed.{placed_at, placed_form, place_of};
 ghost use Rattle.xd_parse.specs.Merged.{parts_of_seq, parts_of_alt};
+ghost use Rattle.xd_parse.specs.Shallow.{IsWhole};
 ghost use Rattle.xd_parse.specs.Nodes.{binders, shape, IsAdded, AddsParts};
 ghost use Rattle.xd_parse.specs.declared.machine.Sort.{Sort};
 ghost use Rattle.xd_parse.specs.declared.machine.Sort.TheVariants as sorts;
@@ -59,7 +60,8 @@ pub(crate) trait Nodes {
     /// Puts the parts that a node is as a part of a sequence behind others.
     fn push_seq_parts(&self, id: Self::Id, parts: &mut Vec<Self::Id>) -> Result<(), NoMemory>
         requires { at id < length (rows self.now) }
-        ensures { OnOk result (AddsParts (IsSeqPart (rows self.now)) (rows self.now) (parts_of_seq (placed_at (rows self.now) (at id))) (map at parts.old.items) (map at parts.new.items)) };
+        ensures parts { OnOk result (AddsParts (IsSeqPart (rows self.now)) (rows self.now) (parts_of_seq (placed_at (rows self.now) (at id))) (map at parts.old.items) (map at parts.new.items)) }
+        ensures whole { IsWhole (placed_at (rows self.now) (at id)) };
 
     /// Puts the parts that a node is as a branch of an alternative behind others.
     fn push_alt_parts(&self, id: Self::Id, parts: &mut Vec<Self::Id>) -> Result<(), NoMemory>

@@ -12,6 +12,7 @@ ghost use Rattle.xd_parse.specs.declared.parse.ParseError.TheVariants as errors;
 ghost use Rattle.xd_parse.specs.Text.{is_text, SpellsText};
 ghost use Rattle.xd_parse.specs.Means.{IsProgramText, IsTypeText};
 ghost use Rattle.xd_parse.specs.Faults.{reported};
+ghost use Rattle.xd_parse.specs.Shallow.{IsShallow, AddsWithin};
 ghost use Rattle.xd_parse.specs.ParseErrors.{IsParseError, IsFault};
 
 use crate::cursor::Cursor;
@@ -85,6 +86,7 @@ fn spelled_tokens<'a>(
 /// Reads the text of a program. Takes time linear in the text.
 pub fn parse_program(alloc: Global, bytes: &[u8]) -> Result<Program, ParseError>
     ensures program { IfOk result (λ p. IsProgramText bytes.now (program_tree p)) }
+    ensures shallow { IfOk result (λ p. IsShallow p.types) }
     ensures fault { IfErr result (IsParseError nonterminals.Definitions bytes.now) }
     ensures unspelled { IfErr result (λ e. IsFault e → ¬ (SpellsText nonterminals.Definitions bytes.now)) }
 {
@@ -97,6 +99,7 @@ pub fn parse_program(alloc: Global, bytes: &[u8]) -> Result<Program, ParseError>
 /// Reads the text of a type, in the same way; its nodes are added to those of the table, which stay.
 pub fn parse_type(alloc: Global, types: &mut Types, bytes: &[u8]) -> Result<TypeId, ParseError>
     ensures type_text { IfOk result (λ id. IsTypeText bytes.now (placed_at types.new id.at)) }
+    ensures shallow { IfOk result (λ id. AddsWithin 256 types.old types.new) }
     ensures belongs { IfOk result (BelongsTo types.new) }
     ensures keeps { KeepsRows types.old types.new }
     ensures fault { IfErr result (IsParseError nonterminals.TypeText bytes.now) }

@@ -7,6 +7,7 @@ ghost use Rattle.xd_syntax.specs.Types.{BelongsTo};
 ghost use Rattle.xd_parse.specs.declared.grammar.Nonterminal.TheVariants as nonterminals;
 ghost use Rattle.xd_parse.specs.Values.{a_type};
 ghost use Rattle.xd_parse.specs.Reading.{Reads};
+ghost use Rattle.xd_parse.specs.Shallow.{NoDeeper, TreeWithin};
 
 use crate::cursor::Cursor;
 use crate::trees::read_tree;
@@ -24,6 +25,7 @@ pub fn read_type(
     ensures belongs { IfOk result (BelongsTo types.new) }
     ensures keeps { KeepsRows types.old types.new }
     ensures fewer { IfOk result (λ id. length cursor.new ≤ length cursor.old) }
+    ensures no_deeper { IfOk result (λ id. NoDeeper (TreeWithin (placed_at types.new id.at)) types.old types.new) }
 {
     read_tree(alloc, cursor, types)
 }

@@ -1,9 +1,11 @@
 use Rattle.std.proofs.Common.{[], arith, sym, subst}
+use Rattle.xd_syntax.specs.Placed.{placed_at}
 use Rattle.xd_syntax.specs.FunctionRow.{FunctionRow}
 use Rattle.xd_syntax.specs.Kept.{FunctionStands, function_definition}
 use Rattle.xd_parse.specs.declared.grammar.Terminal.TheVariants as t
 use Rattle.xd_parse.specs.Definitions.{ReadsInFront, one_function}
-use Rattle.xd_parse.proofs.DefinitionRows.{table, function_reads, params_kept, params_more, behind_less, behind_fewer}
+use Rattle.xd_parse.specs.Shallow.{NoDeeper, DefinitionsWithin}
+use Rattle.xd_parse.proofs.DefinitionRows.{table, function_reads, function_deeper, params_kept, params_more, behind_less, behind_fewer}
 use Rattle.xd_parse.proofs.definitions.read_function.Goals as goal
 
 pub returns-clause-reads : goal.returns-clause-reads
@@ -34,3 +36,8 @@ returns-clause-fewer c =
       behind_less c.read_type.new.cursor c.step-3.new.self c.step-3.ensures.left,
       c.in_ok-body.ensures.left,
     )
+
+pub returns-clause-no_deeper : goal.returns-clause-no_deeper
+returns-clause-no_deeper c =
+    subst (λ (f : FunctionRow). NoDeeper (DefinitionsWithin (one_function (function_definition (table c.read_type.new.types c.read_expr.new.patterns c.read_expr.new.exprs [] []) f))) c.args.types.now c.read_type.new.types) (sym c.new.ensures)
+    (λ limit o w. function_deeper c.args.types.now c.read_params.new.types c.read_type.new.types c.in_ok-params.params.items (placed_at c.read_type.new.types c.in_ok-declared.declared.at) c.in_ok-declared.ensures.keeps c.in_ok-params.ensures.belong c.in_ok-params.ensures.no_deeper c.in_ok-declared.ensures.no_deeper limit o w.1.0)

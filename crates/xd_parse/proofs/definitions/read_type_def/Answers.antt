@@ -16,3 +16,6 @@ returns-clause-fewer c =
       behind_less c.word.new.self c.step-2.new.self c.step-2.ensures.left,
       c.in_ok-body.ensures.fewer,
     )
+
+pub returns-clause-no_deeper : goal.returns-clause-no_deeper
+returns-clause-no_deeper c = λ limit o w. c.in_ok-body.ensures.no_deeper limit o w.0.0

@@ -5,6 +5,7 @@ use Rattle.xd_parse.specs.declared.machine.Sort.{Sort}
 use Rattle.xd_parse.specs.Reading.{SpellNo, element_row}
 use Rattle.xd_parse.specs.Nodes.{IsAdded}
 use Rattle.xd_parse.proofs.Merging.{number_added}
+use Rattle.xd_parse.proofs.Adding.{if_ok_both}
 use Rattle.xd_parse.proofs.NodeRows.{branches_on, parts_on, tree_read, branch_read, content_empty_read, content_full_read, group_empty_read, group_full_read, element_read, part_read, word_read, group_read, none_read, unbound_read, variable_read, bound_read, any_read}
 use Rattle.xd_parse.proofs.trees.+trees.Goals as goal
 
@@ -32,9 +33,9 @@ read_branch-sequence-requires-clause-more g t c = rw c.as_slice.ensures.value c.
 
 pub read_branch-returns-clause-reads : goal.read_branch-returns-clause-reads
 read_branch-returns-clause-reads g t c =
-    IfOk-weaker c.sequence.result _ _
-    (λ id a. branch_read g.N.Nodes.sort _ _ _ _ _ _ _ _ _ _ _ c.in_ok-first.ensures.reads c.parts.invariant (sym c.at.ensures ∙ c.parts-test.false) a (ap (map g.N.Nodes.at) c.as_slice.ensures.value))
-    c.sequence.ensures.added
+    if_ok_both c.sequence.result _ _ _
+    (λ id a d. branch_read g.N.Nodes.sort _ _ _ _ _ _ _ _ _ _ _ c.in_ok-first.ensures.reads c.parts.invariant (sym c.at.ensures ∙ c.parts-test.false) a d (ap (map g.N.Nodes.at) c.as_slice.ensures.value))
+    c.sequence.ensures.added c.sequence.ensures.deepest
 
 pub read_content-returns-then-at-clause-reads : goal.read_content-returns-then-at-clause-reads
 read_content-returns-then-at-clause-reads g t c =

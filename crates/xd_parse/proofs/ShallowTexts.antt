@@ -1,0 +1,47 @@
+-- The types of a text are no deeper than a text may be nested.
+use Rattle.std.proofs.Common.{◌≡◌, ℕ, List, [], ◌∷◌, subst, arith}
+use Rattle.std.specs.List.{AllByRecursion}
+use Rattle.xd_lex.specs.Tokens.{Lexeme, tokens_of}
+use Rattle.xd_syntax.specs.Placed.{PlacedTree}
+use Rattle.xd_syntax.specs.Table.{Row}
+use Rattle.xd_syntax.specs.Program.{TypeDefinition, Parameter, FunctionDefinition, ProgramTree}
+use Rattle.xd_syntax.specs.Kept.{ProgramTable, program_tree}
+use Rattle.xd_parse.specs.declared.grammar.Nonterminal.{Nonterminal}
+use Rattle.xd_parse.specs.declared.grammar.Nonterminal.TheVariants as n
+use Rattle.xd_parse.specs.Text.{SpellsText}
+use Rattle.xd_parse.specs.Values.{Value, a_type, definitions}
+use Rattle.xd_parse.specs.Reading.{Reads, behind}
+use Rattle.xd_parse.specs.Shallow.{AddsWithin, IsShallow, NoDeeper, TreeWithin, ParametersWithin, DefinitionsWithin}
+use Rattle.xd_parse.proofs.Depth.{AnyWithin}
+use Rattle.xd_parse.proofs.Nesting.{Within, ProgramWithin, TypeDefWithin, ParamWithin, FunctionWithin, all_within}
+use Rattle.xd_parse.proofs.Spelled.{read_within}
+use Rattle.xd_parse.proofs.Turned.{type_text_reads}
+
+tree_within : (limit : ℕ) (T : PlacedTree) → AnyWithin limit 0 T → TreeWithin T limit
+tree_within limit T h = let a = h.1 in omega arith
+
+all_weaker : {X : Type 0} (P Q : X → Type 0) → ((x : X) → P x → Q x) → (xs : List X) → AllByRecursion P xs → AllByRecursion Q xs
+all_weaker P Q f [] a = tt
+all_weaker P Q f (x ∷ xs) a = (f x a.0, all_weaker P Q f xs a.1)
+
+params_within : (limit : ℕ) (qs : List Parameter) → AllByRecursion (ParamWithin limit 0) qs → ParametersWithin qs limit
+params_within limit qs a = all_weaker (ParamWithin limit 0) (λ (q : Parameter). TreeWithin q.declared limit) (λ q h. tree_within limit q.declared h) qs a
+
+program_within : (limit : ℕ) (P : ProgramTree) → ProgramWithin limit 0 P → DefinitionsWithin P limit
+program_within limit P h = (
+  all_weaker (TypeDefWithin limit 0) (λ (t : TypeDefinition). TreeWithin t.body limit) (λ t k. tree_within limit t.body k) P.types h.0,
+  all_weaker (FunctionWithin limit 0) (λ (f : FunctionDefinition). ParametersWithin f.parameters limit × TreeWithin f.declared limit) (λ f k. (params_within limit f.parameters k.0, tree_within limit f.declared k.1)) P.functions h.1,
+)
+
+-- what the tokens of a text stand for is within its limit
+text_within : (part : Nonterminal) (bytes : List ℕ) (ls to : List Lexeme) (v : Value) → SpellsText part bytes → ls ≡ tokens_of bytes → Reads part ls to v → Within 256 part 0 v
+text_within part bytes ls to v s e r =
+    all_within 256 part (tokens_of bytes) v (read_within 256 part (tokens_of bytes) to v s.spells (subst (λ (xs : List Lexeme). Reads part xs to v) e r))
+
+pub program_shallow : (bytes : List ℕ) (ls to : List Lexeme) (p : ProgramTable) → SpellsText n.Definitions bytes → ls ≡ tokens_of bytes → Reads n.Definitions ls to (definitions (program_tree p)) →
+    NoDeeper (DefinitionsWithin (program_tree p)) [] p.types → IsShallow p.types
+program_shallow bytes ls to p s e r d i h =
+    d 256 (omega arith) (program_within 256 (program_tree p) (text_within n.Definitions bytes ls to (definitions (program_tree p)) s e r)) i (omega arith) h
+
+pub type_shallow : (bytes : List ℕ) (ls to : List Lexeme) (old new : List Row) (T : PlacedTree) → SpellsText n.TypeText bytes → ls ≡ tokens_of bytes → Reads n.Type ls to (a_type T) → NoDeeper (TreeWithin T) old new → AddsWithin 256 old new
+type_shallow bytes ls to old new T s e r d = d 256 (omega arith) (tree_within 256 T (text_within n.TypeText bytes ls (behind to) (a_type T) s e (type_text_reads ls to T r)))
