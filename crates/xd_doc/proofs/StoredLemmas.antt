@@ -1,10 +1,10 @@
 -- On the documents of a list of nodes.
-use Rattle.std.proofs.Common.{true, false, ◌≡◌, ℕ, zero, suc, ◌+◌, ◌<◌, ◌≤◌, List, [], ◌∷◌, ◌++◌, length, get_or, Option, Some, None, refl, ap, sym, ◌∙◌, arith, length-append, add-zero, zero-add, Vec, vec_len, rules}
-use Rattle.std.proofs.lemmas.List.{get_or_append_left}
+use Rattle.std.proofs.Common.{true, false, ◌≡◌, ℕ, zero, suc, ◌+◌, ◌<◌, ◌≤◌, List, [], ◌∷◌, ◌++◌, length, get_or, Option, Some, None, refl, ap, sym, ◌∙◌, arith, length-append, add-zero, zero-add, Vec, vec_len, rules, drop}
+use Rattle.std.proofs.lemmas.List.{get_or_append_left, length_push}
 use Rattle.std.proofs.Math.Seq.{get_or-append_seam}
 use Rattle.std.specs.List.{AllByRecursion}
-use Rattle.xd_doc.specs.Document.{Document, empty, text, element, is_proper, has_item, rest_of, content_of, first_then, join, size}
-use Rattle.xd_doc.specs.Stored.{at_node, IsBelow, document_at, BelongsTo, item_before, is_proper_item, node_document, documents_after, documents, AreLinked, IsLinked, IsBare, Keeps, IsOlder, first_of_document, firsts_then, IsSpine}
+use Rattle.xd_doc.specs.Document.{Document, empty, text, element, is_proper, has_item, rest_of, content_of, first_then, join, size, breadth}
+use Rattle.xd_doc.specs.Stored.{at_node, IsBelow, document_at, BelongsTo, item_before, is_proper_item, node_document, documents_after, documents, AreLinked, IsLinked, IsBare, Keeps, IsOlder, first_of_document, firsts_then, IsSpine, joined_at, breadth_before_last}
 use Rattle.xd_doc.specs.declared.store.Seq.{Seq}
 use Rattle.xd_doc.specs.declared.store.Node.{Node}
 use Rattle.xd_doc.specs.declared.store.Item.{Item}
@@ -189,9 +189,10 @@ pub record SpineSoFar (ds : List Document) (seq : Seq) (seqs : List Seq) (rest :
   pub belong : AllByRecursion (BelongsTo ds) seqs
   pub left : BelongsTo ds rest
   pub items : (d : Document) → firsts_then ds seqs (join (document_at ds rest) d) ≡ join (document_at ds seq) d
+  pub count : length seqs + breadth (document_at ds rest) ≡ breadth (document_at ds seq)
 
 pub spine_none : (ds : List Document) (seq : Seq) → BelongsTo ds seq → SpineSoFar ds seq [] seq
-spine_none ds seq h = record { belong = tt; left = h; items = λ d. refl }
+spine_none ds seq h = record { belong = tt; left = h; items = λ d. refl; count = omega arith }
 
 pub belong-push : (ds : List Document) (xs : List Seq) (seq : Seq) → AllByRecursion (BelongsTo ds) xs → BelongsTo ds seq → AllByRecursion (BelongsTo ds) (xs ++ seq ∷ [])
 belong-push ds [] seq h b = (b, tt)
@@ -201,17 +202,25 @@ pub belong-front : (ds : List Document) (xs : List Seq) (seq : Seq) → AllByRec
 belong-front ds [] seq h = (tt, h.0)
 belong-front ds (x ∷ xs) seq h = let b = belong-front ds xs seq h.1 in ((h.0, b.0), b.1)
 
-pub spine_more : (ds : List Document) (seq : Seq) (seqs : List Seq) (rest next : Seq) → SpineSoFar ds seq seqs rest → BelongsTo ds next → document_at ds next ≡ rest_of (document_at ds rest) → SpineSoFar ds seq (seqs ++ rest ∷ []) next
-spine_more ds seq seqs rest next h b e = record {
+breadth-rest_of : (d : Document) → has_item d ≡ true → breadth (rest_of d) + 1 ≡ breadth d
+breadth-rest_of empty h = absurd (cc)
+breadth-rest_of (text s r) h = refl
+breadth-rest_of (element l c r) h = refl
+
+pub spine_more : (ds : List Document) (seq : Seq) (seqs : List Seq) (rest next : Seq) → SpineSoFar ds seq seqs rest → BelongsTo ds next → document_at ds next ≡ rest_of (document_at ds rest) → has_item (document_at ds rest) ≡ true
+    → SpineSoFar ds seq (seqs ++ rest ∷ []) next
+spine_more ds seq seqs rest next h b e filled = record {
   belong = belong-push ds seqs rest h.belong h.left;
   left = b;
   items = λ d. rw (firsts_then-append, e, first_then-join) (h.items d);
+  count = rw e (omega (arith, length_push seqs rest, breadth-rest_of (document_at ds rest) filled, h.count));
 }
 
 pub spine_all : (ds : List Document) (seq : Seq) (seqs : List Seq) (rest : Seq) → SpineSoFar ds seq seqs rest → document_at ds rest ≡ empty → IsSpine ds seq seqs
 spine_all ds seq seqs rest h e = record {
   belong = h.belong;
   items = λ d. let s = h.items d in rw e at s;
+  count = let s = h.count in let t = rw e at s in omega arith;
 }
 
 -- what follows an item is smaller
@@ -261,3 +270,46 @@ size-parts (Text s) ds content next h =
     let e : size (document_at ds content) ≡ 0 = ap (λ (c : Seq). size (document_at ds c)) h in
     omega arith
 size-parts (Elem l) ds content next h = refl
+
+pub first_then-rest_of : (d : Document) → first_then d (rest_of d) ≡ d
+first_then-rest_of empty = refl
+first_then-rest_of (text s r) = refl
+first_then-rest_of (element l c r) = refl
+
+pub belongs_in : (ds : List Document) (parts : List Seq) (i : ℕ) (d : Seq) → AllByRecursion (BelongsTo ds) parts → i < length parts → BelongsTo ds (get_or parts i d)
+belongs_in ds [] i d h lt = absurd (omega arith)
+belongs_in ds (x ∷ xs) zero d h lt = h.0
+belongs_in ds (x ∷ xs) (suc i) d h lt = belongs_in ds xs i d h.1 (omega arith)
+
+-- one more part in front
+pub joined_more : (ds : List Document) (parts : List Seq) (i : ℕ) (d : Seq) → i < length parts
+    → joined_at ds (drop i parts) ≡ join (document_at ds (get_or parts i d)) (joined_at ds (drop (suc i) parts))
+joined_more ds [] i d lt = absurd (omega arith)
+joined_more ds (x ∷ xs) zero d lt = refl
+joined_more ds (x ∷ xs) (suc i) d lt = joined_more ds xs i d (omega arith)
+
+pub breadth_more : (ds : List Document) (parts : List Seq) (i : ℕ) (d : Seq) → suc i < length parts
+    → breadth_before_last ds (drop i parts) ≡ breadth (document_at ds (get_or parts i d)) + breadth_before_last ds (drop (suc i) parts)
+breadth_more ds [] i d lt = absurd (omega arith)
+breadth_more ds (x ∷ []) i d lt = absurd (omega arith)
+breadth_more ds (x ∷ (y ∷ ys)) zero d lt = refl
+breadth_more ds (x ∷ (y ∷ ys)) (suc i) d lt = breadth_more ds (y ∷ ys) i d (omega arith)
+
+join-empty : (d : Document) → join d empty ≡ d
+join-empty empty = refl
+join-empty (text s r) = ap (text s) (join-empty r)
+join-empty (element l c r) = ap (element l c) (join-empty r)
+
+pub joined_last : (ds : List Document) (parts : List Seq) (i : ℕ) (d : Seq) → i + 1 ≡ length parts → document_at ds (get_or parts i d) ≡ joined_at ds (drop i parts)
+joined_last ds [] i d e = absurd (omega arith)
+joined_last ds (x ∷ []) zero d e = sym (join-empty (document_at ds x))
+joined_last ds (x ∷ []) (suc i) d e = absurd (omega arith)
+joined_last ds (x ∷ (y ∷ ys)) zero d e = absurd (omega arith)
+joined_last ds (x ∷ (y ∷ ys)) (suc i) d e = joined_last ds (y ∷ ys) i d (omega arith)
+
+pub breadth_drop : (ds : List Document) (parts : List Seq) (i : ℕ) → breadth_before_last ds (drop i parts) ≤ breadth_before_last ds parts
+breadth_drop ds [] zero = omega arith
+breadth_drop ds [] (suc i) = omega arith
+breadth_drop ds (x ∷ xs) zero = omega arith
+breadth_drop ds (x ∷ []) (suc i) = breadth_drop ds [] i
+breadth_drop ds (x ∷ (y ∷ ys)) (suc i) = omega (arith, breadth_drop ds (y ∷ ys) i)

@@ -29,6 +29,12 @@ size empty = 0
 size (text s r) = size r + 1
 size (element l c r) = size c + size r + 1
 
+-- the number of its own items
+abbrev pub breadth : Document → ℕ
+breadth empty = 0
+breadth (text s r) = breadth r + 1
+breadth (element l c r) = breadth r + 1
+
 -- what follows the first item
 abbrev pub rest_of : Document → Document
 rest_of empty = empty

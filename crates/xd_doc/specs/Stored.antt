@@ -1,10 +1,10 @@
 -- What the nodes of a store stand for.
-use Rattle.std.specs.Prelude.{◌≡◌, ℕ, ◌<◌, ◌⊎◌, Bool, true, List, [], ◌∷◌, ◌++◌, length, Option, Some, None, is_some, nat_eq, unwrap_or, slice_index_or}
+use Rattle.std.specs.Prelude.{◌≡◌, ℕ, ◌+◌, ◌<◌, ◌⊎◌, Bool, true, List, [], ◌∷◌, ◌++◌, length, Option, Some, None, is_some, nat_eq, unwrap_or, slice_index_or}
 use Rattle.std.specs.Str.{is_utf8}
 use Rattle.std.specs.HashMap.{HashMap, get}
 use Rattle.std.specs.List.{AllByRecursion, Contains}
 use Rattle.xd_doc.specs.Word.{is_word}
-use Rattle.xd_doc.specs.Document.{Document, empty, text, element, is_proper, has_item, first_then, join}
+use Rattle.xd_doc.specs.Document.{Document, empty, text, element, is_proper, has_item, first_then, join, breadth}
 use Rattle.xd_doc.specs.declared.store.Seq.{Seq}
 use Rattle.xd_doc.specs.declared.store.Item.{Item}
 use Rattle.xd_doc.specs.declared.store.Item.TheVariants.{Text, Elem}
@@ -13,6 +13,10 @@ use Rattle.xd_doc.specs.declared.store.Node.{Node}
 -- the `Seq` with no item
 abbrev pub no_items : Seq
 no_items = record { node = None }
+
+-- the document that begins at a node
+abbrev pub node_seq : ℕ → Seq
+node_seq i = record { node = Some i }
 
 -- the number of the node where it begins
 abbrev pub place_in_store : Seq → Option ℕ
@@ -103,6 +107,18 @@ firsts_then ds (seq ∷ seqs) d = first_then (document_at ds seq) (firsts_then d
 pub record IsSpine (ds : List Document) (seq : Seq) (seqs : List Seq) : Type 0 where
   pub belong : AllByRecursion (BelongsTo ds) seqs
   pub items : (d : Document) → firsts_then ds seqs d ≡ join (document_at ds seq) d
+  pub count : length seqs ≡ breadth (document_at ds seq)
+
+-- these documents, one after the other
+abbrev pub joined_at : List Document → List Seq → Document
+joined_at ds [] = empty
+joined_at ds (part ∷ parts) = join (document_at ds part) (joined_at ds parts)
+
+-- how many items all of these but the last have of their own
+abbrev pub breadth_before_last : List Document → List Seq → ℕ
+breadth_before_last ds [] = 0
+breadth_before_last ds (part ∷ []) = 0
+breadth_before_last ds (part ∷ (next ∷ parts)) = breadth (document_at ds part) + breadth_before_last ds (next ∷ parts)
 
 -- none, one of these places, or a place that is settled elsewhere
 abbrev pub IsMet : (ℕ → Type 0) → List ℕ → Option ℕ → Type 0

@@ -1,10 +1,11 @@
 //! Classes of labels.
 
 ghost use Rattle.std.specs.Prelude.{◌≡◌, ◌<◌, ◌⊎◌, List, ℕ, true, IfOk, vec_len};
-ghost use Rattle.xd_doc.specs.Classes.{IsClass, class_has, names_label};
+ghost use Rattle.xd_doc.specs.Classes.{IsClass, class_has, is_named};
 
 use crate::error::NoMemory;
 use crate::label::Label;
+use crate::names::Names;
 use std::alloc::Global;
 use std::marker::Model;
 
@@ -13,8 +14,7 @@ use std::marker::Model;
 /// Its names stand in byte order, each once. A class that names nothing has all labels.
 #[derive(Debug, Drop)]
 pub struct Class {
-    names: Vec<Label>,
-    except: bool,
+    labels: Names<Label>,
 }
 
 impl Model for Class {
@@ -22,9 +22,9 @@ impl Model for Class {
 
     ghost Value = { LabelClass };
 
-    ghost view = { λ c. record { names = c.names.items; except = c.except } };
+    ghost view = { λ c. record { names = c.labels.names.items; except = c.labels.except } };
 
-    ghost invariant = { λ c. IsClass (record { names = c.names.items; except = c.except }) };
+    ghost invariant = { λ c. IsClass (record { names = c.labels.names.items; except = c.labels.except }) };
 }
 
 impl Class {
@@ -34,28 +34,26 @@ impl Class {
     /// can't be made.
     pub fn new(_alloc: Global, names: Vec<Label>, except: bool) -> Result<Self, NoMemory>
         requires { (0 < vec_len names) ⊎ (except ≡ true) }
-        ensures labels { IfOk result (λ class. (l : List ℕ) → names_label class.names l ≡ names_label names.items l) }
+        ensures labels { IfOk result (λ class. (l : List ℕ) → is_named class.names l ≡ is_named names.items l) }
         ensures except { IfOk result (λ class. class.except ≡ except) }
         ensures valid { IfOk result IsClass }
     {
-        let mut names = names;
-        names.sort()?;
-        names.dedup();
-        Ok(Self { names, except })
+        let labels = Names::new(names, except)?;
+        Ok(Self { labels })
     }
 
     /// Whether the label is in the class.
     pub fn has(&self, label: &Label) -> bool
         ensures { result ≡ class_has self.now label.now }
     {
-        self.names.contains(label) != self.except
+        self.labels.has(label)
     }
 
     /// Whether the class has every label that it doesn't name: exactly for excepted names.
     pub fn takes_others(&self) -> bool
         ensures { result ≡ self.now.except }
     {
-        self.except
+        self.labels.except
     }
 
     /// The labels that it names, or excepts.
@@ -63,6 +61,15 @@ impl Class {
         ensures names { result.now ≡ self.now.names }
         ensures valid { IsClass self.now }
     {
-        self.names.as_slice()
+        self.labels.names.as_slice()
+    }
+
+    /// An equal class.
+    pub fn share(&self) -> Result<Self, NoMemory>
+        ensures same { IfOk result (λ class. class ≡ self.now) }
+        ensures valid { IsClass self.now }
+    {
+        let labels = self.labels.share()?;
+        Ok(Self { labels })
     }
 }

@@ -4,13 +4,14 @@
 mod class;
 mod error;
 mod label;
+mod names;
 mod store;
-#[cfg(test)]
-mod tests;
 mod text;
+mod words;
 
 pub use class::Class;
 pub use error::NoMemory;
 pub use label::Label;
 pub use store::{Item, Seq, Store};
 pub use text::Text;
+pub use words::Words;

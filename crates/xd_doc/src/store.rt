@@ -5,8 +5,9 @@ ghost use Rattle.std.specs.BinaryHeap.{KeepsHeap, heap_items};
 ghost use Rattle.std.specs.List.Sorted.{IsPermutation};
 ghost use Rattle.std.specs.Option.{option_copied, option_to_list};
 ghost use Rattle.std.specs.Ordering.{nat_cmp};
-ghost use Rattle.xd_doc.specs.Document.{Document, empty, text as text_before, element, rest_of, content_of, is_proper, has_item, first_then, join, size};
-ghost use Rattle.xd_doc.specs.Stored.{IsLinked, IsBare, at_node, documents, AreLinked, IsBelow, IsMet, AreClosed, item_before, copy_at, IsSpine, node_document, no_items, place_in_store, is_proper_item, document_at, BelongsTo, Keeps, IsOlder, first_of_document};
+ghost use Rattle.xd_doc.specs.Document.{Document, empty, text as text_before, element, rest_of, content_of, is_proper, has_item, first_then, join, size, breadth};
+ghost use Rattle.xd_doc.specs.Stored.{IsLinked, IsBare, at_node, documents, AreLinked, IsBelow, IsMet, AreClosed, item_before, copy_at, IsSpine, node_document, no_items, place_in_store, is_proper_item, document_at, BelongsTo, Keeps, IsOlder, first_of_document, joined_at, breadth_before_last};
+ghost use Rattle.std.specs.List.{AllByRecursion};
 
 use crate::error::NoMemory;
 use crate::label::Label;
@@ -80,6 +81,17 @@ impl Seq {
         ensures { (ds : List Document) → BelongsTo ds self → result ≡ not (has_item (document_at ds self)) }
     {
         self.node.is_none()
+    }
+
+    /// Whether the other begins at the same node.
+    fn is_same(self, other: Self) -> bool
+        ensures { result ≡ true → self ≡ other }
+    {
+        match (self.node, other.node) {
+            (None, None) => true,
+            (Some(one), Some(two)) => one == two,
+            _ => false,
+        }
     }
 
     /// The number of the node where it begins, from 0; `None` for the empty document.
@@ -229,18 +241,42 @@ impl Item {
 }
 
 impl Store {
-    /// The first document, and behind it the second, whose nodes it shares.
+    /// The first document, and behind it the second, whose nodes it shares. It makes at most as many
+    /// nodes as the first one has items of its own.
     pub fn append(&mut self, front: Seq, back: Seq) -> Result<Seq, NoMemory>
         requires front { BelongsTo self.old front }
         requires back { BelongsTo self.old back }
         ensures ok { IfOk result (λ seq. document_at self.new seq ≡ join (document_at self.old front) (document_at self.old back)) }
         ensures belongs { IfOk result (BelongsTo self.new) }
         ensures keeps { Keeps self.old self.new }
+        ensures few { length self.new ≤ length self.old + breadth (document_at self.old front) }
     {
         let mut spine = self.spine(front)?;
         let mut made = back;
         while let Some(seq) = spine.pop() {
-            made = self.repeat(seq, made)?;
+            made = self.first_before(seq, made)?;
+        }
+        Ok(made)
+    }
+
+    /// The documents, one after the other. It shares the nodes of the last, and makes at most as many
+    /// as the others have items of their own.
+    pub fn join(&mut self, parts: &[Seq]) -> Result<Seq, NoMemory>
+        requires { AllByRecursion (BelongsTo self.old) parts.now }
+        ensures ok { IfOk result (λ seq. document_at self.new seq ≡ joined_at self.old parts.now) }
+        ensures belongs { IfOk result (BelongsTo self.new) }
+        ensures keeps { Keeps self.old self.new }
+        ensures few { length self.new ≤ length self.old + breadth_before_last self.old parts.now }
+    {
+        let mut left = parts.len();
+        if left == 0 {
+            return Ok(Seq::empty());
+        }
+        left -= 1;
+        let mut made = parts[left];
+        while left > 0 {
+            left -= 1;
+            made = self.append(parts[left], made)?;
         }
         Ok(made)
     }
@@ -259,17 +295,22 @@ impl Store {
         Ok(spine)
     }
 
-    /// The first item of `seq`, followed by `next`.
-    fn repeat(&mut self, seq: Seq, next: Seq) -> Result<Seq, NoMemory>
+    /// The first item of `seq`, followed by `next`. Where `next` is what follows that item anyway, this
+    /// is `seq` itself.
+    pub fn first_before(&mut self, seq: Seq, next: Seq) -> Result<Seq, NoMemory>
         requires seq { BelongsTo self.old seq }
         requires next { BelongsTo self.old next }
         ensures ok { IfOk result (λ made. document_at self.new made ≡ first_then (document_at self.old seq) (document_at self.old next)) }
         ensures belongs { IfOk result (BelongsTo self.new) }
         ensures keeps { Keeps self.old self.new }
+        ensures one { length self.new ≤ length self.old + 1 }
     {
         let Some(place) = seq.node else {
             return Ok(next);
         };
+        if self.next(seq).is_same(next) {
+            return Ok(seq);
+        }
         let node = &self.nodes[place];
         let copy = Node {
             item: node.item.share()?,

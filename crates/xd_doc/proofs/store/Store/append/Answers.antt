@@ -1,3 +1,4 @@
+use Rattle.std.proofs.Common.{arith}
 use Rattle.xd_doc.proofs.StoredLemmas.{belong-front, firsts_then-append, Keeps-trans}
 use Rattle.xd_doc.proofs.store.Store.append.Goals as goal
 
@@ -10,6 +11,7 @@ loop-seq-preserved c =
     record {
       belong = b.0;
       made = c.in_ok-made.ensures.belongs;
-      keeps = Keeps-trans _ _ _ i.keeps c.repeat.ensures.keeps;
+      keeps = Keeps-trans _ _ _ i.keeps c.first_before.ensures.keeps;
+      few = omega (arith, c.first_before.ensures.one, c.in-Some.ensures.cases, i.few);
       joined = rw (c.in_ok-made.ensures.ok, e) j;
     }

@@ -1,5 +1,5 @@
 use Rattle.xd_doc.proofs.StoredLemmas.{bare_same, in_vec, reads, first_then-item_before}
-use Rattle.xd_doc.proofs.store.Store.repeat.Goals as goal
+use Rattle.xd_doc.proofs.store.Store.first_before.Goals as goal
 
 pub index-node-requires : goal.index-node-requires
 index-node-requires c = in_vec c.self.inside.nodes _ _ _ c.self.view_is c.requires.seq c.in-Some.is

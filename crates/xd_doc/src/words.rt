@@ -1,0 +1,75 @@
+//! Classes of texts.
+
+ghost use Rattle.std.specs.Prelude.{◌≡◌, ◌<◌, ◌⊎◌, List, ℕ, true, IfOk, vec_len};
+ghost use Rattle.xd_doc.specs.Classes.{IsTextClass, class_has, is_named};
+
+use crate::error::NoMemory;
+use crate::names::Names;
+use crate::text::Text;
+use std::alloc::Global;
+use std::marker::Model;
+
+/// A class of texts: those that it names, or all but those.
+///
+/// Its texts stand in byte order, each once. A class that names nothing has all texts.
+#[derive(Debug, Drop)]
+pub struct Words {
+    texts: Names<Text>,
+}
+
+impl Model for Words {
+    ghost use Rattle.xd_doc.specs.Classes.{TextClass, IsTextClass};
+
+    ghost Value = { TextClass };
+
+    ghost view = { λ w. record { names = w.texts.names.items; except = w.texts.except } };
+
+    ghost invariant = { λ w. IsTextClass (record { names = w.texts.names.items; except = w.texts.except }) };
+}
+
+impl Words {
+    /// The class of these texts, or of all texts but these where `except` is true.
+    ///
+    /// The texts may come in any order and may repeat. A class that is to have no text at all
+    /// can't be made.
+    pub fn new(_alloc: Global, texts: Vec<Text>, except: bool) -> Result<Self, NoMemory>
+        requires { (0 < vec_len texts) ⊎ (except ≡ true) }
+        ensures texts { IfOk result (λ words. (t : List ℕ) → is_named words.names t ≡ is_named texts.items t) }
+        ensures except { IfOk result (λ words. words.except ≡ except) }
+        ensures valid { IfOk result IsTextClass }
+    {
+        let texts = Names::new(texts, except)?;
+        Ok(Self { texts })
+    }
+
+    /// Whether the text is in the class.
+    pub fn has(&self, text: &Text) -> bool
+        ensures { result ≡ class_has self.now text.now }
+    {
+        self.texts.has(text)
+    }
+
+    /// Whether the class has every text that it doesn't name: exactly for excepted texts.
+    pub fn takes_others(&self) -> bool
+        ensures { result ≡ self.now.except }
+    {
+        self.texts.except
+    }
+
+    /// The texts that it names, or excepts.
+    pub fn texts(&self) -> &[Text]
+        ensures names { result.now ≡ self.now.names }
+        ensures valid { IsTextClass self.now }
+    {
+        self.texts.names.as_slice()
+    }
+
+    /// An equal class.
+    pub fn share(&self) -> Result<Self, NoMemory>
+        ensures same { IfOk result (λ words. words ≡ self.now) }
+        ensures valid { IsTextClass self.now }
+    {
+        let texts = self.texts.share()?;
+        Ok(Self { texts })
+    }
+}
