@@ -5,7 +5,7 @@ ghost use Rattle.xd_base.specs.Outside.{HasRisen};
 
 use std::alloc::Global;
 use std::fs::File;
-use std::io::{ErrorKind, Read};
+use std::io::Read;
 use std::rt::Files;
 use std::{fs, io};
 use xd_base::{FetchError, Shelf};
@@ -29,34 +29,31 @@ impl<'a, R: Files> FileShelf<'a, R> {
 }
 
 /// Why a file was not read.
-#[derive(Drop)]
-enum ReadFault {
+#[derive(Debug, PartialEq, Drop)]
+pub(crate) enum ReadFault {
     Io,
     NoMemory,
 }
 
-/// The first `most` bytes of what the reader gives.
-fn front(alloc: Global, reader: &mut impl Read, most: usize) -> Result<Vec<u8>, ReadFault>
+/// The first `most` bytes of what the reader gives. Each turn takes a byte, or is the last.
+pub(crate) fn front(
+    alloc: Global,
+    reader: &mut impl Read,
+    most: usize,
+) -> Result<Vec<u8>, ReadFault>
     ensures { IfOk result (λ text. length text.items ≤ most) }
 {
     let mut text = Vec::new(alloc);
     let mut piece = [0; PIECE];
-    for _ in 0..u64::MAX {
+    while text.len() < most {
         let wanted = (most - text.len()).min(PIECE);
-        if wanted == 0 {
-            break;
-        }
         match reader.read(&mut piece[..wanted]) {
             Ok(0) => break,
             Ok(n) => match text.extend_from_slice(&piece[..n]) {
                 Ok(()) => {}
                 Err(_) => return Err(ReadFault::NoMemory),
             },
-            Err(error) => {
-                if error.kind() != ErrorKind::Interrupted {
-                    return Err(ReadFault::Io);
-                }
-            }
+            Err(_) => return Err(ReadFault::Io),
         }
     }
     Ok(text)

@@ -1,8 +1,8 @@
 //! The sink over a stream.
 
-ghost use Rattle.std.specs.Prelude.{◌≡◌, ◌<◌, ◌≤◌, length, IfSome};
+ghost use Rattle.std.specs.Prelude.{◌≡◌, ◌<◌, ◌≤◌, length, IfOk};
 
-use std::io::{ErrorKind, Write};
+use std::io::{self, ErrorKind, Write};
 use xd_base::{PutError, Sink};
 
 /// A stream, as the standard output. It doesn't tell what is written.
@@ -20,26 +20,16 @@ impl<W: Write> StreamSink<W> {
     }
 }
 
-/// How many bytes the stream takes of these; `None` where it fails, or takes none though there are some.
-fn write_some(stream: &mut impl Write, bytes: &[u8]) -> Option<usize>
-    ensures { IfSome result (λ n. (n ≤ length bytes.now) × (0 < length bytes.now → 0 < n)) }
+/// How many bytes the stream takes of these and flushes. To take none, though there are some, is a fault.
+fn write_some(stream: &mut impl Write, bytes: &[u8]) -> io::Result<usize>
+    ensures { IfOk result (λ n. (n ≤ length bytes.now) × (0 < length bytes.now → 0 < n)) }
 {
-    for _ in 0..u64::MAX {
-        match stream.write(bytes) {
-            Ok(n) => {
-                if n > 0 || bytes.is_empty() {
-                    return Some(n);
-                }
-                return None;
-            }
-            Err(error) => {
-                if error.kind() != ErrorKind::Interrupted {
-                    return None;
-                }
-            }
-        }
+    let taken = stream.write(bytes)?;
+    if taken == 0 && !bytes.is_empty() {
+        return Err(io::Error::from(ErrorKind::WriteZero));
     }
-    None
+    stream.flush()?;
+    Ok(taken)
 }
 
 impl<W: Write> Sink for StreamSink<W> {
@@ -52,8 +42,8 @@ impl<W: Write> Sink for StreamSink<W> {
     fn put(&mut self, bytes: &[u8]) -> Result<usize, PutError> {
         let _faults = self.faults;
         match write_some(&mut self.stream, bytes) {
-            Some(n) => Ok(n),
-            None => {
+            Ok(n) => Ok(n),
+            Err(_) => {
                 self.faults = self.faults.saturating_add(1);
                 Err(PutError::Failed)
             }

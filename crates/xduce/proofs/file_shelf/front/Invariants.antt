@@ -1,5 +1,8 @@
-use Rattle.std.proofs.Common.{◌≤◌, vec_len}
+use Rattle.std.proofs.Common.{◌≤◌, ◌-◌, vec_len}
 use Rattle.xduce.proofs.file_shelf.front.Given as goal
 
-abbrev pub invariant-loop : goal.invariant-loop
-invariant-loop g l = vec_len l.text ≤ l.most
+abbrev pub invariant-loop-piece : goal.invariant-loop-piece
+invariant-loop-piece g l = vec_len l.text ≤ l.most
+
+abbrev pub decreases-loop-piece : goal.decreases-loop-piece
+decreases-loop-piece g l = l.most - vec_len l.text
