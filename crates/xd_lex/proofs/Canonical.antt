@@ -14,8 +14,8 @@ use Rattle.xd_lex.specs.declared.Front.TheVariants as fronts
 use Rattle.xd_lex.specs.Scan.{is_blank, symbol, of_text, of_word, front_of}
 use Rattle.xd_lex.specs.Tokens.{Lexeme, past, tokens_from}
 use Rattle.xd_lex.proofs.Escapes.{quoted-escaped}
-use Rattle.xd_lex.proofs.Choices.{left_true, right_true}
 use Rattle.xd_lex.proofs.Froms.{first, at_token}
+use Rattle.std.proofs.lemmas.Bool.{and_parts}
 
 -- a token that is spelled by xs
 pub token_front : (xs rest : List ℕ) (p : Place) (k : Kind) (n : ℕ) → 0 < length xs → n ≡ length xs → first (xs ++ rest) ≡ fronts.Token k n → tokens_from 0 p (xs ++ rest) ≡ record { kind = k; text = xs; place = p } ∷ tokens_from 0 (past p xs) rest
@@ -39,8 +39,8 @@ tokens-quoted p s rest =
 word_whole : (bs rest : List ℕ) → are_word_parts bs ≡ true → take_while is_word_part (bs ++ 91 ∷ rest) ≡ bs
 word_whole [] rest h = rw take_while-cons refl
 word_whole (b ∷ bs) rest h =
-    let part : is_word_part b ≡ true = left_true (is_word_part b) (are_word_parts bs) h in
-    let parts : are_word_parts bs ≡ true = right_true (is_word_part b) (are_word_parts bs) h in
+    let part : is_word_part b ≡ true = (and_parts (is_word_part b) (are_word_parts bs) h).0 in
+    let parts : are_word_parts bs ≡ true = (and_parts (is_word_part b) (are_word_parts bs) h).1 in
     rw (take_while-cons, part) (ap (λ (xs : List ℕ). b ∷ xs) (word_whole bs rest parts))
 
 start_no_blank : (b : ℕ) → is_word_start b ≡ true → is_blank b ≡ false
@@ -64,7 +64,7 @@ pub tokens-label : (p : Place) (word rest : List ℕ) → is_word word ≡ true 
 tokens-label p [] rest h = cc
 tokens-label p (b ∷ bs) rest h =
     token_front (b ∷ bs ++ 91 ∷ []) rest p kinds.Label (length bs + 1 + 1) (omega arith) (omega (arith, length-append bs (91 ∷ [])))
-    (ap (λ (xs : List ℕ). front_of b xs) (append_assoc bs (91 ∷ []) rest) ∙ label_first b bs rest (left_true (is_word_start b) (are_word_parts bs) h) (right_true (is_word_start b) (are_word_parts bs) h))
+    (ap (λ (xs : List ℕ). front_of b xs) (append_assoc bs (91 ∷ []) rest) ∙ label_first b bs rest (and_parts (is_word_start b) (are_word_parts bs) h).0 (and_parts (is_word_start b) (are_word_parts bs) h).1)
 
 comma_first : (rest : List ℕ) → front_of 44 rest ≡ fronts.Token kinds.Comma 1
 unfolding front_of symbol

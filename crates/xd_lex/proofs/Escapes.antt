@@ -1,30 +1,30 @@
 -- Escapes: what is escaped and put between quotes is one quoted text, and stands for what it was.
 use Rattle.std.proofs.Common.{◌≡◌, sym, ℕ, ◌+◌, Bool, true, false, cond, List, [], ◌∷◌, ◌++◌, length, Result, Ok, refl, ap, ◌∙◌, arith, append_assoc, length-append}
 use Rattle.std.specs.Prelude.{◌==◌}
-use Rattle.xd_lex.proofs.Choices.{is_equal}
 use Rattle.xd_doc.specs.Document.{escaped, escaped_all}
 use Rattle.xd_lex.specs.declared.LexFault.{LexFault}
 use Rattle.xd_lex.specs.Scan.{quoted, one_more}
 use Rattle.xd_lex.specs.Spelled.{characters, unescaped}
+use Rattle.std.proofs.lemmas.Bool.{eqb-true}
 
 -- one escaped character stands for itself
 characters-escaped : (c : ℕ) (bs : List ℕ) → characters false (escaped c ++ bs) ≡ c ∷ characters false bs
 characters-escaped c bs = at_quote (c == 34) refl
   where
     at_tab : (t : Bool) → (c == 9) ≡ t → (c == 34) ≡ false → (c == 92) ≡ false → characters false (cond t (92 ∷ 116 ∷ []) (c ∷ []) ++ bs) ≡ c ∷ characters false bs
-    at_tab true e q s = ap (λ (x : ℕ). x ∷ characters false bs) (sym (is_equal c 9 e))
+    at_tab true e q s = ap (λ (x : ℕ). x ∷ characters false bs) (sym (eqb-true c 9 e))
     at_tab false e q s = rw (q, s) refl
 
     at_line : (t : Bool) → (c == 10) ≡ t → (c == 34) ≡ false → (c == 92) ≡ false → characters false (cond t (92 ∷ 110 ∷ []) (cond (c == 9) (92 ∷ 116 ∷ []) (c ∷ [])) ++ bs) ≡ c ∷ characters false bs
-    at_line true e q s = ap (λ (x : ℕ). x ∷ characters false bs) (sym (is_equal c 10 e))
+    at_line true e q s = ap (λ (x : ℕ). x ∷ characters false bs) (sym (eqb-true c 10 e))
     at_line false e q s = at_tab (c == 9) refl q s
 
     at_slash : (t : Bool) → (c == 92) ≡ t → (c == 34) ≡ false → characters false (cond t (92 ∷ 92 ∷ []) (cond (c == 10) (92 ∷ 110 ∷ []) (cond (c == 9) (92 ∷ 116 ∷ []) (c ∷ []))) ++ bs) ≡ c ∷ characters false bs
-    at_slash true e q = ap (λ (x : ℕ). x ∷ characters false bs) (sym (is_equal c 92 e))
+    at_slash true e q = ap (λ (x : ℕ). x ∷ characters false bs) (sym (eqb-true c 92 e))
     at_slash false e q = at_line (c == 10) refl q e
 
     at_quote : (t : Bool) → (c == 34) ≡ t → characters false (cond t (92 ∷ 34 ∷ []) (cond (c == 92) (92 ∷ 92 ∷ []) (cond (c == 10) (92 ∷ 110 ∷ []) (cond (c == 9) (92 ∷ 116 ∷ []) (c ∷ [])))) ++ bs) ≡ c ∷ characters false bs
-    at_quote true e = ap (λ (x : ℕ). x ∷ characters false bs) (sym (is_equal c 34 e))
+    at_quote true e = ap (λ (x : ℕ). x ∷ characters false bs) (sym (eqb-true c 34 e))
     at_quote false e = at_slash (c == 92) refl e
 
 characters-escaped_all : (s rest : List ℕ) → characters false (escaped_all s ++ 34 ∷ rest) ≡ s

@@ -9,7 +9,6 @@ use Rattle.std.proofs.lemmas.Bool.Decides.{nat_tests}
 use Rattle.std.proofs.lemmas.Str.{IsCharBoundary-after_ascii}
 use Rattle.std.proofs.lemmas.List.Sums.{take_while-cons}
 use Rattle.xd_doc.specs.Word.{is_word_start, is_word_part, are_word_parts, is_word}
-use Rattle.xd_lex.proofs.Choices.{choose, is_equal, both, not_true, left_true, right_true}
 use Rattle.xd_lex.specs.declared.Kind.{Kind}
 use Rattle.xd_lex.specs.declared.Kind.TheVariants as kinds
 use Rattle.xd_lex.specs.declared.LexFault.{LexFault}
@@ -19,6 +18,7 @@ use Rattle.xd_lex.specs.declared.Front.TheVariants as fronts
 use Rattle.xd_lex.specs.Tokens.{is_last}
 use Rattle.xd_lex.specs.Spelled.{IsSpelling, are_pieces}
 use Rattle.xd_lex.specs.Scan.{quoted, commented, is_escape, is_blank, symbol, one_more, option_more, of_text, of_comment, of_symbol, front_of}
+use Rattle.std.proofs.lemmas.Bool.{and_parts, and_from, not_from_false, eqb-true, cond_both}
 
 -- n bytes stand at the front, and the last of them is ASCII
 pub record Reaches (bs : List ℕ) (n : ℕ) : Type 0 where
@@ -62,12 +62,12 @@ eq_41 false b h = cc
 quoted_reaches : (escaped : Bool) (bs : List ℕ) → IfReaches (quoted escaped bs) bs
 quoted_reaches true [] = tt
 quoted_reaches false [] = tt
-quoted_reaches true (b ∷ bs) = choose (λ r. IfReaches r (b ∷ bs)) (is_escape b) (one_more (quoted false bs)) (Err BadCharacter) (λ _. one_more_reaches b bs (quoted false bs) (quoted_reaches false bs)) (λ _. tt)
-quoted_reaches false (b ∷ bs) = choose (λ r. IfReaches r (b ∷ bs)) (b == 34) (Ok 1) (one_more (quoted (b == 92) bs)) (λ e. one b bs (eq_34 b e)) (λ _. one_more_reaches b bs (quoted (b == 92) bs) (quoted_reaches (b == 92) bs))
+quoted_reaches true (b ∷ bs) = cond_both (is_escape b) (one_more (quoted false bs)) (Err BadCharacter) (λ r. IfReaches r (b ∷ bs)) (λ _. one_more_reaches b bs (quoted false bs) (quoted_reaches false bs)) (λ _. tt)
+quoted_reaches false (b ∷ bs) = cond_both (b == 34) (Ok 1) (one_more (quoted (b == 92) bs)) (λ r. IfReaches r (b ∷ bs)) (λ e. one b bs (eq_34 b e)) (λ _. one_more_reaches b bs (quoted (b == 92) bs) (quoted_reaches (b == 92) bs))
 
 commented_reaches : (starred : Bool) (bs : List ℕ) → IfReachesOption (commented starred bs) bs
 commented_reaches starred [] = tt
-commented_reaches starred (b ∷ bs) = choose (λ r. IfReachesOption r (b ∷ bs)) (starred && (b == 41)) (Some 1) (option_more (commented (b == 42) bs)) (λ e. one b bs (eq_41 starred b e)) (λ _. option_more_reaches b bs (commented (b == 42) bs) (commented_reaches (b == 42) bs))
+commented_reaches starred (b ∷ bs) = cond_both (starred && (b == 41)) (Some 1) (option_more (commented (b == 42) bs)) (λ r. IfReachesOption r (b ∷ bs)) (λ e. one b bs (eq_41 starred b e)) (λ _. option_more_reaches b bs (commented (b == 42) bs) (commented_reaches (b == 42) bs))
 
 -- what stands at the front, in a text that is bs
 abbrev pub Fits : Front → List ℕ → Type 0
@@ -78,10 +78,10 @@ Fits (fronts.Fault f) bs = Unit {0}
 blank_ascii : (b : ℕ) → is_blank b ≡ true → b < 128
 blank_ascii b h = grind (arith, nat_tests)
 
-word_ascii : (b : ℕ) → is_word_part b ≡ true → b < 128
+pub word_ascii : (b : ℕ) → is_word_part b ≡ true → b < 128
 word_ascii b h = grind (arith, nat_tests)
 
-begins_ascii : (b : ℕ) → is_word_start b ≡ true → b < 128
+pub begins_ascii : (b : ℕ) → is_word_start b ≡ true → b < 128
 begins_ascii b h = grind (arith, nat_tests)
 
 -- a count of the bytes of pieces and of a closing quote
@@ -99,11 +99,11 @@ pieces_more b bs (Err x) e f g h = tt
 pub quoted_pieces : (escaped : Bool) (bs : List ℕ) → IfPieces (quoted escaped bs) escaped bs
 quoted_pieces true [] = tt
 quoted_pieces false [] = tt
-quoted_pieces true (b ∷ bs) = choose (λ r. IfPieces r true (b ∷ bs)) (is_escape b) (one_more (quoted false bs)) (Err BadCharacter) (λ e. pieces_more b bs (quoted false bs) false true (λ pieces h. both (is_escape b) (are_pieces false pieces) e h) (quoted_pieces false bs)) (λ _. tt)
+quoted_pieces true (b ∷ bs) = cond_both (is_escape b) (one_more (quoted false bs)) (Err BadCharacter) (λ r. IfPieces r true (b ∷ bs)) (λ e. pieces_more b bs (quoted false bs) false true (λ pieces h. and_from (is_escape b) (are_pieces false pieces) e h) (quoted_pieces false bs)) (λ _. tt)
 quoted_pieces false (b ∷ bs) =
-    choose (λ r. IfPieces r false (b ∷ bs)) (b == 34) (Ok 1) (one_more (quoted (b == 92) bs))
-    (λ e. ([], refl, ap (λ (c : ℕ). c ∷ []) (is_equal b 34 e)))
-    (λ e. pieces_more b bs (quoted (b == 92) bs) (b == 92) false (λ pieces h. both (not (b == 34)) (are_pieces (b == 92) pieces) (not_true (b == 34) e) h) (quoted_pieces (b == 92) bs))
+    cond_both (b == 34) (Ok 1) (one_more (quoted (b == 92) bs)) (λ r. IfPieces r false (b ∷ bs))
+    (λ e. ([], refl, ap (λ (c : ℕ). c ∷ []) (eqb-true b 34 e)))
+    (λ e. pieces_more b bs (quoted (b == 92) bs) (b == 92) false (λ pieces h. and_from (not (b == 34)) (are_pieces (b == 92) pieces) (not_from_false (b == 34) e) h) (quoted_pieces (b == 92) bs))
 
 text_fits : (b : ℕ) (bs : List ℕ) (r : Result ℕ LexFault) → b ≡ 34 → IfReaches r bs → IfPieces r false bs → Fits (of_text r) (b ∷ bs)
 text_fits b bs (Ok n) e h q = (further b bs n h, refl, (q.0, q.1, take_more b bs n ∙ ap (λ (xs : List ℕ). b ∷ xs) q.2 ∙ ap (λ (c : ℕ). c ∷ (q.0 ++ 34 ∷ [])) e))
@@ -123,15 +123,15 @@ parts_of [] = refl
 parts_of (b ∷ bs) = rw take_while-cons (at_first (is_word_part b) refl (parts_of bs))
   where
     at_first : (c : Bool) → is_word_part b ≡ c → are_word_parts (take_while is_word_part bs) ≡ true → are_word_parts (cond c (b ∷ take_while is_word_part bs) []) ≡ true
-    at_first true e h = both (is_word_part b) (are_word_parts (take_while is_word_part bs)) e h
+    at_first true e h = and_from (is_word_part b) (are_word_parts (take_while is_word_part bs)) e h
     at_first false e h = refl
 
 word_of : (b : ℕ) (bs : List ℕ) → is_word_start b ≡ true → is_word (take (length (take_while is_word_part bs) + 1) (b ∷ bs)) ≡ true
-word_of b bs e = rw (take_more b bs (length (take_while is_word_part bs)), taken is_word_part bs) (both (is_word_start b) (are_word_parts (take_while is_word_part bs)) e (parts_of bs))
+word_of b bs e = rw (take_more b bs (length (take_while is_word_part bs)), taken is_word_part bs) (and_from (is_word_start b) (are_word_parts (take_while is_word_part bs)) e (parts_of bs))
 
 with_bracket : (bs : List ℕ) (n : ℕ) → (slice_index bs n == 91) ≡ true → take (n + 1) bs ≡ take n bs ++ 91 ∷ []
 with_bracket [] n h = cc
-with_bracket (b ∷ bs) zero h = ap (λ (c : ℕ). c ∷ []) (is_equal b 91 h)
+with_bracket (b ∷ bs) zero h = ap (λ (c : ℕ). c ∷ []) (eqb-true b 91 h)
 with_bracket (b ∷ bs) (suc n) h = take_more b bs (suc n) ∙ ap (λ (xs : List ℕ). b ∷ xs) (let e : suc n ≡ n + 1 = omega arith in rw e (with_bracket bs n h))
 
 comment_fits : (b : ℕ) (bs : List ℕ) (r : Option ℕ) → 0 < length bs → IfReachesOption r (drop 1 bs) → Fits (of_comment r) (b ∷ bs)
@@ -168,7 +168,7 @@ IfAscii (Some k) b = (b < 128) × (is_last k ≡ false) × IsSpelling k (b ∷ [
 IfAscii None b = Unit {0}
 
 choose_ascii : (b k : ℕ) (kind : Kind) (y : Option Kind) → k < 128 → is_last kind ≡ false → IsSpelling kind (k ∷ []) → IfAscii y b → IfAscii (cond (b == k) (Some kind) y) b
-choose_ascii b k kind y lt more spelled h = choose (λ o. IfAscii o b) (b == k) (Some kind) y (λ e. (eq_ascii b k lt e, more, subst (λ (c : ℕ). IsSpelling kind (c ∷ [])) (sym (is_equal b k e)) spelled)) (λ _. h)
+choose_ascii b k kind y lt more spelled h = cond_both (b == k) (Some kind) y (λ o. IfAscii o b) (λ e. (eq_ascii b k lt e, more, subst (λ (c : ℕ). IsSpelling kind (c ∷ [])) (sym (eqb-true b k e)) spelled)) (λ _. h)
 
 symbol_ascii : (b : ℕ) → IfAscii (symbol b) b
 unfolding symbol
@@ -184,10 +184,10 @@ arrow b [] h = cc
 arrow b (c ∷ bs) h = further b (c ∷ bs) 1 (one c bs (eq_ascii c 62 (omega arith) h))
 
 arrow_spelled : (b : ℕ) (bs : List ℕ) → ((b == 45) && (slice_index bs 0 == 62)) ≡ true → take 2 (b ∷ bs) ≡ 45 ∷ 62 ∷ []
-arrow_spelled b [] h = absurd (let r : (slice_index [] 0 == 62) ≡ true = right_true (b == 45) (slice_index [] 0 == 62) h in cc)
+arrow_spelled b [] h = absurd (let r : (slice_index [] 0 == 62) ≡ true = (and_parts (b == 45) (slice_index [] 0 == 62) h).1 in cc)
 arrow_spelled b (c ∷ bs) h =
-    let l : b ≡ 45 = is_equal b 45 (left_true (b == 45) (c == 62) h) in
-    let r : c ≡ 62 = is_equal c 62 (right_true (b == 45) (c == 62) h) in
+    let l : b ≡ 45 = eqb-true b 45 (and_parts (b == 45) (c == 62) h).0 in
+    let r : c ≡ 62 = eqb-true c 62 (and_parts (b == 45) (c == 62) h).1 in
     ap (λ (x : ℕ). x ∷ c ∷ []) l ∙ ap (λ (x : ℕ). 45 ∷ x ∷ []) r
 
 abbrev last_front : ℕ → List ℕ → Front
@@ -197,10 +197,10 @@ pub fits : (b : ℕ) (bs : List ℕ) → Fits (front_of b bs) (b ∷ bs)
 unfolding front_of
 fits b bs =
     choose_fits _ _ _ _ (λ e. one b bs (blank_ascii b e)) (λ _.
-    choose_fits _ _ _ _ (λ e. comment_fits b bs (commented false (drop 1 bs)) (nonempty bs (right_true (b == 40) (slice_index bs 0 == 42) e)) (commented_reaches false (drop 1 bs))) (λ _.
+    choose_fits _ _ _ _ (λ e. comment_fits b bs (commented false (drop 1 bs)) (nonempty bs (and_parts (b == 40) (slice_index bs 0 == 42) e).1) (commented_reaches false (drop 1 bs))) (λ _.
     choose_fits _ _ _ _ (λ e. let n = length (take_while is_word_part bs) + 1 in choose_fits (b ∷ bs) (slice_index (b ∷ bs) n == 91) (fronts.Token kinds.Label (n + 1)) (fronts.Token kinds.Word n) (λ h. (bracket_at (b ∷ bs) n h, refl, (take n (b ∷ bs), word_of b bs e, with_bracket (b ∷ bs) n h))) (λ _. (word_reaches b bs (begins_ascii b e), refl, word_of b bs e))) (λ _.
-    choose_fits (b ∷ bs) (b == 34) (of_text (quoted false bs)) (last_front b bs) (λ e. text_fits b bs (quoted false bs) (is_equal b 34 e) (quoted_reaches false bs) (quoted_pieces false bs)) (λ _.
-    choose_fits (b ∷ bs) ((b == 45) && (slice_index bs 0 == 62)) (fronts.Token kinds.Arrow 2) (of_symbol (symbol b)) (λ e. (arrow b bs (right_true (b == 45) (slice_index bs 0 == 62) e), refl, arrow_spelled b bs e)) (λ _.
+    choose_fits (b ∷ bs) (b == 34) (of_text (quoted false bs)) (last_front b bs) (λ e. text_fits b bs (quoted false bs) (eqb-true b 34 e) (quoted_reaches false bs) (quoted_pieces false bs)) (λ _.
+    choose_fits (b ∷ bs) ((b == 45) && (slice_index bs 0 == 62)) (fronts.Token kinds.Arrow 2) (of_symbol (symbol b)) (λ e. (arrow b bs (and_parts (b == 45) (slice_index bs 0 == 62) e).1, refl, arrow_spelled b bs e)) (λ _.
     symbol_fits b bs (symbol b) (symbol_ascii b))))))
 
 -- so the text may be cut there

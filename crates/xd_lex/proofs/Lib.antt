@@ -1,4 +1,3 @@
-pub mod Choices
 pub mod Scans
 pub mod Fronts
 pub mod Froms

@@ -7,16 +7,9 @@ use Rattle.std.specs.Str.{IsCharBoundary}
 use Rattle.std.proofs.lemmas.Str.{IsCharBoundary-after_ascii}
 use Rattle.std.proofs.lemmas.List.{take_all, drop_all, append-nil, get_or-drop}
 use Rattle.std.proofs.lemmas.Bool.Decides.{nat_tests}
-use Rattle.xd_lex.proofs.Choices.{left_true, right_true}
 use Rattle.xd_lex.specs.Scan.{is_escape}
 use Rattle.xd_lex.specs.Spelled.{are_pieces, characters, escape_meaning, unescaped}
-
-not_false : (a : Bool) → not a ≡ true → a ≡ false
-not_false false h = refl
-not_false true h = cc
-
-differs : (b : ℕ) → b ≢ 92 → (b == 92) ≡ false
-differs b h = grind (arith, nat_tests)
+use Rattle.std.proofs.lemmas.Bool.{and_parts, not-true, ne_eqb}
 
 -- pieces may be cut behind their first n bytes, and the first n stand for themselves
 pub record IsPlain (pieces : List ℕ) (n : ℕ) : Type 0 where
@@ -28,9 +21,9 @@ plain [] zero h l before = record { behind = h; same = refl }
 plain [] (suc n) h l before = absurd (omega arith)
 plain (b ∷ bs) zero h l before = record { behind = h; same = refl }
 plain (b ∷ bs) (suc n) h l before =
-    let e : (b == 92) ≡ false = differs b (before 0 (omega arith)) in
-    let q : (b == 34) ≡ false = not_false (b == 34) (left_true (not (b == 34)) (are_pieces (b == 92) bs) h) in
-    let g : are_pieces false bs ≡ true = ap (λ (x : Bool). are_pieces x bs) (sym e) ∙ right_true (not (b == 34)) (are_pieces (b == 92) bs) h in
+    let e : (b == 92) ≡ false = ne_eqb b 92 (before 0 (omega arith)) in
+    let q : (b == 34) ≡ false = not-true (b == 34) (and_parts (not (b == 34)) (are_pieces (b == 92) bs) h).0 in
+    let g : are_pieces false bs ≡ true = ap (λ (x : Bool). are_pieces x bs) (sym e) ∙ (and_parts (not (b == 34)) (are_pieces (b == 92) bs) h).1 in
     let r : IsPlain bs n = plain bs n g (omega arith) (λ k lt. before (suc k) (omega arith)) in
     record { behind = r.behind; same = rw (q, e) (ap (λ (xs : List ℕ). b ∷ xs) r.same) }
 
@@ -45,8 +38,8 @@ escape_behind : (bs : List ℕ) → are_pieces true bs ≡ true → IsEscape (92
 escape_behind [] h = cc
 escape_behind (c ∷ bs) h = record {
   two = omega arith;
-  escape = left_true (is_escape c) (are_pieces false bs) h;
-  behind = right_true (is_escape c) (are_pieces false bs) h;
+  escape = (and_parts (is_escape c) (are_pieces false bs) h).0;
+  behind = (and_parts (is_escape c) (are_pieces false bs) h).1;
   same = refl;
 }
 

@@ -18,8 +18,8 @@ use Rattle.xd_lex.specs.Tokens.{Lexeme, is_last, start, past, tokens_from}
 use Rattle.xd_lex.specs.Reading.{HasNoEnd, IsComment, IsGap, blank, comment, EndsBefore, Reads, end, gap, token, broken, IsFault, BeginsNothing, TokensAreRead, HasOneLast, OneLast}
 use Rattle.xd_lex.specs.Spelled.{IsSpelling, are_pieces}
 use Rattle.xd_lex.proofs.Fronts.{Fits, fits}
-use Rattle.xd_lex.proofs.Choices.{choose, is_equal, differs, both, not_true, left_true, right_true}
 use Rattle.xd_lex.proofs.Froms.{first, at_gap, at_token, at_fault}
+use Rattle.std.proofs.lemmas.Bool.{and_parts, and_from, not_from_false, eqb-true, eqb-false, cond_both}
 
 -- what stands at the front, in the words of the grammar
 abbrev Stands : Front → List ℕ → Type 0
@@ -62,8 +62,8 @@ end_more c b bs None h i = tt
 commented_end : (c : ℕ) (bs : List ℕ) → IfEnd c (commented (c == 42) bs) bs
 commented_end c [] = tt
 commented_end c (b ∷ bs) =
-    choose (λ r. IfEnd c r (b ∷ bs)) ((c == 42) && (b == 41)) (Some 1) (option_more (commented (b == 42) bs))
-    (λ e. ([], star_alone, ap (λ (x : ℕ). x ∷ b ∷ []) (is_equal c 42 (left_true (c == 42) (b == 41) e)) ∙ ap (λ (x : ℕ). 42 ∷ x ∷ []) (is_equal b 41 (right_true (c == 42) (b == 41) e))))
+    cond_both ((c == 42) && (b == 41)) (Some 1) (option_more (commented (b == 42) bs)) (λ r. IfEnd c r (b ∷ bs))
+    (λ e. ([], star_alone, ap (λ (x : ℕ). x ∷ b ∷ []) (eqb-true c 42 (and_parts (c == 42) (b == 41) e).0) ∙ ap (λ (x : ℕ). 42 ∷ x ∷ []) (eqb-true b 41 (and_parts (c == 42) (b == 41) e).1)))
     (λ e. end_more c b bs (commented (b == 42) bs) e (commented_end b bs))
 
 -- a comment that has no end
@@ -95,18 +95,18 @@ IfBad escaped (Err OpenComment) bs = ⊥
 
 bad_behind_escape : (b : ℕ) (bs : List ℕ) (r : Result ℕ LexFault) → is_escape b ≡ true → IfBad false r bs → IfBad true (one_more r) (b ∷ bs)
 bad_behind_escape b bs (Ok n) e h = tt
-bad_behind_escape b bs (Err OpenText) e h = (h.0, both (is_escape b) (are_pieces false (bs ++ h.0)) e h.1)
-bad_behind_escape b bs (Err BadCharacter) e h = inr (b ∷ h.0, h.1, h.2, both (is_escape b) (are_pieces false h.0) e h.3, h.4, ap (λ (xs : List ℕ). b ∷ xs) h.5)
+bad_behind_escape b bs (Err OpenText) e h = (h.0, and_from (is_escape b) (are_pieces false (bs ++ h.0)) e h.1)
+bad_behind_escape b bs (Err BadCharacter) e h = inr (b ∷ h.0, h.1, h.2, and_from (is_escape b) (are_pieces false h.0) e h.3, h.4, ap (λ (xs : List ℕ). b ∷ xs) h.5)
 bad_behind_escape b bs (Err OpenComment) e h = absurd h
 
 wrong_more : (b : ℕ) (bs : List ℕ) (t : Bool) → (b == 92) ≡ t → (b == 34) ≡ false → WrongEscape t bs → WrongEscape false (b ∷ bs)
-wrong_more b bs false e q h = (b ∷ h.0, h.1, h.2, both (not (b == 34)) (are_pieces (b == 92) h.0) (not_true (b == 34) q) (ap (λ (x : Bool). are_pieces x h.0) e ∙ h.3), h.4, ap (λ (xs : List ℕ). b ∷ xs) h.5)
-wrong_more b bs true e q (inl h) = ([], h.0, h.1, refl, h.2, ap (λ (xs : List ℕ). b ∷ xs) h.3 ∙ ap (λ (x : ℕ). x ∷ h.0 ∷ h.1) (is_equal b 92 e))
-wrong_more b bs true e q (inr h) = (b ∷ h.0, h.1, h.2, both (not (b == 34)) (are_pieces (b == 92) h.0) (not_true (b == 34) q) (ap (λ (x : Bool). are_pieces x h.0) e ∙ h.3), h.4, ap (λ (xs : List ℕ). b ∷ xs) h.5)
+wrong_more b bs false e q h = (b ∷ h.0, h.1, h.2, and_from (not (b == 34)) (are_pieces (b == 92) h.0) (not_from_false (b == 34) q) (ap (λ (x : Bool). are_pieces x h.0) e ∙ h.3), h.4, ap (λ (xs : List ℕ). b ∷ xs) h.5)
+wrong_more b bs true e q (inl h) = ([], h.0, h.1, refl, h.2, ap (λ (xs : List ℕ). b ∷ xs) h.3 ∙ ap (λ (x : ℕ). x ∷ h.0 ∷ h.1) (eqb-true b 92 e))
+wrong_more b bs true e q (inr h) = (b ∷ h.0, h.1, h.2, and_from (not (b == 34)) (are_pieces (b == 92) h.0) (not_from_false (b == 34) q) (ap (λ (x : Bool). are_pieces x h.0) e ∙ h.3), h.4, ap (λ (xs : List ℕ). b ∷ xs) h.5)
 
 bad_behind : (b : ℕ) (bs : List ℕ) (r : Result ℕ LexFault) → (b == 34) ≡ false → IfBad (b == 92) r bs → IfBad false (one_more r) (b ∷ bs)
 bad_behind b bs (Ok n) q h = tt
-bad_behind b bs (Err OpenText) q h = (h.0, both (not (b == 34)) (are_pieces (b == 92) (bs ++ h.0)) (not_true (b == 34) q) h.1)
+bad_behind b bs (Err OpenText) q h = (h.0, and_from (not (b == 34)) (are_pieces (b == 92) (bs ++ h.0)) (not_from_false (b == 34) q) h.1)
 bad_behind b bs (Err BadCharacter) q h = wrong_more b bs (b == 92) refl q h
 bad_behind b bs (Err OpenComment) q h = absurd h
 
@@ -119,8 +119,8 @@ open_plain = ([], refl)
 quoted_bad : (escaped : Bool) (bs : List ℕ) → IfBad escaped (quoted escaped bs) bs
 quoted_bad true [] = open_slash
 quoted_bad false [] = open_plain
-quoted_bad true (b ∷ bs) = choose (λ r. IfBad true r (b ∷ bs)) (is_escape b) (one_more (quoted false bs)) (Err BadCharacter) (λ e. bad_behind_escape b bs (quoted false bs) e (quoted_bad false bs)) (λ e. inl (b, bs, e, refl))
-quoted_bad false (b ∷ bs) = choose (λ r. IfBad false r (b ∷ bs)) (b == 34) (Ok 1) (one_more (quoted (b == 92) bs)) (λ e. tt) (λ e. bad_behind b bs (quoted (b == 92) bs) e (quoted_bad (b == 92) bs))
+quoted_bad true (b ∷ bs) = cond_both (is_escape b) (one_more (quoted false bs)) (Err BadCharacter) (λ r. IfBad true r (b ∷ bs)) (λ e. bad_behind_escape b bs (quoted false bs) e (quoted_bad false bs)) (λ e. inl (b, bs, e, refl))
+quoted_bad false (b ∷ bs) = cond_both (b == 34) (Ok 1) (one_more (quoted (b == 92) bs)) (λ r. IfBad false r (b ∷ bs)) (λ e. tt) (λ e. bad_behind b bs (quoted (b == 92) bs) e (quoted_bad (b == 92) bs))
 
 text_stands : (b : ℕ) (bs : List ℕ) (r : Result ℕ LexFault) → b ≡ 34 → IfBad false r bs → Stands (of_text r) (b ∷ bs)
 text_stands b bs (Ok n) e h = tt
@@ -146,7 +146,7 @@ no_word : (b : ℕ) (bs text rest : List ℕ) → is_word_start b ≡ false → 
 no_word b bs [] rest n w e = cc
 no_word b bs (x ∷ xs) rest n w e =
     let front : b ≡ x = ap (λ (ys : List ℕ). get_or ys 0 0) e in
-    let start : is_word_start x ≡ true = left_true (is_word_start x) (are_word_parts xs) w in
+    let start : is_word_start x ≡ true = (and_parts (is_word_start x) (are_word_parts xs) w).0 in
     let same : is_word_start b ≡ is_word_start x = ap is_word_start front in
     absurd (true_is_false (is_word_start b) n (same ∙ start))
   where
@@ -166,7 +166,7 @@ no_token_there : (b : ℕ) (bs : List ℕ) → Strange b bs → (kind : Kind) (t
 unfolding symbol
 no_token_there b bs n kinds.Word t r s l e = no_word b bs t r n.word_no s e
 no_token_there b bs n kinds.Label t r s l e = no_word b bs s.0 (91 ∷ r) n.word_no s.1 (e ∙ ap (λ (xs : List ℕ). xs ++ r) s.2 ∙ append_assoc s.0 (91 ∷ []) r)
-no_token_there b bs n kinds.Text t r s l e = differs b 34 n.quote_no (ap (λ (xs : List ℕ). get_or xs 0 0) (e ∙ ap (λ (xs : List ℕ). xs ++ r) s.2))
+no_token_there b bs n kinds.Text t r s l e = eqb-false b 34 n.quote_no (ap (λ (xs : List ℕ). get_or xs 0 0) (e ∙ ap (λ (xs : List ℕ). xs ++ r) s.2))
 no_token_there b bs n kinds.ParenL t r s l e = no_symbol b bs t r 40 kinds.ParenL refl n.symbol_no s e
 no_token_there b bs n kinds.ParenR t r s l e = no_symbol b bs t r 41 kinds.ParenR refl n.symbol_no s e
 no_token_there b bs n kinds.BracketL t r s l e = no_symbol b bs t r 91 kinds.BracketL refl n.symbol_no s e
@@ -185,7 +185,7 @@ no_token_there b bs n kinds.End t r s l e = absurd (omega (arith, ap length s))
 no_token_there b bs n (kinds.Broken f) t r s l e = absurd (omega (arith, ap length s))
 
 strange_stands : (b : ℕ) (bs : List ℕ) → Strange b bs → BeginsNothing (b ∷ bs)
-strange_stands b bs n = record { some = omega arith; no_blank = n.blank_no; no_quote = differs b 34 n.quote_no; no_token = no_token_there b bs n }
+strange_stands b bs n = record { some = omega arith; no_blank = n.blank_no; no_quote = eqb-false b 34 n.quote_no; no_token = no_token_there b bs n }
 
 -- behind the `(*`
 comment_stands : (b c : ℕ) (bs : List ℕ) (r : Option ℕ) → b ≡ 40 → c ≡ 42 → IfEnd 0 r bs → (r ≡ None → HasNoEnd (0 ∷ bs)) → Stands (of_comment r) (b ∷ c ∷ bs)
@@ -219,39 +219,39 @@ IfEnds (Some k) bs = EndsBefore k bs
 IfEnds None bs = Unit {0}
 
 no_star : (b : ℕ) (bs : List ℕ) → ((b == 40) && (slice_index bs 0 == 42)) ≡ false → (b == 40) ≡ true → slice_index bs 0 ≢ 42
-no_star b bs h e = differs (slice_index bs 0) 42 (ap (λ (x : Bool). x && (slice_index bs 0 == 42)) (sym e) ∙ h)
+no_star b bs h e = eqb-false (slice_index bs 0) 42 (ap (λ (x : Bool). x && (slice_index bs 0 == 42)) (sym e) ∙ h)
 
 symbol_ends : (b : ℕ) (bs : List ℕ) → ((b == 40) && (slice_index bs 0 == 42)) ≡ false → IfEnds (symbol b) bs
 unfolding symbol
 symbol_ends b bs h =
-    choose (λ o. IfEnds o bs) (b == 40) _ _ (no_star b bs h) (λ _.
-    choose (λ o. IfEnds o bs) (b == 41) _ _ (λ _. tt) (λ _.
-    choose (λ o. IfEnds o bs) (b == 91) _ _ (λ _. tt) (λ _.
-    choose (λ o. IfEnds o bs) (b == 93) _ _ (λ _. tt) (λ _.
-    choose (λ o. IfEnds o bs) (b == 44) _ _ (λ _. tt) (λ _.
-    choose (λ o. IfEnds o bs) (b == 124) _ _ (λ _. tt) (λ _.
-    choose (λ o. IfEnds o bs) (b == 42) _ _ (λ _. tt) (λ _.
-    choose (λ o. IfEnds o bs) (b == 43) _ _ (λ _. tt) (λ _.
-    choose (λ o. IfEnds o bs) (b == 63) _ _ (λ _. tt) (λ _.
-    choose (λ o. IfEnds o bs) (b == 61) _ _ (λ _. tt) (λ _.
-    choose (λ o. IfEnds o bs) (b == 58) _ _ (λ _. tt) (λ _.
-    choose (λ o. IfEnds o bs) (b == 126) _ _ (λ _. tt) (λ _.
-    choose (λ o. IfEnds o bs) (b == 94) _ _ (λ _. tt) (λ _. tt)))))))))))))
+    cond_both (b == 40) _ _ (λ o. IfEnds o bs) (no_star b bs h) (λ _.
+    cond_both (b == 41) _ _ (λ o. IfEnds o bs) (λ _. tt) (λ _.
+    cond_both (b == 91) _ _ (λ o. IfEnds o bs) (λ _. tt) (λ _.
+    cond_both (b == 93) _ _ (λ o. IfEnds o bs) (λ _. tt) (λ _.
+    cond_both (b == 44) _ _ (λ o. IfEnds o bs) (λ _. tt) (λ _.
+    cond_both (b == 124) _ _ (λ o. IfEnds o bs) (λ _. tt) (λ _.
+    cond_both (b == 42) _ _ (λ o. IfEnds o bs) (λ _. tt) (λ _.
+    cond_both (b == 43) _ _ (λ o. IfEnds o bs) (λ _. tt) (λ _.
+    cond_both (b == 63) _ _ (λ o. IfEnds o bs) (λ _. tt) (λ _.
+    cond_both (b == 61) _ _ (λ o. IfEnds o bs) (λ _. tt) (λ _.
+    cond_both (b == 58) _ _ (λ o. IfEnds o bs) (λ _. tt) (λ _.
+    cond_both (b == 126) _ _ (λ o. IfEnds o bs) (λ _. tt) (λ _.
+    cond_both (b == 94) _ _ (λ o. IfEnds o bs) (λ _. tt) (λ _. tt)))))))))))))
 
 symbol_stands : (b : ℕ) (bs : List ℕ) (o : Option Kind) → IfEnds o bs → (o ≡ None → BeginsNothing (b ∷ bs)) → Stands (of_symbol o) (b ∷ bs)
 symbol_stands b bs (Some k) h n = h
 symbol_stands b bs None h n = inr (n refl)
 
 comment_front : (b : ℕ) (bs : List ℕ) → ((b == 40) && (slice_index bs 0 == 42)) ≡ true → Stands (of_comment (commented false (drop 1 bs))) (b ∷ bs)
-comment_front b [] h = absurd (let r : (slice_index [] 0 == 42) ≡ true = right_true (b == 40) (slice_index [] 0 == 42) h in cc)
-comment_front b (c ∷ bs) h = comment_stands b c bs (commented false bs) (is_equal b 40 (left_true (b == 40) (c == 42) h)) (is_equal c 42 (right_true (b == 40) (c == 42) h)) (commented_end 0 bs) (no_end 0 bs)
+comment_front b [] h = absurd (let r : (slice_index [] 0 == 42) ≡ true = (and_parts (b == 40) (slice_index [] 0 == 42) h).1 in cc)
+comment_front b (c ∷ bs) h = comment_stands b c bs (commented false bs) (eqb-true b 40 (and_parts (b == 40) (c == 42) h).0) (eqb-true c 42 (and_parts (b == 40) (c == 42) h).1) (commented_end 0 bs) (no_end 0 bs)
 
 word_stands : (b : ℕ) (bs : List ℕ) → Stands (of_word (b ∷ bs) (length (take_while is_word_part bs) + 1)) (b ∷ bs)
 word_stands b bs =
     let n = length (take_while is_word_part bs) + 1 in
-    choose (λ f. Stands f (b ∷ bs)) (slice_index (b ∷ bs) n == 91) (fronts.Token kinds.Label (n + 1)) (fronts.Token kinds.Word n)
+    cond_both (slice_index (b ∷ bs) n == 91) (fronts.Token kinds.Label (n + 1)) (fronts.Token kinds.Word n) (λ f. Stands f (b ∷ bs))
     (λ e. tt)
-    (λ e. ((let s : n ≡ suc (length (take_while is_word_part bs)) = omega arith in rw s (word_ends bs)), rw (front_of_rest (b ∷ bs) n) (differs (slice_index (b ∷ bs) n) 91 e)))
+    (λ e. ((let s : n ≡ suc (length (take_while is_word_part bs)) = omega arith in rw s (word_ends bs)), rw (front_of_rest (b ∷ bs) n) (eqb-false (slice_index (b ∷ bs) n) 91 e)))
 
 choose_stands : (bs : List ℕ) (c : Bool) (x y : Front) → (c ≡ true → Stands x bs) → (c ≡ false → Stands y bs) → Stands (cond c x y) bs
 choose_stands bs true x y f g = f refl
@@ -266,7 +266,7 @@ stands b bs =
     choose_stands (b ∷ bs) (is_blank b) (fronts.Gap 1) _ (λ e. blank {b = b} e) (λ blank_no.
     choose_stands (b ∷ bs) ((b == 40) && (slice_index bs 0 == 42)) (of_comment (commented false (drop 1 bs))) _ (comment_front b bs) (λ none.
     choose_stands (b ∷ bs) (is_word_start b) (of_word (b ∷ bs) (length (take_while is_word_part bs) + 1)) _ (λ _. word_stands b bs) (λ word_no.
-    choose_stands (b ∷ bs) (b == 34) (of_text (quoted false bs)) (last_front_of b bs) (λ e. text_stands b bs (quoted false bs) (is_equal b 34 e) (quoted_bad false bs)) (λ quote_no.
+    choose_stands (b ∷ bs) (b == 34) (of_text (quoted false bs)) (last_front_of b bs) (λ e. text_stands b bs (quoted false bs) (eqb-true b 34 e) (quoted_bad false bs)) (λ quote_no.
     choose_stands (b ∷ bs) ((b == 45) && (slice_index bs 0 == 62)) (fronts.Token kinds.Arrow 2) (of_symbol (symbol b)) (λ _. tt) (λ arrow_no.
     symbol_stands b bs (symbol b) (symbol_ends b bs none) (λ e. strange_stands b bs (record { blank_no = blank_no; word_no = word_no; quote_no = quote_no; arrow_no = arrow_no; symbol_no = e })))))))
 

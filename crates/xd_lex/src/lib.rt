@@ -58,6 +58,3 @@ enum Front {
     Token(Kind, usize),
     Fault(LexFault),
 }
-
-#[cfg(test)]
-mod tests;

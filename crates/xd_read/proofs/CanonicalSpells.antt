@@ -12,7 +12,8 @@ use Rattle.xd_lex.proofs.Escapes.{unescaped-escaped}
 use Rattle.xd_lex.proofs.Canonical.{tokens-quoted, tokens-label, tokens-comma, tokens-bracket_r, tokens-parens}
 use Rattle.xd_read.specs.Grammar.{Terminal, Text, Label, BracketR, Comma, Standing, Content, Behind, Items, Spells}
 use Rattle.xd_read.specs.Reading.{terminals_of, word_of, BytesSpell}
-use Rattle.xd_read.proofs.CanonicalLemmas.{and_left, and_right, canonical_text_utf8}
+use Rattle.xd_read.proofs.CanonicalLemmas.{canonical_text_utf8}
+use Rattle.std.proofs.lemmas.Bool.{and_parts}
 
 -- the terminals of a text that begins at this place
 abbrev terminals_at : Place → List ℕ → List Terminal
@@ -64,19 +65,19 @@ content_at : (d : Document) (p : Place) (rest : List ℕ) → is_proper d ≡ tr
 content_at empty p rest h = record { next = p; items = inl refl }
 content_at (text s r) p rest h =
     let after = behind_text r ++ rest in
-    let b = behind_by r rest (λ q. content_at r q rest (and_right (is_utf8 s) (is_proper r) h)) (past p (34 ∷ escaped_all s ++ 34 ∷ [])) in
+    let b = behind_by r rest (λ q. content_at r q rest (and_parts (is_utf8 s) (is_proper r) h).1) (past p (34 ∷ escaped_all s ++ 34 ∷ [])) in
     record { next = b.next; items = (terminals_at (past p (34 ∷ escaped_all s ++ 34 ∷ [])) after, ap (terminals_at p) (text_parts s r rest) ∙ quoted_at p s after, b.items) }
 content_at (element l c r) p rest h =
     let after = behind_text r ++ rest in
-    let both = and_right (is_word l) (is_proper c && is_proper r) h in
-    let k = content_at c (past p (l ++ 91 ∷ [])) (93 ∷ after) (and_left (is_proper c) (is_proper r) both) in
-    let b = behind_by r rest (λ q. content_at r q rest (and_right (is_proper c) (is_proper r) both)) (past k.next (93 ∷ [])) in
+    let both = (and_parts (is_word l) (is_proper c && is_proper r) h).1 in
+    let k = content_at c (past p (l ++ 91 ∷ [])) (93 ∷ after) (and_parts (is_proper c) (is_proper r) both).0 in
+    let b = behind_by r rest (λ q. content_at r q rest (and_parts (is_proper c) (is_proper r) both).1) (past k.next (93 ∷ [])) in
     record {
       next = b.next;
       items = (
         terminals_at (past p (l ++ 91 ∷ [])) (items_text c ++ (93 ∷ after)),
         terminals_at (past k.next (93 ∷ [])) after,
-        ap (terminals_at p) (element_parts l c r rest) ∙ label_at p l (items_text c ++ (93 ∷ after)) (and_left (is_word l) (is_proper c && is_proper r) h),
+        ap (terminals_at p) (element_parts l c r rest) ∙ label_at p l (items_text c ++ (93 ∷ after)) (and_parts (is_word l) (is_proper c && is_proper r) h).0,
         subst (λ (ts : List Terminal). Items Content c (terminals_at (past p (l ++ 91 ∷ [])) (items_text c ++ (93 ∷ after))) ts) (bracket_at k.next after) k.items,
         b.items,
       );

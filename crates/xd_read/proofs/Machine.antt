@@ -6,16 +6,8 @@ use Rattle.xd_read.specs.Grammar.{Terminal, Text, Label, ParenL, ParenR, Bracket
 use Rattle.xd_read.specs.Completes.{Frame, Rest, Up, Completes}
 use Rattle.xd_read.specs.declared.moves.Expect.{Expect}
 use Rattle.xd_read.specs.declared.moves.Expect.TheVariants as expects
-
-join-empty : (d : Document) → join d empty ≡ d
-join-empty empty = refl
-join-empty (text s r) = ap (text s) (join-empty r)
-join-empty (element l c r) = ap (element l c) (join-empty r)
-
-join_assoc : (a b c : Document) → join (join a b) c ≡ join a (join b c)
-join_assoc empty b c = refl
-join_assoc (text s r) b c = ap (text s) (join_assoc r b c)
-join_assoc (element l k r) b c = ap (element l k) (join_assoc r b c)
+use Rattle.xd_doc.proofs.Joins.{join_empty-right, join_assoc}
+use Rattle.xd_doc.proofs.Lists.{not_nil, same_first, same_rest}
 
 pub data State : Type 0 where
   At : Expect → Document → List Frame → State
@@ -63,20 +55,11 @@ abbrev pub Goes : Option State → List Terminal → Document → Type 0
 Goes (Some s) ts d = CompletesFrom s ts d
 Goes None ts d = ⊥
 
-nil_cons : (t : Terminal) (ts : List Terminal) → [] ≡ t ∷ ts → ⊥
-nil_cons t ts e = cc
-
-head_is : (t u : Terminal) (ts us : List Terminal) → t ∷ ts ≡ u ∷ us → t ≡ u
-head_is t u ts us e = cc
-
-tail_is : (t u : Terminal) (ts us : List Terminal) → t ∷ ts ≡ u ∷ us → ts ≡ us
-tail_is t u ts us e = cc
-
 -- what closes
 close_forward : (fs : List Frame) (inner : Document) (t : Terminal) (ts : List Terminal) (d : Document) → Up fs inner (t ∷ ts) d → Goes (close fs inner t) ts d
-close_forward [] inner t ts d u = rw (head_is _ _ _ _ u.0) (tail_is _ _ _ _ u.0, u.1)
+close_forward [] inner t ts d u = rw (same_first _ _ _ _ u.0) (same_rest _ _ _ _ u.0, u.1)
 close_forward (f ∷ fs) inner t ts d u =
-    rw (head_is _ _ _ _ u.3) (u.1, u.2, rw (tail_is _ _ _ _ u.3) u.4, u.5)
+    rw (same_first _ _ _ _ u.3) (u.1, u.2, rw (same_rest _ _ _ _ u.3) u.4, u.5)
 
 close_backward : (fs : List Frame) (inner : Document) (t : Terminal) (ts : List Terminal) (d : Document) → Goes (close fs inner t) ts d → Up fs inner (t ∷ ts) d
 close_backward [] inner End ts d g = (ap (λ (us : List Terminal). End ∷ us) g.0, g.1)
@@ -93,11 +76,11 @@ pushed_elem front l c r = sym (join_assoc front (element l c empty) r)
 -- a text is left
 text_forward : (front : Document) (fs : List Frame) (t : Terminal) (ts : List Terminal) (d : Document) (other : Option State) (s : List ℕ) (r : Document) (us vs : List Terminal) → t ∷ ts ≡ Text s ∷ vs → Items Behind r vs us → Up fs (join front (text s r)) us d → Goes (item front fs t other) ts d
 text_forward front fs t ts d other s r us vs e rest up =
-    rw (head_is _ _ _ _ e) (r, us, rw (tail_is _ _ _ _ e) rest, subst (λ (x : Document). Up fs x us d) (pushed_text front s r) up)
+    rw (same_first _ _ _ _ e) (r, us, rw (same_rest _ _ _ _ e) rest, subst (λ (x : Document). Up fs x us d) (pushed_text front s r) up)
 
 elem_forward : (front : Document) (fs : List Frame) (t : Terminal) (ts : List Terminal) (d : Document) (other : Option State) (l : List ℕ) (c r : Document) (us vs ws : List Terminal) → t ∷ ts ≡ Label l ∷ vs → Items Content c vs (BracketR ∷ ws) → Items Behind r ws us → Up fs (join front (element l c r)) us d → Goes (item front fs t other) ts d
 elem_forward front fs t ts d other l c r us vs ws e inner rest up =
-    rw (head_is _ _ _ _ e) (c, BracketR ∷ ws, rw (tail_is _ _ _ _ e) inner, (ws, r, us, refl, rest, subst (λ (x : Document). Up fs x us d) (pushed_elem front l c r) up))
+    rw (same_first _ _ _ _ e) (c, BracketR ∷ ws, rw (same_rest _ _ _ _ e) inner, (ws, r, us, refl, rest, subst (λ (x : Document). Up fs x us d) (pushed_elem front l c r) up))
 
 -- what closes is neither an item nor `(`
 close_item : (front : Document) (fs : List Frame) (t : Terminal) (ts : List Terminal) (d : Document) (inner : Document) → Goes (close fs inner t) ts d → Goes (item front fs t (parens front fs t (close fs inner t))) ts d
@@ -111,24 +94,24 @@ close_more front (f ∷ fs) BracketR ts d g = g
 close_more front fs t ts d g = absurd g
 
 nothing_left : (front : Document) (fs : List Frame) (us : List Terminal) (d : Document) → Up fs (join front empty) us d → Up fs front us d
-nothing_left front fs us d up = subst (λ (x : Document). Up fs x us d) (join-empty front) up
+nothing_left front fs us d up = subst (λ (x : Document). Up fs x us d) (join_empty-right front) up
 
 -- the step keeps what completes
 pub forward : (s : State) (t : Terminal) (ts : List Terminal) (d : Document) → CompletesFrom s (t ∷ ts) d → Goes (step s t) ts d
-forward (At expects.Document front fs) t ts d (empty, us, rest, up) = rw (head_is _ _ _ _ rest) (empty, us, tail_is _ _ _ _ rest, up)
+forward (At expects.Document front fs) t ts d (empty, us, rest, up) = rw (same_first _ _ _ _ rest) (empty, us, same_rest _ _ _ _ rest, up)
 forward (At expects.Document front fs) t ts d (text s r, us, (vs, e, rest), up) = text_forward front fs t ts d _ s r us vs e rest up
 forward (At expects.Document front fs) t ts d (element l c r, us, (vs, ws, e, inner, rest), up) = elem_forward front fs t ts d _ l c r us vs ws e inner rest up
 forward (At expects.Content front fs) t ts d (empty, us, inl e, up) = close_item front fs t ts d front (close_forward fs front t ts d (rw e (nothing_left front fs us d up)))
-forward (At expects.Content front fs) t ts d (empty, us, inr e, up) = rw (head_is _ _ _ _ e) (empty, us, tail_is _ _ _ _ e, up)
+forward (At expects.Content front fs) t ts d (empty, us, inr e, up) = rw (same_first _ _ _ _ e) (empty, us, same_rest _ _ _ _ e, up)
 forward (At expects.Content front fs) t ts d (text s r, us, (vs, e, rest), up) = text_forward front fs t ts d _ s r us vs e rest up
 forward (At expects.Content front fs) t ts d (element l c r, us, (vs, ws, e, inner, rest), up) = elem_forward front fs t ts d _ l c r us vs ws e inner rest up
 forward (At expects.More front fs) t ts d (empty, us, e, up) = close_more front fs t ts d (close_forward fs front t ts d (rw e (nothing_left front fs us d up)))
-forward (At expects.More front fs) t ts d (text s r, us, (vs, e, rest), up) = rw (head_is _ _ _ _ e) (text s r, us, (vs, tail_is _ _ _ _ e, rest), up)
-forward (At expects.More front fs) t ts d (element l c r, us, (vs, ws, e, inner, rest), up) = rw (head_is _ _ _ _ e) (element l c r, us, (vs, ws, tail_is _ _ _ _ e, inner, rest), up)
+forward (At expects.More front fs) t ts d (text s r, us, (vs, e, rest), up) = rw (same_first _ _ _ _ e) (text s r, us, (vs, same_rest _ _ _ _ e, rest), up)
+forward (At expects.More front fs) t ts d (element l c r, us, (vs, ws, e, inner, rest), up) = rw (same_first _ _ _ _ e) (element l c r, us, (vs, ws, same_rest _ _ _ _ e, inner, rest), up)
 forward (At expects.Item front fs) t ts d (empty, us, rest, up) = absurd rest
 forward (At expects.Item front fs) t ts d (text s r, us, (vs, e, rest), up) = text_forward front fs t ts d _ s r us vs e rest up
 forward (At expects.Item front fs) t ts d (element l c r, us, (vs, ws, e, inner, rest), up) = elem_forward front fs t ts d _ l c r us vs ws e inner rest up
-forward (At expects.Closing front fs) t ts d (empty, us, e, up) = rw (head_is _ _ _ _ e) (empty, us, tail_is _ _ _ _ e, up)
+forward (At expects.Closing front fs) t ts d (empty, us, e, up) = rw (same_first _ _ _ _ e) (empty, us, same_rest _ _ _ _ e, up)
 forward (At expects.Closing front fs) t ts d (text s r, us, rest, up) = absurd rest
 forward (At expects.Closing front fs) t ts d (element l c r, us, rest, up) = absurd rest
 forward (At expects.Closed front fs) t ts d (empty, us, e, up) = close_forward fs front t ts d (rw e (nothing_left front fs us d up))
@@ -145,7 +128,7 @@ elem_backward m front fs l ts d lead (c, us, inner, (vs, r, ws, e, rest, up)) =
     (element l c r, ws, (ts, vs, lead, subst (Items Content c ts) e inner, rest), subst (λ (x : Document). Up fs x ws d) (sym (pushed_elem front l c r)) up)
 
 close_to : (front : Document) (fs : List Frame) (us : List Terminal) (d : Document) → Up fs front us d → Up fs (join front empty) us d
-close_to front fs us d up = subst (λ (x : Document). Up fs x us d) (sym (join-empty front)) up
+close_to front fs us d up = subst (λ (x : Document). Up fs x us d) (sym (join_empty-right front)) up
 
 pub backward : (s : State) (t : Terminal) (ts : List Terminal) (d : Document) → Goes (step s t) ts d → CompletesFrom s (t ∷ ts) d
 backward (At expects.Document front fs) (Text s) ts d g = text_backward Whole front fs s ts d refl g
@@ -185,8 +168,8 @@ backward s t ts d g = absurd g
 -- ---- runs
 
 up_nil : (fs : List Frame) (inner d : Document) → Up fs inner [] d → ⊥
-up_nil [] inner d u = absurd (nil_cons End [] u.0)
-up_nil (f ∷ fs) inner d u = absurd (nil_cons BracketR u.0 u.3)
+up_nil [] inner d u = absurd (not_nil End [] u.0)
+up_nil (f ∷ fs) inner d u = absurd (not_nil BracketR u.0 u.3)
 
 rest_nil : (m : Expect) (r : Document) (us : List Terminal) → Rest m r [] us → [] ≡ us
 rest_nil expects.Document empty us e = cc

@@ -1,27 +1,22 @@
 -- Bytes are malformed at one place at most.
-use Rattle.std.proofs.Common.{◌≡◌, ℕ, ◌⊎◌, inl, inr, List, [], ◌∷◌, ◌++◌, refl, sym, ap, subst, ◌∙◌, append_assoc}
+use Rattle.std.proofs.Common.{◌≡◌, ℕ, ◌⊎◌, inl, inr, List, [], ◌∷◌, ◌++◌, sym, ap, subst, ◌∙◌, append_assoc}
 use Rattle.std.proofs.lemmas.List.{map-append}
 use Rattle.xd_base.specs.declared.Place.{Place}
 use Rattle.xd_lex.specs.Tokens.{Lexeme, tokens_of}
 use Rattle.xd_read.specs.Grammar.{Terminal, Spells, Begins}
 use Rattle.xd_read.specs.Reading.{terminal_of, terminals_of, IsFirstFault, IsMalformedAt}
-
-head_is : (x y : Lexeme) (xs ys : List Lexeme) → x ∷ xs ≡ y ∷ ys → x ≡ y
-head_is x y xs ys e = cc
-
-tail_is : (x y : Lexeme) (xs ys : List Lexeme) → x ∷ xs ≡ y ∷ ys → xs ≡ ys
-tail_is x y xs ys e = cc
+use Rattle.xd_doc.proofs.Lists.{same_first, same_rest}
 
 -- of two fronts of one list, each with the token behind it, one lies within the other
 fronts : (b c : List Lexeme) (f g : Lexeme) (xs ys : List Lexeme) → b ++ f ∷ xs ≡ c ++ g ∷ ys → (f ≡ g) ⊎ (((rest : List Lexeme) × (c ≡ (b ++ f ∷ []) ++ rest)) ⊎ ((rest : List Lexeme) × (b ≡ (c ++ g ∷ []) ++ rest)))
-fronts [] [] f g xs ys e = inl (head_is _ _ _ _ e)
-fronts [] (y ∷ c) f g xs ys e = inr (inl (c, ap (λ (x : Lexeme). x ∷ c) (sym (head_is _ _ _ _ e))))
-fronts (x ∷ b) [] f g xs ys e = inr (inr (b, ap (λ (y : Lexeme). y ∷ b) (head_is _ _ _ _ e)))
+fronts [] [] f g xs ys e = inl (same_first _ _ _ _ e)
+fronts [] (y ∷ c) f g xs ys e = inr (inl (c, ap (λ (x : Lexeme). x ∷ c) (sym (same_first _ _ _ _ e))))
+fronts (x ∷ b) [] f g xs ys e = inr (inr (b, ap (λ (y : Lexeme). y ∷ b) (same_first _ _ _ _ e)))
 fronts (x ∷ b) (y ∷ c) f g xs ys e =
-    elim (fronts b c f g xs ys (tail_is _ _ _ _ e)) [
+    elim (fronts b c f g xs ys (same_rest _ _ _ _ e)) [
       | inl h ↦ inl h
-      | inr (inl (rest, h)) ↦ inr (inl (rest, ap (λ (z : Lexeme). z ∷ c) (sym (head_is _ _ _ _ e)) ∙ ap (λ (zs : List Lexeme). x ∷ zs) h))
-      | inr (inr (rest, h)) ↦ inr (inr (rest, ap (λ (z : Lexeme). z ∷ b) (head_is _ _ _ _ e) ∙ ap (λ (zs : List Lexeme). y ∷ zs) h))
+      | inr (inl (rest, h)) ↦ inr (inl (rest, ap (λ (z : Lexeme). z ∷ c) (sym (same_first _ _ _ _ e)) ∙ ap (λ (zs : List Lexeme). x ∷ zs) h))
+      | inr (inr (rest, h)) ↦ inr (inr (rest, ap (λ (z : Lexeme). z ∷ b) (same_first _ _ _ _ e) ∙ ap (λ (zs : List Lexeme). y ∷ zs) h))
     ]
 
 -- the front of tokens that begin a document begins one

@@ -22,7 +22,8 @@ use Rattle.xd_read.specs.declared.reader.Finished.{Finished}
 use Rattle.xd_read.specs.declared.reader.Finished.TheVariants.{Text, Element}
 use Rattle.xd_read.specs.declared.reader.OpenElement.{OpenElement}
 use Rattle.xd_read.proofs.Machine.{State, At, Done, Goes, step, forward, backward}
-use Rattle.xd_read.proofs.StoreItems.{items_of-append, items_of-kept, in_store-kept, all-append, all-front, all-back}
+use Rattle.xd_read.proofs.StoreItems.{items_of-append, items_of-kept, in_store-kept}
+use Rattle.xd_doc.proofs.Lists.{all_append, all_front, all_back}
 
 -- what the machine does
 abbrev pub act : Move → Document → List Frame → List ℕ → Option State
@@ -55,71 +56,61 @@ acts expects.Closed k t front [] = refl
 acts expects.Closed kinds.Word t front (f ∷ fs) = refl
 acts expects.Closed k t front (f ∷ fs) = refl
 
--- the kinds of tokens at which the reader moves so
+-- the kinds of tokens at which the reader moves so: only a move that ends or refuses comes at a last token
+abbrev MovesAt : Move → Kind → Type 0
+MovesAt moves.Text k = k ≡ kinds.Text
+MovesAt moves.Open k = k ≡ kinds.Label
+MovesAt moves.Close k = is_last k ≡ false
+MovesAt (moves.Go e) k = is_last k ≡ false
+MovesAt moves.End k = k ≡ kinds.End
+MovesAt moves.Refuse k = Unit {0}
+
+moves_at : (e : Expect) (k : Kind) → MovesAt (move_for e k) k
+moves_at expects.Document kinds.Word = tt
+moves_at expects.Document kinds.Text = refl
+moves_at expects.Document kinds.Label = refl
+moves_at expects.Document kinds.ParenL = refl
+moves_at expects.Document k = tt
+moves_at expects.Content kinds.Text = refl
+moves_at expects.Content kinds.Label = refl
+moves_at expects.Content kinds.ParenL = refl
+moves_at expects.Content kinds.BracketR = refl
+moves_at expects.Content kinds.End = refl
+moves_at expects.Content k = tt
+moves_at expects.More kinds.Comma = refl
+moves_at expects.More kinds.BracketR = refl
+moves_at expects.More kinds.End = refl
+moves_at expects.More k = tt
+moves_at expects.Item kinds.Text = refl
+moves_at expects.Item kinds.Label = refl
+moves_at expects.Item k = tt
+moves_at expects.Closing kinds.ParenR = refl
+moves_at expects.Closing k = tt
+moves_at expects.Closed kinds.BracketR = refl
+moves_at expects.Closed kinds.End = refl
+moves_at expects.Closed k = tt
+
+moves_by : (e : Expect) (k : Kind) (m : Move) → move_for e k ≡ m → MovesAt m k
+moves_by e k m h = subst (λ (x : Move). MovesAt x k) h (moves_at e k)
+
 pub text_kind : (e : Expect) (k : Kind) → move_for e k ≡ moves.Text → k ≡ kinds.Text
-text_kind expects.Document kinds.Text h = refl
-text_kind expects.Document k h = absurd (cc h)
-text_kind expects.Content kinds.Text h = refl
-text_kind expects.Content k h = absurd (cc h)
-text_kind expects.More kinds.Text h = refl
-text_kind expects.More k h = absurd (cc h)
-text_kind expects.Item kinds.Text h = refl
-text_kind expects.Item k h = absurd (cc h)
-text_kind expects.Closing kinds.Text h = refl
-text_kind expects.Closing k h = absurd (cc h)
-text_kind expects.Closed kinds.Text h = refl
-text_kind expects.Closed k h = absurd (cc h)
+text_kind e k h = moves_by e k moves.Text h
 
 pub label_kind : (e : Expect) (k : Kind) → move_for e k ≡ moves.Open → k ≡ kinds.Label
-label_kind expects.Document kinds.Label h = refl
-label_kind expects.Document k h = absurd (cc h)
-label_kind expects.Content kinds.Label h = refl
-label_kind expects.Content k h = absurd (cc h)
-label_kind expects.More kinds.Label h = refl
-label_kind expects.More k h = absurd (cc h)
-label_kind expects.Item kinds.Label h = refl
-label_kind expects.Item k h = absurd (cc h)
-label_kind expects.Closing kinds.Label h = refl
-label_kind expects.Closing k h = absurd (cc h)
-label_kind expects.Closed kinds.Label h = refl
-label_kind expects.Closed k h = absurd (cc h)
+label_kind e k h = moves_by e k moves.Open h
 
--- only a move that ends or refuses comes at a last token
 abbrev GoesOn : Move → Kind → Type 0
-GoesOn moves.Text k = is_last k ≡ false
-GoesOn moves.Open k = is_last k ≡ false
-GoesOn moves.Close k = is_last k ≡ false
-GoesOn (moves.Go e) k = is_last k ≡ false
 GoesOn moves.End k = k ≡ kinds.End
 GoesOn moves.Refuse k = Unit {0}
+GoesOn m k = is_last k ≡ false
 
-pub goes_on_at : (e : Expect) (k : Kind) → GoesOn (move_for e k) k
-goes_on_at expects.Document kinds.Word = tt
-goes_on_at expects.Document kinds.Text = refl
-goes_on_at expects.Document kinds.Label = refl
-goes_on_at expects.Document kinds.ParenL = refl
-goes_on_at expects.Document k = tt
-goes_on_at expects.Content kinds.Text = refl
-goes_on_at expects.Content kinds.Label = refl
-goes_on_at expects.Content kinds.ParenL = refl
-goes_on_at expects.Content kinds.BracketR = refl
-goes_on_at expects.Content kinds.End = refl
-goes_on_at expects.Content k = tt
-goes_on_at expects.More kinds.Comma = refl
-goes_on_at expects.More kinds.BracketR = refl
-goes_on_at expects.More kinds.End = refl
-goes_on_at expects.More k = tt
-goes_on_at expects.Item kinds.Text = refl
-goes_on_at expects.Item kinds.Label = refl
-goes_on_at expects.Item k = tt
-goes_on_at expects.Closing kinds.ParenR = refl
-goes_on_at expects.Closing k = tt
-goes_on_at expects.Closed kinds.BracketR = refl
-goes_on_at expects.Closed kinds.End = refl
-goes_on_at expects.Closed k = tt
+goes_on : (m : Move) (k : Kind) → MovesAt m k → GoesOn m k
+goes_on moves.Text k h = ap is_last h
+goes_on moves.Open k h = ap is_last h
+goes_on m k h = h
 
 pub not_last : (e : Expect) (k : Kind) (m : Move) → move_for e k ≡ m → GoesOn m k
-not_last e k m h = subst (λ (x : Move). GoesOn x k) h (goes_on_at e k)
+not_last e k m h = goes_on m k (moves_by e k m h)
 
 acted : (e : Expect) (k : Kind) (t : List ℕ) (front : Document) (fs : List Frame) (m : Move) (o : Option State) → move_for e k ≡ m → act m front fs t ≡ o → step (At e front fs) (terminal k t) ≡ o
 acted e k t front fs m o h a = acts e k t front fs ∙ ap (λ (x : Move). act x front fs t) h ∙ a
@@ -160,7 +151,7 @@ pub text_passes : (ds : List Document) (e : Expect) (fs : List Finished) (os : L
 text_passes ds e fs os k t s fs' h r is pushed =
     subst (λ (x : List Finished). Passes ds e fs os (terminal k t) ds expects.More x os) (sym pushed)
     (passes_by ds e fs os k t moves.Text ds expects.More (fs ++ Text s ∷ []) os h
-    (record { finished = all-append (IsInStore ds) fs (Text s ∷ []) r.finished (tt, tt); marks = pushed_marks fs (Text s ∷ []) (reverse os) r.marks })
+    (record { finished = all_append (IsInStore ds) fs (Text s ∷ []) r.finished (tt, tt); marks = pushed_marks fs (Text s ∷ []) (reverse os) r.marks })
     (rw (front_of-push ds fs (Text s ∷ []) (reverse os) r.marks, frames_of-push ds fs (Text s ∷ []) (reverse os) r.marks, is) refl))
 
 open_last : (os : List OpenElement) (o : OpenElement) → reverse (os ++ o ∷ []) ≡ o ∷ reverse os
@@ -178,10 +169,10 @@ open_passes ds e fs os k t o os' h r label start pushed =
     (rw (open_last os o) (rw (start, nothing_behind ds fs, take-length fs, label) refl)))
 
 all_drop : (ds : List Document) (n : ℕ) (fs : List Finished) → AllByRecursion (IsInStore ds) fs → AllByRecursion (IsInStore ds) (drop n fs)
-all_drop ds n fs h = all-back (IsInStore ds) (take n fs) (drop n fs) (subst (AllByRecursion (IsInStore ds)) (sym (take-append-drop n fs)) h)
+all_drop ds n fs h = all_back (IsInStore ds) (take n fs) (drop n fs) (subst (AllByRecursion (IsInStore ds)) (sym (take-append-drop n fs)) h)
 
 all_take : (ds : List Document) (n : ℕ) (fs : List Finished) → AllByRecursion (IsInStore ds) fs → AllByRecursion (IsInStore ds) (take n fs)
-all_take ds n fs h = all-front (IsInStore ds) (take n fs) (drop n fs) (subst (AllByRecursion (IsInStore ds)) (sym (take-append-drop n fs)) h)
+all_take ds n fs h = all_front (IsInStore ds) (take n fs) (drop n fs) (subst (AllByRecursion (IsInStore ds)) (sym (take-append-drop n fs)) h)
 
 front_of-kept : (ds es : List Document) (fs : List Finished) (os : List OpenElement) → Keeps ds es → AllByRecursion (IsInStore ds) fs → front_of es fs os ≡ front_of ds fs os
 front_of-kept ds es fs [] k h = items_of-kept ds es fs k h
@@ -209,7 +200,7 @@ close_passes ds e fs os k t es front o seq fs' h r popped kept b is pushed =
     let made = Element o.label seq ∷ [] in
     subst (λ (x : List Finished). Passes ds e fs os (terminal k t) es expects.More x front) (sym pushed)
     (passes_by ds e fs os k t moves.Close es expects.More (left ++ made) front h
-    (record { finished = all-append (IsInStore es) left made (in_store-kept ds es left kept left_in) (b, tt); marks = pushed_marks left made (reverse front) marks })
+    (record { finished = all_append (IsInStore es) left made (in_store-kept ds es left kept left_in) (b, tt); marks = pushed_marks left made (reverse front) marks })
     (rw (popped, open_last front o, front_of-push es left made (reverse front) marks, frames_of-push es left made (reverse front) marks, front_of-kept ds es left (reverse front) kept left_in, frames_of-kept ds es left (reverse front) kept left_in, is) refl))
 
 pub none_open : (ds : List Document) (e : Expect) (fs : List Finished) (os : List OpenElement) (k : Kind) (t : List ℕ) → move_for e k ≡ moves.Close → os ≡ [] → Stops ds e fs os (terminal k t)
@@ -236,7 +227,3 @@ last_of o (p ∷ os) = let l = last_of p os in (o ∷ l.0, l.1, ap (λ (x : List
 pub some_open : (ds : List Document) (e : Expect) (fs : List Finished) (os : List OpenElement) (k : Kind) (t : List ℕ) → move_for e k ≡ moves.End → 0 < length os → Stops ds e fs os (terminal k t)
 some_open ds e fs [] k t h lt = absurd (omega (arith, lt))
 some_open ds e fs (o ∷ os) k t h lt = let l = last_of o os in still_open ds e fs (o ∷ os) l.0 l.1 k t h l.2
-
-pub no_element : (os : List OpenElement) → length os ≡ 0 → os ≡ []
-no_element [] h = refl
-no_element (o ∷ os) h = absurd (omega (arith, h))

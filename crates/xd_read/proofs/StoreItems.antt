@@ -9,6 +9,7 @@ use Rattle.xd_doc.proofs.StoredLemmas.{Keeps-same, Keeps-trans}
 use Rattle.xd_read.specs.declared.reader.Finished.{Finished}
 use Rattle.xd_read.specs.declared.reader.Finished.TheVariants.{Text, Element}
 use Rattle.xd_read.specs.Pending.{items_of, IsInStore}
+use Rattle.xd_doc.proofs.Lists.{all_back}
 
 pub items_of-append : (ds : List Document) (xs ys : List Finished) → items_of ds (xs ++ ys) ≡ join (items_of ds xs) (items_of ds ys)
 items_of-append ds [] ys = refl
@@ -25,18 +26,6 @@ pub in_store-kept : (ds es : List Document) (xs : List Finished) → Keeps ds es
 in_store-kept ds es [] k h = tt
 in_store-kept ds es (Text s ∷ xs) k h = (tt, in_store-kept ds es xs k h.1)
 in_store-kept ds es (Element l seq ∷ xs) k h = (k.belongs seq h.0, in_store-kept ds es xs k h.1)
-
-pub all-append : {X : Type 0} (P : X → Type 0) (xs ys : List X) → AllByRecursion P xs → AllByRecursion P ys → AllByRecursion P (xs ++ ys)
-all-append P [] ys h k = k
-all-append P (x ∷ xs) ys h k = (h.0, all-append P xs ys h.1 k)
-
-pub all-front : {X : Type 0} (P : X → Type 0) (xs ys : List X) → AllByRecursion P (xs ++ ys) → AllByRecursion P xs
-all-front P [] ys h = tt
-all-front P (x ∷ xs) ys h = (h.0, all-front P xs ys h.1)
-
-pub all-back : {X : Type 0} (P : X → Type 0) (xs ys : List X) → AllByRecursion P (xs ++ ys) → AllByRecursion P ys
-all-back P [] ys h = h
-all-back P (x ∷ xs) ys h = all-back P xs ys h.1
 
 -- the items behind those that are left are stored
 pub record StoredSoFar (ds es : List Document) (all left : List Finished) (start : ℕ) (seq : Seq) : Type 0 where
@@ -83,7 +72,7 @@ stored_text ds es es' all left now start seq seq' s h f lt k b e = record {
 -- the content of an element that is taken
 pub content_in : (ds es : List Document) (all left now : List Finished) (start : ℕ) (seq content : Seq) (l : List ℕ) → StoredSoFar ds es all left start seq → AllByRecursion (IsInStore ds) all → left ≡ now ++ Element l content ∷ [] → BelongsTo ds content
 content_in ds es all left now start seq content l h a f =
-    (all-back (IsInStore ds) now (Element l content ∷ h.rest) (subst (AllByRecursion (IsInStore ds)) (next_split all left now h.rest (Element l content) h.split f) a)).0
+    (all_back (IsInStore ds) now (Element l content ∷ h.rest) (subst (AllByRecursion (IsInStore ds)) (next_split all left now h.rest (Element l content) h.split f) a)).0
 
 pub stored_element : (ds es es' : List Document) (all left now : List Finished) (start : ℕ) (seq seq' content : Seq) (l : List ℕ) → StoredSoFar ds es all left start seq → AllByRecursion (IsInStore ds) all → left ≡ now ++ Element l content ∷ [] → start < length left → Keeps es es' → BelongsTo es' seq' → document_at es' seq' ≡ element l (document_at es content) (document_at es seq) → StoredSoFar ds es' all now start seq'
 stored_element ds es es' all left now start seq seq' content l h a f lt k b e =

@@ -11,6 +11,3 @@ mod reader;
 pub use error::ReadError;
 pub use laws::reading_laws;
 pub use read::read_document;
-
-#[cfg(test)]
-mod tests;

@@ -3,8 +3,6 @@
 
 mod kind;
 mod line;
-#[cfg(test)]
-mod tests;
 mod texts;
 
 pub use line::{fault_line, warning_line};

@@ -1,11 +1,10 @@
 -- On a document's text, as it is written.
 use Rattle.std.proofs.Common.{◌≡◌, ℕ, ◌+◌, ◌-◌, ◌<◌, ◌≤◌, Some, None, Result, Ok, Err, List, [], ◌∷◌, ◌++◌, true, refl, ap, sym, ◌∙◌, arith, append_assoc, drop, take, get_or, length, length-drop, add-one, drop-cons}
-use Rattle.std.proofs.lemmas.List.{take_more, get_or-drop}
+use Rattle.std.proofs.lemmas.List.{append-nil, take_more, get_or-drop}
 use Rattle.std.specs.List.{slice_range}
 use Rattle.std.specs.Result.{OnErr}
-use Rattle.std.specs.List.{AllByRecursion}
 use Rattle.xd_doc.specs.Document.{Document, empty, text, element, size, comma_before, items_text, canonical_text, has_item, rest_of, content_of, escaped, escaped_all}
-use Rattle.xd_doc.specs.Stored.{document_at, BelongsTo, first_of_document}
+use Rattle.xd_doc.specs.Stored.{document_at, first_of_document}
 use Rattle.xd_doc.specs.declared.store.Seq.{Seq}
 use Rattle.xd_doc.specs.declared.store.Item.{Item}
 use Rattle.xd_doc.specs.declared.store.Item.TheVariants.{Text, Elem}
@@ -31,12 +30,8 @@ pub record IsWritten (all old now left : List ℕ) : Type 0 where
   pub appended : now ≡ old ++ prefix
   pub whole : prefix ++ left ≡ all
 
-nil-right : (xs : List ℕ) → xs ++ [] ≡ xs
-nil-right [] = refl
-nil-right (x ∷ xs) = ap (λ ys. x ∷ ys) (nil-right xs)
-
 pub written_none : (all old : List ℕ) → IsWritten all old old all
-written_none all old = record { prefix = []; appended = sym (nil-right old); whole = refl }
+written_none all old = record { prefix = []; appended = sym (append-nil old); whole = refl }
 
 -- a piece more
 pub written_more : (all old now new piece left : List ℕ) → IsWritten all old now (piece ++ left) → new ≡ now ++ piece → IsWritten all old new left
@@ -47,7 +42,7 @@ written_more all old now new piece left w e = record {
 }
 
 pub written_all : (all old now : List ℕ) → IsWritten all old now [] → now ≡ old ++ all
-written_all all old now w = w.appended ∙ ap (λ xs. old ++ xs) (sym (nil-right w.prefix) ∙ w.whole)
+written_all all old now w = w.appended ∙ ap (λ xs. old ++ xs) (sym (append-nil w.prefix) ∙ w.whole)
 
 -- no more is written
 pub written_part : (all old now left : List ℕ) → IsWritten all old now left → AppendsPrefix all old now
@@ -135,17 +130,9 @@ canonical_text-filled (text s r) h = refl
 canonical_text-filled (element l c r) h = refl
 
 pub closing-push : (ds : List Document) (xs : List Seq) (s : Seq) → closing ds (xs ++ s ∷ []) ≡ after_content (document_at ds s) ++ closing ds xs
-closing-push ds [] s = sym (nil-right (after_content (document_at ds s)))
+closing-push ds [] s = sym (append-nil (after_content (document_at ds s)))
 closing-push ds (x ∷ xs) s = ap (λ t. t ++ after_content (document_at ds x)) (closing-push ds xs s) ∙ append_assoc (after_content (document_at ds s)) (closing ds xs) (after_content (document_at ds x))
 
 pub weight-push : (ds : List Document) (xs : List Seq) (s : Seq) → weight ds (xs ++ s ∷ []) ≡ (size (document_at ds s) + size (document_at ds s) + 1) + weight ds xs
 weight-push ds [] s = refl
 weight-push ds (x ∷ xs) s = omega (arith, weight-push ds xs s)
-
-pub belong-push : (ds : List Document) (xs : List Seq) (seq : Seq) → AllByRecursion (BelongsTo ds) xs → BelongsTo ds seq → AllByRecursion (BelongsTo ds) (xs ++ seq ∷ [])
-belong-push ds [] seq h b = (b, tt)
-belong-push ds (x ∷ xs) seq h b = (h.0, belong-push ds xs seq h.1 b)
-
-pub belong-front : (ds : List Document) (xs : List Seq) (seq : Seq) → AllByRecursion (BelongsTo ds) (xs ++ seq ∷ []) → AllByRecursion (BelongsTo ds) xs × BelongsTo ds seq
-belong-front ds [] seq h = (tt, h.0)
-belong-front ds (x ∷ xs) seq h = let b = belong-front ds xs seq h.1 in ((h.0, b.0), b.1)

@@ -1,8 +1,6 @@
 //! The canonical text of a document.
 #![tactic(auto)]
 
-#[cfg(test)]
-mod tests;
 mod text;
 mod write;
 

@@ -1,5 +1,6 @@
 use Rattle.std.proofs.Common.{◌≡◌, ◌<◌, length, refl, sym, ◌∙◌, rules}
-use Rattle.xd_read.proofs.Steps.{text_passes, open_passes, close_passes, none_open, some_open, no_element, refused, ended}
+use Rattle.std.proofs.lemmas.List.{nil_from_length}
+use Rattle.xd_read.proofs.Steps.{text_passes, open_passes, close_passes, none_open, some_open, refused, ended}
 use Rattle.xd_read.proofs.reader.Reader.read.Goals as goal
 
 pub returns-then-not-is_empty-clause-stops : goal.returns-then-not-is_empty-clause-stops
@@ -28,12 +29,12 @@ returns-in_ok-close_element-in-Some-clause-passes c =
 pub returns-in-None-clause-stops : goal.returns-in-None-clause-stops
 returns-in-None-clause-stops c =
     let e : length c.args.self.now.elements.items ≡ 0 = search rules in
-    none_open _ _ _ _ _ _ (sym c.move_for.ensures ∙ c.in-Close.is) (no_element _ e)
+    none_open _ _ _ _ _ _ (sym c.move_for.ensures ∙ c.in-Close.is) (nil_from_length _ e)
 
 pub returns-in_ok-seq-in-End-clause-ends : goal.returns-in_ok-seq-in-End-clause-ends
 returns-in_ok-seq-in-End-clause-ends c =
     let e : length c.args.self.now.elements.items ≡ 0 = search rules in
-    ended _ _ _ _ _ _ _ (sym c.move_for.ensures ∙ c.in-End.is) (no_element _ e) c.in_ok-seq-in-End.ensures.document
+    ended _ _ _ _ _ _ _ (sym c.move_for.ensures ∙ c.in-End.is) (nil_from_length _ e) c.in_ok-seq-in-End.ensures.document
 
 pub returns-in-Refuse-clause-stops : goal.returns-in-Refuse-clause-stops
 returns-in-Refuse-clause-stops c = refused c.args.store.now _ c.args.self.now.finished.items c.args.self.now.elements.items _ _ (sym c.move_for.ensures ∙ c.in-Refuse.is)
