@@ -6,7 +6,7 @@ use Rattle.std.proofs.Math.Seq.{get_or-append_seam}
 use Rattle.xd_base.specs.declared.Place.{Place}
 use Rattle.xd_syntax.specs.Tree.{Tree, Seq, Alt, Elem, Star, Plus, Opt, Val, seq_of, alt_of}
 use Rattle.xd_syntax.specs.Placed.{PlacedTree, Empty_at, Elem_at, Star_at, Plus_at, Opt_at, Val_at, placed_seq, placed_alt, placed_form, placed_in, placed_after, placed_at, the_start, unplaced, place_of}
-use Rattle.xd_syntax.specs.Table.{Row, Form, empty_form, text_form, name_form, elem_form, seq_form, alt_form, star_form, plus_form, opt_form, val_form, form_tree, tree_in, trees_after, tree_at, AreBuiltAfter, AreBuilt, PartsBelow}
+use Rattle.xd_syntax.specs.Table.{Row, Form, empty_form, text_form, words_form, name_form, elem_form, seq_form, alt_form, star_form, plus_form, opt_form, val_form, form_tree, tree_in, trees_after, tree_at, AreBuiltAfter, AreBuilt, PartsBelow}
 use Rattle.xd_syntax.proofs.Trees.{parts_below}
 
 after_append : (ts : List PlacedTree) (rs qs : List Row) → placed_after ts (rs ++ qs) ≡ placed_after (placed_after ts rs) qs
@@ -49,6 +49,7 @@ same_parts t u n h (i ∷ is) a = let e = h i a.0 in let k = same_parts t u n h 
 pub same_placed : (t u : ℕ → PlacedTree) (n : ℕ) (p : Place) → ((i : ℕ) → i < n → t i ≡ u i) → (f : Form) → PartsBelow n f → placed_form t p f ≡ placed_form u p f
 same_placed t u n p h empty_form k = refl
 same_placed t u n p h text_form k = refl
+same_placed t u n p h (words_form w) k = refl
 same_placed t u n p h (name_form w) k = refl
 same_placed t u n p h (elem_form c i) k = ap (Elem_at p c) (h i k)
 same_placed t u n p h (seq_form is) k = ap (placed_seq p) (same_parts t u n h is k)
@@ -98,6 +99,7 @@ unplaced_alt p (t ∷ (u ∷ us)) = ap (Alt (unplaced t)) (unplaced_alt (place_o
 unplaced_form : (t : ℕ → PlacedTree) (p : Place) (f : Form) → unplaced (placed_form t p f) ≡ form_tree (λ i. unplaced (t i)) f
 unplaced_form t p empty_form = refl
 unplaced_form t p text_form = refl
+unplaced_form t p (words_form w) = refl
 unplaced_form t p (name_form w) = refl
 unplaced_form t p (elem_form c i) = refl
 unplaced_form t p (seq_form is) = unplaced_seq p (map t is) ∙ ap seq_of (sym (unplaced_parts t is))
@@ -123,6 +125,7 @@ same_at_all t u h (i ∷ is) = let e = h i in let k = same_at_all t u h is in cc
 form_at_all : (t u : ℕ → Tree) → ((i : ℕ) → t i ≡ u i) → (f : Form) → form_tree t f ≡ form_tree u f
 form_at_all t u h empty_form = refl
 form_at_all t u h text_form = refl
+form_at_all t u h (words_form w) = refl
 form_at_all t u h (name_form w) = refl
 form_at_all t u h (elem_form c i) = ap (Elem c) (h i)
 form_at_all t u h (seq_form is) = ap seq_of (same_at_all t u h is)

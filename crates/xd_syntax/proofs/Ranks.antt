@@ -8,9 +8,9 @@ use Rattle.std.specs.List.Sorted.{IsSortedBy, IsStableBy}
 use Rattle.std.proofs.lemmas.List.Sorted.{ranks_by}
 use Rattle.std.proofs.lemmas.Bool.Decides.{nat_tests}
 use Rattle.xd_base.specs.declared.Place.{Place}
-use Rattle.xd_syntax.specs.Order.{number_of, precedes, comes_before, put_in, in_order_after, in_order}
+use Rattle.xd_syntax.specs.Order.{number_of, precedes, comes_before, put_in, ordered_after, in_order}
 use Rattle.xd_syntax.specs.declared.fault.Fault.{Fault}
-use Rattle.xd_syntax.proofs.Sorting.{put, put_all, put_all_sorted}
+use Rattle.xd_syntax.proofs.Sorting.{put_all_sorted}
 
 abbrev pub place_cmp : Place → Place → Ordering
 place_cmp p q = ordering_then (nat_cmp p.line q.line) (nat_cmp p.column q.column)
@@ -45,15 +45,15 @@ less None (Some q) m n = refl
 less (Some p) None m n = refl
 less (Some p) (Some q) m n = less_places p.line q.line p.column q.column m n
 
-same_put : (f : Fault) (gs : List Fault) → put is_less f gs ≡ put_in f gs
+same_put : (f : Fault) (gs : List Fault) → put_in is_less f gs ≡ put_in precedes f gs
 same_put f [] = refl
 same_put f (g ∷ gs) =
     let a : is_less f g ≡ precedes f g = less f.place g.place (number_of f.kind) (number_of g.kind) in
-    ap (λ t. cond (is_less f g) (f ∷ (g ∷ gs)) (g ∷ t)) (same_put f gs) ∙ ap (λ b. cond b (f ∷ (g ∷ gs)) (g ∷ put_in f gs)) a
+    ap (λ t. cond (is_less f g) (f ∷ (g ∷ gs)) (g ∷ t)) (same_put f gs) ∙ ap (λ b. cond b (f ∷ (g ∷ gs)) (g ∷ put_in precedes f gs)) a
 
-same_put_all : (done fs : List Fault) → put_all is_less done fs ≡ in_order_after done fs
+same_put_all : (done fs : List Fault) → ordered_after is_less done fs ≡ ordered_after precedes done fs
 same_put_all done [] = refl
-same_put_all done (f ∷ fs) = ap (λ d. put_all is_less d fs) (same_put f done) ∙ same_put_all (put_in f done) fs
+same_put_all done (f ∷ fs) = ap (λ d. ordered_after is_less d fs) (same_put f done) ∙ same_put_all (put_in precedes f done) fs
 
 -- a stable sort by rank
 pub sorted_by_rank : (fs gs : List Fault) → IsSortedBy is_less gs → IsStableBy is_less fs gs → gs ≡ in_order fs

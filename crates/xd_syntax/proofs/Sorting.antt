@@ -1,4 +1,5 @@
 -- A list in order with the same elements at each rank is one list, and putting elements in one by one gives it.
+use Rattle.xd_syntax.specs.Order.{put_in, ordered_after}
 use Rattle.std.proofs.Common.{◌≡◌, ℕ, suc, ◌<◌, ◌≤◌, arith, Bool, true, false, not, cond, ◌&&◌, List, [], ◌∷◌, ◌++◌, length, get_or, refl, ap, sym, ◌∙◌, subst, append-nil, append_assoc}
 use Rattle.std.specs.List.{filter}
 use Rattle.std.specs.List.Sorted.{ties, IsSortedBy, IsStableBy}
@@ -8,14 +9,6 @@ use Rattle.std.proofs.lemmas.List.Sorted.{sorted_far}
 
 module _ {X : Type 0} (lt : X → X → Bool) where
   -- x behind those that it isn't less than
-  abbrev pub put : X → List X → List X
-  put x [] = x ∷ []
-  put x (y ∷ ys) = cond (lt x y) (x ∷ (y ∷ ys)) (y ∷ put x ys)
-
-  abbrev pub put_all : List X → List X → List X
-  put_all done [] = done
-  put_all done (x ∷ xs) = put_all (put x done) xs
-
   -- no element is less than x
   abbrev pub IsLeast : X → List X → Type 0
   IsLeast x [] = Unit {0}
@@ -90,20 +83,20 @@ module _ {X : Type 0} (lt : X → X → Bool) where
         let r = unique ys zs u.1 v.1 rest in
         cc
 
-    least_put : (d x : X) (ds : List X) → lt x d ≡ false → IsLeast d ds → IsLeast d (put x ds)
+    least_put : (d x : X) (ds : List X) → lt x d ≡ false → IsLeast d ds → IsLeast d (put_in lt x ds)
     least_put d x [] h l = (h, tt)
     least_put d x (e ∷ es) h l =
-        elim (lt x e) as (λ b. IsLeast d (cond b (x ∷ (e ∷ es)) (e ∷ put x es))) [ true ↦ (h, l) | false ↦ (l.0, least_put d x es h l.1) ]
+        elim (lt x e) as (λ b. IsLeast d (cond b (x ∷ (e ∷ es)) (e ∷ put_in lt x es))) [ true ↦ (h, l) | false ↦ (l.0, least_put d x es h l.1) ]
 
     least_below : (d x : X) (ds : List X) → lt d x ≡ false → IsLeast d ds → IsLeast x ds
     least_below d x [] h l = tt
     least_below d x (e ∷ es) h l = (o.chain e d x l.0 h, least_below d x es h l.1)
 
-    put_up_at : (x d : X) (ds : List X) → IsUp (d ∷ ds) → IsUp (put x ds) → (b : Bool) → lt x d ≡ b → IsUp (cond b (x ∷ (d ∷ ds)) (d ∷ put x ds))
+    put_up_at : (x d : X) (ds : List X) → IsUp (d ∷ ds) → IsUp (put_in lt x ds) → (b : Bool) → lt x d ≡ b → IsUp (cond b (x ∷ (d ∷ ds)) (d ∷ put_in lt x ds))
     put_up_at x d ds u r true e = ((o.one_way x d e, least_below d x ds (o.one_way x d e) u.0), u)
     put_up_at x d ds u r false e = (least_put d x ds e u.0, r)
 
-    put_up : (x : X) (ds : List X) → IsUp ds → IsUp (put x ds)
+    put_up : (x : X) (ds : List X) → IsUp ds → IsUp (put_in lt x ds)
     put_up x [] u = (tt, tt)
     put_up x (d ∷ ds) u = put_up_at x d ds u (put_up x ds u.1) (lt x d) refl
 
@@ -134,29 +127,29 @@ module _ {X : Type 0} (lt : X → X → Bool) where
         ap (λ r. x ∷ r) n ∙ ap (λ r. r ++ x ∷ []) (sym n)
     filter_front w x d ds u h false t = sym (append-nil (filter (ties lt w) (d ∷ ds)))
 
-    filter_put_at : (w x d : X) (ds : List X) → IsUp (d ∷ ds) → filter (ties lt w) (put x ds) ≡ filter (ties lt w) (ds ++ x ∷ []) → (b : Bool) → lt x d ≡ b →
-        filter (ties lt w) (cond b (x ∷ (d ∷ ds)) (d ∷ put x ds)) ≡ filter (ties lt w) (d ∷ (ds ++ x ∷ []))
+    filter_put_at : (w x d : X) (ds : List X) → IsUp (d ∷ ds) → filter (ties lt w) (put_in lt x ds) ≡ filter (ties lt w) (ds ++ x ∷ []) → (b : Bool) → lt x d ≡ b →
+        filter (ties lt w) (cond b (x ∷ (d ∷ ds)) (d ∷ put_in lt x ds)) ≡ filter (ties lt w) (d ∷ (ds ++ x ∷ []))
     filter_put_at w x d ds u r true h = filter_front w x d ds u h (ties lt w x) refl ∙ sym (filter-append (ties lt w) (d ∷ ds) (x ∷ []))
     filter_put_at w x d ds u r false h = ap (λ ys. cond (ties lt w d) (d ∷ ys) ys) r
 
-    filter_put : (w x : X) (ds : List X) → IsUp ds → filter (ties lt w) (put x ds) ≡ filter (ties lt w) (ds ++ x ∷ [])
+    filter_put : (w x : X) (ds : List X) → IsUp ds → filter (ties lt w) (put_in lt x ds) ≡ filter (ties lt w) (ds ++ x ∷ [])
     filter_put w x [] u = refl
     filter_put w x (d ∷ ds) u = filter_put_at w x d ds u (filter_put w x ds u.1) (lt x d) refl
 
-    pub put_all_up : (done xs : List X) → IsUp done → IsUp (put_all done xs)
+    pub put_all_up : (done xs : List X) → IsUp done → IsUp (ordered_after lt done xs)
     put_all_up done [] u = u
-    put_all_up done (x ∷ xs) u = put_all_up (put x done) xs (put_up x done u)
+    put_all_up done (x ∷ xs) u = put_all_up (put_in lt x done) xs (put_up x done u)
 
-    pub filter-put_all : (w : X) (done xs : List X) → IsUp done → filter (ties lt w) (put_all done xs) ≡ filter (ties lt w) (done ++ xs)
+    pub filter-put_all : (w : X) (done xs : List X) → IsUp done → filter (ties lt w) (ordered_after lt done xs) ≡ filter (ties lt w) (done ++ xs)
     filter-put_all w done [] u = ap (filter (ties lt w)) (sym (append-nil done))
     filter-put_all w done (x ∷ xs) u =
-        filter-put_all w (put x done) xs (put_up x done u)
-        ∙ filter-append (ties lt w) (put x done) xs
+        filter-put_all w (put_in lt x done) xs (put_up x done u)
+        ∙ filter-append (ties lt w) (put_in lt x done) xs
         ∙ ap (λ r. r ++ filter (ties lt w) xs) (filter_put w x done u)
         ∙ sym (filter-append (ties lt w) (done ++ x ∷ []) xs)
         ∙ ap (filter (ties lt w)) (append_assoc done (x ∷ []) xs)
 
     -- a stable sort puts the elements in one by one
-    pub put_all_sorted : (xs ys : List X) → IsSortedBy lt ys → IsStableBy lt xs ys → ys ≡ put_all [] xs
+    pub put_all_sorted : (xs ys : List X) → IsSortedBy lt ys → IsStableBy lt xs ys → ys ≡ ordered_after lt [] xs
     put_all_sorted xs ys sorted stable =
-        unique ys (put_all [] xs) (up_from ys (sorted_far lt o ys sorted)) (put_all_up [] xs tt) (λ x. stable x ∙ sym (filter-put_all x [] xs tt))
+        unique ys (ordered_after lt [] xs) (up_from ys (sorted_far lt o ys sorted)) (put_all_up [] xs tt) (λ x. stable x ∙ sym (filter-put_all x [] xs tt))

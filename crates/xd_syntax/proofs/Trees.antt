@@ -4,7 +4,7 @@ use Rattle.std.specs.List.{AllByRecursion}
 use Rattle.std.proofs.Math.ListN.{get_or-append}
 use Rattle.std.proofs.Math.Seq.{get_or-append_seam}
 use Rattle.xd_syntax.specs.Tree.{Tree, Empty, Elem, Star, Plus, Opt, Val, seq_of, alt_of}
-use Rattle.xd_syntax.specs.Table.{Row, Form, empty_form, text_form, name_form, elem_form, seq_form, alt_form, star_form, plus_form, opt_form, val_form, form_tree, tree_in, trees_after, tree_at, IsSeqPart, IsAltPart, CanFollow, AreBuiltAfter, AreBuilt, PartsBelow}
+use Rattle.xd_syntax.specs.Table.{Row, Form, empty_form, text_form, words_form, name_form, elem_form, seq_form, alt_form, star_form, plus_form, opt_form, val_form, form_tree, tree_in, trees_after, tree_at, IsSeqPart, IsAltPart, CanFollow, AreBuiltAfter, AreBuilt, PartsBelow}
 
 after_append : (ts : List Tree) (rs qs : List Row) → trees_after ts (rs ++ qs) ≡ trees_after (trees_after ts rs) qs
 after_append ts [] qs = refl
@@ -46,6 +46,7 @@ same_parts t u n h (i ∷ is) a = let e = h i a.0 in let k = same_parts t u n h 
 pub same_form : (t u : ℕ → Tree) (n : ℕ) → ((i : ℕ) → i < n → t i ≡ u i) → (f : Form) → PartsBelow n f → form_tree t f ≡ form_tree u f
 same_form t u n h empty_form p = refl
 same_form t u n h text_form p = refl
+same_form t u n h (words_form w) p = refl
 same_form t u n h (name_form w) p = refl
 same_form t u n h (elem_form c i) p = ap (Elem c) (h i p)
 same_form t u n h (seq_form is) p = ap seq_of (same_parts t u n h is p)
@@ -67,6 +68,7 @@ alt_parts_below rs (i ∷ is) a = (a.0.0, alt_parts_below rs is a.1)
 pub parts_below : (b : Bool) (rs : List Row) (f : Form) → CanFollow b rs f → PartsBelow (length rs) f
 parts_below b rs empty_form p = tt
 parts_below b rs text_form p = tt
+parts_below b rs (words_form w) p = tt
 parts_below b rs (name_form w) p = tt
 parts_below b rs (elem_form c i) p = p
 parts_below b rs (seq_form is) p = seq_parts_below rs is p.1

@@ -1,15 +1,17 @@
--- A type taken into a program.
-use Rattle.std.specs.Prelude.{◌≡◌, ℕ, ◌<◌, Bool, true, false, ◌&&◌, List, [], ◌∷◌, map, length, get_or}
+-- A type taken into a program: the nodes that it reaches, and their copies.
+use Rattle.std.specs.Prelude.{◌↔◌, ℕ, ◌+◌, ◌<◌, ◌≤◌, Bool, true, ◌&&◌, List, [], ◌∷◌, map, length, get_or, nat_eq, unwrap_or}
+use Rattle.std.specs.List.{AllByRecursion, Contains}
+use Rattle.std.specs.HashMap.{HashMap, get}
 use Rattle.xd_syntax.specs.Words.{has_word}
-use Rattle.xd_syntax.specs.Tree.{Tree, Empty, Text, Name, Elem, Seq, Alt, Star, Plus, Opt, Val}
-use Rattle.xd_syntax.specs.Table.{Row, tree_at, Form, empty_form, text_form, name_form, elem_form, seq_form, alt_form, star_form, plus_form, opt_form, val_form}
+use Rattle.xd_syntax.specs.Tree.{Tree, Name, Elem, Seq, Alt, Star, Plus, Opt, Val}
+use Rattle.xd_syntax.specs.Placed.{the_start}
+use Rattle.xd_syntax.specs.Table.{Row, tree_at, Form, empty_form, name_form, elem_form, seq_form, alt_form, star_form, plus_form, opt_form, val_form}
 use Rattle.xd_syntax.specs.Types.{type_numbers}
+use Rattle.xd_syntax.specs.Nodes.{form_parts}
 use Rattle.xd_syntax.specs.declared.types.TypeId.{TypeId}
 
 -- each name that the type uses is among these
 abbrev pub uses_only : List (List ℕ) → Tree → Bool
-uses_only known Empty = true
-uses_only known Text = true
 uses_only known (Name x) = has_word known x
 uses_only known (Elem c T) = uses_only known T
 uses_only known (Seq T U) = uses_only known T && uses_only known U
@@ -18,53 +20,58 @@ uses_only known (Star T) = uses_only known T
 uses_only known (Plus T) = uses_only known T
 uses_only known (Opt T) = uses_only known T
 uses_only known (Val x T) = uses_only known T
+uses_only known _ = true
 
--- for each node so far, whether its type uses these names alone
-abbrev pub AreTested : List (List ℕ) → List Row → List Bool → Type 0
-AreTested known types tests = (i : ℕ) → i < length tests → get_or tests i false ≡ uses_only known (tree_at types i)
+-- how many nodes the tree has
+abbrev pub size : Tree → ℕ
+size (Elem c T) = size T + 1
+size (Seq T U) = size T + size U + 1
+size (Alt T U) = size T + size U + 1
+size (Star T) = size T + 1
+size (Plus T) = size T + 1
+size (Opt T) = size T + 1
+size (Val x T) = size T + 1
+size _ = 1
 
-abbrev pub first_id : TypeId
-first_id = record { at = 0 }
+abbrev pub row_at : List Row → ℕ → Row
+row_at rows i = get_or rows i (record { place = the_start; form = empty_form })
 
--- each node so far is copied: its copy is there and stands for the same type
-abbrev pub AreCopies : (from into : List Row) → List TypeId → Type 0
-AreCopies from into copies =
-    (i : ℕ) → i < length copies → ((get_or copies i first_id).at < length into) × (tree_at into (get_or copies i first_id).at ≡ tree_at from i)
+-- the parts of the node with this number
+abbrev pub parts_of : List Row → ℕ → List ℕ
+parts_of rows i = form_parts (row_at rows i).form
 
--- all of these nodes have passed
-abbrev pub all_tested : List Bool → List ℕ → Bool
-all_tested tests [] = true
-all_tested tests (i ∷ is) = get_or tests i false && all_tested tests is
+-- it is this node, or a part of one that this node reaches
+pub data Reaches (rows : List Row) (from : ℕ) : ℕ → Type 0 where
+  itself : Reaches rows from from
+  part : {j : ℕ} (i : ℕ) → Reaches rows from i → Contains (parts_of rows i) j → Reaches rows from j
 
--- the copies of these nodes
-abbrev pub copied_ids : List TypeId → List ℕ → List TypeId
-copied_ids copies is = map (λ i. get_or copies i first_id) is
+-- each is greater than those behind it
+abbrev pub AreFalling : List ℕ → Type 0
+AreFalling [] = Unit {0}
+AreFalling (i ∷ is) = AllByRecursion (λ j. j < i) is × AreFalling is
 
-abbrev pub copied_at : List TypeId → ℕ → ℕ
-copied_at copies i = (get_or copies i first_id).at
+-- these are the nodes that it reaches, each once, the greatest first
+pub record AreReached (rows : List Row) (from : ℕ) (is : List ℕ) : Type 0 where
+  pub falling : AreFalling is
+  pub exact : (i : ℕ) → Contains is i ↔ Reaches rows from i
+  pub few : length is ≤ size (tree_at rows from)
+
+-- if the node is a name, it is among these
+abbrev pub form_known : List (List ℕ) → Form → Bool
+form_known known (name_form w) = has_word known w
+form_known known _ = true
+
+-- the copy of a node; the first node, where there is none
+abbrev pub copy_at : {S : Type 0} → HashMap ℕ TypeId S → ℕ → TypeId
+copy_at copies i = unwrap_or (get nat_eq copies i) (record { at = 0 })
 
 -- the form over the copies of its parts
-abbrev pub copied_form : List TypeId → Form → Form
-copied_form copies empty_form = empty_form
-copied_form copies text_form = text_form
-copied_form copies (name_form w) = name_form w
-copied_form copies (elem_form c i) = elem_form c (copied_at copies i)
-copied_form copies (seq_form is) = seq_form (type_numbers (copied_ids copies is))
-copied_form copies (alt_form is) = alt_form (type_numbers (copied_ids copies is))
-copied_form copies (star_form i) = star_form (copied_at copies i)
-copied_form copies (plus_form i) = plus_form (copied_at copies i)
-copied_form copies (opt_form i) = opt_form (copied_at copies i)
-copied_form copies (val_form x p i) = val_form x p (copied_at copies i)
-
--- whether a form whose parts have these tests uses these names alone
-abbrev pub form_tested : List (List ℕ) → List Bool → Form → Bool
-form_tested known tests empty_form = true
-form_tested known tests text_form = true
-form_tested known tests (name_form w) = has_word known w
-form_tested known tests (elem_form c i) = get_or tests i false
-form_tested known tests (seq_form is) = all_tested tests is
-form_tested known tests (alt_form is) = all_tested tests is
-form_tested known tests (star_form i) = get_or tests i false
-form_tested known tests (plus_form i) = get_or tests i false
-form_tested known tests (opt_form i) = get_or tests i false
-form_tested known tests (val_form x p i) = get_or tests i false
+abbrev pub copied_form : (ℕ → TypeId) → Form → Form
+copied_form copy (elem_form c i) = elem_form c (copy i).at
+copied_form copy (seq_form is) = seq_form (type_numbers (map copy is))
+copied_form copy (alt_form is) = alt_form (type_numbers (map copy is))
+copied_form copy (star_form i) = star_form (copy i).at
+copied_form copy (plus_form i) = plus_form (copy i).at
+copied_form copy (opt_form i) = opt_form (copy i).at
+copied_form copy (val_form x p i) = val_form x p (copy i).at
+copied_form copy f = f

@@ -2,18 +2,12 @@
 use Rattle.std.specs.Prelude.{◌≡◌, ℕ, Bool, true, false, cond, ◌||◌, ◌&&◌, nat_lt, ◌⊎◌, List, [], ◌∷◌, ◌++◌, Option, Some, None}
 use Rattle.xd_base.specs.declared.Place.{Place}
 use Rattle.xd_doc.specs.Document.{Document, is_proper}
-use Rattle.xd_doc.specs.Stored.{document_at, BelongsTo}
-use Rattle.xd_doc.specs.declared.store.Seq.{Seq}
 use Rattle.xd_syntax.specs.Placed.{PlacedTree, unplaced, place_of}
 use Rattle.xd_syntax.specs.Fits.{Fits}
-use Rattle.xd_syntax.specs.Order.{is_earlier, is_same_place}
-use Rattle.xd_syntax.specs.May.{Scope, May, Arrives, IsLive, in_clause, parameters_scope}
+use Rattle.xd_syntax.specs.Order.{is_earlier, is_same_place, ordered}
+use Rattle.xd_syntax.specs.May.{Scope, clause_entry, May, Arrives, IsLive, parameters_scope}
 use Rattle.xd_syntax.specs.Expression.{Expression, Nothing, Quoted, Variable, Tagged, Joined, Called, Matched, Arguments, no_argument, argument, Clauses, no_clause, clause, place_of_expression}
 use Rattle.xd_syntax.specs.Program.{Parameter, FunctionDefinition, ProgramTree, names_of, function_of}
-use Rattle.xd_syntax.specs.declared.fault.Fault.{Fault}
-use Rattle.xd_syntax.specs.declared.fault.Warning.{Warning}
-use Rattle.xd_syntax.specs.declared.fault.FaultKind.{FaultKind}
-use Rattle.xd_syntax.specs.declared.fault.FaultKind.TheVariants.{NotExhaustive, Argument, Result}
 
 pub data LineKind : Type 0 where
   not_exhaustive : LineKind
@@ -37,16 +31,8 @@ rank dead_clause = 17
 abbrev pub line_precedes : Line → Line → Bool
 line_precedes l m = is_earlier l.place m.place || (is_same_place l.place m.place && nat_lt (rank l.kind) (rank m.kind))
 
-abbrev pub put_line : Line → List Line → List Line
-put_line l [] = l ∷ []
-put_line l (m ∷ ms) = cond (line_precedes l m) (l ∷ (m ∷ ms)) (m ∷ put_line l ms)
-
-abbrev pub lines_after : List Line → List Line → List Line
-lines_after done [] = done
-lines_after done (l ∷ ls) = lines_after (put_line l done) ls
-
 abbrev pub lines_in_order : List Line → List Line
-lines_in_order ls = lines_after [] ls
+lines_in_order ls = ordered line_precedes ls
 
 -- one line with a document that meets the fact, or no line where none does
 abbrev pub LineWhere : Place → LineKind → (Document → Type 0) → List Line → Type 0
@@ -60,47 +46,55 @@ Both A B ls = (as_first : List Line) × (as_second : List Line) × A as_first ×
 
 -- the expression may be a document that does not fit the type
 abbrev pub Misfits : ProgramTree → Scope → Expression → PlacedTree → Document → Type 0
-Misfits P V e T d = May P V e d × (Fits (names_of P) (unplaced T) d → ⊥)
+Misfits P S e T d = May P S e d × (Fits (names_of P) (unplaced T) d → ⊥)
 
 abbrev pub parameters_of : Option FunctionDefinition → List Parameter
 parameters_of None = []
 parameters_of (Some f) = f.parameters
 
+-- a document that the scrutinee may be comes behind these patterns
+abbrev pub Comes : ProgramTree → Scope → Expression → List PlacedTree → Document → Type 0
+Comes P S e earlier d = Arrives (names_of P) (May P S e) earlier d
+
+-- some such document is taken by the clause's pattern
+abbrev pub IsLiveIn : ProgramTree → Scope → Expression → List PlacedTree → PlacedTree → Type 0
+IsLiveIn P S e earlier Q = IsLive (names_of P) (May P S e) earlier Q
+
 -- the lines inside an expression
 abbrev mutual
   pub LinesOf : ProgramTree → Scope → Expression → List Line → Type 0
-  LinesOf P V (Nothing p) ls = ls ≡ []
-  LinesOf P V (Quoted p s) ls = ls ≡ []
-  LinesOf P V (Variable p x) ls = ls ≡ []
-  LinesOf P V (Tagged p l e) ls = LinesOf P V e ls
-  LinesOf P V (Joined p e f) ls = Both (LinesOf P V e) (LinesOf P V f) ls
-  LinesOf P V (Called p f es) ls = LinesOfArguments P V (parameters_of (function_of P.functions f)) es ls
-  LinesOf P V (Matched p e cs) ls = Both (LinesOf P V e) (LinesOfClauses P V p (May P V e) [] cs) ls
+  LinesOf P S (Nothing p) ls = ls ≡ []
+  LinesOf P S (Quoted p s) ls = ls ≡ []
+  LinesOf P S (Variable p x) ls = ls ≡ []
+  LinesOf P S (Tagged p l e) ls = LinesOf P S e ls
+  LinesOf P S (Joined p e f) ls = Both (LinesOf P S e) (LinesOf P S f) ls
+  LinesOf P S (Called p f es) ls = LinesOfArguments P S (parameters_of (function_of P.functions f)) es ls
+  LinesOf P S (Matched p e cs) ls = Both (LinesOf P S e) (LinesOfClauses P S p e [] cs) ls
 
   -- an argument that may be a document that does not fit its parameter's type has a line
   pub LinesOfArguments : ProgramTree → Scope → List Parameter → Arguments → List Line → Type 0
-  LinesOfArguments P V ps no_argument ls = ls ≡ []
-  LinesOfArguments P V [] (argument e es) ls = Both (LinesOf P V e) (LinesOfArguments P V [] es) ls
-  LinesOfArguments P V (q ∷ qs) (argument e es) ls =
-      Both (LinesOf P V e)
-      (Both (LineWhere (place_of_expression e) wrong_argument (Misfits P V e q.declared)) (LinesOfArguments P V qs es)) ls
+  LinesOfArguments P S ps no_argument ls = ls ≡ []
+  LinesOfArguments P S [] (argument e es) ls = Both (LinesOf P S e) (LinesOfArguments P S [] es) ls
+  LinesOfArguments P S (q ∷ qs) (argument e es) ls =
+      Both (LinesOf P S e)
+      (Both (LineWhere (place_of_expression e) wrong_argument (Misfits P S e q.declared)) (LinesOfArguments P S qs es)) ls
 
-  -- A clause that is live has the lines of its body; one that is not has a warning and nothing else. Behind the last
-  -- clause a document that comes there has a line at the match.
-  pub LinesOfClauses : ProgramTree → Scope → Place → (Document → Type 0) → List PlacedTree → Clauses → List Line → Type 0
-  LinesOfClauses P V p A earlier no_clause ls = LineWhere p not_exhaustive (Arrives (names_of P) A earlier) ls
-  LinesOfClauses P V p A earlier (clause Q e cs) ls =
+  -- Clauses of a match at a place of a scrutinee, behind these patterns. A clause that is live has the lines of its body;
+  -- one that is not has a warning and nothing else. Behind the last a document that comes there has a line at the match.
+  pub LinesOfClauses : ProgramTree → Scope → Place → Expression → List PlacedTree → Clauses → List Line → Type 0
+  LinesOfClauses P S p e earlier no_clause ls = LineWhere p not_exhaustive (Comes P S e earlier) ls
+  LinesOfClauses P S p e earlier (clause Q f cs) ls =
       Both
       (λ ms.
-      (IsLive (names_of P) A earlier Q × LinesOf P (in_clause (names_of P) A earlier Q V) e ms)
-      ⊎ ((IsLive (names_of P) A earlier Q → ⊥) × (ms ≡ record { place = place_of Q; kind = dead_clause; document = None } ∷ [])))
-      (LinesOfClauses P V p A (Q ∷ earlier) cs) ls
+      (IsLiveIn P S e earlier Q × LinesOf P (clause_entry e earlier Q ∷ S) f ms)
+      ⊎ ((IsLiveIn P S e earlier Q → ⊥) × (ms ≡ record { place = place_of Q; kind = dead_clause; document = None } ∷ [])))
+      (LinesOfClauses P S p e (Q ∷ earlier) cs) ls
 
 -- the lines of a function are those of its body, where its parameters are in scope
 abbrev pub LinesOfFunction : ProgramTree → FunctionDefinition → List Line → Type 0
 LinesOfFunction P f ls =
-    let V : Scope = parameters_scope (names_of P) f.parameters in
-    Both (LinesOf P V f.body) (LineWhere (place_of_expression f.body) wrong_result (Misfits P V f.body f.declared)) ls
+    let S : Scope = parameters_scope f.parameters in
+    Both (LinesOf P S f.body) (LineWhere (place_of_expression f.body) wrong_result (Misfits P S f.body f.declared)) ls
 
 abbrev pub LinesOfFunctions : ProgramTree → List FunctionDefinition → List Line → Type 0
 LinesOfFunctions P [] ls = ls ≡ []
@@ -114,9 +108,7 @@ pub record AreLines (P : ProgramTree) (ls : List Line) : Type 0 where
 
 abbrev pub is_warning : LineKind → Bool
 is_warning dead_clause = true
-is_warning not_exhaustive = false
-is_warning wrong_argument = false
-is_warning wrong_result = false
+is_warning _ = false
 
 abbrev pub faults_among : List Line → List Line
 faults_among [] = []
@@ -129,34 +121,3 @@ warnings_among (l ∷ ls) = cond (is_warning l.kind) (l ∷ warnings_among ls) (
 -- no fault of matches, arguments and results
 abbrev pub IsAccepted : ProgramTree → Type 0
 IsAccepted P = (ls : List Line) × AreLines P ls × (faults_among ls ≡ [])
-
--- A fault and a warning as the program keeps them, with the document in a store.
-
-abbrev pub kind_with : LineKind → Seq → FaultKind → Type 0
-kind_with not_exhaustive s k = k ≡ NotExhaustive s
-kind_with wrong_argument s k = k ≡ Argument s
-kind_with wrong_result s k = k ≡ Result s
-kind_with dead_clause s k = ⊥
-
-pub record IsFaultOf (store : List Document) (l : Line) (f : Fault) : Type 0 where
-  pub sequence : Seq
-  pub belongs : BelongsTo store sequence
-  pub placed : f.place ≡ Some l.place
-  pub kind : kind_with l.kind sequence f.kind
-  pub document : l.document ≡ Some (document_at store sequence)
-
-abbrev pub IsWarningOf : Line → Warning → Type 0
-IsWarningOf l w = w.place ≡ l.place
-
--- one for one, in order
-abbrev pub AllPaired : {A B : Type 0} → (A → B → Type 0) → List A → List B → Type 0
-AllPaired R [] [] = Unit {0}
-AllPaired R [] (y ∷ ys) = ⊥
-AllPaired R (x ∷ xs) [] = ⊥
-AllPaired R (x ∷ xs) (y ∷ ys) = R x y × AllPaired R xs ys
-
-abbrev pub AreFaultsOf : List Document → List Line → List Fault → Type 0
-AreFaultsOf store ls fs = AllPaired (IsFaultOf store) (faults_among ls) fs
-
-abbrev pub AreWarningsOf : List Line → List Warning → Type 0
-AreWarningsOf ls ws = AllPaired IsWarningOf (warnings_among ls) ws

@@ -101,13 +101,11 @@ IsJoinedPart rs i = IsExprPart rs i × (is_joined_shape (shape_at rs i) ≡ fals
 
 -- The shape may be the next node. Sequences are merged, a call has an argument, a match a clause.
 abbrev pub ExprCanFollow : List ExprRow → ExprShape → Type 0
-ExprCanFollow rs empty_shape = Unit {0}
-ExprCanFollow rs (text_shape s) = Unit {0}
-ExprCanFollow rs (var_shape x) = Unit {0}
 ExprCanFollow rs (elem_shape l i) = IsExprPart rs i
 ExprCanFollow rs (seq_shape is) = (2 ≤ length is) × AllByRecursion (IsJoinedPart rs) is
 ExprCanFollow rs (call_shape f is) = (1 ≤ length is) × AllByRecursion (IsExprPart rs) is
 ExprCanFollow rs (match_shape i cs) = IsExprPart rs i × (1 ≤ length cs) × AllByRecursion (λ c. IsExprPart rs c.1) cs
+ExprCanFollow rs _ = Unit {0}
 
 abbrev pub ExprsAreBuiltAfter : List ExprRow → List ExprRow → Type 0
 ExprsAreBuiltAfter older [] = Unit {0}
@@ -120,25 +118,18 @@ ExprsAreBuilt rs = ExprsAreBuiltAfter [] rs
 -- each clause's pattern is one of so many
 abbrev pub ShapePatternsBelong : ℕ → ExprShape → Type 0
 ShapePatternsBelong n (match_shape i cs) = AllByRecursion (λ c. c.0 < n) cs
-ShapePatternsBelong n empty_shape = Unit {0}
-ShapePatternsBelong n (text_shape s) = Unit {0}
-ShapePatternsBelong n (var_shape x) = Unit {0}
-ShapePatternsBelong n (elem_shape l i) = Unit {0}
-ShapePatternsBelong n (seq_shape is) = Unit {0}
-ShapePatternsBelong n (call_shape f is) = Unit {0}
+ShapePatternsBelong n _ = Unit {0}
 
 abbrev pub PatternsBelong : ℕ → List ExprRow → Type 0
 PatternsBelong n rs = AllByRecursion (λ r. ShapePatternsBelong n r.form) rs
 
 -- each part's number is below n
 abbrev pub ExprPartsBelow : ℕ → ExprShape → Type 0
-ExprPartsBelow n empty_shape = Unit {0}
-ExprPartsBelow n (text_shape s) = Unit {0}
-ExprPartsBelow n (var_shape x) = Unit {0}
 ExprPartsBelow n (elem_shape l i) = i < n
 ExprPartsBelow n (seq_shape is) = AllByRecursion (λ i. i < n) is
 ExprPartsBelow n (call_shape f is) = AllByRecursion (λ i. i < n) is
 ExprPartsBelow n (match_shape i cs) = (i < n) × AllByRecursion (λ c. c.1 < n) cs
+ExprPartsBelow n _ = Unit {0}
 
 -- each old node stands where it stood
 pub record KeepsExprs (old new : List ExprRow) : Type 0 where

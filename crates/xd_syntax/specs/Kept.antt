@@ -1,6 +1,7 @@
 -- A program as it is kept: tables of nodes, and the definitions that name them.
-use Rattle.std.specs.Prelude.{◌≡◌, false, List, map, length}
+use Rattle.std.specs.Prelude.{◌≡◌, true, false, List, map, length}
 use Rattle.std.specs.List.{AllByRecursion}
+use Rattle.xd_doc.specs.Word.{is_word}
 use Rattle.xd_syntax.specs.Words.{has_word, keywords}
 use Rattle.xd_syntax.specs.Table.{Row, KeepsRows}
 use Rattle.xd_syntax.specs.Types.{BelongsTo}
@@ -8,7 +9,8 @@ use Rattle.xd_syntax.specs.Placed.{placed_at}
 use Rattle.xd_syntax.specs.Expression.{ExprRow, PatternsBelong}
 use Rattle.xd_syntax.specs.Exprs.{IsExpr, expression}
 use Rattle.xd_syntax.specs.Program.{TypeDefinition, Parameter, FunctionDefinition, ProgramTree}
-use Rattle.xd_syntax.specs.FunctionRow.{FunctionRow}
+use Rattle.xd_syntax.specs.ProperTables.{IsTable, IsExprTable}
+use Rattle.xd_syntax.specs.FunctionRow.{FunctionRow, HasProperNames}
 use Rattle.xd_syntax.specs.declared.types.TypeDef.{TypeDef}
 use Rattle.xd_syntax.specs.declared.program.Param.{Param}
 
@@ -35,6 +37,19 @@ pub record ProgramStands (p : ProgramTable) : Type 0 where
   pub clauses : PatternsBelong (length p.patterns) p.exprs
   pub type_defs : AllByRecursion (TypeDefStands p.types) p.type_defs
   pub functions : AllByRecursion (FunctionStands p.types p.exprs) p.functions
+
+-- its words are words, its texts have characters that UTF-8 can spell, and its classes are as they are built
+pub record IsProperTable (p : ProgramTable) : Type 0 where
+  pub types : IsTable false p.types
+  pub patterns : IsTable true p.patterns
+  pub exprs : IsExprTable p.exprs
+  pub type_defs : AllByRecursion (λ (d : TypeDef). is_word d.name ≡ true) p.type_defs
+  pub functions : AllByRecursion HasProperNames p.functions
+
+-- what is so of every program
+pub record IsKept (p : ProgramTable) : Type 0 where
+  pub stands : ProgramStands p
+  pub proper : IsProperTable p
 
 abbrev pub type_definition : List Row → TypeDef → TypeDefinition
 type_definition types def = record { name = def.name; place = def.place; body = placed_at types def.body.at }

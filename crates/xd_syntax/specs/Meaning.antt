@@ -9,7 +9,7 @@ use Rattle.xd_syntax.specs.Ways.{first}
 use Rattle.xd_syntax.specs.Expression.{Expression, Nothing, Quoted, Variable, Tagged, Joined, Called, Matched, Arguments, no_argument, argument, Clauses, no_clause, clause}
 use Rattle.xd_syntax.specs.Program.{Parameter, FunctionDefinition, ProgramTree, names_of, function_of}
 
--- a value, and the calls that are left; more calls are needed; no clause takes the document
+-- a value, and the calls that are left; more calls are needed; no clause takes the document, or a name is unknown
 pub data Outcome (A : Type 0) : Type 0 where
   Done : (value : A) (left : ℕ) → Outcome A
   Spent : Outcome A
@@ -81,24 +81,15 @@ call_within M P zero n f ds = Spent
 call_within M P (suc k) zero f ds = Spent
 call_within M P (suc k) (suc n) f ds = body_by (value_by M (call_within M P k) n) (function_of P.functions f) ds
 
--- Each call takes one of the calls left, so calls stand within one another at most as deep as calls are left.
-abbrev pub call_with : Matcher → ProgramTree → ℕ → List ℕ → List Document → Outcome Document
-call_with M P n f ds = call_within M P n n f ds
-
-abbrev pub value_with : Matcher → ProgramTree → ℕ → Environment → Expression → Outcome Document
-value_with M P n env e = value_by M (call_within M P n) n env e
-
--- the call of `main` on a document, with n calls left
-abbrev pub meaning_with : Matcher → ProgramTree → ℕ → Document → Outcome Document
-meaning_with M P n d = call_with M P n main_word (d ∷ [])
-
--- with the first matches of the program's patterns
+-- With the first matches of the program's patterns. Each call takes one of the calls left, so calls stand within one another
+-- at most as deep as calls are left.
 
 abbrev pub call : ProgramTree → ℕ → List ℕ → List Document → Outcome Document
-call P n f ds = call_with (first (names_of P)) P n f ds
+call P n f ds = call_within (first (names_of P)) P n n f ds
 
 abbrev pub value : ProgramTree → ℕ → Environment → Expression → Outcome Document
-value P n env e = value_with (first (names_of P)) P n env e
+value P n env e = value_by (first (names_of P)) (call_within (first (names_of P)) P n) n env e
 
+-- the call of `main` on a document, with n calls left
 abbrev pub meaning : ProgramTree → ℕ → Document → Outcome Document
-meaning P n d = meaning_with (first (names_of P)) P n d
+meaning P n d = call P n main_word (d ∷ [])

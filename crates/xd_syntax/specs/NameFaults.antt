@@ -3,7 +3,7 @@ use Rattle.std.specs.Prelude.{ℕ, ◌+◌, Bool, true, false, not, cond, ◌||�
 use Rattle.std.specs.List.{filter}
 use Rattle.xd_base.specs.declared.Place.{Place}
 use Rattle.xd_syntax.specs.Words.{has_word, any_word, string_word}
-use Rattle.xd_syntax.specs.Placed.{PlacedTree, Empty_at, Text_at, Name_at, Elem_at, Seq_at, Alt_at, Star_at, Plus_at, Opt_at, Val_at, variables}
+use Rattle.xd_syntax.specs.Placed.{PlacedTree, Name_at, Elem_at, Seq_at, Alt_at, Star_at, Plus_at, Opt_at, Val_at, variables}
 use Rattle.xd_syntax.specs.Expression.{Expression, Nothing, Quoted, Variable, Tagged, Joined, Called, Matched, Arguments, no_argument, argument, Clauses, no_clause, clause}
 use Rattle.xd_syntax.specs.Program.{TypeDefinition, Parameter, FunctionDefinition, ProgramTree, function_of}
 use Rattle.xd_syntax.specs.Order.{in_order}
@@ -45,8 +45,6 @@ known_types p = any_word ∷ map (λ (t : TypeDefinition). t.name) p.types
 
 -- uses of names of types that are not among these
 abbrev pub unknown_types : List (List ℕ) → PlacedTree → List Fault
-unknown_types known (Empty_at p) = []
-unknown_types known (Text_at p) = []
 unknown_types known (Name_at p x) = fault_if (not (has_word known x)) p (UnknownType x)
 unknown_types known (Elem_at p c T) = unknown_types known T
 unknown_types known (Seq_at p T U) = unknown_types known T ++ unknown_types known U
@@ -55,6 +53,7 @@ unknown_types known (Star_at p T) = unknown_types known T
 unknown_types known (Plus_at p T) = unknown_types known T
 unknown_types known (Opt_at p T) = unknown_types known T
 unknown_types known (Val_at p x q T) = unknown_types known T
+unknown_types known _ = []
 
 -- a variable is in every branch of an alternative
 abbrev pub in_each_branch : List ℕ → PlacedTree → Bool
@@ -74,9 +73,6 @@ without gone xs = filter (λ x. not (has_word gone x)) xs
 -- first occurrence in an alternative around comes now or later, and that a branch of that alternative lacks.
 -- `inner`: an alternative is the rest of the one around it.
 abbrev pub not_linear : (repeated : Bool) (earlier partial : List (List ℕ)) (inner : Bool) → PlacedTree → List Fault
-not_linear r earlier partial inner (Empty_at p) = []
-not_linear r earlier partial inner (Text_at p) = []
-not_linear r earlier partial inner (Name_at p x) = []
 not_linear r earlier partial inner (Elem_at p c T) = not_linear r earlier partial false T
 not_linear r earlier partial inner (Seq_at p T U) =
     not_linear r earlier partial false T ++ not_linear r (variables T ++ earlier) (without (variables T) partial) false U
@@ -89,6 +85,7 @@ not_linear r earlier partial inner (Opt_at p T) = not_linear true earlier partia
 not_linear r earlier partial inner (Val_at p x q T) =
     fault_if (r || (has_word earlier x || has_word partial x)) q (NotLinear x)
     ++ not_linear r (x ∷ earlier) (without (x ∷ []) partial) false T
+not_linear r earlier partial inner _ = []
 
 abbrev pub pattern_faults : List (List ℕ) → PlacedTree → List Fault
 pattern_faults known P = unknown_types known P ++ not_linear false [] [] false P

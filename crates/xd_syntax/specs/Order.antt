@@ -40,15 +40,19 @@ comes_before (Some p) m (Some q) n = is_earlier p q || (is_same_place p q && nat
 abbrev pub precedes : Fault → Fault → Bool
 precedes f g = comes_before f.place (number_of f.kind) g.place (number_of g.kind)
 
--- a fault among faults in order, in front of those that it precedes and behind the others
-abbrev pub put_in : Fault → List Fault → List Fault
-put_in f [] = f ∷ []
-put_in f (g ∷ gs) = cond (precedes f g) (f ∷ (g ∷ gs)) (g ∷ put_in f gs)
+-- an item among items in order, in front of those that it precedes and behind the others
+abbrev pub put_in : {A : Type 0} → (A → A → Bool) → A → List A → List A
+put_in before x [] = x ∷ []
+put_in before x (y ∷ ys) = cond (before x y) (x ∷ (y ∷ ys)) (y ∷ put_in before x ys)
 
-abbrev pub in_order_after : List Fault → List Fault → List Fault
-in_order_after done [] = done
-in_order_after done (f ∷ fs) = in_order_after (put_in f done) fs
+abbrev pub ordered_after : {A : Type 0} → (A → A → Bool) → List A → List A → List A
+ordered_after before done [] = done
+ordered_after before done (x ∷ xs) = ordered_after before (put_in before x done) xs
+
+-- the items in order; those of which neither precedes the other stay as they stood
+abbrev pub ordered : {A : Type 0} → (A → A → Bool) → List A → List A
+ordered before xs = ordered_after before [] xs
 
 -- the faults in order of place, then of number
 abbrev pub in_order : List Fault → List Fault
-in_order fs = in_order_after [] fs
+in_order fs = ordered precedes fs

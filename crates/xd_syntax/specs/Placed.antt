@@ -1,14 +1,15 @@
 -- Types and patterns with the place of each node.
 use Rattle.std.specs.Prelude.{ℕ, List, [], ◌∷◌, ◌++◌, map, get_or}
 use Rattle.xd_base.specs.declared.Place.{Place}
-use Rattle.xd_doc.specs.Classes.{LabelClass}
-use Rattle.xd_syntax.specs.Tree.{Tree, Empty, Text, Name, Elem, Seq, Alt, Star, Plus, Opt, Val}
-use Rattle.xd_syntax.specs.Table.{Form, empty_form, text_form, name_form, elem_form, seq_form, alt_form, star_form, plus_form, opt_form, val_form, Row}
+use Rattle.xd_doc.specs.Classes.{LabelClass, TextClass}
+use Rattle.xd_syntax.specs.Tree.{Tree, Empty, Text, Words, Name, Elem, Seq, Alt, Star, Plus, Opt, Val, occurrences}
+use Rattle.xd_syntax.specs.Table.{Form, empty_form, text_form, words_form, name_form, elem_form, seq_form, alt_form, star_form, plus_form, opt_form, val_form, Row}
 
 -- Each node has its place first. A variable has the place of its word besides.
 pub data PlacedTree : Type 0 where
   Empty_at : Place → PlacedTree
   Text_at : Place → PlacedTree
+  Words_at : Place → (texts : TextClass) → PlacedTree
   Name_at : Place → (word : List ℕ) → PlacedTree
   Elem_at : Place → (class : LabelClass) (content : PlacedTree) → PlacedTree
   Seq_at : Place → (first rest : PlacedTree) → PlacedTree
@@ -22,6 +23,7 @@ pub data PlacedTree : Type 0 where
 abbrev pub place_of : PlacedTree → Place
 place_of (Empty_at p) = p
 place_of (Text_at p) = p
+place_of (Words_at p w) = p
 place_of (Name_at p x) = p
 place_of (Elem_at p c T) = p
 place_of (Seq_at p T U) = p
@@ -35,6 +37,7 @@ place_of (Val_at p x q T) = p
 abbrev pub unplaced : PlacedTree → Tree
 unplaced (Empty_at p) = Empty
 unplaced (Text_at p) = Text
+unplaced (Words_at p w) = Words w
 unplaced (Name_at p x) = Name x
 unplaced (Elem_at p c T) = Elem c (unplaced T)
 unplaced (Seq_at p T U) = Seq (unplaced T) (unplaced U)
@@ -59,6 +62,7 @@ placed_alt p (t ∷ (u ∷ us)) = Alt_at p t (placed_alt (place_of u) (u ∷ us)
 abbrev pub placed_form : (ℕ → PlacedTree) → Place → Form → PlacedTree
 placed_form t p empty_form = Empty_at p
 placed_form t p text_form = Text_at p
+placed_form t p (words_form w) = Words_at p w
 placed_form t p (name_form w) = Name_at p w
 placed_form t p (elem_form c i) = Elem_at p c (t i)
 placed_form t p (seq_form is) = placed_seq p (map t is)
@@ -84,13 +88,4 @@ placed_at rs i = placed_in (placed_after [] rs) i
 
 -- the variables of a pattern, one for each occurrence, in order
 abbrev pub variables : PlacedTree → List (List ℕ)
-variables (Empty_at p) = []
-variables (Text_at p) = []
-variables (Name_at p x) = []
-variables (Elem_at p c T) = variables T
-variables (Seq_at p T U) = variables T ++ variables U
-variables (Alt_at p T U) = variables T ++ variables U
-variables (Star_at p T) = variables T
-variables (Plus_at p T) = variables T
-variables (Opt_at p T) = variables T
-variables (Val_at p x q T) = x ∷ variables T
+variables T = occurrences (unplaced T)

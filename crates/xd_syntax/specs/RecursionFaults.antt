@@ -4,7 +4,7 @@ use Rattle.std.specs.Str.{bytes_eq}
 use Rattle.xd_base.specs.declared.Place.{Place}
 use Rattle.xd_doc.specs.Document.{empty}
 use Rattle.xd_syntax.specs.Tree.{Tree, Definitions}
-use Rattle.xd_syntax.specs.Placed.{PlacedTree, Empty_at, Text_at, Name_at, Elem_at, Seq_at, Alt_at, Star_at, Plus_at, Opt_at, Val_at, unplaced}
+use Rattle.xd_syntax.specs.Placed.{PlacedTree, Name_at, Seq_at, Alt_at, Star_at, Plus_at, Opt_at, Val_at, unplaced}
 use Rattle.xd_syntax.specs.Fits.{Fits}
 use Rattle.xd_syntax.specs.Ways.{Among}
 use Rattle.xd_syntax.specs.Program.{TypeDefinition, ProgramTree, names_of}
@@ -29,16 +29,14 @@ behind_type T u = record u { before = T ∷ u.before }
 
 -- the uses outside every label, in order
 abbrev pub top_uses : PlacedTree → List Use
-top_uses (Empty_at p) = []
-top_uses (Text_at p) = []
 top_uses (Name_at p x) = record { name = x; place = p; is_tail = true; before = [] } ∷ []
-top_uses (Elem_at p c T) = []
 top_uses (Seq_at p T U) = map not_tail (top_uses T) ++ map (behind_type (unplaced T)) (top_uses U)
 top_uses (Alt_at p T U) = top_uses T ++ top_uses U
 top_uses (Star_at p T) = map not_tail (top_uses T)
 top_uses (Plus_at p T) = map not_tail (top_uses T)
 top_uses (Opt_at p T) = top_uses T
 top_uses (Val_at p x q T) = top_uses T
+top_uses _ = []
 
 abbrev pub AllCanBeEmpty : Definitions → List Tree → Type 0
 AllCanBeEmpty E [] = Unit {0}

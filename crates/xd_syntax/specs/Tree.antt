@@ -1,14 +1,15 @@
 -- Types and patterns as trees, places aside.
-use Rattle.std.specs.Prelude.{ℕ, Bool, true, false, cond, List, [], ◌∷◌, Option, Some, None}
+use Rattle.std.specs.Prelude.{ℕ, Bool, true, false, cond, List, [], ◌∷◌, ◌++◌, Option, Some, None}
 use Rattle.std.specs.Str.{bytes_eq}
-use Rattle.xd_doc.specs.Classes.{LabelClass}
+use Rattle.xd_doc.specs.Classes.{LabelClass, TextClass}
 use Rattle.xd_syntax.specs.Words.{any_word}
 
 -- A type or a pattern. A sequence or an alternative of more than two parts leans to the right.
--- `Text` is the type `String`; `Val` binds a variable, and stands in patterns alone.
+-- `Text` is the type `String`, `Words` a class of texts; `Val` binds a variable, and stands in patterns alone.
 pub data Tree : Type 0 where
   Empty : Tree
   Text : Tree
+  Words : (texts : TextClass) → Tree
   Name : (word : List ℕ) → Tree
   Elem : (class : LabelClass) (content : Tree) → Tree
   Seq : (first : Tree) (rest : Tree) → Tree
@@ -26,9 +27,12 @@ abbrev pub body : Definitions → List ℕ → Option Tree
 body [] x = None
 body (p ∷ ps) x = cond (bytes_eq p.0 x) (Some p.1) (body ps x)
 
--- all labels
+-- all labels; all texts
 abbrev pub all_labels : LabelClass
 all_labels = record { names = []; except = true }
+
+abbrev pub all_texts : TextClass
+all_texts = record { names = []; except = true }
 
 -- `(~[Any]|String)*`
 abbrev pub any_type : Tree
@@ -40,9 +44,6 @@ environment E = (any_word, any_type) ∷ E
 
 -- the binders dropped
 abbrev pub bare : Tree → Tree
-bare Empty = Empty
-bare Text = Text
-bare (Name x) = Name x
 bare (Elem c T) = Elem c (bare T)
 bare (Seq T U) = Seq (bare T) (bare U)
 bare (Alt T U) = Alt (bare T) (bare U)
@@ -50,6 +51,18 @@ bare (Star T) = Star (bare T)
 bare (Plus T) = Plus (bare T)
 bare (Opt T) = Opt (bare T)
 bare (Val x T) = bare T
+bare T = T
+
+-- the variables of a pattern, one for each occurrence, in order; what a name stands for has none
+abbrev pub occurrences : Tree → List (List ℕ)
+occurrences (Elem c T) = occurrences T
+occurrences (Seq T U) = occurrences T ++ occurrences U
+occurrences (Alt T U) = occurrences T ++ occurrences U
+occurrences (Star T) = occurrences T
+occurrences (Plus T) = occurrences T
+occurrences (Opt T) = occurrences T
+occurrences (Val x T) = x ∷ occurrences T
+occurrences _ = []
 
 -- the sequence and the alternative of a list of parts
 abbrev pub seq_of : List Tree → Tree

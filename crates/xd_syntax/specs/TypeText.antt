@@ -1,7 +1,8 @@
 -- The canonical text of a type, in bytes, and its depth.
-use Rattle.std.specs.Prelude.{ℕ, ◌+◌, max, Bool, true, false, cond, List, [], ◌∷◌, ◌++◌}
-use Rattle.xd_doc.specs.Classes.{LabelClass}
-use Rattle.xd_syntax.specs.Tree.{Tree, Empty, Text, Name, Elem, Seq, Alt, Star, Plus, Opt, Val, is_empty}
+use Rattle.std.specs.Prelude.{ℕ, ◌+◌, max, Bool, true, false, cond, List, [], ◌∷◌, ◌++◌, map, codes}
+use Rattle.xd_doc.specs.Document.{escaped_all}
+use Rattle.xd_doc.specs.Classes.{LabelClass, TextClass}
+use Rattle.xd_syntax.specs.Tree.{Tree, Empty, Text, Words, Name, Elem, Seq, Alt, Star, Plus, Opt, Val, is_empty}
 use Rattle.xd_syntax.specs.Words.{string_word}
 
 -- what may stand without parentheses: any type; no alternative; no sequence besides; no postfix operator besides
@@ -12,7 +13,7 @@ pub data Level : Type 0 where
   primary_level : Level
 
 abbrev pub in_parentheses : List ℕ → List ℕ
-in_parentheses s = 40 ∷ s ++ 41 ∷ []
+in_parentheses s = codes "(" ++ s ++ codes ")"
 
 -- an alternative, a sequence and a postfix operator want parentheses at these levels
 abbrev pub alternative_wants : Level → Bool
@@ -35,9 +36,9 @@ parted b s = cond b (in_parentheses s) s
 abbrev pub barred : List (List ℕ) → List ℕ
 barred [] = []
 barred (w ∷ []) = w
-barred (w ∷ (v ∷ vs)) = w ++ 124 ∷ barred (v ∷ vs)
+barred (w ∷ (v ∷ vs)) = w ++ codes "|" ++ barred (v ∷ vs)
 
--- one label stands alone, more stand in parentheses
+-- one label or text stands alone, more stand in parentheses
 abbrev pub labels_text : List (List ℕ) → List ℕ
 labels_text [] = in_parentheses []
 labels_text (w ∷ []) = w
@@ -45,23 +46,32 @@ labels_text (w ∷ (v ∷ vs)) = in_parentheses (barred (w ∷ (v ∷ vs)))
 
 -- `~`, or `^` before the excepted labels
 abbrev pub excepted_text : List (List ℕ) → List ℕ
-excepted_text [] = 126 ∷ []
-excepted_text (w ∷ ws) = 94 ∷ labels_text (w ∷ ws)
+excepted_text [] = codes "~"
+excepted_text (w ∷ ws) = codes "^" ++ labels_text (w ∷ ws)
 
 abbrev pub class_text : LabelClass → List ℕ
 class_text c = cond c.except (excepted_text c.names) (labels_text c.names)
 
--- the text at a level; nothing is written for an empty content
+-- a text in quotes
+abbrev pub quoted : List ℕ → List ℕ
+quoted s = codes "\"" ++ escaped_all s ++ codes "\""
+
+-- one text stands alone, or behind `^`; more stand behind `^` in parentheses
+abbrev pub words_text : TextClass → List ℕ
+words_text w = cond w.except (codes "^") [] ++ labels_text (map quoted w.names)
+
+-- the text at a level; nothing is written for the empty content of an element
 abbrev pub text_at_level : Level → Tree → List ℕ
-text_at_level v Empty = 40 ∷ 41 ∷ []
+text_at_level v Empty = codes "()"
 text_at_level v Text = string_word
+text_at_level v (Words w) = words_text w
 text_at_level v (Name x) = x
-text_at_level v (Elem c T) = class_text c ++ 91 ∷ cond (is_empty T) [] (text_at_level any_type_level T) ++ 93 ∷ []
-text_at_level v (Seq T U) = parted (sequence_wants v) (text_at_level postfix_level T ++ 44 ∷ text_at_level sequence_level U)
-text_at_level v (Alt T U) = parted (alternative_wants v) (text_at_level sequence_level T ++ 124 ∷ text_at_level any_type_level U)
-text_at_level v (Star T) = parted (postfix_wants v) (text_at_level primary_level T ++ 42 ∷ [])
-text_at_level v (Plus T) = parted (postfix_wants v) (text_at_level primary_level T ++ 43 ∷ [])
-text_at_level v (Opt T) = parted (postfix_wants v) (text_at_level primary_level T ++ 63 ∷ [])
+text_at_level v (Elem c T) = class_text c ++ codes "[" ++ cond (is_empty T) [] (text_at_level any_type_level T) ++ codes "]"
+text_at_level v (Seq T U) = parted (sequence_wants v) (text_at_level postfix_level T ++ codes "," ++ text_at_level sequence_level U)
+text_at_level v (Alt T U) = parted (alternative_wants v) (text_at_level sequence_level T ++ codes "|" ++ text_at_level any_type_level U)
+text_at_level v (Star T) = parted (postfix_wants v) (text_at_level primary_level T ++ codes "*")
+text_at_level v (Plus T) = parted (postfix_wants v) (text_at_level primary_level T ++ codes "+")
+text_at_level v (Opt T) = parted (postfix_wants v) (text_at_level primary_level T ++ codes "?")
 text_at_level v (Val x T) = text_at_level v T
 
 abbrev pub type_text : Tree → List ℕ
@@ -70,11 +80,15 @@ type_text T = text_at_level any_type_level T
 abbrev pub deeper : Bool → ℕ → ℕ
 deeper b n = cond b (n + 1) n
 
+-- a list of more than one stands in parentheses
+abbrev pub list_depth : List (List ℕ) → ℕ
+list_depth (s ∷ (t ∷ ts)) = 1
+list_depth _ = 0
+
 -- how many brackets and parentheses are open at most, the class lists' too
 abbrev pub depth_at_level : Level → Tree → ℕ
 depth_at_level v Empty = 1
-depth_at_level v Text = 0
-depth_at_level v (Name x) = 0
+depth_at_level v (Words w) = list_depth w.names
 depth_at_level v (Elem c T) = cond (is_empty T) 0 (depth_at_level any_type_level T) + 1
 depth_at_level v (Seq T U) = deeper (sequence_wants v) (max (depth_at_level postfix_level T) (depth_at_level sequence_level U))
 depth_at_level v (Alt T U) = deeper (alternative_wants v) (max (depth_at_level sequence_level T) (depth_at_level any_type_level U))
@@ -82,6 +96,7 @@ depth_at_level v (Star T) = deeper (postfix_wants v) (depth_at_level primary_lev
 depth_at_level v (Plus T) = deeper (postfix_wants v) (depth_at_level primary_level T)
 depth_at_level v (Opt T) = deeper (postfix_wants v) (depth_at_level primary_level T)
 depth_at_level v (Val x T) = depth_at_level v T
+depth_at_level v _ = 0
 
 abbrev pub depth : Tree → ℕ
 depth T = depth_at_level any_type_level T

@@ -1,11 +1,11 @@
 -- Types as the program keeps them.
 use Rattle.std.specs.Prelude.{ℕ, ◌<◌, List, map, length}
 use Rattle.xd_syntax.specs.Tree.{Tree, Definitions}
-use Rattle.xd_syntax.specs.Table.{Row, Form, empty_form, text_form, name_form, elem_form, seq_form, alt_form, star_form, plus_form, opt_form, tree_at}
+use Rattle.xd_syntax.specs.Table.{Row, Form, empty_form, text_form, words_form, name_form, elem_form, seq_form, alt_form, star_form, plus_form, opt_form, tree_at}
 use Rattle.xd_syntax.specs.declared.types.TypeId.{TypeId}
 use Rattle.xd_syntax.specs.declared.types.TypeDef.{TypeDef}
 use Rattle.xd_syntax.specs.declared.types.TypeForm.{TypeForm}
-use Rattle.xd_syntax.specs.declared.types.TypeForm.TheVariants.{Empty, Text, Name, Elem, Seq, Alt, Star, Plus, Opt}
+use Rattle.xd_syntax.specs.declared.types.TypeForm.TheVariants.{Empty, Text, Words, Name, Elem, Seq, Alt, Star, Plus, Opt}
 
 abbrev pub type_numbers : List TypeId → List ℕ
 type_numbers ids = map (λ id. id.at) ids
@@ -13,6 +13,7 @@ type_numbers ids = map (λ id. id.at) ids
 abbrev pub form_of : TypeForm → Form
 form_of Empty = empty_form
 form_of Text = text_form
+form_of (Words w) = words_form w
 form_of (Name w) = name_form w
 form_of (Elem c i) = elem_form c i.at
 form_of (Seq parts) = seq_form (type_numbers parts.items)

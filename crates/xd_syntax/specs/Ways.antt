@@ -2,8 +2,8 @@
 -- (Hosoya and Pierce, JFP 2003: first match; that a turn of a repetition takes something is this project's own).
 use Rattle.std.specs.Prelude.{◌≡◌, ℕ, suc, zero, ◌+◌, ◌*◌, nat_lt, Bool, true, not, cond, ◌⊎◌, List, [], ◌∷◌, ◌++◌, map, flat_map, Option, Some, None, length}
 use Rattle.xd_doc.specs.Document.{Document, empty, text, element, join, size, has_item}
-use Rattle.xd_doc.specs.Classes.{LabelClass, class_has}
-use Rattle.xd_syntax.specs.Tree.{Tree, Empty, Text, Name, Elem, Seq, Alt, Star, Plus, Opt, Val, Definitions, body}
+use Rattle.xd_doc.specs.Classes.{LabelClass, TextClass, class_has}
+use Rattle.xd_syntax.specs.Tree.{Tree, Empty, Text, Words, Name, Elem, Seq, Alt, Star, Plus, Opt, Val, Definitions, body}
 
 -- what a way binds, the prefix that it takes, and the rest
 pub record Way : Type 0 where
@@ -44,6 +44,12 @@ text_ways empty = []
 text_ways (text s r) = record { bindings = []; taken = text s empty; rest = r } ∷ []
 text_ways (element l c r) = []
 
+-- a text of the class
+abbrev pub words_ways : TextClass → Document → List Way
+words_ways w empty = []
+words_ways w (text s r) = cond (class_has w s) (record { bindings = []; taken = text s empty; rest = r } ∷ []) []
+words_ways w (element l c r) = []
+
 -- the rest is empty
 abbrev pub is_whole : Way → Bool
 is_whole w = not (has_item w.rest)
@@ -65,6 +71,7 @@ binding x v = record v { bindings = (x, v.taken) ∷ v.bindings }
 abbrev pub ways_by : (List ℕ → Document → List Way) → Tree → Document → List Way
 ways_by N Empty d = no_item_way d ∷ []
 ways_by N Text d = text_ways d
+ways_by N (Words w) d = words_ways w d
 ways_by N (Name x) d = N x d
 ways_by N (Elem c T) d = element_ways c (ways_by N T) d
 ways_by N (Seq T U) d = in_turn (ways_by N T) (ways_by N U) d

@@ -4,6 +4,7 @@ ghost use Rattle.std.specs.Prelude.{◌≡◌, ◌++◌, ◌∷◌, [], ℕ, Lis
 ghost use Rattle.xd_syntax.specs.Table.{Row};
 ghost use Rattle.xd_syntax.specs.Placed.{placed_at};
 ghost use Rattle.xd_syntax.specs.Expression.{KeepsExprs, ExprCanFollow, ExprPartsBelow, PatternsBelong, ShapePatternsBelong, expression_at, shape_at, shape_expression};
+ghost use Rattle.xd_syntax.specs.ProperTables.{IsProperShape, IsExprTable};
 ghost use Rattle.xd_syntax.specs.Exprs.{IsExpr, shape_of, expression};
 
 use crate::patterns::PatternId;
@@ -61,13 +62,39 @@ pub struct Exprs {
 
 impl Model for Exprs {
     ghost use Rattle.std.specs.Prelude.{List};
-    ghost use Rattle.xd_syntax.specs.Expression.{ExprRow, ExprsAreBuilt};
+    ghost use Rattle.xd_syntax.specs.Expression.{ExprRow};
+    ghost use Rattle.xd_syntax.specs.ProperTables.{IsExprTable};
 
     ghost Value = { List ExprRow };
 
     ghost view = { λ t. t.nodes.items };
 
-    ghost invariant = { λ t. ExprsAreBuilt t.nodes.items };
+    ghost invariant = { λ t. IsExprTable t.nodes.items };
+}
+
+impl ExprForm {
+    /// Its words are words, and its text is a text: what its parts say, for the proof alone.
+    fn see_words(&self)
+        ensures { IsProperShape (shape_of self.now) }
+    {
+        match self {
+            ExprForm::Empty => {}
+            ExprForm::Text(text) => {
+                let _text = text.as_str();
+            }
+            ExprForm::Var(variable) => {
+                let _word = variable.as_str();
+            }
+            ExprForm::Elem(label, _) => {
+                let _word = label.as_str();
+            }
+            ExprForm::Seq(_) => {}
+            ExprForm::Call(function, _) => {
+                let _word = function.as_str();
+            }
+            ExprForm::Match(_, _) => {}
+        }
+    }
 }
 
 impl ExprNode {
@@ -101,6 +128,13 @@ impl Exprs {
         self.nodes.len()
     }
 
+    /// What is so of every table.
+    pub(crate) fn see_table(&self)
+        ensures { IsExprTable self.now }
+    {
+        let _nodes = &self.nodes;
+    }
+
     /// One more node.
     pub fn add(&mut self, place: Place, form: ExprForm) -> Result<ExprId, NoMemory>
         requires { ExprCanFollow self.old (shape_of form) }
@@ -111,6 +145,7 @@ impl Exprs {
         ensures err { OnErr result (self.new ≡ self.old) }
     {
         let at = self.len();
+        form.see_words();
         self.nodes.push(ExprNode { place, form })?;
         Ok(ExprId { at })
     }

@@ -4,18 +4,16 @@
 mod adopt;
 mod exprs;
 mod fault;
-pub mod laws;
+mod nodes;
 mod order;
 mod patterns;
-pub mod plain;
 mod program;
 mod sound;
-#[cfg(test)]
-mod tests;
 mod types;
 
 pub use exprs::{Clause, ExprForm, ExprId, ExprNode, Exprs};
 pub use fault::{Fault, FaultKind, Warning};
+pub use nodes::{FormView, NodeView, Nodes};
 pub use order::sort_faults;
 pub use patterns::{PatternForm, PatternId, PatternNode, Patterns};
 pub use program::{Function, Param, Program};

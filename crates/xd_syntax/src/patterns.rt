@@ -1,14 +1,15 @@
 //! Patterns: nodes in a table.
 
-ghost use Rattle.std.specs.Prelude.{◌≡◌, ◌+◌, ◌++◌, ◌∷◌, [], true, length, take, IfOk, OnErr};
+ghost use Rattle.std.specs.Prelude.{◌≡◌, ◌+◌, ◌++◌, ◌∷◌, [], true, length, take, slice_index_or, IfOk, OnErr};
 ghost use Rattle.xd_syntax.specs.Placed.{placed_at, placed_form};
 ghost use Rattle.xd_syntax.specs.Table.{KeepsRows, CanFollow, PartsBelow, form_tree, tree_at};
+ghost use Rattle.xd_syntax.specs.ProperTables.{IsProperForm, IsTable};
 ghost use Rattle.xd_syntax.specs.Patterns.{IsPattern, form_of_pattern, pattern_tree};
 
 use std::alloc::Global;
 use std::marker::Model;
 use xd_base::Place;
-use xd_doc::{Class, Label, NoMemory};
+use xd_doc::{Class, Label, NoMemory, Words};
 
 /// The number of a pattern's node.
 #[derive(Clone, Copy)]
@@ -21,6 +22,7 @@ pub struct PatternId {
 pub enum PatternForm {
     Empty,
     Text,
+    Words(Words),
     Name(Label),
     Elem(Class, PatternId),
     Seq(Vec<PatternId>),
@@ -56,13 +58,43 @@ pub struct Patterns {
 
 impl Model for Patterns {
     ghost use Rattle.std.specs.Prelude.{List, true};
-    ghost use Rattle.xd_syntax.specs.Table.{Row, AreBuilt};
+    ghost use Rattle.xd_syntax.specs.Table.{Row};
+    ghost use Rattle.xd_syntax.specs.ProperTables.{IsTable};
 
     ghost Value = { List Row };
 
     ghost view = { λ t. t.nodes.items };
 
-    ghost invariant = { λ t. AreBuilt true t.nodes.items };
+    ghost invariant = { λ t. IsTable true t.nodes.items };
+}
+
+impl PatternForm {
+    /// Its words are words, and its class is as classes are built: what its parts say, for the proof alone.
+    fn see_words(&self)
+        ensures { IsProperForm (form_of_pattern self.now) }
+    {
+        match self {
+            PatternForm::Empty => {}
+            PatternForm::Text => {}
+            PatternForm::Words(texts) => {
+                let _names = texts.texts();
+            }
+            PatternForm::Name(word) => {
+                let _word = word.as_str();
+            }
+            PatternForm::Elem(class, _) => {
+                let _names = class.names();
+            }
+            PatternForm::Seq(_) => {}
+            PatternForm::Alt(_) => {}
+            PatternForm::Star(_) => {}
+            PatternForm::Plus(_) => {}
+            PatternForm::Opt(_) => {}
+            PatternForm::Val(variable, _, _) => {
+                let _word = variable.as_str();
+            }
+        }
+    }
 }
 
 impl PatternNode {
@@ -96,6 +128,13 @@ impl Patterns {
         self.nodes.len()
     }
 
+    /// What is so of every table.
+    pub(crate) fn see_table(&self)
+        ensures { IsTable true self.now }
+    {
+        let _nodes = &self.nodes;
+    }
+
     /// One more node.
     pub fn add(&mut self, place: Place, form: PatternForm) -> Result<PatternId, NoMemory>
         requires { CanFollow true self.old (form_of_pattern form) }
@@ -107,6 +146,7 @@ impl Patterns {
         ensures err { OnErr result (self.new ≡ self.old) }
     {
         let at = self.len();
+        form.see_words();
         self.nodes.push(PatternNode { place, form })?;
         Ok(PatternId { at })
     }
@@ -114,6 +154,7 @@ impl Patterns {
     /// The node of a pattern.
     pub fn node(&self, id: PatternId) -> &PatternNode
         requires { IsPattern self.now id }
+        ensures row { result.now ≡ slice_index_or self.now id.at result.now }
         ensures tree { pattern_tree self.now id ≡ form_tree (tree_at self.now) result.now.form }
         ensures placed { placed_at self.now id.at ≡ placed_form (placed_at self.now) result.now.place result.now.form }
         ensures parts { PartsBelow id.at result.now.form }

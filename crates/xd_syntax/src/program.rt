@@ -1,10 +1,15 @@
 //! Programs: definitions of types and functions, over the nodes that they are made of.
 
-ghost use Rattle.std.specs.Prelude.{◌≡◌, ◌≤◌, false, length, IfOk, OnErr};
+ghost use Rattle.std.specs.Prelude.{◌≡◌, ◌≤◌, true, false, length, IfOk, OnErr};
+ghost use Rattle.std.specs.List.{AllByRecursion};
+ghost use Rattle.xd_doc.specs.Word.{is_word};
 ghost use Rattle.xd_syntax.specs.Table.{CanFollow, form_tree, tree_at};
 ghost use Rattle.xd_syntax.specs.Types.{form_of};
 ghost use Rattle.xd_syntax.specs.Kept.{ProgramTable, ProgramStands, AddsTypes, program_tree};
+ghost use Rattle.xd_syntax.specs.FunctionRow.{HasProperNames};
+ghost use Rattle.xd_syntax.specs.Proper.{IsProperProgram};
 ghost use Rattle.xd_syntax.specs.Sound.{IsTypeAt};
+ghost use Rattle.xd_syntax.specs.Shallow.{AddsOne};
 
 use crate::exprs::{ExprId, Exprs};
 use crate::patterns::Patterns;
@@ -33,13 +38,13 @@ pub struct Function {
 
 impl Model for Function {
     ghost use Rattle.std.specs.Prelude.{◌≤◌, length};
-    ghost use Rattle.xd_syntax.specs.FunctionRow.{FunctionRow};
+    ghost use Rattle.xd_syntax.specs.FunctionRow.{FunctionRow, HasProperNames};
 
     ghost Value = { FunctionRow };
 
     ghost view = { λ f. record { name = f.name; place = f.place; params = f.params.items; declared = f.result; body = f.body } };
 
-    ghost invariant = { λ f. 1 ≤ length f.params.items };
+    ghost invariant = { λ f. (1 ≤ length f.params.items) × HasProperNames (record { name = f.name; place = f.place; params = f.params.items; declared = f.result; body = f.body }) };
 }
 
 /// A program as it was read.
@@ -53,13 +58,13 @@ pub struct Program {
 }
 
 impl Model for Program {
-    ghost use Rattle.xd_syntax.specs.Kept.{ProgramTable, ProgramStands};
+    ghost use Rattle.xd_syntax.specs.Kept.{ProgramTable, IsKept};
 
     ghost Value = { ProgramTable };
 
     ghost view = { λ p. record { types = p.types; patterns = p.patterns; exprs = p.exprs; type_defs = p.type_defs.items; functions = p.functions.items } };
 
-    ghost invariant = { λ p. ProgramStands (record { types = p.types; patterns = p.patterns; exprs = p.exprs; type_defs = p.type_defs.items; functions = p.functions.items }) };
+    ghost invariant = { λ p. IsKept (record { types = p.types; patterns = p.patterns; exprs = p.exprs; type_defs = p.type_defs.items; functions = p.functions.items }) };
 }
 
 impl Function {
@@ -73,6 +78,8 @@ impl Function {
         requires { 1 ≤ length params.items }
         ensures { result ≡ record { name = name; place = place; params = params.items; declared = result_type; body = body } }
     {
+        let _word = name.as_str();
+        see_parameters(&params);
         Self {
             name,
             place,
@@ -80,6 +87,13 @@ impl Function {
             result: result_type,
             body,
         }
+    }
+
+    /// What is so of the names of every function.
+    fn see_names(&self)
+        ensures { HasProperNames self.now }
+    {
+        let _name = &self.name;
     }
 
     pub fn name(&self) -> &Label
@@ -127,6 +141,11 @@ impl Program {
         requires { ProgramStands (record { types = types; patterns = patterns; exprs = exprs; type_defs = type_defs.items; functions = functions.items }) }
         ensures { result ≡ record { types = types; patterns = patterns; exprs = exprs; type_defs = type_defs.items; functions = functions.items } }
     {
+        types.see_table();
+        patterns.see_table();
+        exprs.see_table();
+        see_definitions(&type_defs);
+        see_functions(&functions);
         Self {
             types,
             patterns,
@@ -134,6 +153,13 @@ impl Program {
             type_defs,
             functions,
         }
+    }
+
+    /// Its words are words, its texts have characters that UTF-8 can spell, and its classes are as they are built.
+    pub(crate) fn see_program(&self)
+        ensures { IsProperProgram (program_tree self.now) }
+    {
+        let _types = &self.types;
     }
 
     pub fn types(&self) -> &Types
@@ -177,8 +203,36 @@ impl Program {
         ensures ok { IfOk result (IsTypeAt self.new.types (form_tree (tree_at self.old.types) (form_of form))) }
         ensures adds { AddsTypes self.old self.new }
         ensures same { program_tree self.new ≡ program_tree self.old }
+        ensures one { AddsOne (form_tree (tree_at self.old.types) (form_of form)) self.old.types self.new.types }
         ensures err { OnErr result (self.new ≡ self.old) }
     {
-        self.types.add(place, form)
+        let added = self.types.add(place, form);
+        self.types.see_table();
+        added
+    }
+}
+
+/// Each parameter's name is a word. The walk is for the proof alone, as those below.
+fn see_parameters(params: &[Param])
+    ensures { AllByRecursion (λ q. is_word q.name ≡ true) params.now }
+{
+    for param in params {
+        let _word = param.name.as_str();
+    }
+}
+
+fn see_definitions(defs: &[TypeDef])
+    ensures { AllByRecursion (λ d. is_word d.name ≡ true) defs.now }
+{
+    for def in defs {
+        let _word = def.name.as_str();
+    }
+}
+
+fn see_functions(functions: &[Function])
+    ensures { AllByRecursion HasProperNames functions.now }
+{
+    for function in functions {
+        function.see_names();
     }
 }

@@ -1,22 +1,27 @@
 //! Programs without faults of names, arity, linearity and recursion, and those that are checked besides.
 
-ghost use Rattle.std.specs.Prelude.{◌≡◌, true, false, length, IfOk, OnErr, is_some};
+ghost use Rattle.std.specs.Prelude.{◌≡◌, ◌+◌, ◌<◌, ◌≤◌, true, false, length, vec_len, IfOk, OnErr, is_some};
+ghost use Rattle.std.specs.List.{AllByRecursion, list_all};
 ghost use Rattle.std.specs.Option.{IfSome, option_copied};
 ghost use Rattle.std.specs.Str.{bytes_eq};
 ghost use Rattle.xd_syntax.specs.Words.{has_word, string_word, is_type_name};
-ghost use Rattle.xd_syntax.specs.Table.{CanFollow, PartsBelow, form_tree, tree_at};
+ghost use Rattle.xd_syntax.specs.Table.{CanFollow, form_tree, tree_at};
 ghost use Rattle.xd_syntax.specs.Types.{form_of, tree, BelongsTo};
+ghost use Rattle.xd_syntax.specs.Shallow.{AddsOne, AddsWithin, IsShallow};
+ghost use Rattle.xd_syntax.specs.TypeText.{depth};
 ghost use Rattle.xd_syntax.specs.Kept.{AddsTypes, program_tree};
+ghost use Rattle.xd_syntax.specs.Proper.{IsProperProgram};
 ghost use Rattle.xd_syntax.specs.RecursionFaults.{IsSound};
 ghost use Rattle.xd_syntax.specs.CheckFaults.{IsAccepted};
 ghost use Rattle.xd_syntax.specs.NameFaults.{known_types};
-ghost use Rattle.xd_syntax.specs.Adopt.{uses_only, form_tested};
+ghost use Rattle.xd_syntax.specs.Adopt.{uses_only, size, row_at, AreReached, form_known, copy_at, copied_form};
 ghost use Rattle.xd_syntax.specs.Sound.{IsTypeAt, type_named, is_defined, definition_of, main_parameter, only_parameter};
 
-use crate::adopt::{copy_form, parts_tested};
+use crate::adopt::{copy_form, copy_of, reached_from};
 use crate::program::{Function, Param, Program};
 use crate::types::{TypeDef, TypeForm, TypeId, Types};
 use std::alloc::Global;
+use std::collections::HashMap;
 use std::marker::Model;
 use xd_base::Place;
 use xd_doc::{Label, NoMemory};
@@ -66,8 +71,10 @@ impl SoundProgram {
 
     pub fn program(&self) -> &Program
         ensures program { result.now ≡ self.now }
+        ensures proper { IsProperProgram (program_tree self.now) }
         ensures sound { IsSound (program_tree self.now) }
     {
+        self.program.see_program();
         &self.program
     }
 
@@ -77,6 +84,7 @@ impl SoundProgram {
         ensures found { IfOk result (λ found. IfSome found (IsTypeAt self.new.types (type_named word.now))) }
         ensures adds { AddsTypes self.old self.new }
         ensures same { program_tree self.new ≡ program_tree self.old }
+        ensures shallow { IsShallow self.old.types → IsShallow self.new.types }
     {
         if word == "String" {
             return Ok(Some(self.add(TypeForm::Text)?));
@@ -104,6 +112,9 @@ impl SoundProgram {
 
     /// A type of another table, taken into the program; `None` exactly where it uses a name that is not defined, and then
     /// nothing is added.
+    ///
+    /// It copies the nodes that the type reaches, each once, in n log n steps for n parts of these nodes, whatever else the
+    /// other table holds. Each name among them is besides looked for in the definitions, one after the other.
     pub fn adopt(&mut self, types: &Types, id: TypeId) -> Result<Option<TypeId>, NoMemory>
         requires { BelongsTo types.now id }
         ensures defined { IfOk result (λ adopted. is_some adopted ≡ uses_only (known_types (program_tree self.old)) (tree types.now id)) }
@@ -111,41 +122,38 @@ impl SoundProgram {
         ensures none { IfOk result (λ adopted. adopted ≡ None → self.new ≡ self.old) }
         ensures adds { AddsTypes self.old self.new }
         ensures same { program_tree self.new ≡ program_tree self.old }
+        ensures few { length self.new.types ≤ length self.old.types + size (tree types.now id) }
+        ensures within { AddsWithin (depth (tree types.now id)) self.old.types self.new.types }
+        ensures shallow { depth (tree types.now id) ≤ 256 → IsShallow self.old.types → IsShallow self.new.types }
     {
-        if !self.uses_defined(types, id)? {
+        types.see_table();
+        let reached = reached_from(self.alloc, types, id)?;
+        if !self.defines_all(types, &reached) {
             return Ok(None);
         }
-        Ok(Some(self.copy_in(types, id)?))
+        Ok(Some(self.copy_in(types, id, reached)?))
     }
 
-    fn uses_defined(&self, types: &Types, id: TypeId) -> Result<bool, NoMemory>
-        requires { BelongsTo types.now id }
-        ensures { IfOk result (λ passed. passed ≡ uses_only (known_types (program_tree self.now)) (tree types.now id)) }
+    /// Whether each of these nodes that is a name is a defined one.
+    fn defines_all(&self, types: &Types, reached: &[usize]) -> bool
+        requires { AllByRecursion (λ i. i < length types.now) reached.now }
+        ensures { result ≡ list_all (λ i. form_known (known_types (program_tree self.now)) (row_at types.now i).form) reached.now }
     {
-        let _count = types.len();
-        let mut tests = Vec::new(self.alloc);
-        for at in 0..id.at() + 1 {
-            let node = types.node(TypeId::of(at));
-            let passed = self.form_passes(node.form(), &tests);
-            tests.push(passed)?;
+        for at in reached {
+            if !self.defines(types.node(TypeId::of(*at)).form()) {
+                return false;
+            }
         }
-        Ok(tests[id.at()])
+        true
     }
 
-    fn form_passes(&self, form: &TypeForm, tests: &[bool]) -> bool
-        requires { PartsBelow (length tests.now) (form_of form.now) }
-        ensures { result ≡ form_tested (known_types (program_tree self.now)) tests.now (form_of form.now) }
+    /// Whether the form, if it is a name, is a defined one.
+    fn defines(&self, form: &TypeForm) -> bool
+        ensures { result ≡ form_known (known_types (program_tree self.now)) (form_of form.now) }
     {
         match form {
-            TypeForm::Empty => true,
-            TypeForm::Text => true,
             TypeForm::Name(word) => self.is_known(word),
-            TypeForm::Elem(_, content) => tests[content.at()],
-            TypeForm::Seq(parts) => parts_tested(parts, tests),
-            TypeForm::Alt(parts) => parts_tested(parts, tests),
-            TypeForm::Star(part) => tests[part.at()],
-            TypeForm::Plus(part) => tests[part.at()],
-            TypeForm::Opt(part) => tests[part.at()],
+            _ => true,
         }
     }
 
@@ -158,22 +166,44 @@ impl SoundProgram {
         definition_named(self.program.type_defs(), word.as_str()).is_some()
     }
 
-    fn copy_in(&mut self, types: &Types, id: TypeId) -> Result<TypeId, NoMemory>
-        requires { BelongsTo types.now id }
+    /// Copies the nodes that a type reaches, the oldest first.
+    fn copy_in(
+        &mut self,
+        types: &Types,
+        id: TypeId,
+        reached: Vec<usize>,
+    ) -> Result<TypeId, NoMemory>
+        requires belongs { BelongsTo types.now id }
+        requires reached { AreReached types.now id.at reached.items }
         ensures ok { IfOk result (IsTypeAt self.new.types (tree types.now id)) }
         ensures adds { AddsTypes self.old self.new }
         ensures same { program_tree self.new ≡ program_tree self.old }
+        ensures few { length self.new.types ≤ length self.old.types + vec_len reached }
+        ensures within { AddsWithin (depth (tree types.now id)) self.old.types self.new.types }
     {
-        let alloc = self.alloc;
-        let _count = types.len();
-        let mut copies = Vec::new(alloc);
-        for at in 0..id.at() + 1 {
-            let node = types.node(TypeId::of(at));
-            let form = copy_form(alloc, node.form(), &copies)?;
-            let copy = self.add(form)?;
-            copies.push(copy)?;
+        types.see_table();
+        let mut reached = reached;
+        let mut copies = HashMap::with_capacity(self.alloc, reached.len())?;
+        while let Some(at) = reached.pop() {
+            let copy = self.copy_node(types.node(TypeId::of(at)).form(), &copies)?;
+            copies.insert(at, copy)?;
         }
-        Ok(copies[id.at()])
+        Ok(copy_of(&copies, id))
+    }
+
+    fn copy_node(
+        &mut self,
+        form: &TypeForm,
+        copies: &HashMap<usize, TypeId>,
+    ) -> Result<TypeId, NoMemory>
+        requires { CanFollow false self.old.types (copied_form (copy_at copies.now) (form_of form.now)) }
+        ensures ok { IfOk result (IsTypeAt self.new.types (form_tree (tree_at self.old.types) (copied_form (copy_at copies.now) (form_of form.now)))) }
+        ensures adds { AddsTypes self.old self.new }
+        ensures same { program_tree self.new ≡ program_tree self.old }
+        ensures one { AddsOne (form_tree (tree_at self.old.types) (copied_form (copy_at copies.now) (form_of form.now))) self.old.types self.new.types }
+    {
+        let copy = copy_form(self.alloc, form, copies)?;
+        self.add(copy)
     }
 
     fn add(&mut self, form: TypeForm) -> Result<TypeId, NoMemory>
@@ -181,6 +211,7 @@ impl SoundProgram {
         ensures ok { IfOk result (IsTypeAt self.new.types (form_tree (tree_at self.old.types) (form_of form))) }
         ensures adds { AddsTypes self.old self.new }
         ensures same { program_tree self.new ≡ program_tree self.old }
+        ensures one { AddsOne (form_tree (tree_at self.old.types) (form_of form)) self.old.types self.new.types }
     {
         self.program.add_type(Place { line: 1, column: 1 }, form)
     }
@@ -194,10 +225,13 @@ impl Checked {
         Self { sound }
     }
 
+    /// What follows for its runs is the law `accepted_programs_are_safe` of the crate `xd_laws`.
     pub fn sound(&self) -> &SoundProgram
         ensures sound { result.now ≡ self.now }
+        ensures proper { IsProperProgram (program_tree self.now) }
         ensures accepted { IsAccepted (program_tree self.now) }
     {
+        let _program = self.sound.program();
         &self.sound
     }
 

@@ -3,12 +3,13 @@
 ghost use Rattle.std.specs.Prelude.{◌≡◌, ◌+◌, ◌++◌, ◌∷◌, [], false, length, take, slice_index_or, IfOk, OnErr};
 ghost use Rattle.xd_syntax.specs.Placed.{placed_at, placed_form};
 ghost use Rattle.xd_syntax.specs.Table.{KeepsRows, CanFollow, PartsBelow, form_tree, tree_at};
+ghost use Rattle.xd_syntax.specs.ProperTables.{IsProperForm, IsTable};
 ghost use Rattle.xd_syntax.specs.Types.{BelongsTo, form_of, tree};
 
 use std::alloc::Global;
 use std::marker::Model;
 use xd_base::Place;
-use xd_doc::{Class, Label, NoMemory};
+use xd_doc::{Class, Label, NoMemory, Words};
 
 /// The number of a type's node.
 #[derive(Clone, Copy)]
@@ -21,6 +22,7 @@ pub struct TypeId {
 pub enum TypeForm {
     Empty,
     Text,
+    Words(Words),
     Name(Label),
     Elem(Class, TypeId),
     Seq(Vec<TypeId>),
@@ -62,13 +64,14 @@ pub struct Types {
 
 impl Model for Types {
     ghost use Rattle.std.specs.Prelude.{List, false};
-    ghost use Rattle.xd_syntax.specs.Table.{Row, AreBuilt};
+    ghost use Rattle.xd_syntax.specs.Table.{Row};
+    ghost use Rattle.xd_syntax.specs.ProperTables.{IsTable};
 
     ghost Value = { List Row };
 
     ghost view = { λ t. t.nodes.items };
 
-    ghost invariant = { λ t. AreBuilt false t.nodes.items };
+    ghost invariant = { λ t. IsTable false t.nodes.items };
 }
 
 impl TypeId {
@@ -84,6 +87,32 @@ impl TypeId {
         ensures { result ≡ record { at = at } }
     {
         Self { at }
+    }
+}
+
+impl TypeForm {
+    /// Its words are words, and its class is as classes are built: what its parts say, for the proof alone.
+    fn see_words(&self)
+        ensures { IsProperForm (form_of self.now) }
+    {
+        match self {
+            TypeForm::Empty => {}
+            TypeForm::Text => {}
+            TypeForm::Words(texts) => {
+                let _names = texts.texts();
+            }
+            TypeForm::Name(word) => {
+                let _word = word.as_str();
+            }
+            TypeForm::Elem(class, _) => {
+                let _names = class.names();
+            }
+            TypeForm::Seq(_) => {}
+            TypeForm::Alt(_) => {}
+            TypeForm::Star(_) => {}
+            TypeForm::Plus(_) => {}
+            TypeForm::Opt(_) => {}
+        }
     }
 }
 
@@ -118,6 +147,20 @@ impl Types {
         self.nodes.len()
     }
 
+    /// Takes off the newest nodes, so that at most this many are left.
+    pub fn truncate(&mut self, len: usize)
+        ensures { self.new ≡ take len self.old }
+    {
+        self.nodes.truncate(len);
+    }
+
+    /// What is so of every table.
+    pub(crate) fn see_table(&self)
+        ensures { IsTable false self.now }
+    {
+        let _nodes = &self.nodes;
+    }
+
     /// One more node.
     pub fn add(&mut self, place: Place, form: TypeForm) -> Result<TypeId, NoMemory>
         requires { CanFollow false self.old (form_of form) }
@@ -129,6 +172,7 @@ impl Types {
         ensures err { OnErr result (self.new ≡ self.old) }
     {
         let at = self.len();
+        form.see_words();
         self.nodes.push(TypeNode { place, form })?;
         Ok(TypeId { at })
     }

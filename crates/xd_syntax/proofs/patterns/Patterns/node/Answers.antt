@@ -11,11 +11,12 @@ returns c =
     (let l : c.args.id.at < length c.self.inside.nodes.items = rw c.self.view_is c.requires in
     let e : get_or c.self.inside.nodes.items c.args.id.at c.index.result.now ≡ c.index.result.now = sym c.index.ensures in
     record {
-      tree = tree_is true c.self.inside.nodes.items c.args.id.at c.index.result.now c.self.invariant l
+      row = c.index.ensures;
+      tree = tree_is true c.self.inside.nodes.items c.args.id.at c.index.result.now c.self.invariant.built l
           ∙ ap (λ (r : Row). form_tree (tree_at c.self.inside.nodes.items) r.form) e;
-      placed = placed_is true c.self.inside.nodes.items c.args.id.at c.index.result.now c.self.invariant l
+      placed = placed_is true c.self.inside.nodes.items c.args.id.at c.index.result.now c.self.invariant.built l
           ∙ ap (λ (r : Row). placed_form (placed_at c.self.inside.nodes.items) r.place r.form) e;
-      parts = subst (λ (r : Row). PartsBelow c.args.id.at r.form) e (parts_at true c.self.inside.nodes.items c.args.id.at c.index.result.now c.self.invariant l);
+      parts = subst (λ (r : Row). PartsBelow c.args.id.at r.form) e (parts_at true c.self.inside.nodes.items c.args.id.at c.index.result.now c.self.invariant.built l);
       merged = subst (λ (r : Row). CanFollow true (take c.args.id.at c.self.inside.nodes.items) r.form) e
-          (follows_at true c.self.inside.nodes.items c.args.id.at c.index.result.now c.self.invariant l);
+          (follows_at true c.self.inside.nodes.items c.args.id.at c.index.result.now c.self.invariant.built l);
     })

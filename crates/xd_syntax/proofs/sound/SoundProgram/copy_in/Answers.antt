@@ -1,36 +1,46 @@
-use Rattle.std.proofs.Common.{◌≡◌, ◌<◌, List, [], ◌∷◌, length, length-append, arith, false, sym, ap, subst, ◌∙◌}
-use Rattle.xd_syntax.specs.Table.{Row, Form, CanFollow}
-use Rattle.xd_syntax.specs.Adopt.{copied_form}
-use Rattle.xd_syntax.specs.Types.{form_of}
+use Rattle.std.proofs.Common.{◌≡◌, ◌∙◌, ap, subst, arith, rules, length, vec_len}
+use Rattle.xd_syntax.specs.Sound.{IsTypeAt}
 use Rattle.xd_syntax.specs.declared.types.TypeId.{TypeId}
-use Rattle.xd_syntax.proofs.AdoptLaws.{copied_follows_at, copies_step, AddsTypes-trans}
+use Rattle.xd_syntax.proofs.AdoptLaws.{AddsTypes-trans, copy_inside, is_ready, within_more, copy_goes_on, copy_ends}
 use Rattle.xd_syntax.proofs.sound.SoundProgram.copy_in.Goals as goal
 
-pub add-requires : goal.add-requires
-add-requires c =
-    let f : Form = c.node-node.result.now.form in
-    let copies : List TypeId = c.loop-at.copies.items in
-    let k : c.of.result.at ≡ length copies = ap (λ (id : TypeId). id.at) c.of.ensures ∙ sym c.loop-at.invariant.0 in
-    let j : c.of.result.at ≡ c.loop-at.at = ap (λ (id : TypeId). id.at) c.of.ensures in
-    let h : c.loop-at.at < length c.args.types.now = omega arith in
-    let e : form_of c.in_ok-form.form ≡ copied_form copies f =
-    c.in_ok-form.ensures ∙ ap (λ cs. copied_form cs (form_of c.form.result.now)) c.deref.ensures.value ∙ ap (copied_form copies) c.form.ensures in
-    subst (CanFollow false c.loop-at.self.types) (sym e)
-    (copied_follows_at c.args.types.now c.loop-at.self.types copies c.of.result.at k (omega arith) c.loop-at.invariant.1 f c.node-node.ensures.merged)
+pub node-requires : goal.node-requires
+node-requires c =
+    let k : c.of.result.at ≡ c.in-Some.at = ap (λ (id : TypeId). id.at) c.of.ensures in
+    omega (arith, copy_inside _ _ _ _ c.in-Some.at _ _ c.see_table.ensures.built c.requires.belongs c.loop-at.invariant.copied c.in-Some.ensures.items)
+
+pub copy_node-requires : goal.copy_node-requires
+copy_node-requires c =
+    let k : c.of.result.at ≡ c.in-Some.at = ap (λ (id : TypeId). id.at) c.of.ensures in
+    (is_ready _ _ _ _ _ _ _ _ _ _ c.see_table.ensures.built c.requires.belongs c.loop-at.invariant.copied c.in-Some.ensures.items k c.node.ensures.row c.node.ensures.tree c.node.ensures.merged c.form.ensures).follows
+
+pub returns-in_err-copy-clause-within : goal.returns-in_err-copy-clause-within
+returns-in_err-copy-clause-within c =
+    let k : c.of.result.at ≡ c.in-Some.at = ap (λ (id : TypeId). id.at) c.of.ensures in
+    let r = is_ready _ _ _ _ _ _ _ _ _ _ c.see_table.ensures.built c.requires.belongs c.loop-at.invariant.copied c.in-Some.ensures.items k c.node.ensures.row c.node.ensures.tree c.node.ensures.merged c.form.ensures in
+    within_more _ _ _ _ _ _ c.copy_node.ensures.adds.types c.loop-at.invariant.within c.copy_node.ensures.one r.same r.within
 
 pub loop-at-preserved : goal.loop-at-preserved
 loop-at-preserved c =
-    rw c.in_ok-push.ensures.items
-    (let f : Form = c.node-node.result.now.form in
-    let T : List Row = c.args.types.now in
-    let copies : List TypeId = c.loop-at.copies.items in
-    let k : c.of.result.at ≡ length copies = ap (λ (id : TypeId). id.at) c.of.ensures ∙ sym c.loop-at.invariant.0 in
-    let e : form_of c.in_ok-form.form ≡ copied_form copies f =
-    c.in_ok-form.ensures ∙ ap (λ cs. copied_form cs (form_of c.form.result.now)) c.deref.ensures.value ∙ ap (copied_form copies) c.form.ensures in
-    let l = length-append copies (c.in_ok-copy.copy ∷ []) in (
-      omega (arith, l, c.loop-at.invariant.0),
-      copies_step T c.loop-at.self.types c.add.new.self.types copies c.in_ok-copy.copy f (form_of c.in_ok-form.form) c.of.result.at c.add.ensures.adds.types
-          c.loop-at.invariant.1 k c.node-node.ensures.parts e c.node-node.ensures.tree c.in_ok-copy.ensures.ok.belongs c.in_ok-copy.ensures.ok.same,
-      AddsTypes-trans _ _ _ c.loop-at.invariant.2 c.add.ensures.adds,
-      c.add.ensures.same ∙ c.loop-at.invariant.3,
-    ))
+    let i = c.loop-at.invariant in
+    let k : c.of.result.at ≡ c.in-Some.at = ap (λ (id : TypeId). id.at) c.of.ensures in
+    let r = is_ready _ _ _ _ _ _ _ _ _ _ c.see_table.ensures.built c.requires.belongs i.copied c.in-Some.ensures.items k c.node.ensures.row c.node.ensures.tree c.node.ensures.merged c.form.ensures in
+    record {
+      copied = copy_goes_on _ _ _ _ _ _ _ _ _ _ i.copied c.in-Some.ensures.items c.copy_node.ensures.adds.types (subst (λ T. IsTypeAt c.copy_node.new.self.types T c.in_ok-copy.copy) r.same c.in_ok-copy.ensures.ok)
+          c.in_ok-insert.ensures.updates.0 c.in_ok-insert.ensures.updates.1;
+      adds = AddsTypes-trans _ _ _ i.adds c.copy_node.ensures.adds;
+      same = c.copy_node.ensures.same ∙ i.same;
+      few = omega (arith, i.few, c.copy_node.ensures.one.one, c.in-Some.ensures.len);
+      within = within_more _ _ _ _ _ _ c.copy_node.ensures.adds.types i.within c.copy_node.ensures.one r.same r.within;
+    }
+
+pub returns-in_err-insert-clause-within : goal.returns-in_err-insert-clause-within
+returns-in_err-insert-clause-within c =
+    let k : c.of.result.at ≡ c.in-Some.at = ap (λ (id : TypeId). id.at) c.of.ensures in
+    let r = is_ready _ _ _ _ _ _ _ _ _ _ c.see_table.ensures.built c.requires.belongs c.loop-at.invariant.copied c.in-Some.ensures.items k c.node.ensures.row c.node.ensures.tree c.node.ensures.merged c.form.ensures in
+    within_more _ _ _ _ _ _ c.copy_node.ensures.adds.types c.loop-at.invariant.within c.copy_node.ensures.one r.same r.within
+
+pub returns-clause-ok : goal.returns-clause-ok
+returns-clause-ok c =
+    let w : vec_len c.loop-at.reached ≡ length c.loop-at.reached.items = search rules in
+    rw c.copy_of.ensures (copy_ends _ _ _ _ _ c.loop-at.invariant.copied (λ i h. absurd (omega (arith, h.1, c.in_default.ensures.cases.0))))

@@ -12,11 +12,11 @@ returns c =
     let e : get_or c.self.inside.nodes.items c.args.id.at c.index.result.now ≡ c.index.result.now = sym c.index.ensures in
     record {
       row = c.index.ensures;
-      tree = tree_is false c.self.inside.nodes.items c.args.id.at c.index.result.now c.self.invariant l
+      tree = tree_is false c.self.inside.nodes.items c.args.id.at c.index.result.now c.self.invariant.built l
           ∙ ap (λ (r : Row). form_tree (tree_at c.self.inside.nodes.items) r.form) e;
-      placed = placed_is false c.self.inside.nodes.items c.args.id.at c.index.result.now c.self.invariant l
+      placed = placed_is false c.self.inside.nodes.items c.args.id.at c.index.result.now c.self.invariant.built l
           ∙ ap (λ (r : Row). placed_form (placed_at c.self.inside.nodes.items) r.place r.form) e;
-      parts = subst (λ (r : Row). PartsBelow c.args.id.at r.form) e (parts_at false c.self.inside.nodes.items c.args.id.at c.index.result.now c.self.invariant l);
+      parts = subst (λ (r : Row). PartsBelow c.args.id.at r.form) e (parts_at false c.self.inside.nodes.items c.args.id.at c.index.result.now c.self.invariant.built l);
       merged = subst (λ (r : Row). CanFollow false (take c.args.id.at c.self.inside.nodes.items) r.form) e
-          (follows_at false c.self.inside.nodes.items c.args.id.at c.index.result.now c.self.invariant l);
+          (follows_at false c.self.inside.nodes.items c.args.id.at c.index.result.now c.self.invariant.built l);
     })

@@ -1,5 +1,0 @@
-use Rattle.xd_syntax.proofs.TheLaws.{consistent_proofs_hold_in}
-use Rattle.xd_syntax.proofs.laws.consistent_proofs_hold.Goals as goal
-
-pub returns : goal.returns
-returns c = consistent_proofs_hold_in

@@ -1,7 +1,0 @@
-use Rattle.std.proofs.Common.{◌≡◌, drop}
-use Rattle.xd_syntax.specs.Tree.{body}
-use Rattle.xd_syntax.specs.PlainTrees.{definitions_of}
-use Rattle.xd_syntax.proofs.plain.tree.body_of.Given as goal
-
-abbrev pub invariant-loop-definition : goal.invariant-loop-definition
-invariant-loop-definition l = body (definitions_of l.definitions) l.name ≡ body (definitions_of (drop l.definition-index l.definitions)) l.name
