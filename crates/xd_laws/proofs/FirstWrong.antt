@@ -1,0 +1,135 @@
+-- The first breach in a proof, computed.
+use Rattle.std.proofs.Common.{ℕ, ◌+◌, Bool, true, false, not, cond, ◌||◌, ◌&&◌, nat_eq, List, [], ◌∷◌, Option, Some, None}
+use Rattle.std.specs.Str.{bytes_eq}
+use Rattle.std.specs.Cmp.Lexicographic.{pointwise}
+use Rattle.xd_doc.specs.Classes.{LabelClass}
+use Rattle.xd_syntax.specs.Tree.{Tree, Empty, Text, Words, Name, Elem, Seq, Alt, Star, Plus, Opt, Val, Definitions}
+use Rattle.xd_syntax.specs.CanBeEmpty.{can_be_empty}
+use Rattle.xd_laws.specs.Heads.{Head, heads}
+use Rattle.xd_laws.specs.Consistent.{Atom, this_label, other_label, this_text, other_text, ChoiceTree, settles_content, settles_rest, split_on, Case, Goal, HeadAtom, wanted, numbered, right_heads, matches_atom, matching, Sides, no_sides, on_content, on_rest}
+use Rattle.xd_laws.specs.Breach.{Reason, bad_empty, bad_case, bad_split, bad_leaf, Lined, line_behind, empty_lines, goals_of}
+
+-- Types are the same as trees, classes by their labels in order.
+abbrev pub same_class : LabelClass → LabelClass → Bool
+same_class c e = cond c.except e.except (not e.except) && pointwise bytes_eq c.names e.names
+
+abbrev pub same_tree : Tree → Tree → Bool
+same_tree Empty Empty = true
+same_tree Text Text = true
+same_tree (Words v) (Words w) = same_class v w
+same_tree (Name x) (Name y) = bytes_eq x y
+same_tree (Elem c T) (Elem e U) = same_class c e && same_tree T U
+same_tree (Seq T U) (Seq S R) = same_tree T S && same_tree U R
+same_tree (Alt T U) (Alt S R) = same_tree T S && same_tree U R
+same_tree (Star T) (Star U) = same_tree T U
+same_tree (Plus T) (Plus U) = same_tree T U
+same_tree (Opt T) (Opt U) = same_tree T U
+same_tree (Val x T) (Val y U) = bytes_eq x y && same_tree T U
+same_tree _ _ = false
+
+abbrev pub same_atom : Atom → Atom → Bool
+same_atom (this_label l) (this_label m) = bytes_eq l m
+same_atom other_label other_label = true
+same_atom (this_text s) (this_text t) = bytes_eq s t
+same_atom other_text other_text = true
+same_atom _ _ = false
+
+abbrev pub head_matches : Atom → Option Head → Bool
+head_matches a None = false
+head_matches a (Some h) = matches_atom a h.kind
+
+abbrev pub has_number : List ℕ → ℕ → Bool
+has_number [] n = false
+has_number (m ∷ ms) n = nat_eq m n || has_number ms n
+
+abbrev pub has_part : (Head → Tree) → Tree → Option Head → Bool
+has_part part T None = false
+has_part part T (Some h) = same_tree (part h) T
+
+-- one of the right heads of these numbers has this tree there
+abbrev pub some_head : (Head → Tree) → List Head → List ℕ → Tree → Bool
+some_head part hs [] T = false
+some_head part hs (n ∷ ns) T = has_part part T (numbered hs n) || some_head part hs ns T
+
+abbrev pub each_some_head : (Head → Tree) → List Head → List ℕ → List Tree → Bool
+each_some_head part hs ns [] = true
+each_some_head part hs ns (T ∷ Ts) = some_head part hs ns T && each_some_head part hs ns Ts
+
+-- the goal's left is this tree, and each of its rights is there in a right head of these numbers
+abbrev pub leaf_stands : (Head → Tree) → Head → List Head → List ℕ → Option Goal → Bool
+leaf_stands part left hs ns None = false
+leaf_stands part left hs ns (Some g) = same_tree g.left (part left) && each_some_head part hs ns g.rights
+
+abbrev pub split_allowed : Atom → List Head → Sides → ℕ → Bool
+split_allowed a hs s j = head_matches a (numbered hs j) && not (has_number s.content j || has_number s.rest j)
+
+abbrev pub reason_unless : Bool → Reason → Option Reason
+reason_unless true r = None
+reason_unless false r = Some r
+
+-- the first, or else the second
+abbrev pub or_next : {A : Type 0} → Option A → Option A → Option A
+or_next None b = b
+or_next (Some a) b = Some a
+
+abbrev pub wrong_choice : List Goal → Atom → Head → List Head → Sides → ChoiceTree → Option Reason
+wrong_choice gs a left hs s (settles_content n) = reason_unless (leaf_stands (λ h. h.content) left hs s.content (numbered gs n)) bad_leaf
+wrong_choice gs a left hs s (settles_rest n) = reason_unless (leaf_stands (λ h. h.rest) left hs s.rest (numbered gs n)) bad_leaf
+wrong_choice gs a left hs s (split_on n t u) =
+    or_next (reason_unless (split_allowed a hs s n) bad_split)
+    (or_next (wrong_choice gs a left hs (on_content n s) t) (wrong_choice gs a left hs (on_rest n s) u))
+
+abbrev pub wrong_text : List Goal → Atom → Head → List Head → ChoiceTree → Option Reason
+wrong_text gs a left hs (settles_rest n) = reason_unless (leaf_stands (λ h. h.rest) left hs (matching a 1 hs) (numbered gs n)) bad_leaf
+wrong_text gs a left hs (settles_content n) = Some bad_split
+wrong_text gs a left hs (split_on n t u) = Some bad_split
+
+abbrev pub wrong_tree : List Goal → Atom → Head → List Head → ChoiceTree → Option Reason
+wrong_tree gs (this_label l) left hs t = wrong_choice gs (this_label l) left hs no_sides t
+wrong_tree gs other_label left hs t = wrong_choice gs other_label left hs no_sides t
+wrong_tree gs (this_text s) left hs t = wrong_text gs (this_text s) left hs t
+wrong_tree gs other_text left hs t = wrong_text gs other_text left hs t
+
+-- a case without a left head is none of those wanted
+abbrev pub wrong_case : List Goal → List Head → Case → Option Head → Option Reason
+wrong_case gs hs c None = Some bad_case
+wrong_case gs hs c (Some left) = wrong_tree gs c.atom left hs c.choice
+
+-- a line and what is wrong there
+abbrev pub Refusal : Type 0
+Refusal = ℕ × Reason
+
+abbrev pub at_line : ℕ → Option Reason → Option Refusal
+at_line n None = None
+at_line n (Some r) = Some (n, r)
+
+abbrev pub same_head_atom : Case → HeadAtom → Bool
+same_head_atom c w = nat_eq c.head w.0 && same_atom c.atom w.1
+
+abbrev pub wrong_cases : Definitions → List Goal → Goal → ℕ → List HeadAtom → List Case → Option Refusal
+wrong_cases E gs g n [] [] = None
+wrong_cases E gs g n [] (c ∷ cs) = Some (n, bad_case)
+wrong_cases E gs g n (w ∷ ws) [] = Some (n, bad_case)
+wrong_cases E gs g n (w ∷ ws) (c ∷ cs) =
+    or_next (at_line n (reason_unless (same_head_atom c w) bad_case))
+    (or_next (at_line n (wrong_case gs (right_heads E g) c (numbered (heads E g.left) c.head))) (wrong_cases E gs g (n + 1) ws cs))
+
+abbrev pub right_is_empty : Definitions → Option Tree → Bool
+right_is_empty E None = false
+right_is_empty E (Some T) = can_be_empty E T
+
+abbrev pub empty_stands : Definitions → Goal → Option ℕ → Bool
+empty_stands E g None = not (can_be_empty E g.left)
+empty_stands E g (Some j) = can_be_empty E g.left && right_is_empty E (numbered g.rights j)
+
+abbrev pub wrong_goal : Definitions → List Goal → Lined → Option Refusal
+wrong_goal E gs l =
+    or_next (at_line (line_behind l) (reason_unless (empty_stands E l.goal (l.goal).empty_right) bad_empty))
+    (wrong_cases E gs l.goal (line_behind l + empty_lines (l.goal).empty_right) (wanted E l.goal) (l.goal).cases)
+
+abbrev pub wrong_goals : Definitions → List Goal → List Lined → Option Refusal
+wrong_goals E gs [] = None
+wrong_goals E gs (l ∷ ls) = or_next (wrong_goal E gs l) (wrong_goals E gs ls)
+
+abbrev pub first_wrong : Definitions → List Lined → Option Refusal
+first_wrong E ls = wrong_goals E (goals_of ls) ls

@@ -1,0 +1,38 @@
+pub mod Guarded
+pub mod FitsLaws
+pub mod Documents
+pub mod Pigeon
+pub mod Bare
+pub mod Within
+pub mod WaysFit
+pub mod FitsWays
+pub mod Unfoldings
+pub mod HeadsLaw
+pub mod SoundGuarded
+pub mod FitsBound
+pub mod HeadsMore
+pub mod Fuel
+pub mod TheLaws
+pub mod Samples
+mod CheckSamples
+mod TelephoneSamples
+mod ConsistentSamples
+pub mod IdentityAccepted
+pub mod FirstWrong
+pub mod SameTrees
+pub mod BreachLaw
+pub mod NamedAtoms
+pub mod ChoiceTrees
+pub mod ConsistentLaw
+pub mod WordLists
+pub mod WayShapes
+pub mod BoundVariables
+pub mod LinearPatterns
+pub mod Deciding
+pub mod NoFaults
+pub mod Suiting
+pub mod OrderedBindings
+pub mod SafeValues
+pub mod SafePrograms
+pub mod SameScopes
+pub mod OneLines

@@ -1,0 +1,11 @@
+pub mod FitsWithin
+pub mod Heads
+pub mod Consistent
+pub mod Breach
+pub mod Laws
+pub mod KeptLines
+pub mod Safety
+pub mod Scopes
+pub mod SameLines
+pub mod LineSamples
+pub mod Identity

@@ -1,0 +1,4 @@
+mod PlainCost
+mod PlainFitting
+mod PlainMeaning
+mod MeaningSamples

@@ -1,0 +1,370 @@
+//! The meaning of an expression on fuel.
+
+ghost use Rattle.std.specs.Prelude.{◌≡◌, ◌∷◌, [], ◌++◌, map, IfOk, IfErr};
+ghost use Rattle.std.specs.Option.{option_copied};
+ghost use Rattle.xd_doc.specs.Document.{Document, empty, text as a_text, element as an_element};
+ghost use Rattle.xd_syntax.specs.Words.{main_word};
+ghost use Rattle.xd_syntax.specs.Program.{names_of};
+ghost use Rattle.xd_syntax.specs.RecursionFaults.{IsSound};
+ghost use Rattle.xd_syntax.specs.Meaning as on_fuel;
+ghost use Rattle.xd_plain.specs.PlainDocuments.{document_of};
+ghost use Rattle.xd_plain.specs.PlainTrees.{map_option};
+ghost use Rattle.xd_plain.specs.PlainWays.{bindings_of};
+ghost use Rattle.xd_plain.specs.PlainPrograms.{parameter_of, expression_of, program_of, AnyIsFirst};
+ghost use Rattle.xd_plain.specs.PlainMeaning.{IsWithout, IsAnswer, IsSettledWithin, value_with, meaning_with, documents_of, matches_of, value_of, values_of, chosen_of};
+ghost use Rattle.xd_plain.specs.declared.evaluate.NoValue.TheVariants.{NoMemory as OutOfMemory};
+
+use crate::document::PlainDocument;
+use crate::program::{
+    PlainArguments, PlainClauses, PlainExpression, PlainParameter, PlainProgram, function_named,
+};
+use crate::ways::{Binding, first_within, push_bindings};
+use std::alloc::Global;
+use xd_doc::{Label, NoMemory, Text};
+
+/// A value, and the calls that are left.
+#[derive(Drop)]
+pub struct Valued {
+    pub document: PlainDocument,
+    pub left: u64,
+}
+
+/// The values of arguments, and the calls that are left.
+#[derive(Drop)]
+struct AllValued {
+    documents: Vec<PlainDocument>,
+    left: u64,
+}
+
+/// Why there is no value.
+#[derive(Clone, Copy, Debug, PartialEq, Eq)]
+pub enum NoValue {
+    /// More calls are needed.
+    Spent,
+    /// No clause takes the document, or nothing has the name.
+    Stuck,
+    NoMemory,
+}
+
+impl From<NoMemory> for NoValue {
+    ghost from_gives = { λ _ e. e ≡ OutOfMemory };
+
+    fn from(_error: NoMemory) -> Self {
+        Self::NoMemory
+    }
+}
+
+/// The value of an expression with so many calls left, where variables have these documents, the newest first, and a
+/// match may unfold names so many times.
+///
+/// In a sound program a match needs no more unfoldings than its document's size plus one times the number of
+/// definitions plus one, `Any` among them.
+pub fn value(
+    alloc: Global,
+    program: &PlainProgram,
+    unfoldings: u64,
+    calls: u64,
+    variables: &[Binding],
+    expression: &PlainExpression,
+) -> Result<Valued, NoValue>
+    requires { AnyIsFirst program.now }
+    ensures done { IfOk result (λ valued. value_with (matches_of program.now unfoldings) (program_of program.now) calls (bindings_of variables.now) (expression_of expression.now) ≡ on_fuel.Done (document_of valued.document) valued.left) }
+    ensures ended { IfErr result (λ why. IsWithout why (value_with (matches_of program.now unfoldings) (program_of program.now) calls (bindings_of variables.now) (expression_of expression.now))) }
+    ensures enough { IsSound (program_of program.now) → IsSettledWithin (names_of (program_of program.now)) unfoldings (λ matches. value_with matches (program_of program.now) calls (bindings_of variables.now) (expression_of expression.now)) → IsAnswer result (on_fuel.value (program_of program.now) calls (bindings_of variables.now) (expression_of expression.now)) }
+{
+    value_within(
+        alloc, program, unfoldings, calls, calls, variables, expression,
+    )
+}
+
+/// The value of the call of `main` on a document, with so many calls left and so many unfoldings in a match, as for
+/// `value`.
+pub fn meaning(
+    alloc: Global,
+    program: &PlainProgram,
+    unfoldings: u64,
+    calls: u64,
+    document: PlainDocument,
+) -> Result<Valued, NoValue>
+    requires { AnyIsFirst program.now }
+    ensures done { IfOk result (λ valued. meaning_with (matches_of program.now unfoldings) (program_of program.now) calls (document_of document) ≡ on_fuel.Done (document_of valued.document) valued.left) }
+    ensures ended { IfErr result (λ why. IsWithout why (meaning_with (matches_of program.now unfoldings) (program_of program.now) calls (document_of document))) }
+    ensures enough { IsSound (program_of program.now) → IsSettledWithin (names_of (program_of program.now)) unfoldings (λ matches. meaning_with matches (program_of program.now) calls (document_of document)) → IsAnswer result (on_fuel.meaning (program_of program.now) calls (document_of document)) }
+{
+    let main = Label::new(alloc, "main")?;
+    let documents = in_front(alloc, document, Vec::new(alloc))?;
+    call_within(alloc, program, unfoldings, calls, calls, &main, &documents)
+}
+
+#[cycle(value)]
+fn value_within(
+    alloc: Global,
+    program: &PlainProgram,
+    unfoldings: u64,
+    deep: u64,
+    calls: u64,
+    variables: &[Binding],
+    expression: &PlainExpression,
+) -> Result<Valued, NoValue>
+    requires { AnyIsFirst program.now }
+    ensures done { IfOk result (λ valued. value_of program.now unfoldings deep calls variables.now expression.now ≡ on_fuel.Done (document_of valued.document) valued.left) }
+    ensures ended { IfErr result (λ why. IsWithout why (value_of program.now unfoldings deep calls variables.now expression.now)) }
+{
+    match expression {
+        PlainExpression::Empty => Ok(Valued {
+            document: PlainDocument::Empty,
+            left: calls,
+        }),
+        PlainExpression::Text(text) => {
+            let document = one_text(alloc, text)?;
+            Ok(Valued {
+                document,
+                left: calls,
+            })
+        }
+        PlainExpression::Variable(name) => {
+            let Some(found) = document_bound(variables, name) else {
+                return Err(NoValue::Stuck);
+            };
+            let document = found.copy(alloc)?;
+            Ok(Valued {
+                document,
+                left: calls,
+            })
+        }
+        PlainExpression::Elem(label, content) => {
+            let content = value_within(
+                alloc, program, unfoldings, deep, calls, variables, content,
+            )?;
+            let document = one_element(alloc, label, content.document)?;
+            Ok(Valued {
+                document,
+                left: content.left,
+            })
+        }
+        PlainExpression::Seq(first, rest) => {
+            let front = value_within(alloc, program, unfoldings, deep, calls, variables, first)?;
+            let back = value_within(
+                alloc, program, unfoldings, deep, front.left, variables, rest,
+            )?;
+            let document = front.document.followed_by(alloc, &back.document)?;
+            Ok(Valued {
+                document,
+                left: back.left,
+            })
+        }
+        PlainExpression::Call(function, arguments) => {
+            let given = values_within(
+                alloc, program, unfoldings, deep, calls, variables, arguments,
+            )?;
+            call_within(
+                alloc,
+                program,
+                unfoldings,
+                deep,
+                given.left,
+                function,
+                &given.documents,
+            )
+        }
+        PlainExpression::Match(scrutinee, clauses) => {
+            let matched = value_within(
+                alloc, program, unfoldings, deep, calls, variables, scrutinee,
+            )?;
+            let document = &matched.document;
+            chosen_within(
+                alloc,
+                program,
+                unfoldings,
+                deep,
+                matched.left,
+                variables,
+                document,
+                clauses,
+            )
+        }
+    }
+}
+
+/// The values of arguments, from left to right.
+#[cycle(value)]
+fn values_within(
+    alloc: Global,
+    program: &PlainProgram,
+    unfoldings: u64,
+    deep: u64,
+    calls: u64,
+    variables: &[Binding],
+    arguments: &PlainArguments,
+) -> Result<AllValued, NoValue>
+    requires { AnyIsFirst program.now }
+    ensures done { IfOk result (λ valued. values_of program.now unfoldings deep calls variables.now arguments.now ≡ on_fuel.Done (documents_of valued.documents.items) valued.left) }
+    ensures ended { IfErr result (λ why. IsWithout why (values_of program.now unfoldings deep calls variables.now arguments.now)) }
+{
+    match arguments {
+        PlainArguments::NoArgument => Ok(AllValued {
+            documents: Vec::new(alloc),
+            left: calls,
+        }),
+        PlainArguments::Argument(first, others) => {
+            let first = value_within(alloc, program, unfoldings, deep, calls, variables, first)?;
+            let others = values_within(
+                alloc, program, unfoldings, deep, first.left, variables, others,
+            )?;
+            let documents = in_front(alloc, first.document, others.documents)?;
+            Ok(AllValued {
+                documents,
+                left: others.left,
+            })
+        }
+    }
+}
+
+/// The value of the first clause whose pattern takes the document.
+#[cycle(value)]
+fn chosen_within(
+    alloc: Global,
+    program: &PlainProgram,
+    unfoldings: u64,
+    deep: u64,
+    calls: u64,
+    variables: &[Binding],
+    document: &PlainDocument,
+    clauses: &PlainClauses,
+) -> Result<Valued, NoValue>
+    requires { AnyIsFirst program.now }
+    ensures done { IfOk result (λ valued. chosen_of program.now unfoldings deep calls variables.now (document_of document.now) clauses.now ≡ on_fuel.Done (document_of valued.document) valued.left) }
+    ensures ended { IfErr result (λ why. IsWithout why (chosen_of program.now unfoldings deep calls variables.now (document_of document.now) clauses.now)) }
+{
+    match clauses {
+        PlainClauses::NoClause => Err(NoValue::Stuck),
+        PlainClauses::Clause(pattern, body, others) => {
+            match first_within(alloc, &program.definitions, unfoldings, pattern, document)? {
+                None => chosen_within(
+                    alloc, program, unfoldings, deep, calls, variables, document, others,
+                ),
+                Some(bindings) => {
+                    let inner = with_outer(alloc, bindings, variables)?;
+                    value_within(alloc, program, unfoldings, deep, calls, &inner, body)
+                }
+            }
+        }
+    }
+}
+
+/// The value of the function's body, with one call fewer.
+#[cycle(value)]
+fn call_within(
+    alloc: Global,
+    program: &PlainProgram,
+    unfoldings: u64,
+    deep: u64,
+    calls: u64,
+    name: &Label,
+    documents: &[PlainDocument],
+) -> Result<Valued, NoValue>
+    requires { AnyIsFirst program.now }
+    ensures done { IfOk result (λ valued. on_fuel.call_within (matches_of program.now unfoldings) (program_of program.now) deep calls name.now (documents_of documents.now) ≡ on_fuel.Done (document_of valued.document) valued.left) }
+    ensures ended { IfErr result (λ why. IsWithout why (on_fuel.call_within (matches_of program.now unfoldings) (program_of program.now) deep calls name.now (documents_of documents.now))) }
+{
+    if deep == 0 {
+        return Err(NoValue::Spent);
+    }
+    if calls == 0 {
+        return Err(NoValue::Spent);
+    }
+    let Some(function) = function_named(&program.functions, name) else {
+        return Err(NoValue::Stuck);
+    };
+    let variables = parameters_bound(alloc, &function.parameters, documents)?;
+    value_within(
+        alloc,
+        program,
+        unfoldings,
+        deep - 1,
+        calls - 1,
+        &variables,
+        &function.body,
+    )
+}
+
+/// What the newest variable of this name has.
+fn document_bound<'a>(variables: &'a [Binding], name: &Label) -> Option<&'a PlainDocument>
+    ensures { map_option document_of (option_copied result) ≡ on_fuel.looked_up (bindings_of variables.now) name.now }
+{
+    for binding in variables {
+        if binding.variable.as_str() == name.as_str() {
+            return Some(&binding.document);
+        }
+    }
+    None
+}
+
+/// The parameters, each with its document.
+fn parameters_bound(
+    alloc: Global,
+    parameters: &[PlainParameter],
+    documents: &[PlainDocument],
+) -> Result<Vec<Binding>, NoMemory>
+    ensures { IfOk result (λ made. bindings_of made.items ≡ on_fuel.bound (map parameter_of parameters.now) (documents_of documents.now)) }
+{
+    let mut made = Vec::new(alloc);
+    let mut left = documents;
+    for parameter in parameters {
+        let Some((document, others)) = left.split_first() else {
+            return Ok(made);
+        };
+        made.push(Binding {
+            variable: parameter.name.share()?,
+            document: document.copy(alloc)?,
+        })?;
+        left = others;
+    }
+    Ok(made)
+}
+
+/// The bindings, and the outer ones behind them.
+fn with_outer(
+    alloc: Global,
+    bindings: Vec<Binding>,
+    outer: &[Binding],
+) -> Result<Vec<Binding>, NoMemory>
+    ensures { IfOk result (λ made. bindings_of made.items ≡ bindings_of bindings.items ++ bindings_of outer.now) }
+{
+    let mut made = bindings;
+    push_bindings(alloc, &mut made, outer)?;
+    Ok(made)
+}
+
+fn in_front(
+    alloc: Global,
+    first: PlainDocument,
+    others: Vec<PlainDocument>,
+) -> Result<Vec<PlainDocument>, NoMemory>
+    ensures { IfOk result (λ made. made.items ≡ first ∷ others.items) }
+{
+    let mut made = Vec::new(alloc);
+    made.push(first)?;
+    let mut others = others;
+    made.append(&mut others)?;
+    Ok(made)
+}
+
+fn one_text(alloc: Global, characters: &Text) -> Result<PlainDocument, NoMemory>
+    ensures { IfOk result (λ made. document_of made ≡ a_text characters.now empty) }
+{
+    let end = Box::new(alloc, PlainDocument::Empty)?;
+    Ok(PlainDocument::Text(characters.share()?, end))
+}
+
+fn one_element(
+    alloc: Global,
+    label: &Label,
+    content: PlainDocument,
+) -> Result<PlainDocument, NoMemory>
+    ensures { IfOk result (λ made. document_of made ≡ an_element label.now (document_of content) empty) }
+{
+    let content = Box::new(alloc, content)?;
+    let end = Box::new(alloc, PlainDocument::Empty)?;
+    Ok(PlainDocument::Elem(label.share()?, content, end))
+}

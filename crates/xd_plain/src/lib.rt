@@ -1,0 +1,20 @@
+//! Slow and short programs that compute the definitions, as yardsticks for tests.
+#![tactic(auto)]
+
+mod document;
+mod evaluate;
+mod fits;
+mod program;
+#[cfg(test)]
+mod tests;
+mod tree;
+mod ways;
+
+pub use document::PlainDocument;
+pub use evaluate::{NoValue, Valued, meaning, value};
+pub use fits::fits_within;
+pub use program::{
+    PlainArguments, PlainClauses, PlainExpression, PlainFunction, PlainParameter, PlainProgram,
+};
+pub use tree::{PlainDefinition, PlainTree};
+pub use ways::{Binding, PlainWay, first_within, ways_within};

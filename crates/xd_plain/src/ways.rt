@@ -1,0 +1,412 @@
+//! The ways of a pattern on a document, all of them and in order.
+
+ghost use Rattle.std.specs.Prelude.{◌≡◌, ◌≤◌, ◌++◌, ◌∷◌, [], suc, nat_lt, cond, map, flat_map, IfOk, OnOk};
+ghost use Rattle.xd_syntax.specs.Ways.{no_item_way, then_way, text_ways, words_ways, binding, turns, repetition, first, first_whole, first_within as the_first_within, ways_within as the_ways_within, unfoldings as needed, item_count};
+ghost use Rattle.xd_plain.specs.PlainDocuments.{document_of};
+ghost use Rattle.xd_plain.specs.PlainTrees.{tree_of, definitions_of, map_option};
+ghost use Rattle.xd_syntax.specs.Program.{ProgramTree, names_of};
+ghost use Rattle.xd_syntax.specs.RecursionFaults.{IsSound};
+ghost use Rattle.xd_plain.specs.PlainWays.{way_of, ways_of, bindings_of, element_way, whole_ways};
+
+use crate::document::PlainDocument;
+use crate::tree::{PlainDefinition, PlainTree, body_of};
+use std::alloc::Global;
+use xd_doc::{Label, NoMemory, Words};
+
+/// A variable and its document.
+#[derive(Drop)]
+pub struct Binding {
+    pub variable: Label,
+    pub document: PlainDocument,
+}
+
+/// What a way binds, the prefix that it takes, and the rest.
+#[derive(Drop)]
+pub struct PlainWay {
+    pub bindings: Vec<Binding>,
+    pub taken: PlainDocument,
+    pub rest: PlainDocument,
+}
+
+/// All ways of a pattern on a document in order of preference, where names may be unfolded so many times.
+#[cycle(ways)]
+pub fn ways_within(
+    alloc: Global,
+    definitions: &[PlainDefinition],
+    unfoldings: u64,
+    pattern: &PlainTree,
+    document: &PlainDocument,
+) -> Result<Vec<PlainWay>, NoMemory>
+    ensures { IfOk result (λ ways. ways_of ways.items ≡ the_ways_within (definitions_of definitions.now) unfoldings (tree_of pattern.now) (document_of document.now)) }
+{
+    match pattern {
+        PlainTree::Empty => no_item(alloc, document),
+        PlainTree::Text => one_text(alloc, document),
+        PlainTree::Words(texts) => one_of(alloc, texts, document),
+        PlainTree::Name(name) => {
+            let Some(body) = body_of(definitions, name) else {
+                return Ok(Vec::new(alloc));
+            };
+            if unfoldings == 0 {
+                return Ok(Vec::new(alloc));
+            }
+            ways_within(alloc, definitions, unfoldings - 1, body, document)
+        }
+        PlainTree::Elem(class, content) => match document {
+            PlainDocument::Empty => Ok(Vec::new(alloc)),
+            PlainDocument::Text(_, _) => Ok(Vec::new(alloc)),
+            PlainDocument::Elem(label, inner, rest) => {
+                if !class.has(label) {
+                    return Ok(Vec::new(alloc));
+                }
+                let ways = ways_within(alloc, definitions, unfoldings, content, inner)?;
+                whole_elements(alloc, &ways, label, inner, rest)
+            }
+        },
+        PlainTree::Seq(first, second) => {
+            let firsts = ways_within(alloc, definitions, unfoldings, first, document)?;
+            each_then(alloc, definitions, unfoldings, &firsts, second)
+        }
+        PlainTree::Alt(left, right) => {
+            let of_left = ways_within(alloc, definitions, unfoldings, left, document)?;
+            let of_right = ways_within(alloc, definitions, unfoldings, right, document)?;
+            both(of_left, of_right)
+        }
+        PlainTree::Star(part) => {
+            turns_within(alloc, definitions, unfoldings, part, document, document)
+        }
+        PlainTree::Plus(part) => {
+            let firsts = ways_within(alloc, definitions, unfoldings, part, document)?;
+            each_then_turns(alloc, definitions, unfoldings, &firsts, part)
+        }
+        PlainTree::Opt(part) => {
+            let present = ways_within(alloc, definitions, unfoldings, part, document)?;
+            both(present, no_item(alloc, document)?)
+        }
+        PlainTree::Val(variable, part) => {
+            let ways = ways_within(alloc, definitions, unfoldings, part, document)?;
+            bound(alloc, variable, &ways)
+        }
+    }
+}
+
+/// The bindings of the first way that takes the whole document, where names may be unfolded so many times.
+///
+/// In a sound program the first match needs no more unfoldings than the document's size plus one times the number of
+/// definitions plus one, `Any` among them.
+pub fn first_within(
+    alloc: Global,
+    definitions: &[PlainDefinition],
+    unfoldings: u64,
+    pattern: &PlainTree,
+    document: &PlainDocument,
+) -> Result<Option<Vec<Binding>>, NoMemory>
+    ensures within { IfOk result (λ found. map_option (λ bindings. bindings_of bindings.items) found ≡ the_first_within (definitions_of definitions.now) unfoldings (tree_of pattern.now) (document_of document.now)) }
+    ensures enough { (P : ProgramTree) → IsSound P → definitions_of definitions.now ≡ names_of P → needed (names_of P) (document_of document.now) ≤ unfoldings → IfOk result (λ found. map_option (λ bindings. bindings_of bindings.items) found ≡ first (names_of P) (tree_of pattern.now) (document_of document.now)) }
+{
+    let ways = ways_within(alloc, definitions, unfoldings, pattern, document)?;
+    first_of_whole(alloc, &ways)
+}
+
+fn first_of_whole(alloc: Global, ways: &[PlainWay]) -> Result<Option<Vec<Binding>>, NoMemory>
+    ensures { IfOk result (λ found. map_option (λ bindings. bindings_of bindings.items) found ≡ first_whole (ways_of ways.now)) }
+{
+    for way in ways {
+        if way.rest.is_empty() {
+            let mut bindings = Vec::new(alloc);
+            push_bindings(alloc, &mut bindings, &way.bindings)?;
+            return Ok(Some(bindings));
+        }
+    }
+    Ok(None)
+}
+
+/// Each of the ways, followed by those of the pattern on its rest.
+#[cycle(ways)]
+fn each_then(
+    alloc: Global,
+    definitions: &[PlainDefinition],
+    unfoldings: u64,
+    firsts: &[PlainWay],
+    second: &PlainTree,
+) -> Result<Vec<PlainWay>, NoMemory>
+    ensures { IfOk result (λ ways. ways_of ways.items ≡ flat_map (λ v. map (then_way v) (the_ways_within (definitions_of definitions.now) unfoldings (tree_of second.now) v.rest)) (ways_of firsts.now)) }
+{
+    let mut made = Vec::new(alloc);
+    for first in firsts {
+        let seconds = ways_within(alloc, definitions, unfoldings, second, &first.rest)?;
+        push_joined(alloc, &mut made, first, &seconds)?;
+    }
+    Ok(made)
+}
+
+/// Each of the ways, followed by those of the pattern's repetition on its rest.
+#[cycle(ways)]
+fn each_then_turns(
+    alloc: Global,
+    definitions: &[PlainDefinition],
+    unfoldings: u64,
+    firsts: &[PlainWay],
+    part: &PlainTree,
+) -> Result<Vec<PlainWay>, NoMemory>
+    ensures { IfOk result (λ ways. ways_of ways.items ≡ flat_map (λ v. map (then_way v) (repetition (the_ways_within (definitions_of definitions.now) unfoldings (tree_of part.now)) v.rest)) (ways_of firsts.now)) }
+{
+    let mut made = Vec::new(alloc);
+    for first in firsts {
+        let rest = &first.rest;
+        let seconds = turns_within(alloc, definitions, unfoldings, part, rest, rest)?;
+        push_joined(alloc, &mut made, first, &seconds)?;
+    }
+    Ok(made)
+}
+
+/// The ways of a repetition, with at most as many turns as the counter has items.
+#[cycle(ways)]
+fn turns_within(
+    alloc: Global,
+    definitions: &[PlainDefinition],
+    unfoldings: u64,
+    part: &PlainTree,
+    counter: &PlainDocument,
+    document: &PlainDocument,
+) -> Result<Vec<PlainWay>, NoMemory>
+    ensures { IfOk result (λ ways. ways_of ways.items ≡ turns (the_ways_within (definitions_of definitions.now) unfoldings (tree_of part.now)) (item_count (document_of counter.now)) (document_of document.now)) }
+{
+    match counter {
+        PlainDocument::Empty => no_item(alloc, document),
+        PlainDocument::Text(_, fewer) => {
+            one_more_turn(alloc, definitions, unfoldings, part, fewer, document)
+        }
+        PlainDocument::Elem(_, _, fewer) => {
+            one_more_turn(alloc, definitions, unfoldings, part, fewer, document)
+        }
+    }
+}
+
+/// The ways of a repetition, with at most one turn more than the counter has items.
+#[cycle(ways)]
+fn one_more_turn(
+    alloc: Global,
+    definitions: &[PlainDefinition],
+    unfoldings: u64,
+    part: &PlainTree,
+    counter: &PlainDocument,
+    document: &PlainDocument,
+) -> Result<Vec<PlainWay>, NoMemory>
+    ensures { IfOk result (λ ways. ways_of ways.items ≡ turns (the_ways_within (definitions_of definitions.now) unfoldings (tree_of part.now)) (suc (item_count (document_of counter.now))) (document_of document.now)) }
+{
+    let firsts = ways_within(alloc, definitions, unfoldings, part, document)?;
+    let mut made = Vec::new(alloc);
+    for first in &firsts {
+        let turned = after_turn(
+            alloc,
+            definitions,
+            unfoldings,
+            part,
+            counter,
+            document,
+            first,
+        )?;
+        made = both(made, turned)?;
+    }
+    let stop = no_item(alloc, document)?;
+    both(made, stop)
+}
+
+/// One turn that leaves fewer items, followed by others; nothing where it leaves as many.
+#[cycle(ways)]
+fn after_turn(
+    alloc: Global,
+    definitions: &[PlainDefinition],
+    unfoldings: u64,
+    part: &PlainTree,
+    counter: &PlainDocument,
+    document: &PlainDocument,
+    first: &PlainWay,
+) -> Result<Vec<PlainWay>, NoMemory>
+    ensures { IfOk result (λ ways. ways_of ways.items ≡ cond (nat_lt (item_count (document_of first.now.rest)) (item_count (document_of document.now))) (map (then_way (way_of first.now)) (turns (the_ways_within (definitions_of definitions.now) unfoldings (tree_of part.now)) (item_count (document_of counter.now)) (document_of first.now.rest))) []) }
+{
+    if !first.rest.is_shorter(document) {
+        return Ok(Vec::new(alloc));
+    }
+    let rest = &first.rest;
+    let seconds = turns_within(alloc, definitions, unfoldings, part, counter, rest)?;
+    let mut made = Vec::new(alloc);
+    push_joined(alloc, &mut made, first, &seconds)?;
+    Ok(made)
+}
+
+/// The way that takes nothing.
+fn no_item(alloc: Global, document: &PlainDocument) -> Result<Vec<PlainWay>, NoMemory>
+    ensures { IfOk result (λ ways. ways_of ways.items ≡ no_item_way (document_of document.now) ∷ []) }
+{
+    let way = PlainWay {
+        bindings: Vec::new(alloc),
+        taken: PlainDocument::Empty,
+        rest: document.copy(alloc)?,
+    };
+    only(alloc, way)
+}
+
+fn only(alloc: Global, way: PlainWay) -> Result<Vec<PlainWay>, NoMemory>
+    ensures { IfOk result (λ ways. ways.items ≡ way ∷ []) }
+{
+    let mut ways = Vec::new(alloc);
+    ways.push(way)?;
+    Ok(ways)
+}
+
+/// The way that takes a text.
+fn one_text(alloc: Global, document: &PlainDocument) -> Result<Vec<PlainWay>, NoMemory>
+    ensures { IfOk result (λ ways. ways_of ways.items ≡ text_ways (document_of document.now)) }
+{
+    match document {
+        PlainDocument::Empty => Ok(Vec::new(alloc)),
+        PlainDocument::Text(text, rest) => {
+            let end = Box::new(alloc, PlainDocument::Empty)?;
+            let way = PlainWay {
+                bindings: Vec::new(alloc),
+                taken: PlainDocument::Text(text.share()?, end),
+                rest: rest.copy(alloc)?,
+            };
+            only(alloc, way)
+        }
+        PlainDocument::Elem(_, _, _) => Ok(Vec::new(alloc)),
+    }
+}
+
+/// The way that takes a text of the class.
+fn one_of(alloc: Global, texts: &Words, document: &PlainDocument) -> Result<Vec<PlainWay>, NoMemory>
+    ensures { IfOk result (λ ways. ways_of ways.items ≡ words_ways texts.now (document_of document.now)) }
+{
+    match document {
+        PlainDocument::Empty => Ok(Vec::new(alloc)),
+        PlainDocument::Text(text, _) => {
+            if !texts.has(text) {
+                return Ok(Vec::new(alloc));
+            }
+            one_text(alloc, document)
+        }
+        PlainDocument::Elem(_, _, _) => Ok(Vec::new(alloc)),
+    }
+}
+
+/// The element, once for each way that takes its content whole.
+fn whole_elements(
+    alloc: Global,
+    ways: &[PlainWay],
+    label: &Label,
+    content: &PlainDocument,
+    rest: &PlainDocument,
+) -> Result<Vec<PlainWay>, NoMemory>
+    ensures { IfOk result (λ made. ways_of made.items ≡ whole_ways label.now (document_of content.now) (document_of rest.now) (ways_of ways.now)) }
+{
+    let mut made = Vec::new(alloc);
+    for way in ways {
+        if way.rest.is_empty() {
+            made.push(an_element(alloc, way, label, content, rest)?)?;
+        }
+    }
+    Ok(made)
+}
+
+fn an_element(
+    alloc: Global,
+    way: &PlainWay,
+    label: &Label,
+    content: &PlainDocument,
+    rest: &PlainDocument,
+) -> Result<PlainWay, NoMemory>
+    ensures { IfOk result (λ made. way_of made ≡ element_way label.now (document_of content.now) (document_of rest.now) (way_of way.now)) }
+{
+    let content = Box::new(alloc, content.copy(alloc)?)?;
+    let end = Box::new(alloc, PlainDocument::Empty)?;
+    let mut bindings = Vec::new(alloc);
+    push_bindings(alloc, &mut bindings, &way.bindings)?;
+    Ok(PlainWay {
+        bindings,
+        taken: PlainDocument::Elem(label.share()?, content, end),
+        rest: rest.copy(alloc)?,
+    })
+}
+
+/// Each way, with the variable bound to what it takes.
+fn bound(alloc: Global, variable: &Label, ways: &[PlainWay]) -> Result<Vec<PlainWay>, NoMemory>
+    ensures { IfOk result (λ made. ways_of made.items ≡ map (binding variable.now) (ways_of ways.now)) }
+{
+    let mut made = Vec::new(alloc);
+    for way in ways {
+        made.push(one_bound(alloc, variable, way)?)?;
+    }
+    Ok(made)
+}
+
+fn one_bound(alloc: Global, variable: &Label, way: &PlainWay) -> Result<PlainWay, NoMemory>
+    ensures { IfOk result (λ made. way_of made ≡ binding variable.now (way_of way.now)) }
+{
+    let mut bindings = Vec::new(alloc);
+    bindings.push(Binding {
+        variable: variable.share()?,
+        document: way.taken.copy(alloc)?,
+    })?;
+    push_bindings(alloc, &mut bindings, &way.bindings)?;
+    Ok(PlainWay {
+        bindings,
+        taken: way.taken.copy(alloc)?,
+        rest: way.rest.copy(alloc)?,
+    })
+}
+
+pub(super) fn push_bindings(
+    alloc: Global,
+    made: &mut Vec<Binding>,
+    bindings: &[Binding],
+) -> Result<(), NoMemory>
+    ensures { OnOk result (bindings_of made.new.items ≡ bindings_of made.old.items ++ bindings_of bindings.now) }
+{
+    for binding in bindings {
+        made.push(Binding {
+            variable: binding.variable.share()?,
+            document: binding.document.copy(alloc)?,
+        })?;
+    }
+    Ok(())
+}
+
+/// The ways of both, the first's first.
+fn both(firsts: Vec<PlainWay>, seconds: Vec<PlainWay>) -> Result<Vec<PlainWay>, NoMemory>
+    ensures { IfOk result (λ made. made.items ≡ firsts.items ++ seconds.items) }
+{
+    let mut made = firsts;
+    let mut seconds = seconds;
+    made.append(&mut seconds)?;
+    Ok(made)
+}
+
+/// The first way, followed by each of the others.
+fn push_joined(
+    alloc: Global,
+    made: &mut Vec<PlainWay>,
+    first: &PlainWay,
+    seconds: &[PlainWay],
+) -> Result<(), NoMemory>
+    ensures { OnOk result (ways_of made.new.items ≡ ways_of made.old.items ++ map (then_way (way_of first.now)) (ways_of seconds.now)) }
+{
+    for second in seconds {
+        made.push(one_joined(alloc, first, second)?)?;
+    }
+    Ok(())
+}
+
+fn one_joined(alloc: Global, first: &PlainWay, second: &PlainWay) -> Result<PlainWay, NoMemory>
+    ensures { IfOk result (λ made. way_of made ≡ then_way (way_of first.now) (way_of second.now)) }
+{
+    let mut bindings = Vec::new(alloc);
+    push_bindings(alloc, &mut bindings, &first.bindings)?;
+    push_bindings(alloc, &mut bindings, &second.bindings)?;
+    Ok(PlainWay {
+        bindings,
+        taken: first.taken.followed_by(alloc, &second.taken)?,
+        rest: second.rest.copy(alloc)?,
+    })
+}
