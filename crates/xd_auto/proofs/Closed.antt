@@ -6,12 +6,13 @@ use Rattle.std.proofs.lemmas.List.Elements.{All-weaker, All-append, All-push, Al
 use Rattle.xd_auto.specs.Copying.{LabelBelow}
 use Rattle.xd_auto.specs.declared.auto.State.{State}
 use Rattle.xd_auto.specs.declared.auto.LabelMove.{LabelMove}
+use Rattle.xd_auto.specs.declared.auto.TextMove.{TextMove}
 use Rattle.xd_auto.specs.Automaton.{Automaton, StateMoves, IsState, LeadsBelow, IsClosed, no_moves, moves_at, with_moves}
 
 pub LeadsBelow-more : (n m : ℕ) (moves : StateMoves) → n ≤ m → LeadsBelow n moves → LeadsBelow m moves
 LeadsBelow-more n m moves le h = record {
   labels = All-weaker (LabelBelow n) (LabelBelow m) (λ k p. (omega (arith, p.0), omega (arith, p.1))) moves.labels h.labels;
-  texts = All-weaker (λ (r : State). r.number < n) (λ (r : State). r.number < m) (λ r p. omega arith) moves.texts h.texts;
+  texts = All-weaker (λ (r : TextMove). r.rest.number < n) (λ (r : TextMove). r.rest.number < m) (λ r p. omega arith) moves.texts h.texts;
 }
 
 -- closed at another way to say the length
@@ -25,7 +26,7 @@ IsClosed-append a b h k =
     (All-weaker (LeadsBelow (length a)) (LeadsBelow (length a + length b)) (λ m p. LeadsBelow-more _ _ m (omega arith) p) a h) k)
 
 pub no_moves-below : (n : ℕ) (last : Bool) → LeadsBelow n (no_moves last)
-no_moves-below n last = record { labels = All-nil (LabelBelow n); texts = All-nil (λ (r : State). r.number < n) }
+no_moves-below n last = record { labels = All-nil (LabelBelow n); texts = All-nil (λ (r : TextMove). r.rest.number < n) }
 
 pub IsClosed-push : (a : Automaton) (moves : StateMoves) → IsClosed a → LeadsBelow (length a + 1) moves → IsClosed (a ++ moves ∷ [])
 IsClosed-push a moves h k = IsClosed-append a (moves ∷ []) h (All-cons (LeadsBelow (length a + 1)) moves [] k (All-nil (LeadsBelow (length a + 1))))
@@ -44,9 +45,9 @@ IsClosed-label a s m h here c r =
     IsClosed-with_moves a s (record (moves_at a s) { labels = (moves_at a s).labels ++ m ∷ [] }) h
     (record { labels = All-push (LabelBelow (length a)) (moves_at a s).labels m old.labels (c, r); texts = old.texts })
 
-pub IsClosed-text : (a : Automaton) (s r : State) → IsClosed a → IsState a s → IsState a r
-    → IsClosed (with_moves a s (record (moves_at a s) { texts = (moves_at a s).texts ++ r ∷ [] }))
-IsClosed-text a s r h here k =
+pub IsClosed-text : (a : Automaton) (s : State) (m : TextMove) → IsClosed a → IsState a s → IsState a m.rest
+    → IsClosed (with_moves a s (record (moves_at a s) { texts = (moves_at a s).texts ++ m ∷ [] }))
+IsClosed-text a s m h here k =
     let old = moves_at-closed a s h here in
-    IsClosed-with_moves a s (record (moves_at a s) { texts = (moves_at a s).texts ++ r ∷ [] }) h
-    (record { labels = old.labels; texts = All-push (λ (w : State). w.number < length a) (moves_at a s).texts r old.texts k })
+    IsClosed-with_moves a s (record (moves_at a s) { texts = (moves_at a s).texts ++ m ∷ [] }) h
+    (record { labels = old.labels; texts = All-push (λ (w : TextMove). w.rest.number < length a) (moves_at a s).texts m old.texts k })

@@ -1,18 +1,18 @@
 -- Copies of moves, and what they accept.
-use Rattle.std.proofs.Common.{ℕ, ◌≡◌, ◌+◌, ◌<◌, Bool, ◌&&◌, ◌||◌, List, [], ◌∷◌, ◌++◌, length, get_or, take, map, Option, refl, sym, ap, subst, ◌∙◌, append_assoc}
+use Rattle.std.proofs.Common.{ℕ, ◌≡◌, ◌+◌, ◌<◌, Bool, ◌&&◌, ◌||◌, List, [], ◌∷◌, ◌++◌, length, get_or, take, map, refl, sym, ap, subst, ◌∙◌, append_assoc}
 use Rattle.std.specs.List.{All, AllZip, list_any}
 use Rattle.std.proofs.lemmas.List.{take_more}
 use Rattle.std.proofs.lemmas.List.Elements.{All-head, All-tail, all_zip_more}
 use Rattle.std.proofs.lemmas.List.Folds.{list_any-append}
 use Rattle.xd_doc.specs.Document.{Document}
 use Rattle.xd_doc.specs.Classes.{class_has}
-use Rattle.xd_auto.specs.declared.auto.State.{State}
 use Rattle.xd_auto.specs.declared.auto.LabelMove.{LabelMove}
+use Rattle.xd_auto.specs.declared.auto.TextMove.{TextMove}
 use Rattle.xd_auto.specs.Automaton.{Automaton, StateMoves, accepts}
-use Rattle.xd_auto.specs.Copying.{IsCopy, AddsCopies, AddsMoves, moved}
+use Rattle.xd_auto.specs.Copying.{IsCopy, AddsCopies, AddsMoves, Copies, moved, moved_text}
 use Rattle.xd_auto.specs.Membership.{takes_element}
 
-pub AddsCopies-more : (contents rests : List (Option State)) (moves old new : List LabelMove) (i : ℕ) (m n : LabelMove) → i < length moves → m ≡ get_or moves i m
+pub AddsCopies-more : (contents rests : Copies) (moves old new : List LabelMove) (i : ℕ) (m n : LabelMove) → i < length moves → m ≡ get_or moves i m
     → AddsCopies contents rests (take i moves) old new → IsCopy contents rests m n → AddsCopies contents rests (take (i + 1) moves) old (new ++ n ∷ [])
 AddsCopies-more contents rests moves old new i m n below is adds copy = record {
   more = adds.more ++ n ∷ [];
@@ -43,13 +43,13 @@ any_map p f [] = refl
 any_map p f (x ∷ xs) = ap (λ b. p (f x) || b) (any_map p f xs)
 
 -- a text is accepted by the old moves, or by the moves that were copied
-pub adds_text : (contents rests : List (Option State)) (moves old new : StateMoves) (p : State → Bool) → AddsMoves contents rests moves old new
-    → list_any p new.texts ≡ (list_any p old.texts || list_any (λ r. p (moved rests r)) moves.texts)
+pub adds_text : (contents rests : Copies) (moves old new : StateMoves) (p : TextMove → Bool) → AddsMoves contents rests moves old new
+    → list_any p new.texts ≡ (list_any p old.texts || list_any (λ m. p (moved_text rests m)) moves.texts)
 adds_text contents rests moves old new p h =
-    ap (λ w. list_any p w) h.texts ∙ list_any-append p old.texts (map (moved rests) moves.texts) ∙ ap (λ b. list_any p old.texts || b) (any_map p (moved rests) moves.texts)
+    ap (λ w. list_any p w) h.texts ∙ list_any-append p old.texts (map (moved_text rests) moves.texts) ∙ ap (λ b. list_any p old.texts || b) (any_map p (moved_text rests) moves.texts)
 
 -- the same for an element; what holds of the moves may serve
-pub adds_element : (b : Automaton) (contents rests : List (Option State)) (moves old new : StateMoves) (P : LabelMove → Type 0) (test : LabelMove → Bool) (l : List ℕ) (c r : Document)
+pub adds_element : (b : Automaton) (contents rests : Copies) (moves old new : StateMoves) (P : LabelMove → Type 0) (test : LabelMove → Bool) (l : List ℕ) (c r : Document)
     → ((m : LabelMove) → P m → (class_has m.class l && (accepts b c (moved contents m.content) && accepts b r (moved rests m.rest))) ≡ test m)
     → All P moves.labels → AddsMoves contents rests moves old new
     → list_any (takes_element b l c r) new.labels ≡ (list_any (takes_element b l c r) old.labels || list_any test moves.labels)
@@ -59,4 +59,4 @@ adds_element b contents rests moves old new P test l c r same all h =
     (zip_any (IsCopy contents rests) P test (takes_element b l c r) (λ m n holds copy. one m n copy ∙ same m holds) moves.labels h.labels.more h.labels.copies all)
   where
     one : (m n : LabelMove) → IsCopy contents rests m n → takes_element b l c r n ≡ (class_has m.class l && (accepts b c (moved contents m.content) && accepts b r (moved rests m.rest)))
-    one m n copy = rw (copy.class l, copy.content, copy.rest) refl
+    one m n copy = rw (copy.class, copy.content, copy.rest) refl

@@ -6,6 +6,7 @@ use Rattle.std.proofs.lemmas.List.Elements.{All-head, All-tail}
 use Rattle.xd_doc.specs.Document.{empty, text, element}
 use Rattle.xd_doc.specs.Classes.{class_has}
 use Rattle.xd_auto.specs.declared.auto.LabelMove.{LabelMove}
+use Rattle.xd_auto.specs.declared.auto.TextMove.{TextMove}
 use Rattle.xd_auto.specs.Automaton.{Automaton, StateMoves, IsClosed, Extends, KeepsAccepting, accepts, moves_at, no_moves}
 use Rattle.xd_auto.proofs.Closed.{moves_at-closed}
 
@@ -25,9 +26,9 @@ Extends-same a b e = record { states = λ s here. rw e here; moves = λ s here. 
 pub keeps : (a b : Automaton) → IsClosed a → Extends a b → KeepsAccepting a b
 keeps a b closed more empty s here = ap (λ (m : StateMoves). m.last) (more.moves s here)
 keeps a b closed more (text t rest) s here =
-    ap (λ (m : StateMoves). list_any (λ r. accepts b rest r) m.texts) (more.moves s here)
-    ∙ list_any-agree (λ r. accepts b rest r) (λ r. accepts a rest r) (moves_at a s).texts
-    (λ i d lt. keeps a b closed more rest (get_or (moves_at a s).texts i d) ((moves_at-closed a s closed here).texts i d lt))
+    ap (λ (m : StateMoves). list_any (λ (w : TextMove). class_has w.words t && accepts b rest w.rest) m.texts) (more.moves s here)
+    ∙ list_any-agree (λ (w : TextMove). class_has w.words t && accepts b rest w.rest) (λ (w : TextMove). class_has w.words t && accepts a rest w.rest) (moves_at a s).texts
+    (λ i d lt. rw (keeps a b closed more rest (get_or (moves_at a s).texts i d).rest ((moves_at-closed a s closed here).texts i d lt)) refl)
 keeps a b closed more (element l content rest) s here =
     ap (λ (m : StateMoves). list_any (λ (w : LabelMove). class_has w.class l && (accepts b content w.content && accepts b rest w.rest)) m.labels) (more.moves s here)
     ∙ list_any-agree (λ (w : LabelMove). class_has w.class l && (accepts b content w.content && accepts b rest w.rest))

@@ -1,12 +1,14 @@
--- The index of a state's moves by their labels.
-use Rattle.std.proofs.Common.{ℕ, ◌+◌, ◌-◌, ◌<◌, ◌≤◌, ◌≡◌, ◌⊎◌, inl, inr, Bool, true, false, ◌||◌, cond, List, [], ◌∷◌, ◌++◌, Option, Some, IsSome, Result, Ok, Err, OnErr, Vec, length, take, get_or, nat_eq, ltb, length-append, arith, ap, refl, sym, subst, ◌∙◌}
-use Rattle.std.specs.List.{Contains}
+-- The index of a state's moves by what their classes name.
+use Rattle.std.proofs.Common.{ℕ, ◌+◌, ◌-◌, ◌<◌, ◌≤◌, ◌≡◌, ◌⊎◌, inl, inr, Bool, true, false, ◌||◌, cond, not, List, [], ◌∷◌, ◌++◌, Option, Some, IsSome, Result, Ok, Err, OnErr, Vec, length, take, get_or, ltb, length-append, arith, ap, refl, sym, subst, ◌∙◌}
+use Rattle.std.specs.List.{Contains, list_any}
 use Rattle.std.specs.List.Sorted.{IsNonDecreasing, IsPartitionPoint}
 use Rattle.std.specs.Ordering.{is_eq, nat_cmp}
-use Rattle.std.specs.Cmp.Lexicographic.{pointwise, slice_cmp}
-use Rattle.std.specs.BTreeMap.{BTreeMap, UpdatesBy, get}
+use Rattle.std.specs.Cmp.Lexicographic.{slice_cmp}
 use Rattle.std.proofs.lemmas.Map.Text.{is_eq-slice_cmp}
-use Rattle.std.proofs.lemmas.Map.Lookups.{exact_bytes}
+use Rattle.xd_doc.specs.Classes.{NameClass, class_has, is_named}
+use Rattle.std.specs.declared.cmp.Ordering.{Ordering}
+use Rattle.std.specs.BTreeMap.{BTreeMap, UpdatesBy, get}
+use Rattle.std.proofs.lemmas.Map.Lookups.{CmpEqualImpliesEq}
 use Rattle.std.proofs.lemmas.Map.Views.{tells_apart}
 use Rattle.std.proofs.lemmas.List.{get_or_append_left, get_or_default}
 use Rattle.std.proofs.lemmas.Grind.{get_or_default_zero}
@@ -14,8 +16,6 @@ use Rattle.std.proofs.lemmas.Bool.{ltb-true}
 use Rattle.std.proofs.lemmas.List.Elements.{All-weaker, All-push, All-nil, Contains-append_left, Contains-push}
 use Rattle.std.proofs.lemmas.List.Folds.{list_any_more}
 use Rattle.std.proofs.lemmas.List.Sorted.{IsNonDecreasingBy-push}
-use Rattle.xd_doc.specs.Classes.{class_has, names_label}
-use Rattle.xd_auto.specs.declared.auto.LabelMove.{LabelMove}
 use Rattle.xd_auto.specs.Index.{AddsTo, IsIndex, RisesTo, numbers_at, numbers_of}
 
 pub RisesTo-nil : RisesTo 0 []
@@ -46,90 +46,88 @@ pub AddsTo-if : (n : ℕ) (b : Bool) (xs ys : List ℕ) → ys ≡ cond b (xs ++
 AddsTo-if n true xs ys e = subst (λ (zs : List ℕ). AddsTo n xs zs) (sym e) (AddsTo-push n xs)
 AddsTo-if n false xs ys e = AddsTo-is n xs ys e
 
--- a number that is put under a label stands there, and still stands where it stood
-pub stands_more : (n : ℕ) (names : List (List ℕ)) (i : ℕ) (label q : List ℕ) (old new : List ℕ) → i < length names → label ≡ get_or names i label
-    → new ≡ cond (pointwise nat_eq label q) (old ++ n ∷ []) old → (names_label (take i names) q ≡ true → Contains old n)
-    → names_label (take (i + 1) names) q ≡ true → Contains new n
-stands_more n names i label q old new lt at is before named =
-    go (pointwise nat_eq label q) is (names_label (take i names) q) before
-    (ap (λ name. names_label (take i names) q || pointwise nat_eq name q) at ∙ sym (list_any_more (λ name. pointwise nat_eq name q) names i label lt) ∙ named)
+-- a number that is put under a name stands there, and still stands where it stood
+pub stands_more : {N : Type 0} (R : N → N → Ordering) (n : ℕ) (names : List N) (i : ℕ) (name q : N) (old new : List ℕ) → i < length names → name ≡ get_or names i name
+    → new ≡ cond (is_eq (R name q)) (old ++ n ∷ []) old → (list_any (λ x. is_eq (R x q)) (take i names) ≡ true → Contains old n)
+    → list_any (λ x. is_eq (R x q)) (take (i + 1) names) ≡ true → Contains new n
+stands_more {N} R n names i name q old new lt at is before named =
+    go (is_eq (R name q)) is (list_any (λ x. is_eq (R x q)) (take i names)) before
+    (ap (λ x. list_any (λ y. is_eq (R y q)) (take i names) || is_eq (R x q)) at ∙ sym (list_any_more (λ x. is_eq (R x q)) names i name lt) ∙ named)
   where
     go : (b : Bool) → new ≡ cond b (old ++ n ∷ []) old → (o : Bool) → (o ≡ true → Contains old n) → (o || b) ≡ true → Contains new n
     go true e o h any = subst (λ (zs : List ℕ). Contains zs n) (sym e) (Contains-push old n)
     go false e true h any = subst (λ (zs : List ℕ). Contains zs n) (sym e) (h refl)
     go false e false h any = absurd (cc)
 
-module _ {A : Type 0} (m n : BTreeMap (List ℕ) (Vec ℕ A)) (l : List ℕ) (w : Vec ℕ A) where
-  numbers_updated : UpdatesBy (slice_cmp nat_cmp) (slice_cmp nat_cmp l) m n (Some w) → (q : List ℕ) → numbers_at n q ≡ cond (pointwise nat_eq l q) w.items (numbers_at m q)
-  numbers_updated u q =
-      ap numbers_of (u.0 q) ∙ apart (is_eq (slice_cmp nat_cmp l q)) ∙ ap (λ b. cond b w.items (numbers_at m q)) (is_eq-slice_cmp l q)
+module _ {N A : Type 0} (R : N → N → Ordering) (exact : CmpEqualImpliesEq R) (m n : BTreeMap N (Vec ℕ A)) (l : N) (w : Vec ℕ A) where
+  numbers_updated : UpdatesBy R (R l) m n (Some w) → (q : N) → numbers_at R n q ≡ cond (is_eq (R l q)) w.items (numbers_at R m q)
+  numbers_updated u q = ap numbers_of (u.0 q) ∙ apart (is_eq (R l q))
     where
-      apart : (b : Bool) → numbers_of (cond b (Some w) (get (slice_cmp nat_cmp) m q)) ≡ cond b w.items (numbers_at m q)
+      apart : (b : Bool) → numbers_of (cond b (Some w) (get R m q)) ≡ cond b w.items (numbers_at R m q)
       apart true = refl
       apart false = refl
 
-  numbers_here : (old : List ℕ) → numbers_at m l ≡ old → (q : List ℕ) → pointwise nat_eq l q ≡ true → numbers_at m q ≡ old
-  numbers_here old is q e = ap (numbers_at m) (sym (tells_apart exact_bytes l q (is_eq-slice_cmp l q ∙ e))) ∙ is
+  numbers_here : (old : List ℕ) → numbers_at R m l ≡ old → (q : N) → is_eq (R l q) ≡ true → numbers_at R m q ≡ old
+  numbers_here old is q e = ap (numbers_at R m) (sym (tells_apart exact l q e)) ∙ is
 
-  pub numbers_kept : UpdatesBy (slice_cmp nat_cmp) (slice_cmp nat_cmp l) m n (Some w) → numbers_at m l ≡ w.items → (q : List ℕ) → numbers_at n q ≡ numbers_at m q
-  numbers_kept u is q = numbers_updated u q ∙ go (pointwise nat_eq l q) refl
+  pub numbers_kept : UpdatesBy R (R l) m n (Some w) → numbers_at R m l ≡ w.items → (q : N) → numbers_at R n q ≡ numbers_at R m q
+  numbers_kept u is q = numbers_updated u q ∙ go (is_eq (R l q)) refl
     where
-      go : (b : Bool) → pointwise nat_eq l q ≡ b → cond b w.items (numbers_at m q) ≡ numbers_at m q
+      go : (b : Bool) → is_eq (R l q) ≡ b → cond b w.items (numbers_at R m q) ≡ numbers_at R m q
       go true e = sym (numbers_here w.items is q e)
       go false e = refl
 
-  pub numbers_put : UpdatesBy (slice_cmp nat_cmp) (slice_cmp nat_cmp l) m n (Some w) → (old : List ℕ) (number : ℕ) → numbers_at m l ≡ old → w.items ≡ old ++ number ∷ []
-      → (q : List ℕ) → numbers_at n q ≡ cond (pointwise nat_eq l q) (numbers_at m q ++ number ∷ []) (numbers_at m q)
-  numbers_put u old number is more q = numbers_updated u q ∙ go (pointwise nat_eq l q) refl
+  pub numbers_put : UpdatesBy R (R l) m n (Some w) → (old : List ℕ) (number : ℕ) → numbers_at R m l ≡ old → w.items ≡ old ++ number ∷ []
+      → (q : N) → numbers_at R n q ≡ cond (is_eq (R l q)) (numbers_at R m q ++ number ∷ []) (numbers_at R m q)
+  numbers_put u old number is more q = numbers_updated u q ∙ go (is_eq (R l q)) refl
     where
-      go : (b : Bool) → pointwise nat_eq l q ≡ b → cond b w.items (numbers_at m q) ≡ cond b (numbers_at m q ++ number ∷ []) (numbers_at m q)
+      go : (b : Bool) → is_eq (R l q) ≡ b → cond b w.items (numbers_at R m q) ≡ cond b (numbers_at R m q ++ number ∷ []) (numbers_at R m q)
       go true e = more ∙ ap (λ xs. xs ++ number ∷ []) (sym (numbers_here old is q e))
       go false e = refl
 
-module _ (moves : List LabelMove) (n : ℕ) (named : List ℕ → List ℕ) (others : List ℕ) where
-  pub IsIndex-kept : (named' : List ℕ → List ℕ) (others' : List ℕ) → IsIndex moves n named others → ((q : List ℕ) → AddsTo n (named q) (named' q))
-      → AddsTo n others others' → IsIndex moves n named' others'
+module _ {M N : Type 0} (has : M → N → Bool) (moves : List M) (n : ℕ) (named : N → List ℕ) (others : List ℕ) where
+  pub IsIndex-kept : (named' : N → List ℕ) (others' : List ℕ) → IsIndex has moves n named others → ((q : N) → AddsTo n (named q) (named' q))
+      → AddsTo n others others' → IsIndex has moves n named' others'
   IsIndex-kept named' others' h k o = record {
     within = h.within;
     named_rise = λ q. (k q).rises (h.named_rise q);
     others_rise = o.rises h.others_rise;
-    listed = λ m d l lt has. elim (h.listed m d l lt has) [ inl c ↦ inl ((k l).keeps m c) | inr c ↦ inr (o.keeps m c) ];
+    listed = λ m d l lt takes. elim (h.listed m d l lt takes) [ inl c ↦ inl ((k l).keeps m c) | inr c ↦ inr (o.keeps m c) ];
   }
 
-  pub IsIndex-more : IsIndex moves n named others → n < length moves
-      → ((d : LabelMove) (q : List ℕ) → class_has (get_or moves n d).class q ≡ true → Contains (named q) n ⊎ Contains others n)
-      → IsIndex moves (n + 1) named others
+  pub IsIndex-more : IsIndex has moves n named others → n < length moves
+      → ((d : M) (q : N) → has (get_or moves n d) q ≡ true → Contains (named q) n ⊎ Contains others n)
+      → IsIndex has moves (n + 1) named others
   IsIndex-more h lt new = record {
     within = omega arith;
     named_rise = λ q. RisesTo-more n (named q) (h.named_rise q);
     others_rise = RisesTo-more n others h.others_rise;
-    listed = λ m d l below has. elim (last m below) [
-      | inl old ↦ h.listed m d l old has
-      | inr e ↦ subst (λ w. Contains (named l) w ⊎ Contains others w) (sym e) (new d l (subst (λ w. class_has (get_or moves w d).class l ≡ true) e has))
+    listed = λ m d l below takes. elim (last m below) [
+      | inl old ↦ h.listed m d l old takes
+      | inr e ↦ subst (λ w. Contains (named l) w ⊎ Contains others w) (sym e) (new d l (subst (λ w. has (get_or moves w d) l ≡ true) e takes))
     ];
   }
     where
       last : (m : ℕ) → m < n + 1 → (m < n) ⊎ (m ≡ n)
       last m below = grind arith
 
-  pub IsIndex-push : (m : LabelMove) → IsIndex moves n named others → IsIndex (moves ++ m ∷ []) n named others
+  pub IsIndex-push : (m : M) → IsIndex has moves n named others → IsIndex has (moves ++ m ∷ []) n named others
   IsIndex-push m h = record {
     within = omega (arith, length_more);
     named_rise = h.named_rise;
     others_rise = h.others_rise;
-    listed = λ k d l lt has. h.listed k d l lt
-        (subst (λ (w : LabelMove). class_has w.class l ≡ true) (get_or_append_left moves (m ∷ []) d k (omega (arith, h.within))) has);
+    listed = λ k d l lt takes. h.listed k d l lt (subst (λ w. has w l ≡ true) (get_or_append_left moves (m ∷ []) d k (omega (arith, h.within))) takes);
   }
     where
       length_more : length moves ≤ length (moves ++ m ∷ [])
       length_more = omega (arith, length-append moves (m ∷ []))
 
-pub IsIndex-none : (named : List ℕ → List ℕ) (others : List ℕ) → ((q : List ℕ) → named q ≡ []) → others ≡ [] → IsIndex [] 0 named others
-IsIndex-none named others e o = record {
+pub IsIndex-none : {M N : Type 0} (has : M → N → Bool) (named : N → List ℕ) (others : List ℕ) → ((q : N) → named q ≡ []) → others ≡ [] → IsIndex has [] 0 named others
+IsIndex-none has named others e o = record {
   within = omega arith;
   named_rise = λ q. subst (λ (xs : List ℕ). RisesTo 0 xs) (sym (e q)) RisesTo-nil;
   others_rise = subst (λ (xs : List ℕ). RisesTo 0 xs) (sym o) RisesTo-nil;
-  listed = λ k d l lt has. absurd (omega arith);
+  listed = λ k d l lt takes. absurd (omega arith);
 }
 
 pub is_some_found : {X : Type 0} (x : X) (o : Option X) → Some x ≡ o → IsSome o
@@ -147,20 +145,32 @@ module _ (numbers : List ℕ) where
       apart : (i j k x y : ℕ) → (i ≤ j → x ≤ y) → y ≡ k → k < x → j < i
       apart i j k x y h e lt = grind arith
 
-  pub lists_lack : (moves : List LabelMove) (l : List ℕ) (from start place : ℕ) → IsPartitionPoint (λ y. ltb y from ≡ true) (λ y. ltb y from ≡ false) numbers start
-      → ((i : ℕ) (d : LabelMove) → start ≤ i → i < place → get_or numbers i 0 < length moves → class_has (get_or moves (get_or numbers i 0) d).class l ≡ false)
-      → (k : ℕ) (d : LabelMove) → (c : Contains numbers k) → from ≤ k → c.0 < place → k < length moves → class_has (get_or moves k d).class l ≡ false
-  lists_lack moves l from start place parts passed k d c low before lt =
+  pub lists_lack : {M N : Type 0} (has : M → N → Bool) (moves : List M) (l : N) (from start place : ℕ) → IsPartitionPoint (λ y. ltb y from ≡ true) (λ y. ltb y from ≡ false) numbers start
+      → ((i : ℕ) (d : M) → start ≤ i → i < place → get_or numbers i 0 < length moves → has (get_or moves (get_or numbers i 0) d) l ≡ false)
+      → (k : ℕ) (d : M) → (c : Contains numbers k) → from ≤ k → c.0 < place → k < length moves → has (get_or moves k d) l ≡ false
+  lists_lack has moves l from start place parts passed k d c low before lt =
       let e : get_or numbers c.0 0 ≡ k = sym (get_or_default_zero numbers c.0 k c.1) ∙ c.2 in
-      subst (λ w. class_has (get_or moves w d).class l ≡ false) e
+      subst (λ w. has (get_or moves w d) l ≡ false) e
       (passed c.0 d (apart c.0 start (get_or numbers c.0 0) k (λ b. ltb-true (get_or numbers c.0 0) from (parts.0 c.0 0 (omega arith) b)) e low) before (omega arith))
     where
       apart : (i start x k : ℕ) → (i < start → x < from) → x ≡ k → from ≤ k → start ≤ i
       apart i start x k h e low = grind arith
 
-pub index_step : (moves : List LabelMove) (n : ℕ) (named : List ℕ → List ℕ) (others : List ℕ) (named' : List ℕ → List ℕ) (others' : List ℕ) (step : LabelMove)
-    → IsIndex moves n named others → n < length moves → step ≡ get_or moves n step → ((q : List ℕ) → AddsTo n (named q) (named' q)) → AddsTo n others others'
-    → ((q : List ℕ) → class_has step.class q ≡ true → Contains (named' q) n ⊎ Contains others' n) → IsIndex moves (n + 1) named' others'
-index_step moves n named others named' others' step h lt is k o new =
-    IsIndex-more moves n named' others' (IsIndex-kept moves n named others named' others' h k o) lt
-    (λ d q has. new q (subst (λ (w : LabelMove). class_has w.class q ≡ true) (get_or_default moves n d step lt ∙ sym is) has))
+pub index_step : {M N : Type 0} (has : M → N → Bool) (moves : List M) (n : ℕ) (named : N → List ℕ) (others : List ℕ) (named' : N → List ℕ) (others' : List ℕ) (step : M)
+    → IsIndex has moves n named others → n < length moves → step ≡ get_or moves n step → ((q : N) → AddsTo n (named q) (named' q)) → AddsTo n others others'
+    → ((q : N) → has step q ≡ true → Contains (named' q) n ⊎ Contains others' n) → IsIndex has moves (n + 1) named' others'
+index_step has moves n named others named' others' step h lt is k o new =
+    IsIndex-more has moves n named' others' (IsIndex-kept has moves n named others named' others' h k o) lt
+    (λ d q takes. new q (subst (λ w. has w q ≡ true) (get_or_default moves n d step lt ∙ sym is) takes))
+
+-- what a class that takes no others has stands among its names
+named_by : (names : List (List ℕ)) (x : List ℕ) → list_any (λ name. is_eq (slice_cmp nat_cmp name x)) names ≡ is_named names x
+named_by [] x = refl
+named_by (name ∷ names) x = rw (is_eq-slice_cmp name x, named_by names x) refl
+
+pub class_names : (c : NameClass) (x : List ℕ) → c.except ≡ false → class_has c x ≡ true → list_any (λ name. is_eq (slice_cmp nat_cmp name x)) c.names ≡ true
+class_names c x plain has = named_by c.names x ∙ go c.except (is_named c.names x) plain has
+  where
+    go : (e n : Bool) → e ≡ false → cond e (not n) n ≡ true → n ≡ true
+    go true n plain has = absurd (cc)
+    go false n plain has = has

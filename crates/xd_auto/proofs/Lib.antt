@@ -1,8 +1,11 @@
 pub mod Closed
 pub mod Extending
 pub mod Anys
+pub mod Members
 pub mod RunLaw
 pub mod Bits
+pub mod Keeping
+pub mod Counting
 pub mod Walking
 pub mod Walks
 pub mod Copies

@@ -1,14 +1,15 @@
 -- What states accept that were made of others.
-use Rattle.std.proofs.Common.{ℕ, zero, suc, ◌≡◌, ◌+◌, ◌-◌, ◌<◌, ◌≤◌, Bool, true, false, ◌||◌, List, [], ◌∷◌, ◌++◌, length, get_or, map, Option, Some, None, arith, refl, sym, ap, subst, ◌∙◌, length-append}
+use Rattle.std.proofs.Common.{ℕ, zero, suc, ◌≡◌, ◌+◌, ◌-◌, ◌<◌, ◌≤◌, Bool, true, false, ◌||◌, List, [], ◌∷◌, ◌++◌, length, get_or, map, Some, None, arith, refl, sym, ap, subst, ◌∙◌, length-append}
 use Rattle.std.proofs.lemmas.List.{get_or_default, get_or-append-add, length-map, get_or-map}
 use Rattle.std.specs.List.{All, AllZip, list_any}
 use Rattle.std.proofs.lemmas.List.Elements.{All-head, All-tail, All-cons, All-nil, All-append, All-map}
 use Rattle.xd_doc.specs.Document.{Document, empty, text, element}
 use Rattle.xd_auto.specs.declared.auto.State.{State}
 use Rattle.xd_auto.specs.declared.auto.LabelMove.{LabelMove}
+use Rattle.xd_auto.specs.declared.auto.TextMove.{TextMove}
 use Rattle.xd_auto.specs.Automaton.{Automaton, StateMoves, IsState, IsClosed, LeadsBelow, Extends, KeepsAccepting, accepts, moves_at, no_moves}
-use Rattle.xd_auto.specs.Copying.{AddsMoves, AreCopied, AreStateCopies, HasCopy, IsCopy, IsEither, IsReached, IsStateCopy, is_content, is_rest, LabelBelow, LeadsTo, by_element, by_text, here, further, Reached, copy_of, moved}
-use Rattle.xd_auto.specs.Membership.{takes_element}
+use Rattle.xd_auto.specs.Copying.{AddsMoves, AreCopied, AreStateCopies, Copies, HasCopy, IsCopy, IsEither, IsReached, IsStateCopy, is_content, is_rest, LabelBelow, LeadsTo, by_element, by_text, here, further, Reached, copy_of, moved, moved_text, no_copies}
+use Rattle.xd_auto.specs.Membership.{takes_element, takes_word}
 use Rattle.xd_auto.proofs.Closed.{moves_at-closed, LeadsBelow-more, no_moves-below}
 use Rattle.xd_auto.proofs.Extending.{list_any-agree}
 use Rattle.xd_auto.proofs.Copies.{adds_text, adds_element}
@@ -21,22 +22,22 @@ zip_all R P Q f (u ∷ xs) [] h all = absurd h
 zip_all R P Q f (u ∷ xs) (v ∷ ys) h all = All-cons Q v ys (f u v (All-head P u xs all) h.0) (zip_all R P Q f xs ys h.1 (All-tail P u xs all))
 
 -- moves lead below n where the old ones do, and the copies of what the copied ones lead to
-pub adds_below : (n : ℕ) (contents rests : List (Option State)) (moves old new : StateMoves) → LeadsBelow n old
+pub adds_below : (n : ℕ) (contents rests : Copies) (moves old new : StateMoves) → LeadsBelow n old
     → All (λ (m : LabelMove). ((moved contents m.content).number < n) × ((moved rests m.rest).number < n)) moves.labels
-    → All (λ (r : State). (moved rests r).number < n) moves.texts → AddsMoves contents rests moves old new → LeadsBelow n new
+    → All (λ (m : TextMove). (moved rests m.rest).number < n) moves.texts → AddsMoves contents rests moves old new → LeadsBelow n new
 adds_below n contents rests moves old new below labels texts h = record {
   labels = rw h.labels.behind (All-append (LabelBelow n) old.labels h.labels.more below.labels
       (zip_all (IsCopy contents rests) (λ (m : LabelMove). ((moved contents m.content).number < n) × ((moved rests m.rest).number < n)) (LabelBelow n)
       (λ m k p copy. rw (copy.content, copy.rest) p) moves.labels h.labels.more h.labels.copies labels));
-  texts = rw h.texts (All-append (λ (r : State). r.number < n) old.texts (map (moved rests) moves.texts) below.texts
-      (All-map (λ (r : State). r.number < n) (moved rests) moves.texts texts));
+  texts = rw h.texts (All-append (λ (m : TextMove). m.rest.number < n) old.texts (map (moved_text rests) moves.texts) below.texts
+      (All-map (λ (m : TextMove). m.rest.number < n) (moved_text rests) moves.texts texts));
 }
 
 -- moves that stay lead where they led
-pub stays_below : (a : Automaton) (n : ℕ) (s : State) (old new : StateMoves) → IsClosed a → IsState a s → length a ≤ n → LeadsBelow n old → AddsMoves [] [] (moves_at a s) old new → LeadsBelow n new
+pub stays_below : (a : Automaton) (n : ℕ) (s : State) (old new : StateMoves) → IsClosed a → IsState a s → length a ≤ n → LeadsBelow n old → AddsMoves no_copies no_copies (moves_at a s) old new → LeadsBelow n new
 stays_below a n s old new closed is le below h =
     let own = LeadsBelow-more (length a) n (moves_at a s) le (moves_at-closed a s closed is) in
-    adds_below n [] [] (moves_at a s) old new below own.labels own.texts h
+    adds_below n no_copies no_copies (moves_at a s) old new below own.labels own.texts h
 
 pub either_below : (a : Automaton) (n : ℕ) (one two : State) (made : StateMoves) → IsClosed a → IsState a one → IsState a two → length a ≤ n → IsEither a one two made → LeadsBelow n made
 either_below a n one two made closed is_one is_two le h =
@@ -45,8 +46,8 @@ either_below a n one two made closed is_one is_two le h =
 
 module _ (a b : Automaton) (more : Extends a b) (keep : KeepsAccepting a b) where
   -- an old state's moves accept what the state did
-  pub old_text : (s : State) (t : List ℕ) (r : Document) → IsState a s → list_any (λ q. accepts b r q) (moves_at a s).texts ≡ accepts a (text t r) s
-  old_text s t r is = ap (λ (m : StateMoves). list_any (λ q. accepts b r q) m.texts) (sym (more.moves s is)) ∙ keep (text t r) s is
+  pub old_text : (s : State) (t : List ℕ) (r : Document) → IsState a s → list_any (takes_word b t r) (moves_at a s).texts ≡ accepts a (text t r) s
+  old_text s t r is = ap (λ (m : StateMoves). list_any (takes_word b t r) m.texts) (sym (more.moves s is)) ∙ keep (text t r) s is
 
   pub old_element : (s : State) (l : List ℕ) (c r : Document) → IsState a s → list_any (takes_element b l c r) (moves_at a s).labels ≡ accepts a (element l c r) s
   old_element s l c r is = ap (λ (m : StateMoves). list_any (takes_element b l c r) m.labels) (sym (more.moves s is)) ∙ keep (element l c r) s is
@@ -55,14 +56,14 @@ module _ (a b : Automaton) (more : Extends a b) (keep : KeepsAccepting a b) wher
   pub either_accepts : (one two u : State) → IsState a one → IsState a two → IsEither a one two (moves_at b u) → (d : Document) → accepts b d u ≡ (accepts a d one || accepts a d two)
   either_accepts one two u is_one is_two h empty = h.second.last ∙ h.first.last
   either_accepts one two u is_one is_two h (text t r) =
-      adds_text [] [] (moves_at a two) h.front (moves_at b u) (λ q. accepts b r q) h.second
-      ∙ ap (λ w. w || list_any (λ q. accepts b r q) (moves_at a two).texts)
-      (adds_text [] [] (moves_at a one) (no_moves ((moves_at a one).last || (moves_at a two).last)) h.front (λ q. accepts b r q) h.first ∙ old_text one t r is_one)
+      adds_text no_copies no_copies (moves_at a two) h.front (moves_at b u) (takes_word b t r) h.second
+      ∙ ap (λ w. w || list_any (takes_word b t r) (moves_at a two).texts)
+      (adds_text no_copies no_copies (moves_at a one) (no_moves ((moves_at a one).last || (moves_at a two).last)) h.front (takes_word b t r) h.first ∙ old_text one t r is_one)
       ∙ ap (λ w. accepts a (text t r) one || w) (old_text two t r is_two)
   either_accepts one two u is_one is_two h (element l c r) =
-      adds_element b [] [] (moves_at a two) h.front (moves_at b u) (λ m. Unit {0}) (takes_element b l c r) l c r (λ m p. refl) (λ k d lt. tt) h.second
+      adds_element b no_copies no_copies (moves_at a two) h.front (moves_at b u) (λ m. Unit {0}) (takes_element b l c r) l c r (λ m p. refl) (λ k d lt. tt) h.second
       ∙ ap (λ w. w || list_any (takes_element b l c r) (moves_at a two).labels)
-      (adds_element b [] [] (moves_at a one) (no_moves ((moves_at a one).last || (moves_at a two).last)) h.front (λ m. Unit {0}) (takes_element b l c r) l c r (λ m p. refl) (λ k d lt. tt) h.first
+      (adds_element b no_copies no_copies (moves_at a one) (no_moves ((moves_at a one).last || (moves_at a two).last)) h.front (λ m. Unit {0}) (takes_element b l c r) l c r (λ m p. refl) (λ k d lt. tt) h.first
       ∙ old_element one l c r is_one)
       ∙ ap (λ w. accepts a (element l c r) one || w) (old_element two l c r is_two)
 
@@ -82,10 +83,10 @@ zip_length R [] (v ∷ ys) h = absurd h
 zip_length R (u ∷ xs) [] h = absurd h
 zip_length R (u ∷ xs) (v ∷ ys) h = ap suc (zip_length R xs ys h.1)
 
-pub moved_is : (copies : List (Option State)) (s c : State) → copy_of copies s ≡ Some c → moved copies s ≡ c
+pub moved_is : (copies : Copies) (s c : State) → copy_of copies s ≡ Some c → moved copies s ≡ c
 moved_is copies s c is = rw is refl
 
-module _ (a : Automaton) (contents : Bool) (start : State) (base : ℕ) (order : List State) (copies : List (Option State)) (reached : Reached a contents start base order copies) where
+module _ (a : Automaton) (contents : Bool) (start : State) (base : ℕ) (order : List State) (copies : Copies) (reached : Reached a contents start base order copies) where
   pub copy_below : (n : ℕ) → n ≡ length order → (s : State) → HasCopy copies s → (moved copies s).number < base + n
   copy_below n all s h =
       let l = reached.placed.listed s h.0 h.1 in
@@ -99,7 +100,7 @@ module _ (a : Automaton) (contents : Bool) (start : State) (base : ℕ) (order :
       ap (λ (w : State). copy_of copies w) (sym (reached.head start)) ∙ p ∙ ap (λ n. Some (state_at n)) e
 
 -- states that were copied with all that they lead to
-module _ (a old : Automaton) (start : State) (order : List State) (copies : List (Option State)) (made : List StateMoves)
+module _ (a old : Automaton) (start : State) (order : List State) (copies : Copies) (made : List StateMoves)
     (reached : Reached a true start (length old) order copies) (made_so : AreStateCopies a copies copies None order made) where
   abbrev pub both : Automaton
   both = old ++ made
@@ -123,10 +124,10 @@ module _ (a old : Automaton) (start : State) (order : List State) (copies : List
   copy_accepts empty s c is = (copied s c is).moves.last
   copy_accepts (text t r) s c is =
       let k = copied s c is in
-      adds_text copies copies (moves_at a s) (no_moves (moves_at a s).last) (moves_at both c) (λ q. accepts both r q) k.moves
-      ∙ list_any-agree (λ q. accepts both r (moved copies q)) (λ q. accepts a r q) (moves_at a s).texts
+      adds_text copies copies (moves_at a s) (no_moves (moves_at a s).last) (moves_at both c) (takes_word both t r) k.moves
+      ∙ list_any-agree (λ m. takes_word both t r (moved_text copies m)) (takes_word a t r) (moves_at a s).texts
       (λ i d lt. let h = k.targets.text_copies i d lt in
-      ap (λ (w : State). accepts both r w) (moved_is copies (get_or (moves_at a s).texts i d) h.0 h.1) ∙ copy_accepts r (get_or (moves_at a s).texts i d) h.0 h.1)
+      rw (moved_is copies (get_or (moves_at a s).texts i d).rest h.0 h.1, copy_accepts r (get_or (moves_at a s).texts i d).rest h.0 h.1) refl)
   copy_accepts (element l x r) s c is =
       let k = copied s c is in
       adds_element both copies copies (moves_at a s) (no_moves (moves_at a s).last) (moves_at both c)
@@ -144,15 +145,17 @@ module _ (a old : Automaton) (start : State) (order : List State) (copies : List
       let t = reached.closed i (state_at 0) in_order in
       adds_below (length old + length made) copies copies (moves_at a (get_or order i (state_at 0))) (no_moves (moves_at a (get_or order i (state_at 0))).last) (get_or made i d) (no_moves-below _ _)
       (λ k e below. (copy_below a true start (length old) order copies reached (length made) made_length (get_or (moves_at a (get_or order i (state_at 0))).labels k e).content (t.content_copies refl k e below), copy_below a true start (length old) order copies reached (length made) made_length (get_or (moves_at a (get_or order i (state_at 0))).labels k e).rest (t.rest_copies k e below)))
-      (λ k e below. copy_below a true start (length old) order copies reached (length made) made_length (get_or (moves_at a (get_or order i (state_at 0))).texts k e) (t.text_copies k e below)) z.0
+      (λ k e below. copy_below a true start (length old) order copies reached (length made) made_length (get_or (moves_at a (get_or order i (state_at 0))).texts k e).rest (t.text_copies k e below)) z.0
 
   -- a move to a state leads, at the copies, to its copy
   leads_copied : (s t c e : State) → copy_of copies s ≡ Some c → copy_of copies t ≡ Some e → LeadsTo a s t → LeadsTo both c e
   leads_copied s t c e is is_t (by_text among) =
       let k = copied s c is in
+      let m = among.0 in
       let xs = (moves_at a s).texts in
-      let at : get_or (map (moved copies) xs) among.0 e ≡ e = get_or-map (moved copies) xs among.0 t e among.1 ∙ ap (moved copies) among.2 ∙ moved_is copies t e is_t in
-      by_text (rw k.moves.texts (among.0, omega (arith, among.1, length-map xs (moved copies)), at))
+      let place = among.1.0 in
+      let at : get_or (map (moved_text copies) xs) place (moved_text copies m) ≡ moved_text copies m = get_or-map (moved_text copies) xs place m (moved_text copies m) among.1.1 ∙ ap (moved_text copies) among.1.2 in
+      by_text (moved_text copies m, rw k.moves.texts (place, omega (arith, among.1.1, length-map xs (moved_text copies)), at), ap (moved copies) among.2 ∙ moved_is copies t e is_t)
   leads_copied s t c e is is_t (by_element (is_content m on among to)) =
       let k = copied s c is in
       let z = zip_at (IsCopy copies copies) (moves_at a s).labels k.moves.labels.more among.0 m m k.moves.labels.copies among.1 in

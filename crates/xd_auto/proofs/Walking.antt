@@ -8,13 +8,13 @@ use Rattle.xd_auto.specs.declared.auto.State.{State}
 use Rattle.xd_auto.specs.declared.membership.Progress.{Progress}
 use Rattle.xd_auto.specs.declared.membership.Progress.TheVariants.{Done, Waits}
 use Rattle.xd_auto.specs.Automaton.{Automaton, accepts, moves_at}
-use Rattle.xd_auto.specs.Membership.{FailsBefore, ProgressAt, ProgressOver, takes_element}
+use Rattle.xd_auto.specs.Membership.{FailsBefore, ProgressAt, ProgressOver, takes_element, takes_word}
 
 module _ (a : Automaton) (s : State) (n : ℕ) where
   pub text_fails : (d : Document) (t : List ℕ) → first_of_document d ≡ Some (Text t) → FailsBefore a d s n
-      → (n ≤ length (moves_at a s).texts) × (list_any (λ r. accepts a (rest_of d) r) (take n (moves_at a s).texts) ≡ false)
+      → (n ≤ length (moves_at a s).texts) × (list_any (takes_word a t (rest_of d)) (take n (moves_at a s).texts) ≡ false)
   text_fails empty t e h = absurd (cc)
-  text_fails (text u rest) t e h = h
+  text_fails (text u rest) t e h = let same : u ≡ t = cc in rw (← same) h
   text_fails (element l content rest) t e h = absurd (cc)
 
   pub label_fails : (d : Document) (l : List ℕ) → first_of_document d ≡ Some (Elem l) → FailsBefore a d s n
@@ -24,9 +24,9 @@ module _ (a : Automaton) (s : State) (n : ℕ) where
   label_fails (element k content rest) l e h = let same : k ≡ l = cc in rw (← same) h
 
   pub text_progress : (d : Document) (t : List ℕ) (Wait : ℕ → State → Type 0) (p : Progress) → first_of_document d ≡ Some (Text t)
-      → ProgressOver (λ r. accepts a (rest_of d) r) (moves_at a s).texts n Wait p → ProgressAt a d s n Wait p
+      → ProgressOver (takes_word a t (rest_of d)) (moves_at a s).texts n Wait p → ProgressAt a d s n Wait p
   text_progress empty t Wait p e h = absurd (cc)
-  text_progress (text u rest) t Wait p e h = h
+  text_progress (text u rest) t Wait p e h = let same : u ≡ t = cc in rw same h
   text_progress (element l content rest) t Wait p e h = absurd (cc)
 
   pub label_progress : (d : Document) (l : List ℕ) (Wait : ℕ → State → Type 0) (p : Progress) → first_of_document d ≡ Some (Elem l)

@@ -1,18 +1,17 @@
 -- What the walk over pairs keeps at each step.
-use Rattle.std.proofs.Common.{ℕ, ◌≡◌, ◌≢◌, ◌⊎◌, ◌+◌, ◌*◌, ◌<◌, ◌≤◌, Bool, true, false, ◌&&◌, ◌||◌, List, [], ◌∷◌, ◌++◌, length, get_or, arith, nat_eq, refl, sym, subst, ap, ◌∙◌, inl, inr, eq-eqb}
+use Rattle.std.proofs.Common.{ℕ, ◌≡◌, ◌≢◌, ◌⊎◌, ◌+◌, ◌<◌, ◌≤◌, Bool, List, [], ◌∷◌, ◌++◌, length, get_or, Some, None, is_some, arith, refl, sym, subst, ap, ◌∙◌, inl, inr}
 use Rattle.std.specs.List.{AllPairs}
-use Rattle.std.proofs.lemmas.Bool.{cases_eq, cases_lt, ne_eqb}
+use Rattle.std.proofs.lemmas.Bool.{cases_eq, cases_lt}
 use Rattle.std.proofs.lemmas.List.{get_or_append_left, get_or_at, length_push}
-use Rattle.std.proofs.lemmas.List.Folds.{list_any-append, list_any_none}
 use Rattle.std.proofs.lemmas.List.Quantifiers.{all_pairs_push}
-use Rattle.std.proofs.Math.Nat.{mul-le-mul_right}
 use Rattle.xd_doc.specs.Document.{Document}
+use Rattle.xd_doc.specs.Stored.{BelongsTo, node_seq}
 use Rattle.xd_auto.specs.declared.auto.State.{State}
 use Rattle.xd_auto.specs.declared.membership.Frame.{Frame}
 use Rattle.xd_auto.specs.Automaton.{Automaton, IsState, accepts}
-use Rattle.xd_auto.specs.Marks.{SetsBit, mark_at, mark_place, bit_of, unset_below}
-use Rattle.xd_auto.specs.Membership.{FailsBefore, IsFrame, IsKnownBelow, MayWait, Walk, from_node, is_waiting, steps_left}
-use Rattle.xd_auto.proofs.Bits.{same_place, unset-set}
+use Rattle.xd_auto.specs.Kept.{Answers, AreRight, IsRight, KeepsAnswer, KeepsAnswers, SameAnswers, kept_at}
+use Rattle.xd_auto.proofs.Counting.{left_out_of-more}
+use Rattle.xd_auto.specs.Membership.{FailsBefore, IsFrame, MayWait, Walk, bottom, from_node, steps_left, unknown_below}
 
 abbrev pub frame : ℕ → State → ℕ → Frame
 frame node state tried = record { node = node; state = state; tried = tried }
@@ -57,131 +56,149 @@ falls_last xs y h k d lt =
     let fact = h k (length xs) d lt more in
     rw (get_or_append_left xs (y ∷ []) d k lt, get_or_at xs y [] d (length xs) refl) at fact
 
--- a pair of an older node waits nowhere
-pub none_waits : (p n : ℕ) (xs : List Frame) → ((k : ℕ) (d : Frame) → k < length xs → p < (get_or xs k d).node) → is_waiting xs p n ≡ false
-none_waits p n xs h =
-    list_any_none (λ (f : Frame). nat_eq f.node p && nat_eq f.state.number n) xs
-    (λ k d lt. let ne : (get_or xs k d).node ≢ p = λ e. omega (arith, h k d lt) in rw (ne_eqb (get_or xs k d).node p ne) refl)
-
-pub waiting_push : (xs : List Frame) (f : Frame) (p n : ℕ) → is_waiting (xs ++ f ∷ []) p n ≡ (is_waiting xs p n || ((nat_eq f.node p && nat_eq f.state.number n) || false))
-waiting_push xs f p n = list_any-append (λ (g : Frame). nat_eq g.node p && nat_eq g.state.number n) xs (f ∷ [])
-
-or_front : (x y : Bool) → (x || (y || false)) ≡ false → x ≡ false
-or_front false y e = refl
-or_front true y e = absurd (cc)
-
-or_last : (x y : Bool) → (x || (y || false)) ≡ false → y ≡ false
-or_last false false e = refl
-or_last false true e = absurd (cc)
-or_last true y e = absurd (cc)
-
--- the frame is for this pair, or the test says that it is not
-data Same (f : Frame) (p : ℕ) (t : State) : Type 0 where
-  yes : f.node ≡ p → f.state.number ≡ t.number → Same f p t
-  no : (nat_eq f.node p && nat_eq f.state.number t.number) ≡ false → ¬ ((f.node ≡ p) × (f.state.number ≡ t.number)) → Same f p t
-
-same_pair : (f : Frame) (p : ℕ) (t : State) → Same f p t
-same_pair f p t = go (cases_eq f.node p) (cases_eq f.state.number t.number)
+-- an answer that is kept now was kept before, or is the one that came
+pub some_same : (p n : ℕ) (t : State) (answer b : Bool) (m : ℕ) (old new : Answers) → KeepsAnswer n m answer old new → kept_at new p t.number ≡ Some b
+    → ((p ≡ n) × (t.number ≡ m) × (b ≡ answer)) ⊎ (kept_at old p t.number ≡ Some b)
+some_same p n t answer b m old new k e = go (cases_eq p n) (cases_eq t.number m)
   where
-    and_no : (b : Bool) → (b && false) ≡ false
-    and_no true = refl
-    and_no false = refl
+    go : (p ≡ n) ⊎ (p ≢ n) → (t.number ≡ m) ⊎ (t.number ≢ m) → ((p ≡ n) × (t.number ≡ m) × (b ≡ answer)) ⊎ (kept_at old p t.number ≡ Some b)
+    go (inl x) (inl y) =
+        let there : kept_at new p t.number ≡ Some answer = rw (x, y) k.there in
+        let both : Some b ≡ Some answer = sym e ∙ there in
+        inl (x, y, cc)
+    go (inr x) o = inr (sym (k.others p t.number (inl x)) ∙ e)
+    go (inl x) (inr y) = inr (sym (k.others p t.number (inr y)) ∙ e)
 
-    go : (f.node ≡ p) ⊎ (f.node ≢ p) → (f.state.number ≡ t.number) ⊎ (f.state.number ≢ t.number) → Same f p t
-    go (inl e) (inl g) = yes e g
-    go (inr n) o = no (rw (ne_eqb f.node p n) refl) (λ w. n w.0)
-    go (inl e) (inr n) = no (rw (ne_eqb f.state.number t.number n) (and_no (nat_eq f.node p))) (λ w. n w.1)
+pub same_state : (s t : State) → s.number ≡ t.number → s ≡ t
+same_state s t e = ap (λ (n : ℕ). let u : State = record { number = n } in u) e
 
-module _ (a : Automaton) (ds : List Document) (width top : ℕ) (fits : length a < 64 * width) where
-  pub top_frame : (asked accepted : List ℕ) (rest : List Frame) (f : Frame) → Walk a ds width top asked accepted (rest ++ f ∷ []) → IsFrame a ds top (length rest) f
-  top_frame asked accepted rest f w = places_last (IsFrame a ds top) rest f w.frames
+-- what was right stays so where a right answer is kept
+pub right_kept : (a : Automaton) (ds : List Document) (n : ℕ) (s : State) (answer : Bool) (old new : Answers) → AreRight a ds old → KeepsAnswer n s.number answer old new
+    → IsRight a ds n s answer → AreRight a ds new
+right_kept a ds n s answer old new right k is p t b e =
+    elim (some_same p n t answer b s.number old new k e) [
+      | inl w ↦
+          let states : s ≡ t = same_state s t (sym w.1) in
+          rw (w.0, w.2, ← states) is
+      | inr was ↦ right p t b was
+    ]
 
-  pub known_below : (asked accepted : List ℕ) (rest : List Frame) (f : Frame) → Walk a ds width top asked accepted (rest ++ f ∷ [])
-      → (top + 1) * width ≤ length asked → (top + 1) * width ≤ length accepted → IsKnownBelow a ds asked accepted width f.node
-  known_below asked accepted rest f w room room2 =
-      let here = top_frame asked accepted rest f w in
-      let high : f.node + length rest ≤ top = here.high in
-      let rows : f.node * width ≤ (top + 1) * width = mul-le-mul_right width (omega arith) in
-      record {
-        asked_room = omega arith;
-        accepted_room = omega arith;
-        right = λ p t lt state is.
-            w.settled p t (omega arith) state is
-            (none_waits p t.number (rest ++ f ∷ [])
-            (places_push (λ (k : ℕ) (g : Frame). p < g.node) rest f (λ k d below. omega (arith, falls_last rest f w.falls k d below)) lt));
-      }
+pub right_same : (a : Automaton) (ds : List Document) (old new : Answers) → AreRight a ds old → SameAnswers old new → AreRight a ds new
+right_same a ds old new right same p t b e = right p t b (sym (same p t.number) ∙ e)
+
+pub keeps_one : (n m : ℕ) (answer : Bool) (old new : Answers) → kept_at old n m ≡ None → KeepsAnswer n m answer old new → KeepsAnswers old new
+keeps_one n m answer old new was k p s b e = go (cases_eq p n) (cases_eq s m)
+  where
+    go : (p ≡ n) ⊎ (p ≢ n) → (s ≡ m) ⊎ (s ≢ m) → kept_at new p s ≡ Some b
+    go (inl x) (inl y) =
+        let none : kept_at old p s ≡ None = rw (x, y) was in
+        let both : None ≡ Some b = sym none ∙ e in
+        absurd (cc)
+    go (inr x) o = k.others p s (inl x) ∙ e
+    go (inl x) (inr y) = k.others p s (inr y) ∙ e
+
+pub keeps_same : (old new : Answers) → SameAnswers old new → KeepsAnswers old new
+keeps_same old new same p s b e = same p s ∙ e
+
+pub keeps_on : (one two three : Answers) → KeepsAnswers one two → KeepsAnswers two three → KeepsAnswers one three
+keeps_on one two three h g p s b e = g p s b (h p s b e)
+
+-- the lowest frame is taken from the stack, or stays
+pub root_done : (rest : List Frame) (f : Frame) (n : ℕ) (s : State) → bottom (rest ++ f ∷ []) ≡ Some (n, s)
+    → (bottom rest ≡ Some (n, s)) ⊎ ((rest ≡ []) × (f.node ≡ n) × (f.state ≡ s))
+root_done [] f n s e =
+    let pair : (f.node, f.state) ≡ (n, s) = cc in
+    inr (refl, ap (λ (x : ℕ × State). x.0) pair, ap (λ (x : ℕ × State). x.1) pair)
+root_done (r ∷ rs) f n s e = inl e
+
+pub root_waits : (rest : List Frame) (f g h : Frame) → g.node ≡ f.node → g.state ≡ f.state → bottom ((rest ++ g ∷ []) ++ h ∷ []) ≡ bottom (rest ++ f ∷ [])
+root_waits [] f g h e k = rw (e, k) refl
+root_waits (r ∷ rs) f g h e k = refl
+
+not_empty : (rest : List Frame) (f : Frame) → rest ++ f ∷ [] ≡ [] → ⊥
+not_empty rest f e = omega (arith, length_push rest f, ap length e)
+
+module _ (a : Automaton) (ds : List Document) (top : ℕ) (s : State) where
+  pub top_frame : (rows : Answers) (rest : List Frame) (f : Frame) → Walk a ds top s rows (rest ++ f ∷ []) → IsFrame a ds rows top (length rest) f
+  top_frame rows rest f w = places_last (IsFrame a ds rows top) rest f w.frames
+
+  pub root_waiting : (rows : Answers) (rest : List Frame) (f : Frame) → Walk a ds top s rows (rest ++ f ∷ []) → bottom (rest ++ f ∷ []) ≡ Some (top, s)
+  root_waiting rows rest f w =
+      elim w.root [
+        | inl e ↦ e
+        | inr h ↦ absurd (not_empty rest f h.0)
+      ]
+
+  pub walk_starts : (rows : Answers) → AreRight a ds rows → IsState a s → kept_at rows top s.number ≡ None → FailsBefore a (from_node ds top) s 0
+      → Walk a ds top s rows (frame top s 0 ∷ [])
+  walk_starts rows right state none fails = record {
+    right = right;
+    frames =
+        places_push (IsFrame a ds rows top) [] (frame top s 0) (λ i d lt. absurd (omega arith))
+        (record { high = omega arith; state = state; unknown = none; fails = fails });
+    falls = all_pairs_push Falls [] (frame top s 0) (λ i j d lt below. absurd (omega arith)) (λ k d lt. absurd (omega arith));
+    root = inl refl;
+  }
 
   -- the pair on top is settled
-  pub walk_done : (asked accepted new : List ℕ) (rest : List Frame) (f : Frame) (answer : Bool) → Walk a ds width top asked accepted (rest ++ f ∷ [])
-      → answer ≡ accepts a (from_node ds f.node) f.state → SetsBit (mark_place width f.node f.state.number) answer accepted new
-      → Walk a ds width top asked new rest
-  walk_done asked accepted new rest f answer w is sets = record {
-    frames = places_front (IsFrame a ds top) rest f w.frames;
+  pub walk_done : (rows new : Answers) (rest : List Frame) (f : Frame) (answer : Bool) → Walk a ds top s rows (rest ++ f ∷ [])
+      → BelongsTo ds (node_seq f.node) → answer ≡ accepts a (from_node ds f.node) f.state → KeepsAnswer f.node f.state.number answer rows new
+      → Walk a ds top s new rest
+  walk_done rows new rest f answer w belongs is k = record {
+    right = right_kept a ds f.node f.state answer rows new w.right k (record { belongs = belongs; state = (top_frame rows rest f w).state; is = is });
+    frames = λ i d lt.
+        let old : IsFrame a ds rows top i (get_or rest i d) = places_front (IsFrame a ds rows top) rest f w.frames i d lt in
+        let less : f.node < (get_or rest i d).node = falls_last rest f w.falls i d lt in
+        let ne : (get_or rest i d).node ≢ f.node = λ e. omega arith in
+        record { high = old.high; state = old.state; unknown = k.others (get_or rest i d).node (get_or rest i d).state.number (inl ne) ∙ old.unknown; fails = old.fails };
     falls = falls_front rest f w.falls;
-    settled = λ p t below state asks free. go p t below state asks free (same_pair f p t);
+    root =
+        elim (root_done rest f top s (root_waiting rows rest f w)) [
+          | inl e ↦ inl e
+          | inr h ↦ inr (
+            h.0,
+            subst (λ (n : ℕ). kept_at new n s.number ≡ Some (accepts a (from_node ds n) s)) h.1
+                (subst (λ (t : State). kept_at new f.node t.number ≡ Some (accepts a (from_node ds f.node) t)) h.2 (k.there ∙ ap Some is)),
+          )
+        ];
   }
-    where
-      go : (p : ℕ) (t : State) → p ≤ top → IsState a t → mark_at asked width p t.number ≡ true → is_waiting rest p t.number ≡ false → Same f p t
-          → mark_at new width p t.number ≡ accepts a (from_node ds p) t
-      go p t below state asks free (yes e g) =
-          let place : mark_place width f.node f.state.number ≡ mark_place width p t.number = rw (e, g) refl in
-          let states : f.state ≡ t = ap (λ (n : ℕ). let s : State = record { number = n } in s) g in
-          subst (λ k. bit_of new k ≡ answer) place sets.there ∙ is ∙ rw (e, states) refl
-      go p t below state asks free (no test ne) =
-          let state_f : f.state.number < 64 * width = omega (arith, (top_frame asked accepted rest f w).state) in
-          let apart : mark_place width p t.number ≢ mark_place width f.node f.state.number =
-          λ e. let s = same_place width p t.number f.node f.state.number (omega arith) state_f e in ne (sym s.0, sym s.1) in
-          sets.others (mark_place width p t.number) apart
-          ∙ w.settled p t below state asks (waiting_push rest f p t.number ∙ rw (free, test) refl)
 
   -- the pair on top waits for an older one
-  pub walk_waits : (asked accepted new : List ℕ) (rest : List Frame) (f : Frame) (n p : ℕ) (t : State) → Walk a ds width top asked accepted (rest ++ f ∷ [])
-      → FailsBefore a (from_node ds f.node) f.state n → FailsBefore a (from_node ds p) t 0 → MayWait a asked width f.node p t
-      → SetsBit (mark_place width p t.number) true asked new
-      → Walk a ds width top new accepted ((rest ++ frame f.node f.state n ∷ []) ++ frame p t 0 ∷ [])
-  walk_waits asked accepted new rest f n p t w fails fails2 may sets =
-      let here : IsFrame a ds top (length rest) f = top_frame asked accepted rest f w in
+  pub walk_waits : (rows : Answers) (rest : List Frame) (f : Frame) (n p : ℕ) (t : State) → Walk a ds top s rows (rest ++ f ∷ [])
+      → FailsBefore a (from_node ds f.node) f.state n → FailsBefore a (from_node ds p) t 0 → MayWait a rows f.node p t
+      → Walk a ds top s rows ((rest ++ frame f.node f.state n ∷ []) ++ frame p t 0 ∷ [])
+  walk_waits rows rest f n p t w fails fails2 may =
+      let here : IsFrame a ds rows top (length rest) f = top_frame rows rest f w in
       let high : f.node + length rest ≤ top = here.high in
       let older : p < f.node = may.older in
       let len : length (rest ++ frame f.node f.state n ∷ []) ≡ length rest + 1 = length_push rest (frame f.node f.state n) in
       let front : AllPairs Falls (rest ++ frame f.node f.state n ∷ []) =
       all_pairs_push Falls rest (frame f.node f.state n) (falls_front rest f w.falls) (falls_last rest f w.falls) in
       record {
+        right = w.right;
         frames =
-            places_push (IsFrame a ds top) (rest ++ frame f.node f.state n ∷ []) (frame p t 0)
-            (places_push (IsFrame a ds top) rest (frame f.node f.state n) (places_front (IsFrame a ds top) rest f w.frames)
-            (record { high = high; state = here.state; fails = fails }))
-            (record { high = omega arith; state = may.state; fails = fails2 });
+            places_push (IsFrame a ds rows top) (rest ++ frame f.node f.state n ∷ []) (frame p t 0)
+            (places_push (IsFrame a ds rows top) rest (frame f.node f.state n) (places_front (IsFrame a ds rows top) rest f w.frames)
+            (record { high = high; state = here.state; unknown = here.unknown; fails = fails }))
+            (record { high = omega arith; state = may.state; unknown = may.unasked; fails = fails2 });
         falls =
             all_pairs_push Falls (rest ++ frame f.node f.state n ∷ []) (frame p t 0) front
             (places_push (λ (k : ℕ) (g : Frame). p < g.node) rest (frame f.node f.state n)
             (λ k d below. omega (arith, falls_last rest f w.falls k d below)) older);
-        settled = λ q u below state asks free. go q u below state asks (rw waiting_push at free);
+        root = inl (root_waits rest f (frame f.node f.state n) (frame p t 0) refl refl ∙ root_waiting rows rest f w);
       }
-    where
-      go : (q : ℕ) (u : State) → q ≤ top → IsState a u → mark_at new width q u.number ≡ true
-          → (is_waiting (rest ++ frame f.node f.state n ∷ []) q u.number || ((nat_eq p q && nat_eq t.number u.number) || false)) ≡ false
-          → mark_at accepted width q u.number ≡ accepts a (from_node ds q) u
-      go q u below state asks free =
-          let test : (nat_eq p q && nat_eq t.number u.number) ≡ false = or_last _ _ free in
-          let old : is_waiting (rest ++ f ∷ []) q u.number ≡ false = waiting_push rest f q u.number ∙ sym (waiting_push rest (frame f.node f.state n) q u.number) ∙ or_front _ _ free in
-          let small : t.number < 64 * width = omega (arith, may.state) in
-          let apart : mark_place width q u.number ≢ mark_place width p t.number =
-          λ e. let s = same_place width q u.number p t.number (omega arith) small e in clash p t.number q u.number s.0 s.1 test in
-          w.settled q u below state (sym (sets.others (mark_place width q u.number) apart) ∙ asks) old
-        where
-          clash : (x y v z : ℕ) → v ≡ x → z ≡ y → (nat_eq x v && nat_eq y z) ≡ false → ⊥
-          clash x y v z e g test2 =
-              let one : nat_eq x v ≡ true = eq-eqb x v (sym e) in
-              let two : nat_eq y z ≡ true = eq-eqb y z (sym g) in
-              let both : true ≡ false = (rw (one, two) at test2) in cc
 
--- a pair more on the stack, that nobody asked for before, leaves fewer steps
-pub steps_fall : (width top : ℕ) (asked new : List ℕ) (rest : List Frame) (f g h : Frame) (p n : ℕ) → p ≤ top → n < 64 * width → mark_at asked width p n ≡ false
-    → SetsBit (mark_place width p n) true asked new → steps_left width top new ((rest ++ g ∷ []) ++ h ∷ []) < steps_left width top asked (rest ++ f ∷ [])
-steps_fall width top asked new rest f g h p n below small was sets =
-    let row : (p + 1) * width ≤ (top + 1) * width = mul-le-mul_right width (omega arith) in
-    let place : mark_place width p n < mark_place width (top + 1) 0 = omega arith in
-    let less : unset_below new (mark_place width (top + 1) 0) + 1 ≡ unset_below asked (mark_place width (top + 1) 0) =
-    unset-set asked new (mark_place width p n) was sets (mark_place width (top + 1) 0) place in
-    omega (arith, length_push rest f, length_push rest g, length_push (rest ++ g ∷ []) h)
+-- a pair that is settled leaves fewer steps
+pub steps_settle : (a : Automaton) (top : ℕ) (rows new : Answers) (rest : List Frame) (f : Frame) (answer : Bool) → f.node ≤ top → IsState a f.state
+    → kept_at rows f.node f.state.number ≡ None → KeepsAnswer f.node f.state.number answer rows new
+    → steps_left a top new rest < steps_left a top rows (rest ++ f ∷ [])
+steps_settle a top rows new rest f answer below state none k =
+    let less : unknown_below new (length a) (top + 1) + 1 ≡ unknown_below rows (length a) (top + 1) =
+    left_out_of-more (λ t p. is_some (kept_at rows p t)) (λ t p. is_some (kept_at new p t)) f.state.number f.node (top + 1) (omega arith)
+    (ap is_some none) (ap is_some k.there) (λ t j o. ap is_some (k.others j t o)) (length a) state in
+    rw (← less) (omega (arith, length_push rest f))
+
+-- and so does one that waits
+pub steps_wait : (a : Automaton) (top : ℕ) (rows : Answers) (rest : List Frame) (f g h : Frame) → length rest < top
+    → steps_left a top rows ((rest ++ g ∷ []) ++ h ∷ []) < steps_left a top rows (rest ++ f ∷ [])
+steps_wait a top rows rest f g h lt = omega (arith, length_push rest f, length_push rest g, length_push (rest ++ g ∷ []) h)

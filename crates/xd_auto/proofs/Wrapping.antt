@@ -9,14 +9,14 @@ use Rattle.xd_auto.specs.declared.auto.State.{State}
 use Rattle.xd_auto.specs.declared.auto.LabelMove.{LabelMove}
 use Rattle.xd_auto.specs.Automaton.{Automaton, StateMoves, IsState, IsWrapped, KeepsAccepting, accepts, moves_at, no_moves}
 use Rattle.xd_auto.specs.Copying.{IsAround}
-use Rattle.xd_auto.specs.Membership.{takes_element}
+use Rattle.xd_auto.specs.Membership.{takes_element, takes_word}
 use Rattle.xd_auto.proofs.Anys.{and_left, and_right, and_both}
 
 -- what has no moves accepts no item
 ends_alone : (b : Automaton) (e : State) → moves_at b e ≡ no_moves true → (d : Document) → accepts b d e ≡ true → d ≡ empty
 ends_alone b e is empty h = refl
 ends_alone b e is (text t r) h =
-    let bad : true ≡ false = sym h ∙ ap (λ (m : StateMoves). list_any (λ q. accepts b r q) m.texts) is in absurd (cc)
+    let bad : true ≡ false = sym h ∙ ap (λ (m : StateMoves). list_any (takes_word b t r) m.texts) is in absurd (cc)
 ends_alone b e is (element l c r) h =
     let bad : true ≡ false = sym h ∙ ap (λ (m : StateMoves). list_any (takes_element b l c r) m.labels) is in absurd (cc)
 
@@ -29,7 +29,7 @@ module _ (a b : Automaton) (keep : KeepsAccepting a b) (label : List ℕ) (s u e
 
   wraps : (d : Document) → accepts b d u ≡ true → IsWrapped a label s d
   wraps empty h = let bad : true ≡ false = sym h ∙ ap (λ (m : StateMoves). m.last) around.is in absurd (cc)
-  wraps (text t r) h = let bad : true ≡ false = sym h ∙ ap (λ (m : StateMoves). list_any (λ q. accepts b r q) m.texts) around.is in absurd (cc)
+  wraps (text t r) h = let bad : true ≡ false = sym h ∙ ap (λ (m : StateMoves). list_any (takes_word b t r) m.texts) around.is in absurd (cc)
   wraps (element l c r) h =
       let passes : takes_element b l c r its_move ≡ true = sym (over_element l c r) ∙ h in
       let has : class_has around.class l ≡ true = and_left (class_has around.class l) (accepts b c s && accepts b r e) passes in

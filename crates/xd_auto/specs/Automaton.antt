@@ -1,16 +1,17 @@
 -- Tree automata over documents: states with moves, and which documents a state accepts.
-use Rattle.std.specs.Prelude.{◌≡◌, ℕ, ◌<◌, ◌≤◌, Bool, true, false, ◌&&◌, List, [], ◌∷◌, ◌++◌, length, slice_index_or, slice_set}
+use Rattle.std.specs.Prelude.{◌≡◌, ◌≢◌, ℕ, ◌<◌, ◌≤◌, Bool, true, false, ◌&&◌, List, [], ◌∷◌, ◌++◌, length, slice_index_or, slice_set}
 use Rattle.std.specs.List.{All, list_any}
 use Rattle.xd_doc.specs.Document.{Document, empty, text, element, join}
 use Rattle.xd_doc.specs.Classes.{class_has}
 use Rattle.xd_auto.specs.declared.auto.State.{State}
 use Rattle.xd_auto.specs.declared.auto.LabelMove.{LabelMove}
+use Rattle.xd_auto.specs.declared.auto.TextMove.{TextMove}
 
--- what a state has: whether it accepts the empty document, its moves on an element, and its moves on a text, each to a state for what follows
+-- what a state has: whether it accepts the empty document, its moves on an element, and its moves on a text
 pub record StateMoves : Type 0 where
   pub last : Bool
   pub labels : List LabelMove
-  pub texts : List State
+  pub texts : List TextMove
 
 -- the states, by their numbers
 abbrev pub Automaton : Type 0
@@ -33,14 +34,14 @@ moves_at a s = slice_index_or a (state_number s) (no_moves false)
 -- whether the state accepts the document
 abbrev pub accepts : Automaton → Document → State → Bool
 accepts a empty s = (moves_at a s).last
-accepts a (text t rest) s = list_any (λ r. accepts a rest r) (moves_at a s).texts
+accepts a (text t rest) s = list_any (λ m. class_has m.words t && accepts a rest m.rest) (moves_at a s).texts
 accepts a (element l content rest) s =
     list_any (λ m. class_has m.class l && (accepts a content m.content && accepts a rest m.rest)) (moves_at a s).labels
 
 -- the moves lead to states below n
 pub record LeadsBelow (n : ℕ) (moves : StateMoves) : Type 0 where
   pub labels : All (λ m. (state_number m.content < n) × (state_number m.rest < n)) moves.labels
-  pub texts : All (λ r. state_number r < n) moves.texts
+  pub texts : All (λ m. state_number m.rest < n) moves.texts
 
 -- each move leads to a state of the automaton
 abbrev pub IsClosed : Automaton → Type 0
@@ -55,6 +56,11 @@ pub record Extends (old new : Automaton) : Type 0 where
 abbrev pub KeepsAccepting : Automaton → Automaton → Type 0
 KeepsAccepting old new = (d : Document) (s : State) → IsState old s → accepts new d s ≡ accepts old d s
 
+-- no state came or went, and each other one has the moves that it had
+pub record ChangesOnly (changed : State) (old new : Automaton) : Type 0 where
+  pub states : length new ≡ length old
+  pub others : (s : State) → state_number s ≢ state_number changed → moves_at new s ≡ moves_at old s
+
 -- the automaton with these moves at a state
 abbrev pub with_moves : Automaton → State → StateMoves → Automaton
 with_moves a s moves = slice_set a (state_number s) moves
@@ -63,8 +69,8 @@ with_moves a s moves = slice_set a (state_number s) moves
 abbrev pub with_label_move : Automaton → State → LabelMove → Automaton
 with_label_move a s move = with_moves a s (record (moves_at a s) { labels = (moves_at a s).labels ++ move ∷ [] })
 
-abbrev pub with_text_move : Automaton → State → State → Automaton
-with_text_move a s rest = with_moves a s (record (moves_at a s) { texts = (moves_at a s).texts ++ rest ∷ [] })
+abbrev pub with_text_move : Automaton → State → TextMove → Automaton
+with_text_move a s move = with_moves a s (record (moves_at a s) { texts = (moves_at a s).texts ++ move ∷ [] })
 
 -- the document is one element with the label, whose content the state accepts
 pub record IsWrapped (a : Automaton) (label : List ℕ) (content : State) (d : Document) : Type 0 where
@@ -80,9 +86,15 @@ pub record IsJoined (a : Automaton) (one two : State) (d : Document) : Type 0 wh
   pub front_accepted : accepts a front one ≡ true
   pub back_accepted : accepts a back two ≡ true
 
--- the first of the moves, from this number on, whose class has the label, or their number where there is none
-pub record IsNextMove (moves : List LabelMove) (label : List ℕ) (from number : ℕ) : Type 0 where
+-- the first of these from this number on that has the name, or their number where there is none
+pub record IsNext {M N : Type 0} (has : M → N → Bool) (moves : List M) (name : N) (from number : ℕ) : Type 0 where
   pub after : from ≤ number
   pub within : number ≤ length moves
-  pub has : (d : LabelMove) → number < length moves → class_has (slice_index_or moves number d).class label ≡ true
-  pub lacks : (k : ℕ) (d : LabelMove) → from ≤ k → k < number → class_has (slice_index_or moves k d).class label ≡ false
+  pub here : (d : M) → number < length moves → has (slice_index_or moves number d) name ≡ true
+  pub lacks : (k : ℕ) (d : M) → from ≤ k → k < number → has (slice_index_or moves k d) name ≡ false
+
+abbrev pub has_label : LabelMove → List ℕ → Bool
+has_label m label = class_has m.class label
+
+abbrev pub has_text : TextMove → List ℕ → Bool
+has_text m characters = class_has m.words characters

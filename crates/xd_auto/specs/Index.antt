@@ -1,20 +1,17 @@
--- How a state's moves are found by their labels. Of this only private contracts speak.
-use Rattle.std.specs.Prelude.{◌≡◌, ℕ, ◌<◌, ◌≤◌, ◌⊎◌, true, List, [], length, slice_index_or, Option, Some, None, Vec, Contains}
+-- How a state's moves are found by what their classes name. Of this only private contracts speak.
+use Rattle.std.specs.Prelude.{◌≡◌, ℕ, ◌<◌, ◌≤◌, ◌⊎◌, Bool, true, List, [], length, slice_index_or, Option, Some, None, Vec, Contains}
 use Rattle.std.specs.List.{All}
 use Rattle.std.specs.List.Sorted.{IsNonDecreasing}
-use Rattle.std.specs.Ordering.{nat_cmp}
-use Rattle.std.specs.Cmp.Lexicographic.{slice_cmp}
+use Rattle.std.specs.declared.cmp.Ordering.{Ordering}
 use Rattle.std.specs.BTreeMap.{BTreeMap, get}
-use Rattle.xd_doc.specs.Classes.{class_has}
-use Rattle.xd_auto.specs.declared.auto.LabelMove.{LabelMove}
 
 abbrev pub numbers_of : {A : Type 0} → Option (Vec ℕ A) → List ℕ
 numbers_of None = []
 numbers_of (Some numbers) = numbers.items
 
--- the numbers under a label
-abbrev pub numbers_at : {A : Type 0} → BTreeMap (List ℕ) (Vec ℕ A) → List ℕ → List ℕ
-numbers_at named l = numbers_of (get (slice_cmp nat_cmp) named l)
+-- the numbers under a name
+abbrev pub numbers_at : {N A : Type 0} → (N → N → Ordering) → BTreeMap N (Vec ℕ A) → N → List ℕ
+numbers_at cmp named name = numbers_of (get cmp named name)
 
 -- the numbers never fall, and are at most n
 pub record RisesTo (n : ℕ) (numbers : List ℕ) : Type 0 where
@@ -26,10 +23,9 @@ pub record AddsTo (n : ℕ) (old new : List ℕ) : Type 0 where
   pub keeps : (k : ℕ) → Contains old k → Contains new k
   pub rises : RisesTo n old → RisesTo n new
 
--- of the first moves, so many, each stands under each label of its class, or among the others
-pub record IsIndex (moves : List LabelMove) (count : ℕ) (named : List ℕ → List ℕ) (others : List ℕ) : Type 0 where
+-- of the first moves, so many, each stands under each name that it has, or among the others
+pub record IsIndex {M N : Type 0} (has : M → N → Bool) (moves : List M) (count : ℕ) (named : N → List ℕ) (others : List ℕ) : Type 0 where
   pub within : count ≤ length moves
-  pub named_rise : (l : List ℕ) → RisesTo count (named l)
+  pub named_rise : (name : N) → RisesTo count (named name)
   pub others_rise : RisesTo count others
-  pub listed : (k : ℕ) (d : LabelMove) (l : List ℕ) → k < count → class_has (slice_index_or moves k d).class l ≡ true
-      → Contains (named l) k ⊎ Contains others k
+  pub listed : (k : ℕ) (d : M) (name : N) → k < count → has (slice_index_or moves k d) name ≡ true → Contains (named name) k ⊎ Contains others k

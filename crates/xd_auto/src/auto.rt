@@ -3,21 +3,21 @@
 ghost use Rattle.std.specs.Prelude.{◌≡◌, ◌+◌, ◌<◌, ◌≤◌, ◌++◌, ◌∷◌, [], length, IfOk, OnOk, OnErr};
 ghost use Rattle.std.specs.List.{All};
 ghost use Rattle.std.specs.Option.{IfSome, unwrap_or};
-ghost use Rattle.xd_auto.specs.Automaton.{Extends, IsClosed, IsNextMove, IsState, KeepsAccepting, LeadsBelow, moves_at, no_moves, state_number, with_label_move, with_moves, with_text_move};
-ghost use Rattle.xd_auto.specs.Runs.{AcceptsByRuns};
+ghost use Rattle.xd_auto.specs.Automaton.{ChangesOnly, Extends, IsClosed, IsNext, IsState, KeepsAccepting, LeadsBelow, has_label, has_text, moves_at, no_moves, state_number, with_label_move, with_moves, with_text_move};
+ghost use Rattle.xd_auto.specs.Runs.{AcceptsByRuns, RunsAreAccepting};
 
 mod copying;
 mod index;
 mod operations;
 
-use index::Index;
+use index::{Index, Step};
 pub use operations::trim;
 use std::alloc::Global;
 use std::marker::Model;
-use xd_doc::{Class, Label, NoMemory};
+use xd_doc::{Class, Label, NoMemory, Text, Words};
 
-/// A state of an [`Auto`].
-#[derive(Clone, Copy, Debug, PartialEq, Eq)]
+/// A state of an [`Auto`]. States are ordered by their numbers.
+#[derive(Clone, Copy, Debug, PartialEq, Eq, PartialOrd, Ord, Hash)]
 pub struct State {
     number: usize,
 }
@@ -31,24 +31,72 @@ pub struct LabelMove {
     pub rest: State,
 }
 
+/// A move on a text: the text is in the class, and `rest` goes on over what follows it.
+#[derive(Debug, Drop)]
+pub struct TextMove {
+    pub words: Words,
+    pub rest: State,
+}
+
+impl Step<Label> for LabelMove {
+    ghost takes_name = { has_label };
+
+    ghost has_others = { λ m. m.class.except };
+
+    fn takes(&self, name: &Label) -> bool {
+        self.class.has(name)
+    }
+
+    fn takes_others(&self) -> bool {
+        self.class.takes_others()
+    }
+
+    fn names(&self) -> &[Label] {
+        self.class.names()
+    }
+}
+
+impl Step<Text> for TextMove {
+    ghost takes_name = { has_text };
+
+    ghost has_others = { λ m. m.words.except };
+
+    fn takes(&self, name: &Text) -> bool {
+        self.words.has(name)
+    }
+
+    fn takes_others(&self) -> bool {
+        self.words.takes_others()
+    }
+
+    fn names(&self) -> &[Text] {
+        self.words.texts()
+    }
+}
+
 /// Whether a state accepts the empty document, and its moves.
 #[derive(Debug, Drop)]
 struct Moves {
     last: bool,
     labels: Vec<LabelMove>,
-    texts: Vec<State>,
-    index: Index,
+    texts: Vec<TextMove>,
+    label_index: Index<Label>,
+    text_index: Index<Text>,
 }
 
 impl Model for Moves {
-    ghost use Rattle.xd_auto.specs.Automaton.{StateMoves};
+    ghost use Rattle.std.specs.Ordering.{nat_cmp};
+    ghost use Rattle.std.specs.Cmp.Lexicographic.{slice_cmp};
+    ghost use Rattle.xd_auto.specs.Automaton.{StateMoves, has_label, has_text};
     ghost use Rattle.xd_auto.specs.Index.{IsIndex, numbers_at};
 
     ghost Value = { StateMoves };
 
     ghost view = { λ m. record { last = m.last; labels = m.labels.items; texts = m.texts.items } };
 
-    ghost invariant = { λ m. IsIndex m.labels.items m.index.count (numbers_at m.index.named) m.index.others.items };
+    ghost invariant = { λ m.
+        IsIndex has_label m.labels.items m.label_index.count (numbers_at (slice_cmp nat_cmp) m.label_index.named) m.label_index.others.items
+        × IsIndex has_text m.texts.items m.text_index.count (numbers_at (slice_cmp nat_cmp) m.text_index.named) m.text_index.others.items };
 }
 
 /// A tree automaton over documents.
@@ -76,7 +124,8 @@ impl Moves {
             last,
             labels: Vec::new(alloc),
             texts: Vec::new(alloc),
-            index: Index::new(alloc),
+            label_index: Index::new(alloc),
+            text_index: Index::new(alloc),
         }
     }
 
@@ -85,17 +134,35 @@ impl Moves {
         ensures ok { OnOk result (self.new ≡ record self.old { labels = self.old.labels ++ step ∷ [] }) }
         ensures err { OnErr result (self.new ≡ self.old) }
     {
-        self.index.extend(&self.labels)?;
+        self.label_index.extend(&self.labels)?;
         self.labels.push(step)?;
+        Ok(())
+    }
+
+    /// One more move on a text.
+    fn push_text(&mut self, step: TextMove) -> Result<(), NoMemory>
+        ensures ok { OnOk result (self.new ≡ record self.old { texts = self.old.texts ++ step ∷ [] }) }
+        ensures err { OnErr result (self.new ≡ self.old) }
+    {
+        self.text_index.extend(&self.texts)?;
+        self.texts.push(step)?;
         Ok(())
     }
 
     /// The first move on an element, from this number on, whose class has the label, or their number.
     fn next_label(&self, label: &Label, from: usize) -> usize
         requires { from ≤ length self.now.labels }
-        ensures { IsNextMove self.now.labels label.now from result }
+        ensures { IsNext has_label self.now.labels label.now from result }
     {
-        self.index.next(&self.labels, label, from)
+        self.label_index.next(&self.labels, label, from)
+    }
+
+    /// The first move on a text, from this number on, whose class has the text, or their number.
+    fn next_text(&self, text: &Text, from: usize) -> usize
+        requires { from ≤ length self.now.texts }
+        ensures { IsNext has_text self.now.texts text.now from result }
+    {
+        self.text_index.next(&self.texts, text, from)
     }
 }
 
@@ -162,7 +229,7 @@ impl Auto {
     pub fn next_label_move(&self, state: State, label: &Label, from: usize) -> Option<usize>
         requires state { IsState self.now state }
         requires from { from ≤ length (moves_at self.now state).labels }
-        ensures next { IsNextMove (moves_at self.now state).labels label.now from (unwrap_or result (length (moves_at self.now state).labels)) }
+        ensures next { IsNext has_label (moves_at self.now state).labels label.now from (unwrap_or result (length (moves_at self.now state).labels)) }
         ensures some { IfSome result (λ number. number < length (moves_at self.now state).labels) }
     {
         let moves = &self.states[state.number];
@@ -174,8 +241,24 @@ impl Auto {
         }
     }
 
-    /// The state's moves on a text: the states for what follows it.
-    pub fn text_moves(&self, state: State) -> &[State]
+    /// The same for the state's moves on a text.
+    pub fn next_text_move(&self, state: State, text: &Text, from: usize) -> Option<usize>
+        requires state { IsState self.now state }
+        requires from { from ≤ length (moves_at self.now state).texts }
+        ensures next { IsNext has_text (moves_at self.now state).texts text.now from (unwrap_or result (length (moves_at self.now state).texts)) }
+        ensures some { IfSome result (λ number. number < length (moves_at self.now state).texts) }
+    {
+        let moves = &self.states[state.number];
+        let number = moves.next_text(text, from);
+        if number < moves.texts.len() {
+            Some(number)
+        } else {
+            None
+        }
+    }
+
+    /// The state's moves on a text, in the order in which they came.
+    pub fn text_moves(&self, state: State) -> &[TextMove]
         requires { IsState self.now state }
         ensures value { result.now ≡ (moves_at self.now state).texts }
         ensures closed { LeadsBelow (length self.now) (moves_at self.now state) }
@@ -186,10 +269,11 @@ impl Auto {
 }
 
 impl Auto {
-    /// The law of runs: a state accepts a document exactly where it has an accepting run over it.
-    /// The call does nothing; its contract is the law.
+    /// The laws of runs: a state accepts a document exactly where it has an accepting run over it, and
+    /// the list of its runs has just these. The call does nothing; its contract is the laws.
     pub fn accepts_by_runs(&self, state: State)
-        ensures { AcceptsByRuns self.now state }
+        ensures accepts { AcceptsByRuns self.now state }
+        ensures runs { RunsAreAccepting self.now state }
     {
         let _number = state.number();
     }
@@ -236,6 +320,7 @@ impl Auto {
         requires rest { IsState self.old rest }
         ensures ok { OnOk result (self.new ≡ with_label_move self.old from (record { class = class; content = content; rest = rest })) }
         ensures err { OnErr result (self.new ≡ self.old) }
+        ensures others { ChangesOnly from self.old self.new }
     {
         let step = LabelMove {
             class,
@@ -247,13 +332,14 @@ impl Auto {
     }
 
     /// One more move of the state on a text.
-    pub fn add_text_move(&mut self, from: State, rest: State) -> Result<(), NoMemory>
+    pub fn add_text_move(&mut self, from: State, words: Words, rest: State) -> Result<(), NoMemory>
         requires from { IsState self.old from }
         requires rest { IsState self.old rest }
-        ensures ok { OnOk result (self.new ≡ with_text_move self.old from rest) }
+        ensures ok { OnOk result (self.new ≡ with_text_move self.old from (record { words = words; rest = rest })) }
         ensures err { OnErr result (self.new ≡ self.old) }
+        ensures others { ChangesOnly from self.old self.new }
     {
-        push_text(&mut self.states, from.number, rest)?;
+        push_text(&mut self.states, from.number, TextMove { words, rest })?;
         Ok(())
     }
 }
@@ -268,12 +354,12 @@ fn push_label(states: &mut Vec<Moves>, at: usize, step: LabelMove) -> Result<(),
     Ok(())
 }
 
-fn push_text(states: &mut Vec<Moves>, at: usize, rest: State) -> Result<(), NoMemory>
+fn push_text(states: &mut Vec<Moves>, at: usize, step: TextMove) -> Result<(), NoMemory>
     requires { at < length states.old.items }
-    ensures ok { OnOk result (states.new.items ≡ with_text_move states.old.items (record { number = at }) rest) }
+    ensures ok { OnOk result (states.new.items ≡ with_text_move states.old.items (record { number = at }) step) }
     ensures err { OnErr result (states.new.items ≡ states.old.items) }
 {
     let moves = &mut states[at];
-    moves.texts.push(rest)?;
+    moves.push_text(step)?;
     Ok(())
 }

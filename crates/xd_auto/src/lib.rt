@@ -2,10 +2,9 @@
 #![tactic(auto)]
 
 mod auto;
+mod known;
 mod marks;
 mod membership;
-#[cfg(test)]
-mod tests;
 
-pub use auto::{Auto, LabelMove, State, trim};
-pub use membership::{Scratch, member};
+pub use auto::{Auto, LabelMove, State, TextMove, trim};
+pub use membership::{Answers, Scratch, accepts_kept, member};

@@ -1,18 +1,18 @@
 //! Whether a state accepts a document of a store.
 
-ghost use Rattle.std.specs.Prelude.{◌≡◌, ℕ, ◌+◌, ◌*◌, ◌<◌, ◌≤◌, ◌&&◌, [], ◌∷◌, ◌++◌, Some, true, false, length, take, vec_len, vec_capacity, IfOk};
-ghost use Rattle.std.specs.List.{All, list_any};
-ghost use Rattle.xd_doc.specs.Document.{content_of, rest_of};
-ghost use Rattle.xd_doc.specs.Stored.{BelongsTo, document_at, place_in_store, place_of};
-ghost use Rattle.xd_auto.specs.Automaton.{IsState, IsClosed, accepts, moves_at, state_number};
-ghost use Rattle.xd_auto.specs.Marks.{SetsBit, bit_of, mark_at, mark_place};
-ghost use Rattle.xd_auto.specs.Membership.{AnswersFor, IsFrame, IsKnownBelow, IsRightAt, MayWait, ProgressAt, ProgressOver, FailsBefore, Walk, from_node, takes_element, steps_left};
+ghost use Rattle.std.specs.Prelude.{◌≡◌, ℕ, ◌+◌, ◌*◌, ◌/◌, ◌<◌, ◌≤◌, ◌&&◌, [], ◌∷◌, ◌++◌, None, Some, true, false, length, take, vec_len, vec_capacity, List, IfOk, OnErr, OnOk};
+ghost use Rattle.std.specs.List.{list_any};
+ghost use Rattle.xd_doc.specs.Document.{Document, content_of, rest_of};
+ghost use Rattle.xd_doc.specs.Stored.{BelongsTo, document_at, node_seq, place_in_store, place_of};
+ghost use Rattle.xd_auto.specs.Automaton.{Automaton, IsState, IsClosed, accepts, moves_at, state_number};
+ghost use Rattle.xd_auto.specs.Kept.{AreRight, HasRoom, KeepsAnswers, StayRightForAutomaton, StayRightForStore, kept_at, words_of};
+ghost use Rattle.xd_auto.specs.Membership.{AnswersFor, MayWait, ProgressAt, ProgressOver, FailsBefore, from_node, takes_element, takes_word};
 
 use crate::auto::{Auto, LabelMove, State};
-use crate::marks::{clear, is_marked, row_width, set_mark};
+use crate::known::{Known, words_for};
 use std::alloc::Global;
 use std::marker::Model;
-use xd_doc::{Item, Label, NoMemory, Seq, Store};
+use xd_doc::{Item, Label, NoMemory, Seq, Store, Text};
 
 /// A pair of a node and a state that waits for older pairs, and how many moves it tried.
 #[derive(Clone, Copy, Debug)]
@@ -36,43 +36,30 @@ enum Progress {
     Waits(usize, usize, State),
 }
 
-/// Which pairs of a node and a state were asked for, and which of them accept.
-#[derive(Debug, Drop)]
-struct Known {
-    width: usize,
-    asked: Vec<u64>,
-    accepted: Vec<u64>,
-}
-
 /// Whether the state accepts the document, as far as that is known.
 fn ask(auto: &Auto, store: &Store, known: &Known, seq: Seq, state: State) -> Answer
     requires state { IsState auto.now state }
-    requires width { length auto.now < 64 * known.now.width }
     requires seq { BelongsTo store.now seq }
-    requires known { (p : ℕ) → place_in_store seq ≡ Some p → IsRightAt auto.now store.now known.now.asked.items known.now.accepted.items known.now.width p state }
+    requires known { AreRight auto.now store.now (words_of known.now.rows.items) }
     ensures { AnswersFor (accepts auto.now (document_at store.now seq) state)
-        (λ p t. (place_in_store seq ≡ Some p) × (t ≡ state) × (mark_at known.now.asked.items known.now.width p (state_number t) ≡ false)) result }
+        (λ p t. (place_in_store seq ≡ Some p) × (t ≡ state) × (kept_at (words_of known.now.rows.items) p (state_number t) ≡ None)) result }
 {
     match seq.place() {
         None => Answer::Settled(auto.is_last(state)),
-        Some(node) => {
-            if is_marked(&known.asked, known.width, node, state.number()) {
-                Answer::Settled(is_marked(&known.accepted, known.width, node, state.number()))
-            } else {
-                Answer::Unasked(node, state)
-            }
-        }
+        Some(node) => match known.get(node, state.number()) {
+            Some(answer) => Answer::Settled(answer),
+            None => Answer::Unasked(node, state),
+        },
     }
 }
 
 /// The same for what follows the first item.
 fn ask_rest(auto: &Auto, store: &Store, known: &Known, seq: Seq, state: State) -> Answer
     requires state { IsState auto.now state }
-    requires width { length auto.now < 64 * known.now.width }
     requires seq { BelongsTo store.now seq }
-    requires known { IsKnownBelow auto.now store.now known.now.asked.items known.now.accepted.items known.now.width (place_of (place_in_store seq)) }
+    requires known { AreRight auto.now store.now (words_of known.now.rows.items) }
     ensures { AnswersFor (accepts auto.now (rest_of (document_at store.now seq)) state)
-        (MayWait auto.now known.now.asked.items known.now.width (place_of (place_in_store seq))) result }
+        (MayWait auto.now (words_of known.now.rows.items) (place_of (place_in_store seq))) result }
 {
     ask(auto, store, known, store.next(seq), state)
 }
@@ -80,11 +67,10 @@ fn ask_rest(auto: &Auto, store: &Store, known: &Known, seq: Seq, state: State) -
 /// The same for the content of the first item.
 fn ask_content(auto: &Auto, store: &Store, known: &Known, seq: Seq, state: State) -> Answer
     requires state { IsState auto.now state }
-    requires width { length auto.now < 64 * known.now.width }
     requires seq { BelongsTo store.now seq }
-    requires known { IsKnownBelow auto.now store.now known.now.asked.items known.now.accepted.items known.now.width (place_of (place_in_store seq)) }
+    requires known { AreRight auto.now store.now (words_of known.now.rows.items) }
     ensures { AnswersFor (accepts auto.now (content_of (document_at store.now seq)) state)
-        (MayWait auto.now known.now.asked.items known.now.width (place_of (place_in_store seq))) result }
+        (MayWait auto.now (words_of known.now.rows.items) (place_of (place_in_store seq))) result }
 {
     ask(auto, store, known, store.content(seq), state)
 }
@@ -93,11 +79,10 @@ fn ask_content(auto: &Auto, store: &Store, known: &Known, seq: Seq, state: State
 fn try_move(auto: &Auto, store: &Store, known: &Known, seq: Seq, step: &LabelMove) -> Answer
     requires content { IsState auto.now step.now.content }
     requires rest { IsState auto.now step.now.rest }
-    requires width { length auto.now < 64 * known.now.width }
     requires seq { BelongsTo store.now seq }
-    requires known { IsKnownBelow auto.now store.now known.now.asked.items known.now.accepted.items known.now.width (place_of (place_in_store seq)) }
+    requires known { AreRight auto.now store.now (words_of known.now.rows.items) }
     ensures { AnswersFor (accepts auto.now (content_of (document_at store.now seq)) step.now.content && accepts auto.now (rest_of (document_at store.now seq)) step.now.rest)
-        (MayWait auto.now known.now.asked.items known.now.width (place_of (place_in_store seq))) result }
+        (MayWait auto.now (words_of known.now.rows.items) (place_of (place_in_store seq))) result }
 {
     match ask_content(auto, store, known, seq, step.content) {
         Answer::Settled(true) => ask_rest(auto, store, known, seq, step.rest),
@@ -105,29 +90,32 @@ fn try_move(auto: &Auto, store: &Store, known: &Known, seq: Seq, step: &LabelMov
     }
 }
 
-/// Goes on over the moves on a text, from move `tried` on.
+/// Goes on over the moves of a state on a text, from move `tried` on.
 fn try_texts(
     auto: &Auto,
     store: &Store,
     known: &Known,
     seq: Seq,
-    moves: &[State],
+    text: &Text,
+    state: State,
     tried: usize,
 ) -> Progress
-    requires states { All (λ r. IsState auto.now r) moves.now }
-    requires width { length auto.now < 64 * known.now.width }
+    requires state { IsState auto.now state }
     requires seq { BelongsTo store.now seq }
-    requires known { IsKnownBelow auto.now store.now known.now.asked.items known.now.accepted.items known.now.width (place_of (place_in_store seq)) }
-    requires tried { tried ≤ length moves.now }
-    requires fails { list_any (λ r. accepts auto.now (rest_of (document_at store.now seq)) r) (take tried moves.now) ≡ false }
-    ensures { ProgressOver (λ r. accepts auto.now (rest_of (document_at store.now seq)) r) moves.now tried
-        (MayWait auto.now known.now.asked.items known.now.width (place_of (place_in_store seq))) result }
+    requires known { AreRight auto.now store.now (words_of known.now.rows.items) }
+    requires tried { tried ≤ length (moves_at auto.now state).texts }
+    requires fails { list_any (takes_word auto.now text.now (rest_of (document_at store.now seq))) (take tried (moves_at auto.now state).texts) ≡ false }
+    ensures { ProgressOver (takes_word auto.now text.now (rest_of (document_at store.now seq))) (moves_at auto.now state).texts tried
+        (MayWait auto.now (words_of known.now.rows.items) (place_of (place_in_store seq))) result }
 {
-    for i in tried..moves.len() {
-        match ask_rest(auto, store, known, seq, moves[i]) {
+    let moves = auto.text_moves(state);
+    let mut from = tried;
+    while let Some(number) = auto.next_text_move(state, text, from) {
+        let step = &moves[number];
+        match ask_rest(auto, store, known, seq, step.rest) {
             Answer::Settled(true) => return Progress::Done(true),
-            Answer::Settled(false) => {}
-            Answer::Unasked(node, state) => return Progress::Waits(i, node, state),
+            Answer::Settled(false) => from = number + 1,
+            Answer::Unasked(node, asked) => return Progress::Waits(number, node, asked),
         }
     }
     Progress::Done(false)
@@ -144,13 +132,12 @@ fn try_labels(
     tried: usize,
 ) -> Progress
     requires state { IsState auto.now state }
-    requires width { length auto.now < 64 * known.now.width }
     requires seq { BelongsTo store.now seq }
-    requires known { IsKnownBelow auto.now store.now known.now.asked.items known.now.accepted.items known.now.width (place_of (place_in_store seq)) }
+    requires known { AreRight auto.now store.now (words_of known.now.rows.items) }
     requires tried { tried ≤ length (moves_at auto.now state).labels }
     requires fails { list_any (takes_element auto.now label.now (content_of (document_at store.now seq)) (rest_of (document_at store.now seq))) (take tried (moves_at auto.now state).labels) ≡ false }
     ensures { ProgressOver (takes_element auto.now label.now (content_of (document_at store.now seq)) (rest_of (document_at store.now seq))) (moves_at auto.now state).labels tried
-        (MayWait auto.now known.now.asked.items known.now.width (place_of (place_in_store seq))) result }
+        (MayWait auto.now (words_of known.now.rows.items) (place_of (place_in_store seq))) result }
 {
     let moves = auto.label_moves(state);
     let mut from = tried;
@@ -168,21 +155,22 @@ fn try_labels(
 fn advance(auto: &Auto, store: &Store, known: &Known, frame: Frame) -> Progress
     requires node { frame.node < length store.now }
     requires state { IsState auto.now frame.state }
-    requires width { length auto.now < 64 * known.now.width }
-    requires known { IsKnownBelow auto.now store.now known.now.asked.items known.now.accepted.items known.now.width frame.node }
+    requires known { AreRight auto.now store.now (words_of known.now.rows.items) }
     requires fails { FailsBefore auto.now (from_node store.now frame.node) frame.state frame.tried }
-    ensures { ProgressAt auto.now (from_node store.now frame.node) frame.state frame.tried
-        (MayWait auto.now known.now.asked.items known.now.width frame.node) result }
+    ensures progress { ProgressAt auto.now (from_node store.now frame.node) frame.state frame.tried
+        (MayWait auto.now (words_of known.now.rows.items) frame.node) result }
+    ensures belongs { BelongsTo store.now (node_seq frame.node) }
 {
     let seq = store.at(frame.node);
     match store.first(seq) {
         None => Progress::Done(auto.is_last(frame.state)),
-        Some(Item::Text(_)) => try_texts(
+        Some(Item::Text(text)) => try_texts(
             auto,
             store,
             known,
             seq,
-            auto.text_moves(frame.state),
+            text,
+            frame.state,
             frame.tried,
         ),
         Some(Item::Elem(label)) => try_labels(
@@ -197,59 +185,10 @@ fn advance(auto: &Auto, store: &Store, known: &Known, frame: Frame) -> Progress
     }
 }
 
-impl Known {
-    /// Asks for a pair.
-    fn open(&mut self, node: usize, state: State)
-        requires state { state_number state < 64 * self.old.width }
-        requires asked_room { (node + 1) * self.old.width ≤ length self.old.asked.items }
-        ensures asked { SetsBit (mark_place self.old.width node (state_number state)) true self.old.asked.items self.new.asked.items }
-        ensures asked_len { length self.new.asked.items ≡ length self.old.asked.items }
-        ensures accepted { self.new.accepted.items ≡ self.old.accepted.items }
-        ensures width { self.new.width ≡ self.old.width }
-    {
-        set_mark(&mut self.asked, self.width, node, state.number(), true);
-    }
-
-    /// Keeps the answer to a pair.
-    fn settle(&mut self, node: usize, state: State, answer: bool)
-        requires state { state_number state < 64 * self.old.width }
-        requires accepted_room { (node + 1) * self.old.width ≤ length self.old.accepted.items }
-        ensures accepted { SetsBit (mark_place self.old.width node (state_number state)) answer self.old.accepted.items self.new.accepted.items }
-        ensures accepted_len { length self.new.accepted.items ≡ length self.old.accepted.items }
-        ensures asked { self.new.asked.items ≡ self.old.asked.items }
-        ensures width { self.new.width ≡ self.old.width }
-    {
-        set_mark(&mut self.accepted, self.width, node, state.number(), answer);
-    }
-
-    /// Forgets all pairs of the first nodes.
-    fn forget(&mut self, nodes: usize)
-        requires room { nodes * self.old.width ≤ length self.old.asked.items }
-        ensures unasked { (i : ℕ) → i < 64 * (nodes * self.old.width) → bit_of self.new.asked.items i ≡ false }
-        ensures asked_len { length self.new.asked.items ≡ length self.old.asked.items }
-        ensures accepted { self.new.accepted.items ≡ self.old.accepted.items }
-        ensures width { self.new.width ≡ self.old.width }
-    {
-        clear(&mut self.asked, nodes * self.width);
-    }
-}
-
-/// Puts a frame on the stack, where there is room.
-fn put(stack: &mut Vec<Frame>, frame: Frame)
-    requires { vec_len stack.old < vec_capacity stack.old }
-    ensures items { stack.new.items ≡ stack.old.items ++ frame ∷ [] }
-    ensures len { vec_len stack.new ≡ vec_len stack.old + 1 }
-    ensures capacity { vec_capacity stack.old ≤ vec_capacity stack.new }
-{
-    if stack.push(frame).is_err() {
-        unreachable!();
-    }
-}
-
 /// Settles the pair and all that it needs.
 ///
 /// Of the pairs on the stack each waits for the one above it, whose node is older. So the stack is
-/// never higher than there are nodes, and a pair comes onto it at most once.
+/// never higher than there are nodes. After want of memory all that was settled stays.
 fn walk(
     auto: &Auto,
     store: &Store,
@@ -257,54 +196,48 @@ fn walk(
     stack: &mut Vec<Frame>,
     node: usize,
     state: State,
-)
+) -> Result<bool, NoMemory>
     requires state { IsState auto.now state }
     requires node { node < length store.now }
-    requires width { length auto.now < 64 * known.old.width }
-    requires asked_room { (node + 1) * known.old.width ≤ length known.old.asked.items }
-    requires accepted_room { (node + 1) * known.old.width ≤ length known.old.accepted.items }
-    requires unasked { (i : ℕ) → i < mark_place known.old.width (node + 1) 0 → bit_of known.old.asked.items i ≡ false }
+    requires right { AreRight auto.now store.now (words_of known.old.rows.items) }
+    requires unasked { kept_at (words_of known.old.rows.items) node (state_number state) ≡ None }
     requires stack { stack.old.items ≡ [] }
-    requires capacity { node < vec_capacity stack.old }
-    ensures answer { mark_at known.new.accepted.items known.new.width node (state_number state) ≡ accepts auto.now (from_node store.now node) state }
-    ensures width { known.new.width ≡ known.old.width }
-    ensures asked_len { length known.new.asked.items ≡ length known.old.asked.items }
-    ensures accepted_len { length known.new.accepted.items ≡ length known.old.accepted.items }
-    ensures stack { stack.new.items ≡ [] }
+    ensures answer { IfOk result (λ answer. answer ≡ accepts auto.now (from_node store.now node) state) }
+    ensures right { AreRight auto.now store.now (words_of known.new.rows.items) }
+    ensures keeps { KeepsAnswers (words_of known.old.rows.items) (words_of known.new.rows.items) }
+    ensures kept { IfOk result (λ answer. kept_at (words_of known.new.rows.items) node (state_number state) ≡ Some answer) }
+    ensures stack { OnOk result (stack.new.items ≡ []) }
     ensures capacity { vec_capacity stack.old ≤ vec_capacity stack.new }
+    ensures room { (states words : ℕ) → HasRoom states words known.old.rows.items → HasRoom states words known.new.rows.items }
+    ensures full { OnErr result (HasRoom (length auto.now) (node / 32 + 1) known.old.rows.items → node < vec_capacity stack.old → ⊥) }
 {
-    known.open(node, state);
-    put(
-        stack,
-        Frame {
-            node,
-            state,
-            tried: 0,
-        },
-    );
+    stack.push(Frame {
+        node,
+        state,
+        tried: 0,
+    })?;
     while let Some(frame) = stack.pop() {
         match advance(auto, store, known, frame) {
-            Progress::Done(answer) => known.settle(frame.node, frame.state, answer),
+            Progress::Done(answer) => {
+                known.keep(frame.node, frame.state.number(), answer)?;
+            }
             Progress::Waits(tried, older, asked) => {
-                put(
-                    stack,
-                    Frame {
-                        node: frame.node,
-                        state: frame.state,
-                        tried,
-                    },
-                );
-                known.open(older, asked);
-                put(
-                    stack,
-                    Frame {
-                        node: older,
-                        state: asked,
-                        tried: 0,
-                    },
-                );
+                stack.push(Frame {
+                    node: frame.node,
+                    state: frame.state,
+                    tried,
+                })?;
+                stack.push(Frame {
+                    node: older,
+                    state: asked,
+                    tried: 0,
+                })?;
             }
         }
+    }
+    match known.get(node, state.number()) {
+        Some(answer) => Ok(answer),
+        None => unreachable!(),
     }
 }
 
@@ -319,32 +252,26 @@ pub struct Scratch {
 }
 
 impl Model for Scratch {
-    ghost use Rattle.std.specs.Prelude.{◌≡◌, ◌+◌, ◌*◌, ◌/◌, ◌≤◌, [], length, vec_capacity};
+    ghost use Rattle.std.specs.Prelude.{◌≡◌, ◌+◌, ◌/◌, ◌≤◌, [], vec_capacity};
+    ghost use Rattle.xd_auto.specs.Kept.{HasRoom};
     ghost use Rattle.xd_auto.specs.Membership.{Room};
 
     ghost Value = { Room };
 
     ghost view = { λ s. record { states = s.states; nodes = s.nodes } };
 
-    ghost invariant = { λ s. (s.nodes * (s.states / 64 + 1) ≤ length s.known.asked.items)
-        × (s.nodes * (s.states / 64 + 1) ≤ length s.known.accepted.items)
-        × (s.nodes ≤ vec_capacity s.stack) × (s.stack.items ≡ []) };
+    ghost invariant = { λ s. HasRoom s.states (s.nodes / 32 + 1) s.known.rows.items × (s.nodes ≤ vec_capacity s.stack) × (s.stack.items ≡ []) };
 }
 
 impl Scratch {
     /// A scratch with room for at least so many states and nodes.
     ///
-    /// It takes a bit more than a quarter of a byte for each pair of them, and some words a node.
+    /// It reserves a bit more than a quarter of a byte for each pair of them, and some words a node and
+    /// a state. Of that [`member`] touches the rows of the states that it asks for, as far as their nodes need.
     pub fn reserve(alloc: Global, states: usize, nodes: usize) -> Result<Self, NoMemory>
         ensures { IfOk result (λ scratch. (states ≤ scratch.states) × (nodes ≤ scratch.nodes)) }
     {
-        let width = row_width(states);
-        let words = nodes.checked_mul(width).ok_or(NoMemory)?;
-        let known = Known {
-            width,
-            asked: vec![in alloc; 0; words]?,
-            accepted: vec![in alloc; 0; words]?,
-        };
+        let known = Known::with_room(alloc, states, nodes)?;
         let stack = Vec::with_capacity(alloc, nodes)?;
         Ok(Self {
             states,
@@ -367,7 +294,7 @@ impl Scratch {
 /// It takes no memory beyond the scratch, which keeps its room. It does no recursion. Its work is
 /// that of the pairs of a node and a state that are asked for, starting from the document and the
 /// state: each is settled once, by its moves in their order, until one leads on. Before that it
-/// takes away the marks of the nodes up to the document's.
+/// forgets what it found out for another document.
 pub fn member(auto: &Auto, state: State, store: &Store, seq: Seq, scratch: &mut Scratch) -> bool
     requires state { IsState auto.now state }
     requires seq { BelongsTo store.now seq }
@@ -379,16 +306,83 @@ pub fn member(auto: &Auto, state: State, store: &Store, seq: Seq, scratch: &mut 
     let Some(node) = seq.place() else {
         return auto.is_last(state);
     };
-    let width = row_width(auto.len());
-    scratch.known.width = width;
-    scratch.known.forget(node + 1);
-    walk(
-        auto,
-        store,
-        &mut scratch.known,
-        &mut scratch.stack,
-        node,
-        state,
-    );
-    is_marked(&scratch.known.accepted, width, node, state.number())
+    scratch.known.clear();
+    let known = &mut scratch.known;
+    match walk(auto, store, known, &mut scratch.stack, node, state) {
+        Ok(answer) => answer,
+        Err(_) => unreachable!(),
+    }
+}
+
+/// Answers that are kept over many calls, while the store and the automaton grow.
+///
+/// They are right for good: an old node stands for its document for good, and an old state accepts
+/// what it did as long as no move is added to it. A state that was never asked costs an empty vector
+/// at most; one that was asked costs two bits for each node up to the newest that it was asked at.
+#[derive(Debug, Drop)]
+pub struct Answers {
+    known: Known,
+    stack: Vec<Frame>,
+}
+
+impl Model for Answers {
+    ghost use Rattle.std.specs.Prelude.{List, ℕ};
+    ghost use Rattle.xd_auto.specs.Kept.{words_of};
+
+    ghost Value = { List (List ℕ) };
+
+    ghost view = { λ a. words_of a.known.rows.items };
+}
+
+impl Answers {
+    /// No answer. It takes no memory.
+    pub fn new(alloc: Global) -> Self
+        ensures none { result ≡ [] }
+        ensures right { (auto : Automaton) (documents : List Document) → AreRight auto documents result }
+    {
+        Self {
+            known: Known::new(alloc),
+            stack: Vec::new(alloc),
+        }
+    }
+
+    /// Answers that are right stay right while the store and the automaton grow. The call does
+    /// nothing; its contract is the law.
+    pub fn stay_right(&self)
+        ensures store { StayRightForStore self.now }
+        ensures automaton { StayRightForAutomaton self.now }
+    {
+        let _rows = &self.known;
+    }
+}
+
+/// Whether the state accepts the document, by the answers that are kept and those that it adds.
+///
+/// Its work is that of the pairs of a node and a state that it needs and that aren't known yet: each
+/// is settled once, by its moves in their order, until one leads on. It does no recursion. After want
+/// of memory the answers that it has found are kept.
+pub fn accepts_kept(
+    answers: &mut Answers,
+    auto: &Auto,
+    state: State,
+    store: &Store,
+    seq: Seq,
+) -> Result<bool, NoMemory>
+    requires state { IsState auto.now state }
+    requires seq { BelongsTo store.now seq }
+    requires right { AreRight auto.now store.now answers.old }
+    ensures answer { IfOk result (λ answer. answer ≡ accepts auto.now (document_at store.now seq) state) }
+    ensures right { AreRight auto.now store.now answers.new }
+    ensures keeps { KeepsAnswers answers.old answers.new }
+    ensures kept { IfOk result (λ answer. (node : ℕ) → place_in_store seq ≡ Some node → kept_at answers.new node (state_number state) ≡ Some answer) }
+{
+    let Some(node) = seq.place() else {
+        return Ok(auto.is_last(state));
+    };
+    if let Some(answer) = answers.known.get(node, state.number()) {
+        return Ok(answer);
+    }
+    answers.stack.clear();
+    let known = &mut answers.known;
+    walk(auto, store, known, &mut answers.stack, node, state)
 }

@@ -1,2 +1,3 @@
-pub mod InhabitLemmas
-pub mod LabelLemmas
+pub mod NameLemmas
+pub mod UsesLemmas
+pub mod SearchLemmas

@@ -1,12 +1,12 @@
--- States that have documents, and states that lead to none.
-use Rattle.std.specs.Prelude.{◌≡◌, ℕ, ◌+◌, ◌≤◌, ◌⊎◌, true, false, Option, Some, None, List, [], ◌∷◌, slice_index_or}
-use Rattle.std.specs.List.{All}
+-- States that have documents, and how these are found.
+use Rattle.std.specs.Prelude.{◌≡◌, ℕ, ◌<◌, ◌≤◌, ◌⊎◌, true, false, Option, Some, None, List, length, slice_index_or, sum_by, Contains, ◌+◌}
 use Rattle.xd_doc.specs.Document.{Document}
 use Rattle.xd_doc.specs.Stored.{document_at, BelongsTo}
 use Rattle.xd_doc.specs.declared.store.Seq.{Seq}
 use Rattle.xd_auto.specs.declared.auto.State.{State}
-use Rattle.xd_auto.specs.declared.auto.LabelMove.{LabelMove}
 use Rattle.xd_auto.specs.Automaton.{Automaton, accepts, moves_at, state_number}
+use Rattle.xd_empty.specs.declared.uses.Use.{Use}
+use Rattle.xd_empty.specs.Uses.{IsUse, parts_of, user, uses_at}
 
 -- a document of the store that the state accepts
 pub record IsWitness (a : Automaton) (ds : List Document) (s : State) (seq : Seq) : Type 0 where
@@ -24,25 +24,34 @@ IsUnknown fs s = slice_index_or fs (state_number s) None ≡ None
 abbrev pub AreWitnesses : Automaton → List Document → List (Option Seq) → Type 0
 AreWitnesses a ds fs = (s : State) (seq : Seq) → IsFound fs s seq → IsWitness a ds s seq
 
--- the move leads to a state for which none was found
-abbrev pub TextStuck : List (Option Seq) → State → Type 0
-TextStuck fs r = IsUnknown fs r
+-- for each state of the automaton a document that it accepts; none was found exactly where it accepts none
+pub record AreInhabitants (a : Automaton) (ds : List Document) (fs : List (Option Seq)) : Type 0 where
+  pub count : length fs ≡ length a
+  pub witnesses : AreWitnesses a ds fs
+  pub none : (s : State) → IsUnknown fs s → (d : Document) → accepts a d s ≡ false
 
-abbrev pub LabelStuck : List (Option Seq) → LabelMove → Type 0
-LabelStuck fs m = IsUnknown fs m.content ⊎ IsUnknown fs m.rest
+-- Of what follows only private contracts speak.
 
--- the state doesn't accept the empty document, and each of its moves leads to a state for which none was found
-pub record IsStuck (a : Automaton) (fs : List (Option Seq)) (s : State) : Type 0 where
-  pub last : (moves_at a s).last ≡ false
-  pub labels : All (LabelStuck fs) (moves_at a s).labels
-  pub texts : All (TextStuck fs) (moves_at a s).texts
+-- for one of the states none was found
+abbrev pub LacksOne : List (Option Seq) → List State → Type 0
+LacksOne fs states = (t : State) × Contains states t × IsUnknown fs t
 
--- from this number on, each state for which none was found is stuck
-abbrev pub StuckFrom : Automaton → List (Option Seq) → ℕ → Type 0
-StuckFrom a fs from = (s : State) → from ≤ state_number s → IsUnknown fs s → IsStuck a fs s
+-- the move stands in the list, from this place on
+abbrev pub Waits : List Use → ℕ → Use → Type 0
+Waits waiting done u = (i : ℕ) × (done ≤ i) × (i < length waiting) × (slice_index_or waiting i u ≡ u)
 
--- the number of states for which none was found
-abbrev pub unknown : List (Option Seq) → ℕ
-unknown [] = 0
-unknown (None ∷ fs) = unknown fs + 1
-unknown (Some seq ∷ fs) = unknown fs
+-- how many moves are listed or stand in line
+abbrev pub steps_in : List (List Use) → List Use → ℕ
+steps_in uses waiting = sum_by length uses + length waiting
+
+-- what holds at each step: of the first n states those that accept the empty document are found, and each move of a state without a document waits or leads to such a state, under which it is listed
+pub record Searching (a : Automaton) (ds : List Document) (n : ℕ) (fs : List (Option Seq)) (uses : List (List Use)) (waiting : List Use) (done : ℕ) : Type 0 where
+  pub count : length fs ≡ length a
+  pub sized : length uses ≡ length a
+  pub within : done ≤ length waiting
+  pub witnesses : AreWitnesses a ds fs
+  pub last : (s : State) → state_number s < n → IsUnknown fs s → (moves_at a s).last ≡ false
+  pub moves : (u : Use) → IsUse a u → IsUnknown fs (user u) → Waits waiting done u ⊎ LacksOne fs (parts_of a u)
+  pub listed : (u : Use) (t : State) → IsUse a u → Contains (parts_of a u) t → IsUnknown fs t → Contains (uses_at uses t) u
+  pub uses_there : (t : State) (u : Use) → Contains (uses_at uses t) u → IsUse a u
+  pub waiting_there : (u : Use) → Contains waiting u → IsUse a u

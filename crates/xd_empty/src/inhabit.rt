@@ -1,23 +1,48 @@
 //! Documents for the states of an automaton.
 
-ghost use Rattle.std.specs.Prelude.{◌≡◌, ℕ, ◌<◌, true, false, None, Some, Ok, IfOk, IfSome, length, vec_len};
-ghost use Rattle.std.specs.List.{All};
+ghost use Rattle.std.specs.Prelude.{◌≡◌, ◌<◌, ◌+◌, ◌++◌, ◌∷◌, true, false, None, Some, Ok, List, IfOk, IfSome, OnOk, [], length, slice_set};
 ghost use Rattle.xd_doc.specs.Document.{Document};
 ghost use Rattle.xd_doc.specs.Stored.{document_at, BelongsTo, Keeps};
-ghost use Rattle.xd_auto.specs.Automaton.{accepts, moves_at, state_number, IsState};
-ghost use Rattle.xd_empty.specs.Inhabited.{IsWitness, AreWitnesses, IsStuck, LabelStuck, TextStuck, StuckFrom, IsFound, unknown};
+ghost use Rattle.xd_auto.specs.Automaton.{accepts, state_number, IsState};
+ghost use Rattle.xd_empty.specs.Inhabited.{AreInhabitants, AreWitnesses, IsFound, IsWitness, LacksOne, Searching, steps_in};
+ghost use Rattle.xd_empty.specs.Uses.{IsUse, lists_of, parts_of, user, uses_at};
 
-use crate::label::label_of;
+use crate::names::{label_of, text_of};
+use crate::uses::{Use, uses_of};
 use std::alloc::Global;
-use xd_auto::{Auto, LabelMove, State};
-use xd_doc::{NoMemory, Seq, Store, Text};
+use xd_auto::{Auto, LabelMove, State, trim};
+use xd_doc::{NoMemory, Seq, Store};
+
+/// For each state, by its number, a document that it accepts, in this store; `None` exactly where it
+/// accepts none.
+///
+/// States are found by working forward from those that accept the empty document: each move waits
+/// for the states that it leads to, and is looked at when one of them was found (the linear-time
+/// algorithm of Dowling and Gallier, *Linear-time algorithms for testing the satisfiability of
+/// propositional Horn formulae*, 1984, for rules with at most two premises). A move is looked at
+/// twice at most, so the time is linear in the states and moves. Moves wait in line, so documents stay
+/// shallow. A state's document is made once, from those of other states, and shared: it is one node
+/// more, though as a tree the document may be exponential in the number of states.
+pub fn inhabitants(
+    alloc: Global,
+    auto: &Auto,
+    store: &mut Store,
+) -> Result<Vec<Option<Seq>>, NoMemory>
+    ensures inhabitants { IfOk result (λ found. AreInhabitants auto.now store.new found.items) }
+    ensures keeps { Keeps store.old store.new }
+{
+    let mut search = Search::begin(alloc, auto)?;
+    let mut done = 0;
+    while done < search.waiting.len() {
+        search.look_at(alloc, auto, done, store)?;
+        done += 1;
+    }
+    Ok(search.found)
+}
 
 /// A document that the state accepts, in this store; `None` exactly where it accepts none.
 ///
-/// It goes over the states in rounds, as long as a round finds a document for a further state
-/// (emptiness of tree automata: Comon et al., TATA, section 1.7). Each round takes time linear in
-/// the moves. A state's document is made once, from those of other states, and shared: it is one
-/// node more, though as a tree the document may be exponential in the number of states.
+/// It asks [`inhabitants`] about the states that the state leads to, and no others.
 pub fn inhabitant(
     alloc: Global,
     auto: &Auto,
@@ -30,118 +55,133 @@ pub fn inhabitant(
     ensures belongs { IfOk result (λ found. IfSome found (BelongsTo store.new)) }
     ensures keeps { Keeps store.old store.new }
 {
-    let mut found = Vec::new(alloc);
-    for _ in 0..auto.len() {
-        found.push(None)?;
-    }
-    loop {
-        if let Some(seq) = found[state.number()] {
-            return Ok(Some(seq));
-        }
-        if !find_more(alloc, auto, &mut found, store)? {
-            return Ok(None);
-        }
-    }
+    let (part, start) = trim(alloc, auto, state)?;
+    let found = inhabitants(alloc, &part, store)?;
+    Ok(found[start.number()])
 }
 
-/// Goes once over the states without a document, and says whether it found one for any of them.
-fn find_more(
-    alloc: Global,
-    auto: &Auto,
-    found: &mut Vec<Option<Seq>>,
-    store: &mut Store,
-) -> Result<bool, NoMemory>
-    requires count { vec_len found.old ≡ length auto.now }
-    requires witnesses { AreWitnesses auto.now store.old found.old.items }
-    ensures count { vec_len found.new ≡ length auto.now }
-    ensures witnesses { AreWitnesses auto.now store.new found.new.items }
-    ensures keeps { Keeps store.old store.new }
-    ensures more { result ≡ Ok true → unknown found.new.items < unknown found.old.items }
-    ensures done { result ≡ Ok false → StuckFrom auto.now found.new.items 0 }
-    ensures same { result ≡ Ok false → found.new.items ≡ found.old.items }
-{
-    let mut changed = false;
-    for number in (0..auto.len()).rev() {
-        if found[number].is_none() {
-            if let Some(seq) = witness(alloc, auto, auto.state(number), found, store)? {
-                found[number] = Some(seq);
-                changed = true;
+/// What was found of the states so far, and the moves that wait to be looked at.
+#[derive(Debug, Drop)]
+struct Search {
+    /// The document of each state.
+    found: Vec<Option<Seq>>,
+    /// The moves that lead to each state without a document.
+    uses: Vec<Vec<Use>>,
+    /// The moves that led to states without a document which have one by now.
+    waiting: Vec<Use>,
+}
+
+impl Search {
+    /// Finds the states that accept the empty document.
+    fn begin(alloc: Global, auto: &Auto) -> Result<Self, NoMemory>
+        ensures { IfOk result (λ search. (documents : List Document) → Searching auto.now documents (length auto.now) search.found.items (lists_of search.uses.items) search.waiting.items 0) }
+    {
+        let mut found = Vec::new(alloc);
+        for _ in 0..auto.len() {
+            found.push(None)?;
+        }
+        let mut search = Self {
+            found,
+            uses: uses_of(alloc, auto)?,
+            waiting: Vec::new(alloc),
+        };
+        for number in 0..auto.len() {
+            let state = auto.state(number);
+            if auto.is_last(state) {
+                search.find(state, Seq::empty())?;
             }
         }
+        Ok(search)
     }
-    Ok(changed)
+
+    /// Looks at the move that waits at this place: it may give its state a document.
+    fn look_at(
+        &mut self,
+        alloc: Global,
+        auto: &Auto,
+        place: usize,
+        store: &mut Store,
+    ) -> Result<(), NoMemory>
+        requires searching { Searching auto.now store.old (length auto.now) self.old.found.items (lists_of self.old.uses.items) self.old.waiting.items place }
+        requires place { place < length self.old.waiting.items }
+        ensures searching { OnOk result (Searching auto.now store.new (length auto.now) self.new.found.items (lists_of self.new.uses.items) self.new.waiting.items (place + 1)) }
+        ensures steps { OnOk result (steps_in (lists_of self.new.uses.items) self.new.waiting.items ≡ steps_in (lists_of self.old.uses.items) self.old.waiting.items) }
+        ensures keeps { Keeps store.old store.new }
+    {
+        let step = self.waiting[place];
+        let state = step.state();
+        if self.found[state.number()].is_some() {
+            return Ok(());
+        }
+        let Some(seq) = document_by(alloc, auto, step, &self.found, store)? else {
+            return Ok(());
+        };
+        self.find(state, seq)?;
+        Ok(())
+    }
+
+    /// Keeps the state's document; the moves that lead to the state wait from now on.
+    fn find(&mut self, state: State, seq: Seq) -> Result<(), NoMemory>
+        requires found { state_number state < length self.old.found.items }
+        requires uses { state_number state < length self.old.uses.items }
+        ensures found { OnOk result (self.new.found.items ≡ slice_set self.old.found.items (state_number state) (Some seq)) }
+        ensures uses { OnOk result (lists_of self.new.uses.items ≡ slice_set (lists_of self.old.uses.items) (state_number state) []) }
+        ensures waiting { OnOk result (self.new.waiting.items ≡ self.old.waiting.items ++ uses_at (lists_of self.old.uses.items) state) }
+    {
+        let number = state.number();
+        self.waiting.append(&mut self.uses[number])?;
+        self.found[number] = Some(seq);
+        Ok(())
+    }
 }
 
-/// A document that the state accepts, by one of its moves to states that have documents.
-fn witness(
-    alloc: Global,
-    auto: &Auto,
-    state: State,
-    found: &[Option<Seq>],
-    store: &mut Store,
-) -> Result<Option<Seq>, NoMemory>
-    requires state { IsState auto.now state }
-    requires count { length found.now ≡ length auto.now }
-    requires witnesses { AreWitnesses auto.now store.old found.now }
-    ensures some { IfOk result (λ made. IfSome made (IsWitness auto.now store.new state)) }
-    ensures none { result ≡ Ok None → IsStuck auto.now found.now state }
-    ensures keeps { Keeps store.old store.new }
-{
-    if auto.is_last(state) {
-        return Ok(Some(Seq::empty()));
-    }
-    if let Some(seq) = text_witness(alloc, auto, state, found, store)? {
-        return Ok(Some(seq));
-    }
-    element_witness(alloc, auto, state, found, store)
-}
-
-fn text_witness(
-    alloc: Global,
-    auto: &Auto,
-    state: State,
-    found: &[Option<Seq>],
-    store: &mut Store,
-) -> Result<Option<Seq>, NoMemory>
-    requires state { IsState auto.now state }
-    requires count { length found.now ≡ length auto.now }
-    requires witnesses { AreWitnesses auto.now store.old found.now }
-    ensures some { IfOk result (λ made. IfSome made (IsWitness auto.now store.new state)) }
-    ensures none { result ≡ Ok None → All (TextStuck found.now) (moves_at auto.now state).texts }
-    ensures keeps { Keeps store.old store.new }
-{
-    let moves = auto.text_moves(state);
-    for next in moves {
-        if let Some(rest) = found[next.number()] {
-            let text = Text::new(alloc, "")?;
-            return Ok(Some(store.text_node(text, rest)?));
+impl Use {
+    /// The state that the move is of.
+    fn state(self) -> State
+        ensures { result ≡ user self }
+    {
+        match self {
+            Use::Element(state, _) | Use::Text(state, _) => state,
         }
     }
-    Ok(None)
 }
 
-fn element_witness(
+/// A document of the move's state that begins with this move, where the states that it leads to
+/// have documents.
+fn document_by(
     alloc: Global,
     auto: &Auto,
-    state: State,
+    step: Use,
     found: &[Option<Seq>],
     store: &mut Store,
 ) -> Result<Option<Seq>, NoMemory>
-    requires state { IsState auto.now state }
+    requires step { IsUse auto.now step }
     requires count { length found.now ≡ length auto.now }
     requires witnesses { AreWitnesses auto.now store.old found.now }
-    ensures some { IfOk result (λ made. IfSome made (IsWitness auto.now store.new state)) }
-    ensures none { result ≡ Ok None → All (LabelStuck found.now) (moves_at auto.now state).labels }
+    ensures some { IfOk result (λ made. IfSome made (IsWitness auto.now store.new (user step))) }
+    ensures none { result ≡ Ok None → LacksOne found.now (parts_of auto.now step) }
     ensures keeps { Keeps store.old store.new }
 {
-    let moves = auto.label_moves(state);
-    for step in moves {
-        if let Some((content, rest)) = parts(step, found) {
-            let label = label_of(alloc, &step.class)?;
-            return Ok(Some(store.elem_node(label, content, rest)?));
+    match step {
+        Use::Element(state, number) => {
+            let moves = auto.label_moves(state);
+            let taken = &moves[number];
+            let Some((content, rest)) = parts(taken, found) else {
+                return Ok(None);
+            };
+            let label = label_of(alloc, &taken.class)?;
+            Ok(Some(store.elem_node(label, content, rest)?))
+        }
+        Use::Text(state, number) => {
+            let moves = auto.text_moves(state);
+            let taken = &moves[number];
+            let Some(rest) = found[taken.rest.number()] else {
+                return Ok(None);
+            };
+            let text = text_of(alloc, &taken.words)?;
+            Ok(Some(store.text_node(text, rest)?))
         }
     }
-    Ok(None)
 }
 
 /// The documents of the states that the move leads to.
@@ -150,7 +190,7 @@ fn parts(step: &LabelMove, found: &[Option<Seq>]) -> Option<(Seq, Seq)>
     requires rest { state_number step.now.rest < length found.now }
     ensures content { IfSome result (λ both. IsFound found.now step.now.content both.0) }
     ensures rest { IfSome result (λ both. IsFound found.now step.now.rest both.1) }
-    ensures none { result ≡ None → LabelStuck found.now step.now }
+    ensures none { result ≡ None → LacksOne found.now (step.now.content ∷ step.now.rest ∷ []) }
 {
     let content = found[step.content.number()]?;
     let rest = found[step.rest.number()]?;

@@ -1,9 +1,8 @@
-//! Whether a state accepts any document, and such a document.
+//! Whether states accept any document, and such documents.
 #![tactic(auto)]
 
 mod inhabit;
-mod label;
-#[cfg(test)]
-mod tests;
+mod names;
+mod uses;
 
-pub use inhabit::inhabitant;
+pub use inhabit::{inhabitant, inhabitants};

@@ -5,7 +5,7 @@ ghost use Rattle.xd_doc.specs.Document.{Document};
 ghost use Rattle.xd_auto.specs.Automaton.{Extends, IsJoined, IsState, IsWrapped, KeepsAccepting, accepts, state_number};
 ghost use Rattle.xd_auto.specs.Copying.{IsAround, IsEither, IsReached};
 
-use super::copying::{add_moves, copy_states, reach_from};
+use super::copying::{add_moves, copy_states, reach_from, without_copies};
 use super::{Auto, LabelMove, Moves, State};
 use std::alloc::Global;
 use xd_doc::{Class, Label, NoMemory};
@@ -45,7 +45,15 @@ impl Auto {
         let number = self.len();
         let alloc = *self.states.allocator();
         let reach = reach_from(alloc, self, one, number, false)?;
-        let made = copy_states(alloc, self, &reach.order, &[], &reach.copies, Some(two))?;
+        let contents = without_copies(alloc);
+        let made = copy_states(
+            alloc,
+            self,
+            &reach.order,
+            &contents,
+            &reach.copies,
+            Some(two),
+        )?;
         self.extend(made)?;
         Ok(State { number })
     }
@@ -104,8 +112,9 @@ fn either(alloc: Global, auto: &Auto, one: State, two: State) -> Result<Moves, N
     ensures { IfOk result (IsEither auto.now one two) }
 {
     let mut made = Moves::new(alloc, auto.is_last(one) || auto.is_last(two));
-    add_moves(&mut made, auto, one, &[], &[])?;
-    add_moves(&mut made, auto, two, &[], &[])?;
+    let none = without_copies(alloc);
+    add_moves(&mut made, auto, one, &none, &none)?;
+    add_moves(&mut made, auto, two, &none, &none)?;
     Ok(made)
 }
 

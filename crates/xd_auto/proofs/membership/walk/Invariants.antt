@@ -1,17 +1,15 @@
-use Rattle.std.proofs.Common.{◌≡◌, ◌≤◌, true, length, vec_capacity}
-use Rattle.xd_auto.specs.Marks.{mark_at}
+use Rattle.std.proofs.Common.{ℕ, ◌≤◌, vec_capacity}
+use Rattle.xd_auto.specs.Kept.{HasRoom, KeepsAnswers, words_of}
 use Rattle.xd_auto.specs.Membership.{Walk, steps_left}
 use Rattle.xd_auto.proofs.membership.walk.Given as goal
 
 abbrev pub invariant-loop-frame : goal.invariant-loop-frame
 invariant-loop-frame l = record {
-  walk : Walk l.auto' l.store l.known.width l.node l.known.asked.items l.known.accepted.items l.stack.items;
-  root : mark_at l.known.asked.items l.known.width l.node l.fn.state.number ≡ true;
-  width_is : l.known.width ≡ l.initial.known.width;
-  asked_len : length l.known.asked.items ≡ length l.initial.known.asked.items;
-  accepted_len : length l.known.accepted.items ≡ length l.initial.known.accepted.items;
-  capacity : vec_capacity l.initial.stack ≤ vec_capacity l.stack;
+  walk : Walk l.auto' l.store l.node l.state (words_of l.known.rows.items) l.stack.items;
+  keeps : KeepsAnswers (words_of l.fn.known.rows.items) (words_of l.known.rows.items);
+  capacity : vec_capacity l.fn.stack ≤ vec_capacity l.stack;
+  room : (states words : ℕ) → HasRoom states words l.fn.known.rows.items → HasRoom states words l.known.rows.items;
 }
 
 abbrev pub decreases-loop-frame : goal.decreases-loop-frame
-decreases-loop-frame l = steps_left l.known.width l.node l.known.asked.items l.stack.items
+decreases-loop-frame l = steps_left l.auto' l.node (words_of l.known.rows.items) l.stack.items

@@ -1,18 +1,24 @@
-use Rattle.std.proofs.Common.{◌≡◌, ◌<◌, Ok, ap, arith, rules, length, vec_len}
-use Rattle.xd_empty.proofs.InhabitLemmas.{found_read, none_read, none_accepted}
+use Rattle.std.proofs.Common.{arith, ◌≡◌, ◌<◌, ◌∙◌, None, length, sym}
+use Rattle.xd_empty.proofs.SearchLemmas.{found_at, if_some, none_at}
 use Rattle.xd_empty.proofs.inhabit.inhabitant.Goals as goal
 
-pub returns-in-Some-clause-belongs : goal.returns-in-Some-clause-belongs
-returns-in-Some-clause-belongs c =
-    let i = c.loop-seq.invariant in
-    let v : vec_len c.loop-seq.found ≡ length c.loop-seq.found.items = search rules in
-    let l : c.number.result < length c.loop-seq.found.items = omega (arith, c.number.ensures, c.requires) in
-    (i.witnesses c.args.state c.in-Some.seq (rw c.number.ensures at (found_read c.loop-seq.found.items _ _ _ l c.index.ensures c.in-Some.is))).belongs
+pub returns-clause-accepted : goal.returns-clause-accepted
+returns-clause-accepted c =
+    let all = c.in_ok-found.ensures.inhabitants in
+    let lt : c.in_ok-part.start.number < length c.in_ok-found.found.items = omega (arith, all.count, c.in_ok-part.ensures.belongs) in
+    if_some c.index.result.now _ (λ seq e.
+    sym (c.in_ok-part.ensures.ok _) ∙ (all.witnesses c.in_ok-part.start seq (found_at c.in_ok-found.found.items c.in_ok-part.start.number c.index.result.now seq lt (rw c.number.ensures at c.index.ensures) e)).accepted)
 
-pub returns-then-not-branch-clause-none : goal.returns-then-not-branch-clause-none
-returns-then-not-branch-clause-none c e d =
-    let i = c.loop-seq.invariant in
-    let v : vec_len c.loop-seq.found ≡ length c.loop-seq.found.items = search rules in
-    let l : c.number.result < length c.loop-seq.found.items = omega (arith, c.number.ensures, c.requires) in
-    let u = rw c.number.ensures at (none_read c.loop-seq.found.items _ _ l c.index.ensures c.in_default.is) in
-    none_accepted c.args.auto.now c.find_more.new.found.items (c.in_ok-find_more.ensures.done (ap Ok c.if-not-branch.true)) d c.args.state (rw (c.in_ok-find_more.ensures.same (ap Ok c.if-not-branch.true)) u)
+pub returns-clause-none : goal.returns-clause-none
+returns-clause-none c = λ h d.
+    let all = c.in_ok-found.ensures.inhabitants in
+    let lt : c.in_ok-part.start.number < length c.in_ok-found.found.items = omega (arith, all.count, c.in_ok-part.ensures.belongs) in
+    let e : c.index.result.now ≡ None = cc in
+    sym (c.in_ok-part.ensures.ok d) ∙ all.none c.in_ok-part.start (none_at c.in_ok-found.found.items c.in_ok-part.start.number c.index.result.now lt (rw c.number.ensures at c.index.ensures) e) d
+
+pub returns-clause-belongs : goal.returns-clause-belongs
+returns-clause-belongs c =
+    let all = c.in_ok-found.ensures.inhabitants in
+    let lt : c.in_ok-part.start.number < length c.in_ok-found.found.items = omega (arith, all.count, c.in_ok-part.ensures.belongs) in
+    if_some c.index.result.now _ (λ seq e.
+    (all.witnesses c.in_ok-part.start seq (found_at c.in_ok-found.found.items c.in_ok-part.start.number c.index.result.now seq lt (rw c.number.ensures at c.index.ensures) e)).belongs)

@@ -1,6 +1,6 @@
 use Rattle.std.proofs.Common.{◌≡◌, ◌++◌, map, take}
-use Rattle.xd_auto.specs.Copying.{moved}
+use Rattle.xd_auto.specs.Copying.{copies_in, moved_text}
 use Rattle.xd_auto.proofs.auto.copying.add_texts.Given as goal
 
-abbrev pub invariant-loop-rest : goal.invariant-loop-rest
-invariant-loop-rest l = l.into.items ≡ l.initial.into.items ++ map (moved l.rests) (take l.rest-index l.moves)
+abbrev pub invariant-loop-step : goal.invariant-loop-step
+invariant-loop-step l = l.into ≡ record l.initial.into { texts = l.initial.into.texts ++ map (moved_text (copies_in l.rests)) (take l.step-index l.moves) }

@@ -4,13 +4,13 @@ use Rattle.xd_auto.proofs.Indexing.{AddsTo-if, AddsTo-is, AddsTo-then, stands_mo
 use Rattle.xd_auto.proofs.auto.index.put_each.Goals as goal
 
 pub returns-in_err-put-clause-adds : goal.returns-in_err-put-clause-adds
-returns-in_err-put-clause-adds c = λ q.
-    AddsTo-then c.args.number _ _ _ (c.loop-label.invariant.adds q) (AddsTo-is c.args.number (numbers_at c.loop-label.named q) (numbers_at c.put.new.named q) (c.in_err-put.ensures.err q))
+returns-in_err-put-clause-adds g c = λ q.
+    AddsTo-then c.args.number _ _ _ (c.loop-name.invariant.adds q) (AddsTo-is c.args.number (numbers_at g.N.Ord.cmp c.loop-name.named q) (numbers_at g.N.Ord.cmp c.put.new.named q) (c.in_err-put.ensures.err q))
 
-pub loop-label-preserved : goal.loop-label-preserved
-loop-label-preserved c = record {
-  adds = λ q. AddsTo-then c.args.number _ _ _ (c.loop-label.invariant.adds q) (AddsTo-if c.args.number _ (numbers_at c.loop-label.named q) (numbers_at c.put.new.named q) (c.in_ok-put.ensures.ok q));
+pub loop-name-preserved : goal.loop-name-preserved
+loop-name-preserved g c = record {
+  adds = λ q. AddsTo-then c.args.number _ _ _ (c.loop-name.invariant.adds q) (AddsTo-if c.args.number _ (numbers_at g.N.Ord.cmp c.loop-name.named q) (numbers_at g.N.Ord.cmp c.put.new.named q) (c.in_ok-put.ensures.ok q));
   stands = λ q named.
-      stands_more c.args.number c.args.labels.now c.loop-label.label-index c.label-item.result q (numbers_at c.loop-label.named q) (numbers_at c.put.new.named q)
-      (omega arith) c.label-item.is (c.in_ok-put.ensures.ok q) (c.loop-label.invariant.stands q) named;
+      stands_more g.N.Ord.cmp c.args.number c.args.names.now c.loop-name.name-index c.name-item.result q (numbers_at g.N.Ord.cmp c.loop-name.named q) (numbers_at g.N.Ord.cmp c.put.new.named q)
+      (omega arith) c.name-item.is (c.in_ok-put.ensures.ok q) (c.loop-name.invariant.stands q) named;
 }

@@ -1,0 +1,13 @@
+use Rattle.std.proofs.Common.{nat_cmp}
+use Rattle.std.specs.Cmp.Lexicographic.{slice_cmp}
+use Rattle.xd_auto.specs.Automaton.{has_text}
+use Rattle.xd_auto.specs.Index.{numbers_at}
+use Rattle.xd_auto.proofs.Indexing.{IsIndex-push}
+use Rattle.xd_auto.proofs.auto.Moves.push_text.Goals as goal
+
+pub invariant_of-self-2 : goal.invariant_of-self-2
+invariant_of-self-2 c = (
+  c.self.invariant.0,
+  rw c.in_ok-push.ensures.items
+      (IsIndex-push has_text c.self.inside.texts.items c.extend.new.self.count (numbers_at (slice_cmp nat_cmp) c.extend.new.self.named) c.extend.new.self.others.items c.args.step (rw c.deref.ensures.value at c.in_ok-extend.ensures.index)),
+)
