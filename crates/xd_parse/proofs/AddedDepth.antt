@@ -4,41 +4,24 @@ use Rattle.xd_base.specs.declared.Place.{Place}
 use Rattle.xd_doc.specs.Classes.{LabelClass}
 use Rattle.xd_syntax.specs.Tree.{Tree, is_empty}
 use Rattle.xd_syntax.specs.TypeText.{depth}
-use Rattle.xd_syntax.specs.Table.{Row, KeepsRows, tree_at}
-use Rattle.xd_syntax.specs.Placed.{PlacedTree, Empty_at, Text_at, Name_at, Elem_at, Seq_at, Alt_at, Star_at, Plus_at, Opt_at, Val_at, placed_at, unplaced}
-use Rattle.xd_syntax.proofs.Trees.{tree_kept}
+use Rattle.xd_syntax.specs.Table.{Row, KeepsRows}
+use Rattle.xd_syntax.specs.Placed.{PlacedTree, Empty_at, Text_at, Words_at, Name_at, Elem_at, Seq_at, Alt_at, Star_at, Plus_at, Opt_at, Val_at, placed_at, unplaced}
 use Rattle.xd_syntax.proofs.PlacedTrees.{unplaced_at}
 use Rattle.xd_parse.specs.declared.grammar.Terminal.{Terminal}
 use Rattle.xd_parse.specs.declared.grammar.Terminal.TheVariants as t
-use Rattle.xd_parse.specs.declared.machine.Sort.{Sort}
-use Rattle.xd_parse.specs.declared.machine.Sort.TheVariants as sorts
-use Rattle.xd_parse.specs.Values.{Value, mark, absent, a_type, a_pattern, value_of, repeated}
-use Rattle.xd_parse.specs.Shallow.{AddsWithin, NoDeeper, TreeWithin}
-use Rattle.xd_parse.specs.Nodes.{node, post, IsAdded}
+use Rattle.xd_parse.specs.declared.grammar.Sort.{Sort}
+use Rattle.xd_parse.specs.declared.grammar.Nonterminal.TheVariants as n
+use Rattle.xd_parse.specs.Values.{Value, mark, absent, a_tree, value_of, repeated}
+use Rattle.xd_syntax.specs.Shallow.{AddsWithin}
+use Rattle.xd_syntax.proofs.ShallowTables.{none_within, within_both}
+use Rattle.xd_parse.specs.Shallow.{NoDeeper, TreeWithin}
 use Rattle.xd_parse.proofs.Depth.{any_depth, prim_depth, up_seq, up_post, up_prim}
 
 -- ---- nodes that are added one after the other
-none_within : (limit : ℕ) (rs : List Row) → AddsWithin limit rs rs
-none_within limit rs i h k = absurd (omega arith)
 
-kept_depth : (limit : ℕ) (old new : List Row) (i : ℕ) → KeepsRows old new → i < length old → depth (tree_at old i) ≤ limit → depth (tree_at new i) ≤ limit
-kept_depth limit old new i k h l = subst (λ (T : Tree). depth T ≤ limit) (sym (ap (λ (rs : List Row). tree_at rs i) k.grown ∙ tree_kept old k.more i h)) l
-
--- below the bound or not
-side : (i n : ℕ) → (i < n) ⊎ (n ≤ i)
-side zero zero = inr (omega arith)
-side zero (suc n) = inl (omega arith)
-side (suc i) zero = inr (omega arith)
-side (suc i) (suc n) = elim (side i n) as (λ x. (suc i < suc n) ⊎ (suc n ≤ suc i)) [ inl h ↦ inl (omega arith) | inr h ↦ inr (omega arith) ]
-
-pub within_both : (limit : ℕ) (old middle new : List Row) → KeepsRows middle new → AddsWithin limit old middle → AddsWithin limit middle new → AddsWithin limit old new
-within_both limit old middle new k a b i h l =
-    elim (side i (length middle)) as (λ x. depth (tree_at new i) ≤ limit) [ inl below ↦ kept_depth limit middle new i k below (a i h below) | inr above ↦ b i above l ]
-
--- the node that is added
-added_within : (limit : ℕ) (old new : List Row) (T : PlacedTree) (i : ℕ) → IsAdded old new T i → TreeWithin T limit → AddsWithin limit old new
-added_within limit old new T i a l j h k =
-    subst (λ (U : Tree). depth U ≤ limit) (unplaced_at new j) (subst (λ (U : PlacedTree). TreeWithin U limit) (sym (a.only j h k)) l)
+-- nodes of one tree
+pub only_within : (limit : ℕ) (old new : List Row) (T : PlacedTree) → ((j : ℕ) → length old ≤ j → j < length new → placed_at new j ≡ T) → TreeWithin T limit → AddsWithin limit old new
+only_within limit old new T only l j h k = subst (λ (U : Tree). depth U ≤ limit) (unplaced_at new j) (subst (λ (U : PlacedTree). TreeWithin U limit) (sym (only j h k)) l)
 
 pub none_deeper : (within : ℕ → Type 0) (rs : List Row) → NoDeeper within rs rs
 none_deeper within rs limit o h = none_within limit rs
@@ -46,12 +29,6 @@ none_deeper within rs limit o h = none_within limit rs
 pub deeper_both : (here there within : ℕ → Type 0) (old middle new : List Row) → KeepsRows middle new → ((limit : ℕ) → 1 ≤ limit → within limit → here limit) → ((limit : ℕ) → 1 ≤ limit → within limit → there limit) →
     NoDeeper here old middle → NoDeeper there middle new → NoDeeper within old new
 deeper_both here there within old middle new k f g a b limit o h = within_both limit old middle new k (a limit o (f limit o h)) (b limit o (g limit o h))
-
--- old nodes, and then the node that is added
-pub deeper_added : (old middle new : List Row) (T : PlacedTree) (i : ℕ) → IsAdded middle new T i → NoDeeper (TreeWithin T) old middle → NoDeeper (TreeWithin (placed_at new i)) old new
-deeper_added old middle new T i a d limit o h =
-    let l : TreeWithin T limit = subst (λ (U : PlacedTree). TreeWithin U limit) a.placed h in
-    within_both limit old middle new a.keeps (d limit o l) (added_within limit middle new T i a l)
 
 -- ---- a tree that others are part of
 abbrev pub IsIn : PlacedTree → PlacedTree → Type 0
@@ -63,6 +40,8 @@ within_prim limit T h = let a = up_seq T in let b = up_post T in let c = up_prim
 content_by : (limit : ℕ) (T : PlacedTree) (b : Bool) → is_empty (unplaced T) ≡ b → 1 ≤ limit → cond b 0 (any_depth T) + 1 ≤ limit → any_depth T ≤ limit
 content_by limit (Empty_at p) b e o h = o
 content_by limit (Text_at p) b e o h = omega arith
+content_by limit (Words_at p w) true e o h = cc
+content_by limit (Words_at p w) false e o h = omega arith
 content_by limit (Name_at p x) b e o h = omega arith
 content_by limit (Elem_at p c T) true e o h = cc
 content_by limit (Elem_at p c T) false e o h = omega arith
@@ -85,25 +64,19 @@ content_in p c T limit o h = content_by limit T (is_empty (unplaced T)) refl o h
 pub bound_in : (p q : Place) (x : List ℕ) (T : PlacedTree) → IsIn T (Val_at p x q T)
 bound_in p q x T limit o h = h
 
-repeated_in : (k : Terminal) (T : PlacedTree) → IsIn T (repeated k T)
+pub repeated_in : (k : Terminal) (T : PlacedTree) → IsIn T (repeated k T)
 repeated_in t.Star T limit o h = within_prim limit T h
 repeated_in t.Plus T limit o h = within_prim limit T h
 repeated_in k T limit o h = within_prim limit T h
 
-type_is : (T U : PlacedTree) → a_type T ≡ a_type U → T ≡ U
-type_is T U e = cc
-
-pattern_is : (T U : PlacedTree) → a_pattern T ≡ a_pattern U → T ≡ U
-pattern_is T U e = cc
+tree_is : (T U : PlacedTree) → a_tree T ≡ a_tree U → T ≡ U
+tree_is T U e = cc
 
 same_in : (S T U : PlacedTree) → IsIn S T → T ≡ U → IsIn S U
 same_in S T U h e = subst (λ (V : PlacedTree). IsIn S V) e h
 
 -- a part is no deeper than what it is with its operator
-pub operator_in : (s : Sort) (T U : PlacedTree) (v : Value) → value_of (post s) (node s T ∷ (v ∷ [])) ≡ node s U → IsIn T U
-operator_in sorts.Type T U (mark k p) e = same_in T (repeated k T) U (repeated_in k T) (type_is (repeated k T) U e)
-operator_in sorts.Type T U absent e = same_in T T U (λ limit o h. h) (type_is T U e)
-operator_in sorts.Type T U v e = cc
-operator_in sorts.Pattern T U (mark k p) e = same_in T (repeated k T) U (repeated_in k T) (pattern_is (repeated k T) U e)
-operator_in sorts.Pattern T U absent e = same_in T T U (λ limit o h. h) (pattern_is T U e)
-operator_in sorts.Pattern T U v e = cc
+pub operator_in : (s : Sort) (T U : PlacedTree) (v : Value) → value_of (n.Post s) (a_tree T ∷ (v ∷ [])) ≡ a_tree U → IsIn T U
+operator_in s T U (mark k p) e = same_in T (repeated k T) U (repeated_in k T) (tree_is (repeated k T) U e)
+operator_in s T U absent e = same_in T T U (λ limit o h. h) (tree_is T U e)
+operator_in s T U v e = cc

@@ -6,10 +6,14 @@ use Rattle.xd_base.specs.declared.Place.{Place}
 use Rattle.xd_lex.specs.Tokens.{Lexeme}
 use Rattle.xd_syntax.specs.Placed.{placed_at}
 use Rattle.xd_syntax.specs.Table.{Row}
-use Rattle.xd_syntax.specs.Expression.{Expression, Nothing, Quoted, Tagged, Called, arguments_of, ExprRow, ExprShape, shape_expression, expression_at, ShapePatternsBelong, PatternsBelong, KeepsExprs}
+use Rattle.xd_syntax.specs.Expression.{Expression, Nothing, Quoted, Tagged, Called, arguments_of, ExprRow, ExprShape, shape_expression, expression_at, IsJoinedPart, ShapePatternsBelong, PatternsBelong, KeepsExprs}
 use Rattle.xd_syntax.specs.Exprs.{expression, expr_numbers, clause_numbers}
 use Rattle.xd_syntax.specs.declared.exprs.ExprId.{ExprId}
 use Rattle.xd_syntax.specs.declared.exprs.Clause.{Clause}
+use Rattle.std.specs.List.{AllByRecursion}
+use Rattle.xd_parse.specs.declared.joining.Items.{Items}
+use Rattle.xd_parse.specs.Merged.{merged_expression}
+use Rattle.xd_parse.specs.Pieces.{AreItems, expression_of}
 use Rattle.xd_parse.specs.declared.grammar.Nonterminal.{Nonterminal}
 use Rattle.xd_parse.specs.declared.grammar.Nonterminal.TheVariants as n
 use Rattle.xd_parse.specs.declared.grammar.Terminal.{Terminal}
@@ -37,6 +41,10 @@ from_there part x y to v e r = subst (λ (z : List Lexeme). Reads part z to v) e
 pub to_there : (part : Nonterminal) (from x y : List Lexeme) (v : Value) → x ≡ y → Reads part from y v → Reads part from x v
 to_there part from x y v e r = subst (λ (z : List Lexeme). Reads part from z v) (sym e) r
 
+-- expressions alone are added
+pub Grows-exprs : (ps0 : List Row) (es0 : List ExprRow) (ps : List Row) (es fs : List ExprRow) → Grows ps0 es0 ps es → KeepsExprs es fs → ((k : ℕ) → PatternsBelong k es → PatternsBelong k fs) → Grows ps0 es0 ps fs
+Grows-exprs ps0 es0 ps es fs g k b = Grows-trans ps0 es0 ps es ps fs g (record { rows = KeepsRows-refl ps; nodes = k; clauses = b (length ps) g.clauses })
+
 -- what is read is the new node
 pub add_reads : {E : Type 0} (r : Result ExprId E) (part : Nonterminal) (from to : List Lexeme) (ps : List Row) (es fs : List ExprRow) (p : Place) (f : ExprShape) →
     IfOk r (λ id. (patterns : List Row) → expression patterns fs id ≡ shape_expression (placed_at patterns) (expression_at patterns es) p f) →
@@ -44,14 +52,35 @@ pub add_reads : {E : Type 0} (r : Result ExprId E) (part : Nonterminal) (from to
 add_reads (Ok id) part from to ps es fs p f h r = subst (λ (e : Expression). Reads part from to (an_expression e)) (sym (h ps)) r
 add_reads (Err e) part from to ps es fs p f h r = tt
 
-pub add_grows : {E : Type 0} (r : Result ExprId E) (ps0 : List Row) (es0 : List ExprRow) (ps : List Row) (es fs : List ExprRow) (p : Place) (f : ExprShape) → Grows ps0 es0 ps es → ShapePatternsBelong (length ps) f →
+pub item_reads : {E : Type 0} (r : Result Items E) (part : Nonterminal) (from to : List Lexeme) (ps : List Row) (es fs : List ExprRow) (p : Place) (f : ExprShape) →
+    IfOk r (λ items. (patterns : List Row) → expression_of patterns fs items ≡ shape_expression (placed_at patterns) (expression_at patterns es) p f) →
+    Reads part from to (an_expression (shape_expression (placed_at ps) (expression_at ps es) p f)) → IfOk r (λ items. Reads part from to (an_expression (expression_of ps fs items)))
+item_reads (Ok items) part from to ps es fs p f h r = subst (λ (e : Expression). Reads part from to (an_expression e)) (sym (h ps)) r
+item_reads (Err e) part from to ps es fs p f h r = tt
+
+-- nothing is read, at a place
+pub nothing_reads : (items : Items) (part : Nonterminal) (from to : List Lexeme) (ps : List Row) (es : List ExprRow) (p : Place) → items.place ≡ p → items.parts.items ≡ [] →
+    Reads part from to (an_expression (Nothing p)) → Reads part from to (an_expression (expression_of ps es items))
+nothing_reads items part from to ps es p e f r =
+    subst (λ (x : Expression). Reads part from to (an_expression x)) (sym (ap (λ ids. merged_expression items.place (map (expression_at ps es) (expr_numbers ids))) f ∙ ap Nothing e)) r
+
+pub nothing_stands : (items : Items) (es : List ExprRow) → items.parts.items ≡ [] → AreItems es items
+nothing_stands items es f = subst (λ ids. AllByRecursion (IsJoinedPart es) (expr_numbers ids)) (sym f) tt
+
+-- what is read is the node of what was read
+pub node_reads : {E : Type 0} (r : Result ExprId E) (part : Nonterminal) (from to : List Lexeme) (ps : List Row) (es fs : List ExprRow) (items : Items) → Reads part from to (an_expression (expression_of ps es items)) →
+    IfOk r (λ id. (patterns : List Row) → expression patterns fs id ≡ expression_of patterns es items) → IfOk r (λ id. Reads part from to (an_expression (expression ps fs id)))
+node_reads (Ok id) part from to ps es fs items r h = subst (λ (e : Expression). Reads part from to (an_expression e)) (sym (h ps)) r
+node_reads (Err e) part from to ps es fs items r h = tt
+
+pub node_grows : {E : Type 0} (r : Result ExprId E) (ps0 : List Row) (es0 : List ExprRow) (ps : List Row) (es fs : List ExprRow) → Grows ps0 es0 ps es → IfOk r (λ id. KeepsExprs es fs) →
+    IfOk r (λ id. (k : ℕ) → PatternsBelong k es → PatternsBelong k fs) → IfOk r (λ id. Grows ps0 es0 ps fs)
+node_grows r ps0 es0 ps es fs g k b = if_ok_both r _ _ _ (λ id x y. Grows-exprs ps0 es0 ps es fs g x y) k b
+
+pub add_grows : {A E : Type 0} (r : Result A E) (ps0 : List Row) (es0 : List ExprRow) (ps : List Row) (es fs : List ExprRow) (p : Place) (f : ExprShape) → Grows ps0 es0 ps es → ShapePatternsBelong (length ps) f →
     IfOk r (λ id. fs ≡ es ++ record { place = p; form = f } ∷ []) → IfOk r (λ id. Grows ps0 es0 ps fs)
 add_grows (Ok id) ps0 es0 ps es fs p f g b h = Grows-trans ps0 es0 ps es ps fs g (Grows-node ps es fs (record { place = p; form = f }) g.clauses h b)
 add_grows (Err e) ps0 es0 ps es fs p f g b h = tt
-
--- expressions alone are added
-pub Grows-exprs : (ps0 : List Row) (es0 : List ExprRow) (ps : List Row) (es fs : List ExprRow) → Grows ps0 es0 ps es → KeepsExprs es fs → ((k : ℕ) → PatternsBelong k es → PatternsBelong k fs) → Grows ps0 es0 ps fs
-Grows-exprs ps0 es0 ps es fs g k b = Grows-trans ps0 es0 ps es ps fs g (record { rows = KeepsRows-refl ps; nodes = k; clauses = b (length ps) g.clauses })
 
 -- ---- with the place and the words that a call gave
 pub at_place : (part : Nonterminal) (from to : List Lexeme) (p q : Place) → p ≡ q → Reads part from to (an_expression (Nothing q)) → Reads part from to (an_expression (Nothing p))

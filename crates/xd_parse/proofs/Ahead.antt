@@ -6,8 +6,8 @@ use Rattle.xd_parse.specs.declared.grammar.Nonterminal.TheVariants as n
 use Rattle.xd_parse.specs.declared.grammar.Symbol.TheVariants.{Token, Opening, Closed, Unless, Part}
 use Rattle.xd_parse.specs.declared.grammar.Terminal.{Terminal}
 use Rattle.xd_parse.specs.declared.grammar.Terminal.TheVariants as t
-use Rattle.xd_parse.specs.declared.machine.Sort.{Sort}
-use Rattle.xd_parse.specs.declared.machine.Sort.TheVariants as sorts
+use Rattle.xd_parse.specs.declared.grammar.Sort.{Sort}
+use Rattle.xd_parse.specs.declared.grammar.Sort.TheVariants as sorts
 use Rattle.xd_parse.specs.declared.machine.Reading.{Reading}
 use Rattle.xd_parse.specs.declared.machine.Reading.TheVariants.{Plain, Opened, Named, Barred, AfterVal, Shut}
 use Rattle.xd_parse.specs.declared.machine.Course.{Course}
@@ -82,13 +82,15 @@ group_begins part from rest ws m =
     let v : MeansView (Opening t.ParenL ∷ Part part ∷ []) from rest ws = means_view m in
     (v.2, subst (λ (x : List Lexeme). Means (Part part ∷ []) x rest v.2) (sym (ap behind v.3)) v.6)
 
+opening_means : (k : Terminal) (row : Row) (l : Lexeme) (ls rest : List Lexeme) (ws : List Value) → Means (Opening k ∷ row) (l ∷ ls) rest ws → Some_means row ls rest
+opening_means k row l ls rest ws m = let v : MeansView (Opening k ∷ row) (l ∷ ls) rest ws = means_view m in (v.2, subst (λ (x : List Lexeme). Means row x rest v.2) (sym (tail_lexemes l v.0 ls v.1 v.3)) v.6)
+
 listed_begins : (content : Nonterminal) (l : Lexeme) (ls rest : List Lexeme) (ws : List Value) → terminal_at l ≡ t.ParenL → Means (Part n.Class ∷ Part content ∷ []) (l ∷ ls) rest ws → Some_means (Part n.AnyWord ∷ Part n.MoreNames ∷ Token t.ParenR ∷ Closed ∷ Opening t.BracketL ∷ Part content ∷ []) ls rest
 listed_begins content l ls rest ws e m =
     let a : Some_means (Part n.Labels ∷ Part content ∷ []) (l ∷ ls) rest = turned n.Class (Part n.Labels ∷ []) (Part content ∷ []) l ls rest ws refl (rw e refl) m in
     let b : Some_means (Part n.Names ∷ Opening t.BracketL ∷ Part content ∷ []) (l ∷ ls) rest = turned n.Labels (Part n.Names ∷ Opening t.BracketL ∷ []) (Part content ∷ []) l ls rest a.0 refl (rw e refl) a.1 in
     let c : Some_means (Opening t.ParenL ∷ Part n.AnyWord ∷ Part n.MoreNames ∷ Token t.ParenR ∷ Closed ∷ Opening t.BracketL ∷ Part content ∷ []) (l ∷ ls) rest = turned n.Names (Opening t.ParenL ∷ Part n.AnyWord ∷ Part n.MoreNames ∷ Token t.ParenR ∷ Closed ∷ []) (Opening t.BracketL ∷ Part content ∷ []) l ls rest b.0 refl (rw e refl) b.1 in
-    let v : MeansView (Opening t.ParenL ∷ Part n.AnyWord ∷ Part n.MoreNames ∷ Token t.ParenR ∷ Closed ∷ Opening t.BracketL ∷ Part content ∷ []) (l ∷ ls) rest c.0 = means_view c.1 in
-    (v.2, subst (λ (x : List Lexeme). Means (Part n.AnyWord ∷ Part n.MoreNames ∷ Token t.ParenR ∷ Closed ∷ Opening t.BracketL ∷ Part content ∷ []) x rest v.2) (sym (tail_lexemes l v.0 ls v.1 v.3)) v.6)
+    opening_means t.ParenL (Part n.AnyWord ∷ Part n.MoreNames ∷ Token t.ParenR ∷ Closed ∷ Opening t.BracketL ∷ Part content ∷ []) l ls rest c.0 c.1
 
 broken_paren : t.Broken ≡ t.ParenL → ⊥
 broken_paren e = cc
@@ -98,8 +100,7 @@ element_begins content [] rest ws e m = absurd (broken_paren e)
 element_begins content (l ∷ ls) rest ws e m = listed_begins content l ls rest ws e m
 
 pub readings_begin : (sort : Sort) (from : List Lexeme) → front_terminal from ≡ t.ParenL → BothReadings sort (Opened sort) from (behind from)
-readings_begin sorts.Type from e = record { double = tt; group = λ rest ws m. group_begins n.TypeGroup from rest ws m; listed = λ rest ws m. element_begins n.TypeContent from rest ws e m }
-readings_begin sorts.Pattern from e = record { double = tt; group = λ rest ws m. group_begins n.PatternGroup from rest ws m; listed = λ rest ws m. element_begins n.PatternContent from rest ws e m }
+readings_begin s from e = record { double = tt; group = λ rest ws m. group_begins (n.Group s) from rest ws m; listed = λ rest ws m. element_begins (n.Content s) from rest ws e m }
 
 main_both : (next : Reading) → Main ≡ Both next → ⊥
 main_both next e = cc
@@ -107,10 +108,8 @@ main_both next e = cc
 -- at the end of the tokens not both go on
 pub both_at_end : (reading next : Reading) → IsDouble reading → course reading t.Broken ≡ Both next → ⊥
 both_at_end Plain next two e = two
-both_at_end (Opened sorts.Type) next two e = main_both next e
-both_at_end (Opened sorts.Pattern) next two e = main_both next e
-both_at_end (Barred sorts.Type) next two e = main_both next e
-both_at_end (Barred sorts.Pattern) next two e = main_both next e
+both_at_end (Opened s) next two e = main_both next e
+both_at_end (Barred s) next two e = main_both next e
 both_at_end (Named sort) next two e = main_both next e
 both_at_end (Shut sort) next two e = main_both next e
 both_at_end AfterVal next two e = main_both next e
@@ -139,8 +138,7 @@ main_needs : (reading : Reading) → IsDouble reading → needs 12 (main_row rea
 main_needs Plain two = absurd two
 main_needs (Opened sorts.Type) two = refl
 main_needs (Opened sorts.Pattern) two = refl
-main_needs (Named sorts.Type) two = refl
-main_needs (Named sorts.Pattern) two = refl
+main_needs (Named s) two = refl
 main_needs (Barred sorts.Type) two = refl
 main_needs (Barred sorts.Pattern) two = refl
 main_needs AfterVal two = refl

@@ -1,5 +1,5 @@
 -- The names of a class stand in byte order, each once.
-use Rattle.std.proofs.Common.{◌≡◌, ℕ, Bool, true, false, ◌||◌, List, [], ◌∷◌, nat_eq, refl, ap, sym, subst, ◌∙◌}
+use Rattle.std.proofs.Common.{◌≡◌, ◌<◌, ◌≤◌, ◌⊎◌, inl, inr, arith, suc, length, ℕ, Bool, true, false, ◌||◌, List, [], ◌∷◌, nat_eq, refl, ap, sym, subst, ◌∙◌}
 use Rattle.std.specs.List.{AllByRecursion}
 use Rattle.std.specs.List.Sorted.{IsStrictlySortedBy}
 use Rattle.std.specs.Ordering.{nat_cmp}
@@ -8,9 +8,10 @@ use Rattle.std.proofs.lemmas.Cmp.{nat_list_cmp_total}
 use Rattle.std.proofs.lemmas.Slice.Eq.{bytes_eq-Decides}
 use Rattle.std.specs.declared.cmp.Ordering.{Ordering}
 use Rattle.std.specs.declared.cmp.Ordering.TheVariants.{Less, Equal, Greater}
-use Rattle.xd_doc.specs.Classes.{LabelClass, names_label, IsClass}
+use Rattle.xd_doc.specs.Classes.{NameClass, names_label}
 use Rattle.xd_syntax.proofs.SameClass.{same_words}
-use Rattle.xd_parse.specs.Merged.{put_word, in_byte_order, class_of}
+use Rattle.xd_syntax.specs.Table.{IsWordsNode}
+use Rattle.xd_parse.specs.Merged.{put_by, put_word, in_byte_order, class_of}
 
 abbrev R : List ℕ → List ℕ → Ordering
 R x y = slice_cmp nat_cmp x y
@@ -84,7 +85,30 @@ names_order [] l = refl
 names_order (w ∷ ws) l = names_put w (in_byte_order ws) l ∙ ap (λ b. pointwise nat_eq w l || b) (names_order ws l)
 
 -- a class that names the same labels is the class of these words
-pub class_made : (c : LabelClass) (ws : List (List ℕ)) (except : Bool) → IsClass c → ((l : List ℕ) → names_label c.names l ≡ names_label ws l) → c.except ≡ except → c ≡ class_of except ws
+pub class_made : (c : NameClass) (ws : List (List ℕ)) (except : Bool) → IsStrictlySortedBy R c.names → ((l : List ℕ) → names_label c.names l ≡ names_label ws l) → c.except ≡ except → c ≡ class_of except ws
 class_made c ws except p h e =
-    ap (λ ns. let k : LabelClass = record { names = ns; except = c.except } in k) (same_words c.names (in_byte_order ws) p.sorted (sorted_order ws) (λ l. h l ∙ sym (names_order ws l)))
-    ∙ ap (λ b. let k : LabelClass = record { names = in_byte_order ws; except = b } in k) e
+    ap (λ ns. let k : NameClass = record { names = ns; except = c.except } in k) (same_words c.names (in_byte_order ws) p (sorted_order ws) (λ l. h l ∙ sym (names_order ws l)))
+    ∙ ap (λ b. let k : NameClass = record { names = in_byte_order ws; except = b } in k) e
+
+-- ---- nodes of texts
+some_put : (w : List ℕ) (xs : List (List ℕ)) → 1 ≤ length (put_word w xs)
+some_put w [] = omega arith
+some_put w (x ∷ xs) = go (R w x)
+  where
+    go : (o : Ordering) → 1 ≤ length (put_by o w x xs (put_word w xs))
+    go Less = omega arith
+    go Equal = omega arith
+    go Greater = omega arith
+
+none_some : (m : ℕ) → m ≡ 0 → 0 < m → ⊥
+none_some m e h = omega arith
+
+two_one : (m k : ℕ) → m ≡ suc (suc k) → m ≡ 1 → ⊥
+two_one m k e h = omega arith
+
+-- one text, or all but at least one
+pub words_node : (except : Bool) (m : ℕ) (ws : List (List ℕ)) → m ≡ length ws → 0 < m → (except ≡ true) ⊎ (m ≡ 1) → IsWordsNode (class_of except ws)
+words_node except m [] e h one = absurd (none_some m e h)
+words_node except m (w ∷ []) e h one = (omega arith, inr refl)
+words_node except m (w ∷ (v ∷ vs)) e h (inl q) = (some_put w (in_byte_order (v ∷ vs)), inl q)
+words_node except m (w ∷ (v ∷ vs)) e h (inr q) = absurd (two_one m (length vs) e q)

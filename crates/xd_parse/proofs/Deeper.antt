@@ -2,7 +2,7 @@
 use Rattle.std.proofs.Common.{◌≡◌, ◌≤◌, ℕ, max, ◌++◌, List, [], ◌∷◌, flat_map, refl, sym, ap, ◌∙◌, arith}
 use Rattle.std.proofs.Math.Nat.{le-max_left, le-max_right, max-le}
 use Rattle.xd_base.specs.declared.Place.{Place}
-use Rattle.xd_syntax.specs.Placed.{PlacedTree, Empty_at, Text_at, Name_at, Elem_at, Seq_at, Alt_at, Star_at, Plus_at, Opt_at, Val_at, place_of, placed_seq, placed_alt}
+use Rattle.xd_syntax.specs.Placed.{PlacedTree, Empty_at, Text_at, Words_at, Name_at, Elem_at, Seq_at, Alt_at, Star_at, Plus_at, Opt_at, Val_at, place_of, placed_seq, placed_alt}
 use Rattle.xd_parse.specs.Merged.{parts_of_seq, parts_of_alt, merged_seq, sequence, alternative}
 use Rattle.xd_parse.specs.Shallow.{TreeWithin, TreesWithin, IsWhole, IsDeepest}
 use Rattle.xd_parse.proofs.Depth.{any_depth, seq_depth, post_depth, le_refl, up_seq, up_post, some_branch}
@@ -55,6 +55,7 @@ alt_pair T m (U ∷ Us) ne h = max_grows (seq_depth T) m (alt_list (U ∷ Us)) h
 alt_first : (T : PlacedTree) (Us : List PlacedTree) → any_depth T ≤ alt_list (parts_of_alt T ++ Us)
 alt_first (Empty_at p) Us = alt_head (Empty_at p) Us
 alt_first (Text_at p) Us = alt_head (Text_at p) Us
+alt_first (Words_at p w) Us = alt_head (Words_at p w) Us
 alt_first (Name_at p x) Us = alt_head (Name_at p x) Us
 alt_first (Elem_at p c T) Us = alt_head (Elem_at p c T) Us
 alt_first (Seq_at p T U) Us = alt_head (Seq_at p T U) Us

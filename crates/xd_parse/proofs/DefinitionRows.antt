@@ -14,12 +14,13 @@ use Rattle.xd_syntax.specs.Kept.{ProgramTable, TypeDefStands, FunctionStands, Pr
 use Rattle.xd_syntax.specs.declared.types.TypeDef.{TypeDef}
 use Rattle.xd_syntax.specs.declared.program.Param.{Param}
 use Rattle.xd_parse.specs.declared.grammar.Nonterminal.TheVariants as n
+use Rattle.xd_parse.specs.declared.grammar.Sort.TheVariants as sorts
 use Rattle.xd_parse.specs.declared.grammar.Symbol.TheVariants.{Token, Opening, Closed, Unless, Part}
 use Rattle.xd_parse.specs.declared.grammar.Terminal.{Terminal}
 use Rattle.xd_parse.specs.declared.grammar.Terminal.TheVariants as t
 use Rattle.xd_parse.specs.Grammar.{Row, rules}
 use Rattle.xd_parse.specs.Fits.{same, first_fit}
-use Rattle.xd_parse.specs.Values.{Value, word, a_type, an_expression, a_parameter, parameters, definitions, token_of}
+use Rattle.xd_parse.specs.Values.{Value, word, a_tree, an_expression, a_parameter, parameters, definitions, token_of}
 use Rattle.xd_parse.specs.Reading.{Reads, front_terminal, front_place, front_text, behind}
 use Rattle.xd_parse.specs.Definitions.{in_front, one_type, one_function, ReadsInFront, ReadsParameters}
 use Rattle.xd_parse.specs.Grows.{Grows}
@@ -60,16 +61,16 @@ along_word row from next to x p vs w e r rest ws m =
 
 -- ---- parameters
 abbrev param_row : Row
-param_row = Opening t.ParenL ∷ Token t.Val ∷ Token t.Word ∷ Token t.As ∷ Part n.Type ∷ Token t.ParenR ∷ Closed ∷ []
+param_row = Opening t.ParenL ∷ Token t.Val ∷ Token t.Word ∷ Token t.As ∷ Part (n.Alternative sorts.Type) ∷ Token t.ParenR ∷ Closed ∷ []
 
-pub param_reads : (from c1 c2 c3 c4 c5 to : List Lexeme) (x : List ℕ) (p : Place) (T : PlacedTree) → c1 ≡ behind from → c2 ≡ behind c1 → IsWordAt c2 x p → c3 ≡ behind c2 → c4 ≡ behind c3 → Reads n.Type c4 c5 (a_type T) → to ≡ behind c5 → Reads n.Param from to (a_parameter (record { name = x; place = p; declared = T }))
+pub param_reads : (from c1 c2 c3 c4 c5 to : List Lexeme) (x : List ℕ) (p : Place) (T : PlacedTree) → c1 ≡ behind from → c2 ≡ behind c1 → IsWordAt c2 x p → c3 ≡ behind c2 → c4 ≡ behind c3 → Reads (n.Alternative sorts.Type) c4 c5 (a_tree T) → to ≡ behind c5 → Reads n.Param from to (a_parameter (record { name = x; place = p; declared = T }))
 param_reads from c1 c2 c3 c4 c5 to x p T e1 e2 w e3 e4 r e5 =
     part_one n.Param param_row from to _ refl
     (along_opening t.ParenL _ from c1 to _ e1
     (along_token t.Val _ c1 c2 to _ e2
     (along_word _ c2 c3 to x p _ w e3
     (along_token t.As _ c3 c4 to _ e4
-    (row_part n.Type _ c4 c5 to (a_type T) _ r
+    (row_part (n.Alternative sorts.Type) _ c4 c5 to (a_tree T) _ r
     (along_token t.ParenR _ c5 to to _ e5
     (row_closed [] to to [] (row_end to))))))))
 
@@ -170,10 +171,10 @@ next_deeper old middle new ps q k b c d =
 
 -- ---- definitions
 abbrev type_row : Row
-type_row = Token t.Type ∷ Token t.Word ∷ Token t.Equals ∷ Part n.Type ∷ Part n.Definitions ∷ []
+type_row = Token t.Type ∷ Token t.Word ∷ Token t.Equals ∷ Part (n.Alternative sorts.Type) ∷ Part n.Definitions ∷ []
 
 abbrev function_row : Row
-function_row = Token t.Fun ∷ Token t.Word ∷ Part n.Param ∷ Part n.MoreParams ∷ Token t.Colon ∷ Part n.Type ∷ Token t.Equals ∷ Part n.Expr ∷ Part n.Definitions ∷ []
+function_row = Token t.Fun ∷ Token t.Word ∷ Part n.Param ∷ Part n.MoreParams ∷ Token t.Colon ∷ Part (n.Alternative sorts.Type) ∷ Token t.Equals ∷ Part n.Expr ∷ Part n.Definitions ∷ []
 
 abbrev end_row : Row
 end_row = Token t.End ∷ []
@@ -181,17 +182,17 @@ end_row = Token t.End ∷ []
 fits_at : (k : Terminal) (from : List Lexeme) (made : Row) → front_terminal from ≡ k → first_fit (rules n.Definitions) k ≡ Some made → first_fit (rules n.Definitions) (front_terminal from) ≡ Some made
 fits_at k from made e f = subst (λ (j : Terminal). first_fit (rules n.Definitions) j ≡ Some made) (sym e) f
 
-pub type_def_reads : (from c1 c2 c3 there : List Lexeme) (x : List ℕ) (p : Place) (T : PlacedTree) → front_terminal from ≡ t.Type → c1 ≡ behind from → IsWordAt c1 x p → c2 ≡ behind c1 → c3 ≡ behind c2 → Reads n.Type c3 there (a_type T) → ReadsInFront (one_type (record { name = x; place = p; body = T })) from there
+pub type_def_reads : (from c1 c2 c3 there : List Lexeme) (x : List ℕ) (p : Place) (T : PlacedTree) → front_terminal from ≡ t.Type → c1 ≡ behind from → IsWordAt c1 x p → c2 ≡ behind c1 → c3 ≡ behind c2 → Reads (n.Alternative sorts.Type) c3 there (a_tree T) → ReadsInFront (one_type (record { name = x; place = p; body = T })) from there
 type_def_reads from c1 c2 c3 there x p T h e1 w e2 e3 r to Q more =
     part_fit n.Definitions type_row from to _ refl (fits_at t.Type from type_row h refl)
     (along_token t.Type _ from c1 to _ e1
     (along_word _ c1 c2 to x p _ w e2
     (along_token t.Equals _ c2 c3 to _ e3
-    (row_part n.Type _ c3 there to (a_type T) _ r
+    (row_part (n.Alternative sorts.Type) _ c3 there to (a_tree T) _ r
     (row_part n.Definitions _ there to to (definitions Q) _ more
     (row_end to))))))
 
-pub function_reads : (from c1 c2 c3 c4 c5 c6 there : List Lexeme) (x : List ℕ) (p : Place) (qs : List Parameter) (T : PlacedTree) (e : Expression) → front_terminal from ≡ t.Fun → c1 ≡ behind from → IsWordAt c1 x p → c2 ≡ behind c1 → ReadsParameters c2 c3 qs → c4 ≡ behind c3 → Reads n.Type c4 c5 (a_type T) → c6 ≡ behind c5 → Reads n.Expr c6 there (an_expression e) → ReadsInFront (one_function (record { name = x; place = p; parameters = qs; declared = T; body = e })) from there
+pub function_reads : (from c1 c2 c3 c4 c5 c6 there : List Lexeme) (x : List ℕ) (p : Place) (qs : List Parameter) (T : PlacedTree) (e : Expression) → front_terminal from ≡ t.Fun → c1 ≡ behind from → IsWordAt c1 x p → c2 ≡ behind c1 → ReadsParameters c2 c3 qs → c4 ≡ behind c3 → Reads (n.Alternative sorts.Type) c4 c5 (a_tree T) → c6 ≡ behind c5 → Reads n.Expr c6 there (an_expression e) → ReadsInFront (one_function (record { name = x; place = p; parameters = qs; declared = T; body = e })) from there
 function_reads from c1 c2 c3 c4 c5 c6 there x p [] T e h e1 w e2 ps e3 r e4 s to Q more = absurd ps
 function_reads from c1 c2 c3 c4 c5 c6 there x p (q ∷ qs) T e h e1 w e2 ps e3 r e4 s to Q more =
     part_fit n.Definitions function_row from to _ refl (fits_at t.Fun from function_row h refl)
@@ -200,7 +201,7 @@ function_reads from c1 c2 c3 c4 c5 c6 there x p (q ∷ qs) T e h e1 w e2 ps e3 r
     (row_part n.Param _ c2 ps.0 to (a_parameter q) _ ps.1
     (row_part n.MoreParams _ ps.0 c3 to (parameters qs) _ ps.2
     (along_token t.Colon _ c3 c4 to _ e3
-    (row_part n.Type _ c4 c5 to (a_type T) _ r
+    (row_part (n.Alternative sorts.Type) _ c4 c5 to (a_tree T) _ r
     (along_token t.Equals _ c5 c6 to _ e4
     (row_part n.Expr _ c6 there to (an_expression e) _ s
     (row_part n.Definitions _ there to to (definitions Q) _ more

@@ -5,7 +5,7 @@ use Rattle.std.specs.Str.{bytes_eq}
 use Rattle.xd_syntax.specs.Words.{string_word}
 use Rattle.std.specs.List.{AllByRecursion}
 use Rattle.xd_base.specs.declared.Place.{Place}
-use Rattle.xd_syntax.specs.Placed.{PlacedTree, Empty_at, Text_at, Name_at, Elem_at, Seq_at, Alt_at, Star_at, Plus_at, Opt_at, Val_at, place_of, placed_seq, placed_alt, unplaced}
+use Rattle.xd_syntax.specs.Placed.{PlacedTree, Empty_at, Text_at, Words_at, Name_at, Elem_at, Seq_at, Alt_at, Star_at, Plus_at, Opt_at, Val_at, place_of, placed_seq, placed_alt, unplaced}
 use Rattle.xd_syntax.specs.TypeText.{any_type_level, sequence_level, postfix_level, primary_level, depth_at_level}
 use Rattle.xd_parse.specs.declared.grammar.Terminal.{Terminal}
 use Rattle.xd_parse.specs.declared.grammar.Terminal.TheVariants as t
@@ -34,6 +34,7 @@ le_suc m = omega arith
 pub up_seq : (T : PlacedTree) → any_depth T ≤ seq_depth T
 up_seq (Empty_at p) = omega arith
 up_seq (Text_at p) = omega arith
+up_seq (Words_at p w) = le_refl _
 up_seq (Name_at p x) = omega arith
 up_seq (Elem_at p c T) = le_refl _
 up_seq (Seq_at p T U) = le_refl _
@@ -46,6 +47,7 @@ up_seq (Val_at p x q T) = up_seq T
 pub up_post : (T : PlacedTree) → seq_depth T ≤ post_depth T
 up_post (Empty_at p) = omega arith
 up_post (Text_at p) = omega arith
+up_post (Words_at p w) = le_refl _
 up_post (Name_at p x) = omega arith
 up_post (Elem_at p c T) = le_refl _
 up_post (Seq_at p T U) = le_suc _
@@ -58,6 +60,7 @@ up_post (Val_at p x q T) = up_post T
 pub up_prim : (T : PlacedTree) → post_depth T ≤ prim_depth T
 up_prim (Empty_at p) = omega arith
 up_prim (Text_at p) = omega arith
+up_prim (Words_at p w) = le_refl _
 up_prim (Name_at p x) = omega arith
 up_prim (Elem_at p c T) = le_refl _
 up_prim (Seq_at p T U) = le_refl _
@@ -71,6 +74,7 @@ up_prim (Val_at p x q T) = up_prim T
 down_prim : (T : PlacedTree) → prim_depth T ≤ any_depth T + 1
 down_prim (Empty_at p) = omega arith
 down_prim (Text_at p) = omega arith
+down_prim (Words_at p w) = le_suc _
 down_prim (Name_at p x) = omega arith
 down_prim (Elem_at p c T) = le_suc _
 down_prim (Seq_at p T U) = le_refl _
@@ -84,6 +88,7 @@ down_prim (Val_at p x q T) = down_prim T
 abbrev pub plain : PlacedTree → Type 0
 plain (Empty_at p) = Unit {0}
 plain (Text_at p) = Unit {0}
+plain (Words_at p w) = Unit {0}
 plain (Name_at p x) = Unit {0}
 plain (Elem_at p c T) = plain T
 plain (Seq_at p T U) = plain T × plain U
@@ -147,6 +152,7 @@ posts_append l d (T ∷ Ts) Us a b = (a.0, posts_append l d Ts Us a.1 b)
 rest_posts : (l d : ℕ) (T : PlacedTree) → SeqWithin l d T → AllPosts l d (parts_of_seq T)
 rest_posts l d (Empty_at p) h = tt
 rest_posts l d (Text_at p) h = (h, tt)
+rest_posts l d (Words_at p w) h = (h, tt)
 rest_posts l d (Name_at p x) h = (h, tt)
 rest_posts l d (Elem_at p c T) h = (h, tt)
 rest_posts l d (Seq_at p T U) h = ((h.0.0, left_of (post_depth T) (seq_depth U) d l h.1), rest_posts l d U (h.0.1, right_of (post_depth T) (seq_depth U) d l h.1))
@@ -176,6 +182,7 @@ cons_not_nil T Ts e = cc
 empty_first : (l d : ℕ) (T : PlacedTree) (Us : List PlacedTree) → PostWithin l d T → parts_of_seq T ++ Us ≡ [] → d + 1 ≤ l
 empty_first l d (Empty_at p) Us h e = h.1
 empty_first l d (Text_at p) Us h e = absurd (cons_not_nil _ _ e)
+empty_first l d (Words_at p w) Us h e = absurd (cons_not_nil _ _ e)
 empty_first l d (Name_at p x) Us h e = absurd (cons_not_nil _ _ e)
 empty_first l d (Elem_at p c T) Us h e = absurd (cons_not_nil _ _ e)
 empty_first l d (Seq_at p T U) Us h e = absurd (cons_not_nil _ _ e)
@@ -204,6 +211,7 @@ seqs_append l d (T ∷ Ts) Us a b = (a.0, seqs_append l d Ts Us a.1 b)
 rest_seqs : (l d : ℕ) (T : PlacedTree) → AnyWithin l d T → AllSeqs l d (parts_of_alt T)
 rest_seqs l d (Empty_at p) h = (h, tt)
 rest_seqs l d (Text_at p) h = (h, tt)
+rest_seqs l d (Words_at p w) h = (h, tt)
 rest_seqs l d (Name_at p x) h = (h, tt)
 rest_seqs l d (Elem_at p c T) h = (h, tt)
 rest_seqs l d (Seq_at p T U) h = (h, tt)
@@ -226,6 +234,7 @@ placed_alt_within l d p T (U ∷ Us) h a =
 pub some_branch : (T : PlacedTree) (Us : List PlacedTree) → parts_of_alt T ++ Us ≡ [] → ⊥
 some_branch (Empty_at p) Us e = cons_not_nil _ _ e
 some_branch (Text_at p) Us e = cons_not_nil _ _ e
+some_branch (Words_at p w) Us e = cons_not_nil _ _ e
 some_branch (Name_at p x) Us e = cons_not_nil _ _ e
 some_branch (Elem_at p c T) Us e = cons_not_nil _ _ e
 some_branch (Seq_at p T U) Us e = cons_not_nil _ _ e

@@ -3,6 +3,7 @@ use Rattle.std.proofs.Common.{◌≡◌, ◌≢◌, ◌<◌, ◌==◌, ℕ, zero
 use Rattle.std.proofs.lemmas.Bool.{eqb-true}
 use Rattle.xd_parse.specs.declared.grammar.Nonterminal.{Nonterminal}
 use Rattle.xd_parse.specs.declared.grammar.Nonterminal.TheVariants as n
+use Rattle.xd_parse.specs.declared.grammar.Sort.TheVariants as sorts
 use Rattle.xd_parse.specs.declared.grammar.Symbol.TheVariants.{Token, Opening, Closed, Unless, Part}
 use Rattle.xd_parse.specs.declared.grammar.Terminal.{Terminal}
 use Rattle.xd_parse.specs.declared.grammar.Terminal.TheVariants as t
@@ -40,57 +41,11 @@ of_number x = cond (x == 0) t.Type (cond (x == 1) t.Fun (cond (x == 2) t.Val (co
 
 of_number_of : (k : Terminal) → of_number (number k) ≡ k
 of_number_of t.Type = refl
-of_number_of t.Fun = refl
-of_number_of t.Val = refl
-of_number_of t.As = refl
-of_number_of t.Match = refl
-of_number_of t.With = refl
-of_number_of t.Word = refl
-of_number_of t.Label = refl
-of_number_of t.Text = refl
-of_number_of t.ParenL = refl
-of_number_of t.ParenR = refl
-of_number_of t.BracketL = refl
-of_number_of t.BracketR = refl
-of_number_of t.Comma = refl
-of_number_of t.Bar = refl
-of_number_of t.Star = refl
-of_number_of t.Plus = refl
-of_number_of t.Query = refl
-of_number_of t.Equals = refl
-of_number_of t.Colon = refl
-of_number_of t.Tilde = refl
-of_number_of t.Caret = refl
-of_number_of t.Arrow = refl
-of_number_of t.End = refl
-of_number_of t.Broken = refl
+of_number_of k = refl
 
 pub same-refl : (k : Terminal) → same k k ≡ true
 same-refl t.Type = refl
-same-refl t.Fun = refl
-same-refl t.Val = refl
-same-refl t.As = refl
-same-refl t.Match = refl
-same-refl t.With = refl
-same-refl t.Word = refl
-same-refl t.Label = refl
-same-refl t.Text = refl
-same-refl t.ParenL = refl
-same-refl t.ParenR = refl
-same-refl t.BracketL = refl
-same-refl t.BracketR = refl
-same-refl t.Comma = refl
-same-refl t.Bar = refl
-same-refl t.Star = refl
-same-refl t.Plus = refl
-same-refl t.Query = refl
-same-refl t.Equals = refl
-same-refl t.Colon = refl
-same-refl t.Tilde = refl
-same-refl t.Caret = refl
-same-refl t.Arrow = refl
-same-refl t.End = refl
-same-refl t.Broken = refl
+same-refl k = refl
 
 pub same-true : (j k : Terminal) → same j k ≡ true → j ≡ k
 same-true j k e = let q : number j ≡ number k = eqb-true (number j) (number k) e in sym (of_number_of j) ∙ ap of_number q ∙ of_number_of k
@@ -207,6 +162,24 @@ pub chosen_only : (rs : List Row) (k : Terminal) → decided rs k ≡ true → (
 chosen_only [] k h made f other one p q = absurd one
 chosen_only (r ∷ rs) k h made f other one p q = chosen_at r rs k (fits r k) refl h made f other one p q (λ h f one. chosen_only rs k h made f other one p q)
 
+-- ---- what a test says of each rule
+pub left_true : (b c : Bool) → cond b c false ≡ true → b ≡ true
+left_true true c h = refl
+left_true false c h = cc
+
+pub right_true : (b c : Bool) → cond b c false ≡ true → c ≡ true
+right_true true c h = h
+right_true false c h = cc
+
+abbrev pub all_rows : (Row → Bool) → List Row → Bool
+all_rows p [] = true
+all_rows p (r ∷ rs) = cond (p r) (all_rows p rs) false
+
+pub all_of : (p : Row → Bool) (rs : List Row) (made : Row) → IsOneOf made rs → all_rows p rs ≡ true → p made ≡ true
+all_of p [] made one h = absurd one
+all_of p (r ∷ rs) made (inl e) h = subst (λ (x : Row). p x ≡ true) (sym e) (left_true (p r) (all_rows p rs) h)
+all_of p (r ∷ rs) made (inr one) h = all_of p rs made one (right_true (p r) (all_rows p rs) h)
+
 -- ---- every rule is decided, but for a primary at a parenthesis
 abbrev terminals : List Terminal
 terminals = t.Type ∷ t.Fun ∷ t.Val ∷ t.As ∷ t.Match ∷ t.With ∷ t.Word ∷ t.Label ∷ t.Text ∷ t.ParenL ∷ t.ParenR ∷ t.BracketL ∷ t.BracketR ∷ t.Comma ∷ t.Bar ∷ t.Star ∷ t.Plus ∷ t.Query ∷ t.Equals ∷ t.Colon ∷ t.Tilde ∷ t.Caret ∷ t.Arrow ∷ t.End ∷ t.Broken ∷ []
@@ -246,7 +219,7 @@ abbrev every : (Terminal → Bool) → List Terminal → Bool
 every p [] = true
 every p (k ∷ ks) = cond (p k) (every p ks) false
 
-both_of : (b c : Bool) → cond b c false ≡ true → (b ≡ true) × (c ≡ true)
+pub both_of : (b c : Bool) → cond b c false ≡ true → (b ≡ true) × (c ≡ true)
 both_of true c h = (refl, h)
 both_of false c h = cc
 
@@ -257,50 +230,20 @@ every_at p (j ∷ js) h k (inr one) = every_at p js (both_of (p j) (every p js) 
 
 -- a primary at a parenthesis
 abbrev pub is_group : Nonterminal → Terminal → Bool
-is_group n.TypePrim k = same t.ParenL k
-is_group n.PatternPrim k = same t.ParenL k
+is_group (n.Prim s) k = same t.ParenL k
 is_group part k = false
 
 abbrev is_decided : Nonterminal → Terminal → Bool
 is_decided part k = cond (is_group part k) true (decided (rules part) k)
 
 all_decided : (part : Nonterminal) → every (is_decided part) terminals ≡ true
-all_decided n.Definitions = refl
-all_decided n.Param = refl
-all_decided n.MoreParams = refl
-all_decided n.TypeText = refl
-all_decided n.Type = refl
-all_decided n.MoreTypes = refl
-all_decided n.TypeSeq = refl
-all_decided n.MoreTypeParts = refl
-all_decided n.TypePost = refl
-all_decided n.TypePrim = refl
-all_decided n.TypeGroup = refl
-all_decided n.TypeContent = refl
-all_decided n.Pattern = refl
-all_decided n.MorePatterns = refl
-all_decided n.PatternSeq = refl
-all_decided n.MorePatternParts = refl
-all_decided n.PatternPost = refl
-all_decided n.PatternPrim = refl
-all_decided n.PatternGroup = refl
-all_decided n.PatternContent = refl
-all_decided n.Bound = refl
-all_decided n.Operator = refl
-all_decided n.Class = refl
-all_decided n.Labels = refl
-all_decided n.Names = refl
-all_decided n.MoreNames = refl
-all_decided n.AnyWord = refl
-all_decided n.Expr = refl
-all_decided n.MoreItems = refl
-all_decided n.Item = refl
-all_decided n.ExprContent = refl
-all_decided n.Paren = refl
-all_decided n.ParenContent = refl
-all_decided n.MoreParens = refl
-all_decided n.Clause = refl
-all_decided n.MoreClauses = refl
+all_decided (n.Post sorts.Type) = refl
+all_decided (n.Post sorts.Pattern) = refl
+all_decided (n.Group sorts.Type) = refl
+all_decided (n.Group sorts.Pattern) = refl
+all_decided (n.Content sorts.Type) = refl
+all_decided (n.Content sorts.Pattern) = refl
+all_decided part = refl
 
 pub rules_decided : (part : Nonterminal) (k : Terminal) → is_group part k ≡ false → decided (rules part) k ≡ true
 rules_decided part k g = let h : is_decided part k ≡ true = every_at (is_decided part) terminals (all_decided part) k (is_terminal k) in rw g at h

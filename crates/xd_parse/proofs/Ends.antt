@@ -1,13 +1,14 @@
 -- A front that ends where a text ends is a whole text; a whole text begins with each of its fronts.
-use Rattle.std.proofs.Common.{◌≡◌, ℕ, ◌++◌, ◌⊎◌, Bool, true, false, List, [], ◌∷◌, refl, sym, subst, ◌∙◌, inl, inr}
+use Rattle.std.proofs.Common.{◌≡◌, ℕ, ◌++◌, ◌⊎◌, Bool, true, false, cond, List, [], ◌∷◌, refl, sym, subst, ◌∙◌, inl, inr}
 use Rattle.xd_parse.specs.declared.grammar.Nonterminal.{Nonterminal}
 use Rattle.xd_parse.specs.declared.grammar.Nonterminal.TheVariants as n
+use Rattle.xd_parse.specs.declared.grammar.Sort.TheVariants as sorts
 use Rattle.xd_parse.specs.declared.grammar.Symbol.TheVariants.{Token, Opening, Closed, Unless, Part}
 use Rattle.xd_parse.specs.declared.grammar.Terminal.{Terminal}
 use Rattle.xd_parse.specs.declared.grammar.Terminal.TheVariants as t
 use Rattle.xd_parse.specs.Grammar.{Row, rules, IsOneOf, Extent, Whole, Front, MayEnd, Derives, end, token, opening, closed, unless, by}
 use Rattle.xd_parse.specs.Text.{ends_text}
-use Rattle.xd_parse.proofs.Derive.{view}
+use Rattle.xd_parse.proofs.Derive.{view, all_rows, all_of, left_true, right_true}
 
 abbrev is_nil : Row → Bool
 is_nil [] = true
@@ -32,120 +33,65 @@ sealed (Closed ∷ row) = sealed row
 sealed (Unless k ∷ row) = sealed row
 sealed (Part part ∷ row) = seal_part part (is_nil row) (sealed row)
 
+-- rows without the end of a text
+abbrev plain_token : Terminal → Bool
+plain_token t.End = false
+plain_token t.Broken = false
+plain_token k = true
+
+abbrev plain_part : Nonterminal → Bool
+plain_part n.Definitions = false
+plain_part n.TypeText = false
+plain_part part = true
+
+abbrev plain : Row → Bool
+plain [] = true
+plain (Token k ∷ row) = cond (plain_token k) (plain row) false
+plain (Opening k ∷ row) = cond (plain_token k) (plain row) false
+plain (Closed ∷ row) = plain row
+plain (Unless k ∷ row) = plain row
+plain (Part part ∷ row) = cond (plain_part part) (plain row) false
+
+plain_token_seals : (k : Terminal) (nil rest : Bool) → plain_token k ≡ true → seal_token k nil rest ≡ rest
+plain_token_seals t.End nil rest h = cc
+plain_token_seals t.Broken nil rest h = cc
+plain_token_seals k nil rest h = refl
+
+plain_part_seals : (part : Nonterminal) (nil rest : Bool) → plain_part part ≡ true → seal_part part nil rest ≡ rest
+plain_part_seals n.Definitions nil rest h = cc
+plain_part_seals n.TypeText nil rest h = cc
+plain_part_seals part nil rest h = refl
+
+plain_seals : (made row : Row) → plain made ≡ true → sealed (made ++ row) ≡ sealed row
+plain_seals [] row h = refl
+plain_seals (Token k ∷ made) row h =
+    plain_token_seals k (is_nil (made ++ row)) (sealed (made ++ row)) (left_true (plain_token k) (plain made) h) ∙ plain_seals made row (right_true (plain_token k) (plain made) h)
+plain_seals (Opening k ∷ made) row h = plain_token_seals k false (sealed (made ++ row)) (left_true (plain_token k) (plain made) h) ∙ plain_seals made row (right_true (plain_token k) (plain made) h)
+plain_seals (Closed ∷ made) row h = plain_seals made row h
+plain_seals (Unless k ∷ made) row h = plain_seals made row h
+plain_seals (Part part ∷ made) row h =
+    plain_part_seals part (is_nil (made ++ row)) (sealed (made ++ row)) (left_true (plain_part part) (plain made) h) ∙ plain_seals made row (right_true (plain_part part) (plain made) h)
+
+all_plain : (part : Nonterminal) → plain_part part ≡ true → all_rows plain (rules part) ≡ true
+all_plain n.Definitions h = cc
+all_plain n.TypeText h = cc
+all_plain (n.Post sorts.Type) h = refl
+all_plain (n.Post sorts.Pattern) h = refl
+all_plain part h = refl
+
+plain_made : (part : Nonterminal) (made row : Row) → plain_part part ≡ true → IsOneOf made (rules part) → sealed (Part part ∷ row) ≡ true → sealed (made ++ row) ≡ true
+plain_made part made row p one h = plain_seals made row (all_of plain (rules part) made one (all_plain part p)) ∙ sym (plain_part_seals part (is_nil row) (sealed row) p) ∙ h
+
 sealed_made : (part : Nonterminal) (made row : Row) → IsOneOf made (rules part) → sealed (Part part ∷ row) ≡ true → sealed (made ++ row) ≡ true
 sealed_made n.Definitions made [] (inl e) h = subst (λ (x : Row). sealed (x ++ []) ≡ true) (sym e) refl
 sealed_made n.Definitions made [] (inr (inl e)) h = subst (λ (x : Row). sealed (x ++ []) ≡ true) (sym e) refl
 sealed_made n.Definitions made [] (inr (inr (inl e))) h = subst (λ (x : Row). sealed (x ++ []) ≡ true) (sym e) refl
 sealed_made n.Definitions made [] (inr (inr (inr (none)))) h = absurd none
 sealed_made n.Definitions made (x ∷ row) one h = cc
-sealed_made n.Param made row (inl e) h = subst (λ (x : Row). sealed (x ++ row) ≡ true) (sym e) h
-sealed_made n.Param made row (inr (none)) h = absurd none
-sealed_made n.MoreParams made row (inl e) h = subst (λ (x : Row). sealed (x ++ row) ≡ true) (sym e) h
-sealed_made n.MoreParams made row (inr (inl e)) h = subst (λ (x : Row). sealed (x ++ row) ≡ true) (sym e) h
-sealed_made n.MoreParams made row (inr (inr (none))) h = absurd none
 sealed_made n.TypeText made [] (inl e) h = subst (λ (x : Row). sealed (x ++ []) ≡ true) (sym e) refl
 sealed_made n.TypeText made [] (inr (none)) h = absurd none
 sealed_made n.TypeText made (x ∷ row) one h = cc
-sealed_made n.Type made row (inl e) h = subst (λ (x : Row). sealed (x ++ row) ≡ true) (sym e) h
-sealed_made n.Type made row (inr (none)) h = absurd none
-sealed_made n.MoreTypes made row (inl e) h = subst (λ (x : Row). sealed (x ++ row) ≡ true) (sym e) h
-sealed_made n.MoreTypes made row (inr (inl e)) h = subst (λ (x : Row). sealed (x ++ row) ≡ true) (sym e) h
-sealed_made n.MoreTypes made row (inr (inr (none))) h = absurd none
-sealed_made n.TypeSeq made row (inl e) h = subst (λ (x : Row). sealed (x ++ row) ≡ true) (sym e) h
-sealed_made n.TypeSeq made row (inr (none)) h = absurd none
-sealed_made n.MoreTypeParts made row (inl e) h = subst (λ (x : Row). sealed (x ++ row) ≡ true) (sym e) h
-sealed_made n.MoreTypeParts made row (inr (inl e)) h = subst (λ (x : Row). sealed (x ++ row) ≡ true) (sym e) h
-sealed_made n.MoreTypeParts made row (inr (inr (none))) h = absurd none
-sealed_made n.TypePost made row (inl e) h = subst (λ (x : Row). sealed (x ++ row) ≡ true) (sym e) h
-sealed_made n.TypePost made row (inr (none)) h = absurd none
-sealed_made n.TypePrim made row (inl e) h = subst (λ (x : Row). sealed (x ++ row) ≡ true) (sym e) h
-sealed_made n.TypePrim made row (inr (inl e)) h = subst (λ (x : Row). sealed (x ++ row) ≡ true) (sym e) h
-sealed_made n.TypePrim made row (inr (inr (inl e))) h = subst (λ (x : Row). sealed (x ++ row) ≡ true) (sym e) h
-sealed_made n.TypePrim made row (inr (inr (inr (none)))) h = absurd none
-sealed_made n.TypeGroup made row (inl e) h = subst (λ (x : Row). sealed (x ++ row) ≡ true) (sym e) h
-sealed_made n.TypeGroup made row (inr (inl e)) h = subst (λ (x : Row). sealed (x ++ row) ≡ true) (sym e) h
-sealed_made n.TypeGroup made row (inr (inr (none))) h = absurd none
-sealed_made n.TypeContent made row (inl e) h = subst (λ (x : Row). sealed (x ++ row) ≡ true) (sym e) h
-sealed_made n.TypeContent made row (inr (inl e)) h = subst (λ (x : Row). sealed (x ++ row) ≡ true) (sym e) h
-sealed_made n.TypeContent made row (inr (inr (none))) h = absurd none
-sealed_made n.Pattern made row (inl e) h = subst (λ (x : Row). sealed (x ++ row) ≡ true) (sym e) h
-sealed_made n.Pattern made row (inr (none)) h = absurd none
-sealed_made n.MorePatterns made row (inl e) h = subst (λ (x : Row). sealed (x ++ row) ≡ true) (sym e) h
-sealed_made n.MorePatterns made row (inr (inl e)) h = subst (λ (x : Row). sealed (x ++ row) ≡ true) (sym e) h
-sealed_made n.MorePatterns made row (inr (inr (none))) h = absurd none
-sealed_made n.PatternSeq made row (inl e) h = subst (λ (x : Row). sealed (x ++ row) ≡ true) (sym e) h
-sealed_made n.PatternSeq made row (inr (none)) h = absurd none
-sealed_made n.MorePatternParts made row (inl e) h = subst (λ (x : Row). sealed (x ++ row) ≡ true) (sym e) h
-sealed_made n.MorePatternParts made row (inr (inl e)) h = subst (λ (x : Row). sealed (x ++ row) ≡ true) (sym e) h
-sealed_made n.MorePatternParts made row (inr (inr (none))) h = absurd none
-sealed_made n.PatternPost made row (inl e) h = subst (λ (x : Row). sealed (x ++ row) ≡ true) (sym e) h
-sealed_made n.PatternPost made row (inr (inl e)) h = subst (λ (x : Row). sealed (x ++ row) ≡ true) (sym e) h
-sealed_made n.PatternPost made row (inr (inr (none))) h = absurd none
-sealed_made n.PatternPrim made row (inl e) h = subst (λ (x : Row). sealed (x ++ row) ≡ true) (sym e) h
-sealed_made n.PatternPrim made row (inr (inl e)) h = subst (λ (x : Row). sealed (x ++ row) ≡ true) (sym e) h
-sealed_made n.PatternPrim made row (inr (inr (inl e))) h = subst (λ (x : Row). sealed (x ++ row) ≡ true) (sym e) h
-sealed_made n.PatternPrim made row (inr (inr (inr (none)))) h = absurd none
-sealed_made n.PatternGroup made row (inl e) h = subst (λ (x : Row). sealed (x ++ row) ≡ true) (sym e) h
-sealed_made n.PatternGroup made row (inr (inl e)) h = subst (λ (x : Row). sealed (x ++ row) ≡ true) (sym e) h
-sealed_made n.PatternGroup made row (inr (inr (none))) h = absurd none
-sealed_made n.PatternContent made row (inl e) h = subst (λ (x : Row). sealed (x ++ row) ≡ true) (sym e) h
-sealed_made n.PatternContent made row (inr (inl e)) h = subst (λ (x : Row). sealed (x ++ row) ≡ true) (sym e) h
-sealed_made n.PatternContent made row (inr (inr (none))) h = absurd none
-sealed_made n.Bound made row (inl e) h = subst (λ (x : Row). sealed (x ++ row) ≡ true) (sym e) h
-sealed_made n.Bound made row (inr (inl e)) h = subst (λ (x : Row). sealed (x ++ row) ≡ true) (sym e) h
-sealed_made n.Bound made row (inr (inr (none))) h = absurd none
-sealed_made n.Operator made row (inl e) h = subst (λ (x : Row). sealed (x ++ row) ≡ true) (sym e) h
-sealed_made n.Operator made row (inr (inl e)) h = subst (λ (x : Row). sealed (x ++ row) ≡ true) (sym e) h
-sealed_made n.Operator made row (inr (inr (inl e))) h = subst (λ (x : Row). sealed (x ++ row) ≡ true) (sym e) h
-sealed_made n.Operator made row (inr (inr (inr (inl e)))) h = subst (λ (x : Row). sealed (x ++ row) ≡ true) (sym e) h
-sealed_made n.Operator made row (inr (inr (inr (inr (none))))) h = absurd none
-sealed_made n.Class made row (inl e) h = subst (λ (x : Row). sealed (x ++ row) ≡ true) (sym e) h
-sealed_made n.Class made row (inr (inl e)) h = subst (λ (x : Row). sealed (x ++ row) ≡ true) (sym e) h
-sealed_made n.Class made row (inr (inr (inl e))) h = subst (λ (x : Row). sealed (x ++ row) ≡ true) (sym e) h
-sealed_made n.Class made row (inr (inr (inr (none)))) h = absurd none
-sealed_made n.Labels made row (inl e) h = subst (λ (x : Row). sealed (x ++ row) ≡ true) (sym e) h
-sealed_made n.Labels made row (inr (inl e)) h = subst (λ (x : Row). sealed (x ++ row) ≡ true) (sym e) h
-sealed_made n.Labels made row (inr (inr (none))) h = absurd none
-sealed_made n.Names made row (inl e) h = subst (λ (x : Row). sealed (x ++ row) ≡ true) (sym e) h
-sealed_made n.Names made row (inr (none)) h = absurd none
-sealed_made n.MoreNames made row (inl e) h = subst (λ (x : Row). sealed (x ++ row) ≡ true) (sym e) h
-sealed_made n.MoreNames made row (inr (inl e)) h = subst (λ (x : Row). sealed (x ++ row) ≡ true) (sym e) h
-sealed_made n.MoreNames made row (inr (inr (none))) h = absurd none
-sealed_made n.AnyWord made row (inl e) h = subst (λ (x : Row). sealed (x ++ row) ≡ true) (sym e) h
-sealed_made n.AnyWord made row (inr (inl e)) h = subst (λ (x : Row). sealed (x ++ row) ≡ true) (sym e) h
-sealed_made n.AnyWord made row (inr (inr (inl e))) h = subst (λ (x : Row). sealed (x ++ row) ≡ true) (sym e) h
-sealed_made n.AnyWord made row (inr (inr (inr (inl e)))) h = subst (λ (x : Row). sealed (x ++ row) ≡ true) (sym e) h
-sealed_made n.AnyWord made row (inr (inr (inr (inr (inl e))))) h = subst (λ (x : Row). sealed (x ++ row) ≡ true) (sym e) h
-sealed_made n.AnyWord made row (inr (inr (inr (inr (inr (inl e)))))) h = subst (λ (x : Row). sealed (x ++ row) ≡ true) (sym e) h
-sealed_made n.AnyWord made row (inr (inr (inr (inr (inr (inr (inl e))))))) h = subst (λ (x : Row). sealed (x ++ row) ≡ true) (sym e) h
-sealed_made n.AnyWord made row (inr (inr (inr (inr (inr (inr (inr (none)))))))) h = absurd none
-sealed_made n.Expr made row (inl e) h = subst (λ (x : Row). sealed (x ++ row) ≡ true) (sym e) h
-sealed_made n.Expr made row (inr (none)) h = absurd none
-sealed_made n.MoreItems made row (inl e) h = subst (λ (x : Row). sealed (x ++ row) ≡ true) (sym e) h
-sealed_made n.MoreItems made row (inr (inl e)) h = subst (λ (x : Row). sealed (x ++ row) ≡ true) (sym e) h
-sealed_made n.MoreItems made row (inr (inr (none))) h = absurd none
-sealed_made n.Item made row (inl e) h = subst (λ (x : Row). sealed (x ++ row) ≡ true) (sym e) h
-sealed_made n.Item made row (inr (inl e)) h = subst (λ (x : Row). sealed (x ++ row) ≡ true) (sym e) h
-sealed_made n.Item made row (inr (inr (inl e))) h = subst (λ (x : Row). sealed (x ++ row) ≡ true) (sym e) h
-sealed_made n.Item made row (inr (inr (inr (inl e)))) h = subst (λ (x : Row). sealed (x ++ row) ≡ true) (sym e) h
-sealed_made n.Item made row (inr (inr (inr (inr (inl e))))) h = subst (λ (x : Row). sealed (x ++ row) ≡ true) (sym e) h
-sealed_made n.Item made row (inr (inr (inr (inr (inr (none)))))) h = absurd none
-sealed_made n.ExprContent made row (inl e) h = subst (λ (x : Row). sealed (x ++ row) ≡ true) (sym e) h
-sealed_made n.ExprContent made row (inr (inl e)) h = subst (λ (x : Row). sealed (x ++ row) ≡ true) (sym e) h
-sealed_made n.ExprContent made row (inr (inr (none))) h = absurd none
-sealed_made n.Paren made row (inl e) h = subst (λ (x : Row). sealed (x ++ row) ≡ true) (sym e) h
-sealed_made n.Paren made row (inr (none)) h = absurd none
-sealed_made n.ParenContent made row (inl e) h = subst (λ (x : Row). sealed (x ++ row) ≡ true) (sym e) h
-sealed_made n.ParenContent made row (inr (inl e)) h = subst (λ (x : Row). sealed (x ++ row) ≡ true) (sym e) h
-sealed_made n.ParenContent made row (inr (inr (none))) h = absurd none
-sealed_made n.MoreParens made row (inl e) h = subst (λ (x : Row). sealed (x ++ row) ≡ true) (sym e) h
-sealed_made n.MoreParens made row (inr (inl e)) h = subst (λ (x : Row). sealed (x ++ row) ≡ true) (sym e) h
-sealed_made n.MoreParens made row (inr (inr (none))) h = absurd none
-sealed_made n.Clause made row (inl e) h = subst (λ (x : Row). sealed (x ++ row) ≡ true) (sym e) h
-sealed_made n.Clause made row (inr (none)) h = absurd none
-sealed_made n.MoreClauses made row (inl e) h = subst (λ (x : Row). sealed (x ++ row) ≡ true) (sym e) h
-sealed_made n.MoreClauses made row (inr (inl e)) h = subst (λ (x : Row). sealed (x ++ row) ≡ true) (sym e) h
-sealed_made n.MoreClauses made row (inr (inr (none))) h = absurd none
+sealed_made part made row one h = plain_made part made row refl one h
 
 after_token : (k : Terminal) (nil rest : Bool) → seal_token k nil rest ≡ true → (nil ≡ true) ⊎ (rest ≡ true)
 after_token t.End nil rest h = inl h

@@ -6,13 +6,14 @@ use Rattle.xd_syntax.specs.Placed.{PlacedTree}
 use Rattle.xd_syntax.specs.Expression.{Expression, Nothing, Quoted, Tagged, Matched, Clauses, no_clause, clause}
 use Rattle.xd_parse.specs.declared.grammar.Nonterminal.{Nonterminal}
 use Rattle.xd_parse.specs.declared.grammar.Nonterminal.TheVariants as n
+use Rattle.xd_parse.specs.declared.grammar.Sort.TheVariants as sorts
 use Rattle.xd_parse.specs.declared.grammar.Symbol.TheVariants.{Token, Opening, Closed, Unless, Part}
 use Rattle.xd_parse.specs.declared.grammar.Terminal.{Terminal}
 use Rattle.xd_parse.specs.declared.grammar.Terminal.TheVariants as t
 use Rattle.xd_parse.specs.Grammar.{Row, rules}
 use Rattle.xd_parse.specs.Fits.{same, first_fit}
 use Rattle.xd_parse.specs.Merged.{sequence_of_expressions}
-use Rattle.xd_parse.specs.Values.{Value, token_of, absent, a_pattern, an_expression, expressions, a_clause, clauses, word_expression, value_of}
+use Rattle.xd_parse.specs.Values.{Value, token_of, absent, a_tree, an_expression, expressions, a_clause, clauses, word_expression, value_of}
 use Rattle.xd_parse.specs.Reading.{Reads, front_terminal, front_place, front_text, behind}
 use Rattle.xd_parse.proofs.Derive.{same-true, same-refl}
 use Rattle.xd_parse.proofs.Rows.{ReadsRow, row_end, row_token, row_opening, row_closed, row_unless, row_part, part_one, part_fit, part_none}
@@ -113,10 +114,10 @@ expr_reads c m to e es r s =
     part_one n.Expr (Part n.Item ∷ Part n.MoreItems ∷ []) c to (an_expression e ∷ expressions es ∷ []) refl
     (row_part n.Item (Part n.MoreItems ∷ []) c m to (an_expression e) (expressions es ∷ []) r (one_part n.MoreItems m to (expressions es) s))
 
-pub clause_reads : (c m to : List Lexeme) (P : PlacedTree) (e : Expression) → Reads n.PatternSeq c m (a_pattern P) → Reads n.Expr (behind m) to (an_expression e) → Reads n.Clause c to (a_clause P e)
+pub clause_reads : (c m to : List Lexeme) (P : PlacedTree) (e : Expression) → Reads (n.Sequence sorts.Pattern) c m (a_tree P) → Reads n.Expr (behind m) to (an_expression e) → Reads n.Clause c to (a_clause P e)
 clause_reads c m to P e r s =
-    part_one n.Clause (Part n.PatternSeq ∷ Token t.Arrow ∷ Part n.Expr ∷ []) c to (a_pattern P ∷ as_token t.Arrow m ∷ an_expression e ∷ []) refl
-    (row_part n.PatternSeq (Token t.Arrow ∷ Part n.Expr ∷ []) c m to (a_pattern P) (as_token t.Arrow m ∷ an_expression e ∷ []) r
+    part_one n.Clause (Part (n.Sequence sorts.Pattern) ∷ Token t.Arrow ∷ Part n.Expr ∷ []) c to (a_tree P ∷ as_token t.Arrow m ∷ an_expression e ∷ []) refl
+    (row_part (n.Sequence sorts.Pattern) (Token t.Arrow ∷ Part n.Expr ∷ []) c m to (a_tree P) (as_token t.Arrow m ∷ an_expression e ∷ []) r
     (row_token t.Arrow (Part n.Expr ∷ []) m to (an_expression e ∷ []) (one_part n.Expr (behind m) to (an_expression e) s)))
 
 -- ---- repetitions

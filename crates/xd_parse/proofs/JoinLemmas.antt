@@ -1,16 +1,13 @@
 -- The parts of an expression in its table.
-use Rattle.std.proofs.Common.{◌≡◌, ℕ, zero, suc, ◌+◌, ◌<◌, ◌≤◌, arith, false, List, [], ◌∷◌, ◌++◌, length, map, take, drop, get_or, refl, sym, ap, subst, ◌∙◌, length-append, append_assoc, Vec, Global}
+use Rattle.std.proofs.Common.{◌≡◌, ℕ, zero, suc, ◌+◌, ◌<◌, ◌≤◌, arith, Bool, true, false, List, [], ◌∷◌, ◌++◌, length, map, get_or, refl, sym, ap, subst, ◌∙◌, length-append, append_assoc, append-nil}
 use Rattle.std.specs.Prelude.{◌==◌}
 use Rattle.std.specs.List.{AllByRecursion, flat_map}
-use Rattle.std.proofs.lemmas.List.{take-append-drop, map-append, at_drop_more}
 use Rattle.std.proofs.Math.ListN.{get_or-append}
 use Rattle.xd_base.specs.declared.Place.{Place}
 use Rattle.xd_syntax.specs.Placed.{PlacedTree, placed_at, the_start}
 use Rattle.xd_syntax.specs.Table.{Row}
-use Rattle.xd_syntax.specs.Expression.{Expression, place_of_expression, ExprRow, ExprShape, empty_shape, text_shape, var_shape, elem_shape, seq_shape, call_shape, match_shape, joined, shape_expression, expression_at, is_joined_shape, shape_at, IsJoinedPart, ExprCanFollow}
-use Rattle.xd_syntax.specs.Exprs.{expression, expr_numbers, shape_of}
-use Rattle.xd_syntax.specs.declared.exprs.ExprForm.{ExprForm}
-use Rattle.xd_syntax.specs.declared.exprs.ExprForm.TheVariants.{Empty, Text, Var, Elem, Seq, Call, Match}
+use Rattle.xd_syntax.specs.Expression.{Expression, Nothing, Joined, place_of_expression, ExprRow, KeepsExprs, ExprShape, empty_shape, text_shape, var_shape, elem_shape, seq_shape, call_shape, match_shape, joined, shape_expression, expression_at, is_joined_shape, shape_at, IsJoinedPart, ExprCanFollow}
+use Rattle.xd_syntax.specs.Exprs.{expression, expr_numbers}
 use Rattle.xd_syntax.specs.declared.exprs.ExprId.{ExprId}
 use Rattle.xd_syntax.proofs.ExprTrees.{expression_kept, expression_new}
 use Rattle.xd_parse.specs.Merged.{parts_of_expression, merged_expression, sequence_of_expressions}
@@ -60,7 +57,7 @@ alone_part patterns rs i h =
     let s : IsShaped patterns (expression_at patterns rs i) (get_or rs i d) = shaped patterns rs i d h.0 in
     subst (λ (e : Expression). parts_of_expression e ≡ e ∷ []) (sym s.is) (alone_shape (placed_at patterns) s.parts (get_or rs i d).place (get_or rs i d).form h.1)
 
-all_alone : (patterns : List Row) (rs : List ExprRow) (is : List ℕ) → AllByRecursion (IsJoinedPart rs) is → AllByRecursion (λ (e : Expression). parts_of_expression e ≡ e ∷ []) (map (expression_at patterns rs) is)
+pub all_alone : (patterns : List Row) (rs : List ExprRow) (is : List ℕ) → AllByRecursion (IsJoinedPart rs) is → AllByRecursion (λ (e : Expression). parts_of_expression e ≡ e ∷ []) (map (expression_at patterns rs) is)
 all_alone patterns rs [] a = tt
 all_alone patterns rs (i ∷ is) a = (alone_part patterns rs i a.0, all_alone patterns rs is a.1)
 
@@ -69,26 +66,60 @@ joined_parts p [] a = refl
 joined_parts p (e ∷ []) a = a.0
 joined_parts p (e ∷ (f ∷ fs)) a = ap (λ xs. e ∷ xs) (joined_parts (place_of_expression f) (f ∷ fs) a.1)
 
--- the parts of a sequence that is merged are those of its list
-pub parts_of_joined : (patterns : List Row) (rs : List ExprRow) (p : Place) (is : List ℕ) → AllByRecursion (IsJoinedPart rs) is → parts_of_expression (joined p (map (expression_at patterns rs) is)) ≡ map (expression_at patterns rs) is
-parts_of_joined patterns rs p is a = joined_parts p (map (expression_at patterns rs) is) (all_alone patterns rs is a)
-
 -- ---- older parts
 joined_append : (rs qs : List ExprRow) (i : ℕ) → IsJoinedPart rs i → IsJoinedPart (rs ++ qs) i
 joined_append rs qs i h =
     let d : ExprRow = record { place = the_start; form = empty_shape } in
     (omega (arith, length-append rs qs, h.0), ap (λ (r : ExprRow). is_joined_shape r.form) (get_or-append rs qs d i h.0) ∙ h.1)
 
-pub joined_older : (rs : List ExprRow) (k i : ℕ) → IsJoinedPart (take k rs) i → IsJoinedPart rs i
-joined_older rs k i h = subst (λ (xs : List ExprRow). IsJoinedPart xs i) (take-append-drop k rs) (joined_append (take k rs) (drop k rs) i h)
-
-pub all_joined_older : (rs : List ExprRow) (k : ℕ) (is : List ℕ) → AllByRecursion (IsJoinedPart (take k rs)) is → AllByRecursion (IsJoinedPart rs) is
-all_joined_older rs k [] a = tt
-all_joined_older rs k (i ∷ is) a = (joined_older rs k i a.0, all_joined_older rs k is a.1)
-
 pub all_joined_append : (rs : List ExprRow) (is js : List ℕ) → AllByRecursion (IsJoinedPart rs) is → AllByRecursion (IsJoinedPart rs) js → AllByRecursion (IsJoinedPart rs) (is ++ js)
 all_joined_append rs [] js a b = b
 all_joined_append rs (i ∷ is) js a b = (a.0, all_joined_append rs is js a.1 b)
+
+pub joined_stays : (rs qs : List ExprRow) (is : List ℕ) → KeepsExprs rs qs → AllByRecursion (IsJoinedPart rs) is → AllByRecursion (IsJoinedPart qs) is
+joined_stays rs qs [] k a = tt
+joined_stays rs qs (i ∷ is) k a = (subst (λ (xs : List ExprRow). IsJoinedPart xs i) (sym k.grown) (joined_append rs k.more i a.0), joined_stays rs qs is k a.1)
+
+pub joined_there : (rs : List ExprRow) (is : List ℕ) → AllByRecursion (IsJoinedPart rs) is → AllByRecursion (λ i. i < length rs) is
+joined_there rs [] a = tt
+joined_there rs (i ∷ is) a = (a.0.0, joined_there rs is a.1)
+
+-- ---- one after the other or all at once
+parts_of_merged : (p : Place) (es : List Expression) → AllByRecursion (λ (e : Expression). parts_of_expression e ≡ e ∷ []) es → parts_of_expression (merged_expression p es) ≡ es
+parts_of_merged p [] a = refl
+parts_of_merged p (e ∷ es) a = joined_parts (place_of_expression e) (e ∷ es) a
+
+merged_on : (p q : Place) (es fs : List Expression) → (es ≡ [] → q ≡ p) → merged_expression q (es ++ fs) ≡ merged_expression p (es ++ fs)
+merged_on p q [] fs h = ap (λ x. merged_expression x fs) (h refl)
+merged_on p q (e ∷ es) fs h = refl
+
+place_of_none : (p : Place) (es : List Expression) → es ≡ [] → place_of_expression (merged_expression p es) ≡ p
+place_of_none p es e = ap (λ xs. place_of_expression (merged_expression p xs)) e
+
+all_alone_append : (es fs : List Expression) → AllByRecursion (λ (e : Expression). parts_of_expression e ≡ e ∷ []) es → AllByRecursion (λ (e : Expression). parts_of_expression e ≡ e ∷ []) fs →
+    AllByRecursion (λ (e : Expression). parts_of_expression e ≡ e ∷ []) (es ++ fs)
+all_alone_append [] fs a b = b
+all_alone_append (e ∷ es) fs a b = (a.0, all_alone_append es fs a.1 b)
+
+-- the sequence of two that are merged, and of those behind them
+pub sequence_merged : (p q : Place) (es fs : List Expression) → AllByRecursion (λ (e : Expression). parts_of_expression e ≡ e ∷ []) es → AllByRecursion (λ (e : Expression). parts_of_expression e ≡ e ∷ []) fs →
+    (later : List Expression) → sequence_of_expressions (merged_expression p (es ++ fs)) later ≡ sequence_of_expressions (merged_expression p es) (merged_expression q fs ∷ later)
+sequence_merged p q es fs a b [] =
+    sym (ap (merged_expression (place_of_expression (merged_expression p es))) (ap (λ xs. xs ++ (parts_of_expression (merged_expression q fs) ++ [])) (parts_of_merged p es a)
+    ∙ ap (λ xs. es ++ (xs ++ [])) (parts_of_merged q fs b) ∙ ap (λ xs. es ++ xs) (append-nil fs))
+    ∙ merged_on p (place_of_expression (merged_expression p es)) es fs (place_of_none p es))
+sequence_merged p q es fs a b (x ∷ xs) =
+    let F = flat_map parts_of_expression (x ∷ xs) in
+    let here = merged_expression p es in
+    let there = merged_expression q fs in
+    let left : sequence_of_expressions (merged_expression p (es ++ fs)) (x ∷ xs) ≡ merged_expression p ((es ++ fs) ++ F)
+    = ap (λ ys. merged_expression (place_of_expression (merged_expression p (es ++ fs))) (ys ++ F)) (parts_of_merged p (es ++ fs) (all_alone_append es fs a b))
+    ∙ merged_on p (place_of_expression (merged_expression p (es ++ fs))) (es ++ fs) F (place_of_none p (es ++ fs)) in
+    let right : sequence_of_expressions here (there ∷ (x ∷ xs)) ≡ merged_expression p (es ++ (fs ++ F))
+    = ap (λ ys. merged_expression (place_of_expression here) (ys ++ (parts_of_expression there ++ F))) (parts_of_merged p es a)
+    ∙ ap (λ ys. merged_expression (place_of_expression here) (es ++ (ys ++ F))) (parts_of_merged q fs b)
+    ∙ merged_on p (place_of_expression here) es (fs ++ F) (place_of_none p es) in
+    left ∙ ap (merged_expression p) (append_assoc es fs F) ∙ sym right
 
 -- ---- lists of ids
 pub numbers_map : (t : ℕ → Expression) (ids : List ExprId) → map t (expr_numbers ids) ≡ map (λ (id : ExprId). t id.at) ids
@@ -117,29 +148,6 @@ place_of_shape P t p rs (seq_shape is) h = two_joined t p is h.0
 place_of_shape P t p rs (call_shape f is) h = refl
 place_of_shape P t p rs (match_shape i cs) h = refl
 
--- ---- what a node gives
-other_form : (f : ExprForm) → (f ≡ Empty → ⊥) → ((parts : Vec ExprId Global) → f ≡ Seq parts → ⊥) → is_joined_shape (shape_of f) ≡ false
-other_form Empty a b = absurd (a refl)
-other_form (Text s) a b = refl
-other_form (Var x) a b = refl
-other_form (Elem l i) a b = refl
-other_form (Seq parts) a b = absurd (b parts refl)
-other_form (Call f parts) a b = refl
-other_form (Match i cs) a b = refl
-
--- a node that is neither empty nor a sequence is a part
-pub part_of_node : (rs : List ExprRow) (i : ℕ) (f : ExprForm) → i < length rs → shape_at rs i ≡ shape_of f → (f ≡ Empty → ⊥) → ((parts : Vec ExprId Global) → f ≡ Seq parts → ⊥) → IsJoinedPart rs i
-part_of_node rs i f h e a b = (h, ap is_joined_shape e ∙ other_form f a b)
-
--- more ids, and what they stand for
-pub map_more : (t : ExprId → Expression) (ids more all : List ExprId) (es : List Expression) → all ≡ ids ++ more → map t more ≡ es → map t all ≡ map t ids ++ es
-map_more t ids more all es e f = ap (map t) e ∙ map-append t ids more ∙ ap (λ xs. map t ids ++ xs) f
-
--- the parts of a sequence's node
-pub parts_of_seq : (patterns : List Row) (rs : List ExprRow) (p : Place) (ids : List ExprId) (e : Expression) → AllByRecursion (IsJoinedPart rs) (expr_numbers ids) → e ≡ joined p (map (expression_at patterns rs) (expr_numbers ids)) → map (expression patterns rs) ids ≡ parts_of_expression e
-parts_of_seq patterns rs p ids e a q =
-    sym (ap parts_of_expression q ∙ parts_of_joined patterns rs p (expr_numbers ids) a ∙ numbers_map (expression_at patterns rs) ids)
-
 -- the node of two parts or more
 two_merged : (p q : Place) (e f : Expression) (fs : List Expression) → q ≡ place_of_expression e → joined q (e ∷ (f ∷ fs)) ≡ merged_expression p (e ∷ (f ∷ fs))
 two_merged p q e f fs h = ap (λ (x : Place). joined x (e ∷ (f ∷ fs))) h
@@ -151,31 +159,29 @@ merged_is patterns rs p q (i ∷ (j ∷ ids)) d h e =
     ap (joined q) (numbers_map (expression_at patterns rs) (i ∷ (j ∷ ids)))
     ∙ two_merged p q (expression patterns rs i) (expression patterns rs j) (map (expression patterns rs) ids) e
 
--- each id is one of the list
-pub belongs_at : (n : ℕ) (ids : List ExprId) (k : ℕ) (d : ExprId) → AllByRecursion (λ i. i < n) (expr_numbers ids) → k < length ids → (get_or ids k d).at < n
-belongs_at n [] k d a h = absurd (omega arith)
-belongs_at n (id ∷ ids) zero d a h = a.0
-belongs_at n (id ∷ ids) (suc k) d a h = belongs_at n ids k d a.1 (omega arith)
-
-pub sequence_is : (p : Place) (e : Expression) (es : List Expression) → 0 < length es → p ≡ place_of_expression e → merged_expression p (flat_map parts_of_expression (e ∷ es)) ≡ sequence_of_expressions e es
-sequence_is p e [] h q = absurd (omega arith)
-sequence_is p e (f ∷ fs) h q = ap (λ (x : Place). merged_expression x (flat_map parts_of_expression (e ∷ (f ∷ fs)))) q
-
-pub length-mapped : (t : ExprId → Expression) (ids : List ExprId) → length (map t ids) ≡ length ids
-length-mapped t [] = refl
-length-mapped t (id ∷ ids) = ap suc (length-mapped t ids)
-
--- one id more of those that are left
-pub left_step : (t : ExprId → Expression) (all : List ExprId) (k : ℕ) (d : ExprId) (done more : List Expression) (whole : List Expression) → k < length all →
-    done ++ flat_map parts_of_expression (map t (drop k all)) ≡ whole → more ≡ done ++ parts_of_expression (t (get_or all k d)) →
-    more ++ flat_map parts_of_expression (map t (drop (k + 1) all)) ≡ whole
-left_step t all k d done more whole h inv e =
-    let F : List ExprId → List Expression = λ ids. done ++ flat_map parts_of_expression (map t ids) in
-    let s = at_drop_more F all k d h in
-    ap (λ xs. xs ++ flat_map parts_of_expression (map t (drop (k + 1) all))) e
-    ∙ append_assoc done (parts_of_expression (t (get_or all k d))) (flat_map parts_of_expression (map t (drop (k + 1) all)))
-    ∙ sym s ∙ inv
-
 pub positive : (k : ℕ) → (k == 0) ≡ false → 0 < k
 positive zero h = cc
 positive (suc k) h = omega arith
+
+-- ---- a new node that is one part
+abbrev is_joined_expression : Expression → Bool
+is_joined_expression (Nothing p) = true
+is_joined_expression (Joined p e f) = true
+is_joined_expression e = false
+
+joined_shape : (P : ℕ → PlacedTree) (t : ℕ → Expression) (p : Place) (rs : List ExprRow) (f : ExprShape) → ExprCanFollow rs f → is_joined_expression (shape_expression P t p f) ≡ is_joined_shape f
+joined_shape P t p rs (seq_shape []) h = absurd (let k : 2 ≤ 0 = h.0 in omega arith)
+joined_shape P t p rs (seq_shape (i ∷ [])) h = absurd (let k : 2 ≤ length (i ∷ []) = h.0 in omega arith)
+joined_shape P t p rs (seq_shape (i ∷ (j ∷ is))) h = refl
+joined_shape P t p rs empty_shape h = refl
+joined_shape P t p rs (text_shape s) h = refl
+joined_shape P t p rs (var_shape x) h = refl
+joined_shape P t p rs (elem_shape l i) h = refl
+joined_shape P t p rs (call_shape f is) h = refl
+joined_shape P t p rs (match_shape i cs) h = refl
+
+pub part_added : (rs older qs : List ExprRow) (i : ℕ) (p q : Place) (f g : ExprShape) → ExprCanFollow rs f → ExprCanFollow older g → is_joined_shape f ≡ false → i < length qs → shape_at qs i ≡ g →
+    ((patterns : List Row) → expression_at patterns qs i ≡ shape_expression (placed_at patterns) (expression_at patterns rs) p f) →
+    ((patterns : List Row) → expression_at patterns qs i ≡ shape_expression (placed_at patterns) (expression_at patterns qs) q g) → IsJoinedPart qs i
+part_added rs older qs i p q f g h k a b e u v =
+    (b, ap is_joined_shape e ∙ sym (joined_shape (placed_at []) (expression_at [] qs) q older g k) ∙ ap is_joined_expression (sym (v []) ∙ u []) ∙ joined_shape (placed_at []) (expression_at [] rs) p rs f h ∙ a)

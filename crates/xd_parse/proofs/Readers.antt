@@ -6,15 +6,19 @@ use Rattle.xd_base.specs.declared.Place.{Place}
 use Rattle.xd_lex.specs.Tokens.{Lexeme}
 use Rattle.xd_syntax.specs.Placed.{PlacedTree, placed_at}
 use Rattle.xd_syntax.specs.Table.{Row, KeepsRows}
-use Rattle.xd_syntax.specs.Expression.{Expression, Matched, Clauses, no_clause, clause, clauses_of, ExprRow, expression_at, KeepsExprs, PatternsBelong}
+use Rattle.xd_syntax.specs.Expression.{Expression, Matched, Clauses, no_clause, clause, clauses_of, ExprRow, expression_at, IsJoinedPart, KeepsExprs, PatternsBelong}
+use Rattle.xd_syntax.specs.Exprs.{expr_numbers}
 use Rattle.xd_parse.specs.declared.grammar.Nonterminal.TheVariants as n
+use Rattle.xd_parse.specs.declared.joining.Items.{Items}
 use Rattle.xd_parse.specs.declared.grammar.Terminal.TheVariants as t
 use Rattle.xd_parse.specs.Fits.{same}
-use Rattle.xd_parse.specs.Merged.{sequence_of_expressions}
+use Rattle.xd_parse.specs.Merged.{merged_expression, sequence_of_expressions}
+use Rattle.xd_parse.specs.Pieces.{AreItems, expression_of}
 use Rattle.xd_parse.specs.Values.{an_expression, expressions, a_clause, clauses, word_expression}
 use Rattle.xd_parse.specs.Reading.{Reads, front_terminal, front_place, front_text, behind}
 use Rattle.xd_parse.specs.Grows.{Grows}
 use Rattle.xd_parse.proofs.Grown.{Grows-trans, IsExpr-more, IsExprPart-more, same_expression, same_expressions, same_pattern, push_part, IsPattern-more}
+use Rattle.xd_parse.proofs.JoinLemmas.{all_alone, all_joined_append, joined_stays, joined_there, numbers_append, sequence_merged}
 use Rattle.xd_parse.proofs.ExprRows.{expr_reads, items_end, items_more, item_word, parens_end, parens_more, item_match, clauses_end, clauses_more, behind_le, next_lt}
 
 -- one more at the end of what was collected
@@ -23,45 +27,56 @@ more_mapped t u is i later e =
     ap (λ xs. xs ++ later) (map-append u is (i ∷ []) ∙ ap (λ xs. xs ++ u i ∷ []) e) ∙ append_assoc (map t is) (u i ∷ []) later
 
 -- ---- items
-pub record ReadItems (start : List Lexeme) (ps0 : List Row) (es0 : List ExprRow) (here : List Lexeme) (ps : List Row) (es : List ExprRow) (first : ℕ) (more : List ℕ) : Type 0 where
-  pub reads : (to : List Lexeme) (later : List Expression) → Reads n.MoreItems here to (expressions later) →
-      Reads n.Expr start to (an_expression (sequence_of_expressions (expression_at ps es first) (map (expression_at ps es) more ++ later)))
-  pub first_there : first < length es
-  pub more_there : AllByRecursion (λ i. i < length es) more
+pub record ReadItems (start : List Lexeme) (ps0 : List Row) (es0 : List ExprRow) (here : List Lexeme) (ps : List Row) (es : List ExprRow) (read : Items) : Type 0 where
+  pub reads : (to : List Lexeme) (later : List Expression) → Reads n.MoreItems here to (expressions later) → Reads n.Expr start to (an_expression (sequence_of_expressions (expression_of ps es read) later))
+  pub stand : AreItems es read
   pub grows : Grows ps0 es0 ps es
   pub left : length here ≤ length start
 
-pub items_start : (start here : List Lexeme) (ps0 : List Row) (es0 : List ExprRow) (ps : List Row) (es : List ExprRow) (first : ℕ) → Reads n.Item start here (an_expression (expression_at ps es first)) →
-    first < length es → Grows ps0 es0 ps es → length here ≤ length start → ReadItems start ps0 es0 here ps es first []
-items_start start here ps0 es0 ps es first r f g l = record {
-  reads = λ to later s. expr_reads start here to (expression_at ps es first) later r s;
-  first_there = f;
-  more_there = tt;
+pub items_start : (start here : List Lexeme) (ps0 : List Row) (es0 : List ExprRow) (ps : List Row) (es : List ExprRow) (read : Items) → Reads n.Item start here (an_expression (expression_of ps es read)) →
+    AreItems es read → Grows ps0 es0 ps es → length here ≤ length start → ReadItems start ps0 es0 here ps es read
+items_start start here ps0 es0 ps es read r a g l = record {
+  reads = λ to later s. expr_reads start here to (expression_of ps es read) later r s;
+  stand = a;
   grows = g;
   left = l;
 }
 
-pub items_step : (start here there : List Lexeme) (ps0 : List Row) (es0 : List ExprRow) (ps : List Row) (es : List ExprRow) (qs : List Row) (fs : List ExprRow) (first : ℕ) (more : List ℕ) (item : ℕ) →
-    ReadItems start ps0 es0 here ps es first more → same t.Comma (front_terminal here) ≡ true → Reads n.Item (behind here) there (an_expression (expression_at qs fs item)) →
-    item < length fs → Grows ps es qs fs → length there ≤ length (behind here) → ReadItems start ps0 es0 there qs fs first (more ++ item ∷ [])
-items_step start here there ps0 es0 ps es qs fs first more item a h r i g l = record {
-  reads = λ to later s.
-      let e : expression_at qs fs first ≡ expression_at ps es first = same_expression ps es qs fs first g a.grows.clauses a.first_there in
-      let m = more_mapped (expression_at ps es) (expression_at qs fs) more item later (same_expressions ps es qs fs more g a.grows.clauses a.more_there) in
-      subst (λ (x : Expression). Reads n.Expr start to (an_expression x))
-      (sym (ap (λ (x : Expression). sequence_of_expressions x (map (expression_at qs fs) (more ++ item ∷ []) ++ later)) e ∙ ap (sequence_of_expressions (expression_at ps es first)) m))
-      (a.reads to (expression_at qs fs item ∷ later) (items_more here there to (expression_at qs fs item) later h r s));
-  first_there = IsExpr-more es fs first g.nodes a.first_there;
-  more_there = push_part (length fs) more item (IsExprPart-more es fs more g.nodes a.more_there) i;
-  grows = Grows-trans ps0 es0 ps es qs fs a.grows g;
-  left = let b = behind_le here in let d = a.left in omega arith;
-}
+-- items are as they were
+pub items_stay : (ps : List Row) (es : List ExprRow) (qs : List Row) (fs : List ExprRow) (read : Items) → Grows ps es qs fs → PatternsBelong (length ps) es → AreItems es read → expression_of qs fs read ≡ expression_of ps es read
+items_stay ps es qs fs read g b a = ap (merged_expression read.place) (same_expressions ps es qs fs (expr_numbers read.parts.items) g b (joined_there es (expr_numbers read.parts.items) a))
 
-pub items_done : (start here : List Lexeme) (ps0 : List Row) (es0 : List ExprRow) (ps : List Row) (es : List ExprRow) (first : ℕ) (more : List ℕ) → ReadItems start ps0 es0 here ps es first more →
-    same t.Comma (front_terminal here) ≡ false → Reads n.Expr start here (an_expression (sequence_of_expressions (expression_at ps es first) (map (expression_at ps es) more)))
-items_done start here ps0 es0 ps es first more a h =
-    subst (λ (xs : List Expression). Reads n.Expr start here (an_expression (sequence_of_expressions (expression_at ps es first) xs))) (append-nil (map (expression_at ps es) more))
-    (a.reads here [] (items_end here h))
+-- items, and others behind them
+items_are : (ps : List Row) (es : List ExprRow) (front back all : Items) → all.place ≡ front.place → all.parts.items ≡ front.parts.items ++ back.parts.items →
+    expression_of ps es all ≡ merged_expression front.place (map (expression_at ps es) (expr_numbers front.parts.items) ++ map (expression_at ps es) (expr_numbers back.parts.items))
+items_are ps es front back all p e =
+    ap (λ x. merged_expression x (map (expression_at ps es) (expr_numbers all.parts.items))) p
+    ∙ ap (merged_expression front.place) (ap (λ xs. map (expression_at ps es) (expr_numbers xs)) e ∙ ap (map (expression_at ps es)) (numbers_append front.parts.items back.parts.items)
+    ∙ map-append (expression_at ps es) (expr_numbers front.parts.items) (expr_numbers back.parts.items))
+
+pub items_step : (start here there : List Lexeme) (ps0 : List Row) (es0 : List ExprRow) (ps : List Row) (es : List ExprRow) (qs : List Row) (fs : List ExprRow) (read item all : Items) →
+    ReadItems start ps0 es0 here ps es read → same t.Comma (front_terminal here) ≡ true → Reads n.Item (behind here) there (an_expression (expression_of qs fs item)) →
+    AreItems fs item → Grows ps es qs fs → length there ≤ length (behind here) → all.place ≡ read.place → all.parts.items ≡ read.parts.items ++ item.parts.items → ReadItems start ps0 es0 there qs fs all
+items_step start here there ps0 es0 ps es qs fs read item all a h r i g l pe e =
+    let t : AreItems fs read = joined_stays es fs (expr_numbers read.parts.items) g.nodes a.stand in
+    let u : ℕ → Expression = expression_at qs fs in
+    record {
+      reads = λ to later s.
+          let k : expression_of qs fs read ≡ expression_of ps es read = items_stay ps es qs fs read g a.grows.clauses a.stand in
+          let m : sequence_of_expressions (expression_of qs fs all) later ≡ sequence_of_expressions (expression_of qs fs read) (expression_of qs fs item ∷ later)
+          = ap (λ x. sequence_of_expressions x later) (items_are qs fs read item all pe e)
+          ∙ sequence_merged read.place item.place (map u (expr_numbers read.parts.items)) (map u (expr_numbers item.parts.items))
+          (all_alone qs fs (expr_numbers read.parts.items) t) (all_alone qs fs (expr_numbers item.parts.items) i) later in
+          subst (λ (x : Expression). Reads n.Expr start to (an_expression x)) (sym (m ∙ ap (λ x. sequence_of_expressions x (expression_of qs fs item ∷ later)) k))
+          (a.reads to (expression_of qs fs item ∷ later) (items_more here there to (expression_of qs fs item) later h r s));
+      stand = subst (AllByRecursion (IsJoinedPart fs)) (sym (ap expr_numbers e ∙ numbers_append read.parts.items item.parts.items)) (all_joined_append fs (expr_numbers read.parts.items) (expr_numbers item.parts.items) t i);
+      grows = Grows-trans ps0 es0 ps es qs fs a.grows g;
+      left = let b = behind_le here in let d = a.left in omega arith;
+    }
+
+pub items_done : (start here : List Lexeme) (ps0 : List Row) (es0 : List ExprRow) (ps : List Row) (es : List ExprRow) (read : Items) → ReadItems start ps0 es0 here ps es read →
+    same t.Comma (front_terminal here) ≡ false → Reads n.Expr start here (an_expression (expression_of ps es read))
+items_done start here ps0 es0 ps es read a h = a.reads here [] (items_end here h)
 
 -- ---- arguments
 pub record ReadArguments (start : List Lexeme) (ps0 : List Row) (es0 : List ExprRow) (here : List Lexeme) (ps : List Row) (es : List ExprRow) (word : List ℕ) (place : Place) (more : List ℕ) : Type 0 where

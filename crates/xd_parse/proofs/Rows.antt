@@ -1,8 +1,9 @@
 -- What rows of symbols read, part by part.
-use Rattle.std.proofs.Common.{◌≡◌, ◌≢◌, ℕ, zero, suc, ◌++◌, Bool, true, false, cond, List, [], ◌∷◌, Some, None, refl, sym, ap, subst, ◌∙◌, inl, inr}
+use Rattle.std.proofs.Common.{◌≡◌, ◌≢◌, ℕ, zero, suc, ◌++◌, Bool, true, false, List, [], ◌∷◌, Some, None, refl, sym, ap, subst, ◌∙◌, inl, inr}
 use Rattle.xd_lex.specs.Tokens.{Lexeme}
 use Rattle.xd_parse.specs.declared.grammar.Nonterminal.{Nonterminal}
 use Rattle.xd_parse.specs.declared.grammar.Nonterminal.TheVariants as n
+use Rattle.xd_parse.specs.declared.grammar.Sort.TheVariants as sorts
 use Rattle.xd_parse.specs.declared.grammar.Symbol.TheVariants.{Token, Opening, Closed, Unless, Part}
 use Rattle.xd_parse.specs.declared.grammar.Terminal.{Terminal}
 use Rattle.xd_parse.specs.Grammar.{Row, rules, IsOneOf}
@@ -10,7 +11,7 @@ use Rattle.xd_parse.specs.Fits.{same, fits, first_fit}
 use Rattle.xd_parse.specs.Values.{Value, token_of, token_value, value_of}
 use Rattle.xd_parse.specs.Means.{Means, ends, a_token, an_opening, a_closing, a_bar, a_part, terminal_at}
 use Rattle.xd_parse.specs.Reading.{Reads, front_terminal, front_place, front_text, behind}
-use Rattle.xd_parse.proofs.Derive.{same-of, same-other, may, any_of, is_group, rules_decided, chosen_none, chosen_only}
+use Rattle.xd_parse.proofs.Derive.{same-of, same-other, may, any_of, is_group, rules_decided, chosen_none, chosen_only, all_rows, all_of}
 
 -- ---- what is read, by the row's first symbol
 abbrev pub MeansView : Row → (from to : List Lexeme) → List Value → Type 0
@@ -58,6 +59,10 @@ row_token k row from to vs r rest ws m =
     let e : behind from ≡ v.1 = ap behind v.3 in
     let q : (rest ≡ to) × (v.2 ≡ vs) = r rest v.2 (subst (λ (x : List Lexeme). Means row x rest v.2) (sym e) v.6) in
     (q.0, token_at_front k from to v.0 v.1 v.2 vs ws v.3 v.4 v.5 q.1)
+
+-- where just that token comes next
+pub row_token_where : (k : Terminal) (row : Row) (from to : List Lexeme) (vs : List Value) → (front_terminal from ≡ k → ReadsRow (Token k ∷ row) from to vs) → ReadsRow (Token k ∷ row) from to vs
+row_token_where k row from to vs r rest ws m = let v : MeansView (Token k ∷ row) from rest ws = means_view m in r (ap front_terminal v.3 ∙ v.4) rest ws m
 
 pub row_opening : (k : Terminal) (row : Row) (from to : List Lexeme) (vs : List Value) → ReadsRow row (behind from) to vs → ReadsRow (Opening k ∷ row) from to (token_of k (front_text from) (front_place from) ∷ vs)
 row_opening k row from to vs r rest ws m =
@@ -138,25 +143,8 @@ means_may (suc f) (Part part ∷ made) l ls rest ws k g m =
     any_of (λ (r : Row). may f (r ++ made) k) (rules part) v.0 v.4 (means_may f (v.0 ++ made) l ls rest (v.2 ++ v.3) k g (append_means v.5 made rest v.3 v.6))
 
 -- ---- each nonterminal has a token to come
-left_true : (b c : Bool) → cond b c false ≡ true → b ≡ true
-left_true true c h = refl
-left_true false c h = cc
-
-right_true : (b c : Bool) → cond b c false ≡ true → c ≡ true
-right_true true c h = h
-right_true false c h = cc
-
 false_true : false ≡ true → ⊥
 false_true h = cc
-
-abbrev pub all_rows : (Row → Bool) → List Row → Bool
-all_rows p [] = true
-all_rows p (r ∷ rs) = cond (p r) (all_rows p rs) false
-
-all_of : (p : Row → Bool) (rs : List Row) (made : Row) → IsOneOf made rs → all_rows p rs ≡ true → p made ≡ true
-all_of p [] made one h = absurd one
-all_of p (r ∷ rs) made (inl e) h = subst (λ (x : Row). p x ≡ true) (sym e) (left_true (p r) (all_rows p rs) h)
-all_of p (r ∷ rs) made (inr one) h = all_of p rs made one (right_true (p r) (all_rows p rs) h)
 
 abbrev pub needs : ℕ → Row → Bool
 needs zero row = false
@@ -179,42 +167,19 @@ needs_token (suc f) (Part part ∷ row) rest ws h m =
     needs_token f (v.0 ++ row) rest (v.2 ++ v.3) (all_of (λ (r : Row). needs f (r ++ row)) (rules part) v.0 v.4 h) (append_means v.5 row rest v.3 v.6)
 
 part_needs : (part : Nonterminal) → needs 12 (Part part ∷ []) ≡ true
-part_needs n.Definitions = refl
-part_needs n.Param = refl
-part_needs n.MoreParams = refl
-part_needs n.TypeText = refl
-part_needs n.Type = refl
-part_needs n.MoreTypes = refl
-part_needs n.TypeSeq = refl
-part_needs n.MoreTypeParts = refl
-part_needs n.TypePost = refl
-part_needs n.TypePrim = refl
-part_needs n.TypeGroup = refl
-part_needs n.TypeContent = refl
-part_needs n.Pattern = refl
-part_needs n.MorePatterns = refl
-part_needs n.PatternSeq = refl
-part_needs n.MorePatternParts = refl
-part_needs n.PatternPost = refl
-part_needs n.PatternPrim = refl
-part_needs n.PatternGroup = refl
-part_needs n.PatternContent = refl
-part_needs n.Bound = refl
-part_needs n.Operator = refl
-part_needs n.Class = refl
-part_needs n.Labels = refl
-part_needs n.Names = refl
-part_needs n.MoreNames = refl
-part_needs n.AnyWord = refl
-part_needs n.Expr = refl
-part_needs n.MoreItems = refl
-part_needs n.Item = refl
-part_needs n.ExprContent = refl
-part_needs n.Paren = refl
-part_needs n.ParenContent = refl
-part_needs n.MoreParens = refl
-part_needs n.Clause = refl
-part_needs n.MoreClauses = refl
+part_needs (n.Alternative sorts.Type) = refl
+part_needs (n.Alternative sorts.Pattern) = refl
+part_needs (n.Sequence sorts.Type) = refl
+part_needs (n.Sequence sorts.Pattern) = refl
+part_needs (n.Post sorts.Type) = refl
+part_needs (n.Post sorts.Pattern) = refl
+part_needs (n.Prim sorts.Type) = refl
+part_needs (n.Prim sorts.Pattern) = refl
+part_needs (n.Group sorts.Type) = refl
+part_needs (n.Group sorts.Pattern) = refl
+part_needs (n.Content sorts.Type) = refl
+part_needs (n.Content sorts.Pattern) = refl
+part_needs part = refl
 
 pub empty_means : (part : Nonterminal) (rest : List Lexeme) (ws : List Value) → Means (Part part ∷ []) [] rest ws → ⊥
 empty_means part rest ws m = needs_token 12 (Part part ∷ []) rest ws (part_needs part) m

@@ -1,18 +1,23 @@
 -- The types of a text are no deeper than a text may be nested.
-use Rattle.std.proofs.Common.{◌≡◌, ℕ, List, [], ◌∷◌, subst, arith}
+use Rattle.std.proofs.Common.{◌≡◌, ℕ, List, [], ◌∷◌, length, take, ap, sym, subst, ◌∙◌, arith}
+use Rattle.std.proofs.Math.Seq.{take-append_seam}
 use Rattle.std.specs.List.{AllByRecursion}
 use Rattle.xd_lex.specs.Tokens.{Lexeme, tokens_of}
 use Rattle.xd_syntax.specs.Placed.{PlacedTree}
-use Rattle.xd_syntax.specs.Table.{Row}
+use Rattle.xd_syntax.specs.Table.{KeepsRows, Row}
 use Rattle.xd_syntax.specs.Program.{TypeDefinition, Parameter, FunctionDefinition, ProgramTree}
 use Rattle.xd_syntax.specs.Kept.{ProgramTable, program_tree}
 use Rattle.xd_parse.specs.declared.grammar.Nonterminal.{Nonterminal}
 use Rattle.xd_parse.specs.declared.grammar.Nonterminal.TheVariants as n
+use Rattle.xd_parse.specs.declared.grammar.Sort.TheVariants as sorts
 use Rattle.xd_parse.specs.Text.{SpellsText}
-use Rattle.xd_parse.specs.Values.{Value, a_type, definitions}
+use Rattle.xd_parse.specs.Values.{Value, a_tree, definitions}
 use Rattle.xd_parse.specs.Reading.{Reads, behind}
-use Rattle.xd_parse.specs.Shallow.{AddsWithin, IsShallow, NoDeeper, TreeWithin, ParametersWithin, DefinitionsWithin}
+use Rattle.xd_syntax.specs.Shallow.{AddsWithin, IsShallow}
+use Rattle.xd_parse.specs.Shallow.{NoDeeper, TreeWithin, ParametersWithin, DefinitionsWithin}
+use Rattle.xd_syntax.proofs.ShallowTables.{none_within}
 use Rattle.xd_parse.proofs.Depth.{AnyWithin}
+use Rattle.xd_parse.proofs.Grown.{KeepsRows-refl}
 use Rattle.xd_parse.proofs.Nesting.{Within, ProgramWithin, TypeDefWithin, ParamWithin, FunctionWithin, all_within}
 use Rattle.xd_parse.proofs.Spelled.{read_within}
 use Rattle.xd_parse.proofs.Turned.{type_text_reads}
@@ -43,5 +48,15 @@ pub program_shallow : (bytes : List ℕ) (ls to : List Lexeme) (p : ProgramTable
 program_shallow bytes ls to p s e r d i h =
     d 256 (omega arith) (program_within 256 (program_tree p) (text_within n.Definitions bytes ls to (definitions (program_tree p)) s e r)) i (omega arith) h
 
-pub type_shallow : (bytes : List ℕ) (ls to : List Lexeme) (old new : List Row) (T : PlacedTree) → SpellsText n.TypeText bytes → ls ≡ tokens_of bytes → Reads n.Type ls to (a_type T) → NoDeeper (TreeWithin T) old new → AddsWithin 256 old new
-type_shallow bytes ls to old new T s e r d = d 256 (omega arith) (tree_within 256 T (text_within n.TypeText bytes ls (behind to) (a_type T) s e (type_text_reads ls to T r)))
+pub type_shallow : (bytes : List ℕ) (ls to : List Lexeme) (old new : List Row) (T : PlacedTree) → SpellsText n.TypeText bytes → ls ≡ tokens_of bytes → Reads (n.Alternative sorts.Type) ls to (a_tree T) → NoDeeper (TreeWithin T) old new → AddsWithin 256 old new
+type_shallow bytes ls to old new T s e r d = d 256 (omega arith) (tree_within 256 T (text_within n.TypeText bytes ls (behind to) (a_tree T) s e (type_text_reads ls to T r)))
+
+-- ---- nodes that are taken off again
+pub taken_off : (old grown new : List Row) (k : ℕ) → KeepsRows old grown → k ≡ length old → new ≡ take k grown → new ≡ old
+taken_off old grown new k g l e = e ∙ ap (λ n. take n grown) l ∙ ap (take (length old)) g.grown ∙ take-append_seam old g.more
+
+pub same_keeps : (old new : List Row) → new ≡ old → KeepsRows old new
+same_keeps old new e = subst (λ (rs : List Row). KeepsRows old rs) (sym e) (KeepsRows-refl old)
+
+pub same_within : (old new : List Row) → new ≡ old → AddsWithin 256 old new
+same_within old new e = subst (λ (rs : List Row). AddsWithin 256 old rs) (sym e) (none_within 256 old)

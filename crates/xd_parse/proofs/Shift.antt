@@ -1,20 +1,22 @@
 -- What one symbol on top of the stack does at a token.
-use Rattle.std.proofs.Common.{◌≡◌, ◌<◌, ◌≤◌, ℕ, suc, ◌++◌, Bool, true, false, cond, List, [], ◌∷◌, Option, Some, None, refl, sym, subst, inl, inr, arith}
+use Rattle.std.proofs.Math.Dec.{ltb}
+use Rattle.std.proofs.lemmas.Bool.{ltb-true}
+use Rattle.std.proofs.Common.{◌≡◌, ◌<◌, ◌≤◌, ℕ, suc, ◌+◌, ◌++◌, Bool, true, false, cond, List, [], ◌∷◌, Option, Some, None, refl, sym, subst, inl, inr, arith}
 use Rattle.xd_parse.specs.declared.grammar.Nonterminal.{Nonterminal}
 use Rattle.xd_parse.specs.declared.grammar.Nonterminal.TheVariants as n
 use Rattle.xd_parse.specs.declared.grammar.Symbol.TheVariants.{Token, Opening, Closed, Unless, Part}
 use Rattle.xd_parse.specs.declared.grammar.Terminal.{Terminal}
 use Rattle.xd_parse.specs.declared.grammar.Terminal.TheVariants as t
-use Rattle.xd_parse.specs.declared.machine.Sort.{Sort}
-use Rattle.xd_parse.specs.declared.machine.Sort.TheVariants as sorts
+use Rattle.xd_parse.specs.declared.grammar.Sort.{Sort}
+use Rattle.xd_parse.specs.declared.grammar.Sort.TheVariants as sorts
 use Rattle.xd_parse.specs.declared.machine.Reading.{Reading}
 use Rattle.xd_parse.specs.declared.machine.Reading.TheVariants.{Plain, Opened}
 use Rattle.xd_parse.specs.declared.machine.Step.{Step}
 use Rattle.xd_parse.specs.declared.machine.Step.TheVariants.{Next, Syntax, TooDeep}
 use Rattle.xd_parse.specs.Grammar.{Row, rules, IsOneOf, Extent, Front, Derives, end, token, opening, closed, unless, by}
-use Rattle.xd_parse.specs.Fits.{same, first_fit, work}
+use Rattle.xd_parse.specs.Fits.{same, first_fit, work, cost, is_empty_too}
 use Rattle.xd_parse.specs.Machine.{Reads, prim_group, group_of, entered, Turns, Shifts}
-use Rattle.xd_parse.proofs.Derive.{View, view, same-true, same-false, fits-true, may-true, chosen_none, chosen_is, chosen_only, is_group, rules_decided}
+use Rattle.xd_parse.proofs.Derive.{View, view, same-true, same-false, fits-true, may-true, chosen_none, chosen_is, chosen_only, is_group, rules_decided, all_rows, all_of, left_true, right_true}
 
 pub turns_refl : (d : ℕ) (r : Row) (k : Terminal) → Turns d r k d r
 turns_refl d r k = record { on = λ e l ts h g. g; back = λ e l ts h g. g }
@@ -115,118 +117,59 @@ part_turns d r part k made single is = record {
 
 -- ---- and the work falls
 
+-- how much work a row is, and whether what stands behind it counts too
+abbrev weight : Row → ℕ
+weight [] = 0
+weight (Token j ∷ row) = 1
+weight (Opening j ∷ row) = 1
+weight (Closed ∷ row) = suc (weight row)
+weight (Unless j ∷ row) = suc (weight row)
+weight (Part part ∷ row) = cost part + cond (is_empty_too part) (weight row) 0
+
+abbrev is_open : Row → Bool
+is_open [] = true
+is_open (Token j ∷ row) = false
+is_open (Opening j ∷ row) = false
+is_open (Closed ∷ row) = is_open row
+is_open (Unless j ∷ row) = is_open row
+is_open (Part part ∷ row) = cond (is_empty_too part) (is_open row) false
+
+part_weighs : (b c : Bool) (k w v u : ℕ) → v ≡ w + cond c u 0 → k + cond b v 0 ≡ (k + cond b w 0) + cond (cond b c false) u 0
+part_weighs true true k w v u e = omega arith
+part_weighs true false k w v u e = omega arith
+part_weighs false c k w v u e = omega arith
+
+weighs : (made r : Row) → work (made ++ r) ≡ weight made + cond (is_open made) (work r) 0
+weighs [] r = omega arith
+weighs (Token j ∷ made) r = omega arith
+weighs (Opening j ∷ made) r = omega arith
+weighs (Closed ∷ made) r = let e = weighs made r in omega arith
+weighs (Unless j ∷ made) r = let e = weighs made r in omega arith
+weighs (Part part ∷ made) r = part_weighs (is_empty_too part) (is_open made) (cost part) (weight made) (work (made ++ r)) (work r) (weighs made r)
+
+-- a row of a nonterminal is less work than it
+abbrev is_less : Nonterminal → Row → Bool
+is_less part made = cond (ltb (weight made) (cost part)) (cond (is_open made) (is_empty_too part) true) false
+
+all_less : (part : Nonterminal) → all_rows (is_less part) (rules part) ≡ true
+all_less (n.Post sorts.Type) = refl
+all_less (n.Post sorts.Pattern) = refl
+all_less part = refl
+
+less_at : (b c : Bool) (w k u : ℕ) → w < k → cond b c true ≡ true → w + cond b u 0 < k + cond c u 0
+less_at true true w k u h e = omega arith
+less_at true false w k u h e = cc
+less_at false true w k u h e = omega arith
+less_at false false w k u h e = omega arith
+
 rule_work : (part : Nonterminal) (made r : Row) → IsOneOf made (rules part) → work (made ++ r) < work (Part part ∷ r)
-rule_work n.Definitions made r (inl e) = subst (λ (x : Row). work (x ++ r) < work (Part n.Definitions ∷ r)) (sym e) (omega arith)
-rule_work n.Definitions made r (inr (inl e)) = subst (λ (x : Row). work (x ++ r) < work (Part n.Definitions ∷ r)) (sym e) (omega arith)
-rule_work n.Definitions made r (inr (inr (inl e))) = subst (λ (x : Row). work (x ++ r) < work (Part n.Definitions ∷ r)) (sym e) (omega arith)
-rule_work n.Definitions made r (inr (inr (inr (none)))) = absurd none
-rule_work n.Param made r (inl e) = subst (λ (x : Row). work (x ++ r) < work (Part n.Param ∷ r)) (sym e) (omega arith)
-rule_work n.Param made r (inr (none)) = absurd none
-rule_work n.MoreParams made r (inl e) = subst (λ (x : Row). work (x ++ r) < work (Part n.MoreParams ∷ r)) (sym e) (omega arith)
-rule_work n.MoreParams made r (inr (inl e)) = subst (λ (x : Row). work (x ++ r) < work (Part n.MoreParams ∷ r)) (sym e) (omega arith)
-rule_work n.MoreParams made r (inr (inr (none))) = absurd none
-rule_work n.TypeText made r (inl e) = subst (λ (x : Row). work (x ++ r) < work (Part n.TypeText ∷ r)) (sym e) (omega arith)
-rule_work n.TypeText made r (inr (none)) = absurd none
-rule_work n.Type made r (inl e) = subst (λ (x : Row). work (x ++ r) < work (Part n.Type ∷ r)) (sym e) (omega arith)
-rule_work n.Type made r (inr (none)) = absurd none
-rule_work n.MoreTypes made r (inl e) = subst (λ (x : Row). work (x ++ r) < work (Part n.MoreTypes ∷ r)) (sym e) (omega arith)
-rule_work n.MoreTypes made r (inr (inl e)) = subst (λ (x : Row). work (x ++ r) < work (Part n.MoreTypes ∷ r)) (sym e) (omega arith)
-rule_work n.MoreTypes made r (inr (inr (none))) = absurd none
-rule_work n.TypeSeq made r (inl e) = subst (λ (x : Row). work (x ++ r) < work (Part n.TypeSeq ∷ r)) (sym e) (omega arith)
-rule_work n.TypeSeq made r (inr (none)) = absurd none
-rule_work n.MoreTypeParts made r (inl e) = subst (λ (x : Row). work (x ++ r) < work (Part n.MoreTypeParts ∷ r)) (sym e) (omega arith)
-rule_work n.MoreTypeParts made r (inr (inl e)) = subst (λ (x : Row). work (x ++ r) < work (Part n.MoreTypeParts ∷ r)) (sym e) (omega arith)
-rule_work n.MoreTypeParts made r (inr (inr (none))) = absurd none
-rule_work n.TypePost made r (inl e) = subst (λ (x : Row). work (x ++ r) < work (Part n.TypePost ∷ r)) (sym e) (omega arith)
-rule_work n.TypePost made r (inr (none)) = absurd none
-rule_work n.TypePrim made r (inl e) = subst (λ (x : Row). work (x ++ r) < work (Part n.TypePrim ∷ r)) (sym e) (omega arith)
-rule_work n.TypePrim made r (inr (inl e)) = subst (λ (x : Row). work (x ++ r) < work (Part n.TypePrim ∷ r)) (sym e) (omega arith)
-rule_work n.TypePrim made r (inr (inr (inl e))) = subst (λ (x : Row). work (x ++ r) < work (Part n.TypePrim ∷ r)) (sym e) (omega arith)
-rule_work n.TypePrim made r (inr (inr (inr (none)))) = absurd none
-rule_work n.TypeGroup made r (inl e) = subst (λ (x : Row). work (x ++ r) < work (Part n.TypeGroup ∷ r)) (sym e) (omega arith)
-rule_work n.TypeGroup made r (inr (inl e)) = subst (λ (x : Row). work (x ++ r) < work (Part n.TypeGroup ∷ r)) (sym e) (omega arith)
-rule_work n.TypeGroup made r (inr (inr (none))) = absurd none
-rule_work n.TypeContent made r (inl e) = subst (λ (x : Row). work (x ++ r) < work (Part n.TypeContent ∷ r)) (sym e) (omega arith)
-rule_work n.TypeContent made r (inr (inl e)) = subst (λ (x : Row). work (x ++ r) < work (Part n.TypeContent ∷ r)) (sym e) (omega arith)
-rule_work n.TypeContent made r (inr (inr (none))) = absurd none
-rule_work n.Pattern made r (inl e) = subst (λ (x : Row). work (x ++ r) < work (Part n.Pattern ∷ r)) (sym e) (omega arith)
-rule_work n.Pattern made r (inr (none)) = absurd none
-rule_work n.MorePatterns made r (inl e) = subst (λ (x : Row). work (x ++ r) < work (Part n.MorePatterns ∷ r)) (sym e) (omega arith)
-rule_work n.MorePatterns made r (inr (inl e)) = subst (λ (x : Row). work (x ++ r) < work (Part n.MorePatterns ∷ r)) (sym e) (omega arith)
-rule_work n.MorePatterns made r (inr (inr (none))) = absurd none
-rule_work n.PatternSeq made r (inl e) = subst (λ (x : Row). work (x ++ r) < work (Part n.PatternSeq ∷ r)) (sym e) (omega arith)
-rule_work n.PatternSeq made r (inr (none)) = absurd none
-rule_work n.MorePatternParts made r (inl e) = subst (λ (x : Row). work (x ++ r) < work (Part n.MorePatternParts ∷ r)) (sym e) (omega arith)
-rule_work n.MorePatternParts made r (inr (inl e)) = subst (λ (x : Row). work (x ++ r) < work (Part n.MorePatternParts ∷ r)) (sym e) (omega arith)
-rule_work n.MorePatternParts made r (inr (inr (none))) = absurd none
-rule_work n.PatternPost made r (inl e) = subst (λ (x : Row). work (x ++ r) < work (Part n.PatternPost ∷ r)) (sym e) (omega arith)
-rule_work n.PatternPost made r (inr (inl e)) = subst (λ (x : Row). work (x ++ r) < work (Part n.PatternPost ∷ r)) (sym e) (omega arith)
-rule_work n.PatternPost made r (inr (inr (none))) = absurd none
-rule_work n.PatternPrim made r (inl e) = subst (λ (x : Row). work (x ++ r) < work (Part n.PatternPrim ∷ r)) (sym e) (omega arith)
-rule_work n.PatternPrim made r (inr (inl e)) = subst (λ (x : Row). work (x ++ r) < work (Part n.PatternPrim ∷ r)) (sym e) (omega arith)
-rule_work n.PatternPrim made r (inr (inr (inl e))) = subst (λ (x : Row). work (x ++ r) < work (Part n.PatternPrim ∷ r)) (sym e) (omega arith)
-rule_work n.PatternPrim made r (inr (inr (inr (none)))) = absurd none
-rule_work n.PatternGroup made r (inl e) = subst (λ (x : Row). work (x ++ r) < work (Part n.PatternGroup ∷ r)) (sym e) (omega arith)
-rule_work n.PatternGroup made r (inr (inl e)) = subst (λ (x : Row). work (x ++ r) < work (Part n.PatternGroup ∷ r)) (sym e) (omega arith)
-rule_work n.PatternGroup made r (inr (inr (none))) = absurd none
-rule_work n.PatternContent made r (inl e) = subst (λ (x : Row). work (x ++ r) < work (Part n.PatternContent ∷ r)) (sym e) (omega arith)
-rule_work n.PatternContent made r (inr (inl e)) = subst (λ (x : Row). work (x ++ r) < work (Part n.PatternContent ∷ r)) (sym e) (omega arith)
-rule_work n.PatternContent made r (inr (inr (none))) = absurd none
-rule_work n.Bound made r (inl e) = subst (λ (x : Row). work (x ++ r) < work (Part n.Bound ∷ r)) (sym e) (omega arith)
-rule_work n.Bound made r (inr (inl e)) = subst (λ (x : Row). work (x ++ r) < work (Part n.Bound ∷ r)) (sym e) (omega arith)
-rule_work n.Bound made r (inr (inr (none))) = absurd none
-rule_work n.Operator made r (inl e) = subst (λ (x : Row). work (x ++ r) < work (Part n.Operator ∷ r)) (sym e) (omega arith)
-rule_work n.Operator made r (inr (inl e)) = subst (λ (x : Row). work (x ++ r) < work (Part n.Operator ∷ r)) (sym e) (omega arith)
-rule_work n.Operator made r (inr (inr (inl e))) = subst (λ (x : Row). work (x ++ r) < work (Part n.Operator ∷ r)) (sym e) (omega arith)
-rule_work n.Operator made r (inr (inr (inr (inl e)))) = subst (λ (x : Row). work (x ++ r) < work (Part n.Operator ∷ r)) (sym e) (omega arith)
-rule_work n.Operator made r (inr (inr (inr (inr (none))))) = absurd none
-rule_work n.Class made r (inl e) = subst (λ (x : Row). work (x ++ r) < work (Part n.Class ∷ r)) (sym e) (omega arith)
-rule_work n.Class made r (inr (inl e)) = subst (λ (x : Row). work (x ++ r) < work (Part n.Class ∷ r)) (sym e) (omega arith)
-rule_work n.Class made r (inr (inr (inl e))) = subst (λ (x : Row). work (x ++ r) < work (Part n.Class ∷ r)) (sym e) (omega arith)
-rule_work n.Class made r (inr (inr (inr (none)))) = absurd none
-rule_work n.Labels made r (inl e) = subst (λ (x : Row). work (x ++ r) < work (Part n.Labels ∷ r)) (sym e) (omega arith)
-rule_work n.Labels made r (inr (inl e)) = subst (λ (x : Row). work (x ++ r) < work (Part n.Labels ∷ r)) (sym e) (omega arith)
-rule_work n.Labels made r (inr (inr (none))) = absurd none
-rule_work n.Names made r (inl e) = subst (λ (x : Row). work (x ++ r) < work (Part n.Names ∷ r)) (sym e) (omega arith)
-rule_work n.Names made r (inr (none)) = absurd none
-rule_work n.MoreNames made r (inl e) = subst (λ (x : Row). work (x ++ r) < work (Part n.MoreNames ∷ r)) (sym e) (omega arith)
-rule_work n.MoreNames made r (inr (inl e)) = subst (λ (x : Row). work (x ++ r) < work (Part n.MoreNames ∷ r)) (sym e) (omega arith)
-rule_work n.MoreNames made r (inr (inr (none))) = absurd none
-rule_work n.AnyWord made r (inl e) = subst (λ (x : Row). work (x ++ r) < work (Part n.AnyWord ∷ r)) (sym e) (omega arith)
-rule_work n.AnyWord made r (inr (inl e)) = subst (λ (x : Row). work (x ++ r) < work (Part n.AnyWord ∷ r)) (sym e) (omega arith)
-rule_work n.AnyWord made r (inr (inr (inl e))) = subst (λ (x : Row). work (x ++ r) < work (Part n.AnyWord ∷ r)) (sym e) (omega arith)
-rule_work n.AnyWord made r (inr (inr (inr (inl e)))) = subst (λ (x : Row). work (x ++ r) < work (Part n.AnyWord ∷ r)) (sym e) (omega arith)
-rule_work n.AnyWord made r (inr (inr (inr (inr (inl e))))) = subst (λ (x : Row). work (x ++ r) < work (Part n.AnyWord ∷ r)) (sym e) (omega arith)
-rule_work n.AnyWord made r (inr (inr (inr (inr (inr (inl e)))))) = subst (λ (x : Row). work (x ++ r) < work (Part n.AnyWord ∷ r)) (sym e) (omega arith)
-rule_work n.AnyWord made r (inr (inr (inr (inr (inr (inr (inl e))))))) = subst (λ (x : Row). work (x ++ r) < work (Part n.AnyWord ∷ r)) (sym e) (omega arith)
-rule_work n.AnyWord made r (inr (inr (inr (inr (inr (inr (inr (none)))))))) = absurd none
-rule_work n.Expr made r (inl e) = subst (λ (x : Row). work (x ++ r) < work (Part n.Expr ∷ r)) (sym e) (omega arith)
-rule_work n.Expr made r (inr (none)) = absurd none
-rule_work n.MoreItems made r (inl e) = subst (λ (x : Row). work (x ++ r) < work (Part n.MoreItems ∷ r)) (sym e) (omega arith)
-rule_work n.MoreItems made r (inr (inl e)) = subst (λ (x : Row). work (x ++ r) < work (Part n.MoreItems ∷ r)) (sym e) (omega arith)
-rule_work n.MoreItems made r (inr (inr (none))) = absurd none
-rule_work n.Item made r (inl e) = subst (λ (x : Row). work (x ++ r) < work (Part n.Item ∷ r)) (sym e) (omega arith)
-rule_work n.Item made r (inr (inl e)) = subst (λ (x : Row). work (x ++ r) < work (Part n.Item ∷ r)) (sym e) (omega arith)
-rule_work n.Item made r (inr (inr (inl e))) = subst (λ (x : Row). work (x ++ r) < work (Part n.Item ∷ r)) (sym e) (omega arith)
-rule_work n.Item made r (inr (inr (inr (inl e)))) = subst (λ (x : Row). work (x ++ r) < work (Part n.Item ∷ r)) (sym e) (omega arith)
-rule_work n.Item made r (inr (inr (inr (inr (inl e))))) = subst (λ (x : Row). work (x ++ r) < work (Part n.Item ∷ r)) (sym e) (omega arith)
-rule_work n.Item made r (inr (inr (inr (inr (inr (none)))))) = absurd none
-rule_work n.ExprContent made r (inl e) = subst (λ (x : Row). work (x ++ r) < work (Part n.ExprContent ∷ r)) (sym e) (omega arith)
-rule_work n.ExprContent made r (inr (inl e)) = subst (λ (x : Row). work (x ++ r) < work (Part n.ExprContent ∷ r)) (sym e) (omega arith)
-rule_work n.ExprContent made r (inr (inr (none))) = absurd none
-rule_work n.Paren made r (inl e) = subst (λ (x : Row). work (x ++ r) < work (Part n.Paren ∷ r)) (sym e) (omega arith)
-rule_work n.Paren made r (inr (none)) = absurd none
-rule_work n.ParenContent made r (inl e) = subst (λ (x : Row). work (x ++ r) < work (Part n.ParenContent ∷ r)) (sym e) (omega arith)
-rule_work n.ParenContent made r (inr (inl e)) = subst (λ (x : Row). work (x ++ r) < work (Part n.ParenContent ∷ r)) (sym e) (omega arith)
-rule_work n.ParenContent made r (inr (inr (none))) = absurd none
-rule_work n.MoreParens made r (inl e) = subst (λ (x : Row). work (x ++ r) < work (Part n.MoreParens ∷ r)) (sym e) (omega arith)
-rule_work n.MoreParens made r (inr (inl e)) = subst (λ (x : Row). work (x ++ r) < work (Part n.MoreParens ∷ r)) (sym e) (omega arith)
-rule_work n.MoreParens made r (inr (inr (none))) = absurd none
-rule_work n.Clause made r (inl e) = subst (λ (x : Row). work (x ++ r) < work (Part n.Clause ∷ r)) (sym e) (omega arith)
-rule_work n.Clause made r (inr (none)) = absurd none
-rule_work n.MoreClauses made r (inl e) = subst (λ (x : Row). work (x ++ r) < work (Part n.MoreClauses ∷ r)) (sym e) (omega arith)
-rule_work n.MoreClauses made r (inr (inl e)) = subst (λ (x : Row). work (x ++ r) < work (Part n.MoreClauses ∷ r)) (sym e) (omega arith)
-rule_work n.MoreClauses made r (inr (inr (none))) = absurd none
+rule_work part made r one =
+    let h : is_less part made ≡ true = all_of (is_less part) (rules part) made one (all_less part) in
+    let a : ltb (weight made) (cost part) ≡ true = left_true (ltb (weight made) (cost part)) (cond (is_open made) (is_empty_too part) true) h in
+    let b : cond (is_open made) (is_empty_too part) true ≡ true = right_true (ltb (weight made) (cost part)) (cond (is_open made) (is_empty_too part) true) h in
+    let e = weighs made r in
+    let l = less_at (is_open made) (is_empty_too part) (weight made) (cost part) (work r) (ltb-true (weight made) (cost part) a) b in
+    omega arith
 
 pub part_work : (r : Row) (part : Nonterminal) (k : Terminal) (made : Row) → first_fit (rules part) k ≡ Some made → work (made ++ r) < work (Part part ∷ r)
 part_work r part k made is = rule_work part made r (chosen_is (rules part) k made is)
@@ -234,6 +177,12 @@ part_work r part k made is = rule_work part made r (chosen_is (rules part) k mad
 -- ---- a parenthesis in a type or a pattern
 word_paren : t.Word ≡ t.ParenL → ⊥
 word_paren e = cc
+
+text_paren : t.Text ≡ t.ParenL → ⊥
+text_paren e = cc
+
+caret_paren : t.Caret ≡ t.ParenL → ⊥
+caret_paren e = cc
 
 class_turns : (d : ℕ) (r : Row) → Turns d (Part n.Class ∷ r) t.ParenL d (Opening t.ParenL ∷ Part n.AnyWord ∷ Part n.MoreNames ∷ Token t.ParenR ∷ Closed ∷ Opening t.BracketL ∷ r)
 class_turns d r =
@@ -243,57 +192,33 @@ class_turns d r =
     (part_turns d r n.Labels t.ParenL (Part n.Names ∷ Opening t.BracketL ∷ []) refl refl)
     (part_turns d (Opening t.BracketL ∷ r) n.Names t.ParenL (Opening t.ParenL ∷ Part n.AnyWord ∷ Part n.MoreNames ∷ Token t.ParenR ∷ Closed ∷ []) refl refl))
 
-group_rows_type : (e : Extent) (l d : ℕ) (r : Row) (ts : List Terminal) → 256 ≤ l → Derives e l d (Part n.TypePrim ∷ r) (t.ParenL ∷ ts) → (d < l) × Reads (Opened sorts.Type) e l (suc d) r ts
-group_rows_type e l d r ts h g = elim ((view g t.ParenL ts refl).1) [
+group_rows : (s : Sort) (e : Extent) (l d : ℕ) (r : Row) (ts : List Terminal) → 256 ≤ l → Derives e l d (Part (n.Prim s) ∷ r) (t.ParenL ∷ ts) → (d < l) × Reads (Opened s) e l (suc d) r ts
+group_rows s e l d r ts h g = elim ((view g t.ParenL ts refl).1) [
   | inl q ↦ (let w : View e l d (Token t.Word ∷ r) t.ParenL ts = view (subst (λ (x : Row). Derives e l d (x ++ r) (t.ParenL ∷ ts)) q (view g t.ParenL ts refl).2) t.ParenL ts refl in absurd (word_paren w.0))
-  | inr (inl q) ↦ (let w : View e l d (Opening t.ParenL ∷ Part n.TypeGroup ∷ r) t.ParenL ts = view (subst (λ (x : Row). Derives e l d (x ++ r) (t.ParenL ∷ ts)) q (view g t.ParenL ts refl).2) t.ParenL ts refl in (w.1, inl w.2))
-  | inr (inr (inl q)) ↦ (let w : View e l d (Opening t.ParenL ∷ Part n.AnyWord ∷ Part n.MoreNames ∷ Token t.ParenR ∷ Closed ∷ Opening t.BracketL ∷ Part n.TypeContent ∷ r) t.ParenL ts = view ((class_turns d (Part n.TypeContent ∷ r)).on e l ts h (subst (λ (x : Row). Derives e l d (x ++ r) (t.ParenL ∷ ts)) q (view g t.ParenL ts refl).2)) t.ParenL ts refl in (w.1, inr w.2))
-  | inr (inr (inr none)) ↦ absurd none
+  | inr (inl q) ↦ (let w : View e l d (Opening t.ParenL ∷ Part (n.Group s) ∷ r) t.ParenL ts = view (subst (λ (x : Row). Derives e l d (x ++ r) (t.ParenL ∷ ts)) q (view g t.ParenL ts refl).2) t.ParenL ts refl in (w.1, inl w.2))
+  | inr (inr (inl q)) ↦ (let w : View e l d (Token t.Text ∷ r) t.ParenL ts = view (subst (λ (x : Row). Derives e l d (x ++ r) (t.ParenL ∷ ts)) q (view g t.ParenL ts refl).2) t.ParenL ts refl in absurd (text_paren w.0))
+  | inr (inr (inr (inl q))) ↦ (let w : View e l d (Token t.Caret ∷ Part (n.Excepted s) ∷ r) t.ParenL ts = view (subst (λ (x : Row). Derives e l d (x ++ r) (t.ParenL ∷ ts)) q (view g t.ParenL ts refl).2) t.ParenL ts refl in absurd (caret_paren w.0))
+  | inr (inr (inr (inr (inl q)))) ↦ (let w : View e l d (Opening t.ParenL ∷ Part n.AnyWord ∷ Part n.MoreNames ∷ Token t.ParenR ∷ Closed ∷ Opening t.BracketL ∷ Part (n.Content s) ∷ r) t.ParenL ts = view ((class_turns d (Part (n.Content s) ∷ r)).on e l ts h (subst (λ (x : Row). Derives e l d (x ++ r) (t.ParenL ∷ ts)) q (view g t.ParenL ts refl).2)) t.ParenL ts refl in (w.1, inr w.2))
+  | inr (inr (inr (inr (inr none)))) ↦ absurd none
 ]
 
-group_back_type : (e : Extent) (l d : ℕ) (r : Row) (ts : List Terminal) → 256 ≤ l → d < l → Reads (Opened sorts.Type) e l (suc d) r ts → Derives e l d (Part n.TypePrim ∷ r) (t.ParenL ∷ ts)
-group_back_type e l d r ts h low (inl g) = by (Opening t.ParenL ∷ Part n.TypeGroup ∷ []) (inr (inl refl)) (opening low g)
-group_back_type e l d r ts h low (inr g) = by (Part n.Class ∷ Part n.TypeContent ∷ []) (inr (inr (inl refl))) ((class_turns d (Part n.TypeContent ∷ r)).back e l ts h (opening low g))
+group_back : (s : Sort) (e : Extent) (l d : ℕ) (r : Row) (ts : List Terminal) → 256 ≤ l → d < l → Reads (Opened s) e l (suc d) r ts → Derives e l d (Part (n.Prim s) ∷ r) (t.ParenL ∷ ts)
+group_back s e l d r ts h low (inl g) = by (Opening t.ParenL ∷ Part (n.Group s) ∷ []) (inr (inl refl)) (opening low g)
+group_back s e l d r ts h low (inr g) = by (Part n.Class ∷ Part (n.Content s) ∷ []) (inr (inr (inr (inr (inl refl))))) ((class_turns d (Part (n.Content s) ∷ r)).back e l ts h (opening low g))
 
-group_enters_type : (d : ℕ) (r : Row) (step : Step) (f : ℕ) → entered d (Opened sorts.Type) step f → Shifts d (Part n.TypePrim ∷ r) t.ParenL step f r
-group_enters_type d r (Next next) f (is, low, new) =
-    subst (λ (x : Reading). Shifts d (Part n.TypePrim ∷ r) t.ParenL (Next x) f r) (sym is) (subst (λ (x : ℕ). Shifts d (Part n.TypePrim ∷ r) t.ParenL (Next (Opened sorts.Type)) x r) (sym new) (record {
-      on = λ e l ts h g. (group_rows_type e l d r ts h g).1;
-      back = λ e l ts h g. group_back_type e l d r ts h (omega arith) g;
+group_enters_by : (s : Sort) (d : ℕ) (r : Row) (step : Step) (f : ℕ) → entered d (Opened s) step f → Shifts d (Part (n.Prim s) ∷ r) t.ParenL step f r
+group_enters_by s d r (Next next) f (is, low, new) =
+    subst (λ (x : Reading). Shifts d (Part (n.Prim s) ∷ r) t.ParenL (Next x) f r) (sym is) (subst (λ (x : ℕ). Shifts d (Part (n.Prim s) ∷ r) t.ParenL (Next (Opened s)) x r) (sym new) (record {
+      on = λ e l ts h g. (group_rows s e l d r ts h g).1;
+      back = λ e l ts h g. group_back s e l d r ts h (omega arith) g;
     }))
-group_enters_type d r TooDeep f high = record {
-  dead = λ e ts g. absurd (let low : d < 256 = (group_rows_type e 256 d r ts (omega arith) g).0 in omega arith);
+group_enters_by s d r TooDeep f high = record {
+  dead = λ e ts g. absurd (let low : d < 256 = (group_rows s e 256 d r ts (omega arith) g).0 in omega arith);
   limit = suc d;
   above = omega arith;
-  alive = by (Opening t.ParenL ∷ Part n.TypeGroup ∷ []) (inr (inl refl)) (opening (omega arith) (end tt));
+  alive = by (Opening t.ParenL ∷ Part (n.Group s) ∷ []) (inr (inl refl)) (opening (omega arith) (end tt));
 }
-group_enters_type d r Syntax f none = absurd none
-
-group_rows_pattern : (e : Extent) (l d : ℕ) (r : Row) (ts : List Terminal) → 256 ≤ l → Derives e l d (Part n.PatternPrim ∷ r) (t.ParenL ∷ ts) → (d < l) × Reads (Opened sorts.Pattern) e l (suc d) r ts
-group_rows_pattern e l d r ts h g = elim ((view g t.ParenL ts refl).1) [
-  | inl q ↦ (let w : View e l d (Token t.Word ∷ r) t.ParenL ts = view (subst (λ (x : Row). Derives e l d (x ++ r) (t.ParenL ∷ ts)) q (view g t.ParenL ts refl).2) t.ParenL ts refl in absurd (word_paren w.0))
-  | inr (inl q) ↦ (let w : View e l d (Opening t.ParenL ∷ Part n.PatternGroup ∷ r) t.ParenL ts = view (subst (λ (x : Row). Derives e l d (x ++ r) (t.ParenL ∷ ts)) q (view g t.ParenL ts refl).2) t.ParenL ts refl in (w.1, inl w.2))
-  | inr (inr (inl q)) ↦ (let w : View e l d (Opening t.ParenL ∷ Part n.AnyWord ∷ Part n.MoreNames ∷ Token t.ParenR ∷ Closed ∷ Opening t.BracketL ∷ Part n.PatternContent ∷ r) t.ParenL ts = view ((class_turns d (Part n.PatternContent ∷ r)).on e l ts h (subst (λ (x : Row). Derives e l d (x ++ r) (t.ParenL ∷ ts)) q (view g t.ParenL ts refl).2)) t.ParenL ts refl in (w.1, inr w.2))
-  | inr (inr (inr none)) ↦ absurd none
-]
-
-group_back_pattern : (e : Extent) (l d : ℕ) (r : Row) (ts : List Terminal) → 256 ≤ l → d < l → Reads (Opened sorts.Pattern) e l (suc d) r ts → Derives e l d (Part n.PatternPrim ∷ r) (t.ParenL ∷ ts)
-group_back_pattern e l d r ts h low (inl g) = by (Opening t.ParenL ∷ Part n.PatternGroup ∷ []) (inr (inl refl)) (opening low g)
-group_back_pattern e l d r ts h low (inr g) = by (Part n.Class ∷ Part n.PatternContent ∷ []) (inr (inr (inl refl))) ((class_turns d (Part n.PatternContent ∷ r)).back e l ts h (opening low g))
-
-group_enters_pattern : (d : ℕ) (r : Row) (step : Step) (f : ℕ) → entered d (Opened sorts.Pattern) step f → Shifts d (Part n.PatternPrim ∷ r) t.ParenL step f r
-group_enters_pattern d r (Next next) f (is, low, new) =
-    subst (λ (x : Reading). Shifts d (Part n.PatternPrim ∷ r) t.ParenL (Next x) f r) (sym is) (subst (λ (x : ℕ). Shifts d (Part n.PatternPrim ∷ r) t.ParenL (Next (Opened sorts.Pattern)) x r) (sym new) (record {
-      on = λ e l ts h g. (group_rows_pattern e l d r ts h g).1;
-      back = λ e l ts h g. group_back_pattern e l d r ts h (omega arith) g;
-    }))
-group_enters_pattern d r TooDeep f high = record {
-  dead = λ e ts g. absurd (let low : d < 256 = (group_rows_pattern e 256 d r ts (omega arith) g).0 in omega arith);
-  limit = suc d;
-  above = omega arith;
-  alive = by (Opening t.ParenL ∷ Part n.PatternGroup ∷ []) (inr (inl refl)) (opening (omega arith) (end tt));
-}
-group_enters_pattern d r Syntax f none = absurd none
+group_enters_by s d r Syntax f none = absurd none
 
 none_some : (s : Sort) → None ≡ Some s → ⊥
 none_some s e = cc
@@ -302,8 +227,7 @@ some_sort : (s q : Sort) → Some s ≡ Some q → s ≡ q
 some_sort s q e = cc
 
 prim_enters : (part : Nonterminal) (sort : Sort) (d : ℕ) (r : Row) (step : Step) (f : ℕ) → prim_group part ≡ Some sort → entered d (Opened sort) step f → Shifts d (Part part ∷ r) t.ParenL step f r
-prim_enters n.TypePrim sort d r step f is en = group_enters_type d r step f (subst (λ (x : Sort). entered d (Opened x) step f) (sym (some_sort sorts.Type sort is)) en)
-prim_enters n.PatternPrim sort d r step f is en = group_enters_pattern d r step f (subst (λ (x : Sort). entered d (Opened x) step f) (sym (some_sort sorts.Pattern sort is)) en)
+prim_enters (n.Prim s) sort d r step f is en = group_enters_by s d r step f (subst (λ (x : Sort). entered d (Opened x) step f) (sym (some_sort s sort is)) en)
 prim_enters part sort d r step f is en = absurd (none_some sort is)
 
 group_at : (b : Bool) (o : Option Sort) (sort : Sort) → cond b o None ≡ Some sort → (b ≡ true) × (o ≡ Some sort)
@@ -320,8 +244,7 @@ not_at true s e = absurd (none_some s (sym e))
 not_at false s e = refl
 
 not_group : (part : Nonterminal) (k : Terminal) → group_of part k ≡ None → is_group part k ≡ false
-not_group n.TypePrim k e = not_at (same t.ParenL k) sorts.Type e
-not_group n.PatternPrim k e = not_at (same t.ParenL k) sorts.Pattern e
+not_group (n.Prim s) k e = not_at (same t.ParenL k) s e
 not_group part k e = refl
 
 pub part_goes : (d : ℕ) (r : Row) (part : Nonterminal) (k : Terminal) (made : Row) → group_of part k ≡ None → first_fit (rules part) k ≡ Some made → Turns d (Part part ∷ r) k d (made ++ r) × (work (made ++ r) < work (Part part ∷ r))

@@ -5,10 +5,10 @@ use Rattle.xd_syntax.specs.Placed.{PlacedTree}
 use Rattle.xd_syntax.specs.Program.{ProgramTree}
 use Rattle.xd_parse.specs.declared.grammar.Nonterminal.{Nonterminal}
 use Rattle.xd_parse.specs.declared.grammar.Nonterminal.TheVariants as n
-use Rattle.xd_parse.specs.declared.grammar.Symbol.TheVariants.{Token}
+use Rattle.xd_parse.specs.declared.grammar.Symbol.TheVariants.{Token, Part}
+use Rattle.xd_parse.specs.declared.grammar.Terminal.{Terminal}
 use Rattle.xd_parse.specs.declared.grammar.Terminal.TheVariants as t
-use Rattle.xd_parse.specs.declared.machine.Sort.{Sort}
-use Rattle.xd_parse.specs.declared.machine.Sort.TheVariants as sorts
+use Rattle.xd_parse.specs.declared.grammar.Sort.{Sort}
 use Rattle.xd_parse.specs.declared.machine.Reading.{Reading}
 use Rattle.xd_parse.specs.declared.machine.Reading.TheVariants.{Opened}
 use Rattle.xd_parse.specs.declared.machine.Course.{Course}
@@ -16,7 +16,7 @@ use Rattle.xd_parse.specs.declared.machine.Course.TheVariants.{Both, Main, Liste
 use Rattle.xd_parse.specs.Grammar.{Row, rules, IsOneOf}
 use Rattle.xd_parse.specs.Fits.{same, fits, first_fit}
 use Rattle.xd_parse.specs.Machine.{course}
-use Rattle.xd_parse.specs.Values.{Value, a_type, definitions, value_of}
+use Rattle.xd_parse.specs.Values.{Value, a_tree, definitions, value_of}
 use Rattle.xd_parse.specs.Means.{Means, ends, a_token, an_opening, a_closing, a_bar, a_part, terminal_at}
 use Rattle.xd_parse.specs.Laws.{TextsMeanOneThing}
 use Rattle.xd_parse.specs.Reading.{Reads, front_terminal, group_row, element_row, SpellNo}
@@ -40,28 +40,30 @@ both_or_one sort reading from (l ∷ ls) b = go (course reading (terminal_at l))
     go (Both next) e more = more next (readings_go sort reading next from (l ∷ ls) b e)
 
 one_row_dead : (sort : Sort) (from : List Lexeme) → front_terminal from ≡ t.ParenL → SpellNo (element_row sort) from ⊎ SpellNo (group_row sort) from
-one_row_dead sorts.Type from e = both_or_one sorts.Type (Opened sorts.Type) from _ (readings_begin sorts.Type from e)
-one_row_dead sorts.Pattern from e = both_or_one sorts.Pattern (Opened sorts.Pattern) from _ (readings_begin sorts.Pattern from e)
+one_row_dead s from e = both_or_one s (Opened s) from _ (readings_begin s from e)
 
 abbrev prim_rows : Sort → List Row
-prim_rows sort = (Token t.Word ∷ []) ∷ (group_row sort ∷ (element_row sort ∷ []))
+prim_rows sort = (Token t.Word ∷ []) ∷ group_row sort ∷ (Token t.Text ∷ []) ∷ (Token t.Caret ∷ Part (n.Excepted sort) ∷ []) ∷ element_row sort ∷ []
 
-no_word : (l : Lexeme) (ls rest : List Lexeme) (ws : List Value) (made : Row) → terminal_at l ≡ t.ParenL → made ≡ Token t.Word ∷ [] → Means made (l ∷ ls) rest ws → ⊥
-no_word l ls rest ws made e q m =
-    let f : fits (Token t.Word ∷ []) t.ParenL ≡ true = means_fits (Token t.Word ∷ []) l ls rest ws t.ParenL e (subst (λ (r : Row). Means r (l ∷ ls) rest ws) q m) in
-    let g : false ≡ true = f in cc
+no_token : (k : Terminal) (row : Row) (l : Lexeme) (ls rest : List Lexeme) (ws : List Value) (made : Row) → same k t.ParenL ≡ false → terminal_at l ≡ t.ParenL → made ≡ Token k ∷ row → Means made (l ∷ ls) rest ws → ⊥
+no_token k row l ls rest ws made h e q m =
+    let f : fits (Token k ∷ row) t.ParenL ≡ true = means_fits (Token k ∷ row) l ls rest ws t.ParenL e (subst (λ (r : Row). Means r (l ∷ ls) rest ws) q m) in cc
 
 group_alive : (sort : Sort) (l : Lexeme) (ls rest : List Lexeme) (ws : List Value) (made : Row) → terminal_at l ≡ t.ParenL → SpellNo (element_row sort) (l ∷ ls) → IsOneOf made (prim_rows sort) → Means made (l ∷ ls) rest ws → made ≡ group_row sort
-group_alive sort l ls rest ws made e dead (inl q) m = absurd (no_word l ls rest ws made e q m)
+group_alive sort l ls rest ws made e dead (inl q) m = absurd (no_token t.Word _ l ls rest ws made refl e q m)
 group_alive sort l ls rest ws made e dead (inr (inl q)) m = q
-group_alive sort l ls rest ws made e dead (inr (inr (inl q))) m = absurd (dead rest ws (subst (λ (r : Row). Means r (l ∷ ls) rest ws) q m))
-group_alive sort l ls rest ws made e dead (inr (inr (inr h))) m = absurd h
+group_alive sort l ls rest ws made e dead (inr (inr (inl q))) m = absurd (no_token t.Text _ l ls rest ws made refl e q m)
+group_alive sort l ls rest ws made e dead (inr (inr (inr (inl q)))) m = absurd (no_token t.Caret _ l ls rest ws made refl e q m)
+group_alive sort l ls rest ws made e dead (inr (inr (inr (inr (inl q))))) m = absurd (dead rest ws (subst (λ (r : Row). Means r (l ∷ ls) rest ws) q m))
+group_alive sort l ls rest ws made e dead (inr (inr (inr (inr (inr h))))) m = absurd h
 
 element_alive : (sort : Sort) (l : Lexeme) (ls rest : List Lexeme) (ws : List Value) (made : Row) → terminal_at l ≡ t.ParenL → SpellNo (group_row sort) (l ∷ ls) → IsOneOf made (prim_rows sort) → Means made (l ∷ ls) rest ws → made ≡ element_row sort
-element_alive sort l ls rest ws made e dead (inl q) m = absurd (no_word l ls rest ws made e q m)
+element_alive sort l ls rest ws made e dead (inl q) m = absurd (no_token t.Word _ l ls rest ws made refl e q m)
 element_alive sort l ls rest ws made e dead (inr (inl q)) m = absurd (dead rest ws (subst (λ (r : Row). Means r (l ∷ ls) rest ws) q m))
-element_alive sort l ls rest ws made e dead (inr (inr (inl q))) m = q
-element_alive sort l ls rest ws made e dead (inr (inr (inr h))) m = absurd h
+element_alive sort l ls rest ws made e dead (inr (inr (inl q))) m = absurd (no_token t.Text _ l ls rest ws made refl e q m)
+element_alive sort l ls rest ws made e dead (inr (inr (inr (inl q)))) m = absurd (no_token t.Caret _ l ls rest ws made refl e q m)
+element_alive sort l ls rest ws made e dead (inr (inr (inr (inr (inl q))))) m = q
+element_alive sort l ls rest ws made e dead (inr (inr (inr (inr (inr h))))) m = absurd h
 
 prim_only : (sort : Sort) (l : Lexeme) (ls : List Lexeme) (made other : Row) (rest rest2 : List Lexeme) (ws ws2 : List Value) → terminal_at l ≡ t.ParenL → IsOneOf made (prim_rows sort) → IsOneOf other (prim_rows sort) → Means made (l ∷ ls) rest ws → Means other (l ∷ ls) rest2 ws2 → other ≡ made
 prim_only sort l ls made other rest rest2 ws ws2 e one two m k =
@@ -86,8 +88,7 @@ prim_at sort part true l ls made other rest rest2 ws ws2 e g q one two m k =
 prim_at sort part false l ls made other rest rest2 ws ws2 e g q one two m k = plain_only part l ls made other rest rest2 ws ws2 g one two m k
 
 only : (part : Nonterminal) (l : Lexeme) (ls : List Lexeme) (made other : Row) (rest rest2 : List Lexeme) (ws ws2 : List Value) → IsOneOf made (rules part) → IsOneOf other (rules part) → Means made (l ∷ ls) rest ws → Means other (l ∷ ls) rest2 ws2 → other ≡ made
-only n.TypePrim l ls made other rest rest2 ws ws2 one two m k = prim_at sorts.Type n.TypePrim (same t.ParenL (terminal_at l)) l ls made other rest rest2 ws ws2 refl refl refl one two m k
-only n.PatternPrim l ls made other rest rest2 ws ws2 one two m k = prim_at sorts.Pattern n.PatternPrim (same t.ParenL (terminal_at l)) l ls made other rest rest2 ws ws2 refl refl refl one two m k
+only (n.Prim s) l ls made other rest rest2 ws ws2 one two m k = prim_at s (n.Prim s) (same t.ParenL (terminal_at l)) l ls made other rest rest2 ws ws2 refl refl refl one two m k
 only part l ls made other rest rest2 ws ws2 one two m k = plain_only part l ls made other rest rest2 ws ws2 refl one two m k
 
 part_sure : (part : Nonterminal) (made : Row) (from middle : List Lexeme) (parts : List Value) → IsOneOf made (rules part) → Means made from middle parts → ReadsRow made from middle parts → Reads part from middle (value_of part parts)
@@ -107,11 +108,11 @@ sure (a_part {part = part} made {row = row} {ls = ls} {middle = middle} {rest = 
 same_program : (P Q : ProgramTree) → definitions Q ∷ [] ≡ definitions P ∷ [] → P ≡ Q
 same_program P Q e = cc
 
-same_type : (T U : PlacedTree) → a_type U ∷ [] ≡ a_type T ∷ [] → T ≡ U
+same_type : (T U : PlacedTree) → a_tree U ∷ [] ≡ a_tree T ∷ [] → T ≡ U
 same_type T U e = cc
 
 pub texts_mean_one_thing : TextsMeanOneThing
 texts_mean_one_thing = record {
   programs = λ bytes P Q p q. same_program P Q (sure p.means [] (definitions Q ∷ []) q.means).1;
-  types = λ bytes T U p q. same_type T U (sure p.means [] (a_type U ∷ []) q.means).1;
+  types = λ bytes T U p q. same_type T U (sure p.means [] (a_tree U ∷ []) q.means).1;
 }

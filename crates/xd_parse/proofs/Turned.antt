@@ -5,10 +5,11 @@ use Rattle.xd_syntax.specs.Placed.{PlacedTree}
 use Rattle.xd_syntax.specs.Program.{ProgramTree}
 use Rattle.xd_parse.specs.declared.grammar.Nonterminal.{Nonterminal}
 use Rattle.xd_parse.specs.declared.grammar.Nonterminal.TheVariants as n
+use Rattle.xd_parse.specs.declared.grammar.Sort.TheVariants as sorts
 use Rattle.xd_parse.specs.declared.grammar.Symbol.TheVariants.{Token, Part}
 use Rattle.xd_parse.specs.declared.grammar.Terminal.TheVariants as t
 use Rattle.xd_parse.specs.Text.{SpellsText}
-use Rattle.xd_parse.specs.Values.{Value, a_type, definitions}
+use Rattle.xd_parse.specs.Values.{Value, a_tree, definitions}
 use Rattle.xd_parse.specs.Means.{MeansAll, IsProgramText, IsTypeText}
 use Rattle.xd_parse.specs.Reading.{Reads, behind}
 use Rattle.xd_parse.proofs.Spelled.{read_all}
@@ -21,11 +22,11 @@ pub program_meant : (bytes : List ℕ) (ls to : List Lexeme) (P : ProgramTree) �
 program_meant bytes ls to P s e r = record { spells = s; means = tokens_meant n.Definitions bytes ls to (definitions P) s e r }
 
 -- a type up to the end of its text
-pub type_text_reads : (from to : List Lexeme) (T : PlacedTree) → Reads n.Type from to (a_type T) → Reads n.TypeText from (behind to) (a_type T)
+pub type_text_reads : (from to : List Lexeme) (T : PlacedTree) → Reads (n.Alternative sorts.Type) from to (a_tree T) → Reads n.TypeText from (behind to) (a_tree T)
 type_text_reads from to T r =
-    part_one n.TypeText (Part n.Type ∷ Token t.End ∷ []) from (behind to) _ refl
-    (row_part n.Type (Token t.End ∷ []) from to (behind to) (a_type T) _ r
+    part_one n.TypeText (Part (n.Alternative sorts.Type) ∷ Token t.End ∷ []) from (behind to) _ refl
+    (row_part (n.Alternative sorts.Type) (Token t.End ∷ []) from to (behind to) (a_tree T) _ r
     (row_token t.End [] to (behind to) [] (row_end (behind to))))
 
-pub type_meant : (bytes : List ℕ) (ls to : List Lexeme) (T : PlacedTree) → SpellsText n.TypeText bytes → ls ≡ tokens_of bytes → Reads n.Type ls to (a_type T) → IsTypeText bytes T
-type_meant bytes ls to T s e r = record { spells = s; means = tokens_meant n.TypeText bytes ls (behind to) (a_type T) s e (type_text_reads ls to T r) }
+pub type_meant : (bytes : List ℕ) (ls to : List Lexeme) (T : PlacedTree) → SpellsText n.TypeText bytes → ls ≡ tokens_of bytes → Reads (n.Alternative sorts.Type) ls to (a_tree T) → IsTypeText bytes T
+type_meant bytes ls to T s e r = record { spells = s; means = tokens_meant n.TypeText bytes ls (behind to) (a_tree T) s e (type_text_reads ls to T r) }

@@ -2,6 +2,7 @@
 use Rattle.std.specs.Prelude.{◌≡◌, ◌≢◌, ◌<◌, ◌++◌, ◌⊎◌, ℕ, suc, List, [], ◌∷◌}
 use Rattle.xd_parse.specs.declared.grammar.Nonterminal.{Nonterminal}
 use Rattle.xd_parse.specs.declared.grammar.Nonterminal.TheVariants as n
+use Rattle.xd_parse.specs.declared.grammar.Sort.TheVariants as sorts
 use Rattle.xd_parse.specs.declared.grammar.Symbol.{Symbol}
 use Rattle.xd_parse.specs.declared.grammar.Symbol.TheVariants.{Token, Opening, Closed, Unless, Part}
 use Rattle.xd_parse.specs.declared.grammar.Terminal.{Terminal}
@@ -10,36 +11,33 @@ use Rattle.xd_parse.specs.declared.grammar.Terminal.TheVariants as t
 abbrev pub Row : Type 0
 Row = List Symbol
 
--- The rows that a nonterminal stands for. `MoreX` is the rest of a repetition. A repetition or an option is left
+-- The rows that a nonterminal stands for. Types and patterns have the same rows, but for the variables of patterns.
+-- `MoreX` is the rest of a repetition. A repetition or an option is left
 -- out only where its first token does not come, so each takes as many tokens as it can; and parentheses with a `[`
--- behind them are the list of a class.
+-- behind them are the list of a class. Behind a `^` stand labels or texts, one or a list of them.
 abbrev pub rules : Nonterminal → List Row
-rules n.Definitions = (Token t.Type ∷ Token t.Word ∷ Token t.Equals ∷ Part n.Type ∷ Part n.Definitions ∷ []) ∷ (Token t.Fun ∷ Token t.Word ∷ Part n.Param ∷ Part n.MoreParams ∷ Token t.Colon ∷ Part n.Type ∷ Token t.Equals ∷ Part n.Expr ∷ Part n.Definitions ∷ []) ∷ (Token t.End ∷ []) ∷ []
-rules n.Param = (Opening t.ParenL ∷ Token t.Val ∷ Token t.Word ∷ Token t.As ∷ Part n.Type ∷ Token t.ParenR ∷ Closed ∷ []) ∷ []
+rules n.Definitions = (Token t.Type ∷ Token t.Word ∷ Token t.Equals ∷ Part (n.Alternative sorts.Type) ∷ Part n.Definitions ∷ []) ∷ (Token t.Fun ∷ Token t.Word ∷ Part n.Param ∷ Part n.MoreParams ∷ Token t.Colon ∷ Part (n.Alternative sorts.Type) ∷ Token t.Equals ∷ Part n.Expr ∷ Part n.Definitions ∷ []) ∷ (Token t.End ∷ []) ∷ []
+rules n.Param = (Opening t.ParenL ∷ Token t.Val ∷ Token t.Word ∷ Token t.As ∷ Part (n.Alternative sorts.Type) ∷ Token t.ParenR ∷ Closed ∷ []) ∷ []
 rules n.MoreParams = (Unless t.ParenL ∷ []) ∷ (Part n.Param ∷ Part n.MoreParams ∷ []) ∷ []
-rules n.TypeText = (Part n.Type ∷ Token t.End ∷ []) ∷ []
-rules n.Type = (Part n.TypeSeq ∷ Part n.MoreTypes ∷ []) ∷ []
-rules n.MoreTypes = (Token t.Bar ∷ Part n.TypeSeq ∷ Part n.MoreTypes ∷ []) ∷ (Unless t.Bar ∷ []) ∷ []
-rules n.TypeSeq = (Part n.TypePost ∷ Part n.MoreTypeParts ∷ []) ∷ []
-rules n.MoreTypeParts = (Token t.Comma ∷ Part n.TypePost ∷ Part n.MoreTypeParts ∷ []) ∷ (Unless t.Comma ∷ []) ∷ []
-rules n.TypePost = (Part n.TypePrim ∷ Part n.Operator ∷ []) ∷ []
-rules n.TypePrim = (Token t.Word ∷ []) ∷ (Opening t.ParenL ∷ Part n.TypeGroup ∷ []) ∷ (Part n.Class ∷ Part n.TypeContent ∷ []) ∷ []
-rules n.TypeGroup = (Token t.ParenR ∷ Closed ∷ Unless t.BracketL ∷ []) ∷ (Part n.Type ∷ Token t.ParenR ∷ Closed ∷ Unless t.BracketL ∷ []) ∷ []
-rules n.TypeContent = (Token t.BracketR ∷ Closed ∷ []) ∷ (Part n.Type ∷ Token t.BracketR ∷ Closed ∷ []) ∷ []
-rules n.Pattern = (Part n.PatternSeq ∷ Part n.MorePatterns ∷ []) ∷ []
-rules n.MorePatterns = (Token t.Bar ∷ Part n.PatternSeq ∷ Part n.MorePatterns ∷ []) ∷ (Unless t.Bar ∷ []) ∷ []
-rules n.PatternSeq = (Part n.PatternPost ∷ Part n.MorePatternParts ∷ []) ∷ []
-rules n.MorePatternParts = (Token t.Comma ∷ Part n.PatternPost ∷ Part n.MorePatternParts ∷ []) ∷ (Unless t.Comma ∷ []) ∷ []
-rules n.PatternPost = (Token t.Val ∷ Token t.Word ∷ Part n.Bound ∷ []) ∷ (Part n.PatternPrim ∷ Part n.Operator ∷ []) ∷ []
-rules n.PatternPrim = (Token t.Word ∷ []) ∷ (Opening t.ParenL ∷ Part n.PatternGroup ∷ []) ∷ (Part n.Class ∷ Part n.PatternContent ∷ []) ∷ []
-rules n.PatternGroup = (Token t.ParenR ∷ Closed ∷ Unless t.BracketL ∷ []) ∷ (Part n.Pattern ∷ Token t.ParenR ∷ Closed ∷ Unless t.BracketL ∷ []) ∷ []
-rules n.PatternContent = (Token t.BracketR ∷ Closed ∷ []) ∷ (Part n.Pattern ∷ Token t.BracketR ∷ Closed ∷ []) ∷ []
-rules n.Bound = (Opening t.As ∷ Part n.PatternPost ∷ Closed ∷ []) ∷ (Unless t.As ∷ []) ∷ []
+rules n.TypeText = (Part (n.Alternative sorts.Type) ∷ Token t.End ∷ []) ∷ []
+rules (n.Alternative s) = (Part (n.Sequence s) ∷ Part (n.MoreBranches s) ∷ []) ∷ []
+rules (n.MoreBranches s) = (Token t.Bar ∷ Part (n.Sequence s) ∷ Part (n.MoreBranches s) ∷ []) ∷ (Unless t.Bar ∷ []) ∷ []
+rules (n.Sequence s) = (Part (n.Post s) ∷ Part (n.MoreParts s) ∷ []) ∷ []
+rules (n.MoreParts s) = (Token t.Comma ∷ Part (n.Post s) ∷ Part (n.MoreParts s) ∷ []) ∷ (Unless t.Comma ∷ []) ∷ []
+rules (n.Post sorts.Type) = (Part (n.Prim sorts.Type) ∷ Part n.Operator ∷ []) ∷ []
+rules (n.Post sorts.Pattern) = (Token t.Val ∷ Token t.Word ∷ Part n.Bound ∷ []) ∷ (Part (n.Prim sorts.Pattern) ∷ Part n.Operator ∷ []) ∷ []
+rules (n.Prim s) = (Token t.Word ∷ []) ∷ (Opening t.ParenL ∷ Part (n.Group s) ∷ []) ∷ (Token t.Text ∷ []) ∷ (Token t.Caret ∷ Part (n.Excepted s) ∷ []) ∷ (Part n.Class ∷ Part (n.Content s) ∷ []) ∷ []
+rules (n.Excepted s) = (Token t.Text ∷ []) ∷ (Opening t.Label ∷ Part (n.Content s) ∷ []) ∷ (Opening t.ParenL ∷ Part (n.ExceptedList s) ∷ []) ∷ []
+rules (n.ExceptedList s) = (Token t.Text ∷ Part n.MoreTexts ∷ Token t.ParenR ∷ Closed ∷ []) ∷ (Part n.AnyWord ∷ Part n.MoreNames ∷ Token t.ParenR ∷ Closed ∷ Opening t.BracketL ∷ Part (n.Content s) ∷ []) ∷ []
+rules (n.Group s) = (Token t.ParenR ∷ Closed ∷ Unless t.BracketL ∷ []) ∷ (Part (n.Alternative s) ∷ Token t.ParenR ∷ Closed ∷ Unless t.BracketL ∷ []) ∷ []
+rules (n.Content s) = (Token t.BracketR ∷ Closed ∷ []) ∷ (Part (n.Alternative s) ∷ Token t.BracketR ∷ Closed ∷ []) ∷ []
+rules n.Bound = (Opening t.As ∷ Part (n.Post sorts.Pattern) ∷ Closed ∷ []) ∷ (Unless t.As ∷ []) ∷ []
 rules n.Operator = (Token t.Star ∷ []) ∷ (Token t.Plus ∷ []) ∷ (Token t.Query ∷ []) ∷ (Unless t.Star ∷ Unless t.Plus ∷ Unless t.Query ∷ []) ∷ []
-rules n.Class = (Token t.Tilde ∷ Opening t.BracketL ∷ []) ∷ (Token t.Caret ∷ Part n.Labels ∷ []) ∷ (Part n.Labels ∷ []) ∷ []
+rules n.Class = (Token t.Tilde ∷ Opening t.BracketL ∷ []) ∷ (Part n.Labels ∷ []) ∷ []
 rules n.Labels = (Opening t.Label ∷ []) ∷ (Part n.Names ∷ Opening t.BracketL ∷ []) ∷ []
 rules n.Names = (Opening t.ParenL ∷ Part n.AnyWord ∷ Part n.MoreNames ∷ Token t.ParenR ∷ Closed ∷ []) ∷ []
 rules n.MoreNames = (Token t.Bar ∷ Part n.AnyWord ∷ Part n.MoreNames ∷ []) ∷ (Unless t.Bar ∷ []) ∷ []
+rules n.MoreTexts = (Token t.Bar ∷ Token t.Text ∷ Part n.MoreTexts ∷ []) ∷ (Unless t.Bar ∷ []) ∷ []
 rules n.AnyWord = (Token t.Word ∷ []) ∷ (Token t.Type ∷ []) ∷ (Token t.Fun ∷ []) ∷ (Token t.Val ∷ []) ∷ (Token t.As ∷ []) ∷ (Token t.Match ∷ []) ∷ (Token t.With ∷ []) ∷ []
 rules n.Expr = (Part n.Item ∷ Part n.MoreItems ∷ []) ∷ []
 rules n.MoreItems = (Token t.Comma ∷ Part n.Item ∷ Part n.MoreItems ∷ []) ∷ (Unless t.Comma ∷ []) ∷ []
@@ -48,7 +46,7 @@ rules n.ExprContent = (Token t.BracketR ∷ Closed ∷ []) ∷ (Part n.Expr ∷ 
 rules n.Paren = (Opening t.ParenL ∷ Part n.ParenContent ∷ []) ∷ []
 rules n.ParenContent = (Token t.ParenR ∷ Closed ∷ []) ∷ (Part n.Expr ∷ Token t.ParenR ∷ Closed ∷ []) ∷ []
 rules n.MoreParens = (Unless t.ParenL ∷ []) ∷ (Part n.Paren ∷ Part n.MoreParens ∷ []) ∷ []
-rules n.Clause = (Part n.PatternSeq ∷ Token t.Arrow ∷ Part n.Expr ∷ []) ∷ []
+rules n.Clause = (Part (n.Sequence sorts.Pattern) ∷ Token t.Arrow ∷ Part n.Expr ∷ []) ∷ []
 rules n.MoreClauses = (Token t.Bar ∷ Part n.Clause ∷ Part n.MoreClauses ∷ []) ∷ (Unless t.Bar ∷ []) ∷ []
 
 -- the row is one of these

@@ -9,7 +9,9 @@ pub mod Merged
 pub mod Values
 pub mod Means
 pub mod Laws
+pub mod Erasing
 pub mod Reading
+pub mod Pieces
 pub mod Nodes
 pub mod Grows
 pub mod Definitions

@@ -6,8 +6,8 @@ use Rattle.xd_parse.specs.declared.grammar.Symbol.{Symbol}
 use Rattle.xd_parse.specs.declared.grammar.Symbol.TheVariants.{Token, Opening, Closed, Unless, Part}
 use Rattle.xd_parse.specs.declared.grammar.Terminal.{Terminal}
 use Rattle.xd_parse.specs.declared.grammar.Terminal.TheVariants as t
-use Rattle.xd_parse.specs.declared.machine.Sort.{Sort}
-use Rattle.xd_parse.specs.declared.machine.Sort.TheVariants as sorts
+use Rattle.xd_parse.specs.declared.grammar.Sort.{Sort}
+use Rattle.xd_parse.specs.declared.grammar.Sort.TheVariants as sorts
 use Rattle.xd_parse.specs.declared.machine.Reading.{Reading}
 use Rattle.xd_parse.specs.declared.machine.Reading.TheVariants.{Plain, Opened, Named, Barred, AfterVal, Shut}
 use Rattle.xd_parse.specs.declared.machine.Course.{Course}
@@ -18,31 +18,21 @@ use Rattle.xd_parse.specs.Grammar.{Row, Extent, Front, Derives}
 use Rattle.xd_parse.specs.Fits.{same, work}
 
 -- what is to come of the parentheses, by either reading
-abbrev pub close : Row
-close = Token t.ParenR ∷ Closed ∷ Unless t.BracketL ∷ []
-
 abbrev pub main_row : Reading → Row
 main_row Plain = []
-main_row (Opened sorts.Type) = Part n.TypeGroup ∷ []
-main_row (Opened sorts.Pattern) = Part n.PatternGroup ∷ []
-main_row (Named sorts.Type) = Part n.Operator ∷ Part n.MoreTypeParts ∷ Part n.MoreTypes ∷ Token t.ParenR ∷ Closed ∷ Unless t.BracketL ∷ []
-main_row (Named sorts.Pattern) = Part n.Operator ∷ Part n.MorePatternParts ∷ Part n.MorePatterns ∷ Token t.ParenR ∷ Closed ∷ Unless t.BracketL ∷ []
-main_row (Barred sorts.Type) = Part n.TypeSeq ∷ Part n.MoreTypes ∷ Token t.ParenR ∷ Closed ∷ Unless t.BracketL ∷ []
-main_row (Barred sorts.Pattern) = Part n.PatternSeq ∷ Part n.MorePatterns ∷ Token t.ParenR ∷ Closed ∷ Unless t.BracketL ∷ []
-main_row AfterVal = Token t.Word ∷ Part n.Bound ∷ Part n.MorePatternParts ∷ Part n.MorePatterns ∷ Token t.ParenR ∷ Closed ∷ Unless t.BracketL ∷ []
-main_row (Shut sort) = Closed ∷ Unless t.BracketL ∷ []
-
-abbrev pub content_of : Sort → Symbol
-content_of sorts.Type = Part n.TypeContent
-content_of sorts.Pattern = Part n.PatternContent
+main_row (Opened s) = Part (n.Group s) ∷ []
+main_row (Named s) = Part n.Operator ∷ Part (n.MoreParts s) ∷ Part (n.MoreBranches s) ∷ Token t.ParenR ∷ Closed ∷ Unless t.BracketL ∷ []
+main_row (Barred s) = Part (n.Sequence s) ∷ Part (n.MoreBranches s) ∷ Token t.ParenR ∷ Closed ∷ Unless t.BracketL ∷ []
+main_row AfterVal = Token t.Word ∷ Part n.Bound ∷ Part (n.MoreParts sorts.Pattern) ∷ Part (n.MoreBranches sorts.Pattern) ∷ Token t.ParenR ∷ Closed ∷ Unless t.BracketL ∷ []
+main_row (Shut s) = Closed ∷ Unless t.BracketL ∷ []
 
 abbrev pub listed_row : Reading → Row
 listed_row Plain = []
-listed_row (Opened sort) = Part n.AnyWord ∷ Part n.MoreNames ∷ Token t.ParenR ∷ Closed ∷ Opening t.BracketL ∷ content_of sort ∷ []
-listed_row (Named sort) = Part n.MoreNames ∷ Token t.ParenR ∷ Closed ∷ Opening t.BracketL ∷ content_of sort ∷ []
-listed_row (Barred sort) = Part n.AnyWord ∷ Part n.MoreNames ∷ Token t.ParenR ∷ Closed ∷ Opening t.BracketL ∷ content_of sort ∷ []
-listed_row AfterVal = Part n.MoreNames ∷ Token t.ParenR ∷ Closed ∷ Opening t.BracketL ∷ Part n.PatternContent ∷ []
-listed_row (Shut sort) = Closed ∷ Opening t.BracketL ∷ content_of sort ∷ []
+listed_row (Opened s) = Part n.AnyWord ∷ Part n.MoreNames ∷ Token t.ParenR ∷ Closed ∷ Opening t.BracketL ∷ Part (n.Content s) ∷ []
+listed_row (Named s) = Part n.MoreNames ∷ Token t.ParenR ∷ Closed ∷ Opening t.BracketL ∷ Part (n.Content s) ∷ []
+listed_row (Barred s) = Part n.AnyWord ∷ Part n.MoreNames ∷ Token t.ParenR ∷ Closed ∷ Opening t.BracketL ∷ Part (n.Content s) ∷ []
+listed_row AfterVal = Part n.MoreNames ∷ Token t.ParenR ∷ Closed ∷ Opening t.BracketL ∷ Part (n.Content sorts.Pattern) ∷ []
+listed_row (Shut s) = Closed ∷ Opening t.BracketL ∷ Part (n.Content s) ∷ []
 
 -- what the tokens spell by one of the readings, over the rows of the stack
 abbrev pub Reads : Reading → Extent → ℕ → ℕ → Row → List Terminal → Type 0
@@ -74,8 +64,7 @@ course AfterVal k = cond (same t.Bar k) Listed (cond (same t.ParenR k) Listed Ma
 course (Shut sort) k = cond (same t.BracketL k) Listed Main
 
 abbrev pub prim_group : Nonterminal → Option Sort
-prim_group n.TypePrim = Some sorts.Type
-prim_group n.PatternPrim = Some sorts.Pattern
+prim_group (n.Prim s) = Some s
 prim_group part = None
 
 abbrev pub group_of : Nonterminal → Terminal → Option Sort

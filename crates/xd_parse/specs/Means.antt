@@ -9,7 +9,7 @@ use Rattle.xd_parse.specs.declared.grammar.Symbol.TheVariants.{Token, Opening, C
 use Rattle.xd_parse.specs.declared.grammar.Terminal.{Terminal}
 use Rattle.xd_parse.specs.Grammar.{Row, rules, IsOneOf}
 use Rattle.xd_parse.specs.Text.{terminal_of, SpellsText}
-use Rattle.xd_parse.specs.Values.{Value, a_type, definitions, token_value, value_of}
+use Rattle.xd_parse.specs.Values.{Value, a_tree, definitions, token_value, value_of}
 
 abbrev pub terminal_at : Lexeme → Terminal
 terminal_at l = terminal_of l.kind l.text
@@ -36,4 +36,4 @@ pub record IsProgramText (bytes : List ℕ) (P : ProgramTree) : Type 0 where
 -- the bytes are the text of this type, within 256 levels of nesting
 pub record IsTypeText (bytes : List ℕ) (T : PlacedTree) : Type 0 where
   pub spells : SpellsText n.TypeText bytes
-  pub means : MeansAll n.TypeText (tokens_of bytes) (a_type T)
+  pub means : MeansAll n.TypeText (tokens_of bytes) (a_tree T)

@@ -66,6 +66,6 @@ abbrev pub in_byte_order : List (List ℕ) → List (List ℕ)
 in_byte_order [] = []
 in_byte_order (w ∷ ws) = put_word w (in_byte_order ws)
 
--- these labels, or all labels but these
+-- these labels or texts, or all but these
 abbrev pub class_of : (except : Bool) → List (List ℕ) → LabelClass
 class_of except ws = record { names = in_byte_order ws; except = except }

@@ -1,19 +1,12 @@
 -- How deep the types are that are read: they are no deeper than the text is nested.
-use Rattle.std.specs.Prelude.{◌≡◌, ℕ, ◌<◌, ◌≤◌, List, length}
+use Rattle.std.specs.Prelude.{◌≡◌, ℕ, ◌≤◌, List}
 use Rattle.std.specs.List.{AllByRecursion}
-use Rattle.xd_syntax.specs.Table.{Row, tree_at}
+use Rattle.xd_syntax.specs.Table.{Row}
 use Rattle.xd_syntax.specs.Placed.{PlacedTree, unplaced, place_of, placed_seq}
 use Rattle.xd_syntax.specs.TypeText.{depth}
+use Rattle.xd_syntax.specs.Shallow.{AddsWithin}
 use Rattle.xd_syntax.specs.Program.{Parameter, ProgramTree}
 use Rattle.xd_parse.specs.Merged.{parts_of_seq}
-
--- no node behind the old ones is deeper than this
-abbrev pub AddsWithin : (limit : ℕ) → (old new : List Row) → Type 0
-AddsWithin limit old new = (i : ℕ) → length old ≤ i → i < length new → depth (tree_at new i) ≤ limit
-
--- no node is deeper than a text may be nested
-abbrev pub IsShallow : List Row → Type 0
-IsShallow types = (i : ℕ) → i < length types → depth (tree_at types i) ≤ 256
 
 -- Within each limit that something keeps, the new nodes keep it too. (An empty sequence that is left out of a longer one has depth 1.)
 abbrev pub NoDeeper : (within : ℕ → Type 0) → (old new : List Row) → Type 0

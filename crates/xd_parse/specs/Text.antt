@@ -78,7 +78,7 @@ pub record IsPlaceAt (ls : List Lexeme) (index : ℕ) (place : Place) : Type 0 w
   pub stands : lexeme_at ls index ≡ Some lexeme
   pub at : lexeme.place ≡ place
 
--- the first token that no text goes on with, and its place
+-- the first token that no text within the limit goes on with, and its place
 pub record IsFaultAt (part : Nonterminal) (ls : List Lexeme) (refusal : Refusal) (place : Place) : Type 0 where
   pub index : ℕ
   pub first : IsFirstFault part (terminals_of ls) index refusal

@@ -7,7 +7,7 @@ use Rattle.xd_doc.specs.Classes.{LabelClass}
 use Rattle.xd_lex.specs.Tokens.{Lexeme}
 use Rattle.xd_lex.specs.Spelled.{unescaped}
 use Rattle.xd_syntax.specs.Words.{any_word, string_word}
-use Rattle.xd_syntax.specs.Placed.{PlacedTree, Empty_at, Text_at, Name_at, Elem_at, Star_at, Plus_at, Opt_at, Val_at, place_of}
+use Rattle.xd_syntax.specs.Placed.{PlacedTree, Empty_at, Text_at, Words_at, Name_at, Elem_at, Star_at, Plus_at, Opt_at, Val_at, place_of}
 use Rattle.xd_syntax.specs.Expression.{Expression, Nothing, Quoted, Variable, Tagged, Called, Matched, Clauses, no_clause, clause, arguments_of}
 use Rattle.xd_syntax.specs.Program.{Parameter, ProgramTree}
 use Rattle.xd_parse.specs.declared.grammar.Nonterminal.{Nonterminal}
@@ -17,20 +17,20 @@ use Rattle.xd_parse.specs.declared.grammar.Terminal.TheVariants as t
 use Rattle.xd_parse.specs.Text.{terminal_of}
 use Rattle.xd_parse.specs.Merged.{class_of, sequence, alternative, sequence_of_expressions}
 
--- What a symbol stands for. A mark is a token of which no more than its place counts, keywords among them.
+-- What a symbol stands for. A mark is a token of which no more counts than which terminal it is, and its place; keywords are marks.
 pub data Value : Type 0 where
   mark : Terminal → Place → Value
   word : (characters : List ℕ) → Place → Value
   label : (characters : List ℕ) → Place → Value
   quoted : (characters : List ℕ) → Place → Value
   absent : Value
-  a_type : PlacedTree → Value
-  types : List PlacedTree → Value
-  a_pattern : PlacedTree → Value
-  patterns : List PlacedTree → Value
+  a_tree : PlacedTree → Value
+  trees : List PlacedTree → Value
   names : List (List ℕ) → Value
   labels : Place → List (List ℕ) → Value
   class : Place → LabelClass → Value
+  texts : List (List ℕ) → Value
+  labelled : List (List ℕ) → PlacedTree → Value
   an_expression : Expression → Value
   expressions : List Expression → Value
   a_clause : PlacedTree → Expression → Value
@@ -71,84 +71,66 @@ repeated t.Star T = Star_at (place_of T) T
 repeated t.Plus T = Plus_at (place_of T) T
 repeated k T = Opt_at (place_of T) T
 
-abbrev pub type_value : List Value → Value
-type_value (a_type T ∷ (types Ts ∷ [])) = a_type (alternative T Ts)
-type_value vs = absent
+abbrev pub alternative_value : List Value → Value
+alternative_value (a_tree T ∷ (trees Ts ∷ [])) = a_tree (alternative T Ts)
+alternative_value vs = absent
 
-abbrev pub type_seq_value : List Value → Value
-type_seq_value (a_type T ∷ (types Ts ∷ [])) = a_type (sequence T Ts)
-type_seq_value vs = absent
+abbrev pub sequence_value : List Value → Value
+sequence_value (a_tree T ∷ (trees Ts ∷ [])) = a_tree (sequence T Ts)
+sequence_value vs = absent
 
 -- what stands behind the first branch, or behind the first part
-abbrev pub more_types_value : List Value → Value
-more_types_value [] = types []
-more_types_value (mark k p ∷ (a_type T ∷ (types Ts ∷ []))) = types (T ∷ Ts)
-more_types_value vs = absent
-
-abbrev pub type_post_value : List Value → Value
-type_post_value (a_type T ∷ (absent ∷ [])) = a_type T
-type_post_value (a_type T ∷ (mark k p ∷ [])) = a_type (repeated k T)
-type_post_value vs = absent
-
--- `()` is empty at its `(`; other parentheses make no node
-abbrev pub type_prim_value : List Value → Value
-type_prim_value (word x p ∷ []) = a_type (named x p)
-type_prim_value (mark k p ∷ (absent ∷ [])) = a_type (Empty_at p)
-type_prim_value (mark k p ∷ (a_type T ∷ [])) = a_type T
-type_prim_value (class p c ∷ (a_type T ∷ [])) = a_type (Elem_at p c T)
-type_prim_value vs = absent
-
--- the inside of parentheses
-abbrev pub type_group_value : List Value → Value
-type_group_value (a_type T ∷ (mark k p ∷ [])) = a_type T
-type_group_value vs = absent
-
--- an empty content is empty at the closing bracket
-abbrev pub type_content_value : List Value → Value
-type_content_value (mark k p ∷ []) = a_type (Empty_at p)
-type_content_value (a_type T ∷ (mark k p ∷ [])) = a_type T
-type_content_value vs = absent
-
-abbrev pub pattern_value : List Value → Value
-pattern_value (a_pattern T ∷ (patterns Ts ∷ [])) = a_pattern (alternative T Ts)
-pattern_value vs = absent
-
-abbrev pub pattern_seq_value : List Value → Value
-pattern_seq_value (a_pattern T ∷ (patterns Ts ∷ [])) = a_pattern (sequence T Ts)
-pattern_seq_value vs = absent
-
-abbrev pub more_patterns_value : List Value → Value
-more_patterns_value [] = patterns []
-more_patterns_value (mark k p ∷ (a_pattern T ∷ (patterns Ts ∷ []))) = patterns (T ∷ Ts)
-more_patterns_value vs = absent
+abbrev pub more_trees_value : List Value → Value
+more_trees_value [] = trees []
+more_trees_value (mark k p ∷ (a_tree T ∷ (trees Ts ∷ []))) = trees (T ∷ Ts)
+more_trees_value vs = absent
 
 -- `val x` alone is `val x as Any`, with `Any` at the place of the word
-abbrev pub pattern_post_value : List Value → Value
-pattern_post_value (mark k p ∷ (word x q ∷ (absent ∷ []))) = a_pattern (Val_at p x q (Name_at q any_word))
-pattern_post_value (mark k p ∷ (word x q ∷ (a_pattern T ∷ []))) = a_pattern (Val_at p x q T)
-pattern_post_value (a_pattern T ∷ (absent ∷ [])) = a_pattern T
-pattern_post_value (a_pattern T ∷ (mark k p ∷ [])) = a_pattern (repeated k T)
-pattern_post_value vs = absent
+abbrev pub post_value : List Value → Value
+post_value (mark k p ∷ (word x q ∷ (absent ∷ []))) = a_tree (Val_at p x q (Name_at q any_word))
+post_value (mark k p ∷ (word x q ∷ (a_tree T ∷ []))) = a_tree (Val_at p x q T)
+post_value (a_tree T ∷ (absent ∷ [])) = a_tree T
+post_value (a_tree T ∷ (mark k p ∷ [])) = a_tree (repeated k T)
+post_value vs = absent
 
 abbrev pub bound_value : List Value → Value
-bound_value (mark k p ∷ (a_pattern T ∷ [])) = a_pattern T
+bound_value (mark k p ∷ (a_tree T ∷ [])) = a_tree T
 bound_value vs = absent
 
-abbrev pub pattern_prim_value : List Value → Value
-pattern_prim_value (word x p ∷ []) = a_pattern (named x p)
-pattern_prim_value (mark k p ∷ (absent ∷ [])) = a_pattern (Empty_at p)
-pattern_prim_value (mark k p ∷ (a_pattern T ∷ [])) = a_pattern T
-pattern_prim_value (class p c ∷ (a_pattern T ∷ [])) = a_pattern (Elem_at p c T)
-pattern_prim_value vs = absent
+-- `()` is empty at its `(`; other parentheses make no node
+abbrev pub prim_value : List Value → Value
+prim_value (word x p ∷ []) = a_tree (named x p)
+prim_value (quoted s p ∷ []) = a_tree (Words_at p (class_of false (s ∷ [])))
+prim_value (mark k p ∷ (texts ss ∷ [])) = a_tree (Words_at p (class_of true ss))
+prim_value (mark k p ∷ (labelled ws T ∷ [])) = a_tree (Elem_at p (class_of true ws) T)
+prim_value (mark k p ∷ (absent ∷ [])) = a_tree (Empty_at p)
+prim_value (mark k p ∷ (a_tree T ∷ [])) = a_tree T
+prim_value (class p c ∷ (a_tree T ∷ [])) = a_tree (Elem_at p c T)
+prim_value vs = absent
 
-abbrev pub pattern_group_value : List Value → Value
-pattern_group_value (a_pattern T ∷ (mark k p ∷ [])) = a_pattern T
-pattern_group_value vs = absent
+-- behind a `^`: texts, or labels and a content
+abbrev pub excepted_value : List Value → Value
+excepted_value (quoted s p ∷ []) = texts (s ∷ [])
+excepted_value (label w p ∷ (a_tree T ∷ [])) = labelled (w ∷ []) T
+excepted_value (mark k p ∷ (texts ss ∷ [])) = texts ss
+excepted_value (mark k p ∷ (labelled ws T ∷ [])) = labelled ws T
+excepted_value vs = absent
 
-abbrev pub pattern_content_value : List Value → Value
-pattern_content_value (mark k p ∷ []) = a_pattern (Empty_at p)
-pattern_content_value (a_pattern T ∷ (mark k p ∷ [])) = a_pattern T
-pattern_content_value vs = absent
+abbrev pub excepted_list_value : List Value → Value
+excepted_list_value (quoted s p ∷ (texts ss ∷ (mark k q ∷ []))) = texts (s ∷ ss)
+excepted_list_value (names vs ∷ (names ws ∷ (mark j p ∷ (mark k q ∷ (a_tree T ∷ []))))) = labelled (vs ++ ws) T
+excepted_list_value vs = absent
+
+-- the inside of parentheses
+abbrev pub group_value : List Value → Value
+group_value (a_tree T ∷ (mark k p ∷ [])) = a_tree T
+group_value vs = absent
+
+-- an empty content is empty at the closing bracket
+abbrev pub content_value : List Value → Value
+content_value (mark k p ∷ []) = a_tree (Empty_at p)
+content_value (a_tree T ∷ (mark k p ∷ [])) = a_tree T
+content_value vs = absent
 
 abbrev pub operator_value : List Value → Value
 operator_value (mark k p ∷ []) = mark k p
@@ -156,10 +138,9 @@ operator_value vs = absent
 
 -- ---- classes
 
--- `~`; `^` and labels; labels. A class has the place of its first token.
+-- `~`; labels. A class has the place of its first token.
 abbrev pub class_value : List Value → Value
 class_value (mark j p ∷ (mark k q ∷ [])) = class p (class_of true [])
-class_value (mark k p ∷ (labels q ws ∷ [])) = class p (class_of true ws)
 class_value (labels p ws ∷ []) = class p (class_of false ws)
 class_value vs = absent
 
@@ -176,6 +157,11 @@ abbrev pub more_names_value : List Value → Value
 more_names_value [] = names []
 more_names_value (mark k p ∷ (names vs ∷ (names ws ∷ []))) = names (vs ++ ws)
 more_names_value vs = absent
+
+abbrev pub more_texts_value : List Value → Value
+more_texts_value [] = texts []
+more_texts_value (mark k p ∷ (quoted s q ∷ (texts ss ∷ []))) = texts (s ∷ ss)
+more_texts_value vs = absent
 
 -- a keyword is a word here
 abbrev pub any_word_value : List Value → Value
@@ -227,7 +213,7 @@ more_parens_value (an_expression e ∷ (expressions es ∷ [])) = expressions (e
 more_parens_value vs = absent
 
 abbrev pub clause_value : List Value → Value
-clause_value (a_pattern P ∷ (mark k p ∷ (an_expression e ∷ []))) = a_clause P e
+clause_value (a_tree P ∷ (mark k p ∷ (an_expression e ∷ []))) = a_clause P e
 clause_value vs = absent
 
 abbrev pub more_clauses_value : List Value → Value
@@ -238,7 +224,7 @@ more_clauses_value vs = absent
 -- ---- definitions
 
 abbrev pub param_value : List Value → Value
-param_value (mark i o ∷ (mark j p ∷ (word x q ∷ (mark k r ∷ (a_type T ∷ (mark l s ∷ [])))))) = a_parameter (record { name = x; place = q; declared = T })
+param_value (mark i o ∷ (mark j p ∷ (word x q ∷ (mark k r ∷ (a_tree T ∷ (mark l s ∷ [])))))) = a_parameter (record { name = x; place = q; declared = T })
 param_value vs = absent
 
 abbrev pub more_params_value : List Value → Value
@@ -247,7 +233,7 @@ more_params_value (a_parameter q ∷ (parameters qs ∷ [])) = parameters (q ∷
 more_params_value vs = absent
 
 abbrev pub type_text_value : List Value → Value
-type_text_value (a_type T ∷ (mark k p ∷ [])) = a_type T
+type_text_value (a_tree T ∷ (mark k p ∷ [])) = a_tree T
 type_text_value vs = absent
 
 abbrev pub with_type : List ℕ → Place → PlacedTree → ProgramTree → ProgramTree
@@ -258,8 +244,8 @@ with_function x p qs T e P = record P { functions = record { name = x; place = p
 
 -- a definition stands before those behind it
 abbrev pub definitions_value : List Value → Value
-definitions_value (mark i p ∷ (word x q ∷ (mark j r ∷ (a_type T ∷ (definitions P ∷ []))))) = definitions (with_type x q T P)
-definitions_value (mark i p ∷ (word x q ∷ (a_parameter y ∷ (parameters ys ∷ (mark j r ∷ (a_type T ∷ (mark k s ∷ (an_expression e ∷ (definitions P ∷ []))))))))) = definitions (with_function x q (y ∷ ys) T e P)
+definitions_value (mark i p ∷ (word x q ∷ (mark j r ∷ (a_tree T ∷ (definitions P ∷ []))))) = definitions (with_type x q T P)
+definitions_value (mark i p ∷ (word x q ∷ (a_parameter y ∷ (parameters ys ∷ (mark j r ∷ (a_tree T ∷ (mark k s ∷ (an_expression e ∷ (definitions P ∷ []))))))))) = definitions (with_function x q (y ∷ ys) T e P)
 definitions_value (mark k p ∷ []) = definitions (record { types = []; functions = [] })
 definitions_value vs = absent
 
@@ -269,28 +255,23 @@ value_of n.Definitions vs = definitions_value vs
 value_of n.Param vs = param_value vs
 value_of n.MoreParams vs = more_params_value vs
 value_of n.TypeText vs = type_text_value vs
-value_of n.Type vs = type_value vs
-value_of n.MoreTypes vs = more_types_value vs
-value_of n.TypeSeq vs = type_seq_value vs
-value_of n.MoreTypeParts vs = more_types_value vs
-value_of n.TypePost vs = type_post_value vs
-value_of n.TypePrim vs = type_prim_value vs
-value_of n.TypeGroup vs = type_group_value vs
-value_of n.TypeContent vs = type_content_value vs
-value_of n.Pattern vs = pattern_value vs
-value_of n.MorePatterns vs = more_patterns_value vs
-value_of n.PatternSeq vs = pattern_seq_value vs
-value_of n.MorePatternParts vs = more_patterns_value vs
-value_of n.PatternPost vs = pattern_post_value vs
-value_of n.PatternPrim vs = pattern_prim_value vs
-value_of n.PatternGroup vs = pattern_group_value vs
-value_of n.PatternContent vs = pattern_content_value vs
+value_of (n.Alternative s) vs = alternative_value vs
+value_of (n.MoreBranches s) vs = more_trees_value vs
+value_of (n.Sequence s) vs = sequence_value vs
+value_of (n.MoreParts s) vs = more_trees_value vs
+value_of (n.Post s) vs = post_value vs
+value_of (n.Prim s) vs = prim_value vs
+value_of (n.Excepted s) vs = excepted_value vs
+value_of (n.ExceptedList s) vs = excepted_list_value vs
+value_of (n.Group s) vs = group_value vs
+value_of (n.Content s) vs = content_value vs
 value_of n.Bound vs = bound_value vs
 value_of n.Operator vs = operator_value vs
 value_of n.Class vs = class_value vs
 value_of n.Labels vs = labels_value vs
 value_of n.Names vs = names_value vs
 value_of n.MoreNames vs = more_names_value vs
+value_of n.MoreTexts vs = more_texts_value vs
 value_of n.AnyWord vs = any_word_value vs
 value_of n.Expr vs = expr_value vs
 value_of n.MoreItems vs = more_items_value vs

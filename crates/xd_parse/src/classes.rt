@@ -1,16 +1,17 @@
-//! Reads classes of labels.
+//! Reads classes: of labels, and what `^` excepts.
 
 ghost use Rattle.std.specs.Prelude.{◌≡◌, ◌<◌, ◌≤◌, ◌∷◌, [], true, length, vec_len, IfOk};
 ghost use Rattle.xd_doc.specs.Word.{is_word};
 ghost use Rattle.xd_parse.specs.declared.grammar.Nonterminal.TheVariants as nonterminals;
-ghost use Rattle.xd_parse.specs.Reading.{Reads, any_text, behind};
+ghost use Rattle.xd_parse.specs.declared.grammar.Terminal.TheVariants as terminals;
+ghost use Rattle.xd_parse.specs.Reading.{Reads, ReadsListed, ReadsTexts, ReadsExcepted, any_text, behind, count_excepted, front_terminal};
 ghost use Rattle.xd_parse.specs.Values.{names, labels, class};
 
 use crate::cursor::Cursor;
 use crate::grammar::Terminal;
 use std::alloc::Global;
 use xd_base::Place;
-use xd_doc::{Class, Label, NoMemory};
+use xd_doc::{Class, Label, NoMemory, Text};
 
 /// A class and the place of its first token.
 #[derive(Drop)]
@@ -24,6 +25,14 @@ pub(crate) struct PlacedClass {
 struct PlacedLabels {
     place: Place,
     names: Vec<Label>,
+}
+
+/// What stands behind a `^`.
+#[derive(Drop)]
+pub(crate) enum Excepted {
+    Texts(Vec<Text>),
+    /// Labels, with the bracket behind them.
+    Labels(Vec<Label>),
 }
 
 /// The word that a token is among labels, where keywords are words.
@@ -53,6 +62,39 @@ fn read_any_word(alloc: Global, cursor: &mut Cursor<'_>) -> Result<Label, NoMemo
     Ok(word)
 }
 
+/// Words with bars between them.
+fn read_listed(alloc: Global, cursor: &mut Cursor<'_>) -> Result<Vec<Label>, NoMemory>
+    ensures reads { IfOk result (λ all. ReadsListed cursor.old cursor.new all.items) }
+    ensures some { IfOk result (λ all. 0 < vec_len all) }
+    ensures fewer { IfOk result (λ all. length cursor.new ≤ length cursor.old) }
+{
+    let mut names = Vec::new(alloc);
+    names.push(read_any_word(alloc, cursor)?)?;
+    'words: while cursor.at(Terminal::Bar) {
+        cursor.step();
+        names.push(read_any_word(alloc, cursor)?)?;
+    }
+    Ok(names)
+}
+
+/// Texts with bars between them.
+fn read_texts(alloc: Global, cursor: &mut Cursor<'_>) -> Result<Vec<Text>, NoMemory>
+    requires { front_terminal cursor.old ≡ terminals.Text }
+    ensures reads { IfOk result (λ all. ReadsTexts cursor.old cursor.new all.items) }
+    ensures some { IfOk result (λ all. 0 < vec_len all) }
+    ensures fewer { IfOk result (λ all. length cursor.new ≤ length cursor.old) }
+{
+    let mut texts = Vec::new(alloc);
+    let first = cursor.quoted(alloc)?;
+    texts.push(first.text)?;
+    'more: while cursor.at(Terminal::Bar) {
+        cursor.step();
+        let next = cursor.quoted(alloc)?;
+        texts.push(next.text)?;
+    }
+    Ok(texts)
+}
+
 /// Words in parentheses, from the opening one on.
 fn read_names(alloc: Global, cursor: &mut Cursor<'_>) -> Result<PlacedLabels, NoMemory>
     ensures reads { IfOk result (λ l. Reads nonterminals.Names cursor.old cursor.new (labels l.place l.names.items)) }
@@ -60,12 +102,7 @@ fn read_names(alloc: Global, cursor: &mut Cursor<'_>) -> Result<PlacedLabels, No
     ensures fewer { IfOk result (λ l. length cursor.new ≤ length cursor.old) }
 {
     let place = cursor.step();
-    let mut names = Vec::new(alloc);
-    names.push(read_any_word(alloc, cursor)?)?;
-    'words: while cursor.at(Terminal::Bar) {
-        cursor.step();
-        names.push(read_any_word(alloc, cursor)?)?;
-    }
+    let names = read_listed(alloc, cursor)?;
     cursor.step();
     Ok(PlacedLabels { place, names })
 }
@@ -101,16 +138,49 @@ pub(crate) fn read_class(alloc: Global, cursor: &mut Cursor<'_>) -> Result<Place
         let class = Class::new(alloc, Vec::new(alloc), true)?;
         return Ok(PlacedClass { place, class });
     }
-    if cursor.at(Terminal::Caret) {
-        let place = cursor.step();
-        let labels = read_labels(alloc, cursor)?;
-        let class = Class::new(alloc, labels.names, true)?;
-        return Ok(PlacedClass { place, class });
-    }
     let labels = read_labels(alloc, cursor)?;
     let class = Class::new(alloc, labels.names, false)?;
     Ok(PlacedClass {
         place: labels.place,
         class,
     })
+}
+
+/// What stands behind a `^`, up to the bracket behind labels.
+pub(crate) fn read_excepted(alloc: Global, cursor: &mut Cursor<'_>) -> Result<Excepted, NoMemory>
+    ensures reads { IfOk result (λ e. ReadsExcepted nonterminals.Excepted cursor.old cursor.new e) }
+    ensures some { IfOk result (λ e. 0 < count_excepted e) }
+    ensures fewer { IfOk result (λ e. length cursor.new ≤ length cursor.old) }
+{
+    if cursor.at(Terminal::Text) {
+        let quoted = cursor.quoted(alloc)?;
+        let mut texts = Vec::new(alloc);
+        texts.push(quoted.text)?;
+        return Ok(Excepted::Texts(texts));
+    }
+    if cursor.at(Terminal::Label) {
+        let label = cursor.label(alloc)?;
+        let mut names = Vec::new(alloc);
+        names.push(label.word)?;
+        return Ok(Excepted::Labels(names));
+    }
+    cursor.step();
+    read_excepted_list(alloc, cursor)
+}
+
+/// A list behind a `^`, from behind its parenthesis on.
+fn read_excepted_list(alloc: Global, cursor: &mut Cursor<'_>) -> Result<Excepted, NoMemory>
+    ensures reads { IfOk result (λ e. ReadsExcepted nonterminals.ExceptedList cursor.old cursor.new e) }
+    ensures some { IfOk result (λ e. 0 < count_excepted e) }
+    ensures fewer { IfOk result (λ e. length cursor.new ≤ length cursor.old) }
+{
+    if cursor.at(Terminal::Text) {
+        let texts = read_texts(alloc, cursor)?;
+        cursor.step();
+        return Ok(Excepted::Texts(texts));
+    }
+    let names = read_listed(alloc, cursor)?;
+    cursor.step();
+    cursor.step();
+    Ok(Excepted::Labels(names))
 }

@@ -10,8 +10,8 @@ ghost use Rattle.xd_doc.specs.Word.{is_word};
 ghost use Rattle.xd_parse.specs.Fits.{same};
 ghost use Rattle.xd_parse.specs.Reading.{SpellNo, behind, element_row, front_place, front_terminal, front_text, group_row};
 
-use crate::grammar::Terminal;
-use crate::machine::{Course, Reading, Sort, course_at, same};
+use crate::grammar::{Sort, Terminal};
+use crate::machine::{Course, Reading, course_at, same};
 use crate::text::terminal;
 use std::alloc::Global;
 use std::marker::Model;

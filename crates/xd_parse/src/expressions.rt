@@ -13,10 +13,11 @@ ghost use Rattle.xd_parse.specs.declared.grammar.Terminal.TheVariants as termina
 ghost use Rattle.xd_parse.specs.Values.{an_expression, a_clause};
 ghost use Rattle.xd_parse.specs.Reading.{Reads, front_terminal};
 ghost use Rattle.xd_parse.specs.Grows.{Grows};
+ghost use Rattle.xd_parse.specs.Pieces.{AreItems, expression_of};
 
 use crate::cursor::Cursor;
 use crate::grammar::Terminal;
-use crate::joining::join;
+use crate::joining::{Items, add_item, in_row, nothing_at, to_expr};
 use crate::patterns::read_pattern_seq;
 use std::alloc::Global;
 use xd_doc::NoMemory;
@@ -36,14 +37,31 @@ pub fn read_expr(
     ensures grows { IfOk result (λ id. Grows patterns.old exprs.old patterns.new exprs.new) }
     ensures left { IfOk result (λ id. length cursor.new ≤ length cursor.old) }
 {
-    let first = read_item(alloc, cursor, patterns, exprs)?;
-    let mut more = Vec::new(alloc);
+    let items = read_items(alloc, cursor, patterns, exprs)?;
+    to_expr(exprs, items)
+}
+
+/// Reads items with commas between them.
+#[cycle(expressions)]
+fn read_items(
+    alloc: Global,
+    cursor: &mut Cursor<'_>,
+    patterns: &mut Patterns,
+    exprs: &mut Exprs,
+) -> Result<Items, NoMemory>
+    requires { PatternsBelong (length patterns.old) exprs.old }
+    ensures reads { IfOk result (λ items. Reads nonterminals.Expr cursor.old cursor.new (an_expression (expression_of patterns.new exprs.new items))) }
+    ensures stand { IfOk result (AreItems exprs.new) }
+    ensures grows { IfOk result (λ items. Grows patterns.old exprs.old patterns.new exprs.new) }
+    ensures left { IfOk result (λ items. length cursor.new ≤ length cursor.old) }
+{
+    let mut read = read_item(alloc, cursor, patterns, exprs)?;
     'items: while cursor.at(Terminal::Comma) {
         cursor.step();
         let item = read_item(alloc, cursor, patterns, exprs)?;
-        more.push(item)?;
+        read = in_row(read, item)?;
     }
-    join(alloc, exprs, first, more)
+    Ok(read)
 }
 
 /// Reads a text, a variable, a call, an element, a match, or what is in parentheses.
@@ -53,17 +71,17 @@ fn read_item(
     cursor: &mut Cursor<'_>,
     patterns: &mut Patterns,
     exprs: &mut Exprs,
-) -> Result<ExprId, NoMemory>
+) -> Result<Items, NoMemory>
     requires { PatternsBelong (length patterns.old) exprs.old }
-    ensures reads { IfOk result (λ id. Reads nonterminals.Item cursor.old cursor.new (an_expression (expression patterns.new exprs.new id))) }
-    ensures belongs { IfOk result (IsExpr exprs.new) }
-    ensures grows { IfOk result (λ id. Grows patterns.old exprs.old patterns.new exprs.new) }
-    ensures left { IfOk result (λ id. length cursor.new ≤ length cursor.old) }
+    ensures reads { IfOk result (λ items. Reads nonterminals.Item cursor.old cursor.new (an_expression (expression_of patterns.new exprs.new items))) }
+    ensures stand { IfOk result (AreItems exprs.new) }
+    ensures grows { IfOk result (λ items. Grows patterns.old exprs.old patterns.new exprs.new) }
+    ensures left { IfOk result (λ items. length cursor.new ≤ length cursor.old) }
 {
     match cursor.peek() {
         Terminal::Text => {
             let quoted = cursor.quoted(alloc)?;
-            exprs.add(quoted.place, ExprForm::Text(quoted.text))
+            add_item(alloc, exprs, quoted.place, ExprForm::Text(quoted.text))
         }
         Terminal::Word => read_named(alloc, cursor, patterns, exprs),
         Terminal::Label => read_element(alloc, cursor, patterns, exprs),
@@ -71,7 +89,7 @@ fn read_item(
         Terminal::ParenL => read_paren(alloc, cursor, patterns, exprs),
         _ => {
             let place = cursor.step();
-            exprs.add(place, ExprForm::Empty)
+            Ok(nothing_at(alloc, place))
         }
     }
 }
@@ -83,24 +101,29 @@ fn read_named(
     cursor: &mut Cursor<'_>,
     patterns: &mut Patterns,
     exprs: &mut Exprs,
-) -> Result<ExprId, NoMemory>
+) -> Result<Items, NoMemory>
     requires clauses { PatternsBelong (length patterns.old) exprs.old }
     requires next { front_terminal cursor.old ≡ terminals.Word }
-    ensures reads { IfOk result (λ id. Reads nonterminals.Item cursor.old cursor.new (an_expression (expression patterns.new exprs.new id))) }
-    ensures belongs { IfOk result (IsExpr exprs.new) }
-    ensures grows { IfOk result (λ id. Grows patterns.old exprs.old patterns.new exprs.new) }
-    ensures left { IfOk result (λ id. length cursor.new < length cursor.old) }
+    ensures reads { IfOk result (λ items. Reads nonterminals.Item cursor.old cursor.new (an_expression (expression_of patterns.new exprs.new items))) }
+    ensures stand { IfOk result (AreItems exprs.new) }
+    ensures grows { IfOk result (λ items. Grows patterns.old exprs.old patterns.new exprs.new) }
+    ensures left { IfOk result (λ items. length cursor.new < length cursor.old) }
 {
     let name = cursor.word(alloc)?;
     let mut arguments = Vec::new(alloc);
     'arguments: while cursor.at(Terminal::ParenL) {
-        let argument = read_paren(alloc, cursor, patterns, exprs)?;
+        let argument = read_argument(alloc, cursor, patterns, exprs)?;
         arguments.push(argument)?;
     }
     if arguments.is_empty() {
-        exprs.add(name.place, ExprForm::Var(name.word))
+        add_item(alloc, exprs, name.place, ExprForm::Var(name.word))
     } else {
-        exprs.add(name.place, ExprForm::Call(name.word, arguments))
+        add_item(
+            alloc,
+            exprs,
+            name.place,
+            ExprForm::Call(name.word, arguments),
+        )
     }
 }
 
@@ -111,17 +134,22 @@ fn read_element(
     cursor: &mut Cursor<'_>,
     patterns: &mut Patterns,
     exprs: &mut Exprs,
-) -> Result<ExprId, NoMemory>
+) -> Result<Items, NoMemory>
     requires clauses { PatternsBelong (length patterns.old) exprs.old }
     requires next { front_terminal cursor.old ≡ terminals.Label }
-    ensures reads { IfOk result (λ id. Reads nonterminals.Item cursor.old cursor.new (an_expression (expression patterns.new exprs.new id))) }
-    ensures belongs { IfOk result (IsExpr exprs.new) }
-    ensures grows { IfOk result (λ id. Grows patterns.old exprs.old patterns.new exprs.new) }
-    ensures left { IfOk result (λ id. length cursor.new < length cursor.old) }
+    ensures reads { IfOk result (λ items. Reads nonterminals.Item cursor.old cursor.new (an_expression (expression_of patterns.new exprs.new items))) }
+    ensures stand { IfOk result (AreItems exprs.new) }
+    ensures grows { IfOk result (λ items. Grows patterns.old exprs.old patterns.new exprs.new) }
+    ensures left { IfOk result (λ items. length cursor.new < length cursor.old) }
 {
     let label = cursor.label(alloc)?;
     let content = read_content(alloc, cursor, patterns, exprs)?;
-    exprs.add(label.place, ExprForm::Elem(label.word, content))
+    add_item(
+        alloc,
+        exprs,
+        label.place,
+        ExprForm::Elem(label.word, content),
+    )
 }
 
 /// Reads the content of an element, and the closing bracket. An empty one stands at the bracket.
@@ -147,9 +175,9 @@ fn read_content(
     Ok(content)
 }
 
-/// Reads what is in parentheses. `()` is empty, at its `(`.
+/// Reads an argument of a call.
 #[cycle(expressions)]
-fn read_paren(
+fn read_argument(
     alloc: Global,
     cursor: &mut Cursor<'_>,
     patterns: &mut Patterns,
@@ -162,12 +190,31 @@ fn read_paren(
     ensures grows { IfOk result (λ id. Grows patterns.old exprs.old patterns.new exprs.new) }
     ensures left { IfOk result (λ id. length cursor.new < length cursor.old) }
 {
+    let items = read_paren(alloc, cursor, patterns, exprs)?;
+    to_expr(exprs, items)
+}
+
+/// Reads what is in parentheses. `()` is empty, at its `(`.
+#[cycle(expressions)]
+fn read_paren(
+    alloc: Global,
+    cursor: &mut Cursor<'_>,
+    patterns: &mut Patterns,
+    exprs: &mut Exprs,
+) -> Result<Items, NoMemory>
+    requires clauses { PatternsBelong (length patterns.old) exprs.old }
+    requires next { front_terminal cursor.old ≡ terminals.ParenL }
+    ensures reads { IfOk result (λ items. Reads nonterminals.Paren cursor.old cursor.new (an_expression (expression_of patterns.new exprs.new items))) }
+    ensures stand { IfOk result (AreItems exprs.new) }
+    ensures grows { IfOk result (λ items. Grows patterns.old exprs.old patterns.new exprs.new) }
+    ensures left { IfOk result (λ items. length cursor.new < length cursor.old) }
+{
     let opening = cursor.step();
     if cursor.at(Terminal::ParenR) {
         cursor.step();
-        return exprs.add(opening, ExprForm::Empty);
+        return Ok(nothing_at(alloc, opening));
     }
-    let inner = read_expr(alloc, cursor, patterns, exprs)?;
+    let inner = read_items(alloc, cursor, patterns, exprs)?;
     cursor.step();
     Ok(inner)
 }
@@ -179,13 +226,13 @@ fn read_match(
     cursor: &mut Cursor<'_>,
     patterns: &mut Patterns,
     exprs: &mut Exprs,
-) -> Result<ExprId, NoMemory>
+) -> Result<Items, NoMemory>
     requires clauses { PatternsBelong (length patterns.old) exprs.old }
     requires next { front_terminal cursor.old ≡ terminals.Match }
-    ensures reads { IfOk result (λ id. Reads nonterminals.Item cursor.old cursor.new (an_expression (expression patterns.new exprs.new id))) }
-    ensures belongs { IfOk result (IsExpr exprs.new) }
-    ensures grows { IfOk result (λ id. Grows patterns.old exprs.old patterns.new exprs.new) }
-    ensures left { IfOk result (λ id. length cursor.new < length cursor.old) }
+    ensures reads { IfOk result (λ items. Reads nonterminals.Item cursor.old cursor.new (an_expression (expression_of patterns.new exprs.new items))) }
+    ensures stand { IfOk result (AreItems exprs.new) }
+    ensures grows { IfOk result (λ items. Grows patterns.old exprs.old patterns.new exprs.new) }
+    ensures left { IfOk result (λ items. length cursor.new < length cursor.old) }
 {
     let place = cursor.step();
     let scrutinee = read_expr(alloc, cursor, patterns, exprs)?;
@@ -198,7 +245,7 @@ fn read_match(
         let clause = read_clause(alloc, cursor, patterns, exprs)?;
         clauses.push(clause)?;
     }
-    exprs.add(place, ExprForm::Match(scrutinee, clauses))
+    add_item(alloc, exprs, place, ExprForm::Match(scrutinee, clauses))
 }
 
 /// Reads a clause: a pattern, an arrow and a body.

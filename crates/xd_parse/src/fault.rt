@@ -9,7 +9,7 @@ use crate::machine::{Machine, Reading, Step, advance};
 use std::alloc::Global;
 use xd_doc::NoMemory;
 
-/// Why no text goes on with a token.
+/// Why no text within the limit of nesting goes on with a token.
 #[derive(Clone, Copy, Debug, PartialEq, Eq)]
 pub enum Refusal {
     /// No text begins with the tokens up to this one.
@@ -20,7 +20,7 @@ pub enum Refusal {
 
 /// A token that no text goes on with.
 #[derive(Clone, Copy, Debug, PartialEq, Eq)]
-pub struct FirstFault {
+pub(crate) struct FirstFault {
     /// The token's position in the list.
     pub index: usize,
     pub refusal: Refusal,
@@ -39,7 +39,7 @@ fn start(alloc: Global, part: Nonterminal) -> Result<Machine, NoMemory>
 }
 
 /// The first of the tokens that no text of this nonterminal goes on with.
-pub fn first_fault(
+pub(crate) fn first_fault(
     alloc: Global,
     part: Nonterminal,
     tokens: &[Terminal],

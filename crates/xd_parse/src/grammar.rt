@@ -34,6 +34,13 @@ pub enum Terminal {
     Broken,
 }
 
+/// Which of the two is read: they have one grammar, but for the variables of patterns.
+#[derive(Clone, Copy)]
+pub enum Sort {
+    Type,
+    Pattern,
+}
+
 /// A symbol that stands for rows of symbols.
 #[derive(Clone, Copy)]
 pub enum Nonterminal {
@@ -41,28 +48,23 @@ pub enum Nonterminal {
     Param,
     MoreParams,
     TypeText,
-    Type,
-    MoreTypes,
-    TypeSeq,
-    MoreTypeParts,
-    TypePost,
-    TypePrim,
-    TypeGroup,
-    TypeContent,
-    Pattern,
-    MorePatterns,
-    PatternSeq,
-    MorePatternParts,
-    PatternPost,
-    PatternPrim,
-    PatternGroup,
-    PatternContent,
+    Alternative(Sort),
+    MoreBranches(Sort),
+    Sequence(Sort),
+    MoreParts(Sort),
+    Post(Sort),
+    Prim(Sort),
+    Excepted(Sort),
+    ExceptedList(Sort),
+    Group(Sort),
+    Content(Sort),
     Bound,
     Operator,
     Class,
     Labels,
     Names,
     MoreNames,
+    MoreTexts,
     AnyWord,
     Expr,
     MoreItems,
@@ -90,310 +92,149 @@ pub enum Symbol {
     Part(Nonterminal),
 }
 
+/// The rows of a nonterminal of types or patterns, at one of the two.
+macro_rules! rows_at {
+    ($sort:path, Alternative) => { &[&[Part(Sequence($sort)), Part(MoreBranches($sort))]] };
+    ($sort:path, MoreBranches) => { &[&[Token(Bar), Part(Sequence($sort)), Part(MoreBranches($sort))], &[Unless(Bar)]] };
+    ($sort:path, Sequence) => { &[&[Part(Post($sort)), Part(MoreParts($sort))]] };
+    ($sort:path, MoreParts) => { &[&[Token(Comma), Part(Post($sort)), Part(MoreParts($sort))], &[Unless(Comma)]] };
+    ($sort:path, Prim) => { &[&[Token(Word)], &[Opening(ParenL), Part(Group($sort))], &[Token(Text)], &[Token(Caret), Part(Excepted($sort))], &[Part(Class), Part(Content($sort))]] };
+    ($sort:path, Excepted) => { &[&[Token(Text)], &[Opening(Label), Part(Content($sort))], &[Opening(ParenL), Part(ExceptedList($sort))]] };
+    ($sort:path, ExceptedList) => { &[&[Token(Text), Part(MoreTexts), Token(ParenR), Closed], &[Part(AnyWord), Part(MoreNames), Token(ParenR), Closed, Opening(BracketL), Part(Content($sort))]] };
+    ($sort:path, Group) => { &[&[Token(ParenR), Closed, Unless(BracketL)], &[Part(Alternative($sort)), Token(ParenR), Closed, Unless(BracketL)]] };
+    ($sort:path, Content) => { &[&[Token(BracketR), Closed], &[Part(Alternative($sort)), Token(BracketR), Closed]] };
+}
+
+/// The rows of a nonterminal of types or patterns, whichever is read. Rows are constants, so each is there for both.
+macro_rules! rows_of {
+    ($sort:expr, $part:ident) => {
+        match $sort {
+            Sort::Type => rows_at!(Sort::Type, $part),
+            Sort::Pattern => rows_at!(Sort::Pattern, $part),
+        }
+    };
+}
+
 /// The rows that a nonterminal stands for.
 pub fn rules(part: Nonterminal) -> &'static [&'static [Symbol]]
     ensures { rows_now result.now ≡ rules part }
 {
+    use Nonterminal::*;
+    use Symbol::*;
+    use Terminal::*;
     match part {
-        Nonterminal::Definitions => &[
+        Definitions => &[
             &[
-                Symbol::Token(Terminal::Type),
-                Symbol::Token(Terminal::Word),
-                Symbol::Token(Terminal::Equals),
-                Symbol::Part(Nonterminal::Type),
-                Symbol::Part(Nonterminal::Definitions),
+                Token(Type),
+                Token(Word),
+                Token(Equals),
+                Part(Alternative(Sort::Type)),
+                Part(Definitions),
             ],
             &[
-                Symbol::Token(Terminal::Fun),
-                Symbol::Token(Terminal::Word),
-                Symbol::Part(Nonterminal::Param),
-                Symbol::Part(Nonterminal::MoreParams),
-                Symbol::Token(Terminal::Colon),
-                Symbol::Part(Nonterminal::Type),
-                Symbol::Token(Terminal::Equals),
-                Symbol::Part(Nonterminal::Expr),
-                Symbol::Part(Nonterminal::Definitions),
+                Token(Fun),
+                Token(Word),
+                Part(Param),
+                Part(MoreParams),
+                Token(Colon),
+                Part(Alternative(Sort::Type)),
+                Token(Equals),
+                Part(Expr),
+                Part(Definitions),
             ],
-            &[Symbol::Token(Terminal::End)],
+            &[Token(End)],
         ],
-        Nonterminal::Param => &[&[
-            Symbol::Opening(Terminal::ParenL),
-            Symbol::Token(Terminal::Val),
-            Symbol::Token(Terminal::Word),
-            Symbol::Token(Terminal::As),
-            Symbol::Part(Nonterminal::Type),
-            Symbol::Token(Terminal::ParenR),
-            Symbol::Closed,
+        Param => &[&[
+            Opening(ParenL),
+            Token(Val),
+            Token(Word),
+            Token(As),
+            Part(Alternative(Sort::Type)),
+            Token(ParenR),
+            Closed,
         ]],
-        Nonterminal::MoreParams => &[
-            &[Symbol::Unless(Terminal::ParenL)],
-            &[
-                Symbol::Part(Nonterminal::Param),
-                Symbol::Part(Nonterminal::MoreParams),
-            ],
+        MoreParams => &[&[Unless(ParenL)], &[Part(Param), Part(MoreParams)]],
+        TypeText => &[&[Part(Alternative(Sort::Type)), Token(End)]],
+        Alternative(sort) => rows_of!(sort, Alternative),
+        MoreBranches(sort) => rows_of!(sort, MoreBranches),
+        Sequence(sort) => rows_of!(sort, Sequence),
+        MoreParts(sort) => rows_of!(sort, MoreParts),
+        Post(Sort::Type) => &[&[Part(Prim(Sort::Type)), Part(Operator)]],
+        Post(Sort::Pattern) => &[
+            &[Token(Val), Token(Word), Part(Bound)],
+            &[Part(Prim(Sort::Pattern)), Part(Operator)],
         ],
-        Nonterminal::TypeText => &[&[
-            Symbol::Part(Nonterminal::Type),
-            Symbol::Token(Terminal::End),
+        Prim(sort) => rows_of!(sort, Prim),
+        Excepted(sort) => rows_of!(sort, Excepted),
+        ExceptedList(sort) => rows_of!(sort, ExceptedList),
+        Group(sort) => rows_of!(sort, Group),
+        Content(sort) => rows_of!(sort, Content),
+        Bound => &[
+            &[Opening(As), Part(Post(Sort::Pattern)), Closed],
+            &[Unless(As)],
+        ],
+        Operator => &[
+            &[Token(Star)],
+            &[Token(Plus)],
+            &[Token(Query)],
+            &[Unless(Star), Unless(Plus), Unless(Query)],
+        ],
+        Class => &[&[Token(Tilde), Opening(BracketL)], &[Part(Labels)]],
+        Labels => &[&[Opening(Label)], &[Part(Names), Opening(BracketL)]],
+        Names => &[&[
+            Opening(ParenL),
+            Part(AnyWord),
+            Part(MoreNames),
+            Token(ParenR),
+            Closed,
         ]],
-        Nonterminal::Type => &[&[
-            Symbol::Part(Nonterminal::TypeSeq),
-            Symbol::Part(Nonterminal::MoreTypes),
-        ]],
-        Nonterminal::MoreTypes => &[
-            &[
-                Symbol::Token(Terminal::Bar),
-                Symbol::Part(Nonterminal::TypeSeq),
-                Symbol::Part(Nonterminal::MoreTypes),
-            ],
-            &[Symbol::Unless(Terminal::Bar)],
+        MoreNames => &[
+            &[Token(Bar), Part(AnyWord), Part(MoreNames)],
+            &[Unless(Bar)],
         ],
-        Nonterminal::TypeSeq => &[&[
-            Symbol::Part(Nonterminal::TypePost),
-            Symbol::Part(Nonterminal::MoreTypeParts),
-        ]],
-        Nonterminal::MoreTypeParts => &[
-            &[
-                Symbol::Token(Terminal::Comma),
-                Symbol::Part(Nonterminal::TypePost),
-                Symbol::Part(Nonterminal::MoreTypeParts),
-            ],
-            &[Symbol::Unless(Terminal::Comma)],
+        MoreTexts => &[&[Token(Bar), Token(Text), Part(MoreTexts)], &[Unless(Bar)]],
+        AnyWord => &[
+            &[Token(Word)],
+            &[Token(Type)],
+            &[Token(Fun)],
+            &[Token(Val)],
+            &[Token(As)],
+            &[Token(Match)],
+            &[Token(With)],
         ],
-        Nonterminal::TypePost => &[&[
-            Symbol::Part(Nonterminal::TypePrim),
-            Symbol::Part(Nonterminal::Operator),
-        ]],
-        Nonterminal::TypePrim => &[
-            &[Symbol::Token(Terminal::Word)],
-            &[
-                Symbol::Opening(Terminal::ParenL),
-                Symbol::Part(Nonterminal::TypeGroup),
-            ],
-            &[
-                Symbol::Part(Nonterminal::Class),
-                Symbol::Part(Nonterminal::TypeContent),
-            ],
+        Expr => &[&[Part(Item), Part(MoreItems)]],
+        MoreItems => &[
+            &[Token(Comma), Part(Item), Part(MoreItems)],
+            &[Unless(Comma)],
         ],
-        Nonterminal::TypeGroup => &[
+        Item => &[
+            &[Token(Text)],
+            &[Token(Word), Part(MoreParens)],
+            &[Opening(Label), Part(ExprContent)],
             &[
-                Symbol::Token(Terminal::ParenR),
-                Symbol::Closed,
-                Symbol::Unless(Terminal::BracketL),
+                Opening(Match),
+                Part(Expr),
+                Token(With),
+                Part(Clause),
+                Part(MoreClauses),
+                Closed,
             ],
-            &[
-                Symbol::Part(Nonterminal::Type),
-                Symbol::Token(Terminal::ParenR),
-                Symbol::Closed,
-                Symbol::Unless(Terminal::BracketL),
-            ],
+            &[Part(Paren)],
         ],
-        Nonterminal::TypeContent => &[
-            &[Symbol::Token(Terminal::BracketR), Symbol::Closed],
-            &[
-                Symbol::Part(Nonterminal::Type),
-                Symbol::Token(Terminal::BracketR),
-                Symbol::Closed,
-            ],
+        ExprContent => &[
+            &[Token(BracketR), Closed],
+            &[Part(Expr), Token(BracketR), Closed],
         ],
-        Nonterminal::Pattern => &[&[
-            Symbol::Part(Nonterminal::PatternSeq),
-            Symbol::Part(Nonterminal::MorePatterns),
-        ]],
-        Nonterminal::MorePatterns => &[
-            &[
-                Symbol::Token(Terminal::Bar),
-                Symbol::Part(Nonterminal::PatternSeq),
-                Symbol::Part(Nonterminal::MorePatterns),
-            ],
-            &[Symbol::Unless(Terminal::Bar)],
+        Paren => &[&[Opening(ParenL), Part(ParenContent)]],
+        ParenContent => &[
+            &[Token(ParenR), Closed],
+            &[Part(Expr), Token(ParenR), Closed],
         ],
-        Nonterminal::PatternSeq => &[&[
-            Symbol::Part(Nonterminal::PatternPost),
-            Symbol::Part(Nonterminal::MorePatternParts),
-        ]],
-        Nonterminal::MorePatternParts => &[
-            &[
-                Symbol::Token(Terminal::Comma),
-                Symbol::Part(Nonterminal::PatternPost),
-                Symbol::Part(Nonterminal::MorePatternParts),
-            ],
-            &[Symbol::Unless(Terminal::Comma)],
-        ],
-        Nonterminal::PatternPost => &[
-            &[
-                Symbol::Token(Terminal::Val),
-                Symbol::Token(Terminal::Word),
-                Symbol::Part(Nonterminal::Bound),
-            ],
-            &[
-                Symbol::Part(Nonterminal::PatternPrim),
-                Symbol::Part(Nonterminal::Operator),
-            ],
-        ],
-        Nonterminal::PatternPrim => &[
-            &[Symbol::Token(Terminal::Word)],
-            &[
-                Symbol::Opening(Terminal::ParenL),
-                Symbol::Part(Nonterminal::PatternGroup),
-            ],
-            &[
-                Symbol::Part(Nonterminal::Class),
-                Symbol::Part(Nonterminal::PatternContent),
-            ],
-        ],
-        Nonterminal::PatternGroup => &[
-            &[
-                Symbol::Token(Terminal::ParenR),
-                Symbol::Closed,
-                Symbol::Unless(Terminal::BracketL),
-            ],
-            &[
-                Symbol::Part(Nonterminal::Pattern),
-                Symbol::Token(Terminal::ParenR),
-                Symbol::Closed,
-                Symbol::Unless(Terminal::BracketL),
-            ],
-        ],
-        Nonterminal::PatternContent => &[
-            &[Symbol::Token(Terminal::BracketR), Symbol::Closed],
-            &[
-                Symbol::Part(Nonterminal::Pattern),
-                Symbol::Token(Terminal::BracketR),
-                Symbol::Closed,
-            ],
-        ],
-        Nonterminal::Bound => &[
-            &[
-                Symbol::Opening(Terminal::As),
-                Symbol::Part(Nonterminal::PatternPost),
-                Symbol::Closed,
-            ],
-            &[Symbol::Unless(Terminal::As)],
-        ],
-        Nonterminal::Operator => &[
-            &[Symbol::Token(Terminal::Star)],
-            &[Symbol::Token(Terminal::Plus)],
-            &[Symbol::Token(Terminal::Query)],
-            &[
-                Symbol::Unless(Terminal::Star),
-                Symbol::Unless(Terminal::Plus),
-                Symbol::Unless(Terminal::Query),
-            ],
-        ],
-        Nonterminal::Class => &[
-            &[
-                Symbol::Token(Terminal::Tilde),
-                Symbol::Opening(Terminal::BracketL),
-            ],
-            &[
-                Symbol::Token(Terminal::Caret),
-                Symbol::Part(Nonterminal::Labels),
-            ],
-            &[Symbol::Part(Nonterminal::Labels)],
-        ],
-        Nonterminal::Labels => &[
-            &[Symbol::Opening(Terminal::Label)],
-            &[
-                Symbol::Part(Nonterminal::Names),
-                Symbol::Opening(Terminal::BracketL),
-            ],
-        ],
-        Nonterminal::Names => &[&[
-            Symbol::Opening(Terminal::ParenL),
-            Symbol::Part(Nonterminal::AnyWord),
-            Symbol::Part(Nonterminal::MoreNames),
-            Symbol::Token(Terminal::ParenR),
-            Symbol::Closed,
-        ]],
-        Nonterminal::MoreNames => &[
-            &[
-                Symbol::Token(Terminal::Bar),
-                Symbol::Part(Nonterminal::AnyWord),
-                Symbol::Part(Nonterminal::MoreNames),
-            ],
-            &[Symbol::Unless(Terminal::Bar)],
-        ],
-        Nonterminal::AnyWord => &[
-            &[Symbol::Token(Terminal::Word)],
-            &[Symbol::Token(Terminal::Type)],
-            &[Symbol::Token(Terminal::Fun)],
-            &[Symbol::Token(Terminal::Val)],
-            &[Symbol::Token(Terminal::As)],
-            &[Symbol::Token(Terminal::Match)],
-            &[Symbol::Token(Terminal::With)],
-        ],
-        Nonterminal::Expr => &[&[
-            Symbol::Part(Nonterminal::Item),
-            Symbol::Part(Nonterminal::MoreItems),
-        ]],
-        Nonterminal::MoreItems => &[
-            &[
-                Symbol::Token(Terminal::Comma),
-                Symbol::Part(Nonterminal::Item),
-                Symbol::Part(Nonterminal::MoreItems),
-            ],
-            &[Symbol::Unless(Terminal::Comma)],
-        ],
-        Nonterminal::Item => &[
-            &[Symbol::Token(Terminal::Text)],
-            &[
-                Symbol::Token(Terminal::Word),
-                Symbol::Part(Nonterminal::MoreParens),
-            ],
-            &[
-                Symbol::Opening(Terminal::Label),
-                Symbol::Part(Nonterminal::ExprContent),
-            ],
-            &[
-                Symbol::Opening(Terminal::Match),
-                Symbol::Part(Nonterminal::Expr),
-                Symbol::Token(Terminal::With),
-                Symbol::Part(Nonterminal::Clause),
-                Symbol::Part(Nonterminal::MoreClauses),
-                Symbol::Closed,
-            ],
-            &[Symbol::Part(Nonterminal::Paren)],
-        ],
-        Nonterminal::ExprContent => &[
-            &[Symbol::Token(Terminal::BracketR), Symbol::Closed],
-            &[
-                Symbol::Part(Nonterminal::Expr),
-                Symbol::Token(Terminal::BracketR),
-                Symbol::Closed,
-            ],
-        ],
-        Nonterminal::Paren => &[&[
-            Symbol::Opening(Terminal::ParenL),
-            Symbol::Part(Nonterminal::ParenContent),
-        ]],
-        Nonterminal::ParenContent => &[
-            &[Symbol::Token(Terminal::ParenR), Symbol::Closed],
-            &[
-                Symbol::Part(Nonterminal::Expr),
-                Symbol::Token(Terminal::ParenR),
-                Symbol::Closed,
-            ],
-        ],
-        Nonterminal::MoreParens => &[
-            &[Symbol::Unless(Terminal::ParenL)],
-            &[
-                Symbol::Part(Nonterminal::Paren),
-                Symbol::Part(Nonterminal::MoreParens),
-            ],
-        ],
-        Nonterminal::Clause => &[&[
-            Symbol::Part(Nonterminal::PatternSeq),
-            Symbol::Token(Terminal::Arrow),
-            Symbol::Part(Nonterminal::Expr),
-        ]],
-        Nonterminal::MoreClauses => &[
-            &[
-                Symbol::Token(Terminal::Bar),
-                Symbol::Part(Nonterminal::Clause),
-                Symbol::Part(Nonterminal::MoreClauses),
-            ],
-            &[Symbol::Unless(Terminal::Bar)],
+        MoreParens => &[&[Unless(ParenL)], &[Part(Paren), Part(MoreParens)]],
+        Clause => &[&[Part(Sequence(Sort::Pattern)), Token(Arrow), Part(Expr)]],
+        MoreClauses => &[
+            &[Token(Bar), Part(Clause), Part(MoreClauses)],
+            &[Unless(Bar)],
         ],
     }
 }

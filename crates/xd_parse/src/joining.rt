@@ -1,35 +1,70 @@
 //! Expressions with commas between them become one sequence.
 
-ghost use Rattle.std.specs.Prelude.{◌≡◌, ◌++◌, ℕ, List, length, map, IfOk, OnOk};
+ghost use Rattle.std.specs.Prelude.{◌≡◌, ◌++◌, ◌∷◌, [], ℕ, List, false, map, IfOk};
 ghost use Rattle.std.specs.List.{AllByRecursion};
 ghost use Rattle.xd_syntax.specs.Table.{Row};
-ghost use Rattle.xd_syntax.specs.Expression.{KeepsExprs, IsExprPart, IsJoinedPart, PatternsBelong};
-ghost use Rattle.xd_syntax.specs.Exprs.{IsExpr, expr_numbers, expression};
-ghost use Rattle.xd_parse.specs.Merged.{parts_of_expression, merged_expression, sequence_of_expressions};
+ghost use Rattle.xd_syntax.specs.Placed.{placed_at};
+ghost use Rattle.xd_syntax.specs.Expression.{ExprCanFollow, KeepsExprs, IsJoinedPart, PatternsBelong, expression_at, is_joined_shape, shape_expression};
+ghost use Rattle.xd_syntax.specs.Exprs.{IsExpr, expr_numbers, expression, shape_of};
+ghost use Rattle.xd_parse.specs.Merged.{merged_expression};
+ghost use Rattle.xd_parse.specs.Pieces.{AreItems, expression_of};
 
+use crate::queue::{join, queue_of};
 use std::alloc::Global;
+use std::collections::VecDeque;
 use xd_base::Place;
 use xd_doc::NoMemory;
 use xd_syntax::{ExprForm, ExprId, Exprs};
 
-/// Adds the parts that an expression is in a sequence.
-fn push_parts(exprs: &Exprs, id: ExprId, parts: &mut Vec<ExprId>) -> Result<(), NoMemory>
-    requires there { IsExpr exprs.now id }
-    requires parts { AllByRecursion (IsJoinedPart exprs.now) (expr_numbers parts.old.items) }
-    ensures parts { OnOk result (AllByRecursion (IsJoinedPart exprs.now) (expr_numbers parts.new.items)) }
-    ensures value { OnOk result ((patterns : List Row) → map (expression patterns exprs.now) parts.new.items ≡ map (expression patterns exprs.now) parts.old.items ++ parts_of_expression (expression patterns exprs.now id)) }
+/// What was read, before a node is made of it: the parts of a sequence, so that what stands around it merges with them.
+/// Of no part it is empty, at the place; one part is itself.
+#[derive(Drop)]
+pub(crate) struct Items {
+    pub place: Place,
+    pub parts: VecDeque<ExprId>,
+}
+
+/// Nothing, at this place.
+pub(crate) fn nothing_at(alloc: Global, place: Place) -> Items
+    ensures place { result.place ≡ place }
+    ensures none { result.parts.items ≡ [] }
 {
-    match exprs.node(id).form() {
-        ExprForm::Empty => Ok(()),
-        ExprForm::Seq(inner) => {
-            parts.extend_from_slice(inner)?;
-            Ok(())
-        }
-        _ => {
-            parts.push(id)?;
-            Ok(())
-        }
+    Items {
+        place,
+        parts: VecDeque::new(alloc),
     }
+}
+
+/// Adds a node that is not empty and no sequence.
+pub(crate) fn add_item(
+    alloc: Global,
+    exprs: &mut Exprs,
+    place: Place,
+    form: ExprForm,
+) -> Result<Items, NoMemory>
+    requires follows { ExprCanFollow exprs.old (shape_of form) }
+    requires alone { is_joined_shape (shape_of form) ≡ false }
+    ensures expression { IfOk result (λ items. (patterns : List Row) → expression_of patterns exprs.new items ≡ shape_expression (placed_at patterns) (expression_at patterns exprs.old) place (shape_of form)) }
+    ensures stand { IfOk result (AreItems exprs.new) }
+    ensures grown { IfOk result (λ items. exprs.new ≡ exprs.old ++ record { place = place; form = shape_of form } ∷ []) }
+{
+    let id = exprs.add(place, form)?;
+    // What the table says of the node, for the proof alone.
+    let _node = exprs.node(id);
+    let parts = queue_of(alloc, id)?;
+    Ok(Items { place, parts })
+}
+
+/// What was read in front, and behind it what was read then.
+pub(crate) fn in_row(front: Items, back: Items) -> Result<Items, NoMemory>
+    ensures place { IfOk result (λ items. items.place ≡ front.place) }
+    ensures parts { IfOk result (λ items. items.parts.items ≡ front.parts.items ++ back.parts.items) }
+{
+    let parts = join(front.parts, back.parts)?;
+    Ok(Items {
+        place: front.place,
+        parts,
+    })
 }
 
 /// The sequence of parts that are merged. Where there are none it is empty, at the place given.
@@ -50,28 +85,13 @@ fn merged(exprs: &mut Exprs, place: Place, parts: Vec<ExprId>) -> Result<ExprId,
     }
 }
 
-/// One expression and those behind it as one: sequences in them are merged, and what is empty is left out.
-pub(crate) fn join(
-    alloc: Global,
-    exprs: &mut Exprs,
-    first: ExprId,
-    more: Vec<ExprId>,
-) -> Result<ExprId, NoMemory>
-    requires first { IsExpr exprs.old first }
-    requires more { AllByRecursion (IsExprPart exprs.old) (expr_numbers more.items) }
-    ensures value { IfOk result (λ id. (patterns : List Row) → expression patterns exprs.new id ≡ sequence_of_expressions (expression patterns exprs.old first) (map (expression patterns exprs.old) more.items)) }
+/// The node of what was read.
+pub(crate) fn to_expr(exprs: &mut Exprs, items: Items) -> Result<ExprId, NoMemory>
+    requires { AreItems exprs.old items }
+    ensures value { IfOk result (λ id. (patterns : List Row) → expression patterns exprs.new id ≡ expression_of patterns exprs.old items) }
     ensures belongs { IfOk result (IsExpr exprs.new) }
     ensures keeps { IfOk result (λ id. KeepsExprs exprs.old exprs.new) }
     ensures clauses { IfOk result (λ id. (n : ℕ) → PatternsBelong n exprs.old → PatternsBelong n exprs.new) }
 {
-    if more.is_empty() {
-        return Ok(first);
-    }
-    let mut parts = Vec::new(alloc);
-    push_parts(exprs, first, &mut parts)?;
-    for id in &more {
-        push_parts(exprs, *id, &mut parts)?;
-    }
-    let place = exprs.node(first).place();
-    merged(exprs, place, parts)
+    merged(exprs, items.place, items.parts.into_vec())
 }

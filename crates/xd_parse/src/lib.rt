@@ -10,20 +10,16 @@ mod grammar;
 mod joining;
 pub mod laws;
 mod machine;
-mod merge;
 mod nodes;
 mod parse;
+mod parts;
 mod patterns;
+mod queue;
 mod text;
 mod trees;
 mod types;
 
-pub use fault::{FirstFault, Refusal, first_fault};
-pub use grammar::{Nonterminal, Symbol, Terminal};
+pub use fault::Refusal;
+pub use grammar::{Nonterminal, Sort, Symbol, Terminal};
 pub use parse::{ParseError, parse_program, parse_type};
-pub use text::{TextFault, program_fault, type_fault};
-
-#[cfg(test)]
-mod tests;
-#[cfg(test)]
-mod tree_tests;
+pub use text::TextFault;

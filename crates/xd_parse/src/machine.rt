@@ -9,15 +9,8 @@ ghost use Rattle.xd_parse.specs.Grammar.{rules};
 ghost use Rattle.xd_parse.specs.Machine.{main_row, listed_row, course, group_of, Shifts, TurnsOr, Advances, entered, is_keyword, at_name};
 ghost use Rattle.xd_parse.specs.Rows.{rows_now};
 
-use crate::grammar::{Nonterminal, Symbol, Terminal, rules};
+use crate::grammar::{Nonterminal, Sort, Symbol, Terminal, rules};
 use xd_doc::NoMemory;
-
-/// What stands in parentheses.
-#[derive(Clone, Copy)]
-pub enum Sort {
-    Type,
-    Pattern,
-}
 
 /// How the tokens behind the last `(` may still be read.
 #[derive(Clone, Copy)]
@@ -110,8 +103,7 @@ fn group_of(part: Nonterminal, kind: Terminal) -> Option<Sort>
         return None;
     }
     match part {
-        Nonterminal::TypePrim => Some(Sort::Type),
-        Nonterminal::PatternPrim => Some(Sort::Pattern),
+        Nonterminal::Prim(sort) => Some(sort),
         _ => None,
     }
 }
@@ -255,126 +247,95 @@ pub(crate) fn course_at(reading: Reading, kind: Terminal) -> Course
     }
 }
 
-/// What is to come where the parentheses hold a type or a pattern.
-fn main_row(reading: Reading) -> &'static [Symbol]
-    ensures { result.now ≡ main_row reading }
+/// Puts on the stack what is to come where the parentheses hold a type or a pattern.
+fn push_main(stack: &mut Vec<Symbol>, reading: Reading) -> Result<(), NoMemory>
+    ensures { OnOk result (reverse stack.new.items ≡ main_row reading ++ reverse stack.old.items) }
 {
     match reading {
-        Reading::Plain => &[],
-        Reading::Opened(Sort::Type) => &[Symbol::Part(Nonterminal::TypeGroup)],
-        Reading::Opened(Sort::Pattern) => &[Symbol::Part(Nonterminal::PatternGroup)],
-        Reading::Named(Sort::Type) => &[
-            Symbol::Part(Nonterminal::Operator),
-            Symbol::Part(Nonterminal::MoreTypeParts),
-            Symbol::Part(Nonterminal::MoreTypes),
-            Symbol::Token(Terminal::ParenR),
-            Symbol::Closed,
-            Symbol::Unless(Terminal::BracketL),
-        ],
-        Reading::Named(Sort::Pattern) => &[
-            Symbol::Part(Nonterminal::Operator),
-            Symbol::Part(Nonterminal::MorePatternParts),
-            Symbol::Part(Nonterminal::MorePatterns),
-            Symbol::Token(Terminal::ParenR),
-            Symbol::Closed,
-            Symbol::Unless(Terminal::BracketL),
-        ],
-        Reading::Barred(Sort::Type) => &[
-            Symbol::Part(Nonterminal::TypeSeq),
-            Symbol::Part(Nonterminal::MoreTypes),
-            Symbol::Token(Terminal::ParenR),
-            Symbol::Closed,
-            Symbol::Unless(Terminal::BracketL),
-        ],
-        Reading::Barred(Sort::Pattern) => &[
-            Symbol::Part(Nonterminal::PatternSeq),
-            Symbol::Part(Nonterminal::MorePatterns),
-            Symbol::Token(Terminal::ParenR),
-            Symbol::Closed,
-            Symbol::Unless(Terminal::BracketL),
-        ],
-        Reading::Shut(_) => &[Symbol::Closed, Symbol::Unless(Terminal::BracketL)],
-        Reading::AfterVal => &[
-            Symbol::Token(Terminal::Word),
-            Symbol::Part(Nonterminal::Bound),
-            Symbol::Part(Nonterminal::MorePatternParts),
-            Symbol::Part(Nonterminal::MorePatterns),
-            Symbol::Token(Terminal::ParenR),
-            Symbol::Closed,
-            Symbol::Unless(Terminal::BracketL),
-        ],
+        Reading::Plain => Ok(()),
+        Reading::Opened(sort) => push_row(stack, &[Symbol::Part(Nonterminal::Group(sort))]),
+        Reading::Named(sort) => push_row(
+            stack,
+            &[
+                Symbol::Part(Nonterminal::Operator),
+                Symbol::Part(Nonterminal::MoreParts(sort)),
+                Symbol::Part(Nonterminal::MoreBranches(sort)),
+                Symbol::Token(Terminal::ParenR),
+                Symbol::Closed,
+                Symbol::Unless(Terminal::BracketL),
+            ],
+        ),
+        Reading::Barred(sort) => push_row(
+            stack,
+            &[
+                Symbol::Part(Nonterminal::Sequence(sort)),
+                Symbol::Part(Nonterminal::MoreBranches(sort)),
+                Symbol::Token(Terminal::ParenR),
+                Symbol::Closed,
+                Symbol::Unless(Terminal::BracketL),
+            ],
+        ),
+        Reading::Shut(_) => push_row(stack, &[Symbol::Closed, Symbol::Unless(Terminal::BracketL)]),
+        Reading::AfterVal => push_row(
+            stack,
+            &[
+                Symbol::Token(Terminal::Word),
+                Symbol::Part(Nonterminal::Bound),
+                Symbol::Part(Nonterminal::MoreParts(Sort::Pattern)),
+                Symbol::Part(Nonterminal::MoreBranches(Sort::Pattern)),
+                Symbol::Token(Terminal::ParenR),
+                Symbol::Closed,
+                Symbol::Unless(Terminal::BracketL),
+            ],
+        ),
     }
 }
 
-/// What is to come where the parentheses hold the labels of a class.
-fn listed_row(reading: Reading) -> &'static [Symbol]
-    ensures { result.now ≡ listed_row reading }
+/// Puts on the stack what is to come where the parentheses hold the labels of a class.
+fn push_listed(stack: &mut Vec<Symbol>, reading: Reading) -> Result<(), NoMemory>
+    ensures { OnOk result (reverse stack.new.items ≡ listed_row reading ++ reverse stack.old.items) }
 {
     match reading {
-        Reading::Plain => &[],
-        Reading::Opened(Sort::Type) => &[
-            Symbol::Part(Nonterminal::AnyWord),
-            Symbol::Part(Nonterminal::MoreNames),
-            Symbol::Token(Terminal::ParenR),
-            Symbol::Closed,
-            Symbol::Opening(Terminal::BracketL),
-            Symbol::Part(Nonterminal::TypeContent),
-        ],
-        Reading::Opened(Sort::Pattern) => &[
-            Symbol::Part(Nonterminal::AnyWord),
-            Symbol::Part(Nonterminal::MoreNames),
-            Symbol::Token(Terminal::ParenR),
-            Symbol::Closed,
-            Symbol::Opening(Terminal::BracketL),
-            Symbol::Part(Nonterminal::PatternContent),
-        ],
-        Reading::Named(Sort::Type) => &[
-            Symbol::Part(Nonterminal::MoreNames),
-            Symbol::Token(Terminal::ParenR),
-            Symbol::Closed,
-            Symbol::Opening(Terminal::BracketL),
-            Symbol::Part(Nonterminal::TypeContent),
-        ],
-        Reading::Named(Sort::Pattern) => &[
-            Symbol::Part(Nonterminal::MoreNames),
-            Symbol::Token(Terminal::ParenR),
-            Symbol::Closed,
-            Symbol::Opening(Terminal::BracketL),
-            Symbol::Part(Nonterminal::PatternContent),
-        ],
-        Reading::Barred(Sort::Type) => &[
-            Symbol::Part(Nonterminal::AnyWord),
-            Symbol::Part(Nonterminal::MoreNames),
-            Symbol::Token(Terminal::ParenR),
-            Symbol::Closed,
-            Symbol::Opening(Terminal::BracketL),
-            Symbol::Part(Nonterminal::TypeContent),
-        ],
-        Reading::Barred(Sort::Pattern) => &[
-            Symbol::Part(Nonterminal::AnyWord),
-            Symbol::Part(Nonterminal::MoreNames),
-            Symbol::Token(Terminal::ParenR),
-            Symbol::Closed,
-            Symbol::Opening(Terminal::BracketL),
-            Symbol::Part(Nonterminal::PatternContent),
-        ],
-        Reading::Shut(Sort::Type) => &[
-            Symbol::Closed,
-            Symbol::Opening(Terminal::BracketL),
-            Symbol::Part(Nonterminal::TypeContent),
-        ],
-        Reading::Shut(Sort::Pattern) => &[
-            Symbol::Closed,
-            Symbol::Opening(Terminal::BracketL),
-            Symbol::Part(Nonterminal::PatternContent),
-        ],
-        Reading::AfterVal => &[
-            Symbol::Part(Nonterminal::MoreNames),
-            Symbol::Token(Terminal::ParenR),
-            Symbol::Closed,
-            Symbol::Opening(Terminal::BracketL),
-            Symbol::Part(Nonterminal::PatternContent),
-        ],
+        Reading::Plain => Ok(()),
+        Reading::Opened(sort) | Reading::Barred(sort) => push_row(
+            stack,
+            &[
+                Symbol::Part(Nonterminal::AnyWord),
+                Symbol::Part(Nonterminal::MoreNames),
+                Symbol::Token(Terminal::ParenR),
+                Symbol::Closed,
+                Symbol::Opening(Terminal::BracketL),
+                Symbol::Part(Nonterminal::Content(sort)),
+            ],
+        ),
+        Reading::Named(sort) => push_row(
+            stack,
+            &[
+                Symbol::Part(Nonterminal::MoreNames),
+                Symbol::Token(Terminal::ParenR),
+                Symbol::Closed,
+                Symbol::Opening(Terminal::BracketL),
+                Symbol::Part(Nonterminal::Content(sort)),
+            ],
+        ),
+        Reading::Shut(sort) => push_row(
+            stack,
+            &[
+                Symbol::Closed,
+                Symbol::Opening(Terminal::BracketL),
+                Symbol::Part(Nonterminal::Content(sort)),
+            ],
+        ),
+        Reading::AfterVal => push_row(
+            stack,
+            &[
+                Symbol::Part(Nonterminal::MoreNames),
+                Symbol::Token(Terminal::ParenR),
+                Symbol::Closed,
+                Symbol::Opening(Terminal::BracketL),
+                Symbol::Part(Nonterminal::Content(Sort::Pattern)),
+            ],
+        ),
     }
 }
 
@@ -386,15 +347,6 @@ pub struct Machine {
     pub depth: usize,
 }
 
-/// What the next token does where this row is to come next.
-fn shift_with(machine: &mut Machine, row: &[Symbol], kind: Terminal) -> Result<Step, NoMemory>
-    ensures { IfOk result (λ step. Shifts machine.old.depth (row.now ++ reverse machine.old.stack.items) kind step machine.new.depth (reverse machine.new.stack.items)) }
-{
-    push_row(&mut machine.stack, row)?;
-    let step = shift(&mut machine.stack, &mut machine.depth, kind)?;
-    Ok(step)
-}
-
 /// What the next token does. The reading of the `Step` is not put in its place yet. After `Syntax`, `TooDeep` and
 /// want of memory the machine has no use.
 pub fn advance(machine: &mut Machine, kind: Terminal) -> Result<Step, NoMemory>
@@ -403,11 +355,13 @@ pub fn advance(machine: &mut Machine, kind: Terminal) -> Result<Step, NoMemory>
     match course_at(machine.reading, kind) {
         Course::Both(next) => Ok(Step::Next(next)),
         Course::Main => {
-            let step = shift_with(machine, main_row(machine.reading), kind)?;
+            push_main(&mut machine.stack, machine.reading)?;
+            let step = shift(&mut machine.stack, &mut machine.depth, kind)?;
             Ok(step)
         }
         Course::Listed => {
-            let step = shift_with(machine, listed_row(machine.reading), kind)?;
+            push_listed(&mut machine.stack, machine.reading)?;
+            let step = shift(&mut machine.stack, &mut machine.depth, kind)?;
             Ok(step)
         }
     }

@@ -1,19 +1,17 @@
 //! Tables of nodes: types and patterns, as the parser adds to them.
 
-ghost use Rattle.std.specs.Prelude.{◌≡◌, ◌<◌, ℕ, List, false, true, map, length, IfOk, OnOk};
+ghost use Rattle.std.specs.Prelude.{◌≡◌, ℕ, List, false, true, IfOk};
 ghost use Rattle.xd_syntax.specs.declared.types.TypeId.{TypeId};
 ghost use Rattle.xd_syntax.specs.declared.patterns.PatternId.{PatternId};
-ghost use Rattle.xd_syntax.specs.Table.{Row, CanFollow, KeepsRows, IsSeqPart, IsAltPart};
-ghost use Rattle.xd_syntax.specs.Placed.{placed_at, placed_form, place_of};
-ghost use Rattle.xd_parse.specs.Merged.{parts_of_seq, parts_of_alt};
-ghost use Rattle.xd_parse.specs.Shallow.{IsWhole};
-ghost use Rattle.xd_parse.specs.Nodes.{binders, shape, IsAdded, AddsParts};
-ghost use Rattle.xd_parse.specs.declared.machine.Sort.{Sort};
-ghost use Rattle.xd_parse.specs.declared.machine.Sort.TheVariants as sorts;
+ghost use Rattle.xd_syntax.specs.Table.{Row, CanFollow, KeepsRows};
+ghost use Rattle.xd_syntax.specs.Placed.{placed_at, placed_form};
+ghost use Rattle.xd_parse.specs.Nodes.{binders, shape, IsAdded};
+ghost use Rattle.xd_parse.specs.declared.grammar.Sort.{Sort};
+ghost use Rattle.xd_parse.specs.declared.grammar.Sort.TheVariants as sorts;
 
-use crate::machine::Sort;
+use crate::grammar::Sort;
 use xd_base::Place;
-use xd_doc::{Class, Label, NoMemory};
+use xd_doc::{Class, Label, NoMemory, Words};
 use xd_syntax::{PatternForm, PatternId, Patterns, TypeForm, TypeId, Types};
 
 /// What a node is. Its parts are older nodes.
@@ -21,6 +19,8 @@ use xd_syntax::{PatternForm, PatternId, Patterns, TypeForm, TypeId, Types};
 pub(crate) enum NodeForm<I> {
     Empty,
     Text,
+    /// One text, or all but at least one.
+    Words(Words),
     Name(Label),
     Elem(Class, I),
     Seq(Vec<I>),
@@ -51,22 +51,6 @@ pub(crate) trait Nodes {
         requires { CanFollow (binders sort) (rows self.old) (shape at form) }
         ensures added { IfOk result (λ id. IsAdded (rows self.old) (rows self.new) (placed_form (placed_at (rows self.old)) place (shape at form)) (at id)) }
         ensures keeps { KeepsRows (rows self.old) (rows self.new) };
-
-    /// The place of a node.
-    fn place(&self, id: Self::Id) -> Place
-        requires { at id < length (rows self.now) }
-        ensures { result ≡ place_of (placed_at (rows self.now) (at id)) };
-
-    /// Puts the parts that a node is as a part of a sequence behind others.
-    fn push_seq_parts(&self, id: Self::Id, parts: &mut Vec<Self::Id>) -> Result<(), NoMemory>
-        requires { at id < length (rows self.now) }
-        ensures parts { OnOk result (AddsParts (IsSeqPart (rows self.now)) (rows self.now) (parts_of_seq (placed_at (rows self.now) (at id))) (map at parts.old.items) (map at parts.new.items)) }
-        ensures whole { IsWhole (placed_at (rows self.now) (at id)) };
-
-    /// Puts the parts that a node is as a branch of an alternative behind others.
-    fn push_alt_parts(&self, id: Self::Id, parts: &mut Vec<Self::Id>) -> Result<(), NoMemory>
-        requires { at id < length (rows self.now) }
-        ensures { OnOk result (AddsParts (IsAltPart (rows self.now)) (rows self.now) (parts_of_alt (placed_at (rows self.now) (at id))) (map at parts.old.items) (map at parts.new.items)) };
 }
 
 impl Nodes for Types {
@@ -90,6 +74,7 @@ impl Nodes for Types {
         let form = match form {
             NodeForm::Empty => TypeForm::Empty,
             NodeForm::Text => TypeForm::Text,
+            NodeForm::Words(texts) => TypeForm::Words(texts),
             NodeForm::Name(word) => TypeForm::Name(word),
             NodeForm::Elem(class, content) => TypeForm::Elem(class, content),
             NodeForm::Seq(parts) => TypeForm::Seq(parts),
@@ -100,27 +85,6 @@ impl Nodes for Types {
             NodeForm::Val(_, _, _) => unreachable!(),
         };
         self.add(place, form)
-    }
-
-    fn place(&self, id: TypeId) -> Place {
-        self.node(id).place()
-    }
-
-    fn push_seq_parts(&self, id: TypeId, parts: &mut Vec<TypeId>) -> Result<(), NoMemory> {
-        match self.node(id).form() {
-            TypeForm::Empty => {}
-            TypeForm::Seq(inner) => parts.extend_from_slice(inner)?,
-            _ => parts.push(id)?,
-        }
-        Ok(())
-    }
-
-    fn push_alt_parts(&self, id: TypeId, parts: &mut Vec<TypeId>) -> Result<(), NoMemory> {
-        match self.node(id).form() {
-            TypeForm::Alt(inner) => parts.extend_from_slice(inner)?,
-            _ => parts.push(id)?,
-        }
-        Ok(())
     }
 }
 
@@ -145,6 +109,7 @@ impl Nodes for Patterns {
         let form = match form {
             NodeForm::Empty => PatternForm::Empty,
             NodeForm::Text => PatternForm::Text,
+            NodeForm::Words(texts) => PatternForm::Words(texts),
             NodeForm::Name(word) => PatternForm::Name(word),
             NodeForm::Elem(class, content) => PatternForm::Elem(class, content),
             NodeForm::Seq(parts) => PatternForm::Seq(parts),
@@ -155,26 +120,5 @@ impl Nodes for Patterns {
             NodeForm::Val(word, at, part) => PatternForm::Val(word, at, part),
         };
         self.add(place, form)
-    }
-
-    fn place(&self, id: PatternId) -> Place {
-        self.node(id).place()
-    }
-
-    fn push_seq_parts(&self, id: PatternId, parts: &mut Vec<PatternId>) -> Result<(), NoMemory> {
-        match self.node(id).form() {
-            PatternForm::Empty => {}
-            PatternForm::Seq(inner) => parts.extend_from_slice(inner)?,
-            _ => parts.push(id)?,
-        }
-        Ok(())
-    }
-
-    fn push_alt_parts(&self, id: PatternId, parts: &mut Vec<PatternId>) -> Result<(), NoMemory> {
-        match self.node(id).form() {
-            PatternForm::Alt(inner) => parts.extend_from_slice(inner)?,
-            _ => parts.push(id)?,
-        }
-        Ok(())
     }
 }

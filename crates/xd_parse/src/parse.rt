@@ -1,6 +1,6 @@
 //! Programs and types from bytes.
 
-ghost use Rattle.std.specs.Prelude.{◌≡◌, All, Some, true, map, IfOk, IfErr};
+ghost use Rattle.std.specs.Prelude.{◌≡◌, All, Some, true, map, IfOk, IfErr, OnErr};
 ghost use Rattle.xd_lex.specs.Tokens.{lexeme_of, tokens_of};
 ghost use Rattle.xd_lex.specs.Spelled.{IsSpelling};
 ghost use Rattle.xd_syntax.specs.Placed.{placed_at};
@@ -12,7 +12,7 @@ ghost use Rattle.xd_parse.specs.declared.parse.ParseError.TheVariants as errors;
 ghost use Rattle.xd_parse.specs.Text.{is_text, SpellsText};
 ghost use Rattle.xd_parse.specs.Means.{IsProgramText, IsTypeText};
 ghost use Rattle.xd_parse.specs.Faults.{reported};
-ghost use Rattle.xd_parse.specs.Shallow.{IsShallow, AddsWithin};
+ghost use Rattle.xd_syntax.specs.Shallow.{IsShallow, AddsWithin};
 ghost use Rattle.xd_parse.specs.ParseErrors.{IsParseError, IsFault};
 
 use crate::cursor::Cursor;
@@ -83,7 +83,8 @@ fn spelled_tokens<'a>(
     }
 }
 
-/// Reads the text of a program. Takes time linear in the text.
+/// Reads the text of a program. Takes n log n steps for n tokens: labels of a class are sorted, and
+/// parts of sequences in one another are moved to the longer list.
 pub fn parse_program(alloc: Global, bytes: &[u8]) -> Result<Program, ParseError>
     ensures program { IfOk result (λ p. IsProgramText bytes.now (program_tree p)) }
     ensures shallow { IfOk result (λ p. IsShallow p.types) }
@@ -96,17 +97,25 @@ pub fn parse_program(alloc: Global, bytes: &[u8]) -> Result<Program, ParseError>
     Ok(program)
 }
 
-/// Reads the text of a type, in the same way; its nodes are added to those of the table, which stay.
+/// Reads the text of a type, in the same way; its nodes are added to those of the table, which stay. Where none is read the
+/// table is as it was.
 pub fn parse_type(alloc: Global, types: &mut Types, bytes: &[u8]) -> Result<TypeId, ParseError>
     ensures type_text { IfOk result (λ id. IsTypeText bytes.now (placed_at types.new id.at)) }
-    ensures shallow { IfOk result (λ id. AddsWithin 256 types.old types.new) }
+    ensures shallow { AddsWithin 256 types.old types.new }
     ensures belongs { IfOk result (BelongsTo types.new) }
     ensures keeps { KeepsRows types.old types.new }
+    ensures unchanged { OnErr result (types.new ≡ types.old) }
     ensures fault { IfErr result (IsParseError nonterminals.TypeText bytes.now) }
     ensures unspelled { IfErr result (λ e. IsFault e → ¬ (SpellsText nonterminals.TypeText bytes.now)) }
 {
     let all = spelled_tokens(alloc, Nonterminal::TypeText, bytes)?;
     let mut cursor = Cursor::new(all.as_slice());
-    let id = read_type(alloc, &mut cursor, types)?;
-    Ok(id)
+    let len = types.len();
+    match read_type(alloc, &mut cursor, types) {
+        Ok(id) => Ok(id),
+        Err(NoMemory) => {
+            types.truncate(len);
+            Err(ParseError::NoMemory)
+        }
+    }
 }

@@ -1,17 +1,16 @@
-//! The fault of a text.
+//! The fault of tokens.
 
-ghost use Rattle.std.specs.Prelude.{◌≡◌, ◌<◌, true, length, map, IfOk, MatchOption, IsSome};
+ghost use Rattle.std.specs.Prelude.{◌≡◌, ◌<◌, length, map, IfOk, MatchOption};
 ghost use Rattle.xd_lex.specs.Tokens.{lexeme_of};
 ghost use Rattle.xd_parse.specs.Grammar.{Begins};
-ghost use Rattle.xd_parse.specs.declared.grammar.Nonterminal.TheVariants as nonterminals;
-ghost use Rattle.xd_parse.specs.Text.{word_terminal, terminal_of, terminals_of, is_text, SpellsText, IsTextFault, IsPlaceAt, IsLexemeFault, fault_of};
+ghost use Rattle.xd_parse.specs.Text.{word_terminal, terminal_of, terminals_of, IsPlaceAt, IsLexemeFault, fault_of};
 
 use crate::fault::{Refusal, first_fault};
 use crate::grammar::{Nonterminal, Terminal};
 use std::alloc::Global;
 use xd_base::Place;
 use xd_doc::NoMemory;
-use xd_lex::{Kind, LexError, Token, tokens};
+use xd_lex::{Kind, Token};
 
 /// Why a text is no program, or no type, and where.
 #[derive(Clone, Copy, Debug, PartialEq, Eq)]
@@ -114,36 +113,4 @@ pub(crate) fn placed_fault(
             Ok(Some(fault_at(fault.refusal, place)))
         }
     }
-}
-
-fn text_fault(alloc: Global, part: Nonterminal, bytes: &[u8]) -> Result<Option<TextFault>, NoMemory>
-    requires { is_text part ≡ true }
-    ensures { IfOk result (λ found. MatchOption found (SpellsText part bytes.now) (λ fault. IsTextFault part bytes.now fault)) }
-{
-    let all = match tokens(alloc, bytes) {
-        Ok(all) => all,
-        Err(LexError::NotUtf8(place)) => return Ok(Some(TextFault::NotUtf8(place))),
-        Err(LexError::NoMemory) => return Err(NoMemory),
-    };
-    let found = placed_fault(alloc, part, all.as_slice())?;
-    Ok(found)
-}
-
-/// The fault of a program's text: not UTF-8, else the first token that no program goes on with or that opens too
-/// much nesting; `None` exactly where the text is a program within the nesting limit.
-pub fn program_fault(alloc: Global, bytes: &[u8]) -> Result<Option<TextFault>, NoMemory>
-    ensures fault { IfOk result (λ found. MatchOption found (SpellsText nonterminals.Definitions bytes.now) (λ fault. IsTextFault nonterminals.Definitions bytes.now fault)) }
-    ensures unspelled { IfOk result (λ found. IsSome found → ¬ (SpellsText nonterminals.Definitions bytes.now)) }
-{
-    let found = text_fault(alloc, Nonterminal::Definitions, bytes)?;
-    Ok(found)
-}
-
-/// The fault of a type's text, in the same way.
-pub fn type_fault(alloc: Global, bytes: &[u8]) -> Result<Option<TextFault>, NoMemory>
-    ensures fault { IfOk result (λ found. MatchOption found (SpellsText nonterminals.TypeText bytes.now) (λ fault. IsTextFault nonterminals.TypeText bytes.now fault)) }
-    ensures unspelled { IfOk result (λ found. IsSome found → ¬ (SpellsText nonterminals.TypeText bytes.now)) }
-{
-    let found = text_fault(alloc, Nonterminal::TypeText, bytes)?;
-    Ok(found)
 }

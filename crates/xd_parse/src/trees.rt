@@ -1,61 +1,112 @@
 //! Reads types and patterns.
 //!
 //! They have one grammar, but for the variables of patterns. Each function reads what its nonterminal stands for; where
-//! no token comes that the nonterminal begins with, it may answer any node.
+//! no token comes that the nonterminal begins with, it may answer anything.
 
-ghost use Rattle.std.specs.Prelude.{◌≡◌, ◌<◌, ◌≤◌, ◌∷◌, [], false, length, IfOk};
+ghost use Rattle.std.specs.Prelude.{◌≡◌, ◌<◌, ◌⊎◌, ◌∷◌, [], false, true, vec_len, IfOk};
 ghost use Rattle.xd_syntax.specs.Words.{has_word, keywords};
-ghost use Rattle.xd_syntax.specs.Placed.{placed_at};
 ghost use Rattle.xd_syntax.specs.Table.{KeepsRows};
+ghost use Rattle.xd_syntax.specs.Placed.{Words_at};
 ghost use Rattle.xd_parse.specs.declared.grammar.Nonterminal.TheVariants as nonterminals;
 ghost use Rattle.xd_parse.specs.declared.grammar.Terminal.TheVariants as terminals;
-ghost use Rattle.xd_parse.specs.declared.machine.Sort.TheVariants as sorts;
-ghost use Rattle.xd_parse.specs.Values.{mark, named, word};
+ghost use Rattle.xd_parse.specs.declared.grammar.Sort.TheVariants as sorts;
+ghost use Rattle.xd_parse.specs.Merged.{class_of};
+ghost use Rattle.xd_parse.specs.Values.{a_tree, mark, named, word};
 ghost use Rattle.xd_parse.specs.Reading.{front_terminal};
-ghost use Rattle.xd_parse.specs.Nodes.{whole, branch, post, primary, group, content, node, IsAdded, ReadsNode, ReadsInto, BeginsElement};
+ghost use Rattle.xd_parse.specs.Pieces.{pieces, tree_of, Stand};
+ghost use Rattle.xd_parse.specs.Nodes.{Merges, ReadsNode, ReadsInto, BeginsElement, is_operator, repeated_node};
 
-use crate::classes::read_class;
+use crate::classes::{Excepted, read_class, read_excepted};
 use crate::cursor::{Cursor, Word};
-use crate::grammar::Terminal;
-use crate::machine::Sort;
-use crate::merge::{alternative, sequence};
+use crate::grammar::{Sort, Terminal};
 use crate::nodes::{NodeForm, Nodes};
+use crate::parts::{Parts, add_part, in_alternative, in_sequence, nothing_at, place_of, to_node};
 use std::alloc::Global;
 use xd_base::Place;
-use xd_doc::{Label, NoMemory};
+use xd_doc::{Class, Label, NoMemory, Text, Words};
 
-/// The node of a word: `String` is the type of texts.
-fn add_named<N: Nodes>(nodes: &mut N, word: Word) -> Result<N::Id, NoMemory>
+/// A word: `String` is the type of texts.
+fn add_named<N: Nodes>(alloc: Global, nodes: &mut N, word: Word) -> Result<Parts<N::Id>, NoMemory>
     requires { has_word keywords word.word ≡ false }
-    ensures added { IfOk result (λ id. IsAdded (N.rows nodes.old) (N.rows nodes.new) (named word.word word.place) (N.at id)) }
+    ensures merges { IfOk result (λ parts. Merges (N.rows nodes.old) (N.rows nodes.new) (named word.word word.place) (pieces N.at parts)) }
     ensures keeps { KeepsRows (N.rows nodes.old) (N.rows nodes.new) }
 {
     let Word { word, place } = word;
     if word.as_str() == "String" {
-        return nodes.add(place, NodeForm::Text);
+        return add_part(alloc, nodes, place, NodeForm::Text);
     }
-    nodes.add(place, NodeForm::Name(word))
+    add_part(alloc, nodes, place, NodeForm::Name(word))
+}
+
+/// One text, or all texts but these.
+fn add_texts<N: Nodes>(
+    alloc: Global,
+    nodes: &mut N,
+    place: Place,
+    texts: Vec<Text>,
+    except: bool,
+) -> Result<Parts<N::Id>, NoMemory>
+    requires some { 0 < vec_len texts }
+    requires one { (except ≡ true) ⊎ (vec_len texts ≡ 1) }
+    ensures merges { IfOk result (λ parts. Merges (N.rows nodes.old) (N.rows nodes.new) (Words_at place (class_of except texts.items)) (pieces N.at parts)) }
+    ensures keeps { KeepsRows (N.rows nodes.old) (N.rows nodes.new) }
+{
+    let words = Words::new(alloc, texts, except)?;
+    add_part(alloc, nodes, place, NodeForm::Words(words))
+}
+
+/// One text.
+fn read_text<N: Nodes>(
+    alloc: Global,
+    cursor: &mut Cursor<'_>,
+    nodes: &mut N,
+) -> Result<Parts<N::Id>, NoMemory>
+    requires { front_terminal cursor.old ≡ terminals.Text }
+    ensures reads { IfOk result (λ parts. ReadsNode (nonterminals.Prim N.sort) cursor.old cursor.new (N.rows nodes.old) (N.rows nodes.new) (pieces N.at parts)) }
+    ensures keeps { KeepsRows (N.rows nodes.old) (N.rows nodes.new) }
+{
+    let quoted = cursor.quoted(alloc)?;
+    let mut texts = Vec::new(alloc);
+    texts.push(quoted.text)?;
+    add_texts(alloc, nodes, quoted.place, texts, false)
+}
+
+fn is_operator(kind: Terminal) -> bool
+    ensures { result ≡ is_operator kind }
+{
+    matches!(kind, Terminal::Star | Terminal::Plus | Terminal::Query)
+}
+
+/// A part with its operator.
+fn repeated<I: Copy>(operator: Terminal, part: I) -> NodeForm<I>
+    ensures { result ≡ repeated_node operator part }
+{
+    match operator {
+        Terminal::Star => NodeForm::Star(part),
+        Terminal::Plus => NodeForm::Plus(part),
+        _ => NodeForm::Opt(part),
+    }
 }
 
 /// The operator behind a part, if one comes.
 fn read_operator<N: Nodes>(
+    alloc: Global,
     cursor: &mut Cursor<'_>,
     nodes: &mut N,
-    part: N::Id,
-) -> Result<N::Id, NoMemory>
-    requires { N.at part < length (N.rows nodes.old) }
-    ensures reads { IfOk result (λ id. ReadsInto N.sort (post N.sort) (node N.sort (placed_at (N.rows nodes.old) (N.at part)) ∷ []) nonterminals.Operator cursor.old cursor.new (N.rows nodes.old) (N.rows nodes.new) (N.at id)) }
+    parts: Parts<N::Id>,
+) -> Result<Parts<N::Id>, NoMemory>
+    requires { Stand (N.rows nodes.old) (pieces N.at parts) }
+    ensures reads { IfOk result (λ made. ReadsInto (nonterminals.Post N.sort) (a_tree (tree_of (N.rows nodes.old) (pieces N.at parts)) ∷ []) nonterminals.Operator cursor.old cursor.new (N.rows nodes.old) (N.rows nodes.new) (pieces N.at made)) }
     ensures keeps { KeepsRows (N.rows nodes.old) (N.rows nodes.new) }
 {
-    let form = match cursor.peek() {
-        Terminal::Star => NodeForm::Star(part),
-        Terminal::Plus => NodeForm::Plus(part),
-        Terminal::Query => NodeForm::Opt(part),
-        _ => return Ok(part),
-    };
-    cursor.step();
-    let place = nodes.place(part);
-    nodes.add(place, form)
+    let operator = cursor.peek();
+    if is_operator(operator) {
+        cursor.step();
+        let place = place_of(&parts);
+        let part = to_node(nodes, parts)?;
+        return add_part(alloc, nodes, place, repeated(operator, part));
+    }
+    Ok(parts)
 }
 
 /// Branches between `|`.
@@ -64,17 +115,17 @@ pub(crate) fn read_tree<N: Nodes>(
     alloc: Global,
     cursor: &mut Cursor<'_>,
     nodes: &mut N,
-) -> Result<N::Id, NoMemory>
-    ensures reads { IfOk result (λ id. ReadsNode N.sort (whole N.sort) cursor.old cursor.new (N.rows nodes.old) (N.rows nodes.new) (N.at id)) }
+) -> Result<Parts<N::Id>, NoMemory>
+    ensures reads { IfOk result (λ parts. ReadsNode (nonterminals.Alternative N.sort) cursor.old cursor.new (N.rows nodes.old) (N.rows nodes.new) (pieces N.at parts)) }
     ensures keeps { KeepsRows (N.rows nodes.old) (N.rows nodes.new) }
 {
-    let first = read_branch(alloc, cursor, nodes)?;
-    let mut more = Vec::new(alloc);
+    let mut read = read_branch(alloc, cursor, nodes)?;
     'branches: while cursor.at(Terminal::Bar) {
         cursor.step();
-        more.push(read_branch(alloc, cursor, nodes)?)?;
+        let branch = read_branch(alloc, cursor, nodes)?;
+        read = in_alternative(alloc, nodes, read, branch)?;
     }
-    alternative(alloc, nodes, first, more.as_slice())
+    Ok(read)
 }
 
 /// Parts between commas.
@@ -83,17 +134,17 @@ pub(crate) fn read_branch<N: Nodes>(
     alloc: Global,
     cursor: &mut Cursor<'_>,
     nodes: &mut N,
-) -> Result<N::Id, NoMemory>
-    ensures reads { IfOk result (λ id. ReadsNode N.sort (branch N.sort) cursor.old cursor.new (N.rows nodes.old) (N.rows nodes.new) (N.at id)) }
+) -> Result<Parts<N::Id>, NoMemory>
+    ensures reads { IfOk result (λ parts. ReadsNode (nonterminals.Sequence N.sort) cursor.old cursor.new (N.rows nodes.old) (N.rows nodes.new) (pieces N.at parts)) }
     ensures keeps { KeepsRows (N.rows nodes.old) (N.rows nodes.new) }
 {
-    let first = read_part(alloc, cursor, nodes)?;
-    let mut more = Vec::new(alloc);
+    let mut read = read_part(alloc, cursor, nodes)?;
     'parts: while cursor.at(Terminal::Comma) {
         cursor.step();
-        more.push(read_part(alloc, cursor, nodes)?)?;
+        let part = read_part(alloc, cursor, nodes)?;
+        read = in_sequence(alloc, nodes, read, part)?;
     }
-    sequence(alloc, nodes, first, more.as_slice())
+    Ok(read)
 }
 
 /// A part, with the operator behind it.
@@ -102,15 +153,15 @@ fn read_part<N: Nodes>(
     alloc: Global,
     cursor: &mut Cursor<'_>,
     nodes: &mut N,
-) -> Result<N::Id, NoMemory>
-    ensures reads { IfOk result (λ id. ReadsNode N.sort (post N.sort) cursor.old cursor.new (N.rows nodes.old) (N.rows nodes.new) (N.at id)) }
+) -> Result<Parts<N::Id>, NoMemory>
+    ensures reads { IfOk result (λ parts. ReadsNode (nonterminals.Post N.sort) cursor.old cursor.new (N.rows nodes.old) (N.rows nodes.new) (pieces N.at parts)) }
     ensures keeps { KeepsRows (N.rows nodes.old) (N.rows nodes.new) }
 {
     if cursor.at(Terminal::Val) {
         return read_variable(alloc, cursor, nodes);
     }
     let part = read_primary(alloc, cursor, nodes)?;
-    read_operator(cursor, nodes, part)
+    read_operator(alloc, cursor, nodes, part)
 }
 
 /// A variable, from its `val` on.
@@ -119,14 +170,14 @@ fn read_variable<N: Nodes>(
     alloc: Global,
     cursor: &mut Cursor<'_>,
     nodes: &mut N,
-) -> Result<N::Id, NoMemory>
+) -> Result<Parts<N::Id>, NoMemory>
     requires { front_terminal cursor.old ≡ terminals.Val }
-    ensures reads { IfOk result (λ id. ReadsNode N.sort (post N.sort) cursor.old cursor.new (N.rows nodes.old) (N.rows nodes.new) (N.at id)) }
+    ensures reads { IfOk result (λ parts. ReadsNode (nonterminals.Post N.sort) cursor.old cursor.new (N.rows nodes.old) (N.rows nodes.new) (pieces N.at parts)) }
     ensures keeps { KeepsRows (N.rows nodes.old) (N.rows nodes.new) }
 {
     let place = cursor.step();
     match N::sort() {
-        Sort::Type => nodes.add(place, NodeForm::Empty),
+        Sort::Type => Ok(nothing_at(alloc, place)),
         Sort::Pattern => {
             let variable = cursor.word(alloc)?;
             read_bound(alloc, cursor, nodes, place, variable)
@@ -142,36 +193,37 @@ fn read_bound<N: Nodes>(
     nodes: &mut N,
     place: Place,
     variable: Word,
-) -> Result<N::Id, NoMemory>
+) -> Result<Parts<N::Id>, NoMemory>
     requires { N.sort ≡ sorts.Pattern }
-    ensures reads { IfOk result (λ id. ReadsInto N.sort (post N.sort) (mark terminals.Val place ∷ (word variable.word variable.place ∷ [])) nonterminals.Bound cursor.old cursor.new (N.rows nodes.old) (N.rows nodes.new) (N.at id)) }
+    ensures reads { IfOk result (λ parts. ReadsInto (nonterminals.Post N.sort) (mark terminals.Val place ∷ (word variable.word variable.place ∷ [])) nonterminals.Bound cursor.old cursor.new (N.rows nodes.old) (N.rows nodes.new) (pieces N.at parts)) }
     ensures keeps { KeepsRows (N.rows nodes.old) (N.rows nodes.new) }
 {
     let Word { word, place: at } = variable;
     if cursor.at(Terminal::As) {
         cursor.step();
-        let bound = read_part(alloc, cursor, nodes)?;
-        return nodes.add(place, NodeForm::Val(word, at, bound));
+        let part = read_part(alloc, cursor, nodes)?;
+        let bound = to_node(nodes, part)?;
+        return add_part(alloc, nodes, place, NodeForm::Val(word, at, bound));
     }
     let any = Label::new(alloc, "Any")?;
     let bound = nodes.add(at, NodeForm::Name(any))?;
-    nodes.add(place, NodeForm::Val(word, at, bound))
+    add_part(alloc, nodes, place, NodeForm::Val(word, at, bound))
 }
 
-/// A word, a group in parentheses, or an element: a class of labels and its content.
+/// A word, a text, a group in parentheses, what stands behind a `^`, or an element: a class of labels and its content.
 #[cycle(trees)]
 fn read_primary<N: Nodes>(
     alloc: Global,
     cursor: &mut Cursor<'_>,
     nodes: &mut N,
-) -> Result<N::Id, NoMemory>
-    ensures reads { IfOk result (λ id. ReadsNode N.sort (primary N.sort) cursor.old cursor.new (N.rows nodes.old) (N.rows nodes.new) (N.at id)) }
+) -> Result<Parts<N::Id>, NoMemory>
+    ensures reads { IfOk result (λ parts. ReadsNode (nonterminals.Prim N.sort) cursor.old cursor.new (N.rows nodes.old) (N.rows nodes.new) (pieces N.at parts)) }
     ensures keeps { KeepsRows (N.rows nodes.old) (N.rows nodes.new) }
 {
     match cursor.peek() {
         Terminal::Word => {
             let word = cursor.word(alloc)?;
-            add_named(nodes, word)
+            add_named(alloc, nodes, word)
         }
         Terminal::ParenL => {
             if cursor.opens_class(N::sort()) {
@@ -180,8 +232,10 @@ fn read_primary<N: Nodes>(
             let place = cursor.step();
             read_group(alloc, cursor, nodes, place)
         }
-        Terminal::Tilde | Terminal::Caret | Terminal::Label => read_element(alloc, cursor, nodes),
-        _ => nodes.add(cursor.step(), NodeForm::Empty),
+        Terminal::Text => read_text(alloc, cursor, nodes),
+        Terminal::Caret => read_exception(alloc, cursor, nodes),
+        Terminal::Tilde | Terminal::Label => read_element(alloc, cursor, nodes),
+        _ => Ok(nothing_at(alloc, cursor.step())),
     }
 }
 
@@ -191,14 +245,44 @@ fn read_element<N: Nodes>(
     alloc: Global,
     cursor: &mut Cursor<'_>,
     nodes: &mut N,
-) -> Result<N::Id, NoMemory>
+) -> Result<Parts<N::Id>, NoMemory>
     requires { BeginsElement N.sort cursor.old }
-    ensures reads { IfOk result (λ id. ReadsNode N.sort (primary N.sort) cursor.old cursor.new (N.rows nodes.old) (N.rows nodes.new) (N.at id)) }
+    ensures reads { IfOk result (λ parts. ReadsNode (nonterminals.Prim N.sort) cursor.old cursor.new (N.rows nodes.old) (N.rows nodes.new) (pieces N.at parts)) }
     ensures keeps { KeepsRows (N.rows nodes.old) (N.rows nodes.new) }
 {
     let class = read_class(alloc, cursor)?;
-    let content = read_content(alloc, cursor, nodes)?;
-    nodes.add(class.place, NodeForm::Elem(class.class, content))
+    let parts = read_content(alloc, cursor, nodes)?;
+    let content = to_node(nodes, parts)?;
+    add_part(
+        alloc,
+        nodes,
+        class.place,
+        NodeForm::Elem(class.class, content),
+    )
+}
+
+/// All texts but some, or an element with all labels but some, from the `^` on.
+#[cycle(trees)]
+fn read_exception<N: Nodes>(
+    alloc: Global,
+    cursor: &mut Cursor<'_>,
+    nodes: &mut N,
+) -> Result<Parts<N::Id>, NoMemory>
+    requires { front_terminal cursor.old ≡ terminals.Caret }
+    ensures reads { IfOk result (λ parts. ReadsNode (nonterminals.Prim N.sort) cursor.old cursor.new (N.rows nodes.old) (N.rows nodes.new) (pieces N.at parts)) }
+    ensures keeps { KeepsRows (N.rows nodes.old) (N.rows nodes.new) }
+{
+    let place = cursor.step();
+    let excepted = read_excepted(alloc, cursor)?;
+    match excepted {
+        Excepted::Texts(texts) => add_texts(alloc, nodes, place, texts, true),
+        Excepted::Labels(names) => {
+            let class = Class::new(alloc, names, true)?;
+            let parts = read_content(alloc, cursor, nodes)?;
+            let content = to_node(nodes, parts)?;
+            add_part(alloc, nodes, place, NodeForm::Elem(class, content))
+        }
+    }
 }
 
 /// What stands behind a `(` at this place that begins no class.
@@ -208,13 +292,13 @@ fn read_group<N: Nodes>(
     cursor: &mut Cursor<'_>,
     nodes: &mut N,
     place: Place,
-) -> Result<N::Id, NoMemory>
-    ensures reads { IfOk result (λ id. ReadsInto N.sort (primary N.sort) (mark terminals.ParenL place ∷ []) (group N.sort) cursor.old cursor.new (N.rows nodes.old) (N.rows nodes.new) (N.at id)) }
+) -> Result<Parts<N::Id>, NoMemory>
+    ensures reads { IfOk result (λ parts. ReadsInto (nonterminals.Prim N.sort) (mark terminals.ParenL place ∷ []) (nonterminals.Group N.sort) cursor.old cursor.new (N.rows nodes.old) (N.rows nodes.new) (pieces N.at parts)) }
     ensures keeps { KeepsRows (N.rows nodes.old) (N.rows nodes.new) }
 {
     if cursor.at(Terminal::ParenR) {
         cursor.step();
-        return nodes.add(place, NodeForm::Empty);
+        return Ok(nothing_at(alloc, place));
     }
     let inside = read_tree(alloc, cursor, nodes)?;
     cursor.step();
@@ -227,12 +311,12 @@ fn read_content<N: Nodes>(
     alloc: Global,
     cursor: &mut Cursor<'_>,
     nodes: &mut N,
-) -> Result<N::Id, NoMemory>
-    ensures reads { IfOk result (λ id. ReadsNode N.sort (content N.sort) cursor.old cursor.new (N.rows nodes.old) (N.rows nodes.new) (N.at id)) }
+) -> Result<Parts<N::Id>, NoMemory>
+    ensures reads { IfOk result (λ parts. ReadsNode (nonterminals.Content N.sort) cursor.old cursor.new (N.rows nodes.old) (N.rows nodes.new) (pieces N.at parts)) }
     ensures keeps { KeepsRows (N.rows nodes.old) (N.rows nodes.new) }
 {
     if cursor.at(Terminal::BracketR) {
-        return nodes.add(cursor.step(), NodeForm::Empty);
+        return Ok(nothing_at(alloc, cursor.step()));
     }
     let inside = read_tree(alloc, cursor, nodes)?;
     cursor.step();

@@ -5,11 +5,13 @@ ghost use Rattle.xd_syntax.specs.Table.{KeepsRows};
 ghost use Rattle.xd_syntax.specs.Placed.{placed_at};
 ghost use Rattle.xd_syntax.specs.Types.{BelongsTo};
 ghost use Rattle.xd_parse.specs.declared.grammar.Nonterminal.TheVariants as nonterminals;
-ghost use Rattle.xd_parse.specs.Values.{a_type};
+ghost use Rattle.xd_parse.specs.declared.grammar.Sort.TheVariants as sorts;
+ghost use Rattle.xd_parse.specs.Values.{a_tree};
 ghost use Rattle.xd_parse.specs.Reading.{Reads};
 ghost use Rattle.xd_parse.specs.Shallow.{NoDeeper, TreeWithin};
 
 use crate::cursor::Cursor;
+use crate::parts::to_node;
 use crate::trees::read_tree;
 use std::alloc::Global;
 use xd_doc::NoMemory;
@@ -21,11 +23,12 @@ pub fn read_type(
     cursor: &mut Cursor<'_>,
     types: &mut Types,
 ) -> Result<TypeId, NoMemory>
-    ensures reads { IfOk result (λ id. Reads nonterminals.Type cursor.old cursor.new (a_type (placed_at types.new id.at))) }
+    ensures reads { IfOk result (λ id. Reads (nonterminals.Alternative sorts.Type) cursor.old cursor.new (a_tree (placed_at types.new id.at))) }
     ensures belongs { IfOk result (BelongsTo types.new) }
     ensures keeps { KeepsRows types.old types.new }
     ensures fewer { IfOk result (λ id. length cursor.new ≤ length cursor.old) }
     ensures no_deeper { IfOk result (λ id. NoDeeper (TreeWithin (placed_at types.new id.at)) types.old types.new) }
 {
-    read_tree(alloc, cursor, types)
+    let parts = read_tree(alloc, cursor, types)?;
+    to_node(types, parts)
 }

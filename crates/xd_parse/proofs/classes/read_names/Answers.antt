@@ -1,20 +1,10 @@
-use Rattle.std.proofs.Common.{List, [], ◌∷◌, ◌++◌, sym, ap, subst, ◌∙◌}
+use Rattle.std.proofs.Common.{List, subst}
 use Rattle.xd_lex.specs.Tokens.{Lexeme}
-use Rattle.xd_parse.specs.declared.grammar.Nonterminal.TheVariants as n
-use Rattle.xd_parse.specs.Reading.{Reads, behind}
-use Rattle.xd_parse.specs.Values.{names}
-use Rattle.xd_parse.proofs.ClassRows.{names_more, names_reads}
+use Rattle.xd_parse.specs.Reading.{ReadsListed}
+use Rattle.xd_parse.proofs.ClassRows.{names_reads}
 use Rattle.xd_parse.proofs.classes.read_names.Goals as goal
-
-pub words-preserved : goal.words-preserved
-words-preserved c =
-    rw c.in_ok-push-2.ensures.items (names_more _ _ _ _ _ c.in_ok-read_any_word-2.field-0 c.words.invariant (sym c.at.ensures ∙ c.words-test.true)
-    (c.in_ok-read_any_word-2.ensures.left ∙ ap behind c.step.ensures.left)
-    (subst (λ (x : List Lexeme). Reads n.AnyWord x c.read_any_word-in-words.new.cursor (names (c.in_ok-read_any_word-2.field-0 ∷ []))) c.step.ensures.left c.in_ok-read_any_word-2.ensures.reads))
 
 pub returns-clause-reads : goal.returns-clause-reads
 returns-clause-reads c =
-    rw (c.step-2.ensures.left, c.step-place.ensures.place) (names_reads c.args.cursor.now c.read_any_word.new.cursor c.words.cursor c.in_ok-read_any_word.field-0 c.push.new.self.items c.words.names.items
-    (subst (λ (x : List Lexeme). Reads n.AnyWord x c.read_any_word.new.cursor (names (c.in_ok-read_any_word.field-0 ∷ []))) c.step-place.ensures.left c.in_ok-read_any_word.ensures.reads)
-    (c.in_ok-push.ensures.items ∙ ap (λ xs. xs ++ c.in_ok-read_any_word.field-0 ∷ []) c.new-names.ensures.items)
-    c.words.invariant (sym c.at.ensures ∙ c.words-test.false))
+    rw (c.step.ensures.left, c.step-place.ensures.place)
+    (names_reads c.args.cursor.now c.read_listed.new.cursor c.in_ok-names.names.items (subst (λ (x : List Lexeme). ReadsListed x c.read_listed.new.cursor c.in_ok-names.names.items) c.step-place.ensures.left c.in_ok-names.ensures.reads))

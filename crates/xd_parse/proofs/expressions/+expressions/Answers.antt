@@ -4,22 +4,21 @@ use Rattle.xd_base.specs.declared.Place.{Place}
 use Rattle.xd_lex.specs.Tokens.{Lexeme}
 use Rattle.xd_syntax.specs.Placed.{PlacedTree, placed_at}
 use Rattle.xd_syntax.specs.Table.{Row}
-use Rattle.xd_syntax.specs.Expression.{Expression, Nothing, Quoted, ExprRow, empty_shape, text_shape, var_shape, elem_shape, call_shape, match_shape, expression_at, PatternsBelong, KeepsExprs}
+use Rattle.xd_syntax.specs.Expression.{Expression, Nothing, Quoted, ExprRow, empty_shape, text_shape, var_shape, elem_shape, call_shape, match_shape, expression_at}
 use Rattle.xd_syntax.specs.Exprs.{expression, expr_numbers, clause_numbers}
 use Rattle.xd_syntax.specs.declared.exprs.ExprId.{ExprId}
 use Rattle.xd_syntax.specs.declared.exprs.Clause.{Clause}
 use Rattle.xd_parse.specs.declared.grammar.Nonterminal.TheVariants as n
 use Rattle.xd_parse.specs.declared.grammar.Terminal.TheVariants as t
 use Rattle.xd_parse.specs.Fits.{same}
-use Rattle.xd_parse.specs.Merged.{sequence_of_expressions}
 use Rattle.xd_parse.specs.Values.{an_expression, a_clause, word_expression}
 use Rattle.xd_parse.specs.Reading.{Reads, front_terminal, front_place, behind}
-use Rattle.xd_parse.specs.Grows.{Grows}
+use Rattle.xd_parse.specs.Pieces.{expression_of}
 use Rattle.xd_parse.proofs.Grown.{Grows-refl, same_pattern}
-use Rattle.xd_parse.proofs.JoinLemmas.{numbers_push, numbers_map, positive}
+use Rattle.xd_parse.proofs.JoinLemmas.{numbers_push, positive}
 use Rattle.xd_parse.proofs.ExprRows.{item_text, item_label, item_paren, content_empty, content_full, paren_empty, paren_full, clause_reads, behind_le}
-use Rattle.xd_parse.proofs.Readers.{ReadItems, items_start, items_step, items_done, ReadArguments, arguments_start, arguments_step, arguments_done, ReadClauses, clauses_start, clauses_step, clauses_done}
-use Rattle.xd_parse.proofs.Adding.{if_ok, if_ok_both, from_there, to_there, add_reads, add_grows, Grows-exprs, at_place, quoted_at, tagged_at, no_ids, call_is, length-numbers, clause_numbers_push, first_pushed, nothing_begins}
+use Rattle.xd_parse.proofs.Readers.{items_start, items_step, items_done, ReadArguments, arguments_start, arguments_step, arguments_done, ReadClauses, clauses_start, clauses_step, clauses_done}
+use Rattle.xd_parse.proofs.Adding.{from_there, to_there, add_reads, item_reads, nothing_reads, nothing_stands, node_reads, node_grows, add_grows, at_place, quoted_at, tagged_at, no_ids, call_is, length-numbers, clause_numbers_push, first_pushed, nothing_begins}
 use Rattle.xd_parse.proofs.expressions.+expressions.Goals as goal
 
 pub read_clause-returns-clause-reads : goal.read_clause-returns-clause-reads
@@ -58,19 +57,37 @@ read_paren-returns-then-at-clause-reads size c =
     let l : c.step-opening.new.self ≡ behind from = c.step-opening.ensures.left in
     let h : same t.ParenR (front_terminal (behind from)) ≡ true = subst (λ (x : List Lexeme). same t.ParenR (front_terminal x) ≡ true) l (sym c.at.ensures ∙ c.if-at.true) in
     let r : Reads n.Paren from (behind (behind from)) (an_expression (Nothing (front_place from))) = paren_empty from h in
-    add_reads c.add.result n.Paren from _ c.args.patterns.now c.args.exprs.now c.add.new.self p empty_shape c.add.ensures.expression
+    nothing_reads c.nothing_at.result n.Paren from _ c.args.patterns.now c.args.exprs.now p c.nothing_at.ensures.place c.nothing_at.ensures.none
     (to_there n.Paren from _ (behind (behind from)) (an_expression (Nothing p)) (c.step.ensures.left ∙ ap behind l)
     (at_place n.Paren from (behind (behind from)) p (front_place from) c.step-opening.ensures.place r))
+
+pub read_paren-returns-then-at-clause-stand : goal.read_paren-returns-then-at-clause-stand
+read_paren-returns-then-at-clause-stand size c = nothing_stands c.nothing_at.result c.args.exprs.now c.nothing_at.ensures.none
 
 pub read_paren-returns-clause-reads : goal.read_paren-returns-clause-reads
 read_paren-returns-clause-reads size c =
     let from : List Lexeme = c.args.cursor.now in
-    let m : List Lexeme = c.read_expr.new.cursor in
+    let m : List Lexeme = c.read_items.new.cursor in
     let l : c.step-opening.new.self ≡ behind from = c.step-opening.ensures.left in
     let h : same t.ParenR (front_terminal (behind from)) ≡ false = subst (λ (x : List Lexeme). same t.ParenR (front_terminal x) ≡ false) l (sym c.at.ensures ∙ c.if-at.false) in
-    let e : Expression = expression c.read_expr.new.patterns c.read_expr.new.exprs c.in_ok-inner.inner in
+    let e : Expression = expression_of c.read_items.new.patterns c.read_items.new.exprs c.in_ok-inner.inner in
     to_there n.Paren from _ (behind m) (an_expression e) c.step-2.ensures.left
     (paren_full from m e h (from_there n.Expr c.step-opening.new.self (behind from) m (an_expression e) l c.in_ok-inner.ensures.reads))
+
+-- ---- the node of what was read
+pub read_expr-returns-clause-reads : goal.read_expr-returns-clause-reads
+read_expr-returns-clause-reads size c = node_reads c.to_expr.result n.Expr c.args.cursor.now c.read_items.new.cursor c.read_items.new.patterns c.read_items.new.exprs c.to_expr.new.exprs c.in_ok-items.items c.in_ok-items.ensures.reads c.to_expr.ensures.value
+
+pub read_expr-returns-clause-grows : goal.read_expr-returns-clause-grows
+read_expr-returns-clause-grows size c =
+    node_grows c.to_expr.result c.args.patterns.now c.args.exprs.now c.read_items.new.patterns c.read_items.new.exprs c.to_expr.new.exprs c.in_ok-items.ensures.grows c.to_expr.ensures.keeps c.to_expr.ensures.clauses
+
+pub read_argument-returns-clause-reads : goal.read_argument-returns-clause-reads
+read_argument-returns-clause-reads size c = node_reads c.to_expr.result n.Paren c.args.cursor.now c.read_paren.new.cursor c.read_paren.new.patterns c.read_paren.new.exprs c.to_expr.new.exprs c.in_ok-items.items c.in_ok-items.ensures.reads c.to_expr.ensures.value
+
+pub read_argument-returns-clause-grows : goal.read_argument-returns-clause-grows
+read_argument-returns-clause-grows size c =
+    node_grows c.to_expr.result c.args.patterns.now c.args.exprs.now c.read_paren.new.patterns c.read_paren.new.exprs c.to_expr.new.exprs c.in_ok-items.ensures.grows c.to_expr.ensures.keeps c.to_expr.ensures.clauses
 
 pub read_element-returns-clause-reads : goal.read_element-returns-clause-reads
 read_element-returns-clause-reads size c =
@@ -79,54 +96,31 @@ read_element-returns-clause-reads size c =
     let ps : List Row = c.read_content.new.patterns in
     let es : List ExprRow = c.read_content.new.exprs in
     let e : Expression = expression ps es c.in_ok-content.content in
-    add_reads c.add.result n.Item from to ps es c.add.new.self c.in_ok-label.label.place (elem_shape c.in_ok-label.label.word c.in_ok-content.content.at) c.add.ensures.expression
+    item_reads c.add_item.result n.Item from to ps es c.add_item.new.exprs c.in_ok-label.label.place (elem_shape c.in_ok-label.label.word c.in_ok-content.content.at) c.add_item.ensures.expression
     (tagged_at from to c.in_ok-label.label.place (front_place from) c.in_ok-label.label.word _ e c.in_ok-label.ensures.place (c.in_ok-label.ensures.word c.requires.next)
     (item_label from to e c.requires.next (from_there n.ExprContent c.label.new.self (behind from) to (an_expression e) c.in_ok-label.ensures.left c.in_ok-content.ensures.reads)))
 
 -- ---- items
-pub read_expr-items-init : goal.read_expr-items-init
-read_expr-items-init size c =
-    subst (λ (xs : List ExprId). ReadItems c.args.cursor.now c.args.patterns.now c.args.exprs.now c.read_item.new.cursor c.read_item.new.patterns c.read_item.new.exprs c.in_ok-first.first.at (expr_numbers xs)) (sym c.new-more.ensures.items)
-    (items_start c.args.cursor.now c.read_item.new.cursor c.args.patterns.now c.args.exprs.now c.read_item.new.patterns c.read_item.new.exprs c.in_ok-first.first.at
-    c.in_ok-first.ensures.reads c.in_ok-first.ensures.belongs c.in_ok-first.ensures.grows c.in_ok-first.ensures.left)
+pub read_items-items-init : goal.read_items-items-init
+read_items-items-init size c =
+    items_start c.args.cursor.now c.read_item.new.cursor c.args.patterns.now c.args.exprs.now c.read_item.new.patterns c.read_item.new.exprs c.in_ok-read.read
+    c.in_ok-read.ensures.reads c.in_ok-read.ensures.stand c.in_ok-read.ensures.grows c.in_ok-read.ensures.left
 
-pub read_expr-items-preserved : goal.read_expr-items-preserved
-read_expr-items-preserved size c =
+pub read_items-items-preserved : goal.read_items-items-preserved
+read_items-items-preserved size c =
     let start : List Lexeme = c.args.cursor.now in
     let here : List Lexeme = c.items.cursor in
     let there : List Lexeme = c.read_item-in-items.new.cursor in
     let qs : List Row = c.read_item-in-items.new.patterns in
     let fs : List ExprRow = c.read_item-in-items.new.exprs in
-    let more : List ExprId = c.items.more.items in
     let l : c.step.new.self ≡ behind here = c.step.ensures.left in
-    let e : expr_numbers c.push.new.self.items ≡ expr_numbers more ++ c.in_ok-item.item.at ∷ [] = numbers_push c.push.new.self.items more c.in_ok-item.item c.in_ok-push.ensures.items in
-    subst (λ (is : List ℕ). ReadItems start c.args.patterns.now c.args.exprs.now there qs fs c.in_ok-first.first.at is) (sym e)
-    (items_step start here there c.args.patterns.now c.args.exprs.now c.items.patterns c.items.exprs qs fs c.in_ok-first.first.at (expr_numbers more) c.in_ok-item.item.at c.items.invariant
-    (sym c.at.ensures ∙ c.items-test.true) (from_there n.Item c.step.new.self (behind here) there (an_expression (expression qs fs c.in_ok-item.item)) l c.in_ok-item.ensures.reads)
-    c.in_ok-item.ensures.belongs c.in_ok-item.ensures.grows (subst (λ (x : List Lexeme). length there ≤ length x) l c.in_ok-item.ensures.left))
+    items_step start here there c.args.patterns.now c.args.exprs.now c.items.patterns c.items.exprs qs fs c.items.read c.in_ok-item.item c.in_ok-read-2.read c.items.invariant
+    (sym c.at.ensures ∙ c.items-test.true) (from_there n.Item c.step.new.self (behind here) there (an_expression (expression_of qs fs c.in_ok-item.item)) l c.in_ok-item.ensures.reads)
+    c.in_ok-item.ensures.stand c.in_ok-item.ensures.grows (subst (λ (x : List Lexeme). length there ≤ length x) l c.in_ok-item.ensures.left) c.in_ok-read-2.ensures.place c.in_ok-read-2.ensures.parts
 
-pub read_expr-returns-clause-reads : goal.read_expr-returns-clause-reads
-read_expr-returns-clause-reads size c =
-    let start : List Lexeme = c.args.cursor.now in
-    let here : List Lexeme = c.items.cursor in
-    let ps : List Row = c.items.patterns in
-    let es : List ExprRow = c.items.exprs in
-    let more : List ExprId = c.items.more.items in
-    let all : Expression = sequence_of_expressions (expression ps es c.in_ok-first.first) (map (expression ps es) more) in
-    let r : Reads n.Expr start here (an_expression (sequence_of_expressions (expression ps es c.in_ok-first.first) (map (expression_at ps es) (expr_numbers more))))
-    = items_done start here c.args.patterns.now c.args.exprs.now ps es c.in_ok-first.first.at (expr_numbers more) c.items.invariant (sym c.at.ensures ∙ c.items-test.false) in
-    let s : Reads n.Expr start here (an_expression all)
-    = subst (λ (xs : List Expression). Reads n.Expr start here (an_expression (sequence_of_expressions (expression ps es c.in_ok-first.first) xs))) (numbers_map (expression_at ps es) more) r in
-    IfOk-weaker c.join.result (λ (id : ExprId). (patterns : List Row) → expression patterns c.join.new.exprs id ≡ sequence_of_expressions (expression patterns es c.in_ok-first.first) (map (expression patterns es) more))
-    (λ (id : ExprId). Reads n.Expr start here (an_expression (expression ps c.join.new.exprs id)))
-    (λ id h. subst (λ (x : Expression). Reads n.Expr start here (an_expression x)) (sym (h ps)) s) c.join.ensures.value
-
-pub read_expr-returns-clause-grows : goal.read_expr-returns-clause-grows
-read_expr-returns-clause-grows size c =
-    if_ok_both c.join.result (λ (id : ExprId). KeepsExprs c.items.exprs c.join.new.exprs) (λ (id : ExprId). (k : ℕ) → PatternsBelong k c.items.exprs → PatternsBelong k c.join.new.exprs)
-    (λ (id : ExprId). Grows c.args.patterns.now c.args.exprs.now c.items.patterns c.join.new.exprs)
-    (λ id k b. Grows-exprs c.args.patterns.now c.args.exprs.now c.items.patterns c.items.exprs c.join.new.exprs c.items.invariant.grows k b)
-    c.join.ensures.keeps c.join.ensures.clauses
+pub read_items-returns-clause-reads : goal.read_items-returns-clause-reads
+read_items-returns-clause-reads size c =
+    items_done c.args.cursor.now c.items.cursor c.args.patterns.now c.args.exprs.now c.items.patterns c.items.exprs c.items.read c.items.invariant (sym c.at.ensures ∙ c.items-test.false)
 
 -- ---- an item
 pub read_item-returns-in_ok-quoted-in-Text-clause-reads : goal.read_item-returns-in_ok-quoted-in-Text-clause-reads
@@ -134,7 +128,7 @@ read_item-returns-in_ok-quoted-in-Text-clause-reads size c =
     let from : List Lexeme = c.args.cursor.now in
     let h : front_terminal from ≡ t.Text = sym c.peek.ensures ∙ c.in-Text.is in
     let q = c.in_ok-quoted-in-Text.quoted in
-    add_reads c.add.result n.Item from c.quoted.new.self c.args.patterns.now c.args.exprs.now c.add.new.self q.place (text_shape q.text) c.add.ensures.expression
+    item_reads c.add_item.result n.Item from c.quoted.new.self c.args.patterns.now c.args.exprs.now c.add_item.new.exprs q.place (text_shape q.text) c.add_item.ensures.expression
     (to_there n.Item from c.quoted.new.self (behind from) (an_expression (Quoted q.place q.text)) c.in_ok-quoted-in-Text.ensures.left
     (quoted_at from (behind from) q.place (front_place from) q.text _ c.in_ok-quoted-in-Text.ensures.place (c.in_ok-quoted-in-Text.ensures.text h) (item_text from h)))
 
@@ -143,9 +137,7 @@ read_item-returns-in-ParenL-clause-reads size c =
     let from : List Lexeme = c.args.cursor.now in
     let to : List Lexeme = c.read_paren.new.cursor in
     let h : front_terminal from ≡ t.ParenL = sym c.peek.ensures ∙ c.in-ParenL.is in
-    IfOk-weaker c.read_paren.result (λ (id : ExprId). Reads n.Paren from to (an_expression (expression c.read_paren.new.patterns c.read_paren.new.exprs id)))
-    (λ (id : ExprId). Reads n.Item from to (an_expression (expression c.read_paren.new.patterns c.read_paren.new.exprs id)))
-    (λ id r. item_paren from to (expression c.read_paren.new.patterns c.read_paren.new.exprs id) h r) c.read_paren.ensures.reads
+    IfOk-weaker c.read_paren.result _ _ (λ items r. item_paren from to (expression_of c.read_paren.new.patterns c.read_paren.new.exprs items) h r) c.read_paren.ensures.reads
 
 pub read_item-returns-in_default : goal.read_item-returns-in_default
 read_item-returns-in_default size c =
@@ -154,10 +146,10 @@ read_item-returns-in_default size c =
     let es : List ExprRow = c.args.exprs.now in
     let d = c.in_default in
     record {
-      reads = if_ok c.add-in_default.result _ (λ id. nothing_begins from c.step-place.new.self (expression ps c.add-in_default.new.self id) c.peek.result c.peek.ensures d.not-Text d.not-Word d.not-Label d.not-Match d.not-ParenL);
-      belongs = c.add-in_default.ensures.belongs;
-      grows = add_grows c.add-in_default.result ps es ps es c.add-in_default.new.self c.step-place.result empty_shape (Grows-refl ps es c.requires) tt c.add-in_default.ensures.grown;
-      left = if_ok c.add-in_default.result _ (λ id. subst (λ (x : List Lexeme). length x ≤ length from) (sym c.step-place.ensures.left) (behind_le from));
+      reads = nothing_begins from c.step-place.new.self (expression_of ps es c.nothing_at.result) c.peek.result c.peek.ensures d.not-Text d.not-Word d.not-Label d.not-Match d.not-ParenL;
+      stand = nothing_stands c.nothing_at.result es c.nothing_at.ensures.none;
+      grows = Grows-refl ps es c.requires;
+      left = subst (λ (x : List Lexeme). length x ≤ length from) (sym c.step-place.ensures.left) (behind_le from);
     }
 
 -- ---- arguments
@@ -176,9 +168,9 @@ pub read_named-arguments-preserved : goal.read_named-arguments-preserved
 read_named-arguments-preserved size c =
     let from : List Lexeme = c.args.cursor.now in
     let here : List Lexeme = c.arguments.cursor in
-    let there : List Lexeme = c.read_paren.new.cursor in
-    let qs : List Row = c.read_paren.new.patterns in
-    let fs : List ExprRow = c.read_paren.new.exprs in
+    let there : List Lexeme = c.read_argument.new.cursor in
+    let qs : List Row = c.read_argument.new.patterns in
+    let fs : List ExprRow = c.read_argument.new.exprs in
     let w : List ℕ = c.in_ok-name.name.word in
     let p : Place = c.in_ok-name.name.place in
     let more : List ExprId = c.arguments.arguments.items in
@@ -199,7 +191,7 @@ read_named-returns-then-is_empty-clause-reads size c =
     let none : more ≡ [] = no_ids (vec_len c.arguments.arguments) more (sym c.is_empty.ensures ∙ c.if-is_empty.true) c.arguments.arguments.ok.0 in
     let r : Reads n.Item from here (an_expression (word_expression w p (map (expression_at ps es) (expr_numbers more))))
     = arguments_done from here c.args.patterns.now c.args.exprs.now ps es w p (expr_numbers more) c.arguments.invariant (sym c.at.ensures ∙ c.arguments-test.false) in
-    add_reads c.add.result n.Item from here ps es c.add.new.self p (var_shape w) c.add.ensures.expression
+    item_reads c.add_item.result n.Item from here ps es c.add_item.new.exprs p (var_shape w) c.add_item.ensures.expression
     (subst (λ (xs : List ExprId). Reads n.Item from here (an_expression (word_expression w p (map (expression_at ps es) (expr_numbers xs))))) none r)
 
 pub read_named-returns-else-is_empty-clause-reads : goal.read_named-returns-else-is_empty-clause-reads
@@ -214,7 +206,7 @@ read_named-returns-else-is_empty-clause-reads size c =
     let some : 0 < length (expr_numbers more) = omega (arith, length-numbers more, positive (vec_len c.arguments.arguments) (sym c.is_empty.ensures ∙ c.if-is_empty.false), c.arguments.arguments.ok.0) in
     let r : Reads n.Item from here (an_expression (word_expression w p (map (expression_at ps es) (expr_numbers more))))
     = arguments_done from here c.args.patterns.now c.args.exprs.now ps es w p (expr_numbers more) c.arguments.invariant (sym c.at.ensures ∙ c.arguments-test.false) in
-    add_reads c.add-else-is_empty.result n.Item from here ps es c.add-else-is_empty.new.self p (call_shape w (expr_numbers more)) c.add-else-is_empty.ensures.expression
+    item_reads c.add_item-else-is_empty.result n.Item from here ps es c.add_item-else-is_empty.new.exprs p (call_shape w (expr_numbers more)) c.add_item-else-is_empty.ensures.expression
     (subst (λ (x : Expression). Reads n.Item from here (an_expression x)) (call_is w p (expression_at ps es) (expr_numbers more) some) r)
 
 -- ---- clauses
@@ -266,9 +258,9 @@ read_match-returns-clause-reads size c =
     let s : ExprId = c.in_ok-scrutinee.scrutinee in
     let cs : List Clause = c.clauses.clauses.items in
     let r = clauses_done start here c.args.patterns.now c.args.exprs.now ps es c.step-place.result s.at (clause_numbers cs) c.clauses.invariant (sym c.at.ensures ∙ c.clauses-test.false) in
-    add_reads c.add.result n.Item start here ps es c.add.new.self c.step-place.result (match_shape s.at (clause_numbers cs)) c.add.ensures.expression r
+    item_reads c.add_item.result n.Item start here ps es c.add_item.new.exprs c.step-place.result (match_shape s.at (clause_numbers cs)) c.add_item.ensures.expression r
 
 pub read_match-returns-clause-grows : goal.read_match-returns-clause-grows
 read_match-returns-clause-grows size c =
-    add_grows c.add.result c.args.patterns.now c.args.exprs.now c.clauses.patterns c.clauses.exprs c.add.new.self c.step-place.result (match_shape c.in_ok-scrutinee.scrutinee.at (clause_numbers c.clauses.clauses.items))
-    c.clauses.invariant.grows c.clauses.invariant.patterns_there c.add.ensures.grown
+    add_grows c.add_item.result c.args.patterns.now c.args.exprs.now c.clauses.patterns c.clauses.exprs c.add_item.new.exprs c.step-place.result (match_shape c.in_ok-scrutinee.scrutinee.at (clause_numbers c.clauses.clauses.items))
+    c.clauses.invariant.grows c.clauses.invariant.patterns_there c.add_item.ensures.grown

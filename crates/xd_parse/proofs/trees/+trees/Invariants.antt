@@ -1,5 +1,7 @@
-use Rattle.std.proofs.Common.{◌+◌, ◌*◌, length, map}
-use Rattle.xd_parse.specs.Nodes.{more_branches, more_parts}
+use Rattle.std.proofs.Common.{◌+◌, ◌*◌, length}
+use Rattle.xd_parse.specs.declared.grammar.Nonterminal.TheVariants as n
+use Rattle.xd_parse.specs.Merged.{sequence, alternative}
+use Rattle.xd_parse.specs.Pieces.{pieces}
 use Rattle.xd_parse.proofs.NodeRows.{IsReadOn}
 use Rattle.xd_parse.proofs.trees.+trees.Given as goal
 
@@ -24,6 +26,9 @@ decreases-read_primary g l = 8 * length l.cursor.now + 2
 abbrev pub decreases-read_element : goal.decreases-read_element
 decreases-read_element g l = 8 * length l.cursor.now + 1
 
+abbrev pub decreases-read_exception : goal.decreases-read_exception
+decreases-read_exception g l = 8 * length l.cursor.now + 1
+
 abbrev pub decreases-read_group : goal.decreases-read_group
 decreases-read_group g l = 8 * length l.cursor.now + 6
 
@@ -32,14 +37,14 @@ decreases-read_content g l = 8 * length l.cursor.now + 6
 
 abbrev pub invariant-read_tree-branches : goal.invariant-read_tree-branches
 invariant-read_tree-branches g l =
-    IsReadOn g.N.Nodes.sort (more_branches g.N.Nodes.sort) l.initial.cursor l.cursor (g.N.Nodes.rows l.initial.nodes) (g.N.Nodes.rows l.nodes) (g.N.Nodes.at l.first) (map g.N.Nodes.at l.more.items)
+    IsReadOn (n.Alternative g.N.Nodes.sort) (n.MoreBranches g.N.Nodes.sort) alternative l.fn.cursor l.cursor (g.N.Nodes.rows l.fn.nodes) (g.N.Nodes.rows l.nodes) (pieces g.N.Nodes.at l.read)
 
 abbrev pub decreases-read_tree-branches : goal.decreases-read_tree-branches
 decreases-read_tree-branches g l = length l.cursor
 
 abbrev pub invariant-read_branch-parts : goal.invariant-read_branch-parts
 invariant-read_branch-parts g l =
-    IsReadOn g.N.Nodes.sort (more_parts g.N.Nodes.sort) l.initial.cursor l.cursor (g.N.Nodes.rows l.initial.nodes) (g.N.Nodes.rows l.nodes) (g.N.Nodes.at l.first) (map g.N.Nodes.at l.more.items)
+    IsReadOn (n.Sequence g.N.Nodes.sort) (n.MoreParts g.N.Nodes.sort) sequence l.fn.cursor l.cursor (g.N.Nodes.rows l.fn.nodes) (g.N.Nodes.rows l.nodes) (pieces g.N.Nodes.at l.read)
 
 abbrev pub decreases-read_branch-parts : goal.decreases-read_branch-parts
 decreases-read_branch-parts g l = length l.cursor

@@ -1,6 +1,6 @@
 use Rattle.std.proofs.Common.{sym, ap, ◌∙◌}
 use Rattle.xd_parse.specs.Machine.{course}
-use Rattle.xd_parse.proofs.Ahead.{readings_begin, readings_go, main_alone, listed_alone}
+use Rattle.xd_parse.proofs.Ahead.{readings_begin, readings_go, both_shorter, main_alone, listed_alone}
 use Rattle.xd_parse.proofs.cursor.Cursor.opens_class.Goals as goal
 
 pub tokens-init : goal.tokens-init
@@ -9,6 +9,11 @@ tokens-init c = rw (c.step.ensures.left, c.self.view_is) (readings_begin c.args.
 pub tokens-preserved : goal.tokens-preserved
 tokens-preserved c =
     rw c.step-in-Both.ensures.left (readings_go c.args.sort c.tokens.reading c.in-Both.next c.args.self.now c.tokens.ahead c.tokens.invariant
+    (sym (c.course_at.ensures ∙ ap (course c.tokens.reading) c.peek.ensures) ∙ c.in-Both.is))
+
+pub tokens-smaller : goal.tokens-smaller
+tokens-smaller c =
+    rw c.step-in-Both.ensures.left (both_shorter c.args.sort c.tokens.reading c.in-Both.next c.args.self.now c.tokens.ahead c.tokens.invariant
     (sym (c.course_at.ensures ∙ ap (course c.tokens.reading) c.peek.ensures) ∙ c.in-Both.is))
 
 pub returns-in-Main-clause-grouped : goal.returns-in-Main-clause-grouped

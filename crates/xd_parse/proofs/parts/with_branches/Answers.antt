@@ -1,0 +1,14 @@
+use Rattle.std.proofs.lemmas.Result.{IfOk-weaker}
+use Rattle.xd_parse.proofs.Merging.{joined_branches, pushed_row}
+use Rattle.xd_parse.proofs.parts.with_branches.Goals as goal
+
+pub returns-in-Alternative-clause-extends : goal.returns-in-Alternative-clause-extends
+returns-in-Alternative-clause-extends g c =
+    let here = c.in-Alternative in
+    rw here.is (IfOk-weaker c.join.result _ _ (λ all e. joined_branches g.N.Nodes.at _ here.field-0 c.args.branches.items here.more.items all.items (rw here.is at c.requires) e) c.join.ensures)
+
+pub returns-in_ok-push_back-in-Sequence-clause-extends : goal.returns-in_ok-push_back-in-Sequence-clause-extends
+returns-in_ok-push_back-in-Sequence-clause-extends g c =
+    let here = c.in-Sequence in
+    rw here.is (pushed_row g.N.Nodes.at _ _ here.place here.row.items c.into_vec.result.items c.args.branches.items c.push_back.new.self.items c.in_ok-id-in-Sequence.id
+    (rw here.is at c.requires) c.into_vec.ensures.items c.in_ok-id-in-Sequence.ensures.added c.in_ok-push_back-in-Sequence.ensures.items)
