@@ -7,7 +7,7 @@ use Rattle.xd_base.specs.declared.Place.{Place}
 use Rattle.xd_syntax.specs.Words.{has_word}
 use Rattle.xd_syntax.specs.Tree.{is_alt}
 use Rattle.xd_syntax.specs.Table.{Row, CanFollow, alt_form, IsAltPart, tree_at}
-use Rattle.xd_syntax.specs.Placed.{PlacedTree, Empty_at, Text_at, Name_at, Elem_at, Seq_at, Alt_at, Star_at, Plus_at, Opt_at, Val_at, place_of, placed_at, placed_seq, placed_alt, unplaced, variables}
+use Rattle.xd_syntax.specs.Placed.{PlacedTree, Empty_at, Text_at, Words_at, Name_at, Elem_at, Seq_at, Alt_at, Star_at, Plus_at, Opt_at, Val_at, place_of, placed_at, placed_seq, placed_alt, unplaced, variables}
 use Rattle.xd_syntax.specs.NameFaults.{in_each_branch, lacking_somewhere, without, not_linear}
 use Rattle.xd_syntax.specs.declared.fault.Fault.{Fault}
 use Rattle.xd_syntax.proofs.PlacedTrees.{unplaced_at}
@@ -56,6 +56,7 @@ same_without gone xs ys h w = has_word-without gone xs w ∙ ap (λ b. not (has_
 pub not_linear-same : (r : Bool) (e f q s : List (List ℕ)) (inner : Bool) (T : PlacedTree) → Same e f → Same q s → not_linear r e q inner T ≡ not_linear r f s inner T
 not_linear-same r e f q s inner (Empty_at p) h k = refl
 not_linear-same r e f q s inner (Text_at p) h k = refl
+not_linear-same r e f q s inner (Words_at p ts) h k = refl
 not_linear-same r e f q s inner (Name_at p x) h k = refl
 not_linear-same r e f q s inner (Elem_at p c T) h k = not_linear-same r e f q s false T h k
 not_linear-same r e f q s inner (Seq_at p T U) h k =
@@ -119,6 +120,7 @@ NoAlts ts = AllByRecursion NotAlt ts
 inner_any : (r : Bool) (e q : List (List ℕ)) (t : PlacedTree) → NotAlt t → not_linear r e q true t ≡ not_linear r e q false t
 inner_any r e q (Empty_at p) n = refl
 inner_any r e q (Text_at p) n = refl
+inner_any r e q (Words_at p ts) n = refl
 inner_any r e q (Name_at p x) n = refl
 inner_any r e q (Elem_at p c T) n = refl
 inner_any r e q (Seq_at p T U) n = refl
@@ -144,6 +146,7 @@ not_linear-alt r e q p (t ∷ (u ∷ us)) l n =
 in_one : (w : List ℕ) (t : PlacedTree) → NotAlt t → in_each_branch w t ≡ has_word (variables t) w
 in_one w (Empty_at p) n = refl
 in_one w (Text_at p) n = refl
+in_one w (Words_at p ts) n = refl
 in_one w (Name_at p x) n = refl
 in_one w (Elem_at p c T) n = refl
 in_one w (Seq_at p T U) n = refl

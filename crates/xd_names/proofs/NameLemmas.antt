@@ -10,7 +10,7 @@ use Rattle.xd_syntax.specs.Program.{TypeDefinition, FunctionDefinition, function
 use Rattle.xd_syntax.specs.FunctionRow.{FunctionRow}
 use Rattle.xd_syntax.specs.Kept.{ProgramTable, type_definition, parameter, function_definition}
 use Rattle.xd_syntax.specs.NameFaults.{Spot, fault_if, duplicates, call_faults, unknown_types}
-use Rattle.xd_syntax.specs.Placed.{PlacedTree, Empty_at, Text_at, Name_at, Elem_at, Seq_at, Alt_at, Star_at, Plus_at, Opt_at, Val_at}
+use Rattle.xd_syntax.specs.Placed.{PlacedTree, Empty_at, Text_at, Words_at, Name_at, Elem_at, Seq_at, Alt_at, Star_at, Plus_at, Opt_at, Val_at}
 use Rattle.xd_syntax.specs.declared.types.TypeDef.{TypeDef}
 use Rattle.xd_syntax.specs.declared.fault.Fault.{Fault}
 use Rattle.xd_syntax.specs.declared.fault.FaultKind.TheVariants.{DuplicateName, UnknownType}
@@ -62,6 +62,7 @@ call_wants (Some g) p f given = refl
 pub unknown-same : (k l : List (List ℕ)) (T : PlacedTree) → Same k l → unknown_types k T ≡ unknown_types l T
 unknown-same k l (Empty_at p) h = refl
 unknown-same k l (Text_at p) h = refl
+unknown-same k l (Words_at p ts) h = refl
 unknown-same k l (Name_at p x) h = ap (λ b. fault_if (not b) p (UnknownType x)) (h x)
 unknown-same k l (Elem_at p c T) h = unknown-same k l T h
 unknown-same k l (Seq_at p T U) h = let a = unknown-same k l T h in let b = unknown-same k l U h in cc

@@ -1,10 +1,14 @@
 -- What is read from the nodes of lists of parts.
-use Rattle.std.proofs.Common.{◌≡◌, ℕ, zero, suc, ◌<◌, ◌≤◌, arith, ◌⊎◌, ⊎_elim, length, drop, List, [], ◌∷◌, ◌++◌, map, flat_map, refl, ap, sym, ◌∙◌, append-nil}
+use Rattle.std.proofs.Common.{◌≡◌, ℕ, zero, suc, ◌<◌, ◌≤◌, arith, Bool, Bor, length, drop, List, [], ◌∷◌, ◌++◌, map, flat_map, refl, ap, sym, ◌∙◌, append-nil}
 use Rattle.std.proofs.lemmas.List.Folds.{flat_map-map}
 use Rattle.std.specs.List.{AllByRecursion}
 use Rattle.xd_base.specs.declared.Place.{Place}
-use Rattle.xd_syntax.specs.Placed.{PlacedTree, place_of, placed_seq, placed_alt, placed_form, variables}
-use Rattle.xd_syntax.specs.Table.{Form, seq_form, alt_form}
+use Rattle.xd_syntax.specs.Placed.{PlacedTree, place_of, placed_seq, placed_alt, placed_form, placed_at, variables}
+use Rattle.xd_syntax.specs.Table.{Row}
+use Rattle.xd_syntax.specs.declared.fault.Fault.{Fault}
+use Rattle.xd_syntax.specs.Nodes.{IsNode, form_parts, view_form}
+use Rattle.xd_syntax.specs.declared.nodes.FormView.{FormView}
+use Rattle.xd_syntax.specs.declared.nodes.FormView.TheVariants.{Empty, Text, Words, Name, Elem, Seq, Alt, Star, Plus, Opt, Val}
 use Rattle.xd_syntax.specs.NameFaults.{unknown_types}
 
 unknown_in_seq : (known : List (List ℕ)) (p : Place) (ts : List PlacedTree) → unknown_types known (placed_seq p ts) ≡ flat_map (unknown_types known) ts
@@ -39,15 +43,35 @@ variables_seq t p is = variables_in_seq p (map t is) ∙ flat_map-map variables 
 pub variables_alt : (t : ℕ → PlacedTree) (p : Place) (is : List ℕ) → variables (placed_alt p (map t is)) ≡ flat_map (λ i. variables (t i)) is
 variables_alt t p is = variables_in_alt p (map t is) ∙ flat_map-map variables t is
 
-pub unknown_parts : (known : List (List ℕ)) (t : ℕ → PlacedTree) (p : Place) (f : Form) (is : List ℕ) → (f ≡ seq_form is) ⊎ (f ≡ alt_form is) →
-    unknown_types known (placed_form t p f) ≡ flat_map (λ i. unknown_types known (t i)) is
-unknown_parts known t p f is h =
-    ⊎_elim (λ e. ap (λ g. unknown_types known (placed_form t p g)) e ∙ unknown_seq known t p is) (λ e. ap (λ g. unknown_types known (placed_form t p g)) e ∙ unknown_alt known t p is) h
+-- what is no name uses what its parts use
+pub unknown_of_parts : {I : Type 0} (at : I → ℕ) (known : List (List ℕ)) (t : ℕ → PlacedTree) (p : Place) (f : FormView I) → ((w : Bor (List ℕ)) → f ≡ Name w → ⊥) →
+    unknown_types known (placed_form t p (view_form at f)) ≡ flat_map (λ i. unknown_types known (t i)) (form_parts (view_form at f))
+unknown_of_parts at known t p Empty other = refl
+unknown_of_parts at known t p Text other = refl
+unknown_of_parts at known t p (Words ws) other = refl
+unknown_of_parts at known t p (Name w) other = absurd (other w refl)
+unknown_of_parts at known t p (Elem c i) other = sym (append-nil (unknown_types known (t (at i))))
+unknown_of_parts at known t p (Seq is) other = unknown_seq known t p (map at is.now)
+unknown_of_parts at known t p (Alt is) other = unknown_alt known t p (map at is.now)
+unknown_of_parts at known t p (Star i) other = sym (append-nil (unknown_types known (t (at i))))
+unknown_of_parts at known t p (Plus i) other = sym (append-nil (unknown_types known (t (at i))))
+unknown_of_parts at known t p (Opt i) other = sym (append-nil (unknown_types known (t (at i))))
+unknown_of_parts at known t p (Val x q i) other = sym (append-nil (unknown_types known (t (at i))))
 
-pub variables_parts : (t : ℕ → PlacedTree) (p : Place) (f : Form) (is : List ℕ) → (f ≡ seq_form is) ⊎ (f ≡ alt_form is) →
-    variables (placed_form t p f) ≡ flat_map (λ i. variables (t i)) is
-variables_parts t p f is h =
-    ⊎_elim (λ e. ap (λ g. variables (placed_form t p g)) e ∙ variables_seq t p is) (λ e. ap (λ g. variables (placed_form t p g)) e ∙ variables_alt t p is) h
+-- what is no variable has the variables of its parts
+pub variables_of_parts : {I : Type 0} (at : I → ℕ) (t : ℕ → PlacedTree) (p : Place) (f : FormView I) → ((x : Bor (List ℕ)) (q : Place) (i : I) → f ≡ Val x q i → ⊥) →
+    variables (placed_form t p (view_form at f)) ≡ flat_map (λ i. variables (t i)) (form_parts (view_form at f))
+variables_of_parts at t p Empty other = refl
+variables_of_parts at t p Text other = refl
+variables_of_parts at t p (Words ws) other = refl
+variables_of_parts at t p (Name w) other = refl
+variables_of_parts at t p (Elem c i) other = sym (append-nil (variables (t (at i))))
+variables_of_parts at t p (Seq is) other = variables_seq t p (map at is.now)
+variables_of_parts at t p (Alt is) other = variables_alt t p (map at is.now)
+variables_of_parts at t p (Star i) other = sym (append-nil (variables (t (at i))))
+variables_of_parts at t p (Plus i) other = sym (append-nil (variables (t (at i))))
+variables_of_parts at t p (Opt i) other = sym (append-nil (variables (t (at i))))
+variables_of_parts at t p (Val x q i) other = absurd (other x q i refl)
 
 pub drop_past : {X : Type 0} (xs : List X) (i : ℕ) → length xs ≤ i → drop i xs ≡ []
 drop_past [] zero h = refl
@@ -60,6 +84,25 @@ pub parts_done : {X Y Z : Type 0} (n : X → Z) (g : Z → List Y) (made old : L
     made ++ flat_map g (map n (drop i xs)) ≡ old ++ flat_map g (map n xs) → made ≡ old ++ flat_map g (map n xs)
 parts_done n g made old xs i h e = let d : drop i xs ≡ [] = drop_past xs i h in
     sym (append-nil made) ∙ ap (λ ys. made ++ flat_map g (map n ys)) (sym d) ∙ e
+
+-- the end of a walk over the parts of a node
+pub uses_done : {I : Type 0} (at : I → ℕ) (known : List (List ℕ)) (b : Bool) (rows : List Row) (i : ℕ) (p : Place) (f : FormView I) (xs : List I) (n : ℕ) (made old : List Fault) →
+    IsNode b rows i p (view_form at f) → map at xs ≡ form_parts (view_form at f) → ((w : Bor (List ℕ)) → f ≡ Name w → ⊥) → length xs ≤ n →
+    made ++ flat_map (λ j. unknown_types known (placed_at rows j)) (map at (drop n xs)) ≡ old ++ flat_map (λ j. unknown_types known (placed_at rows j)) (map at xs) →
+    made ≡ old ++ unknown_types known (placed_at rows i)
+uses_done at known b rows i p f xs n made old node e other h loop =
+    parts_done at (λ j. unknown_types known (placed_at rows j)) made old xs n h loop
+    ∙ ap (λ fs. old ++ fs) (ap (flat_map (λ j. unknown_types known (placed_at rows j))) e
+    ∙ sym (ap (unknown_types known) node.placed ∙ unknown_of_parts at known (placed_at rows) p f other))
+
+pub variables_done : {I : Type 0} (at : I → ℕ) (b : Bool) (rows : List Row) (i : ℕ) (p : Place) (f : FormView I) (xs : List I) (n : ℕ) (made old : List (List ℕ)) →
+    IsNode b rows i p (view_form at f) → map at xs ≡ form_parts (view_form at f) → ((x : Bor (List ℕ)) (q : Place) (j : I) → f ≡ Val x q j → ⊥) → length xs ≤ n →
+    made ++ flat_map (λ j. variables (placed_at rows j)) (map at (drop n xs)) ≡ old ++ flat_map (λ j. variables (placed_at rows j)) (map at xs) →
+    made ≡ old ++ variables (placed_at rows i)
+variables_done at b rows i p f xs n made old node e other h loop =
+    parts_done at (λ j. variables (placed_at rows j)) made old xs n h loop
+    ∙ ap (λ vs. old ++ vs) (ap (flat_map (λ j. variables (placed_at rows j))) e
+    ∙ sym (ap variables node.placed ∙ variables_of_parts at (placed_at rows) p f other))
 
 -- parts of a node are parts of the table
 pub below_more : (m n : ℕ) → m ≤ n → (is : List ℕ) → AllByRecursion (λ i. i < m) is → AllByRecursion (λ i. i < n) is

@@ -13,7 +13,7 @@ use crate::arities::in_call;
 use crate::linear::{not_linear, push_all};
 use crate::names::Names;
 use crate::scope::Scope;
-use crate::types::in_pattern;
+use crate::types::in_tree;
 use crate::words::Words;
 use std::alloc::Global;
 use xd_doc::NoMemory;
@@ -34,7 +34,7 @@ fn in_clause_pattern(
     ensures faults { OnOk result (faults.new.items ≡ faults.old.items ++ pattern_faults (known_types (whole program.now)) (placed_at program.now.patterns pattern.at)) }
 {
     let patterns = program.patterns();
-    in_pattern(patterns, pattern, &names.types, faults)?;
+    in_tree(patterns, pattern, &names.types, faults)?;
     let mut earlier = Scope::new(alloc);
     let mut partial = Words::new(alloc);
     not_linear(

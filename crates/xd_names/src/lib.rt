@@ -8,8 +8,6 @@ mod linear;
 mod names;
 mod program;
 mod scope;
-#[cfg(test)]
-mod tests;
 mod types;
 mod words;
 

@@ -14,7 +14,7 @@ use crate::words::Words;
 use std::alloc::Global;
 use xd_base::Place;
 use xd_doc::{Label, NoMemory};
-use xd_syntax::{Fault, FaultKind, PatternForm, PatternId, Patterns};
+use xd_syntax::{Fault, FaultKind, FormView, Nodes, PatternId, Patterns};
 
 /// Appends the variables of the pattern, one for each occurrence.
 pub(crate) fn push_variables(
@@ -25,18 +25,14 @@ pub(crate) fn push_variables(
     requires { IsPattern patterns.now id }
     ensures { OnOk result (found.new.items ≡ found.old.items ++ variables (placed_at patterns.now id.at)) }
 {
-    match patterns.node(id).form() {
-        PatternForm::Empty | PatternForm::Text | PatternForm::Name(_) => {}
-        PatternForm::Elem(_, part)
-        | PatternForm::Star(part)
-        | PatternForm::Plus(part)
-        | PatternForm::Opt(part) => push_variables(patterns, *part, found)?,
-        PatternForm::Val(word, _, part) => {
+    let node = patterns.view(id);
+    match node.form {
+        FormView::Val(word, _, part) => {
             found.push(word.share()?)?;
-            push_variables(patterns, *part, found)?;
+            push_variables(patterns, part, found)?;
         }
-        PatternForm::Seq(parts) | PatternForm::Alt(parts) => {
-            for part in parts {
+        _ => {
+            for part in node.parts {
                 push_variables(patterns, *part, found)?;
             }
         }
@@ -184,24 +180,24 @@ pub(crate) fn not_linear(
     ensures partial { OnOk result ((w : List ℕ) → has_word partial.new w ≡ (not (has_word (variables (placed_at patterns.now id.at)) w) && has_word partial.old w)) }
     ensures faults { OnOk result (faults.new.items ≡ faults.old.items ++ not_linear repeated earlier.old partial.old false (placed_at patterns.now id.at)) }
 {
-    match patterns.node(id).form() {
-        PatternForm::Empty | PatternForm::Text | PatternForm::Name(_) => {}
-        PatternForm::Elem(_, part) => {
-            not_linear(alloc, patterns, *part, repeated, earlier, partial, faults)?;
+    match patterns.view(id).form {
+        FormView::Empty | FormView::Text | FormView::Words(_) | FormView::Name(_) => {}
+        FormView::Elem(_, part) => {
+            not_linear(alloc, patterns, part, repeated, earlier, partial, faults)?;
         }
-        PatternForm::Star(part) | PatternForm::Plus(part) | PatternForm::Opt(part) => {
-            not_linear(alloc, patterns, *part, true, earlier, partial, faults)?;
+        FormView::Star(part) | FormView::Plus(part) | FormView::Opt(part) => {
+            not_linear(alloc, patterns, part, true, earlier, partial, faults)?;
         }
-        PatternForm::Val(word, place, part) => {
-            occur(word, *place, repeated, earlier, partial, faults)?;
-            not_linear(alloc, patterns, *part, repeated, earlier, partial, faults)?;
+        FormView::Val(word, place, part) => {
+            occur(word, place, repeated, earlier, partial, faults)?;
+            not_linear(alloc, patterns, part, repeated, earlier, partial, faults)?;
         }
-        PatternForm::Seq(parts) => {
+        FormView::Seq(parts) => {
             for part in parts {
                 not_linear(alloc, patterns, *part, repeated, earlier, partial, faults)?;
             }
         }
-        PatternForm::Alt(branches) => {
+        FormView::Alt(branches) => {
             let before = earlier.len();
             let words = enter(alloc, patterns, branches, partial)?;
             for branch in branches {

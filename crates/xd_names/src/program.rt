@@ -13,7 +13,7 @@ use crate::duplicates::{in_functions, in_params, in_types};
 use crate::expressions::in_expression;
 use crate::names::Names;
 use crate::scope::Scope;
-use crate::types::in_type;
+use crate::types::in_tree;
 use crate::words::Words;
 use std::alloc::Global;
 use xd_doc::{Label, NoMemory};
@@ -78,7 +78,7 @@ fn in_type_defs(
     ensures { OnOk result (faults.new.items ≡ faults.old.items ++ flat_map (λ t. unknown_types known.now (placed_at types.now t.body.at)) type_defs.now) }
 {
     for def in type_defs {
-        in_type(types, def.body, known, faults)?;
+        in_tree(types, def.body, known, faults)?;
     }
     Ok(())
 }
@@ -114,7 +114,7 @@ fn in_function(
     let types = program.types();
     let params = function.params();
     in_declared(types, params, &names.types, faults)?;
-    in_type(types, function.result_type(), &names.types, faults)?;
+    in_tree(types, function.result_type(), &names.types, faults)?;
     let mut scope = params_scope(alloc, params)?;
     in_expression(alloc, program, names, function.body(), &mut scope, faults)
 }
@@ -130,7 +130,7 @@ fn in_declared(
     ensures { OnOk result (faults.new.items ≡ faults.old.items ++ flat_map (λ q. unknown_types known.now (placed_at types.now q.body.at)) params.now) }
 {
     for param in params {
-        in_type(types, param.body, known, faults)?;
+        in_tree(types, param.body, known, faults)?;
     }
     Ok(())
 }

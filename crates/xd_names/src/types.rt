@@ -1,78 +1,36 @@
 //! Uses of names of types.
 
-ghost use Rattle.std.specs.Prelude.{◌≡◌, ◌++◌, OnOk};
-ghost use Rattle.xd_syntax.specs.Types.{BelongsTo};
-ghost use Rattle.xd_syntax.specs.Patterns.{IsPattern};
+ghost use Rattle.std.specs.Prelude.{◌≡◌, ◌<◌, ◌++◌, length, OnOk};
 ghost use Rattle.xd_syntax.specs.Placed.{placed_at};
 ghost use Rattle.xd_syntax.specs.NameFaults.{unknown_types};
 
 use crate::words::Words;
 use xd_doc::NoMemory;
-use xd_syntax::{Fault, FaultKind, PatternForm, PatternId, Patterns, TypeForm, TypeId, Types};
+use xd_syntax::{Fault, FaultKind, FormView, Nodes};
 
-/// One more fault for each use in the type of a name that isn't among these.
-pub(crate) fn in_type(
-    types: &Types,
-    id: TypeId,
+/// One more fault for each use in the type, or in the pattern, of a name that isn't among these.
+pub(crate) fn in_tree<N: Nodes>(
+    nodes: &N,
+    id: N::Id,
     known: &Words,
     faults: &mut Vec<Fault>,
 ) -> Result<(), NoMemory>
-    requires { BelongsTo types.now id }
-    ensures { OnOk result (faults.new.items ≡ faults.old.items ++ unknown_types known.now (placed_at types.now id.at)) }
+    requires { N.at id < length (N.rows nodes.now) }
+    ensures { OnOk result (faults.new.items ≡ faults.old.items ++ unknown_types known.now (placed_at (N.rows nodes.now) (N.at id))) }
 {
-    let node = types.node(id);
-    match node.form() {
-        TypeForm::Empty | TypeForm::Text => {}
-        TypeForm::Name(word) => {
+    let node = nodes.view(id);
+    match node.form {
+        FormView::Name(word) => {
             if !known.has(word) {
                 faults.push(Fault {
-                    place: Some(node.place()),
+                    place: Some(node.place),
                     kind: FaultKind::UnknownType(word.share()?),
                 })?;
             }
         }
-        TypeForm::Elem(_, part)
-        | TypeForm::Star(part)
-        | TypeForm::Plus(part)
-        | TypeForm::Opt(part) => in_type(types, *part, known, faults)?,
-        TypeForm::Seq(parts) | TypeForm::Alt(parts) => {
-            for part in parts {
-                in_type(types, *part, known, faults)?;
-            }
-        }
-    }
-    Ok(())
-}
-
-/// One more fault for each use in the pattern of a name that isn't among these.
-pub(crate) fn in_pattern(
-    patterns: &Patterns,
-    id: PatternId,
-    known: &Words,
-    faults: &mut Vec<Fault>,
-) -> Result<(), NoMemory>
-    requires { IsPattern patterns.now id }
-    ensures { OnOk result (faults.new.items ≡ faults.old.items ++ unknown_types known.now (placed_at patterns.now id.at)) }
-{
-    let node = patterns.node(id);
-    match node.form() {
-        PatternForm::Empty | PatternForm::Text => {}
-        PatternForm::Name(word) => {
-            if !known.has(word) {
-                faults.push(Fault {
-                    place: Some(node.place()),
-                    kind: FaultKind::UnknownType(word.share()?),
-                })?;
-            }
-        }
-        PatternForm::Elem(_, part)
-        | PatternForm::Star(part)
-        | PatternForm::Plus(part)
-        | PatternForm::Opt(part)
-        | PatternForm::Val(_, _, part) => in_pattern(patterns, *part, known, faults)?,
-        PatternForm::Seq(parts) | PatternForm::Alt(parts) => {
-            for part in parts {
-                in_pattern(patterns, *part, known, faults)?;
+        _ => {
+            for part in node.parts {
+                in_tree(nodes, *part, known, faults)?;
             }
         }
     }

@@ -8,11 +8,11 @@ use Rattle.std.proofs.lemmas.Bool.{cases_lt, cases_eq}
 use Rattle.std.proofs.lemmas.Slice.Eq.{bytes_eq-Decides}
 use Rattle.xd_doc.specs.Document.{Document, empty, text, element, join}
 use Rattle.xd_syntax.specs.Words.{any_word}
-use Rattle.xd_syntax.specs.Tree.{Tree, Empty, Text, Name, Elem, Seq, Alt, Star, Plus, Opt, Val, Definitions, body, any_type, seq_of, alt_of}
-use Rattle.xd_syntax.specs.Table.{Row, Form, empty_form, text_form, name_form, elem_form, seq_form, alt_form, star_form, plus_form, opt_form, val_form, form_tree, tree_at, PartsBelow, CanFollow}
+use Rattle.xd_syntax.specs.Tree.{Tree, Empty, Text, Words, Name, Elem, Seq, Alt, Star, Plus, Opt, Val, Definitions, body, any_type, seq_of, alt_of}
+use Rattle.xd_syntax.specs.Table.{Row, Form, empty_form, text_form, words_form, name_form, elem_form, seq_form, alt_form, star_form, plus_form, opt_form, val_form, form_tree, tree_at, PartsBelow, CanFollow}
 use Rattle.xd_syntax.specs.Fits.{Fits}
 use Rattle.xd_syntax.specs.Fits as F
-use Rattle.xd_syntax.specs.Heads.{empty_by}
+use Rattle.xd_syntax.specs.CanBeEmpty.{empty_by}
 use Rattle.xd_syntax.specs.Kept.{TypeDefStands}
 use Rattle.xd_syntax.specs.Sound.{definition_of}
 use Rattle.xd_syntax.specs.declared.types.TypeDef.{TypeDef}
@@ -96,6 +96,7 @@ form_right : (types : List Row) (ds : List TypeDef) (marks : List Bool) → ((i 
     (f : Form) → form_marked marks ds f ≡ true → Fits (meanings types ds) (form_tree (tree_at types) f) empty
 form_right types ds marks right empty_form e = F.fits_empty
 form_right types ds marks right text_form e = absurd (cc)
+form_right types ds marks right (words_form ws) e = absurd (cc)
 form_right types ds marks right (name_form w) e = name_right types ds marks right w e
 form_right types ds marks right (elem_form c i) e = absurd (cc)
 form_right types ds marks right (seq_form is) e = all_right (meanings types ds) (tree_at types) marks right is e
@@ -139,6 +140,7 @@ one_changed marks i j e = elim (cases_eq j i) [ inl q ↦ inl (inl q) | inr n �
 form_changed : (ds : List TypeDef) (marks : List Bool) (i : ℕ) (f : Form) → form_marked marks ds f ≡ false → Among i (depends_on ds f) ⊎ (form_marked (set marks i true) ds f ≡ false)
 form_changed ds marks i empty_form e = absurd (cc)
 form_changed ds marks i text_form e = inr refl
+form_changed ds marks i (words_form ws) e = inr refl
 form_changed ds marks i (name_form w) e = go (bytes_eq any_word w) (definition_of ds w) e
   where
     go : (b : Bool) (o : Option TypeDef) → (b || body_marked marks o) ≡ false → Among i (body_number o) ⊎ ((b || body_marked (set marks i true) o) ≡ false)
@@ -272,6 +274,7 @@ module _ (types : List Row) (ds : List TypeDef) (marks : List Bool) (built : Are
       empty_by N (form_tree (tree_at types) f) ≡ true → form_marked marks ds f ≡ true
   form_up older n empty_form p c h e = refl
   form_up older n text_form p c h e = e
+  form_up older n (words_form ws) p c h e = e
   form_up older n (name_form w) p c h e = e
   form_up older n (elem_form k i) p c h e = e
   form_up older n (seq_form is) p c h e = all_up is (λ i a. h i (below_all n is p i a)) e
@@ -307,6 +310,7 @@ module _ (types : List Row) (ds : List TypeDef) (marks : List Bool) (built : Are
   found : {T : Tree} {d : Document} → Fits (meanings types ds) T d → d ≡ empty → empty_by N T ≡ true
   found F.fits_empty e = refl
   found F.fits_text e = cc
+  found (F.fits_words h) e = cc
   found (F.fits_elem c f) e = cc
   found (F.fits_seq {T} {U} {d} a b q f g) e = let j = join_empty a b (q ∙ e) in and_both (empty_by N T) (empty_by N U) (found f j.0) (found g j.1)
   found (F.fits_left {T} {U} f) e = or_left (empty_by N T) (empty_by N U) (found f e)
@@ -322,6 +326,7 @@ module _ (types : List Row) (ds : List TypeDef) (marks : List Bool) (built : Are
   tree_right : (T : Tree) → empty_by N T ≡ true → Fits (meanings types ds) T empty
   tree_right Empty e = F.fits_empty
   tree_right Text e = absurd (cc)
+  tree_right (Words ws) e = absurd (cc)
   tree_right (Name x) e = name_right types ds marks m.right x e
   tree_right (Elem c T) e = absurd (cc)
   tree_right (Seq T U) e = let r = and_cases (empty_by N T) (empty_by N U) e in F.fits_seq empty empty refl (tree_right T r.0) (tree_right U r.1)
@@ -367,6 +372,19 @@ defined_at ds w k d e = let r = first_found 0 ds w k e in let h = r.high in let 
 pub among_one : {A : Type 0} (x : A) (xs : List A) → Among x (xs ++ x ∷ [])
 among_one x xs = append_right x xs (x ∷ []) (inl refl)
 
+-- the last node that waits is one of the table, and has a mark
+pub record IsPopped (types : List Row) (ds : List TypeDef) (marks : List Bool) (waiting : List ℕ) (i : ℕ) : Type 0 where
+  pub marking : IsMarking types ds marks (waiting ++ i ∷ [])
+  pub is_node : i < length types
+  pub has_mark : i < length marks
+
+pub popped : {types : List Row} {ds : List TypeDef} {marks : List Bool} {before : List ℕ} (waiting : List ℕ) (i : ℕ) → before ≡ waiting ++ i ∷ [] → IsMarking types ds marks before → IsPopped types ds marks waiting i
+popped {types = types} {ds = ds} {marks = marks} waiting i e before =
+    let m = subst (IsMarking types ds marks) e before in
+    let l = m.within i (among_one i waiting) in
+    let n = m.count in
+    record { marking = m; is_node = l; has_mark = omega arith }
+
 all_below_up : (m n : ℕ) → m ≤ n → (is : List ℕ) → AllByRecursion (λ i. i < m) is → AllByRecursion (λ i. i < n) is
 all_below_up m n h [] a = tt
 all_below_up m n h (i ∷ is) a = let b = a.0 in (omega arith, all_below_up m n h is a.1)
@@ -374,6 +392,7 @@ all_below_up m n h (i ∷ is) a = let b = a.0 in (omega arith, all_below_up m n 
 pub parts_up : (m n : ℕ) (f : Form) → PartsBelow m f → m ≤ n → PartsBelow n f
 parts_up m n empty_form p h = tt
 parts_up m n text_form p h = tt
+parts_up m n (words_form ws) p h = tt
 parts_up m n (name_form w) p h = tt
 parts_up m n (elem_form c i) p h = omega arith
 parts_up m n (seq_form is) p h = all_below_up m n h is p

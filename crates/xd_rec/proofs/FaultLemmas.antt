@@ -8,7 +8,7 @@ use Rattle.xd_rec.specs.Names.{first_of}
 use Rattle.xd_rec.specs.Faults.{AreOwned, IsGraphOf, AddsUse, faults_of}
 use Rattle.xd_rec.specs.declared.uses.TopUse.{TopUse}
 use Rattle.xd_rec.proofs.Graphs.{with_edge, edges_more, edges_kept, edge_made}
-use Rattle.std.proofs.lemmas.List.{length-set}
+use Rattle.std.proofs.lemmas.List.{append_assoc, length-set}
 
 pub graph_none : (ds : List TypeDef) (front : Bool) (g : List (List ℕ)) → length g ≡ length ds → ((v w : ℕ) → HasEdge g v w → ⊥) → IsGraphOf ds [] front g
 graph_none ds front g c n = record { count = c; edges = λ v w. (λ e. absurd (n v w e), λ u. absurd (u.listed)) }
@@ -53,6 +53,16 @@ faults_more test fault (x ∷ us) u = go (test x) (faults_more test fault us u)
         cond b (fault x ∷ faults_of test fault (us ++ u ∷ [])) (faults_of test fault (us ++ u ∷ [])) ≡ cond b (fault x ∷ faults_of test fault us) (faults_of test fault us) ++ cond (test u) (fault u ∷ []) []
     go true e = ap (λ fs. fault x ∷ fs) e
     go false e = e
+
+-- one more use is looked at, which has the fault or not
+pub faults_found : (test : TopUse → Bool) (fault : TopUse → Fault) (us : List TopUse) (u : TopUse) (b : Bool) → test u ≡ b → (old done now : List Fault) →
+    done ≡ old ++ faults_of test fault us → now ≡ done ++ cond b (fault u ∷ []) [] → now ≡ old ++ faults_of test fault (us ++ u ∷ [])
+faults_found test fault us u b e old done now i n =
+    n
+    ∙ ap (λ fs. fs ++ cond b (fault u ∷ []) []) i
+    ∙ append_assoc old (faults_of test fault us) (cond b (fault u ∷ []) [])
+    ∙ ap (λ c. old ++ (faults_of test fault us ++ cond c (fault u ∷ []) [])) (sym e)
+    ∙ ap (λ fs. old ++ fs) (sym (faults_more test fault us u))
 
 pub owned_at : (ds : List TypeDef) (us : List TopUse) → AreOwned ds us → (k : ℕ) (d : TopUse) → k < length us → (get_or us k d).owner < length ds
 owned_at ds [] o k d l = absurd (omega arith)

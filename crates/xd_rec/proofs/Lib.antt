@@ -1,6 +1,7 @@
 pub mod Graphs
 pub mod Lists
 pub mod Searching
+pub mod Stepping
 pub mod Opening
 pub mod Closing
 pub mod Finishing

@@ -20,7 +20,8 @@ use Rattle.xd_rec.specs.Graph.{HasEdge, Path, stay, edge_then}
 use Rattle.xd_rec.specs.Components.{AreComponents}
 use Rattle.xd_rec.specs.Names.{first_from, first_of, meanings, AreUnique, program_of}
 use Rattle.xd_rec.specs.Uses.{all_empty, seen, tree_uses, uses_from}
-use Rattle.xd_rec.specs.Faults.{AreOwned, IsGraphOf, same_as, is_back, is_outside, is_unguarded, outside_fault, unguarded_use_fault, faults_of}
+use Rattle.xd_rec.specs.Faults.{AreOwned, IsGraphOf, same_as, is_back, recurs, recursion_fault, faults_of}
+use Rattle.xd_rec.specs.declared.faults.Recursion.TheVariants.{OutsideTail, Unguarded}
 use Rattle.xd_rec.specs.declared.components.Standing.{Standing}
 use Rattle.xd_rec.specs.declared.uses.TopUse.{TopUse}
 use Rattle.xd_rec.proofs.EmptyLemmas.{defined_at, defined_in}
@@ -265,32 +266,32 @@ can_all E Z d (T ∷ Ts) a = let b = (d T).1 a.0 in let c = can_all E Z d Ts a.1
 pub all_recursion_faults : (types : List Row) (ds : List TypeDef) (fs : List FunctionDefinition) → AreUnique ds → (Z : Tree → Bool) → ((T : Tree) → (Z T ≡ true) ↔ Fits (meanings types ds) T empty) →
     (g h : List (List ℕ)) (st su : List Standing) → IsGraphOf ds (uses_from Z 0 (map (type_definition types) ds)) false g → AreComponents g st →
     IsGraphOf ds (uses_from Z 0 (map (type_definition types) ds)) true h → AreComponents h su → (faults : List Fault) →
-    faults ≡ in_order (faults_of (is_outside ds st) outside_fault (uses_from Z 0 (map (type_definition types) ds)) ++ faults_of (is_unguarded ds su) unguarded_use_fault (uses_from Z 0 (map (type_definition types) ds))) →
+    faults ≡ in_order (faults_of (recurs OutsideTail ds st) (recursion_fault OutsideTail) (uses_from Z 0 (map (type_definition types) ds)) ++ faults_of (recurs Unguarded ds su) (recursion_fault Unguarded) (uses_from Z 0 (map (type_definition types) ds))) →
     AreRecursionFaults (program_of types ds fs) faults
 all_recursion_faults types ds fs unique Z decides g h st su ig ag ih ah faults e =
     let ts = map (type_definition types) ds in
     let E = meanings types ds in
     let P = program_of types ds fs in
     record {
-      outside = kept_all (is_outside ds st) Z 0 ts;
-      unguarded = kept_all (is_unguarded ds su) Z 0 ts;
-      outside_all = keeps_all (is_outside ds st) Z (λ w. IsOutsideTail P w.owner w.use_there) types 0 ds (λ i u l m. (let z : i ≡ 0 + i = omega arith in
-          subst (λ n. Decided (is_outside ds st) Z (λ w. IsOutsideTail P w.owner w.use_there) n (name_at ds i) u) z (
+      outside = kept_all (recurs OutsideTail ds st) Z 0 ts;
+      unguarded = kept_all (recurs Unguarded ds su) Z 0 ts;
+      outside_all = keeps_all (recurs OutsideTail ds st) Z (λ w. IsOutsideTail P w.owner w.use_there) types 0 ds (λ i u l m. (let z : i ≡ 0 + i = omega arith in
+          subst (λ n. Decided (recurs OutsideTail ds st) Z (λ w. IsOutsideTail P w.owner w.use_there) n (name_at ds i) u) z (
             λ t. (let r = and_true (not u.is_tail) (is_back ds st (seen Z i u)) t in
                 (not_true u.is_tail r.0, back_leads types ds fs unique Z false AnyUse (λ x a q. absurd (cc)) (λ x a. tt) g ig st ag i u r.1 l)),
             λ q. (let b = leads_back types ds fs unique Z false AnyUse (λ x a z. absurd (cc)) (λ x a. tt) g ig st ag i u l m tt q.1 in
                 and_made (not u.is_tail) (is_back ds st (seen Z i u)) (not_made u.is_tail q.0) b),
           )));
-      unguarded_all = keeps_all (is_unguarded ds su) Z (λ w. IsUnguarded P w.owner w.use_there) types 0 ds (λ i u l m. (let z : i ≡ 0 + i = omega arith in
-          subst (λ n. Decided (is_unguarded ds su) Z (λ w. IsUnguarded P w.owner w.use_there) n (name_at ds i) u) z (
+      unguarded_all = keeps_all (recurs Unguarded ds su) Z (λ w. IsUnguarded P w.owner w.use_there) types 0 ds (λ i u l m. (let z : i ≡ 0 + i = omega arith in
+          subst (λ n. Decided (recurs Unguarded ds su) Z (λ w. IsUnguarded P w.owner w.use_there) n (name_at ds i) u) z (
             λ t. (let r = and_true (all_empty Z u.before) (is_back ds su (seen Z i u)) t in
                 (all_can E Z decides u.before r.0, back_leads types ds fs unique Z true (IsFrontUse E) (λ x a q. can_all E Z decides x.before a) (λ x a. all_can E Z decides x.before (a refl)) h ih su ah i u r.1 l)),
             λ q. (let b = leads_back types ds fs unique Z true (IsFrontUse E) (λ x a z. can_all E Z decides x.before a) (λ x a. all_can E Z decides x.before (a refl)) h ih su ah i u l m q.0 q.1 in
                 and_made (all_empty Z u.before) (is_back ds su (seen Z i u)) (can_all E Z decides u.before q.0) b),
           )));
       listed = e ∙ ap in_order
-          (ap (λ xs. xs ++ faults_of (is_unguarded ds su) unguarded_use_fault (uses_from Z 0 ts)) (all_faults (is_outside ds st) outside_fault not_tail_fault Z (λ k x u. refl) 0 ts)
-          ∙ ap (λ xs. map not_tail_fault (kept_all (is_outside ds st) Z 0 ts) ++ xs) (all_faults (is_unguarded ds su) unguarded_use_fault unguarded_fault Z (λ k x u. refl) 0 ts));
+          (ap (λ xs. xs ++ faults_of (recurs Unguarded ds su) (recursion_fault Unguarded) (uses_from Z 0 ts)) (all_faults (recurs OutsideTail ds st) (recursion_fault OutsideTail) not_tail_fault Z (λ k x u. refl) 0 ts)
+          ∙ ap (λ xs. map not_tail_fault (kept_all (recurs OutsideTail ds st) Z 0 ts) ++ xs) (all_faults (recurs Unguarded ds su) (recursion_fault Unguarded) unguarded_fault Z (λ k x u. refl) 0 ts));
     }
 
 -- one list at most

@@ -4,7 +4,7 @@ use Rattle.std.specs.Str.{bytes_eq}
 use Rattle.std.proofs.lemmas.Slice.Eq.{bytes_eq-Decides}
 use Rattle.xd_syntax.specs.Words.{has_word, any_word, string_word}
 use Rattle.xd_syntax.specs.Table.{Row}
-use Rattle.xd_syntax.specs.Order.{precedes, put_in, in_order_after, in_order}
+use Rattle.xd_syntax.specs.Order.{precedes, put_in, ordered_after, in_order}
 use Rattle.xd_syntax.specs.Program.{TypeDefinition}
 use Rattle.xd_syntax.specs.Kept.{type_definition, ProgramTable, program_tree}
 use Rattle.xd_syntax.specs.NameFaults.{Spot, fault_if, duplicates, name_faults}
@@ -14,18 +14,18 @@ use Rattle.xd_syntax.specs.declared.types.TypeDef.{TypeDef}
 use Rattle.xd_base.specs.declared.Place.{Place}
 use Rattle.xd_rec.specs.Names.{first_from, AreUnique}
 
-put_in-length : (f : Fault) (gs : List Fault) → length (put_in f gs) ≡ length gs + 1
+put_in-length : (f : Fault) (gs : List Fault) → length (put_in precedes f gs) ≡ length gs + 1
 put_in-length f [] = refl
 put_in-length f (g ∷ gs) = go (precedes f g) (put_in-length f gs)
   where
-    go : (b : Bool) → length (put_in f gs) ≡ length gs + 1 → length (cond b (f ∷ (g ∷ gs)) (g ∷ put_in f gs)) ≡ length (g ∷ gs) + 1
+    go : (b : Bool) → length (put_in precedes f gs) ≡ length gs + 1 → length (cond b (f ∷ (g ∷ gs)) (g ∷ put_in precedes f gs)) ≡ length (g ∷ gs) + 1
     go true e = omega arith
     go false e = omega arith
 
-in_order_after-length : (done fs : List Fault) → length (in_order_after done fs) ≡ length done + length fs
-in_order_after-length done [] = omega arith
-in_order_after-length done (f ∷ fs) =
-    let i = in_order_after-length (put_in f done) fs in let j = put_in-length f done in omega arith
+ordered_after-length : (done fs : List Fault) → length (ordered_after precedes done fs) ≡ length done + length fs
+ordered_after-length done [] = omega arith
+ordered_after-length done (f ∷ fs) =
+    let i = ordered_after-length (put_in precedes f done) fs in let j = put_in-length f done in omega arith
 
 none_of : {A : Type 0} (xs : List A) → length xs ≡ 0 → xs ≡ []
 none_of [] e = refl
@@ -41,7 +41,7 @@ rest_none [] ys e = e
 rest_none (x ∷ xs) ys e = absurd (cc)
 
 not_listed : (fs : List Fault) → in_order fs ≡ [] → fs ≡ []
-not_listed fs e = none_of fs (let l = in_order_after-length [] fs in let k = ap length e in omega arith)
+not_listed fs e = none_of fs (let l = ordered_after-length [] fs in let k = ap length e in omega arith)
 
 no_fault : (b : Bool) (p : Place) (w : List ℕ) → fault_if b p (DuplicateName w) ≡ [] → b ≡ false
 no_fault true p w e = absurd (cc)

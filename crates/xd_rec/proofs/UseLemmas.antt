@@ -4,8 +4,8 @@ use Rattle.std.specs.List.{AllByRecursion}
 use Rattle.std.proofs.lemmas.List.{append-nil, append_assoc, map-append, reverse-append}
 use Rattle.xd_base.specs.declared.Place.{Place}
 use Rattle.xd_syntax.specs.Tree.{Tree}
-use Rattle.xd_syntax.specs.Table.{Row, Form, empty_form, text_form, name_form, elem_form, seq_form, alt_form, star_form, plus_form, opt_form, val_form, tree_at, PartsBelow, CanFollow}
-use Rattle.xd_syntax.specs.Placed.{PlacedTree, Empty_at, Text_at, Name_at, Elem_at, Seq_at, Alt_at, Star_at, Plus_at, Opt_at, Val_at, placed_at, placed_form, placed_seq, placed_alt, place_of, unplaced}
+use Rattle.xd_syntax.specs.Table.{Row, Form, empty_form, text_form, words_form, name_form, elem_form, seq_form, alt_form, star_form, plus_form, opt_form, val_form, tree_at, PartsBelow, CanFollow}
+use Rattle.xd_syntax.specs.Placed.{PlacedTree, Empty_at, Text_at, Words_at, Name_at, Elem_at, Seq_at, Alt_at, Star_at, Plus_at, Opt_at, Val_at, placed_at, placed_form, placed_seq, placed_alt, place_of, unplaced}
 use Rattle.xd_syntax.specs.Kept.{type_definition, TypeDefStands}
 use Rattle.xd_syntax.specs.RecursionFaults.{Use, top_uses, not_tail, behind_type}
 use Rattle.xd_syntax.specs.declared.types.TypeDef.{TypeDef}
@@ -102,6 +102,7 @@ sizes-append types (p ∷ ps) qs = let i = sizes-append types ps qs in omega ari
 size_some : (T : PlacedTree) → 1 ≤ size T
 size_some (Empty_at p) = omega arith
 size_some (Text_at p) = omega arith
+size_some (Words_at p ts) = omega arith
 size_some (Name_at p x) = omega arith
 size_some (Elem_at p c T) = omega arith
 size_some (Seq_at p T U) = omega arith
@@ -179,6 +180,7 @@ pub form_uses : (Z : Tree → Bool) (types : List Row) (q : Part) (p : Place) (f
     parts_uses Z types (parts_of Z types q f) ++ own_use q p f ≡ map (placed_use q.is_tail q.is_front) (tree_uses Z q.owner (placed_form (placed_at types) p f))
 form_uses Z types q p empty_form = refl
 form_uses Z types q p text_form = refl
+form_uses Z types q p (words_form ws) = refl
 form_uses Z types q p (name_form w) =
     let a = sym (and_true q.is_tail) in
     let b = sym (and_true q.is_front) in
@@ -202,6 +204,7 @@ parts_less : (Z : Tree → Bool) (types : List Row) (q : Part) (p : Place) (olde
     sizes types (parts_of Z types q f) < size (placed_form (placed_at types) p f)
 parts_less Z types q p older empty_form c = omega arith
 parts_less Z types q p older text_form c = omega arith
+parts_less Z types q p older (words_form ws) c = omega arith
 parts_less Z types q p older (name_form w) c = omega arith
 parts_less Z types q p older (elem_form k i) c = omega arith
 parts_less Z types q p older (seq_form is) c = sequence_less Z types q.owner q.is_tail q.is_front p is c.0
@@ -218,6 +221,7 @@ below_up m n h (i ∷ is) a = let b = a.0 in (omega arith, below_up m n h is a.1
 parts_belong : (Z : Tree → Bool) (types : List Row) (q : Part) (f : Form) → q.at < length types → PartsBelow q.at f → AllBelong types (parts_of Z types q f)
 parts_belong Z types q empty_form l b p m = absurd m
 parts_belong Z types q text_form l b p m = absurd m
+parts_belong Z types q (words_form ws) l b p m = absurd m
 parts_belong Z types q (name_form w) l b p m = absurd m
 parts_belong Z types q (elem_form c i) l b p m = absurd m
 parts_belong Z types q (seq_form is) l b p m = sequence_belongs Z types q.owner q.is_tail q.is_front is (below_up q.at (length types) l is b) p m
@@ -234,6 +238,7 @@ parts_belong Z types q (val_form x r i) l b p (inr m) = absurd m
 own_reversed : (q : Part) (p : Place) (f : Form) (us : List TopUse) → reverse (us ++ own_use q p f) ≡ own_use q p f ++ reverse us
 own_reversed q p empty_form us = ap reverse (append-nil us)
 own_reversed q p text_form us = ap reverse (append-nil us)
+own_reversed q p (words_form ws) us = ap reverse (append-nil us)
 own_reversed q p (name_form w) us = reverse-append us (own_use q p (name_form w))
 own_reversed q p (elem_form c i) us = ap reverse (append-nil us)
 own_reversed q p (seq_form is) us = ap reverse (append-nil us)

@@ -4,11 +4,11 @@ use Rattle.std.specs.Str.{bytes_eq}
 use Rattle.xd_doc.specs.Document.{empty}
 use Rattle.xd_syntax.specs.Words.{any_word}
 use Rattle.xd_syntax.specs.Tree.{Tree}
-use Rattle.xd_syntax.specs.Table.{Row, Form, empty_form, text_form, name_form, elem_form, seq_form, alt_form, star_form, plus_form, opt_form, val_form, form_tree, tree_at, PartsBelow, CanFollow}
+use Rattle.xd_syntax.specs.Table.{Row, Form, empty_form, text_form, words_form, name_form, elem_form, seq_form, alt_form, star_form, plus_form, opt_form, val_form, form_tree, tree_at, PartsBelow, CanFollow}
 use Rattle.xd_syntax.specs.Placed.{the_start}
 use Rattle.xd_syntax.specs.Fits.{Fits}
 use Rattle.xd_syntax.specs.Ways.{Among}
-use Rattle.xd_syntax.specs.Heads.{empty_by}
+use Rattle.xd_syntax.specs.CanBeEmpty.{empty_by}
 use Rattle.xd_syntax.specs.Sound.{definition_of}
 use Rattle.xd_syntax.specs.declared.types.TypeDef.{TypeDef}
 use Rattle.xd_rec.specs.Graph.{HasEdge}
@@ -37,6 +37,7 @@ some_marked marks (i ∷ is) = is_marked marks i || some_marked marks is
 abbrev pub form_marked : List Bool → List TypeDef → Form → Bool
 form_marked marks ds empty_form = true
 form_marked marks ds text_form = false
+form_marked marks ds (words_form ws) = false
 form_marked marks ds (name_form w) = name_marked marks ds w
 form_marked marks ds (elem_form c i) = false
 form_marked marks ds (seq_form is) = all_marked marks is
@@ -58,6 +59,7 @@ body_number (Some d) = d.body.at ∷ []
 abbrev pub depends_on : List TypeDef → Form → List ℕ
 depends_on ds empty_form = []
 depends_on ds text_form = []
+depends_on ds (words_form ws) = []
 depends_on ds (name_form w) = body_number (definition_of ds w)
 depends_on ds (elem_form c i) = []
 depends_on ds (seq_form is) = is

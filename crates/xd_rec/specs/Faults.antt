@@ -4,11 +4,13 @@ use Rattle.xd_syntax.specs.Ways.{Among}
 use Rattle.xd_syntax.specs.NameFaults.{fault_at}
 use Rattle.xd_syntax.specs.declared.types.TypeDef.{TypeDef}
 use Rattle.xd_syntax.specs.declared.fault.Fault.{Fault}
-use Rattle.xd_syntax.specs.declared.fault.FaultKind.TheVariants.{NotTail, Unguarded}
+use Rattle.xd_syntax.specs.declared.fault.FaultKind.TheVariants as kinds
 use Rattle.xd_rec.specs.Graph.{HasEdge}
 use Rattle.xd_rec.specs.Names.{first_of}
 use Rattle.xd_rec.specs.Components.{standing_of, has_same_number}
 use Rattle.xd_rec.specs.declared.components.Standing.{Standing}
+use Rattle.xd_rec.specs.declared.faults.Recursion.{Recursion}
+use Rattle.xd_rec.specs.declared.faults.Recursion.TheVariants.{OutsideTail, Unguarded}
 use Rattle.xd_rec.specs.declared.uses.TopUse.{TopUse}
 
 -- each use stands in one of the definitions
@@ -36,17 +38,14 @@ same_as st v (Some w) = has_same_number (standing_of st v) (standing_of st w)
 abbrev pub is_back : List TypeDef → List Standing → TopUse → Bool
 is_back ds st u = same_as st u.owner (first_of ds u.name)
 
-abbrev pub is_outside : List TypeDef → List Standing → TopUse → Bool
-is_outside ds st u = not u.is_tail && is_back ds st u
+-- the use is outside tail position, or a front use, and leads back
+abbrev pub recurs : Recursion → List TypeDef → List Standing → TopUse → Bool
+recurs OutsideTail ds st u = not u.is_tail && is_back ds st u
+recurs Unguarded ds st u = u.is_front && is_back ds st u
 
-abbrev pub is_unguarded : List TypeDef → List Standing → TopUse → Bool
-is_unguarded ds st u = u.is_front && is_back ds st u
-
-abbrev pub outside_fault : TopUse → Fault
-outside_fault u = fault_at u.place (NotTail u.name)
-
-abbrev pub unguarded_use_fault : TopUse → Fault
-unguarded_use_fault u = fault_at u.place (Unguarded u.name)
+abbrev pub recursion_fault : Recursion → TopUse → Fault
+recursion_fault OutsideTail u = fault_at u.place (kinds.NotTail u.name)
+recursion_fault Unguarded u = fault_at u.place (kinds.Unguarded u.name)
 
 -- the faults of the uses that a test finds
 abbrev pub faults_of : (TopUse → Bool) → (TopUse → Fault) → List TopUse → List Fault

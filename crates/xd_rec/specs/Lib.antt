@@ -5,4 +5,3 @@ pub mod Emptiness
 pub mod Uses
 pub mod Faults
 pub mod Soundness
-pub mod Samples

@@ -1,8 +1,9 @@
 -- Definitions of types by name.
-use Rattle.std.specs.Prelude.{◌≡◌, ◌<◌, ℕ, suc, nat_eq, length, get_or, cond, List, [], ◌∷◌, map, Option, Some, None}
-use Rattle.std.specs.Cmp.Lexicographic.{pointwise}
+use Rattle.std.specs.Prelude.{◌≡◌, ◌<◌, ℕ, suc, length, get_or, cond, List, [], ◌∷◌, map, Option, Some, None}
+use Rattle.std.specs.Ordering.{nat_cmp}
+use Rattle.std.specs.Cmp.Lexicographic.{slice_cmp}
 use Rattle.std.specs.Str.{bytes_eq}
-use Rattle.indexmap.specs.IndexMap.{get}
+use Rattle.std.specs.BTreeMap.{get}
 use Rattle.xd_syntax.specs.Tree.{Definitions, environment}
 use Rattle.xd_syntax.specs.Table.{Row}
 use Rattle.xd_syntax.specs.Placed.{unplaced}
@@ -21,7 +22,7 @@ first_of ds w = first_from 0 ds w
 
 -- the number that a name has
 abbrev pub number_of : Names → List ℕ → Option ℕ
-number_of names w = get (pointwise nat_eq) names.numbers w
+number_of names w = get (slice_cmp nat_cmp) names.numbers w
 
 -- each name has the number of its first definition
 abbrev pub AreNumbered : Names → List TypeDef → Type 0

@@ -2,10 +2,10 @@
 use Rattle.std.specs.Prelude.{◌≡◌, ℕ, suc, ◌+◌, ◌<◌, Bool, true, false, ◌&&◌, List, [], ◌∷◌, ◌++◌, map, flat_map, length}
 use Rattle.xd_base.specs.declared.Place.{Place}
 use Rattle.xd_syntax.specs.Tree.{Tree}
-use Rattle.xd_syntax.specs.Table.{Row, Form, empty_form, text_form, name_form, elem_form, seq_form, alt_form, star_form, plus_form, opt_form, val_form, tree_at, PartsBelow, CanFollow}
-use Rattle.xd_syntax.specs.Placed.{PlacedTree, Empty_at, Text_at, Name_at, Elem_at, Seq_at, Alt_at, Star_at, Plus_at, Opt_at, Val_at, placed_at, placed_form}
+use Rattle.xd_syntax.specs.Table.{Row, Form, empty_form, text_form, words_form, name_form, elem_form, seq_form, alt_form, star_form, plus_form, opt_form, val_form, tree_at, PartsBelow, CanFollow}
+use Rattle.xd_syntax.specs.Placed.{PlacedTree, Empty_at, Text_at, Words_at, Name_at, Elem_at, Seq_at, Alt_at, Star_at, Plus_at, Opt_at, Val_at, placed_at, placed_form}
 use Rattle.xd_syntax.specs.Ways.{Among}
-use Rattle.xd_syntax.specs.Heads.{empty_by}
+use Rattle.xd_syntax.specs.CanBeEmpty.{empty_by}
 use Rattle.xd_syntax.specs.Program.{TypeDefinition}
 use Rattle.xd_syntax.specs.RecursionFaults.{Use, top_uses}
 use Rattle.xd_syntax.specs.declared.types.TypeDef.{TypeDef}
@@ -59,6 +59,7 @@ alternatives p is = map (λ (i : ℕ). record p { at = i }) is
 abbrev pub parts_of : (Tree → Bool) → List Row → Part → Form → List Part
 parts_of Z types p empty_form = []
 parts_of Z types p text_form = []
+parts_of Z types p (words_form ws) = []
 parts_of Z types p (name_form w) = []
 parts_of Z types p (elem_form c i) = []
 parts_of Z types p (seq_form is) = sequence Z types p.owner p.is_tail p.is_front is
@@ -72,6 +73,7 @@ parts_of Z types p (val_form x q i) = record p { at = i } ∷ []
 abbrev pub own_use : Part → Place → Form → List TopUse
 own_use p place empty_form = []
 own_use p place text_form = []
+own_use p place (words_form ws) = []
 own_use p place (name_form w) = record { owner = p.owner; name = w; place = place; is_tail = p.is_tail; is_front = p.is_front } ∷ []
 own_use p place (elem_form c i) = []
 own_use p place (seq_form is) = []
@@ -98,6 +100,7 @@ pub record IsListed (Z : Tree → Bool) (types : List Row) (part : Part) (old ne
 abbrev pub size : PlacedTree → ℕ
 size (Empty_at p) = 1
 size (Text_at p) = 1
+size (Words_at p ts) = 1
 size (Name_at p x) = 1
 size (Elem_at p c T) = size T + 1
 size (Seq_at p T U) = size T + size U + 1

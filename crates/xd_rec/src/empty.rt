@@ -155,6 +155,7 @@ fn form_is_marked(form: &TypeForm, defs: &[TypeDef], names: &Names, marks: &[boo
     match form {
         TypeForm::Empty => true,
         TypeForm::Text => false,
+        TypeForm::Words(_) => false,
         TypeForm::Name(name) => name_is_marked(name, defs, names, marks),
         TypeForm::Elem(_, _) => false,
         TypeForm::Seq(parts) => all_are_marked(parts, marks),

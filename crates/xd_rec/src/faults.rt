@@ -1,9 +1,9 @@
 //! Faults of recursion.
 
-ghost use Rattle.std.specs.Prelude.{◌≡◌, ◌<◌, ◌++◌, ◌∷◌, [], ℕ, if◌then◌else◌, length, IfOk, OnOk};
+ghost use Rattle.std.specs.Prelude.{◌≡◌, ◌<◌, ◌++◌, ℕ, length, IfOk, OnOk};
 ghost use Rattle.xd_rec.specs.Graph.{HasEdge};
 ghost use Rattle.xd_rec.specs.Names.{AreNumbered};
-ghost use Rattle.xd_rec.specs.Faults.{AreOwned, AddsUse, IsGraphOf, faults_of, is_back, is_outside, is_unguarded, outside_fault, unguarded_use_fault};
+ghost use Rattle.xd_rec.specs.Faults.{AreOwned, AddsUse, IsGraphOf, faults_of, is_back, recurs, recursion_fault};
 
 use crate::components::{Standing, are_together};
 use crate::graph::Graph;
@@ -12,6 +12,13 @@ use crate::uses::TopUse;
 use std::alloc::Global;
 use xd_doc::NoMemory;
 use xd_syntax::{Fault, FaultKind, TypeDef};
+
+/// The two ways in which a use may recur that are faults.
+#[derive(Clone, Copy)]
+pub(crate) enum Recursion {
+    OutsideTail,
+    Unguarded,
+}
 
 /// An edge for each use, or for each front use, from the definition that it stands in to the one that
 /// it names.
@@ -71,94 +78,60 @@ fn add_use(
     Ok(())
 }
 
-/// Adds a fault for each use outside tail position that leads back to its definition.
-pub(crate) fn add_outside(
+/// Adds the fault of each use that has it.
+pub(crate) fn add_faults(
     defs: &[TypeDef],
     names: &Names,
     uses: &[TopUse],
     standing: &[Standing],
+    recursion: Recursion,
     faults: &mut Vec<Fault>,
 ) -> Result<(), NoMemory>
     requires numbered { AreNumbered names.now defs.now }
     requires owned { AreOwned defs.now uses.now }
     requires count { length standing.now ≡ length defs.now }
-    ensures { OnOk result (faults.new.items ≡ faults.old.items ++ faults_of (is_outside defs.now standing.now) outside_fault uses.now) }
+    ensures { OnOk result (faults.new.items ≡ faults.old.items ++ faults_of (recurs recursion defs.now standing.now) (recursion_fault recursion) uses.now) }
 {
     for top_use in uses {
-        add_if_outside(defs, names, top_use, standing, faults)?;
+        if recurs(defs, names, top_use, standing, recursion) {
+            faults.push(recursion_fault(top_use, recursion)?)?;
+        }
     }
     Ok(())
 }
 
-fn add_if_outside(
+fn recursion_fault(top_use: &TopUse, recursion: Recursion) -> Result<Fault, NoMemory>
+    ensures { IfOk result (λ fault. fault ≡ recursion_fault recursion top_use.now) }
+{
+    let name = top_use.name.share()?;
+    let kind = match recursion {
+        Recursion::OutsideTail => FaultKind::NotTail(name),
+        Recursion::Unguarded => FaultKind::Unguarded(name),
+    };
+    Ok(Fault {
+        place: Some(top_use.place),
+        kind,
+    })
+}
+
+/// Whether a use outside tail position, or a front use, leads back to its definition.
+fn recurs(
     defs: &[TypeDef],
     names: &Names,
     top_use: &TopUse,
     standing: &[Standing],
-    faults: &mut Vec<Fault>,
-) -> Result<(), NoMemory>
+    recursion: Recursion,
+) -> bool
     requires numbered { AreNumbered names.now defs.now }
     requires owner { top_use.now.owner < length defs.now }
     requires count { length standing.now ≡ length defs.now }
-    ensures { OnOk result (faults.new.items ≡ faults.old.items ++ (if is_outside defs.now standing.now top_use.now then outside_fault top_use.now ∷ [] else [])) }
+    ensures { result ≡ recurs recursion defs.now standing.now top_use.now }
 {
-    if top_use.is_tail {
-        return Ok(());
-    }
-    if !leads_back(defs, names, top_use, standing) {
-        return Ok(());
-    }
-    let name = top_use.name.share()?;
-    faults.push(Fault {
-        place: Some(top_use.place),
-        kind: FaultKind::NotTail(name),
-    })?;
-    Ok(())
-}
-
-/// Adds a fault for each front use from which front uses lead back to its definition.
-pub(crate) fn add_unguarded(
-    defs: &[TypeDef],
-    names: &Names,
-    uses: &[TopUse],
-    standing: &[Standing],
-    faults: &mut Vec<Fault>,
-) -> Result<(), NoMemory>
-    requires numbered { AreNumbered names.now defs.now }
-    requires owned { AreOwned defs.now uses.now }
-    requires count { length standing.now ≡ length defs.now }
-    ensures { OnOk result (faults.new.items ≡ faults.old.items ++ faults_of (is_unguarded defs.now standing.now) unguarded_use_fault uses.now) }
-{
-    for top_use in uses {
-        add_if_unguarded(defs, names, top_use, standing, faults)?;
-    }
-    Ok(())
-}
-
-fn add_if_unguarded(
-    defs: &[TypeDef],
-    names: &Names,
-    top_use: &TopUse,
-    standing: &[Standing],
-    faults: &mut Vec<Fault>,
-) -> Result<(), NoMemory>
-    requires numbered { AreNumbered names.now defs.now }
-    requires owner { top_use.now.owner < length defs.now }
-    requires count { length standing.now ≡ length defs.now }
-    ensures { OnOk result (faults.new.items ≡ faults.old.items ++ (if is_unguarded defs.now standing.now top_use.now then unguarded_use_fault top_use.now ∷ [] else [])) }
-{
-    if !top_use.is_front {
-        return Ok(());
-    }
-    if !leads_back(defs, names, top_use, standing) {
-        return Ok(());
-    }
-    let name = top_use.name.share()?;
-    faults.push(Fault {
-        place: Some(top_use.place),
-        kind: FaultKind::Unguarded(name),
-    })?;
-    Ok(())
+    let counts = match recursion {
+        Recursion::OutsideTail => !top_use.is_tail,
+        Recursion::Unguarded => top_use.is_front,
+    };
+    counts && leads_back(defs, names, top_use, standing)
 }
 
 /// Whether the definition that a use names is in the component of the one that it stands in.

@@ -16,13 +16,11 @@ mod faults;
 mod graph;
 pub mod laws;
 mod names;
-#[cfg(test)]
-mod tests;
 mod uses;
 
 use crate::components::components;
 use crate::empty::empty_types;
-use crate::faults::{add_outside, add_unguarded, use_graph};
+use crate::faults::{Recursion, add_faults, use_graph};
 use crate::names::Names;
 use crate::uses::top_uses;
 use std::alloc::Global;
@@ -39,7 +37,7 @@ pub enum Soundness {
 /// The program, where no type recurs outside tail position or unguarded; else the whole list of the uses that do,
 /// in order of place, then of number.
 ///
-/// Its time is linear in the program's size, but for the sorting of faults, the look-up of names by their hash, and
+/// Its time is linear in the program's size, but for the sorting of faults, the look-up of names in their order, and
 /// sequences of which part after part is found to be able to be empty.
 pub fn well_formed(alloc: Global, program: Program) -> Result<Soundness, NoMemory>
     requires { name_faults (program_tree program) ≡ [] }
@@ -72,9 +70,23 @@ fn recursion_faults(alloc: Global, types: &Types, defs: &[TypeDef]) -> Result<Ve
     let front_chains = use_graph(alloc, defs, &names, &uses, true)?;
     let mut faults = Vec::new(alloc);
     let standing = components(alloc, &use_chains)?;
-    add_outside(defs, &names, &uses, &standing, &mut faults)?;
+    add_faults(
+        defs,
+        &names,
+        &uses,
+        &standing,
+        Recursion::OutsideTail,
+        &mut faults,
+    )?;
     let standing = components(alloc, &front_chains)?;
-    add_unguarded(defs, &names, &uses, &standing, &mut faults)?;
+    add_faults(
+        defs,
+        &names,
+        &uses,
+        &standing,
+        Recursion::Unguarded,
+        &mut faults,
+    )?;
     sort_faults(&mut faults)?;
     Ok(faults)
 }

@@ -118,6 +118,7 @@ fn push_parts(
     match form {
         TypeForm::Empty => {}
         TypeForm::Text => {}
+        TypeForm::Words(_) => {}
         TypeForm::Name(_) => {}
         TypeForm::Elem(_, _) => {}
         TypeForm::Seq(ids) => push_sequence(types, defs, part, ids, marks, parts)?,

@@ -4,7 +4,8 @@ use Rattle.xd_syntax.specs.Kept.{type_definition}
 use Rattle.xd_rec.specs.Components.{AreComponents}
 use Rattle.xd_rec.specs.Emptiness.{AreEmptyTypes}
 use Rattle.xd_rec.specs.Uses.{test_of, uses_from}
-use Rattle.xd_rec.specs.Faults.{AreOwned, IsGraphOf, faults_of, is_outside, is_unguarded, outside_fault, unguarded_use_fault}
+use Rattle.xd_rec.specs.Faults.{AreOwned, IsGraphOf, faults_of, recurs, recursion_fault}
+use Rattle.xd_rec.specs.declared.faults.Recursion.TheVariants.{OutsideTail, Unguarded}
 use Rattle.xd_rec.proofs.Recursion.{all_recursion_faults, all_owned}
 use Rattle.xd_rec.proofs.recursion_faults.Goals as goal
 
@@ -16,12 +17,12 @@ pub use_graph-requires-2-clause-owned : goal.use_graph-requires-2-clause-owned
 use_graph-requires-2-clause-owned c =
     subst (AreOwned c.args.defs.now) (sym (c.deref-3.ensures.value ∙ c.in_ok-uses.ensures)) (all_owned (test_of c.deref.result.now c.args.defs.now) c.args.types.now c.args.defs.now)
 
-pub add_outside-requires-clause-owned : goal.add_outside-requires-clause-owned
-add_outside-requires-clause-owned c =
+pub add_faults-requires-clause-owned : goal.add_faults-requires-clause-owned
+add_faults-requires-clause-owned c =
     subst (AreOwned c.args.defs.now) (sym (c.deref-4.ensures.value ∙ c.in_ok-uses.ensures)) (all_owned (test_of c.deref.result.now c.args.defs.now) c.args.types.now c.args.defs.now)
 
-pub add_unguarded-requires-clause-owned : goal.add_unguarded-requires-clause-owned
-add_unguarded-requires-clause-owned c =
+pub add_faults-requires-2-clause-owned : goal.add_faults-requires-2-clause-owned
+add_faults-requires-2-clause-owned c =
     subst (AreOwned c.args.defs.now) (sym (c.deref-6.ensures.value ∙ c.in_ok-uses.ensures)) (all_owned (test_of c.deref.result.now c.args.defs.now) c.args.types.now c.args.defs.now)
 
 pub returns : goal.returns
@@ -37,10 +38,10 @@ returns c fs =
     let ih = subst (λ xs. IsGraphOf ds xs true h) (c.deref-3.ensures.value ∙ c.in_ok-uses.ensures) c.in_ok-front_chains.ensures in
     let ag : AreComponents g c.deref-5.result.now = subst (AreComponents g) (sym c.deref-5.ensures.value) c.in_ok-standing.ensures in
     let ah : AreComponents h c.deref-7.result.now = subst (AreComponents h) (sym c.deref-7.ensures.value) c.in_ok-standing-2.ensures in
-    let o = c.in_ok-add_outside.ensures ∙ ap (λ xs. xs ++ faults_of (is_outside ds c.deref-5.result.now) outside_fault c.deref-4.result.now) c.new-faults.ensures.items
-    ∙ ap (faults_of (is_outside ds c.deref-5.result.now) outside_fault) (c.deref-4.ensures.value ∙ c.in_ok-uses.ensures) in
-    let u = c.in_ok-add_unguarded.ensures
-    ∙ ap (λ xs. xs ++ faults_of (is_unguarded ds c.deref-7.result.now) unguarded_use_fault c.deref-6.result.now) o
-    ∙ ap (λ xs. faults_of (is_outside ds c.deref-5.result.now) outside_fault us ++ faults_of (is_unguarded ds c.deref-7.result.now) unguarded_use_fault xs) (c.deref-6.ensures.value ∙ c.in_ok-uses.ensures) in
+    let o = c.in_ok-add_faults.ensures ∙ ap (λ xs. xs ++ faults_of (recurs OutsideTail ds c.deref-5.result.now) (recursion_fault OutsideTail) c.deref-4.result.now) c.new-faults.ensures.items
+    ∙ ap (faults_of (recurs OutsideTail ds c.deref-5.result.now) (recursion_fault OutsideTail)) (c.deref-4.ensures.value ∙ c.in_ok-uses.ensures) in
+    let u = c.in_ok-add_faults-2.ensures
+    ∙ ap (λ xs. xs ++ faults_of (recurs Unguarded ds c.deref-7.result.now) (recursion_fault Unguarded) c.deref-6.result.now) o
+    ∙ ap (λ xs. faults_of (recurs OutsideTail ds c.deref-5.result.now) (recursion_fault OutsideTail) us ++ faults_of (recurs Unguarded ds c.deref-7.result.now) (recursion_fault Unguarded) xs) (c.deref-6.ensures.value ∙ c.in_ok-uses.ensures) in
     all_recursion_faults ts ds fs c.requires.unique Z ms.decided g h c.deref-5.result.now c.deref-7.result.now ig ag ih ah c.sort_faults.new.faults.items
     (c.in_ok-sort_faults.ensures ∙ ap in_order u)

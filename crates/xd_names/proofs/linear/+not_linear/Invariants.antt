@@ -11,21 +11,21 @@ decreases-not_linear l = l.id.at
 
 abbrev pub invariant-loop-part : goal.invariant-loop-part
 invariant-loop-part l = record {
-  earlier : l.earlier ++ flat_map (λ i. variables (placed_at l.patterns i)) (pattern_numbers (drop l.part-index l.part-items))
-      ≡ l.initial.earlier ++ flat_map (λ i. variables (placed_at l.patterns i)) (pattern_numbers l.part-items);
-  partial : (w : List ℕ) → (not (has_word (flat_map (λ i. variables (placed_at l.patterns i)) (pattern_numbers (drop l.part-index l.part-items))) w) && has_word l.partial w)
-      ≡ (not (has_word (flat_map (λ i. variables (placed_at l.patterns i)) (pattern_numbers l.part-items)) w) && has_word l.initial.partial w);
-  faults : l.faults.items ++ seq_faults l.repeated l.earlier l.partial (map (placed_at l.patterns) (pattern_numbers (drop l.part-index l.part-items)))
-      ≡ l.initial.faults.items ++ seq_faults l.repeated l.initial.earlier l.initial.partial (map (placed_at l.patterns) (pattern_numbers l.part-items));
-  older : AllByRecursion (λ i. i < l.fn.id.at) (pattern_numbers (drop l.part-index l.part-items));
+  earlier : l.earlier ++ flat_map (λ i. variables (placed_at l.patterns i)) (pattern_numbers (drop l.part-index l.parts))
+      ≡ l.initial.earlier ++ flat_map (λ i. variables (placed_at l.patterns i)) (pattern_numbers l.parts);
+  partial : (w : List ℕ) → (not (has_word (flat_map (λ i. variables (placed_at l.patterns i)) (pattern_numbers (drop l.part-index l.parts))) w) && has_word l.partial w)
+      ≡ (not (has_word (flat_map (λ i. variables (placed_at l.patterns i)) (pattern_numbers l.parts)) w) && has_word l.initial.partial w);
+  faults : l.faults.items ++ seq_faults l.repeated l.earlier l.partial (map (placed_at l.patterns) (pattern_numbers (drop l.part-index l.parts)))
+      ≡ l.initial.faults.items ++ seq_faults l.repeated l.initial.earlier l.initial.partial (map (placed_at l.patterns) (pattern_numbers l.parts));
+  older : AllByRecursion (λ i. i < l.fn.id.at) (pattern_numbers (drop l.part-index l.parts));
 }
 
 abbrev pub invariant-loop-branch : goal.invariant-loop-branch
 invariant-loop-branch l = record {
   earlier : l.earlier ≡ l.initial.earlier;
-  partial : (w : List ℕ) → (not (has_word (flat_map (λ i. variables (placed_at l.patterns i)) (pattern_numbers (drop l.branch-index l.branch-items))) w) && has_word l.partial w)
-      ≡ (not (has_word (flat_map (λ i. variables (placed_at l.patterns i)) (pattern_numbers l.branch-items)) w) && has_word l.initial.partial w);
-  faults : l.faults.items ++ alt_faults l.repeated l.earlier l.partial (map (placed_at l.patterns) (pattern_numbers (drop l.branch-index l.branch-items)))
-      ≡ l.initial.faults.items ++ alt_faults l.repeated l.initial.earlier l.initial.partial (map (placed_at l.patterns) (pattern_numbers l.branch-items));
-  older : AllByRecursion (λ i. i < l.fn.id.at) (pattern_numbers (drop l.branch-index l.branch-items));
+  partial : (w : List ℕ) → (not (has_word (flat_map (λ i. variables (placed_at l.patterns i)) (pattern_numbers (drop l.branch-index l.branches))) w) && has_word l.partial w)
+      ≡ (not (has_word (flat_map (λ i. variables (placed_at l.patterns i)) (pattern_numbers l.branches)) w) && has_word l.initial.partial w);
+  faults : l.faults.items ++ alt_faults l.repeated l.earlier l.partial (map (placed_at l.patterns) (pattern_numbers (drop l.branch-index l.branches)))
+      ≡ l.initial.faults.items ++ alt_faults l.repeated l.initial.earlier l.initial.partial (map (placed_at l.patterns) (pattern_numbers l.branches));
+  older : AllByRecursion (λ i. i < l.fn.id.at) (pattern_numbers (drop l.branch-index l.branches));
 }

@@ -35,8 +35,8 @@ returns c =
     (ap (λ (types : List Row). flat_map (λ (q : Param). unknown_types K (placed_at types q.body.at)) c.params-params.result.now) c.types-types.ensures.types
     ∙ ap (λ (ps : List Param). flat_map (λ (q : Param). unknown_types K (placed_at p.types q.body.at)) ps) c.params-params.ensures.params
     ∙ declared_faults K L c.requires.knows.types p.types f.params) in
-    let second : c.in_type.new.faults.items ≡ (old ++ a) ++ b
-    = c.in_ok-in_type.ensures
+    let second : c.in_tree.new.faults.items ≡ (old ++ a) ++ b
+    = c.in_ok-in_tree.ensures
     ∙ ap (λ fs. fs ++ unknown_types K (placed_at c.types-types.result.now c.result_type.result.at)) first
     ∙ ap (λ fs. (old ++ a) ++ fs)
     (ap (λ (types : List Row). unknown_types K (placed_at types c.result_type.result.at)) c.types-types.ensures.types
