@@ -2,11 +2,11 @@
 use Rattle.std.proofs.Common.{◌≡◌, ℕ, zero, suc, ◌<◌, arith, get_or, Bool, true, false, not, cond, ◌||◌, List, [], ◌∷◌, ◌++◌, map, flat_map, length, nat_eq, Option, Some, None, sym, subst}
 use Rattle.std.specs.List.{AllByRecursion}
 use Rattle.xd_base.specs.declared.Place.{Place}
-use Rattle.xd_syntax.specs.Placed.{PlacedTree, Empty_at, Text_at, Name_at, Elem_at, Seq_at, Alt_at, Star_at, Plus_at, Opt_at, Val_at, variables}
+use Rattle.xd_syntax.specs.Placed.{PlacedTree, Empty_at, Text_at, Words_at, Name_at, Elem_at, Seq_at, Alt_at, Star_at, Plus_at, Opt_at, Val_at, variables}
 use Rattle.xd_syntax.specs.Expression.{Expression, Nothing, Quoted, Variable, Tagged, Joined, Called, Matched, Arguments, no_argument, argument, Clauses, no_clause, clause}
 use Rattle.xd_syntax.specs.Program.{TypeDefinition, Parameter, FunctionDefinition, ProgramTree, function_of}
 use Rattle.xd_syntax.specs.Words.{has_word, any_word, string_word}
-use Rattle.xd_syntax.specs.Order.{precedes, put_in, in_order_after}
+use Rattle.xd_syntax.specs.Order.{precedes, put_in, ordered_after}
 use Rattle.xd_syntax.specs.NameFaults as names
 use Rattle.xd_syntax.specs.NameFaults.{Spot, fault_at, fault_if}
 use Rattle.xd_syntax.specs.RecursionFaults.{AreRecursionFaults, not_tail_fault, unguarded_fault}
@@ -41,17 +41,17 @@ all_if : (b : Bool) (p : Place) (k : FaultKind) → CarriesFrom [] k → CarryNo
 all_if true p k c = (c, tt)
 all_if false p k c = tt
 
-all_put : (f : Fault) (gs : List Fault) → CarriesNothing f → CarryNothing gs → CarryNothing (put_in f gs)
+all_put : (f : Fault) (gs : List Fault) → CarriesNothing f → CarryNothing gs → CarryNothing (put_in precedes f gs)
 all_put f [] c a = (c, tt)
 all_put f (g ∷ gs) c a = go (precedes f g) (all_put f gs c a.1)
   where
-    go : (b : Bool) → CarryNothing (put_in f gs) → CarryNothing (cond b (f ∷ (g ∷ gs)) (g ∷ put_in f gs))
+    go : (b : Bool) → CarryNothing (put_in precedes f gs) → CarryNothing (cond b (f ∷ (g ∷ gs)) (g ∷ put_in precedes f gs))
     go true r = (c, a)
     go false r = (a.0, r)
 
-all_ordered : (done fs : List Fault) → CarryNothing done → CarryNothing fs → CarryNothing (in_order_after done fs)
+all_ordered : (done fs : List Fault) → CarryNothing done → CarryNothing fs → CarryNothing (ordered_after precedes done fs)
 all_ordered done [] a b = a
-all_ordered done (f ∷ fs) a b = all_ordered (put_in f done) fs (all_put f done b.0 a) b.1
+all_ordered done (f ∷ fs) a b = all_ordered (put_in precedes f done) fs (all_put f done b.0 a) b.1
 
 duplicates_carry : (seen : List (List ℕ)) (ss : List Spot) → CarryNothing (names.duplicates seen ss)
 duplicates_carry seen [] = tt
@@ -60,6 +60,7 @@ duplicates_carry seen (s ∷ ss) = all_append (fault_if (has_word seen s.word) s
 unknown_carry : (known : List (List ℕ)) (T : PlacedTree) → CarryNothing (names.unknown_types known T)
 unknown_carry known (Empty_at p) = tt
 unknown_carry known (Text_at p) = tt
+unknown_carry known (Words_at p w) = tt
 unknown_carry known (Name_at p x) = all_if (not (has_word known x)) p (UnknownType x) tt
 unknown_carry known (Elem_at p c T) = unknown_carry known T
 unknown_carry known (Seq_at p T U) = all_append (names.unknown_types known T) (names.unknown_types known U) (unknown_carry known T) (unknown_carry known U)
@@ -75,6 +76,7 @@ linear r earlier partial inner T = names.not_linear r earlier partial inner T
 linear_carry : (r : Bool) (earlier partial : List (List ℕ)) (inner : Bool) (T : PlacedTree) → CarryNothing (names.not_linear r earlier partial inner T)
 linear_carry r earlier partial inner (Empty_at p) = tt
 linear_carry r earlier partial inner (Text_at p) = tt
+linear_carry r earlier partial inner (Words_at p w) = tt
 linear_carry r earlier partial inner (Name_at p x) = tt
 linear_carry r earlier partial inner (Elem_at p c T) = linear_carry r earlier partial false T
 linear_carry r earlier partial inner (Seq_at p T U) = all_append (linear r earlier partial false T) (linear r (variables T ++ earlier) (names.without (variables T) partial) false U) (linear_carry r earlier partial false T) (linear_carry r (variables T ++ earlier) (names.without (variables T) partial) false U)

@@ -3,7 +3,7 @@ use Rattle.std.proofs.Common.{◌≡◌, ℕ, zero, suc, ◌+◌, ◌<◌, ◌�
 use Rattle.std.specs.Option.{option_map}
 use Rattle.std.specs.Str.{bytes_eq}
 use Rattle.xd_doc.specs.Document.{Document, empty, text, element, has_item}
-use Rattle.xd_syntax.specs.Tree.{Tree, Empty, Text, Name, Elem, Seq, Alt, Star, Plus, Opt, Val, Definitions, body, environment}
+use Rattle.xd_syntax.specs.Tree.{Tree, Empty, Text, Words, Name, Elem, Seq, Alt, Star, Plus, Opt, Val, Definitions, any_type, body, environment}
 use Rattle.xd_syntax.specs.Words.{any_word}
 use Rattle.xd_syntax.specs.Placed.{unplaced}
 use Rattle.xd_syntax.specs.Table.{Row}
@@ -13,12 +13,11 @@ use Rattle.xd_syntax.specs.declared.types.TypeDef.{TypeDef}
 use Rattle.xd_syntax.proofs.PlacedTrees.{unplaced_at}
 use Rattle.std.specs.List.{AllByRecursion}
 use Rattle.xd_syntax.specs.Program.{TypeDefinition}
-use Rattle.xd_syntax.specs.Fits.{Fits, fits_empty, fits_name, fits_elem, IsOneText}
-use Rattle.xd_syntax.proofs.FitsLaws.{empty_only, text_only, text_fits, element_only, defined_name, any_fits}
+use Rattle.xd_syntax.specs.Fits.{Fits, fits_empty, fits_text, fits_name, fits_elem, fits_left, fits_right, fits_no_turn, fits_turn}
 use Rattle.xd_command.specs.declared.first_form.Core.{Core}
 use Rattle.xd_command.specs.declared.first_form.Core.TheVariants as cores
 use Rattle.xd_command.specs.Reading.{AreCores, IsCore, innermost, position_of}
-use Rattle.xd_command.specs.Membership.{IsBelow, IsInside}
+use Rattle.xd_command.specs.Membership.{IsBelow, IsInside, IsOneText}
 use Rattle.xd_command.proofs.Names.{cores-length, position-below, position-more}
 
 -- how many definitions a core may lead to
@@ -44,6 +43,7 @@ follows_start ds T d c h = record { inside = T; core = h; from = λ f. f; to = �
 inside_from : (E : Definitions) (T : Tree) (d : Document) → Fits E T d → (e : Document) × IsInside T d e × Fits E (innermost T) e
 inside_from E Empty d f = (d, refl, f)
 inside_from E Text d f = (d, refl, f)
+inside_from E (Words w) d f = (d, refl, f)
 inside_from E (Name w) d f = (d, refl, f)
 inside_from E (Seq T U) d f = (d, refl, f)
 inside_from E (Alt T U) d f = (d, refl, f)
@@ -51,16 +51,12 @@ inside_from E (Star T) d f = (d, refl, f)
 inside_from E (Plus T) d f = (d, refl, f)
 inside_from E (Opt T) d f = (d, refl, f)
 inside_from E (Val x T) d f = (d, refl, f)
-inside_from E (Elem k T) empty f = absurd (element_only E k T empty f)
-inside_from E (Elem k T) (text s r) f = absurd (element_only E k T (text s r) f)
-inside_from E (Elem k T) (element l c r) f =
-    let h = element_only E k T (element l c r) f in
-    let n = inside_from E T c h.2 in
-    (n.0, (l, c, ap (λ x. element l c x) h.0, h.1, n.1), n.2)
+inside_from E (Elem k T) _ (fits_elem {l = l} {d = c} h f) = let n = inside_from E T c f in (n.0, (l, c, refl, h, n.1), n.2)
 
 inside_to : (E : Definitions) (T : Tree) (d e : Document) → IsInside T d e → Fits E (innermost T) e → Fits E T d
 inside_to E Empty d e h f = subst (λ x. Fits E Empty x) (sym h) f
 inside_to E Text d e h f = subst (λ x. Fits E Text x) (sym h) f
+inside_to E (Words w) d e h f = subst (λ x. Fits E (Words w) x) (sym h) f
 inside_to E (Name w) d e h f = subst (λ x. Fits E (Name w) x) (sym h) f
 inside_to E (Seq T U) d e h f = subst (λ x. Fits E (Seq T U) x) (sym h) f
 inside_to E (Alt T U) d e h f = subst (λ x. Fits E (Alt T U) x) (sym h) f
@@ -73,6 +69,7 @@ inside_to E (Elem k T) d e h f = subst (λ x. Fits E (Elem k T) x) (sym h.2) (fi
 inside_same : (T : Tree) (d e f : Document) → IsInside T d e → IsInside T d f → e ≡ f
 inside_same Empty d e f h k = sym h ∙ k
 inside_same Text d e f h k = sym h ∙ k
+inside_same (Words w) d e f h k = sym h ∙ k
 inside_same (Name w) d e f h k = sym h ∙ k
 inside_same (Seq T U) d e f h k = sym h ∙ k
 inside_same (Alt T U) d e f h k = sym h ∙ k
@@ -145,6 +142,12 @@ ordered ds cs h n c l g = let e : 0 + n ≡ n = omega arith in rw e at (ordered_
 
 -- one name further
 
+-- what fits a name fits its definition
+defined : (E : Definitions) (w : List ℕ) (T : Tree) (d : Document) → body E w ≡ Some T → Fits E (Name w) d → Fits E T d
+defined E w T d e (fits_name {T = U} g f) =
+    let k : Some U ≡ Some T = sym g ∙ e in
+    let same : U ≡ T = cc in subst (λ V. Fits E V d) same f
+
 not_any : (w : List ℕ) → bytes_eq any_word w ≡ false → (E : Definitions) → body (environment E) w ≡ body E w
 not_any w e E = rw e
 
@@ -153,7 +156,7 @@ pub step_name : (ds : List TypeDefinition) (cs : List Core) (n : ℕ) (t : TypeD
 step_name ds cs n t c T h g k i =
     let f = found [] ds cs i.0 n t c h i.3 g k in
     let b : body (environment (bodies ds)) i.0 ≡ Some (unplaced t.body) = not_any i.0 i.2 (bodies ds) ∙ f.there in
-    (f.core, λ d. ((λ x. defined_name (environment (bodies ds)) i.0 (unplaced t.body) d b (subst (λ U. Fits (environment (bodies ds)) U d) i.1 x)), (λ x. subst (λ U. Fits (environment (bodies ds)) U d) (sym i.1) (fits_name b x))))
+    (f.core, λ d. ((λ x. defined (environment (bodies ds)) i.0 (unplaced t.body) d b (subst (λ U. Fits (environment (bodies ds)) U d) i.1 x)), (λ x. subst (λ U. Fits (environment (bodies ds)) U d) (sym i.1) (fits_name b x))))
 
 pub follows_more : (ds : List TypeDefinition) (cs : List Core) (n : ℕ) (t : TypeDefinition) (c : Core) (T : Tree) (d e f : Document) → AreCores [] ds cs → t ≡ get_or ds n t → c ≡ get_or cs n c → Follows ds T d (cores.Defined n) e → IsInside (unplaced t.body) e f → Follows ds T d c f
 follows_more ds cs n t c T d e f h g k w a =
@@ -173,6 +176,25 @@ follows_none ds cs n t c T d e h g k w none x =
 
 -- the last step
 
+nothing_fits : (E : Definitions) (d : Document) → Fits E Empty d → not (has_item d) ≡ true
+nothing_fits E _ fits_empty = refl
+
+text_fits : (E : Definitions) (d : Document) → IsOneText d ↔ Fits E Text d
+text_fits E d = (there d, back d)
+  where
+    there : (x : Document) → IsOneText x → Fits E Text x
+    there empty h = absurd h
+    there (text s r) h = subst (λ q. Fits E Text (text s q)) (sym h) fits_text
+    there (element l c r) h = absurd h
+
+    back : (x : Document) → Fits E Text x → IsOneText x
+    back _ fits_text = refl
+
+all_fit : (E : Definitions) (d : Document) → Fits (environment E) any_type d
+all_fit E empty = fits_no_turn
+all_fit E (text s r) = fits_turn (text s empty) r refl refl (fits_right fits_text) (all_fit E r)
+all_fit E (element l c r) = fits_turn (element l c empty) r refl refl (fits_left (fits_elem refl (fits_name refl (all_fit E c)))) (all_fit E r)
+
 is_empty_of : (x : Document) → not (has_item x) ≡ true → x ≡ empty
 is_empty_of empty h = refl
 is_empty_of (text s r) h = cc
@@ -182,16 +204,16 @@ pub follows_empty : (ds : List TypeDefinition) (T : Tree) (d e : Document) (b : 
 follows_empty ds T d e b w q =
     let E : Definitions = environment (bodies ds) in (
       (λ t. w.to (subst (λ U. Fits E U e) (sym w.core) (subst (λ y. Fits E Empty y) (sym (is_empty_of e (sym q ∙ t))) fits_empty))),
-      (λ f. q ∙ ap (λ x. not (has_item x)) (empty_only E e (subst (λ U. Fits E U e) w.core (w.from f)))),
+      (λ f. q ∙ nothing_fits E e (subst (λ U. Fits E U e) w.core (w.from f))),
     )
 
 pub follows_text : (ds : List TypeDefinition) (T : Tree) (d e : Document) (b : Bool) → Follows ds T d cores.Text e → IsTrue b ↔ IsOneText e → IsTrue b ↔ Fits (environment (bodies ds)) T d
 follows_text ds T d e b w q =
     let E : Definitions = environment (bodies ds) in
-    ((λ t. w.to (subst (λ U. Fits E U e) (sym w.core) (text_fits E e (q.0 t)))), (λ f. q.1 (text_only E e (subst (λ U. Fits E U e) w.core (w.from f)))))
+    ((λ t. w.to (subst (λ U. Fits E U e) (sym w.core) ((text_fits E e).0 (q.0 t)))), (λ f. q.1 ((text_fits E e).1 (subst (λ U. Fits E U e) w.core (w.from f)))))
 
 pub follows_any : (ds : List TypeDefinition) (T : Tree) (d e : Document) → Follows ds T d cores.Any e → IsTrue true ↔ Fits (environment (bodies ds)) T d
-follows_any ds T d e w = ((λ t. w.to (subst (λ U. Fits (environment (bodies ds)) U e) (sym w.core) (any_fits (bodies ds) e))), (λ f. refl))
+follows_any ds T d e w = ((λ t. w.to (subst (λ U. Fits (environment (bodies ds)) U e) (sym w.core) (fits_name refl (all_fit (bodies ds) e)))), (λ f. refl))
 
 pub below_more : (k n : ℕ) (c : Core) → k ≤ n → IsBelow k c → IsBelow n c
 below_more k n cores.Empty l h = tt

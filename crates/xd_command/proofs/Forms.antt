@@ -39,6 +39,7 @@ alt_other t names (i ∷ (j ∷ is)) h = refl
 pub other_form : (rows : List Row) (t : ℕ → Tree) (names : List (List ℕ)) (f : TypeForm) → CanFollow false rows (form_of f) → (f ≡ forms.Empty → ⊥) → (f ≡ forms.Text → ⊥) → ((w : List ℕ) → f ≡ forms.Name w → ⊥) → ((c : LabelClass) (i : TypeId) → f ≡ forms.Elem c i → ⊥) → is_simple names (form_tree t (form_of f)) ≡ false
 other_form rows t names forms.Empty m a b n e = absurd (a refl)
 other_form rows t names forms.Text m a b n e = absurd (b refl)
+other_form rows t names (forms.Words w) m a b n e = refl
 other_form rows t names (forms.Name w) m a b n e = absurd (n w refl)
 other_form rows t names (forms.Elem c i) m a b n e = absurd (e c i refl)
 other_form rows t names (forms.Seq parts) m a b n e = seq_other t names (type_numbers parts.items) m.0
@@ -61,6 +62,7 @@ alt_inside t (i ∷ (j ∷ is)) d h = refl
 pub no_element : (rows : List Row) (t : ℕ → Tree) (f : TypeForm) (d : Document) → CanFollow false rows (form_of f) → ((c : LabelClass) (i : TypeId) → f ≡ forms.Elem c i → ⊥) → IsInside (form_tree t (form_of f)) d d
 no_element rows t forms.Empty d m e = refl
 no_element rows t forms.Text d m e = refl
+no_element rows t (forms.Words w) d m e = refl
 no_element rows t (forms.Name w) d m e = refl
 no_element rows t (forms.Elem c i) d m e = absurd (e c i refl)
 no_element rows t (forms.Seq parts) d m e = seq_inside t (type_numbers parts.items) d m.0

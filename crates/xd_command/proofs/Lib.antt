@@ -4,4 +4,3 @@ pub mod Names
 pub mod Forms
 pub mod Fitting
 pub mod Steps
-pub mod Usage

@@ -1,9 +1,13 @@
+pub mod Output
+pub mod Step
+pub mod Texts
+pub mod Programs
+pub mod Documents
+pub mod Command
 pub mod FirstForm
-pub mod Loaded
-pub mod Form
+pub mod Fits
+pub mod Check
 pub mod Answer
 pub mod Outcome
-pub mod Sent
-pub mod Fetched
 pub mod Reading
 pub mod Membership

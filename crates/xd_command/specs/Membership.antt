@@ -1,6 +1,6 @@
 -- How membership is tested. Only private contracts speak of it.
 use Rattle.std.specs.Prelude.{◌≡◌, ◌<◌, ℕ, true, List}
-use Rattle.xd_doc.specs.Document.{Document, empty, element}
+use Rattle.xd_doc.specs.Document.{Document, empty, text, element}
 use Rattle.xd_doc.specs.Classes.{class_has}
 use Rattle.xd_syntax.specs.Tree.{Tree, Elem}
 use Rattle.xd_command.specs.declared.first_form.Core.{Core}
@@ -15,3 +15,9 @@ IsBelow n c = Unit {0}
 abbrev pub IsInside : Tree → Document → Document → Type 0
 IsInside (Elem c T) d inner = (l : List ℕ) × (content : Document) × (d ≡ element l content empty) × (class_has c l ≡ true) × IsInside T content inner
 IsInside T d inner = d ≡ inner
+
+-- the document is one text
+abbrev pub IsOneText : Document → Type 0
+IsOneText empty = ⊥
+IsOneText (text s r) = r ≡ empty
+IsOneText (element l c r) = ⊥

@@ -10,7 +10,7 @@ ghost use Rattle.xd_syntax.specs.Program.{names_of};
 ghost use Rattle.xd_syntax.specs.Tree.{Tree};
 ghost use Rattle.xd_syntax.specs.Types as kept;
 ghost use Rattle.xd_command.specs.Reading.{AreCores, IsCore};
-ghost use Rattle.xd_command.specs.Membership.{IsBelow, IsInside};
+ghost use Rattle.xd_command.specs.Membership.{IsBelow, IsInside, IsOneText};
 
 use crate::first_form::Core;
 use xd_doc::{Class, Item, Seq, Store};
@@ -62,7 +62,7 @@ fn inside(types: &Types, id: TypeId, store: &Store, seq: Seq) -> Option<Seq>
 /// Whether the document is one text.
 fn is_one_text(store: &Store, seq: Seq) -> bool
     requires { BelongsTo store.now seq }
-    ensures { IsTrue result ↔ types.IsOneText (document_at store.now seq) }
+    ensures { IsTrue result ↔ IsOneText (document_at store.now seq) }
 {
     let Some(Item::Text(_)) = store.first(seq) else {
         return false;

@@ -1,126 +1,181 @@
 //! What the command writes.
 
-ghost use Rattle.std.specs.Prelude.{◌≡◌, ◌++◌, ◌<◌, ◌≤◌, ℕ, List, [], length, IfOk, OnOk, OnErr, decimal, codes};
+ghost use Rattle.std.specs.Prelude.{◌≡◌, ◌++◌, ◌<◌, ◌≤◌, ℕ, List, [], ◌∷◌, length, None, IfOk, OnOk, OnErr, decimal, codes};
 ghost use Rattle.std.specs.Bool.{OnTrue, OnFalse};
-ghost use Rattle.xd_base.specs.Outside.{HasRisen, HasGrown};
 ghost use Rattle.std.specs.List.{AllByRecursion};
-ghost use Rattle.xd_report.specs.Report.{CarriesFrom, fault_text};
-ghost use Rattle.xd_command.specs.Answer as answers;
-ghost use Rattle.xd_command.specs.Loaded.{lines};
-ghost use Rattle.xd_command.specs.Sent.{HasSentFront};
+ghost use Rattle.xd_base.specs.Outside.{HasRisen, HasGrown};
+ghost use Rattle.xd_report.specs.Report.{CarriesFrom};
+ghost use Rattle.xd_syntax.specs.NameFaults.{fault_at};
+ghost use Rattle.xd_syntax.specs.declared.fault.FaultKind.TheVariants.{NoSuchName, Syntax};
+ghost use Rattle.xd_command.specs.Outcome.{IsSent};
+ghost use Rattle.xd_command.specs.Output as outputs;
+ghost use Rattle.xd_command.specs.declared.output.Stop.TheVariants as stops;
 
+use crate::status::Status;
 use itoa::Buffer;
 use std::alloc::Global;
+use std::marker::Model;
 use xd_base::{Place, Sink};
 use xd_doc::{NoMemory, Store, Text};
 use xd_report::fault_line;
 use xd_syntax::{Fault, FaultKind};
 
-/// A whole text to be written, and the status that goes with it.
+/// A text that is to be written whole, and the status that goes with it.
 #[derive(Drop)]
 pub struct Output {
-    pub code: u8,
-    pub text: Vec<u8>,
+    status: Status,
+    text: Vec<u8>,
 }
 
-/// The output of these pieces, one after the other.
-pub fn line(
-    alloc: Global,
-    code: u8,
-    front: &str,
-    name: &str,
-    back: &str,
-) -> Result<Output, NoMemory>
-    ensures { IfOk result (λ output. answers.Is code (front.now ++ name.now ++ back.now) output.code output.text.items) }
-{
-    let mut text = Vec::new(alloc);
-    text.extend_from_slice(front.as_bytes())?;
-    text.extend_from_slice(name.as_bytes())?;
-    text.extend_from_slice(back.as_bytes())?;
-    Ok(Output { code, text })
+impl Model for Output {
+    ghost use Rattle.xd_command.specs.Output as outputs;
+
+    ghost Value = { outputs.Output };
+
+    ghost view = { λ o. record { status = o.status.code; text = o.text.items } };
 }
 
-pub fn usage(alloc: Global) -> Result<Output, NoMemory>
-    ensures { IfOk result (λ output. answers.Is 2 answers.usage output.code output.text.items) }
-{
-    line(alloc, 2, "usage: xduce COMMAND WORDS\n", "", "")
+/// Why a step of a command is the last.
+#[derive(Drop)]
+pub enum Stop {
+    /// The command ends with this output.
+    Refused(Output),
+    NoMemory,
 }
 
-pub fn cannot_read(alloc: Global, name: &str) -> Result<Output, NoMemory>
-    ensures { IfOk result (λ output. answers.Is 3 (answers.cannot_read name.now) output.code output.text.items) }
-{
-    line(alloc, 3, "cannot read ", name, "\n")
-}
+impl From<NoMemory> for Stop {
+    ghost from_gives = { λ _ stop. stop ≡ stops.NoMemory };
 
-pub fn too_long(alloc: Global, name: &str) -> Result<Output, NoMemory>
-    ensures { IfOk result (λ output. answers.Is 10 (answers.too_long name.now) output.code output.text.items) }
-{
-    line(alloc, 10, "too long: ", name, "\n")
-}
-
-/// The report of `fault 2: syntax` at this place.
-pub fn syntax_fault(alloc: Global, place: Place) -> Result<Output, NoMemory>
-    ensures { IfOk result (λ output. answers.Is 1 (answers.syntax_fault place) output.code output.text.items) }
-{
-    let fault = Fault {
-        place: Some(place),
-        kind: FaultKind::Syntax,
-    };
-    report_one(alloc, &fault)
-}
-
-/// The report that no type has this name.
-pub fn undefined_type(alloc: Global, name: &str) -> Result<Output, NoMemory>
-    ensures { IfOk result (λ output. answers.Is 1 (answers.undefined_type name.now) output.code output.text.items) }
-{
-    let fault = Fault {
-        place: None,
-        kind: FaultKind::NoSuchName(Text::new(alloc, name)?),
-    };
-    report_one(alloc, &fault)
-}
-
-/// The report of one fault that carries no document.
-fn report_one(alloc: Global, fault: &Fault) -> Result<Output, NoMemory>
-    requires { CarriesFrom [] fault.now.kind }
-    ensures { IfOk result (λ output. answers.Is 1 (fault_text [] fault.now) output.code output.text.items) }
-{
-    let store = Store::new(alloc);
-    let mut text = Vec::new(alloc);
-    fault_line(alloc, &store, fault, &mut text)?;
-    Ok(Output { code: 1, text })
-}
-
-/// The report of faults that carry no documents.
-pub fn report(alloc: Global, faults: &[Fault]) -> Result<Output, NoMemory>
-    requires { AllByRecursion (λ f. CarriesFrom [] f.kind) faults.now }
-    ensures { IfOk result (λ output. answers.Is 1 (lines faults.now) output.code output.text.items) }
-{
-    let store = Store::new(alloc);
-    let mut text = Vec::new(alloc);
-    for fault in faults {
-        fault_line(alloc, &store, fault, &mut text)?;
+    fn from(_error: NoMemory) -> Stop {
+        Stop::NoMemory
     }
-    Ok(Output { code: 1, text })
 }
 
-pub fn malformed_document(alloc: Global, place: Place) -> Result<Output, NoMemory>
-    ensures { IfOk result (λ output. answers.Is 7 (answers.malformed_document place) output.code output.text.items) }
-{
-    let mut line = Buffer::new();
-    let mut column = Buffer::new();
-    let mut text = Vec::from_slice(alloc, line.format(place.line).as_bytes())?;
-    text.extend_from_slice(b":")?;
-    text.extend_from_slice(column.format(place.column).as_bytes())?;
-    text.extend_from_slice(b": ")?;
-    text.extend_from_slice(b"malformed document\n")?;
-    Ok(Output { code: 7, text })
+impl Output {
+    /// The output of a fixed text.
+    fn fixed(alloc: Global, status: Status, text: &str) -> Result<Output, NoMemory>
+        ensures { IfOk result (λ o. o ≡ record { status = status.code; text = text.now }) }
+    {
+        let text = Vec::from_slice(alloc, text.as_bytes())?;
+        Ok(Output { status, text })
+    }
+
+    /// The output of a line that ends with a name.
+    fn named(alloc: Global, status: Status, front: &str, name: &str) -> Result<Output, NoMemory>
+        ensures { IfOk result (λ o. o ≡ record { status = status.code; text = front.now ++ name.now ++ codes "\n" }) }
+    {
+        let mut text = Vec::from_slice(alloc, front.as_bytes())?;
+        text.extend_from_slice(name.as_bytes())?;
+        text.extend_from_slice(b"\n")?;
+        Ok(Output { status, text })
+    }
+
+    pub fn yes(alloc: Global) -> Result<Output, NoMemory>
+        ensures { IfOk result (λ o. o ≡ outputs.yes) }
+    {
+        Output::fixed(alloc, Status::SUCCESS, "yes\n")
+    }
+
+    pub fn no(alloc: Global) -> Result<Output, NoMemory>
+        ensures { IfOk result (λ o. o ≡ outputs.no) }
+    {
+        Output::fixed(alloc, Status::NO, "no\n")
+    }
+
+    pub fn accepted(alloc: Global) -> Result<Output, NoMemory>
+        ensures { IfOk result (λ o. o ≡ outputs.accepted) }
+    {
+        Output::fixed(alloc, Status::SUCCESS, "accepted\n")
+    }
+
+    pub fn usage(alloc: Global) -> Result<Output, NoMemory>
+        ensures { IfOk result (λ o. o ≡ outputs.usage) }
+    {
+        Output::fixed(alloc, Status::USAGE, "usage: xduce COMMAND WORDS\n")
+    }
+
+    pub fn cannot_read(alloc: Global, name: &str) -> Result<Output, NoMemory>
+        ensures { IfOk result (λ o. o ≡ outputs.cannot_read name.now) }
+    {
+        Output::named(alloc, Status::UNREAD, "cannot read ", name)
+    }
+
+    pub fn too_long(alloc: Global, name: &str) -> Result<Output, NoMemory>
+        ensures { IfOk result (λ o. o ≡ outputs.too_long name.now) }
+    {
+        Output::named(alloc, Status::TOO_LONG, "too long: ", name)
+    }
+
+    pub fn malformed_document(alloc: Global, place: Place) -> Result<Output, NoMemory>
+        ensures { IfOk result (λ o. o ≡ outputs.malformed_document place) }
+    {
+        let mut line = Buffer::new();
+        let mut column = Buffer::new();
+        let mut text = Vec::from_slice(alloc, line.format(place.line).as_bytes())?;
+        text.extend_from_slice(b":")?;
+        text.extend_from_slice(column.format(place.column).as_bytes())?;
+        text.extend_from_slice(b": ")?;
+        text.extend_from_slice(b"malformed document\n")?;
+        Ok(Output {
+            status: Status::MALFORMED,
+            text,
+        })
+    }
+
+    /// The lines of faults that carry no documents.
+    pub fn faults(alloc: Global, faults: &[Fault]) -> Result<Output, NoMemory>
+        requires { AllByRecursion (λ f. CarriesFrom [] f.kind) faults.now }
+        ensures { IfOk result (λ o. o ≡ outputs.fault_lines faults.now) }
+    {
+        let store = Store::new(alloc);
+        let mut text = Vec::new(alloc);
+        for fault in faults {
+            fault_line(alloc, &store, fault, &mut text)?;
+        }
+        Ok(Output {
+            status: Status::FAULTS,
+            text,
+        })
+    }
+
+    /// The report of `fault 2: syntax` at this place.
+    pub fn syntax_fault(alloc: Global, place: Place) -> Result<Output, NoMemory>
+        ensures { IfOk result (λ o. o ≡ outputs.fault_lines (fault_at place Syntax ∷ [])) }
+    {
+        let fault = Fault {
+            place: Some(place),
+            kind: FaultKind::Syntax,
+        };
+        Output::faults(alloc, &[fault])
+    }
+
+    /// The report that no type has this name.
+    pub fn undefined_type(alloc: Global, name: &str) -> Result<Output, NoMemory>
+        ensures { IfOk result (λ o. o ≡ outputs.fault_lines (record { place = None; kind = NoSuchName name.now } ∷ [])) }
+    {
+        let fault = Fault {
+            place: None,
+            kind: FaultKind::NoSuchName(Text::new(alloc, name)?),
+        };
+        Output::faults(alloc, &[fault])
+    }
+
+    /// Puts the text into the sink, and gives its status, or that of a sink which didn't take it.
+    pub fn send<S: Sink>(&self, sink: &mut S) -> Status
+        ensures { IsSent self.now (HasRisen (S.faults sink.old) (S.faults sink.new)) (S.written sink.old) (S.written sink.new) result.code }
+    {
+        if put_all(sink, &self.text) {
+            self.status
+        } else {
+            Status::UNWRITTEN
+        }
+    }
 }
 
 /// Puts all the bytes into the sink, piece by piece, and says whether it took them.
-pub fn put_all<S: Sink>(sink: &mut S, bytes: &[u8]) -> bool
+fn put_all<S: Sink>(sink: &mut S, bytes: &[u8]) -> bool
     ensures whole { OnTrue result (HasGrown (S.written sink.old) (S.written sink.new) bytes.now) }
-    ensures front { OnFalse result (HasSentFront (S.written sink.old) (S.written sink.new) bytes.now) }
+    ensures front { OnFalse result ((front : List ℕ) × (rest : List ℕ) × (0 < length rest) × (bytes.now ≡ front ++ rest) × HasGrown (S.written sink.old) (S.written sink.new) front) }
     ensures failed { OnFalse result (HasRisen (S.faults sink.old) (S.faults sink.new)) }
 {
     let mut at = 0;

@@ -1,0 +1,19 @@
+use Rattle.std.proofs.Common.{inr}
+use Rattle.xd_base.specs.Outside.{HasRisen}
+use Rattle.xd_syntax.specs.Kept.{program_tree}
+use Rattle.xd_command.specs.Answer.{Answers}
+use Rattle.xd_command.specs.Fits.{AnswersFits}
+use Rattle.xd_command.specs.Output.{Output}
+use Rattle.xd_command.specs.declared.command.Command.TheVariants.{Fits}
+use Rattle.xd_command.proofs.Steps.{does-map, fits_later}
+use Rattle.xd_command.proofs.command.fits.fits.Goals as goal
+
+pub returns : goal.returns
+returns g c =
+    let P = program_tree c.in_ok-sound.sound in
+    let from = g.H.Shelf.faults c.args.shelf.now in
+    let till = g.H.Shelf.faults c.fits_program.new.shelf in
+    let later = AnswersFits (g.H.Shelf.holds c.load_program.new.shelf) (HasRisen (g.H.Shelf.faults c.load_program.new.shelf) till) c.args.name.now c.args.document.now P in
+    let answers = Answers (Fits c.args.file.now c.args.name.now c.args.document.now) (g.H.Shelf.holds c.args.shelf.now) (HasRisen from till) in
+    let step : (o : Output) → later o → answers o = λ o a. inr (P, c.in_ok-sound.ensures.step, fits_later from (g.H.Shelf.faults c.load_program.new.shelf) till c.args.name.now c.args.document.now P o c.load_program.ensures.never_falls c.load_program.ensures.same a) in
+    does-map later answers later answers c.fits_program.result step step (rw c.program.ensures.program at c.fits_program.ensures)

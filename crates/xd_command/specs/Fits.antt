@@ -1,0 +1,34 @@
+-- What `fits` answers, behind the faults of the program.
+use Rattle.std.specs.Prelude.{◌≡◌, ◌⊎◌, ℕ, true, false, List, [], ◌∷◌, None}
+use Rattle.xd_doc.specs.Document.{Document}
+use Rattle.xd_lex.specs.Tokens.{start}
+use Rattle.xd_syntax.specs.Fits as types
+use Rattle.xd_syntax.specs.Program.{ProgramTree, names_of}
+use Rattle.xd_syntax.specs.NameFaults.{fault_at}
+use Rattle.xd_syntax.specs.Sound.{is_defined, type_named}
+use Rattle.xd_syntax.specs.declared.fault.FaultKind.TheVariants.{NoSuchName, Syntax}
+use Rattle.xd_command.specs.FirstForm.{IsFirstForm}
+use Rattle.xd_command.specs.Output.{Output, yes, no, fault_lines}
+use Rattle.xd_command.specs.Step.{Step}
+use Rattle.xd_command.specs.Texts.{Holding}
+use Rattle.xd_command.specs.Documents.{EndsAtDocument, IsDocument}
+
+-- programs of the first form alone are taken so far
+abbrev pub EndsAtOtherForm : ProgramTree → Output → Type 0
+EndsAtOtherForm P o = (IsFirstForm P → ⊥) × (o ≡ fault_lines (fault_at start Syntax ∷ []))
+
+abbrev pub EndsAtName : ProgramTree → (name : List ℕ) → Output → Type 0
+EndsAtName P name o = (is_defined P name ≡ false) × (o ≡ fault_lines (record { place = None; kind = NoSuchName name } ∷ []))
+
+-- whether the document fits the type
+abbrev pub AnswersMembership : ProgramTree → (name : List ℕ) → Document → Output → Type 0
+AnswersMembership P name d o =
+    (types.Fits (names_of P) (type_named name) d × (o ≡ yes))
+    ⊎ ((types.Fits (names_of P) (type_named name) d → ⊥) × (o ≡ no))
+
+abbrev pub AnswersFits : Holding → (rose : Type 0) → (name document : List ℕ) → ProgramTree → Output → Type 0
+AnswersFits holds rose name document P o =
+    EndsAtOtherForm P o
+    ⊎ (IsFirstForm P × (
+    EndsAtName P name o
+    ⊎ ((is_defined P name ≡ true) × Step (EndsAtDocument holds rose document) (IsDocument holds document) (AnswersMembership P name) o)))

@@ -1,0 +1,35 @@
+-- The outputs of the command: each is a text that is written whole, with the status that goes with it. Each text ends
+-- with a line feed.
+use Rattle.std.specs.Prelude.{ℕ, List, [], ◌++◌, codes, flat_map}
+use Rattle.xd_base.specs.declared.Place.{Place}
+use Rattle.xd_syntax.specs.declared.fault.Fault.{Fault}
+use Rattle.xd_report.specs.Report.{fault_text, place_front}
+
+pub record Output : Type 0 where
+  pub status : ℕ
+  pub text : List ℕ
+
+abbrev pub yes : Output
+yes = record { status = 0; text = codes "yes\n" }
+
+abbrev pub accepted : Output
+accepted = record { status = 0; text = codes "accepted\n" }
+
+-- faults that carry no documents, each on a line
+abbrev pub fault_lines : List Fault → Output
+fault_lines fs = record { status = 1; text = flat_map (fault_text []) fs }
+
+abbrev pub usage : Output
+usage = record { status = 2; text = codes "usage: xduce COMMAND WORDS\n" }
+
+abbrev pub cannot_read : List ℕ → Output
+cannot_read name = record { status = 3; text = codes "cannot read " ++ name ++ codes "\n" }
+
+abbrev pub no : Output
+no = record { status = 6; text = codes "no\n" }
+
+abbrev pub malformed_document : Place → Output
+malformed_document p = record { status = 7; text = place_front p ++ codes "malformed document\n" }
+
+abbrev pub too_long : List ℕ → Output
+too_long name = record { status = 10; text = codes "too long: " ++ name ++ codes "\n" }

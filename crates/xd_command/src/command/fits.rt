@@ -1,0 +1,60 @@
+//! The command `fits`.
+
+ghost use Rattle.xd_base.specs.Outside.{HasRisen};
+ghost use Rattle.xd_syntax.specs.Kept.{program_tree};
+ghost use Rattle.xd_command.specs.Answer.{Answers};
+ghost use Rattle.xd_command.specs.Fits.{AnswersFits};
+ghost use Rattle.xd_command.specs.Step.{DoesAll};
+ghost use Rattle.xd_command.specs.declared.command.Command.TheVariants as commands;
+
+use crate::document::load_document;
+use crate::first_form::first_form;
+use crate::membership;
+use crate::output::{Output, Stop};
+use crate::program::load_program;
+use std::alloc::Global;
+use xd_base::{Place, Shelf};
+use xd_doc::Store;
+use xd_syntax::Program;
+
+/// Where a text begins.
+const START: Place = Place { line: 1, column: 1 };
+
+/// Whether the document of this file fits the type of this name in the sound program.
+fn fits_program<H: Shelf>(
+    alloc: Global,
+    program: &Program,
+    name: &str,
+    document: &str,
+    shelf: &mut H,
+) -> Result<Output, Stop>
+    ensures { DoesAll result (AnswersFits (H.holds shelf.old) (HasRisen (H.faults shelf.old) (H.faults shelf.new)) name.now document.now (program_tree program.now)) }
+{
+    let Some(definitions) = first_form(alloc, program)? else {
+        return Ok(Output::syntax_fault(alloc, START)?);
+    };
+    let Some(core) = definitions.find(name) else {
+        return Ok(Output::undefined_type(alloc, name)?);
+    };
+    let mut store = Store::new(alloc);
+    let seq = load_document(alloc, document, shelf, &mut store)?;
+    if membership::fits(program, &definitions.cores, core, &store, seq) {
+        Ok(Output::yes(alloc)?)
+    } else {
+        Ok(Output::no(alloc)?)
+    }
+}
+
+/// Whether the document of this file fits the type of this name in the program of that file.
+pub fn fits<H: Shelf>(
+    alloc: Global,
+    file: &str,
+    name: &str,
+    document: &str,
+    shelf: &mut H,
+) -> Result<Output, Stop>
+    ensures { DoesAll result (Answers (commands.Fits file.now name.now document.now) (H.holds shelf.old) (HasRisen (H.faults shelf.old) (H.faults shelf.new))) }
+{
+    let sound = load_program(alloc, file, shelf)?;
+    fits_program(alloc, sound.program(), name, document, shelf)
+}
