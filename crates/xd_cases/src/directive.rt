@@ -1,0 +1,129 @@
+//! What a line of the cases says.
+
+use crate::error::CaseError;
+use std::alloc::Global;
+
+/// What a line of the cases says.
+#[derive(Drop)]
+pub enum Directive<'a> {
+    /// Nothing: the line is blank or a comment.
+    Blank,
+    /// A case begins.
+    Case,
+    /// A text of this name begins, in place of an earlier one, with its first line where one is given.
+    File(&'a str, Option<&'a str>),
+    /// A line of the text.
+    Line(&'a str),
+    /// So many times these characters, in the text's last line.
+    Repeat(usize, &'a str),
+    /// These bytes, in the text's last line.
+    Bytes(Vec<u8>),
+    /// The calls of the shelf with these numbers fail.
+    ShelfFails(Vec<u64>),
+    /// The calls of the sink with these numbers fail.
+    SinkFails(Vec<u64>),
+    /// The sink has room for so many bytes.
+    Room(usize),
+    /// The sink takes so many bytes in a call.
+    Piece(usize),
+    /// The command runs on these words.
+    Run(&'a str),
+    /// The command runs on these words, once for each variation.
+    Each(Variation<'a>, &'a str),
+}
+
+/// What is different from one run to the next.
+#[derive(Clone, Copy)]
+pub enum Variation<'a> {
+    /// The text of this name is cut behind each of its bytes but the last.
+    Prefix(&'a str),
+    /// Each call of the shelf fails.
+    Fetch,
+    /// Each call of the sink fails.
+    Put,
+    /// The sink has room for each number of bytes from none on.
+    Room,
+}
+
+/// The numbers of a list, between spaces.
+fn numbers(alloc: Global, list: &str) -> Result<Vec<u64>, CaseError> {
+    let mut numbers = Vec::new(alloc);
+    for number in list.split_whitespace() {
+        numbers.push(number.parse::<u64>()?)?;
+    }
+    Ok(numbers)
+}
+
+/// The bytes of a list, each of two hexadecimal digits.
+fn bytes(alloc: Global, list: &str) -> Result<Vec<u8>, CaseError> {
+    let mut bytes = Vec::new(alloc);
+    for byte in list.split_whitespace() {
+        let byte = hex::decode(alloc, byte)?;
+        bytes.extend_from_slice(&byte)?;
+    }
+    Ok(bytes)
+}
+
+/// A piece of a text: `"TEXT"`, `NUMBER "TEXT"` or `hex BYTES`.
+fn piece(alloc: Global, line: &str) -> Result<Directive<'_>, CaseError> {
+    if let Some(list) = line.strip_prefix("hex ") {
+        return Ok(Directive::Bytes(bytes(alloc, list)?));
+    }
+    let (times, quoted) = line.split_once('"').ok_or(CaseError::Quotes)?;
+    let text = quoted.strip_suffix('"').ok_or(CaseError::Quotes)?;
+    let times = match times.trim() {
+        "" => 1,
+        number => number.parse::<usize>()?,
+    };
+    Ok(Directive::Repeat(times, text))
+}
+
+/// What is said of the sink: `fails NUMBERS`, `room NUMBER` or `piece NUMBER`.
+fn sink(alloc: Global, line: &str) -> Result<Directive<'_>, CaseError> {
+    let (what, rest) = line.split_once(' ').unwrap_or((line, ""));
+    match what {
+        "fails" => Ok(Directive::SinkFails(numbers(alloc, rest)?)),
+        "room" => Ok(Directive::Room(rest.parse::<usize>()?)),
+        "piece" => Ok(Directive::Piece(rest.parse::<usize>()?)),
+        _ => Err(CaseError::Directive),
+    }
+}
+
+/// A variation, ` $ `, and the words of its runs.
+fn each(line: &str) -> Result<Directive<'_>, CaseError> {
+    let (variation, words) = line.split_once(" $ ").ok_or(CaseError::Directive)?;
+    let variation = match variation {
+        "fetch" => Variation::Fetch,
+        "put" => Variation::Put,
+        "room" => Variation::Room,
+        other => Variation::Prefix(
+            other
+                .strip_prefix("prefix of ")
+                .ok_or(CaseError::Directive)?,
+        ),
+    };
+    Ok(Directive::Each(variation, words))
+}
+
+/// What a line says.
+pub fn parse(alloc: Global, line: &str) -> Result<Directive<'_>, CaseError> {
+    let (head, rest) = line.split_once(' ').unwrap_or((line, ""));
+    match head {
+        "" | "#" => Ok(Directive::Blank),
+        "case" => Ok(Directive::Case),
+        "file" => Ok(match rest.split_once(' ') {
+            Some((name, line)) => Directive::File(name, Some(line)),
+            None => Directive::File(rest, None),
+        }),
+        "|" => Ok(Directive::Line(rest)),
+        "+" => piece(alloc, rest),
+        "shelf" => {
+            let list = rest.strip_prefix("fails").ok_or(CaseError::Directive)?;
+            Ok(Directive::ShelfFails(numbers(alloc, list)?))
+        }
+        "sink" => sink(alloc, rest),
+        "$" => Ok(Directive::Run(rest)),
+        "each" => each(rest),
+        _ => Err(CaseError::Directive),
+    }
+}

@@ -1,0 +1,37 @@
+//! What is written of a run.
+
+use crate::error::CaseError;
+use std::io::Write;
+
+/// Of a longer output only so many bytes are written.
+const LONGEST: usize = 400;
+
+/// Appends the lines of an output, each behind a `>`.
+///
+/// A line `.. N bytes` follows where it is cut to its first bytes, and `no line end` where it lacks one.
+pub fn show_output(out: &mut Vec<u8>, output: &[u8]) -> Result<(), CaseError> {
+    let mut begins = true;
+    for byte in &output[..output.len().min(LONGEST)] {
+        if begins {
+            out.extend_from_slice(b"> ")?;
+        }
+        out.push(*byte)?;
+        begins = *byte == b'\n';
+    }
+    if output.len() > LONGEST {
+        writeln!(out, "\n.. {} bytes", output.len())?;
+    } else if !begins {
+        out.extend_from_slice(b"\nno line end\n")?;
+    }
+    Ok(())
+}
+
+/// Appends a line for each status and how often it comes in a row: `status 4 x 10`, then `status 0 x 1`.
+pub fn show_statuses(out: &mut Vec<u8>, statuses: &[u8]) -> Result<(), CaseError> {
+    for row in statuses.chunk_by(|one, next| one == next) {
+        if let Some(status) = row.first() {
+            writeln!(out, "status {status} x {}", row.len())?;
+        }
+    }
+    Ok(())
+}
