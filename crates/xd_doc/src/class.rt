@@ -1,7 +1,7 @@
 //! Classes of labels.
 
-ghost use Rattle.std.specs.Prelude.{◌≡◌, ◌<◌, ◌⊎◌, List, ℕ, true, IfOk, vec_len};
-ghost use Rattle.xd_doc.specs.Classes.{IsClass, class_has, is_named};
+ghost use Rattle.std.specs.Prelude.{◌≡◌, ◌<◌, ◌⊎◌, List, ℕ, true, false, IfOk, IfSome, vec_len};
+ghost use Rattle.xd_doc.specs.Classes.{HasLabel, IsClass, IsPart, class_has, is_named};
 
 use crate::error::NoMemory;
 use crate::label::Label;
@@ -71,5 +71,34 @@ impl Class {
     {
         let labels = self.labels.share()?;
         Ok(Self { labels })
+    }
+
+    /// The labels that both classes have, or `None` where there are none.
+    pub fn meet(&self, other: &Self) -> Result<Option<Self>, NoMemory>
+        ensures part { IfOk result (IsPart true self.now other.now) }
+        ensures valid { IfOk result (λ part. IfSome part IsClass) }
+    {
+        let Some(labels) = self.labels.meet(&other.labels)? else {
+            return Ok(None);
+        };
+        Ok(Some(Self { labels }))
+    }
+
+    /// The labels of this class that the other one hasn't, or `None` where there are none.
+    pub fn without(&self, other: &Self) -> Result<Option<Self>, NoMemory>
+        ensures part { IfOk result (IsPart false self.now other.now) }
+        ensures valid { IfOk result (λ part. IfSome part IsClass) }
+    {
+        let Some(labels) = self.labels.without(&other.labels)? else {
+            return Ok(None);
+        };
+        Ok(Some(Self { labels }))
+    }
+
+    /// The law of classes: each has some label. The call does nothing; its contract is the law.
+    pub fn has_some(&self)
+        ensures { HasLabel self.now }
+    {
+        let _labels = &self.labels;
     }
 }

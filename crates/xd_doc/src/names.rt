@@ -1,10 +1,13 @@
 //! Names in order, or all but these: what classes of labels and classes of texts share.
 
-ghost use Rattle.std.specs.Prelude.{◌≡◌, ◌<◌, ◌⊎◌, Bool, true, not, cond, IfOk, vec_len};
+ghost use Rattle.std.specs.Prelude.{◌≡◌, ◌<◌, ◌⊎◌, [], Bool, true, not, cond, drop, length, None, IfOk, IfSome, vec_len};
 ghost use Rattle.std.specs.List.{list_any};
+ghost use Rattle.std.specs.List.Sorted.{IsStrictlySortedBy};
 ghost use Rattle.xd_doc.specs.Classes.{AreClassNames};
+ghost use Rattle.xd_doc.specs.Merging.{IsCommon, IsMerged, IsNext, is_kept};
 
 use crate::error::NoMemory;
+use std::cmp::Ordering;
 
 /// What a class names: a label or a text.
 pub(crate) trait Name: Ord + Drop {
@@ -66,4 +69,105 @@ impl<N: Name> Names<N> {
             except: self.except,
         })
     }
+
+    /// What both classes have, or `None` where that is nothing.
+    pub(crate) fn meet(&self, other: &Self) -> Result<Option<Self>, NoMemory>
+        requires one { AreClassNames N.is_name N.cmp self.now.names.items self.now.except }
+        requires two { AreClassNames N.is_name N.cmp other.now.names.items other.now.except }
+        ensures { IfOk result (IsCommon N.is_name N.cmp N.eq self.now other.now.names.items other.now.except) }
+    {
+        self.common(&other.names, other.except)
+    }
+
+    /// What this class has and the other one hasn't, or `None` where that is nothing.
+    pub(crate) fn without(&self, other: &Self) -> Result<Option<Self>, NoMemory>
+        requires one { AreClassNames N.is_name N.cmp self.now.names.items self.now.except }
+        requires two { AreClassNames N.is_name N.cmp other.now.names.items other.now.except }
+        ensures { IfOk result (IsCommon N.is_name N.cmp N.eq self.now other.now.names.items (not other.now.except)) }
+    {
+        self.common(&other.names, !other.except)
+    }
+
+    /// What this class has and is among these names, or isn't where `except` is true.
+    fn common(&self, others: &[N], except: bool) -> Result<Option<Self>, NoMemory>
+        requires one { AreClassNames N.is_name N.cmp self.now.names.items self.now.except }
+        requires two { IsStrictlySortedBy N.cmp others.now }
+        ensures { IfOk result (IsCommon N.is_name N.cmp N.eq self.now others.now except) }
+    {
+        let names = self.merge(others, except)?;
+        let except = self.except && except;
+        if names.is_empty() && !except {
+            return Ok(None);
+        }
+        Ok(Some(Self { names, except }))
+    }
+
+    /// The names of that class, by one walk along both lists.
+    fn merge(&self, others: &[N], except: bool) -> Result<Vec<N>, NoMemory>
+        requires one { IsStrictlySortedBy N.cmp self.now.names.items }
+        requires two { IsStrictlySortedBy N.cmp others.now }
+        ensures { IfOk result (λ made. IsMerged N.is_name N.cmp N.eq self.now.except except self.now.names.items others.now made.items) }
+    {
+        let mut kept = Vec::new(*self.names.allocator());
+        let mut one = self.names.as_slice();
+        let mut two = others;
+        while let Some(next) = next_of(one, two) {
+            if is_kept(self.except, except, next.in_one, next.in_two) {
+                kept.push(next.name.share()?)?;
+            }
+            one = rest(one, next.in_one);
+            two = rest(two, next.in_two);
+        }
+        Ok(kept)
+    }
+}
+
+/// The least name of two lists, and which of them it stands in.
+#[derive(Drop)]
+struct Next<'n, N> {
+    name: &'n N,
+    in_one: bool,
+    in_two: bool,
+}
+
+/// The next name of two lists in order, or `None` at the end of both.
+fn next_of<'n, N: Name>(one: &'n [N], two: &'n [N]) -> Option<Next<'n, N>>
+    requires one { IsStrictlySortedBy N.cmp one.now }
+    requires two { IsStrictlySortedBy N.cmp two.now }
+    ensures some { IfSome result (λ next. IsNext N.is_name N.cmp one.now two.now next.name.now next.in_one next.in_two) }
+    ensures none { result ≡ None → (one.now ≡ []) × (two.now ≡ []) }
+{
+    let (name, in_one, in_two) = match (one.first(), two.first()) {
+        (None, None) => return None,
+        (Some(name), None) => (name, true, false),
+        (None, Some(name)) => (name, false, true),
+        (Some(name), Some(other)) => match name.cmp(other) {
+            Ordering::Less => (name, true, false),
+            Ordering::Equal => (name, true, true),
+            Ordering::Greater => (other, false, true),
+        },
+    };
+    name.see();
+    Some(Next {
+        name,
+        in_one,
+        in_two,
+    })
+}
+
+/// Whether a name that one or both of two classes name is named by the class of what they have in
+/// common: where it is in both, or, if both except their names, where it isn't.
+fn is_kept(except: bool, other_except: bool, in_one: bool, in_two: bool) -> bool
+    ensures { result ≡ is_kept except other_except in_one in_two }
+{
+    let in_both = in_one != except && in_two != other_except;
+    in_both != (except && other_except)
+}
+
+/// The names behind the first, or all of them where that isn't taken.
+fn rest<N>(names: &[N], taken: bool) -> &[N]
+    requires { taken ≡ true → 0 < length names.now }
+    ensures { result.now ≡ cond taken (drop 1 names.now) names.now }
+{
+    if taken { &names[1..] } else { names }
 }

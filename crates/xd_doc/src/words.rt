@@ -1,7 +1,7 @@
 //! Classes of texts.
 
-ghost use Rattle.std.specs.Prelude.{◌≡◌, ◌<◌, ◌⊎◌, List, ℕ, true, IfOk, vec_len};
-ghost use Rattle.xd_doc.specs.Classes.{IsTextClass, class_has, is_named};
+ghost use Rattle.std.specs.Prelude.{◌≡◌, ◌<◌, ◌⊎◌, List, ℕ, true, false, IfOk, IfSome, vec_len};
+ghost use Rattle.xd_doc.specs.Classes.{HasText, IsPart, IsTextClass, class_has, is_named};
 
 use crate::error::NoMemory;
 use crate::names::Names;
@@ -71,5 +71,34 @@ impl Words {
     {
         let texts = self.texts.share()?;
         Ok(Self { texts })
+    }
+
+    /// The texts that both classes have, or `None` where there are none.
+    pub fn meet(&self, other: &Self) -> Result<Option<Self>, NoMemory>
+        ensures part { IfOk result (IsPart true self.now other.now) }
+        ensures valid { IfOk result (λ part. IfSome part IsTextClass) }
+    {
+        let Some(texts) = self.texts.meet(&other.texts)? else {
+            return Ok(None);
+        };
+        Ok(Some(Self { texts }))
+    }
+
+    /// The texts of this class that the other one hasn't, or `None` where there are none.
+    pub fn without(&self, other: &Self) -> Result<Option<Self>, NoMemory>
+        ensures part { IfOk result (IsPart false self.now other.now) }
+        ensures valid { IfOk result (λ part. IfSome part IsTextClass) }
+    {
+        let Some(texts) = self.texts.without(&other.texts)? else {
+            return Ok(None);
+        };
+        Ok(Some(Self { texts }))
+    }
+
+    /// The law of classes: each has some text. The call does nothing; its contract is the law.
+    pub fn has_some(&self)
+        ensures { HasText self.now }
+    {
+        let _texts = &self.texts;
     }
 }
