@@ -38,6 +38,10 @@ pub IsClosed-with_moves : (a : Automaton) (s : State) (moves : StateMoves) → I
 IsClosed-with_moves a s moves h k =
     closed_at (with_moves a s moves) (length a) (length-set a s.number moves) (All-set (LeadsBelow (length a)) a s.number moves k h)
 
+pub IsClosed-last : (a : Automaton) (s : State) (last : Bool) → IsClosed a → IsState a s → IsClosed (with_moves a s (record (moves_at a s) { last = last }))
+IsClosed-last a s last h here =
+    let old = moves_at-closed a s h here in IsClosed-with_moves a s (record (moves_at a s) { last = last }) h (record { labels = old.labels; texts = old.texts })
+
 pub IsClosed-label : (a : Automaton) (s : State) (m : LabelMove) → IsClosed a → IsState a s → IsState a m.content → IsState a m.rest
     → IsClosed (with_moves a s (record (moves_at a s) { labels = (moves_at a s).labels ++ m ∷ [] }))
 IsClosed-label a s m h here c r =

@@ -1,6 +1,7 @@
 -- What states accept that were made of others.
-use Rattle.std.proofs.Common.{ℕ, zero, suc, ◌≡◌, ◌+◌, ◌-◌, ◌<◌, ◌≤◌, Bool, true, false, ◌||◌, List, [], ◌∷◌, ◌++◌, length, get_or, map, Some, None, arith, refl, sym, ap, subst, ◌∙◌, length-append}
+use Rattle.std.proofs.Common.{ℕ, zero, suc, ◌≡◌, ◌+◌, ◌-◌, ◌<◌, ◌≤◌, Bool, true, false, ◌||◌, List, [], ◌∷◌, ◌++◌, length, get_or, map, Some, None, arith, refl, sym, ap, subst, ◌∙◌, length-append, inl, inr}
 use Rattle.std.proofs.lemmas.List.{get_or_default, get_or-append-add, length-map, get_or-map}
+use Rattle.std.proofs.lemmas.Bool.{cases_lt}
 use Rattle.std.specs.List.{All, AllZip, list_any}
 use Rattle.std.proofs.lemmas.List.Elements.{All-head, All-tail, All-cons, All-nil, All-append, All-map}
 use Rattle.xd_doc.specs.Document.{Document, empty, text, element}
@@ -8,7 +9,7 @@ use Rattle.xd_auto.specs.declared.auto.State.{State}
 use Rattle.xd_auto.specs.declared.auto.LabelMove.{LabelMove}
 use Rattle.xd_auto.specs.declared.auto.TextMove.{TextMove}
 use Rattle.xd_auto.specs.Automaton.{Automaton, StateMoves, IsState, IsClosed, LeadsBelow, Extends, KeepsAccepting, accepts, moves_at, no_moves}
-use Rattle.xd_auto.specs.Copying.{AddsMoves, AreCopied, AreStateCopies, Copies, HasCopy, IsCopy, IsEither, IsReached, IsStateCopy, is_content, is_rest, LabelBelow, LeadsTo, by_element, by_text, here, further, Reached, copy_of, moved, moved_text, no_copies}
+use Rattle.xd_auto.specs.Copying.{AddsMoves, AreCopied, AreStateCopies, Copies, HasCopy, IsCopy, IsCopyOf, IsEither, IsReached, IsStateCopy, is_content, is_rest, LabelBelow, LeadsTo, by_element, by_text, here, further, Reached, copy_of, moved, moved_text, no_copies}
 use Rattle.xd_auto.specs.Membership.{takes_element, takes_word}
 use Rattle.xd_auto.proofs.Closed.{moves_at-closed, LeadsBelow-more, no_moves-below}
 use Rattle.xd_auto.proofs.Extending.{list_any-agree}
@@ -185,3 +186,27 @@ module _ (a old : Automaton) (start : State) (order : List State) (copies : Copi
       let below : s.number - length old < length order = omega (arith, made_length, length-append old made) in
       let e : length old + (s.number - length old) ≡ s.number = omega arith in
       subst (λ n. IsReached both (state_at (length old)) (state_at n)) e (reached_below (length order) (s.number - length old) below below)
+
+  -- the states that were copied are reached from the start
+  order_reached : (n i : ℕ) → i < n → i < length order → IsReached a start (get_or order i start)
+  order_reached zero i lt below = absurd (omega arith)
+  order_reached (suc n) zero lt below = rw (reached.head start) here
+  order_reached (suc n) (suc i) lt below =
+      let p = reached.parents (suc i) start (omega arith) below in
+      further (get_or order p.0 start) (get_or order (suc i) start) (order_reached n p.0 (omega (arith, p.1)) (omega (arith, p.1))) p.2
+
+  pub copies_have_originals : (s : State) → IsState both s → length old ≤ s.number → IsCopyOf a start both (state_at (length old)) s
+  copies_have_originals s is above =
+      let i : ℕ = s.number - length old in
+      let below : i < length order = omega (arith, made_length, length-append old made) in
+      let e : length old + i ≡ s.number = omega arith in
+      let at : state_at (length old + i) ≡ s = ap state_at e in
+      record {
+        original = get_or order i start;
+        reached = order_reached (length order) i below below;
+        led = λ other.
+            let later : 0 < i = elim (cases_lt 0 i) [ inl h ↦ h | inr h ↦ absurd (other (let first : s.number ≡ length old = omega arith in ap state_at first)) ] in
+            let p = reached.parents i start later below in
+            (get_or order p.0 start, order_reached (length order) p.0 (omega (arith, p.1)) (omega (arith, p.1)), p.2);
+        same = λ d. subst (λ (c : State). accepts both d c ≡ accepts a d (get_or order i start)) at (copy_accepts d (get_or order i start) (state_at (length old + i)) (reached.placed.placed i start below));
+      }

@@ -65,6 +65,10 @@ pub record ChangesOnly (changed : State) (old new : Automaton) : Type 0 where
 abbrev pub with_moves : Automaton → State → StateMoves → Automaton
 with_moves a s moves = slice_set a (state_number s) moves
 
+-- the automaton where a state accepts the empty document, or not
+abbrev pub with_last : Automaton → State → Bool → Automaton
+with_last a s last = with_moves a s (record (moves_at a s) { last = last })
+
 -- the automaton with one more move of a state, behind its others
 abbrev pub with_label_move : Automaton → State → LabelMove → Automaton
 with_label_move a s move = with_moves a s (record (moves_at a s) { labels = (moves_at a s).labels ++ move ∷ [] })

@@ -1,13 +1,14 @@
 -- Which states are reached from another; and how states are copied, of which only private contracts speak.
-use Rattle.std.specs.Prelude.{◌≡◌, ℕ, ◌+◌, ◌<◌, ◌≤◌, Bool, true, false, nat_eq, ◌&&◌, ◌||◌, is_some, List, [], ◌∷◌, ◌++◌, length, map, slice_index_or, Option, Some, None}
+use Rattle.std.specs.Prelude.{◌≡◌, ◌≢◌, ℕ, ◌+◌, ◌<◌, ◌≤◌, Bool, true, false, nat_eq, ◌&&◌, ◌||◌, is_some, List, [], ◌∷◌, ◌++◌, length, map, slice_index_or, Option, Some, None}
 use Rattle.std.specs.List.{All, AllZip, Contains}
 use Rattle.std.specs.HashMap.{HashMap, get}
 use Rattle.std.specs.Cmp.Lexicographic.{pointwise}
+use Rattle.xd_doc.specs.Document.{Document}
 use Rattle.xd_doc.specs.Classes.{LabelClass, class_has}
 use Rattle.xd_auto.specs.declared.auto.State.{State}
 use Rattle.xd_auto.specs.declared.auto.LabelMove.{LabelMove}
 use Rattle.xd_auto.specs.declared.auto.TextMove.{TextMove}
-use Rattle.xd_auto.specs.Automaton.{Automaton, IsState, StateMoves, moves_at, no_moves}
+use Rattle.xd_auto.specs.Automaton.{Automaton, IsState, StateMoves, accepts, moves_at, no_moves}
 use Rattle.xd_auto.specs.Counts.{left_out}
 
 -- the copy of each state, by the state's number, if it has one
@@ -109,6 +110,13 @@ pub data LeadsTo (a : Automaton) (s t : State) : Type 0 where
 pub data IsReached (a : Automaton) (start : State) : State → Type 0 where
   here : IsReached a start start
   further : (s t : State) → IsReached a start s → LeadsTo a s t → IsReached a start t
+
+-- the state accepts what a state does that is reached from the start of another automaton; a move leads there, unless it is the copy of the start
+pub record IsCopyOf (a : Automaton) (start : State) (new : Automaton) (new_start s : State) : Type 0 where
+  pub original : State
+  pub reached : IsReached a start original
+  pub led : s ≢ new_start → (r : State) × IsReached a start r × LeadsTo a r original
+  pub same : (d : Document) → accepts new d s ≡ accepts a d original
 
 -- states in the order in which they were found, and their copies, numbered from a base on
 pub record ArePlaced (base : ℕ) (order : List State) (copies : Copies) : Type 0 where

@@ -3,7 +3,7 @@
 ghost use Rattle.std.specs.Prelude.{◌≡◌, ◌+◌, ◌<◌, ◌≤◌, ◌++◌, ◌∷◌, [], length, IfOk, OnOk, OnErr};
 ghost use Rattle.std.specs.List.{All};
 ghost use Rattle.std.specs.Option.{IfSome, unwrap_or};
-ghost use Rattle.xd_auto.specs.Automaton.{ChangesOnly, Extends, IsClosed, IsNext, IsState, KeepsAccepting, LeadsBelow, has_label, has_text, moves_at, no_moves, state_number, with_label_move, with_moves, with_text_move};
+ghost use Rattle.xd_auto.specs.Automaton.{ChangesOnly, Extends, IsClosed, IsNext, IsState, KeepsAccepting, LeadsBelow, has_label, has_text, moves_at, no_moves, state_number, with_label_move, with_last, with_moves, with_text_move};
 ghost use Rattle.xd_auto.specs.Runs.{AcceptsByRuns, RunsAreAccepting};
 
 mod copying;
@@ -127,6 +127,13 @@ impl Moves {
             label_index: Index::new(alloc),
             text_index: Index::new(alloc),
         }
+    }
+
+    /// Whether the empty document is accepted.
+    fn set_last(&mut self, last: bool)
+        ensures { self.new ≡ record self.old { last = last } }
+    {
+        self.last = last;
     }
 
     /// One more move on an element.
@@ -307,6 +314,15 @@ impl Auto {
         Ok(())
     }
 
+    /// Says whether the state accepts the empty document. It takes no memory.
+    pub fn set_last(&mut self, state: State, last: bool)
+        requires { IsState self.old state }
+        ensures value { self.new ≡ with_last self.old state last }
+        ensures others { ChangesOnly state self.old self.new }
+    {
+        set_last(&mut self.states, state.number, last);
+    }
+
     /// One more move of the state on an element.
     pub fn add_label_move(
         &mut self,
@@ -342,6 +358,14 @@ impl Auto {
         push_text(&mut self.states, from.number, TextMove { words, rest })?;
         Ok(())
     }
+}
+
+fn set_last(states: &mut Vec<Moves>, at: usize, last: bool)
+    requires { at < length states.old.items }
+    ensures { states.new.items ≡ with_last states.old.items (record { number = at }) last }
+{
+    let moves = &mut states[at];
+    moves.set_last(last);
 }
 
 fn push_label(states: &mut Vec<Moves>, at: usize, step: LabelMove) -> Result<(), NoMemory>

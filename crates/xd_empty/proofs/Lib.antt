@@ -1,3 +1,4 @@
 pub mod NameLemmas
 pub mod UsesLemmas
 pub mod SearchLemmas
+pub mod PartLemmas

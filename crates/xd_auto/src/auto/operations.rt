@@ -3,7 +3,7 @@
 ghost use Rattle.std.specs.Prelude.{◌≡◌, ◌↔◌, ◌≤◌, ◌||◌, true, length, IfOk};
 ghost use Rattle.xd_doc.specs.Document.{Document};
 ghost use Rattle.xd_auto.specs.Automaton.{Extends, IsJoined, IsState, IsWrapped, KeepsAccepting, accepts, state_number};
-ghost use Rattle.xd_auto.specs.Copying.{IsAround, IsEither, IsReached};
+ghost use Rattle.xd_auto.specs.Copying.{IsAround, IsCopyOf, IsEither, IsReached};
 
 use super::copying::{add_moves, copy_states, reach_from, without_copies};
 use super::{Auto, LabelMove, Moves, State};
@@ -86,6 +86,7 @@ impl Auto {
         ensures ok { IfOk result (λ made. (d : Document) → accepts self.new d made ≡ accepts other.now d state) }
         ensures belongs { IfOk result (IsState self.new) }
         ensures copies { IfOk result (λ made. (s : State) → IsState self.new s → length self.old ≤ state_number s → IsReached self.new made s) }
+        ensures originals { IfOk result (λ made. (s : State) → IsState self.new s → length self.old ≤ state_number s → IsCopyOf other.now state self.new made s) }
         ensures extends { Extends self.old self.new }
         ensures keeps { KeepsAccepting self.old self.new }
     {
@@ -141,6 +142,7 @@ pub fn trim(alloc: Global, auto: &Auto, state: State) -> Result<(Auto, State), N
     ensures ok { IfOk result (λ made. (d : Document) → accepts made.0 d made.1 ≡ accepts auto.now d state) }
     ensures belongs { IfOk result (λ made. IsState made.0 made.1) }
     ensures reached { IfOk result (λ made. (s : State) → IsState made.0 s → IsReached made.0 made.1 s) }
+    ensures originals { IfOk result (λ made. (s : State) → IsState made.0 s → IsCopyOf auto.now state made.0 made.1 s) }
 {
     let mut made = Auto::new(alloc);
     let start = made.absorb(auto, state)?;

@@ -1,7 +1,7 @@
 use Rattle.std.proofs.Common.{◌≡◌, ◌+◌, ◌-◌, true}
 use Rattle.std.specs.String.{string_bytes, string_len}
 use Rattle.xd_doc.specs.Word.{is_word}
-use Rattle.xd_empty.proofs.NameLemmas.{longest}
+use Rattle.xd_doc.proofs.ClassLemmas.{longest}
 use Rattle.xd_empty.proofs.names.other_label.Given as goal
 
 abbrev pub invariant-loop-word : goal.invariant-loop-word

@@ -1,6 +1,6 @@
 use Rattle.std.proofs.Common.{◌≡◌, ◌∙◌, sym, ap, arith, rules, length}
 use Rattle.std.specs.String.{string_bytes, string_len}
-use Rattle.xd_empty.proofs.NameLemmas.{longest_named, excepted_named}
+use Rattle.xd_doc.proofs.ClassLemmas.{longest_named, excepted_named}
 use Rattle.xd_empty.proofs.names.other_text.Goals as goal
 
 pub loop-word-smaller : goal.loop-word-smaller

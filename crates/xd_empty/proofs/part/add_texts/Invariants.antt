@@ -1,0 +1,6 @@
+use Rattle.std.proofs.Common.{take}
+use Rattle.xd_empty.specs.Parts.{AddsTexts}
+use Rattle.xd_empty.proofs.part.add_texts.Given as goal
+
+abbrev pub invariant-loop-step : goal.invariant-loop-step
+invariant-loop-step l = AddsTexts l.marks l.state (take l.step-index l.step-items) l.initial.made l.made
