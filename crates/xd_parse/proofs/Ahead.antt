@@ -1,5 +1,6 @@
 -- Whether a parenthesis opens the labels of a class.
 use Rattle.std.proofs.Common.{◌≡◌, ◌<◌, ℕ, zero, suc, ◌++◌, Bool, true, false, List, [], ◌∷◌, Option, Some, None, length, refl, sym, ap, subst, arith}
+use Rattle.xd_doc.proofs.Lists.{same_rest}
 use Rattle.xd_lex.specs.Tokens.{Lexeme}
 use Rattle.xd_parse.specs.declared.grammar.Nonterminal.{Nonterminal}
 use Rattle.xd_parse.specs.declared.grammar.Nonterminal.TheVariants as n
@@ -20,7 +21,7 @@ use Rattle.xd_parse.specs.Means.{Means, terminal_at}
 use Rattle.xd_parse.specs.Reading.{front_terminal, behind, group_row, element_row, SpellNo}
 use Rattle.xd_parse.proofs.Derive.{is_group, rules_decided, chosen_none, chosen_only}
 use Rattle.xd_parse.proofs.Course.{Out, Dead, Behind, Unknown, dead_too, if_plain, out_of, go, IsDouble, IsRight, course_right}
-use Rattle.xd_parse.proofs.Rows.{MeansView, means_view, append_means, means_fits, means_may, needs, needs_token, same_at, other_at, tail_lexemes}
+use Rattle.xd_parse.proofs.Rows.{MeansView, means_view, append_means, means_fits, means_may, needs, needs_token, same_at, other_at}
 
 -- something that the row stands for
 abbrev pub Some_means : Row → (from to : List Lexeme) → Type 0
@@ -57,7 +58,7 @@ after_go zero row l ls rest ws m = tt
 after_go (suc f) [] l ls rest ws m = tt
 after_go (suc f) (Token j ∷ row) l ls rest ws m =
     let v : MeansView (Token j ∷ row) (l ∷ ls) rest ws = means_view m in
-    rw (same_at j (terminal_at l) l v.0 ls v.1 v.3 v.4 refl) (v.2, subst (λ (x : List Lexeme). Means row x rest v.2) (sym (tail_lexemes l v.0 ls v.1 v.3)) v.6)
+    rw (same_at j (terminal_at l) l v.0 ls v.1 v.3 v.4 refl) (v.2, subst (λ (x : List Lexeme). Means row x rest v.2) (sym (same_rest l v.0 ls v.1 v.3)) v.6)
 after_go (suc f) (Opening j ∷ row) l ls rest ws m =
     let v : MeansView (Opening j ∷ row) (l ∷ ls) rest ws = means_view m in
     rw (same_at j (terminal_at l) l v.0 ls v.1 v.3 v.4 refl) tt
@@ -83,7 +84,7 @@ group_begins part from rest ws m =
     (v.2, subst (λ (x : List Lexeme). Means (Part part ∷ []) x rest v.2) (sym (ap behind v.3)) v.6)
 
 opening_means : (k : Terminal) (row : Row) (l : Lexeme) (ls rest : List Lexeme) (ws : List Value) → Means (Opening k ∷ row) (l ∷ ls) rest ws → Some_means row ls rest
-opening_means k row l ls rest ws m = let v : MeansView (Opening k ∷ row) (l ∷ ls) rest ws = means_view m in (v.2, subst (λ (x : List Lexeme). Means row x rest v.2) (sym (tail_lexemes l v.0 ls v.1 v.3)) v.6)
+opening_means k row l ls rest ws m = let v : MeansView (Opening k ∷ row) (l ∷ ls) rest ws = means_view m in (v.2, subst (λ (x : List Lexeme). Means row x rest v.2) (sym (same_rest l v.0 ls v.1 v.3)) v.6)
 
 listed_begins : (content : Nonterminal) (l : Lexeme) (ls rest : List Lexeme) (ws : List Value) → terminal_at l ≡ t.ParenL → Means (Part n.Class ∷ Part content ∷ []) (l ∷ ls) rest ws → Some_means (Part n.AnyWord ∷ Part n.MoreNames ∷ Token t.ParenR ∷ Closed ∷ Opening t.BracketL ∷ Part content ∷ []) ls rest
 listed_begins content l ls rest ws e m =

@@ -16,6 +16,7 @@ use Rattle.xd_parse.specs.Fits.{same, first_fit}
 use Rattle.xd_parse.specs.Machine.{main_row, listed_row, Reads, course, Turns, Passes, Advances, Shifts}
 use Rattle.xd_parse.proofs.Derive.{view, same-true, same-false, is_group}
 use Rattle.xd_parse.proofs.Shift.{unless_turns, part_turns, part_stops}
+use Rattle.xd_syntax.specs.Shallow.{nesting_limit}
 
 -- what a token does to a row, as far as it computes
 pub data Out : Type 0 where
@@ -46,11 +47,11 @@ go (suc f) (Unless j ∷ row) k = cond (same j k) Dead (go f row k)
 go (suc f) (Part part ∷ row) k = if_plain (is_group part k) (out_of (first_fit (rules part) k) (λ (made : Row). go f (made ++ row) k))
 
 pub record Leaves (row : Row) (k : Terminal) (rest : Row) : Type 0 where
-  pub on : (e : Extent) (l d : ℕ) (ts : List Terminal) → 256 ≤ l → Derives e l d row (k ∷ ts) → Derives e l d rest ts
-  pub back : (e : Extent) (l d : ℕ) (ts : List Terminal) → 256 ≤ l → Derives e l d rest ts → Derives e l d row (k ∷ ts)
+  pub on : (e : Extent) (l d : ℕ) (ts : List Terminal) → nesting_limit ≤ l → Derives e l d row (k ∷ ts) → Derives e l d rest ts
+  pub back : (e : Extent) (l d : ℕ) (ts : List Terminal) → nesting_limit ≤ l → Derives e l d rest ts → Derives e l d row (k ∷ ts)
 
 abbrev pub Holds : Out → Row → Terminal → Type 0
-Holds Dead row k = (e : Extent) (l d : ℕ) (ts : List Terminal) → 256 ≤ l → Derives e l d row (k ∷ ts) → ⊥
+Holds Dead row k = (e : Extent) (l d : ℕ) (ts : List Terminal) → nesting_limit ≤ l → Derives e l d row (k ∷ ts) → ⊥
 Holds (Behind rest) row k = Leaves row k rest
 Holds Unknown row k = Unit {0}
 
@@ -154,10 +155,10 @@ course_right (Shut s) t.BracketL row = (refl, tt)
 course_right (Shut s) k row = refl
 
 -- ---- and the machine's step
-left_only : (reading : Reading) (k : Terminal) (row : Row) → go 9 (listed_row reading ++ row) k ≡ Dead → (e : Extent) (l d : ℕ) (ts : List Terminal) → 256 ≤ l → Derives e l d (listed_row reading ++ row) (k ∷ ts) → ⊥
+left_only : (reading : Reading) (k : Terminal) (row : Row) → go 9 (listed_row reading ++ row) k ≡ Dead → (e : Extent) (l d : ℕ) (ts : List Terminal) → nesting_limit ≤ l → Derives e l d (listed_row reading ++ row) (k ∷ ts) → ⊥
 left_only reading k row dead = let h : Holds Dead (listed_row reading ++ row) k = subst (λ (o : Out). Holds o (listed_row reading ++ row) k) dead (go_holds 9 (listed_row reading ++ row) k) in h
 
-right_only : (reading : Reading) (k : Terminal) (row : Row) → go 9 (main_row reading ++ row) k ≡ Dead → (e : Extent) (l d : ℕ) (ts : List Terminal) → 256 ≤ l → Derives e l d (main_row reading ++ row) (k ∷ ts) → ⊥
+right_only : (reading : Reading) (k : Terminal) (row : Row) → go 9 (main_row reading ++ row) k ≡ Dead → (e : Extent) (l d : ℕ) (ts : List Terminal) → nesting_limit ≤ l → Derives e l d (main_row reading ++ row) (k ∷ ts) → ⊥
 right_only reading k row dead = let h : Holds Dead (main_row reading ++ row) k = subst (λ (o : Out). Holds o (main_row reading ++ row) k) dead (go_holds 9 (main_row reading ++ row) k) in h
 
 either_left : {A B : Type 0} → (B → ⊥) → A ⊎ B → A
@@ -170,7 +171,7 @@ either_right f (inr b) = b
 
 -- only one reading is left: what a step does to its row, it does to the state
 abbrev pub OneIs : Reading → Terminal → Row → Row → Type 0
-OneIs reading k row rest = ((e : Extent) (l d : ℕ) (ts : List Terminal) → 256 ≤ l → Reads reading e l d row (k ∷ ts) → Derives e l d rest (k ∷ ts)) × ((e : Extent) (l d : ℕ) (ts : List Terminal) → 256 ≤ l → Derives e l d rest (k ∷ ts) → Reads reading e l d row (k ∷ ts))
+OneIs reading k row rest = ((e : Extent) (l d : ℕ) (ts : List Terminal) → nesting_limit ≤ l → Reads reading e l d row (k ∷ ts) → Derives e l d rest (k ∷ ts)) × ((e : Extent) (l d : ℕ) (ts : List Terminal) → nesting_limit ≤ l → Derives e l d rest (k ∷ ts) → Reads reading e l d row (k ∷ ts))
 
 one_advances : (reading : Reading) (d : ℕ) (row rest : Row) (k : Terminal) (step : Step) (f : ℕ) (q : Row) → OneIs reading k row rest → Shifts d rest k step f q → Advances reading d row k step f q
 one_advances reading d row rest k (Next after) f q one s = record {
@@ -179,7 +180,7 @@ one_advances reading d row rest k (Next after) f q one s = record {
 }
 one_advances reading d row rest k Syntax f q one s = record { dead = λ e l ts big g. s.dead e l ts big (one.0 e l d ts big g) }
 one_advances reading d row rest k TooDeep f q one s = record {
-  dead = λ e ts g. s.dead e ts (one.0 e 256 d ts (omega arith) g);
+  dead = λ e ts g. s.dead e ts (one.0 e nesting_limit d ts (omega arith) g);
   limit = s.limit;
   above = s.above;
   alive = one.1 Front s.limit d [] s.above s.alive;

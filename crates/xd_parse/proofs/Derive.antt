@@ -1,5 +1,6 @@
 -- What a derivation is at its next token.
 use Rattle.std.proofs.Common.{◌≡◌, ◌≢◌, ◌<◌, ◌==◌, ℕ, zero, suc, ◌++◌, ◌⊎◌, Bool, true, false, cond, List, [], ◌∷◌, Option, Some, None, refl, sym, ap, subst, ◌∙◌, append_assoc, inl, inr}
+use Rattle.xd_doc.proofs.Lists.{not_nil, same_first, same_rest}
 use Rattle.std.proofs.lemmas.Bool.{eqb-true}
 use Rattle.xd_parse.specs.declared.grammar.Nonterminal.{Nonterminal}
 use Rattle.xd_parse.specs.declared.grammar.Nonterminal.TheVariants as n
@@ -18,21 +19,12 @@ View e limit depth (Closed ∷ row) k ts = (d : ℕ) × (depth ≡ suc d) × Der
 View e limit depth (Unless j ∷ row) k ts = (j ≢ k) × Derives e limit depth row (k ∷ ts)
 View e limit depth (Part part ∷ row) k ts = (made : Row) × IsOneOf made (rules part) × Derives e limit depth (made ++ row) (k ∷ ts)
 
-nil_cons : (k : Terminal) (ts : List Terminal) → [] ≡ k ∷ ts → ⊥
-nil_cons k ts e = cc
-
-head_is : (j k : Terminal) (us ts : List Terminal) → j ∷ us ≡ k ∷ ts → j ≡ k
-head_is j k us ts e = cc
-
-tail_is : (j k : Terminal) (us ts : List Terminal) → j ∷ us ≡ k ∷ ts → us ≡ ts
-tail_is j k us ts e = cc
-
 pub view : {e : Extent} {limit depth : ℕ} {row : Row} {us : List Terminal} → Derives e limit depth row us → (k : Terminal) (ts : List Terminal) → us ≡ k ∷ ts → View e limit depth row k ts
-view (end m) k ts q = absurd (nil_cons k ts q)
-view {e = e} {limit = limit} (token {depth = depth} {k = j} {row = row} {ts = us} d) k ts q = (head_is j k us ts q, subst (Derives e limit depth row) (tail_is j k us ts q) d)
-view {e = e} {limit = limit} (opening {depth = depth} {k = j} {row = row} {ts = us} h d) k ts q = (head_is j k us ts q, h, subst (Derives e limit (suc depth) row) (tail_is j k us ts q) d)
+view (end m) k ts q = absurd (not_nil k ts q)
+view {e = e} {limit = limit} (token {depth = depth} {k = j} {row = row} {ts = us} d) k ts q = (same_first j k us ts q, subst (Derives e limit depth row) (same_rest j k us ts q) d)
+view {e = e} {limit = limit} (opening {depth = depth} {k = j} {row = row} {ts = us} h d) k ts q = (same_first j k us ts q, h, subst (Derives e limit (suc depth) row) (same_rest j k us ts q) d)
 view {e = e} {limit = limit} (closed {depth = depth} {row = row} {ts = us} d) k ts q = (depth, refl, subst (Derives e limit depth row) q d)
-view {e = e} {limit = limit} (unless {depth = depth} {j = j} {k = i} {row = row} {ts = us} ne d) k ts q = (subst (λ (x : Terminal). j ≢ x) (head_is i k us ts q) ne, subst (Derives e limit depth row) q d)
+view {e = e} {limit = limit} (unless {depth = depth} {j = j} {k = i} {row = row} {ts = us} ne d) k ts q = (subst (λ (x : Terminal). j ≢ x) (same_first i k us ts q) ne, subst (Derives e limit depth row) q d)
 view {e = e} {limit = limit} (by {depth = depth} {part = part} made {row = row} {ts = us} one d) k ts q = (made, one, subst (Derives e limit depth (made ++ row)) q d)
 
 -- the numbers tell terminals apart

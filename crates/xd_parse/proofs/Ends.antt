@@ -1,5 +1,7 @@
 -- A front that ends where a text ends is a whole text; a whole text begins with each of its fronts.
 use Rattle.std.proofs.Common.{◌≡◌, ℕ, ◌++◌, ◌⊎◌, Bool, true, false, cond, List, [], ◌∷◌, refl, sym, subst, ◌∙◌, inl, inr}
+use Rattle.std.proofs.lemmas.Bool.{false≢true}
+use Rattle.xd_doc.proofs.Lists.{same_first, same_rest}
 use Rattle.xd_parse.specs.declared.grammar.Nonterminal.{Nonterminal}
 use Rattle.xd_parse.specs.declared.grammar.Nonterminal.TheVariants as n
 use Rattle.xd_parse.specs.declared.grammar.Sort.TheVariants as sorts
@@ -120,18 +122,9 @@ no_end : (us : List Terminal) (k : Terminal) → [] ≡ us ++ k ∷ [] → ⊥
 no_end [] k e = cc
 no_end (u ∷ us) k e = cc
 
-head_is : (j k : Terminal) (us ts : List Terminal) → j ∷ us ≡ k ∷ ts → j ≡ k
-head_is j k us ts e = cc
-
-tail_is : (j k : Terminal) (us ts : List Terminal) → j ∷ us ≡ k ∷ ts → us ≡ ts
-tail_is j k us ts e = cc
-
 first_of_more : (us : List Terminal) (k : Terminal) → (j : Terminal) × ((vs : List Terminal) × (us ++ k ∷ [] ≡ j ∷ vs))
 first_of_more [] k = (k, ([], refl))
 first_of_more (u ∷ us) k = (u, (us ++ k ∷ [], refl))
-
-false_true : false ≡ true → ⊥
-false_true e = cc
 
 -- a row with its token taken, where more tokens come
 more_sealed : (l d : ℕ) (k : Terminal) (row : Row) (ts us : List Terminal) (last : Terminal) → seal_token k (is_nil row) (sealed row) ≡ true → Derives Front l d row ts → ts ≡ us ++ last ∷ [] → sealed row ≡ true
@@ -146,10 +139,10 @@ whole_nil l d row ts h e = subst (Derives Whole l d row) (sym e) (end h)
 -- a front with the last token of a text is the whole text
 pub ended : {l d : ℕ} {row : Row} {ts : List Terminal} → Derives Front l d row ts → (us : List Terminal) (last : Terminal) → ts ≡ us ++ last ∷ [] → ends_text last ≡ true → sealed row ≡ true → Derives Whole l d row ts
 ended (end h) us last e q s = absurd (no_end us last e)
-ended {l = l} (token {depth = d} {k = k} {row = row} {ts = ts} g) [] last e q s = token (whole_nil l d row ts (nil_row Front l d row (at_last k (is_nil row) (sealed row) (subst (λ (x : Terminal). ends_text x ≡ true) (sym (head_is k last ts [] e)) q) s)) (tail_is k last ts [] e))
-ended {l = l} (token {depth = d} {k = k} {row = row} {ts = ts} g) (u ∷ us) last e q s = token (ended g us last (tail_is k u ts (us ++ last ∷ []) e) q (more_sealed l d k row ts us last s g (tail_is k u ts (us ++ last ∷ []) e)))
-ended {l = l} (opening {depth = d} {k = k} {row = row} {ts = ts} h g) [] last e q s = absurd (false_true (at_last k false (sealed row) (subst (λ (x : Terminal). ends_text x ≡ true) (sym (head_is k last ts [] e)) q) s))
-ended {l = l} (opening {depth = d} {k = k} {row = row} {ts = ts} h g) (u ∷ us) last e q s = opening h (ended g us last (tail_is k u ts (us ++ last ∷ []) e) q (after_opening k (sealed row) s))
+ended {l = l} (token {depth = d} {k = k} {row = row} {ts = ts} g) [] last e q s = token (whole_nil l d row ts (nil_row Front l d row (at_last k (is_nil row) (sealed row) (subst (λ (x : Terminal). ends_text x ≡ true) (sym (same_first k last ts [] e)) q) s)) (same_rest k last ts [] e))
+ended {l = l} (token {depth = d} {k = k} {row = row} {ts = ts} g) (u ∷ us) last e q s = token (ended g us last (same_rest k u ts (us ++ last ∷ []) e) q (more_sealed l d k row ts us last s g (same_rest k u ts (us ++ last ∷ []) e)))
+ended {l = l} (opening {depth = d} {k = k} {row = row} {ts = ts} h g) [] last e q s = absurd (false≢true (at_last k false (sealed row) (subst (λ (x : Terminal). ends_text x ≡ true) (sym (same_first k last ts [] e)) q) s))
+ended {l = l} (opening {depth = d} {k = k} {row = row} {ts = ts} h g) (u ∷ us) last e q s = opening h (ended g us last (same_rest k u ts (us ++ last ∷ []) e) q (after_opening k (sealed row) s))
 ended (closed g) us last e q s = closed (ended g us last e q s)
 ended (unless ne g) us last e q s = unless ne (ended g us last e q s)
 ended (by {part = part} made {row = row} one g) us last e q s = by made one (ended g us last e q (sealed_made part made row one s))
@@ -158,8 +151,8 @@ ended (by {part = part} made {row = row} one g) us last e q s = by made one (end
 pub front_of : {l d : ℕ} {row : Row} {ts : List Terminal} → Derives Whole l d row ts → (us vs : List Terminal) → ts ≡ us ++ vs → Derives Front l d row us
 front_of g [] vs e = end tt
 front_of (end h) (u ∷ us) vs e = cc
-front_of {l = l} (token {depth = d} {k = k} {row = row} {ts = ts} g) (u ∷ us) vs e = subst (λ (x : Terminal). Derives Front l d (Token k ∷ row) (x ∷ us)) (head_is k u ts (us ++ vs) e) (token (front_of g us vs (tail_is k u ts (us ++ vs) e)))
-front_of {l = l} (opening {depth = d} {k = k} {row = row} {ts = ts} h g) (u ∷ us) vs e = subst (λ (x : Terminal). Derives Front l d (Opening k ∷ row) (x ∷ us)) (head_is k u ts (us ++ vs) e) (opening h (front_of g us vs (tail_is k u ts (us ++ vs) e)))
+front_of {l = l} (token {depth = d} {k = k} {row = row} {ts = ts} g) (u ∷ us) vs e = subst (λ (x : Terminal). Derives Front l d (Token k ∷ row) (x ∷ us)) (same_first k u ts (us ++ vs) e) (token (front_of g us vs (same_rest k u ts (us ++ vs) e)))
+front_of {l = l} (opening {depth = d} {k = k} {row = row} {ts = ts} h g) (u ∷ us) vs e = subst (λ (x : Terminal). Derives Front l d (Opening k ∷ row) (x ∷ us)) (same_first k u ts (us ++ vs) e) (opening h (front_of g us vs (same_rest k u ts (us ++ vs) e)))
 front_of (closed g) (u ∷ us) vs e = closed (front_of g (u ∷ us) vs e)
-front_of {l = l} (unless {depth = d} {j = j} {k = k} {row = row} {ts = ts} ne g) (u ∷ us) vs e = unless (λ q. ne (q ∙ sym (head_is k u ts (us ++ vs) e))) (front_of g (u ∷ us) vs e)
+front_of {l = l} (unless {depth = d} {j = j} {k = k} {row = row} {ts = ts} ne g) (u ∷ us) vs e = unless (λ q. ne (q ∙ sym (same_first k u ts (us ++ vs) e))) (front_of g (u ∷ us) vs e)
 front_of (by made one g) (u ∷ us) vs e = by made one (front_of g (u ∷ us) vs e)

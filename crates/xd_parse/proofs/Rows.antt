@@ -1,5 +1,7 @@
 -- What rows of symbols read, part by part.
 use Rattle.std.proofs.Common.{◌≡◌, ◌≢◌, ℕ, zero, suc, ◌++◌, Bool, true, false, List, [], ◌∷◌, Some, None, refl, sym, ap, subst, ◌∙◌, inl, inr}
+use Rattle.std.proofs.lemmas.Bool.{false≢true}
+use Rattle.xd_doc.proofs.Lists.{not_nil, same_first}
 use Rattle.xd_lex.specs.Tokens.{Lexeme}
 use Rattle.xd_parse.specs.declared.grammar.Nonterminal.{Nonterminal}
 use Rattle.xd_parse.specs.declared.grammar.Nonterminal.TheVariants as n
@@ -39,15 +41,6 @@ row_end l rest ws m = let v : MeansView [] l rest ws = means_view m in (sym v.0,
 
 cons_values : (v w : Value) (vs ws : List Value) → v ≡ w → vs ≡ ws → v ∷ vs ≡ w ∷ ws
 cons_values v w vs ws e f = cc
-
-pub tail_lexemes : (l k : Lexeme) (ls ks : List Lexeme) → l ∷ ls ≡ k ∷ ks → ls ≡ ks
-tail_lexemes l k ls ks e = cc
-
-head_lexemes : (l k : Lexeme) (ls ks : List Lexeme) → l ∷ ls ≡ k ∷ ks → l ≡ k
-head_lexemes l k ls ks e = cc
-
-nil_lexemes : (l : Lexeme) (ls : List Lexeme) → [] ≡ l ∷ ls → ⊥
-nil_lexemes l ls e = cc
 
 -- a token of a row, by what stands at the front
 token_at_front : (k : Terminal) (from to : List Lexeme) (l : Lexeme) (ls : List Lexeme) (us vs ws : List Value) → from ≡ l ∷ ls → terminal_at l ≡ k → ws ≡ token_value l ∷ us → us ≡ vs → ws ≡ token_of k (front_text from) (front_place from) ∷ vs
@@ -114,10 +107,10 @@ append_means (a_bar ne o) row rest ws m = a_bar ne (append_means o row rest ws m
 append_means (a_part made one o p) row rest ws m = a_part made one o (append_means p row rest ws m)
 
 pub same_at : (j k : Terminal) (l x : Lexeme) (ls xs : List Lexeme) → l ∷ ls ≡ x ∷ xs → terminal_at x ≡ j → terminal_at l ≡ k → same j k ≡ true
-same_at j k l x ls xs e f g = same-of j k (sym f ∙ ap terminal_at (sym (head_lexemes l x ls xs e)) ∙ g)
+same_at j k l x ls xs e f g = same-of j k (sym f ∙ ap terminal_at (sym (same_first l x ls xs e)) ∙ g)
 
 pub other_at : (j k : Terminal) (l x : Lexeme) (ls xs : List Lexeme) → l ∷ ls ≡ x ∷ xs → j ≢ terminal_at x → terminal_at l ≡ k → same j k ≡ false
-other_at j k l x ls xs e f g = same-other j k (λ q. f (q ∙ sym g ∙ ap terminal_at (head_lexemes l x ls xs e)))
+other_at j k l x ls xs e f g = same-other j k (λ q. f (q ∙ sym g ∙ ap terminal_at (same_first l x ls xs e)))
 
 pub means_fits : (made : Row) (l : Lexeme) (ls rest : List Lexeme) (ws : List Value) (k : Terminal) → terminal_at l ≡ k → Means made (l ∷ ls) rest ws → fits made k ≡ true
 means_fits [] l ls rest ws k g m = refl
@@ -143,9 +136,6 @@ means_may (suc f) (Part part ∷ made) l ls rest ws k g m =
     any_of (λ (r : Row). may f (r ++ made) k) (rules part) v.0 v.4 (means_may f (v.0 ++ made) l ls rest (v.2 ++ v.3) k g (append_means v.5 made rest v.3 v.6))
 
 -- ---- each nonterminal has a token to come
-false_true : false ≡ true → ⊥
-false_true h = cc
-
 abbrev pub needs : ℕ → Row → Bool
 needs zero row = false
 needs (suc f) [] = false
@@ -156,11 +146,11 @@ needs (suc f) (Closed ∷ row) = needs f row
 needs (suc f) (Part part ∷ row) = all_rows (λ (r : Row). needs f (r ++ row)) (rules part)
 
 pub needs_token : (f : ℕ) (row : Row) (rest : List Lexeme) (ws : List Value) → needs f row ≡ true → Means row [] rest ws → ⊥
-needs_token zero row rest ws h m = false_true h
-needs_token (suc f) [] rest ws h m = false_true h
-needs_token (suc f) (Token j ∷ row) rest ws h m = let v : MeansView (Token j ∷ row) [] rest ws = means_view m in nil_lexemes v.0 v.1 v.3
-needs_token (suc f) (Opening j ∷ row) rest ws h m = let v : MeansView (Opening j ∷ row) [] rest ws = means_view m in nil_lexemes v.0 v.1 v.3
-needs_token (suc f) (Unless j ∷ row) rest ws h m = let v : MeansView (Unless j ∷ row) [] rest ws = means_view m in nil_lexemes v.0 v.1 v.2
+needs_token zero row rest ws h m = false≢true h
+needs_token (suc f) [] rest ws h m = false≢true h
+needs_token (suc f) (Token j ∷ row) rest ws h m = let v : MeansView (Token j ∷ row) [] rest ws = means_view m in not_nil v.0 v.1 v.3
+needs_token (suc f) (Opening j ∷ row) rest ws h m = let v : MeansView (Opening j ∷ row) [] rest ws = means_view m in not_nil v.0 v.1 v.3
+needs_token (suc f) (Unless j ∷ row) rest ws h m = let v : MeansView (Unless j ∷ row) [] rest ws = means_view m in not_nil v.0 v.1 v.2
 needs_token (suc f) (Closed ∷ row) rest ws h m = needs_token f row rest ws h (let v : MeansView (Closed ∷ row) [] rest ws = means_view m in v)
 needs_token (suc f) (Part part ∷ row) rest ws h m =
     let v : MeansView (Part part ∷ row) [] rest ws = means_view m in

@@ -13,7 +13,7 @@ use Rattle.xd_parse.specs.declared.grammar.Sort.TheVariants as sorts
 use Rattle.xd_parse.specs.Text.{SpellsText}
 use Rattle.xd_parse.specs.Values.{Value, a_tree, definitions}
 use Rattle.xd_parse.specs.Reading.{Reads, behind}
-use Rattle.xd_syntax.specs.Shallow.{AddsWithin, IsShallow}
+use Rattle.xd_syntax.specs.Shallow.{AddsWithin, IsShallow, nesting_limit}
 use Rattle.xd_parse.specs.Shallow.{NoDeeper, TreeWithin, ParametersWithin, DefinitionsWithin}
 use Rattle.xd_syntax.proofs.ShallowTables.{none_within}
 use Rattle.xd_parse.proofs.Depth.{AnyWithin}
@@ -39,17 +39,17 @@ program_within limit P h = (
 )
 
 -- what the tokens of a text stand for is within its limit
-text_within : (part : Nonterminal) (bytes : List ℕ) (ls to : List Lexeme) (v : Value) → SpellsText part bytes → ls ≡ tokens_of bytes → Reads part ls to v → Within 256 part 0 v
+text_within : (part : Nonterminal) (bytes : List ℕ) (ls to : List Lexeme) (v : Value) → SpellsText part bytes → ls ≡ tokens_of bytes → Reads part ls to v → Within nesting_limit part 0 v
 text_within part bytes ls to v s e r =
-    all_within 256 part (tokens_of bytes) v (read_within 256 part (tokens_of bytes) to v s.spells (subst (λ (xs : List Lexeme). Reads part xs to v) e r))
+    all_within nesting_limit part (tokens_of bytes) v (read_within nesting_limit part (tokens_of bytes) to v s.spells (subst (λ (xs : List Lexeme). Reads part xs to v) e r))
 
 pub program_shallow : (bytes : List ℕ) (ls to : List Lexeme) (p : ProgramTable) → SpellsText n.Definitions bytes → ls ≡ tokens_of bytes → Reads n.Definitions ls to (definitions (program_tree p)) →
     NoDeeper (DefinitionsWithin (program_tree p)) [] p.types → IsShallow p.types
 program_shallow bytes ls to p s e r d i h =
-    d 256 (omega arith) (program_within 256 (program_tree p) (text_within n.Definitions bytes ls to (definitions (program_tree p)) s e r)) i (omega arith) h
+    d nesting_limit (omega arith) (program_within nesting_limit (program_tree p) (text_within n.Definitions bytes ls to (definitions (program_tree p)) s e r)) i (omega arith) h
 
-pub type_shallow : (bytes : List ℕ) (ls to : List Lexeme) (old new : List Row) (T : PlacedTree) → SpellsText n.TypeText bytes → ls ≡ tokens_of bytes → Reads (n.Alternative sorts.Type) ls to (a_tree T) → NoDeeper (TreeWithin T) old new → AddsWithin 256 old new
-type_shallow bytes ls to old new T s e r d = d 256 (omega arith) (tree_within 256 T (text_within n.TypeText bytes ls (behind to) (a_tree T) s e (type_text_reads ls to T r)))
+pub type_shallow : (bytes : List ℕ) (ls to : List Lexeme) (old new : List Row) (T : PlacedTree) → SpellsText n.TypeText bytes → ls ≡ tokens_of bytes → Reads (n.Alternative sorts.Type) ls to (a_tree T) → NoDeeper (TreeWithin T) old new → AddsWithin nesting_limit old new
+type_shallow bytes ls to old new T s e r d = d nesting_limit (omega arith) (tree_within nesting_limit T (text_within n.TypeText bytes ls (behind to) (a_tree T) s e (type_text_reads ls to T r)))
 
 -- ---- nodes that are taken off again
 pub taken_off : (old grown new : List Row) (k : ℕ) → KeepsRows old grown → k ≡ length old → new ≡ take k grown → new ≡ old
@@ -58,5 +58,5 @@ taken_off old grown new k g l e = e ∙ ap (λ n. take n grown) l ∙ ap (take (
 pub same_keeps : (old new : List Row) → new ≡ old → KeepsRows old new
 same_keeps old new e = subst (λ (rs : List Row). KeepsRows old rs) (sym e) (KeepsRows-refl old)
 
-pub same_within : (old new : List Row) → new ≡ old → AddsWithin 256 old new
-same_within old new e = subst (λ (rs : List Row). AddsWithin 256 old rs) (sym e) (none_within 256 old)
+pub same_within : (old new : List Row) → new ≡ old → AddsWithin nesting_limit old new
+same_within old new e = subst (λ (rs : List Row). AddsWithin nesting_limit old rs) (sym e) (none_within nesting_limit old)

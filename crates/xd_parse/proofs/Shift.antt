@@ -17,6 +17,7 @@ use Rattle.xd_parse.specs.Grammar.{Row, rules, IsOneOf, Extent, Front, Derives, 
 use Rattle.xd_parse.specs.Fits.{same, first_fit, work, cost, is_empty_too}
 use Rattle.xd_parse.specs.Machine.{Reads, prim_group, group_of, entered, Turns, Shifts}
 use Rattle.xd_parse.proofs.Derive.{View, view, same-true, same-false, fits-true, may-true, chosen_none, chosen_is, chosen_only, is_group, rules_decided, all_rows, all_of, left_true, right_true}
+use Rattle.xd_syntax.specs.Shallow.{nesting_limit}
 
 pub turns_refl : (d : ℕ) (r : Row) (k : Terminal) → Turns d r k d r
 turns_refl d r k = record { on = λ e l ts h g. g; back = λ e l ts h g. g }
@@ -34,7 +35,7 @@ turns_shift d r k e s (Next after) f q a b = record {
 }
 turns_shift d r k e s Syntax f q a b = record { dead = λ x l ts h g. b.dead x l ts h (a.on x l ts h g) }
 turns_shift d r k e s TooDeep f q a b = record {
-  dead = λ x ts g. b.dead x ts (a.on x 256 ts (omega arith) g);
+  dead = λ x ts g. b.dead x ts (a.on x nesting_limit ts (omega arith) g);
   limit = b.limit;
   above = b.above;
   alive = a.back Front b.limit [] b.above b.alive;
@@ -54,15 +55,15 @@ token_next d r j k m = record {
 pub token_stops : (d : ℕ) (r : Row) (j k : Terminal) (f : ℕ) (q : Row) → same j k ≡ false → Shifts d (Token j ∷ r) k Syntax f q
 token_stops d r j k f q m = record { dead = λ e l ts h g. same-false j k m (view g k ts refl).0 }
 
-pub opening_next : (d : ℕ) (r : Row) (j k : Terminal) → same j k ≡ true → d < 256 → Shifts d (Opening j ∷ r) k (Next Plain) (suc d) r
+pub opening_next : (d : ℕ) (r : Row) (j k : Terminal) → same j k ≡ true → d < nesting_limit → Shifts d (Opening j ∷ r) k (Next Plain) (suc d) r
 opening_next d r j k m low = record {
   on = λ e l ts h g. (view g k ts refl).2;
   back = λ e l ts h g. subst (λ (x : Terminal). Derives e l d (Opening j ∷ r) (x ∷ ts)) (same-true j k m) (opening (omega arith) g);
 }
 
-pub opening_sinks : (d : ℕ) (r : Row) (j k : Terminal) (f : ℕ) (q : Row) → same j k ≡ true → 256 ≤ d → Shifts d (Opening j ∷ r) k TooDeep f q
+pub opening_sinks : (d : ℕ) (r : Row) (j k : Terminal) (f : ℕ) (q : Row) → same j k ≡ true → nesting_limit ≤ d → Shifts d (Opening j ∷ r) k TooDeep f q
 opening_sinks d r j k f q m high = record {
-  dead = λ e ts g. absurd (let low : d < 256 = (view g k ts refl).1 in omega arith);
+  dead = λ e ts g. absurd (let low : d < nesting_limit = (view g k ts refl).1 in omega arith);
   limit = suc d;
   above = omega arith;
   alive = subst (λ (x : Terminal). Derives Front (suc d) d (Opening j ∷ r) (x ∷ [])) (same-true j k m) (opening (omega arith) (end tt));
@@ -192,7 +193,7 @@ class_turns d r =
     (part_turns d r n.Labels t.ParenL (Part n.Names ∷ Opening t.BracketL ∷ []) refl refl)
     (part_turns d (Opening t.BracketL ∷ r) n.Names t.ParenL (Opening t.ParenL ∷ Part n.AnyWord ∷ Part n.MoreNames ∷ Token t.ParenR ∷ Closed ∷ []) refl refl))
 
-group_rows : (s : Sort) (e : Extent) (l d : ℕ) (r : Row) (ts : List Terminal) → 256 ≤ l → Derives e l d (Part (n.Prim s) ∷ r) (t.ParenL ∷ ts) → (d < l) × Reads (Opened s) e l (suc d) r ts
+group_rows : (s : Sort) (e : Extent) (l d : ℕ) (r : Row) (ts : List Terminal) → nesting_limit ≤ l → Derives e l d (Part (n.Prim s) ∷ r) (t.ParenL ∷ ts) → (d < l) × Reads (Opened s) e l (suc d) r ts
 group_rows s e l d r ts h g = elim ((view g t.ParenL ts refl).1) [
   | inl q ↦ (let w : View e l d (Token t.Word ∷ r) t.ParenL ts = view (subst (λ (x : Row). Derives e l d (x ++ r) (t.ParenL ∷ ts)) q (view g t.ParenL ts refl).2) t.ParenL ts refl in absurd (word_paren w.0))
   | inr (inl q) ↦ (let w : View e l d (Opening t.ParenL ∷ Part (n.Group s) ∷ r) t.ParenL ts = view (subst (λ (x : Row). Derives e l d (x ++ r) (t.ParenL ∷ ts)) q (view g t.ParenL ts refl).2) t.ParenL ts refl in (w.1, inl w.2))
@@ -202,7 +203,7 @@ group_rows s e l d r ts h g = elim ((view g t.ParenL ts refl).1) [
   | inr (inr (inr (inr (inr none)))) ↦ absurd none
 ]
 
-group_back : (s : Sort) (e : Extent) (l d : ℕ) (r : Row) (ts : List Terminal) → 256 ≤ l → d < l → Reads (Opened s) e l (suc d) r ts → Derives e l d (Part (n.Prim s) ∷ r) (t.ParenL ∷ ts)
+group_back : (s : Sort) (e : Extent) (l d : ℕ) (r : Row) (ts : List Terminal) → nesting_limit ≤ l → d < l → Reads (Opened s) e l (suc d) r ts → Derives e l d (Part (n.Prim s) ∷ r) (t.ParenL ∷ ts)
 group_back s e l d r ts h low (inl g) = by (Opening t.ParenL ∷ Part (n.Group s) ∷ []) (inr (inl refl)) (opening low g)
 group_back s e l d r ts h low (inr g) = by (Part n.Class ∷ Part (n.Content s) ∷ []) (inr (inr (inr (inr (inl refl))))) ((class_turns d (Part (n.Content s) ∷ r)).back e l ts h (opening low g))
 
@@ -213,7 +214,7 @@ group_enters_by s d r (Next next) f (is, low, new) =
       back = λ e l ts h g. group_back s e l d r ts h (omega arith) g;
     }))
 group_enters_by s d r TooDeep f high = record {
-  dead = λ e ts g. absurd (let low : d < 256 = (group_rows s e 256 d r ts (omega arith) g).0 in omega arith);
+  dead = λ e ts g. absurd (let low : d < nesting_limit = (group_rows s e nesting_limit d r ts (omega arith) g).0 in omega arith);
   limit = suc d;
   above = omega arith;
   alive = by (Opening t.ParenL ∷ Part (n.Group s) ∷ []) (inr (inl refl)) (opening (omega arith) (end tt));

@@ -1,5 +1,6 @@
 -- Tokens that spell a nonterminal within a limit of nesting stand for something.
 use Rattle.std.proofs.Common.{◌≡◌, ◌≢◌, ◌<◌, ℕ, suc, ◌++◌, List, [], ◌∷◌, refl, sym, subst}
+use Rattle.xd_doc.proofs.Lists.{not_nil, same_first, same_rest}
 use Rattle.xd_lex.specs.Tokens.{Lexeme}
 use Rattle.xd_parse.specs.declared.grammar.Nonterminal.{Nonterminal}
 use Rattle.xd_parse.specs.declared.grammar.Symbol.TheVariants.{Token, Opening, Closed, Unless, Part}
@@ -92,34 +93,25 @@ cut limit d e (Part part ∷ front) back from to ws m = let v : AtView limit d (
 abbrev AllMeans : (limit d : ℕ) → Row → List Lexeme → Type 0
 AllMeans limit d row ls = (e : ℕ) × (vs : List Value) × MeansAt limit d row ls [] e vs
 
-nil_cons : (k : Terminal) (ts : List Terminal) → [] ≡ k ∷ ts → ⊥
-nil_cons k ts e = cc
-
 cons_nil : (k : Terminal) (ts : List Terminal) → k ∷ ts ≡ [] → ⊥
 cons_nil k ts e = cc
 
-head_is : (j k : Terminal) (us ts : List Terminal) → j ∷ us ≡ k ∷ ts → j ≡ k
-head_is j k us ts e = cc
-
-tail_is : (j k : Terminal) (us ts : List Terminal) → j ∷ us ≡ k ∷ ts → us ≡ ts
-tail_is j k us ts e = cc
-
 at_end : (limit d : ℕ) (row : Row) → MayEnd Whole row → (ls : List Lexeme) → [] ≡ terminals_of ls → AllMeans limit d row ls
 at_end limit d [] m [] e = (d, [], ends_at)
-at_end limit d [] m (l ∷ ls) e = absurd (nil_cons (terminal_at l) (terminals_of ls) e)
+at_end limit d [] m (l ∷ ls) e = absurd (not_nil (terminal_at l) (terminals_of ls) e)
 at_end limit d (s ∷ row) m ls e = absurd m
 
 by_token : (limit d : ℕ) (k : Terminal) (row : Row) (ts : List Terminal) (ls : List Lexeme) → k ∷ ts ≡ terminals_of ls → ((later : List Lexeme) → ts ≡ terminals_of later → AllMeans limit d row later) → AllMeans limit d (Token k ∷ row) ls
 by_token limit d k row ts [] q more = absurd (cons_nil k ts q)
-by_token limit d k row ts (l ∷ ls) q more = let s = more ls (tail_is k (terminal_at l) ts (terminals_of ls) q) in (s.0, token_value l ∷ s.1, token_is limit d s.0 k l row (l ∷ ls) ls [] s.1 refl (sym (head_is k (terminal_at l) ts (terminals_of ls) q)) s.2)
+by_token limit d k row ts (l ∷ ls) q more = let s = more ls (same_rest k (terminal_at l) ts (terminals_of ls) q) in (s.0, token_value l ∷ s.1, token_is limit d s.0 k l row (l ∷ ls) ls [] s.1 refl (sym (same_first k (terminal_at l) ts (terminals_of ls) q)) s.2)
 
 by_opening : (limit d : ℕ) (k : Terminal) (row : Row) (ts : List Terminal) (ls : List Lexeme) → d < limit → k ∷ ts ≡ terminals_of ls → ((later : List Lexeme) → ts ≡ terminals_of later → AllMeans limit (suc d) row later) → AllMeans limit d (Opening k ∷ row) ls
 by_opening limit d k row ts [] h q more = absurd (cons_nil k ts q)
-by_opening limit d k row ts (l ∷ ls) h q more = let s = more ls (tail_is k (terminal_at l) ts (terminals_of ls) q) in (s.0, token_value l ∷ s.1, opening_is limit d s.0 k l row (l ∷ ls) ls [] s.1 refl (sym (head_is k (terminal_at l) ts (terminals_of ls) q)) h s.2)
+by_opening limit d k row ts (l ∷ ls) h q more = let s = more ls (same_rest k (terminal_at l) ts (terminals_of ls) q) in (s.0, token_value l ∷ s.1, opening_is limit d s.0 k l row (l ∷ ls) ls [] s.1 refl (sym (same_first k (terminal_at l) ts (terminals_of ls) q)) h s.2)
 
 by_bar : (limit d : ℕ) (j k : Terminal) (row : Row) (ts : List Terminal) (ls : List Lexeme) → j ≢ k → k ∷ ts ≡ terminals_of ls → AllMeans limit d row ls → AllMeans limit d (Unless j ∷ row) ls
 by_bar limit d j k row ts [] ne q s = absurd (cons_nil k ts q)
-by_bar limit d j k row ts (l ∷ ls) ne q s = (s.0, s.1, bar_is limit d s.0 j l row (l ∷ ls) ls [] s.1 refl (subst (λ (x : Terminal). j ≢ x) (head_is k (terminal_at l) ts (terminals_of ls) q) ne) s.2)
+by_bar limit d j k row ts (l ∷ ls) ne q s = (s.0, s.1, bar_is limit d s.0 j l row (l ∷ ls) ls [] s.1 refl (subst (λ (x : Terminal). j ≢ x) (same_first k (terminal_at l) ts (terminals_of ls) q) ne) s.2)
 
 by_part : (limit d : ℕ) (part : Nonterminal) (made row : Row) (ls : List Lexeme) → IsOneOf made (rules part) → AllMeans limit d (made ++ row) ls → AllMeans limit d (Part part ∷ row) ls
 by_part limit d part made row ls one s = let c = cut limit d s.0 made row ls [] s.1 s.2 in (s.0, value_of part c.firsts ∷ c.others, part_at made one c.one c.two)

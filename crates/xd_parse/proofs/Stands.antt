@@ -11,11 +11,12 @@ use Rattle.xd_parse.specs.declared.machine.Reading.TheVariants.{Plain, Opened, N
 use Rattle.xd_parse.specs.Grammar.{Row, Extent, Front, Derives, end, token, opening, closed, unless, by, Begins}
 use Rattle.xd_parse.specs.FirstFault.{IsFirstFault, IsStart}
 use Rattle.xd_parse.specs.Machine.{Reads, Passes, Stops, Sinks}
+use Rattle.xd_syntax.specs.Shallow.{nesting_limit}
 
 -- behind these tokens the text of the nonterminal goes on as the machine's state says
 pub record Stands (part : Nonterminal) (read : List Terminal) (reading : Reading) (depth : ℕ) (row : Row) : Type 0 where
-  pub on : (e : Extent) (l : ℕ) (us : List Terminal) → 256 ≤ l → Derives e l 0 (Part part ∷ []) (read ++ us) → Reads reading e l depth row us
-  pub back : (e : Extent) (l : ℕ) (us : List Terminal) → 256 ≤ l → Reads reading e l depth row us → Derives e l 0 (Part part ∷ []) (read ++ us)
+  pub on : (e : Extent) (l : ℕ) (us : List Terminal) → nesting_limit ≤ l → Derives e l 0 (Part part ∷ []) (read ++ us) → Reads reading e l depth row us
+  pub back : (e : Extent) (l : ℕ) (us : List Terminal) → nesting_limit ≤ l → Reads reading e l depth row us → Derives e l 0 (Part part ∷ []) (read ++ us)
 
 pub at_start : (part : Nonterminal) (reading : Reading) (depth : ℕ) (stack : List Symbol) → IsStart part reading depth stack → Stands part [] reading depth (reverse stack)
 at_start part reading depth stack s =
@@ -41,8 +42,8 @@ alive (Barred sort) l depth row = inl (end tt)
 alive AfterVal l depth row = inl (end tt)
 alive (Shut sort) l depth row = inl (end tt)
 
-pub so_far : (part : Nonterminal) (read : List Terminal) (reading : Reading) (depth : ℕ) (row : Row) → Stands part read reading depth row → Begins 256 part read
-so_far part read reading depth row s = subst (Begins 256 part) (append-nil read) (s.back Front 256 [] (omega arith) (alive reading 256 depth row))
+pub so_far : (part : Nonterminal) (read : List Terminal) (reading : Reading) (depth : ℕ) (row : Row) → Stands part read reading depth row → Begins nesting_limit part read
+so_far part read reading depth row s = subst (Begins nesting_limit part) (append-nil read) (s.back Front nesting_limit [] (omega arith) (alive reading nesting_limit depth row))
 
 -- a larger limit takes no text away
 pub wider : {e : Extent} {l depth : ℕ} {row : Row} {ts : List Terminal} → Derives e l depth row ts → (m : ℕ) → l ≤ m → Derives e m depth row ts
@@ -57,12 +58,12 @@ pub stops : (part : Nonterminal) (ts : List Terminal) (n : ℕ) (k : Terminal) (
 stops part ts n k reading depth row low is s p = record {
   within = low;
   before = so_far part (take n ts) reading depth row s;
-  there = λ limit g. p.dead Front (limit + 256) [] (omega arith) (s.on Front (limit + 256) (k ∷ []) (omega arith) (wider (subst (Begins limit part) is g) (limit + 256) (omega arith)));
+  there = λ limit g. p.dead Front (limit + nesting_limit) [] (omega arith) (s.on Front (limit + nesting_limit) (k ∷ []) (omega arith) (wider (subst (Begins limit part) is g) (limit + nesting_limit) (omega arith)));
 }
 
 pub sinks : (part : Nonterminal) (ts : List Terminal) (n : ℕ) (k : Terminal) (reading : Reading) (depth : ℕ) (row : Row) → n < length ts → take (n + 1) ts ≡ take n ts ++ k ∷ [] → Stands part (take n ts) reading depth row → Sinks reading depth row k → IsFirstFault part ts n refusals.TooDeep
 sinks part ts n k reading depth row low is s p = record {
   within = low;
   before = so_far part (take n ts) reading depth row s;
-  there = (λ g. p.dead Front [] (s.on Front 256 (k ∷ []) (omega arith) (subst (Begins 256 part) is g)), (p.limit, subst (Begins p.limit part) (sym is) (s.back Front p.limit (k ∷ []) p.above p.alive)));
+  there = (λ g. p.dead Front [] (s.on Front nesting_limit (k ∷ []) (omega arith) (subst (Begins nesting_limit part) is g)), (p.limit, subst (Begins p.limit part) (sym is) (s.back Front p.limit (k ∷ []) p.above p.alive)));
 }

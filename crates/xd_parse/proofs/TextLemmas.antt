@@ -1,5 +1,6 @@
 -- Texts from their tokens.
-use Rattle.std.proofs.Common.{◌≡◌, ◌<◌, ◌+◌, ℕ, zero, suc, ◌++◌, true, false, List, [], ◌∷◌, Option, Some, None, take, drop, length, get_or, map, refl, sym, ap, subst, ◌∙◌, arith}
+use Rattle.std.proofs.Common.{◌≡◌, ◌<◌, ◌+◌, ℕ, zero, suc, ◌++◌, true, List, [], ◌∷◌, Option, Some, None, take, drop, length, get_or, map, refl, sym, ap, subst, ◌∙◌, arith}
+use Rattle.std.proofs.lemmas.Bool.{false≢true}
 use Rattle.std.proofs.lemmas.List.{take-append-drop}
 use Rattle.std.specs.Prelude.{IsUtf8, MatchOption, IsSome}
 use Rattle.xd_lex.specs.declared.Kind.{Kind}
@@ -21,14 +22,12 @@ use Rattle.xd_parse.specs.Text.{terminal_of, terminals_of, ends_text, is_text, S
 use Rattle.xd_lex.specs.declared.lexer.Token.{Token}
 use Rattle.xd_base.specs.declared.Place.{Place}
 use Rattle.xd_parse.proofs.Ends.{sealed, ended, front_of}
-
-false_true : {A : Type 0} → false ≡ true → A
-false_true e = cc
+use Rattle.xd_syntax.specs.Shallow.{nesting_limit}
 
 last_terminal : (kind : Kind) (text : List ℕ) → is_last kind ≡ true → ends_text (terminal_of kind text) ≡ true
 last_terminal kinds.End text h = refl
 last_terminal (kinds.Broken fault) text h = refl
-last_terminal kind text h = false_true h
+last_terminal kind text h = absurd (false≢true h)
 
 pub record LastIs (ts : List Terminal) : Type 0 where
   pub front : List Terminal
@@ -49,9 +48,9 @@ last_of (l ∷ (m ∷ ls)) h = let more : LastIs (terminals_of (m ∷ ls)) = las
 text_sealed : (part : Nonterminal) → is_text part ≡ true → sealed (Part part ∷ []) ≡ true
 text_sealed n.Definitions h = refl
 text_sealed n.TypeText h = refl
-text_sealed part h = false_true h
+text_sealed part h = absurd (false≢true h)
 
-pub spelled : (part : Nonterminal) (bytes : List ℕ) → is_text part ≡ true → IsUtf8 bytes → Begins 256 part (terminals_of (tokens_of bytes)) → SpellsText part bytes
+pub spelled : (part : Nonterminal) (bytes : List ℕ) → is_text part ≡ true → IsUtf8 bytes → Begins nesting_limit part (terminals_of (tokens_of bytes)) → SpellsText part bytes
 spelled part bytes h utf8 g = let last : LastIs (terminals_of (tokens_of bytes)) = last_of (tokens_of bytes) (one_last bytes) in record {
   utf8 = utf8;
   spells = ended g last.front last.last last.is last.ends (text_sealed part h);
@@ -60,8 +59,8 @@ spelled part bytes h utf8 g = let last : LastIs (terminals_of (tokens_of bytes))
 take_drop : (k : ℕ) (ts : List Terminal) → ts ≡ take k ts ++ drop k ts
 take_drop k ts = sym (take-append-drop k ts)
 
-refused : (part : Nonterminal) (ts : List Terminal) (k : ℕ) (refusal : Refusal) → IsFirstFault part ts k refusal → Spells 256 part ts → ⊥
-refused part ts k refusals.Syntax f g = f.there 256 (front_of g (take (k + 1) ts) (drop (k + 1) ts) (take_drop (k + 1) ts))
+refused : (part : Nonterminal) (ts : List Terminal) (k : ℕ) (refusal : Refusal) → IsFirstFault part ts k refusal → Spells nesting_limit part ts → ⊥
+refused part ts k refusals.Syntax f g = f.there nesting_limit (front_of g (take (k + 1) ts) (drop (k + 1) ts) (take_drop (k + 1) ts))
 refused part ts k refusals.TooDeep f g = f.there.0 (front_of g (take (k + 1) ts) (drop (k + 1) ts) (take_drop (k + 1) ts))
 
 unspelled_at : (part : Nonterminal) (bytes : List ℕ) (fault : TextFault) → IsTextFault part bytes fault → SpellsText part bytes → ⊥
@@ -71,7 +70,7 @@ unspelled_at part bytes (faults.TooDeep place) f s = refused part (terminals_of 
 
 -- a text with a fault is not spelled
 pub unspelled : (part : Nonterminal) (bytes : List ℕ) (found : Option TextFault) → MatchOption found (SpellsText part bytes) (λ fault. IsTextFault part bytes fault) → IsSome found → SpellsText part bytes → ⊥
-unspelled part bytes None m some s = false_true some
+unspelled part bytes None m some s = absurd (false≢true some)
 unspelled part bytes (Some fault) m some s = unspelled_at part bytes fault m s
 
 pub terminals_map : (xs : List Token) → map (λ (x : Token). terminal_of x.kind x.text.now) xs ≡ terminals_of (map lexeme_of xs)
@@ -92,13 +91,13 @@ text_of part bytes (faults.NotUtf8 place) utf8 f = absurd f
 text_of part bytes (faults.Syntax place) utf8 f = (utf8, f)
 text_of part bytes (faults.TooDeep place) utf8 f = (utf8, f)
 
-pub found_text : (part : Nonterminal) (bytes : List ℕ) (ls : List Lexeme) (found : Option TextFault) → is_text part ≡ true → IsUtf8 bytes → ls ≡ tokens_of bytes → MatchOption found (Begins 256 part (terminals_of ls)) (λ fault. IsLexemeFault part ls fault) → MatchOption found (SpellsText part bytes) (λ fault. IsTextFault part bytes fault)
-found_text part bytes ls None h utf8 e g = spelled part bytes h utf8 (subst (λ (x : List Lexeme). Begins 256 part (terminals_of x)) e g)
+pub found_text : (part : Nonterminal) (bytes : List ℕ) (ls : List Lexeme) (found : Option TextFault) → is_text part ≡ true → IsUtf8 bytes → ls ≡ tokens_of bytes → MatchOption found (Begins nesting_limit part (terminals_of ls)) (λ fault. IsLexemeFault part ls fault) → MatchOption found (SpellsText part bytes) (λ fault. IsTextFault part bytes fault)
+found_text part bytes ls None h utf8 e g = spelled part bytes h utf8 (subst (λ (x : List Lexeme). Begins nesting_limit part (terminals_of x)) e g)
 found_text part bytes ls (Some fault) h utf8 e f = text_of part bytes fault utf8 (subst (λ (x : List Lexeme). IsLexemeFault part x fault) e f)
 
 -- the terminals of the tokens are what was read
-pub read_front : (part : Nonterminal) (xs : List Token) (ks ts : List Terminal) → ks ≡ map (λ (x : Token). terminal_of x.kind x.text.now) xs → ts ≡ ks → Begins 256 part ts → Begins 256 part (terminals_of (map lexeme_of xs))
-read_front part xs ks ts e f g = subst (Begins 256 part) (f ∙ e ∙ terminals_map xs) g
+pub read_front : (part : Nonterminal) (xs : List Token) (ks ts : List Terminal) → ks ≡ map (λ (x : Token). terminal_of x.kind x.text.now) xs → ts ≡ ks → Begins nesting_limit part ts → Begins nesting_limit part (terminals_of (map lexeme_of xs))
+read_front part xs ks ts e f g = subst (Begins nesting_limit part) (f ∙ e ∙ terminals_map xs) g
 
 pub read_fault : (part : Nonterminal) (xs : List Token) (ks ts : List Terminal) (index : ℕ) (refusal : Refusal) (place : Place) → ks ≡ map (λ (x : Token). terminal_of x.kind x.text.now) xs → ts ≡ ks → IsFirstFault part ts index refusal → IsPlaceAt (map lexeme_of xs) index place → IsLexemeFault part (map lexeme_of xs) (fault_of refusal place)
 read_fault part xs ks ts index refusal place e f g p = fault_lexeme part (map lexeme_of xs) ts index refusal place (f ∙ e ∙ terminals_map xs) g p

@@ -14,9 +14,10 @@ use Rattle.xd_parse.specs.Means.{MeansAll, IsProgramText, IsTypeText}
 use Rattle.xd_parse.specs.Reading.{Reads, behind}
 use Rattle.xd_parse.proofs.Spelled.{read_all}
 use Rattle.xd_parse.proofs.Rows.{row_part, row_token, row_end, part_one}
+use Rattle.xd_syntax.specs.Shallow.{nesting_limit}
 
 tokens_meant : (part : Nonterminal) (bytes : List ℕ) (ls to : List Lexeme) (v : Value) → SpellsText part bytes → ls ≡ tokens_of bytes → Reads part ls to v → MeansAll part (tokens_of bytes) v
-tokens_meant part bytes ls to v s e r = read_all 256 part (tokens_of bytes) to v s.spells (subst (λ (xs : List Lexeme). Reads part xs to v) e r)
+tokens_meant part bytes ls to v s e r = read_all nesting_limit part (tokens_of bytes) to v s.spells (subst (λ (xs : List Lexeme). Reads part xs to v) e r)
 
 pub program_meant : (bytes : List ℕ) (ls to : List Lexeme) (P : ProgramTree) → SpellsText n.Definitions bytes → ls ≡ tokens_of bytes → Reads n.Definitions ls to (definitions P) → IsProgramText bytes P
 program_meant bytes ls to P s e r = record { spells = s; means = tokens_meant n.Definitions bytes ls to (definitions P) s e r }

@@ -9,15 +9,16 @@ use Rattle.xd_parse.specs.declared.grammar.Terminal.{Terminal}
 use Rattle.xd_parse.specs.declared.machine.Reading.{Reading}
 use Rattle.xd_parse.specs.declared.machine.Reading.TheVariants.{Plain}
 use Rattle.xd_parse.specs.Grammar.{Begins}
+use Rattle.xd_syntax.specs.Shallow.{nesting_limit}
 
 -- The token n is the first that no text goes on with: without a limit of nesting, or else within it.
 abbrev pub IsRefusedAt : Nonterminal → List Terminal → ℕ → Refusal → Type 0
 IsRefusedAt part ts n refusals.Syntax = (limit : ℕ) → ¬ (Begins limit part (take (n + 1) ts))
-IsRefusedAt part ts n refusals.TooDeep = ¬ (Begins 256 part (take (n + 1) ts)) × ((limit : ℕ) × Begins limit part (take (n + 1) ts))
+IsRefusedAt part ts n refusals.TooDeep = ¬ (Begins nesting_limit part (take (n + 1) ts)) × ((limit : ℕ) × Begins limit part (take (n + 1) ts))
 
 pub record IsFirstFault (part : Nonterminal) (ts : List Terminal) (n : ℕ) (refusal : Refusal) : Type 0 where
   pub within : n < length ts
-  pub before : Begins 256 part (take n ts)
+  pub before : Begins nesting_limit part (take n ts)
   pub there : IsRefusedAt part ts n refusal
 
 pub record IsStart (part : Nonterminal) (reading : Reading) (depth : ℕ) (stack : List Symbol) : Type 0 where

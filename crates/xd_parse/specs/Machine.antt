@@ -16,6 +16,7 @@ use Rattle.xd_parse.specs.declared.machine.Step.{Step}
 use Rattle.xd_parse.specs.declared.machine.Step.TheVariants.{Next, Syntax, TooDeep}
 use Rattle.xd_parse.specs.Grammar.{Row, Extent, Front, Derives}
 use Rattle.xd_parse.specs.Fits.{same, work}
+use Rattle.xd_syntax.specs.Shallow.{nesting_limit}
 
 -- what is to come of the parentheses, by either reading
 abbrev pub main_row : Reading → Row
@@ -71,28 +72,28 @@ abbrev pub group_of : Nonterminal → Terminal → Option Sort
 group_of part k = cond (same t.ParenL k) (prim_group part) None
 
 abbrev pub entered : ℕ → Reading → Step → ℕ → Type 0
-entered depth reading (Next next) new = (next ≡ reading) × (depth < 256) × (new ≡ suc depth)
-entered depth reading TooDeep new = 256 ≤ depth
+entered depth reading (Next next) new = (next ≡ reading) × (depth < nesting_limit) × (new ≡ suc depth)
+entered depth reading TooDeep new = nesting_limit ≤ depth
 entered depth reading Syntax new = ⊥
 
 -- whatever comes behind the token k, one is spelled exactly where the other is
 pub record Turns (depth : ℕ) (row : Row) (k : Terminal) (new : ℕ) (rest : Row) : Type 0 where
-  pub on : (extent : Extent) (limit : ℕ) (ts : List Terminal) → 256 ≤ limit → Derives extent limit depth row (k ∷ ts) → Derives extent limit new rest (k ∷ ts)
-  pub back : (extent : Extent) (limit : ℕ) (ts : List Terminal) → 256 ≤ limit → Derives extent limit new rest (k ∷ ts) → Derives extent limit depth row (k ∷ ts)
+  pub on : (extent : Extent) (limit : ℕ) (ts : List Terminal) → nesting_limit ≤ limit → Derives extent limit depth row (k ∷ ts) → Derives extent limit new rest (k ∷ ts)
+  pub back : (extent : Extent) (limit : ℕ) (ts : List Terminal) → nesting_limit ≤ limit → Derives extent limit new rest (k ∷ ts) → Derives extent limit depth row (k ∷ ts)
 
 pub record Passes (before : Reading) (depth : ℕ) (row : Row) (k : Terminal) (after : Reading) (new : ℕ) (rest : Row) : Type 0 where
-  pub on : (extent : Extent) (limit : ℕ) (ts : List Terminal) → 256 ≤ limit → Reads before extent limit depth row (k ∷ ts) → Reads after extent limit new rest ts
-  pub back : (extent : Extent) (limit : ℕ) (ts : List Terminal) → 256 ≤ limit → Reads after extent limit new rest ts → Reads before extent limit depth row (k ∷ ts)
+  pub on : (extent : Extent) (limit : ℕ) (ts : List Terminal) → nesting_limit ≤ limit → Reads before extent limit depth row (k ∷ ts) → Reads after extent limit new rest ts
+  pub back : (extent : Extent) (limit : ℕ) (ts : List Terminal) → nesting_limit ≤ limit → Reads after extent limit new rest ts → Reads before extent limit depth row (k ∷ ts)
 
 -- no text goes on with the token
 pub record Stops (before : Reading) (depth : ℕ) (row : Row) (k : Terminal) : Type 0 where
-  pub dead : (extent : Extent) (limit : ℕ) (ts : List Terminal) → 256 ≤ limit → Reads before extent limit depth row (k ∷ ts) → ⊥
+  pub dead : (extent : Extent) (limit : ℕ) (ts : List Terminal) → nesting_limit ≤ limit → Reads before extent limit depth row (k ∷ ts) → ⊥
 
 -- a text goes on with the token, but opens too much
 pub record Sinks (before : Reading) (depth : ℕ) (row : Row) (k : Terminal) : Type 0 where
-  pub dead : (extent : Extent) (ts : List Terminal) → Reads before extent 256 depth row (k ∷ ts) → ⊥
+  pub dead : (extent : Extent) (ts : List Terminal) → Reads before extent nesting_limit depth row (k ∷ ts) → ⊥
   pub limit : ℕ
-  pub above : 256 ≤ limit
+  pub above : nesting_limit ≤ limit
   pub alive : Reads before Front limit depth row (k ∷ [])
 
 abbrev pub Advances : Reading → ℕ → Row → Terminal → Step → ℕ → Row → Type 0

@@ -96,6 +96,13 @@ pub record Merges (old new : List Row) (T : PlacedTree) (made : Pieces) : Type 0
   pub keeps : KeepsRows old new
   pub no_deeper : NoDeeper (TreeWithin T) old new
 
+-- A node for this tree is added, or stands already, and then one around it, of which what was read consists.
+pub record AddsAround (around : PlacedTree → PlacedTree) (old new : List Row) (T : PlacedTree) (made : Pieces) : Type 0 where
+  pub middle : List Row
+  pub number : ℕ
+  pub added : IsAdded old middle T number
+  pub merges : Merges middle new (around (placed_at middle number)) made
+
 -- a token comes next, and a primary from here on is an element
 pub record BeginsElement (sort : Sort) (from : List Lexeme) : Type 0 where
   pub some : 0 < length from

@@ -15,6 +15,7 @@ use Rattle.xd_parse.specs.declared.text.TextFault.{TextFault}
 use Rattle.xd_parse.specs.declared.text.TextFault.TheVariants as faults
 use Rattle.xd_parse.specs.Grammar.{Spells}
 use Rattle.xd_parse.specs.FirstFault.{IsFirstFault}
+use Rattle.xd_syntax.specs.Shallow.{nesting_limit}
 
 -- a keyword is a terminal of its own
 abbrev pub word_terminal : List ℕ → Terminal
@@ -65,7 +66,7 @@ is_text part = false
 -- a text of this nonterminal, within 256 levels of nesting
 pub record SpellsText (part : Nonterminal) (bytes : List ℕ) : Type 0 where
   pub utf8 : IsUtf8 bytes
-  pub spells : Spells 256 part (terminals_of (tokens_of bytes))
+  pub spells : Spells nesting_limit part (terminals_of (tokens_of bytes))
 
 -- the token at a position
 abbrev pub lexeme_at : List Lexeme → ℕ → Option Lexeme

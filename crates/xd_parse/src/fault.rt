@@ -3,6 +3,7 @@
 ghost use Rattle.std.specs.Prelude.{IfOk, MatchOption};
 ghost use Rattle.xd_parse.specs.Grammar.{Begins};
 ghost use Rattle.xd_parse.specs.FirstFault.{IsFirstFault, IsStart};
+ghost use Rattle.xd_syntax.specs.Shallow.{nesting_limit};
 
 use crate::grammar::{Nonterminal, Symbol, Terminal};
 use crate::machine::{Machine, Reading, Step, advance};
@@ -44,7 +45,7 @@ pub(crate) fn first_fault(
     part: Nonterminal,
     tokens: &[Terminal],
 ) -> Result<Option<FirstFault>, NoMemory>
-    ensures { IfOk result (λ found. MatchOption found (Begins 256 part tokens.now) (λ fault. IsFirstFault part tokens.now fault.index fault.refusal)) }
+    ensures { IfOk result (λ found. MatchOption found (Begins nesting_limit part tokens.now) (λ fault. IsFirstFault part tokens.now fault.index fault.refusal)) }
 {
     let mut machine = start(alloc, part)?;
     for (i, token) in tokens.iter().enumerate() {

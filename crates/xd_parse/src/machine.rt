@@ -11,6 +11,7 @@ ghost use Rattle.xd_parse.specs.Rows.{rows_now};
 
 use crate::grammar::{Nonterminal, Sort, Symbol, Terminal, rules};
 use xd_doc::NoMemory;
+use xd_syntax::NESTING_LIMIT;
 
 /// How the tokens behind the last `(` may still be read.
 #[derive(Clone, Copy)]
@@ -44,9 +45,6 @@ pub enum Step {
     Syntax,
     TooDeep,
 }
-
-/// Levels of nesting that may be open.
-const LIMIT: usize = 256;
 
 pub(crate) fn same(a: Terminal, b: Terminal) -> bool
     ensures { result ≡ same a b }
@@ -112,7 +110,7 @@ fn group_of(part: Nonterminal, kind: Terminal) -> Option<Sort>
 fn enter(depth: &mut usize, reading: Reading) -> Step
     ensures { entered depth.old reading result depth.new }
 {
-    if *depth < LIMIT {
+    if *depth < NESTING_LIMIT {
         *depth += 1;
         Step::Next(reading)
     } else {

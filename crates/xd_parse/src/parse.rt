@@ -12,7 +12,7 @@ ghost use Rattle.xd_parse.specs.declared.parse.ParseError.TheVariants as errors;
 ghost use Rattle.xd_parse.specs.Text.{is_text, SpellsText};
 ghost use Rattle.xd_parse.specs.Means.{IsProgramText, IsTypeText};
 ghost use Rattle.xd_parse.specs.Faults.{reported};
-ghost use Rattle.xd_syntax.specs.Shallow.{IsShallow, AddsWithin};
+ghost use Rattle.xd_syntax.specs.Shallow.{IsShallow, AddsWithin, nesting_limit};
 ghost use Rattle.xd_parse.specs.ParseErrors.{IsParseError, IsFault};
 
 use crate::cursor::Cursor;
@@ -101,7 +101,7 @@ pub fn parse_program(alloc: Global, bytes: &[u8]) -> Result<Program, ParseError>
 /// table is as it was.
 pub fn parse_type(alloc: Global, types: &mut Types, bytes: &[u8]) -> Result<TypeId, ParseError>
     ensures type_text { IfOk result (λ id. IsTypeText bytes.now (placed_at types.new id.at)) }
-    ensures shallow { AddsWithin 256 types.old types.new }
+    ensures shallow { AddsWithin nesting_limit types.old types.new }
     ensures belongs { IfOk result (BelongsTo types.new) }
     ensures keeps { KeepsRows types.old types.new }
     ensures unchanged { OnErr result (types.new ≡ types.old) }

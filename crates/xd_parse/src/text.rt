@@ -4,6 +4,7 @@ ghost use Rattle.std.specs.Prelude.{◌≡◌, ◌<◌, length, map, IfOk, Match
 ghost use Rattle.xd_lex.specs.Tokens.{lexeme_of};
 ghost use Rattle.xd_parse.specs.Grammar.{Begins};
 ghost use Rattle.xd_parse.specs.Text.{word_terminal, terminal_of, terminals_of, IsPlaceAt, IsLexemeFault, fault_of};
+ghost use Rattle.xd_syntax.specs.Shallow.{nesting_limit};
 
 use crate::fault::{Refusal, first_fault};
 use crate::grammar::{Nonterminal, Terminal};
@@ -103,7 +104,7 @@ pub(crate) fn placed_fault(
     part: Nonterminal,
     all: &[Token],
 ) -> Result<Option<TextFault>, NoMemory>
-    ensures { IfOk result (λ found. MatchOption found (Begins 256 part (terminals_of (map lexeme_of all.now))) (λ fault. IsLexemeFault part (map lexeme_of all.now) fault)) }
+    ensures { IfOk result (λ found. MatchOption found (Begins nesting_limit part (terminals_of (map lexeme_of all.now))) (λ fault. IsLexemeFault part (map lexeme_of all.now) fault)) }
 {
     let kinds = terminals(alloc, all)?;
     match first_fault(alloc, part, kinds.as_slice())? {

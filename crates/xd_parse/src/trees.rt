@@ -4,9 +4,9 @@
 //! no token comes that the nonterminal begins with, it may answer anything.
 
 ghost use Rattle.std.specs.Prelude.{◌≡◌, ◌<◌, ◌⊎◌, ◌∷◌, [], false, true, vec_len, IfOk};
-ghost use Rattle.xd_syntax.specs.Words.{has_word, keywords};
 ghost use Rattle.xd_syntax.specs.Table.{KeepsRows};
-ghost use Rattle.xd_syntax.specs.Placed.{Words_at};
+ghost use Rattle.xd_syntax.specs.Words.{any_word, has_word, keywords};
+ghost use Rattle.xd_syntax.specs.Placed.{Elem_at, Name_at, Val_at, Words_at};
 ghost use Rattle.xd_parse.specs.declared.grammar.Nonterminal.TheVariants as nonterminals;
 ghost use Rattle.xd_parse.specs.declared.grammar.Terminal.TheVariants as terminals;
 ghost use Rattle.xd_parse.specs.declared.grammar.Sort.TheVariants as sorts;
@@ -14,7 +14,7 @@ ghost use Rattle.xd_parse.specs.Merged.{class_of};
 ghost use Rattle.xd_parse.specs.Values.{a_tree, mark, named, word};
 ghost use Rattle.xd_parse.specs.Reading.{front_terminal};
 ghost use Rattle.xd_parse.specs.Pieces.{pieces, tree_of, Stand};
-ghost use Rattle.xd_parse.specs.Nodes.{Merges, ReadsNode, ReadsInto, BeginsElement, is_operator, repeated_node};
+ghost use Rattle.xd_parse.specs.Nodes.{AddsAround, Merges, ReadsNode, ReadsInto, BeginsElement, is_operator, repeated_node};
 
 use crate::classes::{Excepted, read_class, read_excepted};
 use crate::cursor::{Cursor, Word};
@@ -109,6 +109,57 @@ fn read_operator<N: Nodes>(
     Ok(parts)
 }
 
+/// An element around what was read as its content.
+fn add_element<N: Nodes>(
+    alloc: Global,
+    nodes: &mut N,
+    place: Place,
+    class: Class,
+    content: Parts<N::Id>,
+) -> Result<Parts<N::Id>, NoMemory>
+    requires { Stand (N.rows nodes.old) (pieces N.at content) }
+    ensures adds { IfOk result (λ parts. AddsAround (Elem_at place class) (N.rows nodes.old) (N.rows nodes.new) (tree_of (N.rows nodes.old) (pieces N.at content)) (pieces N.at parts)) }
+    ensures keeps { KeepsRows (N.rows nodes.old) (N.rows nodes.new) }
+{
+    let inside = to_node(nodes, content)?;
+    add_part(alloc, nodes, place, NodeForm::Elem(class, inside))
+}
+
+/// A variable around what was read behind its `as`.
+fn add_bound<N: Nodes>(
+    alloc: Global,
+    nodes: &mut N,
+    place: Place,
+    variable: Word,
+    part: Parts<N::Id>,
+) -> Result<Parts<N::Id>, NoMemory>
+    requires pattern { N.sort ≡ sorts.Pattern }
+    requires stands { Stand (N.rows nodes.old) (pieces N.at part) }
+    ensures adds { IfOk result (λ parts. AddsAround (Val_at place variable.word variable.place) (N.rows nodes.old) (N.rows nodes.new) (tree_of (N.rows nodes.old) (pieces N.at part)) (pieces N.at parts)) }
+    ensures keeps { KeepsRows (N.rows nodes.old) (N.rows nodes.new) }
+{
+    let Word { word, place: at } = variable;
+    let bound = to_node(nodes, part)?;
+    add_part(alloc, nodes, place, NodeForm::Val(word, at, bound))
+}
+
+/// A variable that may be anything.
+fn add_unbound<N: Nodes>(
+    alloc: Global,
+    nodes: &mut N,
+    place: Place,
+    variable: Word,
+) -> Result<Parts<N::Id>, NoMemory>
+    requires { N.sort ≡ sorts.Pattern }
+    ensures adds { IfOk result (λ parts. AddsAround (Val_at place variable.word variable.place) (N.rows nodes.old) (N.rows nodes.new) (Name_at variable.place any_word) (pieces N.at parts)) }
+    ensures keeps { KeepsRows (N.rows nodes.old) (N.rows nodes.new) }
+{
+    let Word { word, place: at } = variable;
+    let any = Label::new(alloc, "Any")?;
+    let bound = nodes.add(at, NodeForm::Name(any))?;
+    add_part(alloc, nodes, place, NodeForm::Val(word, at, bound))
+}
+
 /// Branches between `|`.
 #[cycle(trees)]
 pub(crate) fn read_tree<N: Nodes>(
@@ -198,16 +249,12 @@ fn read_bound<N: Nodes>(
     ensures reads { IfOk result (λ parts. ReadsInto (nonterminals.Post N.sort) (mark terminals.Val place ∷ (word variable.word variable.place ∷ [])) nonterminals.Bound cursor.old cursor.new (N.rows nodes.old) (N.rows nodes.new) (pieces N.at parts)) }
     ensures keeps { KeepsRows (N.rows nodes.old) (N.rows nodes.new) }
 {
-    let Word { word, place: at } = variable;
     if cursor.at(Terminal::As) {
         cursor.step();
         let part = read_part(alloc, cursor, nodes)?;
-        let bound = to_node(nodes, part)?;
-        return add_part(alloc, nodes, place, NodeForm::Val(word, at, bound));
+        return add_bound(alloc, nodes, place, variable, part);
     }
-    let any = Label::new(alloc, "Any")?;
-    let bound = nodes.add(at, NodeForm::Name(any))?;
-    add_part(alloc, nodes, place, NodeForm::Val(word, at, bound))
+    add_unbound(alloc, nodes, place, variable)
 }
 
 /// A word, a text, a group in parentheses, what stands behind a `^`, or an element: a class of labels and its content.
@@ -251,14 +298,8 @@ fn read_element<N: Nodes>(
     ensures keeps { KeepsRows (N.rows nodes.old) (N.rows nodes.new) }
 {
     let class = read_class(alloc, cursor)?;
-    let parts = read_content(alloc, cursor, nodes)?;
-    let content = to_node(nodes, parts)?;
-    add_part(
-        alloc,
-        nodes,
-        class.place,
-        NodeForm::Elem(class.class, content),
-    )
+    let content = read_content(alloc, cursor, nodes)?;
+    add_element(alloc, nodes, class.place, class.class, content)
 }
 
 /// All texts but some, or an element with all labels but some, from the `^` on.
@@ -278,9 +319,8 @@ fn read_exception<N: Nodes>(
         Excepted::Texts(texts) => add_texts(alloc, nodes, place, texts, true),
         Excepted::Labels(names) => {
             let class = Class::new(alloc, names, true)?;
-            let parts = read_content(alloc, cursor, nodes)?;
-            let content = to_node(nodes, parts)?;
-            add_part(alloc, nodes, place, NodeForm::Elem(class, content))
+            let content = read_content(alloc, cursor, nodes)?;
+            add_element(alloc, nodes, place, class, content)
         }
     }
 }

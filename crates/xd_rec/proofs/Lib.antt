@@ -1,12 +1,8 @@
-pub mod Graphs
-pub mod Lists
 pub mod Searching
 pub mod Stepping
 pub mod Opening
 pub mod Closing
 pub mod Finishing
-pub mod NameLemmas
-pub mod EmptyLemmas
 pub mod UseLemmas
 pub mod FaultLemmas
 pub mod Recursion

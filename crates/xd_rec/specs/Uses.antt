@@ -9,13 +9,18 @@ use Rattle.xd_syntax.specs.CanBeEmpty.{empty_by}
 use Rattle.xd_syntax.specs.Program.{TypeDefinition}
 use Rattle.xd_syntax.specs.RecursionFaults.{Use, top_uses}
 use Rattle.xd_syntax.specs.declared.types.TypeDef.{TypeDef}
-use Rattle.xd_rec.specs.Emptiness.{name_marked}
+use Rattle.xd_syntax.specs.Emptiness.{is_marked, name_marked}
 use Rattle.xd_rec.specs.declared.uses.TopUse.{TopUse}
 use Rattle.xd_rec.specs.declared.uses.Part.{Part}
 
 -- whether a type can be empty, by these marks
 abbrev pub test_of : List Bool → List TypeDef → Tree → Bool
 test_of marks ds T = empty_by (name_marked marks ds) T
+
+-- each node is marked where the test holds of it
+pub record AreTested (types : List Row) (ds : List TypeDef) (marks : List Bool) : Type 0 where
+  pub count : length marks ≡ length types
+  pub nodes : (i : ℕ) → i < length types → is_marked marks i ≡ test_of marks ds (tree_at types i)
 
 abbrev pub all_empty : (Tree → Bool) → List Tree → Bool
 all_empty Z [] = true

@@ -1,12 +1,12 @@
 //! Strongly connected components.
 
 ghost use Rattle.std.specs.Prelude.{◌≡◌, ◌+◌, ◌-◌, ◌<◌, ◌≤◌, ◌++◌, ◌∷◌, [], ℕ, take, length, slice_set, IfOk, OnOk, vec_len};
-ghost use Rattle.xd_rec.specs.Graph.{IsClosed, Path, successors};
+ghost use Rattle.xd_syntax.specs.Graph.{IsClosed, Path, successors};
 ghost use Rattle.xd_rec.specs.Components.{AreComponents, IsKnown, IsSearched, IsDoneFrom, StaySeen, has_same_number, node_at, path_from, standing_of, todo_from, unseen, work_left};
 
-use crate::graph::Graph;
 use std::alloc::Global;
 use xd_doc::NoMemory;
+use xd_syntax::Graph;
 
 /// How far a search has come with a node: it is at a place of the path, or done with the number of
 /// its component.

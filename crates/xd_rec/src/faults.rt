@@ -1,17 +1,15 @@
 //! Faults of recursion.
 
 ghost use Rattle.std.specs.Prelude.{◌≡◌, ◌<◌, ◌++◌, ℕ, length, IfOk, OnOk};
-ghost use Rattle.xd_rec.specs.Graph.{HasEdge};
-ghost use Rattle.xd_rec.specs.Names.{AreNumbered};
+ghost use Rattle.xd_syntax.specs.Graph.{HasEdge};
+ghost use Rattle.xd_syntax.specs.TypeNames.{AreNumbered};
 ghost use Rattle.xd_rec.specs.Faults.{AreOwned, AddsUse, IsGraphOf, faults_of, is_back, recurs, recursion_fault};
 
 use crate::components::{Standing, are_together};
-use crate::graph::Graph;
-use crate::names::Names;
 use crate::uses::TopUse;
 use std::alloc::Global;
 use xd_doc::NoMemory;
-use xd_syntax::{Fault, FaultKind, TypeDef};
+use xd_syntax::{Fault, FaultKind, Graph, TypeDef, TypeNames};
 
 /// The two ways in which a use may recur that are faults.
 #[derive(Clone, Copy)]
@@ -25,7 +23,7 @@ pub(crate) enum Recursion {
 pub(crate) fn use_graph(
     alloc: Global,
     defs: &[TypeDef],
-    names: &Names,
+    names: &TypeNames,
     uses: &[TopUse],
     front_only: bool,
 ) -> Result<Graph, NoMemory>
@@ -40,7 +38,7 @@ pub(crate) fn use_graph(
 
 fn add_uses(
     defs: &[TypeDef],
-    names: &Names,
+    names: &TypeNames,
     uses: &[TopUse],
     front_only: bool,
     graph: &mut Graph,
@@ -59,7 +57,7 @@ fn add_uses(
 
 fn add_use(
     defs: &[TypeDef],
-    names: &Names,
+    names: &TypeNames,
     top_use: &TopUse,
     front_only: bool,
     graph: &mut Graph,
@@ -81,7 +79,7 @@ fn add_use(
 /// Adds the fault of each use that has it.
 pub(crate) fn add_faults(
     defs: &[TypeDef],
-    names: &Names,
+    names: &TypeNames,
     uses: &[TopUse],
     standing: &[Standing],
     recursion: Recursion,
@@ -117,7 +115,7 @@ fn recursion_fault(top_use: &TopUse, recursion: Recursion) -> Result<Fault, NoMe
 /// Whether a use outside tail position, or a front use, leads back to its definition.
 fn recurs(
     defs: &[TypeDef],
-    names: &Names,
+    names: &TypeNames,
     top_use: &TopUse,
     standing: &[Standing],
     recursion: Recursion,
@@ -135,7 +133,7 @@ fn recurs(
 }
 
 /// Whether the definition that a use names is in the component of the one that it stands in.
-fn leads_back(defs: &[TypeDef], names: &Names, top_use: &TopUse, standing: &[Standing]) -> bool
+fn leads_back(defs: &[TypeDef], names: &TypeNames, top_use: &TopUse, standing: &[Standing]) -> bool
     requires numbered { AreNumbered names.now defs.now }
     requires owner { top_use.now.owner < length defs.now }
     requires count { length standing.now ≡ length defs.now }

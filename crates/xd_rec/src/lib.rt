@@ -6,26 +6,22 @@ ghost use Rattle.std.specs.List.{AllByRecursion};
 ghost use Rattle.xd_syntax.specs.NameFaults.{name_faults};
 ghost use Rattle.xd_syntax.specs.Program.{FunctionDefinition};
 ghost use Rattle.xd_syntax.specs.Kept.{TypeDefStands, program_tree};
+ghost use Rattle.xd_syntax.specs.Known.{AreKnown, AreKnownTypes};
 ghost use Rattle.xd_rec.specs.Names.{AreUnique, program_of};
 ghost use Rattle.xd_syntax.specs.RecursionFaults.{AreRecursionFaults};
 ghost use Rattle.xd_rec.specs.Soundness.{IsSoundness};
 
 mod components;
-mod empty;
 mod faults;
-mod graph;
 pub mod laws;
-mod names;
 mod uses;
 
 use crate::components::components;
-use crate::empty::empty_types;
 use crate::faults::{Recursion, add_faults, use_graph};
-use crate::names::Names;
 use crate::uses::top_uses;
 use std::alloc::Global;
 use xd_doc::NoMemory;
-use xd_syntax::{Fault, Program, SoundProgram, TypeDef, Types, sort_faults};
+use xd_syntax::{Fault, Known, Program, SoundProgram, TypeDef, Types, sort_faults};
 
 /// A program without faults of recursion, or the list of these faults.
 #[derive(Drop)]
@@ -43,36 +39,45 @@ pub fn well_formed(alloc: Global, program: Program) -> Result<Soundness, NoMemor
     requires { name_faults (program_tree program) ≡ [] }
     ensures { IfOk result (IsSoundness program) }
 {
-    let faults = program_faults(alloc, &program)?;
+    let known = Known::new(alloc, program.types(), program.type_defs())?;
+    let faults = program_faults(alloc, &program, &known)?;
     if faults.is_empty() {
-        return Ok(Soundness::Sound(SoundProgram::new(alloc, program)));
+        let mut sound = SoundProgram::new(alloc, program);
+        sound.give_back(known);
+        return Ok(Soundness::Sound(sound));
     }
     Ok(Soundness::Faults(faults))
 }
 
-fn program_faults(alloc: Global, program: &Program) -> Result<Vec<Fault>, NoMemory>
-    requires { name_faults (program_tree program.now) ≡ [] }
+fn program_faults(alloc: Global, program: &Program, known: &Known) -> Result<Vec<Fault>, NoMemory>
+    requires named { name_faults (program_tree program.now) ≡ [] }
+    requires known { AreKnown program.now known.now }
     ensures { IfOk result (λ faults. AreRecursionFaults (program_tree program.now) faults.items) }
 {
-    recursion_faults(alloc, program.types(), program.type_defs())
+    recursion_faults(alloc, program.types(), program.type_defs(), known)
 }
 
 /// The faults of recursion of these definitions, in order.
-fn recursion_faults(alloc: Global, types: &Types, defs: &[TypeDef]) -> Result<Vec<Fault>, NoMemory>
+fn recursion_faults(
+    alloc: Global,
+    types: &Types,
+    defs: &[TypeDef],
+    known: &Known,
+) -> Result<Vec<Fault>, NoMemory>
     requires stand { AllByRecursion (TypeDefStands types.now) defs.now }
     requires unique { AreUnique defs.now }
+    requires known { AreKnownTypes types.now defs.now known.now }
     ensures { IfOk result (λ faults. (fs : List FunctionDefinition) → AreRecursionFaults (program_of types.now defs.now fs) faults.items) }
 {
-    let names = Names::new(alloc, defs)?;
-    let marks = empty_types(alloc, types, defs, &names)?;
-    let uses = top_uses(alloc, types, defs, &marks)?;
-    let use_chains = use_graph(alloc, defs, &names, &uses, false)?;
-    let front_chains = use_graph(alloc, defs, &names, &uses, true)?;
+    let names = &known.names;
+    let uses = top_uses(alloc, types, defs, &known.empty_marks)?;
+    let use_chains = use_graph(alloc, defs, names, &uses, false)?;
+    let front_chains = use_graph(alloc, defs, names, &uses, true)?;
     let mut faults = Vec::new(alloc);
     let standing = components(alloc, &use_chains)?;
     add_faults(
         defs,
-        &names,
+        names,
         &uses,
         &standing,
         Recursion::OutsideTail,
@@ -81,7 +86,7 @@ fn recursion_faults(alloc: Global, types: &Types, defs: &[TypeDef]) -> Result<Ve
     let standing = components(alloc, &front_chains)?;
     add_faults(
         defs,
-        &names,
+        names,
         &uses,
         &standing,
         Recursion::Unguarded,

@@ -5,8 +5,7 @@ ghost use Rattle.std.specs.List.{AllByRecursion};
 ghost use Rattle.xd_syntax.specs.Table.{PartsBelow};
 ghost use Rattle.xd_syntax.specs.Types.{form_of, type_numbers};
 ghost use Rattle.xd_syntax.specs.Kept.{TypeDefStands, type_definition};
-ghost use Rattle.xd_rec.specs.Emptiness.{AreEmptyTypes};
-ghost use Rattle.xd_rec.specs.Uses.{IsListed, alternatives, own_use, parts_of, sequence, test_of, uses_from};
+ghost use Rattle.xd_rec.specs.Uses.{AreTested, IsListed, alternatives, own_use, parts_of, sequence, test_of, uses_from};
 
 use std::alloc::Global;
 use xd_base::Place;
@@ -44,7 +43,7 @@ pub(crate) fn top_uses(
     marks: &[bool],
 ) -> Result<Vec<TopUse>, NoMemory>
     requires stand { AllByRecursion (TypeDefStands types.now) defs.now }
-    requires empty { AreEmptyTypes types.now defs.now marks.now }
+    requires tested { AreTested types.now defs.now marks.now }
     ensures { IfOk result (λ uses. uses.items ≡ uses_from (test_of marks.now defs.now) 0 (map (type_definition types.now) defs.now)) }
 {
     let mut parts = Vec::new(alloc);
@@ -74,7 +73,7 @@ fn list_part(
     uses: &mut Vec<TopUse>,
 ) -> Result<(), NoMemory>
     requires part { part.at < length types.now }
-    requires empty { AreEmptyTypes types.now defs.now marks.now }
+    requires tested { AreTested types.now defs.now marks.now }
     ensures { OnOk result (IsListed (test_of marks.now defs.now) types.now part parts.old.items parts.new.items uses.old.items uses.new.items) }
 {
     let node = types.node(TypeId::of(part.at));
@@ -112,7 +111,7 @@ fn push_parts(
     parts: &mut Vec<Part>,
 ) -> Result<(), NoMemory>
     requires parts { PartsBelow (length types.now) (form_of form.now) }
-    requires empty { AreEmptyTypes types.now defs.now marks.now }
+    requires tested { AreTested types.now defs.now marks.now }
     ensures { OnOk result (parts.new.items ≡ parts.old.items ++ parts_of (test_of marks.now defs.now) types.now part (form_of form.now)) }
 {
     match form {
@@ -152,7 +151,7 @@ fn push_sequence(
     parts: &mut Vec<Part>,
 ) -> Result<(), NoMemory>
     requires ids { AllByRecursion (λ i. i < length types.now) (type_numbers ids.now) }
-    requires empty { AreEmptyTypes types.now defs.now marks.now }
+    requires tested { AreTested types.now defs.now marks.now }
     ensures { OnOk result (parts.new.items ≡ parts.old.items ++ sequence (test_of marks.now defs.now) types.now part.owner part.is_tail part.is_front (type_numbers ids.now)) }
 {
     let _count = types.len();

@@ -14,3 +14,8 @@ pub mod Reached
 pub mod AdoptLaws
 pub mod Sorting
 pub mod Ranks
+pub mod Graphs
+pub mod Lists
+pub mod NameLemmas
+pub mod EmptyLemmas
+pub mod KnownLaws

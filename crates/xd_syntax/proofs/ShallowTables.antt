@@ -4,7 +4,7 @@ use Rattle.xd_base.specs.declared.Place.{Place}
 use Rattle.xd_syntax.specs.Tree.{Tree}
 use Rattle.xd_syntax.specs.TypeText.{depth}
 use Rattle.xd_syntax.specs.Table.{Row, Form, KeepsRows, tree_at, form_tree}
-use Rattle.xd_syntax.specs.Shallow.{AddsWithin, AddsOne, IsShallow}
+use Rattle.xd_syntax.specs.Shallow.{AddsWithin, AddsOne, nesting_limit, IsShallow}
 use Rattle.xd_syntax.specs.declared.types.TypeId.{TypeId}
 use Rattle.xd_syntax.proofs.Trees.{tree_kept, tree_new}
 
@@ -26,9 +26,9 @@ within_both limit old middle new k a b i h l =
     elim (side i (length middle)) as (λ x. depth (tree_at new i) ≤ limit) [ inl below ↦ kept_depth limit middle new i k below (a i h below) | inr above ↦ b i above l ]
 
 -- a shallow table stays so
-pub shallow_grown : (old new : List Row) → KeepsRows old new → AddsWithin 256 old new → IsShallow old → IsShallow new
+pub shallow_grown : (old new : List Row) → KeepsRows old new → AddsWithin nesting_limit old new → IsShallow old → IsShallow new
 shallow_grown old new k a s i l =
-    elim (side i (length old)) as (λ x. depth (tree_at new i) ≤ 256) [ inl below ↦ kept_depth 256 old new i k below (s i below) | inr above ↦ a i above l ]
+    elim (side i (length old)) as (λ x. depth (tree_at new i) ≤ nesting_limit) [ inl below ↦ kept_depth nesting_limit old new i k below (s i below) | inr above ↦ a i above l ]
 
 pub weaker_within : (small limit : ℕ) (old new : List Row) → small ≤ limit → AddsWithin small old new → AddsWithin limit old new
 weaker_within small limit old new h a i l k = let d = a i l k in omega arith
@@ -54,5 +54,5 @@ pub one_within : (T : Tree) (old new : List Row) → AddsOne T old new → AddsW
 one_within T old new a i h k = let e : depth (tree_at new i) ≡ depth T = ap depth (a.same i h k) in omega arith
 
 -- a shallow table stays so where a shallow type is added
-pub shallow_one : (T : Tree) (old new : List Row) → KeepsRows old new → AddsOne T old new → depth T ≤ 256 → IsShallow old → IsShallow new
-shallow_one T old new k a d s = shallow_grown old new k (weaker_within (depth T) 256 old new d (one_within T old new a)) s
+pub shallow_one : (T : Tree) (old new : List Row) → KeepsRows old new → AddsOne T old new → depth T ≤ nesting_limit → IsShallow old → IsShallow new
+shallow_one T old new k a d s = shallow_grown old new k (weaker_within (depth T) nesting_limit old new d (one_within T old new a)) s

@@ -68,6 +68,22 @@ impl Model for Patterns {
     ghost invariant = { λ t. IsTable true t.nodes.items };
 }
 
+impl PatternId {
+    /// The number of the node.
+    pub fn at(self) -> usize
+        ensures { result ≡ self.at }
+    {
+        self.at
+    }
+
+    /// The pattern of the node with this number.
+    pub fn of(at: usize) -> Self
+        ensures { result ≡ record { at = at } }
+    {
+        Self { at }
+    }
+}
+
 impl PatternForm {
     /// Its words are words, and its class is as classes are built: what its parts say, for the proof alone.
     fn see_words(&self)

@@ -2,12 +2,13 @@
 
 ghost use Rattle.std.specs.Prelude.{◌≡◌, ◌+◌, ◌<◌, ◌≤◌, true, false, length, vec_len, IfOk, OnErr, is_some};
 ghost use Rattle.std.specs.List.{AllByRecursion, list_all};
-ghost use Rattle.std.specs.Option.{IfSome, option_copied};
+ghost use Rattle.std.specs.Option.{IfSome};
 ghost use Rattle.std.specs.Str.{bytes_eq};
+ghost use Rattle.xd_doc.specs.Word.{are_word_parts, is_word, is_word_part, is_word_start};
 ghost use Rattle.xd_syntax.specs.Words.{has_word, string_word, is_type_name};
 ghost use Rattle.xd_syntax.specs.Table.{CanFollow, form_tree, tree_at};
 ghost use Rattle.xd_syntax.specs.Types.{form_of, tree, BelongsTo};
-ghost use Rattle.xd_syntax.specs.Shallow.{AddsOne, AddsWithin, IsShallow};
+ghost use Rattle.xd_syntax.specs.Shallow.{AddsOne, AddsWithin, IsShallow, nesting_limit};
 ghost use Rattle.xd_syntax.specs.TypeText.{depth};
 ghost use Rattle.xd_syntax.specs.Kept.{AddsTypes, program_tree};
 ghost use Rattle.xd_syntax.specs.Proper.{IsProperProgram};
@@ -15,11 +16,15 @@ ghost use Rattle.xd_syntax.specs.RecursionFaults.{IsSound};
 ghost use Rattle.xd_syntax.specs.CheckFaults.{IsAccepted};
 ghost use Rattle.xd_syntax.specs.NameFaults.{known_types};
 ghost use Rattle.xd_syntax.specs.Adopt.{uses_only, size, row_at, AreReached, form_known, copy_at, copied_form};
-ghost use Rattle.xd_syntax.specs.Sound.{IsTypeAt, type_named, is_defined, definition_of, main_parameter, only_parameter};
+ghost use Rattle.xd_syntax.specs.Sound.{IsTypeAt, type_named, is_defined, main_parameter, only_parameter};
+ghost use Rattle.xd_syntax.specs.TypeNames.{AreNumbered};
+ghost use Rattle.xd_syntax.specs.Known.{AreKnown, AreKnownSoFar};
 
 use crate::adopt::{copy_form, copy_of, reached_from};
+use crate::known::Known;
 use crate::program::{Function, Param, Program};
-use crate::types::{TypeDef, TypeForm, TypeId, Types};
+use crate::type_names::TypeNames;
+use crate::types::{TypeForm, TypeId, Types};
 use std::alloc::Global;
 use std::collections::HashMap;
 use std::marker::Model;
@@ -30,18 +35,20 @@ use xd_doc::{Label, NoMemory};
 #[derive(Drop)]
 pub struct SoundProgram {
     program: Program,
+    /// Made when it is first needed. Types that were added since have no mark yet.
+    known: Option<Known>,
     alloc: Global,
 }
 
 impl Model for SoundProgram {
-    ghost use Rattle.xd_syntax.specs.Kept.{ProgramTable, program_tree};
-    ghost use Rattle.xd_syntax.specs.RecursionFaults.{IsSound};
+    ghost use Rattle.xd_syntax.specs.Kept.{ProgramTable};
+    ghost use Rattle.xd_syntax.specs.Known.{IsSoundAndKnown};
 
     ghost Value = { ProgramTable };
 
     ghost view = { λ s. s.program };
 
-    ghost invariant = { λ s. IsSound (program_tree s.program) };
+    ghost invariant = { λ s. IsSoundAndKnown s.program s.known };
 }
 
 /// A sound program whose matches, arguments and results have no fault.
@@ -62,13 +69,19 @@ impl Model for Checked {
 }
 
 impl SoundProgram {
+    /// The program, as one without these faults. It takes no memory.
     pub fn new(alloc: Global, program: Program) -> Self
         requires { IsSound (program_tree program) }
         ensures { result ≡ program }
     {
-        Self { program, alloc }
+        Self {
+            program,
+            known: None,
+            alloc,
+        }
     }
 
+    /// The program itself.
     pub fn program(&self) -> &Program
         ensures program { result.now ≡ self.now }
         ensures proper { IsProperProgram (program_tree self.now) }
@@ -87,34 +100,50 @@ impl SoundProgram {
         ensures shallow { IsShallow self.old.types → IsShallow self.new.types }
     {
         if word == "String" {
-            return Ok(Some(self.add(TypeForm::Text)?));
+            return Ok(Some(self.add_type(TypeForm::Text)?));
         }
-        match self.defined_name(word)? {
+        match self.find_name(word)? {
             None => Ok(None),
-            Some(name) => Ok(Some(self.add(TypeForm::Name(name))?)),
+            Some(name) => Ok(Some(self.add_type(TypeForm::Name(name))?)),
         }
     }
 
     /// The word as a name, where `Any` or a definition has it.
-    fn defined_name(&self, word: &str) -> Result<Option<Label>, NoMemory>
+    fn find_name(&mut self, word: &str) -> Result<Option<Label>, NoMemory>
         requires { bytes_eq string_word word.now ≡ false }
+        ensures defined { IfOk result (λ found. is_some found ≡ has_word (known_types (program_tree self.old)) word.now) }
+        ensures found { IfOk result (λ found. IfSome found (λ name. (name ≡ word.now) × (is_type_name name ≡ true))) }
+        ensures same { self.new ≡ self.old }
+    {
+        let known = self.learned()?;
+        let found = self.defined_name(&known.names, word);
+        self.keep(known);
+        found
+    }
+
+    fn defined_name(&self, names: &TypeNames, word: &str) -> Result<Option<Label>, NoMemory>
+        requires numbered { AreNumbered names.now self.now.type_defs }
+        requires other { bytes_eq string_word word.now ≡ false }
         ensures defined { IfOk result (λ found. is_some found ≡ has_word (known_types (program_tree self.now)) word.now) }
         ensures found { IfOk result (λ found. IfSome found (λ name. (name ≡ word.now) × (is_type_name name ≡ true))) }
     {
-        if word == "Any" {
-            return Ok(Some(Label::new(self.alloc, "Any")?));
+        self.program.see_program();
+        let _stand = self.program.type_defs();
+        if !is_word(word) {
+            return Ok(None);
         }
-        match definition_named(self.program.type_defs(), word) {
-            None => Ok(None),
-            Some(def) => Ok(Some(def.name.share()?)),
+        let name = Label::new(self.alloc, word)?;
+        if self.is_known(names, &name) {
+            return Ok(Some(name));
         }
+        Ok(None)
     }
 
     /// A type of another table, taken into the program; `None` exactly where it uses a name that is not defined, and then
     /// nothing is added.
     ///
     /// It copies the nodes that the type reaches, each once, in n log n steps for n parts of these nodes, whatever else the
-    /// other table holds. Each name among them is besides looked for in the definitions, one after the other.
+    /// other table holds. Each name among them is looked up in the order of names.
     pub fn adopt(&mut self, types: &Types, id: TypeId) -> Result<Option<TypeId>, NoMemory>
         requires { BelongsTo types.now id }
         ensures defined { IfOk result (λ adopted. is_some adopted ≡ uses_only (known_types (program_tree self.old)) (tree types.now id)) }
@@ -124,23 +153,35 @@ impl SoundProgram {
         ensures same { program_tree self.new ≡ program_tree self.old }
         ensures few { length self.new.types ≤ length self.old.types + size (tree types.now id) }
         ensures within { AddsWithin (depth (tree types.now id)) self.old.types self.new.types }
-        ensures shallow { depth (tree types.now id) ≤ 256 → IsShallow self.old.types → IsShallow self.new.types }
+        ensures shallow { depth (tree types.now id) ≤ nesting_limit → IsShallow self.old.types → IsShallow self.new.types }
     {
         types.see_table();
         let reached = reached_from(self.alloc, types, id)?;
-        if !self.defines_all(types, &reached) {
+        if !self.knows_all(types, &reached)? {
             return Ok(None);
         }
         Ok(Some(self.copy_in(types, id, reached)?))
     }
 
     /// Whether each of these nodes that is a name is a defined one.
-    fn defines_all(&self, types: &Types, reached: &[usize]) -> bool
+    fn knows_all(&mut self, types: &Types, reached: &[usize]) -> Result<bool, NoMemory>
         requires { AllByRecursion (λ i. i < length types.now) reached.now }
+        ensures all { IfOk result (λ all. all ≡ list_all (λ i. form_known (known_types (program_tree self.old)) (row_at types.now i).form) reached.now) }
+        ensures same { self.new ≡ self.old }
+    {
+        let known = self.learned()?;
+        let all = self.defines_all(&known.names, types, reached);
+        self.keep(known);
+        Ok(all)
+    }
+
+    fn defines_all(&self, names: &TypeNames, types: &Types, reached: &[usize]) -> bool
+        requires numbered { AreNumbered names.now self.now.type_defs }
+        requires nodes { AllByRecursion (λ i. i < length types.now) reached.now }
         ensures { result ≡ list_all (λ i. form_known (known_types (program_tree self.now)) (row_at types.now i).form) reached.now }
     {
         for at in reached {
-            if !self.defines(types.node(TypeId::of(*at)).form()) {
+            if !self.defines(names, types.node(TypeId::of(*at)).form()) {
                 return false;
             }
         }
@@ -148,22 +189,24 @@ impl SoundProgram {
     }
 
     /// Whether the form, if it is a name, is a defined one.
-    fn defines(&self, form: &TypeForm) -> bool
+    fn defines(&self, names: &TypeNames, form: &TypeForm) -> bool
+        requires { AreNumbered names.now self.now.type_defs }
         ensures { result ≡ form_known (known_types (program_tree self.now)) (form_of form.now) }
     {
         match form {
-            TypeForm::Name(word) => self.is_known(word),
+            TypeForm::Name(word) => self.is_known(names, word),
             _ => true,
         }
     }
 
-    fn is_known(&self, word: &Label) -> bool
+    fn is_known(&self, names: &TypeNames, word: &Label) -> bool
+        requires { AreNumbered names.now self.now.type_defs }
         ensures { result ≡ has_word (known_types (program_tree self.now)) word.now }
     {
         if word.as_str() == "Any" {
             return true;
         }
-        definition_named(self.program.type_defs(), word.as_str()).is_some()
+        names.find(word).is_some()
     }
 
     /// Copies the nodes that a type reaches, the oldest first.
@@ -203,21 +246,63 @@ impl SoundProgram {
         ensures one { AddsOne (form_tree (tree_at self.old.types) (copied_form (copy_at copies.now) (form_of form.now))) self.old.types self.new.types }
     {
         let copy = copy_form(self.alloc, form, copies)?;
-        self.add(copy)
+        self.add_type(copy)
     }
 
-    fn add(&mut self, form: TypeForm) -> Result<TypeId, NoMemory>
+    /// One more type, of parts that the program has.
+    pub fn add_type(&mut self, form: TypeForm) -> Result<TypeId, NoMemory>
         requires { CanFollow false self.old.types (form_of form) }
         ensures ok { IfOk result (IsTypeAt self.new.types (form_tree (tree_at self.old.types) (form_of form))) }
         ensures adds { AddsTypes self.old self.new }
         ensures same { program_tree self.new ≡ program_tree self.old }
         ensures one { AddsOne (form_tree (tree_at self.old.types) (form_of form)) self.old.types self.new.types }
+        ensures shallow { depth (form_tree (tree_at self.old.types) (form_of form)) ≤ nesting_limit → IsShallow self.old.types → IsShallow self.new.types }
     {
         self.program.add_type(Place { line: 1, column: 1 }, form)
+    }
+
+    /// What is known of its types: found at the first call, and then only for the types that were added since it was given back.
+    pub fn take_known(&mut self) -> Result<Known, NoMemory>
+        ensures known { IfOk result (AreKnown self.old) }
+        ensures same { self.new ≡ self.old }
+    {
+        let known = self.learned()?;
+        Ok(known.complete(self.program.types(), self.program.type_defs())?)
+    }
+
+    /// Keeps what was taken.
+    pub fn give_back(&mut self, known: Known)
+        requires { AreKnown self.old known }
+        ensures { self.new ≡ self.old }
+    {
+        let _stands = self.program().type_defs();
+        self.keep(known);
+    }
+
+    /// What is known so far.
+    fn learned(&mut self) -> Result<Known, NoMemory>
+        ensures known { IfOk result (AreKnownSoFar self.old.types self.old.type_defs) }
+        ensures same { self.new ≡ self.old }
+    {
+        match self.known.take() {
+            Some(known) => Ok(known),
+            None => {
+                let types = self.program.types();
+                Ok(Known::new(self.alloc, types, self.program.type_defs())?)
+            }
+        }
+    }
+
+    fn keep(&mut self, known: Known)
+        requires { AreKnownSoFar self.old.types self.old.type_defs known }
+        ensures { self.new ≡ self.old }
+    {
+        self.known = Some(known);
     }
 }
 
 impl Checked {
+    /// The program, as one without faults of matches, arguments and results. It takes no memory.
     pub fn new(sound: SoundProgram) -> Self
         requires { IsAccepted (program_tree sound) }
         ensures { result ≡ sound }
@@ -225,7 +310,7 @@ impl Checked {
         Self { sound }
     }
 
-    /// What follows for its runs is the law `accepted_programs_are_safe` of the crate `xd_laws`.
+    /// The program as a sound one. What follows for its runs is the law `accepted_programs_are_safe` of the crate `xd_laws`.
     pub fn sound(&self) -> &SoundProgram
         ensures sound { result.now ≡ self.now }
         ensures proper { IsProperProgram (program_tree self.now) }
@@ -244,15 +329,37 @@ impl Checked {
     }
 }
 
-fn definition_named<'a>(defs: &'a [TypeDef], word: &str) -> Option<&'a TypeDef>
-    ensures { option_copied result ≡ definition_of defs.now word.now }
+/// Whether the text is a word.
+fn is_word(text: &str) -> bool
+    ensures { result ≡ is_word text.now }
 {
-    for def in defs {
-        if def.name.as_str() == word {
-            return Some(def);
+    match text.as_bytes() {
+        [first, rest @ ..] => is_word_start(*first) && are_word_parts(rest),
+        [] => false,
+    }
+}
+
+fn is_word_start(byte: u8) -> bool
+    ensures { result ≡ is_word_start byte }
+{
+    matches!(byte, b'A'..=b'Z' | b'a'..=b'z' | b'_')
+}
+
+fn are_word_parts(bytes: &[u8]) -> bool
+    ensures { result ≡ are_word_parts bytes.now }
+{
+    for byte in bytes {
+        if !is_word_part(*byte) {
+            return false;
         }
     }
-    None
+    true
+}
+
+fn is_word_part(byte: u8) -> bool
+    ensures { result ≡ is_word_part byte }
+{
+    is_word_start(byte) || byte.is_ascii_digit()
 }
 
 fn parameter_of_main(functions: &[Function]) -> Option<TypeId>

@@ -155,7 +155,7 @@ impl Types {
     }
 
     /// What is so of every table.
-    pub(crate) fn see_table(&self)
+    pub fn see_table(&self)
         ensures { IsTable false self.now }
     {
         let _nodes = &self.nodes;

@@ -2,7 +2,8 @@ use Rattle.std.proofs.Common.{true, false, ◌++◌, map, ap, sym, subst, ◌∙
 use Rattle.xd_syntax.specs.Order.{in_order}
 use Rattle.xd_syntax.specs.Kept.{type_definition}
 use Rattle.xd_rec.specs.Components.{AreComponents}
-use Rattle.xd_rec.specs.Emptiness.{AreEmptyTypes}
+use Rattle.xd_syntax.specs.Emptiness.{AreEmptyMarks}
+use Rattle.xd_syntax.proofs.KnownLaws.{marks_test, marks_decide}
 use Rattle.xd_rec.specs.Uses.{test_of, uses_from}
 use Rattle.xd_rec.specs.Faults.{AreOwned, IsGraphOf, faults_of, recurs, recursion_fault}
 use Rattle.xd_rec.specs.declared.faults.Recursion.TheVariants.{OutsideTail, Unguarded}
@@ -31,7 +32,7 @@ returns c fs =
     let ds = c.args.defs.now in
     let Z = test_of c.deref.result.now ds in
     let us = uses_from Z 0 (map (type_definition ts) ds) in
-    let ms = subst (AreEmptyTypes ts ds) (sym c.deref.ensures.value) c.in_ok-marks.ensures in
+    let ms : AreEmptyMarks ts ds c.deref.result.now = subst (AreEmptyMarks ts ds) (sym c.deref.ensures.value) c.requires.known.marked in
     let g = c.in_ok-use_chains.use_chains in
     let h = c.in_ok-front_chains.front_chains in
     let ig = subst (λ xs. IsGraphOf ds xs false g) (c.deref-2.ensures.value ∙ c.in_ok-uses.ensures) c.in_ok-use_chains.ensures in
@@ -43,5 +44,12 @@ returns c fs =
     let u = c.in_ok-add_faults-2.ensures
     ∙ ap (λ xs. xs ++ faults_of (recurs Unguarded ds c.deref-7.result.now) (recursion_fault Unguarded) c.deref-6.result.now) o
     ∙ ap (λ xs. faults_of (recurs OutsideTail ds c.deref-5.result.now) (recursion_fault OutsideTail) us ++ faults_of (recurs Unguarded ds c.deref-7.result.now) (recursion_fault Unguarded) xs) (c.deref-6.ensures.value ∙ c.in_ok-uses.ensures) in
-    all_recursion_faults ts ds fs c.requires.unique Z ms.decided g h c.deref-5.result.now c.deref-7.result.now ig ag ih ah c.sort_faults.new.faults.items
+    all_recursion_faults ts ds fs c.requires.unique Z (marks_decide ts ds c.deref.result.now c.requires.stand ms) g h c.deref-5.result.now c.deref-7.result.now ig ag ih ah c.sort_faults.new.faults.items
     (c.in_ok-sort_faults.ensures ∙ ap in_order u)
+
+pub top_uses-requires-clause-tested : goal.top_uses-requires-clause-tested
+top_uses-requires-clause-tested c =
+    let ts = c.args.types.now in
+    let ds = c.args.defs.now in
+    let ms : AreEmptyMarks ts ds c.deref.result.now = subst (AreEmptyMarks ts ds) (sym c.deref.ensures.value) c.requires.known.marked in
+    record { count = ms.count; nodes = marks_test ts ds c.deref.result.now c.requires.stand ms }

@@ -1,10 +1,8 @@
-use Rattle.std.proofs.Common.{ℕ, List, true, sym, ◌∙◌, subst}
+use Rattle.std.proofs.Common.{true, sym, ◌∙◌, subst}
 use Rattle.std.proofs.lemmas.Result.{IfOk-weaker}
-use Rattle.xd_syntax.specs.Placed.{Name_at}
 use Rattle.xd_parse.specs.declared.grammar.Sort.{Sort}
 use Rattle.xd_parse.specs.declared.grammar.Nonterminal.TheVariants as n
 use Rattle.xd_parse.specs.Reading.{SpellNo, ReadsExcepted, element_row}
-use Rattle.xd_parse.specs.Nodes.{IsAdded}
 use Rattle.xd_parse.proofs.ByteOrder.{class_made}
 use Rattle.xd_parse.proofs.Merging.{stand_stays}
 use Rattle.xd_parse.proofs.NodeRows.{branches_start, branches_on, tree_read, parts_start, parts_on, branch_read, content_empty_read, content_full_read, group_empty_read, group_full_read, element_read, part_read, word_read, texts_read, exception_read, group_read, none_read, unbound_read, variable_read, bound_read, any_read}
@@ -50,8 +48,8 @@ read_group-returns-clause-reads g t c = group_full_read g.N.Nodes.sort _ _ _ _ _
 
 pub read_element-returns-clause-reads : goal.read_element-returns-clause-reads
 read_element-returns-clause-reads g t c =
-    IfOk-weaker c.add_part.result _ _
-    (λ parts m. element_read g.N.Nodes.sort _ _ _ _ _ _ _ _ _ _ _ _ c.requires c.in_ok-class.ensures.reads c.in_ok-class.ensures.fewer c.in_ok-parts.ensures.reads c.in_ok-content.ensures.added m) c.add_part.ensures.merges
+    IfOk-weaker c.add_element.result _ _
+    (λ parts m. element_read g.N.Nodes.sort _ _ _ _ _ _ _ _ _ _ _ _ c.requires c.in_ok-class.ensures.reads c.in_ok-class.ensures.fewer c.in_ok-content.ensures.reads m.added m.merges) c.add_element.ensures.adds
 
 pub read_part-returns-clause-reads : goal.read_part-returns-clause-reads
 read_part-returns-clause-reads g t c =
@@ -83,19 +81,17 @@ read_exception-returns-in-Texts-clause-reads g t c =
 pub read_exception-returns-in_ok-content-in-Labels-clause-reads : goal.read_exception-returns-in_ok-content-in-Labels-clause-reads
 read_exception-returns-in_ok-content-in-Labels-clause-reads g t c =
     let k = c.in_ok-class-in-Labels in
-    IfOk-weaker c.add_part.result _ _
+    IfOk-weaker c.add_element.result _ _
     (λ parts m. exception_read g.N.Nodes.sort _ _ _ _ _ _ _ _ _ _ _ _ _ k.class c.requires c.step-place.ensures.place c.step-place.ensures.left c.in_ok-excepted.ensures.fewer (subst (ReadsExcepted n.Excepted _ _) c.in-Labels.is c.in_ok-excepted.ensures.reads)
-    (class_made k.class _ true k.ensures.valid.sorted k.ensures.labels k.ensures.except) c.in_ok-parts-in-Labels.ensures.reads c.in_ok-content-in-Labels.ensures.added m) c.add_part.ensures.merges
+    (class_made k.class _ true k.ensures.valid.sorted k.ensures.labels k.ensures.except) c.in_ok-content-in-Labels.ensures.reads m.added m.merges) c.add_element.ensures.adds
 
 pub read_bound-returns-then-at-clause-reads : goal.read_bound-returns-then-at-clause-reads
 read_bound-returns-then-at-clause-reads g t c =
-    IfOk-weaker c.add_part.result _ _ (λ parts m. bound_read g.N.Nodes.sort _ _ _ _ _ _ _ _ _ _ _ _ _ c.requires (sym c.at.ensures ∙ c.if-at.true) c.step.ensures.left c.in_ok-part.ensures.reads c.in_ok-bound.ensures.added m) c.add_part.ensures.merges
+    IfOk-weaker c.add_bound.result _ _ (λ parts m. bound_read g.N.Nodes.sort _ _ _ _ _ _ _ _ _ _ _ _ _ c.requires (sym c.at.ensures ∙ c.if-at.true) c.step.ensures.left c.in_ok-part.ensures.reads m.added m.merges) c.add_bound.ensures.adds
 
 pub read_bound-returns-clause-reads : goal.read_bound-returns-clause-reads
 read_bound-returns-clause-reads g t c =
-    IfOk-weaker c.add_part-2.result _ _ (λ parts m. any_read g.N.Nodes.sort _ _ _ _ _ _ _ _ _ c.requires (sym c.at.ensures ∙ c.if-at.false)
-    (subst (λ (x : List ℕ). IsAdded (g.N.Nodes.rows c.args.nodes.now) (g.N.Nodes.rows c.add.new.self) (Name_at c.args.variable.place x) (g.N.Nodes.at c.in_ok-bound-2.bound)) c.in_ok-any.ensures c.in_ok-bound-2.ensures.added) m)
-    c.add_part-2.ensures.merges
+    IfOk-weaker c.add_unbound.result _ _ (λ parts m. any_read g.N.Nodes.sort _ _ _ _ _ _ _ _ _ c.requires (sym c.at.ensures ∙ c.if-at.false) m.added m.merges) c.add_unbound.ensures.adds
 
 pub read_variable-returns-in-Type-clause-reads : goal.read_variable-returns-in-Type-clause-reads
 read_variable-returns-in-Type-clause-reads g t c = unbound_read g.N.Nodes.at g.N.Nodes.sort _ _ _ c.step-place.result c.nothing_at.result (sym c.sort.ensures ∙ c.in-Type.is) c.requires c.step-place.ensures.left c.nothing_at.ensures

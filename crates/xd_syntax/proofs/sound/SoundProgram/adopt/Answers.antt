@@ -1,34 +1,39 @@
-use Rattle.std.proofs.Common.{◌<◌, ℕ, Bool, List, length, ◌∙◌, ap, sym, arith}
+use Rattle.std.proofs.Common.{◌<◌, ℕ, Bool, List, length, ◌∙◌, ap, sym, subst, arith}
 use Rattle.std.specs.List.{list_all}
 use Rattle.xd_syntax.specs.NameFaults.{known_types}
-use Rattle.xd_syntax.specs.Kept.{program_tree}
+use Rattle.xd_syntax.specs.Kept.{ProgramTable, program_tree}
+use Rattle.xd_syntax.specs.Shallow.{IsShallow, nesting_limit}
 use Rattle.xd_syntax.specs.Adopt.{form_known, row_at}
 use Rattle.xd_syntax.proofs.ShallowTables.{shallow_grown, weaker_within}
 use Rattle.xd_syntax.proofs.Reached.{each_contained, reached_older, all_known}
 use Rattle.xd_syntax.proofs.sound.SoundProgram.adopt.Goals as goal
 
-pub defines_all-requires : goal.defines_all-requires
-defines_all-requires c =
+pub knows_all-requires : goal.knows_all-requires
+knows_all-requires c =
     rw c.deref.ensures.value
     (each_contained (λ i. i < length c.args.types.now) c.in_ok-reached.reached.items
     (λ i h. omega (arith, c.requires, reached_older _ _ _ c.see_table.ensures.built c.requires i ((c.in_ok-reached.ensures.exact i).0 h))))
 
-pub returns-then-not-defines_all-clause-defined : goal.returns-then-not-defines_all-clause-defined
-returns-then-not-defines_all-clause-defined c =
+pub returns-then-not-branch-clause-defined : goal.returns-then-not-branch-clause-defined
+returns-then-not-branch-clause-defined c =
     let known : List (List ℕ) = known_types (program_tree c.args.self.now) in
     let p : ℕ → Bool = λ i. form_known known (row_at c.args.types.now i).form in
-    sym c.if-not-defines_all.true ∙ c.defines_all.ensures ∙ ap (list_all p) c.deref.ensures.value
+    sym c.if-not-branch.true ∙ c.in_ok-knows_all.ensures.all ∙ ap (list_all p) c.deref.ensures.value
     ∙ all_known _ c.args.types.now c.args.id.at _ c.see_table.ensures.built c.requires c.in_ok-reached.ensures known
 
 pub returns-clause-defined : goal.returns-clause-defined
 returns-clause-defined c =
     let known : List (List ℕ) = known_types (program_tree c.args.self.now) in
     let p : ℕ → Bool = λ i. form_known known (row_at c.args.types.now i).form in
-    sym c.if-not-defines_all.false ∙ c.defines_all.ensures ∙ ap (list_all p) c.deref.ensures.value
+    sym c.if-not-branch.false ∙ c.in_ok-knows_all.ensures.all ∙ ap (list_all p) c.deref.ensures.value
     ∙ all_known _ c.args.types.now c.args.id.at _ c.see_table.ensures.built c.requires c.in_ok-reached.ensures known
 
 pub returns-in_err-copy_in-clause-shallow : goal.returns-in_err-copy_in-clause-shallow
-returns-in_err-copy_in-clause-shallow c = λ d s. shallow_grown _ _ c.copy_in.ensures.adds.types (weaker_within _ 256 _ _ d c.copy_in.ensures.within) s
+returns-in_err-copy_in-clause-shallow c = λ d s.
+    shallow_grown _ _ c.copy_in.ensures.adds.types (weaker_within _ nesting_limit _ _ d c.copy_in.ensures.within)
+    (subst (λ (p : ProgramTable). IsShallow p.types) (sym c.in_ok-knows_all.ensures.same) s)
 
 pub returns-clause-shallow : goal.returns-clause-shallow
-returns-clause-shallow c = λ d s. shallow_grown _ _ c.copy_in.ensures.adds.types (weaker_within _ 256 _ _ d c.copy_in.ensures.within) s
+returns-clause-shallow c = λ d s.
+    shallow_grown _ _ c.copy_in.ensures.adds.types (weaker_within _ nesting_limit _ _ d c.copy_in.ensures.within)
+    (subst (λ (p : ProgramTable). IsShallow p.types) (sym c.in_ok-knows_all.ensures.same) s)

@@ -1,25 +1,20 @@
-use Rattle.std.proofs.Common.{◌≡◌, true, sym, ap, subst, ◌∙◌}
-use Rattle.std.specs.Option.{option_copied}
-use Rattle.xd_syntax.specs.Words.{has_word}
+use Rattle.std.proofs.Common.{◌≡◌, true, false, sym, ap, subst, ◌∙◌}
+use Rattle.xd_syntax.specs.Words.{has_word, is_type_name}
+use Rattle.xd_syntax.specs.Kept.{ProgramTable, program_tree}
 use Rattle.xd_syntax.specs.NameFaults.{known_types}
-use Rattle.xd_syntax.specs.Kept.{program_tree}
-use Rattle.xd_syntax.proofs.NamedLaws.{undefined_word, defined_word, word_found}
+use Rattle.xd_syntax.proofs.NamedLaws.{known_is_word, known_is_name}
 use Rattle.xd_syntax.proofs.sound.SoundProgram.defined_name.Goals as goal
 
-pub returns-in-None-clause-defined : goal.returns-in-None-clause-defined
-returns-in-None-clause-defined c =
-    rw (← c.self.view_is)
-    (undefined_word _ _ c.args.word.now (sym c.eq.ensures ∙ c.if-eq.false)
-    (rw (← c.type_defs.ensures.type_defs) (sym c.definition_named.ensures ∙ ap option_copied c.in-None.is)))
+pub returns-then-not-is_word-clause-defined : goal.returns-then-not-is_word-clause-defined
+returns-then-not-is_word-clause-defined c =
+    subst (λ (p : ProgramTable). false ≡ has_word (known_types (program_tree p)) c.args.word.now) c.self.view_is
+    (known_is_word _ _ c.args.word.now c.see_program.ensures.types (sym c.is_word.ensures ∙ c.if-not-is_word.true))
 
-pub returns-in_ok-share-in-Some-clause-defined : goal.returns-in_ok-share-in-Some-clause-defined
-returns-in_ok-share-in-Some-clause-defined c =
-    subst (λ q. true ≡ has_word (known_types (program_tree q)) c.args.word.now) c.self.view_is
-    (defined_word _ _ c.args.word.now c.in-Some.def.now c.type_defs.ensures.stands.type_defs
-    (rw (← c.type_defs.ensures.type_defs) (sym c.definition_named.ensures ∙ ap option_copied c.in-Some.is)))
-
-pub returns-in_ok-share-in-Some-clause-found : goal.returns-in_ok-share-in-Some-clause-found
-returns-in_ok-share-in-Some-clause-found c =
-    rw (c.in_ok-share-in-Some.ensures)
-    (word_found _ _ c.args.word.now c.in-Some.def.now c.type_defs.ensures.stands.type_defs c.requires
-    (rw (← c.type_defs.ensures.type_defs) (sym c.definition_named.ensures ∙ ap option_copied c.in-Some.is)))
+pub returns-then-is_known-clause-found : goal.returns-then-is_known-clause-found
+returns-then-is_known-clause-found c = (
+  c.in_ok-name.ensures,
+  subst (λ w. is_type_name w ≡ true) (sym c.in_ok-name.ensures)
+      (known_is_name _ _ c.args.word.now c.type_defs-stand.ensures.stands.type_defs c.requires.other
+      (sym c.if-is_known.true ∙ c.is_known.ensures ∙ ap (λ w. has_word (known_types (program_tree c.args.self.now)) w) c.in_ok-name.ensures
+      ∙ ap (λ (p : ProgramTable). has_word (known_types (program_tree p)) c.args.word.now) (sym c.self.view_is))),
+)

@@ -1,5 +1,4 @@
-use Rattle.std.proofs.Common.{false, sym, subst}
-use Rattle.xd_syntax.specs.ProperTables.{IsTable}
+use Rattle.std.proofs.Common.{false}
 use Rattle.xd_syntax.proofs.Fronts.{table_front}
 use Rattle.xd_syntax.proofs.types.Types.truncate.Goals as goal
 
