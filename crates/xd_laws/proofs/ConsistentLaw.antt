@@ -5,7 +5,7 @@ use Rattle.xd_doc.specs.Document.{Document, empty, text, element}
 use Rattle.xd_doc.specs.Classes.{names_label}
 use Rattle.xd_syntax.specs.Tree.{Tree, Definitions}
 use Rattle.xd_syntax.specs.Fits.{Fits, FitsSome}
-use Rattle.xd_laws.proofs.Guarded.{Guarded}
+use Rattle.xd_laws.specs.Guarded.{Guarded}
 use Rattle.xd_syntax.specs.Ways.{Among}
 use Rattle.xd_syntax.specs.CanBeEmpty.{can_be_empty}
 use Rattle.xd_laws.specs.Heads.{Head, heads, Begins}

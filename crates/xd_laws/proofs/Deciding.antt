@@ -5,7 +5,7 @@ use Rattle.xd_syntax.specs.Tree.{Tree, Definitions}
 use Rattle.xd_syntax.specs.Fits.{Fits}
 use Rattle.xd_syntax.specs.Ways.{Way, Among, ways, is_whole, first_whole, first, IsWholeWay, Takes}
 use Rattle.xd_syntax.specs.Meaning.{Environment}
-use Rattle.xd_laws.proofs.Guarded.{Guarded}
+use Rattle.xd_laws.specs.Guarded.{Guarded}
 use Rattle.xd_laws.proofs.Unfoldings.{takes_fits, fits_takes}
 
 whole_found : (ws : List Way) (vs : Environment) → first_whole ws ≡ Some vs → (w : Way) × Among w ws × (is_whole w ≡ true) × (w.bindings ≡ vs)

@@ -5,8 +5,8 @@ use Rattle.xd_syntax.specs.Tree.{Tree, Star, Definitions, body}
 use Rattle.xd_syntax.specs.Fits.{Fits}
 use Rattle.xd_laws.specs.FitsWithin.{no_turn, one_turn, fits_by, fits_definition, fits_name_within, FitsWithin}
 use Rattle.xd_syntax.specs.Fits as F
-use Rattle.xd_laws.proofs.Guarded.{Front, Step, Guarded, Defined}
-use Rattle.xd_laws.proofs.Guarded as R
+use Rattle.xd_laws.specs.Guarded.{Front, Step, Guarded, Defined}
+use Rattle.xd_laws.specs.Guarded as R
 use Rattle.xd_laws.proofs.Documents.{filled}
 use Rattle.xd_laws.proofs.Unfoldings.{Trail, trail_short, size_join, room_below, room_within, rest_below}
 

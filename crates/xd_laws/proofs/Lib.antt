@@ -1,4 +1,3 @@
-pub mod Guarded
 pub mod FitsLaws
 pub mod Documents
 pub mod Pigeon

@@ -43,7 +43,7 @@ filter_has p (y ∷ ys) x h = go (p y) h (λ k. filter_has p ys x k)
         [ inl a ↦ or_left (bytes_eq y x) (has_word ys x) a | inr b ↦ or_right (bytes_eq y x) (has_word ys x) (rec b.1) ]
     go false k rec = or_right (bytes_eq y x) (has_word ys x) (rec k)
 
-has_once : (xs : List (List ℕ)) (x : List ℕ) → has_word (each_once xs) x ≡ true → has_word xs x ≡ true
+pub has_once : (xs : List (List ℕ)) (x : List ℕ) → has_word (each_once xs) x ≡ true → has_word xs x ≡ true
 has_once [] x h = h
 has_once (y ∷ ys) x h =
     elim (either (bytes_eq y x) (has_word (without (y ∷ []) (each_once ys)) x) h) [

@@ -9,8 +9,8 @@ use Rattle.xd_syntax.specs.Program.{TypeDefinition, ProgramTree, names_of}
 use Rattle.xd_syntax.specs.Order.{precedes, put_in, ordered_after, in_order}
 use Rattle.xd_syntax.specs.RecursionFaults.{Use, not_tail, behind_type, top_uses, IsFrontUse, placed_body, UsesAtTop, Leads, arrived, use_then, IsUnguarded, Keeps, all_seen, kept, left_out, UseIn, all_top_uses, not_tail_fault, unguarded_fault, IsSound}
 use Rattle.xd_syntax.specs.declared.fault.Fault.{Fault}
-use Rattle.xd_laws.proofs.Guarded.{Front, Step, Path, one, more, Guarded}
-use Rattle.xd_laws.proofs.Guarded as R
+use Rattle.xd_laws.specs.Guarded.{Front, Step, Path, one, more, Guarded}
+use Rattle.xd_laws.specs.Guarded as R
 use Rattle.xd_syntax.proofs.Members.{Among, append_left, append_right, map_mem, flat_mem}
 use Rattle.xd_laws.proofs.Unfoldings.{same_word_eq}
 
@@ -36,7 +36,7 @@ pub in_order_none : (fs : List Fault) → in_order fs ≡ [] → fs ≡ []
 in_order_none fs e = let l = ordered_after-length [] fs in let k : length (in_order fs) ≡ 0 = ap length e in none_of fs (omega arith)
 
 -- where nothing is listed nothing was kept
-nothing_kept : (outside unguarded : List UseIn) → [] ≡ in_order (map not_tail_fault outside ++ map unguarded_fault unguarded) → (outside ≡ []) × (unguarded ≡ [])
+pub nothing_kept : (outside unguarded : List UseIn) → [] ≡ in_order (map not_tail_fault outside ++ map unguarded_fault unguarded) → (outside ≡ []) × (unguarded ≡ [])
 nothing_kept outside unguarded e =
     let l = ordered_after-length [] (map not_tail_fault outside ++ map unguarded_fault unguarded) in
     let k : 0 ≡ length (in_order (map not_tail_fault outside ++ map unguarded_fault unguarded)) = ap length e in
@@ -78,11 +78,11 @@ any_front : (E : Definitions) (y : List ℕ) → Front E any_type y → ⊥
 any_front E y (R.star (R.alt_left f)) = elim f [ ]
 any_front E y (R.star (R.alt_right f)) = elim f [ ]
 
-abbrev pair_of : TypeDefinition → List ℕ × Tree
+abbrev pub pair_of : TypeDefinition → List ℕ × Tree
 pair_of t = (t.name, unplaced t.body)
 
 -- the definition of a name, as one with places
-placed_definition : (ts : List TypeDefinition) (x : List ℕ) (T : Tree) → body (map pair_of ts) x ≡ Some T →
+pub placed_definition : (ts : List TypeDefinition) (x : List ℕ) (T : Tree) → body (map pair_of ts) x ≡ Some T →
     (t : TypeDefinition) × Among t ts × (t.name ≡ x) × (placed_body ts x ≡ Some t.body) × (unplaced t.body ≡ T)
 placed_definition [] x T e = cc
 placed_definition (t ∷ ts) x T e = go (bytes_eq t.name x) refl e (λ k. placed_definition ts x T k)
@@ -102,7 +102,7 @@ pub record UseFound (P : ProgramTree) (x y : List ℕ) : Type 0 where
   pub front : IsFrontUse (names_of P) found.use_there
   pub uses : UsesAtTop P (IsFrontUse (names_of P)) x y
 
-listed_use : (ts : List TypeDefinition) (t : TypeDefinition) (u : Use) → Among t ts → Among u (top_uses t.body) →
+pub listed_use : (ts : List TypeDefinition) (t : TypeDefinition) (u : Use) → Among t ts → Among u (top_uses t.body) →
     Among (let w : UseIn = record { owner = t.name; use_there = u } in w) (all_top_uses ts)
 listed_use ts t u m k =
     flat_mem (λ (s : TypeDefinition). map (λ v. let w : UseIn = record { owner = s.name; use_there = v } in w) (top_uses s.body))

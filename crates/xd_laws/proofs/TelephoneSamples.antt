@@ -15,7 +15,7 @@ use Rattle.xd_syntax.specs.Program.{names_of}
 use Rattle.xd_syntax.specs.Proper.{IsProperProgram}
 use Rattle.xd_syntax.specs.Fits.{Fits, fits_empty, fits_text, fits_elem, fits_name, fits_seq, fits_no_turn, fits_turn, fits_absent, fits_present, fits_val}
 use Rattle.xd_syntax.specs.Ways.{Way, Among, unfoldings, IsWholeWay, Takes}
-use Rattle.xd_laws.proofs.Guarded.{Guarded}
+use Rattle.xd_laws.specs.Guarded.{Guarded}
 use Rattle.xd_syntax.specs.RecursionFaults.{all_seen, IsSound}
 use Rattle.xd_syntax.specs.May.{Scope, clause_entry, Arrives, MayBind, May, parameters_scope}
 use Rattle.xd_syntax.specs.CheckFaults.{Line, wrong_argument, not_exhaustive, Misfits, IsLiveIn, LinesOf, LinesOfClauses, lines_in_order, AreLines, IsAccepted, LineWhere}

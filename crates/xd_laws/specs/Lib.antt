@@ -1,4 +1,5 @@
 pub mod FitsWithin
+pub mod Guarded
 pub mod Heads
 pub mod Consistent
 pub mod Breach
