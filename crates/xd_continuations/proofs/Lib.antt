@@ -1,0 +1,12 @@
+pub mod Settling
+pub mod MoveLemmas
+pub mod Merging
+pub mod Leading
+pub mod Bounding
+pub mod Reaching
+pub mod SoundTail
+pub mod TaskBounds
+pub mod Expanding
+pub mod Mirroring
+pub mod Deepening
+pub mod TheLaws

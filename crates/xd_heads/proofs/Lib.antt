@@ -1,0 +1,13 @@
+pub mod CellLemmas
+pub mod Putting
+pub mod Working
+pub mod StateLemmas
+pub mod Sparing
+pub mod Compiling
+pub mod AddingMoves
+pub mod Bodied
+pub mod Mirrored
+pub mod Wrapping
+pub mod Growing
+pub mod Typing
+pub mod HeadLists

@@ -1,0 +1,417 @@
+-- States, and what they lead to.
+use Rattle.std.proofs.Common.{◌≡◌, ℕ, zero, suc, ◌+◌, ◌<◌, ◌≤◌, ◌⊎◌, arith, Bool, true, false, ◌||◌, List, [], ◌∷◌, ◌++◌, map, length, length-append, append_assoc, append-nil, refl, ap, sym, subst, ◌∙◌, inl, inr, nat_eq, nat_lt, not, ◌&&◌, cond, Option, None, Some}
+use Rattle.std.specs.Prelude.{if◌then◌else◌}
+use Rattle.std.specs.List.{AllByRecursion, list_any, slice_get, position, position_or_len}
+use Rattle.std.specs.Option.{IfSome, IfNone}
+use Rattle.std.proofs.lemmas.Bool.Decides.{nat_tests}
+use Rattle.std.proofs.lemmas.List.{length-map}
+use Rattle.std.proofs.lemmas.Slice.Eq.{bytes_eq-Decides}
+use Rattle.xd_doc.specs.Classes.{LabelClass, TextClass, is_named}
+use Rattle.std.specs.Str.{bytes_eq}
+use Rattle.xd_syntax.specs.Tree.{Tree, Definitions, any_type, seq_of, all_texts}
+use Rattle.xd_syntax.specs.Types.{form_of}
+use Rattle.xd_syntax.specs.declared.types.TypeId.{TypeId}
+use Rattle.xd_syntax.specs.declared.types.TypeForm.{TypeForm}
+use Rattle.xd_syntax.specs.declared.types.TypeForm.TheVariants as V
+use Rattle.xd_syntax.specs.Table.{Row, Form, empty_form, text_form, words_form, name_form, elem_form, seq_form, alt_form, star_form, plus_form, opt_form, val_form, tree_at, form_tree, CanFollow}
+use Rattle.xd_syntax.specs.Placed.{unplaced}
+use Rattle.xd_syntax.specs.Program.{TypeDefinition}
+use Rattle.xd_syntax.specs.Kept.{type_definition}
+use Rattle.xd_syntax.specs.Ways.{Among}
+use Rattle.xd_laws.specs.Heads.{text_in}
+use Rattle.xd_syntax.specs.CanBeEmpty.{can_be_empty, empty_by, empty_name}
+use Rattle.xd_syntax.specs.declared.types.TypeDef.{TypeDef}
+use Rattle.xd_syntax.proofs.Members.{mem_append, map_mem}
+use Rattle.xd_laws.proofs.Pigeon.{NoRepeat, pigeon}
+use Rattle.xd_syntax.proofs.PlacedTrees.{unplaced_at}
+use Rattle.xd_continuations.specs.Bounds.{node_count, NoneLarger, longest}
+use Rattle.xd_heads.specs.Cells.{list_at, AreCells, KeepsCells, room}
+use Rattle.xd_syntax.specs.TypeNames.{meanings}
+use Rattle.xd_heads.specs.Found.{piece_tree, continuation, move_of, AreOfTypes, AreBounded}
+use Rattle.xd_heads.specs.States.{EachOnce, IsBelow, AreOwners, number_of, number_at, AddsOwner, IsOfCell, AddsStates, AreContinuationsFrom, nodes_from, nodes_in}
+use Rattle.xd_heads.specs.declared.states.Owner.{Owner}
+use Rattle.xd_heads.specs.declared.states.Owner.TheVariants.{Continuation, Pattern}
+use Rattle.xd_heads.specs.contracts.states.OwnerPartialEq.TheImpl as Eq
+use Rattle.xd_heads.specs.declared.cells.Cell.{Cell}
+use Rattle.xd_continuations.proofs.MoveLemmas.{all_append}
+use Rattle.xd_continuations.proofs.Reaching.{all_same}
+use Rattle.xd_continuations.proofs.Bounding.{bounded_length}
+use Rattle.xd_heads.proofs.CellLemmas.{kept_length, few_cells, lists_within_are}
+
+less_true : (m n : ℕ) → nat_lt m n ≡ true → m < n
+less_true m n e = grind (arith, nat_tests)
+
+less_false : (m n : ℕ) → nat_lt m n ≡ false → m < n → ⊥
+less_false m n e h = grind (arith, nat_tests)
+
+-- ---- one more state
+
+module _ {A : Type 0} (test : A → Bool) (x : A) (whole : test x ≡ true) (right : (y : A) → test y ≡ true → y ≡ x) where
+  any_among : (xs : List A) → list_any test xs ≡ true → Among x xs
+  any_among [] h = cc
+  any_among (y ∷ ys) h = go (test y) refl h (any_among ys)
+    where
+      go : (b : Bool) → test y ≡ b → (b || list_any test ys) ≡ true → (list_any test ys ≡ true → Among x ys) → Among x (y ∷ ys)
+      go true e k rec = inl (right y e)
+      go false e k rec = inr (rec k)
+
+  among_any : (xs : List A) → Among x xs → list_any test xs ≡ true
+  among_any [] m = absurd m
+  among_any (y ∷ ys) (inl e) = let q : test y ≡ true = ap test e ∙ whole in rw q refl
+  among_any (y ∷ ys) (inr m) = go (test y) (among_any ys m)
+    where
+      go : (b : Bool) → list_any test ys ≡ true → (b || list_any test ys) ≡ true
+      go true e = refl
+      go false e = e
+
+  -- what an insertion leaves
+  pub added : (old new : List A) → new ≡ if list_any test old then old else old ++ x ∷ [] → (Among x old × (new ≡ old)) ⊎ ((Among x old → ⊥) × (new ≡ old ++ x ∷ []))
+  added old new e = go (list_any test old) refl e
+    where
+      go : (b : Bool) → list_any test old ≡ b → new ≡ if b then old else old ++ x ∷ [] → (Among x old × (new ≡ old)) ⊎ ((Among x old → ⊥) × (new ≡ old ++ x ∷ []))
+      go true i q = inl (any_among old i, q)
+      go false i q = inr ((λ m. let k = among_any old m in let z : true ≡ false = sym k ∙ i in cc), q)
+
+  -- the place of the element
+  place : (xs : List A) (k : ℕ) → k ≡ position_or_len test xs → k < length xs → slice_get xs k ≡ Some x
+  place [] k e h = absurd (omega arith)
+  place (y ∷ ys) k e h = go (test y) refl k e h (place ys)
+    where
+      go : (b : Bool) → test y ≡ b → (k : ℕ) → k ≡ cond (not b) (1 + position_or_len test ys) 0 → k < suc (length ys) →
+          ((j : ℕ) → j ≡ position_or_len test ys → j < length ys → slice_get ys j ≡ Some x) → slice_get (y ∷ ys) k ≡ Some x
+      go true q zero e h rec = ap Some (right y q)
+      go true q (suc k) e h rec = absurd (omega arith)
+      go false q zero e h rec = absurd (omega arith)
+      go false q (suc k) e h rec = rec k (omega arith) (omega arith)
+
+  has_place : (xs : List A) → Among x xs → position_or_len test xs < length xs
+  has_place [] m = absurd m
+  has_place (y ∷ ys) m = go (test y) refl m (has_place ys)
+    where
+      go : (b : Bool) → test y ≡ b → (y ≡ x) ⊎ Among x ys → (Among x ys → position_or_len test ys < length ys) → cond (not b) (1 + position_or_len test ys) 0 < suc (length ys)
+      go true q i rec = omega arith
+      go false q (inl e) rec = let z : true ≡ false = sym (ap test e ∙ whole) ∙ q in cc
+      go false q (inr i) rec = let h = rec i in omega arith
+
+  pub found_at_place : (xs : List A) (o : Option ℕ) → o ≡ position test xs → IfSome o (λ i. slice_get xs i ≡ Some x)
+  found_at_place xs o e = go (nat_lt (position_or_len test xs) (length xs)) refl e
+    where
+      go : (b : Bool) → nat_lt (position_or_len test xs) (length xs) ≡ b → o ≡ cond b (Some (position_or_len test xs)) None → IfSome o (λ i. slice_get xs i ≡ Some x)
+      go true q i =
+          subst (λ (p : Option ℕ). IfSome p (λ j. slice_get xs j ≡ Some x)) (sym i)
+          (place xs (position_or_len test xs) refl (less_true (position_or_len test xs) (length xs) q))
+      go false q i = subst (λ (p : Option ℕ). IfSome p (λ j. slice_get xs j ≡ Some x)) (sym i) tt
+
+  pub none_at_place : (xs : List A) (o : Option ℕ) → o ≡ position test xs → IfNone o (Among x xs → ⊥)
+  none_at_place xs o e = go (nat_lt (position_or_len test xs) (length xs)) refl e
+    where
+      go : (b : Bool) → nat_lt (position_or_len test xs) (length xs) ≡ b → o ≡ cond b (Some (position_or_len test xs)) None → IfNone o (Among x xs → ⊥)
+      go true q i = subst (λ (p : Option ℕ). IfNone p (Among x xs → ⊥)) (sym i) tt
+      go false q i =
+          subst (λ (p : Option ℕ). IfNone p (Among x xs → ⊥)) (sym i)
+          (λ m. less_false (position_or_len test xs) (length xs) q (has_place xs m))
+
+-- ---- owners
+
+same_number : (m n : ℕ) → nat_eq m n ≡ true → n ≡ m
+same_number m n h = grind (arith, nat_tests)
+
+pub same_owner : (a b : Owner) → (Eq.eq-value).it a b ≡ true → b ≡ a
+same_owner (Continuation m) (Continuation n) h = ap Continuation (same_number m n h)
+same_owner (Continuation m) (Pattern n) h = cc
+same_owner (Pattern m) (Continuation n) h = cc
+same_owner (Pattern m) (Pattern n) h = ap Pattern (same_number m n h)
+
+pub owner_same : (a : Owner) → (Eq.eq-value).it a a ≡ true
+owner_same (Continuation m) = grind (arith, nat_tests)
+owner_same (Pattern m) = grind (arith, nat_tests)
+
+-- what an insertion of an owner leaves
+pub owner_added : (keys old new : List Owner) (o : Owner) → keys ≡ old → new ≡ if list_any ((Eq.eq-value).it o) keys then keys else keys ++ o ∷ [] → AddsOwner old o new
+owner_added keys old new o v e =
+    added ((Eq.eq-value).it o) o (owner_same o) (same_owner o) old new (subst (λ ks. new ≡ if list_any ((Eq.eq-value).it o) ks then ks else ks ++ o ∷ []) v e)
+
+once_push : (os : List Owner) (o : Owner) → EachOnce os → (Among o os → ⊥) → EachOnce (os ++ o ∷ [])
+once_push [] o e h = ((λ m. m), tt)
+once_push (k ∷ os) o e h =
+    ((λ m. elim (mem_append k os (o ∷ []) m) [ inl a ↦ e.0 a | inr (inl q) ↦ h (inl (sym q)) | inr (inr b) ↦ b ]), once_push os o e.1 (λ m. h (inr m)))
+
+below_more : (m n : ℕ) → m ≤ n → (o : Owner) → IsBelow m o → IsBelow n o
+below_more m n h (Continuation k) b = tt
+below_more m n h (Pattern k) b = omega arith
+
+owners_push : (os : List Owner) (o : Owner) → AreOwners os → (Among o os → ⊥) → IsBelow (length os + 1) o → AreOwners (os ++ o ∷ [])
+owners_push os o a h b =
+    let e : length (os ++ o ∷ []) ≡ length os + 1 = length-append os (o ∷ []) in
+    record {
+      once = once_push os o a.once h;
+      below = subst (λ n. AllByRecursion (IsBelow n) (os ++ o ∷ [])) (sym e)
+          (all_append (IsBelow (length os + 1)) os (o ∷ [])
+          (all_same (IsBelow (length os)) (IsBelow (length os + 1)) os (below_more (length os) (length os + 1) (omega arith)) a.below) (b, tt));
+    }
+
+pub owners_added : (old new : List Owner) (n : ℕ) → AreOwners old → AddsOwner old (Continuation n) new → AreOwners new
+owners_added old new n a (inl h) = subst AreOwners (sym h.1) a
+owners_added old new n a (inr h) = subst AreOwners (sym h.1) (owners_push old (Continuation n) a h.0 tt)
+
+none_below : (n k : ℕ) → n ≤ k → (os : List Owner) → AllByRecursion (IsBelow n) os → Among (Pattern k) os → ⊥
+none_below n k h [] b m = m
+none_below n k h (o ∷ os) b (inl e) = let c : IsBelow n (Pattern k) = subst (IsBelow n) e b.0 in omega arith
+none_below n k h (o ∷ os) b (inr m) = none_below n k h os b.1 m
+
+-- a pattern's state is never there before
+pub pattern_added : (old new : List Owner) → AreOwners old → AddsOwner old (Pattern (length old)) new → (new ≡ old ++ Pattern (length old) ∷ []) × AreOwners new
+pattern_added old new a (inl h) = absurd (none_below (length old) (length old) (omega arith) old a.below h.0)
+pattern_added old new a (inr h) = (h.1, subst AreOwners (sym h.1) (owners_push old (Pattern (length old)) a h.0 (omega arith)))
+
+-- ---- how many states there are
+
+numbers_once : (ns : List ℕ) → EachOnce (map Continuation ns) → NoRepeat ns
+numbers_once [] o = tt
+numbers_once (n ∷ ns) o = ((λ m. o.0 (map_mem Continuation n ns m)), numbers_once ns o.1)
+
+once_behind : (front back : List Owner) → EachOnce (front ++ back) → EachOnce back
+once_behind [] back o = o
+once_behind (f ∷ front) back o = once_behind front back o.1
+
+within_behind : (n : ℕ) (front back : List Owner) → AllByRecursion (IsOfCell n) (front ++ back) → AllByRecursion (IsOfCell n) back
+within_behind n [] back a = a
+within_behind n (f ∷ front) back a = within_behind n front back a.1
+
+numbers_within : (n : ℕ) (ns : List ℕ) → AllByRecursion (IsOfCell n) (map Continuation ns) → AllByRecursion (λ k. k ≤ n) ns
+numbers_within n [] a = tt
+numbers_within n (k ∷ ns) a = (a.0, numbers_within n ns a.1)
+
+up_to : ℕ → List ℕ
+up_to zero = 0 ∷ []
+up_to (suc n) = suc n ∷ up_to n
+
+up_to-length : (n : ℕ) → length (up_to n) ≡ n + 1
+unfolding up_to
+up_to-length zero = refl
+up_to-length (suc n) = let i = up_to-length n in omega arith
+
+up_to_has : (n m : ℕ) → m ≤ n → Among m (up_to n)
+unfolding up_to
+up_to_has zero zero h = inl refl
+up_to_has zero (suc m) h = absurd (omega arith)
+up_to_has (suc n) m h = go m (cases m n h) (λ k. up_to_has n m k)
+  where
+    cases : (i j : ℕ) → i ≤ suc j → (i ≡ suc j) ⊎ (i ≤ j)
+    cases zero j k = inr (omega arith)
+    cases (suc zero) zero k = inl refl
+    cases (suc (suc i)) zero k = absurd (omega arith)
+    cases (suc i) (suc j) k = elim (cases i j (omega arith)) [ inl e ↦ inl (ap suc e) | inr l ↦ inr (omega arith) ]
+
+    go : (i : ℕ) → (i ≡ suc n) ⊎ (i ≤ n) → (i ≤ n → Among i (up_to n)) → Among i (suc n ∷ up_to n)
+    go i (inl e) rec = inl (sym e)
+    go i (inr l) rec = inr (rec l)
+
+below : (P : ℕ → Type 0) (ns : List ℕ) → AllByRecursion P ns → (n : ℕ) → Among n ns → P n
+below P [] a n m = absurd m
+below P (k ∷ ns) a n (inl e) = subst P e a.0
+below P (k ∷ ns) a n (inr m) = below P ns a.1 n m
+
+few_numbers : (ns : List ℕ) (n : ℕ) → NoRepeat ns → AllByRecursion (λ k. k ≤ n) ns → length ns ≤ n + 1
+few_numbers ns n o a =
+    let h = pigeon ns (up_to n) o (λ m i. up_to_has n m (below (λ k. k ≤ n) ns a m i)) in
+    let e = up_to-length n in omega arith
+
+-- behind the first ones, no more states than there are short continuations
+pub states_few : (E : Definitions) (m : ℕ) (types : List Row) (cells : List Cell) (first : ℕ) (states : List Owner) → AreCells cells → AreOfTypes types cells → AreBounded E m types cells → AreOwners states →
+    AllByRecursion (IsOfCell (length cells)) states → AreContinuationsFrom first states → length states ≤ first + room (length types) (longest E m)
+states_few E m types cells first states a nodes b o s c =
+    let short = lists_within_are (longest E m) cells
+    (λ n h. (let k = bounded_length E m (continuation types cells n) (b n h) in let l = length-map (list_at cells n) (piece_tree types) in omega (arith, k, l))) in
+    let f = few_cells (length types) (longest E m) cells a nodes short in
+    let once = numbers_once c.more (once_behind c.front (map Continuation c.more) (subst EachOnce c.split o.once)) in
+    let within = numbers_within (length cells) c.more (within_behind (length cells) c.front (map Continuation c.more) (subst (AllByRecursion (IsOfCell (length cells))) c.split s)) in
+    let g = few_numbers c.more (length cells) once within in
+    let l : length states ≡ length c.front + length c.more = ap length c.split ∙ length-append c.front (map Continuation c.more) ∙ ap (λ n. length c.front + n) (length-map c.more Continuation) in
+    let q = c.count in
+    omega arith
+
+-- ---- states that are added
+
+numbers_kept : (old new : List Cell) → KeepsCells old new → (os : List Owner) → AllByRecursion (IsOfCell (length old)) os → AllByRecursion (IsOfCell (length new)) os
+numbers_kept old new k os a = let l = kept_length old new k in all_same (IsOfCell (length old)) (IsOfCell (length new)) os (more l) a
+  where
+    more : length old ≤ length new → (o : Owner) → IsOfCell (length old) o → IsOfCell (length new) o
+    more l (Continuation n) h = omega arith
+    more l (Pattern n) h = tt
+
+pub states_none : (old new : List Cell) → KeepsCells old new → (states : List Owner) → AddsStates old new states states
+states_none old new k states = record { more = []; grown = sym (append-nil states); numbers = numbers_kept old new k states }
+
+map_both : (ms ns : List ℕ) → map Continuation ms ++ map Continuation ns ≡ map Continuation (ms ++ ns)
+map_both [] ns = refl
+map_both (m ∷ ms) ns = ap (λ os. Continuation m ∷ os) (map_both ms ns)
+
+pub states_then : (a b c : List Cell) (x y z : List Owner) → AddsStates a b x y → AddsStates b c y z → AddsStates a c x z
+states_then a b c x y z s t = record {
+  more = s.more ++ t.more;
+  grown = t.grown ∙ ap (λ os. os ++ map Continuation t.more) s.grown ∙ append_assoc x (map Continuation s.more) (map Continuation t.more)
+      ∙ ap (λ os. x ++ os) (map_both s.more t.more);
+  numbers = λ n. t.numbers (s.numbers n);
+}
+
+-- the states behind the first ones stay those of continuations
+pub from_more : (a b : List Cell) (first : ℕ) (x y : List Owner) → AreContinuationsFrom first x → AddsStates a b x y → AreContinuationsFrom first y
+from_more a b first x y c s = record {
+  front = c.front;
+  more = c.more ++ s.more;
+  split = s.grown ∙ ap (λ os. os ++ map Continuation s.more) c.split ∙ append_assoc c.front (map Continuation c.more) (map Continuation s.more)
+      ∙ ap (λ os. c.front ++ os) (map_both c.more s.more);
+  count = c.count;
+}
+
+pub from_all : (a b : List Cell) (x y : List Owner) → AddsStates a b x y → AreContinuationsFrom (length x) y
+from_all a b x y s = record { front = x; more = s.more; split = s.grown; count = refl }
+
+-- so each of them has a number
+pub number_from : (first : ℕ) (states : List Owner) → AreContinuationsFrom first states → (n : ℕ) → first ≤ n → number_at states n ≡ None → length states ≤ n
+number_from first states c n h e = let q = c.count in
+    let r = behind c.front c.more n (omega arith) (subst (λ os. number_at os n ≡ None) c.split e) in
+    let l = ap length c.split in omega arith
+  where
+    numbered_all : (ms : List ℕ) (n : ℕ) → number_at (map Continuation ms) n ≡ None → length (map Continuation ms) ≤ n
+    numbered_all [] n e = omega arith
+    numbered_all (m ∷ ms) zero e = cc
+    numbered_all (m ∷ ms) (suc n) e = let i = numbered_all ms n e in omega arith
+
+    behind : (front : List Owner) (ms : List ℕ) (n : ℕ) → length front ≤ n → number_at (front ++ map Continuation ms) n ≡ None → length (front ++ map Continuation ms) ≤ n
+    behind [] ms n h e = numbered_all ms n e
+    behind (f ∷ front) ms zero h e = absurd (omega arith)
+    behind (f ∷ front) ms (suc n) h e = let i = behind front ms n (omega arith) e in omega arith
+
+-- ---- how large types are
+
+six : (types rs : List Row) (i : ℕ) → 6 ≤ nodes_from types rs i
+six types [] i = omega arith
+six types (r ∷ rs) i = let k = six types rs (i + 1) in omega arith
+
+nodes_at : (types rs : List Row) (i j : ℕ) → j < length rs → node_count (tree_at types (i + j)) ≤ nodes_from types rs i
+nodes_at types [] i j h = absurd (omega arith)
+nodes_at types (r ∷ rs) i zero h =
+    let e : i + 0 ≡ i = omega arith in subst (λ k. node_count (tree_at types k) ≤ nodes_from types (r ∷ rs) i) (sym e) (omega arith)
+nodes_at types (r ∷ rs) i (suc j) h =
+    let e : (i + 1) + j ≡ i + suc j = omega arith in
+    let k = subst (λ n. node_count (tree_at types n) ≤ nodes_from types rs (i + 1)) e (nodes_at types rs (i + 1) j (omega arith)) in omega arith
+
+pub nodes_below : (types : List Row) (i : ℕ) → i < length types → node_count (tree_at types i) ≤ nodes_in types
+unfolding nodes_in
+nodes_below types i h = let e : 0 + i ≡ i = omega arith in subst (λ n. node_count (tree_at types n) ≤ nodes_from types types 0) e (nodes_at types types 0 i h)
+
+any_small : (types : List Row) → node_count any_type ≤ nodes_in types
+unfolding nodes_in
+any_small types = let k = six types types 0 in omega arith
+
+bodies_small : (types : List Row) (m : ℕ) → ((i : ℕ) → i < length types → node_count (tree_at types i) ≤ m) → (ds : List TypeDef) → AllByRecursion (λ (d : TypeDef). d.body.at < length types) ds →
+    NoneLarger m (map (λ (t : TypeDefinition). (t.name, unplaced t.body)) (map (type_definition types) ds))
+bodies_small types m h [] a = tt
+bodies_small types m h (d ∷ ds) a = (subst (λ T. node_count T ≤ m) (sym (unplaced_at types d.body.at)) (h d.body.at a.0), bodies_small types m h ds a.1)
+
+pub none_larger_in : (types : List Row) (ds : List TypeDef) → AllByRecursion (λ (d : TypeDef). d.body.at < length types) ds → NoneLarger (nodes_in types) (meanings types ds)
+none_larger_in types ds a = (any_small types, bodies_small types (nodes_in types) (nodes_below types) ds a)
+
+-- ---- contents
+
+pub kind_of_other : (t : ℕ → Tree) (rows : List Row) (f : Form) → CanFollow false rows f → ((c : LabelClass) (i : ℕ) → f ≡ elem_form c i → ⊥) → ((w : TextClass) → f ≡ words_form w → ⊥) → (K : List Tree) →
+    move_of (form_tree t f) K ≡ record { kind = text_in all_texts; content = []; rest = K }
+kind_of_other t rows empty_form c n v K = refl
+kind_of_other t rows text_form c n v K = refl
+kind_of_other t rows (words_form w) c n v K = absurd (v w refl)
+kind_of_other t rows (name_form w) c n v K = refl
+kind_of_other t rows (elem_form k i) c n v K = absurd (n k i refl)
+kind_of_other t rows (seq_form []) c n v K = refl
+kind_of_other t rows (seq_form (i ∷ [])) c n v K = let h = c.0 in absurd (omega arith)
+kind_of_other t rows (seq_form (i ∷ (j ∷ js))) c n v K = refl
+kind_of_other t rows (alt_form []) c n v K = refl
+kind_of_other t rows (alt_form (i ∷ [])) c n v K = let h = c.0 in absurd (omega arith)
+kind_of_other t rows (alt_form (i ∷ (j ∷ js))) c n v K = refl
+kind_of_other t rows (star_form i) c n v K = refl
+kind_of_other t rows (plus_form i) c n v K = refl
+kind_of_other t rows (opt_form i) c n v K = refl
+kind_of_other t rows (val_form x q i) c n v K = refl
+
+pub elem_of : (f : TypeForm) (c : LabelClass) (i : ℕ) → form_of f ≡ elem_form c i → (k : LabelClass) × (t : TypeId) × (f ≡ V.Elem k t)
+elem_of V.Empty c i e = cc
+elem_of V.Text c i e = cc
+elem_of (V.Words w) c i e = cc
+elem_of (V.Name w) c i e = cc
+elem_of (V.Elem k t) c i e = (k, t, refl)
+elem_of (V.Seq ts) c i e = cc
+elem_of (V.Alt ts) c i e = cc
+elem_of (V.Star t) c i e = cc
+elem_of (V.Plus t) c i e = cc
+elem_of (V.Opt t) c i e = cc
+
+pub words_of_form : (f : TypeForm) (w : TextClass) → form_of f ≡ words_form w → (v : TextClass) × (f ≡ V.Words v)
+words_of_form V.Empty w e = cc
+words_of_form V.Text w e = cc
+words_of_form (V.Words v) w e = (v, refl)
+words_of_form (V.Name x) w e = cc
+words_of_form (V.Elem k t) w e = cc
+words_of_form (V.Seq ts) w e = cc
+words_of_form (V.Alt ts) w e = cc
+words_of_form (V.Star t) w e = cc
+words_of_form (V.Plus t) w e = cc
+words_of_form (V.Opt t) w e = cc
+
+-- a class that excepts no text has all
+pub names_none : (c : TextClass) → ((t : List ℕ) → is_named c.names t ≡ is_named [] t) → c.except ≡ true → c ≡ all_texts
+names_none c h e = go c.names refl
+  where
+    go : (ns : List (List ℕ)) → c.names ≡ ns → c ≡ all_texts
+    go [] n = ap (λ (ms : List (List ℕ)). let d : TextClass = record { names = ms; except = c.except } in d) n ∙ ap (λ (b : Bool). let d : TextClass = record { names = []; except = b } in d) e
+    go (w ∷ ws) n =
+        let a : is_named (w ∷ ws) w ≡ false = ap (λ (ms : List (List ℕ)). is_named ms w) (sym n) ∙ h w in
+        let b : bytes_eq w w ≡ true = (bytes_eq-Decides w w).1 refl in
+        let d : (bytes_eq w w || is_named ws w) ≡ false = a in
+        let g : (true || is_named ws w) ≡ false = sym (ap (λ x. x || is_named ws w) b) ∙ d in cc
+
+-- ---- numbers
+
+pub number_below : (n : ℕ) (states : List Owner) (i k : ℕ) → AllByRecursion (IsOfCell n) states → number_at states i ≡ Some k → k ≤ n
+number_below n [] i k a e = cc
+number_below n (Continuation m ∷ os) zero k a e = let q : m ≡ k = cc in subst (λ j. j ≤ n) q a.0
+number_below n (Pattern m ∷ os) zero k a e = cc
+number_below n (o ∷ os) (suc i) k a e = number_below n os i k a.1 e
+
+pub number_within : (states : List Owner) (i k : ℕ) → number_at states i ≡ Some k → i < length states
+number_within [] i k e = cc
+number_within (o ∷ os) zero k e = omega arith
+number_within (o ∷ os) (suc i) k e = let h = number_within os i k e in omega arith
+
+pub number_front : (states more : List Owner) (i k : ℕ) → number_at states i ≡ Some k → number_at (states ++ more) i ≡ Some k
+number_front [] more i k e = cc
+number_front (o ∷ os) more zero k e = e
+number_front (o ∷ os) more (suc i) k e = number_front os more i k e
+
+-- a number behind one more owner is an old one's, or its own
+pub number_pushed : (states : List Owner) (o : Owner) (i k : ℕ) → number_at (states ++ o ∷ []) i ≡ Some k → (number_at states i ≡ Some k) ⊎ ((i ≡ length states) × (number_of (Some o) ≡ Some k))
+number_pushed [] o zero k e = inr (refl, e)
+number_pushed [] o (suc i) k e = cc
+number_pushed (x ∷ os) o zero k e = inl e
+number_pushed (x ∷ os) o (suc i) k e = elim (number_pushed os o i k e) [ inl h ↦ inl h | inr h ↦ inr (ap suc h.0, h.1) ]
+
+pub one_number : (states : List Owner) (i j k : ℕ) → number_at states i ≡ Some j → number_at states i ≡ Some k → k ≡ j
+one_number states i j k a b = let e : Some j ≡ Some k = sym a ∙ b in cc
+
+pub number_got : (states : List Owner) (i k : ℕ) → slice_get states i ≡ Some (Continuation k) → number_at states i ≡ Some k
+number_got states i k e = ap number_of e
+
+-- ---- continuations that can be empty
+
+and_true : (b : Bool) → b ≡ (b && true)
+and_true true = refl
+and_true false = refl
+
+pub empty_first : (E : Definitions) (T : Tree) (K : List Tree) → can_be_empty E (seq_of (T ∷ K)) ≡ (can_be_empty E T && can_be_empty E (seq_of K))
+unfolding can_be_empty
+empty_first E T [] = and_true (empty_by (empty_name E (length E)) T)
+empty_first E T (U ∷ Us) = refl
+
+pub none_empty : (E : Definitions) → can_be_empty E (seq_of []) ≡ true
+unfolding can_be_empty
+none_empty E = refl

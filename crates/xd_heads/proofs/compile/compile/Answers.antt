@@ -1,0 +1,39 @@
+use Rattle.std.proofs.Common.{◌≡◌, ◌+◌, ◌-◌, ◌<◌, ℕ, length, arith, refl, sym, ◌∙◌, Option, None, Some}
+use Rattle.xd_continuations.specs.Bounds.{longest}
+use Rattle.xd_heads.specs.Cells.{room}
+use Rattle.xd_syntax.specs.TypeNames.{meanings}
+use Rattle.xd_heads.specs.States.{nodes_in, number_at}
+use Rattle.xd_heads.proofs.StateLemmas.{states_few, number_below, number_within, number_from}
+use Rattle.xd_heads.proofs.AddingMoves.{compiling_more, all_compiled}
+use Rattle.xd_heads.proofs.compile.compile.Goals as goal
+
+less_left : (n room : ℕ) → n < room → room - (n + 1) < room - n
+less_left n room h = omega arith
+
+nothing : {A : Type 0} (o : Option A) → ((x : A) → o ≡ Some x → ⊥) → o ≡ None
+nothing None h = refl
+nothing (Some x) h = absurd (h x refl)
+
+pub loop-number-smaller : goal.loop-number-smaller
+loop-number-smaller c =
+    let types = c.args.types.now in
+    let E = meanings types c.args.defs.now in
+    let i = c.loop-number.invariant in
+    let few = states_few E (nodes_in types) types c.loop-number.cells c.args.first c.loop-number.states c.len-count.ensures.cells (i.cells_added.nodes c.requires.nodes)
+    (i.bounded c.requires.tail c.requires.stand c.requires.bounded) c.len-states.ensures.owners i.compiled.numbers i.behind in
+    let h = number_within c.loop-number.states c.loop-number.done c.in-Some.number (sym c.continuation.ensures ∙ c.in-Some.is) in
+    less_left c.loop-number.done (c.args.first + room (length types) (longest E (nodes_in types))) (omega arith)
+
+pub loop-number-preserved : goal.loop-number-preserved
+loop-number-preserved c =
+    let e : number_at c.loop-number.states c.loop-number.done ≡ Some c.in-Some.number = sym c.continuation.ensures ∙ c.in-Some.is in
+    let n = number_below (length c.loop-number.cells) c.loop-number.states c.loop-number.done c.in-Some.number c.loop-number.invariant.compiled.numbers e in
+    compiling_more c.args.types.now c.args.defs.now c.args.cells.now c.loop-number.cells c.add_moves.new.cells c.args.states.now c.loop-number.states c.add_moves.new.states
+    c.args.first c.args.auto.now c.loop-number.auto' c.add_moves.new.auto c.state-from.result c.loop-number.done c.in-Some.number c.requires.merged c.requires.stand c.state-from.ensures.number e
+    c.loop-number.invariant c.in_ok-add_moves.ensures.moves c.add_moves.ensures.spares n
+
+pub returns-clause-compiled : goal.returns-clause-compiled
+returns-clause-compiled c =
+    let e = sym c.continuation.ensures ∙ nothing c.continuation.result c.in_default.not-Some in
+    all_compiled c.args.types.now c.args.defs.now c.args.cells.now c.loop-number.cells c.args.states.now c.loop-number.states c.args.first c.args.auto.now c.loop-number.auto' c.loop-number.done
+    (number_from c.args.first c.loop-number.states c.loop-number.invariant.behind c.loop-number.done c.loop-number.invariant.later e) c.loop-number.invariant

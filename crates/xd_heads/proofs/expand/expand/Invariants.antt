@@ -1,0 +1,11 @@
+use Rattle.xd_continuations.specs.Expansion.{work_left}
+use Rattle.xd_syntax.specs.TypeNames.{meanings}
+use Rattle.xd_heads.specs.Found.{waiting_at}
+use Rattle.xd_heads.proofs.Working.{IsExpanding}
+use Rattle.xd_heads.proofs.expand.expand.Given as goal
+
+abbrev pub invariant-loop-task : goal.invariant-loop-task
+invariant-loop-task l = IsExpanding l.types l.defs l.fn.cells l.number l.cells l.tasks.items l.found.items
+
+abbrev pub decreases-loop-task : goal.decreases-loop-task
+decreases-loop-task l = work_left (meanings l.types l.defs) (waiting_at l.types l.cells l.tasks.items)

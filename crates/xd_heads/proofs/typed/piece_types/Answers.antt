@@ -1,0 +1,31 @@
+use Rattle.std.proofs.Common.{◌<◌, length, arith, sym, subst}
+use Rattle.xd_heads.specs.declared.cells.Cell.{Cell}
+use Rattle.xd_continuations.proofs.Reaching.{all_among}
+use Rattle.xd_heads.proofs.Growing.{grows_then}
+use Rattle.xd_heads.proofs.Mirrored.{more_rows}
+use Rattle.xd_heads.proofs.Typing.{IsTyping, typing_more, typing_all}
+use Rattle.xd_heads.proofs.typed.piece_types.Goals as goal
+
+pub piece_type-requires : goal.piece_type-requires
+piece_type-requires c =
+    let h = all_among (λ (d : Cell). d.piece.node < length c.args.sound.now.types) c.args.cells.now c.requires.nodes c.cell-cell.result c.cell-cell.ensures.stands in
+    let l = more_rows c.args.sound.now.types c.loop-at.sound.types c.loop-at.invariant.grows.adds.types in
+    omega arith
+
+pub returns-in_err-piece_type-clause-grows : goal.returns-in_err-piece_type-clause-grows
+returns-in_err-piece_type-clause-grows c = grows_then c.args.sound.now c.loop-at.sound c.piece_type.new.sound c.loop-at.invariant.grows c.piece_type.ensures.grows
+
+pub returns-in_err-push-clause-grows : goal.returns-in_err-push-clause-grows
+returns-in_err-push-clause-grows c = grows_then c.args.sound.now c.loop-at.sound c.piece_type.new.sound c.loop-at.invariant.grows c.piece_type.ensures.grows
+
+pub loop-at-preserved : goal.loop-at-preserved
+loop-at-preserved c =
+    let h = all_among (λ (d : Cell). d.piece.node < length c.args.sound.now.types) c.args.cells.now c.requires.nodes c.cell-cell.result c.cell-cell.ensures.stands in
+    subst (IsTyping c.args.sound.now c.piece_type.new.sound c.args.cells.now c.args.number c.cell-cell.result.behind) (sym c.in_ok-push.ensures.items)
+    (typing_more c.args.sound.now c.loop-at.sound c.piece_type.new.sound c.args.cells.now c.args.number c.loop-at.at c.loop-at.ids.items c.loop-at.invariant c.cell-cell.result
+    c.cell-cell.ensures.list c.cell-cell.ensures.older h c.in_ok-piece_type.field-0 c.in_ok-piece_type.ensures.ok c.piece_type.ensures.grows)
+
+pub returns-clause-trees : goal.returns-clause-trees
+returns-clause-trees c =
+    let t = c.loop-at-test.false in
+    typing_all c.args.sound.now c.loop-at.sound c.args.cells.now c.args.number c.loop-at.at c.loop-at.ids.items c.loop-at.invariant (omega arith)

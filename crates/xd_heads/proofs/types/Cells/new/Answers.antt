@@ -1,0 +1,14 @@
+use Rattle.std.proofs.Common.{◌≡◌, [], List, ap, sym, subst, ◌∙◌}
+use Rattle.xd_heads.specs.CellsView.{CellsView, no_cells}
+use Rattle.xd_heads.specs.Mirrors.{Mirrors}
+use Rattle.xd_heads.specs.declared.cells.Cell.{Cell}
+use Rattle.xd_heads.specs.declared.states.Owner.{Owner}
+use Rattle.xd_heads.proofs.Mirrored.{mirrors_none}
+use Rattle.xd_heads.proofs.types.Cells.new.Goals as goal
+
+same : (c : CellsView) → c.cells ≡ [] → c.owners ≡ [] → c ≡ no_cells
+same c e f =
+    ap (λ (cs : List Cell). let v : CellsView = record { cells = cs; owners = c.owners } in v) e ∙ ap (λ (os : List Owner). let v : CellsView = record { cells = []; owners = os } in v) f
+
+pub returns-clause-mirrors : goal.returns-clause-mirrors
+returns-clause-mirrors c p = subst (λ v. Mirrors p v []) (sym (same (record { cells = c.new.result; owners = c.new-2.result }) c.new.ensures c.new-2.ensures)) (mirrors_none p)

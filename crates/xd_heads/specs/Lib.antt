@@ -1,0 +1,9 @@
+pub mod Cells
+pub mod Found
+pub mod Bodies
+pub mod States
+pub mod Compiled
+pub mod CellsView
+pub mod Mirrors
+pub mod Growing
+pub mod HeadList

@@ -1,0 +1,72 @@
+-- The continuations of an automaton's states, and what their flags and their moves are.
+use Rattle.std.specs.Prelude.{◌≡◌, ℕ, ◌≤◌, List, [], ◌∷◌, length, Option, Some, None}
+use Rattle.std.specs.List.{AllByRecursion, slice_get}
+use Rattle.xd_syntax.specs.Tree.{Tree, seq_of}
+use Rattle.xd_syntax.specs.Table.{Row}
+use Rattle.xd_syntax.specs.TypeText.{depth}
+use Rattle.xd_syntax.specs.Shallow.{IsShallow, nesting_limit}
+use Rattle.xd_syntax.specs.CanBeEmpty.{can_be_empty}
+use Rattle.xd_syntax.specs.Program.{names_of}
+use Rattle.xd_syntax.specs.Kept.{ProgramTable, AddsTypes, program_tree}
+use Rattle.xd_auto.specs.Automaton.{Automaton, moves_at, state_number}
+use Rattle.xd_auto.specs.declared.auto.State.{State}
+use Rattle.xd_auto.specs.declared.auto.LabelMove.{LabelMove}
+use Rattle.xd_auto.specs.declared.auto.TextMove.{TextMove}
+use Rattle.xd_laws.specs.Heads.{Head, element_in, text_in, heads}
+use Rattle.xd_continuations.specs.Continuation.{IsContinuation}
+use Rattle.xd_heads.specs.Found.{continuation, AreBounded, AreOfTypes}
+use Rattle.xd_heads.specs.States.{IsOfCell, number_at, nodes_in}
+use Rattle.xd_heads.specs.Compiled.{continuations_of}
+use Rattle.xd_heads.specs.CellsView.{CellsView}
+use Rattle.xd_heads.specs.declared.states.Owner.TheVariants.{Pattern}
+
+abbrev pub as_type : Option (List Tree) → Option Tree
+as_type None = None
+as_type (Some K) = Some (seq_of K)
+
+-- the continuation of a state of a type, as a type
+abbrev pub continuation_of : List Row → CellsView → State → Option Tree
+continuation_of types c s = as_type (continuations_of types c.cells c.owners s)
+
+-- the state is one of a type, or one of a pattern
+abbrev pub IsTypeState : CellsView → State → Type 0
+IsTypeState c s = (n : ℕ) × (number_at c.owners (state_number s) ≡ Some n)
+
+abbrev pub IsPatternState : CellsView → State → Type 0
+IsPatternState c s = (n : ℕ) × (slice_get c.owners (state_number s) ≡ Some (Pattern n))
+
+-- each state of a type stays one, with the same continuation, and each one of a pattern stays one
+pub record KeepsStates (old_types new_types : List Row) (old new : CellsView) : Type 0 where
+  pub types : (s : State) (T : Tree) → continuation_of old_types old s ≡ Some T → continuation_of new_types new s ≡ Some T
+  pub patterns : (s : State) → IsPatternState old s → IsPatternState new s
+
+-- The moves on an element are, in order, the heads that are elements, and those on a text the heads that are texts: each has the head's
+-- class, and leads to states of types whose continuations are the head's content and the head's rest.
+pub data AreHeadMoves (C : State → Option Tree) : List Head → List LabelMove → List TextMove → Type 0 where
+  no_head : AreHeadMoves C [] [] []
+  element_head : {h : Head} {hs : List Head} {l : LabelMove} {ls : List LabelMove} {ts : List TextMove} →
+      h.kind ≡ element_in l.class → C l.content ≡ Some h.content → C l.rest ≡ Some h.rest → AreHeadMoves C hs ls ts → AreHeadMoves C (h ∷ hs) (l ∷ ls) ts
+  text_head : {h : Head} {hs : List Head} {ls : List LabelMove} {t : TextMove} {ts : List TextMove} →
+      h.kind ≡ text_in t.words → C t.rest ≡ Some h.rest → AreHeadMoves C hs ls ts → AreHeadMoves C (h ∷ hs) ls (t ∷ ts)
+
+-- the continuations that are kept are lists of pieces of the program's types, and short enough for the next compilation to end
+pub record AreKeptCells (p : ProgramTable) (c : CellsView) : Type 0 where
+  pub numbers : AllByRecursion (IsOfCell (length c.cells)) c.owners
+  pub nodes : AreOfTypes p.types c.cells
+  pub pieces : (n k : ℕ) → number_at c.owners n ≡ Some k → IsContinuation (continuation p.types c.cells k)
+  pub bounded : AreBounded (names_of (program_tree p)) (nodes_in p.types) p.types c.cells
+
+-- Cells mirror an automaton on a program: each state belongs to the cells, as one of a type or one of a pattern; the
+-- continuation of a state of a type is no deeper than a text may be nested, where the program's types are not; its flag says
+-- whether the continuation can be empty; and its moves are the continuation's heads.
+pub record Mirrors (p : ProgramTable) (c : CellsView) (a : Automaton) : Type 0 where
+  pub owned : length a ≡ length c.owners
+  pub shallow : IsShallow p.types → (s : State) (T : Tree) → continuation_of p.types c s ≡ Some T → depth T ≤ nesting_limit
+  pub flags : (s : State) (T : Tree) → continuation_of p.types c s ≡ Some T → (moves_at a s).last ≡ can_be_empty (names_of (program_tree p)) T
+  pub moves : (s : State) (T : Tree) → continuation_of p.types c s ≡ Some T →
+      AreHeadMoves (continuation_of p.types c) (heads (names_of (program_tree p)) T) (moves_at a s).labels (moves_at a s).texts
+  pub kept : AreKeptCells p c
+
+-- what mirrors an automaton goes on to mirror it while types are added to the program
+abbrev pub MirrorsStay : Type 0
+MirrorsStay = (p q : ProgramTable) (c : CellsView) (a : Automaton) → Mirrors p c a → AddsTypes p q → program_tree q ≡ program_tree p → Mirrors q c a

@@ -1,0 +1,28 @@
+//! What names of types stand for.
+
+ghost use Rattle.std.specs.Prelude.{◌≡◌};
+ghost use Rattle.xd_syntax.specs.TypeNames.{AreNumbered};
+ghost use Rattle.xd_heads.specs.Bodies.{node_of};
+
+use xd_doc::Label;
+use xd_syntax::{TypeDef, TypeNames};
+
+/// The definitions by name, and the node that `Any` stands for.
+#[derive(Drop)]
+pub(crate) struct Bodies {
+    pub names: TypeNames,
+    pub any: usize,
+}
+
+impl Bodies {
+    /// The node that a name stands for.
+    pub(crate) fn find(&self, defs: &[TypeDef], name: &Label) -> Option<usize>
+        requires { AreNumbered self.now.names defs.now }
+        ensures { result ≡ node_of defs.now self.now.any name.now }
+    {
+        if name.as_str() == "Any" {
+            return Some(self.any);
+        }
+        self.names.body(defs, name)
+    }
+}

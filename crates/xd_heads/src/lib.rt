@@ -1,0 +1,16 @@
+//! Heads of types, and types as states of automata.
+#![tactic(auto)]
+
+mod any;
+mod bodies;
+mod cells;
+mod compile;
+mod content;
+mod expand;
+mod listing;
+mod states;
+mod typed;
+mod types;
+
+pub use listing::{Head, HeadKind, heads};
+pub use types::{Cells, compile_type, mirrors_stay};

@@ -1,0 +1,186 @@
+//! Types as states.
+
+ghost use Rattle.std.specs.Prelude.{◌≡◌, ◌<◌, ◌≤◌, ◌↔◌, [], true, List, length, IfOk, OnOk, Some};
+ghost use Rattle.xd_auto.specs.Automaton.{Automaton, Extends, IsState, KeepsAccepting, accepts, state_number};
+ghost use Rattle.xd_auto.specs.declared.auto.State.{State};
+ghost use Rattle.xd_doc.specs.Document.{Document};
+ghost use Rattle.xd_syntax.specs.Fits.{Fits};
+ghost use Rattle.xd_syntax.specs.Kept.{AddsTypes, ProgramTable, program_tree};
+ghost use Rattle.xd_syntax.specs.Program.{names_of};
+ghost use Rattle.xd_syntax.specs.RecursionFaults.{IsSound};
+ghost use Rattle.xd_syntax.specs.Shallow.{IsShallow};
+ghost use Rattle.xd_syntax.specs.Table.{Row, tree_at};
+ghost use Rattle.xd_syntax.specs.Tree.{any_type};
+ghost use Rattle.xd_syntax.specs.TypeNames.{AreNumbered};
+ghost use Rattle.xd_syntax.specs.Emptiness.{AreEmptyMarks};
+ghost use Rattle.xd_syntax.specs.Types.{BelongsTo, tree};
+ghost use Rattle.xd_heads.specs.Compiled.{Spares};
+ghost use Rattle.xd_heads.specs.CellsView.{CellsView, no_cells};
+ghost use Rattle.xd_heads.specs.Mirrors.{IsPatternState, IsTypeState, KeepsStates, Mirrors, MirrorsStay, continuation_of};
+
+use crate::any::meaning_of_any;
+use crate::bodies::Bodies;
+use crate::cells::Interned;
+use crate::compile::compile_node;
+use crate::states::States;
+use crate::typed::continuation_type;
+use std::alloc::Global;
+use std::marker::Model;
+use xd_auto::{Auto, State};
+use xd_doc::NoMemory;
+use xd_syntax::{Known, Program, SoundProgram, TypeId};
+
+/// What the states of an automaton belong to: continuations of types, or patterns.
+///
+/// A continuation is what is still to come of a type: a list of its pieces. Each is kept once, as a piece and an older
+/// continuation, so that recursive types share states.
+#[derive(Drop)]
+pub struct Cells {
+    continuations: Interned,
+    states: States,
+    alloc: Global,
+}
+
+impl Model for Cells {
+    ghost use Rattle.xd_heads.specs.CellsView.{CellsView};
+
+    ghost Value = { CellsView };
+
+    ghost view = { λ c. record { cells = c.continuations; owners = c.states } };
+}
+
+impl Cells {
+    /// Those of an automaton without states. It takes no memory.
+    pub fn new(alloc: Global) -> Self
+        ensures none { result ≡ no_cells }
+        ensures mirrors { (p : ProgramTable) → Mirrors p result [] }
+    {
+        Self {
+            continuations: Interned::new(alloc),
+            states: States::new(alloc),
+            alloc,
+        }
+    }
+
+    /// Takes the states that the automaton has beyond those of the cells as states of a pattern.
+    pub fn own_pattern_states(&mut self, auto: &Auto) -> Result<(), NoMemory>
+        ensures mirrors { OnOk result ((p : ProgramTable) (old : Automaton) → Mirrors p self.old old → Extends old auto.now → Mirrors p self.new auto.now) }
+        ensures patterns { OnOk result ((s : State) → length self.old.owners ≤ state_number s → IsState auto.now s → IsPatternState self.new s) }
+        ensures keeps { (types : List Row) → KeepsStates types types self.old self.new }
+    {
+        self.states.fill(auto.len())?;
+        Ok(())
+    }
+
+    /// The continuation of a state of a type, as a type of the program; types are added to it for that.
+    pub fn state_type(&self, sound: &mut SoundProgram, state: State) -> Result<TypeId, NoMemory>
+        requires mirrors { (a : Automaton) × Mirrors sound.old self.now a }
+        requires state { IsTypeState self.now state }
+        ensures belongs { IfOk result (BelongsTo sound.new.types) }
+        ensures continuation { IfOk result (λ id. continuation_of sound.old.types self.now state ≡ Some (tree sound.new.types id)) }
+        ensures adds { AddsTypes sound.old sound.new }
+        ensures same { program_tree sound.new ≡ program_tree sound.old }
+        ensures shallow { IsShallow sound.old.types → IsShallow sound.new.types }
+    {
+        match self.states.continuation(state.number()) {
+            Some(number) => {
+                let id = continuation_type(self.alloc, sound, &self.continuations, number)?;
+                Ok(id)
+            }
+            None => unreachable!(),
+        }
+    }
+}
+
+/// A state that accepts exactly what fits a type, with all states that it leads to.
+///
+/// States are shared: a continuation that has a state gets no other. It does no recursion, over names or over the parts of a
+/// sequence. Old states keep their flags, their moves in order and what they accept, after want of memory too; then nothing
+/// is known of the cells any more.
+pub fn compile_type(
+    alloc: Global,
+    sound: &mut SoundProgram,
+    cells: &mut Cells,
+    auto: &mut Auto,
+    id: TypeId,
+) -> Result<State, NoMemory>
+    requires belongs { BelongsTo sound.old.types id }
+    requires mirrors { Mirrors sound.old cells.old auto.old }
+    ensures state { IfOk result (IsState auto.new) }
+    ensures accepts { IfOk result (λ state. (d : Document) → (accepts auto.new d state ≡ true) ↔ Fits (names_of (program_tree sound.old)) (tree sound.old.types id) d) }
+    ensures continuation { IfOk result (λ state. continuation_of sound.new.types cells.new state ≡ Some (tree sound.old.types id)) }
+
+    // after want of memory too
+    ensures keeps { KeepsAccepting auto.old auto.new }
+    ensures extends { Extends auto.old auto.new }
+
+    ensures owners { OnOk result (KeepsStates sound.old.types sound.new.types cells.old cells.new) }
+    ensures mirrors { OnOk result (Mirrors sound.new cells.new auto.new) }
+    ensures adds { AddsTypes sound.old sound.new }
+    ensures same { program_tree sound.new ≡ program_tree sound.old }
+    ensures shallow { IsShallow sound.old.types → IsShallow sound.new.types }
+{
+    let _states = auto.len();
+    let any = meaning_of_any(alloc, sound)?;
+    let Known { names, empty_marks } = sound.take_known()?;
+    let bodies = Bodies {
+        names,
+        any: any.at(),
+    };
+    let state = compile_in(
+        alloc,
+        sound.program(),
+        &bodies,
+        &empty_marks,
+        id,
+        cells,
+        auto,
+    )?;
+    let Bodies { names, any: _ } = bodies;
+    sound.give_back(Known { names, empty_marks });
+    Ok(state)
+}
+
+/// The same for a program whose names and marks are known.
+fn compile_in(
+    alloc: Global,
+    program: &Program,
+    bodies: &Bodies,
+    marks: &[bool],
+    id: TypeId,
+    cells: &mut Cells,
+    auto: &mut Auto,
+) -> Result<State, NoMemory>
+    requires sound { IsSound (program_tree program.now) }
+    requires numbered { AreNumbered bodies.now.names program.now.type_defs }
+    requires any { bodies.now.any < length program.now.types }
+    requires any_type { tree_at program.now.types bodies.now.any ≡ any_type }
+    requires marks { AreEmptyMarks program.now.types program.now.type_defs marks.now }
+    requires belongs { BelongsTo program.now.types id }
+    requires mirrors { Mirrors program.now cells.old auto.old }
+    ensures accepts { IfOk result (λ state. (d : Document) → (accepts auto.new d state ≡ true) ↔ Fits (names_of (program_tree program.now)) (tree program.now.types id) d) }
+    ensures continuation { IfOk result (λ state. continuation_of program.now.types cells.new state ≡ Some (tree program.now.types id)) }
+    ensures spares { Spares (length auto.old) auto.old auto.new }
+    ensures owners { OnOk result (KeepsStates program.now.types program.now.types cells.old cells.new) }
+    ensures mirrors { OnOk result (Mirrors program.now cells.new auto.new) }
+{
+    let types = program.types();
+    types.see_table();
+    let state = compile_node(
+        alloc,
+        types,
+        program.type_defs(),
+        bodies,
+        marks,
+        id,
+        &mut cells.continuations,
+        &mut cells.states,
+        auto,
+    )?;
+    Ok(state)
+}
+
+/// What mirrors an automaton goes on to mirror it while types are added to the program.
+pub fn mirrors_stay()
+    ensures { MirrorsStay }
+{}
