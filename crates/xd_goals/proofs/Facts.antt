@@ -1,0 +1,153 @@
+-- The facts of a table, while it grows and while goals come to hold, to be refuted and to wait.
+use Rattle.std.proofs.Common.{ℕ, ◌<◌, ◌≡◌, Bool, true, false, List, [], ◌∷◌, length, ⊎_elim, sym, ap, subst, ◌∙◌, arith}
+use Rattle.std.specs.List.{AllByRecursion}
+use Rattle.std.specs.BTreeMap.{BTreeMap}
+use Rattle.std.proofs.lemmas.Bool.{cases_lt}
+use Rattle.xd_doc.specs.Document.{Document}
+use Rattle.xd_doc.specs.Stored.{Keeps}
+use Rattle.xd_doc.specs.declared.store.Seq.{Seq}
+use Rattle.xd_auto.specs.declared.auto.State.{State}
+use Rattle.xd_auto.specs.Automaton.{Automaton}
+use Rattle.xd_rules.specs.declared.atom.Atom.{Atom}
+use Rattle.xd_rules.specs.Heads.{Head, is_text_atom}
+use Rattle.xd_rules.specs.Meaning.{Separates}
+use Rattle.xd_rules.specs.Rules.{Claim, ChoiceTree, AllLeaves}
+use Rattle.xd_goals.specs.Moves.{Accepts, claim_with}
+use Rattle.xd_goals.specs.Rows.{GoalRow, TableView, row_at, claim_of, claim_key, no_view, IsRefuted, RowsBelow}
+use Rattle.xd_goals.specs.Kept.{GrowsBy, IsIndexed, found_at}
+use Rattle.xd_goals.specs.Trees.{IsTreeBySort}
+use Rattle.xd_goals.specs.Standing.{ChoiceStands, IsBegun, IsCaseTree, IsOpen, IsSeparatedBy, RowHolds, StandsOn, KeepsGoals, task_for, claim_sides}
+use Rattle.xd_goals.specs.declared.table.Choice.{Choice}
+use Rattle.xd_goals.specs.declared.table.Standing.TheVariants.{Holds, Refuted}
+use Rattle.xd_goals.proofs.Lists.{all_map}
+use Rattle.xd_goals.proofs.Growing.{past_is_new}
+use Rattle.xd_goals.proofs.Trees.{AllLeaves-map, StandsAt-more, StandsAt-one, HasTree-grows, IsGrown-grows, IsTextTree-grows, standing-grows, choices-grows, open-grows}
+
+pub case_tree-grows : {A : List State → Type 0} (a : Automaton) (t u : TableView) → GrowsBy A t u → (owner : ℕ) (c : Claim State) (h : Head State) (atom : Atom) (tree : ChoiceTree)
+    → IsCaseTree a t.rows owner c h atom tree → IsCaseTree a u.rows owner c h atom tree
+case_tree-grows a t u g owner c h atom tree k = go (is_text_atom atom) k
+  where
+    go : (b : Bool) → IsTreeBySort b t.rows (task_for a owner h) (claim_sides a c atom) tree → IsTreeBySort b u.rows (task_for a owner h) (claim_sides a c atom) tree
+    go true x = IsTextTree-grows t u g (task_for a owner h) (claim_sides a c atom) tree x
+    go false x = IsGrown-grows t u g (task_for a owner h) (claim_sides a c atom) tree [] [] 0 x
+
+pub choice-grows : {A : List State → Type 0} (a : Automaton) (t u : TableView) → GrowsBy A t u → (owner : ℕ) (c : Claim State) (k : Choice) → ChoiceStands a t owner c k → ChoiceStands a u owner c k
+choice-grows a t u g owner c k h = record {
+  head = h.head;
+  found = h.found;
+  matched = h.matched;
+  has = HasTree-grows t u g (IsCaseTree a t.rows owner c h.head k.atom) (IsCaseTree a u.rows owner c h.head k.atom) (λ tree x. case_tree-grows a t u g owner c h.head k.atom tree x) owner k.root h.has;
+}
+
+-- a choice that is open stays open
+pub open_choice-grows : {A : List State → Type 0} (a : Automaton) (t u : TableView) → GrowsBy A t u → (owner : ℕ) (c : Claim State) (k : Choice) → ChoiceStands a t owner c k → IsOpen t k → IsOpen u k
+open_choice-grows a t u g owner c k h o tree s =
+    let there = StandsAt-more t.nodes u.nodes g.nodes h.has.tree k.root h.has.stands in
+    let same : h.has.tree ≡ tree = StandsAt-one u.nodes h.has.tree tree k.root there s in
+    subst (λ (w : ChoiceTree). AllLeaves (λ n. ¬ (IsRefuted u.rows n)) w) same
+    (AllLeaves-map (λ n. ¬ (IsRefuted t.rows n)) (λ n. ¬ (IsRefuted u.rows n)) (λ n x. open-grows t u g n x) h.has.tree (o h.has.tree h.has.stands))
+
+pub all_both : {X : Type 0} (P Q R : X → Type 0) (xs : List X) → ((x : X) → P x → Q x → R x) → AllByRecursion P xs → AllByRecursion Q xs → AllByRecursion R xs
+all_both P Q R [] f h k = tt
+all_both P Q R (x ∷ xs) f h k = (f x h.0 k.0, all_both P Q R xs f h.1 k.1)
+
+-- no two goals are alike, since the map tells them apart
+pub unlike_index : (found : BTreeMap (List ℕ) ℕ) (rows : List GoalRow) → IsIndexed found rows → (i j : ℕ) → i < length rows → j < length rows → claim_of (row_at rows i) ≡ claim_of (row_at rows j) → i ≡ j
+unlike_index found rows h i j li lj e =
+    let x = h.all i li in
+    let y = h.all j lj in
+    let same = ap (λ (c : Claim State). found_at found (claim_key c)) e in
+    cc
+
+pub claim-grows : {A : List State → Type 0} (t u : TableView) → GrowsBy A t u → (i : ℕ) → i < length t.rows → claim_of (row_at u.rows i) ≡ claim_of (row_at t.rows i)
+claim-grows t u g i lt = let k = g.kept i lt in
+    ap (λ (s : State). claim_with s (row_at u.rows i).rights) k.left ∙ ap (λ (ss : List State). claim_with (row_at t.rows i).left ss) k.rights
+
+-- of a goal that was not there nothing is known
+module _ {A : List State → Type 0} (a : Automaton) (ds : List Document) (t u : TableView) (g : GrowsBy A t u) where
+  refuted_there : (i : ℕ) (seq : Seq) → (row_at t.rows i).standing ≡ Refuted seq → i < length t.rows
+  refuted_there i seq e = ⊎_elim (λ lt. lt) (λ ge. let w = (past_is_new t.rows i ge).standing in absurd (cc)) (cases_lt i (length t.rows))
+
+  holds_there : (i : ℕ) → (row_at t.rows i).standing ≡ Holds → i < length t.rows
+  holds_there i e = ⊎_elim (λ lt. lt) (λ ge. let w = (past_is_new t.rows i ge).standing in absurd (cc)) (cases_lt i (length t.rows))
+
+  choices_at : StandsOn a ds t → (i : ℕ) → AllByRecursion (ChoiceStands a u i (claim_of (row_at u.rows i))) (row_at u.rows i).choices
+  choices_at h i = ⊎_elim
+      (λ lt. subst (λ (ks : List Choice). AllByRecursion (ChoiceStands a u i (claim_of (row_at u.rows i))) ks) (sym (choices-grows t u g i))
+      (subst (λ (c : Claim State). AllByRecursion (ChoiceStands a u i c) (row_at t.rows i).choices) (sym (claim-grows t u g i lt))
+      (all_map (ChoiceStands a t i (claim_of (row_at t.rows i))) (ChoiceStands a u i (claim_of (row_at t.rows i))) (row_at t.rows i).choices
+      (λ k x. choice-grows a t u g i (claim_of (row_at t.rows i)) k x) (h.choices i))))
+      (λ ge. subst (λ (ks : List Choice). AllByRecursion (ChoiceStands a u i (claim_of (row_at u.rows i))) ks) (sym (g.added i ge).choices) tt)
+      (cases_lt i (length t.rows))
+
+  row_holds : StandsOn a ds t → (i : ℕ) → (row_at t.rows i).standing ≡ Holds → RowHolds a u (claim_of (row_at t.rows i)) (row_at t.rows i).choices
+  row_holds h i e = let r = h.holds i e in record {
+    begun = r.begun;
+    opens = all_both (ChoiceStands a t i (claim_of (row_at t.rows i))) (IsOpen t) (IsOpen u) (row_at t.rows i).choices
+        (λ k x o. open_choice-grows a t u g i (claim_of (row_at t.rows i)) k x o) (h.choices i) r.opens;
+  }
+
+  begun_at : StandsOn a ds t → (i : ℕ) → ¬ ((row_at u.rows i).choices ≡ []) → IsBegun a (claim_of (row_at u.rows i)) (row_at u.rows i).choices
+  begun_at h i n = ⊎_elim
+      (λ lt. subst (λ (ks : List Choice). IsBegun a (claim_of (row_at u.rows i)) ks) (sym (choices-grows t u g i))
+      (subst (λ (c : Claim State). IsBegun a c (row_at t.rows i).choices) (sym (claim-grows t u g i lt)) (h.begun i (λ e. n (choices-grows t u g i ∙ e)))))
+      (λ ge. absurd (n (g.added i ge).choices))
+      (cases_lt i (length t.rows))
+
+  pub stands-grows : RowsBelow (length a) u.rows → ((i j : ℕ) → i < length u.rows → j < length u.rows → claim_of (row_at u.rows i) ≡ claim_of (row_at u.rows j) → i ≡ j)
+      → StandsOn a ds t → StandsOn a ds u
+  stands-grows states unlike h = record {
+    states = states;
+    unlike = unlike;
+    refuted = λ i seq e.
+        let was = sym (standing-grows t u g i) ∙ e in
+        subst (λ (c : Claim State). IsSeparatedBy a ds c seq) (sym (claim-grows t u g i (refuted_there i seq was))) (h.refuted i seq was);
+    choices = choices_at h;
+    begun = begun_at h;
+    holds = λ i e.
+        let was = sym (standing-grows t u g i) ∙ e in
+        subst (λ (ks : List Choice). RowHolds a u (claim_of (row_at u.rows i)) ks) (sym (choices-grows t u g i))
+        (subst (λ (c : Claim State). RowHolds a u c (row_at t.rows i).choices) (sym (claim-grows t u g i (holds_there i was))) (row_holds h i was));
+  }
+
+pub keeps_goals-grows : {A : List State → Type 0} (t u : TableView) → GrowsBy A t u → KeepsGoals t u
+keeps_goals-grows t u g = record {
+  longer = g.longer;
+  claims = λ i lt. claim-grows t u g i lt;
+  refuted = λ i seq e. standing-grows t u g i ∙ e;
+}
+
+pub keeps_goals-then : (t u w : TableView) → KeepsGoals t u → KeepsGoals u w → KeepsGoals t w
+keeps_goals-then t u w h k = record {
+  longer = omega (arith, h.longer, k.longer);
+  claims = λ i lt. k.claims i (omega (arith, h.longer)) ∙ h.claims i lt;
+  refuted = λ i seq e. k.refuted i seq (h.refuted i seq e);
+}
+
+-- the store grows
+pub keeps-then : (ds es fs : List Document) → Keeps ds es → Keeps es fs → Keeps ds fs
+keeps-then ds es fs h k = record { belongs = λ s b. k.belongs s (h.belongs s b); same = λ s b. k.same s (h.belongs s b) ∙ h.same s b }
+
+pub stands-keeps : (a : Automaton) (ds es : List Document) (t : TableView) → Keeps ds es → StandsOn a ds t → StandsOn a es t
+stands-keeps a ds es t k h = record {
+  states = h.states;
+  unlike = h.unlike;
+  choices = h.choices;
+  begun = h.begun;
+  holds = h.holds;
+  refuted = λ i seq e. let s = h.refuted i seq e in record {
+    belongs = k.belongs seq s.belongs;
+    separates = subst (λ (d : Document). Separates (Accepts a) (claim_of (row_at t.rows i)) d) (sym (k.same seq s.belongs)) s.separates;
+  };
+}
+
+-- a table with no goal
+pub stands-none : (a : Automaton) (ds : List Document) → StandsOn a ds no_view
+stands-none a ds = record {
+  states = record { each = λ i lt. absurd (omega arith) };
+  unlike = λ i j li lj e. absurd (omega arith);
+  refuted = λ i seq e. let w = (past_is_new [] i (omega arith)).standing in absurd (cc);
+  choices = λ i. subst (λ (ks : List Choice). AllByRecursion (ChoiceStands a no_view i (claim_of (row_at [] i))) ks) (sym (past_is_new [] i (omega arith)).choices) tt;
+  begun = λ i n. absurd (n (past_is_new [] i (omega arith)).choices);
+  holds = λ i e. let w = (past_is_new [] i (omega arith)).standing in absurd (cc);
+}

@@ -1,0 +1,202 @@
+-- What a step of work does to a table.
+use Rattle.std.proofs.Common.{ℕ, ◌+◌, ◌<◌, ◌≤◌, ◌≡◌, true, List, [], ◌∷◌, ◌++◌, length, set, length-set, Option, Some, get_or-set_other, ⊎_elim, sym, refl, ap, subst, ◌∙◌, arith}
+use Rattle.std.specs.List.{AllByRecursion, list_any}
+use Rattle.std.specs.BTreeMap.{BTreeMap}
+use Rattle.std.proofs.lemmas.Bool.{cases_eq}
+use Rattle.xd_doc.specs.Document.{Document}
+use Rattle.xd_doc.specs.Stored.{IsBelow, Keeps}
+use Rattle.xd_doc.specs.declared.store.Seq.{Seq}
+use Rattle.xd_auto.specs.declared.auto.State.{State}
+use Rattle.xd_auto.specs.Automaton.{Automaton}
+use Rattle.xd_rules.specs.Rules.{Claim}
+use Rattle.xd_goals.specs.Moves.{claim_with, is_last_in}
+use Rattle.xd_goals.specs.Rows.{GoalRow, TableView, no_row, claim_at, claim_of, claim_key, row_at}
+use Rattle.xd_goals.specs.Kept.{AreLinked, Grows, GrowsBy, IsConsistent, IsIndexed, IsWhole, Refutes, found_at, view_of}
+use Rattle.xd_goals.specs.Standing.{ChoiceStands, IsSeparatedBy, KeepsGoals, RowHolds, StandsOn}
+use Rattle.xd_goals.specs.Cases.{AreSettled}
+use Rattle.xd_goals.specs.Measure.{AreMadeFrom, Lowers, possible}
+use Rattle.xd_goals.specs.Reached.{HasTreeWithin, HaveTreesWithin, IsSettled, IsWaitingIn}
+use Rattle.xd_goals.specs.Truth.{IsIncluded}
+use Rattle.xd_goals.specs.Verdicts.{IsGoalBelow, IsProved}
+use Rattle.xd_goals.specs.declared.goals.Goals.{Goals}
+use Rattle.xd_goals.specs.declared.table.GoalId.{GoalId}
+use Rattle.xd_goals.specs.declared.table.Choice.{Choice}
+use Rattle.xd_goals.specs.declared.table.ChoiceNode.{ChoiceNode}
+use Rattle.xd_goals.specs.declared.table.Link.{Link}
+use Rattle.xd_goals.specs.declared.table.Standing.TheVariants.{Holds, Refuted, Waiting}
+use Rattle.xd_goals.proofs.Facts.{keeps_goals-grows, keeps_goals-then, claim-grows, stands-grows, unlike_index}
+use Rattle.xd_goals.proofs.Settling.{SameGoals, hold_same, refutes_same, stands-held, stands-refuted}
+use Rattle.xd_goals.proofs.Measuring.{rows_bound, lowers-grown, lowers-held, lowers-refuted, made-grows, made-then}
+use Rattle.xd_goals.proofs.Working.{leaves_there, settled_holds, settled_stands}
+use Rattle.xd_goals.proofs.Growing.{claim_at-is, claim_within}
+use Rattle.xd_goals.proofs.Lists.{all_map}
+use Rattle.xd_goals.proofs.Verdicts.{settled_is_included}
+
+-- a goal was settled, and the facts stay
+pub record IsStep (a : Automaton) (es : List Document) (old new : TableView) : Type 0 where
+  pub stands : StandsOn a es new
+  pub kept : KeepsGoals old new
+  pub made : AreMadeFrom (length old.rows) new.rows
+  pub lowers : Lowers old.rows new.rows
+
+-- after the table grew
+pub step_grown : (a : Automaton) (es : List Document) (s t u : TableView) → Grows s t → IsStep a es t u → IsStep a es s u
+step_grown a es s t u g h = record {
+  stands = h.stands;
+  kept = keeps_goals-then s t u (keeps_goals-grows s t g) h.kept;
+  made = made-then (length s.rows) t u h.kept (made-grows s t g) h.made;
+  lowers = lowers-grown s t u.rows g h.lowers;
+}
+
+-- goals that are the same have the same index and the same lists
+pub whole_same : (old new : List GoalRow) (links : List Link) (found : BTreeMap (List ℕ) ℕ) → SameGoals old new → IsIndexed found old → AreLinked old links → IsIndexed found new × AreLinked new links
+whole_same old new links found same index linked = (
+  record {
+    all = λ i lt. ap (λ (c : Claim State). found_at found (claim_key c)) (same.claims i) ∙ index.all i (omega (arith, same.count));
+    only = λ q i f. let o = index.only q i f in (omega (arith, same.count, o.0), ap claim_key (same.claims i) ∙ o.1);
+  },
+  record {
+    first = λ i. subst (λ (o : Option ℕ). IsBelow (length links) o) (sym (same.dependents i)) (linked.first i);
+    next = linked.next;
+    goals = λ k l at. omega (arith, same.count, linked.goals k l at);
+  },
+)
+
+pub none_made : (old new : List GoalRow) → SameGoals old new → AreMadeFrom (length old) new
+none_made old new same i le lt = absurd (omega (arith, same.count))
+
+-- a goal is refuted
+module _ (a : Automaton) (ds : List Document) (old new : List GoalRow) (nodes : List ChoiceNode) (links : List Link) (goal : ℕ) (seq : Seq) (lt : goal < length old) (waits : (row_at old goal).standing ≡ Waiting)
+    (r : Refutes links goal seq old new) where
+  pub same_refuted : SameGoals old new
+  same_refuted = refutes_same a ds old new nodes links goal seq r
+
+  pub step_refuted : IsSeparatedBy a ds (claim_of (row_at old goal)) seq → StandsOn a ds (record { rows = old; nodes = nodes; links = links })
+      → IsStep a ds (record { rows = old; nodes = nodes; links = links }) (record { rows = new; nodes = nodes; links = links })
+  step_refuted doc h = record {
+    stands = stands-refuted a ds old new nodes links goal seq r doc h;
+    kept = record {
+      longer = omega (arith, r.count);
+      claims = λ i l. (refutes_same a ds old new nodes links goal seq r).claims i;
+      refuted = λ i s e. refuted_stays i s e;
+    };
+    made = none_made old new (refutes_same a ds old new nodes links goal seq r);
+    lowers = lowers-refuted links goal seq old new lt waits r;
+  }
+    where
+      refuted_stays : (i : ℕ) (s : Seq) → (row_at old i).standing ≡ Refuted s → (row_at new i).standing ≡ Refuted s
+      refuted_stays i s e = ⊎_elim
+          (λ q. let both = ap (λ (k : ℕ). (row_at old k).standing) q in absurd (cc))
+          (λ ne. ⊎_elim (λ k. k ∙ e) (λ x. let w = x.0 in absurd (cc)) (r.others i ne))
+          (cases_eq i goal)
+
+-- a goal comes to hold
+module _ (a : Automaton) (ds : List Document) (old : List GoalRow) (nodes : List ChoiceNode) (links : List Link) (goal : ℕ) (made : List Choice) (lt : goal < length old) (waits : (row_at old goal).standing ≡ Waiting) where
+  abbrev pub held_rows : List GoalRow
+  held_rows = set old goal (record (row_at old goal) { standing = Holds; choices = made })
+
+  pub same_held : SameGoals old (set old goal (record (row_at old goal) { standing = Holds; choices = made }))
+  same_held = hold_same a ds old nodes links goal made lt waits
+
+  pub step_held : AllByRecursion (ChoiceStands a (record { rows = old; nodes = nodes; links = links }) goal (claim_of (row_at old goal))) made
+      → RowHolds a (record { rows = old; nodes = nodes; links = links }) (claim_of (row_at old goal)) made
+      → StandsOn a ds (record { rows = old; nodes = nodes; links = links })
+      → IsStep a ds (record { rows = old; nodes = nodes; links = links }) (record { rows = set old goal (record (row_at old goal) { standing = Holds; choices = made }); nodes = nodes; links = links })
+  step_held stand holds h = record {
+    stands = stands-held a ds old nodes links goal made lt waits stand holds h;
+    kept = record {
+      longer = omega (arith, length-set old goal (record (row_at old goal) { standing = Holds; choices = made }));
+      claims = λ i l. (hold_same a ds old nodes links goal made lt waits).claims i;
+      refuted = λ i s e. refuted_stays i s e;
+    };
+    made = none_made old (set old goal (record (row_at old goal) { standing = Holds; choices = made })) (hold_same a ds old nodes links goal made lt waits);
+    lowers = lowers-held old goal made lt waits;
+  }
+    where
+      refuted_stays : (i : ℕ) (s : Seq) → (row_at old i).standing ≡ Refuted s → (row_at (set old goal (record (row_at old goal) { standing = Holds; choices = made })) i).standing ≡ Refuted s
+      refuted_stays i s e = ⊎_elim
+          (λ q. let both = ap (λ (k : ℕ). (row_at old k).standing) q in absurd (cc))
+          (λ ne. ap (λ (row : GoalRow). row.standing) (get_or-set_other old goal i (record (row_at old goal) { standing = Holds; choices = made }) no_row ne) ∙ e)
+          (cases_eq i goal)
+
+-- the facts while the table grew
+pub stands_grown : {A : List State → Type 0} (a : Automaton) (ds : List Document) (g h : Goals) → GrowsBy A (view_of g) (view_of h) → IsConsistent (length a) h → StandsOn a ds (view_of g) → StandsOn a ds (view_of h)
+stands_grown a ds g h grows k s = stands-grows a ds (view_of g) (view_of h) grows k.states (unlike_index h.found h.rows.items k.index) s
+
+-- a goal's claim while the table grew
+pub owner_claim : (s t : TableView) → Grows s t → (i : ℕ) (c : Claim State) → i < length s.rows → claim_of (row_at s.rows i) ≡ c → claim_of (row_at t.rows i) ≡ c
+owner_claim s t g i c lt e = claim-grows s t g i lt ∙ e
+
+-- the goal that a step worked on, by what settled it
+pub held_by : (a : Automaton) (ds : List Document) (t : TableView) (goal : ℕ) (c : Claim State) (made : List Choice) → goal < length t.rows → (row_at t.rows goal).standing ≡ Waiting → claim_of (row_at t.rows goal) ≡ c
+    → (is_last_in a c.left ≡ true → list_any (is_last_in a) c.rights ≡ true) → AreSettled a t goal c made → StandsOn a ds t
+    → IsStep a ds t (record { rows = set t.rows goal (record (row_at t.rows goal) { standing = Holds; choices = made }); nodes = t.nodes; links = t.links })
+held_by a ds t goal c made lt waits e last h stands =
+    step_held a ds t.rows t.nodes t.links goal made lt waits
+    (subst (λ (x : Claim State). AllByRecursion (ChoiceStands a t goal x) made) (sym e) (settled_stands a t goal c made h))
+    (subst (λ (x : Claim State). RowHolds a t x made) (sym e) (settled_holds a t goal c made last h))
+    stands
+
+-- a table has no more goals than its first ones and the possible ones
+pub bounded : (a : Automaton) (ds : List Document) (first : ℕ) (t : TableView) → StandsOn a ds t → AreMadeFrom first t.rows → first ≤ length t.rows → length t.rows ≤ first + length (possible (length a))
+bounded a ds first t h made le = rows_bound (length a) first t.rows h.states h.unlike made le
+
+-- the asked goal was found or added
+module _ {A : List State → Type 0} (a : Automaton) (ds : List Document) (g h : Goals) (grows : GrowsBy A (view_of g) (view_of h)) (consistent : IsConsistent (length a) h) (stands : StandsOn a ds (view_of g)) where
+  pub asked_stands : StandsOn a ds (view_of h)
+  asked_stands = stands_grown a ds g h grows consistent stands
+
+  pub asked_kept : KeepsGoals (view_of g) (view_of h)
+  asked_kept = keeps_goals-grows (view_of g) (view_of h) grows
+
+pub whole_of : (n : ℕ) (g : Goals) → IsConsistent n g → IsWhole g
+whole_of n g h = record { index = h.index; links = h.links }
+
+pub none_added : (rows : List GoalRow) → AreMadeFrom (length rows) rows
+none_added rows i le lt = absurd (omega arith)
+
+pub keeps-same : (ds : List Document) → Keeps ds ds
+keeps-same ds = record { belongs = λ s b. b; same = λ s b. refl }
+
+-- trees of a table that stands name goals that are there
+pub trees_there : (a : Automaton) (ds : List Document) (t : TableView) → StandsOn a ds t → (i : ℕ) → HaveTreesWithin t.nodes (length t.rows) (row_at t.rows i).choices
+trees_there a ds t h i =
+    all_map (ChoiceStands a t i (claim_of (row_at t.rows i))) (λ (k : Choice). HasTreeWithin t.nodes (length t.rows) k.root) (row_at t.rows i).choices
+    (λ k x. leaves_there a t i (claim_of (row_at t.rows i)) k x) (h.choices i)
+
+-- what the asked goal's standing says
+pub asked_separated : (a : Automaton) (ds : List Document) (t : TableView) (goal : ℕ) (c : Claim State) (seq : Seq) → StandsOn a ds t → claim_at t.rows goal ≡ Some c → (row_at t.rows goal).standing ≡ Refuted seq → IsSeparatedBy a ds c seq
+asked_separated a ds t goal c seq h e r = subst (λ (x : Claim State). IsSeparatedBy a ds x seq) (claim_within t.rows goal c e).1 (h.refuted goal seq r)
+
+pub asked_included : (a : Automaton) (ds : List Document) (t : TableView) (goal : ℕ) (left : State) (rights : List State) → StandsOn a ds t → claim_at t.rows goal ≡ Some (claim_with left rights) → IsSettled t goal
+    → IsIncluded a left rights × IsProved t left rights goal
+asked_included a ds t goal left rights h e s =
+    (settled_is_included a ds t h goal s left rights e, record { there = (claim_within t.rows goal (claim_with left rights) e).0; claim = e; holds = s.holds goal s.start; settled = s })
+
+-- the asked goal's claim stays
+pub claim_stays : (s t : TableView) → KeepsGoals s t → (goal : ℕ) (c : Claim State) → claim_at s.rows goal ≡ Some c → claim_at t.rows goal ≡ Some c
+claim_stays s t k goal c e =
+    let w = claim_within s.rows goal c e in
+    claim_at-is t.rows goal (omega (arith, k.longer, w.0)) ∙ ap Some (k.claims goal w.0 ∙ w.1)
+
+-- goals that wait are there
+pub waiting_below : (rows : List GoalRow) (gs : List GoalId) → AllByRecursion (IsWaitingIn rows) gs → AllByRecursion (IsGoalBelow (length rows)) gs
+waiting_below rows gs h = all_map (IsWaitingIn rows) (IsGoalBelow (length rows)) gs (λ g x. x.there) h
+
+-- the last one of a list, and those before it
+pub all_before : {X : Type 0} (P : X → Type 0) (xs ys : List X) (x : X) → ys ≡ xs ++ x ∷ [] → AllByRecursion P ys → AllByRecursion P xs × P x
+all_before {X} P xs ys x e h = split xs (subst (AllByRecursion P) e h)
+  where
+    split : (zs : List X) → AllByRecursion P (zs ++ x ∷ []) → AllByRecursion P zs × P x
+    split [] k = (tt, k.0)
+    split (z ∷ zs) k = next k.0 (split zs k.1)
+      where
+        next : P z → AllByRecursion P zs × P x → AllByRecursion P (z ∷ zs) × P x
+        next p q = ((p, q.0), q.1)
+
+pub keeps_goals-same : (t : TableView) → KeepsGoals t t
+keeps_goals-same t = record { longer = omega arith; claims = λ i lt. refl; refuted = λ i s e. e }
+
+pub no_length : {X : Type 0} (xs : List X) → length xs ≡ 0 → xs ≡ []
+no_length [] e = refl
+no_length (x ∷ xs) e = absurd (omega arith)

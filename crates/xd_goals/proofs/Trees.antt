@@ -1,0 +1,342 @@
+-- Choice trees while a table grows.
+use Rattle.std.proofs.Common.{ℕ, suc, ◌+◌, ◌<◌, ◌≤◌, ◌≡◌, ◌⊎◌, Bool, true, false, cond, nat_eq, nat_lt, List, [], ◌∷◌, length, Option, Some, inl, inr, ⊎_elim, refl, sym, ap, ◌∙◌, subst, arith}
+use Rattle.std.specs.List.{slice_get, AllByRecursion}
+use Rattle.std.proofs.lemmas.Bool.{cases_lt, cases_eq}
+use Rattle.std.proofs.lemmas.Option.{slice_get_within}
+use Rattle.xd_doc.specs.declared.store.Seq.{Seq}
+use Rattle.xd_auto.specs.declared.auto.State.{State}
+use Rattle.xd_rules.specs.Members.{IsOneOf}
+use Rattle.xd_rules.specs.Rules.{Claim, ChoiceTree, ContentLeaf, RestLeaf, SplitOn, AllLeaves}
+use Rattle.xd_goals.specs.Moves.{AreBelow, IsInOrder, RiseFrom, claim_with, with_state}
+use Rattle.xd_goals.specs.Rows.{GoalRow, TableView, row_at, claim_at, IsListed, IsRefuted}
+use Rattle.xd_goals.specs.Kept.{Grows, GrowsBy}
+use Rattle.xd_goals.specs.Trees.{StandsAt, IsGrown, IsTextTree, HasTree, HasOpenTree, IsRefutedBy, ArePlaced, IsFailure, IsLeafFor, IsPathBelow, IsSplitAt, GrownAs, gathered}
+use Rattle.xd_goals.specs.declared.table.ChoiceNode.{ChoiceNode}
+use Rattle.xd_goals.specs.declared.table.ChoiceNode.TheVariants.{Split, Content, Rest}
+use Rattle.xd_goals.specs.declared.table.Standing.{Standing}
+use Rattle.xd_goals.specs.declared.table.Standing.TheVariants.{Holds, Refuted, Waiting}
+use Rattle.xd_goals.specs.declared.table.GoalId.{GoalId}
+use Rattle.xd_goals.specs.declared.heads.Side.{Side}
+use Rattle.xd_goals.specs.declared.grow.Task.{Task}
+use Rattle.xd_goals.specs.declared.grow.Grown.{Grown}
+use Rattle.xd_goals.specs.declared.grow.Grown.TheVariants.{Stands, Fails}
+use Rattle.std.proofs.lemmas.Bool.Decides.{Decides-eqb, Decides-ltb}
+use Rattle.xd_goals.proofs.Lists.{all_at}
+use Rattle.xd_goals.proofs.Growing.{claim_at-grows, past_is_new}
+
+pub AllLeaves-map : (P Q : ℕ → Type 0) → ((g : ℕ) → P g → Q g) → (tree : ChoiceTree) → AllLeaves P tree → AllLeaves Q tree
+AllLeaves-map P Q f (ContentLeaf g) h = f g h
+AllLeaves-map P Q f (RestLeaf g) h = f g h
+AllLeaves-map P Q f (SplitOn j a b) h = (AllLeaves-map P Q f a h.0, AllLeaves-map P Q f b h.1)
+
+pub StandsAt-more : (nodes nodes2 : List ChoiceNode) → ((n : ℕ) (x : ChoiceNode) → slice_get nodes n ≡ Some x → slice_get nodes2 n ≡ Some x)
+    → (tree : ChoiceTree) (n : ℕ) → StandsAt nodes n tree → StandsAt nodes2 n tree
+StandsAt-more nodes nodes2 f (ContentLeaf g) n h = f n (Content (record { number = g })) h
+StandsAt-more nodes nodes2 f (RestLeaf g) n h = f n (Rest (record { number = g })) h
+StandsAt-more nodes nodes2 f (SplitOn j a b) n h =
+    (h.0, h.1, f n (Split j h.0 h.1) h.2, h.3, h.4, StandsAt-more nodes nodes2 f a h.0 h.5, StandsAt-more nodes nodes2 f b h.1 h.6)
+
+content_one : (o : Option ChoiceNode) (g k : ℕ) → o ≡ Some (Content (record { number = g })) → o ≡ Some (Content (record { number = k })) → g ≡ k
+content_one o g k e f =
+    ap number_in (sym e ∙ f)
+  where
+    number_in : Option ChoiceNode → ℕ
+    number_in (Some (Content x)) = x.number
+    number_in _ = 0
+
+rest_one : (o : Option ChoiceNode) (g k : ℕ) → o ≡ Some (Rest (record { number = g })) → o ≡ Some (Rest (record { number = k })) → g ≡ k
+rest_one o g k e f = ap number_in (sym e ∙ f)
+  where
+    number_in : Option ChoiceNode → ℕ
+    number_in (Some (Rest x)) = x.number
+    number_in _ = 0
+
+-- one tree stands at a node at most
+pub StandsAt-one : (nodes : List ChoiceNode) (s t : ChoiceTree) (n : ℕ) → StandsAt nodes n s → StandsAt nodes n t → s ≡ t
+StandsAt-one nodes (ContentLeaf g) (ContentLeaf k) n h i = ap ContentLeaf (content_one (slice_get nodes n) g k h i)
+StandsAt-one nodes (ContentLeaf g) (RestLeaf k) n h i = absurd (cc)
+StandsAt-one nodes (ContentLeaf g) (SplitOn k a b) n h i = let e = i.2 in absurd (cc)
+StandsAt-one nodes (RestLeaf g) (ContentLeaf k) n h i = absurd (cc)
+StandsAt-one nodes (RestLeaf g) (RestLeaf k) n h i = ap RestLeaf (rest_one (slice_get nodes n) g k h i)
+StandsAt-one nodes (RestLeaf g) (SplitOn k a b) n h i = let e = i.2 in absurd (cc)
+StandsAt-one nodes (SplitOn j c d) (ContentLeaf k) n h i = let e = h.2 in absurd (cc)
+StandsAt-one nodes (SplitOn j c d) (RestLeaf k) n h i = let e = h.2 in absurd (cc)
+StandsAt-one nodes (SplitOn j c d) (SplitOn k a b) n h i =
+    let p = h.2 in let q = i.2 in
+    let jk : j ≡ k = cc in
+    let xs : h.0 ≡ i.0 = cc in
+    let ys : h.1 ≡ i.1 = cc in
+    let ca = StandsAt-one nodes c a i.0 (subst (λ (m : ℕ). StandsAt nodes m c) xs h.5) i.5 in
+    let db = StandsAt-one nodes d b i.1 (subst (λ (m : ℕ). StandsAt nodes m d) ys h.6) i.6 in
+    ap (λ (x : ℕ). SplitOn x c d) jk ∙ ap (λ (x : ChoiceTree). SplitOn k x d) ca ∙ ap (λ (x : ChoiceTree). SplitOn k a x) db
+
+pub standing-grows : {A : List State → Type 0} (s t : TableView) → GrowsBy A s t → (g : ℕ) → ((row_at t.rows g).standing ≡ (row_at s.rows g).standing)
+standing-grows s t h g = ⊎_elim
+    (λ lt. (h.kept g lt).standing)
+    (λ ge. (h.added g ge).standing ∙ sym (past_is_new s.rows g ge).standing)
+    (cases_lt g (length s.rows))
+
+pub choices-grows : {A : List State → Type 0} (s t : TableView) → GrowsBy A s t → (g : ℕ) → ((row_at t.rows g).choices ≡ (row_at s.rows g).choices)
+choices-grows s t h g = ⊎_elim
+    (λ lt. (h.kept g lt).choices)
+    (λ ge. (h.added g ge).choices ∙ sym (past_is_new s.rows g ge).choices)
+    (cases_lt g (length s.rows))
+
+pub open-grows : {A : List State → Type 0} (s t : TableView) → GrowsBy A s t → (g : ℕ) → ¬ (IsRefuted s.rows g) → ¬ (IsRefuted t.rows g)
+open-grows s t h g n r = n (r.0, sym (standing-grows s t h g) ∙ r.1)
+
+pub IsGrown-grows : {A : List State → Type 0} (s t : TableView) → GrowsBy A s t → (task : Task) (sides : List Side) (tree : ChoiceTree) (contents rests : List State) (from : ℕ)
+    → IsGrown s.rows task sides tree contents rests from → IsGrown t.rows task sides tree contents rests from
+IsGrown-grows s t h task sides (ContentLeaf g) contents rests from k = claim_at-grows s t h g (claim_with task.content contents) k
+IsGrown-grows s t h task sides (RestLeaf g) contents rests from k = claim_at-grows s t h g (claim_with task.rest rests) k
+IsGrown-grows s t h task sides (SplitOn j a b) contents rests from k = (
+  k.0,
+  k.1,
+  k.2,
+  IsGrown-grows s t h task sides a (with_state k.0.content contents) rests (from + 1) k.3,
+  IsGrown-grows s t h task sides b contents (with_state k.0.rest rests) (from + 1) k.4,
+)
+
+pub IsTextTree-grows : {A : List State → Type 0} (s t : TableView) → GrowsBy A s t → (task : Task) (sides : List Side) (tree : ChoiceTree) → IsTextTree s.rows task sides tree → IsTextTree t.rows task sides tree
+IsTextTree-grows s t h task sides (ContentLeaf g) k = k
+IsTextTree-grows s t h task sides (RestLeaf g) k = claim_at-grows s t h g (claim_with task.rest (gathered [] sides)) k
+IsTextTree-grows s t h task sides (SplitOn j a b) k = k
+
+abbrev pub HasTree-grows : {A : List State → Type 0} (s t : TableView) → GrowsBy A s t → (Kind Kind2 : ChoiceTree → Type 0) → ((tree : ChoiceTree) → Kind tree → Kind2 tree) → (owner root : ℕ) → HasTree s Kind owner root → HasTree t Kind2 owner root
+HasTree-grows s t h Kind Kind2 f owner root k = record {
+  tree = k.tree;
+  stands = StandsAt-more s.nodes t.nodes h.nodes k.tree root k.stands;
+  kind = f k.tree k.kind;
+  listed = AllLeaves-map (λ g. IsListed s g owner) (λ g. IsListed t g owner) (λ g l. h.listed g owner l) k.tree k.listed;
+}
+
+pub HasOpenTree-grows : {A : List State → Type 0} (s t : TableView) → GrowsBy A s t → (Kind Kind2 : ChoiceTree → Type 0) → ((tree : ChoiceTree) → Kind tree → Kind2 tree) → (owner root : ℕ) → HasOpenTree s Kind owner root → HasOpenTree t Kind2 owner root
+HasOpenTree-grows s t h Kind Kind2 f owner root k = record {
+  has = HasTree-grows s t h Kind Kind2 f owner root k.has;
+  open_ = AllLeaves-map (λ g. ¬ (IsRefuted s.rows g)) (λ g. ¬ (IsRefuted t.rows g)) (λ g n. open-grows s t h g n) k.has.tree k.open_;
+}
+
+pub IsRefutedBy-grows : {A : List State → Type 0} (s t : TableView) → GrowsBy A s t → (c : Claim State) (seq : Seq) → IsRefutedBy s.rows c seq → IsRefutedBy t.rows c seq
+IsRefutedBy-grows s t h c seq k = record { goal = k.goal; claim = claim_at-grows s t h k.goal c k.claim; refuted = standing-grows s t h k.goal ∙ k.refuted }
+
+pub IsFailure-grows : {A : List State → Type 0} (s t : TableView) → GrowsBy A s t → (task : Task) (sides : List Side) (inside behind : Seq) → IsFailure s.rows task sides inside behind → IsFailure t.rows task sides inside behind
+IsFailure-grows s t h task sides inside behind k = record {
+  contents = k.contents;
+  rests = k.rests;
+  placed = k.placed;
+  content = IsRefutedBy-grows s t h (claim_with task.content k.contents) inside k.content;
+  rest = IsRefutedBy-grows s t h (claim_with task.rest k.rests) behind k.rest;
+}
+
+-- goals with the same standing
+pub not_refuted : (rows : List GoalRow) (g : ℕ) → ((row_at rows g).standing ≡ Holds) ⊎ ((row_at rows g).standing ≡ Waiting) → ¬ (IsRefuted rows g)
+not_refuted rows g (inl e) r = let s = r.1 in cc
+not_refuted rows g (inr e) r = let s = r.1 in cc
+
+module _ (task : Task) (sides : List Side) (contents rests : List State) (from : ℕ) where
+  abbrev pub Kind : TableView → ChoiceTree → Type 0
+  Kind t tree = IsGrown t.rows task sides tree contents rests from
+
+  pub content_leaf : (t u : TableView) (g : GoalId) (n : ℕ) → IsLeafFor t task.owner.number (claim_with task.content contents) g.number → ¬ (IsRefuted t.rows g.number)
+      → Grows t u → slice_get u.nodes n ≡ Some (Content g) → HasOpenTree u (Kind u) task.owner.number n
+  content_leaf t u g n l o h e = record {
+    has = record { tree = ContentLeaf g.number; stands = e; kind = claim_at-grows t u h g.number (claim_with task.content contents) l.claim; listed = h.listed g.number task.owner.number l.listed };
+    open_ = open-grows t u h g.number o;
+  }
+
+  pub rest_leaf : (t u : TableView) (g : GoalId) (n : ℕ) → IsLeafFor t task.owner.number (claim_with task.rest rests) g.number → ¬ (IsRefuted t.rows g.number)
+      → Grows t u → slice_get u.nodes n ≡ Some (Rest g) → HasOpenTree u (Kind u) task.owner.number n
+  rest_leaf t u g n l o h e = record {
+    has = record { tree = RestLeaf g.number; stands = e; kind = claim_at-grows t u h g.number (claim_with task.rest rests) l.claim; listed = h.listed g.number task.owner.number l.listed };
+    open_ = open-grows t u h g.number o;
+  }
+
+  -- a split between two trees
+  pub split_tree : (t u w : TableView) (side : Side) (cs rs : List State) (x y n : ℕ) → slice_get sides from ≡ Some side → cs ≡ with_state side.content contents → rs ≡ with_state side.rest rests
+      → HasOpenTree t (λ tree. IsGrown t.rows task sides tree cs rests (from + 1)) task.owner.number x → Grows t u
+      → HasOpenTree u (λ tree. IsGrown u.rows task sides tree contents rs (from + 1)) task.owner.number y → Grows u w
+      → IsSplitAt w.nodes side.number x y n → HasOpenTree w (Kind w) task.owner.number n
+  split_tree t u w side cs rs x y n at ce re a h b k split =
+      let a1 = HasOpenTree-grows t u h (λ tree. IsGrown t.rows task sides tree cs rests (from + 1)) (λ tree. IsGrown u.rows task sides tree cs rests (from + 1))
+      (λ tree g. IsGrown-grows t u h task sides tree cs rests (from + 1) g) task.owner.number x a in
+      let a2 = HasOpenTree-grows u w k (λ tree. IsGrown u.rows task sides tree cs rests (from + 1)) (λ tree. IsGrown w.rows task sides tree cs rests (from + 1))
+      (λ tree g. IsGrown-grows u w k task sides tree cs rests (from + 1) g) task.owner.number x a1 in
+      let b2 = HasOpenTree-grows u w k (λ tree. IsGrown u.rows task sides tree contents rs (from + 1)) (λ tree. IsGrown w.rows task sides tree contents rs (from + 1))
+      (λ tree g. IsGrown-grows u w k task sides tree contents rs (from + 1) g) task.owner.number y b in
+      record {
+        has = record {
+          tree = SplitOn side.number a2.has.tree b2.has.tree;
+          stands = (x, y, split.found, split.content_older, split.rest_older, a2.has.stands, b2.has.stands);
+          kind = (
+            side,
+            refl,
+            at,
+            subst (λ (ss : List State). IsGrown w.rows task sides a2.has.tree ss rests (from + 1)) ce a2.has.kind,
+            subst (λ (ss : List State). IsGrown w.rows task sides b2.has.tree contents ss (from + 1)) re b2.has.kind,
+          );
+          listed = (a2.has.listed, b2.has.listed);
+        };
+        open_ = (a2.open_, b2.open_);
+      }
+
+-- a list of states with one more has it, and those that it had
+pub with_state-same : (s t : State) → nat_eq t.number s.number ≡ true → t ≡ s
+with_state-same s t e = ap (λ (n : ℕ). record { number = n }) ((Decides-eqb t.number s.number).0 e)
+
+pub with_state-has : (s : State) (ts : List State) → IsOneOf s (with_state s ts)
+with_state-has s [] = inl refl
+with_state-has s (t ∷ ts) = go (nat_lt t.number s.number) (nat_eq t.number s.number) refl (with_state-has s ts)
+  where
+    go : (b e : Bool) → nat_eq t.number s.number ≡ e → IsOneOf s (with_state s ts) → IsOneOf s (cond b (t ∷ with_state s ts) (cond e (t ∷ ts) (s ∷ t ∷ ts)))
+    go true e q h = inr h
+    go false true q h = inl (with_state-same s t q)
+    go false false q h = inl refl
+
+pub with_state-keeps : (s k : State) (ts : List State) → IsOneOf k ts → IsOneOf k (with_state s ts)
+with_state-keeps s k [] h = absurd h
+with_state-keeps s k (t ∷ ts) h = go (nat_lt t.number s.number) (nat_eq t.number s.number) h (λ m. with_state-keeps s k ts m)
+  where
+    go : (b e : Bool) → IsOneOf k (t ∷ ts) → (IsOneOf k ts → IsOneOf k (with_state s ts)) → IsOneOf k (cond b (t ∷ with_state s ts) (cond e (t ∷ ts) (s ∷ t ∷ ts)))
+    go true e (inl q) f = inl q
+    go true e (inr m) f = inr (f m)
+    go false true h f = h
+    go false false h f = inr h
+
+pub with_state-from : (s k : State) (ts : List State) → IsOneOf k (with_state s ts) → (s ≡ k) ⊎ IsOneOf k ts
+with_state-from s k [] h = elim h [ inl e ↦ inl e | inr m ↦ inr m ]
+with_state-from s k (t ∷ ts) h = go (nat_lt t.number s.number) (nat_eq t.number s.number) h (λ m. with_state-from s k ts m)
+  where
+    go : (b e : Bool) → IsOneOf k (cond b (t ∷ with_state s ts) (cond e (t ∷ ts) (s ∷ t ∷ ts))) → (IsOneOf k (with_state s ts) → (s ≡ k) ⊎ IsOneOf k ts) → (s ≡ k) ⊎ IsOneOf k (t ∷ ts)
+    go true e (inl q) f = inr (inl q)
+    go true e (inr m) f = elim (f m) [ inl q ↦ inl q | inr r ↦ inr (inr r) ]
+    go false true h f = inr h
+    go false false (inl q) f = inl q
+    go false false (inr m) f = inr m
+
+pub with_state-below : (n : ℕ) (s : State) (ts : List State) → s.number < n → AreBelow n ts → AreBelow n (with_state s ts)
+with_state-below n s [] lt h = (lt, tt)
+with_state-below n s (t ∷ ts) lt h = go (nat_lt t.number s.number) (nat_eq t.number s.number) (with_state-below n s ts lt h.1)
+  where
+    go : (b e : Bool) → AreBelow n (with_state s ts) → AreBelow n (cond b (t ∷ with_state s ts) (cond e (t ∷ ts) (s ∷ t ∷ ts)))
+    go true e k = (h.0, k)
+    go false true k = h
+    go false false k = (lt, h)
+
+-- the states stay in order
+pub with_state-rises : (n : ℕ) (s : State) (ts : List State) → n ≤ s.number → RiseFrom n ts → RiseFrom n (with_state s ts)
+with_state-rises n s [] le h = (le, tt)
+with_state-rises n s (t ∷ ts) le h = go (nat_lt t.number s.number) (nat_eq t.number s.number) refl refl (λ l. with_state-rises (suc t.number) s ts l h.1)
+  where
+    go : (b e : Bool) → nat_lt t.number s.number ≡ b → nat_eq t.number s.number ≡ e → (suc t.number ≤ s.number → RiseFrom (suc t.number) (with_state s ts)) → RiseFrom n (cond b (t ∷ with_state s ts) (cond e (t ∷ ts) (s ∷ t ∷ ts)))
+    go true e q p rec = (h.0, rec (let lt = (Decides-ltb t.number s.number).0 q in omega arith))
+    go false true q p rec = h
+    go false false q p rec = (
+      le,
+      (
+        ⊎_elim
+            (λ lt. absurd (let one = (Decides-ltb t.number s.number).1 lt in cc))
+            (λ ge. ⊎_elim (λ same. absurd (let two = (Decides-eqb t.number s.number).1 same in cc)) (λ ne. omega arith) (cases_eq t.number s.number))
+            (cases_lt t.number s.number),
+        h.1,
+      ),
+    )
+
+pub with_state-order : (s : State) (ts : List State) → IsInOrder ts → IsInOrder (with_state s ts)
+with_state-order s ts h = with_state-rises 0 s ts (omega arith) h
+
+-- the sides with one more head on one of them
+module _ (sides : List Side) (contents rests : List State) (from : ℕ) (side : Side) (at_from : slice_get sides from ≡ Some side) where
+  before_cases : (k : ℕ) (s : Side) → k < from + 1 → slice_get sides k ≡ Some s → (k < from) ⊎ (side ≡ s)
+  before_cases k s lt at = ⊎_elim
+      (λ l. inl l)
+      (λ ge. let q : k ≡ from = omega arith in let here : slice_get sides from ≡ Some s = subst (λ (n : ℕ). slice_get sides n ≡ Some s) q at in inr (cc))
+      (cases_lt k from)
+
+  pub placed_content : (cs : List State) → cs ≡ with_state side.content contents → ArePlaced sides contents rests from → ArePlaced sides cs rests (from + 1)
+  placed_content cs e placed k s lt at = rw e (⊎_elim
+      (λ l. ⊎_elim (λ c. inl (with_state-keeps side.content s.content contents c)) (λ r. inr r) (placed k s l at))
+      (λ q. inl (subst (λ (w : Side). IsOneOf w.content (with_state side.content contents)) q (with_state-has side.content contents)))
+      (before_cases k s lt at))
+
+  pub placed_rest : (rs : List State) → rs ≡ with_state side.rest rests → ArePlaced sides contents rests from → ArePlaced sides contents rs (from + 1)
+  placed_rest rs e placed k s lt at = rw e (⊎_elim
+      (λ l. ⊎_elim (λ c. inl c) (λ r. inr (with_state-keeps side.rest s.rest rests r)) (placed k s l at))
+      (λ q. inr (subst (λ (w : Side). IsOneOf w.rest (with_state side.rest rests)) q (with_state-has side.rest rests)))
+      (before_cases k s lt at))
+
+  -- the states on the way after a split
+  module _ (n : ℕ) (task : Task) (h : IsPathBelow n task sides contents rests) where
+    pub content_path : (cs : List State) → cs ≡ with_state side.content contents → IsPathBelow n task sides cs rests
+    content_path cs e = rw e (record {
+      content_below = h.content_below;
+      rest_below = h.rest_below;
+      sides_below = h.sides_below;
+      contents_below = with_state-below n side.content contents (all_at (λ (s : Side). (s.content.number < n) × (s.rest.number < n)) sides from side h.sides_below at_from).0 h.contents_below;
+      rests_below = h.rests_below;
+      contents_order = with_state-order side.content contents h.contents_order;
+      rests_order = h.rests_order;
+    })
+
+    pub rest_path : (rs : List State) → rs ≡ with_state side.rest rests → IsPathBelow n task sides contents rs
+    rest_path rs e = rw e (record {
+      content_below = h.content_below;
+      rest_below = h.rest_below;
+      sides_below = h.sides_below;
+      contents_below = h.contents_below;
+      rests_below = with_state-below n side.rest rests (all_at (λ (s : Side). (s.content.number < n) × (s.rest.number < n)) sides from side h.sides_below at_from).1 h.rests_below;
+      contents_order = h.contents_order;
+      rests_order = with_state-order side.rest rests h.rests_order;
+    })
+
+-- where none is left to put on a side
+pub all_placed : (sides : List Side) (contents rests : List State) (from : ℕ) → ArePlaced sides contents rests from → length sides ≤ from
+    → (k : ℕ) (s : Side) → slice_get sides k ≡ Some s → IsOneOf s.content contents ⊎ IsOneOf s.rest rests
+all_placed sides contents rests from placed le k s at = placed k s (omega (arith, slice_get_within sides k s at)) at
+
+-- a goal whose standing was read, and isn't a refutation
+pub read_open : (rows : List GoalRow) (g : ℕ) (s : Standing) → s ≡ (row_at rows g).standing → ((seq : Seq) → s ≡ Refuted seq → ⊥) → ¬ (IsRefuted rows g)
+read_open rows g s e n r = n r.0 (e ∙ r.1)
+
+pub read_refuted : {A : List State → Type 0} (s t : TableView) → GrowsBy A s t → (owner : ℕ) (c : Claim State) (g : GoalId) (st : Standing) (seq : Seq) → IsLeafFor s owner c g.number → st ≡ (row_at s.rows g.number).standing → st ≡ Refuted seq
+    → IsRefutedBy t.rows c seq
+read_refuted s t h owner c g st seq l e r = IsRefutedBy-grows s t h c seq (record { goal = g.number; claim = l.claim; refuted = sym e ∙ r })
+
+pub grown_stands : (P : ℕ → Type 0) (Q : Seq → Seq → Type 0) (r : Grown) (root : ℕ) → r ≡ Stands root → GrownAs P Q r → P root
+grown_stands P Q r root e h = let F : Grown → Type 0 = λ w. GrownAs P Q w in subst F e h
+
+pub grown_fails : (P : ℕ → Type 0) (Q : Seq → Seq → Type 0) (r : Grown) (inside behind : Seq) → r ≡ Fails inside behind → GrownAs P Q r → Q inside behind
+grown_fails P Q r inside behind e h = let F : Grown → Type 0 = λ w. GrownAs P Q w in subst F e h
+
+-- the node of a tree is there
+pub StandsAt-within : (nodes : List ChoiceNode) (tree : ChoiceTree) (n : ℕ) → StandsAt nodes n tree → n < length nodes
+StandsAt-within nodes (ContentLeaf g) n h = slice_get_within nodes n (Content (record { number = g })) h
+StandsAt-within nodes (RestLeaf g) n h = slice_get_within nodes n (Rest (record { number = g })) h
+StandsAt-within nodes (SplitOn j a b) n h = slice_get_within nodes n (Split j h.0 h.1) h.2
+
+pub HasOpenTree-within : (t : TableView) (Kind : ChoiceTree → Type 0) (owner root : ℕ) → HasOpenTree t Kind owner root → root < length t.nodes
+HasOpenTree-within t Kind owner root h = StandsAt-within t.nodes h.has.tree root h.has.stands
+
+pub open_within-grows : (t u : TableView) → Grows t u → (Kind : ChoiceTree → Type 0) (owner root : ℕ) → HasOpenTree t Kind owner root → root < length u.nodes
+open_within-grows t u h Kind owner root k = StandsAt-within u.nodes k.has.tree root (StandsAt-more t.nodes u.nodes h.nodes k.has.tree root k.has.stands)
+
+pub gathered-below : (n : ℕ) (states : List State) (sides : List Side) → AreBelow n states → AllByRecursion (λ (s : Side). (s.content.number < n) × (s.rest.number < n)) sides → AreBelow n (gathered states sides)
+gathered-below n states [] h k = h
+gathered-below n states (s ∷ ss) h k = gathered-below n (with_state s.rest states) ss (with_state-below n s.rest states k.0.1 h) k.1
+
+pub gathered-order : (states : List State) (sides : List Side) → IsInOrder states → IsInOrder (gathered states sides)
+gathered-order states [] h = h
+gathered-order states (s ∷ ss) h = gathered-order (with_state s.rest states) ss (with_state-order s.rest states h)
+
+-- the leaf of a text
+pub text_leaf : (task : Task) (sides : List Side) (t u : TableView) (g : GoalId) (n : ℕ) (rests : List State) → rests ≡ gathered [] sides
+    → IsLeafFor t task.owner.number (claim_with task.rest rests) g.number → ¬ (IsRefuted t.rows g.number)
+    → Grows t u → slice_get u.nodes n ≡ Some (Rest g) → HasOpenTree u (IsTextTree u.rows task sides) task.owner.number n
+text_leaf task sides t u g n rests same l o h e = record {
+  has = record {
+    tree = RestLeaf g.number;
+    stands = e;
+    kind = subst (λ (rs : List State). claim_at u.rows g.number ≡ Some (claim_with task.rest rs)) same (claim_at-grows t u h g.number (claim_with task.rest rests) l.claim);
+    listed = h.listed g.number task.owner.number l.listed;
+  };
+  open_ = open-grows t u h g.number o;
+}

@@ -1,0 +1,204 @@
+-- What a table says is true.
+use Rattle.std.proofs.Common.{ℕ, ◌<◌, ◌≡◌, Bool, true, false, not, cond, ◌||◌, List, [], ◌∷◌, ◌++◌, length, map, Some, Result, Ok, Err, IfOk, inl, inr, ⊎_elim, sym, refl, ap, subst, ◌∙◌}
+use Rattle.std.specs.List.{AllByRecursion, list_any}
+use Rattle.std.proofs.lemmas.Bool.{cases_lt}
+use Rattle.xd_doc.specs.Document.{Document, empty, text, element}
+use Rattle.xd_doc.specs.Classes.{NameClass, class_has, is_named}
+use Rattle.xd_doc.specs.Stored.{BelongsTo, document_at, no_items}
+use Rattle.xd_doc.specs.declared.store.Seq.{Seq}
+use Rattle.xd_auto.specs.declared.auto.State.{State}
+use Rattle.xd_auto.specs.Automaton.{Automaton}
+use Rattle.xd_rules.specs.declared.atom.Atom.{Atom}
+use Rattle.xd_rules.specs.declared.atom.Atom.TheVariants.{Label, OtherLabel, Text, OtherText}
+use Rattle.xd_rules.specs.Members.{IsOneOf, NoneOf}
+use Rattle.xd_rules.specs.Heads.{Head, AreNames, matches, is_text_atom, takes_label, takes_text}
+use Rattle.xd_rules.specs.Rules.{Claim, Case, CaseKey, key_of, keyed, AllLeaves, IsCase, right_heads}
+use Rattle.xd_rules.specs.Meaning.{Separates}
+use Rattle.xd_rules.proofs.Atoms.{matches-label, matches-text, matches-other_label, matches-other_text}
+use Rattle.xd_rules.proofs.Soundness.{IsSettled as HasRow, holds}
+use Rattle.xd_rules.proofs.Separation.{separates-element, separates-text, separates-empty}
+use Rattle.xd_goals.specs.Moves.{Accepts, claim_with, heads_of, is_last_in}
+use Rattle.xd_goals.specs.Rows.{TableView, row_at, claim_of, claim_at, choice_key}
+use Rattle.xd_goals.specs.Trees.{IsFailure, IsFailureBySort, IsTextFailure, IsRefutedBy, gathered}
+use Rattle.xd_goals.specs.Standing.{ChoiceStands, IsSeparatedBy, StandsOn, claim_sides, task_for}
+use Rattle.xd_goals.specs.Reached.{is_marked, LeadsToMarked, IsSettled}
+use Rattle.xd_goals.specs.Truth.{IsIncluded, KeepsRules}
+use Rattle.xd_goals.specs.Cases.{BeginsAs, FailsAt, names_in}
+use Rattle.xd_goals.specs.declared.table.Choice.{Choice}
+use Rattle.xd_goals.specs.declared.table.Standing.TheVariants.{Holds}
+use Rattle.xd_goals.proofs.Growing.{claim_at-is, claim_within, past_is_new}
+use Rattle.xd_goals.proofs.Lists.{all_map}
+use Rattle.xd_goals.proofs.Keeping.{case_keeps, side_of_head, gathered-has}
+use Rattle.xd_goals.proofs.Meaning.{automaton_meaning}
+
+module _ (a : Automaton) (ds : List Document) (t : TableView) (stands : StandsOn a ds t) where
+  case_of : (i : ℕ) (c : Claim State) (k : Choice) → ChoiceStands a t i c k → Case
+  case_of i c k h = record { head = k.head; atom = k.atom; tree = h.has.tree }
+
+  cases_of : (i : ℕ) (c : Claim State) (ks : List Choice) → AllByRecursion (ChoiceStands a t i c) ks → List Case
+  cases_of i c [] h = []
+  cases_of i c (k ∷ ks) h = record { head = k.head; atom = k.atom; tree = h.0.has.tree } ∷ cases_of i c ks h.1
+
+  keys_are : (i : ℕ) (c : Claim State) (ks : List Choice) (h : AllByRecursion (ChoiceStands a t i c) ks) → map key_of (cases_of i c ks h) ≡ map choice_key ks
+  unfolding cases_of
+  keys_are i c [] h = refl
+  keys_are i c (k ∷ ks) h = ap (λ (rest : List CaseKey). keyed k.head k.atom ∷ rest) (keys_are i c ks h.1)
+
+  each_is : (i : ℕ) (c : Claim State) (ks : List Choice) (h : AllByRecursion (ChoiceStands a t i c) ks) → AllByRecursion (IsCase (heads_of a) (claim_at t.rows) c) (cases_of i c ks h)
+  unfolding cases_of
+  each_is i c [] h = tt
+  each_is i c (k ∷ ks) h =
+      (record { head = h.0.head; found = h.0.found; keeps = case_keeps t.rows a i c h.0.head k.atom h.0.has.tree h.0.has.kind }, each_is i c ks h.1)
+
+  leaves_are : (marks : List Bool) (i : ℕ) (c : Claim State) (ks : List Choice) (h : AllByRecursion (ChoiceStands a t i c) ks) → AllByRecursion (LeadsToMarked t.nodes marks) ks
+      → AllByRecursion (λ (k : Case). AllLeaves (λ g. is_marked marks g ≡ true) k.tree) (cases_of i c ks h)
+  unfolding cases_of
+  leaves_are marks i c [] h m = tt
+  leaves_are marks i c (k ∷ ks) h m = (m.0 h.0.has.tree h.0.has.stands, leaves_are marks i c ks h.1 m.1)
+
+  there : (g : ℕ) → (row_at t.rows g).standing ≡ Holds → g < length t.rows
+  there g e = ⊎_elim (λ lt. lt) (λ ge. let w = (past_is_new t.rows g ge).standing in absurd (cc)) (cases_lt g (length t.rows))
+
+  row_is : (goal : ℕ) (s : IsSettled t goal) (g : ℕ) → is_marked s.marks g ≡ true → HasRow (heads_of a) (is_last_in a) (claim_at t.rows) (λ k. is_marked s.marks k ≡ true) g
+  row_is goal s g m =
+      let r = stands.holds g (s.holds g m) in
+      let c = claim_of (row_at t.rows g) in
+      let ks = (row_at t.rows g).choices in
+      record {
+        claim = c;
+        cases = cases_of g c ks (stands.choices g);
+        found = claim_at-is t.rows g (there g (s.holds g m));
+        rules = record {
+          last = r.begun.last;
+          named = r.begun.named;
+          names = r.begun.names;
+          complete = keys_are g c ks (stands.choices g) ∙ r.begun.complete;
+          each = each_is g c ks (stands.choices g);
+        };
+        leaves = leaves_are s.marks g c ks (stands.choices g) (s.leads g m);
+      }
+
+  -- a goal that holds, and leads to goals alone that hold, is true
+  pub settled_is_included : (goal : ℕ) → IsSettled t goal → (left : State) (rights : List State) → claim_at t.rows goal ≡ Some (claim_with left rights) → IsIncluded a left rights
+  settled_is_included goal s left rights e d =
+      holds (Accepts a) (heads_of a) (is_last_in a) (automaton_meaning a) (claim_at t.rows) (λ k. is_marked s.marks k ≡ true) (λ g m. row_is goal s g m) d goal s.start (claim_with left rights) e
+
+  -- the document of a refuted goal
+  pub refuted_by : (c : Claim State) (seq : Seq) → IsRefutedBy t.rows c seq → IsSeparatedBy a ds c seq
+  refuted_by c seq h =
+      let w = claim_within t.rows h.goal c h.claim in
+      subst (λ (x : Claim State). IsSeparatedBy a ds x seq) w.1 (stands.refuted h.goal seq h.refuted)
+
+none_accepts : (a : Automaton) (c : Claim State) (d : Document) → Separates (Accepts a) c d → (states : List State) → ((s : State) → IsOneOf s states → IsOneOf s c.rights) → NoneOf (λ s. Accepts a s d) states
+none_accepts a c d h [] f = tt
+none_accepts a c d h (s ∷ ss) f = (h.refused s (f s (inl refl)), none_accepts a c d h ss (λ k m. f k (inr m)))
+
+-- what a class that excepts names has isn't named
+not_named : (c : NameClass) (x : List ℕ) → c.except ≡ true → class_has c x ≡ true → is_named c.names x ≡ false
+not_named c x e h = go c.except (is_named c.names x) e h
+  where
+    go : (b m : Bool) → b ≡ true → cond b (not m) m ≡ true → m ≡ false
+    go true true p q = absurd (cc)
+    go true false p q = refl
+    go false m p q = absurd (cc)
+
+-- the document that is made where a case fails separates the goal
+module _ (a : Automaton) (ds : List Document) (t : TableView) (stands : StandsOn a ds t) (owner : ℕ) (c : Claim State)
+    (labels texts : NameClass) (names : AreNames (heads_of a c.left ++ right_heads (heads_of a) c) (names_in labels texts)) (labels_except : labels.except ≡ true) (texts_except : texts.except ≡ true)
+    (h : Head State) (m : IsOneOf h (heads_of a c.left)) (atom : Atom) (matched : matches h.kind atom ≡ true) (inside behind : Seq) where
+  element_separates : IsFailure t.rows (task_for a owner h) (claim_sides a c atom) inside behind → (l : List ℕ)
+      → ((k : Head State) → IsOneOf k (heads_of a c.left ++ right_heads (heads_of a) c) → matches k.kind atom ≡ takes_label k.kind l)
+      → Separates (Accepts a) c (element l (document_at ds inside) (document_at ds behind))
+  element_separates f l same =
+      let no_content = (refuted_by a ds t stands (claim_with h.content f.contents) inside f.content).separates in
+      let no_rest = (refuted_by a ds t stands (claim_with h.rest f.rests) behind f.rest).separates in
+      separates-element (Accepts a) (heads_of a) (is_last_in a) (automaton_meaning a) c h m atom l same matched f.contents f.rests
+      (λ k km hit. let s = side_of_head atom 1 (right_heads (heads_of a) c) k km hit in
+      ⊎_elim (λ x. inl (subst (λ (w : State). IsOneOf w f.contents) s.3 x)) (λ y. inr (subst (λ (w : State). IsOneOf w f.rests) s.4 y)) (f.placed s.0 s.1 s.2))
+      (document_at ds inside) (document_at ds behind) no_content.accepted no_rest.accepted
+      (none_accepts a (claim_with h.content f.contents) (document_at ds inside) no_content f.contents (λ s x. x))
+      (none_accepts a (claim_with h.rest f.rests) (document_at ds behind) no_rest f.rests (λ s x. x))
+
+  text_separates : IsTextFailure t.rows (task_for a owner h) (claim_sides a c atom) behind → (x : List ℕ)
+      → ((k : Head State) → IsOneOf k (heads_of a c.left ++ right_heads (heads_of a) c) → matches k.kind atom ≡ takes_text k.kind x)
+      → Separates (Accepts a) c (text x (document_at ds behind))
+  text_separates f x same =
+      let rests = gathered [] (claim_sides a c atom) in
+      let no_rest = (refuted_by a ds t stands (claim_with h.rest rests) behind f).separates in
+      separates-text (Accepts a) (heads_of a) (is_last_in a) (automaton_meaning a) c h m atom x same matched rests
+      (λ k km hit. let s = side_of_head atom 1 (right_heads (heads_of a) c) k km hit in
+      subst (λ (w : State). IsOneOf w rests) s.4 (gathered-has (claim_sides a c atom) [] s.0 s.1 s.2))
+      (document_at ds behind) no_rest.accepted (none_accepts a (claim_with h.rest rests) (document_at ds behind) no_rest rests (λ s y. y))
+
+-- by the atom
+pub failure_separates : (a : Automaton) (ds : List Document) (t : TableView) → StandsOn a ds t → (owner : ℕ) (c : Claim State) (labels texts : NameClass)
+    → AreNames (heads_of a c.left ++ right_heads (heads_of a) c) (names_in labels texts) → labels.except ≡ true → texts.except ≡ true
+    → (atom : Atom) (inside behind : Seq) → FailsAt a t owner c atom inside behind → (d : Document) → BeginsAs labels texts atom (document_at ds inside) (document_at ds behind) d → Separates (Accepts a) c d
+failure_separates a ds t stands owner c labels texts names le te (Label l) inside behind f d b =
+    subst (λ (w : Document). Separates (Accepts a) c w) (sym b)
+    (element_separates a ds t stands owner c labels texts names le te f.of_head f.among (Label l) f.matched inside behind f.fails l (λ k km. matches-label l k.kind))
+failure_separates a ds t stands owner c labels texts names le te OtherLabel inside behind f d b =
+    subst (λ (w : Document). Separates (Accepts a) c w) (sym b.2)
+    (element_separates a ds t stands owner c labels texts names le te f.of_head f.among OtherLabel f.matched inside behind f.fails b.0
+    (matches-other_label (heads_of a c.left ++ right_heads (heads_of a) c) (names_in labels texts) names b.0 (not_named labels b.0 le b.1)))
+failure_separates a ds t stands owner c labels texts names le te (Text x) inside behind f d b =
+    subst (λ (w : Document). Separates (Accepts a) c w) (sym b)
+    (text_separates a ds t stands owner c labels texts names le te f.of_head f.among (Text x) f.matched inside behind f.fails x (λ k km. matches-text x k.kind))
+failure_separates a ds t stands owner c labels texts names le te OtherText inside behind f d b =
+    subst (λ (w : Document). Separates (Accepts a) c w) (sym b.2)
+    (text_separates a ds t stands owner c labels texts names le te f.of_head f.among OtherText f.matched inside behind f.fails b.0
+    (matches-other_text (heads_of a c.left ++ right_heads (heads_of a) c) (names_in labels texts) names b.0 (not_named texts b.0 te b.1)))
+
+-- the documents of a case that fails are those of goals
+pub content_belongs : (a : Automaton) (ds : List Document) (t : TableView) → StandsOn a ds t → (owner : ℕ) (c : Claim State) (atom : Atom) (inside behind : Seq) → FailsAt a t owner c atom inside behind → is_text_atom atom ≡ false → BelongsTo ds inside
+content_belongs a ds t stands owner c atom inside behind f e =
+    let g : IsFailure t.rows (task_for a owner f.of_head) (claim_sides a c atom) inside behind =
+    subst (λ (b : Bool). IsFailureBySort b t.rows (task_for a owner f.of_head) (claim_sides a c atom) inside behind) e f.fails in
+    (refuted_by a ds t stands (claim_with f.of_head.content g.contents) inside g.content).belongs
+
+pub rest_belongs : (a : Automaton) (ds : List Document) (t : TableView) → StandsOn a ds t → (owner : ℕ) (c : Claim State) (atom : Atom) (inside behind : Seq) → FailsAt a t owner c atom inside behind → BelongsTo ds behind
+rest_belongs a ds t stands owner c atom inside behind f = go (is_text_atom atom) f.fails
+  where
+    go : (b : Bool) → IsFailureBySort b t.rows (task_for a owner f.of_head) (claim_sides a c atom) inside behind → BelongsTo ds behind
+    go true g = (refuted_by a ds t stands (claim_with f.of_head.rest (gathered [] (claim_sides a c atom))) behind g).belongs
+    go false g = (refuted_by a ds t stands (claim_with f.of_head.rest g.rests) behind g.rest).belongs
+
+-- in the store that holds the new document
+pub separated_by : {E : Type 0} (a : Automaton) (ds es : List Document) (t : TableView) → StandsOn a ds t → (owner : ℕ) (c : Claim State) (labels texts : NameClass)
+    → AreNames (heads_of a c.left ++ right_heads (heads_of a) c) (names_in labels texts) → labels.except ≡ true → texts.except ≡ true
+    → (atom : Atom) (inside behind : Seq) → FailsAt a t owner c atom inside behind → (r : Result Seq E) → IfOk r (BelongsTo es)
+    → IfOk r (λ seq. BeginsAs labels texts atom (document_at ds inside) (document_at ds behind) (document_at es seq)) → IfOk r (IsSeparatedBy a es c)
+separated_by a ds es t stands owner c labels texts names le te atom inside behind f (Ok seq) belongs begins =
+    record { belongs = belongs; separates = failure_separates a ds t stands owner c labels texts names le te atom inside behind f (document_at es seq) begins }
+separated_by a ds es t stands owner c labels texts names le te atom inside behind f (Err e) belongs begins = tt
+
+pub empty_separates : (a : Automaton) (c : Claim State) → is_last_in a c.left ≡ true → list_any (is_last_in a) c.rights ≡ false → Separates (Accepts a) c empty
+empty_separates a c left rights =
+    separates-empty (Accepts a) (heads_of a) (is_last_in a) (automaton_meaning a) c left (none c.rights rights)
+  where
+    none : (ss : List State) → list_any (is_last_in a) ss ≡ false → AllByRecursion (λ r. is_last_in a r ≡ false) ss
+    none [] e = tt
+    none (s ∷ ss) e = go (is_last_in a s) refl e (λ p. none ss p)
+      where
+        go : (b : Bool) → is_last_in a s ≡ b → (b || list_any (is_last_in a) ss) ≡ false → (list_any (is_last_in a) ss ≡ false → AllByRecursion (λ r. is_last_in a r ≡ false) ss) → AllByRecursion (λ r. is_last_in a r ≡ false) (s ∷ ss)
+        go true q p rec = absurd (cc)
+        go false q p rec = (q, rec p)
+
+-- the choice trees of a table that stands keep the rules
+pub choices_keep : (a : Automaton) (ds : List Document) (t : TableView) → StandsOn a ds t → (i : ℕ) → AllByRecursion (KeepsRules a t (claim_of (row_at t.rows i))) (row_at t.rows i).choices
+choices_keep a ds t h i =
+    all_map (ChoiceStands a t i (claim_of (row_at t.rows i))) (KeepsRules a t (claim_of (row_at t.rows i))) (row_at t.rows i).choices
+    (λ k x. record {
+      head = x.head;
+      found = x.found;
+      tree = x.has.tree;
+      stands = x.has.stands;
+      keeps = case_keeps t.rows a i (claim_of (row_at t.rows i)) x.head k.atom x.has.tree x.has.kind;
+    })
+    (h.choices i)
+
+pub empty_separated : (a : Automaton) (ds : List Document) (c : Claim State) (seq : Seq) → seq ≡ no_items → is_last_in a c.left ≡ true → list_any (is_last_in a) c.rights ≡ false → IsSeparatedBy a ds c seq
+empty_separated a ds c seq e left rights = rw e (record {
+  belongs = record { place = tt; proper = refl; filled = refl };
+  separates = empty_separates a c left rights;
+})

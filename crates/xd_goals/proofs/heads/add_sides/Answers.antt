@@ -1,0 +1,22 @@
+use Rattle.std.proofs.Common.{◌+◌, List, length, ap, refl}
+use Rattle.xd_auto.specs.declared.auto.LabelMove.{LabelMove}
+use Rattle.xd_rules.specs.declared.atom.Atom.TheVariants.{Label, OtherLabel, Text, OtherText}
+use Rattle.xd_goals.proofs.Finding.{OnOk-map}
+use Rattle.xd_goals.proofs.Sides.{at_label, at_text}
+use Rattle.xd_goals.proofs.heads.add_sides.Goals as goal
+
+pub returns-in-Label : goal.returns-in-Label
+returns-in-Label c =
+    rw c.in-Label.is (OnOk-map c.add_with_label.result (λ h. at_label c.args.auto.now c.args.state (Label c.in-Label.label) c.args.before c.args.sides.now.items c.add_with_label.new.sides.items (λ m. refl) h) c.add_with_label.ensures)
+
+pub returns-in-OtherLabel : goal.returns-in-OtherLabel
+returns-in-OtherLabel c =
+    rw c.in-OtherLabel.is (OnOk-map c.add_with_other_labels.result (λ h. at_label c.args.auto.now c.args.state OtherLabel c.args.before c.args.sides.now.items c.add_with_other_labels.new.sides.items (λ m. refl) h) c.add_with_other_labels.ensures)
+
+pub returns-in-Text : goal.returns-in-Text
+returns-in-Text c =
+    rw c.in-Text.is (OnOk-map c.add_with_text.result (λ h. at_text c.args.auto.now c.args.state (Text c.in-Text.text) c.args.before c.args.sides.now.items c.add_with_text.new.sides.items _ (ap (λ (ms : List LabelMove). c.args.before + length ms) c.label_moves-labels.ensures.value) (λ m. refl) h) c.add_with_text.ensures)
+
+pub returns-in-OtherText : goal.returns-in-OtherText
+returns-in-OtherText c =
+    rw c.in-OtherText.is (OnOk-map c.add_with_other_texts.result (λ h. at_text c.args.auto.now c.args.state OtherText c.args.before c.args.sides.now.items c.add_with_other_texts.new.sides.items _ (ap (λ (ms : List LabelMove). c.args.before + length ms) c.label_moves-labels.ensures.value) (λ m. refl) h) c.add_with_other_texts.ensures)

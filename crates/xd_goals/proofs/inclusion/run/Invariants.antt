@@ -1,0 +1,22 @@
+use Rattle.std.proofs.Common.{◌+◌, length}
+use Rattle.std.specs.List.{AllByRecursion}
+use Rattle.xd_doc.specs.Stored.{Keeps}
+use Rattle.xd_goals.specs.Kept.{IsWhole, view_of}
+use Rattle.xd_goals.specs.Measure.{AreMadeFrom, Lowers, possible, potential}
+use Rattle.xd_goals.specs.Standing.{KeepsGoals, StandsOn}
+use Rattle.xd_goals.specs.Verdicts.{IsGoalBelow}
+use Rattle.xd_goals.proofs.inclusion.run.Given as goal
+
+abbrev pub invariant-loop-goal : goal.invariant-loop-goal
+invariant-loop-goal l = record {
+  whole : IsWhole l.goals;
+  stands : StandsOn l.auto' l.store (view_of l.goals);
+  kept : KeepsGoals (view_of l.fn.goals) (view_of l.goals);
+  keeps : Keeps l.fn.store l.store;
+  made : AreMadeFrom (length l.fn.goals.rows.items) l.goals.rows.items;
+  agenda : AllByRecursion (IsGoalBelow (length l.goals.rows.items)) l.agenda.items;
+  lowers : Lowers l.fn.goals.rows.items l.goals.rows.items;
+}
+
+abbrev pub decreases-loop-goal : goal.decreases-loop-goal
+decreases-loop-goal l = potential (length l.fn.goals.rows.items + length (possible (length l.auto'))) l.goals.rows.items

@@ -1,0 +1,9 @@
+use Rattle.std.proofs.Common.{length, arith}
+use Rattle.xd_goals.specs.Verdicts.{IsGoalBelow}
+use Rattle.xd_goals.specs.declared.table.GoalId.{GoalId}
+use Rattle.xd_goals.proofs.Lists.{all_map}
+use Rattle.xd_goals.proofs.inclusion.step.Goals as goal
+
+pub list_woken-requires-clause-agenda : goal.list_woken-requires-clause-agenda
+list_woken-requires-clause-agenda c =
+    all_map (IsGoalBelow (length c.args.goals.now.rows.items)) (IsGoalBelow (length c.work.new.goals.rows.items)) c.args.agenda.now.items (λ (g : GoalId) h. omega (arith, c.work.ensures.goals.longer)) c.requires.agenda

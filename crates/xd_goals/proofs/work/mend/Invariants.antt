@@ -1,0 +1,14 @@
+use Rattle.std.proofs.Common.{◌≡◌, length, map, take}
+use Rattle.xd_goals.specs.Moves.{claim_with}
+use Rattle.xd_goals.specs.Rows.{choice_key}
+use Rattle.xd_goals.specs.Kept.{Grows, IsConsistent, view_of}
+use Rattle.xd_goals.specs.Cases.{AreBegun}
+use Rattle.xd_goals.proofs.work.mend.Given as goal
+
+abbrev pub invariant-loop-number : goal.invariant-loop-number
+invariant-loop-number l = record {
+  consistent : IsConsistent (length l.auto') l.goals;
+  grows : Grows (view_of l.initial.goals) (view_of l.goals);
+  begun : AreBegun l.auto' (view_of l.goals) l.owner.number (claim_with l.fn.left l.rights) (map choice_key (take l.number l.choices.items)) l.made.items;
+  end_is : l.number-end ≡ length l.choices.items;
+}

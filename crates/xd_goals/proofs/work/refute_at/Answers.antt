@@ -1,0 +1,31 @@
+use Rattle.xd_goals.specs.Kept.{view_of}
+use Rattle.xd_goals.proofs.Facts.{stands-keeps}
+use Rattle.xd_goals.proofs.Stepping.{IsStep, step_refuted, same_refuted, whole_same}
+use Rattle.xd_goals.proofs.work.refute_at.Goals as goal
+
+refuted : (c : goal.After-refute) → IsStep c.args.auto.now c.separate.new.store (view_of c.args.goals.now) (record { rows = c.refute.new.rows.items; nodes = c.args.goals.now.nodes.items; links = c.args.goals.now.links.items })
+refuted c =
+    step_refuted c.args.auto.now c.separate.new.store c.args.goals.now.rows.items c.refute.new.rows.items c.args.goals.now.nodes.items c.args.goals.now.links.items c.args.owner.number c.in_ok-document.document c.requires.owner c.requires.waits
+    (rw c.deref.ensures.value at c.refute.ensures) c.in_ok-document.ensures.separated (stands-keeps c.args.auto.now c.args.store.now c.separate.new.store (view_of c.args.goals.now) c.separate.ensures.keeps c.requires.stands)
+
+pub returns-clause-whole : goal.returns-clause-whole
+returns-clause-whole c =
+    let same = same_refuted c.args.auto.now c.separate.new.store c.args.goals.now.rows.items c.refute.new.rows.items c.args.goals.now.nodes.items c.args.goals.now.links.items c.args.owner.number c.in_ok-document.document c.requires.owner c.requires.waits
+    (rw c.deref.ensures.value at c.refute.ensures) in
+    let w = whole_same c.args.goals.now.rows.items c.refute.new.rows.items c.args.goals.now.links.items c.args.goals.now.found same c.requires.whole.index c.requires.whole.links in
+    record { index = w.0; links = w.1 }
+
+pub returns-clause-stands : goal.returns-clause-stands
+returns-clause-stands c = (refuted c).stands
+
+pub returns-clause-goals : goal.returns-clause-goals
+returns-clause-goals c = (refuted c).kept
+
+pub returns-clause-made : goal.returns-clause-made
+returns-clause-made c = (refuted c).made
+
+pub returns-clause-lowers : goal.returns-clause-lowers
+returns-clause-lowers c = (refuted c).lowers
+
+pub returns-in_err-document-clause-stands : goal.returns-in_err-document-clause-stands
+returns-in_err-document-clause-stands c = stands-keeps c.args.auto.now c.args.store.now c.separate.new.store (view_of c.args.goals.now) c.separate.ensures.keeps c.requires.stands

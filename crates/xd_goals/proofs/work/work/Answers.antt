@@ -1,0 +1,42 @@
+use Rattle.std.proofs.Common.{◌≡◌, true, false, refl, subst, ◌∙◌, rules}
+use Rattle.std.specs.List.{list_any}
+use Rattle.xd_goals.specs.Moves.{is_last_in}
+use Rattle.xd_goals.specs.Rows.{GoalRow, claim_of, row_at}
+use Rattle.xd_goals.specs.Kept.{view_of}
+use Rattle.xd_goals.proofs.Linking.{row_read}
+use Rattle.xd_goals.proofs.Verdicts.{empty_separated}
+use Rattle.xd_goals.proofs.Stepping.{IsStep, same_refuted, step_refuted, whole_same}
+use Rattle.xd_goals.proofs.work.work.Goals as goal
+
+refuted : (c : goal.After-drop-rights) → IsStep c.args.auto.now c.args.store.now (view_of c.args.goals.now) (record { rows = c.refute.new.rows.items; nodes = c.args.goals.now.nodes.items; links = c.args.goals.now.links.items })
+refuted c =
+    let row = c.row.view_is ∙ row_read c.args.goals.now.rows.items c.args.owner.number _ c.requires.owner c.index-row.ensures in
+    let same : c.in_ok-rights.rights.items ≡ c.as_slice.result.now = search rules in
+    let u = c.if-is_uncovered.ensures.yes refl in
+    let rights_not : list_any (is_last_in c.args.auto.now) (row_at c.args.goals.now.rows.items c.args.owner.number).rights ≡ false =
+    subst (λ (r : GoalRow). list_any (is_last_in c.args.auto.now) r.rights ≡ false) row
+    (rw c.as_slice.ensures.value at (rw same at (rw c.deref.ensures.value at u.rights_not))) in
+    step_refuted c.args.auto.now c.args.store.now c.args.goals.now.rows.items c.refute.new.rows.items c.args.goals.now.nodes.items c.args.goals.now.links.items c.args.owner.number c.empty.result c.requires.owner c.requires.waits
+    (rw c.deref-then-is_uncovered.ensures.value at c.refute.ensures)
+    (empty_separated c.args.auto.now c.args.store.now (claim_of (row_at c.args.goals.now.rows.items c.args.owner.number)) c.empty.result c.empty.ensures
+    (subst (λ (r : GoalRow). is_last_in c.args.auto.now r.left ≡ true) row u.left_last) rights_not)
+    c.requires.stands
+
+pub returns-then-is_uncovered-clause-whole : goal.returns-then-is_uncovered-clause-whole
+returns-then-is_uncovered-clause-whole c =
+    let same = same_refuted c.args.auto.now c.args.store.now c.args.goals.now.rows.items c.refute.new.rows.items c.args.goals.now.nodes.items c.args.goals.now.links.items c.args.owner.number c.empty.result c.requires.owner c.requires.waits
+    (rw c.deref-then-is_uncovered.ensures.value at c.refute.ensures) in
+    let w = whole_same c.args.goals.now.rows.items c.refute.new.rows.items c.args.goals.now.links.items c.args.goals.now.found same c.requires.whole.index c.requires.whole.links in
+    record { index = w.0; links = w.1 }
+
+pub returns-then-is_uncovered-clause-stands : goal.returns-then-is_uncovered-clause-stands
+returns-then-is_uncovered-clause-stands c = (refuted c).stands
+
+pub returns-then-is_uncovered-clause-goals : goal.returns-then-is_uncovered-clause-goals
+returns-then-is_uncovered-clause-goals c = (refuted c).kept
+
+pub returns-then-is_uncovered-clause-made : goal.returns-then-is_uncovered-clause-made
+returns-then-is_uncovered-clause-made c = (refuted c).made
+
+pub returns-then-is_uncovered-clause-lowers : goal.returns-then-is_uncovered-clause-lowers
+returns-then-is_uncovered-clause-lowers c = (refuted c).lowers

@@ -1,0 +1,119 @@
+-- The cases of a goal as work on it sees them. Only private contracts speak of them.
+use Rattle.std.specs.Prelude.{◌≡◌, ℕ, suc, true, false, List, [], ◌∷◌, ◌++◌, map, Some}
+use Rattle.std.specs.List.{AllByRecursion, list_any}
+use Rattle.xd_doc.specs.Document.{Document, text, element}
+use Rattle.xd_doc.specs.Classes.{NameClass, class_has, is_named}
+use Rattle.xd_doc.specs.declared.store.Seq.{Seq}
+use Rattle.xd_auto.specs.declared.auto.State.{State}
+use Rattle.xd_auto.specs.Automaton.{Automaton}
+use Rattle.xd_rules.specs.declared.atom.Atom.{Atom}
+use Rattle.xd_rules.specs.declared.atom.Atom.TheVariants.{Label, OtherLabel, Text, OtherText}
+use Rattle.xd_rules.specs.Members.{IsOneOf}
+use Rattle.xd_rules.specs.Heads.{Head, Named, AreNames, atoms_of, label_names, text_names, matches, is_text_atom}
+use Rattle.xd_rules.specs.Rules.{CaseKey, Claim, head_number, keyed, right_heads, wanted_cases}
+use Rattle.xd_goals.specs.Moves.{heads_of, is_last_in}
+use Rattle.xd_goals.specs.Rows.{TableView, choice_key}
+use Rattle.xd_goals.specs.Trees.{IsFailureBySort}
+use Rattle.xd_goals.specs.Standing.{ChoiceStands, IsOpen, claim_sides, task_for}
+use Rattle.xd_goals.specs.declared.heads.Want.{Want}
+use Rattle.xd_goals.specs.declared.grow.Grown.{Grown}
+use Rattle.xd_goals.specs.declared.grow.Grown.TheVariants.{Stands, Fails}
+use Rattle.xd_goals.specs.declared.table.Choice.{Choice}
+use Rattle.xd_goals.specs.declared.work.Settled.{Settled}
+use Rattle.xd_goals.specs.declared.work.Settled.TheVariants.{Holds, Separates}
+
+abbrev pub want_of : ℕ → Head State → Atom → Want
+want_of number h atom = record { head = number; atom = atom; content = h.content; rest = h.rest }
+
+abbrev pub wants_at : Named → ℕ → Head State → List Want
+wants_at named k h = map (want_of k h) (atoms_of named h)
+
+abbrev pub wants_of : Named → ℕ → List (Head State) → List Want
+wants_of named k [] = []
+wants_of named k (h ∷ hs) = wants_at named k h ++ wants_of named (suc k) hs
+
+abbrev pub want_key : Want → CaseKey
+want_key w = keyed w.head w.atom
+
+-- a head at labels, and at texts
+abbrev pub label_wants : ℕ → Head State → List (List ℕ) → List Want
+label_wants k h ls = map (want_of k h) (map Label ls)
+
+abbrev pub text_wants : ℕ → Head State → List (List ℕ) → List Want
+text_wants k h ts = map (want_of k h) (map Text ts)
+
+abbrev pub head_labels : Head State → List (List ℕ)
+head_labels h = label_names h.kind
+
+abbrev pub head_texts : Head State → List (List ℕ)
+head_texts h = text_names h.kind
+
+-- the names of two classes
+abbrev pub names_in : NameClass → NameClass → Named
+names_in labels texts = record { labels = labels.names; texts = texts.names }
+
+-- all these names are among the others
+abbrev pub AreAmong : List (List ℕ) → List (List ℕ) → Type 0
+AreAmong names all = (name : List ℕ) → is_named names name ≡ true → is_named all name ≡ true
+
+-- the labels and texts that the head names are among these
+pub record IsHeadNamed (named : Named) (h : Head State) : Type 0 where
+  pub labels : AreAmong (label_names h.kind) named.labels
+  pub texts : AreAmong (text_names h.kind) named.texts
+
+-- the document begins as the atom says, other labels and texts being those of two classes
+abbrev pub BeginsAs : NameClass → NameClass → Atom → Document → Document → Document → Type 0
+BeginsAs labels texts (Label l) inside behind d = d ≡ element l inside behind
+BeginsAs labels texts OtherLabel inside behind d = (l : List ℕ) × (class_has labels l ≡ true) × (d ≡ element l inside behind)
+BeginsAs labels texts (Text t) inside behind d = d ≡ text t behind
+BeginsAs labels texts OtherText inside behind d = (t : List ℕ) × (class_has texts t ≡ true) × (d ≡ text t behind)
+
+-- what a head of the left, by its number, says of the content and of the rest
+pub record HasHead (a : Automaton) (left : State) (number : ℕ) (content rest : State) : Type 0 where
+  pub of_head : Head State
+  pub found : head_number (heads_of a left) number ≡ Some of_head
+  pub content_is : content ≡ of_head.content
+  pub rest_is : rest ≡ of_head.rest
+
+-- the case is one of a head of the left at an atom that it matches
+pub record IsCaseOf (a : Automaton) (left : State) (w : Want) : Type 0 where
+  pub has : HasHead a left w.head w.content w.rest
+  pub matched : matches has.of_head.kind w.atom ≡ true
+
+-- an atom of a head of the left, where all right heads that match can be put on the two sides so that both are refuted
+pub record FailsAt (a : Automaton) (t : TableView) (owner : ℕ) (c : Claim State) (atom : Atom) (inside behind : Seq) : Type 0 where
+  pub of_head : Head State
+  pub among : IsOneOf of_head (heads_of a c.left)
+  pub matched : matches of_head.kind atom ≡ true
+  pub fails : IsFailureBySort (is_text_atom atom) t.rows (task_for a owner of_head) (claim_sides a c atom) inside behind
+
+-- the empty document is one of the left and of no right
+pub record IsUncovered (a : Automaton) (left : State) (rights : List State) : Type 0 where
+  pub left_last : is_last_in a left ≡ true
+  pub rights_not : list_any (is_last_in a) rights ≡ false
+
+-- a choice that stands, with an open tree
+pub record IsOpenChoice (a : Automaton) (t : TableView) (owner : ℕ) (c : Claim State) (k : Choice) : Type 0 where
+  pub stands : ChoiceStands a t owner c k
+  pub opens : IsOpen t k
+
+-- a case was settled: by a tree, or by documents
+abbrev pub IsCaseGrown : Automaton → TableView → ℕ → Claim State → ℕ → Atom → Grown → Type 0
+IsCaseGrown a t owner c head atom (Stands root) = IsOpenChoice a t owner c (record { head = head; atom = atom; root = root })
+IsCaseGrown a t owner c head atom (Fails inside behind) = FailsAt a t owner c atom inside behind
+
+-- there are open trees for all cases of a goal
+pub record AreSettled (a : Automaton) (t : TableView) (owner : ℕ) (c : Claim State) (choices : List Choice) : Type 0 where
+  pub named : Named
+  pub names : AreNames (heads_of a c.left ++ right_heads (heads_of a) c) named
+  pub complete : map choice_key choices ≡ wanted_cases named 1 (heads_of a c.left)
+  pub open_choices : AllByRecursion (IsOpenChoice a t owner c) choices
+
+abbrev pub IsSettling : Automaton → TableView → ℕ → Claim State → Settled → Type 0
+IsSettling a t owner c (Holds made) = AreSettled a t owner c made.items
+IsSettling a t owner c (Separates atom inside behind) = FailsAt a t owner c atom inside behind
+
+-- open trees for the first cases
+pub record AreBegun (a : Automaton) (t : TableView) (owner : ℕ) (c : Claim State) (keys : List CaseKey) (choices : List Choice) : Type 0 where
+  pub keys_are : map choice_key choices ≡ keys
+  pub open_choices : AllByRecursion (IsOpenChoice a t owner c) choices

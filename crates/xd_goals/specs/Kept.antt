@@ -1,0 +1,109 @@
+-- What a table keeps about itself, and how it grows. Of what follows only private contracts speak.
+use Rattle.std.specs.Prelude.{◌≡◌, ℕ, ◌<◌, ◌≤◌, ◌⊎◌, List, [], length, Option, Some, slice_get}
+use Rattle.std.specs.Ordering.{nat_cmp}
+use Rattle.std.specs.Cmp.Lexicographic.{slice_cmp}
+use Rattle.std.specs.BTreeMap.{BTreeMap, get}
+use Rattle.xd_doc.specs.Stored.{IsBelow}
+use Rattle.xd_auto.specs.declared.auto.State.{State}
+use Rattle.xd_goals.specs.Moves.{IsInOrder}
+use Rattle.xd_goals.specs.Rows.{GoalRow, TableView, row_at, claim_of, claim_key, IsListed, Leads, RowsBelow}
+use Rattle.xd_goals.specs.declared.table.ChoiceNode.{ChoiceNode}
+use Rattle.xd_doc.specs.declared.store.Seq.{Seq}
+use Rattle.xd_goals.specs.declared.table.Standing.{Standing}
+use Rattle.xd_goals.specs.declared.table.Standing.TheVariants.{Holds, Refuted, Waiting}
+use Rattle.xd_goals.specs.declared.table.Link.{Link}
+use Rattle.xd_goals.specs.declared.goals.Goals.{Goals}
+
+abbrev pub view_of : Goals → TableView
+view_of g = record { rows = g.rows.items; nodes = g.nodes.items; links = g.links.items }
+
+-- the number under a key
+abbrev pub found_at : BTreeMap (List ℕ) ℕ → List ℕ → Option ℕ
+found_at found key = get (slice_cmp nat_cmp) found key
+
+-- the map has each goal's number under its key, and nothing else
+pub record IsIndexed (found : BTreeMap (List ℕ) ℕ) (rows : List GoalRow) : Type 0 where
+  pub all : (i : ℕ) → i < length rows → found_at found (claim_key (claim_of (row_at rows i))) ≡ Some i
+  pub only : (key : List ℕ) (i : ℕ) → found_at found key ≡ Some i → (i < length rows) × (claim_key (claim_of (row_at rows i)) ≡ key)
+
+-- lists of dependents lead to links that are there, each to older ones, and to goals that are there
+pub record AreLinked (rows : List GoalRow) (links : List Link) : Type 0 where
+  pub first : (i : ℕ) → IsBelow (length links) (row_at rows i).dependents
+  pub next : (k : ℕ) (l : Link) → slice_get links k ≡ Some l → IsBelow k l.next
+  pub goals : (k : ℕ) (l : Link) → slice_get links k ≡ Some l → l.goal.number < length rows
+
+pub record IsWhole (g : Goals) : Type 0 where
+  pub index : IsIndexed g.found g.rows.items
+  pub links : AreLinked g.rows.items g.links.items
+
+-- all this, and the goals' states belong to an automaton with so many states
+pub record IsConsistent (n : ℕ) (g : Goals) : Type 0 where
+  pub states : RowsBelow n g.rows.items
+  pub index : IsIndexed g.found g.rows.items
+  pub links : AreLinked g.rows.items g.links.items
+
+-- the same but for the list of dependents
+pub record IsSameGoal (old new : GoalRow) : Type 0 where
+  pub left : new.left ≡ old.left
+  pub rights : new.rights ≡ old.rights
+  pub standing : new.standing ≡ old.standing
+  pub choices : new.choices ≡ old.choices
+
+-- nothing is known of it yet
+pub record IsNew (row : GoalRow) : Type 0 where
+  pub standing : row.standing ≡ Waiting
+  pub choices : row.choices ≡ []
+
+-- goals with such rights, nodes and dependents were added, and nothing else has changed
+pub record GrowsBy (Allows : List State → Type 0) (old new : TableView) : Type 0 where
+  pub longer : length old.rows ≤ length new.rows
+  pub kept : (i : ℕ) → i < length old.rows → IsSameGoal (row_at old.rows i) (row_at new.rows i)
+  pub added : (i : ℕ) → length old.rows ≤ i → IsNew (row_at new.rows i)
+  pub allowed : (i : ℕ) → length old.rows ≤ i → i < length new.rows → Allows (row_at new.rows i).rights
+  pub nodes : (n : ℕ) (node : ChoiceNode) → slice_get old.nodes n ≡ Some node → slice_get new.nodes n ≡ Some node
+  pub listed : (on goal : ℕ) → IsListed old on goal → IsListed new on goal
+
+-- the rights are these
+abbrev pub AreThese : List State → List State → Type 0
+AreThese rights added = added ≡ rights
+
+-- the goals that were added have each right once, in order
+abbrev pub Grows : TableView → TableView → Type 0
+Grows old new = GrowsBy IsInOrder old new
+
+-- the list's first link stands for the goal
+pub record BeginsWith (links : List Link) (first : Option ℕ) (goal : ℕ) : Type 0 where
+  pub place : ℕ
+  pub link : Link
+  pub is_first : first ≡ Some place
+  pub found : slice_get links place ≡ Some link
+  pub is_goal : link.goal.number ≡ goal
+
+abbrev pub with_standing : Standing → GoalRow → GoalRow
+with_standing standing row = record row { standing = standing }
+
+-- the same but for how far it is settled
+pub record IsSameClaim (old new : GoalRow) : Type 0 where
+  pub left : new.left ≡ old.left
+  pub rights : new.rights ≡ old.rights
+  pub choices : new.choices ≡ old.choices
+  pub dependents : new.dependents ≡ old.dependents
+
+-- it stands as it did, or held and waits
+abbrev pub IsWokenRow : GoalRow → GoalRow → Type 0
+IsWokenRow old new = (new.standing ≡ old.standing) ⊎ ((old.standing ≡ Holds) × (new.standing ≡ Waiting))
+
+-- goals that held wait; of these, none holds any more
+pub record IsWoken (These : ℕ → Type 0) (old new : List GoalRow) : Type 0 where
+  pub count : length new ≡ length old
+  pub same : (i : ℕ) → IsSameClaim (row_at old i) (row_at new i)
+  pub others : (i : ℕ) → IsWokenRow (row_at old i) (row_at new i)
+  pub these : (i : ℕ) → These i → ¬ ((row_at new i).standing ≡ Holds)
+
+-- the goal is refuted by the document, and none of its dependents holds any more
+pub record Refutes (links : List Link) (goal : ℕ) (seq : Seq) (old new : List GoalRow) : Type 0 where
+  pub count : length new ≡ length old
+  pub same : (i : ℕ) → IsSameClaim (row_at old i) (row_at new i)
+  pub goal_is : (row_at new goal).standing ≡ Refuted seq
+  pub others : (i : ℕ) → ¬ (i ≡ goal) → IsWokenRow (row_at old i) (row_at new i)
+  pub dependents : (i : ℕ) → Leads links i (row_at old goal).dependents → ¬ ((row_at new i).standing ≡ Holds)

@@ -1,0 +1,10 @@
+pub mod Moves
+pub mod Rows
+pub mod Kept
+pub mod Trees
+pub mod Standing
+pub mod Cases
+pub mod Reached
+pub mod Truth
+pub mod Verdicts
+pub mod Measure

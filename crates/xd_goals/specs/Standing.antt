@@ -1,0 +1,73 @@
+-- A table stands on an automaton and a store: what its goals say of them.
+use Rattle.std.specs.Prelude.{◌≡◌, ℕ, ◌<◌, ◌≤◌, true, List, [], ◌++◌, map, length, Some}
+use Rattle.std.specs.List.{AllByRecursion, list_any}
+use Rattle.xd_doc.specs.Document.{Document}
+use Rattle.xd_doc.specs.Stored.{BelongsTo, document_at}
+use Rattle.xd_doc.specs.declared.store.Seq.{Seq}
+use Rattle.xd_auto.specs.declared.auto.State.{State}
+use Rattle.xd_auto.specs.Automaton.{Automaton}
+use Rattle.xd_rules.specs.declared.atom.Atom.{Atom}
+use Rattle.xd_rules.specs.Heads.{Head, Named, AreNames, matches, is_text_atom}
+use Rattle.xd_rules.specs.Rules.{Claim, ChoiceTree, AllLeaves, head_number, right_heads, wanted_cases}
+use Rattle.xd_rules.specs.Meaning.{Separates}
+use Rattle.xd_goals.specs.Moves.{heads_of, is_last_in, Accepts}
+use Rattle.xd_goals.specs.Rows.{GoalRow, TableView, row_at, claim_of, choice_key, IsRefuted, RowsBelow}
+use Rattle.xd_goals.specs.Trees.{StandsAt, matching_sides, IsTreeBySort, HasTree}
+use Rattle.xd_goals.specs.declared.table.Choice.{Choice}
+use Rattle.xd_goals.specs.declared.table.Standing.TheVariants.{Holds, Refuted}
+use Rattle.xd_goals.specs.declared.grow.Task.{Task}
+use Rattle.xd_goals.specs.declared.heads.Side.{Side}
+
+-- the document of the store is one that the goal's left accepts and none of its rights does
+pub record IsSeparatedBy (a : Automaton) (ds : List Document) (c : Claim State) (seq : Seq) : Type 0 where
+  pub belongs : BelongsTo ds seq
+  pub separates : Separates (Accepts a) c (document_at ds seq)
+
+-- the right heads of a claim that match an atom
+abbrev pub claim_sides : Automaton → Claim State → Atom → List Side
+claim_sides a c atom = matching_sides atom 1 (right_heads (heads_of a) c)
+
+abbrev pub task_for : Automaton → ℕ → Head State → Task
+task_for a owner h = record { owner = record { number = owner }; content = h.content; rest = h.rest; states = length a }
+
+-- the tree is one for this head at this atom
+abbrev pub IsCaseTree : Automaton → List GoalRow → ℕ → Claim State → Head State → Atom → ChoiceTree → Type 0
+IsCaseTree a rows owner c h atom tree = IsTreeBySort (is_text_atom atom) rows (task_for a owner h) (claim_sides a c atom) tree
+
+-- a choice of a goal: a head of its left at an atom of it, with a tree
+pub record ChoiceStands (a : Automaton) (t : TableView) (owner : ℕ) (c : Claim State) (k : Choice) : Type 0 where
+  pub head : Head State
+  pub found : head_number (heads_of a c.left) k.head ≡ Some head
+  pub matched : matches head.kind k.atom ≡ true
+  pub has : HasTree t (IsCaseTree a t.rows owner c head k.atom) owner k.root
+
+-- no leaf names a refuted goal
+abbrev pub IsOpen : TableView → Choice → Type 0
+IsOpen t k = (tree : ChoiceTree) → StandsAt t.nodes k.root tree → AllLeaves (λ g. ¬ (IsRefuted t.rows g)) tree
+
+-- a goal that has its choices: the empty document is covered, and there is one tree for each head and atom, in order
+pub record IsBegun (a : Automaton) (c : Claim State) (choices : List Choice) : Type 0 where
+  pub last : is_last_in a c.left ≡ true → list_any (is_last_in a) c.rights ≡ true
+  pub named : Named
+  pub names : AreNames (heads_of a c.left ++ right_heads (heads_of a) c) named
+  pub complete : map choice_key choices ≡ wanted_cases named 1 (heads_of a c.left)
+
+-- a goal that holds: it has its choices, and all their trees are open
+pub record RowHolds (a : Automaton) (t : TableView) (c : Claim State) (choices : List Choice) : Type 0 where
+  pub begun : IsBegun a c choices
+  pub opens : AllByRecursion (IsOpen t) choices
+
+-- the table stands on the automaton and the store
+pub record StandsOn (a : Automaton) (ds : List Document) (t : TableView) : Type 0 where
+  pub states : RowsBelow (length a) t.rows
+  pub unlike : (i j : ℕ) → i < length t.rows → j < length t.rows → claim_of (row_at t.rows i) ≡ claim_of (row_at t.rows j) → i ≡ j
+  pub refuted : (i : ℕ) (seq : Seq) → (row_at t.rows i).standing ≡ Refuted seq → IsSeparatedBy a ds (claim_of (row_at t.rows i)) seq
+  pub choices : (i : ℕ) → AllByRecursion (ChoiceStands a t i (claim_of (row_at t.rows i))) (row_at t.rows i).choices
+  pub begun : (i : ℕ) → ¬ ((row_at t.rows i).choices ≡ []) → IsBegun a (claim_of (row_at t.rows i)) (row_at t.rows i).choices
+  pub holds : (i : ℕ) → (row_at t.rows i).standing ≡ Holds → RowHolds a t (claim_of (row_at t.rows i)) (row_at t.rows i).choices
+
+-- goals stay, with their states, and those that are refuted stay so
+pub record KeepsGoals (old new : TableView) : Type 0 where
+  pub longer : length old.rows ≤ length new.rows
+  pub claims : (i : ℕ) → i < length old.rows → claim_of (row_at new.rows i) ≡ claim_of (row_at old.rows i)
+  pub refuted : (i : ℕ) (seq : Seq) → (row_at old.rows i).standing ≡ Refuted seq → (row_at new.rows i).standing ≡ Refuted seq

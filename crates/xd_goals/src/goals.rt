@@ -1,0 +1,266 @@
+//! What a table keeps, and the steps by which it changes.
+
+ghost use Rattle.std.specs.Prelude.{◌≡◌, ℕ, ◌<◌, ◌++◌, ◌∷◌, [], cond, List, None, Some, Option, length, nat_eq, slice_set, false, true, slice_get, slice_index_or, IfOk, IfSome, IfNone, OnErr, OnOk, vec_len};
+ghost use Rattle.std.specs.Cmp.Lexicographic.{pointwise};
+ghost use Rattle.xd_auto.specs.Automaton.{state_number};
+ghost use Rattle.xd_doc.specs.Stored.{IsBelow};
+ghost use Rattle.xd_goals.specs.Moves.{AreBelow, claim_with};
+ghost use Rattle.xd_goals.specs.Rows.{IsListed, IsRefuted, claim_at, claim_key, new_row, row_at};
+ghost use Rattle.xd_goals.specs.Kept.{AreLinked, AreThese, BeginsWith, Grows, GrowsBy, IsConsistent, IsWoken, Refutes, found_at, view_of, with_standing};
+ghost use Rattle.xd_goals.specs.Rows.{Leads};
+
+use crate::key::Key;
+use crate::table::{Choice, ChoiceNode, GoalId, Link, Row, Standing};
+use std::alloc::Global;
+use std::collections::BTreeMap;
+use xd_auto::State;
+use xd_doc::{NoMemory, Seq};
+
+/// The goals, the nodes of their choice trees, the links of their lists of dependents, and the goals'
+/// numbers by their states.
+///
+/// Nodes and links never change: a choice tree changes by new nodes, and its root is set last.
+#[derive(Drop)]
+pub(crate) struct Goals {
+    pub(crate) rows: Vec<Row>,
+    pub(crate) nodes: Vec<ChoiceNode>,
+    pub(crate) links: Vec<Link>,
+    pub(crate) found: BTreeMap<Key, usize>,
+}
+
+impl Goals {
+    /// No goal.
+    pub(crate) fn new(alloc: Global) -> Self
+        ensures rows { result.rows.items ≡ [] }
+        ensures nodes { result.nodes.items ≡ [] }
+        ensures links { result.links.items ≡ [] }
+        ensures found { (key : List ℕ) → found_at result.found key ≡ None }
+    {
+        Self {
+            rows: Vec::new(alloc),
+            nodes: Vec::new(alloc),
+            links: Vec::new(alloc),
+            found: BTreeMap::new(alloc),
+        }
+    }
+
+    /// How far a goal is settled.
+    pub(crate) fn standing(&self, goal: GoalId) -> Standing
+        requires { goal.number < length self.now.rows.items }
+        ensures { result ≡ (row_at self.now.rows.items goal.number).standing }
+    {
+        let row = &self.rows[goal.number];
+        row.standing
+    }
+
+    /// Whether it is refuted.
+    pub(crate) fn is_refuted(&self, goal: GoalId) -> bool
+        requires { goal.number < length self.now.rows.items }
+        ensures { result ≡ false → ¬ (IsRefuted self.now.rows.items goal.number) }
+    {
+        matches!(self.standing(goal), Standing::Refuted(_))
+    }
+}
+
+/// The key of a goal.
+fn key_of(alloc: Global, left: State, rights: &[State]) -> Result<Key, NoMemory>
+    ensures { IfOk result (λ key. key ≡ claim_key (claim_with left rights.now)) }
+{
+    let mut numbers = Vec::new(alloc);
+    numbers.push(left.number())?;
+    for state in rights {
+        numbers.push(state.number())?;
+    }
+    Ok(Key { numbers })
+}
+
+/// Puts a number under a key.
+fn put(found: &mut BTreeMap<Key, usize>, key: Key, number: usize) -> Result<(), NoMemory>
+    ensures ok { OnOk result ((q : List ℕ) → found_at found.new q ≡ cond (pointwise nat_eq key q) (Some number) (found_at found.old q)) }
+    ensures err { OnErr result ((q : List ℕ) → found_at found.new q ≡ found_at found.old q) }
+{
+    found.insert(key, number)?;
+    Ok(())
+}
+
+/// A new goal, which waits.
+fn add_row(
+    alloc: Global,
+    rows: &mut Vec<Row>,
+    found: &mut BTreeMap<Key, usize>,
+    key: Key,
+    left: State,
+    rights: &[State],
+) -> Result<GoalId, NoMemory>
+    ensures ok { OnOk result (rows.new.items ≡ rows.old.items ++ new_row left rights.now ∷ []) }
+    ensures place { IfOk result (λ goal. goal.number ≡ length rows.old.items) }
+    ensures found { OnOk result ((q : List ℕ) → found_at found.new q ≡ cond (pointwise nat_eq key q) (Some (length rows.old.items)) (found_at found.old q)) }
+    ensures err { OnErr result (rows.new.items ≡ rows.old.items) }
+    ensures lost { OnErr result ((q : List ℕ) → found_at found.new q ≡ found_at found.old q) }
+{
+    let number = rows.len();
+    let rights = rights.to_vec(alloc)?;
+    rows.push(Row {
+        left,
+        rights,
+        standing: Standing::Waiting,
+        choices: Vec::new(alloc),
+        dependents: None,
+    })?;
+    match put(found, key, number) {
+        Ok(()) => Ok(GoalId { number }),
+        Err(error) => {
+            let _row = rows.pop();
+            Err(error)
+        }
+    }
+}
+
+/// The goal with these states, which is made where it isn't there.
+pub(crate) fn find_or_add(
+    alloc: Global,
+    goals: &mut Goals,
+    states: usize,
+    left: State,
+    rights: &[State],
+) -> Result<GoalId, NoMemory>
+    requires consistent { IsConsistent states goals.old }
+    requires left { state_number left < states }
+    requires rights { AreBelow states rights.now }
+    ensures consistent { IsConsistent states goals.new }
+    ensures grows { GrowsBy (AreThese rights.now) (view_of goals.old) (view_of goals.new) }
+    ensures found { IfOk result (λ goal. claim_at goals.new.rows.items goal.number ≡ Some (claim_with left rights.now)) }
+    ensures there { IfOk result (λ goal. goal.number < length goals.new.rows.items) }
+{
+    let _count = states;
+    let key = key_of(alloc, left, rights)?;
+    match goals.found.get(&key) {
+        Some(number) => Ok(GoalId { number: *number }),
+        None => add_row(alloc, &mut goals.rows, &mut goals.found, key, left, rights),
+    }
+}
+
+/// Whether the list of dependents begins with the goal.
+fn begins_with(links: &[Link], first: Option<usize>, owner: GoalId) -> bool
+    requires { IsBelow (length links.now) first }
+    ensures { result ≡ true → BeginsWith links.now first owner.number }
+{
+    match first {
+        None => false,
+        Some(place) => {
+            let link = links[place];
+            link.goal.number == owner.number
+        }
+    }
+}
+
+/// Sets where a goal's list of dependents begins.
+fn set_dependents(rows: &mut Vec<Row>, goal: GoalId, link: usize)
+    requires { goal.number < length rows.old.items }
+    ensures { rows.new.items ≡ slice_set rows.old.items goal.number (record (row_at rows.old.items goal.number) { dependents = Some link }) }
+{
+    let row = &mut rows[goal.number];
+    row.dependents = Some(link);
+}
+
+/// Puts a goal among those that depend on another.
+pub(crate) fn depend(
+    goals: &mut Goals,
+    states: usize,
+    on: GoalId,
+    owner: GoalId,
+) -> Result<(), NoMemory>
+    requires consistent { IsConsistent states goals.old }
+    requires on { on.number < length goals.old.rows.items }
+    requires owner { owner.number < length goals.old.rows.items }
+    ensures consistent { IsConsistent states goals.new }
+    ensures grows { Grows (view_of goals.old) (view_of goals.new) }
+    ensures count { length goals.new.rows.items ≡ length goals.old.rows.items }
+    ensures listed { OnOk result (IsListed (view_of goals.new) on.number owner.number) }
+{
+    let _count = states;
+    let row = &goals.rows[on.number];
+    let next = row.dependents;
+    if begins_with(&goals.links, next, owner) {
+        return Ok(());
+    }
+    let link = goals.links.len();
+    goals.links.push(Link { goal: owner, next })?;
+    set_dependents(&mut goals.rows, on, link);
+    Ok(())
+}
+
+/// A new node.
+pub(crate) fn add_node(
+    goals: &mut Goals,
+    states: usize,
+    node: ChoiceNode,
+) -> Result<usize, NoMemory>
+    requires { IsConsistent states goals.old }
+    ensures consistent { IsConsistent states goals.new }
+    ensures rows { goals.new.rows.items ≡ goals.old.rows.items }
+    ensures grows { Grows (view_of goals.old) (view_of goals.new) }
+    ensures found { IfOk result (λ n. slice_get goals.new.nodes.items n ≡ Some node) }
+    ensures place { IfOk result (λ n. n ≡ length goals.old.nodes.items) }
+{
+    let _count = states;
+    let number = goals.nodes.len();
+    goals.nodes.push(node)?;
+    Ok(number)
+}
+
+/// Says that the goal holds by these choice trees, as far as those hold that it rests on.
+pub(crate) fn hold(rows: &mut Vec<Row>, goal: GoalId, choices: Vec<Choice>)
+    requires { goal.number < length rows.old.items }
+    ensures { rows.new.items ≡ slice_set rows.old.items goal.number (record (row_at rows.old.items goal.number) { standing = Standing.Holds; choices = choices.items }) }
+{
+    let row = &mut rows[goal.number];
+    row.choices = choices;
+    row.standing = Standing::Holds;
+}
+
+/// Sets how far a goal is settled.
+fn set_standing(rows: &mut Vec<Row>, goal: GoalId, standing: Standing)
+    requires { goal.number < length rows.old.items }
+    ensures { rows.new.items ≡ slice_set rows.old.items goal.number (with_standing standing (row_at rows.old.items goal.number)) }
+{
+    let row = &mut rows[goal.number];
+    row.standing = standing;
+}
+
+/// Lets a goal that holds wait.
+fn wake(rows: &mut Vec<Row>, goal: GoalId)
+    requires { goal.number < length rows.old.items }
+    ensures { IsWoken (λ k. k ≡ goal.number) rows.old.items rows.new.items }
+{
+    let row = &rows[goal.number];
+    if let Standing::Holds = row.standing {
+        set_standing(rows, goal, Standing::Waiting);
+    }
+}
+
+/// Lets those of a goal's dependents that hold wait.
+fn wake_all(rows: &mut Vec<Row>, links: &[Link], first: Option<usize>)
+    requires links { AreLinked rows.old.items links.now }
+    requires first { IsBelow (length links.now) first }
+    ensures { IsWoken (λ k. Leads links.now k first) rows.old.items rows.new.items }
+{
+    let mut at = first;
+    while let Some(place) = at {
+        let link = links[place];
+        wake(rows, link.goal);
+        at = link.next;
+    }
+}
+
+/// Refutes a goal by a document, and lets those of its dependents that hold wait. It takes no memory.
+pub(crate) fn refute(rows: &mut Vec<Row>, links: &[Link], goal: GoalId, document: Seq)
+    requires goal { goal.number < length rows.old.items }
+    requires links { AreLinked rows.old.items links.now }
+    ensures { Refutes links.now goal.number document rows.old.items rows.new.items }
+{
+    let row = &rows[goal.number];
+    let first = row.dependents;
+    set_standing(rows, goal, Standing::Refuted(document));
+    wake_all(rows, links, first);
+}

@@ -1,0 +1,262 @@
+//! How choice trees grow.
+
+ghost use Rattle.std.specs.Prelude.{◌≡◌, ◌<◌, ◌≤◌, [], length, Some, slice_get, IfOk};
+ghost use Rattle.xd_auto.specs.Automaton.{state_number};
+ghost use Rattle.xd_goals.specs.Moves.{AreBelow, IsInOrder, claim_with, with_state};
+ghost use Rattle.xd_goals.specs.Rows.{claim_at};
+ghost use Rattle.xd_goals.specs.Kept.{Grows, IsConsistent, view_of};
+ghost use Rattle.xd_goals.specs.Trees.{ArePlaced, GrownAs, HasOpenTree, HasTree, IsFailure, IsGrown, IsLeafFor, IsPathBelow, IsSplitAt, IsTextFailure, IsTextTree, gathered};
+
+use crate::goals::{Goals, add_node, depend, find_or_add};
+use crate::heads::Side;
+use crate::table::{ChoiceNode, GoalId, Standing};
+use std::alloc::Global;
+use xd_auto::State;
+use xd_doc::{NoMemory, Seq};
+
+/// What a choice tree is for: its goal, what the left head says of the content and the rest, and the
+/// number of the automaton's states, of which only contracts speak.
+#[derive(Clone, Copy, Debug)]
+pub(crate) struct Task {
+    pub(crate) owner: GoalId,
+    pub(crate) content: State,
+    pub(crate) rest: State,
+    pub(crate) states: usize,
+}
+
+/// A tree by its root, none of whose leaves names a refuted goal; or, where no right head is left to
+/// split on, a content and a rest that are refuted on the path.
+#[derive(Clone, Copy, Debug)]
+pub(crate) enum Grown {
+    Stands(usize),
+    Fails(Seq, Seq),
+}
+
+/// The states with one more, each once, in the order of their numbers.
+fn with_state(alloc: Global, states: &[State], state: State) -> Result<Vec<State>, NoMemory>
+    ensures { IfOk result (λ made. made.items ≡ with_state state states.now) }
+{
+    let mut place = 0;
+    while place < states.len() && states[place].number() < state.number() {
+        place += 1;
+    }
+    let mut made = states.to_vec(alloc)?;
+    if place == states.len() || states[place] != state {
+        made.insert(place, state)?;
+    }
+    Ok(made)
+}
+
+/// The right head at this place.
+fn side_of(sides: &[Side], place: usize) -> Side
+    requires { place < length sides.now }
+    ensures { slice_get sides.now place ≡ Some result }
+{
+    sides[place]
+}
+
+/// The goal for a leaf, among whose dependents the tree's goal is.
+fn leaf(
+    alloc: Global,
+    goals: &mut Goals,
+    task: Task,
+    left: State,
+    rights: &[State],
+) -> Result<GoalId, NoMemory>
+    requires consistent { IsConsistent task.states goals.old }
+    requires owner { task.owner.number < length goals.old.rows.items }
+    requires left { state_number left < task.states }
+    requires rights { AreBelow task.states rights.now }
+    requires order { IsInOrder rights.now }
+    ensures consistent { IsConsistent task.states goals.new }
+    ensures grows { Grows (view_of goals.old) (view_of goals.new) }
+    ensures ok { IfOk result (λ goal. IsLeafFor (view_of goals.new) task.owner.number (claim_with left rights.now) goal.number) }
+    ensures there { IfOk result (λ goal. goal.number < length goals.new.rows.items) }
+{
+    let goal = find_or_add(alloc, goals, task.states, left, rights)?;
+    depend(goals, task.states, goal, task.owner)?;
+    Ok(goal)
+}
+
+/// A node that splits on a right head.
+fn add_split(
+    goals: &mut Goals,
+    task: Task,
+    right: usize,
+    content: usize,
+    rest: usize,
+) -> Result<usize, NoMemory>
+    requires consistent { IsConsistent task.states goals.old }
+    requires content { content < length goals.old.nodes.items }
+    requires rest { rest < length goals.old.nodes.items }
+    ensures consistent { IsConsistent task.states goals.new }
+    ensures rows { goals.new.rows.items ≡ goals.old.rows.items }
+    ensures grows { Grows (view_of goals.old) (view_of goals.new) }
+    ensures split { IfOk result (IsSplitAt goals.new.nodes.items right content rest) }
+{
+    add_node(
+        goals,
+        task.states,
+        ChoiceNode::Split {
+            right,
+            content,
+            rest,
+        },
+    )
+}
+
+/// A tree for an element, from a path on which the matching right heads before the place `from` are
+/// on the two sides.
+pub(crate) fn grow(
+    alloc: Global,
+    goals: &mut Goals,
+    task: Task,
+    sides: &[Side],
+    contents: &[State],
+    rests: &[State],
+    from: usize,
+) -> Result<Grown, NoMemory>
+    requires consistent { IsConsistent task.states goals.old }
+    requires owner { task.owner.number < length goals.old.rows.items }
+    requires path { IsPathBelow task.states task sides.now contents.now rests.now }
+    requires placed { ArePlaced sides.now contents.now rests.now from }
+    requires from { from ≤ length sides.now }
+    ensures consistent { IsConsistent task.states goals.new }
+    ensures grows { Grows (view_of goals.old) (view_of goals.new) }
+    ensures grown { IfOk result (GrownAs
+        (HasOpenTree (view_of goals.new) (λ tree. IsGrown goals.new.rows.items task sides.now tree contents.now rests.now from) task.owner.number)
+        (IsFailure goals.new.rows.items task sides.now)) }
+{
+    let content = leaf(alloc, goals, task, task.content, contents)?;
+    let Standing::Refuted(inside) = goals.standing(content) else {
+        return Ok(Grown::Stands(add_node(goals, task.states, ChoiceNode::Content(content))?));
+    };
+    let rest = leaf(alloc, goals, task, task.rest, rests)?;
+    let Standing::Refuted(behind) = goals.standing(rest) else {
+        return Ok(Grown::Stands(add_node(goals, task.states, ChoiceNode::Rest(rest))?));
+    };
+    if from >= sides.len() {
+        return Ok(Grown::Fails(inside, behind));
+    }
+    let side = side_of(sides, from);
+    let more = with_state(alloc, contents, side.content)?;
+    match grow(alloc, goals, task, sides, &more, rests, from + 1)? {
+        Grown::Fails(inside, behind) => Ok(Grown::Fails(inside, behind)),
+        Grown::Stands(one) => {
+            let more = with_state(alloc, rests, side.rest)?;
+            match grow(alloc, goals, task, sides, contents, &more, from + 1)? {
+                Grown::Fails(inside, behind) => Ok(Grown::Fails(inside, behind)),
+                Grown::Stands(two) => Ok(Grown::Stands(add_split(
+                    goals,
+                    task,
+                    side.number,
+                    one,
+                    two,
+                )?)),
+            }
+        }
+    }
+}
+
+/// The node of this number.
+pub(crate) fn node_at(nodes: &[ChoiceNode], number: usize) -> ChoiceNode
+    requires { number < length nodes.now }
+    ensures { slice_get nodes.now number ≡ Some result }
+{
+    nodes[number]
+}
+
+/// The tree of this root with each leaf that names a refuted goal grown anew.
+pub(crate) fn repair(
+    alloc: Global,
+    goals: &mut Goals,
+    task: Task,
+    sides: &[Side],
+    root: usize,
+    contents: &[State],
+    rests: &[State],
+    from: usize,
+) -> Result<Grown, NoMemory>
+    requires consistent { IsConsistent task.states goals.old }
+    requires owner { task.owner.number < length goals.old.rows.items }
+    requires path { IsPathBelow task.states task sides.now contents.now rests.now }
+    requires placed { ArePlaced sides.now contents.now rests.now from }
+    requires from { from ≤ length sides.now }
+    requires tree { HasTree (view_of goals.old) (λ tree. IsGrown goals.old.rows.items task sides.now tree contents.now rests.now from) task.owner.number root }
+    ensures consistent { IsConsistent task.states goals.new }
+    ensures grows { Grows (view_of goals.old) (view_of goals.new) }
+    ensures grown { IfOk result (GrownAs
+        (HasOpenTree (view_of goals.new) (λ tree. IsGrown goals.new.rows.items task sides.now tree contents.now rests.now from) task.owner.number)
+        (IsFailure goals.new.rows.items task sides.now)) }
+{
+    match node_at(&goals.nodes, root) {
+        ChoiceNode::Content(goal) => {
+            if goals.is_refuted(goal) {
+                grow(alloc, goals, task, sides, contents, rests, from)
+            } else {
+                Ok(Grown::Stands(root))
+            }
+        }
+        ChoiceNode::Rest(goal) => {
+            if goals.is_refuted(goal) {
+                grow(alloc, goals, task, sides, contents, rests, from)
+            } else {
+                Ok(Grown::Stands(root))
+            }
+        }
+        ChoiceNode::Split { content, rest, .. } => {
+            let side = side_of(sides, from);
+            let more = with_state(alloc, contents, side.content)?;
+            match repair(alloc, goals, task, sides, content, &more, rests, from + 1)? {
+                Grown::Fails(inside, behind) => Ok(Grown::Fails(inside, behind)),
+                Grown::Stands(one) => {
+                    let more = with_state(alloc, rests, side.rest)?;
+                    match repair(alloc, goals, task, sides, rest, contents, &more, from + 1)? {
+                        Grown::Fails(inside, behind) => Ok(Grown::Fails(inside, behind)),
+                        Grown::Stands(two) => {
+                            if one == content && two == rest {
+                                return Ok(Grown::Stands(root));
+                            }
+                            Ok(Grown::Stands(add_split(goals, task, side.number, one, two)?))
+                        }
+                    }
+                }
+            }
+        }
+    }
+}
+
+/// The rests of right heads.
+fn rests_of(alloc: Global, sides: &[Side]) -> Result<Vec<State>, NoMemory>
+    ensures { IfOk result (λ rests. rests.items ≡ gathered [] sides.now) }
+{
+    let mut rests = Vec::new(alloc);
+    for side in sides {
+        rests = with_state(alloc, &rests, side.rest)?;
+    }
+    Ok(rests)
+}
+
+/// A tree for a text: one leaf for the rest.
+pub(crate) fn grow_text(
+    alloc: Global,
+    goals: &mut Goals,
+    task: Task,
+    sides: &[Side],
+) -> Result<Grown, NoMemory>
+    requires consistent { IsConsistent task.states goals.old }
+    requires owner { task.owner.number < length goals.old.rows.items }
+    requires path { IsPathBelow task.states task sides.now [] [] }
+    ensures consistent { IsConsistent task.states goals.new }
+    ensures grows { Grows (view_of goals.old) (view_of goals.new) }
+    ensures grown { IfOk result (GrownAs
+        (HasOpenTree (view_of goals.new) (IsTextTree goals.new.rows.items task sides.now) task.owner.number)
+        (λ inside behind. IsTextFailure goals.new.rows.items task sides.now behind)) }
+{
+    let rests = rests_of(alloc, sides)?;
+    let rest = leaf(alloc, goals, task, task.rest, &rests)?;
+    match goals.standing(rest) {
+        Standing::Refuted(behind) => Ok(Grown::Fails(Seq::empty(), behind)),
+        _ => Ok(Grown::Stands(add_node(goals, task.states, ChoiceNode::Rest(rest))?)),
+    }
+}

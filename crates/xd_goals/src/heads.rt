@@ -1,0 +1,505 @@
+//! Heads of states, as a case of a goal sees them.
+
+ghost use Rattle.std.specs.Prelude.{◌≡◌, ◌+◌, ◌<◌, ◌≤◌, ◌^◌, ◌++◌, length, map, slice_index_or, IfOk, OnOk, true};
+ghost use Rattle.std.specs.List.{AllByRecursion, filter, flat_map};
+ghost use Rattle.xd_doc.specs.Classes.{class_has};
+ghost use Rattle.xd_auto.specs.Automaton.{IsState, moves_at};
+ghost use Rattle.xd_rules.specs.Heads.{AreNames, IsSorted, element_in, is_text_atom, text_in};
+ghost use Rattle.xd_goals.specs.Moves.{heads_of, label_head, text_head};
+ghost use Rattle.xd_goals.specs.Trees.{matching_sides};
+ghost use Rattle.xd_goals.specs.Cases.{AreAmong, HasHead, IsHeadNamed, head_labels, head_texts, label_wants, names_in, text_wants, wants_at, wants_of};
+
+use std::alloc::Global;
+use xd_auto::{Auto, State};
+use xd_doc::{Class, Label, NoMemory, Text, Words};
+use xd_rules::Atom;
+
+/// A right head that matches an atom: its number, from 1 on, and what it says of the content and of
+/// the rest.
+#[derive(Clone, Copy, Debug)]
+pub(crate) struct Side {
+    pub(crate) number: usize,
+    pub(crate) content: State,
+    pub(crate) rest: State,
+}
+
+/// A case of a goal: a left head, its number and an atom of it.
+#[derive(Debug, Drop)]
+pub(crate) struct Want {
+    pub(crate) head: usize,
+    pub(crate) atom: Atom,
+    pub(crate) content: State,
+    pub(crate) rest: State,
+}
+
+/// All labels, and all texts, but those that the heads of some states name.
+#[derive(Drop)]
+pub(crate) struct Unnamed {
+    pub(crate) labels: Class,
+    pub(crate) texts: Words,
+}
+
+/// Whether the atom stands for texts.
+pub(crate) fn is_text(atom: &Atom) -> bool
+    ensures { result ≡ is_text_atom atom.now }
+{
+    match atom {
+        Atom::Label(_) => false,
+        Atom::OtherLabel => false,
+        Atom::Text(_) => true,
+        Atom::OtherText => true,
+    }
+}
+
+/// Puts the heads of a state that take a label behind the others, where so many heads stand before
+/// them.
+fn add_with_label(
+    sides: &mut Vec<Side>,
+    auto: &Auto,
+    state: State,
+    label: &Label,
+    before: usize,
+) -> Result<(), NoMemory>
+    requires state { IsState auto.now state }
+    requires room { before + length (moves_at auto.now state).labels < 2 ^ 64 }
+    ensures { OnOk result (sides.new.items ≡ sides.old.items ++ matching_sides (Atom.Label label.now) (before + 1) (map label_head (moves_at auto.now state).labels)) }
+{
+    let moves = auto.label_moves(state);
+    let mut from = 0;
+    while let Some(number) = auto.next_label_move(state, label, from) {
+        let step = &moves[number];
+        sides.push(Side {
+            number: before + number + 1,
+            content: step.content,
+            rest: step.rest,
+        })?;
+        from = number + 1;
+    }
+    Ok(())
+}
+
+/// The same for the heads that take a text.
+fn add_with_text(
+    sides: &mut Vec<Side>,
+    auto: &Auto,
+    state: State,
+    text: &Text,
+    before: usize,
+) -> Result<(), NoMemory>
+    requires state { IsState auto.now state }
+    requires room { before + length (moves_at auto.now state).texts < 2 ^ 64 }
+    ensures { OnOk result (sides.new.items ≡ sides.old.items ++ matching_sides (Atom.Text text.now) (before + 1) (map text_head (moves_at auto.now state).texts)) }
+{
+    let moves = auto.text_moves(state);
+    let mut from = 0;
+    while let Some(number) = auto.next_text_move(state, text, from) {
+        let step = &moves[number];
+        sides.push(Side {
+            number: before + number + 1,
+            content: step.rest,
+            rest: step.rest,
+        })?;
+        from = number + 1;
+    }
+    Ok(())
+}
+
+/// The same for the heads that take labels which nothing names.
+fn add_with_other_labels(
+    sides: &mut Vec<Side>,
+    auto: &Auto,
+    state: State,
+    before: usize,
+) -> Result<(), NoMemory>
+    requires state { IsState auto.now state }
+    requires room { before + length (moves_at auto.now state).labels < 2 ^ 64 }
+    ensures { OnOk result (sides.new.items ≡ sides.old.items ++ matching_sides Atom.OtherLabel (before + 1) (map label_head (moves_at auto.now state).labels)) }
+{
+    let moves = auto.label_moves(state);
+    for number in 0..moves.len() {
+        let step = &moves[number];
+        if !step.class.takes_others() {
+            continue;
+        }
+        sides.push(Side {
+            number: before + number + 1,
+            content: step.content,
+            rest: step.rest,
+        })?;
+    }
+    Ok(())
+}
+
+/// The same for the heads that take texts which nothing names.
+fn add_with_other_texts(
+    sides: &mut Vec<Side>,
+    auto: &Auto,
+    state: State,
+    before: usize,
+) -> Result<(), NoMemory>
+    requires state { IsState auto.now state }
+    requires room { before + length (moves_at auto.now state).texts < 2 ^ 64 }
+    ensures { OnOk result (sides.new.items ≡ sides.old.items ++ matching_sides Atom.OtherText (before + 1) (map text_head (moves_at auto.now state).texts)) }
+{
+    let moves = auto.text_moves(state);
+    for number in 0..moves.len() {
+        let step = &moves[number];
+        if !step.words.takes_others() {
+            continue;
+        }
+        sides.push(Side {
+            number: before + number + 1,
+            content: step.rest,
+            rest: step.rest,
+        })?;
+    }
+    Ok(())
+}
+
+/// Puts the heads of a state that match an atom behind the others, where so many heads stand before
+/// them.
+fn add_sides(
+    sides: &mut Vec<Side>,
+    auto: &Auto,
+    state: State,
+    atom: &Atom,
+    before: usize,
+) -> Result<(), NoMemory>
+    requires state { IsState auto.now state }
+    requires room { before + length (heads_of auto.now state) < 2 ^ 64 }
+    ensures { OnOk result (sides.new.items ≡ sides.old.items ++ matching_sides atom.now (before + 1) (heads_of auto.now state)) }
+{
+    let labels = auto.label_moves(state);
+    let _texts = auto.text_moves(state);
+    let behind = before + labels.len();
+    match atom {
+        Atom::Label(label) => add_with_label(sides, auto, state, label, before),
+        Atom::OtherLabel => add_with_other_labels(sides, auto, state, before),
+        Atom::Text(text) => add_with_text(sides, auto, state, text, behind),
+        Atom::OtherText => add_with_other_texts(sides, auto, state, behind),
+    }
+}
+
+/// So many heads, and those of a state.
+fn count_heads(auto: &Auto, state: State, before: usize) -> Result<usize, NoMemory>
+    requires { IsState auto.now state }
+    ensures { IfOk result (λ count. count ≡ before + length (heads_of auto.now state)) }
+{
+    let labels = auto.label_moves(state);
+    let texts = auto.text_moves(state);
+    let heads = labels.len() + texts.len();
+    before.checked_add(heads).ok_or(NoMemory)
+}
+
+/// The state at this place.
+fn state_at(states: &[State], place: usize) -> State
+    requires { place < length states.now }
+    ensures { result ≡ slice_index_or states.now place result }
+{
+    states[place]
+}
+
+/// The right heads that match an atom, in order. Their numbers count over the rights in order.
+pub(crate) fn sides_of(
+    alloc: Global,
+    auto: &Auto,
+    rights: &[State],
+    atom: &Atom,
+) -> Result<Vec<Side>, NoMemory>
+    requires { AllByRecursion (IsState auto.now) rights.now }
+    ensures { IfOk result (λ sides. sides.items ≡ matching_sides atom.now 1 (flat_map (heads_of auto.now) rights.now)) }
+{
+    let mut sides = Vec::new(alloc);
+    let mut before = 0;
+    for place in 0..rights.len() {
+        let state = state_at(rights, place);
+        let count = count_heads(auto, state, before)?;
+        add_sides(&mut sides, auto, state, atom, before)?;
+        before = count;
+    }
+    Ok(sides)
+}
+
+/// Puts labels behind the others.
+fn add_labels(names: &mut Vec<Label>, labels: &[Label]) -> Result<(), NoMemory>
+    ensures { OnOk result (names.new.items ≡ names.old.items ++ labels.now) }
+{
+    for label in labels {
+        names.push(label.share()?)?;
+    }
+    Ok(())
+}
+
+/// Puts texts behind the others.
+fn add_texts(names: &mut Vec<Text>, texts: &[Text]) -> Result<(), NoMemory>
+    ensures { OnOk result (names.new.items ≡ names.old.items ++ texts.now) }
+{
+    for text in texts {
+        names.push(text.share()?)?;
+    }
+    Ok(())
+}
+
+/// Puts the labels that a state's heads name behind the others.
+fn add_state_labels(names: &mut Vec<Label>, auto: &Auto, state: State) -> Result<(), NoMemory>
+    requires { IsState auto.now state }
+    ensures { OnOk result (names.new.items ≡ names.old.items ++ flat_map head_labels (heads_of auto.now state)) }
+{
+    let moves = auto.label_moves(state);
+    for step in moves {
+        add_labels(names, step.class.names())?;
+    }
+    Ok(())
+}
+
+/// Puts the texts that a state's heads name behind the others.
+fn add_state_texts(names: &mut Vec<Text>, auto: &Auto, state: State) -> Result<(), NoMemory>
+    requires { IsState auto.now state }
+    ensures { OnOk result (names.new.items ≡ names.old.items ++ flat_map head_texts (heads_of auto.now state)) }
+{
+    let moves = auto.text_moves(state);
+    for step in moves {
+        add_texts(names, step.words.texts())?;
+    }
+    Ok(())
+}
+
+/// All labels but those that the heads of these states name.
+fn unnamed_labels(
+    alloc: Global,
+    auto: &Auto,
+    left: State,
+    rights: &[State],
+) -> Result<Class, NoMemory>
+    requires left { IsState auto.now left }
+    requires rights { AllByRecursion (IsState auto.now) rights.now }
+    ensures names { IfOk result (λ class. IsSorted (flat_map head_labels (heads_of auto.now left ++ flat_map (heads_of auto.now) rights.now)) class.names) }
+    ensures except { IfOk result (λ class. class.except ≡ true) }
+{
+    let mut names = Vec::new(alloc);
+    add_state_labels(&mut names, auto, left)?;
+    for state in rights {
+        add_state_labels(&mut names, auto, *state)?;
+    }
+    Class::new(alloc, names, true)
+}
+
+/// All texts but those that the heads of these states name.
+fn unnamed_texts(
+    alloc: Global,
+    auto: &Auto,
+    left: State,
+    rights: &[State],
+) -> Result<Words, NoMemory>
+    requires left { IsState auto.now left }
+    requires rights { AllByRecursion (IsState auto.now) rights.now }
+    ensures names { IfOk result (λ words. IsSorted (flat_map head_texts (heads_of auto.now left ++ flat_map (heads_of auto.now) rights.now)) words.names) }
+    ensures except { IfOk result (λ words. words.except ≡ true) }
+{
+    let mut names = Vec::new(alloc);
+    add_state_texts(&mut names, auto, left)?;
+    for state in rights {
+        add_state_texts(&mut names, auto, *state)?;
+    }
+    Words::new(alloc, names, true)
+}
+
+/// All labels and all texts but those that the heads of these states name.
+pub(crate) fn unnamed_of(
+    alloc: Global,
+    auto: &Auto,
+    left: State,
+    rights: &[State],
+) -> Result<Unnamed, NoMemory>
+    requires left { IsState auto.now left }
+    requires rights { AllByRecursion (IsState auto.now) rights.now }
+    ensures names { IfOk result (λ made. AreNames (heads_of auto.now left ++ flat_map (heads_of auto.now) rights.now) (names_in made.labels made.texts)) }
+    ensures labels { IfOk result (λ made. made.labels.except ≡ true) }
+    ensures texts { IfOk result (λ made. made.texts.except ≡ true) }
+{
+    let labels = unnamed_labels(alloc, auto, left, rights)?;
+    let texts = unnamed_texts(alloc, auto, left, rights)?;
+    Ok(Unnamed { labels, texts })
+}
+
+/// Puts the cases of a head at those of some labels that its class has behind the others.
+fn add_at_labels(
+    cases: &mut Vec<Want>,
+    labels: &[Label],
+    class: &Class,
+    head: usize,
+    content: State,
+    rest: State,
+) -> Result<(), NoMemory>
+    ensures { OnOk result (cases.new.items ≡ cases.old.items ++ label_wants head (record { kind = element_in class.now; content = content; rest = rest }) (filter (class_has class.now) labels.now)) }
+{
+    for label in labels {
+        if !class.has(label) {
+            continue;
+        }
+        cases.push(Want {
+            head,
+            atom: Atom::Label(label.share()?),
+            content,
+            rest,
+        })?;
+    }
+    Ok(())
+}
+
+/// Puts the cases of a head at those of some texts that its class has behind the others.
+fn add_at_texts(
+    cases: &mut Vec<Want>,
+    texts: &[Text],
+    words: &Words,
+    head: usize,
+    rest: State,
+) -> Result<(), NoMemory>
+    ensures { OnOk result (cases.new.items ≡ cases.old.items ++ text_wants head (record { kind = text_in words.now; content = rest; rest = rest }) (filter (class_has words.now) texts.now)) }
+{
+    for text in texts {
+        if !words.has(text) {
+            continue;
+        }
+        cases.push(Want {
+            head,
+            atom: Atom::Text(text.share()?),
+            content: rest,
+            rest,
+        })?;
+    }
+    Ok(())
+}
+
+/// Puts the cases of a move on an element behind the others: only of a class that excepts labels all
+/// labels that the goal names are tried.
+fn add_label_cases(
+    cases: &mut Vec<Want>,
+    unnamed: &Unnamed,
+    class: &Class,
+    head: usize,
+    content: State,
+    rest: State,
+) -> Result<(), NoMemory>
+    requires { AreAmong class.now.names unnamed.now.labels.names }
+    ensures { OnOk result (cases.new.items ≡ cases.old.items ++ wants_at (names_in unnamed.now.labels unnamed.now.texts) head (record { kind = element_in class.now; content = content; rest = rest })) }
+{
+    let names = unnamed.labels.names();
+    if !class.takes_others() {
+        return add_at_labels(cases, class.names(), class, head, content, rest);
+    }
+    add_at_labels(cases, names, class, head, content, rest)?;
+    cases.push(Want {
+        head,
+        atom: Atom::OtherLabel,
+        content,
+        rest,
+    })?;
+    Ok(())
+}
+
+/// Puts the cases of a move on a text behind the others, in the same way.
+fn add_text_cases(
+    cases: &mut Vec<Want>,
+    unnamed: &Unnamed,
+    words: &Words,
+    head: usize,
+    rest: State,
+) -> Result<(), NoMemory>
+    requires { AreAmong words.now.names unnamed.now.texts.names }
+    ensures { OnOk result (cases.new.items ≡ cases.old.items ++ wants_at (names_in unnamed.now.labels unnamed.now.texts) head (record { kind = text_in words.now; content = rest; rest = rest })) }
+{
+    let names = unnamed.texts.texts();
+    if !words.takes_others() {
+        return add_at_texts(cases, words.texts(), words, head, rest);
+    }
+    add_at_texts(cases, names, words, head, rest)?;
+    cases.push(Want {
+        head,
+        atom: Atom::OtherText,
+        content: rest,
+        rest,
+    })?;
+    Ok(())
+}
+
+/// Puts the cases of a state's moves on an element behind the others.
+fn add_state_label_cases(
+    cases: &mut Vec<Want>,
+    auto: &Auto,
+    left: State,
+    unnamed: &Unnamed,
+) -> Result<(), NoMemory>
+    requires left { IsState auto.now left }
+    requires named { AllByRecursion (IsHeadNamed (names_in unnamed.now.labels unnamed.now.texts)) (heads_of auto.now left) }
+    ensures { OnOk result (cases.new.items ≡ cases.old.items ++ wants_of (names_in unnamed.now.labels unnamed.now.texts) 1 (map label_head (moves_at auto.now left).labels)) }
+{
+    let moves = auto.label_moves(left);
+    for number in 0..moves.len() {
+        let step = &moves[number];
+        add_label_cases(
+            cases,
+            unnamed,
+            &step.class,
+            number + 1,
+            step.content,
+            step.rest,
+        )?;
+    }
+    Ok(())
+}
+
+/// Puts the cases of a state's moves on a text behind the others.
+fn add_state_text_cases(
+    cases: &mut Vec<Want>,
+    auto: &Auto,
+    left: State,
+    unnamed: &Unnamed,
+) -> Result<(), NoMemory>
+    requires left { IsState auto.now left }
+    requires named { AllByRecursion (IsHeadNamed (names_in unnamed.now.labels unnamed.now.texts)) (heads_of auto.now left) }
+    ensures { OnOk result (cases.new.items ≡ cases.old.items ++ wants_of (names_in unnamed.now.labels unnamed.now.texts) (1 + length (moves_at auto.now left).labels) (map text_head (moves_at auto.now left).texts)) }
+{
+    let before = auto.label_moves(left).len();
+    let moves = auto.text_moves(left);
+    for number in 0..moves.len() {
+        let step = &moves[number];
+        add_text_cases(cases, unnamed, &step.words, before + number + 1, step.rest)?;
+    }
+    Ok(())
+}
+
+/// The cases of a goal: each head of its left at each of its atoms.
+pub(crate) fn cases_of(
+    alloc: Global,
+    auto: &Auto,
+    left: State,
+    unnamed: &Unnamed,
+) -> Result<Vec<Want>, NoMemory>
+    requires left { IsState auto.now left }
+    requires named { AllByRecursion (IsHeadNamed (names_in unnamed.now.labels unnamed.now.texts)) (heads_of auto.now left) }
+    ensures { IfOk result (λ cases. cases.items ≡ wants_of (names_in unnamed.now.labels unnamed.now.texts) 1 (heads_of auto.now left)) }
+{
+    let mut cases = Vec::new(alloc);
+    add_state_label_cases(&mut cases, auto, left, unnamed)?;
+    add_state_text_cases(&mut cases, auto, left, unnamed)?;
+    Ok(cases)
+}
+
+/// What the head of this number, from 1 on, says of the content and of the rest.
+pub(crate) fn head_of(auto: &Auto, left: State, number: usize) -> (State, State)
+    requires left { IsState auto.now left }
+    requires positive { 0 < number }
+    requires within { number ≤ length (heads_of auto.now left) }
+    ensures { HasHead auto.now left number result.0 result.1 }
+{
+    let labels = auto.label_moves(left);
+    let texts = auto.text_moves(left);
+    if number <= labels.len() {
+        let step = &labels[number - 1];
+        (step.content, step.rest)
+    } else {
+        let step = &texts[number - 1 - labels.len()];
+        (step.rest, step.rest)
+    }
+}

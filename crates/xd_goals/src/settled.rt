@@ -1,0 +1,118 @@
+//! Which goals a goal rests on.
+
+ghost use Rattle.std.specs.Prelude.{◌≡◌, ◌⊎◌, ℕ, ◌<◌, [], true, false, length, IfOk, OnOk};
+ghost use Rattle.std.specs.List.{AllByRecursion};
+ghost use Rattle.xd_rules.specs.Rules.{ChoiceTree, AllLeaves};
+ghost use Rattle.xd_rules.specs.Members.{SomeOf};
+ghost use Rattle.xd_goals.specs.Rows.{IsRefuted, row_at};
+ghost use Rattle.xd_goals.specs.Kept.{view_of};
+ghost use Rattle.xd_goals.specs.Trees.{StandsAt};
+ghost use Rattle.xd_goals.specs.Reached.{HasTreeWithin, HaveTreesWithin, IsLeafAt, IsSettled, IsWaitingIn, LeadsToMarked, ReachesMore, is_marked};
+ghost use Rattle.xd_goals.specs.Standing.{IsOpen};
+ghost use Rattle.xd_goals.specs.declared.table.Standing.TheVariants.{Holds};
+
+use crate::goals::Goals;
+use crate::grow::node_at;
+use crate::table::{Choice, ChoiceNode, GoalId, Row, Standing};
+use std::alloc::Global;
+use xd_doc::NoMemory;
+
+/// Goals that were reached, in the order in which they were, and a mark for each goal.
+#[derive(Drop)]
+struct Reached {
+    marks: Vec<bool>,
+    order: Vec<usize>,
+}
+
+/// Reaches a goal.
+fn mark(found: &mut Reached, goal: GoalId) -> Result<(), NoMemory>
+    requires { goal.number < length found.old.marks.items }
+    ensures more { ReachesMore found.old.marks.items found.old.order.items found.new.marks.items found.new.order.items }
+    ensures ok { OnOk result (is_marked found.new.marks.items goal.number ≡ true) }
+    ensures only { (g : ℕ) → is_marked found.new.marks.items g ≡ true → (is_marked found.old.marks.items g ≡ true) ⊎ (goal.number ≡ g) }
+{
+    if !found.marks[goal.number] {
+        found.order.push(goal.number)?;
+        found.marks[goal.number] = true;
+    }
+    Ok(())
+}
+
+/// Reaches the goals that the leaves of a tree name.
+fn mark_leaves(nodes: &[ChoiceNode], found: &mut Reached, root: usize) -> Result<(), NoMemory>
+    requires { HasTreeWithin nodes.now (length found.old.marks.items) root }
+    ensures more { ReachesMore found.old.marks.items found.old.order.items found.new.marks.items found.new.order.items }
+    ensures ok { OnOk result ((tree : ChoiceTree) → StandsAt nodes.now root tree → AllLeaves (λ g. is_marked found.new.marks.items g ≡ true) tree) }
+    ensures only { (g : ℕ) → is_marked found.new.marks.items g ≡ true → (is_marked found.old.marks.items g ≡ true) ⊎ IsLeafAt nodes.now root g }
+{
+    match node_at(nodes, root) {
+        ChoiceNode::Content(goal) => mark(found, goal),
+        ChoiceNode::Rest(goal) => mark(found, goal),
+        ChoiceNode::Split { content, rest, .. } => {
+            mark_leaves(nodes, found, content)?;
+            mark_leaves(nodes, found, rest)
+        }
+    }
+}
+
+/// Reaches the goals that a goal's choice trees name.
+fn mark_choices(
+    nodes: &[ChoiceNode],
+    found: &mut Reached,
+    choices: &[Choice],
+) -> Result<(), NoMemory>
+    requires { HaveTreesWithin nodes.now (length found.old.marks.items) choices.now }
+    ensures more { ReachesMore found.old.marks.items found.old.order.items found.new.marks.items found.new.order.items }
+    ensures ok { OnOk result (AllByRecursion (LeadsToMarked nodes.now found.new.marks.items) choices.now) }
+    ensures only { (g : ℕ) → is_marked found.new.marks.items g ≡ true → (is_marked found.old.marks.items g ≡ true) ⊎ SomeOf (λ (k : Choice). IsLeafAt nodes.now k.root g) choices.now }
+{
+    for choice in choices {
+        mark_leaves(nodes, found, choice.root)?;
+    }
+    Ok(())
+}
+
+/// No mark.
+fn no_marks(alloc: Global, rows: &[Row]) -> Result<Vec<bool>, NoMemory>
+    ensures count { IfOk result (λ marks. length marks.items ≡ length rows.now) }
+    ensures none { IfOk result (λ marks. (g : ℕ) → is_marked marks.items g ≡ false) }
+{
+    let mut marks = Vec::new(alloc);
+    for _ in 0..rows.len() {
+        marks.push(false)?;
+    }
+    Ok(marks)
+}
+
+/// The goals that wait among those that a goal leads to through leaves, as far as they are known.
+pub(crate) fn unsettled(
+    alloc: Global,
+    goals: &Goals,
+    start: GoalId,
+) -> Result<Vec<GoalId>, NoMemory>
+    requires start { start.number < length goals.now.rows.items }
+    requires open_start { ¬ (IsRefuted goals.now.rows.items start.number) }
+    requires trees { (i : ℕ) → HaveTreesWithin goals.now.nodes.items (length goals.now.rows.items) (row_at goals.now.rows.items i).choices }
+    requires opens { (i : ℕ) → (row_at goals.now.rows.items i).standing ≡ Holds → AllByRecursion (IsOpen (view_of goals.now)) (row_at goals.now.rows.items i).choices }
+    ensures waiting { IfOk result (λ waiting. AllByRecursion (IsWaitingIn goals.now.rows.items) waiting.items) }
+    ensures none { IfOk result (λ waiting. waiting.items ≡ [] → IsSettled (view_of goals.now) start.number) }
+{
+    let mut found = Reached {
+        marks: no_marks(alloc, &goals.rows)?,
+        order: Vec::new(alloc),
+    };
+    mark(&mut found, start)?;
+    let mut waiting = Vec::new(alloc);
+    let mut next = 0;
+    while next < found.order.len() {
+        let number = found.order[next];
+        let row = &goals.rows[number];
+        match row.standing {
+            Standing::Holds => mark_choices(&goals.nodes, &mut found, &row.choices)?,
+            Standing::Waiting => waiting.push(GoalId { number })?,
+            Standing::Refuted(_) => unreachable!(),
+        }
+        next += 1;
+    }
+    Ok(waiting)
+}

@@ -1,0 +1,423 @@
+//! Work on one goal.
+
+ghost use Rattle.std.specs.Prelude.{◌≡◌, ◌<◌, [], false, true, length, IfOk, OnOk};
+ghost use Rattle.std.specs.List.{AllByRecursion, list_any};
+ghost use Rattle.xd_doc.specs.Stored.{BelongsTo, Keeps, document_at};
+ghost use Rattle.xd_auto.specs.Automaton.{IsState};
+ghost use Rattle.xd_rules.specs.Heads.{is_text_atom};
+ghost use Rattle.xd_goals.specs.Moves.{claim_with, is_last_in};
+ghost use Rattle.xd_goals.specs.Rows.{IsRefuted, claim_of, row_at};
+ghost use Rattle.xd_goals.specs.Kept.{Grows, IsConsistent, IsWhole, view_of};
+ghost use Rattle.xd_goals.specs.Cases.{BeginsAs, FailsAt, IsCaseGrown, IsCaseOf, IsSettling, IsUncovered};
+ghost use Rattle.xd_goals.specs.Standing.{ChoiceStands, IsBegun, IsSeparatedBy, KeepsGoals, StandsOn};
+ghost use Rattle.xd_goals.specs.Reached.{HasTreeWithin, IsOpenAt};
+ghost use Rattle.xd_goals.specs.Measure.{AreMadeFrom, Lowers};
+ghost use Rattle.xd_goals.specs.declared.table.Standing.TheVariants.{Waiting};
+
+use crate::goals::{Goals, hold, refute};
+use crate::grow::{Grown, Task, grow, grow_text, node_at, repair};
+use crate::heads::{Unnamed, Want, cases_of, head_of, is_text, sides_of, unnamed_of};
+use crate::table::{Choice, ChoiceNode, GoalId, Row, Standing};
+use std::alloc::Global;
+use xd_auto::{Auto, State};
+use xd_doc::{NoMemory, Seq, Store};
+use xd_empty::{label_of, text_of};
+use xd_rules::Atom;
+
+/// An equal atom.
+fn share(atom: &Atom) -> Result<Atom, NoMemory>
+    ensures { IfOk result (λ shared. shared ≡ atom.now) }
+{
+    match atom {
+        Atom::Label(label) => Ok(Atom::Label(label.share()?)),
+        Atom::OtherLabel => Ok(Atom::OtherLabel),
+        Atom::Text(text) => Ok(Atom::Text(text.share()?)),
+        Atom::OtherText => Ok(Atom::OtherText),
+    }
+}
+
+/// Whether some state accepts the empty document.
+fn any_last(auto: &Auto, states: &[State]) -> bool
+    requires { AllByRecursion (IsState auto.now) states.now }
+    ensures { result ≡ list_any (is_last_in auto.now) states.now }
+{
+    for state in states {
+        if auto.is_last(*state) {
+            return true;
+        }
+    }
+    false
+}
+
+/// A document that begins as the atom says.
+fn begin_with(
+    alloc: Global,
+    store: &mut Store,
+    unnamed: &Unnamed,
+    atom: &Atom,
+    inside: Seq,
+    behind: Seq,
+) -> Result<Seq, NoMemory>
+    requires inside { is_text_atom atom.now ≡ false → BelongsTo store.old inside }
+    requires behind { BelongsTo store.old behind }
+    ensures keeps { Keeps store.old store.new }
+    ensures belongs { IfOk result (BelongsTo store.new) }
+    ensures begins { IfOk result (λ seq. BeginsAs unnamed.now.labels unnamed.now.texts atom.now (document_at store.old inside) (document_at store.old behind) (document_at store.new seq)) }
+{
+    match atom {
+        Atom::Label(label) => store.elem_node(label.share()?, inside, behind),
+        Atom::OtherLabel => store.elem_node(label_of(alloc, &unnamed.labels)?, inside, behind),
+        Atom::Text(text) => store.text_node(text.share()?, behind),
+        Atom::OtherText => store.text_node(text_of(alloc, &unnamed.texts)?, behind),
+    }
+}
+
+/// A document that the left accepts and no right does, where a case at this atom fails.
+fn separate(
+    alloc: Global,
+    auto: &Auto,
+    goals: &Goals,
+    owner: GoalId,
+    store: &mut Store,
+    atom: &Atom,
+    inside: Seq,
+    behind: Seq,
+) -> Result<Seq, NoMemory>
+    requires owner { owner.number < length goals.now.rows.items }
+    requires stands { StandsOn auto.now store.old (view_of goals.now) }
+    requires fails { FailsAt auto.now (view_of goals.now) owner.number (claim_of (row_at goals.now.rows.items owner.number)) atom.now inside behind }
+    ensures keeps { Keeps store.old store.new }
+    ensures separated { IfOk result (IsSeparatedBy auto.now store.new (claim_of (row_at goals.now.rows.items owner.number))) }
+{
+    let row = &goals.rows[owner.number];
+    let unnamed = unnamed_of(alloc, auto, row.left, &row.rights)?;
+    begin_with(alloc, store, &unnamed, atom, inside, behind)
+}
+
+/// A tree for a case of a goal.
+fn begin_case(
+    alloc: Global,
+    auto: &Auto,
+    goals: &mut Goals,
+    owner: GoalId,
+    left: State,
+    rights: &[State],
+    case: &Want,
+) -> Result<Grown, NoMemory>
+    requires consistent { IsConsistent (length auto.now) goals.old }
+    requires owner { owner.number < length goals.old.rows.items }
+    requires left { IsState auto.now left }
+    requires rights { AllByRecursion (IsState auto.now) rights.now }
+    requires case { IsCaseOf auto.now left case.now }
+    ensures consistent { IsConsistent (length auto.now) goals.new }
+    ensures grows { Grows (view_of goals.old) (view_of goals.new) }
+    ensures grown { IfOk result (IsCaseGrown auto.now (view_of goals.new) owner.number (claim_with left rights.now) case.now.head case.now.atom) }
+{
+    let _left = left;
+    let sides = sides_of(alloc, auto, rights, &case.atom)?;
+    let task = Task {
+        owner,
+        content: case.content,
+        rest: case.rest,
+        states: auto.len(),
+    };
+    if is_text(&case.atom) {
+        grow_text(alloc, goals, task, &sides)
+    } else {
+        grow(alloc, goals, task, &sides, &[], &[], 0)
+    }
+}
+
+/// Trees for all cases of a goal, none of whose leaves names a refuted goal; or an atom of a head for
+/// which there is none, with a content and a rest for a document that separates.
+#[derive(Drop)]
+enum Settled {
+    Holds(Vec<Choice>),
+    Separates(Atom, Seq, Seq),
+}
+
+/// Trees for the cases of a goal that has none yet.
+fn begin(
+    alloc: Global,
+    auto: &Auto,
+    goals: &mut Goals,
+    owner: GoalId,
+    left: State,
+    rights: &[State],
+) -> Result<Settled, NoMemory>
+    requires consistent { IsConsistent (length auto.now) goals.old }
+    requires owner { owner.number < length goals.old.rows.items }
+    requires left { IsState auto.now left }
+    requires rights { AllByRecursion (IsState auto.now) rights.now }
+    ensures consistent { IsConsistent (length auto.now) goals.new }
+    ensures grows { Grows (view_of goals.old) (view_of goals.new) }
+    ensures settled { IfOk result (IsSettling auto.now (view_of goals.new) owner.number (claim_with left rights.now)) }
+{
+    let unnamed = unnamed_of(alloc, auto, left, rights)?;
+    let cases = cases_of(alloc, auto, left, &unnamed)?;
+    let mut made = Vec::new(alloc);
+    for number in 0..cases.len() {
+        let case = &cases[number];
+        match begin_case(alloc, auto, goals, owner, left, rights, case)? {
+            Grown::Stands(root) => made.push(Choice {
+                head: case.head,
+                atom: share(&case.atom)?,
+                root,
+            })?,
+            Grown::Fails(inside, behind) => {
+                return Ok(Settled::Separates(share(&case.atom)?, inside, behind));
+            }
+        }
+    }
+    Ok(Settled::Holds(made))
+}
+
+/// Whether a leaf of the tree names a refuted goal.
+fn is_broken(nodes: &[ChoiceNode], rows: &[Row], root: usize) -> bool
+    requires { HasTreeWithin nodes.now (length rows.now) root }
+    ensures { result ≡ false → IsOpenAt nodes.now rows.now root }
+{
+    match node_at(nodes, root) {
+        ChoiceNode::Content(goal) => is_refuted(rows, goal),
+        ChoiceNode::Rest(goal) => is_refuted(rows, goal),
+        ChoiceNode::Split { content, rest, .. } => {
+            is_broken(nodes, rows, content) || is_broken(nodes, rows, rest)
+        }
+    }
+}
+
+/// Whether a goal is refuted.
+fn is_refuted(rows: &[Row], goal: GoalId) -> bool
+    requires { goal.number < length rows.now }
+    ensures { result ≡ false → ¬ (IsRefuted rows.now goal.number) }
+{
+    let row = &rows[goal.number];
+    matches!(row.standing, Standing::Refuted(_))
+}
+
+/// A tree for a choice of a goal: the one that is there, unless a leaf names a refuted goal.
+fn mend_choice(
+    alloc: Global,
+    auto: &Auto,
+    goals: &mut Goals,
+    owner: GoalId,
+    left: State,
+    rights: &[State],
+    choice: &Choice,
+) -> Result<Grown, NoMemory>
+    requires consistent { IsConsistent (length auto.now) goals.old }
+    requires owner { owner.number < length goals.old.rows.items }
+    requires left { IsState auto.now left }
+    requires rights { AllByRecursion (IsState auto.now) rights.now }
+    requires choice { ChoiceStands auto.now (view_of goals.old) owner.number (claim_with left rights.now) choice.now }
+    ensures consistent { IsConsistent (length auto.now) goals.new }
+    ensures grows { Grows (view_of goals.old) (view_of goals.new) }
+    ensures grown { IfOk result (IsCaseGrown auto.now (view_of goals.new) owner.number (claim_with left rights.now) choice.now.head choice.now.atom) }
+{
+    if !is_broken(&goals.nodes, &goals.rows, choice.root) {
+        return Ok(Grown::Stands(choice.root));
+    }
+    let sides = sides_of(alloc, auto, rights, &choice.atom)?;
+    let (content, rest) = head_of(auto, left, choice.head);
+    let task = Task {
+        owner,
+        content,
+        rest,
+        states: auto.len(),
+    };
+    if is_text(&choice.atom) {
+        grow_text(alloc, goals, task, &sides)
+    } else {
+        repair(alloc, goals, task, &sides, choice.root, &[], &[], 0)
+    }
+}
+
+/// An equal choice.
+fn share_choice(choice: &Choice) -> Result<Choice, NoMemory>
+    ensures { IfOk result (λ shared. shared ≡ choice.now) }
+{
+    Ok(Choice {
+        head: choice.head,
+        atom: share(&choice.atom)?,
+        root: choice.root,
+    })
+}
+
+/// The choices of a goal.
+fn choices_of(alloc: Global, rows: &[Row], owner: GoalId) -> Result<Vec<Choice>, NoMemory>
+    requires { owner.number < length rows.now }
+    ensures { IfOk result (λ choices. choices.items ≡ (row_at rows.now owner.number).choices) }
+{
+    let row = &rows[owner.number];
+    let choices = row.choices.as_slice();
+    let mut shared = Vec::new(alloc);
+    for choice in choices {
+        shared.push(share_choice(choice)?)?;
+    }
+    Ok(shared)
+}
+
+/// Trees for the cases of a goal, made of those that it has.
+fn mend(
+    alloc: Global,
+    auto: &Auto,
+    goals: &mut Goals,
+    owner: GoalId,
+    left: State,
+    rights: &[State],
+) -> Result<Settled, NoMemory>
+    requires consistent { IsConsistent (length auto.now) goals.old }
+    requires owner { owner.number < length goals.old.rows.items }
+    requires left { IsState auto.now left }
+    requires rights { AllByRecursion (IsState auto.now) rights.now }
+    requires choices { AllByRecursion (ChoiceStands auto.now (view_of goals.old) owner.number (claim_with left rights.now)) (row_at goals.old.rows.items owner.number).choices }
+    requires begun { IsBegun auto.now (claim_with left rights.now) (row_at goals.old.rows.items owner.number).choices }
+    ensures consistent { IsConsistent (length auto.now) goals.new }
+    ensures grows { Grows (view_of goals.old) (view_of goals.new) }
+    ensures settled { IfOk result (IsSettling auto.now (view_of goals.new) owner.number (claim_with left rights.now)) }
+{
+    let choices = choices_of(alloc, &goals.rows, owner)?;
+    let mut made = Vec::new(alloc);
+    for number in 0..choices.len() {
+        let choice = &choices[number];
+        match mend_choice(alloc, auto, goals, owner, left, rights, choice)? {
+            Grown::Stands(root) => made.push(Choice {
+                head: choice.head,
+                atom: share(&choice.atom)?,
+                root,
+            })?,
+            Grown::Fails(inside, behind) => {
+                return Ok(Settled::Separates(share(&choice.atom)?, inside, behind));
+            }
+        }
+    }
+    Ok(Settled::Holds(made))
+}
+
+/// Trees for the cases of a goal.
+fn settle(
+    alloc: Global,
+    auto: &Auto,
+    goals: &mut Goals,
+    owner: GoalId,
+    left: State,
+    rights: &[State],
+) -> Result<Settled, NoMemory>
+    requires consistent { IsConsistent (length auto.now) goals.old }
+    requires owner { owner.number < length goals.old.rows.items }
+    requires left { IsState auto.now left }
+    requires rights { AllByRecursion (IsState auto.now) rights.now }
+    requires choices { AllByRecursion (ChoiceStands auto.now (view_of goals.old) owner.number (claim_with left rights.now)) (row_at goals.old.rows.items owner.number).choices }
+    requires begun { ¬ ((row_at goals.old.rows.items owner.number).choices ≡ []) → IsBegun auto.now (claim_with left rights.now) (row_at goals.old.rows.items owner.number).choices }
+    ensures consistent { IsConsistent (length auto.now) goals.new }
+    ensures grows { Grows (view_of goals.old) (view_of goals.new) }
+    ensures settled { IfOk result (IsSettling auto.now (view_of goals.new) owner.number (claim_with left rights.now)) }
+{
+    let row = &goals.rows[owner.number];
+    if row.choices.is_empty() {
+        begin(alloc, auto, goals, owner, left, rights)
+    } else {
+        mend(alloc, auto, goals, owner, left, rights)
+    }
+}
+
+/// Refutes a goal for which a case fails, by a document that is made of a content and a rest.
+fn refute_at(
+    alloc: Global,
+    auto: &Auto,
+    goals: &mut Goals,
+    owner: GoalId,
+    store: &mut Store,
+    atom: &Atom,
+    inside: Seq,
+    behind: Seq,
+) -> Result<(), NoMemory>
+    requires whole { IsWhole goals.old }
+    requires owner { owner.number < length goals.old.rows.items }
+    requires waits { (row_at goals.old.rows.items owner.number).standing ≡ Waiting }
+    requires stands { StandsOn auto.now store.old (view_of goals.old) }
+    requires fails { FailsAt auto.now (view_of goals.old) owner.number (claim_of (row_at goals.old.rows.items owner.number)) atom.now inside behind }
+    ensures whole { IsWhole goals.new }
+    ensures stands { StandsOn auto.now store.new (view_of goals.new) }
+    ensures goals { KeepsGoals (view_of goals.old) (view_of goals.new) }
+    ensures keeps { Keeps store.old store.new }
+    ensures made { AreMadeFrom (length goals.old.rows.items) goals.new.rows.items }
+    ensures lowers { OnOk result (Lowers goals.old.rows.items goals.new.rows.items) }
+{
+    let document = separate(alloc, auto, goals, owner, store, atom, inside, behind)?;
+    refute(&mut goals.rows, &goals.links, owner, document);
+    Ok(())
+}
+
+/// Brings a goal that waits to hold, or to be refuted where a case of it fails.
+fn work_on_cases(
+    alloc: Global,
+    auto: &Auto,
+    goals: &mut Goals,
+    owner: GoalId,
+    store: &mut Store,
+    left: State,
+    rights: &[State],
+) -> Result<(), NoMemory>
+    requires whole { IsWhole goals.old }
+    requires owner { owner.number < length goals.old.rows.items }
+    requires waits { (row_at goals.old.rows.items owner.number).standing ≡ Waiting }
+    requires stands { StandsOn auto.now store.old (view_of goals.old) }
+    requires claim { claim_of (row_at goals.old.rows.items owner.number) ≡ claim_with left rights.now }
+    requires last { is_last_in auto.now left ≡ true → list_any (is_last_in auto.now) rights.now ≡ true }
+    ensures whole { IsWhole goals.new }
+    ensures stands { StandsOn auto.now store.new (view_of goals.new) }
+    ensures goals { KeepsGoals (view_of goals.old) (view_of goals.new) }
+    ensures keeps { Keeps store.old store.new }
+    ensures made { AreMadeFrom (length goals.old.rows.items) goals.new.rows.items }
+    ensures lowers { OnOk result (Lowers goals.old.rows.items goals.new.rows.items) }
+{
+    match settle(alloc, auto, goals, owner, left, rights)? {
+        Settled::Holds(made) => {
+            hold(&mut goals.rows, owner, made);
+            Ok(())
+        }
+        Settled::Separates(atom, inside, behind) => {
+            refute_at(alloc, auto, goals, owner, store, &atom, inside, behind)
+        }
+    }
+}
+
+/// Brings a goal that waits to hold or to be refuted.
+pub(crate) fn work(
+    alloc: Global,
+    auto: &Auto,
+    goals: &mut Goals,
+    owner: GoalId,
+    store: &mut Store,
+) -> Result<(), NoMemory>
+    requires whole { IsWhole goals.old }
+    requires owner { owner.number < length goals.old.rows.items }
+    requires waits { (row_at goals.old.rows.items owner.number).standing ≡ Waiting }
+    requires stands { StandsOn auto.now store.old (view_of goals.old) }
+    ensures whole { IsWhole goals.new }
+    ensures stands { StandsOn auto.now store.new (view_of goals.new) }
+    ensures goals { KeepsGoals (view_of goals.old) (view_of goals.new) }
+    ensures keeps { Keeps store.old store.new }
+    ensures made { AreMadeFrom (length goals.old.rows.items) goals.new.rows.items }
+    ensures lowers { OnOk result (Lowers goals.old.rows.items goals.new.rows.items) }
+{
+    let row = &goals.rows[owner.number];
+    let left = row.left;
+    let rights = row.rights.as_slice().to_vec(alloc)?;
+    if is_uncovered(auto, left, &rights) {
+        refute(&mut goals.rows, &goals.links, owner, Seq::empty());
+        return Ok(());
+    }
+    work_on_cases(alloc, auto, goals, owner, store, left, &rights)
+}
+
+/// Whether the left accepts the empty document and no right does.
+fn is_uncovered(auto: &Auto, left: State, rights: &[State]) -> bool
+    requires left { IsState auto.now left }
+    requires rights { AllByRecursion (IsState auto.now) rights.now }
+    ensures yes { result ≡ true → IsUncovered auto.now left rights.now }
+    ensures no { result ≡ false → is_last_in auto.now left ≡ true → list_any (is_last_in auto.now) rights.now ≡ true }
+{
+    auto.is_last(left) && !any_last(auto, rights)
+}
