@@ -1,0 +1,11 @@
+pub mod MarkLemmas
+pub mod Choices
+pub mod Traced
+pub mod FreePart
+pub mod BlockLaw
+pub mod Changes
+pub mod Searching
+pub mod Assembling
+pub mod SameOwned
+pub mod CaseLaw
+pub mod BucketLaw

@@ -1,0 +1,183 @@
+-- On choices of sides.
+use Rattle.std.proofs.Common.{◌≡◌, ℕ, ◌+◌, ◌<◌, Bool, true, false, not, ◌&&◌, ◌||◌, List, [], ◌∷◌, ◌++◌, take, length, get_or, refl, ap, sym, ◌∙◌, subst}
+use Rattle.std.specs.List.{list_any}
+use Rattle.std.proofs.lemmas.List.Folds.{list_any_at, list_any-append, list_any_more}
+use Rattle.xd_doc.specs.Document.{Document}
+use Rattle.xd_auto.specs.Automaton.{Automaton, accepts}
+use Rattle.xd_boole.specs.declared.groups.Side.{Side}
+use Rattle.xd_boole.specs.declared.choices.Choice.{Choice}
+use Rattle.xd_boole.specs.Meaning.{any_accepts, has_state, is_state, is_within, with_state}
+use Rattle.xd_boole.specs.Groups.{AllPass, is_side, side_accepts}
+use Rattle.xd_boole.specs.Choices.{AddsChoice, AddsSide, AllChoices, ExtendsAll, IsChoiceOf, KeepsChoice, any_choice, choice_refuses}
+use Rattle.xd_boole.proofs.Lists.{all_at, all_front, all_last, all_push}
+use Rattle.xd_boole.proofs.Bools.{and_false, and_left, and_right, drop_implied, either_side, implied_by, next_one, or_nothing, other_content, other_rest}
+use Rattle.xd_boole.proofs.Refusing.{has_refuses, with_state_accepts, with_state_all, within_refuses}
+
+not_true : (b : Bool) → not b ≡ true → b ≡ false
+not_true true e = absurd (cc)
+not_true false e = refl
+
+-- the sets of a choice contain those of another
+abbrev pub contains : Choice → Choice → Bool
+contains k other = is_within k.contents.items other.contents.items && is_within k.rests.items other.rests.items
+
+module _ (a : Automaton) (c d : Document) where
+  refuses_content : (k : Choice) → choice_refuses a c d k ≡ true → any_accepts a k.contents.items c ≡ false
+  refuses_content k e = not_true (any_accepts a k.contents.items c) (and_left (not (any_accepts a k.contents.items c)) (not (any_accepts a k.rests.items d)) e)
+
+  refuses_rest : (k : Choice) → choice_refuses a c d k ≡ true → any_accepts a k.rests.items d ≡ false
+  refuses_rest k e = not_true (any_accepts a k.rests.items d) (and_right (not (any_accepts a k.contents.items c)) (not (any_accepts a k.rests.items d)) e)
+
+  -- then it refuses no more
+  contains_implies : (k other : Choice) → contains k other ≡ true → choice_refuses a c d k ≡ true → choice_refuses a c d other ≡ true
+  contains_implies k other within e =
+      ap (λ w. not w && not (any_accepts a other.rests.items d))
+      (within_refuses a other.contents.items k.contents.items c (and_left (is_within k.contents.items other.contents.items) (is_within k.rests.items other.rests.items) within) (refuses_content k e))
+      ∙ ap not (within_refuses a other.rests.items k.rests.items d (and_right (is_within k.contents.items other.contents.items) (is_within k.rests.items other.rests.items) within) (refuses_rest k e))
+
+pub choice_dropped : (k other : Choice) (old : List Choice) → contains other k ≡ true → KeepsChoice k other old old
+choice_dropped k other old within = record {
+  refused = λ a c d. drop_implied (any_choice a c d old) (choice_refuses a c d other) (choice_refuses a c d k) (contains_implies a c d other k within);
+  states = λ a h e. h;
+}
+
+pub choice_kept : (k other : Choice) (old new : List Choice) → new ≡ old ++ other ∷ [] → KeepsChoice k other old new
+choice_kept k other old new is = record {
+  refused = λ a c d.
+      ap (λ w. any_choice a c d w || choice_refuses a c d k) is
+      ∙ ap (λ w. w || choice_refuses a c d k) (list_any-append (choice_refuses a c d) old (other ∷ []) ∙ ap (λ w. any_choice a c d old || w) (or_nothing (choice_refuses a c d other)));
+  states = λ a h e. subst (AllChoices a) (sym is) (all_push (IsChoiceOf a) old other h e);
+}
+
+-- another choice refuses all that it does
+pub choice_there : (k other : Choice) (choices : List Choice) (i : ℕ) → i < length choices → other ≡ get_or choices i other → contains k other ≡ true → AddsChoice k choices choices
+choice_there k other choices i lt at within = record {
+  refused = λ a c d. implied_by (any_choice a c d choices) (choice_refuses a c d k)
+      (λ e. list_any_at (choice_refuses a c d) choices i other lt (ap (choice_refuses a c d) (sym at) ∙ contains_implies a c d k other within e));
+  states = λ a h e. h;
+}
+
+-- of the choices some were looked at, and others are left
+pub record DropsFirst (k : Choice) (initial kept left : List Choice) : Type 0 where
+  pub refused : (a : Automaton) (c d : Document) → (any_choice a c d kept || (any_choice a c d left || choice_refuses a c d k)) ≡ (any_choice a c d initial || choice_refuses a c d k)
+  pub left_states : (a : Automaton) → AllChoices a initial → AllChoices a left
+  pub states : (a : Automaton) → AllChoices a initial → AllChoices a kept
+
+regroup : (r o g k : Bool) → (r || ((o || g) || k)) ≡ (o || ((r || (g || false)) || k))
+regroup true true g k = refl
+regroup true false g k = refl
+regroup false true g k = refl
+regroup false false true k = refl
+regroup false false false k = refl
+
+or_swap : (x y z : Bool) → (x || (y || z)) ≡ (y || (x || z))
+or_swap true true z = refl
+or_swap true false z = refl
+or_swap false true z = refl
+or_swap false false z = refl
+
+pub drops_more : (k other : Choice) (initial kept new left rest : List Choice) → KeepsChoice k other kept new → left ≡ rest ++ other ∷ [] → DropsFirst k initial kept left → DropsFirst k initial new rest
+drops_more k other initial kept new left rest keeps is before = record {
+  refused = λ a c d.
+      or_swap (any_choice a c d new) (any_choice a c d rest) (choice_refuses a c d k)
+      ∙ ap (λ w. any_choice a c d rest || w) (keeps.refused a c d)
+      ∙ regroup (any_choice a c d rest) (any_choice a c d kept) (choice_refuses a c d other) (choice_refuses a c d k)
+      ∙ ap (λ w. any_choice a c d kept || (w || choice_refuses a c d k)) (sym (ap (any_choice a c d) is ∙ list_any-append (choice_refuses a c d) rest (other ∷ [])))
+      ∙ before.refused a c d;
+  left_states = λ a h. all_front (IsChoiceOf a) rest other (subst (AllChoices a) is (before.left_states a h));
+  states = λ a h. keeps.states a (before.states a h) (all_last (IsChoiceOf a) rest other (subst (AllChoices a) is (before.left_states a h)));
+}
+
+pub drops_all : (k : Choice) (initial kept left new : List Choice) → left ≡ [] → new ≡ kept ++ k ∷ [] → DropsFirst k initial kept left → AddsChoice k initial new
+drops_all k initial kept left new none is before = record {
+  refused = λ a c d.
+      ap (any_choice a c d) is ∙ list_any-append (choice_refuses a c d) kept (k ∷ []) ∙ ap (λ w. any_choice a c d kept || w) (or_nothing (choice_refuses a c d k))
+      ∙ ap (λ w. any_choice a c d kept || (any_choice a c d w || choice_refuses a c d k)) (sym none) ∙ before.refused a c d;
+  states = λ a h e. subst (AllChoices a) (sym is) (all_push (IsChoiceOf a) kept k (before.states a h) e);
+}
+
+and_absorbed : (k s : Bool) → (k ≡ true → s ≡ false) → k ≡ (k && not s)
+and_absorbed true s h = ap not (sym (h refl))
+and_absorbed false s h = refl
+
+-- the choice refuses what the move accepts already
+pub side_refused : (side : Side) (k : Choice) (old new : List Choice) → (has_state side.content k.contents.items || has_state side.rest k.rests.items) ≡ true → AddsChoice k old new → AddsSide side k old new
+side_refused side k old new has adds = record {
+  refused = λ a c d. adds.refused a c d ∙ ap (λ w. any_choice a c d old || w) (and_absorbed (choice_refuses a c d k) (side_accepts a c d side) (refused a c d (has_state side.content k.contents.items) refl has));
+  states = λ a h e s. adds.states a h e;
+}
+  where
+    refused : (a : Automaton) (c d : Document) (b : Bool) → has_state side.content k.contents.items ≡ b → (has_state side.content k.contents.items || has_state side.rest k.rests.items) ≡ true
+        → choice_refuses a c d k ≡ true → side_accepts a c d side ≡ false
+    refused a c d true is h e = ap (λ w. w && accepts a d side.rest) (has_refuses a side.content k.contents.items c is (refuses_content a c d k e))
+    refused a c d false is h e =
+        ap (λ w. accepts a c side.content && w) (has_refuses a side.rest k.rests.items d (sym (ap (λ w. w || has_state side.rest k.rests.items) is) ∙ h) (refuses_rest a c d k e)) ∙ and_false (accepts a c side.content)
+
+-- the choice was extended in both ways
+pub side_added : (side : Side) (k one two : Choice) (old mid new : List Choice) → one.contents.items ≡ with_state side.content k.contents.items → one.rests.items ≡ k.rests.items
+    → two.contents.items ≡ k.contents.items → two.rests.items ≡ with_state side.rest k.rests.items → AddsChoice one old mid → AddsChoice two mid new → AddsSide side k old new
+side_added side k one two old mid new contents same same2 rests first second = record {
+  refused = λ a c d.
+      second.refused a c d ∙ ap (λ w. w || choice_refuses a c d two) (first.refused a c d)
+      ∙ ap (λ w. (any_choice a c d old || w) || choice_refuses a c d two) (one_is a c d) ∙ ap (λ w. (any_choice a c d old || (choice_refuses a c d k && not (accepts a c side.content))) || w) (two_is a c d)
+      ∙ either_side (any_choice a c d old) (choice_refuses a c d k) (accepts a c side.content) (accepts a d side.rest);
+  states = λ a h e s.
+      let content = and_left (is_state a side.content) (is_state a side.rest) s in
+      let rest = and_right (is_state a side.content) (is_state a side.rest) s in
+      second.states a
+      (first.states a h (subst (AllPass (is_state a)) (sym contents) (with_state_all (λ w. is_state a w ≡ true) side.content k.contents.items e.0 content), subst (AllPass (is_state a)) (sym same) e.1))
+      (subst (AllPass (is_state a)) (sym same2) e.0, subst (AllPass (is_state a)) (sym rests) (with_state_all (λ w. is_state a w ≡ true) side.rest k.rests.items e.1 rest));
+}
+  where
+    one_is : (a : Automaton) (c d : Document) → choice_refuses a c d one ≡ (choice_refuses a c d k && not (accepts a c side.content))
+    one_is a c d =
+        ap (λ w. not (any_accepts a w c) && not (any_accepts a one.rests.items d)) contents ∙ ap (λ w. not (any_accepts a (with_state side.content k.contents.items) c) && not (any_accepts a w d)) same
+        ∙ ap (λ w. not w && not (any_accepts a k.rests.items d)) (with_state_accepts a side.content k.contents.items c)
+        ∙ other_content (accepts a c side.content) (any_accepts a k.contents.items c) (any_accepts a k.rests.items d)
+
+    two_is : (a : Automaton) (c d : Document) → choice_refuses a c d two ≡ (choice_refuses a c d k && not (accepts a d side.rest))
+    two_is a c d =
+        ap (λ w. not (any_accepts a w c) && not (any_accepts a two.rests.items d)) same2 ∙ ap (λ w. not (any_accepts a k.contents.items c) && not (any_accepts a w d)) rests
+        ∙ ap (λ w. not (any_accepts a k.contents.items c) && not w) (with_state_accepts a side.rest k.rests.items d)
+        ∙ other_rest (accepts a d side.rest) (any_accepts a k.contents.items c) (any_accepts a k.rests.items d)
+
+-- some choices were extended, and others are left
+pub record ExtendsFirst (side : Side) (initial extended left : List Choice) : Type 0 where
+  pub refused : (a : Automaton) (c d : Document) → (any_choice a c d extended || (any_choice a c d left && not (side_accepts a c d side))) ≡ (any_choice a c d initial && not (side_accepts a c d side))
+  pub left_states : (a : Automaton) → AllChoices a initial → AllChoices a left
+  pub states : (a : Automaton) → AllChoices a initial → is_side a side ≡ true → AllChoices a extended
+
+pub extends_more : (side : Side) (k : Choice) (initial extended new left rest : List Choice) → AddsSide side k extended new → left ≡ rest ++ k ∷ [] → ExtendsFirst side initial extended left → ExtendsFirst side initial new rest
+extends_more side k initial extended new left rest adds is before = record {
+  refused = λ a c d.
+      ap (λ w. w || (any_choice a c d rest && not (side_accepts a c d side))) (adds.refused a c d)
+      ∙ next_one (any_choice a c d extended) (any_choice a c d rest) (choice_refuses a c d k) (side_accepts a c d side)
+      ∙ ap (λ w. any_choice a c d extended || (w && not (side_accepts a c d side))) (sym (ap (any_choice a c d) is ∙ list_any-append (choice_refuses a c d) rest (k ∷ [])))
+      ∙ before.refused a c d;
+  left_states = λ a h. all_front (IsChoiceOf a) rest k (subst (AllChoices a) is (before.left_states a h));
+  states = λ a h s. adds.states a (before.states a h s) (all_last (IsChoiceOf a) rest k (subst (AllChoices a) is (before.left_states a h))) s;
+}
+
+pub extends_all : (side : Side) (initial extended left : List Choice) → left ≡ [] → ExtendsFirst side initial extended left → ExtendsAll side initial extended
+extends_all side initial extended left none before = record {
+  refused = λ a c d. sym (or_nothing (any_choice a c d extended)) ∙ ap (λ w. any_choice a c d extended || (any_choice a c d w && not (side_accepts a c d side))) (sym none) ∙ before.refused a c d;
+  states = before.states;
+}
+
+-- the choices for the first of these moves
+pub record AreFirstChoices (sides : List Side) (i : ℕ) (choices : List Choice) : Type 0 where
+  pub refused : (a : Automaton) (c d : Document) → any_choice a c d choices ≡ not (list_any (side_accepts a c d) (take i sides))
+  pub states : (a : Automaton) → AllPass (is_side a) sides → AllChoices a choices
+
+not_or : (t s : Bool) → (not t && not s) ≡ not (t || s)
+not_or true s = refl
+not_or false s = refl
+
+pub choices_more : (sides : List Side) (i : ℕ) (side : Side) (old new : List Choice) → i < length sides → side ≡ get_or sides i side → ExtendsAll side old new → AreFirstChoices sides i old → AreFirstChoices sides (i + 1) new
+choices_more sides i side old new lt at extends before = record {
+  refused = λ a c d.
+      extends.refused a c d ∙ ap (λ w. w && not (side_accepts a c d side)) (before.refused a c d)
+      ∙ not_or (list_any (side_accepts a c d) (take i sides)) (side_accepts a c d side)
+      ∙ ap not (ap (λ w. list_any (side_accepts a c d) (take i sides) || side_accepts a c d w) at ∙ sym (list_any_more (side_accepts a c d) sides i side lt));
+  states = λ a h. extends.states a (before.states a h) (all_at (λ w. is_side a w ≡ true) sides h i side lt at);
+}

@@ -1,0 +1,13 @@
+pub mod Lists
+pub mod Bools
+pub mod Dividing
+pub mod Finding
+pub mod Adding
+pub mod Closing
+pub mod MatchLemmas
+pub mod Refusing
+pub mod ChoiceLemmas
+pub mod Growing
+pub mod Expanding
+pub mod Simulating
+pub mod Differing

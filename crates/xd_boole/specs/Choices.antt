@@ -1,0 +1,48 @@
+-- Choices of sides, by which an element is refused. Of this only private contracts speak.
+use Rattle.std.specs.Prelude.{◌≡◌, Bool, true, not, ◌&&◌, ◌||◌, List}
+use Rattle.std.specs.List.{AllByRecursion, list_any}
+use Rattle.xd_doc.specs.Document.{Document}
+use Rattle.xd_auto.specs.Automaton.{Automaton}
+use Rattle.xd_boole.specs.declared.groups.Side.{Side}
+use Rattle.xd_boole.specs.declared.choices.Choice.{Choice}
+use Rattle.xd_boole.specs.Meaning.{any_accepts, is_state}
+use Rattle.xd_boole.specs.Groups.{AllPass, is_side, side_accepts}
+
+-- the content and what follows are refused as the choice says
+abbrev pub choice_refuses : Automaton → Document → Document → Choice → Bool
+choice_refuses a c d k = not (any_accepts a k.contents.items c) && not (any_accepts a k.rests.items d)
+
+abbrev pub any_choice : Automaton → Document → Document → List Choice → Bool
+any_choice a c d choices = list_any (choice_refuses a c d) choices
+
+-- the states of the choice belong to the automaton
+abbrev pub IsChoiceOf : Automaton → Choice → Type 0
+IsChoiceOf a k = AllPass (is_state a) k.contents.items × AllPass (is_state a) k.rests.items
+
+abbrev pub AllChoices : Automaton → List Choice → Type 0
+AllChoices a choices = AllByRecursion (IsChoiceOf a) choices
+
+-- a choice was put behind the others, or what it refuses the new one refuses
+pub record KeepsChoice (k other : Choice) (old new : List Choice) : Type 0 where
+  pub refused : (a : Automaton) (c d : Document) → (any_choice a c d new || choice_refuses a c d k) ≡ ((any_choice a c d old || choice_refuses a c d other) || choice_refuses a c d k)
+  pub states : (a : Automaton) → AllChoices a old → IsChoiceOf a other → AllChoices a new
+
+-- the choice stands among the others, or what it refuses another choice refuses
+pub record AddsChoice (k : Choice) (old new : List Choice) : Type 0 where
+  pub refused : (a : Automaton) (c d : Document) → any_choice a c d new ≡ (any_choice a c d old || choice_refuses a c d k)
+  pub states : (a : Automaton) → AllChoices a old → IsChoiceOf a k → AllChoices a new
+
+-- a choice was added, extended by a side for one more move
+pub record AddsSide (side : Side) (k : Choice) (old new : List Choice) : Type 0 where
+  pub refused : (a : Automaton) (c d : Document) → any_choice a c d new ≡ (any_choice a c d old || (choice_refuses a c d k && not (side_accepts a c d side)))
+  pub states : (a : Automaton) → AllChoices a old → IsChoiceOf a k → is_side a side ≡ true → AllChoices a new
+
+-- each choice was extended by a side for one more move
+pub record ExtendsAll (side : Side) (old new : List Choice) : Type 0 where
+  pub refused : (a : Automaton) (c d : Document) → any_choice a c d new ≡ (any_choice a c d old && not (side_accepts a c d side))
+  pub states : (a : Automaton) → AllChoices a old → is_side a side ≡ true → AllChoices a new
+
+-- the choices for these moves
+pub record AreChoices (sides : List Side) (choices : List Choice) : Type 0 where
+  pub refused : (a : Automaton) (c d : Document) → any_choice a c d choices ≡ not (list_any (side_accepts a c d) sides)
+  pub states : (a : Automaton) → AllPass (is_side a) sides → AllChoices a choices

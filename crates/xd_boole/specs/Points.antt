@@ -1,0 +1,113 @@
+-- A new automaton with the points of its states. Of this only private contracts speak.
+use Rattle.std.specs.Prelude.{◌≡◌, ℕ, ◌<◌, ◌≤◌, Bool, ◌&&◌, ◌||◌, List, [], ◌∷◌, map, length, Option, Some, slice_index_or}
+use Rattle.std.specs.List.{AllByRecursion, list_any}
+use Rattle.std.specs.Ordering.{nat_cmp}
+use Rattle.std.specs.Cmp.Lexicographic.{slice_cmp}
+use Rattle.std.specs.BTreeMap.{BTreeMap, get}
+use Rattle.xd_doc.specs.Document.{Document, empty}
+use Rattle.xd_doc.specs.Classes.{class_has}
+use Rattle.xd_auto.specs.declared.auto.State.{State}
+use Rattle.xd_auto.specs.declared.auto.LabelMove.{LabelMove}
+use Rattle.xd_auto.specs.declared.auto.TextMove.{TextMove}
+use Rattle.xd_auto.specs.Automaton.{Automaton, IsState, StateMoves, moves_at}
+use Rattle.xd_boole.specs.declared.points.Points.{Points}
+use Rattle.xd_boole.specs.Meaning.{ElementFirst, PointView, TextFirst, element_of, text_of, means, less}
+
+abbrev pub state_at : ℕ → State
+state_at i = record { number = i }
+
+abbrev pub no_point : PointView
+no_point = less (state_at 0) []
+
+abbrev pub point_at : List PointView → ℕ → PointView
+point_at points i = slice_index_or points i no_point
+
+abbrev pub point_key : PointView → List ℕ
+point_key p = p.left.number ∷ map (λ (s : State). s.number) p.rights
+
+-- the number under a key
+abbrev pub found_at : BTreeMap (List ℕ) ℕ → List ℕ → Option ℕ
+found_at found key = get (slice_cmp nat_cmp) found key
+
+-- the states of the point belong to the automaton
+pub record IsPointOf (a : Automaton) (p : PointView) : Type 0 where
+  pub left : IsState a p.left
+  pub rights : AllByRecursion (IsState a) p.rights
+
+-- the documents that the state of this number is to accept
+abbrev pub meaning : Automaton → Points → ℕ → Document → Bool
+meaning a p i d = means a (point_at p.points.items i) d
+
+-- one state for each point, which accepts the empty document where the point says so; and numbers that lead to their points
+pub record ArePoints (a : Automaton) (p : Points) : Type 0 where
+  pub count : length p.made ≡ length p.points.items
+  pub points : (i : ℕ) → i < length p.points.items → IsPointOf a (point_at p.points.items i)
+  pub last : (i : ℕ) → i < length p.points.items → (moves_at p.made (state_at i)).last ≡ meaning a p i empty
+  pub only : (key : List ℕ) (i : ℕ) → found_at p.found key ≡ Some i → (i < length p.points.items) × (point_key (point_at p.points.items i) ≡ key)
+
+-- the state has no moves
+pub record IsBare (moves : StateMoves) : Type 0 where
+  pub labels : moves.labels ≡ []
+  pub texts : moves.texts ≡ []
+
+-- points were added, whose states have no moves yet
+pub record Grows (old new : Points) : Type 0 where
+  pub longer : length old.points.items ≤ length new.points.items
+  pub points : (i : ℕ) → i < length old.points.items → point_at new.points.items i ≡ point_at old.points.items i
+  pub moves : (i : ℕ) → i < length old.points.items → moves_at new.made (state_at i) ≡ moves_at old.made (state_at i)
+  pub fresh : (i : ℕ) → length old.points.items ≤ i → i < length new.points.items → IsBare (moves_at new.made (state_at i))
+
+-- the state is that of this point
+pub record IsStateFor (p : Points) (left : State) (rights : List State) (s : State) : Type 0 where
+  pub within : s.number < length p.points.items
+  pub is : point_at p.points.items s.number ≡ less left rights
+
+-- what a new move is to take
+abbrev pub label_means : Automaton → Points → ElementFirst → LabelMove → Bool
+label_means a p q m = class_has m.class q.label && (meaning a p m.content.number q.content && meaning a p m.rest.number q.rest)
+
+abbrev pub text_means : Automaton → Points → TextFirst → TextMove → Bool
+text_means a p q m = class_has m.words q.characters && meaning a p m.rest.number q.rest
+
+abbrev pub MoveBelow : ℕ → LabelMove → Type 0
+MoveBelow n m = (m.content.number < n) × (m.rest.number < n)
+
+abbrev pub TextBelow : ℕ → TextMove → Type 0
+TextBelow n m = m.rest.number < n
+
+-- points were added, and moves between their states, which take what `takes` says
+pub record AddsMoves {M Q : Type 0} (Below : ℕ → M → Type 0) (by_move : Points → Q → M → Bool) (a : Automaton) (old new : Points) (before after : List M) (takes : Q → Bool) : Type 0 where
+  pub whole : ArePoints a new
+  pub grows : Grows old new
+  pub below : AllByRecursion (Below (length new.points.items)) after
+  pub taken : (q : Q) → list_any (by_move new q) after ≡ (list_any (by_move old q) before || takes q)
+
+abbrev pub AddsLabels : Automaton → Points → Points → List LabelMove → List LabelMove → (ElementFirst → Bool) → Type 0
+AddsLabels a = AddsMoves MoveBelow (label_means a) a
+
+abbrev pub AddsTexts : Automaton → Points → Points → List TextMove → List TextMove → (TextFirst → Bool) → Type 0
+AddsTexts a = AddsMoves TextBelow (text_means a) a
+
+-- the moves of this state take what its point says
+pub record HasMoves (a : Automaton) (p : Points) (i : ℕ) : Type 0 where
+  pub labels : (q : ElementFirst) → list_any (label_means a p q) (moves_at p.made (state_at i)).labels ≡ meaning a p i (element_of q)
+  pub texts : (q : TextFirst) → list_any (text_means a p q) (moves_at p.made (state_at i)).texts ≡ meaning a p i (text_of q)
+
+-- the first states have their moves, and the others have none
+pub record AreExpanded (a : Automaton) (p : Points) (done : ℕ) : Type 0 where
+  pub whole : ArePoints a p
+  pub has : (i : ℕ) → i < done → i < length p.points.items → HasMoves a p i
+  pub bare : (i : ℕ) → done ≤ i → i < length p.points.items → IsBare (moves_at p.made (state_at i))
+
+-- a state gets these moves too; some are left to be given
+pub record Gives (s : State) (labels_left : List LabelMove) (texts_left : List TextMove) (labels : List LabelMove) (texts : List TextMove) (old new : Automaton) : Type 0 where
+  pub count : length new ≡ length old
+  pub last : (moves_at new s).last ≡ (moves_at old s).last
+  pub labels_too : (p : LabelMove → Bool) → (list_any p (moves_at new s).labels || list_any p labels_left) ≡ (list_any p (moves_at old s).labels || list_any p labels)
+  pub texts_too : (p : TextMove → Bool) → (list_any p (moves_at new s).texts || list_any p texts_left) ≡ (list_any p (moves_at old s).texts || list_any p texts)
+  pub others : (i : ℕ) → (i ≡ s.number → ⊥) → moves_at new (state_at i) ≡ moves_at old (state_at i)
+
+-- points stay
+pub record KeepsPoints (old new : Points) : Type 0 where
+  pub longer : length old.points.items ≤ length new.points.items
+  pub points : (i : ℕ) → i < length old.points.items → point_at new.points.items i ≡ point_at old.points.items i

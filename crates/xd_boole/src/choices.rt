@@ -1,0 +1,111 @@
+//! Choices of a side for each matching move, by which an element is refused.
+
+ghost use Rattle.std.specs.Prelude.{◌≡◌, ◌||◌, ◌&&◌, IfOk, OnOk};
+ghost use Rattle.xd_boole.specs.Meaning.{has_state, is_within};
+ghost use Rattle.xd_boole.specs.Choices.{AddsChoice, AddsSide, AreChoices, ExtendsAll, KeepsChoice};
+
+use crate::groups::Side;
+use crate::states::{has_state, is_within, with_state};
+use std::alloc::Global;
+use xd_auto::State;
+use xd_doc::NoMemory;
+
+/// States that are to refuse the content, and states that are to refuse what follows.
+#[derive(Debug, Drop)]
+pub(crate) struct Choice {
+    pub(crate) contents: Vec<State>,
+    pub(crate) rests: Vec<State>,
+}
+
+/// Whether the choice refuses what a matching move accepts.
+fn refuses(choice: &Choice, side: Side) -> bool
+    ensures { result ≡ (has_state side.content choice.now.contents.items || has_state side.rest choice.now.rests.items) }
+{
+    has_state(&choice.contents, side.content) || has_state(&choice.rests, side.rest)
+}
+
+/// Whether the sets of a choice contain those of another.
+fn contains(choice: &Choice, other: &Choice) -> bool
+    ensures { result ≡ (is_within choice.now.contents.items other.now.contents.items && is_within choice.now.rests.items other.now.rests.items) }
+{
+    is_within(&other.contents, &choice.contents) && is_within(&other.rests, &choice.rests)
+}
+
+/// Puts a choice behind the others, unless its sets contain those of a new one.
+fn keep_choice(kept: &mut Vec<Choice>, other: Choice, choice: &Choice) -> Result<(), NoMemory>
+    ensures { OnOk result (KeepsChoice choice.now other kept.old.items kept.new.items) }
+{
+    if !contains(&other, choice) {
+        kept.push(other)?;
+    }
+    Ok(())
+}
+
+/// Puts a choice among the others, unless its sets contain those of one of them. Those whose sets
+/// contain its own are dropped: what they refuse it refuses too.
+fn add_choice(alloc: Global, choices: Vec<Choice>, choice: Choice) -> Result<Vec<Choice>, NoMemory>
+    ensures { IfOk result (λ made. AddsChoice choice choices.items made.items) }
+{
+    for other in &choices {
+        if contains(&choice, other) {
+            return Ok(choices);
+        }
+    }
+    let mut choices = choices;
+    let mut kept = Vec::new(alloc);
+    while let Some(other) = choices.pop() {
+        keep_choice(&mut kept, other, &choice)?;
+    }
+    kept.push(choice)?;
+    Ok(kept)
+}
+
+/// Adds a choice, extended by a side for one more matching move; where it refuses what that accepts
+/// already, as it is.
+fn add_extended(
+    alloc: Global,
+    choices: Vec<Choice>,
+    choice: Choice,
+    side: Side,
+) -> Result<Vec<Choice>, NoMemory>
+    ensures { IfOk result (λ made. AddsSide side choice choices.items made.items) }
+{
+    if refuses(&choice, side) {
+        let choices = add_choice(alloc, choices, choice)?;
+        return Ok(choices);
+    }
+    let contents = with_state(alloc, &choice.contents, side.content)?;
+    let rests = choice.rests.to_vec(alloc)?;
+    let choices = add_choice(alloc, choices, Choice { contents, rests })?;
+    let contents = choice.contents;
+    let rests = with_state(alloc, &choice.rests, side.rest)?;
+    let choices = add_choice(alloc, choices, Choice { contents, rests })?;
+    Ok(choices)
+}
+
+/// Extends each choice by a side for one more matching move.
+fn extend_all(alloc: Global, choices: Vec<Choice>, side: Side) -> Result<Vec<Choice>, NoMemory>
+    ensures { IfOk result (λ made. ExtendsAll side choices.items made.items) }
+{
+    let mut choices = choices;
+    let mut extended = Vec::new(alloc);
+    while let Some(choice) = choices.pop() {
+        extended = add_extended(alloc, extended, choice, side)?;
+    }
+    Ok(extended)
+}
+
+/// The choices by which an element is refused by all matching moves.
+pub(crate) fn choices_of(alloc: Global, sides: &[Side]) -> Result<Vec<Choice>, NoMemory>
+    ensures { IfOk result (λ made. AreChoices sides.now made.items) }
+{
+    let mut choices = Vec::new(alloc);
+    choices.push(Choice {
+        contents: Vec::new(alloc),
+        rests: Vec::new(alloc),
+    })?;
+    for side in sides {
+        choices = extend_all(alloc, choices, *side)?;
+    }
+    Ok(choices)
+}

@@ -1,0 +1,228 @@
+//! The names of a class, labels or texts, in groups that the same moves match.
+
+ghost use Rattle.std.specs.Prelude.{◌≡◌, ◌<◌, ◌&&◌, ◌++◌, ◌∷◌, [], List, ℕ, Bool, true, false, length, IfOk, OnOk};
+ghost use Rattle.std.specs.List.{AllByRecursion};
+ghost use Rattle.xd_doc.specs.Classes.{class_has};
+ghost use Rattle.xd_auto.specs.Automaton.{IsState, has_label, has_text};
+ghost use Rattle.xd_boole.specs.Groups.{AreLabelGroups, AreTextGroups, Divides, DividesAll, DividesBy, IsPartBy, label_side};
+
+use crate::matching::{matching_labels, matching_texts};
+use std::alloc::Global;
+use xd_auto::{Auto, LabelMove, State, TextMove};
+use xd_doc::{Class, NoMemory, Words};
+
+/// A class of names that can be divided: of labels or of texts.
+pub(crate) trait Divisible: Drop {
+    /// Whether it has a name.
+    ghost has: { Self → List ℕ → Bool };
+
+    /// What both classes have.
+    fn meet(&self, other: &Self) -> Result<Option<Self>, NoMemory>
+        ensures { IfOk result (IsPartBy has true self.now other.now) };
+
+    /// What this class has and the other one hasn't.
+    fn without(&self, other: &Self) -> Result<Option<Self>, NoMemory>
+        ensures { IfOk result (IsPartBy has false self.now other.now) };
+}
+
+impl Divisible for Class {
+    ghost has = { class_has };
+
+    fn meet(&self, other: &Self) -> Result<Option<Self>, NoMemory> {
+        Class::meet(self, other)
+    }
+
+    fn without(&self, other: &Self) -> Result<Option<Self>, NoMemory> {
+        Class::without(self, other)
+    }
+}
+
+impl Divisible for Words {
+    ghost has = { class_has };
+
+    fn meet(&self, other: &Self) -> Result<Option<Self>, NoMemory> {
+        Words::meet(self, other)
+    }
+
+    fn without(&self, other: &Self) -> Result<Option<Self>, NoMemory> {
+        Words::without(self, other)
+    }
+}
+
+/// A move: the class of names that it is for, and what it says of what a name stands before.
+pub(crate) trait Step<C, S> {
+    /// Its class.
+    ghost class_of: { Self → C };
+    /// What it says.
+    ghost side_of: { Self → S };
+
+    fn class(&self) -> &C
+        ensures { result.now ≡ class_of self.now };
+
+    fn side(&self) -> S
+        ensures { result ≡ side_of self.now };
+}
+
+/// What a move on an element says of the content and of what follows the element.
+#[derive(Clone, Copy, Debug)]
+pub(crate) struct Side {
+    pub(crate) content: State,
+    pub(crate) rest: State,
+}
+
+impl Step<Class, Side> for LabelMove {
+    ghost class_of = { λ m. m.class };
+
+    ghost side_of = { label_side };
+
+    fn class(&self) -> &Class {
+        &self.class
+    }
+
+    fn side(&self) -> Side {
+        Side {
+            content: self.content,
+            rest: self.rest,
+        }
+    }
+}
+
+impl Step<Words, State> for TextMove {
+    ghost class_of = { λ m. m.words };
+
+    ghost side_of = { λ m. m.rest };
+
+    fn class(&self) -> &Words {
+        &self.words
+    }
+
+    fn side(&self) -> State {
+        self.rest
+    }
+}
+
+/// Names that the same moves match, and what these moves say.
+#[derive(Debug, Drop)]
+pub(crate) struct Group<C, S> {
+    pub(crate) class: C,
+    pub(crate) sides: Vec<S>,
+}
+
+/// The sides with one more.
+fn with_side<S: Copy>(alloc: Global, sides: &[S], side: S) -> Result<Vec<S>, NoMemory>
+    ensures { IfOk result (λ made. made.items ≡ sides.now ++ side ∷ []) }
+{
+    let mut made = Vec::new(alloc);
+    for other in sides {
+        made.push(*other)?;
+    }
+    made.push(side)?;
+    Ok(made)
+}
+
+/// Divides a group into the names that a move matches and those that it doesn't.
+fn divide<C: Divisible, S: Copy>(
+    alloc: Global,
+    groups: &mut Vec<Group<C, S>>,
+    group: Group<C, S>,
+    class: &C,
+    side: S,
+) -> Result<(), NoMemory>
+    ensures { OnOk result (Divides C.has class.now side group groups.old.items groups.new.items) }
+{
+    let Some(inside) = group.class.meet(class)? else {
+        groups.push(group)?;
+        return Ok(());
+    };
+    let sides = with_side(alloc, &group.sides, side)?;
+    groups.push(Group {
+        class: inside,
+        sides,
+    })?;
+    if let Some(outside) = group.class.without(class)? {
+        groups.push(Group {
+            class: outside,
+            sides: group.sides,
+        })?;
+    }
+    Ok(())
+}
+
+/// Divides each group by a move.
+fn divide_all<C: Divisible, S: Copy>(
+    alloc: Global,
+    groups: Vec<Group<C, S>>,
+    class: &C,
+    side: S,
+) -> Result<Vec<Group<C, S>>, NoMemory>
+    ensures { IfOk result (λ made. DividesAll C.has class.now side groups.items made.items) }
+{
+    let mut groups = groups;
+    let mut divided = Vec::new(alloc);
+    while let Some(group) = groups.pop() {
+        divide(alloc, &mut divided, group, class, side)?;
+    }
+    Ok(divided)
+}
+
+/// Divides the groups by the moves of these numbers.
+fn divide_by<C: Divisible, S: Copy, M: Step<C, S>>(
+    alloc: Global,
+    groups: Vec<Group<C, S>>,
+    moves: &[M],
+    numbers: &[usize],
+) -> Result<Vec<Group<C, S>>, NoMemory>
+    requires { AllByRecursion (λ k. k < length moves.now) numbers.now }
+    ensures { IfOk result (λ made. DividesBy C.has M.class_of M.side_of moves.now numbers.now groups.items made.items) }
+{
+    let mut groups = groups;
+    for number in numbers {
+        let step = &moves[*number];
+        groups = divide_all(alloc, groups, step.class(), step.side())?;
+    }
+    Ok(groups)
+}
+
+/// The labels of a class in groups, by the moves of these states that match them.
+pub(crate) fn label_groups(
+    alloc: Global,
+    auto: &Auto,
+    class: &Class,
+    states: &[State],
+) -> Result<Vec<Group<Class, Side>>, NoMemory>
+    requires { AllByRecursion (IsState auto.now) states.now }
+    ensures { IfOk result (λ made. AreLabelGroups auto.now class.now states.now made.items) }
+{
+    let mut groups = Vec::new(alloc);
+    groups.push(Group {
+        class: class.share()?,
+        sides: Vec::new(alloc),
+    })?;
+    for state in states {
+        let numbers = matching_labels(alloc, auto, class, *state)?;
+        groups = divide_by(alloc, groups, auto.label_moves(*state), &numbers)?;
+    }
+    Ok(groups)
+}
+
+/// The texts of a class in groups, by the moves of these states that match them.
+pub(crate) fn text_groups(
+    alloc: Global,
+    auto: &Auto,
+    words: &Words,
+    states: &[State],
+) -> Result<Vec<Group<Words, State>>, NoMemory>
+    requires { AllByRecursion (IsState auto.now) states.now }
+    ensures { IfOk result (λ made. AreTextGroups auto.now words.now states.now made.items) }
+{
+    let mut groups = Vec::new(alloc);
+    groups.push(Group {
+        class: words.share()?,
+        sides: Vec::new(alloc),
+    })?;
+    for state in states {
+        let numbers = matching_texts(alloc, auto, words, *state)?;
+        groups = divide_by(alloc, groups, auto.text_moves(*state), &numbers)?;
+    }
+    Ok(groups)
+}

@@ -1,0 +1,14 @@
+//! Products and differences of tree automata, exact on what states accept.
+#![tactic(auto)]
+
+mod choices;
+mod difference;
+mod groups;
+mod key;
+mod matching;
+mod points;
+mod products;
+mod states;
+
+pub use difference::minus;
+pub use products::product;

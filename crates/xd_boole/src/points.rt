@@ -1,0 +1,173 @@
+//! The points of a new automaton: what each of its states stands for.
+
+ghost use Rattle.std.specs.Prelude.{◌≡◌, ◌<◌, ℕ, cond, List, [], Some, length, nat_eq, IfOk, OnOk};
+ghost use Rattle.std.specs.List.{AllByRecursion};
+ghost use Rattle.std.specs.Cmp.Lexicographic.{pointwise};
+ghost use Rattle.xd_doc.specs.Document.{empty};
+ghost use Rattle.xd_auto.specs.Automaton.{Automaton, IsState};
+ghost use Rattle.xd_boole.specs.Meaning.{less, means};
+ghost use Rattle.xd_boole.specs.Points.{ArePoints, Gives, Grows, IsStateFor, MoveBelow, TextBelow, found_at, point_at, point_key};
+
+use crate::key::Key;
+use crate::states::any_last;
+use std::alloc::Global;
+use std::collections::BTreeMap;
+use std::marker::Model;
+use xd_auto::{Auto, LabelMove, State, TextMove};
+use xd_doc::NoMemory;
+
+/// A state, the left, and states that are taken away from it, the rights: what a state of the new
+/// automaton stands for.
+#[derive(Debug, Drop)]
+pub(crate) struct Point {
+    pub(crate) left: State,
+    pub(crate) rights: Vec<State>,
+}
+
+impl Model for Point {
+    ghost use Rattle.xd_boole.specs.Meaning.{PointView};
+
+    ghost Value = { PointView };
+
+    ghost view = { λ p. record { left = p.left; rights = p.rights.items } };
+}
+
+/// A new automaton, with the point of each of its states, and the numbers of the points.
+#[derive(Drop)]
+pub(crate) struct Points {
+    pub(crate) made: Auto,
+    pub(crate) points: Vec<Point>,
+    pub(crate) found: BTreeMap<Key, usize>,
+}
+
+/// The moves of a state of the new automaton.
+#[derive(Drop)]
+pub(crate) struct NewMoves {
+    pub(crate) labels: Vec<LabelMove>,
+    pub(crate) texts: Vec<TextMove>,
+}
+
+impl Points {
+    /// No point.
+    pub(crate) fn new(alloc: Global) -> Self
+        ensures whole { (a : Automaton) → ArePoints a result }
+        ensures none { result.points.items ≡ [] }
+    {
+        Self {
+            made: Auto::new(alloc),
+            points: Vec::new(alloc),
+            found: BTreeMap::new(alloc),
+        }
+    }
+}
+
+/// The key of a point.
+fn key_of(alloc: Global, left: State, rights: &[State]) -> Result<Key, NoMemory>
+    ensures { IfOk result (λ key. key ≡ point_key (less left rights.now)) }
+{
+    let mut numbers = Vec::new(alloc);
+    numbers.push(left.number())?;
+    for state in rights {
+        numbers.push(state.number())?;
+    }
+    Ok(Key { numbers })
+}
+
+/// Puts a number under a key.
+fn put(found: &mut BTreeMap<Key, usize>, key: Key, number: usize) -> Result<(), NoMemory>
+    ensures { OnOk result ((q : List ℕ) → found_at found.new q ≡ cond (pointwise nat_eq key q) (Some number) (found_at found.old q)) }
+{
+    found.insert(key, number)?;
+    Ok(())
+}
+
+/// Whether the state of a point accepts the empty document.
+fn is_last(auto: &Auto, left: State, rights: &[State]) -> bool
+    requires left { IsState auto.now left }
+    requires rights { AllByRecursion (IsState auto.now) rights.now }
+    ensures { result ≡ means auto.now (less left rights.now) empty }
+{
+    auto.is_last(left) && !any_last(auto, rights)
+}
+
+/// The state of a new point, which has no moves yet.
+fn add_point(
+    alloc: Global,
+    auto: &Auto,
+    points: &mut Points,
+    key: Key,
+    left: State,
+    rights: &[State],
+) -> Result<State, NoMemory>
+    requires whole { ArePoints auto.now points.old }
+    requires left { IsState auto.now left }
+    requires rights { AllByRecursion (IsState auto.now) rights.now }
+    requires key { key ≡ point_key (less left rights.now) }
+    ensures whole { OnOk result (ArePoints auto.now points.new) }
+    ensures grows { OnOk result (Grows points.old points.new) }
+    ensures state { IfOk result (IsStateFor points.new left rights.now) }
+{
+    let number = points.points.len();
+    let last = is_last(auto, left, rights);
+    let rights = rights.to_vec(alloc)?;
+    let state = points.made.add_state(last)?;
+    points.points.push(Point { left, rights })?;
+    put(&mut points.found, key, number)?;
+    Ok(state)
+}
+
+/// The state of a point, which is made where it isn't there.
+pub(crate) fn find_or_add(
+    alloc: Global,
+    auto: &Auto,
+    points: &mut Points,
+    left: State,
+    rights: &[State],
+) -> Result<State, NoMemory>
+    requires whole { ArePoints auto.now points.old }
+    requires left { IsState auto.now left }
+    requires rights { AllByRecursion (IsState auto.now) rights.now }
+    ensures whole { OnOk result (ArePoints auto.now points.new) }
+    ensures grows { OnOk result (Grows points.old points.new) }
+    ensures state { IfOk result (IsStateFor points.new left rights.now) }
+{
+    let key = key_of(alloc, left, rights)?;
+    match points.found.get(&key) {
+        Some(number) => Ok(points.made.state(*number)),
+        None => add_point(alloc, auto, points, key, left, rights),
+    }
+}
+
+/// Gives a state its moves.
+pub(crate) fn set_moves(made: &mut Auto, state: State, moves: NewMoves) -> Result<(), NoMemory>
+    requires state { IsState made.old state }
+    requires labels { AllByRecursion (MoveBelow (length made.old)) moves.labels.items }
+    requires texts { AllByRecursion (TextBelow (length made.old)) moves.texts.items }
+    ensures { OnOk result (Gives state [] [] moves.labels.items moves.texts.items made.old made.new) }
+{
+    let NewMoves {
+        mut labels,
+        mut texts,
+    } = moves;
+    while let Some(step) = labels.pop() {
+        made.add_label_move(state, step.class, step.content, step.rest)?;
+    }
+    while let Some(step) = texts.pop() {
+        made.add_text_move(state, step.words, step.rest)?;
+    }
+    Ok(())
+}
+
+/// The left and the rights of a point.
+pub(crate) fn copy_point(
+    alloc: Global,
+    points: &Points,
+    number: usize,
+) -> Result<(State, Vec<State>), NoMemory>
+    requires { number < length points.now.points.items }
+    ensures { IfOk result (λ p. less p.0 p.1.items ≡ point_at points.now.points.items number) }
+{
+    let point = &points.points[number];
+    let rights = point.rights.to_vec(alloc)?;
+    Ok((point.left, rights))
+}

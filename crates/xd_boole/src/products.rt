@@ -1,0 +1,34 @@
+//! Products.
+
+ghost use Rattle.std.specs.Prelude.{◌≡◌, ◌&&◌, IfOk};
+ghost use Rattle.xd_doc.specs.Document.{Document};
+ghost use Rattle.xd_auto.specs.Automaton.{IsState, accepts};
+ghost use Rattle.xd_empty.specs.Parts.{IsInhabitedPart};
+
+use std::alloc::Global;
+use xd_auto::{Auto, State};
+use xd_doc::NoMemory;
+use xd_empty::inhabited_part;
+use xd_traces::pair_up;
+
+/// A state that accepts exactly what both accept.
+///
+/// A state of the answer stands for a pair of states. Only pairs that the first pair leads to are
+/// made, at most as many as there are pairs; states that accept nothing are left out, but for the first.
+pub fn product(
+    alloc: Global,
+    one: &Auto,
+    first: State,
+    two: &Auto,
+    second: State,
+) -> Result<(Auto, State), NoMemory>
+    requires first { IsState one.now first }
+    requires second { IsState two.now second }
+    ensures exact { IfOk result (λ made. (d : Document) → accepts made.0 d made.1 ≡ (accepts one.now d first && accepts two.now d second)) }
+    ensures start { IfOk result (λ made. IsState made.0 made.1) }
+    ensures inhabited { IfOk result (λ made. IsInhabitedPart made.0 made.1) }
+{
+    let pairs = pair_up(alloc, one, first, two, second)?;
+    let (part, start) = inhabited_part(alloc, &pairs.auto, pairs.start)?;
+    Ok((part, start))
+}

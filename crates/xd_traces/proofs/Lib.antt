@@ -1,0 +1,6 @@
+pub mod Steps
+pub mod Matches
+pub mod Growths
+pub mod Expanding
+pub mod PairingLaw
+pub mod Assembling

@@ -1,0 +1,5 @@
+pub mod Traces
+pub mod Pairing
+pub mod Matching
+pub mod Growing
+pub mod Paired

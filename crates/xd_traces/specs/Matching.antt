@@ -1,0 +1,109 @@
+-- Moves of two states whose classes share a label or a text. Of this only private contracts speak.
+use Rattle.std.specs.Prelude.{◌≡◌, ℕ, ◌<◌, ◌⊎◌, ◌&&◌, ◌++◌, ◌∷◌, [], Bool, true, false, List, Some, length, slice_get, slice_index_or}
+use Rattle.xd_doc.specs.Classes.{NameClass, class_has}
+use Rattle.xd_auto.specs.declared.auto.LabelMove.{LabelMove}
+use Rattle.xd_auto.specs.declared.auto.TextMove.{TextMove}
+use Rattle.xd_traces.specs.declared.pairs.Both.{Both}
+use Rattle.xd_traces.specs.declared.matching.LabelMatch.{LabelMatch}
+use Rattle.xd_traces.specs.declared.matching.TextMatch.{TextMatch}
+use Rattle.xd_traces.specs.Pairing.{IsMeet}
+
+-- what a pair of moves on an element, or on a text, makes
+pub record IsLabelMeet (one two : LabelMove) (both : Both) (m : LabelMatch) : Type 0 where
+  pub numbers : m.both ≡ both
+  pub meet : IsMeet m.class one.class two.class
+  pub content : m.content ≡ record { left = one.content; right = two.content }
+  pub rest : m.rest ≡ record { left = one.rest; right = two.rest }
+
+pub record IsTextMeet (one two : TextMove) (both : Both) (m : TextMatch) : Type 0 where
+  pub numbers : m.both ≡ both
+  pub meet : IsMeet m.words one.words two.words
+  pub rest : m.rest ≡ record { left = one.rest; right = two.rest }
+
+-- it was added, or there is none
+pub data AddsMeet {M : Type 0} (Is : M → Type 0) (shares : List ℕ → Bool) (old new : List M) : Type 0 where
+  adds_none : new ≡ old → ((x : List ℕ) → shares x ≡ false) → AddsMeet Is shares old new
+  adds_one : (m : M) → new ≡ old ++ m ∷ [] → Is m → AddsMeet Is shares old new
+
+abbrev pub share_label : LabelMove → LabelMove → List ℕ → Bool
+share_label one two l = class_has one.class l && class_has two.class l
+
+abbrev pub share_text : TextMove → TextMove → List ℕ → Bool
+share_text one two t = class_has one.words t && class_has two.words t
+
+-- it is made of the moves of its numbers
+pub record IsMatchOf {M S : Type 0} (both_of : M → Both) (IsMeetOf : S → S → Both → M → Type 0) (ones twos : List S) (m : M) : Type 0 where
+  pub one : S
+  pub two : S
+  pub left : slice_get ones (both_of m).left ≡ Some one
+  pub right : slice_get twos (both_of m).right ≡ Some two
+  pub is : IsMeetOf one two (both_of m) m
+
+-- the moves of these numbers share a name
+pub record Share {S : Type 0} (shares : S → S → List ℕ → Bool) (ones twos : List S) (i j : ℕ) : Type 0 where
+  pub one : S
+  pub two : S
+  pub name : List ℕ
+  pub left : slice_get ones i ≡ Some one
+  pub right : slice_get twos j ≡ Some two
+  pub shared : shares one two name ≡ true
+
+pub record HasMatch {M : Type 0} (both_of : M → Both) (i j : ℕ) (ms : List M) : Type 0 where
+  pub number : ℕ
+  pub match : M
+  pub there : slice_get ms number ≡ Some match
+  pub is : both_of match ≡ record { left = i; right = j }
+
+-- each two numbers stand once
+abbrev pub StandOnce : {M : Type 0} → (M → Both) → List M → Type 0
+StandOnce {M = M} both_of ms = (n k : ℕ) (m w : M) → slice_get ms n ≡ Some m → slice_get ms k ≡ Some w → both_of m ≡ both_of w → n ≡ k
+
+-- one for each two moves that share a name, and no others
+pub record AreMatches {M S : Type 0} (both_of : M → Both) (IsMeetOf : S → S → Both → M → Type 0) (shares : S → S → List ℕ → Bool) (ones twos : List S) (ms : List M) : Type 0 where
+  pub each : (n : ℕ) (m : M) → slice_get ms n ≡ Some m → IsMatchOf both_of IsMeetOf ones twos m
+  pub all : (i j : ℕ) → Share shares ones twos i j → HasMatch both_of i j ms
+  pub once : StandOnce both_of ms
+
+-- these numbers stand before others
+abbrev pub IsBefore : ℕ → ℕ → ℕ → ℕ → Type 0
+IsBefore i j k l = (k < i) ⊎ ((k ≡ i) × (l < j))
+
+-- the same for the pairs before some
+pub record MatchedTo {M S : Type 0} (both_of : M → Both) (IsMeetOf : S → S → Both → M → Type 0) (shares : S → S → List ℕ → Bool) (ones twos : List S) (i j : ℕ) (ms : List M) : Type 0 where
+  pub each : (n : ℕ) (m : M) → slice_get ms n ≡ Some m → IsMatchOf both_of IsMeetOf ones twos m
+  pub before : (n : ℕ) (m : M) → slice_get ms n ≡ Some m → IsBefore i j (both_of m).left (both_of m).right
+  pub all : (k l : ℕ) → IsBefore i j k l → Share shares ones twos k l → HasMatch both_of k l ms
+  pub once : StandOnce both_of ms
+
+abbrev pub label_both : LabelMatch → Both
+label_both m = m.both
+
+abbrev pub text_both : TextMatch → Both
+text_both m = m.both
+
+abbrev pub LabelsMatchedTo : List LabelMove → List LabelMove → ℕ → ℕ → List LabelMatch → Type 0
+LabelsMatchedTo ones twos i j ms = MatchedTo label_both IsLabelMeet share_label ones twos i j ms
+
+abbrev pub TextsMatchedTo : List TextMove → List TextMove → ℕ → ℕ → List TextMatch → Type 0
+TextsMatchedTo ones twos i j ms = MatchedTo text_both IsTextMeet share_text ones twos i j ms
+
+abbrev pub AreLabelMatches : List LabelMove → List LabelMove → List LabelMatch → Type 0
+AreLabelMatches ones twos ms = AreMatches label_both IsLabelMeet share_label ones twos ms
+
+abbrev pub AreTextMatches : List TextMove → List TextMove → List TextMatch → Type 0
+AreTextMatches ones twos ms = AreMatches text_both IsTextMeet share_text ones twos ms
+
+-- the moves that take a name of the class are marked
+abbrev pub MarksNamed : {S : Type 0} → (S → List ℕ → Bool) → List S → NameClass → List Bool → Type 0
+MarksNamed {S = S} has moves c marks = (n : ℕ) (m : S) (x : List ℕ) → slice_get moves n ≡ Some m → has m x ≡ true → class_has c x ≡ true → slice_index_or marks n false ≡ true
+
+-- of the first moves, so many, those that take the name are marked too
+pub record MarksTo {S : Type 0} (has : S → List ℕ → Bool) (moves : List S) (name : List ℕ) (count : ℕ) (old new : List Bool) : Type 0 where
+  pub sized : length new ≡ length old
+  pub kept : (n : ℕ) → slice_index_or old n false ≡ true → slice_index_or new n false ≡ true
+  pub marked : (n : ℕ) (m : S) → n < count → slice_get moves n ≡ Some m → has m name ≡ true → slice_index_or new n false ≡ true
+
+-- the moves that take one of the first names, so many, are marked
+pub record MarksFor {S : Type 0} (has : S → List ℕ → Bool) (moves : List S) (names : List (List ℕ)) (count : ℕ) (marks : List Bool) : Type 0 where
+  pub sized : length marks ≡ length moves
+  pub marked : (k n : ℕ) (name : List ℕ) (m : S) → k < count → slice_get names k ≡ Some name → slice_get moves n ≡ Some m → has m name ≡ true → slice_index_or marks n false ≡ true

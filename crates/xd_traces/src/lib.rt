@@ -1,0 +1,11 @@
+//! What the runs of a tree automaton give to variables, and the runs of two automata side by side.
+#![tactic(auto)]
+
+mod growing;
+mod kind;
+pub mod laws;
+mod matching;
+mod pairs;
+
+pub use kind::MoveKind;
+pub use pairs::{Both, Pair, Pairs, pair_up};
