@@ -1,0 +1,16 @@
+pub mod ChainLemmas
+pub mod LinkTests
+pub mod VariableLemmas
+pub mod MarkedLaw
+pub mod MarksLaw
+pub mod Viewing
+pub mod Bodied
+pub mod Keeping
+pub mod Tasking
+pub mod StepArms
+pub mod Working
+pub mod Expansion
+pub mod Sparing
+pub mod StateLemmas
+pub mod MoveLemmas
+pub mod CompileLemmas

@@ -1,0 +1,74 @@
+-- When two links are the same, as the program tests it.
+use Rattle.std.proofs.Common.{◌≡◌, ◌+◌, ◌≤◌, ◌&&◌, ℕ, Bool, true, false, nat_eq, refl, subst, ap, arith, ◌∙◌, Some, List, [], ◌∷◌, ◌++◌, length}
+use Rattle.std.proofs.lemmas.Bool.Decides.{nat_tests}
+use mathlib.Core.Bool.{beq}
+use Rattle.std.specs.List.{list_any, slice_get}
+use Rattle.std.specs.Prelude.{if◌then◌else◌}
+use Rattle.xd_patterns.specs.Chains.{AreLinks, HasLink, list_at}
+use Rattle.xd_patterns.specs.declared.chains.Link.{Link}
+use Rattle.xd_patterns.specs.declared.chains.Piece.{Piece}
+use Rattle.xd_patterns.proofs.ChainLemmas.{has_inserted, has_kept, put_list, same_link}
+
+pub both : (x y : Bool) → (x && y) ≡ true → (x ≡ true) × (y ≡ true)
+both true y h = (refl, h)
+both false y h = cc
+
+pub same_number : (m n : ℕ) → nat_eq m n ≡ true → n ≡ m
+same_number m n h = grind (arith, nat_tests)
+
+pub itself_number : (m : ℕ) → nat_eq m m ≡ true
+itself_number m = grind (arith, nat_tests)
+
+pub same_bit : (s t : Bool) → beq s t ≡ true → t ≡ s
+same_bit true true h = refl
+same_bit true false h = cc
+same_bit false true h = cc
+same_bit false false h = refl
+
+itself_bit : (s : Bool) → beq s s ≡ true
+itself_bit true = refl
+itself_bit false = refl
+
+abbrev pub piece_test : Piece → Piece → Bool
+piece_test p q = beq p.of_pattern q.of_pattern && (nat_eq p.node q.node && (nat_eq p.from q.from && (beq p.is_turns q.is_turns && nat_eq p.marks q.marks)))
+
+pub same_piece : (p q : Piece) → piece_test p q ≡ true → q ≡ p
+same_piece p q h =
+    let a = both (beq p.of_pattern q.of_pattern) (nat_eq p.node q.node && (nat_eq p.from q.from && (beq p.is_turns q.is_turns && nat_eq p.marks q.marks))) h in
+    let b = both (nat_eq p.node q.node) (nat_eq p.from q.from && (beq p.is_turns q.is_turns && nat_eq p.marks q.marks)) a.1 in
+    let c = both (nat_eq p.from q.from) (beq p.is_turns q.is_turns && nat_eq p.marks q.marks) b.1 in
+    let d = both (beq p.is_turns q.is_turns) (nat_eq p.marks q.marks) c.1 in
+    ap (λ (x : Bool). let r : Piece = record { of_pattern = x; node = q.node; from = q.from; is_turns = q.is_turns; marks = q.marks } in r) (same_bit p.of_pattern q.of_pattern a.0)
+    ∙ ap (λ (x : ℕ). let r : Piece = record { of_pattern = p.of_pattern; node = x; from = q.from; is_turns = q.is_turns; marks = q.marks } in r) (same_number p.node q.node b.0)
+    ∙ ap (λ (x : ℕ). let r : Piece = record { of_pattern = p.of_pattern; node = p.node; from = x; is_turns = q.is_turns; marks = q.marks } in r) (same_number p.from q.from c.0)
+    ∙ ap (λ (x : Bool). let r : Piece = record { of_pattern = p.of_pattern; node = p.node; from = p.from; is_turns = x; marks = q.marks } in r) (same_bit p.is_turns q.is_turns d.0)
+    ∙ ap (λ (x : ℕ). let r : Piece = record { of_pattern = p.of_pattern; node = p.node; from = p.from; is_turns = p.is_turns; marks = x } in r) (same_number p.marks q.marks d.1)
+
+pub and_true : (x y : Bool) → x ≡ true → y ≡ true → (x && y) ≡ true
+and_true x y a b = rw (a, b) refl
+
+pub itself_piece : (p : Piece) → piece_test p p ≡ true
+itself_piece p =
+    and_true (beq p.of_pattern p.of_pattern) _ (itself_bit p.of_pattern)
+    (and_true (nat_eq p.node p.node) _ (itself_number p.node)
+    (and_true (nat_eq p.from p.from) _ (itself_number p.from) (and_true (beq p.is_turns p.is_turns) _ (itself_bit p.is_turns) (itself_number p.marks))))
+
+-- what an insertion leaves, where a test of items is at hand
+module _ {A : Type 0} (test : A → A → Bool) (same : (a b : A) → test a b ≡ true → b ≡ a) (itself : (a : A) → test a a ≡ true) where
+  abbrev link_test : Link A → Link A → Bool
+  link_test c d = test c.item d.item && nat_eq c.behind d.behind
+
+  same_as : (c d : Link A) → link_test c d ≡ true → d ≡ c
+  same_as c d h = let r = both (test c.item d.item) (nat_eq c.behind d.behind) h in same_link d c (same c.item d.item r.0) (same_number c.behind d.behind r.1)
+
+  pub inserted : (keys old new : List (Link A)) (c : Link A) → keys ≡ old → new ≡ if list_any (link_test c) keys then keys else keys ++ c ∷ [] →
+      HasLink old c new × (AreLinks old → c.behind ≤ length old → AreLinks new)
+  inserted keys old new c v e =
+      has_inserted (link_test c) c (and_true (test c.item c.item) (nat_eq c.behind c.behind) (itself c.item) (itself_number c.behind)) (same_as c) old new
+      (subst (λ cs. new ≡ if list_any (link_test c) cs then cs else cs ++ c ∷ []) v e)
+
+  pub inserted_list : (keys old new : List (Link A)) (c : Link A) (i : ℕ) → keys ≡ old → new ≡ if list_any (link_test c) keys then keys else keys ++ c ∷ [] → AreLinks old →
+      c.behind ≤ length old → (k : Link A) → slice_get new i ≡ Some k → link_test c k ≡ true → list_at new (i + 1) ≡ c.item ∷ list_at old c.behind
+  inserted_list keys old new c i v e a h k s t =
+      let r = inserted keys old new c v e in
+      put_list old new c i (r.1 a h) (has_kept old c new r.0) h (s ∙ ap Some (same_as c k t))

@@ -1,0 +1,35 @@
+use Rattle.std.proofs.Common.{◌≡◌, ◌+◌, ◌-◌, ◌<◌, ◌≤◌, ℕ, List, length, arith, get_or, sym, subst, ap, ◌∙◌}
+use Rattle.xd_syntax.specs.Ways.{Among}
+use Rattle.xd_patterns.specs.Chains.{AreLinks, list_at}
+use Rattle.xd_patterns.specs.declared.chains.Link.{Link}
+use Rattle.xd_patterns.proofs.ChainLemmas.{IsLinkAt, link_at, get_among}
+use Rattle.xd_patterns.proofs.chains.Marks.link.Goals as goal
+
+no_link : Link ℕ
+no_link = record { item = 0; behind = 0 }
+
+read : (cs keys : List (Link ℕ)) (n : ℕ) → AreLinks cs → keys ≡ cs → 0 < n → n ≤ length cs → IsLinkAt cs (n - 1) (get_or keys (n - 1) no_link)
+read cs keys n a e s w = subst (λ ks. IsLinkAt cs (n - 1) (get_or ks (n - 1) no_link)) (sym e) (link_at cs (n - 1) no_link a (omega arith))
+
+pub returns-clause-older : goal.returns-clause-older
+unfolding no_link
+returns-clause-older c =
+    let s = c.requires.some in
+    let r = read c.args.self.now c.as_slice.result.now c.args.number (subst AreLinks c.self.view_is c.self.invariant) (c.as_slice.ensures.keys ∙ c.self.view_is) s c.requires.within in
+    let o = r.older in omega arith
+
+pub returns-clause-list : goal.returns-clause-list
+unfolding no_link
+returns-clause-list c =
+    let s = c.requires.some in
+    let r = read c.args.self.now c.as_slice.result.now c.args.number (subst AreLinks c.self.view_is c.self.invariant) (c.as_slice.ensures.keys ∙ c.self.view_is) s c.requires.within in
+    let e : (c.args.number - 1) + 1 ≡ c.args.number = omega arith in
+    sym (ap (list_at c.args.self.now) e) ∙ r.list
+
+pub returns-clause-stands : goal.returns-clause-stands
+unfolding no_link
+returns-clause-stands c =
+    let s = c.requires.some in
+    let w = c.requires.within in
+    let l : c.args.number - 1 < length c.args.self.now = omega arith in
+    subst (λ ks. Among (get_or ks (c.args.number - 1) no_link) c.args.self.now) (sym (c.as_slice.ensures.keys ∙ c.self.view_is)) (get_among no_link c.args.self.now (c.args.number - 1) l)

@@ -1,0 +1,50 @@
+use Rattle.std.proofs.Common.{false, [], take, get_or, sym, subst, ◌∙◌}
+use Rattle.std.proofs.lemmas.List.{take_more, take_all}
+use Rattle.xd_patterns.specs.Tasks.{Tables, StandFound, meanings}
+use Rattle.xd_patterns.specs.Compiling.{IsAdding}
+use Rattle.xd_patterns.specs.declared.expand.Found.{Found}
+use Rattle.xd_patterns.proofs.MoveLemmas.{adding_none, adding_more, makes, numbers_grow, found_at}
+use Rattle.xd_patterns.proofs.Sparing.{spares_none, spares_then}
+use Rattle.xd_patterns.proofs.compile.add_moves.Goals as goal
+
+no_found : Found
+no_found = record { is_stop = false; piece = record { of_pattern = false; node = 0; from = 0; is_turns = false; marks = 0 }; rest = 0 }
+
+pub loop-one-init : goal.loop-one-init
+loop-one-init c =
+    let t : Tables = record { types = c.args.types.now; patterns = c.args.patterns.now } in
+    let a = c.in_ok-found.ensures.adds in (
+      subst (λ ts. IsAdding t c.expand.new.marks c.expand.new.cells c.expand.new.cells c.args.base c.args.states.now.keys c.args.states.now.keys c.args.auto.now c.args.auto.now c.args.from ts c.new-2.result.items []) (sym c.new.ensures.items)
+          (subst (λ ls. IsAdding t c.expand.new.marks c.expand.new.cells c.expand.new.cells c.args.base c.args.states.now.keys c.args.states.now.keys c.args.auto.now c.args.auto.now c.args.from [] ls []) (sym c.new-2.ensures.items)
+          (adding_none t c.expand.new.marks c.expand.new.cells c.args.base c.args.states.now.keys c.args.auto.now c.args.from c.requires.count (a.pieces c.requires.pieces)
+          (numbers_grow t c.args.marks.now c.expand.new.marks c.args.cells.now c.expand.new.cells a c.args.states.now.keys c.requires.numbers) c.requires.fresh)),
+      spares_none c.args.base c.args.auto.now,
+    )
+
+pub loop-one-preserved : goal.loop-one-preserved
+unfolding no_found
+loop-one-preserved c =
+    let t : Tables = record { types = c.args.types.now; patterns = c.args.patterns.now } in
+    let fs = c.as_slice-one-items.result.now in
+    let i = c.loop-one.one-index in
+    let a = c.in_ok-found.ensures.adds in
+    let stand = subst (StandFound t c.expand.new.marks c.expand.new.cells) (sym c.as_slice-one-items.ensures.keys) c.in_ok-found.ensures.stand in (
+      subst (IsAdding t c.expand.new.marks c.expand.new.cells c.add_move.new.cells c.args.base c.args.states.now.keys c.add_move.new.states.keys c.args.auto.now c.add_move.new.auto c.args.from c.add_move.new.made.texts.items c.add_move.new.made.labels.items)
+          (sym (take_more fs i no_found c.loop-one-test.true))
+          (adding_more t c.expand.new.marks c.expand.new.cells c.args.base c.args.states.now.keys c.args.auto.now c.args.from (a.pieces c.requires.pieces) c.loop-one.cells c.add_move.new.cells c.loop-one.states.keys c.add_move.new.states.keys
+          c.loop-one.auto' c.add_move.new.auto c.loop-one.made.texts.items c.add_move.new.made.texts.items c.loop-one.made.labels.items c.add_move.new.made.labels.items (take i fs) (get_or fs i no_found) c.loop-one.invariant.0
+          (found_at t c.expand.new.marks c.expand.new.cells fs i no_found stand c.loop-one-test.true) c.in_ok-add_move.ensures.made),
+      spares_then c.args.base c.args.auto.now c.loop-one.auto' c.add_move.new.auto c.loop-one.invariant.1 c.in_ok-add_move.ensures.spares,
+    )
+
+pub returns-clause-made : goal.returns-clause-made
+returns-clause-made c =
+    let t : Tables = record { types = c.args.types.now; patterns = c.args.patterns.now } in
+    let test = c.loop-one-test.false in
+    let e = take_all c.loop-one.one-index c.as_slice-one-items.result.now test ∙ c.as_slice-one-items.ensures.keys in
+    makes (meanings c.args.types.now c.args.defs.now) t c.args.marks.now c.expand.new.marks c.args.cells.now c.expand.new.cells c.loop-one.cells c.args.base c.args.number c.args.states.now.keys c.loop-one.states.keys
+    c.args.auto.now c.loop-one.auto' c.args.from c.loop-one.made.texts.items c.loop-one.made.labels.items c.in_ok-found.found.keys c.requires.numbers c.requires.count c.in_ok-found.ensures
+    (subst (IsAdding t c.expand.new.marks c.expand.new.cells c.loop-one.cells c.args.base c.args.states.now.keys c.loop-one.states.keys c.args.auto.now c.loop-one.auto' c.args.from c.loop-one.made.texts.items c.loop-one.made.labels.items) e c.loop-one.invariant.0)
+
+pub returns-in_err-add_move-clause-spares : goal.returns-in_err-add_move-clause-spares
+returns-in_err-add_move-clause-spares c = spares_then c.args.base c.args.auto.now c.loop-one.auto' c.add_move.new.auto c.loop-one.invariant.1 c.add_move.ensures.spares

@@ -1,0 +1,10 @@
+pub mod Chains
+pub mod Pieces
+pub mod Bodies
+pub mod Tasks
+pub mod Work
+pub mod Expanding
+pub mod Marked
+pub mod Variables
+pub mod Compiling
+pub mod Held

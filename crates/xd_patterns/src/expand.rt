@@ -1,0 +1,290 @@
+//! What can come next, in order of preference.
+
+ghost use Rattle.std.specs.Prelude.{◌≡◌, true, IfOk, ◌<◌, ◌≤◌, ◌++◌, ◌∷◌, [], ℕ, false, length, OnOk, Option, Some, None};
+ghost use Rattle.xd_syntax.specs.Tree.{Definitions};
+ghost use Rattle.xd_patterns.specs.Bodies.{node_of};
+ghost use Rattle.xd_patterns.specs.Chains.{list_at};
+ghost use Rattle.xd_laws.specs.Guarded.{Guarded};
+ghost use Rattle.xd_runs.specs.Steps.{Ahead};
+ghost use Rattle.xd_patterns.specs.Pieces.{IsPieceOf, Sees};
+ghost use Rattle.xd_patterns.specs.Tasks.{rows_of, AreBodies, IsPiece, PushesPart, PushesBody, HasFound, IsStep, meanings, ArePieces, StandsFor};
+ghost use Rattle.xd_patterns.specs.Expanding.{ends_turn, IsExpanded, AreFound};
+
+use crate::bodies::Bodies;
+use crate::chains::{Cells, Link, Marks, Piece};
+use crate::pieces::{View, view_pattern, view_type};
+use indexmap::IndexSet;
+use std::alloc::Global;
+use xd_doc::{Label, NoMemory};
+use xd_syntax::{Patterns, TypeDef, Types};
+
+/// A list of pieces that stands ahead; in a turn of a repetition, the list that stands behind the turn.
+#[derive(Clone, Copy, Debug)]
+pub(crate) struct Task {
+    pub cell: usize,
+    pub turn: Option<usize>,
+}
+
+/// What can come next: nothing, or an item of the piece, and what stands ahead behind it.
+#[derive(Clone, Copy, Debug, PartialEq, Eq, Hash)]
+pub(crate) struct Found {
+    pub is_stop: bool,
+    pub piece: Piece,
+    pub rest: usize,
+}
+
+/// One more task: a piece before a list.
+fn push_part(
+    piece: Piece,
+    behind: usize,
+    turn: Option<usize>,
+    cells: &mut Cells,
+    tasks: &mut Vec<Task>,
+) -> Result<(), NoMemory>
+    requires { behind ≤ length cells.old }
+    ensures { OnOk result (PushesPart cells.old cells.new tasks.old.items tasks.new.items piece behind turn) }
+{
+    let cell = cells.put(piece, behind)?;
+    tasks.push(Task { cell, turn })?;
+    Ok(())
+}
+
+/// One more task: what a name stands for, before a list.
+fn push_body(
+    bodies: &Bodies,
+    name: &Label,
+    like: Piece,
+    behind: usize,
+    turn: Option<usize>,
+    cells: &mut Cells,
+    tasks: &mut Vec<Task>,
+) -> Result<(), NoMemory>
+    requires { behind ≤ length cells.old }
+    ensures { OnOk result (PushesBody (node_of bodies.now name.now) cells.old cells.new tasks.old.items tasks.new.items like.marks behind turn) }
+{
+    if let Some(node) = bodies.find(name) {
+        let piece = Piece {
+            of_pattern: false,
+            node,
+            from: 0,
+            is_turns: false,
+            marks: like.marks,
+        };
+        push_part(piece, behind, turn, cells, tasks)?;
+    }
+    Ok(())
+}
+
+/// What was found is kept where it stands first.
+fn keep(item: Found, found: &mut IndexSet<Found>) -> Result<(), NoMemory>
+    ensures { OnOk result (HasFound found.old.keys item found.new.keys) }
+{
+    found.insert_full(item)?;
+    Ok(())
+}
+
+/// One step: what the first piece of a list finds itself, and the tasks that it leaves.
+fn step_view(
+    types: &Types,
+    patterns: &Patterns,
+    bodies: &Bodies,
+    view: View<'_>,
+    first: Link<Piece>,
+    task: Task,
+    cells: &mut Cells,
+    marks: &mut Marks,
+    tasks: &mut Vec<Task>,
+    found: &mut IndexSet<Found>,
+) -> Result<(), NoMemory>
+    requires sees { Sees (rows_of (record { types = types.now; patterns = patterns.now }) first.item.of_pattern) first.item view }
+    requires piece { IsPiece (record { types = types.now; patterns = patterns.now }) marks.old first.item }
+    requires cell { task.cell ≤ length cells.old }
+    requires behind { first.behind ≤ length cells.old }
+    requires list { list_at cells.old task.cell ≡ first.item ∷ list_at cells.old first.behind }
+    ensures { OnOk result ((E : Definitions) → AreBodies types.now E (node_of bodies.now) →
+        IsStep (record { types = types.now; patterns = patterns.now }) E marks.old marks.new cells.old cells.new tasks.old.items tasks.new.items found.old.keys found.new.keys first.item first.behind task.turn) }
+{
+    let _nodes = types.len();
+    let _others = patterns.len();
+    match view {
+        View::Empty => {
+            let rest = Task {
+                cell: first.behind,
+                turn: task.turn,
+            };
+            tasks.push(rest)?;
+        }
+        View::Text => keep_item(first, found)?,
+        View::Words(_) => keep_item(first, found)?,
+        View::Elem(_, _) => keep_item(first, found)?,
+        View::Name(name) => {
+            push_body(
+                bodies,
+                name,
+                first.item,
+                first.behind,
+                task.turn,
+                cells,
+                tasks,
+            )?;
+        }
+        View::Seq(part, others) => {
+            let rest = cells.put(others, first.behind)?;
+            push_part(part, rest, task.turn, cells, tasks)?;
+        }
+        View::Alt(part, others) => {
+            push_part(others, first.behind, task.turn, cells, tasks)?;
+            push_part(part, first.behind, task.turn, cells, tasks)?;
+        }
+        View::Star(part) => {
+            let rest = Task {
+                cell: first.behind,
+                turn: task.turn,
+            };
+            tasks.push(rest)?;
+            push_part(part, task.cell, Some(task.cell), cells, tasks)?;
+        }
+        View::Plus(part, turns) => {
+            let rest = cells.put(turns, first.behind)?;
+            push_part(part, rest, task.turn, cells, tasks)?;
+        }
+        View::Opt(part) => {
+            let rest = Task {
+                cell: first.behind,
+                turn: task.turn,
+            };
+            tasks.push(rest)?;
+            push_part(part, first.behind, task.turn, cells, tasks)?;
+        }
+        View::Val(part) => {
+            let number = marks.put(first.item.node, first.item.marks)?;
+            let bound = Piece {
+                marks: number,
+                ..part
+            };
+            push_part(bound, first.behind, task.turn, cells, tasks)?;
+        }
+    }
+    Ok(())
+}
+
+/// The item of the first piece of a list, with what stands behind it.
+fn keep_item(first: Link<Piece>, found: &mut IndexSet<Found>) -> Result<(), NoMemory>
+    ensures { OnOk result (HasFound found.old.keys (record { is_stop = false; piece = first.item; rest = first.behind }) found.new.keys) }
+{
+    let item = Found {
+        is_stop: false,
+        piece: first.item,
+        rest: first.behind,
+    };
+    keep(item, found)
+}
+
+/// What a piece of either table is.
+pub(crate) fn view<'a>(types: &'a Types, patterns: &'a Patterns, piece: Piece) -> View<'a>
+    requires { IsPieceOf (rows_of (record { types = types.now; patterns = patterns.now }) piece.of_pattern) piece }
+    ensures { Sees (rows_of (record { types = types.now; patterns = patterns.now }) piece.of_pattern) piece result }
+{
+    if piece.of_pattern {
+        view_pattern(patterns, piece)
+    } else {
+        view_type(types, piece)
+    }
+}
+
+/// Whether the task is at the end of a turn, where nothing was taken in it.
+fn is_ended(task: Task) -> bool
+    ensures { result ≡ ends_turn task.turn task.cell }
+{
+    match task.turn {
+        Some(end) => end == task.cell,
+        None => false,
+    }
+}
+
+/// What can come next where nothing stands ahead.
+fn stop() -> Found
+    ensures { result ≡ record { is_stop = true; piece = record { of_pattern = false; node = 0; from = 0; is_turns = false; marks = 0 }; rest = 0 } }
+{
+    let piece = Piece {
+        of_pattern: false,
+        node: 0,
+        from: 0,
+        is_turns: false,
+        marks: 0,
+    };
+    Found {
+        is_stop: true,
+        piece,
+        rest: 0,
+    }
+}
+
+/// One step of a task.
+fn step(
+    types: &Types,
+    patterns: &Patterns,
+    defs: &[TypeDef],
+    bodies: &Bodies,
+    task: Task,
+    cells: &mut Cells,
+    marks: &mut Marks,
+    tasks: &mut Vec<Task>,
+    found: &mut IndexSet<Found>,
+) -> Result<(), NoMemory>
+    requires guarded { Guarded (meanings types.now defs.now) }
+    requires bodies { AreBodies types.now (meanings types.now defs.now) (node_of bodies.now) }
+    requires pieces { ArePieces (record { types = types.now; patterns = patterns.now }) marks.old cells.old }
+    requires task { task.cell ≤ length cells.old }
+    ensures { OnOk result ((a : Ahead) → StandsFor (record { types = types.now; patterns = patterns.now }) marks.old cells.old task a →
+        IsExpanded (meanings types.now defs.now) (record { types = types.now; patterns = patterns.now }) marks.old marks.new cells.old cells.new tasks.old.items tasks.new.items found.old.keys found.new.keys a) }
+{
+    let _count = cells.len();
+    let _defs = defs;
+    if is_ended(task) {
+        return Ok(());
+    }
+    if task.cell == 0 {
+        keep(stop(), found)?;
+        return Ok(());
+    }
+    let first = cells.link(task.cell);
+    let seen = view(types, patterns, first.item);
+    step_view(
+        types, patterns, bodies, seen, first, task, cells, marks, tasks, found,
+    )?;
+    Ok(())
+}
+
+/// All that can come next in a list of pieces, each once, in order of preference.
+///
+/// A part of a pattern that comes again in the same place, as by a name in two alternatives, is gone through again.
+pub(crate) fn expand(
+    alloc: Global,
+    types: &Types,
+    patterns: &Patterns,
+    defs: &[TypeDef],
+    bodies: &Bodies,
+    cells: &mut Cells,
+    marks: &mut Marks,
+    number: usize,
+) -> Result<IndexSet<Found>, NoMemory>
+    requires guarded { Guarded (meanings types.now defs.now) }
+    requires bodies { AreBodies types.now (meanings types.now defs.now) (node_of bodies.now) }
+    requires pieces { ArePieces (record { types = types.now; patterns = patterns.now }) marks.old cells.old }
+    requires number { number ≤ length cells.old }
+    ensures { IfOk result (λ found. AreFound (meanings types.now defs.now) (record { types = types.now; patterns = patterns.now }) marks.old marks.new cells.old cells.new number found.keys) }
+{
+    let mut tasks = Vec::new(alloc);
+    let mut found = IndexSet::new(alloc);
+    tasks.push(Task {
+        cell: number,
+        turn: None,
+    })?;
+    while let Some(task) = tasks.pop() {
+        step(
+            types, patterns, defs, bodies, task, cells, marks, &mut tasks, &mut found,
+        )?;
+    }
+    Ok(found)
+}

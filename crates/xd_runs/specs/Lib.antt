@@ -1,0 +1,10 @@
+pub mod Alike
+pub mod Runs
+pub mod Linear
+pub mod Laws
+pub mod Together
+pub mod Mirrors
+pub mod Finite
+pub mod FirstRun
+pub mod Steps
+pub mod Clauses
