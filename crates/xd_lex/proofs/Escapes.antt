@@ -8,7 +8,7 @@ use Rattle.xd_lex.specs.Spelled.{characters, unescaped}
 use Rattle.std.proofs.lemmas.Bool.{eqb-true}
 
 -- one escaped character stands for itself
-characters-escaped : (c : ℕ) (bs : List ℕ) → characters false (escaped c ++ bs) ≡ c ∷ characters false bs
+pub characters-escaped : (c : ℕ) (bs : List ℕ) → characters false (escaped c ++ bs) ≡ c ∷ characters false bs
 characters-escaped c bs = at_quote (c == 34) refl
   where
     at_tab : (t : Bool) → (c == 9) ≡ t → (c == 34) ≡ false → (c == 92) ≡ false → characters false (cond t (92 ∷ 116 ∷ []) (c ∷ []) ++ bs) ≡ c ∷ characters false bs

@@ -6,3 +6,4 @@ pub mod Escapes
 pub mod Pieces
 pub mod Canonical
 pub mod ReadLemmas
+pub mod Symbols

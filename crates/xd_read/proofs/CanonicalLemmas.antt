@@ -34,7 +34,7 @@ ascii_one c h = IsUtf8-from_ascii (c ∷ []) (λ i. at c h i)
     at c h zero = h
     at c h (suc i) = omega arith
 
-cons_ascii : (c : ℕ) (cs : List ℕ) → c < 128 → IsUtf8 cs → IsUtf8 (c ∷ cs)
+pub cons_ascii : (c : ℕ) (cs : List ℕ) → c < 128 → IsUtf8 cs → IsUtf8 (c ∷ cs)
 cons_ascii c cs h u = IsUtf8-append (c ∷ []) cs (ascii_one c h) u
 
 is_ascii_at : (c k : ℕ) → k < 128 → nat_eq c k ≡ true → c < 128
@@ -44,7 +44,7 @@ is_ascii_at c k lt h = grind (arith, nat_tests)
 escape_between : (pre : List ℕ) (c : ℕ) (cs : List ℕ) (a b : ℕ) (rest : List ℕ) → c < 128 → a < 128 → b < 128 → IsUtf8 (pre ++ c ∷ cs) → IsUtf8 rest → IsUtf8 (pre ++ ((a ∷ b ∷ []) ++ rest))
 escape_between pre c cs a b rest lc la lb u r = IsUtf8-append pre ((a ∷ b ∷ []) ++ rest) (before_ascii pre c cs lc u) (cons_ascii a (b ∷ rest) la (cons_ascii b rest lb r))
 
-escaped_all_utf8 : (pre s : List ℕ) → IsUtf8 (pre ++ s) → IsUtf8 (pre ++ escaped_all s)
+pub escaped_all_utf8 : (pre s : List ℕ) → IsUtf8 (pre ++ s) → IsUtf8 (pre ++ escaped_all s)
 escaped_all_utf8 pre [] u = u
 escaped_all_utf8 pre (c ∷ cs) u =
     let P : List ℕ → Type 0 = λ z. IsUtf8 (pre ++ (z ++ escaped_all cs)) in
@@ -60,7 +60,7 @@ parts_utf8 : (cs : List ℕ) → are_word_parts cs ≡ true → IsUtf8 cs
 parts_utf8 [] h = IsUtf8-nil
 parts_utf8 (c ∷ cs) h = cons_ascii c cs (word_ascii c (and_parts (is_word_part c) (are_word_parts cs) h).0) (parts_utf8 cs (and_parts (is_word_part c) (are_word_parts cs) h).1)
 
-word_utf8 : (l : List ℕ) → is_word l ≡ true → IsUtf8 l
+pub word_utf8 : (l : List ℕ) → is_word l ≡ true → IsUtf8 l
 word_utf8 [] h = IsUtf8-nil
 word_utf8 (c ∷ cs) h = cons_ascii c cs (begins_ascii c (and_parts (is_word_start c) (are_word_parts cs) h).0) (parts_utf8 cs (and_parts (is_word_start c) (are_word_parts cs) h).1)
 

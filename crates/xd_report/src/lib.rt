@@ -6,3 +6,4 @@ mod line;
 mod texts;
 
 pub use line::{fault_line, warning_line};
+pub use xd_type_text::type_text;

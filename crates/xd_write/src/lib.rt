@@ -4,4 +4,5 @@
 mod text;
 mod write;
 
+pub use text::write_text;
 pub use write::write_document;
