@@ -1,0 +1,5 @@
+mod StepLemmas
+mod QuoteLemmas
+mod AtomLemmas
+mod CaseLemmas
+mod KeywordLemmas
