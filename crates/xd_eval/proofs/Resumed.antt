@@ -1,0 +1,213 @@
+-- What a value leads to among the parts of a sequence or of a call.
+use Rattle.std.proofs.Common.{◌≡◌, ℕ, suc, ◌+◌, ◌*◌, ◌<◌, ◌≤◌, arith, Bool, true, false, cond, List, [], ◌∷◌, ◌++◌, map, drop, length, get_or, Option, Some, None, refl, ap, sym, subst, ◌∙◌, length-append}
+use Rattle.std.specs.List.{AllByRecursion}
+use Rattle.std.specs.Option.{IfSome}
+use Rattle.std.specs.Str.{bytes_eq}
+use Rattle.std.proofs.lemmas.List.{drop_more, drop_all, map-append}
+use Rattle.xd_doc.specs.Document.{Document, join}
+use Rattle.xd_doc.specs.Stored.{BelongsTo, Keeps, document_at, joined_at}
+use Rattle.xd_doc.specs.declared.store.Seq.{Seq}
+use Rattle.xd_doc.proofs.Lists.{all_append, all_at}
+use Rattle.xd_syntax.specs.Expression.{ExprRow, shape_at}
+use Rattle.xd_syntax.specs.FunctionRow.{FunctionRow}
+use Rattle.xd_syntax.specs.Table.{Row}
+use Rattle.xd_syntax.specs.Program.{FunctionDefinition, function_of}
+use Rattle.xd_syntax.specs.Kept.{ProgramTable, FunctionStands, program_tree, parameter}
+use Rattle.xd_syntax.specs.Meaning.{Environment, and_then, value_by, bound}
+use Rattle.xd_syntax.specs.Exprs.{expr_numbers}
+use Rattle.xd_syntax.specs.declared.exprs.ExprId.{ExprId}
+use Rattle.xd_syntax.specs.declared.program.Param.{Param}
+use Rattle.xd_eval.specs.Waiting.{Waiting, in_sequence, in_call, joined_all, resumed, steps, waiting_steps, all_steps}
+use Rattle.xd_eval.specs.Functions.{row_of}
+use Rattle.xd_eval.specs.Machine.{environment_in, parts_of, function_named, expression_in, before, after, waiting_of, all_waiting, ScopeStands, IsSequence, IsCall, PartsStand, FrameStands, FramesStand, matcher, caller, outcome, most_steps, Leads, bound_seqs}
+use Rattle.xd_eval.specs.declared.frame.Parts.{Parts}
+use Rattle.xd_eval.specs.declared.frame.Scope.{Scope}
+use Rattle.xd_eval.specs.declared.frame.Frame.{Frame}
+use Rattle.xd_eval.specs.declared.frame.Frame.TheVariants.{Sequence, Call}
+use Rattle.xd_eval.specs.declared.frame.Control.TheVariants.{Evaluate, Give}
+use Rattle.xd_eval.proofs.Stepping.{next_part, next_argument}
+use Rattle.xd_eval.proofs.Waits.{all_kept, frames_kept, waiting_more}
+
+pub joined_values : (ds : List Document) (seqs : List Seq) → joined_at ds seqs ≡ joined_all (map (document_at ds) seqs)
+joined_values ds [] = refl
+joined_values ds (seq ∷ seqs) = ap (join (document_at ds seq)) (joined_values ds seqs)
+
+-- One more value than before stands in a frame that is else the same.
+pub record HasOneMore (old new : Parts) (seq : Seq) : Type 0 where
+  pub expr : new.expr ≡ old.expr
+  pub values : new.values.items ≡ old.values.items ++ seq ∷ []
+  pub scope : new.scope.bindings.value.items ≡ old.scope.bindings.value.items
+
+abbrev numbers : ProgramTable → Parts → List ℕ
+numbers p parts = parts_of (shape_at p.exprs parts.expr.at)
+
+module _ (p : ProgramTable) (ds : List Document) (parts : Parts) (more : Parts) (seq : Seq) (h : HasOneMore parts more seq) where
+  before_more : before ds more ≡ before ds parts ++ document_at ds seq ∷ []
+  before_more = ap (map (document_at ds)) h.values ∙ map-append (document_at ds) parts.values.items (seq ∷ [])
+
+  count_more : length more.values.items ≡ length parts.values.items + 1
+  count_more = ap length h.values ∙ length-append parts.values.items (seq ∷ [])
+
+  after_more : after p more ≡ map (expression_in p) (drop (length parts.values.items + 1 + 1) (numbers p parts))
+  after_more =
+      ap (λ (i : ExprId). map (expression_in p) (drop (length more.values.items + 1) (parts_of (shape_at p.exprs i.at)))) h.expr
+      ∙ ap (λ k. map (expression_in p) (drop (k + 1) (numbers p parts))) count_more
+
+  pub after_next : (i : ℕ) → length parts.values.items + 1 < length (numbers p parts) → i ≡ get_or (numbers p parts) (length parts.values.items + 1) i →
+      after p parts ≡ expression_in p i ∷ after p more
+  after_next i l g =
+      ap (map (expression_in p)) (drop_more (numbers p parts) (length parts.values.items + 1) i l)
+      ∙ ap (λ j. expression_in p j ∷ map (expression_in p) (drop (length parts.values.items + 1 + 1) (numbers p parts))) (sym g)
+      ∙ ap (λ es. expression_in p i ∷ es) (sym after_more)
+
+  pub after_last : length (numbers p parts) ≤ length parts.values.items + 1 → after p parts ≡ []
+  after_last l = ap (map (expression_in p)) (drop_all (length parts.values.items + 1) (numbers p parts) l)
+
+  pub more_stands : PartsStand p ds parts → BelongsTo ds seq → length parts.values.items + 1 < length (numbers p parts) → PartsStand p ds more
+  more_stands s b l =
+      record {
+        there = subst (λ (i : ExprId). i.at < length p.exprs) (sym h.expr) s.there;
+        waits = subst (λ k. k < length (parts_of (shape_at p.exprs more.expr.at))) (sym count_more)
+            (subst (λ (i : ExprId). length parts.values.items + 1 < length (parts_of (shape_at p.exprs i.at))) (sym h.expr) l);
+        values_there = subst (AllByRecursion (BelongsTo ds)) (sym h.values) (all_append (BelongsTo ds) parts.values.items (seq ∷ []) s.values_there (b, tt));
+        scope_stands = subst (ScopeStands ds) (sym h.scope) s.scope_stands;
+      }
+
+  environment_more : environment_in ds more.scope.bindings.value.items ≡ environment_in ds parts.scope.bindings.value.items
+  environment_more = ap (environment_in ds) h.scope
+
+  module _ (fs gs : List Frame) (stand : FramesStand p ds fs) (ps : PartsStand p ds parts) (b : BelongsTo ds seq) (n : ℕ) (next : ExprId) (scope : Scope)
+      (l : length parts.values.items + 1 < length (numbers p parts)) (g : next.at ≡ get_or (numbers p parts) (length parts.values.items + 1) next.at)
+      (below : next.at < length p.exprs) (sc : scope.bindings.value.items ≡ parts.scope.bindings.value.items) where
+    abbrev env : Environment
+    env = environment_in ds parts.scope.bindings.value.items
+
+    abbrev leads_by : (f q : Frame) (w v : Waiting) → gs ≡ fs ++ q ∷ [] → FrameStands p ds q → waiting_of p ds f ≡ w → waiting_of p ds q ≡ v →
+        (resumed (matcher p) (caller p) (w ∷ all_waiting p ds fs) (document_at ds seq) n
+        ≡ and_then (value_by (matcher p) (caller p) n env (expression_in p next.at)) (resumed (matcher p) (caller p) (v ∷ all_waiting p ds fs))) →
+        steps (expression_in p next.at) + waiting_steps v < waiting_steps w →
+        Leads p ds (fs ++ f ∷ []) (Give seq) n ds gs n (Evaluate next scope)
+    leads_by f q w v e t wf wq k less =
+        let a : all_waiting p ds gs ≡ v ∷ all_waiting p ds fs = ap (all_waiting p ds) e ∙ waiting_more p ds fs q ∙ ap (λ x. x ∷ all_waiting p ds fs) wq in
+        let c : all_waiting p ds (fs ++ f ∷ []) ≡ w ∷ all_waiting p ds fs = waiting_more p ds fs f ∙ ap (λ x. x ∷ all_waiting p ds fs) wf in
+        let a' = ap all_steps a in
+        let c' = ap all_steps c in
+        let m = n * (most_steps (program_tree p).functions + 1) in
+        record {
+          same = ap (λ ws. and_then (value_by (matcher p) (caller p) n (environment_in ds scope.bindings.value.items) (expression_in p next.at)) (resumed (matcher p) (caller p) ws)) a
+              ∙ ap (λ (bs : List (List ℕ × Seq)). and_then (value_by (matcher p) (caller p) n (environment_in ds bs) (expression_in p next.at)) (resumed (matcher p) (caller p) (v ∷ all_waiting p ds fs))) sc
+              ∙ sym k ∙ ap (λ ws. resumed (matcher p) (caller p) ws (document_at ds seq) n) (sym c);
+          control = (below, subst (ScopeStands ds) (sym sc) ps.scope_stands);
+          frames = subst (FramesStand p ds) (sym e) (all_append (FrameStands p ds) fs (q ∷ []) stand (t, tt));
+          less = omega arith;
+        }
+
+    pub next_in_sequence : gs ≡ fs ++ Sequence more ∷ [] → IsSequence (shape_at p.exprs parts.expr.at) → Leads p ds (fs ++ Sequence parts ∷ []) (Give seq) n ds gs n (Evaluate next scope)
+    next_in_sequence e s =
+        leads_by (Sequence parts) (Sequence more) (in_sequence env (before ds parts) (expression_in p next.at ∷ after p more)) (in_sequence env (before ds parts ++ document_at ds seq ∷ []) (after p more)) e
+        (subst (λ (i : ExprId). IsSequence (shape_at p.exprs i.at)) (sym h.expr) s, more_stands ps b l)
+        (ap (in_sequence env (before ds parts)) (after_next next.at l g))
+        (ap (λ x. in_sequence x (before ds more) (after p more)) environment_more ∙ ap (λ x. in_sequence env x (after p more)) before_more)
+        (next_part (matcher p) (caller p) n env (before ds parts) (document_at ds seq) (expression_in p next.at) (after p more) (all_waiting p ds fs))
+        (omega arith)
+
+    pub next_in_call : gs ≡ fs ++ Call more ∷ [] → IsCall (shape_at p.exprs parts.expr.at) → Leads p ds (fs ++ Call parts ∷ []) (Give seq) n ds gs n (Evaluate next scope)
+    next_in_call e s =
+        let f : List ℕ = function_named (shape_at p.exprs parts.expr.at) in
+        leads_by (Call parts) (Call more) (in_call env f (before ds parts) (expression_in p next.at ∷ after p more)) (in_call env f (before ds parts ++ document_at ds seq ∷ []) (after p more)) e
+        (subst (λ (i : ExprId). IsCall (shape_at p.exprs i.at)) (sym h.expr) s, more_stands ps b l)
+        (ap (in_call env f (before ds parts)) (after_next next.at l g))
+        (ap (λ x. in_call x (function_named (shape_at p.exprs more.expr.at)) (before ds more) (after p more)) environment_more
+        ∙ ap (λ x. in_call env (function_named (shape_at p.exprs more.expr.at)) x (after p more)) before_more
+        ∙ ap (λ (i : ExprId). in_call env (function_named (shape_at p.exprs i.at)) (before ds parts ++ document_at ds seq ∷ []) (after p more)) h.expr)
+        (next_argument (matcher p) (caller p) n env f (before ds parts) (document_at ds seq) (expression_in p next.at) (after p more) (all_waiting p ds fs))
+        (omega arith)
+
+  -- the last part of a sequence has its value
+  pub ends_sequence : (fs : List Frame) → FramesStand p ds fs → (new : List Document) → Keeps ds new → (made : Seq) → BelongsTo new made → document_at new made ≡ joined_at ds more.values.items →
+      length (numbers p parts) ≤ length parts.values.items + 1 → (n : ℕ) → Leads p ds (fs ++ Sequence parts ∷ []) (Give seq) n new fs n (Give made)
+  ends_sequence fs s new k made b d l n =
+      let a : all_waiting p ds (fs ++ Sequence parts ∷ []) ≡ in_sequence (environment_in ds parts.scope.bindings.value.items) (before ds parts) [] ∷ all_waiting p ds fs =
+      waiting_more p ds fs (Sequence parts) ∙ ap (λ es. in_sequence (environment_in ds parts.scope.bindings.value.items) (before ds parts) es ∷ all_waiting p ds fs) (after_last l) in
+      let w = all_kept ds new k p fs s in
+      let a' = ap all_steps a in
+      let w' = ap all_steps w in
+      let m = n * (most_steps (program_tree p).functions + 1) in
+      record {
+        same = ap (λ ws. resumed (matcher p) (caller p) ws (document_at new made) n) w
+            ∙ ap (λ x. resumed (matcher p) (caller p) (all_waiting p ds fs) x n) (d ∙ joined_values ds more.values.items ∙ ap joined_all before_more)
+            ∙ ap (λ ws. resumed (matcher p) (caller p) ws (document_at ds seq) n) (sym a);
+        control = b;
+        frames = frames_kept ds new k p fs s;
+        less = omega arith;
+      }
+
+  -- the last argument of a call has its value
+  pub ends_call : (fs : List Frame) (n : ℕ) → length (numbers p parts) ≤ length parts.values.items + 1 →
+      outcome p ds (fs ++ Call parts ∷ []) (Give seq) n
+      ≡ and_then (caller p n (function_named (shape_at p.exprs parts.expr.at)) (map (document_at ds) more.values.items)) (resumed (matcher p) (caller p) (all_waiting p ds fs))
+  ends_call fs n l =
+      let env : Environment = environment_in ds parts.scope.bindings.value.items in
+      let f : List ℕ = function_named (shape_at p.exprs parts.expr.at) in
+      let a : all_waiting p ds (fs ++ Call parts ∷ []) ≡ in_call env f (before ds parts) [] ∷ all_waiting p ds fs =
+      waiting_more p ds fs (Call parts) ∙ ap (λ es. in_call env f (before ds parts) es ∷ all_waiting p ds fs) (after_last l) in
+      ap (λ ws. resumed (matcher p) (caller p) ws (document_at ds seq) n) a
+      ∙ ap (λ xs. and_then (caller p n f xs) (resumed (matcher p) (caller p) (all_waiting p ds fs))) (sym before_more)
+
+  pub call_steps : (fs : List Frame) → length (numbers p parts) ≤ length parts.values.items + 1 → all_steps (all_waiting p ds (fs ++ Call parts ∷ [])) ≡ suc (all_steps (all_waiting p ds fs))
+  call_steps fs l =
+      let env : Environment = environment_in ds parts.scope.bindings.value.items in
+      let f : List ℕ = function_named (shape_at p.exprs parts.expr.at) in
+      let a : all_waiting p ds (fs ++ Call parts ∷ []) ≡ in_call env f (before ds parts) [] ∷ all_waiting p ds fs =
+      waiting_more p ds fs (Call parts) ∙ ap (λ es. in_call env f (before ds parts) es ∷ all_waiting p ds fs) (after_last l) in
+      let a' = ap all_steps a in omega arith
+
+-- parameters and their documents
+pub bound_environment : (types : List Row) (ds : List Document) (qs : List Param) (seqs : List Seq) →
+    environment_in ds (bound_seqs qs seqs) ≡ bound (map (parameter types) qs) (map (document_at ds) seqs)
+bound_environment types ds [] seqs = refl
+bound_environment types ds (q ∷ qs) [] = refl
+bound_environment types ds (q ∷ qs) (seq ∷ seqs) = ap (λ env. (q.name, document_at ds seq) ∷ env) (bound_environment types ds qs seqs)
+
+pub bound_stands : (ds : List Document) (qs : List Param) (seqs : List Seq) → AllByRecursion (BelongsTo ds) seqs → ScopeStands ds (bound_seqs qs seqs)
+bound_stands ds [] seqs s = tt
+bound_stands ds (q ∷ qs) [] s = tt
+bound_stands ds (q ∷ qs) (seq ∷ seqs) s = (s.0, bound_stands ds qs seqs s.1)
+
+-- no function's body takes more steps than all of them
+pub body_steps : (fs : List FunctionDefinition) (w : List ℕ) (f : FunctionDefinition) → function_of fs w ≡ Some f → steps f.body ≤ most_steps fs
+body_steps [] w f e = absurd (cc)
+body_steps (g ∷ fs) w f e = go (bytes_eq g.name w) e (body_steps fs w f)
+  where
+    go : (b : Bool) → cond b (Some g) (function_of fs w) ≡ Some f → (function_of fs w ≡ Some f → steps f.body ≤ most_steps fs) → steps f.body ≤ most_steps (g ∷ fs)
+    go true k r = let s : g ≡ f = same g f k in let t = ap (λ (x : FunctionDefinition). steps x.body) s in omega arith
+      where
+        same : (x y : FunctionDefinition) → Some x ≡ Some y → x ≡ y
+        same x y h = cc
+    go false k r = let i = r k in omega arith
+
+pub part_below : (p : ProgramTable) (is : List ℕ) (k i : ℕ) → AllByRecursion (λ j. j < length p.exprs) is → k < length is → i ≡ get_or is k i → i < length p.exprs
+part_below p is k i b l e = let h = all_at (λ j. j < length p.exprs) is b k i l in omega (arith, e)
+
+-- what is so of a function's body
+pub body_below : (p : ProgramTable) (exprs : List ExprRow) (fs : List FunctionRow) (w : List ℕ) (f : FunctionRow) → AllByRecursion (FunctionStands p.types exprs) fs → row_of fs w ≡ Some f → f.body.at < length exprs
+body_below p exprs [] w f s e = absurd (cc)
+body_below p exprs (g ∷ fs) w f s e = go (bytes_eq g.name w) e (body_below p exprs fs w f s.1)
+  where
+    go : (b : Bool) → cond b (Some g) (row_of fs w) ≡ Some f → (row_of fs w ≡ Some f → f.body.at < length exprs) → f.body.at < length exprs
+    go true k r = let e : g ≡ f = same g f k in subst (λ (x : FunctionRow). x.body.at < length exprs) e s.0.body
+      where
+        same : (x y : FunctionRow) → Some x ≡ Some y → x ≡ y
+        same x y h = cc
+    go false k r = r k
+
+pub count_numbers : (ids : List ExprId) → length (expr_numbers ids) ≡ length ids
+count_numbers [] = refl
+count_numbers (i ∷ ids) = ap suc (count_numbers ids)
+
+pub stands_of : (exprs : List ExprRow) (o : Option FunctionRow) (f : FunctionRow) → o ≡ Some f → IfSome o (λ (g : FunctionRow). g.body.at < length exprs) → f.body.at < length exprs
+stands_of exprs (Some g) f e h = let k : g ≡ f = same g f e in subst (λ (x : FunctionRow). x.body.at < length exprs) k h
+  where
+    same : (x y : FunctionRow) → Some x ≡ Some y → x ≡ y
+    same x y h = cc
+stands_of exprs None f e h = absurd (cc)

@@ -1,0 +1,9 @@
+use Rattle.std.proofs.Common.{sym, subst}
+use Rattle.xd_eval.specs.Machine.{IsStep}
+use Rattle.xd_eval.specs.declared.frame.Control.{Control}
+use Rattle.xd_eval.proofs.machine.advance.Goals as goal
+
+pub returns-in_ok-step-in-Evaluate-clause-step : goal.returns-in_ok-step-in-Evaluate-clause-step
+returns-in_ok-step-in-Evaluate-clause-step g c =
+    subst (λ (x : Control). IsStep c.args.sound.now c.args.store.now c.args.frames.now.items x c.args.left.now c.enter.new.store c.enter.new.frames.items c.args.left.now c.in_ok-step-in-Evaluate.step)
+    (sym c.in-Evaluate.is) (c.in_ok-step-in-Evaluate.ensures.step c.args.left.now)

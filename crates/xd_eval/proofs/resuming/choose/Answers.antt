@@ -1,0 +1,17 @@
+use Rattle.std.proofs.Common.{get_or, ap, sym, ◌∙◌}
+use Rattle.xd_doc.specs.Stored.{document_at}
+use Rattle.xd_syntax.specs.Placed.{placed_at, unplaced}
+use Rattle.xd_eval.specs.Machine.{matcher}
+use Rattle.xd_eval.proofs.Choosing.{bound_are, is_body, same_at}
+use Rattle.xd_eval.proofs.Waits.{keeps_then}
+use Rattle.xd_eval.proofs.resuming.choose.Goals as goal
+
+pub returns-in-Some-clause-chosen : goal.returns-in-Some-clause-chosen
+returns-in-Some-clause-chosen g c =
+    let p = c.args.sound.now in
+    let v = c.loop-clause.invariant in
+    let clause = get_or c.args.clauses.now c.loop-clause.clause-index record { pattern = record { at = 0 }; body = record { at = 0 } } in
+    let a = bound_are c.first_match.new.store _ c.in_ok-found.found c.in-Some.bindings c.in_ok-found.ensures.found c.in-Some.is in
+    is_body p c.args.store.now c.first_match.new.store (keeps_then c.args.store.now c.loop-clause.store c.first_match.new.store v.keeps c.in_ok-found.ensures.keeps) c.args.scope.now.bindings.value.items c.requires.scope (document_at c.args.store.now c.args.seq) c.args.clauses.now c.requires.clauses
+    c.loop-clause.clause-index clause c.loop-clause-test.true (same_at c.args.clauses.now c.loop-clause.clause-index _ clause c.loop-clause-test.true) c.in-Some.bindings.items
+    (ap (matcher p (unplaced (placed_at p.patterns clause.pattern.at))) (sym (v.keeps.same c.args.seq c.requires.seq)) ∙ a.0) a.1 c.in_ok-inner.inner c.in_ok-inner.ensures v.same v.less

@@ -1,0 +1,5 @@
+pub mod Waiting
+pub mod Functions
+pub mod Matches
+pub mod Machine
+pub mod Evaluation

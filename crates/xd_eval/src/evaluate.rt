@@ -1,0 +1,84 @@
+//! The evaluation of an accepted program.
+
+ghost use Rattle.std.specs.Prelude.{◌≤◌, IfOk};
+ghost use Rattle.xd_doc.specs.Stored.{BelongsTo, Keeps, document_at};
+ghost use Rattle.xd_syntax.specs.Kept.{program_tree};
+ghost use Rattle.xd_eval.specs.Evaluation.{IsEvaluated, IsInput, IsOfDeclared};
+ghost use Rattle.xd_eval.specs.Machine.{IsStart};
+ghost use Rattle.xd_eval.specs.Functions.{AreFunctionNames};
+
+use crate::frame::{Control, Ending, Scope};
+use crate::functions::FunctionNames;
+use crate::machine::run;
+use crate::matching::Matching;
+use crate::resuming::bind;
+use std::alloc::Global;
+use xd_doc::{Label, NoMemory, Seq, Store};
+use xd_laws::{accepted_programs_are_safe, bindings_are_in_order};
+use xd_syntax::{Checked, SoundProgram};
+
+/// What an accepted program comes to on fuel.
+#[derive(Clone, Copy)]
+pub enum Outcome {
+    /// The value, and the calls that were made, that of `main` included.
+    Value(Seq, u64),
+    /// The program needs more calls than the fuel.
+    Spent,
+}
+
+/// Calls `main` on a document, where so many calls are allowed, that of `main` included.
+///
+/// Pending elements, sequences, calls and matches wait on a stack of the machine's own, so neither calls nor documents
+/// nest too deep for it. A call that nothing is left to do behind leaves no frame.
+pub fn evaluate_with<M: Matching>(
+    alloc: Global,
+    checked: &Checked,
+    matching: &mut M,
+    store: &mut Store,
+    input: Seq,
+    fuel: u64,
+) -> Result<Outcome, NoMemory>
+    requires serves { M.serves matching.old checked.now store.old }
+    requires seq { BelongsTo store.old input }
+    requires input { IsInput checked.now (document_at store.old input) }
+    requires fuel { 1 ≤ fuel }
+    ensures evaluated { IfOk result (IsEvaluated checked.now (document_at store.old input) fuel store.new) }
+    ensures declared { IfOk result (IsOfDeclared (program_tree checked.now) store.new) }
+    ensures serves { M.serves matching.new checked.now store.new }
+    ensures keeps { Keeps store.old store.new }
+{
+    accepted_programs_are_safe();
+    bindings_are_in_order();
+    let sound = checked.sound();
+    let names = FunctionNames::new(alloc, sound.program().functions())?;
+    let Some(start) = start_of(alloc, sound, &names, store, input)? else {
+        unreachable!()
+    };
+    match run(alloc, sound, &names, matching, store, start, fuel - 1)? {
+        Ending::Value(seq, left) => Ok(Outcome::Value(seq, fuel - left)),
+        Ending::Spent => Ok(Outcome::Spent),
+        Ending::Stuck => unreachable!(),
+    }
+}
+
+/// The call of `main` on a document.
+fn start_of(
+    alloc: Global,
+    sound: &SoundProgram,
+    names: &FunctionNames,
+    store: &Store,
+    input: Seq,
+) -> Result<Option<Control>, NoMemory>
+    requires names { AreFunctionNames names.now sound.now.functions }
+    requires input { BelongsTo store.now input }
+    ensures { IfOk result (IsStart sound.now store.now input) }
+{
+    let functions = sound.program().functions();
+    let main = Label::new(alloc, "main")?;
+    let Some(function) = names.find(functions, &main) else {
+        return Ok(None);
+    };
+    let bound = bind(alloc, function.params(), &[input])?;
+    let scope = Scope::new(alloc, bound)?;
+    Ok(Some(Control::Evaluate(function.body(), scope)))
+}

@@ -1,0 +1,231 @@
+//! What a value leads to.
+
+ghost use Rattle.std.specs.Prelude.{◌≡◌, ◌<◌, ◌≤◌, ◌∷◌, ◌++◌, [], ℕ, map, length, IfOk, OnOk};
+ghost use Rattle.std.specs.List.{AllByRecursion};
+ghost use Rattle.std.specs.Option.{IfSome, option_copied};
+ghost use Rattle.xd_doc.specs.Stored.{BelongsTo, Keeps, document_at};
+ghost use Rattle.xd_syntax.specs.Expression.{shape_at};
+ghost use Rattle.xd_syntax.specs.Exprs.{expr_numbers, clause_numbers};
+ghost use Rattle.xd_eval.specs.Functions.{AreFunctionNames, row_of};
+ghost use Rattle.xd_eval.specs.Machine.{ClausesStand, FrameStands, FramesStand, IsCall, IsChosen, IsSequence, IsStep, PartsStand, ScopeStands, bound_seqs, clause_numbers_of, function_named, parts_of};
+
+use crate::entering::{form_of, part_at};
+use crate::frame::{Control, Frame, Parts, Scope, Step};
+use crate::functions::FunctionNames;
+use crate::matching::Matching;
+use std::alloc::Global;
+use xd_doc::{Label, NoMemory, Seq, Store};
+use xd_syntax::{Clause, ExprForm, ExprId, Function, Param, SoundProgram};
+
+/// What becomes of a value where a frame waited for it.
+pub(crate) fn resume<M: Matching>(
+    alloc: Global,
+    sound: &SoundProgram,
+    names: &FunctionNames,
+    matching: &mut M,
+    store: &mut Store,
+    frames: &mut Vec<Frame>,
+    frame: Frame,
+    seq: Seq,
+    left: &mut u64,
+) -> Result<Step, NoMemory>
+    requires names { AreFunctionNames names.now sound.now.functions }
+    requires serves { M.serves matching.old sound.now store.old }
+    requires frames { FramesStand sound.now store.old frames.old.items }
+    requires frame { FrameStands sound.now store.old frame }
+    requires seq { BelongsTo store.old seq }
+    ensures step { IfOk result (λ step. IsStep sound.now store.old (frames.old.items ++ frame ∷ []) (Control.Give seq) left.old store.new frames.new.items left.new step) }
+    ensures serves { M.serves matching.new sound.now store.new }
+    ensures keeps { Keeps store.old store.new }
+{
+    match frame {
+        Frame::Element(label) => {
+            let made = store.elem_node(label, seq, Seq::empty())?;
+            Ok(Step::Next(Control::Give(made)))
+        }
+        Frame::Sequence(parts) => next_of_sequence(sound, store, frames, parts, seq),
+        Frame::Call(parts) => next_of_call(alloc, sound, names, store, frames, parts, seq, left),
+        Frame::Match(id, scope) => {
+            let clauses = clauses_of(sound, id);
+            let step = choose(alloc, sound, matching, store, clauses, &scope, seq)?;
+            Ok(step)
+        }
+    }
+}
+
+/// One more part of a sequence has its value.
+fn next_of_sequence(
+    sound: &SoundProgram,
+    store: &mut Store,
+    frames: &mut Vec<Frame>,
+    parts: Parts,
+    seq: Seq,
+) -> Result<Step, NoMemory>
+    requires frames { FramesStand sound.now store.old frames.old.items }
+    requires sequence { IsSequence (shape_at sound.now.exprs parts.expr.at) }
+    requires parts { PartsStand sound.now store.old parts }
+    requires seq { BelongsTo store.old seq }
+    ensures step { IfOk result (λ step. (n : ℕ) → IsStep sound.now store.old (frames.old.items ++ Frame.Sequence parts ∷ []) (Control.Give seq) n store.new frames.new.items n step) }
+    ensures keeps { Keeps store.old store.new }
+{
+    let mut parts = parts;
+    parts.values.push(seq)?;
+    let all = all_parts(sound, parts.expr);
+    let done = parts.values.as_slice().len();
+    if done < all.len() {
+        let next = part_at(all, done);
+        let scope = parts.scope.share()?;
+        frames.push(Frame::Sequence(parts))?;
+        return Ok(Step::Next(Control::Evaluate(next, scope)));
+    }
+    let made = store.join(&parts.values)?;
+    Ok(Step::Next(Control::Give(made)))
+}
+
+/// The parts of a sequence, or the arguments of a call.
+fn all_parts(sound: &SoundProgram, id: ExprId) -> &[ExprId]
+    requires { id.at < length sound.now.exprs }
+    ensures numbers { expr_numbers result.now ≡ parts_of (shape_at sound.now.exprs id.at) }
+    ensures below { AllByRecursion (λ i. i < length sound.now.exprs) (expr_numbers result.now) }
+{
+    match form_of(sound, id) {
+        ExprForm::Seq(parts) => parts.as_slice(),
+        ExprForm::Call(_, arguments) => arguments.as_slice(),
+        _ => &[],
+    }
+}
+
+/// One more argument of a call has its value. With the last one the call is counted, and its function's body is next.
+fn next_of_call(
+    alloc: Global,
+    sound: &SoundProgram,
+    names: &FunctionNames,
+    store: &Store,
+    frames: &mut Vec<Frame>,
+    parts: Parts,
+    seq: Seq,
+    left: &mut u64,
+) -> Result<Step, NoMemory>
+    requires names { AreFunctionNames names.now sound.now.functions }
+    requires frames { FramesStand sound.now store.now frames.old.items }
+    requires call { IsCall (shape_at sound.now.exprs parts.expr.at) }
+    requires parts { PartsStand sound.now store.now parts }
+    requires seq { BelongsTo store.now seq }
+    ensures step { IfOk result (λ step. IsStep sound.now store.now (frames.old.items ++ Frame.Call parts ∷ []) (Control.Give seq) left.old store.now frames.new.items left.new step) }
+{
+    let mut parts = parts;
+    parts.values.push(seq)?;
+    let all = all_parts(sound, parts.expr);
+    let done = parts.values.as_slice().len();
+    if done < all.len() {
+        let next = part_at(all, done);
+        let scope = parts.scope.share()?;
+        frames.push(Frame::Call(parts))?;
+        return Ok(Step::Next(Control::Evaluate(next, scope)));
+    }
+    if *left == 0 {
+        return Ok(Step::Spent);
+    }
+    *left -= 1;
+    match called(sound, names, parts.expr) {
+        None => Ok(Step::Stuck),
+        Some(function) => {
+            let bound = bind(alloc, function.params(), &parts.values)?;
+            let scope = Scope::new(alloc, bound)?;
+            Ok(Step::Next(Control::Evaluate(function.body(), scope)))
+        }
+    }
+}
+
+/// The function that a call names.
+fn called<'a>(sound: &'a SoundProgram, names: &FunctionNames, id: ExprId) -> Option<&'a Function>
+    requires id { id.at < length sound.now.exprs }
+    requires names { AreFunctionNames names.now sound.now.functions }
+    requires call { IsCall (shape_at sound.now.exprs id.at) }
+    ensures found { option_copied result ≡ row_of sound.now.functions (function_named (shape_at sound.now.exprs id.at)) }
+    ensures stands { IfSome (option_copied result) (λ function. function.body.at < length sound.now.exprs) }
+{
+    let functions = sound.program().functions();
+    match form_of(sound, id) {
+        ExprForm::Call(name, _) => names.find(functions, name),
+        _ => None,
+    }
+}
+
+/// The parameters, each with its document.
+pub(crate) fn bind(
+    alloc: Global,
+    params: &[Param],
+    values: &[Seq],
+) -> Result<Vec<(Label, Seq)>, NoMemory>
+    ensures { IfOk result (λ made. made.items ≡ bound_seqs params.now values.now) }
+{
+    let mut made = Vec::new(alloc);
+    let mut left = values;
+    for param in params {
+        let Some((value, others)) = left.split_first() else {
+            return Ok(made);
+        };
+        made.push((param.name.share()?, *value))?;
+        left = others;
+    }
+    Ok(made)
+}
+
+/// The clauses of a match.
+fn clauses_of(sound: &SoundProgram, id: ExprId) -> &[Clause]
+    requires { id.at < length sound.now.exprs }
+    ensures numbers { clause_numbers result.now ≡ clause_numbers_of (shape_at sound.now.exprs id.at) }
+    ensures stand { ClausesStand sound.now result.now }
+{
+    match form_of(sound, id) {
+        ExprForm::Match(_, clauses) => clauses.as_slice(),
+        _ => &[],
+    }
+}
+
+/// The body of the first clause whose pattern takes the document.
+fn choose<M: Matching>(
+    alloc: Global,
+    sound: &SoundProgram,
+    matching: &mut M,
+    store: &mut Store,
+    clauses: &[Clause],
+    scope: &Scope,
+    seq: Seq,
+) -> Result<Step, NoMemory>
+    requires serves { M.serves matching.old sound.now store.old }
+    requires clauses { ClausesStand sound.now clauses.now }
+    requires scope { ScopeStands store.old scope.now.bindings.value.items }
+    requires seq { BelongsTo store.old seq }
+    ensures chosen { IfOk result (IsChosen sound.now store.old store.new (clause_numbers clauses.now) scope.now.bindings.value.items (document_at store.old seq)) }
+    ensures serves { M.serves matching.new sound.now store.new }
+    ensures keeps { Keeps store.old store.new }
+{
+    for clause in clauses {
+        let found = matching.first_match(alloc, sound, clause.pattern, store, seq)?;
+        if let Some(bindings) = found {
+            let inner = inner_scope(alloc, bindings, scope)?;
+            return Ok(Step::Next(Control::Evaluate(clause.body, inner)));
+        }
+    }
+    Ok(Step::Stuck)
+}
+
+/// The bindings, and the outer ones behind them.
+fn inner_scope(alloc: Global, bindings: Vec<(Label, Seq)>, outer: &Scope) -> Result<Scope, NoMemory>
+    ensures { IfOk result (λ scope. scope.bindings.value.items ≡ bindings.items ++ outer.now.bindings.value.items) }
+{
+    let mut bindings = bindings;
+    push_bindings(&mut bindings, outer.bindings())?;
+    Scope::new(alloc, bindings)
+}
+
+fn push_bindings(bindings: &mut Vec<(Label, Seq)>, outer: &[(Label, Seq)]) -> Result<(), NoMemory>
+    ensures { OnOk result (bindings.new.items ≡ bindings.old.items ++ outer.now) }
+{
+    for (variable, seq) in outer {
+        bindings.push((variable.share()?, *seq))?;
+    }
+    Ok(())
+}
