@@ -1,64 +1,58 @@
-//! The shelf and the sink in memory.
+//! Calls of the shelf and of the sink in memory.
 
-use std::test::Fail;
-use xd_base::{FetchError, MemoryShelf, MemorySink, Place, PutError, Shelf, Sink};
+use crate::call::Call;
+use crate::desk::Desk;
+use crate::error::CallError;
+use std::io::Write;
+use xd_base::{FetchError, MemorySink, PutError, Shelf, Sink};
 
-#[test]
-fn places_are_ordered_by_line_and_then_by_column(rt: HostRuntime) {
-    let first = Place { line: 1, column: 9 };
-    let second = Place { line: 2, column: 1 };
-    let third = Place { line: 2, column: 2 };
-    assert!(rt; first < second);
-    assert!(rt; second < third);
-}
-
-#[test]
-fn a_shelf_gives_the_front_of_the_newest_text(rt: HostRuntime) -> Result<(), Fail> {
-    let mut shelf = MemoryShelf::new(rt.alloc());
-    shelf.add("t", b"old")?;
-    shelf.add("d", b"other")?;
-    shelf.add("t", b"type A = a[]")?;
-    for (most, front) in [(4, "type"), (12, "type A = a[]"), (100, "type A = a[]")] {
-        let text = shelf.fetch(rt.alloc(), "t", most)?;
-        assert_eq!(rt; text.as_slice(), front.as_bytes(), "{most} bytes");
-    }
-    let missing = shelf.fetch(rt.alloc(), "q", 4);
-    assert_eq!(rt; missing.err(), Some(FetchError::Missing));
-    Ok(())
-}
-
-#[test]
-fn a_shelf_fails_at_the_listed_calls(rt: HostRuntime) -> Result<(), Fail> {
-    let mut shelf = MemoryShelf::new(rt.alloc());
-    shelf.add("t", b"text")?;
-    shelf.fail_at(1)?;
-    shelf.fail_at(3)?;
-    for (call, fails) in [(1, true), (2, false), (3, true), (4, false)] {
-        let fetched = shelf.fetch(rt.alloc(), "t", 9);
-        assert_eq!(rt; fetched.is_err(), fails, "call {call}");
-        assert!(rt;
-            matches!(fetched, Ok(_) | Err(FetchError::Failed)),
-            "call {call}"
-        );
+/// `add NAME : TEXT`, `fail_at NUMBER`, `fetch NAME MOST`.
+pub fn shelf(desk: &mut Desk<'_>, call: &Call<'_>, out: &mut Vec<u8>) -> Result<(), CallError> {
+    match call.name {
+        "add" => desk.shelf.add(call.word(0)?, call.text.as_bytes())?,
+        "fail_at" => desk.shelf.fail_at(call.number(0)? as u64)?,
+        "fetch" => fetch(desk, call.word(0)?, call.number(1)?, out)?,
+        _ => return Err(CallError::Call),
     }
     Ok(())
 }
 
-#[test]
-fn a_sink_takes_what_it_has_room_for(rt: HostRuntime) -> Result<(), Fail> {
-    let mut sink = MemorySink::new(rt.alloc(), 5, 2)?;
-    sink.fail_at(3)?;
-    for (piece, taken) in [
-        ("yes", Ok(2)),
-        ("", Ok(0)),
-        ("yes", Err(PutError::Failed)),
-        ("s\n", Ok(2)),
-        ("more", Ok(1)),
-        ("ore", Err(PutError::Failed)),
-        ("", Ok(0)),
-    ] {
-        assert_eq!(rt; sink.put(piece.as_bytes()), taken, "{piece}");
+fn fetch(desk: &mut Desk<'_>, name: &str, most: usize, out: &mut Vec<u8>) -> Result<(), CallError> {
+    if most == 0 {
+        return Err(CallError::Words);
     }
-    assert_eq!(rt; sink.written(), b"yes\nm".as_slice());
+    match desk.shelf.fetch(desk.alloc, name, most) {
+        Ok(text) => out.extend_from_slice(&text)?,
+        Err(FetchError::Failed) => out.extend_from_slice(b"failed")?,
+        Err(FetchError::Missing) => out.extend_from_slice(b"missing")?,
+        Err(error) => return Err(CallError::from(error)),
+    }
     Ok(())
+}
+
+/// `new ROOM PIECE`, `fail_at NUMBER`, `put : TEXT`, `written`.
+pub fn sink(desk: &mut Desk<'_>, call: &Call<'_>, out: &mut Vec<u8>) -> Result<(), CallError> {
+    if call.name == "new" {
+        desk.sink = Some(new_sink(desk, call)?);
+        return Ok(());
+    }
+    let sink = desk.sink.as_mut().ok_or(CallError::Unknown)?;
+    match call.name {
+        "fail_at" => sink.fail_at(call.number(0)? as u64)?,
+        "put" => match sink.put(call.text.as_bytes()) {
+            Ok(taken) => writeln!(out, "{taken}")?,
+            Err(PutError::Failed) => out.extend_from_slice(b"failed")?,
+        },
+        "written" => out.extend_from_slice(sink.written())?,
+        _ => return Err(CallError::Call),
+    }
+    Ok(())
+}
+
+fn new_sink(desk: &Desk<'_>, call: &Call<'_>) -> Result<MemorySink, CallError> {
+    let piece = call.number(1)?;
+    if piece == 0 {
+        return Err(CallError::Words);
+    }
+    Ok(MemorySink::new(desk.alloc, call.number(0)?, piece)?)
 }

@@ -1,12 +1,10 @@
-//! Slow and short programs that compute the definitions, as yardsticks for tests.
+//! Slow and short programs that compute the definitions, as yardsticks.
 #![tactic(auto)]
 
 mod document;
 mod evaluate;
 mod fits;
 mod program;
-#[cfg(test)]
-mod tests;
 mod tree;
 mod ways;
 

@@ -1,0 +1,24 @@
+-- States of types, and types that stay.
+use Rattle.std.proofs.Common.{◌≡◌, ℕ, List, Option, Some, None, refl}
+use Rattle.xd_auto.specs.declared.auto.State.{State}
+use Rattle.xd_auto.specs.Automaton.{state_number}
+use Rattle.xd_syntax.specs.Table.{Row, KeepsRows, tree_at}
+use Rattle.xd_syntax.specs.Tree.{Tree}
+use Rattle.xd_syntax.specs.Types.{BelongsTo}
+use Rattle.xd_syntax.specs.declared.types.TypeId.{TypeId}
+use Rattle.xd_syntax.proofs.AdoptLaws.{type_kept}
+use Rattle.xd_heads.specs.CellsView.{CellsView}
+use Rattle.xd_heads.specs.Compiled.{numbered}
+use Rattle.xd_heads.specs.Mirrors.{IsTypeState, as_type, continuation_of}
+use Rattle.xd_heads.specs.States.{number_at}
+
+pub belongs_kept : (old new : List Row) (id : TypeId) → KeepsRows old new → BelongsTo old id → BelongsTo new id
+belongs_kept old new id k b = (type_kept old new (tree_at old id.at) id k (record { belongs = b; same = refl })).belongs
+
+some_number : (types : List Row) (c : CellsView) (o : Option ℕ) (T : Tree) → as_type (numbered types c.cells o) ≡ Some T → (n : ℕ) × (o ≡ Some n)
+some_number types c None T e = absurd (cc)
+some_number types c (Some n) T e = (n, refl)
+
+-- a state with a continuation is one of a type
+pub is_type_state : (types : List Row) (c : CellsView) (s : State) {T : Tree} → continuation_of types c s ≡ Some T → IsTypeState c s
+is_type_state types c s {T} e = some_number types c (number_at c.owners (state_number s)) T e

@@ -1,0 +1,95 @@
+//! Calls about one type.
+
+ghost use Rattle.xd_heads.specs.HeadList.{HeadBelongs};
+
+use crate::call::Call;
+use crate::error::CallError;
+use crate::programs::{find_type, sound_program, state_of};
+use std::alloc::Global;
+use std::io::Write;
+use xd_auto::Auto;
+use xd_doc::{Class, Store, Words};
+use xd_empty::inhabitant;
+use xd_heads::{Cells, Head, HeadKind, compile_type, heads};
+use xd_syntax::Types;
+use xd_type_text::type_text;
+use xd_write::write_document;
+
+/// `heads TYPE`: a line for each, its class, its content in brackets, and its rest.
+pub fn show_heads(call: &Call<'_>, out: &mut Vec<u8>) -> Result<(), CallError> {
+    let mut sound = sound_program(call.alloc, call.program)?;
+    let id = find_type(&mut sound, call.word(0)?)?;
+    let found = heads(call.alloc, &mut sound, id)?;
+    let types = sound.program().types();
+    for head in &found {
+        show_head(call.alloc, types, head, out)?;
+    }
+    Ok(())
+}
+
+fn show_head(alloc: Global, types: &Types, head: &Head, out: &mut Vec<u8>) -> Result<(), CallError>
+    requires { HeadBelongs types.now head.now }
+{
+    match &head.kind {
+        HeadKind::Label(class) => show_class(class, out)?,
+        HeadKind::Text(words) => show_words(words, out)?,
+    }
+    out.push(b'[')?;
+    type_text(alloc, types, head.content, out)?;
+    out.extend_from_slice(b"] then ")?;
+    type_text(alloc, types, head.rest, out)?;
+    out.push(b'\n')?;
+    Ok(())
+}
+
+/// Labels, as `a|b`; `^` stands before those that are excepted.
+fn show_class(class: &Class, out: &mut Vec<u8>) -> Result<(), CallError> {
+    if class.takes_others() {
+        out.push(b'^')?;
+    }
+    for (i, name) in class.names().iter().enumerate() {
+        if i > 0 {
+            out.push(b'|')?;
+        }
+        out.extend_from_slice(name.as_str().as_bytes())?;
+    }
+    Ok(())
+}
+
+/// Texts, as `"a"|"b"`; `^` stands before those that are excepted.
+fn show_words(words: &Words, out: &mut Vec<u8>) -> Result<(), CallError> {
+    if words.takes_others() {
+        out.push(b'^')?;
+    }
+    for (i, text) in words.texts().iter().enumerate() {
+        if i > 0 {
+            out.push(b'|')?;
+        }
+        write!(out, "\"{}\"", text.as_str())?;
+    }
+    Ok(())
+}
+
+/// `state_type TYPE`: what the type's state stands for.
+pub fn show_state_type(call: &Call<'_>, out: &mut Vec<u8>) -> Result<(), CallError> {
+    let mut sound = sound_program(call.alloc, call.program)?;
+    let id = find_type(&mut sound, call.word(0)?)?;
+    let mut cells = Cells::new(call.alloc);
+    let mut auto = Auto::new(call.alloc);
+    let state = compile_type(call.alloc, &mut sound, &mut cells, &mut auto, id)?;
+    let id = cells.state_type(&mut sound, state)?;
+    type_text(call.alloc, sound.program().types(), id, out)?;
+    Ok(())
+}
+
+/// `inhabitant TYPE`: a document of the type's state, or `none`.
+pub fn show_inhabitant(call: &Call<'_>, out: &mut Vec<u8>) -> Result<(), CallError> {
+    let mut sound = sound_program(call.alloc, call.program)?;
+    let (auto, state) = state_of(call.alloc, &mut sound, call.word(0)?)?;
+    let mut store = Store::new(call.alloc);
+    match inhabitant(call.alloc, &auto, state, &mut store)? {
+        Some(seq) => write_document(call.alloc, &store, seq, out)?,
+        None => out.extend_from_slice(b"none\n")?,
+    }
+    Ok(())
+}
