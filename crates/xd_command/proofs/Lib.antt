@@ -1,6 +1,4 @@
 pub mod Growth
 pub mod CarryNothing
-pub mod Names
-pub mod Forms
-pub mod Fitting
 pub mod Steps
+pub mod Inclusions

@@ -68,6 +68,5 @@ document_same {old} {new} file d e h = subst (λ x. IsDocument x file d) e h
 
 pub fits_later : (a b c : ℕ) {old new : Holding} (name document : List ℕ) (P : ProgramTree) (o : Output) → a ≤ b → new ≡ old → AnswersFits new (HasRisen b c) name document P o → AnswersFits old (HasRisen a c) name document P o
 fits_later a b c {old} {new} name document P o le e (inl h) = inl h
-fits_later a b c {old} {new} name document P o le e (inr (f, inl h)) = inr (f, inl h)
-fits_later a b c {old} {new} name document P o le e (inr (f, inr (k, inl h))) = inr (f, inr (k, inl (document_later a b c {old = old} {new = new} document o le e h)))
-fits_later a b c {old} {new} name document P o le e (inr (f, inr (k, inr h))) = inr (f, inr (k, inr (h.0, document_same {old = old} {new = new} document h.0 e h.1, h.2)))
+fits_later a b c {old} {new} name document P o le e (inr (k, inl h)) = inr (k, inl (document_later a b c {old = old} {new = new} document o le e h))
+fits_later a b c {old} {new} name document P o le e (inr (k, inr h)) = inr (k, inr (h.0, document_same {old = old} {new = new} document h.0 e h.1, h.2))

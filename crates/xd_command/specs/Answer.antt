@@ -2,16 +2,18 @@
 -- order, and the first that ends it gives the output.
 use Rattle.std.specs.Prelude.{◌≡◌, Option, Some, None}
 use Rattle.xd_command.specs.declared.command.Command.{Command}
-use Rattle.xd_command.specs.declared.command.Command.TheVariants.{Fits, Check}
+use Rattle.xd_command.specs.declared.command.Command.TheVariants.{Fits, Subtype, Check}
 use Rattle.xd_command.specs.Output.{Output, usage}
 use Rattle.xd_command.specs.Step.{Step}
 use Rattle.xd_command.specs.Texts.{Holding}
 use Rattle.xd_command.specs.Programs.{EndsAtProgram, IsProgram}
 use Rattle.xd_command.specs.Fits.{AnswersFits}
+use Rattle.xd_command.specs.Subtype.{AnswersSubtype}
 use Rattle.xd_command.specs.Check.{AnswersCheck}
 
 abbrev pub Answers : Command → Holding → (rose : Type 0) → Output → Type 0
 Answers (Fits file name document) holds rose = Step (EndsAtProgram holds rose file) (IsProgram holds file) (AnswersFits holds rose name document)
+Answers (Subtype file left right) holds rose = Step (EndsAtProgram holds rose file) (IsProgram holds file) (AnswersSubtype left right)
 Answers (Check file) holds rose = Step (EndsAtProgram holds rose file) (IsProgram holds file) AnswersCheck
 
 -- the same for words of any form

@@ -1,22 +1,19 @@
 -- What `fits` answers, behind the faults of the program.
-use Rattle.std.specs.Prelude.{◌≡◌, ◌⊎◌, ℕ, true, false, List, [], ◌∷◌, None}
+use Rattle.std.specs.Prelude.{◌≡◌, ◌⊎◌, ◌↔◌, ℕ, true, false, List, [], ◌∷◌, None}
+use Rattle.xd_auto.specs.Automaton.{Automaton, accepts, IsState}
+use Rattle.xd_auto.specs.declared.auto.State.{State}
 use Rattle.xd_doc.specs.Document.{Document}
-use Rattle.xd_lex.specs.Tokens.{start}
+use Rattle.xd_syntax.specs.Tree.{Tree, Definitions}
 use Rattle.xd_syntax.specs.Fits as types
 use Rattle.xd_syntax.specs.Program.{ProgramTree, names_of}
-use Rattle.xd_syntax.specs.NameFaults.{fault_at}
 use Rattle.xd_syntax.specs.Sound.{is_defined, type_named}
-use Rattle.xd_syntax.specs.declared.fault.FaultKind.TheVariants.{NoSuchName, Syntax}
-use Rattle.xd_command.specs.FirstForm.{IsFirstForm}
+use Rattle.xd_syntax.specs.declared.fault.FaultKind.TheVariants.{NoSuchName}
 use Rattle.xd_command.specs.Output.{Output, yes, no, fault_lines}
 use Rattle.xd_command.specs.Step.{Step}
 use Rattle.xd_command.specs.Texts.{Holding}
 use Rattle.xd_command.specs.Documents.{EndsAtDocument, IsDocument}
 
--- programs of the first form alone are taken so far
-abbrev pub EndsAtOtherForm : ProgramTree → Output → Type 0
-EndsAtOtherForm P o = (IsFirstForm P → ⊥) × (o ≡ fault_lines (fault_at start Syntax ∷ []))
-
+-- no type has this name
 abbrev pub EndsAtName : ProgramTree → (name : List ℕ) → Output → Type 0
 EndsAtName P name o = (is_defined P name ≡ false) × (o ≡ fault_lines (record { place = None; kind = NoSuchName name } ∷ []))
 
@@ -28,7 +25,9 @@ AnswersMembership P name d o =
 
 abbrev pub AnswersFits : Holding → (rose : Type 0) → (name document : List ℕ) → ProgramTree → Output → Type 0
 AnswersFits holds rose name document P o =
-    EndsAtOtherForm P o
-    ⊎ (IsFirstForm P × (
     EndsAtName P name o
-    ⊎ ((is_defined P name ≡ true) × Step (EndsAtDocument holds rose document) (IsDocument holds document) (AnswersMembership P name) o)))
+    ⊎ ((is_defined P name ≡ true) × Step (EndsAtDocument holds rose document) (IsDocument holds document) (AnswersMembership P name) o)
+
+-- the state accepts exactly what fits the type
+abbrev pub IsAcceptor : Definitions → Tree → Automaton → State → Type 0
+IsAcceptor E T a s = IsState a s × ((d : Document) → (accepts a d s ≡ true) ↔ types.Fits E T d)

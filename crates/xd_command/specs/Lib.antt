@@ -4,10 +4,8 @@ pub mod Texts
 pub mod Programs
 pub mod Documents
 pub mod Command
-pub mod FirstForm
 pub mod Fits
+pub mod Subtype
 pub mod Check
 pub mod Answer
 pub mod Outcome
-pub mod Reading
-pub mod Membership

@@ -2,6 +2,7 @@
 -- with a line feed.
 use Rattle.std.specs.Prelude.{ℕ, List, [], ◌++◌, codes, flat_map}
 use Rattle.xd_base.specs.declared.Place.{Place}
+use Rattle.xd_doc.specs.Document.{Document, canonical_text}
 use Rattle.xd_syntax.specs.declared.fault.Fault.{Fault}
 use Rattle.xd_report.specs.Report.{fault_text, place_front}
 
@@ -27,6 +28,9 @@ cannot_read name = record { status = 3; text = codes "cannot read " ++ name ++ c
 
 abbrev pub no : Output
 no = record { status = 6; text = codes "no\n" }
+
+abbrev pub separated : Document → Output
+separated d = record { status = 6; text = codes "no: " ++ canonical_text d ++ codes "\n" }
 
 abbrev pub malformed_document : Place → Output
 malformed_document p = record { status = 7; text = place_front p ++ codes "malformed document\n" }

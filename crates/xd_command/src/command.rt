@@ -14,6 +14,7 @@ use xd_base::Shelf;
 
 mod check;
 mod fits;
+mod subtype;
 
 /// One of the command's words, which contracts see as its bytes.
 #[derive(Drop)]
@@ -52,6 +53,12 @@ pub enum Command<'a> {
         name: Word<'a>,
         document: Word<'a>,
     },
+    /// Whether every document of the first type is one of the second.
+    Subtype {
+        file: Word<'a>,
+        left: Word<'a>,
+        right: Word<'a>,
+    },
     /// Whether the program is accepted, and else its faults.
     Check {
         file: Word<'a>,
@@ -69,6 +76,13 @@ impl<'a> Command<'a> {
                 name: Word::new(name.as_str()),
                 document: Word::new(document.as_str()),
             }),
+            [command, file, left, right] if command.as_str() == "subtype" => {
+                Some(Command::Subtype {
+                    file: Word::new(file.as_str()),
+                    left: Word::new(left.as_str()),
+                    right: Word::new(right.as_str()),
+                })
+            }
             [command, file] if command.as_str() == "check" => Some(Command::Check {
                 file: Word::new(file.as_str()),
             }),
@@ -90,6 +104,13 @@ impl<'a> Command<'a> {
                 file.as_str(),
                 name.as_str(),
                 document.as_str(),
+                shelf,
+            ),
+            Command::Subtype { file, left, right } => subtype::subtype(
+                alloc,
+                file.as_str(),
+                left.as_str(),
+                right.as_str(),
                 shelf,
             ),
             Command::Check { file } => check::check(alloc, file.as_str(), shelf),

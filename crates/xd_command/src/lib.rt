@@ -16,8 +16,6 @@ use xd_base::{Shelf, Sink};
 
 mod command;
 mod document;
-mod first_form;
-mod membership;
 mod output;
 mod program;
 mod status;

@@ -4,6 +4,7 @@ ghost use Rattle.std.specs.Prelude.{◌≡◌, ◌++◌, ◌<◌, ◌≤◌, ℕ
 ghost use Rattle.std.specs.Bool.{OnTrue, OnFalse};
 ghost use Rattle.std.specs.List.{AllByRecursion};
 ghost use Rattle.xd_base.specs.Outside.{HasRisen, HasGrown};
+ghost use Rattle.xd_doc.specs.Stored.{BelongsTo, document_at};
 ghost use Rattle.xd_report.specs.Report.{CarriesFrom};
 ghost use Rattle.xd_syntax.specs.NameFaults.{fault_at};
 ghost use Rattle.xd_syntax.specs.declared.fault.FaultKind.TheVariants.{NoSuchName, Syntax};
@@ -16,9 +17,10 @@ use itoa::Buffer;
 use std::alloc::Global;
 use std::marker::Model;
 use xd_base::{Place, Sink};
-use xd_doc::{NoMemory, Store, Text};
+use xd_doc::{NoMemory, Seq, Store, Text};
 use xd_report::fault_line;
 use xd_syntax::{Fault, FaultKind};
+use xd_write::write_document;
 
 /// A text that is to be written whole, and the status that goes with it.
 #[derive(Drop)]
@@ -122,6 +124,20 @@ impl Output {
         })
     }
 
+    /// That the answer is no, for this document.
+    pub fn separated(alloc: Global, store: &Store, document: Seq) -> Result<Output, NoMemory>
+        requires { BelongsTo store.now document }
+        ensures { IfOk result (λ o. o ≡ outputs.separated (document_at store.now document)) }
+    {
+        let mut text = Vec::from_slice(alloc, b"no: ")?;
+        write_document(alloc, store, document, &mut text)?;
+        text.extend_from_slice(b"\n")?;
+        Ok(Output {
+            status: Status::NO,
+            text,
+        })
+    }
+
     /// The lines of faults that carry no documents.
     pub fn faults(alloc: Global, faults: &[Fault]) -> Result<Output, NoMemory>
         requires { AllByRecursion (λ f. CarriesFrom [] f.kind) faults.now }
@@ -153,11 +169,16 @@ impl Output {
     pub fn undefined_type(alloc: Global, name: &str) -> Result<Output, NoMemory>
         ensures { IfOk result (λ o. o ≡ outputs.fault_lines (record { place = None; kind = NoSuchName name.now } ∷ [])) }
     {
-        let fault = Fault {
-            place: None,
-            kind: FaultKind::NoSuchName(Text::new(alloc, name)?),
-        };
-        Output::faults(alloc, &[fault])
+        Output::faults(alloc, &[undefined_name(alloc, name)?])
+    }
+
+    /// The report that no type has the one name, and none the other.
+    pub fn undefined_types(alloc: Global, one: &str, other: &str) -> Result<Output, NoMemory>
+        ensures { IfOk result (λ o. o ≡ outputs.fault_lines (record { place = None; kind = NoSuchName one.now } ∷ (record { place = None; kind = NoSuchName other.now } ∷ []))) }
+    {
+        let first = undefined_name(alloc, one)?;
+        let second = undefined_name(alloc, other)?;
+        Output::faults(alloc, &[first, second])
     }
 
     /// Puts the text into the sink, and gives its status, or that of a sink which didn't take it.
@@ -170,6 +191,16 @@ impl Output {
             Status::UNWRITTEN
         }
     }
+}
+
+/// The fault that no type has this name.
+fn undefined_name(alloc: Global, name: &str) -> Result<Fault, NoMemory>
+    ensures { IfOk result (λ fault. fault ≡ record { place = None; kind = NoSuchName name.now }) }
+{
+    Ok(Fault {
+        place: None,
+        kind: FaultKind::NoSuchName(Text::new(alloc, name)?),
+    })
 }
 
 /// Puts all the bytes into the sink, piece by piece, and says whether it took them.

@@ -16,4 +16,4 @@ returns g c =
     let later = AnswersFits (g.H.Shelf.holds c.load_program.new.shelf) (HasRisen (g.H.Shelf.faults c.load_program.new.shelf) till) c.args.name.now c.args.document.now P in
     let answers = Answers (Fits c.args.file.now c.args.name.now c.args.document.now) (g.H.Shelf.holds c.args.shelf.now) (HasRisen from till) in
     let step : (o : Output) → later o → answers o = λ o a. inr (P, c.in_ok-sound.ensures.step, fits_later from (g.H.Shelf.faults c.load_program.new.shelf) till c.args.name.now c.args.document.now P o c.load_program.ensures.never_falls c.load_program.ensures.same a) in
-    does-map later answers later answers c.fits_program.result step step (rw c.program.ensures.program at c.fits_program.ensures)
+    does-map later answers later answers c.fits_program.result step step c.fits_program.ensures
