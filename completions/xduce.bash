@@ -1,0 +1,50 @@
+# Words of xduce for bash. Load it with:  . completions/xduce.bash
+#
+# First the commands, then files, then the names of types that the file defines (its `type NAME =`).
+
+# Writes the names that the file's lines define, and the two that are always there.
+_xduce_names() {
+    [[ -f $1 && -r $1 ]] || return 0
+    sed -n 's/^[[:blank:]]*type[[:blank:]]\{1,\}\([A-Za-z_][A-Za-z0-9_]*\)[[:blank:]]*=.*/\1/p' "$1"
+    printf '%s\n' String Any
+}
+
+# Files and folders that begin with the word.
+_xduce_files() {
+    local name
+    compopt -o filenames 2>/dev/null
+    while IFS= read -r name; do
+        COMPREPLY+=("$name")
+    done < <(compgen -f -- "$1")
+}
+
+_xduce() {
+    local word=${COMP_WORDS[COMP_CWORD]} command=${COMP_WORDS[1]-} file=${COMP_WORDS[2]-} name
+    COMPREPLY=()
+    if ((COMP_CWORD == 1)); then
+        name='check fits subtype'
+        # The script of the sources has a word of its own.
+        [[ ${COMP_WORDS[0]} == */* ]] && name="$name help"
+        while IFS= read -r name; do
+            COMPREPLY+=("$name")
+        done < <(compgen -W "$name" -- "$word")
+        return 0
+    fi
+    case $command:$COMP_CWORD in
+    check:2 | fits:2 | subtype:2 | fits:4)
+        _xduce_files "$word"
+        ;;
+    fits:3 | subtype:3 | subtype:4)
+        # A file's word is as it was typed: quotes, `\ ` and `~` still stand in it.
+        file=${file/#\~\//"$HOME/"}
+        file=${file//\\/}
+        file=${file//[\"\']/}
+        while IFS= read -r name; do
+            [[ $name == "$word"* ]] && COMPREPLY+=("$name")
+        done < <(_xduce_names "$file" | sort -u)
+        ;;
+    esac
+    return 0
+}
+
+complete -F _xduce xduce ./xduce
