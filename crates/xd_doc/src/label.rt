@@ -40,6 +40,14 @@ impl Label {
         Ok(Self { word })
     }
 
+    /// The label that this text is.
+    pub fn from_text(word: Text) -> Self
+        requires { is_word word ≡ true }
+        ensures { result ≡ word }
+    {
+        Self { word }
+    }
+
     /// Its word.
     pub fn as_str(&self) -> &str
         ensures bytes { result.now ≡ self.now }

@@ -4,6 +4,7 @@
 mod class;
 mod error;
 mod label;
+mod link;
 mod names;
 mod store;
 mod text;

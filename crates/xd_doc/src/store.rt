@@ -11,6 +11,7 @@ ghost use Rattle.std.specs.List.{AllByRecursion};
 
 use crate::error::NoMemory;
 use crate::label::Label;
+use crate::link::Link;
 use crate::text::Text;
 use std::alloc::Global;
 use std::collections::{BinaryHeap, HashMap};
@@ -37,8 +38,8 @@ pub struct Seq {
 #[derive(Debug, Drop)]
 struct Node {
     item: Item,
-    content: Seq,
-    next: Seq,
+    content: Link,
+    next: Link,
 }
 
 /// Documents, kept as nodes in one vector.
@@ -74,6 +75,13 @@ impl Seq {
         ensures { result ≡ no_items }
     {
         Self { node: None }
+    }
+
+    /// The document that begins at this node, or the empty one.
+    pub(crate) fn begun_at(node: Option<usize>) -> Self
+        ensures { result.node ≡ node }
+    {
+        Self { node }
     }
 
     /// Whether it is the empty document.
@@ -146,8 +154,8 @@ impl Store {
         let _spelled = text.as_str();
         let node = Node {
             item: Item::Text(text),
-            content: Seq::empty(),
-            next,
+            content: Link::none(),
+            next: self.link(next),
         };
         self.push_node(node)
     }
@@ -165,10 +173,19 @@ impl Store {
         let _spelled = label.as_str();
         let node = Node {
             item: Item::Elem(label),
-            content,
-            next,
+            content: self.link(content),
+            next: self.link(next),
         };
         self.push_node(node)
+    }
+
+    /// The link to a document of the store.
+    fn link(&self, seq: Seq) -> Link
+        requires { BelongsTo self.now seq }
+        ensures { result ≡ seq }
+    {
+        let _len = self.nodes.len();
+        Link::new(seq)
     }
 
     fn push_node(&mut self, node: Node) -> Result<Seq, NoMemory>
@@ -204,7 +221,7 @@ impl Store {
     {
         match seq.node {
             None => Seq::empty(),
-            Some(place) => self.nodes[place].next,
+            Some(place) => self.nodes[place].next.seq(),
         }
     }
 
@@ -221,7 +238,7 @@ impl Store {
                 let node = &self.nodes[place];
                 match &node.item {
                     Item::Text(_) => Seq::empty(),
-                    Item::Elem(_) => node.content,
+                    Item::Elem(_) => node.content.seq(),
                 }
             }
         }
@@ -315,7 +332,7 @@ impl Store {
         let copy = Node {
             item: node.item.share()?,
             content: node.content,
-            next,
+            next: self.link(next),
         };
         self.push_node(copy)
     }
@@ -364,8 +381,8 @@ fn reached_from(alloc: Global, nodes: &Vec<Node>, seq: Seq) -> Result<Vec<usize>
             above = place;
             reached.push(place)?;
             let node = &nodes[place];
-            wait_for(&mut waiting, node.content)?;
-            wait_for(&mut waiting, node.next)?;
+            wait_for(&mut waiting, node.content.seq())?;
+            wait_for(&mut waiting, node.next.seq())?;
         }
     }
     Ok(reached)
@@ -396,8 +413,8 @@ fn copy_node(node: &Node, copies: &HashMap<usize, Seq>, into: &mut Store) -> Res
 {
     let copy = Node {
         item: node.item.share()?,
-        content: copy_of(copies, node.content),
-        next: copy_of(copies, node.next),
+        content: into.link(copy_of(copies, node.content.seq())),
+        next: into.link(copy_of(copies, node.next.seq())),
     };
     into.push_node(copy)
 }

@@ -1,8 +1,7 @@
 //! Texts that are shared.
 
-ghost use Rattle.std.specs.Prelude.{◌≡◌, true, IfOk, nat_eq, Some};
-ghost use Rattle.std.specs.Str.{is_utf8};
-ghost use Rattle.std.specs.Rc.{rc_str_bytes};
+ghost use Rattle.std.specs.Prelude.{◌≡◌, ◌≤◌, true, IfOk, nat_eq, slice_range, Some};
+ghost use Rattle.std.specs.Str.{is_utf8, IsCharBoundary};
 ghost use Rattle.std.specs.Ordering.{nat_cmp};
 ghost use Rattle.std.specs.Hash as fed;
 ghost use Rattle.std.specs.Cmp.Lexicographic.{pointwise, slice_cmp, nat_list_eq_equiv, nat_list_cmp_total, texts_ties, texts_po};
@@ -14,28 +13,31 @@ use crate::error::NoMemory;
 use crate::names::Name;
 use std::alloc::Global;
 use std::cmp::Ordering;
+use std::fmt;
 use std::hash::{Hash, Hasher};
 use std::marker::Model;
 use std::rc::RcStr;
 
 /// A text that is shared. Contracts see it as the bytes of its UTF-8.
 ///
-/// Texts are equal, ordered and hashed by their bytes.
-#[derive(Debug, Drop)]
+/// Texts are equal, ordered and hashed by their bytes. Many may be parts of one block of memory.
+#[derive(Drop)]
 pub struct Text {
-    text: RcStr,
+    block: RcStr,
+    start: usize,
+    end: usize,
 }
 
 impl Model for Text {
-    ghost use Rattle.std.specs.Prelude.{◌≡◌, true, List, ℕ};
+    ghost use Rattle.std.specs.Prelude.{List, ℕ, ◌≤◌, slice_range};
     ghost use Rattle.std.specs.Rc.{rc_str_bytes};
-    ghost use Rattle.std.specs.Str.{is_utf8};
+    ghost use Rattle.std.specs.Str.{IsCharBoundary};
 
     ghost Value = { List ℕ };
 
-    ghost view = { λ t. rc_str_bytes t.text };
+    ghost view = { λ t. slice_range (rc_str_bytes t.block) t.start t.end };
 
-    ghost invariant = { λ t. is_utf8 (rc_str_bytes t.text) ≡ true };
+    ghost invariant = { λ t. (t.start ≤ t.end) × IsCharBoundary (rc_str_bytes t.block) t.start × IsCharBoundary (rc_str_bytes t.block) t.end };
 }
 
 impl Text {
@@ -43,8 +45,27 @@ impl Text {
     pub fn new(alloc: Global, text: &str) -> Result<Self, NoMemory>
         ensures { IfOk result (λ made. made ≡ text.now) }
     {
-        let text = RcStr::from_str(alloc, text)?;
-        Ok(Self { text })
+        let block = RcStr::from_str(alloc, text)?;
+        Ok(Self {
+            block,
+            start: 0,
+            end: text.len(),
+        })
+    }
+
+    /// The part from byte `start` to byte `end`, in the same block of memory.
+    pub fn part(&self, start: usize, end: usize) -> Result<Self, NoMemory>
+        requires order { start ≤ end }
+        requires start_boundary { IsCharBoundary self.now start }
+        requires end_boundary { IsCharBoundary self.now end }
+        ensures { IfOk result (λ made. made ≡ slice_range self.now start end) }
+    {
+        let block = self.block.clone()?;
+        Ok(Self {
+            block,
+            start: self.start + start,
+            end: self.start + end,
+        })
     }
 
     /// Its characters.
@@ -52,15 +73,19 @@ impl Text {
         ensures bytes { result.now ≡ self.now }
         ensures text { is_utf8 self.now ≡ true }
     {
-        self.text.as_str()
+        &self.block.as_str()[self.start..self.end]
     }
 
     /// An equal text.
     pub fn share(&self) -> Result<Self, NoMemory>
         ensures { IfOk result (λ text. text ≡ self.now) }
     {
-        let text = self.text.clone()?;
-        Ok(Self { text })
+        let block = self.block.clone()?;
+        Ok(Self {
+            block,
+            start: self.start,
+            end: self.end,
+        })
     }
 }
 
@@ -70,7 +95,7 @@ impl PartialEq for Text {
     ghost laws = { partial_equiv_from_equiv nat_list_eq_equiv };
 
     fn eq(&self, other: &Self) -> bool {
-        self.text == other.text
+        self.as_str() == other.as_str()
     }
 }
 
@@ -98,7 +123,7 @@ impl Ord for Text {
     ghost matches_eq = { λ x y. texts_ties x y };
 
     fn cmp(&self, other: &Self) -> Ordering {
-        self.text.cmp(&other.text)
+        self.as_str().cmp(other.as_str())
     }
 }
 
@@ -108,7 +133,14 @@ impl Hash for Text {
     ghost respects_eq = { Prim.search (hashing, rules) };
 
     fn hash<H: Hasher>(&self, state: &mut H) {
-        self.text.hash(state);
+        self.as_str().hash(state);
+    }
+}
+
+impl fmt::Debug for Text {
+    fn fmt<W: fmt::Write>(&self, f: &mut fmt::Formatter<W>) -> fmt::Result {
+        let text = self.as_str();
+        write!(f, "{text:?}")
     }
 }
 

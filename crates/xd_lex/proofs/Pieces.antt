@@ -1,11 +1,12 @@
 -- Pieces of a quoted text, from the front on.
 use Rattle.std.proofs.Common.{◌≡◌, ◌≢◌, ℕ, zero, suc, ◌+◌, ◌-◌, ◌<◌, ◌≤◌, Bool, true, false, not, List, [], ◌∷◌, ◌++◌, length, get_or, drop, take, refl, sym, ap, subst, ◌∙◌, arith, append_assoc, length-append}
-use Rattle.std.specs.Prelude.{◌==◌}
+use Rattle.std.specs.Prelude.{◌==◌, slice_range}
 use Rattle.std.proofs.Math.Seq.{take-append_seam}
 use Rattle.std.specs.Prelude.{IsUtf8}
 use Rattle.std.specs.Str.{IsCharBoundary}
 use Rattle.std.proofs.lemmas.Str.{IsCharBoundary-after_ascii}
 use Rattle.std.proofs.lemmas.List.{take_all, drop_all, append-nil, get_or-drop}
+use Rattle.std.proofs.lemmas.List.Edits.{length-between, get_or-between}
 use Rattle.std.proofs.lemmas.Bool.Decides.{nat_tests}
 use Rattle.xd_lex.specs.Scan.{is_escape}
 use Rattle.xd_lex.specs.Spelled.{are_pieces, characters, escape_meaning, unescaped}
@@ -97,3 +98,19 @@ no_escape text pieces read e h is n l before =
 
 pub escape_same : (pieces bytes meaning behind : List ℕ) → IsEscape pieces → bytes ≡ pieces → meaning ≡ escape_meaning (get_or bytes 1 0) ∷ [] → behind ≡ drop 2 pieces → characters false (pieces ++ 34 ∷ []) ≡ meaning ++ characters false (behind ++ 34 ∷ [])
 escape_same pieces bytes meaning behind e is m b = rw (m, b, is) e.same
+
+-- what is between the quotes, as it was read
+between_quotes : (text bytes : List ℕ) → bytes ≡ text → take (length text - 1 - 1) (drop 1 bytes) ≡ slice_range text 1 (length text - 1)
+between_quotes text bytes e = ap (λ (xs : List ℕ). take (length text - 1 - 1) (drop 1 xs)) e
+
+pub plain_token : (text bytes pieces : List ℕ) (n : ℕ) → bytes ≡ text → text ≡ 34 ∷ pieces ++ 34 ∷ [] → are_pieces false pieces ≡ true → let read = take (length text - 1 - 1) (drop 1 bytes) in n ≡ length read → ((k : ℕ) → k < n → get_or read k 0 ≢ 92) → unescaped text ≡ slice_range text 1 (length text - 1)
+plain_token text bytes pieces n e t h l before =
+    let read : take (length text - 1 - 1) (drop 1 bytes) ≡ slice_range text 1 (length text - 1) = between_quotes text bytes e in
+    sym (no_escape text pieces (take (length text - 1 - 1) (drop 1 bytes)) t h (read ∙ inside text pieces t) n l before) ∙ read
+
+pub escape_within : (text bytes : List ℕ) (n : ℕ) → bytes ≡ text → let read = take (length text - 1 - 1) (drop 1 bytes) in n ≤ length read → (n ≡ length read → ⊥) → (n < length read → get_or read n 0 ≡ 92) → (k : ℕ) × (get_or text k 0 ≡ 92)
+escape_within text bytes n e within other found =
+    let read : take (length text - 1 - 1) (drop 1 bytes) ≡ slice_range text 1 (length text - 1) = between_quotes text bytes e in
+    let lt : n < length (slice_range text 1 (length text - 1)) = rw (ap length read) at (let l : n < length (take (length text - 1 - 1) (drop 1 bytes)) = omega (arith, other) in l) in
+    let len : length (slice_range text 1 (length text - 1)) ≡ length text - 1 - 1 = length-between text 1 (length text - 1) (omega arith) in
+    (1 + n, sym (get_or-between text 1 (length text - 1) n 0 (omega arith)) ∙ ap (λ (xs : List ℕ). get_or xs n 0) (sym read) ∙ found (omega (arith, other)))

@@ -1,6 +1,6 @@
 -- Symbols and words in front of a text.
-use Rattle.std.proofs.Common.{◌≡◌, ℕ, suc, ◌+◌, ◌<◌, Bool, true, false, cond, List, [], ◌∷◌, ◌++◌, length, get_or, refl, ap, sym, subst, ◌∙◌, arith, append_assoc, append-nil, length-append}
-use Rattle.std.specs.Prelude.{◌==◌, ◌&&◌, ◌||◌, slice_index}
+use Rattle.std.proofs.Common.{◌≡◌, ℕ, suc, ◌+◌, true, false, List, [], ◌∷◌, ◌++◌, length, get_or, refl, ap, ◌∙◌, arith}
+use Rattle.std.specs.Prelude.{◌==◌, slice_index}
 use Rattle.std.specs.List.{take_while}
 use Rattle.std.proofs.lemmas.List.Sums.{take_while-cons}
 use Rattle.std.proofs.lemmas.Bool.Decides.{nat_tests}
@@ -11,7 +11,7 @@ use Rattle.xd_lex.specs.declared.Kind.{Kind}
 use Rattle.xd_lex.specs.declared.Kind.TheVariants as kinds
 use Rattle.xd_lex.specs.declared.Front.TheVariants as fronts
 use Rattle.xd_lex.specs.Scan.{is_blank, symbol, of_word, front_of}
-use Rattle.xd_lex.specs.Tokens.{Lexeme, past, tokens_from}
+use Rattle.xd_lex.specs.Tokens.{past, tokens_from}
 use Rattle.xd_lex.proofs.Canonical.{token_front, tokens-comma, tokens-bracket_r, tokens-paren_r}
 
 -- the token of these bytes, of this kind, stands in front of what follows

@@ -3,3 +3,4 @@ pub mod Spelled
 pub mod Tokens
 pub mod Left
 pub mod Reading
+pub mod Cut

@@ -1,6 +1,6 @@
 //! What a quoted text stands for.
 
-ghost use Rattle.std.specs.Prelude.{◌≡◌, ◌≢◌, ◌<◌, ◌≤◌, ◌++◌, ◌∷◌, ℕ, [], length, slice_index, true, false, IfOk, IsUtf8};
+ghost use Rattle.std.specs.Prelude.{◌≡◌, ◌≢◌, ◌-◌, ◌<◌, ◌≤◌, ◌++◌, ◌∷◌, ℕ, [], length, slice_index, slice_range, true, false, IfOk, IsUtf8};
 ghost use Rattle.std.specs.String.{string_bytes};
 ghost use Rattle.xd_lex.specs.declared.Kind.TheVariants as kinds;
 ghost use Rattle.xd_lex.specs.Scan.{is_escape};
@@ -71,6 +71,16 @@ fn characters(alloc: Global, pieces: &str) -> Result<String, NoMemory>
         made.push_str(character)?;
         rest = behind;
     }
+}
+
+/// Whether a token of the kind `Text` stands for what is between its quotes, since nothing there is escaped.
+pub fn is_plain(text: &str) -> bool
+    requires { IsSpelling kinds.Text text.now }
+    ensures same { result ≡ true → unescaped text.now ≡ slice_range text.now 1 (length text.now - 1) }
+    ensures escape { result ≡ false → (k : ℕ) × (slice_index text.now k ≡ 92) }
+{
+    let pieces = &text.as_bytes()[1..text.len() - 1];
+    plain_len(pieces) == pieces.len()
 }
 
 /// The text that a token of the kind `Text` stands for: without its quotes, and with each escape replaced by

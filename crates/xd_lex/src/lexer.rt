@@ -1,14 +1,14 @@
 //! The tokens of a text, one after the other.
 
-ghost use Rattle.std.specs.Prelude.{All, ◌≡◌, ◌↔◌, ◌+◌, ◌<◌, ◌∷◌, ◌^◌, [], length, true, false, map, IfOk, IfErr, IsUtf8};
+ghost use Rattle.std.specs.Prelude.{All, ◌≡◌, ◌↔◌, ◌+◌, ◌<◌, ◌∷◌, [], length, true, false, map, IfOk, IfErr, IsUtf8};
 ghost use Rattle.xd_lex.specs.declared.lexer.LexError.TheVariants.{NoMemory};
 ghost use Rattle.xd_lex.specs.Tokens.{lexeme_of, tokens_from, tokens_of, is_last, IsNotUtf8At, IsRefused};
 ghost use Rattle.xd_lex.specs.Left.{tokens_left, IsPlaced};
 ghost use Rattle.xd_lex.specs.Spelled.{IsSpelling};
 
+use crate::Kind;
+use crate::first::{NotUtf8, cut_token, text_of};
 use crate::place::past;
-use crate::scan::front;
-use crate::{Front, Kind};
 use std::alloc::{AllocFailed, Global};
 use std::marker::Model;
 use xd_base::Place;
@@ -18,12 +18,6 @@ use xd_base::Place;
 pub struct Token<'a> {
     pub kind: Kind,
     pub text: &'a str,
-    pub place: Place,
-}
-
-/// The bytes aren't UTF-8. The place is the one after their longest front that is.
-#[derive(Clone, Copy, Debug, PartialEq, Eq)]
-pub struct NotUtf8 {
     pub place: Place,
 }
 
@@ -56,59 +50,32 @@ impl Kind {
 
 /// A token, what stands behind it, and the place there.
 #[derive(Clone, Copy)]
-struct Cut<'a> {
+struct Placed<'a> {
     token: Token<'a>,
     rest: &'a str,
     place: Place,
 }
 
 /// The first token of a text.
-fn first_token<'a>(text: &'a str, place: Place) -> Cut<'a>
+fn first_token<'a>(text: &'a str, place: Place) -> Placed<'a>
     requires { IsPlaced place text.now }
     ensures first { tokens_from 0 place text.now ≡ lexeme_of result.token ∷ tokens_left (is_last result.token.kind) result.place result.rest.now }
     ensures spelled { IsSpelling result.token.kind result.token.text.now }
     ensures placed { IsPlaced result.place result.rest.now }
 {
-    let mut rest = text;
-    let mut place = place;
-    'gaps: while !rest.is_empty() {
-        match front(rest.as_bytes()) {
-            Front::Gap(n) => {
-                let (gap, behind) = rest.split_at(n);
-                place = past(place, gap.as_bytes());
-                rest = behind;
-            }
-            Front::Token(kind, n) => {
-                let (text, behind) = rest.split_at(n);
-                return Cut {
-                    token: Token { kind, text, place },
-                    rest: behind,
-                    place: past(place, text.as_bytes()),
-                };
-            }
-            Front::Fault(fault) => {
-                let kind = Kind::Broken(fault);
-                return Cut {
-                    token: Token {
-                        kind,
-                        text: "",
-                        place,
-                    },
-                    rest,
-                    place,
-                };
-            }
-        }
-    }
-    let kind = Kind::End;
-    Cut {
+    let cut = cut_token(text);
+    let at = text.len() - cut.rest.len() - cut.text.len();
+    let gap = &text.as_bytes()[..at];
+    let place = past(place, gap);
+    let behind = past(place, cut.text.as_bytes());
+    Placed {
         token: Token {
-            kind,
-            text: "",
+            kind: cut.kind,
+            text: cut.text,
             place,
         },
-        rest,
-        place,
+        rest: cut.rest,
+        place: behind,
     }
 }
 
@@ -140,18 +107,13 @@ impl<'a> Lexer<'a> {
         ensures some { IfOk result (λ lexer. 0 < length lexer) }
         ensures err { IfErr result (λ e. IsNotUtf8At bytes.now e.place) }
     {
-        let place = Place { line: 1, column: 1 };
-        match std::str::from_utf8(bytes) {
+        match text_of(bytes) {
             Ok(rest) => Ok(Lexer {
                 rest,
-                place,
+                place: Place { line: 1, column: 1 },
                 done: false,
             }),
-            Err(e) => {
-                let front = &bytes[..e.valid_up_to()];
-                let place = past(place, front);
-                Err(NotUtf8 { place })
-            }
+            Err(e) => Err(e),
         }
     }
 
@@ -163,11 +125,11 @@ impl<'a> Lexer<'a> {
         ensures last { (is_last result.kind ≡ true) ↔ (self.new ≡ []) }
         ensures more { is_last result.kind ≡ false → 0 < length self.new }
     {
-        let cut = first_token(self.rest, self.place);
-        self.rest = cut.rest;
-        self.place = cut.place;
-        self.done = cut.token.kind.is_last();
-        cut.token
+        let first = first_token(self.rest, self.place);
+        self.rest = first.rest;
+        self.place = first.place;
+        self.done = first.token.kind.is_last();
+        first.token
     }
 }
 

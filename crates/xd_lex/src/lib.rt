@@ -2,14 +2,17 @@
 #![tactic(auto)]
 
 mod escape;
+mod first;
 mod laws;
 mod lexer;
 mod place;
 mod scan;
 
-pub use escape::unescape;
+pub use escape::{is_plain, unescape};
+pub use first::{Cut, NotUtf8, cut_token, text_of};
 pub use laws::lexing_laws;
-pub use lexer::{LexError, Lexer, NotUtf8, Token, tokens};
+pub use lexer::{LexError, Lexer, Token, tokens};
+pub use place::past;
 
 /// What is wrong where no token begins.
 #[derive(Clone, Copy, Debug, PartialEq, Eq)]

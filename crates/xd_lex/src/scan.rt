@@ -16,7 +16,7 @@ fn is_blank(b: u8) -> bool
 fn is_word_start(b: u8) -> bool
     ensures { result ≡ is_word_start b }
 {
-    matches!(b, b'A'..=b'Z' | b'a'..=b'z' | b'_')
+    b.is_ascii_lowercase() || b.is_ascii_uppercase() || b == b'_'
 }
 
 fn is_word_part(b: u8) -> bool
@@ -43,18 +43,21 @@ fn text_len(bytes: &[u8]) -> Result<usize, LexFault>
     ensures is { result ≡ quoted false bytes.now }
     ensures within { IfOk result (λ n. n ≤ length bytes.now) }
 {
-    let mut escaped = false;
-    for (i, b) in bytes.iter().enumerate() {
-        let b = *b;
-        if escaped {
-            if !is_escape(b) {
+    let mut at = 0;
+    'pieces: while at < bytes.len() {
+        let b = bytes[at];
+        if b == b'"' {
+            return Ok(at + 1);
+        }
+        at += 1;
+        if b == b'\\' {
+            if at == bytes.len() {
+                return Err(LexFault::OpenText);
+            }
+            if !is_escape(bytes[at]) {
                 return Err(LexFault::BadCharacter);
             }
-            escaped = false;
-        } else if b == b'"' {
-            return Ok(i + 1);
-        } else {
-            escaped = b == b'\\';
+            at += 1;
         }
     }
     Err(LexFault::OpenText)

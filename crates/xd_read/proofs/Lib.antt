@@ -5,3 +5,4 @@ pub mod Runs
 pub mod CanonicalLemmas
 pub mod CanonicalSpells
 pub mod OneFault
+pub mod PartLemmas

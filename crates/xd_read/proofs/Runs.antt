@@ -1,18 +1,20 @@
 -- The tokens that were read, and those that are left.
-use Rattle.std.proofs.Common.{◌≡◌, ◌<◌, ℕ, List, [], ◌∷◌, ◌++◌, length, reverse, refl, sym, ap, subst, ◌∙◌, inl, inr, append_assoc, ◌↔◌, IsUtf8}
+use Rattle.std.proofs.Common.{◌≡◌, ◌-◌, ◌^◌, ◌<◌, ℕ, Bool, true, false, List, [], ◌∷◌, ◌++◌, length, take, reverse, refl, sym, ap, subst, ◌∙◌, inl, inr, append_assoc, length-append, arith, ◌↔◌, IsUtf8}
 use Rattle.std.proofs.lemmas.List.{map-append}
 use Rattle.xd_base.specs.declared.Place.{Place}
 use Rattle.xd_doc.specs.Document.{Document}
 use Rattle.xd_doc.specs.Stored.{Keeps}
 use Rattle.xd_doc.proofs.StoredLemmas.{Keeps-same, Keeps-trans}
-use Rattle.xd_lex.specs.Tokens.{Lexeme, tokens_of}
+use Rattle.xd_lex.specs.declared.Kind.{Kind}
+use Rattle.xd_lex.specs.Cut.{IsFirstToken}
+use Rattle.xd_lex.specs.Left.{tokens_left}
+use Rattle.xd_lex.specs.Tokens.{Lexeme, is_last, past, start, tokens_from, tokens_of}
+use Rattle.xd_lex.proofs.Skipped.{past-append, some_token, take_gap}
 use Rattle.xd_read.specs.Grammar.{Terminal, Spells, Begins}
-use Rattle.xd_read.specs.Reading.{terminal_of, terminals_of, IsFirstFault, IsMalformedAt, SpellsNothing, IfMalformed}
-use Rattle.xd_read.specs.Pending.{front_of, frames_of, IsReaderReady, CanComplete, PassesToken, EndsDocument, StopsAt}
+use Rattle.xd_read.specs.Reading.{terminal, terminal_of, terminals_of, IsFirstFault, IsMalformedAt, SpellsNothing}
+use Rattle.xd_read.specs.Pending.{front_of, frames_of, IsReaderReady, CanComplete, PassesToken, EndsDocument, StandsAt, StopsAt}
 use Rattle.xd_read.specs.declared.moves.Expect.TheVariants as expects
 use Rattle.xd_read.specs.declared.reader.Reader.{Reader}
-use Rattle.xd_read.specs.declared.error.ReadError.{ReadError}
-use Rattle.xd_read.specs.declared.error.ReadError.TheVariants.{Malformed, NoMemory}
 use Rattle.xd_read.proofs.Machine.{At, completion, spelled_completes, completes_spelled}
 
 -- from what the reader keeps, the terminals complete the document
@@ -91,10 +93,50 @@ spelled all left now x old ds r d h e n f =
     let whole : terminals_of all ≡ terminals_of h.before ++ terminal_of x ∷ [] = ap terminals_of (h.split ∙ ap (λ (l : List Lexeme). h.before ++ l) (e ∙ ap (λ (l : List Lexeme). x ∷ l) n)) ∙ map-append terminal_of h.before (x ∷ []) in
     subst (λ (l : List Terminal). Spells l d) (sym whole) ((h.same (terminal_of x ∷ []) d).1 f.ended)
 
-pub malformed_at : (bytes : List ℕ) (left now : List Lexeme) (x : Lexeme) (old ds : List Document) (r : Reader) (e : ReadError) → IsUtf8 bytes → StandsBefore (tokens_of bytes) left old ds r → left ≡ x ∷ now → IfMalformed e (λ place. place ≡ x.place) → IfMalformed e (λ place. StopsAt ds r (terminal_of x)) → IfMalformed e (λ place. IsMalformedAt bytes place)
-malformed_at bytes left now x old ds r (Malformed place) u h e p s = inr (u, first_fault (tokens_of bytes) left now x old ds r place h e s p)
-malformed_at bytes left now x old ds r NoMemory u h e p s = tt
+-- the reader stands before the rest of the bytes
+pub record StandsAtRest (bytes rest : List ℕ) (old ds : List Document) (r : Reader) : Type 0 where
+  pub front : List ℕ
+  pub parts : bytes ≡ front ++ rest
+  pub stands : StandsBefore (tokens_of bytes) (tokens_from 0 (past start front) rest) old ds r
 
-pub nothing_at : (bytes : List ℕ) (e : ReadError) → IfMalformed e (λ place. IsMalformedAt bytes place) → IfMalformed e (λ place. SpellsNothing bytes)
-nothing_at bytes (Malformed place) h = malformed_spells_nothing bytes place h
-nothing_at bytes NoMemory h = tt
+pub rest_first : (bytes rest : List ℕ) (ds : List Document) (r : Reader) → rest ≡ bytes → r.expect ≡ expects.Document → r.finished.items ≡ [] → r.elements.items ≡ [] → StandsAtRest bytes rest ds ds r
+rest_first bytes rest ds r same e f o = rw same (record { front = []; parts = refl; stands = stands_first (tokens_of bytes) ds r (some_token 0 start bytes) e f o })
+
+split_at : (bytes rest token behind : List ℕ) (kind : Kind) (front : List ℕ) → bytes ≡ front ++ rest → (f : IsFirstToken rest kind token behind) → bytes ≡ (front ++ f.gap) ++ (token ++ behind)
+split_at bytes rest token behind kind front e f = e ∙ ap (λ (xs : List ℕ). front ++ xs) f.parts ∙ sym (append_assoc front f.gap (token ++ behind))
+
+-- where the token stands
+pub token_stands : (whole bytes rest token behind : List ℕ) (kind : Kind) (at : ℕ) (old ds : List Document) (r : Reader) → whole ≡ bytes → IsUtf8 bytes → length bytes < 2 ^ 63 → StandsAtRest bytes rest old ds r → IsFirstToken rest kind token behind → at ≡ length bytes - length behind - length token → StandsAt whole at token
+token_stands whole bytes rest token behind kind at old ds r same u lt s f e =
+    let split : bytes ≡ (s.front ++ f.gap) ++ (token ++ behind) = split_at bytes rest token behind kind s.front s.parts f in
+    rw same (record {
+      utf8 = u;
+      fits = lt;
+      before = s.front ++ f.gap;
+      behind = behind;
+      split = split;
+      place = omega (arith, ap length split, length-append (s.front ++ f.gap) (token ++ behind), length-append token behind);
+    })
+
+pub rest_next : (bytes rest token behind : List ℕ) (kind : Kind) (old ds ds' : List Document) (r r' : Reader) → StandsAtRest bytes rest old ds r → IsFirstToken rest kind token behind → is_last kind ≡ false → Keeps ds ds' → PassesToken ds r (terminal kind token) ds' r' → StandsAtRest bytes behind old ds' r'
+rest_next bytes rest token behind kind old ds ds' r r' s f l k p =
+    let here : Place = past (past start s.front) f.gap in
+    let x : Lexeme = record { kind = kind; text = token; place = here } in
+    let there : past start ((s.front ++ f.gap) ++ token) ≡ past here token = past-append start (s.front ++ f.gap) token ∙ ap (λ (q : Place). past q token) (past-append start s.front f.gap) in
+    let left : tokens_from 0 (past start s.front) rest ≡ x ∷ tokens_from 0 (past here token) behind = f.tokens (past start s.front) ∙ ap (λ (b : Bool). x ∷ tokens_left b (past here token) behind) l in
+    record {
+      front = (s.front ++ f.gap) ++ token;
+      parts = split_at bytes rest token behind kind s.front s.parts f ∙ sym (append_assoc (s.front ++ f.gap) token behind);
+      stands = rw there (stands_next (tokens_of bytes) (tokens_from 0 (past start s.front) rest) (tokens_from 0 (past here token) behind) x old ds ds' r r' s.stands left (some_token 0 (past here token) behind) k p);
+    }
+
+pub rest_spelled : (bytes rest token behind : List ℕ) (kind : Kind) (old ds : List Document) (r : Reader) (d : Document) → StandsAtRest bytes rest old ds r → IsFirstToken rest kind token behind → is_last kind ≡ true → EndsDocument ds r (terminal kind token) d → Spells (terminals_of (tokens_of bytes)) d
+rest_spelled bytes rest token behind kind old ds r d s f l e =
+    let here : Place = past (past start s.front) f.gap in
+    spelled (tokens_of bytes) (tokens_from 0 (past start s.front) rest) (tokens_left (is_last kind) (past here token) behind) (record { kind = kind; text = token; place = here }) old ds r d s.stands (f.tokens (past start s.front)) (ap (λ (b : Bool). tokens_left b (past here token) behind) l) e
+
+pub rest_malformed : (bytes rest token behind : List ℕ) (kind : Kind) (at : ℕ) (place : Place) (old ds : List Document) (r : Reader) → IsUtf8 bytes → StandsAtRest bytes rest old ds r → IsFirstToken rest kind token behind → at ≡ length bytes - length behind - length token → place ≡ past start (take at bytes) → StopsAt ds r (terminal kind token) → IsMalformedAt bytes place
+rest_malformed bytes rest token behind kind at place old ds r u s f e p stops =
+    let here : Place = past (past start s.front) f.gap in
+    let front : take at bytes ≡ s.front ++ f.gap = take_gap bytes (s.front ++ f.gap) token behind at (split_at bytes rest token behind kind s.front s.parts f) e in
+    inr (u, first_fault (tokens_of bytes) (tokens_from 0 (past start s.front) rest) (tokens_left (is_last kind) (past here token) behind) (record { kind = kind; text = token; place = here }) old ds r place s.stands (f.tokens (past start s.front)) stops (p ∙ ap (past start) front ∙ past-append start s.front f.gap))

@@ -1,5 +1,5 @@
 -- What the reader keeps while elements are open. Only private contracts speak of it.
-use Rattle.std.specs.Prelude.{◌≡◌, ℕ, ◌≤◌, ◌↔◌, List, [], ◌∷◌, ◌++◌, length, take, drop, reverse}
+use Rattle.std.specs.Prelude.{◌≡◌, ℕ, ◌^◌, ◌<◌, ◌≤◌, ◌↔◌, List, [], ◌∷◌, ◌++◌, length, take, drop, reverse, IsUtf8}
 use Rattle.std.specs.List.{AllByRecursion}
 use Rattle.xd_doc.specs.Document.{Document, empty, text, element}
 use Rattle.xd_doc.specs.Stored.{document_at, BelongsTo}
@@ -11,6 +11,15 @@ use Rattle.xd_read.specs.declared.reader.OpenElement.{OpenElement}
 use Rattle.xd_read.specs.declared.reader.Reader.{Reader}
 use Rattle.xd_read.specs.Grammar.{Terminal}
 use Rattle.xd_read.specs.Completes.{Frame, Completes}
+
+-- the part stands in the whole text, which fits the memory, at this byte
+pub record StandsAt (whole : List ℕ) (at : ℕ) (part : List ℕ) : Type 0 where
+  pub utf8 : IsUtf8 whole
+  pub fits : length whole < 2 ^ 63
+  pub before : List ℕ
+  pub behind : List ℕ
+  pub split : whole ≡ before ++ (part ++ behind)
+  pub place : length before ≡ at
 
 -- finished items as a document
 abbrev pub items_of : List Document → List Finished → Document

@@ -2,9 +2,9 @@
 #![tactic(auto)]
 
 mod error;
-mod labels;
 mod laws;
 mod moves;
+mod parts;
 mod read;
 mod reader;
 

@@ -1,22 +1,21 @@
 //! The reader's stack.
 
-ghost use Rattle.std.specs.Prelude.{◌≡◌, ◌≤◌, ◌∷◌, ◌++◌, [], length, take, drop, true, false, IfOk, IfErr, IfNone, IfSome, OnOk};
+ghost use Rattle.std.specs.Prelude.{◌≡◌, ◌≤◌, ◌∷◌, ◌++◌, [], length, take, drop, true, false, Err, IfOk, IfNone, IfSome, OnOk};
 ghost use Rattle.std.specs.List.{AllByRecursion};
 ghost use Rattle.xd_doc.specs.Stored.{document_at, BelongsTo, Keeps};
-ghost use Rattle.xd_lex.specs.Tokens.{lexeme_of, is_last};
+ghost use Rattle.xd_lex.specs.Tokens.{is_last};
 ghost use Rattle.xd_lex.specs.Spelled.{IsSpelling};
-ghost use Rattle.xd_lex.specs.declared.Kind.TheVariants as kinds;
-ghost use Rattle.xd_read.specs.Reading.{terminal_of, word_of, IfMalformed};
-ghost use Rattle.xd_read.specs.Pending.{items_of, IsInStore, IsClosed, IsReaderReady};
+ghost use Rattle.xd_read.specs.Reading.{terminal};
+ghost use Rattle.xd_read.specs.Pending.{items_of, IsInStore, IsClosed, IsReaderReady, StandsAt};
 ghost use Rattle.xd_read.specs.Pending.{PassesToken, EndsDocument, StopsAt};
 ghost use Rattle.xd_read.specs.declared.moves.Expect.TheVariants as expects;
+ghost use Rattle.xd_read.specs.declared.reader.Stop.TheVariants.{NoMemory as OutOfMemory};
 
-use crate::error::ReadError;
-use crate::labels::Labels;
 use crate::moves::{Expect, Move, move_for};
+use crate::parts::{label_at, text_at};
 use std::alloc::Global;
 use xd_doc::{Label, NoMemory, Seq, Store, Text};
-use xd_lex::{Token, unescape};
+use xd_lex::Cut;
 
 /// An item whose spelling has been read.
 #[derive(Drop)]
@@ -38,7 +37,22 @@ pub struct Reader {
     expect: Expect,
     finished: Vec<Finished>,
     elements: Vec<OpenElement>,
-    labels: Labels,
+}
+
+/// Why the reader doesn't go past a token.
+#[derive(Clone, Copy, Debug, PartialEq, Eq)]
+pub enum Stop {
+    /// No document goes on with it.
+    Refused,
+    NoMemory,
+}
+
+impl From<NoMemory> for Stop {
+    ghost from_gives = { λ _ e. e ≡ OutOfMemory };
+
+    fn from(_error: NoMemory) -> Self {
+        Self::NoMemory
+    }
 }
 
 /// Stores the items from `start` on, and takes them away.
@@ -66,15 +80,6 @@ fn store_items(
     Ok(seq)
 }
 
-/// The label that a token spells together with its bracket.
-fn label_of(alloc: Global, labels: &mut Labels, text: &str) -> Result<Label, NoMemory>
-    requires { IsSpelling kinds.Label text.now }
-    ensures { IfOk result (λ label. label ≡ word_of text.now) }
-{
-    let (word, _bracket) = text.split_at(text.len() - 1);
-    labels.label(alloc, word)
-}
-
 impl Reader {
     /// Before the first token.
     pub fn new(alloc: Global) -> Self
@@ -86,39 +91,39 @@ impl Reader {
             expect: Expect::Document,
             finished: Vec::new(alloc),
             elements: Vec::new(alloc),
-            labels: Labels::new(alloc),
         }
     }
 
-    /// Reads a token: goes on, or ends the document.
+    /// Reads a token, which stands at byte `at` of the source: goes on, or ends the document.
     pub fn read(
         &mut self,
         alloc: Global,
         store: &mut Store,
-        token: &Token<'_>,
-    ) -> Result<Option<Seq>, ReadError>
+        source: &Text,
+        at: usize,
+        token: &Cut<'_>,
+    ) -> Result<Option<Seq>, Stop>
         requires ready { IsReaderReady store.old self.old }
         requires spelled { IsSpelling token.now.kind token.now.text.now }
+        requires stands { StandsAt source.now at token.now.text.now }
         ensures passes { IfOk result (λ end. IfNone end
-            (PassesToken store.old self.old (terminal_of (lexeme_of token.now)) store.new self.new)) }
+            (PassesToken store.old self.old (terminal token.now.kind token.now.text.now) store.new self.new)) }
         ensures more { IfOk result (λ end. IfNone end (is_last token.now.kind ≡ false)) }
         ensures ends { IfOk result (λ end. IfSome end (λ seq.
-            EndsDocument store.old self.old (terminal_of (lexeme_of token.now)) (document_at store.new seq))) }
+            EndsDocument store.old self.old (terminal token.now.kind token.now.text.now) (document_at store.new seq))) }
         ensures last { IfOk result (λ end. IfSome end (λ seq. is_last token.now.kind ≡ true)) }
         ensures belongs { IfOk result (λ end. IfSome end (BelongsTo store.new)) }
-        ensures place { IfErr result (λ e. IfMalformed e (λ place. place ≡ token.now.place)) }
-        ensures stops { IfErr result (λ e. IfMalformed e (λ place.
-            StopsAt store.old self.old (terminal_of (lexeme_of token.now)))) }
+        ensures stops { result ≡ Err Stop.Refused → StopsAt store.old self.old (terminal token.now.kind token.now.text.now) }
         ensures keeps { Keeps store.old store.new }
     {
         match move_for(self.expect, token.kind) {
             Move::Text => {
-                let text = unescape(alloc, token.text)?;
+                let text = text_at(alloc, source, at, token.text)?;
                 self.take_text(text)?;
                 Ok(None)
             }
             Move::Open => {
-                let label = label_of(alloc, &mut self.labels, token.text)?;
+                let label = label_at(source, at, token.text)?;
                 self.open_element(label)?;
                 Ok(None)
             }
@@ -127,11 +132,11 @@ impl Reader {
                     self.close_element(store, element)?;
                     Ok(None)
                 }
-                None => Err(ReadError::Malformed(token.place)),
+                None => Err(Stop::Refused),
             },
             Move::End => {
                 if !self.elements.is_empty() {
-                    return Err(ReadError::Malformed(token.place));
+                    return Err(Stop::Refused);
                 }
                 let seq = store_items(store, &mut self.finished, 0)?;
                 Ok(Some(seq))
@@ -140,7 +145,7 @@ impl Reader {
                 self.expect = expect;
                 Ok(None)
             }
-            Move::Refuse => Err(ReadError::Malformed(token.place)),
+            Move::Refuse => Err(Stop::Refused),
         }
     }
 

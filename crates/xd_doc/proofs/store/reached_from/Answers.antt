@@ -59,8 +59,8 @@ loop-place-smaller-in-Continue-branch-4 c =
     let ds = documents c.args.nodes.now.items in
     let t = takes _ _ _ c.in-Some.ensures.permutation in
     let n = c.index-node.result.now in
-    let one = waits (heap_items c.pop.new.self) (heap_items c.wait_for-then-place-above.new.waiting) n.content.node c.in_ok-wait_for-2.ensures.places in
-    let two = waits (heap_items c.wait_for-then-place-above.new.waiting) (heap_items c.wait_for-then-place-above-2.new.waiting) n.next.node c.in_ok-wait_for-3.ensures.places in
+    let one = waits (heap_items c.pop.new.self) (heap_items c.wait_for-then-place-above.new.waiting) n.content.node (rw c.seq.ensures at c.in_ok-wait_for-2.ensures.places) in
+    let two = waits (heap_items c.wait_for-then-place-above.new.waiting) (heap_items c.wait_for-then-place-above-2.new.waiting) n.next.node (rw c.seq-then-place-above.ensures at c.in_ok-wait_for-3.ensures.places) in
     let s = stands_in c.args.nodes.now ds c.in-Some.place _ c.requires.linked refl (omega (arith, c.if-place-above.true, c.loop-place.invariant.once)) c.index-node.ensures in
     omega (arith, t.total ds, one.total ds, two.total ds, size_node ds c.in-Some.place n s)
 
@@ -73,8 +73,8 @@ loop-place-preserved-in-Continue-branch-4 c =
     let v : vec_len c.args.nodes.now ≡ length ns = search rules in
     let t = takes _ _ _ c.in-Some.ensures.permutation in
     let n = c.index-node.result.now in
-    let one = waits (heap_items c.pop.new.self) (heap_items c.wait_for-then-place-above.new.waiting) n.content.node c.in_ok-wait_for-2.ensures.places in
-    let two = waits (heap_items c.wait_for-then-place-above.new.waiting) (heap_items c.wait_for-then-place-above-2.new.waiting) n.next.node c.in_ok-wait_for-3.ensures.places in
+    let one = waits (heap_items c.pop.new.self) (heap_items c.wait_for-then-place-above.new.waiting) n.content.node (rw c.seq.ensures at c.in_ok-wait_for-2.ensures.places) in
+    let two = waits (heap_items c.wait_for-then-place-above.new.waiting) (heap_items c.wait_for-then-place-above-2.new.waiting) n.next.node (rw c.seq-then-place-above.ensures at c.in_ok-wait_for-3.ensures.places) in
     let s = stands_in c.args.nodes.now ds p _ c.requires.linked refl (omega (arith, c.if-place-above.true, i.once)) c.index-node.ensures in
     let inside : p < length ns = omega (arith, c.if-place-above.true, i.once) in
     let W = Contains (heap_items c.loop-place.waiting) in

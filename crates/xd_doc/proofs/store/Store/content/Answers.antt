@@ -12,10 +12,10 @@ returns-in-Text-clause-inner c =
 pub returns-in-Elem-clause-inner : goal.returns-in-Elem-clause-inner
 returns-in-Elem-clause-inner c =
     let r = reads _ _ _ _ _ c.self.invariant c.self.view_is c.requires c.in-Some.is c.index-node.ensures in
-    rw (r.document, content_of-element _ _ _ _ c.in-Elem.is)
+    rw (c.seq.ensures, r.document, content_of-element _ _ _ _ c.in-Elem.is)
 
 pub returns-in-Elem-clause-belongs : goal.returns-in-Elem-clause-belongs
-returns-in-Elem-clause-belongs c = (reads _ _ _ _ _ c.self.invariant c.self.view_is c.requires c.in-Some.is c.index-node.ensures).linked.content
+returns-in-Elem-clause-belongs c = rw c.seq.ensures (reads _ _ _ _ _ c.self.invariant c.self.view_is c.requires c.in-Some.is c.index-node.ensures).linked.content
 
 pub returns-in-Elem-clause-older : goal.returns-in-Elem-clause-older
-returns-in-Elem-clause-older c = (reads _ _ _ _ _ c.self.invariant c.self.view_is c.requires c.in-Some.is c.index-node.ensures).content_older
+returns-in-Elem-clause-older c = rw c.seq.ensures (reads _ _ _ _ _ c.self.invariant c.self.view_is c.requires c.in-Some.is c.index-node.ensures).content_older

@@ -6,7 +6,7 @@ use Rattle.xd_read.proofs.reader.Reader.read.Goals as goal
 pub returns-then-not-is_empty-clause-stops : goal.returns-then-not-is_empty-clause-stops
 returns-then-not-is_empty-clause-stops c =
     let lt : 0 < length c.args.self.now.elements.items = search rules in
-    some_open _ _ _ _ _ _ (sym c.move_for.ensures ∙ c.in-End.is) lt
+    λ _. some_open _ _ _ _ _ _ (sym c.move_for.ensures ∙ c.in-End.is) lt
 
 pub returns-in_ok-take_text-in-Text-clause-passes :
     goal.returns-in_ok-take_text-in-Text-clause-passes
@@ -29,7 +29,7 @@ returns-in_ok-close_element-in-Some-clause-passes c =
 pub returns-in-None-clause-stops : goal.returns-in-None-clause-stops
 returns-in-None-clause-stops c =
     let e : length c.args.self.now.elements.items ≡ 0 = search rules in
-    none_open _ _ _ _ _ _ (sym c.move_for.ensures ∙ c.in-Close.is) (nil_from_length _ e)
+    λ _. none_open _ _ _ _ _ _ (sym c.move_for.ensures ∙ c.in-Close.is) (nil_from_length _ e)
 
 pub returns-in_ok-seq-in-End-clause-ends : goal.returns-in_ok-seq-in-End-clause-ends
 returns-in_ok-seq-in-End-clause-ends c =
@@ -37,4 +37,4 @@ returns-in_ok-seq-in-End-clause-ends c =
     ended _ _ _ _ _ _ _ (sym c.move_for.ensures ∙ c.in-End.is) (nil_from_length _ e) c.in_ok-seq-in-End.ensures.document
 
 pub returns-in-Refuse-clause-stops : goal.returns-in-Refuse-clause-stops
-returns-in-Refuse-clause-stops c = refused c.args.store.now _ c.args.self.now.finished.items c.args.self.now.elements.items _ _ (sym c.move_for.ensures ∙ c.in-Refuse.is)
+returns-in-Refuse-clause-stops c = λ _. refused c.args.store.now _ c.args.self.now.finished.items c.args.self.now.elements.items _ _ (sym c.move_for.ensures ∙ c.in-Refuse.is)

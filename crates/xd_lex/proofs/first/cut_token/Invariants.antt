@@ -1,9 +1,9 @@
 use Rattle.std.proofs.Common.{length}
 use Rattle.xd_lex.proofs.Skipped.{Skipped}
-use Rattle.xd_lex.proofs.lexer.first_token.Given as goal
+use Rattle.xd_lex.proofs.first.cut_token.Given as goal
 
 abbrev pub invariant-gaps : goal.invariant-gaps
-invariant-gaps l = Skipped l.text l.fn.place l.place l.rest
+invariant-gaps l = Skipped l.text l.rest
 
 abbrev pub decreases-gaps : goal.decreases-gaps
 decreases-gaps l = length l.rest
