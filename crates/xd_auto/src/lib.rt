@@ -2,9 +2,11 @@
 #![tactic(auto)]
 
 mod auto;
+mod key;
 mod known;
 mod marks;
 mod membership;
 
 pub use auto::{Auto, LabelMove, State, TextMove, trim};
+pub use key::StateKey;
 pub use membership::{Answers, Scratch, accepts_kept, member};

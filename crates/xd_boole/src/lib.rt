@@ -4,7 +4,6 @@
 mod choices;
 mod difference;
 mod groups;
-mod key;
 mod matching;
 mod points;
 mod products;

@@ -8,12 +8,11 @@ ghost use Rattle.xd_auto.specs.Automaton.{Automaton, IsState};
 ghost use Rattle.xd_boole.specs.Meaning.{less, means};
 ghost use Rattle.xd_boole.specs.Points.{ArePoints, Gives, Grows, IsStateFor, MoveBelow, TextBelow, found_at, point_at, point_key};
 
-use crate::key::Key;
 use crate::states::any_last;
 use std::alloc::Global;
 use std::collections::BTreeMap;
 use std::marker::Model;
-use xd_auto::{Auto, LabelMove, State, TextMove};
+use xd_auto::{Auto, LabelMove, State, StateKey, TextMove};
 use xd_doc::NoMemory;
 
 /// A state, the left, and states that are taken away from it, the rights: what a state of the new
@@ -37,7 +36,7 @@ impl Model for Point {
 pub(crate) struct Points {
     pub(crate) made: Auto,
     pub(crate) points: Vec<Point>,
-    pub(crate) found: BTreeMap<Key, usize>,
+    pub(crate) found: BTreeMap<StateKey, usize>,
 }
 
 /// The moves of a state of the new automaton.
@@ -61,20 +60,8 @@ impl Points {
     }
 }
 
-/// The key of a point.
-fn key_of(alloc: Global, left: State, rights: &[State]) -> Result<Key, NoMemory>
-    ensures { IfOk result (λ key. key ≡ point_key (less left rights.now)) }
-{
-    let mut numbers = Vec::new(alloc);
-    numbers.push(left.number())?;
-    for state in rights {
-        numbers.push(state.number())?;
-    }
-    Ok(Key { numbers })
-}
-
 /// Puts a number under a key.
-fn put(found: &mut BTreeMap<Key, usize>, key: Key, number: usize) -> Result<(), NoMemory>
+fn put(found: &mut BTreeMap<StateKey, usize>, key: StateKey, number: usize) -> Result<(), NoMemory>
     ensures { OnOk result ((q : List ℕ) → found_at found.new q ≡ cond (pointwise nat_eq key q) (Some number) (found_at found.old q)) }
 {
     found.insert(key, number)?;
@@ -95,7 +82,7 @@ fn add_point(
     alloc: Global,
     auto: &Auto,
     points: &mut Points,
-    key: Key,
+    key: StateKey,
     left: State,
     rights: &[State],
 ) -> Result<State, NoMemory>
@@ -131,7 +118,7 @@ pub(crate) fn find_or_add(
     ensures grows { OnOk result (Grows points.old points.new) }
     ensures state { IfOk result (IsStateFor points.new left rights.now) }
 {
-    let key = key_of(alloc, left, rights)?;
+    let key = StateKey::new(alloc, left, rights)?;
     match points.found.get(&key) {
         Some(number) => Ok(points.made.state(*number)),
         None => add_point(alloc, auto, points, key, left, rights),

@@ -9,11 +9,10 @@ ghost use Rattle.xd_goals.specs.Rows.{IsListed, IsRefuted, claim_at, claim_key, 
 ghost use Rattle.xd_goals.specs.Kept.{AreLinked, AreThese, BeginsWith, Grows, GrowsBy, IsConsistent, IsWoken, Refutes, found_at, view_of, with_standing};
 ghost use Rattle.xd_goals.specs.Rows.{Leads};
 
-use crate::key::Key;
 use crate::table::{Choice, ChoiceNode, GoalId, Link, Row, Standing};
 use std::alloc::Global;
 use std::collections::BTreeMap;
-use xd_auto::State;
+use xd_auto::{State, StateKey};
 use xd_doc::{NoMemory, Seq};
 
 /// The goals, the nodes of their choice trees, the links of their lists of dependents, and the goals'
@@ -25,7 +24,7 @@ pub(crate) struct Goals {
     pub(crate) rows: Vec<Row>,
     pub(crate) nodes: Vec<ChoiceNode>,
     pub(crate) links: Vec<Link>,
-    pub(crate) found: BTreeMap<Key, usize>,
+    pub(crate) found: BTreeMap<StateKey, usize>,
 }
 
 impl Goals {
@@ -62,20 +61,8 @@ impl Goals {
     }
 }
 
-/// The key of a goal.
-fn key_of(alloc: Global, left: State, rights: &[State]) -> Result<Key, NoMemory>
-    ensures { IfOk result (λ key. key ≡ claim_key (claim_with left rights.now)) }
-{
-    let mut numbers = Vec::new(alloc);
-    numbers.push(left.number())?;
-    for state in rights {
-        numbers.push(state.number())?;
-    }
-    Ok(Key { numbers })
-}
-
 /// Puts a number under a key.
-fn put(found: &mut BTreeMap<Key, usize>, key: Key, number: usize) -> Result<(), NoMemory>
+fn put(found: &mut BTreeMap<StateKey, usize>, key: StateKey, number: usize) -> Result<(), NoMemory>
     ensures ok { OnOk result ((q : List ℕ) → found_at found.new q ≡ cond (pointwise nat_eq key q) (Some number) (found_at found.old q)) }
     ensures err { OnErr result ((q : List ℕ) → found_at found.new q ≡ found_at found.old q) }
 {
@@ -87,8 +74,8 @@ fn put(found: &mut BTreeMap<Key, usize>, key: Key, number: usize) -> Result<(), 
 fn add_row(
     alloc: Global,
     rows: &mut Vec<Row>,
-    found: &mut BTreeMap<Key, usize>,
-    key: Key,
+    found: &mut BTreeMap<StateKey, usize>,
+    key: StateKey,
     left: State,
     rights: &[State],
 ) -> Result<GoalId, NoMemory>
@@ -133,7 +120,7 @@ pub(crate) fn find_or_add(
     ensures there { IfOk result (λ goal. goal.number < length goals.new.rows.items) }
 {
     let _count = states;
-    let key = key_of(alloc, left, rights)?;
+    let key = StateKey::new(alloc, left, rights)?;
     match goals.found.get(&key) {
         Some(number) => Ok(GoalId { number: *number }),
         None => add_row(alloc, &mut goals.rows, &mut goals.found, key, left, rights),

@@ -5,7 +5,6 @@ mod goals;
 mod grow;
 mod heads;
 mod inclusion;
-mod key;
 mod laws;
 mod settled;
 mod table;

@@ -23,7 +23,7 @@ pub use nodes::{FormView, NodeView, Nodes};
 pub use order::sort_faults;
 pub use patterns::{PatternForm, PatternId, PatternNode, Patterns};
 pub use program::{Function, Param, Program};
-pub use sound::{Checked, SoundProgram};
+pub use sound::{Checked, SoundProgram, parameter_of_main};
 pub use type_names::TypeNames;
 pub use types::{TypeDef, TypeForm, TypeId, TypeNode, Types};
 

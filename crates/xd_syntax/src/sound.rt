@@ -362,7 +362,8 @@ fn is_word_part(byte: u8) -> bool
     is_word_start(byte) || byte.is_ascii_digit()
 }
 
-fn parameter_of_main(functions: &[Function]) -> Option<TypeId>
+/// The parameter's type of the first function called `main`, if it has one parameter.
+pub fn parameter_of_main(functions: &[Function]) -> Option<TypeId>
     ensures { result ≡ main_parameter functions.now }
 {
     for function in functions {
