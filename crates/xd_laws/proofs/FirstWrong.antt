@@ -1,31 +1,12 @@
 -- The first breach in a proof, computed.
 use Rattle.std.proofs.Common.{ℕ, ◌+◌, Bool, true, false, not, cond, ◌||◌, ◌&&◌, nat_eq, List, [], ◌∷◌, Option, Some, None}
 use Rattle.std.specs.Str.{bytes_eq}
-use Rattle.std.specs.Cmp.Lexicographic.{pointwise}
-use Rattle.xd_doc.specs.Classes.{LabelClass}
-use Rattle.xd_syntax.specs.Tree.{Tree, Empty, Text, Words, Name, Elem, Seq, Alt, Star, Plus, Opt, Val, Definitions}
+use Rattle.xd_syntax.specs.Tree.{Tree, Definitions}
 use Rattle.xd_syntax.specs.CanBeEmpty.{can_be_empty}
 use Rattle.xd_laws.specs.Heads.{Head, heads}
 use Rattle.xd_laws.specs.Consistent.{Atom, this_label, other_label, this_text, other_text, ChoiceTree, settles_content, settles_rest, split_on, Case, Goal, HeadAtom, wanted, numbered, right_heads, matches_atom, matching, Sides, no_sides, on_content, on_rest}
+pub use Rattle.xd_laws.specs.SameTree.{same_class, same_tree}
 use Rattle.xd_laws.specs.Breach.{Reason, bad_empty, bad_case, bad_split, bad_leaf, Lined, line_behind, empty_lines, goals_of}
-
--- Types are the same as trees, classes by their labels in order.
-abbrev pub same_class : LabelClass → LabelClass → Bool
-same_class c e = cond c.except e.except (not e.except) && pointwise bytes_eq c.names e.names
-
-abbrev pub same_tree : Tree → Tree → Bool
-same_tree Empty Empty = true
-same_tree Text Text = true
-same_tree (Words v) (Words w) = same_class v w
-same_tree (Name x) (Name y) = bytes_eq x y
-same_tree (Elem c T) (Elem e U) = same_class c e && same_tree T U
-same_tree (Seq T U) (Seq S R) = same_tree T S && same_tree U R
-same_tree (Alt T U) (Alt S R) = same_tree T S && same_tree U R
-same_tree (Star T) (Star U) = same_tree T U
-same_tree (Plus T) (Plus U) = same_tree T U
-same_tree (Opt T) (Opt U) = same_tree T U
-same_tree (Val x T) (Val y U) = bytes_eq x y && same_tree T U
-same_tree _ _ = false
 
 abbrev pub same_atom : Atom → Atom → Bool
 same_atom (this_label l) (this_label m) = bytes_eq l m

@@ -10,3 +10,4 @@ pub mod Scopes
 pub mod SameLines
 pub mod LineSamples
 pub mod Identity
+pub mod SameTree
