@@ -5,24 +5,22 @@ use Rattle.xd_auto.specs.declared.auto.State.{State}
 use Rattle.xd_auto.specs.Automaton.{Automaton, IsState, accepts}
 use Rattle.xd_traces.specs.Traces.{Owned}
 use Rattle.xd_traces.specs.Pairing.{IsGivenWhere}
-use Rattle.xd_bind.specs.declared.tracks.Tracks.{Tracks}
 use Rattle.xd_bind.specs.declared.tracks.Binding.{Binding}
-use Rattle.xd_bind.specs.Projection.{owned_by}
 
 -- the state accepts exactly what accepting runs give the variable on documents that the other automaton's state accepts
 abbrev pub AcceptsCases : Automaton → Owned → State → Automaton → State → Automaton → State → Type 0
 AcceptsCases p b start q other made state = (e : Document) → (accepts made e state ≡ true) ↔ IsGivenWhere p q b start other e
 
 -- the variable of this number, and a state that accepts exactly what it may be
-pub record IsCaseOf (tracks : Tracks) (q : Automaton) (other : State) (x : ℕ) (binding : Binding) : Type 0 where
-  pub variable : slice_get tracks.variables.items x ≡ Some binding.variable
+pub record IsCaseOf (p : Automaton) (owned : ℕ → Owned) (start : State) (variables : List (List ℕ)) (q : Automaton) (other : State) (x : ℕ) (binding : Binding) : Type 0 where
+  pub variable : slice_get variables x ≡ Some binding.variable
   pub belongs : IsState binding.auto binding.state
-  pub cases : AcceptsCases tracks.auto (owned_by tracks.marks.items x) tracks.start q other binding.auto binding.state
+  pub cases : AcceptsCases p (owned x) start q other binding.auto binding.state
 
--- one for each variable, in their order
-pub record AreCases (tracks : Tracks) (q : Automaton) (other : State) (bindings : List Binding) : Type 0 where
-  pub count : length bindings ≡ length tracks.variables.items
-  pub each : (x : ℕ) (d : Binding) → x < length bindings → IsCaseOf tracks q other x (slice_index_or bindings x d)
+-- one for each variable, in their order, where `owned` are the moves that belong to the variable of a number
+pub record AreCases (p : Automaton) (owned : ℕ → Owned) (start : State) (variables : List (List ℕ)) (q : Automaton) (other : State) (bindings : List Binding) : Type 0 where
+  pub count : length bindings ≡ length variables
+  pub each : (x : ℕ) (d : Binding) → x < length bindings → IsCaseOf p owned start variables q other x (slice_index_or bindings x d)
 
 -- both states accept some document, a proper one
 pub record IsShared (p : Automaton) (one : State) (q : Automaton) (two : State) : Type 0 where

@@ -6,4 +6,3 @@ pub mod Blocks
 pub mod Search
 pub mod Cases
 pub mod Buckets
-pub mod Told

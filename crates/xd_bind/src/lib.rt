@@ -10,6 +10,7 @@ mod restricted;
 mod shared;
 mod tracks;
 
+pub use holds::Holds;
 pub use projecting::project;
 pub use restricted::cases;
 pub use shared::shares;

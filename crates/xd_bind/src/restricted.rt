@@ -2,26 +2,30 @@
 
 ghost use Rattle.std.specs.Prelude.{◌≡◌, ℕ, ◌<◌, IfOk, length, vec_len, slice_get};
 ghost use Rattle.xd_auto.specs.Automaton.{IsState, state_number};
+ghost use Rattle.xd_traces.specs.Traces.{KeepsTogether};
 ghost use Rattle.xd_traces.specs.Pairing.{both_at, boths_in, carried, left_or};
 ghost use Rattle.xd_traces.specs.Paired.{origins_in};
 ghost use Rattle.xd_bind.specs.Owning.{is_owned};
-ghost use Rattle.xd_bind.specs.Projection.{CanProject};
 ghost use Rattle.xd_bind.specs.Cases.{AreCases};
 
 use crate::holds::Holds;
-use crate::marks::Marks;
 use crate::projecting::automaton_of;
-use crate::tracks::{Binding, Tracks};
+use crate::tracks::Binding;
 use std::alloc::Global;
 use xd_auto::{Auto, State};
-use xd_doc::NoMemory;
+use xd_doc::{Label, NoMemory};
 use xd_traces::{Both, MoveKind, Pairs, pair_up};
 
 /// Of a pairing, the moves that stand for moves of a variable of the first automaton.
-#[derive(Debug, Drop)]
-struct Carried<'a> {
+struct Carried<'a, H: Holds> {
     pairs: &'a Pairs,
-    marks: &'a Marks,
+    owner: &'a H,
+}
+
+impl<H: Holds> Drop for Carried<'_, H> {
+    fn drop(self) {
+        let Carried { pairs: _, owner: _ } = self;
+    }
 }
 
 /// The number of the first automaton's move that a move stands for.
@@ -47,12 +51,12 @@ fn left_state(pairs: &Pairs, state: State) -> State
     }
 }
 
-impl Holds for Carried<'_> {
+impl<H: Holds> Holds for Carried<'_, H> {
+    ghost use Rattle.xd_traces.specs.Traces.{KeepsTogether};
     ghost use Rattle.xd_traces.specs.Pairing.{carried};
     ghost use Rattle.xd_traces.specs.Paired.{origins_in};
-    ghost use Rattle.xd_bind.specs.Buckets.{owned_in};
 
-    ghost owned = { λ c x. carried (origins_in c.pairs.now) (owned_in c.marks.now.rows.items x) };
+    ghost owned = { λ c x. carried (origins_in c.pairs.now) (H.owned c.owner.now x) };
 
     fn holds(&self, state: State, kind: MoveKind, number: usize, variable: usize) -> bool {
         let left = left_state(self.pairs, state);
@@ -60,7 +64,7 @@ impl Holds for Carried<'_> {
             MoveKind::Label => &self.pairs.labels,
             MoveKind::Text => &self.pairs.texts,
         };
-        self.marks
+        self.owner
             .holds(left, kind, left_number(rows, state, number), variable)
     }
 }
@@ -69,27 +73,30 @@ impl Holds for Carried<'_> {
 /// that an accepting run gives it, on some document that the other automaton's state accepts.
 ///
 /// The two are run side by side ([`pair_up`]), and what belongs to a variable is carried along.
-pub fn cases(
+pub fn cases<H: Holds>(
     alloc: Global,
-    tracks: &Tracks,
+    auto: &Auto,
+    start: State,
+    variables: &[Label],
+    owner: &H,
     other: &Auto,
     state: State,
 ) -> Result<Vec<Binding>, NoMemory>
-    requires tracks { CanProject tracks.now }
+    requires start { IsState auto.now start }
+    requires together { (x : ℕ) → x < length variables.now → KeepsTogether auto.now (H.owned owner.now x) start }
     requires state { IsState other.now state }
-    ensures { IfOk result (λ bindings. AreCases tracks.now other.now state bindings.items) }
+    ensures { IfOk result (λ bindings. AreCases auto.now (H.owned owner.now) start variables.now other.now state bindings.items) }
 {
-    let marks = Marks::new(alloc, &tracks.auto, &tracks.marks)?;
-    let pairs = pair_up(alloc, &tracks.auto, tracks.start, other, state)?;
+    let pairs = pair_up(alloc, auto, start, other, state)?;
     let carried = Carried {
         pairs: &pairs,
-        marks: &marks,
+        owner,
     };
     let mut bindings = Vec::new(alloc);
-    for variable in 0..tracks.variables.len() {
+    for variable in 0..variables.len() {
         let (auto, state) = automaton_of(alloc, &pairs.auto, pairs.start, &carried, variable)?;
         bindings.push(Binding {
-            variable: tracks.variables[variable].share()?,
+            variable: variables[variable].share()?,
             auto,
             state,
         })?;

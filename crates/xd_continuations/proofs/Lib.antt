@@ -1,3 +1,5 @@
+pub mod GrownTables
+pub mod AllNames
 pub mod Settling
 pub mod MoveLemmas
 pub mod Merging

@@ -1,7 +1,11 @@
-//! Laws of continuations, each the contract of a function that does nothing.
+//! Laws of continuations, each the contract of a function that does nothing; and what `Any` stands for, as a type of a program.
 #![tactic(auto)]
 
 ghost use Rattle.xd_continuations.specs.Laws.{PiecesMean, MeaningsAreOne, MovesAreHeads, MovesContinue, MovesDecide, SoundRecursInTail, FinitelyMany, BoundsStayInSound, BoundsGrow, TasksStand, TasksStep, TasksGive, StatesAccept, ProgramsAreMerged, MovesAreNoDeeper};
+
+mod any;
+
+pub use any::meaning_of_any;
 
 /// A continuation is the list of the pieces of the type that it means.
 pub fn continuations_are_types()

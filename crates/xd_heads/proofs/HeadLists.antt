@@ -30,7 +30,8 @@ use Rattle.xd_heads.specs.declared.expand.Found.{Found}
 use Rattle.xd_heads.specs.declared.listing.Head.{Head}
 use Rattle.xd_heads.proofs.AddingMoves.{none_deeper}
 use Rattle.xd_heads.proofs.Growing.{grows_none, grows_then}
-use Rattle.xd_heads.proofs.Mirrored.{tree_stays, more_rows, continuation_stays, shallow_before}
+use Rattle.xd_continuations.proofs.GrownTables.{tree_stays, more_rows}
+use Rattle.xd_heads.proofs.Mirrored.{continuation_stays, shallow_before}
 use Rattle.xd_heads.proofs.Wrapping.{bodies_stand, are_merged}
 
 -- ---- one head

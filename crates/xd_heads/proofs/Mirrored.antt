@@ -8,7 +8,7 @@ use Rattle.xd_syntax.specs.Shallow.{IsShallow, nesting_limit}
 use Rattle.xd_syntax.specs.CanBeEmpty.{can_be_empty}
 use Rattle.xd_syntax.specs.Program.{names_of}
 use Rattle.xd_syntax.specs.Kept.{ProgramTable, program_tree}
-use Rattle.xd_syntax.proofs.Trees.{tree_kept}
+use Rattle.xd_continuations.proofs.GrownTables.{tree_stays, more_rows}
 use Rattle.xd_auto.specs.Automaton.{Automaton, Extends, IsState, moves_at, no_moves, state_number}
 use Rattle.xd_auto.specs.declared.auto.State.{State}
 use Rattle.xd_auto.specs.declared.auto.LabelMove.{LabelMove}
@@ -161,14 +161,8 @@ map_pieces f g P h [] a = refl
 map_pieces f g P h (x ∷ xs) a = let e = h x a.0 in let i = map_pieces f g P h xs a.1 in cc
 
 module _ (old new : List Row) (k : KeepsRows old new) where
-  pub tree_stays : (i : ℕ) → i < length old → tree_at new i ≡ tree_at old i
-  tree_stays i h = ap (λ rs. tree_at rs i) k.grown ∙ tree_kept old k.more i h
-
-  pub more_rows : length old ≤ length new
-  more_rows = let e = ap length k.grown in omega (arith, length-append old k.more)
-
   pub piece_stays : (x : Piece) → x.node < length old → piece_tree new x ≡ piece_tree old x
-  piece_stays x h = ap (λ T. cond x.is_turns (turns_of T) T) (tree_stays x.node h)
+  piece_stays x h = ap (λ T. cond x.is_turns (turns_of T) T) (tree_stays old new k x.node h)
 
   pub continuation_stays : (cells : List Cell) → AreOfTypes old cells → (n : ℕ) → continuation new cells n ≡ continuation old cells n
   continuation_stays cells a n =
@@ -182,7 +176,7 @@ module _ (old new : List Row) (k : KeepsRows old new) where
       go (Some n) = ap (λ K. Some (seq_of K)) (continuation_stays c.cells a n)
 
   pub shallow_before : IsShallow new → IsShallow old
-  shallow_before s i h = subst (λ T. depth T ≤ nesting_limit) (tree_stays i h) (s i (let m = more_rows in omega arith))
+  shallow_before s i h = subst (λ T. depth T ≤ nesting_limit) (tree_stays old new k i h) (s i (let m = more_rows old new k in omega arith))
 
   nodes_more : (rs more : List Row) (i : ℕ) → ((j : ℕ) → j < i + length rs → tree_at new j ≡ tree_at old j) → nodes_from old rs i ≤ nodes_from new (rs ++ more) i
   nodes_more [] more i same = six more i
@@ -196,7 +190,7 @@ module _ (old new : List Row) (k : KeepsRows old new) where
 
   more_nodes : nodes_in old ≤ nodes_in new
   unfolding nodes_in
-  more_nodes = subst (λ rs. nodes_from old old 0 ≤ nodes_from new rs 0) (sym k.grown) (nodes_more old k.more 0 (λ j h. tree_stays j (omega arith)))
+  more_nodes = subst (λ rs. nodes_from old old 0 ≤ nodes_from new rs 0) (sym k.grown) (nodes_more old k.more 0 (λ j h. tree_stays old new k j (omega arith)))
 
 head_moves_more : (C D : State → Option Tree) → ((s : State) (T : Tree) → C s ≡ Some T → D s ≡ Some T) → {hs : List Head} {ls : List LabelMove} {ts : List TextMove} → AreHeadMoves C hs ls ts → AreHeadMoves D hs ls ts
 head_moves_more C D f no_head = no_head

@@ -5,9 +5,7 @@ use Rattle.std.specs.List.{AllByRecursion, list_any, slice_get, position, positi
 use Rattle.std.specs.Option.{IfSome, IfNone}
 use Rattle.std.proofs.lemmas.Bool.Decides.{nat_tests}
 use Rattle.std.proofs.lemmas.List.{length-map}
-use Rattle.std.proofs.lemmas.Slice.Eq.{bytes_eq-Decides}
-use Rattle.xd_doc.specs.Classes.{LabelClass, TextClass, is_named}
-use Rattle.std.specs.Str.{bytes_eq}
+use Rattle.xd_doc.specs.Classes.{LabelClass, TextClass}
 use Rattle.xd_syntax.specs.Tree.{Tree, Definitions, any_type, seq_of, all_texts}
 use Rattle.xd_syntax.specs.Types.{form_of}
 use Rattle.xd_syntax.specs.declared.types.TypeId.{TypeId}
@@ -357,18 +355,6 @@ words_of_form (V.Alt ts) w e = cc
 words_of_form (V.Star t) w e = cc
 words_of_form (V.Plus t) w e = cc
 words_of_form (V.Opt t) w e = cc
-
--- a class that excepts no text has all
-pub names_none : (c : TextClass) → ((t : List ℕ) → is_named c.names t ≡ is_named [] t) → c.except ≡ true → c ≡ all_texts
-names_none c h e = go c.names refl
-  where
-    go : (ns : List (List ℕ)) → c.names ≡ ns → c ≡ all_texts
-    go [] n = ap (λ (ms : List (List ℕ)). let d : TextClass = record { names = ms; except = c.except } in d) n ∙ ap (λ (b : Bool). let d : TextClass = record { names = []; except = b } in d) e
-    go (w ∷ ws) n =
-        let a : is_named (w ∷ ws) w ≡ false = ap (λ (ms : List (List ℕ)). is_named ms w) (sym n) ∙ h w in
-        let b : bytes_eq w w ≡ true = (bytes_eq-Decides w w).1 refl in
-        let d : (bytes_eq w w || is_named ws w) ≡ false = a in
-        let g : (true || is_named ws w) ≡ false = sym (ap (λ x. x || is_named ws w) b) ∙ d in cc
 
 -- ---- numbers
 

@@ -16,7 +16,8 @@ use Rattle.xd_heads.specs.Growing.{GrowsTypes}
 use Rattle.xd_heads.specs.declared.cells.Cell.{Cell}
 use Rattle.xd_heads.proofs.CellLemmas.{list_none}
 use Rattle.xd_heads.proofs.Growing.{grows_none, grows_then}
-use Rattle.xd_heads.proofs.Mirrored.{tree_stays, more_rows, piece_stays}
+use Rattle.xd_continuations.proofs.GrownTables.{tree_stays, more_rows}
+use Rattle.xd_heads.proofs.Mirrored.{piece_stays}
 
 -- the first pieces have their types
 pub record IsTyping (p q : ProgramTable) (cells : List Cell) (number at : ℕ) (ids : List TypeId) : Type 0 where

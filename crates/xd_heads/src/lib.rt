@@ -1,7 +1,6 @@
 //! Heads of types, and types as states of automata.
 #![tactic(auto)]
 
-mod any;
 mod bodies;
 mod cells;
 mod compile;

@@ -18,7 +18,6 @@ ghost use Rattle.xd_heads.specs.Found.{AreOfTypes, move_at};
 ghost use Rattle.xd_heads.specs.Growing.{GrowsTypes};
 ghost use Rattle.xd_heads.specs.HeadList.{AreHeadsFound, ContentBelongs, HeadBelongs, IsHeadAt, IsHeadFound, IsKindOf, content_at, head_at};
 
-use crate::any::meaning_of_any;
 use crate::bodies::Bodies;
 use crate::cells::Interned;
 use crate::compile::every_text;
@@ -26,6 +25,7 @@ use crate::content::content;
 use crate::expand::{Found, expand};
 use crate::typed::continuation_type;
 use std::alloc::Global;
+use xd_continuations::meaning_of_any;
 use xd_doc::{Class, NoMemory, Words};
 use xd_syntax::{Known, Program, SoundProgram, TypeForm, TypeId, Types};
 

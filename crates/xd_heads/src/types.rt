@@ -18,7 +18,6 @@ ghost use Rattle.xd_heads.specs.Compiled.{Spares};
 ghost use Rattle.xd_heads.specs.CellsView.{CellsView, no_cells};
 ghost use Rattle.xd_heads.specs.Mirrors.{IsPatternState, IsTypeState, KeepsStates, Mirrors, MirrorsStay, continuation_of};
 
-use crate::any::meaning_of_any;
 use crate::bodies::Bodies;
 use crate::cells::Interned;
 use crate::compile::compile_node;
@@ -27,6 +26,7 @@ use crate::typed::continuation_type;
 use std::alloc::Global;
 use std::marker::Model;
 use xd_auto::{Auto, State};
+use xd_continuations::meaning_of_any;
 use xd_doc::NoMemory;
 use xd_syntax::{Known, Program, SoundProgram, TypeId};
 

@@ -4,22 +4,25 @@ use Rattle.std.proofs.lemmas.Bool.Decides.{nat_tests}
 use Rattle.std.proofs.lemmas.List.{reverse-append}
 use Rattle.std.specs.List.{AllZip}
 use Rattle.xd_syntax.specs.Tree.{Definitions}
+use Rattle.xd_syntax.specs.Ways.{Among}
+use Rattle.xd_syntax.proofs.Members.{append_left, append_right, flat_mem, mem_append, mem_flat}
 use Rattle.xd_laws.specs.Guarded.{Guarded}
+use Rattle.xd_runs.specs.Alike.{Alike}
 use Rattle.xd_runs.specs.Runs.{Choice, Continuation, stop, choices}
 use Rattle.xd_runs.specs.Steps.{Ahead, ahead, choices_ahead, part_choice, part_steps}
-use Rattle.xd_runs.proofs.Alike.{alike_refl, alike_same, alike_sym, alike_trans, alike_append, append_none, append_then, flat_append}
+use Rattle.xd_runs.proofs.Alike.{alike_refl, alike_same, alike_sym, alike_trans, alike_append, alike_known, append_none, append_then, flat_append}
 use Rattle.xd_runs.proofs.Stepping.{steps_find}
 use Rattle.xd_patterns.specs.Chains.{list_at, AreLinks}
 use Rattle.xd_patterns.specs.Tasks.{Tables, AreBodies, words_at, piece_part, pieces_at, continuation, ArePieces, or_none, IsTurn, StandsFor, item_choice, choice_at, IsFound, StandFound, Collects, Adds, HasFound, IsStep}
 use Rattle.xd_patterns.specs.Work.{steps_of, work_left}
-use Rattle.xd_patterns.specs.Expanding.{ends_turn, IsExpanded, before_end, task_steps, all_steps, IsExpanding, AreFound}
+use Rattle.xd_patterns.specs.Expanding.{ends_turn, IsExpanded, before_end, task_steps, all_steps, IsExpanding, IsGoneThrough, IsVisited, AreFound}
 use Rattle.xd_patterns.specs.declared.chains.Link.{Link}
 use Rattle.xd_patterns.specs.declared.chains.Piece.{Piece}
 use Rattle.xd_patterns.specs.declared.expand.Task.{Task}
 use Rattle.xd_patterns.specs.declared.expand.Found.{Found}
 use Rattle.xd_patterns.proofs.ChainLemmas.{list_none, one_number, kept_list, kept_length}
-use Rattle.xd_patterns.proofs.Tasking.{adds_none, adds_then, all_stand, same_words, same_pieces, list_pieces, puts_none, collects_none, collects_one}
-use Rattle.xd_patterns.proofs.Working.{step_less}
+use Rattle.xd_patterns.proofs.Tasking.{adds_none, adds_then, all_stand, stands_kept, same_words, same_pieces, list_pieces, puts_none, collects_none, collects_one}
+use Rattle.xd_patterns.proofs.Working.{step_less, some_cost}
 
 -- one step of a task
 
@@ -192,20 +195,200 @@ work_reverse E (w ∷ ws) =
     let e : work_left E (reverse (w ∷ ws)) ≡ work_left E (reverse ws ++ w ∷ []) = ap (work_left E) (reverse-append (w ∷ []) ws) in
     let i = work_reverse E ws in let j = work_append E (reverse ws) (w ∷ []) in omega arith
 
+-- tasks that come again
+
+one_turn : (c : List (Link Piece)) (o : Option ℕ) (u v : Option (List Piece)) → IsTurn c o u → IsTurn c o v → u ≡ v
+one_turn c None None None i j = refl
+one_turn c None None (Some L) i j = absurd j
+one_turn c None (Some K) v i j = absurd i
+one_turn c (Some n) None v i j = absurd i
+one_turn c (Some n) (Some K) None i j = absurd j
+one_turn c (Some n) (Some K) (Some L) i j = ap Some (sym i.1 ∙ j.1)
+
+-- a task stands for one thing
+one_ahead : (t : Tables) (m : List (Link ℕ)) (c : List (Link Piece)) (x : Task) (a b : Ahead) → StandsFor t m c x a → StandsFor t m c x b → a ≡ b
+one_ahead t m c x a b s r =
+    let u = one_turn c x.turn s.turn r.turn s.turned r.turned in
+    let f : s.front ≡ r.front = sym (front_is c x.turn s.turn s.front s.turned) ∙ ap (before_end c x.turn) (sym s.list ∙ r.list) ∙ front_is c x.turn r.turn r.front r.turned in
+    s.is ∙ ap (λ F. ahead (pieces_at t m F) (option_map (pieces_at t m) s.turn)) f ∙ ap (λ v. ahead (pieces_at t m r.front) (option_map (pieces_at t m) v)) u ∙ sym r.is
+
+last_view : {A : Type 0} (xs : List A) → (xs ≡ []) ⊎ ((ys : List A) × (v : A) × (xs ≡ ys ++ v ∷ []))
+last_view [] = inl refl
+last_view (x ∷ xs) = elim (last_view xs) [ inl e ↦ inr ([], x, ap (λ z. x ∷ z) e) | inr r ↦ inr (x ∷ r.0, r.1, ap (λ z. x ∷ z) r.2) ]
+
+no_end : {A : Type 0} (ys : List A) (y : A) → [] ≡ ys ++ y ∷ [] → ⊥
+no_end [] y e = cc
+no_end (b ∷ ys) y e = cc
+
+same_last : {A : Type 0} (xs ys : List A) (x y : A) → xs ++ x ∷ [] ≡ ys ++ y ∷ [] → (xs ≡ ys) × (x ≡ y)
+same_last [] [] x y e = (refl, cc)
+same_last [] (b ∷ ys) x y e = let z : [] ≡ ys ++ y ∷ [] = cc in absurd (no_end ys y z)
+same_last (a ∷ xs) [] x y e = let z : [] ≡ xs ++ x ∷ [] = cc in absurd (no_end xs x z)
+same_last (a ∷ xs) (b ∷ ys) x y e = let z : xs ++ x ∷ [] ≡ ys ++ y ∷ [] = cc in let r = same_last xs ys x y z in (let q = r.0 in cc, r.1)
+
+in_reverse : {A : Type 0} (x : A) (L : List A) → Among x L → Among x (reverse L)
+in_reverse x [] h = absurd h
+in_reverse x (y ∷ L) (inl e) = subst (Among x) (sym (reverse-append (y ∷ []) L)) (append_right x (reverse L) (y ∷ []) (inl e))
+in_reverse x (y ∷ L) (inr h) = subst (Among x) (sym (reverse-append (y ∷ []) L)) (append_left x (reverse L) (y ∷ []) (in_reverse x L h))
+
+of_reverse : {A : Type 0} (x : A) (L : List A) → Among x (reverse L) → Among x L
+of_reverse x L h = subst (Among x) (rev_rev L) (in_reverse x (reverse L) h)
+
+member_work : (E : Definitions) (left : List Ahead) (w : Ahead) → Among w left → steps_of E w.front ≤ work_left E left
+member_work E [] w h = absurd h
+member_work E (v ∷ left) w (inl e) = let q : steps_of E v.front ≡ steps_of E w.front = ap (λ (a : Ahead). steps_of E a.front) e in omega arith
+member_work E (v ∷ left) w (inr h) = let i = member_work E left w h in omega arith
+
+module _ (E : Definitions) (t : Tables) (m m' : List (Link ℕ)) (c c' : List (Link Piece)) (adds : Adds t m m' c c') (p : ArePieces t m c) (fs gs : List Found) (stand : StandFound t m c fs) (zs : List Ahead) (y : Ahead)
+    (own : List Choice) (left : List Ahead) (alike : Alike (choices_ahead E y) (own ++ flat_map (choices_ahead E) left)) (less : work_left E left + 1 ≤ steps_of E y.front)
+    (items : Alike (map (choice_at t m' c') gs) (map (choice_at t m' c') fs ++ own)) where
+  found_on : (d : Choice) → Among d (map (choice_at t m c) fs) → Among d (map (choice_at t m' c') gs)
+  found_on d h = items.back d (append_left d (map (choice_at t m' c') fs) own (subst (Among d) (sym (found_kept t m m' c c' adds p fs stand)) h))
+
+  stepped : (d : Choice) → Among d (choices_ahead E y) → Among d (map (choice_at t m' c') gs) ⊎ Among d (flat_map (choices_ahead E) (reverse left))
+  stepped d h =
+      elim (mem_append d own (flat_map (choices_ahead E) left) (alike.into d h)) [
+        | inl a ↦ inl (items.back d (append_right d (map (choice_at t m' c') fs) own a))
+        | inr b ↦ inr (let r = mem_flat (choices_ahead E) d left b in flat_mem (choices_ahead E) d r.0 (reverse left) (in_reverse r.0 left r.1) r.2)
+      ]
+
+  lesser : (w : Ahead) → Among w (reverse left) → steps_of E w.front + 1 ≤ steps_of E y.front
+  lesser w h = let z = member_work E left w (of_reverse w left h) in let l = less in omega arith
+
+  -- the task that takes the step
+  gone_new : (k : Task) → StandsFor t m c k y → IsGoneThrough E t m' c' (zs ++ reverse left) gs k
+  gone_new k s = record { ahead_of = y; stands = stands_kept t m m' c c' adds p k y s; below = zs; above = reverse left; split = refl; less = lesser; all = stepped }
+
+  -- those that came before
+  gone_on : (k : Task) → IsGoneThrough E t m c (zs ++ y ∷ []) fs k → IsGoneThrough E t m' c' (zs ++ reverse left) gs k
+  gone_on k g = go (last_view g.above)
+    where
+      go : (g.above ≡ []) ⊎ ((ys : List Ahead) × (v : Ahead) × (g.above ≡ ys ++ v ∷ [])) → IsGoneThrough E t m' c' (zs ++ reverse left) gs k
+      go (inl e) = record {
+        ahead_of = g.ahead_of;
+        stands = stands_kept t m m' c c' adds p k g.ahead_of g.stands;
+        below = zs ++ reverse left;
+        above = [];
+        split = sym (append_none (zs ++ reverse left));
+        less = λ w h. absurd h;
+        all = λ d h. elim (g.all d h) [ inl a ↦ inl (found_on d a) | inr b ↦ absurd (subst (λ L. Among d (flat_map (choices_ahead E) L)) e b) ];
+      }
+      go (inr (ab, v, e)) =
+          let s : zs ++ y ∷ [] ≡ (g.below ++ ab) ++ v ∷ [] = g.split ∙ ap (λ L. g.below ++ L) e ∙ sym (append_then g.below ab (v ∷ [])) in
+          let r = same_last zs (g.below ++ ab) y v s in
+          record {
+            ahead_of = g.ahead_of;
+            stands = stands_kept t m m' c c' adds p k g.ahead_of g.stands;
+            below = g.below;
+            above = ab ++ reverse left;
+            split = ap (λ L. L ++ reverse left) r.0 ∙ append_then g.below ab (reverse left);
+            less = λ w h.
+                elim (mem_append w ab (reverse left) h) [
+                  | inl a ↦ g.less w (subst (Among w) (sym e) (append_left w ab (v ∷ []) a))
+                  | inr b ↦ (let q = g.less y (subst (Among y) (sym e) (append_right y ab (v ∷ []) (inl (sym r.1)))) in let z = lesser w b in omega arith)
+                ];
+            all = λ d h.
+                elim (g.all d h) [
+                  | inl a ↦ inl (found_on d a)
+                  | inr b ↦ moved d ab v (sym r.1) (subst (λ L. Among d (flat_map (choices_ahead E) L)) e b)
+                ];
+          }
+        where
+          moved : (d : Choice) (ab : List Ahead) (v : Ahead) → v ≡ y → Among d (flat_map (choices_ahead E) (ab ++ v ∷ [])) →
+              Among d (map (choice_at t m' c') gs) ⊎ Among d (flat_map (choices_ahead E) (ab ++ reverse left))
+          moved d ab v f h =
+              let r = mem_flat (choices_ahead E) d (ab ++ v ∷ []) h in
+              elim (mem_append r.0 ab (v ∷ []) r.1) [
+                | inl a ↦ inr (flat_mem (choices_ahead E) d r.0 (ab ++ reverse left) (append_left r.0 ab (reverse left) a) r.2)
+                | inr b ↦ last d ab r.0 v f b r.2
+              ]
+            where
+              last : (d : Choice) (ab : List Ahead) (w v : Ahead) → v ≡ y → Among w (v ∷ []) → Among d (choices_ahead E w) →
+                  Among d (map (choice_at t m' c') gs) ⊎ Among d (flat_map (choices_ahead E) (ab ++ reverse left))
+              last d ab w v f (inl g) h =
+                  elim (stepped d (subst (λ (a : Ahead). Among d (choices_ahead E a)) (sym g ∙ f) h)) [
+                    | inl a ↦ inl a
+                    | inr b ↦ inr (let q = mem_flat (choices_ahead E) d (reverse left) b in flat_mem (choices_ahead E) d q.0 (ab ++ reverse left) (append_right q.0 ab (reverse left) q.1) q.2)
+                  ]
+              last d ab w v f (inr n) h = absurd n
+
+module _ (E : Definitions) (t : Tables) (m : List (Link ℕ)) (c : List (Link Piece)) (fs : List Found) (zs : List Ahead) (y : Ahead) where
+  -- what a task stands for that comes again was found
+  all_known : (x : Task) → StandsFor t m c x y → IsGoneThrough E t m c (zs ++ y ∷ []) fs x → (d : Choice) → Among d (choices_ahead E y) → Among d (map (choice_at t m c) fs)
+  all_known x s g d h = go (last_view g.above)
+    where
+      same : y ≡ g.ahead_of
+      same = one_ahead t m c x y g.ahead_of s g.stands
+
+      go : (g.above ≡ []) ⊎ ((ys : List Ahead) × (v : Ahead) × (g.above ≡ ys ++ v ∷ [])) → Among d (map (choice_at t m c) fs)
+      go (inl e) = elim (g.all d (subst (λ (a : Ahead). Among d (choices_ahead E a)) same h)) [ inl a ↦ a | inr b ↦ absurd (subst (λ L. Among d (flat_map (choices_ahead E) L)) e b) ]
+      go (inr (ab, v, e)) =
+          let s : zs ++ y ∷ [] ≡ (g.below ++ ab) ++ v ∷ [] = g.split ∙ ap (λ L. g.below ++ L) e ∙ sym (append_then g.below ab (v ∷ [])) in
+          let r = same_last zs (g.below ++ ab) y v s in
+          let q = g.less y (subst (Among y) (sym e) (append_right y ab (v ∷ []) (inl (sym r.1)))) in
+          let f : steps_of E y.front ≡ steps_of E g.ahead_of.front = ap (λ (a : Ahead). steps_of E a.front) same in
+          absurd (omega arith)
+
+  gone_without : ((d : Choice) → Among d (choices_ahead E y) → Among d (map (choice_at t m c) fs)) → (k : Task) → IsGoneThrough E t m c (zs ++ y ∷ []) fs k → IsGoneThrough E t m c zs fs k
+  gone_without known k g = go (last_view g.above)
+    where
+      go : (g.above ≡ []) ⊎ ((ys : List Ahead) × (v : Ahead) × (g.above ≡ ys ++ v ∷ [])) → IsGoneThrough E t m c zs fs k
+      go (inl e) = record {
+        ahead_of = g.ahead_of;
+        stands = g.stands;
+        below = zs;
+        above = [];
+        split = sym (append_none zs);
+        less = λ w h. absurd h;
+        all = λ d h. elim (g.all d h) [ inl a ↦ inl a | inr b ↦ absurd (subst (λ L. Among d (flat_map (choices_ahead E) L)) e b) ];
+      }
+      go (inr (ab, v, e)) =
+          let s : zs ++ y ∷ [] ≡ (g.below ++ ab) ++ v ∷ [] = g.split ∙ ap (λ L. g.below ++ L) e ∙ sym (append_then g.below ab (v ∷ [])) in
+          let r = same_last zs (g.below ++ ab) y v s in
+          record {
+            ahead_of = g.ahead_of;
+            stands = g.stands;
+            below = g.below;
+            above = ab;
+            split = r.0;
+            less = λ w h. g.less w (subst (Among w) (sym e) (append_left w ab (v ∷ []) h));
+            all = λ d h. elim (g.all d h) [ inl a ↦ inl a | inr b ↦ moved d ab v (sym r.1) (subst (λ L. Among d (flat_map (choices_ahead E) L)) e b) ];
+          }
+        where
+          moved : (d : Choice) (ab : List Ahead) (v : Ahead) → v ≡ y → Among d (flat_map (choices_ahead E) (ab ++ v ∷ [])) →
+              Among d (map (choice_at t m c) fs) ⊎ Among d (flat_map (choices_ahead E) ab)
+          moved d ab v f h =
+              let r = mem_flat (choices_ahead E) d (ab ++ v ∷ []) h in
+              elim (mem_append r.0 ab (v ∷ []) r.1) [
+                | inl a ↦ inr (flat_mem (choices_ahead E) d r.0 ab a r.2)
+                | inr b ↦ inl (known d (last d r.0 v f b r.2))
+              ]
+            where
+              last : (d : Choice) (w v : Ahead) → v ≡ y → Among w (v ∷ []) → Among d (choices_ahead E w) → Among d (choices_ahead E y)
+              last d w v f (inl g) h = subst (λ (a : Ahead). Among d (choices_ahead E a)) (sym g ∙ f) h
+              last d w v f (inr n) h = absurd n
+
+-- each part takes a step
+some_steps : (E : Definitions) (K : Continuation) → 1 ≤ steps_of E K
+some_steps E [] = omega arith
+some_steps E (q ∷ K) = let h = some_cost E q.part in omega arith
+
 module _ (E : Definitions) (t : Tables) (m0 : List (Link ℕ)) (c0 : List (Link Piece)) (number : ℕ) where
-  pub expanding_first : number ≤ length c0 → ArePieces t m0 c0 → (xs : List Task) → xs ≡ record { cell = number; turn = None } ∷ [] → (fs : List Found) → fs ≡ [] → IsExpanding E t m0 m0 c0 c0 number xs fs
-  expanding_first h p xs e fs f =
-      subst (λ gs. IsExpanding E t m0 m0 c0 c0 number xs gs) (sym f)
-      (subst (λ ys. IsExpanding E t m0 m0 c0 c0 number ys []) (sym e) (record {
+  pub expanding_first : number ≤ length c0 → ArePieces t m0 c0 → (xs : List Task) → xs ≡ record { cell = number; turn = None } ∷ [] → (fs : List Found) → fs ≡ [] → (seen : List Task) → seen ≡ [] → IsExpanding E t m0 m0 c0 c0 number xs fs seen
+  expanding_first h p xs e fs f seen z =
+      subst (λ ks. IsExpanding E t m0 m0 c0 c0 number xs fs ks) (sym z)
+      (subst (λ gs. IsExpanding E t m0 m0 c0 c0 number xs gs []) (sym f)
+      (subst (λ ys. IsExpanding E t m0 m0 c0 c0 number ys [] []) (sym e) (record {
         adds = adds_none t m0 c0;
         pieces = p;
         waiting = ahead (continuation t m0 c0 number) None ∷ [];
         tasks_stand = (record { within = h; front = list_at c0 number; turn = None; list = sym (append-nil (list_at c0 number)); turned = tt; is = refl }, tt);
         found_stand = tt;
         alike = alike_same (append_none (choices_ahead E (ahead (continuation t m0 c0 number) None)) ∙ flat_one (choices E (continuation t m0 c0 number)));
-      }))
+        gone = λ x n. absurd n;
+      })))
 
-  module _ (m m' : List (Link ℕ)) (c c' : List (Link Piece)) (xs ys : List Task) (x : Task) (fs gs : List Found) (l : IsExpanding E t m0 m c0 c number (xs ++ x ∷ []) fs)
+  module _ (m m' : List (Link ℕ)) (c c' : List (Link Piece)) (xs ys : List Task) (x : Task) (fs gs : List Found) (seen : List Task) (l : IsExpanding E t m0 m c0 c number (xs ++ x ∷ []) fs seen)
       (s : (a : Ahead) → StandsFor t m c x a → IsExpanded E t m m' c c' xs ys fs gs a) where
     abbrev last_of : (zs : List Ahead) × (y : Ahead) × (l.waiting ≡ zs ++ y ∷ []) × AllZip (StandsFor t m c) xs zs × StandsFor t m c x y
     last_of = zip_last (StandsFor t m c) xs x l.waiting l.tasks_stand
@@ -226,7 +409,7 @@ module _ (E : Definitions) (t : Tables) (m0 : List (Link ℕ)) (c0 : List (Link 
         let h = work_append E w.0 (w.1 ∷ []) in
         let i = g.less in omega arith
 
-    pub expanding_on : IsExpanding E t m0 m' c0 c' number ys gs
+    pub expanding_on : IsExpanding E t m0 m' c0 c' number ys gs (seen ++ x ∷ [])
     expanding_on =
         let w = last_of in
         let g = s w.1 w.4 in
@@ -253,10 +436,70 @@ module _ (E : Definitions) (t : Tables) (m0 : List (Link ℕ)) (c0 : List (Link 
               (alike_trans
               (alike_same (ap (λ z. old ++ z) (sym (ap (flat_map (choices_ahead E)) (ap reverse w.2 ∙ reverse-append w.0 (w.1 ∷ []))))))
               l.alike)));
+          gone = λ k h.
+              elim (mem_append k seen (x ∷ []) h) [
+                | inl a ↦ gone_on E t m m' c c' g.adds l.pieces fs gs l.found_stand w.0 w.1 g.own g.left g.alike g.less g.items.alike k (subst (λ ws. IsGoneThrough E t m c ws fs k) w.2 (l.gone k a))
+                | inr b ↦ itself k b (gone_new E t m m' c c' g.adds l.pieces fs gs l.found_stand w.0 w.1 g.own g.left g.alike g.less g.items.alike x w.4)
+              ];
+        }
+      where
+        itself : {ws : List Ahead} (k : Task) → Among k (x ∷ []) → IsGoneThrough E t m' c' ws gs x → IsGoneThrough E t m' c' ws gs k
+        itself {ws} k (inl e) i = subst (λ z. IsGoneThrough E t m' c' ws gs z) e i
+        itself k (inr n) i = absurd n
+
+  -- a task that comes again
+  module _ (m : List (Link ℕ)) (c : List (Link Piece)) (xs : List Task) (x : Task) (fs : List Found) (seen : List Task) (l : IsExpanding E t m0 m c0 c number (xs ++ x ∷ []) fs seen) where
+    abbrev again_of : (zs : List Ahead) × (y : Ahead) × (l.waiting ≡ zs ++ y ∷ []) × AllZip (StandsFor t m c) xs zs × StandsFor t m c x y
+    again_of = zip_last (StandsFor t m c) xs x l.waiting l.tasks_stand
+
+    pub again_less : all_steps E t m c xs + 1 ≤ all_steps E t m c (xs ++ x ∷ [])
+    again_less =
+        let w = again_of in
+        let a = tasks_are E t m c xs w.0 w.3 in
+        let e = tasks_are E t m c (xs ++ x ∷ []) l.waiting l.tasks_stand in
+        let f : work_left E l.waiting ≡ work_left E (w.0 ++ w.1 ∷ []) = ap (work_left E) w.2 in
+        let h = work_append E w.0 (w.1 ∷ []) in
+        let i = some_steps E w.1.front in omega arith
+
+    pub again_on : Among x seen → IsExpanding E t m0 m c0 c number xs fs seen
+    again_on there =
+        let w = again_of in
+        let known = all_known E t m c fs w.0 w.1 x w.4 (subst (λ ws. IsGoneThrough E t m c ws fs x) w.2 (l.gone x there)) in
+        let old : List Choice = map (choice_at t m c) fs in
+        let rest : List Choice = flat_map (choices_ahead E) (reverse w.0) in
+        record {
+          adds = l.adds;
+          pieces = l.pieces;
+          waiting = w.0;
+          tasks_stand = w.3;
+          found_stand = l.found_stand;
+          alike =
+              alike_trans (alike_append (alike_sym (alike_known old (choices_ahead E w.1) known)) (alike_refl rest))
+              (alike_trans
+              (alike_same (append_then old (choices_ahead E w.1) rest ∙ ap (λ z. old ++ z) (sym (ap (flat_map (choices_ahead E)) (ap reverse w.2 ∙ reverse-append w.0 (w.1 ∷ []))))))
+              l.alike);
+          gone = λ k h. gone_without E t m c fs w.0 w.1 known k (subst (λ ws. IsGoneThrough E t m c ws fs k) w.2 (l.gone k h));
         }
 
-  pub all_found : (m : List (Link ℕ)) (c : List (Link Piece)) (fs : List Found) → IsExpanding E t m0 m c0 c number [] fs → AreFound E t m0 m c0 c number fs
-  all_found m c fs l = record {
+  -- a task that was looked at, seen before or not
+  module _ (m m' : List (Link ℕ)) (c c' : List (Link Piece)) (xs ys : List Task) (x : Task) (fs gs : List Found) (seen seen' : List Task) (l : IsExpanding E t m0 m c0 c number (xs ++ x ∷ []) fs seen) where
+    pub visited_less : IsVisited E t m m' c c' xs ys fs gs seen seen' x → all_steps E t m' c' ys + 1 ≤ all_steps E t m c (xs ++ x ∷ [])
+    visited_less (inl v) =
+        let e : all_steps E t m' c' ys ≡ all_steps E t m c xs = ap (λ n. all_steps E t n c' ys) v.marks_same ∙ ap (λ d. all_steps E t m d ys) v.cells_same ∙ ap (all_steps E t m c) v.tasks_same in
+        let h = again_less m c xs x fs seen l in omega arith
+    visited_less (inr v) = expanding_less m m' c c' xs ys x fs gs seen l v.expanded
+
+    pub visited_on : IsVisited E t m m' c c' xs ys fs gs seen seen' x → IsExpanding E t m0 m' c0 c' number ys gs seen'
+    visited_on (inl v) =
+        subst (λ n. IsExpanding E t m0 n c0 c' number ys gs seen') (sym v.marks_same)
+        (subst (λ d. IsExpanding E t m0 m c0 d number ys gs seen') (sym v.cells_same)
+        (subst (λ zs. IsExpanding E t m0 m c0 c number zs gs seen') (sym v.tasks_same)
+        (subst (λ hs. IsExpanding E t m0 m c0 c number xs hs seen') (sym v.found_same)
+        (subst (λ ks. IsExpanding E t m0 m c0 c number xs fs ks) (sym v.seen_same) (again_on m c xs x fs seen l v.among)))))
+    visited_on (inr v) = subst (λ ks. IsExpanding E t m0 m' c0 c' number ys gs ks) (sym v.entered) (expanding_on m m' c c' xs ys x fs gs seen l v.expanded)
+
+  pub all_found : (m : List (Link ℕ)) (c : List (Link Piece)) (fs : List Found) (seen : List Task) → IsExpanding E t m0 m c0 c number [] fs seen → AreFound E t m0 m c0 c number fs
+  all_found m c fs seen l = record {
     adds = l.adds;
     stand = l.found_stand;
     alike = alike_trans (alike_same (sym (append_none (map (choice_at t m c) fs)) ∙ ap (λ (ws : List Ahead). map (choice_at t m c) fs ++ flat_map (choices_ahead E) (reverse ws)) (sym (zip_none (StandsFor t m c) l.waiting l.tasks_stand)))) l.alike;

@@ -1,10 +1,13 @@
 -- What is kept where it stands first.
-use Rattle.std.proofs.Common.{◌≡◌, ◌&&◌, ◌||◌, ℕ, Bool, true, false, nat_eq, refl, ap, ◌∙◌, List, [], ◌∷◌, ◌++◌, inl, inr}
+use Rattle.std.proofs.Common.{◌≡◌, ◌&&◌, ◌||◌, not, ℕ, Bool, true, false, nat_eq, Option, Some, None, refl, ap, sym, subst, ◌∙◌, List, [], ◌∷◌, ◌++◌, inl, inr}
 use mathlib.Core.Bool.{beq}
 use Rattle.std.specs.List.{list_any}
 use Rattle.std.specs.Prelude.{if◌then◌else◌}
 use Rattle.xd_syntax.specs.Ways.{Among}
+use Rattle.std.specs.Option.{option_eq}
 use Rattle.xd_patterns.specs.Tasks.{HasFound}
+use Rattle.xd_patterns.specs.Expanding.{Enters}
+use Rattle.xd_patterns.specs.declared.expand.Task.{Task}
 use Rattle.xd_patterns.specs.declared.chains.Piece.{Piece}
 use Rattle.xd_patterns.specs.declared.expand.Found.{Found}
 use Rattle.xd_patterns.proofs.LinkTests.{both, same_bit, same_number, piece_test, same_piece}
@@ -34,3 +37,35 @@ has_found old new f e = go (list_any (found_test f) old) refl e
     go : (b : Bool) → list_any (found_test f) old ≡ b → new ≡ if b then old else old ++ f ∷ [] → HasFound old f new
     go true i q = inl (any_among f old i, q)
     go false i q = inr q
+
+-- the same of tasks
+
+abbrev task_test : Task → Task → Bool
+task_test x y = nat_eq x.cell y.cell && option_eq nat_eq x.turn y.turn
+
+same_turn : (o u : Option ℕ) → option_eq nat_eq o u ≡ true → u ≡ o
+same_turn None None h = refl
+same_turn None (Some n) h = cc
+same_turn (Some m) None h = cc
+same_turn (Some m) (Some n) h = ap Some (same_number m n h)
+
+same_task : (x y : Task) → task_test x y ≡ true → y ≡ x
+same_task x y h =
+    let a = both (nat_eq x.cell y.cell) (option_eq nat_eq x.turn y.turn) h in
+    ap (λ (n : ℕ). let r : Task = record { cell = n; turn = y.turn } in r) (same_number x.cell y.cell a.0)
+    ∙ ap (λ (o : Option ℕ). let r : Task = record { cell = x.cell; turn = o } in r) (same_turn x.turn y.turn a.1)
+
+any_task : (x : Task) (xs : List Task) → list_any (task_test x) xs ≡ true → Among x xs
+any_task x [] h = cc
+any_task x (y ∷ xs) h = go (task_test x y) refl h (λ k. any_task x xs k)
+  where
+    go : (b : Bool) → task_test x y ≡ b → (b || list_any (task_test x) xs) ≡ true → (list_any (task_test x) xs ≡ true → Among x xs) → Among x (y ∷ xs)
+    go true e k rec = inl (same_task x y e)
+    go false e k rec = inr (rec k)
+
+pub enters : (old new : List Task) (x : Task) (first : Bool) → new ≡ (if list_any (task_test x) old then old else old ++ x ∷ []) → first ≡ not (list_any (task_test x) old) → Enters old x new first
+enters old new x first e f = go (list_any (task_test x) old) refl e f
+  where
+    go : (b : Bool) → list_any (task_test x) old ≡ b → new ≡ (if b then old else old ++ x ∷ []) → first ≡ not b → Enters old x new first
+    go true i q f = subst (Enters old x new) (sym f) (any_task x old i, q)
+    go false i q f = subst (Enters old x new) (sym f) q

@@ -14,3 +14,5 @@ pub mod Sparing
 pub mod StateLemmas
 pub mod MoveLemmas
 pub mod CompileLemmas
+pub mod Serving
+pub mod PlainTypes

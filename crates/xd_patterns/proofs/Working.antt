@@ -145,3 +145,21 @@ step_less E guarded xs (Plus T) K u =
 step_less E guarded xs (Opt T) K u =
     let e = times_plus (cost_by (cost_of_name E (length E)) T).stops 1 (steps_of E K) in omega arith
 step_less E guarded xs (Val y T) K u = omega arith
+
+-- each part takes a step
+pub some_cost : (E : Definitions) (T : Tree) → 1 ≤ (cost E T).steps
+unfolding cost
+some_cost E T = go (cost_of_name E (length E)) T
+  where
+    go : (N : List ℕ → Cost) (T : Tree) → 1 ≤ (cost_by N T).steps
+    go N Empty = omega arith
+    go N Text = omega arith
+    go N (Words w) = omega arith
+    go N (Name y) = omega arith
+    go N (Elem c T) = omega arith
+    go N (Seq T U) = omega arith
+    go N (Alt T U) = omega arith
+    go N (Star T) = omega arith
+    go N (Plus T) = omega arith
+    go N (Opt T) = omega arith
+    go N (Val y T) = omega arith

@@ -8,3 +8,4 @@ pub mod Marked
 pub mod Variables
 pub mod Compiling
 pub mod Held
+pub mod Compiler

@@ -8,7 +8,7 @@ ghost use Rattle.xd_laws.specs.Guarded.{Guarded};
 ghost use Rattle.xd_runs.specs.Steps.{Ahead};
 ghost use Rattle.xd_patterns.specs.Pieces.{IsPieceOf, Sees};
 ghost use Rattle.xd_patterns.specs.Tasks.{rows_of, AreBodies, IsPiece, PushesPart, PushesBody, HasFound, IsStep, meanings, ArePieces, StandsFor};
-ghost use Rattle.xd_patterns.specs.Expanding.{ends_turn, IsExpanded, AreFound};
+ghost use Rattle.xd_patterns.specs.Expanding.{ends_turn, Enters, IsExpanded, IsVisited, AreFound};
 
 use crate::bodies::Bodies;
 use crate::chains::{Cells, Link, Marks, Piece};
@@ -19,7 +19,7 @@ use xd_doc::{Label, NoMemory};
 use xd_syntax::{Patterns, TypeDef, Types};
 
 /// A list of pieces that stands ahead; in a turn of a repetition, the list that stands behind the turn.
-#[derive(Clone, Copy, Debug)]
+#[derive(Clone, Copy, Debug, PartialEq, Eq, Hash)]
 pub(crate) struct Task {
     pub cell: usize,
     pub turn: Option<usize>,
@@ -256,9 +256,50 @@ fn step(
     Ok(())
 }
 
+/// Whether a task comes for the first time.
+fn is_first(task: Task, seen: &mut IndexSet<Task>) -> Result<bool, NoMemory>
+    ensures { IfOk result (Enters seen.old.keys task seen.new.keys) }
+{
+    let (_, is_new) = seen.insert_full(task)?;
+    Ok(is_new)
+}
+
+/// One step of a task, where it comes for the first time.
+///
+/// When a task comes again, all that it finds was found: it takes more steps than any task that it leads to, so it can't
+/// come among these.
+fn visit(
+    types: &Types,
+    patterns: &Patterns,
+    defs: &[TypeDef],
+    bodies: &Bodies,
+    task: Task,
+    cells: &mut Cells,
+    marks: &mut Marks,
+    tasks: &mut Vec<Task>,
+    found: &mut IndexSet<Found>,
+    seen: &mut IndexSet<Task>,
+) -> Result<(), NoMemory>
+    requires guarded { Guarded (meanings types.now defs.now) }
+    requires bodies { AreBodies types.now (meanings types.now defs.now) (node_of bodies.now) }
+    requires pieces { ArePieces (record { types = types.now; patterns = patterns.now }) marks.old cells.old }
+    requires task { task.cell ≤ length cells.old }
+    ensures { OnOk result (IsVisited (meanings types.now defs.now) (record { types = types.now; patterns = patterns.now }) marks.old marks.new cells.old cells.new tasks.old.items tasks.new.items found.old.keys found.new.keys seen.old.keys seen.new.keys task) }
+{
+    let is_new = is_first(task, seen)?;
+    if !is_new {
+        return Ok(());
+    }
+    step(
+        types, patterns, defs, bodies, task, cells, marks, tasks, found,
+    )?;
+    Ok(())
+}
+
 /// All that can come next in a list of pieces, each once, in order of preference.
 ///
-/// A part of a pattern that comes again in the same place, as by a name in two alternatives, is gone through again.
+/// A part of a pattern that comes again in the same place with the same marks, as by a name in two alternatives, is gone
+/// through once.
 pub(crate) fn expand(
     alloc: Global,
     types: &Types,
@@ -277,13 +318,14 @@ pub(crate) fn expand(
 {
     let mut tasks = Vec::new(alloc);
     let mut found = IndexSet::new(alloc);
+    let mut seen = IndexSet::new(alloc);
     tasks.push(Task {
         cell: number,
         turn: None,
     })?;
     while let Some(task) = tasks.pop() {
-        step(
-            types, patterns, defs, bodies, task, cells, marks, &mut tasks, &mut found,
+        visit(
+            types, patterns, defs, bodies, task, cells, marks, &mut tasks, &mut found, &mut seen,
         )?;
     }
     Ok(found)

@@ -4,10 +4,14 @@
 mod bodies;
 mod chains;
 mod compile;
+mod compiler;
 mod expand;
 mod marked;
 mod pieces;
+mod plain;
+mod start;
 mod variables;
 
 pub use bodies::Bodies;
+pub use compiler::{PatternCompiler, compilers_stay};
 pub use marked::{Marked, compile_pattern};

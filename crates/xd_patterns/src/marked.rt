@@ -14,8 +14,9 @@ ghost use Rattle.xd_patterns.specs.Tasks.{AreBodies, meanings};
 ghost use Rattle.xd_patterns.specs.Variables.{words_of};
 
 use crate::bodies::Bodies;
-use crate::chains::{Cells, Marks, Piece};
-use crate::compile::{StateMarks, compile, state_of};
+use crate::chains::{Marks, Piece};
+use crate::compile::StateMarks;
+use crate::start::compile_piece;
 use crate::variables::{Numbers, number_lists, variables};
 use indexmap::IndexSet;
 use std::alloc::Global;
@@ -120,9 +121,7 @@ pub fn compile_pattern(
     ensures compiled { IfOk result (λ marked. IsCompiled (meanings types.now defs.now) (pattern_tree patterns.now pattern) auto.new (marking_of marked) marked.start) }
 {
     let base = auto.len();
-    let mut cells = Cells::new(alloc);
     let mut marks = Marks::new(alloc);
-    let mut states = IndexSet::new(alloc);
     let piece = Piece {
         of_pattern: true,
         node: pattern.at(),
@@ -130,19 +129,8 @@ pub fn compile_pattern(
         is_turns: false,
         marks: 0,
     };
-    let first = cells.put(piece, 0)?;
-    let start = state_of(first, base, &mut states, auto)?;
-    let table = compile(
-        alloc,
-        types,
-        patterns,
-        defs,
-        bodies,
-        base,
-        &mut cells,
-        &mut marks,
-        &mut states,
-        auto,
+    let (start, table) = compile_piece(
+        alloc, types, patterns, defs, bodies, piece, &mut marks, auto,
     )?;
     let variables = variables(alloc, patterns, pattern)?;
     let lists = number_lists(alloc, patterns, &marks, &variables)?;

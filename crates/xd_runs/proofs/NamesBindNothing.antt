@@ -5,7 +5,7 @@ use Rattle.xd_syntax.specs.Proper.{IsProperTree}
 use Rattle.xd_laws.proofs.Suiting.{bind_nothing}
 use Rattle.xd_runs.specs.Laws.{NamesBindNothing}
 
-none_in : (T : Tree) → IsProperTree false T → occurrences T ≡ []
+pub none_in : (T : Tree) → IsProperTree false T → occurrences T ≡ []
 none_in Empty p = refl
 none_in Text p = refl
 none_in (Words w) p = refl

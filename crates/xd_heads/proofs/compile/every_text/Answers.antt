@@ -1,6 +1,6 @@
 use Rattle.std.proofs.Common.{◌∙◌, ℕ, List, ap}
 use Rattle.xd_doc.specs.Classes.{is_named}
-use Rattle.xd_heads.proofs.StateLemmas.{names_none}
+use Rattle.xd_continuations.proofs.AllNames.{names_none}
 use Rattle.xd_heads.proofs.compile.every_text.Goals as goal
 
 pub returns : goal.returns

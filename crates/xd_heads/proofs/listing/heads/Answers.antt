@@ -7,7 +7,7 @@ use Rattle.xd_laws.specs.Heads.{heads}
 use Rattle.xd_continuations.specs.Continuation.{head_of}
 use Rattle.xd_heads.specs.Found.{move_at}
 use Rattle.xd_heads.specs.declared.expand.Found.{Found}
-use Rattle.xd_heads.proofs.Mirrored.{tree_stays}
+use Rattle.xd_continuations.proofs.GrownTables.{tree_stays}
 use Rattle.xd_heads.proofs.listing.heads.Goals as goal
 
 pub returns-clause-heads : goal.returns-clause-heads

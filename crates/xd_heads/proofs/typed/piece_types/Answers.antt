@@ -2,7 +2,7 @@ use Rattle.std.proofs.Common.{◌<◌, length, arith, sym, subst}
 use Rattle.xd_heads.specs.declared.cells.Cell.{Cell}
 use Rattle.xd_continuations.proofs.Reaching.{all_among}
 use Rattle.xd_heads.proofs.Growing.{grows_then}
-use Rattle.xd_heads.proofs.Mirrored.{more_rows}
+use Rattle.xd_continuations.proofs.GrownTables.{more_rows}
 use Rattle.xd_heads.proofs.Typing.{IsTyping, typing_more, typing_all}
 use Rattle.xd_heads.proofs.typed.piece_types.Goals as goal
 

@@ -8,7 +8,8 @@ use Rattle.xd_syntax.specs.Kept.{ProgramTable, program_tree}
 use Rattle.xd_syntax.specs.Program.{ProgramTree, names_of}
 use Rattle.xd_heads.specs.Mirrors.{continuation_of, KeepsStates, Mirrors}
 use Rattle.xd_heads.proofs.Sparing.{spares_extends}
-use Rattle.xd_heads.proofs.Mirrored.{mirrors_stay, tree_stays}
+use Rattle.xd_continuations.proofs.GrownTables.{tree_stays}
+use Rattle.xd_heads.proofs.Mirrored.{mirrors_stay}
 use Rattle.xd_heads.proofs.Wrapping.{keeps_from, type_state}
 use Rattle.xd_heads.proofs.types.compile_type.Goals as goal
 

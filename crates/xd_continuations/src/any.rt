@@ -29,7 +29,7 @@ fn any_nodes(alloc: Global) -> Result<(Types, TypeId), NoMemory>
 }
 
 /// The type that `Any` stands for, as a type of the program.
-pub(crate) fn meaning_of_any(alloc: Global, sound: &mut SoundProgram) -> Result<TypeId, NoMemory>
+pub fn meaning_of_any(alloc: Global, sound: &mut SoundProgram) -> Result<TypeId, NoMemory>
     ensures found { IfOk result (IsTypeAt sound.new.types any_type) }
     ensures adds { AddsTypes sound.old sound.new }
     ensures same { program_tree sound.new ≡ program_tree sound.old }

@@ -6,9 +6,9 @@ use Rattle.xd_syntax.specs.Tree.{Tree, Name, Elem, Alt, Star, Text, all_labels, 
 use Rattle.xd_syntax.specs.Table.{Row, IsAltPart, KeepsRows, tree_at}
 use Rattle.xd_syntax.specs.Types.{type_numbers}
 use Rattle.xd_syntax.specs.declared.types.TypeId.{TypeId}
-use Rattle.xd_heads.proofs.StateLemmas.{names_none}
-use Rattle.xd_heads.proofs.Mirrored.{tree_stays, more_rows}
-use Rattle.xd_heads.proofs.any.any_nodes.Goals as goal
+use Rattle.xd_continuations.proofs.GrownTables.{tree_stays, more_rows}
+use Rattle.xd_continuations.proofs.AllNames.{names_none}
+use Rattle.xd_continuations.proofs.any.any_nodes.Goals as goal
 
 -- the element and the text in the table that has both
 part_trees : (t1 t2 t3 : List Row) (n e x : ℕ) (w : List ℕ) (k : LabelClass) → KeepsRows t2 t3 → e < length t2 → tree_at t1 n ≡ Name w → w ≡ any_word → k ≡ all_labels →

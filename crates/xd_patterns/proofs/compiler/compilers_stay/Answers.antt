@@ -1,0 +1,5 @@
+use Rattle.xd_patterns.proofs.Serving.{serves_stays}
+use Rattle.xd_patterns.proofs.compiler.compilers_stay.Goals as goal
+
+pub returns : goal.returns
+returns c = serves_stays

@@ -1,0 +1,114 @@
+//! What compiles the patterns of a program.
+
+ghost use Rattle.std.specs.Prelude.{◌≡◌, true, ◌↔◌, IfOk};
+ghost use Rattle.xd_auto.specs.Automaton.{accepts, Extends, IsState, KeepsAccepting};
+ghost use Rattle.xd_doc.specs.Document.{Document};
+ghost use Rattle.xd_syntax.specs.Fits.{Fits};
+ghost use Rattle.xd_syntax.specs.Types.{BelongsTo, tree};
+ghost use Rattle.xd_runs.specs.Linear.{IsLinear};
+ghost use Rattle.xd_syntax.specs.Bindings.{variables_of};
+ghost use Rattle.xd_syntax.specs.Kept.{AddsTypes, program_tree};
+ghost use Rattle.xd_syntax.specs.Patterns.{IsPattern, pattern_tree};
+ghost use Rattle.xd_syntax.specs.Program.{names_of};
+ghost use Rattle.xd_syntax.specs.Shallow.{IsShallow};
+ghost use Rattle.xd_patterns.specs.Compiler.{Serves, ServesStays};
+ghost use Rattle.xd_patterns.specs.Held.{marking_of, variables_in};
+ghost use Rattle.xd_patterns.specs.Marked.{IsCompiled};
+
+use crate::bodies::Bodies;
+use crate::marked::{Marked, compile_pattern};
+use crate::plain::compile_plain;
+use std::alloc::Global;
+use xd_auto::{Auto, State};
+use xd_continuations::meaning_of_any;
+use xd_doc::NoMemory;
+use xd_syntax::{PatternId, SoundProgram, TypeId};
+
+/// Compiles the patterns of one program: it knows what the names of types stand for.
+#[derive(Drop)]
+pub struct PatternCompiler {
+    bodies: Bodies,
+}
+
+impl PatternCompiler {
+    /// That of a program. What `Any` stands for is added to its types.
+    pub fn new(alloc: Global, sound: &mut SoundProgram) -> Result<Self, NoMemory>
+        ensures serves { IfOk result (Serves sound.new) }
+        ensures adds { AddsTypes sound.old sound.new }
+        ensures same { program_tree sound.new ≡ program_tree sound.old }
+        ensures shallow { IsShallow sound.old.types → IsShallow sound.new.types }
+    {
+        let any = meaning_of_any(alloc, sound)?;
+        let program = sound.program();
+        let bodies = Bodies::new(alloc, program.type_defs(), any.at())?;
+        Ok(Self { bodies })
+    }
+
+    /// Adds the states of a pattern, whose moves stand in order of preference.
+    pub fn compile(
+        &self,
+        alloc: Global,
+        sound: &SoundProgram,
+        pattern: PatternId,
+        auto: &mut Auto,
+    ) -> Result<Marked, NoMemory>
+        requires serves { Serves sound.now self.now }
+        requires pattern { IsPattern sound.now.patterns pattern }
+        requires linear { IsLinear (pattern_tree sound.now.patterns pattern) }
+        ensures extends { Extends auto.old auto.new }
+        ensures keeps { KeepsAccepting auto.old auto.new }
+        ensures start { IfOk result (λ marked. IsState auto.new marked.start) }
+        ensures variables { IfOk result (λ marked. variables_in marked ≡ variables_of (pattern_tree sound.now.patterns pattern)) }
+        ensures compiled { IfOk result (λ marked. IsCompiled (names_of (program_tree sound.now)) (pattern_tree sound.now.patterns pattern) auto.new (marking_of marked) marked.start) }
+    {
+        let program = sound.program();
+        let marked = compile_pattern(
+            alloc,
+            program.types(),
+            program.patterns(),
+            program.type_defs(),
+            &self.bodies,
+            pattern,
+            auto,
+        )?;
+        Ok(marked)
+    }
+
+    /// Adds a state that accepts exactly what fits a type of the program.
+    ///
+    /// It is for tests of membership: where a type has the same part twice, the state has the moves of one, and not one for
+    /// each head of the type.
+    pub fn compile_plain_type(
+        &self,
+        alloc: Global,
+        sound: &SoundProgram,
+        id: TypeId,
+        auto: &mut Auto,
+    ) -> Result<State, NoMemory>
+        requires serves { Serves sound.now self.now }
+        requires belongs { BelongsTo sound.now.types id }
+        ensures extends { Extends auto.old auto.new }
+        ensures keeps { KeepsAccepting auto.old auto.new }
+        ensures state { IfOk result (IsState auto.new) }
+        ensures accepts { IfOk result (λ state. (d : Document) → (accepts auto.new d state ≡ true) ↔ Fits (names_of (program_tree sound.now)) (tree sound.now.types id) d) }
+    {
+        let program = sound.program();
+        let types = program.types();
+        types.see_table();
+        let state = compile_plain(
+            alloc,
+            types,
+            program.patterns(),
+            program.type_defs(),
+            &self.bodies,
+            id,
+            auto,
+        )?;
+        Ok(state)
+    }
+}
+
+/// What compiles a program's patterns goes on to do so while types are added to it.
+pub fn compilers_stay()
+    ensures { ServesStays }
+{}
