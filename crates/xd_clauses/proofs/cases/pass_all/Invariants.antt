@@ -1,0 +1,15 @@
+use Rattle.std.proofs.Common.{◌↔◌, take}
+use Rattle.xd_doc.specs.Document.{Document}
+use Rattle.xd_auto.specs.Automaton.{IsState}
+use Rattle.xd_syntax.specs.Kept.{program_tree}
+use Rattle.xd_syntax.specs.May.{NoneTakes}
+use Rattle.xd_syntax.specs.Program.{names_of}
+use Rattle.xd_clauses.specs.Cases.{placed_patterns}
+use Rattle.xd_clauses.specs.Clauses.{Comes}
+use Rattle.xd_clauses.proofs.cases.pass_all.Given as goal
+
+abbrev pub invariant-loop-id : goal.invariant-loop-id
+invariant-loop-id l = record {
+  belongs : IsState l.arriving.auto l.arriving.state;
+  exact : (d : Document) → Comes l.arriving d ↔ (Comes l.fn.arriving d × NoneTakes (names_of (program_tree l.sound)) (placed_patterns l.sound.patterns (take l.id-index l.patterns)) d);
+}

@@ -1,0 +1,5 @@
+pub mod Owning
+pub mod OfPatterns
+pub mod Clauses
+pub mod Cases
+pub mod Laws
