@@ -1,0 +1,224 @@
+-- Clauses of a match: what comes to each, and what its variables may be.
+use Rattle.std.proofs.Common.{◌≡◌, ◌↔◌, ℕ, true, false, ◌||◌, ◌⊎◌, List, [], ◌∷◌, ◌++◌, map, Bool, cond, inl, inr, Option, Some, None, refl, ap, sym, subst, ◌∙◌}
+use Rattle.std.specs.List.{AllByRecursion}
+use Rattle.std.specs.Str.{bytes_eq}
+use Rattle.xd_base.specs.declared.Place.{Place}
+use Rattle.xd_doc.specs.Document.{Document, is_proper}
+use Rattle.xd_doc.specs.Stored.{Keeps}
+use Rattle.xd_auto.specs.declared.auto.State.{State}
+use Rattle.xd_auto.specs.Automaton.{Automaton, IsState, accepts}
+use Rattle.xd_syntax.specs.Words.{has_word}
+use Rattle.xd_syntax.specs.Tree.{Definitions, occurrences}
+use Rattle.xd_syntax.specs.Placed.{PlacedTree, unplaced, variables, place_of}
+use Rattle.xd_syntax.specs.Bindings.{each_once, variables_of}
+use Rattle.xd_syntax.specs.Ways.{Takes}
+use Rattle.xd_syntax.specs.NameFaults.{without}
+use Rattle.xd_syntax.specs.Expression.{Expression, Matched, Clauses, no_clause, clause}
+use Rattle.xd_syntax.specs.Program.{ProgramTree, names_of}
+use Rattle.xd_syntax.specs.May.{Scope, clause_entry, Allows, Arrives, IsLive, May, MayBind, MayClauses, WhereTrue}
+use Rattle.xd_syntax.specs.CheckFaults.{Line, Comes, IsLiveIn, LineWhere, LinesOf, LinesOfClauses, dead_clause, not_exhaustive}
+use Rattle.xd_laws.proofs.Unfoldings.{same_word_eq}
+use Rattle.xd_laws.proofs.OrderedBindings.{has_once}
+use Rattle.xd_laws.proofs.LinearPatterns.{left_without}
+use Rattle.xd_laws.proofs.WordLists.{either, or_left, or_right}
+use Rattle.xd_check.specs.declared.lines.FoundLine.{FoundLine}
+use Rattle.xd_check.specs.declared.variables.Variable.{Variable}
+use Rattle.xd_check.specs.FoundLines.{AddsLines}
+use Rattle.xd_check.specs.InScope.{AcceptedBy, ScopeStands, state_of}
+use Rattle.xd_check.specs.Walked.{AcceptedBySome, AcceptsJust, AreClausesWalked, ComesBehind, Grows, IsClauseWalked, IsWalked, LinesOfClause, with_found}
+use Rattle.xd_check.proofs.LineLists.{adds_as, adds_both}
+use Rattle.xd_check.proofs.Going.{Goes, goes_begin, goes_end, goes_more}
+
+-- a word of the list stands among its words, each once
+once_has : (xs : List (List ℕ)) (x : List ℕ) → has_word xs x ≡ true → has_word (each_once xs) x ≡ true
+once_has [] x h = h
+once_has (y ∷ ys) x h =
+    elim (either (bytes_eq y x) (has_word ys x) h) [
+      | inl a ↦ or_left (bytes_eq y x) (has_word (without (y ∷ []) (each_once ys)) x) a
+      | inr b ↦
+          or_right (bytes_eq y x) (has_word (without (y ∷ []) (each_once ys)) x)
+          (left_without (y ∷ []) (each_once ys) x (once_has ys x b.1) (rw b.0 refl))
+    ]
+
+module _ (P : ProgramTree) (S : Scope) (e : Expression) (earlier : List PlacedTree) (C : Document → Type 0) (comes : ComesBehind P S e earlier C) where
+  abbrev E : Definitions
+  E = names_of P
+
+  arrives_from : (d : Document) → Arrives E C [] d → Arrives E (May P S e) earlier d
+  arrives_from d h = let i = (comes d h.0).0 h.1 in (h.0, i.0, i.1)
+
+  arrives_to : (d : Document) → Arrives E (May P S e) earlier d → Arrives E C [] d
+  arrives_to d h = (h.0, (comes d h.0).1 (h.1, h.2), tt)
+
+  pub live_from : (Q : PlacedTree) → IsLive E C [] Q → IsLiveIn P S e earlier Q
+  live_from Q h = (h.0, arrives_from h.0 h.1, h.2)
+
+  pub live_to : (Q : PlacedTree) → IsLiveIn P S e earlier Q → IsLive E C [] Q
+  live_to Q h = (h.0, arrives_to h.0 h.1, h.2)
+
+  bind_from : (Q : PlacedTree) (x : List ℕ) (d : Document) → MayBind E C [] Q x d → MayBind E (May P S e) earlier Q x d
+  bind_from Q x d h = (h.0, h.1, arrives_from h.0 h.2, h.3, h.4)
+
+  bind_to : (Q : PlacedTree) (x : List ℕ) (d : Document) → MayBind E (May P S e) earlier Q x d → MayBind E C [] Q x d
+  bind_to Q x d h = (h.0, h.1, arrives_to h.0 h.2, h.3, h.4)
+
+  -- what is left comes behind the pattern too
+  pub passed : (Q : PlacedTree) (D : Document → Type 0) → ((d : Document) → D d ↔ (C d × (Takes E (unplaced Q) d → ⊥))) → ComesBehind P S e (Q ∷ earlier) D
+  passed Q D h d p = (
+    (λ m. (let i = (h d).0 m in let j = (comes d p).0 i.0 in (j.0, (i.1, j.1)))),
+    (λ m. (h d).1 ((comes d p).1 (m.0, (m.1).1), (m.1).0)),
+  )
+
+  -- what comes behind all patterns
+  pub comes_to : (d : Document) → is_proper d ≡ true → Comes P S e earlier d → C d
+  comes_to d p h = (comes d p).1 (h.1, h.2)
+
+  pub comes_from : (d : Document) → is_proper d ≡ true → C d → Comes P S e earlier d
+  comes_from d p h = let i = (comes d p).0 h in (p, i.0, i.1)
+
+  -- variables with states that accept what the pattern may bind them to, in front of a scope
+  module _ (Q : PlacedTree) (a : Automaton) (vs : List Variable) (stands : ScopeStands P S a vs) where
+    abbrev pub IsBound : Variable → Type 0
+    IsBound v = (d : Document) → is_proper d ≡ true → (accepts a d v.state ≡ true) ↔ MayBind E C [] Q v.name d
+
+    abbrev pub names : List Variable → List (List ℕ)
+    names us = map (λ (v : Variable). v.name) us
+
+    abbrev Within : List Variable → List ℕ → Document → Type 0
+    Within us x d = AcceptedBy a (state_of (us ++ vs) x) d ↔ WhereTrue (has_word (names us) x) (MayBind E (May P S e) earlier Q x d) (Allows P S x d)
+
+    bound_at : (us : List Variable) → AllByRecursion IsBound us → (x : List ℕ) (d : Document) → is_proper d ≡ true → Within us x d
+    bound_at [] b x d p = stands x d p
+    bound_at (v ∷ us) b x d p = go (bytes_eq v.name x) refl (bound_at us b.1 x d p)
+      where
+        go : (t : Bool) → bytes_eq v.name x ≡ t → Within us x d →
+            AcceptedBy a (cond t (Some v.state) (state_of (us ++ vs) x)) d ↔ WhereTrue (t || has_word (names us) x) (MayBind E (May P S e) earlier Q x d) (Allows P S x d)
+        go true q r =
+            (let s : v.name ≡ x = same_word_eq v.name x q in (
+              (λ m. bind_from Q x d (subst (λ y. MayBind E C [] Q y d) s ((b.0 d p).0 m))),
+              (λ m. (b.0 d p).1 (subst (λ y. MayBind E C [] Q y d) (sym s) (bind_to Q x d m))),
+            ))
+        go false q r = r
+
+    same_words : (x : List ℕ) → has_word (variables_of (unplaced Q)) x ≡ has_word (variables Q) x
+    same_words x = go (has_word (variables_of (unplaced Q)) x) refl (has_word (variables Q) x) refl
+      where
+        go : (s : Bool) → has_word (variables_of (unplaced Q)) x ≡ s → (t : Bool) → has_word (variables Q) x ≡ t → s ≡ t
+        go true f true g = refl
+        go true f false g = (let k : has_word (variables Q) x ≡ true = has_once (occurrences (unplaced Q)) x f in sym k ∙ g)
+        go false f true g = (let k : has_word (variables_of (unplaced Q)) x ≡ true = once_has (occurrences (unplaced Q)) x g in sym f ∙ k)
+        go false f false g = refl
+
+    -- the scope of the clause
+    pub bound_stands : (us : List Variable) → AllByRecursion IsBound us → names us ≡ variables_of (unplaced Q) → ScopeStands P (clause_entry e earlier Q ∷ S) a (us ++ vs)
+    bound_stands us b n x d p =
+        subst (λ t. AcceptedBy a (state_of (us ++ vs) x) d ↔ WhereTrue t (MayBind E (May P S e) earlier Q x d) (Allows P S x d))
+        (ap (λ ws. has_word ws x) n ∙ same_words x) (bound_at us b x d p)
+
+-- a clause that is not live
+pub clause_dead : (P : ProgramTree) (S : Scope) (e : Expression) (earlier : List PlacedTree) (Q : PlacedTree) (f : Expression) (a : Automaton) (ds : List Document) (old new : List FoundLine) →
+    (IsLiveIn P S e earlier Q → ⊥) → AddsLines ds (λ ms. ms ≡ record { place = place_of Q; kind = dead_clause; document = None } ∷ []) old new →
+    IsClauseWalked P S e earlier Q f a ds old new None
+clause_dead P S e earlier Q f a ds old new n h = record {
+  may = λ d p. ((λ m. absurd m), (λ m. absurd (n m.0)));
+  lines = adds_as ds (λ ms. ms ≡ record { place = place_of Q; kind = dead_clause; document = None } ∷ []) (LinesOfClause P S e earlier Q f) (λ ms m. inr (n, m)) old new h;
+}
+
+-- and one that is, whose body was walked
+pub clause_live : (P : ProgramTree) (S : Scope) (e : Expression) (earlier : List PlacedTree) (Q : PlacedTree) (f : Expression) (a : Automaton) (ds : List Document) (old new : List FoundLine) (s : State) →
+    IsLiveIn P S e earlier Q → IsWalked P (clause_entry e earlier Q ∷ S) f a ds old new s → IsClauseWalked P S e earlier Q f a ds old new (Some s)
+clause_live P S e earlier Q f a ds old new s l w = record {
+  may = λ d p. ((λ m. (l, (w.may d p).0 m)), (λ m. (w.may d p).1 m.1));
+  lines = adds_as ds (LinesOf P (clause_entry e earlier Q ∷ S) f) (LinesOfClause P S e earlier Q f) (λ ms m. inl (l, m)) old new w.lines;
+}
+
+-- clauses from some on are still to be walked
+pub record AreClausesGoing (P : ProgramTree) (S : Scope) (p : Place) (e : Expression) (all left : Clauses) (C : Document → Type 0) (a : Automaton) (ds : List Document) (old new : List FoundLine) (ss : List State) : Type 0 where
+  pub earlier : List PlacedTree
+  pub comes : ComesBehind P S e earlier C
+  pub may : (d : Document) → is_proper d ≡ true → MayClauses P S e [] all d ↔ (AcceptedBySome a ss d ⊎ MayClauses P S e earlier left d)
+  pub lines : AddsLines ds (Goes (LinesOfClauses P S p e earlier left) (LinesOfClauses P S p e [] all)) old new
+
+pub clauses_begin : (P : ProgramTree) (S : Scope) (p : Place) (e : Expression) (cs : Clauses) (C : Document → Type 0) (a : Automaton) (ds : List Document) (ls : List FoundLine) → ComesBehind P S e [] C →
+    AreClausesGoing P S p e cs cs C a ds ls ls []
+clauses_begin P S p e cs C a ds ls h = record {
+  earlier = [];
+  comes = h;
+  may = λ d q. ((λ m. inr m), (λ m. elim m [ inl x ↦ absurd x | inr x ↦ x ]));
+  lines = goes_begin ds (LinesOfClauses P S p e [] cs) ls ls refl;
+}
+
+some_kept : (a b : Automaton) → Grows a b → (ss : List State) → AllByRecursion (IsState a) ss → (d : Document) → AcceptedBySome b ss d ↔ AcceptedBySome a ss d
+some_kept a b g [] i d = ((λ m. m), (λ m. m))
+some_kept a b g (s ∷ ss) i d =
+    let e : accepts b d s ≡ accepts a d s = g.keeps d s i.0 in
+    let r = some_kept a b g ss i.1 d in
+    ((λ m. elim m [ inl x ↦ inl (sym e ∙ x) | inr x ↦ inr (r.0 x) ]), (λ m. elim m [ inl x ↦ inl (e ∙ x) | inr x ↦ inr (r.1 x) ]))
+
+some_push : (a : Automaton) (ss : List State) (s : State) (d : Document) → AcceptedBySome a (ss ++ s ∷ []) d ↔ (AcceptedBySome a ss d ⊎ (accepts a d s ≡ true))
+some_push a [] s d = ((λ m. elim m [ inl x ↦ inr x | inr x ↦ absurd x ]), (λ m. elim m [ inl x ↦ absurd x | inr x ↦ inl x ]))
+some_push a (t ∷ ts) s d =
+    let r = some_push a ts s d in (
+      (λ m. elim m [ inl x ↦ inl (inl x) | inr x ↦ elim (r.0 x) [ inl y ↦ inl (inr y) | inr y ↦ inr y ] ]),
+      (λ m. elim m [ inl x ↦ elim x [ inl y ↦ inl y | inr y ↦ inr (r.1 (inl y)) ] | inr y ↦ inr (r.1 (inr y)) ]),
+    )
+
+some_either : (a : Automaton) (ss us : List State) (o : Option State) → us ≡ with_found ss o → (d : Document) → AcceptedBySome a us d ↔ (AcceptedBySome a ss d ⊎ AcceptedBy a o d)
+some_either a ss us None e d = subst (λ vs. AcceptedBySome a vs d ↔ (AcceptedBySome a ss d ⊎ ⊥)) (sym e) ((λ m. inl m), (λ m. elim m [ inl x ↦ x | inr x ↦ absurd x ]))
+some_either a ss us (Some s) e d = subst (λ vs. AcceptedBySome a vs d ↔ (AcceptedBySome a ss d ⊎ (accepts a d s ≡ true))) (sym e) (some_push a ss s d)
+
+-- one more clause is walked
+pub clauses_more : (P : ProgramTree) (S : Scope) (p : Place) (e : Expression) (all left : Clauses) (Q : PlacedTree) (f : Expression) (C D : Document → Type 0) (a b : Automaton) (ds es : List Document) (old mid new : List FoundLine) (ss us : List State) (o : Option State) →
+    Grows a b → Keeps ds es → AllByRecursion (IsState a) ss → (g : AreClausesGoing P S p e all (clause Q f left) C a ds old mid ss) → IsClauseWalked P S e g.earlier Q f b es mid new o →
+    ComesBehind P S e (Q ∷ g.earlier) D → us ≡ with_found ss o → AreClausesGoing P S p e all left D b es old new us
+clauses_more P S p e all left Q f C D a b ds es old mid new ss us o grows keeps there g w comes same = record {
+  earlier = Q ∷ g.earlier;
+  comes = comes;
+  may = λ d q.
+      (let x = g.may d q in
+      let k = some_kept a b grows ss there d in
+      let u = some_either b ss us o same d in
+      let c = w.may d q in (
+        (λ m. elim (x.0 m) [
+          | inl y ↦ inl (u.1 (inl (k.1 y)))
+          | inr y ↦ elim y [ inl z ↦ inl (u.1 (inr (c.1 z))) | inr z ↦ inr z ]
+        ]),
+        (λ m. elim m [
+          | inl y ↦ elim (u.0 y) [ inl z ↦ x.1 (inl (k.0 z)) | inr z ↦ x.1 (inr (inl (c.0 z))) ]
+          | inr y ↦ x.1 (inr (inr y))
+        ]),
+      ));
+  lines = goes_more ds es keeps (LinesOfClauses P S p e g.earlier (clause Q f left)) (LinesOfClause P S e g.earlier Q f) (LinesOfClauses P S p e (Q ∷ g.earlier) left) (LinesOfClauses P S p e [] all) old mid new
+      g.lines w.lines (λ xs ms x m. (xs, ms, x, m, refl));
+}
+
+-- behind the last clause stands the line of what no clause takes
+pub clauses_end : (P : ProgramTree) (S : Scope) (p : Place) (e : Expression) (all left : Clauses) (C : Document → Type 0) (a b : Automaton) (ds es : List Document) (old mid new : List FoundLine) (ss : List State) (made : State) →
+    left ≡ no_clause → Keeps ds es → (g : AreClausesGoing P S p e all left C a ds old mid ss) → AddsLines es (LineWhere p not_exhaustive C) mid new →
+    ((d : Document) → (accepts b d made ≡ true) ↔ AcceptedBySome a ss d) → AreClausesWalked P S p e all b es old new made
+clauses_end P S p e all left C a b ds es old mid new ss made none keeps g h united =
+    let cl : (ls : List Line) → LineWhere p not_exhaustive C ls → LinesOfClauses P S p e g.earlier left ls
+    = λ ls m. subst (λ cs. LinesOfClauses P S p e g.earlier cs ls) (sym none) (elim m [
+      | inl x ↦ inl (x.0, x.1, comes_from P S e g.earlier C g.comes x.0 x.1 x.2, x.3)
+      | inr x ↦ inr ((λ d q n. x.0 d q (comes_to P S e g.earlier C g.comes d q n)), x.1)
+    ]) in
+    record {
+      may = λ d q.
+          (let x = g.may d q in
+          let gone : MayClauses P S e g.earlier left d → ⊥ = λ m. (let n : MayClauses P S e g.earlier no_clause d = subst (λ cs. MayClauses P S e g.earlier cs d) none m in n) in
+          ((λ m. x.1 (inl ((united d).0 m))), (λ m. elim (x.0 m) [ inl y ↦ (united d).1 y | inr y ↦ absurd (gone y) ])));
+      lines = goes_end ds es keeps (LinesOfClauses P S p e g.earlier left) (LinesOfClauses P S p e [] all) old mid new g.lines
+          (adds_as es (LineWhere p not_exhaustive C) (LinesOfClauses P S p e g.earlier left) cl mid new h);
+    }
+
+-- a match, from its scrutinee and its clauses
+pub walked_matched : (P : ProgramTree) (S : Scope) (p : Place) (e : Expression) (cs : Clauses) (a b : Automaton) (ds es : List Document) (old mid new : List FoundLine) (s t : State) → Keeps ds es →
+    IsWalked P S e a ds old mid s → AreClausesWalked P S p e cs b es mid new t → IsWalked P S (Matched p e cs) b es old new t
+walked_matched P S p e cs a b ds es old mid new s t k w c = record {
+  may = c.may;
+  lines = adds_both ds es k (LinesOf P S e) (LinesOfClauses P S p e [] cs) old mid new w.lines c.lines;
+}
+
+-- what a scrutinee may be comes to the first clause
+pub comes_first : (P : ProgramTree) (S : Scope) (e : Expression) (a : Automaton) (s : State) (C : Document → Type 0) → AcceptsJust a s (May P S e) → ((d : Document) → C d ↔ (accepts a d s ≡ true)) → ComesBehind P S e [] C
+comes_first P S e a s C h c d p = ((λ m. ((h d p).0 ((c d).0 m), tt)), (λ m. (c d).1 ((h d p).1 m.0)))

@@ -1,0 +1,35 @@
+-- Lists of which each item meets a fact.
+use Rattle.std.proofs.Common.{◌≡◌, ℕ, suc, zero, ◌<◌, ◌≤◌, arith, List, [], ◌∷◌, ◌++◌, length, get_or, drop, map, Some, None, refl}
+use Rattle.std.specs.List.{AllByRecursion, slice_get}
+
+pub all_at : {A : Type 0} (P : A → Type 0) (xs : List A) (k : ℕ) (d : A) → AllByRecursion P xs → k < length xs → P (get_or xs k d)
+all_at P [] k d h l = absurd (omega arith)
+all_at P (x ∷ xs) zero d h l = h.0
+all_at P (x ∷ xs) (suc k) d h l = all_at P xs k d h.1 (omega arith)
+
+pub all_push : {A : Type 0} (P : A → Type 0) (xs : List A) (x : A) → AllByRecursion P xs → P x → AllByRecursion P (xs ++ x ∷ [])
+all_push P [] x h p = (p, tt)
+all_push P (y ∷ ys) x h p = (h.0, all_push P ys x h.1 p)
+
+pub all_drop : {A : Type 0} (P : A → Type 0) (xs : List A) (n : ℕ) → AllByRecursion P xs → AllByRecursion P (drop n xs)
+all_drop P xs zero h = h
+all_drop P [] (suc n) h = h
+all_drop P (x ∷ xs) (suc n) h = all_drop P xs n h.1
+
+pub all_as : {A : Type 0} (P Q : A → Type 0) → ((x : A) → P x → Q x) → (xs : List A) → AllByRecursion P xs → AllByRecursion Q xs
+all_as P Q f [] h = tt
+all_as P Q f (x ∷ xs) h = (f x h.0, all_as P Q f xs h.1)
+
+pub all_map : {A B : Type 0} (P : B → Type 0) (f : A → B) (xs : List A) → AllByRecursion (λ x. P (f x)) xs → AllByRecursion P (map f xs)
+all_map P f [] h = tt
+all_map P f (x ∷ xs) h = (h.0, all_map P f xs h.1)
+
+pub got_at : {A : Type 0} (xs : List A) (n : ℕ) (d : A) → n < length xs → slice_get xs n ≡ Some (get_or xs n d)
+got_at [] n d l = absurd (omega arith)
+got_at (x ∷ xs) zero d l = refl
+got_at (x ∷ xs) (suc n) d l = got_at xs n d (omega arith)
+
+pub got_past : {A : Type 0} (xs : List A) (n : ℕ) → length xs ≤ n → slice_get xs n ≡ None
+got_past [] n l = refl
+got_past (x ∷ xs) zero l = absurd (omega arith)
+got_past (x ∷ xs) (suc n) l = got_past xs n (omega arith)

@@ -1,0 +1,32 @@
+use Rattle.std.proofs.Common.{◌+◌, ◌*◌}
+use Rattle.xd_syntax.specs.Exprs.{clause_numbers, expr_numbers}
+use Rattle.xd_check.proofs.Loops.{ArgumentsLoop, PartsLoop, bodies, ceiling}
+use Rattle.xd_check.proofs.ClauseLoop.{ClausesLoop}
+use Rattle.xd_check.proofs.checker.Checker.+expressions.Given as goal
+
+abbrev pub decreases-in_expression : goal.decreases-in_expression
+decreases-in_expression l = 4 * l.id.at + 3
+
+abbrev pub decreases-in_parts : goal.decreases-in_parts
+decreases-in_parts l = 4 * ceiling (expr_numbers l.parts.now) + 1
+
+abbrev pub decreases-in_call : goal.decreases-in_call
+decreases-in_call l = 4 * ceiling (expr_numbers l.arguments.now) + 2
+
+abbrev pub decreases-in_arguments : goal.decreases-in_arguments
+decreases-in_arguments l = 4 * ceiling (expr_numbers l.arguments.now) + 1
+
+abbrev pub decreases-in_clauses : goal.decreases-in_clauses
+decreases-in_clauses l = 4 * ceiling (bodies (clause_numbers l.clauses.now)) + 1
+
+abbrev pub decreases-in_clause : goal.decreases-in_clause
+decreases-in_clause l = 4 * l.clause.body.at + 4
+
+abbrev pub invariant-in_parts-loop-part : goal.invariant-in_parts-loop-part
+invariant-in_parts-loop-part l = PartsLoop l.self.sound l.initial.auto' l.auto' l.initial.variables l.variables l.initial.store l.store l.initial.lines.items l.lines.items l.parts l.part-index l.states.items
+
+abbrev pub invariant-in_arguments-loop-number : goal.invariant-in_arguments-loop-number
+invariant-in_arguments-loop-number l = ArgumentsLoop l.self.sound l.initial.auto' l.auto' l.initial.variables l.variables l.initial.store l.store l.initial.lines.items l.lines.items l.parameters l.arguments l.number
+
+abbrev pub invariant-in_clauses-loop-clause : goal.invariant-in_clauses-loop-clause
+invariant-in_clauses-loop-clause l = ClausesLoop l.self.sound l.place l.initial.auto' l.auto' l.initial.variables l.variables l.initial.store l.store l.initial.lines.items l.lines.items l.clauses l.clause-index l.states.items l.initial.arriving l.arriving

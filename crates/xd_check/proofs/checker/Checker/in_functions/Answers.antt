@@ -1,0 +1,42 @@
+use Rattle.std.proofs.Common.{◌≡◌, ℕ, ◌<◌, ◌≤◌, List, length, ap, subst, ◌∙◌}
+use Rattle.std.proofs.lemmas.List.{drop_all}
+use Rattle.xd_syntax.specs.FunctionRow.{FunctionRow}
+use Rattle.xd_syntax.specs.Kept.{ProgramTable}
+use Rattle.xd_check.proofs.FunctionLoop.{function_at, function_at_is, functions_begin, functions_end, functions_more}
+use Rattle.xd_check.proofs.Keeping.{keeps_then}
+use Rattle.xd_check.proofs.Readying.{ready_kept}
+use Rattle.xd_check.proofs.checker.Checker.in_functions.Goals as goal
+
+pub loop-number-init : goal.loop-number-init
+loop-number-init c = functions_begin c.args.self.now.sound c.args.auto.now c.args.store.now c.args.lines.now.items
+
+pub in_function-requires-clause-ready : goal.in_function-requires-clause-ready
+in_function-requires-clause-ready c = ready_kept c.args.self.now c.args.auto.now c.loop-number.auto' c.loop-number.invariant.grows c.requires
+
+pub in_function-requires-clause-number : goal.in_function-requires-clause-number
+in_function-requires-clause-number c =
+    let same : c.functions-functions.result.now ≡ c.args.self.now.sound.functions = c.functions-functions.ensures.functions ∙ ap (λ (q : ProgramTable). q.functions) c.program.ensures.program in
+    subst (λ (fs : List FunctionRow). c.loop-number.number < length fs) same c.loop-number-test.true
+
+pub loop-number-preserved : goal.loop-number-preserved
+loop-number-preserved c =
+    let p : ProgramTable = c.args.self.now.sound in
+    let n : ℕ = c.loop-number.number in
+    let same : c.functions-functions.result.now ≡ p.functions = c.functions-functions.ensures.functions ∙ ap (λ (q : ProgramTable). q.functions) c.program.ensures.program in
+    let within : n < length p.functions = subst (λ (fs : List FunctionRow). n < length fs) same c.loop-number-test.true in
+    let e = c.in_ok-in_function.ensures in
+    functions_more p c.args.auto.now c.loop-number.auto' c.in_function.new.auto c.args.store.now c.loop-number.store c.in_function.new.store c.args.lines.now.items c.loop-number.lines.items c.in_function.new.lines.items n
+    (function_at p.functions n within) c.loop-number.invariant within (function_at_is p.functions n within) e.lines e.grows e.keeps
+
+pub returns-clause-lines : goal.returns-clause-lines
+returns-clause-lines c =
+    let p : ProgramTable = c.args.self.now.sound in
+    let same : c.functions-functions.result.now ≡ p.functions = c.functions-functions.ensures.functions ∙ ap (λ (q : ProgramTable). q.functions) c.program.ensures.program in
+    let all : length p.functions ≤ c.loop-number.number = subst (λ (fs : List FunctionRow). length fs ≤ c.loop-number.number) same c.loop-number-test.false in
+    functions_end p c.args.auto.now c.loop-number.auto' c.args.store.now c.loop-number.store c.args.lines.now.items c.loop-number.lines.items c.loop-number.number (drop_all c.loop-number.number p.functions all) c.loop-number.invariant
+
+pub returns-clause-keeps : goal.returns-clause-keeps
+returns-clause-keeps c = c.loop-number.invariant.keeps
+
+pub returns-in_err-in_function-clause-keeps : goal.returns-in_err-in_function-clause-keeps
+returns-in_err-in_function-clause-keeps c = keeps_then c.args.store.now c.loop-number.store c.in_function.new.store c.loop-number.invariant.keeps c.in_function.ensures.keeps

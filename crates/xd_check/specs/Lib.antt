@@ -1,0 +1,7 @@
+pub mod FoundLines
+pub mod InScope
+pub mod Walked
+pub mod Signed
+pub mod Ready
+pub mod Absorbed
+pub mod Outcome

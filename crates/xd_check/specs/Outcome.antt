@@ -1,0 +1,17 @@
+-- What a check gives.
+use Rattle.std.specs.Prelude.{◌≡◌, List, []}
+use Rattle.xd_doc.specs.Document.{Document}
+use Rattle.xd_syntax.specs.CheckFaults.{Line, AreLines, faults_among}
+use Rattle.xd_syntax.specs.Kept.{ProgramTable, AddsTypes, program_tree}
+use Rattle.xd_laws.specs.KeptLines.{AreFaultsOf, AreWarningsOf}
+use Rattle.xd_check.specs.declared.outcome.CheckOutcome.{CheckOutcome}
+use Rattle.xd_check.specs.declared.outcome.CheckOutcome.TheVariants.{Accepted, Refused}
+
+-- All lines of the program, told as faults and warnings, with the documents in the store. A program is accepted exactly where it
+-- has no fault; then it is the given one, to which types alone were added.
+abbrev pub IsOutcome : ProgramTable → List Document → CheckOutcome → Type 0
+IsOutcome p ds (Accepted checked warnings) =
+    (ls : List Line) × AreLines (program_tree p) ls × (faults_among ls ≡ []) × AreWarningsOf ls warnings.items
+    × AddsTypes p checked × (program_tree checked ≡ program_tree p)
+IsOutcome p ds (Refused faults warnings) =
+    (ls : List Line) × AreLines (program_tree p) ls × (faults_among ls ≡ [] → ⊥) × AreFaultsOf ds ls faults.items × AreWarningsOf ls warnings.items

@@ -1,0 +1,162 @@
+//! What the walk over a program's functions knows, and the walk over functions.
+
+ghost use Rattle.std.specs.Prelude.{◌≡◌, ◌<◌, [], length, IfOk, OnOk};
+ghost use Rattle.xd_doc.specs.Stored.{Keeps};
+ghost use Rattle.xd_syntax.specs.Kept.{AddsTypes, program_tree};
+ghost use Rattle.xd_auto.specs.Automaton.{IsState};
+ghost use Rattle.xd_syntax.specs.Placed.{place_of, placed_at};
+ghost use Rattle.xd_syntax.specs.Patterns.{IsPattern};
+ghost use Rattle.xd_syntax.specs.Exprs.{IsExpr};
+ghost use Rattle.xd_syntax.specs.Expression.{place_of_expression};
+ghost use Rattle.xd_syntax.specs.CheckFaults.{LineWhere, LinesOfFunctions, wrong_result};
+ghost use Rattle.xd_check.specs.FoundLines.{AddsLines};
+ghost use Rattle.xd_check.specs.InScope.{parameters_in_scope};
+
+use crate::lines::{Finding, FoundLine};
+use crate::signatures::{Signature, Signatures};
+use crate::states::misfit;
+use crate::variables::{Variable, Variables};
+use std::alloc::Global;
+use xd_auto::{Auto, State};
+use xd_base::Place;
+use xd_doc::{NoMemory, Store};
+use xd_patterns::PatternCompiler;
+use xd_runs::laws::programs_are_linear;
+use xd_syntax::{ExprId, Param, PatternId, SoundProgram};
+
+/// The program, what compiles its patterns, and its functions' declared types as states of an automaton.
+#[derive(Drop)]
+pub(crate) struct Checker {
+    pub alloc: Global,
+    pub sound: SoundProgram,
+    pub compiler: PatternCompiler,
+    pub signatures: Signatures,
+}
+
+impl Checker {
+    ghost use Rattle.xd_check.specs.Ready.{AddsLinesOfFunction, IsReady, expr_at};
+    ghost use Rattle.xd_check.specs.Walked.{Grows, IsMisfit};
+
+    /// The states of declared types are added to the automaton.
+    pub(crate) fn new(alloc: Global, sound: SoundProgram, auto: &mut Auto) -> Result<Self, NoMemory>
+        requires { auto.old ≡ [] }
+        ensures ready { IfOk result (λ made. IsReady made auto.new) }
+        ensures adds { IfOk result (λ made. AddsTypes sound made.sound) }
+        ensures same { IfOk result (λ made. program_tree made.sound ≡ program_tree sound) }
+    {
+        let mut sound = sound;
+        let signatures = Signatures::new(alloc, &mut sound, auto)?;
+        let compiler = PatternCompiler::new(alloc, &mut sound)?;
+        Ok(Self {
+            alloc,
+            sound,
+            compiler,
+            signatures,
+        })
+    }
+
+    /// The program.
+    pub(crate) fn into_sound(self) -> SoundProgram
+        ensures { result ≡ self.sound }
+    {
+        self.sound
+    }
+
+    /// The place of an expression.
+    pub(crate) fn place_of(&self, id: ExprId) -> Place
+        requires { IsExpr self.now.sound.exprs id }
+        ensures { result ≡ place_of_expression (expr_at self.now.sound id.at) }
+    {
+        self.sound.program().exprs().node(id).place()
+    }
+
+    /// The place of a pattern.
+    pub(crate) fn pattern_place(&self, id: PatternId) -> Place
+        requires { IsPattern self.now.sound.patterns id }
+        ensures { result ≡ place_of (placed_at self.now.sound.patterns id.at) }
+    {
+        self.sound.program().patterns().node(id).place()
+    }
+
+    /// The lines of all functions.
+    pub(crate) fn in_functions(
+        &self,
+        auto: &mut Auto,
+        lines: &mut Vec<FoundLine>,
+        store: &mut Store,
+    ) -> Result<(), NoMemory>
+        requires { IsReady self.now auto.old }
+        ensures lines { OnOk result (AddsLines store.new (LinesOfFunctions (program_tree self.now.sound) (program_tree self.now.sound).functions) lines.old.items lines.new.items) }
+        ensures keeps { Keeps store.old store.new }
+    {
+        let functions = self.sound.program().functions();
+        for number in 0..functions.len() {
+            self.in_function(number, auto, lines, store)?;
+        }
+        Ok(())
+    }
+
+    /// The lines of the function of this number.
+    fn in_function(
+        &self,
+        number: usize,
+        auto: &mut Auto,
+        lines: &mut Vec<FoundLine>,
+        store: &mut Store,
+    ) -> Result<(), NoMemory>
+        requires ready { IsReady self.now auto.old }
+        requires number { number < length self.now.sound.functions }
+        ensures lines { OnOk result (AddsLinesOfFunction self.now.sound number store.new lines.old.items lines.new.items) }
+        ensures grows { OnOk result (Grows auto.old auto.new) }
+        ensures keeps { Keeps store.old store.new }
+    {
+        programs_are_linear();
+        let function = &self.sound.program().functions()[number];
+        let signature = &self.signatures.rows()[number];
+        let mut variables = parameters(self.alloc, function.params(), &signature.parameters)?;
+        let body = function.body();
+        let state = self.in_expression(body, &mut variables, auto, lines, store)?;
+        self.see_result(body, state, signature.declared, auto, lines, store)?;
+        Ok(())
+    }
+
+    /// The line of a body that may be what the declared type of its function's result doesn't have.
+    fn see_result(
+        &self,
+        body: ExprId,
+        state: State,
+        wanted: State,
+        auto: &Auto,
+        lines: &mut Vec<FoundLine>,
+        store: &mut Store,
+    ) -> Result<(), NoMemory>
+        requires body { IsExpr self.now.sound.exprs body }
+        requires state { IsState auto.now state }
+        requires wanted { IsState auto.now wanted }
+        ensures lines { OnOk result (AddsLines store.new (LineWhere (place_of_expression (expr_at self.now.sound body.at)) wrong_result (IsMisfit auto.now state wanted)) lines.old.items lines.new.items) }
+        ensures keeps { Keeps store.old store.new }
+    {
+        if let Some(document) = misfit(self.alloc, auto, state, wanted, store)? {
+            lines.push(FoundLine {
+                place: self.place_of(body),
+                finding: Finding::Result(document),
+            })?;
+        }
+        Ok(())
+    }
+}
+
+/// The parameters of a function in scope, the first one as the newest.
+fn parameters(alloc: Global, params: &[Param], states: &[State]) -> Result<Variables, NoMemory>
+    requires { length params.now ≡ length states.now }
+    ensures { IfOk result (λ variables. variables ≡ parameters_in_scope params.now states.now) }
+{
+    let mut variables = Variables::new(alloc);
+    for number in (0..params.len()).rev() {
+        variables.push(Variable {
+            name: params[number].name.share()?,
+            state: states[number],
+        })?;
+    }
+    Ok(variables)
+}

@@ -1,0 +1,288 @@
+//! Expressions: a state for what each may be, and the lines in it.
+//!
+//! The nodes are walked by recursion, no deeper than expressions stand in one another.
+
+ghost use Rattle.std.specs.Prelude.{◌≡◌, ◌<◌, ◌↔◌, ℕ, true, List, [], map, length, IfOk, OnOk};
+ghost use Rattle.std.specs.List.{AllByRecursion, slice_get};
+ghost use Rattle.xd_doc.specs.Document.{Document};
+ghost use Rattle.xd_doc.specs.Stored.{Keeps};
+ghost use Rattle.xd_auto.specs.Automaton.{IsState, accepts};
+ghost use Rattle.xd_syntax.specs.Kept.{program_tree};
+ghost use Rattle.xd_syntax.specs.Placed.{PlacedTree, placed_at};
+ghost use Rattle.std.specs.Option.{IfSome};
+ghost use Rattle.xd_syntax.specs.Program.{Parameter, function_of, names_of};
+ghost use Rattle.xd_syntax.specs.Table.{tree_at};
+ghost use Rattle.xd_syntax.specs.May.{FitsResult, Scope};
+ghost use Rattle.xd_syntax.specs.CheckFaults.{LinesOfArguments, parameters_of};
+ghost use Rattle.xd_syntax.specs.Expression.{Expression, arguments_of, clauses_of, place_of_expression};
+ghost use Rattle.xd_syntax.specs.Exprs.{IsExpr, clause_numbers, expr_numbers};
+ghost use Rattle.xd_clauses.specs.Clauses.{Comes, IsPatternOf};
+ghost use Rattle.xd_check.specs.FoundLines.{AddsLines};
+ghost use Rattle.xd_check.specs.InScope.{AreStates, ScopeStands};
+ghost use Rattle.xd_check.specs.Signed.{AreParameters};
+ghost use Rattle.xd_check.specs.Ready.{CanBeWalked, ClauseCanBeWalked, IsReady, expr_at};
+ghost use Rattle.xd_check.specs.Walked.{AreClausesWalked, ArePartsWalked, ComesBehind, Grows, IsClauseWalked, IsWalked, LinesOfArgument, with_found};
+
+use crate::checker::Checker;
+use crate::clauses::{bring_in, see_uncovered};
+use crate::lines::{Finding, FoundLine};
+use crate::states::{join_states, misfit, text_state, unite_states, variable_state};
+use crate::variables::Variables;
+use xd_auto::{Auto, State};
+use xd_base::Place;
+use xd_clauses::{Arriving, ClausePattern};
+use xd_doc::{Label, NoMemory, Store};
+use xd_syntax::{Clause, ExprForm, ExprId};
+
+impl Checker {
+    /// A state that accepts what the expression may be. Its lines are added to the others.
+    #[cycle(expressions)]
+    pub(crate) fn in_expression(
+        &self,
+        id: ExprId,
+        variables: &mut Variables,
+        auto: &mut Auto,
+        lines: &mut Vec<FoundLine>,
+        store: &mut Store,
+    ) -> Result<State, NoMemory>
+        requires ready { IsReady self.now auto.old }
+        requires expression { CanBeWalked self.now.sound id.at }
+        requires variables { AreStates auto.old variables.old }
+        ensures belongs { IfOk result (IsState auto.new) }
+        ensures walked { IfOk result (λ state. (S : Scope) → ScopeStands (program_tree self.now.sound) S auto.old variables.old → IsWalked (program_tree self.now.sound) S (expr_at self.now.sound id.at) auto.new store.new lines.old.items lines.new.items state) }
+        ensures variables { OnOk result (variables.new ≡ variables.old) }
+        ensures grows { OnOk result (Grows auto.old auto.new) }
+        ensures keeps { Keeps store.old store.new }
+    {
+        let node = self.sound.program().exprs().node(id);
+        match node.form() {
+            ExprForm::Empty => Ok(auto.add_state(true)?),
+            ExprForm::Text(text) => Ok(text_state(self.alloc, text, auto)?),
+            ExprForm::Var(word) => Ok(variable_state(variables, word, auto)?),
+            ExprForm::Elem(label, content) => {
+                let inside = self.in_expression(*content, variables, auto, lines, store)?;
+                Ok(auto.wrap(label, inside)?)
+            }
+            ExprForm::Seq(parts) => {
+                let states = self.in_parts(parts, variables, auto, lines, store)?;
+                Ok(join_states(states, auto)?)
+            }
+            ExprForm::Call(word, arguments) => {
+                Ok(self.in_call(word, arguments, variables, auto, lines, store)?)
+            }
+            ExprForm::Match(scrutinee, clauses) => {
+                let place = node.place();
+                let value = self.in_expression(*scrutinee, variables, auto, lines, store)?;
+                let arriving = Arriving::new(self.alloc, auto, value)?;
+                Ok(self.in_clauses(place, clauses, arriving, variables, auto, lines, store)?)
+            }
+        }
+    }
+
+    /// The same of the parts of a sequence, with a state for each.
+    #[cycle(expressions)]
+    fn in_parts(
+        &self,
+        parts: &[ExprId],
+        variables: &mut Variables,
+        auto: &mut Auto,
+        lines: &mut Vec<FoundLine>,
+        store: &mut Store,
+    ) -> Result<Vec<State>, NoMemory>
+        requires ready { IsReady self.now auto.old }
+        requires parts { AllByRecursion (CanBeWalked self.now.sound) (expr_numbers parts.now) }
+        requires variables { AreStates auto.old variables.old }
+        ensures belong { IfOk result (λ states. AllByRecursion (IsState auto.new) states.items) }
+        ensures walked { IfOk result (λ states. (S : Scope) → ScopeStands (program_tree self.now.sound) S auto.old variables.old → ArePartsWalked (program_tree self.now.sound) S (map (expr_at self.now.sound) (expr_numbers parts.now)) auto.new store.new lines.old.items lines.new.items states.items) }
+        ensures variables { OnOk result (variables.new ≡ variables.old) }
+        ensures grows { OnOk result (Grows auto.old auto.new) }
+        ensures keeps { Keeps store.old store.new }
+    {
+        let mut states = Vec::new(self.alloc);
+        for part in parts {
+            let state = self.in_expression(*part, variables, auto, lines, store)?;
+            states.push(state)?;
+        }
+        Ok(states)
+    }
+
+    /// The same of a call: its state is that of the declared result, whatever the body is. Where there is no function of the name,
+    /// the call may be nothing.
+    #[cycle(expressions)]
+    fn in_call(
+        &self,
+        word: &Label,
+        arguments: &[ExprId],
+        variables: &mut Variables,
+        auto: &mut Auto,
+        lines: &mut Vec<FoundLine>,
+        store: &mut Store,
+    ) -> Result<State, NoMemory>
+        requires ready { IsReady self.now auto.old }
+        requires arguments { AllByRecursion (CanBeWalked self.now.sound) (expr_numbers arguments.now) }
+        requires variables { AreStates auto.old variables.old }
+        ensures belongs { IfOk result (IsState auto.new) }
+        ensures result { IfOk result (λ state. (d : Document) → (accepts auto.new d state ≡ true) ↔ FitsResult (names_of (program_tree self.now.sound)) (function_of (program_tree self.now.sound).functions word.now) d) }
+        ensures lines { OnOk result ((S : Scope) → ScopeStands (program_tree self.now.sound) S auto.old variables.old → AddsLines store.new (LinesOfArguments (program_tree self.now.sound) S (parameters_of (function_of (program_tree self.now.sound).functions word.now)) (arguments_of (map (expr_at self.now.sound) (expr_numbers arguments.now)))) lines.old.items lines.new.items) }
+        ensures variables { OnOk result (variables.new ≡ variables.old) }
+        ensures grows { OnOk result (Grows auto.old auto.new) }
+        ensures keeps { Keeps store.old store.new }
+    {
+        match self.signatures.find(word) {
+            Some(signature) => {
+                let parameters = &signature.parameters;
+                self.in_arguments(parameters, arguments, variables, auto, lines, store)?;
+                Ok(signature.declared)
+            }
+            None => {
+                self.in_arguments(&[], arguments, variables, auto, lines, store)?;
+                Ok(auto.add_state(false)?)
+            }
+        }
+    }
+
+    /// The lines of arguments, where the parameters' types have these states.
+    #[cycle(expressions)]
+    fn in_arguments(
+        &self,
+        parameters: &[State],
+        arguments: &[ExprId],
+        variables: &mut Variables,
+        auto: &mut Auto,
+        lines: &mut Vec<FoundLine>,
+        store: &mut Store,
+    ) -> Result<(), NoMemory>
+        requires ready { IsReady self.now auto.old }
+        requires arguments { AllByRecursion (CanBeWalked self.now.sound) (expr_numbers arguments.now) }
+        requires parameters { AllByRecursion (IsState auto.old) parameters.now }
+        requires variables { AreStates auto.old variables.old }
+        ensures lines { OnOk result ((S : Scope) (qs : List Parameter) → ScopeStands (program_tree self.now.sound) S auto.old variables.old → AreParameters (names_of (program_tree self.now.sound)) auto.old qs parameters.now → AddsLines store.new (LinesOfArguments (program_tree self.now.sound) S qs (arguments_of (map (expr_at self.now.sound) (expr_numbers arguments.now)))) lines.old.items lines.new.items) }
+        ensures variables { OnOk result (variables.new ≡ variables.old) }
+        ensures grows { OnOk result (Grows auto.old auto.new) }
+        ensures keeps { Keeps store.old store.new }
+    {
+        for (number, argument) in arguments.iter().enumerate() {
+            let state = self.in_expression(*argument, variables, auto, lines, store)?;
+            self.see_argument(*argument, state, parameters, number, auto, lines, store)?;
+        }
+        Ok(())
+    }
+
+    /// The line of the argument of this number where it may be what its parameter's type doesn't have.
+    fn see_argument(
+        &self,
+        argument: ExprId,
+        state: State,
+        parameters: &[State],
+        number: usize,
+        auto: &Auto,
+        lines: &mut Vec<FoundLine>,
+        store: &mut Store,
+    ) -> Result<(), NoMemory>
+        requires argument { IsExpr self.now.sound.exprs argument }
+        requires state { IsState auto.now state }
+        requires parameters { AllByRecursion (IsState auto.now) parameters.now }
+        ensures lines { OnOk result (AddsLines store.new (LinesOfArgument auto.now (place_of_expression (expr_at self.now.sound argument.at)) state (slice_get parameters.now number)) lines.old.items lines.new.items) }
+        ensures keeps { Keeps store.old store.new }
+    {
+        if number >= parameters.len() {
+            return Ok(());
+        }
+        if let Some(document) = misfit(self.alloc, auto, state, parameters[number], store)? {
+            lines.push(FoundLine {
+                place: self.place_of(argument),
+                finding: Finding::Argument(document),
+            })?;
+        }
+        Ok(())
+    }
+
+    /// The same of the clauses of a match at this place.
+    #[cycle(expressions)]
+    fn in_clauses(
+        &self,
+        place: Place,
+        clauses: &[Clause],
+        arriving: Arriving,
+        variables: &mut Variables,
+        auto: &mut Auto,
+        lines: &mut Vec<FoundLine>,
+        store: &mut Store,
+    ) -> Result<State, NoMemory>
+        requires ready { IsReady self.now auto.old }
+        requires clauses { AllByRecursion (ClauseCanBeWalked self.now.sound) (clause_numbers clauses.now) }
+        requires arriving { IsState arriving.auto arriving.state }
+        requires variables { AreStates auto.old variables.old }
+        ensures belongs { IfOk result (IsState auto.new) }
+        ensures walked { IfOk result (λ state. (S : Scope) (e : Expression) → ScopeStands (program_tree self.now.sound) S auto.old variables.old → ComesBehind (program_tree self.now.sound) S e [] (Comes arriving) → AreClausesWalked (program_tree self.now.sound) S place e (clauses_of (placed_at self.now.sound.patterns) (expr_at self.now.sound) (clause_numbers clauses.now)) auto.new store.new lines.old.items lines.new.items state) }
+        ensures variables { OnOk result (variables.new ≡ variables.old) }
+        ensures grows { OnOk result (Grows auto.old auto.new) }
+        ensures keeps { Keeps store.old store.new }
+    {
+        let mut arriving = arriving;
+        let mut states = Vec::new(self.alloc);
+        for clause in clauses {
+            let pattern = ClausePattern::new(
+                self.alloc,
+                &self.compiler,
+                &self.sound,
+                clause.pattern,
+            )?;
+            let found = self.in_clause(
+                *clause, &pattern, &arriving, variables, auto, lines, store,
+            )?;
+            push_found(found, &mut states)?;
+            arriving.pass(self.alloc, &pattern)?;
+        }
+        see_uncovered(self.alloc, place, &arriving, lines, store)?;
+        Ok(unite_states(states, auto)?)
+    }
+
+    /// The same of a clause, whose pattern is compiled: there is a state where the clause is live.
+    #[cycle(expressions)]
+    fn in_clause(
+        &self,
+        clause: Clause,
+        pattern: &ClausePattern,
+        arriving: &Arriving,
+        variables: &mut Variables,
+        auto: &mut Auto,
+        lines: &mut Vec<FoundLine>,
+        store: &mut Store,
+    ) -> Result<Option<State>, NoMemory>
+        requires ready { IsReady self.now auto.old }
+        requires clause { ClauseCanBeWalked self.now.sound (clause.pattern.at, clause.body.at) }
+        requires pattern { IsPatternOf (names_of (program_tree self.now.sound)) (tree_at self.now.sound.patterns clause.pattern.at) pattern.now }
+        requires arriving { IsState arriving.now.auto arriving.now.state }
+        requires variables { AreStates auto.old variables.old }
+        ensures belongs { IfOk result (λ found. IfSome found (IsState auto.new)) }
+        ensures walked { IfOk result (λ found. (S : Scope) (e : Expression) (earlier : List PlacedTree) → ScopeStands (program_tree self.now.sound) S auto.old variables.old → ComesBehind (program_tree self.now.sound) S e earlier (Comes arriving.now) → IsClauseWalked (program_tree self.now.sound) S e earlier (placed_at self.now.sound.patterns clause.pattern.at) (expr_at self.now.sound clause.body.at) auto.new store.new lines.old.items lines.new.items found) }
+        ensures variables { OnOk result (variables.new ≡ variables.old) }
+        ensures grows { OnOk result (Grows auto.old auto.new) }
+        ensures keeps { Keeps store.old store.new }
+    {
+        if !arriving.is_live(self.alloc, pattern)? {
+            lines.push(FoundLine {
+                place: self.pattern_place(clause.pattern),
+                finding: Finding::DeadClause,
+            })?;
+            return Ok(None);
+        }
+        let before = variables.len();
+        let bindings = arriving.bindings(self.alloc, pattern)?;
+        bring_in(bindings, variables, auto)?;
+        let state = self.in_expression(clause.body, variables, auto, lines, store)?;
+        variables.truncate(before);
+        Ok(Some(state))
+    }
+}
+
+/// One more state, if one was found.
+fn push_found(found: Option<State>, states: &mut Vec<State>) -> Result<(), NoMemory>
+    ensures { OnOk result (states.new.items ≡ with_found states.old.items found) }
+{
+    if let Some(state) = found {
+        states.push(state)?;
+    }
+    Ok(())
+}

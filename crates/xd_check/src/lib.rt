@@ -1,0 +1,13 @@
+//! What the expressions of a program may be, and all its faults of matches, arguments and results.
+#![tactic(auto)]
+
+mod checker;
+mod clauses;
+mod expressions;
+mod lines;
+mod outcome;
+mod signatures;
+mod states;
+mod variables;
+
+pub use outcome::{CheckOutcome, check};

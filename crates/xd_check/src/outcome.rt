@@ -1,0 +1,53 @@
+//! The check of a program.
+
+ghost use Rattle.std.specs.Prelude.{IfOk};
+ghost use Rattle.xd_doc.specs.Stored.{Keeps};
+ghost use Rattle.xd_check.specs.Outcome.{IsOutcome};
+
+use crate::checker::Checker;
+use crate::lines::{Told, sort_lines, tell};
+use std::alloc::Global;
+use xd_auto::Auto;
+use xd_doc::{NoMemory, Store};
+use xd_syntax::{Checked, Fault, SoundProgram, Warning};
+
+/// What a check gives: the program as an accepted one, or its faults; and its warnings.
+///
+/// Both lists are all that there are, in order of place, then of number.
+#[derive(Drop)]
+pub enum CheckOutcome {
+    Accepted {
+        checked: Checked,
+        warnings: Vec<Warning>,
+    },
+    Refused {
+        faults: Vec<Fault>,
+        warnings: Vec<Warning>,
+    },
+}
+
+/// Looks for all faults of matches, arguments and results in a program, and for all clauses that are never reached.
+///
+/// The documents that faults carry are put into the store. The program is given up where it is refused, and for want of memory.
+pub fn check(
+    alloc: Global,
+    sound: SoundProgram,
+    store: &mut Store,
+) -> Result<CheckOutcome, NoMemory>
+    ensures outcome { IfOk result (IsOutcome sound store.new) }
+    ensures keeps { Keeps store.old store.new }
+{
+    let mut auto = Auto::new(alloc);
+    let checker = Checker::new(alloc, sound, &mut auto)?;
+    let mut lines = Vec::new(alloc);
+    checker.in_functions(&mut auto, &mut lines, store)?;
+    sort_lines(&mut lines)?;
+    let Told { faults, warnings } = tell(alloc, &lines)?;
+    if !faults.is_empty() {
+        return Ok(CheckOutcome::Refused { faults, warnings });
+    }
+    Ok(CheckOutcome::Accepted {
+        checked: Checked::new(checker.into_sound()),
+        warnings,
+    })
+}

@@ -1,0 +1,112 @@
+//! States for what expressions may be.
+
+ghost use Rattle.std.specs.Prelude.{◌≡◌, ◌↔◌, None, Ok, true, IfOk, OnOk};
+ghost use Rattle.std.specs.List.{AllByRecursion, list_any};
+ghost use Rattle.std.specs.Option.{IfSome};
+ghost use Rattle.xd_doc.specs.Document.{Document, empty, text};
+ghost use Rattle.xd_doc.specs.Stored.{BelongsTo, Keeps, document_at};
+ghost use Rattle.xd_auto.specs.Automaton.{IsState, accepts};
+ghost use Rattle.xd_check.specs.Walked.{AcceptedBySome, AcceptedInTurn, Grows};
+ghost use Rattle.xd_check.specs.InScope.{AcceptedBy, AreStates, state_of};
+
+use crate::variables::Variables;
+use std::alloc::Global;
+use xd_auto::{Auto, State};
+use xd_doc::{Label, NoMemory, Seq, Store, Text, Words};
+use xd_goals::{Table, Verdict, decide, new_tables_stand};
+
+/// A state that accepts one text alone.
+pub(crate) fn text_state(
+    alloc: Global,
+    characters: &Text,
+    auto: &mut Auto,
+) -> Result<State, NoMemory>
+    ensures belongs { IfOk result (IsState auto.new) }
+    ensures accepts { IfOk result (λ state. (d : Document) → (accepts auto.new d state ≡ true) ↔ (d ≡ text characters.now empty)) }
+    ensures grows { OnOk result (Grows auto.old auto.new) }
+{
+    let _states = auto.len();
+    let mut texts = Vec::new(alloc);
+    texts.push(characters.share()?)?;
+    let words = Words::new(alloc, texts, false)?;
+    let end = auto.add_state(true)?;
+    let start = auto.add_state(false)?;
+    auto.add_text_move(start, words, end)?;
+    Ok(start)
+}
+
+/// The state of a variable; where there is none of the name, one that accepts nothing.
+pub(crate) fn variable_state(
+    variables: &Variables,
+    name: &Label,
+    auto: &mut Auto,
+) -> Result<State, NoMemory>
+    requires { AreStates auto.old variables.now }
+    ensures belongs { IfOk result (IsState auto.new) }
+    ensures accepts { IfOk result (λ state. (d : Document) → (accepts auto.new d state ≡ true) ↔ AcceptedBy auto.old (state_of variables.now name.now) d) }
+    ensures grows { OnOk result (Grows auto.old auto.new) }
+{
+    match variables.find(name) {
+        Some(state) => {
+            let _states = auto.len();
+            Ok(state)
+        }
+        None => Ok(auto.add_state(false)?),
+    }
+}
+
+/// A state that accepts a document of each of these states, one after the other.
+pub(crate) fn join_states(states: Vec<State>, auto: &mut Auto) -> Result<State, NoMemory>
+    requires { AllByRecursion (IsState auto.old) states.items }
+    ensures belongs { IfOk result (IsState auto.new) }
+    ensures accepts { IfOk result (λ made. (d : Document) → (accepts auto.new d made ≡ true) ↔ AcceptedInTurn auto.old states.items d) }
+    ensures grows { OnOk result (Grows auto.old auto.new) }
+{
+    let mut states = states;
+    let mut made = auto.add_state(true)?;
+    while let Some(state) = states.pop() {
+        made = auto.concat(state, made)?;
+    }
+    Ok(made)
+}
+
+/// A state that accepts what some of these states accept.
+///
+/// They are united one after the other, the last two first; a union copies the moves of its two states alone.
+pub(crate) fn unite_states(states: Vec<State>, auto: &mut Auto) -> Result<State, NoMemory>
+    requires { AllByRecursion (IsState auto.old) states.items }
+    ensures belongs { IfOk result (IsState auto.new) }
+    ensures accepts { IfOk result (λ made. (d : Document) → (accepts auto.new d made ≡ true) ↔ AcceptedBySome auto.old states.items d) }
+    ensures grows { OnOk result (Grows auto.old auto.new) }
+{
+    let mut states = states;
+    let mut made = auto.add_state(false)?;
+    while let Some(state) = states.pop() {
+        made = auto.union(state, made)?;
+    }
+    Ok(made)
+}
+
+/// A document that the first state accepts and the second doesn't, where there is one.
+pub(crate) fn misfit(
+    alloc: Global,
+    auto: &Auto,
+    state: State,
+    wanted: State,
+    store: &mut Store,
+) -> Result<Option<Seq>, NoMemory>
+    requires state { IsState auto.now state }
+    requires wanted { IsState auto.now wanted }
+    ensures accepted { IfOk result (λ found. IfSome found (λ seq. accepts auto.now (document_at store.new seq) state ≡ true)) }
+    ensures refused { IfOk result (λ found. IfSome found (λ seq. accepts auto.now (document_at store.new seq) wanted ≡ true → ⊥)) }
+    ensures belongs { IfOk result (λ found. IfSome found (BelongsTo store.new)) }
+    ensures none { result ≡ Ok None → (d : Document) → accepts auto.now d state ≡ true → accepts auto.now d wanted ≡ true }
+    ensures keeps { Keeps store.old store.new }
+{
+    let mut table = Table::new(alloc);
+    new_tables_stand(auto, store);
+    match decide(alloc, auto, &mut table, state, &[wanted], store)? {
+        Verdict::Included(_) => Ok(None),
+        Verdict::Separated(document) => Ok(Some(document)),
+    }
+}
