@@ -1,0 +1,167 @@
+-- First runs, move by move.
+use Rattle.std.proofs.Common.{ℕ, zero, suc, ◌≡◌, ◌<◌, Bool, true, false, ◌&&◌, cond, List, [], ◌∷◌, ◌++◌, map, flat_map, length, get_or, Option, Some, None, arith, refl, sym, ap, ◌∙◌}
+use Rattle.std.specs.List.{list_any, Contains}
+use Rattle.xd_doc.specs.Document.{Document, empty, text, element, join}
+use Rattle.xd_doc.specs.Classes.{class_has}
+use Rattle.xd_auto.specs.declared.auto.State.{State}
+use Rattle.xd_auto.specs.declared.auto.LabelMove.{LabelMove}
+use Rattle.xd_auto.specs.declared.auto.TextMove.{TextMove}
+use Rattle.xd_auto.specs.Automaton.{Automaton, accepts, moves_at}
+use Rattle.xd_auto.specs.Membership.{takes_element as takes_by_label, takes_word}
+use Rattle.xd_auto.specs.Runs as Numbered
+use Rattle.xd_auto.specs.Runs.{takes_text, takes_element, from_each}
+use Rattle.xd_auto.proofs.RunLaw.{runs_law, runs_are_accepting}
+use Rattle.xd_runs.specs.Runs.{Run, if_marked}
+use Rattle.xd_runs.specs.Laws.{first_of}
+use Rattle.xd_patterns.specs.Marked.{Marking, no_text_move, no_label_move, with_marks}
+use Rattle.xd_match.specs.First.{first_held, first_run, held_in}
+use Rattle.xd_match.specs.Taking.{IsFirst}
+
+and_first : (x y : Bool) → (x && y) ≡ true → x ≡ true
+and_first true y e = refl
+and_first false y e = absurd (cc)
+
+and_second : (x y : Bool) → (x && y) ≡ true → y ≡ true
+and_second true y e = e
+and_second false y e = absurd (cc)
+
+same_default : {A : Type 0} (xs : List A) (n : ℕ) (d e : A) → n < length xs → get_or xs n d ≡ get_or xs n e
+same_default [] n d e lt = absurd (omega arith)
+same_default (x ∷ xs) zero d e lt = refl
+same_default (x ∷ xs) (suc n) d e lt = same_default xs n d e (omega arith)
+
+runs_some : (a : Automaton) (d : Document) (s : State) → accepts a d s ≡ true → (r : Numbered.Run) × (rs : List Numbered.Run) × (Numbered.runs a d s ≡ r ∷ rs)
+runs_some a d s e = go (Numbered.runs a d s) refl
+  where
+    go : (rs : List Numbered.Run) → Numbered.runs a d s ≡ rs → (r : Numbered.Run) × (ts : List Numbered.Run) × (rs ≡ r ∷ ts)
+    go (r ∷ rs) f = (r, rs, refl)
+    go [] f =
+        let run = (runs_law a s d).0 e in
+        let there : Contains (Numbered.runs a d s) run.0 = (runs_are_accepting a s d run.0).1 run.1 in
+        let none : length (Numbered.runs a d s) ≡ 0 = ap length f in
+        absurd (omega (arith, there.1))
+
+runs_none : (a : Automaton) (d : Document) (s : State) → accepts a d s ≡ false → Numbered.runs a d s ≡ []
+runs_none a d s e = go (Numbered.runs a d s) refl
+  where
+    go : (rs : List Numbered.Run) → Numbered.runs a d s ≡ rs → rs ≡ []
+    go [] f = refl
+    go (r ∷ rs) f =
+        let there : Contains (r ∷ rs) r = (0, omega arith, refl) in
+        let among : Contains (Numbered.runs a d s) r = rw f there in
+        let yes : accepts a d s ≡ true = (runs_law a s d).1 (r, (runs_are_accepting a s d r).0 among) in
+        absurd (let both : true ≡ false = sym yes ∙ e in cc)
+
+pub first_some : (a : Automaton) (k : Marking) (d : Document) (s : State) → accepts a d s ≡ true → (r : Run) × (first_run a k d s ≡ Some r)
+first_some a k d s e = let r = runs_some a d s e in (with_marks a k s r.0, ap (λ rs. first_of (map (with_marks a k s) rs)) r.2)
+
+pub first_none : (a : Automaton) (k : Marking) (d : Document) (s : State) → accepts a d s ≡ false → first_run a k d s ≡ None
+first_none a k d s e = ap (λ rs. first_of (map (with_marks a k s) rs)) (runs_none a d s e)
+
+-- the first of the members that the parts of a list give is that of the first part that gives any
+first_given : {A B : Type 0} (f : ℕ → A → List B) (xs : List A) (n : ℕ) (d : A) (r : B) (rs : List B) → n < length xs → ((i : ℕ) (e : A) → i < n → f i (get_or xs i e) ≡ []) →
+    f n (get_or xs n d) ≡ r ∷ rs → (ts : List B) × (from_each f xs ≡ r ∷ ts)
+first_given f [] n d r rs lt before here = absurd (omega arith)
+first_given f (x ∷ xs) zero d r rs lt before here = (rs ++ from_each (λ m. f (suc m)) xs, ap (λ ys. ys ++ from_each (λ m. f (suc m)) xs) here)
+first_given f (x ∷ xs) (suc n) d r rs lt before here =
+    let later = first_given (λ m. f (suc m)) xs n d r rs (omega arith) (λ i e l. before (suc i) e (omega arith)) here in
+    (later.0, ap (λ ys. ys ++ from_each (λ m. f (suc m)) xs) (before 0 x (omega arith)) ∙ later.1)
+
+flat_none : {A B : Type 0} (f : A → List B) → ((x : A) → f x ≡ []) → (xs : List A) → flat_map f xs ≡ []
+flat_none f h [] = refl
+flat_none f h (x ∷ xs) = ap (λ ys. ys ++ flat_map f xs) (h x) ∙ flat_none f h xs
+
+module _ (a : Automaton) (k : Marking) where
+  abbrev over_word : List ℕ → Document → ℕ → TextMove → List Numbered.Run
+  over_word t d n m = cond (class_has m.words t) (map (takes_text n) (Numbered.runs a d m.rest)) []
+
+  abbrev over_label : List ℕ → Document → Document → ℕ → LabelMove → List Numbered.Run
+  over_label l c d n m = cond (class_has m.class l) (flat_map (λ q. map (takes_element n q) (Numbered.runs a d m.rest)) (Numbered.runs a c m.content)) []
+
+  no_word : (t : List ℕ) (d : Document) (n : ℕ) (m : TextMove) → takes_word a t d m ≡ false → over_word t d n m ≡ []
+  no_word t d n m e = go (class_has m.words t) e
+    where
+      go : (b : Bool) → (b && accepts a d m.rest) ≡ false → cond b (map (takes_text n) (Numbered.runs a d m.rest)) [] ≡ []
+      go true f = ap (map (takes_text n)) (runs_none a d m.rest f)
+      go false f = refl
+
+  no_label : (l : List ℕ) (c d : Document) (n : ℕ) (m : LabelMove) → takes_by_label a l c d m ≡ false → over_label l c d n m ≡ []
+  no_label l c d n m e = go (class_has m.class l) (accepts a c m.content) refl e
+    where
+      go : (b p : Bool) → accepts a c m.content ≡ p → (b && (p && accepts a d m.rest)) ≡ false
+          → cond b (flat_map (λ q. map (takes_element n q) (Numbered.runs a d m.rest)) (Numbered.runs a c m.content)) [] ≡ []
+      go false p h f = refl
+      go true false h f = ap (flat_map (λ q. map (takes_element n q) (Numbered.runs a d m.rest))) (runs_none a c m.content h)
+      go true true h f = flat_none (λ q. map (takes_element n q) (Numbered.runs a d m.rest)) (λ q. ap (map (takes_element n q)) (runs_none a d m.rest f)) (Numbered.runs a c m.content)
+
+  -- what the first run over a text gives a variable
+  pub held_text : (x : List ℕ) (n : ℕ) (t : List ℕ) (d : Document) (s : State) (e : TextMove) → IsFirst (takes_word a t d) (moves_at a s).texts n
+      → first_held a k x (text t d) s ≡ join (if_marked (get_or (k s).texts n []) x (text t empty)) (first_held a k x d (get_or (moves_at a s).texts n e).rest)
+  held_text x n t d s e first =
+      let q : TextMove = no_text_move s in
+      let m : TextMove = get_or (moves_at a s).texts n q in
+      let yes : (class_has m.words t && accepts a d m.rest) ≡ true = first.passes q in
+      let rest = runs_some a d m.rest (and_second (class_has m.words t) (accepts a d m.rest) yes) in
+      let here : over_word t d n m ≡ takes_text n rest.0 ∷ map (takes_text n) rest.1 =
+      ap (λ b. cond b (map (takes_text n) (Numbered.runs a d m.rest)) []) (and_first (class_has m.words t) (accepts a d m.rest) yes) ∙ ap (map (takes_text n)) rest.2 in
+      let all = first_given (over_word t d) (moves_at a s).texts n q (takes_text n rest.0) (map (takes_text n) rest.1) first.within (λ i f l. no_word t d i (get_or (moves_at a s).texts i f) (first.before i f l)) here in
+      ap (λ rs. held_in x (text t d) (first_of (map (with_marks a k s) rs))) all.1
+      ∙ ap (λ z. join (if_marked (get_or (k s).texts n []) x (text t empty)) z) (sym (ap (λ rs. held_in x d (first_of (map (with_marks a k m.rest) rs))) rest.2))
+      ∙ ap (λ (z : TextMove). join (if_marked (get_or (k s).texts n []) x (text t empty)) (first_held a k x d z.rest)) (same_default (moves_at a s).texts n q e first.within)
+
+  -- a move that leads over an element leads to states that accept its parts
+  pub content_accepted : (l : List ℕ) (c d : Document) (m : LabelMove) → takes_by_label a l c d m ≡ true → accepts a c m.content ≡ true
+  content_accepted l c d m h = and_first (accepts a c m.content) (accepts a d m.rest) (and_second (class_has m.class l) (accepts a c m.content && accepts a d m.rest) h)
+
+  pub rest_accepted : (l : List ℕ) (c d : Document) (m : LabelMove) → takes_by_label a l c d m ≡ true → accepts a d m.rest ≡ true
+  rest_accepted l c d m h = and_second (accepts a c m.content) (accepts a d m.rest) (and_second (class_has m.class l) (accepts a c m.content && accepts a d m.rest) h)
+
+  pub word_accepted : (t : List ℕ) (d : Document) (m : TextMove) → takes_word a t d m ≡ true → accepts a d m.rest ≡ true
+  word_accepted t d m h = and_second (class_has m.words t) (accepts a d m.rest) h
+
+  -- and over an element
+  pub held_element : (x : List ℕ) (n : ℕ) (l : List ℕ) (c d : Document) (s : State) (e : LabelMove) → IsFirst (takes_by_label a l c d) (moves_at a s).labels n
+      → first_held a k x (element l c d) s ≡ join (if_marked (get_or (k s).labels n []) x (element l c empty))
+      (join (first_held a k x c (get_or (moves_at a s).labels n e).content) (first_held a k x d (get_or (moves_at a s).labels n e).rest))
+  held_element x n l c d s e first =
+      let q : LabelMove = no_label_move s in
+      let m : LabelMove = get_or (moves_at a s).labels n q in
+      let yes : takes_by_label a l c d m ≡ true = first.passes q in
+      let inside = runs_some a c m.content (content_accepted l c d m yes) in
+      let rest = runs_some a d m.rest (rest_accepted l c d m yes) in
+      let over : Numbered.Run → List Numbered.Run = λ p. map (takes_element n p) (Numbered.runs a d m.rest) in
+      let here : over_label l c d n m ≡ takes_element n inside.0 rest.0 ∷ (map (takes_element n inside.0) rest.1 ++ flat_map over inside.1) =
+      ap (λ b. cond b (flat_map over (Numbered.runs a c m.content)) []) (and_first (class_has m.class l) (accepts a c m.content && accepts a d m.rest) yes)
+      ∙ ap (flat_map over) inside.2 ∙ ap (λ rs. map (takes_element n inside.0) rs ++ flat_map over inside.1) rest.2 in
+      let all = first_given (over_label l c d) (moves_at a s).labels n q (takes_element n inside.0 rest.0) (map (takes_element n inside.0) rest.1 ++ flat_map over inside.1) first.within
+      (λ i f g. no_label l c d i (get_or (moves_at a s).labels i f) (first.before i f g)) here in
+      ap (λ rs. held_in x (element l c d) (first_of (map (with_marks a k s) rs))) all.1
+      ∙ ap (λ z. join (if_marked (get_or (k s).labels n []) x (element l c empty)) (join z (held_in x d (Some (with_marks a k m.rest rest.0))))) (sym (ap (λ rs. held_in x c (first_of (map (with_marks a k m.content) rs))) inside.2))
+      ∙ ap (λ z. join (if_marked (get_or (k s).labels n []) x (element l c empty)) (join (first_held a k x c m.content) z)) (sym (ap (λ rs. held_in x d (first_of (map (with_marks a k m.rest) rs))) rest.2))
+      ∙ ap (λ (z : LabelMove). join (if_marked (get_or (k s).labels n []) x (element l c empty)) (join (first_held a k x c z.content) (first_held a k x d z.rest))) (same_default (moves_at a s).labels n q e first.within)
+
+  -- an empty document gives nothing
+  pub held_empty : (x : List ℕ) (s : State) → first_held a k x empty s ≡ empty
+  held_empty x s = go (first_run a k empty s)
+    where
+      go : (o : Option Run) → held_in x empty o ≡ empty
+      go None = refl
+      go (Some r) = refl
+
+-- the first that passes, where some does
+pub find_first : {X : Type 0} (test : X → Bool) (xs : List X) → list_any test xs ≡ true → (n : ℕ) × IsFirst test xs n
+find_first test [] e = absurd (cc)
+find_first {X} test (x ∷ xs) e = go (test x) refl (λ h. find_first test xs h)
+  where
+    before : test x ≡ false → (n : ℕ) → IsFirst test xs n → (i : ℕ) (d : X) → i < suc n → test (get_or (x ∷ xs) i d) ≡ false
+    before h n first zero d lt = h
+    before h n first (suc i) d lt = first.before i d (omega arith)
+
+    go : (b : Bool) → test x ≡ b → (list_any test xs ≡ true → (n : ℕ) × IsFirst test xs n) → (n : ℕ) × IsFirst test (x ∷ xs) n
+    go true h later = (0, record { within = omega arith; passes = λ d. h; before = λ i d lt. absurd (omega arith) })
+    go false h later =
+        let rest : list_any test xs ≡ true = rw h at e in
+        let r = later rest in (
+          suc r.0,
+          record { within = omega (arith, r.1.within); passes = r.1.passes; before = before h r.0 r.1 },
+        )

@@ -1,0 +1,10 @@
+pub mod Firsts
+pub mod TailLaw
+pub mod Spreading
+pub mod Pieces
+pub mod Noting
+pub mod Taken
+pub mod Staying
+pub mod Variables
+pub mod MeaningLaws
+pub mod PatternLaws

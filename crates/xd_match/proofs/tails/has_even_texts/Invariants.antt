@@ -1,0 +1,14 @@
+use Rattle.std.proofs.Common.{ℕ, ◌≡◌, ◌<◌, [], get_or, length}
+use Rattle.xd_auto.specs.declared.auto.TextMove.{TextMove}
+use Rattle.xd_auto.specs.Automaton.{moves_at}
+use Rattle.xd_patterns.specs.Held.{marking_of, variables_in}
+use Rattle.xd_patterns.specs.Variables.{words_of}
+use Rattle.xd_match.specs.Tails.{GoesOnWith}
+use Rattle.xd_match.proofs.tails.has_even_texts.Given as goal
+
+abbrev pub invariant-loop-number : goal.invariant-loop-number
+invariant-loop-number l = record {
+  end_is : l.number-end ≡ length (moves_at l.auto' l.state).texts;
+  even : (n : ℕ) (e : TextMove) → n < l.number → (get_or (marking_of l.marked l.state).texts n [] ≡ words_of (variables_in l.marked) l.own)
+      × GoesOnWith l.auto' (marking_of l.marked) (words_of (variables_in l.marked) l.own) (get_or (moves_at l.auto' l.state).texts n e).rest;
+}

@@ -1,0 +1,70 @@
+-- States from which all that is left of a level belongs to the same variables, and nothing in its contents to any.
+use Rattle.std.specs.Prelude.{◌≡◌, ◌⊎◌, ℕ, ◌<◌, Bool, true, false, List, [], ◌∷◌, length, get_or}
+use Rattle.xd_auto.specs.declared.auto.State.{State}
+use Rattle.xd_auto.specs.declared.auto.LabelMove.{LabelMove}
+use Rattle.xd_auto.specs.declared.auto.TextMove.{TextMove}
+use Rattle.xd_auto.specs.Automaton.{Automaton, IsState, moves_at, state_number}
+use Rattle.xd_syntax.specs.Graph.{HasEdge}
+use Rattle.xd_syntax.specs.Ways.{Among}
+use Rattle.xd_syntax.specs.Emptiness.{is_marked}
+use Rattle.xd_patterns.specs.Marked.{Marking, MoveMarks}
+
+-- the state has no move
+abbrev pub IsBare : Automaton → State → Type 0
+IsBare a s = ((moves_at a s).labels ≡ []) × ((moves_at a s).texts ≡ [])
+
+abbrev pub first_marks : List LabelMove → MoveMarks → List (List ℕ)
+first_marks [] m = get_or m.texts 0 []
+first_marks (l ∷ ls) m = get_or m.labels 0 []
+
+-- the variables of the state's first move
+abbrev pub tail_marks : Automaton → Marking → State → List (List ℕ)
+tail_marks a k s = first_marks (moves_at a s).labels (k s)
+
+-- the marks of states, by number, say that the items of what is left of their level may belong to different variables
+abbrev pub is_mixed : List Bool → State → Bool
+is_mixed mixed s = is_marked mixed (state_number s)
+
+-- the first items from the state on, if there are any, belong to these variables
+abbrev pub GoesOnWith : Automaton → Marking → List (List ℕ) → State → Type 0
+GoesOnWith a k marks s = IsBare a s ⊎ (tail_marks a k s ≡ marks)
+
+-- the items of the moves on a text belong to these variables, as do the first items behind them
+abbrev pub HasEvenTexts : Automaton → Marking → List (List ℕ) → State → Type 0
+HasEvenTexts a k marks s = (n : ℕ) (e : TextMove) → n < length (moves_at a s).texts
+    → (get_or (k s).texts n [] ≡ marks) × GoesOnWith a k marks (get_or (moves_at a s).texts n e).rest
+
+-- the same of the moves on an element, and the first items in the element belong to no variable
+abbrev pub HasEvenLabels : Automaton → Marking → List (List ℕ) → State → Type 0
+HasEvenLabels a k marks s = (n : ℕ) (e : LabelMove) → n < length (moves_at a s).labels
+    → (get_or (k s).labels n [] ≡ marks) × GoesOnWith a k marks (get_or (moves_at a s).labels n e).rest
+    × GoesOnWith a k [] (get_or (moves_at a s).labels n e).content
+
+-- both with the variables of the state's first move
+pub record IsEven (a : Automaton) (k : Marking) (s : State) : Type 0 where
+  pub texts : HasEvenTexts a k (tail_marks a k s) s
+  pub labels : HasEvenLabels a k (tail_marks a k s) s
+
+-- what holds of each state that the moves of the state lead to
+pub record LeadsFrom (a : Automaton) (R : State → Type 0) (s : State) : Type 0 where
+  pub texts : (n : ℕ) (e : TextMove) → n < length (moves_at a s).texts → R (get_or (moves_at a s).texts n e).rest
+  pub labels : (n : ℕ) (e : LabelMove) → n < length (moves_at a s).labels
+      → R (get_or (moves_at a s).labels n e).rest × R (get_or (moves_at a s).labels n e).content
+
+-- a state that isn't marked as mixed is even, and its moves lead to such states
+pub record AreTails (a : Automaton) (k : Marking) (mixed : List Bool) : Type 0 where
+  pub count : length mixed ≡ length a
+  pub even : (s : State) → IsState a s → is_mixed mixed s ≡ false → IsEven a k s × LeadsFrom a (λ t. IsState a t × (is_mixed mixed t ≡ false)) s
+
+-- Of what follows only private contracts speak.
+
+-- an edge leads to each state from those that its moves lead to
+pub record AreBehind (a : Automaton) (g : List (List ℕ)) : Type 0 where
+  pub count : length g ≡ length a
+  pub edges : (s : State) → IsState a s → LeadsFrom a (λ t. HasEdge g (state_number t) (state_number s)) s
+
+-- each seed, and each node that an edge leads to from a marked one, is marked or waits
+pub record IsSpread (g : List (List ℕ)) (seeds : List ℕ) (mixed : List Bool) (waiting : List ℕ) : Type 0 where
+  pub seeded : (i : ℕ) → Among i seeds → (is_marked mixed i ≡ true) ⊎ Among i waiting
+  pub edges : (v w : ℕ) → HasEdge g v w → is_marked mixed v ≡ true → (is_marked mixed w ≡ true) ⊎ Among w waiting
+  pub within : (i : ℕ) → Among i waiting → i < length g

@@ -1,0 +1,280 @@
+//! The first run of a compiled pattern, item by item.
+
+ghost use Rattle.std.specs.Prelude.{◌≡◌, ◌&&◌, ℕ, ◌+◌, ◌<◌, ◌≤◌, ◌++◌, ◌∷◌, [], true, length, slice_index_or, List, Some, IfOk, OnOk, MatchOption, None, Vec};
+ghost use Rattle.std.specs.List.{IsDistinct, list_any};
+ghost use Rattle.std.specs.Str.{bytes_eq};
+ghost use Rattle.xd_doc.specs.Document.{content_of, rest_of};
+ghost use Rattle.xd_doc.specs.Stored.{BelongsTo, Keeps, document_at, first_of_document};
+ghost use Rattle.xd_auto.specs.Automaton.{IsState, accepts, moves_at};
+ghost use Rattle.xd_auto.specs.Kept.{AreRight};
+ghost use Rattle.xd_auto.specs.Membership.{takes_element, takes_word};
+ghost use Rattle.xd_patterns.specs.Held.{marking_of, variables_in};
+ghost use Rattle.xd_match.specs.First.{AreHeld, first_run};
+ghost use Rattle.xd_match.specs.Tails.{AreTails};
+ghost use Rattle.xd_match.specs.Taking.{AddsPiece, AreTaken, IsFirst, IsReady, TakesItem};
+
+use crate::binding::{Piece, bind_each};
+use crate::tails::tail_of;
+use std::alloc::Global;
+use xd_auto::{Answers, Auto, LabelMove, State, accepts_kept};
+use xd_doc::{Item, Label, NoMemory, Seq, Store, Text};
+use xd_patterns::Marked;
+use xd_traces::MoveKind;
+
+/// A document that a state accepts, over which its first run is still to be followed.
+#[derive(Clone, Copy, Debug)]
+pub(crate) struct Task {
+    pub state: State,
+    pub seq: Seq,
+}
+
+/// The number of the first move on the text after which the rest is accepted.
+fn first_text(
+    answers: &mut Answers,
+    auto: &Auto,
+    store: &Store,
+    text: &Text,
+    state: State,
+    rest: Seq,
+) -> Result<usize, NoMemory>
+    requires state { IsState auto.now state }
+    requires rest { BelongsTo store.now rest }
+    requires right { AreRight auto.now store.now answers.old }
+    requires accepted { list_any (takes_word auto.now text.now (document_at store.now rest)) (moves_at auto.now state).texts ≡ true }
+    ensures first { IfOk result (IsFirst (takes_word auto.now text.now (document_at store.now rest)) (moves_at auto.now state).texts) }
+    ensures right { AreRight auto.now store.now answers.new }
+{
+    let moves = auto.text_moves(state);
+    let mut from = 0;
+    while let Some(number) = auto.next_text_move(state, text, from) {
+        if accepts_kept(answers, auto, moves[number].rest, store, rest)? {
+            return Ok(number);
+        }
+        from = number + 1;
+    }
+    unreachable!()
+}
+
+/// Whether the move's states accept the content and the rest.
+fn leads_on(
+    answers: &mut Answers,
+    auto: &Auto,
+    store: &Store,
+    step: &LabelMove,
+    content: Seq,
+    rest: Seq,
+) -> Result<bool, NoMemory>
+    requires content_state { IsState auto.now step.now.content }
+    requires rest_state { IsState auto.now step.now.rest }
+    requires content { BelongsTo store.now content }
+    requires rest { BelongsTo store.now rest }
+    requires right { AreRight auto.now store.now answers.old }
+    ensures answer { IfOk result (λ answer. answer ≡ (accepts auto.now (document_at store.now content) step.now.content && accepts auto.now (document_at store.now rest) step.now.rest)) }
+    ensures right { AreRight auto.now store.now answers.new }
+{
+    if accepts_kept(answers, auto, step.content, store, content)? {
+        accepts_kept(answers, auto, step.rest, store, rest)
+    } else {
+        Ok(false)
+    }
+}
+
+/// The number of the first move on an element of the label by which the content and the rest are accepted.
+fn first_label(
+    answers: &mut Answers,
+    auto: &Auto,
+    store: &Store,
+    label: &Label,
+    state: State,
+    content: Seq,
+    rest: Seq,
+) -> Result<usize, NoMemory>
+    requires state { IsState auto.now state }
+    requires content { BelongsTo store.now content }
+    requires rest { BelongsTo store.now rest }
+    requires right { AreRight auto.now store.now answers.old }
+    requires accepted { list_any (takes_element auto.now label.now (document_at store.now content) (document_at store.now rest)) (moves_at auto.now state).labels ≡ true }
+    ensures first { IfOk result (IsFirst (takes_element auto.now label.now (document_at store.now content) (document_at store.now rest)) (moves_at auto.now state).labels) }
+    ensures right { AreRight auto.now store.now answers.new }
+{
+    let moves = auto.label_moves(state);
+    let mut from = 0;
+    while let Some(number) = auto.next_label_move(state, label, from) {
+        if leads_on(answers, auto, store, &moves[number], content, rest)? {
+            return Ok(number);
+        }
+        from = number + 1;
+    }
+    unreachable!()
+}
+
+/// Adds the piece to those of each variable that is marked, once.
+fn note(items: &mut Vec<Vec<Piece>>, marks: &[usize], piece: Piece) -> Result<(), NoMemory>
+    ensures len { length items.new.items ≡ length items.old.items }
+    ensures ok { OnOk result (AddsPiece items.old.items items.new.items marks.now piece) }
+{
+    for i in 0..marks.len() {
+        let variable = marks[i];
+        let is_noted = marks[..i].contains(&variable);
+        if variable < items.len() && !is_noted {
+            items[variable].push(piece)?;
+        }
+    }
+    Ok(())
+}
+
+/// Takes the first item, a text, and gives what waits behind it.
+fn take_text(
+    answers: &mut Answers,
+    auto: &Auto,
+    marked: &Marked,
+    store: &Store,
+    task: Task,
+    text: &Text,
+    items: &mut Vec<Vec<Piece>>,
+) -> Result<Task, NoMemory>
+    requires ready { IsReady auto.now store.now task }
+    requires distinct { IsDistinct bytes_eq (variables_in marked.now) }
+    requires text { first_of_document (document_at store.now task.seq) ≡ Some (Item.Text text.now) }
+    requires right { AreRight auto.now store.now answers.old }
+    ensures taken { IfOk result (λ next. TakesItem auto.now (marking_of marked.now) (variables_in marked.now) store.now task items.old.items items.new.items (next ∷ [])) }
+    ensures right { AreRight auto.now store.now answers.new }
+{
+    let rest = store.next(task.seq);
+    let number = first_text(answers, auto, store, text, task.state, rest)?;
+    let marks = marked.marks(task.state, MoveKind::Text, number);
+    note(items, marks, Piece::First(task.seq))?;
+    let moves = auto.text_moves(task.state);
+    let step = &moves[number];
+    Ok(Task {
+        state: step.rest,
+        seq: rest,
+    })
+}
+
+/// Takes the first item, an element, and gives what waits behind it and in it.
+fn take_element(
+    answers: &mut Answers,
+    auto: &Auto,
+    marked: &Marked,
+    store: &Store,
+    task: Task,
+    label: &Label,
+    items: &mut Vec<Vec<Piece>>,
+) -> Result<(Task, Task), NoMemory>
+    requires ready { IsReady auto.now store.now task }
+    requires distinct { IsDistinct bytes_eq (variables_in marked.now) }
+    requires element { first_of_document (document_at store.now task.seq) ≡ Some (Item.Elem label.now) }
+    requires right { AreRight auto.now store.now answers.old }
+    ensures taken { IfOk result (λ next. TakesItem auto.now (marking_of marked.now) (variables_in marked.now) store.now task items.old.items items.new.items (next.0 ∷ (next.1 ∷ []))) }
+    ensures right { AreRight auto.now store.now answers.new }
+{
+    let rest = store.next(task.seq);
+    let content = store.content(task.seq);
+    let number = first_label(answers, auto, store, label, task.state, content, rest)?;
+    let marks = marked.marks(task.state, MoveKind::Label, number);
+    note(items, marks, Piece::First(task.seq))?;
+    let moves = auto.label_moves(task.state);
+    let step = &moves[number];
+    let behind = Task {
+        state: step.rest,
+        seq: rest,
+    };
+    let inside = Task {
+        state: step.content,
+        seq: content,
+    };
+    Ok((behind, inside))
+}
+
+/// The items of each variable in the first run, in order.
+fn take_items(
+    alloc: Global,
+    answers: &mut Answers,
+    auto: &Auto,
+    marked: &Marked,
+    mixed: &[bool],
+    start: Task,
+    store: &Store,
+) -> Result<Vec<Vec<Piece>>, NoMemory>
+    requires start { IsReady auto.now store.now start }
+    requires distinct { IsDistinct bytes_eq (variables_in marked.now) }
+    requires tails { AreTails auto.now (marking_of marked.now) mixed.now }
+    requires right { AreRight auto.now store.now answers.old }
+    ensures taken { IfOk result (λ items. AreTaken auto.now (marking_of marked.now) (variables_in marked.now) store.now start items.items []) }
+    ensures right { AreRight auto.now store.now answers.new }
+{
+    let mut items = empty_rows(alloc, marked.variables().len())?;
+    let mut tasks = Vec::new(alloc);
+    tasks.push(start)?;
+    while let Some(task) = tasks.pop() {
+        if !mixed[task.state.number()] {
+            note(
+                &mut items,
+                tail_of(auto, marked, task.state),
+                Piece::Whole(task.seq),
+            )?;
+            continue;
+        }
+        match store.first(task.seq) {
+            None => {}
+            Some(Item::Text(text)) => {
+                let next = take_text(answers, auto, marked, store, task, text, &mut items)?;
+                tasks.push(next)?;
+            }
+            Some(Item::Elem(label)) => {
+                let next = take_element(answers, auto, marked, store, task, label, &mut items)?;
+                tasks.push(next.0)?;
+                tasks.push(next.1)?;
+            }
+        }
+    }
+    Ok(items)
+}
+
+/// Empty rows, so many.
+fn empty_rows(alloc: Global, count: usize) -> Result<Vec<Vec<Piece>>, NoMemory>
+    ensures count { IfOk result (λ rows. length rows.items ≡ count) }
+    ensures bare { IfOk result (λ rows. (x : ℕ) (e : Vec Piece Global) → x < count → (slice_index_or rows.items x e).items ≡ []) }
+{
+    let mut rows = Vec::new(alloc);
+    for _ in 0..count {
+        rows.push(Vec::new(alloc))?;
+    }
+    Ok(rows)
+}
+
+/// What the first run over the document gives each variable, in order. `None`, where there is no run.
+///
+/// It takes at each item the first move that can succeed, by the answers that are kept, and adds those that it needs. It
+/// stops where all that is left of a level belongs to the same variables. Items at the end of a binding that stand so in
+/// the store already are shared.
+pub(crate) fn first_items(
+    alloc: Global,
+    answers: &mut Answers,
+    auto: &Auto,
+    marked: &Marked,
+    mixed: &[bool],
+    store: &mut Store,
+    seq: Seq,
+) -> Result<Option<Vec<Seq>>, NoMemory>
+    requires start { IsState auto.now marked.now.start }
+    requires distinct { IsDistinct bytes_eq (variables_in marked.now) }
+    requires seq { BelongsTo store.old seq }
+    requires tails { AreTails auto.now (marking_of marked.now) mixed.now }
+    requires right { AreRight auto.now store.old answers.old }
+    ensures found { IfOk result (λ found. MatchOption found (first_run auto.now (marking_of marked.now) (document_at store.old seq) marked.now.start ≡ None)
+        (λ bound. AreHeld auto.now (marking_of marked.now) (document_at store.old seq) marked.now.start (variables_in marked.now) store.new bound.items)) }
+    ensures right { AreRight auto.now store.new answers.new }
+    ensures keeps { Keeps store.old store.new }
+{
+    let start = marked.start();
+    if !accepts_kept(answers, auto, start, store, seq)? {
+        return Ok(None);
+    }
+    let first = Task { state: start, seq };
+    let items = take_items(alloc, answers, auto, marked, mixed, first, store)?;
+    answers.stay_right();
+    let bound = bind_each(alloc, store, &items)?;
+    Ok(Some(bound))
+}
