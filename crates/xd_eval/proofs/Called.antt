@@ -1,5 +1,5 @@
 -- A call whose last argument has its value.
-use Rattle.std.proofs.Common.{◌≡◌, ℕ, zero, suc, ◌+◌, ◌-◌, ◌*◌, ◌<◌, ◌≤◌, arith, List, [], ◌∷◌, ◌++◌, map, length, Some, None, refl, ap, sym, subst, ◌∙◌}
+use Rattle.std.proofs.Common.{◌≡◌, ℕ, zero, suc, ◌+◌, ◌-◌, ◌*◌, ◌≤◌, arith, List, [], ◌∷◌, ◌++◌, map, length, Some, None, refl, ap, sym, subst, ◌∙◌}
 use Rattle.std.specs.Prelude.{option_map}
 use Rattle.std.proofs.Math.Nat.{suc-mul}
 use Rattle.std.specs.List.{AllByRecursion}
@@ -13,7 +13,7 @@ use Rattle.xd_syntax.specs.Kept.{ProgramTable, program_tree, function_definition
 use Rattle.xd_syntax.specs.Meaning.{Stuck, and_then, value_by, body_by}
 use Rattle.xd_eval.specs.Waiting.{resumed}
 use Rattle.xd_eval.specs.Functions.{row_of}
-use Rattle.xd_eval.specs.Machine.{environment_in, parts_of, function_named, expression_in, all_waiting, ScopeStands, FramesStand, matcher, caller, outcome, most_steps, Leads, bound_seqs}
+use Rattle.xd_eval.specs.Machine.{IsRunnable, environment_in, parts_of, function_named, expression_in, all_waiting, ScopeStands, FramesStand, matcher, caller, outcome, most_steps, Leads, bound_seqs}
 use Rattle.xd_eval.specs.declared.frame.Parts.{Parts}
 use Rattle.xd_eval.specs.declared.frame.Scope.{Scope}
 use Rattle.xd_eval.specs.declared.frame.Frame.{Frame}
@@ -44,7 +44,7 @@ module _ (p : ProgramTable) (ds : List Document) (parts more : Parts) (seq : Seq
       ∙ ap (λ o. and_then o (resumed (matcher p) (caller p) (all_waiting p ds fs)))
       (row_called p m name values ∙ ap (λ o. body_by (value_by (matcher p) (caller p) m) (option_map (function_definition p) o) values) e)
 
-  pub call_leads : (stand : FramesStand p ds fs) (n : ℕ) → (n ≡ 0 → ⊥) → (f : FunctionRow) → row_of p.functions name ≡ Some f → f.body.at < length p.exprs → (scope : Scope) →
+  pub call_leads : (stand : FramesStand p ds fs) (n : ℕ) → (n ≡ 0 → ⊥) → (f : FunctionRow) → row_of p.functions name ≡ Some f → IsRunnable p f.body.at → (scope : Scope) →
       scope.bindings.value.items ≡ bound_seqs f.params more.values.items → AllByRecursion (BelongsTo ds) more.values.items →
       Leads p ds (fs ++ Call parts ∷ []) (Give seq) n ds fs (n - 1) (Evaluate f.body scope)
   call_leads stand zero z f e b scope s v = absurd (z refl)

@@ -11,7 +11,7 @@ use Rattle.xd_syntax.specs.Kept.{ProgramTable}
 use Rattle.xd_syntax.specs.Meaning.{Environment, value_by, chosen_by, or_else}
 use Rattle.xd_syntax.specs.declared.exprs.Clause.{Clause}
 use Rattle.xd_eval.specs.Waiting.{steps, clause_steps}
-use Rattle.xd_eval.specs.Machine.{environment_in, expression_in, clauses_in, matcher, caller, ScopeStands, ClausesStand, AreBindings, IsBody}
+use Rattle.xd_eval.specs.Machine.{IsOfClause, IsRunnable, environment_in, expression_in, clauses_in, matcher, caller, ScopeStands, ClausesStand, AreBindings, IsBody}
 use Rattle.xd_eval.specs.declared.frame.Scope.{Scope}
 use Rattle.xd_eval.proofs.Waits.{environment_kept, scope_kept}
 
@@ -68,7 +68,7 @@ is_body p old new k bs s d cs st i c l e items m si inner h same less =
           ∙ ap (λ env. value_by (matcher p) (caller p) n env (expression_in p c.body.at)) (map-append (λ (b : List ℕ × Seq). (b.0, document_at new b.1)) items bs)
           ∙ ap (λ env. value_by (matcher p) (caller p) n (environment_in new items ++ env) (expression_in p c.body.at)) (environment_kept old new k bs s)
           ∙ sym (same n ∙ taken p (environment_in old bs) d cs i c l e (environment_in new items) m n);
-      there = subst (λ (x : Clause). x.body.at < length p.exprs) (sym e) (all_at (λ (x : Clause). (x.pattern.at < length p.patterns) × (x.body.at < length p.exprs)) cs st i c l).1;
+      there = subst (λ (x : Clause). IsRunnable p x.body.at) (sym e) (all_at (λ (x : Clause). IsOfClause p x.pattern.at × IsRunnable p x.body.at) cs st i c l).1;
       stands = subst (ScopeStands new) (sym h) (all_append (λ (b : List ℕ × Seq). BelongsTo new b.1) items bs si (scope_kept old new k bs s));
       less = (let a = taken_steps p (environment_in old bs) d cs i c l e in omega arith);
     }

@@ -12,7 +12,7 @@ use Rattle.xd_syntax.specs.Kept.{ProgramTable, program_tree}
 use Rattle.xd_syntax.specs.Meaning.{Outcome, looked_up, done_or_stuck, and_then, value_by}
 use Rattle.xd_syntax.specs.declared.exprs.ExprId.{ExprId}
 use Rattle.xd_eval.specs.Waiting.{Waiting, in_sequence, in_call, in_match, resumed, steps, argument_steps, waiting_steps, all_steps}
-use Rattle.xd_eval.specs.Machine.{environment_in, parts_of, function_named, clause_numbers_of, expression_in, clauses_in, before, after, waiting_of, all_waiting, ScopeStands, IsSequence, IsCall, PartsStand, FrameStands, FramesStand, matcher, caller, most_steps, IsStep, found_in, given, IsFound}
+use Rattle.xd_eval.specs.Machine.{IsRunnable, environment_in, parts_of, function_named, clause_numbers_of, expression_in, clauses_in, before, after, waiting_of, all_waiting, ScopeStands, IsSequence, IsCall, PartsStand, FrameStands, FramesStand, matcher, caller, most_steps, IsStep, found_in, given, IsFound}
 use Rattle.xd_eval.specs.declared.frame.Parts.{Parts}
 use Rattle.xd_eval.specs.declared.frame.Frame.{Frame}
 use Rattle.xd_eval.specs.declared.frame.Frame.TheVariants.{Sequence, Call, Match}
@@ -91,12 +91,11 @@ call_waits p ds parts id bs f e v s h =
 
 -- what is so of the frame of a sequence or a call none of whose parts has a value yet
 pub parts_stand : (p : ProgramTable) (ds : List Document) (parts : Parts) (id : ExprId) (bs : List (List ℕ × Seq)) (f : ExprShape) →
-    parts.expr ≡ id → parts.values.items ≡ [] → parts.scope.bindings.value.items ≡ bs → shape_at p.exprs id.at ≡ f → id.at < length p.exprs → 0 < length (parts_of f) → ScopeStands ds bs →
+    parts.expr ≡ id → parts.values.items ≡ [] → parts.scope.bindings.value.items ≡ bs → shape_at p.exprs id.at ≡ f → IsRunnable p id.at → 0 < length (parts_of f) → ScopeStands ds bs →
     PartsStand p ds parts
 parts_stand p ds parts id bs f e v s h b l k =
-    let E : ℕ → Type 0 = λ n. n < length p.exprs in
     record {
-      there = subst (λ (i : ExprId). i.at < length p.exprs) (sym e) b;
+      there = subst (λ (i : ExprId). IsRunnable p i.at) (sym e) b;
       waits = subst (λ (ss : List Seq). length ss < length (parts_of (shape_at p.exprs parts.expr.at))) (sym v)
           (subst (λ (i : ExprId). 0 < length (parts_of (shape_at p.exprs i.at))) (sym e) (subst (λ g. 0 < length (parts_of g)) (sym h) l));
       values_there = subst (AllByRecursion (BelongsTo ds)) (sym v) tt;
@@ -132,7 +131,7 @@ enters p ds fs gs f w bs n whole first e s t h k l =
     }
 
 pub enters_sequence : (p : ProgramTable) (ds : List Document) (fs gs : List Frame) (parts : Parts) (id : ExprId) (bs : List (List ℕ × Seq)) (n : ℕ) (q : Place) (is : List ℕ) (first : ℕ) →
-    gs ≡ fs ++ Sequence parts ∷ [] → FramesStand p ds fs → ScopeStands ds bs → id.at < length p.exprs →
+    gs ≡ fs ++ Sequence parts ∷ [] → FramesStand p ds fs → ScopeStands ds bs → IsRunnable p id.at →
     parts.expr ≡ id → parts.values.items ≡ [] → parts.scope.bindings.value.items ≡ bs → shape_at p.exprs id.at ≡ seq_shape is →
     expression_in p id.at ≡ joined q (map (expression_in p) is) → 2 ≤ length is → first ≡ get_or is 0 first →
     IsEntered p ds fs gs bs n (expression_in p id.at) (expression_in p first)
@@ -153,7 +152,7 @@ enters_sequence p ds fs gs parts id bs n q (i ∷ (j ∷ is)) first e s k b ei e
     (omega arith)
 
 pub enters_call : (p : ProgramTable) (ds : List Document) (fs gs : List Frame) (parts : Parts) (id : ExprId) (bs : List (List ℕ × Seq)) (n : ℕ) (q : Place) (f : List ℕ) (is : List ℕ) (first : ℕ) →
-    gs ≡ fs ++ Call parts ∷ [] → FramesStand p ds fs → ScopeStands ds bs → id.at < length p.exprs →
+    gs ≡ fs ++ Call parts ∷ [] → FramesStand p ds fs → ScopeStands ds bs → IsRunnable p id.at →
     parts.expr ≡ id → parts.values.items ≡ [] → parts.scope.bindings.value.items ≡ bs → shape_at p.exprs id.at ≡ call_shape f is →
     expression_in p id.at ≡ Called q f (arguments_of (map (expression_in p) is)) → 1 ≤ length is → first ≡ get_or is 0 first →
     IsEntered p ds fs gs bs n (expression_in p id.at) (expression_in p first)
@@ -211,6 +210,6 @@ match_waits p ds id scope bs i cs s h =
     ap (λ (xs : List (List ℕ × Seq)). in_match (environment_in ds xs) (clauses_in p (clause_numbers_of (shape_at p.exprs id.at)))) s
     ∙ ap (λ g. in_match (environment_in ds bs) (clauses_in p (clause_numbers_of g))) h
 
-pub first_below : (p : ProgramTable) (is : List ℕ) (i : ℕ) → 1 ≤ length is → AllByRecursion (λ j. j < length p.exprs) is → i ≡ get_or is 0 i → i < length p.exprs
+pub first_below : (p : ProgramTable) (is : List ℕ) (i : ℕ) → 1 ≤ length is → AllByRecursion (IsRunnable p) is → i ≡ get_or is 0 i → IsRunnable p i
 first_below p [] i l b e = absurd (omega arith)
-first_below p (j ∷ is) i l b e = let k : j < length p.exprs = b.0 in omega (arith, e)
+first_below p (j ∷ is) i l b e = subst (IsRunnable p) (sym e) b.0

@@ -1,5 +1,5 @@
 -- What a value leads to among the parts of a sequence or of a call.
-use Rattle.std.proofs.Common.{◌≡◌, ℕ, suc, ◌+◌, ◌*◌, ◌<◌, ◌≤◌, arith, Bool, true, false, cond, List, [], ◌∷◌, ◌++◌, map, drop, length, get_or, Option, Some, None, refl, ap, sym, subst, ◌∙◌, length-append}
+use Rattle.std.proofs.Common.{◌≡◌, ℕ, suc, ◌+◌, ◌*◌, ◌<◌, ◌≤◌, arith, Bool, true, false, cond, List, [], ◌∷◌, ◌++◌, map, drop, length, get_or, Option, Some, None, refl, ap, sym, subst, ◌∙◌, length-append, inl, inr}
 use Rattle.std.specs.List.{AllByRecursion}
 use Rattle.std.specs.Option.{IfSome}
 use Rattle.std.specs.Str.{bytes_eq}
@@ -12,14 +12,18 @@ use Rattle.xd_syntax.specs.Expression.{ExprRow, shape_at}
 use Rattle.xd_syntax.specs.FunctionRow.{FunctionRow}
 use Rattle.xd_syntax.specs.Table.{Row}
 use Rattle.xd_syntax.specs.Program.{FunctionDefinition, function_of}
-use Rattle.xd_syntax.specs.Kept.{ProgramTable, FunctionStands, program_tree, parameter}
+use Rattle.xd_syntax.specs.Kept.{ProgramTable, ProgramStands, FunctionStands, program_tree, function_definition, parameter}
+use Rattle.xd_syntax.specs.Ways.{Among}
+use Rattle.xd_syntax.specs.RecursionFaults.{IsSound}
+use Rattle.xd_syntax.proofs.Members.{map_mem}
+use Rattle.xd_runs.proofs.ClausesLaw.{clauses_are_linear}
 use Rattle.xd_syntax.specs.Meaning.{Environment, and_then, value_by, bound}
 use Rattle.xd_syntax.specs.Exprs.{expr_numbers}
 use Rattle.xd_syntax.specs.declared.exprs.ExprId.{ExprId}
 use Rattle.xd_syntax.specs.declared.program.Param.{Param}
 use Rattle.xd_eval.specs.Waiting.{Waiting, in_sequence, in_call, joined_all, resumed, steps, waiting_steps, all_steps}
 use Rattle.xd_eval.specs.Functions.{row_of}
-use Rattle.xd_eval.specs.Machine.{environment_in, parts_of, function_named, expression_in, before, after, waiting_of, all_waiting, ScopeStands, IsSequence, IsCall, PartsStand, FrameStands, FramesStand, matcher, caller, outcome, most_steps, Leads, bound_seqs}
+use Rattle.xd_eval.specs.Machine.{IsRunnable, environment_in, parts_of, function_named, expression_in, before, after, waiting_of, all_waiting, ScopeStands, IsSequence, IsCall, PartsStand, FrameStands, FramesStand, matcher, caller, outcome, most_steps, Leads, bound_seqs}
 use Rattle.xd_eval.specs.declared.frame.Parts.{Parts}
 use Rattle.xd_eval.specs.declared.frame.Scope.{Scope}
 use Rattle.xd_eval.specs.declared.frame.Frame.{Frame}
@@ -66,7 +70,7 @@ module _ (p : ProgramTable) (ds : List Document) (parts : Parts) (more : Parts) 
   pub more_stands : PartsStand p ds parts → BelongsTo ds seq → length parts.values.items + 1 < length (numbers p parts) → PartsStand p ds more
   more_stands s b l =
       record {
-        there = subst (λ (i : ExprId). i.at < length p.exprs) (sym h.expr) s.there;
+        there = subst (λ (i : ExprId). IsRunnable p i.at) (sym h.expr) s.there;
         waits = subst (λ k. k < length (parts_of (shape_at p.exprs more.expr.at))) (sym count_more)
             (subst (λ (i : ExprId). length parts.values.items + 1 < length (parts_of (shape_at p.exprs i.at))) (sym h.expr) l);
         values_there = subst (AllByRecursion (BelongsTo ds)) (sym h.values) (all_append (BelongsTo ds) parts.values.items (seq ∷ []) s.values_there (b, tt));
@@ -78,7 +82,7 @@ module _ (p : ProgramTable) (ds : List Document) (parts : Parts) (more : Parts) 
 
   module _ (fs gs : List Frame) (stand : FramesStand p ds fs) (ps : PartsStand p ds parts) (b : BelongsTo ds seq) (n : ℕ) (next : ExprId) (scope : Scope)
       (l : length parts.values.items + 1 < length (numbers p parts)) (g : next.at ≡ get_or (numbers p parts) (length parts.values.items + 1) next.at)
-      (below : next.at < length p.exprs) (sc : scope.bindings.value.items ≡ parts.scope.bindings.value.items) where
+      (below : IsRunnable p next.at) (sc : scope.bindings.value.items ≡ parts.scope.bindings.value.items) where
     abbrev env : Environment
     env = environment_in ds parts.scope.bindings.value.items
 
@@ -186,28 +190,38 @@ body_steps (g ∷ fs) w f e = go (bytes_eq g.name w) e (body_steps fs w f)
         same x y h = cc
     go false k r = let i = r k in omega arith
 
-pub part_below : (p : ProgramTable) (is : List ℕ) (k i : ℕ) → AllByRecursion (λ j. j < length p.exprs) is → k < length is → i ≡ get_or is k i → i < length p.exprs
-part_below p is k i b l e = let h = all_at (λ j. j < length p.exprs) is b k i l in omega (arith, e)
+pub part_below : (p : ProgramTable) (is : List ℕ) (k i : ℕ) → AllByRecursion (IsRunnable p) is → k < length is → i ≡ get_or is k i → IsRunnable p i
+part_below p is k i b l e = subst (IsRunnable p) (sym e) (all_at (IsRunnable p) is b k i l)
 
--- what is so of a function's body
-pub body_below : (p : ProgramTable) (exprs : List ExprRow) (fs : List FunctionRow) (w : List ℕ) (f : FunctionRow) → AllByRecursion (FunctionStands p.types exprs) fs → row_of fs w ≡ Some f → f.body.at < length exprs
-body_below p exprs [] w f s e = absurd (cc)
-body_below p exprs (g ∷ fs) w f s e = go (bytes_eq g.name w) e (body_below p exprs fs w f s.1)
+same_some : {A : Type 0} (x y : A) → Some x ≡ Some y → x ≡ y
+same_some x y h = cc
+
+-- a function's body is runnable
+row_there : (fs : List FunctionRow) (w : List ℕ) (f : FunctionRow) → row_of fs w ≡ Some f → Among f fs
+row_there [] w f e = absurd (cc)
+row_there (g ∷ fs) w f e = go (bytes_eq g.name w) e (row_there fs w f)
   where
-    go : (b : Bool) → cond b (Some g) (row_of fs w) ≡ Some f → (row_of fs w ≡ Some f → f.body.at < length exprs) → f.body.at < length exprs
-    go true k r = let e : g ≡ f = same g f k in subst (λ (x : FunctionRow). x.body.at < length exprs) e s.0.body
-      where
-        same : (x y : FunctionRow) → Some x ≡ Some y → x ≡ y
-        same x y h = cc
-    go false k r = r k
+    go : (b : Bool) → cond b (Some g) (row_of fs w) ≡ Some f → (row_of fs w ≡ Some f → Among f fs) → Among f (g ∷ fs)
+    go true k r = inl (same_some g f k)
+    go false k r = inr (r k)
+
+body_there : (types : List Row) (exprs : List ExprRow) (fs : List FunctionRow) (f : FunctionRow) → AllByRecursion (FunctionStands types exprs) fs → Among f fs → f.body.at < length exprs
+body_there types exprs [] f s m = absurd m
+body_there types exprs (g ∷ fs) f s (inl e) = subst (λ (x : FunctionRow). x.body.at < length exprs) e s.0.body
+body_there types exprs (g ∷ fs) f s (inr m) = body_there types exprs fs f s.1 m
+
+pub body_below : (p : ProgramTable) (w : List ℕ) (f : FunctionRow) → ProgramStands p → IsSound (program_tree p) → row_of p.functions w ≡ Some f → IsRunnable p f.body.at
+body_below p w f stands sound e =
+    let m = row_there p.functions w f e in
+    record {
+      there = body_there p.types p.exprs p.functions f stands.functions m;
+      linear = λ A a. clauses_are_linear (program_tree p) sound.names (function_definition p f) (map_mem (function_definition p) f p.functions m) A a;
+    }
 
 pub count_numbers : (ids : List ExprId) → length (expr_numbers ids) ≡ length ids
 count_numbers [] = refl
 count_numbers (i ∷ ids) = ap suc (count_numbers ids)
 
-pub stands_of : (exprs : List ExprRow) (o : Option FunctionRow) (f : FunctionRow) → o ≡ Some f → IfSome o (λ (g : FunctionRow). g.body.at < length exprs) → f.body.at < length exprs
-stands_of exprs (Some g) f e h = let k : g ≡ f = same g f e in subst (λ (x : FunctionRow). x.body.at < length exprs) k h
-  where
-    same : (x y : FunctionRow) → Some x ≡ Some y → x ≡ y
-    same x y h = cc
-stands_of exprs None f e h = absurd (cc)
+pub stands_of : (p : ProgramTable) (o : Option FunctionRow) (f : FunctionRow) → o ≡ Some f → IfSome o (λ (g : FunctionRow). IsRunnable p g.body.at) → IsRunnable p f.body.at
+stands_of p (Some g) f e h = subst (λ (x : FunctionRow). IsRunnable p x.body.at) (same_some g f e) h
+stands_of p None f e h = absurd (cc)

@@ -1,5 +1,5 @@
 -- What an accepted program comes to.
-use Rattle.std.proofs.Common.{◌≡◌, ℕ, suc, ◌-◌, ◌<◌, ◌≤◌, arith, Bool, true, false, cond, List, [], ◌∷◌, map, length, Option, Some, None, refl, ap, sym, subst, ◌∙◌}
+use Rattle.std.proofs.Common.{◌≡◌, ℕ, suc, ◌-◌, ◌≤◌, arith, Bool, true, false, cond, List, [], ◌∷◌, map, Option, Some, None, refl, ap, sym, subst, ◌∙◌}
 use Rattle.std.specs.Prelude.{option_map}
 use Rattle.std.specs.Str.{bytes_eq}
 use Rattle.xd_doc.specs.Document.{Document, is_proper}
@@ -14,6 +14,7 @@ use Rattle.xd_syntax.specs.Bindings.{first_bindings, bindings_in, variables_of}
 use Rattle.xd_syntax.specs.FunctionRow.{FunctionRow}
 use Rattle.xd_syntax.specs.Program.{FunctionDefinition, ProgramTree, names_of, function_of}
 use Rattle.xd_syntax.specs.Kept.{ProgramTable, ProgramStands, program_tree, function_definition, parameter}
+use Rattle.xd_syntax.specs.RecursionFaults.{IsSound}
 use Rattle.xd_syntax.specs.Sound.{main_parameter, only_parameter}
 use Rattle.xd_syntax.specs.Proper.{IsProperProgram}
 use Rattle.xd_syntax.specs.Meaning.{Done, Stuck, Environment, value_by, body_by, meaning}
@@ -25,7 +26,7 @@ use Rattle.xd_laws.specs.Safety.{IsSafe, IsValueOf, Meets}
 use Rattle.xd_eval.specs.Functions.{row_of}
 use Rattle.xd_eval.specs.declared.frame.Control.{Control}
 use Rattle.xd_eval.specs.declared.frame.Ending.{Ending}
-use Rattle.xd_eval.specs.Machine.{IsEnding, caller, matcher, outcome, environment_in, expression_in, ScopeStands, bound_seqs}
+use Rattle.xd_eval.specs.Machine.{IsRunnable, IsEnding, caller, matcher, outcome, environment_in, expression_in, ScopeStands, bound_seqs}
 use Rattle.xd_eval.specs.declared.frame.Scope.{Scope}
 use Rattle.xd_eval.specs.declared.frame.Control.TheVariants.{Evaluate}
 use Rattle.xd_syntax.specs.declared.exprs.ExprId.{ExprId}
@@ -124,11 +125,11 @@ value_declared p safe d proper fits n v m e main f =
     same x y h = cc
 
 -- the call of `main` begins with its body
-pub started : (p : ProgramTable) (ds : List Document) (input : Seq) (f : FunctionRow) (id : ExprId) (scope : Scope) → row_of p.functions main_word ≡ Some f → ProgramStands p → id ≡ f.body →
+pub started : (p : ProgramTable) (ds : List Document) (input : Seq) (f : FunctionRow) (id : ExprId) (scope : Scope) → row_of p.functions main_word ≡ Some f → ProgramStands p → IsSound (program_tree p) → id ≡ f.body →
     scope.bindings.value.items ≡ bound_seqs f.params (input ∷ []) → BelongsTo ds input → IsStart p ds input (Some (Evaluate id scope))
-started p ds input f id scope found stands body bound b =
-    let there : f.body.at < length p.exprs = body_below p p.exprs p.functions main_word f stands.functions found in (
-      (subst (λ (i : ExprId). i.at < length p.exprs) (sym body) there, subst (ScopeStands ds) (sym bound) (bound_stands ds f.params (input ∷ []) (b, tt))),
+started p ds input f id scope found stands sound body bound b =
+    let there : IsRunnable p f.body.at = body_below p main_word f stands sound found in (
+      (subst (λ (i : ExprId). IsRunnable p i.at) (sym body) there, subst (ScopeStands ds) (sym bound) (bound_stands ds f.params (input ∷ []) (b, tt))),
       λ n. then_done (value_by (matcher p) (caller p) n (environment_in ds scope.bindings.value.items) (expression_in p id.at))
           ∙ ap (λ (i : ExprId). value_by (matcher p) (caller p) n (environment_in ds scope.bindings.value.items) (expression_in p i.at)) body
           ∙ ap (λ (bs : List (List ℕ × Seq)). value_by (matcher p) (caller p) n (environment_in ds bs) (expression_in p f.body.at)) bound

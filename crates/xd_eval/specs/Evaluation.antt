@@ -11,8 +11,8 @@ use Rattle.xd_syntax.specs.Sound.{main_parameter}
 use Rattle.xd_syntax.specs.Meaning.{meaning, Done, Spent}
 use Rattle.xd_syntax.specs.declared.types.TypeId.{TypeId}
 use Rattle.xd_laws.specs.Safety.{IsValueOf}
-use Rattle.xd_eval.specs.declared.evaluate.Outcome.{Outcome}
-use Rattle.xd_eval.specs.declared.evaluate.Outcome.TheVariants as outcomes
+use Rattle.xd_eval.specs.declared.evaluation.Outcome.{Outcome}
+use Rattle.xd_eval.specs.declared.evaluation.Outcome.TheVariants as outcomes
 
 abbrev pub FitsParameter : ProgramTable → Document → Option TypeId → Type 0
 FitsParameter p d None = ⊥

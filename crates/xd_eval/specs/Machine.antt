@@ -6,8 +6,11 @@ use Rattle.xd_base.specs.declared.Place.{Place}
 use Rattle.xd_doc.specs.Document.{Document}
 use Rattle.xd_doc.specs.Stored.{BelongsTo, document_at}
 use Rattle.xd_doc.specs.declared.store.Seq.{Seq}
-use Rattle.xd_syntax.specs.Placed.{placed_at}
-use Rattle.xd_syntax.specs.Expression.{Expression, Clauses, ExprShape, seq_shape, call_shape, match_shape, shape_expression, expression_at, shape_at, ExprPartsBelow, ExprCanFollow, ShapePatternsBelong, clauses_of}
+use Rattle.xd_syntax.specs.Placed.{PlacedTree, placed_at, unplaced}
+use Rattle.xd_syntax.specs.Ways.{Among}
+use Rattle.xd_runs.specs.Linear.{IsLinear}
+use Rattle.xd_runs.specs.Clauses.{patterns_in}
+use Rattle.xd_syntax.specs.Expression.{Expression, Clauses, ExprShape, elem_shape, seq_shape, call_shape, match_shape, shape_expression, expression_at, shape_at, ExprCanFollow, ShapePatternsBelong, clauses_of}
 use Rattle.xd_syntax.specs.Program.{FunctionDefinition}
 use Rattle.xd_syntax.specs.Kept.{ProgramTable, program_tree}
 use Rattle.xd_syntax.specs.Meaning.{Outcome, Done, Spent, Stuck, and_then, value_by, chosen_by, call_within}
@@ -46,6 +49,28 @@ clause_numbers_of _ = []
 abbrev pub expression_in : ProgramTable → ℕ → Expression
 expression_in p i = expression_at p.patterns p.exprs i
 
+-- each way of each of these patterns binds each of its variables, and binds it once
+abbrev pub AreLinear : List PlacedTree → Type 0
+AreLinear As = (A : PlacedTree) → Among A As → IsLinear (unplaced A)
+
+-- the expression is there, and the patterns of all clauses in it are linear
+pub record IsRunnable (p : ProgramTable) (i : ℕ) : Type 0 where
+  pub there : i < length p.exprs
+  pub linear : AreLinear (patterns_in (expression_in p i))
+
+-- the pattern is there, and linear
+pub record IsOfClause (p : ProgramTable) (i : ℕ) : Type 0 where
+  pub there : i < length p.patterns
+  pub linear : IsLinear (unplaced (placed_at p.patterns i))
+
+-- the parts of the shape are runnable, and its patterns are linear
+abbrev pub PartsAreRunnable : ProgramTable → ExprShape → Type 0
+PartsAreRunnable p (elem_shape l i) = IsRunnable p i
+PartsAreRunnable p (seq_shape is) = AllByRecursion (IsRunnable p) is
+PartsAreRunnable p (call_shape f is) = AllByRecursion (IsRunnable p) is
+PartsAreRunnable p (match_shape i cs) = IsRunnable p i × AllByRecursion (λ (c : ℕ × ℕ). IsOfClause p c.0 × IsRunnable p c.1) cs
+PartsAreRunnable p _ = Unit {0}
+
 -- the clauses of a match
 abbrev pub clauses_in : ProgramTable → List (ℕ × ℕ) → Clauses
 clauses_in p cs = clauses_of (placed_at p.patterns) (expression_in p) cs
@@ -80,7 +105,7 @@ IsMatch i s = s ≡ match_shape i (clause_numbers_of s)
 
 -- a part is waited for, and the values belong to the store
 pub record PartsStand (p : ProgramTable) (ds : List Document) (parts : Parts) : Type 0 where
-  pub there : parts.expr.at < length p.exprs
+  pub there : IsRunnable p parts.expr.at
   pub waits : length parts.values.items < length (parts_of (shape_at p.exprs parts.expr.at))
   pub values_there : AllByRecursion (BelongsTo ds) parts.values.items
   pub scope_stands : ScopeStands ds parts.scope.bindings.value.items
@@ -90,13 +115,13 @@ FrameStands p ds (Element l) = Unit {0}
 FrameStands p ds (Sequence parts) = IsSequence (shape_at p.exprs parts.expr.at) × PartsStand p ds parts
 FrameStands p ds (Call parts) = IsCall (shape_at p.exprs parts.expr.at) × PartsStand p ds parts
 FrameStands p ds (Match id scope) =
-    (id.at < length p.exprs) × ((i : ℕ) × IsMatch i (shape_at p.exprs id.at)) × ScopeStands ds scope.bindings.value.items
+    IsRunnable p id.at × ((i : ℕ) × IsMatch i (shape_at p.exprs id.at)) × ScopeStands ds scope.bindings.value.items
 
 abbrev pub FramesStand : ProgramTable → List Document → List Frame → Type 0
 FramesStand p ds fs = AllByRecursion (FrameStands p ds) fs
 
 abbrev pub ControlStands : ProgramTable → List Document → Control → Type 0
-ControlStands p ds (Evaluate id scope) = (id.at < length p.exprs) × ScopeStands ds scope.bindings.value.items
+ControlStands p ds (Evaluate id scope) = IsRunnable p id.at × ScopeStands ds scope.bindings.value.items
 ControlStands p ds (Give seq) = BelongsTo ds seq
 
 abbrev pub caller : ProgramTable → Caller
@@ -154,7 +179,7 @@ pub record IsShapeAt (p : ProgramTable) (i : ℕ) (f : ExprShape) : Type 0 where
   pub place : Place
   pub expression : expression_in p i ≡ shape_expression (placed_at p.patterns) (expression_in p) place f
   pub shape : shape_at p.exprs i ≡ f
-  pub parts : ExprPartsBelow (length p.exprs) f
+  pub parts : PartsAreRunnable p f
   pub merged : ExprCanFollow (take i p.exprs) f
   pub patterns : ShapePatternsBelong (length p.patterns) f
 
@@ -166,13 +191,13 @@ bound_seqs (q ∷ qs) (seq ∷ seqs) = (q.name, seq) ∷ bound_seqs qs seqs
 
 -- the patterns and the bodies of these clauses are there
 abbrev pub ClausesStand : ProgramTable → List Clause → Type 0
-ClausesStand p cs = AllByRecursion (λ (c : Clause). (c.pattern.at < length p.patterns) × (c.body.at < length p.exprs)) cs
+ClausesStand p cs = AllByRecursion (λ (c : Clause). IsOfClause p c.pattern.at × IsRunnable p c.body.at) cs
 
 -- The body of the first clause that takes the document is next, where the clauses' scope is outside; or no clause takes it.
 pub record IsBody (p : ProgramTable) (old new : List Document) (cs : List (ℕ × ℕ)) (bs : List (List ℕ × Seq)) (d : Document) (id : ExprId) (scope : Scope) : Type 0 where
   pub same : (n : ℕ) → value_by (matcher p) (caller p) n (environment_in new scope.bindings.value.items) (expression_in p id.at)
       ≡ chosen_by (matcher p) (caller p) n (environment_in old bs) d (clauses_in p cs)
-  pub there : id.at < length p.exprs
+  pub there : IsRunnable p id.at
   pub stands : ScopeStands new scope.bindings.value.items
   pub less : steps (expression_in p id.at) ≤ clause_steps (clauses_in p cs)
 

@@ -1,29 +1,10 @@
--- The bindings of first matches, as documents of a store.
-use Rattle.std.specs.Prelude.{◌≡◌, ℕ, List, map, Option, Some, None, Vec}
-use Rattle.std.specs.List.{AllByRecursion}
-use Rattle.xd_doc.specs.Document.{Document}
-use Rattle.xd_doc.specs.Stored.{BelongsTo, document_at}
-use Rattle.xd_doc.specs.declared.store.Seq.{Seq}
+-- The bindings of first matches in a program.
 use Rattle.xd_syntax.specs.Program.{names_of}
 use Rattle.xd_syntax.specs.Kept.{ProgramTable, program_tree}
-use Rattle.xd_syntax.specs.Meaning.{Environment, Matcher}
+use Rattle.xd_syntax.specs.Meaning.{Matcher}
 use Rattle.xd_syntax.specs.Bindings.{first_bindings}
-
--- what names have, where this is what they are bound to
-abbrev pub environment_in : List Document → List (List ℕ × Seq) → Environment
-environment_in ds bs = map (λ b. (b.0, document_at ds b.1)) bs
-
--- what the names of a scope have belongs to the store
-abbrev pub ScopeStands : List Document → List (List ℕ × Seq) → Type 0
-ScopeStands ds bs = AllByRecursion (λ (b : List ℕ × Seq). BelongsTo ds b.1) bs
+pub use Rattle.xd_match.specs.Matches.{environment_in, ScopeStands, AreBindings}
 
 -- the bindings of a first match, one for each variable
 abbrev pub matcher : ProgramTable → Matcher
 matcher p = first_bindings (names_of (program_tree p))
-
--- a match's bindings, or none where there is no match
-abbrev pub AreBindings : {S : Type 0} → List Document → Option Environment → Option (Vec (List ℕ × Seq) S) → Type 0
-AreBindings ds None None = Unit {0}
-AreBindings ds (Some vs) (Some bs) = (environment_in ds bs.items ≡ vs) × ScopeStands ds bs.items
-AreBindings ds None (Some bs) = ⊥
-AreBindings ds (Some vs) None = ⊥

@@ -5,7 +5,7 @@ ghost use Rattle.std.specs.Option.{option_copied};
 ghost use Rattle.xd_doc.specs.Stored.{BelongsTo, Keeps, document_at};
 ghost use Rattle.xd_syntax.specs.Expression.{shape_at, empty_shape, text_shape, var_shape, elem_shape, match_shape};
 ghost use Rattle.xd_syntax.specs.Exprs.{expr_numbers, shape_of};
-ghost use Rattle.xd_eval.specs.Machine.{FramesStand, IsStep, IsSequence, IsCall, ScopeStands, environment_in, function_named, parts_of, found_in, given, IsShapeAt};
+ghost use Rattle.xd_eval.specs.Machine.{FramesStand, IsRunnable, IsStep, IsSequence, IsCall, ScopeStands, environment_in, function_named, parts_of, found_in, given, IsShapeAt};
 
 use crate::frame::{Control, Frame, Parts, Scope, Step};
 use std::alloc::Global;
@@ -21,7 +21,7 @@ pub(crate) fn enter(
     id: ExprId,
     scope: Scope,
 ) -> Result<Step, NoMemory>
-    requires id { id.at < length sound.now.exprs }
+    requires id { IsRunnable sound.now id.at }
     requires scope { ScopeStands store.old scope.bindings.value.items }
     requires frames { FramesStand sound.now store.old frames.old.items }
     ensures step { IfOk result (λ step. (n : ℕ) → IsStep sound.now store.old frames.old.items (Control.Evaluate id scope) n store.new frames.new.items n step) }
@@ -57,7 +57,7 @@ pub(crate) fn enter(
 
 /// What an expression is.
 pub(crate) fn form_of(sound: &SoundProgram, id: ExprId) -> &ExprForm
-    requires { id.at < length sound.now.exprs }
+    requires { IsRunnable sound.now id.at }
     ensures { IsShapeAt sound.now id.at (shape_of result.now) }
 {
     let program = sound.program();

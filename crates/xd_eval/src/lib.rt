@@ -2,12 +2,12 @@
 #![tactic(auto)]
 
 mod entering;
-mod evaluate;
+mod evaluation;
 mod frame;
 mod functions;
 mod machine;
 mod matching;
 mod resuming;
 
-pub use evaluate::{Outcome, evaluate_with};
+pub use evaluation::{Outcome, evaluate, evaluate_with};
 pub use matching::Matching;

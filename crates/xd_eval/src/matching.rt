@@ -5,10 +5,12 @@ ghost use Rattle.xd_doc.specs.Document.{Document};
 ghost use Rattle.xd_doc.specs.Stored.{BelongsTo, Keeps, document_at};
 ghost use Rattle.xd_syntax.specs.Kept.{ProgramTable};
 ghost use Rattle.xd_syntax.specs.Placed.{placed_at, unplaced};
+ghost use Rattle.xd_runs.specs.Linear.{IsLinear};
 ghost use Rattle.xd_eval.specs.Matches.{AreBindings, matcher};
 
 use std::alloc::Global;
 use xd_doc::{Label, NoMemory, Seq, Store};
+use xd_match::Matchers;
 use xd_syntax::{PatternId, SoundProgram};
 
 /// Finds first matches. What it keeps from one match to the next is its own.
@@ -28,6 +30,7 @@ pub trait Matching {
     ) -> Result<Option<Vec<(Label, Seq)>>, NoMemory>
         requires serves { serves self.old sound.now store.old }
         requires pattern { pattern.at < length sound.now.patterns }
+        requires linear { IsLinear (unplaced (placed_at sound.now.patterns pattern.at)) }
         requires seq { BelongsTo store.old seq }
         ensures found { IfOk result (AreBindings store.new (matcher sound.now (unplaced (placed_at sound.now.patterns pattern.at)) (document_at store.old seq))) }
         ensures serves { serves self.new sound.now store.new }
@@ -35,4 +38,24 @@ pub trait Matching {
 
     /// It serves a store that has grown.
     ghost stays: { (m : Self) (p : ProgramTable) (old new : List Document) → serves m p old → Keeps old new → serves m p new };
+}
+
+impl Matching for Matchers {
+    ghost use Rattle.xd_match.specs.Serving.{Serves};
+    ghost use Rattle.xd_match.proofs.Staying.{serves_stays};
+
+    ghost serves = { λ m p ds. Serves p ds m };
+
+    ghost stays = { serves_stays };
+
+    fn first_match(
+        &mut self,
+        alloc: Global,
+        sound: &SoundProgram,
+        pattern: PatternId,
+        store: &mut Store,
+        seq: Seq,
+    ) -> Result<Option<Vec<(Label, Seq)>>, NoMemory> {
+        self.first_way(alloc, sound, pattern, store, seq)
+    }
 }

@@ -7,7 +7,7 @@ ghost use Rattle.xd_doc.specs.Stored.{BelongsTo, Keeps, document_at};
 ghost use Rattle.xd_syntax.specs.Expression.{shape_at};
 ghost use Rattle.xd_syntax.specs.Exprs.{expr_numbers, clause_numbers};
 ghost use Rattle.xd_eval.specs.Functions.{AreFunctionNames, row_of};
-ghost use Rattle.xd_eval.specs.Machine.{ClausesStand, FrameStands, FramesStand, IsCall, IsChosen, IsSequence, IsStep, PartsStand, ScopeStands, bound_seqs, clause_numbers_of, function_named, parts_of};
+ghost use Rattle.xd_eval.specs.Machine.{ClausesStand, FrameStands, FramesStand, IsCall, IsChosen, IsRunnable, IsSequence, IsStep, PartsStand, ScopeStands, bound_seqs, clause_numbers_of, function_named, parts_of};
 
 use crate::entering::{form_of, part_at};
 use crate::frame::{Control, Frame, Parts, Scope, Step};
@@ -84,9 +84,9 @@ fn next_of_sequence(
 
 /// The parts of a sequence, or the arguments of a call.
 fn all_parts(sound: &SoundProgram, id: ExprId) -> &[ExprId]
-    requires { id.at < length sound.now.exprs }
+    requires { IsRunnable sound.now id.at }
     ensures numbers { expr_numbers result.now ≡ parts_of (shape_at sound.now.exprs id.at) }
-    ensures below { AllByRecursion (λ i. i < length sound.now.exprs) (expr_numbers result.now) }
+    ensures below { AllByRecursion (IsRunnable sound.now) (expr_numbers result.now) }
 {
     match form_of(sound, id) {
         ExprForm::Seq(parts) => parts.as_slice(),
@@ -139,11 +139,11 @@ fn next_of_call(
 
 /// The function that a call names.
 fn called<'a>(sound: &'a SoundProgram, names: &FunctionNames, id: ExprId) -> Option<&'a Function>
-    requires id { id.at < length sound.now.exprs }
+    requires id { IsRunnable sound.now id.at }
     requires names { AreFunctionNames names.now sound.now.functions }
     requires call { IsCall (shape_at sound.now.exprs id.at) }
     ensures found { option_copied result ≡ row_of sound.now.functions (function_named (shape_at sound.now.exprs id.at)) }
-    ensures stands { IfSome (option_copied result) (λ function. function.body.at < length sound.now.exprs) }
+    ensures stands { IfSome (option_copied result) (λ function. IsRunnable sound.now function.body.at) }
 {
     let functions = sound.program().functions();
     match form_of(sound, id) {
@@ -174,7 +174,7 @@ pub(crate) fn bind(
 
 /// The clauses of a match.
 fn clauses_of(sound: &SoundProgram, id: ExprId) -> &[Clause]
-    requires { id.at < length sound.now.exprs }
+    requires { IsRunnable sound.now id.at }
     ensures numbers { clause_numbers result.now ≡ clause_numbers_of (shape_at sound.now.exprs id.at) }
     ensures stand { ClausesStand sound.now result.now }
 {

@@ -1,13 +1,13 @@
-use Rattle.std.proofs.Common.{◌≡◌, ℕ, ◌+◌, ◌*◌, arith, List, length, get_or, map, ap, sym, subst, ◌∙◌, refl}
+use Rattle.std.proofs.Common.{◌≡◌, ℕ, ◌+◌, ◌*◌, arith, List, get_or, map, ap, sym, subst, ◌∙◌, refl}
 use Rattle.xd_doc.specs.Stored.{document_at}
 use Rattle.xd_doc.specs.Document.{text, empty}
 use Rattle.xd_doc.specs.declared.store.Seq.{Seq}
-use Rattle.xd_syntax.specs.Expression.{Quoted, Variable, Called, Matched, joined, arguments_of, shape_expression, seq_shape, call_shape, match_shape, ExprCanFollow, ExprPartsBelow}
+use Rattle.xd_syntax.specs.Expression.{Quoted, Variable, Called, Matched, joined, arguments_of, shape_expression, seq_shape, call_shape, match_shape, ExprCanFollow}
 use Rattle.xd_syntax.specs.Exprs.{expr_numbers, clause_numbers, shape_of}
 use Rattle.xd_syntax.specs.Kept.{program_tree}
 use Rattle.xd_syntax.specs.Placed.{placed_at}
 use Rattle.xd_eval.specs.Waiting.{steps, all_steps}
-use Rattle.xd_eval.specs.Machine.{expression_in, clauses_in, most_steps, ScopeStands, IsStep, IsMatch, found_in}
+use Rattle.xd_eval.specs.Machine.{PartsAreRunnable, expression_in, clauses_in, most_steps, ScopeStands, IsStep, IsMatch, found_in}
 use Rattle.xd_eval.specs.declared.frame.Frame.TheVariants.{Match}
 use Rattle.xd_eval.proofs.Entered.{gives_text, gives_variable, enters_sequence, enters_call, enters_match, match_waits, first_below, IsEntered}
 use Rattle.xd_eval.proofs.Waits.{all_kept, frames_kept}
@@ -53,7 +53,7 @@ returns-in_ok-push-in-Seq-clause-step c n =
     c.form_of.ensures.expression ∙ ap (shape_expression (placed_at p.patterns) (expression_in p) c.form_of.ensures.place) f in
     let nv = c.in_ok-no_values-in-Seq.ensures in
     let m = (subst (ExprCanFollow _) f c.form_of.ensures.merged).0 in
-    let b = subst (ExprPartsBelow (length p.exprs)) f c.form_of.ensures.parts in
+    let b = subst (PartsAreRunnable p) f c.form_of.ensures.parts in
     let e : IsEntered p c.args.store.now c.args.frames.now.items c.push-in-Seq.new.self.items c.args.scope.bindings.value.items n (expression_in p c.args.id.at) (expression_in p i) =
     enters_sequence p c.args.store.now c.args.frames.now.items c.push-in-Seq.new.self.items c.in_ok-no_values-in-Seq.field-0 c.args.id c.args.scope.bindings.value.items n
     c.form_of.ensures.place is i
@@ -73,7 +73,7 @@ returns-in_ok-push-in-Call-clause-step c n =
     c.form_of.ensures.expression ∙ ap (shape_expression (placed_at p.patterns) (expression_in p) c.form_of.ensures.place) f in
     let nv = c.in_ok-no_values-in-Call.ensures in
     let m = (subst (ExprCanFollow _) f c.form_of.ensures.merged).0 in
-    let b = subst (ExprPartsBelow (length p.exprs)) f c.form_of.ensures.parts in
+    let b = subst (PartsAreRunnable p) f c.form_of.ensures.parts in
     let e : IsEntered p c.args.store.now c.args.frames.now.items c.push-in-Call.new.self.items c.args.scope.bindings.value.items n (expression_in p c.args.id.at) (expression_in p i) =
     enters_call p c.args.store.now c.args.frames.now.items c.push-in-Call.new.self.items c.in_ok-no_values-in-Call.field-0 c.args.id c.args.scope.bindings.value.items n
     c.form_of.ensures.place c.in-Call.field-0 is i
@@ -91,7 +91,7 @@ returns-in_ok-push-in-Match-clause-step c n =
     let h = c.form_of.ensures.shape ∙ f in
     let x : expression_in p c.args.id.at ≡ Matched c.form_of.ensures.place (expression_in p i) (clauses_in p cs) =
     c.form_of.ensures.expression ∙ ap (shape_expression (placed_at p.patterns) (expression_in p) c.form_of.ensures.place) f in
-    let b = subst (ExprPartsBelow (length p.exprs)) f c.form_of.ensures.parts in
+    let b = subst (PartsAreRunnable p) f c.form_of.ensures.parts in
     let s = c.in_ok-share-in-Match.ensures in
     let e : IsEntered p c.args.store.now c.args.frames.now.items c.push-in-Match.new.self.items c.args.scope.bindings.value.items n (expression_in p c.args.id.at) (expression_in p i) =
     enters_match p c.args.store.now c.args.frames.now.items c.push-in-Match.new.self.items (Match c.args.id c.in_ok-share-in-Match.field-0) c.args.id c.args.scope.bindings.value.items n

@@ -1,10 +1,24 @@
 use Rattle.std.proofs.Common.{get_or, ap, sym, ◌∙◌}
 use Rattle.xd_doc.specs.Stored.{document_at}
 use Rattle.xd_syntax.specs.Placed.{placed_at, unplaced}
-use Rattle.xd_eval.specs.Machine.{matcher}
+use Rattle.xd_doc.proofs.Lists.{all_at}
+use Rattle.xd_syntax.specs.declared.exprs.Clause.{Clause}
+use Rattle.xd_eval.specs.Machine.{IsOfClause, IsRunnable, matcher}
 use Rattle.xd_eval.proofs.Choosing.{bound_are, is_body, same_at}
 use Rattle.xd_eval.proofs.Waits.{keeps_then}
 use Rattle.xd_eval.proofs.resuming.choose.Goals as goal
+
+pub first_match-requires-clause-pattern : goal.first_match-requires-clause-pattern
+first_match-requires-clause-pattern g c =
+    let p = c.args.sound.now in
+    let d : Clause = record { pattern = record { at = 0 }; body = record { at = 0 } } in
+    (all_at (λ (x : Clause). IsOfClause p x.pattern.at × IsRunnable p x.body.at) c.args.clauses.now c.requires.clauses c.loop-clause.clause-index d c.loop-clause-test.true).0.there
+
+pub first_match-requires-clause-linear : goal.first_match-requires-clause-linear
+first_match-requires-clause-linear g c =
+    let p = c.args.sound.now in
+    let d : Clause = record { pattern = record { at = 0 }; body = record { at = 0 } } in
+    (all_at (λ (x : Clause). IsOfClause p x.pattern.at × IsRunnable p x.body.at) c.args.clauses.now c.requires.clauses c.loop-clause.clause-index d c.loop-clause-test.true).0.linear
 
 pub returns-in-Some-clause-chosen : goal.returns-in-Some-clause-chosen
 returns-in-Some-clause-chosen g c =

@@ -68,7 +68,7 @@ returns c =
     record {
       step = subst (λ (id : ExprId). Leads p c.args.store.now (c.args.frames.now.items ++ Call c.args.parts ∷ []) (Give c.args.seq) c.args.left.now c.args.store.now c.args.frames.now.items (c.args.left.now - 1) (Evaluate id c.in_ok-scope-in-Some.scope)) (sym c.body.ensures)
           (call_leads p c.args.store.now c.args.parts more c.args.seq h c.args.frames.now.items l c.requires.frames c.args.left.now c.if-left-eq0.false c.in-Some.function.now found
-          (stands_of p.exprs _ c.in-Some.function.now (ap option_copied c.in-Some.is) c.called.ensures.stands) c.in_ok-scope-in-Some.scope
+          (stands_of p _ c.in-Some.function.now (ap option_copied c.in-Some.is) c.called.ensures.stands) c.in_ok-scope-in-Some.scope
           (c.in_ok-scope-in-Some.ensures ∙ c.in_ok-bound-in-Some.ensures ∙ ap (λ qs. bound_seqs qs c.deref.result.now) c.params.ensures.params ∙ ap (bound_seqs c.in-Some.function.now.params) c.deref.ensures.value)
           (subst (AllByRecursion (BelongsTo c.args.store.now)) (sym h.values) (all_append (BelongsTo c.args.store.now) c.args.parts.values.items (c.args.seq ∷ []) c.requires.parts.values_there (c.requires.seq, tt))));
     }

@@ -15,6 +15,7 @@ use crate::resuming::bind;
 use std::alloc::Global;
 use xd_doc::{Label, NoMemory, Seq, Store};
 use xd_laws::{accepted_programs_are_safe, bindings_are_in_order};
+use xd_match::Matchers;
 use xd_syntax::{Checked, SoundProgram};
 
 /// What an accepted program comes to on fuel.
@@ -59,6 +60,25 @@ pub fn evaluate_with<M: Matching>(
         Ending::Spent => Ok(Outcome::Spent),
         Ending::Stuck => unreachable!(),
     }
+}
+
+/// The same, with the first matches of the program's compiled patterns.
+pub fn evaluate(
+    alloc: Global,
+    checked: &Checked,
+    store: &mut Store,
+    input: Seq,
+    fuel: u64,
+) -> Result<Outcome, NoMemory>
+    requires seq { BelongsTo store.old input }
+    requires input { IsInput checked.now (document_at store.old input) }
+    requires fuel { 1 ≤ fuel }
+    ensures evaluated { IfOk result (IsEvaluated checked.now (document_at store.old input) fuel store.new) }
+    ensures declared { IfOk result (IsOfDeclared (program_tree checked.now) store.new) }
+    ensures keeps { Keeps store.old store.new }
+{
+    let mut matchers = Matchers::new(alloc, checked.sound())?;
+    evaluate_with(alloc, checked, &mut matchers, store, input, fuel)
 }
 
 /// The call of `main` on a document.

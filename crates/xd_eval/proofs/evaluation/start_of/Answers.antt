@@ -4,7 +4,7 @@ use Rattle.xd_syntax.specs.Kept.{ProgramTable, ProgramStands}
 use Rattle.xd_eval.specs.Functions.{row_of}
 use Rattle.xd_eval.specs.Machine.{bound_seqs}
 use Rattle.xd_eval.proofs.Running.{started}
-use Rattle.xd_eval.proofs.evaluate.start_of.Goals as goal
+use Rattle.xd_eval.proofs.evaluation.start_of.Goals as goal
 
 pub returns : goal.returns
 returns c =
@@ -12,5 +12,5 @@ returns c =
     let functions = c.functions-functions.ensures.functions ∙ ap (λ (q : ProgramTable). q.functions) c.program.ensures.program in
     started p c.args.store.now c.args.input c.in-Some.function.now c.body.result c.in_ok-scope.scope
     (ap (row_of p.functions) (sym c.in_ok-main.ensures) ∙ ap (λ fs. row_of fs c.in_ok-main.main) (sym functions) ∙ sym c.find.ensures ∙ ap option_copied c.in-Some.is)
-    (subst ProgramStands c.program.ensures.program c.functions-functions.ensures.stands) c.body.ensures
+    (subst ProgramStands c.program.ensures.program c.functions-functions.ensures.stands) c.program.ensures.sound c.body.ensures
     (c.in_ok-scope.ensures ∙ c.in_ok-bound.ensures ∙ ap (λ qs. bound_seqs qs (c.args.input ∷ [])) c.params.ensures.params) c.requires.input

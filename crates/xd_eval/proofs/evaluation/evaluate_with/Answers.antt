@@ -8,7 +8,7 @@ use Rattle.xd_eval.specs.Functions.{row_of}
 use Rattle.xd_eval.specs.Machine.{IsStart}
 use Rattle.xd_eval.specs.Machine.{IsEnding}
 use Rattle.xd_eval.proofs.Running.{ran, left_within, stuck_never, main_missing, value_declared}
-use Rattle.xd_eval.proofs.evaluate.evaluate_with.Goals as goal
+use Rattle.xd_eval.proofs.evaluation.evaluate_with.Goals as goal
 
 pub overflow_sub-result : goal.overflow_sub-result
 overflow_sub-result g c =
