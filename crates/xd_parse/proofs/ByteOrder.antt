@@ -9,7 +9,7 @@ use Rattle.std.proofs.lemmas.Slice.Eq.{bytes_eq-Decides}
 use Rattle.std.specs.declared.cmp.Ordering.{Ordering}
 use Rattle.std.specs.declared.cmp.Ordering.TheVariants.{Less, Equal, Greater}
 use Rattle.xd_doc.specs.Classes.{NameClass, names_label}
-use Rattle.xd_syntax.proofs.SameClass.{same_words}
+use Rattle.xd_doc.proofs.SortedNames.{same_words}
 use Rattle.xd_syntax.specs.Table.{IsWordsNode}
 use Rattle.xd_parse.specs.Merged.{put_by, put_word, in_byte_order, class_of}
 

@@ -17,7 +17,7 @@ use Rattle.xd_parse.specs.Grammar.{Row, rules, IsOneOf}
 use Rattle.xd_parse.specs.Fits.{same, fits, first_fit}
 use Rattle.xd_parse.specs.Machine.{course}
 use Rattle.xd_parse.specs.Values.{Value, a_tree, definitions, value_of}
-use Rattle.xd_parse.specs.Means.{Means, ends, a_token, an_opening, a_closing, a_bar, a_part, terminal_at}
+use Rattle.xd_parse.specs.Means.{Means, MeansAll, ends, a_token, an_opening, a_closing, a_bar, a_part, terminal_at}
 use Rattle.xd_parse.specs.Laws.{TextsMeanOneThing}
 use Rattle.xd_parse.specs.Reading.{Reads, front_terminal, group_row, element_row, SpellNo}
 use Rattle.xd_parse.proofs.Derive.{same-true, is_group, rules_decided, chosen_none, chosen_only}
@@ -96,7 +96,7 @@ part_sure part made [] middle parts one m r = absurd (empty_means part middle (v
 part_sure part made (l ∷ ls) middle parts one m r = by_row part made (l ∷ ls) middle parts (λ other rest ws two k. only part l ls made other middle rest parts ws one two m k) r
 
 -- what tokens stand for, they alone stand for
-sure : {row : Row} {from to : List Lexeme} {vs : List Value} → Means row from to vs → ReadsRow row from to vs
+pub sure : {row : Row} {from to : List Lexeme} {vs : List Value} → Means row from to vs → ReadsRow row from to vs
 sure (ends {ls = ls}) = row_end ls
 sure (a_token {l = l} {row = row} {ls = ls} {rest = rest} {vs = vs} m) = row_token (terminal_at l) row (l ∷ ls) rest vs (sure m)
 sure (an_opening {l = l} {row = row} {ls = ls} {rest = rest} {vs = vs} m) = row_opening (terminal_at l) row (l ∷ ls) rest vs (sure m)
@@ -110,6 +110,10 @@ same_program P Q e = cc
 
 same_type : (T U : PlacedTree) → a_tree U ∷ [] ≡ a_tree T ∷ [] → T ≡ U
 same_type T U e = cc
+
+-- so do the tokens of a type, however deep it nests
+pub type_sure : (ls : List Lexeme) (T U : PlacedTree) → MeansAll n.TypeText ls (a_tree T) → MeansAll n.TypeText ls (a_tree U) → T ≡ U
+type_sure ls T U p q = same_type T U (sure p [] (a_tree U ∷ []) q).1
 
 pub texts_mean_one_thing : TextsMeanOneThing
 texts_mean_one_thing = record {

@@ -2,5 +2,5 @@ mod Building
 mod Levels
 mod Classes
 mod Utf8
-mod TheLaw
-mod Tables
+pub mod TheLaw
+pub mod Tables

@@ -10,8 +10,10 @@ use Rattle.xd_syntax.proofs.Trees.{tree_kept, tree_is, parts_at, follows_at}
 use Rattle.xd_syntax.proofs.ProperTrees.{tree_proper}
 use Rattle.xd_syntax.proofs.PlacedTrees.{unplaced_at}
 use Rattle.xd_syntax.specs.Proper.{IsProperTree}
+use Rattle.xd_syntax.specs.ProperTables.{IsTable}
+use Rattle.xd_syntax.specs.TypeText.{type_text}
 use Rattle.xd_type_laws.specs.ReadsBack.{IsMerged, NodesReadBack}
-use Rattle.xd_type_laws.proofs.TheLaw.{types_read_back}
+use Rattle.xd_type_laws.proofs.TheLaw.{types_read_back, one_type}
 
 or_parts : (a b : Bool) → (a || b) ≡ false → (a ≡ false) × (b ≡ false)
 or_parts true b e = cc
@@ -80,5 +82,17 @@ node_merged rows b (suc n) i h l =
     subst IsMerged (sym (tree_is false rows i no_row b l))
     (form_merged rows i (λ k lt. node_merged rows b n k (omega (arith, h, lt)) (omega (arith, l, lt))) (get_or rows i no_row).form (follows_at false rows i no_row b l) (parts_at false rows i no_row b l))
 
+pub merged_node : (rows : List Row) → IsTable false rows → (i : ℕ) → i < length rows → IsMerged (tree_at rows i)
+merged_node rows t i h = node_merged rows t.built (i + 1) i (omega arith) h
+
+pub proper_node : (rows : List Row) → IsTable false rows → (i : ℕ) → i < length rows → IsProperTree false (tree_at rows i)
+proper_node rows t i h = subst (IsProperTree false) (unplaced_at rows i) (tree_proper false rows t i h)
+
+-- nodes of one text have equal types
+pub one_node : (rows : List Row) → IsTable false rows → (i j : ℕ) → i < length rows → j < length rows → type_text (tree_at rows i) ≡ type_text (tree_at rows j) → tree_at rows i ≡ tree_at rows j
+one_node rows t i j h k e =
+    one_type (tree_at rows i) (tree_at rows j) (merged_node rows t i h) (proper_node rows t i h)
+    (merged_node rows t j k) (proper_node rows t j k) e
+
 pub nodes_read_back : NodesReadBack
-nodes_read_back rows i t h d = types_read_back (tree_at rows i) (node_merged rows t.built (i + 1) i (omega arith) h) (subst (IsProperTree false) (unplaced_at rows i) (tree_proper false rows t i h)) d
+nodes_read_back rows i t h d = types_read_back (tree_at rows i) (merged_node rows t i h) (proper_node rows t i h) d

@@ -6,14 +6,16 @@ use Rattle.xd_lex.specs.declared.Kind.TheVariants as kinds
 use Rattle.xd_lex.specs.Tokens.{Lexeme, start, past, tokens_from, tokens_of}
 use Rattle.xd_syntax.specs.Tree.{Tree, Empty, Text, Words, Name, Elem, Seq, Alt, Star, Plus, Opt, Val, seq_of, alt_of, is_empty}
 use Rattle.xd_syntax.specs.Proper.{IsProperTree}
-use Rattle.xd_syntax.specs.Placed.{PlacedTree}
+use Rattle.xd_syntax.specs.Placed.{PlacedTree, unplaced}
 use Rattle.xd_syntax.specs.TypeText.{any_type_level, sequence_level, postfix_level, primary_level, text_at_level, depth_at_level, type_text}
 use Rattle.xd_parse.specs.declared.grammar.Nonterminal.TheVariants as n
 use Rattle.xd_parse.specs.declared.grammar.Sort.TheVariants as sorts
 use Rattle.xd_parse.specs.declared.grammar.Symbol.TheVariants.{Token, Part}
 use Rattle.xd_parse.specs.declared.grammar.Terminal.TheVariants as t
 use Rattle.xd_parse.specs.Grammar.{end}
+use Rattle.xd_parse.specs.Means.{MeansAll}
 use Rattle.xd_parse.specs.Values.{mark, a_tree}
+use Rattle.xd_parse.proofs.Sure.{type_sure}
 use Rattle.xd_parse.proofs.Spelled.{MeansAt, ends_at, token_at, part_at, levels_aside}
 use Rattle.xd_type_laws.specs.ReadsBack.{IsMerged, TypesReadBack}
 use Rattle.xd_type_laws.proofs.Building.{rows_joined, derived}
@@ -147,14 +149,29 @@ the_end s = record { kind = kinds.End; text = []; place = past start s }
 at_end : Follows behind_any []
 at_end = record { terminal = t.End; starts = record { at = λ p. (record { kind = kinds.End; text = []; place = p }, [], refl, refl) }; may = refl; ends = record { no_part = refl; no_bracket = refl } }
 
-whole : (s : List ℕ) (U : PlacedTree) → MeansAt 256 0 (Part alt ∷ []) (tokens_from 0 start (s ++ [])) (the_end s ∷ []) 0 (a_tree U ∷ []) → MeansAt 256 0 (Part n.TypeText ∷ []) (tokens_of s) [] 0 (a_tree U ∷ [])
-whole s U m =
-    let e : MeansAt 256 0 (Token t.End ∷ []) (the_end s ∷ []) [] 0 (mark t.End (past start s) ∷ []) = token_at ends_at in
-    let a = subst (λ x. MeansAt 256 0 (Part alt ∷ []) (tokens_from 0 start x) (the_end s ∷ []) 0 (a_tree U ∷ [])) (append-nil s) m in
+whole : (l : ℕ) (s : List ℕ) (U : PlacedTree) → MeansAt l 0 (Part alt ∷ []) (tokens_from 0 start (s ++ [])) (the_end s ∷ []) 0 (a_tree U ∷ []) → MeansAt l 0 (Part n.TypeText ∷ []) (tokens_of s) [] 0 (a_tree U ∷ [])
+whole l s U m =
+    let e : MeansAt l 0 (Token t.End ∷ []) (the_end s ∷ []) [] 0 (mark t.End (past start s) ∷ []) = token_at ends_at in
+    let a = subst (λ x. MeansAt l 0 (Part alt ∷ []) (tokens_from 0 start x) (the_end s ∷ []) 0 (a_tree U ∷ [])) (append-nil s) m in
     part_at (Part alt ∷ Token t.End ∷ []) (inl refl) (rows_joined a e) ends_at
 
 pub types_read_back : TypesReadBack
 types_read_back T m p h =
     let r = (written T m p).as_any.read 256 0 start [] (omega (arith, h)) at_end in
-    let w = whole (type_text T) r.0 r.2 in
+    let w = whole 256 (type_text T) r.0 r.2 in
     (r.0, record { spells = record { utf8 = text_utf8 any_type_level T p; spells = derived w [] (end tt) }; means = levels_aside w }, r.1)
+
+-- the tokens of the text stand for the type, however deep it nests
+pub text_means : (T : Tree) → IsMerged T → IsProperTree false T → (U : PlacedTree) × MeansAll n.TypeText (tokens_of (type_text T)) (a_tree U) × (unplaced U ≡ T)
+text_means T m p =
+    let l = depth_at_level any_type_level T in
+    let r = (written T m p).as_any.read l 0 start [] (omega arith) at_end in
+    (r.0, levels_aside (whole l (type_text T) r.0 r.2), r.1)
+
+-- types of one text are equal
+pub one_type : (T U : Tree) → IsMerged T → IsProperTree false T → IsMerged U → IsProperTree false U → type_text T ≡ type_text U → T ≡ U
+one_type T U m p k q e =
+    let a = text_means T m p in
+    let b = text_means U k q in
+    let c = subst (λ s. MeansAll n.TypeText (tokens_of s) (a_tree b.0)) (sym e) b.1 in
+    sym a.2 ∙ ap unplaced (type_sure (tokens_of (type_text T)) a.0 b.0 a.1 c) ∙ b.2
