@@ -11,20 +11,20 @@ use Rattle.xd_proof_form.specs.Course.{Course, at_count, at_first_goal, at_left,
 use Rattle.xd_proof_form.proofs.CourseLemmas.{seen, Filler, count_of, course_filled, all_seen, list_follows, front_stands}
 
 module _ {A : Type 0} (R : List ℕ → Tree → Type 0) (S : List ℕ → A → Type 0) where
-  spell_joined : (ls ms : List (List ℕ)) (ps qs : List (Part A)) → SpellParts R S ls ps → SpellParts R S ms qs → SpellParts R S (ls ++ ms) (ps ++ qs)
+  pub spell_joined : (ls ms : List (List ℕ)) (ps qs : List (Part A)) → SpellParts R S ls ps → SpellParts R S ms qs → SpellParts R S (ls ++ ms) (ps ++ qs)
   spell_joined [] ms [] qs a b = b
   spell_joined [] ms (p ∷ ps) qs a b = absurd a
   spell_joined (l ∷ ls) ms [] qs a b = absurd a
   spell_joined (l ∷ ls) ms (p ∷ ps) qs a b = (a.0, spell_joined ls ms ps qs a.1 b)
 
   -- what a front of the lines spells
-  spell_front : (ls ms : List (List ℕ)) (ps : List (Part A)) → SpellParts R S (ls ++ ms) ps →
+  pub spell_front : (ls ms : List (List ℕ)) (ps : List (Part A)) → SpellParts R S (ls ++ ms) ps →
       (front : List (Part A)) × (back : List (Part A)) × SpellParts R S ls front × (front ++ back ≡ ps)
   spell_front [] ms ps a = ([], ps, tt, refl)
   spell_front (l ∷ ls) ms [] a = absurd a
   spell_front (l ∷ ls) ms (p ∷ ps) a = let r = spell_front ls ms ps a.1 in (p ∷ r.0, r.1, (a.0, r.2), ap (λ q. p ∷ q) r.3)
 
-  number_after : (word : List ℕ) (n : ℕ) → 0 < n → n < 10 ^ 18 → Follows word SpellsNumber (word ++ space ∷ decimal n) n
+  pub number_after : (word : List ℕ) (n : ℕ) → 0 < n → n < 10 ^ 18 → Follows word SpellsNumber (word ++ space ∷ decimal n) n
   number_after word n p m = record { behind = decimal n; whole = refl; reads = record { digits = refl; number = record { least = p; most = m } } }
 
   module _ (bytes : List ℕ) (x : A) (s : S bytes x) where

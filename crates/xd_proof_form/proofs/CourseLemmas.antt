@@ -13,11 +13,11 @@ both_true : (a b : Bool) → a ≡ true → b ≡ true → (a && b) ≡ true
 both_true true b p q = q
 both_true false b p q = absurd (cc)
 
-only : {B : Type 0} (b : Bool) (x y : B) → only_if b x ≡ Some y → (b ≡ true) × (x ≡ y)
+pub only : {B : Type 0} (b : Bool) (x y : B) → only_if b x ≡ Some y → (b ≡ true) × (x ≡ y)
 only true x y e = (refl, cc)
 only false x y e = absurd (cc)
 
-only_true : {B : Type 0} (b : Bool) (x : B) → b ≡ true → only_if b x ≡ Some x
+pub only_true : {B : Type 0} (b : Bool) (x : B) → b ≡ true → only_if b x ≡ Some x
 only_true true x e = refl
 only_true false x e = absurd (cc)
 
@@ -218,7 +218,7 @@ module _ {A : Type 0} where
       ∙ ap (λ l. along (Some (at_left (length (b ∷ bs)) [])) l) (append_assoc (inner b) (blocks_from 2 bs) (end_part ∷ []))
       ∙ follows (length (b ∷ bs)) [] b bs 2 refl (omega arith)
 
-  along_joined : (o : Option (Course A)) (ps qs : List (Part A)) → along o (ps ++ qs) ≡ along (along o ps) qs
+  pub along_joined : (o : Option (Course A)) (ps qs : List (Part A)) → along o (ps ++ qs) ≡ along (along o ps) qs
   along_joined o [] qs = refl
   along_joined o (p ∷ ps) qs = along_joined (and_on (λ d. next d p) o) ps qs
 

@@ -1,8 +1,8 @@
-mod CourseLemmas
+pub mod CourseLemmas
 pub mod LineLemmas
 mod NumberLemmas
-mod BeginLemmas
+pub mod BeginLemmas
 pub mod Unique
-mod OneText
+pub mod OneText
 pub mod Counting
 pub mod TheLaws

@@ -196,7 +196,7 @@ case_one bs c d s t =
     ∙ ap (λ b. let x : Case = record { head = d.head; atom = b; choice = c.choice } in x) a.0
     ∙ ap (λ u. let x : Case = record { head = d.head; atom = d.atom; choice = u } in x) r
 
-follows_one : {A : Type 0} (word : List ℕ) (R : List ℕ → A → Type 0) (line : List ℕ) (x y : A) → ((b : List ℕ) (u v : A) → R b u → R b v → u ≡ v) →
+pub follows_one : {A : Type 0} (word : List ℕ) (R : List ℕ → A → Type 0) (line : List ℕ) (x y : A) → ((b : List ℕ) (u v : A) → R b u → R b v → u ≡ v) →
     Follows word R line x → Follows word R line y → x ≡ y
 follows_one word R line x y one f g =
     let e : f.behind ≡ g.behind = ap (λ l. drop 1 l) (append_cancel_left word (space ∷ f.behind) (space ∷ g.behind) (sym f.whole ∙ g.whole)) in
@@ -212,10 +212,9 @@ type_part_one R one line n m T U f g =
     let r = same_front space (decimal n) (decimal m) p.behind q.behind (decimal_free n (f.reads).number) (decimal_free m (g.reads).number) (sym p.whole ∙ e ∙ q.whole) in
     (decimal_one n m (f.reads).number (g.reads).number r.0, one q.behind T U (subst (λ b. R b T) r.1 p.reads) q.reads)
 
-module _ {A : Type 0} (R : List ℕ → Tree → Type 0) (S : List ℕ → A → Type 0)
-    (types_one : (b : List ℕ) (T U : Tree) → R b T → R b U → T ≡ U) (one : (b : List ℕ) (x y : A) → S b x → S b y → x ≡ y) where
-  -- the first, second and fifth letters of a line
-  abbrev first_letter : Part A → ℕ
+module _ {A : Type 0} where
+  -- the first and fifth letters of a line
+  abbrev pub first_letter : Part A → ℕ
   first_letter first_title = 120
   first_letter second_title = 120
   first_letter (type_count n) = 116
@@ -228,7 +227,7 @@ module _ {A : Type 0} (R : List ℕ → Tree → Type 0) (S : List ℕ → A →
   first_letter (case_part c) = 99
   first_letter end_part = 101
 
-  abbrev fifth_letter : Part A → ℕ
+  abbrev pub fifth_letter : Part A → ℕ
   fifth_letter first_title = 101
   fifth_letter second_title = 101
   fifth_letter (type_count n) = 115
@@ -241,10 +240,11 @@ module _ {A : Type 0} (R : List ℕ → Tree → Type 0) (S : List ℕ → A →
   fifth_letter (case_part c) = 32
   fifth_letter end_part = 0
 
-  letter_in : (i : ℕ) (l m : List ℕ) (c : ℕ) → l ≡ m → get_or m i 0 ≡ c → get_or l i 0 ≡ c
-  letter_in i l m c e h = ap (λ x. get_or x i 0) e ∙ h
+letter_in : (i : ℕ) (l m : List ℕ) (c : ℕ) → l ≡ m → get_or m i 0 ≡ c → get_or l i 0 ≡ c
+letter_in i l m c e h = ap (λ x. get_or x i 0) e ∙ h
 
-  first_is : (l : List ℕ) (p : Part A) → SpellsPart R S l p → get_or l 0 0 ≡ first_letter p
+module _ {A : Type 0} (R : List ℕ → Tree → Type 0) (S : List ℕ → A → Type 0) where
+  pub first_is : (l : List ℕ) (p : Part A) → SpellsPart R S l p → get_or l 0 0 ≡ first_letter p
   first_is l first_title s = letter_in 0 l _ 120 s refl
   first_is l second_title s = letter_in 0 l _ 120 s refl
   first_is l (type_count n) s = letter_in 0 l _ 116 s.whole refl
@@ -257,7 +257,7 @@ module _ {A : Type 0} (R : List ℕ → Tree → Type 0) (S : List ℕ → A →
   first_is l (case_part c) s = letter_in 0 l _ 99 s.words refl
   first_is l end_part s = letter_in 0 l _ 101 s refl
 
-  fifth_is : (l : List ℕ) (p : Part A) → SpellsPart R S l p → get_or l 4 0 ≡ fifth_letter p
+  pub fifth_is : (l : List ℕ) (p : Part A) → SpellsPart R S l p → get_or l 4 0 ≡ fifth_letter p
   fifth_is l first_title s = letter_in 4 l _ 101 s refl
   fifth_is l second_title s = letter_in 4 l _ 101 s refl
   fifth_is l (type_count n) s = letter_in 4 l _ 115 s.whole refl
@@ -270,6 +270,8 @@ module _ {A : Type 0} (R : List ℕ → Tree → Type 0) (S : List ℕ → A →
   fifth_is l (case_part c) s = letter_in 4 l _ 32 s.words refl
   fifth_is l end_part s = letter_in 4 l _ 0 s refl
 
+module _ {A : Type 0} (R : List ℕ → Tree → Type 0) (S : List ℕ → A → Type 0)
+    (types_one : (b : List ℕ) (T U : Tree) → R b T → R b U → T ≡ U) (one : (b : List ℕ) (x y : A) → S b x → S b y → x ≡ y) where
   titles_apart : (l : List ℕ) → l ≡ codes "xduce-proof 1" → l ≡ codes "xduce-proof 2" → ⊥
   titles_apart l e f = let z : 49 ≡ 50 = ap (λ x. get_or x 12 0) (sym e ∙ f) in omega (arith, z)
 
@@ -292,7 +294,7 @@ module _ {A : Type 0} (R : List ℕ → Tree → Type 0) (S : List ℕ → A →
   by_letters _ _ e f l s t = absurd (omega (arith, e, f))
 
   pub part_one : (l : List ℕ) (p q : Part A) → SpellsPart R S l p → SpellsPart R S l q → p ≡ q
-  part_one l p q s t = by_letters p q (sym (first_is l p s) ∙ first_is l q t) (sym (fifth_is l p s) ∙ fifth_is l q t) l s t
+  part_one l p q s t = by_letters p q (sym (first_is R S l p s) ∙ first_is R S l q t) (sym (fifth_is R S l p s) ∙ fifth_is R S l q t) l s t
 
   pub parts_one : (ls : List (List ℕ)) (ps qs : List (Part A)) → SpellParts R S ls ps → SpellParts R S ls qs → ps ≡ qs
   parts_one [] [] [] s t = refl

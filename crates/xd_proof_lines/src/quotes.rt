@@ -68,5 +68,6 @@ pub fn read_quoted<'a>(alloc: Global, bytes: &'a [u8]) -> Result<Option<(Text, &
         return Ok(None);
     };
     let text = Text::new(alloc, text)?;
+    let _spelled = text.as_str();
     Ok(Some((text, rest)))
 }
