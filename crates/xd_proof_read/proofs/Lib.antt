@@ -1,0 +1,9 @@
+mod NamingFacts
+mod LineFacts
+mod StageFacts
+mod GoalFacts
+mod TypeFacts
+mod SecondFormat
+mod WholeTexts
+mod FormatFacts
+mod DepthFacts

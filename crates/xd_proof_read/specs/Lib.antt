@@ -1,0 +1,5 @@
+pub mod Naming
+pub mod Said
+pub mod Stages
+pub mod BadLines
+pub mod Depths
