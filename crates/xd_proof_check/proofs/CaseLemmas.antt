@@ -1,0 +1,352 @@
+-- Cases of a goal, one after the other.
+use Rattle.std.proofs.Common.{◌≡◌, ℕ, zero, suc, ◌+◌, ◌<◌, ◌≤◌, arith, Bool, true, false, ◌&&◌, nat_eq, Option, Some, None, Result, Ok, Err, IfOk, List, [], ◌∷◌, ◌++◌, map, flat_map, length, take, drop, get_or, refl, ap, sym, subst, ◌∙◌, append_assoc}
+use Rattle.std.specs.List.{AllByRecursion, AllZip}
+use Rattle.std.specs.Option.{IfNone, option_map}
+use Rattle.std.proofs.lemmas.Bool.{eqb-true}
+use Rattle.std.proofs.lemmas.List.{drop_all}
+use Rattle.std.proofs.Math.Seq.{drop-cons}
+use Rattle.xd_syntax.specs.Tree.{Definitions}
+use Rattle.xd_syntax.specs.Table.{Row}
+use Rattle.xd_syntax.proofs.TableRows.{all_at}
+use Rattle.xd_laws.specs.Heads as laws
+use Rattle.xd_laws.specs.Consistent.{Atom, Case, ChoiceTree, Goal, HeadAtom, atoms_from, atoms_of, named, named_in, in_byte_order, labels_of, texts_of, right_heads, numbered}
+use Rattle.xd_laws.specs.Consistent as proof
+use Rattle.xd_laws.specs.Breach.{bad_case}
+use Rattle.xd_laws.proofs.FirstWrong.{Refusal, at_line, or_next, reason_unless, same_atom, same_head_atom, wrong_case, wrong_cases, wrong_tree}
+use Rattle.xd_heads.specs.HeadList.{head_at, kind_at, HeadBelongs}
+use Rattle.xd_heads.specs.declared.listing.Head.{Head}
+use Rattle.xd_proof_lines.specs.Cases.{IsCase, atom_of}
+use Rattle.xd_proof_lines.specs.Steps.{steps_of}
+use Rattle.xd_proof_lines.specs.declared.steps.Step.{Step}
+use Rattle.xd_proof_lines.specs.declared.atoms.Atom as read
+use Rattle.xd_proof_lines.specs.declared.cases.ReadCase.{ReadCase}
+use Rattle.xd_proof_check.specs.Atoms.{AreNamed, AreNamedFor, kinds_of}
+use Rattle.xd_proof_check.specs.Names.{Names}
+use Rattle.xd_proof_check.specs.CaseWalk.{CasesView, CasesFit, IsTree, Meets, wrong_after}
+use Rattle.xd_proof_check.specs.Corresponds.{Corresponds, IsNumberOf}
+use Rattle.xd_proof_check.specs.Numbers.{number_at}
+use Rattle.xd_proof_check.specs.Paths.{KeepsRoom}
+use Rattle.xd_proof_check.specs.Reasons.{reason_of}
+use Rattle.xd_proof_check.specs.Walk.{IsSetting, SettingView}
+use Rattle.xd_proof_check.specs.declared.atoms.Named.{Named}
+use Rattle.xd_proof_check.specs.declared.path.Path.{Path}
+use Rattle.xd_proof_check.specs.declared.verdict.Reason.{Reason}
+use Rattle.xd_proof_check.proofs.SettingLemmas.{length-kinds_of}
+use Rattle.xd_proof_check.proofs.AtomLemmas.{named_among}
+
+abbrev named_lists : List (List ℕ) → List (List ℕ) → proof.Named
+named_lists ls ts = record { labels = ls; texts = ts }
+
+zip_long : {A B : Type 0} (P : A → B → Type 0) (xs : List A) (ys : List B) → AllZip P xs ys → length xs ≡ length ys
+zip_long P [] [] z = refl
+zip_long P [] (y ∷ ys) z = absurd z
+zip_long P (x ∷ xs) [] z = absurd z
+zip_long P (x ∷ xs) (y ∷ ys) z = ap suc (zip_long P xs ys z.1)
+
+zip_at : {A B : Type 0} (P : A → B → Type 0) (xs : List A) (ys : List B) → AllZip P xs ys → (i : ℕ) (d : A) → i < length xs → (y : B) × (drop i ys ≡ y ∷ drop (suc i) ys) × P (get_or xs i d) y
+zip_at P [] ys z i d h = absurd (omega arith)
+zip_at P (x ∷ xs) [] z i d h = absurd z
+zip_at P (x ∷ xs) (y ∷ ys) z zero d h = (y, refl, z.0)
+zip_at P (x ∷ xs) (y ∷ ys) z (suc i) d h = zip_at P xs ys z.1 i d (omega arith)
+
+-- ---- a setting of a goal's case
+
+kinds_same : (types : List Row) (hs : List Head) → kinds_of hs ≡ map (λ (h : laws.Head). h.kind) (map (head_at types) hs)
+kinds_same types [] = refl
+kinds_same types (h ∷ hs) = ap (λ ks. kind_at h.kind ∷ ks) (kinds_same types hs)
+
+content_zip : (types : List Row) (numbers : List ℕ) (hs : List Head) → AllByRecursion (HeadBelongs types) hs →
+    AllZip (λ number (h : laws.Head). IsNumberOf types numbers number h.content) (map (λ (h : Head). number_at numbers h.content.at) hs) (map (head_at types) hs)
+content_zip types numbers [] b = tt
+content_zip types numbers (h ∷ hs) b = (let p = b.0 in record { node = h.content.at; there = p.0; tree = refl; has = refl }, content_zip types numbers hs b.1)
+
+rest_zip : (types : List Row) (numbers : List ℕ) (hs : List Head) → AllByRecursion (HeadBelongs types) hs →
+    AllZip (λ number (h : laws.Head). IsNumberOf types numbers number h.rest) (map (λ (h : Head). number_at numbers h.rest.at) hs) (map (head_at types) hs)
+rest_zip types numbers [] b = tt
+rest_zip types numbers (h ∷ hs) b = (let p = b.0 in record { node = h.rest.at; there = p.1; tree = refl; has = refl }, rest_zip types numbers hs b.1)
+
+abbrev pub setting_at : CasesView → Atom → Head → SettingView
+setting_at v a h = record {
+  numbers = v.numbers;
+  goals = v.goals;
+  atom = a;
+  kinds = kinds_of v.rights;
+  left_content = number_at v.numbers h.content.at;
+  left_rest = number_at v.numbers h.rest.at;
+  contents = v.contents;
+  rests = v.rests;
+}
+
+length-map' : {A B : Type 0} (f : A → B) (xs : List A) → length (map f xs) ≡ length xs
+length-map' f [] = refl
+length-map' f (x ∷ xs) = ap suc (length-map' f xs)
+
+mapped_at : (numbers : List ℕ) (f : Head → ℕ) (hs : List Head) (n : ℕ) → ((i : ℕ) → number_at numbers i < n) → 0 < n → (i : ℕ) → number_at (map (λ (h : Head). number_at numbers (f h)) hs) i < n
+mapped_at numbers f [] n h z i = z
+mapped_at numbers f (x ∷ hs) n h z zero = h (f x)
+mapped_at numbers f (x ∷ hs) n h z (suc i) = mapped_at numbers f hs n h z i
+
+some_room : (numbers : List ℕ) (n : ℕ) → ((i : ℕ) → number_at numbers i < n) → 0 < n
+some_room numbers n h = let a = h 0 in omega arith
+
+pub fits_setting : (v : CasesView) (a : Atom) (h : Head) (p : Path) → CasesFit v p → IsSetting (setting_at v a h) p
+fits_setting v a h p f =
+    let l : length v.contents ≡ length v.rights = ap length f.contents ∙ length-map' (λ (h : Head). number_at v.numbers h.content.at) v.rights in
+    let m : length v.rests ≡ length v.rights = ap length f.rests ∙ length-map' (λ (h : Head). number_at v.numbers h.rest.at) v.rights in
+    record {
+      belong = f.belong;
+      contents = f.on_content;
+      rests = f.on_rest;
+      heads = length-kinds_of v.rights ∙ sym l;
+      room = record {
+        content = λ i. subst (λ ns. number_at ns i < length p.content.items) (sym f.contents)
+            (mapped_at v.numbers (λ (h : Head). h.content.at) v.rights (length p.content.items) f.on_content (some_room v.numbers (length p.content.items) f.on_content) i);
+        rest = λ i. subst (λ ns. number_at ns i < length p.rest.items) (sym f.rests)
+            (mapped_at v.numbers (λ (h : Head). h.rest.at) v.rights (length p.rest.items) f.on_rest (some_room v.numbers (length p.rest.items) f.on_rest) i);
+        split = let s = f.split in omega arith;
+        same = l ∙ sym m;
+      };
+    }
+
+pub fit_kept : (v : CasesView) (p q : Path) → CasesFit v p → KeepsRoom p q → CasesFit v q
+fit_kept v p q f k = record {
+  belong = f.belong;
+  trees = f.trees;
+  left = f.left;
+  on_content = λ i. subst (λ n. number_at v.numbers i < n) (sym k.content) (f.on_content i);
+  on_rest = λ i. subst (λ n. number_at v.numbers i < n) (sym k.rest) (f.on_rest i);
+  contents = f.contents;
+  rests = f.rests;
+  split = subst (λ n. length v.rights ≤ n) (sym k.split) f.split;
+}
+
+module _ (types : List Row) (E : Definitions) (gs : List Goal) (g : Goal) (v : CasesView) (p : Path) (f : CasesFit v p) (m : Meets types E gs g v) where
+  pub meets_setting : (a : Atom) (i : ℕ) (d : Head) → i < length v.left → Corresponds types (setting_at v a (get_or v.left i d)) (head_at types (get_or v.left i d)) (right_heads E g) gs
+  meets_setting a i d l =
+      let b = all_at (HeadBelongs types) v.left m.left_belong i d l in
+      record {
+        numbers = m.numbers;
+        goals = m.goals;
+        kinds = kinds_same types v.rights ∙ ap (map (λ (h : laws.Head). h.kind)) m.rights;
+        contents =
+            subst (λ hs. AllZip (λ number (h : laws.Head). IsNumberOf types v.numbers number h.content) v.contents hs) m.rights
+            (subst (λ ns. AllZip (λ number (h : laws.Head). IsNumberOf types v.numbers number h.content) ns (map (head_at types) v.rights)) (sym f.contents)
+            (content_zip types v.numbers v.rights m.rights_belong));
+        rests =
+            subst (λ hs. AllZip (λ number (h : laws.Head). IsNumberOf types v.numbers number h.rest) v.rests hs) m.rights
+            (subst (λ ns. AllZip (λ number (h : laws.Head). IsNumberOf types v.numbers number h.rest) ns (map (head_at types) v.rights)) (sym f.rests)
+            (rest_zip types v.numbers v.rights m.rights_belong));
+        left_content = record { node = (get_or v.left i d).content.at; there = b.0; tree = refl; has = refl };
+        left_rest = record { node = (get_or v.left i d).rest.at; there = b.1; tree = refl; has = refl };
+      }
+
+  mapped_get : (hs : List Head) (i : ℕ) (d : Head) → i < length hs → numbered (map (head_at types) hs) (suc i) ≡ Some (head_at types (get_or hs i d))
+  mapped_get [] i d l = absurd (omega arith)
+  mapped_get (h ∷ hs) zero d l = refl
+  mapped_get (h ∷ hs) (suc i) d l = mapped_get hs i d (omega arith)
+
+  left_numbered : (i : ℕ) (d : Head) → i < length v.left → numbered (laws.heads E g.left) (i + 1) ≡ Some (head_at types (get_or v.left i d))
+  left_numbered i d l =
+      let e : i + 1 ≡ suc i = omega arith in ap (numbered (laws.heads E g.left)) e ∙ ap (λ hs. numbered hs (suc i)) (sym m.left) ∙ mapped_get v.left i d l
+
+  -- no case is left
+  pub case_missing : (at line : ℕ) (w : HeadAtom) (ws : List HeadAtom) → length v.cases ≤ at → wrong_cases E gs g line (w ∷ ws) (drop at g.cases) ≡ Some (line, bad_case)
+  case_missing at line w ws h =
+      let l = zip_long IsCase v.cases g.cases m.cases in
+      ap (wrong_cases E gs g line (w ∷ ws)) (drop_all at g.cases (omega arith))
+
+  none_left : (at line : ℕ) → length v.cases ≤ at → wrong_cases E gs g line [] (drop at g.cases) ≡ None
+  none_left at line h = let l = zip_long IsCase v.cases g.cases m.cases in ap (wrong_cases E gs g line []) (drop_all at g.cases (omega arith))
+
+  pub no_case_left : (at line : ℕ) → length v.cases ≤ at → wrong_cases E gs g line [] (drop at g.cases) ≡ None
+  no_case_left at line h = none_left at line h
+
+  same_wanted : (made : ReadCase) (c : Case) (n : ℕ) (a : Atom) → IsCase made c → (nat_eq made.head n && same_atom (atom_of made.atom) a) ≡ same_head_atom c (n, a)
+  same_wanted made c n a i = ap (λ k. nat_eq k n && same_atom (atom_of made.atom) a) i.head ∙ ap (λ b. nat_eq c.head n && same_atom b a) i.atom
+
+  -- a case of another head or atom
+  pub case_other : (at line n : ℕ) (a : Atom) (ws : List HeadAtom) (d made : ReadCase) → at < length v.cases → made ≡ get_or v.cases at d →
+      (nat_eq made.head n && same_atom (atom_of made.atom) a) ≡ false → wrong_cases E gs g line ((n, a) ∷ ws) (drop at g.cases) ≡ Some (line, bad_case)
+  case_other at line n a ws d made h e q =
+      let r = zip_at IsCase v.cases g.cases m.cases at d h in
+      let c = r.0 in
+      let i = subst (λ x. IsCase x c) (sym e) r.2 in
+      ap (wrong_cases E gs g line ((n, a) ∷ ws)) r.1
+      ∙ ap (λ b. or_next (at_line line (reason_unless b bad_case)) (or_next (at_line line (wrong_case gs (right_heads E g) c (numbered (laws.heads E g.left) c.head))) (wrong_cases E gs g (line + 1) ws (drop (suc at) g.cases))))
+      (sym (same_wanted made c n a i) ∙ q)
+
+  and_left : (a b : Bool) → (a && b) ≡ true → a ≡ true
+  and_left true b e = refl
+  and_left false b e = e
+
+  after : (line : ℕ) (found : Option Reason) (rest : Option Refusal) → or_next (at_line line (option_map reason_of found)) rest ≡ wrong_after line found rest
+  after line None rest = refl
+  after line (Some r) rest = refl
+
+  -- a case of this head and atom, whose tree was looked at
+  pub case_looked : (at line left : ℕ) (a : Atom) (ws : List HeadAtom) (d made : ReadCase) (e : Head) (found : Option Reason) → at < length v.cases → left < length v.left → made ≡ get_or v.cases at d →
+      (nat_eq made.head (left + 1) && same_atom (atom_of made.atom) a) ≡ true →
+      ((c : Case) → IsCase made c → option_map reason_of found ≡ wrong_tree gs (atom_of made.atom) (head_at types (get_or v.left left e)) (right_heads E g) c.choice) →
+      wrong_cases E gs g line ((left + 1, a) ∷ ws) (drop at g.cases) ≡ wrong_after line found (wrong_cases E gs g (line + 1) ws (drop (at + 1) g.cases))
+  case_looked at line left a ws d made e found h l s q k =
+      let r = zip_at IsCase v.cases g.cases m.cases at d h in
+      let c = r.0 in
+      let i = subst (λ x. IsCase x c) (sym s) r.2 in
+      let n : c.head ≡ left + 1 = sym i.head ∙ eqb-true made.head (left + 1) (and_left (nat_eq made.head (left + 1)) (same_atom (atom_of made.atom) a) q) in
+      let rest = wrong_cases E gs g (line + 1) ws (drop (suc at) g.cases) in
+      let z : suc at ≡ at + 1 = omega arith in
+      ap (wrong_cases E gs g line ((left + 1, a) ∷ ws)) r.1
+      ∙ ap (λ b. or_next (at_line line (reason_unless b bad_case)) (or_next (at_line line (wrong_case gs (right_heads E g) c (numbered (laws.heads E g.left) c.head))) rest))
+      (sym (same_wanted made c (left + 1) a i) ∙ q)
+      ∙ ap (λ o. or_next (at_line line (wrong_case gs (right_heads E g) c o)) rest) (ap (numbered (laws.heads E g.left)) n ∙ left_numbered left e l)
+      ∙ ap (λ b. or_next (at_line line (wrong_tree gs b (head_at types (get_or v.left left e)) (right_heads E g) c.choice)) rest) (sym i.atom)
+      ∙ ap (λ o. or_next (at_line line o) rest) (sym (k c i))
+      ∙ after line found rest
+      ∙ ap (λ j. wrong_after line found (wrong_cases E gs g (line + 1) ws (drop j g.cases))) z
+
+  -- ---- what is named
+
+  flat_kinds : (f : laws.HeadKind → List (List ℕ)) (hs : List laws.Head) → flat_map f (map (λ (h : laws.Head). h.kind) hs) ≡ flat_map (λ (h : laws.Head). f h.kind) hs
+  flat_kinds f [] = refl
+  flat_kinds f (h ∷ hs) = ap (λ zs. f h.kind ++ zs) (flat_kinds f hs)
+
+  map_both' : {A B : Type 0} (q : A → B) (xs ys : List A) → map q (xs ++ ys) ≡ map q xs ++ map q ys
+  map_both' q [] ys = refl
+  map_both' q (x ∷ xs) ys = ap (λ zs. q x ∷ zs) (map_both' q xs ys)
+
+  kinds_are : kinds_of v.left ++ kinds_of v.rights ≡ map (λ (h : laws.Head). h.kind) (laws.heads E g.left ++ right_heads E g)
+  kinds_are =
+      ap (λ ks. ks ++ kinds_of v.rights) (kinds_same types v.left ∙ ap (map (λ (h : laws.Head). h.kind)) m.left)
+      ∙ ap (λ ks. map (λ (h : laws.Head). h.kind) (laws.heads E g.left) ++ ks) (kinds_same types v.rights ∙ ap (map (λ (h : laws.Head). h.kind)) m.rights)
+      ∙ sym (map_both' (λ (h : laws.Head). h.kind) (laws.heads E g.left) (right_heads E g))
+
+  names_are : (f : laws.HeadKind → List (List ℕ)) → in_byte_order (flat_map f (kinds_of v.left ++ kinds_of v.rights)) ≡ in_byte_order (flat_map (λ (h : laws.Head). f h.kind) (laws.heads E g.left ++ right_heads E g))
+  names_are f = ap in_byte_order (ap (flat_map f) kinds_are ∙ flat_kinds f (laws.heads E g.left ++ right_heads E g))
+
+  -- the heads from one on begin with the atoms of that head
+  pub atoms_first : (n : Named) → AreNamed (kinds_of v.left ++ kinds_of v.rights) n → (left : ℕ) (d : Head) → left < length v.left →
+      atoms_from (named E g) (left + 1) (drop left (laws.heads E g.left))
+      ≡ map (λ a. (left + 1, a)) (atoms_of (record { labels = n.labels.names; texts = n.texts.names }) (kind_at (get_or v.left left d).kind)) ++ atoms_from (named E g) (left + 1 + 1) (drop (left + 1) (laws.heads E g.left))
+  atoms_first n a left d l =
+      let h = head_at types (get_or v.left left d) in
+      let e : suc left ≡ left + 1 = omega arith in
+      let c : drop left (laws.heads E g.left) ≡ h ∷ drop (left + 1) (laws.heads E g.left) = dropped left d l ∙ ap (λ k. h ∷ drop k (laws.heads E g.left)) e in
+      ap (atoms_from (named E g) (left + 1)) c
+      ∙ ap (λ ns. map (λ b. (left + 1, b)) (atoms_of ns h.kind) ++ atoms_from (named E g) (left + 1 + 1) (drop (left + 1) (laws.heads E g.left)))
+      (sym (same_named (n.labels.names) (n.texts.names) (a.labels ∙ names_are labels_of) (a.texts ∙ names_are texts_of)))
+    where
+      dropped : (i : ℕ) (d : Head) → i < length v.left → drop i (laws.heads E g.left) ≡ head_at types (get_or v.left i d) ∷ drop (suc i) (laws.heads E g.left)
+      dropped i d l = ap (drop i) (sym m.left) ∙ go i v.left l ∙ ap (λ hs. head_at types (get_or v.left i d) ∷ drop (suc i) hs) m.left
+        where
+          go : (i : ℕ) (hs : List Head) → i < length hs → drop i (map (head_at types) hs) ≡ head_at types (get_or hs i d) ∷ drop (suc i) (map (head_at types) hs)
+          go i [] l = absurd (omega arith)
+          go zero (h ∷ hs) l = refl
+          go (suc i) (h ∷ hs) l = go i hs (omega arith)
+
+      same_named : (ls ts : List (List ℕ)) → ls ≡ (named E g).labels → ts ≡ (named E g).texts → named_lists ls ts ≡ named E g
+      same_named ls ts p q = ap (λ xs. named_lists xs ts) p ∙ ap (λ xs. named_lists (named E g).labels xs) q
+
+-- atoms that were read, as those wanted of the head with this number
+abbrev pub wanted_of : ℕ → List read.Atom → List HeadAtom
+wanted_of n atoms = map (λ (a : read.Atom). (n, atom_of a)) atoms
+
+wanted_mapped : (n : ℕ) (atoms : List read.Atom) → wanted_of n atoms ≡ map (λ a. (n, a)) (map atom_of atoms)
+wanted_mapped n [] = refl
+wanted_mapped n (a ∷ atoms) = ap (λ ws. (n, atom_of a) ∷ ws) (wanted_mapped n atoms)
+
+pub wanted_are : (n : ℕ) (atoms : List read.Atom) (as' : List Atom) → map atom_of atoms ≡ as' → wanted_of n atoms ≡ map (λ a. (n, a)) as'
+wanted_are n atoms as' e = wanted_mapped n atoms ∙ ap (map (λ a. (n, a))) e
+
+-- ---- answers
+
+abbrev pub setting_by : CasesView → Atom → ℕ → ℕ → SettingView
+setting_by v a lc lr = record {
+  numbers = v.numbers;
+  goals = v.goals;
+  atom = a;
+  kinds = kinds_of v.rights;
+  left_content = lc;
+  left_rest = lr;
+  contents = v.contents;
+  rests = v.rests;
+}
+
+pub case_says : {X : Type 0} (v : CasesView) (p : Path) (f : CasesFit v p) (at left : ℕ) (a : Atom) (made : ReadCase) (h : Head) (lc lr : ℕ) (steps : List Step) (r : Result (Option Reason) X) →
+    at < length v.cases → left < length v.left → made ≡ get_or v.cases at made → h ≡ get_or v.left left h → lc ≡ number_at v.numbers h.content.at → lr ≡ number_at v.numbers h.rest.at →
+    steps ≡ (made.steps).items → (nat_eq made.head (left + 1) && same_atom (atom_of made.atom) a) ≡ true →
+    IfOk r (λ found. (types : List Row) (gs : List Goal) (l : laws.Head) (hs : List laws.Head) (t : ChoiceTree) → Corresponds types (setting_by v (atom_of made.atom) lc lr) l hs gs → steps ≡ steps_of t →
+    option_map reason_of found ≡ wrong_tree gs (atom_of made.atom) l hs t) →
+    IfOk r (λ found. (types : List Row) (E : Definitions) (gs : List Goal) (g : Goal) (line : ℕ) (ws : List HeadAtom) → Meets types E gs g v →
+    wrong_cases E gs g line ((left + 1, a) ∷ ws) (drop at g.cases) ≡ wrong_after line found (wrong_cases E gs g (line + 1) ws (drop (at + 1) g.cases)))
+case_says v p f at left a made h lc lr steps (Ok found) k l e d c b s q says =
+    λ types E gs g line ws m.
+    let H = get_or v.left left h in
+    let A = atom_of made.atom in
+    let cs = meets_setting types E gs g v p f m A left h l in
+    let x : number_at v.numbers H.content.at ≡ lc = sym (c ∙ ap (λ (y : Head). number_at v.numbers y.content.at) d) in
+    let z : number_at v.numbers H.rest.at ≡ lr = sym (b ∙ ap (λ (y : Head). number_at v.numbers y.rest.at) d) in
+    let cs2 = subst (λ n. Corresponds types (setting_by v A n (number_at v.numbers H.rest.at)) (head_at types H) (right_heads E g) gs) x cs in
+    let cs3 = subst (λ n. Corresponds types (setting_by v A lc n) (head_at types H) (right_heads E g) gs) z cs2 in
+    case_looked types E gs g v p f m at line left a ws made made h found k l e q (λ (cz : Case) (i : IsCase made cz). says types gs (head_at types H) (right_heads E g) cz.choice cs3 (s ∙ i.steps))
+case_says v p f at left a made h lc lr steps (Err x) k l e d c b s q says = tt
+
+pub tree_clears : {X : Type 0} (C : Type 0) (steps : List Step) (t : ChoiceTree) (r : Result (Option Reason) X) → steps ≡ steps_of t →
+    IfOk r (λ found. (u : ChoiceTree) → steps ≡ steps_of u → IfNone found C) → IfOk r (λ found. IfNone found C)
+tree_clears C steps t (Ok found) e says = says t e
+tree_clears C steps t (Err x) e says = tt
+
+pub tree_at_case : (cases : List ReadCase) (at : ℕ) (made : ReadCase) → AllByRecursion IsTree cases → at < length cases → made ≡ get_or cases at made → IsTree made
+tree_at_case cases at made a h e = subst IsTree (sym e) (all_at IsTree cases a at made h)
+
+-- ---- the cases of a head
+
+kinds_split : (hs : List Head) (i : ℕ) (d : Head) → i < length hs → kinds_of hs ≡ kinds_of (take i hs) ++ kind_at (get_or hs i d).kind ∷ kinds_of (drop (suc i) hs)
+kinds_split [] i d l = absurd (omega arith)
+kinds_split (h ∷ hs) zero d l = refl
+kinds_split (h ∷ hs) (suc i) d l = ap (λ ks. kind_at h.kind ∷ ks) (kinds_split hs i d (omega arith))
+
+pub named_for : (left rights : List Head) (n : Named) → AreNamed (kinds_of left ++ kinds_of rights) n → (i : ℕ) (d : Head) → i < length left → AreNamedFor (kind_at (get_or left i d).kind) n
+named_for left rights n a i d l = record {
+  labels = subst (λ ns. Names ns (labels_of k)) (sym (a.labels ∙ ap (λ ks. in_byte_order (flat_map labels_of ks)) e)) (named_among labels_of (kinds_of (take i left)) behind k);
+  texts = subst (λ ns. Names ns (texts_of k)) (sym (a.texts ∙ ap (λ ks. in_byte_order (flat_map texts_of ks)) e)) (named_among texts_of (kinds_of (take i left)) behind k);
+}
+  where
+    k : laws.HeadKind
+    k = kind_at (get_or left i d).kind
+
+    behind : List laws.HeadKind
+    behind = kinds_of (drop (suc i) left) ++ kinds_of rights
+
+    e : kinds_of left ++ kinds_of rights ≡ kinds_of (take i left) ++ k ∷ behind
+    e = ap (λ ks. ks ++ kinds_of rights) (kinds_split left i d l) ∙ append_assoc (kinds_of (take i left)) (k ∷ kinds_of (drop (suc i) left)) (kinds_of rights)
+
+pub wanted_next : (n : ℕ) (items : List read.Atom) (i : ℕ) (a : read.Atom) (ws : List HeadAtom) → i < length items → a ≡ get_or items i a →
+    wanted_of n (drop i items) ++ ws ≡ (n, atom_of a) ∷ (wanted_of n (drop (suc i) items) ++ ws)
+wanted_next n items i a ws l e =
+    ap (λ xs. wanted_of n xs ++ ws) (drop-cons items i a l) ∙ ap (λ (x : read.Atom). (n, atom_of x) ∷ (wanted_of n (drop (suc i) items) ++ ws)) (sym e)
+
+module _ (types : List Row) (E : Definitions) (gs : List Goal) (g : Goal) (v : CasesView) (p : Path) (f : CasesFit v p) (m : Meets types E gs g v) where
+  -- the cases that a head wants, and those behind them
+  pub head_start : (n : Named) → AreNamed (kinds_of v.left ++ kinds_of v.rights) n → (left : ℕ) (d : Head) → left < length v.left → (atoms items : List read.Atom) →
+      map atom_of atoms ≡ atoms_of (record { labels = n.labels.names; texts = n.texts.names }) (kind_at (get_or v.left left d).kind) → items ≡ atoms →
+      atoms_from (named E g) (left + 1) (drop left (laws.heads E g.left)) ≡ wanted_of (left + 1) items ++ atoms_from (named E g) (left + 1 + 1) (drop (left + 1) (laws.heads E g.left))
+  head_start n a left d l atoms items e q =
+      let rest = atoms_from (named E g) (left + 1 + 1) (drop (left + 1) (laws.heads E g.left)) in
+      atoms_first types E gs g v p f m n a left d l
+      ∙ ap (λ ws. ws ++ rest) (sym (ap (wanted_of (left + 1)) q ∙ wanted_are (left + 1) atoms (atoms_of (record { labels = n.labels.names; texts = n.texts.names }) (kind_at (get_or v.left left d).kind)) e))
+
+  pub heads_done : (left : ℕ) → length v.left ≤ left → atoms_from (named E g) (left + 1) (drop left (laws.heads E g.left)) ≡ []
+  heads_done left h =
+      let l : length (laws.heads E g.left) ≡ length v.left = ap length (sym m.left) ∙ length-map' (head_at types) v.left in
+      ap (atoms_from (named E g) (left + 1)) (drop_all left (laws.heads E g.left) (omega arith))
+
+  too_many : (cs : List Case) (at line : ℕ) → at < length cs → wrong_cases E gs g line [] (drop at cs) ≡ Some (line, bad_case)
+  too_many [] at line h = absurd (omega arith)
+  too_many (c ∷ cs) zero line h = refl
+  too_many (c ∷ cs) (suc at) line h = too_many cs at line (omega arith)
+
+  pub cases_left : (at line : ℕ) → at < length v.cases → wrong_cases E gs g line [] (drop at g.cases) ≡ Some (line, bad_case)
+  cases_left at line h = let l = zip_long IsCase v.cases g.cases m.cases in too_many g.cases at line (omega arith)
+
+  pub cases_done : (at line : ℕ) → length v.cases ≤ at → wrong_cases E gs g line [] (drop at g.cases) ≡ None
+  cases_done at line h = no_case_left types E gs g v p f m at line h

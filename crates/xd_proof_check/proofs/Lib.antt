@@ -1,0 +1,11 @@
+pub mod ListLemmas
+pub mod CodeLemmas
+pub mod PathLemmas
+pub mod AtomLemmas
+pub mod WalkLemmas
+pub mod LeafLemmas
+pub mod SettingLemmas
+pub mod HeadLemmas
+pub mod CaseLemmas
+pub mod GoalLemmas
+pub mod AcceptLemmas

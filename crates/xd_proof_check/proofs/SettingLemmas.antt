@@ -1,0 +1,167 @@
+-- Settings of cases.
+use Rattle.std.proofs.Common.{◌≡◌, ℕ, zero, suc, ◌-◌, ◌<◌, arith, Bool, true, false, not, cond, ◌&&◌, Option, Some, None, Result, Ok, Err, IfOk, List, [], ◌∷◌, length, drop, get_or, refl, ap, sym, subst, ◌∙◌}
+use Rattle.std.proofs.Math.Seq.{drop-cons}
+use Rattle.std.specs.Option.{IfNone, option_map}
+use Rattle.xd_laws.specs.Heads as laws
+use Rattle.xd_laws.specs.Consistent.{Atom, this_label, other_label, this_text, other_text, ChoiceTree, settles_content, settles_rest, split_on, Goal, numbered, matches_atom, no_sides}
+use Rattle.xd_syntax.specs.Table.{Row}
+use Rattle.xd_laws.specs.Breach.{Reason}
+use Rattle.xd_laws.proofs.FirstWrong.{or_next, wrong_choice, wrong_text, wrong_tree}
+use Rattle.xd_heads.specs.HeadList.{kind_at}
+use Rattle.xd_heads.specs.declared.listing.Head.{Head}
+use Rattle.xd_proof_lines.specs.Steps.{steps_of}
+use Rattle.xd_proof_lines.specs.declared.steps.Step.{Step}
+use Rattle.xd_proof_lines.specs.declared.steps.Step.TheVariants.{Rest}
+use Rattle.xd_proof_check.specs.Atoms.{kinds_of}
+use Rattle.xd_proof_check.specs.Numbers.{number_at}
+use Rattle.xd_proof_check.specs.Leaves.{is_among}
+use Rattle.xd_proof_check.specs.Corresponds.{Corresponds}
+use Rattle.xd_proof_check.specs.Paths.{IsClear, IsPath, KeepsRoom, heads_split, turned, turns_of}
+use Rattle.xd_proof_check.specs.Reasons.{reason_of}
+use Rattle.xd_proof_check.specs.declared.verdict.Reason as code
+use Rattle.xd_proof_check.specs.Walk.{SettingView, IsSetting, kind_matches, rest_turns, split_fits, turns_after, turns_behind, wrong_step, wrong_steps, wrong_text_step}
+use Rattle.xd_proof_check.specs.declared.path.Path.{Path}
+use Rattle.xd_proof_check.specs.declared.path.Turn.{Turn}
+use Rattle.xd_proof_check.proofs.PathLemmas.{path_clear, room_kept}
+use Rattle.xd_proof_check.proofs.WalkLemmas.{text_walked, tree_left, tree_walked}
+
+pub setting_kept : (s : SettingView) (p q : Path) → IsSetting s p → KeepsRoom p q → IsSetting s q
+setting_kept s p q i k = record {
+  belong = i.belong;
+  contents = λ n. subst (λ m. number_at s.numbers n < m) (sym k.content) (i.contents n);
+  rests = λ n. subst (λ m. number_at s.numbers n < m) (sym k.rest) (i.rests n);
+  heads = i.heads;
+  room = room_kept s.contents s.rests p q i.room k;
+}
+
+-- a step that is right is followed by the others
+pub step_right : (s : SettingView) (ts us : List Turn) (t : Step) (ss : List Step) (o : Option Reason) → o ≡ None → o ≡ wrong_step s ts t → us ≡ turns_behind ts t →
+    wrong_steps s ts (t ∷ ss) ≡ wrong_steps s us ss
+step_right s ts us t ss o n e u =
+    ap (λ w. or_next w (wrong_steps s (turns_behind ts t) ss)) (sym e ∙ n) ∙ ap (λ vs. wrong_steps s vs ss) (sym u)
+
+pub step_wrong : (s : SettingView) (ts : List Turn) (t : Step) (ss : List Step) (r : Reason) → Some r ≡ wrong_step s ts t → Some r ≡ wrong_steps s ts (t ∷ ss)
+step_wrong s ts t ss r e = ap (λ w. or_next w (wrong_steps s (turns_behind ts t) ss)) e
+
+-- kinds of heads by number
+pub kind_none : (hs : List Head) (n : ℕ) → None ≡ numbered hs n → numbered (kinds_of hs) n ≡ None
+kind_none hs zero e = refl
+kind_none [] (suc n) e = refl
+kind_none (h ∷ hs) (suc zero) e = cc
+kind_none (h ∷ hs) (suc (suc n)) e = kind_none hs (suc n) e
+
+pub kind_some : (hs : List Head) (n : ℕ) (h : Head) → Some h ≡ numbered hs n → (numbered (kinds_of hs) n ≡ Some (kind_at h.kind)) × (0 < n) × (n - 1 < length hs)
+kind_some hs zero h e = cc
+kind_some [] (suc n) h e = cc
+kind_some (g ∷ hs) (suc zero) h e = let q : g ≡ h = cc in (ap (λ (x : Head). Some (kind_at x.kind)) q, omega arith, omega arith)
+kind_some (g ∷ hs) (suc (suc n)) h e = let r = kind_some hs (suc n) h e in (r.0, omega arith, (let l = r.2 in omega arith))
+
+pub length-kinds_of : (hs : List Head) → length (kinds_of hs) ≡ length hs
+length-kinds_of [] = refl
+length-kinds_of (h ∷ hs) = ap suc (length-kinds_of hs)
+
+pub fits_none : (s : SettingView) (ts : List Turn) (n : ℕ) → numbered s.kinds n ≡ None → split_fits s ts n ≡ false
+fits_none s ts n e = ap (λ o. kind_matches s.atom o && not (is_among (heads_split ts) (n - 1))) e
+
+pub fits_other : (s : SettingView) (ts : List Turn) (n : ℕ) (k : laws.HeadKind) → numbered s.kinds n ≡ Some k → matches_atom s.atom k ≡ false → split_fits s ts n ≡ false
+fits_other s ts n k e m = ap (λ o. kind_matches s.atom o && not (is_among (heads_split ts) (n - 1))) e ∙ ap (λ b. b && not (is_among (heads_split ts) (n - 1))) m
+
+pub fits_again : (s : SettingView) (ts : List Turn) (n : ℕ) → is_among (heads_split ts) (n - 1) ≡ true → split_fits s ts n ≡ false
+fits_again s ts n e = ap (λ b. kind_matches s.atom (numbered s.kinds n) && not b) e ∙ and_false (kind_matches s.atom (numbered s.kinds n))
+  where
+    and_false : (b : Bool) → (b && false) ≡ false
+    and_false true = refl
+    and_false false = refl
+
+pub fits_new : (s : SettingView) (ts : List Turn) (n : ℕ) (k : laws.HeadKind) → numbered s.kinds n ≡ Some k → matches_atom s.atom k ≡ true → is_among (heads_split ts) (n - 1) ≡ false →
+    split_fits s ts n ≡ true
+fits_new s ts n k e m a =
+    ap (λ o. kind_matches s.atom o && not (is_among (heads_split ts) (n - 1))) e ∙ ap (λ b. b && not (is_among (heads_split ts) (n - 1))) m ∙ ap not a
+
+-- one more head in front
+pub turns_more : (a : Atom) (hs : List Head) (i : ℕ) (d : Head) → i < length hs → (b : Bool) → b ≡ matches_atom a (kind_at (get_or hs i d).kind) →
+    rest_turns a i (kinds_of (drop i hs)) ≡ cond b (record { right = i; on_rest = true } ∷ rest_turns a (suc i) (kinds_of (drop (suc i) hs))) (rest_turns a (suc i) (kinds_of (drop (suc i) hs)))
+turns_more a hs i d h b e =
+    ap (λ xs. rest_turns a i (kinds_of xs)) (drop-cons hs i d h)
+    ∙ ap (λ b. cond b (record { right = i; on_rest = true } ∷ rest_turns a (suc i) (kinds_of (drop (suc i) hs))) (rest_turns a (suc i) (kinds_of (drop (suc i) hs)))) (sym e)
+
+-- the first step tells the tree of a text
+pub text_rest : (s : SettingView) (t : ChoiceTree) (n : ℕ) (ss : List Step) → steps_of t ≡ Rest n ∷ ss → wrong_text_step s t ≡ wrong_step s (rest_turns s.atom 0 s.kinds) (Rest n)
+text_rest s (settles_content m) n ss e = cc
+text_rest s (settles_rest m) n ss e = let q : m ≡ n = cc in ap (λ k. wrong_step s (rest_turns s.atom 0 s.kinds) (Rest k)) q
+text_rest s (split_on m t u) n ss e = cc
+
+-- a walk over the steps of a tree, from a clear path
+pub walk_found : (types : List Row) (s : SettingView) (left : laws.Head) (hs : List laws.Head) (gs : List Goal) (t : ChoiceTree) (steps : List Step) (ts : List Turn) (o : Option Reason) →
+    Corresponds types s left hs gs → steps ≡ steps_of t → ts ≡ [] → o ≡ wrong_steps s ts steps → o ≡ wrong_choice gs s.atom left hs no_sides t
+walk_found types s left hs gs t steps ts o c e n q = q ∙ ap (λ us. wrong_steps s us steps) n ∙ ap (wrong_steps s []) e ∙ tree_walked types s left hs gs c t
+
+pub walk_clear : (s : SettingView) (t : ChoiceTree) (steps : List Step) (ts us : List Turn) → steps ≡ steps_of t → ts ≡ [] → us ≡ turns_after ts steps → us ≡ []
+walk_clear s t steps ts us e n q = q ∙ ap (λ vs. turns_after vs steps) n ∙ ap (turns_after []) e ∙ tree_left t
+
+-- turns on the rest side are all left at once
+pub rest_turns_left : (a : Atom) (n : ℕ) (ks : List laws.HeadKind) → turned (rest_turns a n ks) ≡ []
+rest_turns_left a n [] = refl
+rest_turns_left a n (k ∷ ks) = go (matches_atom a k) (rest_turns_left a (suc n) ks)
+  where
+    go : (b : Bool) → turned (rest_turns a (suc n) ks) ≡ [] → turned (cond b (record { right = n; on_rest = true } ∷ rest_turns a (suc n) ks) (rest_turns a (suc n) ks)) ≡ []
+    go true i = i
+    go false i = i
+
+-- ---- answers
+
+abbrev pub is_text : Atom → Bool
+is_text (this_label l) = false
+is_text other_label = false
+is_text (this_text w) = true
+is_text other_text = true
+
+pub label_is : (l : List ℕ) (a : Atom) → a ≡ this_label l → is_text a ≡ false
+label_is l a e = ap is_text e
+
+pub other_label_is : (a : Atom) → a ≡ other_label → is_text a ≡ false
+other_label_is a e = ap is_text e
+
+pub text_is : (w : List ℕ) (a : Atom) → a ≡ this_text w → is_text a ≡ true
+text_is w a e = ap is_text e
+
+pub other_text_is : (a : Atom) → a ≡ other_text → is_text a ≡ true
+other_text_is a e = ap is_text e
+
+tree_of_label : (gs : List Goal) (a : Atom) (left : laws.Head) (hs : List laws.Head) (t : ChoiceTree) → is_text a ≡ false → wrong_tree gs a left hs t ≡ wrong_choice gs a left hs no_sides t
+tree_of_label gs (this_label l) left hs t e = refl
+tree_of_label gs other_label left hs t e = refl
+tree_of_label gs (this_text w) left hs t e = cc
+tree_of_label gs other_text left hs t e = cc
+
+tree_of_text : (gs : List Goal) (a : Atom) (left : laws.Head) (hs : List laws.Head) (t : ChoiceTree) → is_text a ≡ true → wrong_tree gs a left hs t ≡ wrong_text gs a left hs t
+tree_of_text gs (this_label l) left hs t e = cc
+tree_of_text gs other_label left hs t e = cc
+tree_of_text gs (this_text w) left hs t e = refl
+tree_of_text gs other_text left hs t e = refl
+
+module _ {E : Type 0} (s : SettingView) (steps : List Step) where
+  pub walk_says : (ts : List Turn) (r : Result (Option code.Reason) E) → ts ≡ [] → is_text s.atom ≡ false → IfOk r (λ found. option_map reason_of found ≡ wrong_steps s ts steps) →
+      IfOk r (λ found. (types : List Row) (gs : List Goal) (left : laws.Head) (hs : List laws.Head) (t : ChoiceTree) → Corresponds types s left hs gs → steps ≡ steps_of t →
+      option_map reason_of found ≡ wrong_tree gs s.atom left hs t)
+  walk_says ts (Ok found) n a h =
+      λ types gs left hs t c e. walk_found types s left hs gs t steps ts (option_map reason_of found) c e n h ∙ sym (tree_of_label gs s.atom left hs t a)
+  walk_says ts (Err e) n a h = tt
+
+  pub text_says : (r : Result (Option code.Reason) E) → is_text s.atom ≡ true → IfOk r (λ found. (t : ChoiceTree) → steps ≡ steps_of t → option_map reason_of found ≡ wrong_text_step s t) →
+      IfOk r (λ found. (types : List Row) (gs : List Goal) (left : laws.Head) (hs : List laws.Head) (t : ChoiceTree) → Corresponds types s left hs gs → steps ≡ steps_of t →
+      option_map reason_of found ≡ wrong_tree gs s.atom left hs t)
+  text_says (Ok found) a h = λ types gs left hs t c e. h t e ∙ text_walked types s left hs gs c t ∙ sym (tree_of_text gs s.atom left hs t a)
+  text_says (Err e) a h = tt
+
+  pub walk_clears : (contents rests : List ℕ) (ts : List Turn) (p : Path) (r : Result (Option code.Reason) E) → ts ≡ [] →
+      IfOk r (λ found. IfNone found (IsPath contents rests p × (turns_of p ≡ turns_after ts steps))) → IfOk r (λ found. (t : ChoiceTree) → steps ≡ steps_of t → IfNone found (IsClear p))
+  walk_clears contents rests ts p (Ok None) n h = λ t e. path_clear contents rests p h.0 (walk_clear s t steps ts (turns_of p) e n h.1)
+  walk_clears contents rests ts p (Ok (Some r)) n h = λ t e. tt
+  walk_clears contents rests ts p (Err e) n h = tt
+
+pub text_clears : {E : Type 0} (contents rests : List ℕ) (a : Atom) (ks : List laws.HeadKind) (ts : List Turn) (p : Path) (r : Result (Option code.Reason) E) → ts ≡ rest_turns a 0 ks →
+    IfOk r (λ found. IfNone found (IsPath contents rests p × (turns_of p ≡ turned ts))) → IfOk r (λ found. IfNone found (IsClear p))
+text_clears contents rests a ks ts p (Ok None) n h = path_clear contents rests p h.0 (h.1 ∙ ap turned n ∙ rest_turns_left a 0 ks)
+text_clears contents rests a ks ts p (Ok (Some r)) n h = tt
+text_clears contents rests a ks ts p (Err e) n h = tt

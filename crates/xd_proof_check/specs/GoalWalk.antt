@@ -1,0 +1,91 @@
+-- The goals of a proof, one after the other.
+use Rattle.std.specs.Prelude.{◌≡◌, ℕ, ◌+◌, ◌^◌, ◌<◌, ◌≤◌, Bool, false, not, ◌&&◌, List, length, Option, Some, None}
+use Rattle.std.specs.List.{AllByRecursion, AllZip}
+use Rattle.xd_syntax.specs.Tree.{Definitions}
+use Rattle.xd_syntax.specs.Table.{Row, tree_at}
+use Rattle.xd_syntax.specs.CanBeEmpty.{can_be_empty}
+use Rattle.xd_syntax.specs.Emptiness.{is_marked}
+use Rattle.xd_syntax.specs.declared.types.TypeId.{TypeId}
+use Rattle.xd_laws.specs.Consistent.{Goal, numbered}
+use Rattle.xd_laws.proofs.FirstWrong.{Refusal}
+use Rattle.xd_heads.specs.declared.listing.Head.{Head}
+use Rattle.xd_proof.specs.declared.proof.ProofGoal.{ProofGoal}
+use Rattle.xd_proof_check.specs.CaseWalk.{IsTree}
+use Rattle.xd_proof_check.specs.Corresponds.{AreEqualTypes, IsClaimAt}
+use Rattle.xd_proof_check.specs.Leaves.{GoalBelongs, GoalsBelong}
+use Rattle.xd_proof_check.specs.Numbers.{number_at}
+use Rattle.xd_proof_check.specs.Reasons.{reason_of}
+use Rattle.xd_proof_check.specs.declared.check.Breach.{Breach}
+use Rattle.xd_proof_check.specs.declared.check.Sheet.{Sheet}
+use Rattle.xd_proof_check.specs.declared.heads.GoalHeads.{GoalHeads}
+use Rattle.xd_proof_check.specs.declared.path.Path.{Path}
+use Rattle.xd_proof_check.specs.declared.verdict.ProofVerdict.{ProofVerdict}
+use Rattle.xd_proof_check.specs.declared.verdict.ProofVerdict.TheVariants.{Accepted, Refused}
+
+pub record SheetView : Type 0 where
+  pub goals : List ProofGoal
+  pub numbers : List ℕ
+  pub marks : List Bool
+
+abbrev pub sheet_of : Sheet → SheetView
+sheet_of s = record { goals = s.goals.now; numbers = s.numbers.now; marks = s.empty_marks.now }
+
+-- these are the goals of a proof, over types that are known
+pub record Stands (types : List Row) (E : Definitions) (gs : List Goal) (s : SheetView) : Type 0 where
+  pub numbers : AreEqualTypes types s.numbers
+  pub count : length s.numbers ≡ length types
+  pub goals : AllZip (IsClaimAt types) s.goals gs
+  pub marks : (i : ℕ) → i < length types → is_marked s.marks i ≡ can_be_empty E (tree_at types i)
+
+abbrev pub breach_of : Breach → Refusal
+breach_of b = (b.line, reason_of b.reason)
+
+-- the numbers of its lines, and of the line behind the last one, are numbers of lines
+pub record LinesFit (g : ProofGoal) : Type 0 where
+  pub fits : g.line + 3 + length g.rights.items + length g.cases.items < 2 ^ 64
+
+abbrev pub right_marked : List Bool → Option TypeId → Bool
+right_marked marks None = false
+right_marked marks (Some id) = is_marked marks id.at
+
+abbrev pub empty_marked_by : List Bool → ProofGoal → Option ℕ → Bool
+empty_marked_by marks g None = not (is_marked marks g.left.at)
+empty_marked_by marks g (Some n) = is_marked marks g.left.at && right_marked marks (numbered g.rights.items n)
+
+-- the rule on the empty document holds, by marks
+abbrev pub empty_marked : List Bool → ProofGoal → Bool
+empty_marked marks g = empty_marked_by marks g g.empty_right
+
+abbrev pub PartsThere : ℕ → Head → Type 0
+PartsThere n h = (h.content.at < n) × (h.rest.at < n)
+
+-- all types have their places, and the right heads
+pub record GoalFits (s : SheetView) (g : ProofGoal) (h : GoalHeads) (p : Path) : Type 0 where
+  pub belong : GoalsBelong (length s.numbers) s.goals
+  pub here : GoalBelongs (length s.numbers) g
+  pub marked : length s.marks ≡ length s.numbers
+  pub left : AllByRecursion (PartsThere (length s.numbers)) h.left.items
+  pub rights : AllByRecursion (PartsThere (length s.numbers)) h.rights.items
+  pub on_content : (i : ℕ) → number_at s.numbers i < length p.content.items
+  pub on_rest : (i : ℕ) → number_at s.numbers i < length p.rest.items
+  pub split : length h.rights.items ≤ length p.split.items
+  pub trees : AllByRecursion IsTree g.cases.items
+
+-- a program's marks say of each type whether it can be empty
+pub record IsKnown (types : List Row) (E : Definitions) (marks : List Bool) : Type 0 where
+  pub marked : (i : ℕ) → i < length types → is_marked marks i ≡ can_be_empty E (tree_at types i)
+
+abbrev pub HeadsThere : ℕ → GoalHeads → Type 0
+HeadsThere n h = AllByRecursion (PartsThere n) h.left.items × AllByRecursion (PartsThere n) h.rights.items
+
+-- the types of goals and of their heads are there, and the steps of each case are those of a tree
+pub record ProofFits (types : List Row) (goals : List ProofGoal) (heads : List GoalHeads) (marks : List Bool) : Type 0 where
+  pub belong : GoalsBelong (length types) goals
+  pub count : length heads ≡ length goals
+  pub marked : length marks ≡ length types
+  pub there : AllByRecursion (HeadsThere (length types)) heads
+  pub trees : AllByRecursion (λ (g : ProofGoal). AllByRecursion IsTree g.cases.items) goals
+
+abbrev pub verdict_of : ProofVerdict → Option Refusal
+verdict_of Accepted = None
+verdict_of (Refused line reason) = Some (line, reason_of reason)

@@ -1,0 +1,12 @@
+pub mod Lists
+pub mod Numbers
+pub mod Paths
+pub mod Names
+pub mod Atoms
+pub mod Leaves
+pub mod Walk
+pub mod Reasons
+pub mod Corresponds
+pub mod GoalHeads
+pub mod CaseWalk
+pub mod GoalWalk

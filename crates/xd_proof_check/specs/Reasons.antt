@@ -1,0 +1,36 @@
+-- Answers of the checker.
+use Rattle.std.specs.Prelude.{ℕ, codes, List}
+use Rattle.xd_syntax.specs.Tree.{Definitions}
+use Rattle.xd_laws.specs.Consistent.{IsConsistent}
+use Rattle.xd_laws.specs.Breach as laws
+use Rattle.xd_laws.specs.Breach.{Lined, goals_of, IsFirstBreach, bad_form, bad_empty, bad_case, bad_split, bad_leaf}
+use Rattle.xd_proof_check.specs.declared.verdict.Reason.{Reason}
+use Rattle.xd_proof_check.specs.declared.verdict.Reason.TheVariants.{Form, Empty, Case, Split, Leaf}
+use Rattle.xd_proof_check.specs.declared.verdict.ProofVerdict.{ProofVerdict}
+use Rattle.xd_proof_check.specs.declared.verdict.ProofVerdict.TheVariants.{Accepted, Refused}
+
+abbrev pub reason_of : Reason → laws.Reason
+reason_of Form = bad_form
+reason_of Empty = bad_empty
+reason_of Case = bad_case
+reason_of Split = bad_split
+reason_of Leaf = bad_leaf
+
+abbrev pub number_of : Reason → ℕ
+number_of Form = 1
+number_of Empty = 2
+number_of Case = 3
+number_of Split = 4
+number_of Leaf = 5
+
+abbrev pub word_of : Reason → List ℕ
+word_of Form = codes "form"
+word_of Empty = codes "empty"
+word_of Case = codes "case"
+word_of Split = codes "split"
+word_of Leaf = codes "leaf"
+
+-- the verdict on a proof with these goals: that it is consistent, or its first breach
+abbrev pub IsVerdict : Definitions → List Lined → ProofVerdict → Type 0
+IsVerdict E goals Accepted = IsConsistent E (goals_of goals)
+IsVerdict E goals (Refused line reason) = IsFirstBreach E goals line (reason_of reason)

@@ -1,0 +1,196 @@
+//! Atoms: what the heads of a goal name, and the atoms of a head.
+
+ghost use Rattle.std.specs.Prelude.{◌≡◌, ◌++◌, ◌∷◌, [], ℕ, List, true, cond, map, flat_map, IfOk, OnOk};
+ghost use Rattle.std.specs.List.{filter};
+ghost use Rattle.xd_doc.specs.Classes.{IsClass, IsTextClass, class_has};
+ghost use Rattle.xd_laws.specs.Consistent as laws;
+ghost use Rattle.xd_laws.specs.Consistent.{atoms_of, labels_of, matches_atom, texts_of, this_label, this_text};
+ghost use Rattle.xd_laws.specs.Heads.{element_in, text_in};
+ghost use Rattle.xd_laws.proofs.FirstWrong.{same_atom};
+ghost use Rattle.xd_heads.specs.HeadList.{kind_at};
+ghost use Rattle.xd_proof_lines.specs.Cases.{atom_of};
+ghost use Rattle.xd_proof_check.specs.Atoms.{AreNamed, AreNamedFor, kinds_of};
+ghost use Rattle.xd_proof_check.specs.Names.{Names};
+
+use std::alloc::Global;
+use xd_doc::{Class, Label, NoMemory, Text, Words};
+use xd_heads::{Head, HeadKind};
+use xd_proof_lines::Atom;
+
+/// The labels and the texts that heads name, as classes that have all others.
+#[derive(Drop)]
+pub(crate) struct Named {
+    pub labels: Class,
+    pub texts: Words,
+}
+
+/// Whether the atom is in the class of a head.
+pub(crate) fn matches(atom: &Atom, kind: &HeadKind) -> bool
+    ensures { result ≡ matches_atom (atom_of atom.now) (kind_at kind.now) }
+{
+    match kind {
+        HeadKind::Label(class) => match atom {
+            Atom::Label(label) => class.has(label),
+            Atom::OtherLabel => class.takes_others(),
+            _ => false,
+        },
+        HeadKind::Text(words) => match atom {
+            Atom::Text(text) => words.has(text),
+            Atom::OtherText => words.takes_others(),
+            _ => false,
+        },
+    }
+}
+
+pub(crate) fn are_same(one: &Atom, other: &Atom) -> bool
+    ensures { result ≡ same_atom (atom_of one.now) (atom_of other.now) }
+{
+    match one {
+        Atom::Label(label) => match other {
+            Atom::Label(same) => label == same,
+            _ => false,
+        },
+        Atom::OtherLabel => matches!(other, Atom::OtherLabel),
+        Atom::Text(text) => match other {
+            Atom::Text(same) => text == same,
+            _ => false,
+        },
+        Atom::OtherText => matches!(other, Atom::OtherText),
+    }
+}
+
+/// All labels and texts that are named in the classes of these heads.
+pub(crate) fn named_in(alloc: Global, left: &[Head], rights: &[Head]) -> Result<Named, NoMemory>
+    ensures { IfOk result (λ named. AreNamed (kinds_of left.now ++ kinds_of rights.now) named) }
+{
+    let mut labels = Vec::new(alloc);
+    push_labels(&mut labels, left)?;
+    push_labels(&mut labels, rights)?;
+    let mut texts = Vec::new(alloc);
+    push_texts(&mut texts, left)?;
+    push_texts(&mut texts, rights)?;
+    Ok(Named {
+        labels: Class::new(alloc, labels, true)?,
+        texts: Words::new(alloc, texts, true)?,
+    })
+}
+
+fn push_labels(labels: &mut Vec<Label>, heads: &[Head]) -> Result<(), NoMemory>
+    ensures { OnOk result (labels.new.items ≡ labels.old.items ++ flat_map labels_of (kinds_of heads.now)) }
+{
+    for head in heads {
+        push_labels_of(labels, &head.kind)?;
+    }
+    Ok(())
+}
+
+fn push_labels_of(labels: &mut Vec<Label>, kind: &HeadKind) -> Result<(), NoMemory>
+    ensures { OnOk result (labels.new.items ≡ labels.old.items ++ labels_of (kind_at kind.now)) }
+{
+    match kind {
+        HeadKind::Label(class) => share_labels(labels, class.names()),
+        HeadKind::Text(_) => Ok(()),
+    }
+}
+
+fn share_labels(labels: &mut Vec<Label>, more: &[Label]) -> Result<(), NoMemory>
+    ensures { OnOk result (labels.new.items ≡ labels.old.items ++ more.now) }
+{
+    for label in more {
+        labels.push(label.share()?)?;
+    }
+    Ok(())
+}
+
+fn push_texts(texts: &mut Vec<Text>, heads: &[Head]) -> Result<(), NoMemory>
+    ensures { OnOk result (texts.new.items ≡ texts.old.items ++ flat_map texts_of (kinds_of heads.now)) }
+{
+    for head in heads {
+        push_texts_of(texts, &head.kind)?;
+    }
+    Ok(())
+}
+
+fn push_texts_of(texts: &mut Vec<Text>, kind: &HeadKind) -> Result<(), NoMemory>
+    ensures { OnOk result (texts.new.items ≡ texts.old.items ++ texts_of (kind_at kind.now)) }
+{
+    match kind {
+        HeadKind::Label(_) => Ok(()),
+        HeadKind::Text(words) => share_texts(texts, words.texts()),
+    }
+}
+
+fn share_texts(texts: &mut Vec<Text>, more: &[Text]) -> Result<(), NoMemory>
+    ensures { OnOk result (texts.new.items ≡ texts.old.items ++ more.now) }
+{
+    for text in more {
+        texts.push(text.share()?)?;
+    }
+    Ok(())
+}
+
+/// The atoms of a head among what is named, in order. Takes time linear in the head's own names and its atoms, but for the
+/// search of each name in its class.
+pub(crate) fn atoms_of(alloc: Global, kind: &HeadKind, named: &Named) -> Result<Vec<Atom>, NoMemory>
+    requires { AreNamedFor (kind_at kind.now) named.now }
+    ensures { IfOk result (λ atoms. map atom_of atoms.items ≡ laws.atoms_of (record { labels = named.now.labels.names; texts = named.now.texts.names }) (kind_at kind.now)) }
+{
+    match kind {
+        HeadKind::Label(class) => label_atoms(alloc, class, &named.labels),
+        HeadKind::Text(words) => text_atoms(alloc, words, &named.texts),
+    }
+}
+
+fn label_atoms(alloc: Global, class: &Class, named: &Class) -> Result<Vec<Atom>, NoMemory>
+    requires { Names named.now.names class.now.names }
+    ensures { IfOk result (λ atoms. (texts : List (List ℕ)) → map atom_of atoms.items ≡ laws.atoms_of (record { labels = named.now.names; texts = texts }) (element_in class.now)) }
+{
+    let mut atoms = Vec::new(alloc);
+    if class.takes_others() {
+        push_labels_in(&mut atoms, class, named.names())?;
+        atoms.push(Atom::OtherLabel)?;
+        return Ok(atoms);
+    }
+    let _named = named.names();
+    push_labels_in(&mut atoms, class, class.names())?;
+    Ok(atoms)
+}
+
+/// Those of these labels that are in the class.
+fn push_labels_in(atoms: &mut Vec<Atom>, class: &Class, labels: &[Label]) -> Result<(), NoMemory>
+    ensures { OnOk result (map atom_of atoms.new.items ≡ map atom_of atoms.old.items ++ map this_label (filter (class_has class.now) labels.now)) }
+{
+    for label in labels {
+        if class.has(label) {
+            atoms.push(Atom::Label(label.share()?))?;
+        }
+    }
+    Ok(())
+}
+
+fn text_atoms(alloc: Global, words: &Words, named: &Words) -> Result<Vec<Atom>, NoMemory>
+    requires { Names named.now.names words.now.names }
+    ensures { IfOk result (λ atoms. (labels : List (List ℕ)) → map atom_of atoms.items ≡ laws.atoms_of (record { labels = labels; texts = named.now.names }) (text_in words.now)) }
+{
+    let mut atoms = Vec::new(alloc);
+    if words.takes_others() {
+        push_texts_in(&mut atoms, words, named.texts())?;
+        atoms.push(Atom::OtherText)?;
+        return Ok(atoms);
+    }
+    let _named = named.texts();
+    push_texts_in(&mut atoms, words, words.texts())?;
+    Ok(atoms)
+}
+
+/// Those of these texts that are in the class.
+fn push_texts_in(atoms: &mut Vec<Atom>, words: &Words, texts: &[Text]) -> Result<(), NoMemory>
+    ensures { OnOk result (map atom_of atoms.new.items ≡ map atom_of atoms.old.items ++ map this_text (filter (class_has words.now) texts.now)) }
+{
+    for text in texts {
+        if words.has(text) {
+            atoms.push(Atom::Text(text.share()?))?;
+        }
+    }
+    Ok(())
+}

@@ -1,0 +1,17 @@
+//! Proofs of inclusions between types, checked.
+#![tactic(auto)]
+
+mod atoms;
+mod cases;
+mod check;
+mod checker;
+mod heads;
+mod leaves;
+mod lists;
+mod numbers;
+mod path;
+mod verdict;
+mod walk;
+
+pub use checker::accepts;
+pub use verdict::{ProofVerdict, Reason};
