@@ -1,0 +1,4 @@
+pub mod SecondText
+pub mod ClaimText
+pub mod Written
+pub mod Laws
