@@ -1,0 +1,10 @@
+pub mod Keeping
+pub mod Placing
+pub mod Naming
+pub mod Unfolding
+pub mod Meeting
+pub mod Ordering
+pub mod Writing
+pub mod Knowing
+pub mod Making
+pub mod Proving

@@ -1,0 +1,371 @@
+-- A row as a goal between types.
+use Rattle.std.proofs.Common.{◌≡◌, ℕ, zero, suc, ◌+◌, ◌<◌, ◌≤◌, Bool, true, false, ◌&&◌, ◌||◌, cond, List, [], ◌∷◌, ◌++◌, map, length, get_or, take, Option, Some, None, refl, sym, ap, subst, ◌∙◌, arith}
+use Rattle.std.specs.List.{AllByRecursion, AllZip, filter, flat_map, list_any}
+use Rattle.std.proofs.lemmas.List.{take_more}
+use Rattle.std.specs.Option.{is_some}
+use Rattle.std.proofs.lemmas.Option.{slice_get_within}
+use Rattle.xd_syntax.specs.Tree.{Tree, Definitions, seq_of}
+use Rattle.xd_syntax.specs.CanBeEmpty.{can_be_empty}
+use Rattle.xd_syntax.specs.Program.{names_of}
+use Rattle.xd_syntax.specs.Sound.{IsTypeAt}
+use Rattle.xd_syntax.specs.Kept.{ProgramTable, program_tree}
+use Rattle.xd_syntax.specs.declared.types.TypeId.{TypeId}
+use Rattle.xd_auto.specs.declared.auto.State.{State}
+use Rattle.xd_auto.specs.Automaton.{Automaton, moves_at, state_number}
+use Rattle.xd_laws.specs.Heads.{Head, heads}
+use Rattle.xd_laws.specs.Consistent.{Goal, Named, EmptyRule, numbered, atoms_from}
+use Rattle.xd_rules.specs.Heads as table
+use Rattle.xd_rules.specs.Rules as rules
+use Rattle.xd_rules.specs.Members.{IsOneOf}
+use Rattle.xd_rules.proofs.Members.{one_of-append_left, one_of-append_right, one_of-all, one_of-head_number}
+use Rattle.xd_goals.specs.Moves.{heads_of, is_last_in, label_head, text_head}
+use Rattle.xd_goals.specs.Rows.{GoalRow, TableView, row_at, claim_of, claim_at, choice_key}
+use Rattle.xd_goals.specs.Standing.{IsBegun}
+use Rattle.xd_goals.specs.Truth as goals
+use Rattle.xd_goals.specs.declared.table.Choice.{Choice}
+use Rattle.xd_goals.specs.declared.table.ChoiceNode.{ChoiceNode}
+use Rattle.xd_goals.proofs.Growing.{claim_within}
+use Rattle.xd_heads.specs.CellsView.{CellsView}
+use Rattle.xd_heads.specs.Mirrors.{AreHeadMoves, no_head, element_head, IsTypeState, Mirrors, continuation_of}
+use Rattle.xd_heads.specs.Mirrors as mirrors
+use Rattle.xd_heads.specs.Found.{continuation}
+use Rattle.xd_heads.specs.States.{number_at}
+use Rattle.xd_heads.proofs.Mirrored.{type_is, type_of_number}
+use Rattle.xd_auto.specs.declared.auto.LabelMove.{LabelMove}
+use Rattle.xd_auto.specs.declared.auto.TextMove.{TextMove}
+use Rattle.xd_rules.specs.declared.atom.Atom.{Atom as TableAtom}
+use Rattle.xd_goals.proofs.Trees.{StandsAt-one}
+use Rattle.xd_proof.specs.declared.proof.ProofGoal.{ProofGoal}
+use Rattle.xd_proof_make.specs.Written.{AreTypes, IsWritten, Renumbers, written_names}
+use Rattle.xd_proof_make.specs.Places.{sorts_of, all_places, place_in}
+use Rattle.xd_proof_make.specs.Met.{LeadsTo, number_in}
+use Rattle.xd_proof_make.specs.Ordered.{AreOrdered, AreWrittenCases, IsWritable, SplitsWithin}
+use Rattle.xd_proof_make.specs.Known.{IsKnown, AreKnown, HasKnown, IsIdOf, known_at, sorts_in, sorts_at}
+use Rattle.xd_proof_make.specs.Made.{CanWrite, IsEmptyRight, IsGoalMade, IsOfTypes}
+use Rattle.xd_proof_make.specs.declared.states.Known.{Known}
+use Rattle.xd_proof_make.proofs.Placing.{places_renumber, places_heads}
+use Rattle.xd_proof_make.proofs.Naming.{names_written}
+use Rattle.xd_proof_make.proofs.Ordering.{cut_at, wanted_above, wanted_below, wanted-append, ordered, AreCases}
+
+-- ---- the empty document
+
+numbered_zip : (C : State → Option Tree) (ss : List State) (Ts : List Tree) (n : ℕ) (s : State) → AreTypes C ss Ts → numbered ss n ≡ Some s → (T : Tree) × (numbered Ts n ≡ Some T) × (C s ≡ Some T)
+numbered_zip C [] Ts zero s z e = absurd (cc)
+numbered_zip C [] Ts (suc n) s z e = absurd (cc)
+numbered_zip C (r ∷ ss) [] n s z e = absurd z
+numbered_zip C (r ∷ ss) (T ∷ Ts) zero s z e = absurd (cc)
+numbered_zip C (r ∷ ss) (T ∷ Ts) (suc zero) s z e = let q : r ≡ s = cc in (T, refl, subst (λ (x : State). C x ≡ Some T) q z.0)
+numbered_zip C (r ∷ ss) (T ∷ Ts) (suc (suc n)) s z e = numbered_zip C ss Ts (suc n) s z.1 e
+
+empty_written : (E : Definitions) (a : Automaton) (C : State → Option Tree) → ((s : State) (T : Tree) → C s ≡ Some T → (moves_at a s).last ≡ can_be_empty E T) → (left : State) (rights : List State) (goal : Goal)
+    → C left ≡ Some goal.left → AreTypes C rights goal.rights → (o : Option ℕ) → IsEmptyRight a left rights o → EmptyRule E goal o
+empty_written E a C flags left rights goal e z None h = sym (flags left goal.left e) ∙ h
+empty_written E a C flags left rights goal e z (Some n) h =
+    let x = numbered_zip C rights goal.rights n h.1 z h.2 in
+    (sym (flags left goal.left e) ∙ h.0, x.0, x.1, sym (flags h.1 x.0 x.2) ∙ h.3)
+
+-- ---- what is known of several states
+
+record AreTyped (p : ProgramTable) (c : CellsView) (states : List (Option Known)) (ss : List State) : Type 0 where
+  types : List Tree
+  typed : AreTypes (continuation_of p.types c) ss types
+  sorts : map (sorts_at states) ss ≡ map (λ (T : Tree). sorts_of (heads (names_of (program_tree p)) T)) types
+  ids : (ids : List TypeId) → AllZip (IsIdOf states) ids ss → AllZip (λ id T. IsTypeAt p.types T id) ids types
+
+typed_all : (p : ProgramTable) (c : CellsView) (states : List (Option Known)) → AreKnown p c states → (ss : List State) → AllByRecursion (HasKnown states) ss → AreTyped p c states ss
+typed_all p c states k [] h = record { types = []; typed = tt; sorts = refl; ids = none }
+  where
+    none : (ids : List TypeId) → AllZip (IsIdOf states) ids [] → AllZip (λ id T. IsTypeAt p.types T id) ids []
+    none [] z = tt
+    none (i ∷ ids) z = absurd z
+typed_all p c states k (s ∷ ss) h = one (typed_all p c states k ss h.1)
+  where
+    one : AreTyped p c states ss → AreTyped p c states (s ∷ ss)
+    one rest =
+        let x = k s h.0.known h.0.kept in
+        record {
+          types = x.type_ ∷ rest.types;
+          typed = (x.continuation, rest.typed);
+          sorts = ap (λ (o : Option (Option Known)). sorts_in o ∷ map (sorts_at states) ss) h.0.kept
+              ∙ (ap (λ (b : List Bool). b ∷ map (sorts_at states) ss) x.sorts ∙ ap (λ (bs : List (List Bool)). sorts_of (heads (names_of (program_tree p)) x.type_) ∷ bs) rest.sorts);
+          ids = ids x rest;
+        }
+      where
+        ids : IsKnown p c s h.0.known → (r : AreTyped p c states ss) → (is : List TypeId) → AllZip (IsIdOf states) is (s ∷ ss) → AllZip (λ id T. IsTypeAt p.types T id) is ((k s h.0.known h.0.kept).type_ ∷ r.types)
+        ids x r [] z = absurd z
+        ids x r (i ∷ is) z =
+            let q : (z.0).known ≡ h.0.known = (let u = (z.0).kept in let v = h.0.kept in cc) in
+            let w : i ≡ (h.0.known).id = (z.0).same ∙ ap (λ (y : Known). y.id) q in
+            (subst (λ (y : TypeId). IsTypeAt p.types (k s h.0.known h.0.kept).type_ y) (sym w) (k s h.0.known h.0.kept).there, r.ids is z.1)
+
+-- ---- the goal
+
+length_map : {X Y : Type 0} (f : X → Y) (xs : List X) → length (map f xs) ≡ length xs
+length_map f [] = refl
+length_map f (x ∷ xs) = ap suc (length_map f xs)
+
+module _ (p : ProgramTable) (c : CellsView) (a : Automaton) (nodes : List ChoiceNode) (states : List (Option Known)) (numbers places : List ℕ) (row : GoalRow) (made : ProofGoal) (known : Known) (elements : ℕ)
+    (m : Mirrors p c a) (k : AreKnown p c states) (kept : known_at states row.left ≡ Some (Some known)) (rights : AllByRecursion (HasKnown states) row.rights) (begun : IsBegun a (claim_of row) row.choices)
+    (pl : places ≡ all_places 1 (map (sorts_at states) row.rights)) (el : elements ≡ length (moves_at a row.left).labels)
+    (cases : AreWrittenCases nodes places numbers (known.sorts).items elements row.choices (made.cases).items) where
+  abbrev E : Definitions
+  E = names_of (program_tree p)
+
+  abbrev C : State → Option Tree
+  C = continuation_of p.types c
+
+  x : IsKnown p c row.left known
+  x = k row.left known kept
+
+  r : AreTyped p c states row.rights
+  r = typed_all p c states k row.rights rights
+
+  abbrev goal : Goal
+  goal = record { left = x.type_; rights = r.types; empty_right = made.empty_right; cases = cases.cases }
+
+  abbrev elements_of : List (table.Head State)
+  elements_of = map label_head (moves_at a row.left).labels
+
+  abbrev texts_of : List (table.Head State)
+  texts_of = map text_head (moves_at a row.left).texts
+
+  keys : (map choice_key cases.front ≡ rules.wanted_cases begun.named 1 elements_of) × (map choice_key cases.back ≡ rules.wanted_cases begun.named (elements + 1) texts_of)
+  keys =
+      let n = length_map label_head (moves_at a row.left).labels in
+      cut_at (elements + 1) row.choices cases.front cases.back (rules.wanted_cases begun.named 1 elements_of) (rules.wanted_cases begun.named (elements + 1) texts_of) cases.cut
+      (wanted_below begun.named (elements + 1) 1 elements_of (omega arith)) (wanted_above begun.named (elements + 1) (elements + 1) texts_of (omega arith))
+      (begun.complete ∙ wanted-append begun.named 1 (elements + 1) elements_of texts_of (omega arith))
+
+  in_order : AreCases C nodes places numbers begun.named row.choices (heads_of a row.left) (heads E x.type_) cases.cases (atoms_from (written_names begun.named) 1 (heads E x.type_))
+  in_order =
+      ordered C nodes places numbers begun.named row.choices (heads_of a row.left) (heads E x.type_) (m.moves row.left x.type_ x.continuation) 1 1 (elements + 1) cases.front cases.back cases.cases
+      (subst (λ (ss : List Bool). AreOrdered nodes places numbers ss 1 1 (elements + 1) cases.front cases.back cases.cases) x.sorts cases.ordered)
+      keys.0 keys.1
+      (λ y h. subst (IsOneOf y) (sym (cases.cut).same) (one_of-append_left y cases.front cases.back h)) (λ y h. subst (IsOneOf y) (sym (cases.cut).same) (one_of-append_right y cases.front cases.back h))
+      [] (record { same = refl; count = refl }) [] texts_of (record { same = refl; count = refl }) elements_of (record { same = refl; count = (let n = length_map label_head (moves_at a row.left).labels in omega arith) })
+
+  written : IsEmptyRight a row.left row.rights made.empty_right → IsWritten E a C nodes (number_in numbers) row goal
+  written empty = record {
+    left = x.continuation;
+    rights = r.typed;
+    empty_right = empty_written E a C m.flags row.left row.rights goal x.continuation r.typed made.empty_right empty;
+    cases = in_order.0 ∙ ap (λ (nm : Named). atoms_from nm 1 (heads E x.type_)) (sym (names_written E a C m.moves (claim_of row) goal x.continuation r.typed begun.named begun.names));
+    place = place_in places;
+    renumbers = subst (λ (ps : List ℕ). Renumbers C (place_in ps) (flat_map (heads_of a) row.rights) (flat_map (heads E) r.types)) (sym (pl ∙ ap (all_places 1) r.sorts)) (places_renumber E a C m.moves row.rights r.types r.typed);
+    each = in_order.1;
+  }
+
+  pub goal_made : made.left ≡ known.id → AllZip (IsIdOf states) (made.rights).items row.rights → IsEmptyRight a row.left row.rights made.empty_right → made.line ≡ 1 → IsGoalMade p c a nodes numbers row made
+  goal_made left ids empty line = record {
+    goal = goal;
+    is = record { left = subst (λ (i : TypeId). IsTypeAt p.types x.type_ i) (sym left) x.there; rights = r.ids (made.rights).items ids; empty_right = refl; cases = cases.read };
+    written = written empty;
+    line = line;
+  }
+
+-- ---- choices that can be written
+
+leaf_within : (rows : List GoalRow) (g : ℕ) (left : State) (allowed : List State) → rules.LeafKeeps (claim_at rows) g left allowed → g < length rows
+leaf_within rows g left allowed k = (claim_within rows g k.claim k.found).0
+
+number_within : (hs : List (table.Head State)) (j : ℕ) (h : table.Head State) → rules.head_number hs j ≡ Some h → (0 < j) × (j ≤ length hs)
+number_within hs zero h e = absurd (cc)
+number_within hs (suc j) h e = let l = slice_get_within hs j h e in (omega arith, omega arith)
+
+tree_leaves : (rows : List GoalRow) (h : table.Head State) (atom : TableAtom) (rs : List (table.Head State)) (tree : rules.ChoiceTree) (cs ss : List State) (seen : List ℕ) → rules.TreeKeeps (claim_at rows) h atom rs tree cs ss seen → rules.AllLeaves (λ g. g < length rows) tree
+tree_leaves rows h atom rs (rules.ContentLeaf g) cs ss seen k = leaf_within rows g h.content cs k
+tree_leaves rows h atom rs (rules.RestLeaf g) cs ss seen k = leaf_within rows g h.rest ss k
+tree_leaves rows h atom rs (rules.SplitOn j t u) cs ss seen k = (tree_leaves rows h atom rs t ((k.0).content ∷ cs) ss (j ∷ seen) k.4, tree_leaves rows h atom rs u cs ((k.0).rest ∷ ss) (j ∷ seen) k.5)
+
+tree_splits : (rows : List GoalRow) (h : table.Head State) (atom : TableAtom) (rs : List (table.Head State)) (tree : rules.ChoiceTree) (cs ss : List State) (seen : List ℕ) → rules.TreeKeeps (claim_at rows) h atom rs tree cs ss seen → SplitsWithin (length rs) tree
+tree_splits rows h atom rs (rules.ContentLeaf g) cs ss seen k = tt
+tree_splits rows h atom rs (rules.RestLeaf g) cs ss seen k = tt
+tree_splits rows h atom rs (rules.SplitOn j t u) cs ss seen k =
+    let n = number_within rs j k.0 k.1 in
+    (n.0, n.1, tree_splits rows h atom rs t ((k.0).content ∷ cs) ss (j ∷ seen) k.4, tree_splits rows h atom rs u cs ((k.0).rest ∷ ss) (j ∷ seen) k.5)
+
+case_writable : (rows : List GoalRow) (h : table.Head State) (atom : TableAtom) (rs : List (table.Head State)) (tree : rules.ChoiceTree) → rules.CaseKeeps (claim_at rows) h atom rs tree
+    → rules.AllLeaves (λ g. g < length rows) tree × SplitsWithin (length rs) tree
+case_writable rows h atom rs tree k = go (table.is_text_atom atom) tree k
+  where
+    go : (b : Bool) (t : rules.ChoiceTree) → rules.KeepsBySort b (claim_at rows) h atom rs t → rules.AllLeaves (λ g. g < length rows) t × SplitsWithin (length rs) t
+    go false t x = (tree_leaves rows h atom rs t [] [] [] x, tree_splits rows h atom rs t [] [] [] x)
+    go true (rules.ContentLeaf g) x = absurd x
+    go true (rules.SplitOn j t u) x = absurd x
+    go true (rules.RestLeaf g) x = (leaf_within rows g h.rest (rules.matching_rests atom rs) x, tt)
+
+pub all_writable : (a : Automaton) (t : TableView) (n : ℕ) (c : rules.Claim State) (ks : List Choice) → n ≡ length t.rows → AllByRecursion (goals.KeepsRules a t c) ks → AllByRecursion (IsWritable t.nodes n (length (rules.right_heads (heads_of a) c))) ks
+all_writable a t n c [] e h = tt
+all_writable a t n c (k ∷ ks) e h =
+    let x = h.0 in
+    let w = case_writable t.rows x.head k.atom (rules.right_heads (heads_of a) c) x.tree x.keeps in
+    (record { tree = x.tree; stands = x.stands; leaves = subst (λ (i : ℕ). rules.AllLeaves (λ g. g < i) x.tree) (sym e) w.0; splits = w.1 }, all_writable a t n c ks e h.1)
+
+-- ---- states of types
+
+typed_state : CellsView → State → Bool
+typed_state c s = is_some (number_at c.owners (state_number s))
+
+all_typed : CellsView → List State → Bool
+all_typed c [] = true
+all_typed c (s ∷ ss) = typed_state c s && all_typed c ss
+
+pub typed_row : CellsView → GoalRow → Bool
+typed_row c row = typed_state c row.left && all_typed c row.rights
+
+both : (x y : Bool) → (x && y) ≡ true → (x ≡ true) × (y ≡ true)
+both true y e = (refl, e)
+both false y e = absurd (cc)
+
+join : (x y : Bool) → x ≡ true → y ≡ true → (x && y) ≡ true
+join x y e f = rw (e, f) refl
+
+typed-is : (c : CellsView) (s : State) → typed_state c s ≡ true → IsTypeState c s
+unfolding typed_state
+typed-is c s e = go (number_at c.owners (state_number s)) refl e
+  where
+    go : (o : Option ℕ) → number_at c.owners (state_number s) ≡ o → is_some o ≡ true → IsTypeState c s
+    go None q f = absurd (cc)
+    go (Some n) q f = (n, q)
+
+typed-from : (c : CellsView) (s : State) → IsTypeState c s → typed_state c s ≡ true
+unfolding typed_state
+typed-from c s h = ap is_some h.1
+
+all_typed-is : (c : CellsView) (ss : List State) → all_typed c ss ≡ true → AllByRecursion (IsTypeState c) ss
+unfolding all_typed
+all_typed-is c [] e = tt
+all_typed-is c (s ∷ ss) e = let b = both (typed_state c s) (all_typed c ss) e in (typed-is c s b.0, all_typed-is c ss b.1)
+
+all_typed-from : (c : CellsView) (ss : List State) → AllByRecursion (IsTypeState c) ss → all_typed c ss ≡ true
+unfolding all_typed
+all_typed-from c [] h = refl
+all_typed-from c (s ∷ ss) h = join (typed_state c s) (all_typed c ss) (typed-from c s h.0) (all_typed-from c ss h.1)
+
+pub row_typed-is : (c : CellsView) (row : GoalRow) → typed_row c row ≡ true → IsOfTypes c row
+unfolding typed_row
+row_typed-is c row e = let b = both (typed_state c row.left) (all_typed c row.rights) e in record { left = typed-is c row.left b.0; rights = all_typed-is c row.rights b.1 }
+
+pub row_typed-from : (c : CellsView) (row : GoalRow) → IsOfTypes c row → typed_row c row ≡ true
+unfolding typed_row
+row_typed-from c row h = join (typed_state c row.left) (all_typed c row.rights) (typed-from c row.left h.left) (all_typed-from c row.rights h.rights)
+
+-- what the heads of a state of a type lead to is a state of a type
+module _ (p : ProgramTable) (c : CellsView) (a : Automaton) (m : Mirrors p c a) where
+  abbrev T : State → Type 0
+  T s = IsTypeState c s
+
+  abbrev HasTyped : table.Head State → Type 0
+  HasTyped h = T h.content × T h.rest
+
+  typed_from : (s : State) (U : Tree) → continuation_of p.types c s ≡ Some U → T s
+  typed_from s U e = let i = type_is p.types c s U e in (i.0, i.1)
+
+  head_typed : {hs : List Head} {ls : List LabelMove} {ts : List TextMove} → AreHeadMoves (continuation_of p.types c) hs ls ts → AllByRecursion HasTyped (map label_head ls) × AllByRecursion HasTyped (map text_head ts)
+  head_typed no_head = (tt, tt)
+  head_typed (element_head {h} {hs} {l} {ls} {ts} k x r w) = let i = head_typed w in (((typed_from l.content h.content x, typed_from l.rest h.rest r), i.0), i.1)
+  head_typed (mirrors.text_head {h} {hs} {ls} {t} {ts} k r w) = let i = head_typed w in (i.0, ((typed_from t.rest h.rest r, typed_from t.rest h.rest r), i.1))
+
+  all_append : {X : Type 0} (P : X → Type 0) (xs ys : List X) → AllByRecursion P xs → AllByRecursion P ys → AllByRecursion P (xs ++ ys)
+  all_append P [] ys h k = k
+  all_append P (x ∷ xs) ys h k = (h.0, all_append P xs ys h.1 k)
+
+  state_heads : (s : State) → T s → AllByRecursion HasTyped (heads_of a s)
+  state_heads s h =
+      let e = type_of_number p.types c s h.0 h.1 in
+      let i = head_typed (m.moves s (seq_of (continuation p.types c.cells h.0)) e) in
+      all_append HasTyped (map label_head (moves_at a s).labels) (map text_head (moves_at a s).texts) i.0 i.1
+
+  right_heads_typed : (ss : List State) → AllByRecursion T ss → AllByRecursion HasTyped (flat_map (heads_of a) ss)
+  right_heads_typed [] h = tt
+  right_heads_typed (s ∷ ss) h = all_append HasTyped (heads_of a s) (flat_map (heads_of a) ss) (state_heads s h.0) (right_heads_typed ss h.1)
+
+  typed_leaf : (rows : List GoalRow) (g : ℕ) (left : State) (allowed : List State) → rules.LeafKeeps (claim_at rows) g left allowed → T left → AllByRecursion T allowed → typed_row c (row_at rows g) ≡ true
+  typed_leaf rows g left allowed k h w =
+      let e = (claim_within rows g k.claim k.found).1 in
+      row_typed-from c (row_at rows g)
+      (record {
+        left = subst T (sym (ap (λ (x : rules.Claim State). x.left) e ∙ k.same_left)) h;
+        rights = subst (AllByRecursion T) (sym (ap (λ (x : rules.Claim State). x.rights) e)) (among k.claim.rights k.rights_allowed);
+      })
+    where
+      among : (ss : List State) → AllByRecursion (λ s. IsOneOf s allowed) ss → AllByRecursion T ss
+      among [] x = tt
+      among (s ∷ ss) x = (one_of-all T s allowed w x.0, among ss x.1)
+
+  module _ (rows : List GoalRow) (h : table.Head State) (typed : HasTyped h) (atom : TableAtom) (rs : List (table.Head State)) (all : AllByRecursion HasTyped rs) where
+    typed_tree : (tree : rules.ChoiceTree) (cs ss : List State) (seen : List ℕ) → rules.TreeKeeps (claim_at rows) h atom rs tree cs ss seen → AllByRecursion T cs → AllByRecursion T ss → rules.AllLeaves (λ g. typed_row c (row_at rows g) ≡ true) tree
+    typed_tree (rules.ContentLeaf g) cs ss seen k x y = typed_leaf rows g h.content cs k typed.0 x
+    typed_tree (rules.RestLeaf g) cs ss seen k x y = typed_leaf rows g h.rest ss k typed.1 y
+    typed_tree (rules.SplitOn j t u) cs ss seen k x y =
+        let w = one_of-all HasTyped k.0 rs all (one_of-head_number k.0 rs j k.1) in
+        (typed_tree t ((k.0).content ∷ cs) ss (j ∷ seen) k.4 (w.0, x) y, typed_tree u cs ((k.0).rest ∷ ss) (j ∷ seen) k.5 x (w.1, y))
+
+    rests_typed : (hs : List (table.Head State)) → AllByRecursion HasTyped hs → AllByRecursion T (rules.matching_rests atom hs)
+    rests_typed [] x = tt
+    rests_typed (g ∷ hs) x = go (table.matches g.kind atom) (rests_typed hs x.1)
+      where
+        go : (b : Bool) → AllByRecursion T (rules.matching_rests atom hs) → AllByRecursion T (map (λ (f : table.Head State). f.rest) (cond b (g ∷ filter (λ f. table.matches f.kind atom) hs) (filter (λ f. table.matches f.kind atom) hs)))
+        go true i = ((x.0).1, i)
+        go false i = i
+
+    typed_case : (tree : rules.ChoiceTree) → rules.CaseKeeps (claim_at rows) h atom rs tree → rules.AllLeaves (λ g. typed_row c (row_at rows g) ≡ true) tree
+    typed_case tree k = go (table.is_text_atom atom) tree k
+      where
+        go : (b : Bool) (t : rules.ChoiceTree) → rules.KeepsBySort b (claim_at rows) h atom rs t → rules.AllLeaves (λ g. typed_row c (row_at rows g) ≡ true) t
+        go false t x = typed_tree t [] [] [] x tt tt
+        go true (rules.ContentLeaf g) x = absurd x
+        go true (rules.SplitOn j t u) x = absurd x
+        go true (rules.RestLeaf g) x = typed_leaf rows g h.rest (rules.matching_rests atom rs) x typed.1 (rests_typed rs all)
+
+  -- a row of states of types leads to such rows
+  pub typed_leads : (t : TableView) (g : ℕ) (ks : List Choice) → AllByRecursion (goals.KeepsRules a t (claim_of (row_at t.rows g))) ks → typed_row c (row_at t.rows g) ≡ true
+      → AllByRecursion (LeadsTo t.nodes (λ i. typed_row c (row_at t.rows i) ≡ true)) ks
+  typed_leads t g [] h e = tt
+  typed_leads t g (k ∷ ks) h e =
+      let x = h.0 in
+      let o = row_typed-is c (row_at t.rows g) e in
+      let hd = one_of-all HasTyped x.head (heads_of a (row_at t.rows g).left) (state_heads (row_at t.rows g).left o.left) (one_of-head_number x.head (heads_of a (row_at t.rows g).left) k.head x.found) in
+      let all = typed_case t.rows x.head hd k.atom (rules.right_heads (heads_of a) (claim_of (row_at t.rows g))) (right_heads_typed (row_at t.rows g).rights o.rights) x.tree x.keeps in
+      (λ tree s. subst (λ (z : rules.ChoiceTree). rules.AllLeaves (λ i. typed_row c (row_at t.rows i) ≡ true) z) (StandsAt-one t.nodes x.tree tree k.root x.stands s) all, typed_leads t g ks h.1 e)
+
+-- ---- while goals are written
+
+pub numbered_next : (ss : List State) (i : ℕ) (d : State) → i < length ss → numbered ss (i + 1) ≡ Some (get_or ss i d)
+numbered_next ss i d lt = ap (numbered ss) (let q : i + 1 ≡ suc i = omega arith in q) ∙ at ss i lt
+  where
+    at : (xs : List State) (k : ℕ) → k < length xs → numbered xs (suc k) ≡ Some (get_or xs k d)
+    at [] k l = absurd (omega arith)
+    at (x ∷ xs) zero l = refl
+    at (x ∷ xs) (suc k) l = at xs k (omega arith)
+
+pub some_last : (a : Automaton) (ss : List State) (i : ℕ) → AllByRecursion (λ (s : State). is_last_in a s ≡ false) (take i ss) → length ss ≤ i → list_any (is_last_in a) ss ≡ true → ⊥
+some_last a [] i h le e = cc
+some_last a (s ∷ ss) zero h le e = omega arith
+some_last a (s ∷ ss) (suc i) h le e = some_last a ss i h.1 (omega arith) (sym (ap (λ (b : Bool). b || list_any (is_last_in a) ss) h.0) ∙ e)
+
+pub can_writable : (a : Automaton) (t : TableView) (states : List (Option Known)) (numbers : List ℕ) (g : ℕ) (rights : List State) (places heads_ : List ℕ) (ks : List Choice) → CanWrite a t states numbers g → rights ≡ (row_at t.rows g).rights
+    → places ≡ all_places 1 (map (sorts_at states) rights) → heads_ ≡ places → ks ≡ (row_at t.rows g).choices → AllByRecursion (IsWritable t.nodes (length numbers) (length heads_)) ks
+can_writable a t states numbers g rights places heads_ ks w e f h q =
+    let y = typed_all w.program w.cells states w.known (row_at t.rows g).rights (w.types).rights in
+    let count = places_heads (names_of (program_tree w.program)) a (continuation_of (w.program).types w.cells) (w.mirrors).moves (row_at t.rows g).rights y.types y.typed in
+    let same : length heads_ ≡ length (rules.right_heads (heads_of a) (claim_of (row_at t.rows g))) =
+    ap length (h ∙ (f ∙ (ap (λ (ss : List State). all_places 1 (map (sorts_at states) ss)) e ∙ ap (all_places 1) y.sorts))) ∙ count in
+    subst (AllByRecursion (IsWritable t.nodes (length numbers) (length heads_))) (sym q)
+    (subst (λ (n : ℕ). AllByRecursion (IsWritable t.nodes (length numbers) n) (row_at t.rows g).choices) (sym same) w.writable)
+
+pub zip_more : {B : Type 0} (R : ℕ → B → Type 0) (xs : List ℕ) (i : ℕ) (ys ys2 : List B) (y : B) → i < length xs → AllZip R (take i xs) ys → R (get_or xs i 0) y → ys2 ≡ ys ++ y ∷ [] → AllZip R (take (i + 1) xs) ys2
+zip_more {B} R xs i ys ys2 y lt z r e =
+    subst (λ (u : List B). AllZip R (take (i + 1) xs) u) (sym e) (subst (λ (u : List ℕ). AllZip R u (ys ++ y ∷ [])) (sym (take_more xs i 0 lt)) (push (take i xs) ys z))
+  where
+    push : (us : List ℕ) (vs : List B) → AllZip R us vs → AllZip R (us ++ get_or xs i 0 ∷ []) (vs ++ y ∷ [])
+    push [] [] w = (r, tt)
+    push [] (v ∷ vs) w = absurd w
+    push (u ∷ us) [] w = absurd w
+    push (u ∷ us) (v ∷ vs) w = (w.0, push us vs w.1)
+
+pub take_past : (xs : List ℕ) (i : ℕ) → length xs ≤ i → take i xs ≡ xs
+take_past [] zero le = refl
+take_past [] (suc i) le = refl
+take_past (x ∷ xs) zero le = absurd (omega arith)
+take_past (x ∷ xs) (suc i) le = ap (λ (ys : List ℕ). x ∷ ys) (take_past xs i (omega arith))

@@ -1,0 +1,7 @@
+pub mod Written
+pub mod Places
+pub mod Steps
+pub mod Met
+pub mod Ordered
+pub mod Known
+pub mod Made

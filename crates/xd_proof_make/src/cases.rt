@@ -1,0 +1,139 @@
+//! The choices of a goal of a table as cases of a goal of a proof.
+
+ghost use Rattle.std.specs.Prelude.{◌≡◌, ◌<◌, ◌+◌, ◌++◌, ◌^◌, List, map, length, IfOk, OnOk};
+ghost use Rattle.xd_proof_lines.specs.declared.cases.ReadCase.{ReadCase};
+ghost use Rattle.std.specs.List.{AllByRecursion, AllZip};
+ghost use Rattle.xd_proof_lines.specs.Cases.{atom_of};
+ghost use Rattle.xd_proof_make.specs.Written.{written_atom};
+ghost use Rattle.xd_proof_make.specs.Ordered.{AreWrittenCases, IsCut, IsMadeOf, IsStepWithin, IsWritable, written_step};
+
+use crate::steps::table_steps;
+use std::alloc::Global;
+use xd_doc::NoMemory;
+use xd_goals::{Choice, Table};
+use xd_proof_lines::{Atom, ReadCase, Step};
+
+/// The choices before the first whose head has at least this number, and the others.
+fn cut_choices(choices: &[Choice], bound: usize) -> (&[Choice], &[Choice])
+    ensures { IsCut bound choices.now result.0.now result.1.now }
+{
+    for (index, choice) in choices.iter().enumerate() {
+        if choice.head >= bound {
+            return choices.split_at(index);
+        }
+    }
+    choices.split_at(choices.len())
+}
+
+/// The atom, as proofs have it.
+fn write_atom(atom: &xd_goals::Atom) -> Result<Atom, NoMemory>
+    ensures { IfOk result (λ made. atom_of made ≡ written_atom atom.now) }
+{
+    match atom {
+        xd_goals::Atom::Label(label) => Ok(Atom::Label(label.share()?)),
+        xd_goals::Atom::OtherLabel => Ok(Atom::OtherLabel),
+        xd_goals::Atom::Text(text) => Ok(Atom::Text(text.share()?)),
+        xd_goals::Atom::OtherText => Ok(Atom::OtherText),
+    }
+}
+
+/// The step, with a proof's numbers.
+fn write_step(goals: &[usize], heads: &[usize], step: Step) -> Step
+    requires { IsStepWithin (length goals.now) (length heads.now) step }
+    ensures { result ≡ written_step heads.now goals.now step }
+{
+    match step {
+        Step::Content(goal) => Step::Content(goals[goal as usize] as u64),
+        Step::Rest(goal) => Step::Rest(goals[goal as usize] as u64),
+        Step::Split(head) => Step::Split(heads[head as usize - 1] as u64),
+    }
+}
+
+/// The steps, with a proof's numbers.
+fn write_steps(
+    alloc: Global,
+    goals: &[usize],
+    heads: &[usize],
+    steps: &[Step],
+) -> Result<Vec<Step>, NoMemory>
+    requires { AllByRecursion (IsStepWithin (length goals.now) (length heads.now)) steps.now }
+    ensures { IfOk result (λ made. made.items ≡ map (written_step heads.now goals.now) steps.now) }
+{
+    let mut written = Vec::new(alloc);
+    for step in steps {
+        written.push(write_step(goals, heads, *step))?;
+    }
+    Ok(written)
+}
+
+/// The choice as a case of the left head with this number.
+fn write_case(
+    alloc: Global,
+    table: &Table,
+    goals: &[usize],
+    heads: &[usize],
+    head: u64,
+    choice: &Choice,
+) -> Result<ReadCase, NoMemory>
+    requires { IsWritable table.now.nodes (length goals.now) (length heads.now) choice.now }
+    ensures { IfOk result (IsMadeOf table.now.nodes heads.now goals.now head choice.now) }
+{
+    let steps = table_steps(alloc, table, choice.root)?;
+    let steps = write_steps(alloc, goals, heads, &steps)?;
+    let atom = write_atom(&choice.atom)?;
+    Ok(ReadCase { head, atom, steps })
+}
+
+/// Adds the choices as cases of the left head with this number.
+fn add_cases(
+    alloc: Global,
+    table: &Table,
+    goals: &[usize],
+    heads: &[usize],
+    head: u64,
+    choices: &[Choice],
+    cases: &mut Vec<ReadCase>,
+) -> Result<(), NoMemory>
+    requires { AllByRecursion (IsWritable table.now.nodes (length goals.now) (length heads.now)) choices.now }
+    ensures { OnOk result ((more : List ReadCase) × (cases.new.items ≡ cases.old.items ++ more) × AllZip (IsMadeOf table.now.nodes heads.now goals.now head) choices.now more) }
+{
+    for choice in choices {
+        cases.push(write_case(alloc, table, goals, heads, head, choice)?)?;
+    }
+    Ok(())
+}
+
+/// The choices of a goal as cases: in the order of its left's heads, of which these are texts and the others elements, so many.
+pub(crate) fn write_cases(
+    alloc: Global,
+    table: &Table,
+    goals: &[usize],
+    heads: &[usize],
+    sorts: &[bool],
+    elements: usize,
+    choices: &[Choice],
+) -> Result<Vec<ReadCase>, NoMemory>
+    requires writable { AllByRecursion (IsWritable table.now.nodes (length goals.now) (length heads.now)) choices.now }
+    requires small { elements + length sorts.now + 2 < 2 ^ 64 }
+    ensures { IfOk result (λ made. AreWrittenCases table.now.nodes heads.now goals.now sorts.now elements choices.now made.items) }
+{
+    let (mut at_elements, mut at_texts) = cut_choices(choices, elements + 1);
+    let mut element = 1;
+    let mut text = elements + 1;
+    let mut cases = Vec::new(alloc);
+    for (index, is_text) in sorts.iter().enumerate() {
+        let head = index as u64 + 1;
+        if *is_text {
+            let (front, back) = cut_choices(at_texts, text + 1);
+            add_cases(alloc, table, goals, heads, head, front, &mut cases)?;
+            at_texts = back;
+            text += 1;
+        } else {
+            let (front, back) = cut_choices(at_elements, element + 1);
+            add_cases(alloc, table, goals, heads, head, front, &mut cases)?;
+            at_elements = back;
+            element += 1;
+        }
+    }
+    Ok(cases)
+}

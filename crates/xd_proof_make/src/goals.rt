@@ -1,0 +1,139 @@
+//! Goals of a table as goals of a proof.
+
+ghost use Rattle.std.specs.Prelude.{◌≡◌, ◌<◌, ℕ, true, map, length, IfOk, OnOk};
+ghost use Rattle.std.specs.List.{AllByRecursion, AllZip, list_any};
+ghost use Rattle.xd_auto.specs.Automaton.{Automaton, IsState};
+ghost use Rattle.xd_goals.specs.Moves.{AreBelow, is_last_in};
+ghost use Rattle.xd_goals.specs.Rows.{row_at};
+ghost use Rattle.xd_heads.specs.CellsView.{CellsView};
+ghost use Rattle.xd_heads.specs.Growing.{GrowsTypes};
+ghost use Rattle.xd_heads.specs.Mirrors.{IsTypeState, Mirrors};
+ghost use Rattle.xd_syntax.specs.Kept.{ProgramTable};
+ghost use Rattle.xd_proof_make.specs.Known.{AreKnown, HasKnown, IsIdOf, KeepsKnown};
+ghost use Rattle.xd_proof_make.specs.Made.{CanWrite, HasTypes, IsEmptyRight, IsGoalMade, IsTypedRow};
+
+use crate::cases::write_cases;
+use crate::places::right_places;
+use crate::states::{Known, known_of, learn, learn_all};
+use std::alloc::Global;
+use xd_auto::{Auto, State};
+use xd_doc::NoMemory;
+use xd_goals::{GoalId, Table};
+use xd_heads::Cells;
+use xd_proof::ProofGoal;
+use xd_syntax::{SoundProgram, TypeId};
+
+/// The number of the first right that can be empty, where the left can be.
+fn empty_right(auto: &Auto, left: State, rights: &[State]) -> Option<u64>
+    requires left { IsState auto.now left }
+    requires rights { AreBelow (length auto.now) rights.now }
+    requires covered { is_last_in auto.now left ≡ true → list_any (is_last_in auto.now) rights.now ≡ true }
+    ensures { IsEmptyRight auto.now left rights.now result }
+{
+    if !auto.is_last(left) {
+        return None;
+    }
+    for (index, right) in rights.iter().enumerate() {
+        if auto.is_last(*right) {
+            return Some(index as u64 + 1);
+        }
+    }
+    unreachable!()
+}
+
+/// The types of states.
+fn type_ids(
+    alloc: Global,
+    states: &[Option<Known>],
+    wanted: &[State],
+) -> Result<Vec<TypeId>, NoMemory>
+    requires { AllByRecursion (HasKnown states.now) wanted.now }
+    ensures { IfOk result (λ ids. AllZip (IsIdOf states.now) ids.items wanted.now) }
+{
+    let mut ids = Vec::new(alloc);
+    for state in wanted {
+        ids.push(known_of(states, *state).id)?;
+    }
+    Ok(ids)
+}
+
+/// A goal of the table as a goal of a proof, where goals have these numbers.
+fn write_goal(
+    alloc: Global,
+    auto: &Auto,
+    table: &Table,
+    states: &[Option<Known>],
+    numbers: &[usize],
+    goal: GoalId,
+) -> Result<ProofGoal, NoMemory>
+    requires there { goal.number < length table.now.rows }
+    requires can { CanWrite auto.now table.now states.now numbers.now goal.number }
+    ensures { IfOk result (λ made. (p : ProgramTable) (c : CellsView) → Mirrors p c auto.now → AreKnown p c states.now → IsGoalMade p c auto.now table.now.nodes numbers.now (row_at table.now.rows goal.number) made) }
+{
+    let left = table.left(goal);
+    let rights = table.rights(goal);
+    let known = known_of(states, left);
+    let places = right_places(alloc, states, rights)?;
+    let cases = write_cases(
+        alloc,
+        table,
+        numbers,
+        &places,
+        &known.sorts,
+        auto.label_moves(left).len(),
+        table.choices(goal),
+    )?;
+    Ok(ProofGoal {
+        line: 1,
+        left: known.id,
+        rights: type_ids(alloc, states, rights)?,
+        empty_right: empty_right(auto, left, rights),
+        cases,
+    })
+}
+
+/// Goals of the table as goals of a proof.
+pub(crate) fn write_goals(
+    alloc: Global,
+    auto: &Auto,
+    table: &Table,
+    states: &[Option<Known>],
+    numbers: &[usize],
+    goals: &[usize],
+) -> Result<Vec<ProofGoal>, NoMemory>
+    requires there { AllByRecursion (λ g. g < length table.now.rows) goals.now }
+    requires can { AllByRecursion (CanWrite auto.now table.now states.now numbers.now) goals.now }
+    ensures { IfOk result (λ made. (p : ProgramTable) (c : CellsView) → Mirrors p c auto.now → AreKnown p c states.now → AllZip (λ g m. IsGoalMade p c auto.now table.now.nodes numbers.now (row_at table.now.rows g) m) goals.now made.items) }
+{
+    let mut made = Vec::new(alloc);
+    for number in goals {
+        let goal = table.goal(*number);
+        made.push(write_goal(alloc, auto, table, states, numbers, goal)?)?;
+    }
+    Ok(made)
+}
+
+/// Finds out about the states of goals.
+pub(crate) fn learn_goals(
+    alloc: Global,
+    sound: &mut SoundProgram,
+    cells: &Cells,
+    table: &Table,
+    states: &mut Vec<Option<Known>>,
+    goals: &[usize],
+) -> Result<(), NoMemory>
+    requires mirrors { (a : Automaton) × Mirrors sound.old cells.now a }
+    requires there { AllByRecursion (λ g. g < length table.now.rows) goals.now }
+    requires types { AllByRecursion (λ g. IsTypedRow cells.now (length states.old.items) (row_at table.now.rows g)) goals.now }
+    ensures known { AreKnown sound.old cells.now states.old.items → AreKnown sound.new cells.now states.new.items }
+    ensures has { OnOk result (AllByRecursion (λ g. HasTypes states.new.items (row_at table.now.rows g)) goals.now) }
+    ensures keeps { KeepsKnown states.old.items states.new.items }
+    ensures grows { GrowsTypes sound.old sound.new }
+{
+    for number in goals {
+        let goal = table.goal(*number);
+        learn(alloc, sound, cells, states, table.left(goal))?;
+        learn_all(alloc, sound, cells, states, table.rights(goal))?;
+    }
+    Ok(())
+}

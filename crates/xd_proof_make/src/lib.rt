@@ -1,0 +1,12 @@
+//! Proofs of inclusions, made from a table of goals.
+#![tactic(auto)]
+
+mod cases;
+mod goals;
+mod make;
+mod places;
+mod reach;
+mod states;
+mod steps;
+
+pub use make::proof_of;
