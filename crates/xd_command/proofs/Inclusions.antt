@@ -1,10 +1,9 @@
 -- Inclusion of types, by states that accept what fits them.
-use Rattle.std.proofs.Common.{◌≡◌, inl, inr, Bool, true, false, List, [], ◌∷◌, refl, sym, ◌∙◌}
+use Rattle.std.proofs.Common.{◌≡◌, inl, inr, true, false, sym, ◌∙◌}
 use Rattle.xd_auto.specs.Automaton.{Automaton, accepts}
 use Rattle.xd_auto.specs.declared.auto.State.{State}
 use Rattle.xd_doc.specs.Document.{Document, is_proper}
 use Rattle.xd_syntax.specs.Tree.{Tree, Definitions}
-use Rattle.xd_syntax.specs.Fits as types
 use Rattle.xd_command.specs.Output.{Output, yes, separated}
 use Rattle.xd_command.specs.Fits.{IsAcceptor}
 use Rattle.xd_command.specs.Subtype.{AnswersInclusion}

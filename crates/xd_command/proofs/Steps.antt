@@ -54,7 +54,7 @@ risen_later : (a b c : ℕ) → a ≤ b → HasRisen b c → HasRisen a c
 risen_later a b c le (inl lt) = inl (omega arith)
 risen_later a b c le (inr top) = inr top
 
-text_later : (a b c : ℕ) {old new : Holding} (name : List ℕ) (limit : ℕ) (o : Output) → a ≤ b → new ≡ old → EndsAtText new (HasRisen b c) name limit o → EndsAtText old (HasRisen a c) name limit o
+pub text_later : (a b c : ℕ) {old new : Holding} (name : List ℕ) (limit : ℕ) (o : Output) → a ≤ b → new ≡ old → EndsAtText new (HasRisen b c) name limit o → EndsAtText old (HasRisen a c) name limit o
 text_later a b c {old} {new} name limit o le e (inl (inl r, w)) = inl (inl (risen_later a b c le r), w)
 text_later a b c {old} {new} name limit o le e (inl (inr l, w)) = inl (inr (subst (λ h. IsLacking h name) e l), w)
 text_later a b c {old} {new} name limit o le e (inr l) = inr (l.0, subst (λ h. IsHeld h name l.0) e l.1, l.2, l.3)

@@ -1,12 +1,19 @@
 -- What `check` answers, behind the faults of names and of recursion.
-use Rattle.std.specs.Prelude.{◌≡◌, ◌⊎◌, List, [], ◌∷◌}
-use Rattle.xd_syntax.specs.Program.{FunctionDefinition, ProgramTree}
-use Rattle.xd_syntax.specs.NameFaults.{fault_at}
-use Rattle.xd_syntax.specs.declared.fault.FaultKind.TheVariants.{Syntax}
-use Rattle.xd_command.specs.Output.{Output, accepted, fault_lines}
+use Rattle.std.specs.Prelude.{◌≡◌, ℕ, List, [], ◌∷◌, ◌++◌, codes}
+use Rattle.xd_syntax.specs.Program.{ProgramTree}
+use Rattle.xd_syntax.specs.CheckFaults.{Line, AreLines, faults_among}
+use Rattle.xd_command.specs.Output.{Output}
+use Rattle.xd_command.specs.Report.{AreLineTexts}
 
--- a program with functions isn't looked at further so far, and refused at the name of the first
-abbrev pub AnswersCheck : ProgramTree → Output → Type 0
-AnswersCheck P o =
-    ((P.functions ≡ []) × (o ≡ accepted))
-    ⊎ ((f : FunctionDefinition) × (fs : List FunctionDefinition) × (P.functions ≡ f ∷ fs) × (o ≡ fault_lines (fault_at f.place Syntax ∷ [])))
+-- the text of the lines, and `accepted` where none of them is a fault
+abbrev pub with_verdict : (faults : List Line) → (text : List ℕ) → Output
+with_verdict [] text = record { status = 0; text = text ++ codes "accepted\n" }
+with_verdict (f ∷ fs) text = record { status = 1; text = text }
+
+-- all faults of matches, arguments and results, and all warnings, in order
+pub record AnswersCheck (P : ProgramTree) (o : Output) : Type 0 where
+  pub lines : List Line
+  pub all : AreLines P lines
+  pub text : List ℕ
+  pub written : AreLineTexts lines text
+  pub output : o ≡ with_verdict (faults_among lines) text

@@ -1,13 +1,48 @@
 -- The forms of the command's words.
-use Rattle.std.specs.Prelude.{ℕ, List, [], ◌∷◌, Option, Some, None, codes, if◌then◌else◌}
+use Rattle.std.specs.Prelude.{ℕ, ◌+◌, ◌≤◌, List, [], ◌∷◌, Option, Some, None, codes, if◌then◌else◌, cond, ◌&&◌, nat_lt, option_map}
 use Rattle.std.specs.Str.{bytes_eq}
+use Rattle.std.specs.Str.Parse.{digits_value}
+use Rattle.std.specs.Fmt.{decimal}
 use Rattle.xd_command.specs.declared.command.Command.{Command}
-use Rattle.xd_command.specs.declared.command.Command.TheVariants.{Fits, Subtype, Check}
+use Rattle.xd_command.specs.declared.command.Command.TheVariants.{Fits, Subtype, Verify, Upgrade, Check, Run}
+
+-- how many calls a run may make
+abbrev pub fuel_limit : ℕ
+fuel_limit = 10000000
+
+abbrev pub default_fuel : ℕ
+default_fuel = 1000000
+
+-- the number, from 1 to the limit, whose decimal digits the word is, without a sign or a leading zero
+abbrev pub number_within : (limit : ℕ) → List ℕ → Option ℕ
+number_within limit word =
+    let n : ℕ = digits_value 10 word in
+    cond (bytes_eq (decimal n) word && (nat_lt 0 n && nat_lt n (limit + 1))) (Some n) None
+
+-- the commands of one text, of two and of three
+abbrev pub of_one : (command file : List ℕ) → Option Command
+of_one command file = if bytes_eq command (codes "check") then Some (Check file) else None
+
+abbrev pub of_two : (command file second : List ℕ) → Option Command
+of_two command file second =
+    if bytes_eq command (codes "verify") then Some (Verify file second)
+    else (if bytes_eq command (codes "upgrade") then Some (Upgrade file second)
+    else (if bytes_eq command (codes "run") then Some (Run file second default_fuel) else None))
+
+abbrev pub of_three : (command file second third : List ℕ) → Option Command
+of_three command file second third =
+    if bytes_eq command (codes "fits") then Some (Fits file second third)
+    else (if bytes_eq command (codes "subtype") then Some (Subtype file second third)
+    else (if bytes_eq command (codes "run") then option_map (Run file second) (number_within fuel_limit third) else None))
 
 -- the command that the words give; other words are none
 abbrev pub command_of : List (List ℕ) → Option Command
-command_of (command ∷ file ∷ first ∷ second ∷ []) =
-    if bytes_eq command (codes "fits") then Some (Fits file first second)
-    else (if bytes_eq command (codes "subtype") then Some (Subtype file first second) else None)
-command_of (command ∷ file ∷ []) = if bytes_eq command (codes "check") then Some (Check file) else None
+command_of (command ∷ file ∷ []) = of_one command file
+command_of (command ∷ file ∷ second ∷ []) = of_two command file second
+command_of (command ∷ file ∷ second ∷ third ∷ []) = of_three command file second third
 command_of words = None
+
+-- some call may be made, where the command is a run
+abbrev pub CanRun : Command → Type 0
+CanRun (Run file document fuel) = 1 ≤ fuel
+CanRun command = Unit {0}

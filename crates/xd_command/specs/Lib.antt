@@ -6,6 +6,12 @@ pub mod Documents
 pub mod Command
 pub mod Fits
 pub mod Subtype
+pub mod Proofs
+pub mod Reading
+pub mod Report
+pub mod Merging
 pub mod Check
+pub mod Run
+pub mod Running
 pub mod Answer
 pub mod Outcome

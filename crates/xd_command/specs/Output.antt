@@ -13,8 +13,9 @@ pub record Output : Type 0 where
 abbrev pub yes : Output
 yes = record { status = 0; text = codes "yes\n" }
 
-abbrev pub accepted : Output
-accepted = record { status = 0; text = codes "accepted\n" }
+-- the canonical text of a document
+abbrev pub canonical : Document → Output
+canonical d = record { status = 0; text = canonical_text d ++ codes "\n" }
 
 -- faults that carry no documents, each on a line
 abbrev pub fault_lines : List Fault → Output
@@ -34,6 +35,12 @@ separated d = record { status = 6; text = codes "no: " ++ canonical_text d ++ co
 
 abbrev pub malformed_document : Place → Output
 malformed_document p = record { status = 7; text = place_front p ++ codes "malformed document\n" }
+
+abbrev pub outside_input : Output
+outside_input = record { status = 8; text = codes "outside the input type\n" }
+
+abbrev pub fuel_spent : Output
+fuel_spent = record { status = 9; text = codes "fuel spent\n" }
 
 abbrev pub too_long : List ℕ → Output
 too_long name = record { status = 10; text = codes "too long: " ++ name ++ codes "\n" }

@@ -10,7 +10,6 @@ use Rattle.xd_syntax.specs.declared.types.TypeId.{TypeId}
 use Rattle.xd_syntax.specs.declared.fault.Fault.{Fault}
 use Rattle.xd_syntax.specs.declared.fault.FaultKind.TheVariants.{NoSuchName}
 use Rattle.xd_command.specs.Output.{Output, yes, separated, fault_lines}
-use Rattle.xd_command.specs.Step.{Step}
 
 -- a fault where no type has this name
 abbrev pub undefined : ProgramTree → (name : List ℕ) → List Fault

@@ -1,20 +1,25 @@
 //! The commands, by their words.
 
-ghost use Rattle.std.specs.Prelude.{◌≡◌, map};
+ghost use Rattle.std.specs.Prelude.{◌≡◌, ◌<◌, ◌^◌, map, option_map};
 ghost use Rattle.std.specs.String.{string_bytes};
 ghost use Rattle.xd_base.specs.Outside.{HasRisen};
 ghost use Rattle.xd_command.specs.Answer.{Answers};
-ghost use Rattle.xd_command.specs.Command.{command_of};
+ghost use Rattle.xd_command.specs.Command.{CanRun, command_of, fuel_limit, number_within, of_one, of_three, of_two};
+ghost use Rattle.xd_command.specs.declared.command.Command.TheVariants as commands;
 ghost use Rattle.xd_command.specs.Step.{DoesAll};
 
 use crate::output::{Output, Stop};
 use std::alloc::Global;
 use std::marker::Model;
 use xd_base::Shelf;
+use xd_proof_form::read_number;
 
 mod check;
 mod fits;
+mod run;
 mod subtype;
+mod upgrade;
+mod verify;
 
 /// One of the command's words, which contracts see as its bytes.
 #[derive(Drop)]
@@ -59,10 +64,46 @@ pub enum Command<'a> {
         left: Word<'a>,
         right: Word<'a>,
     },
+    /// Whether the proof is consistent over the types of the program.
+    Verify {
+        file: Word<'a>,
+        proof: Word<'a>,
+    },
+    /// The proof in the second format.
+    Upgrade {
+        file: Word<'a>,
+        proof: Word<'a>,
+    },
     /// Whether the program is accepted, and else its faults.
     Check {
         file: Word<'a>,
     },
+    /// The value of the program on the document, within so many calls.
+    Run {
+        file: Word<'a>,
+        document: Word<'a>,
+        fuel: u64,
+    },
+}
+
+/// How many calls a run may make at most.
+pub const FUEL_LIMIT: u64 = 10_000_000;
+
+/// How many calls a run may make where its words don't say.
+pub const DEFAULT_FUEL: u64 = 1_000_000;
+
+/// The number that the word spells, where it is from 1 to the limit.
+fn number_within(limit: u64, word: &str) -> Option<u64>
+    requires { limit < 10 ^ 18 }
+    ensures { result ≡ number_within limit word.now }
+{
+    let Some(number) = read_number(word.as_bytes()) else {
+        return None;
+    };
+    if number > limit {
+        return None;
+    }
+    Some(number)
 }
 
 impl<'a> Command<'a> {
@@ -71,27 +112,102 @@ impl<'a> Command<'a> {
         ensures { result ≡ command_of (map string_bytes words.now) }
     {
         match words {
-            [command, file, name, document] if command.as_str() == "fits" => Some(Command::Fits {
-                file: Word::new(file.as_str()),
-                name: Word::new(name.as_str()),
-                document: Word::new(document.as_str()),
-            }),
-            [command, file, left, right] if command.as_str() == "subtype" => {
-                Some(Command::Subtype {
-                    file: Word::new(file.as_str()),
-                    left: Word::new(left.as_str()),
-                    right: Word::new(right.as_str()),
-                })
+            [command, file] => Command::of_one(command.as_str(), file.as_str()),
+            [command, file, second] => {
+                Command::of_two(command.as_str(), file.as_str(), second.as_str())
             }
-            [command, file] if command.as_str() == "check" => Some(Command::Check {
-                file: Word::new(file.as_str()),
-            }),
+            [command, file, second, third] => Command::of_three(
+                command.as_str(),
+                file.as_str(),
+                second.as_str(),
+                third.as_str(),
+            ),
             _ => None,
         }
     }
 
+    /// A command on one text.
+    fn of_one(command: &str, file: &'a str) -> Option<Command<'a>>
+        ensures { result ≡ of_one command.now file.now }
+    {
+        if command == "check" {
+            return Some(Command::Check {
+                file: Word::new(file),
+            });
+        }
+        None
+    }
+
+    /// A command on a text and one more word.
+    fn of_two(command: &str, file: &'a str, second: &'a str) -> Option<Command<'a>>
+        ensures { result ≡ of_two command.now file.now second.now }
+    {
+        if command == "verify" {
+            return Some(Command::Verify {
+                file: Word::new(file),
+                proof: Word::new(second),
+            });
+        }
+        if command == "upgrade" {
+            return Some(Command::Upgrade {
+                file: Word::new(file),
+                proof: Word::new(second),
+            });
+        }
+        if command == "run" {
+            return Some(Command::Run {
+                file: Word::new(file),
+                document: Word::new(second),
+                fuel: DEFAULT_FUEL,
+            });
+        }
+        None
+    }
+
+    /// A command on a text and two more words.
+    fn of_three(
+        command: &str,
+        file: &'a str,
+        second: &'a str,
+        third: &'a str,
+    ) -> Option<Command<'a>>
+        ensures { result ≡ of_three command.now file.now second.now third.now }
+    {
+        if command == "fits" {
+            return Some(Command::Fits {
+                file: Word::new(file),
+                name: Word::new(second),
+                document: Word::new(third),
+            });
+        }
+        if command == "subtype" {
+            return Some(Command::Subtype {
+                file: Word::new(file),
+                left: Word::new(second),
+                right: Word::new(third),
+            });
+        }
+        if command == "run" {
+            return Command::run(file, second, third);
+        }
+        None
+    }
+
+    /// A run with this fuel, where the word spells one.
+    fn run(file: &'a str, document: &'a str, fuel: &str) -> Option<Command<'a>>
+        ensures { result ≡ option_map (commands.Run file.now document.now) (number_within fuel_limit fuel.now) }
+    {
+        let fuel = number_within(FUEL_LIMIT, fuel)?;
+        Some(Command::Run {
+            file: Word::new(file),
+            document: Word::new(document),
+            fuel,
+        })
+    }
+
     /// Does the command, but for the writing.
     pub fn answer<H: Shelf>(&self, alloc: Global, shelf: &mut H) -> Result<Output, Stop>
+        requires { CanRun self.now }
         ensures { DoesAll result (Answers self.now (H.holds shelf.old) (HasRisen (H.faults shelf.old) (H.faults shelf.new))) }
     {
         match self {
@@ -113,7 +229,18 @@ impl<'a> Command<'a> {
                 right.as_str(),
                 shelf,
             ),
+            Command::Verify { file, proof } => {
+                verify::verify(alloc, file.as_str(), proof.as_str(), shelf)
+            }
+            Command::Upgrade { file, proof } => {
+                upgrade::upgrade(alloc, file.as_str(), proof.as_str(), shelf)
+            }
             Command::Check { file } => check::check(alloc, file.as_str(), shelf),
+            Command::Run {
+                file,
+                document,
+                fuel,
+            } => run::run(alloc, file.as_str(), document.as_str(), *fuel, shelf),
         }
     }
 }

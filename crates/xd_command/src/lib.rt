@@ -16,8 +16,11 @@ use xd_base::{Shelf, Sink};
 
 mod command;
 mod document;
+mod membership;
 mod output;
 mod program;
+mod proof;
+mod report;
 mod status;
 mod text;
 

@@ -6,9 +6,14 @@ ghost use Rattle.std.specs.List.{AllByRecursion};
 ghost use Rattle.xd_base.specs.Outside.{HasRisen, HasGrown};
 ghost use Rattle.xd_doc.specs.Stored.{BelongsTo, document_at};
 ghost use Rattle.xd_report.specs.Report.{CarriesFrom};
-ghost use Rattle.xd_syntax.specs.NameFaults.{fault_at};
-ghost use Rattle.xd_syntax.specs.declared.fault.FaultKind.TheVariants.{NoSuchName, Syntax};
+ghost use Rattle.xd_syntax.specs.declared.fault.FaultKind.TheVariants.{NoMain, NoSuchName};
+ghost use Rattle.xd_laws.specs.Breach.{Lined, goals_of};
+ghost use Rattle.xd_proof.specs.Goals.{AreGoalsAt};
+ghost use Rattle.xd_proof_check.specs.Reasons.{reason_of};
+ghost use Rattle.xd_proof_write.specs.ClaimText.{claim_text};
+ghost use Rattle.xd_proof_write.specs.SecondText.{second_text_of};
 ghost use Rattle.xd_command.specs.Outcome.{IsSent};
+ghost use Rattle.xd_command.specs.Proofs.{bad_line, reason_text};
 ghost use Rattle.xd_command.specs.Output as outputs;
 ghost use Rattle.xd_command.specs.declared.output.Stop.TheVariants as stops;
 
@@ -18,8 +23,11 @@ use std::alloc::Global;
 use std::marker::Model;
 use xd_base::{Place, Sink};
 use xd_doc::{NoMemory, Seq, Store, Text};
+use xd_proof::Proof;
+use xd_proof_check::Reason;
+use xd_proof_write::{claim_line, second_text};
 use xd_report::fault_line;
-use xd_syntax::{Fault, FaultKind};
+use xd_syntax::{Fault, FaultKind, SoundProgram};
 use xd_write::write_document;
 
 /// A text that is to be written whole, and the status that goes with it.
@@ -84,10 +92,63 @@ impl Output {
         Output::fixed(alloc, Status::NO, "no\n")
     }
 
-    pub fn accepted(alloc: Global) -> Result<Output, NoMemory>
-        ensures { IfOk result (λ o. o ≡ outputs.accepted) }
+    /// That the program is accepted, behind these lines.
+    pub fn accepted(lines: Vec<u8>) -> Result<Output, NoMemory>
+        ensures { IfOk result (λ o. o ≡ record { status = 0; text = lines.items ++ codes "accepted\n" }) }
     {
-        Output::fixed(alloc, Status::SUCCESS, "accepted\n")
+        let mut text = lines;
+        text.extend_from_slice(b"accepted\n")?;
+        Ok(Output {
+            status: Status::SUCCESS,
+            text,
+        })
+    }
+
+    /// The lines of a program that is not accepted.
+    pub fn refused(lines: Vec<u8>) -> Output
+        ensures { result ≡ record { status = 1; text = lines.items } }
+    {
+        Output {
+            status: Status::FAULTS,
+            text: lines,
+        }
+    }
+
+    pub fn outside_input(alloc: Global) -> Result<Output, NoMemory>
+        ensures { IfOk result (λ o. o ≡ outputs.outside_input) }
+    {
+        Output::fixed(alloc, Status::OUTSIDE, "outside the input type\n")
+    }
+
+    pub fn fuel_spent(alloc: Global) -> Result<Output, NoMemory>
+        ensures { IfOk result (λ o. o ≡ outputs.fuel_spent) }
+    {
+        Output::fixed(alloc, Status::SPENT, "fuel spent\n")
+    }
+
+    /// The report that the program has no input type.
+    pub fn no_main(alloc: Global) -> Result<Output, NoMemory>
+        ensures { IfOk result (λ o. o ≡ outputs.fault_lines (record { place = None; kind = NoMain } ∷ [])) }
+    {
+        let fault = Fault {
+            place: None,
+            kind: FaultKind::NoMain,
+        };
+        Output::faults(alloc, &[fault])
+    }
+
+    /// The canonical text of a document.
+    pub fn canonical(alloc: Global, store: &Store, document: Seq) -> Result<Output, NoMemory>
+        requires { BelongsTo store.now document }
+        ensures { IfOk result (λ o. o ≡ outputs.canonical (document_at store.now document)) }
+    {
+        let mut text = Vec::new(alloc);
+        write_document(alloc, store, document, &mut text)?;
+        text.extend_from_slice(b"\n")?;
+        Ok(Output {
+            status: Status::SUCCESS,
+            text,
+        })
     }
 
     pub fn usage(alloc: Global) -> Result<Output, NoMemory>
@@ -138,6 +199,49 @@ impl Output {
         })
     }
 
+    /// The first bad line of a proof, and why it is bad.
+    pub fn bad_line(alloc: Global, line: u64, reason: Reason) -> Result<Output, NoMemory>
+        ensures { IfOk result (λ o. o ≡ bad_line line (reason_of reason)) }
+    {
+        let mut digits = Buffer::new();
+        let mut text = Vec::from_slice(alloc, b"line ")?;
+        text.extend_from_slice(digits.format(line).as_bytes())?;
+        text.extend_from_slice(b": ")?;
+        text.extend_from_slice(reason_text(reason).as_bytes())?;
+        text.extend_from_slice(b"\n")?;
+        Ok(Output {
+            status: Status::NO,
+            text,
+        })
+    }
+
+    /// The claim of a proof that is accepted.
+    pub fn claim(alloc: Global, sound: &SoundProgram, proof: &Proof) -> Result<Output, NoMemory>
+        requires { (goals : List Lined) × AreGoalsAt sound.now.types proof.now goals }
+        ensures { (claim : Lined) (others : List Lined) → AreGoalsAt sound.now.types proof.now (claim ∷ others) → IfOk result (λ o. o ≡ record { status = 0; text = claim_text claim.goal ++ codes "\n" }) }
+    {
+        let mut text = Vec::new(alloc);
+        claim_line(alloc, sound, proof, &mut text)?;
+        text.extend_from_slice(b"\n")?;
+        Ok(Output {
+            status: Status::SUCCESS,
+            text,
+        })
+    }
+
+    /// A proof in the second format.
+    pub fn proof(alloc: Global, sound: &SoundProgram, proof: &Proof) -> Result<Output, NoMemory>
+        requires { (goals : List Lined) × AreGoalsAt sound.now.types proof.now goals }
+        ensures { (goals : List Lined) → AreGoalsAt sound.now.types proof.now goals → IfOk result (λ o. o ≡ record { status = 0; text = second_text_of (goals_of goals) }) }
+    {
+        let mut text = Vec::new(alloc);
+        second_text(alloc, sound, proof, &mut text)?;
+        Ok(Output {
+            status: Status::SUCCESS,
+            text,
+        })
+    }
+
     /// The lines of faults that carry no documents.
     pub fn faults(alloc: Global, faults: &[Fault]) -> Result<Output, NoMemory>
         requires { AllByRecursion (λ f. CarriesFrom [] f.kind) faults.now }
@@ -152,17 +256,6 @@ impl Output {
             status: Status::FAULTS,
             text,
         })
-    }
-
-    /// The report of `fault 2: syntax` at this place.
-    pub fn syntax_fault(alloc: Global, place: Place) -> Result<Output, NoMemory>
-        ensures { IfOk result (λ o. o ≡ outputs.fault_lines (fault_at place Syntax ∷ [])) }
-    {
-        let fault = Fault {
-            place: Some(place),
-            kind: FaultKind::Syntax,
-        };
-        Output::faults(alloc, &[fault])
     }
 
     /// The report that no type has this name.
@@ -190,6 +283,19 @@ impl Output {
         } else {
             Status::UNWRITTEN
         }
+    }
+}
+
+/// The number and the word of a reason.
+fn reason_text(reason: Reason) -> &'static str
+    ensures { result.now ≡ reason_text (reason_of reason) }
+{
+    match reason {
+        Reason::Form => "reason 1: form",
+        Reason::Empty => "reason 2: empty",
+        Reason::Case => "reason 3: case",
+        Reason::Split => "reason 4: split",
+        Reason::Leaf => "reason 5: leaf",
     }
 }
 

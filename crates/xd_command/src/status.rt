@@ -23,6 +23,10 @@ impl Status {
     pub const NO: Status = Status { code: 6 };
     /// The document is malformed.
     pub const MALFORMED: Status = Status { code: 7 };
+    /// The document is outside the input type.
+    pub const OUTSIDE: Status = Status { code: 8 };
+    /// The program needs more calls.
+    pub const SPENT: Status = Status { code: 9 };
     /// A text is longer than its limit.
     pub const TOO_LONG: Status = Status { code: 10 };
 }

@@ -1,5 +1,6 @@
 //! The command `check`.
 
+ghost use Rattle.std.specs.Prelude.{IfOk};
 ghost use Rattle.xd_base.specs.Outside.{HasRisen};
 ghost use Rattle.xd_syntax.specs.Kept.{program_tree};
 ghost use Rattle.xd_command.specs.Answer.{Answers};
@@ -9,24 +10,34 @@ ghost use Rattle.xd_command.specs.declared.command.Command.TheVariants as comman
 
 use crate::output::{Output, Stop};
 use crate::program::load_program;
+use crate::report::report_lines;
 use std::alloc::Global;
 use xd_base::Shelf;
-use xd_syntax::Program;
+use xd_check::CheckOutcome;
+use xd_doc::{NoMemory, Store};
+use xd_syntax::SoundProgram;
 
-/// Whether the sound program is accepted.
-fn accept(alloc: Global, program: &Program) -> Result<Output, Stop>
-    ensures { DoesAll result (AnswersCheck (program_tree program.now)) }
+/// The lines of the sound program, and whether it is accepted.
+fn report(alloc: Global, sound: SoundProgram) -> Result<Output, NoMemory>
+    ensures { IfOk result (AnswersCheck (program_tree sound)) }
 {
-    match program.functions() {
-        [] => Ok(Output::accepted(alloc)?),
-        [function, ..] => Ok(Output::syntax_fault(alloc, function.place())?),
+    let mut store = Store::new(alloc);
+    match xd_check::check(alloc, sound, &mut store)? {
+        CheckOutcome::Accepted { warnings, .. } => {
+            let text = report_lines(alloc, &store, &[], &warnings)?;
+            Ok(Output::accepted(text)?)
+        }
+        CheckOutcome::Refused { faults, warnings } => {
+            let text = report_lines(alloc, &store, &faults, &warnings)?;
+            Ok(Output::refused(text))
+        }
     }
 }
 
-/// All faults of the program of this file, or that it is accepted.
+/// All faults and warnings of the program of this file, or that it is accepted.
 pub fn check<H: Shelf>(alloc: Global, file: &str, shelf: &mut H) -> Result<Output, Stop>
     ensures { DoesAll result (Answers (commands.Check file.now) (H.holds shelf.old) (HasRisen (H.faults shelf.old) (H.faults shelf.new))) }
 {
     let sound = load_program(alloc, file, shelf)?;
-    accept(alloc, sound.program())
+    Ok(report(alloc, sound)?)
 }

@@ -1,53 +1,20 @@
 //! The command `fits`.
 
-ghost use Rattle.std.specs.Prelude.{◌≡◌, true, IsTrue, ◌↔◌, IfOk};
-ghost use Rattle.xd_auto.specs.Automaton.{accepts, IsState};
 ghost use Rattle.xd_base.specs.Outside.{HasRisen};
-ghost use Rattle.xd_doc.specs.Stored.{BelongsTo, document_at};
 ghost use Rattle.xd_syntax.specs.Kept.{program_tree};
-ghost use Rattle.xd_syntax.specs.Program.{names_of};
-ghost use Rattle.xd_syntax.specs.Types as types;
 ghost use Rattle.xd_command.specs.Answer.{Answers};
-ghost use Rattle.xd_command.specs.Fits.{AnswersFits, IsAcceptor};
+ghost use Rattle.xd_command.specs.Fits.{AnswersFits};
 ghost use Rattle.xd_command.specs.Step.{DoesAll};
 ghost use Rattle.xd_command.specs.declared.command.Command.TheVariants as commands;
 
 use crate::document::load_document;
+use crate::membership::{acceptor, accepts};
 use crate::output::{Output, Stop};
 use crate::program::load_program;
 use std::alloc::Global;
-use xd_auto::{Auto, Scratch, State, member};
 use xd_base::Shelf;
-use xd_doc::{NoMemory, Seq, Store};
-use xd_heads::{Cells, compile_type};
-use xd_syntax::{SoundProgram, TypeId};
-
-/// A state that accepts exactly the documents that fit the type, in an automaton of its own.
-fn acceptor(alloc: Global, sound: &mut SoundProgram, id: TypeId) -> Result<(Auto, State), NoMemory>
-    requires { types.BelongsTo sound.old.types id }
-    ensures { IfOk result (λ made. IsAcceptor (names_of (program_tree sound.old)) (types.tree sound.old.types id) made.0 made.1) }
-{
-    let mut cells = Cells::new(alloc);
-    let mut auto = Auto::new(alloc);
-    let state = compile_type(alloc, sound, &mut cells, &mut auto, id)?;
-    Ok((auto, state))
-}
-
-/// Whether the state accepts the document.
-fn accepts(
-    alloc: Global,
-    auto: &Auto,
-    state: State,
-    store: &Store,
-    seq: Seq,
-) -> Result<bool, NoMemory>
-    requires state { IsState auto.now state }
-    requires seq { BelongsTo store.now seq }
-    ensures { IfOk result (λ answer. answer ≡ accepts auto.now (document_at store.now seq) state) }
-{
-    let mut scratch = Scratch::reserve(alloc, auto.len(), store.len())?;
-    Ok(member(auto, state, store, seq, &mut scratch))
-}
+use xd_doc::Store;
+use xd_syntax::SoundProgram;
 
 /// Whether the document of this file fits the type of this name in the sound program.
 fn fits_program<H: Shelf>(

@@ -1,5 +1,4 @@
-use Rattle.std.proofs.Common.{◌≡◌, true, refl, sym, subst, ap, ◌∙◌}
-use Rattle.xd_auto.specs.Automaton.{accepts}
+use Rattle.std.proofs.Common.{refl, sym, subst, ap, ◌∙◌}
 use Rattle.xd_syntax.specs.Fits as types
 use Rattle.xd_syntax.specs.Types.{tree}
 use Rattle.xd_syntax.specs.Program.{names_of}

@@ -1,11 +1,10 @@
-use Rattle.std.proofs.Common.{◌≡◌, Bool, true, cond, List, [], ◌∷◌, ◌++◌, Option, Some, refl, ap, sym, subst, ◌∙◌}
+use Rattle.std.proofs.Common.{◌≡◌, true, cond, List, [], ◌∷◌, ◌++◌, Option, ap, sym, subst, ◌∙◌}
 use Rattle.std.specs.Prelude.{is_some, ℕ, None}
 use Rattle.std.specs.Option.{IfSome}
 use Rattle.xd_syntax.specs.Kept.{program_tree}
 use Rattle.xd_syntax.specs.Program.{ProgramTree}
 use Rattle.xd_syntax.specs.Sound.{is_defined, type_named, IsTypeAt}
 use Rattle.xd_syntax.specs.declared.types.TypeId.{TypeId}
-use Rattle.xd_syntax.specs.declared.fault.Fault.{Fault}
 use Rattle.xd_syntax.specs.declared.fault.FaultKind.TheVariants.{NoSuchName}
 use Rattle.xd_syntax.proofs.AdoptLaws.{type_kept}
 use Rattle.xd_command.specs.Subtype.{undefined}

@@ -1,0 +1,19 @@
+use Rattle.std.proofs.Common.{[], subst, sym}
+use Rattle.xd_syntax.specs.CheckFaults.{faults_among}
+use Rattle.xd_syntax.specs.Kept.{program_tree}
+use Rattle.xd_check.specs.Outcome.{IsOutcome}
+use Rattle.xd_command.specs.Merging.{IsMerged}
+use Rattle.xd_command.proofs.Reporting.{Carry}
+use Rattle.xd_command.proofs.Verdicts.{all_carry, ends_at_lines}
+use Rattle.xd_command.proofs.command.run.accepted.Goals as goal
+
+pub report_lines-requires : goal.report_lines-requires
+report_lines-requires c =
+    let h = subst (IsOutcome c.args.sound c.check.new.store) c.in-Refused.is c.in_ok-checked.ensures.outcome in
+    subst (Carry c.check.new.store) (sym c.deref.ensures.value) (all_carry c.check.new.store (faults_among h.0) c.in-Refused.faults.items h.3)
+
+pub returns : goal.returns
+returns c =
+    let h = subst (IsOutcome c.args.sound c.check.new.store) c.in-Refused.is c.in_ok-checked.ensures.outcome in
+    let m = subst (λ fs. IsMerged c.check.new.store fs [] c.in_ok-text-in-Refused.text.items) c.deref.ensures.value c.in_ok-text-in-Refused.ensures in
+    ends_at_lines (program_tree c.args.sound) c.check.new.store h.0 c.in-Refused.faults.items c.in_ok-text-in-Refused.text.items _ h.1 h.2 h.3 m c.refused.ensures

@@ -1,0 +1,20 @@
+use Rattle.std.proofs.Common.{inr}
+use Rattle.xd_base.specs.Outside.{HasRisen}
+use Rattle.xd_syntax.specs.Kept.{program_tree}
+use Rattle.xd_command.specs.Answer.{Answers}
+use Rattle.xd_command.specs.Proofs.{AnswersUpgrade}
+use Rattle.xd_command.specs.Output.{Output}
+use Rattle.xd_command.specs.declared.command.Command.TheVariants.{Upgrade}
+use Rattle.xd_command.proofs.Judging.{upgrade_later}
+use Rattle.xd_command.proofs.Steps.{does-map}
+use Rattle.xd_command.proofs.command.upgrade.upgrade.Goals as goal
+
+pub returns : goal.returns
+returns g c =
+    let P = program_tree c.in_ok-sound.sound in
+    let from = g.H.Shelf.faults c.args.shelf.now in
+    let till = g.H.Shelf.faults c.upgrade_in.new.shelf in
+    let later = AnswersUpgrade (g.H.Shelf.holds c.load_program.new.shelf) (HasRisen (g.H.Shelf.faults c.load_program.new.shelf) till) c.args.proof.now P in
+    let answers = Answers (Upgrade c.args.file.now c.args.proof.now) (g.H.Shelf.holds c.args.shelf.now) (HasRisen from till) in
+    let step : (o : Output) → later o → answers o = λ o a. inr (P, c.in_ok-sound.ensures.step, upgrade_later from (g.H.Shelf.faults c.load_program.new.shelf) till c.args.proof.now P o c.load_program.ensures.never_falls c.load_program.ensures.same a) in
+    does-map later answers later answers c.upgrade_in.result step step c.upgrade_in.ensures

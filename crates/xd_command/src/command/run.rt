@@ -1,0 +1,142 @@
+//! The command `run`.
+
+ghost use Rattle.std.specs.Prelude.{◌≡◌, ◌≤◌, Some, IfOk};
+ghost use Rattle.xd_base.specs.Outside.{HasRisen};
+ghost use Rattle.xd_doc.specs.Stored.{BelongsTo, document_at};
+ghost use Rattle.xd_syntax.specs.Kept.{AddsTypes, program_tree};
+ghost use Rattle.xd_syntax.specs.CheckFaults.{IsAccepted};
+ghost use Rattle.xd_syntax.specs.Tree.{Tree};
+ghost use Rattle.xd_command.specs.Answer.{Answers};
+ghost use Rattle.xd_command.specs.Run.{AnswersInput, AnswersMain, AnswersRun, EndsAtLines, input_type};
+ghost use Rattle.xd_command.specs.Running.{IsInputTest};
+ghost use Rattle.xd_command.specs.Step.{DoesAll, DoesStep};
+ghost use Rattle.xd_command.specs.declared.command.Command.TheVariants as commands;
+
+use crate::document::load_document;
+use crate::membership::{acceptor, accepts};
+use crate::output::{Output, Stop};
+use crate::program::load_program;
+use crate::report::report_lines;
+use std::alloc::Global;
+use xd_auto::{Auto, State};
+use xd_base::Shelf;
+use xd_check::{CheckOutcome, check};
+use xd_doc::{NoMemory, Seq, Store};
+use xd_eval::{Outcome, evaluate};
+use xd_syntax::{Checked, SoundProgram, parameter_of_main};
+
+/// A state that accepts exactly what fits the input type, where `main` has one parameter.
+fn input_test(alloc: Global, sound: &mut SoundProgram) -> Result<Option<(Auto, State)>, NoMemory>
+    ensures test { IfOk result (IsInputTest (program_tree sound.old)) }
+    ensures adds { AddsTypes sound.old sound.new }
+    ensures same { program_tree sound.new ≡ program_tree sound.old }
+{
+    match parameter_of_main(sound.program().functions()) {
+        None => Ok(None),
+        Some(id) => {
+            let (auto, state) = acceptor(alloc, sound, id)?;
+            Ok(Some((auto, state)))
+        }
+    }
+}
+
+/// A program that is accepted, and the test of its input; else the faults of the program.
+fn accept(alloc: Global, sound: SoundProgram) -> Result<(Option<(Auto, State)>, Checked), Stop>
+    ensures { DoesStep result (EndsAtLines (program_tree sound)) (λ made. (program_tree made.1 ≡ program_tree sound) × IsAccepted (program_tree sound) × IsInputTest (program_tree sound) made.0) }
+{
+    let mut sound = sound;
+    let test = input_test(alloc, &mut sound)?;
+    let checked = accepted(alloc, sound)?;
+    let _sound = checked.sound();
+    Ok((test, checked))
+}
+
+/// The program, where it is accepted; else its faults.
+fn accepted(alloc: Global, sound: SoundProgram) -> Result<Checked, Stop>
+    ensures { DoesStep result (EndsAtLines (program_tree sound)) (λ checked. program_tree checked ≡ program_tree sound) }
+{
+    let mut store = Store::new(alloc);
+    match check(alloc, sound, &mut store)? {
+        CheckOutcome::Accepted { checked, .. } => Ok(checked),
+        CheckOutcome::Refused { faults, .. } => {
+            let text = report_lines(alloc, &store, &faults, &[])?;
+            Err(Stop::Refused(Output::refused(text)))
+        }
+    }
+}
+
+/// Runs the accepted program on a document, where the state accepts exactly what fits its input type.
+fn run_on(
+    alloc: Global,
+    checked: &Checked,
+    auto: &Auto,
+    state: State,
+    store: &mut Store,
+    input: Seq,
+    fuel: u64,
+) -> Result<Output, NoMemory>
+    requires test { IsInputTest (program_tree checked.now) (Some (auto.now, state)) }
+    requires input { BelongsTo store.old input }
+    requires fuel { 1 ≤ fuel }
+    ensures { IfOk result (λ o. (T : Tree) → input_type (program_tree checked.now) ≡ Some T → AnswersInput (program_tree checked.now) T fuel (document_at store.old input) o) }
+{
+    if !accepts(alloc, auto, state, store, input)? {
+        return Ok(Output::outside_input(alloc)?);
+    }
+    match evaluate(alloc, checked, store, input, fuel)? {
+        Outcome::Value(value, _) => Ok(Output::canonical(alloc, store, value)?),
+        Outcome::Spent => Ok(Output::fuel_spent(alloc)?),
+    }
+}
+
+/// The same on the document of this file.
+fn run_main<H: Shelf>(
+    alloc: Global,
+    checked: &Checked,
+    auto: &Auto,
+    state: State,
+    document: &str,
+    fuel: u64,
+    shelf: &mut H,
+) -> Result<Output, Stop>
+    requires test { IsInputTest (program_tree checked.now) (Some (auto.now, state)) }
+    requires fuel { 1 ≤ fuel }
+    ensures { DoesAll result (AnswersMain (H.holds shelf.old) (HasRisen (H.faults shelf.old) (H.faults shelf.new)) document.now fuel (program_tree checked.now) (input_type (program_tree checked.now))) }
+{
+    let mut store = Store::new(alloc);
+    let input = load_document(alloc, document, shelf, &mut store)?;
+    Ok(run_on(alloc, checked, auto, state, &mut store, input, fuel)?)
+}
+
+/// Runs `main` of the program of this file on the document of that file, with so many calls.
+pub fn run<H: Shelf>(
+    alloc: Global,
+    file: &str,
+    document: &str,
+    fuel: u64,
+    shelf: &mut H,
+) -> Result<Output, Stop>
+    requires { 1 ≤ fuel }
+    ensures { DoesAll result (Answers (commands.Run file.now document.now fuel) (H.holds shelf.old) (HasRisen (H.faults shelf.old) (H.faults shelf.new))) }
+{
+    let sound = load_program(alloc, file, shelf)?;
+    run_program(alloc, sound, document, fuel, shelf)
+}
+
+/// Runs the sound program on the document of this file.
+fn run_program<H: Shelf>(
+    alloc: Global,
+    sound: SoundProgram,
+    document: &str,
+    fuel: u64,
+    shelf: &mut H,
+) -> Result<Output, Stop>
+    requires { 1 ≤ fuel }
+    ensures { DoesAll result (AnswersRun (H.holds shelf.old) (HasRisen (H.faults shelf.old) (H.faults shelf.new)) document.now fuel (program_tree sound)) }
+{
+    let (test, checked) = accept(alloc, sound)?;
+    match test {
+        None => Ok(Output::no_main(alloc)?),
+        Some((auto, state)) => run_main(alloc, &checked, &auto, state, document, fuel, shelf),
+    }
+}

@@ -1,0 +1,48 @@
+//! Whether documents fit a type, by states that accept what fits.
+
+ghost use Rattle.std.specs.Prelude.{◌≡◌, true, ◌↔◌, IfOk};
+ghost use Rattle.xd_auto.specs.Automaton.{accepts, IsState};
+ghost use Rattle.xd_doc.specs.Stored.{BelongsTo, document_at};
+ghost use Rattle.xd_syntax.specs.Kept.{AddsTypes, program_tree};
+ghost use Rattle.xd_syntax.specs.Program.{names_of};
+ghost use Rattle.xd_syntax.specs.Types as types;
+ghost use Rattle.xd_command.specs.Fits.{IsAcceptor};
+
+use std::alloc::Global;
+use xd_auto::{Auto, Scratch, State, member};
+use xd_doc::{NoMemory, Seq, Store};
+use xd_heads::{Cells, compile_type};
+use xd_syntax::{SoundProgram, TypeId};
+
+/// A state that accepts exactly the documents that fit the type, in an automaton of its own.
+pub fn acceptor(
+    alloc: Global,
+    sound: &mut SoundProgram,
+    id: TypeId,
+) -> Result<(Auto, State), NoMemory>
+    requires { types.BelongsTo sound.old.types id }
+    ensures acceptor { IfOk result (λ made. IsAcceptor (names_of (program_tree sound.old)) (types.tree sound.old.types id) made.0 made.1) }
+    ensures adds { AddsTypes sound.old sound.new }
+    ensures same { program_tree sound.new ≡ program_tree sound.old }
+{
+    let mut cells = Cells::new(alloc);
+    let mut auto = Auto::new(alloc);
+    let state = compile_type(alloc, sound, &mut cells, &mut auto, id)?;
+    Ok((auto, state))
+}
+
+/// Whether the state accepts the document.
+pub fn accepts(
+    alloc: Global,
+    auto: &Auto,
+    state: State,
+    store: &Store,
+    seq: Seq,
+) -> Result<bool, NoMemory>
+    requires state { IsState auto.now state }
+    requires seq { BelongsTo store.now seq }
+    ensures { IfOk result (λ answer. answer ≡ accepts auto.now (document_at store.now seq) state) }
+{
+    let mut scratch = Scratch::reserve(alloc, auto.len(), store.len())?;
+    Ok(member(auto, state, store, seq, &mut scratch))
+}
