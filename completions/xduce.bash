@@ -22,7 +22,7 @@ _xduce() {
     local word=${COMP_WORDS[COMP_CWORD]} command=${COMP_WORDS[1]-} file=${COMP_WORDS[2]-} name
     COMPREPLY=()
     if ((COMP_CWORD == 1)); then
-        name='check fits subtype'
+        name='check fits run subtype upgrade verify'
         # The script of the sources has a word of its own.
         [[ ${COMP_WORDS[0]} == */* ]] && name="$name help"
         while IFS= read -r name; do
@@ -31,7 +31,7 @@ _xduce() {
         return 0
     fi
     case $command:$COMP_CWORD in
-    check:2 | fits:2 | subtype:2 | fits:4)
+    check:2 | fits:2 | run:2 | subtype:2 | upgrade:2 | verify:2 | run:3 | upgrade:3 | verify:3 | fits:4)
         _xduce_files "$word"
         ;;
     fits:3 | subtype:3 | subtype:4)
