@@ -7,4 +7,7 @@ pub mod Ordering
 pub mod Writing
 pub mod Knowing
 pub mod Making
+pub mod NamedTypes
+pub mod Spreading
+pub mod GoalTypes
 pub mod Proving

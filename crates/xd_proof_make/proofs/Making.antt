@@ -1,23 +1,22 @@
 -- A row as a goal between types.
-use Rattle.std.proofs.Common.{◌≡◌, ℕ, zero, suc, ◌+◌, ◌<◌, ◌≤◌, Bool, true, false, ◌&&◌, ◌||◌, cond, List, [], ◌∷◌, ◌++◌, map, length, get_or, take, Option, Some, None, refl, sym, ap, subst, ◌∙◌, arith}
-use Rattle.std.specs.List.{AllByRecursion, AllZip, filter, flat_map, list_any}
+use Rattle.std.proofs.Common.{◌≡◌, ℕ, zero, suc, ◌+◌, ◌<◌, ◌≤◌, Bool, true, false, ◌||◌, List, [], ◌∷◌, ◌++◌, map, length, get_or, take, Option, Some, None, refl, sym, ap, subst, ◌∙◌, arith}
+use Rattle.std.specs.List.{AllByRecursion, AllZip, flat_map, list_any}
 use Rattle.std.proofs.lemmas.List.{take_more}
-use Rattle.std.specs.Option.{is_some}
 use Rattle.std.proofs.lemmas.Option.{slice_get_within}
-use Rattle.xd_syntax.specs.Tree.{Tree, Definitions, seq_of}
+use Rattle.xd_syntax.specs.Tree.{Tree, Definitions}
 use Rattle.xd_syntax.specs.CanBeEmpty.{can_be_empty}
 use Rattle.xd_syntax.specs.Program.{names_of}
 use Rattle.xd_syntax.specs.Sound.{IsTypeAt}
 use Rattle.xd_syntax.specs.Kept.{ProgramTable, program_tree}
 use Rattle.xd_syntax.specs.declared.types.TypeId.{TypeId}
 use Rattle.xd_auto.specs.declared.auto.State.{State}
-use Rattle.xd_auto.specs.Automaton.{Automaton, moves_at, state_number}
-use Rattle.xd_laws.specs.Heads.{Head, heads}
+use Rattle.xd_auto.specs.Automaton.{Automaton, moves_at}
+use Rattle.xd_laws.specs.Heads.{heads}
 use Rattle.xd_laws.specs.Consistent.{Goal, Named, EmptyRule, numbered, atoms_from}
 use Rattle.xd_rules.specs.Heads as table
 use Rattle.xd_rules.specs.Rules as rules
 use Rattle.xd_rules.specs.Members.{IsOneOf}
-use Rattle.xd_rules.proofs.Members.{one_of-append_left, one_of-append_right, one_of-all, one_of-head_number}
+use Rattle.xd_rules.proofs.Members.{one_of-append_left, one_of-append_right}
 use Rattle.xd_goals.specs.Moves.{heads_of, is_last_in, label_head, text_head}
 use Rattle.xd_goals.specs.Rows.{GoalRow, TableView, row_at, claim_of, claim_at, choice_key}
 use Rattle.xd_goals.specs.Standing.{IsBegun}
@@ -26,22 +25,15 @@ use Rattle.xd_goals.specs.declared.table.Choice.{Choice}
 use Rattle.xd_goals.specs.declared.table.ChoiceNode.{ChoiceNode}
 use Rattle.xd_goals.proofs.Growing.{claim_within}
 use Rattle.xd_heads.specs.CellsView.{CellsView}
-use Rattle.xd_heads.specs.Mirrors.{AreHeadMoves, no_head, element_head, IsTypeState, Mirrors, continuation_of}
-use Rattle.xd_heads.specs.Mirrors as mirrors
-use Rattle.xd_heads.specs.Found.{continuation}
-use Rattle.xd_heads.specs.States.{number_at}
-use Rattle.xd_heads.proofs.Mirrored.{type_is, type_of_number}
-use Rattle.xd_auto.specs.declared.auto.LabelMove.{LabelMove}
-use Rattle.xd_auto.specs.declared.auto.TextMove.{TextMove}
+use Rattle.xd_heads.specs.Mirrors.{Mirrors, continuation_of}
 use Rattle.xd_rules.specs.declared.atom.Atom.{Atom as TableAtom}
-use Rattle.xd_goals.proofs.Trees.{StandsAt-one}
 use Rattle.xd_proof.specs.declared.proof.ProofGoal.{ProofGoal}
 use Rattle.xd_proof_make.specs.Written.{AreTypes, IsWritten, Renumbers, written_names}
 use Rattle.xd_proof_make.specs.Places.{sorts_of, all_places, place_in}
-use Rattle.xd_proof_make.specs.Met.{LeadsTo, number_in}
+use Rattle.xd_proof_make.specs.Met.{number_in}
 use Rattle.xd_proof_make.specs.Ordered.{AreOrdered, AreWrittenCases, IsWritable, SplitsWithin}
 use Rattle.xd_proof_make.specs.Known.{IsKnown, AreKnown, HasKnown, IsIdOf, known_at, sorts_in, sorts_at}
-use Rattle.xd_proof_make.specs.Made.{CanWrite, IsEmptyRight, IsGoalMade, IsOfTypes}
+use Rattle.xd_proof_make.specs.Made.{CanWrite, IsEmptyRight, IsGoalMade}
 use Rattle.xd_proof_make.specs.declared.states.Known.{Known}
 use Rattle.xd_proof_make.proofs.Placing.{places_renumber, places_heads}
 use Rattle.xd_proof_make.proofs.Naming.{names_written}
@@ -200,134 +192,6 @@ all_writable a t n c (k ∷ ks) e h =
     let x = h.0 in
     let w = case_writable t.rows x.head k.atom (rules.right_heads (heads_of a) c) x.tree x.keeps in
     (record { tree = x.tree; stands = x.stands; leaves = subst (λ (i : ℕ). rules.AllLeaves (λ g. g < i) x.tree) (sym e) w.0; splits = w.1 }, all_writable a t n c ks e h.1)
-
--- ---- states of types
-
-typed_state : CellsView → State → Bool
-typed_state c s = is_some (number_at c.owners (state_number s))
-
-all_typed : CellsView → List State → Bool
-all_typed c [] = true
-all_typed c (s ∷ ss) = typed_state c s && all_typed c ss
-
-pub typed_row : CellsView → GoalRow → Bool
-typed_row c row = typed_state c row.left && all_typed c row.rights
-
-both : (x y : Bool) → (x && y) ≡ true → (x ≡ true) × (y ≡ true)
-both true y e = (refl, e)
-both false y e = absurd (cc)
-
-join : (x y : Bool) → x ≡ true → y ≡ true → (x && y) ≡ true
-join x y e f = rw (e, f) refl
-
-typed-is : (c : CellsView) (s : State) → typed_state c s ≡ true → IsTypeState c s
-unfolding typed_state
-typed-is c s e = go (number_at c.owners (state_number s)) refl e
-  where
-    go : (o : Option ℕ) → number_at c.owners (state_number s) ≡ o → is_some o ≡ true → IsTypeState c s
-    go None q f = absurd (cc)
-    go (Some n) q f = (n, q)
-
-typed-from : (c : CellsView) (s : State) → IsTypeState c s → typed_state c s ≡ true
-unfolding typed_state
-typed-from c s h = ap is_some h.1
-
-all_typed-is : (c : CellsView) (ss : List State) → all_typed c ss ≡ true → AllByRecursion (IsTypeState c) ss
-unfolding all_typed
-all_typed-is c [] e = tt
-all_typed-is c (s ∷ ss) e = let b = both (typed_state c s) (all_typed c ss) e in (typed-is c s b.0, all_typed-is c ss b.1)
-
-all_typed-from : (c : CellsView) (ss : List State) → AllByRecursion (IsTypeState c) ss → all_typed c ss ≡ true
-unfolding all_typed
-all_typed-from c [] h = refl
-all_typed-from c (s ∷ ss) h = join (typed_state c s) (all_typed c ss) (typed-from c s h.0) (all_typed-from c ss h.1)
-
-pub row_typed-is : (c : CellsView) (row : GoalRow) → typed_row c row ≡ true → IsOfTypes c row
-unfolding typed_row
-row_typed-is c row e = let b = both (typed_state c row.left) (all_typed c row.rights) e in record { left = typed-is c row.left b.0; rights = all_typed-is c row.rights b.1 }
-
-pub row_typed-from : (c : CellsView) (row : GoalRow) → IsOfTypes c row → typed_row c row ≡ true
-unfolding typed_row
-row_typed-from c row h = join (typed_state c row.left) (all_typed c row.rights) (typed-from c row.left h.left) (all_typed-from c row.rights h.rights)
-
--- what the heads of a state of a type lead to is a state of a type
-module _ (p : ProgramTable) (c : CellsView) (a : Automaton) (m : Mirrors p c a) where
-  abbrev T : State → Type 0
-  T s = IsTypeState c s
-
-  abbrev HasTyped : table.Head State → Type 0
-  HasTyped h = T h.content × T h.rest
-
-  typed_from : (s : State) (U : Tree) → continuation_of p.types c s ≡ Some U → T s
-  typed_from s U e = let i = type_is p.types c s U e in (i.0, i.1)
-
-  head_typed : {hs : List Head} {ls : List LabelMove} {ts : List TextMove} → AreHeadMoves (continuation_of p.types c) hs ls ts → AllByRecursion HasTyped (map label_head ls) × AllByRecursion HasTyped (map text_head ts)
-  head_typed no_head = (tt, tt)
-  head_typed (element_head {h} {hs} {l} {ls} {ts} k x r w) = let i = head_typed w in (((typed_from l.content h.content x, typed_from l.rest h.rest r), i.0), i.1)
-  head_typed (mirrors.text_head {h} {hs} {ls} {t} {ts} k r w) = let i = head_typed w in (i.0, ((typed_from t.rest h.rest r, typed_from t.rest h.rest r), i.1))
-
-  all_append : {X : Type 0} (P : X → Type 0) (xs ys : List X) → AllByRecursion P xs → AllByRecursion P ys → AllByRecursion P (xs ++ ys)
-  all_append P [] ys h k = k
-  all_append P (x ∷ xs) ys h k = (h.0, all_append P xs ys h.1 k)
-
-  state_heads : (s : State) → T s → AllByRecursion HasTyped (heads_of a s)
-  state_heads s h =
-      let e = type_of_number p.types c s h.0 h.1 in
-      let i = head_typed (m.moves s (seq_of (continuation p.types c.cells h.0)) e) in
-      all_append HasTyped (map label_head (moves_at a s).labels) (map text_head (moves_at a s).texts) i.0 i.1
-
-  right_heads_typed : (ss : List State) → AllByRecursion T ss → AllByRecursion HasTyped (flat_map (heads_of a) ss)
-  right_heads_typed [] h = tt
-  right_heads_typed (s ∷ ss) h = all_append HasTyped (heads_of a s) (flat_map (heads_of a) ss) (state_heads s h.0) (right_heads_typed ss h.1)
-
-  typed_leaf : (rows : List GoalRow) (g : ℕ) (left : State) (allowed : List State) → rules.LeafKeeps (claim_at rows) g left allowed → T left → AllByRecursion T allowed → typed_row c (row_at rows g) ≡ true
-  typed_leaf rows g left allowed k h w =
-      let e = (claim_within rows g k.claim k.found).1 in
-      row_typed-from c (row_at rows g)
-      (record {
-        left = subst T (sym (ap (λ (x : rules.Claim State). x.left) e ∙ k.same_left)) h;
-        rights = subst (AllByRecursion T) (sym (ap (λ (x : rules.Claim State). x.rights) e)) (among k.claim.rights k.rights_allowed);
-      })
-    where
-      among : (ss : List State) → AllByRecursion (λ s. IsOneOf s allowed) ss → AllByRecursion T ss
-      among [] x = tt
-      among (s ∷ ss) x = (one_of-all T s allowed w x.0, among ss x.1)
-
-  module _ (rows : List GoalRow) (h : table.Head State) (typed : HasTyped h) (atom : TableAtom) (rs : List (table.Head State)) (all : AllByRecursion HasTyped rs) where
-    typed_tree : (tree : rules.ChoiceTree) (cs ss : List State) (seen : List ℕ) → rules.TreeKeeps (claim_at rows) h atom rs tree cs ss seen → AllByRecursion T cs → AllByRecursion T ss → rules.AllLeaves (λ g. typed_row c (row_at rows g) ≡ true) tree
-    typed_tree (rules.ContentLeaf g) cs ss seen k x y = typed_leaf rows g h.content cs k typed.0 x
-    typed_tree (rules.RestLeaf g) cs ss seen k x y = typed_leaf rows g h.rest ss k typed.1 y
-    typed_tree (rules.SplitOn j t u) cs ss seen k x y =
-        let w = one_of-all HasTyped k.0 rs all (one_of-head_number k.0 rs j k.1) in
-        (typed_tree t ((k.0).content ∷ cs) ss (j ∷ seen) k.4 (w.0, x) y, typed_tree u cs ((k.0).rest ∷ ss) (j ∷ seen) k.5 x (w.1, y))
-
-    rests_typed : (hs : List (table.Head State)) → AllByRecursion HasTyped hs → AllByRecursion T (rules.matching_rests atom hs)
-    rests_typed [] x = tt
-    rests_typed (g ∷ hs) x = go (table.matches g.kind atom) (rests_typed hs x.1)
-      where
-        go : (b : Bool) → AllByRecursion T (rules.matching_rests atom hs) → AllByRecursion T (map (λ (f : table.Head State). f.rest) (cond b (g ∷ filter (λ f. table.matches f.kind atom) hs) (filter (λ f. table.matches f.kind atom) hs)))
-        go true i = ((x.0).1, i)
-        go false i = i
-
-    typed_case : (tree : rules.ChoiceTree) → rules.CaseKeeps (claim_at rows) h atom rs tree → rules.AllLeaves (λ g. typed_row c (row_at rows g) ≡ true) tree
-    typed_case tree k = go (table.is_text_atom atom) tree k
-      where
-        go : (b : Bool) (t : rules.ChoiceTree) → rules.KeepsBySort b (claim_at rows) h atom rs t → rules.AllLeaves (λ g. typed_row c (row_at rows g) ≡ true) t
-        go false t x = typed_tree t [] [] [] x tt tt
-        go true (rules.ContentLeaf g) x = absurd x
-        go true (rules.SplitOn j t u) x = absurd x
-        go true (rules.RestLeaf g) x = typed_leaf rows g h.rest (rules.matching_rests atom rs) x typed.1 (rests_typed rs all)
-
-  -- a row of states of types leads to such rows
-  pub typed_leads : (t : TableView) (g : ℕ) (ks : List Choice) → AllByRecursion (goals.KeepsRules a t (claim_of (row_at t.rows g))) ks → typed_row c (row_at t.rows g) ≡ true
-      → AllByRecursion (LeadsTo t.nodes (λ i. typed_row c (row_at t.rows i) ≡ true)) ks
-  typed_leads t g [] h e = tt
-  typed_leads t g (k ∷ ks) h e =
-      let x = h.0 in
-      let o = row_typed-is c (row_at t.rows g) e in
-      let hd = one_of-all HasTyped x.head (heads_of a (row_at t.rows g).left) (state_heads (row_at t.rows g).left o.left) (one_of-head_number x.head (heads_of a (row_at t.rows g).left) k.head x.found) in
-      let all = typed_case t.rows x.head hd k.atom (rules.right_heads (heads_of a) (claim_of (row_at t.rows g))) (right_heads_typed (row_at t.rows g).rights o.rights) x.tree x.keeps in
-      (λ tree s. subst (λ (z : rules.ChoiceTree). rules.AllLeaves (λ i. typed_row c (row_at t.rows i) ≡ true) z) (StandsAt-one t.nodes x.tree tree k.root x.stands s) all, typed_leads t g ks h.1 e)
 
 -- ---- while goals are written
 

@@ -6,6 +6,7 @@ use Rattle.std.proofs.lemmas.Option.{get_or_from_slice_get, slice_get_within}
 use Rattle.xd_doc.specs.Document.{Document}
 use Rattle.xd_syntax.specs.Tree.{Tree, Definitions}
 use Rattle.xd_syntax.specs.Program.{names_of}
+use Rattle.xd_syntax.specs.RecursionFaults.{IsSound}
 use Rattle.xd_syntax.specs.Kept.{ProgramTable, program_tree}
 use Rattle.xd_auto.specs.declared.auto.State.{State}
 use Rattle.xd_auto.specs.Automaton.{Automaton}
@@ -37,7 +38,9 @@ use Rattle.xd_proof_make.specs.Known.{AreKnown}
 use Rattle.xd_proof_make.specs.Made.{CanWrite, HasTypes, IsBetween, IsGoalMade, IsOfTypes, IsProofOf, IsTypedRow}
 use Rattle.xd_proof_make.specs.declared.states.Known.{Known}
 use Rattle.xd_proof_make.proofs.Keeping.{goal_keeps}
-use Rattle.xd_proof_make.proofs.Making.{all_writable, typed_row, row_typed-is, row_typed-from, typed_leads}
+use Rattle.xd_proof_make.proofs.Making.{all_writable}
+use Rattle.xd_proof_make.proofs.Spreading.{typed_row, row_typed-is, row_typed-from, typed_leads}
+use Rattle.xd_proof_make.proofs.GoalTypes.{all_named, all_shallow}
 
 -- ---- the proof
 
@@ -70,7 +73,7 @@ lines_of p c a nodes numbers rows (g ∷ order) (m ∷ made) z =
     record { lined = record { line = 1; goal = h.goal } ∷ i.lined; at = (record { line = h.line; goal = h.is }, i.at); written = (h.written, i.written) }
 
 module _ (p : ProgramTable) (c : CellsView) (a : Automaton) (ds : List Document) (t : TableView) (stands : StandsOn a ds t) (start : ℕ) (order numbers : List ℕ) (reached : AreReached t start order numbers)
-    (made : List ProofGoal) (z : AllZip (λ g m. IsGoalMade p c a t.nodes numbers (row_at t.rows g) m) order made) where
+    (made : List ProofGoal) (z : AllZip (λ g m. IsGoalMade p c a t.nodes numbers (row_at t.rows g) m) order made) (m : Mirrors p c a) (sound : IsSound (program_tree p)) where
   abbrev E : Definitions
   E = names_of (program_tree p)
 
@@ -127,6 +130,8 @@ module _ (p : ProgramTable) (c : CellsView) (a : Automaton) (ds : List Document)
         numbers = numbers;
         reached = reached;
         types = between order gs ls.written;
+        shallow = all_shallow p c a m t order gs (between order gs ls.written);
+        named = all_named p c a ds t m sound stands start order numbers reached gs (between order gs ls.written) y.0 (y.2).left (y.2).rights;
         claim = y.0;
         first = numbered-get gs 0 ∙ y.1;
         between = record { left = (y.2).left; rights = (y.2).rights };
@@ -159,24 +164,24 @@ pub all_fit : (p : ProgramTable) (c : CellsView) (a : Automaton) (ds : List Docu
     → AreReached t start order numbers → AllByRecursion (IsFit a t c) order
 all_fit p c a ds t start order numbers m stands s types reached =
     all_map (λ g. passes g ≡ true) (IsFit a t c) order fit
-    (reached.only passes (join (is_marked s.marks start) (typed_row c (row_at t.rows start)) s.start (row_typed-from c (row_at t.rows start) types)) closed)
+    (reached.only passes (join (is_marked s.marks start) (typed_row p c (row_at t.rows start)) s.start (row_typed-from p c (row_at t.rows start) types)) closed)
   where
     passes : ℕ → Bool
-    passes g = is_marked s.marks g && typed_row c (row_at t.rows g)
+    passes g = is_marked s.marks g && typed_row p c (row_at t.rows g)
 
     closed : (g : ℕ) → passes g ≡ true → AllByRecursion (LeadsTo t.nodes (λ h. passes h ≡ true)) (row_at t.rows g).choices
     closed g e =
-        let b = both (is_marked s.marks g) (typed_row c (row_at t.rows g)) e in
-        all_both (LeadsToMarked t.nodes s.marks) (LeadsTo t.nodes (λ i. typed_row c (row_at t.rows i) ≡ true)) (LeadsTo t.nodes (λ h. passes h ≡ true)) (row_at t.rows g).choices
-        (λ k x y tree u. all_leaves (λ i. is_marked s.marks i ≡ true) (λ i. typed_row c (row_at t.rows i) ≡ true) (λ h. passes h ≡ true) (λ i v w. join (is_marked s.marks i) (typed_row c (row_at t.rows i)) v w) tree (x tree u) (y tree u))
+        let b = both (is_marked s.marks g) (typed_row p c (row_at t.rows g)) e in
+        all_both (LeadsToMarked t.nodes s.marks) (LeadsTo t.nodes (λ i. typed_row p c (row_at t.rows i) ≡ true)) (LeadsTo t.nodes (λ h. passes h ≡ true)) (row_at t.rows g).choices
+        (λ k x y tree u. all_leaves (λ i. is_marked s.marks i ≡ true) (λ i. typed_row p c (row_at t.rows i) ≡ true) (λ h. passes h ≡ true) (λ i v w. join (is_marked s.marks i) (typed_row p c (row_at t.rows i)) v w) tree (x tree u) (y tree u))
         (s.leads g b.0) (typed_leads p c a m t g (row_at t.rows g).choices (choices_keep a ds t stands g) b.1)
 
     fit : (g : ℕ) → passes g ≡ true → IsFit a t c g
     fit g e =
-        let b = both (is_marked s.marks g) (typed_row c (row_at t.rows g)) e in
+        let b = both (is_marked s.marks g) (typed_row p c (row_at t.rows g)) e in
         let h = s.holds g b.0 in
         let lt = holds_there t g h in
-        record { there = lt; begun = (stands.holds g h).begun; below = (stands.states).each g lt; types = row_typed-is c (row_at t.rows g) b.1 }
+        record { there = lt; begun = (stands.holds g h).begun; below = (stands.states).each g lt; types = row_typed-is p c (row_at t.rows g) b.1 }
 
 pub all_there : (a : Automaton) (t : TableView) (c : CellsView) (order : List ℕ) → AllByRecursion (IsFit a t c) order → AllByRecursion (λ g. g < length t.rows) order
 all_there a t c order h = all_map (IsFit a t c) (λ g. g < length t.rows) order (λ g x. x.there) h

@@ -1,8 +1,12 @@
 -- Goals of a proof that are made from rows of a table.
-use Rattle.std.specs.Prelude.{◌≡◌, ℕ, ◌<◌, true, false, List, length, Option, Some, None}
+use Rattle.std.specs.Prelude.{◌≡◌, ℕ, ◌<◌, ◌≤◌, true, false, List, ◌∷◌, length, Option, Some, None}
 use Rattle.std.specs.List.{AllByRecursion, AllZip}
 use Rattle.xd_syntax.specs.Tree.{Tree}
-use Rattle.xd_syntax.specs.Program.{names_of}
+use Rattle.xd_syntax.specs.TypeText.{depth}
+use Rattle.xd_syntax.specs.Shallow.{IsShallow, nesting_limit}
+use Rattle.xd_syntax.specs.Adopt.{uses_only}
+use Rattle.xd_syntax.specs.NameFaults.{known_types}
+use Rattle.xd_syntax.specs.Program.{ProgramTree, names_of}
 use Rattle.xd_syntax.specs.Kept.{ProgramTable, program_tree}
 use Rattle.xd_auto.specs.declared.auto.State.{State}
 use Rattle.xd_auto.specs.Automaton.{Automaton}
@@ -16,6 +20,7 @@ use Rattle.xd_goals.specs.declared.table.ChoiceNode.{ChoiceNode}
 use Rattle.xd_heads.specs.CellsView.{CellsView}
 use Rattle.xd_heads.specs.Mirrors.{IsTypeState, Mirrors, continuation_of}
 use Rattle.xd_proof.specs.Goals.{IsGoalAt, AreGoalsAt}
+use Rattle.xd_proof_write.specs.SecondText.{types_of}
 use Rattle.xd_proof.specs.declared.proof.ProofGoal.{ProofGoal}
 use Rattle.xd_proof_make.specs.Written.{AreTypes, IsWritten}
 use Rattle.xd_proof_make.specs.Met.{AreReached, number_in}
@@ -33,6 +38,10 @@ pub record IsBetween (C : State → Option Tree) (row : GoalRow) (g : Goal) : Ty
   pub left : C row.left ≡ Some g.left
   pub rights : AreTypes C row.rights g.rights
 
+-- the type uses no name but those that the program defines
+abbrev pub UsesDefined : ProgramTree → Tree → Type 0
+UsesDefined P T = uses_only (known_types P) T ≡ true
+
 -- The goals of a proof keep its rules. They are those that a goal of the table leads to through leaves, itself first, each once,
 -- between the types of their states.
 pub record IsProofOf (p : ProgramTable) (c : CellsView) (t : TableView) (goal : ℕ) (proof : List ProofGoal) : Type 0 where
@@ -43,8 +52,12 @@ pub record IsProofOf (p : ProgramTable) (c : CellsView) (t : TableView) (goal : 
   pub numbers : List ℕ
   pub reached : AreReached t goal rows numbers
   pub types : AllZip (λ g made. IsBetween (continuation_of p.types c) (row_at t.rows g) made) rows (goals_of lined)
+  -- on a shallow program no type of the goals is deeper than a text may be nested
+  pub shallow : IsShallow p.types → AllByRecursion (λ T. depth T ≤ nesting_limit) (types_of (goals_of lined))
   pub claim : Goal
   pub first : numbered (goals_of lined) 1 ≡ Some claim
+  -- where the claim's types use defined names alone, all types of the goals do
+  pub named : AllByRecursion (UsesDefined (program_tree p)) (claim.left ∷ claim.rights) → AllByRecursion (UsesDefined (program_tree p)) (types_of (goals_of lined))
   pub between : IsBetween (continuation_of p.types c) (row_at t.rows goal) claim
 
 -- ---- of what follows only private contracts speak

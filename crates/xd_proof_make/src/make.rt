@@ -48,6 +48,7 @@ pub fn proof_of(
     let reached = reach(alloc, table, goal)?;
     let mut states = nothing_known(alloc, auto.len())?;
     learn_goals(alloc, sound, cells, table, &mut states, &reached.order)?;
+    let _program = sound.program();
     let goals = write_goals(
         alloc,
         auto,

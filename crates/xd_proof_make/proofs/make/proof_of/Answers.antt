@@ -63,4 +63,6 @@ returns-clause-proof c =
     (all_made c.learn_goals.new.sound c.args.cells.now c.args.auto.now c.args.table.now c.learn_goals.new.states.items c.deref-2.result.now c.in_ok-reached.reached.numbers.items c.deref-3.result.now
     c.in_ok-reached.reached.order.items c.deref-4.result.now c.in_ok-goals.goals.items c.in_ok-goals.ensures c.deref-2.ensures.value c.deref-3.ensures.value c.deref-4.ensures.value
     (mirrors_stay c.args.sound.now c.learn_goals.new.sound c.args.cells.now c.args.auto.now c.requires.mirrors c.learn_goals.ensures.grows.adds c.learn_goals.ensures.grows.same)
-    (c.learn_goals.ensures.known (c.in_ok-states.ensures.known c.args.sound.now c.args.cells.now))))
+    (c.learn_goals.ensures.known (c.in_ok-states.ensures.known c.args.sound.now c.args.cells.now)))
+    (mirrors_stay c.args.sound.now c.learn_goals.new.sound c.args.cells.now c.args.auto.now c.requires.mirrors c.learn_goals.ensures.grows.adds c.learn_goals.ensures.grows.same)
+    c.program-program.ensures.sound)
