@@ -11,3 +11,5 @@ pub mod Growing
 pub mod Expanding
 pub mod Simulating
 pub mod Differing
+pub mod MergeLemmas
+pub mod Redirecting

@@ -3,3 +3,4 @@ pub mod Groups
 pub mod Matching
 pub mod Choices
 pub mod Points
+pub mod Merging

@@ -13,6 +13,7 @@ ghost use Rattle.xd_boole.specs.Points.{AddsLabels, AddsTexts, AreExpanded, AreP
 
 use crate::choices::{Choice, choices_of};
 use crate::groups::{Group, Side, Step, label_groups, text_groups};
+use crate::merging::merged;
 use crate::points::{NewMoves, Points, copy_point, find_or_add, set_moves};
 use crate::states::set_of;
 use std::alloc::Global;
@@ -243,6 +244,7 @@ pub fn minus(
     let mut both = Auto::new(alloc);
     let left = both.absorb(one, first)?;
     let right = both.absorb(two, second)?;
+    let both = merged(alloc, &both)?;
     let (made, start) = difference(alloc, &both, left, right)?;
     let (part, start) = inhabited_part(alloc, &made, start)?;
     Ok((part, start))

@@ -5,6 +5,7 @@ mod choices;
 mod difference;
 mod groups;
 mod matching;
+mod merging;
 mod points;
 mod products;
 mod states;
