@@ -1,7 +1,7 @@
 -- What is known of states while a program grows.
-use Rattle.std.proofs.Common.{◌≡◌, ℕ, zero, suc, ◌<◌, ◌+◌, Bool, true, false, List, [], ◌∷◌, ◌++◌, map, length, get_or, set, take, Option, Some, None, ⊎_elim, refl, sym, ap, subst, ◌∙◌, arith, length-set}
+use Rattle.std.proofs.Common.{◌≡◌, ℕ, zero, suc, ◌<◌, ◌+◌, ◌^◌, Bool, true, false, List, [], ◌∷◌, ◌++◌, map, length, get_or, set, take, Option, Some, None, ⊎_elim, refl, sym, ap, subst, ◌∙◌, arith, length-set}
 use Rattle.std.specs.List.{AllByRecursion, AllZip, slice_get}
-use Rattle.std.proofs.lemmas.List.{take_more}
+use Rattle.std.proofs.lemmas.List.{take_more, length-map}
 use Rattle.std.specs.Option.{is_some}
 use Rattle.std.proofs.lemmas.Bool.{cases_eq}
 use Rattle.std.proofs.lemmas.Option.{slice_get-get_or}
@@ -24,6 +24,7 @@ use Rattle.xd_heads.specs.Mirrors.{Mirrors, continuation_of}
 use Rattle.xd_heads.specs.declared.listing.Head.{Head}
 use Rattle.xd_heads.proofs.Mirrored.{types_stay, mirrors_stay}
 use Rattle.xd_proof_make.specs.Places.{is_text, sorts_of}
+use Rattle.xd_proof_make.specs.Few.{AreFew}
 use Rattle.xd_proof_make.specs.Known.{IsKnown, AreKnown, HasKnown, IsIdOf, KeepsKnown, known_at}
 use Rattle.xd_proof_make.specs.Made.{HasTypes}
 use Rattle.xd_goals.specs.Rows.{GoalRow, row_at}
@@ -36,12 +37,13 @@ sorts-mapped types (h ∷ found) = ap (λ (ss : List Bool). is_text (kind_at h.k
 
 pub found_known : (p p1 p2 : ProgramTable) (c : CellsView) (a : Automaton) (s : State) (found : List Head) (known : Known) → Mirrors p c a → AddsTypes p p1 → AddsTypes p1 p2 → program_tree p2 ≡ program_tree p1
     → BelongsTo p1.types known.id → continuation_of p.types c s ≡ Some (tree p1.types known.id) → map (head_at p2.types) found ≡ heads (names_of (program_tree p1)) (tree p1.types known.id)
-    → (known.sorts).items ≡ map (λ (h : Head). is_text (kind_at h.kind)) found → IsKnown p2 c s known
-found_known p p1 p2 c a s found known m a1 a2 e b k hs so = record {
+    → (known.sorts).items ≡ map (λ (h : Head). is_text (kind_at h.kind)) found → AreFew found → IsKnown p2 c s known
+found_known p p1 p2 c a s found known m a1 a2 e b k hs so few = record {
   type_ = tree p1.types known.id;
   continuation = types_stay p.types p2.types (AddsTypes-trans p p1 p2 a1 a2).types c (m.kept).nodes s ∙ k;
   there = type_kept p1.types p2.types (tree p1.types known.id) known.id a2.types (record { belongs = b; same = refl });
   sorts = so ∙ (sym (sorts-mapped p2.types found) ∙ (ap sorts_of hs ∙ ap (λ (q : List (List ℕ × Tree)). sorts_of (heads q (tree p1.types known.id))) (sym (ap names_of e))));
+  few = subst (λ (n : ℕ). n < 10 ^ 18) (sym (ap length so ∙ length-map found (λ (h : Head). is_text (kind_at h.kind)))) few;
 }
 
 pub grows_by : (p q : ProgramTable) → AddsTypes p q → program_tree q ≡ program_tree p → (IsShallow p.types → IsShallow q.types) → GrowsTypes p q
@@ -53,6 +55,7 @@ known_grows p q c a s known m g k = record {
   continuation = types_stay p.types q.types (g.adds).types c (m.kept).nodes s ∙ k.continuation;
   there = type_kept p.types q.types k.type_ known.id (g.adds).types k.there;
   sorts = k.sorts ∙ ap (λ (e : List (List ℕ × Tree)). sorts_of (heads e k.type_)) (sym (ap names_of g.same));
+  few = k.few;
 }
 
 pub all_grow : (p q : ProgramTable) (c : CellsView) (states : List (Option Known)) → ((a : Automaton) × Mirrors p c a) → GrowsTypes p q → AreKnown p c states → AreKnown q c states

@@ -6,6 +6,7 @@ pub mod Meeting
 pub mod Ordering
 pub mod Writing
 pub mod Knowing
+pub mod SmallNumbers
 pub mod Making
 pub mod NamedTypes
 pub mod Spreading

@@ -1,5 +1,5 @@
 -- A row as a goal between types.
-use Rattle.std.proofs.Common.{◌≡◌, ℕ, zero, suc, ◌+◌, ◌<◌, ◌≤◌, Bool, true, false, ◌||◌, List, [], ◌∷◌, ◌++◌, map, length, get_or, take, Option, Some, None, refl, sym, ap, subst, ◌∙◌, arith}
+use Rattle.std.proofs.Common.{◌≡◌, ℕ, zero, suc, ◌+◌, ◌^◌, ◌<◌, ◌≤◌, Bool, true, false, ◌||◌, List, [], ◌∷◌, ◌++◌, map, length, get_or, take, Option, Some, None, Bor, refl, sym, ap, subst, ◌∙◌, arith}
 use Rattle.std.specs.List.{AllByRecursion, AllZip, flat_map, list_any}
 use Rattle.std.proofs.lemmas.List.{take_more}
 use Rattle.std.proofs.lemmas.Option.{slice_get_within}
@@ -11,7 +11,7 @@ use Rattle.xd_syntax.specs.Kept.{ProgramTable, program_tree}
 use Rattle.xd_syntax.specs.declared.types.TypeId.{TypeId}
 use Rattle.xd_auto.specs.declared.auto.State.{State}
 use Rattle.xd_auto.specs.Automaton.{Automaton, moves_at}
-use Rattle.xd_laws.specs.Heads.{heads}
+use Rattle.xd_laws.specs.Heads.{Head, heads}
 use Rattle.xd_laws.specs.Consistent.{Goal, Named, EmptyRule, numbered, atoms_from}
 use Rattle.xd_rules.specs.Heads as table
 use Rattle.xd_rules.specs.Rules as rules
@@ -29,13 +29,15 @@ use Rattle.xd_heads.specs.Mirrors.{Mirrors, continuation_of}
 use Rattle.xd_rules.specs.declared.atom.Atom.{Atom as TableAtom}
 use Rattle.xd_proof.specs.declared.proof.ProofGoal.{ProofGoal}
 use Rattle.xd_proof_make.specs.Written.{AreTypes, IsWritten, Renumbers, written_names}
-use Rattle.xd_proof_make.specs.Places.{sorts_of, all_places, place_in}
+use Rattle.xd_proof_make.specs.Places.{is_text, sorts_of, all_places, place_in, new_numbers}
 use Rattle.xd_proof_make.specs.Met.{number_in}
 use Rattle.xd_proof_make.specs.Ordered.{AreOrdered, AreWrittenCases, IsWritable, SplitsWithin}
+use Rattle.xd_proof_make.specs.Few.{AreFew}
 use Rattle.xd_proof_make.specs.Known.{IsKnown, AreKnown, HasKnown, IsIdOf, known_at, sorts_in, sorts_at}
 use Rattle.xd_proof_make.specs.Made.{CanWrite, IsEmptyRight, IsGoalMade}
+use Rattle.xd_proof_make.specs.declared.places.Place.{Place}
 use Rattle.xd_proof_make.specs.declared.states.Known.{Known}
-use Rattle.xd_proof_make.proofs.Placing.{places_renumber, places_heads}
+use Rattle.xd_proof_make.proofs.Placing.{places_renumber, places_heads, places_of_types, new_numbers-length, zip_length}
 use Rattle.xd_proof_make.proofs.Naming.{names_written}
 use Rattle.xd_proof_make.proofs.Ordering.{cut_at, wanted_above, wanted_below, wanted-append, ordered, AreCases}
 
@@ -147,12 +149,19 @@ module _ (p : ProgramTable) (c : CellsView) (a : Automaton) (nodes : List Choice
     each = in_order.1;
   }
 
-  pub goal_made : made.left ≡ known.id → AllZip (IsIdOf states) (made.rights).items row.rights → IsEmptyRight a row.left row.rights made.empty_right → made.line ≡ 1 → IsGoalMade p c a nodes numbers row made
-  goal_made left ids empty line = record {
+  pub goal_made : made.left ≡ known.id → AllZip (IsIdOf states) (made.rights).items row.rights → IsEmptyRight a row.left row.rights made.empty_right → made.line ≡ 1 → AreFew row.rights → AreFew places
+      → IsGoalMade p c a nodes numbers row made
+  goal_made left ids empty line few_rights few_places = record {
     goal = goal;
     is = record { left = subst (λ (i : TypeId). IsTypeAt p.types x.type_ i) (sym left) x.there; rights = r.ids (made.rights).items ids; empty_right = refl; cases = cases.read };
     written = written empty;
     line = line;
+    small = record {
+      rights = subst (λ (n : ℕ). n < 10 ^ 18) (zip_length (λ (s : State) (T : Tree). C s ≡ Some T) row.rights r.types r.typed) few_rights;
+      on_left = subst (λ (n : ℕ). n < 10 ^ 18) (ap length x.sorts ∙ length_map (λ (h : Head). is_text h.kind) (heads E x.type_)) x.few;
+      on_right = subst (λ (n : ℕ). n < 10 ^ 18) (ap length (pl ∙ ap (all_places 1) r.sorts) ∙ places_of_types E 1 r.types) few_places;
+      atoms = cases.atoms;
+    };
   }
 
 -- ---- choices that can be written
@@ -208,15 +217,25 @@ some_last a [] i h le e = cc
 some_last a (s ∷ ss) zero h le e = omega arith
 some_last a (s ∷ ss) (suc i) h le e = some_last a ss i h.1 (omega arith) (sym (ap (λ (b : Bool). b || list_any (is_last_in a) ss) h.0) ∙ e)
 
-pub can_writable : (a : Automaton) (t : TableView) (states : List (Option Known)) (numbers : List ℕ) (g : ℕ) (rights : List State) (places heads_ : List ℕ) (ks : List Choice) → CanWrite a t states numbers g → rights ≡ (row_at t.rows g).rights
-    → places ≡ all_places 1 (map (sorts_at states) rights) → heads_ ≡ places → ks ≡ (row_at t.rows g).choices → AllByRecursion (IsWritable t.nodes (length numbers) (length heads_)) ks
+pub can_writable : (a : Automaton) (t : TableView) (states : List (Option Known)) (numbers : List ℕ) (g : ℕ) (rights : List State) (places heads_ : List Place) (ks : List Choice) → CanWrite a t states numbers g → rights ≡ (row_at t.rows g).rights
+    → new_numbers places ≡ all_places 1 (map (sorts_at states) rights) → heads_ ≡ places → ks ≡ (row_at t.rows g).choices → AllByRecursion (IsWritable t.nodes (length numbers) (length heads_)) ks
 can_writable a t states numbers g rights places heads_ ks w e f h q =
     let y = typed_all w.program w.cells states w.known (row_at t.rows g).rights (w.types).rights in
     let count = places_heads (names_of (program_tree w.program)) a (continuation_of (w.program).types w.cells) (w.mirrors).moves (row_at t.rows g).rights y.types y.typed in
     let same : length heads_ ≡ length (rules.right_heads (heads_of a) (claim_of (row_at t.rows g))) =
-    ap length (h ∙ (f ∙ (ap (λ (ss : List State). all_places 1 (map (sorts_at states) ss)) e ∙ ap (all_places 1) y.sorts))) ∙ count in
+    ap length h ∙ sym (new_numbers-length places) ∙ ap length (f ∙ (ap (λ (ss : List State). all_places 1 (map (sorts_at states) ss)) e ∙ ap (all_places 1) y.sorts)) ∙ count in
     subst (AllByRecursion (IsWritable t.nodes (length numbers) (length heads_))) (sym q)
     (subst (λ (n : ℕ). AllByRecursion (IsWritable t.nodes (length numbers) n) (row_at t.rows g).choices) (sym same) w.writable)
+
+-- what was found of the rights
+module _ (states : List (Option Known)) (rights : List State) (sorts given : List (Bor (List Bool))) (same : given ≡ sorts) (found : map (λ (b : Bor (List Bool)). b.now) sorts ≡ map (sorts_at states) rights) where
+  pub places_kept : (places : List ℕ) → places ≡ all_places 1 (map (λ (b : Bor (List Bool)). b.now) given) → places ≡ all_places 1 (map (sorts_at states) rights)
+  places_kept places e = e ∙ (ap (λ (bs : List (Bor (List Bool))). all_places 1 (map (λ (b : Bor (List Bool)). b.now) bs)) same ∙ ap (all_places 1) found)
+
+  pub few_kept : (row : List State) → rights ≡ row → AreFew given → AreFew row
+  few_kept row e few =
+      subst (λ (n : ℕ). n < 10 ^ 18)
+      (ap length same ∙ sym (length_map (λ (b : Bor (List Bool)). b.now) sorts) ∙ ap length found ∙ length_map (sorts_at states) rights ∙ ap length e) few
 
 pub zip_more : {B : Type 0} (R : ℕ → B → Type 0) (xs : List ℕ) (i : ℕ) (ys ys2 : List B) (y : B) → i < length xs → AllZip R (take i xs) ys → R (get_or xs i 0) y → ys2 ≡ ys ++ y ∷ [] → AllZip R (take (i + 1) xs) ys2
 zip_more {B} R xs i ys ys2 y lt z r e =

@@ -1,7 +1,7 @@
 -- Heads of states and heads of types: which number a head gets.
-use Rattle.std.proofs.Common.{◌≡◌, ℕ, zero, suc, ◌+◌, ◌<◌, ◌≤◌, Bool, true, false, cond, not, List, [], ◌∷◌, ◌++◌, map, length, get_or, take, Option, Some, ◌⊎◌, inl, inr, ⊎_elim, refl, sym, ap, subst, ◌∙◌, arith, append_assoc, append-nil}
+use Rattle.std.proofs.Common.{◌≡◌, ℕ, zero, suc, ◌+◌, ◌-◌, ◌<◌, ◌≤◌, Bool, true, false, cond, not, List, [], ◌∷◌, ◌++◌, map, length, get_or, take, Option, Some, ◌⊎◌, inl, inr, ⊎_elim, refl, sym, ap, subst, ◌∙◌, arith, append_assoc, append-nil}
 use Rattle.std.specs.List.{AllZip, slice_get, flat_map}
-use Rattle.std.proofs.lemmas.List.{take_more, map-append}
+use Rattle.std.proofs.lemmas.List.{take_more, map-append, length-map}
 use Rattle.std.proofs.lemmas.Option.{get_or_from_slice_get, slice_get_within}
 use Rattle.xd_syntax.specs.Tree.{Tree, Definitions}
 use Rattle.xd_syntax.specs.Ways.{Among}
@@ -17,7 +17,8 @@ use Rattle.xd_goals.specs.Moves.{heads_of, label_head, text_head}
 use Rattle.xd_heads.specs.Mirrors.{AreHeadMoves, no_head, element_head}
 use Rattle.xd_heads.specs.Mirrors as mirrors
 use Rattle.xd_proof_make.specs.Written.{AreTypes, IsAt, Renumbers}
-use Rattle.xd_proof_make.specs.Places.{is_text, sorts_of, numbers_of, places_of, all_places, place_in}
+use Rattle.xd_proof_make.specs.declared.places.Place.{Place}
+use Rattle.xd_proof_make.specs.Places.{is_text, sorts_of, numbers_of, places_of, all_places, place_in, new_numbers}
 
 -- ---- lists side by side
 
@@ -298,17 +299,17 @@ all_places-push n (ts ∷ sss) ss m e =
     ∙ sym (append_assoc (places_of n ts) (all_places (n + length ts) sss) (places_of m ss))
 
 -- the heads of one more state
-pub placed_more : (F : State → List Bool) (rights : List State) (i : ℕ) (d : State) (places p1 p2 : List ℕ) (first : ℕ) (sorts : List Bool) → i < length rights → places ≡ all_places 1 (map F (take i rights)) → first ≡ length places + 1
+pub placed_more : {X : Type 0} (F : X → List Bool) (rights : List X) (i : ℕ) (d : X) (places p1 p2 : List ℕ) (first : ℕ) (sorts : List Bool) → i < length rights → places ≡ all_places 1 (map F (take i rights)) → first ≡ length places + 1
     → F (get_or rights i d) ≡ sorts → p1 ≡ places ++ numbers_of false first sorts → p2 ≡ p1 ++ numbers_of true first sorts → p2 ≡ all_places 1 (map F (take (i + 1) rights))
-placed_more F rights i d places p1 p2 first sorts lt e f g h k =
+placed_more {X} F rights i d places p1 p2 first sorts lt e f g h k =
     k ∙ (ap (λ (x : List ℕ). x ++ numbers_of true first sorts) h
     ∙ (append_assoc places (numbers_of false first sorts) (numbers_of true first sorts)
     ∙ (ap (λ (x : List ℕ). x ++ places_of first sorts) e
     ∙ (ap (λ (x : List Bool). all_places 1 (map F (take i rights)) ++ places_of first x) (sym g)
     ∙ (sym (all_places-push 1 (map F (take i rights)) (F (get_or rights i d)) first (let l = ap length e in omega arith))
-    ∙ sym (ap (λ (x : List State). all_places 1 (map F x)) (take_more rights i d lt) ∙ ap (all_places 1) (map-append F (take i rights) (get_or rights i d ∷ []))))))))
+    ∙ sym (ap (λ (x : List X). all_places 1 (map F x)) (take_more rights i d lt) ∙ ap (all_places 1) (map-append F (take i rights) (get_or rights i d ∷ []))))))))
 
-zip_length : {A B : Type 0} (R : A → B → Type 0) (xs : List A) (ys : List B) → AllZip R xs ys → length xs ≡ length ys
+pub zip_length : {A B : Type 0} (R : A → B → Type 0) (xs : List A) (ys : List B) → AllZip R xs ys → length xs ≡ length ys
 zip_length R [] [] z = refl
 zip_length R [] (y ∷ ys) z = absurd z
 zip_length R (x ∷ xs) [] z = absurd z
@@ -318,3 +319,32 @@ zip_length R (x ∷ xs) (y ∷ ys) z = ap suc (zip_length R xs ys z.1)
 pub places_heads : (E : Definitions) (a : Automaton) (C : State → Option Tree) → ((s : State) (T : Tree) → C s ≡ Some T → AreHeadMoves C (heads E T) (moves_at a s).labels (moves_at a s).texts)
     → (ss : List State) (Ts : List Tree) → AreTypes C ss Ts → length (all_places 1 (map (λ T. sorts_of (heads E T)) Ts)) ≡ length (flat_map (heads_of a) ss)
 places_heads E a C moves ss Ts z = zip_length (IsAt C (flat_map (heads E) Ts)) (all_places 1 (map (λ T. sorts_of (heads E T)) Ts)) (flat_map (heads_of a) ss) (all_zip E a C moves (flat_map (heads E) Ts) ss Ts z refl)
+
+-- as many as the heads of the types
+pub places_of_types : (E : Definitions) (n : ℕ) (Ts : List Tree) → length (all_places n (map (λ T. sorts_of (heads E T)) Ts)) ≡ length (flat_map (heads E) Ts)
+places_of_types E n [] = refl
+places_of_types E n (T ∷ Ts) =
+    let m = n + length (sorts_of (heads E T)) in
+    let i = places_of_types E m Ts in
+    let j = places_count n (sorts_of (heads E T)) in
+    let k = length-map (heads E T) (λ (h : Head). is_text h.kind) in
+    let l = length_both (places_of n (sorts_of (heads E T))) (all_places m (map (λ U. sorts_of (heads E U)) Ts)) in
+    let r = length_both (heads E T) (flat_map (heads E) Ts) in
+    omega arith
+
+-- ---- places as they are kept
+
+pub new_numbers-push : (places : List Place) (p : Place) → new_numbers (places ++ p ∷ []) ≡ new_numbers places ++ p.number ∷ []
+new_numbers-push places p = map-append (λ (q : Place). q.number) places (p ∷ [])
+
+pub new_numbers-length : (places : List Place) → length (new_numbers places) ≡ length places
+new_numbers-length places = length-map places (λ (p : Place). p.number)
+
+pub place_found : (places : List Place) (i : ℕ) (d : Place) → i < length places → get_or (new_numbers places) i 0 ≡ (get_or places i d).number
+place_found [] i d lt = absurd (omega arith)
+place_found (p ∷ places) zero d lt = refl
+place_found (p ∷ places) (suc i) d lt = place_found places i d (omega arith)
+
+pub place_written : (places : List Place) (j : ℕ) (d : Place) → 0 < j → j ≤ length places → (get_or places (j - 1) d).number ≡ place_in (new_numbers places) j
+place_written places zero d lt le = absurd (omega arith)
+place_written places (suc i) d lt le = let e : suc i - 1 ≡ i = omega arith in rw e (sym (place_found places i d (omega arith)))

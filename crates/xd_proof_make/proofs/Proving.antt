@@ -1,7 +1,8 @@
 -- The goals that are reached, written, are a proof.
-use Rattle.std.proofs.Common.{◌≡◌, ℕ, zero, suc, ◌<◌, Bool, true, false, ◌&&◌, List, [], ◌∷◌, length, Option, Some, inl, inr, ⊎_elim, refl, sym, ap, subst, ◌∙◌}
+use Rattle.std.proofs.Common.{◌≡◌, ℕ, zero, suc, ◌^◌, ◌<◌, ◌≤◌, Bool, true, false, ◌&&◌, List, [], ◌∷◌, length, Option, Some, inl, inr, ⊎_elim, refl, sym, ap, subst, ◌∙◌}
 use Rattle.std.specs.List.{AllByRecursion, AllZip, slice_get}
 use Rattle.std.proofs.lemmas.Bool.{cases_lt}
+use Rattle.std.proofs.lemmas.List.{length-map}
 use Rattle.std.proofs.lemmas.Option.{get_or_from_slice_get, slice_get_within}
 use Rattle.xd_doc.specs.Document.{Document}
 use Rattle.xd_syntax.specs.Tree.{Tree, Definitions}
@@ -30,14 +31,18 @@ use Rattle.xd_goals.proofs.Facts.{all_both}
 use Rattle.xd_goals.proofs.Verdicts.{choices_keep}
 use Rattle.xd_heads.specs.CellsView.{CellsView}
 use Rattle.xd_heads.specs.Mirrors.{Mirrors, continuation_of}
-use Rattle.xd_proof.specs.Goals.{AreGoalsAt}
+use Rattle.xd_proof.specs.Goals.{AreGoalsAt, IsLinedAt}
 use Rattle.xd_proof.specs.declared.proof.ProofGoal.{ProofGoal}
+use Rattle.xd_proof_write.specs.SecondText.{distinct_types}
 use Rattle.xd_proof_make.specs.Written.{IsWritten}
 use Rattle.xd_proof_make.specs.Met.{IsMet, AreReached, LeadsTo, number_in}
+use Rattle.xd_proof_make.specs.Few.{AreFew, IsSmall}
 use Rattle.xd_proof_make.specs.Known.{AreKnown}
 use Rattle.xd_proof_make.specs.Made.{CanWrite, HasTypes, IsBetween, IsGoalMade, IsOfTypes, IsProofOf, IsTypedRow}
 use Rattle.xd_proof_make.specs.declared.states.Known.{Known}
 use Rattle.xd_proof_make.proofs.Keeping.{goal_keeps}
+use Rattle.xd_proof_make.proofs.Placing.{zip_length}
+use Rattle.xd_proof_make.proofs.SmallNumbers.{some_there, less_by, goals_writable, distinct_below, some_types}
 use Rattle.xd_proof_make.proofs.Making.{all_writable}
 use Rattle.xd_proof_make.proofs.Spreading.{typed_row, row_typed-is, row_typed-from, typed_leads}
 use Rattle.xd_proof_make.proofs.GoalTypes.{all_named, all_shallow}
@@ -61,19 +66,28 @@ record AreLines (p : ProgramTable) (c : CellsView) (a : Automaton) (nodes : List
   lined : List Lined
   at : AreGoalsAt p.types made lined
   written : AllZip (λ g goal. IsWritten (names_of (program_tree p)) a (continuation_of p.types c) nodes (number_in numbers) (row_at rows g) goal) order (goals_of lined)
+  small : AllByRecursion (IsSmall (names_of (program_tree p))) (goals_of lined)
 
 lines_of : (p : ProgramTable) (c : CellsView) (a : Automaton) (nodes : List ChoiceNode) (numbers : List ℕ) (rows : List GoalRow) (order : List ℕ) (made : List ProofGoal) → AllZip (λ g m. IsGoalMade p c a nodes numbers (row_at rows g) m) order made
     → AreLines p c a nodes numbers rows order made
-lines_of p c a nodes numbers rows [] [] z = record { lined = []; at = tt; written = tt }
+lines_of p c a nodes numbers rows [] [] z = record { lined = []; at = tt; written = tt; small = tt }
 lines_of p c a nodes numbers rows [] (m ∷ made) z = absurd z
 lines_of p c a nodes numbers rows (g ∷ order) [] z = absurd z
 lines_of p c a nodes numbers rows (g ∷ order) (m ∷ made) z =
     let h = z.0 in
     let i = lines_of p c a nodes numbers rows order made z.1 in
-    record { lined = record { line = 1; goal = h.goal } ∷ i.lined; at = (record { line = h.line; goal = h.is }, i.at); written = (h.written, i.written) }
+    record { lined = record { line = 1; goal = h.goal } ∷ i.lined; at = (record { line = h.line; goal = h.is }, i.at); written = (h.written, i.written); small = (h.small, i.small) }
+
+-- what is so of each goal that is reached
+pub record IsFit (a : Automaton) (t : TableView) (c : CellsView) (g : ℕ) : Type 0 where
+  pub there : g < length t.rows
+  pub begun : IsBegun a (claim_of (row_at t.rows g)) (row_at t.rows g).choices
+  pub below : IsRowBelow (length a) (row_at t.rows g)
+  pub types : IsOfTypes c (row_at t.rows g)
 
 module _ (p : ProgramTable) (c : CellsView) (a : Automaton) (ds : List Document) (t : TableView) (stands : StandsOn a ds t) (start : ℕ) (order numbers : List ℕ) (reached : AreReached t start order numbers)
-    (made : List ProofGoal) (z : AllZip (λ g m. IsGoalMade p c a t.nodes numbers (row_at t.rows g) m) order made) (m : Mirrors p c a) (sound : IsSound (program_tree p)) where
+    (made : List ProofGoal) (z : AllZip (λ g m. IsGoalMade p c a t.nodes numbers (row_at t.rows g) m) order made) (m : Mirrors p c a) (sound : IsSound (program_tree p))
+    (few_goals : AreFew made) (states : List (Option Known)) (few_states : AreFew states) (sized : length states ≡ length a) (fit : AllByRecursion (IsFit a t c) order) where
   abbrev E : Definitions
   E = names_of (program_tree p)
 
@@ -119,13 +133,28 @@ module _ (p : ProgramTable) (c : CellsView) (a : Automaton) (ds : List Document)
   between (g ∷ xs) [] w = absurd w
   between (g ∷ xs) (y ∷ ys) w = (record { left = (w.0).left; rights = (w.0).rights }, between xs ys w.1)
 
+  few : AreFew gs
+  few = subst (λ (n : ℕ). n < 10 ^ 18) (zip_length (IsLinedAt p.types) made ls.lined ls.at ∙ sym (length-map ls.lined (λ (l : Lined). l.goal))) few_goals
+
+  rows_below : AllByRecursion (λ g. IsRowBelow (length a) (row_at t.rows g)) order
+  rows_below = all_map (IsFit a t c) (λ g. IsRowBelow (length a) (row_at t.rows g)) order (λ g x. x.below) fit
+
   pub made_proof : IsProofOf p c t start made
   made_proof =
       let y = zip_get (λ g goal. IsWritten E a C t.nodes (number_in numbers) (row_at t.rows g) goal) order gs 0 start ls.written reached.first in
+      let first = numbered-get gs 0 ∙ y.1 in
+      let keep = consistent order gs ls.written met in
       record {
         lined = ls.lined;
         goals = ls.at;
-        consistent = consistent order gs ls.written met;
+        consistent = keep;
+        writable = goals_writable E gs few gs keep ls.small;
+        goal_count = record { least = some_there gs y.0 first; most = few };
+        type_count = record {
+          least = some_types gs y.0 first;
+          most = less_by (length (distinct_types gs)) (length states) (10 ^ 18)
+              (subst (λ (n : ℕ). length (distinct_types gs) ≤ n) (sym sized) (distinct_below C (length a) t.rows order gs (between order gs ls.written) rows_below)) few_states;
+        };
         rows = order;
         numbers = numbers;
         reached = reached;
@@ -133,17 +162,11 @@ module _ (p : ProgramTable) (c : CellsView) (a : Automaton) (ds : List Document)
         shallow = all_shallow p c a m t order gs (between order gs ls.written);
         named = all_named p c a ds t m sound stands start order numbers reached gs (between order gs ls.written) y.0 (y.2).left (y.2).rights;
         claim = y.0;
-        first = numbered-get gs 0 ∙ y.1;
+        first = first;
         between = record { left = (y.2).left; rights = (y.2).rights };
       }
 
--- ---- what is so of each goal that is reached
-
-pub record IsFit (a : Automaton) (t : TableView) (c : CellsView) (g : ℕ) : Type 0 where
-  pub there : g < length t.rows
-  pub begun : IsBegun a (claim_of (row_at t.rows g)) (row_at t.rows g).choices
-  pub below : IsRowBelow (length a) (row_at t.rows g)
-  pub types : IsOfTypes c (row_at t.rows g)
+-- ---- the goals that are reached
 
 pub holds_there : (t : TableView) (g : ℕ) → (row_at t.rows g).standing ≡ Holds → g < length t.rows
 holds_there t g e = ⊎_elim (λ lt. lt) (λ ge. let w = (past_is_new t.rows g ge).standing in absurd (cc)) (cases_lt g (length t.rows))

@@ -10,6 +10,7 @@ use Rattle.xd_goals.specs.declared.table.Choice.{Choice}
 use Rattle.xd_goals.specs.declared.table.ChoiceNode.{ChoiceNode}
 use Rattle.xd_goals.proofs.Lists.{slice_get-push_cases}
 use Rattle.xd_laws.specs.Consistent.{Case}
+use Rattle.xd_proof_form.specs.Parts.{IsAtom}
 use Rattle.xd_proof_lines.specs.Cases.{IsCase, atom_of}
 use Rattle.xd_proof_lines.specs.Steps.{steps_of}
 use Rattle.xd_proof_lines.specs.declared.cases.ReadCase.{ReadCase}
@@ -79,11 +80,12 @@ writable_tree nodes goals heads k w = (w.tree, w.stands)
 
 -- a choice as a case
 pub made_case : (nodes : List ChoiceNode) (places numbers : List ℕ) (goals heads n : ℕ) (k : Choice) (made : ReadCase) (steps : List Step) → IsWritable nodes goals heads k → ((tree : ChoiceTree) → StandsAt nodes k.root tree → steps ≡ table_steps tree)
-    → made.head ≡ n → atom_of made.atom ≡ written_atom k.atom → (made.steps).items ≡ map (written_step places numbers) steps → IsMadeOf nodes places numbers n k made
-made_case nodes places numbers goals heads n k made steps w e h a s = record {
+    → made.head ≡ n → atom_of made.atom ≡ written_atom k.atom → IsAtom (written_atom k.atom) → (made.steps).items ≡ map (written_step places numbers) steps → IsMadeOf nodes places numbers n k made
+made_case nodes places numbers goals heads n k made steps w e h a spelled s = record {
   case = record { head = n; atom = written_atom k.atom; choice = written_tree (place_in places) (number_in numbers) w.tree };
   of_choice = record { head = refl; atom = refl; tree = w.tree; stands = w.stands; choice = refl };
   read = record { head = h; atom = a; steps = s ∙ (ap (map (written_step places numbers)) (e w.tree w.stands) ∙ written-steps places numbers w.tree) };
+  atom = spelled;
 }
 
 -- ---- cases of one head
@@ -109,15 +111,16 @@ record AreReadAs (nodes : List ChoiceNode) (places numbers : List ℕ) (n : ℕ)
   cases : List Case
   of_choices : AllZip (IsCaseOf nodes places numbers n) ks cases
   read : AllZip IsCase made cases
+  atoms : AllByRecursion (λ (c : Case). IsAtom c.atom) cases
 
 read_as : (nodes : List ChoiceNode) (places numbers : List ℕ) (n : ℕ) (ks : List Choice) (made : List ReadCase) → AllZip (IsMadeOf nodes places numbers n) ks made → AreReadAs nodes places numbers n ks made
-read_as nodes places numbers n [] [] z = record { cases = []; of_choices = tt; read = tt }
+read_as nodes places numbers n [] [] z = record { cases = []; of_choices = tt; read = tt; atoms = tt }
 read_as nodes places numbers n [] (m ∷ made) z = absurd z
 read_as nodes places numbers n (k ∷ ks) [] z = absurd z
 read_as nodes places numbers n (k ∷ ks) (m ∷ made) z =
     let i = read_as nodes places numbers n ks made z.1 in
     let h = z.0 in
-    record { cases = h.case ∷ i.cases; of_choices = (h.of_choice, i.of_choices); read = (h.read, i.read) }
+    record { cases = h.case ∷ i.cases; of_choices = (h.of_choice, i.of_choices); read = (h.read, i.read); atoms = (h.atom, i.atoms) }
 
 -- ---- all cases
 
@@ -127,6 +130,7 @@ pub record IsWriting (nodes : List ChoiceNode) (places numbers : List ℕ) (sort
   pub cut : IsCut (elements + 1) choices front back
   pub cases : List Case
   pub read : AllZip IsCase made cases
+  pub atoms : AllByRecursion (λ (c : Case). IsAtom c.atom) cases
   pub elements_of : (k : Choice) → IsOneOf k ls → IsOneOf k choices
   pub texts_of : (k : Choice) → IsOneOf k ts → IsOneOf k choices
   pub counted : l + t ≡ elements + 2 + at
@@ -148,6 +152,7 @@ writing_none nodes places numbers sorts elements choices front back text made c 
   cut = c;
   cases = [];
   read = subst (λ (x : List ReadCase). AllZip IsCase x []) (sym e) tt;
+  atoms = tt;
   elements_of = λ k m. subst (IsOneOf k) (sym c.same) (one_of-append_left k front back m);
   texts_of = λ k m. subst (IsOneOf k) (sym c.same) (one_of-append_right k front back m);
   counted = omega arith;
@@ -176,6 +181,7 @@ module _ (nodes : List ChoiceNode) (places numbers : List ℕ) (sorts : List Boo
     cut = w.cut;
     cases = w.cases ++ here.cases;
     read = read_more;
+    atoms = all_append (λ (c : Case). IsAtom c.atom) w.cases here.cases w.atoms here.atoms;
     elements_of = w.elements_of;
     texts_of = λ k m. w.texts_of k (subst (IsOneOf k) (sym c.same) (one_of-append_right k front back m));
     counted = (let x = w.counted in omega arith);
@@ -193,6 +199,7 @@ module _ (nodes : List ChoiceNode) (places numbers : List ℕ) (sorts : List Boo
     cut = w.cut;
     cases = w.cases ++ here.cases;
     read = read_more;
+    atoms = all_append (λ (c : Case). IsAtom c.atom) w.cases here.cases w.atoms here.atoms;
     elements_of = λ k m. w.elements_of k (subst (IsOneOf k) (sym c.same) (one_of-append_right k front back m));
     texts_of = w.texts_of;
     counted = (let x = w.counted in omega arith);
@@ -211,6 +218,7 @@ writing_all nodes places numbers sorts elements choices at l t ls ts made w le =
   cut = w.cut;
   cases = w.cases;
   read = w.read;
+  atoms = w.atoms;
   ordered = subst (AreOrdered nodes places numbers sorts 1 1 (elements + 1) w.front w.back) (append-nil w.cases)
       (w.done [] (subst (λ (x : List Bool). AreOrdered nodes places numbers x (at + 1) l t ls ts []) (sym (none sorts at le)) refl));
 }

@@ -9,6 +9,7 @@ use Rattle.xd_auto.specs.declared.auto.State.{State}
 use Rattle.xd_laws.specs.Heads.{heads}
 use Rattle.xd_heads.specs.CellsView.{CellsView}
 use Rattle.xd_heads.specs.Mirrors.{continuation_of}
+use Rattle.xd_proof_make.specs.Few.{AreFew}
 use Rattle.xd_proof_make.specs.Places.{sorts_of}
 use Rattle.xd_proof_make.specs.declared.states.Known.{Known}
 
@@ -17,6 +18,7 @@ pub record IsKnown (p : ProgramTable) (c : CellsView) (s : State) (known : Known
   pub continuation : continuation_of p.types c s ≡ Some type_
   pub there : IsTypeAt p.types type_ known.id
   pub sorts : (known.sorts).items ≡ sorts_of (heads (names_of (program_tree p)) type_)
+  pub few : AreFew (known.sorts).items
 
 abbrev pub known_at : List (Option Known) → State → Option (Option Known)
 known_at states s = slice_get states s.number

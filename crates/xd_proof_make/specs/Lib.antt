@@ -3,5 +3,6 @@ pub mod Places
 pub mod Steps
 pub mod Met
 pub mod Ordered
+pub mod Few
 pub mod Known
 pub mod Made

@@ -6,6 +6,7 @@ use Rattle.xd_rules.specs.Rules.{ChoiceTree, ContentLeaf, RestLeaf, SplitOn, All
 use Rattle.xd_goals.specs.Trees.{StandsAt}
 use Rattle.xd_goals.specs.declared.table.Choice.{Choice}
 use Rattle.xd_goals.specs.declared.table.ChoiceNode.{ChoiceNode}
+use Rattle.xd_proof_form.specs.Parts.{IsAtom}
 use Rattle.xd_proof_lines.specs.Cases.{IsCase}
 use Rattle.xd_proof_lines.specs.declared.cases.ReadCase.{ReadCase}
 use Rattle.xd_proof_lines.specs.declared.steps.Step.{Step}
@@ -50,6 +51,7 @@ pub record AreWrittenCases (nodes : List ChoiceNode) (places numbers : List ℕ)
   pub cut : IsCut (elements + 1) choices front back
   pub cases : List Case
   pub read : AllZip IsCase made cases
+  pub atoms : AllByRecursion (λ (c : Case). IsAtom c.atom) cases
   pub ordered : AreOrdered nodes places numbers sorts 1 1 (elements + 1) front back cases
 
 -- the case that was made is one of a choice
@@ -57,6 +59,7 @@ pub record IsMadeOf (nodes : List ChoiceNode) (places numbers : List ℕ) (n : �
   pub case : Case
   pub of_choice : IsCaseOf nodes places numbers n k case
   pub read : IsCase made case
+  pub atom : IsAtom case.atom
 
 -- the numbers in a tree's splits are from 1 to n
 abbrev pub SplitsWithin : ℕ → ChoiceTree → Type 0

@@ -1,6 +1,7 @@
 -- Numbers of heads: a table counts a state's moves on elements first and then those on texts, a proof counts the heads of a type in order.
 use Rattle.std.specs.Prelude.{ℕ, zero, suc, ◌+◌, Bool, true, false, cond, not, List, [], ◌∷◌, ◌++◌, map, length, slice_index_or}
 use Rattle.xd_laws.specs.Heads.{Head, HeadKind, element_in, text_in}
+use Rattle.xd_proof_make.specs.declared.places.Place.{Place}
 
 abbrev pub is_text : HeadKind → Bool
 is_text (element_in c) = false
@@ -28,3 +29,6 @@ all_places n (ss ∷ sss) = places_of n ss ++ all_places (n + length ss) sss
 abbrev pub place_in : List ℕ → ℕ → ℕ
 place_in places zero = 0
 place_in places (suc i) = slice_index_or places i 0
+
+abbrev pub new_numbers : List Place → List ℕ
+new_numbers ps = map (λ (p : Place). p.number) ps

@@ -3,10 +3,14 @@
 ghost use Rattle.std.specs.Prelude.{◌≡◌, ◌<◌, ◌+◌, ◌++◌, ◌^◌, List, map, length, IfOk, OnOk};
 ghost use Rattle.xd_proof_lines.specs.declared.cases.ReadCase.{ReadCase};
 ghost use Rattle.std.specs.List.{AllByRecursion, AllZip};
+ghost use Rattle.xd_proof_form.specs.Parts.{IsAtom};
 ghost use Rattle.xd_proof_lines.specs.Cases.{atom_of};
 ghost use Rattle.xd_proof_make.specs.Written.{written_atom};
+ghost use Rattle.xd_proof_make.specs.Few.{AreFew};
+ghost use Rattle.xd_proof_make.specs.Places.{new_numbers};
 ghost use Rattle.xd_proof_make.specs.Ordered.{AreWrittenCases, IsCut, IsMadeOf, IsStepWithin, IsWritable, written_step};
 
+use crate::places::Place;
 use crate::steps::table_steps;
 use std::alloc::Global;
 use xd_doc::NoMemory;
@@ -27,25 +31,32 @@ fn cut_choices(choices: &[Choice], bound: usize) -> (&[Choice], &[Choice])
 
 /// The atom, as proofs have it.
 fn write_atom(atom: &xd_goals::Atom) -> Result<Atom, NoMemory>
-    ensures { IfOk result (λ made. atom_of made ≡ written_atom atom.now) }
+    ensures same { IfOk result (λ made. atom_of made ≡ written_atom atom.now) }
+    ensures spelled { IsAtom (written_atom atom.now) }
 {
     match atom {
-        xd_goals::Atom::Label(label) => Ok(Atom::Label(label.share()?)),
+        xd_goals::Atom::Label(label) => {
+            let _word = label.as_str();
+            Ok(Atom::Label(label.share()?))
+        }
         xd_goals::Atom::OtherLabel => Ok(Atom::OtherLabel),
-        xd_goals::Atom::Text(text) => Ok(Atom::Text(text.share()?)),
+        xd_goals::Atom::Text(text) => {
+            let _characters = text.as_str();
+            Ok(Atom::Text(text.share()?))
+        }
         xd_goals::Atom::OtherText => Ok(Atom::OtherText),
     }
 }
 
 /// The step, with a proof's numbers.
-fn write_step(goals: &[usize], heads: &[usize], step: Step) -> Step
+fn write_step(goals: &[usize], heads: &[Place], step: Step) -> Step
     requires { IsStepWithin (length goals.now) (length heads.now) step }
-    ensures { result ≡ written_step heads.now goals.now step }
+    ensures { result ≡ written_step (new_numbers heads.now) goals.now step }
 {
     match step {
         Step::Content(goal) => Step::Content(goals[goal as usize] as u64),
         Step::Rest(goal) => Step::Rest(goals[goal as usize] as u64),
-        Step::Split(head) => Step::Split(heads[head as usize - 1] as u64),
+        Step::Split(head) => Step::Split(heads[head as usize - 1].number as u64),
     }
 }
 
@@ -53,11 +64,11 @@ fn write_step(goals: &[usize], heads: &[usize], step: Step) -> Step
 fn write_steps(
     alloc: Global,
     goals: &[usize],
-    heads: &[usize],
+    heads: &[Place],
     steps: &[Step],
 ) -> Result<Vec<Step>, NoMemory>
     requires { AllByRecursion (IsStepWithin (length goals.now) (length heads.now)) steps.now }
-    ensures { IfOk result (λ made. made.items ≡ map (written_step heads.now goals.now) steps.now) }
+    ensures { IfOk result (λ made. made.items ≡ map (written_step (new_numbers heads.now) goals.now) steps.now) }
 {
     let mut written = Vec::new(alloc);
     for step in steps {
@@ -71,12 +82,12 @@ fn write_case(
     alloc: Global,
     table: &Table,
     goals: &[usize],
-    heads: &[usize],
+    heads: &[Place],
     head: u64,
     choice: &Choice,
 ) -> Result<ReadCase, NoMemory>
     requires { IsWritable table.now.nodes (length goals.now) (length heads.now) choice.now }
-    ensures { IfOk result (IsMadeOf table.now.nodes heads.now goals.now head choice.now) }
+    ensures { IfOk result (IsMadeOf table.now.nodes (new_numbers heads.now) goals.now head choice.now) }
 {
     let steps = table_steps(alloc, table, choice.root)?;
     let steps = write_steps(alloc, goals, heads, &steps)?;
@@ -89,13 +100,13 @@ fn add_cases(
     alloc: Global,
     table: &Table,
     goals: &[usize],
-    heads: &[usize],
+    heads: &[Place],
     head: u64,
     choices: &[Choice],
     cases: &mut Vec<ReadCase>,
 ) -> Result<(), NoMemory>
     requires { AllByRecursion (IsWritable table.now.nodes (length goals.now) (length heads.now)) choices.now }
-    ensures { OnOk result ((more : List ReadCase) × (cases.new.items ≡ cases.old.items ++ more) × AllZip (IsMadeOf table.now.nodes heads.now goals.now head) choices.now more) }
+    ensures { OnOk result ((more : List ReadCase) × (cases.new.items ≡ cases.old.items ++ more) × AllZip (IsMadeOf table.now.nodes (new_numbers heads.now) goals.now head) choices.now more) }
 {
     for choice in choices {
         cases.push(write_case(alloc, table, goals, heads, head, choice)?)?;
@@ -108,14 +119,15 @@ pub(crate) fn write_cases(
     alloc: Global,
     table: &Table,
     goals: &[usize],
-    heads: &[usize],
+    heads: &[Place],
     sorts: &[bool],
     elements: usize,
     choices: &[Choice],
 ) -> Result<Vec<ReadCase>, NoMemory>
     requires writable { AllByRecursion (IsWritable table.now.nodes (length goals.now) (length heads.now)) choices.now }
     requires small { elements + length sorts.now + 2 < 2 ^ 64 }
-    ensures { IfOk result (λ made. AreWrittenCases table.now.nodes heads.now goals.now sorts.now elements choices.now made.items) }
+    ensures cases { IfOk result (λ made. AreWrittenCases table.now.nodes (new_numbers heads.now) goals.now sorts.now elements choices.now made.items) }
+    ensures few { AreFew heads.now }
 {
     let (mut at_elements, mut at_texts) = cut_choices(choices, elements + 1);
     let mut element = 1;

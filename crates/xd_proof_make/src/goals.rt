@@ -9,11 +9,12 @@ ghost use Rattle.xd_heads.specs.CellsView.{CellsView};
 ghost use Rattle.xd_heads.specs.Growing.{GrowsTypes};
 ghost use Rattle.xd_heads.specs.Mirrors.{IsTypeState, Mirrors};
 ghost use Rattle.xd_syntax.specs.Kept.{ProgramTable};
+ghost use Rattle.xd_proof_make.specs.Few.{AreFew};
 ghost use Rattle.xd_proof_make.specs.Known.{AreKnown, HasKnown, IsIdOf, KeepsKnown};
 ghost use Rattle.xd_proof_make.specs.Made.{CanWrite, HasTypes, IsEmptyRight, IsGoalMade, IsTypedRow};
 
 use crate::cases::write_cases;
-use crate::places::right_places;
+use crate::places::{all_sorts, right_places};
 use crate::states::{Known, known_of, learn, learn_all};
 use std::alloc::Global;
 use xd_auto::{Auto, State};
@@ -73,7 +74,8 @@ fn write_goal(
     let left = table.left(goal);
     let rights = table.rights(goal);
     let known = known_of(states, left);
-    let places = right_places(alloc, states, rights)?;
+    let sorts = all_sorts(alloc, states, rights)?;
+    let places = right_places(alloc, &sorts)?;
     let cases = write_cases(
         alloc,
         table,
@@ -92,6 +94,11 @@ fn write_goal(
     })
 }
 
+/// No more goals fit into memory.
+fn see_few(goals: &[ProofGoal])
+    ensures { AreFew goals.now }
+{}
+
 /// Goals of the table as goals of a proof.
 pub(crate) fn write_goals(
     alloc: Global,
@@ -103,13 +110,16 @@ pub(crate) fn write_goals(
 ) -> Result<Vec<ProofGoal>, NoMemory>
     requires there { AllByRecursion (λ g. g < length table.now.rows) goals.now }
     requires can { AllByRecursion (CanWrite auto.now table.now states.now numbers.now) goals.now }
-    ensures { IfOk result (λ made. (p : ProgramTable) (c : CellsView) → Mirrors p c auto.now → AreKnown p c states.now → AllZip (λ g m. IsGoalMade p c auto.now table.now.nodes numbers.now (row_at table.now.rows g) m) goals.now made.items) }
+    ensures made { IfOk result (λ made. (p : ProgramTable) (c : CellsView) → Mirrors p c auto.now → AreKnown p c states.now → AllZip (λ g m. IsGoalMade p c auto.now table.now.nodes numbers.now (row_at table.now.rows g) m) goals.now made.items) }
+    ensures few_goals { IfOk result (λ made. AreFew made.items) }
+    ensures few_states { AreFew states.now }
 {
     let mut made = Vec::new(alloc);
     for number in goals {
         let goal = table.goal(*number);
         made.push(write_goal(alloc, auto, table, states, numbers, goal)?)?;
     }
+    see_few(&made);
     Ok(made)
 }
 

@@ -12,6 +12,7 @@ ghost use Rattle.xd_heads.specs.HeadList.{head_at, kind_at};
 ghost use Rattle.xd_heads.specs.CellsView.{CellsView};
 ghost use Rattle.xd_syntax.specs.Kept.{ProgramTable};
 ghost use Rattle.xd_heads.specs.Mirrors.{IsTypeState, Mirrors};
+ghost use Rattle.xd_proof_make.specs.Few.{AreFew};
 ghost use Rattle.xd_proof_make.specs.Known.{AreKnown, HasKnown, IsKnown, KeepsKnown, known_at};
 ghost use Rattle.xd_proof_make.specs.Places.{is_text, sorts_of};
 
@@ -39,7 +40,8 @@ fn is_text(kind: &HeadKind) -> bool
 
 /// Which heads are texts.
 fn sorts_of(alloc: Global, heads: &[Head]) -> Result<Vec<bool>, NoMemory>
-    ensures { IfOk result (λ sorts. sorts.items ≡ map (λ h. is_text (kind_at h.kind)) heads.now) }
+    ensures sorts { IfOk result (λ sorts. sorts.items ≡ map (λ h. is_text (kind_at h.kind)) heads.now) }
+    ensures few { AreFew heads.now }
 {
     let mut sorts = Vec::new(alloc);
     for head in heads {

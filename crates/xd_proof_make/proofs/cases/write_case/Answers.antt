@@ -1,5 +1,6 @@
 use Rattle.std.proofs.Common.{refl, sym, subst, ap, map, length, ◌∙◌}
 use Rattle.std.specs.List.{AllByRecursion}
+use Rattle.xd_proof_make.specs.Places.{new_numbers}
 use Rattle.xd_proof_make.specs.Ordered.{IsStepWithin, written_step}
 use Rattle.xd_proof_make.proofs.Writing.{made_case, writable_steps}
 use Rattle.xd_proof_make.proofs.cases.write_case.Goals as goal
@@ -11,5 +12,5 @@ write_steps-requires c =
 
 pub returns : goal.returns
 returns c =
-    made_case c.args.table.now.nodes c.args.heads.now c.args.goals.now (length c.args.goals.now) (length c.args.heads.now) c.args.head c.args.choice.now _ c.in_ok-steps.steps.items c.requires c.in_ok-steps.ensures refl c.in_ok-atom.ensures
-    (c.in_ok-steps-2.ensures ∙ ap (map (written_step c.args.heads.now c.args.goals.now)) c.deref.ensures.value)
+    made_case c.args.table.now.nodes (new_numbers c.args.heads.now) c.args.goals.now (length c.args.goals.now) (length c.args.heads.now) c.args.head c.args.choice.now _ c.in_ok-steps.steps.items c.requires c.in_ok-steps.ensures refl c.in_ok-atom.ensures.same c.write_atom.ensures.spelled
+    (c.in_ok-steps-2.ensures ∙ ap (map (written_step (new_numbers c.args.heads.now) c.args.goals.now)) c.deref.ensures.value)

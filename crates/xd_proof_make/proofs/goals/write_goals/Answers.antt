@@ -19,7 +19,7 @@ loop-number-preserved c = λ p k m h.
     (subst (λ (g : ℕ). IsGoalMade p k c.args.auto.now c.args.table.now.nodes c.args.numbers.now (row_at c.args.table.now.rows g) c.in_ok-write_goal.field-0) c.goal-goal.ensures (c.in_ok-write_goal.ensures p k m h))
     c.in_ok-push.ensures.items
 
-pub returns : goal.returns
-returns c = λ p k m h.
+pub returns-clause-made : goal.returns-clause-made
+returns-clause-made c = λ p k m h.
     subst (λ (gs : List ℕ). AllZip (λ g x. IsGoalMade p k c.args.auto.now c.args.table.now.nodes c.args.numbers.now (row_at c.args.table.now.rows g) x) gs c.loop-number.made.items)
     (take_past c.args.goals.now c.loop-number.number-index c.loop-number-test.false) (c.loop-number.invariant p k m h)

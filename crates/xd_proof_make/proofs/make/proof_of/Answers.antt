@@ -3,6 +3,7 @@ use Rattle.std.specs.List.{AllByRecursion}
 use Rattle.xd_goals.specs.Rows.{row_at}
 use Rattle.xd_goals.proofs.Stepping.{trees_there}
 use Rattle.xd_heads.proofs.Mirrored.{mirrors_stay}
+use Rattle.xd_proof_make.specs.Few.{AreFew}
 use Rattle.xd_proof_make.specs.Made.{CanWrite, HasTypes, IsGoalMade, IsProofOf, IsTypedRow}
 use Rattle.xd_proof_make.specs.declared.states.Known.{Known}
 use Rattle.xd_proof_make.proofs.Proving.{all_can, all_fit, all_made, all_there, all_typed_rows, holds_there, made_proof, some_made}
@@ -50,7 +51,7 @@ pub new-requires : goal.new-requires
 new-requires c =
     some_made (λ g x. IsGoalMade c.learn_goals.new.sound c.args.cells.now c.args.auto.now c.args.table.now.nodes c.in_ok-reached.reached.numbers.items (row_at c.args.table.now.rows g) x) c.in_ok-reached.reached.order.items c.in_ok-goals.goals.items c.args.goal.number
     (all_made c.learn_goals.new.sound c.args.cells.now c.args.auto.now c.args.table.now c.learn_goals.new.states.items c.deref-2.result.now c.in_ok-reached.reached.numbers.items c.deref-3.result.now
-    c.in_ok-reached.reached.order.items c.deref-4.result.now c.in_ok-goals.goals.items c.in_ok-goals.ensures c.deref-2.ensures.value c.deref-3.ensures.value c.deref-4.ensures.value
+    c.in_ok-reached.reached.order.items c.deref-4.result.now c.in_ok-goals.goals.items c.in_ok-goals.ensures.made c.deref-2.ensures.value c.deref-3.ensures.value c.deref-4.ensures.value
     (mirrors_stay c.args.sound.now c.learn_goals.new.sound c.args.cells.now c.args.auto.now c.requires.mirrors c.learn_goals.ensures.grows.adds c.learn_goals.ensures.grows.same)
     (c.learn_goals.ensures.known (c.in_ok-states.ensures.known c.args.sound.now c.args.cells.now)))
     c.in_ok-reached.ensures.first
@@ -61,8 +62,11 @@ returns-clause-proof c =
     (made_proof c.learn_goals.new.sound c.args.cells.now c.args.auto.now c.requires.stands.0 c.args.table.now c.requires.stands.1 c.args.goal.number c.in_ok-reached.reached.order.items c.in_ok-reached.reached.numbers.items c.in_ok-reached.ensures
     c.in_ok-goals.goals.items
     (all_made c.learn_goals.new.sound c.args.cells.now c.args.auto.now c.args.table.now c.learn_goals.new.states.items c.deref-2.result.now c.in_ok-reached.reached.numbers.items c.deref-3.result.now
-    c.in_ok-reached.reached.order.items c.deref-4.result.now c.in_ok-goals.goals.items c.in_ok-goals.ensures c.deref-2.ensures.value c.deref-3.ensures.value c.deref-4.ensures.value
+    c.in_ok-reached.reached.order.items c.deref-4.result.now c.in_ok-goals.goals.items c.in_ok-goals.ensures.made c.deref-2.ensures.value c.deref-3.ensures.value c.deref-4.ensures.value
     (mirrors_stay c.args.sound.now c.learn_goals.new.sound c.args.cells.now c.args.auto.now c.requires.mirrors c.learn_goals.ensures.grows.adds c.learn_goals.ensures.grows.same)
     (c.learn_goals.ensures.known (c.in_ok-states.ensures.known c.args.sound.now c.args.cells.now)))
     (mirrors_stay c.args.sound.now c.learn_goals.new.sound c.args.cells.now c.args.auto.now c.requires.mirrors c.learn_goals.ensures.grows.adds c.learn_goals.ensures.grows.same)
-    c.program-program.ensures.sound)
+    c.program-program.ensures.sound
+    c.in_ok-goals.ensures.few_goals c.learn_goals.new.states.items (subst (λ (ss : List (Option Known)). AreFew ss) c.deref-2.ensures.value c.write_goals.ensures.few_states) (c.learn_goals.ensures.keeps.sized ∙ (c.in_ok-states.ensures.sized ∙ c.len.ensures.value))
+    (all_fit c.args.sound.now c.args.cells.now c.args.auto.now c.requires.stands.0 c.args.table.now c.args.goal.number c.in_ok-reached.reached.order.items c.in_ok-reached.reached.numbers.items c.requires.mirrors c.requires.stands.1
+    c.requires.settled c.requires.types c.in_ok-reached.ensures))
