@@ -6,21 +6,20 @@ use Rattle.std.specs.Ordering.{nat_cmp}
 use Rattle.std.specs.Cmp.Lexicographic.{slice_cmp}
 use Rattle.std.proofs.lemmas.List.{take_more, append-nil, map-append, length-take-le}
 use Rattle.std.proofs.lemmas.Grind.{flat_map-append}
-use Rattle.xd_doc.specs.Classes.{NameClass, IsClass, IsTextClass, class_has, is_named}
+use Rattle.xd_doc.specs.Classes.{NameClass, is_named}
 use Rattle.xd_auto.specs.declared.auto.State.{State}
 use Rattle.xd_auto.specs.declared.auto.LabelMove.{LabelMove}
 use Rattle.xd_auto.specs.declared.auto.TextMove.{TextMove}
 use Rattle.xd_auto.specs.Automaton.{Automaton, moves_at}
 use Rattle.xd_rules.specs.declared.atom.Atom.{Atom}
-use Rattle.xd_rules.specs.declared.atom.Atom.TheVariants.{Label, OtherLabel, Text, OtherText}
 use Rattle.xd_rules.specs.Members.{IsOneOf}
-use Rattle.xd_rules.specs.Heads.{Head, element_in, text_in, Named, AreNames, IsSorted, matches, atoms_of, all_atoms, label_names, text_names}
+use Rattle.xd_rules.specs.Heads.{Head, Named, AreNames, IsSorted, matches, atoms_of, all_atoms, label_names, text_names}
 use Rattle.xd_rules.specs.Rules.{CaseKey, keyed, wanted_cases}
 use Rattle.xd_rules.proofs.Members.{one_of-append_left}
 use Rattle.xd_rules.proofs.Atoms.{labels_are_named, texts_are_named, one_of_names}
-use Rattle.xd_rules.proofs.Names.{kept_all}
+use Rattle.xd_rules.specs.Listed.{AreAmong}
 use Rattle.xd_goals.specs.Moves.{label_head, text_head, heads_of}
-use Rattle.xd_goals.specs.Cases.{AreAmong, HasHead, IsCaseOf, IsHeadNamed, label_wants, text_wants, want_of, want_key, wants_at, wants_of, head_labels, head_texts}
+use Rattle.xd_goals.specs.Cases.{HasHead, IsCaseOf, IsHeadNamed, want_of, want_key, wants_at, wants_of, head_labels, head_texts}
 use Rattle.xd_goals.specs.declared.heads.Want.{Want}
 use Rattle.xd_goals.proofs.Lists.{all_at}
 
@@ -29,136 +28,6 @@ take_all [] zero le = refl
 take_all [] (suc i) le = refl
 take_all (x ∷ xs) zero le = absurd (omega arith)
 take_all {X} (x ∷ xs) (suc i) le = ap (λ (ys : List X). x ∷ ys) (take_all xs i (omega arith))
-
-pub filter-append : {X : Type 0} (p : X → Bool) (xs ys : List X) → filter p (xs ++ ys) ≡ filter p xs ++ filter p ys
-filter-append p [] ys = refl
-filter-append {X} p (x ∷ xs) ys = go (p x) (filter-append p xs ys)
-  where
-    go : (b : Bool) → filter p (xs ++ ys) ≡ filter p xs ++ filter p ys → cond b (x ∷ filter p (xs ++ ys)) (filter p (xs ++ ys)) ≡ cond b (x ∷ filter p xs) (filter p xs) ++ filter p ys
-    go true e = ap (λ (zs : List X). x ∷ zs) e
-    go false e = e
-
-filter-map : {X Y : Type 0} (p : Y → Bool) (f : X → Y) (xs : List X) → filter p (map f xs) ≡ map f (filter (λ x. p (f x)) xs)
-filter-map p f [] = refl
-filter-map {X} {Y} p f (x ∷ xs) = go (p (f x)) (filter-map p f xs)
-  where
-    go : (b : Bool) → filter p (map f xs) ≡ map f (filter (λ x. p (f x)) xs) → cond b (f x ∷ filter p (map f xs)) (filter p (map f xs)) ≡ map f (cond b (x ∷ filter (λ x. p (f x)) xs) (filter (λ x. p (f x)) xs))
-    go true e = ap (λ (zs : List Y). f x ∷ zs) e
-    go false e = e
-
-filter-none : {X : Type 0} (xs : List X) → filter (λ (x : X). false) xs ≡ []
-filter-none [] = refl
-filter-none (x ∷ xs) = filter-none xs
-
--- the atoms of a class of labels, and of a class of texts
-abbrev pub others_of : {X : Type 0} → Bool → X → List X
-others_of true x = x ∷ []
-others_of false x = []
-
-cond_others : {X : Type 0} (b : Bool) (x : X) → cond b (x ∷ []) [] ≡ others_of b x
-cond_others true x = refl
-cond_others false x = refl
-
-label_atoms : (named : Named) (c : NameClass) → filter (λ a. matches (element_in c) a) (all_atoms named) ≡ map Label (filter (class_has c) named.labels) ++ others_of c.except OtherLabel
-label_atoms named c =
-    filter-append (λ a. matches (element_in c) a) (map Label named.labels ++ OtherLabel ∷ []) (map Text named.texts ++ OtherText ∷ [])
-    ∙ ap (λ (zs : List Atom). filter (λ a. matches (element_in c) a) (map Label named.labels ++ OtherLabel ∷ []) ++ zs)
-    (filter-append (λ a. matches (element_in c) a) (map Text named.texts) (OtherText ∷ [])
-    ∙ append-nil (filter (λ a. matches (element_in c) a) (map Text named.texts))
-    ∙ filter-map (λ a. matches (element_in c) a) Text named.texts ∙ ap (map Text) (filter-none named.texts))
-    ∙ append-nil (filter (λ a. matches (element_in c) a) (map Label named.labels ++ OtherLabel ∷ []))
-    ∙ filter-append (λ a. matches (element_in c) a) (map Label named.labels) (OtherLabel ∷ [])
-    ∙ ap (λ (zs : List Atom). zs ++ cond c.except (OtherLabel ∷ []) []) (filter-map (λ a. matches (element_in c) a) Label named.labels)
-    ∙ ap (λ (zs : List Atom). map Label (filter (class_has c) named.labels) ++ zs) (cond_others c.except OtherLabel)
-
-text_atoms : (named : Named) (c : NameClass) → filter (λ a. matches (text_in c) a) (all_atoms named) ≡ map Text (filter (class_has c) named.texts) ++ others_of c.except OtherText
-text_atoms named c =
-    filter-append (λ a. matches (text_in c) a) (map Label named.labels ++ OtherLabel ∷ []) (map Text named.texts ++ OtherText ∷ [])
-    ∙ ap (λ (zs : List Atom). zs ++ filter (λ a. matches (text_in c) a) (map Text named.texts ++ OtherText ∷ []))
-    (filter-append (λ a. matches (text_in c) a) (map Label named.labels) (OtherLabel ∷ [])
-    ∙ append-nil (filter (λ a. matches (text_in c) a) (map Label named.labels))
-    ∙ filter-map (λ a. matches (text_in c) a) Label named.labels ∙ ap (map Label) (filter-none named.labels))
-    ∙ filter-append (λ a. matches (text_in c) a) (map Text named.texts) (OtherText ∷ [])
-    ∙ ap (λ (zs : List Atom). zs ++ cond c.except (OtherText ∷ []) []) (filter-map (λ a. matches (text_in c) a) Text named.texts)
-    ∙ ap (λ (zs : List Atom). map Text (filter (class_has c) named.texts) ++ zs) (cond_others c.except OtherText)
-
--- of a class that names what it has, its names
-kept_names : (c : NameClass) (all : List (List ℕ)) → c.except ≡ false → IsStrictlySortedBy (slice_cmp nat_cmp) all → IsStrictlySortedBy (slice_cmp nat_cmp) c.names → AreAmong c.names all → filter (class_has c) all ≡ c.names
-kept_names c all e s t among = same_test c.except e ∙ kept_all all c.names s t among
-  where
-    same_test : (b : Bool) → b ≡ false → filter (class_has c) all ≡ filter (is_named c.names) all
-    same_test b p = subst (λ (x : Bool). filter (class_has (record { names = c.names; except = x })) all ≡ filter (is_named c.names) all) (sym e) refl
-
-kept_own : (c : NameClass) → c.except ≡ false → IsStrictlySortedBy (slice_cmp nat_cmp) c.names → filter (class_has c) c.names ≡ c.names
-kept_own c e s = kept_names c c.names e s s (λ l h. h)
-
-module _ (named : Named) (n : ℕ) (c : NameClass) (x y : State) where
-  abbrev lh : Head State
-  lh = record { kind = element_in c; content = x; rest = y }
-
-  abbrev th : Head State
-  th = record { kind = text_in c; content = y; rest = y }
-
-  wants_label : wants_at named n lh ≡ label_wants n lh (filter (class_has c) named.labels) ++ map (want_of n lh) (others_of c.except OtherLabel)
-  wants_label = ap (map (want_of n lh)) (label_atoms named c) ∙ map-append (want_of n lh) (map Label (filter (class_has c) named.labels)) (others_of c.except OtherLabel)
-
-  wants_text : wants_at named n th ≡ text_wants n th (filter (class_has c) named.texts) ++ map (want_of n th) (others_of c.except OtherText)
-  wants_text = ap (map (want_of n th)) (text_atoms named c) ∙ map-append (want_of n th) (map Text (filter (class_has c) named.texts)) (others_of c.except OtherText)
-
-  -- of a class that names what it has, and of one that excepts names
-  pub label_own : (old new : List Want) (names : List (List ℕ)) → c.except ≡ false → IsClass c → IsStrictlySortedBy (slice_cmp nat_cmp) named.labels → AreAmong c.names named.labels → names ≡ c.names
-      → new ≡ old ++ label_wants n lh (filter (class_has c) names) → new ≡ old ++ wants_at named n lh
-  label_own old new names e k s among same h =
-      h ∙ ap (λ (ws : List Want). old ++ ws)
-      (ap (λ (ls : List (List ℕ)). label_wants n lh (filter (class_has c) ls)) same ∙ ap (label_wants n lh) (kept_own c e k.sorted ∙ sym (kept_names c named.labels e s k.sorted among))
-      ∙ sym (append-nil (label_wants n lh (filter (class_has c) named.labels)))
-      ∙ ap (λ (b : Bool). label_wants n lh (filter (class_has c) named.labels) ++ map (want_of n lh) (others_of b OtherLabel)) (sym e) ∙ sym wants_label)
-
-  pub label_others : (old mid new : List Want) (names : List (List ℕ)) → c.except ≡ true → names ≡ named.labels → mid ≡ old ++ label_wants n lh (filter (class_has c) names)
-      → new ≡ mid ++ want_of n lh OtherLabel ∷ [] → new ≡ old ++ wants_at named n lh
-  label_others old mid new names e same h k =
-      k ∙ ap (λ (ws : List Want). ws ++ want_of n lh OtherLabel ∷ []) (h ∙ ap (λ (ls : List (List ℕ)). old ++ label_wants n lh (filter (class_has c) ls)) same)
-      ∙ append_assoc old (label_wants n lh (filter (class_has c) named.labels)) (want_of n lh OtherLabel ∷ [])
-      ∙ ap (λ (ws : List Want). old ++ ws) (ap (λ (b : Bool). label_wants n lh (filter (class_has c) named.labels) ++ map (want_of n lh) (others_of b OtherLabel)) (sym e) ∙ sym wants_label)
-
-  pub text_own : (old new : List Want) (names : List (List ℕ)) → c.except ≡ false → IsTextClass c → IsStrictlySortedBy (slice_cmp nat_cmp) named.texts → AreAmong c.names named.texts → names ≡ c.names
-      → new ≡ old ++ text_wants n th (filter (class_has c) names) → new ≡ old ++ wants_at named n th
-  text_own old new names e k s among same h =
-      h ∙ ap (λ (ws : List Want). old ++ ws)
-      (ap (λ (ls : List (List ℕ)). text_wants n th (filter (class_has c) ls)) same ∙ ap (text_wants n th) (kept_own c e k.sorted ∙ sym (kept_names c named.texts e s k.sorted among))
-      ∙ sym (append-nil (text_wants n th (filter (class_has c) named.texts)))
-      ∙ ap (λ (b : Bool). text_wants n th (filter (class_has c) named.texts) ++ map (want_of n th) (others_of b OtherText)) (sym e) ∙ sym wants_text)
-
-  pub text_others : (old mid new : List Want) (names : List (List ℕ)) → c.except ≡ true → names ≡ named.texts → mid ≡ old ++ text_wants n th (filter (class_has c) names)
-      → new ≡ mid ++ want_of n th OtherText ∷ [] → new ≡ old ++ wants_at named n th
-  text_others old mid new names e same h k =
-      k ∙ ap (λ (ws : List Want). ws ++ want_of n th OtherText ∷ []) (h ∙ ap (λ (ls : List (List ℕ)). old ++ text_wants n th (filter (class_has c) ls)) same)
-      ∙ append_assoc old (text_wants n th (filter (class_has c) named.texts)) (want_of n th OtherText ∷ [])
-      ∙ ap (λ (ws : List Want). old ++ ws) (ap (λ (b : Bool). text_wants n th (filter (class_has c) named.texts) ++ map (want_of n th) (others_of b OtherText)) (sym e) ∙ sym wants_text)
-
--- a loop over names
-pub filter-take_more : (p : List ℕ → Bool) (ls : List (List ℕ)) (i : ℕ) (l : List ℕ) → i < length ls → l ≡ get_or ls i l → filter p (take (i + 1) ls) ≡ filter p (take i ls) ++ cond (p l) (l ∷ []) []
-filter-take_more p ls i l lt e =
-    ap (filter p) (take_more ls i l lt) ∙ filter-append p (take i ls) (get_or ls i l ∷ []) ∙ ap (λ (m : List ℕ). filter p (take i ls) ++ cond (p m) (m ∷ []) []) (sym e)
-
-module _ (h : Head State) (n : ℕ) (p : List ℕ → Bool) (old items : List Want) (ls : List (List ℕ)) (i : ℕ) (l : List ℕ) (lt : i < length ls) (e : l ≡ get_or ls i l) where
-  pub label_hit : (new : List Want) → p l ≡ true → items ≡ old ++ label_wants n h (filter p (take i ls)) → new ≡ items ++ want_of n h (Label l) ∷ [] → new ≡ old ++ label_wants n h (filter p (take (i + 1) ls))
-  label_hit new t inv k =
-      k ∙ ap (λ (ws : List Want). ws ++ want_of n h (Label l) ∷ []) inv ∙ append_assoc old (label_wants n h (filter p (take i ls))) (want_of n h (Label l) ∷ [])
-      ∙ ap (λ (ws : List Want). old ++ ws) (sym (ap (label_wants n h) (filter-take_more p ls i l lt e ∙ ap (λ (b : Bool). filter p (take i ls) ++ cond b (l ∷ []) []) t)
-      ∙ ap (map (want_of n h)) (map-append Label (filter p (take i ls)) (l ∷ [])) ∙ map-append (want_of n h) (map Label (filter p (take i ls))) (Label l ∷ [])))
-
-  pub label_miss : p l ≡ false → items ≡ old ++ label_wants n h (filter p (take i ls)) → items ≡ old ++ label_wants n h (filter p (take (i + 1) ls))
-  label_miss f inv = inv ∙ ap (λ (ws : List (List ℕ)). old ++ label_wants n h ws) (sym (filter-take_more p ls i l lt e ∙ ap (λ (b : Bool). filter p (take i ls) ++ cond b (l ∷ []) []) f ∙ append-nil (filter p (take i ls))))
-
-  pub text_hit : (new : List Want) → p l ≡ true → items ≡ old ++ text_wants n h (filter p (take i ls)) → new ≡ items ++ want_of n h (Text l) ∷ [] → new ≡ old ++ text_wants n h (filter p (take (i + 1) ls))
-  text_hit new t inv k =
-      k ∙ ap (λ (ws : List Want). ws ++ want_of n h (Text l) ∷ []) inv ∙ append_assoc old (text_wants n h (filter p (take i ls))) (want_of n h (Text l) ∷ [])
-      ∙ ap (λ (ws : List Want). old ++ ws) (sym (ap (text_wants n h) (filter-take_more p ls i l lt e ∙ ap (λ (b : Bool). filter p (take i ls) ++ cond b (l ∷ []) []) t)
-      ∙ ap (map (want_of n h)) (map-append Text (filter p (take i ls)) (l ∷ [])) ∙ map-append (want_of n h) (map Text (filter p (take i ls))) (Text l ∷ [])))
-
-  pub text_miss : p l ≡ false → items ≡ old ++ text_wants n h (filter p (take i ls)) → items ≡ old ++ text_wants n h (filter p (take (i + 1) ls))
-  text_miss f inv = inv ∙ ap (λ (ws : List (List ℕ)). old ++ text_wants n h ws) (sym (filter-take_more p ls i l lt e ∙ ap (λ (b : Bool). filter p (take i ls) ++ cond b (l ∷ []) []) f ∙ append-nil (filter p (take i ls))))
 
 pub wants_of-append : (named : Named) (k : ℕ) (hs gs : List (Head State)) → wants_of named k (hs ++ gs) ≡ wants_of named k hs ++ wants_of named (k + length hs) gs
 wants_of-append named k [] gs = let e : k ≡ k + 0 = omega arith in ap (λ (n : ℕ). wants_of named n gs) e

@@ -2,12 +2,13 @@
 use Rattle.std.specs.Prelude.{◌≡◌, ℕ, suc, true, false, List, [], ◌∷◌, ◌++◌, map, Some}
 use Rattle.std.specs.List.{AllByRecursion, list_any}
 use Rattle.xd_doc.specs.Document.{Document, text, element}
-use Rattle.xd_doc.specs.Classes.{NameClass, class_has, is_named}
+use Rattle.xd_doc.specs.Classes.{NameClass, class_has}
 use Rattle.xd_doc.specs.declared.store.Seq.{Seq}
 use Rattle.xd_auto.specs.declared.auto.State.{State}
 use Rattle.xd_auto.specs.Automaton.{Automaton}
 use Rattle.xd_rules.specs.declared.atom.Atom.{Atom}
 use Rattle.xd_rules.specs.declared.atom.Atom.TheVariants.{Label, OtherLabel, Text, OtherText}
+use Rattle.xd_rules.specs.Listed.{AreAmong}
 use Rattle.xd_rules.specs.Members.{IsOneOf}
 use Rattle.xd_rules.specs.Heads.{Head, Named, AreNames, atoms_of, label_names, text_names, matches, is_text_atom}
 use Rattle.xd_rules.specs.Rules.{CaseKey, Claim, head_number, keyed, right_heads, wanted_cases}
@@ -22,8 +23,11 @@ use Rattle.xd_goals.specs.declared.table.Choice.{Choice}
 use Rattle.xd_goals.specs.declared.work.Settled.{Settled}
 use Rattle.xd_goals.specs.declared.work.Settled.TheVariants.{Holds, Separates}
 
+abbrev pub want_at : ℕ → State → State → Atom → Want
+want_at number content rest atom = record { head = number; atom = atom; content = content; rest = rest }
+
 abbrev pub want_of : ℕ → Head State → Atom → Want
-want_of number h atom = record { head = number; atom = atom; content = h.content; rest = h.rest }
+want_of number h atom = want_at number h.content h.rest atom
 
 abbrev pub wants_at : Named → ℕ → Head State → List Want
 wants_at named k h = map (want_of k h) (atoms_of named h)
@@ -35,13 +39,6 @@ wants_of named k (h ∷ hs) = wants_at named k h ++ wants_of named (suc k) hs
 abbrev pub want_key : Want → CaseKey
 want_key w = keyed w.head w.atom
 
--- a head at labels, and at texts
-abbrev pub label_wants : ℕ → Head State → List (List ℕ) → List Want
-label_wants k h ls = map (want_of k h) (map Label ls)
-
-abbrev pub text_wants : ℕ → Head State → List (List ℕ) → List Want
-text_wants k h ts = map (want_of k h) (map Text ts)
-
 abbrev pub head_labels : Head State → List (List ℕ)
 head_labels h = label_names h.kind
 
@@ -51,10 +48,6 @@ head_texts h = text_names h.kind
 -- the names of two classes
 abbrev pub names_in : NameClass → NameClass → Named
 names_in labels texts = record { labels = labels.names; texts = texts.names }
-
--- all these names are among the others
-abbrev pub AreAmong : List (List ℕ) → List (List ℕ) → Type 0
-AreAmong names all = (name : List ℕ) → is_named names name ≡ true → is_named all name ≡ true
 
 -- the labels and texts that the head names are among these
 pub record IsHeadNamed (named : Named) (h : Head State) : Type 0 where

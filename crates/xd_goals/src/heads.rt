@@ -1,18 +1,18 @@
 //! Heads of states, as a case of a goal sees them.
 
 ghost use Rattle.std.specs.Prelude.{◌≡◌, ◌+◌, ◌<◌, ◌≤◌, ◌^◌, ◌++◌, length, map, slice_index_or, IfOk, OnOk, true};
-ghost use Rattle.std.specs.List.{AllByRecursion, filter, flat_map};
-ghost use Rattle.xd_doc.specs.Classes.{class_has};
+ghost use Rattle.std.specs.List.{AllByRecursion, flat_map};
 ghost use Rattle.xd_auto.specs.Automaton.{IsState, moves_at};
 ghost use Rattle.xd_rules.specs.Heads.{AreNames, IsSorted, element_in, is_text_atom, text_in};
 ghost use Rattle.xd_goals.specs.Moves.{heads_of, label_head, text_head};
 ghost use Rattle.xd_goals.specs.Trees.{matching_sides};
-ghost use Rattle.xd_goals.specs.Cases.{AreAmong, HasHead, IsHeadNamed, head_labels, head_texts, label_wants, names_in, text_wants, wants_at, wants_of};
+ghost use Rattle.xd_rules.specs.Listed.{AreAmong};
+ghost use Rattle.xd_goals.specs.Cases.{HasHead, IsHeadNamed, head_labels, head_texts, names_in, want_at, wants_at, wants_of};
 
 use std::alloc::Global;
 use xd_auto::{Auto, State};
 use xd_doc::{Class, Label, NoMemory, Text, Words};
-use xd_rules::Atom;
+use xd_rules::{Atom, label_atoms, text_atoms};
 
 /// A right head that matches an atom: its number, from 1 on, and what it says of the content and of
 /// the rest.
@@ -48,6 +48,18 @@ pub(crate) fn is_text(atom: &Atom) -> bool
         Atom::OtherLabel => false,
         Atom::Text(_) => true,
         Atom::OtherText => true,
+    }
+}
+
+/// An equal atom.
+pub(crate) fn share(atom: &Atom) -> Result<Atom, NoMemory>
+    ensures { IfOk result (λ shared. shared ≡ atom.now) }
+{
+    match atom {
+        Atom::Label(label) => Ok(Atom::Label(label.share()?)),
+        Atom::OtherLabel => Ok(Atom::OtherLabel),
+        Atom::Text(text) => Ok(Atom::Text(text.share()?)),
+        Atom::OtherText => Ok(Atom::OtherText),
     }
 }
 
@@ -322,24 +334,20 @@ pub(crate) fn unnamed_of(
     Ok(Unnamed { labels, texts })
 }
 
-/// Puts the cases of a head at those of some labels that its class has behind the others.
-fn add_at_labels(
+/// Puts the cases of a head at these atoms behind the others.
+fn add_at_atoms(
     cases: &mut Vec<Want>,
-    labels: &[Label],
-    class: &Class,
+    atoms: &[Atom],
     head: usize,
     content: State,
     rest: State,
 ) -> Result<(), NoMemory>
-    ensures { OnOk result (cases.new.items ≡ cases.old.items ++ label_wants head (record { kind = element_in class.now; content = content; rest = rest }) (filter (class_has class.now) labels.now)) }
+    ensures { OnOk result (cases.new.items ≡ cases.old.items ++ map (want_at head content rest) atoms.now) }
 {
-    for label in labels {
-        if !class.has(label) {
-            continue;
-        }
+    for atom in atoms {
         cases.push(Want {
             head,
-            atom: Atom::Label(label.share()?),
+            atom: share(atom)?,
             content,
             rest,
         })?;
@@ -347,33 +355,9 @@ fn add_at_labels(
     Ok(())
 }
 
-/// Puts the cases of a head at those of some texts that its class has behind the others.
-fn add_at_texts(
-    cases: &mut Vec<Want>,
-    texts: &[Text],
-    words: &Words,
-    head: usize,
-    rest: State,
-) -> Result<(), NoMemory>
-    ensures { OnOk result (cases.new.items ≡ cases.old.items ++ text_wants head (record { kind = text_in words.now; content = rest; rest = rest }) (filter (class_has words.now) texts.now)) }
-{
-    for text in texts {
-        if !words.has(text) {
-            continue;
-        }
-        cases.push(Want {
-            head,
-            atom: Atom::Text(text.share()?),
-            content: rest,
-            rest,
-        })?;
-    }
-    Ok(())
-}
-
-/// Puts the cases of a move on an element behind the others: only of a class that excepts labels all
-/// labels that the goal names are tried.
+/// Puts the cases of a move on an element behind the others.
 fn add_label_cases(
+    alloc: Global,
     cases: &mut Vec<Want>,
     unnamed: &Unnamed,
     class: &Class,
@@ -384,22 +368,13 @@ fn add_label_cases(
     requires { AreAmong class.now.names unnamed.now.labels.names }
     ensures { OnOk result (cases.new.items ≡ cases.old.items ++ wants_at (names_in unnamed.now.labels unnamed.now.texts) head (record { kind = element_in class.now; content = content; rest = rest })) }
 {
-    let names = unnamed.labels.names();
-    if !class.takes_others() {
-        return add_at_labels(cases, class.names(), class, head, content, rest);
-    }
-    add_at_labels(cases, names, class, head, content, rest)?;
-    cases.push(Want {
-        head,
-        atom: Atom::OtherLabel,
-        content,
-        rest,
-    })?;
-    Ok(())
+    let atoms = label_atoms(alloc, class, &unnamed.labels)?;
+    add_at_atoms(cases, &atoms, head, content, rest)
 }
 
-/// Puts the cases of a move on a text behind the others, in the same way.
+/// Puts the cases of a move on a text behind the others.
 fn add_text_cases(
+    alloc: Global,
     cases: &mut Vec<Want>,
     unnamed: &Unnamed,
     words: &Words,
@@ -409,22 +384,13 @@ fn add_text_cases(
     requires { AreAmong words.now.names unnamed.now.texts.names }
     ensures { OnOk result (cases.new.items ≡ cases.old.items ++ wants_at (names_in unnamed.now.labels unnamed.now.texts) head (record { kind = text_in words.now; content = rest; rest = rest })) }
 {
-    let names = unnamed.texts.texts();
-    if !words.takes_others() {
-        return add_at_texts(cases, words.texts(), words, head, rest);
-    }
-    add_at_texts(cases, names, words, head, rest)?;
-    cases.push(Want {
-        head,
-        atom: Atom::OtherText,
-        content: rest,
-        rest,
-    })?;
-    Ok(())
+    let atoms = text_atoms(alloc, words, &unnamed.texts)?;
+    add_at_atoms(cases, &atoms, head, rest, rest)
 }
 
 /// Puts the cases of a state's moves on an element behind the others.
 fn add_state_label_cases(
+    alloc: Global,
     cases: &mut Vec<Want>,
     auto: &Auto,
     left: State,
@@ -438,6 +404,7 @@ fn add_state_label_cases(
     for number in 0..moves.len() {
         let step = &moves[number];
         add_label_cases(
+            alloc,
             cases,
             unnamed,
             &step.class,
@@ -451,6 +418,7 @@ fn add_state_label_cases(
 
 /// Puts the cases of a state's moves on a text behind the others.
 fn add_state_text_cases(
+    alloc: Global,
     cases: &mut Vec<Want>,
     auto: &Auto,
     left: State,
@@ -464,7 +432,14 @@ fn add_state_text_cases(
     let moves = auto.text_moves(left);
     for number in 0..moves.len() {
         let step = &moves[number];
-        add_text_cases(cases, unnamed, &step.words, before + number + 1, step.rest)?;
+        add_text_cases(
+            alloc,
+            cases,
+            unnamed,
+            &step.words,
+            before + number + 1,
+            step.rest,
+        )?;
     }
     Ok(())
 }
@@ -481,8 +456,8 @@ pub(crate) fn cases_of(
     ensures { IfOk result (λ cases. cases.items ≡ wants_of (names_in unnamed.now.labels unnamed.now.texts) 1 (heads_of auto.now left)) }
 {
     let mut cases = Vec::new(alloc);
-    add_state_label_cases(&mut cases, auto, left, unnamed)?;
-    add_state_text_cases(&mut cases, auto, left, unnamed)?;
+    add_state_label_cases(alloc, &mut cases, auto, left, unnamed)?;
+    add_state_text_cases(alloc, &mut cases, auto, left, unnamed)?;
     Ok(cases)
 }
 

@@ -16,25 +16,13 @@ ghost use Rattle.xd_goals.specs.declared.table.Standing.TheVariants.{Waiting};
 
 use crate::goals::{Goals, hold, refute};
 use crate::grow::{Grown, Task, grow, grow_text, node_at, repair};
-use crate::heads::{Unnamed, Want, cases_of, head_of, is_text, sides_of, unnamed_of};
+use crate::heads::{Unnamed, Want, cases_of, head_of, is_text, share, sides_of, unnamed_of};
 use crate::table::{Choice, ChoiceNode, GoalId, Row, Standing};
 use std::alloc::Global;
 use xd_auto::{Auto, State};
 use xd_doc::{NoMemory, Seq, Store};
 use xd_empty::{label_of, text_of};
 use xd_rules::Atom;
-
-/// An equal atom.
-fn share(atom: &Atom) -> Result<Atom, NoMemory>
-    ensures { IfOk result (λ shared. shared ≡ atom.now) }
-{
-    match atom {
-        Atom::Label(label) => Ok(Atom::Label(label.share()?)),
-        Atom::OtherLabel => Ok(Atom::OtherLabel),
-        Atom::Text(text) => Ok(Atom::Text(text.share()?)),
-        Atom::OtherText => Ok(Atom::OtherText),
-    }
-}
 
 /// Whether some state accepts the empty document.
 fn any_last(auto: &Auto, states: &[State]) -> bool

@@ -4,3 +4,4 @@ pub mod Walk
 pub mod Atoms
 pub mod Soundness
 pub mod Separation
+pub mod Listing

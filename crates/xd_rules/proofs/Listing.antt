@@ -1,0 +1,88 @@
+-- The atoms of a class, listed.
+use Rattle.std.proofs.Common.{ℕ, ◌≡◌, Bool, true, false, cond, List, [], ◌∷◌, ◌++◌, map, refl, sym, ap, ◌∙◌, subst}
+use Rattle.std.specs.List.{filter}
+use Rattle.std.specs.List.Sorted.{IsStrictlySortedBy}
+use Rattle.std.specs.Ordering.{nat_cmp}
+use Rattle.std.specs.Cmp.Lexicographic.{slice_cmp}
+use Rattle.std.proofs.lemmas.List.{append-nil}
+use Rattle.xd_doc.specs.Classes.{NameClass, class_has, is_named}
+use Rattle.xd_rules.specs.declared.atom.Atom.{Atom}
+use Rattle.xd_rules.specs.declared.atom.Atom.TheVariants.{Label, OtherLabel, Text, OtherText}
+use Rattle.xd_rules.specs.Heads.{element_in, text_in, Named, matches, all_atoms}
+use Rattle.xd_rules.specs.Listed.{AreAmong}
+use Rattle.xd_rules.proofs.Names.{kept_all}
+
+filter-append : {X : Type 0} (p : X → Bool) (xs ys : List X) → filter p (xs ++ ys) ≡ filter p xs ++ filter p ys
+filter-append p [] ys = refl
+filter-append {X} p (x ∷ xs) ys = go (p x) (filter-append p xs ys)
+  where
+    go : (b : Bool) → filter p (xs ++ ys) ≡ filter p xs ++ filter p ys → cond b (x ∷ filter p (xs ++ ys)) (filter p (xs ++ ys)) ≡ cond b (x ∷ filter p xs) (filter p xs) ++ filter p ys
+    go true e = ap (λ (zs : List X). x ∷ zs) e
+    go false e = e
+
+filter-map : {X Y : Type 0} (p : Y → Bool) (f : X → Y) (xs : List X) → filter p (map f xs) ≡ map f (filter (λ x. p (f x)) xs)
+filter-map p f [] = refl
+filter-map {X} {Y} p f (x ∷ xs) = go (p (f x)) (filter-map p f xs)
+  where
+    go : (b : Bool) → filter p (map f xs) ≡ map f (filter (λ x. p (f x)) xs) → cond b (f x ∷ filter p (map f xs)) (filter p (map f xs)) ≡ map f (cond b (x ∷ filter (λ x. p (f x)) xs) (filter (λ x. p (f x)) xs))
+    go true e = ap (λ (zs : List Y). f x ∷ zs) e
+    go false e = e
+
+filter-none : {X : Type 0} (xs : List X) → filter (λ (x : X). false) xs ≡ []
+filter-none [] = refl
+filter-none (x ∷ xs) = filter-none xs
+
+-- what stands behind the names of a class
+abbrev pub others_of : {X : Type 0} → Bool → X → List X
+others_of true x = x ∷ []
+others_of false x = []
+
+cond_others : {X : Type 0} (b : Bool) (x : X) → cond b (x ∷ []) [] ≡ others_of b x
+cond_others true x = refl
+cond_others false x = refl
+
+pub label_atoms_are : (named : Named) (c : NameClass) → filter (λ a. matches (element_in c) a) (all_atoms named) ≡ map Label (filter (class_has c) named.labels) ++ others_of c.except OtherLabel
+label_atoms_are named c =
+    filter-append (λ a. matches (element_in c) a) (map Label named.labels ++ OtherLabel ∷ []) (map Text named.texts ++ OtherText ∷ [])
+    ∙ ap (λ (zs : List Atom). filter (λ a. matches (element_in c) a) (map Label named.labels ++ OtherLabel ∷ []) ++ zs)
+    (filter-append (λ a. matches (element_in c) a) (map Text named.texts) (OtherText ∷ [])
+    ∙ append-nil (filter (λ a. matches (element_in c) a) (map Text named.texts))
+    ∙ filter-map (λ a. matches (element_in c) a) Text named.texts ∙ ap (map Text) (filter-none named.texts))
+    ∙ append-nil (filter (λ a. matches (element_in c) a) (map Label named.labels ++ OtherLabel ∷ []))
+    ∙ filter-append (λ a. matches (element_in c) a) (map Label named.labels) (OtherLabel ∷ [])
+    ∙ ap (λ (zs : List Atom). zs ++ cond c.except (OtherLabel ∷ []) []) (filter-map (λ a. matches (element_in c) a) Label named.labels)
+    ∙ ap (λ (zs : List Atom). map Label (filter (class_has c) named.labels) ++ zs) (cond_others c.except OtherLabel)
+
+pub text_atoms_are : (named : Named) (c : NameClass) → filter (λ a. matches (text_in c) a) (all_atoms named) ≡ map Text (filter (class_has c) named.texts) ++ others_of c.except OtherText
+text_atoms_are named c =
+    filter-append (λ a. matches (text_in c) a) (map Label named.labels ++ OtherLabel ∷ []) (map Text named.texts ++ OtherText ∷ [])
+    ∙ ap (λ (zs : List Atom). zs ++ filter (λ a. matches (text_in c) a) (map Text named.texts ++ OtherText ∷ []))
+    (filter-append (λ a. matches (text_in c) a) (map Label named.labels) (OtherLabel ∷ [])
+    ∙ append-nil (filter (λ a. matches (text_in c) a) (map Label named.labels))
+    ∙ filter-map (λ a. matches (text_in c) a) Label named.labels ∙ ap (map Label) (filter-none named.labels))
+    ∙ filter-append (λ a. matches (text_in c) a) (map Text named.texts) (OtherText ∷ [])
+    ∙ ap (λ (zs : List Atom). zs ++ cond c.except (OtherText ∷ []) []) (filter-map (λ a. matches (text_in c) a) Text named.texts)
+    ∙ ap (λ (zs : List Atom). map Text (filter (class_has c) named.texts) ++ zs) (cond_others c.except OtherText)
+
+-- of a class that names what it has, its names
+kept_names : (c : NameClass) (all : List (List ℕ)) → c.except ≡ false → IsStrictlySortedBy (slice_cmp nat_cmp) all → IsStrictlySortedBy (slice_cmp nat_cmp) c.names → AreAmong c.names all → filter (class_has c) all ≡ c.names
+kept_names c all e s t among = same_test c.except e ∙ kept_all all c.names s t among
+  where
+    same_test : (b : Bool) → b ≡ false → filter (class_has c) all ≡ filter (is_named c.names) all
+    same_test b p = subst (λ (x : Bool). filter (class_has (record { names = c.names; except = x })) all ≡ filter (is_named c.names) all) (sym e) refl
+
+-- a class that names what it has was asked of its own names, and one that excepts names of all of them
+module _ (this : List ℕ → Atom) (other : Atom) (c : NameClass) (all names : List (List ℕ)) (empty made : List Atom) where
+  pub own_atoms : empty ≡ [] → c.except ≡ false → IsStrictlySortedBy (slice_cmp nat_cmp) c.names → IsStrictlySortedBy (slice_cmp nat_cmp) all → AreAmong c.names all → names ≡ c.names
+      → made ≡ empty ++ map this (filter (class_has c) names) → made ≡ map this (filter (class_has c) all) ++ others_of c.except other
+  own_atoms none e s t among same h =
+      h ∙ ap (λ (as' : List Atom). as' ++ map this (filter (class_has c) names)) none
+      ∙ ap (map this) (ap (filter (class_has c)) same ∙ kept_names c c.names e s s (λ n m. m) ∙ sym (kept_names c all e t s among))
+      ∙ sym (append-nil (map this (filter (class_has c) all)))
+      ∙ ap (λ (b : Bool). map this (filter (class_has c) all) ++ others_of b other) (sym e)
+
+  pub other_atoms : empty ≡ [] → c.except ≡ true → names ≡ all → made ≡ empty ++ map this (filter (class_has c) names) → (new : List Atom) → new ≡ made ++ other ∷ []
+      → new ≡ map this (filter (class_has c) all) ++ others_of c.except other
+  other_atoms none e same h new k =
+      k ∙ ap (λ (as' : List Atom). as' ++ other ∷ []) (h ∙ ap (λ (as' : List Atom). as' ++ map this (filter (class_has c) names)) none ∙ ap (λ (ns : List (List ℕ)). map this (filter (class_has c) ns)) same)
+      ∙ ap (λ (b : Bool). map this (filter (class_has c) all) ++ others_of b other) (sym e)
