@@ -6,6 +6,8 @@ pub mod Merging
 pub mod Leading
 pub mod Bounding
 pub mod Reaching
+pub mod ChainLemmas
+pub mod LinkTests
 pub mod SoundTail
 pub mod TaskBounds
 pub mod Expanding

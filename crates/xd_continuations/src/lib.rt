@@ -4,8 +4,10 @@
 ghost use Rattle.xd_continuations.specs.Laws.{PiecesMean, MeaningsAreOne, MovesAreHeads, MovesContinue, MovesDecide, SoundRecursInTail, FinitelyMany, BoundsStayInSound, BoundsGrow, TasksStand, TasksStep, TasksGive, StatesAccept, ProgramsAreMerged, MovesAreNoDeeper};
 
 mod any;
+mod links;
 
 pub use any::meaning_of_any;
+pub use links::Link;
 
 /// A continuation is the list of the pieces of the type that it means.
 pub fn continuations_are_types()

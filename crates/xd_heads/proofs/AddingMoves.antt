@@ -27,14 +27,14 @@ use Rattle.xd_heads.specs.States.{AddsStates, StaysBounded, AreContinuationsFrom
 use Rattle.xd_heads.specs.declared.states.Owner.{Owner}
 use Rattle.xd_heads.specs.declared.states.Owner.TheVariants.{Continuation}
 use Rattle.xd_heads.specs.Compiled.{numbered, continuations_of, GetsState, fresh_state, Spares, SparesOthers, IsOfState, AreCompiled, AddsMoves, AreAllCompiled}
-use Rattle.xd_heads.specs.declared.cells.Cell.{Cell}
+use Rattle.xd_heads.specs.Cells.{Cell}
 use Rattle.xd_heads.specs.declared.expand.Found.{Found}
 use Rattle.xd_doc.specs.Document.{Document}
 use Rattle.xd_syntax.specs.Fits.{Fits}
 use Rattle.xd_laws.specs.Guarded.{Guarded}
 use Rattle.xd_continuations.proofs.Mirroring.{mirrors_accept}
 use Rattle.xd_continuations.proofs.MoveLemmas.{all_append, seq_of-pieces, IsMove, moves_continue}
-use Rattle.xd_heads.proofs.CellLemmas.{kept_length, kept_same}
+use Rattle.xd_continuations.proofs.ChainLemmas.{kept_length, kept_same}
 use Rattle.xd_continuations.proofs.Bounding.{bounded_pieces, bounded_start}
 use Rattle.xd_continuations.specs.Bounds.{IsBounded}
 use Rattle.xd_heads.proofs.Putting.{adds_none, adds_then, continuation_kept}

@@ -14,17 +14,17 @@ use Rattle.xd_auto.specs.declared.auto.LabelMove.{LabelMove}
 use Rattle.xd_auto.specs.declared.auto.TextMove.{TextMove}
 use Rattle.xd_laws.specs.Heads.{element_in, text_in}
 use Rattle.xd_continuations.specs.Continuation.{Move, moves, IsContinuation}
-use Rattle.xd_heads.specs.Cells.{KeepsCells}
+use Rattle.xd_continuations.specs.Chains.{KeepsLinks}
 use Rattle.xd_continuations.specs.Bounds.{IsBounded}
 use Rattle.xd_syntax.specs.TypeNames.{meanings}
 use Rattle.xd_heads.specs.Found.{continuation, piece_tree, AreBounded}
 use Rattle.xd_continuations.proofs.Bounding.{bounded_none}
 use Rattle.xd_continuations.specs.Mirrors.{Continuations, AreMirrored, no_move, on_label, on_text, AreMirrors}
 use Rattle.xd_heads.specs.Compiled.{numbered, continuations_of, fresh_state, GetsState, state_at, IsOfState, AreCompiled}
-use Rattle.xd_heads.specs.declared.cells.Cell.{Cell}
+use Rattle.xd_heads.specs.Cells.{Cell}
 use Rattle.xd_continuations.proofs.MoveLemmas.{all_append}
 use Rattle.xd_continuations.proofs.Reaching.{all_same}
-use Rattle.xd_heads.proofs.CellLemmas.{kept_length, list_none}
+use Rattle.xd_continuations.proofs.ChainLemmas.{kept_length, list_none}
 use Rattle.xd_heads.proofs.Putting.{continuation_kept}
 use Rattle.xd_heads.specs.States.{IsOfCell, number_of, number_at}
 use Rattle.xd_heads.specs.declared.states.Owner.{Owner}
@@ -53,11 +53,11 @@ mirrored_text C (on_text k' r' a) m t k r = on_text k' r' (mirrored_text C a m t
 
 -- ---- continuations of states
 
-known_kept : (types : List Row) (a b : List Cell) → KeepsCells a b → (o : Option ℕ) → ((n : ℕ) → o ≡ Some n → n ≤ length a) → (K : List Tree) → numbered types a o ≡ Some K → numbered types b o ≡ Some K
+known_kept : (types : List Row) (a b : List Cell) → KeepsLinks a b → (o : Option ℕ) → ((n : ℕ) → o ≡ Some n → n ≤ length a) → (K : List Tree) → numbered types a o ≡ Some K → numbered types b o ≡ Some K
 known_kept types a b k None h K e = cc
 known_kept types a b k (Some n) h K e = ap Some (continuation_kept types a b k n (h n refl)) ∙ e
 
-cells_more : (types : List Row) (a b : List Cell) (states : List Owner) → KeepsCells a b → AllByRecursion (IsOfCell (length a)) states → (s : State) (K : List Tree) →
+cells_more : (types : List Row) (a b : List Cell) (states : List Owner) → KeepsLinks a b → AllByRecursion (IsOfCell (length a)) states → (s : State) (K : List Tree) →
     continuations_of types a states s ≡ Some K → continuations_of types b states s ≡ Some K
 cells_more types a b states k n s K e = known_kept types a b k (number_at states (state_number s)) (λ m i. number_below (length a) states (state_number s) m n i) K e
 
@@ -73,11 +73,11 @@ states_more types cells states o s K e = pushed_known types cells states o (stat
 -- ---- one more cell, one more state
 
 module _ (types : List Row) (ds : List TypeDef) where
-  owner_kept : (a b : List Cell) → KeepsCells a b → (o : Owner) → IsOfCell (length a) o → IsOfCell (length b) o
+  owner_kept : (a b : List Cell) → KeepsLinks a b → (o : Owner) → IsOfCell (length a) o → IsOfCell (length b) o
   owner_kept a b k (Continuation n) h = let l = kept_length a b k in omega arith
   owner_kept a b k (Pattern n) h = tt
 
-  pub compiled_cells : (a b : List Cell) (states : List Owner) (auto : Automaton) (done : ℕ) (known : List Move) → KeepsCells a b →
+  pub compiled_cells : (a b : List Cell) (states : List Owner) (auto : Automaton) (done : ℕ) (known : List Move) → KeepsLinks a b →
       AreCompiled types ds a states auto done known → AreCompiled types ds b states auto done known
   compiled_cells a b states auto done known k c =
       let C = cells_more types a b states k c.numbers in

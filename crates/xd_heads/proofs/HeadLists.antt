@@ -25,7 +25,7 @@ use Rattle.xd_heads.specs.Growing.{GrowsTypes}
 use Rattle.xd_heads.specs.HeadList.{kind_at, head_at, content_at, ContentBelongs, HeadBelongs, IsHeadAt, IsKindOf, IsHeadFound, AreHeadsFound}
 use Rattle.xd_heads.specs.declared.listing.HeadKind.{HeadKind as RustKind}
 use Rattle.xd_heads.specs.declared.listing.HeadKind.TheVariants.{Label, Text as Text_in}
-use Rattle.xd_heads.specs.declared.cells.Cell.{Cell}
+use Rattle.xd_heads.specs.Cells.{Cell}
 use Rattle.xd_heads.specs.declared.expand.Found.{Found}
 use Rattle.xd_heads.specs.declared.listing.Head.{Head}
 use Rattle.xd_heads.proofs.AddingMoves.{none_deeper}
@@ -77,7 +77,7 @@ other_kind types T copy m c = record {
 
 module _ (p q : ProgramTable) (g : GrowsTypes p q) (cells : List Cell) (nodes : AreOfTypes p.types cells) where
   pub nodes_stay : AreOfTypes q.types cells
-  nodes_stay = all_same (λ (d : Cell). d.piece.node < length p.types) (λ (d : Cell). d.piece.node < length q.types) cells
+  nodes_stay = all_same (λ (d : Cell). d.item.node < length p.types) (λ (d : Cell). d.item.node < length q.types) cells
       (λ d h. let l = more_rows p.types q.types g.adds.types in omega arith) nodes
 
   pub move_stays : (f : Found) → IsFound p.types cells f → move_at q.types cells f ≡ move_at p.types cells f

@@ -20,14 +20,14 @@ use Rattle.xd_continuations.specs.Bounds.{node_count, IsBounded}
 use Rattle.xd_continuations.proofs.MoveLemmas.{all_append, IsMove, pieces-seq_of, moves_are_heads, moves_continue}
 use Rattle.xd_continuations.proofs.Bounding.{bounded_larger}
 use Rattle.xd_continuations.proofs.Reaching.{all_same}
-use Rattle.xd_heads.specs.Cells.{lists_after, lists_in, list_at}
+use Rattle.xd_continuations.specs.Chains.{lists_after, lists_in, list_at}
 use Rattle.xd_heads.specs.Found.{piece_tree, turns_of, continuation, AreOfTypes, AreBounded}
 use Rattle.xd_heads.specs.States.{IsOfCell, AddsPatterns, number_at, nodes_from, nodes_in}
 use Rattle.xd_heads.specs.Compiled.{numbered, continuations_of, state_at, AreCompiled}
 use Rattle.xd_heads.specs.CellsView.{CellsView, no_cells}
 use Rattle.xd_heads.specs.Mirrors.{as_type, continuation_of, IsPatternState, KeepsStates, AreHeadMoves, no_head, element_head, text_head, Mirrors, MirrorsStay}
 use Rattle.xd_heads.specs.declared.cells.Piece.{Piece}
-use Rattle.xd_heads.specs.declared.cells.Cell.{Cell}
+use Rattle.xd_heads.specs.Cells.{Cell}
 use Rattle.xd_heads.specs.declared.states.Owner.{Owner}
 use Rattle.xd_heads.specs.declared.states.Owner.TheVariants.{Pattern}
 use Rattle.xd_heads.proofs.StateLemmas.{number_within, number_front}
@@ -146,13 +146,13 @@ module _ (P : Piece → Type 0) where
   list_there (K ∷ Ks) a zero = a.0
   list_there (K ∷ Ks) a (suc n) = list_there Ks a.1 n
 
-  lists_there : (Ks : List (List Piece)) (cs : List Cell) → AllByRecursion (AllByRecursion P) Ks → AllByRecursion (λ (c : Cell). P c.piece) cs → AllByRecursion (AllByRecursion P) (lists_after Ks cs)
+  lists_there : (Ks : List (List Piece)) (cs : List Cell) → AllByRecursion (AllByRecursion P) Ks → AllByRecursion (λ (c : Cell). P c.item) cs → AllByRecursion (AllByRecursion P) (lists_after Ks cs)
   lists_there Ks [] a b = a
   lists_there Ks (c ∷ cs) a b =
-      lists_there (Ks ++ (c.piece ∷ get_or Ks c.behind []) ∷ []) cs
-      (all_append (AllByRecursion P) Ks ((c.piece ∷ get_or Ks c.behind []) ∷ []) a ((b.0, list_there Ks a c.behind), tt)) b.1
+      lists_there (Ks ++ (c.item ∷ get_or Ks c.behind []) ∷ []) cs
+      (all_append (AllByRecursion P) Ks ((c.item ∷ get_or Ks c.behind []) ∷ []) a ((b.0, list_there Ks a c.behind), tt)) b.1
 
-  pub pieces_there : (cs : List Cell) → AllByRecursion (λ (c : Cell). P c.piece) cs → (n : ℕ) → AllByRecursion P (list_at cs n)
+  pub pieces_there : (cs : List Cell) → AllByRecursion (λ (c : Cell). P c.item) cs → (n : ℕ) → AllByRecursion P (list_at cs n)
   unfolding list_at
   pieces_there cs b n = list_there (lists_in cs) (lists_there ([] ∷ []) cs (tt, tt) b) n
 
@@ -211,7 +211,7 @@ mirrors_stay p q c a m adds e =
           (head_moves_more (continuation_of p.types c) (continuation_of q.types c) (λ t U g. same t ∙ g) (m.moves s T (back s T h)));
       kept = record {
         numbers = m.kept.numbers;
-        nodes = all_same (λ (d : Cell). d.piece.node < length p.types) (λ (d : Cell). d.piece.node < length q.types) c.cells
+        nodes = all_same (λ (d : Cell). d.item.node < length p.types) (λ (d : Cell). d.item.node < length q.types) c.cells
             (λ d h. let l = more_rows p.types q.types adds.types in omega arith) m.kept.nodes;
         pieces = λ n k h. subst IsContinuation (sym (continuation_stays p.types q.types adds.types c.cells m.kept.nodes k)) (m.kept.pieces n k h);
         bounded = λ n h.

@@ -7,15 +7,15 @@ use Rattle.xd_syntax.specs.Table.{Row, tree_at}
 use Rattle.xd_syntax.specs.Types.{type_numbers}
 use Rattle.xd_syntax.specs.declared.types.TypeId.{TypeId}
 use Rattle.xd_continuations.specs.Expansion.{Task, task}
-use Rattle.xd_heads.specs.Cells.{list_at, HasCell, KeepsCells}
+use Rattle.xd_continuations.specs.Chains.{list_at, HasLink, KeepsLinks}
 use Rattle.xd_heads.specs.Found.{piece_tree, continuation, task_at, waiting_at, AreOfTypes, IsTask, AddsCells, PutsTasks, marked_front, AreBounded, StayBounded}
 use Rattle.xd_continuations.specs.Bounds.{IsBounded}
 use Rattle.xd_continuations.proofs.Bounding.{bounded_rest}
 use Rattle.xd_heads.specs.declared.cells.Piece.{Piece}
-use Rattle.xd_heads.specs.declared.cells.Cell.{Cell}
+use Rattle.xd_heads.specs.Cells.{Cell}
 use Rattle.xd_continuations.proofs.MoveLemmas.{all_append, map_append}
 use Rattle.xd_continuations.proofs.Reaching.{all_same}
-use Rattle.xd_heads.proofs.CellLemmas.{list_kept, list_new, has_kept, kept_list, kept_length, kept_same, kept_then}
+use Rattle.xd_continuations.proofs.ChainLemmas.{list_kept, list_new, has_kept, kept_list, kept_length, kept_same, kept_then}
 
 -- ---- reverses
 
@@ -36,14 +36,14 @@ adds_none types cells = record { kept = kept_same cells; nodes = λ a. a }
 pub adds_then : (types : List Row) (a b c : List Cell) → AddsCells types a b → AddsCells types b c → AddsCells types a c
 adds_then types a b c k l = record { kept = kept_then a b c k.kept l.kept; nodes = λ n. l.nodes (k.nodes n) }
 
-pub adds_cell : (types : List Row) (old new : List Cell) (c : Cell) → c.piece.node < length types → HasCell old c new → AddsCells types old new
+pub adds_cell : (types : List Row) (old new : List Cell) (c : Cell) → c.item.node < length types → HasLink old c new → AddsCells types old new
 adds_cell types old new c h k = record { kept = has_kept old c new k; nodes = go k }
   where
-    go : HasCell old c new → AreOfTypes types old → AreOfTypes types new
+    go : HasLink old c new → AreOfTypes types old → AreOfTypes types new
     go (inl r) n = subst (AreOfTypes types) (sym r.1) n
-    go (inr e) n = subst (AreOfTypes types) (sym e) (all_append (λ (d : Cell). d.piece.node < length types) old (c ∷ []) n (h, tt))
+    go (inr e) n = subst (AreOfTypes types) (sym e) (all_append (λ (d : Cell). d.item.node < length types) old (c ∷ []) n (h, tt))
 
-pub continuation_kept : (types : List Row) (old new : List Cell) → KeepsCells old new → (n : ℕ) → n ≤ length old → continuation types new n ≡ continuation types old n
+pub continuation_kept : (types : List Row) (old new : List Cell) → KeepsLinks old new → (n : ℕ) → n ≤ length old → continuation types new n ≡ continuation types old n
 continuation_kept types old new k n h = ap (map (piece_tree types)) (kept_list old new k n h)
 
 -- ---- bounds
@@ -60,7 +60,7 @@ bounded_last E m types old c a b n h =
     ]
 
 -- one more cell, which stands for this continuation
-pub bounded_cell : (types : List Row) (old new : List Cell) (c : Cell) (K : List Tree) → HasCell old c new → piece_tree types c.piece ∷ continuation types old c.behind ≡ K → StayBounded types old new K
+pub bounded_cell : (types : List Row) (old new : List Cell) (c : Cell) (K : List Tree) → HasLink old c new → piece_tree types c.item ∷ continuation types old c.behind ≡ K → StayBounded types old new K
 bounded_cell types old new c K (inl h) e E m a b = subst (AreBounded E m types) (sym h.1) a
 bounded_cell types old new c K (inr h) e E m a b =
     subst (AreBounded E m types) (sym h)
@@ -82,24 +82,24 @@ puts_more types cells old new ts c p i = record {
       ∙ ap (λ us. task_at types cells c ∷ us) p.same;
 }
 
-tasks_kept : (types : List Row) (old new : List Cell) → KeepsCells old new → (cs : List Cell) → AllByRecursion (IsTask types old) cs →
+tasks_kept : (types : List Row) (old new : List Cell) → KeepsLinks old new → (cs : List Cell) → AllByRecursion (IsTask types old) cs →
     map (task_at types new) cs ≡ map (task_at types old) cs
 tasks_kept types old new k [] a = refl
 tasks_kept types old new k (c ∷ cs) a =
     let e = continuation_kept types old new k c.behind (a.0).1 in
-    let t : task_at types new c ≡ task_at types old c = ap (λ (K : List Tree). let u : Task = record { part = piece_tree types c.piece; behind = K } in u) e in
+    let t : task_at types new c ≡ task_at types old c = ap (λ (K : List Tree). let u : Task = record { part = piece_tree types c.item; behind = K } in u) e in
     let i = tasks_kept types old new k cs a.1 in cc
 
-pub tasks_stand_on : (types : List Row) (old new : List Cell) → KeepsCells old new → (cs : List Cell) → AllByRecursion (IsTask types old) cs → AllByRecursion (IsTask types new) cs
+pub tasks_stand_on : (types : List Row) (old new : List Cell) → KeepsLinks old new → (cs : List Cell) → AllByRecursion (IsTask types old) cs → AllByRecursion (IsTask types new) cs
 tasks_stand_on types old new k cs a =
     let l = kept_length old new k in
     all_same (IsTask types old) (IsTask types new) cs (λ c i. (i.0, (let h = i.1 in omega arith))) a
 
-pub waiting_kept : (types : List Row) (old new : List Cell) → KeepsCells old new → (cs : List Cell) → AllByRecursion (IsTask types old) cs →
+pub waiting_kept : (types : List Row) (old new : List Cell) → KeepsLinks old new → (cs : List Cell) → AllByRecursion (IsTask types old) cs →
     waiting_at types new cs ≡ waiting_at types old cs
 waiting_kept types old new k cs a = ap reverse (tasks_kept types old new k cs a)
 
-pub puts_kept : (types : List Row) (cells new_cells old new : List Cell) (ts : List Task) → KeepsCells cells new_cells → PutsTasks types cells old new ts → PutsTasks types new_cells old new ts
+pub puts_kept : (types : List Row) (cells new_cells old new : List Cell) (ts : List Task) → KeepsLinks cells new_cells → PutsTasks types cells old new ts → PutsTasks types new_cells old new ts
 puts_kept types cells new_cells old new ts k p = record {
   put = p.put;
   grown = p.grown;
@@ -124,7 +124,7 @@ abbrev pub node_piece : ℕ → Piece
 node_piece i = record { node = i; is_turns = false }
 
 abbrev pub node_cell : ℕ → ℕ → Cell
-node_cell i n = record { piece = node_piece i; behind = n }
+node_cell i n = record { item = node_piece i; behind = n }
 
 take_front : {A : Type 0} (xs ys : List A) → take (length xs) (xs ++ ys) ≡ xs
 take_front [] ys = refl
@@ -140,7 +140,7 @@ cut_tasks types cells old new kept ts false p e =
 pub pushed_more : (types : List Row) (marks : List Bool) (old_cells : List Cell) (behind : ℕ) (old : List Cell) (is : List ℕ) (rest : ℕ) (cells new : List Cell) →
     IsPushed types marks old_cells behind old is rest cells new → (i : ℕ) → i < length types → (kept : List Cell) → kept ≡ cond (get_or marks i false) new (take (length old) new) →
     (j : ℕ) → j < length types → tree_at types j ≡ tree_at types i →
-    (cells' : List Cell) (number : ℕ) → HasCell cells (node_cell j rest) cells' → number ≤ length cells' → list_at cells' number ≡ node_piece j ∷ list_at cells rest →
+    (cells' : List Cell) (number : ℕ) → HasLink cells (node_cell j rest) cells' → number ≤ length cells' → list_at cells' number ≡ node_piece j ∷ list_at cells rest →
     IsPushed types marks old_cells behind old (i ∷ is) number cells' (kept ++ node_cell i rest ∷ [])
 pushed_more types marks old_cells behind old is rest cells new p i h kept e j u v cells' number k w l =
     let a = adds_cell types cells cells' (node_cell j rest) u k in
@@ -175,12 +175,12 @@ numbers_below m (p ∷ parts) (suc i) d a h = numbers_below m parts i d a.1 (ome
 pub pushed_next : (types : List Row) (marks : List Bool) (old_cells : List Cell) (behind : ℕ) (old : List Cell) (is : List ℕ) (rest : ℕ) (cells new : List Cell) →
     IsPushed types marks old_cells behind old is rest cells new → (i : ℕ) → i < length types → (kept : List Cell) → kept ≡ cond (get_or marks i false) new (take (length old) new) →
     (p : Piece) → p ≡ node_piece i → (j : ℕ) → j < length types → tree_at types j ≡ tree_at types i → (cells' : List Cell) (number : ℕ) →
-    HasCell cells (node_cell j rest) cells' → number ≤ length cells' → list_at cells' number ≡ node_piece j ∷ list_at cells rest →
-    (after : List Cell) → after ≡ kept ++ (let c : Cell = record { piece = p; behind = rest } in c ∷ []) → (js : List ℕ) → js ≡ i ∷ is →
+    HasLink cells (node_cell j rest) cells' → number ≤ length cells' → list_at cells' number ≡ node_piece j ∷ list_at cells rest →
+    (after : List Cell) → after ≡ kept ++ (let c : Cell = record { item = p; behind = rest } in c ∷ []) → (js : List ℕ) → js ≡ i ∷ is →
     IsPushed types marks old_cells behind old js number cells' after
 pushed_next types marks old_cells behind old is rest cells new x i h kept e p pe j u v cells' number k w l after ae js je =
     let r = pushed_more types marks old_cells behind old is rest cells new x i h kept e j u v cells' number k w l in
-    let ae' : kept ++ node_cell i rest ∷ [] ≡ after = sym (ae ∙ ap (λ (r : Piece). kept ++ (let c : Cell = record { piece = r; behind = rest } in c ∷ [])) pe) in
+    let ae' : kept ++ node_cell i rest ∷ [] ≡ after = sym (ae ∙ ap (λ (r : Piece). kept ++ (let c : Cell = record { item = r; behind = rest } in c ∷ [])) pe) in
     subst (λ ks. IsPushed types marks old_cells behind old ks number cells' after) (sym je)
     (subst (IsPushed types marks old_cells behind old (i ∷ is) number cells') ae' r)
 
@@ -192,8 +192,8 @@ kept_none b new cut kept e k = rw e k
 
 -- one more task of a part
 pub puts_part : (types : List Row) (cells old new : List Cell) (ts : List Task) (p : Piece) (i n : ℕ) → PutsTasks types cells old new ts → p ≡ node_piece i → i < length types → n ≤ length cells →
-    (after : List Cell) → after ≡ new ++ (let c : Cell = record { piece = p; behind = n } in c ∷ []) → PutsTasks types cells old after (task (continuation types cells n) (tree_at types i) ∷ ts)
+    (after : List Cell) → after ≡ new ++ (let c : Cell = record { item = p; behind = n } in c ∷ []) → PutsTasks types cells old after (task (continuation types cells n) (tree_at types i) ∷ ts)
 puts_part types cells old new ts p i n h e l m after a =
     let r = puts_more types cells old new ts (node_cell i n) h (l, m) in
     subst (λ ks. PutsTasks types cells old ks (task (continuation types cells n) (tree_at types i) ∷ ts))
-    (sym (a ∙ ap (λ (q : Piece). new ++ (let c : Cell = record { piece = q; behind = n } in c ∷ [])) e)) r
+    (sym (a ∙ ap (λ (q : Piece). new ++ (let c : Cell = record { item = q; behind = n } in c ∷ [])) e)) r

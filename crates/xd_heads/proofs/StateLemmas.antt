@@ -23,18 +23,20 @@ use Rattle.xd_syntax.proofs.Members.{mem_append, map_mem}
 use Rattle.xd_laws.proofs.Pigeon.{NoRepeat, pigeon}
 use Rattle.xd_syntax.proofs.PlacedTrees.{unplaced_at}
 use Rattle.xd_continuations.specs.Bounds.{node_count, NoneLarger, longest}
-use Rattle.xd_heads.specs.Cells.{list_at, AreCells, KeepsCells, room}
+use Rattle.xd_continuations.specs.Chains.{list_at, AreLinks, KeepsLinks}
+use Rattle.xd_heads.specs.Cells.{room}
 use Rattle.xd_syntax.specs.TypeNames.{meanings}
 use Rattle.xd_heads.specs.Found.{piece_tree, continuation, move_of, AreOfTypes, AreBounded}
 use Rattle.xd_heads.specs.States.{EachOnce, IsBelow, AreOwners, number_of, number_at, AddsOwner, IsOfCell, AddsStates, AreContinuationsFrom, nodes_from, nodes_in}
 use Rattle.xd_heads.specs.declared.states.Owner.{Owner}
 use Rattle.xd_heads.specs.declared.states.Owner.TheVariants.{Continuation, Pattern}
 use Rattle.xd_heads.specs.contracts.states.OwnerPartialEq.TheImpl as Eq
-use Rattle.xd_heads.specs.declared.cells.Cell.{Cell}
+use Rattle.xd_heads.specs.Cells.{Cell}
 use Rattle.xd_continuations.proofs.MoveLemmas.{all_append}
 use Rattle.xd_continuations.proofs.Reaching.{all_same}
 use Rattle.xd_continuations.proofs.Bounding.{bounded_length}
-use Rattle.xd_heads.proofs.CellLemmas.{kept_length, few_cells, lists_within_are}
+use Rattle.xd_continuations.proofs.ChainLemmas.{kept_length, lists_within_are}
+use Rattle.xd_heads.proofs.CellLemmas.{few_cells}
 
 less_true : (m n : ℕ) → nat_lt m n ≡ true → m < n
 less_true m n e = grind (arith, nat_tests)
@@ -216,7 +218,7 @@ few_numbers ns n o a =
     let e = up_to-length n in omega arith
 
 -- behind the first ones, no more states than there are short continuations
-pub states_few : (E : Definitions) (m : ℕ) (types : List Row) (cells : List Cell) (first : ℕ) (states : List Owner) → AreCells cells → AreOfTypes types cells → AreBounded E m types cells → AreOwners states →
+pub states_few : (E : Definitions) (m : ℕ) (types : List Row) (cells : List Cell) (first : ℕ) (states : List Owner) → AreLinks cells → AreOfTypes types cells → AreBounded E m types cells → AreOwners states →
     AllByRecursion (IsOfCell (length cells)) states → AreContinuationsFrom first states → length states ≤ first + room (length types) (longest E m)
 states_few E m types cells first states a nodes b o s c =
     let short = lists_within_are (longest E m) cells
@@ -231,14 +233,14 @@ states_few E m types cells first states a nodes b o s c =
 
 -- ---- states that are added
 
-numbers_kept : (old new : List Cell) → KeepsCells old new → (os : List Owner) → AllByRecursion (IsOfCell (length old)) os → AllByRecursion (IsOfCell (length new)) os
+numbers_kept : (old new : List Cell) → KeepsLinks old new → (os : List Owner) → AllByRecursion (IsOfCell (length old)) os → AllByRecursion (IsOfCell (length new)) os
 numbers_kept old new k os a = let l = kept_length old new k in all_same (IsOfCell (length old)) (IsOfCell (length new)) os (more l) a
   where
     more : length old ≤ length new → (o : Owner) → IsOfCell (length old) o → IsOfCell (length new) o
     more l (Continuation n) h = omega arith
     more l (Pattern n) h = tt
 
-pub states_none : (old new : List Cell) → KeepsCells old new → (states : List Owner) → AddsStates old new states states
+pub states_none : (old new : List Cell) → KeepsLinks old new → (states : List Owner) → AddsStates old new states states
 states_none old new k states = record { more = []; grown = sym (append-nil states); numbers = numbers_kept old new k states }
 
 map_both : (ms ns : List ℕ) → map Continuation ms ++ map Continuation ns ≡ map Continuation (ms ++ ns)

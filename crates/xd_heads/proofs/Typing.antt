@@ -10,11 +10,11 @@ use Rattle.xd_syntax.specs.declared.types.TypeId.{TypeId}
 use Rattle.xd_continuations.specs.Continuation.{is_piece, IsContinuation}
 use Rattle.xd_continuations.proofs.MoveLemmas.{all_append, map_append}
 use Rattle.xd_continuations.proofs.Reaching.{all_same}
-use Rattle.xd_heads.specs.Cells.{list_at}
+use Rattle.xd_continuations.specs.Chains.{list_at}
 use Rattle.xd_heads.specs.Found.{continuation, piece_tree}
 use Rattle.xd_heads.specs.Growing.{GrowsTypes}
-use Rattle.xd_heads.specs.declared.cells.Cell.{Cell}
-use Rattle.xd_heads.proofs.CellLemmas.{list_none}
+use Rattle.xd_heads.specs.Cells.{Cell}
+use Rattle.xd_continuations.proofs.ChainLemmas.{list_none}
 use Rattle.xd_heads.proofs.Growing.{grows_none, grows_then}
 use Rattle.xd_continuations.proofs.GrownTables.{tree_stays, more_rows}
 use Rattle.xd_heads.proofs.Mirrored.{piece_stays}
@@ -40,8 +40,8 @@ trees_stay old new k (n ∷ ns) a = let e = tree_stays old new k n a.0 in let i 
 pub there_stay : (old new : List Row) → KeepsRows old new → (ns : List ℕ) → AllByRecursion (λ i. i < length old) ns → AllByRecursion (λ i. i < length new) ns
 there_stay old new k ns a = let l = more_rows old new k in all_same (λ i. i < length old) (λ i. i < length new) ns (λ i h. omega arith) a
 
-pub typing_more : (p q r : ProgramTable) (cells : List Cell) (number at : ℕ) (ids : List TypeId) → IsTyping p q cells number at ids → (d : Cell) → list_at cells at ≡ d.piece ∷ list_at cells d.behind → d.behind < at →
-    d.piece.node < length p.types → (id : TypeId) → IsTypeAt r.types (piece_tree q.types d.piece) id → GrowsTypes q r → IsTyping p r cells number d.behind (ids ++ id ∷ [])
+pub typing_more : (p q r : ProgramTable) (cells : List Cell) (number at : ℕ) (ids : List TypeId) → IsTyping p q cells number at ids → (d : Cell) → list_at cells at ≡ d.item ∷ list_at cells d.behind → d.behind < at →
+    d.item.node < length p.types → (id : TypeId) → IsTypeAt r.types (piece_tree q.types d.item) id → GrowsTypes q r → IsTyping p r cells number d.behind (ids ++ id ∷ [])
 typing_more p q r cells number at ids t d l b h id made g = record {
   grows = grows_then p q r t.grows g;
   within = (let w = t.within in omega arith);
@@ -52,7 +52,7 @@ typing_more p q r cells number at ids t d l b h id made g = record {
       ∙ ap (λ Ts. Ts ++ continuation p.types cells d.behind) (map_append (tree_at r.types) (type_numbers ids) (id.at ∷ []))
       ∙ append_assoc (map (tree_at r.types) (type_numbers ids)) (tree_at r.types id.at ∷ []) (continuation p.types cells d.behind)
       ∙ ap (λ Ts. Ts ++ (tree_at r.types id.at ∷ continuation p.types cells d.behind)) (trees_stay q.types r.types g.adds.types (type_numbers ids) t.there)
-      ∙ ap (λ T. map (tree_at q.types) (type_numbers ids) ++ (T ∷ continuation p.types cells d.behind)) (made.same ∙ piece_stays p.types q.types t.grows.adds.types d.piece h)
+      ∙ ap (λ T. map (tree_at q.types) (type_numbers ids) ++ (T ∷ continuation p.types cells d.behind)) (made.same ∙ piece_stays p.types q.types t.grows.adds.types d.item h)
       ∙ ap (λ K. map (tree_at q.types) (type_numbers ids) ++ map (piece_tree p.types) K) (sym l)
       ∙ t.trees;
 }

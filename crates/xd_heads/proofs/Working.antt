@@ -15,7 +15,7 @@ use Rattle.xd_syntax.specs.declared.types.TypeForm.TheVariants as V
 use Rattle.xd_syntax.proofs.Trees.{tree_kept}
 use Rattle.xd_continuations.specs.Continuation.{Move, moves, is_piece}
 use Rattle.xd_continuations.specs.Expansion.{Task, in_front, options, task, own_moves, tasks_left, tasks_of, moves_to_come, work_left}
-use Rattle.xd_heads.specs.Cells.{list_at, HasCell, KeepsCells}
+use Rattle.xd_continuations.specs.Chains.{list_at, HasLink, KeepsLinks}
 use Rattle.xd_syntax.specs.TypeNames.{meanings}
 use Rattle.xd_heads.specs.Found.{turns_of, piece_tree, continuation, task_at, waiting_at, move_of, move_at, IsTask, IsFound, AddsCells, PutsTasks, Finds, IsWorkedOff, AreDecidingMarks, AreMovesOf, marked_front, form_tasks, form_moves, form_put, is_plus, AreBounded, StayBounded, IsContent}
 use Rattle.xd_continuations.specs.TailUses.{RecursOnlyInTail}
@@ -24,13 +24,13 @@ use Rattle.xd_continuations.specs.Laws.{IsBoundedTask}
 use Rattle.xd_continuations.proofs.Bounding.{bounded_rest, bounded_pieces, bounded_plus}
 use Rattle.xd_continuations.proofs.TaskBounds.{along_bounded, left_bounded}
 use Rattle.xd_heads.specs.declared.cells.Piece.{Piece}
-use Rattle.xd_heads.specs.declared.cells.Cell.{Cell}
+use Rattle.xd_heads.specs.Cells.{Cell}
 use Rattle.xd_heads.specs.declared.expand.Found.{Found}
 use Rattle.xd_continuations.proofs.MoveLemmas.{all_append, map_append}
 use Rattle.xd_continuations.proofs.Merging.{part_piece}
 use Rattle.xd_continuations.proofs.Reaching.{all_same}
 use Rattle.xd_continuations.proofs.Expanding.{tasks_stand, step_gives, step_falls, none_to_come}
-use Rattle.xd_heads.proofs.CellLemmas.{kept_length, list_none}
+use Rattle.xd_continuations.proofs.ChainLemmas.{kept_length, list_none}
 use Rattle.xd_heads.proofs.Putting.{adds_none, adds_then, adds_cell, bounded_same, bounded_cell, node_piece, node_cell, continuation_kept, waiting_kept, tasks_stand_on}
 
 -- ---- parts of sequences and alternatives
@@ -174,14 +174,14 @@ module _ (types : List Row) (ds : List TypeDef) (marks : List Bool) (m : AreDeci
 
 -- ---- the stack of tasks
 
-pub moves_kept : (types : List Row) (old new : List Cell) → KeepsCells old new → (fs : List Found) → AllByRecursion (IsFound types old) fs →
+pub moves_kept : (types : List Row) (old new : List Cell) → KeepsLinks old new → (fs : List Found) → AllByRecursion (IsFound types old) fs →
     map (move_at types new) fs ≡ map (move_at types old) fs
 moves_kept types old new k [] a = refl
 moves_kept types old new k (f ∷ fs) a =
     let e = ap (move_of (tree_at types f.node)) (continuation_kept types old new k f.rest (a.0).1) in
     let i = moves_kept types old new k fs a.1 in cc
 
-pub found_stand_on : (types : List Row) (old new : List Cell) → KeepsCells old new → (fs : List Found) → AllByRecursion (IsFound types old) fs → AllByRecursion (IsFound types new) fs
+pub found_stand_on : (types : List Row) (old new : List Cell) → KeepsLinks old new → (fs : List Found) → AllByRecursion (IsFound types old) fs → AllByRecursion (IsFound types new) fs
 found_stand_on types old new k fs a =
     let l = kept_length old new k in
     all_same (IsFound types old) (IsFound types new) fs (λ f i. (i.0, (let h = i.1 in omega arith))) a
@@ -209,11 +209,11 @@ all_last P (x ∷ xs) y a = all_last P xs y a.1
 module _ (types : List Row) (ds : List TypeDef) (guarded : Guarded (meanings types ds)) (old : List Cell) (number : ℕ) (cells cells' waiting left : List Cell) (t : Cell) (found found' : List Found)
     (i : IsExpanding types ds old number cells (waiting ++ t ∷ []) found) (w : IsWorkedOff types ds cells cells' t waiting left found found') where
   -- what waits afterwards
-  left_is : waiting_at types cells' left ≡ tasks_left (meanings types ds) (piece_tree types t.piece) (continuation types cells t.behind) ++ waiting_at types cells waiting
+  left_is : waiting_at types cells' left ≡ tasks_left (meanings types ds) (piece_tree types t.item) (continuation types cells t.behind) ++ waiting_at types cells waiting
   left_is =
       ap (waiting_at types cells') w.tasks.grown ∙ waiting-append types cells' waiting w.tasks.put
       ∙ ap (λ ts. ts ++ waiting_at types cells' waiting) w.tasks.same
-      ∙ ap (λ ts. tasks_left (meanings types ds) (piece_tree types t.piece) (continuation types cells t.behind) ++ ts)
+      ∙ ap (λ ts. tasks_left (meanings types ds) (piece_tree types t.item) (continuation types cells t.behind) ++ ts)
       (waiting_kept types cells cells' w.cells.kept waiting (all_front (IsTask types cells) waiting (t ∷ []) i.tasks_stand))
 
   before_is : waiting_at types cells (waiting ++ t ∷ []) ≡ task_at types cells t ∷ waiting_at types cells waiting
@@ -227,15 +227,15 @@ module _ (types : List Row) (ds : List TypeDef) (guarded : Guarded (meanings typ
       let a = subst (AllByRecursion (IsBoundedTask E m)) before_is h.1 in (
         w.bounded E m h.0 a.0,
         subst (AllByRecursion (IsBoundedTask E m)) (sym left_is)
-            (all_append (IsBoundedTask E m) (tasks_left E (piece_tree types t.piece) (continuation types cells t.behind)) (waiting_at types cells waiting)
-            (left_bounded E m tail small (piece_tree types t.piece) (continuation types cells t.behind) a.0) a.1),
+            (all_append (IsBoundedTask E m) (tasks_left E (piece_tree types t.item) (continuation types cells t.behind)) (waiting_at types cells waiting)
+            (left_bounded E m tail small (piece_tree types t.item) (continuation types cells t.behind) a.0) a.1),
       )
 
   pub expanding_on : IsExpanding types ds old number cells' left found'
   expanding_on =
       let E = meanings types ds in
       let K : List Tree = continuation types cells t.behind in
-      let T : Tree = piece_tree types t.piece in
+      let T : Tree = piece_tree types t.item in
       let ws : List Task = waiting_at types cells waiting in
       let own : List Move = own_moves T K in
       let a : map (move_at types cells') found' ≡ map (move_at types cells) found ++ own =
@@ -260,9 +260,9 @@ module _ (types : List Row) (ds : List TypeDef) (guarded : Guarded (meanings typ
 
   pub expanding_less : work_left (meanings types ds) (waiting_at types cells' left) + 1 ≤ work_left (meanings types ds) (waiting_at types cells (waiting ++ t ∷ []))
   expanding_less =
-      let s = step_falls (meanings types ds) guarded (piece_tree types t.piece) (continuation types cells t.behind) (waiting_at types cells waiting) in
+      let s = step_falls (meanings types ds) guarded (piece_tree types t.item) (continuation types cells t.behind) (waiting_at types cells waiting) in
       subst (λ ts. work_left (meanings types ds) ts + 1 ≤ work_left (meanings types ds) (waiting_at types cells (waiting ++ t ∷ []))) (sym left_is)
-      (subst (λ ts. work_left (meanings types ds) (tasks_left (meanings types ds) (piece_tree types t.piece) (continuation types cells t.behind) ++ waiting_at types cells waiting) + 1 ≤ work_left (meanings types ds) ts)
+      (subst (λ ts. work_left (meanings types ds) (tasks_left (meanings types ds) (piece_tree types t.item) (continuation types cells t.behind) ++ waiting_at types cells waiting) + 1 ≤ work_left (meanings types ds) ts)
       (sym before_is) s)
 
 -- where no task waits, all moves are found
@@ -340,16 +340,16 @@ form_bounded E m types p K (opt_form i) a e b = bounded_rest E m (piece_tree typ
 form_bounded E m types p K (val_form x q i) a e b = bounded_rest E m (piece_tree types p) K b
 
 pub form_worked : (types : List Row) (ds : List TypeDef) (marks : List Bool) → AreDecidingMarks types ds marks → (old new : List Cell) (t : Cell) (waiting left : List Cell) (known found : List Found) (f : Form) →
-    ArePartsOf types f → tree_at types t.piece.node ≡ form_tree (tree_at types) f → AddsCells types old new →
+    ArePartsOf types f → tree_at types t.item.node ≡ form_tree (tree_at types) f → AddsCells types old new →
     PutsTasks types new waiting left (form_tasks types ds marks f (continuation types old t.behind)) →
-    Finds types new known found (form_moves types t.piece.node f (continuation types old t.behind)) →
+    Finds types new known found (form_moves types t.item.node f (continuation types old t.behind)) →
     StayBounded types old new (form_put types f (continuation types old t.behind)) →
     IsWorkedOff types ds old new t waiting left known found
 form_worked types ds marks m old new t waiting left known found f a e c p g b = record {
   cells = c;
-  tasks = subst (PutsTasks types new waiting left) (form_left types ds marks m t.piece (continuation types old t.behind) f a e) p;
-  moves = subst (Finds types new known found) (form_own types ds marks m t.piece (continuation types old t.behind) f a e) g;
-  bounded = λ E n o h. b E n o (form_bounded E n types t.piece (continuation types old t.behind) f a e h);
+  tasks = subst (PutsTasks types new waiting left) (form_left types ds marks m t.item (continuation types old t.behind) f a e) p;
+  moves = subst (Finds types new known found) (form_own types ds marks m t.item (continuation types old t.behind) f a e) g;
+  bounded = λ E n o h. b E n o (form_bounded E n types t.item (continuation types old t.behind) f a e h);
 }
 
 -- ---- pieces that can be empty
@@ -411,15 +411,15 @@ pub first_none : (E : Definitions) (types : List Row) (cells : List Cell) (numbe
 first_none E types cells number h = record { within = h; stand = tt; same = refl }
 
 pub first_more : (E : Definitions) (types : List Row) (cells : List Cell) (number at : ℕ) (tasks : List Cell) → AreFirstTasks E types cells number at tasks → (c : Cell) →
-    c.piece.node < length types → c.behind < at → list_at cells at ≡ c.piece ∷ list_at cells c.behind → (next : ℕ) → next ≡ cond (can_be_empty E (piece_tree types c.piece)) c.behind 0 →
+    c.item.node < length types → c.behind < at → list_at cells at ≡ c.item ∷ list_at cells c.behind → (next : ℕ) → next ≡ cond (can_be_empty E (piece_tree types c.item)) c.behind 0 →
     AreFirstTasks E types cells number next (tasks ++ c ∷ [])
 first_more E types cells number at tasks i c n h l next e = record {
-  within = go (can_be_empty E (piece_tree types c.piece)) e;
+  within = go (can_be_empty E (piece_tree types c.item)) e;
   stand = all_append (IsTask types cells) tasks (c ∷ []) i.stand ((n, (let w = i.within in omega arith)), tt);
   same =
       ap (λ ts. ts ++ along (can_be_empty E) (continuation types cells next)) (map_append (task_at types cells) tasks (c ∷ []))
       ∙ append_assoc (map (task_at types cells) tasks) (task_at types cells c ∷ []) (along (can_be_empty E) (continuation types cells next))
-      ∙ ap (λ ts. map (task_at types cells) tasks ++ (task_at types cells c ∷ ts)) (rest (can_be_empty E (piece_tree types c.piece)) e)
+      ∙ ap (λ ts. map (task_at types cells) tasks ++ (task_at types cells c ∷ ts)) (rest (can_be_empty E (piece_tree types c.item)) e)
       ∙ ap (λ K. map (task_at types cells) tasks ++ along (can_be_empty E) (map (piece_tree types) K)) (sym l)
       ∙ i.same;
 }
@@ -481,7 +481,7 @@ pub content_none : (types : List Row) (cells : List Cell) → IsContent types ce
 content_none types cells = record { cells = adds_none types cells; within = omega arith; same = ap (map (piece_tree types)) (list_none cells); bounded = bounded_same types cells [] }
 
 pub content_more : (types : List Row) (old cells new : List Cell) (K : List Tree) (rest number i : ℕ) → IsContent types old cells K rest → i < length types →
-    HasCell cells (node_cell i rest) new → number ≤ length new → list_at new number ≡ node_piece i ∷ list_at cells rest → IsContent types old new (tree_at types i ∷ K) number
+    HasLink cells (node_cell i rest) new → number ≤ length new → list_at new number ≡ node_piece i ∷ list_at cells rest → IsContent types old new (tree_at types i ∷ K) number
 content_more types old cells new K rest number i c h k w l =
     let a = adds_cell types cells new (node_cell i rest) h k in
     record {
@@ -542,7 +542,7 @@ seq_of_form (V.Opt t) is e = cc
 
 -- the same, as the code has it
 pub content_put : (types : List Row) (old cells new : List Cell) (K : List Tree) (rest number i : ℕ) → IsContent types old cells K rest →
-    (at : ℕ) → at < length types → tree_at types at ≡ tree_at types i → HasCell cells (node_cell at rest) new → number ≤ length new → list_at new number ≡ node_piece at ∷ list_at cells rest →
+    (at : ℕ) → at < length types → tree_at types at ≡ tree_at types i → HasLink cells (node_cell at rest) new → number ≤ length new → list_at new number ≡ node_piece at ∷ list_at cells rest →
     (L : List Tree) → L ≡ tree_at types i ∷ K → IsContent types old new L number
 content_put types old cells new K rest number i c at h e k w l L q =
     subst (λ M. IsContent types old new M number) (sym (q ∙ ap (λ T. T ∷ K) (sym e))) (content_more types old cells new K rest number at c h k w l)

@@ -14,7 +14,7 @@ use Rattle.xd_continuations.specs.Mirrors.{Continuations, AreMirrored}
 use Rattle.xd_syntax.specs.TypeNames.{meanings}
 use Rattle.xd_heads.specs.Found.{continuation, AddsCells}
 use Rattle.xd_heads.specs.States.{AddsStates, StaysBounded, IsOfCell, number_at}
-use Rattle.xd_heads.specs.declared.cells.Cell.{Cell}
+use Rattle.xd_heads.specs.Cells.{Cell}
 use Rattle.xd_heads.specs.declared.states.Owner.{Owner}
 use Rattle.xd_heads.specs.declared.states.Owner.TheVariants.{Continuation}
 

@@ -11,11 +11,11 @@ use Rattle.xd_continuations.specs.Continuation.{Move, moves}
 use Rattle.xd_continuations.specs.Expansion.{Task, task, definition_task, own_moves, tasks_left}
 use Rattle.xd_continuations.specs.TailUses.{RecursOnlyInTail}
 use Rattle.xd_continuations.specs.Bounds.{NoneLarger, IsBounded}
-use Rattle.xd_heads.specs.Cells.{list_at, KeepsCells}
+use Rattle.xd_continuations.specs.Chains.{list_at, KeepsLinks}
 use Rattle.xd_heads.specs.Bodies.{node_of}
 use Rattle.xd_heads.specs.declared.bodies.Bodies.{Bodies}
 use Rattle.xd_heads.specs.declared.cells.Piece.{Piece}
-use Rattle.xd_heads.specs.declared.cells.Cell.{Cell}
+use Rattle.xd_heads.specs.Cells.{Cell}
 use Rattle.xd_heads.specs.declared.expand.Found.{Found}
 
 -- the star of what `+` repeats
@@ -42,7 +42,7 @@ continuation types cells n = map (piece_tree types) (list_at cells n)
 
 -- a cell as a task: its piece is to be worked off, before what is behind it
 abbrev pub task_at : List Row → List Cell → Cell → Task
-task_at types cells c = record { part = piece_tree types c.piece; behind = continuation types cells c.behind }
+task_at types cells c = record { part = piece_tree types c.item; behind = continuation types cells c.behind }
 
 -- tasks that wait, the next of them last
 abbrev pub waiting_at : List Row → List Cell → List Cell → List Task
@@ -59,18 +59,18 @@ move_at types cells f = move_of (tree_at types f.node) (continuation types cells
 
 -- the nodes are there
 abbrev pub AreOfTypes : List Row → List Cell → Type 0
-AreOfTypes types cells = AllByRecursion (λ (c : Cell). c.piece.node < length types) cells
+AreOfTypes types cells = AllByRecursion (λ (c : Cell). c.item.node < length types) cells
 
 -- the node is there, and what is behind it
 abbrev pub IsTask : List Row → List Cell → Cell → Type 0
-IsTask types cells c = (c.piece.node < length types) × (c.behind ≤ length cells)
+IsTask types cells c = (c.item.node < length types) × (c.behind ≤ length cells)
 
 abbrev pub IsFound : List Row → List Cell → Found → Type 0
 IsFound types cells f = (f.node < length types) × (f.rest ≤ length cells)
 
 -- cells are added, and their nodes are there where those of the old ones are
 pub record AddsCells (types : List Row) (old new : List Cell) : Type 0 where
-  pub kept : KeepsCells old new
+  pub kept : KeepsLinks old new
   pub nodes : AreOfTypes types old → AreOfTypes types new
 
 -- no continuation of the cells is too long, where no type has more than m nodes
@@ -98,9 +98,9 @@ pub record Finds (types : List Row) (cells : List Cell) (old new : List Found) (
 -- a task is worked off: it leaves its tasks, and gives its moves
 pub record IsWorkedOff (types : List Row) (ds : List TypeDef) (old new : List Cell) (task : Cell) (waiting left : List Cell) (known found : List Found) : Type 0 where
   pub cells : AddsCells types old new
-  pub tasks : PutsTasks types new waiting left (tasks_left (meanings types ds) (piece_tree types task.piece) (continuation types old task.behind))
-  pub moves : Finds types new known found (own_moves (piece_tree types task.piece) (continuation types old task.behind))
-  pub bounded : StayBounded types old new (piece_tree types task.piece ∷ continuation types old task.behind)
+  pub tasks : PutsTasks types new waiting left (tasks_left (meanings types ds) (piece_tree types task.item) (continuation types old task.behind))
+  pub moves : Finds types new known found (own_moves (piece_tree types task.item) (continuation types old task.behind))
+  pub bounded : StayBounded types old new (piece_tree types task.item ∷ continuation types old task.behind)
 
 -- the mark of each node says whether it can be empty
 pub record AreDecidingMarks (types : List Row) (ds : List TypeDef) (marks : List Bool) : Type 0 where

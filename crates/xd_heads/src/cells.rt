@@ -4,12 +4,13 @@ ghost use Rattle.std.specs.Prelude.{◌≡◌, ◌+◌, ◌<◌, ◌≤◌, [], 
 ghost use Rattle.xd_syntax.specs.Table.{tree_at};
 ghost use Rattle.xd_syntax.specs.Tree.{Name};
 ghost use Rattle.xd_syntax.specs.Ways.{Among};
-ghost use Rattle.xd_heads.specs.Cells.{AreCells, HasCell, list_at};
+ghost use Rattle.xd_continuations.specs.Chains.{AreLinks, HasLink, list_at};
 
 use indexmap::IndexSet;
 use std::alloc::Global;
 use std::collections::BTreeMap;
 use std::marker::Model;
+use xd_continuations::Link;
 use xd_doc::{Label, NoMemory};
 use xd_syntax::{TypeForm, TypeId, Types};
 
@@ -21,11 +22,7 @@ pub(crate) struct Piece {
 }
 
 /// A piece, and the number of the continuation behind it.
-#[derive(Clone, Copy, Debug, PartialEq, Eq, Hash)]
-pub(crate) struct Cell {
-    pub piece: Piece,
-    pub behind: usize,
-}
+pub(crate) type Cell = Link<Piece>;
 
 /// Continuations by their numbers: 0 is the empty one, and each other one is a piece before an older one.
 #[derive(Drop)]
@@ -36,14 +33,14 @@ pub struct Interned {
 
 impl Model for Interned {
     ghost use Rattle.std.specs.Prelude.{List};
-    ghost use Rattle.xd_heads.specs.declared.cells.Cell.{Cell};
-    ghost use Rattle.xd_heads.specs.Cells.{AreCells};
+    ghost use Rattle.xd_heads.specs.Cells.{Cell};
+    ghost use Rattle.xd_continuations.specs.Chains.{AreLinks};
 
     ghost Value = { List Cell };
 
     ghost view = { λ c. c.cells.keys };
 
-    ghost invariant = { λ c. AreCells c.cells.keys };
+    ghost invariant = { λ c. AreLinks c.cells.keys };
 }
 
 impl Interned {
@@ -60,7 +57,7 @@ impl Interned {
     /// The number of continuations but the empty one.
     pub(crate) fn len(&self) -> usize
         ensures count { result ≡ length self.now }
-        ensures cells { AreCells self.now }
+        ensures cells { AreLinks self.now }
     {
         self.cells.len()
     }
@@ -70,10 +67,13 @@ impl Interned {
         requires { behind ≤ length self.old }
         ensures within { IfOk result (λ number. (0 < number) × (number ≤ length self.new)) }
         ensures list { IfOk result (λ number. list_at self.new number ≡ piece ∷ list_at self.old behind) }
-        ensures cells { IfOk result (λ _. HasCell self.old (record { piece = piece; behind = behind }) self.new) }
+        ensures cells { IfOk result (λ _. HasLink self.old (record { item = piece; behind = behind }) self.new) }
         ensures err { OnErr result (self.new ≡ self.old) }
     {
-        let (at, _) = self.cells.insert_full(Cell { piece, behind })?;
+        let (at, _) = self.cells.insert_full(Link {
+            item: piece,
+            behind,
+        })?;
         let _count = self.cells.len();
         Ok(at + 1)
     }
@@ -104,7 +104,7 @@ impl Interned {
         requires within { number ≤ length self.now }
         ensures older { result.behind < number }
         ensures stands { Among result self.now }
-        ensures list { list_at self.now number ≡ result.piece ∷ list_at self.now result.behind }
+        ensures list { list_at self.now number ≡ result.item ∷ list_at self.now result.behind }
     {
         self.cells.as_slice()[number - 1]
     }

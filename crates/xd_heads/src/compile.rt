@@ -38,7 +38,7 @@ fn is_last(types: &Types, defs: &[TypeDef], marks: &[bool], cells: &Interned, nu
     let mut at = number;
     while at > 0 {
         let cell = cells.cell(at);
-        if !is_empty(types, defs, marks, cell.piece) {
+        if !is_empty(types, defs, marks, cell.item) {
             return false;
         }
         at = cell.behind;

@@ -14,6 +14,7 @@ ghost use Rattle.xd_heads.specs.Found.{AddsCells, AreBodies, AreDecidingMarks, A
 use crate::bodies::Bodies;
 use crate::cells::{Cell, Interned, Piece};
 use std::alloc::Global;
+use xd_continuations::Link;
 use xd_doc::{Label, NoMemory};
 use xd_syntax::{TypeDef, TypeForm, TypeId, Types};
 
@@ -42,8 +43,8 @@ fn push_turn(
     ensures tasks { OnOk result (PutsTasks types.now cells.new tasks.old.items tasks.new.items (task (Star (tree_at types.now part.at) ∷ continuation types.now cells.old behind) (tree_at types.now part.at) ∷ [])) }
 {
     let rest = cells.put(turns, behind)?;
-    tasks.push(Cell {
-        piece: whole(part),
+    tasks.push(Link {
+        item: whole(part),
         behind: rest,
     })?;
     Ok(())
@@ -84,8 +85,8 @@ fn push_sequence(
         if !marks[part.at()] {
             tasks.truncate(others);
         }
-        tasks.push(Cell {
-            piece: whole(part),
+        tasks.push(Link {
+            item: whole(part),
             behind: rest,
         })?;
         let first = cells.first(types, part.at())?;
@@ -113,8 +114,8 @@ fn push_options(
     ensures { OnOk result (PutsTasks types.now cells.now tasks.old.items tasks.new.items (map (task (continuation types.now cells.now behind)) (map (tree_at types.now) (type_numbers parts.now)))) }
 {
     for at in (0..parts.len()).rev() {
-        tasks.push(Cell {
-            piece: whole(parts[at]),
+        tasks.push(Link {
+            item: whole(parts[at]),
             behind,
         })?;
     }
@@ -136,8 +137,8 @@ fn push_body(
     ensures { OnOk result (PutsTasks types.now cells.now tasks.old.items tasks.new.items (definition_task (body (meanings types.now defs.now) name.now) (continuation types.now cells.now behind))) }
 {
     if let Some(node) = bodies.find(defs, name) {
-        tasks.push(Cell {
-            piece: Piece {
+        tasks.push(Link {
+            item: Piece {
                 node,
                 is_turns: false,
             },
@@ -159,8 +160,8 @@ fn push_part(
     requires behind { behind ≤ length cells.now }
     ensures { OnOk result (PutsTasks types.now cells.now tasks.old.items tasks.new.items (task (continuation types.now cells.now behind) (tree_at types.now part.at) ∷ [])) }
 {
-    tasks.push(Cell {
-        piece: whole(part),
+    tasks.push(Link {
+        item: whole(part),
         behind,
     })?;
     Ok(())
@@ -174,10 +175,10 @@ fn push_found(
     found: &mut Vec<Found>,
 ) -> Result<(), NoMemory>
     requires { IsTask types.now cells.now task }
-    ensures { OnOk result (Finds types.now cells.now found.old.items found.new.items (move_of (tree_at types.now task.piece.node) (continuation types.now cells.now task.behind) ∷ [])) }
+    ensures { OnOk result (Finds types.now cells.now found.old.items found.new.items (move_of (tree_at types.now task.item.node) (continuation types.now cells.now task.behind) ∷ [])) }
 {
     found.push(Found {
-        node: task.piece.node,
+        node: task.item.node,
         rest: task.behind,
     })?;
     Ok(())
@@ -208,12 +209,12 @@ fn work_form(
     requires bodies { AreBodies types.now defs.now bodies.now }
     requires marks { length marks.now ≡ length types.now }
     requires task { IsTask types.now cells.old task }
-    requires tree { tree_at types.now task.piece.node ≡ form_tree (tree_at types.now) (form_of form.now) }
+    requires tree { tree_at types.now task.item.node ≡ form_tree (tree_at types.now) (form_of form.now) }
     requires parts { PartsBelow (length types.now) (form_of form.now) }
     ensures cells { OnOk result (AddsCells types.now cells.old cells.new) }
     ensures bounded { OnOk result (StayBounded types.now cells.old cells.new (form_put types.now (form_of form.now) (continuation types.now cells.old task.behind))) }
     ensures tasks { OnOk result (PutsTasks types.now cells.new tasks.old.items tasks.new.items (form_tasks types.now defs.now marks.now (form_of form.now) (continuation types.now cells.old task.behind))) }
-    ensures moves { OnOk result (Finds types.now cells.new found.old.items found.new.items (form_moves types.now task.piece.node (form_of form.now) (continuation types.now cells.old task.behind))) }
+    ensures moves { OnOk result (Finds types.now cells.new found.old.items found.new.items (form_moves types.now task.item.node (form_of form.now) (continuation types.now cells.old task.behind))) }
 {
     match form {
         TypeForm::Empty => {}
@@ -223,12 +224,12 @@ fn work_form(
         TypeForm::Elem(_, _) => push_found(types, task, cells, found)?,
         TypeForm::Seq(parts) => push_sequence(types, marks, parts, task.behind, cells, tasks)?,
         TypeForm::Alt(parts) => push_options(types, parts, task.behind, cells, tasks)?,
-        TypeForm::Star(part) => push_turn(types, *part, task.piece, task.behind, cells, tasks)?,
+        TypeForm::Star(part) => push_turn(types, *part, task.item, task.behind, cells, tasks)?,
         TypeForm::Plus(part) => {
             push_turn(
                 types,
                 *part,
-                turns(task.piece.node),
+                turns(task.item.node),
                 task.behind,
                 cells,
                 tasks,
@@ -255,7 +256,7 @@ fn work_off(
     requires task { IsTask types.now cells.old task }
     ensures { OnOk result (IsWorkedOff types.now defs.now cells.old cells.new task tasks.old.items tasks.new.items found.old.items found.new.items) }
 {
-    let node = types.node(TypeId::of(task.piece.node));
+    let node = types.node(TypeId::of(task.item.node));
     let form = node.form();
     work_form(types, defs, bodies, marks, form, task, cells, tasks, found)?;
     Ok(())
@@ -305,7 +306,7 @@ fn first_tasks(
     while at > 0 {
         let cell = cells.cell(at);
         tasks.push(cell)?;
-        at = if is_empty(types, defs, marks, cell.piece) {
+        at = if is_empty(types, defs, marks, cell.item) {
             cell.behind
         } else {
             0

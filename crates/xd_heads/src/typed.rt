@@ -63,7 +63,7 @@ fn piece_types(
     let mut at = number;
     while at > 0 {
         let cell = cells.cell(at);
-        ids.push(piece_type(sound, cell.piece)?)?;
+        ids.push(piece_type(sound, cell.item)?)?;
         at = cell.behind;
     }
     Ok(ids)

@@ -12,15 +12,15 @@ use Rattle.xd_runs.specs.Runs as Runs
 use Rattle.xd_runs.specs.Runs.{Continuation, Choice, choices, start, texts_of, elements_of}
 use Rattle.xd_runs.specs.Steps.{marked}
 use Rattle.xd_runs.specs.Mirrors.{Standing, SameText, SameElement, AreMovesOf, Mirrors}
-use Rattle.xd_patterns.specs.Chains.{list_at}
+use Rattle.xd_continuations.specs.Chains.{list_at}
 use Rattle.xd_patterns.specs.Marked.{marked_text, marked_label, with_each, marked_moves}
 use Rattle.xd_patterns.specs.Tasks.{Tables, words_at, piece_part, pieces_at, continuation, ArePieces, Adds}
 use Rattle.xd_patterns.specs.Pieces.{form_at, variable_of}
 use Rattle.xd_patterns.specs.Compiling.{stands, standing, TextsAre, LabelsAre, Makes, IsDone, texts_at, labels_at, rows_in, IsCompiling, marking, FindsState}
-use Rattle.xd_patterns.specs.declared.chains.Link.{Link}
+use Rattle.xd_continuations.specs.declared.links.Link.{Link}
 use Rattle.xd_patterns.specs.declared.chains.Piece.{Piece}
 use Rattle.xd_patterns.specs.declared.compile.StateMarks.{StateMarks}
-use Rattle.xd_patterns.proofs.ChainLemmas.{list_none}
+use Rattle.xd_continuations.proofs.ChainLemmas.{list_none}
 use Rattle.xd_patterns.proofs.Tasking.{adds_none, adds_then}
 use Rattle.xd_patterns.proofs.StateLemmas.{get_all, get_kept, continuation_kept, standing_kept, moves_kept, standing_at, finds_adds}
 

@@ -12,15 +12,15 @@ use Rattle.xd_runs.specs.Runs.{Choice, Continuation, stop, choices}
 use Rattle.xd_runs.specs.Steps.{Ahead, ahead, choices_ahead, part_choice, part_steps}
 use Rattle.xd_runs.proofs.Alike.{alike_refl, alike_same, alike_sym, alike_trans, alike_append, alike_known, append_none, append_then, flat_append}
 use Rattle.xd_runs.proofs.Stepping.{steps_find}
-use Rattle.xd_patterns.specs.Chains.{list_at, AreLinks}
+use Rattle.xd_continuations.specs.Chains.{list_at, AreLinks}
 use Rattle.xd_patterns.specs.Tasks.{Tables, AreBodies, words_at, piece_part, pieces_at, continuation, ArePieces, or_none, IsTurn, StandsFor, item_choice, choice_at, IsFound, StandFound, Collects, Adds, HasFound, IsStep}
 use Rattle.xd_patterns.specs.Work.{steps_of, work_left}
 use Rattle.xd_patterns.specs.Expanding.{ends_turn, IsExpanded, before_end, task_steps, all_steps, IsExpanding, IsGoneThrough, IsVisited, AreFound}
-use Rattle.xd_patterns.specs.declared.chains.Link.{Link}
+use Rattle.xd_continuations.specs.declared.links.Link.{Link}
 use Rattle.xd_patterns.specs.declared.chains.Piece.{Piece}
 use Rattle.xd_patterns.specs.declared.expand.Task.{Task}
 use Rattle.xd_patterns.specs.declared.expand.Found.{Found}
-use Rattle.xd_patterns.proofs.ChainLemmas.{list_none, one_number, kept_list, kept_length}
+use Rattle.xd_continuations.proofs.ChainLemmas.{list_none, one_number, kept_list, kept_length}
 use Rattle.xd_patterns.proofs.Tasking.{adds_none, adds_then, all_stand, stands_kept, same_words, same_pieces, list_pieces, puts_none, collects_none, collects_one}
 use Rattle.xd_patterns.proofs.Working.{step_less, some_cost}
 

@@ -10,7 +10,8 @@ use Rattle.xd_patterns.specs.Expanding.{Enters}
 use Rattle.xd_patterns.specs.declared.expand.Task.{Task}
 use Rattle.xd_patterns.specs.declared.chains.Piece.{Piece}
 use Rattle.xd_patterns.specs.declared.expand.Found.{Found}
-use Rattle.xd_patterns.proofs.LinkTests.{both, same_bit, same_number, piece_test, same_piece}
+use Rattle.xd_continuations.proofs.LinkTests.{both, same_bit, same_number}
+use Rattle.xd_patterns.proofs.PieceTests.{piece_test, same_piece}
 
 abbrev found_test : Found → Found → Bool
 found_test f g = beq f.is_stop g.is_stop && (piece_test f.piece g.piece && nat_eq f.rest g.rest)

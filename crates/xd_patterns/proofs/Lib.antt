@@ -1,5 +1,4 @@
-pub mod ChainLemmas
-pub mod LinkTests
+pub mod PieceTests
 pub mod VariableLemmas
 pub mod MarkedLaw
 pub mod MarksLaw

@@ -9,15 +9,16 @@ use Rattle.xd_runs.specs.Runs as Runs
 use Rattle.xd_runs.specs.Runs.{Continuation, Choice, take_text, take_element, start, choices}
 use Rattle.xd_runs.specs.Steps.{marked}
 use Rattle.xd_runs.proofs.Alike.{map_append_of}
-use Rattle.xd_patterns.specs.Chains.{list_at, KeepsLinks, HasLink}
+use Rattle.xd_continuations.specs.Chains.{list_at, KeepsLinks, HasLink}
 use Rattle.xd_patterns.specs.Pieces.{part_of, IsLike, form_at, variable_of}
 use Rattle.xd_patterns.specs.Tasks.{Tables, rows_of, words_at, piece_part, piece_at, continuation, ArePieces, item_choice, choice_at, IsFound, StandFound, Adds}
 use Rattle.xd_patterns.specs.Expanding.{AreFound}
 use Rattle.xd_patterns.specs.Compiling.{standing, AddsText, AddsElement, HasMoves, Grows, AddsMove, IsAdding, Makes}
-use Rattle.xd_patterns.specs.declared.chains.Link.{Link}
+use Rattle.xd_continuations.specs.declared.links.Link.{Link}
 use Rattle.xd_patterns.specs.declared.chains.Piece.{Piece}
 use Rattle.xd_patterns.specs.declared.expand.Found.{Found}
-use Rattle.xd_patterns.proofs.ChainLemmas.{list_none, kept_length, all_same}
+use Rattle.xd_continuations.proofs.ChainLemmas.{list_none, kept_length}
+use Rattle.xd_continuations.proofs.Reaching.{all_same}
 use Rattle.xd_patterns.proofs.Tasking.{adds_none, adds_then, adds_link}
 use Rattle.xd_patterns.proofs.StepArms.{like_piece, like_part}
 use Rattle.xd_patterns.proofs.Expansion.{found_choice}

@@ -13,12 +13,14 @@ use Rattle.xd_auto.specs.Automaton.{Automaton, StateMoves, moves_at, no_moves, s
 use Rattle.xd_runs.specs.Runs as Runs
 use Rattle.xd_runs.specs.Runs.{Continuation, Choice, stop, take_text, take_element, has_stop, texts_of, elements_of}
 use Rattle.xd_runs.specs.Mirrors.{Standing}
-use Rattle.xd_patterns.specs.Chains.{list_at, KeepsLinks}
+use Rattle.xd_continuations.specs.Chains.{list_at, KeepsLinks}
 use Rattle.xd_patterns.specs.Tasks.{Tables, words_at, pieces_at, continuation, ArePieces, Adds}
 use Rattle.xd_patterns.specs.Compiling.{stands, standing, FindsState, AddsStates, AddsText, AddsElement, TextsAre, LabelsAre, HasMoves, AddsMove}
-use Rattle.xd_patterns.specs.declared.chains.Link.{Link}
+use Rattle.xd_continuations.specs.declared.links.Link.{Link}
 use Rattle.xd_patterns.specs.declared.chains.Piece.{Piece}
-use Rattle.xd_patterns.proofs.ChainLemmas.{all_append, all_same, kept_list, kept_length, kept_same}
+use Rattle.xd_continuations.proofs.ChainLemmas.{kept_list, kept_length, kept_same}
+use Rattle.xd_continuations.proofs.Reaching.{all_same}
+use Rattle.xd_continuations.proofs.MoveLemmas.{all_append}
 use Rattle.xd_patterns.proofs.Tasking.{list_pieces, same_words, same_pieces, adds_none}
 
 -- a class that names nothing, but is excepted, is that of all texts

@@ -8,14 +8,16 @@ use Rattle.xd_runs.specs.Runs as Runs
 use Rattle.xd_runs.specs.Runs.{Continuation, Choice, stop}
 use Rattle.xd_runs.specs.Steps.{Ahead, ahead}
 use Rattle.xd_runs.proofs.Alike.{alike_same, alike_sym, alike_known, map_append_of}
-use Rattle.xd_patterns.specs.Chains.{list_at, lists_in, HasLink, KeepsLinks}
+use Rattle.xd_continuations.specs.Chains.{list_at, lists_in, HasLink, KeepsLinks}
 use Rattle.xd_patterns.specs.Pieces.{form_at, variable_of, IsBinder}
 use Rattle.xd_patterns.specs.Tasks.{Tables, words_at, piece_part, piece_at, pieces_at, IsPiece, ArePieces, AreBinders, or_none, IsTurn, StandsFor, PutsTasks, choice_at, IsFound, StandFound, Collects, Adds, HasFound}
-use Rattle.xd_patterns.specs.declared.chains.Link.{Link}
+use Rattle.xd_continuations.specs.declared.links.Link.{Link}
 use Rattle.xd_patterns.specs.declared.chains.Piece.{Piece}
 use Rattle.xd_patterns.specs.declared.expand.Task.{Task}
 use Rattle.xd_patterns.specs.declared.expand.Found.{Found}
-use Rattle.xd_patterns.proofs.ChainLemmas.{all_same, all_append, get_all, lists_all, has_kept, kept_list, kept_length, kept_same, kept_then}
+use Rattle.xd_continuations.proofs.ChainLemmas.{get_all, lists_all, has_kept, kept_list, kept_length, kept_same, kept_then}
+use Rattle.xd_continuations.proofs.Reaching.{all_same}
+use Rattle.xd_continuations.proofs.MoveLemmas.{all_append}
 
 -- what lists have
 

@@ -17,15 +17,15 @@ use Rattle.xd_syntax.specs.Nodes.{IsNode, form_parts, view_form}
 use Rattle.xd_syntax.specs.declared.nodes.FormView.{FormView}
 use Rattle.xd_syntax.specs.declared.nodes.FormView.TheVariants.{Empty, Text, Words, Name, Elem, Seq, Alt, Star, Plus, Opt, Val}
 use Rattle.xd_laws.proofs.Unfoldings.{same_word_eq}
-use Rattle.xd_patterns.specs.Chains.{list_at, lists_in}
+use Rattle.xd_continuations.specs.Chains.{list_at, lists_in}
 use Rattle.xd_patterns.specs.Pieces.{form_at, variable_of}
 use Rattle.xd_patterns.specs.Variables.{if_some, words_of, with_position, with_number, HasVariables, AreNumbered, numbers_in, put_each}
 use Rattle.xd_patterns.specs.Compiling.{texts_at, labels_at, rows_in}
 use Rattle.xd_patterns.specs.declared.variables.Numbers.{Numbers}
 use Rattle.xd_patterns.specs.declared.compile.StateMarks.{StateMarks}
-use Rattle.xd_patterns.specs.declared.chains.Link.{Link}
-use Rattle.xd_patterns.proofs.ChainLemmas.{list_none, lists-length}
-use Rattle.xd_patterns.proofs.LinkTests.{itself_number, same_number}
+use Rattle.xd_continuations.specs.declared.links.Link.{Link}
+use Rattle.xd_continuations.proofs.ChainLemmas.{list_none, lists-length}
+use Rattle.xd_continuations.proofs.LinkTests.{itself_number, same_number}
 
 -- occurrences
 

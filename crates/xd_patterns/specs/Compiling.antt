@@ -13,7 +13,7 @@ use Rattle.xd_runs.specs.Runs.{Continuation, Choice, choices, has_stop, texts_of
 use Rattle.xd_runs.specs.Mirrors.{Standing}
 use Rattle.xd_patterns.specs.Tasks.{Tables, words_at, continuation, ArePieces, choice_at, Adds}
 use Rattle.xd_patterns.specs.Marked.{Marking}
-use Rattle.xd_patterns.specs.declared.chains.Link.{Link}
+use Rattle.xd_continuations.specs.declared.links.Link.{Link}
 use Rattle.xd_patterns.specs.declared.chains.Piece.{Piece}
 use Rattle.xd_patterns.specs.declared.expand.Found.{Found}
 use Rattle.xd_patterns.specs.declared.compile.StateMarks.{StateMarks}

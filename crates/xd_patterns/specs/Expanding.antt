@@ -6,10 +6,10 @@ use Rattle.xd_syntax.specs.Ways.{Among}
 use Rattle.xd_runs.specs.Alike.{Alike}
 use Rattle.xd_runs.specs.Runs.{Choice, choices}
 use Rattle.xd_runs.specs.Steps.{Ahead, choices_ahead}
-use Rattle.xd_patterns.specs.Chains.{list_at}
+use Rattle.xd_continuations.specs.Chains.{list_at}
 use Rattle.xd_patterns.specs.Tasks.{Tables, pieces_at, continuation, ArePieces, StandsFor, PutsTasks, choice_at, StandFound, Collects, Adds}
 use Rattle.xd_patterns.specs.Work.{steps_of, work_left}
-use Rattle.xd_patterns.specs.declared.chains.Link.{Link}
+use Rattle.xd_continuations.specs.declared.links.Link.{Link}
 use Rattle.xd_patterns.specs.declared.chains.Piece.{Piece}
 use Rattle.xd_patterns.specs.declared.expand.Task.{Task}
 use Rattle.xd_patterns.specs.declared.expand.Found.{Found}

@@ -1,4 +1,3 @@
-pub mod Chains
 pub mod Pieces
 pub mod Bodies
 pub mod Tasks

@@ -12,9 +12,9 @@ use Rattle.xd_runs.specs.Alike.{Alike}
 use Rattle.xd_runs.specs.Runs as Runs
 use Rattle.xd_runs.specs.Runs.{Continuation, Choice, stop, take_text, take_element, start}
 use Rattle.xd_runs.specs.Steps.{Ahead, ahead, part_choice, part_steps}
-use Rattle.xd_patterns.specs.Chains.{list_at, HasLink, KeepsLinks}
+use Rattle.xd_continuations.specs.Chains.{list_at, HasLink, KeepsLinks}
 use Rattle.xd_patterns.specs.Pieces.{form_at, part_of, variable_of, IsBinder, IsPieceOf}
-use Rattle.xd_patterns.specs.declared.chains.Link.{Link}
+use Rattle.xd_continuations.specs.declared.links.Link.{Link}
 use Rattle.xd_patterns.specs.declared.chains.Piece.{Piece}
 use Rattle.xd_patterns.specs.declared.expand.Task.{Task}
 use Rattle.xd_patterns.specs.declared.expand.Found.{Found}

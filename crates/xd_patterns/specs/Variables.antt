@@ -4,9 +4,9 @@ use Rattle.std.specs.List.{list_any, slice_get}
 use Rattle.std.specs.Str.{bytes_eq}
 use Rattle.xd_syntax.specs.Words.{has_word}
 use Rattle.xd_syntax.specs.Table.{Row}
-use Rattle.xd_patterns.specs.Chains.{list_at}
+use Rattle.xd_continuations.specs.Chains.{list_at}
 use Rattle.xd_patterns.specs.Pieces.{form_at, variable_of}
-use Rattle.xd_patterns.specs.declared.chains.Link.{Link}
+use Rattle.xd_continuations.specs.declared.links.Link.{Link}
 use Rattle.xd_patterns.specs.declared.variables.Numbers.{Numbers}
 
 abbrev pub if_some : Option (List ℕ) → List (List ℕ)

@@ -2,19 +2,13 @@
 
 ghost use Rattle.std.specs.Prelude.{◌≡◌, ◌+◌, ◌<◌, ◌≤◌, ℕ, [], ◌∷◌, length, IfOk, OnErr};
 ghost use Rattle.xd_syntax.specs.Ways.{Among};
-ghost use Rattle.xd_patterns.specs.Chains.{AreLinks, HasLink, list_at};
+ghost use Rattle.xd_continuations.specs.Chains.{AreLinks, HasLink, list_at};
 
 use indexmap::IndexSet;
 use std::alloc::Global;
 use std::marker::Model;
+use xd_continuations::Link;
 use xd_doc::NoMemory;
-
-/// An item, and the number of the list behind it.
-#[derive(Clone, Copy, Debug, PartialEq, Eq, Hash)]
-pub(crate) struct Link<T> {
-    pub item: T,
-    pub behind: usize,
-}
 
 /// A part of a pattern or of a type, in the binders of some variables.
 ///
@@ -38,9 +32,9 @@ pub(crate) struct Cells {
 
 impl Model for Cells {
     ghost use Rattle.std.specs.Prelude.{List};
-    ghost use Rattle.xd_patterns.specs.declared.chains.Link.{Link};
+    ghost use Rattle.xd_continuations.specs.declared.links.Link.{Link};
     ghost use Rattle.xd_patterns.specs.declared.chains.Piece.{Piece};
-    ghost use Rattle.xd_patterns.specs.Chains.{AreLinks};
+    ghost use Rattle.xd_continuations.specs.Chains.{AreLinks};
 
     ghost Value = { List (Link Piece) };
 
@@ -57,8 +51,8 @@ pub(crate) struct Marks {
 
 impl Model for Marks {
     ghost use Rattle.std.specs.Prelude.{List, ℕ};
-    ghost use Rattle.xd_patterns.specs.declared.chains.Link.{Link};
-    ghost use Rattle.xd_patterns.specs.Chains.{AreLinks};
+    ghost use Rattle.xd_continuations.specs.declared.links.Link.{Link};
+    ghost use Rattle.xd_continuations.specs.Chains.{AreLinks};
 
     ghost Value = { List (Link ℕ) };
 

@@ -3,7 +3,7 @@
 ghost use Rattle.std.specs.Prelude.{◌≡◌, true, IfOk, ◌<◌, ◌≤◌, ◌++◌, ◌∷◌, [], ℕ, false, length, OnOk, Option, Some, None};
 ghost use Rattle.xd_syntax.specs.Tree.{Definitions};
 ghost use Rattle.xd_patterns.specs.Bodies.{node_of};
-ghost use Rattle.xd_patterns.specs.Chains.{list_at};
+ghost use Rattle.xd_continuations.specs.Chains.{list_at};
 ghost use Rattle.xd_laws.specs.Guarded.{Guarded};
 ghost use Rattle.xd_runs.specs.Steps.{Ahead};
 ghost use Rattle.xd_patterns.specs.Pieces.{IsPieceOf, Sees};
@@ -11,10 +11,11 @@ ghost use Rattle.xd_patterns.specs.Tasks.{rows_of, AreBodies, IsPiece, PushesPar
 ghost use Rattle.xd_patterns.specs.Expanding.{ends_turn, Enters, IsExpanded, IsVisited, AreFound};
 
 use crate::bodies::Bodies;
-use crate::chains::{Cells, Link, Marks, Piece};
+use crate::chains::{Cells, Marks, Piece};
 use crate::pieces::{View, view_pattern, view_type};
 use indexmap::IndexSet;
 use std::alloc::Global;
+use xd_continuations::Link;
 use xd_doc::{Label, NoMemory};
 use xd_syntax::{Patterns, TypeDef, Types};
 

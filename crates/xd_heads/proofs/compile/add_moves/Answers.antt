@@ -3,10 +3,10 @@ use Rattle.std.specs.List.{AllByRecursion}
 use Rattle.std.proofs.lemmas.List.{take_more, take_all}
 use Rattle.xd_syntax.specs.Table.{Row}
 use Rattle.xd_heads.specs.Found.{IsFound}
-use Rattle.xd_heads.specs.Cells.{KeepsCells}
-use Rattle.xd_heads.specs.declared.cells.Cell.{Cell}
+use Rattle.xd_continuations.specs.Chains.{KeepsLinks}
+use Rattle.xd_heads.specs.Cells.{Cell}
 use Rattle.xd_heads.specs.declared.expand.Found.{Found}
-use Rattle.xd_heads.proofs.CellLemmas.{kept_length}
+use Rattle.xd_continuations.proofs.ChainLemmas.{kept_length}
 use Rattle.xd_heads.proofs.Sparing.{others_same, others_then}
 use Rattle.xd_heads.proofs.AddingMoves.{IsAdding, adding_none, adding_more, moves_added}
 use Rattle.xd_heads.proofs.compile.add_moves.Goals as goal
@@ -19,7 +19,7 @@ found_at types cells [] i d a h = absurd (omega arith)
 found_at types cells (f ∷ fs) zero d a h = a.0
 found_at types cells (f ∷ fs) (suc i) d a h = found_at types cells fs i d a.1 (omega arith)
 
-still_found : (types : List Row) (old new : List Cell) (f : Found) → KeepsCells old new → IsFound types old f → IsFound types new f
+still_found : (types : List Row) (old new : List Cell) (f : Found) → KeepsLinks old new → IsFound types old f → IsFound types new f
 still_found types old new f k i = (i.0, (let l = kept_length old new k in let h = i.1 in omega arith))
 
 pub loop-one-init : goal.loop-one-init

@@ -2,24 +2,24 @@ use Rattle.std.proofs.Common.{◌≡◌, ◌<◌, ◌&&◌, ◌∷◌, ℕ, List
 use Rattle.xd_syntax.specs.CanBeEmpty.{can_be_empty}
 use Rattle.xd_syntax.specs.Tree.{Definitions, seq_of}
 use Rattle.xd_syntax.specs.Table.{Row}
-use Rattle.xd_heads.specs.Cells.{list_at}
+use Rattle.xd_continuations.specs.Chains.{list_at}
 use Rattle.xd_syntax.specs.TypeNames.{meanings}
 use Rattle.xd_heads.specs.Found.{continuation, piece_tree}
-use Rattle.xd_heads.specs.declared.cells.Cell.{Cell}
-use Rattle.xd_heads.proofs.CellLemmas.{list_none}
+use Rattle.xd_heads.specs.Cells.{Cell}
+use Rattle.xd_continuations.proofs.ChainLemmas.{list_none}
 use Rattle.xd_continuations.proofs.Reaching.{all_among}
 use Rattle.xd_heads.proofs.StateLemmas.{empty_first, none_empty}
 use Rattle.xd_heads.proofs.compile.is_last.Goals as goal
 
 -- whether a continuation can be empty, by its first piece and the others
-first_and_rest : (E : Definitions) (types : List Row) (cells : List Cell) (at : ℕ) (d : Cell) → list_at cells at ≡ d.piece ∷ list_at cells d.behind →
-    can_be_empty E (seq_of (continuation types cells at)) ≡ (can_be_empty E (piece_tree types d.piece) && can_be_empty E (seq_of (continuation types cells d.behind)))
+first_and_rest : (E : Definitions) (types : List Row) (cells : List Cell) (at : ℕ) (d : Cell) → list_at cells at ≡ d.item ∷ list_at cells d.behind →
+    can_be_empty E (seq_of (continuation types cells at)) ≡ (can_be_empty E (piece_tree types d.item) && can_be_empty E (seq_of (continuation types cells d.behind)))
 first_and_rest E types cells at d l =
-    ap (λ K. can_be_empty E (seq_of (map (piece_tree types) K))) l ∙ empty_first E (piece_tree types d.piece) (continuation types cells d.behind)
+    ap (λ K. can_be_empty E (seq_of (map (piece_tree types) K))) l ∙ empty_first E (piece_tree types d.item) (continuation types cells d.behind)
 
 pub is_empty-requires-clause-piece : goal.is_empty-requires-clause-piece
 is_empty-requires-clause-piece c =
-    all_among (λ (d : Cell). d.piece.node < length c.args.types.now) c.args.cells.now c.requires.nodes c.cell-cell.result c.cell-cell.ensures.stands
+    all_among (λ (d : Cell). d.item.node < length c.args.types.now) c.args.cells.now c.requires.nodes c.cell-cell.result c.cell-cell.ensures.stands
 
 pub returns-then-not-is_empty : goal.returns-then-not-is_empty
 returns-then-not-is_empty c =

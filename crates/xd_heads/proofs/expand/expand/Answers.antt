@@ -3,7 +3,7 @@ use Rattle.std.specs.List.{AllByRecursion}
 use Rattle.xd_continuations.specs.Expansion.{work_left}
 use Rattle.xd_syntax.specs.TypeNames.{meanings}
 use Rattle.xd_heads.specs.Found.{IsTask, waiting_at}
-use Rattle.xd_heads.specs.declared.cells.Cell.{Cell}
+use Rattle.xd_heads.specs.Cells.{Cell}
 use Rattle.xd_heads.proofs.Working.{IsExpanding, all_last, expanding_first, expanding_on, expanding_less, all_found}
 use Rattle.xd_heads.proofs.expand.expand.Goals as goal
 

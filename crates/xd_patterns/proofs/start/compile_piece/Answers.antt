@@ -2,9 +2,9 @@ use Rattle.std.proofs.Common.{ℕ, ◌∷◌, length, arith, refl, ap, sym, subs
 use Rattle.xd_patterns.specs.Compiling.{standing, marking, rows_in}
 use Rattle.xd_patterns.specs.Marked.{IsCompiled}
 use Rattle.xd_patterns.specs.Tasks.{Tables, IsPiece, ArePieces, AreBinders, meanings, piece_part}
-use Rattle.xd_patterns.specs.declared.chains.Link.{Link}
+use Rattle.xd_continuations.specs.declared.links.Link.{Link}
 use Rattle.xd_patterns.specs.declared.chains.Piece.{Piece}
-use Rattle.xd_patterns.proofs.ChainLemmas.{list_none}
+use Rattle.xd_continuations.proofs.ChainLemmas.{list_none}
 use Rattle.xd_patterns.proofs.Tasking.{adds_link}
 use Rattle.xd_patterns.proofs.Sparing.{spares_none, spares_then, extends_from, keeps_from}
 use Rattle.xd_patterns.proofs.CompileLemmas.{compiled_mirrors, start_stands}

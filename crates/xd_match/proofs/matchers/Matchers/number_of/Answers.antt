@@ -3,7 +3,7 @@ use Rattle.std.specs.HashMap.{get}
 use Rattle.xd_syntax.specs.Kept.{program_tree}
 use Rattle.xd_syntax.specs.Program.{names_of}
 use Rattle.xd_syntax.specs.Table.{tree_at}
-use Rattle.xd_patterns.proofs.LinkTests.{same_number}
+use Rattle.xd_continuations.proofs.LinkTests.{same_number}
 use Rattle.xd_match.specs.Matcher.{AllStand, HasMatcher}
 use Rattle.xd_match.specs.declared.matcher.Matcher.{Matcher}
 use Rattle.xd_match.proofs.PatternLaws.{all_stand_more, has_matcher_more, has_matcher_new}

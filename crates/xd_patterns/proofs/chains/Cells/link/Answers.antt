@@ -1,9 +1,9 @@
 use Rattle.std.proofs.Common.{◌≡◌, ◌+◌, ◌-◌, ◌<◌, ◌≤◌, ℕ, false, List, length, arith, get_or, sym, subst, ap, ◌∙◌}
 use Rattle.xd_syntax.specs.Ways.{Among}
-use Rattle.xd_patterns.specs.Chains.{AreLinks, list_at}
-use Rattle.xd_patterns.specs.declared.chains.Link.{Link}
+use Rattle.xd_continuations.specs.Chains.{AreLinks, list_at}
+use Rattle.xd_continuations.specs.declared.links.Link.{Link}
 use Rattle.xd_patterns.specs.declared.chains.Piece.{Piece}
-use Rattle.xd_patterns.proofs.ChainLemmas.{IsLinkAt, link_at, get_among}
+use Rattle.xd_continuations.proofs.ChainLemmas.{IsLinkAt, link_at, get_among}
 use Rattle.xd_patterns.proofs.chains.Cells.link.Goals as goal
 
 no_link : Link Piece

@@ -1,8 +1,9 @@
 use Rattle.std.proofs.Common.{subst}
-use Rattle.xd_patterns.specs.Chains.{AreLinks}
-use Rattle.xd_patterns.specs.declared.chains.Link.{Link}
+use Rattle.xd_continuations.specs.Chains.{AreLinks}
+use Rattle.xd_continuations.specs.declared.links.Link.{Link}
 use Rattle.xd_patterns.specs.declared.chains.Piece.{Piece}
-use Rattle.xd_patterns.proofs.LinkTests.{piece_test, same_piece, itself_piece, inserted, inserted_list}
+use Rattle.xd_continuations.proofs.LinkTests.{inserted, inserted_list}
+use Rattle.xd_patterns.proofs.PieceTests.{piece_test, same_piece, itself_piece}
 use Rattle.xd_patterns.proofs.chains.Cells.put.Goals as goal
 
 pub returns-clause-links : goal.returns-clause-links

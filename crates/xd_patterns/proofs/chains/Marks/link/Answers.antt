@@ -1,8 +1,8 @@
 use Rattle.std.proofs.Common.{◌≡◌, ◌+◌, ◌-◌, ◌<◌, ◌≤◌, ℕ, List, length, arith, get_or, sym, subst, ap, ◌∙◌}
 use Rattle.xd_syntax.specs.Ways.{Among}
-use Rattle.xd_patterns.specs.Chains.{AreLinks, list_at}
-use Rattle.xd_patterns.specs.declared.chains.Link.{Link}
-use Rattle.xd_patterns.proofs.ChainLemmas.{IsLinkAt, link_at, get_among}
+use Rattle.xd_continuations.specs.Chains.{AreLinks, list_at}
+use Rattle.xd_continuations.specs.declared.links.Link.{Link}
+use Rattle.xd_continuations.proofs.ChainLemmas.{IsLinkAt, link_at, get_among}
 use Rattle.xd_patterns.proofs.chains.Marks.link.Goals as goal
 
 no_link : Link ℕ

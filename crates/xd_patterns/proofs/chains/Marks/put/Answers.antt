@@ -1,8 +1,8 @@
 use Rattle.std.proofs.Common.{nat_eq, subst}
-use Rattle.xd_patterns.specs.Chains.{AreLinks}
-use Rattle.xd_patterns.specs.declared.chains.Link.{Link}
+use Rattle.xd_continuations.specs.Chains.{AreLinks}
+use Rattle.xd_continuations.specs.declared.links.Link.{Link}
 use Rattle.std.proofs.Common.{ℕ}
-use Rattle.xd_patterns.proofs.LinkTests.{same_number, itself_number, inserted, inserted_list}
+use Rattle.xd_continuations.proofs.LinkTests.{same_number, itself_number, inserted, inserted_list}
 use Rattle.xd_patterns.proofs.chains.Marks.put.Goals as goal
 
 pub returns-clause-links : goal.returns-clause-links

@@ -1,7 +1,8 @@
 -- Interned lists: each link is an item and an older list.
-use Rattle.std.specs.Prelude.{◌≡◌, ℕ, zero, suc, ◌≤◌, ◌⊎◌, List, [], ◌∷◌, ◌++◌, map, flat_map, length, get_or}
+use Rattle.std.specs.Prelude.{◌≡◌, ℕ, ◌≤◌, ◌⊎◌, List, [], ◌∷◌, ◌++◌, length, get_or}
 use Rattle.xd_syntax.specs.Ways.{Among}
-use Rattle.xd_patterns.specs.declared.chains.Link.{Link}
+use Rattle.xd_continuations.specs.Bounds.{lists_within}
+use Rattle.xd_continuations.specs.declared.links.Link.{Link}
 
 -- the lists of links, behind those of older ones
 abbrev pub lists_after : {A : Type 0} → List (List A) → List (Link A) → List (List A)
@@ -33,11 +34,6 @@ pub record KeepsLinks {A : Type 0} (old new : List (Link A)) : Type 0 where
   pub more : List (Link A)
   pub grown : new ≡ old ++ more
 
--- the lists of at most so many of these
-abbrev pub lists_within : {A : Type 0} → List A → ℕ → List (List A)
-lists_within xs zero = [] ∷ []
-lists_within xs (suc n) = [] ∷ flat_map (λ x. map (λ ys. x ∷ ys) (lists_within xs n)) xs
-
--- how many such lists there are
+-- how many lists of at most so many of these there are
 unfoldable pub room : {A : Type 0} → List A → ℕ → ℕ
 room xs most = length (lists_within xs most)

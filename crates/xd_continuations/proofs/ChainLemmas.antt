@@ -7,29 +7,11 @@ use Rattle.std.proofs.Math.Seq.{get_or-append_seam}
 use Rattle.xd_syntax.specs.Ways.{Among}
 use Rattle.xd_syntax.proofs.Members.{mem_append, append_left, append_right, map_mem, flat_mem}
 use Rattle.xd_laws.proofs.Pigeon.{NoRepeat, pigeon}
-use Rattle.xd_patterns.specs.Chains.{lists_after, lists_in, list_at, AreLinksAfter, AreLinks, HasLink, KeepsLinks, lists_within, room}
-use Rattle.xd_patterns.specs.declared.chains.Link.{Link}
-
-pub all_among : {A : Type 0} (P : A → Type 0) (xs : List A) → AllByRecursion P xs → (x : A) → Among x xs → P x
-all_among P [] a x m = absurd m
-all_among P (y ∷ xs) a x (inl e) = subst P e a.0
-all_among P (y ∷ xs) a x (inr m) = all_among P xs a.1 x m
-
-pub all_same : {A : Type 0} (P Q : A → Type 0) (xs : List A) → ((x : A) → P x → Q x) → AllByRecursion P xs → AllByRecursion Q xs
-all_same P Q [] h a = tt
-all_same P Q (x ∷ xs) h a = (h x a.0, all_same P Q xs h a.1)
-
-pub all_append : {A : Type 0} (P : A → Type 0) (xs ys : List A) → AllByRecursion P xs → AllByRecursion P ys → AllByRecursion P (xs ++ ys)
-all_append P [] ys a b = b
-all_append P (x ∷ xs) ys a b = (a.0, all_append P xs ys a.1 b)
-
-pub among_lists : {A : Type 0} (xs : List A) (n : ℕ) (K : List A) → AllByRecursion (λ x. Among x xs) K → length K ≤ n → Among K (lists_within xs n)
-among_lists xs zero [] a h = inl refl
-among_lists xs zero (x ∷ K) a h = absurd (omega arith)
-among_lists xs (suc n) [] a h = inl refl
-among_lists xs (suc n) (x ∷ K) a h =
-    inr (flat_mem (λ y. map (λ ys. y ∷ ys) (lists_within xs n)) (x ∷ K) x xs a.0
-    (map_mem (λ ys. x ∷ ys) K (lists_within xs n) (among_lists xs n K a.1 (omega arith))))
+use Rattle.xd_continuations.specs.Bounds.{lists_within}
+use Rattle.xd_continuations.specs.Chains.{lists_after, lists_in, list_at, AreLinksAfter, AreLinks, HasLink, KeepsLinks, room}
+use Rattle.xd_continuations.specs.declared.links.Link.{Link}
+use Rattle.xd_continuations.proofs.MoveLemmas.{all_append}
+use Rattle.xd_continuations.proofs.Reaching.{all_among, among_lists}
 
 pub get_among : {A : Type 0} (d : A) (xs : List A) (i : ℕ) → i < length xs → Among (get_or xs i d) xs
 get_among d [] i h = absurd (omega arith)
