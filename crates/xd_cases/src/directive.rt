@@ -28,8 +28,10 @@ pub enum Directive<'a> {
     Piece(usize),
     /// The command runs on these words.
     Run(&'a str),
-    /// The command runs on these words, once for each variation.
+    /// The command runs on these words, once for each variation; the statuses are shown.
     Each(Variation<'a>, &'a str),
+    /// The same; what is written is shown too.
+    Every(Variation<'a>, &'a str),
 }
 
 /// What is different from one run to the next.
@@ -90,7 +92,7 @@ fn sink(alloc: Global, line: &str) -> Result<Directive<'_>, CaseError> {
 }
 
 /// A variation, ` $ `, and the words of its runs.
-fn each(line: &str) -> Result<Directive<'_>, CaseError> {
+fn varied(line: &str) -> Result<(Variation<'_>, &str), CaseError> {
     let (variation, words) = line.split_once(" $ ").ok_or(CaseError::Directive)?;
     let variation = match variation {
         "fetch" => Variation::Fetch,
@@ -102,7 +104,7 @@ fn each(line: &str) -> Result<Directive<'_>, CaseError> {
                 .ok_or(CaseError::Directive)?,
         ),
     };
-    Ok(Directive::Each(variation, words))
+    Ok((variation, words))
 }
 
 /// What a line says.
@@ -123,7 +125,14 @@ pub fn parse(alloc: Global, line: &str) -> Result<Directive<'_>, CaseError> {
         }
         "sink" => sink(alloc, rest),
         "$" => Ok(Directive::Run(rest)),
-        "each" => each(rest),
+        "each" => {
+            let (variation, words) = varied(rest)?;
+            Ok(Directive::Each(variation, words))
+        }
+        "every" => {
+            let (variation, words) = varied(rest)?;
+            Ok(Directive::Every(variation, words))
+        }
         _ => Err(CaseError::Directive),
     }
 }

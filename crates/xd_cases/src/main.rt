@@ -45,8 +45,12 @@ fn obey<'a>(
             report::show_output(out, sink.written())?;
         }
         Directive::Each(variation, words) => {
-            let statuses = run::run_each(alloc, case, variation, &run::words(alloc, words)?)?;
-            report::show_statuses(out, &statuses)?;
+            let ended = run::run_each(alloc, case, variation, &run::words(alloc, words)?)?;
+            report::show_statuses(out, &ended)?;
+        }
+        Directive::Every(variation, words) => {
+            let ended = run::run_each(alloc, case, variation, &run::words(alloc, words)?)?;
+            report::show_outputs(out, &ended)?;
         }
     }
     Ok(())

@@ -1,6 +1,7 @@
 //! What is written of a run.
 
 use crate::error::CaseError;
+use crate::run::Ended;
 use std::io::Write;
 
 /// Of a longer output only so many bytes are written.
@@ -27,10 +28,21 @@ pub fn show_output(out: &mut Vec<u8>, output: &[u8]) -> Result<(), CaseError> {
 }
 
 /// Appends a line for each status and how often it comes in a row: `status 4 x 10`, then `status 0 x 1`.
-pub fn show_statuses(out: &mut Vec<u8>, statuses: &[u8]) -> Result<(), CaseError> {
-    for row in statuses.chunk_by(|one, next| one == next) {
-        if let Some(status) = row.first() {
-            writeln!(out, "status {status} x {}", row.len())?;
+pub fn show_statuses(out: &mut Vec<u8>, runs: &[Ended]) -> Result<(), CaseError> {
+    for row in runs.chunk_by(|one, next| one.status == next.status) {
+        if let Some(run) = row.first() {
+            writeln!(out, "status {} x {}", run.status, row.len())?;
+        }
+    }
+    Ok(())
+}
+
+/// The same, but runs in a row have to write the same too, and what they write stands behind the line.
+pub fn show_outputs(out: &mut Vec<u8>, runs: &[Ended]) -> Result<(), CaseError> {
+    for row in runs.chunk_by(|one, next| one.status == next.status && one.output == next.output) {
+        if let Some(run) = row.first() {
+            writeln!(out, "status {} x {}", run.status, row.len())?;
+            show_output(out, &run.output)?;
         }
     }
     Ok(())

@@ -13,6 +13,13 @@ const CANNOT_READ: u8 = 3;
 /// The status where the output can't be written.
 const CANNOT_WRITE: u8 = 4;
 
+/// How a run ended: its status, and what is written.
+#[derive(Drop)]
+pub struct Ended {
+    pub status: u8,
+    pub output: Vec<u8>,
+}
+
 /// The words between the spaces of a line.
 pub fn words(alloc: Global, line: &str) -> Result<Vec<String>, CaseError> {
     let mut words = Vec::new(alloc);
@@ -64,7 +71,7 @@ fn failure(variation: Variation<'_>) -> Option<u8> {
     }
 }
 
-/// Runs the command once for each variation: the statuses, in order.
+/// Runs the command once for each variation: how the runs ended, in order.
 ///
 /// Where calls fail or the room is short, the last run is the first that doesn't end for it.
 pub fn run_each(
@@ -72,20 +79,21 @@ pub fn run_each(
     case: &Case<'_>,
     variation: Variation<'_>,
     words: &[String],
-) -> Result<Vec<u8>, CaseError> {
+) -> Result<Vec<Ended>, CaseError> {
     let runs = match variation {
         Variation::Prefix(name) => case.text(name)?.len(),
         _ => usize::MAX,
     };
     let failure = failure(variation);
-    let mut statuses = Vec::new(alloc);
+    let mut ended = Vec::new(alloc);
     for number in 0..runs {
         let (mut shelf, mut sink) = varied(case, variation, number)?;
-        let status = xduce(alloc, words, &mut shelf, &mut sink);
-        statuses.push(status.code)?;
-        if failure.is_some_and(|code| code != status.code) {
+        let status = xduce(alloc, words, &mut shelf, &mut sink).code;
+        let output = Vec::from_slice(alloc, sink.written())?;
+        ended.push(Ended { status, output })?;
+        if failure.is_some_and(|code| code != status) {
             break;
         }
     }
-    Ok(statuses)
+    Ok(ended)
 }
