@@ -69,8 +69,8 @@ fn next_of_sequence(
     ensures keeps { Keeps store.old store.new }
 {
     let mut parts = parts;
-    parts.values.push(seq)?;
     let all = all_parts(sound, parts.expr);
+    keep_value(&mut parts.values, seq, all.len())?;
     let done = parts.values.as_slice().len();
     if done < all.len() {
         let next = part_at(all, done);
@@ -80,6 +80,18 @@ fn next_of_sequence(
     }
     let made = store.join(&parts.values)?;
     Ok(Step::Next(Control::Give(made)))
+}
+
+/// Adds the value of one of so many parts. Millions of frames may wait with a few values each, so the first
+/// takes no more room than they need.
+fn keep_value(values: &mut Vec<Seq>, seq: Seq, parts: usize) -> Result<(), NoMemory>
+    ensures { OnOk result (values.new.items ≡ values.old.items ++ seq ∷ []) }
+{
+    if values.is_empty() {
+        values.reserve_exact(parts.min(4))?;
+    }
+    values.push(seq)?;
+    Ok(())
 }
 
 /// The parts of a sequence, or the arguments of a call.
@@ -114,8 +126,8 @@ fn next_of_call(
     ensures step { IfOk result (λ step. IsStep sound.now store.now (frames.old.items ++ Frame.Call parts ∷ []) (Control.Give seq) left.old store.now frames.new.items left.new step) }
 {
     let mut parts = parts;
-    parts.values.push(seq)?;
     let all = all_parts(sound, parts.expr);
+    keep_value(&mut parts.values, seq, all.len())?;
     let done = parts.values.as_slice().len();
     if done < all.len() {
         let next = part_at(all, done);
@@ -160,7 +172,7 @@ pub(crate) fn bind(
 ) -> Result<Vec<(Label, Seq)>, NoMemory>
     ensures { IfOk result (λ made. made.items ≡ bound_seqs params.now values.now) }
 {
-    let mut made = Vec::new(alloc);
+    let mut made = Vec::with_capacity(alloc, params.len())?;
     let mut left = values;
     for param in params {
         let Some((value, others)) = left.split_first() else {

@@ -17,34 +17,34 @@ use Rattle.xd_eval.proofs.resuming.next_of_call.Goals as goal
 pub returns-then-done-all : goal.returns-then-done-all
 returns-then-done-all c =
     let p = c.args.sound.now in
-    let more : Parts = record { expr = c.args.parts.expr; values = c.push.new.self; scope = c.args.parts.scope } in
-    let h : HasOneMore c.args.parts more c.args.seq = record { expr = refl; values = c.in_ok-push.ensures.items; scope = refl } in
+    let more : Parts = record { expr = c.args.parts.expr; values = c.keep_value.new.values; scope = c.args.parts.scope } in
+    let h : HasOneMore c.args.parts more c.args.seq = record { expr = refl; values = c.in_ok-keep_value.ensures; scope = refl } in
     let is : List ℕ = parts_of (shape_at p.exprs c.args.parts.expr.at) in
     let numbers : expr_numbers c.all_parts-all.result.now ≡ is = c.all_parts-all.ensures.numbers in
     let count : length is ≡ length c.all_parts-all.result.now = sym (ap length numbers) ∙ count_numbers c.all_parts-all.result.now in
     let done : length c.as_slice-done.result.now ≡ length c.args.parts.values.items + 1 =
-    ap length c.as_slice-done.ensures.value ∙ ap length c.in_ok-push.ensures.items ∙ length-append c.args.parts.values.items _ in
+    ap length c.as_slice-done.ensures.value ∙ ap length c.in_ok-keep_value.ensures ∙ length-append c.args.parts.values.items _ in
     let test = c.if-done-all.true in
     let l : length c.args.parts.values.items + 1 < length is = omega arith in
     let g : c.part_at-next.result.at ≡ get_or is (length c.args.parts.values.items + 1) c.part_at-next.result.at =
     c.part_at-next.ensures c.part_at-next.result.at ∙ ap (λ k. get_or (expr_numbers c.all_parts-all.result.now) k c.part_at-next.result.at) done
     ∙ ap (λ xs. get_or xs (length c.args.parts.values.items + 1) c.part_at-next.result.at) numbers in
     record {
-      step = next_in_call p c.args.store.now c.args.parts more c.args.seq h c.args.frames.now.items c.push-then-done-all.new.self.items c.requires.frames c.requires.parts c.requires.seq c.args.left.now
+      step = next_in_call p c.args.store.now c.args.parts more c.args.seq h c.args.frames.now.items c.push.new.self.items c.requires.frames c.requires.parts c.requires.seq c.args.left.now
           c.part_at-next.result c.in_ok-scope.scope l g (part_below p is (length c.args.parts.values.items + 1) c.part_at-next.result.at (subst (AllByRecursion _) numbers c.all_parts-all.ensures.below) l g)
-          c.in_ok-scope.ensures c.in_ok-push-2.ensures.items c.requires.call;
+          c.in_ok-scope.ensures c.in_ok-push.ensures.items c.requires.call;
     }
 
 pub returns-in-None : goal.returns-in-None
 returns-in-None c =
     let p = c.args.sound.now in
-    let more : Parts = record { expr = c.args.parts.expr; values = c.push.new.self; scope = c.args.parts.scope } in
-    let h : HasOneMore c.args.parts more c.args.seq = record { expr = refl; values = c.in_ok-push.ensures.items; scope = refl } in
+    let more : Parts = record { expr = c.args.parts.expr; values = c.keep_value.new.values; scope = c.args.parts.scope } in
+    let h : HasOneMore c.args.parts more c.args.seq = record { expr = refl; values = c.in_ok-keep_value.ensures; scope = refl } in
     let is : List ℕ = parts_of (shape_at p.exprs c.args.parts.expr.at) in
     let numbers : expr_numbers c.all_parts-all.result.now ≡ is = c.all_parts-all.ensures.numbers in
     let count : length is ≡ length c.all_parts-all.result.now = sym (ap length numbers) ∙ count_numbers c.all_parts-all.result.now in
     let done : length c.as_slice-done.result.now ≡ length c.args.parts.values.items + 1 =
-    ap length c.as_slice-done.ensures.value ∙ ap length c.in_ok-push.ensures.items ∙ length-append c.args.parts.values.items _ in
+    ap length c.as_slice-done.ensures.value ∙ ap length c.in_ok-keep_value.ensures ∙ length-append c.args.parts.values.items _ in
     let test = c.if-done-all.false in
     let l : length is ≤ length c.args.parts.values.items + 1 = omega arith in
     record {
@@ -55,13 +55,13 @@ returns-in-None c =
 pub returns : goal.returns
 returns c =
     let p = c.args.sound.now in
-    let more : Parts = record { expr = c.args.parts.expr; values = c.push.new.self; scope = c.args.parts.scope } in
-    let h : HasOneMore c.args.parts more c.args.seq = record { expr = refl; values = c.in_ok-push.ensures.items; scope = refl } in
+    let more : Parts = record { expr = c.args.parts.expr; values = c.keep_value.new.values; scope = c.args.parts.scope } in
+    let h : HasOneMore c.args.parts more c.args.seq = record { expr = refl; values = c.in_ok-keep_value.ensures; scope = refl } in
     let is : List ℕ = parts_of (shape_at p.exprs c.args.parts.expr.at) in
     let numbers : expr_numbers c.all_parts-all.result.now ≡ is = c.all_parts-all.ensures.numbers in
     let count : length is ≡ length c.all_parts-all.result.now = sym (ap length numbers) ∙ count_numbers c.all_parts-all.result.now in
     let done : length c.as_slice-done.result.now ≡ length c.args.parts.values.items + 1 =
-    ap length c.as_slice-done.ensures.value ∙ ap length c.in_ok-push.ensures.items ∙ length-append c.args.parts.values.items _ in
+    ap length c.as_slice-done.ensures.value ∙ ap length c.in_ok-keep_value.ensures ∙ length-append c.args.parts.values.items _ in
     let test = c.if-done-all.false in
     let l : length is ≤ length c.args.parts.values.items + 1 = omega arith in
     let found = sym c.called.ensures.found ∙ ap option_copied c.in-Some.is in
