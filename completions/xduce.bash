@@ -22,7 +22,7 @@ _xduce() {
     local word=${COMP_WORDS[COMP_CWORD]} command=${COMP_WORDS[1]-} file=${COMP_WORDS[2]-} name
     COMPREPLY=()
     if ((COMP_CWORD == 1)); then
-        name='check fits run subtype upgrade verify'
+        name='check fits run sample subtype upgrade verify'
         # The script of the sources has a word of its own.
         [[ ${COMP_WORDS[0]} == */* ]] && name="$name help"
         while IFS= read -r name; do

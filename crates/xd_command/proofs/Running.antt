@@ -1,5 +1,5 @@
 -- What a run answers, from the steps that it takes.
-use Rattle.std.proofs.Common.{◌≡◌, ℕ, ◌≤◌, inl, inr, List, Option, Some, None, refl, subst, ◌∙◌}
+use Rattle.std.proofs.Common.{◌≡◌, ℕ, ◌+◌, ◌≤◌, inl, inr, List, Option, Some, None, Result, refl, subst, ◌∙◌}
 use Rattle.xd_base.specs.Outside.{HasRisen}
 use Rattle.xd_auto.specs.Automaton.{Automaton}
 use Rattle.xd_auto.specs.declared.auto.State.{State}
@@ -13,12 +13,15 @@ use Rattle.xd_syntax.specs.declared.types.TypeId.{TypeId}
 use Rattle.xd_syntax.specs.Sound.{main_parameter}
 use Rattle.xd_command.specs.Fits.{IsAcceptor}
 use Rattle.xd_command.specs.Output.{Output}
-use Rattle.xd_command.specs.Run.{AnswersInput, AnswersMain, AnswersRun, input_type, no_main}
+use Rattle.xd_command.specs.declared.output.Stop.{Stop}
+use Rattle.xd_command.specs.Run.{AnswersInput, AnswersMain, AnswersRun, EndsAtValue, IsValue, input_type, no_main}
+use Rattle.xd_command.specs.Sample.{AnswersPersons, Counts, sample_of}
+use Rattle.xd_command.specs.Step.{DoesAll, Step}
 use Rattle.xd_command.specs.Running.{AcceptsInput, IsInputTest}
 use Rattle.xd_command.specs.Documents.{EndsAtDocument, IsDocument}
 use Rattle.xd_command.specs.Texts.{Holding}
 use Rattle.xd_command.proofs.Inputs.{tree_of, input_is}
-use Rattle.xd_command.proofs.Steps.{document_later, document_same}
+use Rattle.xd_command.proofs.Steps.{document_later, document_same, does-map}
 
 -- a program has a test of its input where it has an input type
 
@@ -69,6 +72,16 @@ module _ (holds : Holding) (rose : Type 0) (document : List ℕ) (fuel : ℕ) (P
       → AnswersMain holds rose document fuel P (input_type P) o
   main_answers a s o d t k h = let e = has_type P a s t in goes_on (input_type P) o e.0 e.1 d k (h e.0 e.1)
 
+  -- a run that answers so on a document of a file
+  pub main_does : (a : Automaton) (s : State) (d : Document) (r : Result Output Stop) → IsInputTest P (Some (a, s)) → IsDocument holds document d →
+      ((T : Tree) → input_type P ≡ Some T → DoesAll r (AnswersInput P T fuel d)) → DoesAll r (AnswersMain holds rose document fuel P (input_type P))
+  main_does a s d r t k h =
+      let e = has_type P a s t in
+      let input = AnswersInput P e.0 fuel d in
+      let main = AnswersMain holds rose document fuel P (input_type P) in
+      let step : (o : Output) → input o → main o = λ o x. goes_on (input_type P) o e.0 e.1 d k x in
+      does-map input main input main r step step (h e.0 e.1)
+
   no_type : (E : Definitions) (i : Option Tree) (o : Output) → AcceptsInput E i None → o ≡ no_main → AnswersMain holds rose document fuel P i o
   no_type E None o t e = e
   no_type E (Some T) o t e = absurd t
@@ -88,3 +101,14 @@ pub run_later : (a b c : ℕ) {old new : Holding} (document : List ℕ) (fuel : 
     AnswersRun new (HasRisen b c) document fuel P o → AnswersRun old (HasRisen a c) document fuel P o
 run_later a b c {old} {new} document fuel P o le e (inl h) = inl h
 run_later a b c {old} {new} document fuel P o le e (inr h) = inr (h.0, main_later a b c {old = old} {new = new} document fuel P (input_type P) o le e h.1)
+
+-- what a sample answers
+
+module _ (persons : ℕ) (P : ProgramTree) where
+  counts_on : (i : Option Tree) (T : Tree) (o : Output) → i ≡ Some T → Step (EndsAtValue P T (persons + 1) (sample_of persons)) (IsValue P T (persons + 1) (sample_of persons)) (Counts persons) o → AnswersPersons persons P i o
+  counts_on None T o e h = absurd (cc)
+  counts_on (Some U) T o e h = let q : T ≡ U = cc in subst (λ V. Step (EndsAtValue P V (persons + 1) (sample_of persons)) (IsValue P V (persons + 1) (sample_of persons)) (Counts persons) o) q h
+
+  -- a sample that ends where its value is not found
+  pub persons_end : (T : Tree) (o : Output) → input_type P ≡ Some T → EndsAtValue P T (persons + 1) (sample_of persons) o → AnswersPersons persons P (input_type P) o
+  persons_end T o e h = counts_on (input_type P) T o e (inl h)

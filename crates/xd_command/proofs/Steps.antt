@@ -1,6 +1,8 @@
 -- What the steps of a command give.
 use Rattle.std.proofs.Common.{◌≡◌, ℕ, ◌+◌, ◌<◌, ◌≤◌, inl, inr, Bool, true, false, List, length, Option, Some, None, Result, Ok, Err, refl, sym, ap, subst, ◌∙◌, arith, length-take}
 use Rattle.std.proofs.lemmas.List.{take_all}
+use Rattle.std.proofs.lemmas.Result.{err_from_is_err_and}
+use Rattle.std.specs.Result.{IsErrAnd}
 use Rattle.xd_base.specs.Outside.{HasRisen, GivesFront, IsFrontOf, IsLacking}
 use Rattle.xd_doc.specs.Document.{Document}
 use Rattle.xd_command.specs.declared.output.Stop.{Stop}
@@ -16,6 +18,13 @@ use Rattle.xd_command.specs.Fits.{AnswersFits}
 pub ends-map : {A B : Type 0} (ends ends' : Output → Type 0) (finds : A → Type 0) (finds' : B → Type 0) (s : Stop) → ((o : Output) → ends o → ends' o) → DoesStep (Err s) ends finds → DoesStep (Err s) ends' finds'
 ends-map ends ends' finds finds' (Refused o) f h = f o h
 ends-map ends ends' finds finds' NoMemory f h = tt
+
+-- the same, for what its `?` returns
+pub ends-returned : {A B : Type 0} (ends ends' : Output → Type 0) (finds : A → Type 0) (finds' : B → Type 0) (s : Stop) (r : Result B Stop) → IsErrAnd r (λ t. t ≡ s) → ((o : Output) → ends o → ends' o) →
+    DoesStep (Err s) ends finds → DoesStep r ends' finds'
+ends-returned ends ends' finds finds' s r e f h =
+    let p = err_from_is_err_and r e in
+    subst (λ x. DoesStep x ends' finds') (sym (p.1 ∙ ap (λ t. Err t) p.2)) (ends-map ends ends' finds finds' s f h)
 
 -- a step does what another does
 pub does-map : {A : Type 0} (ends ends' : Output → Type 0) (finds finds' : A → Type 0) (r : Result A Stop) → ((o : Output) → ends o → ends' o) → ((x : A) → finds x → finds' x) → DoesStep r ends finds → DoesStep r ends' finds'

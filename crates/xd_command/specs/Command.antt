@@ -4,7 +4,7 @@ use Rattle.std.specs.Str.{bytes_eq}
 use Rattle.std.specs.Str.Parse.{digits_value}
 use Rattle.std.specs.Fmt.{decimal}
 use Rattle.xd_command.specs.declared.command.Command.{Command}
-use Rattle.xd_command.specs.declared.command.Command.TheVariants.{Fits, Subtype, Verify, Upgrade, Check, Run}
+use Rattle.xd_command.specs.declared.command.Command.TheVariants.{Fits, Subtype, Verify, Upgrade, Check, Run, Sample}
 
 -- how many calls a run may make
 abbrev pub fuel_limit : ℕ
@@ -13,15 +13,21 @@ fuel_limit = 10000000
 abbrev pub default_fuel : ℕ
 default_fuel = 1000000
 
+-- how many persons a sample may have
+abbrev pub sample_limit : ℕ
+sample_limit = 2000
+
 -- the number, from 1 to the limit, whose decimal digits the word is, without a sign or a leading zero
 abbrev pub number_within : (limit : ℕ) → List ℕ → Option ℕ
 number_within limit word =
     let n : ℕ = digits_value 10 word in
     cond (bytes_eq (decimal n) word && (nat_lt 0 n && nat_lt n (limit + 1))) (Some n) None
 
--- the commands of one text, of two and of three
-abbrev pub of_one : (command file : List ℕ) → Option Command
-of_one command file = if bytes_eq command (codes "check") then Some (Check file) else None
+-- the commands of one word behind their name, of two and of three
+abbrev pub of_one : (command first : List ℕ) → Option Command
+of_one command first =
+    if bytes_eq command (codes "check") then Some (Check first)
+    else (if bytes_eq command (codes "sample") then option_map (λ n. Sample n) (number_within sample_limit first) else None)
 
 abbrev pub of_two : (command file second : List ℕ) → Option Command
 of_two command file second =
@@ -42,7 +48,8 @@ command_of (command ∷ file ∷ second ∷ []) = of_two command file second
 command_of (command ∷ file ∷ second ∷ third ∷ []) = of_three command file second third
 command_of words = None
 
--- some call may be made, where the command is a run
+-- some call may be made, where the command is a run; and a sample is within its limit
 abbrev pub CanRun : Command → Type 0
 CanRun (Run file document fuel) = 1 ≤ fuel
+CanRun (Sample persons) = persons ≤ sample_limit
 CanRun command = Unit {0}

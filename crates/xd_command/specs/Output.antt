@@ -1,6 +1,6 @@
 -- The outputs of the command: each is a text that is written whole, with the status that goes with it. Each text ends
 -- with a line feed.
-use Rattle.std.specs.Prelude.{ℕ, List, [], ◌++◌, codes, flat_map}
+use Rattle.std.specs.Prelude.{ℕ, List, [], ◌++◌, codes, decimal, flat_map}
 use Rattle.xd_base.specs.declared.Place.{Place}
 use Rattle.xd_doc.specs.Document.{Document, canonical_text}
 use Rattle.xd_syntax.specs.declared.fault.Fault.{Fault}
@@ -16,6 +16,14 @@ yes = record { status = 0; text = codes "yes\n" }
 -- the canonical text of a document
 abbrev pub canonical : Document → Output
 canonical d = record { status = 0; text = canonical_text d ++ codes "\n" }
+
+-- what became of a sample: its persons, how long the texts of its document and of the value are, and how many calls were made
+abbrev pub summary : (persons document result calls : ℕ) → Output
+summary persons document result calls = record {
+  status = 0;
+  text =
+      codes "persons " ++ (decimal persons ++ (codes "\ndocument " ++ (decimal document ++ (codes "\nresult " ++ (decimal result ++ (codes "\ncalls " ++ (decimal calls ++ codes "\n")))))));
+}
 
 -- faults that carry no documents, each on a line
 abbrev pub fault_lines : List Fault → Output

@@ -1,5 +1,5 @@
 -- What `run` answers, behind the faults of names and of recursion.
-use Rattle.std.specs.Prelude.{◌≡◌, ◌≢◌, ◌⊎◌, ℕ, List, [], ◌∷◌, Option, Some, None}
+use Rattle.std.specs.Prelude.{◌≡◌, ◌≢◌, ◌⊎◌, ◌≤◌, ◌-◌, ℕ, List, [], ◌∷◌, Option, Some, None}
 use Rattle.xd_doc.specs.Document.{Document}
 use Rattle.xd_syntax.specs.Words.{main_word}
 use Rattle.xd_syntax.specs.Tree.{Tree}
@@ -8,7 +8,7 @@ use Rattle.xd_syntax.specs.Fits.{Fits}
 use Rattle.xd_syntax.specs.May.{FitsResult}
 use Rattle.xd_syntax.specs.Program.{Parameter, FunctionDefinition, ProgramTree, names_of, function_of}
 use Rattle.xd_syntax.specs.CheckFaults.{Line, AreLines, faults_among, IsAccepted}
-use Rattle.xd_syntax.specs.Meaning.{Outcome, Done, Spent, Stuck, meaning}
+use Rattle.xd_syntax.specs.Meaning.{Done, Spent, meaning}
 use Rattle.xd_syntax.specs.declared.fault.FaultKind.TheVariants.{NoMain}
 use Rattle.xd_command.specs.Output.{Output, fault_lines, outside_input, fuel_spent, canonical}
 use Rattle.xd_command.specs.Report.{AreLineTexts}
@@ -41,17 +41,23 @@ pub record EndsAtLines (P : ProgramTree) (o : Output) : Type 0 where
 abbrev pub no_main : Output
 no_main = fault_lines (record { place = None; kind = NoMain } ∷ [])
 
--- A value is written, which is of the declared result type; or more calls are needed. That a match fails has no answer.
-abbrev pub IsMeant : ProgramTree → Outcome Document → Output → Type 0
-IsMeant P (Done v left) o = FitsResult (names_of P) (function_of P.functions main_word) v × (o ≡ canonical v)
-IsMeant P Spent o = o ≡ fuel_spent
-IsMeant P Stuck o = ⊥
-
--- The document is outside the input type; or it is what the program means on so many calls.
-abbrev pub AnswersInput : ProgramTree → Tree → (fuel : ℕ) → Document → Output → Type 0
-AnswersInput P T fuel d o =
+-- The document is outside the input type; or the program needs more calls.
+abbrev pub EndsAtValue : ProgramTree → Tree → (fuel : ℕ) → Document → Output → Type 0
+EndsAtValue P T fuel d o =
     ((Fits (names_of P) T d → ⊥) × (o ≡ outside_input))
-    ⊎ (Fits (names_of P) T d × IsMeant P (meaning P fuel d) o)
+    ⊎ (Fits (names_of P) T d × (meaning P fuel d ≡ Spent) × (o ≡ fuel_spent))
+
+-- The value that the program means on the document, which is of the declared result type, and the calls that it takes.
+-- That a match fails has no answer: it is neither this nor that more calls are needed.
+pub record IsValue (P : ProgramTree) (T : Tree) (fuel : ℕ) (d : Document) (made : Document × ℕ) : Type 0 where
+  pub input : Fits (names_of P) T d
+  pub calls : made.1 ≤ fuel
+  pub value : meaning P fuel d ≡ Done made.0 (fuel - made.1)
+  pub result : FitsResult (names_of P) (function_of P.functions main_word) made.0
+
+-- what the program means on so many calls is written, where the document is an input
+abbrev pub AnswersInput : ProgramTree → Tree → (fuel : ℕ) → Document → Output → Type 0
+AnswersInput P T fuel d o = Step (EndsAtValue P T fuel d) (IsValue P T fuel d) (λ made o. o ≡ canonical made.0) o
 
 abbrev pub AnswersMain : Holding → (rose : Type 0) → (document : List ℕ) → (fuel : ℕ) → ProgramTree → Option Tree → Output → Type 0
 AnswersMain holds rose document fuel P None o = o ≡ no_main

@@ -4,7 +4,7 @@ ghost use Rattle.std.specs.Prelude.{◌≡◌, ◌<◌, ◌^◌, map, option_map
 ghost use Rattle.std.specs.String.{string_bytes};
 ghost use Rattle.xd_base.specs.Outside.{HasRisen};
 ghost use Rattle.xd_command.specs.Answer.{Answers};
-ghost use Rattle.xd_command.specs.Command.{CanRun, command_of, fuel_limit, number_within, of_one, of_three, of_two};
+ghost use Rattle.xd_command.specs.Command.{CanRun, command_of, fuel_limit, number_within, of_one, of_three, of_two, sample_limit};
 ghost use Rattle.xd_command.specs.declared.command.Command.TheVariants as commands;
 ghost use Rattle.xd_command.specs.Step.{DoesAll};
 
@@ -17,9 +17,12 @@ use xd_proof_form::read_number;
 mod check;
 mod fits;
 mod run;
+mod sample;
 mod subtype;
 mod upgrade;
 mod verify;
+
+pub use sample::sample_document;
 
 /// One of the command's words, which contracts see as its bytes.
 #[derive(Drop)]
@@ -84,6 +87,10 @@ pub enum Command<'a> {
         document: Word<'a>,
         fuel: u64,
     },
+    /// What becomes of the telephone program on a document of so many persons.
+    Sample {
+        persons: u64,
+    },
 }
 
 /// How many calls a run may make at most.
@@ -91,6 +98,9 @@ pub const FUEL_LIMIT: u64 = 10_000_000;
 
 /// How many calls a run may make where its words don't say.
 pub const DEFAULT_FUEL: u64 = 1_000_000;
+
+/// How many persons a sample may have.
+pub const SAMPLE_LIMIT: u64 = 2_000;
 
 /// The number that the word spells, where it is from 1 to the limit.
 fn number_within(limit: u64, word: &str) -> Option<u64>
@@ -112,7 +122,7 @@ impl<'a> Command<'a> {
         ensures { result ≡ command_of (map string_bytes words.now) }
     {
         match words {
-            [command, file] => Command::of_one(command.as_str(), file.as_str()),
+            [command, first] => Command::of_one(command.as_str(), first.as_str()),
             [command, file, second] => {
                 Command::of_two(command.as_str(), file.as_str(), second.as_str())
             }
@@ -126,16 +136,27 @@ impl<'a> Command<'a> {
         }
     }
 
-    /// A command on one text.
-    fn of_one(command: &str, file: &'a str) -> Option<Command<'a>>
-        ensures { result ≡ of_one command.now file.now }
+    /// A command on one text, or on a number.
+    fn of_one(command: &str, first: &'a str) -> Option<Command<'a>>
+        ensures { result ≡ of_one command.now first.now }
     {
         if command == "check" {
             return Some(Command::Check {
-                file: Word::new(file),
+                file: Word::new(first),
             });
         }
+        if command == "sample" {
+            return Command::sample(first);
+        }
         None
+    }
+
+    /// A sample of so many persons, where the word spells their number.
+    fn sample(persons: &str) -> Option<Command<'a>>
+        ensures { result ≡ option_map (λ n. commands.Sample n) (number_within sample_limit persons.now) }
+    {
+        let persons = number_within(SAMPLE_LIMIT, persons)?;
+        Some(Command::Sample { persons })
     }
 
     /// A command on a text and one more word.
@@ -241,6 +262,7 @@ impl<'a> Command<'a> {
                 document,
                 fuel,
             } => run::run(alloc, file.as_str(), document.as_str(), *fuel, shelf),
+            Command::Sample { persons } => sample::sample(alloc, *persons),
         }
     }
 }

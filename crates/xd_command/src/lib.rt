@@ -24,6 +24,7 @@ mod report;
 mod status;
 mod text;
 
+pub use command::sample_document;
 pub use status::Status;
 
 /// What the words ask for, made in memory.

@@ -151,6 +151,25 @@ impl Output {
         })
     }
 
+    /// How many persons a sample has, how many bytes its document and its value, and how many calls were made.
+    pub fn summary(
+        alloc: Global,
+        persons: u64,
+        document: usize,
+        value: usize,
+        calls: u64,
+    ) -> Result<Output, NoMemory>
+        ensures { IfOk result (λ o. o ≡ outputs.summary persons document value calls) }
+    {
+        let text = format!(in alloc;
+            "persons {persons}\ndocument {document}\nresult {value}\ncalls {calls}\n"
+        )?;
+        Ok(Output {
+            status: Status::SUCCESS,
+            text: text.into_bytes(),
+        })
+    }
+
     pub fn usage(alloc: Global) -> Result<Output, NoMemory>
         ensures { IfOk result (λ o. o ≡ outputs.usage) }
     {

@@ -18,7 +18,7 @@ use xd_rec::{Soundness, well_formed};
 use xd_syntax::SoundProgram;
 
 /// The program of a text, where it has no faults.
-fn sound_program(alloc: Global, bytes: &[u8]) -> Result<SoundProgram, Stop>
+pub fn sound_program(alloc: Global, bytes: &[u8]) -> Result<SoundProgram, Stop>
     ensures { DoesStep result (EndsAtFaults bytes.now) (λ sound. IsSoundText bytes.now (program_tree sound)) }
 {
     let program = match parse_program(alloc, bytes) {

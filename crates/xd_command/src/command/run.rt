@@ -2,12 +2,12 @@
 
 ghost use Rattle.std.specs.Prelude.{◌≡◌, ◌≤◌, Some, IfOk};
 ghost use Rattle.xd_base.specs.Outside.{HasRisen};
-ghost use Rattle.xd_doc.specs.Stored.{BelongsTo, document_at};
+ghost use Rattle.xd_doc.specs.Stored.{BelongsTo, Keeps, document_at};
 ghost use Rattle.xd_syntax.specs.Kept.{AddsTypes, program_tree};
 ghost use Rattle.xd_syntax.specs.CheckFaults.{IsAccepted};
 ghost use Rattle.xd_syntax.specs.Tree.{Tree};
 ghost use Rattle.xd_command.specs.Answer.{Answers};
-ghost use Rattle.xd_command.specs.Run.{AnswersInput, AnswersMain, AnswersRun, EndsAtLines, input_type};
+ghost use Rattle.xd_command.specs.Run.{AnswersInput, AnswersMain, AnswersRun, EndsAtLines, EndsAtValue, IsValue, input_type};
 ghost use Rattle.xd_command.specs.Running.{IsInputTest};
 ghost use Rattle.xd_command.specs.Step.{DoesAll, DoesStep};
 ghost use Rattle.xd_command.specs.declared.command.Command.TheVariants as commands;
@@ -41,7 +41,7 @@ fn input_test(alloc: Global, sound: &mut SoundProgram) -> Result<Option<(Auto, S
 }
 
 /// A program that is accepted, and the test of its input; else the faults of the program.
-fn accept(alloc: Global, sound: SoundProgram) -> Result<(Option<(Auto, State)>, Checked), Stop>
+pub fn accept(alloc: Global, sound: SoundProgram) -> Result<(Option<(Auto, State)>, Checked), Stop>
     ensures { DoesStep result (EndsAtLines (program_tree sound)) (λ made. (program_tree made.1 ≡ program_tree sound) × IsAccepted (program_tree sound) × IsInputTest (program_tree sound) made.0) }
 {
     let mut sound = sound;
@@ -65,7 +65,34 @@ fn accepted(alloc: Global, sound: SoundProgram) -> Result<Checked, Stop>
     }
 }
 
-/// Runs the accepted program on a document, where the state accepts exactly what fits its input type.
+/// The value of the accepted program on a document, and the calls that it took, where the state accepts exactly what fits its
+/// input type.
+pub fn value_on(
+    alloc: Global,
+    checked: &Checked,
+    auto: &Auto,
+    state: State,
+    store: &mut Store,
+    input: Seq,
+    fuel: u64,
+) -> Result<(Seq, u64), Stop>
+    requires test { IsInputTest (program_tree checked.now) (Some (auto.now, state)) }
+    requires input { BelongsTo store.old input }
+    requires fuel { 1 ≤ fuel }
+    ensures step { (T : Tree) → input_type (program_tree checked.now) ≡ Some T → DoesStep result (EndsAtValue (program_tree checked.now) T fuel (document_at store.old input)) (λ made. IsValue (program_tree checked.now) T fuel (document_at store.old input) (document_at store.new made.0, made.1)) }
+    ensures belongs { IfOk result (λ made. BelongsTo store.new made.0) }
+    ensures keeps { Keeps store.old store.new }
+{
+    if !accepts(alloc, auto, state, store, input)? {
+        return Err(Stop::Refused(Output::outside_input(alloc)?));
+    }
+    match evaluate(alloc, checked, store, input, fuel)? {
+        Outcome::Value(value, calls) => Ok((value, calls)),
+        Outcome::Spent => Err(Stop::Refused(Output::fuel_spent(alloc)?)),
+    }
+}
+
+/// Writes that value.
 fn run_on(
     alloc: Global,
     checked: &Checked,
@@ -74,19 +101,14 @@ fn run_on(
     store: &mut Store,
     input: Seq,
     fuel: u64,
-) -> Result<Output, NoMemory>
+) -> Result<Output, Stop>
     requires test { IsInputTest (program_tree checked.now) (Some (auto.now, state)) }
     requires input { BelongsTo store.old input }
     requires fuel { 1 ≤ fuel }
-    ensures { IfOk result (λ o. (T : Tree) → input_type (program_tree checked.now) ≡ Some T → AnswersInput (program_tree checked.now) T fuel (document_at store.old input) o) }
+    ensures { (T : Tree) → input_type (program_tree checked.now) ≡ Some T → DoesAll result (AnswersInput (program_tree checked.now) T fuel (document_at store.old input)) }
 {
-    if !accepts(alloc, auto, state, store, input)? {
-        return Ok(Output::outside_input(alloc)?);
-    }
-    match evaluate(alloc, checked, store, input, fuel)? {
-        Outcome::Value(value, _) => Ok(Output::canonical(alloc, store, value)?),
-        Outcome::Spent => Ok(Output::fuel_spent(alloc)?),
-    }
+    let (value, _) = value_on(alloc, checked, auto, state, store, input, fuel)?;
+    Ok(Output::canonical(alloc, store, value)?)
 }
 
 /// The same on the document of this file.
@@ -105,7 +127,7 @@ fn run_main<H: Shelf>(
 {
     let mut store = Store::new(alloc);
     let input = load_document(alloc, document, shelf, &mut store)?;
-    Ok(run_on(alloc, checked, auto, state, &mut store, input, fuel)?)
+    run_on(alloc, checked, auto, state, &mut store, input, fuel)
 }
 
 /// Runs `main` of the program of this file on the document of that file, with so many calls.

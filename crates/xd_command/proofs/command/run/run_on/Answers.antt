@@ -1,12 +1,16 @@
-use Rattle.std.proofs.Common.{sym, ◌∙◌}
+use Rattle.std.proofs.Common.{inl}
+use Rattle.xd_doc.specs.Stored.{document_at}
+use Rattle.xd_doc.specs.declared.store.Seq.{Seq}
+use Rattle.std.specs.Prelude.{ℕ}
 use Rattle.xd_syntax.specs.Kept.{program_tree}
-use Rattle.xd_command.proofs.Inputs.{fits_is_input}
-use Rattle.xd_command.proofs.Running.{has_type, tests}
+use Rattle.xd_command.specs.Run.{AnswersInput, EndsAtValue, IsValue}
+use Rattle.xd_command.proofs.Steps.{ends-returned}
 use Rattle.xd_command.proofs.command.run.run_on.Goals as goal
 
-pub evaluate-requires-clause-input : goal.evaluate-requires-clause-input
-evaluate-requires-clause-input c =
+pub returns-in_err-value : goal.returns-in_err-value
+returns-in_err-value c = λ T e.
     let P = program_tree c.args.checked.now in
-    let k = has_type P c.args.auto.now c.args.state c.requires.test in
-    let a = tests P k.0 c.args.auto.now c.args.state c.requires.test k.1 in
-    fits_is_input c.args.checked.now k.0 _ k.1 ((a.1 _).0 (sym c.in_ok-accepts.ensures ∙ c.if-not-branch.false))
+    let d = document_at c.args.store.now c.args.input in
+    let all = AnswersInput P T c.args.fuel d in
+    let made : Seq × ℕ → Type 0 = λ m. IsValue P T c.args.fuel d (document_at c.value_on.new.store m.0, m.1) in
+    ends-returned (EndsAtValue P T c.args.fuel d) all made all c.in_err-value.field-0.0 c.from_residual.result c.from_residual.ensures.1 (λ o h. inl h) (c.in_err-value.ensures.step T e)
