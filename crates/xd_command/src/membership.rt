@@ -11,10 +11,13 @@ ghost use Rattle.xd_command.specs.Fits.{IsAcceptor};
 use std::alloc::Global;
 use xd_auto::{Auto, Scratch, State, member};
 use xd_doc::{NoMemory, Seq, Store};
-use xd_heads::{Cells, compile_type};
+use xd_patterns::PatternCompiler;
 use xd_syntax::{SoundProgram, TypeId};
 
 /// A state that accepts exactly the documents that fit the type, in an automaton of its own.
+///
+/// The type is compiled as a pattern without variables: what it has twice, as by names that stand for one another's
+/// alternatives, is gone through once.
 pub fn acceptor(
     alloc: Global,
     sound: &mut SoundProgram,
@@ -25,9 +28,9 @@ pub fn acceptor(
     ensures adds { AddsTypes sound.old sound.new }
     ensures same { program_tree sound.new ≡ program_tree sound.old }
 {
-    let mut cells = Cells::new(alloc);
+    let compiler = PatternCompiler::new(alloc, sound)?;
     let mut auto = Auto::new(alloc);
-    let state = compile_type(alloc, sound, &mut cells, &mut auto, id)?;
+    let state = compiler.compile_plain_type(alloc, sound, id, &mut auto)?;
     Ok((auto, state))
 }
 

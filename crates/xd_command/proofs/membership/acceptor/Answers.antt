@@ -1,6 +1,19 @@
-use Rattle.std.proofs.Common.{sym, subst}
-use Rattle.xd_heads.specs.Mirrors.{Mirrors}
+use Rattle.std.proofs.Common.{◌≡◌, refl, ap, subst}
+use Rattle.xd_auto.specs.Automaton.{accepts}
+use Rattle.xd_syntax.specs.Fits.{Fits}
+use Rattle.xd_syntax.specs.Kept.{ProgramTable, program_tree}
+use Rattle.xd_syntax.specs.Program.{names_of}
+use Rattle.xd_syntax.specs.Types as types
+use Rattle.xd_syntax.proofs.AdoptLaws.{type_kept}
+use Rattle.xd_command.specs.Fits.{IsAcceptor}
 use Rattle.xd_command.proofs.membership.acceptor.Goals as goal
 
-pub compile_type-requires-clause-mirrors : goal.compile_type-requires-clause-mirrors
-compile_type-requires-clause-mirrors c = subst (Mirrors c.args.sound.now c.new-cells.result) (sym c.new-auto.ensures) (c.new-cells.ensures.mirrors c.args.sound.now)
+-- the types that the compiler adds leave this one as it is
+pub returns-clause-acceptor : goal.returns-clause-acceptor
+returns-clause-acceptor c =
+    let p : ProgramTable = c.args.sound.now in
+    let q : ProgramTable = c.new.new.sound in
+    let made = c.in_ok-state.ensures in
+    let there = type_kept p.types q.types (types.tree p.types c.args.id) c.args.id c.in_ok-compiler.ensures.adds.types (record { belongs = c.requires; same = refl }) in
+    subst (λ E. IsAcceptor E (types.tree p.types c.args.id) c.compile_plain_type.new.auto c.in_ok-state.state) (ap names_of c.in_ok-compiler.ensures.same)
+    (subst (λ T. IsAcceptor (names_of (program_tree q)) T c.compile_plain_type.new.auto c.in_ok-state.state) there.same (made.state, made.accepts))
