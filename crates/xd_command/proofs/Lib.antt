@@ -2,6 +2,7 @@ pub mod Growth
 pub mod CarryNothing
 pub mod Steps
 pub mod Inclusions
+pub mod KnownNames
 pub mod LineOrder
 pub mod Merged
 pub mod Numbers

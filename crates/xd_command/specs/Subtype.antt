@@ -1,15 +1,24 @@
 -- What `subtype` answers, behind the faults of the program.
-use Rattle.std.specs.Prelude.{◌≡◌, ◌≢◌, ◌⊎◌, ℕ, cond, true, List, [], ◌∷◌, ◌++◌, None}
+use Rattle.std.specs.Prelude.{◌≡◌, ◌≢◌, ◌⊎◌, ℕ, cond, true, List, [], ◌∷◌, ◌++◌, None, Some}
+use Rattle.xd_auto.specs.Automaton.{Automaton}
+use Rattle.xd_auto.specs.declared.auto.State.{State}
 use Rattle.xd_doc.specs.Document.{Document, is_proper}
-use Rattle.xd_syntax.specs.Tree.{Tree, Definitions}
+use Rattle.xd_syntax.specs.Tree.{Tree}
 use Rattle.xd_syntax.specs.Fits.{Fits, Included}
+use Rattle.xd_syntax.specs.Kept.{ProgramTable, program_tree}
 use Rattle.xd_syntax.specs.Program.{ProgramTree, names_of}
 use Rattle.xd_syntax.specs.Sound.{is_defined, type_named, IsTypeAt}
 use Rattle.xd_syntax.specs.Table.{Row}
 use Rattle.xd_syntax.specs.declared.types.TypeId.{TypeId}
 use Rattle.xd_syntax.specs.declared.fault.Fault.{Fault}
 use Rattle.xd_syntax.specs.declared.fault.FaultKind.TheVariants.{NoSuchName}
-use Rattle.xd_command.specs.Output.{Output, yes, separated, fault_lines}
+use Rattle.xd_heads.specs.CellsView.{CellsView}
+use Rattle.xd_heads.specs.Mirrors.{continuation_of}
+use Rattle.xd_laws.specs.Breach.{Lined, goals_of}
+use Rattle.xd_laws.specs.Consistent.{Goal, IsConsistent, numbered}
+use Rattle.xd_command.specs.Fits.{IsAcceptor}
+use Rattle.xd_command.specs.Output.{Output, separated, fault_lines}
+use Rattle.xd_command.specs.Proofs.{HasGoals}
 
 -- a fault where no type has this name
 abbrev pub undefined : ProgramTree → (name : List ℕ) → List Fault
@@ -22,16 +31,34 @@ undefined_names P left right = undefined P left ++ undefined P right
 abbrev pub EndsAtNames : ProgramTree → (left right : List ℕ) → Output → Type 0
 EndsAtNames P left right o = (undefined_names P left right ≢ []) × (o ≡ fault_lines (undefined_names P left right))
 
--- Every document of the first type is one of the second; or a document of the first type alone is written.
-abbrev pub AnswersInclusion : Definitions → (left right : Tree) → Output → Type 0
-AnswersInclusion E L R o =
-    (Included E L (R ∷ []) × (o ≡ yes))
-    ⊎ ((d : Document) × (is_proper d ≡ true) × Fits E L d × (Fits E R d → ⊥) × (o ≡ separated d))
+-- The text is a proof text over the types of the program, whose goals keep the rules, and whose first goal claims that every document
+-- of the one type is one of the other.
+pub record ProvesInclusion (P : ProgramTree) (L R : Tree) (text : List ℕ) : Type 0 where
+  pub goals : List Lined
+  pub spelled : HasGoals P text goals
+  pub consistent : IsConsistent (names_of P) (goals_of goals)
+  pub claim : Goal
+  pub first : numbered (goals_of goals) 1 ≡ Some claim
+  pub left : claim.left ≡ L
+  pub rights : claim.rights ≡ R ∷ []
+
+-- Every document of the first type is one of the second, and a proof of that is written; or a document of the first type alone is.
+abbrev pub AnswersInclusion : ProgramTree → (left right : Tree) → Output → Type 0
+AnswersInclusion P L R o =
+    (Included (names_of P) L (R ∷ []) × (o.status ≡ 0) × ProvesInclusion P L R o.text)
+    ⊎ ((d : Document) × (is_proper d ≡ true) × Fits (names_of P) L d × (Fits (names_of P) R d → ⊥) × (o ≡ separated d))
 
 abbrev pub AnswersSubtype : (left right : List ℕ) → ProgramTree → Output → Type 0
 AnswersSubtype left right P o =
     EndsAtNames P left right o
-    ⊎ ((undefined_names P left right ≡ []) × AnswersInclusion (names_of P) (type_named left) (type_named right) o)
+    ⊎ ((undefined_names P left right ≡ []) × AnswersInclusion P (type_named left) (type_named right) o)
+
+-- ---- of what follows only private contracts speak
+
+-- the state accepts exactly what fits the type, which its cells know
+pub record IsStateOf (p : ProgramTable) (c : CellsView) (a : Automaton) (T : Tree) (s : State) : Type 0 where
+  pub acceptor : IsAcceptor (names_of (program_tree p)) T a s
+  pub continuation : continuation_of p.types c s ≡ Some T
 
 -- both names are defined, and these are the types that they name
 pub record AreNamed (P : ProgramTree) (types : List Row) (left right : List ℕ) (ids : TypeId × TypeId) : Type 0 where

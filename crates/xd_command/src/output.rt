@@ -248,6 +248,16 @@ impl Output {
         })
     }
 
+    /// A proof text.
+    pub fn proved(text: Vec<u8>) -> Output
+        ensures { result ≡ record { status = 0; text = text.items } }
+    {
+        Output {
+            status: Status::SUCCESS,
+            text,
+        }
+    }
+
     /// A proof in the second format.
     pub fn proof(alloc: Global, sound: &SoundProgram, proof: &Proof) -> Result<Output, NoMemory>
         requires { (goals : List Lined) × AreGoalsAt sound.now.types proof.now goals }
@@ -255,10 +265,7 @@ impl Output {
     {
         let mut text = Vec::new(alloc);
         second_text(alloc, sound, proof, &mut text)?;
-        Ok(Output {
-            status: Status::SUCCESS,
-            text,
-        })
+        Ok(Output::proved(text))
     }
 
     /// The lines of faults that carry no documents.

@@ -1,10 +1,11 @@
 //! Programs from their files.
 
-ghost use Rattle.std.specs.Prelude.{◌≡◌, ◌≤◌};
+ghost use Rattle.std.specs.Prelude.{◌≡◌, ◌≤◌, IfOk};
 ghost use Rattle.std.specs.List.{AllByRecursion};
 ghost use Rattle.xd_base.specs.Outside.{HasRisen};
 ghost use Rattle.xd_report.specs.Report.{CarriesFrom};
 ghost use Rattle.xd_syntax.specs.Kept.{program_tree};
+ghost use Rattle.xd_syntax.specs.Shallow.{IsShallow};
 ghost use Rattle.xd_command.specs.Programs.{EndsAtFaults, EndsAtProgram, IsProgram, IsSoundText};
 ghost use Rattle.xd_command.specs.Step.{DoesStep};
 
@@ -19,7 +20,8 @@ use xd_syntax::SoundProgram;
 
 /// The program of a text, where it has no faults.
 pub fn sound_program(alloc: Global, bytes: &[u8]) -> Result<SoundProgram, Stop>
-    ensures { DoesStep result (EndsAtFaults bytes.now) (λ sound. IsSoundText bytes.now (program_tree sound)) }
+    ensures step { DoesStep result (EndsAtFaults bytes.now) (λ sound. IsSoundText bytes.now (program_tree sound)) }
+    ensures shallow { IfOk result (λ sound. IsShallow sound.types) }
 {
     let program = match parse_program(alloc, bytes) {
         Ok(program) => program,
@@ -45,6 +47,7 @@ pub fn load_program<H: Shelf>(
     shelf: &mut H,
 ) -> Result<SoundProgram, Stop>
     ensures step { DoesStep result (EndsAtProgram (H.holds shelf.old) (HasRisen (H.faults shelf.old) (H.faults shelf.new)) file.now) (λ sound. IsProgram (H.holds shelf.old) file.now (program_tree sound)) }
+    ensures shallow { IfOk result (λ sound. IsShallow sound.types) }
     ensures same { H.holds shelf.new ≡ H.holds shelf.old }
     ensures never_falls { H.faults shelf.old ≤ H.faults shelf.new }
 {

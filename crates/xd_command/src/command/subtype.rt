@@ -1,17 +1,14 @@
 //! The command `subtype`.
 
-ghost use Rattle.std.specs.Prelude.{◌≡◌, true, false, IfOk, MatchOption};
-ghost use Rattle.xd_auto.specs.Automaton.{accepts, IsState};
+ghost use Rattle.std.specs.Prelude.{◌≡◌, IfOk};
 ghost use Rattle.xd_base.specs.Outside.{HasRisen};
-ghost use Rattle.xd_doc.specs.Document.{Document};
-ghost use Rattle.xd_doc.specs.Stored.{BelongsTo, document_at};
+ghost use Rattle.xd_heads.specs.Mirrors.{Mirrors};
 ghost use Rattle.xd_syntax.specs.Kept.{program_tree};
-ghost use Rattle.xd_syntax.specs.Program.{names_of};
-ghost use Rattle.xd_syntax.specs.Sound.{type_named};
+ghost use Rattle.xd_syntax.specs.Shallow.{IsShallow};
 ghost use Rattle.xd_syntax.specs.Types as types;
+ghost use Rattle.xd_proof_make.specs.Made.{UsesDefined};
 ghost use Rattle.xd_command.specs.Answer.{Answers};
-ghost use Rattle.xd_command.specs.Fits.{IsAcceptor};
-ghost use Rattle.xd_command.specs.Subtype.{AnswersInclusion, AnswersSubtype, AreNamed, EndsAtNames};
+ghost use Rattle.xd_command.specs.Subtype.{AnswersInclusion, AnswersSubtype, AreNamed, EndsAtNames, IsStateOf};
 ghost use Rattle.xd_command.specs.Step.{DoesAll, DoesStep};
 ghost use Rattle.xd_command.specs.declared.command.Command.TheVariants as commands;
 
@@ -20,31 +17,19 @@ use crate::program::load_program;
 use std::alloc::Global;
 use xd_auto::{Auto, State};
 use xd_base::Shelf;
-use xd_doc::{NoMemory, Seq, Store};
+use xd_doc::{NoMemory, Store};
 use xd_goals::{Table, Verdict, decide, new_tables_stand};
 use xd_heads::{Cells, compile_type};
+use xd_proof_text::proof_text;
 use xd_syntax::{SoundProgram, TypeId};
 
-/// A document that the one state accepts and the other doesn't; `None` exactly where there is none.
-fn separating(
-    alloc: Global,
-    auto: &Auto,
+/// Two types as states of one automaton, with its cells.
+#[derive(Drop)]
+struct Both {
+    cells: Cells,
+    auto: Auto,
     left: State,
     right: State,
-    store: &mut Store,
-) -> Result<Option<Seq>, NoMemory>
-    requires left { IsState auto.now left }
-    requires right { IsState auto.now right }
-    ensures { IfOk result (λ found. MatchOption found
-        ((d : Document) → accepts auto.now d left ≡ true → accepts auto.now d right ≡ true)
-        (λ seq. BelongsTo store.new seq × (accepts auto.now (document_at store.new seq) left ≡ true) × (accepts auto.now (document_at store.new seq) right ≡ false))) }
-{
-    let mut table = Table::new(alloc);
-    new_tables_stand(auto, store);
-    match decide(alloc, auto, &mut table, left, &[right], store)? {
-        Verdict::Included(_) => Ok(None),
-        Verdict::Separated(document) => Ok(Some(document)),
-    }
 }
 
 /// The types of both names; the command ends where one isn't defined.
@@ -56,6 +41,7 @@ fn named_types(
 ) -> Result<(TypeId, TypeId), Stop>
     ensures step { DoesStep result (EndsAtNames (program_tree sound.old) left.now right.now) (AreNamed (program_tree sound.old) sound.new.types left.now right.now) }
     ensures same { program_tree sound.new ≡ program_tree sound.old }
+    ensures shallow { IsShallow sound.old.types → IsShallow sound.new.types }
 {
     let one = sound.find_type(left)?;
     let other = sound.find_type(right)?;
@@ -67,26 +53,34 @@ fn named_types(
     }
 }
 
-/// States of one automaton, each of which accepts exactly the documents that fit its type.
-fn acceptors(
+/// States that accept exactly the documents that fit these types.
+fn compile_both(
     alloc: Global,
     sound: &mut SoundProgram,
     left: TypeId,
     right: TypeId,
-) -> Result<(Auto, State, State), NoMemory>
+) -> Result<Both, NoMemory>
     requires left { types.BelongsTo sound.old.types left }
     requires right { types.BelongsTo sound.old.types right }
-    ensures left { IfOk result (λ made. IsAcceptor (names_of (program_tree sound.old)) (types.tree sound.old.types left) made.0 made.1) }
-    ensures right { IfOk result (λ made. IsAcceptor (names_of (program_tree sound.old)) (types.tree sound.old.types right) made.0 made.2) }
+    ensures left { IfOk result (λ both. IsStateOf sound.new both.cells both.auto (types.tree sound.old.types left) both.left) }
+    ensures right { IfOk result (λ both. IsStateOf sound.new both.cells both.auto (types.tree sound.old.types right) both.right) }
+    ensures mirrors { IfOk result (λ both. Mirrors sound.new both.cells both.auto) }
+    ensures same { program_tree sound.new ≡ program_tree sound.old }
+    ensures shallow { IsShallow sound.old.types → IsShallow sound.new.types }
 {
     let mut cells = Cells::new(alloc);
     let mut auto = Auto::new(alloc);
     let one = compile_type(alloc, sound, &mut cells, &mut auto, left)?;
     let other = compile_type(alloc, sound, &mut cells, &mut auto, right)?;
-    Ok((auto, one, other))
+    Ok(Both {
+        cells,
+        auto,
+        left: one,
+        right: other,
+    })
 }
 
-/// Whether every document of the one type is one of the other.
+/// Whether every document of the one type is one of the other: a proof, or a document of the one alone.
 fn compare(
     alloc: Global,
     sound: &mut SoundProgram,
@@ -95,19 +89,37 @@ fn compare(
 ) -> Result<Output, NoMemory>
     requires left { types.BelongsTo sound.old.types left }
     requires right { types.BelongsTo sound.old.types right }
-    ensures { IfOk result (AnswersInclusion (names_of (program_tree sound.old)) (types.tree sound.old.types left) (types.tree sound.old.types right)) }
+    requires shallow { IsShallow sound.old.types }
+    requires left_names { UsesDefined (program_tree sound.old) (types.tree sound.old.types left) }
+    requires right_names { UsesDefined (program_tree sound.old) (types.tree sound.old.types right) }
+    ensures { IfOk result (AnswersInclusion (program_tree sound.old) (types.tree sound.old.types left) (types.tree sound.old.types right)) }
 {
-    let (auto, one, other) = acceptors(alloc, sound, left, right)?;
+    let both = compile_both(alloc, sound, left, right)?;
     let mut store = Store::new(alloc);
-    match separating(alloc, &auto, one, other, &mut store)? {
-        None => {
-            let yes = Output::yes(alloc)?;
-            Ok(yes)
+    let mut table = Table::new(alloc);
+    new_tables_stand(&both.auto, &store);
+    match decide(
+        alloc,
+        &both.auto,
+        &mut table,
+        both.left,
+        &[both.right],
+        &mut store,
+    )? {
+        Verdict::Included(goal) => {
+            let mut text = Vec::new(alloc);
+            proof_text(
+                alloc,
+                sound,
+                &both.cells,
+                &both.auto,
+                &table,
+                goal,
+                &mut text,
+            )?;
+            Ok(Output::proved(text))
         }
-        Some(document) => {
-            let no = Output::separated(alloc, &store, document)?;
-            Ok(no)
-        }
+        Verdict::Separated(document) => Ok(Output::separated(alloc, &store, document)?),
     }
 }
 
@@ -132,6 +144,7 @@ fn compare_named(
     left: &str,
     right: &str,
 ) -> Result<Output, Stop>
+    requires { IsShallow sound.old.types }
     ensures { DoesAll result (AnswersSubtype left.now right.now (program_tree sound.old)) }
 {
     let (one, other) = named_types(alloc, sound, left, right)?;

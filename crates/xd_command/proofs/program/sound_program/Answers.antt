@@ -3,8 +3,8 @@ use Rattle.xd_syntax.specs.Kept.{program_tree}
 use Rattle.xd_command.proofs.CarryNothing.{CarryNothing, names_carry, recursion_carry}
 use Rattle.xd_command.proofs.program.sound_program.Goals as goal
 
-pub returns-in-Err-Fault : goal.returns-in-Err-Fault
-returns-in-Err-Fault c =
+pub returns-in-Err-Fault-clause-step : goal.returns-in-Err-Fault-clause-step
+returns-in-Err-Fault-clause-step c =
     let first = rw c.in-Err-Fault.field-0-is at c.in-Err-Fault.ensures.fault in
     (c.in-Err-Fault.fault ∷ [], inl (c.in-Err-Fault.fault, first, refl), c.in_ok-faults-in-Err-Fault.ensures)
 

@@ -13,7 +13,7 @@ returns-in_err-sound c =
     let all = Step (EndsAtFaults telephone_program) (IsSoundText telephone_program) (AnswersSample c.args.persons) in
     let sound : ProgramTable → Type 0 = λ p. IsSoundText c.as_bytes.result.now (program_tree p) in
     ends-returned (EndsAtFaults c.as_bytes.result.now) all sound all c.in_err-sound.field-0.0 c.from_residual.result c.from_residual.ensures.1
-    (λ o h. inl (subst (λ bytes. EndsAtFaults bytes o) text h)) c.in_err-sound.ensures
+    (λ o h. inl (subst (λ bytes. EndsAtFaults bytes o) text h)) c.in_err-sound.ensures.step
 
 pub returns : goal.returns
 returns c =
@@ -21,6 +21,6 @@ returns c =
     let text : c.as_bytes.result.now ≡ telephone_program = c.as_bytes.ensures.value in
     let all = Step (EndsAtFaults telephone_program) (IsSoundText telephone_program) (AnswersSample c.args.persons) in
     let later = AnswersSample c.args.persons P in
-    let sound : IsSoundText telephone_program P = subst (λ bytes. IsSoundText bytes P) text c.in_ok-sound.ensures in
+    let sound : IsSoundText telephone_program P = subst (λ bytes. IsSoundText bytes P) text c.in_ok-sound.ensures.step in
     let step : (o : Output) → later o → all o = λ o a. inr (P, sound, a) in
     does-map later all later all c.sample_program.result step step c.sample_program.ensures

@@ -1,0 +1,37 @@
+use Rattle.std.proofs.Common.{refl, sym, subst, ap, ◌∙◌}
+use Rattle.xd_syntax.specs.Types.{tree}
+use Rattle.xd_syntax.specs.Program.{names_of}
+use Rattle.xd_syntax.proofs.AdoptLaws.{type_kept}
+use Rattle.xd_heads.specs.Mirrors.{Mirrors}
+use Rattle.xd_command.specs.Fits.{IsAcceptor}
+use Rattle.xd_command.specs.Subtype.{IsStateOf}
+use Rattle.xd_command.proofs.command.subtype.compile_both.Goals as goal
+
+pub compile_type-requires-clause-mirrors : goal.compile_type-requires-clause-mirrors
+compile_type-requires-clause-mirrors c = subst (Mirrors c.args.sound.now c.new-cells.result) (sym c.new-auto.ensures) (c.new-cells.ensures.mirrors c.args.sound.now)
+
+pub returns-clause-left : goal.returns-clause-left
+returns-clause-left c =
+    let e = c.in_ok-other.ensures in
+    let o = c.in_ok-one.ensures in
+    let T = tree c.args.sound.now.types c.args.left in
+    let P = ap names_of (e.same ∙ o.same) in
+    record {
+      acceptor = subst (λ E. IsAcceptor E T c.compile_type-2.new.auto c.in_ok-one.one) (sym P) (
+        e.extends.states c.in_ok-one.one o.state,
+        λ d. let k = e.keeps d c.in_ok-one.one o.state in ((λ t. (o.accepts d).0 (sym k ∙ t)), (λ f. k ∙ (o.accepts d).1 f)),
+      );
+      continuation = e.owners.types c.in_ok-one.one T o.continuation;
+    }
+
+pub returns-clause-right : goal.returns-clause-right
+returns-clause-right c =
+    let e = c.in_ok-other.ensures in
+    let mid = c.compile_type.new.sound in
+    let T = tree c.args.sound.now.types c.args.right in
+    let t = type_kept c.args.sound.now.types mid.types T c.args.right c.in_ok-one.ensures.adds.types (record { belongs = c.requires.right; same = refl }) in
+    subst (λ U. IsStateOf c.compile_type-2.new.sound c.compile_type-2.new.cells c.compile_type-2.new.auto U c.in_ok-other.other) t.same
+    (record {
+      acceptor = subst (λ E. IsAcceptor E (tree mid.types c.args.right) c.compile_type-2.new.auto c.in_ok-other.other) (sym (ap names_of e.same)) (e.state, e.accepts);
+      continuation = e.continuation;
+    })
