@@ -1,16 +1,19 @@
 -- States of types, and types that stay.
-use Rattle.std.proofs.Common.{◌≡◌, ℕ, List, Option, Some, None, refl}
+use Rattle.std.proofs.Common.{◌≡◌, ◌++◌, ◌∷◌, [], ℕ, List, Option, Some, None, refl}
+use Rattle.std.specs.List.{AllByRecursion}
 use Rattle.xd_auto.specs.declared.auto.State.{State}
-use Rattle.xd_auto.specs.Automaton.{state_number}
+use Rattle.xd_auto.specs.Automaton.{Automaton, Extends, IsState, state_number}
 use Rattle.xd_syntax.specs.Table.{Row, KeepsRows, tree_at}
 use Rattle.xd_syntax.specs.Tree.{Tree}
 use Rattle.xd_syntax.specs.Types.{BelongsTo}
 use Rattle.xd_syntax.specs.declared.types.TypeId.{TypeId}
 use Rattle.xd_syntax.proofs.AdoptLaws.{type_kept}
+use Rattle.xd_goals.proofs.Lists.{all_map, all_push}
 use Rattle.xd_heads.specs.CellsView.{CellsView}
 use Rattle.xd_heads.specs.Compiled.{numbered}
 use Rattle.xd_heads.specs.Mirrors.{IsTypeState, as_type, continuation_of}
 use Rattle.xd_heads.specs.States.{number_at}
+use Rattle.xd_state_calls.specs.declared.programs.Named.{Named}
 
 pub belongs_kept : (old new : List Row) (id : TypeId) → KeepsRows old new → BelongsTo old id → BelongsTo new id
 belongs_kept old new id k b = (type_kept old new (tree_at old id.at) id k (record { belongs = b; same = refl })).belongs
@@ -22,3 +25,9 @@ some_number types c (Some n) T e = (n, refl)
 -- a state with a continuation is one of a type
 pub is_type_state : (types : List Row) (c : CellsView) (s : State) {T : Tree} → continuation_of types c s ≡ Some T → IsTypeState c s
 is_type_state types c s {T} e = some_number types c (number_at c.owners (state_number s)) T e
+
+-- names stay those of states as the automaton grows, and one more is put behind them
+pub named_more : (old new : Automaton) (xs ys : List Named) (n : Named) → Extends old new → AllByRecursion (λ (m : Named). IsState old m.state) xs → IsState new n.state → ys ≡ xs ++ n ∷ []
+    → AllByRecursion (λ (m : Named). IsState new m.state) ys
+named_more old new xs ys n more h k e =
+    rw e (all_push (λ (m : Named). IsState new m.state) xs n (all_map (λ (m : Named). IsState old m.state) (λ (m : Named). IsState new m.state) xs (λ m s. more.states m.state s) h) k)

@@ -6,6 +6,7 @@ mod cases;
 mod error;
 mod programs;
 mod states;
+mod tables;
 mod types;
 
 use crate::call::Call;
@@ -21,7 +22,9 @@ fn answer(call: &Call<'_>, out: &mut Vec<u8>) -> Result<(), CallError> {
         "heads" => types::show_heads(call, out),
         "state_type" => types::show_state_type(call, out),
         "inhabitant" => types::show_inhabitant(call, out),
-        "decide" => states::show_decided(call, out),
+        "decide" => tables::show_decided(call, out),
+        "moved" => tables::show_moved(call, out),
+        "questions" => tables::show_questions(call, out),
         "product" => states::show_product(call, out),
         "minus" => states::show_minus(call, out),
         "pair_up" => states::show_pairs(call, out),

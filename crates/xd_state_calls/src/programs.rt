@@ -1,10 +1,14 @@
 //! The types of a program, and states for them.
 
-ghost use Rattle.std.specs.Prelude.{IfOk};
+ghost use Rattle.std.specs.Prelude.{◌≡◌, IfOk, OnOk};
+ghost use Rattle.std.specs.List.{AllByRecursion};
 ghost use Rattle.xd_auto.specs.Automaton.{IsState};
-ghost use Rattle.xd_syntax.specs.Kept.{AddsTypes};
+ghost use Rattle.xd_heads.specs.Mirrors.{Mirrors};
+ghost use Rattle.xd_syntax.specs.Kept.{AddsTypes, program_tree};
 ghost use Rattle.xd_syntax.specs.Types.{BelongsTo};
+ghost use Rattle.xd_state_calls.specs.declared.programs.Named.{Named};
 
+use crate::call::Call;
 use crate::error::CallError;
 use std::alloc::Global;
 use xd_auto::{Auto, State};
@@ -15,7 +19,7 @@ use xd_rec::{Soundness, well_formed};
 use xd_syntax::{SoundProgram, TypeId};
 
 /// The program of a text without faults.
-pub fn sound_program(alloc: Global, text: &str) -> Result<SoundProgram, CallError> {
+fn sound_program(alloc: Global, text: &str) -> Result<SoundProgram, CallError> {
     let program = parse_program(alloc, text.as_bytes())?;
     if !resolve(alloc, &program)?.is_empty() {
         return Err(CallError::Malformed);
@@ -30,6 +34,7 @@ pub fn sound_program(alloc: Global, text: &str) -> Result<SoundProgram, CallErro
 pub fn find_type(sound: &mut SoundProgram, name: &str) -> Result<TypeId, CallError>
     ensures belongs { IfOk result (BelongsTo sound.new.types) }
     ensures adds { AddsTypes sound.old sound.new }
+    ensures same { program_tree sound.new ≡ program_tree sound.old }
 {
     match sound.find_type(name)? {
         Some(id) => Ok(id),
@@ -37,15 +42,26 @@ pub fn find_type(sound: &mut SoundProgram, name: &str) -> Result<TypeId, CallErr
     }
 }
 
-/// A state for the type of this name, in an automaton of its own.
-pub fn state_of(
-    alloc: Global,
-    sound: &mut SoundProgram,
-    name: &str,
-) -> Result<(Auto, State), CallError>
+/// The program of a call.
+pub fn program_of(call: &Call<'_>) -> Result<SoundProgram, CallError> {
+    sound_program(call.alloc, call.program)
+}
+
+/// A state for the type that the call's word of this number names, in an automaton of its own.
+pub fn state_of(call: &Call<'_>, number: usize) -> Result<(Auto, State), CallError>
     ensures { IfOk result (λ made. IsState made.0 made.1) }
 {
-    let id = find_type(sound, name)?;
+    let name = call.word(number)?;
+    let mut sound = program_of(call)?;
+    let id = find_type(&mut sound, name)?;
+    state_at(call.alloc, &mut sound, id)
+}
+
+/// A state for this type.
+fn state_at(alloc: Global, sound: &mut SoundProgram, id: TypeId) -> Result<(Auto, State), CallError>
+    requires { BelongsTo sound.old.types id }
+    ensures { IfOk result (λ made. IsState made.0 made.1) }
+{
     let mut cells = Cells::new(alloc);
     let mut auto = Auto::new(alloc);
     let state = compile_type(alloc, sound, &mut cells, &mut auto, id)?;
@@ -62,20 +78,81 @@ fn types_of(sound: &mut SoundProgram, one: &str, two: &str) -> Result<(TypeId, T
     Ok((first, second))
 }
 
-/// States for the types of two names, in one automaton.
-pub fn states_of(
-    alloc: Global,
-    sound: &mut SoundProgram,
-    one: &str,
-    two: &str,
-) -> Result<(Auto, State, State), CallError>
+/// States for the types that the call's words of these numbers name, in one automaton.
+pub fn states_of(call: &Call<'_>, one: usize, two: usize) -> Result<(Auto, State, State), CallError>
     ensures one { IfOk result (λ made. IsState made.0 made.1) }
     ensures two { IfOk result (λ made. IsState made.0 made.2) }
 {
-    let (left, right) = types_of(sound, one, two)?;
+    let first = call.word(one)?;
+    let second = call.word(two)?;
+    let mut sound = program_of(call)?;
+    let (left, right) = types_of(&mut sound, first, second)?;
+    states_at(call.alloc, &mut sound, left, right)
+}
+
+/// States for these types.
+fn states_at(
+    alloc: Global,
+    sound: &mut SoundProgram,
+    left: TypeId,
+    right: TypeId,
+) -> Result<(Auto, State, State), CallError>
+    requires left { BelongsTo sound.old.types left }
+    requires right { BelongsTo sound.old.types right }
+    ensures one { IfOk result (λ made. IsState made.0 made.1) }
+    ensures two { IfOk result (λ made. IsState made.0 made.2) }
+{
     let mut cells = Cells::new(alloc);
     let mut auto = Auto::new(alloc);
     let first = compile_type(alloc, sound, &mut cells, &mut auto, left)?;
     let second = compile_type(alloc, sound, &mut cells, &mut auto, right)?;
     Ok((auto, first, second))
+}
+
+/// A type's name, and a state for it.
+#[derive(Drop)]
+pub struct Named<'a> {
+    pub name: &'a str,
+    pub state: State,
+}
+
+/// States for the types that the call's words name, in one automaton.
+pub fn named_states<'a>(call: &Call<'a>) -> Result<(Auto, Vec<Named<'a>>), CallError>
+    ensures { IfOk result (λ made. AllByRecursion (λ (n : Named). IsState made.0 n.state) made.1.items) }
+{
+    let mut sound = program_of(call)?;
+    let mut cells = Cells::new(call.alloc);
+    let mut auto = Auto::new(call.alloc);
+    let mut states = Vec::new(call.alloc);
+    for name in &call.words {
+        name_state(
+            call.alloc,
+            &mut sound,
+            &mut cells,
+            &mut auto,
+            &mut states,
+            *name,
+        )?;
+    }
+    Ok((auto, states))
+}
+
+/// Puts a state for the type of this name behind the others.
+fn name_state<'a>(
+    alloc: Global,
+    sound: &mut SoundProgram,
+    cells: &mut Cells,
+    auto: &mut Auto,
+    states: &mut Vec<Named<'a>>,
+    name: &'a str,
+) -> Result<(), CallError>
+    requires mirrors { Mirrors sound.old cells.old auto.old }
+    requires states { AllByRecursion (λ (n : Named). IsState auto.old n.state) states.old.items }
+    ensures mirrors { OnOk result (Mirrors sound.new cells.new auto.new) }
+    ensures states { OnOk result (AllByRecursion (λ (n : Named). IsState auto.new n.state) states.new.items) }
+{
+    let id = find_type(sound, name)?;
+    let state = compile_type(alloc, sound, cells, auto, id)?;
+    states.push(Named { name, state })?;
+    Ok(())
 }

@@ -1,80 +1,31 @@
 //! Calls about the states of two types.
 
-ghost use Rattle.std.specs.Prelude.{OnOk};
 ghost use Rattle.xd_auto.specs.Automaton.{IsState};
-ghost use Rattle.xd_goals.specs.Standing.{StandsOn};
 
 use crate::call::Call;
 use crate::error::CallError;
-use crate::programs::{sound_program, state_of, states_of};
+use crate::programs::state_of;
 use std::alloc::Global;
 use std::io::Write;
 use xd_auto::{Auto, Scratch, State, member};
 use xd_bind::shares;
 use xd_boole::{minus, product};
 use xd_doc::Store;
-use xd_goals::{Table, Verdict, decide, new_tables_stand};
 use xd_read::read_document;
 use xd_traces::pair_up;
-use xd_write::write_document;
-
-/// `decide MOST ONE TWO`: whether the one is included in the two, then the other way round, by one table; and whether this has at
-/// most so many goals then.
-pub fn show_decided(call: &Call<'_>, out: &mut Vec<u8>) -> Result<(), CallError> {
-    let most = call.number(0)?;
-    let mut sound = sound_program(call.alloc, call.program)?;
-    let (auto, one, two) = states_of(call.alloc, &mut sound, call.word(1)?, call.word(2)?)?;
-    let mut store = Store::new(call.alloc);
-    let mut table = Table::new(call.alloc);
-    new_tables_stand(&auto, &store);
-    show_verdict(call.alloc, &auto, &mut table, one, two, &mut store, out)?;
-    show_verdict(call.alloc, &auto, &mut table, two, one, &mut store, out)?;
-    let bound = if table.rows() > most {
-        "more than"
-    } else {
-        "at most"
-    };
-    writeln!(out, "{bound} {most} goals")?;
-    Ok(())
-}
-
-/// `included`, or the document that separates the states.
-fn show_verdict(
-    alloc: Global,
-    auto: &Auto,
-    table: &mut Table,
-    left: State,
-    right: State,
-    store: &mut Store,
-    out: &mut Vec<u8>,
-) -> Result<(), CallError>
-    requires stands { StandsOn auto.now store.old table.old }
-    requires left { IsState auto.now left }
-    requires right { IsState auto.now right }
-    ensures { OnOk result (StandsOn auto.now store.new table.new) }
-{
-    match decide(alloc, auto, table, left, &[right], store)? {
-        Verdict::Included(_) => out.extend_from_slice(b"included")?,
-        Verdict::Separated(seq) => write_document(alloc, store, seq, out)?,
-    }
-    out.push(b'\n')?;
-    Ok(())
-}
 
 /// `product ONE TWO DOCUMENTS`: which of the documents the product accepts.
 pub fn show_product(call: &Call<'_>, out: &mut Vec<u8>) -> Result<(), CallError> {
-    let mut sound = sound_program(call.alloc, call.program)?;
-    let (one, first) = state_of(call.alloc, &mut sound, call.word(0)?)?;
-    let (two, second) = state_of(call.alloc, &mut sound, call.word(1)?)?;
+    let (one, first) = state_of(call, 0)?;
+    let (two, second) = state_of(call, 1)?;
     let (auto, state) = product(call.alloc, &one, first, &two, second)?;
     show_members(call, &auto, state, out)
 }
 
 /// `minus ONE TWO DOCUMENTS`: which of the documents the difference accepts.
 pub fn show_minus(call: &Call<'_>, out: &mut Vec<u8>) -> Result<(), CallError> {
-    let mut sound = sound_program(call.alloc, call.program)?;
-    let (one, first) = state_of(call.alloc, &mut sound, call.word(0)?)?;
-    let (two, second) = state_of(call.alloc, &mut sound, call.word(1)?)?;
+    let (one, first) = state_of(call, 0)?;
+    let (two, second) = state_of(call, 1)?;
     let (auto, state) = minus(call.alloc, &one, first, &two, second)?;
     show_members(call, &auto, state, out)
 }
@@ -108,9 +59,8 @@ fn is_member(alloc: Global, auto: &Auto, state: State, document: &str) -> Result
 
 /// `pair_up ONE TWO`: how many pairs of states the two lead to.
 pub fn show_pairs(call: &Call<'_>, out: &mut Vec<u8>) -> Result<(), CallError> {
-    let mut sound = sound_program(call.alloc, call.program)?;
-    let (one, first) = state_of(call.alloc, &mut sound, call.word(0)?)?;
-    let (two, second) = state_of(call.alloc, &mut sound, call.word(1)?)?;
+    let (one, first) = state_of(call, 0)?;
+    let (two, second) = state_of(call, 1)?;
     let pairs = pair_up(call.alloc, &one, first, &two, second)?;
     writeln!(out, "{} pairs", pairs.states.len())?;
     Ok(())
@@ -118,9 +68,8 @@ pub fn show_pairs(call: &Call<'_>, out: &mut Vec<u8>) -> Result<(), CallError> {
 
 /// `shares ONE TWO`: whether they have a document in common.
 pub fn show_shared(call: &Call<'_>, out: &mut Vec<u8>) -> Result<(), CallError> {
-    let mut sound = sound_program(call.alloc, call.program)?;
-    let (one, first) = state_of(call.alloc, &mut sound, call.word(0)?)?;
-    let (two, second) = state_of(call.alloc, &mut sound, call.word(1)?)?;
+    let (one, first) = state_of(call, 0)?;
+    let (two, second) = state_of(call, 1)?;
     let shared = shares(call.alloc, &one, first, &two, second)?;
     writeln!(out, "{}", if shared { "yes" } else { "no" })?;
     Ok(())

@@ -1,28 +1,42 @@
 //! Calls about one type.
 
 ghost use Rattle.xd_heads.specs.HeadList.{HeadBelongs};
+ghost use Rattle.xd_heads.specs.Mirrors.{IsTypeState, Mirrors};
+ghost use Rattle.xd_syntax.specs.Types.{BelongsTo};
 
 use crate::call::Call;
 use crate::error::CallError;
-use crate::programs::{find_type, sound_program, state_of};
+use crate::programs::{find_type, program_of, state_of};
 use std::alloc::Global;
 use std::io::Write;
-use xd_auto::Auto;
+use xd_auto::{Auto, State};
 use xd_doc::{Class, Store, Words};
 use xd_empty::inhabitant;
 use xd_heads::{Cells, Head, HeadKind, compile_type, heads};
-use xd_syntax::Types;
+use xd_syntax::{SoundProgram, TypeId, Types};
 use xd_type_text::type_text;
 use xd_write::write_document;
 
 /// `heads TYPE`: a line for each, its class, its content in brackets, and its rest.
 pub fn show_heads(call: &Call<'_>, out: &mut Vec<u8>) -> Result<(), CallError> {
-    let mut sound = sound_program(call.alloc, call.program)?;
-    let id = find_type(&mut sound, call.word(0)?)?;
-    let found = heads(call.alloc, &mut sound, id)?;
+    let name = call.word(0)?;
+    let mut sound = program_of(call)?;
+    let id = find_type(&mut sound, name)?;
+    show_heads_of(call.alloc, &mut sound, id, out)
+}
+
+fn show_heads_of(
+    alloc: Global,
+    sound: &mut SoundProgram,
+    id: TypeId,
+    out: &mut Vec<u8>,
+) -> Result<(), CallError>
+    requires { BelongsTo sound.old.types id }
+{
+    let found = heads(alloc, sound, id)?;
     let types = sound.program().types();
     for head in &found {
-        show_head(call.alloc, types, head, out)?;
+        show_head(alloc, types, head, out)?;
     }
     Ok(())
 }
@@ -72,20 +86,47 @@ fn show_words(words: &Words, out: &mut Vec<u8>) -> Result<(), CallError> {
 
 /// `state_type TYPE`: what the type's state stands for.
 pub fn show_state_type(call: &Call<'_>, out: &mut Vec<u8>) -> Result<(), CallError> {
-    let mut sound = sound_program(call.alloc, call.program)?;
-    let id = find_type(&mut sound, call.word(0)?)?;
-    let mut cells = Cells::new(call.alloc);
-    let mut auto = Auto::new(call.alloc);
-    let state = compile_type(call.alloc, &mut sound, &mut cells, &mut auto, id)?;
-    let id = cells.state_type(&mut sound, state)?;
-    type_text(call.alloc, sound.program().types(), id, out)?;
+    let name = call.word(0)?;
+    let mut sound = program_of(call)?;
+    let id = find_type(&mut sound, name)?;
+    show_state_of(call.alloc, &mut sound, id, out)
+}
+
+fn show_state_of(
+    alloc: Global,
+    sound: &mut SoundProgram,
+    id: TypeId,
+    out: &mut Vec<u8>,
+) -> Result<(), CallError>
+    requires { BelongsTo sound.old.types id }
+{
+    let mut cells = Cells::new(alloc);
+    let mut auto = Auto::new(alloc);
+    let state = compile_type(alloc, sound, &mut cells, &mut auto, id)?;
+    show_state(alloc, sound, &cells, &auto, state, out)
+}
+
+/// What a state stands for.
+fn show_state(
+    alloc: Global,
+    sound: &mut SoundProgram,
+    cells: &Cells,
+    auto: &Auto,
+    state: State,
+    out: &mut Vec<u8>,
+) -> Result<(), CallError>
+    requires mirrors { Mirrors sound.old cells.now auto.now }
+    requires state { IsTypeState cells.now state }
+{
+    let _states = auto.len();
+    let id = cells.state_type(sound, state)?;
+    type_text(alloc, sound.program().types(), id, out)?;
     Ok(())
 }
 
 /// `inhabitant TYPE`: a document of the type's state, or `none`.
 pub fn show_inhabitant(call: &Call<'_>, out: &mut Vec<u8>) -> Result<(), CallError> {
-    let mut sound = sound_program(call.alloc, call.program)?;
-    let (auto, state) = state_of(call.alloc, &mut sound, call.word(0)?)?;
+    let (auto, state) = state_of(call, 0)?;
     let mut store = Store::new(call.alloc);
     match inhabitant(call.alloc, &auto, state, &mut store)? {
         Some(seq) => write_document(call.alloc, &store, seq, out)?,

@@ -1,0 +1,273 @@
+//! Calls about tables of goals.
+
+ghost use Rattle.std.specs.Prelude.{◌<◌, ℕ, length, OnOk};
+ghost use Rattle.std.specs.List.{AllByRecursion};
+ghost use Rattle.xd_auto.specs.Automaton.{IsState};
+ghost use Rattle.xd_goals.specs.Reached.{HasTreeWithin, HaveTreesWithin};
+ghost use Rattle.xd_goals.specs.Rows.{row_at};
+ghost use Rattle.xd_goals.specs.Standing.{StandsOn};
+ghost use Rattle.xd_state_calls.specs.declared.programs.Named.{Named};
+
+use crate::call::Call;
+use crate::error::CallError;
+use crate::programs::{Named, named_states, states_of};
+use std::alloc::Global;
+use std::io::Write;
+use xd_auto::{Auto, State};
+use xd_doc::Store;
+use xd_goals::{Choice, ChoiceNode, GoalId, Standing, Table, Verdict, decide, new_tables_stand};
+use xd_write::write_document;
+
+/// `decide MOST ONE TWO`: whether the one is included in the two, then the other way round, by one table; and whether this has at
+/// most so many goals then.
+pub fn show_decided(call: &Call<'_>, out: &mut Vec<u8>) -> Result<(), CallError> {
+    let most = call.number(0)?;
+    let (auto, one, two) = states_of(call, 1, 2)?;
+    let rows = show_both_ways(call.alloc, &auto, one, two, out)?;
+    let bound = if rows > most { "more than" } else { "at most" };
+    writeln!(out, "{bound} {most} goals")?;
+    Ok(())
+}
+
+/// Both verdicts, and how many goals the table has then.
+fn show_both_ways(
+    alloc: Global,
+    auto: &Auto,
+    one: State,
+    two: State,
+    out: &mut Vec<u8>,
+) -> Result<usize, CallError>
+    requires one { IsState auto.now one }
+    requires two { IsState auto.now two }
+{
+    let mut store = Store::new(alloc);
+    let mut table = Table::new(alloc);
+    new_tables_stand(auto, &store);
+    show_verdict(alloc, auto, &mut table, one, two, &mut store, out)?;
+    show_verdict(alloc, auto, &mut table, two, one, &mut store, out)?;
+    Ok(table.rows())
+}
+
+/// `included`, or the document that separates the states.
+fn show_verdict(
+    alloc: Global,
+    auto: &Auto,
+    table: &mut Table,
+    left: State,
+    right: State,
+    store: &mut Store,
+    out: &mut Vec<u8>,
+) -> Result<(), CallError>
+    requires stands { StandsOn auto.now store.old table.old }
+    requires left { IsState auto.now left }
+    requires right { IsState auto.now right }
+    ensures { OnOk result (StandsOn auto.now store.new table.new) }
+{
+    match decide(alloc, auto, table, left, &[right], store)? {
+        Verdict::Included(_) => out.extend_from_slice(b"included")?,
+        Verdict::Separated(seq) => write_document(alloc, store, seq, out)?,
+    }
+    out.push(b'\n')?;
+    Ok(())
+}
+
+/// `moved ONE TWO`: whether the one is included in the two; and for each goal that was refuted for it whether a goal that holds is
+/// among its dependents, and whether a leaf of one that holds names it.
+pub fn show_moved(call: &Call<'_>, out: &mut Vec<u8>) -> Result<(), CallError> {
+    let (auto, one, two) = states_of(call, 0, 1)?;
+    let mut store = Store::new(call.alloc);
+    let mut table = Table::new(call.alloc);
+    new_tables_stand(&auto, &store);
+    show_verdict(call.alloc, &auto, &mut table, one, two, &mut store, out)?;
+    show_all_refuted(&auto, &store, &table, out)
+}
+
+fn show_all_refuted(
+    auto: &Auto,
+    store: &Store,
+    table: &Table,
+    out: &mut Vec<u8>,
+) -> Result<(), CallError>
+    requires { StandsOn auto.now store.now table.now }
+{
+    let _states = auto.len();
+    let _nodes = store.len();
+    for number in 0..table.rows() {
+        let goal = table.goal(number);
+        if let Standing::Refuted(_) = table.standing(goal) {
+            show_refuted(table, goal, out)?;
+        }
+    }
+    Ok(())
+}
+
+fn show_refuted(table: &Table, goal: GoalId, out: &mut Vec<u8>) -> Result<(), CallError>
+    requires goal { goal.number < length table.now.rows }
+    requires trees { (i : ℕ) → HaveTreesWithin table.now.nodes (length table.now.rows) (row_at table.now.rows i).choices }
+{
+    let depends = if has_holding_dependent(table, goal) {
+        "depends"
+    } else {
+        "does not depend"
+    };
+    let names = if is_named(table, goal) {
+        "a leaf names"
+    } else {
+        "no leaf names"
+    };
+    writeln!(
+        out,
+        "refuted; a goal that holds {depends} on it, {names} it"
+    )?;
+    Ok(())
+}
+
+/// Whether a goal that holds is among the goal's dependents.
+fn has_holding_dependent(table: &Table, goal: GoalId) -> bool
+    requires { goal.number < length table.now.rows }
+{
+    let mut at = table.first_dependent(goal);
+    while let Some(link) = at {
+        if let Standing::Holds = table.standing(table.dependent(link)) {
+            return true;
+        }
+        at = table.next_dependent(link);
+    }
+    false
+}
+
+/// Whether a leaf of a goal that holds names the goal.
+fn is_named(table: &Table, goal: GoalId) -> bool
+    requires { (i : ℕ) → HaveTreesWithin table.now.nodes (length table.now.rows) (row_at table.now.rows i).choices }
+{
+    for number in 0..table.rows() {
+        let owner = table.goal(number);
+        if let Standing::Holds = table.standing(owner) {
+            if is_named_by(table, table.choices(owner), goal) {
+                return true;
+            }
+        }
+    }
+    false
+}
+
+/// Whether a leaf of the choices names the goal.
+fn is_named_by(table: &Table, choices: &[Choice], goal: GoalId) -> bool
+    requires { HaveTreesWithin table.now.nodes (length table.now.rows) choices.now }
+{
+    for choice in choices {
+        if is_named_in(table, choice.root, goal) {
+            return true;
+        }
+    }
+    false
+}
+
+/// Whether a leaf of the tree at this node names the goal.
+fn is_named_in(table: &Table, node: usize, goal: GoalId) -> bool
+    requires { HasTreeWithin table.now.nodes (length table.now.rows) node }
+{
+    match table.choice_node(node) {
+        ChoiceNode::Content(leaf) => leaf.number() == goal.number(),
+        ChoiceNode::Rest(leaf) => leaf.number() == goal.number(),
+        ChoiceNode::Split { content, rest, .. } => {
+            is_named_in(table, content, goal) || is_named_in(table, rest, goal)
+        }
+    }
+}
+
+/// `questions TYPES`: for each of the types, in the order of the words, which of them it is included in: each of all these
+/// questions is asked of one table, and then of a new one, which must say the same.
+pub fn show_questions(call: &Call<'_>, out: &mut Vec<u8>) -> Result<(), CallError> {
+    let (auto, states) = named_states(call)?;
+    show_all_questions(call.alloc, &auto, &states, out)
+}
+
+fn show_all_questions(
+    alloc: Global,
+    auto: &Auto,
+    states: &[Named<'_>],
+    out: &mut Vec<u8>,
+) -> Result<(), CallError>
+    requires { AllByRecursion (λ (n : Named). IsState auto.now n.state) states.now }
+{
+    let mut store = Store::new(alloc);
+    let mut table = Table::new(alloc);
+    new_tables_stand(auto, &store);
+    for left in states {
+        show_questions_on(alloc, auto, &mut table, left, states, &mut store, out)?;
+    }
+    Ok(())
+}
+
+/// The left's name, and those of the rights in which it is included.
+fn show_questions_on(
+    alloc: Global,
+    auto: &Auto,
+    table: &mut Table,
+    left: &Named<'_>,
+    rights: &[Named<'_>],
+    store: &mut Store,
+    out: &mut Vec<u8>,
+) -> Result<(), CallError>
+    requires stands { StandsOn auto.now store.old table.old }
+    requires left { IsState auto.now left.now.state }
+    requires rights { AllByRecursion (λ (n : Named). IsState auto.now n.state) rights.now }
+    ensures { OnOk result (StandsOn auto.now store.new table.new) }
+{
+    write!(out, "{} is in", left.name)?;
+    for right in rights {
+        let included = is_included(alloc, auto, table, left.state, right.state, store)?;
+        let afresh = is_included_afresh(alloc, auto, left.state, right.state)?;
+        show_answer(right.name, included, afresh, out)?;
+    }
+    out.push(b'\n')?;
+    Ok(())
+}
+
+fn show_answer(
+    name: &str,
+    included: bool,
+    afresh: bool,
+    out: &mut Vec<u8>,
+) -> Result<(), CallError> {
+    if included != afresh {
+        write!(out, " (the tables differ on {name})")?;
+    } else if included {
+        write!(out, " {name}")?;
+    }
+    Ok(())
+}
+
+fn is_included(
+    alloc: Global,
+    auto: &Auto,
+    table: &mut Table,
+    left: State,
+    right: State,
+    store: &mut Store,
+) -> Result<bool, CallError>
+    requires stands { StandsOn auto.now store.old table.old }
+    requires left { IsState auto.now left }
+    requires right { IsState auto.now right }
+    ensures { OnOk result (StandsOn auto.now store.new table.new) }
+{
+    let verdict = decide(alloc, auto, table, left, &[right], store)?;
+    Ok(matches!(verdict, Verdict::Included(_)))
+}
+
+/// The same by a new table.
+fn is_included_afresh(
+    alloc: Global,
+    auto: &Auto,
+    left: State,
+    right: State,
+) -> Result<bool, CallError>
+    requires left { IsState auto.now left }
+    requires right { IsState auto.now right }
+{
+    let mut store = Store::new(alloc);
+    let mut table = Table::new(alloc);
+    new_tables_stand(auto, &store);
+    is_included(alloc, auto, &mut table, left, right, &mut store)
+}
