@@ -5,7 +5,7 @@ use crate::run::Ended;
 use std::io::Write;
 
 /// Of a longer output only so many bytes are written.
-const LONGEST: usize = 400;
+const LONGEST: usize = 1000;
 
 /// Appends the lines of an output, each behind a `>`.
 ///
