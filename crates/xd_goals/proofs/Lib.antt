@@ -8,6 +8,7 @@ pub mod Repairing
 pub mod Meaning
 pub mod Keeping
 pub mod Facts
+pub mod Extending
 pub mod Naming
 pub mod Sides
 pub mod Reaching

@@ -11,6 +11,8 @@ mod table;
 mod work;
 
 pub use inclusion::{Verdict, decide};
-pub use laws::{choices_keep_rules, new_tables_stand, settled_goals_are_true};
+pub use laws::{
+    choices_keep_rules, new_tables_stand, settled_goals_are_true, tables_stay_standing,
+};
 pub use table::{Choice, ChoiceNode, GoalId, Standing, Table};
 pub use xd_rules::Atom;

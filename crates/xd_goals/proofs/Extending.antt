@@ -1,0 +1,134 @@
+-- A table that stands goes on to stand while the automaton and the store grow.
+use Rattle.std.proofs.Common.{ℕ, zero, suc, ◌<◌, ◌≤◌, ◌≡◌, Bool, true, false, List, [], ◌∷◌, ◌++◌, map, length, ⊎_elim, refl, sym, ap, subst, ◌∙◌, arith}
+use Rattle.std.specs.List.{AllByRecursion, flat_map, list_any}
+use Rattle.std.proofs.lemmas.Bool.{cases_lt}
+use Rattle.xd_doc.specs.Document.{Document}
+use Rattle.xd_doc.specs.declared.store.Seq.{Seq}
+use Rattle.xd_auto.specs.declared.auto.State.{State}
+use Rattle.xd_auto.specs.Automaton.{Automaton, StateMoves, Extends, KeepsAccepting}
+use Rattle.xd_rules.specs.declared.atom.Atom.{Atom}
+use Rattle.xd_rules.specs.Heads.{Head, AreNames, is_text_atom}
+use Rattle.xd_rules.specs.Rules.{Claim, ChoiceTree, ContentLeaf, RestLeaf, SplitOn, head_number, right_heads, wanted_cases}
+use Rattle.xd_rules.proofs.Members.{one_of-all}
+use Rattle.xd_goals.specs.Moves.{AreBelow, heads_of, is_last_in, label_head, text_head}
+use Rattle.xd_goals.specs.Rows.{GoalRow, TableView, row_at, claim_of}
+use Rattle.xd_goals.specs.Trees.{IsGrown, IsTextTree, IsTreeBySort, matching_sides}
+use Rattle.xd_goals.specs.Standing.{ChoiceStands, IsBegun, IsCaseTree, IsSeparatedBy, StandsOn, claim_sides, task_for}
+use Rattle.xd_goals.specs.declared.heads.Side.{Side}
+use Rattle.xd_goals.specs.declared.grow.Task.{Task}
+use Rattle.xd_goals.specs.declared.table.Choice.{Choice}
+use Rattle.xd_goals.proofs.Lists.{all_map}
+use Rattle.xd_goals.proofs.Growing.{past_is_new}
+
+below_more : (n m : ℕ) → n ≤ m → (states : List State) → AreBelow n states → AreBelow m states
+below_more n m le [] h = tt
+below_more n m le (s ∷ ss) h = (let lt : s.number < n = h.0 in omega (arith, le, lt), below_more n m le ss h.1)
+
+-- of a tree's task only the states count that the left head leads to
+IsGrown-task : (rows : List GoalRow) (one two : Task) (sides : List Side) → one.content ≡ two.content → one.rest ≡ two.rest → (tree : ChoiceTree) (contents rests : List State) (from : ℕ)
+    → IsGrown rows one sides tree contents rests from → IsGrown rows two sides tree contents rests from
+IsGrown-task rows one two sides e f (ContentLeaf g) contents rests from h = rw (← e) h
+IsGrown-task rows one two sides e f (RestLeaf g) contents rests from h = rw (← f) h
+IsGrown-task rows one two sides e f (SplitOn j a b) contents rests from h =
+    (h.0, h.1, h.2, IsGrown-task rows one two sides e f a _ rests _ h.3, IsGrown-task rows one two sides e f b contents _ _ h.4)
+
+IsTextTree-task : (rows : List GoalRow) (one two : Task) (sides : List Side) → one.rest ≡ two.rest → (tree : ChoiceTree) → IsTextTree rows one sides tree → IsTextTree rows two sides tree
+IsTextTree-task rows one two sides f (ContentLeaf g) h = h
+IsTextTree-task rows one two sides f (RestLeaf g) h = rw (← f) h
+IsTextTree-task rows one two sides f (SplitOn j a b) h = h
+
+-- an automaton that extends another has no fewer states
+pub longer : (a b : Automaton) → Extends a b → length a ≤ length b
+longer a b x = go (length a) refl
+  where
+    go : (n : ℕ) → length a ≡ n → length a ≤ length b
+    go zero e = omega arith
+    go (suc n) e = let s : State = record { number = n } in let h = x.states s (omega arith) in omega arith
+
+module _ (a b : Automaton) (more : Extends a b) (keep : KeepsAccepting a b) where
+  heads-same : (s : State) → s.number < length a → heads_of b s ≡ heads_of a s
+  heads-same s lt = ap (λ (m : StateMoves). map label_head m.labels ++ map text_head m.texts) (more.moves s lt)
+
+  last-same : (s : State) → s.number < length a → is_last_in b s ≡ is_last_in a s
+  last-same s lt = ap (λ (m : StateMoves). m.last) (more.moves s lt)
+
+  all_heads-same : (states : List State) → AreBelow (length a) states → flat_map (heads_of b) states ≡ flat_map (heads_of a) states
+  all_heads-same [] h = refl
+  all_heads-same (s ∷ ss) h = rw (heads-same s h.0, all_heads-same ss h.1) refl
+
+  any_last-same : (states : List State) → AreBelow (length a) states → list_any (is_last_in b) states ≡ list_any (is_last_in a) states
+  any_last-same [] h = refl
+  any_last-same (s ∷ ss) h = rw (last-same s h.0, any_last-same ss h.1) refl
+
+  -- of a claim about old states
+  module _ (c : Claim State) (left : c.left.number < length a) (rights : AreBelow (length a) c.rights) where
+    left_heads-same : heads_of b c.left ≡ heads_of a c.left
+    left_heads-same = heads-same c.left left
+
+    right_heads-same : right_heads (heads_of b) c ≡ right_heads (heads_of a) c
+    right_heads-same = all_heads-same c.rights rights
+
+    separated-extends : (ds : List Document) (seq : Seq) → IsSeparatedBy a ds c seq → IsSeparatedBy b ds c seq
+    separated-extends ds seq s = record {
+      belongs = s.belongs;
+      separates = record {
+        accepted = keep _ c.left left ∙ s.separates.accepted;
+        refused = λ r m p. s.separates.refused r m (sym (keep _ r (one_of-all (λ (x : State). x.number < length a) r c.rights rights m)) ∙ p);
+      };
+    }
+
+    case_tree-extends : (rows : List GoalRow) (owner : ℕ) (h : Head State) (atom : Atom) (tree : ChoiceTree) → IsCaseTree a rows owner c h atom tree → IsCaseTree b rows owner c h atom tree
+    case_tree-extends rows owner h atom tree k = subst (λ (hs : List (Head State)). IsTreeBySort (is_text_atom atom) rows (task_for b owner h) (matching_sides atom 1 hs) tree) (sym right_heads-same) (go (is_text_atom atom) k)
+      where
+        go : (sort : Bool) → IsTreeBySort sort rows (task_for a owner h) (claim_sides a c atom) tree → IsTreeBySort sort rows (task_for b owner h) (claim_sides a c atom) tree
+        go true x = IsTextTree-task rows (task_for a owner h) (task_for b owner h) (claim_sides a c atom) refl tree x
+        go false x = IsGrown-task rows (task_for a owner h) (task_for b owner h) (claim_sides a c atom) refl refl tree [] [] 0 x
+
+    choice-extends : (t : TableView) (owner : ℕ) (k : Choice) → ChoiceStands a t owner c k → ChoiceStands b t owner c k
+    choice-extends t owner k h = record {
+      head = h.head;
+      found = ap (λ (hs : List (Head State)). head_number hs k.head) left_heads-same ∙ h.found;
+      matched = h.matched;
+      has = record {
+        tree = h.has.tree;
+        stands = h.has.stands;
+        kind = case_tree-extends t.rows owner h.head k.atom h.has.tree h.has.kind;
+        listed = h.has.listed;
+      };
+    }
+
+    begun-extends : (choices : List Choice) → IsBegun a c choices → IsBegun b c choices
+    begun-extends choices h = record {
+      last = λ e. any_last-same c.rights rights ∙ h.last (sym (last-same c.left left) ∙ e);
+      named = h.named;
+      names = subst (λ (hs : List (Head State)). AreNames (hs ++ right_heads (heads_of b) c) h.named) (sym left_heads-same)
+          (subst (λ (hs : List (Head State)). AreNames (heads_of a c.left ++ hs) h.named) (sym right_heads-same) h.names);
+      complete = h.complete ∙ ap (wanted_cases h.named 1) (sym left_heads-same);
+    }
+
+  pub stands-extends : length a ≤ length b → (ds : List Document) (t : TableView) → StandsOn a ds t → StandsOn b ds t
+  stands-extends longer ds t h = record {
+    states = record { each = λ i lt. let r = h.states.each i lt in record { left = let l = r.left in omega (arith, longer, l); rights = below_more (length a) (length b) longer _ r.rights } };
+    unlike = h.unlike;
+    refuted = λ i seq e. ⊎_elim
+        (λ lt. let r = h.states.each i lt in separated-extends (claim_of (row_at t.rows i)) r.left r.rights ds seq (h.refuted i seq e))
+        (λ ge. let w = (past_is_new t.rows i ge).standing in absurd (cc))
+        (cases_lt i (length t.rows));
+    choices = λ i. ⊎_elim
+        (λ lt. let r = h.states.each i lt in
+        all_map (ChoiceStands a t i (claim_of (row_at t.rows i))) (ChoiceStands b t i (claim_of (row_at t.rows i))) (row_at t.rows i).choices
+        (λ k x. choice-extends (claim_of (row_at t.rows i)) r.left r.rights t i k x) (h.choices i))
+        (λ ge. subst (λ (ks : List Choice). AllByRecursion (ChoiceStands b t i (claim_of (row_at t.rows i))) ks) (sym (past_is_new t.rows i ge).choices) tt)
+        (cases_lt i (length t.rows));
+    begun = λ i n. ⊎_elim
+        (λ lt. let r = h.states.each i lt in begun-extends (claim_of (row_at t.rows i)) r.left r.rights (row_at t.rows i).choices (h.begun i n))
+        (λ ge. absurd (n (past_is_new t.rows i ge).choices))
+        (cases_lt i (length t.rows));
+    holds = λ i e. ⊎_elim
+        (λ lt. let r = h.states.each i lt in let k = h.holds i e in record {
+          begun = begun-extends (claim_of (row_at t.rows i)) r.left r.rights (row_at t.rows i).choices k.begun;
+          opens = k.opens;
+        })
+        (λ ge. let w = (past_is_new t.rows i ge).standing in absurd (cc))
+        (cases_lt i (length t.rows));
+  }
