@@ -1,12 +1,11 @@
 -- On the search for documents of states.
-use Rattle.std.proofs.Common.{◌≡◌, ◌≢◌, ◌⊎◌, ℕ, zero, suc, ◌+◌, ◌<◌, ◌≤◌, Bool, true, false, ◌&&◌, Option, Some, None, List, [], ◌∷◌, ◌++◌, length, get_or, set, length-append, get_or-set_same, get_or-set_other, refl, ap, sym, subst, ◌∙◌, arith, inl, inr}
-use Rattle.std.specs.List.{All, Contains, slice_get}
+use Rattle.std.proofs.Common.{◌≡◌, ◌≢◌, ◌⊎◌, ℕ, ◌+◌, ◌<◌, ◌≤◌, Bool, true, false, ◌&&◌, Option, Some, None, List, [], ◌∷◌, ◌++◌, length, get_or, set, length-append, get_or-set_same, get_or-set_other, refl, ap, sym, subst, ◌∙◌, arith, inl, inr}
+use Rattle.std.specs.List.{All, Contains, list_any, slice_get}
 use Rattle.std.specs.Option.{IfSome, is_some}
 use Rattle.std.proofs.lemmas.Bool.{cases_eq, cases_lt}
 use Rattle.std.proofs.lemmas.List.{get_or_append_left, get_or-append-add, get_or_default, get_or_past, length-set}
 use Rattle.std.proofs.lemmas.List.Elements.{Contains-append_cases}
 use Rattle.std.proofs.lemmas.List.Folds.{list_any_none}
-use Rattle.std.proofs.lemmas.List.Sums.{sum_by-set}
 use Rattle.std.proofs.lemmas.Option.{slice_get-get_or}
 use Rattle.xd_doc.specs.Document.{Document, empty, text, element}
 use Rattle.xd_doc.specs.Stored.{Keeps, no_items}
@@ -20,8 +19,8 @@ use Rattle.xd_auto.proofs.Members.{first_in, first_or_later, none_in, only_in}
 use Rattle.xd_auto.proofs.Walks.{same_state}
 use Rattle.xd_empty.specs.declared.uses.Use.{Use}
 use Rattle.xd_empty.specs.declared.uses.Use.TheVariants.{Element, Text}
-use Rattle.xd_empty.specs.Uses.{AreUses, IsUse, element_parts, parts_of, text_parts, user, uses_at}
-use Rattle.xd_empty.specs.Inhabited.{AreInhabitants, AreWitnesses, IsUnknown, IsWitness, LacksOne, Searching, steps_in}
+use Rattle.xd_empty.specs.Uses.{AreUses, IsNewUse, IsUse, element_parts, parts_of, text_parts, user, uses_at}
+use Rattle.xd_empty.specs.Inhabited.{AreInhabitants, AreWitnesses, IsUnknown, IsWitness, LacksOne, Searching, Starts}
 use Rattle.xd_empty.proofs.UsesLemmas.{uses_here, uses_other}
 
 -- the state doesn't accept the empty document, and each of its moves leads to a state for which none was found
@@ -43,15 +42,21 @@ and_second true true = refl
 and_second true false = refl
 and_second false y = refl
 
--- where all states without a document are stuck, they accept none
-none_accepted : (a : Automaton) (fs : List (Option Seq)) → ((s : State) → IsUnknown fs s → IsStuck a fs s) → (d : Document) (s : State) → IsUnknown fs s → accepts a d s ≡ false
-none_accepted a fs h empty s u = (h s u).last
-none_accepted a fs h (text t r) s u =
-    list_any_none (λ m. class_has m.words t && accepts a r m.rest) (moves_at a s).texts
-    (λ k d lt. rw (none_accepted a fs h r (get_or (moves_at a s).texts k d).rest ((h s u).texts k d lt)) (and_false (class_has (get_or (moves_at a s).texts k d).words t)))
-none_accepted a fs h (element l c r) s u =
-    list_any_none (λ m. class_has m.class l && (accepts a c m.content && accepts a r m.rest)) (moves_at a s).labels
-    (λ k d lt. step (get_or (moves_at a s).labels k d) (λ q w. none_accepted a fs h c q w) (λ q w. none_accepted a fs h r q w) ((h s u).labels k d lt))
+-- where all states without a document are stuck or known to accept none, they accept none
+none_accepted : (a : Automaton) (fs : List (Option Seq)) → ((s : State) → IsUnknown fs s → ((d : Document) → accepts a d s ≡ false) ⊎ IsStuck a fs s) → (d : Document) (s : State) → IsUnknown fs s → accepts a d s ≡ false
+none_accepted a fs h empty s u = elim (h s u) [ inl none ↦ none empty | inr k ↦ k.last ]
+none_accepted a fs h (text t r) s u = elim (h s u) [
+  | inl none ↦ none (text t r)
+  | inr k ↦
+      list_any_none (λ m. class_has m.words t && accepts a r m.rest) (moves_at a s).texts
+      (λ i d lt. rw (none_accepted a fs h r (get_or (moves_at a s).texts i d).rest (k.texts i d lt)) (and_false (class_has (get_or (moves_at a s).texts i d).words t)))
+]
+none_accepted a fs h (element l c r) s u = elim (h s u) [
+  | inl none ↦ none (element l c r)
+  | inr k ↦
+      list_any_none (λ m. class_has m.class l && (accepts a c m.content && accepts a r m.rest)) (moves_at a s).labels
+      (λ i d lt. step (get_or (moves_at a s).labels i d) (λ q w. none_accepted a fs h c q w) (λ q w. none_accepted a fs h r q w) (k.labels i d lt))
+]
   where
     step : (m : LabelMove) → ((q : State) → IsUnknown fs q → accepts a c q ≡ false) → ((q : State) → IsUnknown fs q → accepts a r q ≡ false) → IsUnknown fs m.content ⊎ IsUnknown fs m.rest
         → (class_has m.class l && (accepts a c m.content && accepts a r m.rest)) ≡ false
@@ -79,24 +84,29 @@ user_there a (Text s n) is = is.0
 outside : (a : Automaton) (s : State) → length a ≤ state_number s → moves_at a s ≡ no_moves false
 outside a s past = get_or_past a (state_number s) (no_moves false) past
 
+pub outside_accepts : (a : Automaton) (s : State) → length a ≤ state_number s → (d : Document) → accepts a d s ≡ false
+outside_accepts a s past empty = ap (λ (m : StateMoves). m.last) (outside a s past)
+outside_accepts a s past (text t r) = ap (λ (m : StateMoves). list_any (λ (w : TextMove). class_has w.words t && accepts a r w.rest) m.texts) (outside a s past)
+outside_accepts a s past (element l c r) = ap (λ (m : StateMoves). list_any (λ (w : LabelMove). class_has w.class l && (accepts a c w.content && accepts a r w.rest)) m.labels) (outside a s past)
+
 is_state : (a : Automaton) (s : State) (k : ℕ) (count : StateMoves → ℕ) → count (no_moves false) ≡ 0 → k < count (moves_at a s) → IsState a s
 is_state a s k count none lt = elim (cases_lt (state_number s) (length a)) [
   | inl l ↦ l
   | inr g ↦ (let e : count (moves_at a s) ≡ 0 = ap count (outside a s g) ∙ none in absurd (omega arith))
 ]
 
-module _ (a : Automaton) (ds : List Document) (n : ℕ) (fs : List (Option Seq)) (uses : List (List Use)) (waiting : List Use) (done : ℕ) (h : Searching a ds n fs uses waiting done) where
-  lacks : (u : Use) → length waiting ≤ done → IsUse a u → IsUnknown fs (user u) → LacksOne fs (parts_of a u)
+module _ (a : Automaton) (ds : List Document) (first n : ℕ) (fs : List (Option Seq)) (uses : List (List Use)) (waiting : List Use) (done : ℕ) (h : Searching a ds first n fs uses waiting done) where
+  lacks : (u : Use) → length waiting ≤ done → IsNewUse a first u → IsUnknown fs (user u) → LacksOne fs (parts_of a u)
   lacks u all is unknown = elim (h.moves u is unknown) [ inl w ↦ absurd (omega (arith, w.1, w.2)) | inr l ↦ l ]
 
-  stuck : length a ≤ n → length waiting ≤ done → (s : State) → IsUnknown fs s → IsStuck a fs s
-  stuck flags all s u = record {
+  stuck : length a ≤ n → length waiting ≤ done → (s : State) → first ≤ state_number s → IsUnknown fs s → IsStuck a fs s
+  stuck flags all s from u = record {
     last = elim (cases_lt (state_number s) (length a)) [
-      | inl l ↦ h.last s (omega arith) u
+      | inl l ↦ h.last s from (omega arith) u
       | inr g ↦ ap (λ (m : StateMoves). m.last) (outside a s g)
     ];
     labels = λ k d lt.
-        let l = lacks (Element s k) all (is_state a s k (λ m. length m.labels) refl lt, lt) u in
+        let l = lacks (Element s k) all ((is_state a s k (λ m. length m.labels) refl lt, lt), from) u in
         let m : LabelMove = get_or (moves_at a s).labels k d in
         let two : Contains (m.content ∷ m.rest ∷ []) l.0 = subst (λ o. Contains (element_parts o) l.0) (slice_get-get_or (moves_at a s).labels k d lt) l.1 in
         elim (first_or_later m.content l.0 (m.rest ∷ []) two) [
@@ -104,7 +114,7 @@ module _ (a : Automaton) (ds : List Document) (n : ℕ) (fs : List (Option Seq))
           | inr c ↦ inr (subst (IsUnknown fs) (sym (only_in m.rest l.0 c)) l.2)
         ];
     texts = λ k d lt.
-        let l = lacks (Text s k) all (is_state a s k (λ m. length m.texts) refl lt, lt) u in
+        let l = lacks (Text s k) all ((is_state a s k (λ m. length m.texts) refl lt, lt), from) u in
         let one : Contains ((get_or (moves_at a s).texts k d).rest ∷ []) l.0 = subst (λ o. Contains (text_parts o) l.0) (slice_get-get_or (moves_at a s).texts k d lt) l.1 in
         subst (IsUnknown fs) (sym (only_in (get_or (moves_at a s).texts k d).rest l.0 one)) l.2;
   }
@@ -113,15 +123,16 @@ module _ (a : Automaton) (ds : List Document) (n : ℕ) (fs : List (Option Seq))
   searching_ends flags all = record {
     count = h.count;
     witnesses = h.witnesses;
-    none = λ s u d. none_accepted a fs (stuck flags all) d s u;
+    none = λ s u d. none_accepted a fs (λ t unknown. elim (cases_lt (state_number t) first) [ inl old ↦ inl (h.settled t old unknown) | inr from ↦ inr (stuck flags all t from unknown) ]) d s u;
   }
 
-  pub searching_keeps : (es : List Document) → Keeps ds es → Searching a es n fs uses waiting done
+  pub searching_keeps : (es : List Document) → Keeps ds es → Searching a es first n fs uses waiting done
   searching_keeps es k = record {
     count = h.count;
     sized = h.sized;
     within = h.within;
     witnesses = witnesses_keep a ds es fs k h.witnesses;
+    settled = h.settled;
     last = h.last;
     moves = h.moves;
     listed = h.listed;
@@ -130,14 +141,15 @@ module _ (a : Automaton) (ds : List Document) (n : ℕ) (fs : List (Option Seq))
   }
 
   -- one more state was asked for its flag
-  pub searching_flag : ((s : State) → state_number s ≡ n → IsUnknown fs s → (moves_at a s).last ≡ false) → Searching a ds (n + 1) fs uses waiting done
+  pub searching_flag : ((s : State) → state_number s ≡ n → IsUnknown fs s → (moves_at a s).last ≡ false) → Searching a ds first (n + 1) fs uses waiting done
   searching_flag flag = record {
     count = h.count;
     sized = h.sized;
     within = h.within;
     witnesses = h.witnesses;
-    last = λ s lt u. elim (cases_lt (state_number s) n) [
-      | inl l ↦ h.last s l u
+    settled = h.settled;
+    last = λ s from lt u. elim (cases_lt (state_number s) n) [
+      | inl l ↦ h.last s from l u
       | inr g ↦ (let e : state_number s ≡ n = omega arith in flag s e u)
     ];
     moves = h.moves;
@@ -147,12 +159,13 @@ module _ (a : Automaton) (ds : List Document) (n : ℕ) (fs : List (Option Seq))
   }
 
   -- the move at the place was looked at
-  pub searching_next : (u : Use) → done < length waiting → get_or waiting done u ≡ u → (IsUnknown fs (user u) → LacksOne fs (parts_of a u)) → Searching a ds n fs uses waiting (done + 1)
+  pub searching_next : (u : Use) → done < length waiting → get_or waiting done u ≡ u → (IsUnknown fs (user u) → LacksOne fs (parts_of a u)) → Searching a ds first n fs uses waiting (done + 1)
   searching_next u lt at settled = record {
     count = h.count;
     sized = h.sized;
     within = omega arith;
     witnesses = h.witnesses;
+    settled = h.settled;
     last = h.last;
     moves = λ v is unknown. elim (h.moves v is unknown) [
       | inl w ↦ elim (cases_eq w.0 done) [
@@ -172,10 +185,7 @@ module _ (a : Automaton) (ds : List Document) (n : ℕ) (fs : List (Option Seq))
       past i le ne = elim (cases_lt done i) [ inl l ↦ omega arith | inr g ↦ absurd (ne (omega arith)) ]
 
   -- one more state has a document
-  module _ (t : State) (seq : Seq) (is : IsState a t) (w : IsWitness a ds t seq) where
-    fs2 : List (Option Seq)
-    fs2 = set fs (state_number t) (Some seq)
-
+  module _ (t : State) (seq : Seq) (is : IsState a t) (new : first ≤ state_number t) (w : IsWitness a ds t seq) where
     in_found : state_number t < length fs
     in_found = omega (arith, h.count)
 
@@ -197,7 +207,7 @@ module _ (a : Automaton) (ds : List Document) (n : ℕ) (fs : List (Option Seq))
     before : (s : State) → IsUnknown (set fs (state_number t) (Some seq)) s → IsUnknown fs s
     before s u = sym (same_other s (another s u)) ∙ u
 
-    pub searching_finds : Searching a ds n (set fs (state_number t) (Some seq)) (set uses (state_number t) []) (waiting ++ uses_at uses t) done
+    pub searching_finds : Searching a ds first n (set fs (state_number t) (Some seq)) (set uses (state_number t) []) (waiting ++ uses_at uses t) done
     searching_finds = record {
       count = length-set fs (state_number t) (Some seq) ∙ h.count;
       sized = length-set uses (state_number t) [] ∙ h.sized;
@@ -209,17 +219,18 @@ module _ (a : Automaton) (ds : List Document) (n : ℕ) (fs : List (Option Seq))
             subst (λ q. IsWitness a ds s q) o (subst (λ q. IsWitness a ds q seq) (same_state t s (sym e)) w)
         | inr ne ↦ h.witnesses s other (sym (same_other s ne) ∙ f)
       ];
-      last = λ s lt u. h.last s lt (before s u);
+      settled = λ s old u. h.settled s old (before s u);
+      last = λ s from lt u. h.last s from lt (before s u);
       moves = λ u there unknown. elim (h.moves u there (before (user u) unknown)) [
         | inl q ↦ inl (q.0, q.1, omega (arith, q.2, length-append waiting (uses_at uses t)), get_or_append_left waiting (uses_at uses t) u q.0 q.2 ∙ q.3)
         | inr l ↦ elim (cases_eq (state_number l.0) (state_number t)) [
           | inl e ↦
-              let c : Contains (uses_at uses t) u = subst (λ s. Contains (uses_at uses s) u) (same_state l.0 t e) (h.listed u l.0 there l.1 l.2) in
+              let c : Contains (uses_at uses t) u = subst (λ s. Contains (uses_at uses s) u) (same_state l.0 t e) (h.listed u l.0 there l.1 (omega arith) l.2) in
               inl (length waiting + c.0, omega (arith, h.within), omega (arith, c.1, length-append waiting (uses_at uses t)), get_or-append-add waiting (uses_at uses t) c.0 u ∙ c.2)
           | inr ne ↦ inr (l.0, l.1, same_other l.0 ne ∙ l.2)
         ]
       ];
-      listed = λ u s there among unknown. rw (uses_other uses t s [] (another s unknown)) (h.listed u s there among (before s unknown));
+      listed = λ u s there among from unknown. rw (uses_other uses t s [] (another s unknown)) (h.listed u s there among from (before s unknown));
       uses_there = λ s u c. elim (cases_eq (state_number s) (state_number t)) [
         | inl e ↦ absurd (none_in u (rw (uses_here uses t [] in_uses) at (subst (λ q. Contains (uses_at (set uses (state_number t) []) q) u) (same_state s t e) c)))
         | inr ne ↦ h.uses_there s u (rw (uses_other uses t s [] ne) at c)
@@ -227,46 +238,39 @@ module _ (a : Automaton) (ds : List Document) (n : ℕ) (fs : List (Option Seq))
       waiting_there = λ u c. elim (Contains-append_cases waiting (uses_at uses t) u c) [ inl m ↦ h.waiting_there u m | inr m ↦ h.uses_there t u m ];
     }
 
-    -- no move is listed or waits that didn't before
-    pub steps_same : steps_in (set uses (state_number t) []) (waiting ++ uses_at uses t) ≡ steps_in uses waiting
-    steps_same =
-        let sums = sum_by-set length uses (state_number t) [] [] in_uses in
-        omega (arith, sums, length-append waiting (uses_at uses t))
-
 -- the move at the place gave its state a document
-module _ (a : Automaton) (ds : List Document) (n : ℕ) (fs : List (Option Seq)) (uses : List (List Use)) (waiting : List Use) (done : ℕ) (u : Use) (seq : Seq)
-    (h : Searching a ds n fs uses waiting done) (lt : done < length waiting) (at : get_or waiting done u ≡ u) (w : IsWitness a ds (user u) seq) where
+module _ (a : Automaton) (ds : List Document) (first n : ℕ) (fs : List (Option Seq)) (uses : List (List Use)) (waiting : List Use) (done : ℕ) (u : Use) (seq : Seq)
+    (h : Searching a ds first n fs uses waiting done) (lt : done < length waiting) (at : get_or waiting done u ≡ u) (w : IsWitness a ds (user u) seq) where
+  is : IsNewUse a first u
+  is = h.waiting_there u (done, lt, at)
+
   there : IsState a (user u)
-  there = user_there a u (h.waiting_there u (done, lt, at))
+  there = user_there a u is.0
 
-  pub searching_found : Searching a ds n (set fs (state_number (user u)) (Some seq)) (set uses (state_number (user u)) []) (waiting ++ uses_at uses (user u)) (done + 1)
+  pub searching_found : Searching a ds first n (set fs (state_number (user u)) (Some seq)) (set uses (state_number (user u)) []) (waiting ++ uses_at uses (user u)) (done + 1)
   searching_found =
-      searching_next a ds n _ _ (waiting ++ uses_at uses (user u)) done (searching_finds a ds n fs uses waiting done h (user u) seq there w) u
+      searching_next a ds first n _ _ (waiting ++ uses_at uses (user u)) done (searching_finds a ds first n fs uses waiting done h (user u) seq there is.1 w) u
       (omega (arith, length-append waiting (uses_at uses (user u)))) (get_or_append_left waiting (uses_at uses (user u)) u done lt ∙ at)
-      (λ unknown. absurd (another a ds n fs uses waiting done h (user u) seq there w (user u) unknown refl))
+      (λ unknown. absurd (another a ds first n fs uses waiting done h (user u) seq there is.1 w (user u) unknown refl))
 
--- no state has a document yet
-pub searching_starts : (a : Automaton) (ds : List Document) (fs : List (Option Seq)) (uses : List (List Use)) → length fs ≡ length a → ((k : ℕ) → get_or fs k None ≡ None) → AreUses a uses
-    → Searching a ds 0 fs uses [] 0
-searching_starts a ds fs uses count none h = record {
-  count = count;
+-- no new state has a document yet
+pub searching_starts : (a : Automaton) (ds : List Document) (first : ℕ) (fs : List (Option Seq)) (uses : List (List Use)) (waiting : List Use) → Starts a ds first fs → AreUses a first uses waiting
+    → Searching a ds first first fs uses waiting 0
+searching_starts a ds first fs uses waiting k h = record {
+  count = k.count;
   sized = h.sized;
   within = omega arith;
-  witnesses = λ s seq f. (let no : None ≡ Some seq = sym (none (state_number s)) ∙ f in absurd (cc));
-  last = λ s lt u. absurd (omega arith);
-  moves = λ u is unknown. inr (some_part u is);
-  listed = λ u t is among unknown. h.listed u is t among;
+  witnesses = k.witnesses;
+  settled = k.settled;
+  last = λ s from lt u. absurd (omega arith);
+  moves = λ u is unknown. elim (h.listed u is).waits [
+    | inl c ↦ inl (c.0, omega arith, c.1, c.2)
+    | inr some ↦ inr (some.0, some.1, k.unknown some.0 some.2)
+  ];
+  listed = λ u t is among from unknown. (h.listed u is).listed t among from;
   uses_there = h.there;
-  waiting_there = λ u c. absurd (none_in u c);
+  waiting_there = h.waiting_there;
 }
-  where
-    some_part : (u : Use) → IsUse a u → LacksOne fs (parts_of a u)
-    some_part (Element s k) is =
-        let m : LabelMove = get_or (moves_at a s).labels k (record { class = record { names = []; except = false }; content = s; rest = s }) in
-        (m.content, subst (λ o. Contains (element_parts o) m.content) (sym (slice_get-get_or (moves_at a s).labels k _ is.1)) (first_in m.content (m.rest ∷ [])), none (state_number m.content))
-    some_part (Text s k) is =
-        let m : TextMove = get_or (moves_at a s).texts k (record { words = record { names = []; except = false }; rest = s }) in
-        (m.rest, subst (λ o. Contains (text_parts o) m.rest) (sym (slice_get-get_or (moves_at a s).texts k _ is.1)) (first_in m.rest []), none (state_number m.rest))
 
 pub none_at : (fs : List (Option Seq)) (n : ℕ) (o : Option Seq) → n < length fs → o ≡ get_or fs n o → o ≡ None → get_or fs n None ≡ None
 none_at fs n o l e is = get_or_default fs n None o l ∙ sym e ∙ is
@@ -275,9 +279,8 @@ pub found_at : (fs : List (Option Seq)) (n : ℕ) (o : Option Seq) (seq : Seq) �
 found_at fs n o seq l e is = get_or_default fs n None o l ∙ sym e ∙ is
 
 -- a document is there, where it is not that there is none
-pub not_unknown : (fs : List (Option Seq)) (n : ℕ) (o : Option Seq) → n < length fs → o ≡ get_or fs n o → is_some o ≡ true → get_or fs n None ≡ None → ⊥
-not_unknown fs n None l e is u = cc
-not_unknown fs n (Some seq) l e is u = let both : None ≡ Some seq = sym u ∙ get_or_default fs n None (Some seq) l ∙ sym e in absurd (cc)
+pub not_unknown : (o : Option Seq) → is_some o ≡ true → o ≡ None → ⊥
+not_unknown o some none = let both : is_some o ≡ false = ap is_some none in absurd (cc)
 
 pub none_from : (o : Option Seq) → ((seq : Seq) → o ≡ Some seq → ⊥) → o ≡ None
 none_from None h = refl
@@ -288,12 +291,6 @@ pub text_lacks : (a : Automaton) (s : State) (n : ℕ) (moves : List TextMove) (
 text_lacks a s n moves fs m e is at unknown =
     let got : slice_get (moves_at a s).texts n ≡ Some m = slice_get-get_or (moves_at a s).texts n m is.1 ∙ ap Some (ap (λ w. get_or w n m) (sym e) ∙ sym at) in
     (m.rest, subst (λ o. Contains (text_parts o) m.rest) (sym got) (first_in m.rest []), unknown)
-
-pub none_more : (fs : List (Option Seq)) → ((k : ℕ) → get_or fs k None ≡ None) → (k : ℕ) → get_or (fs ++ None ∷ []) k None ≡ None
-none_more [] h zero = refl
-none_more [] h (suc k) = refl
-none_more (f ∷ fs) h zero = h 0
-none_more (f ∷ fs) h (suc k) = none_more fs (λ n. h (suc n)) k
 
 pub if_some : (o : Option Seq) (P : Seq → Type 0) → ((seq : Seq) → o ≡ Some seq → P seq) → IfSome o P
 if_some None P h = tt

@@ -1,3 +1,4 @@
 pub mod Uses
 pub mod Inhabited
 pub mod Parts
+pub mod Known

@@ -1,11 +1,14 @@
 //! Whether states accept any document, and such documents.
 #![tactic(auto)]
 
+mod finding;
 mod inhabit;
+mod known;
 mod names;
 mod part;
 mod uses;
 
 pub use inhabit::{inhabitant, inhabitants};
+pub use known::Inhabitants;
 pub use names::{label_of, text_of};
 pub use part::{inhabited, inhabited_part};
