@@ -1,34 +1,46 @@
 -- One more state of an automaton of pairs has its moves; and when all have them.
-use Rattle.std.proofs.Common.{◌≡◌, ◌≢◌, ◌⊎◌, inl, inr, ⊎_elim, ℕ, suc, ◌+◌, ◌<◌, ◌≤◌, ◌&&◌, List, [], ◌∷◌, ◌++◌, length, map, Some, Vec, refl, sym, ap, ◌∙◌, subst, arith}
+use Rattle.std.proofs.Common.{◌≡◌, ◌≢◌, ◌⊎◌, inl, inr, ⊎_elim, ℕ, suc, ◌+◌, ◌-◌, ◌<◌, ◌≤◌, ◌&&◌, List, [], ◌∷◌, ◌++◌, length, map, Some, Vec, refl, sym, ap, ◌∙◌, subst, arith}
 use Rattle.std.specs.List.{slice_get}
 use Rattle.std.proofs.lemmas.Bool.{cases_eq, cases_lt}
 use Rattle.std.proofs.lemmas.List.{length_push}
 use Rattle.xd_doc.specs.Document.{Document}
 use Rattle.xd_auto.specs.declared.auto.State.{State}
-use Rattle.xd_auto.specs.Automaton.{Automaton, IsClosed, IsState, StateMoves, accepts, moves_at}
+use Rattle.xd_auto.specs.Automaton.{Automaton, IsClosed, IsState, LeadsBelow, StateMoves, accepts, moves_at}
+use Rattle.xd_auto.proofs.Closed.{moves_at-closed}
 use Rattle.xd_traces.specs.declared.pairs.Both.{Both}
 use Rattle.xd_traces.specs.declared.pairs.Pair.{Pair}
 use Rattle.xd_traces.specs.declared.pairs.Pairs.{Pairs}
 use Rattle.xd_traces.specs.declared.growing.Growing.{Growing}
+use Rattle.xd_traces.specs.declared.growing.OldStates.{OldStates}
 use Rattle.xd_traces.specs.Matching.{label_both, text_both}
-use Rattle.xd_traces.specs.Growing.{AreLabelsFor, AreMade, AreTextsFor, ExpandsLabels, ExpandsTexts, Found, HasNoMoves, IsKept, IsLabelMade, IsPairedTo, IsTextMade, KeepsMovesBut, Stands, found_at, pair_of, state_at}
-use Rattle.xd_traces.specs.Pairing.{boths_in}
-use Rattle.xd_traces.specs.Paired.{ArePairs, origins_in}
+use Rattle.xd_traces.specs.Growing.{AreLabelsFor, AreTextsFor, ExpandsLabels, ExpandsTexts, Found, GrowsBut, HasNoMoves, IsKept, IsPairOf, IsPairedTo, KeepsOld, LeadsToOld, Stands, found_at, pair_of}
+use Rattle.xd_traces.specs.Pairing.{StandsFor, boths_in}
+use Rattle.xd_traces.specs.Paired.{ArePairs, IsAdded, origins_in}
+use Rattle.xd_traces.specs.Universal.{IsUniversal}
 use Rattle.xd_traces.proofs.Matches.{there_front, there_last}
-use Rattle.xd_traces.proofs.Growths.{but_but, label_stays, made_stay, past_moves, same_pair, same_state, text_stays}
-use Rattle.xd_traces.proofs.Expanding.{is_pairing, stood, there_below}
+use Rattle.xd_traces.proofs.Growths.{but_but, labels_stay, old_both, past_moves, same_pair, same_state, stands_there, texts_stay}
+use Rattle.xd_traces.proofs.Expanding.{is_pairing, label_leads, of, stood, text_leads, there_below}
 use Rattle.xd_traces.proofs.PairingLaw.{pairs_runs}
 use Rattle.xd_traces.proofs.Steps.{some_same}
 
-pub paired_none : {A B : Type 0} (p q : Automaton) (g : Growing) → IsKept p q g → ((s : State) → HasNoMoves g.made s) → IsPairedTo {A = A} {B = B} p q g.made g.states.items (found_at g.found.items) [] [] 0
-paired_none p q g kept none = record {
+-- old states lead to old ones, also when more come
+pub leads_to_old : (q made : Automaton) → IsClosed q → KeepsOld (length q) q made → LeadsToOld (length q) made
+leads_to_old q made closed keeps = λ s lt. subst (λ m. LeadsBelow (length q) m) (sym (keeps.moves s lt)) (moves_at-closed q s closed lt)
+
+pub old_later : (base : ℕ) (q a b : Automaton) → base ≡ length q → KeepsOld (length q) q a → KeepsOld base a b → KeepsOld (length q) q b
+old_later base q a b size h k = old_both (length q) q a b h (subst (λ n. KeepsOld n a b) size k)
+
+-- no added state has its moves yet
+pub paired_none : {A B : Type 0} (p : Automaton) (old : OldStates) (made : Automaton) (g : Growing) → IsKept p old made g → ((s : State) → old.base ≤ s.number → HasNoMoves made s)
+    → IsPairedTo {A = A} {B = B} p old made g.states.items (found_at g.found.items) [] [] old.base
+paired_none p old made g kept none = record {
   whole = kept.whole;
-  texts_count = refl;
-  labels_count = refl;
-  within = omega arith;
-  has_labels = λ s x lt. absurd (omega arith);
-  has_texts = λ s x lt. absurd (omega arith);
-  waiting = λ s le. none s;
+  texts_count = omega arith;
+  labels_count = omega arith;
+  within = omega (arith, kept.whole.count);
+  has_labels = λ s x lt h. let le = h.0 in absurd (omega arith);
+  has_texts = λ s x lt h. let le = h.0 in absurd (omega arith);
+  waiting = none;
 }
 
 module _ {A : Type 0} where
@@ -39,138 +51,163 @@ module _ {A : Type 0} where
   pub row_last : (rows : List (Vec Both A)) (v : Vec Both A) (n : ℕ) → length rows ≡ n → boths_in (slice_get (rows ++ v ∷ []) n) ≡ v.items
   row_last rows v n e = ap (λ k. boths_in (slice_get (rows ++ v ∷ []) k)) (sym e) ∙ ap (λ o. boths_in o) (there_last rows v)
 
-module _ {A B : Type 0} (p q : Automaton) (texts : List (Vec Both A)) (labels : List (Vec Both B)) (done : ℕ) (g0 g1 g2 : Growing) (old : IsPairedTo p q g0.made g0.states.items (found_at g0.found.items) texts labels done)
-    (more : done < length g0.states.items) (text : Vec Both A) (label : Vec Both B) (kept : IsKept p q g2)
-    (keeps1 : KeepsMovesBut (state_at done) g0 g1) (keeps2 : KeepsMovesBut (state_at done) g1 g2)
-    (in_labels : ExpandsLabels p q (state_at done) g0 g1 label.items) (in_texts : ExpandsTexts p q (state_at done) g1 g2 text.items) where
-  there : IsState g0.made (state_at done)
-  there = omega (arith, old.whole.count)
+module _ {A B : Type 0} (p : Automaton) (old : OldStates) (texts : List (Vec Both A)) (labels : List (Vec Both B)) (at : State) (number : ℕ) (num : at.number ≡ number) (m0 m1 m2 : Automaton) (g0 g1 g2 : Growing)
+    (was : IsPairedTo p old m0 g0.states.items (found_at g0.found.items) texts labels number)
+    (there : IsState m0 at) (text : Vec Both A) (label : Vec Both B) (kept : IsKept p old m2 g2)
+    (keeps1 : GrowsBut old.base at m0 m1 g0.states.items g1.states.items) (keeps2 : GrowsBut old.base at m1 m2 g1.states.items g2.states.items)
+    (old1 : KeepsOld old.base m0 m1) (old2 : KeepsOld old.base m1 m2)
+    (in_labels : ExpandsLabels p old at m0 m1 g0.states.items g1.states.items label.items) (in_texts : ExpandsTexts p old at m1 m2 g1.states.items g2.states.items text.items) where
+  both : GrowsBut old.base at m0 m2 g0.states.items g2.states.items
+  both = but_but old.base at m0 m1 m2 g0.states.items g1.states.items g2.states.items there keeps1 keeps2
 
-  both : KeepsMovesBut (state_at done) g0 g2
-  both = but_but (state_at done) g0.made g1.made g2.made g0.states.items g1.states.items g2.states.items there keeps1 keeps2
+  olds : KeepsOld old.base m0 m2
+  olds = old_both old.base m0 m1 m2 old1 old2
 
-  older : (s : State) (x : Pair) → s.number < length g0.states.items → Stands g2.states.items s x → Stands g0.states.items s x
-  older s x lt e =
-      let w = there_below g0.states.items s.number lt in
-      let same : w.0 ≡ x = some_same (sym (both.adds.stay s w.0 w.1) ∙ e) in
-      w.1 ∙ ap Some same
+  older : (s : State) (x : Pair) → IsState m0 s → Stands old.base g2.states.items s x → Stands old.base g0.states.items s x
+  older s x here e =
+      let le = e.0 in
+      let w = there_below g0.states.items (s.number - old.base) (omega (arith, was.whole.count)) in
+      let same : w.0 ≡ x = some_same (sym (both.adds.stay s w.0 (le, w.1)).1 ∙ e.1) in
+      (le, w.1 ∙ ap Some same)
 
-  same_moves : (s : State) → s.number < done → moves_at g2.made s ≡ moves_at g0.made s
-  same_moves s lt = let ne : s.number ≢ done = omega arith in both.moves s (omega (arith, old.whole.count, old.within)) ne
+  pair_is : (s : State) (x : Pair) → Stands old.base g2.states.items s x → IsPairOf p old x
+  pair_is s x e = (kept.whole.pairs s x e).pair
 
-  labels_at : (s : State) (x : Pair) → s.number < done + 1 → Stands g2.states.items s x → AreLabelsFor p q g2.states.items x (moves_at g2.made s).labels (boths_in (slice_get (labels ++ label ∷ []) s.number))
-  labels_at s x lt e = ⊎_elim (λ same. last (same_state (state_at done) s (sym same)) same) (λ ne. front (omega arith)) (cases_eq s.number done)
+  same_moves : (s : State) → s.number < number → moves_at m2 s ≡ moves_at m0 s
+  same_moves s lt = let ne : s.number ≢ at.number = omega (arith, num) in both.moves s (omega (arith, there, num)) ne
+
+  labels_at : (s : State) (x : Pair) → s.number < number + 1 → Stands old.base g2.states.items s x → AreLabelsFor p old m2 g2.states.items x (moves_at m2 s).labels (boths_in (slice_get (labels ++ label ∷ []) (s.number - old.base)))
+  labels_at s x lt e = ⊎_elim (λ same. last (same_state at s (sym same))) (λ ne. front (omega (arith, num))) (cases_eq s.number at.number)
     where
-      front : s.number < done → AreLabelsFor p q g2.states.items x (moves_at g2.made s).labels (boths_in (slice_get (labels ++ label ∷ []) s.number))
+      front : s.number < number → AreLabelsFor p old m2 g2.states.items x (moves_at m2 s).labels (boths_in (slice_get (labels ++ label ∷ []) (s.number - old.base)))
       front l =
-          let f = old.has_labels s x l (older s x (omega (arith, old.within)) e) in
-          let stays = made_stay label_both (IsLabelMade g0.states.items) (IsLabelMade g2.states.items) (label_stays g0.states.items g2.states.items both.adds.stay) f.matches _ _ f.made in
-          record {
-            matches = f.matches;
-            are = f.are;
-            made = subst (λ ls. AreMade label_both (IsLabelMade g2.states.items) f.matches ls (boths_in (slice_get (labels ++ label ∷ []) s.number))) (ap (λ (m : StateMoves). m.labels) (sym (same_moves s l)))
-                (subst (λ bs. AreMade label_both (IsLabelMade g2.states.items) f.matches (moves_at g0.made s).labels bs) (sym (row_front labels label s.number (omega (arith, old.labels_count)))) stays);
-          }
+          let le = e.0 in
+          let f = was.has_labels s x l (older s x (omega (arith, there, num, lt)) e) in
+          let stays = labels_stay old g0.states.items g2.states.items both.adds.stay p m0 m2 olds x (pair_is s x e) (moves_at m0 s).labels (boths_in (slice_get labels (s.number - old.base))) f in
+          subst (λ (m : StateMoves). AreLabelsFor p old m2 g2.states.items x m.labels (boths_in (slice_get (labels ++ label ∷ []) (s.number - old.base)))) (sym (same_moves s l))
+          (subst (λ bs. AreLabelsFor p old m2 g2.states.items x (moves_at m0 s).labels bs) (sym (row_front labels label (s.number - old.base) (omega (arith, was.labels_count)))) stays)
 
-      last : state_at done ≡ s → s.number ≡ done → AreLabelsFor p q g2.states.items x (moves_at g2.made s).labels (boths_in (slice_get (labels ++ label ∷ []) s.number))
-      last is num =
-          let here : Stands g0.states.items (state_at done) x = subst (λ t. Stands g0.states.items t x) (sym is) (older s x (omega arith) e) in
-          let f = in_labels.are x here in
-          let stays = made_stay label_both (IsLabelMade g1.states.items) (IsLabelMade g2.states.items) (label_stays g1.states.items g2.states.items keeps2.adds.stay) f.matches _ _ f.made in
-          let moves : in_labels.steps ≡ (moves_at g2.made s).labels =
-          ap (λ ls. ls ++ in_labels.steps) (sym (old.waiting (state_at done) (omega arith)).0) ∙ sym in_labels.adds.labels ∙ sym in_texts.adds.labels ∙ ap (λ t. (moves_at g2.made t).labels) is in
-          record {
-            matches = f.matches;
-            are = f.are;
-            made = subst (λ ls. AreMade label_both (IsLabelMade g2.states.items) f.matches ls (boths_in (slice_get (labels ++ label ∷ []) s.number))) moves
-                (subst (λ bs. AreMade label_both (IsLabelMade g2.states.items) f.matches in_labels.steps bs) (sym (row_last labels label s.number (old.labels_count ∙ sym num))) stays);
-          }
+      last : at ≡ s → AreLabelsFor p old m2 g2.states.items x (moves_at m2 s).labels (boths_in (slice_get (labels ++ label ∷ []) (s.number - old.base)))
+      last is =
+          let same : s.number ≡ number = ap (λ (t : State). t.number) (sym is) ∙ num in
+          let here : Stands old.base g0.states.items at x = subst (λ t. Stands old.base g0.states.items t x) (sym is) (older s x (omega (arith, there, num, lt)) e) in
+          let stays = labels_stay old g1.states.items g2.states.items keeps2.adds.stay p m0 m2 olds x (pair_is s x e) in_labels.steps label.items (in_labels.are x here) in
+          let moves : in_labels.steps ≡ (moves_at m2 s).labels =
+          ap (λ ls. ls ++ in_labels.steps) (sym (was.waiting at (omega (arith, num))).0) ∙ sym in_labels.adds.labels ∙ sym in_texts.adds.labels ∙ ap (λ t. (moves_at m2 t).labels) is in
+          subst (λ ls. AreLabelsFor p old m2 g2.states.items x ls (boths_in (slice_get (labels ++ label ∷ []) (s.number - old.base)))) moves
+          (subst (λ bs. AreLabelsFor p old m2 g2.states.items x in_labels.steps bs) (sym (row_last labels label (s.number - old.base) (omega (arith, was.labels_count)))) stays)
 
-  texts_at : (s : State) (x : Pair) → s.number < done + 1 → Stands g2.states.items s x → AreTextsFor p q g2.states.items x (moves_at g2.made s).texts (boths_in (slice_get (texts ++ text ∷ []) s.number))
-  texts_at s x lt e = ⊎_elim (λ same. last (same_state (state_at done) s (sym same)) same) (λ ne. front (omega arith)) (cases_eq s.number done)
+  texts_at : (s : State) (x : Pair) → s.number < number + 1 → Stands old.base g2.states.items s x → AreTextsFor p old m2 g2.states.items x (moves_at m2 s).texts (boths_in (slice_get (texts ++ text ∷ []) (s.number - old.base)))
+  texts_at s x lt e = ⊎_elim (λ same. last (same_state at s (sym same))) (λ ne. front (omega (arith, num))) (cases_eq s.number at.number)
     where
-      front : s.number < done → AreTextsFor p q g2.states.items x (moves_at g2.made s).texts (boths_in (slice_get (texts ++ text ∷ []) s.number))
+      front : s.number < number → AreTextsFor p old m2 g2.states.items x (moves_at m2 s).texts (boths_in (slice_get (texts ++ text ∷ []) (s.number - old.base)))
       front l =
-          let f = old.has_texts s x l (older s x (omega (arith, old.within)) e) in
-          let stays = made_stay text_both (IsTextMade g0.states.items) (IsTextMade g2.states.items) (text_stays g0.states.items g2.states.items both.adds.stay) f.matches _ _ f.made in
-          record {
-            matches = f.matches;
-            are = f.are;
-            made = subst (λ ls. AreMade text_both (IsTextMade g2.states.items) f.matches ls (boths_in (slice_get (texts ++ text ∷ []) s.number))) (ap (λ (m : StateMoves). m.texts) (sym (same_moves s l)))
-                (subst (λ bs. AreMade text_both (IsTextMade g2.states.items) f.matches (moves_at g0.made s).texts bs) (sym (row_front texts text s.number (omega (arith, old.texts_count)))) stays);
-          }
+          let le = e.0 in
+          let f = was.has_texts s x l (older s x (omega (arith, there, num, lt)) e) in
+          let stays = texts_stay old g0.states.items g2.states.items both.adds.stay p m0 m2 olds x (pair_is s x e) (moves_at m0 s).texts (boths_in (slice_get texts (s.number - old.base))) f in
+          subst (λ (m : StateMoves). AreTextsFor p old m2 g2.states.items x m.texts (boths_in (slice_get (texts ++ text ∷ []) (s.number - old.base)))) (sym (same_moves s l))
+          (subst (λ bs. AreTextsFor p old m2 g2.states.items x (moves_at m0 s).texts bs) (sym (row_front texts text (s.number - old.base) (omega (arith, was.texts_count)))) stays)
 
-      last : state_at done ≡ s → s.number ≡ done → AreTextsFor p q g2.states.items x (moves_at g2.made s).texts (boths_in (slice_get (texts ++ text ∷ []) s.number))
-      last is num =
-          let here : Stands g0.states.items (state_at done) x = subst (λ t. Stands g0.states.items t x) (sym is) (older s x (omega arith) e) in
-          let f = in_texts.are x (keeps1.adds.stay (state_at done) x here) in
-          let moves : in_texts.steps ≡ (moves_at g2.made s).texts =
-          ap (λ ls. ls ++ in_texts.steps) (sym (in_labels.adds.texts ∙ (old.waiting (state_at done) (omega arith)).1)) ∙ sym in_texts.adds.texts ∙ ap (λ t. (moves_at g2.made t).texts) is in
-          record {
-            matches = f.matches;
-            are = f.are;
-            made = subst (λ ls. AreMade text_both (IsTextMade g2.states.items) f.matches ls (boths_in (slice_get (texts ++ text ∷ []) s.number))) moves
-                (subst (λ bs. AreMade text_both (IsTextMade g2.states.items) f.matches in_texts.steps bs) (sym (row_last texts text s.number (old.texts_count ∙ sym num))) f.made);
-          }
+      last : at ≡ s → AreTextsFor p old m2 g2.states.items x (moves_at m2 s).texts (boths_in (slice_get (texts ++ text ∷ []) (s.number - old.base)))
+      last is =
+          let same : s.number ≡ number = ap (λ (t : State). t.number) (sym is) ∙ num in
+          let here : Stands old.base g0.states.items at x = subst (λ t. Stands old.base g0.states.items t x) (sym is) (older s x (omega (arith, there, num, lt)) e) in
+          let stays = texts_stay old g2.states.items g2.states.items (λ t y w. w) p m1 m2 old2 x (pair_is s x e) in_texts.steps text.items (in_texts.are x (keeps1.adds.stay at x here)) in
+          let moves : in_texts.steps ≡ (moves_at m2 s).texts =
+          ap (λ ls. ls ++ in_texts.steps) (sym (in_labels.adds.texts ∙ (was.waiting at (omega (arith, num))).1)) ∙ sym in_texts.adds.texts ∙ ap (λ t. (moves_at m2 t).texts) is in
+          subst (λ ls. AreTextsFor p old m2 g2.states.items x ls (boths_in (slice_get (texts ++ text ∷ []) (s.number - old.base)))) moves
+          (subst (λ bs. AreTextsFor p old m2 g2.states.items x in_texts.steps bs) (sym (row_last texts text (s.number - old.base) (omega (arith, was.texts_count)))) stays)
 
-  pub paired_more : IsPairedTo p q g2.made g2.states.items (found_at g2.found.items) (texts ++ text ∷ []) (labels ++ label ∷ []) (done + 1)
+  pub paired_more : IsPairedTo p old m2 g2.states.items (found_at g2.found.items) (texts ++ text ∷ []) (labels ++ label ∷ []) (number + 1)
   paired_more = record {
     whole = kept.whole;
-    texts_count = length_push texts text ∙ ap (λ n. n + 1) old.texts_count;
-    labels_count = length_push labels label ∙ ap (λ n. n + 1) old.labels_count;
-    within = omega (arith, both.adds.longer, kept.whole.count, old.whole.count);
+    texts_count = omega (arith, length_push texts text, was.texts_count);
+    labels_count = omega (arith, length_push labels label, was.labels_count);
+    within = omega (arith, both.adds.longer, there, num);
     has_labels = labels_at;
     has_texts = texts_at;
-    waiting = λ s le. wait s le (cases_lt s.number (length g0.made)) (cases_lt s.number (length g2.made));
+    waiting = λ s le. wait s le (cases_lt s.number (length m0)) (cases_lt s.number (length m2));
   }
     where
-      wait : (s : State) → done + 1 ≤ s.number → (s.number < length g0.made) ⊎ (length g0.made ≤ s.number) → (s.number < length g2.made) ⊎ (length g2.made ≤ s.number) → HasNoMoves g2.made s
+      wait : (s : State) → number + 1 ≤ s.number → (s.number < length m0) ⊎ (length m0 ≤ s.number) → (s.number < length m2) ⊎ (length m2 ≤ s.number) → HasNoMoves m2 s
       wait s le (inl a) b =
-          let ne : s.number ≢ done = omega arith in
+          let ne : s.number ≢ at.number = omega (arith, num) in
           let e = both.moves s a ne in
-          let n = old.waiting s (omega arith) in
+          let n = was.waiting s (omega arith) in
           (ap (λ (m : StateMoves). m.labels) e ∙ n.0, ap (λ (m : StateMoves). m.texts) e ∙ n.1)
       wait s le (inr a) (inl b) = both.adds.fresh s b a
-      wait s le (inr a) (inr b) = past_moves g2.made s b
+      wait s le (inr a) (inr b) = past_moves m2 s b
 
 length_map : {X Y : Type 0} (f : X → Y) (xs : List X) → length (map f xs) ≡ length xs
 length_map f [] = refl
 length_map f (x ∷ xs) = ap suc (length_map f xs)
 
 -- all states have their moves
-module _ (p q : Automaton) (one two : State) (pairs : Pairs) (found : Found) (done : ℕ)
-    (h : IsPairedTo p q pairs.auto pairs.states.items found pairs.texts.items pairs.labels.items done) (all : length pairs.states.items ≤ done) (closed : IsClosed pairs.auto)
-    (start : Stands pairs.states.items pairs.start (pair_of one two)) (begins : IsState pairs.auto pairs.start) where
-  pub are_pairs : ArePairs p q one two pairs
-  are_pairs = record {
-    pairing = is_pairing p q pairs.auto pairs.states.items found pairs.texts.items pairs.labels.items done h all closed;
-    start = begins;
-    stands = stood p q pairs.auto pairs.states.items found pairs.texts.items pairs.labels.items done h all closed pairs.start (pair_of one two) start;
-    single = λ s t a b e f. one_state s t a b e f;
-    states_count = h.whole.count;
-    texts_count = omega (arith, h.texts_count, h.within, h.whole.count);
-    labels_count = omega (arith, h.labels_count, h.within, h.whole.count);
-    texts_sized = λ s here.
-        let x = there_below pairs.states.items s.number (omega (arith, h.whole.count)) in
-        let f = h.has_texts s x.0 (omega (arith, h.whole.count)) x.1 in
-        ap (λ bs. length bs) f.made.numbers ∙ length_map text_both f.matches ∙ sym f.made.count;
-    labels_sized = λ s here.
-        let x = there_below pairs.states.items s.number (omega (arith, h.whole.count)) in
-        let f = h.has_labels s x.0 (omega (arith, h.whole.count)) x.1 in
-        ap (λ bs. length bs) f.made.numbers ∙ length_map label_both f.matches ∙ sym f.made.count;
-  }
-    where
-      one_state : (s t : State) → IsState pairs.auto s → IsState pairs.auto t → (origins_in pairs).left s ≡ (origins_in pairs).left t → (origins_in pairs).right s ≡ (origins_in pairs).right t → s ≡ t
-      one_state s t a b e f =
-          let x = there_below pairs.states.items s.number (omega (arith, h.whole.count)) in
-          let y = there_below pairs.states.items t.number (omega (arith, h.whole.count)) in
-          let u = stood p q pairs.auto pairs.states.items found pairs.texts.items pairs.labels.items done h all closed s x.0 x.1 in
-          let v = stood p q pairs.auto pairs.states.items found pairs.texts.items pairs.labels.items done h all closed t y.0 y.1 in
-          let same : x.0 ≡ y.0 = same_pair x.0 y.0 (ap (λ (w : State). w.number) (sym u.left ∙ e ∙ v.left)) (ap (λ (w : State). w.number) (sym u.right ∙ f ∙ v.right)) in
-          some_same (sym (h.whole.listed s x.0 x.1) ∙ ap (λ (z : Pair). found z.left.number z.right.number) same ∙ h.whole.listed t y.0 y.1)
+module _ (p q made : Automaton) (one two all : State) (pairs : Pairs) (found : Found) (number : ℕ) where
+  abbrev old : OldStates
+  old = record { base = pairs.base; all = all }
 
-  pub pair_accepts : (d : Document) → accepts pairs.auto d pairs.start ≡ (accepts p d one && accepts q d two)
-  pair_accepts d =
-      let w = are_pairs in
-      let r = pairs_runs p q pairs.auto (origins_in pairs) w.pairing pairs.start begins in
-      r.accepted d ∙ ap (λ s. accepts p d s && accepts q d ((origins_in pairs).right pairs.start)) w.stands.left ∙ ap (λ s. accepts p d one && accepts q d s) w.stands.right
+  module _ (h : IsPairedTo p old made pairs.states.items found pairs.texts.items pairs.labels.items number) (whole : length made ≤ number) (closed : IsClosed made) (closed_q : IsClosed q)
+      (universal : IsUniversal p all) (base : pairs.base ≡ length q) (keeps : KeepsOld (length q) q made)
+      (start : Stands pairs.base pairs.states.items pairs.start (pair_of one two)) where
+    stay : (s : State) → s.number < pairs.base → moves_at made s ≡ moves_at q s
+    stay s lt = keeps.moves s (omega (arith, base))
+
+    leads : LeadsToOld pairs.base made
+    leads = subst (λ b. LeadsToOld b made) (sym base) (leads_to_old q made closed_q keeps)
+
+    added : (s : State) (x : Pair) → Stands pairs.base pairs.states.items s x → IsAdded pairs.base made s
+    added s x e = (e.0, stands_there p old made pairs.states.items found s x h.whole e)
+
+    stands : (s : State) (x : Pair) → Stands pairs.base pairs.states.items s x → StandsFor (origins_in all pairs) s x.left x.right
+    stands s x e = stood p q old made pairs.states.items found pairs.texts.items pairs.labels.items number h whole closed universal base stay leads s x e
+
+    pair_there : (s : State) → IsAdded pairs.base made s → (x : Pair) × Stands pairs.base pairs.states.items s x
+    pair_there s here = let x = of p q old made pairs.states.items found pairs.texts.items pairs.labels.items number h whole closed universal base stay leads s here.0 here.1 in (x.pair, x.there)
+
+    pub are_pairs : ArePairs p q made one two all pairs
+    are_pairs = record {
+      base = base;
+      pairing = is_pairing p q old made pairs.states.items found pairs.texts.items pairs.labels.items number h whole closed universal base stay leads;
+      start = added pairs.start (pair_of one two) start;
+      stands = stands pairs.start (pair_of one two) start;
+      after_texts = λ s m n here e.
+          let x = text_leads p q old made pairs.states.items found pairs.texts.items pairs.labels.items number h whole closed universal base stay leads s m n here.0 here.1 e in
+          added m.rest x.0 x.1;
+      after_elements = λ s m n here e.
+          let x = label_leads p q old made pairs.states.items found pairs.texts.items pairs.labels.items number h whole closed universal base stay leads s m n here.0 here.1 e in
+          added m.rest x.rest x.rest_is;
+      contents = λ s m n here e is.
+          let x = label_leads p q old made pairs.states.items found pairs.texts.items pairs.labels.items number h whole closed universal base stay leads s m n here.0 here.1 e in
+          ⊎_elim
+          (λ f. subst (λ (t : State). t.number < pairs.base) (sym f.1) x.below)
+          (λ f. absurd (f.0 (sym (stands m.content x.content f.1).left ∙ is)))
+          x.content_is;
+      single = λ s t a b e f. one_state s t a b e f;
+      states_count = sym h.whole.count;
+      texts_count = omega (arith, h.texts_count, h.within, whole);
+      labels_count = omega (arith, h.labels_count, h.within, whole);
+      texts_sized = λ s here.
+          let x = pair_there s here in
+          let f = h.has_texts s x.0 (omega (arith, whole, here.1)) x.1 in
+          ap (λ bs. length bs) f.made_for.numbers ∙ length_map text_both f.matches ∙ sym f.made_for.count;
+      labels_sized = λ s here.
+          let x = pair_there s here in
+          let f = h.has_labels s x.0 (omega (arith, whole, here.1)) x.1 in
+          ap (λ bs. length bs) f.made_for.numbers ∙ length_map label_both f.matches ∙ sym f.made_for.count;
+    }
+      where
+        one_state : (s t : State) → IsAdded pairs.base made s → IsAdded pairs.base made t → (origins_in all pairs).left s ≡ (origins_in all pairs).left t → (origins_in all pairs).right s ≡ (origins_in all pairs).right t → s ≡ t
+        one_state s t a b e f =
+            let x = pair_there s a in
+            let y = pair_there t b in
+            let u = stands s x.0 x.1 in
+            let v = stands t y.0 y.1 in
+            let same : x.0 ≡ y.0 = same_pair x.0 y.0 (ap (λ (w : State). w.number) (sym u.left ∙ e ∙ v.left)) (ap (λ (w : State). w.number) (sym u.right ∙ f ∙ v.right)) in
+            some_same (sym (h.whole.listed s x.0 x.1) ∙ ap (λ (z : Pair). found z.left.number z.right.number) same ∙ h.whole.listed t y.0 y.1)
+
+    pub pair_accepts : (d : Document) → accepts made d pairs.start ≡ (accepts p d one && accepts q d two)
+    pair_accepts d =
+        let w = are_pairs in
+        let r = pairs_runs p q made (origins_in all pairs) w.pairing pairs.start w.start.1 in
+        r.accepted d ∙ ap (λ s. accepts p d s && accepts q d ((origins_in all pairs).right pairs.start)) w.stands.left ∙ ap (λ s. accepts p d one && accepts q d s) w.stands.right

@@ -3,4 +3,5 @@ pub mod Matches
 pub mod Growths
 pub mod Expanding
 pub mod PairingLaw
+pub mod Universals
 pub mod Assembling

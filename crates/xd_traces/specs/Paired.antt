@@ -1,23 +1,37 @@
 -- What the code answers for two automata side by side.
-use Rattle.std.specs.Prelude.{◌≡◌, length, slice_get}
+use Rattle.std.specs.Prelude.{◌≡◌, ℕ, ◌+◌, ◌-◌, ◌<◌, ◌≤◌, Some, length, slice_get}
 use Rattle.xd_auto.specs.declared.auto.State.{State}
+use Rattle.xd_auto.specs.declared.auto.LabelMove.{LabelMove}
+use Rattle.xd_auto.specs.declared.auto.TextMove.{TextMove}
 use Rattle.xd_auto.specs.Automaton.{Automaton, IsState, moves_at}
 use Rattle.xd_traces.specs.declared.pairs.Pairs.{Pairs}
-use Rattle.xd_traces.specs.Pairing.{Origins, IsPairing, StandsFor, boths_in, origins_of}
+use Rattle.xd_traces.specs.Pairing.{Origins, IsPairing, StandsFor, boths_in, origins_from}
 
--- what the states and moves stand for
-abbrev pub origins_in : Pairs → Origins
-origins_in pairs = origins_of pairs.states.items pairs.texts.items pairs.labels.items
+-- what the states and moves stand for, where old states stand for themselves and this state of the first automaton
+abbrev pub origins_in : State → Pairs → Origins
+origins_in all pairs = origins_from pairs.base all pairs.states.items pairs.texts.items pairs.labels.items
 
--- A pairing, in which each pair has one state at most, and a start that stands for these states; with the pair of each
--- state, and for each of its moves the numbers of the two.
-pub record ArePairs (p q : Automaton) (one two : State) (pairs : Pairs) : Type 0 where
-  pub pairing : IsPairing p q pairs.auto (origins_in pairs)
-  pub start : IsState pairs.auto pairs.start
-  pub stands : StandsFor (origins_in pairs) pairs.start one two
-  pub single : (s t : State) → IsState pairs.auto s → IsState pairs.auto t → (origins_in pairs).left s ≡ (origins_in pairs).left t → (origins_in pairs).right s ≡ (origins_in pairs).right t → s ≡ t
-  pub states_count : length pairs.states.items ≡ length pairs.auto
-  pub texts_count : length pairs.texts.items ≡ length pairs.auto
-  pub labels_count : length pairs.labels.items ≡ length pairs.auto
-  pub texts_sized : (s : State) → IsState pairs.auto s → length (boths_in (slice_get pairs.texts.items s.number)) ≡ length (moves_at pairs.auto s).texts
-  pub labels_sized : (s : State) → IsState pairs.auto s → length (boths_in (slice_get pairs.labels.items s.number)) ≡ length (moves_at pairs.auto s).labels
+-- a state of the automaton that is not below the base
+abbrev pub IsAdded : ℕ → Automaton → State → Type 0
+IsAdded base a s = (base ≤ s.number) × IsState a s
+
+-- A pairing of the first automaton and of the second one as it was, in the second one as it is: old states stand for
+-- themselves and the state that accepts all. The start stands for these states. It and what follows moves of added states
+-- are added states, one at most for each pair; a content that the first automaton takes whole is an old state. With the
+-- pair of each added state, and for each of its moves the numbers of the two.
+pub record ArePairs (p q made : Automaton) (one two all : State) (pairs : Pairs) : Type 0 where
+  pub base : pairs.base ≡ length q
+  pub pairing : IsPairing p q made (origins_in all pairs)
+  pub start : IsAdded pairs.base made pairs.start
+  pub stands : StandsFor (origins_in all pairs) pairs.start one two
+  pub after_texts : (s : State) (m : TextMove) (n : ℕ) → IsAdded pairs.base made s → slice_get (moves_at made s).texts n ≡ Some m → IsAdded pairs.base made m.rest
+  pub after_elements : (s : State) (m : LabelMove) (n : ℕ) → IsAdded pairs.base made s → slice_get (moves_at made s).labels n ≡ Some m → IsAdded pairs.base made m.rest
+  pub contents : (s : State) (m : LabelMove) (n : ℕ) → IsAdded pairs.base made s → slice_get (moves_at made s).labels n ≡ Some m
+      → (origins_in all pairs).left m.content ≡ all → m.content.number < pairs.base
+  pub single : (s t : State) → IsAdded pairs.base made s → IsAdded pairs.base made t → (origins_in all pairs).left s ≡ (origins_in all pairs).left t
+      → (origins_in all pairs).right s ≡ (origins_in all pairs).right t → s ≡ t
+  pub states_count : pairs.base + length pairs.states.items ≡ length made
+  pub texts_count : pairs.base + length pairs.texts.items ≡ length made
+  pub labels_count : pairs.base + length pairs.labels.items ≡ length made
+  pub texts_sized : (s : State) → IsAdded pairs.base made s → length (boths_in (slice_get pairs.texts.items (s.number - pairs.base))) ≡ length (moves_at made s).texts
+  pub labels_sized : (s : State) → IsAdded pairs.base made s → length (boths_in (slice_get pairs.labels.items (s.number - pairs.base))) ≡ length (moves_at made s).labels

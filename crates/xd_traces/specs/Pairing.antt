@@ -1,5 +1,5 @@
 -- Automata that run two others side by side.
-use Rattle.std.specs.Prelude.{◌≡◌, ℕ, ◌↔◌, true, ◌&&◌, List, [], Option, Some, None, Vec, slice_get, slice_index_or}
+use Rattle.std.specs.Prelude.{◌≡◌, ℕ, ◌-◌, ◌↔◌, true, ◌&&◌, cond, nat_lt, List, [], Option, Some, None, Vec, slice_get, slice_index_or}
 use Rattle.xd_doc.specs.Document.{Document}
 use Rattle.xd_doc.specs.Classes.{NameClass, class_has}
 use Rattle.xd_auto.specs.declared.auto.State.{State}
@@ -34,13 +34,15 @@ boths_in (Some bs) = bs.items
 abbrev pub both_at : List Both → ℕ → Both
 both_at bs n = slice_index_or bs n (record { left = 0; right = 0 })
 
--- the origins that lists say: the pair of each state, and the numbers of the moves that its moves stand for
-abbrev pub origins_of : {A B : Type 0} → List Pair → List (Vec Both A) → List (Vec Both B) → Origins
-origins_of states texts elements = record {
-  left = λ s. left_or s (slice_get states s.number);
-  right = λ s. right_or s (slice_get states s.number);
-  text = λ s n. both_at (boths_in (slice_get texts s.number)) n;
-  element = λ s n. both_at (boths_in (slice_get elements s.number)) n;
+-- The origins that lists say, of states from a base on: the pair of each state, and the numbers of the moves that its moves
+-- stand for. A state below the base stands for itself and one state of the first automaton, and each move of it for itself
+-- and that state's first one.
+abbrev pub origins_from : {A B : Type 0} → ℕ → State → List Pair → List (Vec Both A) → List (Vec Both B) → Origins
+origins_from base all states texts elements = record {
+  left = λ s. cond (nat_lt s.number base) all (left_or s (slice_get states (s.number - base)));
+  right = λ s. cond (nat_lt s.number base) s (right_or s (slice_get states (s.number - base)));
+  text = λ s n. cond (nat_lt s.number base) (record { left = 0; right = n }) (both_at (boths_in (slice_get texts (s.number - base))) n);
+  element = λ s n. cond (nat_lt s.number base) (record { left = 0; right = n }) (both_at (boths_in (slice_get elements (s.number - base))) n);
 }
 
 -- the class has what both have

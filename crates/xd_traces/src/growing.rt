@@ -1,9 +1,11 @@
-//! An automaton of pairs while it is made.
+//! Pairs of states, and the states that are added for them.
 
 ghost use Rattle.std.specs.Prelude.{◌≡◌, ◌<◌, ◌≤◌, ◌+◌, ◌++◌, ◌∷◌, ℕ, List, [], Some, None, IfOk, OnOk, length, cond, nat_eq, ◌&&◌};
 ghost use Rattle.std.specs.List.{All};
-ghost use Rattle.xd_auto.specs.Automaton.{Automaton, IsClosed, IsState, moves_at, no_moves, state_number};
-ghost use Rattle.xd_traces.specs.Growing.{AddsLabelMove, AddsLabelMoves, AddsTextMove, AddsTextMoves, ExpandsLabels, ExpandsTexts, IsKept, IsPairOf, KeepsMoves, KeepsMovesBut, Stands, found_at, state_at};
+ghost use Rattle.xd_auto.specs.Automaton.{Automaton, Extends, IsState, moves_at, no_moves, state_number};
+ghost use Rattle.xd_traces.specs.Growing.{AddsLabelMove, AddsLabelMoves, AddsTextMove, AddsTextMoves, ExpandsLabels, ExpandsTexts, Grows, GrowsBut, IsContent, IsKept, IsPairOf, KeepsOld, LeadsToOld, Stands, found_at};
+ghost use Rattle.xd_traces.specs.Paired.{IsAdded};
+ghost use Rattle.xd_traces.specs.declared.growing.OldStates.{OldStates};
 
 use crate::matching::{LabelMatch, TextMatch, label_matches, text_matches};
 use crate::pairs::{Both, Pair};
@@ -12,11 +14,20 @@ use std::collections::HashMap;
 use xd_auto::{Auto, State};
 use xd_doc::NoMemory;
 
-/// The automaton, the pair of each of its states, and the states by their pairs: for each state of
-/// the first automaton those by the number of the second's.
+/// The states that the second automaton had, those below `base`, and the state of the first one
+/// that accepts all.
+///
+/// Each old state accepts what the pair of `all` and it would.
+#[derive(Clone, Copy, Debug)]
+pub struct OldStates {
+    pub base: usize,
+    pub all: State,
+}
+
+/// The pair of each added state, and the added states by their pairs: for each state of the first
+/// automaton those by the number of the second's.
 #[derive(Debug, Drop)]
 pub struct Growing {
-    pub made: Auto,
     pub states: Vec<Pair>,
     found: Vec<HashMap<usize, State>>,
 }
@@ -49,8 +60,7 @@ fn both_last(one: &Auto, two: &Auto, pair: Pair) -> bool
 impl Growing {
     /// No state yet, for a first automaton of so many states.
     pub fn new(alloc: Global, one: &Auto) -> Result<Self, NoMemory>
-        ensures kept { IfOk result (λ growing. (q : Automaton) → IsKept one.now q growing) }
-        ensures made { IfOk result (λ growing. growing.made ≡ []) }
+        ensures kept { IfOk result (λ growing. (old : OldStates) (made : Automaton) → length made ≡ old.base → IsKept one.now old made growing) }
         ensures states { IfOk result (λ growing. growing.states.items ≡ []) }
     {
         let mut found = Vec::new(alloc);
@@ -58,24 +68,29 @@ impl Growing {
             found.push(HashMap::new(alloc))?;
         }
         Ok(Self {
-            made: Auto::new(alloc),
             states: Vec::new(alloc),
             found,
         })
     }
 
     /// Adds a state for a pair that has none.
-    fn add(&mut self, one: &Auto, two: &Auto, pair: Pair) -> Result<State, NoMemory>
-        requires kept { IsKept one.now two.now self.old }
-        requires left { IsState one.now pair.left }
-        requires right { IsState two.now pair.right }
+    fn add(
+        &mut self,
+        one: &Auto,
+        two: &mut Auto,
+        old: OldStates,
+        pair: Pair,
+    ) -> Result<State, NoMemory>
+        requires kept { IsKept one.now old two.old self.old }
+        requires pair { IsPairOf one.now old pair }
         requires none { found_at self.old.found.items (state_number pair.left) (state_number pair.right) ≡ None }
-        ensures kept { OnOk result (IsKept one.now two.now self.new) }
-        ensures keeps { OnOk result (KeepsMoves self.old self.new) }
-        ensures stands { IfOk result (λ state. Stands self.new.states.items state pair) }
+        ensures kept { OnOk result (IsKept one.now old two.new self.new) }
+        ensures keeps { OnOk result (Grows old.base two.old two.new self.old.states.items self.new.states.items) }
+        ensures extends { Extends two.old two.new }
+        ensures stands { IfOk result (λ state. Stands old.base self.new.states.items state pair) }
     {
         let last = both_last(one, two, pair);
-        let state = self.made.add_state(last)?;
+        let state = two.add_state(last)?;
         self.states.push(pair)?;
         put(
             &mut self.found,
@@ -87,19 +102,55 @@ impl Growing {
     }
 
     /// The state for a pair, which is added where there is none.
-    pub fn find(&mut self, one: &Auto, two: &Auto, pair: Pair) -> Result<State, NoMemory>
-        requires kept { IsKept one.now two.now self.old }
-        requires left { IsState one.now pair.left }
-        requires right { IsState two.now pair.right }
-        ensures kept { OnOk result (IsKept one.now two.now self.new) }
-        ensures keeps { OnOk result (KeepsMoves self.old self.new) }
-        ensures stands { IfOk result (λ state. Stands self.new.states.items state pair) }
+    pub fn find(
+        &mut self,
+        one: &Auto,
+        two: &mut Auto,
+        old: OldStates,
+        pair: Pair,
+    ) -> Result<State, NoMemory>
+        requires kept { IsKept one.now old two.old self.old }
+        requires pair { IsPairOf one.now old pair }
+        ensures kept { OnOk result (IsKept one.now old two.new self.new) }
+        ensures keeps { OnOk result (Grows old.base two.old two.new self.old.states.items self.new.states.items) }
+        ensures extends { Extends two.old two.new }
+        ensures stands { IfOk result (λ state. Stands old.base self.new.states.items state pair) }
     {
         let row = &self.found[pair.left.number()];
         match row.get(&pair.right.number()) {
             Some(state) => Ok(*state),
-            None => self.add(one, two, pair),
+            None => self.add(one, two, old, pair),
         }
+    }
+
+    /// The state for a content: an old one where the first automaton takes it whole.
+    fn find_content(
+        &mut self,
+        one: &Auto,
+        two: &mut Auto,
+        old: OldStates,
+        pair: Pair,
+    ) -> Result<State, NoMemory>
+        requires kept { IsKept one.now old two.old self.old }
+        requires pair { IsPairOf one.now old pair }
+        ensures kept { OnOk result (IsKept one.now old two.new self.new) }
+        ensures keeps { OnOk result (Grows old.base two.old two.new self.old.states.items self.new.states.items) }
+        ensures extends { Extends two.old two.new }
+        ensures is { IfOk result (λ state. IsContent old self.new.states.items state pair) }
+    {
+        if pair.left == old.all {
+            return Ok(pair.right);
+        }
+        self.find(one, two, old, pair)
+    }
+
+    /// The pair of an added state.
+    fn pair(&self, old: OldStates, state: State) -> Pair
+        requires added { old.base ≤ state_number state }
+        requires within { state_number state < old.base + length self.now.states.items }
+        ensures { Stands old.base self.now.states.items state result }
+    {
+        self.states[state.number() - old.base]
     }
 }
 
@@ -108,21 +159,23 @@ impl Growing {
     fn add_label_move(
         &mut self,
         one: &Auto,
-        two: &Auto,
+        two: &mut Auto,
+        old: OldStates,
         at: State,
         found: LabelMatch,
     ) -> Result<(), NoMemory>
-        requires kept { IsKept one.now two.now self.old }
-        requires at { IsState self.old.made at }
-        requires content { IsPairOf one.now two.now found.content }
-        requires rest { IsPairOf one.now two.now found.rest }
-        ensures kept { OnOk result (IsKept one.now two.now self.new) }
-        ensures keeps { OnOk result (KeepsMovesBut at self.old self.new) }
-        ensures adds { OnOk result (AddsLabelMove at found self.old self.new) }
+        requires kept { IsKept one.now old two.old self.old }
+        requires at { IsAdded old.base two.old at }
+        requires content { IsPairOf one.now old found.content }
+        requires rest { IsPairOf one.now old found.rest }
+        ensures kept { OnOk result (IsKept one.now old two.new self.new) }
+        ensures keeps { OnOk result (GrowsBut old.base at two.old two.new self.old.states.items self.new.states.items) }
+        ensures keeps_old { KeepsOld old.base two.old two.new }
+        ensures adds { OnOk result (AddsLabelMove old at found two.old two.new self.new.states.items) }
     {
-        let content = self.find(one, two, found.content)?;
-        let rest = self.find(one, two, found.rest)?;
-        self.made.add_label_move(at, found.class, content, rest)?;
+        let content = self.find_content(one, two, old, found.content)?;
+        let rest = self.find(one, two, old, found.rest)?;
+        two.add_label_move(at, found.class, content, rest)?;
         Ok(())
     }
 
@@ -130,92 +183,99 @@ impl Growing {
     fn add_text_move(
         &mut self,
         one: &Auto,
-        two: &Auto,
+        two: &mut Auto,
+        old: OldStates,
         at: State,
         found: TextMatch,
     ) -> Result<(), NoMemory>
-        requires kept { IsKept one.now two.now self.old }
-        requires at { IsState self.old.made at }
-        requires rest { IsPairOf one.now two.now found.rest }
-        ensures kept { OnOk result (IsKept one.now two.now self.new) }
-        ensures keeps { OnOk result (KeepsMovesBut at self.old self.new) }
-        ensures adds { OnOk result (AddsTextMove at found self.old self.new) }
+        requires kept { IsKept one.now old two.old self.old }
+        requires at { IsAdded old.base two.old at }
+        requires rest { IsPairOf one.now old found.rest }
+        ensures kept { OnOk result (IsKept one.now old two.new self.new) }
+        ensures keeps { OnOk result (GrowsBut old.base at two.old two.new self.old.states.items self.new.states.items) }
+        ensures keeps_old { KeepsOld old.base two.old two.new }
+        ensures adds { OnOk result (AddsTextMove old at found two.old two.new self.new.states.items) }
     {
-        let rest = self.find(one, two, found.rest)?;
-        self.made.add_text_move(at, found.words, rest)?;
+        let rest = self.find(one, two, old, found.rest)?;
+        two.add_text_move(at, found.words, rest)?;
         Ok(())
     }
 }
 
 impl Growing {
     /// Adds the moves on an element for matches, and gives the numbers that they stand for.
-    pub fn add_label_moves(
+    fn add_label_moves(
         &mut self,
         alloc: Global,
         one: &Auto,
-        two: &Auto,
+        two: &mut Auto,
+        old: OldStates,
         at: State,
         matches: Vec<LabelMatch>,
     ) -> Result<Vec<Both>, NoMemory>
-        requires kept { IsKept one.now two.now self.old }
-        requires at { IsState self.old.made at }
-        requires contents { All (λ m. IsPairOf one.now two.now m.content) matches.items }
-        requires rests { All (λ m. IsPairOf one.now two.now m.rest) matches.items }
-        ensures kept { OnOk result (IsKept one.now two.now self.new) }
-        ensures keeps { OnOk result (KeepsMovesBut at self.old self.new) }
-        ensures adds { IfOk result (λ boths. AddsLabelMoves at matches.items self.old self.new boths.items) }
+        requires kept { IsKept one.now old two.old self.old }
+        requires at { IsAdded old.base two.old at }
+        requires contents { All (λ m. IsPairOf one.now old m.content) matches.items }
+        requires rests { All (λ m. IsPairOf one.now old m.rest) matches.items }
+        ensures kept { OnOk result (IsKept one.now old two.new self.new) }
+        ensures keeps { OnOk result (GrowsBut old.base at two.old two.new self.old.states.items self.new.states.items) }
+        ensures keeps_old { KeepsOld old.base two.old two.new }
+        ensures adds { IfOk result (λ boths. AddsLabelMoves old at matches.items two.old two.new self.new.states.items boths.items) }
     {
         let mut boths = Vec::with_capacity(alloc, matches.len())?;
         for found in matches {
             boths.push(found.both)?;
-            self.add_label_move(one, two, at, found)?;
+            self.add_label_move(one, two, old, at, found)?;
         }
         Ok(boths)
     }
 
     /// Adds the moves on a text for matches, and gives the numbers that they stand for.
-    pub fn add_text_moves(
+    fn add_text_moves(
         &mut self,
         alloc: Global,
         one: &Auto,
-        two: &Auto,
+        two: &mut Auto,
+        old: OldStates,
         at: State,
         matches: Vec<TextMatch>,
     ) -> Result<Vec<Both>, NoMemory>
-        requires kept { IsKept one.now two.now self.old }
-        requires at { IsState self.old.made at }
-        requires rests { All (λ m. IsPairOf one.now two.now m.rest) matches.items }
-        ensures kept { OnOk result (IsKept one.now two.now self.new) }
-        ensures keeps { OnOk result (KeepsMovesBut at self.old self.new) }
-        ensures adds { IfOk result (λ boths. AddsTextMoves at matches.items self.old self.new boths.items) }
+        requires kept { IsKept one.now old two.old self.old }
+        requires at { IsAdded old.base two.old at }
+        requires rests { All (λ m. IsPairOf one.now old m.rest) matches.items }
+        ensures kept { OnOk result (IsKept one.now old two.new self.new) }
+        ensures keeps { OnOk result (GrowsBut old.base at two.old two.new self.old.states.items self.new.states.items) }
+        ensures keeps_old { KeepsOld old.base two.old two.new }
+        ensures adds { IfOk result (λ boths. AddsTextMoves old at matches.items two.old two.new self.new.states.items boths.items) }
     {
         let mut boths = Vec::with_capacity(alloc, matches.len())?;
         for found in matches {
             boths.push(found.both)?;
-            self.add_text_move(one, two, at, found)?;
+            self.add_text_move(one, two, old, at, found)?;
         }
         Ok(boths)
     }
 
-    /// Gives the state of this number its moves on an element.
+    /// Gives an added state its moves on an element.
     pub fn expand_labels(
         &mut self,
         alloc: Global,
         one: &Auto,
-        two: &Auto,
-        number: usize,
+        two: &mut Auto,
+        old: OldStates,
+        at: State,
     ) -> Result<Vec<Both>, NoMemory>
-        requires kept { IsKept one.now two.now self.old }
-        requires number { number < length self.old.states.items }
-        requires closed { IsClosed two.now }
-        ensures kept { OnOk result (IsKept one.now two.now self.new) }
-        ensures keeps { OnOk result (KeepsMovesBut (state_at number) self.old self.new) }
-        ensures expands { IfOk result (λ boths. ExpandsLabels one.now two.now (state_at number) self.old self.new boths.items) }
+        requires kept { IsKept one.now old two.old self.old }
+        requires at { IsAdded old.base two.old at }
+        requires closed { LeadsToOld old.base two.old }
+        ensures kept { OnOk result (IsKept one.now old two.new self.new) }
+        ensures keeps { OnOk result (GrowsBut old.base at two.old two.new self.old.states.items self.new.states.items) }
+        ensures keeps_old { KeepsOld old.base two.old two.new }
+        ensures expands { IfOk result (λ boths. ExpandsLabels one.now old at two.old two.new self.old.states.items self.new.states.items boths.items) }
     {
-        let pair = self.states[number];
-        let at = self.made.state(number);
+        let pair = self.pair(old, at);
         let matches = label_matches(alloc, one.label_moves(pair.left), two, pair.right)?;
-        let numbers = self.add_label_moves(alloc, one, two, at, matches)?;
+        let numbers = self.add_label_moves(alloc, one, two, old, at, matches)?;
         Ok(numbers)
     }
 
@@ -224,20 +284,21 @@ impl Growing {
         &mut self,
         alloc: Global,
         one: &Auto,
-        two: &Auto,
-        number: usize,
+        two: &mut Auto,
+        old: OldStates,
+        at: State,
     ) -> Result<Vec<Both>, NoMemory>
-        requires kept { IsKept one.now two.now self.old }
-        requires number { number < length self.old.states.items }
-        requires closed { IsClosed two.now }
-        ensures kept { OnOk result (IsKept one.now two.now self.new) }
-        ensures keeps { OnOk result (KeepsMovesBut (state_at number) self.old self.new) }
-        ensures expands { IfOk result (λ boths. ExpandsTexts one.now two.now (state_at number) self.old self.new boths.items) }
+        requires kept { IsKept one.now old two.old self.old }
+        requires at { IsAdded old.base two.old at }
+        requires closed { LeadsToOld old.base two.old }
+        ensures kept { OnOk result (IsKept one.now old two.new self.new) }
+        ensures keeps { OnOk result (GrowsBut old.base at two.old two.new self.old.states.items self.new.states.items) }
+        ensures keeps_old { KeepsOld old.base two.old two.new }
+        ensures expands { IfOk result (λ boths. ExpandsTexts one.now old at two.old two.new self.old.states.items self.new.states.items boths.items) }
     {
-        let pair = self.states[number];
-        let at = self.made.state(number);
+        let pair = self.pair(old, at);
         let matches = text_matches(alloc, one.text_moves(pair.left), two, pair.right)?;
-        let numbers = self.add_text_moves(alloc, one, two, at, matches)?;
+        let numbers = self.add_text_moves(alloc, one, two, old, at, matches)?;
         Ok(numbers)
     }
 }

@@ -6,6 +6,8 @@ mod kind;
 pub mod laws;
 mod matching;
 mod pairs;
+mod universal;
 
 pub use kind::MoveKind;
 pub use pairs::{Both, Pair, Pairs, pair_up};
+pub use universal::add_universal;

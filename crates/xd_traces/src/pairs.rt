@@ -1,11 +1,12 @@
 //! Two automata side by side.
 
-ghost use Rattle.std.specs.Prelude.{◌≡◌, ◌<◌, ◌&&◌, length, IfOk, vec_len};
+ghost use Rattle.std.specs.Prelude.{◌≡◌, ◌&&◌, IfOk};
 ghost use Rattle.xd_doc.specs.Document.{Document};
-ghost use Rattle.xd_auto.specs.Automaton.{IsState, accepts};
+ghost use Rattle.xd_auto.specs.Automaton.{Extends, IsState, accepts};
 ghost use Rattle.xd_traces.specs.Paired.{ArePairs};
+ghost use Rattle.xd_traces.specs.Universal.{IsUniversal};
 
-use crate::growing::Growing;
+use crate::growing::{Growing, OldStates};
 use std::alloc::Global;
 use xd_auto::{Auto, State};
 use xd_doc::NoMemory;
@@ -25,21 +26,22 @@ pub struct Pair {
     pub right: State,
 }
 
-/// An automaton that runs two others side by side, and what its states and moves stand for.
+/// What the states that [`pair_up`] adds, and their moves, stand for.
 ///
-/// `states` has the pair of each state by its number. `texts` and `labels` have for each state, and
-/// each of its moves of that kind, the numbers of the two moves that it stands for.
+/// The first of them has the number `base`, the length that the automaton had. By their number from
+/// there on, `states` has the pair of each, and `texts` and `labels`, for each of its moves of that
+/// kind, the numbers of the two moves that it stands for.
 #[derive(Debug, Drop)]
 pub struct Pairs {
-    pub auto: Auto,
+    pub base: usize,
     pub start: State,
     pub states: Vec<Pair>,
     pub texts: Vec<Vec<Both>>,
     pub labels: Vec<Vec<Both>>,
 }
 
-/// Two automata side by side, from the pair of two states on: a state for each pair that is reached,
-/// which accepts what both of its states accept.
+/// Two automata side by side, in the second one itself, from the pair of two states on: adds a state
+/// for each pair that is reached, which accepts what both of its states accept.
 ///
 /// Each move stands for one move of each state, on the labels or texts of both, and no two for the
 /// same; moves stand in the order of the first's, then of the second's. So the accepting runs are
@@ -47,38 +49,47 @@ pub struct Pairs {
 /// the product of Comon et al., *Tree Automata Techniques and Applications*, section 1.3, with its
 /// moves kept apart.
 ///
+/// A content that the first automaton takes whole, by the state `all`, is the second's own state: no
+/// pair is made for it. So what is added is as much as the first automaton looks at.
+///
 /// Moves that name few labels or texts are found by name, so two states with many moves each on names
 /// of their own cost about what they share.
 pub fn pair_up(
     alloc: Global,
     one: &Auto,
     first: State,
-    two: &Auto,
+    all: State,
+    two: &mut Auto,
     second: State,
 ) -> Result<Pairs, NoMemory>
     requires first { IsState one.now first }
-    requires second { IsState two.now second }
-    ensures pairs { IfOk result (λ pairs. ArePairs one.now two.now first second pairs) }
-    ensures accepted { IfOk result (λ pairs. (d : Document) → accepts pairs.auto d pairs.start ≡ (accepts one.now d first && accepts two.now d second)) }
+    requires all { IsUniversal one.now all }
+    requires second { IsState two.old second }
+    ensures extends { Extends two.old two.new }
+    ensures pairs { IfOk result (λ pairs. ArePairs one.now two.old two.new first second all pairs) }
+    ensures accepted { IfOk result (λ pairs. (d : Document) → accepts two.new d pairs.start ≡ (accepts one.now d first && accepts two.old d second)) }
 {
-    let _second_states = two.len();
+    let old = OldStates {
+        base: two.len(),
+        all,
+    };
     let mut growing = Growing::new(alloc, one)?;
     let begin = Pair {
         left: first,
         right: second,
     };
-    let start = growing.find(one, two, begin)?;
+    let start = growing.find(one, two, old, begin)?;
     let mut texts = Vec::new(alloc);
     let mut labels = Vec::new(alloc);
-    let mut number = 0;
-    while number < growing.states.len() {
-        labels.push(growing.expand_labels(alloc, one, two, number)?)?;
-        texts.push(growing.expand_texts(alloc, one, two, number)?)?;
+    let mut number = old.base;
+    while number < two.len() {
+        let at = two.state(number);
+        labels.push(growing.expand_labels(alloc, one, two, old, at)?)?;
+        texts.push(growing.expand_texts(alloc, one, two, old, at)?)?;
         number += 1;
     }
-    let _states = growing.made.len();
     Ok(Pairs {
-        auto: growing.made,
+        base: old.base,
         start,
         states: growing.states,
         texts,
