@@ -6,12 +6,11 @@ use Rattle.std.proofs.lemmas.Bool.{cases_lt}
 use Rattle.std.proofs.lemmas.List.{get_or_append_left}
 use Rattle.std.proofs.lemmas.Slice.Eq.{bytes_eq-Decides}
 use Rattle.std.proofs.Math.Seq.{get_or-append_seam}
-use Rattle.xd_doc.specs.Document.{empty}
 use Rattle.xd_auto.specs.declared.auto.State.{State}
 use Rattle.xd_auto.specs.Automaton.{Automaton, IsState, StateMoves, no_moves, moves_at}
 use Rattle.xd_boole.specs.declared.points.Points.{Points}
-use Rattle.xd_boole.specs.Meaning.{PointView, means, less}
-use Rattle.xd_boole.specs.Points.{ArePoints, Grows, IsStateFor, IsPointOf, found_at, meaning, no_point, point_at, point_key, state_at}
+use Rattle.xd_boole.specs.Meaning.{PointView, less}
+use Rattle.xd_boole.specs.Points.{ArePoints, Grows, IsStateFor, IsPointOf, found_at, no_point, point_at, point_key, point_last, state_at}
 
 -- the places of a list with one more element
 pub place_cases : {X : Type 0} (xs ys : List X) (x : X) (i : ℕ) → ys ≡ xs ++ x ∷ [] → i < length ys → (i < length xs) ⊎ (i ≡ length xs)
@@ -25,7 +24,7 @@ at_front xs ys x d i is lt = ap (λ w. get_or w i d) is ∙ get_or_append_left x
 pub at_end : {X : Type 0} (xs ys : List X) (x d : X) (i : ℕ) → ys ≡ xs ++ x ∷ [] → i ≡ length xs → get_or ys i d ≡ x
 at_end xs ys x d i is e = ap (λ w. get_or w i d) is ∙ ap (λ w. get_or (xs ++ x ∷ []) w d) e ∙ get_or-append_seam xs x [] d
 
-module _ (a : Automaton) (old new : Points) (left : State) (rights : List State) (last : Bool)
+module _ (a b : Automaton) (old new : Points) (left : State) (rights : List State) (last : Bool)
     (made : new.made ≡ old.made ++ no_moves last ∷ []) (points : new.points.items ≡ old.points.items ++ less left rights ∷ [])
     (count : length old.made ≡ length old.points.items) where
   sizes : (length new.points.items ≡ length old.points.items + 1) × (length new.made ≡ length old.made + 1)
@@ -56,22 +55,22 @@ module _ (a : Automaton) (old new : Points) (left : State) (rights : List State)
   pub added_state : (s : State) → s.number ≡ length old.made → IsStateFor new left rights s
   added_state s e = record { within = omega (arith, sizes.0, e, count); is = end_point s.number (e ∙ count) }
 
-  module _ (number : ℕ) (is_number : number ≡ length old.points.items) (is_last : last ≡ means a (less left rights) empty)
-      (left_state : IsState a left) (right_states : AllByRecursion (IsState a) rights)
+  module _ (number : ℕ) (is_number : number ≡ length old.points.items) (is_last : last ≡ point_last a b (less left rights))
+      (left_state : IsState a left) (right_states : AllByRecursion (IsState b) rights)
       (put : (q : List ℕ) → found_at new.found q ≡ cond (pointwise nat_eq (point_key (less left rights)) q) (Some number) (found_at old.found q))
-      (whole : ArePoints a old) where
-    point_states : (i : ℕ) → i < length new.points.items → IsPointOf a (point_at new.points.items i)
+      (whole : ArePoints a b old) where
+    point_states : (i : ℕ) → i < length new.points.items → IsPointOf a b (point_at new.points.items i)
     point_states i lt =
         elim (place_cases old.points.items new.points.items (less left rights) i points lt) [
-          | inl h ↦ subst (IsPointOf a) (sym (front_point i h)) (whole.points i h)
-          | inr e ↦ subst (IsPointOf a) (sym (end_point i e)) (record { left = left_state; rights = right_states })
+          | inl h ↦ subst (IsPointOf a b) (sym (front_point i h)) (whole.points i h)
+          | inr e ↦ subst (IsPointOf a b) (sym (end_point i e)) (record { left = left_state; rights = right_states })
         ]
 
-    point_lasts : (i : ℕ) → i < length new.points.items → (moves_at new.made (state_at i)).last ≡ meaning a new i empty
+    point_lasts : (i : ℕ) → i < length new.points.items → (moves_at new.made (state_at i)).last ≡ point_last a b (point_at new.points.items i)
     point_lasts i lt =
         elim (place_cases old.points.items new.points.items (less left rights) i points lt) [
-          | inl h ↦ ap (λ (m : StateMoves). m.last) (front_moves i h) ∙ whole.last i h ∙ ap (λ p. means a p empty) (sym (front_point i h))
-          | inr e ↦ ap (λ (m : StateMoves). m.last) (end_moves i e) ∙ is_last ∙ ap (λ p. means a p empty) (sym (end_point i e))
+          | inl h ↦ ap (λ (m : StateMoves). m.last) (front_moves i h) ∙ whole.last i h ∙ ap (point_last a b) (sym (front_point i h))
+          | inr e ↦ ap (λ (m : StateMoves). m.last) (end_moves i e) ∙ is_last ∙ ap (point_last a b) (sym (end_point i e))
         ]
 
     only_found : (key : List ℕ) (i : ℕ) → found_at new.found key ≡ Some i → (i < length new.points.items) × (point_key (point_at new.points.items i) ≡ key)
@@ -87,7 +86,7 @@ module _ (a : Automaton) (old new : Points) (left : State) (rights : List State)
             let o = whole.only key i e in
             (omega (arith, sizes.0, o.0), ap point_key (front_point i o.0) ∙ o.1)
 
-    pub added_whole : ArePoints a new
+    pub added_whole : ArePoints a b new
     added_whole = record {
       count = omega (arith, sizes.0, sizes.1, count);
       points = point_states;
@@ -117,7 +116,7 @@ same_point p q e =
 pub grows_same : (p : Points) → Grows p p
 grows_same p = record { longer = omega arith; points = λ i lt. refl; moves = λ i lt. refl; fresh = λ i le lt. absurd (omega arith) }
 
-pub found_state : (a : Automaton) (p : Points) (left : State) (rights : List State) (s : State) → ArePoints a p → found_at p.found (point_key (less left rights)) ≡ Some s.number → IsStateFor p left rights s
-found_state a p left rights s whole at =
+pub found_state : (a b : Automaton) (p : Points) (left : State) (rights : List State) (s : State) → ArePoints a b p → found_at p.found (point_key (less left rights)) ≡ Some s.number → IsStateFor p left rights s
+found_state a b p left rights s whole at =
     let o = whole.only (point_key (less left rights)) s.number at in
     record { within = o.0; is = same_point (point_at p.points.items s.number) (less left rights) o.1 }

@@ -208,3 +208,7 @@ pub part_group : (p h k : Bool) → (h && (p && k)) ≡ (p && (h && k))
 part_group true h k = refl
 part_group false true k = refl
 part_group false false k = refl
+
+pub or_true : (b : Bool) → (b || true) ≡ true
+or_true true = refl
+or_true false = refl

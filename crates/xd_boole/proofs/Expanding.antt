@@ -1,13 +1,13 @@
 -- A state gets the moves that its point asks for.
-use Rattle.std.proofs.Common.{ℕ, ◌+◌, ◌<◌, ◌≤◌, ◌≡◌, Bool, false, ◌||◌, List, [], length, inl, inr, sym, ap, ◌∙◌, subst, arith}
+use Rattle.std.proofs.Common.{ℕ, ◌+◌, ◌<◌, ◌≤◌, ◌≡◌, Bool, true, false, ◌||◌, List, [], length, inl, inr, refl, sym, ap, ◌∙◌, subst, arith}
 use Rattle.std.specs.List.{AllByRecursion, list_any}
 use Rattle.std.proofs.lemmas.Bool.{cases_eq, cases_lt}
 use Rattle.xd_auto.specs.declared.auto.LabelMove.{LabelMove}
 use Rattle.xd_auto.specs.declared.auto.TextMove.{TextMove}
 use Rattle.xd_auto.specs.Automaton.{Automaton, StateMoves, IsClosed, moves_at}
 use Rattle.xd_boole.specs.declared.points.Points.{Points}
-use Rattle.xd_boole.specs.Points.{AddsLabels, AddsTexts, ArePoints, AreExpanded, Gives, Grows, HasMoves, IsBare, KeepsPoints, MoveBelow, TextBelow, label_means, meaning, text_means, state_at}
-use Rattle.xd_boole.specs.Meaning.{ElementFirst, TextFirst, element_of, text_of}
+use Rattle.xd_boole.specs.Points.{AddsLabels, AddsTexts, ArePoints, AreExpanded, Gives, Grows, HasMoves, IsBare, KeepsPoints, MoveBelow, TextBelow, is_old, label_means, meaning, text_means, state_at}
+use Rattle.xd_boole.specs.Meaning.{ElementFirst, TextFirst, element_of, is_whole, text_of}
 use Rattle.xd_boole.proofs.Bools.{or_nothing}
 use Rattle.xd_boole.proofs.Growing.{all_stay, grows_trans, label_below_more, label_stays, meaning_stays, text_below_more, text_stays}
 use Rattle.xd_boole.proofs.Closing.{labels_below, texts_below}
@@ -19,13 +19,13 @@ with_made p made = record { made = made; points = p.points; found = p.found }
 any_of_none : {X : Type 0} (f : X → Bool) (xs : List X) → xs ≡ [] → list_any f xs ≡ false
 any_of_none f xs e = ap (list_any f) e
 
-module _ (a : Automaton) (old mid new : Points) (made : Automaton) (number : ℕ) (labels : List LabelMove) (texts : List TextMove)
+module _ (a b : Automaton) (old mid new : Points) (made : Automaton) (number : ℕ) (labels : List LabelMove) (texts : List TextMove)
     (takes : ElementFirst → Bool) (texts_take : TextFirst → Bool)
-    (expanded : AreExpanded a old number) (within : number < length old.points.items) (closed : IsClosed old.made)
-    (adds : AddsLabels a old mid [] labels takes) (adds_texts : AddsTexts a mid new [] texts texts_take)
+    (expanded : AreExpanded a b old number) (within : number < length old.points.items) (closed : IsClosed old.made)
+    (adds : AddsLabels a b old mid [] labels takes) (adds_texts : AddsTexts a b mid new [] texts texts_take)
     (gives : Gives (state_at number) [] [] labels texts new.made made)
-    (takes_is : (q : ElementFirst) → takes q ≡ meaning a old number (element_of q))
-    (texts_is : (q : TextFirst) → texts_take q ≡ meaning a old number (text_of q)) where
+    (takes_is : (q : ElementFirst) → takes q ≡ meaning a b old number (element_of q))
+    (texts_is : (q : TextFirst) → texts_take q ≡ meaning a b old number (text_of q)) where
   grows : Grows old new
   grows = grows_trans old mid new adds.grows adds_texts.grows
 
@@ -35,7 +35,7 @@ module _ (a : Automaton) (old mid new : Points) (made : Automaton) (number : ℕ
     | inr ne ↦ ap (λ (m : StateMoves). m.last) (gives.others i ne)
   ]
 
-  pub whole : ArePoints a (with_made new made)
+  pub whole : ArePoints a b (with_made new made)
   whole = record {
     count = gives.count ∙ adds_texts.whole.count;
     points = adds_texts.whole.points;
@@ -43,45 +43,45 @@ module _ (a : Automaton) (old mid new : Points) (made : Automaton) (number : ℕ
     only = adds_texts.whole.only;
   }
 
-  labels_stay : (p q : Points) → Grows p q → (ms : List LabelMove) → AllByRecursion (MoveBelow (length p.points.items)) ms → (w : ElementFirst) → list_any (label_means a q w) ms ≡ list_any (label_means a p w) ms
-  labels_stay = all_stay MoveBelow (label_means a) a (label_stays a) label_below_more
+  labels_stay : (p q : Points) → Grows p q → (ms : List LabelMove) → AllByRecursion (MoveBelow (length p.points.items)) ms → (w : ElementFirst) → list_any (label_means a b q w) ms ≡ list_any (label_means a b p w) ms
+  labels_stay = all_stay MoveBelow (label_means a b) a b (label_stays a b) label_below_more
 
-  texts_stay : (p q : Points) → Grows p q → (ms : List TextMove) → AllByRecursion (TextBelow (length p.points.items)) ms → (w : TextFirst) → list_any (text_means a q w) ms ≡ list_any (text_means a p w) ms
-  texts_stay = all_stay TextBelow (text_means a) a (text_stays a) text_below_more
+  texts_stay : (p q : Points) → Grows p q → (ms : List TextMove) → AllByRecursion (TextBelow (length p.points.items)) ms → (w : TextFirst) → list_any (text_means a b q w) ms ≡ list_any (text_means a b p w) ms
+  texts_stay = all_stay TextBelow (text_means a b) a b (text_stays a b) text_below_more
 
   bare : IsBare (moves_at new.made (state_at number))
   bare = subst IsBare (sym (grows.moves number within)) (expanded.bare number (omega arith) within)
 
-  here : HasMoves a (with_made new made) number
+  here : HasMoves a b (with_made new made) number
   here = record {
     labels = λ q.
-        sym (or_nothing (list_any (label_means a new q) (moves_at made (state_at number)).labels)) ∙ gives.labels_too (label_means a new q)
-        ∙ ap (λ w. w || list_any (label_means a new q) labels) (any_of_none (label_means a new q) (moves_at new.made (state_at number)).labels bare.labels)
+        sym (or_nothing (list_any (label_means a b new q) (moves_at made (state_at number)).labels)) ∙ gives.labels_too (label_means a b new q)
+        ∙ ap (λ w. w || list_any (label_means a b new q) labels) (any_of_none (label_means a b new q) (moves_at new.made (state_at number)).labels bare.labels)
         ∙ labels_stay mid new adds_texts.grows labels adds.below q ∙ adds.taken q ∙ takes_is q
-        ∙ sym (meaning_stays a old new grows number within (element_of q));
+        ∙ sym (meaning_stays a b old new grows number within (element_of q));
     texts = λ q.
-        sym (or_nothing (list_any (text_means a new q) (moves_at made (state_at number)).texts)) ∙ gives.texts_too (text_means a new q)
-        ∙ ap (λ w. w || list_any (text_means a new q) texts) (any_of_none (text_means a new q) (moves_at new.made (state_at number)).texts bare.texts)
+        sym (or_nothing (list_any (text_means a b new q) (moves_at made (state_at number)).texts)) ∙ gives.texts_too (text_means a b new q)
+        ∙ ap (λ w. w || list_any (text_means a b new q) texts) (any_of_none (text_means a b new q) (moves_at new.made (state_at number)).texts bare.texts)
         ∙ adds_texts.taken q ∙ texts_is q
-        ∙ sym (meaning_stays a old new grows number within (text_of q));
+        ∙ sym (meaning_stays a b old new grows number within (text_of q));
   }
 
-  before : (i : ℕ) → i < number → i < length old.points.items → (i ≡ number → ⊥) → HasMoves a (with_made new made) i
-  before i less lt other = record {
+  before : (i : ℕ) → i < number → i < length old.points.items → (i ≡ number → ⊥) → is_old old i ≡ false → HasMoves a b (with_made new made) i
+  before i less lt other taken = record {
     labels = λ q.
-        ap (λ (m : StateMoves). list_any (label_means a new q) m.labels) (gives.others i other ∙ grows.moves i lt)
+        ap (λ (m : StateMoves). list_any (label_means a b new q) m.labels) (gives.others i other ∙ grows.moves i lt)
         ∙ labels_stay old new grows (moves_at old.made (state_at i)).labels (labels_below old.made (length old.points.items) i closed expanded.whole.count lt) q
-        ∙ (expanded.has i less lt).labels q ∙ sym (meaning_stays a old new grows i lt (element_of q));
+        ∙ (expanded.has i less lt taken).labels q ∙ sym (meaning_stays a b old new grows i lt (element_of q));
     texts = λ q.
-        ap (λ (m : StateMoves). list_any (text_means a new q) m.texts) (gives.others i other ∙ grows.moves i lt)
+        ap (λ (m : StateMoves). list_any (text_means a b new q) m.texts) (gives.others i other ∙ grows.moves i lt)
         ∙ texts_stay old new grows (moves_at old.made (state_at i)).texts (texts_below old.made (length old.points.items) i closed expanded.whole.count lt) q
-        ∙ (expanded.has i less lt).texts q ∙ sym (meaning_stays a old new grows i lt (text_of q));
+        ∙ (expanded.has i less lt taken).texts q ∙ sym (meaning_stays a b old new grows i lt (text_of q));
   }
 
-  all_have : (i : ℕ) → i < number + 1 → i < length new.points.items → HasMoves a (with_made new made) i
-  all_have i lt there = elim (cases_eq i number) [
-    | inl e ↦ subst (HasMoves a (with_made new made)) (sym e) here
-    | inr ne ↦ let below : i < number = omega arith in before i below (omega arith) ne
+  all_have : (i : ℕ) → i < number + 1 → i < length new.points.items → is_old new i ≡ false → HasMoves a b (with_made new made) i
+  all_have i lt there taken = elim (cases_eq i number) [
+    | inl e ↦ subst (HasMoves a b (with_made new made)) (sym e) here
+    | inr ne ↦ let below : i < number = omega arith in before i below (omega arith) ne (ap is_whole (sym (grows.points i (omega arith))) ∙ taken)
   ]
 
   bare_else : (i : ℕ) → number + 1 ≤ i → i < length new.points.items → IsBare (moves_at made (state_at i))
@@ -92,18 +92,32 @@ module _ (a : Automaton) (old mid new : Points) (made : Automaton) (number : ℕ
         | inr h ↦ grows.fresh i h lt
       ])
 
-  pub expanded_more : AreExpanded a (with_made new made) (number + 1)
+  pub expanded_more : AreExpanded a b (with_made new made) (number + 1)
   expanded_more = record { whole = whole; has = all_have; bare = bare_else }
 
   pub keeps_points : KeepsPoints old (with_made new made)
   keeps_points = record { longer = grows.longer; points = grows.points }
 
 -- a start has no moves yet
-pub none_expanded : (a : Automaton) (none start : Points) → none.points.items ≡ [] → ArePoints a start → Grows none start → AreExpanded a start 0
-none_expanded a none start no_points are_points begins =
+pub none_expanded : (a b : Automaton) (none start : Points) → none.points.items ≡ [] → ArePoints a b start → Grows none start → AreExpanded a b start 0
+none_expanded a b none start no_points are_points begins =
     let count : length none.points.items ≡ 0 = ap length no_points in
     record {
       whole = are_points;
-      has = λ i lt there. absurd (omega arith);
+      has = λ i lt there taken. absurd (omega arith);
       bare = λ i le lt. begins.fresh i (omega (arith, count)) lt;
     }
+
+-- the state of a point from which nothing is taken away needs no moves
+pub one_skipped : (a b : Automaton) (p : Points) (number : ℕ) → AreExpanded a b p number → is_old p number ≡ true → AreExpanded a b p (number + 1)
+one_skipped a b p number expanded old = record {
+  whole = expanded.whole;
+  has = λ i lt there taken. elim (cases_eq i number) [
+    | inl e ↦ absurd (let both : true ≡ false = sym old ∙ ap (is_old p) (sym e) ∙ taken in cc)
+    | inr ne ↦ expanded.has i (omega arith) there taken
+  ];
+  bare = λ i le there. expanded.bare i (omega arith) there;
+}
+
+pub points_same : (p : Points) → KeepsPoints p p
+points_same p = record { longer = omega arith; points = λ i lt. refl }

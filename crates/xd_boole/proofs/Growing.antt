@@ -36,30 +36,30 @@ label_below_more n k le m below = (omega (arith, below.0), omega (arith, below.1
 pub text_below_more : (n k : ℕ) → n ≤ k → (m : TextMove) → TextBelow n m → TextBelow k m
 text_below_more n k le m below = omega (arith, below)
 
-module _ (a : Automaton) where
-  pub meaning_stays : (old new : Points) → Grows old new → (i : ℕ) → i < length old.points.items → (d : Document) → meaning a new i d ≡ meaning a old i d
-  meaning_stays old new grows i lt d = ap (λ p. means a p d) (grows.points i lt)
+module _ (a b : Automaton) where
+  pub meaning_stays : (old new : Points) → Grows old new → (i : ℕ) → i < length old.points.items → (d : Document) → meaning a b new i d ≡ meaning a b old i d
+  meaning_stays old new grows i lt d = ap (λ p. means a b p d) (grows.points i lt)
 
-  pub label_stays : (old new : Points) → Grows old new → (q : ElementFirst) (m : LabelMove) → MoveBelow (length old.points.items) m → label_means a new q m ≡ label_means a old q m
+  pub label_stays : (old new : Points) → Grows old new → (q : ElementFirst) (m : LabelMove) → MoveBelow (length old.points.items) m → label_means a b new q m ≡ label_means a b old q m
   label_stays old new grows q m below =
-      ap (λ w. class_has m.class q.label && (w && meaning a new m.rest.number q.rest)) (meaning_stays old new grows m.content.number below.0 q.content)
-      ∙ ap (λ w. class_has m.class q.label && (meaning a old m.content.number q.content && w)) (meaning_stays old new grows m.rest.number below.1 q.rest)
+      ap (λ w. class_has m.class q.label && (w && meaning a b new m.rest.number q.rest)) (meaning_stays old new grows m.content.number below.0 q.content)
+      ∙ ap (λ w. class_has m.class q.label && (meaning a b old m.content.number q.content && w)) (meaning_stays old new grows m.rest.number below.1 q.rest)
 
-  pub text_stays : (old new : Points) → Grows old new → (q : TextFirst) (m : TextMove) → TextBelow (length old.points.items) m → text_means a new q m ≡ text_means a old q m
+  pub text_stays : (old new : Points) → Grows old new → (q : TextFirst) (m : TextMove) → TextBelow (length old.points.items) m → text_means a b new q m ≡ text_means a b old q m
   text_stays old new grows q m below = ap (λ w. class_has m.words q.characters && w) (meaning_stays old new grows m.rest.number below q.rest)
 
   -- the state of a point means what the point says, then and later
-  pub state_means : (p q : Points) (left : State) (rights : List State) (s : State) → IsStateFor p left rights s → Grows p q → (d : Document) → meaning a q s.number d ≡ means a (less left rights) d
-  state_means p q left rights s is grows d = meaning_stays p q grows s.number is.within d ∙ ap (λ w. means a w d) is.is
+  pub state_means : (p q : Points) (left : State) (rights : List State) (s : State) → IsStateFor p left rights s → Grows p q → (d : Document) → meaning a b q s.number d ≡ means a b (less left rights) d
+  state_means p q left rights s is grows d = meaning_stays p q grows s.number is.within d ∙ ap (λ w. means a b w d) is.is
 
 -- moves on elements and moves on texts alike
-module _ {M Q : Type 0} (Below : ℕ → M → Type 0) (by_move : Points → Q → M → Bool) (a : Automaton)
+module _ {M Q : Type 0} (Below : ℕ → M → Type 0) (by_move : Points → Q → M → Bool) (a b : Automaton)
     (stays : (old new : Points) → Grows old new → (q : Q) (m : M) → Below (length old.points.items) m → by_move new q m ≡ by_move old q m)
     (more : (n k : ℕ) → n ≤ k → (m : M) → Below n m → Below k m) where
   pub all_stay : (old new : Points) → Grows old new → (ms : List M) → AllByRecursion (Below (length old.points.items)) ms → (q : Q) → list_any (by_move new q) ms ≡ list_any (by_move old q) ms
   all_stay old new grows ms below q = any_agree (Below (length old.points.items)) (by_move new q) (by_move old q) ms below (stays old new grows q)
 
-  pub adds_none : (p : Points) (ms : List M) (f : Q → Bool) → ArePoints a p → AllByRecursion (Below (length p.points.items)) ms → Grows p p → ((q : Q) → f q ≡ false) → AddsMoves Below by_move a p p ms ms f
+  pub adds_none : (p : Points) (ms : List M) (f : Q → Bool) → ArePoints a b p → AllByRecursion (Below (length p.points.items)) ms → Grows p p → ((q : Q) → f q ≡ false) → AddsMoves Below by_move a b p p ms ms f
   adds_none p ms f whole below same none = record {
     whole = whole;
     grows = same;
@@ -67,7 +67,7 @@ module _ {M Q : Type 0} (Below : ℕ → M → Type 0) (by_move : Points → Q �
     taken = λ q. sym (or_nothing (list_any (by_move p q) ms)) ∙ ap (λ w. list_any (by_move p q) ms || w) (sym (none q));
   }
 
-  pub adds_like : (old new : Points) (before after : List M) (f g : Q → Bool) → AddsMoves Below by_move a old new before after f → ((q : Q) → f q ≡ g q) → AddsMoves Below by_move a old new before after g
+  pub adds_like : (old new : Points) (before after : List M) (f g : Q → Bool) → AddsMoves Below by_move a b old new before after f → ((q : Q) → f q ≡ g q) → AddsMoves Below by_move a b old new before after g
   adds_like old new before after f g h same = record {
     whole = h.whole;
     grows = h.grows;
@@ -75,7 +75,7 @@ module _ {M Q : Type 0} (Below : ℕ → M → Type 0) (by_move : Points → Q �
     taken = λ q. h.taken q ∙ ap (λ w. list_any (by_move old q) before || w) (same q);
   }
 
-  pub adds_then : (p q r : Points) (x y z : List M) (f g h : Q → Bool) → AddsMoves Below by_move a p q x y f → AddsMoves Below by_move a q r y z g → ((w : Q) → (f w || g w) ≡ h w) → AddsMoves Below by_move a p r x z h
+  pub adds_then : (p q r : Points) (x y z : List M) (f g h : Q → Bool) → AddsMoves Below by_move a b p q x y f → AddsMoves Below by_move a b q r y z g → ((w : Q) → (f w || g w) ≡ h w) → AddsMoves Below by_move a b p r x z h
   adds_then p q r x y z f g h one two same = record {
     whole = two.whole;
     grows = grows_trans p q r one.grows two.grows;
@@ -84,8 +84,8 @@ module _ {M Q : Type 0} (Below : ℕ → M → Type 0) (by_move : Points → Q �
   }
 
   -- one more move
-  pub adds_push : (p r : Points) (ms after : List M) (m : M) (takes : Q → Bool) → after ≡ ms ++ m ∷ [] → AllByRecursion (Below (length p.points.items)) ms → Grows p r → ArePoints a r → Below (length r.points.items) m
-      → ((q : Q) → by_move r q m ≡ takes q) → AddsMoves Below by_move a p r ms after takes
+  pub adds_push : (p r : Points) (ms after : List M) (m : M) (takes : Q → Bool) → after ≡ ms ++ m ∷ [] → AllByRecursion (Below (length p.points.items)) ms → Grows p r → ArePoints a b r → Below (length r.points.items) m
+      → ((q : Q) → by_move r q m ≡ takes q) → AddsMoves Below by_move a b p r ms after takes
   adds_push p r ms after m takes is below grows whole there means_so = record {
     whole = whole;
     grows = grows;

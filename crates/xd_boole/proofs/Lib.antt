@@ -11,5 +11,6 @@ pub mod Growing
 pub mod Expanding
 pub mod Simulating
 pub mod Differing
+pub mod PlaceLemmas
 pub mod MergeLemmas
 pub mod Redirecting

@@ -11,16 +11,12 @@ use Rattle.xd_doc.specs.Classes.{NameClass, class_has, is_named}
 use Rattle.xd_auto.specs.Automaton.{IsNext}
 use Rattle.xd_boole.specs.Groups.{passes_at}
 use Rattle.xd_boole.specs.Matching.{AddsMatches, IsMatching}
-use Rattle.xd_boole.proofs.Bools.{and_left}
+use Rattle.xd_boole.proofs.Bools.{and_left, or_true}
 
 passes_any : {M : Type 0} (t : M → Bool) (ms : List M) (k : ℕ) → passes_at t ms k ≡ true → list_any t ms ≡ true
 passes_any t [] k e = absurd (cc)
 passes_any t (m ∷ ms) zero e = ap (λ w. w || list_any t ms) e
 passes_any t (m ∷ ms) (suc k) e = ap (λ w. t m || w) (passes_any t ms k e) ∙ or_true (t m)
-  where
-    or_true : (b : Bool) → (b || true) ≡ true
-    or_true true = refl
-    or_true false = refl
 
 -- the place of an element that passes
 record Place {M : Type 0} (t : M → Bool) (ms : List M) : Type 0 where

@@ -1,5 +1,5 @@
 -- On states that accept the same, made one.
-use Rattle.std.proofs.Common.{◌≡◌, ℕ, zero, suc, ◌+◌, ◌<◌, ◌≤◌, ◌⊎◌, inl, inr, Bool, ◌&&◌, ◌||◌, cond, nat_eq, List, [], ◌∷◌, ◌++◌, length, get_or, set, take, true, false, Option, Some, refl, ap, sym, ◌∙◌, subst, arith, length-set, get_or-set_other, get_or-set_same, take_all}
+use Rattle.std.proofs.Common.{◌≡◌, ℕ, zero, suc, ◌+◌, ◌<◌, ◌≤◌, inl, inr, Bool, ◌&&◌, ◌||◌, cond, nat_eq, List, [], ◌∷◌, ◌++◌, length, get_or, set, take, true, false, Some, refl, ap, sym, ◌∙◌, subst, arith, length-set, get_or-set_other, get_or-set_same, take_all}
 use Rattle.std.specs.List.{AllByRecursion, AllZip, list_any}
 use Rattle.std.specs.HashMap.{HashMap}
 use Rattle.std.proofs.lemmas.Bool.{cases_eq}
@@ -9,8 +9,6 @@ use Rattle.std.specs.Cmp.Lexicographic.{pointwise, same_text}
 use Rattle.xd_doc.specs.Document.{Document, empty, text, element}
 use Rattle.xd_doc.specs.Classes.{NameClass, class_has}
 use Rattle.xd_auto.specs.declared.auto.State.{State}
-use Rattle.xd_auto.specs.declared.auto.LabelMove.{LabelMove}
-use Rattle.xd_auto.specs.declared.auto.TextMove.{TextMove}
 use Rattle.xd_auto.specs.Automaton.{Automaton, IsState, accepts, moves_at, state_number}
 use Rattle.xd_boole.specs.declared.merging.Compared.{Compared}
 use Rattle.xd_boole.specs.Merging.{AreLike, AreStandIns, IsLike, IsLikeLabel, IsLikeText, KeepStates, found_at, stand_in}

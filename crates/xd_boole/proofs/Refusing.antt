@@ -12,7 +12,7 @@ use Rattle.xd_auto.specs.declared.auto.LabelMove.{LabelMove}
 use Rattle.xd_boole.specs.Groups.{label_side}
 use Rattle.xd_boole.proofs.Bools.{and_left, and_right, and_both, or_left, or_right, or_join, or_nothing}
 
-same_number : (m n : ℕ) → nat_eq m n ≡ true → m ≡ n
+pub same_number : (m n : ℕ) → nat_eq m n ≡ true → m ≡ n
 same_number m n e = grind (arith, nat_tests)
 
 -- a state of a set that refuses the document refuses it

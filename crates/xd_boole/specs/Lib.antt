@@ -3,4 +3,5 @@ pub mod Groups
 pub mod Matching
 pub mod Choices
 pub mod Points
+pub mod Placing
 pub mod Merging

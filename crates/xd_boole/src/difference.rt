@@ -1,44 +1,46 @@
 //! Differences.
 
-ghost use Rattle.std.specs.Prelude.{◌≡◌, ◌+◌, ◌<◌, ◌&&◌, not, true, [], length, IfOk, OnOk};
+ghost use Rattle.std.specs.Prelude.{◌≡◌, ◌+◌, ◌<◌, ◌&&◌, ◌∷◌, not, true, [], length, IfOk, OnOk};
 ghost use Rattle.std.specs.List.{AllByRecursion};
 ghost use Rattle.xd_doc.specs.Document.{Document};
 ghost use Rattle.xd_doc.specs.Classes.{class_has};
-ghost use Rattle.xd_auto.specs.Automaton.{IsState, accepts};
+ghost use Rattle.xd_auto.specs.Automaton.{Extends, IsState, accepts};
 ghost use Rattle.xd_empty.specs.Parts.{IsInhabitedPart};
 ghost use Rattle.xd_boole.specs.Meaning.{any_accepts, element_of, is_state, less, means, move_takes, text_of, text_takes};
 ghost use Rattle.xd_boole.specs.Groups.{AllPass, group_refuses, is_side, side_accepts};
 ghost use Rattle.xd_boole.specs.Choices.{IsChoiceOf, choice_refuses};
-ghost use Rattle.xd_boole.specs.Points.{AddsLabels, AddsTexts, AreExpanded, ArePoints, KeepsPoints, MoveBelow, TextBelow};
+ghost use Rattle.xd_boole.specs.Points.{AddsLabels, AddsTexts, AreExpanded, ArePoints, IsStateFor, KeepsPoints, MoveBelow, TextBelow};
 
 use crate::choices::{Choice, choices_of};
 use crate::groups::{Group, Side, Step, label_groups, text_groups};
 use crate::merging::merged;
+use crate::placing::place_points;
 use crate::points::{NewMoves, Points, copy_point, find_or_add, set_moves};
 use crate::states::set_of;
 use std::alloc::Global;
-use xd_auto::{Auto, LabelMove, State, TextMove};
+use xd_auto::{Auto, LabelMove, State, TextMove, trim};
 use xd_doc::{Class, NoMemory, Words};
-use xd_empty::inhabited_part;
+use xd_empty::{inhabited, inhabited_part};
 
 /// The move on these labels by which the part goes on as the choice says.
 fn add_move(
     alloc: Global,
     auto: &Auto,
+    other: &Auto,
     points: &mut Points,
     labels: &mut Vec<LabelMove>,
     part: Side,
     class: &Class,
     choice: &Choice,
 ) -> Result<(), NoMemory>
-    requires whole { ArePoints auto.now points.old }
+    requires whole { ArePoints auto.now other.now points.old }
     requires below { AllByRecursion (MoveBelow (length points.old.points.items)) labels.old.items }
     requires part { is_side auto.now part ≡ true }
-    requires choice { IsChoiceOf auto.now choice.now }
-    ensures { OnOk result (AddsLabels auto.now points.old points.new labels.old.items labels.new.items (λ q. class_has class.now q.label && (side_accepts auto.now q.content q.rest part && choice_refuses auto.now q.content q.rest choice.now))) }
+    requires choice { IsChoiceOf other.now choice.now }
+    ensures { OnOk result (AddsLabels auto.now other.now points.old points.new labels.old.items labels.new.items (λ q. class_has class.now q.label && (side_accepts auto.now q.content q.rest part && choice_refuses other.now q.content q.rest choice.now))) }
 {
-    let content = find_or_add(alloc, auto, points, part.content, &choice.contents)?;
-    let rest = find_or_add(alloc, auto, points, part.rest, &choice.rests)?;
+    let content = find_or_add(alloc, auto, other, points, part.content, &choice.contents)?;
+    let rest = find_or_add(alloc, auto, other, points, part.rest, &choice.rests)?;
     labels.push(LabelMove {
         class: class.share()?,
         content,
@@ -51,20 +53,30 @@ fn add_move(
 fn add_group(
     alloc: Global,
     auto: &Auto,
+    other: &Auto,
     points: &mut Points,
     labels: &mut Vec<LabelMove>,
     part: Side,
     group: &Group<Class, Side>,
 ) -> Result<(), NoMemory>
-    requires whole { ArePoints auto.now points.old }
+    requires whole { ArePoints auto.now other.now points.old }
     requires below { AllByRecursion (MoveBelow (length points.old.points.items)) labels.old.items }
     requires part { is_side auto.now part ≡ true }
-    requires group { AllPass (is_side auto.now) group.now.sides.items }
-    ensures { OnOk result (AddsLabels auto.now points.old points.new labels.old.items labels.new.items (λ q. side_accepts auto.now q.content q.rest part && group_refuses class_has (side_accepts auto.now q.content q.rest) q.label group.now)) }
+    requires group { AllPass (is_side other.now) group.now.sides.items }
+    ensures { OnOk result (AddsLabels auto.now other.now points.old points.new labels.old.items labels.new.items (λ q. side_accepts auto.now q.content q.rest part && group_refuses class_has (side_accepts other.now q.content q.rest) q.label group.now)) }
 {
     let choices = choices_of(alloc, &group.sides)?;
     for choice in &choices {
-        add_move(alloc, auto, points, labels, part, &group.class, choice)?;
+        add_move(
+            alloc,
+            auto,
+            other,
+            points,
+            labels,
+            part,
+            &group.class,
+            choice,
+        )?;
     }
     Ok(())
 }
@@ -73,20 +85,21 @@ fn add_group(
 fn add_labels(
     alloc: Global,
     auto: &Auto,
+    other: &Auto,
     points: &mut Points,
     labels: &mut Vec<LabelMove>,
     step: &LabelMove,
     rights: &[State],
 ) -> Result<(), NoMemory>
-    requires whole { ArePoints auto.now points.old }
+    requires whole { ArePoints auto.now other.now points.old }
     requires below { AllByRecursion (MoveBelow (length points.old.points.items)) labels.old.items }
     requires step { MoveBelow (length auto.now) step.now }
-    requires rights { AllByRecursion (IsState auto.now) rights.now }
-    ensures { OnOk result (AddsLabels auto.now points.old points.new labels.old.items labels.new.items (λ q. move_takes auto.now q step.now && not (any_accepts auto.now rights.now (element_of q)))) }
+    requires rights { AllByRecursion (IsState other.now) rights.now }
+    ensures { OnOk result (AddsLabels auto.now other.now points.old points.new labels.old.items labels.new.items (λ q. move_takes auto.now q step.now && not (any_accepts other.now rights.now (element_of q)))) }
 {
-    let groups = label_groups(alloc, auto, &step.class, rights)?;
+    let groups = label_groups(alloc, other, &step.class, rights)?;
     for group in &groups {
-        add_group(alloc, auto, points, labels, step.side(), group)?;
+        add_group(alloc, auto, other, points, labels, step.side(), group)?;
     }
     Ok(())
 }
@@ -95,18 +108,19 @@ fn add_labels(
 fn label_moves(
     alloc: Global,
     auto: &Auto,
+    other: &Auto,
     points: &mut Points,
     left: State,
     rights: &[State],
 ) -> Result<Vec<LabelMove>, NoMemory>
-    requires whole { ArePoints auto.now points.old }
+    requires whole { ArePoints auto.now other.now points.old }
     requires left { IsState auto.now left }
-    requires rights { AllByRecursion (IsState auto.now) rights.now }
-    ensures { IfOk result (λ labels. AddsLabels auto.now points.old points.new [] labels.items (λ q. means auto.now (less left rights.now) (element_of q))) }
+    requires rights { AllByRecursion (IsState other.now) rights.now }
+    ensures { IfOk result (λ labels. AddsLabels auto.now other.now points.old points.new [] labels.items (λ q. means auto.now other.now (less left rights.now) (element_of q))) }
 {
     let mut labels = Vec::new(alloc);
     for step in auto.label_moves(left) {
-        add_labels(alloc, auto, points, &mut labels, step, rights)?;
+        add_labels(alloc, auto, other, points, &mut labels, step, rights)?;
     }
     Ok(labels)
 }
@@ -115,19 +129,20 @@ fn label_moves(
 fn add_text_group(
     alloc: Global,
     auto: &Auto,
+    other: &Auto,
     points: &mut Points,
     texts: &mut Vec<TextMove>,
     rest: State,
     group: &Group<Words, State>,
 ) -> Result<(), NoMemory>
-    requires whole { ArePoints auto.now points.old }
+    requires whole { ArePoints auto.now other.now points.old }
     requires below { AllByRecursion (TextBelow (length points.old.points.items)) texts.old.items }
     requires rest { IsState auto.now rest }
-    requires group { AllPass (is_state auto.now) group.now.sides.items }
-    ensures { OnOk result (AddsTexts auto.now points.old points.new texts.old.items texts.new.items (λ q. accepts auto.now q.rest rest && group_refuses class_has (λ s. accepts auto.now q.rest s) q.characters group.now)) }
+    requires group { AllPass (is_state other.now) group.now.sides.items }
+    ensures { OnOk result (AddsTexts auto.now other.now points.old points.new texts.old.items texts.new.items (λ q. accepts auto.now q.rest rest && group_refuses class_has (λ s. accepts other.now q.rest s) q.characters group.now)) }
 {
     let rights = set_of(alloc, &group.sides)?;
-    let rest = find_or_add(alloc, auto, points, rest, &rights)?;
+    let rest = find_or_add(alloc, auto, other, points, rest, &rights)?;
     texts.push(TextMove {
         words: group.class.share()?,
         rest,
@@ -139,20 +154,21 @@ fn add_text_group(
 fn add_texts(
     alloc: Global,
     auto: &Auto,
+    other: &Auto,
     points: &mut Points,
     texts: &mut Vec<TextMove>,
     step: &TextMove,
     rights: &[State],
 ) -> Result<(), NoMemory>
-    requires whole { ArePoints auto.now points.old }
+    requires whole { ArePoints auto.now other.now points.old }
     requires below { AllByRecursion (TextBelow (length points.old.points.items)) texts.old.items }
     requires step { TextBelow (length auto.now) step.now }
-    requires rights { AllByRecursion (IsState auto.now) rights.now }
-    ensures { OnOk result (AddsTexts auto.now points.old points.new texts.old.items texts.new.items (λ q. text_takes auto.now q step.now && not (any_accepts auto.now rights.now (text_of q)))) }
+    requires rights { AllByRecursion (IsState other.now) rights.now }
+    ensures { OnOk result (AddsTexts auto.now other.now points.old points.new texts.old.items texts.new.items (λ q. text_takes auto.now q step.now && not (any_accepts other.now rights.now (text_of q)))) }
 {
-    let groups = text_groups(alloc, auto, &step.words, rights)?;
+    let groups = text_groups(alloc, other, &step.words, rights)?;
     for group in &groups {
-        add_text_group(alloc, auto, points, texts, step.rest, group)?;
+        add_text_group(alloc, auto, other, points, texts, step.rest, group)?;
     }
     Ok(())
 }
@@ -161,73 +177,111 @@ fn add_texts(
 fn text_moves(
     alloc: Global,
     auto: &Auto,
+    other: &Auto,
     points: &mut Points,
     left: State,
     rights: &[State],
 ) -> Result<Vec<TextMove>, NoMemory>
-    requires whole { ArePoints auto.now points.old }
+    requires whole { ArePoints auto.now other.now points.old }
     requires left { IsState auto.now left }
-    requires rights { AllByRecursion (IsState auto.now) rights.now }
-    ensures { IfOk result (λ texts. AddsTexts auto.now points.old points.new [] texts.items (λ q. means auto.now (less left rights.now) (text_of q))) }
+    requires rights { AllByRecursion (IsState other.now) rights.now }
+    ensures { IfOk result (λ texts. AddsTexts auto.now other.now points.old points.new [] texts.items (λ q. means auto.now other.now (less left rights.now) (text_of q))) }
 {
     let mut texts = Vec::new(alloc);
     for step in auto.text_moves(left) {
-        add_texts(alloc, auto, points, &mut texts, step, rights)?;
+        add_texts(alloc, auto, other, points, &mut texts, step, rights)?;
     }
     Ok(texts)
 }
 
-/// Gives the state of a point its moves.
-fn expand(alloc: Global, auto: &Auto, points: &mut Points, number: usize) -> Result<(), NoMemory>
-    requires expanded { AreExpanded auto.now points.old number }
+/// Gives the state of a point its moves. Where nothing is taken away from the left it needs none.
+fn expand(
+    alloc: Global,
+    auto: &Auto,
+    other: &Auto,
+    points: &mut Points,
+    number: usize,
+) -> Result<(), NoMemory>
+    requires expanded { AreExpanded auto.now other.now points.old number }
     requires number { number < length points.old.points.items }
-    ensures expanded { OnOk result (AreExpanded auto.now points.new (number + 1)) }
+    ensures expanded { OnOk result (AreExpanded auto.now other.now points.new (number + 1)) }
     ensures grows { OnOk result (KeepsPoints points.old points.new) }
 {
     let _states = points.made.len();
     let (left, rights) = copy_point(alloc, points, number)?;
-    let labels = label_moves(alloc, auto, points, left, &rights)?;
-    let texts = text_moves(alloc, auto, points, left, &rights)?;
+    if rights.is_empty() {
+        return Ok(());
+    }
+    let labels = label_moves(alloc, auto, other, points, left, &rights)?;
+    let texts = text_moves(alloc, auto, other, points, left, &rights)?;
     let state = points.made.state(number);
     set_moves(&mut points.made, state, NewMoves { labels, texts })?;
     Ok(())
 }
 
-/// An automaton with a state for what the left accepts and the right doesn't.
+/// The points that the left without the right leads to, whose states have their moves, and the state of the first.
 ///
 /// A worklist: points that were found wait in the order of their numbers.
 fn difference(
     alloc: Global,
     auto: &Auto,
+    other: &Auto,
     left: State,
     right: State,
-) -> Result<(Auto, State), NoMemory>
+) -> Result<(Points, State), NoMemory>
     requires left { IsState auto.now left }
-    requires right { IsState auto.now right }
-    ensures exact { IfOk result (λ made. (d : Document) → accepts made.0 d made.1 ≡ (accepts auto.now d left && not (accepts auto.now d right))) }
-    ensures start { IfOk result (λ made. IsState made.0 made.1) }
+    requires right { IsState other.now right }
+    ensures expanded { IfOk result (λ made. AreExpanded auto.now other.now made.0 (length made.0.points.items)) }
+    ensures start { IfOk result (λ made. IsStateFor made.0 left (right ∷ []) made.1) }
 {
     let mut points = Points::new(alloc);
-    let start = find_or_add(alloc, auto, &mut points, left, &[right])?;
+    let start = find_or_add(alloc, auto, other, &mut points, left, &[right])?;
     let mut number = 0;
     while number < points.points.len() {
-        expand(alloc, auto, &mut points, number)?;
+        expand(alloc, auto, other, &mut points, number)?;
         number += 1;
     }
-    let _states = points.made.len();
-    Ok((points.made, start))
+    Ok((points, start))
 }
 
-/// A state that accepts exactly what the first accepts and the second doesn't.
+/// Adds a state that accepts what `left` accepts and `right`, a state of the other automaton, doesn't.
 ///
-/// A state of the answer stands for a state of the first automaton and a set of states of the second,
-/// none of which may accept. An element is refused by all of the set where, for each of their moves
-/// that match it, one state refuses its content or one refuses what follows: so a move is made for
-/// each choice of these, but where one choice asks for all that another asks for. The labels of a move
-/// are divided only where moves tell them apart. States that accept nothing are left out, but for the first. The number
-/// of states may be exponential in that of the second automaton; it is about the product of both
-/// where few moves of a state match the same label. (Hosoya, Vouillon and Pierce, *Regular expression
-/// types for XML*, 2005, section 4, whose subtyping divides goals by the same choices.)
+/// A new state stands for a state of the automaton as it was, and a set of states of the other one,
+/// none of which may accept. Where the set is empty this is the old state itself. An element is
+/// refused by all of the set where, for each of their moves that match it, one state refuses its
+/// content or one refuses what follows: so a move is made for each choice of these, but where one
+/// choice asks for all that another asks for. The labels of a move are divided only where moves tell
+/// them apart. Of the new states those are left out that accept nothing, whatever the old ones accept.
+/// The number of states may be exponential in that of the other automaton; it is about the product of
+/// both where few moves of a state match the same label. (Hosoya, Vouillon and Pierce, *Regular
+/// expression types for XML*, 2005, section 4, whose subtyping divides goals by the same choices.)
+pub fn subtract(
+    alloc: Global,
+    auto: &mut Auto,
+    left: State,
+    other: &Auto,
+    right: State,
+) -> Result<State, NoMemory>
+    requires left { IsState auto.old left }
+    requires right { IsState other.now right }
+    ensures belongs { IfOk result (IsState auto.new) }
+    ensures exact { IfOk result (λ made. (d : Document) → accepts auto.new d made ≡ (accepts auto.old d left && not (accepts other.now d right))) }
+    ensures extends { Extends auto.old auto.new }
+{
+    let (part, right) = trim(alloc, other, right)?;
+    let part = merged(alloc, &part)?;
+    let _states = auto.len();
+    let (points, start) = difference(alloc, auto, &part, left, right)?;
+    let marks = inhabited(alloc, &points.made)?;
+    let state = place_points(alloc, auto, &part, &points, &marks, start)?;
+    Ok(state)
+}
+
+/// A state that accepts exactly what the first accepts and the second doesn't, by [`subtract`] from a
+/// copy of the first.
+///
+/// States that are like each other are made one before. States that accept nothing are left out, but
+/// for the first.
 pub fn minus(
     alloc: Global,
     one: &Auto,
@@ -241,11 +295,9 @@ pub fn minus(
     ensures start { IfOk result (λ made. IsState made.0 made.1) }
     ensures inhabited { IfOk result (λ made. IsInhabitedPart made.0 made.1) }
 {
-    let mut both = Auto::new(alloc);
-    let left = both.absorb(one, first)?;
-    let right = both.absorb(two, second)?;
-    let both = merged(alloc, &both)?;
-    let (made, start) = difference(alloc, &both, left, right)?;
+    let (left, first) = trim(alloc, one, first)?;
+    let mut made = merged(alloc, &left)?;
+    let start = subtract(alloc, &mut made, first, two, second)?;
     let (part, start) = inhabited_part(alloc, &made, start)?;
     Ok((part, start))
 }

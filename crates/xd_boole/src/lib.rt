@@ -6,9 +6,10 @@ mod difference;
 mod groups;
 mod matching;
 mod merging;
+mod placing;
 mod points;
 mod products;
 mod states;
 
-pub use difference::minus;
+pub use difference::{minus, subtract};
 pub use products::product;

@@ -1,12 +1,11 @@
-//! The points of a new automaton: what each of its states stands for.
+//! The points of a difference: what each state of a new automaton stands for.
 
 ghost use Rattle.std.specs.Prelude.{◌≡◌, ◌<◌, ℕ, cond, List, [], Some, length, nat_eq, IfOk, OnOk};
 ghost use Rattle.std.specs.List.{AllByRecursion};
 ghost use Rattle.std.specs.Cmp.Lexicographic.{pointwise};
-ghost use Rattle.xd_doc.specs.Document.{empty};
 ghost use Rattle.xd_auto.specs.Automaton.{Automaton, IsState};
-ghost use Rattle.xd_boole.specs.Meaning.{less, means};
-ghost use Rattle.xd_boole.specs.Points.{ArePoints, Gives, Grows, IsStateFor, MoveBelow, TextBelow, found_at, point_at, point_key};
+ghost use Rattle.xd_boole.specs.Meaning.{less};
+ghost use Rattle.xd_boole.specs.Points.{ArePoints, Gives, Grows, IsStateFor, MoveBelow, TextBelow, found_at, point_at, point_key, point_last};
 
 use crate::states::any_last;
 use std::alloc::Global;
@@ -15,8 +14,8 @@ use std::marker::Model;
 use xd_auto::{Auto, LabelMove, State, StateKey, TextMove};
 use xd_doc::NoMemory;
 
-/// A state, the left, and states that are taken away from it, the rights: what a state of the new
-/// automaton stands for.
+/// A state, the left, and states of another automaton that are taken away from it, the rights: what a
+/// state of the new automaton stands for.
 #[derive(Debug, Drop)]
 pub(crate) struct Point {
     pub(crate) left: State,
@@ -49,7 +48,7 @@ pub(crate) struct NewMoves {
 impl Points {
     /// No point.
     pub(crate) fn new(alloc: Global) -> Self
-        ensures whole { (a : Automaton) → ArePoints a result }
+        ensures whole { (a b : Automaton) → ArePoints a b result }
         ensures none { result.points.items ≡ [] }
     {
         Self {
@@ -68,34 +67,38 @@ fn put(found: &mut BTreeMap<StateKey, usize>, key: StateKey, number: usize) -> R
     Ok(())
 }
 
-/// Whether the state of a point accepts the empty document.
-fn is_last(auto: &Auto, left: State, rights: &[State]) -> bool
+/// Whether the state of a point accepts the empty document. One that is an old state is taken to.
+fn is_last(auto: &Auto, other: &Auto, left: State, rights: &[State]) -> bool
     requires left { IsState auto.now left }
-    requires rights { AllByRecursion (IsState auto.now) rights.now }
-    ensures { result ≡ means auto.now (less left rights.now) empty }
+    requires rights { AllByRecursion (IsState other.now) rights.now }
+    ensures { result ≡ point_last auto.now other.now (less left rights.now) }
 {
-    auto.is_last(left) && !any_last(auto, rights)
+    if rights.is_empty() {
+        return true;
+    }
+    auto.is_last(left) && !any_last(other, rights)
 }
 
 /// The state of a new point, which has no moves yet.
 fn add_point(
     alloc: Global,
     auto: &Auto,
+    other: &Auto,
     points: &mut Points,
     key: StateKey,
     left: State,
     rights: &[State],
 ) -> Result<State, NoMemory>
-    requires whole { ArePoints auto.now points.old }
+    requires whole { ArePoints auto.now other.now points.old }
     requires left { IsState auto.now left }
-    requires rights { AllByRecursion (IsState auto.now) rights.now }
+    requires rights { AllByRecursion (IsState other.now) rights.now }
     requires key { key ≡ point_key (less left rights.now) }
-    ensures whole { OnOk result (ArePoints auto.now points.new) }
+    ensures whole { OnOk result (ArePoints auto.now other.now points.new) }
     ensures grows { OnOk result (Grows points.old points.new) }
     ensures state { IfOk result (IsStateFor points.new left rights.now) }
 {
     let number = points.points.len();
-    let last = is_last(auto, left, rights);
+    let last = is_last(auto, other, left, rights);
     let rights = rights.to_vec(alloc)?;
     let state = points.made.add_state(last)?;
     points.points.push(Point { left, rights })?;
@@ -107,21 +110,22 @@ fn add_point(
 pub(crate) fn find_or_add(
     alloc: Global,
     auto: &Auto,
+    other: &Auto,
     points: &mut Points,
     left: State,
     rights: &[State],
 ) -> Result<State, NoMemory>
-    requires whole { ArePoints auto.now points.old }
+    requires whole { ArePoints auto.now other.now points.old }
     requires left { IsState auto.now left }
-    requires rights { AllByRecursion (IsState auto.now) rights.now }
-    ensures whole { OnOk result (ArePoints auto.now points.new) }
+    requires rights { AllByRecursion (IsState other.now) rights.now }
+    ensures whole { OnOk result (ArePoints auto.now other.now points.new) }
     ensures grows { OnOk result (Grows points.old points.new) }
     ensures state { IfOk result (IsStateFor points.new left rights.now) }
 {
     let key = StateKey::new(alloc, left, rights)?;
     match points.found.get(&key) {
         Some(number) => Ok(points.made.state(*number)),
-        None => add_point(alloc, auto, points, key, left, rights),
+        None => add_point(alloc, auto, other, points, key, left, rights),
     }
 }
 

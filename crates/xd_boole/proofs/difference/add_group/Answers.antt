@@ -11,22 +11,22 @@ use Rattle.xd_boole.proofs.difference.add_group.Goals as goal
 
 pub loop-choice-init : goal.loop-choice-init
 loop-choice-init c =
-    let a = c.args.auto.now in
+    let a = c.args.auto.now in let b = c.args.other.now in
     record {
-      adds = adds_none MoveBelow (label_means a) a (label_stays a) label_below_more c.args.points.now c.args.labels.now.items _ c.requires.whole c.requires.below (grows_same c.args.points.now)
+      adds = adds_none MoveBelow (label_means a b) a b (label_stays a b) label_below_more c.args.points.now c.args.labels.now.items _ c.requires.whole c.requires.below (grows_same c.args.points.now)
           (λ q. and_nothing (class_has c.args.group.now.class q.label) (side_accepts a q.content q.rest c.args.part));
-      left = subst (AllChoices a) (sym c.deref-choice-items.ensures.value) (c.in_ok-choices.ensures.states a (subst (AllPass (is_side a)) (sym c.deref.ensures.value) c.requires.group));
+      left = subst (AllChoices b) (sym c.deref-choice-items.ensures.value) (c.in_ok-choices.ensures.states b (subst (AllPass (is_side b)) (sym c.deref.ensures.value) c.requires.group));
     }
 
 pub loop-choice-preserved : goal.loop-choice-preserved
 loop-choice-preserved c =
-    let a = c.args.auto.now in
+    let a = c.args.auto.now in let b = c.args.other.now in
     let items = c.deref-choice-items.result.now in
     let i = c.loop-choice.choice-index in
     let x = c.choice-item.result in
-    let next = all_step (IsChoiceOf a) items i x c.loop-choice-test.true c.choice-item.is c.loop-choice.invariant.left in
+    let next = all_step (IsChoiceOf b) items i x c.loop-choice-test.true c.choice-item.is c.loop-choice.invariant.left in
     record {
-      adds = adds_then MoveBelow (label_means a) a (label_stays a) label_below_more _ _ _ _ _ _ _ _ _ c.loop-choice.invariant.adds c.in_ok-add_move.ensures
-          (λ q. both_more (choice_refuses a q.content q.rest) items i x (class_has c.args.group.now.class q.label) (side_accepts a q.content q.rest c.args.part) c.loop-choice-test.true c.choice-item.is);
+      adds = adds_then MoveBelow (label_means a b) a b (label_stays a b) label_below_more _ _ _ _ _ _ _ _ _ c.loop-choice.invariant.adds c.in_ok-add_move.ensures
+          (λ q. both_more (choice_refuses b q.content q.rest) items i x (class_has c.args.group.now.class q.label) (side_accepts a q.content q.rest c.args.part) c.loop-choice-test.true c.choice-item.is);
       left = next.1;
     }

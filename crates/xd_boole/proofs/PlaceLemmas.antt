@@ -1,0 +1,273 @@
+-- How the points of a difference are put into the automaton that has their lefts.
+use Rattle.std.proofs.Common.{ℕ, zero, suc, ◌+◌, ◌<◌, ◌≤◌, ◌≡◌, Bool, false, ◌&&◌, ◌||◌, List, [], ◌∷◌, ◌++◌, take, length, get_or, Some, None, IfSome, inl, inr, refl, sym, ap, ◌∙◌, subst, arith}
+use Rattle.std.specs.List.{list_any}
+use Rattle.std.proofs.lemmas.Bool.{cases_eq, cases_lt}
+use Rattle.std.proofs.lemmas.List.{get_or_past, get_or-set_same}
+use Rattle.std.proofs.lemmas.List.Folds.{list_any-append, list_any_more}
+use Rattle.xd_doc.specs.Document.{Document, empty, text, element}
+use Rattle.xd_doc.specs.Classes.{class_has}
+use Rattle.xd_auto.specs.declared.auto.State.{State}
+use Rattle.xd_auto.specs.declared.auto.LabelMove.{LabelMove}
+use Rattle.xd_auto.specs.declared.auto.TextMove.{TextMove}
+use Rattle.xd_auto.specs.Automaton.{Automaton, ChangesOnly, Extends, IsState, StateMoves, accepts, moves_at, no_moves, with_label_move, with_text_move}
+use Rattle.xd_boole.specs.declared.points.Points.{Points}
+use Rattle.xd_boole.specs.declared.placing.Place.{Place}
+use Rattle.xd_boole.specs.declared.placing.Place.TheVariants.{Old, New, Nowhere}
+use Rattle.xd_boole.specs.Placing.{AreIn, ArePlaces, GivesLabels, GivesTexts, IsBareAt, IsPlaceOf, IsPlaced, PlacesFirst, passes_there, passes_to, place_at, state_of, text_passes_there, text_passes_to}
+use Rattle.xd_boole.specs.Points.{IsPointOf, point_at, state_at}
+use Rattle.xd_boole.proofs.Adding.{at_end, at_front, place_cases}
+use Rattle.xd_boole.proofs.Bools.{or_join, or_nothing}
+
+pub extends_same : (a : Automaton) → Extends a a
+extends_same a = record { states = λ s here. here; moves = λ s here. refl }
+
+pub extends_trans : (a b c : Automaton) → Extends a b → Extends b c → Extends a c
+extends_trans a b c one two = record {
+  states = λ s here. two.states s (one.states s here);
+  moves = λ s here. two.moves s (one.states s here) ∙ one.moves s here;
+}
+
+-- a newer state changed
+pub extends_changed : (a b c : Automaton) (s : State) → Extends a b → length a ≤ s.number → ChangesOnly s b c → Extends a c
+extends_changed a b c s extends new changes = record {
+  states = λ t here. let there = extends.states t here in omega (arith, there, changes.states);
+  moves = λ t here. changes.others t (λ e. omega arith) ∙ extends.moves t here;
+}
+
+extends_longer : (a b : Automaton) → Extends a b → length a ≤ length b
+extends_longer a b extends = go (length a) refl
+  where
+    go : (n : ℕ) → length a ≡ n → n ≤ length b
+    go zero e = omega arith
+    go (suc n) e = let last = extends.states (state_at n) (omega (arith, e)) in omega (arith, last)
+
+module _ (old mid new : Automaton) (p : Points) (marks : List Bool) (one : Extends old mid) (two : Extends mid new) where
+  place_stays : (i : ℕ) (w : Place) → IsPlaceOf old mid p marks i w → IsPlaceOf old new p marks i w
+  place_stays i (Old s) is = is
+  place_stays i (New s) is = (is.0, is.1, two.states s is.2)
+  place_stays i Nowhere is = is
+
+  place_newer : (i : ℕ) (w : Place) → IsPlaceOf mid new p marks i w → IsPlaceOf old new p marks i w
+  place_newer i (Old s) is = is
+  place_newer i (New s) is = let longer = extends_longer old mid one in (is.0, omega (arith, longer, is.1), is.2)
+  place_newer i Nowhere is = is
+
+  bare_stays : (i : ℕ) (w : Place) → IsPlaceOf old mid p marks i w → IsBareAt mid p i w → IsBareAt new p i w
+  bare_stays i (Old s) is bare = tt
+  bare_stays i (New s) is bare = two.moves s is.2 ∙ bare
+  bare_stays i Nowhere is bare = tt
+
+  -- one more place
+  module _ (places after : List Place) (w : Place) (is : after ≡ places ++ w ∷ []) (before : ArePlaces old mid p marks places)
+      (bare : (i : ℕ) → i < length places → IsBareAt mid p i (place_at places i)) (there : IsPlaceOf mid new p marks (length places) w) (bare_there : IsBareAt new p (length places) w) where
+    pub more_bare : (i : ℕ) → i < length after → IsBareAt new p i (place_at after i)
+    more_bare i lt = elim (place_cases places after w i is lt) [
+      | inl h ↦ subst (IsBareAt new p i) (sym (at_front places after w Nowhere i is h)) (bare_stays i (place_at places i) (before.each i h) (bare i h))
+      | inr e ↦ subst (IsBareAt new p i) (sym (at_end places after w Nowhere i is e)) (subst (λ (k : ℕ). IsBareAt new p k w) (sym e) bare_there)
+    ]
+
+    pub more_places : ArePlaces old new p marks after
+    more_places = record {
+      each = λ i lt. elim (place_cases places after w i is lt) [
+        | inl h ↦ subst (IsPlaceOf old new p marks i) (sym (at_front places after w Nowhere i is h)) (place_stays i (place_at places i) (before.each i h))
+        | inr e ↦ subst (IsPlaceOf old new p marks i) (sym (at_end places after w Nowhere i is e)) (subst (λ (k : ℕ). IsPlaceOf old new p marks k w) (sym e) (place_newer (length places) w there))
+      ];
+      rises = λ i k s t less lt at_i at_k. elim (place_cases places after w k is lt) [
+        | inl h ↦ before.rises i k s t less h (sym (at_front places after w Nowhere i is (omega arith)) ∙ at_i) (sym (at_front places after w Nowhere k is h) ∙ at_k)
+        | inr e ↦
+            let first = subst (IsPlaceOf old mid p marks i) (sym (at_front places after w Nowhere i is (omega arith)) ∙ at_i) (before.each i (omega arith)) in
+            let last = subst (IsPlaceOf mid new p marks (length places)) (sym (at_end places after w Nowhere k is e) ∙ at_k) there in
+            omega (arith, first.2, last.1)
+      ];
+    }
+
+pub no_places : (a : Automaton) (p : Points) (marks : List Bool) → ArePlaces a a p marks []
+no_places a p marks = record { each = λ i lt. absurd (omega arith); rises = λ i k s t less lt at_i at_k. absurd (omega arith) }
+
+-- the states at the places belong to the automaton
+pub places_in : (a b new : Automaton) (p : Points) (marks : List Bool) (places : List Place) → ((i : ℕ) → i < length places → IsPointOf a b (point_at p.points.items i)) → Extends a new
+    → ((i : ℕ) → i < length places → IsPlaceOf a new p marks i (place_at places i)) → AreIn new places
+places_in a b new p marks places points extends each i = elim (cases_lt i (length places)) [
+  | inl lt ↦ go (place_at places i) (points i lt) (each i lt)
+  | inr le ↦ subst (λ (w : Place). IfSome (state_of w) (IsState new)) (sym (get_or_past places i Nowhere le)) tt
+]
+  where
+    go : (w : Place) → IsPointOf a b (point_at p.points.items i) → IsPlaceOf a new p marks i w → IfSome (state_of w) (IsState new)
+    go (Old s) point is = subst (IsState new) (sym is.1) (extends.states (point_at p.points.items i).left point.left)
+    go (New s) point is = is.2
+    go Nowhere point is = tt
+
+-- moves are given
+module _ (places : List Place) (s : State) where
+  label_dropped : (m : LabelMove) (a : Automaton) → ((f : LabelMove → Bool) → passes_there f places m ≡ false) → GivesLabels places s (m ∷ []) a a
+  label_dropped m a none = record {
+    last = refl;
+    labels = λ f. sym (or_nothing (list_any f (moves_at a s).labels)) ∙ ap (λ w. list_any f (moves_at a s).labels || w) (sym (or_nothing (passes_there f places m) ∙ none f));
+    texts = refl;
+  }
+
+  pub no_content : (m : LabelMove) (a : Automaton) → state_of (place_at places m.content.number) ≡ None → GivesLabels places s (m ∷ []) a a
+  no_content m a e = label_dropped m a (λ f. ap (λ o. passes_to f m.class o (state_of (place_at places m.rest.number))) e)
+
+  pub no_rest : (m : LabelMove) (a : Automaton) (content : State) → state_of (place_at places m.content.number) ≡ Some content → state_of (place_at places m.rest.number) ≡ None → GivesLabels places s (m ∷ []) a a
+  no_rest m a content e h = label_dropped m a (λ f. ap (λ o. passes_to f m.class o (state_of (place_at places m.rest.number))) e ∙ ap (λ o. passes_to f m.class (Some content) o) h)
+
+  pub label_given : (m : LabelMove) (a new : Automaton) (content rest : State) → IsState a s → state_of (place_at places m.content.number) ≡ Some content → state_of (place_at places m.rest.number) ≡ Some rest
+      → new ≡ with_label_move a s (record { class = m.class; content = content; rest = rest }) → GivesLabels places s (m ∷ []) a new
+  label_given m a new content rest there e h is =
+      let step : LabelMove = record { class = m.class; content = content; rest = rest } in
+      let now : moves_at new s ≡ record (moves_at a s) { labels = (moves_at a s).labels ++ step ∷ [] } =
+      ap (λ w. moves_at w s) is ∙ get_or-set_same a s.number (record (moves_at a s) { labels = (moves_at a s).labels ++ step ∷ [] }) (no_moves false) there in
+      record {
+        last = ap (λ (w : StateMoves). w.last) now;
+        labels = λ f.
+            ap (λ (w : StateMoves). list_any f w.labels) now ∙ list_any-append f (moves_at a s).labels (step ∷ [])
+            ∙ ap (λ w. list_any f (moves_at a s).labels || (w || false))
+            (sym (ap (λ o. passes_to f m.class o (state_of (place_at places m.rest.number))) e ∙ ap (λ o. passes_to f m.class (Some content) o) h));
+        texts = ap (λ (w : StateMoves). w.texts) now;
+      }
+
+  pub no_labels : (a : Automaton) → GivesLabels places s [] a a
+  no_labels a = record { last = refl; labels = λ f. sym (or_nothing (list_any f (moves_at a s).labels)); texts = refl }
+
+  pub more_labels : (moves : List LabelMove) (i : ℕ) (m : LabelMove) (a b c : Automaton) → i < length moves → m ≡ get_or moves i m
+      → GivesLabels places s (take i moves) a b → GivesLabels places s (m ∷ []) b c → GivesLabels places s (take (i + 1) moves) a c
+  more_labels moves i m a b c lt at before gives = record {
+    last = gives.last ∙ before.last;
+    labels = λ f.
+        gives.labels f ∙ ap (λ w. list_any f (moves_at b s).labels || w) (or_nothing (passes_there f places m)) ∙ ap (λ w. w || passes_there f places m) (before.labels f)
+        ∙ or_join (list_any f (moves_at a s).labels) (list_any (passes_there f places) (take i moves)) (passes_there f places m)
+        ∙ ap (λ w. list_any f (moves_at a s).labels || w)
+        (ap (λ w. list_any (passes_there f places) (take i moves) || passes_there f places w) at ∙ sym (list_any_more (passes_there f places) moves i m lt));
+    texts = gives.texts ∙ before.texts;
+  }
+
+  pub no_text_rest : (m : TextMove) (a : Automaton) → state_of (place_at places m.rest.number) ≡ None → GivesTexts places s (m ∷ []) a a
+  no_text_rest m a e = record {
+    last = refl;
+    labels = refl;
+    texts = λ f. sym (or_nothing (list_any f (moves_at a s).texts))
+        ∙ ap (λ w. list_any f (moves_at a s).texts || w) (sym (or_nothing (text_passes_there f places m) ∙ ap (text_passes_to f m.words) e));
+  }
+
+  pub text_given : (m : TextMove) (a new : Automaton) (rest : State) → IsState a s → state_of (place_at places m.rest.number) ≡ Some rest
+      → new ≡ with_text_move a s (record { words = m.words; rest = rest }) → GivesTexts places s (m ∷ []) a new
+  text_given m a new rest there e is =
+      let step : TextMove = record { words = m.words; rest = rest } in
+      let now : moves_at new s ≡ record (moves_at a s) { texts = (moves_at a s).texts ++ step ∷ [] } =
+      ap (λ w. moves_at w s) is ∙ get_or-set_same a s.number (record (moves_at a s) { texts = (moves_at a s).texts ++ step ∷ [] }) (no_moves false) there in
+      record {
+        last = ap (λ (w : StateMoves). w.last) now;
+        labels = ap (λ (w : StateMoves). w.labels) now;
+        texts = λ f.
+            ap (λ (w : StateMoves). list_any f w.texts) now ∙ list_any-append f (moves_at a s).texts (step ∷ [])
+            ∙ ap (λ w. list_any f (moves_at a s).texts || (w || false)) (sym (ap (text_passes_to f m.words) e));
+      }
+
+  pub no_texts : (a : Automaton) → GivesTexts places s [] a a
+  no_texts a = record { last = refl; labels = refl; texts = λ f. sym (or_nothing (list_any f (moves_at a s).texts)) }
+
+  pub more_texts : (moves : List TextMove) (i : ℕ) (m : TextMove) (a b c : Automaton) → i < length moves → m ≡ get_or moves i m
+      → GivesTexts places s (take i moves) a b → GivesTexts places s (m ∷ []) b c → GivesTexts places s (take (i + 1) moves) a c
+  more_texts moves i m a b c lt at before gives = record {
+    last = gives.last ∙ before.last;
+    labels = gives.labels ∙ before.labels;
+    texts = λ f.
+        gives.texts f ∙ ap (λ w. list_any f (moves_at b s).texts || w) (or_nothing (text_passes_there f places m)) ∙ ap (λ w. w || text_passes_there f places m) (before.texts f)
+        ∙ or_join (list_any f (moves_at a s).texts) (list_any (text_passes_there f places) (take i moves)) (text_passes_there f places m)
+        ∙ ap (λ w. list_any f (moves_at a s).texts || w)
+        (ap (λ w. list_any (text_passes_there f places) (take i moves) || text_passes_there f places w) at ∙ sym (list_any_more (text_passes_there f places) moves i m lt));
+  }
+
+-- all moves of a point's state were given
+pub placed : (p : Points) (places : List Place) (s : State) (i : ℕ) (a b c : Automaton) → moves_at a s ≡ no_moves (moves_at p.made (state_at i)).last
+    → GivesLabels places s (moves_at p.made (state_at i)).labels a b → GivesTexts places s (moves_at p.made (state_at i)).texts b c → IsPlaced p places c i s
+placed p places s i a b c bare labels texts = record {
+  last = texts.last ∙ labels.last ∙ ap (λ (m : StateMoves). m.last) bare;
+  labels = λ f.
+      ap (list_any f) texts.labels ∙ labels.labels f ∙ ap (λ (m : StateMoves). list_any f m.labels || list_any (passes_there f places) (moves_at p.made (state_at i)).labels) bare;
+  texts = λ f.
+      texts.texts f
+      ∙ ap (λ w. list_any f w || list_any (text_passes_there f places) (moves_at p.made (state_at i)).texts) (labels.texts ∙ ap (λ (m : StateMoves). m.texts) bare);
+}
+
+-- the next point has its place
+module _ (old start a b : Automaton) (p : Points) (marks : List Bool) (places : List Place) (n : ℕ) (are : ArePlaces old start p marks places) (first : PlacesFirst p places a n) (within : n < length places) where
+  still : (i : ℕ) (s : State) → IsPlaced p places a i s → moves_at b s ≡ moves_at a s → IsPlaced p places b i s
+  still i s is e = record {
+    last = ap (λ (m : StateMoves). m.last) e ∙ is.last;
+    labels = λ f. ap (λ (m : StateMoves). list_any f m.labels) e ∙ is.labels f;
+    texts = λ f. ap (λ (m : StateMoves). list_any f m.texts) e ∙ is.texts f;
+  }
+
+  still_bare : (i : ℕ) (w : Place) → ((s : State) → w ≡ New s → moves_at b s ≡ moves_at a s) → IsBareAt a p i w → IsBareAt b p i w
+  still_bare i (Old s) same bare = tt
+  still_bare i (New s) same bare = same s refl ∙ bare
+  still_bare i Nowhere same bare = tt
+
+  pub next_placed : (t : State) → place_at places n ≡ New t → ChangesOnly t a b → IsPlaced p places b n t → PlacesFirst p places b (n + 1)
+  next_placed t at changes placed = record {
+    done = λ i s lt there e. elim (cases_eq i n) [
+      | inl same ↦ here i s same e
+      | inr ne ↦ let below : i < n = omega arith in still i s (first.done i s below there e) (changes.others s (λ h. let less = are.rises i n s t below within e at in omega (arith, less, h)))
+    ];
+    bare = λ i le there. still_bare i (place_at places i) (λ s e. changes.others s (λ h. let less = are.rises n i t s (omega arith) there at e in omega (arith, less, h))) (first.bare i (omega arith) there);
+  }
+    where
+      new_is : (u v : State) → New u ≡ New v → u ≡ v
+      new_is u v e = cc
+
+      here : (i : ℕ) (s : State) → i ≡ n → place_at places i ≡ New s → IsPlaced p places b i s
+      here i s same e =
+          let t_is : t ≡ s = new_is t s (sym at ∙ ap (place_at places) (sym same) ∙ e) in
+          subst (λ (k : ℕ). IsPlaced p places b k s) (sym same) (subst (IsPlaced p places b n) t_is placed)
+
+  pub next_none : ((t : State) → place_at places n ≡ New t → ⊥) → PlacesFirst p places a (n + 1)
+  next_none none = record {
+    done = λ i s lt there e. elim (cases_eq i n) [
+      | inl same ↦ absurd (none s (ap (place_at places) (sym same) ∙ e))
+      | inr ne ↦ first.done i s (omega arith) there e
+    ];
+    bare = λ i le there. first.bare i (omega arith) there;
+  }
+
+-- the places of the first points and what they have so far, in an automaton that extends the old one
+pub record PlacesSoFar (old start now : Automaton) (p : Points) (places : List Place) (n : ℕ) : Type 0 where
+  pub first : PlacesFirst p places now n
+  pub count : length now ≡ length start
+  pub extends : Extends old now
+
+module _ (old start now : Automaton) (p : Points) (marks : List Bool) (places : List Place) (n : ℕ) (are : ArePlaces old start p marks places) (so_far : PlacesSoFar old start now p places n) where
+  pub each_there : (i : ℕ) → i < length places → IsPlaceOf old now p marks i (place_at places i)
+  each_there i lt = go (place_at places i) (are.each i lt)
+    where
+      go : (w : Place) → IsPlaceOf old start p marks i w → IsPlaceOf old now p marks i w
+      go (Old s) is = is
+      go (New s) is = (is.0, is.1, omega (arith, is.2, so_far.count))
+      go Nowhere is = is
+
+  pub next_so_far : (next : Automaton) (t : State) → n < length places → place_at places n ≡ New t → ChangesOnly t now next → IsPlaced p places next n t → PlacesSoFar old start next p places (n + 1)
+  next_so_far next t within at changes placed = record {
+    first = next_placed old start now next p marks places n are so_far.first within t at changes placed;
+    count = changes.states ∙ so_far.count;
+    extends = extends_changed old now next t so_far.extends (subst (IsPlaceOf old start p marks n) at (are.each n within)).1 changes;
+  }
+
+  pub none_so_far : n < length places → ((t : State) → place_at places n ≡ New t → ⊥) → PlacesSoFar old start now p places (n + 1)
+  none_so_far within none = record { first = next_none old start now now p marks places n are so_far.first within none; count = so_far.count; extends = so_far.extends }
+
+-- what stands at a place, read with another default
+pub place_read : (places : List Place) (i : ℕ) (w : Place) → i < length places → w ≡ get_or places i w → place_at places i ≡ w
+place_read [] i w lt at = absurd (omega arith)
+place_read (x ∷ xs) zero w lt at = sym at
+place_read (x ∷ xs) (suc i) w lt at = place_read xs i w (omega arith) at
+
+bare_at : (old new : Automaton) (s : State) → s.number ≡ length old → new ≡ old ++ no_moves false ∷ [] → moves_at new s ≡ no_moves false
+bare_at old new s e is = at_end old new (no_moves false) (no_moves false) s.number is e
+
+-- a state without moves accepts nothing
+pub bare_accepts : (old new : Automaton) (s : State) → s.number ≡ length old → new ≡ old ++ no_moves false ∷ [] → (d : Document) → accepts new d s ≡ false
+bare_accepts old new s e is empty = ap (λ (m : StateMoves). m.last) (bare_at old new s e is)
+bare_accepts old new s e is (text t d) = ap (λ (m : StateMoves). list_any (λ (w : TextMove). class_has w.words t && accepts new d w.rest) m.texts) (bare_at old new s e is)
+bare_accepts old new s e is (element l c d) =
+    ap (λ (m : StateMoves). list_any (λ (w : LabelMove). class_has w.class l && (accepts new c w.content && accepts new d w.rest)) m.labels) (bare_at old new s e is)
