@@ -7,8 +7,10 @@ use Rattle.xd_auto.specs.Automaton.{Automaton, accepts}
 use Rattle.xd_boole.specs.declared.groups.Side.{Side}
 use Rattle.xd_boole.specs.declared.choices.Choice.{Choice}
 use Rattle.xd_boole.specs.Meaning.{any_accepts, has_state, is_state, is_within, with_state}
+use Rattle.xd_empty.specs.Parts.{is_marked}
 use Rattle.xd_boole.specs.Groups.{AllPass, is_side, side_accepts}
-use Rattle.xd_boole.specs.Choices.{AddsChoice, AddsSide, AllChoices, ExtendsAll, IsChoiceOf, KeepsChoice, any_choice, choice_refuses}
+use Rattle.xd_boole.specs.Universal.{MarkUniversal}
+use Rattle.xd_boole.specs.Choices.{AddsChoice, AddsContent, AddsRest, AddsSide, AllChoices, ExtendsAll, IsChoiceOf, KeepsChoice, any_choice, choice_refuses}
 use Rattle.xd_boole.proofs.Lists.{all_at, all_front, all_last, all_push}
 use Rattle.xd_boole.proofs.Bools.{and_false, and_left, and_right, drop_implied, either_side, implied_by, next_one, or_nothing, other_content, other_rest}
 use Rattle.xd_boole.proofs.Refusing.{has_refuses, with_state_accepts, with_state_all, within_refuses}
@@ -101,9 +103,9 @@ and_absorbed true s h = ap not (sym (h refl))
 and_absorbed false s h = refl
 
 -- the choice refuses what the move accepts already
-pub side_refused : (side : Side) (k : Choice) (old new : List Choice) → (has_state side.content k.contents.items || has_state side.rest k.rests.items) ≡ true → AddsChoice k old new → AddsSide side k old new
-side_refused side k old new has adds = record {
-  refused = λ a c d. adds.refused a c d ∙ ap (λ w. any_choice a c d old || w) (and_absorbed (choice_refuses a c d k) (side_accepts a c d side) (refused a c d (has_state side.content k.contents.items) refl has));
+pub side_refused : (universal : List Bool) (side : Side) (k : Choice) (old new : List Choice) → (has_state side.content k.contents.items || has_state side.rest k.rests.items) ≡ true → AddsChoice k old new → AddsSide universal side k old new
+side_refused universal side k old new has adds = record {
+  refused = λ a u c d. adds.refused a c d ∙ ap (λ w. any_choice a c d old || w) (and_absorbed (choice_refuses a c d k) (side_accepts a c d side) (refused a c d (has_state side.content k.contents.items) refl has));
   states = λ a h e s. adds.states a h e;
 }
   where
@@ -113,70 +115,90 @@ side_refused side k old new has adds = record {
     refused a c d false is h e =
         ap (λ w. accepts a c side.content && w) (has_refuses a side.rest k.rests.items d (sym (ap (λ w. w || has_state side.rest k.rests.items) is) ∙ h) (refuses_rest a c d k e)) ∙ and_false (accepts a c side.content)
 
+-- the choice was extended in one way
+module _ (universal : List Bool) (side : Side) (k one : Choice) (old new : List Choice) (adds : AddsChoice one old new) where
+  pub content_added : one.contents.items ≡ with_state side.content k.contents.items → one.rests.items ≡ k.rests.items → AddsContent universal side k old new
+  content_added contents rests = record {
+    refused = λ a u c d. adds.refused a c d ∙ ap (λ w. any_choice a c d old || w)
+        (ap (λ w. not (any_accepts a w c) && not (any_accepts a one.rests.items d)) contents ∙ ap (λ w. not (any_accepts a (with_state side.content k.contents.items) c) && not (any_accepts a w d)) rests
+        ∙ ap (λ w. not w && not (any_accepts a k.rests.items d)) (with_state_accepts a side.content k.contents.items c)
+        ∙ other_content (accepts a c side.content) (any_accepts a k.contents.items c) (any_accepts a k.rests.items d));
+    states = λ a h e s. adds.states a h
+        (subst (AllPass (is_state a)) (sym contents) (with_state_all (λ w. is_state a w ≡ true) side.content k.contents.items e.0 s), subst (AllPass (is_state a)) (sym rests) e.1);
+  }
+
+  pub rest_added : one.contents.items ≡ k.contents.items → one.rests.items ≡ with_state side.rest k.rests.items → AddsRest universal side k old new
+  rest_added contents rests = record {
+    refused = λ a u c d. adds.refused a c d ∙ ap (λ w. any_choice a c d old || w)
+        (ap (λ w. not (any_accepts a w c) && not (any_accepts a one.rests.items d)) contents ∙ ap (λ w. not (any_accepts a k.contents.items c) && not (any_accepts a w d)) rests
+        ∙ ap (λ w. not (any_accepts a k.contents.items c) && not w) (with_state_accepts a side.rest k.rests.items d)
+        ∙ other_rest (accepts a d side.rest) (any_accepts a k.contents.items c) (any_accepts a k.rests.items d));
+    states = λ a h e s. adds.states a h
+        (subst (AllPass (is_state a)) (sym contents) e.0, subst (AllPass (is_state a)) (sym rests) (with_state_all (λ w. is_state a w ≡ true) side.rest k.rests.items e.1 s));
+  }
+
+-- what accepts everything can't refuse
+nothing_refused : (o k x : Bool) → x ≡ true → o ≡ (o || (k && not x))
+nothing_refused o k x e = sym (or_nothing o) ∙ ap (λ w. o || w) (sym (ap (λ w. k && not w) e ∙ and_false k))
+
+pub content_marked : (universal : List Bool) (side : Side) (k : Choice) (old : List Choice) → is_marked universal side.content ≡ true → AddsContent universal side k old old
+content_marked universal side k old marked = record {
+  refused = λ a u c d. nothing_refused (any_choice a c d old) (choice_refuses a c d k) (accepts a c side.content) (u side.content marked c);
+  states = λ a h e s. h;
+}
+
+pub rest_marked : (universal : List Bool) (side : Side) (k : Choice) (old : List Choice) → is_marked universal side.rest ≡ true → AddsRest universal side k old old
+rest_marked universal side k old marked = record {
+  refused = λ a u c d. nothing_refused (any_choice a c d old) (choice_refuses a c d k) (accepts a d side.rest) (u side.rest marked d);
+  states = λ a h e s. h;
+}
+
 -- the choice was extended in both ways
-pub side_added : (side : Side) (k one two : Choice) (old mid new : List Choice) → one.contents.items ≡ with_state side.content k.contents.items → one.rests.items ≡ k.rests.items
-    → two.contents.items ≡ k.contents.items → two.rests.items ≡ with_state side.rest k.rests.items → AddsChoice one old mid → AddsChoice two mid new → AddsSide side k old new
-side_added side k one two old mid new contents same same2 rests first second = record {
-  refused = λ a c d.
-      second.refused a c d ∙ ap (λ w. w || choice_refuses a c d two) (first.refused a c d)
-      ∙ ap (λ w. (any_choice a c d old || w) || choice_refuses a c d two) (one_is a c d) ∙ ap (λ w. (any_choice a c d old || (choice_refuses a c d k && not (accepts a c side.content))) || w) (two_is a c d)
+pub side_added : (universal : List Bool) (side : Side) (k : Choice) (old mid new : List Choice) → AddsContent universal side k old mid → AddsRest universal side k mid new → AddsSide universal side k old new
+side_added universal side k old mid new first second = record {
+  refused = λ a u c d.
+      second.refused a u c d ∙ ap (λ w. w || (choice_refuses a c d k && not (accepts a d side.rest))) (first.refused a u c d)
       ∙ either_side (any_choice a c d old) (choice_refuses a c d k) (accepts a c side.content) (accepts a d side.rest);
   states = λ a h e s.
-      let content = and_left (is_state a side.content) (is_state a side.rest) s in
-      let rest = and_right (is_state a side.content) (is_state a side.rest) s in
-      second.states a
-      (first.states a h (subst (AllPass (is_state a)) (sym contents) (with_state_all (λ w. is_state a w ≡ true) side.content k.contents.items e.0 content), subst (AllPass (is_state a)) (sym same) e.1))
-      (subst (AllPass (is_state a)) (sym same2) e.0, subst (AllPass (is_state a)) (sym rests) (with_state_all (λ w. is_state a w ≡ true) side.rest k.rests.items e.1 rest));
+      second.states a (first.states a h e (and_left (is_state a side.content) (is_state a side.rest) s)) e (and_right (is_state a side.content) (is_state a side.rest) s);
 }
-  where
-    one_is : (a : Automaton) (c d : Document) → choice_refuses a c d one ≡ (choice_refuses a c d k && not (accepts a c side.content))
-    one_is a c d =
-        ap (λ w. not (any_accepts a w c) && not (any_accepts a one.rests.items d)) contents ∙ ap (λ w. not (any_accepts a (with_state side.content k.contents.items) c) && not (any_accepts a w d)) same
-        ∙ ap (λ w. not w && not (any_accepts a k.rests.items d)) (with_state_accepts a side.content k.contents.items c)
-        ∙ other_content (accepts a c side.content) (any_accepts a k.contents.items c) (any_accepts a k.rests.items d)
-
-    two_is : (a : Automaton) (c d : Document) → choice_refuses a c d two ≡ (choice_refuses a c d k && not (accepts a d side.rest))
-    two_is a c d =
-        ap (λ w. not (any_accepts a w c) && not (any_accepts a two.rests.items d)) same2 ∙ ap (λ w. not (any_accepts a k.contents.items c) && not (any_accepts a w d)) rests
-        ∙ ap (λ w. not (any_accepts a k.contents.items c) && not w) (with_state_accepts a side.rest k.rests.items d)
-        ∙ other_rest (accepts a d side.rest) (any_accepts a k.contents.items c) (any_accepts a k.rests.items d)
 
 -- some choices were extended, and others are left
-pub record ExtendsFirst (side : Side) (initial extended left : List Choice) : Type 0 where
-  pub refused : (a : Automaton) (c d : Document) → (any_choice a c d extended || (any_choice a c d left && not (side_accepts a c d side))) ≡ (any_choice a c d initial && not (side_accepts a c d side))
+pub record ExtendsFirst (universal : List Bool) (side : Side) (initial extended left : List Choice) : Type 0 where
+  pub refused : (a : Automaton) → MarkUniversal a universal → (c d : Document) → (any_choice a c d extended || (any_choice a c d left && not (side_accepts a c d side))) ≡ (any_choice a c d initial && not (side_accepts a c d side))
   pub left_states : (a : Automaton) → AllChoices a initial → AllChoices a left
   pub states : (a : Automaton) → AllChoices a initial → is_side a side ≡ true → AllChoices a extended
 
-pub extends_more : (side : Side) (k : Choice) (initial extended new left rest : List Choice) → AddsSide side k extended new → left ≡ rest ++ k ∷ [] → ExtendsFirst side initial extended left → ExtendsFirst side initial new rest
-extends_more side k initial extended new left rest adds is before = record {
-  refused = λ a c d.
-      ap (λ w. w || (any_choice a c d rest && not (side_accepts a c d side))) (adds.refused a c d)
+pub extends_more : (universal : List Bool) (side : Side) (k : Choice) (initial extended new left rest : List Choice) → AddsSide universal side k extended new → left ≡ rest ++ k ∷ [] → ExtendsFirst universal side initial extended left → ExtendsFirst universal side initial new rest
+extends_more universal side k initial extended new left rest adds is before = record {
+  refused = λ a u c d.
+      ap (λ w. w || (any_choice a c d rest && not (side_accepts a c d side))) (adds.refused a u c d)
       ∙ next_one (any_choice a c d extended) (any_choice a c d rest) (choice_refuses a c d k) (side_accepts a c d side)
       ∙ ap (λ w. any_choice a c d extended || (w && not (side_accepts a c d side))) (sym (ap (any_choice a c d) is ∙ list_any-append (choice_refuses a c d) rest (k ∷ [])))
-      ∙ before.refused a c d;
+      ∙ before.refused a u c d;
   left_states = λ a h. all_front (IsChoiceOf a) rest k (subst (AllChoices a) is (before.left_states a h));
   states = λ a h s. adds.states a (before.states a h s) (all_last (IsChoiceOf a) rest k (subst (AllChoices a) is (before.left_states a h))) s;
 }
 
-pub extends_all : (side : Side) (initial extended left : List Choice) → left ≡ [] → ExtendsFirst side initial extended left → ExtendsAll side initial extended
-extends_all side initial extended left none before = record {
-  refused = λ a c d. sym (or_nothing (any_choice a c d extended)) ∙ ap (λ w. any_choice a c d extended || (any_choice a c d w && not (side_accepts a c d side))) (sym none) ∙ before.refused a c d;
+pub extends_all : (universal : List Bool) (side : Side) (initial extended left : List Choice) → left ≡ [] → ExtendsFirst universal side initial extended left → ExtendsAll universal side initial extended
+extends_all universal side initial extended left none before = record {
+  refused = λ a u c d. sym (or_nothing (any_choice a c d extended)) ∙ ap (λ w. any_choice a c d extended || (any_choice a c d w && not (side_accepts a c d side))) (sym none) ∙ before.refused a u c d;
   states = before.states;
 }
 
 -- the choices for the first of these moves
-pub record AreFirstChoices (sides : List Side) (i : ℕ) (choices : List Choice) : Type 0 where
-  pub refused : (a : Automaton) (c d : Document) → any_choice a c d choices ≡ not (list_any (side_accepts a c d) (take i sides))
+pub record AreFirstChoices (universal : List Bool) (sides : List Side) (i : ℕ) (choices : List Choice) : Type 0 where
+  pub refused : (a : Automaton) → MarkUniversal a universal → (c d : Document) → any_choice a c d choices ≡ not (list_any (side_accepts a c d) (take i sides))
   pub states : (a : Automaton) → AllPass (is_side a) sides → AllChoices a choices
 
 not_or : (t s : Bool) → (not t && not s) ≡ not (t || s)
 not_or true s = refl
 not_or false s = refl
 
-pub choices_more : (sides : List Side) (i : ℕ) (side : Side) (old new : List Choice) → i < length sides → side ≡ get_or sides i side → ExtendsAll side old new → AreFirstChoices sides i old → AreFirstChoices sides (i + 1) new
-choices_more sides i side old new lt at extends before = record {
-  refused = λ a c d.
-      extends.refused a c d ∙ ap (λ w. w && not (side_accepts a c d side)) (before.refused a c d)
+pub choices_more : (universal : List Bool) (sides : List Side) (i : ℕ) (side : Side) (old new : List Choice) → i < length sides → side ≡ get_or sides i side → ExtendsAll universal side old new → AreFirstChoices universal sides i old → AreFirstChoices universal sides (i + 1) new
+choices_more universal sides i side old new lt at extends before = record {
+  refused = λ a u c d.
+      extends.refused a u c d ∙ ap (λ w. w && not (side_accepts a c d side)) (before.refused a u c d)
       ∙ not_or (list_any (side_accepts a c d) (take i sides)) (side_accepts a c d side)
       ∙ ap not (ap (λ w. list_any (side_accepts a c d) (take i sides) || side_accepts a c d w) at ∙ sym (list_any_more (side_accepts a c d) sides i side lt));
   states = λ a h. extends.states a (before.states a h) (all_at (λ w. is_side a w ≡ true) sides h i side lt at);

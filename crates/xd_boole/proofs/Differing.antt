@@ -60,3 +60,12 @@ pub and_nothing : (h s : Bool) → (h && (s && false)) ≡ false
 and_nothing true true = refl
 and_nothing true false = refl
 and_nothing false s = refl
+
+-- a group has a state that accepts all that follows
+pub none_taken : (p h s : Bool) → s ≡ true → (p && (h && not s)) ≡ false
+none_taken p h s e = ap (λ w. p && (h && not w)) e ∙ go p h
+  where
+    go : (x y : Bool) → (x && (y && false)) ≡ false
+    go true true = refl
+    go true false = refl
+    go false y = refl

@@ -6,6 +6,7 @@ pub mod Adding
 pub mod Closing
 pub mod MatchLemmas
 pub mod Refusing
+pub mod UniversalLemmas
 pub mod ChoiceLemmas
 pub mod Growing
 pub mod Expanding

@@ -2,11 +2,12 @@
 use Rattle.std.specs.Prelude.{◌≡◌, Bool, true, not, ◌&&◌, ◌||◌, List}
 use Rattle.std.specs.List.{AllByRecursion, list_any}
 use Rattle.xd_doc.specs.Document.{Document}
-use Rattle.xd_auto.specs.Automaton.{Automaton}
+use Rattle.xd_auto.specs.Automaton.{Automaton, accepts}
 use Rattle.xd_boole.specs.declared.groups.Side.{Side}
 use Rattle.xd_boole.specs.declared.choices.Choice.{Choice}
 use Rattle.xd_boole.specs.Meaning.{any_accepts, is_state}
 use Rattle.xd_boole.specs.Groups.{AllPass, is_side, side_accepts}
+use Rattle.xd_boole.specs.Universal.{MarkUniversal}
 
 -- the content and what follows are refused as the choice says
 abbrev pub choice_refuses : Automaton → Document → Document → Choice → Bool
@@ -32,17 +33,27 @@ pub record AddsChoice (k : Choice) (old new : List Choice) : Type 0 where
   pub refused : (a : Automaton) (c d : Document) → any_choice a c d new ≡ (any_choice a c d old || choice_refuses a c d k)
   pub states : (a : Automaton) → AllChoices a old → IsChoiceOf a k → AllChoices a new
 
+-- a choice was added, extended by the content of one more move; or, where the content is marked, since it accepts every document, none was
+pub record AddsContent (universal : List Bool) (side : Side) (k : Choice) (old new : List Choice) : Type 0 where
+  pub refused : (a : Automaton) → MarkUniversal a universal → (c d : Document) → any_choice a c d new ≡ (any_choice a c d old || (choice_refuses a c d k && not (accepts a c side.content)))
+  pub states : (a : Automaton) → AllChoices a old → IsChoiceOf a k → is_state a side.content ≡ true → AllChoices a new
+
+-- the same by what follows
+pub record AddsRest (universal : List Bool) (side : Side) (k : Choice) (old new : List Choice) : Type 0 where
+  pub refused : (a : Automaton) → MarkUniversal a universal → (c d : Document) → any_choice a c d new ≡ (any_choice a c d old || (choice_refuses a c d k && not (accepts a d side.rest)))
+  pub states : (a : Automaton) → AllChoices a old → IsChoiceOf a k → is_state a side.rest ≡ true → AllChoices a new
+
 -- a choice was added, extended by a side for one more move
-pub record AddsSide (side : Side) (k : Choice) (old new : List Choice) : Type 0 where
-  pub refused : (a : Automaton) (c d : Document) → any_choice a c d new ≡ (any_choice a c d old || (choice_refuses a c d k && not (side_accepts a c d side)))
+pub record AddsSide (universal : List Bool) (side : Side) (k : Choice) (old new : List Choice) : Type 0 where
+  pub refused : (a : Automaton) → MarkUniversal a universal → (c d : Document) → any_choice a c d new ≡ (any_choice a c d old || (choice_refuses a c d k && not (side_accepts a c d side)))
   pub states : (a : Automaton) → AllChoices a old → IsChoiceOf a k → is_side a side ≡ true → AllChoices a new
 
 -- each choice was extended by a side for one more move
-pub record ExtendsAll (side : Side) (old new : List Choice) : Type 0 where
-  pub refused : (a : Automaton) (c d : Document) → any_choice a c d new ≡ (any_choice a c d old && not (side_accepts a c d side))
+pub record ExtendsAll (universal : List Bool) (side : Side) (old new : List Choice) : Type 0 where
+  pub refused : (a : Automaton) → MarkUniversal a universal → (c d : Document) → any_choice a c d new ≡ (any_choice a c d old && not (side_accepts a c d side))
   pub states : (a : Automaton) → AllChoices a old → is_side a side ≡ true → AllChoices a new
 
 -- the choices for these moves
-pub record AreChoices (sides : List Side) (choices : List Choice) : Type 0 where
-  pub refused : (a : Automaton) (c d : Document) → any_choice a c d choices ≡ not (list_any (side_accepts a c d) sides)
+pub record AreChoices (universal : List Bool) (sides : List Side) (choices : List Choice) : Type 0 where
+  pub refused : (a : Automaton) → MarkUniversal a universal → (c d : Document) → any_choice a c d choices ≡ not (list_any (side_accepts a c d) sides)
   pub states : (a : Automaton) → AllPass (is_side a) sides → AllChoices a choices

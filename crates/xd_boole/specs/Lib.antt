@@ -1,6 +1,7 @@
 pub mod Meaning
 pub mod Groups
 pub mod Matching
+pub mod Universal
 pub mod Choices
 pub mod Points
 pub mod Placing

@@ -2,10 +2,11 @@
 
 ghost use Rattle.std.specs.Prelude.{◌≡◌, ◌||◌, ◌&&◌, IfOk, OnOk};
 ghost use Rattle.xd_boole.specs.Meaning.{has_state, is_within};
-ghost use Rattle.xd_boole.specs.Choices.{AddsChoice, AddsSide, AreChoices, ExtendsAll, KeepsChoice};
+ghost use Rattle.xd_boole.specs.Choices.{AddsChoice, AddsContent, AddsRest, AddsSide, AreChoices, ExtendsAll, KeepsChoice};
 
 use crate::groups::Side;
 use crate::states::{has_state, is_within, with_state};
+use crate::universal::is_marked;
 use std::alloc::Global;
 use xd_auto::State;
 use xd_doc::NoMemory;
@@ -60,6 +61,45 @@ fn add_choice(alloc: Global, choices: Vec<Choice>, choice: Choice) -> Result<Vec
     Ok(kept)
 }
 
+/// Adds a choice, extended by the content of one more matching move, unless that is known to accept
+/// everything.
+fn add_with_content(
+    alloc: Global,
+    choices: Vec<Choice>,
+    choice: &Choice,
+    side: Side,
+    universal: &[bool],
+) -> Result<Vec<Choice>, NoMemory>
+    ensures { IfOk result (λ made. AddsContent universal.now side choice.now choices.items made.items) }
+{
+    if is_marked(universal, side.content) {
+        return Ok(choices);
+    }
+    let contents = with_state(alloc, &choice.contents, side.content)?;
+    let rests = choice.rests.to_vec(alloc)?;
+    let choices = add_choice(alloc, choices, Choice { contents, rests })?;
+    Ok(choices)
+}
+
+/// The same by what follows.
+fn add_with_rest(
+    alloc: Global,
+    choices: Vec<Choice>,
+    choice: &Choice,
+    side: Side,
+    universal: &[bool],
+) -> Result<Vec<Choice>, NoMemory>
+    ensures { IfOk result (λ made. AddsRest universal.now side choice.now choices.items made.items) }
+{
+    if is_marked(universal, side.rest) {
+        return Ok(choices);
+    }
+    let contents = choice.contents.to_vec(alloc)?;
+    let rests = with_state(alloc, &choice.rests, side.rest)?;
+    let choices = add_choice(alloc, choices, Choice { contents, rests })?;
+    Ok(choices)
+}
+
 /// Adds a choice, extended by a side for one more matching move; where it refuses what that accepts
 /// already, as it is.
 fn add_extended(
@@ -67,37 +107,44 @@ fn add_extended(
     choices: Vec<Choice>,
     choice: Choice,
     side: Side,
+    universal: &[bool],
 ) -> Result<Vec<Choice>, NoMemory>
-    ensures { IfOk result (λ made. AddsSide side choice choices.items made.items) }
+    ensures { IfOk result (λ made. AddsSide universal.now side choice choices.items made.items) }
 {
     if refuses(&choice, side) {
         let choices = add_choice(alloc, choices, choice)?;
         return Ok(choices);
     }
-    let contents = with_state(alloc, &choice.contents, side.content)?;
-    let rests = choice.rests.to_vec(alloc)?;
-    let choices = add_choice(alloc, choices, Choice { contents, rests })?;
-    let contents = choice.contents;
-    let rests = with_state(alloc, &choice.rests, side.rest)?;
-    let choices = add_choice(alloc, choices, Choice { contents, rests })?;
+    let choices = add_with_content(alloc, choices, &choice, side, universal)?;
+    let choices = add_with_rest(alloc, choices, &choice, side, universal)?;
     Ok(choices)
 }
 
 /// Extends each choice by a side for one more matching move.
-fn extend_all(alloc: Global, choices: Vec<Choice>, side: Side) -> Result<Vec<Choice>, NoMemory>
-    ensures { IfOk result (λ made. ExtendsAll side choices.items made.items) }
+fn extend_all(
+    alloc: Global,
+    choices: Vec<Choice>,
+    side: Side,
+    universal: &[bool],
+) -> Result<Vec<Choice>, NoMemory>
+    ensures { IfOk result (λ made. ExtendsAll universal.now side choices.items made.items) }
 {
     let mut choices = choices;
     let mut extended = Vec::new(alloc);
     while let Some(choice) = choices.pop() {
-        extended = add_extended(alloc, extended, choice, side)?;
+        extended = add_extended(alloc, extended, choice, side, universal)?;
     }
     Ok(extended)
 }
 
-/// The choices by which an element is refused by all matching moves.
-pub(crate) fn choices_of(alloc: Global, sides: &[Side]) -> Result<Vec<Choice>, NoMemory>
-    ensures { IfOk result (λ made. AreChoices sides.now made.items) }
+/// The choices by which an element is refused by all matching moves, without those that would have a
+/// state refuse that is known to accept everything.
+pub(crate) fn choices_of(
+    alloc: Global,
+    sides: &[Side],
+    universal: &[bool],
+) -> Result<Vec<Choice>, NoMemory>
+    ensures { IfOk result (λ made. AreChoices universal.now sides.now made.items) }
 {
     let mut choices = Vec::new(alloc);
     choices.push(Choice {
@@ -105,7 +152,7 @@ pub(crate) fn choices_of(alloc: Global, sides: &[Side]) -> Result<Vec<Choice>, N
         rests: Vec::new(alloc),
     })?;
     for side in sides {
-        choices = extend_all(alloc, choices, *side)?;
+        choices = extend_all(alloc, choices, *side, universal)?;
     }
     Ok(choices)
 }

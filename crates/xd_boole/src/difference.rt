@@ -8,6 +8,7 @@ ghost use Rattle.xd_auto.specs.Automaton.{Extends, IsState, accepts};
 ghost use Rattle.xd_empty.specs.Parts.{IsInhabitedPart};
 ghost use Rattle.xd_boole.specs.Meaning.{any_accepts, element_of, is_state, less, means, move_takes, text_of, text_takes};
 ghost use Rattle.xd_boole.specs.Groups.{AllPass, group_refuses, is_side, side_accepts};
+ghost use Rattle.xd_boole.specs.Universal.{MarkUniversal};
 ghost use Rattle.xd_boole.specs.Choices.{IsChoiceOf, choice_refuses};
 ghost use Rattle.xd_boole.specs.Points.{AddsLabels, AddsTexts, AreExpanded, ArePoints, IsStateFor, KeepsPoints, MoveBelow, TextBelow};
 
@@ -17,30 +18,45 @@ use crate::merging::merged;
 use crate::placing::place_points;
 use crate::points::{NewMoves, Points, copy_point, find_or_add, set_moves};
 use crate::states::set_of;
+use crate::universal::{any_marked, universal_states};
 use std::alloc::Global;
 use xd_auto::{Auto, LabelMove, State, TextMove, trim};
 use xd_doc::{Class, NoMemory, Words};
 use xd_empty::{inhabited, inhabited_part};
 
+/// What is taken away: states of an automaton, and of each whether it is known to accept everything.
+#[derive(Drop)]
+struct Taken {
+    auto: Auto,
+    universal: Vec<bool>,
+}
+
 /// The move on these labels by which the part goes on as the choice says.
 fn add_move(
     alloc: Global,
     auto: &Auto,
-    other: &Auto,
+    taken: &Taken,
     points: &mut Points,
     labels: &mut Vec<LabelMove>,
     part: Side,
     class: &Class,
     choice: &Choice,
 ) -> Result<(), NoMemory>
-    requires whole { ArePoints auto.now other.now points.old }
+    requires whole { ArePoints auto.now taken.now.auto points.old }
     requires below { AllByRecursion (MoveBelow (length points.old.points.items)) labels.old.items }
     requires part { is_side auto.now part ≡ true }
-    requires choice { IsChoiceOf other.now choice.now }
-    ensures { OnOk result (AddsLabels auto.now other.now points.old points.new labels.old.items labels.new.items (λ q. class_has class.now q.label && (side_accepts auto.now q.content q.rest part && choice_refuses other.now q.content q.rest choice.now))) }
+    requires choice { IsChoiceOf taken.now.auto choice.now }
+    ensures { OnOk result (AddsLabels auto.now taken.now.auto points.old points.new labels.old.items labels.new.items (λ q. class_has class.now q.label && (side_accepts auto.now q.content q.rest part && choice_refuses taken.now.auto q.content q.rest choice.now))) }
 {
-    let content = find_or_add(alloc, auto, other, points, part.content, &choice.contents)?;
-    let rest = find_or_add(alloc, auto, other, points, part.rest, &choice.rests)?;
+    let content = find_or_add(
+        alloc,
+        auto,
+        &taken.auto,
+        points,
+        part.content,
+        &choice.contents,
+    )?;
+    let rest = find_or_add(alloc, auto, &taken.auto, points, part.rest, &choice.rests)?;
     labels.push(LabelMove {
         class: class.share()?,
         content,
@@ -53,24 +69,25 @@ fn add_move(
 fn add_group(
     alloc: Global,
     auto: &Auto,
-    other: &Auto,
+    taken: &Taken,
     points: &mut Points,
     labels: &mut Vec<LabelMove>,
     part: Side,
     group: &Group<Class, Side>,
 ) -> Result<(), NoMemory>
-    requires whole { ArePoints auto.now other.now points.old }
+    requires whole { ArePoints auto.now taken.now.auto points.old }
     requires below { AllByRecursion (MoveBelow (length points.old.points.items)) labels.old.items }
     requires part { is_side auto.now part ≡ true }
-    requires group { AllPass (is_side other.now) group.now.sides.items }
-    ensures { OnOk result (AddsLabels auto.now other.now points.old points.new labels.old.items labels.new.items (λ q. side_accepts auto.now q.content q.rest part && group_refuses class_has (side_accepts other.now q.content q.rest) q.label group.now)) }
+    requires group { AllPass (is_side taken.now.auto) group.now.sides.items }
+    requires universal { MarkUniversal taken.now.auto taken.now.universal.items }
+    ensures { OnOk result (AddsLabels auto.now taken.now.auto points.old points.new labels.old.items labels.new.items (λ q. side_accepts auto.now q.content q.rest part && group_refuses class_has (side_accepts taken.now.auto q.content q.rest) q.label group.now)) }
 {
-    let choices = choices_of(alloc, &group.sides)?;
+    let choices = choices_of(alloc, &group.sides, &taken.universal)?;
     for choice in &choices {
         add_move(
             alloc,
             auto,
-            other,
+            taken,
             points,
             labels,
             part,
@@ -85,21 +102,22 @@ fn add_group(
 fn add_labels(
     alloc: Global,
     auto: &Auto,
-    other: &Auto,
+    taken: &Taken,
     points: &mut Points,
     labels: &mut Vec<LabelMove>,
     step: &LabelMove,
     rights: &[State],
 ) -> Result<(), NoMemory>
-    requires whole { ArePoints auto.now other.now points.old }
+    requires whole { ArePoints auto.now taken.now.auto points.old }
     requires below { AllByRecursion (MoveBelow (length points.old.points.items)) labels.old.items }
     requires step { MoveBelow (length auto.now) step.now }
-    requires rights { AllByRecursion (IsState other.now) rights.now }
-    ensures { OnOk result (AddsLabels auto.now other.now points.old points.new labels.old.items labels.new.items (λ q. move_takes auto.now q step.now && not (any_accepts other.now rights.now (element_of q)))) }
+    requires rights { AllByRecursion (IsState taken.now.auto) rights.now }
+    requires universal { MarkUniversal taken.now.auto taken.now.universal.items }
+    ensures { OnOk result (AddsLabels auto.now taken.now.auto points.old points.new labels.old.items labels.new.items (λ q. move_takes auto.now q step.now && not (any_accepts taken.now.auto rights.now (element_of q)))) }
 {
-    let groups = label_groups(alloc, other, &step.class, rights)?;
+    let groups = label_groups(alloc, &taken.auto, &step.class, rights)?;
     for group in &groups {
-        add_group(alloc, auto, other, points, labels, step.side(), group)?;
+        add_group(alloc, auto, taken, points, labels, step.side(), group)?;
     }
     Ok(())
 }
@@ -108,41 +126,46 @@ fn add_labels(
 fn label_moves(
     alloc: Global,
     auto: &Auto,
-    other: &Auto,
+    taken: &Taken,
     points: &mut Points,
     left: State,
     rights: &[State],
 ) -> Result<Vec<LabelMove>, NoMemory>
-    requires whole { ArePoints auto.now other.now points.old }
+    requires whole { ArePoints auto.now taken.now.auto points.old }
     requires left { IsState auto.now left }
-    requires rights { AllByRecursion (IsState other.now) rights.now }
-    ensures { IfOk result (λ labels. AddsLabels auto.now other.now points.old points.new [] labels.items (λ q. means auto.now other.now (less left rights.now) (element_of q))) }
+    requires rights { AllByRecursion (IsState taken.now.auto) rights.now }
+    requires universal { MarkUniversal taken.now.auto taken.now.universal.items }
+    ensures { IfOk result (λ labels. AddsLabels auto.now taken.now.auto points.old points.new [] labels.items (λ q. means auto.now taken.now.auto (less left rights.now) (element_of q))) }
 {
     let mut labels = Vec::new(alloc);
     for step in auto.label_moves(left) {
-        add_labels(alloc, auto, other, points, &mut labels, step, rights)?;
+        add_labels(alloc, auto, taken, points, &mut labels, step, rights)?;
     }
     Ok(labels)
 }
 
-/// The move for the texts of a group.
+/// The move for the texts of a group; none where one of its states is known to accept everything.
 fn add_text_group(
     alloc: Global,
     auto: &Auto,
-    other: &Auto,
+    taken: &Taken,
     points: &mut Points,
     texts: &mut Vec<TextMove>,
     rest: State,
     group: &Group<Words, State>,
 ) -> Result<(), NoMemory>
-    requires whole { ArePoints auto.now other.now points.old }
+    requires whole { ArePoints auto.now taken.now.auto points.old }
     requires below { AllByRecursion (TextBelow (length points.old.points.items)) texts.old.items }
     requires rest { IsState auto.now rest }
-    requires group { AllPass (is_state other.now) group.now.sides.items }
-    ensures { OnOk result (AddsTexts auto.now other.now points.old points.new texts.old.items texts.new.items (λ q. accepts auto.now q.rest rest && group_refuses class_has (λ s. accepts other.now q.rest s) q.characters group.now)) }
+    requires group { AllPass (is_state taken.now.auto) group.now.sides.items }
+    requires universal { MarkUniversal taken.now.auto taken.now.universal.items }
+    ensures { OnOk result (AddsTexts auto.now taken.now.auto points.old points.new texts.old.items texts.new.items (λ q. accepts auto.now q.rest rest && group_refuses class_has (λ s. accepts taken.now.auto q.rest s) q.characters group.now)) }
 {
+    if any_marked(&taken.universal, &group.sides) {
+        return Ok(());
+    }
     let rights = set_of(alloc, &group.sides)?;
-    let rest = find_or_add(alloc, auto, other, points, rest, &rights)?;
+    let rest = find_or_add(alloc, auto, &taken.auto, points, rest, &rights)?;
     texts.push(TextMove {
         words: group.class.share()?,
         rest,
@@ -154,21 +177,22 @@ fn add_text_group(
 fn add_texts(
     alloc: Global,
     auto: &Auto,
-    other: &Auto,
+    taken: &Taken,
     points: &mut Points,
     texts: &mut Vec<TextMove>,
     step: &TextMove,
     rights: &[State],
 ) -> Result<(), NoMemory>
-    requires whole { ArePoints auto.now other.now points.old }
+    requires whole { ArePoints auto.now taken.now.auto points.old }
     requires below { AllByRecursion (TextBelow (length points.old.points.items)) texts.old.items }
     requires step { TextBelow (length auto.now) step.now }
-    requires rights { AllByRecursion (IsState other.now) rights.now }
-    ensures { OnOk result (AddsTexts auto.now other.now points.old points.new texts.old.items texts.new.items (λ q. text_takes auto.now q step.now && not (any_accepts other.now rights.now (text_of q)))) }
+    requires rights { AllByRecursion (IsState taken.now.auto) rights.now }
+    requires universal { MarkUniversal taken.now.auto taken.now.universal.items }
+    ensures { OnOk result (AddsTexts auto.now taken.now.auto points.old points.new texts.old.items texts.new.items (λ q. text_takes auto.now q step.now && not (any_accepts taken.now.auto rights.now (text_of q)))) }
 {
-    let groups = text_groups(alloc, other, &step.words, rights)?;
+    let groups = text_groups(alloc, &taken.auto, &step.words, rights)?;
     for group in &groups {
-        add_text_group(alloc, auto, other, points, texts, step.rest, group)?;
+        add_text_group(alloc, auto, taken, points, texts, step.rest, group)?;
     }
     Ok(())
 }
@@ -177,19 +201,20 @@ fn add_texts(
 fn text_moves(
     alloc: Global,
     auto: &Auto,
-    other: &Auto,
+    taken: &Taken,
     points: &mut Points,
     left: State,
     rights: &[State],
 ) -> Result<Vec<TextMove>, NoMemory>
-    requires whole { ArePoints auto.now other.now points.old }
+    requires whole { ArePoints auto.now taken.now.auto points.old }
     requires left { IsState auto.now left }
-    requires rights { AllByRecursion (IsState other.now) rights.now }
-    ensures { IfOk result (λ texts. AddsTexts auto.now other.now points.old points.new [] texts.items (λ q. means auto.now other.now (less left rights.now) (text_of q))) }
+    requires rights { AllByRecursion (IsState taken.now.auto) rights.now }
+    requires universal { MarkUniversal taken.now.auto taken.now.universal.items }
+    ensures { IfOk result (λ texts. AddsTexts auto.now taken.now.auto points.old points.new [] texts.items (λ q. means auto.now taken.now.auto (less left rights.now) (text_of q))) }
 {
     let mut texts = Vec::new(alloc);
     for step in auto.text_moves(left) {
-        add_texts(alloc, auto, other, points, &mut texts, step, rights)?;
+        add_texts(alloc, auto, taken, points, &mut texts, step, rights)?;
     }
     Ok(texts)
 }
@@ -198,13 +223,14 @@ fn text_moves(
 fn expand(
     alloc: Global,
     auto: &Auto,
-    other: &Auto,
+    taken: &Taken,
     points: &mut Points,
     number: usize,
 ) -> Result<(), NoMemory>
-    requires expanded { AreExpanded auto.now other.now points.old number }
+    requires expanded { AreExpanded auto.now taken.now.auto points.old number }
     requires number { number < length points.old.points.items }
-    ensures expanded { OnOk result (AreExpanded auto.now other.now points.new (number + 1)) }
+    requires universal { MarkUniversal taken.now.auto taken.now.universal.items }
+    ensures expanded { OnOk result (AreExpanded auto.now taken.now.auto points.new (number + 1)) }
     ensures grows { OnOk result (KeepsPoints points.old points.new) }
 {
     let _states = points.made.len();
@@ -212,8 +238,8 @@ fn expand(
     if rights.is_empty() {
         return Ok(());
     }
-    let labels = label_moves(alloc, auto, other, points, left, &rights)?;
-    let texts = text_moves(alloc, auto, other, points, left, &rights)?;
+    let labels = label_moves(alloc, auto, taken, points, left, &rights)?;
+    let texts = text_moves(alloc, auto, taken, points, left, &rights)?;
     let state = points.made.state(number);
     set_moves(&mut points.made, state, NewMoves { labels, texts })?;
     Ok(())
@@ -225,20 +251,21 @@ fn expand(
 fn difference(
     alloc: Global,
     auto: &Auto,
-    other: &Auto,
+    taken: &Taken,
     left: State,
     right: State,
 ) -> Result<(Points, State), NoMemory>
     requires left { IsState auto.now left }
-    requires right { IsState other.now right }
-    ensures expanded { IfOk result (λ made. AreExpanded auto.now other.now made.0 (length made.0.points.items)) }
+    requires right { IsState taken.now.auto right }
+    requires universal { MarkUniversal taken.now.auto taken.now.universal.items }
+    ensures expanded { IfOk result (λ made. AreExpanded auto.now taken.now.auto made.0 (length made.0.points.items)) }
     ensures start { IfOk result (λ made. IsStateFor made.0 left (right ∷ []) made.1) }
 {
     let mut points = Points::new(alloc);
-    let start = find_or_add(alloc, auto, other, &mut points, left, &[right])?;
+    let start = find_or_add(alloc, auto, &taken.auto, &mut points, left, &[right])?;
     let mut number = 0;
     while number < points.points.len() {
-        expand(alloc, auto, other, &mut points, number)?;
+        expand(alloc, auto, taken, &mut points, number)?;
         number += 1;
     }
     Ok((points, start))
@@ -250,8 +277,8 @@ fn difference(
 /// none of which may accept. Where the set is empty this is the old state itself. An element is
 /// refused by all of the set where, for each of their moves that match it, one state refuses its
 /// content or one refuses what follows: so a move is made for each choice of these, but where one
-/// choice asks for all that another asks for. The labels of a move are divided only where moves tell
-/// them apart. Of the new states those are left out that accept nothing, whatever the old ones accept.
+/// choice asks for all that another asks for, or asks it of a state that plainly accepts everything, as
+/// that of `Any` does. The labels of a move are divided only where moves tell them apart. Of the new states those are left out that accept nothing, whatever the old ones accept.
 /// The number of states may be exponential in that of the other automaton; it is about the product of
 /// both where few moves of a state match the same label. (Hosoya, Vouillon and Pierce, *Regular
 /// expression types for XML*, 2005, section 4, whose subtyping divides goals by the same choices.)
@@ -270,10 +297,14 @@ pub fn subtract(
 {
     let (part, right) = trim(alloc, other, right)?;
     let part = merged(alloc, &part)?;
-    let _states = auto.len();
-    let (points, start) = difference(alloc, auto, &part, left, right)?;
+    let universal = universal_states(alloc, &part)?;
+    let taken = Taken {
+        auto: part,
+        universal,
+    };
+    let (points, start) = difference(alloc, auto, &taken, left, right)?;
     let marks = inhabited(alloc, &points.made)?;
-    let state = place_points(alloc, auto, &part, &points, &marks, start)?;
+    let state = place_points(alloc, auto, &taken.auto, &points, &marks, start)?;
     Ok(state)
 }
 

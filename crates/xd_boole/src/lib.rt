@@ -10,6 +10,7 @@ mod placing;
 mod points;
 mod products;
 mod states;
+mod universal;
 
 pub use difference::{minus, subtract};
 pub use products::product;

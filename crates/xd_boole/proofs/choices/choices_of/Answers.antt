@@ -9,4 +9,4 @@ loop-side-preserved c =
     let i = c.loop-side.side-index in
     let none : Side = record { content = record { number = 0 }; rest = record { number = 0 } } in
     let at = at_itself c.args.sides.now i none c.loop-side-test.true in
-    choices_more c.args.sides.now i (get_or c.args.sides.now i none) c.loop-side.choices.items c.in_ok-choices.choices.items c.loop-side-test.true at c.in_ok-choices.ensures c.loop-side.invariant
+    choices_more c.args.universal.now c.args.sides.now i (get_or c.args.sides.now i none) c.loop-side.choices.items c.in_ok-choices.choices.items c.loop-side-test.true at c.in_ok-choices.ensures c.loop-side.invariant

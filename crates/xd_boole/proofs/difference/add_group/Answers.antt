@@ -1,17 +1,20 @@
-use Rattle.std.proofs.Common.{subst, sym}
+use Rattle.std.proofs.Common.{◌&&◌, not, ap, ◌∙◌, subst, sym}
+use Rattle.std.specs.List.{list_any}
 use Rattle.xd_doc.specs.Classes.{class_has}
 use Rattle.xd_boole.specs.Groups.{AllPass, is_side, side_accepts}
-use Rattle.xd_boole.specs.Choices.{AllChoices, IsChoiceOf, choice_refuses}
+use Rattle.xd_boole.specs.Choices.{AllChoices, IsChoiceOf, any_choice, choice_refuses}
+use Rattle.xd_boole.specs.Universal.{MarkUniversal}
 use Rattle.xd_boole.specs.Points.{MoveBelow, label_means}
 use Rattle.xd_boole.proofs.Adding.{grows_same}
 use Rattle.xd_boole.proofs.Differing.{and_nothing, both_more}
-use Rattle.xd_boole.proofs.Growing.{adds_none, adds_then, label_below_more, label_stays}
-use Rattle.xd_boole.proofs.Lists.{all_step}
+use Rattle.xd_boole.proofs.Growing.{adds_like, adds_none, adds_then, label_below_more, label_stays}
+use Rattle.xd_boole.proofs.Bools.{part_group}
+use Rattle.xd_boole.proofs.Lists.{all_step, any_walked}
 use Rattle.xd_boole.proofs.difference.add_group.Goals as goal
 
 pub loop-choice-init : goal.loop-choice-init
 loop-choice-init c =
-    let a = c.args.auto.now in let b = c.args.other.now in
+    let a = c.args.auto.now in let b = c.args.taken.now.auto in
     record {
       adds = adds_none MoveBelow (label_means a b) a b (label_stays a b) label_below_more c.args.points.now c.args.labels.now.items _ c.requires.whole c.requires.below (grows_same c.args.points.now)
           (λ q. and_nothing (class_has c.args.group.now.class q.label) (side_accepts a q.content q.rest c.args.part));
@@ -20,7 +23,7 @@ loop-choice-init c =
 
 pub loop-choice-preserved : goal.loop-choice-preserved
 loop-choice-preserved c =
-    let a = c.args.auto.now in let b = c.args.other.now in
+    let a = c.args.auto.now in let b = c.args.taken.now.auto in
     let items = c.deref-choice-items.result.now in
     let i = c.loop-choice.choice-index in
     let x = c.choice-item.result in
@@ -30,3 +33,17 @@ loop-choice-preserved c =
           (λ q. both_more (choice_refuses b q.content q.rest) items i x (class_has c.args.group.now.class q.label) (side_accepts a q.content q.rest c.args.part) c.loop-choice-test.true c.choice-item.is);
       left = next.1;
     }
+
+pub returns : goal.returns
+returns c =
+    let a = c.args.auto.now in
+    let b = c.args.taken.now.auto in
+    let group = c.args.group.now in
+    let items = c.deref-choice-items.result.now in
+    let universal : MarkUniversal b c.deref-2.result.now = subst (MarkUniversal b) (sym c.deref-2.ensures.value) c.requires.universal in
+    adds_like MoveBelow (label_means a b) a b (label_stays a b) label_below_more c.args.points.now c.loop-choice.points c.args.labels.now.items c.loop-choice.labels.items _ _ c.loop-choice.invariant.adds
+    (λ q.
+    ap (λ w. class_has group.class q.label && (side_accepts a q.content q.rest c.args.part && w))
+    (any_walked (choice_refuses b q.content q.rest) items c.loop-choice.choice-index c.loop-choice-test.false ∙ ap (any_choice b q.content q.rest) c.deref-choice-items.ensures.value
+    ∙ c.in_ok-choices.ensures.refused b universal q.content q.rest ∙ ap (λ ss. not (list_any (side_accepts b q.content q.rest) ss)) c.deref.ensures.value)
+    ∙ part_group (side_accepts a q.content q.rest c.args.part) (class_has group.class q.label) (not (list_any (side_accepts b q.content q.rest) group.sides.items)))

@@ -4,9 +4,9 @@ use Rattle.xd_boole.specs.Points.{AreExpanded}
 use Rattle.xd_boole.proofs.difference.difference.Goals as goal
 
 pub find_or_add-requires-clause-whole : goal.find_or_add-requires-clause-whole
-find_or_add-requires-clause-whole c = c.new-points.ensures.whole c.args.auto.now c.args.other.now
+find_or_add-requires-clause-whole c = c.new-points.ensures.whole c.args.auto.now c.args.taken.now.auto
 
 pub returns-clause-expanded : goal.returns-clause-expanded
 returns-clause-expanded c =
     let all : c.loop-number.number ≡ length c.loop-number.points.points.items = grind (arith, common_steps) in
-    subst (λ (n : ℕ). AreExpanded c.args.auto.now c.args.other.now c.loop-number.points n) all c.loop-number.invariant.expanded
+    subst (λ (n : ℕ). AreExpanded c.args.auto.now c.args.taken.now.auto c.loop-number.points n) all c.loop-number.invariant.expanded

@@ -4,7 +4,7 @@ use Rattle.xd_boole.proofs.difference.difference.Given as goal
 
 abbrev pub invariant-loop-number : goal.invariant-loop-number
 invariant-loop-number l = record {
-  expanded : AreExpanded l.fn.auto l.fn.other l.points l.number;
+  expanded : AreExpanded l.fn.auto l.fn.taken.auto l.points l.number;
   start : IsStateFor l.points l.fn.left (l.fn.right ∷ []) l.start;
   within : l.number ≤ length l.points.points.items;
 }

@@ -7,7 +7,7 @@ use Rattle.xd_boole.proofs.difference.expand.Goals as goal
 
 pub returns-clause-expanded : goal.returns-clause-expanded
 returns-clause-expanded c =
-    let a = c.args.auto.now in let b = c.args.other.now in
+    let a = c.args.auto.now in let b = c.args.taken.now.auto in
     let p = c.args.points.now in
     let i = c.args.number in
     expanded_more a b p c.label_moves.new.points c.text_moves.new.points c.set_moves.new.made i c.in_ok-labels.labels.items c.in_ok-texts.texts.items _ _
@@ -19,7 +19,7 @@ returns-clause-expanded c =
 pub returns-then-is_empty : goal.returns-then-is_empty
 returns-then-is_empty c =
     let a = c.args.auto.now in
-    let b = c.args.other.now in
+    let b = c.args.taken.now.auto in
     let p = c.args.points.now in
     let rights = c.in_ok-left.rights in
     let count : vec_len rights ≡ 0 = same_number (vec_len rights) 0 (sym c.is_empty.ensures ∙ c.if-is_empty.true) in

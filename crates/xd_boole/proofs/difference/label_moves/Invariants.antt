@@ -6,6 +6,6 @@ use Rattle.xd_boole.proofs.difference.label_moves.Given as goal
 
 abbrev pub invariant-loop-step : goal.invariant-loop-step
 invariant-loop-step l = record {
-  adds : AddsLabels l.auto' l.other l.initial.points l.points [] l.labels.items (λ q. list_any (move_takes l.auto' q) (take l.step-index l.step-items) && not (any_accepts l.other l.rights (element_of q)));
+  adds : AddsLabels l.auto' l.taken.auto l.initial.points l.points [] l.labels.items (λ q. list_any (move_takes l.auto' q) (take l.step-index l.step-items) && not (any_accepts l.taken.auto l.rights (element_of q)));
   left : AllByRecursion (MoveBelow (length l.auto')) (drop l.step-index l.step-items);
 }

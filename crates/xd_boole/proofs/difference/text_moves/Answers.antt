@@ -8,7 +8,7 @@ use Rattle.xd_boole.proofs.difference.text_moves.Goals as goal
 
 pub loop-step-preserved : goal.loop-step-preserved
 loop-step-preserved c =
-    let a = c.args.auto.now in let b = c.args.other.now in
+    let a = c.args.auto.now in let b = c.args.taken.now.auto in
     let items = c.text_moves-step-items.result.now in
     let i = c.loop-step.step-index in
     let x = c.step-item.result in

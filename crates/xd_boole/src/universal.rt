@@ -1,0 +1,171 @@
+//! States that accept every document in a plain way.
+
+ghost use Rattle.std.specs.Prelude.{◌≡◌, ◌<◌, true, length, IfOk};
+ghost use Rattle.std.specs.List.{AllByRecursion, list_any};
+ghost use Rattle.std.specs.Option.{IfSome};
+ghost use Rattle.xd_auto.specs.Automaton.{IsState};
+ghost use Rattle.xd_empty.specs.Parts.{is_marked};
+ghost use Rattle.xd_boole.specs.Universal.{AcceptsAll, MarkUniversal, TakesAll, has_all, leads_all, text_leads_all};
+
+use crate::states::has_state;
+use std::alloc::Global;
+use xd_auto::{Auto, LabelMove, State, TextMove};
+use xd_doc::{Class, NoMemory, Words};
+
+/// Whether the class has all labels.
+fn has_all_labels(class: &Class) -> bool
+    ensures { result ≡ has_all class.now }
+{
+    class.takes_others() && class.names().is_empty()
+}
+
+/// Whether the class has all texts.
+fn has_all_texts(words: &Words) -> bool
+    ensures { result ≡ has_all words.now }
+{
+    words.takes_others() && words.texts().is_empty()
+}
+
+/// Whether the move is for all labels, and leads to some of these states.
+fn leads_all(step: &LabelMove, states: &[State]) -> bool
+    ensures { result ≡ leads_all states.now step.now }
+{
+    has_all_labels(&step.class) && has_state(states, step.content) && has_state(states, step.rest)
+}
+
+/// Whether one of the moves is for all labels, and leads to some of these states.
+fn any_leads(moves: &[LabelMove], states: &[State]) -> bool
+    ensures { result ≡ list_any (leads_all states.now) moves.now }
+{
+    for step in moves {
+        if leads_all(step, states) {
+            return true;
+        }
+    }
+    false
+}
+
+/// The same of a move for all texts.
+fn text_leads_all(step: &TextMove, states: &[State]) -> bool
+    ensures { result ≡ text_leads_all states.now step.now }
+{
+    has_all_texts(&step.words) && has_state(states, step.rest)
+}
+
+fn any_text_leads(moves: &[TextMove], states: &[State]) -> bool
+    ensures { result ≡ list_any (text_leads_all states.now) moves.now }
+{
+    for step in moves {
+        if text_leads_all(step, states) {
+            return true;
+        }
+    }
+    false
+}
+
+/// Whether the state accepts the empty document, and leads over every element and every text to some
+/// of these states.
+fn takes_all(auto: &Auto, states: &[State], state: State) -> bool
+    requires { IsState auto.now state }
+    ensures { result ≡ true → TakesAll auto.now states.now state }
+{
+    if !auto.is_last(state) {
+        return false;
+    }
+    if !any_leads(auto.label_moves(state), states) {
+        return false;
+    }
+    any_text_leads(auto.text_moves(state), states)
+}
+
+/// Whether all of the states do.
+fn all_take_all(auto: &Auto, states: &[State]) -> bool
+    requires { AllByRecursion (IsState auto.now) states.now }
+    ensures { result ≡ true → AllByRecursion (TakesAll auto.now states.now) states.now }
+{
+    for state in states {
+        if !takes_all(auto, states, *state) {
+            return false;
+        }
+    }
+    true
+}
+
+/// The number of the first move that is for all labels.
+fn all_labels(moves: &[LabelMove]) -> Option<usize>
+    ensures { IfSome result (λ number. number < length moves.now) }
+{
+    for number in 0..moves.len() {
+        if has_all_labels(&moves[number].class) {
+            return Some(number);
+        }
+    }
+    None
+}
+
+/// The number of the first move that is for all texts.
+fn all_texts(moves: &[TextMove]) -> Option<usize>
+    ensures { IfSome result (λ number. number < length moves.now) }
+{
+    for number in 0..moves.len() {
+        if has_all_texts(&moves[number].words) {
+            return Some(number);
+        }
+    }
+    None
+}
+
+/// Whether a state accepts every document in a plain way: it, and the states that its first moves for
+/// all names lead to, accept the empty document and have such moves among themselves. Other states that
+/// accept everything aren't found.
+fn is_universal(auto: &Auto, state: State) -> bool
+    requires { IsState auto.now state }
+    ensures { result ≡ true → AcceptsAll auto.now state }
+{
+    let labels = auto.label_moves(state);
+    let texts = auto.text_moves(state);
+    let Some(label) = all_labels(labels) else {
+        return false;
+    };
+    let Some(text) = all_texts(texts) else {
+        return false;
+    };
+    let step = &labels[label];
+    let last = &texts[text];
+    let states = [state, step.content, step.rest, last.rest];
+    all_take_all(auto, &states)
+}
+
+/// For each state whether it accepts every document in a plain way.
+pub(crate) fn universal_states(alloc: Global, auto: &Auto) -> Result<Vec<bool>, NoMemory>
+    ensures { IfOk result (λ marks. MarkUniversal auto.now marks.items) }
+{
+    let mut marks = Vec::with_capacity(alloc, auto.len())?;
+    for number in 0..auto.len() {
+        marks.push(is_universal(auto, auto.state(number)))?;
+    }
+    Ok(marks)
+}
+
+/// Whether the state is marked.
+pub(crate) fn is_marked(marks: &[bool], state: State) -> bool
+    ensures { result ≡ is_marked marks.now state }
+{
+    if state.number() < marks.len() {
+        marks[state.number()]
+    } else {
+        false
+    }
+}
+
+/// Whether one of the states is.
+pub(crate) fn any_marked(marks: &[bool], states: &[State]) -> bool
+    ensures { result ≡ list_any (is_marked marks.now) states.now }
+{
+    for state in states {
+        if is_marked(marks, *state) {
+            return true;
+        }
+    }
+    false
+}
