@@ -9,7 +9,7 @@ use std::alloc::Global;
 use xd_auto::{Auto, State};
 use xd_doc::NoMemory;
 use xd_empty::inhabited_part;
-use xd_traces::pair_up;
+use xd_traces::{add_universal, pair_up};
 
 /// A state that accepts exactly what both accept.
 ///
@@ -28,7 +28,12 @@ pub fn product(
     ensures start { IfOk result (λ made. IsState made.0 made.1) }
     ensures inhabited { IfOk result (λ made. IsInhabitedPart made.0 made.1) }
 {
-    let pairs = pair_up(alloc, one, first, two, second)?;
-    let (part, start) = inhabited_part(alloc, &pairs.auto, pairs.start)?;
+    let mut left = Auto::new(alloc);
+    let all = add_universal(alloc, &mut left)?;
+    let first = left.absorb(one, first)?;
+    let mut made = Auto::new(alloc);
+    let second = made.absorb(two, second)?;
+    let pairs = pair_up(alloc, &left, first, all, &mut made, second)?;
+    let (part, start) = inhabited_part(alloc, &made, pairs.start)?;
     Ok((part, start))
 }
