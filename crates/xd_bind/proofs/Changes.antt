@@ -1,62 +1,25 @@
 -- On automata in which one state gets more moves.
-use Rattle.std.proofs.Common.{◌≡◌, ◌≢◌, ℕ, zero, suc, ◌+◌, ◌<◌, ⊎_elim, Bool, true, false, cond, List, [], ◌∷◌, ◌++◌, map, length, take, get_or, get_or-set_same, get_or-set_other, refl, sym, ap, ◌∙◌, arith, append_assoc, add-one, length-append}
-use Rattle.std.proofs.Math.ListN.{length-set}
+use Rattle.std.proofs.Common.{◌≡◌, ◌≢◌, ℕ, zero, suc, ◌+◌, ◌-◌, ◌<◌, ◌≤◌, ⊎_elim, Bool, true, false, cond, List, [], ◌∷◌, ◌++◌, map, length, take, get_or, refl, sym, ap, ◌∙◌, arith, add-one, length-append}
 use mathlib.Core.Bool.{beq}
 use Rattle.xd_auto.specs.declared.auto.State.{State}
 use Rattle.xd_auto.specs.declared.auto.LabelMove.{LabelMove}
 use Rattle.xd_auto.specs.declared.auto.TextMove.{TextMove}
-use Rattle.xd_auto.specs.Automaton.{Automaton, StateMoves, IsState, moves_at, no_moves, with_moves, with_label_move, with_text_move}
+use Rattle.xd_auto.specs.Automaton.{Automaton, StateMoves, ChangesOnly, Extends, IsState, moves_at, no_moves}
+use Rattle.std.specs.List.{All}
 use Rattle.std.proofs.lemmas.Bool.{cases_eq}
+use Rattle.std.proofs.lemmas.List.Elements.{All-cons, All-head, All-tail}
 use Rattle.std.proofs.lemmas.List.{get_or_append_left, get_or-append_right}
 use Rattle.xd_doc.specs.Classes.{LabelClass, TextClass}
-use Rattle.xd_empty.specs.Parts.{is_marked}
 use Rattle.xd_traces.specs.Traces.{Owned}
-use Rattle.xd_bind.specs.Blocks.{IsChange, IsFilledTo, IsPart, chosen, is_side, onward, rest_onward, text_onward, with_side}
+use Rattle.xd_bind.specs.declared.parts.Part.{Part}
+use Rattle.xd_bind.specs.Marks.{mark_of}
+use Rattle.xd_bind.specs.Shifts.{onward, shifted}
+use Rattle.xd_bind.specs.Blocks.{IsChange, IsFilledTo, IsPart, StaysBelow, chosen, is_side, label_onto, text_onto, with_side}
+use Rattle.xd_bind.proofs.Shifting.{shifted_above}
 
 append_none : {X : Type 0} (xs : List X) → xs ++ [] ≡ xs
 append_none [] = refl
 append_none (x ∷ xs) = ap (λ ys. x ∷ ys) (append_none xs)
-
--- the moves with none behind them
-pub no_more_labels : (m : StateMoves) → m ≡ record { last = m.last; labels = m.labels ++ []; texts = m.texts }
-no_more_labels m = rw (append_none m.labels) refl
-
-pub no_more_texts : (m : StateMoves) → m ≡ record { last = m.last; labels = m.labels; texts = m.texts ++ [] }
-no_more_texts m = rw (append_none m.texts) refl
-
-pub IsChange-none : (a : Automaton) (at : State) (m : StateMoves) → moves_at a at ≡ m → IsChange a a at m
-IsChange-none a at m e = record { states = refl; here = e; others = λ s ne. refl }
-
-change_more : (a b : Automaton) (at : State) (m n : StateMoves) → IsState b at → IsChange a b at m → IsChange a (with_moves b at n) at n
-change_more a b at m n here h = record {
-  states = length-set b at.number n ∙ h.states;
-  here = get_or-set_same b at.number n (no_moves false) here;
-  others = λ s ne. get_or-set_other b at.number s.number n (no_moves false) ne ∙ h.others s ne;
-}
-
-pub change_text : (a b c : Automaton) (at : State) (q : TextMove) (m n : StateMoves) → IsState b at → IsChange a b at m → c ≡ with_text_move b at q
-    → record m { texts = m.texts ++ q ∷ [] } ≡ n → IsChange a c at n
-change_text a b c at q m n here h e f =
-    let k = change_more a b at m (record (moves_at b at) { texts = (moves_at b at).texts ++ q ∷ [] }) here h in
-    record {
-      states = ap (λ (w : Automaton). length w) e ∙ k.states;
-      here = ap (λ (w : Automaton). moves_at w at) e ∙ k.here ∙ ap (λ (w : StateMoves). record w { texts = w.texts ++ q ∷ [] }) h.here ∙ f;
-      others = λ s ne. ap (λ (w : Automaton). moves_at w s) e ∙ k.others s ne;
-    }
-
-pub change_label : (a b c : Automaton) (at : State) (step : LabelMove) (m n : StateMoves) → IsState b at → IsChange a b at m → c ≡ with_label_move b at step
-    → record m { labels = m.labels ++ step ∷ [] } ≡ n → IsChange a c at n
-change_label a b c at step m n here h e f =
-    let k = change_more a b at m (record (moves_at b at) { labels = (moves_at b at).labels ++ step ∷ [] }) here h in
-    record {
-      states = ap (λ (w : Automaton). length w) e ∙ k.states;
-      here = ap (λ (w : Automaton). moves_at w at) e ∙ k.here ∙ ap (λ (w : StateMoves). record w { labels = w.labels ++ step ∷ [] }) h.here ∙ f;
-      others = λ s ne. ap (λ (w : Automaton). moves_at w s) e ∙ k.others s ne;
-    }
-
--- one change after another
-pub IsChange-trans : (a b c : Automaton) (at : State) (m n : StateMoves) → IsChange a b at m → IsChange b c at n → IsChange a c at n
-IsChange-trans a b c at m n h k = record { states = k.states ∙ h.states; here = k.here; others = λ s ne. k.others s ne ∙ h.others s ne }
 
 with_first : {X Y : Type 0} (f : X → Y) (v : Bool) (y : X) (ws bs : List X) (cs : List Y) → map f ws ≡ map f bs ++ cs → map f (cond v (y ∷ ws) ws) ≡ map f (cond v (y ∷ bs) bs) ++ cs
 with_first f true y ws bs cs e = ap (λ ys. f y ∷ ys) e
@@ -84,82 +47,113 @@ same_side true false = refl
 same_side false true = refl
 same_side false false = refl
 
-pub one_taken : {X Y : Type 0} (f : X → Y) (p : ℕ → Bool) (xs : List X) (i : ℕ) (x : X) (y : Y) (old : List Y) → i < length xs → x ≡ get_or xs i x → p i ≡ true → y ≡ f x
-    → (old ++ map f (chosen p (take i xs))) ++ y ∷ [] ≡ old ++ map f (chosen p (take (i + 1) xs))
-one_taken f p xs i x y old l e picked is =
-    append_assoc old (map f (chosen p (take i xs))) (y ∷ [])
-    ∙ ap (λ ys. old ++ ys) (rw is (sym (rw picked at (chosen_more f p xs i x l e))))
+-- of the moves so far, one more was taken or passed over
+pub one_taken : {X Y : Type 0} (f : X → Y) (p : ℕ → Bool) (xs : List X) (i : ℕ) (x : X) (made : List Y) (y : Y) → i < length xs → x ≡ get_or xs i x → p i ≡ true → y ≡ f x
+    → made ≡ map f (chosen p (take i xs)) → made ++ y ∷ [] ≡ map f (chosen p (take (i + 1) xs))
+one_taken f p xs i x made y l e picked is before =
+    ap (λ ys. ys ++ y ∷ []) before ∙ ap (λ w. map f (chosen p (take i xs)) ++ w ∷ []) is ∙ sym (rw picked at (chosen_more f p xs i x l e))
 
-pub one_passed : {X Y : Type 0} (f : X → Y) (p : ℕ → Bool) (xs : List X) (i : ℕ) (x : X) (old : List Y) → i < length xs → x ≡ get_or xs i x → p i ≡ false
-    → old ++ map f (chosen p (take i xs)) ≡ old ++ map f (chosen p (take (i + 1) xs))
-one_passed f p xs i x old l e picked =
-    ap (λ ys. old ++ ys) (sym (rw picked at (chosen_more f p xs i x l e) ∙ append_none (map f (chosen p (take i xs)))))
+pub one_passed : {X Y : Type 0} (f : X → Y) (p : ℕ → Bool) (xs : List X) (i : ℕ) (x : X) (made : List Y) → i < length xs → x ≡ get_or xs i x → p i ≡ false
+    → made ≡ map f (chosen p (take i xs)) → made ≡ map f (chosen p (take (i + 1) xs))
+one_passed f p xs i x made l e picked before = before ∙ sym (rw picked at (chosen_more f p xs i x l e) ∙ append_none (map f (chosen p (take i xs))))
 
-pub change_as : (a b c : Automaton) (at : State) (m n : StateMoves) → IsChange a b at m → c ≡ b → m ≡ n → IsChange a c at n
-change_as a b c at m n h e f = rw (e, ← f) h
+-- what holds of each move's copy holds of the chosen ones
+pub chosen_all : {X Y : Type 0} (P : Y → Type 0) (f : X → Y) (p : ℕ → Bool) (xs : List X) → All (λ x. P (f x)) xs → All P (map f (chosen p xs))
+chosen_all P f p [] h = λ i d lt. absurd (omega arith)
+chosen_all P f p (x ∷ xs) h = put (p 0) (chosen_all P f (λ n. p (suc n)) xs (All-tail (λ w. P (f w)) x xs h))
+  where
+    put : (v : Bool) → All P (map f (chosen (λ n. p (suc n)) xs)) → All P (map f (cond v (x ∷ chosen (λ n. p (suc n)) xs) (chosen (λ n. p (suc n)) xs)))
+    put true later = All-cons P (f x) (map f (chosen (λ n. p (suc n)) xs)) (All-head (λ w. P (f w)) x xs h) later
+    put false later = later
 
-pub same_move : (by : ℕ) (m : LabelMove) (c : LabelClass) (content rest : State) → c ≡ m.class → content.number ≡ m.content.number → rest.number ≡ by + m.rest.number
-    → record { class = c; content = content; rest = rest } ≡ rest_onward by m
-same_move by m c content rest e f g =
-    let k : content ≡ m.content = ap (λ (n : ℕ). record { number = n }) f in
-    let r : rest ≡ onward by m.rest = ap (λ (n : ℕ). record { number = n }) g in
-    rw (e, k, r) refl
+pub text_onto_is : (rests : State → State) (m : TextMove) (w : TextClass) (rest : State) → w ≡ m.words → rest ≡ rests m.rest → record { words = w; rest = rest } ≡ text_onto rests m
+text_onto_is rests m w rest e f = rw (e, f) refl
 
-pub same_text_move : (by : ℕ) (m : TextMove) (w : TextClass) (rest : State) → w ≡ m.words → rest.number ≡ by + m.rest.number → record { words = w; rest = rest } ≡ text_onward by m
-same_text_move by m w rest e g =
-    let r : rest ≡ onward by m.rest = ap (λ (n : ℕ). record { number = n }) g in
-    rw (e, r) refl
+pub label_onto_is : (contents rests : State → State) (m : LabelMove) (c : LabelClass) (content rest : State) → c ≡ m.class → content ≡ contents m.content → rest ≡ rests m.rest
+    → record { class = c; content = content; rest = rest } ≡ label_onto contents rests m
+label_onto_is contents rests m c content rest e f g = rw (e, f, g) refl
 
-pub IsFilledTo-none : (a : Automaton) (b : Owned) (own : Bool) (by : ℕ) (old : Automaton) → IsFilledTo a b own by old old 0
-IsFilledTo-none a b own by old = record { states = refl; below = λ s l. refl; filled = λ s l. absurd (omega arith); waiting = λ s l. refl }
+-- what changes in a state that an old automaton doesn't have
+pub extends_changed : (old mid new : Automaton) (at : State) → Extends old mid → length old ≤ at.number → ChangesOnly at mid new → Extends old new
+extends_changed old mid new at more fresh h = record {
+  states = λ s here. let k = more.states s here in omega (arith, h.states);
+  moves = λ s here. let ne : s.number ≢ at.number = omega arith in h.others s ne ∙ more.moves s here;
+}
 
--- one more state has its moves
-pub IsFilledTo-more : (a : Automaton) (b : Owned) (own : Bool) (by : ℕ) (old mid new : Automaton) (count : ℕ) (at state : State) → at.number ≡ by + count → state.number ≡ count
-    → IsFilledTo a b own by old mid count → IsChange mid new at (with_side b own by state (moves_at a state) (moves_at mid at)) → IsFilledTo a b own by old new (count + 1)
-IsFilledTo-more a b own by old mid new count at state e f h k = record {
+-- old states stay where those below their number do
+pub extends_stays : (old mid new : Automaton) (n : ℕ) → n ≡ length old → Extends old mid → length old ≤ length mid → StaysBelow n mid new → Extends old new
+extends_stays old mid new n e more longer h = record {
+  states = λ s here. omega (arith, h.states);
+  moves = λ s here. h.moves s (omega arith) ∙ more.moves s here;
+}
+
+pub IsFilledTo-none : (b : Owned) (part : Part) (old : Automaton) → IsFilledTo b part old old part.rests.base
+IsFilledTo-none b part old = record { states = refl; below = λ s l. refl; filled = λ s le l. absurd (omega arith); waiting = λ s l. refl }
+
+-- one more copy has its moves
+pub IsFilledTo-more : (b : Owned) (part : Part) (old mid new : Automaton) (count : ℕ) (at state : State) → at.number ≡ part.rests.by + count → state.number ≡ count → part.rests.base ≤ count
+    → count < part.rests.by + part.rests.base → IsFilledTo b part old mid count
+    → IsChange mid new at (with_side b part.own (shifted part.contents) (shifted part.rests) state (moves_at mid state) (moves_at mid at)) → IsFilledTo b part old new (count + 1)
+IsFilledTo-more b part old mid new count at state e f from before h k = record {
   states = k.states ∙ h.states;
   below = λ s l. let ne : s.number ≢ at.number = omega arith in k.others s ne ∙ h.below s l;
-  filled = λ s l. ⊎_elim
+  filled = λ s le l. ⊎_elim
       (λ same. let is : state ≡ s = ap (λ (n : ℕ). record { number = n }) (f ∙ sym same) in last s is)
-      (λ other. let ne : by + s.number ≢ at.number = omega arith in k.others (onward by s) ne ∙ h.filled s (omega arith))
+      (λ other. let ne : by + s.number ≢ at.number = omega arith in k.others (onward by s) ne ∙ h.filled s le (omega arith))
       (cases_eq s.number count);
   waiting = λ s l. let ne : by + s.number ≢ at.number = omega arith in k.others (onward by s) ne ∙ h.waiting s (omega arith);
 }
   where
+    by : ℕ
+    by = part.rests.by
+
+    side : State → StateMoves → StateMoves → StateMoves
+    side = with_side b part.own (shifted part.contents) (shifted part.rests)
+
     there : (s : State) → state ≡ s → at ≡ onward by s
     there s is = ap (λ (n : ℕ). record { number = n }) (e ∙ ap (λ n. by + n) (sym f ∙ ap (λ (q : State). q.number) is))
 
-    last : (s : State) → state ≡ s → moves_at new (onward by s) ≡ with_side b own by s (moves_at a s) (moves_at old (onward by s))
+    last : (s : State) → state ≡ s → moves_at new (onward by s) ≡ side s (moves_at old s) (moves_at old (onward by s))
     last s is =
         let t = there s is in
-        let w = h.waiting s (omega (arith, sym (ap (λ (q : State). q.number) is) ∙ f)) in
+        let here : s.number ≡ count = sym (ap (λ (q : State). q.number) is) ∙ f in
+        let w = h.waiting s (omega (arith, here)) in
+        let same = h.below s (omega (arith, here)) in
         ap (λ q. moves_at new q) (sym t) ∙ k.here
-        ∙ ap (λ q. with_side b own by q (moves_at a q) (moves_at mid at)) is
-        ∙ ap (λ q. with_side b own by s (moves_at a s) (moves_at mid q)) t
-        ∙ ap (λ m. with_side b own by s (moves_at a s) m) w
+        ∙ ap (λ q. side q (moves_at mid q) (moves_at mid at)) is
+        ∙ ap (λ m. side s m (moves_at mid at)) same
+        ∙ ap (λ q. side s (moves_at old s) (moves_at mid q)) t
+        ∙ ap (λ m. side s (moves_at old s) m) w
 
-no_moves_read : (lasts : List Bool) (n : ℕ) → n < length lasts → get_or (map no_moves lasts) n (no_moves false) ≡ no_moves (get_or lasts n false)
+pub no_moves_read : (lasts : List Bool) (n : ℕ) → n < length lasts → get_or (map no_moves lasts) n (no_moves false) ≡ no_moves (get_or lasts n false)
 no_moves_read [] n l = absurd (omega arith)
 no_moves_read (v ∷ lasts) zero l = refl
 no_moves_read (v ∷ lasts) (suc n) l = no_moves_read lasts n (omega arith)
 
-length-map' : (lasts : List Bool) → length (map no_moves lasts) ≡ length lasts
+pub length-map' : (lasts : List Bool) → length (map no_moves lasts) ≡ length lasts
 length-map' [] = refl
 length-map' (v ∷ lasts) = ap suc (length-map' lasts)
 
-pub part_of : (a : Automaton) (b : Owned) (own : Bool) (lasts : List Bool) (old mid new : Automaton) → length lasts ≡ length a → mid ≡ old ++ map no_moves lasts
-    → IsFilledTo a b own (length old) mid new (length a) → IsPart a b own lasts old new
-part_of a b own lasts old mid new long e h = record {
-  states = h.states ∙ ap (λ (w : Automaton). length w) e ∙ length-append old (map no_moves lasts) ∙ ap (λ n. length old + n) (length-map' lasts ∙ long);
-  keeps = λ s here. h.below s here ∙ ap (λ (w : Automaton). moves_at w s) e ∙ get_or_append_left old (map no_moves lasts) (no_moves false) s.number here;
-  side = λ s here.
-      h.filled s here
-      ∙ ap (λ (w : Automaton). with_side b own (length old) s (moves_at a s) (moves_at w (onward (length old) s))) e
-      ∙ ap (λ m. with_side b own (length old) s (moves_at a s) m) (behind s here);
+pub part_of : (b : Owned) (part : Part) (lasts : List Bool) (old mid new : Automaton) → part.rests.base + length lasts ≡ part.rests.end → part.rests.end ≤ length old → part.rests.by + part.rests.base ≡ length old
+    → mid ≡ old ++ map no_moves lasts → IsFilledTo b part mid new part.rests.end → Extends old new → IsPart b part lasts old new
+part_of b part lasts old mid new long behind by e h more = record {
+  states = h.states ∙ size;
+  extends = more;
+  side = λ s le lt.
+      ap (λ q. moves_at new q) (shifted_above part.rests s le) ∙ h.filled s le lt
+      ∙ ap (λ m. with_side b part.own (shifted part.contents) (shifted part.rests) s m (moves_at mid (onward part.rests.by s))) (stays s (omega arith))
+      ∙ ap (λ m. with_side b part.own (shifted part.contents) (shifted part.rests) s (moves_at old s) m) (added s le lt);
 }
   where
-    behind : (s : State) → s.number < length a → moves_at (old ++ map no_moves lasts) (onward (length old) s) ≡ no_moves (is_marked lasts s)
-    behind s here =
-        get_or-append_right old (map no_moves lasts) (length old) (length old + s.number) (no_moves false) refl (omega arith)
+    size : length mid ≡ part.rests.by + part.rests.end
+    size = ap (λ (w : Automaton). length w) e ∙ length-append old (map no_moves lasts) ∙ omega (arith, length-map' lasts)
+
+    stays : (s : State) → IsState old s → moves_at mid s ≡ moves_at old s
+    stays s here = ap (λ (w : Automaton). moves_at w s) e ∙ get_or_append_left old (map no_moves lasts) (no_moves false) s.number here
+
+    added : (s : State) → part.rests.base ≤ s.number → s.number < part.rests.end → moves_at mid (onward part.rests.by s) ≡ no_moves (mark_of part.rests.base lasts s)
+    added s le lt =
+        ap (λ (w : Automaton). moves_at w (onward part.rests.by s)) e
+        ∙ get_or-append_right old (map no_moves lasts) (length old) (part.rests.by + s.number) (no_moves false) refl (omega arith)
         ∙ ap (λ n. get_or (map no_moves lasts) n (no_moves false)) (omega arith)
-        ∙ no_moves_read lasts s.number (omega arith)
+        ∙ no_moves_read lasts (s.number - part.rests.base) (omega arith)

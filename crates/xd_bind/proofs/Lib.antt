@@ -1,4 +1,5 @@
 pub mod MarkLemmas
+pub mod Shifting
 pub mod Choices
 pub mod Traced
 pub mod FreePart
@@ -6,6 +7,7 @@ pub mod BlockLaw
 pub mod Changes
 pub mod Searching
 pub mod Assembling
+pub mod Copied
 pub mod SameOwned
 pub mod CaseLaw
 pub mod BucketLaw

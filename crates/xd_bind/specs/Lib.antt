@@ -2,7 +2,9 @@ pub mod Owning
 pub mod Marks
 pub mod Projection
 pub mod Traced
+pub mod Shifts
 pub mod Blocks
 pub mod Search
+pub mod Adding
 pub mod Cases
 pub mod Buckets

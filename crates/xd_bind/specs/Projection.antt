@@ -2,12 +2,13 @@
 use Rattle.std.specs.Prelude.{◌≡◌, ℕ, ◌<◌, Bool, true, false, ◌&&◌, nat_eq, List, length, slice_get, slice_index_or, Some}
 use Rattle.std.specs.List.{All, list_any}
 use Rattle.xd_auto.specs.declared.auto.State.{State}
-use Rattle.xd_auto.specs.Automaton.{IsState}
+use Rattle.xd_auto.specs.Automaton.{Automaton, IsState}
 use Rattle.xd_traces.specs.declared.kind.MoveKind.{MoveKind}
 use Rattle.xd_traces.specs.declared.kind.MoveKind.TheVariants.{Label, Text}
 use Rattle.xd_bind.specs.declared.tracks.Track.{Track}
 use Rattle.xd_bind.specs.declared.tracks.Tracks.{Tracks}
 use Rattle.xd_bind.specs.declared.tracks.Binding.{Binding}
+use Rattle.xd_bind.specs.declared.tracks.Given.{Given}
 use Rattle.xd_traces.specs.Traces.{Owned, AcceptsGiven, KeepsTogether}
 
 abbrev pub is_kind : MoveKind → MoveKind → Bool
@@ -43,3 +44,15 @@ pub record IsBindingOf (tracks : Tracks) (x : ℕ) (binding : Binding) : Type 0 
 pub record AreBindings (tracks : Tracks) (bindings : List Binding) : Type 0 where
   pub count : length bindings ≡ length tracks.variables.items
   pub each : (x : ℕ) (d : Binding) → x < length bindings → IsBindingOf tracks x (slice_index_or bindings x d)
+
+-- Of what follows only private contracts speak.
+
+-- the same, where the states are those of one automaton, and `owned` are the moves that belong to the variable of a number
+pub record IsGivenOf (a : Automaton) (owned : ℕ → Owned) (start : State) (variables : List (List ℕ)) (made : Automaton) (x : ℕ) (one : Given) : Type 0 where
+  pub variable : slice_get variables x ≡ Some one.variable
+  pub belongs : IsState made one.state
+  pub given : AcceptsGiven a (owned x) start made one.state
+
+pub record AreGivens (a : Automaton) (owned : ℕ → Owned) (start : State) (variables : List (List ℕ)) (made : Automaton) (givens : List Given) : Type 0 where
+  pub count : length givens ≡ length variables
+  pub each : (x : ℕ) (d : Given) → x < length givens → IsGivenOf a owned start variables made x (slice_index_or givens x d)

@@ -2,17 +2,17 @@
 #![tactic(auto)]
 
 mod ahead;
+mod copying;
 mod holds;
 mod marks;
 mod parts;
 mod projecting;
 mod restricted;
-mod shared;
+mod shift;
 mod tracks;
 
 pub use holds::Holds;
 pub use projecting::project;
 pub use restricted::cases;
-pub use shared::shares;
-pub use tracks::{Binding, Track, Tracks};
+pub use tracks::{Binding, Given, Track, Tracks};
 pub use xd_traces::MoveKind;

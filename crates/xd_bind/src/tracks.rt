@@ -30,3 +30,11 @@ pub struct Binding {
     pub auto: Auto,
     pub state: State,
 }
+
+/// A variable, and what it may be: the documents that the state accepts, of an automaton that is kept
+/// elsewhere.
+#[derive(Debug, Drop)]
+pub struct Given {
+    pub variable: Label,
+    pub state: State,
+}

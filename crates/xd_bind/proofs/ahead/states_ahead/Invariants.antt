@@ -1,11 +1,12 @@
-use Rattle.std.proofs.Common.{◌+◌, ◌-◌, ◌≤◌, length}
+use Rattle.std.proofs.Common.{◌+◌, ◌-◌, ◌≤◌, length, take}
 use Rattle.xd_bind.specs.Marks.{unmarked}
+use Rattle.xd_bind.specs.Shifts.{free_by}
 use Rattle.xd_bind.specs.Search.{IsSearch}
 use Rattle.xd_bind.proofs.ahead.states_ahead.Given as goal
 
 abbrev pub invariant-loop-done : goal.invariant-loop-done
 invariant-loop-done g l = record {
-  search : IsSearch l.auto' (g.H.Holds.owned l.owner l.variable) l.fn.start l.free l.search.order.items l.search.marks.items l.done;
+  search : IsSearch (take l.fn.layer.end l.auto') (g.H.Holds.owned l.owner l.variable) l.aside.base l.fn.layer.start (free_by l.known l.aside) l.search.order.items l.search.marks.items l.done;
   within : l.done ≤ length l.search.order.items;
 }
 

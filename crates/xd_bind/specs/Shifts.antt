@@ -1,0 +1,48 @@
+-- Where the copies of states stand, and of which states there are copies. Of it only private contracts speak.
+use Rattle.std.specs.Prelude.{◌≡◌, ℕ, ◌+◌, ◌<◌, ◌≤◌, Bool, cond, nat_lt, is_some, List, Option, length, slice_get, Some, take}
+use Rattle.std.specs.List.{All}
+use Rattle.xd_doc.specs.declared.store.Seq.{Seq}
+use Rattle.xd_auto.specs.declared.auto.State.{State}
+use Rattle.xd_auto.specs.declared.auto.LabelMove.{LabelMove}
+use Rattle.xd_auto.specs.declared.auto.TextMove.{TextMove}
+use Rattle.xd_auto.specs.Automaton.{Automaton, StateMoves, IsClosed, IsState, LeadsBelow, moves_at, state_number}
+use Rattle.xd_empty.specs.Known.{document_of}
+use Rattle.xd_traces.specs.Traces.{Owned}
+use Rattle.xd_bind.specs.declared.shift.Layer.{Layer}
+use Rattle.xd_bind.specs.declared.shift.Shift.{Shift}
+use Rattle.xd_bind.specs.Cases.{OwnsNone}
+
+-- the state so many further on
+abbrev pub onward : ℕ → State → State
+onward by s = record { number = by + s.number }
+
+-- the copy of a state; a state below the base is its own
+abbrev pub shifted : Shift → State → State
+shifted shift s = cond (nat_lt s.number shift.base) s (onward shift.by s)
+
+-- whether a document is known of the copy
+abbrev pub free_by : List (Option Seq) → Shift → State → Bool
+free_by known shift s = is_some (document_of known (shifted shift s))
+
+-- of an automaton, what lies below the base leads to states below it, and moves of the others are followed by states that lie at or above it
+pub record IsLayered (base : ℕ) (a : Automaton) : Type 0 where
+  pub closed : IsClosed a
+  pub below : (s : State) → IsState a s → s.number < base → LeadsBelow base (moves_at a s)
+  pub after_texts : (s : State) (m : TextMove) (n : ℕ) → IsState a s → base ≤ s.number → slice_get (moves_at a s).texts n ≡ Some m → base ≤ m.rest.number
+  pub after_elements : (s : State) (m : LabelMove) (n : ℕ) → IsState a s → base ≤ s.number → slice_get (moves_at a s).labels n ≡ Some m → base ≤ m.rest.number
+
+-- the states below the end are layered, and the start is one of them at or above the base
+pub record IsLayer (a : Automaton) (layer : Layer) : Type 0 where
+  pub within : layer.end ≤ length a
+  pub start : layer.start.number < layer.end
+  pub above : layer.base ≤ layer.start.number
+  pub layered : IsLayered layer.base (take layer.end a)
+
+-- no move of a state below the base belongs to the variable
+abbrev pub OwnsNoneBelow : Owned → ℕ → Type 0
+OwnsNoneBelow b base = (s : State) → s.number < base → OwnsNone b s
+
+-- the copies of the states that the moves lead to are states below n
+pub record LandsBelow (contents rests : State → State) (n : ℕ) (moves : StateMoves) : Type 0 where
+  pub labels : All (λ m. (state_number (contents m.content) < n) × (state_number (rests m.rest) < n)) moves.labels
+  pub texts : All (λ m. state_number (rests m.rest) < n) moves.texts
