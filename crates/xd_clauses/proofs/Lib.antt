@@ -1,6 +1,9 @@
 pub mod Forms
 pub mod Telling
 pub mod Deciding
+pub mod Alike
+pub mod Turning
 pub mod Owning
 pub mod Coming
 pub mod Passing
+pub mod Apart

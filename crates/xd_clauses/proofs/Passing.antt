@@ -1,6 +1,8 @@
 -- What is left behind patterns.
 use Rattle.std.proofs.Common.{◌≡◌, ◌↔◌, ℕ, List, [], ◌∷◌, ◌++◌, get_or, refl, ap, sym, subst}
 use Rattle.xd_doc.specs.Document.{Document}
+use Rattle.xd_auto.specs.declared.auto.State.{State}
+use Rattle.xd_auto.specs.Automaton.{Automaton}
 use Rattle.xd_syntax.specs.Tree.{Tree, Definitions}
 use Rattle.xd_syntax.specs.Table.{Row}
 use Rattle.xd_syntax.specs.Placed.{PlacedTree, unplaced}
@@ -11,9 +13,9 @@ use Rattle.xd_syntax.specs.declared.patterns.PatternId.{PatternId}
 use Rattle.xd_syntax.specs.May.{Arrives, IsLive, MayBind, NoneTakes}
 use Rattle.xd_syntax.specs.Ways.{Takes}
 use Rattle.xd_syntax.proofs.PlacedTrees.{unplaced_at}
-use Rattle.xd_bind.specs.declared.tracks.Binding.{Binding}
+use Rattle.xd_bind.specs.declared.tracks.Given.{Given}
 use Rattle.xd_clauses.specs.Cases.{placed_pattern, placed_patterns}
-use Rattle.xd_clauses.specs.Clauses.{IsPatternOf, IsMayBinding, AreMayBindings}
+use Rattle.xd_clauses.specs.Clauses.{IsPatternOf, IsMayState, AreMayGivens}
 use Rattle.xd_clauses.specs.declared.pattern.ClausePattern.{ClausePattern}
 
 none_end : (E : Definitions) (Ps : List PlacedTree) (P : PlacedTree) (d : Document) → NoneTakes E (Ps ++ P ∷ []) d ↔ (NoneTakes E Ps d × (Takes E (unplaced P) d → ⊥))
@@ -61,17 +63,21 @@ module _ (E : Definitions) (A B : Document → Type 0) (earlier : List PlacedTre
   bind_back : (x : List ℕ) (e : Document) → MayBind E A earlier P x e → MayBind E B [] P x e
   bind_back x e m = (m.0, m.1, arrives_back m.0 m.2, m.3, m.4)
 
-  binding_on : (b : Binding) → IsMayBinding E B [] P b → IsMayBinding E A earlier P b
-  binding_on b m = record {
+  pub state_on : (a : Automaton) (x : List ℕ) (s : State) → IsMayState E B [] P a x s → IsMayState E A earlier P a x s
+  state_on a x s m = record {
     belongs = m.belongs;
-    exact = λ e proper. (λ y. bind_on b.variable e ((m.exact e proper).0 y), λ y. (m.exact e proper).1 (bind_back b.variable e y));
+    exact = λ e proper. (λ y. bind_on x e ((m.exact e proper).0 y), λ y. (m.exact e proper).1 (bind_back x e y));
   }
 
-  pub bindings_on : (bs : List Binding) → AreMayBindings E B [] P bs → AreMayBindings E A earlier P bs
-  bindings_on bs m = record { variables = m.variables; each = λ k d l. binding_on (get_or bs k d) (m.each k d l) }
+  pub givens_on : (a : Automaton) (gs : List Given) → AreMayGivens E B [] P a gs → AreMayGivens E A earlier P a gs
+  givens_on a gs m = record { variables = m.variables; each = λ k d l. let g = get_or gs k d in state_on a g.variable g.state (m.each k d l) }
 
 -- ---- a program to which types were added
 
 module _ (p q : ProgramTable) (adds : AddsTypes p q) (same : program_tree q ≡ program_tree p) where
   pub to_old : (Q : Definitions → List Row → Type 0) → Q (names_of (program_tree q)) q.patterns → Q (names_of (program_tree p)) p.patterns
   to_old Q h = subst (λ rows. Q (names_of (program_tree p)) rows) adds.patterns (subst (λ E. Q E q.patterns) (ap names_of same) h)
+
+-- what a state of another automaton accepts
+pub left_of : (A B C : Document → Type 0) (E : Definitions) (Ps : List PlacedTree) → ((d : Document) → B d ↔ A d) → ((d : Document) → C d ↔ (B d × NoneTakes E Ps d)) → (d : Document) → C d ↔ (A d × NoneTakes E Ps d)
+left_of A B C E Ps f g d = (λ h. let r = (g d).0 h in ((f d).0 r.0, r.1), λ h. (g d).1 ((f d).1 h.0, h.1))

@@ -1,17 +1,14 @@
--- The documents that a state accepts, and that come to a clause behind others.
-use Rattle.std.specs.Prelude.{◌≡◌, true, List, map}
+-- Patterns by their ids, and what variables are given, in automata of their own.
+use Rattle.std.specs.Prelude.{◌≡◌, ℕ, false, List, map}
 use Rattle.xd_doc.specs.Document.{Document}
-use Rattle.xd_auto.specs.declared.auto.State.{State}
-use Rattle.xd_auto.specs.Automaton.{Automaton, accepts}
+use Rattle.xd_auto.specs.Automaton.{Automaton, IsState, accepts}
 use Rattle.xd_syntax.specs.Table.{Row}
 use Rattle.xd_syntax.specs.Placed.{PlacedTree, placed_at}
 use Rattle.xd_syntax.specs.Patterns.{IsPattern, pattern_tree}
 use Rattle.xd_syntax.specs.declared.patterns.PatternId.{PatternId}
+use Rattle.xd_bind.specs.declared.tracks.Binding.{Binding}
+use Rattle.xd_bind.specs.declared.tracks.Given.{Given}
 use Rattle.xd_runs.specs.Linear.{IsLinear}
-
--- what the state accepts
-abbrev pub Accepted : Automaton → State → Document → Type 0
-Accepted a s d = accepts a d s ≡ true
 
 -- the id is that of a pattern in which each way binds each variable once
 pub record IsLinearPattern (patterns : List Row) (id : PatternId) : Type 0 where
@@ -23,3 +20,15 @@ placed_pattern patterns id = placed_at patterns id.at
 
 abbrev pub placed_patterns : List Row → List PatternId → List PlacedTree
 placed_patterns patterns ids = map (placed_pattern patterns) ids
+
+-- a state for the variable that accepts nothing
+pub record IsGivenNothing (a : Automaton) (x : List ℕ) (g : Given) : Type 0 where
+  pub variable : g.variable ≡ x
+  pub belongs : IsState a g.state
+  pub nothing : (d : Document) → accepts a d g.state ≡ false
+
+-- a state of an automaton of its own for the variable, which accepts the same
+pub record IsApart (a : Automaton) (g : Given) (b : Binding) : Type 0 where
+  pub variable : b.variable ≡ g.variable
+  pub belongs : IsState b.auto b.state
+  pub same : (d : Document) → accepts b.auto d b.state ≡ accepts a d g.state

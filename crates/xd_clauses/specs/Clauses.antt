@@ -1,39 +1,45 @@
--- Patterns of clauses as automata, the documents that come to a clause, and what its variables may be.
-use Rattle.std.specs.Prelude.{◌≡◌, ◌↔◌, true, List, [], map}
+-- Patterns of clauses as automata, and what their variables may be.
+use Rattle.std.specs.Prelude.{◌≡◌, ◌↔◌, ℕ, true, List, map}
 use Rattle.std.specs.List.{All}
 use Rattle.xd_doc.specs.Document.{Document, is_proper}
-use Rattle.xd_auto.specs.Automaton.{IsState, accepts}
+use Rattle.xd_auto.specs.declared.auto.State.{State}
+use Rattle.xd_auto.specs.Automaton.{Automaton, IsState, accepts}
 use Rattle.xd_syntax.specs.Tree.{Tree, Definitions}
 use Rattle.xd_syntax.specs.Placed.{PlacedTree, unplaced}
 use Rattle.xd_syntax.specs.Bindings.{variables_of}
 use Rattle.xd_syntax.specs.May.{MayBind}
 use Rattle.xd_bind.specs.declared.tracks.Binding.{Binding}
+use Rattle.xd_bind.specs.declared.tracks.Given.{Given}
 use Rattle.xd_clauses.specs.OfPatterns.{IsOfPattern}
 use Rattle.xd_clauses.specs.declared.pattern.ClausePattern.{ClausePattern}
-use Rattle.xd_clauses.specs.declared.arriving.Arriving.{Arriving}
 
 -- the automaton is that of the pattern
 abbrev pub IsPatternOf : Definitions → Tree → ClausePattern → Type 0
-IsPatternOf E P made = IsOfPattern E P made.auto made.marked
+IsPatternOf E P made = IsOfPattern E P made.auto made.all made.marked
 
--- the document comes to the clause
-abbrev pub Comes : Arriving → Document → Type 0
-Comes v d = accepts v.auto d v.state ≡ true
+-- what the state accepts
+abbrev pub Accepted : Automaton → State → Document → Type 0
+Accepted a s d = accepts a d s ≡ true
 
 -- The state accepts exactly what some whole way of the pattern gives the variable, where the scrutinee may be A, on a document
 -- that none of the earlier patterns takes.
-pub record IsMayBinding (E : Definitions) (A : Document → Type 0) (earlier : List PlacedTree) (P : PlacedTree) (binding : Binding) : Type 0 where
-  pub belongs : IsState binding.auto binding.state
-  pub exact : (e : Document) → is_proper e ≡ true → (accepts binding.auto e binding.state ≡ true) ↔ MayBind E A earlier P binding.variable e
+pub record IsMayState (E : Definitions) (A : Document → Type 0) (earlier : List PlacedTree) (P : PlacedTree) (a : Automaton) (x : List ℕ) (s : State) : Type 0 where
+  pub belongs : IsState a s
+  pub exact : (e : Document) → is_proper e ≡ true → Accepted a s e ↔ MayBind E A earlier P x e
+
+-- the state of a variable does, of this automaton
+abbrev pub IsMayGiven : Definitions → (Document → Type 0) → List PlacedTree → PlacedTree → Automaton → Given → Type 0
+IsMayGiven E A earlier P a given = IsMayState E A earlier P a given.variable given.state
+
+-- the state of a variable does, of an automaton of its own
+abbrev pub IsMayBinding : Definitions → (Document → Type 0) → List PlacedTree → PlacedTree → Binding → Type 0
+IsMayBinding E A earlier P binding = IsMayState E A earlier P binding.auto binding.variable binding.state
 
 -- one for each variable, in order of first occurrence
+pub record AreMayGivens (E : Definitions) (A : Document → Type 0) (earlier : List PlacedTree) (P : PlacedTree) (a : Automaton) (givens : List Given) : Type 0 where
+  pub variables : map (λ (g : Given). g.variable) givens ≡ variables_of (unplaced P)
+  pub each : All (IsMayGiven E A earlier P a) givens
+
 pub record AreMayBindings (E : Definitions) (A : Document → Type 0) (earlier : List PlacedTree) (P : PlacedTree) (bindings : List Binding) : Type 0 where
   pub variables : map (λ (b : Binding). b.variable) bindings ≡ variables_of (unplaced P)
   pub each : All (IsMayBinding E A earlier P) bindings
-
--- the same on the documents that come to the clause
-abbrev pub IsClauseBinding : Definitions → Arriving → PlacedTree → Binding → Type 0
-IsClauseBinding E v P binding = IsMayBinding E (Comes v) [] P binding
-
-abbrev pub AreClauseBindings : Definitions → Arriving → PlacedTree → List Binding → Type 0
-AreClauseBindings E v P bindings = AreMayBindings E (Comes v) [] P bindings

@@ -1,3 +1,4 @@
+pub mod Whole
 pub mod Owning
 pub mod OfPatterns
 pub mod Clauses

@@ -1,66 +1,131 @@
 //! What a state accepts, at the clauses of a match.
 
-ghost use Rattle.std.specs.Prelude.{◌≡◌, ◌↔◌, true, false, Ok, None, IfOk, IfSome, OnOk};
-ghost use Rattle.std.specs.List.{All};
+ghost use Rattle.std.specs.Prelude.{◌≡◌, ◌↔◌, true, false, [], Ok, None, IfOk, IfSome, map};
+ghost use Rattle.std.specs.List.{All, AllByRecursion};
 ghost use Rattle.xd_doc.specs.Document.{Document};
 ghost use Rattle.xd_doc.specs.Stored.{BelongsTo, Keeps, document_at};
 ghost use Rattle.xd_auto.specs.Automaton.{IsState};
+ghost use Rattle.xd_empty.specs.Known.{Knows};
 ghost use Rattle.xd_syntax.specs.Kept.{AddsTypes, program_tree};
 ghost use Rattle.xd_syntax.specs.May.{IsLive, NoneTakes};
+ghost use Rattle.xd_syntax.specs.Placed.{PlacedTree, unplaced};
 ghost use Rattle.xd_syntax.specs.Program.{names_of};
 ghost use Rattle.xd_syntax.specs.Shallow.{IsShallow};
+ghost use Rattle.xd_syntax.specs.Tree.{Definitions};
+ghost use Rattle.xd_laws.specs.KeptLines.{AllPaired};
 ghost use Rattle.xd_patterns.specs.Compiler.{Serves};
-ghost use Rattle.xd_clauses.specs.Cases.{Accepted, IsLinearPattern, placed_pattern, placed_patterns};
-ghost use Rattle.xd_clauses.specs.Clauses.{AreMayBindings, Comes};
+ghost use Rattle.xd_clauses.specs.Cases.{IsApart, IsGivenNothing, IsLinearPattern, placed_pattern, placed_patterns};
+ghost use Rattle.xd_clauses.specs.Clauses.{Accepted, AreMayBindings, AreMayGivens, IsPatternOf};
 
-use crate::arriving::Arriving;
 use crate::pattern::ClausePattern;
 use std::alloc::Global;
 use xd_auto::{Auto, State};
-use xd_bind::Binding;
-use xd_doc::{NoMemory, Seq, Store};
+use xd_bind::{Binding, Given};
+use xd_doc::{Label, NoMemory, Seq, Store};
+use xd_empty::Inhabitants;
 use xd_patterns::PatternCompiler;
 use xd_syntax::{PatternId, SoundProgram};
 
-/// Takes away those that some of the patterns take, one pattern after the other.
-fn pass_all(
+/// A document that the state accepts, where there is one. What is found of other states on the way is known from then on.
+pub fn accepted_document(
     alloc: Global,
-    compiler: &PatternCompiler,
-    sound: &SoundProgram,
-    patterns: &[PatternId],
-    arriving: &mut Arriving,
-) -> Result<(), NoMemory>
-    requires serves { Serves sound.now compiler.now }
-    requires patterns { All (IsLinearPattern sound.now.patterns) patterns.now }
-    requires belongs { IsState arriving.old.auto arriving.old.state }
-    ensures belongs { IsState arriving.new.auto arriving.new.state }
-    ensures exact { OnOk result ((d : Document) → Comes arriving.new d ↔ (Comes arriving.old d × NoneTakes (names_of (program_tree sound.now)) (placed_patterns sound.now.patterns patterns.now) d)) }
+    auto: &Auto,
+    state: State,
+    known: &mut Inhabitants,
+    store: &mut Store,
+) -> Result<Option<Seq>, NoMemory>
+    requires state { IsState auto.now state }
+    requires known { Knows auto.now store.old known.old }
+    ensures accepted { IfOk result (λ found. IfSome found (λ seq. Accepted auto.now state (document_at store.new seq))) }
+    ensures none { result ≡ Ok None → (d : Document) → Accepted auto.now state d → ⊥ }
+    ensures belongs { IfOk result (λ found. IfSome found (BelongsTo store.new)) }
+    ensures known { Knows auto.now store.new known.new }
+    ensures keeps { Keeps store.old store.new }
 {
-    for id in patterns {
-        let pattern = ClausePattern::new(alloc, compiler, sound, *id)?;
-        arriving.pass(alloc, &pattern)?;
-    }
-    Ok(())
+    let _states = auto.len();
+    known.learn(alloc, auto, store)?;
+    Ok(known.document(state))
 }
 
-/// What a state accepts and none of the patterns takes.
+/// Adds a state that accepts what the state accepts and none of the patterns takes.
 fn left_over(
     alloc: Global,
     compiler: &PatternCompiler,
     sound: &SoundProgram,
-    auto: &Auto,
-    state: State,
     patterns: &[PatternId],
-) -> Result<Arriving, NoMemory>
+    auto: &mut Auto,
+    state: State,
+) -> Result<State, NoMemory>
     requires serves { Serves sound.now compiler.now }
     requires patterns { All (IsLinearPattern sound.now.patterns) patterns.now }
-    requires state { IsState auto.now state }
-    ensures belongs { IfOk result (λ left. IsState left.auto left.state) }
-    ensures exact { IfOk result (λ left. (d : Document) → Comes left d ↔ (Accepted auto.now state d × NoneTakes (names_of (program_tree sound.now)) (placed_patterns sound.now.patterns patterns.now) d)) }
+    requires state { IsState auto.old state }
+    ensures belongs { IfOk result (IsState auto.new) }
+    ensures exact { IfOk result (λ left. (d : Document) → Accepted auto.new left d ↔ (Accepted auto.old state d × NoneTakes (names_of (program_tree sound.now)) (placed_patterns sound.now.patterns patterns.now) d)) }
 {
-    let mut left = Arriving::new(alloc, auto, state)?;
-    pass_all(alloc, compiler, sound, patterns, &mut left)?;
+    let mut left = state;
+    for id in patterns {
+        let pattern = ClausePattern::new(alloc, compiler, sound, *id)?;
+        left = pattern.pass(alloc, auto, left)?;
+    }
     Ok(left)
+}
+
+/// For each variable a state that accepts nothing.
+fn given_nothing(
+    alloc: Global,
+    variables: &[Label],
+    auto: &mut Auto,
+) -> Result<Vec<Given>, NoMemory>
+    ensures { IfOk result (λ givens. AllPaired (IsGivenNothing auto.new) variables.now givens.items) }
+{
+    let nothing = auto.add_state(false)?;
+    let mut givens = Vec::new(alloc);
+    for variable in variables {
+        givens.push(Given {
+            variable: variable.share()?,
+            state: nothing,
+        })?;
+    }
+    Ok(givens)
+}
+
+/// What the variables of a pattern may be, on documents that the state accepts: nothing where it takes none of these.
+fn givens_of(
+    alloc: Global,
+    clause: &ClausePattern,
+    auto: &mut Auto,
+    arriving: State,
+) -> Result<Vec<Given>, NoMemory>
+    requires { IsState auto.old arriving }
+    ensures { IfOk result (λ givens. (E : Definitions) (P : PlacedTree) → IsPatternOf E (unplaced P) clause.now → AreMayGivens E (Accepted auto.old arriving) [] P auto.new givens.items) }
+{
+    let mut known = Inhabitants::new(alloc);
+    let mut store = Store::new(alloc);
+    match clause.bindings(alloc, auto, arriving, &mut known, &mut store)? {
+        Some(givens) => Ok(givens),
+        None => {
+            let givens = given_nothing(alloc, clause.marked.variables(), auto)?;
+            Ok(givens)
+        }
+    }
+}
+
+/// The same states, each in an automaton of its own.
+fn apart(alloc: Global, auto: &Auto, givens: &[Given]) -> Result<Vec<Binding>, NoMemory>
+    requires { AllByRecursion (λ g. IsState auto.now g.state) givens.now }
+    ensures { IfOk result (λ bindings. AllPaired (IsApart auto.now) givens.now bindings.items) }
+{
+    let mut bindings = Vec::new(alloc);
+    for given in givens {
+        let mut own = Auto::new(alloc);
+        let state = own.absorb(auto, given.state)?;
+        bindings.push(Binding {
+            variable: given.variable.share()?,
+            auto: own,
+            state,
+        })?;
+    }
+    Ok(bindings)
 }
 
 /// For each variable of a pattern, in order of first occurrence and once, what it may be: an automaton that accepts exactly what
@@ -82,9 +147,12 @@ pub fn case_types(
     ensures shallow { IsShallow sound.old.types → IsShallow sound.new.types }
 {
     let compiler = PatternCompiler::new(alloc, sound)?;
-    let left = left_over(alloc, &compiler, sound, auto, state, earlier)?;
+    let mut own = Auto::new(alloc);
+    let start = own.absorb(auto, state)?;
+    let left = left_over(alloc, &compiler, sound, earlier, &mut own, start)?;
     let clause = ClausePattern::new(alloc, &compiler, sound, pattern)?;
-    let bindings = left.bindings(alloc, &clause)?;
+    let givens = givens_of(alloc, &clause, &mut own, left)?;
+    let bindings = apart(alloc, &own, &givens)?;
     Ok(bindings)
 }
 
@@ -109,8 +177,11 @@ pub fn uncovered(
     ensures shallow { IsShallow sound.old.types → IsShallow sound.new.types }
 {
     let compiler = PatternCompiler::new(alloc, sound)?;
-    let left = left_over(alloc, &compiler, sound, auto, state, patterns)?;
-    let found = left.document(alloc, store)?;
+    let mut own = Auto::new(alloc);
+    let start = own.absorb(auto, state)?;
+    let left = left_over(alloc, &compiler, sound, patterns, &mut own, start)?;
+    let mut known = Inhabitants::new(alloc);
+    let found = accepted_document(alloc, &own, left, &mut known, store)?;
     Ok(found)
 }
 
@@ -133,8 +204,12 @@ pub fn live(
     ensures shallow { IsShallow sound.old.types → IsShallow sound.new.types }
 {
     let compiler = PatternCompiler::new(alloc, sound)?;
-    let arriving = left_over(alloc, &compiler, sound, auto, state, earlier)?;
+    let mut own = Auto::new(alloc);
+    let start = own.absorb(auto, state)?;
+    let left = left_over(alloc, &compiler, sound, earlier, &mut own, start)?;
     let clause = ClausePattern::new(alloc, &compiler, sound, pattern)?;
-    let is_live = arriving.is_live(alloc, &clause)?;
-    Ok(is_live)
+    let mut known = Inhabitants::new(alloc);
+    let mut store = Store::new(alloc);
+    let found = clause.bindings(alloc, &mut own, left, &mut known, &mut store)?;
+    Ok(found.is_some())
 }

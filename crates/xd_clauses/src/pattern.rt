@@ -1,10 +1,15 @@
-//! Patterns of clauses as automata.
+//! Patterns of clauses as automata, and what comes to them.
 
 ghost use Rattle.xd_clauses.specs.OfPatterns.{IsOfSomePattern};
 
+use crate::held::Held;
+use crate::whole::with_universal;
 use std::alloc::Global;
-use xd_auto::Auto;
-use xd_doc::NoMemory;
+use xd_auto::{Auto, State};
+use xd_bind::{Given, cases};
+use xd_boole::subtract;
+use xd_doc::{NoMemory, Store};
+use xd_empty::Inhabitants;
 use xd_patterns::{Marked, PatternCompiler};
 use xd_syntax::{PatternId, SoundProgram};
 
@@ -12,18 +17,28 @@ use xd_syntax::{PatternId, SoundProgram};
 #[derive(Drop)]
 pub struct ClausePattern {
     pub(crate) auto: Auto,
+    /// The state that contents lead to that the pattern takes whole.
+    pub(crate) all: State,
     pub(crate) marked: Marked,
-    ghost of_pattern: { ∥ IsOfSomePattern auto marked ∥₁ },
+    ghost of_pattern: { ∥ IsOfSomePattern auto all marked ∥₁ },
 }
 
 impl ClausePattern {
-    ghost use Rattle.std.specs.Prelude.{IfOk};
+    ghost use Rattle.std.specs.Prelude.{◌≡◌, ◌↔◌, [], Ok, None, IfOk, IfSome, OnOk};
+    ghost use Rattle.xd_doc.specs.Document.{Document};
+    ghost use Rattle.xd_doc.specs.Stored.{Keeps};
+    ghost use Rattle.xd_auto.specs.Automaton.{Extends, IsState, KeepsAccepting};
+    ghost use Rattle.xd_empty.specs.Known.{Knows};
     ghost use Rattle.xd_syntax.specs.Kept.{program_tree};
+    ghost use Rattle.xd_syntax.specs.May.{IsLive};
     ghost use Rattle.xd_syntax.specs.Patterns.{IsPattern, pattern_tree};
+    ghost use Rattle.xd_syntax.specs.Placed.{PlacedTree, unplaced};
     ghost use Rattle.xd_syntax.specs.Program.{names_of};
+    ghost use Rattle.xd_syntax.specs.Tree.{Definitions};
+    ghost use Rattle.xd_syntax.specs.Ways.{Takes};
     ghost use Rattle.xd_runs.specs.Linear.{IsLinear};
     ghost use Rattle.xd_patterns.specs.Compiler.{Serves};
-    ghost use Rattle.xd_clauses.specs.Clauses.{IsPatternOf};
+    ghost use Rattle.xd_clauses.specs.Clauses.{Accepted, AreMayGivens, IsPatternOf};
 
     /// That of a pattern of the program.
     pub fn new(
@@ -37,8 +52,58 @@ impl ClausePattern {
         requires linear { IsLinear (pattern_tree sound.now.patterns pattern) }
         ensures { IfOk result (IsPatternOf (names_of (program_tree sound.now)) (pattern_tree sound.now.patterns pattern)) }
     {
-        let mut auto = Auto::new(alloc);
-        let marked = compiler.compile(alloc, sound, pattern, &mut auto)?;
-        Ok(Self { auto, marked })
+        let mut compiled = Auto::new(alloc);
+        let marked = compiler.compile(alloc, sound, pattern, &mut compiled)?;
+        let _states = compiled.len();
+        let (auto, all) = with_universal(alloc, &compiled, &marked)?;
+        Ok(Self { auto, all, marked })
+    }
+
+    /// For each variable of the pattern, in order of first occurrence, a state that accepts exactly what some whole way gives it on
+    /// a document that comes to the clause, one that the state accepts; `None` where the pattern takes none of these.
+    pub fn bindings(
+        &self,
+        alloc: Global,
+        auto: &mut Auto,
+        arriving: State,
+        known: &mut Inhabitants,
+        store: &mut Store,
+    ) -> Result<Option<Vec<Given>>, NoMemory>
+        requires arriving { IsState auto.old arriving }
+        requires known { Knows auto.old store.old known.old }
+        ensures dead { result ≡ Ok None → (E : Definitions) (P : PlacedTree) → IsPatternOf E (unplaced P) self.now → IsLive E (Accepted auto.old arriving) [] P → ⊥ }
+        ensures live { IfOk result (λ found. IfSome found (λ givens. (E : Definitions) (P : PlacedTree) → IsPatternOf E (unplaced P) self.now → IsLive E (Accepted auto.old arriving) [] P)) }
+        ensures bindings { IfOk result (λ found. IfSome found (λ givens. (E : Definitions) (P : PlacedTree) → IsPatternOf E (unplaced P) self.now → AreMayGivens E (Accepted auto.old arriving) [] P auto.new givens.items)) }
+        ensures extends { Extends auto.old auto.new }
+        ensures accepting { OnOk result (KeepsAccepting auto.old auto.new) }
+        ensures known { Knows auto.new store.new known.new }
+        ensures keeps { Keeps store.old store.new }
+    {
+        let _states = auto.len();
+        let held = Held {
+            marked: &self.marked,
+            all: self.all,
+        };
+        let start = self.marked.start();
+        let variables = self.marked.variables();
+        let found = cases(
+            alloc, &self.auto, start, self.all, variables, &held, auto, arriving, known, store,
+        )?;
+        Ok(found)
+    }
+
+    /// A state that accepts those of the documents that come to the clause that the pattern doesn't take: they come to the next
+    /// clause.
+    pub fn pass(&self, alloc: Global, auto: &mut Auto, arriving: State) -> Result<State, NoMemory>
+        requires { IsState auto.old arriving }
+        ensures belongs { IfOk result (IsState auto.new) }
+        ensures exact { IfOk result (λ left. (E : Definitions) (P : PlacedTree) → IsPatternOf E (unplaced P) self.now → (d : Document) → Accepted auto.new left d ↔ (Accepted auto.old arriving d × (Takes E (unplaced P) d → ⊥))) }
+        ensures extends { Extends auto.old auto.new }
+        ensures accepting { OnOk result (KeepsAccepting auto.old auto.new) }
+    {
+        let _states = auto.len();
+        let start = self.marked.start();
+        let left = subtract(alloc, auto, arriving, &self.auto, start)?;
+        Ok(left)
     }
 }

@@ -5,11 +5,11 @@ use Rattle.xd_syntax.specs.Kept.{program_tree}
 use Rattle.xd_syntax.specs.May.{NoneTakes}
 use Rattle.xd_syntax.specs.Program.{names_of}
 use Rattle.xd_clauses.specs.Cases.{placed_patterns}
-use Rattle.xd_clauses.specs.Clauses.{Comes}
-use Rattle.xd_clauses.proofs.cases.pass_all.Given as goal
+use Rattle.xd_clauses.specs.Clauses.{Accepted}
+use Rattle.xd_clauses.proofs.cases.left_over.Given as goal
 
 abbrev pub invariant-loop-id : goal.invariant-loop-id
 invariant-loop-id l = record {
-  belongs : IsState l.arriving.auto l.arriving.state;
-  exact : (d : Document) → Comes l.arriving d ↔ (Comes l.fn.arriving d × NoneTakes (names_of (program_tree l.sound)) (placed_patterns l.sound.patterns (take l.id-index l.patterns)) d);
+  belongs : IsState l.auto' l.left;
+  exact : (d : Document) → Accepted l.auto' l.left d ↔ (Accepted l.initial.auto' l.fn.state d × NoneTakes (names_of (program_tree l.sound)) (placed_patterns l.sound.patterns (take l.id-index l.patterns)) d);
 }

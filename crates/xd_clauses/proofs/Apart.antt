@@ -1,0 +1,138 @@
+-- What variables are given, and states in automata of their own.
+use Rattle.std.proofs.Common.{◌≡◌, ℕ, zero, suc, ◌<◌, ◌+◌, Bool, false, ◌&&◌, List, [], ◌∷◌, ◌++◌, map, length, take, get_or, Option, Some, None, refl, sym, ap, ◌∙◌, subst, arith}
+use Rattle.std.specs.List.{All, AllByRecursion, list_any}
+use Rattle.std.specs.Option.{IfSome}
+use Rattle.std.proofs.lemmas.List.{take_more}
+use Rattle.xd_doc.specs.Document.{Document, empty, text, element}
+use Rattle.xd_doc.specs.Classes.{class_has}
+use Rattle.xd_doc.specs.Stored.{BelongsTo, document_at}
+use Rattle.xd_doc.specs.declared.store.Seq.{Seq}
+use Rattle.xd_auto.specs.declared.auto.State.{State}
+use Rattle.xd_auto.specs.declared.auto.LabelMove.{LabelMove}
+use Rattle.xd_auto.specs.declared.auto.TextMove.{TextMove}
+use Rattle.xd_auto.specs.Automaton.{Automaton, IsState, StateMoves, accepts, moves_at, no_moves}
+use Rattle.xd_empty.specs.Known.{Knows, document_of}
+use Rattle.xd_syntax.specs.Bindings.{variables_of}
+use Rattle.xd_syntax.specs.Tree.{Definitions}
+use Rattle.xd_syntax.specs.Placed.{PlacedTree, unplaced}
+use Rattle.xd_syntax.specs.May.{IsLive, MayBind}
+use Rattle.xd_laws.specs.KeptLines.{AllPaired}
+use Rattle.xd_bind.specs.declared.tracks.Binding.{Binding}
+use Rattle.xd_bind.specs.declared.tracks.Given.{Given}
+use Rattle.xd_clauses.specs.Cases.{IsApart, IsGivenNothing}
+use Rattle.xd_clauses.specs.Clauses.{Accepted, IsMayState, IsMayGiven, IsMayBinding, AreMayGivens, AreMayBindings}
+use Rattle.xd_clauses.proofs.Turning.{paired_end}
+
+-- ---- what is known
+
+pub record IsKnownOf (a : Automaton) (ds : List Document) (s : State) (o : Option Seq) : Type 0 where
+  pub accepted : IfSome o (λ seq. Accepted a s (document_at ds seq))
+  pub belongs : IfSome o (BelongsTo ds)
+  pub none : o ≡ None → (d : Document) → Accepted a s d → ⊥
+
+pub known_of : (a : Automaton) (ds : List Document) (known : List (Option Seq)) (s : State) (o : Option Seq) → Knows a ds known → length known ≡ length a → IsState a s → o ≡ document_of known s →
+    IsKnownOf a ds s o
+known_of a ds known s None k count there e = record {
+  accepted = tt;
+  belongs = tt;
+  none = λ n d acc. (let no : accepts a d s ≡ false = k.none s (omega arith) (sym e) d in cc);
+}
+known_of a ds known s (Some seq) k count there e =
+    let w = k.witnesses s seq (sym e) in
+    record { accepted = w.accepted; belongs = w.belongs; none = λ n d acc. cc }
+
+-- ---- a state without moves
+
+any_none : {X : Type 0} (p : X → Bool) (xs : List X) → xs ≡ [] → list_any p xs ≡ false
+any_none p xs h = ap (list_any p) h
+
+accepts_nothing : (a : Automaton) (s : State) → moves_at a s ≡ no_moves false → (d : Document) → accepts a d s ≡ false
+accepts_nothing a s e empty = ap (λ (m : StateMoves). m.last) e
+accepts_nothing a s e (text t r) =
+    any_none (λ (m : TextMove). class_has m.words t && accepts a r m.rest) (moves_at a s).texts (ap (λ (m : StateMoves). m.texts) e)
+accepts_nothing a s e (element l c r) =
+    any_none (λ (m : LabelMove). class_has m.class l && (accepts a c m.content && accepts a r m.rest)) (moves_at a s).labels (ap (λ (m : StateMoves). m.labels) e)
+
+newest : (a : Automaton) (m : StateMoves) → get_or (a ++ m ∷ []) (length a) (no_moves false) ≡ m
+newest [] m = refl
+newest (x ∷ a) m = newest a m
+
+pub nothing_more : (vs : List (List ℕ)) (gs : List Given) (i : ℕ) (v : List ℕ) (a b : Automaton) (s : State) → i < length vs → v ≡ get_or vs i v → s.number ≡ length a → b ≡ a ++ no_moves false ∷ [] →
+    IsState b s → AllPaired (IsGivenNothing b) (take i vs) gs → AllPaired (IsGivenNothing b) (take (i + 1) vs) (gs ++ record { variable = v; state = s } ∷ [])
+nothing_more vs gs i v a b s lt e at is there h =
+    let moves : moves_at b s ≡ no_moves false = ap (λ (w : Automaton). moves_at w s) is ∙ ap (λ n. get_or (a ++ no_moves false ∷ []) n (no_moves false)) at ∙ newest a (no_moves false) in
+    subst (λ ws. AllPaired (IsGivenNothing b) ws (gs ++ record { variable = v; state = s } ∷ [])) (sym (take_more vs i v lt))
+    (paired_end (IsGivenNothing b) (take i vs) gs (get_or vs i v) (record { variable = v; state = s }) h
+    (record { variable = e; belongs = there; nothing = accepts_nothing b s moves }))
+
+all_front : {X : Type 0} (Q : X → Type 0) (x : X) (xs : List X) → Q x → All Q xs → All Q (x ∷ xs)
+all_front Q x xs p h zero d lt = p
+all_front Q x xs p h (suc i) d lt = h i d (omega arith)
+
+-- ---- variables that are given nothing
+
+module _ (E : Definitions) (A : Document → Type 0) (P : PlacedTree) (dead : IsLive E A [] P → ⊥) (a : Automaton) where
+  nothing_bound : (x : List ℕ) (d : Document) → MayBind E A [] P x d → ⊥
+  nothing_bound x d m = dead (m.0, m.2, (m.1, m.3))
+
+  nothing_given : (x : List ℕ) (g : Given) → IsGivenNothing a x g → IsMayGiven E A [] P a g
+  nothing_given x g n = record {
+    belongs = n.belongs;
+    exact = λ e proper. (λ y. absurd (let no : accepts a e g.state ≡ false = n.nothing e in cc), λ m. absurd (nothing_bound g.variable e m));
+  }
+
+  words_nothing : (vs : List (List ℕ)) (gs : List Given) → AllPaired (IsGivenNothing a) vs gs → map (λ (g : Given). g.variable) gs ≡ vs
+  words_nothing [] [] h = refl
+  words_nothing [] (g ∷ gs) h = absurd h
+  words_nothing (v ∷ vs) [] h = absurd h
+  words_nothing (v ∷ vs) (g ∷ gs) h = ap (λ w. w ∷ map (λ (k : Given). k.variable) gs) (h.0).variable ∙ ap (λ ws. v ∷ ws) (words_nothing vs gs h.1)
+
+  each_nothing : (vs : List (List ℕ)) (gs : List Given) → AllPaired (IsGivenNothing a) vs gs → All (IsMayGiven E A [] P a) gs
+  each_nothing [] [] h = λ i d lt. absurd (omega arith)
+  each_nothing [] (g ∷ gs) h = absurd h
+  each_nothing (v ∷ vs) [] h = absurd h
+  each_nothing (v ∷ vs) (g ∷ gs) h = all_front (IsMayGiven E A [] P a) g gs (nothing_given v g h.0) (each_nothing vs gs h.1)
+
+  pub all_nothing : (vs : List (List ℕ)) (gs : List Given) → vs ≡ variables_of (unplaced P) → AllPaired (IsGivenNothing a) vs gs → AreMayGivens E A [] P a gs
+  all_nothing vs gs e h = record { variables = words_nothing vs gs h ∙ e; each = each_nothing vs gs h }
+
+-- ---- states in automata of their own
+
+pub apart_more : (a : Automaton) (gs : List Given) (bs : List Binding) (i : ℕ) (g : Given) (b : Binding) → i < length gs → g ≡ get_or gs i g → IsApart a g b →
+    AllPaired (IsApart a) (take i gs) bs → AllPaired (IsApart a) (take (i + 1) gs) (bs ++ b ∷ [])
+apart_more a gs bs i g b lt e p h =
+    subst (λ hs. AllPaired (IsApart a) hs (bs ++ b ∷ [])) (sym (take_more gs i g lt))
+    (paired_end (IsApart a) (take i gs) bs (get_or gs i g) b h (subst (λ (k : Given). IsApart a k b) e p))
+
+pub apart_there : (a : Automaton) (gs : List Given) (i : ℕ) (g : Given) → i < length gs → g ≡ get_or gs i g → AllByRecursion (λ (k : Given). IsState a k.state) gs → IsState a g.state
+apart_there a [] i g lt e h = absurd (omega arith)
+apart_there a (k ∷ gs) zero g lt e h = subst (λ (w : Given). IsState a w.state) (sym e) h.0
+apart_there a (k ∷ gs) (suc i) g lt e h = apart_there a gs i g (omega arith) e h.1
+
+module _ (E : Definitions) (A : Document → Type 0) (earlier : List PlacedTree) (P : PlacedTree) (a : Automaton) where
+  pub givens_there : (gs : List Given) → All (IsMayGiven E A earlier P a) gs → AllByRecursion (λ (g : Given). IsState a g.state) gs
+  givens_there [] h = tt
+  givens_there (g ∷ gs) h = ((h zero g (omega arith)).belongs, givens_there gs (λ i d lt. h (suc i) d (omega arith)))
+
+  one_apart : (g : Given) (b : Binding) → IsApart a g b → IsMayGiven E A earlier P a g → IsMayBinding E A earlier P b
+  one_apart g b p m = subst (λ x. IsMayState E A earlier P b.auto x b.state) (sym p.variable) (record {
+    belongs = p.belongs;
+    exact = λ e proper. (λ y. (m.exact e proper).0 (sym (p.same e) ∙ y), λ w. p.same e ∙ (m.exact e proper).1 w);
+  })
+
+  words_apart : (gs : List Given) (bs : List Binding) → AllPaired (IsApart a) gs bs → map (λ (b : Binding). b.variable) bs ≡ map (λ (g : Given). g.variable) gs
+  words_apart [] [] h = refl
+  words_apart [] (b ∷ bs) h = absurd h
+  words_apart (g ∷ gs) [] h = absurd h
+  words_apart (g ∷ gs) (b ∷ bs) h =
+      ap (λ w. w ∷ map (λ (c : Binding). c.variable) bs) (h.0).variable ∙ ap (λ ws. g.variable ∷ ws) (words_apart gs bs h.1)
+
+  each_apart : (gs : List Given) (bs : List Binding) → AllPaired (IsApart a) gs bs → All (IsMayGiven E A earlier P a) gs → All (IsMayBinding E A earlier P) bs
+  each_apart [] [] h m = λ i d lt. absurd (omega arith)
+  each_apart [] (b ∷ bs) h m = absurd h
+  each_apart (g ∷ gs) [] h m = absurd h
+  each_apart (g ∷ gs) (b ∷ bs) h m =
+      all_front (IsMayBinding E A earlier P) b bs (one_apart g b h.0 (m zero g (omega arith))) (each_apart gs bs h.1 (λ j k l. m (suc j) k (omega arith)))
+
+  pub bindings_apart : (gs : List Given) (bs : List Binding) → AllPaired (IsApart a) gs bs → AreMayGivens E A earlier P a gs → AreMayBindings E A earlier P bs
+  bindings_apart gs bs h m = record { variables = words_apart gs bs h ∙ m.variables; each = each_apart gs bs h m.each }

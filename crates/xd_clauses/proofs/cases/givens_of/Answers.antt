@@ -1,0 +1,12 @@
+use Rattle.std.proofs.Common.{Ok, ap, ◌∙◌}
+use Rattle.xd_clauses.specs.Clauses.{Accepted}
+use Rattle.xd_clauses.proofs.Apart.{all_nothing}
+use Rattle.xd_clauses.proofs.cases.givens_of.Goals as goal
+
+pub bindings-requires-clause-known : goal.bindings-requires-clause-known
+bindings-requires-clause-known c = c.new-known.ensures c.args.auto.now c.new-store.result
+
+pub returns : goal.returns
+returns c E P p =
+    all_nothing E (Accepted c.args.auto.now c.args.arriving) P (c.in_ok-givens.ensures.dead (ap (λ o. Ok o) c.in-None.is) E P p) c.given_nothing.new.auto c.variables.result.now c.in_ok-givens-in-None.givens.items
+    (c.variables.ensures ∙ p.variables) c.in_ok-givens-in-None.ensures
