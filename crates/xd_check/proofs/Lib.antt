@@ -1,4 +1,5 @@
 pub mod Keeping
+pub mod Knowing
 pub mod LineLists
 pub mod Ranks
 pub mod Telling
@@ -16,7 +17,6 @@ pub mod Places
 pub mod Loops
 pub mod Scoping
 pub mod ClauseLoop
-pub mod Absorbing
 pub mod Walkable
 pub mod Outcomes
 pub mod Readying

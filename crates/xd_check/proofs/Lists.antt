@@ -1,6 +1,7 @@
 -- Lists of which each item meets a fact.
-use Rattle.std.proofs.Common.{◌≡◌, ℕ, suc, zero, ◌<◌, ◌≤◌, arith, List, [], ◌∷◌, ◌++◌, length, get_or, drop, map, Some, None, refl}
+use Rattle.std.proofs.Common.{◌≡◌, ℕ, suc, zero, ◌<◌, ◌≤◌, arith, List, [], ◌∷◌, ◌++◌, length, get_or, drop, map, Option, Some, None, refl, subst}
 use Rattle.std.specs.List.{AllByRecursion, slice_get}
+use Rattle.std.specs.Option.{IfSome}
 
 pub all_at : {A : Type 0} (P : A → Type 0) (xs : List A) (k : ℕ) (d : A) → AllByRecursion P xs → k < length xs → P (get_or xs k d)
 all_at P [] k d h l = absurd (omega arith)
@@ -33,3 +34,6 @@ pub got_past : {A : Type 0} (xs : List A) (n : ℕ) → length xs ≤ n → slic
 got_past [] n l = refl
 got_past (x ∷ xs) zero l = absurd (omega arith)
 got_past (x ∷ xs) (suc n) l = got_past xs n (omega arith)
+
+pub if_some : {A : Type 0} (P : A → Type 0) (o : Option A) (x : A) → o ≡ Some x → IfSome o P → P x
+if_some P o x e h = subst (λ q. IfSome q P) e h

@@ -15,13 +15,10 @@ use Rattle.xd_syntax.specs.Program.{Parameter, ProgramTree, names_of}
 use Rattle.xd_syntax.specs.Kept.{ProgramTable, parameter}
 use Rattle.xd_syntax.specs.declared.program.Param.{Param}
 use Rattle.xd_syntax.specs.May.{Scope, clause_entry, parameters_scope, Allows, MayBind, WhereTrue}
-use Rattle.xd_bind.specs.declared.tracks.Binding.{Binding}
-use Rattle.xd_clauses.specs.declared.arriving.Arriving.{Arriving}
-use Rattle.xd_clauses.specs.Clauses.{AreClauseBindings, Comes, IsClauseBinding}
-use Rattle.xd_laws.specs.KeptLines.{AllPaired}
+use Rattle.xd_bind.specs.declared.tracks.Given.{Given}
+use Rattle.xd_clauses.specs.Clauses.{AreMayGivens, IsMayGiven}
 use Rattle.xd_check.specs.declared.variables.Variable.{Variable}
-use Rattle.xd_check.specs.Absorbed.{AbsorbsBindings, BindingsBelong, IsAbsorbed}
-use Rattle.xd_check.specs.InScope.{AcceptedBy, AreStates, ScopeStands, parameters_in_scope, state_of}
+use Rattle.xd_check.specs.InScope.{AcceptedBy, AreStates, ScopeStands, given_variables, parameters_in_scope, state_of}
 use Rattle.xd_check.specs.Signed.{AreParameters}
 use Rattle.xd_check.specs.Walked.{ComesBehind, Grows}
 use Rattle.xd_check.proofs.ClauseLemmas.{bound_stands}
@@ -31,54 +28,48 @@ pub states_joined : (a : Automaton) (us vs : List Variable) → AreStates a us �
 states_joined a [] vs h k = k
 states_joined a (u ∷ us) vs h k = (h.0, states_joined a us vs h.1 k)
 
-absorbed_states : (a : Automaton) (bs : List Binding) (us : List Variable) → AllPaired (IsAbsorbed a) bs us → AreStates a us
-absorbed_states a [] [] h = tt
-absorbed_states a [] (u ∷ us) h = absurd h
-absorbed_states a (b ∷ bs) [] h = absurd h
-absorbed_states a (b ∷ bs) (u ∷ us) h = ((h.0).belongs, absorbed_states a bs us h.1)
+-- the variables of a pattern with their states
+module _ (E : Definitions) (C : Document → Type 0) (Q : PlacedTree) (a : Automaton) where
+  given_states : (gs : List Given) → All (IsMayGiven E C [] Q a) gs → AreStates a (given_variables gs)
+  given_states [] h = tt
+  given_states (g ∷ gs) h =
+      (let one : IsMayGiven E C [] Q a g = All-head (IsMayGiven E C [] Q a) g gs h in one.belongs, given_states gs (All-tail (IsMayGiven E C [] Q a) g gs h))
 
-absorbed_names : (a : Automaton) (bs : List Binding) (us : List Variable) → AllPaired (IsAbsorbed a) bs us → map (λ (v : Variable). v.name) us ≡ map (λ (b : Binding). b.variable) bs
-absorbed_names a [] [] h = refl
-absorbed_names a [] (u ∷ us) h = absurd h
-absorbed_names a (b ∷ bs) [] h = absurd h
-absorbed_names a (b ∷ bs) (u ∷ us) h = ap (λ x. x ∷ map (λ (v : Variable). v.name) us) (h.0).name ∙ ap (λ xs. b.variable ∷ xs) (absorbed_names a bs us h.1)
+  given_names : (gs : List Given) → map (λ (v : Variable). v.name) (given_variables gs) ≡ map (λ (g : Given). g.variable) gs
+  given_names [] = refl
+  given_names (g ∷ gs) = ap (λ xs. g.variable ∷ xs) (given_names gs)
 
-absorbed_bound : (E : Definitions) (v : Arriving) (Q : PlacedTree) (a : Automaton) (bs : List Binding) (us : List Variable) → All (IsClauseBinding E v Q) bs → AllPaired (IsAbsorbed a) bs us →
-    AllByRecursion (λ (u : Variable). (d : Document) → is_proper d ≡ true → (accepts a d u.state ≡ true) ↔ MayBind E (Comes v) [] Q u.name d) us
-absorbed_bound E v Q a [] [] k h = tt
-absorbed_bound E v Q a [] (u ∷ us) k h = absurd h
-absorbed_bound E v Q a (b ∷ bs) [] k h = absurd h
-absorbed_bound E v Q a (b ∷ bs) (u ∷ us) k h =
-    let one : IsClauseBinding E v Q b = All-head (IsClauseBinding E v Q) b bs k in
-    let i = h.0 in (
-      (λ d p. (let x = one.exact d p in (
-        (λ m. subst (λ y. MayBind E (Comes v) [] Q y d) (sym i.name) (x.0 (sym (i.same d) ∙ m))),
-        (λ m. i.same d ∙ x.1 (subst (λ y. MayBind E (Comes v) [] Q y d) i.name m)),
-      ))),
-      absorbed_bound E v Q a bs us (All-tail (IsClauseBinding E v Q) b bs k) h.1,
-    )
-
-pub bindings_belong : (E : Definitions) (v : Arriving) (Q : PlacedTree) (bs : List Binding) → All (IsClauseBinding E v Q) bs → BindingsBelong bs
-bindings_belong E v Q [] k = tt
-bindings_belong E v Q (b ∷ bs) k = (let one : IsClauseBinding E v Q b = All-head (IsClauseBinding E v Q) b bs k in one.belongs, bindings_belong E v Q bs (All-tail (IsClauseBinding E v Q) b bs k))
+  given_bound : (gs : List Given) → All (IsMayGiven E C [] Q a) gs →
+      AllByRecursion (λ (u : Variable). (d : Document) → is_proper d ≡ true → (accepts a d u.state ≡ true) ↔ MayBind E C [] Q u.name d) (given_variables gs)
+  given_bound [] h = tt
+  given_bound (g ∷ gs) h =
+      (let one : IsMayGiven E C [] Q a g = All-head (IsMayGiven E C [] Q a) g gs h in one.exact, given_bound gs (All-tail (IsMayGiven E C [] Q a) g gs h))
 
 -- the scope of a clause
-pub clause_scope : (P : ProgramTree) (S : Scope) (e : Expression) (earlier : List PlacedTree) (v : Arriving) → ComesBehind P S e earlier (Comes v) → (Q : PlacedTree) (a b : Automaton) (vs ws : List Variable) (bs : List Binding) →
-    Grows a b → AreStates a vs → ScopeStands P S a vs → AreClauseBindings (names_of P) v Q bs → AbsorbsBindings bs b vs ws → ScopeStands P (clause_entry e earlier Q ∷ S) b ws
-clause_scope P S e earlier v comes Q a b vs ws bs g h stands k m =
-    subst (ScopeStands P (clause_entry e earlier Q ∷ S) b) (sym m.grown)
-    (bound_stands P S e earlier (Comes v) comes Q b vs (scope_kept P S a b g vs h stands) m.added
-    (absorbed_bound (names_of P) v Q b bs m.added k.each m.each) (absorbed_names b bs m.added m.each ∙ k.variables))
+pub clause_scope : (P : ProgramTree) (S : Scope) (e : Expression) (earlier : List PlacedTree) (C : Document → Type 0) → ComesBehind P S e earlier C → (Q : PlacedTree) (a b : Automaton) (vs ws : List Variable) (gs : List Given) →
+    Grows a b → AreStates a vs → ScopeStands P S a vs → AreMayGivens (names_of P) C [] Q b gs → ws ≡ given_variables gs ++ vs → ScopeStands P (clause_entry e earlier Q ∷ S) b ws
+clause_scope P S e earlier C comes Q a b vs ws gs g h stands k m =
+    subst (ScopeStands P (clause_entry e earlier Q ∷ S) b) (sym m)
+    (bound_stands P S e earlier C comes Q b vs (scope_kept P S a b g vs h stands) (given_variables gs)
+    (given_bound (names_of P) C Q b gs k.each) (given_names (names_of P) C Q b gs ∙ k.variables))
 
-pub clause_states : (a b : Automaton) (vs ws : List Variable) (bs : List Binding) → Grows a b → AreStates a vs → AbsorbsBindings bs b vs ws → AreStates b ws
-clause_states a b vs ws bs g h m = subst (AreStates b) (sym m.grown) (states_joined b m.added vs (absorbed_states b bs m.added m.each) (states_kept a b g vs h))
+pub clause_states : (E : Definitions) (C : Document → Type 0) (Q : PlacedTree) (a b : Automaton) (vs ws : List Variable) (gs : List Given) → Grows a b → AreStates a vs → AreMayGivens E C [] Q b gs → ws ≡ given_variables gs ++ vs → AreStates b ws
+clause_states E C Q a b vs ws gs g h k m = subst (AreStates b) (sym m) (states_joined b (given_variables gs) vs (given_states E C Q b gs k.each) (states_kept a b g vs h))
 
 -- behind the clause the old variables are left
-pub clause_left : (a : Automaton) (vs ws us : List Variable) (n : ℕ) (bs : List Binding) → AbsorbsBindings bs a vs ws → n ≡ length vs → us ≡ drop (length ws - n) ws → us ≡ vs
-clause_left a vs ws us n bs m e k =
-    let l : length ws ≡ length m.added + length vs = ap length m.grown ∙ length-append m.added vs in
-    let d : length m.added ≡ length ws - n = omega arith in
-    k ∙ ap (drop (length ws - n)) m.grown ∙ drop_at m.added vs (length ws - n) d
+pub clause_left : (vs ws us : List Variable) (n : ℕ) (gs : List Given) → ws ≡ given_variables gs ++ vs → n ≡ length vs → us ≡ drop (length ws - n) ws → us ≡ vs
+clause_left vs ws us n gs m e k =
+    let l : length ws ≡ length (given_variables gs) + length vs = ap length m ∙ length-append (given_variables gs) vs in
+    let d : length (given_variables gs) ≡ length ws - n = omega arith in
+    k ∙ ap (drop (length ws - n)) m ∙ drop_at (given_variables gs) vs (length ws - n) d
+
+-- one variable more, from the last one on
+pub given_more : (gs rest : List Given) (vs : List Variable) (g : Given) → gs ≡ rest ++ g ∷ [] → given_variables gs ++ vs ≡ given_variables rest ++ record { name = g.variable; state = g.state } ∷ vs
+given_more gs rest vs g e = ap (λ hs. given_variables hs ++ vs) e ∙ go rest
+  where
+    go : (hs : List Given) → given_variables (hs ++ g ∷ []) ++ vs ≡ given_variables hs ++ record { name = g.variable; state = g.state } ∷ vs
+    go [] = refl
+    go (h ∷ hs) = ap (λ (us : List Variable). record { name = h.variable; state = h.state } ∷ us) (go hs)
 
 -- parameters in scope
 pub parameters_stand : (P : ProgramTree) (p : ProgramTable) (a : Automaton) (qs : List Param) (ss : List State) → AreParameters (names_of P) a (map (parameter p.types) qs) ss →

@@ -3,5 +3,5 @@ pub mod InScope
 pub mod Walked
 pub mod Signed
 pub mod Ready
-pub mod Absorbed
+pub mod Known
 pub mod Outcome

@@ -11,7 +11,9 @@ ghost use Rattle.xd_syntax.specs.Expression.{place_of_expression};
 ghost use Rattle.xd_syntax.specs.CheckFaults.{LineWhere, LinesOfFunctions, wrong_result};
 ghost use Rattle.xd_check.specs.FoundLines.{AddsLines};
 ghost use Rattle.xd_check.specs.InScope.{parameters_in_scope};
+ghost use Rattle.xd_check.specs.Known.{IsKnown};
 
+use crate::known::Known;
 use crate::lines::{Finding, FoundLine};
 use crate::signatures::{Signature, Signatures};
 use crate::states::misfit;
@@ -82,16 +84,18 @@ impl Checker {
     pub(crate) fn in_functions(
         &self,
         auto: &mut Auto,
+        known: &mut Known,
         lines: &mut Vec<FoundLine>,
         store: &mut Store,
     ) -> Result<(), NoMemory>
-        requires { IsReady self.now auto.old }
+        requires ready { IsReady self.now auto.old }
+        requires known { IsKnown auto.old store.old known.old }
         ensures lines { OnOk result (AddsLines store.new (LinesOfFunctions (program_tree self.now.sound) (program_tree self.now.sound).functions) lines.old.items lines.new.items) }
         ensures keeps { Keeps store.old store.new }
     {
         let functions = self.sound.program().functions();
         for number in 0..functions.len() {
-            self.in_function(number, auto, lines, store)?;
+            self.in_function(number, auto, known, lines, store)?;
         }
         Ok(())
     }
@@ -101,13 +105,16 @@ impl Checker {
         &self,
         number: usize,
         auto: &mut Auto,
+        known: &mut Known,
         lines: &mut Vec<FoundLine>,
         store: &mut Store,
     ) -> Result<(), NoMemory>
         requires ready { IsReady self.now auto.old }
         requires number { number < length self.now.sound.functions }
+        requires known { IsKnown auto.old store.old known.old }
         ensures lines { OnOk result (AddsLinesOfFunction self.now.sound number store.new lines.old.items lines.new.items) }
         ensures grows { OnOk result (Grows auto.old auto.new) }
+        ensures known { OnOk result (IsKnown auto.new store.new known.new) }
         ensures keeps { Keeps store.old store.new }
     {
         programs_are_linear();
@@ -115,8 +122,8 @@ impl Checker {
         let signature = &self.signatures.rows()[number];
         let mut variables = parameters(self.alloc, function.params(), &signature.parameters)?;
         let body = function.body();
-        let state = self.in_expression(body, &mut variables, auto, lines, store)?;
-        self.see_result(body, state, signature.declared, auto, lines, store)?;
+        let state = self.in_expression(body, &mut variables, auto, known, lines, store)?;
+        self.see_result(body, state, signature.declared, auto, known, lines, store)?;
         Ok(())
     }
 
@@ -127,16 +134,19 @@ impl Checker {
         state: State,
         wanted: State,
         auto: &Auto,
+        known: &mut Known,
         lines: &mut Vec<FoundLine>,
         store: &mut Store,
     ) -> Result<(), NoMemory>
         requires body { IsExpr self.now.sound.exprs body }
         requires state { IsState auto.now state }
         requires wanted { IsState auto.now wanted }
+        requires known { IsKnown auto.now store.old known.old }
         ensures lines { OnOk result (AddsLines store.new (LineWhere (place_of_expression (expr_at self.now.sound body.at)) wrong_result (IsMisfit auto.now state wanted)) lines.old.items lines.new.items) }
+        ensures known { OnOk result (IsKnown auto.now store.new known.new) }
         ensures keeps { Keeps store.old store.new }
     {
-        if let Some(document) = misfit(self.alloc, auto, state, wanted, store)? {
+        if let Some(document) = misfit(self.alloc, auto, known, state, wanted, store)? {
             lines.push(FoundLine {
                 place: self.place_of(body),
                 finding: Finding::Result(document),

@@ -16,21 +16,23 @@ ghost use Rattle.xd_syntax.specs.May.{FitsResult, Scope};
 ghost use Rattle.xd_syntax.specs.CheckFaults.{LinesOfArguments, parameters_of};
 ghost use Rattle.xd_syntax.specs.Expression.{Expression, arguments_of, clauses_of, place_of_expression};
 ghost use Rattle.xd_syntax.specs.Exprs.{IsExpr, clause_numbers, expr_numbers};
-ghost use Rattle.xd_clauses.specs.Clauses.{Comes, IsPatternOf};
+ghost use Rattle.xd_clauses.specs.Clauses.{Accepted, IsPatternOf};
 ghost use Rattle.xd_check.specs.FoundLines.{AddsLines};
 ghost use Rattle.xd_check.specs.InScope.{AreStates, ScopeStands};
+ghost use Rattle.xd_check.specs.Known.{IsKnown};
 ghost use Rattle.xd_check.specs.Signed.{AreParameters};
 ghost use Rattle.xd_check.specs.Ready.{CanBeWalked, ClauseCanBeWalked, IsReady, expr_at};
 ghost use Rattle.xd_check.specs.Walked.{AreClausesWalked, ArePartsWalked, ComesBehind, Grows, IsClauseWalked, IsWalked, LinesOfArgument, with_found};
 
 use crate::checker::Checker;
 use crate::clauses::{bring_in, see_uncovered};
+use crate::known::Known;
 use crate::lines::{Finding, FoundLine};
 use crate::states::{join_states, misfit, text_state, unite_states, variable_state};
 use crate::variables::Variables;
 use xd_auto::{Auto, State};
 use xd_base::Place;
-use xd_clauses::{Arriving, ClausePattern};
+use xd_clauses::ClausePattern;
 use xd_doc::{Label, NoMemory, Store};
 use xd_syntax::{Clause, ExprForm, ExprId};
 
@@ -42,16 +44,19 @@ impl Checker {
         id: ExprId,
         variables: &mut Variables,
         auto: &mut Auto,
+        known: &mut Known,
         lines: &mut Vec<FoundLine>,
         store: &mut Store,
     ) -> Result<State, NoMemory>
         requires ready { IsReady self.now auto.old }
         requires expression { CanBeWalked self.now.sound id.at }
         requires variables { AreStates auto.old variables.old }
+        requires known { IsKnown auto.old store.old known.old }
         ensures belongs { IfOk result (IsState auto.new) }
         ensures walked { IfOk result (λ state. (S : Scope) → ScopeStands (program_tree self.now.sound) S auto.old variables.old → IsWalked (program_tree self.now.sound) S (expr_at self.now.sound id.at) auto.new store.new lines.old.items lines.new.items state) }
         ensures variables { OnOk result (variables.new ≡ variables.old) }
         ensures grows { OnOk result (Grows auto.old auto.new) }
+        ensures known { OnOk result (IsKnown auto.new store.new known.new) }
         ensures keeps { Keeps store.old store.new }
     {
         let node = self.sound.program().exprs().node(id);
@@ -60,21 +65,20 @@ impl Checker {
             ExprForm::Text(text) => Ok(text_state(self.alloc, text, auto)?),
             ExprForm::Var(word) => Ok(variable_state(variables, word, auto)?),
             ExprForm::Elem(label, content) => {
-                let inside = self.in_expression(*content, variables, auto, lines, store)?;
+                let inside = self.in_expression(*content, variables, auto, known, lines, store)?;
                 Ok(auto.wrap(label, inside)?)
             }
             ExprForm::Seq(parts) => {
-                let states = self.in_parts(parts, variables, auto, lines, store)?;
+                let states = self.in_parts(parts, variables, auto, known, lines, store)?;
                 Ok(join_states(states, auto)?)
             }
             ExprForm::Call(word, arguments) => {
-                Ok(self.in_call(word, arguments, variables, auto, lines, store)?)
+                Ok(self.in_call(word, arguments, variables, auto, known, lines, store)?)
             }
             ExprForm::Match(scrutinee, clauses) => {
                 let place = node.place();
-                let value = self.in_expression(*scrutinee, variables, auto, lines, store)?;
-                let arriving = Arriving::new(self.alloc, auto, value)?;
-                Ok(self.in_clauses(place, clauses, arriving, variables, auto, lines, store)?)
+                let value = self.in_expression(*scrutinee, variables, auto, known, lines, store)?;
+                Ok(self.in_clauses(place, clauses, value, variables, auto, known, lines, store)?)
             }
         }
     }
@@ -86,21 +90,24 @@ impl Checker {
         parts: &[ExprId],
         variables: &mut Variables,
         auto: &mut Auto,
+        known: &mut Known,
         lines: &mut Vec<FoundLine>,
         store: &mut Store,
     ) -> Result<Vec<State>, NoMemory>
         requires ready { IsReady self.now auto.old }
         requires parts { AllByRecursion (CanBeWalked self.now.sound) (expr_numbers parts.now) }
         requires variables { AreStates auto.old variables.old }
+        requires known { IsKnown auto.old store.old known.old }
         ensures belong { IfOk result (λ states. AllByRecursion (IsState auto.new) states.items) }
         ensures walked { IfOk result (λ states. (S : Scope) → ScopeStands (program_tree self.now.sound) S auto.old variables.old → ArePartsWalked (program_tree self.now.sound) S (map (expr_at self.now.sound) (expr_numbers parts.now)) auto.new store.new lines.old.items lines.new.items states.items) }
         ensures variables { OnOk result (variables.new ≡ variables.old) }
         ensures grows { OnOk result (Grows auto.old auto.new) }
+        ensures known { OnOk result (IsKnown auto.new store.new known.new) }
         ensures keeps { Keeps store.old store.new }
     {
         let mut states = Vec::new(self.alloc);
         for part in parts {
-            let state = self.in_expression(*part, variables, auto, lines, store)?;
+            let state = self.in_expression(*part, variables, auto, known, lines, store)?;
             states.push(state)?;
         }
         Ok(states)
@@ -115,27 +122,30 @@ impl Checker {
         arguments: &[ExprId],
         variables: &mut Variables,
         auto: &mut Auto,
+        known: &mut Known,
         lines: &mut Vec<FoundLine>,
         store: &mut Store,
     ) -> Result<State, NoMemory>
         requires ready { IsReady self.now auto.old }
         requires arguments { AllByRecursion (CanBeWalked self.now.sound) (expr_numbers arguments.now) }
         requires variables { AreStates auto.old variables.old }
+        requires known { IsKnown auto.old store.old known.old }
         ensures belongs { IfOk result (IsState auto.new) }
         ensures result { IfOk result (λ state. (d : Document) → (accepts auto.new d state ≡ true) ↔ FitsResult (names_of (program_tree self.now.sound)) (function_of (program_tree self.now.sound).functions word.now) d) }
         ensures lines { OnOk result ((S : Scope) → ScopeStands (program_tree self.now.sound) S auto.old variables.old → AddsLines store.new (LinesOfArguments (program_tree self.now.sound) S (parameters_of (function_of (program_tree self.now.sound).functions word.now)) (arguments_of (map (expr_at self.now.sound) (expr_numbers arguments.now)))) lines.old.items lines.new.items) }
         ensures variables { OnOk result (variables.new ≡ variables.old) }
         ensures grows { OnOk result (Grows auto.old auto.new) }
+        ensures known { OnOk result (IsKnown auto.new store.new known.new) }
         ensures keeps { Keeps store.old store.new }
     {
         match self.signatures.find(word) {
             Some(signature) => {
                 let parameters = &signature.parameters;
-                self.in_arguments(parameters, arguments, variables, auto, lines, store)?;
+                self.in_arguments(parameters, arguments, variables, auto, known, lines, store)?;
                 Ok(signature.declared)
             }
             None => {
-                self.in_arguments(&[], arguments, variables, auto, lines, store)?;
+                self.in_arguments(&[], arguments, variables, auto, known, lines, store)?;
                 Ok(auto.add_state(false)?)
             }
         }
@@ -149,6 +159,7 @@ impl Checker {
         arguments: &[ExprId],
         variables: &mut Variables,
         auto: &mut Auto,
+        known: &mut Known,
         lines: &mut Vec<FoundLine>,
         store: &mut Store,
     ) -> Result<(), NoMemory>
@@ -156,14 +167,18 @@ impl Checker {
         requires arguments { AllByRecursion (CanBeWalked self.now.sound) (expr_numbers arguments.now) }
         requires parameters { AllByRecursion (IsState auto.old) parameters.now }
         requires variables { AreStates auto.old variables.old }
+        requires known { IsKnown auto.old store.old known.old }
         ensures lines { OnOk result ((S : Scope) (qs : List Parameter) → ScopeStands (program_tree self.now.sound) S auto.old variables.old → AreParameters (names_of (program_tree self.now.sound)) auto.old qs parameters.now → AddsLines store.new (LinesOfArguments (program_tree self.now.sound) S qs (arguments_of (map (expr_at self.now.sound) (expr_numbers arguments.now)))) lines.old.items lines.new.items) }
         ensures variables { OnOk result (variables.new ≡ variables.old) }
         ensures grows { OnOk result (Grows auto.old auto.new) }
+        ensures known { OnOk result (IsKnown auto.new store.new known.new) }
         ensures keeps { Keeps store.old store.new }
     {
         for (number, argument) in arguments.iter().enumerate() {
-            let state = self.in_expression(*argument, variables, auto, lines, store)?;
-            self.see_argument(*argument, state, parameters, number, auto, lines, store)?;
+            let state = self.in_expression(*argument, variables, auto, known, lines, store)?;
+            self.see_argument(
+                *argument, state, parameters, number, auto, known, lines, store,
+            )?;
         }
         Ok(())
     }
@@ -176,19 +191,22 @@ impl Checker {
         parameters: &[State],
         number: usize,
         auto: &Auto,
+        known: &mut Known,
         lines: &mut Vec<FoundLine>,
         store: &mut Store,
     ) -> Result<(), NoMemory>
         requires argument { IsExpr self.now.sound.exprs argument }
         requires state { IsState auto.now state }
         requires parameters { AllByRecursion (IsState auto.now) parameters.now }
+        requires known { IsKnown auto.now store.old known.old }
         ensures lines { OnOk result (AddsLines store.new (LinesOfArgument auto.now (place_of_expression (expr_at self.now.sound argument.at)) state (slice_get parameters.now number)) lines.old.items lines.new.items) }
+        ensures known { OnOk result (IsKnown auto.now store.new known.new) }
         ensures keeps { Keeps store.old store.new }
     {
         if number >= parameters.len() {
             return Ok(());
         }
-        if let Some(document) = misfit(self.alloc, auto, state, parameters[number], store)? {
+        if let Some(document) = misfit(self.alloc, auto, known, state, parameters[number], store)? {
             lines.push(FoundLine {
                 place: self.place_of(argument),
                 finding: Finding::Argument(document),
@@ -203,20 +221,23 @@ impl Checker {
         &self,
         place: Place,
         clauses: &[Clause],
-        arriving: Arriving,
+        arriving: State,
         variables: &mut Variables,
         auto: &mut Auto,
+        known: &mut Known,
         lines: &mut Vec<FoundLine>,
         store: &mut Store,
     ) -> Result<State, NoMemory>
         requires ready { IsReady self.now auto.old }
         requires clauses { AllByRecursion (ClauseCanBeWalked self.now.sound) (clause_numbers clauses.now) }
-        requires arriving { IsState arriving.auto arriving.state }
+        requires arriving { IsState auto.old arriving }
         requires variables { AreStates auto.old variables.old }
+        requires known { IsKnown auto.old store.old known.old }
         ensures belongs { IfOk result (IsState auto.new) }
-        ensures walked { IfOk result (λ state. (S : Scope) (e : Expression) → ScopeStands (program_tree self.now.sound) S auto.old variables.old → ComesBehind (program_tree self.now.sound) S e [] (Comes arriving) → AreClausesWalked (program_tree self.now.sound) S place e (clauses_of (placed_at self.now.sound.patterns) (expr_at self.now.sound) (clause_numbers clauses.now)) auto.new store.new lines.old.items lines.new.items state) }
+        ensures walked { IfOk result (λ state. (S : Scope) (e : Expression) → ScopeStands (program_tree self.now.sound) S auto.old variables.old → ComesBehind (program_tree self.now.sound) S e [] (Accepted auto.old arriving) → AreClausesWalked (program_tree self.now.sound) S place e (clauses_of (placed_at self.now.sound.patterns) (expr_at self.now.sound) (clause_numbers clauses.now)) auto.new store.new lines.old.items lines.new.items state) }
         ensures variables { OnOk result (variables.new ≡ variables.old) }
         ensures grows { OnOk result (Grows auto.old auto.new) }
+        ensures known { OnOk result (IsKnown auto.new store.new known.new) }
         ensures keeps { Keeps store.old store.new }
     {
         let mut arriving = arriving;
@@ -228,13 +249,14 @@ impl Checker {
                 &self.sound,
                 clause.pattern,
             )?;
+            let left = pattern.pass(self.alloc, auto, arriving)?;
             let found = self.in_clause(
-                *clause, &pattern, &arriving, variables, auto, lines, store,
+                *clause, &pattern, arriving, variables, auto, known, lines, store,
             )?;
             push_found(found, &mut states)?;
-            arriving.pass(self.alloc, &pattern)?;
+            arriving = left;
         }
-        see_uncovered(self.alloc, place, &arriving, lines, store)?;
+        see_uncovered(self.alloc, place, auto, arriving, known, lines, store)?;
         Ok(unite_states(states, auto)?)
     }
 
@@ -244,34 +266,38 @@ impl Checker {
         &self,
         clause: Clause,
         pattern: &ClausePattern,
-        arriving: &Arriving,
+        arriving: State,
         variables: &mut Variables,
         auto: &mut Auto,
+        known: &mut Known,
         lines: &mut Vec<FoundLine>,
         store: &mut Store,
     ) -> Result<Option<State>, NoMemory>
         requires ready { IsReady self.now auto.old }
         requires clause { ClauseCanBeWalked self.now.sound (clause.pattern.at, clause.body.at) }
         requires pattern { IsPatternOf (names_of (program_tree self.now.sound)) (tree_at self.now.sound.patterns clause.pattern.at) pattern.now }
-        requires arriving { IsState arriving.now.auto arriving.now.state }
+        requires arriving { IsState auto.old arriving }
         requires variables { AreStates auto.old variables.old }
+        requires known { IsKnown auto.old store.old known.old }
         ensures belongs { IfOk result (λ found. IfSome found (IsState auto.new)) }
-        ensures walked { IfOk result (λ found. (S : Scope) (e : Expression) (earlier : List PlacedTree) → ScopeStands (program_tree self.now.sound) S auto.old variables.old → ComesBehind (program_tree self.now.sound) S e earlier (Comes arriving.now) → IsClauseWalked (program_tree self.now.sound) S e earlier (placed_at self.now.sound.patterns clause.pattern.at) (expr_at self.now.sound clause.body.at) auto.new store.new lines.old.items lines.new.items found) }
+        ensures walked { IfOk result (λ found. (S : Scope) (e : Expression) (earlier : List PlacedTree) → ScopeStands (program_tree self.now.sound) S auto.old variables.old → ComesBehind (program_tree self.now.sound) S e earlier (Accepted auto.old arriving) → IsClauseWalked (program_tree self.now.sound) S e earlier (placed_at self.now.sound.patterns clause.pattern.at) (expr_at self.now.sound clause.body.at) auto.new store.new lines.old.items lines.new.items found) }
         ensures variables { OnOk result (variables.new ≡ variables.old) }
         ensures grows { OnOk result (Grows auto.old auto.new) }
+        ensures known { OnOk result (IsKnown auto.new store.new known.new) }
         ensures keeps { Keeps store.old store.new }
     {
-        if !arriving.is_live(self.alloc, pattern)? {
+        let inhabitants = &mut known.inhabitants;
+        let found = pattern.bindings(self.alloc, auto, arriving, inhabitants, store)?;
+        let Some(givens) = found else {
             lines.push(FoundLine {
                 place: self.pattern_place(clause.pattern),
                 finding: Finding::DeadClause,
             })?;
             return Ok(None);
-        }
+        };
         let before = variables.len();
-        let bindings = arriving.bindings(self.alloc, pattern)?;
-        bring_in(bindings, variables, auto)?;
-        let state = self.in_expression(clause.body, variables, auto, lines, store)?;
+        bring_in(givens, variables)?;
+        let state = self.in_expression(clause.body, variables, auto, known, lines, store)?;
         variables.truncate(before);
         Ok(Some(state))
     }

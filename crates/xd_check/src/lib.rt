@@ -4,6 +4,7 @@
 mod checker;
 mod clauses;
 mod expressions;
+mod known;
 mod lines;
 mod outcome;
 mod signatures;

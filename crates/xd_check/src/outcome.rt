@@ -5,6 +5,7 @@ ghost use Rattle.xd_doc.specs.Stored.{Keeps};
 ghost use Rattle.xd_check.specs.Outcome.{IsOutcome};
 
 use crate::checker::Checker;
+use crate::known::Known;
 use crate::lines::{Told, sort_lines, tell};
 use std::alloc::Global;
 use xd_auto::Auto;
@@ -40,7 +41,8 @@ pub fn check(
     let mut auto = Auto::new(alloc);
     let checker = Checker::new(alloc, sound, &mut auto)?;
     let mut lines = Vec::new(alloc);
-    checker.in_functions(&mut auto, &mut lines, store)?;
+    let mut known = Known::new(alloc, &auto, store);
+    checker.in_functions(&mut auto, &mut known, &mut lines, store)?;
     sort_lines(&mut lines)?;
     let Told { faults, warnings } = tell(alloc, &lines)?;
     if !faults.is_empty() {

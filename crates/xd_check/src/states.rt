@@ -8,12 +8,14 @@ ghost use Rattle.xd_doc.specs.Stored.{BelongsTo, Keeps, document_at};
 ghost use Rattle.xd_auto.specs.Automaton.{IsState, accepts};
 ghost use Rattle.xd_check.specs.Walked.{AcceptedBySome, AcceptedInTurn, Grows};
 ghost use Rattle.xd_check.specs.InScope.{AcceptedBy, AreStates, state_of};
+ghost use Rattle.xd_check.specs.Known.{IsKnown};
 
+use crate::known::Known;
 use crate::variables::Variables;
 use std::alloc::Global;
 use xd_auto::{Auto, State};
 use xd_doc::{Label, NoMemory, Seq, Store, Text, Words};
-use xd_goals::{Table, Verdict, decide, new_tables_stand};
+use xd_goals::{Verdict, decide};
 
 /// A state that accepts one text alone.
 pub(crate) fn text_state(
@@ -91,21 +93,22 @@ pub(crate) fn unite_states(states: Vec<State>, auto: &mut Auto) -> Result<State,
 pub(crate) fn misfit(
     alloc: Global,
     auto: &Auto,
+    known: &mut Known,
     state: State,
     wanted: State,
     store: &mut Store,
 ) -> Result<Option<Seq>, NoMemory>
     requires state { IsState auto.now state }
     requires wanted { IsState auto.now wanted }
+    requires known { IsKnown auto.now store.old known.old }
     ensures accepted { IfOk result (λ found. IfSome found (λ seq. accepts auto.now (document_at store.new seq) state ≡ true)) }
     ensures refused { IfOk result (λ found. IfSome found (λ seq. accepts auto.now (document_at store.new seq) wanted ≡ true → ⊥)) }
     ensures belongs { IfOk result (λ found. IfSome found (BelongsTo store.new)) }
     ensures none { result ≡ Ok None → (d : Document) → accepts auto.now d state ≡ true → accepts auto.now d wanted ≡ true }
+    ensures known { IsKnown auto.now store.new known.new }
     ensures keeps { Keeps store.old store.new }
 {
-    let mut table = Table::new(alloc);
-    new_tables_stand(auto, store);
-    match decide(alloc, auto, &mut table, state, &[wanted], store)? {
+    match decide(alloc, auto, &mut known.table, state, &[wanted], store)? {
         Verdict::Included(_) => Ok(None),
         Verdict::Separated(document) => Ok(Some(document)),
     }

@@ -1,18 +1,17 @@
-use Rattle.std.proofs.Common.{refl}
+use Rattle.std.proofs.Common.{◌++◌, ◌≡◌, List, [], ap, sym, ◌∙◌, rules, vec_len}
+use Rattle.std.proofs.lemmas.List.{nil_from_length}
+use Rattle.xd_bind.specs.declared.tracks.Given.{Given}
+use Rattle.xd_check.specs.InScope.{given_variables}
 use Rattle.xd_check.specs.declared.variables.Variable.{Variable}
-use Rattle.xd_check.proofs.Absorbing.{absorbed_begin, absorbed_more, last_there}
+use Rattle.xd_check.proofs.Scoping.{given_more}
 use Rattle.xd_check.proofs.clauses.bring_in.Goals as goal
 
-pub loop-binding-init : goal.loop-binding-init
-loop-binding-init c = absorbed_begin c.args.auto.now c.args.bindings.items c.args.variables.now c.requires
+pub loop-given-preserved : goal.loop-given-preserved
+loop-given-preserved c =
+    c.loop-given.invariant ∙ given_more c.loop-given.givens.items c.pop.new.self.items c.loop-given.variables c.in-Some.given c.in-Some.ensures.items
+    ∙ ap (λ (vs : List Variable). given_variables c.pop.new.self.items ++ vs) (sym c.in_ok-push.ensures)
 
-pub absorb-requires : goal.absorb-requires
-absorb-requires c =
-    last_there c.args.auto.now c.loop-binding.auto' c.args.bindings.items c.loop-binding.bindings.items c.pop.new.self.items c.args.variables.now c.loop-binding.variables c.in-Some.binding c.loop-binding.invariant c.in-Some.ensures.items
-
-pub loop-binding-preserved : goal.loop-binding-preserved
-loop-binding-preserved c =
-    let e = c.in_ok-state.ensures in
-    let v : Variable = record { name = c.in-Some.binding.variable; state = c.in_ok-state.state } in
-    absorbed_more c.args.auto.now c.loop-binding.auto' c.absorb.new.self c.args.bindings.items c.loop-binding.bindings.items c.pop.new.self.items c.args.variables.now c.loop-binding.variables c.push.new.self
-    c.in-Some.binding v c.loop-binding.invariant c.in-Some.ensures.items refl e.belongs e.ok e.extends e.keeps c.in_ok-push.ensures
+pub returns : goal.returns
+returns c =
+    let none : c.loop-given.givens.items ≡ [] = nil_from_length c.loop-given.givens.items (let h : vec_len c.loop-given.givens ≡ 0 = c.in_default.ensures.cases.0 in search rules) in
+    sym (c.loop-given.invariant ∙ ap (λ (gs : List Given). given_variables gs ++ c.loop-given.variables) none)

@@ -1,9 +1,9 @@
-use Rattle.std.proofs.Common.{vec_len}
-use Rattle.xd_check.proofs.Absorbing.{AreAbsorbed}
+use Rattle.std.proofs.Common.{◌≡◌, ◌++◌, vec_len}
+use Rattle.xd_check.specs.InScope.{given_variables}
 use Rattle.xd_check.proofs.clauses.bring_in.Given as goal
 
-abbrev pub invariant-loop-binding : goal.invariant-loop-binding
-invariant-loop-binding l = AreAbsorbed l.fn.auto l.auto' l.fn.bindings.items l.bindings.items l.fn.variables l.variables
+abbrev pub invariant-loop-given : goal.invariant-loop-given
+invariant-loop-given l = given_variables l.fn.givens.items ++ l.fn.variables ≡ given_variables l.givens.items ++ l.variables
 
-abbrev pub decreases-loop-binding : goal.decreases-loop-binding
-decreases-loop-binding l = vec_len l.bindings
+abbrev pub decreases-loop-given : goal.decreases-loop-given
+decreases-loop-given l = vec_len l.givens

@@ -13,7 +13,7 @@ pub new-requires : goal.new-requires
 new-requires c = c.new-auto.ensures
 
 pub in_functions-requires : goal.in_functions-requires
-in_functions-requires c = c.in_ok-checker.ensures.ready
+in_functions-requires c = record { ready = c.in_ok-checker.ensures.ready; known = c.new-known.ensures }
 
 pub returns-then-not-is_empty-clause-outcome : goal.returns-then-not-is_empty-clause-outcome
 returns-then-not-is_empty-clause-outcome c =

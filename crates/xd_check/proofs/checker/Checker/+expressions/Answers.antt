@@ -11,23 +11,25 @@ use Rattle.xd_syntax.specs.Expression.{Clauses, Expression, Matched, ExprPartsBe
 use Rattle.xd_syntax.specs.Exprs.{clause_numbers, expr_numbers, shape_of}
 use Rattle.xd_syntax.specs.declared.exprs.ExprId.{ExprId}
 use Rattle.xd_syntax.specs.declared.exprs.Clause.{Clause}
-use Rattle.xd_clauses.specs.Clauses.{Comes, IsPatternOf}
+use Rattle.xd_clauses.specs.Clauses.{Accepted, AreMayGivens, IsPatternOf}
 use Rattle.xd_check.specs.InScope.{ScopeStands}
 use Rattle.xd_check.specs.Ready.{CanBeWalked, expr_at}
-use Rattle.xd_syntax.specs.May.{FitsResult, clause_entry}
+use Rattle.xd_syntax.specs.May.{FitsResult, IsLive, clause_entry}
+use Rattle.xd_syntax.specs.Tree.{Definitions}
 use Rattle.xd_syntax.specs.CheckFaults.{IsLiveIn, dead_clause, parameters_of}
 use Rattle.xd_syntax.proofs.PlacedTrees.{unplaced_at}
 use Rattle.xd_check.specs.declared.lines.Finding.TheVariants.{DeadClause}
 use Rattle.xd_check.specs.declared.variables.Variable.{Variable}
 use Rattle.xd_check.specs.Signed.{AreParameters, signature_of}
-use Rattle.xd_check.specs.Walked.{IsWalked}
+use Rattle.xd_check.specs.Walked.{Grows, IsWalked}
 use Rattle.xd_check.proofs.ClauseLemmas.{clause_dead, clause_live, comes_first, live_from, live_to, walked_matched}
 use Rattle.xd_check.proofs.Arguments.{walked_called}
-use Rattle.xd_check.proofs.Keeping.{grows_then, keeps_then, scope_kept}
+use Rattle.xd_check.proofs.Keeping.{grows_then, keeps_same, keeps_then, scope_kept}
+use Rattle.xd_check.proofs.Knowing.{known_kept, known_learnt}
 use Rattle.xd_check.proofs.ClauseLoop.{ClausesLoop, clause_here, clauses_loop_begin, clauses_loop_end, clauses_loop_more}
-use Rattle.xd_check.proofs.Scoping.{bindings_belong, clause_left, clause_scope, clause_states, parameter_states}
+use Rattle.xd_check.proofs.Scoping.{clause_left, clause_scope, clause_states, parameter_states}
 use Rattle.xd_check.proofs.Loops.{PartsLoop, argument_here, arguments_begin, arguments_end, arguments_more, bodies, bodies_below, ceiling, ceiling_within, part_here, parts_begin, parts_end, parts_more}
-use Rattle.xd_check.proofs.Lists.{all_as}
+use Rattle.xd_check.proofs.Lists.{all_as, if_some}
 use Rattle.xd_check.proofs.Making.{joined_none, never, new_moves}
 use Rattle.xd_check.proofs.Readying.{found_there, ready_kept, signed_none, signed_some, states_again}
 use Rattle.xd_check.proofs.Walkable.{expr_is, walk_arguments, walk_clauses, walk_content, walk_parts, walk_scrutinee}
@@ -51,7 +53,7 @@ in_expression-in_expression-requires t c =
     let tree = expr_is p c.exprs.result.now c.args.id n.place n.form (elem_shape c.in-Elem.label c.in-Elem.content.at) e (c.node-node.ensures.expression p.patterns) form in
     let older : c.in-Elem.content.at < c.args.id.at = subst (ExprPartsBelow c.args.id.at) form c.node-node.ensures.parts in
     let falls : 4 * c.in-Elem.content.at + 3 < t = omega arith in
-    (falls, (c.requires.ready, (walk_content p c.args.id.at c.in-Elem.content.at n.place c.in-Elem.label c.requires.expression tree older, c.requires.variables)))
+    (falls, (c.requires.ready, (walk_content p c.args.id.at c.in-Elem.content.at n.place c.in-Elem.label c.requires.expression tree older, (c.requires.variables, c.requires.known))))
 
 pub in_expression-wrap-requires : goal.in_expression-wrap-requires
 in_expression-wrap-requires t c = c.in_ok-inside-in-Elem.ensures.belongs
@@ -68,7 +70,7 @@ in_expression-in_parts-requires t c =
     let here : AllByRecursion (λ i. i < c.args.id.at) (expr_numbers c.deref.result.now) = subst (λ (ps : List ExprId). AllByRecursion (λ i. i < c.args.id.at) (expr_numbers ps)) (sym c.deref.ensures.value) older in
     let top = ceiling_within c.args.id.at (expr_numbers c.deref.result.now) here in
     let falls : 4 * ceiling (expr_numbers c.deref.result.now) + 1 < t = omega arith in
-    (falls, (c.requires.ready, (subst (λ (ps : List ExprId). AllByRecursion (CanBeWalked p) (expr_numbers ps)) (sym c.deref.ensures.value) (walk_parts p c.args.id.at n.place ids c.requires.expression tree older), c.requires.variables)))
+    (falls, (c.requires.ready, (subst (λ (ps : List ExprId). AllByRecursion (CanBeWalked p) (expr_numbers ps)) (sym c.deref.ensures.value) (walk_parts p c.args.id.at n.place ids c.requires.expression tree older), (c.requires.variables, c.requires.known))))
 
 pub in_expression-join_states-requires : goal.in_expression-join_states-requires
 in_expression-join_states-requires t c = c.in_ok-states-in-Seq.ensures.belong
@@ -85,7 +87,7 @@ in_expression-in_call-requires t c =
     let here : AllByRecursion (λ i. i < c.args.id.at) (expr_numbers c.deref-in-Call.result.now) = subst (λ (ps : List ExprId). AllByRecursion (λ i. i < c.args.id.at) (expr_numbers ps)) (sym c.deref-in-Call.ensures.value) older in
     let top = ceiling_within c.args.id.at (expr_numbers c.deref-in-Call.result.now) here in
     let falls : 4 * ceiling (expr_numbers c.deref-in-Call.result.now) + 2 < t = omega arith in
-    (falls, (c.requires.ready, (subst (λ (ps : List ExprId). AllByRecursion (CanBeWalked p) (expr_numbers ps)) (sym c.deref-in-Call.ensures.value) (walk_arguments p c.args.id.at n.place c.in-Call.word ids c.requires.expression tree older), c.requires.variables)))
+    (falls, (c.requires.ready, (subst (λ (ps : List ExprId). AllByRecursion (CanBeWalked p) (expr_numbers ps)) (sym c.deref-in-Call.ensures.value) (walk_arguments p c.args.id.at n.place c.in-Call.word ids c.requires.expression tree older), (c.requires.variables, c.requires.known))))
 
 pub in_expression-in_expression-requires-in-Match : goal.in_expression-in_expression-requires-in-Match
 in_expression-in_expression-requires-in-Match t c =
@@ -98,10 +100,7 @@ in_expression-in_expression-requires-in-Match t c =
     let older : (c.in-Match.scrutinee.at < c.args.id.at) × AllByRecursion (λ (k : ℕ × ℕ). k.1 < c.args.id.at) cs = subst (ExprPartsBelow c.args.id.at) form c.node-node.ensures.parts in
     let first : c.in-Match.scrutinee.at < c.args.id.at = older.0 in
     let falls : 4 * c.in-Match.scrutinee.at + 3 < t = omega arith in
-    (falls, (c.requires.ready, (walk_scrutinee p c.args.id.at c.in-Match.scrutinee.at n.place cs c.requires.expression tree first, c.requires.variables)))
-
-pub in_expression-new-requires : goal.in_expression-new-requires
-in_expression-new-requires t c = c.in_ok-value-in-Match.ensures.belongs
+    (falls, (c.requires.ready, (walk_scrutinee p c.args.id.at c.in-Match.scrutinee.at n.place cs c.requires.expression tree first, (c.requires.variables, c.requires.known))))
 
 pub in_expression-returns-in_ok-add_state-in-Empty-clause-walked : goal.in_expression-returns-in_ok-add_state-in-Empty-clause-walked
 in_expression-returns-in_ok-add_state-in-Empty-clause-walked t c S stands =
@@ -176,12 +175,15 @@ in_expression-returns-in_ok-in_call-in-Call-clause-walked t c S stands =
 
 pub in_parts-loop-part-init : goal.in_parts-loop-part-init
 in_parts-loop-part-init t c =
-    subst (PartsLoop c.args.self.now.sound c.args.auto.now c.args.auto.now c.args.variables.now c.args.variables.now c.args.store.now c.args.store.now c.args.lines.now.items c.args.lines.now.items c.args.parts.now 0) (sym c.new-states.ensures.items)
-    (parts_begin c.args.self.now.sound c.args.auto.now c.args.variables.now c.args.store.now c.args.lines.now.items c.args.parts.now c.requires.parts)
+    record {
+      walk = subst (PartsLoop c.args.self.now.sound c.args.auto.now c.args.auto.now c.args.variables.now c.args.variables.now c.args.store.now c.args.store.now c.args.lines.now.items c.args.lines.now.items c.args.parts.now 0) (sym c.new-states.ensures.items)
+          (parts_begin c.args.self.now.sound c.args.auto.now c.args.variables.now c.args.store.now c.args.lines.now.items c.args.parts.now c.requires.parts);
+      known = c.requires.known;
+    }
 
 pub in_parts-in_expression-requires : goal.in_parts-in_expression-requires
 in_parts-in_expression-requires t c =
-    let i = c.loop-part.invariant in
+    let i = c.loop-part.invariant.walk in
     let st = i.stays in
     let n : ℕ = c.loop-part.part-index in
     let id : ExprId = get_or c.args.parts.now n (record { at = 0 }) in
@@ -189,41 +191,44 @@ in_parts-in_expression-requires t c =
     c.loop-part-test.true (get_or_default c.args.parts.now n (record { at = 0 }) id c.loop-part-test.true) in
     let top = h.1 in
     let falls : 4 * id.at + 3 < t = omega arith in
-    (falls, (ready_kept c.args.self.now c.args.auto.now c.loop-part.auto' st.grows c.requires.ready, (h.0, states_again c.args.auto.now c.loop-part.auto' st.grows c.args.variables.now c.loop-part.variables st.variables c.requires.variables)))
+    (falls, (ready_kept c.args.self.now c.args.auto.now c.loop-part.auto' st.grows c.requires.ready, (h.0, (states_again c.args.auto.now c.loop-part.auto' st.grows c.args.variables.now c.loop-part.variables st.variables c.requires.variables, c.loop-part.invariant.known))))
 
 pub in_parts-loop-part-preserved : goal.in_parts-loop-part-preserved
 in_parts-loop-part-preserved t c =
     let n : ℕ = c.loop-part.part-index in
     let id : ExprId = get_or c.args.parts.now n (record { at = 0 }) in
     let e = c.in_ok-state.ensures in
-    parts_more c.args.self.now.sound c.args.auto.now c.loop-part.auto' c.in_expression.new.auto c.args.variables.now c.loop-part.variables c.in_expression.new.variables c.args.store.now c.loop-part.store c.in_expression.new.store
-    c.args.lines.now.items c.loop-part.lines.items c.in_expression.new.lines.items c.args.parts.now n c.loop-part.states.items c.push.new.self.items id c.in_ok-state.state c.requires.variables c.loop-part.invariant
-    c.loop-part-test.true (get_or_default c.args.parts.now n (record { at = 0 }) id c.loop-part-test.true) e.belongs e.walked e.variables e.grows e.keeps c.in_ok-push.ensures.items
+    record {
+      walk = parts_more c.args.self.now.sound c.args.auto.now c.loop-part.auto' c.in_expression.new.auto c.args.variables.now c.loop-part.variables c.in_expression.new.variables c.args.store.now c.loop-part.store c.in_expression.new.store
+          c.args.lines.now.items c.loop-part.lines.items c.in_expression.new.lines.items c.args.parts.now n c.loop-part.states.items c.push.new.self.items id c.in_ok-state.state c.requires.variables c.loop-part.invariant.walk
+          c.loop-part-test.true (get_or_default c.args.parts.now n (record { at = 0 }) id c.loop-part-test.true) e.belongs e.walked e.variables e.grows e.keeps c.in_ok-push.ensures.items;
+      known = e.known;
+    }
 
 pub in_parts-returns-clause-belong : goal.in_parts-returns-clause-belong
-in_parts-returns-clause-belong t c = c.loop-part.invariant.there
+in_parts-returns-clause-belong t c = c.loop-part.invariant.walk.there
 
 pub in_parts-returns-clause-walked : goal.in_parts-returns-clause-walked
 in_parts-returns-clause-walked t c =
     parts_end c.args.self.now.sound c.args.auto.now c.loop-part.auto' c.args.variables.now c.loop-part.variables c.args.store.now c.loop-part.store c.args.lines.now.items c.loop-part.lines.items c.args.parts.now c.loop-part.part-index
-    c.loop-part.states.items (drop_all c.loop-part.part-index c.args.parts.now c.loop-part-test.false) c.loop-part.invariant
+    c.loop-part.states.items (drop_all c.loop-part.part-index c.args.parts.now c.loop-part-test.false) c.loop-part.invariant.walk
 
 pub in_parts-returns-clause-variables : goal.in_parts-returns-clause-variables
-in_parts-returns-clause-variables t c = c.loop-part.invariant.stays.variables
+in_parts-returns-clause-variables t c = c.loop-part.invariant.walk.stays.variables
 
 pub in_parts-returns-clause-grows : goal.in_parts-returns-clause-grows
-in_parts-returns-clause-grows t c = c.loop-part.invariant.stays.grows
+in_parts-returns-clause-grows t c = c.loop-part.invariant.walk.stays.grows
 
 pub in_parts-returns-clause-keeps : goal.in_parts-returns-clause-keeps
-in_parts-returns-clause-keeps t c = c.loop-part.invariant.stays.keeps
+in_parts-returns-clause-keeps t c = c.loop-part.invariant.walk.stays.keeps
 
 pub in_arguments-loop-number-init : goal.in_arguments-loop-number-init
 in_arguments-loop-number-init t c =
-    arguments_begin c.args.self.now.sound c.args.auto.now c.args.variables.now c.args.store.now c.args.lines.now.items c.args.parameters.now c.args.arguments.now c.requires.arguments
+    record { walk = arguments_begin c.args.self.now.sound c.args.auto.now c.args.variables.now c.args.store.now c.args.lines.now.items c.args.parameters.now c.args.arguments.now c.requires.arguments; known = c.requires.known }
 
 pub in_arguments-in_expression-requires : goal.in_arguments-in_expression-requires
 in_arguments-in_expression-requires t c =
-    let i = c.loop-number.invariant in
+    let i = c.loop-number.invariant.walk in
     let st = i.stays in
     let n : ℕ = c.loop-number.number in
     let id : ExprId = get_or c.args.arguments.now n (record { at = 0 }) in
@@ -231,14 +236,14 @@ in_arguments-in_expression-requires t c =
     c.args.arguments.now n id i c.loop-number-test.true (get_or_default c.args.arguments.now n (record { at = 0 }) id c.loop-number-test.true) in
     let top = h.1 in
     let falls : 4 * id.at + 3 < t = omega arith in
-    (falls, (ready_kept c.args.self.now c.args.auto.now c.loop-number.auto' st.grows c.requires.ready, (h.0, states_again c.args.auto.now c.loop-number.auto' st.grows c.args.variables.now c.loop-number.variables st.variables c.requires.variables)))
+    (falls, (ready_kept c.args.self.now c.args.auto.now c.loop-number.auto' st.grows c.requires.ready, (h.0, (states_again c.args.auto.now c.loop-number.auto' st.grows c.args.variables.now c.loop-number.variables st.variables c.requires.variables, c.loop-number.invariant.known))))
 
 pub in_arguments-see_argument-requires-clause-argument : goal.in_arguments-see_argument-requires-clause-argument
 in_arguments-see_argument-requires-clause-argument t c =
     let n : ℕ = c.loop-number.number in
     let id : ExprId = get_or c.args.arguments.now n (record { at = 0 }) in
     let h = argument_here c.args.self.now.sound c.args.auto.now c.loop-number.auto' c.args.variables.now c.loop-number.variables c.args.store.now c.loop-number.store c.args.lines.now.items c.loop-number.lines.items c.args.parameters.now
-    c.args.arguments.now n id c.loop-number.invariant c.loop-number-test.true (get_or_default c.args.arguments.now n (record { at = 0 }) id c.loop-number-test.true) in
+    c.args.arguments.now n id c.loop-number.invariant.walk c.loop-number-test.true (get_or_default c.args.arguments.now n (record { at = 0 }) id c.loop-number-test.true) in
     let w = h.0 in
     w.there
 
@@ -247,32 +252,44 @@ in_arguments-see_argument-requires-clause-state t c = c.in_ok-state.ensures.belo
 
 pub in_arguments-see_argument-requires-clause-parameters : goal.in_arguments-see_argument-requires-clause-parameters
 in_arguments-see_argument-requires-clause-parameters t c =
-    let st = c.loop-number.invariant.stays in
+    let st = c.loop-number.invariant.walk.stays in
     let g = grows_then c.args.auto.now c.loop-number.auto' c.in_expression.new.auto st.grows c.in_ok-state.ensures.grows in
     all_as (IsState c.args.auto.now) (IsState c.in_expression.new.auto) (λ s m. (g.extends).states s m) c.args.parameters.now c.requires.parameters
+
+pub in_arguments-see_argument-requires-clause-known : goal.in_arguments-see_argument-requires-clause-known
+in_arguments-see_argument-requires-clause-known t c = c.in_ok-state.ensures.known
+
+pub in_arguments-returns-clause-known : goal.in_arguments-returns-clause-known
+in_arguments-returns-clause-known t c = c.loop-number.invariant.known
+
+pub in_parts-returns-clause-known : goal.in_parts-returns-clause-known
+in_parts-returns-clause-known t c = c.loop-part.invariant.known
 
 pub in_arguments-loop-number-preserved : goal.in_arguments-loop-number-preserved
 in_arguments-loop-number-preserved t c =
     let n : ℕ = c.loop-number.number in
     let id : ExprId = get_or c.args.arguments.now n (record { at = 0 }) in
     let e = c.in_ok-state.ensures in
-    arguments_more c.args.self.now.sound c.args.auto.now c.loop-number.auto' c.in_expression.new.auto c.args.variables.now c.loop-number.variables c.in_expression.new.variables c.args.store.now c.loop-number.store c.in_expression.new.store
-    c.see_argument.new.store c.args.lines.now.items c.loop-number.lines.items c.in_expression.new.lines.items c.see_argument.new.lines.items c.args.parameters.now c.args.arguments.now n id c.in_ok-state.state c.requires.variables
-    c.loop-number.invariant c.loop-number-test.true (get_or_default c.args.arguments.now n (record { at = 0 }) id c.loop-number-test.true) e.walked e.variables e.grows e.keeps c.in_ok-see_argument.ensures.lines c.in_ok-see_argument.ensures.keeps
+    record {
+      walk = arguments_more c.args.self.now.sound c.args.auto.now c.loop-number.auto' c.in_expression.new.auto c.args.variables.now c.loop-number.variables c.in_expression.new.variables c.args.store.now c.loop-number.store c.in_expression.new.store
+          c.see_argument.new.store c.args.lines.now.items c.loop-number.lines.items c.in_expression.new.lines.items c.see_argument.new.lines.items c.args.parameters.now c.args.arguments.now n id c.in_ok-state.state c.requires.variables
+          c.loop-number.invariant.walk c.loop-number-test.true (get_or_default c.args.arguments.now n (record { at = 0 }) id c.loop-number-test.true) e.walked e.variables e.grows e.keeps c.in_ok-see_argument.ensures.lines c.in_ok-see_argument.ensures.keeps;
+      known = c.in_ok-see_argument.ensures.known;
+    }
 
 pub in_arguments-returns-clause-lines : goal.in_arguments-returns-clause-lines
 in_arguments-returns-clause-lines t c =
     arguments_end c.args.self.now.sound c.args.auto.now c.loop-number.auto' c.args.variables.now c.loop-number.variables c.args.store.now c.loop-number.store c.args.lines.now.items c.loop-number.lines.items c.args.parameters.now
-    c.args.arguments.now c.loop-number.number (drop_all c.loop-number.number c.args.arguments.now c.loop-number-test.false) c.loop-number.invariant
+    c.args.arguments.now c.loop-number.number (drop_all c.loop-number.number c.args.arguments.now c.loop-number-test.false) c.loop-number.invariant.walk
 
 pub in_arguments-returns-clause-variables : goal.in_arguments-returns-clause-variables
-in_arguments-returns-clause-variables t c = c.loop-number.invariant.stays.variables
+in_arguments-returns-clause-variables t c = c.loop-number.invariant.walk.stays.variables
 
 pub in_arguments-returns-clause-grows : goal.in_arguments-returns-clause-grows
-in_arguments-returns-clause-grows t c = c.loop-number.invariant.stays.grows
+in_arguments-returns-clause-grows t c = c.loop-number.invariant.walk.stays.grows
 
 pub in_arguments-returns-clause-keeps : goal.in_arguments-returns-clause-keeps
-in_arguments-returns-clause-keeps t c = c.loop-number.invariant.stays.keeps
+in_arguments-returns-clause-keeps t c = c.loop-number.invariant.walk.stays.keeps
 
 pub in_expression-in_clauses-requires : goal.in_expression-in_clauses-requires
 in_expression-in_clauses-requires t c =
@@ -295,7 +312,7 @@ in_expression-in_clauses-requires t c =
         ready_kept c.args.self.now c.args.auto.now c.in_expression-in-Match.new.auto v.grows c.requires.ready,
         (
           walk_clauses p c.args.id.at c.in-Match.scrutinee.at n.place cs c.requires.expression tree patterns older.1,
-          (c.in_ok-arriving-in-Match.ensures.belongs, states_again c.args.auto.now c.in_expression-in-Match.new.auto v.grows c.args.variables.now c.in_expression-in-Match.new.variables v.variables c.requires.variables),
+          (v.belongs, (states_again c.args.auto.now c.in_expression-in-Match.new.auto v.grows c.args.variables.now c.in_expression-in-Match.new.variables v.variables c.requires.variables, v.known)),
         ),
       ),
     )
@@ -316,8 +333,7 @@ in_expression-returns-in_ok-in_clauses-in-Match-clause-walked t c S stands =
     let w = v.walked S stands in
     let a1 = c.in_expression-in-Match.new.auto in
     let there : ScopeStands P S a1 c.in_expression-in-Match.new.variables = subst (ScopeStands P S a1) (sym v.variables) (scope_kept P S c.args.auto.now a1 v.grows c.args.variables.now c.requires.variables stands) in
-    let same = c.in_ok-arriving-in-Match.ensures.same in
-    let comes = comes_first P S x a1 c.in_ok-value-in-Match.value (Comes c.in_ok-arriving-in-Match.arriving) w.may (λ d. ((λ m. sym (same d) ∙ m), (λ m. same d ∙ m))) in
+    let comes = comes_first P S x a1 c.in_ok-value-in-Match.value (Accepted a1 c.in_ok-value-in-Match.value) w.may (λ d. ((λ m. m), (λ m. m))) in
     subst (λ y. IsWalked P S y c.in_clauses.new.auto c.in_clauses.new.store c.args.lines.now.items c.in_clauses.new.lines.items c.in_ok-in_clauses-in-Match.field-0) (sym tree)
     (walked_matched P S c.place-place.result x ks a1 c.in_clauses.new.auto c.in_expression-in-Match.new.store c.in_clauses.new.store c.args.lines.now.items c.in_expression-in-Match.new.lines.items c.in_clauses.new.lines.items
     c.in_ok-value-in-Match.value c.in_ok-in_clauses-in-Match.field-0 c.in_clauses.ensures.keeps w (c.in_ok-in_clauses-in-Match.ensures.walked S x there comes))
@@ -335,11 +351,47 @@ in_expression-returns-in_ok-in_clauses-in-Match-clause-keeps t c = keeps_then c.
 pub in_expression-returns-in_err-in_clauses-in-Match-clause-keeps : goal.in_expression-returns-in_err-in_clauses-in-Match-clause-keeps
 in_expression-returns-in_err-in_clauses-in-Match-clause-keeps t c = keeps_then c.args.store.now c.in_expression-in-Match.new.store c.in_clauses.new.store c.in_ok-value-in-Match.ensures.keeps c.in_clauses.ensures.keeps
 
+pub in_expression-returns-in_ok-add_state-in-Empty-clause-known : goal.in_expression-returns-in_ok-add_state-in-Empty-clause-known
+in_expression-returns-in_ok-add_state-in-Empty-clause-known t c =
+    let e = c.in_ok-add_state-in-Empty.ensures in
+    known_kept c.args.auto.now c.add_state.new.self c.args.store.now c.args.store.now c.args.known.now (record { extends = e.extends; keeps = e.keeps }) (keeps_same c.args.store.now) c.requires.known
+
+pub in_expression-returns-in_ok-text_state-in-Text-clause-known : goal.in_expression-returns-in_ok-text_state-in-Text-clause-known
+in_expression-returns-in_ok-text_state-in-Text-clause-known t c =
+    known_kept c.args.auto.now c.text_state.new.auto c.args.store.now c.args.store.now c.args.known.now c.in_ok-text_state-in-Text.ensures.grows (keeps_same c.args.store.now) c.requires.known
+
+pub in_expression-returns-in_ok-variable_state-in-Var-clause-known : goal.in_expression-returns-in_ok-variable_state-in-Var-clause-known
+in_expression-returns-in_ok-variable_state-in-Var-clause-known t c =
+    known_kept c.args.auto.now c.variable_state.new.auto c.args.store.now c.args.store.now c.args.known.now c.in_ok-variable_state-in-Var.ensures.grows (keeps_same c.args.store.now) c.requires.known
+
+pub in_expression-returns-in_ok-wrap-in-Elem-clause-known : goal.in_expression-returns-in_ok-wrap-in-Elem-clause-known
+in_expression-returns-in_ok-wrap-in-Elem-clause-known t c =
+    let e = c.in_ok-wrap-in-Elem.ensures in
+    known_kept c.in_expression.new.auto c.wrap.new.self c.in_expression.new.store c.in_expression.new.store c.in_expression.new.known (record { extends = e.extends; keeps = e.keeps }) (keeps_same c.in_expression.new.store)
+    c.in_ok-inside-in-Elem.ensures.known
+
+pub in_expression-returns-in_ok-join_states-in-Seq-clause-known : goal.in_expression-returns-in_ok-join_states-in-Seq-clause-known
+in_expression-returns-in_ok-join_states-in-Seq-clause-known t c =
+    known_kept c.in_parts.new.auto c.join_states.new.auto c.in_parts.new.store c.in_parts.new.store c.in_parts.new.known c.in_ok-join_states-in-Seq.ensures.grows (keeps_same c.in_parts.new.store) c.in_ok-states-in-Seq.ensures.known
+
+pub in_call-returns-in_ok-add_state-in-None-clause-known : goal.in_call-returns-in_ok-add_state-in-None-clause-known
+in_call-returns-in_ok-add_state-in-None-clause-known t c =
+    let e = c.in_ok-add_state-in-None.ensures in
+    known_kept c.in_arguments-in-None.new.auto c.add_state.new.self c.in_arguments-in-None.new.store c.in_arguments-in-None.new.store c.in_arguments-in-None.new.known (record { extends = e.extends; keeps = e.keeps })
+    (keeps_same c.in_arguments-in-None.new.store) c.in_ok-in_arguments-in-None.ensures.known
+
+pub in_clauses-returns-clause-known : goal.in_clauses-returns-clause-known
+in_clauses-returns-clause-known t c =
+    known_kept c.loop-clause.auto' c.unite_states.new.auto c.see_uncovered.new.store c.see_uncovered.new.store c.see_uncovered.new.known c.in_ok-unite_states.ensures.grows (keeps_same c.see_uncovered.new.store) c.in_ok-see_uncovered.ensures.known
+
 pub in_clauses-loop-clause-init : goal.in_clauses-loop-clause-init
 in_clauses-loop-clause-init t c =
-    subst (λ ss. ClausesLoop c.args.self.now.sound c.args.place c.args.auto.now c.args.auto.now c.args.variables.now c.args.variables.now c.args.store.now c.args.store.now c.args.lines.now.items c.args.lines.now.items c.args.clauses.now 0 ss c.args.arriving c.args.arriving)
-    (sym c.new-states.ensures.items)
-    (clauses_loop_begin c.args.self.now.sound c.args.place c.args.auto.now c.args.variables.now c.args.store.now c.args.lines.now.items c.args.clauses.now c.args.arriving c.requires.clauses c.requires.arriving)
+    record {
+      walk = subst (λ ss. ClausesLoop c.args.self.now.sound c.args.place c.args.auto.now c.args.auto.now c.args.variables.now c.args.variables.now c.args.store.now c.args.store.now c.args.lines.now.items c.args.lines.now.items c.args.clauses.now 0 ss c.args.arriving c.args.arriving)
+          (sym c.new-states.ensures.items)
+          (clauses_loop_begin c.args.self.now.sound c.args.place c.args.auto.now c.args.variables.now c.args.store.now c.args.lines.now.items c.args.clauses.now c.args.arriving c.requires.clauses c.requires.arriving);
+      known = c.requires.known;
+    }
 
 pub in_clauses-new-requires-clause-serves : goal.in_clauses-new-requires-clause-serves
 in_clauses-new-requires-clause-serves t c = c.requires.ready.serves
@@ -351,7 +403,7 @@ in_clauses-new-requires-clause-pattern t c =
     let k : Clause = get_or c.args.clauses.now n none in
     let e : k ≡ get_or c.args.clauses.now n k = get_or_default c.args.clauses.now n none k c.loop-clause-test.true in
     let h = clause_here c.args.self.now.sound c.args.place c.args.auto.now c.loop-clause.auto' c.args.variables.now c.loop-clause.variables c.args.store.now c.loop-clause.store c.args.lines.now.items c.loop-clause.lines.items
-    c.args.clauses.now n c.loop-clause.states.items c.args.arriving c.loop-clause.arriving k c.loop-clause.invariant c.loop-clause-test.true e in
+    c.args.clauses.now n c.loop-clause.states.items c.args.arriving c.loop-clause.arriving k c.loop-clause.invariant.walk c.loop-clause-test.true e in
     let w = h.0 in
     w.there
 
@@ -362,7 +414,7 @@ in_clauses-new-requires-clause-linear t c =
     let k : Clause = get_or c.args.clauses.now n none in
     let e : k ≡ get_or c.args.clauses.now n k = get_or_default c.args.clauses.now n none k c.loop-clause-test.true in
     let h = clause_here c.args.self.now.sound c.args.place c.args.auto.now c.loop-clause.auto' c.args.variables.now c.loop-clause.variables c.args.store.now c.loop-clause.store c.args.lines.now.items c.loop-clause.lines.items
-    c.args.clauses.now n c.loop-clause.states.items c.args.arriving c.loop-clause.arriving k c.loop-clause.invariant c.loop-clause-test.true e in
+    c.args.clauses.now n c.loop-clause.states.items c.args.arriving c.loop-clause.arriving k c.loop-clause.invariant.walk c.loop-clause-test.true e in
     let w = h.0 in
     w.linear
 
@@ -373,21 +425,26 @@ in_clauses-in_clause-requires t c =
     let k : Clause = get_or c.args.clauses.now n none in
     let e : k ≡ get_or c.args.clauses.now n k = get_or_default c.args.clauses.now n none k c.loop-clause-test.true in
     let h = clause_here c.args.self.now.sound c.args.place c.args.auto.now c.loop-clause.auto' c.args.variables.now c.loop-clause.variables c.args.store.now c.loop-clause.store c.args.lines.now.items c.loop-clause.lines.items
-    c.args.clauses.now n c.loop-clause.states.items c.args.arriving c.loop-clause.arriving k c.loop-clause.invariant c.loop-clause-test.true e in
+    c.args.clauses.now n c.loop-clause.states.items c.args.arriving c.loop-clause.arriving k c.loop-clause.invariant.walk c.loop-clause-test.true e in
     let w = h.0 in
-    let st = c.loop-clause.invariant.stays in
+    let st = c.loop-clause.invariant.walk.stays in
+    let left : Grows c.loop-clause.auto' c.pass.new.auto = record { extends = c.in_ok-left.ensures.extends; keeps = c.in_ok-left.ensures.accepting } in
+    let whole = grows_then c.args.auto.now c.loop-clause.auto' c.pass.new.auto st.grows left in
     let top = h.1 in
     let falls : 4 * (k.body).at + 4 < t = omega arith in (
       falls,
       (
-        ready_kept c.args.self.now c.args.auto.now c.loop-clause.auto' st.grows c.requires.ready,
+        ready_kept c.args.self.now c.args.auto.now c.pass.new.auto whole c.requires.ready,
         (
           w,
           (
             c.in_ok-pattern.ensures,
             (
-              c.loop-clause.invariant.arriving,
-              states_again c.args.auto.now c.loop-clause.auto' st.grows c.args.variables.now c.loop-clause.variables st.variables c.requires.variables,
+              (left.extends).states c.loop-clause.arriving c.loop-clause.invariant.walk.arriving,
+              (
+                states_again c.args.auto.now c.pass.new.auto whole c.args.variables.now c.loop-clause.variables st.variables c.requires.variables,
+                known_kept c.loop-clause.auto' c.pass.new.auto c.loop-clause.store c.loop-clause.store c.loop-clause.known left (keeps_same c.loop-clause.store) c.loop-clause.invariant.known,
+              ),
             ),
           ),
         ),
@@ -395,7 +452,7 @@ in_clauses-in_clause-requires t c =
     )
 
 pub in_clauses-pass-requires : goal.in_clauses-pass-requires
-in_clauses-pass-requires t c = c.loop-clause.invariant.arriving
+in_clauses-pass-requires t c = c.loop-clause.invariant.walk.arriving
 
 pub in_clauses-loop-clause-preserved : goal.in_clauses-loop-clause-preserved
 in_clauses-loop-clause-preserved t c =
@@ -404,44 +461,50 @@ in_clauses-loop-clause-preserved t c =
     let none : Clause = record { pattern = record { at = 0 }; body = record { at = 0 } } in
     let k : Clause = get_or c.args.clauses.now n none in
     let f = c.in_ok-found.ensures in
-    let i = c.loop-clause.invariant in
+    let i = c.loop-clause.invariant.walk in
     let Q : PlacedTree = placed_at p.patterns (k.pattern).at in
     let made : IsPatternOf (names_of (program_tree p)) (unplaced Q) c.in_ok-pattern.pattern = subst (λ T. IsPatternOf (names_of (program_tree p)) T c.in_ok-pattern.pattern) (sym (unplaced_at p.patterns (k.pattern).at)) c.in_ok-pattern.ensures in
-    clauses_loop_more p c.args.place c.args.auto.now c.loop-clause.auto' c.in_clause.new.auto c.args.variables.now c.loop-clause.variables c.in_clause.new.variables c.args.store.now c.loop-clause.store c.in_clause.new.store
-    c.args.lines.now.items c.loop-clause.lines.items c.in_clause.new.lines.items c.args.clauses.now n c.loop-clause.states.items c.push_found.new.states.items c.args.arriving c.loop-clause.arriving c.pass.new.self k c.in_ok-found.found
-    c.requires.variables i c.loop-clause-test.true (get_or_default c.args.clauses.now n none k c.loop-clause-test.true) f.walked f.variables f.grows f.keeps c.in_ok-push_found.ensures
-    (found_there c.loop-clause.auto' c.in_clause.new.auto f.grows c.loop-clause.states.items c.push_found.new.states.items c.in_ok-found.found i.there f.belongs c.in_ok-push_found.ensures)
-    c.in_ok-pass.ensures.belongs (c.in_ok-pass.ensures.exact (names_of (program_tree p)) Q made)
+    let left : Grows c.loop-clause.auto' c.pass.new.auto = record { extends = c.in_ok-left.ensures.extends; keeps = c.in_ok-left.ensures.accepting } in
+    let both = grows_then c.loop-clause.auto' c.pass.new.auto c.in_clause.new.auto left f.grows in
+    record {
+      walk = clauses_loop_more p c.args.place c.args.auto.now c.loop-clause.auto' c.pass.new.auto c.in_clause.new.auto c.args.variables.now c.loop-clause.variables c.in_clause.new.variables c.args.store.now c.loop-clause.store c.in_clause.new.store
+          c.args.lines.now.items c.loop-clause.lines.items c.in_clause.new.lines.items c.args.clauses.now n c.loop-clause.states.items c.push_found.new.states.items c.args.arriving c.loop-clause.arriving c.in_ok-left.left k c.in_ok-found.found
+          c.requires.variables i c.loop-clause-test.true (get_or_default c.args.clauses.now n none k c.loop-clause-test.true) f.walked f.variables left f.grows f.keeps c.in_ok-push_found.ensures
+          (found_there c.loop-clause.auto' c.in_clause.new.auto both c.loop-clause.states.items c.push_found.new.states.items c.in_ok-found.found i.there f.belongs c.in_ok-push_found.ensures)
+          c.in_ok-left.ensures.belongs (c.in_ok-left.ensures.exact (names_of (program_tree p)) Q made);
+      known = f.known;
+    }
 
 pub in_clauses-see_uncovered-requires : goal.in_clauses-see_uncovered-requires
-in_clauses-see_uncovered-requires t c = c.loop-clause.invariant.arriving
+in_clauses-see_uncovered-requires t c = record { arriving = c.loop-clause.invariant.walk.arriving; known = c.loop-clause.invariant.known }
 
 pub in_clauses-unite_states-requires : goal.in_clauses-unite_states-requires
-in_clauses-unite_states-requires t c = c.loop-clause.invariant.there
+in_clauses-unite_states-requires t c = c.loop-clause.invariant.walk.there
 
 pub in_clauses-returns-clause-walked : goal.in_clauses-returns-clause-walked
 in_clauses-returns-clause-walked t c =
     clauses_loop_end c.args.self.now.sound c.args.place c.args.auto.now c.loop-clause.auto' c.unite_states.new.auto c.args.variables.now c.loop-clause.variables c.args.store.now c.loop-clause.store c.see_uncovered.new.store
     c.args.lines.now.items c.loop-clause.lines.items c.see_uncovered.new.lines.items c.args.clauses.now c.loop-clause.clause-index c.loop-clause.states.items c.args.arriving c.loop-clause.arriving c.in_ok-unite_states.field-0
-    (drop_all c.loop-clause.clause-index c.args.clauses.now c.loop-clause-test.false) c.loop-clause.invariant c.in_ok-see_uncovered.ensures.keeps c.in_ok-see_uncovered.ensures.lines c.in_ok-unite_states.ensures.accepts
+    (drop_all c.loop-clause.clause-index c.args.clauses.now c.loop-clause-test.false) c.loop-clause.invariant.walk c.in_ok-see_uncovered.ensures.keeps c.in_ok-see_uncovered.ensures.lines c.in_ok-unite_states.ensures.accepts
 
 pub in_clauses-returns-clause-variables : goal.in_clauses-returns-clause-variables
-in_clauses-returns-clause-variables t c = c.loop-clause.invariant.stays.variables
+in_clauses-returns-clause-variables t c = c.loop-clause.invariant.walk.stays.variables
 
-pub in_clause-is_live-requires : goal.in_clause-is_live-requires
-in_clause-is_live-requires t c = c.requires.arriving
+pub in_clause-bindings-requires : goal.in_clause-bindings-requires
+in_clause-bindings-requires t c = record { arriving = c.requires.arriving; known = c.requires.known.inhabitants }
 
 pub in_clause-pattern_place-requires : goal.in_clause-pattern_place-requires
 in_clause-pattern_place-requires t c = c.requires.clause.there
 
-pub in_clause-returns-then-not-branch-clause-walked : goal.in_clause-returns-then-not-branch-clause-walked
-in_clause-returns-then-not-branch-clause-walked t c S e earlier stands comes =
+pub in_clause-returns-in_default-clause-walked : goal.in_clause-returns-in_default-clause-walked
+in_clause-returns-in_default-clause-walked t c S e earlier stands comes =
     let p : ProgramTable = c.args.self.now.sound in
     let P : ProgramTree = program_tree p in
     let Q : PlacedTree = placed_at p.patterns c.args.clause.pattern.at in
+    let C = Accepted c.args.auto.now c.args.arriving in
     let made : IsPatternOf (names_of P) (unplaced Q) c.args.pattern.now = subst (λ T. IsPatternOf (names_of P) T c.args.pattern.now) (sym (unplaced_at p.patterns c.args.clause.pattern.at)) c.requires.pattern in
-    let dead : IsLiveIn P S e earlier Q → ⊥ = λ l. c.in_ok-is_live.ensures.dead (ap (λ b. Ok b) c.if-not-branch.true) (names_of P) Q made (live_to P S e earlier (Comes c.args.arriving.now) comes Q l) in
-    clause_dead P S e earlier Q (expr_at p c.args.clause.body.at) c.args.auto.now c.args.store.now c.args.lines.now.items c.push.new.self.items dead
+    let dead : IsLiveIn P S e earlier Q → ⊥ = λ l. c.in_ok-found.ensures.dead (ap (λ o. Ok o) c.in_default.is) (names_of P) Q made (live_to P S e earlier C comes Q l) in
+    clause_dead P S e earlier Q (expr_at p c.args.clause.body.at) c.bindings.new.auto c.bindings.new.store c.args.lines.now.items c.push.new.self.items dead
     (record {
       more = record { place = c.pattern_place.result; finding = DeadClause } ∷ [];
       grown = c.in_ok-push.ensures.items;
@@ -449,28 +512,32 @@ in_clause-returns-then-not-branch-clause-walked t c S e earlier stands comes =
       meet = ap (λ (q : Place). record { place = q; kind = dead_clause; document = None } ∷ []) c.pattern_place.ensures;
     })
 
-pub in_clause-bindings-requires : goal.in_clause-bindings-requires
-in_clause-bindings-requires t c = c.requires.arriving
-
-pub in_clause-bring_in-requires : goal.in_clause-bring_in-requires
-in_clause-bring_in-requires t c =
-    let p : ProgramTable = c.args.self.now.sound in
-    let P : ProgramTree = program_tree p in
-    let Q : PlacedTree = placed_at p.patterns c.args.clause.pattern.at in
-    let made : IsPatternOf (names_of P) (unplaced Q) c.args.pattern.now = subst (λ T. IsPatternOf (names_of P) T c.args.pattern.now) (sym (unplaced_at p.patterns c.args.clause.pattern.at)) c.requires.pattern in
-    let bound = c.in_ok-bindings.ensures (names_of P) Q made in
-    bindings_belong (names_of P) c.args.arriving.now Q c.in_ok-bindings.bindings.items bound.each
+pub in_clause-returns-in_default-clause-known : goal.in_clause-returns-in_default-clause-known
+in_clause-returns-in_default-clause-known t c =
+    let f = c.in_ok-found.ensures in
+    known_learnt c.args.auto.now c.bindings.new.auto c.args.store.now c.bindings.new.store c.args.known.now c.bindings.new.known (record { extends = f.extends; keeps = f.accepting }) f.keeps c.requires.known f.known
 
 pub in_clause-in_expression-requires : goal.in_clause-in_expression-requires
 in_clause-in_expression-requires t c =
-    let b = c.in_ok-bring_in.ensures in
+    let p : ProgramTable = c.args.self.now.sound in
+    let P : ProgramTree = program_tree p in
+    let Q : PlacedTree = placed_at p.patterns c.args.clause.pattern.at in
+    let C = Accepted c.args.auto.now c.args.arriving in
+    let made : IsPatternOf (names_of P) (unplaced Q) c.args.pattern.now = subst (λ T. IsPatternOf (names_of P) T c.args.pattern.now) (sym (unplaced_at p.patterns c.args.clause.pattern.at)) c.requires.pattern in
+    let f = c.in_ok-found.ensures in
+    let grows : Grows c.args.auto.now c.bindings.new.auto = record { extends = f.extends; keeps = f.accepting } in
+    let gs = c.in-Some.givens.items in
+    let bound : AreMayGivens (names_of P) C [] Q c.bindings.new.auto gs = if_some (λ hs. (D : Definitions) (R : PlacedTree) → IsPatternOf D (unplaced R) c.args.pattern.now → AreMayGivens D C [] R c.bindings.new.auto hs.items) c.in_ok-found.found c.in-Some.givens c.in-Some.is f.bindings (names_of P) Q made in
     let falls : 4 * c.args.clause.body.at + 3 < t = omega arith in (
       falls,
       (
-        ready_kept c.args.self.now c.args.auto.now c.bring_in.new.auto b.grows c.requires.ready,
+        ready_kept c.args.self.now c.args.auto.now c.bindings.new.auto grows c.requires.ready,
         (
           c.requires.clause.body,
-          clause_states c.args.auto.now c.bring_in.new.auto c.args.variables.now c.bring_in.new.variables c.in_ok-bindings.bindings.items b.grows c.requires.variables b.absorbed,
+          (
+            clause_states (names_of P) C Q c.args.auto.now c.bindings.new.auto c.args.variables.now c.bring_in.new.variables gs grows c.requires.variables bound c.in_ok-bring_in.ensures,
+            known_learnt c.args.auto.now c.bindings.new.auto c.args.store.now c.bindings.new.store c.args.known.now c.bindings.new.known grows f.keeps c.requires.known f.known,
+          ),
         ),
       ),
     )
@@ -480,22 +547,33 @@ in_clause-returns-clause-walked t c S e earlier stands comes =
     let p : ProgramTable = c.args.self.now.sound in
     let P : ProgramTree = program_tree p in
     let Q : PlacedTree = placed_at p.patterns c.args.clause.pattern.at in
+    let C = Accepted c.args.auto.now c.args.arriving in
     let made : IsPatternOf (names_of P) (unplaced Q) c.args.pattern.now = subst (λ T. IsPatternOf (names_of P) T c.args.pattern.now) (sym (unplaced_at p.patterns c.args.clause.pattern.at)) c.requires.pattern in
-    let b = c.in_ok-bring_in.ensures in
-    let live : IsLiveIn P S e earlier Q = live_from P S e earlier (Comes c.args.arriving.now) comes Q (c.in_ok-is_live.ensures.live (ap (λ q. Ok q) c.if-not-branch.false) (names_of P) Q made) in
-    let inside = clause_scope P S e earlier c.args.arriving.now comes Q c.args.auto.now c.bring_in.new.auto c.args.variables.now c.bring_in.new.variables c.in_ok-bindings.bindings.items b.grows c.requires.variables stands
-    (c.in_ok-bindings.ensures (names_of P) Q made) b.absorbed in
+    let f = c.in_ok-found.ensures in
+    let grows : Grows c.args.auto.now c.bindings.new.auto = record { extends = f.extends; keeps = f.accepting } in
+    let gs = c.in-Some.givens.items in
+    let bound : AreMayGivens (names_of P) C [] Q c.bindings.new.auto gs = if_some (λ hs. (D : Definitions) (R : PlacedTree) → IsPatternOf D (unplaced R) c.args.pattern.now → AreMayGivens D C [] R c.bindings.new.auto hs.items) c.in_ok-found.found c.in-Some.givens c.in-Some.is f.bindings (names_of P) Q made in
+    let live : IsLiveIn P S e earlier Q = live_from P S e earlier C comes Q (if_some (λ hs. (D : Definitions) (R : PlacedTree) → IsPatternOf D (unplaced R) c.args.pattern.now → IsLive D C [] R) c.in_ok-found.found c.in-Some.givens c.in-Some.is f.live (names_of P) Q made) in
+    let inside = clause_scope P S e earlier C comes Q c.args.auto.now c.bindings.new.auto c.args.variables.now c.bring_in.new.variables gs grows c.requires.variables stands bound c.in_ok-bring_in.ensures in
     clause_live P S e earlier Q (expr_at p c.args.clause.body.at) c.in_expression.new.auto c.in_expression.new.store c.args.lines.now.items c.in_expression.new.lines.items c.in_ok-state.state live
     (c.in_ok-state.ensures.walked (clause_entry e earlier Q ∷ S) inside)
 
 pub in_clause-returns-clause-variables : goal.in_clause-returns-clause-variables
 in_clause-returns-clause-variables t c =
     let same : c.in_expression.new.variables ≡ c.bring_in.new.variables = c.in_ok-state.ensures.variables in
-    clause_left c.bring_in.new.auto c.args.variables.now c.bring_in.new.variables c.truncate.new.self c.len-before.result c.in_ok-bindings.bindings.items c.in_ok-bring_in.ensures.absorbed c.len-before.ensures
+    clause_left c.args.variables.now c.bring_in.new.variables c.truncate.new.self c.len-before.result c.in-Some.givens.items c.in_ok-bring_in.ensures c.len-before.ensures
     (c.truncate.ensures ∙ ap (λ (vs : List Variable). drop (length vs - c.len-before.result) vs) same)
 
 pub in_clause-returns-clause-grows : goal.in_clause-returns-clause-grows
-in_clause-returns-clause-grows t c = grows_then c.args.auto.now c.bring_in.new.auto c.in_expression.new.auto c.in_ok-bring_in.ensures.grows c.in_ok-state.ensures.grows
+in_clause-returns-clause-grows t c =
+    let f = c.in_ok-found.ensures in
+    grows_then c.args.auto.now c.bindings.new.auto c.in_expression.new.auto (record { extends = f.extends; keeps = f.accepting }) c.in_ok-state.ensures.grows
+
+pub in_clause-returns-clause-keeps : goal.in_clause-returns-clause-keeps
+in_clause-returns-clause-keeps t c = keeps_then c.args.store.now c.bindings.new.store c.in_expression.new.store c.in_ok-found.ensures.keeps c.in_ok-state.ensures.keeps
+
+pub in_clause-returns-in_err-state-clause-keeps : goal.in_clause-returns-in_err-state-clause-keeps
+in_clause-returns-in_err-state-clause-keeps t c = keeps_then c.args.store.now c.bindings.new.store c.in_expression.new.store c.in_ok-found.ensures.keeps c.in_expression.ensures.keeps
 
 pub in_call-in_arguments-requires : goal.in_call-in_arguments-requires
 in_call-in_arguments-requires t c =
@@ -503,12 +581,12 @@ in_call-in_arguments-requires t c =
     let named = c.requires.ready.signatures.named c.args.word.now in
     let g = signed_some (names_of P) c.args.auto.now (function_of P.functions c.args.word.now) (signature_of c.args.self.now.signatures c.args.word.now) c.in-Some.signature.now c.in-Some.ensures named in
     let falls : 4 * ceiling (expr_numbers c.args.arguments.now) + 1 < t = omega arith in
-    (falls, (c.requires.ready, (c.requires.arguments, (subst (AllByRecursion (IsState c.args.auto.now)) (sym c.deref.ensures.value) (parameter_states (names_of P) c.args.auto.now (parameters_of (function_of P.functions c.args.word.now)) c.in-Some.signature.now.parameters.items g.0), c.requires.variables))))
+    (falls, (c.requires.ready, (c.requires.arguments, (subst (AllByRecursion (IsState c.args.auto.now)) (sym c.deref.ensures.value) (parameter_states (names_of P) c.args.auto.now (parameters_of (function_of P.functions c.args.word.now)) c.in-Some.signature.now.parameters.items g.0), (c.requires.variables, c.requires.known)))))
 
 pub in_call-in_arguments-requires-in-None : goal.in_call-in_arguments-requires-in-None
 in_call-in_arguments-requires-in-None t c =
     let falls : 4 * ceiling (expr_numbers c.args.arguments.now) + 1 < t = omega arith in
-    (falls, (c.requires.ready, (c.requires.arguments, (tt, c.requires.variables))))
+    (falls, (c.requires.ready, (c.requires.arguments, (tt, (c.requires.variables, c.requires.known)))))
 
 pub in_call-returns-in_ok-in_arguments-in-Some-clause-result : goal.in_call-returns-in_ok-in_arguments-in-Some-clause-result
 in_call-returns-in_ok-in_arguments-in-Some-clause-result t c d =
@@ -558,38 +636,38 @@ in_call-returns-in_ok-add_state-in-None-clause-grows t c =
     grows_then c.args.auto.now c.in_arguments-in-None.new.auto c.add_state.new.self c.in_ok-in_arguments-in-None.ensures.grows (record { extends = e.extends; keeps = e.keeps })
 
 pub in_parts-returns-in_err-state-clause-keeps : goal.in_parts-returns-in_err-state-clause-keeps
-in_parts-returns-in_err-state-clause-keeps t c = keeps_then c.args.store.now c.loop-part.store c.in_expression.new.store c.loop-part.invariant.stays.keeps c.in_expression.ensures.keeps
+in_parts-returns-in_err-state-clause-keeps t c = keeps_then c.args.store.now c.loop-part.store c.in_expression.new.store c.loop-part.invariant.walk.stays.keeps c.in_expression.ensures.keeps
 
 pub in_parts-returns-in_err-push-clause-keeps : goal.in_parts-returns-in_err-push-clause-keeps
-in_parts-returns-in_err-push-clause-keeps t c = keeps_then c.args.store.now c.loop-part.store c.in_expression.new.store c.loop-part.invariant.stays.keeps c.in_expression.ensures.keeps
+in_parts-returns-in_err-push-clause-keeps t c = keeps_then c.args.store.now c.loop-part.store c.in_expression.new.store c.loop-part.invariant.walk.stays.keeps c.in_expression.ensures.keeps
 
 pub in_arguments-returns-in_err-state-clause-keeps : goal.in_arguments-returns-in_err-state-clause-keeps
-in_arguments-returns-in_err-state-clause-keeps t c = keeps_then c.args.store.now c.loop-number.store c.in_expression.new.store c.loop-number.invariant.stays.keeps c.in_expression.ensures.keeps
+in_arguments-returns-in_err-state-clause-keeps t c = keeps_then c.args.store.now c.loop-number.store c.in_expression.new.store c.loop-number.invariant.walk.stays.keeps c.in_expression.ensures.keeps
 
 pub in_clauses-returns-in_err-found-clause-keeps : goal.in_clauses-returns-in_err-found-clause-keeps
-in_clauses-returns-in_err-found-clause-keeps t c = keeps_then c.args.store.now c.loop-clause.store c.in_clause.new.store c.loop-clause.invariant.stays.keeps c.in_clause.ensures.keeps
+in_clauses-returns-in_err-found-clause-keeps t c = keeps_then c.args.store.now c.loop-clause.store c.in_clause.new.store c.loop-clause.invariant.walk.stays.keeps c.in_clause.ensures.keeps
 
 pub in_clauses-returns-in_err-push_found-clause-keeps : goal.in_clauses-returns-in_err-push_found-clause-keeps
-in_clauses-returns-in_err-push_found-clause-keeps t c = keeps_then c.args.store.now c.loop-clause.store c.in_clause.new.store c.loop-clause.invariant.stays.keeps c.in_clause.ensures.keeps
+in_clauses-returns-in_err-push_found-clause-keeps t c = keeps_then c.args.store.now c.loop-clause.store c.in_clause.new.store c.loop-clause.invariant.walk.stays.keeps c.in_clause.ensures.keeps
 
-pub in_clauses-returns-in_err-pass-clause-keeps : goal.in_clauses-returns-in_err-pass-clause-keeps
-in_clauses-returns-in_err-pass-clause-keeps t c = keeps_then c.args.store.now c.loop-clause.store c.in_clause.new.store c.loop-clause.invariant.stays.keeps c.in_clause.ensures.keeps
+pub in_clauses-returns-in_err-left-clause-keeps : goal.in_clauses-returns-in_err-left-clause-keeps
+in_clauses-returns-in_err-left-clause-keeps t c = c.loop-clause.invariant.walk.stays.keeps
 
 pub in_clauses-returns-in_err-see_uncovered-clause-keeps : goal.in_clauses-returns-in_err-see_uncovered-clause-keeps
-in_clauses-returns-in_err-see_uncovered-clause-keeps t c = keeps_then c.args.store.now c.loop-clause.store c.see_uncovered.new.store c.loop-clause.invariant.stays.keeps c.see_uncovered.ensures.keeps
+in_clauses-returns-in_err-see_uncovered-clause-keeps t c = keeps_then c.args.store.now c.loop-clause.store c.see_uncovered.new.store c.loop-clause.invariant.walk.stays.keeps c.see_uncovered.ensures.keeps
 
 pub in_clauses-returns-in_err-unite_states-clause-keeps : goal.in_clauses-returns-in_err-unite_states-clause-keeps
-in_clauses-returns-in_err-unite_states-clause-keeps t c = keeps_then c.args.store.now c.loop-clause.store c.see_uncovered.new.store c.loop-clause.invariant.stays.keeps c.see_uncovered.ensures.keeps
+in_clauses-returns-in_err-unite_states-clause-keeps t c = keeps_then c.args.store.now c.loop-clause.store c.see_uncovered.new.store c.loop-clause.invariant.walk.stays.keeps c.see_uncovered.ensures.keeps
 
 pub in_arguments-returns-in_err-see_argument-clause-keeps : goal.in_arguments-returns-in_err-see_argument-clause-keeps
 in_arguments-returns-in_err-see_argument-clause-keeps t c =
-    keeps_then c.args.store.now c.loop-number.store c.see_argument.new.store c.loop-number.invariant.stays.keeps (keeps_then c.loop-number.store c.in_expression.new.store c.see_argument.new.store c.in_expression.ensures.keeps c.see_argument.ensures.keeps)
+    keeps_then c.args.store.now c.loop-number.store c.see_argument.new.store c.loop-number.invariant.walk.stays.keeps (keeps_then c.loop-number.store c.in_expression.new.store c.see_argument.new.store c.in_expression.ensures.keeps c.see_argument.ensures.keeps)
 
 pub in_clauses-returns-in_err-pattern-clause-keeps : goal.in_clauses-returns-in_err-pattern-clause-keeps
-in_clauses-returns-in_err-pattern-clause-keeps t c = c.loop-clause.invariant.stays.keeps
+in_clauses-returns-in_err-pattern-clause-keeps t c = c.loop-clause.invariant.walk.stays.keeps
 
 pub in_clauses-returns-clause-grows : goal.in_clauses-returns-clause-grows
-in_clauses-returns-clause-grows t c = grows_then c.args.auto.now c.loop-clause.auto' c.unite_states.new.auto c.loop-clause.invariant.stays.grows c.in_ok-unite_states.ensures.grows
+in_clauses-returns-clause-grows t c = grows_then c.args.auto.now c.loop-clause.auto' c.unite_states.new.auto c.loop-clause.invariant.walk.stays.grows c.in_ok-unite_states.ensures.grows
 
 pub in_clauses-returns-clause-keeps : goal.in_clauses-returns-clause-keeps
-in_clauses-returns-clause-keeps t c = keeps_then c.args.store.now c.loop-clause.store c.see_uncovered.new.store c.loop-clause.invariant.stays.keeps c.in_ok-see_uncovered.ensures.keeps
+in_clauses-returns-clause-keeps t c = keeps_then c.args.store.now c.loop-clause.store c.see_uncovered.new.store c.loop-clause.invariant.walk.stays.keeps c.in_ok-see_uncovered.ensures.keeps

@@ -1,5 +1,6 @@
 use Rattle.std.proofs.Common.{◌+◌, ◌*◌}
 use Rattle.xd_syntax.specs.Exprs.{clause_numbers, expr_numbers}
+use Rattle.xd_check.specs.Known.{IsKnown}
 use Rattle.xd_check.proofs.Loops.{ArgumentsLoop, PartsLoop, bodies, ceiling}
 use Rattle.xd_check.proofs.ClauseLoop.{ClausesLoop}
 use Rattle.xd_check.proofs.checker.Checker.+expressions.Given as goal
@@ -23,10 +24,19 @@ abbrev pub decreases-in_clause : goal.decreases-in_clause
 decreases-in_clause l = 4 * l.clause.body.at + 4
 
 abbrev pub invariant-in_parts-loop-part : goal.invariant-in_parts-loop-part
-invariant-in_parts-loop-part l = PartsLoop l.self.sound l.initial.auto' l.auto' l.initial.variables l.variables l.initial.store l.store l.initial.lines.items l.lines.items l.parts l.part-index l.states.items
+invariant-in_parts-loop-part l = record {
+  walk : PartsLoop l.self.sound l.initial.auto' l.auto' l.initial.variables l.variables l.initial.store l.store l.initial.lines.items l.lines.items l.parts l.part-index l.states.items;
+  known : IsKnown l.auto' l.store l.known;
+}
 
 abbrev pub invariant-in_arguments-loop-number : goal.invariant-in_arguments-loop-number
-invariant-in_arguments-loop-number l = ArgumentsLoop l.self.sound l.initial.auto' l.auto' l.initial.variables l.variables l.initial.store l.store l.initial.lines.items l.lines.items l.parameters l.arguments l.number
+invariant-in_arguments-loop-number l = record {
+  walk : ArgumentsLoop l.self.sound l.initial.auto' l.auto' l.initial.variables l.variables l.initial.store l.store l.initial.lines.items l.lines.items l.parameters l.arguments l.number;
+  known : IsKnown l.auto' l.store l.known;
+}
 
 abbrev pub invariant-in_clauses-loop-clause : goal.invariant-in_clauses-loop-clause
-invariant-in_clauses-loop-clause l = ClausesLoop l.self.sound l.place l.initial.auto' l.auto' l.initial.variables l.variables l.initial.store l.store l.initial.lines.items l.lines.items l.clauses l.clause-index l.states.items l.initial.arriving l.arriving
+invariant-in_clauses-loop-clause l = record {
+  walk : ClausesLoop l.self.sound l.place l.initial.auto' l.auto' l.initial.variables l.variables l.initial.store l.store l.initial.lines.items l.lines.items l.clauses l.clause-index l.states.items l.initial.arriving l.arriving;
+  known : IsKnown l.auto' l.store l.known;
+}

@@ -60,6 +60,7 @@ in_expression-requires c =
       ready = c.requires.ready;
       expression = subst (λ (id : ExprId). CanBeWalked p id.at) (sym c.body-body.ensures) body;
       variables = subst (AreStates c.args.auto.now) (sym scope) (parameters_states (names_of P) p c.args.auto.now f.params g.parameters.items signed.parameters);
+      known = c.requires.known;
     }
 
 pub see_result-requires-clause-body : goal.see_result-requires-clause-body
@@ -77,6 +78,9 @@ see_result-requires-clause-body c =
     let scope : c.in_ok-variables.variables ≡ parameters_in_scope f.params g.parameters.items = c.in_ok-variables.ensures
     ∙ ap (λ (qs : List Param). parameters_in_scope qs c.deref.result.now) c.params.ensures.params ∙ ap (λ ss. parameters_in_scope f.params ss) c.deref.ensures.value in
     subst (λ (id : ExprId). id.at < length p.exprs) (sym c.body-body.ensures) there.body
+
+pub see_result-requires-clause-known : goal.see_result-requires-clause-known
+see_result-requires-clause-known c = c.in_ok-state.ensures.known
 
 pub see_result-requires-clause-wanted : goal.see_result-requires-clause-wanted
 see_result-requires-clause-wanted c =

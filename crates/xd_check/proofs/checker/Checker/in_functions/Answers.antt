@@ -8,15 +8,18 @@ use Rattle.xd_check.proofs.Readying.{ready_kept}
 use Rattle.xd_check.proofs.checker.Checker.in_functions.Goals as goal
 
 pub loop-number-init : goal.loop-number-init
-loop-number-init c = functions_begin c.args.self.now.sound c.args.auto.now c.args.store.now c.args.lines.now.items
+loop-number-init c = record { walk = functions_begin c.args.self.now.sound c.args.auto.now c.args.store.now c.args.lines.now.items; known = c.requires.known }
 
 pub in_function-requires-clause-ready : goal.in_function-requires-clause-ready
-in_function-requires-clause-ready c = ready_kept c.args.self.now c.args.auto.now c.loop-number.auto' c.loop-number.invariant.grows c.requires
+in_function-requires-clause-ready c = ready_kept c.args.self.now c.args.auto.now c.loop-number.auto' c.loop-number.invariant.walk.grows c.requires.ready
 
 pub in_function-requires-clause-number : goal.in_function-requires-clause-number
 in_function-requires-clause-number c =
     let same : c.functions-functions.result.now ≡ c.args.self.now.sound.functions = c.functions-functions.ensures.functions ∙ ap (λ (q : ProgramTable). q.functions) c.program.ensures.program in
     subst (λ (fs : List FunctionRow). c.loop-number.number < length fs) same c.loop-number-test.true
+
+pub in_function-requires-clause-known : goal.in_function-requires-clause-known
+in_function-requires-clause-known c = c.loop-number.invariant.known
 
 pub loop-number-preserved : goal.loop-number-preserved
 loop-number-preserved c =
@@ -25,18 +28,21 @@ loop-number-preserved c =
     let same : c.functions-functions.result.now ≡ p.functions = c.functions-functions.ensures.functions ∙ ap (λ (q : ProgramTable). q.functions) c.program.ensures.program in
     let within : n < length p.functions = subst (λ (fs : List FunctionRow). n < length fs) same c.loop-number-test.true in
     let e = c.in_ok-in_function.ensures in
-    functions_more p c.args.auto.now c.loop-number.auto' c.in_function.new.auto c.args.store.now c.loop-number.store c.in_function.new.store c.args.lines.now.items c.loop-number.lines.items c.in_function.new.lines.items n
-    (function_at p.functions n within) c.loop-number.invariant within (function_at_is p.functions n within) e.lines e.grows e.keeps
+    record {
+      walk = functions_more p c.args.auto.now c.loop-number.auto' c.in_function.new.auto c.args.store.now c.loop-number.store c.in_function.new.store c.args.lines.now.items c.loop-number.lines.items c.in_function.new.lines.items n
+          (function_at p.functions n within) c.loop-number.invariant.walk within (function_at_is p.functions n within) e.lines e.grows e.keeps;
+      known = e.known;
+    }
 
 pub returns-clause-lines : goal.returns-clause-lines
 returns-clause-lines c =
     let p : ProgramTable = c.args.self.now.sound in
     let same : c.functions-functions.result.now ≡ p.functions = c.functions-functions.ensures.functions ∙ ap (λ (q : ProgramTable). q.functions) c.program.ensures.program in
     let all : length p.functions ≤ c.loop-number.number = subst (λ (fs : List FunctionRow). length fs ≤ c.loop-number.number) same c.loop-number-test.false in
-    functions_end p c.args.auto.now c.loop-number.auto' c.args.store.now c.loop-number.store c.args.lines.now.items c.loop-number.lines.items c.loop-number.number (drop_all c.loop-number.number p.functions all) c.loop-number.invariant
+    functions_end p c.args.auto.now c.loop-number.auto' c.args.store.now c.loop-number.store c.args.lines.now.items c.loop-number.lines.items c.loop-number.number (drop_all c.loop-number.number p.functions all) c.loop-number.invariant.walk
 
 pub returns-clause-keeps : goal.returns-clause-keeps
-returns-clause-keeps c = c.loop-number.invariant.keeps
+returns-clause-keeps c = c.loop-number.invariant.walk.keeps
 
 pub returns-in_err-in_function-clause-keeps : goal.returns-in_err-in_function-clause-keeps
-returns-in_err-in_function-clause-keeps c = keeps_then c.args.store.now c.loop-number.store c.in_function.new.store c.loop-number.invariant.keeps c.in_function.ensures.keeps
+returns-in_err-in_function-clause-keeps c = keeps_then c.args.store.now c.loop-number.store c.in_function.new.store c.loop-number.invariant.walk.keeps c.in_function.ensures.keeps
