@@ -1,5 +1,5 @@
 -- Trees over goals with the same claims.
-use Rattle.std.proofs.Common.{ℕ, ◌+◌, ◌≡◌, Bool, true, false, List, [], ◌∙◌}
+use Rattle.std.proofs.Common.{ℕ, ◌≡◌, Bool, true, false, List, [], ◌∙◌}
 use Rattle.xd_auto.specs.declared.auto.State.{State}
 use Rattle.xd_auto.specs.Automaton.{Automaton}
 use Rattle.xd_rules.specs.declared.atom.Atom.{Atom}
@@ -13,11 +13,11 @@ use Rattle.xd_goals.specs.declared.heads.Side.{Side}
 use Rattle.xd_goals.specs.declared.grow.Task.{Task}
 
 module _ (a : Automaton) (old new : List GoalRow) (same : (g : ℕ) → claim_at new g ≡ claim_at old g) where
-  grown_same : (task : Task) (sides : List Side) (tree : ChoiceTree) (contents rests : List State) (from : ℕ) → IsGrown old task sides tree contents rests from → IsGrown new task sides tree contents rests from
-  grown_same task sides (ContentLeaf g) contents rests from k = same g ∙ k
-  grown_same task sides (RestLeaf g) contents rests from k = same g ∙ k
-  grown_same task sides (SplitOn j x y) contents rests from k =
-      (k.0, k.1, k.2, grown_same task sides x (with_state k.0.content contents) rests (from + 1) k.3, grown_same task sides y contents (with_state k.0.rest rests) (from + 1) k.4)
+  grown_same : (task : Task) (sides : List Side) (tree : ChoiceTree) (contents rests : List State) → IsGrown old task sides tree contents rests → IsGrown new task sides tree contents rests
+  grown_same task sides (ContentLeaf g) contents rests k = same g ∙ k
+  grown_same task sides (RestLeaf g) contents rests k = same g ∙ k
+  grown_same task sides (SplitOn j x y) contents rests k =
+      (k.0, k.1, k.2, grown_same task sides x (with_state k.0.content contents) rests k.3, grown_same task sides y contents (with_state k.0.rest rests) k.4)
 
   text_same : (task : Task) (sides : List Side) (tree : ChoiceTree) → IsTextTree old task sides tree → IsTextTree new task sides tree
   text_same task sides (ContentLeaf g) k = k
@@ -29,4 +29,4 @@ module _ (a : Automaton) (old new : List GoalRow) (same : (g : ℕ) → claim_at
     where
       go : (b : Bool) → IsTreeBySort b old (task_for a owner h) (claim_sides a c atom) tree → IsTreeBySort b new (task_for a owner h) (claim_sides a c atom) tree
       go true x = text_same (task_for a owner h) (claim_sides a c atom) tree x
-      go false x = grown_same (task_for a owner h) (claim_sides a c atom) tree [] [] 0 x
+      go false x = grown_same (task_for a owner h) (claim_sides a c atom) tree [] [] x

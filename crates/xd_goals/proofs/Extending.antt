@@ -25,12 +25,12 @@ below_more n m le [] h = tt
 below_more n m le (s ∷ ss) h = (let lt : s.number < n = h.0 in omega (arith, le, lt), below_more n m le ss h.1)
 
 -- of a tree's task only the states count that the left head leads to
-IsGrown-task : (rows : List GoalRow) (one two : Task) (sides : List Side) → one.content ≡ two.content → one.rest ≡ two.rest → (tree : ChoiceTree) (contents rests : List State) (from : ℕ)
-    → IsGrown rows one sides tree contents rests from → IsGrown rows two sides tree contents rests from
-IsGrown-task rows one two sides e f (ContentLeaf g) contents rests from h = rw (← e) h
-IsGrown-task rows one two sides e f (RestLeaf g) contents rests from h = rw (← f) h
-IsGrown-task rows one two sides e f (SplitOn j a b) contents rests from h =
-    (h.0, h.1, h.2, IsGrown-task rows one two sides e f a _ rests _ h.3, IsGrown-task rows one two sides e f b contents _ _ h.4)
+IsGrown-task : (rows : List GoalRow) (one two : Task) (sides : List Side) → one.content ≡ two.content → one.rest ≡ two.rest → (tree : ChoiceTree) (contents rests : List State)
+    → IsGrown rows one sides tree contents rests → IsGrown rows two sides tree contents rests
+IsGrown-task rows one two sides e f (ContentLeaf g) contents rests h = rw (← e) h
+IsGrown-task rows one two sides e f (RestLeaf g) contents rests h = rw (← f) h
+IsGrown-task rows one two sides e f (SplitOn j a b) contents rests h =
+    (h.0, h.1, h.2, IsGrown-task rows one two sides e f a _ rests h.3, IsGrown-task rows one two sides e f b contents _ h.4)
 
 IsTextTree-task : (rows : List GoalRow) (one two : Task) (sides : List Side) → one.rest ≡ two.rest → (tree : ChoiceTree) → IsTextTree rows one sides tree → IsTextTree rows two sides tree
 IsTextTree-task rows one two sides f (ContentLeaf g) h = h
@@ -82,7 +82,7 @@ module _ (a b : Automaton) (more : Extends a b) (keep : KeepsAccepting a b) wher
       where
         go : (sort : Bool) → IsTreeBySort sort rows (task_for a owner h) (claim_sides a c atom) tree → IsTreeBySort sort rows (task_for b owner h) (claim_sides a c atom) tree
         go true x = IsTextTree-task rows (task_for a owner h) (task_for b owner h) (claim_sides a c atom) refl tree x
-        go false x = IsGrown-task rows (task_for a owner h) (task_for b owner h) (claim_sides a c atom) refl refl tree [] [] 0 x
+        go false x = IsGrown-task rows (task_for a owner h) (task_for b owner h) (claim_sides a c atom) refl refl tree [] [] x
 
     choice-extends : (t : TableView) (owner : ℕ) (k : Choice) → ChoiceStands a t owner c k → ChoiceStands b t owner c k
     choice-extends t owner k h = record {

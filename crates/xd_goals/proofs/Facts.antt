@@ -5,7 +5,6 @@ use Rattle.std.specs.BTreeMap.{BTreeMap}
 use Rattle.std.proofs.lemmas.Bool.{cases_lt}
 use Rattle.xd_doc.specs.Document.{Document}
 use Rattle.xd_doc.specs.Stored.{Keeps}
-use Rattle.xd_doc.specs.declared.store.Seq.{Seq}
 use Rattle.xd_auto.specs.declared.auto.State.{State}
 use Rattle.xd_auto.specs.Automaton.{Automaton}
 use Rattle.xd_rules.specs.declared.atom.Atom.{Atom}
@@ -16,9 +15,9 @@ use Rattle.xd_goals.specs.Moves.{Accepts, claim_with}
 use Rattle.xd_goals.specs.Rows.{GoalRow, TableView, row_at, claim_of, claim_key, no_view, IsRefuted, RowsBelow}
 use Rattle.xd_goals.specs.Kept.{GrowsBy, IsIndexed, found_at}
 use Rattle.xd_goals.specs.Trees.{IsTreeBySort}
-use Rattle.xd_goals.specs.Standing.{ChoiceStands, IsBegun, IsCaseTree, IsOpen, IsSeparatedBy, RowHolds, StandsOn, KeepsGoals, task_for, claim_sides}
+use Rattle.xd_goals.specs.Standing.{AreSeparated, ChoiceStands, IsBegun, IsCaseTree, IsOpen, IsSeparatedBy, RowHolds, StandsOn, KeepsGoals, task_for, claim_sides}
 use Rattle.xd_goals.specs.declared.table.Choice.{Choice}
-use Rattle.xd_goals.specs.declared.table.Standing.TheVariants.{Holds, Refuted}
+use Rattle.xd_goals.specs.declared.table.Standing.TheVariants.{Holds}
 use Rattle.xd_goals.proofs.Lists.{all_map}
 use Rattle.xd_goals.proofs.Growing.{past_is_new}
 use Rattle.xd_goals.proofs.Trees.{AllLeaves-map, StandsAt-more, StandsAt-one, HasTree-grows, IsGrown-grows, IsTextTree-grows, standing-grows, choices-grows, open-grows}
@@ -29,7 +28,7 @@ case_tree-grows a t u g owner c h atom tree k = go (is_text_atom atom) k
   where
     go : (b : Bool) → IsTreeBySort b t.rows (task_for a owner h) (claim_sides a c atom) tree → IsTreeBySort b u.rows (task_for a owner h) (claim_sides a c atom) tree
     go true x = IsTextTree-grows t u g (task_for a owner h) (claim_sides a c atom) tree x
-    go false x = IsGrown-grows t u g (task_for a owner h) (claim_sides a c atom) tree [] [] 0 x
+    go false x = IsGrown-grows t u g (task_for a owner h) (claim_sides a c atom) tree [] [] x
 
 pub choice-grows : {A : List State → Type 0} (a : Automaton) (t u : TableView) → GrowsBy A t u → (owner : ℕ) (c : Claim State) (k : Choice) → ChoiceStands a t owner c k → ChoiceStands a u owner c k
 choice-grows a t u g owner c k h = record {
@@ -63,11 +62,17 @@ pub claim-grows : {A : List State → Type 0} (t u : TableView) → GrowsBy A t 
 claim-grows t u g i lt = let k = g.kept i lt in
     ap (λ (s : State). claim_with s (row_at u.rows i).rights) k.left ∙ ap (λ (ss : List State). claim_with (row_at t.rows i).left ss) k.rights
 
+-- refuted goals keep their documents
+pub separated-grows : {A : List State → Type 0} (a : Automaton) (ds : List Document) (t u : TableView) → GrowsBy A t u → AreSeparated a ds t.rows → AreSeparated a ds u.rows
+separated-grows a ds t u g h i seq e =
+    let was = sym (standing-grows t u g i) ∙ e in
+    ⊎_elim
+    (λ lt. subst (λ (c : Claim State). IsSeparatedBy a ds c seq) (sym (claim-grows t u g i lt)) (h i seq was))
+    (λ ge. let w = (past_is_new t.rows i ge).standing in absurd (cc))
+    (cases_lt i (length t.rows))
+
 -- of a goal that was not there nothing is known
 module _ {A : List State → Type 0} (a : Automaton) (ds : List Document) (t u : TableView) (g : GrowsBy A t u) where
-  refuted_there : (i : ℕ) (seq : Seq) → (row_at t.rows i).standing ≡ Refuted seq → i < length t.rows
-  refuted_there i seq e = ⊎_elim (λ lt. lt) (λ ge. let w = (past_is_new t.rows i ge).standing in absurd (cc)) (cases_lt i (length t.rows))
-
   holds_there : (i : ℕ) → (row_at t.rows i).standing ≡ Holds → i < length t.rows
   holds_there i e = ⊎_elim (λ lt. lt) (λ ge. let w = (past_is_new t.rows i ge).standing in absurd (cc)) (cases_lt i (length t.rows))
 
@@ -99,9 +104,7 @@ module _ {A : List State → Type 0} (a : Automaton) (ds : List Document) (t u :
   stands-grows states unlike h = record {
     states = states;
     unlike = unlike;
-    refuted = λ i seq e.
-        let was = sym (standing-grows t u g i) ∙ e in
-        subst (λ (c : Claim State). IsSeparatedBy a ds c seq) (sym (claim-grows t u g i (refuted_there i seq was))) (h.refuted i seq was);
+    refuted = separated-grows a ds t u g h.refuted;
     choices = choices_at h;
     begun = begun_at h;
     holds = λ i e.

@@ -9,10 +9,11 @@ use Rattle.xd_rules.specs.Heads.{Head, matches, is_text_atom}
 use Rattle.xd_rules.specs.Rules.{Claim, ChoiceTree, ContentLeaf, RestLeaf, SplitOn, LeafKeeps, TreeKeeps, TextKeeps, KeepsBySort, CaseKeeps, head_number, matching_rests, right_heads}
 use Rattle.xd_goals.specs.Moves.{claim_with, with_state, heads_of}
 use Rattle.xd_goals.specs.Rows.{GoalRow, claim_at}
-use Rattle.xd_goals.specs.Trees.{IsGrown, IsTextTree, IsTreeBySort, side_at, matching_sides, gathered}
+use Rattle.xd_goals.specs.Trees.{AreApart, IsFree, IsGrown, IsTextTree, IsTreeBySort, side_at, matching_sides, gathered}
 use Rattle.xd_goals.specs.Standing.{IsCaseTree, claim_sides, task_for}
 use Rattle.xd_goals.specs.declared.heads.Side.{Side}
 use Rattle.xd_goals.proofs.Trees.{with_state-from, with_state-keeps, with_state-has}
+use Rattle.xd_goals.proofs.Repairing.{same_side}
 
 -- the right head of a side
 pub record IsSideOf (atom : Atom) (k : ℕ) (hs : List (Head State)) (side : Side) : Type 0 where
@@ -96,37 +97,47 @@ more_in s xs ys h k m = ⊎_elim (λ e. inl e) (λ r. inr (h k r)) (with_state-f
 leaf_keeps : (rows : List GoalRow) (g : ℕ) (left : State) (rights allowed : List State) → AreIn rights allowed → claim_at rows g ≡ Some (claim_with left rights) → LeafKeeps (claim_at rows) g left allowed
 leaf_keeps rows g left rights allowed h e = record { claim = claim_with left rights; found = e; same_left = refl; rights_allowed = all_in rights allowed h }
 
--- the numbers that a path has split on are lower than those to come
-abbrev pub AreLower : List ℕ → List Side → ℕ → Type 0
-AreLower seen sides from = (j : ℕ) → IsOneOf j seen → (i : ℕ) (s : Side) → from ≤ i → slice_get sides i ≡ Some s → j < s.number
+-- the heads that a path has split on stand on its sides
+abbrev pub AreSeen : List Side → List ℕ → List State → List State → Type 0
+AreSeen sides seen contents rests = (j : ℕ) → IsOneOf j seen → (i : ℕ) × (t : Side) × (slice_get sides i ≡ Some t) × (t.number ≡ j) × (IsOneOf t.content contents ⊎ IsOneOf t.rest rests)
+
+-- a head that is free was not seen
+not_seen : (sides : List Side) → AreApart sides → (seen : List ℕ) (contents rests : List State) → AreSeen sides seen contents rests → (side : Side) → IsFree sides contents rests side → ¬ (IsOneOf side.number seen)
+not_seen sides apart seen contents rests h side free m =
+    let was = h side.number m in
+    let same = same_side sides contents rests side.number side was.1 apart refl free (record { place = was.0; found = was.2; same = was.3 }) in
+    ⊎_elim (λ c. free.content_free (subst (λ (w : Side). IsOneOf w.content contents) same c)) (λ r. free.rest_free (subst (λ (w : Side). IsOneOf w.rest rests) same r)) was.4
+
+module _ (sides : List Side) (seen : List ℕ) (contents rests : List State) (h : AreSeen sides seen contents rests) (j : ℕ) (side : Side) (e : j ≡ side.number) (place : ℕ) (at : slice_get sides place ≡ Some side) where
+  seen_content : (s : State) → s ≡ side.content → AreSeen sides (j ∷ seen) (with_state s contents) rests
+  seen_content s is i (inl q) = (place, side, at, sym e ∙ q, inl (subst (λ (w : State). IsOneOf w (with_state s contents)) is (with_state-has s contents)))
+  seen_content s is i (inr m) = let was = h i m in (was.0, was.1, was.2, was.3, ⊎_elim (λ c. inl (with_state-keeps s was.1.content contents c)) (λ r. inr r) was.4)
+
+  seen_rest : (s : State) → s ≡ side.rest → AreSeen sides (j ∷ seen) contents (with_state s rests)
+  seen_rest s is i (inl q) = (place, side, at, sym e ∙ q, inr (subst (λ (w : State). IsOneOf w (with_state s rests)) is (with_state-has s rests)))
+  seen_rest s is i (inr m) = let was = h i m in (was.0, was.1, was.2, was.3, ⊎_elim (λ c. inl c) (λ r. inr (with_state-keeps s was.1.rest rests r)) was.4)
 
 module _ (rows : List GoalRow) (a : Automaton) (owner : ℕ) (head : Head State) (atom : Atom) (hs : List (Head State)) where
-  abbrev sides : List Side
-  sides = matching_sides atom 1 hs
-
-  pub grown_keeps : (tree : ChoiceTree) (contents rests : List State) (from : ℕ) (ps qs : List State) (seen : List ℕ) → AreIn contents ps → AreIn rests qs → AreLower seen (matching_sides atom 1 hs) from
-      → IsGrown rows (task_for a owner head) (matching_sides atom 1 hs) tree contents rests from → TreeKeeps (claim_at rows) head atom hs tree ps qs seen
-  grown_keeps (ContentLeaf g) contents rests from ps qs seen hp hq lower k = leaf_keeps rows g head.content contents ps hp k
-  grown_keeps (RestLeaf g) contents rests from ps qs seen hp hq lower k = leaf_keeps rows g head.rest rests qs hq k
-  grown_keeps (SplitOn j x y) contents rests from ps qs seen hp hq lower k =
+  pub grown_keeps : (tree : ChoiceTree) (contents rests : List State) (ps qs : List State) (seen : List ℕ) → AreIn contents ps → AreIn rests qs → AreSeen (matching_sides atom 1 hs) seen contents rests
+      → IsGrown rows (task_for a owner head) (matching_sides atom 1 hs) tree contents rests → TreeKeeps (claim_at rows) head atom hs tree ps qs seen
+  grown_keeps (ContentLeaf g) contents rests ps qs seen hp hq were k = leaf_keeps rows g head.content contents ps hp k
+  grown_keeps (RestLeaf g) contents rests ps qs seen hp hq were k = leaf_keeps rows g head.rest rests qs hq k
+  grown_keeps (SplitOn j x y) contents rests ps qs seen hp hq were k =
       let side = k.0 in
-      let s = side_at_place atom 1 hs from side k.2 in
+      let free = k.2 in
+      let s = side_at_place atom 1 hs free.place side free.found in
       let number : j ≡ suc s.place = let n = s.number in let e = k.1 in omega arith in (
         s.head,
         subst (λ (n : ℕ). head_number hs n ≡ Some s.head) (sym number) s.there,
         s.matched,
-        (λ m. let lt = lower j m from side (omega arith) k.2 in let e = k.1 in omega arith),
-        grown_keeps x (with_state s.head.content contents) rests (from + 1) (s.head.content ∷ ps) qs (j ∷ seen) (more_in s.head.content contents ps hp) hq (more_lower j side k.1 k.2)
-            (subst (λ (w : State). IsGrown rows (task_for a owner head) (matching_sides atom 1 hs) x (with_state w contents) rests (from + 1)) (sym s.content_is) k.3),
-        grown_keeps y contents (with_state s.head.rest rests) (from + 1) ps (s.head.rest ∷ qs) (j ∷ seen) hp (more_in s.head.rest rests qs hq) (more_lower j side k.1 k.2)
-            (subst (λ (w : State). IsGrown rows (task_for a owner head) (matching_sides atom 1 hs) y contents (with_state w rests) (from + 1)) (sym s.rest_is) k.4),
+        (λ m. not_seen (matching_sides atom 1 hs) (record { rise = sides_rise atom 1 hs }) seen contents rests were side free (subst (λ (n : ℕ). IsOneOf n seen) k.1 m)),
+        grown_keeps x (with_state s.head.content contents) rests (s.head.content ∷ ps) qs (j ∷ seen) (more_in s.head.content contents ps hp) hq
+            (seen_content (matching_sides atom 1 hs) seen contents rests were j side k.1 free.place free.found s.head.content s.content_is)
+            (subst (λ (w : State). IsGrown rows (task_for a owner head) (matching_sides atom 1 hs) x (with_state w contents) rests) (sym s.content_is) k.3),
+        grown_keeps y contents (with_state s.head.rest rests) ps (s.head.rest ∷ qs) (j ∷ seen) hp (more_in s.head.rest rests qs hq)
+            (seen_rest (matching_sides atom 1 hs) seen contents rests were j side k.1 free.place free.found s.head.rest s.rest_is)
+            (subst (λ (w : State). IsGrown rows (task_for a owner head) (matching_sides atom 1 hs) y contents (with_state w rests)) (sym s.rest_is) k.4),
       )
-    where
-      more_lower : (j : ℕ) (side : Side) → j ≡ side.number → slice_get (matching_sides atom 1 hs) from ≡ Some side → AreLower (j ∷ seen) (matching_sides atom 1 hs) (from + 1)
-      more_lower j side e at n m i t le f = elim m [
-        | inl q ↦ omega (arith, sides_rise atom 1 hs from i side t (omega arith) at f)
-        | inr r ↦ lower n r i t (omega arith) f
-      ]
 
 -- the rests of the right heads that match, gathered
 pub gathered-from : (atom : Atom) (k : ℕ) (hs : List (Head State)) (states : List State) (s : State) → IsOneOf s (gathered states (matching_sides atom k hs)) → IsOneOf s states ⊎ IsOneOf s (matching_rests atom hs)
@@ -165,4 +176,4 @@ case_keeps rows a owner c head atom tree k = go (is_text_atom atom) k
   where
     go : (b : Bool) → IsTreeBySort b rows (task_for a owner head) (claim_sides a c atom) tree → KeepsBySort b (claim_at rows) head atom (right_heads (heads_of a) c) tree
     go true h = text_keeps rows a owner head atom (right_heads (heads_of a) c) tree h
-    go false h = grown_keeps rows a owner head atom (right_heads (heads_of a) c) tree [] [] 0 [] [] [] (λ s m. m) (λ s m. m) (λ j m. absurd m) h
+    go false h = grown_keeps rows a owner head atom (right_heads (heads_of a) c) tree [] [] [] [] [] (λ s m. m) (λ s m. m) (λ j m. absurd m) h

@@ -6,6 +6,7 @@ pub mod Linking
 pub mod Trees
 pub mod Repairing
 pub mod Meaning
+pub mod Splitting
 pub mod Keeping
 pub mod Facts
 pub mod Extending

@@ -12,7 +12,7 @@ use Rattle.xd_rules.specs.Meaning.{IsMeaning}
 use Rattle.xd_rules.proofs.Members.{one_of-append_left, one_of-append_right, one_of-append_cases, one_of-map, one_of-from_map, one_of-any, any-one_of}
 use Rattle.xd_goals.specs.Moves.{Accepts, heads_of, is_last_in, label_head, text_head}
 
-and_parts : (x y : Bool) → (x && y) ≡ true → (x ≡ true) × (y ≡ true)
+pub and_parts : (x y : Bool) → (x && y) ≡ true → (x ≡ true) × (y ≡ true)
 and_parts true y e = (refl, e)
 and_parts false y e = absurd (cc)
 

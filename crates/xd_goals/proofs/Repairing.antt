@@ -1,12 +1,13 @@
 -- What is known of a tree by the node at which it stands.
-use Rattle.std.proofs.Common.{ℕ, ◌+◌, ◌<◌, ◌≡◌, List, length, Option, Some, None, sym, ap, ◌∙◌, subst}
+use Rattle.std.proofs.Common.{ℕ, ◌<◌, ◌≡◌, arith, ⊎_elim, List, length, Option, Some, None, sym, ap, ◌∙◌, subst}
 use Rattle.std.specs.List.{slice_get}
+use Rattle.std.proofs.lemmas.Bool.{cases_eq, cases_lt}
 use Rattle.xd_auto.specs.declared.auto.State.{State}
 use Rattle.xd_rules.specs.Rules.{ChoiceTree, ContentLeaf, RestLeaf, SplitOn, AllLeaves}
 use Rattle.xd_goals.specs.Moves.{claim_with, with_state}
 use Rattle.xd_goals.specs.Rows.{TableView, IsListed, IsRefuted}
 use Rattle.xd_goals.specs.Kept.{Grows}
-use Rattle.xd_goals.specs.Trees.{StandsAt, IsGrown, HasTree, HasOpenTree, IsSplitAt}
+use Rattle.xd_goals.specs.Trees.{StandsAt, AreApart, IsFree, IsGrown, IsNumbered, HasTree, HasOpenTree, IsSplitAt}
 use Rattle.xd_goals.specs.declared.table.ChoiceNode.{ChoiceNode}
 use Rattle.xd_goals.specs.declared.table.ChoiceNode.TheVariants.{Split, Content, Rest}
 use Rattle.xd_goals.specs.declared.table.GoalId.{GoalId}
@@ -32,17 +33,17 @@ abbrev pub rest_in : Option ChoiceNode → ℕ
 rest_in (Some (Split j x y)) = y
 rest_in _ = 0
 
-module _ (t : TableView) (task : Task) (sides : List Side) (contents rests : List State) (from owner root : ℕ) where
+module _ (t : TableView) (task : Task) (sides : List Side) (contents rests : List State) (owner root : ℕ) where
   abbrev Kind : ChoiceTree → Type 0
-  Kind tree = IsGrown t.rows task sides tree contents rests from
+  Kind tree = IsGrown t.rows task sides tree contents rests
 
   -- the parts of a tree that splits
   pub record HasParts (right x y : ℕ) : Type 0 where
     pub side : Side
     pub number : right ≡ side.number
-    pub found : slice_get sides from ≡ Some side
-    pub content : HasTree t (λ tree. IsGrown t.rows task sides tree (with_state side.content contents) rests (from + 1)) owner x
-    pub rest : HasTree t (λ tree. IsGrown t.rows task sides tree contents (with_state side.rest rests) (from + 1)) owner y
+    pub free : IsFree sides contents rests side
+    pub content : HasTree t (λ tree. IsGrown t.rows task sides tree (with_state side.content contents) rests) owner x
+    pub rest : HasTree t (λ tree. IsGrown t.rows task sides tree contents (with_state side.rest rests)) owner y
     pub content_older : x < root
     pub rest_older : y < root
 
@@ -60,7 +61,7 @@ module _ (t : TableView) (task : Task) (sides : List Side) (contents rests : Lis
           record {
             side = k.0;
             number = sym jr ∙ k.1;
-            found = k.2;
+            free = k.2;
             content = record { tree = a; stands = subst (λ (n : ℕ). StandsAt t.nodes n a) xs s.5; kind = k.3; listed = l.0 };
             rest = record { tree = b; stands = subst (λ (n : ℕ). StandsAt t.nodes n b) ys s.6; kind = k.4; listed = l.1 };
             content_older = subst (λ (n : ℕ). n < root) xs s.3;
@@ -106,8 +107,15 @@ module _ (t : TableView) (Kind : ChoiceTree → Type 0) (owner root : ℕ) where
       go (RestLeaf n) s = let same : n ≡ g.number = ap number_in (sym s ∙ e) in subst (λ (m : ℕ). ¬ (IsRefuted t.rows m)) (sym same) o
       go (SplitOn j a b) s = let n = s.2 in absurd (cc)
 
-pub same_side : (sides : List Side) (from : ℕ) (side other : Side) → slice_get sides from ≡ Some side → slice_get sides from ≡ Some other → other ≡ side
-same_side sides from side other h e = cc
+-- of right heads that stand in order, one has a number at most
+pub same_side : (sides : List Side) (contents rests : List State) (right : ℕ) (side other : Side) → AreApart sides → right ≡ side.number → IsFree sides contents rests side → IsNumbered sides right other → other ≡ side
+same_side sides contents rests right side other apart e free h = ⊎_elim
+    (λ lt. let l = apart.rise h.place free.place other side lt h.found free.found in let n = h.same in absurd (omega arith))
+    (λ ge. ⊎_elim
+    (λ q. let at : slice_get sides free.place ≡ Some other = subst (λ (k : ℕ). slice_get sides k ≡ Some other) q h.found in let found = free.found in cc)
+    (λ ne. let l = apart.rise free.place h.place side other (omega arith) free.found h.found in let n = h.same in absurd (omega arith))
+    (cases_eq h.place free.place))
+    (cases_lt h.place free.place)
 
 -- a split that is there stays
 pub split_stays : (t u : TableView) → Grows t u → (right x y root : ℕ) → slice_get t.nodes root ≡ Some (Split right x y) → x < root → y < root → IsSplitAt u.nodes right x y root

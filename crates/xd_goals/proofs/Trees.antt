@@ -1,5 +1,5 @@
 -- Choice trees while a table grows.
-use Rattle.std.proofs.Common.{ℕ, suc, ◌+◌, ◌<◌, ◌≤◌, ◌≡◌, ◌⊎◌, Bool, true, false, cond, nat_eq, nat_lt, List, [], ◌∷◌, length, Option, Some, inl, inr, ⊎_elim, refl, sym, ap, ◌∙◌, subst, arith}
+use Rattle.std.proofs.Common.{ℕ, suc, ◌<◌, ◌≤◌, ◌≡◌, ◌⊎◌, Bool, true, false, cond, nat_eq, nat_lt, List, [], ◌∷◌, length, Option, Some, inl, inr, ⊎_elim, refl, sym, ap, ◌∙◌, subst, arith}
 use Rattle.std.specs.List.{slice_get, AllByRecursion}
 use Rattle.std.proofs.lemmas.Bool.{cases_lt, cases_eq}
 use Rattle.std.proofs.lemmas.Option.{slice_get_within}
@@ -10,7 +10,7 @@ use Rattle.xd_rules.specs.Rules.{Claim, ChoiceTree, ContentLeaf, RestLeaf, Split
 use Rattle.xd_goals.specs.Moves.{AreBelow, IsInOrder, RiseFrom, claim_with, with_state}
 use Rattle.xd_goals.specs.Rows.{GoalRow, TableView, row_at, claim_at, IsListed, IsRefuted}
 use Rattle.xd_goals.specs.Kept.{Grows, GrowsBy}
-use Rattle.xd_goals.specs.Trees.{StandsAt, IsGrown, IsTextTree, HasTree, HasOpenTree, IsRefutedBy, ArePlaced, IsFailure, IsLeafFor, IsPathBelow, IsSplitAt, GrownAs, gathered}
+use Rattle.xd_goals.specs.Trees.{StandsAt, IsGrown, IsTextTree, HasTree, HasOpenTree, IsRefutedBy, IsFree, IsLeafFor, IsPathBelow, IsSplitAt, GrownAs, gathered}
 use Rattle.xd_goals.specs.declared.table.ChoiceNode.{ChoiceNode}
 use Rattle.xd_goals.specs.declared.table.ChoiceNode.TheVariants.{Split, Content, Rest}
 use Rattle.xd_goals.specs.declared.table.Standing.{Standing}
@@ -85,16 +85,16 @@ choices-grows s t h g = ⊎_elim
 pub open-grows : {A : List State → Type 0} (s t : TableView) → GrowsBy A s t → (g : ℕ) → ¬ (IsRefuted s.rows g) → ¬ (IsRefuted t.rows g)
 open-grows s t h g n r = n (r.0, sym (standing-grows s t h g) ∙ r.1)
 
-pub IsGrown-grows : {A : List State → Type 0} (s t : TableView) → GrowsBy A s t → (task : Task) (sides : List Side) (tree : ChoiceTree) (contents rests : List State) (from : ℕ)
-    → IsGrown s.rows task sides tree contents rests from → IsGrown t.rows task sides tree contents rests from
-IsGrown-grows s t h task sides (ContentLeaf g) contents rests from k = claim_at-grows s t h g (claim_with task.content contents) k
-IsGrown-grows s t h task sides (RestLeaf g) contents rests from k = claim_at-grows s t h g (claim_with task.rest rests) k
-IsGrown-grows s t h task sides (SplitOn j a b) contents rests from k = (
+pub IsGrown-grows : {A : List State → Type 0} (s t : TableView) → GrowsBy A s t → (task : Task) (sides : List Side) (tree : ChoiceTree) (contents rests : List State)
+    → IsGrown s.rows task sides tree contents rests → IsGrown t.rows task sides tree contents rests
+IsGrown-grows s t h task sides (ContentLeaf g) contents rests k = claim_at-grows s t h g (claim_with task.content contents) k
+IsGrown-grows s t h task sides (RestLeaf g) contents rests k = claim_at-grows s t h g (claim_with task.rest rests) k
+IsGrown-grows s t h task sides (SplitOn j a b) contents rests k = (
   k.0,
   k.1,
   k.2,
-  IsGrown-grows s t h task sides a (with_state k.0.content contents) rests (from + 1) k.3,
-  IsGrown-grows s t h task sides b contents (with_state k.0.rest rests) (from + 1) k.4,
+  IsGrown-grows s t h task sides a (with_state k.0.content contents) rests k.3,
+  IsGrown-grows s t h task sides b contents (with_state k.0.rest rests) k.4,
 )
 
 pub IsTextTree-grows : {A : List State → Type 0} (s t : TableView) → GrowsBy A s t → (task : Task) (sides : List Side) (tree : ChoiceTree) → IsTextTree s.rows task sides tree → IsTextTree t.rows task sides tree
@@ -119,23 +119,14 @@ HasOpenTree-grows s t h Kind Kind2 f owner root k = record {
 pub IsRefutedBy-grows : {A : List State → Type 0} (s t : TableView) → GrowsBy A s t → (c : Claim State) (seq : Seq) → IsRefutedBy s.rows c seq → IsRefutedBy t.rows c seq
 IsRefutedBy-grows s t h c seq k = record { goal = k.goal; claim = claim_at-grows s t h k.goal c k.claim; refuted = standing-grows s t h k.goal ∙ k.refuted }
 
-pub IsFailure-grows : {A : List State → Type 0} (s t : TableView) → GrowsBy A s t → (task : Task) (sides : List Side) (inside behind : Seq) → IsFailure s.rows task sides inside behind → IsFailure t.rows task sides inside behind
-IsFailure-grows s t h task sides inside behind k = record {
-  contents = k.contents;
-  rests = k.rests;
-  placed = k.placed;
-  content = IsRefutedBy-grows s t h (claim_with task.content k.contents) inside k.content;
-  rest = IsRefutedBy-grows s t h (claim_with task.rest k.rests) behind k.rest;
-}
-
 -- goals with the same standing
 pub not_refuted : (rows : List GoalRow) (g : ℕ) → ((row_at rows g).standing ≡ Holds) ⊎ ((row_at rows g).standing ≡ Waiting) → ¬ (IsRefuted rows g)
 not_refuted rows g (inl e) r = let s = r.1 in cc
 not_refuted rows g (inr e) r = let s = r.1 in cc
 
-module _ (task : Task) (sides : List Side) (contents rests : List State) (from : ℕ) where
+module _ (task : Task) (sides : List Side) (contents rests : List State) where
   abbrev pub Kind : TableView → ChoiceTree → Type 0
-  Kind t tree = IsGrown t.rows task sides tree contents rests from
+  Kind t tree = IsGrown t.rows task sides tree contents rests
 
   pub content_leaf : (t u : TableView) (g : GoalId) (n : ℕ) → IsLeafFor t task.owner.number (claim_with task.content contents) g.number → ¬ (IsRefuted t.rows g.number)
       → Grows t u → slice_get u.nodes n ≡ Some (Content g) → HasOpenTree u (Kind u) task.owner.number n
@@ -152,17 +143,17 @@ module _ (task : Task) (sides : List Side) (contents rests : List State) (from :
   }
 
   -- a split between two trees
-  pub split_tree : (t u w : TableView) (side : Side) (cs rs : List State) (x y n : ℕ) → slice_get sides from ≡ Some side → cs ≡ with_state side.content contents → rs ≡ with_state side.rest rests
-      → HasOpenTree t (λ tree. IsGrown t.rows task sides tree cs rests (from + 1)) task.owner.number x → Grows t u
-      → HasOpenTree u (λ tree. IsGrown u.rows task sides tree contents rs (from + 1)) task.owner.number y → Grows u w
+  pub split_tree : (t u w : TableView) (side : Side) (cs rs : List State) (x y n : ℕ) → IsFree sides contents rests side → cs ≡ with_state side.content contents → rs ≡ with_state side.rest rests
+      → HasOpenTree t (λ tree. IsGrown t.rows task sides tree cs rests) task.owner.number x → Grows t u
+      → HasOpenTree u (λ tree. IsGrown u.rows task sides tree contents rs) task.owner.number y → Grows u w
       → IsSplitAt w.nodes side.number x y n → HasOpenTree w (Kind w) task.owner.number n
-  split_tree t u w side cs rs x y n at ce re a h b k split =
-      let a1 = HasOpenTree-grows t u h (λ tree. IsGrown t.rows task sides tree cs rests (from + 1)) (λ tree. IsGrown u.rows task sides tree cs rests (from + 1))
-      (λ tree g. IsGrown-grows t u h task sides tree cs rests (from + 1) g) task.owner.number x a in
-      let a2 = HasOpenTree-grows u w k (λ tree. IsGrown u.rows task sides tree cs rests (from + 1)) (λ tree. IsGrown w.rows task sides tree cs rests (from + 1))
-      (λ tree g. IsGrown-grows u w k task sides tree cs rests (from + 1) g) task.owner.number x a1 in
-      let b2 = HasOpenTree-grows u w k (λ tree. IsGrown u.rows task sides tree contents rs (from + 1)) (λ tree. IsGrown w.rows task sides tree contents rs (from + 1))
-      (λ tree g. IsGrown-grows u w k task sides tree contents rs (from + 1) g) task.owner.number y b in
+  split_tree t u w side cs rs x y n free ce re a h b k split =
+      let a1 = HasOpenTree-grows t u h (λ tree. IsGrown t.rows task sides tree cs rests) (λ tree. IsGrown u.rows task sides tree cs rests)
+      (λ tree g. IsGrown-grows t u h task sides tree cs rests g) task.owner.number x a in
+      let a2 = HasOpenTree-grows u w k (λ tree. IsGrown u.rows task sides tree cs rests) (λ tree. IsGrown w.rows task sides tree cs rests)
+      (λ tree g. IsGrown-grows u w k task sides tree cs rests g) task.owner.number x a1 in
+      let b2 = HasOpenTree-grows u w k (λ tree. IsGrown u.rows task sides tree contents rs) (λ tree. IsGrown w.rows task sides tree contents rs)
+      (λ tree g. IsGrown-grows u w k task sides tree contents rs g) task.owner.number y b in
       record {
         has = record {
           tree = SplitOn side.number a2.has.tree b2.has.tree;
@@ -170,9 +161,9 @@ module _ (task : Task) (sides : List Side) (contents rests : List State) (from :
           kind = (
             side,
             refl,
-            at,
-            subst (λ (ss : List State). IsGrown w.rows task sides a2.has.tree ss rests (from + 1)) ce a2.has.kind,
-            subst (λ (ss : List State). IsGrown w.rows task sides b2.has.tree contents ss (from + 1)) re b2.has.kind,
+            free,
+            subst (λ (ss : List State). IsGrown w.rows task sides a2.has.tree ss rests) ce a2.has.kind,
+            subst (λ (ss : List State). IsGrown w.rows task sides b2.has.tree contents ss) re b2.has.kind,
           );
           listed = (a2.has.listed, b2.has.listed);
         };
@@ -244,34 +235,17 @@ with_state-rises n s (t ∷ ts) le h = go (nat_lt t.number s.number) (nat_eq t.n
 pub with_state-order : (s : State) (ts : List State) → IsInOrder ts → IsInOrder (with_state s ts)
 with_state-order s ts h = with_state-rises 0 s ts (omega arith) h
 
--- the sides with one more head on one of them
-module _ (sides : List Side) (contents rests : List State) (from : ℕ) (side : Side) (at_from : slice_get sides from ≡ Some side) where
-  before_cases : (k : ℕ) (s : Side) → k < from + 1 → slice_get sides k ≡ Some s → (k < from) ⊎ (side ≡ s)
-  before_cases k s lt at = ⊎_elim
-      (λ l. inl l)
-      (λ ge. let q : k ≡ from = omega arith in let here : slice_get sides from ≡ Some s = subst (λ (n : ℕ). slice_get sides n ≡ Some s) q at in inr (cc))
-      (cases_lt k from)
-
-  pub placed_content : (cs : List State) → cs ≡ with_state side.content contents → ArePlaced sides contents rests from → ArePlaced sides cs rests (from + 1)
-  placed_content cs e placed k s lt at = rw e (⊎_elim
-      (λ l. ⊎_elim (λ c. inl (with_state-keeps side.content s.content contents c)) (λ r. inr r) (placed k s l at))
-      (λ q. inl (subst (λ (w : Side). IsOneOf w.content (with_state side.content contents)) q (with_state-has side.content contents)))
-      (before_cases k s lt at))
-
-  pub placed_rest : (rs : List State) → rs ≡ with_state side.rest rests → ArePlaced sides contents rests from → ArePlaced sides contents rs (from + 1)
-  placed_rest rs e placed k s lt at = rw e (⊎_elim
-      (λ l. ⊎_elim (λ c. inl c) (λ r. inr (with_state-keeps side.rest s.rest rests r)) (placed k s l at))
-      (λ q. inr (subst (λ (w : Side). IsOneOf w.rest (with_state side.rest rests)) q (with_state-has side.rest rests)))
-      (before_cases k s lt at))
-
+-- the path with one more head on a side
+module _ (sides : List Side) (contents rests : List State) (side : Side) (place : ℕ) (at_place : slice_get sides place ≡ Some side) where
   -- the states on the way after a split
   module _ (n : ℕ) (task : Task) (h : IsPathBelow n task sides contents rests) where
     pub content_path : (cs : List State) → cs ≡ with_state side.content contents → IsPathBelow n task sides cs rests
     content_path cs e = rw e (record {
       content_below = h.content_below;
       rest_below = h.rest_below;
+      apart = h.apart;
       sides_below = h.sides_below;
-      contents_below = with_state-below n side.content contents (all_at (λ (s : Side). (s.content.number < n) × (s.rest.number < n)) sides from side h.sides_below at_from).0 h.contents_below;
+      contents_below = with_state-below n side.content contents (all_at (λ (s : Side). (s.content.number < n) × (s.rest.number < n)) sides place side h.sides_below at_place).0 h.contents_below;
       rests_below = h.rests_below;
       contents_order = with_state-order side.content contents h.contents_order;
       rests_order = h.rests_order;
@@ -281,17 +255,13 @@ module _ (sides : List Side) (contents rests : List State) (from : ℕ) (side : 
     rest_path rs e = rw e (record {
       content_below = h.content_below;
       rest_below = h.rest_below;
+      apart = h.apart;
       sides_below = h.sides_below;
       contents_below = h.contents_below;
-      rests_below = with_state-below n side.rest rests (all_at (λ (s : Side). (s.content.number < n) × (s.rest.number < n)) sides from side h.sides_below at_from).1 h.rests_below;
+      rests_below = with_state-below n side.rest rests (all_at (λ (s : Side). (s.content.number < n) × (s.rest.number < n)) sides place side h.sides_below at_place).1 h.rests_below;
       contents_order = h.contents_order;
       rests_order = with_state-order side.rest rests h.rests_order;
     })
-
--- where none is left to put on a side
-pub all_placed : (sides : List Side) (contents rests : List State) (from : ℕ) → ArePlaced sides contents rests from → length sides ≤ from
-    → (k : ℕ) (s : Side) → slice_get sides k ≡ Some s → IsOneOf s.content contents ⊎ IsOneOf s.rest rests
-all_placed sides contents rests from placed le k s at = placed k s (omega (arith, slice_get_within sides k s at)) at
 
 -- a goal whose standing was read, and isn't a refutation
 pub read_open : (rows : List GoalRow) (g : ℕ) (s : Standing) → s ≡ (row_at rows g).standing → ((seq : Seq) → s ≡ Refuted seq → ⊥) → ¬ (IsRefuted rows g)

@@ -16,10 +16,12 @@ use Rattle.xd_rules.specs.Rules.{Claim, Case, CaseKey, key_of, keyed, AllLeaves,
 use Rattle.xd_rules.specs.Meaning.{Separates}
 use Rattle.xd_rules.proofs.Atoms.{matches-label, matches-text, matches-other_label, matches-other_text}
 use Rattle.xd_rules.proofs.Soundness.{IsSettled as HasRow, holds}
-use Rattle.xd_rules.proofs.Separation.{separates-element, separates-text, separates-empty}
+use Rattle.xd_rules.proofs.Members.{one_of-append_left, one_of-append_right, one_of-to_flat_map}
+use Rattle.xd_rules.proofs.Separation.{separates-text, separates-empty}
 use Rattle.xd_goals.specs.Moves.{Accepts, claim_with, heads_of, is_last_in}
 use Rattle.xd_goals.specs.Rows.{TableView, row_at, claim_of, claim_at, choice_key}
-use Rattle.xd_goals.specs.Trees.{IsFailure, IsFailureBySort, IsTextFailure, IsRefutedBy, gathered}
+use Rattle.xd_goals.specs.Trees.{IsFailure, IsFailureBySort, IsTextFailure, IsRefutedBy, gathered, takes}
+use Rattle.xd_goals.specs.declared.heads.Side.{Side}
 use Rattle.xd_goals.specs.Standing.{ChoiceStands, IsSeparatedBy, StandsOn, claim_sides, task_for}
 use Rattle.xd_goals.specs.Reached.{is_marked, LeadsToMarked, IsSettled}
 use Rattle.xd_goals.specs.Truth.{IsIncluded, KeepsRules}
@@ -27,7 +29,7 @@ use Rattle.xd_goals.specs.Cases.{BeginsAs, FailsAt, names_in}
 use Rattle.xd_goals.specs.declared.table.Choice.{Choice}
 use Rattle.xd_goals.specs.declared.table.Standing.TheVariants.{Holds}
 use Rattle.xd_goals.proofs.Growing.{claim_at-is, claim_within, past_is_new}
-use Rattle.xd_goals.proofs.Lists.{all_map}
+use Rattle.xd_goals.proofs.Lists.{all_at, all_map}
 use Rattle.xd_goals.proofs.Keeping.{case_keeps, side_of_head, gathered-has}
 use Rattle.xd_goals.proofs.Meaning.{automaton_meaning}
 
@@ -106,18 +108,25 @@ not_named c x e h = go c.except (is_named c.names x) e h
 module _ (a : Automaton) (ds : List Document) (t : TableView) (stands : StandsOn a ds t) (owner : ℕ) (c : Claim State)
     (labels texts : NameClass) (names : AreNames (heads_of a c.left ++ right_heads (heads_of a) c) (names_in labels texts)) (labels_except : labels.except ≡ true) (texts_except : texts.except ≡ true)
     (h : Head State) (m : IsOneOf h (heads_of a c.left)) (atom : Atom) (matched : matches h.kind atom ≡ true) (inside behind : Seq) where
-  element_separates : IsFailure t.rows (task_for a owner h) (claim_sides a c atom) inside behind → (l : List ℕ)
+  element_separates : IsFailure a ds (task_for a owner h) (claim_sides a c atom) inside behind → (l : List ℕ)
       → ((k : Head State) → IsOneOf k (heads_of a c.left ++ right_heads (heads_of a) c) → matches k.kind atom ≡ takes_label k.kind l)
       → Separates (Accepts a) c (element l (document_at ds inside) (document_at ds behind))
-  element_separates f l same =
-      let no_content = (refuted_by a ds t stands (claim_with h.content f.contents) inside f.content).separates in
-      let no_rest = (refuted_by a ds t stands (claim_with h.rest f.rests) behind f.rest).separates in
-      separates-element (Accepts a) (heads_of a) (is_last_in a) (automaton_meaning a) c h m atom l same matched f.contents f.rests
-      (λ k km hit. let s = side_of_head atom 1 (right_heads (heads_of a) c) k km hit in
-      ⊎_elim (λ x. inl (subst (λ (w : State). IsOneOf w f.contents) s.3 x)) (λ y. inr (subst (λ (w : State). IsOneOf w f.rests) s.4 y)) (f.placed s.0 s.1 s.2))
-      (document_at ds inside) (document_at ds behind) no_content.accepted no_rest.accepted
-      (none_accepts a (claim_with h.content f.contents) (document_at ds inside) no_content f.contents (λ s x. x))
-      (none_accepts a (claim_with h.rest f.rests) (document_at ds behind) no_rest f.rests (λ s x. x))
+  element_separates f l same = record {
+    accepted = (automaton_meaning a).element_to c.left l (document_at ds inside) (document_at ds behind) h m (sym (same h (one_of-append_left h (heads_of a c.left) (right_heads (heads_of a) c) m)) ∙ matched) f.content f.rest;
+    refused = λ r rm p. from_head r rm ((automaton_meaning a).element_from r l (document_at ds inside) (document_at ds behind) p);
+  }
+    where
+      taken : (w : Side) → Accepts a w.content (document_at ds inside) → Accepts a w.rest (document_at ds behind) → takes a ds inside behind w ≡ true
+      taken w p q = rw (p, q) refl
+
+      from_head : (r : State) → IsOneOf r c.rights → (k : Head State) × IsOneOf k (heads_of a r) × (takes_label k.kind l ≡ true) × Accepts a k.content (document_at ds inside) × Accepts a k.rest (document_at ds behind) → ⊥
+      from_head r rm k =
+          let km = one_of-to_flat_map (heads_of a) k.0 r c.rights rm k.1 in
+          let hit : matches k.0.kind atom ≡ true = same k.0 (one_of-append_right k.0 (heads_of a c.left) (right_heads (heads_of a) c) km) ∙ k.2 in
+          let s = side_of_head atom 1 (right_heads (heads_of a) c) k.0 km hit in
+          let no = all_at (λ (w : Side). takes a ds inside behind w ≡ false) (claim_sides a c atom) s.0 s.1 f.refused s.2 in
+          let yes = taken s.1 (subst (λ (w : State). Accepts a w (document_at ds inside)) (sym s.3) k.3) (subst (λ (w : State). Accepts a w (document_at ds behind)) (sym s.4) k.4) in
+          cc
 
   text_separates : IsTextFailure t.rows (task_for a owner h) (claim_sides a c atom) behind → (x : List ℕ)
       → ((k : Head State) → IsOneOf k (heads_of a c.left ++ right_heads (heads_of a) c) → matches k.kind atom ≡ takes_text k.kind x)
@@ -133,7 +142,7 @@ module _ (a : Automaton) (ds : List Document) (t : TableView) (stands : StandsOn
 -- by the atom
 pub failure_separates : (a : Automaton) (ds : List Document) (t : TableView) → StandsOn a ds t → (owner : ℕ) (c : Claim State) (labels texts : NameClass)
     → AreNames (heads_of a c.left ++ right_heads (heads_of a) c) (names_in labels texts) → labels.except ≡ true → texts.except ≡ true
-    → (atom : Atom) (inside behind : Seq) → FailsAt a t owner c atom inside behind → (d : Document) → BeginsAs labels texts atom (document_at ds inside) (document_at ds behind) d → Separates (Accepts a) c d
+    → (atom : Atom) (inside behind : Seq) → FailsAt a ds t owner c atom inside behind → (d : Document) → BeginsAs labels texts atom (document_at ds inside) (document_at ds behind) d → Separates (Accepts a) c d
 failure_separates a ds t stands owner c labels texts names le te (Label l) inside behind f d b =
     subst (λ (w : Document). Separates (Accepts a) c w) (sym b)
     (element_separates a ds t stands owner c labels texts names le te f.of_head f.among (Label l) f.matched inside behind f.fails l (λ k km. matches-label l k.kind))
@@ -150,23 +159,22 @@ failure_separates a ds t stands owner c labels texts names le te OtherText insid
     (matches-other_text (heads_of a c.left ++ right_heads (heads_of a) c) (names_in labels texts) names b.0 (not_named texts b.0 te b.1)))
 
 -- the documents of a case that fails are those of goals
-pub content_belongs : (a : Automaton) (ds : List Document) (t : TableView) → StandsOn a ds t → (owner : ℕ) (c : Claim State) (atom : Atom) (inside behind : Seq) → FailsAt a t owner c atom inside behind → is_text_atom atom ≡ false → BelongsTo ds inside
+pub content_belongs : (a : Automaton) (ds : List Document) (t : TableView) → StandsOn a ds t → (owner : ℕ) (c : Claim State) (atom : Atom) (inside behind : Seq) → FailsAt a ds t owner c atom inside behind → is_text_atom atom ≡ false → BelongsTo ds inside
 content_belongs a ds t stands owner c atom inside behind f e =
-    let g : IsFailure t.rows (task_for a owner f.of_head) (claim_sides a c atom) inside behind =
-    subst (λ (b : Bool). IsFailureBySort b t.rows (task_for a owner f.of_head) (claim_sides a c atom) inside behind) e f.fails in
-    (refuted_by a ds t stands (claim_with f.of_head.content g.contents) inside g.content).belongs
+    let g : IsFailure a ds (task_for a owner f.of_head) (claim_sides a c atom) inside behind =
+    subst (λ (b : Bool). IsFailureBySort b a ds t.rows (task_for a owner f.of_head) (claim_sides a c atom) inside behind) e f.fails in g.content_belongs
 
-pub rest_belongs : (a : Automaton) (ds : List Document) (t : TableView) → StandsOn a ds t → (owner : ℕ) (c : Claim State) (atom : Atom) (inside behind : Seq) → FailsAt a t owner c atom inside behind → BelongsTo ds behind
+pub rest_belongs : (a : Automaton) (ds : List Document) (t : TableView) → StandsOn a ds t → (owner : ℕ) (c : Claim State) (atom : Atom) (inside behind : Seq) → FailsAt a ds t owner c atom inside behind → BelongsTo ds behind
 rest_belongs a ds t stands owner c atom inside behind f = go (is_text_atom atom) f.fails
   where
-    go : (b : Bool) → IsFailureBySort b t.rows (task_for a owner f.of_head) (claim_sides a c atom) inside behind → BelongsTo ds behind
+    go : (b : Bool) → IsFailureBySort b a ds t.rows (task_for a owner f.of_head) (claim_sides a c atom) inside behind → BelongsTo ds behind
     go true g = (refuted_by a ds t stands (claim_with f.of_head.rest (gathered [] (claim_sides a c atom))) behind g).belongs
-    go false g = (refuted_by a ds t stands (claim_with f.of_head.rest g.rests) behind g.rest).belongs
+    go false g = g.rest_belongs
 
 -- in the store that holds the new document
 pub separated_by : {E : Type 0} (a : Automaton) (ds es : List Document) (t : TableView) → StandsOn a ds t → (owner : ℕ) (c : Claim State) (labels texts : NameClass)
     → AreNames (heads_of a c.left ++ right_heads (heads_of a) c) (names_in labels texts) → labels.except ≡ true → texts.except ≡ true
-    → (atom : Atom) (inside behind : Seq) → FailsAt a t owner c atom inside behind → (r : Result Seq E) → IfOk r (BelongsTo es)
+    → (atom : Atom) (inside behind : Seq) → FailsAt a ds t owner c atom inside behind → (r : Result Seq E) → IfOk r (BelongsTo es)
     → IfOk r (λ seq. BeginsAs labels texts atom (document_at ds inside) (document_at ds behind) (document_at es seq)) → IfOk r (IsSeparatedBy a es c)
 separated_by a ds es t stands owner c labels texts names le te atom inside behind f (Ok seq) belongs begins =
     record { belongs = belongs; separates = failure_separates a ds t stands owner c labels texts names le te atom inside behind f (document_at es seq) begins }

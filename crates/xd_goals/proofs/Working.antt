@@ -3,6 +3,7 @@ use Rattle.std.proofs.Common.{ℕ, zero, suc, ◌+◌, ◌<◌, ◌≤◌, ◌�
 use Rattle.std.specs.List.{AllByRecursion, All, flat_map, list_any}
 use Rattle.std.proofs.lemmas.List.{map-append}
 use Rattle.std.proofs.lemmas.Option.{slice_get_within, get_or_from_slice_get}
+use Rattle.xd_doc.specs.Document.{Document}
 use Rattle.xd_doc.specs.declared.store.Seq.{Seq}
 use Rattle.xd_auto.specs.declared.auto.State.{State}
 use Rattle.xd_auto.specs.declared.auto.LabelMove.{LabelMove}
@@ -31,6 +32,7 @@ use Rattle.xd_goals.proofs.Lists.{all_map, all_push, map-take_more}
 use Rattle.xd_goals.proofs.Growing.{claim_within}
 use Rattle.xd_goals.proofs.Facts.{choice-grows, open_choice-grows}
 use Rattle.xd_goals.proofs.Trees.{StandsAt-one}
+use Rattle.xd_goals.proofs.Keeping.{sides_rise}
 
 at_member : {X : Type 0} (P : X → Type 0) (xs : List X) (x : X) → All P xs → IsOneOf x xs → P x
 at_member P xs x h m =
@@ -85,6 +87,7 @@ module _ (a : Automaton) (owner : GoalId) (c : Claim State) (number : ℕ) (atom
       record {
         content_below = rw (count, has.content_is) h.0;
         rest_below = rw (count, has.rest_is) h.1;
+        apart = rw same_sides (record { rise = sides_rise atom 1 (flat_map (heads_of a) c.rights) });
         sides_below = rw (count, same_sides) (sides_below a closed c.rights rights atom);
         contents_below = tt;
         rests_below = tt;
@@ -104,15 +107,15 @@ module _ (a : Automaton) (owner : GoalId) (c : Claim State) (number : ℕ) (atom
       (subst (λ (ss : List Side). IsTreeBySort text rows (task_for a owner.number has.of_head) ss tree) (sym same_sides)
       (subst (λ (b : Bool). IsTreeBySort b rows (task_for a owner.number has.of_head) (claim_sides a c atom) tree) is k))
 
-  failure_to : (text : Bool) → is_text_atom atom ≡ text → (rows : List GoalRow) (inside behind : Seq) → IsFailureBySort text rows task_of sides inside behind
-      → IsFailureBySort (is_text_atom atom) rows (task_for a owner.number has.of_head) (claim_sides a c atom) inside behind
-  failure_to text is rows inside behind k =
-      subst (λ (b : Bool). IsFailureBySort b rows (task_for a owner.number has.of_head) (claim_sides a c atom) inside behind) (sym is)
-      (subst (λ (ss : List Side). IsFailureBySort text rows (task_for a owner.number has.of_head) ss inside behind) same_sides
-      (subst (λ (t : Task). IsFailureBySort text rows t sides inside behind) task_is k))
+  failure_to : (text : Bool) → is_text_atom atom ≡ text → (ds : List Document) (rows : List GoalRow) (inside behind : Seq) → IsFailureBySort text a ds rows task_of sides inside behind
+      → IsFailureBySort (is_text_atom atom) a ds rows (task_for a owner.number has.of_head) (claim_sides a c atom) inside behind
+  failure_to text is ds rows inside behind k =
+      subst (λ (b : Bool). IsFailureBySort b a ds rows (task_for a owner.number has.of_head) (claim_sides a c atom) inside behind) (sym is)
+      (subst (λ (ss : List Side). IsFailureBySort text a ds rows (task_for a owner.number has.of_head) ss inside behind) same_sides
+      (subst (λ (t : Task). IsFailureBySort text a ds rows t sides inside behind) task_is k))
 
   -- what was grown is a case
-  module _ (matched : matches has.of_head.kind atom ≡ true) (text : Bool) (is : is_text_atom atom ≡ text) (t : TableView) where
+  module _ (matched : matches has.of_head.kind atom ≡ true) (text : Bool) (is : is_text_atom atom ≡ text) (ds : List Document) (t : TableView) where
     case_stands : (root : ℕ) → HasOpenTree t (IsTreeBySort text t.rows task_of sides) owner.number root → IsOpenChoice a t owner.number c (record { head = number; atom = atom; root = root })
     case_stands root k = record {
       stands = record {
@@ -124,19 +127,19 @@ module _ (a : Automaton) (owner : GoalId) (c : Claim State) (number : ℕ) (atom
       opens = λ other s. subst (λ (x : ChoiceTree). AllLeaves (λ n. ¬ (IsRefuted t.rows n)) x) (StandsAt-one t.nodes k.has.tree other root k.has.stands s) k.open_;
     }
 
-    case_fails : (inside behind : Seq) → IsFailureBySort text t.rows task_of sides inside behind → FailsAt a t owner.number c atom inside behind
+    case_fails : (inside behind : Seq) → IsFailureBySort text a ds t.rows task_of sides inside behind → FailsAt a ds t owner.number c atom inside behind
     case_fails inside behind k = record {
       of_head = has.of_head;
       among = one_of-head_number has.of_head (heads_of a c.left) number has.found;
       matched = matched;
-      fails = failure_to text is t.rows inside behind k;
+      fails = failure_to text is ds t.rows inside behind k;
     }
 
-    by_case : (g : Grown) → GrownAs (HasOpenTree t (IsTreeBySort text t.rows task_of sides) owner.number) (IsFailureBySort text t.rows task_of sides) g → IsCaseGrown a t owner.number c number atom g
+    by_case : (g : Grown) → GrownAs (HasOpenTree t (IsTreeBySort text t.rows task_of sides) owner.number) (IsFailureBySort text a ds t.rows task_of sides) g → IsCaseGrown a ds t owner.number c number atom g
     by_case (Stands root) k = case_stands root k
     by_case (Fails inside behind) k = case_fails inside behind k
 
-    pub case_grown : {E : Type 0} (r : Result Grown E) → IfOk r (GrownAs (HasOpenTree t (IsTreeBySort text t.rows task_of sides) owner.number) (IsFailureBySort text t.rows task_of sides)) → IfOk r (IsCaseGrown a t owner.number c number atom)
+    pub case_grown : {E : Type 0} (r : Result Grown E) → IfOk r (GrownAs (HasOpenTree t (IsTreeBySort text t.rows task_of sides) owner.number) (IsFailureBySort text a ds t.rows task_of sides)) → IfOk r (IsCaseGrown a ds t owner.number c number atom)
     case_grown (Ok g) k = by_case g k
     case_grown (Err e) k = tt
 
@@ -169,10 +172,10 @@ same_head a owner c t k x y s has =
 pub leaves_there : (a : Automaton) (t : TableView) (owner : ℕ) (c : Claim State) (k : Choice) → ChoiceStands a t owner c k → HasTreeWithin t.nodes (length t.rows) k.root
 leaves_there a t owner c k h = record { tree = h.has.tree; stands = h.has.stands; within = go (is_text_atom k.atom) h.has.tree h.has.kind }
   where
-    grown : (tree : ChoiceTree) (contents rests : List State) (from : ℕ) → IsGrown t.rows (task_for a owner h.head) (claim_sides a c k.atom) tree contents rests from → AllLeaves (λ g. g < length t.rows) tree
-    grown (ContentLeaf g) contents rests from x = (claim_within t.rows g (claim_with h.head.content contents) x).0
-    grown (RestLeaf g) contents rests from x = (claim_within t.rows g (claim_with h.head.rest rests) x).0
-    grown (SplitOn j x y) contents rests from w = (grown x (with_state w.0.content contents) rests (from + 1) w.3, grown y contents (with_state w.0.rest rests) (from + 1) w.4)
+    grown : (tree : ChoiceTree) (contents rests : List State) → IsGrown t.rows (task_for a owner h.head) (claim_sides a c k.atom) tree contents rests → AllLeaves (λ g. g < length t.rows) tree
+    grown (ContentLeaf g) contents rests x = (claim_within t.rows g (claim_with h.head.content contents) x).0
+    grown (RestLeaf g) contents rests x = (claim_within t.rows g (claim_with h.head.rest rests) x).0
+    grown (SplitOn j x y) contents rests w = (grown x (with_state w.0.content contents) rests w.3, grown y contents (with_state w.0.rest rests) w.4)
 
     text_tree : (tree : ChoiceTree) → IsTextTree t.rows (task_for a owner h.head) (claim_sides a c k.atom) tree → AllLeaves (λ g. g < length t.rows) tree
     text_tree (ContentLeaf g) x = absurd x
@@ -181,7 +184,7 @@ leaves_there a t owner c k h = record { tree = h.has.tree; stands = h.has.stands
 
     go : (b : Bool) (tree : ChoiceTree) → IsTreeBySort b t.rows (task_for a owner h.head) (claim_sides a c k.atom) tree → AllLeaves (λ g. g < length t.rows) tree
     go true tree x = text_tree tree x
-    go false tree x = grown tree [] [] 0 x
+    go false tree x = grown tree [] [] x
 
 -- one more choice
 module _ (a : Automaton) (s t : TableView) (g : Grows s t) (owner : ℕ) (c : Claim State) where

@@ -73,12 +73,12 @@ pub record IsCaseOf (a : Automaton) (left : State) (w : Want) : Type 0 where
   pub has : HasHead a left w.head w.content w.rest
   pub matched : matches has.of_head.kind w.atom ≡ true
 
--- an atom of a head of the left, where all right heads that match can be put on the two sides so that both are refuted
-pub record FailsAt (a : Automaton) (t : TableView) (owner : ℕ) (c : Claim State) (atom : Atom) (inside behind : Seq) : Type 0 where
+-- an atom of a head of the left, where a content and a rest are those of a document that no right head takes
+pub record FailsAt (a : Automaton) (ds : List Document) (t : TableView) (owner : ℕ) (c : Claim State) (atom : Atom) (inside behind : Seq) : Type 0 where
   pub of_head : Head State
   pub among : IsOneOf of_head (heads_of a c.left)
   pub matched : matches of_head.kind atom ≡ true
-  pub fails : IsFailureBySort (is_text_atom atom) t.rows (task_for a owner of_head) (claim_sides a c atom) inside behind
+  pub fails : IsFailureBySort (is_text_atom atom) a ds t.rows (task_for a owner of_head) (claim_sides a c atom) inside behind
 
 -- the empty document is one of the left and of no right
 pub record IsUncovered (a : Automaton) (left : State) (rights : List State) : Type 0 where
@@ -91,9 +91,9 @@ pub record IsOpenChoice (a : Automaton) (t : TableView) (owner : ℕ) (c : Claim
   pub opens : IsOpen t k
 
 -- a case was settled: by a tree, or by documents
-abbrev pub IsCaseGrown : Automaton → TableView → ℕ → Claim State → ℕ → Atom → Grown → Type 0
-IsCaseGrown a t owner c head atom (Stands root) = IsOpenChoice a t owner c (record { head = head; atom = atom; root = root })
-IsCaseGrown a t owner c head atom (Fails inside behind) = FailsAt a t owner c atom inside behind
+abbrev pub IsCaseGrown : Automaton → List Document → TableView → ℕ → Claim State → ℕ → Atom → Grown → Type 0
+IsCaseGrown a ds t owner c head atom (Stands root) = IsOpenChoice a t owner c (record { head = head; atom = atom; root = root })
+IsCaseGrown a ds t owner c head atom (Fails inside behind) = FailsAt a ds t owner c atom inside behind
 
 -- there are open trees for all cases of a goal
 pub record AreSettled (a : Automaton) (t : TableView) (owner : ℕ) (c : Claim State) (choices : List Choice) : Type 0 where
@@ -102,9 +102,9 @@ pub record AreSettled (a : Automaton) (t : TableView) (owner : ℕ) (c : Claim S
   pub complete : map choice_key choices ≡ wanted_cases named 1 (heads_of a c.left)
   pub open_choices : AllByRecursion (IsOpenChoice a t owner c) choices
 
-abbrev pub IsSettling : Automaton → TableView → ℕ → Claim State → Settled → Type 0
-IsSettling a t owner c (Holds made) = AreSettled a t owner c made.items
-IsSettling a t owner c (Separates atom inside behind) = FailsAt a t owner c atom inside behind
+abbrev pub IsSettling : Automaton → List Document → TableView → ℕ → Claim State → Settled → Type 0
+IsSettling a ds t owner c (Holds made) = AreSettled a t owner c made.items
+IsSettling a ds t owner c (Separates atom inside behind) = FailsAt a ds t owner c atom inside behind
 
 -- open trees for the first cases
 pub record AreBegun (a : Automaton) (t : TableView) (owner : ℕ) (c : Claim State) (keys : List CaseKey) (choices : List Choice) : Type 0 where

@@ -23,6 +23,10 @@ pub record IsSeparatedBy (a : Automaton) (ds : List Document) (c : Claim State) 
   pub belongs : BelongsTo ds seq
   pub separates : Separates (Accepts a) c (document_at ds seq)
 
+-- each refuted goal has such a document
+abbrev pub AreSeparated : Automaton → List Document → List GoalRow → Type 0
+AreSeparated a ds rows = (i : ℕ) (seq : Seq) → (row_at rows i).standing ≡ Refuted seq → IsSeparatedBy a ds (claim_of (row_at rows i)) seq
+
 -- the right heads of a claim that match an atom
 abbrev pub claim_sides : Automaton → Claim State → Atom → List Side
 claim_sides a c atom = matching_sides atom 1 (right_heads (heads_of a) c)
@@ -61,7 +65,7 @@ pub record RowHolds (a : Automaton) (t : TableView) (c : Claim State) (choices :
 pub record StandsOn (a : Automaton) (ds : List Document) (t : TableView) : Type 0 where
   pub states : RowsBelow (length a) t.rows
   pub unlike : (i j : ℕ) → i < length t.rows → j < length t.rows → claim_of (row_at t.rows i) ≡ claim_of (row_at t.rows j) → i ≡ j
-  pub refuted : (i : ℕ) (seq : Seq) → (row_at t.rows i).standing ≡ Refuted seq → IsSeparatedBy a ds (claim_of (row_at t.rows i)) seq
+  pub refuted : AreSeparated a ds t.rows
   pub choices : (i : ℕ) → AllByRecursion (ChoiceStands a t i (claim_of (row_at t.rows i))) (row_at t.rows i).choices
   pub begun : (i : ℕ) → ¬ ((row_at t.rows i).choices ≡ []) → IsBegun a (claim_of (row_at t.rows i)) (row_at t.rows i).choices
   pub holds : (i : ℕ) → (row_at t.rows i).standing ≡ Holds → RowHolds a t (claim_of (row_at t.rows i)) (row_at t.rows i).choices

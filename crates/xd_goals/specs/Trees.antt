@@ -1,7 +1,10 @@
 -- How the choice trees of a table are made.
-use Rattle.std.specs.Prelude.{◌≡◌, ℕ, suc, ◌+◌, ◌<◌, ◌⊎◌, Bool, true, false, cond, List, [], ◌∷◌, Some, slice_get}
+use Rattle.std.specs.Prelude.{◌≡◌, ℕ, suc, ◌<◌, Bool, true, false, ◌&&◌, cond, List, [], ◌∷◌, Some, slice_get}
+use Rattle.xd_doc.specs.Document.{Document}
+use Rattle.xd_doc.specs.Stored.{BelongsTo, document_at}
 use Rattle.xd_doc.specs.declared.store.Seq.{Seq}
 use Rattle.xd_auto.specs.declared.auto.State.{State}
+use Rattle.xd_auto.specs.Automaton.{Automaton, accepts}
 use Rattle.xd_rules.specs.declared.atom.Atom.{Atom}
 use Rattle.xd_rules.specs.Members.{IsOneOf}
 use Rattle.xd_rules.specs.Heads.{Head, matches}
@@ -32,14 +35,21 @@ abbrev pub matching_sides : Atom → ℕ → List (Head State) → List Side
 matching_sides atom k [] = []
 matching_sides atom k (h ∷ hs) = cond (matches h.kind atom) (side_at k h ∷ matching_sides atom (suc k) hs) (matching_sides atom (suc k) hs)
 
--- a tree over a content and a rest, on a path that put the right heads before a place on the two sides: it splits on the one at the place, and each leaf's rights are its side
-abbrev pub IsGrown : List GoalRow → Task → List Side → ChoiceTree → List State → List State → ℕ → Type 0
-IsGrown rows task sides (ContentLeaf g) contents rests from = claim_at rows g ≡ Some (claim_with task.content contents)
-IsGrown rows task sides (RestLeaf g) contents rests from = claim_at rows g ≡ Some (claim_with task.rest rests)
-IsGrown rows task sides (SplitOn j a b) contents rests from =
-    (side : Side) × (j ≡ side.number) × (slice_get sides from ≡ Some side)
-    × IsGrown rows task sides a (with_state side.content contents) rests (from + 1)
-    × IsGrown rows task sides b contents (with_state side.rest rests) (from + 1)
+-- a right head, of which nothing is on the two sides
+pub record IsFree (sides : List Side) (contents rests : List State) (side : Side) : Type 0 where
+  pub place : ℕ
+  pub found : slice_get sides place ≡ Some side
+  pub content_free : ¬ (IsOneOf side.content contents)
+  pub rest_free : ¬ (IsOneOf side.rest rests)
+
+-- a tree over a content and a rest, on a path that put right heads on the two sides: it splits on one that is on neither, and each leaf's rights are its side
+abbrev pub IsGrown : List GoalRow → Task → List Side → ChoiceTree → List State → List State → Type 0
+IsGrown rows task sides (ContentLeaf g) contents rests = claim_at rows g ≡ Some (claim_with task.content contents)
+IsGrown rows task sides (RestLeaf g) contents rests = claim_at rows g ≡ Some (claim_with task.rest rests)
+IsGrown rows task sides (SplitOn j a b) contents rests =
+    (side : Side) × (j ≡ side.number) × IsFree sides contents rests side
+    × IsGrown rows task sides a (with_state side.content contents) rests
+    × IsGrown rows task sides b contents (with_state side.rest rests)
 
 -- the rests of right heads, in front of which these states stood
 abbrev pub gathered : List State → List Side → List State
@@ -54,7 +64,7 @@ IsTextTree rows task sides (SplitOn j a b) = ⊥
 
 abbrev pub IsTreeBySort : Bool → List GoalRow → Task → List Side → ChoiceTree → Type 0
 IsTreeBySort true rows task sides tree = IsTextTree rows task sides tree
-IsTreeBySort false rows task sides tree = IsGrown rows task sides tree [] [] 0
+IsTreeBySort false rows task sides tree = IsGrown rows task sides tree [] []
 
 -- a tree of the task's goal that stands in the table, each of whose leaves names a goal with this one among its dependents
 pub record HasTree (t : TableView) (Kind : ChoiceTree → Type 0) (owner root : ℕ) : Type 0 where
@@ -74,25 +84,31 @@ pub record IsRefutedBy (rows : List GoalRow) (c : Claim State) (seq : Seq) : Typ
   pub claim : claim_at rows goal ≡ Some c
   pub refuted : (row_at rows goal).standing ≡ Refuted seq
 
--- each right head before the place is on one of the sides
-abbrev pub ArePlaced : List Side → List State → List State → ℕ → Type 0
-ArePlaced sides contents rests from = (k : ℕ) (s : Side) → k < from → slice_get sides k ≡ Some s → IsOneOf s.content contents ⊎ IsOneOf s.rest rests
+-- the right head takes an element with this content and this rest
+abbrev pub takes : Automaton → List Document → Seq → Seq → Side → Bool
+takes a ds inside behind side = accepts a (document_at ds inside) side.content && accepts a (document_at ds behind) side.rest
 
--- all right heads can be put on the two sides so that a document of the content is in none of the one, and a document of the rest in none of the other
-pub record IsFailure (rows : List GoalRow) (task : Task) (sides : List Side) (inside behind : Seq) : Type 0 where
-  pub contents : List State
-  pub rests : List State
-  pub placed : (k : ℕ) (s : Side) → slice_get sides k ≡ Some s → IsOneOf s.content contents ⊎ IsOneOf s.rest rests
-  pub content : IsRefutedBy rows (claim_with task.content contents) inside
-  pub rest : IsRefutedBy rows (claim_with task.rest rests) behind
+-- the left head takes an element with this content and this rest, and no right head does
+pub record IsFailure (a : Automaton) (ds : List Document) (task : Task) (sides : List Side) (inside behind : Seq) : Type 0 where
+  pub content_belongs : BelongsTo ds inside
+  pub rest_belongs : BelongsTo ds behind
+  pub content : accepts a (document_at ds inside) task.content ≡ true
+  pub rest : accepts a (document_at ds behind) task.rest ≡ true
+  pub refused : AllByRecursion (λ (s : Side). takes a ds inside behind s ≡ false) sides
+
+-- one of the right heads takes the element
+pub record IsTaker (a : Automaton) (ds : List Document) (sides : List Side) (inside behind : Seq) (side : Side) : Type 0 where
+  pub place : ℕ
+  pub found : slice_get sides place ≡ Some side
+  pub takes_it : takes a ds inside behind side ≡ true
 
 -- the same of a text, of which only the rest counts
 abbrev pub IsTextFailure : List GoalRow → Task → List Side → Seq → Type 0
 IsTextFailure rows task sides behind = IsRefutedBy rows (claim_with task.rest (gathered [] sides)) behind
 
-abbrev pub IsFailureBySort : Bool → List GoalRow → Task → List Side → Seq → Seq → Type 0
-IsFailureBySort true rows task sides inside behind = IsTextFailure rows task sides behind
-IsFailureBySort false rows task sides inside behind = IsFailure rows task sides inside behind
+abbrev pub IsFailureBySort : Bool → Automaton → List Document → List GoalRow → Task → List Side → Seq → Seq → Type 0
+IsFailureBySort true a ds rows task sides inside behind = IsTextFailure rows task sides behind
+IsFailureBySort false a ds rows task sides inside behind = IsFailure a ds task sides inside behind
 
 -- a tree stands, or documents are there
 abbrev pub GrownAs : (ℕ → Type 0) → (Seq → Seq → Type 0) → Grown → Type 0
@@ -104,10 +120,21 @@ pub record IsLeafFor (t : TableView) (owner : ℕ) (c : Claim State) (goal : ℕ
   pub claim : claim_at t.rows goal ≡ Some c
   pub listed : IsListed t goal owner
 
+-- right heads stand in the order of their numbers
+pub record AreApart (sides : List Side) : Type 0 where
+  pub rise : (i j : ℕ) (s t : Side) → i < j → slice_get sides i ≡ Some s → slice_get sides j ≡ Some t → s.number < t.number
+
+-- a right head has this number
+pub record IsNumbered (sides : List Side) (number : ℕ) (side : Side) : Type 0 where
+  pub place : ℕ
+  pub found : slice_get sides place ≡ Some side
+  pub same : side.number ≡ number
+
 -- all states on the way belong to an automaton with so many, and stand in order
 pub record IsPathBelow (n : ℕ) (task : Task) (sides : List Side) (contents rests : List State) : Type 0 where
   pub content_below : task.content.number < n
   pub rest_below : task.rest.number < n
+  pub apart : AreApart sides
   pub sides_below : AllByRecursion (λ (s : Side). (s.content.number < n) × (s.rest.number < n)) sides
   pub contents_below : AreBelow n contents
   pub rests_below : AreBelow n rests

@@ -1,18 +1,23 @@
 //! How choice trees grow.
 
-ghost use Rattle.std.specs.Prelude.{◌≡◌, ◌<◌, ◌≤◌, [], length, Some, slice_get, IfOk};
-ghost use Rattle.xd_auto.specs.Automaton.{state_number};
+ghost use Rattle.std.specs.Prelude.{◌≡◌, ◌<◌, [], false, length, Some, slice_get, IfOk, MatchOption};
+ghost use Rattle.std.specs.List.{AllByRecursion};
+ghost use Rattle.xd_doc.specs.Stored.{BelongsTo};
+ghost use Rattle.xd_auto.specs.Automaton.{IsState, state_number};
+ghost use Rattle.xd_auto.specs.Kept.{AreRight};
 ghost use Rattle.xd_goals.specs.Moves.{AreBelow, IsInOrder, claim_with, with_state};
 ghost use Rattle.xd_goals.specs.Rows.{claim_at};
 ghost use Rattle.xd_goals.specs.Kept.{Grows, IsConsistent, view_of};
-ghost use Rattle.xd_goals.specs.Trees.{ArePlaced, GrownAs, HasOpenTree, HasTree, IsFailure, IsGrown, IsLeafFor, IsPathBelow, IsSplitAt, IsTextFailure, IsTextTree, gathered};
+ghost use Rattle.xd_goals.specs.Standing.{AreSeparated};
+ghost use Rattle.xd_goals.specs.Trees.{GrownAs, HasOpenTree, HasTree, IsFailure, IsGrown, IsLeafFor, IsNumbered, IsPathBelow, IsSplitAt, IsTaker, IsTextFailure, IsTextTree, gathered, takes};
+ghost use Rattle.xd_goals.specs.declared.heads.Side.{Side};
 
 use crate::goals::{Goals, add_node, depend, find_or_add};
 use crate::heads::Side;
 use crate::table::{ChoiceNode, GoalId, Standing};
 use std::alloc::Global;
-use xd_auto::State;
-use xd_doc::{NoMemory, Seq};
+use xd_auto::{Answers, Auto, State, accepts_kept};
+use xd_doc::{NoMemory, Seq, Store};
 
 /// What a choice tree is for: its goal, what the left head says of the content and the rest, and the
 /// number of the automaton's states, of which only contracts speak.
@@ -24,8 +29,8 @@ pub(crate) struct Task {
     pub(crate) states: usize,
 }
 
-/// A tree by its root, none of whose leaves names a refuted goal; or, where no right head is left to
-/// split on, a content and a rest that are refuted on the path.
+/// A tree by its root, none of whose leaves names a refuted goal; or a content and a rest of an
+/// element that no right head takes.
 #[derive(Clone, Copy, Debug)]
 pub(crate) enum Grown {
     Stands(usize),
@@ -53,6 +58,71 @@ fn side_of(sides: &[Side], place: usize) -> Side
     ensures { slice_get sides.now place ≡ Some result }
 {
     sides[place]
+}
+
+/// The right head of this number.
+fn side_numbered(sides: &[Side], number: usize) -> Side
+    requires { (side : Side) × IsNumbered sides.now number side }
+    ensures { IsNumbered sides.now number result }
+{
+    for place in 0..sides.len() {
+        let side = side_of(sides, place);
+        if side.number == number {
+            return side;
+        }
+    }
+    unreachable!()
+}
+
+/// Whether a right head takes an element with this content and this rest.
+fn is_taker(
+    auto: &Auto,
+    store: &Store,
+    answers: &mut Answers,
+    side: Side,
+    inside: Seq,
+    behind: Seq,
+) -> Result<bool, NoMemory>
+    requires content { IsState auto.now side.content }
+    requires rest { IsState auto.now side.rest }
+    requires inside { BelongsTo store.now inside }
+    requires behind { BelongsTo store.now behind }
+    requires right { AreRight auto.now store.now answers.old }
+    ensures answer { IfOk result (λ answer. answer ≡ takes auto.now store.now inside behind side) }
+    ensures right { AreRight auto.now store.now answers.new }
+{
+    if accepts_kept(answers, auto, side.content, store, inside)? {
+        accepts_kept(answers, auto, side.rest, store, behind)
+    } else {
+        Ok(false)
+    }
+}
+
+/// The first right head that takes the element.
+fn first_taker(
+    auto: &Auto,
+    store: &Store,
+    answers: &mut Answers,
+    sides: &[Side],
+    inside: Seq,
+    behind: Seq,
+) -> Result<Option<Side>, NoMemory>
+    requires sides { AllByRecursion (λ (side : Side). (IsState auto.now side.content) × (IsState auto.now side.rest)) sides.now }
+    requires inside { BelongsTo store.now inside }
+    requires behind { BelongsTo store.now behind }
+    requires right { AreRight auto.now store.now answers.old }
+    ensures found { IfOk result (λ found. MatchOption found
+        (AllByRecursion (λ (side : Side). takes auto.now store.now inside behind side ≡ false) sides.now)
+        (IsTaker auto.now store.now sides.now inside behind)) }
+    ensures right { AreRight auto.now store.now answers.new }
+{
+    for place in 0..sides.len() {
+        let side = side_of(sides, place);
+        if is_taker(auto, store, answers, side, inside, behind)? {
+            return Ok(Some(side));
+        }
+    }
+    Ok(None)
 }
 
 /// The goal for a leaf, among whose dependents the tree's goal is.
@@ -105,27 +175,34 @@ fn add_split(
     )
 }
 
-/// A tree for an element, from a path on which the matching right heads before the place `from` are
-/// on the two sides.
+/// A tree for an element, from a path on which some of the matching right heads are on the two sides.
+///
+/// Where the path's goals are refuted, by a content and a rest, only a head that takes the element
+/// made of these can help: the tree splits on the first one. No head on the path is such a one, and
+/// where there is none, the element separates.
 pub(crate) fn grow(
     alloc: Global,
+    auto: &Auto,
+    store: &Store,
+    answers: &mut Answers,
     goals: &mut Goals,
     task: Task,
     sides: &[Side],
     contents: &[State],
     rests: &[State],
-    from: usize,
 ) -> Result<Grown, NoMemory>
     requires consistent { IsConsistent task.states goals.old }
     requires owner { task.owner.number < length goals.old.rows.items }
     requires path { IsPathBelow task.states task sides.now contents.now rests.now }
-    requires placed { ArePlaced sides.now contents.now rests.now from }
-    requires from { from ≤ length sides.now }
+    requires states { task.states ≡ length auto.now }
+    requires separated { AreSeparated auto.now store.now goals.old.rows.items }
+    requires right { AreRight auto.now store.now answers.old }
     ensures consistent { IsConsistent task.states goals.new }
     ensures grows { Grows (view_of goals.old) (view_of goals.new) }
     ensures grown { IfOk result (GrownAs
-        (HasOpenTree (view_of goals.new) (λ tree. IsGrown goals.new.rows.items task sides.now tree contents.now rests.now from) task.owner.number)
-        (IsFailure goals.new.rows.items task sides.now)) }
+        (HasOpenTree (view_of goals.new) (λ tree. IsGrown goals.new.rows.items task sides.now tree contents.now rests.now) task.owner.number)
+        (IsFailure auto.now store.now task sides.now)) }
+    ensures right { AreRight auto.now store.now answers.new }
 {
     let content = leaf(alloc, goals, task, task.content, contents)?;
     let Standing::Refuted(inside) = goals.standing(content) else {
@@ -135,16 +212,19 @@ pub(crate) fn grow(
     let Standing::Refuted(behind) = goals.standing(rest) else {
         return Ok(Grown::Stands(add_node(goals, task.states, ChoiceNode::Rest(rest))?));
     };
-    if from >= sides.len() {
+    let Some(side) = first_taker(auto, store, answers, sides, inside, behind)? else {
         return Ok(Grown::Fails(inside, behind));
-    }
-    let side = side_of(sides, from);
+    };
     let more = with_state(alloc, contents, side.content)?;
-    match grow(alloc, goals, task, sides, &more, rests, from + 1)? {
+    match grow(
+        alloc, auto, store, answers, goals, task, sides, &more, rests,
+    )? {
         Grown::Fails(inside, behind) => Ok(Grown::Fails(inside, behind)),
         Grown::Stands(one) => {
             let more = with_state(alloc, rests, side.rest)?;
-            match grow(alloc, goals, task, sides, contents, &more, from + 1)? {
+            match grow(
+                alloc, auto, store, answers, goals, task, sides, contents, &more,
+            )? {
                 Grown::Fails(inside, behind) => Ok(Grown::Fails(inside, behind)),
                 Grown::Stands(two) => Ok(Grown::Stands(add_split(
                     goals,
@@ -169,55 +249,71 @@ pub(crate) fn node_at(nodes: &[ChoiceNode], number: usize) -> ChoiceNode
 /// The tree of this root with each leaf that names a refuted goal grown anew.
 pub(crate) fn repair(
     alloc: Global,
+    auto: &Auto,
+    store: &Store,
+    answers: &mut Answers,
     goals: &mut Goals,
     task: Task,
     sides: &[Side],
     root: usize,
     contents: &[State],
     rests: &[State],
-    from: usize,
 ) -> Result<Grown, NoMemory>
     requires consistent { IsConsistent task.states goals.old }
     requires owner { task.owner.number < length goals.old.rows.items }
     requires path { IsPathBelow task.states task sides.now contents.now rests.now }
-    requires placed { ArePlaced sides.now contents.now rests.now from }
-    requires from { from ≤ length sides.now }
-    requires tree { HasTree (view_of goals.old) (λ tree. IsGrown goals.old.rows.items task sides.now tree contents.now rests.now from) task.owner.number root }
+    requires states { task.states ≡ length auto.now }
+    requires separated { AreSeparated auto.now store.now goals.old.rows.items }
+    requires right { AreRight auto.now store.now answers.old }
+    requires tree { HasTree (view_of goals.old) (λ tree. IsGrown goals.old.rows.items task sides.now tree contents.now rests.now) task.owner.number root }
     ensures consistent { IsConsistent task.states goals.new }
     ensures grows { Grows (view_of goals.old) (view_of goals.new) }
     ensures grown { IfOk result (GrownAs
-        (HasOpenTree (view_of goals.new) (λ tree. IsGrown goals.new.rows.items task sides.now tree contents.now rests.now from) task.owner.number)
-        (IsFailure goals.new.rows.items task sides.now)) }
+        (HasOpenTree (view_of goals.new) (λ tree. IsGrown goals.new.rows.items task sides.now tree contents.now rests.now) task.owner.number)
+        (IsFailure auto.now store.now task sides.now)) }
+    ensures right { AreRight auto.now store.now answers.new }
 {
     match node_at(&goals.nodes, root) {
         ChoiceNode::Content(goal) => {
             if goals.is_refuted(goal) {
-                grow(alloc, goals, task, sides, contents, rests, from)
+                grow(
+                    alloc, auto, store, answers, goals, task, sides, contents, rests,
+                )
             } else {
                 Ok(Grown::Stands(root))
             }
         }
         ChoiceNode::Rest(goal) => {
             if goals.is_refuted(goal) {
-                grow(alloc, goals, task, sides, contents, rests, from)
+                grow(
+                    alloc, auto, store, answers, goals, task, sides, contents, rests,
+                )
             } else {
                 Ok(Grown::Stands(root))
             }
         }
-        ChoiceNode::Split { content, rest, .. } => {
-            let side = side_of(sides, from);
+        ChoiceNode::Split {
+            right,
+            content,
+            rest,
+        } => {
+            let side = side_numbered(sides, right);
             let more = with_state(alloc, contents, side.content)?;
-            match repair(alloc, goals, task, sides, content, &more, rests, from + 1)? {
+            match repair(
+                alloc, auto, store, answers, goals, task, sides, content, &more, rests,
+            )? {
                 Grown::Fails(inside, behind) => Ok(Grown::Fails(inside, behind)),
                 Grown::Stands(one) => {
                     let more = with_state(alloc, rests, side.rest)?;
-                    match repair(alloc, goals, task, sides, rest, contents, &more, from + 1)? {
+                    match repair(
+                        alloc, auto, store, answers, goals, task, sides, rest, contents, &more,
+                    )? {
                         Grown::Fails(inside, behind) => Ok(Grown::Fails(inside, behind)),
                         Grown::Stands(two) => {
                             if one == content && two == rest {
                                 return Ok(Grown::Stands(root));
                             }
-                            Ok(Grown::Stands(add_split(goals, task, side.number, one, two)?))
+                            Ok(Grown::Stands(add_split(goals, task, right, one, two)?))
                         }
                     }
                 }

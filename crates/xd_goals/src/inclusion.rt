@@ -5,6 +5,7 @@ ghost use Rattle.std.specs.Option.{IfSome};
 ghost use Rattle.std.specs.List.{AllByRecursion};
 ghost use Rattle.xd_doc.specs.Stored.{Keeps};
 ghost use Rattle.xd_auto.specs.Automaton.{IsState};
+ghost use Rattle.xd_auto.specs.Kept.{AreRight};
 ghost use Rattle.xd_goals.specs.Kept.{IsWhole, view_of};
 ghost use Rattle.xd_goals.specs.Standing.{KeepsGoals, StandsOn};
 ghost use Rattle.xd_goals.specs.Reached.{IsWaitingIn};
@@ -16,7 +17,7 @@ use crate::settled::unsettled;
 use crate::table::{GoalId, Link, Row, Standing, Table};
 use crate::work::work;
 use std::alloc::Global;
-use xd_auto::{Auto, State};
+use xd_auto::{Answers, Auto, State};
 use xd_doc::{NoMemory, Seq, Store};
 
 /// Whether every document of the left is one of some right: the goal that says so, or a document of
@@ -74,6 +75,7 @@ fn decide_in(
     ensures keeps { Keeps store.old store.new }
 {
     let asked = find_or_add(alloc, goals, auto.len(), left, rights)?;
+    let mut answers = Answers::new(alloc);
     loop {
         if let Standing::Refuted(document) = goals.standing(asked) {
             return Ok(Verdict::Separated(document));
@@ -81,7 +83,7 @@ fn decide_in(
         let mut agenda = unsettled(alloc, goals, asked)?;
         match agenda.pop() {
             None => return Ok(Verdict::Included(asked)),
-            Some(goal) => run(alloc, auto, goals, asked, goal, agenda, store)?,
+            Some(goal) => run(alloc, auto, goals, asked, goal, agenda, store, &mut answers)?,
         }
     }
 }
@@ -96,26 +98,29 @@ fn run(
     goal: GoalId,
     agenda: Vec<GoalId>,
     store: &mut Store,
+    answers: &mut Answers,
 ) -> Result<(), NoMemory>
     requires whole { IsWhole goals.old }
     requires asked { asked.number < length goals.old.rows.items }
     requires goal { IsWaitingIn goals.old.rows.items goal }
     requires agenda { AllByRecursion (IsGoalBelow (length goals.old.rows.items)) agenda.items }
     requires stands { StandsOn auto.now store.old (view_of goals.old) }
+    requires right { AreRight auto.now store.old answers.old }
     ensures whole { IsWhole goals.new }
     ensures stands { StandsOn auto.now store.new (view_of goals.new) }
     ensures goals { KeepsGoals (view_of goals.old) (view_of goals.new) }
     ensures keeps { Keeps store.old store.new }
     ensures made { AreMadeFrom (length goals.old.rows.items) goals.new.rows.items }
     ensures lowers { OnOk result (Lowers goals.old.rows.items goals.new.rows.items) }
+    ensures right { OnOk result (AreRight auto.now store.new answers.new) }
 {
     let mut agenda = agenda;
-    step(alloc, auto, goals, goal, &mut agenda, store)?;
+    step(alloc, auto, goals, goal, &mut agenda, store, answers)?;
     while let Some(goal) = next_waiting(goals, &mut agenda) {
         if let Standing::Refuted(_) = goals.standing(asked) {
             return Ok(());
         }
-        step(alloc, auto, goals, goal, &mut agenda, store)?;
+        step(alloc, auto, goals, goal, &mut agenda, store, answers)?;
     }
     Ok(())
 }
@@ -128,11 +133,13 @@ fn step(
     goal: GoalId,
     agenda: &mut Vec<GoalId>,
     store: &mut Store,
+    answers: &mut Answers,
 ) -> Result<(), NoMemory>
     requires whole { IsWhole goals.old }
     requires goal { IsWaitingIn goals.old.rows.items goal }
     requires agenda { AllByRecursion (IsGoalBelow (length goals.old.rows.items)) agenda.old.items }
     requires stands { StandsOn auto.now store.old (view_of goals.old) }
+    requires right { AreRight auto.now store.old answers.old }
     ensures whole { IsWhole goals.new }
     ensures stands { StandsOn auto.now store.new (view_of goals.new) }
     ensures goals { KeepsGoals (view_of goals.old) (view_of goals.new) }
@@ -140,9 +147,10 @@ fn step(
     ensures made { AreMadeFrom (length goals.old.rows.items) goals.new.rows.items }
     ensures agenda { OnOk result (AllByRecursion (IsGoalBelow (length goals.new.rows.items)) agenda.new.items) }
     ensures lowers { OnOk result (Lowers goals.old.rows.items goals.new.rows.items) }
+    ensures right { OnOk result (AreRight auto.now store.new answers.new) }
 {
     let count = goals.rows.len();
-    work(alloc, auto, goals, goal, store)?;
+    work(alloc, auto, goals, goal, store, answers)?;
     list_woken(goals, goal, agenda)?;
     list_new(&goals.rows, count, agenda)?;
     Ok(())

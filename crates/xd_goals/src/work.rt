@@ -4,12 +4,13 @@ ghost use Rattle.std.specs.Prelude.{◌≡◌, ◌<◌, [], false, true, length,
 ghost use Rattle.std.specs.List.{AllByRecursion, list_any};
 ghost use Rattle.xd_doc.specs.Stored.{BelongsTo, Keeps, document_at};
 ghost use Rattle.xd_auto.specs.Automaton.{IsState};
+ghost use Rattle.xd_auto.specs.Kept.{AreRight};
 ghost use Rattle.xd_rules.specs.Heads.{is_text_atom};
 ghost use Rattle.xd_goals.specs.Moves.{claim_with, is_last_in};
 ghost use Rattle.xd_goals.specs.Rows.{IsRefuted, claim_of, row_at};
 ghost use Rattle.xd_goals.specs.Kept.{Grows, IsConsistent, IsWhole, view_of};
 ghost use Rattle.xd_goals.specs.Cases.{BeginsAs, FailsAt, IsCaseGrown, IsCaseOf, IsSettling, IsUncovered};
-ghost use Rattle.xd_goals.specs.Standing.{ChoiceStands, IsBegun, IsSeparatedBy, KeepsGoals, StandsOn};
+ghost use Rattle.xd_goals.specs.Standing.{AreSeparated, ChoiceStands, IsBegun, IsSeparatedBy, KeepsGoals, StandsOn};
 ghost use Rattle.xd_goals.specs.Reached.{HasTreeWithin, IsOpenAt};
 ghost use Rattle.xd_goals.specs.Measure.{AreMadeFrom, Lowers};
 ghost use Rattle.xd_goals.specs.declared.table.Standing.TheVariants.{Waiting};
@@ -19,7 +20,7 @@ use crate::grow::{Grown, Task, grow, grow_text, node_at, repair};
 use crate::heads::{Unnamed, Want, cases_of, head_of, is_text, share, sides_of, unnamed_of};
 use crate::table::{Choice, ChoiceNode, GoalId, Row, Standing};
 use std::alloc::Global;
-use xd_auto::{Auto, State};
+use xd_auto::{Answers, Auto, State};
 use xd_doc::{NoMemory, Seq, Store};
 use xd_empty::{label_of, text_of};
 use xd_rules::Atom;
@@ -73,7 +74,7 @@ fn separate(
 ) -> Result<Seq, NoMemory>
     requires owner { owner.number < length goals.now.rows.items }
     requires stands { StandsOn auto.now store.old (view_of goals.now) }
-    requires fails { FailsAt auto.now (view_of goals.now) owner.number (claim_of (row_at goals.now.rows.items owner.number)) atom.now inside behind }
+    requires fails { FailsAt auto.now store.old (view_of goals.now) owner.number (claim_of (row_at goals.now.rows.items owner.number)) atom.now inside behind }
     ensures keeps { Keeps store.old store.new }
     ensures separated { IfOk result (IsSeparatedBy auto.now store.new (claim_of (row_at goals.now.rows.items owner.number))) }
 {
@@ -86,6 +87,8 @@ fn separate(
 fn begin_case(
     alloc: Global,
     auto: &Auto,
+    store: &Store,
+    answers: &mut Answers,
     goals: &mut Goals,
     owner: GoalId,
     left: State,
@@ -97,9 +100,12 @@ fn begin_case(
     requires left { IsState auto.now left }
     requires rights { AllByRecursion (IsState auto.now) rights.now }
     requires case { IsCaseOf auto.now left case.now }
+    requires separated { AreSeparated auto.now store.now goals.old.rows.items }
+    requires right { AreRight auto.now store.now answers.old }
     ensures consistent { IsConsistent (length auto.now) goals.new }
     ensures grows { Grows (view_of goals.old) (view_of goals.new) }
-    ensures grown { IfOk result (IsCaseGrown auto.now (view_of goals.new) owner.number (claim_with left rights.now) case.now.head case.now.atom) }
+    ensures grown { IfOk result (IsCaseGrown auto.now store.now (view_of goals.new) owner.number (claim_with left rights.now) case.now.head case.now.atom) }
+    ensures right { AreRight auto.now store.now answers.new }
 {
     let _left = left;
     let sides = sides_of(alloc, auto, rights, &case.atom)?;
@@ -112,7 +118,7 @@ fn begin_case(
     if is_text(&case.atom) {
         grow_text(alloc, goals, task, &sides)
     } else {
-        grow(alloc, goals, task, &sides, &[], &[], 0)
+        grow(alloc, auto, store, answers, goals, task, &sides, &[], &[])
     }
 }
 
@@ -128,6 +134,8 @@ enum Settled {
 fn begin(
     alloc: Global,
     auto: &Auto,
+    store: &Store,
+    answers: &mut Answers,
     goals: &mut Goals,
     owner: GoalId,
     left: State,
@@ -137,16 +145,21 @@ fn begin(
     requires owner { owner.number < length goals.old.rows.items }
     requires left { IsState auto.now left }
     requires rights { AllByRecursion (IsState auto.now) rights.now }
+    requires separated { AreSeparated auto.now store.now goals.old.rows.items }
+    requires right { AreRight auto.now store.now answers.old }
     ensures consistent { IsConsistent (length auto.now) goals.new }
     ensures grows { Grows (view_of goals.old) (view_of goals.new) }
-    ensures settled { IfOk result (IsSettling auto.now (view_of goals.new) owner.number (claim_with left rights.now)) }
+    ensures settled { IfOk result (IsSettling auto.now store.now (view_of goals.new) owner.number (claim_with left rights.now)) }
+    ensures right { AreRight auto.now store.now answers.new }
 {
     let unnamed = unnamed_of(alloc, auto, left, rights)?;
     let cases = cases_of(alloc, auto, left, &unnamed)?;
     let mut made = Vec::new(alloc);
     for number in 0..cases.len() {
         let case = &cases[number];
-        match begin_case(alloc, auto, goals, owner, left, rights, case)? {
+        match begin_case(
+            alloc, auto, store, answers, goals, owner, left, rights, case,
+        )? {
             Grown::Stands(root) => made.push(Choice {
                 head: case.head,
                 atom: share(&case.atom)?,
@@ -187,6 +200,8 @@ fn is_refuted(rows: &[Row], goal: GoalId) -> bool
 fn mend_choice(
     alloc: Global,
     auto: &Auto,
+    store: &Store,
+    answers: &mut Answers,
     goals: &mut Goals,
     owner: GoalId,
     left: State,
@@ -198,9 +213,12 @@ fn mend_choice(
     requires left { IsState auto.now left }
     requires rights { AllByRecursion (IsState auto.now) rights.now }
     requires choice { ChoiceStands auto.now (view_of goals.old) owner.number (claim_with left rights.now) choice.now }
+    requires separated { AreSeparated auto.now store.now goals.old.rows.items }
+    requires right { AreRight auto.now store.now answers.old }
     ensures consistent { IsConsistent (length auto.now) goals.new }
     ensures grows { Grows (view_of goals.old) (view_of goals.new) }
-    ensures grown { IfOk result (IsCaseGrown auto.now (view_of goals.new) owner.number (claim_with left rights.now) choice.now.head choice.now.atom) }
+    ensures grown { IfOk result (IsCaseGrown auto.now store.now (view_of goals.new) owner.number (claim_with left rights.now) choice.now.head choice.now.atom) }
+    ensures right { AreRight auto.now store.now answers.new }
 {
     if !is_broken(&goals.nodes, &goals.rows, choice.root) {
         return Ok(Grown::Stands(choice.root));
@@ -216,7 +234,18 @@ fn mend_choice(
     if is_text(&choice.atom) {
         grow_text(alloc, goals, task, &sides)
     } else {
-        repair(alloc, goals, task, &sides, choice.root, &[], &[], 0)
+        repair(
+            alloc,
+            auto,
+            store,
+            answers,
+            goals,
+            task,
+            &sides,
+            choice.root,
+            &[],
+            &[],
+        )
     }
 }
 
@@ -249,6 +278,8 @@ fn choices_of(alloc: Global, rows: &[Row], owner: GoalId) -> Result<Vec<Choice>,
 fn mend(
     alloc: Global,
     auto: &Auto,
+    store: &Store,
+    answers: &mut Answers,
     goals: &mut Goals,
     owner: GoalId,
     left: State,
@@ -260,15 +291,20 @@ fn mend(
     requires rights { AllByRecursion (IsState auto.now) rights.now }
     requires choices { AllByRecursion (ChoiceStands auto.now (view_of goals.old) owner.number (claim_with left rights.now)) (row_at goals.old.rows.items owner.number).choices }
     requires begun { IsBegun auto.now (claim_with left rights.now) (row_at goals.old.rows.items owner.number).choices }
+    requires separated { AreSeparated auto.now store.now goals.old.rows.items }
+    requires right { AreRight auto.now store.now answers.old }
     ensures consistent { IsConsistent (length auto.now) goals.new }
     ensures grows { Grows (view_of goals.old) (view_of goals.new) }
-    ensures settled { IfOk result (IsSettling auto.now (view_of goals.new) owner.number (claim_with left rights.now)) }
+    ensures settled { IfOk result (IsSettling auto.now store.now (view_of goals.new) owner.number (claim_with left rights.now)) }
+    ensures right { AreRight auto.now store.now answers.new }
 {
     let choices = choices_of(alloc, &goals.rows, owner)?;
     let mut made = Vec::new(alloc);
     for number in 0..choices.len() {
         let choice = &choices[number];
-        match mend_choice(alloc, auto, goals, owner, left, rights, choice)? {
+        match mend_choice(
+            alloc, auto, store, answers, goals, owner, left, rights, choice,
+        )? {
             Grown::Stands(root) => made.push(Choice {
                 head: choice.head,
                 atom: share(&choice.atom)?,
@@ -286,6 +322,8 @@ fn mend(
 fn settle(
     alloc: Global,
     auto: &Auto,
+    store: &Store,
+    answers: &mut Answers,
     goals: &mut Goals,
     owner: GoalId,
     left: State,
@@ -297,15 +335,18 @@ fn settle(
     requires rights { AllByRecursion (IsState auto.now) rights.now }
     requires choices { AllByRecursion (ChoiceStands auto.now (view_of goals.old) owner.number (claim_with left rights.now)) (row_at goals.old.rows.items owner.number).choices }
     requires begun { ¬ ((row_at goals.old.rows.items owner.number).choices ≡ []) → IsBegun auto.now (claim_with left rights.now) (row_at goals.old.rows.items owner.number).choices }
+    requires separated { AreSeparated auto.now store.now goals.old.rows.items }
+    requires right { AreRight auto.now store.now answers.old }
     ensures consistent { IsConsistent (length auto.now) goals.new }
     ensures grows { Grows (view_of goals.old) (view_of goals.new) }
-    ensures settled { IfOk result (IsSettling auto.now (view_of goals.new) owner.number (claim_with left rights.now)) }
+    ensures settled { IfOk result (IsSettling auto.now store.now (view_of goals.new) owner.number (claim_with left rights.now)) }
+    ensures right { AreRight auto.now store.now answers.new }
 {
     let row = &goals.rows[owner.number];
     if row.choices.is_empty() {
-        begin(alloc, auto, goals, owner, left, rights)
+        begin(alloc, auto, store, answers, goals, owner, left, rights)
     } else {
-        mend(alloc, auto, goals, owner, left, rights)
+        mend(alloc, auto, store, answers, goals, owner, left, rights)
     }
 }
 
@@ -316,6 +357,7 @@ fn refute_at(
     goals: &mut Goals,
     owner: GoalId,
     store: &mut Store,
+    answers: &Answers,
     atom: &Atom,
     inside: Seq,
     behind: Seq,
@@ -324,15 +366,18 @@ fn refute_at(
     requires owner { owner.number < length goals.old.rows.items }
     requires waits { (row_at goals.old.rows.items owner.number).standing ≡ Waiting }
     requires stands { StandsOn auto.now store.old (view_of goals.old) }
-    requires fails { FailsAt auto.now (view_of goals.old) owner.number (claim_of (row_at goals.old.rows.items owner.number)) atom.now inside behind }
+    requires fails { FailsAt auto.now store.old (view_of goals.old) owner.number (claim_of (row_at goals.old.rows.items owner.number)) atom.now inside behind }
+    requires right { AreRight auto.now store.old answers.now }
     ensures whole { IsWhole goals.new }
     ensures stands { StandsOn auto.now store.new (view_of goals.new) }
     ensures goals { KeepsGoals (view_of goals.old) (view_of goals.new) }
     ensures keeps { Keeps store.old store.new }
     ensures made { AreMadeFrom (length goals.old.rows.items) goals.new.rows.items }
     ensures lowers { OnOk result (Lowers goals.old.rows.items goals.new.rows.items) }
+    ensures right { OnOk result (AreRight auto.now store.new answers.now) }
 {
     let document = separate(alloc, auto, goals, owner, store, atom, inside, behind)?;
+    answers.stay_right();
     refute(&mut goals.rows, &goals.links, owner, document);
     Ok(())
 }
@@ -344,6 +389,7 @@ fn work_on_cases(
     goals: &mut Goals,
     owner: GoalId,
     store: &mut Store,
+    answers: &mut Answers,
     left: State,
     rights: &[State],
 ) -> Result<(), NoMemory>
@@ -353,20 +399,24 @@ fn work_on_cases(
     requires stands { StandsOn auto.now store.old (view_of goals.old) }
     requires claim { claim_of (row_at goals.old.rows.items owner.number) ≡ claim_with left rights.now }
     requires last { is_last_in auto.now left ≡ true → list_any (is_last_in auto.now) rights.now ≡ true }
+    requires right { AreRight auto.now store.old answers.old }
     ensures whole { IsWhole goals.new }
     ensures stands { StandsOn auto.now store.new (view_of goals.new) }
     ensures goals { KeepsGoals (view_of goals.old) (view_of goals.new) }
     ensures keeps { Keeps store.old store.new }
     ensures made { AreMadeFrom (length goals.old.rows.items) goals.new.rows.items }
     ensures lowers { OnOk result (Lowers goals.old.rows.items goals.new.rows.items) }
+    ensures right { OnOk result (AreRight auto.now store.new answers.new) }
 {
-    match settle(alloc, auto, goals, owner, left, rights)? {
+    match settle(alloc, auto, store, answers, goals, owner, left, rights)? {
         Settled::Holds(made) => {
             hold(&mut goals.rows, owner, made);
             Ok(())
         }
         Settled::Separates(atom, inside, behind) => {
-            refute_at(alloc, auto, goals, owner, store, &atom, inside, behind)
+            refute_at(
+                alloc, auto, goals, owner, store, answers, &atom, inside, behind,
+            )
         }
     }
 }
@@ -378,17 +428,20 @@ pub(crate) fn work(
     goals: &mut Goals,
     owner: GoalId,
     store: &mut Store,
+    answers: &mut Answers,
 ) -> Result<(), NoMemory>
     requires whole { IsWhole goals.old }
     requires owner { owner.number < length goals.old.rows.items }
     requires waits { (row_at goals.old.rows.items owner.number).standing ≡ Waiting }
     requires stands { StandsOn auto.now store.old (view_of goals.old) }
+    requires right { AreRight auto.now store.old answers.old }
     ensures whole { IsWhole goals.new }
     ensures stands { StandsOn auto.now store.new (view_of goals.new) }
     ensures goals { KeepsGoals (view_of goals.old) (view_of goals.new) }
     ensures keeps { Keeps store.old store.new }
     ensures made { AreMadeFrom (length goals.old.rows.items) goals.new.rows.items }
     ensures lowers { OnOk result (Lowers goals.old.rows.items goals.new.rows.items) }
+    ensures right { OnOk result (AreRight auto.now store.new answers.new) }
 {
     let row = &goals.rows[owner.number];
     let left = row.left;
@@ -397,7 +450,7 @@ pub(crate) fn work(
         refute(&mut goals.rows, &goals.links, owner, Seq::empty());
         return Ok(());
     }
-    work_on_cases(alloc, auto, goals, owner, store, left, &rights)
+    work_on_cases(alloc, auto, goals, owner, store, answers, left, &rights)
 }
 
 /// Whether the left accepts the empty document and no right does.

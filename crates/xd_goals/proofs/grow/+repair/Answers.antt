@@ -1,6 +1,5 @@
-use Rattle.std.proofs.Common.{ℕ, ◌≡◌, ◌+◌, List, Some, sym, ap, subst, ◌∙◌, arith}
+use Rattle.std.proofs.Common.{ℕ, ◌≡◌, List, Some, sym, ap, subst, ◌∙◌, arith}
 use Rattle.std.specs.List.{slice_get}
-use Rattle.std.proofs.lemmas.Option.{slice_get_within}
 use Rattle.xd_auto.specs.declared.auto.State.{State}
 use Rattle.xd_goals.specs.declared.heads.Side.{Side}
 use Rattle.xd_goals.specs.declared.goals.Goals.{Goals}
@@ -11,53 +10,54 @@ use Rattle.xd_goals.specs.Kept.{view_of}
 use Rattle.xd_goals.specs.Moves.{with_state}
 use Rattle.xd_goals.specs.Trees.{HasTree, IsGrown, IsSplitAt}
 use Rattle.xd_goals.proofs.Growing.{Grows-same, Grows-then}
-use Rattle.xd_goals.proofs.Trees.{IsGrown-grows, HasTree-grows, placed_content, placed_rest, content_path, rest_path, split_tree, open_within-grows, HasOpenTree-within}
+use Rattle.xd_goals.proofs.Facts.{separated-grows}
+use Rattle.xd_goals.proofs.Trees.{IsGrown-grows, HasTree-grows, content_path, rest_path, split_tree, open_within-grows, HasOpenTree-within}
 use Rattle.xd_goals.proofs.Repairing.{HasTree-within, HasParts, tree_parts, content_there, rest_there, content_open, rest_open, same_side, split_stays}
 use Rattle.xd_goals.proofs.grow.+repair.Goals as goal
 
 -- the parts of the tree that is there
-parts : (g : Goals) (task : Task) (sides : List Side) (contents rests : List State) (from root right x y : ℕ) (nodes : List ChoiceNode)
-    → HasTree (view_of g) (λ tree. IsGrown g.rows.items task sides tree contents rests from) task.owner.number root → nodes ≡ g.nodes.items
-    → slice_get nodes root ≡ Some (Split right x y) → HasParts (view_of g) task sides contents rests from task.owner.number root right x y
-parts g task sides contents rests from root right x y nodes h e at =
-    tree_parts (view_of g) task sides contents rests from task.owner.number root right x y h (subst (λ (ns : List ChoiceNode). slice_get ns root ≡ Some (Split right x y)) e at)
+parts : (g : Goals) (task : Task) (sides : List Side) (contents rests : List State) (root right x y : ℕ) (nodes : List ChoiceNode)
+    → HasTree (view_of g) (λ tree. IsGrown g.rows.items task sides tree contents rests) task.owner.number root → nodes ≡ g.nodes.items
+    → slice_get nodes root ≡ Some (Split right x y) → HasParts (view_of g) task sides contents rests task.owner.number root right x y
+parts g task sides contents rests root right x y nodes h e at =
+    tree_parts (view_of g) task sides contents rests task.owner.number root right x y h (subst (λ (ns : List ChoiceNode). slice_get ns root ≡ Some (Split right x y)) e at)
 
 pub node_at-requires : goal.node_at-requires
 node_at-requires t c =
     rw c.deref.ensures.value
-    (HasTree-within (view_of c.args.goals.now) (λ tree. IsGrown c.args.goals.now.rows.items c.args.task c.args.sides.now tree c.args.contents.now c.args.rests.now c.args.from) c.args.task.owner.number c.args.root c.requires.tree)
+    (HasTree-within (view_of c.args.goals.now) (λ tree. IsGrown c.args.goals.now.rows.items c.args.task c.args.sides.now tree c.args.contents.now c.args.rests.now) c.args.task.owner.number c.args.root c.requires.tree)
 
 pub is_refuted-requires : goal.is_refuted-requires
 is_refuted-requires t c =
-    content_there (view_of c.args.goals.now) c.args.task c.args.sides.now c.args.contents.now c.args.rests.now c.args.from c.args.task.owner.number c.args.root c.in-Content.goal c.requires.tree
+    content_there (view_of c.args.goals.now) c.args.task c.args.sides.now c.args.contents.now c.args.rests.now c.args.task.owner.number c.args.root c.in-Content.goal c.requires.tree
     (rw c.deref.ensures.value at c.in-Content.ensures)
 
 pub returns-in-Content-clause-grown : goal.returns-in-Content-clause-grown
 returns-in-Content-clause-grown t c =
-    content_open (view_of c.args.goals.now) (λ tree. IsGrown c.args.goals.now.rows.items c.args.task c.args.sides.now tree c.args.contents.now c.args.rests.now c.args.from) c.args.task.owner.number c.args.root
+    content_open (view_of c.args.goals.now) (λ tree. IsGrown c.args.goals.now.rows.items c.args.task c.args.sides.now tree c.args.contents.now c.args.rests.now) c.args.task.owner.number c.args.root
     c.in-Content.goal c.requires.tree (rw c.deref.ensures.value at c.in-Content.ensures) (c.is_refuted.ensures c.if-is_refuted.false)
 
 pub is_refuted-requires-in-Rest : goal.is_refuted-requires-in-Rest
 is_refuted-requires-in-Rest t c =
-    rest_there (view_of c.args.goals.now) c.args.task c.args.sides.now c.args.contents.now c.args.rests.now c.args.from c.args.task.owner.number c.args.root c.in-Rest.goal c.requires.tree
+    rest_there (view_of c.args.goals.now) c.args.task c.args.sides.now c.args.contents.now c.args.rests.now c.args.task.owner.number c.args.root c.in-Rest.goal c.requires.tree
     (rw c.deref.ensures.value at c.in-Rest.ensures)
 
 pub returns-in-Rest-clause-grown : goal.returns-in-Rest-clause-grown
 returns-in-Rest-clause-grown t c =
-    rest_open (view_of c.args.goals.now) (λ tree. IsGrown c.args.goals.now.rows.items c.args.task c.args.sides.now tree c.args.contents.now c.args.rests.now c.args.from) c.args.task.owner.number c.args.root
+    rest_open (view_of c.args.goals.now) (λ tree. IsGrown c.args.goals.now.rows.items c.args.task c.args.sides.now tree c.args.contents.now c.args.rests.now) c.args.task.owner.number c.args.root
     c.in-Rest.goal c.requires.tree (rw c.deref.ensures.value at c.in-Rest.ensures) (c.is_refuted-in-Rest.ensures c.if-is_refuted-2.false)
 
-pub side_of-side-requires : goal.side_of-side-requires
-side_of-side-requires t c =
-    let p = parts c.args.goals.now c.args.task c.args.sides.now c.args.contents.now c.args.rests.now c.args.from c.args.root c.in-Split.right c.in-Split.content c.in-Split.rest c.deref.result.now
+pub side_numbered-side-requires : goal.side_numbered-side-requires
+side_numbered-side-requires t c =
+    let p = parts c.args.goals.now c.args.task c.args.sides.now c.args.contents.now c.args.rests.now c.args.root c.in-Split.right c.in-Split.content c.in-Split.rest c.deref.result.now
     c.requires.tree c.deref.ensures.value c.in-Split.ensures in
-    slice_get_within c.args.sides.now c.args.from p.side p.found
+    (p.side, record { place = p.free.place; found = p.free.found; same = sym p.number })
 
 pub repair-requires : goal.repair-requires
 repair-requires t c =
-    let p = parts c.args.goals.now c.args.task c.args.sides.now c.args.contents.now c.args.rests.now c.args.from c.args.root c.in-Split.right c.in-Split.content c.in-Split.rest c.deref.result.now
+    let p = parts c.args.goals.now c.args.task c.args.sides.now c.args.contents.now c.args.rests.now c.args.root c.in-Split.right c.in-Split.content c.in-Split.rest c.deref.result.now
     c.requires.tree c.deref.ensures.value c.in-Split.ensures in
-    let s = same_side c.args.sides.now c.args.from p.side c.side_of-side.result p.found c.side_of-side.ensures in
+    let s = same_side c.args.sides.now c.args.contents.now c.args.rests.now c.in-Split.right p.side c.side_numbered-side.result c.requires.path.apart p.number p.free c.side_numbered-side.ensures in
     let e : c.deref-in-Split.result.now ≡ with_state p.side.content c.args.contents.now =
     c.deref-in-Split.ensures.value ∙ c.in_ok-more-in-Split.ensures ∙ ap (λ (w : Side). with_state w.content c.args.contents.now) s in (
       omega (arith, p.content_older, c.decreases),
@@ -66,13 +66,16 @@ repair-requires t c =
         (
           c.requires.owner,
           (
-            content_path c.args.sides.now c.args.contents.now c.args.rests.now c.args.from p.side p.found c.args.task.states c.args.task c.requires.path c.deref-in-Split.result.now e,
+            content_path c.args.sides.now c.args.contents.now c.args.rests.now p.side p.free.place p.free.found c.args.task.states c.args.task c.requires.path c.deref-in-Split.result.now e,
             (
-              placed_content c.args.sides.now c.args.contents.now c.args.rests.now c.args.from p.side p.found c.deref-in-Split.result.now e c.requires.placed,
+              c.requires.states,
               (
-                omega (arith, slice_get_within c.args.sides.now c.args.from p.side p.found),
-                subst (λ (cs : List State). HasTree (view_of c.args.goals.now) (λ tree. IsGrown c.args.goals.now.rows.items c.args.task c.args.sides.now tree cs c.args.rests.now (c.args.from + 1)) c.args.task.owner.number c.in-Split.content)
-                    (sym e) p.content,
+                c.requires.separated,
+                (
+                  c.requires.right,
+                  subst (λ (cs : List State). HasTree (view_of c.args.goals.now) (λ tree. IsGrown c.args.goals.now.rows.items c.args.task c.args.sides.now tree cs c.args.rests.now) c.args.task.owner.number c.in-Split.content)
+                      (sym e) p.content,
+                ),
               ),
             ),
           ),
@@ -82,9 +85,9 @@ repair-requires t c =
 
 pub repair-requires-in-Stands : goal.repair-requires-in-Stands
 repair-requires-in-Stands t c =
-    let p = parts c.args.goals.now c.args.task c.args.sides.now c.args.contents.now c.args.rests.now c.args.from c.args.root c.in-Split.right c.in-Split.content c.in-Split.rest c.deref.result.now
+    let p = parts c.args.goals.now c.args.task c.args.sides.now c.args.contents.now c.args.rests.now c.args.root c.in-Split.right c.in-Split.content c.in-Split.rest c.deref.result.now
     c.requires.tree c.deref.ensures.value c.in-Split.ensures in
-    let s = same_side c.args.sides.now c.args.from p.side c.side_of-side.result p.found c.side_of-side.ensures in
+    let s = same_side c.args.sides.now c.args.contents.now c.args.rests.now c.in-Split.right p.side c.side_numbered-side.result c.requires.path.apart p.number p.free c.side_numbered-side.ensures in
     let f : c.deref-in-Stands.result.now ≡ with_state p.side.rest c.args.rests.now =
     c.deref-in-Stands.ensures.value ∙ c.in_ok-more-in-Stands.ensures ∙ ap (λ (w : Side). with_state w.rest c.args.rests.now) s in (
       omega (arith, p.rest_older, c.decreases),
@@ -93,18 +96,21 @@ repair-requires-in-Stands t c =
         (
           omega (arith, c.in_ok-inside-in-Split.ensures.grows.longer, c.requires.owner),
           (
-            rest_path c.args.sides.now c.args.contents.now c.args.rests.now c.args.from p.side p.found c.args.task.states c.args.task c.requires.path c.deref-in-Stands.result.now f,
+            rest_path c.args.sides.now c.args.contents.now c.args.rests.now p.side p.free.place p.free.found c.args.task.states c.args.task c.requires.path c.deref-in-Stands.result.now f,
             (
-              placed_rest c.args.sides.now c.args.contents.now c.args.rests.now c.args.from p.side p.found c.deref-in-Stands.result.now f c.requires.placed,
+              c.requires.states,
               (
-                omega (arith, slice_get_within c.args.sides.now c.args.from p.side p.found),
-                subst (λ (rs : List State). HasTree (view_of c.repair.new.goals) (λ tree. IsGrown c.repair.new.goals.rows.items c.args.task c.args.sides.now tree c.args.contents.now rs (c.args.from + 1)) c.args.task.owner.number c.in-Split.rest)
-                    (sym f)
-                    (HasTree-grows (view_of c.args.goals.now) (view_of c.repair.new.goals) c.in_ok-inside-in-Split.ensures.grows
-                    (λ tree. IsGrown c.args.goals.now.rows.items c.args.task c.args.sides.now tree c.args.contents.now (with_state p.side.rest c.args.rests.now) (c.args.from + 1))
-                    (λ tree. IsGrown c.repair.new.goals.rows.items c.args.task c.args.sides.now tree c.args.contents.now (with_state p.side.rest c.args.rests.now) (c.args.from + 1))
-                    (λ tree k. IsGrown-grows (view_of c.args.goals.now) (view_of c.repair.new.goals) c.in_ok-inside-in-Split.ensures.grows c.args.task c.args.sides.now tree c.args.contents.now (with_state p.side.rest c.args.rests.now) (c.args.from + 1) k)
-                    c.args.task.owner.number c.in-Split.rest p.rest),
+                separated-grows c.args.auto.now c.args.store.now (view_of c.args.goals.now) (view_of c.repair.new.goals) c.in_ok-inside-in-Split.ensures.grows c.requires.separated,
+                (
+                  c.in_ok-inside-in-Split.ensures.right,
+                  subst (λ (rs : List State). HasTree (view_of c.repair.new.goals) (λ tree. IsGrown c.repair.new.goals.rows.items c.args.task c.args.sides.now tree c.args.contents.now rs) c.args.task.owner.number c.in-Split.rest)
+                      (sym f)
+                      (HasTree-grows (view_of c.args.goals.now) (view_of c.repair.new.goals) c.in_ok-inside-in-Split.ensures.grows
+                      (λ tree. IsGrown c.args.goals.now.rows.items c.args.task c.args.sides.now tree c.args.contents.now (with_state p.side.rest c.args.rests.now))
+                      (λ tree. IsGrown c.repair.new.goals.rows.items c.args.task c.args.sides.now tree c.args.contents.now (with_state p.side.rest c.args.rests.now))
+                      (λ tree k. IsGrown-grows (view_of c.args.goals.now) (view_of c.repair.new.goals) c.in_ok-inside-in-Split.ensures.grows c.args.task c.args.sides.now tree c.args.contents.now (with_state p.side.rest c.args.rests.now) k)
+                      c.args.task.owner.number c.in-Split.rest p.rest),
+                ),
               ),
             ),
           ),
@@ -114,9 +120,9 @@ repair-requires-in-Stands t c =
 
 pub returns-then-two-rest-clause-grown : goal.returns-then-two-rest-clause-grown
 returns-then-two-rest-clause-grown t c =
-    let p = parts c.args.goals.now c.args.task c.args.sides.now c.args.contents.now c.args.rests.now c.args.from c.args.root c.in-Split.right c.in-Split.content c.in-Split.rest c.deref.result.now
+    let p = parts c.args.goals.now c.args.task c.args.sides.now c.args.contents.now c.args.rests.now c.args.root c.in-Split.right c.in-Split.content c.in-Split.rest c.deref.result.now
     c.requires.tree c.deref.ensures.value c.in-Split.ensures in
-    let s = same_side c.args.sides.now c.args.from p.side c.side_of-side.result p.found c.side_of-side.ensures in
+    let s = same_side c.args.sides.now c.args.contents.now c.args.rests.now c.in-Split.right p.side c.side_numbered-side.result c.requires.path.apart p.number p.free c.side_numbered-side.ensures in
     let g = Grows-then (view_of c.args.goals.now) (view_of c.repair.new.goals) (view_of c.repair-in-Stands.new.goals) c.in_ok-inside-in-Split.ensures.grows c.in_ok-inside-in-Stands.ensures.grows in
     let one : c.in-Stands.one ≡ c.in-Split.content = c.if-one-content.true in
     let two : c.in-Stands-2.two ≡ c.in-Split.rest = c.if-two-rest.true in
@@ -125,9 +131,9 @@ returns-then-two-rest-clause-grown t c =
     c.deref-in-Split.ensures.value ∙ c.in_ok-more-in-Split.ensures ∙ ap (λ (w : Side). with_state w.content c.args.contents.now) s in
     let f : c.deref-in-Stands.result.now ≡ with_state p.side.rest c.args.rests.now =
     c.deref-in-Stands.ensures.value ∙ c.in_ok-more-in-Stands.ensures ∙ ap (λ (w : Side). with_state w.rest c.args.rests.now) s in
-    split_tree c.args.task c.args.sides.now c.args.contents.now c.args.rests.now c.args.from
+    split_tree c.args.task c.args.sides.now c.args.contents.now c.args.rests.now
     (view_of c.repair.new.goals) (view_of c.repair-in-Stands.new.goals) (view_of c.repair-in-Stands.new.goals) p.side c.deref-in-Split.result.now c.deref-in-Stands.result.now c.in-Stands.one c.in-Stands-2.two c.args.root
-    p.found e f (rw c.in-Stands.is at c.in_ok-inside-in-Split.ensures.grown) c.in_ok-inside-in-Stands.ensures.grows (rw c.in-Stands-2.is at c.in_ok-inside-in-Stands.ensures.grown) (Grows-same (view_of c.repair-in-Stands.new.goals))
+    p.free e f (rw c.in-Stands.is at c.in_ok-inside-in-Split.ensures.grown) c.in_ok-inside-in-Stands.ensures.grows (rw c.in-Stands-2.is at c.in_ok-inside-in-Stands.ensures.grown) (Grows-same (view_of c.repair-in-Stands.new.goals))
     (subst (λ (x : ℕ). IsSplitAt c.repair-in-Stands.new.goals.nodes.items p.side.number x c.in-Stands-2.two c.args.root) (sym one)
     (subst (λ (y : ℕ). IsSplitAt c.repair-in-Stands.new.goals.nodes.items p.side.number c.in-Split.content y c.args.root) (sym two)
     (subst (λ (n : ℕ). IsSplitAt c.repair-in-Stands.new.goals.nodes.items n c.in-Split.content c.in-Split.rest c.args.root) p.number stays)))
@@ -135,25 +141,25 @@ returns-then-two-rest-clause-grown t c =
 pub add_split-requires-clause-content : goal.add_split-requires-clause-content
 add_split-requires-clause-content t c =
     open_within-grows (view_of c.repair.new.goals) (view_of c.repair-in-Stands.new.goals) c.in_ok-inside-in-Stands.ensures.grows
-    (λ tree. IsGrown c.repair.new.goals.rows.items c.args.task c.args.sides.now tree c.deref-in-Split.result.now c.args.rests.now (c.args.from + 1)) c.args.task.owner.number c.in-Stands.one
+    (λ tree. IsGrown c.repair.new.goals.rows.items c.args.task c.args.sides.now tree c.deref-in-Split.result.now c.args.rests.now) c.args.task.owner.number c.in-Stands.one
     (rw c.in-Stands.is at c.in_ok-inside-in-Split.ensures.grown)
 
 pub add_split-requires-clause-rest : goal.add_split-requires-clause-rest
 add_split-requires-clause-rest t c =
     HasOpenTree-within (view_of c.repair-in-Stands.new.goals)
-    (λ tree. IsGrown c.repair-in-Stands.new.goals.rows.items c.args.task c.args.sides.now tree c.args.contents.now c.deref-in-Stands.result.now (c.args.from + 1)) c.args.task.owner.number c.in-Stands-2.two
+    (λ tree. IsGrown c.repair-in-Stands.new.goals.rows.items c.args.task c.args.sides.now tree c.args.contents.now c.deref-in-Stands.result.now) c.args.task.owner.number c.in-Stands-2.two
     (rw c.in-Stands-2.is at c.in_ok-inside-in-Stands.ensures.grown)
 
 pub returns-clause-grown : goal.returns-clause-grown
 returns-clause-grown t c =
-    let p = parts c.args.goals.now c.args.task c.args.sides.now c.args.contents.now c.args.rests.now c.args.from c.args.root c.in-Split.right c.in-Split.content c.in-Split.rest c.deref.result.now
+    let p = parts c.args.goals.now c.args.task c.args.sides.now c.args.contents.now c.args.rests.now c.args.root c.in-Split.right c.in-Split.content c.in-Split.rest c.deref.result.now
     c.requires.tree c.deref.ensures.value c.in-Split.ensures in
-    let s = same_side c.args.sides.now c.args.from p.side c.side_of-side.result p.found c.side_of-side.ensures in
+    let s = same_side c.args.sides.now c.args.contents.now c.args.rests.now c.in-Split.right p.side c.side_numbered-side.result c.requires.path.apart p.number p.free c.side_numbered-side.ensures in
     let e : c.deref-in-Split.result.now ≡ with_state p.side.content c.args.contents.now =
     c.deref-in-Split.ensures.value ∙ c.in_ok-more-in-Split.ensures ∙ ap (λ (w : Side). with_state w.content c.args.contents.now) s in
     let f : c.deref-in-Stands.result.now ≡ with_state p.side.rest c.args.rests.now =
     c.deref-in-Stands.ensures.value ∙ c.in_ok-more-in-Stands.ensures ∙ ap (λ (w : Side). with_state w.rest c.args.rests.now) s in
-    split_tree c.args.task c.args.sides.now c.args.contents.now c.args.rests.now c.args.from
+    split_tree c.args.task c.args.sides.now c.args.contents.now c.args.rests.now
     (view_of c.repair.new.goals) (view_of c.repair-in-Stands.new.goals) (view_of c.add_split.new.goals) p.side c.deref-in-Split.result.now c.deref-in-Stands.result.now c.in-Stands.one c.in-Stands-2.two c.in_ok-add_split-in-Stands-2.field-0
-    p.found e f (rw c.in-Stands.is at c.in_ok-inside-in-Split.ensures.grown) c.in_ok-inside-in-Stands.ensures.grows (rw c.in-Stands-2.is at c.in_ok-inside-in-Stands.ensures.grown) c.add_split.ensures.grows
-    (rw s at c.in_ok-add_split-in-Stands-2.ensures.split)
+    p.free e f (rw c.in-Stands.is at c.in_ok-inside-in-Split.ensures.grown) c.in_ok-inside-in-Stands.ensures.grows (rw c.in-Stands-2.is at c.in_ok-inside-in-Stands.ensures.grown) c.add_split.ensures.grows
+    (subst (λ (n : ℕ). IsSplitAt c.add_split.new.goals.nodes.items n c.in-Stands.one c.in-Stands-2.two c.in_ok-add_split-in-Stands-2.field-0) p.number c.in_ok-add_split-in-Stands-2.ensures.split)

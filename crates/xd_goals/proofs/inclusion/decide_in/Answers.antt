@@ -16,6 +16,7 @@ loop-document-init c = record {
   stands = asked_stands c.args.auto.now c.args.store.now c.args.goals.now c.find_or_add.new.goals c.find_or_add.ensures.grows (rw c.len.ensures.value at c.find_or_add.ensures.consistent) c.requires.stands;
   kept = asked_kept c.args.auto.now c.args.store.now c.args.goals.now c.find_or_add.new.goals c.find_or_add.ensures.grows (rw c.len.ensures.value at c.find_or_add.ensures.consistent) c.requires.stands;
   keeps = keeps-same c.args.store.now;
+  right = c.new-answers.ensures.right c.args.auto.now c.args.store.now;
   longer = keeps_goals-same (view_of c.find_or_add.new.goals);
   made = none_added c.find_or_add.new.goals.rows.items;
   asked = c.in_ok-asked.ensures.found;
@@ -55,6 +56,7 @@ run-requires c =
       goal = parts.1;
       agenda = waiting_below c.loop-document.goals.rows.items c.pop.new.self.items parts.0;
       stands = c.loop-document.invariant.stands;
+      right = c.loop-document.invariant.right;
     }
 
 pub loop-document-smaller : goal.loop-document-smaller
@@ -70,6 +72,7 @@ loop-document-preserved c = record {
   stands = c.run.ensures.stands;
   kept = keeps_goals-then (view_of c.args.goals.now) (view_of c.loop-document.goals) (view_of c.run.new.goals) c.loop-document.invariant.kept c.run.ensures.goals;
   keeps = keeps-then c.args.store.now c.loop-document.store c.run.new.store c.loop-document.invariant.keeps c.run.ensures.keeps;
+  right = c.in_ok-run-in-Some.ensures.right;
   longer = keeps_goals-then (view_of c.find_or_add.new.goals) (view_of c.loop-document.goals) (view_of c.run.new.goals) c.loop-document.invariant.longer c.run.ensures.goals;
   made = made-then (length c.find_or_add.new.goals.rows.items) (view_of c.loop-document.goals) (view_of c.run.new.goals) c.run.ensures.goals c.loop-document.invariant.made c.run.ensures.made;
   asked = claim_stays (view_of c.loop-document.goals) (view_of c.run.new.goals) c.run.ensures.goals c.in_ok-asked.asked.number (claim_with c.args.left c.args.rights.now) c.loop-document.invariant.asked;

@@ -2,6 +2,7 @@ use Rattle.std.proofs.Common.{◌+◌, ◌≡◌, Some, length}
 use Rattle.xd_doc.specs.Stored.{Keeps}
 use Rattle.xd_goals.specs.Moves.{claim_with}
 use Rattle.xd_goals.specs.Rows.{claim_at}
+use Rattle.xd_auto.specs.Kept.{AreRight}
 use Rattle.xd_goals.specs.Kept.{IsWhole, view_of}
 use Rattle.xd_goals.specs.Measure.{AreMadeFrom, possible, potential}
 use Rattle.xd_goals.specs.Standing.{KeepsGoals, StandsOn}
@@ -13,6 +14,7 @@ invariant-loop-document l = record {
   stands : StandsOn l.auto' l.store (view_of l.goals);
   kept : KeepsGoals (view_of l.fn.goals) (view_of l.goals);
   keeps : Keeps l.fn.store l.store;
+  right : AreRight l.auto' l.store l.answers;
   longer : KeepsGoals (view_of l.initial.goals) (view_of l.goals);
   made : AreMadeFrom (length l.initial.goals.rows.items) l.goals.rows.items;
   asked : claim_at l.goals.rows.items l.asked.number ≡ Some (claim_with l.fn.left l.rights);

@@ -20,6 +20,7 @@ loop-goal-preserved c = record {
   kept = keeps_goals-then (view_of c.args.goals.now) (view_of c.loop-goal.goals) (view_of c.step-in-Some.new.goals) c.loop-goal.invariant.kept c.step-in-Some.ensures.goals;
   keeps = keeps-then c.args.store.now c.loop-goal.store c.step-in-Some.new.store c.loop-goal.invariant.keeps c.step-in-Some.ensures.keeps;
   made = made-then (length c.args.goals.now.rows.items) (view_of c.loop-goal.goals) (view_of c.step-in-Some.new.goals) c.step-in-Some.ensures.goals c.loop-goal.invariant.made c.step-in-Some.ensures.made;
+  right = c.in_ok-step-2.ensures.right;
   agenda = c.in_ok-step-2.ensures.agenda;
   lowers = lowers-then c.args.goals.now.rows.items c.loop-goal.goals.rows.items c.step-in-Some.new.goals.rows.items c.step-in-Some.ensures.goals.longer c.loop-goal.invariant.lowers c.in_ok-step-2.ensures.lowers;
 }
@@ -32,4 +33,5 @@ returns-in_err-step-2 c = record {
   keeps = keeps-then c.args.store.now c.loop-goal.store c.step-in-Some.new.store c.loop-goal.invariant.keeps c.step-in-Some.ensures.keeps;
   made = made-then (length c.args.goals.now.rows.items) (view_of c.loop-goal.goals) (view_of c.step-in-Some.new.goals) c.step-in-Some.ensures.goals c.loop-goal.invariant.made c.step-in-Some.ensures.made;
   lowers = search rules;
+  right = search rules;
 }

@@ -1,6 +1,7 @@
 use Rattle.std.proofs.Common.{◌+◌, length}
 use Rattle.std.specs.List.{AllByRecursion}
 use Rattle.xd_doc.specs.Stored.{Keeps}
+use Rattle.xd_auto.specs.Kept.{AreRight}
 use Rattle.xd_goals.specs.Kept.{IsWhole, view_of}
 use Rattle.xd_goals.specs.Measure.{AreMadeFrom, Lowers, possible, potential}
 use Rattle.xd_goals.specs.Standing.{KeepsGoals, StandsOn}
@@ -13,6 +14,7 @@ invariant-loop-goal l = record {
   stands : StandsOn l.auto' l.store (view_of l.goals);
   kept : KeepsGoals (view_of l.fn.goals) (view_of l.goals);
   keeps : Keeps l.fn.store l.store;
+  right : AreRight l.auto' l.store l.answers;
   made : AreMadeFrom (length l.fn.goals.rows.items) l.goals.rows.items;
   agenda : AllByRecursion (IsGoalBelow (length l.goals.rows.items)) l.agenda.items;
   lowers : Lowers l.fn.goals.rows.items l.goals.rows.items;

@@ -9,6 +9,7 @@ use Rattle.xd_goals.specs.declared.heads.Want.{Want}
 use Rattle.xd_goals.proofs.Lists.{all_get}
 use Rattle.xd_goals.proofs.Growing.{Grows-same, Grows-then}
 use Rattle.xd_goals.proofs.Naming.{heads_named, wants_are, wants_keys, take_all}
+use Rattle.xd_goals.proofs.Facts.{separated-grows}
 use Rattle.xd_goals.proofs.Working.{begun_more}
 use Rattle.xd_goals.proofs.work.begin.Goals as goal
 
@@ -20,6 +21,7 @@ loop-number-init c = record {
   consistent = c.requires.consistent;
   grows = Grows-same (view_of c.args.goals.now);
   begun = rw c.new-made.ensures.items (record { keys_are = refl; open_choices = tt });
+  right = c.requires.right;
   end_is = search rules;
 }
 
@@ -29,6 +31,9 @@ begin_case-requires-clause-case c =
     (all_get (IsCaseOf c.args.auto.now c.args.left) c.in_ok-cases.cases.items c.loop-number.number c.index-case.result.now
     (rw c.in_ok-cases.ensures (wants_are c.args.auto.now c.args.left (names_in c.in_ok-unnamed.unnamed.labels c.in_ok-unnamed.unnamed.texts))) (omega (arith, c.loop-number-test.true, c.loop-number.invariant.end_is)))
 
+pub begin_case-requires-clause-separated : goal.begin_case-requires-clause-separated
+begin_case-requires-clause-separated c = separated-grows c.args.auto.now c.args.store.now (view_of c.args.goals.now) (view_of c.loop-number.goals) c.loop-number.invariant.grows c.requires.separated
+
 pub loop-number-preserved : goal.loop-number-preserved
 loop-number-preserved c = record {
   consistent = c.begin_case.ensures.consistent;
@@ -37,6 +42,7 @@ loop-number-preserved c = record {
       c.loop-number.made.items c.push.new.self.items (record { head = c.index-case.result.now.head; atom = c.in_ok-share-in-Stands.field-0; root = c.in-Stands.root }) (omega (arith, c.loop-number-test.true, c.loop-number.invariant.end_is)) c.index-case.ensures
       (ap (λ (x : Atom). keyed c.index-case.result.now.head x) c.in_ok-share-in-Stands.ensures) c.loop-number.invariant.begun
       (rw c.in_ok-share-in-Stands.ensures (rw c.in-Stands.is at c.in_ok-root.ensures.grown)) c.in_ok-push-in-Stands.ensures.items;
+  right = c.begin_case.ensures.right;
   end_is = c.loop-number.invariant.end_is;
 }
 

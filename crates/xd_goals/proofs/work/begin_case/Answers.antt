@@ -12,7 +12,7 @@ grow_text-requires-clause-path c =
 pub returns-then-is_text-clause-grown : goal.returns-then-is_text-clause-grown
 returns-then-is_text-clause-grown c =
     case_grown c.args.auto.now c.args.owner (claim_with c.args.left c.args.rights.now) c.args.case.now.head c.args.case.now.atom c.args.case.now.content c.args.case.now.rest c.requires.case.has c.len.result c.len.ensures.value c.deref.result.now (c.deref.ensures.value ∙ c.in_ok-sides.ensures)
-    c.requires.case.matched true (sym c.is_text.ensures ∙ c.if-is_text.true) (view_of c.grow_text.new.goals) c.grow_text.result c.grow_text.ensures.grown
+    c.requires.case.matched true (sym c.is_text.ensures ∙ c.if-is_text.true) c.args.store.now (view_of c.grow_text.new.goals) c.grow_text.result c.grow_text.ensures.grown
 
 pub grow-requires-clause-path : goal.grow-requires-clause-path
 grow-requires-clause-path c =
@@ -22,4 +22,4 @@ grow-requires-clause-path c =
 pub returns-clause-grown : goal.returns-clause-grown
 returns-clause-grown c =
     case_grown c.args.auto.now c.args.owner (claim_with c.args.left c.args.rights.now) c.args.case.now.head c.args.case.now.atom c.args.case.now.content c.args.case.now.rest c.requires.case.has c.len.result c.len.ensures.value c.deref-else-is_text.result.now (c.deref-else-is_text.ensures.value ∙ c.in_ok-sides.ensures)
-    c.requires.case.matched false (sym c.is_text.ensures ∙ c.if-is_text.false) (view_of c.grow.new.goals) c.grow.result c.grow.ensures.grown
+    c.requires.case.matched false (sym c.is_text.ensures ∙ c.if-is_text.false) c.args.store.now (view_of c.grow.new.goals) c.grow.result c.grow.ensures.grown

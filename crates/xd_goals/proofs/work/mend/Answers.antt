@@ -9,6 +9,7 @@ use Rattle.xd_goals.specs.declared.table.Choice.{Choice}
 use Rattle.xd_goals.proofs.Lists.{all_get}
 use Rattle.xd_goals.proofs.Growing.{Grows-same, Grows-then}
 use Rattle.xd_goals.proofs.Naming.{take_all}
+use Rattle.xd_goals.proofs.Facts.{separated-grows}
 use Rattle.xd_goals.proofs.Working.{begun_more, choices_still}
 use Rattle.xd_goals.proofs.work.mend.Goals as goal
 
@@ -17,6 +18,7 @@ loop-number-init c = record {
   consistent = c.requires.consistent;
   grows = Grows-same (view_of c.args.goals.now);
   begun = rw c.new-made.ensures.items (record { keys_are = refl; open_choices = tt });
+  right = c.requires.right;
   end_is = search rules;
 }
 
@@ -28,6 +30,9 @@ mend_choice-requires-clause-choice c =
     (row_at c.args.goals.now.rows.items c.args.owner.number).choices c.requires.choices))
     (omega (arith, c.loop-number-test.true, c.loop-number.invariant.end_is)))
 
+pub mend_choice-requires-clause-separated : goal.mend_choice-requires-clause-separated
+mend_choice-requires-clause-separated c = separated-grows c.args.auto.now c.args.store.now (view_of c.args.goals.now) (view_of c.loop-number.goals) c.loop-number.invariant.grows c.requires.separated
+
 pub loop-number-preserved : goal.loop-number-preserved
 loop-number-preserved c = record {
   consistent = c.mend_choice.ensures.consistent;
@@ -36,6 +41,7 @@ loop-number-preserved c = record {
       c.loop-number.made.items c.push.new.self.items (record { head = c.index-choice.result.now.head; atom = c.in_ok-share-in-Stands.field-0; root = c.in-Stands.root }) (omega (arith, c.loop-number-test.true, c.loop-number.invariant.end_is)) c.index-choice.ensures
       (ap (λ (x : Atom). keyed c.index-choice.result.now.head x) c.in_ok-share-in-Stands.ensures) c.loop-number.invariant.begun
       (rw c.in_ok-share-in-Stands.ensures (rw c.in-Stands.is at c.in_ok-root.ensures.grown)) c.in_ok-push-in-Stands.ensures.items;
+  right = c.mend_choice.ensures.right;
   end_is = c.loop-number.invariant.end_is;
 }
 

@@ -1,4 +1,5 @@
 use Rattle.std.proofs.Common.{◌≡◌, length, map, take}
+use Rattle.xd_auto.specs.Kept.{AreRight}
 use Rattle.xd_goals.specs.Moves.{claim_with}
 use Rattle.xd_goals.specs.Rows.{choice_key}
 use Rattle.xd_goals.specs.Kept.{Grows, IsConsistent, view_of}
@@ -10,5 +11,6 @@ invariant-loop-number l = record {
   consistent : IsConsistent (length l.auto') l.goals;
   grows : Grows (view_of l.initial.goals) (view_of l.goals);
   begun : AreBegun l.auto' (view_of l.goals) l.owner.number (claim_with l.fn.left l.rights) (map choice_key (take l.number l.choices.items)) l.made.items;
+  right : AreRight l.auto' l.store l.answers;
   end_is : l.number-end ≡ length l.choices.items;
 }

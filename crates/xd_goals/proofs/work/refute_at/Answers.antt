@@ -29,3 +29,6 @@ returns-clause-lowers c = (refuted c).lowers
 
 pub returns-in_err-document-clause-stands : goal.returns-in_err-document-clause-stands
 returns-in_err-document-clause-stands c = stands-keeps c.args.auto.now c.args.store.now c.separate.new.store (view_of c.args.goals.now) c.separate.ensures.keeps c.requires.stands
+
+pub returns-clause-right : goal.returns-clause-right
+returns-clause-right c = c.stay_right.ensures.store c.args.auto.now c.args.store.now c.separate.new.store c.separate.ensures.keeps c.requires.right

@@ -50,7 +50,7 @@ refute_at-requires-clause-waits c = (standing-grows (view_of c.args.goals.now) (
 
 pub refute_at-requires-clause-fails : goal.refute_at-requires-clause-fails
 refute_at-requires-clause-fails c =
-    subst (λ (x : Claim State). FailsAt c.args.auto.now (view_of c.settle.new.goals) c.args.owner.number x c.in-Separates.atom c.in-Separates.inside c.in-Separates.behind)
+    subst (λ (x : Claim State). FailsAt c.args.auto.now c.args.store.now (view_of c.settle.new.goals) c.args.owner.number x c.in-Separates.atom c.in-Separates.inside c.in-Separates.behind)
     (sym (owner_claim (view_of c.args.goals.now) (view_of c.settle.new.goals) c.settle.ensures.grows c.args.owner.number (claim_with c.args.left c.args.rights.now) c.requires.owner c.requires.claim)) (rw c.in-Separates.is at c.in_ok-made.ensures.settled)
 
 pub returns-in-Holds-clause-whole : goal.returns-in-Holds-clause-whole
