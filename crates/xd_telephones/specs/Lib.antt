@@ -1,0 +1,3 @@
+pub mod Telephones
+pub mod Persons
+pub mod Laws
