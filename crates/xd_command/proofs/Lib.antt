@@ -10,5 +10,6 @@ pub mod Reporting
 pub mod Verdicts
 pub mod Inputs
 pub mod Running
+pub mod Telephones
 pub mod Fitting
 pub mod Judging

@@ -1,5 +1,5 @@
 -- What a run answers, from the steps that it takes.
-use Rattle.std.proofs.Common.{◌≡◌, ℕ, ◌+◌, ◌≤◌, inl, inr, List, Option, Some, None, Result, refl, subst, ◌∙◌}
+use Rattle.std.proofs.Common.{◌≡◌, ℕ, ◌≤◌, inl, inr, List, Option, Some, None, Result, refl, subst, ◌∙◌}
 use Rattle.xd_base.specs.Outside.{HasRisen}
 use Rattle.xd_auto.specs.Automaton.{Automaton}
 use Rattle.xd_auto.specs.declared.auto.State.{State}
@@ -14,9 +14,8 @@ use Rattle.xd_syntax.specs.Sound.{main_parameter}
 use Rattle.xd_command.specs.Fits.{IsAcceptor}
 use Rattle.xd_command.specs.Output.{Output}
 use Rattle.xd_command.specs.declared.output.Stop.{Stop}
-use Rattle.xd_command.specs.Run.{AnswersInput, AnswersMain, AnswersRun, EndsAtValue, IsValue, input_type, no_main}
-use Rattle.xd_command.specs.Sample.{AnswersPersons, Counts, sample_of}
-use Rattle.xd_command.specs.Step.{DoesAll, Step}
+use Rattle.xd_command.specs.Run.{AnswersInput, AnswersMain, AnswersRun, input_type, no_main}
+use Rattle.xd_command.specs.Step.{DoesAll}
 use Rattle.xd_command.specs.Running.{AcceptsInput, IsInputTest}
 use Rattle.xd_command.specs.Documents.{EndsAtDocument, IsDocument}
 use Rattle.xd_command.specs.Texts.{Holding}
@@ -101,14 +100,3 @@ pub run_later : (a b c : ℕ) {old new : Holding} (document : List ℕ) (fuel : 
     AnswersRun new (HasRisen b c) document fuel P o → AnswersRun old (HasRisen a c) document fuel P o
 run_later a b c {old} {new} document fuel P o le e (inl h) = inl h
 run_later a b c {old} {new} document fuel P o le e (inr h) = inr (h.0, main_later a b c {old = old} {new = new} document fuel P (input_type P) o le e h.1)
-
--- what a sample answers
-
-module _ (persons : ℕ) (P : ProgramTree) where
-  counts_on : (i : Option Tree) (T : Tree) (o : Output) → i ≡ Some T → Step (EndsAtValue P T (persons + 1) (sample_of persons)) (IsValue P T (persons + 1) (sample_of persons)) (Counts persons) o → AnswersPersons persons P i o
-  counts_on None T o e h = absurd (cc)
-  counts_on (Some U) T o e h = let q : T ≡ U = cc in subst (λ V. Step (EndsAtValue P V (persons + 1) (sample_of persons)) (IsValue P V (persons + 1) (sample_of persons)) (Counts persons) o) q h
-
-  -- a sample that ends where its value is not found
-  pub persons_end : (T : Tree) (o : Output) → input_type P ≡ Some T → EndsAtValue P T (persons + 1) (sample_of persons) o → AnswersPersons persons P (input_type P) o
-  persons_end T o e h = counts_on (input_type P) T o e (inl h)

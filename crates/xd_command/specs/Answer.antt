@@ -6,13 +6,13 @@ use Rattle.xd_command.specs.declared.command.Command.TheVariants.{Fits, Subtype,
 use Rattle.xd_command.specs.Output.{Output, usage}
 use Rattle.xd_command.specs.Step.{Step}
 use Rattle.xd_command.specs.Texts.{Holding}
-use Rattle.xd_command.specs.Programs.{EndsAtProgram, IsProgram, EndsAtFaults, IsSoundText}
+use Rattle.xd_command.specs.Programs.{EndsAtProgram, IsProgram}
 use Rattle.xd_command.specs.Fits.{AnswersFits}
 use Rattle.xd_command.specs.Subtype.{AnswersSubtype}
 use Rattle.xd_command.specs.Proofs.{AnswersVerify, AnswersUpgrade}
 use Rattle.xd_command.specs.Check.{AnswersCheck}
 use Rattle.xd_command.specs.Run.{AnswersRun}
-use Rattle.xd_command.specs.Sample.{AnswersSample, telephone_program}
+use Rattle.xd_command.specs.Sample.{AnswersSample}
 
 abbrev pub Answers : Command → Holding → (rose : Type 0) → Output → Type 0
 Answers (Fits file name document) holds rose = Step (EndsAtProgram holds rose file) (IsProgram holds file) (AnswersFits holds rose name document)
@@ -21,7 +21,7 @@ Answers (Verify file proof) holds rose = Step (EndsAtProgram holds rose file) (I
 Answers (Upgrade file proof) holds rose = Step (EndsAtProgram holds rose file) (IsProgram holds file) (AnswersUpgrade holds rose proof)
 Answers (Check file) holds rose = Step (EndsAtProgram holds rose file) (IsProgram holds file) AnswersCheck
 Answers (Run file document fuel) holds rose = Step (EndsAtProgram holds rose file) (IsProgram holds file) (AnswersRun holds rose document fuel)
-Answers (Sample persons) holds rose = Step (EndsAtFaults telephone_program) (IsSoundText telephone_program) (AnswersSample persons)
+Answers (Sample persons) holds rose = AnswersSample persons
 
 -- the same for words of any form
 abbrev pub IsAnswer : Option Command → Holding → (rose : Type 0) → Output → Type 0

@@ -13,7 +13,6 @@ pub mod Merging
 pub mod Check
 pub mod Run
 pub mod Running
-pub mod Persons
 pub mod Sample
 pub mod Answer
 pub mod Outcome

@@ -1,17 +1,16 @@
 //! The command `sample`.
 
-ghost use Rattle.std.specs.Prelude.{◌≡◌, ◌≤◌, ◌+◌, ◌++◌, true, length, Some, IfOk, decimal};
+ghost use Rattle.std.specs.Prelude.{◌≡◌, ◌≤◌, ◌++◌, true, length, Some, IfOk, decimal};
 ghost use Rattle.xd_doc.specs.Document.{canonical_text, empty};
 ghost use Rattle.xd_doc.specs.Stored.{BelongsTo, Keeps, document_at};
 ghost use Rattle.xd_doc.specs.Word.{is_word};
 ghost use Rattle.xd_syntax.specs.Kept.{program_tree};
+ghost use Rattle.xd_telephones.specs.Telephones.{telephone_program};
+ghost use Rattle.xd_telephones.specs.Persons.{field, person, persons_to};
 ghost use Rattle.xd_command.specs.Command.{sample_limit};
-ghost use Rattle.xd_command.specs.Persons.{field, person, persons_to};
-ghost use Rattle.xd_command.specs.Programs.{EndsAtFaults, IsSoundText};
-ghost use Rattle.xd_command.specs.Run.{input_type};
 ghost use Rattle.xd_command.specs.Running.{IsInputTest};
-ghost use Rattle.xd_command.specs.Sample.{AnswersPersons, AnswersSample, telephone_program};
-ghost use Rattle.xd_command.specs.Step.{DoesAll, Step};
+ghost use Rattle.xd_command.specs.Sample.{AnswersSample};
+ghost use Rattle.xd_command.specs.Step.{DoesAll};
 
 use crate::command::run::{accept, value_on};
 use crate::output::{Output, Stop};
@@ -20,6 +19,7 @@ use std::alloc::Global;
 use xd_auto::{Auto, State};
 use xd_doc::{Label, NoMemory, Seq, Store, Text};
 use xd_syntax::{Checked, SoundProgram};
+use xd_telephones::{nothing_is_reported, telephones_are_listed, text_is_read};
 use xd_write::write_document;
 
 /// Of persons in a row, the names and telephone numbers of those that have one.
@@ -94,7 +94,7 @@ fn text_length(alloc: Global, store: &Store, document: Seq) -> Result<usize, NoM
     Ok(text.len())
 }
 
-/// Runs the accepted program on so many persons, where the state accepts exactly what fits its input type.
+/// Runs the program on so many persons, where the state accepts exactly what fits its input type.
 fn sample_on(
     alloc: Global,
     checked: &Checked,
@@ -102,10 +102,12 @@ fn sample_on(
     state: State,
     persons: u64,
 ) -> Result<Output, Stop>
+    requires program { program_tree checked.now ≡ telephone_program }
     requires test { IsInputTest (program_tree checked.now) (Some (auto.now, state)) }
     requires few { persons ≤ sample_limit }
-    ensures { DoesAll result (AnswersPersons persons (program_tree checked.now) (input_type (program_tree checked.now))) }
+    ensures { DoesAll result (AnswersSample persons) }
 {
+    telephones_are_listed();
     let mut store = Store::new(alloc);
     let input = sample_document(alloc, &mut store, persons)?;
     let document = text_length(alloc, &store, input)?;
@@ -115,23 +117,29 @@ fn sample_on(
     Ok(Output::summary(alloc, persons, document, written, calls)?)
 }
 
-/// Checks the sound program, and runs it on so many persons.
+/// Checks the program, and runs it on so many persons.
 fn sample_program(alloc: Global, sound: SoundProgram, persons: u64) -> Result<Output, Stop>
-    requires { persons ≤ sample_limit }
-    ensures { DoesAll result (AnswersSample persons (program_tree sound)) }
+    requires program { program_tree sound ≡ telephone_program }
+    requires few { persons ≤ sample_limit }
+    ensures { DoesAll result (AnswersSample persons) }
 {
+    nothing_is_reported();
     let (test, checked) = accept(alloc, sound)?;
     match test {
-        None => Ok(Output::no_main(alloc)?),
+        None => unreachable!(),
         Some((auto, state)) => sample_on(alloc, &checked, &auto, state, persons),
     }
 }
 
-/// What becomes of the telephone program on a document of so many persons.
+/// Makes a document of so many persons, checks the telephone program, and runs it on them.
+///
+/// None of the answers of `check` and `run` to other programs or documents comes: no fault, no document outside the input
+/// type, and no spent fuel.
 pub fn sample(alloc: Global, persons: u64) -> Result<Output, Stop>
     requires { persons ≤ sample_limit }
-    ensures { DoesAll result (Step (EndsAtFaults telephone_program) (IsSoundText telephone_program) (AnswersSample persons)) }
+    ensures { DoesAll result (AnswersSample persons) }
 {
+    text_is_read();
     let sound = sound_program(alloc, TELEPHONES.as_bytes())?;
     sample_program(alloc, sound, persons)
 }

@@ -1,0 +1,25 @@
+use Rattle.std.proofs.Common.{◌≡◌, Option, subst}
+use Rattle.xd_auto.specs.Automaton.{Automaton}
+use Rattle.xd_auto.specs.declared.auto.State.{State}
+use Rattle.xd_syntax.specs.CheckFaults.{IsAccepted}
+use Rattle.xd_syntax.specs.Kept.{ProgramTable, program_tree}
+use Rattle.xd_command.specs.Run.{EndsAtLines}
+use Rattle.xd_command.specs.Running.{IsInputTest}
+use Rattle.xd_command.specs.Sample.{AnswersSample}
+use Rattle.xd_command.proofs.Steps.{ends-returned}
+use Rattle.xd_command.proofs.Telephones.{no_line, some_input}
+use Rattle.xd_command.proofs.command.sample.sample_program.Goals as goal
+
+pub returns-in_err-test : goal.returns-in_err-test
+returns-in_err-test c =
+    let P = program_tree c.args.sound in
+    let answers = AnswersSample c.args.persons in
+    let accepted : Option (Automaton × State) × ProgramTable → Type 0 = λ made. (program_tree made.1 ≡ P) × IsAccepted P × IsInputTest P made.0 in
+    ends-returned (EndsAtLines P) answers accepted answers c.in_err-test.field-0.0 c.from_residual.result c.from_residual.ensures.1
+    (λ o h. absurd (no_line c.nothing_is_reported.ensures P c.requires.program o h)) c.in_err-test.ensures
+
+pub unreachable-requires : goal.unreachable-requires
+unreachable-requires c =
+    let P = program_tree c.args.sound in
+    let h = c.in_ok-test.ensures in
+    some_input P c.requires.program (subst (IsInputTest P) c.in-None.is h.2)
