@@ -11,9 +11,8 @@ use Rattle.xd_syntax.specs.Adopt.{row_at}
 use Rattle.xd_syntax.specs.Types.{type_numbers}
 use Rattle.xd_syntax.specs.declared.types.TypeId.{TypeId}
 use Rattle.xd_syntax.proofs.Trees.{tree_is, tree_kept, follows_at, parts_at}
-use Rattle.xd_proof_check.specs.Lists.{HasNumber, KeepsCells, StandOnce}
+use Rattle.xd_proof_check.specs.Lists.{HasNumber, KeepsLists, StandOnce}
 use Rattle.xd_proof_check.specs.Numbers.{AreNumbers, number_at, code_names, code_except, form_code}
-use Rattle.xd_proof_check.specs.declared.lists.Cell.{Cell}
 use Rattle.xd_proof_check.proofs.ListLemmas.{one_list, one_number, number_kept}
 
 -- ---- a form's code reads the numbers of its parts alone
@@ -275,12 +274,12 @@ module _ (num : ℕ → ℕ) (t : ℕ → Tree) (m n : ℕ) (h : (i j : ℕ) →
 abbrev no_row : Row
 no_row = row_at [] 0
 
-module _ (rows : List Row) (built : AreBuilt false rows) (cells : List Cell) (once : StandOnce cells) (num : ℕ → ℕ)
-    (codes : (j : ℕ) → j < length rows → HasNumber cells (form_code num (row_at rows j).form) (num j)) where
+module _ (rows : List Row) (built : AreBuilt false rows) (lists : List (List ℕ)) (once : StandOnce lists) (num : ℕ → ℕ)
+    (codes : (j : ℕ) → j < length rows → HasNumber lists (form_code num (row_at rows j).form) (num j)) where
   to_tree : (n i j : ℕ) → i < n → i < length rows → j < length rows → num i ≡ num j → tree_at rows i ≡ tree_at rows j
   to_tree zero i j h k l e = absurd (omega arith)
   to_tree (suc n) i j h k l e =
-      let c = one_list cells (form_code num (row_at rows i).form) (form_code num (row_at rows j).form) (num j) (subst (HasNumber cells (form_code num (row_at rows i).form)) e (codes i k)) (codes j l) in
+      let c = one_list lists (form_code num (row_at rows i).form) (form_code num (row_at rows j).form) (num j) (subst (HasNumber lists (form_code num (row_at rows i).form)) e (codes i k)) (codes j l) in
       tree_is false rows i no_row built k
       ∙ coded num (tree_at rows) i j (λ x y p q f. to_tree n x y (omega arith) (omega arith) (omega arith) f) (row_at rows i).form (row_at rows j).form
       (parts_at false rows i no_row built k) (parts_at false rows j no_row built l) c
@@ -295,15 +294,15 @@ module _ (rows : List Row) (built : AreBuilt false rows) (cells : List Cell) (on
       (parts_at false rows i no_row built k) (parts_at false rows j no_row built l)
       (merged rows i F (follows_at false rows i no_row built k)) (merged rows j G (follows_at false rows j no_row built l))
       (sym (tree_is false rows i no_row built k) ∙ e ∙ tree_is false rows j no_row built l) in
-      one_number cells once (form_code num G) (num i) (num j) (subst (λ xs. HasNumber cells xs (num i)) c (codes i k)) (codes j l)
+      one_number lists once (form_code num G) (num i) (num j) (subst (λ xs. HasNumber lists xs (num i)) c (codes i k)) (codes j l)
 
-pub numbers_are : (rows : List Row) → AreBuilt false rows → (cells : List Cell) → StandOnce cells → (numbers : List ℕ) (limit : ℕ) →
+pub numbers_are : (rows : List Row) → AreBuilt false rows → (lists : List (List ℕ)) → StandOnce lists → (numbers : List ℕ) (limit : ℕ) →
     length numbers ≡ length rows → ((i : ℕ) → number_at numbers i < limit) →
-    ((j : ℕ) → j < length rows → HasNumber cells (form_code (number_at numbers) (row_at rows j).form) (number_at numbers j)) → AreNumbers rows numbers limit
-numbers_are rows built cells once numbers limit each below codes = record {
+    ((j : ℕ) → j < length rows → HasNumber lists (form_code (number_at numbers) (row_at rows j).form) (number_at numbers j)) → AreNumbers rows numbers limit
+numbers_are rows built lists once numbers limit each below codes = record {
   each = each;
   below = below;
-  same = λ i j h k. (to_tree rows built cells once (number_at numbers) codes (suc i) i j (omega arith) h k, to_number rows built cells once (number_at numbers) codes (suc i) i j (omega arith) h k);
+  same = λ i j h k. (to_tree rows built lists once (number_at numbers) codes (suc i) i j (omega arith) h k, to_number rows built lists once (number_at numbers) codes (suc i) i j (omega arith) h k);
 }
 
 -- one more node
@@ -324,11 +323,11 @@ cases_below : (j n : ℕ) → j < n + 1 → (j < n) ⊎ (j ≡ n)
 cases_below j n h = elim (cases_lt j n) [ inl l ↦ inl l | inr l ↦ inr (omega arith) ]
 
 -- one more node has its number
-pub codes_more : (rows : List Row) (numbers : List ℕ) (n : ℕ) (k : ℕ) (cells new : List Cell) → length numbers ≡ n → n < length rows →
-    ((j : ℕ) → j < n → HasNumber cells (form_code (number_at numbers) (row_at rows j).form) (number_at numbers j)) → AreBuilt false rows → KeepsCells cells new →
+pub codes_more : (rows : List Row) (numbers : List ℕ) (n : ℕ) (k : ℕ) (lists new : List (List ℕ)) → length numbers ≡ n → n < length rows →
+    ((j : ℕ) → j < n → HasNumber lists (form_code (number_at numbers) (row_at rows j).form) (number_at numbers j)) → AreBuilt false rows → KeepsLists lists new →
     HasNumber new (form_code (number_at numbers) (row_at rows n).form) k →
     (j : ℕ) → j < n + 1 → HasNumber new (form_code (number_at (numbers ++ k ∷ [])) (row_at rows j).form) (number_at (numbers ++ k ∷ []) j)
-codes_more rows numbers n k cells new l h a built keeps c j i = go (cases_below j n i)
+codes_more rows numbers n k lists new l h a built keeps c j i = go (cases_below j n i)
   where
     old : (i : ℕ) → i < n → number_at numbers i ≡ number_at (numbers ++ k ∷ []) i
     old i q = sym (get_or-append numbers (k ∷ []) 0 i (omega arith))
@@ -340,7 +339,7 @@ codes_more rows numbers n k cells new l h a built keeps c j i = go (cases_below 
     go : (j < n) ⊎ (j ≡ n) → HasNumber new (form_code (number_at (numbers ++ k ∷ [])) (row_at rows j).form) (number_at (numbers ++ k ∷ []) j)
     go (inl q) =
         subst (λ m. HasNumber new (form_code (number_at (numbers ++ k ∷ [])) (row_at rows j).form) m) (old j q)
-        (subst (λ xs. HasNumber new xs (number_at numbers j)) (same j i) (number_kept cells new (form_code (number_at numbers) (row_at rows j).form) (number_at numbers j) keeps (a j q)))
+        (subst (λ xs. HasNumber new xs (number_at numbers j)) (same j i) (number_kept lists new (form_code (number_at numbers) (row_at rows j).form) (number_at numbers j) keeps (a j q)))
     go (inr e) =
         subst (λ m. HasNumber new (form_code (number_at (numbers ++ k ∷ [])) (row_at rows m).form) (number_at (numbers ++ k ∷ []) m)) (sym e)
         (subst (λ m. HasNumber new (form_code (number_at (numbers ++ k ∷ [])) (row_at rows n).form) m) (sym (get_or_push numbers k 0 n l))
@@ -352,5 +351,5 @@ within_more [] k old new a h l (suc j) = omega arith
 within_more (n ∷ ns) k old new a h l zero = let b = a 0 in omega arith
 within_more (n ∷ ns) k old new a h l (suc j) = within_more ns k old new (λ i. a (suc i)) h l j
 
-pub cells_grow : (old new : List Cell) → KeepsCells old new → length old ≤ length new
-cells_grow old new k = let e = ap length k.grown in omega (arith, length-append old k.more)
+pub lists_grow : (old new : List (List ℕ)) → KeepsLists old new → length old ≤ length new
+lists_grow old new k = let e = ap length k.grown in omega (arith, length-append old k.more)

@@ -1,20 +1,23 @@
--- Interned lists: each list that is not empty is a first and the number of the list behind it.
-use Rattle.std.specs.Prelude.{◌≡◌, ℕ, ◌+◌, List, [], ◌∷◌, ◌++◌, Some}
+-- Lists by their numbers.
+use Rattle.std.specs.Prelude.{◌≡◌, ℕ, List, [], ◌∷◌, ◌++◌, Some, Vec}
 use Rattle.std.specs.List.{slice_get}
 use Rattle.xd_syntax.specs.Ways.{Among}
-use Rattle.xd_proof_check.specs.declared.lists.Cell.{Cell}
+
+-- the lists that these vectors hold
+abbrev pub lists_of : {A : Type 0} → List (Vec ℕ A) → List (List ℕ)
+lists_of [] = []
+lists_of (v ∷ vs) = v.items ∷ lists_of vs
 
 -- none stands twice
-abbrev pub StandOnce : List Cell → Type 0
+abbrev pub StandOnce : List (List ℕ) → Type 0
 StandOnce [] = Unit {0}
-StandOnce (c ∷ cs) = (Among c cs → ⊥) × StandOnce cs
+StandOnce (l ∷ ls) = (Among l ls → ⊥) × StandOnce ls
 
--- old cells stand where they stood
-pub record KeepsCells (old new : List Cell) : Type 0 where
-  pub more : List Cell
+-- old lists stand where they stood
+pub record KeepsLists (old new : List (List ℕ)) : Type 0 where
+  pub more : List (List ℕ)
   pub grown : new ≡ old ++ more
 
--- the list has this number: 0, or that of the cell of its first and the number of the list behind it
-abbrev pub HasNumber : List Cell → List ℕ → ℕ → Type 0
-HasNumber cells [] n = n ≡ 0
-HasNumber cells (x ∷ xs) n = (k : ℕ) × (m : ℕ) × (n ≡ k + 1) × (slice_get cells k ≡ Some (record { first = x; behind = m })) × HasNumber cells xs m
+-- the list has this number: it stands at this position
+abbrev pub HasNumber : List (List ℕ) → List ℕ → ℕ → Type 0
+HasNumber lists xs n = slice_get lists n ≡ Some xs

@@ -1,79 +1,57 @@
 //! Lists of numbers, each by a number of its own.
 
-ghost use Rattle.std.specs.Prelude.{◌≡◌, ◌+◌, ◌^◌, ◌<◌, ◌≤◌, ℕ, Some, [], length, IfOk};
-ghost use Rattle.std.specs.List.{slice_get};
-ghost use Rattle.xd_proof_check.specs.Lists.{HasNumber, KeepsCells, StandOnce};
+ghost use Rattle.std.specs.Prelude.{◌≡◌, ◌^◌, ◌<◌, ◌≤◌, [], length, IfOk};
+ghost use Rattle.xd_proof_check.specs.Lists.{HasNumber, KeepsLists, StandOnce};
 
 use indexmap::IndexSet;
 use std::alloc::Global;
 use std::marker::Model;
 use xd_doc::NoMemory;
 
-/// The first of a list, and the number of the list behind it.
-#[derive(Clone, Copy, Debug, PartialEq, Eq, Hash)]
-pub(crate) struct Cell {
-    pub first: usize,
-    pub behind: usize,
-}
-
-/// Lists by their numbers: 0 is the empty one, and each other one a first before another list.
+/// Lists by their numbers, which count them in the order in which they were met first.
 #[derive(Drop)]
 pub(crate) struct Lists {
-    cells: IndexSet<Cell>,
+    lists: IndexSet<Vec<usize>>,
 }
 
 impl Model for Lists {
-    ghost use Rattle.std.specs.Prelude.{List};
-    ghost use Rattle.xd_proof_check.specs.declared.lists.Cell.{Cell};
-    ghost use Rattle.xd_proof_check.specs.Lists.{StandOnce};
+    ghost use Rattle.std.specs.Prelude.{List, ℕ};
+    ghost use Rattle.xd_proof_check.specs.Lists.{StandOnce, lists_of};
 
-    ghost Value = { List Cell };
+    ghost Value = { List (List ℕ) };
 
-    ghost view = { λ l. l.cells.keys };
+    ghost view = { λ l. lists_of l.lists.keys };
 
-    ghost invariant = { λ l. StandOnce l.cells.keys };
+    ghost invariant = { λ l. StandOnce (lists_of l.lists.keys) };
 }
 
 impl Lists {
-    /// The empty list alone.
+    /// No list.
     pub(crate) fn new(alloc: Global) -> Self
         ensures { result ≡ [] }
     {
         Self {
-            cells: IndexSet::new(alloc),
+            lists: IndexSet::new(alloc),
         }
     }
 
-    /// The number of lists but the empty one.
+    /// How many there are.
     pub(crate) fn len(&self) -> usize
         ensures count { result ≡ length self.now }
         ensures small { result < 2 ^ 63 }
         ensures once { StandOnce self.now }
     {
-        self.cells.len()
-    }
-
-    /// The number of the list of a first before another list.
-    fn put(&mut self, first: usize, behind: usize) -> Result<usize, NoMemory>
-        ensures cell { IfOk result (λ number. (k : ℕ) × (number ≡ k + 1) × (slice_get self.new k ≡ Some (record { first = first; behind = behind }))) }
-        ensures within { IfOk result (λ number. number ≤ length self.new) }
-        ensures keeps { KeepsCells self.old self.new }
-    {
-        let (at, _) = self.cells.insert_full(Cell { first, behind })?;
-        let _count = self.cells.len();
-        Ok(at + 1)
+        self.lists.len()
     }
 
     /// The number of a list. Equal lists get one number. Takes time linear in the list.
-    pub(crate) fn number(&mut self, list: &[usize]) -> Result<usize, NoMemory>
-        ensures number { IfOk result (HasNumber self.new list.now) }
-        ensures within { IfOk result (λ number. number ≤ length self.new) }
-        ensures keeps { KeepsCells self.old self.new }
+    pub(crate) fn number(&mut self, list: Vec<usize>) -> Result<usize, NoMemory>
+        ensures number { IfOk result (HasNumber self.new list.items) }
+        ensures within { IfOk result (λ number. number < length self.new) }
+        ensures keeps { KeepsLists self.old self.new }
     {
-        let mut number = 0;
-        for at in (0..list.len()).rev() {
-            number = self.put(list[at], number)?;
-        }
-        Ok(number)
+        let (at, _) = self.lists.insert_full(list)?;
+        let _count = self.lists.len();
+        Ok(at)
     }
 }

@@ -28,7 +28,7 @@ pub(crate) fn number_types(alloc: Global, types: &Types) -> Result<Numbers, NoMe
     let mut numbers = Vec::new(alloc);
     for at in 0..types.len() {
         let code = code_of(alloc, types.node(TypeId::of(at)).form(), &numbers)?;
-        numbers.push(lists.number(&code)?)?;
+        numbers.push(lists.number(code)?)?;
     }
     let limit = lists.len() + 1;
     Ok(Numbers { numbers, limit })

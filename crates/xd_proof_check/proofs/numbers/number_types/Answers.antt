@@ -5,7 +5,7 @@ use Rattle.xd_syntax.specs.Adopt.{row_at}
 use Rattle.xd_syntax.specs.Types.{form_of}
 use Rattle.xd_proof_check.specs.Lists.{HasNumber}
 use Rattle.xd_proof_check.specs.Numbers.{form_code, number_at}
-use Rattle.xd_proof_check.proofs.CodeLemmas.{cells_grow, codes_more, numbers_are, within_more}
+use Rattle.xd_proof_check.proofs.CodeLemmas.{codes_more, lists_grow, numbers_are, within_more}
 use Rattle.xd_proof_check.proofs.numbers.number_types.Goals as goal
 
 -- the row that was read is that of the node
@@ -22,16 +22,15 @@ loop-at-preserved c =
     let e : c.push.new.self.items ≡ old ++ k ∷ [] = c.in_ok-push.ensures.items in
     let t : n < length rows = omega (arith, c.loop-at-test.true, c.len-at-end.ensures) in
     let r = ap (λ (r : Row). r.form) (read rows c.of.result.at n c.node.result.now (ap (λ i. i.at) c.of.ensures) t c.node.ensures.row) in
-    let code : c.deref-in-loop-at.result.now ≡ form_code (number_at old) (row_at rows n).form =
-    c.deref-in-loop-at.ensures.value
-    ∙ c.in_ok-code.ensures
+    let code : c.in_ok-code.code.items ≡ form_code (number_at old) (row_at rows n).form =
+    c.in_ok-code.ensures
     ∙ ap (λ (xs : List ℕ). form_code (number_at xs) (form_of c.form.result.now)) c.deref.ensures.value
     ∙ ap (λ (F : Form). form_code (number_at old) F) (c.form.ensures ∙ r) in
     let number = subst (λ xs. HasNumber c.number.new.self xs k) code c.in_ok-number.ensures.number in
-    let g = cells_grow c.loop-at.lists c.number.new.self c.number.ensures.keeps in
+    let g = lists_grow c.loop-at.lists c.number.new.self c.number.ensures.keeps in
     record {
       each = ap length e ∙ length-append old (k ∷ []) ∙ ap (λ m. m + 1) v.each;
-      within = λ j. subst (λ ns. number_at ns j ≤ length c.number.new.self) (sym e) (within_more old k (length c.loop-at.lists) (length c.number.new.self) v.within g c.in_ok-number.ensures.within j);
+      within = λ j. subst (λ ns. number_at ns j ≤ length c.number.new.self) (sym e) (within_more old k (length c.loop-at.lists) (length c.number.new.self) v.within g (omega (arith, c.in_ok-number.ensures.within)) j);
       codes = λ j h.
           subst (λ ns. HasNumber c.number.new.self (form_code (number_at ns) (row_at rows j).form) (number_at ns j)) (sym e)
           (codes_more rows old n k c.loop-at.lists c.number.new.self v.each t v.codes c.see_table.ensures.built c.number.ensures.keeps number j h);

@@ -1,26 +1,22 @@
-use Rattle.std.proofs.Common.{◌-◌, ◌<◌, ◌≡◌, ℕ, suc, arith, List, ◌∷◌, drop, get_or, length, ap, sym, subst, ◌∙◌}
-use Rattle.std.proofs.Math.Seq.{drop-cons}
-use Rattle.xd_proof_check.specs.Lists.{HasNumber}
-use Rattle.xd_proof_check.proofs.ListLemmas.{kept_then, number_put}
+use Rattle.std.proofs.Common.{◌≡◌, ◌<◌, Some, arith, length, subst, sym, ap, ◌∙◌}
+use Rattle.xd_proof_check.specs.Lists.{KeepsLists, lists_of}
+use Rattle.xd_proof_check.proofs.ListLemmas.{get_items, has_inserted, length_items, same_items}
 use Rattle.xd_proof_check.proofs.lists.Lists.number.Goals as goal
 
-behind : (xs : List ℕ) (n : ℕ) → 0 < n → n - 1 < length xs → drop (n - 1) xs ≡ get_or xs (n - 1) 0 ∷ drop n xs
-behind xs n s h =
-    let e : suc (n - 1) ≡ n = omega arith in
-    drop-cons xs (n - 1) 0 h ∙ ap (λ k. get_or xs (n - 1) 0 ∷ drop k xs) e
+pub returns-clause-number : goal.returns-clause-number
+returns-clause-number c =
+    let s = c.in_ok-at.ensures.stored in
+    get_items c.insert_full.new.self.keys c.in_ok-at.at s.0 s.1 ∙ ap Some (same_items c.args.list.items s.0.items s.2)
 
-pub loop-at-preserved : goal.loop-at-preserved
-loop-at-preserved c =
-    let n = c.loop-at.at in
-    let list = c.args.list.now in
-    let t = c.loop-at-test.true in
-    let u = c.loop-at.auto.at in
-    let p = c.in_ok-number.ensures.cell in
-    let e = behind list n (omega arith) (omega arith) in
-    record {
-      number =
-          subst (λ xs. HasNumber c.put.new.self xs c.in_ok-number.number) (sym e)
-          (number_put c.loop-at.self c.put.new.self (get_or list (n - 1) 0) p.0 c.loop-at.number c.in_ok-number.number (drop n list) c.put.ensures.keeps c.loop-at.invariant.number p.1 p.2);
-      within = c.in_ok-number.ensures.within;
-      keeps = kept_then c.args.self.now c.loop-at.self c.put.new.self c.loop-at.invariant.keeps c.put.ensures.keeps;
-    }
+pub returns-clause-within : goal.returns-clause-within
+returns-clause-within c =
+    subst (λ n. c.in_ok-at.at < n) (sym (length_items c.insert_full.new.self.keys)) c.in_ok-at.ensures.within
+
+pub returns-clause-keeps : goal.returns-clause-keeps
+returns-clause-keeps c =
+    let r = has_inserted c.args.list c.self.inside.lists.keys c.insert_full.new.self.keys c.in_ok-at.ensures.keys in
+    subst (λ ls. KeepsLists ls (lists_of c.insert_full.new.self.keys)) c.self.view_is r.0
+
+pub invariant_of-self-2 : goal.invariant_of-self-2
+invariant_of-self-2 c =
+    (has_inserted c.args.list c.self.inside.lists.keys c.insert_full.new.self.keys c.in_ok-at.ensures.keys).1 c.self.invariant
