@@ -39,6 +39,8 @@ pub enum Directive<'a> {
 pub enum Variation<'a> {
     /// The text of this name is cut behind each of its bytes but the last.
     Prefix(&'a str),
+    /// Each number of the text of this name is one up, then one down.
+    Number(&'a str),
     /// Each call of the shelf fails.
     Fetch,
     /// Each call of the sink fails.
@@ -91,6 +93,15 @@ fn sink(alloc: Global, line: &str) -> Result<Directive<'_>, CaseError> {
     }
 }
 
+/// A variation of a text: `prefix of NAME` or `number of NAME`.
+fn text_variation(line: &str) -> Result<Variation<'_>, CaseError> {
+    if let Some(name) = line.strip_prefix("prefix of ") {
+        return Ok(Variation::Prefix(name));
+    }
+    let name = line.strip_prefix("number of ").ok_or(CaseError::Directive)?;
+    Ok(Variation::Number(name))
+}
+
 /// A variation, ` $ `, and the words of its runs.
 fn varied(line: &str) -> Result<(Variation<'_>, &str), CaseError> {
     let (variation, words) = line.split_once(" $ ").ok_or(CaseError::Directive)?;
@@ -98,11 +109,7 @@ fn varied(line: &str) -> Result<(Variation<'_>, &str), CaseError> {
         "fetch" => Variation::Fetch,
         "put" => Variation::Put,
         "room" => Variation::Room,
-        other => Variation::Prefix(
-            other
-                .strip_prefix("prefix of ")
-                .ok_or(CaseError::Directive)?,
-        ),
+        other => text_variation(other)?,
     };
     Ok((variation, words))
 }

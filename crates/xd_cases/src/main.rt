@@ -5,6 +5,7 @@
 mod case;
 mod directive;
 mod error;
+mod numbers;
 mod report;
 mod run;
 

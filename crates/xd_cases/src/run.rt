@@ -3,6 +3,7 @@
 use crate::case::Case;
 use crate::directive::Variation;
 use crate::error::CaseError;
+use crate::numbers::{count_numbers, with_changed_number};
 use std::alloc::Global;
 use xd_base::{MemoryShelf, MemorySink};
 use xd_command::xduce;
@@ -43,6 +44,7 @@ pub fn run(
 
 /// The shelf and the sink of the run with this number, counted from 0.
 fn varied(
+    alloc: Global,
     case: &Case<'_>,
     variation: Variation<'_>,
     number: usize,
@@ -55,6 +57,11 @@ fn varied(
             let text = case.text(name)?;
             shelf.add(name, &text[..number.min(text.len())])?;
         }
+        Variation::Number(name) => {
+            let text = case.text(name)?;
+            let up = number % 2 == 0;
+            shelf.add(name, &with_changed_number(alloc, text, number / 2, up)?)?;
+        }
         Variation::Fetch => shelf.fail_at(call)?,
         Variation::Put => sink.fail_at(call)?,
         Variation::Room => sink = case.sink(number)?,
@@ -65,7 +72,7 @@ fn varied(
 /// The status that each run but the last one has, or `None` where the text says how many runs there are.
 fn failure(variation: Variation<'_>) -> Option<u8> {
     match variation {
-        Variation::Prefix(_) => None,
+        Variation::Prefix(_) | Variation::Number(_) => None,
         Variation::Fetch => Some(CANNOT_READ),
         Variation::Put | Variation::Room => Some(CANNOT_WRITE),
     }
@@ -82,12 +89,13 @@ pub fn run_each(
 ) -> Result<Vec<Ended>, CaseError> {
     let runs = match variation {
         Variation::Prefix(name) => case.text(name)?.len(),
+        Variation::Number(name) => count_numbers(case.text(name)?).saturating_mul(2),
         _ => usize::MAX,
     };
     let failure = failure(variation);
     let mut ended = Vec::new(alloc);
     for number in 0..runs {
-        let (mut shelf, mut sink) = varied(case, variation, number)?;
+        let (mut shelf, mut sink) = varied(alloc, case, variation, number)?;
         let status = xduce(alloc, words, &mut shelf, &mut sink).code;
         let output = Vec::from_slice(alloc, sink.written())?;
         ended.push(Ended { status, output })?;
