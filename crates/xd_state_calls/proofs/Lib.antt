@@ -1,1 +1,2 @@
+mod ClausePatterns
 mod StatesOfTypes

@@ -3,6 +3,7 @@
 
 mod call;
 mod cases;
+mod clauses;
 mod error;
 mod programs;
 mod states;
@@ -29,6 +30,11 @@ fn answer(call: &Call<'_>, out: &mut Vec<u8>) -> Result<(), CallError> {
         "minus" => states::show_minus(call, out),
         "pair_up" => states::show_pairs(call, out),
         "shares" => states::show_shared(call, out),
+        "uncovered" => clauses::show_uncovered(call, out),
+        "live" => clauses::show_live(call, out),
+        "case_types" => clauses::show_case_types(call, out),
+        "bound" => clauses::show_bound(call, out),
+        "first_way" => clauses::show_first_way(call, out),
         "read_case" => cases::show_case(call, out),
         _ => Err(CallError::Call),
     }

@@ -58,7 +58,11 @@ pub fn state_of(call: &Call<'_>, number: usize) -> Result<(Auto, State), CallErr
 }
 
 /// A state for this type.
-fn state_at(alloc: Global, sound: &mut SoundProgram, id: TypeId) -> Result<(Auto, State), CallError>
+pub fn state_at(
+    alloc: Global,
+    sound: &mut SoundProgram,
+    id: TypeId,
+) -> Result<(Auto, State), CallError>
     requires { BelongsTo sound.old.types id }
     ensures { IfOk result (λ made. IsState made.0 made.1) }
 {

@@ -30,7 +30,7 @@ pub fn show_decided(call: &Call<'_>, out: &mut Vec<u8>) -> Result<(), CallError>
 }
 
 /// Both verdicts, and how many goals the table has then.
-fn show_both_ways(
+pub fn show_both_ways(
     alloc: Global,
     auto: &Auto,
     one: State,
