@@ -1,5 +1,5 @@
 -- The patterns of clauses in the body of a program's first function are linear.
-use Rattle.std.proofs.Common.{◌≡◌, ℕ, ◌<◌, inl, inr, List, [], ◌∷◌, map, length, refl, ap, sym, subst, Option, Some, None, Vec}
+use Rattle.std.proofs.Common.{◌≡◌, ℕ, ◌<◌, inl, inr, List, [], ◌∷◌, map, length, refl, subst, Option, Some, None, Vec}
 use Rattle.std.specs.List.{All, AllByRecursion, slice_get}
 use Rattle.std.specs.Option.{IfSome}
 use Rattle.std.specs.Prelude.{Result, Ok, Err, IfOk}

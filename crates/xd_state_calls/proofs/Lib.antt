@@ -1,2 +1,3 @@
 mod ClausePatterns
 mod StatesOfTypes
+mod Tracking

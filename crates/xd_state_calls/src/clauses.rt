@@ -37,7 +37,7 @@ fn patterns_of(alloc: Global, clauses: &[Clause]) -> Result<Vec<PatternId>, Call
 }
 
 /// The patterns of the clauses of the match that is the body of the program's first function.
-fn clause_patterns(alloc: Global, sound: &SoundProgram) -> Result<Vec<PatternId>, CallError>
+pub fn clause_patterns(alloc: Global, sound: &SoundProgram) -> Result<Vec<PatternId>, CallError>
     ensures { IfOk result (λ patterns. All (IsLinearPattern sound.now.patterns) patterns.items) }
 {
     programs_are_linear();
@@ -66,7 +66,10 @@ pub fn show_uncovered(call: &Call<'_>, out: &mut Vec<u8>) -> Result<(), CallErro
 }
 
 /// The pattern of the clause of this number, from 1, and those of the clauses before it.
-fn at_clause(patterns: &[PatternId], number: usize) -> Result<(&[PatternId], PatternId), CallError>
+pub fn at_clause(
+    patterns: &[PatternId],
+    number: usize,
+) -> Result<(&[PatternId], PatternId), CallError>
     ensures earlier { IfOk result (λ found. (rows : List Row) → All (IsLinearPattern rows) patterns.now → All (IsLinearPattern rows) found.0.now) }
     ensures pattern { IfOk result (λ found. (rows : List Row) → All (IsLinearPattern rows) patterns.now → IsLinearPattern rows found.1) }
 {
@@ -103,7 +106,7 @@ fn bindings_of(call: &Call<'_>) -> Result<Vec<Binding>, CallError>
 }
 
 /// What the variable of this name may be.
-fn binding_of(bindings: Vec<Binding>, name: &str) -> Result<(Auto, State), CallError>
+pub fn binding_of(bindings: Vec<Binding>, name: &str) -> Result<(Auto, State), CallError>
     requires { All (λ (b : Binding). IsState b.auto b.state) bindings.items }
     ensures { IfOk result (λ made. IsState made.0 made.1) }
 {

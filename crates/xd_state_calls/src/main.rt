@@ -8,6 +8,7 @@ mod error;
 mod programs;
 mod states;
 mod tables;
+mod tracks;
 mod types;
 
 use crate::call::Call;
@@ -35,6 +36,7 @@ fn answer(call: &Call<'_>, out: &mut Vec<u8>) -> Result<(), CallError> {
         "case_types" => clauses::show_case_types(call, out),
         "bound" => clauses::show_bound(call, out),
         "first_way" => clauses::show_first_way(call, out),
+        "project" => tracks::show_projected(call, out),
         "read_case" => cases::show_case(call, out),
         _ => Err(CallError::Call),
     }

@@ -1,19 +1,17 @@
-use Rattle.std.proofs.Common.{◌≡◌, ℕ, ◌<◌, List, [], map, length, Some, ap, sym, subst, ◌∙◌}
+use Rattle.std.proofs.Common.{◌≡◌, ℕ, ◌<◌, List, map, length, Some, ap, sym, subst, ◌∙◌}
 use Rattle.std.specs.List.{All, AllByRecursion, slice_get}
 use Rattle.std.proofs.lemmas.List.Elements.{All-from_recursion}
-use Rattle.xd_syntax.specs.Placed.{PlacedTree, placed_at, unplaced}
+use Rattle.xd_syntax.specs.Placed.{PlacedTree, placed_at}
 use Rattle.xd_syntax.specs.Ways.{Among}
 use Rattle.xd_syntax.specs.Program.{ProgramTree}
-use Rattle.xd_syntax.specs.Expression.{Expression, ExprRow, ExprShape, Matched, PatternsBelong, ShapePatternsBelong, clauses_of, expression_at, match_shape, shape_expression}
+use Rattle.xd_syntax.specs.Expression.{Expression, ExprRow, Matched, PatternsBelong, ShapePatternsBelong, clauses_of, expression_at, match_shape, shape_expression}
 use Rattle.xd_syntax.specs.Exprs.{clause_numbers, shape_of}
 use Rattle.xd_syntax.specs.FunctionRow.{FunctionRow}
 use Rattle.xd_syntax.specs.Kept.{ProgramTable, function_definition, program_tree}
 use Rattle.xd_syntax.specs.declared.exprs.Clause.{Clause}
 use Rattle.xd_syntax.specs.declared.exprs.ExprId.{ExprId}
-use Rattle.xd_syntax.specs.declared.patterns.PatternId.{PatternId}
 use Rattle.xd_syntax.proofs.Members.{append_right, map_mem}
 use Rattle.xd_runs.specs.Clauses.{patterns_in, patterns_in_clauses}
-use Rattle.xd_runs.specs.Linear.{IsLinear}
 use Rattle.xd_clauses.specs.Cases.{IsLinearPattern}
 use Rattle.xd_state_calls.proofs.ClausePatterns.{AreLinear, first_among, if_ok_then, linear_in_clauses}
 use Rattle.xd_state_calls.proofs.clauses.clause_patterns.Goals as goal
