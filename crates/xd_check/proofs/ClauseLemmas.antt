@@ -10,12 +10,13 @@ use Rattle.xd_auto.specs.Automaton.{Automaton, IsState, accepts}
 use Rattle.xd_syntax.specs.Words.{has_word}
 use Rattle.xd_syntax.specs.Tree.{Definitions, occurrences}
 use Rattle.xd_syntax.specs.Placed.{PlacedTree, unplaced, variables, place_of}
-use Rattle.xd_syntax.specs.Bindings.{each_once, variables_of}
+use Rattle.xd_laws.specs.Bindings.{each_once, variables_of}
 use Rattle.xd_syntax.specs.Ways.{Takes}
 use Rattle.xd_syntax.specs.NameFaults.{without}
 use Rattle.xd_syntax.specs.Expression.{Expression, Matched, Clauses, no_clause, clause}
 use Rattle.xd_syntax.specs.Program.{ProgramTree, names_of}
-use Rattle.xd_syntax.specs.May.{Scope, clause_entry, Allows, Arrives, IsLive, May, MayBind, MayClauses, WhereTrue}
+use Rattle.xd_syntax.specs.May.{Scope, clause_entry, Allows, Arrives, IsLive, May, MayBind, WhereTrue}
+use Rattle.xd_laws.specs.Scopes.{MayClauses}
 use Rattle.xd_syntax.specs.CheckFaults.{Line, Comes, IsLiveIn, LineWhere, LinesOf, LinesOfClauses, dead_clause, not_exhaustive}
 use Rattle.xd_laws.proofs.Unfoldings.{same_word_eq}
 use Rattle.xd_laws.proofs.OrderedBindings.{has_once}

@@ -3,11 +3,11 @@ use Rattle.std.proofs.Common.{◌≡◌, ℕ, ◌+◌, ◌<◌, List, [], ◌∷
 use Rattle.std.proofs.lemmas.List.{drop_more}
 use Rattle.xd_base.specs.declared.Place.{Place}
 use Rattle.xd_doc.specs.Document.{Document}
-use Rattle.xd_syntax.specs.CheckFaults.{faults_among, warnings_among}
+use Rattle.xd_syntax.specs.CheckFaults.{faults_among}
 use Rattle.xd_syntax.specs.declared.fault.Fault.{Fault}
 use Rattle.xd_syntax.specs.declared.fault.Warning.{Warning}
 use Rattle.xd_syntax.specs.declared.fault.FaultKind.{FaultKind}
-use Rattle.xd_laws.specs.KeptLines.{AllPaired, IsFaultOf, IsWarningOf}
+use Rattle.xd_laws.specs.KeptLines.{AllPaired, IsFaultOf, IsWarningOf, warnings_among}
 use Rattle.xd_check.specs.declared.lines.Finding.{Finding}
 use Rattle.xd_check.specs.declared.lines.Finding.TheVariants.{NotExhaustive, Argument, Result, DeadClause}
 use Rattle.xd_check.specs.declared.lines.FoundLine.{FoundLine}

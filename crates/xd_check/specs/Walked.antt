@@ -8,7 +8,8 @@ use Rattle.xd_syntax.specs.Placed.{PlacedTree, place_of}
 use Rattle.xd_syntax.specs.Fits.{Split}
 use Rattle.xd_syntax.specs.Expression.{Expression, Clauses}
 use Rattle.xd_syntax.specs.Program.{ProgramTree, names_of}
-use Rattle.xd_syntax.specs.May.{Scope, May, MayClauses, NoneTakes, clause_entry}
+use Rattle.xd_syntax.specs.May.{Scope, May, NoneTakes, clause_entry}
+use Rattle.xd_laws.specs.Scopes.{MayClauses}
 use Rattle.xd_syntax.specs.CheckFaults.{Line, Both, LineWhere, LinesOf, LinesOfClauses, IsLiveIn, dead_clause, wrong_argument}
 use Rattle.xd_laws.specs.KeptLines.{AllPaired}
 use Rattle.xd_check.specs.FoundLines.{AddsLines}

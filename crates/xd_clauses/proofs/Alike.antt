@@ -13,7 +13,7 @@ use Rattle.xd_auto.specs.Runs.{ends, takes_text, takes_element, from_each, runs,
 use Rattle.xd_auto.proofs.Anys.{IsSomeAnd-parts}
 use Rattle.xd_auto.proofs.Members.{first_in}
 use Rattle.xd_auto.proofs.RunLaw.{runs_are_accepting, runs_law}
-use Rattle.xd_syntax.specs.Bindings.{variables_of}
+use Rattle.xd_laws.specs.Bindings.{variables_of}
 use Rattle.xd_syntax.specs.Tree.{Tree, Definitions, occurrences}
 use Rattle.xd_laws.specs.KeptLines.{AllPaired}
 use Rattle.xd_runs.specs.Runs.{over_text, over_element}

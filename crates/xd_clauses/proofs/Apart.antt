@@ -12,7 +12,7 @@ use Rattle.xd_auto.specs.declared.auto.LabelMove.{LabelMove}
 use Rattle.xd_auto.specs.declared.auto.TextMove.{TextMove}
 use Rattle.xd_auto.specs.Automaton.{Automaton, IsState, StateMoves, accepts, moves_at, no_moves}
 use Rattle.xd_empty.specs.Known.{Knows, document_of}
-use Rattle.xd_syntax.specs.Bindings.{variables_of}
+use Rattle.xd_laws.specs.Bindings.{variables_of}
 use Rattle.xd_syntax.specs.Tree.{Definitions}
 use Rattle.xd_syntax.specs.Placed.{PlacedTree, unplaced}
 use Rattle.xd_syntax.specs.May.{IsLive, MayBind}

@@ -17,7 +17,7 @@ use Rattle.xd_laws.specs.Consistent.{IsConsistent, numbered}
 use Rattle.xd_proof_make.specs.Made.{IsOfTypes, UsesDefined}
 use Rattle.xd_proof_make.specs.Written.{AreTypes}
 use Rattle.xd_proof_text.specs.ProofText.{IsOfKnownNames, ProvesRow, UsesKnownNames}
-use Rattle.xd_syntax.specs.Fits.{Included}
+use Rattle.xd_laws.specs.Included.{Included}
 use Rattle.xd_syntax.specs.Kept.{ProgramTable, program_tree}
 use Rattle.xd_syntax.specs.Program.{ProgramTree, names_of}
 use Rattle.xd_syntax.specs.Tree.{Tree}

@@ -3,11 +3,11 @@ use Rattle.std.proofs.Common.{◌≡◌, ℕ, Bool, true, false, cond, ◌&&◌,
 use Rattle.std.proofs.lemmas.Bool.Decides.{nat_tests}
 use Rattle.xd_doc.specs.Document.{Document}
 use Rattle.xd_syntax.specs.Order.{is_earlier, is_same_place}
-use Rattle.xd_syntax.specs.CheckFaults.{Line, LineKind, not_exhaustive, wrong_argument, wrong_result, dead_clause, rank, line_precedes, is_warning, faults_among, warnings_among}
+use Rattle.xd_syntax.specs.CheckFaults.{Line, LineKind, not_exhaustive, wrong_argument, wrong_result, dead_clause, rank, line_precedes, is_warning, faults_among}
 use Rattle.xd_syntax.specs.declared.fault.Fault.{Fault}
 use Rattle.xd_syntax.specs.declared.fault.Warning.{Warning}
 use Rattle.xd_syntax.proofs.Sorting.{IsLeast, IsUp}
-use Rattle.xd_laws.specs.KeptLines.{AllPaired, IsFaultOf, IsWarningOf}
+use Rattle.xd_laws.specs.KeptLines.{AllPaired, IsFaultOf, IsWarningOf, warnings_among}
 use Rattle.xd_command.specs.Report.{of_fault, of_warning, AreLineTexts, no_line, next_line}
 use Rattle.xd_command.specs.Merging.{IsMerged, no_more, a_fault, a_warning, stands_behind, is_placed_behind}
 

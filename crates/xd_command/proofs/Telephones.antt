@@ -7,7 +7,7 @@ use Rattle.xd_syntax.specs.Program.{ProgramTree, names_of}
 use Rattle.xd_syntax.specs.NameFaults.{name_faults}
 use Rattle.xd_syntax.specs.RecursionFaults.{AreRecursionFaults}
 use Rattle.xd_syntax.specs.CheckFaults.{AreLines, faults_among}
-use Rattle.xd_syntax.specs.Meaning.{Outcome, Done, Spent}
+use Rattle.xd_laws.specs.Meaning.{Outcome, Done, Spent}
 use Rattle.xd_syntax.specs.declared.fault.Fault.{Fault}
 use Rattle.xd_laws.specs.LineSamples.{persons_at}
 use Rattle.xd_telephones.specs.Telephones.{telephone_text, telephone_program}

@@ -8,7 +8,7 @@ use Rattle.xd_syntax.specs.Fits.{Fits}
 use Rattle.xd_syntax.specs.May.{FitsResult}
 use Rattle.xd_syntax.specs.Program.{Parameter, FunctionDefinition, ProgramTree, names_of, function_of}
 use Rattle.xd_syntax.specs.CheckFaults.{Line, AreLines, faults_among, IsAccepted}
-use Rattle.xd_syntax.specs.Meaning.{Done, Spent, meaning}
+use Rattle.xd_laws.specs.Meaning.{Done, Spent, meaning}
 use Rattle.xd_syntax.specs.declared.fault.FaultKind.TheVariants.{NoMain}
 use Rattle.xd_command.specs.Output.{Output, fault_lines, outside_input, fuel_spent, canonical}
 use Rattle.xd_command.specs.Report.{AreLineTexts}

@@ -4,7 +4,8 @@ use Rattle.xd_auto.specs.Automaton.{Automaton}
 use Rattle.xd_auto.specs.declared.auto.State.{State}
 use Rattle.xd_doc.specs.Document.{Document, is_proper}
 use Rattle.xd_syntax.specs.Tree.{Tree}
-use Rattle.xd_syntax.specs.Fits.{Fits, Included}
+use Rattle.xd_syntax.specs.Fits.{Fits}
+use Rattle.xd_laws.specs.Included.{Included}
 use Rattle.xd_syntax.specs.Kept.{ProgramTable, program_tree}
 use Rattle.xd_syntax.specs.Program.{ProgramTree, names_of}
 use Rattle.xd_syntax.specs.Sound.{is_defined, type_named, IsTypeAt}

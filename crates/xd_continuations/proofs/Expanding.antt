@@ -4,7 +4,7 @@ use Rattle.xd_syntax.specs.Tree.{Tree, Empty, Text, Words, Name, Elem, Seq, Alt,
 use Rattle.xd_laws.specs.Guarded.{Guarded}
 use Rattle.xd_laws.specs.Heads.{pieces}
 use Rattle.xd_laws.proofs.HeadsLaw.{empty_right}
-use Rattle.xd_syntax.specs.CanBeEmpty.{can_be_empty}
+use Rattle.xd_laws.specs.CanBeEmpty.{can_be_empty}
 use Rattle.xd_continuations.specs.Continuation.{Move, followed, moves_by, moves_within, moves_along, moves}
 use Rattle.xd_continuations.specs.Expansion.{Task, in_front, options, task, definition_task, own_moves, tasks_left, Gives, all_done, work, tasks_of, task_moves, moves_to_come, work_by, work_of, sum_of_work, work_left}
 use Rattle.xd_continuations.proofs.MoveLemmas.{map_append, map_cond}

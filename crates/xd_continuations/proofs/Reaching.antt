@@ -6,7 +6,7 @@ use Rattle.xd_syntax.specs.Tree.{Tree, Empty, Text, Words, Name, Elem, Seq, Alt,
 use Rattle.xd_doc.specs.Classes.{LabelClass}
 use Rattle.xd_syntax.specs.Ways.{Among}
 use Rattle.xd_laws.specs.Heads.{pieces}
-use Rattle.xd_syntax.specs.CanBeEmpty.{can_be_empty}
+use Rattle.xd_laws.specs.CanBeEmpty.{can_be_empty}
 use Rattle.xd_syntax.proofs.Members.{append_left, append_right, flat_mem, map_mem}
 use Rattle.xd_continuations.specs.Continuation.{Move, followed, moves_by, definition_within, name_within, moves_along, moves}
 use Rattle.xd_continuations.specs.TailUses.{RecursOnlyInTail}

@@ -3,7 +3,7 @@ use Rattle.std.proofs.Common.{◌≡◌, ℕ, Bool, List, [], ◌∷◌, map, Op
 use Rattle.std.specs.List.{AllByRecursion}
 use Rattle.xd_syntax.specs.Tree.{Tree, Empty, Text, Words, Name, Elem, Seq, Alt, Star, Plus, Opt, Val, Definitions, body}
 use Rattle.xd_laws.specs.Heads.{pieces}
-use Rattle.xd_syntax.specs.CanBeEmpty.{can_be_empty}
+use Rattle.xd_laws.specs.CanBeEmpty.{can_be_empty}
 use Rattle.xd_continuations.specs.TailUses.{RecursOnlyInTail}
 use Rattle.xd_continuations.specs.Bounds.{NoneLarger, IsBounded}
 use Rattle.xd_continuations.specs.Expansion.{task, in_front, options, definition_task, tasks_left, tasks_of}

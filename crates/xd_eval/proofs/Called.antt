@@ -10,7 +10,7 @@ use Rattle.xd_syntax.specs.Expression.{shape_at}
 use Rattle.xd_syntax.specs.FunctionRow.{FunctionRow}
 use Rattle.xd_syntax.specs.Program.{function_of}
 use Rattle.xd_syntax.specs.Kept.{ProgramTable, program_tree, function_definition}
-use Rattle.xd_syntax.specs.Meaning.{Stuck, and_then, value_by, body_by}
+use Rattle.xd_laws.specs.Meaning.{Stuck, and_then, value_by, body_by}
 use Rattle.xd_eval.specs.Waiting.{resumed}
 use Rattle.xd_eval.specs.Functions.{row_of}
 use Rattle.xd_eval.specs.Machine.{IsRunnable, environment_in, parts_of, function_named, expression_in, all_waiting, ScopeStands, FramesStand, matcher, caller, outcome, most_steps, Leads, bound_seqs}

@@ -8,7 +8,7 @@ use Rattle.xd_doc.proofs.Lists.{all_append, all_at}
 use Rattle.xd_syntax.specs.Placed.{placed_at, unplaced}
 use Rattle.xd_syntax.specs.Exprs.{clause_numbers}
 use Rattle.xd_syntax.specs.Kept.{ProgramTable}
-use Rattle.xd_syntax.specs.Meaning.{Environment, value_by, chosen_by, or_else}
+use Rattle.xd_laws.specs.Meaning.{Environment, value_by, chosen_by, or_else}
 use Rattle.xd_syntax.specs.declared.exprs.Clause.{Clause}
 use Rattle.xd_eval.specs.Waiting.{steps, clause_steps}
 use Rattle.xd_eval.specs.Machine.{IsOfClause, IsRunnable, environment_in, expression_in, clauses_in, matcher, caller, ScopeStands, ClausesStand, AreBindings, IsBody}

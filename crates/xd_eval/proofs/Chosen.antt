@@ -5,7 +5,7 @@ use Rattle.xd_doc.specs.Stored.{BelongsTo, Keeps, document_at}
 use Rattle.xd_doc.specs.declared.store.Seq.{Seq}
 use Rattle.xd_syntax.specs.Expression.{shape_at}
 use Rattle.xd_syntax.specs.Kept.{ProgramTable, program_tree}
-use Rattle.xd_syntax.specs.Meaning.{and_then, value_by}
+use Rattle.xd_laws.specs.Meaning.{and_then, value_by}
 use Rattle.xd_syntax.specs.declared.exprs.ExprId.{ExprId}
 use Rattle.xd_eval.specs.Waiting.{resumed, all_steps}
 use Rattle.xd_eval.specs.Machine.{environment_in, expression_in, all_waiting, clause_numbers_of, FramesStand, matcher, caller, most_steps, Leads, IsStep, IsChosen}

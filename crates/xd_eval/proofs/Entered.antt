@@ -9,7 +9,7 @@ use Rattle.xd_doc.specs.declared.store.Seq.{Seq}
 use Rattle.xd_doc.proofs.Lists.{all_append}
 use Rattle.xd_syntax.specs.Expression.{Expression, Quoted, Variable, Called, Matched, ExprShape, seq_shape, call_shape, match_shape, joined, arguments_of, place_of_expression, shape_at}
 use Rattle.xd_syntax.specs.Kept.{ProgramTable, program_tree}
-use Rattle.xd_syntax.specs.Meaning.{Outcome, looked_up, done_or_stuck, and_then, value_by}
+use Rattle.xd_laws.specs.Meaning.{Outcome, looked_up, done_or_stuck, and_then, value_by}
 use Rattle.xd_syntax.specs.declared.exprs.ExprId.{ExprId}
 use Rattle.xd_eval.specs.Waiting.{Waiting, in_sequence, in_call, in_match, resumed, steps, argument_steps, waiting_steps, all_steps}
 use Rattle.xd_eval.specs.Machine.{IsRunnable, environment_in, parts_of, function_named, clause_numbers_of, expression_in, clauses_in, before, after, waiting_of, all_waiting, ScopeStands, IsSequence, IsCall, PartsStand, FrameStands, FramesStand, matcher, caller, most_steps, IsStep, found_in, given, IsFound}

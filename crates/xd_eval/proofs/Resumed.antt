@@ -17,7 +17,7 @@ use Rattle.xd_syntax.specs.Ways.{Among}
 use Rattle.xd_syntax.specs.RecursionFaults.{IsSound}
 use Rattle.xd_syntax.proofs.Members.{map_mem}
 use Rattle.xd_runs.proofs.ClausesLaw.{clauses_are_linear}
-use Rattle.xd_syntax.specs.Meaning.{Environment, and_then, value_by, bound}
+use Rattle.xd_laws.specs.Meaning.{Environment, and_then, value_by, bound}
 use Rattle.xd_syntax.specs.Exprs.{expr_numbers}
 use Rattle.xd_syntax.specs.declared.exprs.ExprId.{ExprId}
 use Rattle.xd_syntax.specs.declared.program.Param.{Param}

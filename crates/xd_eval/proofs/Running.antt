@@ -9,15 +9,15 @@ use Rattle.xd_syntax.specs.Words.{main_word}
 use Rattle.xd_syntax.specs.Fits.{Fits}
 use Rattle.xd_syntax.specs.Types.{tree}
 use Rattle.xd_syntax.specs.Placed.{placed_at, unplaced}
-use Rattle.xd_syntax.specs.Ways.{first}
-use Rattle.xd_syntax.specs.Bindings.{first_bindings, bindings_in, variables_of}
+use Rattle.xd_laws.specs.FirstMatch.{first}
+use Rattle.xd_laws.specs.Bindings.{first_bindings, bindings_in, variables_of}
 use Rattle.xd_syntax.specs.FunctionRow.{FunctionRow}
 use Rattle.xd_syntax.specs.Program.{FunctionDefinition, ProgramTree, names_of, function_of}
 use Rattle.xd_syntax.specs.Kept.{ProgramTable, ProgramStands, program_tree, function_definition, parameter}
 use Rattle.xd_syntax.specs.RecursionFaults.{IsSound}
 use Rattle.xd_syntax.specs.Sound.{main_parameter, only_parameter}
 use Rattle.xd_syntax.specs.Proper.{IsProperProgram}
-use Rattle.xd_syntax.specs.Meaning.{Done, Stuck, Environment, value_by, body_by, meaning}
+use Rattle.xd_laws.specs.Meaning.{Done, Stuck, Environment, value_by, body_by, meaning}
 use Rattle.xd_syntax.specs.declared.program.Param.{Param}
 use Rattle.xd_syntax.specs.declared.types.TypeId.{TypeId}
 use Rattle.xd_syntax.proofs.PlacedTrees.{unplaced_at}

@@ -4,7 +4,7 @@ use Rattle.xd_base.specs.declared.Place.{Place}
 use Rattle.xd_doc.specs.Document.{Document, empty, element, join}
 use Rattle.xd_doc.proofs.Joins.{join_empty-right}
 use Rattle.xd_syntax.specs.Expression.{Expression, Tagged, Called, Matched, Clauses, joined, arguments_of, place_of_expression}
-use Rattle.xd_syntax.specs.Meaning.{Done, Environment, Matcher, and_then, value_by, values_by, chosen_by}
+use Rattle.xd_laws.specs.Meaning.{Done, Environment, Matcher, and_then, value_by, values_by, chosen_by}
 use Rattle.xd_eval.specs.Waiting.{Waiting, in_element, in_sequence, in_call, in_match, Caller, joined_all, resumed}
 use Rattle.xd_eval.proofs.Outcomes.{then_then, then_same, then_done}
 

@@ -13,7 +13,7 @@ use Rattle.xd_runs.specs.Clauses.{patterns_in}
 use Rattle.xd_syntax.specs.Expression.{Expression, Clauses, ExprShape, elem_shape, seq_shape, call_shape, match_shape, shape_expression, expression_at, shape_at, ExprCanFollow, ShapePatternsBelong, clauses_of}
 use Rattle.xd_syntax.specs.Program.{FunctionDefinition}
 use Rattle.xd_syntax.specs.Kept.{ProgramTable, program_tree}
-use Rattle.xd_syntax.specs.Meaning.{Outcome, Done, Spent, Stuck, and_then, value_by, chosen_by, call_within}
+use Rattle.xd_laws.specs.Meaning.{Outcome, Done, Spent, Stuck, and_then, value_by, chosen_by, call_within}
 use Rattle.xd_syntax.specs.declared.exprs.Clause.{Clause}
 use Rattle.xd_syntax.specs.declared.exprs.ExprId.{ExprId}
 use Rattle.xd_syntax.specs.declared.program.Param.{Param}

@@ -6,7 +6,7 @@ use Rattle.std.proofs.Math.Seq.{get_or-append_seam}
 use Rattle.std.proofs.lemmas.List.{get_or-set_same, get_or-set_other}
 use Rattle.xd_syntax.specs.Tree.{Tree, Definitions, seq_of}
 use Rattle.xd_syntax.specs.Table.{Row}
-use Rattle.xd_syntax.specs.CanBeEmpty.{can_be_empty}
+use Rattle.xd_laws.specs.CanBeEmpty.{can_be_empty}
 use Rattle.xd_syntax.specs.declared.types.TypeDef.{TypeDef}
 use Rattle.xd_auto.specs.Automaton.{Automaton, StateMoves, no_moves, state_number, with_label_move, with_text_move}
 use Rattle.xd_auto.specs.declared.auto.State.{State}

@@ -1,7 +1,7 @@
 -- Heads that were found, as types of a program that grows.
 use Rattle.std.proofs.Common.{◌≡◌, ◌≤◌, ◌<◌, ℕ, zero, suc, arith, false, get_or, Option, Some, None, List, [], ◌∷◌, ◌++◌, map, length, refl, ap, sym, subst, ◌∙◌}
 use Rattle.std.specs.List.{AllByRecursion}
-use Rattle.xd_syntax.specs.Tree.{Tree, Empty, Text, Words, Name, Elem, Seq, Alt, Star, Plus, Opt, Val, Definitions, seq_of, all_texts}
+use Rattle.xd_syntax.specs.Tree.{Tree, Empty, Text, Words, Name, Elem, Seq, Alt, Star, Plus, Opt, Val, Definitions, seq_of}
 use Rattle.xd_syntax.specs.TypeText.{depth}
 use Rattle.xd_syntax.specs.Shallow.{IsShallow, nesting_limit}
 use Rattle.xd_syntax.specs.Table.{Row, AreBuilt, KeepsRows, tree_at}
@@ -12,7 +12,7 @@ use Rattle.xd_syntax.specs.declared.types.TypeId.{TypeId}
 use Rattle.xd_doc.specs.Classes.{LabelClass, TextClass}
 use Rattle.xd_syntax.specs.Sound.{IsTypeAt}
 use Rattle.xd_syntax.proofs.AdoptLaws.{type_kept}
-use Rattle.xd_laws.specs.Heads.{HeadKind, element_in, text_in, heads, pieces}
+use Rattle.xd_laws.specs.Heads.{HeadKind, element_in, text_in, heads, pieces, all_texts}
 use Rattle.xd_laws.specs.Heads as laws
 use Rattle.xd_continuations.specs.Continuation.{Move, moves, head_of, IsMerged, IsContinuation}
 use Rattle.xd_continuations.specs.Depths.{IsNoDeeper}

@@ -5,7 +5,7 @@ use Rattle.xd_syntax.specs.Tree.{Tree, Definitions, seq_of}
 use Rattle.xd_syntax.specs.Table.{Row, KeepsRows, tree_at}
 use Rattle.xd_syntax.specs.TypeText.{depth}
 use Rattle.xd_syntax.specs.Shallow.{IsShallow, nesting_limit}
-use Rattle.xd_syntax.specs.CanBeEmpty.{can_be_empty}
+use Rattle.xd_laws.specs.CanBeEmpty.{can_be_empty}
 use Rattle.xd_syntax.specs.Program.{names_of}
 use Rattle.xd_syntax.specs.Kept.{ProgramTable, program_tree}
 use Rattle.xd_continuations.proofs.GrownTables.{tree_stays, more_rows}

@@ -6,7 +6,7 @@ use Rattle.std.specs.Option.{IfSome, IfNone}
 use Rattle.std.proofs.lemmas.Bool.Decides.{nat_tests}
 use Rattle.std.proofs.lemmas.List.{length-map}
 use Rattle.xd_doc.specs.Classes.{LabelClass, TextClass}
-use Rattle.xd_syntax.specs.Tree.{Tree, Definitions, any_type, seq_of, all_texts}
+use Rattle.xd_syntax.specs.Tree.{Tree, Definitions, any_type, seq_of}
 use Rattle.xd_syntax.specs.Types.{form_of}
 use Rattle.xd_syntax.specs.declared.types.TypeId.{TypeId}
 use Rattle.xd_syntax.specs.declared.types.TypeForm.{TypeForm}
@@ -16,8 +16,9 @@ use Rattle.xd_syntax.specs.Placed.{unplaced}
 use Rattle.xd_syntax.specs.Program.{TypeDefinition}
 use Rattle.xd_syntax.specs.Kept.{type_definition}
 use Rattle.xd_syntax.specs.Ways.{Among}
-use Rattle.xd_laws.specs.Heads.{text_in}
-use Rattle.xd_syntax.specs.CanBeEmpty.{can_be_empty, empty_by, empty_name}
+use Rattle.xd_laws.specs.Heads.{text_in, all_texts}
+use Rattle.xd_laws.specs.CanBeEmpty.{can_be_empty, empty_name}
+use Rattle.xd_syntax.specs.Emptiness.{empty_by}
 use Rattle.xd_syntax.specs.declared.types.TypeDef.{TypeDef}
 use Rattle.xd_syntax.proofs.Members.{mem_append, map_mem}
 use Rattle.xd_laws.proofs.Pigeon.{NoRepeat, pigeon}

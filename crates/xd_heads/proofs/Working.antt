@@ -6,7 +6,7 @@ use Rattle.xd_syntax.specs.Tree.{Tree, Empty, Text, Words, Name, Elem, Seq, Alt,
 use Rattle.xd_syntax.specs.Table.{Row, Form, empty_form, text_form, words_form, name_form, elem_form, seq_form, alt_form, star_form, plus_form, opt_form, val_form, form_tree, tree_at, IsSeqPart, IsAltPart, CanFollow, PartsBelow}
 use Rattle.xd_laws.specs.Guarded.{Guarded}
 use Rattle.xd_laws.specs.Heads.{pieces}
-use Rattle.xd_syntax.specs.CanBeEmpty.{can_be_empty}
+use Rattle.xd_laws.specs.CanBeEmpty.{can_be_empty}
 use Rattle.xd_syntax.specs.declared.types.TypeDef.{TypeDef}
 use Rattle.xd_syntax.specs.Types.{form_of}
 use Rattle.xd_syntax.specs.declared.types.TypeId.{TypeId}

@@ -7,7 +7,7 @@ use Rattle.xd_syntax.specs.Kept.{ProgramTable, TypeDefStands, ProgramStands, pro
 use Rattle.xd_syntax.specs.Program.{names_of}
 use Rattle.xd_syntax.specs.RecursionFaults.{IsSound}
 use Rattle.xd_syntax.specs.TypeNames.{meanings}
-use Rattle.xd_syntax.specs.CanBeEmpty.{can_be_empty}
+use Rattle.xd_laws.specs.CanBeEmpty.{can_be_empty}
 use Rattle.xd_syntax.specs.Emptiness.{AreEmptyMarks}
 use Rattle.xd_syntax.specs.declared.types.TypeDef.{TypeDef}
 use Rattle.xd_laws.specs.Guarded.{Guarded}

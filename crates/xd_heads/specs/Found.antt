@@ -1,11 +1,11 @@
 -- The types, continuations and moves that pieces, cells and tasks stand for.
 use Rattle.std.specs.Prelude.{◌≡◌, ℕ, ◌<◌, ◌≤◌, Bool, true, false, cond, List, [], ◌∷◌, ◌++◌, map, reverse, length, get_or, Option, Some, None}
 use Rattle.std.specs.List.{AllByRecursion}
-use Rattle.xd_syntax.specs.Tree.{Tree, Empty, Text, Words, Name, Elem, Seq, Alt, Star, Plus, Opt, Val, Definitions, body, all_texts}
+use Rattle.xd_syntax.specs.Tree.{Tree, Empty, Text, Words, Name, Elem, Seq, Alt, Star, Plus, Opt, Val, Definitions, body}
 use Rattle.xd_syntax.specs.Table.{Row, Form, empty_form, text_form, words_form, name_form, elem_form, seq_form, alt_form, star_form, plus_form, opt_form, val_form, tree_at}
 use Rattle.xd_syntax.specs.TypeNames.{AreNumbered, meanings}
-use Rattle.xd_laws.specs.Heads.{element_in, text_in, pieces}
-use Rattle.xd_syntax.specs.CanBeEmpty.{can_be_empty}
+use Rattle.xd_laws.specs.Heads.{element_in, text_in, pieces, all_texts}
+use Rattle.xd_laws.specs.CanBeEmpty.{can_be_empty}
 use Rattle.xd_syntax.specs.declared.types.TypeDef.{TypeDef}
 use Rattle.xd_continuations.specs.Continuation.{Move, moves}
 use Rattle.xd_continuations.specs.Expansion.{Task, task, definition_task, own_moves, tasks_left}

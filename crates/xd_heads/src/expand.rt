@@ -6,7 +6,7 @@ ghost use Rattle.xd_laws.specs.Guarded.{Guarded};
 ghost use Rattle.xd_syntax.specs.Table.{PartsBelow, form_tree, tree_at};
 ghost use Rattle.xd_syntax.specs.Tree.{Star, body};
 ghost use Rattle.xd_syntax.specs.Types.{form_of, type_numbers};
-ghost use Rattle.xd_syntax.specs.CanBeEmpty.{can_be_empty};
+ghost use Rattle.xd_laws.specs.CanBeEmpty.{can_be_empty};
 ghost use Rattle.xd_continuations.specs.Expansion.{definition_task, task, tasks_of};
 ghost use Rattle.xd_syntax.specs.TypeNames.{meanings};
 ghost use Rattle.xd_heads.specs.Found.{AddsCells, AreBodies, AreDecidingMarks, AreMovesOf, AreOfTypes, Finds, IsTask, IsWorkedOff, PutsSequence, PutsTasks, StayBounded, continuation, form_moves, form_put, form_tasks, is_plus, move_of, piece_tree, waiting_at};

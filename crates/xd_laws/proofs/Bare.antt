@@ -1,6 +1,7 @@
 use Rattle.std.proofs.Common.{◌≡◌, refl, subst}
 use Rattle.xd_doc.specs.Document.{Document}
-use Rattle.xd_syntax.specs.Tree.{Tree, Empty, Text, Words, Name, Elem, Seq, Alt, Star, Plus, Opt, Val, Definitions, bare}
+use Rattle.xd_syntax.specs.Tree.{Tree, Empty, Text, Words, Name, Elem, Seq, Alt, Star, Plus, Opt, Val, Definitions}
+use Rattle.xd_laws.specs.Laws.{bare}
 use Rattle.xd_syntax.specs.Fits.{Fits}
 use Rattle.xd_syntax.specs.Fits as F
 

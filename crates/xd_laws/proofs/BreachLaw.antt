@@ -4,7 +4,7 @@ use Rattle.std.specs.List.{AllByRecursion}
 use Rattle.std.proofs.lemmas.Bool.{eq-eqb, eqb-true}
 use Rattle.std.proofs.lemmas.Slice.Eq.{bytes_eq-Decides}
 use Rattle.xd_syntax.specs.Tree.{Tree, Definitions}
-use Rattle.xd_syntax.specs.CanBeEmpty.{can_be_empty}
+use Rattle.xd_laws.specs.CanBeEmpty.{can_be_empty}
 use Rattle.xd_laws.specs.Heads.{Head, heads}
 use Rattle.xd_syntax.specs.Ways.{Among}
 use Rattle.xd_laws.specs.Consistent.{Atom, this_label, other_label, this_text, other_text, ChoiceTree, settles_content, settles_rest, split_on, Case, Goal, HeadAtom, head_atom, atoms_of, atoms_from, Named, named, wanted, numbered, right_heads, matches_atom, matching, Sides, no_sides, on_content, on_rest, HasPart, LeafRule, SplitRule, LabelTree, TextTree, TreeRule, CaseRule, EmptyRule, KeepsRules}

@@ -3,7 +3,8 @@ use Rattle.std.proofs.Common.{◌≡◌, ℕ, zero, suc, true, ◌⊎◌, List, 
 use Rattle.std.specs.List.{AllByRecursion}
 use Rattle.xd_doc.specs.Document.{Document}
 use Rattle.xd_syntax.specs.Tree.{Tree, Definitions}
-use Rattle.xd_syntax.specs.Fits.{Fits, FitsSome}
+use Rattle.xd_syntax.specs.Fits.{Fits}
+use Rattle.xd_laws.specs.Included.{FitsSome}
 use Rattle.xd_laws.specs.Heads.{Head}
 use Rattle.xd_syntax.specs.Ways.{Among}
 use Rattle.xd_laws.specs.Consistent.{Atom, Goal, ChoiceTree, settles_content, settles_rest, split_on, Sides, on_content, on_rest, numbered, matches_atom, HasPart, LeafRule, LabelTree}

@@ -3,8 +3,9 @@ use Rattle.std.proofs.Common.{◌≡◌, Bool, true, false, cond, ◌⊎◌, inl
 use Rattle.xd_doc.specs.Document.{Document}
 use Rattle.xd_syntax.specs.Tree.{Tree, Definitions}
 use Rattle.xd_syntax.specs.Fits.{Fits}
-use Rattle.xd_syntax.specs.Ways.{Way, Among, ways, is_whole, first_whole, first, IsWholeWay, Takes}
-use Rattle.xd_syntax.specs.Meaning.{Environment}
+use Rattle.xd_syntax.specs.Ways.{Way, Among, ways, is_whole, IsWholeWay, Takes}
+use Rattle.xd_laws.specs.FirstMatch.{first_whole, first}
+use Rattle.xd_laws.specs.Meaning.{Environment}
 use Rattle.xd_laws.specs.Guarded.{Guarded}
 use Rattle.xd_laws.proofs.Unfoldings.{takes_fits, fits_takes}
 

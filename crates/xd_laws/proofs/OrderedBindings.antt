@@ -8,10 +8,11 @@ use Rattle.xd_doc.specs.Document.{Document}
 use Rattle.xd_syntax.specs.Words.{has_word}
 use Rattle.xd_syntax.specs.Tree.{occurrences}
 use Rattle.xd_syntax.specs.Placed.{unplaced}
-use Rattle.xd_syntax.specs.Ways.{first, unfoldings, Way}
+use Rattle.xd_syntax.specs.Ways.{unfoldings, Way}
+use Rattle.xd_laws.specs.FirstMatch.{first}
 use Rattle.xd_syntax.specs.NameFaults.{without}
-use Rattle.xd_syntax.specs.Meaning.{Environment, looked_up}
-use Rattle.xd_syntax.specs.Bindings.{each_once, variables_of, bound_to, bindings_in}
+use Rattle.xd_laws.specs.Meaning.{Environment, looked_up}
+use Rattle.xd_laws.specs.Bindings.{each_once, variables_of, bound_to, bindings_in}
 use Rattle.xd_syntax.specs.Program.{names_of}
 use Rattle.xd_laws.specs.Laws.{BindingsAgree, BindingsAreInOrder}
 use Rattle.xd_laws.proofs.Unfoldings.{same_word_eq}

@@ -4,14 +4,15 @@ use Rattle.std.specs.List.{AllByRecursion}
 use Rattle.xd_doc.specs.Document.{Document}
 use Rattle.xd_syntax.specs.Words.{main_word}
 use Rattle.xd_syntax.specs.Placed.{unplaced}
-use Rattle.xd_syntax.specs.Ways.{Among, first}
+use Rattle.xd_syntax.specs.Ways.{Among}
+use Rattle.xd_laws.specs.FirstMatch.{first}
 use Rattle.xd_syntax.specs.Expression.{place_of_expression}
 use Rattle.xd_syntax.specs.Program.{Parameter, FunctionDefinition, ProgramTree, names_of, function_of}
 use Rattle.xd_syntax.specs.Proper.{IsProperFunction, IsProperProgram}
 use Rattle.xd_syntax.specs.RecursionFaults.{IsSound}
 use Rattle.xd_syntax.specs.May.{parameters_scope}
 use Rattle.xd_syntax.specs.CheckFaults.{wrong_result, Misfits, IsAccepted}
-use Rattle.xd_syntax.specs.Meaning.{Outcome, bound, value_by, body_by, call_within}
+use Rattle.xd_laws.specs.Meaning.{Outcome, bound, value_by, body_by, call_within}
 use Rattle.xd_laws.specs.Safety.{Meets, IsValueOf, AreValuesOf, IsAllowed, ValuesAreAllowed, CallsAreSafe, AcceptedProgramsAreSafe}
 use Rattle.xd_laws.proofs.SoundGuarded.{guarded}
 use Rattle.xd_laws.proofs.Deciding.{fits_not_not}

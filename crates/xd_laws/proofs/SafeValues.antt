@@ -4,15 +4,16 @@ use Rattle.xd_base.specs.declared.Place.{Place}
 use Rattle.xd_doc.specs.Document.{Document, empty, element, join, is_proper}
 use Rattle.xd_syntax.specs.Words.{has_word}
 use Rattle.xd_syntax.specs.Placed.{PlacedTree, unplaced, variables}
-use Rattle.xd_syntax.specs.Ways.{first}
+use Rattle.xd_laws.specs.FirstMatch.{first}
 use Rattle.xd_syntax.specs.Expression.{Expression, Nothing, Quoted, Variable, Tagged, Joined, Called, Matched, Arguments, no_argument, argument, Clauses, no_clause, clause, place_of_expression}
 use Rattle.xd_syntax.specs.Program.{Parameter, FunctionDefinition, ProgramTree, names_of, function_of}
 use Rattle.xd_syntax.specs.Proper.{IsProperExpression, AreProperArguments, AreProperClauses, IsProperProgram}
 use Rattle.xd_syntax.specs.NameFaults.{fault_if, known_types, unknown_types, not_linear, pattern_faults, argument_count, call_faults, expression_faults, argument_faults, clause_faults}
 use Rattle.xd_syntax.specs.RecursionFaults.{IsSound}
-use Rattle.xd_syntax.specs.May.{Scope, clause_entry, MayClauses, FitsResult}
+use Rattle.xd_syntax.specs.May.{Scope, clause_entry, FitsResult}
+use Rattle.xd_laws.specs.Scopes.{MayClauses}
 use Rattle.xd_syntax.specs.CheckFaults.{Line, wrong_argument, not_exhaustive, parameters_of, Comes, IsLiveIn, Misfits, LinesOf, LinesOfArguments, LinesOfClauses, faults_among}
-use Rattle.xd_syntax.specs.Meaning.{Outcome, Done, Spent, Stuck, Environment, looked_up, and_then, done_or_stuck, or_else, value_by, values_by, chosen_by}
+use Rattle.xd_laws.specs.Meaning.{Outcome, Done, Spent, Stuck, Environment, looked_up, and_then, done_or_stuck, or_else, value_by, values_by, chosen_by}
 use Rattle.xd_laws.specs.Safety.{Meets, IsValueOf, AreValuesOf, Suits, IsAllowed}
 use Rattle.xd_syntax.specs.declared.fault.FaultKind.{FaultKind}
 use Rattle.xd_laws.proofs.WordLists.{nothing_both}

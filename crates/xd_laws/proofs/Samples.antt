@@ -5,18 +5,18 @@ use Rattle.xd_base.specs.declared.Place.{Place}
 use Rattle.xd_doc.specs.Document.{Document, empty, text, element}
 use Rattle.xd_doc.specs.Classes.{LabelClass}
 use Rattle.xd_syntax.specs.Words.{any_word, main_word}
-use Rattle.xd_syntax.specs.Tree.{Tree, Empty, Text, Words, Name, Elem, Seq, Alt, Star, Plus, Opt, Val, Definitions, environment, all_texts}
+use Rattle.xd_syntax.specs.Tree.{Tree, Empty, Text, Words, Name, Elem, Seq, Alt, Star, Plus, Opt, Val, Definitions, environment}
 use Rattle.xd_syntax.specs.Placed.{PlacedTree, Empty_at, Text_at, Name_at, Elem_at, Seq_at, Alt_at, Star_at, Opt_at, Val_at}
 use Rattle.xd_syntax.specs.Expression.{Expression, Nothing, Variable, Tagged, Joined, Called, Matched, no_argument, argument, no_clause, clause}
 use Rattle.xd_syntax.specs.Program.{TypeDefinition, Parameter, FunctionDefinition, ProgramTree, names_of}
 use Rattle.xd_syntax.specs.Fits as F
 use Rattle.xd_syntax.specs.Fits.{Fits}
-use Rattle.xd_syntax.specs.Ways.{first}
-use Rattle.xd_syntax.specs.Bindings.{first_bindings}
-use Rattle.xd_syntax.specs.CanBeEmpty.{can_be_empty}
-use Rattle.xd_laws.specs.Heads.{Head, element_in, text_in, heads}
+use Rattle.xd_laws.specs.FirstMatch.{first}
+use Rattle.xd_laws.specs.Bindings.{first_bindings}
+use Rattle.xd_laws.specs.CanBeEmpty.{can_be_empty}
+use Rattle.xd_laws.specs.Heads.{Head, element_in, text_in, heads, all_texts}
 use Rattle.xd_syntax.specs.TypeText.{type_text, depth}
-use Rattle.xd_syntax.specs.Meaning.{Done, Spent, Stuck, meaning}
+use Rattle.xd_laws.specs.Meaning.{Done, Spent, Stuck, meaning}
 use Rattle.xd_syntax.specs.NameFaults.{fault_at, name_faults, not_linear}
 use Rattle.xd_syntax.specs.RecursionFaults.{arrived, kept, left_out, all_seen, AreRecursionFaults, IsSound}
 use Rattle.xd_syntax.specs.CheckFaults.{IsAccepted}

@@ -15,7 +15,7 @@ use Rattle.xd_syntax.specs.Proper.{IsProperTree, IsProperDefinition, IsProperPro
 use Rattle.xd_syntax.specs.NameFaults.{not_linear}
 use Rattle.xd_syntax.specs.May.{Scope, clause_entry, Allows, WhereTrue, parameters_scope}
 use Rattle.xd_syntax.specs.CheckFaults.{Comes}
-use Rattle.xd_syntax.specs.Meaning.{Environment, looked_up, bound}
+use Rattle.xd_laws.specs.Meaning.{Environment, looked_up, bound}
 use Rattle.xd_laws.specs.Safety.{Suits, AreValuesOf}
 use Rattle.xd_laws.proofs.WordLists.{has_word_split}
 use Rattle.xd_laws.proofs.WayShapes.{IsWay, way_shape}

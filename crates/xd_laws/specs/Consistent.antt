@@ -8,9 +8,9 @@ use Rattle.std.specs.declared.cmp.Ordering.TheVariants.{Less, Equal, Greater}
 use Rattle.xd_doc.specs.Classes.{class_has}
 use Rattle.xd_syntax.specs.Tree.{Tree, Definitions}
 use Rattle.xd_syntax.specs.Ways.{Among}
-use Rattle.xd_syntax.specs.CanBeEmpty.{can_be_empty}
+use Rattle.xd_laws.specs.CanBeEmpty.{can_be_empty}
 use Rattle.xd_laws.specs.Heads.{Head, HeadKind, element_in, text_in, heads}
-use Rattle.xd_syntax.specs.Fits.{Included}
+use Rattle.xd_laws.specs.Included.{Included}
 
 -- a label or a text; or the labels, or the texts, that the goal does not name
 pub data Atom : Type 0 where

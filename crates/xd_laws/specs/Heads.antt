@@ -3,9 +3,9 @@
 use Rattle.std.specs.Prelude.{◌≡◌, ℕ, zero, suc, Bool, true, cond, List, [], ◌∷◌, ◌++◌, map, length, Option, Some, None}
 use Rattle.xd_doc.specs.Document.{Document, empty, text, element}
 use Rattle.xd_doc.specs.Classes.{LabelClass, TextClass, class_has}
-use Rattle.xd_syntax.specs.Tree.{Tree, Empty, Text, Words, Name, Elem, Seq, Alt, Star, Plus, Opt, Val, Definitions, body, seq_of, all_texts}
+use Rattle.xd_syntax.specs.Tree.{Tree, Empty, Text, Words, Name, Elem, Seq, Alt, Star, Plus, Opt, Val, Definitions, body, seq_of}
 use Rattle.xd_syntax.specs.Fits.{Fits}
-use Rattle.xd_syntax.specs.CanBeEmpty.{can_be_empty}
+use Rattle.xd_laws.specs.CanBeEmpty.{can_be_empty}
 
 -- none for the empty type, the parts of a sequence, else the type itself
 abbrev pub pieces : Tree → List Tree
@@ -16,6 +16,9 @@ pieces T = T ∷ []
 -- the first type and behind it the second, merged
 abbrev pub followed_by : Tree → Tree → Tree
 followed_by R U = seq_of (pieces R ++ pieces U)
+
+abbrev pub all_texts : TextClass
+all_texts = record { names = []; except = true }
 
 -- an element whose label is in a class, or a text that is in a class
 pub data HeadKind : Type 0 where

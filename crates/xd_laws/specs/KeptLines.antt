@@ -1,9 +1,9 @@
 -- Faults and warnings as the program keeps them, with the document in a store.
-use Rattle.std.specs.Prelude.{◌≡◌, List, [], ◌∷◌, Some}
+use Rattle.std.specs.Prelude.{◌≡◌, cond, List, [], ◌∷◌, Some}
 use Rattle.xd_doc.specs.Document.{Document}
 use Rattle.xd_doc.specs.Stored.{document_at, BelongsTo}
 use Rattle.xd_doc.specs.declared.store.Seq.{Seq}
-use Rattle.xd_syntax.specs.CheckFaults.{LineKind, not_exhaustive, wrong_argument, wrong_result, dead_clause, Line, faults_among, warnings_among}
+use Rattle.xd_syntax.specs.CheckFaults.{LineKind, not_exhaustive, wrong_argument, wrong_result, dead_clause, Line, is_warning, faults_among}
 use Rattle.xd_syntax.specs.declared.fault.Fault.{Fault}
 use Rattle.xd_syntax.specs.declared.fault.Warning.{Warning}
 use Rattle.xd_syntax.specs.declared.fault.FaultKind.{FaultKind}
@@ -34,6 +34,10 @@ AllPaired R (x ∷ xs) (y ∷ ys) = R x y × AllPaired R xs ys
 
 abbrev pub AreFaultsOf : List Document → List Line → List Fault → Type 0
 AreFaultsOf store ls fs = AllPaired (IsFaultOf store) (faults_among ls) fs
+
+abbrev pub warnings_among : List Line → List Line
+warnings_among [] = []
+warnings_among (l ∷ ls) = cond (is_warning l.kind) (l ∷ warnings_among ls) (warnings_among ls)
 
 abbrev pub AreWarningsOf : List Line → List Warning → Type 0
 AreWarningsOf ls ws = AllPaired IsWarningOf (warnings_among ls) ws

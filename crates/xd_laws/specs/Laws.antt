@@ -2,21 +2,33 @@
 use Rattle.std.specs.Prelude.{◌≡◌, ℕ, ◌+◌, ◌≤◌, ◌↔◌, true, false, ◌⊎◌, List, [], map, length, Some}
 use Rattle.std.specs.List.{AllByRecursion}
 use Rattle.xd_doc.specs.Document.{Document, empty, has_item}
-use Rattle.xd_syntax.specs.Tree.{Tree, Definitions, bare}
+use Rattle.xd_syntax.specs.Tree.{Tree, Elem, Seq, Alt, Star, Plus, Opt, Val, Definitions}
 use Rattle.xd_syntax.specs.Fits.{Fits}
 use Rattle.xd_laws.specs.FitsWithin.{FitsWithin}
 use Rattle.xd_syntax.specs.Placed.{PlacedTree, unplaced}
-use Rattle.xd_syntax.specs.Ways.{Among, ways, ways_within, unfoldings, Takes, first}
+use Rattle.xd_syntax.specs.Ways.{Among, ways, ways_within, unfoldings, Takes}
+use Rattle.xd_laws.specs.FirstMatch.{first}
 use Rattle.xd_syntax.specs.NameFaults.{not_linear}
-use Rattle.xd_syntax.specs.Bindings.{variables_of, first_bindings}
+use Rattle.xd_laws.specs.Bindings.{variables_of, first_bindings}
 use Rattle.xd_syntax.specs.Proper.{IsProperProgram}
-use Rattle.xd_syntax.specs.CanBeEmpty.{can_be_empty}
+use Rattle.xd_laws.specs.CanBeEmpty.{can_be_empty}
 use Rattle.xd_laws.specs.Heads.{Head, heads, heads_within, Begins}
 use Rattle.xd_syntax.specs.Program.{ProgramTree, names_of}
 use Rattle.xd_syntax.specs.RecursionFaults.{IsSound}
-use Rattle.xd_syntax.specs.Meaning.{Done, Environment, looked_up, meaning}
+use Rattle.xd_laws.specs.Meaning.{Done, Environment, looked_up, meaning}
 use Rattle.xd_laws.specs.Consistent.{Goal, IsConsistent, Claim}
 use Rattle.xd_laws.specs.Breach.{Reason, Lined, goals_of, IsFirstBreach}
+
+-- the binders dropped
+abbrev pub bare : Tree → Tree
+bare (Elem c T) = Elem c (bare T)
+bare (Seq T U) = Seq (bare T) (bare U)
+bare (Alt T U) = Alt (bare T) (bare U)
+bare (Star T) = Star (bare T)
+bare (Plus T) = Plus (bare T)
+bare (Opt T) = Opt (bare T)
+bare (Val x T) = bare T
+bare T = T
 
 -- a pattern takes a document exactly where the document fits the pattern with its binders dropped
 abbrev pub PatternsAreTypes : Type 0

@@ -1,3 +1,8 @@
+pub mod FirstMatch
+pub mod Meaning
+pub mod Bindings
+pub mod CanBeEmpty
+pub mod Included
 pub mod FitsWithin
 pub mod Guarded
 pub mod Heads

@@ -1,10 +1,15 @@
 -- What a scope allows decides what an expression may be in it, and its lines.
 use Rattle.std.specs.Prelude.{◌≡◌, ℕ, ◌↔◌, true, List}
 use Rattle.xd_doc.specs.Document.{Document, is_proper}
-use Rattle.xd_syntax.specs.Expression.{Expression}
+use Rattle.xd_syntax.specs.Placed.{PlacedTree}
+use Rattle.xd_syntax.specs.Expression.{Expression, Clauses}
 use Rattle.xd_syntax.specs.Program.{ProgramTree}
-use Rattle.xd_syntax.specs.May.{Scope, Allows, May}
+use Rattle.xd_syntax.specs.May.{Scope, Allows, May, MayByClauses}
 use Rattle.xd_syntax.specs.CheckFaults.{Line, LinesOf}
+
+-- what a match of this scrutinee may be, where these patterns stand before the clauses
+abbrev pub MayClauses : ProgramTree → Scope → Expression → List PlacedTree → Clauses → Document → Type 0
+MayClauses P S e earlier cs d = MayByClauses P (Allows P S) (May P S e) earlier cs d
 
 -- the second scope allows each proper document that the first does
 abbrev pub AllowsAtMost : ProgramTree → Scope → Scope → Type 0

@@ -9,7 +9,7 @@ use Rattle.xd_auto.specs.declared.auto.State.{State}
 use Rattle.xd_auto.specs.Automaton.{Automaton}
 use Rattle.xd_auto.proofs.Walks.{places_push}
 use Rattle.xd_syntax.specs.Tree.{Definitions, Tree}
-use Rattle.xd_syntax.specs.Bindings.{variables_of, first_bindings}
+use Rattle.xd_laws.specs.Bindings.{variables_of, first_bindings}
 use Rattle.xd_runs.specs.Laws.{run_bindings}
 use Rattle.xd_patterns.specs.Marked.{IsCompiled, Marking}
 use Rattle.xd_match.specs.First.{first_run}

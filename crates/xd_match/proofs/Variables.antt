@@ -8,9 +8,9 @@ use Rattle.xd_doc.specs.declared.store.Seq.{Seq}
 use Rattle.xd_auto.specs.declared.auto.State.{State}
 use Rattle.xd_auto.specs.Automaton.{Automaton}
 use Rattle.xd_syntax.specs.Words.{has_word}
-use Rattle.xd_syntax.specs.Bindings.{each_once}
+use Rattle.xd_laws.specs.Bindings.{each_once}
 use Rattle.xd_syntax.specs.NameFaults.{without}
-use Rattle.xd_syntax.specs.Meaning.{Environment}
+use Rattle.xd_laws.specs.Meaning.{Environment}
 use Rattle.xd_runs.specs.Runs.{Run, held}
 use Rattle.xd_runs.specs.Laws.{run_bindings}
 use Rattle.xd_patterns.specs.Marked.{Marking}

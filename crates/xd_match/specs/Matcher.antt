@@ -6,7 +6,7 @@ use Rattle.xd_doc.specs.Document.{Document}
 use Rattle.xd_auto.specs.Automaton.{IsState}
 use Rattle.xd_auto.specs.Kept.{AreRight}
 use Rattle.xd_syntax.specs.Tree.{Tree, Definitions}
-use Rattle.xd_syntax.specs.Bindings.{variables_of, first_bindings}
+use Rattle.xd_laws.specs.Bindings.{variables_of, first_bindings}
 use Rattle.xd_runs.specs.Laws.{run_bindings}
 use Rattle.xd_patterns.specs.Held.{marking_of, variables_in}
 use Rattle.xd_match.specs.First.{first_run}

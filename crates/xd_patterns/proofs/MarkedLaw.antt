@@ -11,7 +11,7 @@ use Rattle.xd_auto.specs.Automaton.{Automaton, moves_at}
 use Rattle.xd_auto.specs.Runs as Numbered
 use Rattle.xd_auto.specs.Runs.{ends, takes_text, takes_element, IsAcceptingRun, from_each}
 use Rattle.xd_auto.proofs.RunLaw.{runs_law, runs_are_accepting}
-use Rattle.xd_syntax.specs.Bindings.{variables_of}
+use Rattle.xd_laws.specs.Bindings.{variables_of}
 use Rattle.xd_syntax.specs.Tree.{Tree, Definitions, occurrences}
 use Rattle.xd_syntax.specs.Ways.{Way, Among, IsWholeWay}
 use Rattle.xd_syntax.proofs.Members.{map_mem, mem_map, flat_same}

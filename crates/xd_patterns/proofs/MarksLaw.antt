@@ -6,7 +6,7 @@ use Rattle.xd_auto.specs.Automaton.{Automaton, moves_at}
 use Rattle.xd_auto.specs.Runs as Numbered
 use Rattle.xd_auto.specs.Runs.{ends, takes_text, takes_element, IsAcceptingRun}
 use Rattle.xd_syntax.specs.Words.{has_word}
-use Rattle.xd_syntax.specs.Bindings.{variables_of}
+use Rattle.xd_laws.specs.Bindings.{variables_of}
 use Rattle.xd_syntax.specs.Tree.{Tree, Definitions, occurrences}
 use Rattle.xd_syntax.specs.Ways.{Way, Among}
 use Rattle.xd_runs.specs.Runs.{held}

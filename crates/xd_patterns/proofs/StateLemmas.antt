@@ -5,7 +5,7 @@ use Rattle.std.proofs.lemmas.Bool.Decides.{nat_tests}
 use Rattle.std.specs.List.{AllByRecursion, slice_get}
 use Rattle.std.proofs.lemmas.Slice.Eq.{bytes_eq-Decides}
 use Rattle.xd_doc.specs.Classes.{NameClass, LabelClass, TextClass, is_named}
-use Rattle.xd_syntax.specs.Tree.{all_texts}
+use Rattle.xd_laws.specs.Heads.{all_texts}
 use Rattle.xd_auto.specs.declared.auto.State.{State}
 use Rattle.xd_auto.specs.declared.auto.LabelMove.{LabelMove}
 use Rattle.xd_auto.specs.declared.auto.TextMove.{TextMove}

@@ -1,7 +1,8 @@
 -- What lists of pieces, tasks, and what they find stand for.
 use Rattle.std.specs.Prelude.{◌≡◌, ℕ, ◌<◌, ◌≤◌, ◌⊎◌, Bool, true, false, cond, List, [], ◌∷◌, ◌++◌, map, reverse, length, Option, Some, None, option_map}
 use Rattle.std.specs.List.{AllByRecursion, AllZip}
-use Rattle.xd_syntax.specs.Tree.{Tree, Text, Words, Elem, Definitions, body, environment, all_texts}
+use Rattle.xd_syntax.specs.Tree.{Tree, Text, Words, Elem, Definitions, body, environment}
+use Rattle.xd_laws.specs.Heads.{all_texts}
 use Rattle.xd_syntax.specs.Table.{Row, tree_at}
 use Rattle.xd_syntax.specs.Placed.{unplaced}
 use Rattle.xd_syntax.specs.Program.{TypeDefinition}

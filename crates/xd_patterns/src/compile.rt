@@ -5,7 +5,7 @@ ghost use Rattle.std.specs.List.{AllByRecursion};
 ghost use Rattle.xd_auto.specs.Automaton.{IsState, moves_at, no_moves, state_number};
 ghost use Rattle.xd_auto.specs.declared.auto.State.{State};
 ghost use Rattle.xd_laws.specs.Guarded.{Guarded};
-ghost use Rattle.xd_syntax.specs.Tree.{all_texts};
+ghost use Rattle.xd_laws.specs.Heads.{all_texts};
 ghost use Rattle.xd_patterns.specs.Bodies.{node_of};
 ghost use Rattle.xd_patterns.specs.Tasks.{AreBodies, ArePieces, IsFound, choice_at, meanings};
 ghost use Rattle.xd_patterns.specs.Compiling.{AddsElement, AddsMove, AddsText, FindsState, IsCompiling, Makes, Spares, rows_in};

@@ -6,7 +6,7 @@ ghost use Rattle.xd_doc.specs.Document.{Document};
 ghost use Rattle.xd_syntax.specs.Fits.{Fits};
 ghost use Rattle.xd_syntax.specs.Types.{BelongsTo, tree};
 ghost use Rattle.xd_runs.specs.Linear.{IsLinear};
-ghost use Rattle.xd_syntax.specs.Bindings.{variables_of};
+ghost use Rattle.xd_laws.specs.Bindings.{variables_of};
 ghost use Rattle.xd_syntax.specs.Kept.{AddsTypes, program_tree};
 ghost use Rattle.xd_syntax.specs.Patterns.{IsPattern, pattern_tree};
 ghost use Rattle.xd_syntax.specs.Program.{names_of};

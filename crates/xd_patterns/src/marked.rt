@@ -4,7 +4,7 @@ ghost use Rattle.std.specs.Prelude.{◌≡◌, ◌<◌, ◌≤◌, [], IfOk, get
 ghost use Rattle.xd_auto.specs.Automaton.{Extends, IsState, KeepsAccepting};
 ghost use Rattle.xd_laws.specs.Guarded.{Guarded};
 ghost use Rattle.xd_runs.specs.Linear.{BindNothing, IsLinear};
-ghost use Rattle.xd_syntax.specs.Bindings.{variables_of};
+ghost use Rattle.xd_laws.specs.Bindings.{variables_of};
 ghost use Rattle.xd_syntax.specs.Words.{has_word};
 ghost use Rattle.xd_syntax.specs.Patterns.{IsPattern, pattern_tree};
 ghost use Rattle.xd_patterns.specs.Bodies.{node_of};

@@ -8,12 +8,12 @@ use Rattle.xd_syntax.specs.Words.{any_word}
 use Rattle.xd_syntax.specs.Placed.{unplaced}
 use Rattle.xd_syntax.specs.Expression.{Expression, Nothing, Quoted, Variable, Tagged, Joined, Called, Matched, Arguments, no_argument, argument, Clauses, no_clause, clause}
 use Rattle.xd_syntax.specs.Program.{TypeDefinition, FunctionDefinition, ProgramTree, names_of, function_of}
-use Rattle.xd_syntax.specs.Meaning as M
-use Rattle.xd_syntax.specs.Meaning.{Outcome, Environment, Matcher, and_then, or_else, value_by, values_by, chosen_by, body_by, call_within}
+use Rattle.xd_laws.specs.Meaning as M
+use Rattle.xd_laws.specs.Meaning.{Outcome, Environment, Matcher, and_then, or_else, value_by, values_by, chosen_by, body_by, call_within}
 use Rattle.xd_plain.specs.PlainTrees.{tree_of, definitions_of}
 use Rattle.xd_plain.specs.PlainPrograms.{placed_of, type_definition_of, behind_first, AnyIsFirst}
 use Rattle.xd_plain.specs.PlainMeaning.{IsWithout, IsAnswer, IsSettledWithin}
-use Rattle.xd_syntax.specs.Ways.{first, first_within, first_whole}
+use Rattle.xd_laws.specs.FirstMatch.{first, first_within, first_whole}
 use Rattle.xd_syntax.specs.RecursionFaults.{IsSound}
 use Rattle.xd_plain.specs.PlainDocuments.{document_of}
 use Rattle.xd_laws.proofs.TheLaws.{ways_settle}

@@ -1,10 +1,11 @@
 -- What a plain evaluation tells.
 use Rattle.std.specs.Prelude.{◌≡◌, ℕ, ◌≤◌, List, [], ◌∷◌, map, Result, Ok, Err}
 use Rattle.xd_doc.specs.Document.{Document}
-use Rattle.xd_syntax.specs.Meaning as M
-use Rattle.xd_syntax.specs.Meaning.{Outcome, Environment, Matcher, value_by, values_by, chosen_by, call_within}
+use Rattle.xd_laws.specs.Meaning as M
+use Rattle.xd_laws.specs.Meaning.{Outcome, Environment, Matcher, value_by, values_by, chosen_by, call_within}
 use Rattle.xd_syntax.specs.Tree.{Tree, Definitions}
-use Rattle.xd_syntax.specs.Ways.{first, first_within, unfoldings}
+use Rattle.xd_syntax.specs.Ways.{unfoldings}
+use Rattle.xd_laws.specs.FirstMatch.{first, first_within}
 use Rattle.xd_syntax.specs.Words.{main_word}
 use Rattle.xd_syntax.specs.Expression.{Expression}
 use Rattle.xd_syntax.specs.Program.{ProgramTree, names_of}

@@ -6,7 +6,7 @@ ghost use Rattle.xd_doc.specs.Document.{Document, empty, text as a_text, element
 ghost use Rattle.xd_syntax.specs.Words.{main_word};
 ghost use Rattle.xd_syntax.specs.Program.{names_of};
 ghost use Rattle.xd_syntax.specs.RecursionFaults.{IsSound};
-ghost use Rattle.xd_syntax.specs.Meaning as on_fuel;
+ghost use Rattle.xd_laws.specs.Meaning as on_fuel;
 ghost use Rattle.xd_plain.specs.PlainDocuments.{document_of};
 ghost use Rattle.xd_plain.specs.PlainTrees.{map_option};
 ghost use Rattle.xd_plain.specs.PlainWays.{bindings_of};

@@ -4,7 +4,7 @@ use Rattle.std.specs.List.{AllByRecursion, AllZip}
 use Rattle.xd_syntax.specs.Tree.{Tree, Definitions}
 use Rattle.xd_syntax.specs.Table.{Row, KeepsRows, tree_at}
 use Rattle.xd_syntax.specs.Sound.{IsTypeAt}
-use Rattle.xd_syntax.specs.CanBeEmpty.{can_be_empty}
+use Rattle.xd_laws.specs.CanBeEmpty.{can_be_empty}
 use Rattle.xd_syntax.specs.Emptiness.{AreEmptyMarks, is_marked}
 use Rattle.xd_syntax.specs.Kept.{ProgramTable, program_tree}
 use Rattle.xd_syntax.specs.Program.{ProgramTree, names_of}

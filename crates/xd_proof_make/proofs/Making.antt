@@ -4,7 +4,7 @@ use Rattle.std.specs.List.{AllByRecursion, AllZip, flat_map, list_any}
 use Rattle.std.proofs.lemmas.List.{take_more}
 use Rattle.std.proofs.lemmas.Option.{slice_get_within}
 use Rattle.xd_syntax.specs.Tree.{Tree, Definitions}
-use Rattle.xd_syntax.specs.CanBeEmpty.{can_be_empty}
+use Rattle.xd_laws.specs.CanBeEmpty.{can_be_empty}
 use Rattle.xd_syntax.specs.Program.{names_of}
 use Rattle.xd_syntax.specs.Sound.{IsTypeAt}
 use Rattle.xd_syntax.specs.Kept.{ProgramTable, program_tree}

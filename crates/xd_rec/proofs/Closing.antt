@@ -2,8 +2,8 @@
 use Rattle.std.proofs.Common.{◌≡◌, ℕ, ◌+◌, ◌<◌, ◌≤◌, arith, ◌⊎◌, List, [], ◌∷◌, ◌++◌, length, get_or, take, refl, ap, sym, subst, ◌∙◌, inl, inr}
 use Rattle.std.proofs.lemmas.List.{length_push, length-take-le, get_or_append_left, get_or_push, get_or-take}
 use Rattle.std.proofs.lemmas.Bool.{cases_lt}
-use Rattle.xd_syntax.specs.Graph.{HasEdge, Path}
-use Rattle.xd_rec.specs.Components.{standing_of, node_at, no_segment, path_from, todo_from, NoneBetween, IsSettled, HasSource, IsSearched, IsDoneFrom}
+use Rattle.xd_syntax.specs.Graph.{HasEdge}
+use Rattle.xd_rec.specs.Components.{standing_of, node_at, no_segment, path_from, todo_from, NoneBetween, IsSettled, HasSource, IsSearched, IsDoneFrom, Path}
 use Rattle.xd_rec.specs.declared.components.Standing.{Standing}
 use Rattle.xd_rec.specs.declared.components.Standing.TheVariants.{Unseen, Open, Done}
 use Rattle.xd_rec.specs.declared.components.Segment.{Segment}

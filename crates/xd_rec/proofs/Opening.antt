@@ -2,8 +2,8 @@
 use Rattle.std.proofs.Common.{◌≡◌, ℕ, zero, suc, ◌+◌, ◌-◌, ◌<◌, ◌≤◌, arith, ◌⊎◌, List, [], ◌∷◌, ◌++◌, length, get_or, set, refl, ap, sym, subst, ◌∙◌, inl, inr}
 use Rattle.std.proofs.lemmas.List.{length_push, length-append, length-set, get_or_append_left, get_or_push, get_or-append-add, get_or-set_same, get_or-set_other}
 use Rattle.std.proofs.lemmas.Bool.{cases_lt, cases_eq}
-use Rattle.xd_syntax.specs.Graph.{successors, HasEdge, Path, stay}
-use Rattle.xd_rec.specs.Components.{standing_of, node_at, no_segment, path_from, todo_from, unseen, NoneBetween, IsSettled, HasSource, IsSearched}
+use Rattle.xd_syntax.specs.Graph.{successors, HasEdge}
+use Rattle.xd_rec.specs.Components.{standing_of, node_at, no_segment, path_from, todo_from, unseen, NoneBetween, IsSettled, HasSource, IsSearched, Path, stay}
 use Rattle.xd_rec.specs.declared.components.Standing.{Standing}
 use Rattle.xd_rec.specs.declared.components.Standing.TheVariants.{Unseen, Open, Done}
 use Rattle.xd_rec.specs.declared.components.Segment.{Segment}

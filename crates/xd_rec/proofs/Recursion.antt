@@ -16,8 +16,8 @@ use Rattle.xd_syntax.specs.RecursionFaults.{Use, top_uses, AllCanBeEmpty, IsFron
 use Rattle.xd_syntax.specs.declared.types.TypeDef.{TypeDef}
 use Rattle.xd_syntax.specs.declared.fault.Fault.{Fault}
 use Rattle.xd_syntax.proofs.Members.{Among, mem_append, append_left, append_right, mem_map, map_mem}
-use Rattle.xd_syntax.specs.Graph.{HasEdge, Path, stay, edge_then}
-use Rattle.xd_rec.specs.Components.{AreComponents}
+use Rattle.xd_syntax.specs.Graph.{HasEdge}
+use Rattle.xd_rec.specs.Components.{AreComponents, Path, stay, edge_then}
 use Rattle.xd_syntax.specs.TypeNames.{first_from, first_of, meanings}
 use Rattle.xd_rec.specs.Names.{AreUnique, program_of}
 use Rattle.xd_rec.specs.Uses.{all_empty, seen, tree_uses, uses_from}

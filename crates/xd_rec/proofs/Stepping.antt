@@ -1,8 +1,8 @@
 -- what a step of a search reads
 use Rattle.std.proofs.Common.{◌≡◌, ℕ, ◌+◌, ◌-◌, ◌<◌, arith, List, length, get_or, ap, sym, subst, ◌∙◌}
 use Rattle.std.proofs.lemmas.List.{get_or_read}
-use Rattle.xd_syntax.specs.Graph.{IsClosed, Path}
-use Rattle.xd_rec.specs.Components.{IsSearched, no_segment, node_at, path_from, standing_of, todo_from}
+use Rattle.xd_syntax.specs.Graph.{IsClosed}
+use Rattle.xd_rec.specs.Components.{IsSearched, no_segment, node_at, path_from, standing_of, todo_from, Path}
 use Rattle.xd_rec.specs.declared.components.Segment.{Segment}
 use Rattle.xd_rec.specs.declared.components.Standing.{Standing}
 use Rattle.xd_rec.specs.declared.components.Standing.TheVariants.{Unseen}

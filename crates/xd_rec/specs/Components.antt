@@ -1,9 +1,18 @@
 -- Strongly connected components, and what a search for them has found so far.
 use Rattle.std.specs.Prelude.{◌≡◌, ℕ, ◌+◌, ◌*◌, ◌^◌, ◌<◌, ◌≤◌, Bool, true, false, ◌⊎◌, ◌↔◌, nat_eq, List, [], ◌∷◌, length, get_or}
-use Rattle.xd_syntax.specs.Graph.{HasEdge, Path, AreMutual}
+use Rattle.xd_syntax.specs.Graph.{HasEdge}
 use Rattle.xd_rec.specs.declared.components.Standing.{Standing}
 use Rattle.xd_rec.specs.declared.components.Standing.TheVariants.{Unseen, Open, Done}
 use Rattle.xd_rec.specs.declared.components.Segment.{Segment}
+
+-- edges lead from the first node to the second, or they are the same
+pub data Path (g : List (List ℕ)) : ℕ → ℕ → Type 0 where
+  stay : {v : ℕ} → Path g v v
+  edge_then : {u v w : ℕ} → HasEdge g u v → Path g v w → Path g u w
+
+-- each reaches the other
+abbrev pub AreMutual : List (List ℕ) → ℕ → ℕ → Type 0
+AreMutual g v w = Path g v w × Path g w v
 
 -- both are done, with the same number
 abbrev pub has_same_number : Standing → Standing → Bool

@@ -1,8 +1,8 @@
 //! Strongly connected components.
 
 ghost use Rattle.std.specs.Prelude.{◌≡◌, ◌+◌, ◌-◌, ◌<◌, ◌≤◌, ◌++◌, ◌∷◌, [], ℕ, take, length, slice_set, IfOk, OnOk, vec_len};
-ghost use Rattle.xd_syntax.specs.Graph.{IsClosed, Path, successors};
-ghost use Rattle.xd_rec.specs.Components.{AreComponents, IsKnown, IsSearched, IsDoneFrom, StaySeen, has_same_number, node_at, path_from, standing_of, todo_from, unseen, work_left};
+ghost use Rattle.xd_syntax.specs.Graph.{IsClosed, successors};
+ghost use Rattle.xd_rec.specs.Components.{AreComponents, IsKnown, IsSearched, IsDoneFrom, StaySeen, has_same_number, node_at, path_from, standing_of, todo_from, unseen, work_left, Path};
 
 use std::alloc::Global;
 use xd_doc::NoMemory;

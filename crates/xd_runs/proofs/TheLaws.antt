@@ -1,17 +1,19 @@
 -- The laws of runs.
 use Rattle.xd_laws.proofs.OrderedBindings.{has_once}
-use Rattle.xd_syntax.specs.Bindings.{variables_of, first_bindings, bindings_in, bound_to}
+use Rattle.xd_laws.specs.Bindings.{variables_of, first_bindings, bindings_in, bound_to}
 use Rattle.std.specs.Prelude.{option_map}
 use Rattle.std.proofs.Common.{◌≡◌, ◌↔◌, ℕ, Bool, true, false, cond, List, [], ◌∷◌, ◌++◌, map, flat_map, Option, Some, None, refl, ap, sym, subst, ◌∙◌, inl, inr, ◌||◌}
 use Rattle.std.specs.Str.{bytes_eq}
 use Rattle.std.proofs.lemmas.Slice.Eq.{bytes_eq-Decides}
 use Rattle.xd_doc.specs.Document.{Document, empty}
 use Rattle.xd_syntax.specs.Words.{has_word}
-use Rattle.xd_syntax.specs.Tree.{Tree, Empty, Text, Words, Name, Elem, Seq, Alt, Star, Plus, Opt, Val, Definitions, bare, occurrences}
+use Rattle.xd_syntax.specs.Tree.{Tree, Empty, Text, Words, Name, Elem, Seq, Alt, Star, Plus, Opt, Val, Definitions, occurrences}
+use Rattle.xd_laws.specs.Laws.{bare}
 use Rattle.xd_syntax.specs.Fits.{Fits}
-use Rattle.xd_syntax.specs.Ways.{Way, Among, IsWholeWay, is_whole, first, first_whole, ways}
+use Rattle.xd_syntax.specs.Ways.{Way, Among, IsWholeWay, is_whole, ways}
+use Rattle.xd_laws.specs.FirstMatch.{first, first_whole}
 use Rattle.xd_laws.specs.Guarded.{Guarded}
-use Rattle.xd_syntax.specs.Meaning.{looked_up}
+use Rattle.xd_laws.specs.Meaning.{looked_up}
 use Rattle.xd_laws.proofs.Bare.{fits_bare, bare_fits}
 use Rattle.xd_laws.proofs.Documents.{join_empty-right}
 use Rattle.xd_syntax.proofs.Members.{mem_flat, flat_mem, mem_map, map_mem, cond_true}

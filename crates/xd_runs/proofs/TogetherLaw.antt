@@ -4,7 +4,8 @@ use Rattle.std.specs.Str.{bytes_eq}
 use Rattle.xd_doc.specs.Document.{Document, empty, text, element}
 use Rattle.xd_doc.specs.Classes.{LabelClass, class_has, TextClass}
 use Rattle.xd_syntax.specs.Words.{has_word}
-use Rattle.xd_syntax.specs.Tree.{Tree, Empty, Text, Words, Name, Elem, Seq, Alt, Star, Plus, Opt, Val, Definitions, body, all_texts, occurrences}
+use Rattle.xd_syntax.specs.Tree.{Tree, Empty, Text, Words, Name, Elem, Seq, Alt, Star, Plus, Opt, Val, Definitions, body, occurrences}
+use Rattle.xd_laws.specs.Heads.{all_texts}
 use Rattle.xd_syntax.specs.Ways.{Among}
 use Rattle.xd_syntax.proofs.Members.{mem_append, mem_map, mem_flat, cond_true}
 use Rattle.xd_laws.proofs.Unfoldings.{same_word_eq}

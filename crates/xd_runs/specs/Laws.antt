@@ -1,9 +1,10 @@
 -- Laws that tie the runs of a pattern to its ways.
-use Rattle.xd_syntax.specs.Bindings.{variables_of, first_bindings}
+use Rattle.xd_laws.specs.Bindings.{variables_of, first_bindings}
 use Rattle.std.specs.Prelude.{◌≡◌, ℕ, cond, ◌↔◌, List, [], ◌∷◌, Option, Some, None, map, option_map}
 use Rattle.xd_doc.specs.Document.{Document}
 use Rattle.xd_syntax.specs.Words.{has_word}
-use Rattle.xd_syntax.specs.Tree.{Tree, Definitions, bare, occurrences}
+use Rattle.xd_syntax.specs.Tree.{Tree, Definitions, occurrences}
+use Rattle.xd_laws.specs.Laws.{bare}
 use Rattle.xd_syntax.specs.Fits.{Fits}
 use Rattle.xd_syntax.specs.Placed.{PlacedTree, unplaced}
 use Rattle.xd_syntax.specs.Proper.{IsProperProgram}
@@ -11,7 +12,7 @@ use Rattle.xd_syntax.specs.Program.{ProgramTree, names_of}
 use Rattle.xd_syntax.specs.NameFaults.{pattern_faults}
 use Rattle.xd_syntax.specs.Ways.{Way, Among, IsWholeWay}
 use Rattle.xd_laws.specs.Guarded.{Guarded}
-use Rattle.xd_syntax.specs.Meaning.{looked_up}
+use Rattle.xd_laws.specs.Meaning.{looked_up}
 use Rattle.xd_runs.specs.Runs.{Run, runs, start, held}
 use Rattle.xd_runs.specs.Linear.{BindNothing, IsLinear, given}
 

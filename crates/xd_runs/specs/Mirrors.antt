@@ -1,9 +1,10 @@
 -- Automata whose states stand for continuations, and what their runs are.
-use Rattle.xd_syntax.specs.Bindings.{variables_of, first_bindings}
+use Rattle.xd_laws.specs.Bindings.{variables_of, first_bindings}
 use Rattle.std.specs.Prelude.{◌≡◌, ℕ, ◌↔◌, List, Option, Some, option_map}
 use Rattle.std.specs.List.{AllZip}
 use Rattle.xd_doc.specs.Document.{Document}
-use Rattle.xd_syntax.specs.Tree.{Tree, Definitions, bare, occurrences}
+use Rattle.xd_syntax.specs.Tree.{Tree, Definitions, occurrences}
+use Rattle.xd_laws.specs.Laws.{bare}
 use Rattle.xd_syntax.specs.Fits.{Fits}
 use Rattle.xd_syntax.specs.Ways.{Way, Among, IsWholeWay}
 use Rattle.xd_laws.specs.Guarded.{Guarded}

@@ -4,7 +4,8 @@ use Rattle.std.specs.Prelude.{ℕ, suc, zero, Bool, true, false, cond, List, [],
 use Rattle.xd_doc.specs.Document.{Document, empty, text, element, join}
 use Rattle.xd_doc.specs.Classes.{LabelClass, TextClass, class_has}
 use Rattle.xd_syntax.specs.Words.{has_word}
-use Rattle.xd_syntax.specs.Tree.{Tree, Empty, Text, Words, Name, Elem, Seq, Alt, Star, Plus, Opt, Val, Definitions, body, all_texts}
+use Rattle.xd_syntax.specs.Tree.{Tree, Empty, Text, Words, Name, Elem, Seq, Alt, Star, Plus, Opt, Val, Definitions, body}
+use Rattle.xd_laws.specs.Heads.{all_texts}
 
 -- a part of a pattern, and the variables in whose binders it stands
 pub record Piece : Type 0 where

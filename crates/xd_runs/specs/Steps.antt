@@ -1,6 +1,7 @@
 -- How the choices of what stands ahead are found: a step looks at the first piece alone, and leaves parts of it ahead.
 use Rattle.std.specs.Prelude.{ℕ, List, [], ◌∷◌, ◌++◌, map, flat_map, Option, Some, None}
-use Rattle.xd_syntax.specs.Tree.{Tree, Empty, Text, Words, Name, Elem, Seq, Alt, Star, Plus, Opt, Val, Definitions, body, all_texts, alt_of}
+use Rattle.xd_syntax.specs.Tree.{Tree, Empty, Text, Words, Name, Elem, Seq, Alt, Star, Plus, Opt, Val, Definitions, body, alt_of}
+use Rattle.xd_laws.specs.Heads.{all_texts}
 use Rattle.xd_laws.specs.Guarded.{Guarded}
 use Rattle.xd_runs.specs.Alike.{Alike}
 use Rattle.xd_runs.specs.Runs.{Piece, Continuation, Choice, take_text, take_element, start, in_place, choices}

@@ -19,7 +19,7 @@ use Rattle.xd_runs.specs.Linear.{IsLinear}
 use Rattle.xd_runs.specs.Clauses.{patterns_in, patterns_in_clauses}
 use Rattle.xd_clauses.specs.Cases.{IsLinearPattern}
 use Rattle.xd_match.specs.Matches.{AreBindings}
-use Rattle.xd_syntax.specs.Meaning.{Environment}
+use Rattle.xd_laws.specs.Meaning.{Environment}
 
 abbrev pub AreLinear : List PlacedTree → Type 0
 AreLinear As = (A : PlacedTree) → Among A As → IsLinear (unplaced A)

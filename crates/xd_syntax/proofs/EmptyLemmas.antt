@@ -1,5 +1,5 @@
 -- marks of nodes that can be empty
-use Rattle.std.proofs.Common.{◌≡◌, ℕ, zero, suc, ◌+◌, ◌-◌, ◌<◌, ◌≤◌, ◌⊎◌, ◌↔◌, arith, Bool, true, false, cond, List, [], ◌∷◌, ◌++◌, length, get_or, set, take, Option, Some, None, refl, ap, sym, subst, ◌∙◌, inl, inr}
+use Rattle.std.proofs.Common.{◌≡◌, ℕ, zero, suc, ◌+◌, ◌*◌, ◌^◌, ◌-◌, ◌<◌, ◌≤◌, ◌⊎◌, ◌↔◌, arith, Bool, true, false, cond, List, [], ◌∷◌, ◌++◌, length, get_or, set, take, Option, Some, None, refl, ap, sym, subst, ◌∙◌, inl, inr}
 use Rattle.std.proofs.Common.{◌||◌, ◌&&◌, map}
 use Rattle.std.specs.List.{AllByRecursion}
 use Rattle.std.specs.Str.{bytes_eq}
@@ -12,7 +12,6 @@ use Rattle.xd_syntax.specs.Tree.{Tree, Empty, Text, Words, Name, Elem, Seq, Alt,
 use Rattle.xd_syntax.specs.Table.{Row, Form, empty_form, text_form, words_form, name_form, elem_form, seq_form, alt_form, star_form, plus_form, opt_form, val_form, form_tree, tree_at, PartsBelow, CanFollow}
 use Rattle.xd_syntax.specs.Fits.{Fits}
 use Rattle.xd_syntax.specs.Fits as F
-use Rattle.xd_syntax.specs.CanBeEmpty.{empty_by}
 use Rattle.xd_syntax.specs.Kept.{TypeDefStands}
 use Rattle.xd_syntax.specs.Sound.{definition_of}
 use Rattle.xd_syntax.specs.declared.types.TypeDef.{TypeDef}
@@ -22,7 +21,8 @@ use Rattle.xd_syntax.proofs.Members.{Among, append_left, append_right, mem_appen
 use Rattle.std.proofs.lemmas.List.{get_or_read}
 use Rattle.xd_syntax.specs.TypeNames.{meanings, first_of, body_at}
 use Rattle.xd_syntax.specs.Graph.{HasEdge, successors}
-use Rattle.xd_syntax.specs.Emptiness.{is_marked, body_marked, name_marked, all_marked, some_marked, form_marked, body_number, depends_on, no_row, form_at, AddsEdges, IsRead, AreRead, AreDependents, AreEmptyMarks, AreEmptySoFar, IsMarking, unmarked}
+use Rattle.xd_syntax.specs.Emptiness.{is_marked, body_marked, name_marked, all_marked, some_marked, form_marked, body_number, depends_on, AddsEdges, IsRead, AreRead, AreDependents, AreEmptyMarks, AreEmptySoFar, IsMarking, empty_by}
+use Rattle.xd_syntax.specs.Nodes.{no_row, form_at}
 use Rattle.xd_syntax.proofs.Graphs.{with_edge, edges_kept, edge_made}
 use Rattle.xd_syntax.proofs.NameLemmas.{first_found, meaning_of, body_of}
 
@@ -226,6 +226,15 @@ marking_none types ds marks waiting c n a w = record {
   pending = λ i l. inr (inl (a i l));
   within = w;
 }
+
+-- how many have no mark, and what bounds the visits that are left
+abbrev pub unmarked : List Bool → ℕ
+unmarked [] = 0
+unmarked (true ∷ marks) = unmarked marks
+unmarked (false ∷ marks) = unmarked marks + 1
+
+abbrev pub visits_left : List Bool → List ℕ → ℕ
+visits_left marks waiting = 2 ^ 65 * unmarked marks + length waiting
 
 pub unmarked_less : (marks : List Bool) (i : ℕ) → i < length marks → is_marked marks i ≡ false → unmarked (set marks i true) + 1 ≡ unmarked marks
 unmarked_less [] i l e = absurd (omega arith)

@@ -3,14 +3,7 @@ use Rattle.std.proofs.Common.{◌≡◌, ℕ, zero, suc, ◌<◌, arith, ◌⊎�
 use Rattle.std.proofs.lemmas.List.{length-set, length-map, get_or-map, get_or-set_same, get_or-set_other, map-set}
 use Rattle.std.proofs.lemmas.Bool.{cases_eq}
 use Rattle.xd_syntax.proofs.Members.{Among, mem_append, append_left, append_right}
-use Rattle.xd_syntax.specs.Graph.{successors, HasEdge, Path, stay, edge_then, IsClosed}
-
-pub path_then : (g : List (List ℕ)) {u v w : ℕ} → Path g u v → Path g v w → Path g u w
-path_then g stay q = q
-path_then g (edge_then e p) q = edge_then e (path_then g p q)
-
-pub path_edge : (g : List (List ℕ)) {u v w : ℕ} → Path g u v → HasEdge g v w → Path g u w
-path_edge g p e = path_then g p (edge_then e stay)
+use Rattle.xd_syntax.specs.Graph.{successors, HasEdge, IsClosed}
 
 -- what a node's edges are once they are written anew
 pub edges_set : (g : List (List ℕ)) (i : ℕ) (xs : List ℕ) (v w : ℕ) → i < length g → HasEdge (set g i xs) v w → ((v ≡ i) × Among w xs) ⊎ HasEdge g v w

@@ -1,27 +1,14 @@
 -- A program whose tables have grown by types is the same program.
-use Rattle.std.proofs.Common.{◌≡◌, ℕ, ◌<◌, arith, List, [], ◌∷◌, ◌++◌, map, length, length-append, refl, ap, ◌∙◌}
+use Rattle.std.proofs.Common.{◌≡◌, ℕ, ◌<◌, arith, List, [], ◌∷◌, ◌++◌, map, length, length-append, refl}
 use Rattle.std.specs.List.{AllByRecursion}
-use Rattle.xd_syntax.specs.Tree.{environment}
 use Rattle.xd_syntax.specs.Table.{Row}
-use Rattle.xd_syntax.specs.Types.{BelongsTo, tree, definitions}
-use Rattle.xd_syntax.specs.Placed.{unplaced}
+use Rattle.xd_syntax.specs.Types.{BelongsTo}
 use Rattle.xd_syntax.specs.Expression.{ExprRow}
-use Rattle.xd_syntax.specs.Program.{names_of}
 use Rattle.xd_syntax.specs.FunctionRow.{FunctionRow}
 use Rattle.xd_syntax.specs.Kept.{ProgramTable, TypeDefStands, FunctionStands, ProgramStands, type_definition, parameter, function_definition, program_tree}
 use Rattle.xd_syntax.specs.declared.types.TypeDef.{TypeDef}
 use Rattle.xd_syntax.specs.declared.program.Param.{Param}
-use Rattle.xd_syntax.proofs.PlacedTrees.{placed_kept, unplaced_at}
-
--- what names stand for, from the tables alone
-pub names_of-program_tree : (p : ProgramTable) → names_of (program_tree p) ≡ environment (definitions p.types p.type_defs)
-names_of-program_tree p = ap environment (go p.type_defs)
-  where
-    go : (defs : List TypeDef) → map (λ t. (t.name, unplaced t.body)) (map (type_definition p.types) defs) ≡ definitions p.types defs
-    go [] = refl
-    go (def ∷ defs) =
-        let i = unplaced_at p.types def.body.at in
-        ap (λ T. (def.name, T) ∷ map (λ t. (t.name, unplaced t.body)) (map (type_definition p.types) defs)) i ∙ ap (λ ds. (def.name, tree p.types def.body) ∷ ds) (go defs)
+use Rattle.xd_syntax.proofs.PlacedTrees.{placed_kept}
 
 belongs_more : (types more : List Row) (i : ℕ) → i < length types → i < length (types ++ more)
 belongs_more types more i h = omega (arith, length-append types more)

@@ -8,12 +8,12 @@ use Rattle.xd_doc.specs.Document.{empty}
 use Rattle.xd_syntax.specs.Tree.{Tree, Definitions}
 use Rattle.xd_syntax.specs.Table.{Row, tree_at, KeepsRows}
 use Rattle.xd_syntax.specs.Fits.{Fits}
-use Rattle.xd_syntax.specs.CanBeEmpty.{empty_by}
 use Rattle.xd_syntax.specs.Program.{names_of}
 use Rattle.xd_syntax.specs.RecursionFaults.{IsSound}
 use Rattle.xd_syntax.specs.Kept.{ProgramTable, TypeDefStands, AddsTypes, program_tree}
 use Rattle.xd_syntax.specs.TypeNames.{meanings}
-use Rattle.xd_syntax.specs.Emptiness.{is_marked, name_marked, form_marked, form_at, IsRead, AreEmptyMarks, AreEmptySoFar}
+use Rattle.xd_syntax.specs.Emptiness.{is_marked, name_marked, form_marked, IsRead, AreEmptyMarks, AreEmptySoFar, empty_by}
+use Rattle.xd_syntax.specs.Nodes.{form_at}
 use Rattle.xd_syntax.specs.Known.{AreKnownTypes, AreKnownSoFar, IsSoundAndKnown}
 use Rattle.xd_syntax.specs.declared.types.TypeDef.{TypeDef}
 use Rattle.xd_syntax.specs.declared.known.Known.{Known}

@@ -6,6 +6,7 @@ use Rattle.xd_doc.specs.Word.{is_word}
 use Rattle.xd_syntax.specs.Tree.{Tree, seq_of, alt_of}
 use Rattle.xd_syntax.specs.Table.{Form, empty_form, text_form, words_form, name_form, elem_form, seq_form, alt_form, star_form, plus_form, opt_form, val_form, Row, form_tree, tree_at, CanFollow, PartsBelow}
 use Rattle.xd_syntax.specs.Types.{BelongsTo}
+use Rattle.xd_syntax.specs.Nodes.{no_row}
 use Rattle.xd_syntax.specs.Placed.{PlacedTree, unplaced, placed_at, the_start}
 use Rattle.xd_syntax.specs.Expression.{Expression, ExprShape, empty_shape, text_shape, var_shape, elem_shape, seq_shape, call_shape, match_shape, ExprRow, place_of_expression, joined, arguments_of, clauses_of, shape_expression, expression_at, ExprPartsBelow, ShapePatternsBelong, PatternsBelong}
 use Rattle.xd_syntax.specs.FunctionRow.{FunctionRow, HasProperNames}
@@ -46,9 +47,6 @@ form_proper b older n t h (star_form i) c p q = h i p
 form_proper b older n t h (plus_form i) c p q = h i p
 form_proper b older n t h (opt_form i) c p q = h i p
 form_proper b older n t h (val_form x r i) c p q = (c.0, q, h i p)
-
-abbrev no_row : Row
-no_row = record { place = the_start; form = empty_form }
 
 tree_below : (b : Bool) (rs : List Row) → IsTable b rs → (n i : ℕ) → i < n → i < length rs → IsProperTree b (tree_at rs i)
 tree_below b rs t zero i h k = absurd (omega arith)

@@ -11,9 +11,8 @@ use Rattle.xd_doc.proofs.CopyLemmas.{none_contained, front_or_rest}
 use Rattle.xd_syntax.specs.Tree.{Tree, Empty, Text, Words, Name, Elem, Seq, Alt, Star, Plus, Opt, Val, seq_of, alt_of, is_empty}
 use Rattle.xd_syntax.specs.TypeText.{depth, depth_at_level, sequence_level, postfix_level, primary_level}
 use Rattle.xd_syntax.specs.Table.{Row, Form, empty_form, text_form, words_form, name_form, elem_form, seq_form, alt_form, star_form, plus_form, opt_form, val_form, form_tree, tree_at, AreBuilt, CanFollow}
-use Rattle.xd_syntax.specs.Placed.{the_start}
-use Rattle.xd_syntax.specs.Nodes.{form_parts}
-use Rattle.xd_syntax.specs.Adopt.{uses_only, size, row_at, parts_of, Reaches, itself, part, AreFalling, AreReached, form_known}
+use Rattle.xd_syntax.specs.Nodes.{form_parts, form_at, no_row}
+use Rattle.xd_syntax.specs.Adopt.{uses_only, size, parts_of, Reaches, itself, part, AreFalling, AreReached, form_known}
 use Rattle.xd_syntax.proofs.Trees.{tree_is, follows_at, parts_at}
 use Rattle.xd_syntax.proofs.NodeParts.{form_parts_below}
 
@@ -244,20 +243,20 @@ some_size (Opt T) = omega arith
 some_size (Val x T) = omega arith
 
 -- ---- nodes of a table that is built
-node_is : (b : Bool) (rows : List Row) → AreBuilt b rows → (i : ℕ) → i < length rows → tree_at rows i ≡ form_tree (tree_at rows) (row_at rows i).form
-node_is b rows built i h = tree_is b rows i (record { place = the_start; form = empty_form }) built h
+node_is : (b : Bool) (rows : List Row) → AreBuilt b rows → (i : ℕ) → i < length rows → tree_at rows i ≡ form_tree (tree_at rows) (form_at rows i)
+node_is b rows built i h = tree_is b rows i no_row built h
 
 pub older_parts : (b : Bool) (rows : List Row) → AreBuilt b rows → (i : ℕ) → i < length rows → AllByRecursion (λ j. j < i) (parts_of rows i)
-older_parts b rows built i h = form_parts_below i (row_at rows i).form (parts_at b rows i (record { place = the_start; form = empty_form }) built h)
+older_parts b rows built i h = form_parts_below i (form_at rows i) (parts_at b rows i no_row built h)
 
 abbrev pub weight : List Row → ℕ → ℕ
 weight rows i = size (tree_at rows i)
 
 lighter_parts : (b : Bool) (rows : List Row) → AreBuilt b rows → (i : ℕ) → i < length rows → sum_by (weight rows) (parts_of rows i) < weight rows i
 lighter_parts b rows built i h =
-    let f : Form = (row_at rows i).form in
+    let f : Form = form_at rows i in
     let e : weight rows i ≡ size (form_tree (tree_at rows) f) = ap size (node_is b rows built i h) in
-    let l = parts_smaller b (take i rows) (tree_at rows) f (follows_at b rows i (record { place = the_start; form = empty_form }) built h) in
+    let l = parts_smaller b (take i rows) (tree_at rows) f (follows_at b rows i no_row built h) in
     omega arith
 
 -- ---- what passes from a node to those that it reaches
@@ -274,7 +273,7 @@ reached_known b rows from built h known e _ itself = e
 reached_known b rows from built h known e _ (part {j} i r c) =
     let k = reached_older b rows from built h i r in
     let u = sym (ap (uses_only known) (node_is b rows built i (omega arith))) ∙ reached_known b rows from built h known e i r in
-    contained_each (λ m. uses_only known (tree_at rows m) ≡ true) (parts_of rows i) j (parts_known known (tree_at rows) (row_at rows i).form u) c
+    contained_each (λ m. uses_only known (tree_at rows m) ≡ true) (parts_of rows i) j (parts_known known (tree_at rows) (form_at rows i) u) c
 
 pub reached_within : (b : Bool) (rows : List Row) (from : ℕ) → AreBuilt b rows → from < length rows → (i : ℕ) → Reaches rows from i → depth (tree_at rows i) ≤ depth (tree_at rows from)
 reached_within b rows from built h _ itself = same_le (depth (tree_at rows from))
@@ -282,7 +281,7 @@ reached_within b rows from built h _ (part {j} i r c) =
     let n = depth (tree_at rows from) in
     let k = reached_older b rows from built h i r in
     let u = subst (λ (T : Tree). depth T ≤ n) (node_is b rows built i (omega arith)) (reached_within b rows from built h i r) in
-    contained_each (λ m. depth (tree_at rows m) ≤ n) (parts_of rows i) j (parts_within n (tree_at rows) (row_at rows i).form u) c
+    contained_each (λ m. depth (tree_at rows m) ≤ n) (parts_of rows i) j (parts_within n (tree_at rows) (form_at rows i) u) c
 
 -- ---- a type uses known names alone where each name that it reaches is known
 all_each : (p : ℕ → Bool) (is : List ℕ) → list_all p is ≡ true → AllByRecursion (λ i. p i ≡ true) is
@@ -300,30 +299,30 @@ same_tests false true f g = g refl
 same_tests false false f g = refl
 
 known_up : (b : Bool) (rows : List Row) (from : ℕ) → AreBuilt b rows → from < length rows → (known : List (List ℕ)) →
-    ((i : ℕ) → Reaches rows from i → form_known known (row_at rows i).form ≡ true) → (n i : ℕ) → i < n → Reaches rows from i → uses_only known (tree_at rows i) ≡ true
+    ((i : ℕ) → Reaches rows from i → form_known known (form_at rows i) ≡ true) → (n i : ℕ) → i < n → Reaches rows from i → uses_only known (tree_at rows i) ≡ true
 known_up b rows from built h known k zero i l r = absurd (omega arith)
 known_up b rows from built h known k (suc n) i l r =
     let o = reached_older b rows from built h i r in
     let a = older_parts b rows built i (omega arith) in
     ap (uses_only known) (node_is b rows built i (omega arith))
-    ∙ known_form known (tree_at rows) (row_at rows i).form (k i r)
+    ∙ known_form known (tree_at rows) (form_at rows i) (k i r)
     (each_contained (λ m. uses_only known (tree_at rows m) ≡ true) (parts_of rows i)
     (λ j c. known_up b rows from built h known k n j (let m : j < i = contained_each (λ m. m < i) (parts_of rows i) j a c in omega arith) (part i r c)))
 
 pub all_known : (b : Bool) (rows : List Row) (from : ℕ) (is : List ℕ) → AreBuilt b rows → from < length rows → AreReached rows from is → (known : List (List ℕ)) →
-    list_all (λ i. form_known known (row_at rows i).form) is ≡ uses_only known (tree_at rows from)
+    list_all (λ i. form_known known (form_at rows i)) is ≡ uses_only known (tree_at rows from)
 all_known b rows from is built h reached known =
     same_tests (list_all p is) (uses_only known (tree_at rows from))
     (λ e. known_up b rows from built h known (λ i r. contained_each (λ j. p j ≡ true) is i (all_each p is e) ((reached.exact i).1 r)) (suc from) from (omega arith) itself)
     (λ e. each_all p is (each_contained (λ j. p j ≡ true) is (λ i c. (let r = (reached.exact i).0 c in own i r (reached_known b rows from built h known e i r)))))
   where
     p : ℕ → Bool
-    p i = form_known known (row_at rows i).form
+    p i = form_known known (form_at rows i)
 
     own : (i : ℕ) → Reaches rows from i → uses_only known (tree_at rows i) ≡ true → p i ≡ true
     own i r e =
         let o = reached_older b rows from built h i r in
-        own_known known (tree_at rows) (row_at rows i).form (sym (ap (uses_only known) (node_is b rows built i (omega arith))) ∙ e)
+        own_known known (tree_at rows) (form_at rows i) (sym (ap (uses_only known) (node_is b rows built i (omega arith))) ∙ e)
 
 -- ---- the walk
 -- what waits once parts do

@@ -1,13 +1,12 @@
 -- A type taken into a program: the nodes that it reaches, and their copies.
-use Rattle.std.specs.Prelude.{◌↔◌, ℕ, ◌+◌, ◌<◌, ◌≤◌, Bool, true, ◌&&◌, List, [], ◌∷◌, map, length, get_or, nat_eq, unwrap_or}
+use Rattle.std.specs.Prelude.{◌↔◌, ℕ, ◌+◌, ◌<◌, ◌≤◌, Bool, true, ◌&&◌, List, [], ◌∷◌, map, length, nat_eq, unwrap_or}
 use Rattle.std.specs.List.{AllByRecursion, Contains}
 use Rattle.std.specs.HashMap.{HashMap, get}
 use Rattle.xd_syntax.specs.Words.{has_word}
 use Rattle.xd_syntax.specs.Tree.{Tree, Name, Elem, Seq, Alt, Star, Plus, Opt, Val}
-use Rattle.xd_syntax.specs.Placed.{the_start}
-use Rattle.xd_syntax.specs.Table.{Row, tree_at, Form, empty_form, name_form, elem_form, seq_form, alt_form, star_form, plus_form, opt_form, val_form}
+use Rattle.xd_syntax.specs.Table.{Row, tree_at, Form, name_form, elem_form, seq_form, alt_form, star_form, plus_form, opt_form, val_form}
 use Rattle.xd_syntax.specs.Types.{type_numbers}
-use Rattle.xd_syntax.specs.Nodes.{form_parts}
+use Rattle.xd_syntax.specs.Nodes.{form_parts, form_at}
 use Rattle.xd_syntax.specs.declared.types.TypeId.{TypeId}
 
 -- each name that the type uses is among these
@@ -33,12 +32,9 @@ size (Opt T) = size T + 1
 size (Val x T) = size T + 1
 size _ = 1
 
-abbrev pub row_at : List Row → ℕ → Row
-row_at rows i = get_or rows i (record { place = the_start; form = empty_form })
-
 -- the parts of the node with this number
 abbrev pub parts_of : List Row → ℕ → List ℕ
-parts_of rows i = form_parts (row_at rows i).form
+parts_of rows i = form_parts (form_at rows i)
 
 -- it is this node, or a part of one that this node reaches
 pub data Reaches (rows : List Row) (from : ℕ) : ℕ → Type 0 where

@@ -114,10 +114,6 @@ abbrev pub faults_among : List Line → List Line
 faults_among [] = []
 faults_among (l ∷ ls) = cond (is_warning l.kind) (faults_among ls) (l ∷ faults_among ls)
 
-abbrev pub warnings_among : List Line → List Line
-warnings_among [] = []
-warnings_among (l ∷ ls) = cond (is_warning l.kind) (l ∷ warnings_among ls) (warnings_among ls)
-
 -- no fault of matches, arguments and results
 abbrev pub IsAccepted : ProgramTree → Type 0
 IsAccepted P = (ls : List Line) × AreLines P ls × (faults_among ls ≡ [])

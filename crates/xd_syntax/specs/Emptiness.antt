@@ -1,17 +1,30 @@
 -- Which types the empty document fits, by marks on the nodes of a table.
-use Rattle.std.specs.Prelude.{◌≡◌, ℕ, ◌+◌, ◌*◌, ◌^◌, ◌<◌, ◌≤◌, Bool, true, false, ◌||◌, ◌&&◌, ◌⊎◌, ◌↔◌, List, [], ◌∷◌, length, take, get_or, Option, Some, None}
+use Rattle.std.specs.Prelude.{◌≡◌, ℕ, ◌<◌, ◌≤◌, Bool, true, false, ◌||◌, ◌&&◌, ◌⊎◌, ◌↔◌, List, [], ◌∷◌, length, take, get_or, Option, Some, None}
 use Rattle.std.specs.List.{AllByRecursion}
 use Rattle.std.specs.Str.{bytes_eq}
 use Rattle.xd_doc.specs.Document.{empty}
 use Rattle.xd_syntax.specs.Words.{any_word}
+use Rattle.xd_syntax.specs.Tree.{Tree, Empty, Name, Seq, Alt, Star, Plus, Opt, Val}
 use Rattle.xd_syntax.specs.Table.{Row, Form, empty_form, text_form, words_form, name_form, elem_form, seq_form, alt_form, star_form, plus_form, opt_form, val_form, form_tree, tree_at, PartsBelow, CanFollow}
-use Rattle.xd_syntax.specs.Placed.{the_start}
 use Rattle.xd_syntax.specs.Fits.{Fits}
 use Rattle.xd_syntax.specs.Ways.{Among}
 use Rattle.xd_syntax.specs.Sound.{definition_of}
 use Rattle.xd_syntax.specs.declared.types.TypeDef.{TypeDef}
 use Rattle.xd_syntax.specs.Graph.{HasEdge}
 use Rattle.xd_syntax.specs.TypeNames.{meanings}
+use Rattle.xd_syntax.specs.Nodes.{form_at}
+
+-- whether the empty document fits, where N answers for names
+abbrev pub empty_by : (List ℕ → Bool) → Tree → Bool
+empty_by N Empty = true
+empty_by N (Name x) = N x
+empty_by N (Seq T U) = empty_by N T && empty_by N U
+empty_by N (Alt T U) = empty_by N T || empty_by N U
+empty_by N (Star T) = true
+empty_by N (Plus T) = empty_by N T
+empty_by N (Opt T) = true
+empty_by N (Val x T) = empty_by N T
+empty_by N _ = false
 
 abbrev pub is_marked : List Bool → ℕ → Bool
 is_marked marks i = get_or marks i false
@@ -75,12 +88,6 @@ depends_on ds (plus_form i) = i ∷ []
 depends_on ds (opt_form i) = []
 depends_on ds (val_form x p i) = i ∷ []
 
-abbrev pub no_row : Row
-no_row = record { place = the_start; form = empty_form }
-
-abbrev pub form_at : List Row → ℕ → Form
-form_at types i = (get_or types i no_row).form
-
 -- a node's tree is that of its form, whose parts are older nodes
 pub record IsRead (types : List Row) (i : ℕ) : Type 0 where
   pub tree : tree_at types i ≡ form_tree (tree_at types) (form_at types i)
@@ -107,11 +114,3 @@ pub record IsMarking (types : List Row) (ds : List TypeDef) (marks : List Bool) 
   pub right : (i : ℕ) → is_marked marks i ≡ true → Fits (meanings types ds) (tree_at types i) empty
   pub pending : (i : ℕ) → i < length types → (is_marked marks i ≡ true) ⊎ (Among i waiting ⊎ (form_marked marks ds (form_at types i) ≡ false))
   pub within : (i : ℕ) → Among i waiting → i < length types
-
-abbrev pub unmarked : List Bool → ℕ
-unmarked [] = 0
-unmarked (true ∷ marks) = unmarked marks
-unmarked (false ∷ marks) = unmarked marks + 1
-
-abbrev pub visits_left : List Bool → List ℕ → ℕ
-visits_left marks waiting = 2 ^ 65 * unmarked marks + length waiting

@@ -1,6 +1,6 @@
 -- Which documents fit a type (Hosoya, Vouillon and Pierce, TOPLAS 2005: the meaning of types).
-use Rattle.std.specs.Prelude.{◌≡◌, ℕ, true, ◌⊎◌, List, [], ◌∷◌, Some}
-use Rattle.xd_doc.specs.Document.{Document, empty, text, element, join, has_item, is_proper}
+use Rattle.std.specs.Prelude.{◌≡◌, ℕ, true, List, Some}
+use Rattle.xd_doc.specs.Document.{Document, empty, text, element, join, has_item}
 use Rattle.xd_doc.specs.Classes.{LabelClass, TextClass, class_has}
 use Rattle.xd_syntax.specs.Tree.{Tree, Empty, Text, Words, Name, Elem, Seq, Alt, Star, Plus, Opt, Val, Definitions, body}
 
@@ -20,15 +20,6 @@ pub data Fits (E : Definitions) : Tree → Document → Type 0 where
   fits_present : {T : Tree} {d : Document} → Fits E T d → Fits E (Opt T) d
   fits_name : {x : List ℕ} {T : Tree} {d : Document} → body E x ≡ Some T → Fits E T d → Fits E (Name x) d
   fits_val : {x : List ℕ} {T : Tree} {d : Document} → Fits E T d → Fits E (Val x T) d
-
--- the document fits one of these types
-abbrev pub FitsSome : Definitions → List Tree → Document → Type 0
-FitsSome E [] d = ⊥
-FitsSome E (T ∷ Ts) d = Fits E T d ⊎ FitsSome E Ts d
-
--- every proper document that fits the type fits one of the others (TOPLAS 2005: subtyping)
-abbrev pub Included : Definitions → Tree → List Tree → Type 0
-Included E T Us = (d : Document) → is_proper d ≡ true → Fits E T d → FitsSome E Us d
 
 -- a document of two parts
 abbrev pub Split : (Document → Type 0) → (Document → Type 0) → Document → Type 0

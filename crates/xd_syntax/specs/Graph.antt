@@ -9,15 +9,6 @@ successors g v = get_or g v []
 abbrev pub HasEdge : List (List ℕ) → ℕ → ℕ → Type 0
 HasEdge g v w = Among w (successors g v)
 
--- edges lead from the first node to the second, or they are the same
-pub data Path (g : List (List ℕ)) : ℕ → ℕ → Type 0 where
-  stay : {v : ℕ} → Path g v v
-  edge_then : {u v w : ℕ} → HasEdge g u v → Path g v w → Path g u w
-
--- each reaches the other
-abbrev pub AreMutual : List (List ℕ) → ℕ → ℕ → Type 0
-AreMutual g v w = Path g v w × Path g w v
-
 -- edges lead to nodes of the graph
 abbrev pub IsClosed : List (List ℕ) → Type 0
 IsClosed g = (v w : ℕ) → HasEdge g v w → w < length g

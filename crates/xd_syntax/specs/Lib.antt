@@ -9,14 +9,11 @@ pub mod Program
 pub mod Proper
 pub mod ProperTables
 pub mod Ways
-pub mod CanBeEmpty
 pub mod TypeText
 pub mod Shallow
 pub mod Order
 pub mod NameFaults
 pub mod RecursionFaults
-pub mod Meaning
-pub mod Bindings
 pub mod May
 pub mod CheckFaults
 pub mod Patterns

@@ -88,10 +88,6 @@ Allows P (clause_entry e earlier Q ∷ S) x d = in_clause (names_of P) (MayBy P 
 abbrev pub May : ProgramTree → Scope → Expression → Document → Type 0
 May P S e d = MayBy P (Allows P S) e d
 
--- what a match of this scrutinee may be, where these patterns stand before the clauses
-abbrev pub MayClauses : ProgramTree → Scope → Expression → List PlacedTree → Clauses → Document → Type 0
-MayClauses P S e earlier cs d = MayByClauses P (Allows P S) (May P S e) earlier cs d
-
 -- the scope of a function
 abbrev pub parameters_scope : List Parameter → Scope
 parameters_scope ps = map (λ q. parameter_entry q.name q.declared) ps

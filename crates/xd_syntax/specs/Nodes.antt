@@ -2,9 +2,19 @@
 use Rattle.std.specs.Prelude.{◌≡◌, ℕ, Bool, List, [], ◌∷◌, map, get_or, take}
 use Rattle.xd_base.specs.declared.Place.{Place}
 use Rattle.xd_syntax.specs.Table.{Row, Form, empty_form, text_form, words_form, name_form, elem_form, seq_form, alt_form, star_form, plus_form, opt_form, val_form, form_tree, tree_at, PartsBelow, CanFollow}
-use Rattle.xd_syntax.specs.Placed.{placed_at, placed_form}
+use Rattle.xd_syntax.specs.Placed.{placed_at, placed_form, the_start}
 use Rattle.xd_syntax.specs.declared.nodes.FormView.{FormView}
 use Rattle.xd_syntax.specs.declared.nodes.FormView.TheVariants.{Empty, Text, Words, Name, Elem, Seq, Alt, Star, Plus, Opt, Val}
+
+-- what is read where no node stands
+abbrev pub no_row : Row
+no_row = record { place = the_start; form = empty_form }
+
+abbrev pub row_at : List Row → ℕ → Row
+row_at rows i = get_or rows i no_row
+
+abbrev pub form_at : List Row → ℕ → Form
+form_at rows i = (row_at rows i).form
 
 -- the parts of a node, in order
 abbrev pub form_parts : Form → List ℕ

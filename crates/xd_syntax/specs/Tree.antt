@@ -27,12 +27,8 @@ abbrev pub body : Definitions → List ℕ → Option Tree
 body [] x = None
 body (p ∷ ps) x = cond (bytes_eq p.0 x) (Some p.1) (body ps x)
 
--- all labels; all texts
 abbrev pub all_labels : LabelClass
 all_labels = record { names = []; except = true }
-
-abbrev pub all_texts : TextClass
-all_texts = record { names = []; except = true }
 
 -- `(~[Any]|String)*`
 abbrev pub any_type : Tree
@@ -41,17 +37,6 @@ any_type = Star (Alt (Elem all_labels (Name any_word)) Text)
 -- definitions together with that of `Any`
 abbrev pub environment : Definitions → Definitions
 environment E = (any_word, any_type) ∷ E
-
--- the binders dropped
-abbrev pub bare : Tree → Tree
-bare (Elem c T) = Elem c (bare T)
-bare (Seq T U) = Seq (bare T) (bare U)
-bare (Alt T U) = Alt (bare T) (bare U)
-bare (Star T) = Star (bare T)
-bare (Plus T) = Plus (bare T)
-bare (Opt T) = Opt (bare T)
-bare (Val x T) = bare T
-bare T = T
 
 -- the variables of a pattern, one for each occurrence, in order; what a name stands for has none
 abbrev pub occurrences : Tree → List (List ℕ)

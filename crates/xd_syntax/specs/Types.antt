@@ -1,9 +1,8 @@
 -- Types as the program keeps them.
 use Rattle.std.specs.Prelude.{ℕ, ◌<◌, List, map, length}
-use Rattle.xd_syntax.specs.Tree.{Tree, Definitions}
+use Rattle.xd_syntax.specs.Tree.{Tree}
 use Rattle.xd_syntax.specs.Table.{Row, Form, empty_form, text_form, words_form, name_form, elem_form, seq_form, alt_form, star_form, plus_form, opt_form, tree_at}
 use Rattle.xd_syntax.specs.declared.types.TypeId.{TypeId}
-use Rattle.xd_syntax.specs.declared.types.TypeDef.{TypeDef}
 use Rattle.xd_syntax.specs.declared.types.TypeForm.{TypeForm}
 use Rattle.xd_syntax.specs.declared.types.TypeForm.TheVariants.{Empty, Text, Words, Name, Elem, Seq, Alt, Star, Plus, Opt}
 
@@ -29,7 +28,3 @@ BelongsTo types id = id.at < length types
 -- the tree of a type
 abbrev pub tree : List Row → TypeId → Tree
 tree types id = tree_at types id.at
-
--- the definitions of a program
-abbrev pub definitions : List Row → List TypeDef → Definitions
-definitions types defs = map (λ def. (def.name, tree types def.body)) defs

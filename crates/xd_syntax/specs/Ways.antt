@@ -100,18 +100,6 @@ unfoldings E d = (size d + 1) * (length E + 1)
 abbrev pub ways : Definitions → Tree → Document → List Way
 ways E P d = ways_within E (unfoldings E d) P d
 
-abbrev pub first_whole : List Way → Option (List (List ℕ × Document))
-first_whole [] = None
-first_whole (w ∷ ws) = cond (is_whole w) (Some w.bindings) (first_whole ws)
-
--- the bindings of the first way that takes the whole document, within n unfoldings
-abbrev pub first_within : Definitions → ℕ → Tree → Document → Option (List (List ℕ × Document))
-first_within E n P d = first_whole (ways_within E n P d)
-
--- within as many unfoldings as a sound program needs
-abbrev pub first : Definitions → Tree → Document → Option (List (List ℕ × Document))
-first E P d = first_whole (ways E P d)
-
 -- membership
 abbrev pub Among : {A : Type 0} → A → List A → Type 0
 Among x [] = ⊥

@@ -1,6 +1,6 @@
 //! Programs without faults of names, arity, linearity and recursion, and those that are checked besides.
 
-ghost use Rattle.std.specs.Prelude.{◌≡◌, ◌+◌, ◌<◌, ◌≤◌, true, false, length, vec_len, IfOk, OnErr, is_some};
+ghost use Rattle.std.specs.Prelude.{◌≡◌, ◌+◌, ◌<◌, ◌≤◌, true, false, length, vec_len, IfOk, is_some};
 ghost use Rattle.std.specs.List.{AllByRecursion, list_all};
 ghost use Rattle.std.specs.Option.{IfSome};
 ghost use Rattle.std.specs.Str.{bytes_eq};
@@ -15,7 +15,8 @@ ghost use Rattle.xd_syntax.specs.Proper.{IsProperProgram};
 ghost use Rattle.xd_syntax.specs.RecursionFaults.{IsSound};
 ghost use Rattle.xd_syntax.specs.CheckFaults.{IsAccepted};
 ghost use Rattle.xd_syntax.specs.NameFaults.{known_types};
-ghost use Rattle.xd_syntax.specs.Adopt.{uses_only, size, row_at, AreReached, form_known, copy_at, copied_form};
+ghost use Rattle.xd_syntax.specs.Adopt.{uses_only, size, AreReached, form_known, copy_at, copied_form};
+ghost use Rattle.xd_syntax.specs.Nodes.{form_at};
 ghost use Rattle.xd_syntax.specs.Sound.{IsTypeAt, type_named, is_defined, main_parameter, only_parameter};
 ghost use Rattle.xd_syntax.specs.TypeNames.{AreNumbered};
 ghost use Rattle.xd_syntax.specs.Known.{AreKnown, AreKnownSoFar};
@@ -166,7 +167,7 @@ impl SoundProgram {
     /// Whether each of these nodes that is a name is a defined one.
     fn knows_all(&mut self, types: &Types, reached: &[usize]) -> Result<bool, NoMemory>
         requires { AllByRecursion (λ i. i < length types.now) reached.now }
-        ensures all { IfOk result (λ all. all ≡ list_all (λ i. form_known (known_types (program_tree self.old)) (row_at types.now i).form) reached.now) }
+        ensures all { IfOk result (λ all. all ≡ list_all (λ i. form_known (known_types (program_tree self.old)) (form_at types.now i)) reached.now) }
         ensures same { self.new ≡ self.old }
     {
         let known = self.learned()?;
@@ -178,7 +179,7 @@ impl SoundProgram {
     fn defines_all(&self, names: &TypeNames, types: &Types, reached: &[usize]) -> bool
         requires numbered { AreNumbered names.now self.now.type_defs }
         requires nodes { AllByRecursion (λ i. i < length types.now) reached.now }
-        ensures { result ≡ list_all (λ i. form_known (known_types (program_tree self.now)) (row_at types.now i).form) reached.now }
+        ensures { result ≡ list_all (λ i. form_known (known_types (program_tree self.now)) (form_at types.now i)) reached.now }
     {
         for at in reached {
             if !self.defines(names, types.node(TypeId::of(*at)).form()) {

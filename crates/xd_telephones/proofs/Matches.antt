@@ -6,8 +6,9 @@ use Rattle.xd_syntax.specs.Words.{any_word}
 use Rattle.xd_syntax.specs.Tree.{Tree, Text, Name, Elem, Alt, Definitions, all_labels}
 use Rattle.xd_syntax.specs.Placed.{unplaced}
 use Rattle.xd_syntax.specs.Program.{names_of}
-use Rattle.xd_syntax.specs.Ways.{Way, item_count, turns, ways_by, ways_of_name, ways_within, first_whole, first, unfoldings}
-use Rattle.xd_syntax.specs.Meaning.{Environment}
+use Rattle.xd_syntax.specs.Ways.{Way, item_count, turns, ways_by, ways_of_name, ways_within, unfoldings}
+use Rattle.xd_laws.specs.FirstMatch.{first_whole, first}
+use Rattle.xd_laws.specs.Meaning.{Environment}
 use Rattle.xd_laws.specs.LineSamples.{name_label as name, addr_label as addr, tel_label as tel, n_variable as n, t_variable as t, rest_variable as rest, with_tel_at, without_tel_at}
 use Rattle.xd_telephones.specs.Telephones.{telephone_program}
 use Rattle.xd_telephones.specs.Persons.{field}

@@ -3,8 +3,8 @@ use Rattle.std.proofs.Common.{◌≡◌, ℕ, zero, suc, ◌+◌, ◌%◌, arith
 use Rattle.std.specs.Prelude.{codes, decimal, nat_eq}
 use Rattle.xd_doc.specs.Document.{Document, empty, join}
 use Rattle.xd_syntax.specs.Words.{main_word}
-use Rattle.xd_syntax.specs.Ways.{first}
-use Rattle.xd_syntax.specs.Meaning.{Done, Matcher, call_within, meaning}
+use Rattle.xd_laws.specs.FirstMatch.{first}
+use Rattle.xd_laws.specs.Meaning.{Done, Matcher, call_within, meaning}
 use Rattle.xd_laws.specs.LineSamples.{name_label as name, n_variable as n, t_variable as t, rest_variable as rest}
 use Rattle.xd_telephones.specs.Telephones.{telephone_program}
 use Rattle.xd_telephones.specs.Persons.{field, person, persons_to, listed, listed_to, sample_of, telephones_to}

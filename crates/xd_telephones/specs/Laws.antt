@@ -5,7 +5,7 @@ use Rattle.xd_syntax.specs.Program.{ProgramTree, names_of}
 use Rattle.xd_syntax.specs.Fits.{Fits}
 use Rattle.xd_syntax.specs.RecursionFaults.{AreRecursionFaults, IsSound}
 use Rattle.xd_syntax.specs.CheckFaults.{Line, AreLines}
-use Rattle.xd_syntax.specs.Meaning.{Done, meaning}
+use Rattle.xd_laws.specs.Meaning.{Done, meaning}
 use Rattle.xd_syntax.specs.declared.fault.Fault.{Fault}
 use Rattle.xd_parse.specs.declared.grammar.Nonterminal.TheVariants.{Definitions}
 use Rattle.xd_parse.specs.Faults.{IsFirstTextFault}

@@ -3,7 +3,7 @@ use Rattle.xd_doc.specs.Stored.{document_at}
 use Rattle.xd_syntax.specs.Kept.{ProgramTable, program_tree}
 use Rattle.xd_syntax.specs.Words.{main_word}
 use Rattle.xd_syntax.specs.RecursionFaults.{IsSound}
-use Rattle.xd_syntax.specs.Meaning.{Done}
+use Rattle.xd_laws.specs.Meaning.{Done}
 use Rattle.xd_eval.specs.Functions.{row_of}
 use Rattle.xd_eval.specs.Machine.{IsStart}
 use Rattle.xd_eval.specs.Machine.{IsEnding}

@@ -1,5 +1,5 @@
 use Rattle.std.proofs.Common.{◌≡◌, ◌<◌, ◌&&◌, ◌∷◌, ℕ, List, length, map, arith, ap, sym, ◌∙◌}
-use Rattle.xd_syntax.specs.CanBeEmpty.{can_be_empty}
+use Rattle.xd_laws.specs.CanBeEmpty.{can_be_empty}
 use Rattle.xd_syntax.specs.Tree.{Definitions, seq_of}
 use Rattle.xd_syntax.specs.Table.{Row}
 use Rattle.xd_continuations.specs.Chains.{list_at}

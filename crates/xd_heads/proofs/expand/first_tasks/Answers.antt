@@ -1,6 +1,6 @@
 use Rattle.std.proofs.Common.{◌≡◌, ◌<◌, true, false, cond, length, arith, ap, sym, subst, ◌∙◌}
 use Rattle.std.specs.List.{AllByRecursion}
-use Rattle.xd_syntax.specs.CanBeEmpty.{can_be_empty}
+use Rattle.xd_laws.specs.CanBeEmpty.{can_be_empty}
 use Rattle.xd_syntax.specs.TypeNames.{meanings}
 use Rattle.xd_heads.specs.Found.{IsTask, piece_tree, waiting_at}
 use Rattle.xd_heads.specs.Cells.{Cell}

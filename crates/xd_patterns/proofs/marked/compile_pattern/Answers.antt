@@ -1,5 +1,5 @@
 use Rattle.std.proofs.Common.{◌≡◌, ◌<◌, ℕ, length, sym, subst}
-use Rattle.xd_syntax.specs.Bindings.{variables_of}
+use Rattle.xd_laws.specs.Bindings.{variables_of}
 use Rattle.xd_syntax.specs.Patterns.{pattern_tree}
 use Rattle.xd_syntax.specs.Table.{tree_at}
 use Rattle.xd_runs.specs.Linear.{IsLinear}

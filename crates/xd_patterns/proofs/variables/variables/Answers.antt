@@ -1,6 +1,6 @@
 use Rattle.std.proofs.Common.{◌+◌, ◌++◌, ◌∷◌, drop, ap, sym, ◌∙◌}
 use Rattle.std.proofs.lemmas.List.{drop_more}
-use Rattle.xd_syntax.specs.Bindings.{each_once}
+use Rattle.xd_laws.specs.Bindings.{each_once}
 use Rattle.xd_syntax.specs.Tree.{occurrences}
 use Rattle.xd_syntax.specs.Placed.{variables, placed_at}
 use Rattle.xd_syntax.proofs.PlacedTrees.{unplaced_at}

@@ -4,9 +4,9 @@ use Rattle.xd_doc.specs.Document.{Document}
 use Rattle.xd_syntax.specs.Placed.{the_start}
 use Rattle.xd_syntax.specs.Expression.{Tagged, Joined, Called, Matched, argument, clause}
 use Rattle.xd_syntax.specs.Program.{names_of}
-use Rattle.xd_syntax.specs.Ways.{first_within}
-use Rattle.xd_syntax.specs.Meaning as on_fuel
-use Rattle.xd_syntax.specs.Meaning.{value_by, values_by, chosen_by}
+use Rattle.xd_laws.specs.FirstMatch.{first_within}
+use Rattle.xd_laws.specs.Meaning as on_fuel
+use Rattle.xd_laws.specs.Meaning.{value_by, values_by, chosen_by}
 use Rattle.xd_plain.specs.PlainDocuments.{document_of}
 use Rattle.xd_plain.specs.PlainTrees.{tree_of, definitions_of, map_option}
 use Rattle.xd_plain.specs.PlainWays.{bindings_of}

@@ -4,7 +4,7 @@ use Rattle.xd_syntax.specs.Words.{main_word}
 use Rattle.xd_plain.specs.PlainDocuments.{document_of}
 use Rattle.xd_plain.specs.PlainPrograms.{program_of}
 use Rattle.xd_plain.specs.PlainMeaning.{documents_of, matches_of}
-use Rattle.xd_syntax.specs.Ways.{first}
+use Rattle.xd_laws.specs.FirstMatch.{first}
 use Rattle.xd_syntax.specs.Program.{names_of}
 use Rattle.xd_plain.proofs.PlainMeaning.{settled, is_answer}
 use Rattle.xd_plain.proofs.evaluate.meaning.Goals as goal

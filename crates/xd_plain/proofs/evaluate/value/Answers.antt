@@ -1,9 +1,9 @@
-use Rattle.xd_syntax.specs.Meaning.{Matcher}
+use Rattle.xd_laws.specs.Meaning.{Matcher}
 use Rattle.xd_plain.specs.PlainMeaning.{value_with}
 use Rattle.xd_plain.specs.PlainWays.{bindings_of}
 use Rattle.xd_plain.specs.PlainPrograms.{expression_of, program_of}
 use Rattle.xd_plain.specs.PlainMeaning.{matches_of}
-use Rattle.xd_syntax.specs.Ways.{first}
+use Rattle.xd_laws.specs.FirstMatch.{first}
 use Rattle.xd_syntax.specs.Program.{names_of}
 use Rattle.xd_plain.proofs.PlainMeaning.{settled, is_answer}
 use Rattle.xd_plain.proofs.evaluate.value.Goals as goal

@@ -1,7 +1,7 @@
 use Rattle.std.proofs.Common.{◌≡◌, ◌<◌, ◌≤◌, ◌+◌, ◌∙◌, ◌++◌, ◌∷◌, [], ℕ, List, length, length-append, get_or, arith, subst, sym, ap}
 use Rattle.std.proofs.lemmas.List.{get_or_default}
 use Rattle.xd_syntax.specs.Table.{Row, Form}
-use Rattle.xd_syntax.specs.Adopt.{row_at}
+use Rattle.xd_syntax.specs.Nodes.{row_at}
 use Rattle.xd_syntax.specs.Types.{form_of}
 use Rattle.xd_proof_check.specs.Lists.{HasNumber}
 use Rattle.xd_proof_check.specs.Numbers.{form_code, number_at}

@@ -1,5 +1,5 @@
 use Rattle.std.proofs.Common.{◌≡◌, ℕ, ◌<◌, ◌≤◌, length}
-use Rattle.xd_syntax.specs.Adopt.{row_at}
+use Rattle.xd_syntax.specs.Nodes.{row_at}
 use Rattle.xd_proof_check.specs.Lists.{HasNumber}
 use Rattle.xd_proof_check.specs.Numbers.{form_code, number_at}
 use Rattle.xd_proof_check.proofs.numbers.number_types.Given as goal

@@ -2,7 +2,8 @@ use Rattle.std.proofs.Common.{◌≡◌, ◌<◌, arith, length, ap, sym, subst,
 use Rattle.xd_syntax.specs.Types.{form_of}
 use Rattle.xd_syntax.specs.declared.types.TypeId.{TypeId}
 use Rattle.xd_syntax.specs.Graph.{HasEdge}
-use Rattle.xd_syntax.specs.Emptiness.{depends_on, form_at}
+use Rattle.xd_syntax.specs.Emptiness.{depends_on}
+use Rattle.xd_syntax.specs.Nodes.{form_at}
 use Rattle.std.proofs.lemmas.Bool.{cases_eq}
 use Rattle.xd_syntax.proofs.Members.{Among}
 use Rattle.xd_syntax.proofs.EmptyLemmas.{form_read, read_more}

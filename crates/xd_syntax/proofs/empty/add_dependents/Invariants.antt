@@ -1,7 +1,8 @@
 use Rattle.std.proofs.Common.{◌≡◌, ℕ, ◌<◌, length}
 use Rattle.xd_syntax.proofs.Members.{Among}
 use Rattle.xd_syntax.specs.Graph.{HasEdge}
-use Rattle.xd_syntax.specs.Emptiness.{IsRead, depends_on, form_at}
+use Rattle.xd_syntax.specs.Emptiness.{IsRead, depends_on}
+use Rattle.xd_syntax.specs.Nodes.{form_at}
 use Rattle.xd_syntax.proofs.empty.add_dependents.Given as goal
 
 abbrev pub invariant-loop-at : goal.invariant-loop-at

@@ -1,7 +1,8 @@
 use Rattle.std.proofs.Common.{◌≡◌, ◌+◌, ◌<◌, arith, length, ap, sym, subst, ◌∙◌}
 use Rattle.std.proofs.lemmas.List.{length_push}
 use Rattle.xd_syntax.specs.Types.{form_of}
-use Rattle.xd_syntax.specs.Emptiness.{AreEmptySoFar, IsRead, form_at, form_marked}
+use Rattle.xd_syntax.specs.Emptiness.{AreEmptySoFar, IsRead, form_marked}
+use Rattle.xd_syntax.specs.Nodes.{form_at}
 use Rattle.xd_syntax.specs.declared.types.TypeId.{TypeId}
 use Rattle.xd_syntax.proofs.EmptyLemmas.{form_read, read_at}
 use Rattle.xd_syntax.proofs.KnownLaws.{so_far_more}

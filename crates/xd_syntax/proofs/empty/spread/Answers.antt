@@ -3,7 +3,8 @@ use Rattle.std.proofs.lemmas.List.{length-append, get_or_read, nil_from_length}
 use Rattle.xd_syntax.specs.Types.{form_of}
 use Rattle.xd_syntax.specs.Table.{PartsBelow}
 use Rattle.xd_syntax.specs.declared.types.TypeId.{TypeId}
-use Rattle.xd_syntax.specs.Emptiness.{IsMarking, form_at, form_marked}
+use Rattle.xd_syntax.specs.Emptiness.{IsMarking, form_marked}
+use Rattle.xd_syntax.specs.Nodes.{form_at}
 use Rattle.xd_syntax.proofs.EmptyLemmas.{popped, visited, marked_more, unmarked_less, form_read, bodies_below, parts_up}
 use Rattle.xd_syntax.proofs.empty.spread.Goals as goal
 

@@ -1,4 +1,5 @@
-use Rattle.xd_syntax.specs.Emptiness.{IsMarking, visits_left}
+use Rattle.xd_syntax.specs.Emptiness.{IsMarking}
+use Rattle.xd_syntax.proofs.EmptyLemmas.{visits_left}
 use Rattle.xd_syntax.proofs.empty.spread.Given as goal
 
 abbrev pub invariant-loop-at : goal.invariant-loop-at

@@ -1,7 +1,7 @@
 use Rattle.std.proofs.Common.{IfOk, sym, subst}
 use Rattle.xd_doc.specs.Stored.{document_at}
 use Rattle.xd_syntax.specs.Tree.{Tree}
-use Rattle.xd_syntax.specs.Bindings.{first_bindings}
+use Rattle.xd_laws.specs.Bindings.{first_bindings}
 use Rattle.xd_syntax.specs.Kept.{program_tree}
 use Rattle.xd_syntax.specs.Program.{names_of}
 use Rattle.xd_syntax.proofs.PlacedTrees.{unplaced_at}

@@ -7,7 +7,7 @@ use Rattle.xd_syntax.specs.Kept.{ProgramTable, program_tree}
 use Rattle.xd_syntax.specs.Patterns.{pattern_tree}
 use Rattle.xd_syntax.specs.Program.{names_of}
 use Rattle.xd_syntax.specs.Tree.{occurrences}
-use Rattle.xd_syntax.specs.Bindings.{variables_of}
+use Rattle.xd_laws.specs.Bindings.{variables_of}
 use Rattle.xd_syntax.specs.Table.{Row}
 use Rattle.xd_syntax.specs.declared.types.TypeDef.{TypeDef}
 use Rattle.xd_runs.specs.Linear.{BindNothing}

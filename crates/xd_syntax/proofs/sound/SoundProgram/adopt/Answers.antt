@@ -3,7 +3,8 @@ use Rattle.std.specs.List.{list_all}
 use Rattle.xd_syntax.specs.NameFaults.{known_types}
 use Rattle.xd_syntax.specs.Kept.{ProgramTable, program_tree}
 use Rattle.xd_syntax.specs.Shallow.{IsShallow, nesting_limit}
-use Rattle.xd_syntax.specs.Adopt.{form_known, row_at}
+use Rattle.xd_syntax.specs.Adopt.{form_known}
+use Rattle.xd_syntax.specs.Nodes.{form_at}
 use Rattle.xd_syntax.proofs.ShallowTables.{shallow_grown, weaker_within}
 use Rattle.xd_syntax.proofs.Reached.{each_contained, reached_older, all_known}
 use Rattle.xd_syntax.proofs.sound.SoundProgram.adopt.Goals as goal
@@ -17,14 +18,14 @@ knows_all-requires c =
 pub returns-then-not-branch-clause-defined : goal.returns-then-not-branch-clause-defined
 returns-then-not-branch-clause-defined c =
     let known : List (List ℕ) = known_types (program_tree c.args.self.now) in
-    let p : ℕ → Bool = λ i. form_known known (row_at c.args.types.now i).form in
+    let p : ℕ → Bool = λ i. form_known known (form_at c.args.types.now i) in
     sym c.if-not-branch.true ∙ c.in_ok-knows_all.ensures.all ∙ ap (list_all p) c.deref.ensures.value
     ∙ all_known _ c.args.types.now c.args.id.at _ c.see_table.ensures.built c.requires c.in_ok-reached.ensures known
 
 pub returns-clause-defined : goal.returns-clause-defined
 returns-clause-defined c =
     let known : List (List ℕ) = known_types (program_tree c.args.self.now) in
-    let p : ℕ → Bool = λ i. form_known known (row_at c.args.types.now i).form in
+    let p : ℕ → Bool = λ i. form_known known (form_at c.args.types.now i) in
     sym c.if-not-branch.false ∙ c.in_ok-knows_all.ensures.all ∙ ap (list_all p) c.deref.ensures.value
     ∙ all_known _ c.args.types.now c.args.id.at _ c.see_table.ensures.built c.requires c.in_ok-reached.ensures known
 

@@ -2,8 +2,8 @@
 use Rattle.std.specs.Prelude.{ℕ, List, [], ◌∷◌, flat_map, Option, Some, None, option_map}
 use Rattle.xd_doc.specs.Document.{Document}
 use Rattle.xd_syntax.specs.Tree.{Tree, Definitions, occurrences}
-use Rattle.xd_syntax.specs.Ways.{first}
-use Rattle.xd_syntax.specs.Meaning.{Environment, looked_up}
+use Rattle.xd_laws.specs.FirstMatch.{first}
+use Rattle.xd_laws.specs.Meaning.{Environment, looked_up}
 use Rattle.xd_syntax.specs.NameFaults.{without}
 
 -- each word once, where it stands first

@@ -5,7 +5,7 @@ use Rattle.xd_doc.specs.Document.{Document, empty, text, element, join}
 use Rattle.xd_syntax.specs.Words.{main_word}
 use Rattle.xd_syntax.specs.Tree.{Tree}
 use Rattle.xd_syntax.specs.Placed.{unplaced}
-use Rattle.xd_syntax.specs.Ways.{first}
+use Rattle.xd_laws.specs.FirstMatch.{first}
 use Rattle.xd_syntax.specs.Expression.{Expression, Nothing, Quoted, Variable, Tagged, Joined, Called, Matched, Arguments, no_argument, argument, Clauses, no_clause, clause}
 use Rattle.xd_syntax.specs.Program.{Parameter, FunctionDefinition, ProgramTree, names_of, function_of}
 
