@@ -1,10 +1,11 @@
 -- Copies of the nodes that a node reaches.
-use Rattle.std.proofs.Common.{◌≡◌, ℕ, ◌<◌, ◌≤◌, ◌⊎◌, inl, inr, ⊎_elim, arith, Bool, true, false, ◌||◌, cond, nat_eq, List, [], ◌∷◌, ◌++◌, map, length, take, drop, get_or, Option, Some, unwrap_or, length-append, take-append-drop, append_assoc, refl, ap, sym, subst, ◌∙◌}
+use Rattle.std.proofs.Common.{◌≡◌, ℕ, zero, suc, ◌+◌, ◌<◌, ◌≤◌, ◌⊎◌, ⊎_elim, arith, true, false, ◌||◌, List, [], ◌∷◌, ◌++◌, map, length, take, drop, get_or, length-append, take-append-drop, append_assoc, refl, ap, sym, subst, ◌∙◌}
 use Rattle.std.specs.List.{AllByRecursion, Contains}
-use Rattle.std.specs.HashMap.{HashMap, get}
-use Rattle.std.proofs.lemmas.Bool.{eqb-true}
-use Rattle.std.proofs.lemmas.List.Elements.{Contains-append_left, Contains-push, Contains-push_cases}
-use Rattle.xd_doc.proofs.CopyLemmas.{none_contained}
+use Rattle.std.specs.List.Sorted.{IsNonDecreasing}
+use Rattle.std.proofs.lemmas.Bool.{cases_lt, le-ltb, lt-ltb}
+use Rattle.std.proofs.lemmas.Grind.{get_or_default_zero}
+use Rattle.std.proofs.lemmas.List.{get_or-take, length-take-le}
+use Rattle.std.proofs.lemmas.List.Elements.{Contains-get_or}
 use Rattle.xd_syntax.specs.Tree.{Tree, Elem, Star, Plus, Opt, Val, seq_of, alt_of, is_seq, is_alt, is_empty}
 use Rattle.xd_syntax.specs.TypeText.{depth}
 use Rattle.xd_syntax.specs.Shallow.{AddsOne, AddsWithin}
@@ -13,7 +14,7 @@ use Rattle.xd_syntax.specs.Kept.{ProgramTable, AddsTypes}
 use Rattle.xd_syntax.specs.Types.{type_numbers}
 use Rattle.xd_syntax.specs.Nodes.{form_parts}
 use Rattle.xd_syntax.specs.Sound.{IsTypeAt}
-use Rattle.xd_syntax.specs.Adopt.{parts_of, Reaches, itself, part, AreFalling, AreReached, copy_at, copied_form}
+use Rattle.xd_syntax.specs.Adopt.{parts_of, Reaches, itself, part, AreRising, AreReached, place_among, copy_from, copied_form}
 use Rattle.xd_syntax.specs.declared.types.TypeId.{TypeId}
 use Rattle.xd_syntax.proofs.Trees.{tree_kept}
 use Rattle.xd_syntax.proofs.ShallowTables.{one_within, weaker_within, within_both}
@@ -90,73 +91,89 @@ type_kept old new T id k a =
       same = ap (λ rs. tree_at rs id.at) k.grown ∙ tree_kept old k.more id.at a.belongs ∙ a.same;
     }
 
+-- ---- places in a list that rises
+pub place_is : (is : List ℕ) (x k : ℕ) → k ≤ length is → ((m : ℕ) → m < k → get_or is m 0 < x) → (k < length is → x ≤ get_or is k 0) → place_among is x ≡ k
+place_is [] x k l below above = omega arith
+place_is (i ∷ is) x zero l below above = let h = above (omega arith) in rw (le-ltb i x h) refl
+place_is (i ∷ is) x (suc k) l below above =
+    let h = below 0 (omega arith) in
+    rw (lt-ltb i x h) (ap suc (place_is is x k (omega arith) (λ m b. below (suc m) (omega arith)) (λ b. above (omega arith))))
+
+pub place_at : (is : List ℕ) → AreRising is → (k : ℕ) → k < length is → place_among is (get_or is k 0) ≡ k
+place_at is rising k l = place_is is (get_or is k 0) k (omega arith) (λ m h. rising m k h l) (λ h. omega arith)
+
+pub rising_sorted : (is : List ℕ) → AreRising is → IsNonDecreasing is
+rising_sorted is rising i j d h l = ⊎_elim
+    (λ (b : i < j). (let r = rising i j b l in let x = get_or_default_zero is i d (omega arith) in let y = get_or_default_zero is j d l in omega arith))
+    (λ (b : j ≤ i). (let e : i ≡ j = omega arith in let q = ap (λ k. get_or is k d) e in omega arith))
+    (cases_lt i j)
+
+pub rising_front : (is : List ℕ) (k : ℕ) → k ≤ length is → AreRising is → AreRising (take k is)
+rising_front is k l rising m n h b =
+    let t = length-take-le k is l in
+    rw (get_or-take k is m 0 (omega arith), get_or-take k is n 0 (omega arith)) (rising m n h (omega arith))
+
 -- ---- copies one after the other, from the oldest on
--- what is reached is still to be copied, or copied
-pub record Copied {S : Type 0} (from : List Row) (root : ℕ) (rest : List ℕ) (into : List Row) (copies : HashMap ℕ TypeId S) : Type 0 where
-  pub done : (i : ℕ) → Reaches from root i → Contains rest i ⊎ IsCopied from into (copy_at copies) i
-  pub falling : AreFalling rest
-  pub left : (i : ℕ) → Contains rest i → Reaches from root i
+abbrev pub numbered : ℕ → TypeId
+numbered n = record { at = n }
 
-pub copy_begins : {S : Type 0} (from : List Row) (root : ℕ) (rest : List ℕ) (into : List Row) (copies : HashMap ℕ TypeId S) → AreReached from root rest → Copied from root rest into copies
-copy_begins from root rest into copies r = record { done = λ i h. inl ((r.exact i).1 h); falling = r.falling; left = λ i c. (r.exact i).0 c }
+-- the first k of these are copied, the copies one after the other from this number on
+abbrev pub AreCopied : (from into : List Row) (first : ℕ) (is : List ℕ) (k : ℕ) → Type 0
+AreCopied from into first is k = (m : ℕ) → m < k → IsTypeAt into (tree_at from (get_or is m 0)) (numbered (first + m))
 
-last_is_least : (front : List ℕ) (p : ℕ) → AreFalling (front ++ p ∷ []) → (i : ℕ) → Contains front i → p < i
-last_is_least [] p a i c = absurd (none_contained i c)
-last_is_least (j ∷ js) p a i c = contained_each (λ m. p < m) (j ∷ js) i (least (j ∷ js) a) c
+-- the parts of the next one are copied
+copy_ready : (from : List Row) (root : ℕ) (is : List ℕ) (k : ℕ) (into : List Row) (first : ℕ) → AreBuilt false from → root < length from → AreReached from root is → AreCopied from into first is k →
+    k < length is → AllByRecursion (IsCopied from into (copy_from first (take k is))) (parts_of from (get_or is k 0))
+copy_ready from root is k into first built h reached done l =
+    let p = get_or is k 0 in
+    let r : Reaches from root p = (reached.exact p).0 (Contains-get_or is k 0 l) in
+    let o = reached_older false from root built h p r in
+    let a = older_parts false from built p (omega arith) in
+    each_contained (IsCopied from into (copy_from first (take k is))) (parts_of from p)
+    (λ j d. one j (contained_each (λ m. m < p) (parts_of from p) j a d) ((reached.exact j).1 (part p r d)))
   where
-    least : (js : List ℕ) → AreFalling (js ++ p ∷ []) → AllByRecursion (λ m. p < m) js
-    least [] b = tt
-    least (k ∷ ks) b = (contained_each (λ m. m < k) (ks ++ p ∷ []) p b.0 (Contains-push ks p), least ks b.1)
+    earlier : (j m : ℕ) → j < get_or is k 0 → m < length is → get_or is m 0 ≡ j → m < k
+    earlier j m low b e = ⊎_elim
+        (λ (x : m < k). x)
+        (λ (x : k ≤ m). absurd (⊎_elim
+        (λ (y : k < m). (let z = reached.rising k m y b in omega arith))
+        (λ (y : m ≤ k). (let q : k ≡ m = omega arith in let z = ap (λ n. get_or is n 0) q in omega arith))
+        (cases_lt k m)))
+        (cases_lt m k)
 
-falling_front : (front : List ℕ) (p : ℕ) → AreFalling (front ++ p ∷ []) → AreFalling front
-falling_front [] p a = tt
-falling_front (j ∷ js) p a = (front_all js a.0, falling_front js p a.1)
-  where
-    front_all : (ks : List ℕ) → AllByRecursion (λ m. m < j) (ks ++ p ∷ []) → AllByRecursion (λ m. m < j) ks
-    front_all [] b = tt
-    front_all (k ∷ ks) b = (b.0, front_all ks b.1)
+    one : (j : ℕ) → j < get_or is k 0 → Contains is j → IsCopied from into (copy_from first (take k is)) j
+    one j low c =
+        let m : ℕ = c.0 in
+        let e : get_or is m 0 ≡ j = sym (get_or_default_zero is m j c.1) ∙ c.2 in
+        let b : m < k = earlier j m low c.1 e in
+        let n = length-take-le k is (omega arith) in
+        let q : place_among (take k is) j ≡ m = ap (place_among (take k is)) (sym (get_or-take k is m 0 b ∙ e)) ∙ place_at (take k is) (rising_front is k (omega arith) reached.rising) m (omega arith) in
+        subst (λ i. IsTypeAt into (tree_at from i) (numbered (first + place_among (take k is) j))) e
+        (subst (λ i. IsTypeAt into (tree_at from (get_or is m 0)) (numbered (first + i))) (sym q) (done m b))
 
--- the parts of the least are copied
-pub copy_ready : {S : Type 0} (b : Bool) (from : List Row) (root : ℕ) (rest front : List ℕ) (p : ℕ) (into : List Row) (copies : HashMap ℕ TypeId S) → AreBuilt b from → root < length from →
-    Copied from root rest into copies → rest ≡ front ++ p ∷ [] → AllByRecursion (IsCopied from into (copy_at copies)) (parts_of from p)
-copy_ready b from root rest front p into copies built h c e =
-    let last : Contains rest p = rw e (Contains-push front p) in
-    let r : Reaches from root p = c.left p last in
-    let k = reached_older b from root built h p r in
-    let a = older_parts b from built p (omega arith) in
-    let least = last_is_least front p (rw e at c.falling) in
-    each_contained (IsCopied from into (copy_at copies)) (parts_of from p) (λ j d.
-    let l : j < p = contained_each (λ m. m < p) (parts_of from p) j a d in
-    ⊎_elim
-    (λ (w : Contains rest j). ⊎_elim
-    (λ (f : Contains front j). absurd (let g = least j f in omega arith))
-    (λ (q : p ≡ j). absurd (omega arith))
-    (Contains-push_cases front p j (rw e at w)))
-    (λ k. k)
-    (c.done j (part p r d)))
-
-pub copy_inside : {S : Type 0} (from : List Row) (root : ℕ) (rest front : List ℕ) (p : ℕ) (into : List Row) (copies : HashMap ℕ TypeId S) → AreBuilt false from → root < length from →
-    Copied from root rest into copies → rest ≡ front ++ p ∷ [] → p < length from
-copy_inside from root rest front p into copies built h c e =
-    let k = reached_older false from root built h p (c.left p (rw e (Contains-push front p))) in omega arith
+pub copy_inside : (from : List Row) (root : ℕ) (is : List ℕ) (k : ℕ) → AreBuilt false from → root < length from → AreReached from root is → k < length is → get_or is k 0 < length from
+copy_inside from root is k built h reached l =
+    let o = reached_older false from root built h (get_or is k 0) ((reached.exact (get_or is k 0)).0 (Contains-get_or is k 0 l)) in omega arith
 
 -- its form may follow, over the copies of its parts, and stands for the same type, which is no deeper than the whole
-pub record IsReady {S : Type 0} (from : List Row) (root p : ℕ) (f : Form) (into : List Row) (copies : HashMap ℕ TypeId S) : Type 0 where
-  pub follows : CanFollow false into (copied_form (copy_at copies) f)
-  pub same : form_tree (tree_at into) (copied_form (copy_at copies) f) ≡ tree_at from p
+pub record IsReady (from : List Row) (root p : ℕ) (f : Form) (into : List Row) (copy : ℕ → TypeId) : Type 0 where
+  pub follows : CanFollow false into (copied_form copy f)
+  pub same : form_tree (tree_at into) (copied_form copy f) ≡ tree_at from p
   pub within : depth (tree_at from p) ≤ depth (tree_at from root)
 
-pub is_ready : {S : Type 0} (from : List Row) (root : ℕ) (rest front : List ℕ) (p k : ℕ) (r : Row) (f : Form) (into : List Row) (copies : HashMap ℕ TypeId S) → AreBuilt false from → root < length from →
-    Copied from root rest into copies → rest ≡ front ++ p ∷ [] → k ≡ p → r ≡ get_or from k r → tree_at from k ≡ form_tree (tree_at from) r.form → CanFollow false (take k from) r.form → f ≡ r.form →
-    IsReady from root p f into copies
-is_ready from root rest front p k r f into copies built h c e q row t m g =
-    let inside = copy_inside from root rest front p into copies built h c e in
-    let parts : parts_of from p ≡ form_parts r.form = ap (parts_of from) (sym q) ∙ parts_seen from k r row (omega arith) in
-    let all : AllByRecursion (IsCopied from into (copy_at copies)) (form_parts r.form) = subst (AllByRecursion (IsCopied from into (copy_at copies))) parts (copy_ready false from root rest front p into copies built h c e) in
+pub is_ready : (from : List Row) (root : ℕ) (is : List ℕ) (k at : ℕ) (r : Row) (f : Form) (into : List Row) (first : ℕ) → AreBuilt false from → root < length from → AreReached from root is →
+    AreCopied from into first is k → k < length is → at ≡ get_or is k 0 → r ≡ get_or from at r → tree_at from at ≡ form_tree (tree_at from) r.form → CanFollow false (take at from) r.form → f ≡ r.form →
+    IsReady from root (get_or is k 0) f into (copy_from first (take k is))
+is_ready from root is k at r f into first built h reached done l q row t m g =
+    let p = get_or is k 0 in
+    let copy = copy_from first (take k is) in
+    let inside = copy_inside from root is k built h reached l in
+    let parts : parts_of from p ≡ form_parts r.form = ap (parts_of from) (sym q) ∙ parts_seen from at r row (omega arith) in
+    let all : AllByRecursion (IsCopied from into copy) (form_parts r.form) = subst (AllByRecursion (IsCopied from into copy)) parts (copy_ready from root is k into first built h reached done l) in
     record {
-      follows = subst (λ x. CanFollow false into (copied_form (copy_at copies) x)) (sym g) (copied_follows from into (copy_at copies) k (omega arith) r.form all m);
-      same = ap (λ x. form_tree (tree_at into) (copied_form (copy_at copies) x)) g ∙ copied_tree from into (copy_at copies) r.form all ∙ sym t ∙ ap (tree_at from) q;
-      within = reached_within false from root built h p (c.left p (rw e (Contains-push front p)));
+      follows = subst (λ x. CanFollow false into (copied_form copy x)) (sym g) (copied_follows from into copy at (omega arith) r.form all m);
+      same = ap (λ x. form_tree (tree_at into) (copied_form copy x)) g ∙ copied_tree from into copy r.form all ∙ sym t ∙ ap (tree_at from) q;
+      within = reached_within false from root built h p ((reached.exact p).0 (Contains-get_or is k 0 l));
     }
 
 -- nodes that are added one after the other, none deeper than the whole
@@ -164,48 +181,31 @@ pub within_more : (limit : ℕ) (old into new : List Row) (T U : Tree) → Keeps
 within_more limit old into new T U keeps a one e d =
     within_both limit old into new keeps a (weaker_within (depth U) limit into new (let s = ap depth e in omega arith) (one_within U into new one))
 
-copied_at : {S : Type 0} (old new : HashMap ℕ TypeId S) (p i : ℕ) (id : TypeId) → get nat_eq new i ≡ cond (nat_eq p i) (Some id) (get nat_eq old i) →
-    ((p ≡ i) × (copy_at new i ≡ id)) ⊎ (copy_at new i ≡ copy_at old i)
-copied_at old new p i id e = step (nat_eq p i) refl e
+-- the next one is copied
+pub copy_goes_on : (from : List Row) (is : List ℕ) (k : ℕ) (id : TypeId) (into new : List Row) (first : ℕ) → AreCopied from into first is k → KeepsRows into new →
+    IsTypeAt new (tree_at from (get_or is k 0)) id → id.at ≡ length into → length into ≡ first + k → AreCopied from new first is (k + 1)
+copy_goes_on from is k id into new first done keeps made last count m h = ⊎_elim
+    (λ (l : m < k). type_kept into new (tree_at from (get_or is m 0)) (numbered (first + m)) keeps (done m l))
+    (λ (l : k ≤ m). (let q : k ≡ m = omega arith in subst (λ i. IsTypeAt new (tree_at from (get_or is i 0)) (numbered (first + i))) q here))
+    (cases_lt m k)
   where
-    step : (b : Bool) → nat_eq p i ≡ b → get nat_eq new i ≡ cond b (Some id) (get nat_eq old i) → ((p ≡ i) × (copy_at new i ≡ id)) ⊎ (copy_at new i ≡ copy_at old i)
-    step true t g = inl (eqb-true p i t, ap (λ (o : Option TypeId). unwrap_or o (record { at = 0 })) g)
-    step false t g = inr (ap (λ (o : Option TypeId). unwrap_or o (record { at = 0 })) g)
+    at : id.at ≡ first + k
+    at = last ∙ count
 
--- the least is copied
-pub copy_goes_on : {S : Type 0} (from : List Row) (root : ℕ) (rest front : List ℕ) (p : ℕ) (id : TypeId) (into new : List Row) (copies more : HashMap ℕ TypeId S) →
-    Copied from root rest into copies → rest ≡ front ++ p ∷ [] → KeepsRows into new → IsTypeAt new (tree_at from p) id →
-    ((i : ℕ) → get nat_eq more i ≡ cond (nat_eq p i) (Some id) (get nat_eq copies i)) → get nat_eq more p ≡ Some id → Copied from root front new more
-copy_goes_on from root rest front p id into new copies more c e keeps made adds here = record {
-  done = λ i r. ⊎_elim
-      (λ (w : Contains rest i). ⊎_elim
-      (λ (f : Contains front i). inl f)
-      (λ (q : p ≡ i). inr (last i q))
-      (Contains-push_cases front p i (rw e at w)))
-      (λ k. inr (kept i k))
-      (c.done i r);
-  falling = falling_front front p (rw e at c.falling);
-  left = λ i f. c.left i (rw e (before i f));
-}
-  where
-    before : (i : ℕ) → Contains front i → Contains (front ++ p ∷ []) i
-    before i f = Contains-append_left front (p ∷ []) i f
-
-    last : (i : ℕ) → p ≡ i → IsCopied from new (copy_at more) i
-    last i q =
-        let k : copy_at more p ≡ id = ap (λ (o : Option TypeId). unwrap_or o (record { at = 0 })) here in
-        subst (λ j. IsCopied from new (copy_at more) j) q (subst (IsTypeAt new (tree_at from p)) (sym k) made)
-
-    kept : (i : ℕ) → IsCopied from into (copy_at copies) i → IsCopied from new (copy_at more) i
-    kept i k = ⊎_elim
-        (λ h. (let g : IsTypeAt new (tree_at from i) id = subst (λ j. IsTypeAt new (tree_at from j) id) h.0 made in subst (IsTypeAt new (tree_at from i)) (sym h.1) g))
-        (λ (same : copy_at more i ≡ copy_at copies i). subst (IsTypeAt new (tree_at from i)) (sym same) (type_kept into new (tree_at from i) (copy_at copies i) keeps k))
-        (copied_at copies more p i id (adds i))
+    here : IsTypeAt new (tree_at from (get_or is k 0)) (numbered (first + k))
+    here = record { belongs = let b = made.belongs in omega (arith, at); same = ap (tree_at new) (sym at) ∙ made.same }
 
 -- all are copied
-pub copy_ends : {S : Type 0} (from : List Row) (root : ℕ) (rest : List ℕ) (into : List Row) (copies : HashMap ℕ TypeId S) → Copied from root rest into copies → ((i : ℕ) → Contains rest i → ⊥) →
-    IsTypeAt into (tree_at from root) (copy_at copies root)
-copy_ends from root rest into copies c none = ⊎_elim (λ w. absurd (none root w)) (λ k. k) (c.done root itself)
+pub copy_ends : (from : List Row) (root : ℕ) (is : List ℕ) (into : List Row) (first k : ℕ) → AreReached from root is → AreCopied from into first is k → length is ≤ k →
+    IsTypeAt into (tree_at from root) (copy_from first is root)
+copy_ends from root is into first k reached done l =
+    let c = (reached.exact root).1 itself in
+    let m : ℕ = c.0 in
+    let e : get_or is m 0 ≡ root = sym (get_or_default_zero is m root c.1) ∙ c.2 in
+    let q : place_among is root ≡ m = ap (place_among is) (sym e) ∙ place_at is reached.rising m c.1 in
+    let n = c.1 in
+    subst (λ i. IsTypeAt into (tree_at from i) (numbered (first + place_among is root))) e
+    (subst (λ i. IsTypeAt into (tree_at from (get_or is m 0)) (numbered (first + i))) (sym q) (done m (omega arith)))
 
 pub AddsTypes-trans : (p q r : ProgramTable) → AddsTypes p q → AddsTypes q r → AddsTypes p r
 AddsTypes-trans p q r a b = record {

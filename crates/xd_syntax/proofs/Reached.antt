@@ -1,18 +1,19 @@
 -- The nodes that a node reaches, and the walk that meets each of them once.
-use Rattle.std.proofs.Common.{◌≡◌, ℕ, zero, suc, ◌+◌, ◌<◌, ◌≤◌, ◌⊎◌, inl, inr, ⊎_elim, Bool, true, false, cond, max, List, [], ◌∷◌, ◌++◌, map, length, take, refl, ap, sym, subst, ◌∙◌, arith, length-append}
+use Rattle.std.proofs.Common.{◌≡◌, ℕ, zero, suc, ◌+◌, ◌<◌, ◌≤◌, ◌⊎◌, inl, inr, ⊎_elim, Bool, true, false, cond, max, List, [], ◌∷◌, ◌++◌, map, reverse, length, take, get_or, ◌-◌, refl, ap, sym, subst, ◌∙◌, arith, length-append}
 use Rattle.std.specs.List.{AllByRecursion, Contains, sum_by, list_all}
 use Rattle.std.specs.List.Sorted.{IsPermutation}
 use Rattle.std.proofs.Math.Nat.{le-max_left, le-max_right}
 use Rattle.std.proofs.lemmas.Bool.{and_parts, and_from, cases_lt}
-use Rattle.std.proofs.lemmas.List.Elements.{All-contains, All-from_recursion, Contains-append_cases, Contains-append_left, Contains-append_right, Contains-push, Contains-push_cases}
-use Rattle.std.proofs.lemmas.List.Sorted.{Contains-permutation, IsPermutation-sym, sum_by_popped, sum_by-IsPermutation}
+use Rattle.std.proofs.lemmas.List.Elements.{All-contains, All-from_recursion, Contains-get_or, Contains-append_cases, Contains-append_left, Contains-append_right, Contains-push, Contains-push_cases}
+use Rattle.std.proofs.lemmas.List.{get_or-reverse, length-reverse}
+use Rattle.std.proofs.lemmas.List.Sorted.{Contains-permutation, IsPermutation-reverse, IsPermutation-sym, sum_by_popped, sum_by-IsPermutation}
 use Rattle.std.proofs.lemmas.List.Sums.{sum_by-append, sum_by-cons}
 use Rattle.xd_doc.proofs.CopyLemmas.{none_contained, front_or_rest}
 use Rattle.xd_syntax.specs.Tree.{Tree, Empty, Text, Words, Name, Elem, Seq, Alt, Star, Plus, Opt, Val, seq_of, alt_of, is_empty}
 use Rattle.xd_syntax.specs.TypeText.{depth, depth_at_level, sequence_level, postfix_level, primary_level}
 use Rattle.xd_syntax.specs.Table.{Row, Form, empty_form, text_form, words_form, name_form, elem_form, seq_form, alt_form, star_form, plus_form, opt_form, val_form, form_tree, tree_at, AreBuilt, CanFollow}
 use Rattle.xd_syntax.specs.Nodes.{form_parts, form_at, no_row}
-use Rattle.xd_syntax.specs.Adopt.{uses_only, size, parts_of, Reaches, itself, part, AreFalling, AreReached, form_known}
+use Rattle.xd_syntax.specs.Adopt.{uses_only, size, parts_of, Reaches, itself, part, AreRising, AreReached, form_known}
 use Rattle.xd_syntax.proofs.Trees.{tree_is, follows_at, parts_at}
 use Rattle.xd_syntax.proofs.NodeParts.{form_parts_below}
 
@@ -357,6 +358,25 @@ takes old new p h =
       total = λ f. sum_by_popped f p old new h;
     }
 
+-- each is greater than those behind it
+abbrev pub AreFalling : List ℕ → Type 0
+AreFalling [] = Unit {0}
+AreFalling (i ∷ is) = AllByRecursion (λ j. j < i) is × AreFalling is
+
+falling_at : (is : List ℕ) → AreFalling is → (m n : ℕ) → m < n → n < length is → get_or is n 0 < get_or is m 0
+falling_at [] a m n h l = absurd (omega arith)
+falling_at (i ∷ is) a m zero h l = absurd (omega arith)
+falling_at (i ∷ is) a zero (suc n) h l = contained_each (λ j. j < i) is (get_or is n 0) a.0 (Contains-get_or is n 0 (omega arith))
+falling_at (i ∷ is) a (suc m) (suc n) h l = falling_at is a.1 m n (omega arith) (omega arith)
+
+rising_back : (is : List ℕ) → AreFalling is → AreRising (reverse is)
+rising_back is a m n h l =
+    let r = length-reverse is in
+    let x = get_or-reverse is m 0 (omega arith) in
+    let y = get_or-reverse is n 0 (omega arith) in
+    let f = falling_at is a (length is - 1 - n) (length is - 1 - m) (omega arith) (omega arith) in
+    rw (x, y) f
+
 falling_push : (is : List ℕ) (p : ℕ) → AreFalling is → ((i : ℕ) → Contains is i → p < i) → AreFalling (is ++ p ∷ [])
 falling_push [] p a f = (tt, tt)
 falling_push (i ∷ is) p a f = (
@@ -450,13 +470,16 @@ walk_on b rows from above p old middle new reached built inside w t h most more 
     below i m = ⊎_elim (λ (l : i < p). inl l) (λ (g : p ≤ i). inr (let e : p ≡ i = omega arith in rw (← e) (Contains-push reached p))) (cases_lt i p)
 
 -- nothing waits
-pub walk_ends : (rows : List Row) (from above : ℕ) (waiting reached : List ℕ) → Walked rows from above waiting reached → ((i : ℕ) → Contains waiting i → ⊥) → AreReached rows from reached
+pub walk_ends : (rows : List Row) (from above : ℕ) (waiting reached : List ℕ) → Walked rows from above waiting reached → ((i : ℕ) → Contains waiting i → ⊥) → AreReached rows from (reverse reached)
 walk_ends rows from above waiting reached w none = record {
-  falling = w.falling;
-  exact = λ i. (w.within i, found i);
-  few = let f = w.few in omega arith;
+  rising = rising_back reached w.falling;
+  exact = λ i. (λ c. w.within i (Contains-permutation (reverse reached) reached i (IsPermutation-sym reached (reverse reached) turned) c), λ r. Contains-permutation reached (reverse reached) i turned (found i r));
+  few = let f = w.few in let l = length-reverse reached in omega arith;
 }
   where
+    turned : IsPermutation reached (reverse reached)
+    turned = IsPermutation-reverse reached
+
     met : (i : ℕ) → Contains waiting i ⊎ Contains reached i → Contains reached i
     met i (inl c) = absurd (none i c)
     met i (inr c) = c

@@ -1,7 +1,6 @@
 -- A type taken into a program: the nodes that it reaches, and their copies.
-use Rattle.std.specs.Prelude.{◌↔◌, ℕ, ◌+◌, ◌<◌, ◌≤◌, Bool, true, ◌&&◌, List, [], ◌∷◌, map, length, nat_eq, unwrap_or}
-use Rattle.std.specs.List.{AllByRecursion, Contains}
-use Rattle.std.specs.HashMap.{HashMap, get}
+use Rattle.std.specs.Prelude.{◌↔◌, ℕ, suc, ◌+◌, ◌<◌, ◌≤◌, Bool, true, cond, ◌&&◌, nat_lt, List, [], ◌∷◌, map, length, get_or}
+use Rattle.std.specs.List.{Contains}
 use Rattle.xd_syntax.specs.Words.{has_word}
 use Rattle.xd_syntax.specs.Tree.{Tree, Name, Elem, Seq, Alt, Star, Plus, Opt, Val}
 use Rattle.xd_syntax.specs.Table.{Row, tree_at, Form, name_form, elem_form, seq_form, alt_form, star_form, plus_form, opt_form, val_form}
@@ -41,14 +40,13 @@ pub data Reaches (rows : List Row) (from : ℕ) : ℕ → Type 0 where
   itself : Reaches rows from from
   part : {j : ℕ} (i : ℕ) → Reaches rows from i → Contains (parts_of rows i) j → Reaches rows from j
 
--- each is greater than those behind it
-abbrev pub AreFalling : List ℕ → Type 0
-AreFalling [] = Unit {0}
-AreFalling (i ∷ is) = AllByRecursion (λ j. j < i) is × AreFalling is
+-- each is smaller than those behind it
+abbrev pub AreRising : List ℕ → Type 0
+AreRising is = (m n : ℕ) → m < n → n < length is → get_or is m 0 < get_or is n 0
 
--- these are the nodes that it reaches, each once, the greatest first
+-- these are the nodes that it reaches, each once, the oldest first
 pub record AreReached (rows : List Row) (from : ℕ) (is : List ℕ) : Type 0 where
-  pub falling : AreFalling is
+  pub rising : AreRising is
   pub exact : (i : ℕ) → Contains is i ↔ Reaches rows from i
   pub few : length is ≤ size (tree_at rows from)
 
@@ -57,9 +55,14 @@ abbrev pub form_known : List (List ℕ) → Form → Bool
 form_known known (name_form w) = has_word known w
 form_known known _ = true
 
--- the copy of a node; the first node, where there is none
-abbrev pub copy_at : {S : Type 0} → HashMap ℕ TypeId S → ℕ → TypeId
-copy_at copies i = unwrap_or (get nat_eq copies i) (record { at = 0 })
+-- how many of these come before the first that is not smaller
+abbrev pub place_among : List ℕ → ℕ → ℕ
+place_among [] i = 0
+place_among (j ∷ js) i = cond (nat_lt j i) (suc (place_among js i)) 0
+
+-- the copy of a node, where the copies of these follow one another from this number on
+abbrev pub copy_from : ℕ → List ℕ → ℕ → TypeId
+copy_from first originals i = record { at = first + place_among originals i }
 
 -- the form over the copies of its parts
 abbrev pub copied_form : (ℕ → TypeId) → Form → Form

@@ -6,7 +6,7 @@ use Rattle.xd_syntax.specs.Placed.{PlacedTree, unplaced, place_of}
 use Rattle.xd_syntax.specs.Fits.{Fits}
 use Rattle.xd_syntax.specs.Order.{is_earlier, is_same_place, ordered}
 use Rattle.xd_syntax.specs.May.{Scope, clause_entry, May, Arrives, IsLive, parameters_scope}
-use Rattle.xd_syntax.specs.Expression.{Expression, Nothing, Quoted, Variable, Tagged, Joined, Called, Matched, Arguments, no_argument, argument, Clauses, no_clause, clause, place_of_expression}
+use Rattle.xd_syntax.specs.Expression.{Expression, Tagged, Joined, Called, Matched, Arguments, no_argument, argument, Clauses, no_clause, clause, place_of_expression}
 use Rattle.xd_syntax.specs.Program.{Parameter, FunctionDefinition, ProgramTree, names_of, function_of}
 
 pub data LineKind : Type 0 where
@@ -63,13 +63,11 @@ IsLiveIn P S e earlier Q = IsLive (names_of P) (May P S e) earlier Q
 -- the lines inside an expression
 abbrev mutual
   pub LinesOf : ProgramTree → Scope → Expression → List Line → Type 0
-  LinesOf P S (Nothing p) ls = ls ≡ []
-  LinesOf P S (Quoted p s) ls = ls ≡ []
-  LinesOf P S (Variable p x) ls = ls ≡ []
   LinesOf P S (Tagged p l e) ls = LinesOf P S e ls
   LinesOf P S (Joined p e f) ls = Both (LinesOf P S e) (LinesOf P S f) ls
   LinesOf P S (Called p f es) ls = LinesOfArguments P S (parameters_of (function_of P.functions f)) es ls
   LinesOf P S (Matched p e cs) ls = Both (LinesOf P S e) (LinesOfClauses P S p e [] cs) ls
+  LinesOf P S _ ls = ls ≡ []
 
   -- an argument that may be a document that does not fit its parameter's type has a line
   pub LinesOfArguments : ProgramTree → Scope → List Parameter → Arguments → List Line → Type 0

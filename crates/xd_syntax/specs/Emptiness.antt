@@ -5,7 +5,7 @@ use Rattle.std.specs.Str.{bytes_eq}
 use Rattle.xd_doc.specs.Document.{empty}
 use Rattle.xd_syntax.specs.Words.{any_word}
 use Rattle.xd_syntax.specs.Tree.{Tree, Empty, Name, Seq, Alt, Star, Plus, Opt, Val}
-use Rattle.xd_syntax.specs.Table.{Row, Form, empty_form, text_form, words_form, name_form, elem_form, seq_form, alt_form, star_form, plus_form, opt_form, val_form, form_tree, tree_at, PartsBelow, CanFollow}
+use Rattle.xd_syntax.specs.Table.{Row, Form, empty_form, name_form, seq_form, alt_form, star_form, plus_form, opt_form, val_form, form_tree, tree_at, PartsBelow, CanFollow}
 use Rattle.xd_syntax.specs.Fits.{Fits}
 use Rattle.xd_syntax.specs.Ways.{Among}
 use Rattle.xd_syntax.specs.Sound.{definition_of}
@@ -59,16 +59,14 @@ some_marked marks (i ∷ is) = is_marked marks i || some_marked marks is
 -- whether a node can be empty, where marks answer for its parts and for names
 abbrev pub form_marked : List Bool → List TypeDef → Form → Bool
 form_marked marks ds empty_form = true
-form_marked marks ds text_form = false
-form_marked marks ds (words_form ws) = false
 form_marked marks ds (name_form w) = name_marked marks ds w
-form_marked marks ds (elem_form c i) = false
 form_marked marks ds (seq_form is) = all_marked marks is
 form_marked marks ds (alt_form is) = some_marked marks is
 form_marked marks ds (star_form i) = true
 form_marked marks ds (plus_form i) = is_marked marks i
 form_marked marks ds (opt_form i) = true
 form_marked marks ds (val_form x p i) = is_marked marks i
+form_marked marks ds _ = false
 
 abbrev pub body_number : Option TypeDef → List ℕ
 body_number None = []
@@ -76,17 +74,12 @@ body_number (Some d) = d.body.at ∷ []
 
 -- the nodes on whose marks that depends
 abbrev pub depends_on : List TypeDef → Form → List ℕ
-depends_on ds empty_form = []
-depends_on ds text_form = []
-depends_on ds (words_form ws) = []
 depends_on ds (name_form w) = body_number (definition_of ds w)
-depends_on ds (elem_form c i) = []
 depends_on ds (seq_form is) = is
 depends_on ds (alt_form is) = is
-depends_on ds (star_form i) = []
 depends_on ds (plus_form i) = i ∷ []
-depends_on ds (opt_form i) = []
 depends_on ds (val_form x p i) = i ∷ []
+depends_on ds _ = []
 
 -- a node's tree is that of its form, whose parts are older nodes
 pub record IsRead (types : List Row) (i : ℕ) : Type 0 where

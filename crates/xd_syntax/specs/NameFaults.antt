@@ -4,7 +4,7 @@ use Rattle.std.specs.List.{filter}
 use Rattle.xd_base.specs.declared.Place.{Place}
 use Rattle.xd_syntax.specs.Words.{has_word, any_word, string_word}
 use Rattle.xd_syntax.specs.Placed.{PlacedTree, Name_at, Elem_at, Seq_at, Alt_at, Star_at, Plus_at, Opt_at, Val_at, variables}
-use Rattle.xd_syntax.specs.Expression.{Expression, Nothing, Quoted, Variable, Tagged, Joined, Called, Matched, Arguments, no_argument, argument, Clauses, no_clause, clause}
+use Rattle.xd_syntax.specs.Expression.{Expression, Variable, Tagged, Joined, Called, Matched, Arguments, no_argument, argument, Clauses, no_clause, clause}
 use Rattle.xd_syntax.specs.Program.{TypeDefinition, Parameter, FunctionDefinition, ProgramTree, function_of}
 use Rattle.xd_syntax.specs.Order.{in_order}
 use Rattle.xd_syntax.specs.declared.fault.Fault.{Fault}
@@ -102,13 +102,12 @@ call_faults (Some g) p f given = fault_if (not (nat_eq given (length g.parameter
 -- the faults of an expression, where these variables are in scope
 abbrev mutual
   pub expression_faults : ProgramTree → List (List ℕ) → Expression → List Fault
-  expression_faults P scope (Nothing p) = []
-  expression_faults P scope (Quoted p s) = []
   expression_faults P scope (Variable p x) = fault_if (not (has_word scope x)) p (UnknownVariable x)
   expression_faults P scope (Tagged p l e) = expression_faults P scope e
   expression_faults P scope (Joined p e f) = expression_faults P scope e ++ expression_faults P scope f
   expression_faults P scope (Called p f es) = call_faults (function_of P.functions f) p f (argument_count es) ++ argument_faults P scope es
   expression_faults P scope (Matched p e cs) = expression_faults P scope e ++ clause_faults P scope cs
+  expression_faults P scope _ = []
 
   pub argument_faults : ProgramTree → List (List ℕ) → Arguments → List Fault
   argument_faults P scope no_argument = []

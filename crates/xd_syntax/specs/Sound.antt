@@ -26,9 +26,8 @@ pub record IsTypeAt (types : List Row) (T : Tree) (id : TypeId) : Type 0 where
   pub same : tree types id ≡ T
 
 abbrev pub only_parameter : List Param → Option TypeId
-only_parameter [] = None
 only_parameter (q ∷ []) = Some q.body
-only_parameter (q ∷ (r ∷ qs)) = None
+only_parameter _ = None
 
 -- the declared type of the parameter of the first function called `main`, if it has one parameter
 abbrev pub main_parameter : List FunctionRow → Option TypeId

@@ -1,20 +1,19 @@
 //! The nodes that a type reaches, and copies of them.
 
-ghost use Rattle.std.specs.Prelude.{◌≡◌, ◌<◌, ◌++◌, ℕ, map, length, IfOk, OnOk};
+ghost use Rattle.std.specs.Prelude.{◌≡◌, ◌+◌, ◌^◌, ◌<◌, ◌≤◌, ◌++◌, map, length, IfOk, OnOk};
 ghost use Rattle.std.specs.BinaryHeap.{KeepsHeap, heap_items};
-ghost use Rattle.std.specs.List.{AllByRecursion};
 ghost use Rattle.std.specs.List.Sorted.{IsPermutation};
 ghost use Rattle.std.specs.Ordering.{nat_cmp};
 ghost use Rattle.xd_syntax.specs.Types.{BelongsTo, form_of, type_numbers};
-ghost use Rattle.xd_syntax.specs.Adopt.{AreReached, copy_at, copied_form};
+ghost use Rattle.xd_syntax.specs.Adopt.{AreReached, AreRising, place_among, copy_from, copied_form};
 
 use crate::nodes::Nodes;
 use crate::types::{TypeForm, TypeId, Types};
 use std::alloc::Global;
-use std::collections::{BinaryHeap, HashMap};
+use std::collections::BinaryHeap;
 use xd_doc::NoMemory;
 
-/// The numbers of the nodes that a type reaches, each once, the greatest first.
+/// The numbers of the nodes that a type reaches, each once, the oldest first.
 ///
 /// Parts are older nodes, so the greatest number that still waits is met for the last time. It takes n log n steps for n
 /// parts of these nodes, whatever else the table holds.
@@ -34,6 +33,7 @@ pub(crate) fn reached_from(alloc: Global, types: &Types, id: TypeId) -> Result<V
             wait_for(&mut waiting, types.view(TypeId::of(at)).parts)?;
         }
     }
+    reached.reverse();
     Ok(reached)
 }
 
@@ -48,24 +48,45 @@ fn wait_for(waiting: &mut BinaryHeap<usize>, parts: &[TypeId]) -> Result<(), NoM
     Ok(())
 }
 
-/// The copy of a node.
-pub(crate) fn copy_of(copies: &HashMap<usize, TypeId>, id: TypeId) -> TypeId
-    ensures { result ≡ copy_at copies.now id.at }
+/// The copy of a node, which is one of these. Their copies follow one another from `first` on.
+pub(crate) fn copy_of(originals: &[usize], first: usize, id: TypeId) -> TypeId
+    requires rising { AreRising originals.now }
+    requires room { first + length originals.now < 2 ^ 64 }
+    ensures { result ≡ copy_from first originals.now id.at }
 {
-    copies.get(&id.at()).copied().unwrap_or(TypeId::of(0))
+    let newest = originals.len().saturating_sub(1);
+    TypeId::of(first + place_of(originals, id.at(), newest))
 }
 
-/// The copies of the parts.
+/// The number's place among these, which is mostly the guess.
+fn place_of(originals: &[usize], at: usize, guess: usize) -> usize
+    requires { AreRising originals.now }
+    ensures place { result ≡ place_among originals.now at }
+    ensures within { result ≤ length originals.now }
+{
+    if guess < originals.len() && originals[guess] == at {
+        return guess;
+    }
+    originals.partition_point(|original| *original < at)
+}
+
+/// The copies of the parts. One after the other is mostly looked for at the next place.
 fn parts_copied(
     alloc: Global,
     parts: &[TypeId],
-    copies: &HashMap<usize, TypeId>,
+    originals: &[usize],
+    first: usize,
 ) -> Result<Vec<TypeId>, NoMemory>
-    ensures { IfOk result (λ made. made.items ≡ map (copy_at copies.now) (type_numbers parts.now)) }
+    requires rising { AreRising originals.now }
+    requires room { first + length originals.now < 2 ^ 64 }
+    ensures { IfOk result (λ made. made.items ≡ map (copy_from first originals.now) (type_numbers parts.now)) }
 {
-    let mut made = Vec::new(alloc);
+    let mut made = Vec::with_capacity(alloc, parts.len())?;
+    let mut next = 0;
     for part in parts {
-        made.push(copy_of(copies, *part))?;
+        let place = place_of(originals, part.at(), next);
+        made.push(TypeId::of(first + place))?;
+        next = place + 1;
     }
     Ok(made)
 }
@@ -74,22 +95,26 @@ fn parts_copied(
 pub(crate) fn copy_form(
     alloc: Global,
     form: &TypeForm,
-    copies: &HashMap<usize, TypeId>,
+    originals: &[usize],
+    first: usize,
 ) -> Result<TypeForm, NoMemory>
-    ensures { IfOk result (λ made. form_of made ≡ copied_form (copy_at copies.now) (form_of form.now)) }
+    requires rising { AreRising originals.now }
+    requires room { first + length originals.now < 2 ^ 64 }
+    ensures { IfOk result (λ made. form_of made ≡ copied_form (copy_from first originals.now) (form_of form.now)) }
 {
     match form {
         TypeForm::Empty => Ok(TypeForm::Empty),
         TypeForm::Text => Ok(TypeForm::Text),
         TypeForm::Words(texts) => Ok(TypeForm::Words(texts.share()?)),
         TypeForm::Name(word) => Ok(TypeForm::Name(word.share()?)),
-        TypeForm::Elem(class, content) => {
-            Ok(TypeForm::Elem(class.share()?, copy_of(copies, *content)))
-        }
-        TypeForm::Seq(parts) => Ok(TypeForm::Seq(parts_copied(alloc, parts, copies)?)),
-        TypeForm::Alt(parts) => Ok(TypeForm::Alt(parts_copied(alloc, parts, copies)?)),
-        TypeForm::Star(part) => Ok(TypeForm::Star(copy_of(copies, *part))),
-        TypeForm::Plus(part) => Ok(TypeForm::Plus(copy_of(copies, *part))),
-        TypeForm::Opt(part) => Ok(TypeForm::Opt(copy_of(copies, *part))),
+        TypeForm::Elem(class, content) => Ok(TypeForm::Elem(
+            class.share()?,
+            copy_of(originals, first, *content),
+        )),
+        TypeForm::Seq(parts) => Ok(TypeForm::Seq(parts_copied(alloc, parts, originals, first)?)),
+        TypeForm::Alt(parts) => Ok(TypeForm::Alt(parts_copied(alloc, parts, originals, first)?)),
+        TypeForm::Star(part) => Ok(TypeForm::Star(copy_of(originals, first, *part))),
+        TypeForm::Plus(part) => Ok(TypeForm::Plus(copy_of(originals, first, *part))),
+        TypeForm::Opt(part) => Ok(TypeForm::Opt(copy_of(originals, first, *part))),
     }
 }

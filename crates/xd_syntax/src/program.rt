@@ -1,6 +1,6 @@
 //! Programs: definitions of types and functions, over the nodes that they are made of.
 
-ghost use Rattle.std.specs.Prelude.{◌≡◌, ◌≤◌, true, false, length, IfOk, OnErr};
+ghost use Rattle.std.specs.Prelude.{◌≡◌, ◌+◌, ◌^◌, ◌<◌, ◌≤◌, true, false, length, IfOk, OnOk, OnErr};
 ghost use Rattle.std.specs.List.{AllByRecursion};
 ghost use Rattle.xd_doc.specs.Word.{is_word};
 ghost use Rattle.xd_syntax.specs.Table.{CanFollow, form_tree, tree_at};
@@ -197,10 +197,19 @@ impl Program {
         self.functions.as_slice()
     }
 
+    /// Room for so many more nodes of types.
+    pub(crate) fn reserve_types(&mut self, additional: usize) -> Result<(), NoMemory>
+        ensures same { self.new ≡ self.old }
+        ensures room { OnOk result (length self.old.types + additional < 2 ^ 64) }
+    {
+        self.types.reserve(additional)
+    }
+
     /// One more node of a type.
     pub(crate) fn add_type(&mut self, place: Place, form: TypeForm) -> Result<TypeId, NoMemory>
         requires { CanFollow false self.old.types (form_of form) }
         ensures ok { IfOk result (IsTypeAt self.new.types (form_tree (tree_at self.old.types) (form_of form))) }
+        ensures last { IfOk result (λ id. id.at ≡ length self.old.types) }
         ensures adds { AddsTypes self.old self.new }
         ensures same { program_tree self.new ≡ program_tree self.old }
         ensures one { AddsOne (form_tree (tree_at self.old.types) (form_of form)) self.old.types self.new.types }

@@ -1,6 +1,6 @@
 //! Programs without faults of names, arity, linearity and recursion, and those that are checked besides.
 
-ghost use Rattle.std.specs.Prelude.{◌≡◌, ◌+◌, ◌<◌, ◌≤◌, true, false, length, vec_len, IfOk, is_some};
+ghost use Rattle.std.specs.Prelude.{◌≡◌, ◌+◌, ◌^◌, ◌<◌, ◌≤◌, true, false, length, IfOk, is_some};
 ghost use Rattle.std.specs.List.{AllByRecursion, list_all};
 ghost use Rattle.std.specs.Option.{IfSome};
 ghost use Rattle.std.specs.Str.{bytes_eq};
@@ -15,7 +15,7 @@ ghost use Rattle.xd_syntax.specs.Proper.{IsProperProgram};
 ghost use Rattle.xd_syntax.specs.RecursionFaults.{IsSound};
 ghost use Rattle.xd_syntax.specs.CheckFaults.{IsAccepted};
 ghost use Rattle.xd_syntax.specs.NameFaults.{known_types};
-ghost use Rattle.xd_syntax.specs.Adopt.{uses_only, size, AreReached, form_known, copy_at, copied_form};
+ghost use Rattle.xd_syntax.specs.Adopt.{uses_only, size, AreReached, AreRising, form_known, copy_from, copied_form};
 ghost use Rattle.xd_syntax.specs.Nodes.{form_at};
 ghost use Rattle.xd_syntax.specs.Sound.{IsTypeAt, type_named, is_defined, main_parameter, only_parameter};
 ghost use Rattle.xd_syntax.specs.TypeNames.{AreNumbered};
@@ -27,7 +27,6 @@ use crate::program::{Function, Param, Program};
 use crate::type_names::TypeNames;
 use crate::types::{TypeForm, TypeId, Types};
 use std::alloc::Global;
-use std::collections::HashMap;
 use std::marker::Model;
 use xd_base::Place;
 use xd_doc::{Label, NoMemory};
@@ -161,7 +160,7 @@ impl SoundProgram {
         if !self.knows_all(types, &reached)? {
             return Ok(None);
         }
-        Ok(Some(self.copy_in(types, id, reached)?))
+        Ok(Some(self.copy_in(types, id, &reached)?))
     }
 
     /// Whether each of these nodes that is a name is a defined one.
@@ -211,42 +210,41 @@ impl SoundProgram {
     }
 
     /// Copies the nodes that a type reaches, the oldest first.
-    fn copy_in(
-        &mut self,
-        types: &Types,
-        id: TypeId,
-        reached: Vec<usize>,
-    ) -> Result<TypeId, NoMemory>
+    fn copy_in(&mut self, types: &Types, id: TypeId, reached: &[usize]) -> Result<TypeId, NoMemory>
         requires belongs { BelongsTo types.now id }
-        requires reached { AreReached types.now id.at reached.items }
+        requires reached { AreReached types.now id.at reached.now }
         ensures ok { IfOk result (IsTypeAt self.new.types (tree types.now id)) }
         ensures adds { AddsTypes self.old self.new }
         ensures same { program_tree self.new ≡ program_tree self.old }
-        ensures few { length self.new.types ≤ length self.old.types + vec_len reached }
+        ensures few { length self.new.types ≤ length self.old.types + length reached.now }
         ensures within { AddsWithin (depth (tree types.now id)) self.old.types self.new.types }
     {
         types.see_table();
-        let mut reached = reached;
-        let mut copies = HashMap::with_capacity(self.alloc, reached.len())?;
-        while let Some(at) = reached.pop() {
-            let copy = self.copy_node(types.node(TypeId::of(at)).form(), &copies)?;
-            copies.insert(at, copy)?;
+        self.program.reserve_types(reached.len())?;
+        let first = self.program.types().len();
+        for place in 0..reached.len() {
+            let form = types.node(TypeId::of(reached[place])).form();
+            self.copy_node(form, &reached[..place], first)?;
         }
-        Ok(copy_of(&copies, id))
+        Ok(copy_of(reached, first, id))
     }
 
     fn copy_node(
         &mut self,
         form: &TypeForm,
-        copies: &HashMap<usize, TypeId>,
+        originals: &[usize],
+        first: usize,
     ) -> Result<TypeId, NoMemory>
-        requires { CanFollow false self.old.types (copied_form (copy_at copies.now) (form_of form.now)) }
-        ensures ok { IfOk result (IsTypeAt self.new.types (form_tree (tree_at self.old.types) (copied_form (copy_at copies.now) (form_of form.now)))) }
+        requires rising { AreRising originals.now }
+        requires room { first + length originals.now < 2 ^ 64 }
+        requires follows { CanFollow false self.old.types (copied_form (copy_from first originals.now) (form_of form.now)) }
+        ensures ok { IfOk result (IsTypeAt self.new.types (form_tree (tree_at self.old.types) (copied_form (copy_from first originals.now) (form_of form.now)))) }
+        ensures last { IfOk result (λ id. id.at ≡ length self.old.types) }
         ensures adds { AddsTypes self.old self.new }
         ensures same { program_tree self.new ≡ program_tree self.old }
-        ensures one { AddsOne (form_tree (tree_at self.old.types) (copied_form (copy_at copies.now) (form_of form.now))) self.old.types self.new.types }
+        ensures one { AddsOne (form_tree (tree_at self.old.types) (copied_form (copy_from first originals.now) (form_of form.now))) self.old.types self.new.types }
     {
-        let copy = copy_form(self.alloc, form, copies)?;
+        let copy = copy_form(self.alloc, form, originals, first)?;
         self.add_type(copy)
     }
 
@@ -254,6 +252,7 @@ impl SoundProgram {
     pub fn add_type(&mut self, form: TypeForm) -> Result<TypeId, NoMemory>
         requires { CanFollow false self.old.types (form_of form) }
         ensures ok { IfOk result (IsTypeAt self.new.types (form_tree (tree_at self.old.types) (form_of form))) }
+        ensures last { IfOk result (λ id. id.at ≡ length self.old.types) }
         ensures adds { AddsTypes self.old self.new }
         ensures same { program_tree self.new ≡ program_tree self.old }
         ensures one { AddsOne (form_tree (tree_at self.old.types) (form_of form)) self.old.types self.new.types }

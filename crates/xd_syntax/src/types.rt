@@ -1,6 +1,6 @@
 //! Types: nodes in a table.
 
-ghost use Rattle.std.specs.Prelude.{◌≡◌, ◌+◌, ◌++◌, ◌∷◌, [], false, length, take, slice_index_or, IfOk, OnErr};
+ghost use Rattle.std.specs.Prelude.{◌≡◌, ◌+◌, ◌^◌, ◌<◌, ◌++◌, ◌∷◌, [], false, length, take, slice_index_or, IfOk, OnOk, OnErr};
 ghost use Rattle.xd_syntax.specs.Placed.{placed_at, placed_form};
 ghost use Rattle.xd_syntax.specs.Table.{KeepsRows, CanFollow, PartsBelow, form_tree, tree_at};
 ghost use Rattle.xd_syntax.specs.ProperTables.{IsProperForm, IsTable};
@@ -154,6 +154,16 @@ impl Types {
         self.nodes.truncate(len);
     }
 
+    /// Room for so many more nodes.
+    pub(crate) fn reserve(&mut self, additional: usize) -> Result<(), NoMemory>
+        ensures same { self.new ≡ self.old }
+        ensures room { OnOk result (length self.old + additional < 2 ^ 64) }
+    {
+        self.nodes.reserve(additional)?;
+        let _room = self.nodes.capacity();
+        Ok(())
+    }
+
     /// What is so of every table.
     pub fn see_table(&self)
         ensures { IsTable false self.now }
@@ -167,6 +177,7 @@ impl Types {
         ensures tree { IfOk result (λ id. tree self.new id ≡ form_tree (tree_at self.old) (form_of form)) }
         ensures placed { IfOk result (λ id. placed_at self.new id.at ≡ placed_form (placed_at self.old) place (form_of form)) }
         ensures belongs { IfOk result (BelongsTo self.new) }
+        ensures last { IfOk result (λ id. id.at ≡ length self.old) }
         ensures grown { IfOk result (λ id. self.new ≡ self.old ++ record { place = place; form = form_of form } ∷ []) }
         ensures keeps { KeepsRows self.old self.new }
         ensures err { OnErr result (self.new ≡ self.old) }

@@ -64,4 +64,4 @@ loop-at-preserved-in-Continue-branch-3 c =
 pub returns : goal.returns
 returns c =
     let w : heap_len c.loop-at.waiting ≡ length (heap_items c.loop-at.waiting) = search rules in
-    walk_ends _ _ _ _ _ c.loop-at.invariant.walked (λ i h. absurd (omega (arith, h.1, c.in_default.ensures.none)))
+    rw c.reverse.ensures.items (walk_ends _ _ _ _ _ c.loop-at.invariant.walked (λ i h. absurd (omega (arith, h.1, c.in_default.ensures.none))))

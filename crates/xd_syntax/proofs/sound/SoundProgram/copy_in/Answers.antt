@@ -1,46 +1,68 @@
-use Rattle.std.proofs.Common.{◌≡◌, ◌∙◌, ap, subst, arith, rules, length, vec_len}
+use Rattle.std.proofs.Common.{◌≡◌, ◌<◌, ◌∙◌, refl, ap, subst, arith, length, get_or}
+use Rattle.xd_syntax.specs.Kept.{ProgramTable}
+use Rattle.xd_syntax.specs.Shallow.{AddsWithin}
 use Rattle.xd_syntax.specs.Sound.{IsTypeAt}
+use Rattle.xd_syntax.specs.TypeText.{depth}
+use Rattle.xd_syntax.specs.Types.{form_of, tree}
 use Rattle.xd_syntax.specs.declared.types.TypeId.{TypeId}
-use Rattle.xd_syntax.proofs.AdoptLaws.{AddsTypes-trans, copy_inside, is_ready, within_more, copy_goes_on, copy_ends}
+use Rattle.xd_syntax.proofs.AdoptLaws.{AddsTypes-trans, rising_front, copy_inside, is_ready, within_more, copy_goes_on, copy_ends}
 use Rattle.xd_syntax.proofs.sound.SoundProgram.copy_in.Goals as goal
 
 pub node-requires : goal.node-requires
 node-requires c =
-    let k : c.of.result.at ≡ c.in-Some.at = ap (λ (id : TypeId). id.at) c.of.ensures in
-    omega (arith, copy_inside _ _ _ _ c.in-Some.at _ _ c.see_table.ensures.built c.requires.belongs c.loop-at.invariant.copied c.in-Some.ensures.items)
+    let xs = c.args.reached.now in
+    let p = c.loop-place.place in
+    let l : p < length xs = omega (arith, c.loop-place-test.true) in
+    let k : c.of.result.at ≡ get_or xs p 0 = ap (λ (id : TypeId). id.at) c.of.ensures in
+    omega (arith, copy_inside c.args.types.now c.args.id.at xs p c.see_table.ensures.built c.requires.belongs c.requires.reached l)
 
-pub copy_node-requires : goal.copy_node-requires
-copy_node-requires c =
-    let k : c.of.result.at ≡ c.in-Some.at = ap (λ (id : TypeId). id.at) c.of.ensures in
-    (is_ready _ _ _ _ _ _ _ _ _ _ c.see_table.ensures.built c.requires.belongs c.loop-at.invariant.copied c.in-Some.ensures.items k c.node.ensures.row c.node.ensures.tree c.node.ensures.merged c.form.ensures).follows
+pub copy_node-requires-clause-rising : goal.copy_node-requires-clause-rising
+copy_node-requires-clause-rising c = rising_front c.args.reached.now c.loop-place.place (omega (arith, c.loop-place-test.true)) c.requires.reached.rising
 
-pub returns-in_err-copy-clause-within : goal.returns-in_err-copy-clause-within
-returns-in_err-copy-clause-within c =
-    let k : c.of.result.at ≡ c.in-Some.at = ap (λ (id : TypeId). id.at) c.of.ensures in
-    let r = is_ready _ _ _ _ _ _ _ _ _ _ c.see_table.ensures.built c.requires.belongs c.loop-at.invariant.copied c.in-Some.ensures.items k c.node.ensures.row c.node.ensures.tree c.node.ensures.merged c.form.ensures in
-    within_more _ _ _ _ _ _ c.copy_node.ensures.adds.types c.loop-at.invariant.within c.copy_node.ensures.one r.same r.within
+pub copy_node-requires-clause-follows : goal.copy_node-requires-clause-follows
+copy_node-requires-clause-follows c =
+    let xs = c.args.reached.now in
+    let p = c.loop-place.place in
+    let l : p < length xs = omega (arith, c.loop-place-test.true) in
+    let k : c.of.result.at ≡ get_or xs p 0 = ap (λ (id : TypeId). id.at) c.of.ensures in
+    (is_ready c.args.types.now c.args.id.at xs p c.of.result.at c.node.result.now (form_of c.form-form.result.now) c.loop-place.self.types c.len-first.result c.see_table.ensures.built c.requires.belongs c.requires.reached
+    c.loop-place.invariant.copied l k c.node.ensures.row c.node.ensures.tree c.node.ensures.merged c.form-form.ensures).follows
 
-pub loop-at-preserved : goal.loop-at-preserved
-loop-at-preserved c =
-    let i = c.loop-at.invariant in
-    let k : c.of.result.at ≡ c.in-Some.at = ap (λ (id : TypeId). id.at) c.of.ensures in
-    let r = is_ready _ _ _ _ _ _ _ _ _ _ c.see_table.ensures.built c.requires.belongs i.copied c.in-Some.ensures.items k c.node.ensures.row c.node.ensures.tree c.node.ensures.merged c.form.ensures in
+pub returns-in_err-copy_node-clause-within : goal.returns-in_err-copy_node-clause-within
+returns-in_err-copy_node-clause-within c =
+    let xs = c.args.reached.now in
+    let p = c.loop-place.place in
+    let new = c.copy_node.new.self.types in
+    let l : p < length xs = omega (arith, c.loop-place-test.true) in
+    let k : c.of.result.at ≡ get_or xs p 0 = ap (λ (id : TypeId). id.at) c.of.ensures in
+    let r = is_ready c.args.types.now c.args.id.at xs p c.of.result.at c.node.result.now (form_of c.form-form.result.now) c.loop-place.self.types c.len-first.result c.see_table.ensures.built c.requires.belongs c.requires.reached
+    c.loop-place.invariant.copied l k c.node.ensures.row c.node.ensures.tree c.node.ensures.merged c.form-form.ensures in
+    subst (λ (q : ProgramTable). AddsWithin (depth (tree c.args.types.now c.args.id)) q.types new) (c.reserve_types.ensures.same ∙ c.self.view_is)
+    (within_more _ _ _ _ _ _ c.copy_node.ensures.adds.types c.loop-place.invariant.within c.copy_node.ensures.one r.same r.within)
+
+pub loop-place-preserved : goal.loop-place-preserved
+loop-place-preserved c =
+    let xs = c.args.reached.now in
+    let p = c.loop-place.place in
+    let i = c.loop-place.invariant in
+    let new = c.copy_node.new.self.types in
+    let id = c.in_ok-copy_node.field-0 in
+    let a = c.in_ok-copy_node.ensures in
+    let l : p < length xs = omega (arith, c.loop-place-test.true) in
+    let k : c.of.result.at ≡ get_or xs p 0 = ap (λ (id : TypeId). id.at) c.of.ensures in
+    let r = is_ready c.args.types.now c.args.id.at xs p c.of.result.at c.node.result.now (form_of c.form-form.result.now) c.loop-place.self.types c.len-first.result c.see_table.ensures.built c.requires.belongs c.requires.reached
+    i.copied l k c.node.ensures.row c.node.ensures.tree c.node.ensures.merged c.form-form.ensures in
     record {
-      copied = copy_goes_on _ _ _ _ _ _ _ _ _ _ i.copied c.in-Some.ensures.items c.copy_node.ensures.adds.types (subst (λ T. IsTypeAt c.copy_node.new.self.types T c.in_ok-copy.copy) r.same c.in_ok-copy.ensures.ok)
-          c.in_ok-insert.ensures.updates.0 c.in_ok-insert.ensures.updates.1;
+      copied = copy_goes_on c.args.types.now xs p id c.loop-place.self.types new c.len-first.result i.copied c.copy_node.ensures.adds.types (subst (λ T. IsTypeAt new T id) r.same a.ok) a.last i.count;
+      count = omega (arith, i.count, c.copy_node.ensures.one.one, a.ok.belongs, a.last);
+      begins = i.begins;
+      ends = refl;
       adds = AddsTypes-trans _ _ _ i.adds c.copy_node.ensures.adds;
       same = c.copy_node.ensures.same ∙ i.same;
-      few = omega (arith, i.few, c.copy_node.ensures.one.one, c.in-Some.ensures.len);
       within = within_more _ _ _ _ _ _ c.copy_node.ensures.adds.types i.within c.copy_node.ensures.one r.same r.within;
     }
 
-pub returns-in_err-insert-clause-within : goal.returns-in_err-insert-clause-within
-returns-in_err-insert-clause-within c =
-    let k : c.of.result.at ≡ c.in-Some.at = ap (λ (id : TypeId). id.at) c.of.ensures in
-    let r = is_ready _ _ _ _ _ _ _ _ _ _ c.see_table.ensures.built c.requires.belongs c.loop-at.invariant.copied c.in-Some.ensures.items k c.node.ensures.row c.node.ensures.tree c.node.ensures.merged c.form.ensures in
-    within_more _ _ _ _ _ _ c.copy_node.ensures.adds.types c.loop-at.invariant.within c.copy_node.ensures.one r.same r.within
-
 pub returns-clause-ok : goal.returns-clause-ok
 returns-clause-ok c =
-    let w : vec_len c.loop-at.reached ≡ length c.loop-at.reached.items = search rules in
-    rw c.copy_of.ensures (copy_ends _ _ _ _ _ c.loop-at.invariant.copied (λ i h. absurd (omega (arith, h.1, c.in_default.ensures.cases.0))))
+    rw c.copy_of.ensures (copy_ends c.args.types.now c.args.id.at c.args.reached.now c.loop-place.self.types c.len-first.result c.loop-place.place c.requires.reached c.loop-place.invariant.copied
+    (omega (arith, c.loop-place-test.false)))
