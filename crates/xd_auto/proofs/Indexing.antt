@@ -122,8 +122,8 @@ module _ {M N : Type 0} (has : M → N → Bool) (moves : List M) (n : ℕ) (nam
       length_more : length moves ≤ length (moves ++ m ∷ [])
       length_more = omega (arith, length-append moves (m ∷ []))
 
-pub IsIndex-none : {M N : Type 0} (has : M → N → Bool) (named : N → List ℕ) (others : List ℕ) → ((q : N) → named q ≡ []) → others ≡ [] → IsIndex has [] 0 named others
-IsIndex-none has named others e o = record {
+pub IsIndex-none : {M N : Type 0} (has : M → N → Bool) (moves : List M) (named : N → List ℕ) (others : List ℕ) → ((q : N) → named q ≡ []) → others ≡ [] → IsIndex has moves 0 named others
+IsIndex-none has moves named others e o = record {
   within = omega arith;
   named_rise = λ q. subst (λ (xs : List ℕ). RisesTo 0 xs) (sym (e q)) RisesTo-nil;
   others_rise = subst (λ (xs : List ℕ). RisesTo 0 xs) (sym o) RisesTo-nil;

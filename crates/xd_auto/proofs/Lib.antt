@@ -16,3 +16,4 @@ pub mod Wrapping
 pub mod Joining
 pub mod Indexing
 pub mod Choosing
+pub mod Matching

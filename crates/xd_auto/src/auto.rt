@@ -4,13 +4,17 @@ ghost use Rattle.std.specs.Prelude.{◌≡◌, ◌+◌, ◌<◌, ◌≤◌, ◌+
 ghost use Rattle.std.specs.List.{All};
 ghost use Rattle.std.specs.Option.{IfSome, unwrap_or};
 ghost use Rattle.xd_auto.specs.Automaton.{ChangesOnly, Extends, IsClosed, IsNext, IsState, KeepsAccepting, LeadsBelow, has_label, has_text, moves_at, no_moves, state_number, with_label_move, with_last, with_moves, with_text_move};
+ghost use Rattle.xd_auto.specs.Matching.{AreMatching};
 ghost use Rattle.xd_auto.specs.Runs.{AcceptsByRuns, RunsAreAccepting};
 
 mod copying;
 mod index;
+mod matching;
 mod operations;
 
 use index::{Index, Step};
+pub use matching::Move;
+use matching::matching_numbers;
 pub use operations::trim;
 use std::alloc::Global;
 use std::marker::Model;
@@ -136,6 +140,20 @@ impl Moves {
         self.last = last;
     }
 
+    /// These moves in place of those that it has, in no index yet.
+    fn set_moves(&mut self, labels: Vec<LabelMove>, texts: Vec<TextMove>)
+        ensures { self.new ≡ record self.old { labels = labels.items; texts = texts.items } }
+    {
+        let alloc = *labels.allocator();
+        *self = Self {
+            last: self.last,
+            labels,
+            texts,
+            label_index: Index::new(alloc),
+            text_index: Index::new(alloc),
+        };
+    }
+
     /// One more move on an element.
     fn push_label(&mut self, step: LabelMove) -> Result<(), NoMemory>
         ensures ok { OnOk result (self.new ≡ record self.old { labels = self.old.labels ++ step ∷ [] }) }
@@ -170,6 +188,20 @@ impl Moves {
         ensures { IsNext has_text self.now.texts text.now from result }
     {
         self.text_index.next(&self.texts, text, from)
+    }
+
+    /// The numbers of the moves on an element that may share a label with this one.
+    fn matching_labels(&self, alloc: Global, step: &LabelMove) -> Result<Vec<usize>, NoMemory>
+        ensures { IfOk result (λ numbers. AreMatching has_label step.now self.now.labels numbers.items) }
+    {
+        matching_numbers(alloc, &self.label_index, &self.labels, step)
+    }
+
+    /// The numbers of the moves on a text that may share a text with this one.
+    fn matching_texts(&self, alloc: Global, step: &TextMove) -> Result<Vec<usize>, NoMemory>
+        ensures { IfOk result (λ numbers. AreMatching has_text step.now self.now.texts numbers.items) }
+    {
+        matching_numbers(alloc, &self.text_index, &self.texts, step)
     }
 }
 
@@ -323,6 +355,20 @@ impl Auto {
         set_last(&mut self.states, state.number, last);
     }
 
+    /// Gives the state these moves, in place of those that it has.
+    ///
+    /// They go into an index with the next move that is added; until then they are found by a walk. So
+    /// this is for automata whose moves aren't sought by name. It takes no memory.
+    pub fn set_moves(&mut self, state: State, labels: Vec<LabelMove>, texts: Vec<TextMove>)
+        requires state { IsState self.old state }
+        requires labels { All (λ m. (state_number m.content < length self.old) × (state_number m.rest < length self.old)) labels.items }
+        requires texts { All (λ m. state_number m.rest < length self.old) texts.items }
+        ensures value { self.new ≡ with_moves self.old state (record (moves_at self.old state) { labels = labels.items; texts = texts.items }) }
+        ensures others { ChangesOnly state self.old self.new }
+    {
+        set_moves(&mut self.states, state.number, labels, texts);
+    }
+
     /// One more move of the state on an element.
     pub fn add_label_move(
         &mut self,
@@ -366,6 +412,14 @@ fn set_last(states: &mut Vec<Moves>, at: usize, last: bool)
 {
     let moves = &mut states[at];
     moves.set_last(last);
+}
+
+fn set_moves(states: &mut Vec<Moves>, at: usize, labels: Vec<LabelMove>, texts: Vec<TextMove>)
+    requires { at < length states.old.items }
+    ensures { states.new.items ≡ with_moves states.old.items (record { number = at }) (record (moves_at states.old.items (record { number = at })) { labels = labels.items; texts = texts.items }) }
+{
+    let moves = &mut states[at];
+    moves.set_moves(labels, texts);
 }
 
 fn push_label(states: &mut Vec<Moves>, at: usize, step: LabelMove) -> Result<(), NoMemory>

@@ -7,6 +7,6 @@ mod known;
 mod marks;
 mod membership;
 
-pub use auto::{Auto, LabelMove, State, TextMove, trim};
+pub use auto::{Auto, LabelMove, Move, State, TextMove, trim};
 pub use key::StateKey;
 pub use membership::{Answers, Scratch, accepts_kept, member};

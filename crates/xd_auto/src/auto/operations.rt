@@ -1,6 +1,6 @@
 //! Operations that make states for sets of documents.
 
-ghost use Rattle.std.specs.Prelude.{◌≡◌, ◌↔◌, ◌≤◌, ◌||◌, true, length, IfOk};
+ghost use Rattle.std.specs.Prelude.{◌≡◌, ◌↔◌, ◌+◌, ◌≤◌, ◌||◌, true, length, IfOk, OnErr, OnOk};
 ghost use Rattle.xd_doc.specs.Document.{Document};
 ghost use Rattle.xd_auto.specs.Automaton.{Extends, IsJoined, IsState, IsWrapped, KeepsAccepting, accepts, state_number};
 ghost use Rattle.xd_auto.specs.Copying.{IsAround, IsCopyOf, IsEither, IsReached};
@@ -19,6 +19,8 @@ impl Auto {
         requires two { IsState self.old two }
         ensures ok { IfOk result (λ made. (d : Document) → accepts self.new d made ≡ (accepts self.old d one || accepts self.old d two)) }
         ensures belongs { IfOk result (IsState self.new) }
+        ensures count { OnOk result (length self.new ≡ length self.old + 1) }
+        ensures err { OnErr result (self.new ≡ self.old) }
         ensures extends { Extends self.old self.new }
         ensures keeps { KeepsAccepting self.old self.new }
     {
@@ -39,6 +41,7 @@ impl Auto {
         requires two { IsState self.old two }
         ensures ok { IfOk result (λ made. (d : Document) → (accepts self.new d made ≡ true) ↔ IsJoined self.old one two d) }
         ensures belongs { IfOk result (IsState self.new) }
+        ensures err { OnErr result (self.new ≡ self.old) }
         ensures extends { Extends self.old self.new }
         ensures keeps { KeepsAccepting self.old self.new }
     {
@@ -65,6 +68,8 @@ impl Auto {
         requires { IsState self.old content }
         ensures ok { IfOk result (λ made. (d : Document) → (accepts self.new d made ≡ true) ↔ IsWrapped self.old label.now content d) }
         ensures belongs { IfOk result (IsState self.new) }
+        ensures count { OnOk result (length self.new ≡ length self.old + 2) }
+        ensures err { OnErr result (self.new ≡ self.old) }
         ensures extends { Extends self.old self.new }
         ensures keeps { KeepsAccepting self.old self.new }
     {
@@ -87,6 +92,7 @@ impl Auto {
         ensures belongs { IfOk result (IsState self.new) }
         ensures copies { IfOk result (λ made. (s : State) → IsState self.new s → length self.old ≤ state_number s → IsReached self.new made s) }
         ensures originals { IfOk result (λ made. (s : State) → IsState self.new s → length self.old ≤ state_number s → IsCopyOf other.now state self.new made s) }
+        ensures err { OnErr result (self.new ≡ self.old) }
         ensures extends { Extends self.old self.new }
         ensures keeps { KeepsAccepting self.old self.new }
     {
