@@ -1,13 +1,14 @@
 -- On moves that share a name.
-use Rattle.std.proofs.Common.{◌≡◌, ◌⊎◌, inl, inr, ⊎_elim, ℕ, zero, suc, ◌+◌, ◌<◌, ◌≤◌, Bool, true, false, ◌||◌, nat_eq, List, [], ◌∷◌, ◌++◌, length, Some, refl, sym, ap, ◌∙◌, subst, arith}
-use Rattle.std.specs.List.{slice_get}
-use Rattle.std.proofs.lemmas.Bool.{cases_eq}
-use Rattle.std.proofs.lemmas.Option.{slice_get_within}
-use Rattle.std.specs.Cmp.Lexicographic.{pointwise}
-use Rattle.std.proofs.lemmas.Slice.Eq.{bytes_eq-Decides}
-use Rattle.xd_doc.specs.Classes.{NameClass, is_named}
+use Rattle.std.proofs.Common.{◌≡◌, ◌⊎◌, inl, inr, ⊎_elim, ℕ, zero, suc, ◌+◌, ◌<◌, ◌≤◌, Bool, true, false, List, [], ◌∷◌, ◌++◌, length, get_or, Some, refl, sym, ap, ◌∙◌, subst, arith}
+use Rattle.std.specs.List.{Contains, slice_get}
+use Rattle.std.proofs.lemmas.Bool.{cases_eq, cases_lt}
+use Rattle.std.proofs.lemmas.List.{get_or_default}
+use Rattle.std.proofs.lemmas.List.Kept.{AllPairs-from_increasing}
+use Rattle.std.proofs.lemmas.Option.{get_or_from_slice_get, slice_get_within}
+use Rattle.xd_auto.specs.Matching.{AreMatching}
+use Rattle.xd_auto.proofs.Anys.{and_left, and_right}
 use Rattle.xd_traces.specs.declared.pairs.Both.{Both}
-use Rattle.xd_traces.specs.Matching.{AddsMeet, adds_none, adds_one, AreMatches, HasMatch, IsBefore, IsMatchOf, MarksFor, MarksNamed, MatchedTo, Share}
+use Rattle.xd_traces.specs.Matching.{AddsMeet, adds_none, adds_one, AreMatches, HasMatch, IsBefore, IsMatchOf, MatchedTo, Share, share}
 use Rattle.xd_traces.proofs.Steps.{some_same}
 
 pub there_front : {X : Type 0} (xs ys : List X) (i : ℕ) (x : X) → slice_get xs i ≡ Some x → slice_get (xs ++ ys) i ≡ Some x
@@ -42,29 +43,31 @@ module _ {M S : Type 0} (both_of : M → Both) (IsMeetOf : S → S → Both → 
       none_below : (k : ℕ) → k < 0 → ⊥
       none_below k lt = omega arith
 
-  later : (i j k l : ℕ) → IsBefore i j k l → IsBefore i (j + 1) k l
-  later i j k l b = ⊎_elim (λ lt. inl lt) (λ p. inr (p.0, omega (arith, p.1))) b
+  later : (i j r k l : ℕ) → j ≤ r → IsBefore i j k l → IsBefore i r k l
+  later i j r k l le b = ⊎_elim (λ lt. inl lt) (λ p. inr (p.0, omega (arith, p.1))) b
 
-  pub matched_skip : (i j : ℕ) (ms : List M) → MatchedTo both_of IsMeetOf shares ones twos i j ms → (Share shares ones twos i j → ⊥) → MatchedTo both_of IsMeetOf shares ones twos i (j + 1) ms
-  matched_skip i j ms h apart = record {
+  -- none of the pairs up to this one shares a name
+  pub matched_gap : (i j r : ℕ) (ms : List M) → j ≤ r → ((l : ℕ) → j ≤ l → l < r → Share shares ones twos i l → ⊥) → MatchedTo both_of IsMeetOf shares ones twos i j ms
+      → MatchedTo both_of IsMeetOf shares ones twos i r ms
+  matched_gap i j r ms le apart h = record {
     each = h.each;
-    before = λ n m e. later i j (both_of m).left (both_of m).right (h.before n m e);
+    before = λ n m e. later i j r (both_of m).left (both_of m).right le (h.before n m e);
     all = λ k l b s. ⊎_elim (λ lt. h.all k l (inl lt) s) (λ p. at k l p.0 p.1 s) b;
     once = h.once;
   }
     where
-      at : (k l : ℕ) → k ≡ i → l < j + 1 → Share shares ones twos k l → HasMatch both_of k l ms
+      at : (k l : ℕ) → k ≡ i → l < r → Share shares ones twos k l → HasMatch both_of k l ms
       at k l e lt s = ⊎_elim
-          (λ same. absurd (apart (subst (λ x. Share shares ones twos i x) same (subst (λ x. Share shares ones twos x l) e s))))
-          (λ ne. h.all k l (inr (e, omega arith)) s)
-          (cases_eq l j)
+          (λ front. h.all k l (inr (e, front)) s)
+          (λ back. absurd (apart l back lt (subst (λ x. Share shares ones twos x l) e s)))
+          (cases_lt l j)
 
   pub matched_push : (i j : ℕ) (ms : List M) (m : M) → MatchedTo both_of IsMeetOf shares ones twos i j ms → IsMatchOf both_of IsMeetOf ones twos m → both_of m ≡ record { left = i; right = j }
       → MatchedTo both_of IsMeetOf shares ones twos i (j + 1) (ms ++ m ∷ [])
   matched_push i j ms m h is num = record {
     each = λ n w e. ⊎_elim (λ old. h.each n w old) (λ last. subst (λ z. IsMatchOf both_of IsMeetOf ones twos z) (sym last.0) is) (there_more ms m w n e);
     before = λ n w e. ⊎_elim
-        (λ old. later i j (both_of w).left (both_of w).right (h.before n w old))
+        (λ old. later i j (j + 1) (both_of w).left (both_of w).right (omega arith) (h.before n w old))
         (λ last.
         let b : both_of w ≡ record { left = i; right = j } = ap both_of last.0 ∙ num in
         inr (ap (λ (z : Both). z.left) b, omega (arith, ap (λ (z : Both). z.right) b)))
@@ -101,19 +104,19 @@ module _ {M S : Type 0} (both_of : M → Both) (IsMeetOf : S → S → Both → 
       alone n k w z same (inr a) (inl b) = absurd (new k z b (sym same ∙ ap both_of a.0))
       alone n k w z same (inr a) (inr b) = a.1 ∙ sym b.1
 
-  -- the next pair shares no name
-  pub matched_apart : (i j : ℕ) (ms : List M) (one two : S) → MatchedTo both_of IsMeetOf shares ones twos i j ms → slice_get ones i ≡ Some one → slice_get twos j ≡ Some two
-      → ((x : List ℕ) → shares one two x ≡ true → ⊥) → MatchedTo both_of IsMeetOf shares ones twos i (j + 1) ms
-  matched_apart i j ms one two h left right none = matched_skip i j ms h
-      (λ s. none s.name (ap (λ w. shares w two s.name) (some_same (sym left ∙ s.left)) ∙ ap (λ w. shares s.one w s.name) (some_same (sym right ∙ s.right)) ∙ s.shared))
-
   -- the match of the next pair was added, where there is one
   pub matched_meet : (i j : ℕ) (ms new : List M) (one two : S) → MatchedTo both_of IsMeetOf shares ones twos i j ms → slice_get ones i ≡ Some one → slice_get twos j ≡ Some two
       → ((m : M) (b : Both) → IsMeetOf one two b m → both_of m ≡ b) → AddsMeet (IsMeetOf one two (record { left = i; right = j })) (shares one two) ms new
       → MatchedTo both_of IsMeetOf shares ones twos i (j + 1) new
   matched_meet i j ms new one two h left right numbers (adds_none same none) =
       subst (λ w. MatchedTo both_of IsMeetOf shares ones twos i (j + 1) w) (sym same)
-      (matched_apart i j ms one two h left right (λ x e. absurd (let no : true ≡ false = sym e ∙ none x in cc)))
+      (matched_gap i j (j + 1) ms (omega arith) (λ l le lt s. apart l (omega arith) s) h)
+    where
+      apart : (l : ℕ) → l ≡ j → Share shares ones twos i l → ⊥
+      apart l e s =
+          let same : shares one two s.name ≡ true = ap (λ w. shares w two s.name) (some_same (sym left ∙ s.left)) ∙ ap (λ w. shares s.one w s.name) (some_same (sym right ∙ ap (slice_get twos) (sym e) ∙ s.right)) ∙ s.shared in
+          let no : true ≡ false = sym same ∙ none s.name in
+          cc
   matched_meet i j ms new one two h left right numbers (adds_one m more is) =
       let num = numbers m (record { left = i; right = j }) is in
       subst (λ w. MatchedTo both_of IsMeetOf shares ones twos i (j + 1) w) (sym more)
@@ -150,18 +153,59 @@ module _ {M S : Type 0} (both_of : M → Both) (IsMeetOf : S → S → Both → 
     once = h.once;
   }
 
--- a name that is among these stands at some place
-pub named_place : (names : List (List ℕ)) (x : List ℕ) → is_named names x ≡ true → (k : ℕ) × (slice_get names k ≡ Some x)
-named_place [] x h = absurd (let no : false ≡ true = h in cc)
-named_place (w ∷ names) x h = at (pointwise nat_eq w x) refl h (λ e. named_place names x e)
-  where
-    at : (b : Bool) → pointwise nat_eq w x ≡ b → (b || is_named names x) ≡ true → (is_named names x ≡ true → (k : ℕ) × (slice_get names k ≡ Some x)) → (k : ℕ) × (slice_get (w ∷ names) k ≡ Some x)
-    at true e i rest = (0, ap Some ((bytes_eq-Decides w x).0 e))
-    at false e i rest = let r = rest i in (suc r.0, r.1)
+-- the pairs of a move with the moves of the first of these numbers, so many
+pub record RowTo {M S : Type 0} (both_of : M → Both) (IsMeetOf : S → S → Both → M → Type 0) (shares : S → S → List ℕ → Bool) (ones twos : List S) (rights : List ℕ) (i p : ℕ) (ms : List M) : Type 0 where
+  pub bound : ℕ
+  pub matched : MatchedTo both_of IsMeetOf shares ones twos i bound ms
+  pub passed : (q : ℕ) → q < p → q < length rights → get_or rights q 0 < bound
+  pub ahead : (q : ℕ) → p ≤ q → q < length rights → bound ≤ get_or rights q 0
 
--- all names of a class that excepts none are looked for
-pub marks_named : {S : Type 0} (has : S → List ℕ → Bool) (moves : List S) (c : NameClass) (count : ℕ) (marks : List Bool) → MarksFor has moves c.names count marks → length c.names ≤ count → c.except ≡ false
-    → MarksNamed has moves c marks
-marks_named has moves c count marks h all except n m x there takes in_class =
-    let at = named_place c.names x (rw except at in_class) in
-    h.marked at.0 n x m (omega (arith, slice_get_within c.names at.0 x at.1, all)) at.1 there takes
+module _ {M S : Type 0} (both_of : M → Both) (IsMeetOf : S → S → Both → M → Type 0) (has : S → List ℕ → Bool) (ones twos : List S) (rights : List ℕ) (i : ℕ) where
+  abbrev Row : ℕ → List M → Type 0
+  Row p ms = RowTo both_of IsMeetOf (share has) ones twos rights i p ms
+
+  pub row_first : (ms : List M) → MatchedTo both_of IsMeetOf (share has) ones twos i 0 ms → RowTo both_of IsMeetOf (share has) ones twos rights i 0 ms
+  row_first ms h = record { bound = 0; matched = h; passed = λ q lt within. absurd (omega arith); ahead = λ q le within. omega arith }
+
+  module _ (one : S) (left : slice_get ones i ≡ Some one) (matching : AreMatching has one twos rights) where
+    -- a pair that shares a name has its number among these
+    number_of : (l : ℕ) → Share (share has) ones twos i l → Contains rights l
+    number_of l s =
+        let mine : has one s.name ≡ true = ap (λ w. has w s.name) (some_same (sym left ∙ s.left)) ∙ and_left (has s.one s.name) (has s.two s.name) s.shared in
+        let its : has (get_or twos l s.two) s.name ≡ true = ap (λ w. has w s.name) (get_or_from_slice_get twos l s.two s.two s.right) ∙ and_right (has s.one s.name) (has s.two s.name) s.shared in
+        matching.cover l s.two s.name (slice_get_within twos l s.two s.right) mine its
+
+    -- up to the next of the numbers no pair shares a name
+    none_between : (p r : ℕ) (ms : List M) (h : Row p ms) → ((q : ℕ) → p ≤ q → q < length rights → r ≤ get_or rights q 0) → (l : ℕ) → h.bound ≤ l → l < r → Share (share has) ones twos i l → ⊥
+    none_between p r ms h from l le lt s =
+        let among = number_of l s in
+        let is : get_or rights among.0 0 ≡ l = get_or_default rights among.0 0 l among.1 ∙ among.2 in
+        ⊎_elim
+        (λ front. let before = h.passed among.0 front among.1 in omega arith)
+        (λ back. let after = from among.0 back among.1 in omega arith)
+        (cases_lt among.0 p)
+
+    pub row_next : (p r : ℕ) (two : S) (ms new : List M) → p < length rights → r ≡ get_or rights p 0 → slice_get twos r ≡ Some two → ((m : M) (b : Both) → IsMeetOf one two b m → both_of m ≡ b)
+        → AddsMeet (IsMeetOf one two (record { left = i; right = r })) (share has one two) ms new → RowTo both_of IsMeetOf (share has) ones twos rights i p ms
+        → RowTo both_of IsMeetOf (share has) ones twos rights i (p + 1) new
+    row_next p r two ms new within is right numbers adds h = record {
+      bound = r + 1;
+      matched = matched_meet both_of IsMeetOf (share has) ones twos i r ms new one two
+          (matched_gap both_of IsMeetOf (share has) ones twos i h.bound r ms (omega (arith, h.ahead p (omega arith) within)) (none_between p r ms h at_least) h.matched)
+          left right numbers adds;
+      passed = λ q lt there. ⊎_elim (λ same. omega (arith, ap (λ n. get_or rights n 0) same)) (λ ne. omega (arith, h.passed q (omega arith) there, h.ahead p (omega arith) within)) (cases_eq q p);
+      ahead = λ q le there. let rises = AllPairs-from_increasing rights matching.rise p q 0 (omega arith) there in omega arith;
+    }
+      where
+        at_least : (q : ℕ) → p ≤ q → q < length rights → r ≤ get_or rights q 0
+        at_least q le there = ⊎_elim
+            (λ same. omega (arith, ap (λ n. get_or rights n 0) same))
+            (λ ne. let rises = AllPairs-from_increasing rights matching.rise p q 0 (omega arith) there in omega arith)
+            (cases_eq q p)
+
+    pub row_all : (p : ℕ) (ms : List M) → length rights ≤ p → RowTo both_of IsMeetOf (share has) ones twos rights i p ms → MatchedTo both_of IsMeetOf (share has) ones twos (i + 1) 0 ms
+    row_all p ms all h =
+        matched_row both_of IsMeetOf (share has) ones twos i (h.bound + length twos) ms
+        (matched_gap both_of IsMeetOf (share has) ones twos i h.bound (h.bound + length twos) ms (omega arith)
+        (none_between p (h.bound + length twos) ms h (λ q le there. absurd (omega arith))) h.matched)
+        (omega arith)

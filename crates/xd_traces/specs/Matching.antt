@@ -1,8 +1,8 @@
 -- Moves of two states whose classes share a label or a text. Of this only private contracts speak.
-use Rattle.std.specs.Prelude.{◌≡◌, ℕ, ◌<◌, ◌⊎◌, ◌&&◌, ◌++◌, ◌∷◌, [], Bool, true, false, List, Some, length, slice_get, slice_index_or}
-use Rattle.xd_doc.specs.Classes.{NameClass, class_has}
+use Rattle.std.specs.Prelude.{◌≡◌, ℕ, ◌<◌, ◌⊎◌, ◌&&◌, ◌++◌, ◌∷◌, [], Bool, true, false, List, Option, Some, None, slice_get}
 use Rattle.xd_auto.specs.declared.auto.LabelMove.{LabelMove}
 use Rattle.xd_auto.specs.declared.auto.TextMove.{TextMove}
+use Rattle.xd_auto.specs.Automaton.{has_label, has_text}
 use Rattle.xd_traces.specs.declared.pairs.Both.{Both}
 use Rattle.xd_traces.specs.declared.matching.LabelMatch.{LabelMatch}
 use Rattle.xd_traces.specs.declared.matching.TextMatch.{TextMatch}
@@ -20,16 +20,19 @@ pub record IsTextMeet (one two : TextMove) (both : Both) (m : TextMatch) : Type 
   pub meet : IsMeet m.words one.words two.words
   pub rest : m.rest ≡ record { left = one.rest; right = two.rest }
 
+-- the match of two moves, or none, where they share no name
+abbrev pub IsMeeting : {M : Type 0} → (M → Type 0) → (List ℕ → Bool) → Option M → Type 0
+IsMeeting {M = M} Is shares None = (x : List ℕ) → shares x ≡ false
+IsMeeting {M = M} Is shares (Some m) = Is m
+
 -- it was added, or there is none
 pub data AddsMeet {M : Type 0} (Is : M → Type 0) (shares : List ℕ → Bool) (old new : List M) : Type 0 where
   adds_none : new ≡ old → ((x : List ℕ) → shares x ≡ false) → AddsMeet Is shares old new
   adds_one : (m : M) → new ≡ old ++ m ∷ [] → Is m → AddsMeet Is shares old new
 
-abbrev pub share_label : LabelMove → LabelMove → List ℕ → Bool
-share_label one two l = class_has one.class l && class_has two.class l
-
-abbrev pub share_text : TextMove → TextMove → List ℕ → Bool
-share_text one two t = class_has one.words t && class_has two.words t
+-- both moves have the name
+abbrev pub share : {S : Type 0} → (S → List ℕ → Bool) → S → S → List ℕ → Bool
+share {S = S} has one two x = has one x && has two x
 
 -- it is made of the moves of its numbers
 pub record IsMatchOf {M S : Type 0} (both_of : M → Both) (IsMeetOf : S → S → Both → M → Type 0) (ones twos : List S) (m : M) : Type 0 where
@@ -81,29 +84,8 @@ label_both m = m.both
 abbrev pub text_both : TextMatch → Both
 text_both m = m.both
 
-abbrev pub LabelsMatchedTo : List LabelMove → List LabelMove → ℕ → ℕ → List LabelMatch → Type 0
-LabelsMatchedTo ones twos i j ms = MatchedTo label_both IsLabelMeet share_label ones twos i j ms
-
-abbrev pub TextsMatchedTo : List TextMove → List TextMove → ℕ → ℕ → List TextMatch → Type 0
-TextsMatchedTo ones twos i j ms = MatchedTo text_both IsTextMeet share_text ones twos i j ms
-
 abbrev pub AreLabelMatches : List LabelMove → List LabelMove → List LabelMatch → Type 0
-AreLabelMatches ones twos ms = AreMatches label_both IsLabelMeet share_label ones twos ms
+AreLabelMatches ones twos ms = AreMatches label_both IsLabelMeet (share has_label) ones twos ms
 
 abbrev pub AreTextMatches : List TextMove → List TextMove → List TextMatch → Type 0
-AreTextMatches ones twos ms = AreMatches text_both IsTextMeet share_text ones twos ms
-
--- the moves that take a name of the class are marked
-abbrev pub MarksNamed : {S : Type 0} → (S → List ℕ → Bool) → List S → NameClass → List Bool → Type 0
-MarksNamed {S = S} has moves c marks = (n : ℕ) (m : S) (x : List ℕ) → slice_get moves n ≡ Some m → has m x ≡ true → class_has c x ≡ true → slice_index_or marks n false ≡ true
-
--- of the first moves, so many, those that take the name are marked too
-pub record MarksTo {S : Type 0} (has : S → List ℕ → Bool) (moves : List S) (name : List ℕ) (count : ℕ) (old new : List Bool) : Type 0 where
-  pub sized : length new ≡ length old
-  pub kept : (n : ℕ) → slice_index_or old n false ≡ true → slice_index_or new n false ≡ true
-  pub marked : (n : ℕ) (m : S) → n < count → slice_get moves n ≡ Some m → has m name ≡ true → slice_index_or new n false ≡ true
-
--- the moves that take one of the first names, so many, are marked
-pub record MarksFor {S : Type 0} (has : S → List ℕ → Bool) (moves : List S) (names : List (List ℕ)) (count : ℕ) (marks : List Bool) : Type 0 where
-  pub sized : length marks ≡ length moves
-  pub marked : (k n : ℕ) (name : List ℕ) (m : S) → k < count → slice_get names k ≡ Some name → slice_get moves n ≡ Some m → has m name ≡ true → slice_index_or marks n false ≡ true
+AreTextMatches ones twos ms = AreMatches text_both IsTextMeet (share has_text) ones twos ms

@@ -7,7 +7,7 @@ ghost use Rattle.xd_traces.specs.Growing.{AddsLabelMove, AddsLabelMoves, AddsTex
 ghost use Rattle.xd_traces.specs.Paired.{IsAdded};
 ghost use Rattle.xd_traces.specs.declared.growing.OldStates.{OldStates};
 
-use crate::matching::{LabelMatch, TextMatch, label_matches, text_matches};
+use crate::matching::{LabelMatch, TextMatch, matches};
 use crate::pairs::{Both, Pair};
 use std::alloc::Global;
 use std::collections::HashMap;
@@ -274,7 +274,7 @@ impl Growing {
         ensures expands { IfOk result (λ boths. ExpandsLabels one.now old at two.old two.new self.old.states.items self.new.states.items boths.items) }
     {
         let pair = self.pair(old, at);
-        let matches = label_matches(alloc, one.label_moves(pair.left), two, pair.right)?;
+        let matches = matches(alloc, one.label_moves(pair.left), two, pair.right)?;
         let numbers = self.add_label_moves(alloc, one, two, old, at, matches)?;
         Ok(numbers)
     }
@@ -297,7 +297,7 @@ impl Growing {
         ensures expands { IfOk result (λ boths. ExpandsTexts one.now old at two.old two.new self.old.states.items self.new.states.items boths.items) }
     {
         let pair = self.pair(old, at);
-        let matches = text_matches(alloc, one.text_moves(pair.left), two, pair.right)?;
+        let matches = matches(alloc, one.text_moves(pair.left), two, pair.right)?;
         let numbers = self.add_text_moves(alloc, one, two, old, at, matches)?;
         Ok(numbers)
     }

@@ -1,6 +1,6 @@
 //! States that accept every document.
 
-ghost use Rattle.std.specs.Prelude.{◌≡◌, true, IfOk};
+ghost use Rattle.std.specs.Prelude.{◌≡◌, ◌+◌, true, length, IfOk, OnOk};
 ghost use Rattle.xd_doc.specs.Document.{Document};
 ghost use Rattle.xd_auto.specs.Automaton.{Extends, accepts};
 ghost use Rattle.xd_traces.specs.Universal.{IsUniversal};
@@ -14,6 +14,7 @@ use xd_doc::{Class, NoMemory, Words};
 pub fn add_universal(alloc: Global, auto: &mut Auto) -> Result<State, NoMemory>
     ensures universal { IfOk result (IsUniversal auto.new) }
     ensures accepted { IfOk result (λ state. (d : Document) → accepts auto.new d state ≡ true) }
+    ensures count { OnOk result (length auto.new ≡ length auto.old + 1) }
     ensures extends { Extends auto.old auto.new }
 {
     let labels = Class::new(alloc, Vec::new(alloc), true)?;

@@ -3,8 +3,8 @@ use Rattle.std.proofs.lemmas.Option.{slice_get-get_or}
 use Rattle.xd_traces.proofs.Expanding.{text_match_states}
 use Rattle.xd_traces.proofs.growing.Growing.expand_texts.Goals as goal
 
-pub text_matches-requires : goal.text_matches-requires
-text_matches-requires c =
+pub matches-requires : goal.matches-requires
+matches-requires c =
     let right = (c.requires.kept.whole.pairs c.args.at c.pair-pair.result c.pair-pair.ensures).pair.right in
     omega (arith, right, c.requires.kept.whole.count)
 
