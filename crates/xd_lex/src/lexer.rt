@@ -117,6 +117,17 @@ impl<'a> Lexer<'a> {
         }
     }
 
+    /// Another lexer with the same tokens left, for looking ahead.
+    pub fn fork(&self) -> Lexer<'a>
+        ensures { result ≡ self.now }
+    {
+        Lexer {
+            rest: self.rest,
+            place: self.place,
+            done: self.done,
+        }
+    }
+
     /// The next token.
     pub fn next_token(&mut self) -> Token<'a>
         requires { 0 < length self.old }
