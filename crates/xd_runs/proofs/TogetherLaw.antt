@@ -9,7 +9,7 @@ use Rattle.xd_laws.specs.Heads.{all_texts}
 use Rattle.xd_syntax.specs.Ways.{Among}
 use Rattle.xd_syntax.proofs.Members.{mem_append, mem_map, mem_flat, cond_true}
 use Rattle.xd_laws.proofs.Unfoldings.{same_word_eq}
-use Rattle.xd_runs.specs.Runs.{Piece, Continuation, Choice, stop, take_text, take_element, start, in_place, then_choices, one_stop, has_stop, turn_choices, some_turn_choices, choices_by, choices_of_definition, choices_of_name, choices_within, choices, Run, ended, over_text, over_element, texts_of, elements_of, text_runs, element_runs, runs}
+use Rattle.xd_runs.specs.Runs.{Piece, Continuation, Choice, stop, take_text, take_element, start, in_place, then_choices, one_stop, has_stop, choices_by, choices_of_definition, choices_of_name, choices_within, choices, Run, ended, over_text, over_element, texts_of, elements_of, text_runs, element_runs, runs}
 use Rattle.xd_runs.specs.Linear.{BindNothing, IsLinear}
 use Rattle.xd_runs.specs.Finite.{IsReached, from_start, behind_text, behind_element, in_element, IsUnmarked, MarksAreVariables}
 use Rattle.xd_runs.specs.Together.{IsFree, free_end, free_text, free_element, IsBlock, block_end, block_text, block_element, AreTogether, from_here, past_text, past_element, in_content, RunsKeepTogether}
@@ -39,20 +39,25 @@ have_one_stop Q cs f c m = f c (one_stop_in c cs m)
 pub have_then : (Q Q' : Choice → Type 0) (K : Continuation) (cs bs : List Choice) → ((b : Choice) → Q b → AllHave Q' (in_place K cs b)) → AllHave Q bs → AllHave Q' (then_choices bs K cs)
 have_then Q Q' K cs bs f h c m = let r = mem_flat (in_place K cs) c bs m in f r.0 (h r.0 r.1) c r.2
 
--- the variable is neither among the words nor in the pattern; or among the words and not in the pattern
+-- the variable isn't in the pattern, and is among the words or isn't: inside of a binder of it, or outside
+abbrev IsPlaced : Bool → List ℕ → List (List ℕ) → Tree → Type 0
+IsPlaced inside x xs T = (has_word xs x ≡ inside) × (has_word (occurrences T) x ≡ false)
+
+abbrev ArePlaced : Bool → List ℕ → Continuation → Type 0
+ArePlaced inside x [] = Unit {0}
+ArePlaced inside x (p ∷ K) = IsPlaced inside x p.marks p.part × ArePlaced inside x K
+
 abbrev IsOutside : List ℕ → List (List ℕ) → Tree → Type 0
-IsOutside x xs T = (has_word xs x ≡ false) × (has_word (occurrences T) x ≡ false)
+IsOutside x xs T = IsPlaced false x xs T
 
 abbrev IsInside : List ℕ → List (List ℕ) → Tree → Type 0
-IsInside x xs T = (has_word xs x ≡ true) × (has_word (occurrences T) x ≡ false)
+IsInside x xs T = IsPlaced true x xs T
 
 abbrev IsClear : List ℕ → Continuation → Type 0
-IsClear x [] = Unit {0}
-IsClear x (p ∷ K) = IsOutside x p.marks p.part × IsClear x K
+IsClear x K = ArePlaced false x K
 
 abbrev AllInside : List ℕ → Continuation → Type 0
-AllInside x [] = Unit {0}
-AllInside x (p ∷ K) = IsInside x p.marks p.part × AllInside x K
+AllInside x K = ArePlaced true x K
 
 abbrev IsOpen : List ℕ → Continuation → Type 0
 IsOpen x [] = Unit {0}
@@ -87,23 +92,19 @@ inside_is_open : (x : List ℕ) (K : Continuation) → AllInside x K → IsOpen 
 inside_is_open x [] f = tt
 inside_is_open x (p ∷ K) f = inl (f.0, inside_is_open x K f.1)
 
-inside_append : (x : List ℕ) (K L : Continuation) → AllInside x K → AllInside x L → AllInside x (K ++ L)
-inside_append x [] L f g = g
-inside_append x (p ∷ K) L f g = (f.0, inside_append x K L f.1 g)
-
-clear_append : (x : List ℕ) (K L : Continuation) → IsClear x K → IsClear x L → IsClear x (K ++ L)
-clear_append x [] L f g = g
-clear_append x (p ∷ K) L f g = (f.0, clear_append x K L f.1 g)
+placed_append : (b : Bool) (x : List ℕ) (K L : Continuation) → ArePlaced b x K → ArePlaced b x L → ArePlaced b x (K ++ L)
+placed_append b x [] L f g = g
+placed_append b x (p ∷ K) L f g = (f.0, placed_append b x K L f.1 g)
 
 open_append : (x : List ℕ) (K L : Continuation) → IsOpen x K → IsClear x L → IsOpen x (K ++ L)
 open_append x [] L f g = clear_open x L g
 open_append x (p ∷ K) L (inl f) g = inl (f.0, open_append x K L f.1 g)
-open_append x (p ∷ K) L (inr f) g = inr (clear_append x (p ∷ K) L f g)
+open_append x (p ∷ K) L (inr f) g = inr (placed_append false x (p ∷ K) L f g)
 
 ahead_append : (x : List ℕ) (K L : Continuation) → IsAhead x K → IsClear x L → IsAhead x (K ++ L)
 ahead_append x [] L f g = clear_ahead x L g
 ahead_append x (p ∷ K) L (inl f) g = inl (f.0, ahead_append x K L f.1 g)
-ahead_append x (p ∷ K) L (inr (inl f)) g = inr (inl (f.0, clear_append x K L f.1 g))
+ahead_append x (p ∷ K) L (inr (inl f)) g = inr (inl (f.0, placed_append false x K L f.1 g))
 ahead_append x (p ∷ K) L (inr (inr f)) g = inr (inr (open_append x (p ∷ K) L f g))
 
 clear_then : (x : List ℕ) (K L : Continuation) → IsClear x K → IsAhead x L → IsAhead x (K ++ L)
@@ -112,15 +113,16 @@ clear_then x (p ∷ K) L f g = inl (f.0, clear_then x K L f.1 g)
 
 -- choices by which the variable stays clear, stays open, or stays ahead
 
+abbrev StayPlaced : Bool → List ℕ → Choice → Type 0
+StayPlaced b x stop = Unit {0}
+StayPlaced b x (take_text w xs R) = (has_word xs x ≡ b) × ArePlaced b x R
+StayPlaced b x (take_element c C xs R) = (has_word xs x ≡ b) × IsClear x C × ArePlaced b x R
+
 abbrev StayClear : List ℕ → Choice → Type 0
-StayClear x stop = Unit {0}
-StayClear x (take_text w xs R) = (has_word xs x ≡ false) × IsClear x R
-StayClear x (take_element c C xs R) = (has_word xs x ≡ false) × IsClear x C × IsClear x R
+StayClear x c = StayPlaced false x c
 
 abbrev StayInside : List ℕ → Choice → Type 0
-StayInside x stop = Unit {0}
-StayInside x (take_text w xs R) = (has_word xs x ≡ true) × AllInside x R
-StayInside x (take_element c C xs R) = (has_word xs x ≡ true) × IsClear x C × AllInside x R
+StayInside x c = StayPlaced true x c
 
 abbrev StayOpen : List ℕ → Choice → Type 0
 StayOpen x stop = Unit {0}
@@ -153,15 +155,10 @@ inside_stays x (take_element c C xs R) q = inr (inl (q.0, q.1, inside_is_open x 
 
 -- pieces and choices behind a choice
 
-clear_place : (x : List ℕ) (K : Continuation) (cs : List Choice) → IsClear x K → AllHave (StayClear x) cs → (b : Choice) → StayClear x b → AllHave (StayClear x) (in_place K cs b)
-clear_place x K cs f g stop q = g
-clear_place x K cs f g (take_text w xs R) q = have_one (StayClear x) (take_text w xs (R ++ K)) (q.0, clear_append x R K q.1 f)
-clear_place x K cs f g (take_element c C xs R) q = have_one (StayClear x) (take_element c C xs (R ++ K)) (q.0, q.1, clear_append x R K q.2 f)
-
-inside_place : (x : List ℕ) (K : Continuation) (cs : List Choice) → AllInside x K → AllHave (StayInside x) cs → (b : Choice) → StayInside x b → AllHave (StayInside x) (in_place K cs b)
-inside_place x K cs f g stop q = g
-inside_place x K cs f g (take_text w xs R) q = have_one (StayInside x) (take_text w xs (R ++ K)) (q.0, inside_append x R K q.1 f)
-inside_place x K cs f g (take_element c C xs R) q = have_one (StayInside x) (take_element c C xs (R ++ K)) (q.0, q.1, inside_append x R K q.2 f)
+placed_behind : (b : Bool) (x : List ℕ) (K : Continuation) (cs : List Choice) → ArePlaced b x K → AllHave (StayPlaced b x) cs → (d : Choice) → StayPlaced b x d → AllHave (StayPlaced b x) (in_place K cs d)
+placed_behind b x K cs f g stop q = g
+placed_behind b x K cs f g (take_text w xs R) q = have_one (StayPlaced b x) (take_text w xs (R ++ K)) (q.0, placed_append b x R K q.1 f)
+placed_behind b x K cs f g (take_element c C xs R) q = have_one (StayPlaced b x) (take_element c C xs (R ++ K)) (q.0, q.1, placed_append b x R K q.2 f)
 
 -- inside, with something open behind
 opens_place : (x : List ℕ) (K : Continuation) (cs : List Choice) → IsOpen x K → AllHave (StayOpen x) cs → (b : Choice) → StayInside x b → AllHave (StayOpen x) (in_place K cs b)
@@ -182,7 +179,7 @@ ahead_place x K cs f g (take_text w xs R) (inl q) = have_one (StayAhead x) (take
 ahead_place x K cs f g (take_text w xs R) (inr q) = have_one (StayAhead x) (take_text w xs (R ++ K)) (inr (q.0, open_append x R K q.1 f))
 ahead_place x K cs f g (take_element c C xs R) (inl q) = have_one (StayAhead x) (take_element c C xs (R ++ K)) (inl (q.0, q.1, ahead_append x R K q.2 f))
 ahead_place x K cs f g (take_element c C xs R) (inr (inl q)) = have_one (StayAhead x) (take_element c C xs (R ++ K)) (inr (inl (q.0, q.1, open_append x R K q.2 f)))
-ahead_place x K cs f g (take_element c C xs R) (inr (inr q)) = have_one (StayAhead x) (take_element c C xs (R ++ K)) (inr (inr (q.0, q.1, clear_append x R K q.2 f)))
+ahead_place x K cs f g (take_element c C xs R) (inr (inr q)) = have_one (StayAhead x) (take_element c C xs (R ++ K)) (inr (inr (q.0, q.1, placed_append false x R K q.2 f)))
 
 or_none : (a b : Bool) → (a || b) ≡ false → (a ≡ false) × (b ≡ false)
 or_none true b h = cc
@@ -192,81 +189,41 @@ word_lacked : (xs : List (List ℕ)) (x : List ℕ) → xs ≡ [] → has_word x
 word_lacked xs x e = ap (λ z. has_word z x) e
 
 -- the choices of a part, where the variable is outside of it, or inside
-module _ (N : List (List ℕ) → List ℕ → List Choice) (x : List ℕ)
-    (outside : (xs : List (List ℕ)) (y : List ℕ) → has_word xs x ≡ false → AllHave (StayClear x) (N xs y))
-    (inside : (xs : List (List ℕ)) (y : List ℕ) → has_word xs x ≡ true → AllHave (StayInside x) (N xs y)) where
-  clear_turns : (xs : List (List ℕ)) (T : Tree) (cs : List Choice) → IsOutside x xs T → AllHave (StayClear x) cs → AllHave (StayClear x) (turn_choices (piece xs (Star T)) cs)
-  clear_turns xs T cs f g =
-      have_append (StayClear x) (then_choices cs (piece xs (Star T) ∷ []) []) (stop ∷ [])
-      (have_then (StayClear x) (StayClear x) (piece xs (Star T) ∷ []) [] cs (clear_place x (piece xs (Star T) ∷ []) [] (f, tt) (λ c m. absurd m)) g)
-      (have_one (StayClear x) stop tt)
+module _ (N : List (List ℕ) → List ℕ → List Choice) (b : Bool) (x : List ℕ) (named : (xs : List (List ℕ)) (y : List ℕ) → has_word xs x ≡ b → AllHave (StayPlaced b x) (N xs y)) where
+  placed_turns : (xs : List (List ℕ)) (T : Tree) (cs : List Choice) → IsPlaced b x xs T → AllHave (StayPlaced b x) cs → AllHave (StayPlaced b x) (then_choices cs (piece xs (Star T) ∷ []) [])
+  placed_turns xs T cs f g =
+      have_then (StayPlaced b x) (StayPlaced b x) (piece xs (Star T) ∷ []) [] cs (placed_behind b x (piece xs (Star T) ∷ []) [] (f, tt) (λ c m. absurd m)) g
 
-  inside_turns : (xs : List (List ℕ)) (T : Tree) (cs : List Choice) → IsInside x xs T → AllHave (StayInside x) cs → AllHave (StayInside x) (turn_choices (piece xs (Star T)) cs)
-  inside_turns xs T cs f g =
-      have_append (StayInside x) (then_choices cs (piece xs (Star T) ∷ []) []) (stop ∷ [])
-      (have_then (StayInside x) (StayInside x) (piece xs (Star T) ∷ []) [] cs (inside_place x (piece xs (Star T) ∷ []) [] (f, tt) (λ c m. absurd m)) g)
-      (have_one (StayInside x) stop tt)
-
-  clear_some_turns : (xs : List (List ℕ)) (T : Tree) (cs : List Choice) → IsOutside x xs T → AllHave (StayClear x) cs → AllHave (StayClear x) (some_turn_choices (piece xs (Star T)) cs)
-  clear_some_turns xs T cs f g =
-      have_append (StayClear x) (then_choices cs (piece xs (Star T) ∷ []) []) (cond (has_stop cs) (stop ∷ []) [])
-      (have_then (StayClear x) (StayClear x) (piece xs (Star T) ∷ []) [] cs (clear_place x (piece xs (Star T) ∷ []) [] (f, tt) (λ c m. absurd m)) g)
-      (have_stop (StayClear x) tt (has_stop cs))
-
-  inside_some_turns : (xs : List (List ℕ)) (T : Tree) (cs : List Choice) → IsInside x xs T → AllHave (StayInside x) cs → AllHave (StayInside x) (some_turn_choices (piece xs (Star T)) cs)
-  inside_some_turns xs T cs f g =
-      have_append (StayInside x) (then_choices cs (piece xs (Star T) ∷ []) []) (cond (has_stop cs) (stop ∷ []) [])
-      (have_then (StayInside x) (StayInside x) (piece xs (Star T) ∷ []) [] cs (inside_place x (piece xs (Star T) ∷ []) [] (f, tt) (λ c m. absurd m)) g)
-      (have_stop (StayInside x) tt (has_stop cs))
-
-  clear_by : (T : Tree) (xs : List (List ℕ)) → IsOutside x xs T → AllHave (StayClear x) (choices_by N xs T)
-  clear_by Empty xs f = have_one (StayClear x) stop tt
-  clear_by Text xs f = have_one (StayClear x) (take_text all_texts xs []) (f.0, tt)
-  clear_by (Words w) xs f = have_one (StayClear x) (take_text w xs []) (f.0, tt)
-  clear_by (Name y) xs f = outside xs y f.0
-  clear_by (Elem c T) xs f = have_one (StayClear x) (take_element c (start T) xs []) (f.0, start_clear x T f.1, tt)
-  clear_by (Seq T U) xs f =
+  placed_by : (T : Tree) (xs : List (List ℕ)) → IsPlaced b x xs T → AllHave (StayPlaced b x) (choices_by N xs T)
+  placed_by Empty xs f = have_one (StayPlaced b x) stop tt
+  placed_by Text xs f = have_one (StayPlaced b x) (take_text all_texts xs []) (f.0, tt)
+  placed_by (Words w) xs f = have_one (StayPlaced b x) (take_text w xs []) (f.0, tt)
+  placed_by (Name y) xs f = named xs y f.0
+  placed_by (Elem c T) xs f = have_one (StayPlaced b x) (take_element c (start T) xs []) (f.0, start_clear x T f.1, tt)
+  placed_by (Seq T U) xs f =
       let o = in_neither (occurrences T) (occurrences U) x f.1 in
-      have_then (StayClear x) (StayClear x) (piece xs U ∷ []) (choices_by N xs U) (choices_by N xs T)
-      (clear_place x (piece xs U ∷ []) (choices_by N xs U) ((f.0, o.1), tt) (clear_by U xs (f.0, o.1))) (clear_by T xs (f.0, o.0))
-  clear_by (Alt T U) xs f =
+      have_then (StayPlaced b x) (StayPlaced b x) (piece xs U ∷ []) (choices_by N xs U) (choices_by N xs T)
+      (placed_behind b x (piece xs U ∷ []) (choices_by N xs U) ((f.0, o.1), tt) (placed_by U xs (f.0, o.1))) (placed_by T xs (f.0, o.0))
+  placed_by (Alt T U) xs f =
       let o = in_neither (occurrences T) (occurrences U) x f.1 in
-      have_one_stop (StayClear x) (choices_by N xs T ++ choices_by N xs U)
-      (have_append (StayClear x) (choices_by N xs T) (choices_by N xs U) (clear_by T xs (f.0, o.0)) (clear_by U xs (f.0, o.1)))
-  clear_by (Star T) xs f = clear_turns xs T (choices_by N xs T) f (clear_by T xs f)
-  clear_by (Plus T) xs f = clear_some_turns xs T (choices_by N xs T) f (clear_by T xs f)
-  clear_by (Opt T) xs f =
-      have_one_stop (StayClear x) (choices_by N xs T ++ stop ∷ [])
-      (have_append (StayClear x) (choices_by N xs T) (stop ∷ []) (clear_by T xs f) (have_one (StayClear x) stop tt))
-  clear_by (Val y T) xs f =
+      have_one_stop (StayPlaced b x) (choices_by N xs T ++ choices_by N xs U)
+      (have_append (StayPlaced b x) (choices_by N xs T) (choices_by N xs U) (placed_by T xs (f.0, o.0)) (placed_by U xs (f.0, o.1)))
+  placed_by (Star T) xs f =
+      have_append (StayPlaced b x) (then_choices (choices_by N xs T) (piece xs (Star T) ∷ []) []) (stop ∷ []) (placed_turns xs T (choices_by N xs T) f (placed_by T xs f)) (have_one (StayPlaced b x) stop tt)
+  placed_by (Plus T) xs f =
+      have_append (StayPlaced b x) (then_choices (choices_by N xs T) (piece xs (Star T) ∷ []) []) (cond (has_stop (choices_by N xs T)) (stop ∷ []) []) (placed_turns xs T (choices_by N xs T) f (placed_by T xs f))
+      (have_stop (StayPlaced b x) tt (has_stop (choices_by N xs T)))
+  placed_by (Opt T) xs f =
+      have_one_stop (StayPlaced b x) (choices_by N xs T ++ stop ∷ [])
+      (have_append (StayPlaced b x) (choices_by N xs T) (stop ∷ []) (placed_by T xs f) (have_one (StayPlaced b x) stop tt))
+  placed_by (Val y T) xs f =
       let o = or_none (bytes_eq y x) (has_word (occurrences T) x) f.1 in
-      clear_by T (y ∷ xs) (ap (λ b. b || has_word xs x) o.0 ∙ f.0, o.1)
+      placed_by T (y ∷ xs) (ap (λ b. b || has_word xs x) o.0 ∙ f.0, o.1)
 
-  inside_by : (T : Tree) (xs : List (List ℕ)) → IsInside x xs T → AllHave (StayInside x) (choices_by N xs T)
-  inside_by Empty xs f = have_one (StayInside x) stop tt
-  inside_by Text xs f = have_one (StayInside x) (take_text all_texts xs []) (f.0, tt)
-  inside_by (Words w) xs f = have_one (StayInside x) (take_text w xs []) (f.0, tt)
-  inside_by (Name y) xs f = inside xs y f.0
-  inside_by (Elem c T) xs f = have_one (StayInside x) (take_element c (start T) xs []) (f.0, start_clear x T f.1, tt)
-  inside_by (Seq T U) xs f =
-      let o = in_neither (occurrences T) (occurrences U) x f.1 in
-      have_then (StayInside x) (StayInside x) (piece xs U ∷ []) (choices_by N xs U) (choices_by N xs T)
-      (inside_place x (piece xs U ∷ []) (choices_by N xs U) ((f.0, o.1), tt) (inside_by U xs (f.0, o.1))) (inside_by T xs (f.0, o.0))
-  inside_by (Alt T U) xs f =
-      let o = in_neither (occurrences T) (occurrences U) x f.1 in
-      have_one_stop (StayInside x) (choices_by N xs T ++ choices_by N xs U)
-      (have_append (StayInside x) (choices_by N xs T) (choices_by N xs U) (inside_by T xs (f.0, o.0)) (inside_by U xs (f.0, o.1)))
-  inside_by (Star T) xs f = inside_turns xs T (choices_by N xs T) f (inside_by T xs f)
-  inside_by (Plus T) xs f = inside_some_turns xs T (choices_by N xs T) f (inside_by T xs f)
-  inside_by (Opt T) xs f =
-      have_one_stop (StayInside x) (choices_by N xs T ++ stop ∷ [])
-      (have_append (StayInside x) (choices_by N xs T) (stop ∷ []) (inside_by T xs f) (have_one (StayInside x) stop tt))
-  inside_by (Val y T) xs f =
-      let o = or_none (bytes_eq y x) (has_word (occurrences T) x) f.1 in
-      inside_by T (y ∷ xs) (ap (λ b. b || has_word xs x) o.0 ∙ f.0, o.1)
-
+-- the choices of a part that has the variable, in no binder of it
+module _ (N : List (List ℕ) → List ℕ → List Choice) (x : List ℕ) (named : (b : Bool) (xs : List (List ℕ)) (y : List ℕ) → has_word xs x ≡ b → AllHave (StayPlaced b x) (N xs y)) where
   clear_all : (xs : List (List ℕ)) (T : Tree) → has_word xs x ≡ false → occurrences T ≡ [] → AllHave (StayAhead x) (choices_by N xs T)
-  clear_all xs T h e c m = open_stays x c (clear_stays x c (clear_by T xs (h, word_lacked (occurrences T) x e) c m))
+  clear_all xs T h e c m = open_stays x c (clear_stays x c (placed_by N false x (named false) T xs (h, word_lacked (occurrences T) x e) c m))
 
   -- a sequence, by the part that has the variable
   ahead_seq : (T U : Tree) (xs : List (List ℕ)) → has_word xs x ≡ false → IsLinear U → (has_word (occurrences T) x ≡ true → has_word (occurrences U) x ≡ false) →
@@ -277,13 +234,13 @@ module _ (N : List (List ℕ) → List ℕ → List Choice) (x : List ℕ)
       (ahead_place x (piece xs U ∷ []) (choices_by N xs U) ((h, apart e), tt) g) f
   ahead_seq T U xs h l apart f g false e =
       have_then (StayClear x) (StayAhead x) (piece xs U ∷ []) (choices_by N xs U) (choices_by N xs T)
-      (before_place x (piece xs U ∷ []) (choices_by N xs U) (inr (inl ((h, l), tt))) g) (clear_by T xs (h, e))
+      (before_place x (piece xs U ∷ []) (choices_by N xs U) (inr (inl ((h, l), tt))) g) (placed_by N false x (named false) T xs (h, e))
 
   ahead_val : (y : List ℕ) (T : Tree) (xs : List (List ℕ)) → has_word xs x ≡ false → has_word (occurrences T) y ≡ false →
       (has_word (y ∷ xs) x ≡ false → AllHave (StayAhead x) (choices_by N (y ∷ xs) T)) → (t : Bool) → bytes_eq y x ≡ t → AllHave (StayAhead x) (choices_by N (y ∷ xs) T)
   ahead_val y T xs h l f true e = λ c m.
       inside_stays x c
-      (inside_by T (y ∷ xs) (ap (λ b. b || has_word xs x) e, subst (λ z. has_word (occurrences T) z ≡ false) (same_word_eq y x e) l) c m)
+      (placed_by N true x (named true) T (y ∷ xs) (ap (λ b. b || has_word xs x) e, subst (λ z. has_word (occurrences T) z ≡ false) (same_word_eq y x e) l) c m)
   ahead_val y T xs h l f false e = f (ap (λ b. b || has_word xs x) e ∙ h)
 
   -- the choices of a linear part that is in no binder of the variable
@@ -307,47 +264,40 @@ of_definition Q G None h = λ c m. absurd m
 of_definition Q G (Some T) h = h T refl
 
 -- names bind nothing
-both_names : (E : Definitions) → BindNothing E → (x : List ℕ) (n : ℕ) →
-    ((xs : List (List ℕ)) (y : List ℕ) → has_word xs x ≡ false → AllHave (StayClear x) (choices_of_name E n xs y))
-    × ((xs : List (List ℕ)) (y : List ℕ) → has_word xs x ≡ true → AllHave (StayInside x) (choices_of_name E n xs y))
-both_names E none x zero = (λ xs y h c m. absurd m, λ xs y h c m. absurd m)
-both_names E none x (suc n) =
-    let i = both_names E none x n in (
-      λ xs y h. of_definition (StayClear x) (choices_by (choices_of_name E n) xs) (body E y) (λ T e.
-          clear_by (choices_of_name E n) x i.0 i.1 T xs (h, word_lacked (occurrences T) x (none y T e))),
-      λ xs y h. of_definition (StayInside x) (choices_by (choices_of_name E n) xs) (body E y) (λ T e.
-          inside_by (choices_of_name E n) x i.0 i.1 T xs (h, word_lacked (occurrences T) x (none y T e))),
-    )
+names_placed : (E : Definitions) → BindNothing E → (x : List ℕ) (n : ℕ) (b : Bool) (xs : List (List ℕ)) (y : List ℕ) → has_word xs x ≡ b → AllHave (StayPlaced b x) (choices_of_name E n xs y)
+names_placed E none x zero b xs y h = λ c m. absurd m
+names_placed E none x (suc n) b xs y h =
+    of_definition (StayPlaced b x) (choices_by (choices_of_name E n) xs) (body E y) (λ T e.
+    placed_by (choices_of_name E n) b x (λ zs z. names_placed E none x n b zs z) T xs (h, word_lacked (occurrences T) x (none y T e)))
 
 -- the choices of a continuation
 
 module _ (E : Definitions) (none : BindNothing E) (x : List ℕ) (n : ℕ) where
+  part_placed : (b : Bool) (p : Piece) → IsPlaced b x p.marks p.part → AllHave (StayPlaced b x) (choices_by (choices_of_name E n) p.marks p.part)
+  part_placed b p f = placed_by (choices_of_name E n) b x (names_placed E none x n b) p.part p.marks f
+
   clear_within : (K : Continuation) → IsClear x K → AllHave (StayClear x) (choices_within E n K)
   clear_within [] f = have_one (StayClear x) stop tt
   clear_within (p ∷ K) f =
-      let i = both_names E none x n in
       have_then (StayClear x) (StayClear x) K (choices_within E n K) (choices_by (choices_of_name E n) p.marks p.part)
-      (clear_place x K (choices_within E n K) f.1 (clear_within K f.1)) (clear_by (choices_of_name E n) x i.0 i.1 p.part p.marks f.0)
+      (placed_behind false x K (choices_within E n K) f.1 (clear_within K f.1)) (part_placed false p f.0)
 
   open_within : (K : Continuation) → IsOpen x K → AllHave (StayOpen x) (choices_within E n K)
   open_within [] f = have_one (StayOpen x) stop tt
   open_within (p ∷ K) (inl f) =
-      let i = both_names E none x n in
       have_then (StayInside x) (StayOpen x) K (choices_within E n K) (choices_by (choices_of_name E n) p.marks p.part)
-      (opens_place x K (choices_within E n K) f.1 (open_within K f.1)) (inside_by (choices_of_name E n) x i.0 i.1 p.part p.marks f.0)
+      (opens_place x K (choices_within E n K) f.1 (open_within K f.1)) (part_placed true p f.0)
   open_within (p ∷ K) (inr f) = λ c m. clear_stays x c (clear_within (p ∷ K) f c m)
 
   ahead_within : (K : Continuation) → IsAhead x K → AllHave (StayAhead x) (choices_within E n K)
   ahead_within [] f = have_one (StayAhead x) stop tt
   ahead_within (p ∷ K) (inl f) =
-      let i = both_names E none x n in
       have_then (StayClear x) (StayAhead x) K (choices_within E n K) (choices_by (choices_of_name E n) p.marks p.part)
-      (before_place x K (choices_within E n K) f.1 (ahead_within K f.1)) (clear_by (choices_of_name E n) x i.0 i.1 p.part p.marks f.0)
+      (before_place x K (choices_within E n K) f.1 (ahead_within K f.1)) (part_placed false p f.0)
   ahead_within (p ∷ K) (inr (inl f)) =
-      let i = both_names E none x n in
       have_then (StayAhead x) (StayAhead x) K (choices_within E n K) (choices_by (choices_of_name E n) p.marks p.part)
       (ahead_place x K (choices_within E n K) f.1 (λ c m. open_stays x c (clear_stays x c (clear_within K f.1 c m))))
-      (ahead_by (choices_of_name E n) x i.0 i.1 p.part p.marks (f.0).0 (f.0).1)
+      (ahead_by (choices_of_name E n) x (names_placed E none x n) p.part p.marks (f.0).0 (f.0).1)
   ahead_within (p ∷ K) (inr (inr f)) = λ c m. open_stays x c (open_within (p ∷ K) f c m)
 
 -- the runs
