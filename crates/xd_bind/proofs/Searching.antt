@@ -3,7 +3,7 @@ use Rattle.std.proofs.Common.{◌≡◌, ◌⊎◌, inl, inr, ℕ, zero, suc, �
 use Rattle.std.proofs.Math.ListN.{length-set}
 use Rattle.std.specs.List.{All, slice_get}
 use Rattle.std.proofs.lemmas.Bool.{cases_eq}
-use Rattle.std.proofs.lemmas.Option.{slice_get-get_or, slice_get_within}
+use Rattle.std.proofs.lemmas.Option.{slice_get-get_or, slice_get_read, slice_get_within}
 use Rattle.std.proofs.lemmas.List.{length-take-le}
 use Rattle.xd_auto.specs.declared.auto.State.{State}
 use Rattle.xd_auto.specs.declared.auto.LabelMove.{LabelMove}
@@ -15,7 +15,7 @@ use Rattle.xd_bind.proofs.MarkLemmas.{unmarked-set}
 use Rattle.xd_traces.specs.Traces.{Owned}
 use Rattle.xd_bind.specs.Blocks.{IsAhead, is_start, past_text, past_element, in_content}
 use Rattle.xd_bind.specs.Shifts.{IsLayered}
-use Rattle.xd_bind.specs.Search.{Grows, HasMark, LeadsAhead, over_text, over_element, into_element, IsTextFollowed, TextsMarked, ElementsMarked, IsFollowed, AreFollowed, IsSearch, IsSideOf, is_rest, is_content, IsSearched}
+use Rattle.xd_bind.specs.Search.{Grows, HasMark, LeadsAhead, over_text, over_element, into_element, IsTextFollowed, OthersHave, TextsMarked, ElementsMarked, IsVisiting, IsFollowed, AreFollowed, IsSearch, IsSideOf, is_rest, is_content, IsSearched}
 use Rattle.xd_traces.proofs.Steps.{closed_text, closed_element, some_same}
 
 there_front : {X : Type 0} (xs ys : List X) (i : ℕ) (x : X) → slice_get xs i ≡ Some x → slice_get (xs ++ ys) i ≡ Some x
@@ -102,21 +102,36 @@ module _ (b : Owned) (base : ℕ) (free : State → Bool) (s : State) (moves : S
   pub followed_kept : AreFollowed b base free s moves m → AreFollowed b base free s moves n
   followed_kept h = record { texts = texts_kept _ h.texts; elements = elements_kept _ h.elements }
 
--- of one more move
-module _ (b : Owned) (base : ℕ) (free : State → Bool) (s : State) (moves : StateMoves) (m : List Bool) (count : ℕ) where
-  pub texts_more : (w : TextMove) → slice_get moves.texts count ≡ Some w → TextsMarked b base s moves.texts m count → (b.text s count ≡ false → IsTextFollowed base m w)
-      → TextsMarked b base s moves.texts m (count + 1)
-  texts_more w there h last i t l at own = ⊎_elim
-      (λ same. let is : w ≡ t = some_same (sym there ∙ ap (λ k. slice_get moves.texts k) (sym same) ∙ at) in subst (λ v. IsTextFollowed base m v) is (last (ap (λ k. b.text s k) (sym same) ∙ own)))
+-- what holds of all moves holds of the one that was read
+pub of_read : {M : Type 0} (P : M → Type 0) (read moves : List M) (i : ℕ) (m : M) → read ≡ moves → i < length read → m ≡ get_or read i m → All P moves → P m
+of_read P read moves i m e l is all = subst P (sym (is ∙ ap (λ ts. get_or ts i m) e)) (all i m (omega (arith, ap length e)))
+
+-- one more move
+module _ {M : Type 0} (base : ℕ) (Kind : State → Type 0) (owned : ℕ → Bool) (Has : List Bool → M → Type 0) (moves : List M) (order : List State) (marks : List Bool) where
+  others_more : (n : List Bool) (count : ℕ) (w : M) → slice_get moves count ≡ Some w → OthersHave owned (Has n) moves count → (owned count ≡ false → Has n w) → OthersHave owned (Has n) moves (count + 1)
+  others_more n count w there h last i t l at own = ⊎_elim
+      (λ same. let is : w ≡ t = some_same (sym there ∙ ap (λ k. slice_get moves k) (sym same) ∙ at) in subst (Has n) is (last (ap owned (sym same) ∙ own)))
       (λ ne. h i t (omega arith) at own)
       (cases_eq i count)
 
-  pub elements_more : (w : LabelMove) → slice_get moves.labels count ≡ Some w → ElementsMarked b base free s moves.labels m count → (b.element s count ≡ false → IsFollowed base free m w)
-      → ElementsMarked b base free s moves.labels m (count + 1)
-  elements_more w there h last i t l at own = ⊎_elim
-      (λ same. let is : w ≡ t = some_same (sym there ∙ ap (λ k. slice_get moves.labels k) (sym same) ∙ at) in subst (λ v. IsFollowed base free m v) is (last (ap (λ k. b.element s k) (sym same) ∙ own)))
-      (λ ne. h i t (omega arith) at own)
-      (cases_eq i count)
+  -- it belongs to the variable
+  pub visit_past : (p : List State) (n : List Bool) (count : ℕ) (w : M) → slice_get moves count ≡ Some w → owned count ≡ true → IsVisiting base Kind owned Has moves order marks p n count
+      → IsVisiting base Kind owned Has moves order marks p n (count + 1)
+  visit_past p n count w there own h = record { grows = h.grows; marked = others_more n count w there h.marked (λ o. absurd (let e : true ≡ false = sym own ∙ o in cc)) }
+
+  -- it is followed
+  pub visit_more : (K : State → Type 0) (p : List State) (n : List Bool) (q : List State) (r : List Bool) (count : ℕ) (w : M) → slice_get moves count ≡ Some w → ((v : M) → Has n v → Has r v) → ((s : State) → K s → Kind s)
+      → Grows base K p n q r → Has r w → IsVisiting base Kind owned Has moves order marks p n count → IsVisiting base Kind owned Has moves order marks q r (count + 1)
+  visit_more K p n q r count w there kept kind g has h = record {
+    grows = Grows-trans base Kind order marks p n q r h.grows (Grows-weaker base K Kind p n q r kind g);
+    marked = others_more r count w there (λ i v l at own. kept v (h.marked i v l at own)) (λ o. has);
+  }
+
+-- a state that was listed lies in the layer
+pub listed_within : (a : Automaton) (b : Owned) (base : ℕ) (start : State) (free : State → Bool) (order : List State) (marks : List Bool) (count end : ℕ) → IsSearch a b base start free order marks count → length a ≡ end
+    → (i : ℕ) (s : State) → i < length order → s ≡ get_or order i s → HasMark base marks s × (s.number < end)
+listed_within a b base start free order marks count end h e i s l is =
+    let has = h.states i s (slice_get_read order (length order) i s refl l is) in (has, omega (arith, has.below, h.sized))
 
 module _ (a : Automaton) (b : Owned) (base : ℕ) (start : State) (free : State → Bool) (layered : IsLayered base a) where
   pub search_begun : (none marks : List Bool) (order : List State) → HasMark base none start → base + length none ≡ length a → ((s : State) → mark_of base none s ≡ false)

@@ -43,9 +43,13 @@ pub record IsTextFollowed (base : ℕ) (marks : List Bool) (m : TextMove) : Type
   pub rest : mark_of base marks m.rest ≡ true
   pub filled : HasText m.words
 
--- of the first moves of a state on a text, so many, those that don't belong to the variable are followed
+-- of the first moves of a state, so many, those that don't belong to the variable have a property
+abbrev pub OthersHave : {M : Type 0} → (ℕ → Bool) → (M → Type 0) → List M → ℕ → Type 0
+OthersHave {M} owned Has moves count = (n : ℕ) (m : M) → n < count → slice_get moves n ≡ Some m → owned n ≡ false → Has m
+
+-- of the moves on a text they are followed
 abbrev pub TextsMarked : Owned → ℕ → State → List TextMove → List Bool → ℕ → Type 0
-TextsMarked b base s texts marks count = (n : ℕ) (m : TextMove) → n < count → slice_get texts n ≡ Some m → b.text s n ≡ false → IsTextFollowed base marks m
+TextsMarked b base s texts marks count = OthersHave (b.text s) (IsTextFollowed base marks) texts count
 
 -- the move leads to marked states where what is left aside is free, and its class has a label
 pub record IsFollowed (base : ℕ) (free : State → Bool) (marks : List Bool) (m : LabelMove) : Type 0 where
@@ -54,8 +58,12 @@ pub record IsFollowed (base : ℕ) (free : State → Bool) (marks : List Bool) (
   pub filled : HasLabel m.class
 
 abbrev pub ElementsMarked : Owned → ℕ → (State → Bool) → State → List LabelMove → List Bool → ℕ → Type 0
-ElementsMarked b base free s labels marks count =
-    (n : ℕ) (m : LabelMove) → n < count → slice_get labels n ≡ Some m → b.element s n ≡ false → IsFollowed base free marks m
+ElementsMarked b base free s labels marks count = OthersHave (b.element s) (IsFollowed base free marks) labels count
+
+-- more states were listed and marked, each of this kind, and so many moves were gone through
+pub record IsVisiting {M : Type 0} (base : ℕ) (Kind : State → Type 0) (owned : ℕ → Bool) (Has : List Bool → M → Type 0) (moves : List M) (order : List State) (marks : List Bool) (order2 : List State) (marks2 : List Bool) (count : ℕ) : Type 0 where
+  pub grows : Grows base Kind order marks order2 marks2
+  pub marked : OthersHave owned (Has marks2) moves count
 
 -- all moves of the state that don't belong to the variable are followed
 pub record AreFollowed (b : Owned) (base : ℕ) (free : State → Bool) (s : State) (moves : StateMoves) (marks : List Bool) : Type 0 where

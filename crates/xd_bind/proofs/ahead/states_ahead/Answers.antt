@@ -5,7 +5,7 @@ use Rattle.xd_bind.specs.Marks.{mark_of}
 use Rattle.xd_bind.specs.Shifts.{IsLayered, free_by}
 use Rattle.xd_bind.specs.Search.{AreFollowed, Grows, HasMark, IsSearched, LeadsAhead}
 use Rattle.xd_bind.proofs.Shifting.{front_moves, layer_count, layer_lands, layer_leads}
-use Rattle.xd_bind.proofs.Searching.{Grows-trans, contents_marked, length-replicate, none_marked, rests_marked, search_begun, search_more, searched, text_rests_marked, texts_kept}
+use Rattle.xd_bind.proofs.Searching.{Grows-trans, contents_marked, length-replicate, listed_within, none_marked, rests_marked, search_begun, search_more, searched, text_rests_marked, texts_kept}
 use Rattle.xd_bind.proofs.ahead.states_ahead.Goals as goal
 
 pub visit-requires : goal.visit-requires
@@ -37,61 +37,51 @@ loop-done-init g c =
 pub visit_texts-requires-clause-state : goal.visit_texts-requires-clause-state
 visit_texts-requires-clause-state g c =
     let v : vec_len c.loop-done.search.order ≡ length c.loop-done.search.order.items = search rules in
-    let at = slice_get_read c.loop-done.search.order.items (length c.loop-done.search.order.items) c.loop-done.done c.index-state.result.now refl (omega arith) c.index-state.ensures in
-    let has = c.loop-done.invariant.search.states c.loop-done.done c.index-state.result.now at in
-    omega (arith, has.below, c.loop-done.invariant.search.sized, layer_count c.args.auto.now c.args.layer c.requires.layer, c.requires.layer.within)
+    let listed = listed_within _ _ _ _ _ _ _ _ _ c.loop-done.invariant.search (layer_count c.args.auto.now c.args.layer c.requires.layer) c.loop-done.done c.index-state.result.now (omega arith) c.index-state.ensures in
+    omega (arith, listed.1, c.requires.layer.within)
 
 pub visit_texts-requires-clause-rests : goal.visit_texts-requires-clause-rests
 visit_texts-requires-clause-rests g c =
     let a = take c.args.layer.end c.args.auto.now in
     let s = c.index-state.result.now in
     let v : vec_len c.loop-done.search.order ≡ length c.loop-done.search.order.items = search rules in
-    let at = slice_get_read c.loop-done.search.order.items (length c.loop-done.search.order.items) c.loop-done.done s refl (omega arith) c.index-state.ensures in
-    let has = c.loop-done.invariant.search.states c.loop-done.done s at in
+    let listed = listed_within _ _ _ _ _ _ _ _ _ c.loop-done.invariant.search (layer_count c.args.auto.now c.args.layer c.requires.layer) c.loop-done.done c.index-state.result.now (omega arith) c.index-state.ensures in
     let count = layer_count c.args.auto.now c.args.layer c.requires.layer in
-    let below : s.number < c.args.layer.end = omega (arith, has.below, c.loop-done.invariant.search.sized, count) in
     text_rests_marked c.args.auto.now c.args.aside.base c.args.layer.end c.loop-done.search.marks.items s (subst (λ n. IsLayered n a) (sym c.requires.base) c.requires.layer.layered) c.requires.layer.within
-    (c.loop-done.invariant.search.sized ∙ count) has.above below (layer_leads c.args.auto.now c.args.layer c.requires.layer s below)
+    (c.loop-done.invariant.search.sized ∙ count) listed.0.above listed.1 (layer_leads c.args.auto.now c.args.layer c.requires.layer s listed.1)
 
 pub visit_elements-requires-clause-state : goal.visit_elements-requires-clause-state
 visit_elements-requires-clause-state g c =
     let v : vec_len c.loop-done.search.order ≡ length c.loop-done.search.order.items = search rules in
-    let at = slice_get_read c.loop-done.search.order.items (length c.loop-done.search.order.items) c.loop-done.done c.index-state.result.now refl (omega arith) c.index-state.ensures in
-    let has = c.loop-done.invariant.search.states c.loop-done.done c.index-state.result.now at in
-    omega (arith, has.below, c.loop-done.invariant.search.sized, layer_count c.args.auto.now c.args.layer c.requires.layer, c.requires.layer.within)
+    let listed = listed_within _ _ _ _ _ _ _ _ _ c.loop-done.invariant.search (layer_count c.args.auto.now c.args.layer c.requires.layer) c.loop-done.done c.index-state.result.now (omega arith) c.index-state.ensures in
+    omega (arith, listed.1, c.requires.layer.within)
 
 pub visit_elements-requires-clause-lands : goal.visit_elements-requires-clause-lands
 visit_elements-requires-clause-lands g c =
     let s = c.index-state.result.now in
     let v : vec_len c.loop-done.search.order ≡ length c.loop-done.search.order.items = search rules in
-    let at = slice_get_read c.loop-done.search.order.items (length c.loop-done.search.order.items) c.loop-done.done s refl (omega arith) c.index-state.ensures in
-    let has = c.loop-done.invariant.search.states c.loop-done.done s at in
-    let below : s.number < c.args.layer.end = omega (arith, has.below, c.loop-done.invariant.search.sized, layer_count c.args.auto.now c.args.layer c.requires.layer) in
-    layer_lands c.args.auto.now c.args.layer c.requires.layer c.args.aside c.args.aside (length c.args.auto.now) s below c.requires.layer.within c.requires.room c.requires.room
+    let listed = listed_within _ _ _ _ _ _ _ _ _ c.loop-done.invariant.search (layer_count c.args.auto.now c.args.layer c.requires.layer) c.loop-done.done c.index-state.result.now (omega arith) c.index-state.ensures in
+    layer_lands c.args.auto.now c.args.layer c.requires.layer c.args.aside c.args.aside (length c.args.auto.now) s listed.1 c.requires.layer.within c.requires.room c.requires.room
 
 pub visit_elements-requires-clause-contents : goal.visit_elements-requires-clause-contents
 visit_elements-requires-clause-contents g c =
     let a = take c.args.layer.end c.args.auto.now in
     let s = c.index-state.result.now in
     let v : vec_len c.loop-done.search.order ≡ length c.loop-done.search.order.items = search rules in
-    let at = slice_get_read c.loop-done.search.order.items (length c.loop-done.search.order.items) c.loop-done.done s refl (omega arith) c.index-state.ensures in
-    let has = c.loop-done.invariant.search.states c.loop-done.done s at in
+    let listed = listed_within _ _ _ _ _ _ _ _ _ c.loop-done.invariant.search (layer_count c.args.auto.now c.args.layer c.requires.layer) c.loop-done.done c.index-state.result.now (omega arith) c.index-state.ensures in
     let count = layer_count c.args.auto.now c.args.layer c.requires.layer in
-    let below : s.number < c.args.layer.end = omega (arith, has.below, c.loop-done.invariant.search.sized, count) in
     contents_marked c.args.auto.now c.args.aside.base c.args.layer.end _ s (subst (λ n. IsLayered n a) (sym c.requires.base) c.requires.layer.layered) c.requires.layer.within
-    (omega (arith, c.in_ok-visit_texts.ensures.grows.sized, c.loop-done.invariant.search.sized, count)) has.above below (layer_leads c.args.auto.now c.args.layer c.requires.layer s below)
+    (omega (arith, c.in_ok-visit_texts.ensures.grows.sized, c.loop-done.invariant.search.sized, count)) listed.0.above listed.1 (layer_leads c.args.auto.now c.args.layer c.requires.layer s listed.1)
 
 pub visit_elements-requires-clause-rests : goal.visit_elements-requires-clause-rests
 visit_elements-requires-clause-rests g c =
     let a = take c.args.layer.end c.args.auto.now in
     let s = c.index-state.result.now in
     let v : vec_len c.loop-done.search.order ≡ length c.loop-done.search.order.items = search rules in
-    let at = slice_get_read c.loop-done.search.order.items (length c.loop-done.search.order.items) c.loop-done.done s refl (omega arith) c.index-state.ensures in
-    let has = c.loop-done.invariant.search.states c.loop-done.done s at in
+    let listed = listed_within _ _ _ _ _ _ _ _ _ c.loop-done.invariant.search (layer_count c.args.auto.now c.args.layer c.requires.layer) c.loop-done.done c.index-state.result.now (omega arith) c.index-state.ensures in
     let count = layer_count c.args.auto.now c.args.layer c.requires.layer in
-    let below : s.number < c.args.layer.end = omega (arith, has.below, c.loop-done.invariant.search.sized, count) in
     rests_marked c.args.auto.now c.args.aside.base c.args.layer.end _ s (subst (λ n. IsLayered n a) (sym c.requires.base) c.requires.layer.layered) c.requires.layer.within
-    (omega (arith, c.in_ok-visit_texts.ensures.grows.sized, c.loop-done.invariant.search.sized, count)) has.above below (layer_leads c.args.auto.now c.args.layer c.requires.layer s below)
+    (omega (arith, c.in_ok-visit_texts.ensures.grows.sized, c.loop-done.invariant.search.sized, count)) listed.0.above listed.1 (layer_leads c.args.auto.now c.args.layer c.requires.layer s listed.1)
 
 pub loop-done-preserved : goal.loop-done-preserved
 loop-done-preserved g c =

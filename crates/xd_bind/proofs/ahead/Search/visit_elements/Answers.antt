@@ -1,11 +1,11 @@
-use Rattle.std.proofs.Common.{◌≡◌, ◌<◌, ◌+◌, ◌∙◌, ap, subst, sym, refl, true, false, Some, [], arith, length, get_or}
+use Rattle.std.proofs.Common.{◌≡◌, ◌<◌, ◌+◌, ◌∙◌, ap, sym, refl, true, false, Some, [], arith, length, get_or}
 use Rattle.std.specs.List.{slice_get}
 use Rattle.std.proofs.lemmas.Option.{slice_get-get_or, slice_get_read}
 use Rattle.xd_auto.specs.declared.auto.LabelMove.{LabelMove}
 use Rattle.xd_auto.specs.Automaton.{IsState, moves_at}
 use Rattle.xd_bind.specs.Shifts.{free_by, shifted}
-use Rattle.xd_bind.specs.Search.{HasMark, LeadsAhead}
-use Rattle.xd_bind.proofs.Searching.{Grows-trans, Grows-weaker, mark_kept, elements_kept, elements_more, side_leads}
+use Rattle.xd_bind.specs.Search.{HasMark, IsFollowed, LeadsAhead}
+use Rattle.xd_bind.proofs.Searching.{IsFollowed-kept, mark_kept, of_read, side_leads, visit_more, visit_past}
 use Rattle.xd_bind.proofs.ahead.Search.visit_elements.Goals as goal
 use Rattle.xd_bind.proofs.ahead.Search.visit_elements.Goals.{then-not-holds+in_ok-visit_move, else-not-holds}
 
@@ -22,27 +22,19 @@ loop-number-preserved g c =
     let free = free_by c.args.known.now c.args.aside in
     let i = c.loop-number.number in
     let xs = c.label_moves-moves.result.now in
+    let same = ap (λ ls. slice_get ls i) (sym c.label_moves-moves.ensures.value) in
     elim c.if-not-holds.branch [
       | then-not-holds+in_ok-visit_move w ↦
           let m = w.index-moves-number.result in
-          let there : slice_get moves.labels i ≡ Some m =
-          ap (λ ls. slice_get ls i) (sym c.label_moves-moves.ensures.value) ∙ slice_get_read xs (length xs) i m refl c.loop-number-test.true w.index-moves-number.is in
+          let there : slice_get moves.labels i ≡ Some m = same ∙ slice_get_read xs (length xs) i m refl c.loop-number-test.true w.index-moves-number.is in
           let own : b.element s i ≡ false = sym c.holds.ensures ∙ w.if-not-holds.true in
-          let g = w.in_ok-visit_move.ensures.grows in
-          record {
-            grows = rw w.self-is (Grows-trans base (LeadsAhead b base free s moves) _ _ _ _ _ _ c.loop-number.invariant.grows
-                (Grows-weaker base _ (LeadsAhead b base free s moves) _ _ _ _ (side_leads b base free s moves i m there own) g));
-            marked = rw w.self-is (elements_more b base free s moves _ i m there (elements_kept b base free s moves _ _ _ _ _ g i c.loop-number.invariant.marked) (λ o. w.in_ok-visit_move.ensures.marked));
-          }
+          let grows = w.in_ok-visit_move.ensures.grows in
+          rw w.self-is (visit_more base (LeadsAhead b base free s moves) (b.element s) (λ ms. IsFollowed base free ms) moves.labels _ _ _ _ _ _ _ i m there (λ v. IsFollowed-kept base free _ _ _ _ _ v grows)
+          (side_leads b base free s moves i m there own) grows w.in_ok-visit_move.ensures.marked c.loop-number.invariant)
       | else-not-holds w ↦
-          let own : b.element s i ≡ true = sym c.holds.ensures ∙ w.if-not-holds.false in
           let m : LabelMove = get_or xs i some_move in
-          let there : slice_get moves.labels i ≡ Some m =
-          ap (λ ls. slice_get ls i) (sym c.label_moves-moves.ensures.value) ∙ slice_get-get_or xs i some_move c.loop-number-test.true in
-          record {
-            grows = rw w.self-is c.loop-number.invariant.grows;
-            marked = rw w.self-is (elements_more b base free s moves _ i m there c.loop-number.invariant.marked (λ o. absurd (let e : true ≡ false = sym own ∙ o in cc)));
-          }
+          let there : slice_get moves.labels i ≡ Some m = same ∙ slice_get-get_or xs i some_move c.loop-number-test.true in
+          rw w.self-is (visit_past base (LeadsAhead b base free s moves) (b.element s) (λ ms. IsFollowed base free ms) moves.labels _ _ _ _ i m there (sym c.holds.ensures ∙ w.if-not-holds.false) c.loop-number.invariant)
     ]
 
 pub returns-clause-marked : goal.returns-clause-marked
@@ -52,34 +44,22 @@ returns-clause-marked g c n m l there own =
 
 pub visit_move-requires-clause-content_copy : goal.visit_move-requires-clause-content_copy
 visit_move-requires-clause-content_copy g c =
-    let i = c.loop-number.number in
-    let m = c.index-moves-number.result in
-    let at = c.index-moves-number.is ∙ ap (λ ts. get_or ts i m) c.label_moves-moves.ensures.value in
-    let within : i < length (moves_at c.args.auto.now c.args.state).labels = omega (arith, ap length c.label_moves-moves.ensures.value) in
-    subst (λ (w : LabelMove). IsState c.args.auto.now (shifted c.args.aside w.content)) (sym at) (c.requires.lands.labels i m within).0
+    of_read (λ (w : LabelMove). IsState c.args.auto.now (shifted c.args.aside w.content)) c.label_moves-moves.result.now _ c.loop-number.number c.index-moves-number.result c.label_moves-moves.ensures.value
+    c.loop-number-test.true c.index-moves-number.is (λ i d l. (c.requires.lands.labels i d l).0)
 
 pub visit_move-requires-clause-rest_copy : goal.visit_move-requires-clause-rest_copy
 visit_move-requires-clause-rest_copy g c =
-    let i = c.loop-number.number in
-    let m = c.index-moves-number.result in
-    let at = c.index-moves-number.is ∙ ap (λ ts. get_or ts i m) c.label_moves-moves.ensures.value in
-    let within : i < length (moves_at c.args.auto.now c.args.state).labels = omega (arith, ap length c.label_moves-moves.ensures.value) in
-    subst (λ (w : LabelMove). IsState c.args.auto.now (shifted c.args.aside w.rest)) (sym at) (c.requires.lands.labels i m within).1
+    of_read (λ (w : LabelMove). IsState c.args.auto.now (shifted c.args.aside w.rest)) c.label_moves-moves.result.now _ c.loop-number.number c.index-moves-number.result c.label_moves-moves.ensures.value
+    c.loop-number-test.true c.index-moves-number.is (λ i d l. (c.requires.lands.labels i d l).1)
 
 pub visit_move-requires-clause-content : goal.visit_move-requires-clause-content
 visit_move-requires-clause-content g c =
-    let i = c.loop-number.number in
-    let m = c.index-moves-number.result in
-    let at = c.index-moves-number.is ∙ ap (λ ts. get_or ts i m) c.label_moves-moves.ensures.value in
-    let within : i < length (moves_at c.args.auto.now c.args.state).labels = omega (arith, ap length c.label_moves-moves.ensures.value) in
-    let old = subst (λ (w : LabelMove). w.content.number < c.args.aside.base + length c.args.self.now.marks.items) (sym at) (c.requires.contents i m within) in
+    let old = of_read (λ (w : LabelMove). w.content.number < c.args.aside.base + length c.args.self.now.marks.items) c.label_moves-moves.result.now _ c.loop-number.number c.index-moves-number.result
+    c.label_moves-moves.ensures.value c.loop-number-test.true c.index-moves-number.is c.requires.contents in
     omega (arith, old, c.loop-number.invariant.grows.sized)
 
 pub visit_move-requires-clause-rest : goal.visit_move-requires-clause-rest
 visit_move-requires-clause-rest g c =
-    let i = c.loop-number.number in
-    let m = c.index-moves-number.result in
-    let at = c.index-moves-number.is ∙ ap (λ ts. get_or ts i m) c.label_moves-moves.ensures.value in
-    let within : i < length (moves_at c.args.auto.now c.args.state).labels = omega (arith, ap length c.label_moves-moves.ensures.value) in
-    mark_kept c.args.aside.base _ _ m.rest c.loop-number.invariant.grows.sized
-    (subst (λ (w : LabelMove). HasMark c.args.aside.base c.args.self.now.marks.items w.rest) (sym at) (c.requires.rests i m within))
+    mark_kept c.args.aside.base _ _ _ c.loop-number.invariant.grows.sized
+    (of_read (λ (w : LabelMove). HasMark c.args.aside.base c.args.self.now.marks.items w.rest) c.label_moves-moves.result.now _ c.loop-number.number c.index-moves-number.result c.label_moves-moves.ensures.value
+    c.loop-number-test.true c.index-moves-number.is c.requires.rests)
