@@ -9,7 +9,7 @@ ghost use Rattle.xd_report.specs.Kept.{IsKept};
 use crate::texts::write_texts;
 use itoa::Buffer;
 use std::alloc::Global;
-use xd_doc::{NoMemory, Seq, Store};
+use xd_doc::{Label, NoMemory, Seq, Store};
 use xd_syntax::FaultKind;
 use xd_write::write_document;
 
@@ -28,42 +28,21 @@ pub fn write_kind(
         FaultKind::NotUtf8 => write_texts(&["text is not UTF-8"], out),
         FaultKind::Syntax => write_texts(&["syntax"], out),
         FaultKind::TooDeep => write_texts(&["nested too deep"], out),
-        FaultKind::DuplicateName(word) => {
-            write_texts(&["name ", word.as_str(), " is defined twice"], out)
-        }
-        FaultKind::UnknownType(word) => {
-            write_texts(&["type ", word.as_str(), " is not defined"], out)
-        }
-        FaultKind::UnknownFunction(word) => {
-            write_texts(&["function ", word.as_str(), " is not defined"], out)
-        }
-        FaultKind::UnknownVariable(word) => {
-            write_texts(&["variable ", word.as_str(), " is not defined"], out)
-        }
-        FaultKind::Arity(word, given, wanted) => {
-            write_arity(word.as_str(), *given, *wanted, out)
-        }
-        FaultKind::NotLinear(word) => {
-            write_texts(&["variable ", word.as_str(), " is not linear"], out)
-        }
-        FaultKind::NotTail(word) => {
-            write_texts(
-                &["type ", word.as_str(), " recurs outside tail position"],
-                out,
-            )
-        }
-        FaultKind::Unguarded(word) => {
-            write_texts(&["type ", word.as_str(), " recurs unguarded"], out)
-        }
+        FaultKind::DuplicateName(word) => write_word("name ", word, " is defined twice", out),
+        FaultKind::UnknownType(word) => write_word("type ", word, " is not defined", out),
+        FaultKind::UnknownFunction(word) => write_word("function ", word, " is not defined", out),
+        FaultKind::UnknownVariable(word) => write_word("variable ", word, " is not defined", out),
+        FaultKind::Arity(word, given, wanted) => write_arity(word, *given, *wanted, out),
+        FaultKind::NotLinear(word) => write_word("variable ", word, " is not linear", out),
+        FaultKind::NotTail(word) => write_word("type ", word, " recurs outside tail position", out),
+        FaultKind::Unguarded(word) => write_word("type ", word, " recurs unguarded", out),
         FaultKind::NotExhaustive(seq) => {
             write_carried(alloc, "match is not exhaustive: ", store, *seq, out)
         }
         FaultKind::Argument(seq) => {
             write_carried(alloc, "argument does not fit: ", store, *seq, out)
         }
-        FaultKind::Result(seq) => {
-            write_carried(alloc, "result does not fit: ", store, *seq, out)
-        }
+        FaultKind::Result(seq) => write_carried(alloc, "result does not fit: ", store, *seq, out),
         FaultKind::NoSuchName(word) => {
             write_texts(&["type ", word.as_str(), " is not defined"], out)
         }
@@ -71,7 +50,15 @@ pub fn write_kind(
     }
 }
 
-fn write_arity(word: &str, given: u64, wanted: u64, out: &mut Vec<u8>) -> Result<(), NoMemory>
+/// Appends a word between two texts.
+fn write_word(front: &str, word: &Label, behind: &str, out: &mut Vec<u8>) -> Result<(), NoMemory>
+    ensures ok { OnOk result (out.new.items ≡ out.old.items ++ (front.now ++ word.now ++ behind.now)) }
+    ensures kept { IsKept out.old.items out.new.items }
+{
+    write_texts(&[front, word.as_str(), behind], out)
+}
+
+fn write_arity(word: &Label, given: u64, wanted: u64, out: &mut Vec<u8>) -> Result<(), NoMemory>
     ensures ok { OnOk result (out.new.items ≡ out.old.items ++ (codes "function " ++ word.now ++ codes " has arguments " ++ decimal given ++ codes ", wants " ++ decimal wanted)) }
     ensures kept { IsKept out.old.items out.new.items }
 {
@@ -80,7 +67,7 @@ fn write_arity(word: &str, given: u64, wanted: u64, out: &mut Vec<u8>) -> Result
     write_texts(
         &[
             "function ",
-            word,
+            word.as_str(),
             " has arguments ",
             given_digits.format(given),
             ", wants ",
