@@ -212,89 +212,63 @@ type_part_one R one line n m T U f g =
     let r = same_front space (decimal n) (decimal m) p.behind q.behind (decimal_free n (f.reads).number) (decimal_free m (g.reads).number) (sym p.whole ∙ e ∙ q.whole) in
     (decimal_one n m (f.reads).number (g.reads).number r.0, one q.behind T U (subst (λ b. R b T) r.1 p.reads) q.reads)
 
+-- the first and fifth letters of a line
+abbrev letters : List ℕ → ℕ × ℕ
+letters l = (get_or l 0 0, get_or l 4 0)
+
 module _ {A : Type 0} where
-  -- the first and fifth letters of a line
-  abbrev pub first_letter : Part A → ℕ
-  first_letter first_title = 120
-  first_letter second_title = 120
-  first_letter (type_count n) = 116
-  first_letter (type_part n T) = 116
-  first_letter (goal_count n) = 103
-  first_letter (goal_part n) = 103
-  first_letter (left_part x) = 108
-  first_letter (right_part x) = 114
-  first_letter (empty_part n) = 101
-  first_letter (case_part c) = 99
-  first_letter end_part = 101
-
-  abbrev pub fifth_letter : Part A → ℕ
-  fifth_letter first_title = 101
-  fifth_letter second_title = 101
-  fifth_letter (type_count n) = 115
-  fifth_letter (type_part n T) = 32
-  fifth_letter (goal_count n) = 115
-  fifth_letter (goal_part n) = 32
-  fifth_letter (left_part x) = 32
-  fifth_letter (right_part x) = 116
-  fifth_letter (empty_part n) = 121
-  fifth_letter (case_part c) = 32
-  fifth_letter end_part = 0
-
-letter_in : (i : ℕ) (l m : List ℕ) (c : ℕ) → l ≡ m → get_or m i 0 ≡ c → get_or l i 0 ≡ c
-letter_in i l m c e h = ap (λ x. get_or x i 0) e ∙ h
+  abbrev letters_of : Part A → ℕ × ℕ
+  letters_of first_title = (120, 101)
+  letters_of second_title = (120, 101)
+  letters_of (type_count n) = (116, 115)
+  letters_of (type_part n T) = (116, 32)
+  letters_of (goal_count n) = (103, 115)
+  letters_of (goal_part n) = (103, 32)
+  letters_of (left_part x) = (108, 32)
+  letters_of (right_part x) = (114, 116)
+  letters_of (empty_part n) = (101, 121)
+  letters_of (case_part c) = (99, 32)
+  letters_of end_part = (101, 0)
 
 module _ {A : Type 0} (R : List ℕ → Tree → Type 0) (S : List ℕ → A → Type 0) where
-  pub first_is : (l : List ℕ) (p : Part A) → SpellsPart R S l p → get_or l 0 0 ≡ first_letter p
-  first_is l first_title s = letter_in 0 l _ 120 s refl
-  first_is l second_title s = letter_in 0 l _ 120 s refl
-  first_is l (type_count n) s = letter_in 0 l _ 116 s.whole refl
-  first_is l (type_part n T) s = letter_in 0 l _ 116 s.whole refl
-  first_is l (goal_count n) s = letter_in 0 l _ 103 s.whole refl
-  first_is l (goal_part n) s = letter_in 0 l _ 103 s.whole refl
-  first_is l (left_part x) s = letter_in 0 l _ 108 s.whole refl
-  first_is l (right_part x) s = letter_in 0 l _ 114 s.whole refl
-  first_is l (empty_part n) s = letter_in 0 l _ 101 s.whole refl
-  first_is l (case_part c) s = letter_in 0 l _ 99 s.words refl
-  first_is l end_part s = letter_in 0 l _ 101 s refl
-
-  pub fifth_is : (l : List ℕ) (p : Part A) → SpellsPart R S l p → get_or l 4 0 ≡ fifth_letter p
-  fifth_is l first_title s = letter_in 4 l _ 101 s refl
-  fifth_is l second_title s = letter_in 4 l _ 101 s refl
-  fifth_is l (type_count n) s = letter_in 4 l _ 115 s.whole refl
-  fifth_is l (type_part n T) s = letter_in 4 l _ 32 s.whole refl
-  fifth_is l (goal_count n) s = letter_in 4 l _ 115 s.whole refl
-  fifth_is l (goal_part n) s = letter_in 4 l _ 32 s.whole refl
-  fifth_is l (left_part x) s = letter_in 4 l _ 32 s.whole refl
-  fifth_is l (right_part x) s = letter_in 4 l _ 116 s.whole refl
-  fifth_is l (empty_part n) s = letter_in 4 l _ 121 s.whole refl
-  fifth_is l (case_part c) s = letter_in 4 l _ 32 s.words refl
-  fifth_is l end_part s = letter_in 4 l _ 0 s refl
+  letters_are : (l : List ℕ) (p : Part A) → SpellsPart R S l p → letters l ≡ letters_of p
+  letters_are l first_title s = ap letters s
+  letters_are l second_title s = ap letters s
+  letters_are l (type_count n) s = ap letters s.whole
+  letters_are l (type_part n T) s = ap letters s.whole
+  letters_are l (goal_count n) s = ap letters s.whole
+  letters_are l (goal_part n) s = ap letters s.whole
+  letters_are l (left_part x) s = ap letters s.whole
+  letters_are l (right_part x) s = ap letters s.whole
+  letters_are l (empty_part n) s = ap letters s.whole
+  letters_are l (case_part c) s = ap letters s.words
+  letters_are l end_part s = ap letters s
 
 module _ {A : Type 0} (R : List ℕ → Tree → Type 0) (S : List ℕ → A → Type 0)
     (types_one : (b : List ℕ) (T U : Tree) → R b T → R b U → T ≡ U) (one : (b : List ℕ) (x y : A) → S b x → S b y → x ≡ y) where
   titles_apart : (l : List ℕ) → l ≡ codes "xduce-proof 1" → l ≡ codes "xduce-proof 2" → ⊥
   titles_apart l e f = let z : 49 ≡ 50 = ap (λ x. get_or x 12 0) (sym e ∙ f) in omega (arith, z)
 
-  by_letters : (p q : Part A) → first_letter p ≡ first_letter q → fifth_letter p ≡ fifth_letter q → (l : List ℕ) → SpellsPart R S l p → SpellsPart R S l q → p ≡ q
-  by_letters first_title first_title e f l s t = refl
-  by_letters first_title second_title e f l s t = absurd (titles_apart l s t)
-  by_letters second_title first_title e f l s t = absurd (titles_apart l t s)
-  by_letters second_title second_title e f l s t = refl
-  by_letters (type_count n) (type_count m) e f l s t = ap type_count (follows_one (codes "types") SpellsNumber l n m number_one s t)
-  by_letters (type_part n T) (type_part m U) e f l s t =
+  by_letters : (p q : Part A) → letters_of p ≡ letters_of q → (l : List ℕ) → SpellsPart R S l p → SpellsPart R S l q → p ≡ q
+  by_letters first_title first_title e l s t = refl
+  by_letters first_title second_title e l s t = absurd (titles_apart l s t)
+  by_letters second_title first_title e l s t = absurd (titles_apart l t s)
+  by_letters second_title second_title e l s t = refl
+  by_letters (type_count n) (type_count m) e l s t = ap type_count (follows_one (codes "types") SpellsNumber l n m number_one s t)
+  by_letters (type_part n T) (type_part m U) e l s t =
       let r = type_part_one R types_one l n m T U s t in
       ap (λ k. type_part k T) r.0 ∙ ap (λ V. type_part m V) r.1
-  by_letters (goal_count n) (goal_count m) e f l s t = ap goal_count (follows_one (codes "goals") SpellsNumber l n m number_one s t)
-  by_letters (goal_part n) (goal_part m) e f l s t = ap goal_part (follows_one (codes "goal") SpellsNumber l n m number_one s t)
-  by_letters (left_part x) (left_part y) e f l s t = ap left_part (follows_one (codes "left") S l x y one s t)
-  by_letters (right_part x) (right_part y) e f l s t = ap right_part (follows_one (codes "right") S l x y one s t)
-  by_letters (empty_part n) (empty_part m) e f l s t = ap empty_part (follows_one (codes "empty") SpellsNumber l n m number_one s t)
-  by_letters (case_part c) (case_part d) e f l s t = ap case_part (case_one l c d s t)
-  by_letters end_part end_part e f l s t = refl
-  by_letters _ _ e f l s t = absurd (omega (arith, e, f))
+  by_letters (goal_count n) (goal_count m) e l s t = ap goal_count (follows_one (codes "goals") SpellsNumber l n m number_one s t)
+  by_letters (goal_part n) (goal_part m) e l s t = ap goal_part (follows_one (codes "goal") SpellsNumber l n m number_one s t)
+  by_letters (left_part x) (left_part y) e l s t = ap left_part (follows_one (codes "left") S l x y one s t)
+  by_letters (right_part x) (right_part y) e l s t = ap right_part (follows_one (codes "right") S l x y one s t)
+  by_letters (empty_part n) (empty_part m) e l s t = ap empty_part (follows_one (codes "empty") SpellsNumber l n m number_one s t)
+  by_letters (case_part c) (case_part d) e l s t = ap case_part (case_one l c d s t)
+  by_letters end_part end_part e l s t = refl
+  by_letters _ _ e l s t = absurd (omega (arith, ap (λ (x : ℕ × ℕ). x.0) e, ap (λ (x : ℕ × ℕ). x.1) e))
 
   pub part_one : (l : List ℕ) (p q : Part A) → SpellsPart R S l p → SpellsPart R S l q → p ≡ q
-  part_one l p q s t = by_letters p q (sym (first_is R S l p s) ∙ first_is R S l q t) (sym (fifth_is R S l p s) ∙ fifth_is R S l q t) l s t
+  part_one l p q s t = by_letters p q (sym (letters_are R S l p s) ∙ letters_are R S l q t) l s t
 
   pub parts_one : (ls : List (List ℕ)) (ps qs : List (Part A)) → SpellParts R S ls ps → SpellParts R S ls qs → ps ≡ qs
   parts_one [] [] [] s t = refl
