@@ -5,7 +5,7 @@ use Rattle.std.proofs.lemmas.List.{append-nil, append_assoc, map-append, reverse
 use Rattle.xd_base.specs.declared.Place.{Place}
 use Rattle.xd_syntax.specs.Tree.{Tree}
 use Rattle.xd_syntax.specs.Table.{Row, Form, empty_form, text_form, words_form, name_form, elem_form, seq_form, alt_form, star_form, plus_form, opt_form, val_form, tree_at, PartsBelow, CanFollow}
-use Rattle.xd_syntax.specs.Placed.{PlacedTree, Empty_at, Text_at, Words_at, Name_at, Elem_at, Seq_at, Alt_at, Star_at, Plus_at, Opt_at, Val_at, placed_at, placed_form, placed_seq, placed_alt, place_of, unplaced}
+use Rattle.xd_syntax.specs.Placed.{PlacedTree, Empty_at, placed_at, placed_form, placed_seq, placed_alt, place_of, unplaced}
 use Rattle.xd_syntax.specs.Kept.{type_definition, TypeDefStands}
 use Rattle.xd_syntax.specs.RecursionFaults.{Use, top_uses, not_tail, behind_type}
 use Rattle.xd_syntax.specs.declared.types.TypeDef.{TypeDef}
@@ -101,16 +101,7 @@ sizes-append types (p ∷ ps) qs = let i = sizes-append types ps qs in omega ari
 
 size_some : (T : PlacedTree) → 1 ≤ size T
 size_some (Empty_at p) = omega arith
-size_some (Text_at p) = omega arith
-size_some (Words_at p ts) = omega arith
-size_some (Name_at p x) = omega arith
-size_some (Elem_at p c T) = omega arith
-size_some (Seq_at p T U) = omega arith
-size_some (Alt_at p T U) = omega arith
-size_some (Star_at p T) = omega arith
-size_some (Plus_at p T) = omega arith
-size_some (Opt_at p T) = omega arith
-size_some (Val_at p x q T) = omega arith
+size_some _ = omega arith
 
 pub size_positive : (T : PlacedTree) → 0 < size T
 size_positive T = let h = size_some T in omega arith

@@ -1,5 +1,5 @@
 -- Strongly connected components, and what a search for them has found so far.
-use Rattle.std.specs.Prelude.{◌≡◌, ℕ, ◌+◌, ◌*◌, ◌^◌, ◌<◌, ◌≤◌, Bool, true, false, ◌⊎◌, ◌↔◌, nat_eq, List, [], ◌∷◌, length, get_or}
+use Rattle.std.specs.Prelude.{◌≡◌, ℕ, ◌+◌, ◌-◌, ◌*◌, ◌^◌, ◌<◌, ◌≤◌, Bool, true, false, ◌⊎◌, ◌↔◌, nat_eq, List, [], ◌∷◌, length, get_or}
 use Rattle.xd_syntax.specs.Graph.{HasEdge}
 use Rattle.xd_rec.specs.declared.components.Standing.{Standing}
 use Rattle.xd_rec.specs.declared.components.Standing.TheVariants.{Unseen, Open, Done}
@@ -88,6 +88,13 @@ pub record IsSearched (g : List (List ℕ)) (st : List Standing) (path todo : Li
   pub starts : (k : ℕ) → k < length segs → (path_from segs k < length path) × (todo_from segs k ≤ length todo)
   pub first : 0 < length segs → (path_from segs 0 ≡ 0) × (todo_from segs 0 ≡ 0)
   pub ended : length segs ≡ 0 → (length path ≡ 0) × (length todo ≡ 0)
+
+-- the target of the last edge that the last segment has left
+pub record IsNextTarget (g : List (List ℕ)) (path todo : List ℕ) (segs : List Segment) (target : ℕ) : Type 0 where
+  pub waits : todo_from segs (length segs - 1) < length todo
+  pub last : node_at todo (length todo - 1) ≡ target
+  pub in_graph : target < length g
+  pub reached : (p : ℕ) → p < length path → Path g (node_at path p) target
 
 -- what is left: nodes that are unseen, edges to follow, segments to close
 abbrev pub work_left : List Standing → List ℕ → List Segment → ℕ

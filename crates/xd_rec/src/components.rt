@@ -1,8 +1,8 @@
 //! Strongly connected components.
 
-ghost use Rattle.std.specs.Prelude.{◌≡◌, ◌+◌, ◌-◌, ◌<◌, ◌≤◌, ◌++◌, ◌∷◌, [], ℕ, take, length, slice_set, IfOk, OnOk, vec_len};
+ghost use Rattle.std.specs.Prelude.{◌≡◌, ◌+◌, ◌-◌, ◌<◌, ◌≤◌, ◌++◌, ◌∷◌, [], ℕ, take, length, slice_set, get_or, IfOk, OnOk, MatchOption, vec_len};
 ghost use Rattle.xd_syntax.specs.Graph.{IsClosed, successors};
-ghost use Rattle.xd_rec.specs.Components.{AreComponents, IsKnown, IsSearched, IsDoneFrom, StaySeen, has_same_number, node_at, path_from, standing_of, todo_from, unseen, work_left, Path};
+ghost use Rattle.xd_rec.specs.Components.{AreComponents, IsKnown, IsSearched, IsDoneFrom, IsNextTarget, StaySeen, has_same_number, no_segment, node_at, path_from, standing_of, todo_from, unseen, work_left, Path};
 
 use std::alloc::Global;
 use xd_doc::NoMemory;
@@ -44,7 +44,7 @@ pub(crate) fn components(alloc: Global, graph: &Graph) -> Result<Vec<Standing>, 
 {
     let mut search = Search::new(alloc, graph.len())?;
     for node in 0..graph.len() {
-        if let Standing::Unseen = search.standing[node] {
+        if let Standing::Unseen = search.standing(node) {
             search.explore(graph, node)?;
         }
     }
@@ -121,16 +121,14 @@ impl Search {
         ensures stay { OnOk result (StaySeen self.old.standing.items self.new.standing.items) }
         ensures less { OnOk result (work_left self.new.standing.items self.new.todo.items self.new.segments.items < work_left self.old.standing.items self.old.todo.items self.old.segments.items) }
     {
-        let last = self.segments[self.segments.len() - 1];
-        if self.todo.len() == last.todo_from {
+        let Some(target) = self.next_target(graph) else {
             self.close_segment(graph);
             return Ok(());
-        }
-        let target = self.todo[self.todo.len() - 1];
-        match self.standing[target] {
+        };
+        match self.standing(target) {
             Standing::Unseen => self.open_segment(graph, target)?,
             Standing::Open(place) => {
-                if place < last.path_from {
+                if place < self.last_segment().path_from {
                     self.merge_segments(graph);
                 } else {
                     self.skip_edge(graph);
@@ -139,6 +137,35 @@ impl Search {
             Standing::Done(_) => self.skip_edge(graph),
         }
         Ok(())
+    }
+
+    /// The target of the last segment's last edge that is still to be followed.
+    fn next_target(&self, graph: &Graph) -> Option<usize>
+        requires searched { IsSearched graph.now self.now.standing.items self.now.path.items self.now.todo.items self.now.segments.items self.now.finished }
+        requires closed { IsClosed graph.now }
+        requires busy { 0 < vec_len self.now.segments }
+        ensures { MatchOption result (length self.now.todo.items ≡ todo_from self.now.segments.items (length self.now.segments.items - 1)) (λ target. IsNextTarget graph.now self.now.path.items self.now.todo.items self.now.segments.items target) }
+    {
+        let _count = graph.len();
+        if self.todo.len() == self.last_segment().todo_from {
+            return None;
+        }
+        Some(self.todo[self.todo.len() - 1])
+    }
+
+    fn last_segment(&self) -> Segment
+        requires { 0 < vec_len self.now.segments }
+        ensures { result ≡ get_or self.now.segments.items (length self.now.segments.items - 1) no_segment }
+    {
+        self.segments[self.segments.len() - 1]
+    }
+
+    /// How far the search has come with a node.
+    fn standing(&self, node: usize) -> Standing
+        requires { node < vec_len self.now.standing }
+        ensures { result ≡ standing_of self.now.standing.items node }
+    {
+        self.standing[node]
     }
 
     /// A node that is seen for the first time goes on the path, as a segment of its own.
