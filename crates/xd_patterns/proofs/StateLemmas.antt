@@ -255,60 +255,54 @@ module _ (t : Tables) (m : List (Link ℕ)) (c : List (Link Piece)) (base : ℕ)
   more_numbers : (c' : List (Link Piece)) (states' : List ℕ) → AllByRecursion (λ n. n ≤ length c') states' → AllByRecursion (λ n. n ≤ length c) states → AllByRecursion (λ n. n ≤ length c') states'
   more_numbers c' states' a b = a
 
-  pub adds_text : (c' : List (Link Piece)) → Adds t m m c c' → (states' : List ℕ) → AllByRecursion (λ n. n ≤ length c') states' → (auto' : Automaton) (ts ts' ls ls' : List ℕ) (i n : ℕ) (w : TextClass) → i ≤ length m →
-      AddsText i n w from base states states' auto auto' ts ts' ls ls' → AddsMove t m c c' base states states' auto auto' from ts ts' ls ls' (take_text w (words_at t m i) (continuation t m c' n))
-  adds_text c' a states' ns' auto' ts ts' ls ls' i n w h x =
-      let v : TextMove = record { words = w; rest = x.rest } in
-      let u : StateMoves = record (moves_at x.made from) { texts = (moves_at x.made from).texts ++ v ∷ [] } in
-      let lon = x.states.longer in
-      let here' : state_number from < length x.made = omega arith in
-      let l : length auto' ≡ length x.made = ap length x.auto ∙ length-set x.made (state_number from) u in
+  -- one more move, where states were added and the moves are these
+  adds_choice : (c' : List (Link Piece)) → Adds t m m c c' → (states' : List ℕ) → AllByRecursion (λ n. n ≤ length c') states' → (auto' made : Automaton) → AddsStates base states states' auto made →
+      (u : StateMoves) → auto' ≡ with_moves made from u → (ts ts' ls ls' : List ℕ) (choice : Choice) →
+      ((cs : List Choice) → HasMoves t m (standing t m c' base states') (moves_at made from) ts ls cs → HasMoves t m (standing t m c' base states') u ts' ls' (cs ++ choice ∷ [])) →
+      AddsMove t m c c' base states states' auto auto' from ts ts' ls ls' choice
+  adds_choice c' a states' ns' auto' made s u e ts ts' ls ls' choice more =
+      let lon = s.longer in
+      let here' : state_number from < length made = omega arith in
+      let l : length auto' ≡ length made = ap length e ∙ length-set made (state_number from) u in
       record {
         grows = record {
           adds = a;
-          more = x.states.more;
-          grown = x.states.grown;
+          more = s.more;
+          grown = s.grown;
           numbers = λ b. ns';
-          count = l ∙ x.states.count;
+          count = l ∙ s.count;
           longer = omega arith;
-          moves = λ s k. ap (λ b. moves_at b s) x.auto ∙ at_others x.made from s u k ∙ x.states.moves s;
+          moves = λ q k. ap (λ b. moves_at b q) e ∙ at_others made from q u k ∙ s.moves q;
         };
         has = λ cs y.
             let A : Standing State = standing t m c' base states' in
-            let z = moves_kept t m m (standing t m c base states) A (moves_at auto from) ts ls cs (kept_same m) (standing_kept t m m c c' base states states' x.states.more a p ns x.states.grown) y in
-            let z' = subst (λ b. HasMoves t m A b ts ls cs) (sym (x.states.moves from)) z in
-            let r = has_text_more t m A (moves_at x.made from) ts ls cs i v (continuation t m c' n) z' h (standing_at t m c' base states' x.rest n x.after x.there) in
-            subst (λ b. HasMoves t m A b ts' ls' (cs ++ take_text w (words_at t m i) (continuation t m c' n) ∷ [])) (sym (ap (λ b. moves_at b from) x.auto ∙ at_changed x.made from u here'))
-            (subst (λ b. HasMoves t m A u b ls' (cs ++ take_text w (words_at t m i) (continuation t m c' n) ∷ [])) (sym x.marked)
-            (subst (λ b. HasMoves t m A u (ts ++ i ∷ []) b (cs ++ take_text w (words_at t m i) (continuation t m c' n) ∷ [])) (sym x.others) r));
+            let z = moves_kept t m m (standing t m c base states) A (moves_at auto from) ts ls cs (kept_same m) (standing_kept t m m c c' base states states' s.more a p ns s.grown) y in
+            subst (λ b. HasMoves t m A b ts' ls' (cs ++ choice ∷ [])) (sym (ap (λ b. moves_at b from) e ∙ at_changed made from u here'))
+            (more cs (subst (λ b. HasMoves t m A b ts ls cs) (sym (s.moves from)) z));
       }
+
+  pub adds_text : (c' : List (Link Piece)) → Adds t m m c c' → (states' : List ℕ) → AllByRecursion (λ n. n ≤ length c') states' → (auto' : Automaton) (ts ts' ls ls' : List ℕ) (i n : ℕ) (w : TextClass) → i ≤ length m →
+      AddsText i n w from base states states' auto auto' ts ts' ls ls' → AddsMove t m c c' base states states' auto auto' from ts ts' ls ls' (take_text w (words_at t m i) (continuation t m c' n))
+  adds_text c' a states' ns' auto' ts ts' ls ls' i n w h x =
+      let A : Standing State = standing t m c' base states' in
+      let v : TextMove = record { words = w; rest = x.rest } in
+      let u : StateMoves = record (moves_at x.made from) { texts = (moves_at x.made from).texts ++ v ∷ [] } in
+      let y : Choice = take_text w (words_at t m i) (continuation t m c' n) in
+      adds_choice c' a states' ns' auto' x.made x.states u x.auto ts ts' ls ls' y
+      (λ cs z.
+      let r = has_text_more t m A (moves_at x.made from) ts ls cs i v (continuation t m c' n) z h (standing_at t m c' base states' x.rest n x.after x.there) in
+      subst (λ b. HasMoves t m A u b ls' (cs ++ y ∷ [])) (sym x.marked) (subst (λ b. HasMoves t m A u (ts ++ i ∷ []) b (cs ++ y ∷ [])) (sym x.others) r))
 
   pub adds_element : (c' : List (Link Piece)) → Adds t m m c c' → (states' : List ℕ) → AllByRecursion (λ n. n ≤ length c') states' → (auto' : Automaton) (ts ts' ls ls' : List ℕ) (i n k : ℕ) (w : LabelClass) → i ≤ length m →
       AddsElement i n w k from base states states' auto auto' ts ts' ls ls' →
       AddsMove t m c c' base states states' auto auto' from ts ts' ls ls' (take_element w (continuation t m c' k) (words_at t m i) (continuation t m c' n))
   adds_element c' a states' ns' auto' ts ts' ls ls' i n k w h x =
+      let A : Standing State = standing t m c' base states' in
       let v : LabelMove = record { class = w; content = x.content; rest = x.rest } in
       let u : StateMoves = record (moves_at x.made from) { labels = (moves_at x.made from).labels ++ v ∷ [] } in
-      let lon = x.states.longer in
-      let here' : state_number from < length x.made = omega arith in
-      let l : length auto' ≡ length x.made = ap length x.auto ∙ length-set x.made (state_number from) u in
-      record {
-        grows = record {
-          adds = a;
-          more = x.states.more;
-          grown = x.states.grown;
-          numbers = λ b. ns';
-          count = l ∙ x.states.count;
-          longer = omega arith;
-          moves = λ s j. ap (λ b. moves_at b s) x.auto ∙ at_others x.made from s u j ∙ x.states.moves s;
-        };
-        has = λ cs y.
-            let A : Standing State = standing t m c' base states' in
-            let z = moves_kept t m m (standing t m c base states) A (moves_at auto from) ts ls cs (kept_same m) (standing_kept t m m c c' base states states' x.states.more a p ns x.states.grown) y in
-            let z' = subst (λ b. HasMoves t m A b ts ls cs) (sym (x.states.moves from)) z in
-            let r = has_label_more t m A (moves_at x.made from) ts ls cs i v (continuation t m c' k) (continuation t m c' n) z' h (standing_at t m c' base states' x.content k x.content_after x.content_there)
-            (standing_at t m c' base states' x.rest n x.after x.there) in
-            let y' : Choice = take_element w (continuation t m c' k) (words_at t m i) (continuation t m c' n) in
-            subst (λ b. HasMoves t m A b ts' ls' (cs ++ y' ∷ [])) (sym (ap (λ b. moves_at b from) x.auto ∙ at_changed x.made from u here'))
-            (subst (λ b. HasMoves t m A u ts' b (cs ++ y' ∷ [])) (sym x.marked) (subst (λ b. HasMoves t m A u b (ls ++ i ∷ []) (cs ++ y' ∷ [])) (sym x.others) r));
-      }
+      let y : Choice = take_element w (continuation t m c' k) (words_at t m i) (continuation t m c' n) in
+      adds_choice c' a states' ns' auto' x.made x.states u x.auto ts ts' ls ls' y
+      (λ cs z.
+      let r = has_label_more t m A (moves_at x.made from) ts ls cs i v (continuation t m c' k) (continuation t m c' n) z h (standing_at t m c' base states' x.content k x.content_after x.content_there)
+      (standing_at t m c' base states' x.rest n x.after x.there) in
+      subst (λ b. HasMoves t m A u ts' b (cs ++ y ∷ [])) (sym x.marked) (subst (λ b. HasMoves t m A u b (ls ++ i ∷ []) (cs ++ y ∷ [])) (sym x.others) r))

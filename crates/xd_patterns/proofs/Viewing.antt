@@ -1,20 +1,18 @@
 -- What a piece is, by the form of its node.
-use Rattle.std.proofs.Common.{◌≡◌, ℕ, zero, suc, ◌+◌, ◌-◌, ◌<◌, ◌≤◌, nat_eq, arith, Bool, true, false, cond, List, [], ◌∷◌, map, length, get_or, drop, refl, ap, sym, subst, ◌∙◌}
+use Rattle.std.proofs.Common.{◌≡◌, ℕ, zero, suc, ◌+◌, ◌-◌, ◌<◌, ◌≤◌, nat_eq, arith, Bool, true, false, cond, List, [], ◌∷◌, map, length, get_or, drop, take, refl, ap, sym, subst, ◌∙◌}
 use Rattle.std.proofs.lemmas.Bool.Decides.{nat_tests}
 use Rattle.std.specs.List.{AllByRecursion}
 use Rattle.xd_syntax.specs.Tree.{Tree, Seq, Alt, seq_of, alt_of}
-use Rattle.xd_syntax.specs.Table.{Row, Form, seq_form, alt_form, form_tree, tree_at}
+use Rattle.xd_base.specs.declared.Place.{Place}
+use Rattle.xd_syntax.specs.Table.{Row, Form, seq_form, alt_form, form_tree, tree_at, PartsBelow, CanFollow}
+use Rattle.xd_syntax.specs.Nodes.{IsNode}
 use Rattle.xd_patterns.specs.declared.chains.Piece.{Piece}
-use Rattle.xd_patterns.specs.declared.pieces.View.TheVariants as V
-use Rattle.xd_patterns.specs.Pieces.{form_at, form_rest, part_from, part_of, HasRest, HasTurns, IsFormPart, IsPieceOf, IsLike, Sees}
+use Rattle.xd_patterns.specs.Pieces.{form_at, form_rest, part_from, part_of, HasRest, HasTurns, IsFormPart, IsPieceOf, IsLike, node_piece, rest_piece}
 
 pub same_row : (rows : List Row) (i : ℕ) (r : Row) → i < length rows → r ≡ get_or rows i r → form_at rows i ≡ r.form
 same_row [] i r h e = absurd (omega arith)
 same_row (x ∷ rows) zero r h e = ap (λ (z : Row). z.form) (sym e)
 same_row (x ∷ rows) (suc i) r h e = same_row rows i r (omega arith) e
-
-abbrev pub node_piece : Bool → ℕ → ℕ → Piece
-node_piece b i m = record { of_pattern = b; node = i; from = 0; is_turns = false; marks = m }
 
 pub like_node : (rows : List Row) (b : Bool) (m i : ℕ) → i < length rows → IsLike rows b m (node_piece b i m)
 like_node rows b m i h = record { source = refl; marked = refl; piece = record { there = h; part = tt } }
@@ -42,11 +40,6 @@ module _ (F : List Tree → Tree) (G : Tree → Tree → Tree) (one : (T : Tree)
   last_part (i ∷ is) zero d h = last_one (i ∷ is) d (omega arith)
   last_part (i ∷ is) (suc n) d h = last_part is n d (omega arith)
 
-abbrev pub rest_piece : Piece → ℕ → ℕ → Piece
-rest_piece p count last =
-    cond (nat_eq (p.from + 2) count) (record { of_pattern = p.of_pattern; node = last; from = 0; is_turns = false; marks = p.marks })
-    (record { of_pattern = p.of_pattern; node = p.node; from = p.from + 1; is_turns = p.is_turns; marks = p.marks })
-
 get_below : (m : ℕ) (is : List ℕ) (i d : ℕ) → AllByRecursion (λ j. j < m) is → i < length is → get_or is i d < m
 get_below m [] i d a h = absurd (omega arith)
 get_below m (j ∷ is) zero d a h = a.0
@@ -56,127 +49,114 @@ pub all_below : (m n : ℕ) → m ≤ n → (is : List ℕ) → AllByRecursion (
 all_below m n h [] a = tt
 all_below m n h (j ∷ is) a = (omega (arith, a.0), all_below m n h is a.1)
 
--- a piece that is not a star is what stands from there on
-module _ (rows : List Row) (p : Piece) (f : Form) (at : form_at rows p.node ≡ f) (tree : tree_at rows p.node ≡ form_tree (tree_at rows) f) (is : IsPieceOf rows p) where
-  -- of a form without parts from there on the piece is the node
-  no_rest : (P : Bool → ℕ → Type 0) → P false 0 → ((n : ℕ) → HasRest (suc n) f → P false (suc n)) → (HasTurns f → P true 0) → P p.is_turns p.from
-  no_rest P a b c = go p.is_turns p.from (subst (IsFormPart p.is_turns p.from) at is.part)
+-- The form is a row of these parts: a sequence or an alternative.
+pub record IsRow (f : Form) (is : List ℕ) (F : List Tree → Tree) (G : Tree → Tree → Tree) : Type 0 where
+  pub one : (T : Tree) → F (T ∷ []) ≡ T
+  pub more : (T U : Tree) (Us : List Tree) → F (T ∷ (U ∷ Us)) ≡ G T (F (U ∷ Us))
+  pub tree : (t : ℕ → Tree) → form_tree t f ≡ F (map t is)
+  pub rest : (t : ℕ → Tree) (n : ℕ) → form_rest t n f ≡ F (map t (drop n is))
+  pub turns : HasTurns f → ⊥
+  pub left : (n : ℕ) → HasRest n f → n + 2 ≤ length is
+  pub has : (n : ℕ) → n + 2 ≤ length is → HasRest n f
+  pub two : (b : Bool) (rows : List Row) → CanFollow b rows f → 2 ≤ length is
+  pub below : (n : ℕ) → PartsBelow n f → AllByRecursion (λ j. j < n) is
+
+pub seq_row : (is : List ℕ) → IsRow (seq_form is) is seq_of Seq
+seq_row is = record {
+  one = λ T. refl;
+  more = λ T U Us. refl;
+  tree = λ t. refl;
+  rest = λ t n. refl;
+  turns = λ h. h;
+  left = λ n h. h;
+  has = λ n h. h;
+  two = λ b rows h. h.0;
+  below = λ n h. h;
+}
+
+pub alt_row : (is : List ℕ) → IsRow (alt_form is) is alt_of Alt
+alt_row is = record {
+  one = λ T. refl;
+  more = λ T U Us. refl;
+  tree = λ t. refl;
+  rest = λ t n. refl;
+  turns = λ h. h;
+  left = λ n h. h;
+  has = λ n h. h;
+  two = λ b rows h. h.0;
+  below = λ n h. h;
+}
+
+-- a piece whose node is a row: the first part that it has, and the others
+module _ (rows : List Row) (p : Piece) (piece : IsPieceOf rows p) (b : Bool) (i : ℕ) (same : i ≡ p.node) (place : Place) (f : Form) (node : IsNode b rows i place f) (is : List ℕ) (F : List Tree → Tree) (G : Tree → Tree → Tree)
+    (row : IsRow f is F G) where
+  formed : form_at rows p.node ≡ f
+  formed = same_row rows p.node (record { place = place; form = f }) piece.there (subst (λ n. record { place = place; form = f } ≡ get_or rows n (record { place = place; form = f })) same node.row)
+
+  -- it is no star
+  no_star : p.is_turns ≡ false
+  no_star = go p.is_turns p.from (subst (IsFormPart p.is_turns p.from) formed piece.part)
     where
-      go : (s : Bool) (n : ℕ) → IsFormPart s n f → P s n
-      go false zero q = a
-      go false (suc n) q = b n q
-      go true zero q = c q
+      go : (s : Bool) (n : ℕ) → IsFormPart s n f → s ≡ false
+      go false n q = refl
+      go true zero q = absurd (row.turns q)
       go true (suc n) q = absurd q
 
-pub plain_part : (rows : List Row) (p : Piece) (f : Form) → form_at rows p.node ≡ f → tree_at rows p.node ≡ form_tree (tree_at rows) f → IsPieceOf rows p →
-    ((n : ℕ) → HasRest n f → ⊥) → (HasTurns f → ⊥) → part_of rows p ≡ form_tree (tree_at rows) f
-plain_part rows p f at tree is none plain =
-    no_rest rows p f at tree is (λ s n. part_from rows s n p.node ≡ form_tree (tree_at rows) f) tree (λ n h. absurd (none (suc n) h)) (λ h. absurd (plain h))
+  -- two parts are left or more
+  two_left : p.from + 2 ≤ length is
+  two_left = go p.from (subst (λ s. IsFormPart s p.from f) no_star (subst (IsFormPart p.is_turns p.from) formed piece.part))
+    where
+      go : (n : ℕ) → IsFormPart false n f → n + 2 ≤ length is
+      go zero q = row.two b (take i rows) node.merged
+      go (suc n) q = row.left (suc n) q
 
--- where the first part stands, and the others
-pub row_part : (rows : List Row) (p : Piece) (F : List Tree → Tree) (G : Tree → Tree → Tree) (one : (T : Tree) → F (T ∷ []) ≡ T) (more : (T U : Tree) (Us : List Tree) → F (T ∷ (U ∷ Us)) ≡ G T (F (U ∷ Us))) →
-    (is : List ℕ) → p.is_turns ≡ false → part_of rows p ≡ F (map (tree_at rows) (drop p.from is)) → p.from + 2 ≤ length is →
-    ((n : ℕ) → 0 < n → n + 2 ≤ length is → (part_from rows false n p.node ≡ F (map (tree_at rows) (drop n is))) × IsFormPart false n (form_at rows p.node)) →
-    AllByRecursion (λ j. j < length rows) is → p.node < length rows → (d e : ℕ) →
-    (part_of rows p ≡ G (part_of rows (node_piece p.of_pattern (get_or is p.from d) p.marks)) (part_of rows (rest_piece p (length is) (get_or is (length is - 1) e))))
-    × IsLike rows p.of_pattern p.marks (node_piece p.of_pattern (get_or is p.from d) p.marks) × IsLike rows p.of_pattern p.marks (rest_piece p (length is) (get_or is (length is - 1) e))
-row_part rows p F G one more is w tree h rests below there d e = (
-  tree ∙ first_part F G one more (tree_at rows) is p.from d h ∙ ap (G (tree_at rows (get_or is p.from d))) (sym (rest_is (nat_eq (p.from + 2) (length is)) refl)),
-  like_node rows p.of_pattern p.marks (get_or is p.from d) (get_below (length rows) is p.from d below (omega arith)),
-  rest_like (nat_eq (p.from + 2) (length is)) refl,
-)
-  where
-    later : Bool → Piece
-    later b =
-        cond b (record { of_pattern = p.of_pattern; node = get_or is (length is - 1) e; from = 0; is_turns = false; marks = p.marks })
-        (record { of_pattern = p.of_pattern; node = p.node; from = p.from + 1; is_turns = p.is_turns; marks = p.marks })
+  part_left : (n : ℕ) → part_from rows false n p.node ≡ F (map (tree_at rows) (drop n is))
+  part_left zero = sym (ap (tree_at rows) same) ∙ node.tree ∙ row.tree (tree_at rows)
+  part_left (suc n) = ap (form_rest (tree_at rows) (suc n)) formed ∙ row.rest (tree_at rows) (suc n)
 
-    count : (b : Bool) → nat_eq (p.from + 2) (length is) ≡ b → (b ≡ true → p.from + 2 ≡ length is) × (b ≡ false → p.from + 1 + 2 ≤ length is)
-    count true q = (λ z. (grind (arith, nat_tests)), λ z. absurd (cc))
-    count false q = (λ z. absurd (cc), λ z. grind (arith, nat_tests))
+  is_part : (n : ℕ) → 0 < n → n + 2 ≤ length is → IsFormPart false n (form_at rows p.node)
+  is_part zero z k = absurd (omega arith)
+  is_part (suc n) z k = subst (HasRest (suc n)) (sym formed) (row.has (suc n) k)
 
-    rest_is : (b : Bool) → nat_eq (p.from + 2) (length is) ≡ b → part_of rows (later b) ≡ F (map (tree_at rows) (drop (p.from + 1) is))
-    rest_is true q =
-        let c = (count true q).0 refl in
-        let s : length is - 1 ≡ p.from + 1 = omega arith in
-        ap (λ m. tree_at rows (get_or is m e)) s ∙ sym (last_part F G one more (tree_at rows) is (p.from + 1) e (omega arith))
-    rest_is false q =
-        ap (λ s. part_from rows s (p.from + 1) p.node) w ∙ (rests (p.from + 1) (omega arith) ((count false q).1 refl)).0
+  like_part : (n : ℕ) → n < length is → IsLike rows p.of_pattern p.marks (node_piece p.of_pattern (get_or is n 0) p.marks)
+  like_part n h =
+      let below = all_below i (length rows) (let t = piece.there in omega arith) is (row.below i node.parts) in
+      like_node rows p.of_pattern p.marks (get_or is n 0) (get_below (length rows) is n 0 below h)
 
-    rest_like : (b : Bool) → nat_eq (p.from + 2) (length is) ≡ b → IsLike rows p.of_pattern p.marks (later b)
-    rest_like true q = like_node rows p.of_pattern p.marks (get_or is (length is - 1) e) (get_below (length rows) is (length is - 1) e below (omega arith))
-    rest_like false q = record {
-      source = refl;
-      marked = refl;
-      piece = record {
-        there = there;
-        part = subst (λ s. IsFormPart s (p.from + 1) (form_at rows p.node)) (sym w) (rests (p.from + 1) (omega arith) ((count false q).1 refl)).1;
-      };
-    }
+  count : (s : Bool) → nat_eq (p.from + 2) (length is) ≡ s → (s ≡ true → p.from + 2 ≡ length is) × (s ≡ false → p.from + 1 + 2 ≤ length is)
+  count true q = (λ z. (grind (arith, nat_tests)), λ z. absurd (cc))
+  count false q = (λ z. absurd (cc), λ z. let two = two_left in grind (arith, nat_tests))
 
--- the piece of a row of parts: it is no star, and two parts are left or more
-row_left : (rows : List Row) (p : Piece) (f : Form) → form_at rows p.node ≡ f → IsPieceOf rows p → (HasTurns f → ⊥) → p.is_turns ≡ false
-row_left rows p f at is plain = go p.is_turns p.from (subst (IsFormPart p.is_turns p.from) at is.part)
-  where
-    go : (s : Bool) (n : ℕ) → IsFormPart s n f → s ≡ false
-    go false n q = refl
-    go true zero q = absurd (plain q)
-    go true (suc n) q = absurd q
+  abbrev later : Bool → Piece
+  later s =
+      cond s (record { of_pattern = p.of_pattern; node = get_or is (length is - 1) 0; from = 0; is_turns = false; marks = p.marks })
+      (record { of_pattern = p.of_pattern; node = p.node; from = p.from + 1; is_turns = p.is_turns; marks = p.marks })
 
-pub seq_left : (rows : List Row) (p : Piece) (is : List ℕ) → IsPieceOf rows p → form_at rows p.node ≡ seq_form is → 2 ≤ length is → p.from + 2 ≤ length is
-seq_left rows p is at row two = go p.from (subst (λ s. IsFormPart s p.from (seq_form is)) (row_left rows p (seq_form is) row at (λ h. h)) (subst (λ f. IsFormPart p.is_turns p.from f) row at.part))
-  where
-    go : (n : ℕ) → IsFormPart false n (seq_form is) → n + 2 ≤ length is
-    go zero q = two
-    go (suc n) q = q
+  later_is : (s : Bool) → nat_eq (p.from + 2) (length is) ≡ s → part_of rows (later s) ≡ F (map (tree_at rows) (drop (p.from + 1) is))
+  later_is true q =
+      let c = (count true q).0 refl in
+      let s : length is - 1 ≡ p.from + 1 = omega arith in
+      ap (λ m. tree_at rows (get_or is m 0)) s ∙ sym (last_part F G row.one row.more (tree_at rows) is (p.from + 1) 0 (omega arith))
+  later_is false q = ap (λ s. part_from rows s (p.from + 1) p.node) no_star ∙ part_left (p.from + 1)
 
-pub alt_left : (rows : List Row) (p : Piece) (is : List ℕ) → IsPieceOf rows p → form_at rows p.node ≡ alt_form is → 2 ≤ length is → p.from + 2 ≤ length is
-alt_left rows p is at row two = go p.from (subst (λ s. IsFormPart s p.from (alt_form is)) (row_left rows p (alt_form is) row at (λ h. h)) (subst (λ f. IsFormPart p.is_turns p.from f) row at.part))
-  where
-    go : (n : ℕ) → IsFormPart false n (alt_form is) → n + 2 ≤ length is
-    go zero q = two
-    go (suc n) q = q
+  later_like : (s : Bool) → nat_eq (p.from + 2) (length is) ≡ s → IsLike rows p.of_pattern p.marks (later s)
+  later_like true q = like_part (length is - 1) (let two = two_left in omega arith)
+  later_like false q = record {
+    source = refl;
+    marked = refl;
+    piece = record { there = piece.there; part = subst (λ s. IsFormPart s (p.from + 1) (form_at rows p.node)) (sym no_star) (is_part (p.from + 1) (omega arith) ((count false q).1 refl)) };
+  }
 
-pub seq_case : (rows : List Row) (p : Piece) (is : List ℕ) → IsPieceOf rows p → form_at rows p.node ≡ seq_form is → tree_at rows p.node ≡ seq_of (map (tree_at rows) is) → 2 ≤ length is →
-    AllByRecursion (λ j. j < length rows) is → (first others : Piece) (d e : ℕ) → first ≡ node_piece p.of_pattern (get_or is p.from d) p.marks →
-    others ≡ rest_piece p (length is) (get_or is (length is - 1) e) → Sees rows p (V.Seq first others)
-seq_case rows p is at row tree two below first others d e fe oe =
-    let w = row_left rows p (seq_form is) row at (λ h. h) in
-    let h = seq_left rows p is at row two in
-    let t = whole p.from in
-    let r = row_part rows p seq_of Seq (λ T. refl) (λ T U Us. refl) is w (ap (λ s. part_from rows s p.from p.node) w ∙ t) h
-    (λ n z k. rest n z k) below at.there d e in
-    subst (λ q. Sees rows p (V.Seq q others)) (sym fe) (subst (λ q. Sees rows p (V.Seq (node_piece p.of_pattern (get_or is p.from d) p.marks) q)) (sym oe) r)
-  where
-    whole : (n : ℕ) → part_from rows false n p.node ≡ seq_of (map (tree_at rows) (drop n is))
-    whole zero = tree
-    whole (suc n) = ap (form_rest (tree_at rows) (suc n)) row
+  abbrev AreSeen : Piece → Piece → Type 0
+  AreSeen first others =
+      (part_of rows p ≡ G (part_of rows first) (part_of rows others)) × IsLike rows p.of_pattern p.marks first × IsLike rows p.of_pattern p.marks others
 
-    rest : (n : ℕ) → 0 < n → n + 2 ≤ length is → (part_from rows false n p.node ≡ seq_of (map (tree_at rows) (drop n is))) × IsFormPart false n (form_at rows p.node)
-    rest zero z k = absurd (omega arith)
-    rest (suc n) z k = (whole (suc n), subst (HasRest (suc n)) (sym row) k)
-
-pub alt_case : (rows : List Row) (p : Piece) (is : List ℕ) → IsPieceOf rows p → form_at rows p.node ≡ alt_form is → tree_at rows p.node ≡ alt_of (map (tree_at rows) is) → 2 ≤ length is →
-    AllByRecursion (λ j. j < length rows) is → (first others : Piece) (d e : ℕ) → first ≡ node_piece p.of_pattern (get_or is p.from d) p.marks →
-    others ≡ rest_piece p (length is) (get_or is (length is - 1) e) → Sees rows p (V.Alt first others)
-alt_case rows p is at row tree two below first others d e fe oe =
-    let w = row_left rows p (alt_form is) row at (λ h. h) in
-    let h = alt_left rows p is at row two in
-    let t = whole p.from in
-    let r = row_part rows p alt_of Alt (λ T. refl) (λ T U Us. refl) is w (ap (λ s. part_from rows s p.from p.node) w ∙ t) h
-    (λ n z k. rest n z k) below at.there d e in
-    subst (λ q. Sees rows p (V.Alt q others)) (sym fe) (subst (λ q. Sees rows p (V.Alt (node_piece p.of_pattern (get_or is p.from d) p.marks) q)) (sym oe) r)
-  where
-    whole : (n : ℕ) → part_from rows false n p.node ≡ alt_of (map (tree_at rows) (drop n is))
-    whole zero = tree
-    whole (suc n) = ap (form_rest (tree_at rows) (suc n)) row
-
-    rest : (n : ℕ) → 0 < n → n + 2 ≤ length is → (part_from rows false n p.node ≡ alt_of (map (tree_at rows) (drop n is))) × IsFormPart false n (form_at rows p.node)
-    rest zero z k = absurd (omega arith)
-    rest (suc n) z k = (whole (suc n), subst (HasRest (suc n)) (sym row) k)
-
--- a part's number, by its place
-pub number_at : {I : Type 0} (at : I → ℕ) (parts : List I) (i : ℕ) (d : I) → i < length parts → get_or (map at parts) i (at d) ≡ at (get_or parts i d)
-number_at at [] i d h = absurd (omega arith)
-number_at at (p ∷ parts) zero d h = refl
-number_at at (p ∷ parts) (suc i) d h = number_at at parts i d (omega arith)
+  pub row_seen : (first others : Piece) → first ≡ node_piece p.of_pattern (get_or is p.from 0) p.marks → others ≡ rest_piece p (length is) (get_or is (length is - 1) 0) → AreSeen first others
+  row_seen first others fe oe =
+      let two = two_left in
+      let whole : part_of rows p ≡ F (map (tree_at rows) (drop p.from is)) = ap (λ s. part_from rows s p.from p.node) no_star ∙ part_left p.from in
+      subst (λ q. AreSeen q others) (sym fe) (subst (AreSeen (node_piece p.of_pattern (get_or is p.from 0) p.marks)) (sym oe) (
+        whole ∙ first_part F G row.one row.more (tree_at rows) is p.from 0 two_left ∙ ap (G (tree_at rows (get_or is p.from 0))) (sym (later_is (nat_eq (p.from + 2) (length is)) refl)),
+        like_part p.from (omega arith),
+        later_like (nat_eq (p.from + 2) (length is)) refl,
+      ))

@@ -1,5 +1,5 @@
 -- What a piece of a table of nodes stands for.
-use Rattle.std.specs.Prelude.{◌≡◌, ℕ, zero, suc, ◌+◌, ◌<◌, ◌≤◌, Bool, true, false, List, [], length, get_or, drop, map}
+use Rattle.std.specs.Prelude.{◌≡◌, ℕ, zero, suc, ◌+◌, ◌<◌, ◌≤◌, nat_eq, cond, Bool, true, false, List, [], length, get_or, drop, map}
 use Rattle.xd_syntax.specs.Tree.{Tree, Empty, Text, Words, Name, Elem, Seq, Alt, Star, Plus, Opt, Val, seq_of, alt_of}
 use Rattle.xd_syntax.specs.Table.{Row, Form, empty_form, seq_form, alt_form, plus_form, val_form, tree_at}
 use Rattle.xd_patterns.specs.declared.chains.Piece.{Piece}
@@ -72,6 +72,16 @@ pub record IsLike (rows : List Row) (of_pattern : Bool) (marks : ℕ) (q : Piece
   pub source : q.of_pattern ≡ of_pattern
   pub marked : q.marks ≡ marks
   pub piece : IsPieceOf rows q
+
+-- a node of a table as a piece
+abbrev pub node_piece : Bool → ℕ → ℕ → Piece
+node_piece of_pattern i marks = record { of_pattern = of_pattern; node = i; from = 0; is_turns = false; marks = marks }
+
+-- the parts behind the first of those that the piece has, where the node has so many, the last of them with this number
+abbrev pub rest_piece : Piece → ℕ → ℕ → Piece
+rest_piece p count last =
+    cond (nat_eq (p.from + 2) count) (record { of_pattern = p.of_pattern; node = last; from = 0; is_turns = false; marks = p.marks })
+    (record { of_pattern = p.of_pattern; node = p.node; from = p.from + 1; is_turns = p.is_turns; marks = p.marks })
 
 -- the view shows what the piece is
 abbrev pub Sees : List Row → Piece → View → Type 0

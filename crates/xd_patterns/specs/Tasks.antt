@@ -140,11 +140,26 @@ pub record PushesPart (old_cells new_cells : List (Link Piece)) (old new : List 
   pub list : list_at new_cells number ≡ q ∷ list_at old_cells behind
   pub pushed : new ≡ old ++ record { cell = number; turn = turn } ∷ []
 
+-- the same with two pieces
+pub record PushesRow (old_cells new_cells : List (Link Piece)) (old new : List Task) (q r : Piece) (behind : ℕ) (turn : Option ℕ) : Type 0 where
+  pub between : List (Link Piece)
+  pub number : ℕ
+  pub link : HasLink old_cells (record { item = r; behind = behind }) between
+  pub list : list_at between number ≡ r ∷ list_at old_cells behind
+  pub pushed : PushesPart between new_cells old new q number turn
+
 -- the same for the node of a name's body, where there is one
 abbrev pub PushesBody : Option ℕ → List (Link Piece) → List (Link Piece) → List Task → List Task → ℕ → ℕ → Option ℕ → Type 0
 PushesBody None old_cells new_cells old new marks behind turn = (new_cells ≡ old_cells) × (new ≡ old)
 PushesBody (Some i) old_cells new_cells old new marks behind turn =
     PushesPart old_cells new_cells old new (record { of_pattern = false; node = i; from = 0; is_turns = false; marks = marks }) behind turn
+
+-- the piece is the part, and its list of marks is made of the binder's node and marks
+pub record IsBound (old new : List (Link ℕ)) (binder part bound : Piece) : Type 0 where
+  pub link : HasLink old (record { item = binder.node; behind = binder.marks }) new
+  pub within : bound.marks ≤ length new
+  pub list : list_at new bound.marks ≡ binder.node ∷ list_at old binder.marks
+  pub same : bound ≡ record part { marks = bound.marks }
 
 -- what is found is kept where it stands first
 abbrev pub HasFound : List Found → Found → List Found → Type 0

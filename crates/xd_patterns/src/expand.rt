@@ -7,12 +7,12 @@ ghost use Rattle.xd_continuations.specs.Chains.{list_at};
 ghost use Rattle.xd_laws.specs.Guarded.{Guarded};
 ghost use Rattle.xd_runs.specs.Steps.{Ahead};
 ghost use Rattle.xd_patterns.specs.Pieces.{IsPieceOf, Sees};
-ghost use Rattle.xd_patterns.specs.Tasks.{rows_of, AreBodies, IsPiece, PushesPart, PushesBody, HasFound, IsStep, meanings, ArePieces, StandsFor};
+ghost use Rattle.xd_patterns.specs.Tasks.{rows_of, AreBodies, IsPiece, PushesPart, PushesRow, PushesBody, IsBound, HasFound, IsStep, meanings, ArePieces, StandsFor};
 ghost use Rattle.xd_patterns.specs.Expanding.{ends_turn, Enters, IsExpanded, IsVisited, AreFound};
 
 use crate::bodies::Bodies;
 use crate::chains::{Cells, Marks, Piece};
-use crate::pieces::{View, view_pattern, view_type};
+use crate::pieces::{View, view_node};
 use indexmap::IndexSet;
 use std::alloc::Global;
 use xd_continuations::Link;
@@ -34,34 +34,50 @@ pub(crate) struct Found {
     pub rest: usize,
 }
 
-/// One more task: a piece before a list.
+/// One more task: a piece before the list of a task.
 fn push_part(
     piece: Piece,
-    behind: usize,
-    turn: Option<usize>,
+    rest: Task,
     cells: &mut Cells,
     tasks: &mut Vec<Task>,
 ) -> Result<(), NoMemory>
-    requires { behind ≤ length cells.old }
-    ensures { OnOk result (PushesPart cells.old cells.new tasks.old.items tasks.new.items piece behind turn) }
+    requires { rest.cell ≤ length cells.old }
+    ensures { OnOk result (PushesPart cells.old cells.new tasks.old.items tasks.new.items piece rest.cell rest.turn) }
 {
-    let cell = cells.put(piece, behind)?;
+    let cell = cells.put(piece, rest.cell)?;
+    let turn = rest.turn;
     tasks.push(Task { cell, turn })?;
     Ok(())
 }
 
-/// One more task: what a name stands for, before a list.
+/// One more task: two pieces before the list of a task.
+fn push_row(
+    first: Piece,
+    second: Piece,
+    rest: Task,
+    cells: &mut Cells,
+    tasks: &mut Vec<Task>,
+) -> Result<(), NoMemory>
+    requires { rest.cell ≤ length cells.old }
+    ensures { OnOk result (PushesRow cells.old cells.new tasks.old.items tasks.new.items first second rest.cell rest.turn) }
+{
+    let cell = cells.put(second, rest.cell)?;
+    let turn = rest.turn;
+    push_part(first, Task { cell, turn }, cells, tasks)?;
+    Ok(())
+}
+
+/// One more task: what a name stands for, before the list of a task.
 fn push_body(
     bodies: &Bodies,
     name: &Label,
     like: Piece,
-    behind: usize,
-    turn: Option<usize>,
+    rest: Task,
     cells: &mut Cells,
     tasks: &mut Vec<Task>,
 ) -> Result<(), NoMemory>
-    requires { behind ≤ length cells.old }
-    ensures { OnOk result (PushesBody (node_of bodies.now name.now) cells.old cells.new tasks.old.items tasks.new.items like.marks behind turn) }
+    requires { rest.cell ≤ length cells.old }
+    ensures { OnOk result (PushesBody (node_of bodies.now name.now) cells.old cells.new tasks.old.items tasks.new.items like.marks rest.cell rest.turn) }
 {
     if let Some(node) = bodies.find(name) {
         let piece = Piece {
@@ -71,9 +87,21 @@ fn push_body(
             is_turns: false,
             marks: like.marks,
         };
-        push_part(piece, behind, turn, cells, tasks)?;
+        push_part(piece, rest, cells, tasks)?;
     }
     Ok(())
+}
+
+/// What a binder has, with its variable among the marks.
+fn bind(binder: Piece, part: Piece, marks: &mut Marks) -> Result<Piece, NoMemory>
+    requires { binder.marks ≤ length marks.old }
+    ensures { IfOk result (IsBound marks.old marks.new binder part) }
+{
+    let number = marks.put(binder.node, binder.marks)?;
+    Ok(Piece {
+        marks: number,
+        ..part
+    })
 }
 
 /// What was found is kept where it stands first.
@@ -107,63 +135,37 @@ fn step_view(
 {
     let _nodes = types.len();
     let _others = patterns.len();
+    let rest = Task {
+        cell: first.behind,
+        turn: task.turn,
+    };
     match view {
-        View::Empty => {
-            let rest = Task {
-                cell: first.behind,
-                turn: task.turn,
-            };
-            tasks.push(rest)?;
-        }
+        View::Empty => tasks.push(rest)?,
         View::Text => keep_item(first, found)?,
         View::Words(_) => keep_item(first, found)?,
         View::Elem(_, _) => keep_item(first, found)?,
-        View::Name(name) => {
-            push_body(
-                bodies,
-                name,
-                first.item,
-                first.behind,
-                task.turn,
-                cells,
-                tasks,
-            )?;
-        }
-        View::Seq(part, others) => {
-            let rest = cells.put(others, first.behind)?;
-            push_part(part, rest, task.turn, cells, tasks)?;
-        }
+        View::Name(name) => push_body(bodies, name, first.item, rest, cells, tasks)?,
+        View::Seq(part, others) => push_row(part, others, rest, cells, tasks)?,
+        View::Plus(part, turns) => push_row(part, turns, rest, cells, tasks)?,
         View::Alt(part, others) => {
-            push_part(others, first.behind, task.turn, cells, tasks)?;
-            push_part(part, first.behind, task.turn, cells, tasks)?;
+            push_part(others, rest, cells, tasks)?;
+            push_part(part, rest, cells, tasks)?;
         }
         View::Star(part) => {
-            let rest = Task {
-                cell: first.behind,
-                turn: task.turn,
+            let turns = Task {
+                cell: task.cell,
+                turn: Some(task.cell),
             };
             tasks.push(rest)?;
-            push_part(part, task.cell, Some(task.cell), cells, tasks)?;
-        }
-        View::Plus(part, turns) => {
-            let rest = cells.put(turns, first.behind)?;
-            push_part(part, rest, task.turn, cells, tasks)?;
+            push_part(part, turns, cells, tasks)?;
         }
         View::Opt(part) => {
-            let rest = Task {
-                cell: first.behind,
-                turn: task.turn,
-            };
             tasks.push(rest)?;
-            push_part(part, first.behind, task.turn, cells, tasks)?;
+            push_part(part, rest, cells, tasks)?;
         }
         View::Val(part) => {
-            let number = marks.put(first.item.node, first.item.marks)?;
-            let bound = Piece {
-                marks: number,
-                ..part
-            };
-            push_part(bound, first.behind, task.turn, cells, tasks)?;
+            let bound = bind(first.item, part, marks)?;
+            push_part(bound, rest, cells, tasks)?;
         }
     }
     Ok(())
@@ -187,9 +189,9 @@ pub(crate) fn view<'a>(types: &'a Types, patterns: &'a Patterns, piece: Piece) -
     ensures { Sees (rows_of (record { types = types.now; patterns = patterns.now }) piece.of_pattern) piece result }
 {
     if piece.of_pattern {
-        view_pattern(patterns, piece)
+        view_node(patterns, piece)
     } else {
-        view_type(types, piece)
+        view_node(types, piece)
     }
 }
 

@@ -1,12 +1,40 @@
 //! What a piece is, with its parts as pieces.
 
-ghost use Rattle.std.specs.Prelude.{◌≡◌, ◌+◌, ◌<◌, ◌≤◌, length, true, false, nat_eq, cond};
-ghost use Rattle.xd_syntax.specs.Table.{AreBuilt};
-ghost use Rattle.xd_patterns.specs.Pieces.{IsPieceOf, Sees};
+ghost use Rattle.std.specs.Prelude.{◌≡◌, ◌+◌, ◌-◌, ◌≤◌, get_or, length, map, true};
+ghost use Rattle.xd_patterns.specs.Pieces.{IsPieceOf, Sees, node_piece, rest_piece};
 
 use crate::chains::Piece;
 use xd_doc::{Class, Label, Words};
-use xd_syntax::{PatternForm, PatternId, Patterns, TypeForm, TypeId, Types};
+use xd_syntax::{FormView, Nodes, PatternId, Patterns, TypeId, Types};
+
+/// A table of nodes whose ids are numbers.
+pub(crate) trait NumberedNodes: Nodes {
+    fn id(node: usize) -> Self::Id
+        ensures { Self.at result ≡ node };
+
+    fn number(id: Self::Id) -> usize
+        ensures { result ≡ Self.at id };
+}
+
+impl NumberedNodes for Types {
+    fn id(node: usize) -> TypeId {
+        TypeId::of(node)
+    }
+
+    fn number(id: TypeId) -> usize {
+        id.at()
+    }
+}
+
+impl NumberedNodes for Patterns {
+    fn id(node: usize) -> PatternId {
+        PatternId::of(node)
+    }
+
+    fn number(id: PatternId) -> usize {
+        id.at()
+    }
+}
 
 /// What a piece is. A sequence or an alternative is seen as its first part and the others.
 #[derive(Clone, Copy)]
@@ -29,7 +57,7 @@ pub(crate) enum View<'a> {
 
 /// A node of the table that the piece is of, with its marks.
 fn node_like(piece: Piece, node: usize) -> Piece
-    ensures { result ≡ record { of_pattern = piece.of_pattern; node = node; from = 0; is_turns = false; marks = piece.marks } }
+    ensures { result ≡ node_piece piece.of_pattern node piece.marks }
 {
     Piece {
         of_pattern: piece.of_pattern,
@@ -42,7 +70,7 @@ fn node_like(piece: Piece, node: usize) -> Piece
 
 /// The same for what is in an element.
 fn content_like(piece: Piece, node: usize) -> Piece
-    ensures { result ≡ record { of_pattern = piece.of_pattern; node = node; from = 0; is_turns = false; marks = 0 } }
+    ensures { result ≡ node_piece piece.of_pattern node 0 }
 {
     Piece {
         of_pattern: piece.of_pattern,
@@ -56,9 +84,7 @@ fn content_like(piece: Piece, node: usize) -> Piece
 /// The parts behind the first of those that the piece has, where the node has so many, the last of them with this number.
 fn others(piece: Piece, count: usize, last: usize) -> Piece
     requires { piece.from + 2 ≤ count }
-    ensures { result ≡ cond (nat_eq (piece.from + 2) count)
-        (record { of_pattern = piece.of_pattern; node = last; from = 0; is_turns = false; marks = piece.marks })
-        (record { of_pattern = piece.of_pattern; node = piece.node; from = piece.from + 1; is_turns = piece.is_turns; marks = piece.marks }) }
+    ensures { result ≡ rest_piece piece count last }
 {
     if piece.from + 2 == count {
         return node_like(piece, last);
@@ -67,6 +93,18 @@ fn others(piece: Piece, count: usize, last: usize) -> Piece
         from: piece.from + 1,
         ..piece
     }
+}
+
+/// The first of the parts that the piece has, where its node has all these, and the others.
+fn first_and_others<N: NumberedNodes>(piece: Piece, parts: &[N::Id]) -> (Piece, Piece)
+    requires { piece.from + 2 ≤ length parts.now }
+    ensures first { result.0 ≡ node_piece piece.of_pattern (get_or (map N.at parts.now) piece.from 0) piece.marks }
+    ensures others { result.1 ≡ rest_piece piece (length parts.now) (get_or (map N.at parts.now) (length parts.now - 1) 0) }
+{
+    let count = parts.len();
+    let first = N::number(parts[piece.from]);
+    let last = N::number(parts[count - 1]);
+    (node_like(piece, first), others(piece, count, last))
 }
 
 /// The star of the repetition that the node of the piece is.
@@ -79,81 +117,36 @@ fn turns(piece: Piece) -> Piece
     }
 }
 
-/// What a piece of a type is.
-pub(crate) fn view_type(types: &Types, piece: Piece) -> View<'_>
-    requires table { piece.of_pattern ≡ false }
-    requires piece { IsPieceOf types.now piece }
-    ensures { Sees types.now piece result }
+/// What a piece of a type or of a pattern is, whose nodes these are.
+pub(crate) fn view_node<N: NumberedNodes>(nodes: &N, piece: Piece) -> View<'_>
+    requires table { piece.of_pattern ≡ N.binders }
+    requires piece { IsPieceOf (N.rows nodes.now) piece }
+    ensures { Sees (N.rows nodes.now) piece result }
 {
-    let node = types.node(TypeId::of(piece.node));
-    match node.form() {
-        TypeForm::Empty => View::Empty,
-        TypeForm::Text => View::Text,
-        TypeForm::Words(words) => View::Words(words),
-        TypeForm::Name(name) => View::Name(name),
-        TypeForm::Elem(class, part) => View::Elem(class, content_like(piece, part.at())),
-        TypeForm::Seq(parts) => {
-            let first = node_like(piece, parts[piece.from].at());
-            View::Seq(
-                first,
-                others(piece, parts.len(), parts[parts.len() - 1].at()),
-            )
+    let node = nodes.view(N::id(piece.node));
+    match node.form {
+        FormView::Empty => View::Empty,
+        FormView::Text => View::Text,
+        FormView::Words(words) => View::Words(words),
+        FormView::Name(name) => View::Name(name),
+        FormView::Elem(class, part) => View::Elem(class, content_like(piece, N::number(part))),
+        FormView::Seq(parts) => {
+            let (first, others) = first_and_others::<N>(piece, parts);
+            View::Seq(first, others)
         }
-        TypeForm::Alt(parts) => {
-            let first = node_like(piece, parts[piece.from].at());
-            View::Alt(
-                first,
-                others(piece, parts.len(), parts[parts.len() - 1].at()),
-            )
+        FormView::Alt(parts) => {
+            let (first, others) = first_and_others::<N>(piece, parts);
+            View::Alt(first, others)
         }
-        TypeForm::Star(part) => View::Star(node_like(piece, part.at())),
-        TypeForm::Plus(part) => {
+        FormView::Star(part) => View::Star(node_like(piece, N::number(part))),
+        FormView::Plus(part) => {
             if piece.is_turns {
-                View::Star(node_like(piece, part.at()))
+                View::Star(node_like(piece, N::number(part)))
             } else {
-                View::Plus(node_like(piece, part.at()), turns(piece))
+                View::Plus(node_like(piece, N::number(part)), turns(piece))
             }
         }
-        TypeForm::Opt(part) => View::Opt(node_like(piece, part.at())),
-    }
-}
-
-/// What a piece of a pattern is.
-pub(crate) fn view_pattern(patterns: &Patterns, piece: Piece) -> View<'_>
-    requires table { piece.of_pattern ≡ true }
-    requires piece { IsPieceOf patterns.now piece }
-    ensures { Sees patterns.now piece result }
-{
-    let node = patterns.node(PatternId::of(piece.node));
-    match node.form() {
-        PatternForm::Empty => View::Empty,
-        PatternForm::Text => View::Text,
-        PatternForm::Words(words) => View::Words(words),
-        PatternForm::Name(name) => View::Name(name),
-        PatternForm::Elem(class, part) => View::Elem(class, content_like(piece, part.at())),
-        PatternForm::Seq(parts) => {
-            let first = node_like(piece, parts[piece.from].at());
-            View::Seq(
-                first,
-                others(piece, parts.len(), parts[parts.len() - 1].at()),
-            )
-        }
-        PatternForm::Alt(parts) => {
-            let first = node_like(piece, parts[piece.from].at());
-            View::Alt(
-                first,
-                others(piece, parts.len(), parts[parts.len() - 1].at()),
-            )
-        }
-        PatternForm::Star(part) => View::Star(node_like(piece, part.at())),
-        PatternForm::Plus(part) => {
-            if piece.is_turns {
-                View::Star(node_like(piece, part.at()))
-            } else {
-                View::Plus(node_like(piece, part.at()), turns(piece))
-            }
-        }
-        PatternForm::Opt(part) => View::Opt(node_like(piece, part.at())),
-        PatternForm::Val(_, _, part) => View::Val(node_like(piece, part.at())),
+        FormView::Opt(part) => View::Opt(node_like(piece, N::number(part))),
+        FormView::Val(_, _, part) => View::Val(node_like(piece, N::number(part))),
     }
 }
