@@ -24,8 +24,8 @@ abbrev pub cost_by : (List ℕ → Document → List Way) → (List ℕ → Docu
 cost_by N K Empty d = 1
 cost_by N K Text d = 1
 cost_by N K (Words w) d = 1
-cost_by N K (Name x) d = K x d + 1
-cost_by N K (Elem c T) d = element_cost (cost_by N K T) d
+cost_by N K (Name x) d = K x d + 2
+cost_by N K (Elem c T) d = element_cost (cost_by N K T) d + 1
 cost_by N K (Seq T U) d = cost_by N K T d + total (λ v. cost_by N K U v.rest) (ways_by N T d) + 2
 cost_by N K (Alt T U) d = cost_by N K T d + cost_by N K U d + 1
 cost_by N K (Star T) d = turns_cost (ways_by N T) (cost_by N K T) (item_count d) d + 1

@@ -1,10 +1,10 @@
 -- Splits of documents, what a loop over them finds, and how many calls it takes to test what fits.
-use Rattle.std.proofs.Common.{◌≡◌, ℕ, zero, suc, ◌+◌, ◌<◌, ◌≤◌, arith, Bool, true, false, not, IsTrue, ◌⊎◌, inl, inr, List, [], ◌∷◌, Option, Some, None, Result, Ok, Err, IfOk, length, get_or, drop, refl, ap, sym, ◌∙◌, subst}
+use Rattle.std.proofs.Common.{◌≡◌, ◌↔◌, ℕ, zero, suc, ◌+◌, ◌<◌, ◌≤◌, arith, Bool, true, false, not, IsTrue, ◌⊎◌, inl, inr, List, [], ◌∷◌, Option, Some, None, Result, Ok, Err, IfOk, length, get_or, drop, refl, ap, sym, ◌∙◌, subst}
 use Rattle.std.proofs.lemmas.List.{at_drop_more}
 use Rattle.xd_doc.specs.Document.{Document, empty, text, element, join, size, has_item}
 use Rattle.xd_syntax.specs.Tree.{Tree, Empty, Text, Words, Name, Elem, Seq, Alt, Star, Plus, Opt, Val, Definitions, body}
 use Rattle.xd_syntax.specs.Fits.{Split}
-use Rattle.xd_laws.specs.FitsWithin.{Repeats, no_turn, one_turn}
+use Rattle.xd_laws.specs.FitsWithin.{FitsWithin, Repeats, no_turn, one_turn}
 use Rattle.xd_plain.specs.PlainDocuments.{document_of}
 use Rattle.xd_plain.specs.PlainFits.{splits, splits_of, behind_text, behind_element}
 use Rattle.xd_plain.specs.declared.fits.Split.{Split as Halves}
@@ -156,6 +156,11 @@ denied A f = (λ e. let z : false ≡ true = e in absurd (let w : ⊥ = cc in w)
 pub if_ok : {A E : Type 0} (P Q : A → Type 0) → ((a : A) → P a → Q a) → (r : Result A E) → IfOk r P → IfOk r Q
 if_ok P Q f (Ok a) h = f a h
 if_ok P Q f (Err e) h = h
+
+-- of a type under another name
+pub same_type : {X : Type 0} (E : Definitions) (n : ℕ) (d : Document) (r : Result Bool X) {T U : Tree} → T ≡ U →
+    IfOk r (λ fits. IsTrue fits ↔ FitsWithin E n T d) → IfOk r (λ fits. IsTrue fits ↔ FitsWithin E n U d)
+same_type E n d r e h = subst (λ T. IfOk r (λ fits. IsTrue fits ↔ FitsWithin E n T d)) e h
 
 -- How many calls it takes.
 

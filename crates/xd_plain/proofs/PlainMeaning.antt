@@ -1,7 +1,6 @@
 -- Plain programs: their names, what has no value, and how many calls it takes to find a value.
-use Rattle.std.proofs.Common.{◌≡◌, ◌≢◌, ℕ, zero, suc, ◌+◌, ◌-◌, arith, List, [], ◌∷◌, ◌++◌, map, Option, Some, None, Result, Ok, Err, IfOk, IfErr, refl, ap, sym, ◌∙◌, subst}
-use Rattle.xd_base.specs.declared.Place.{Place}
-use Rattle.xd_doc.specs.Document.{Document, empty, element, join}
+use Rattle.std.proofs.Common.{◌≡◌, ◌≢◌, ℕ, zero, suc, ◌+◌, ◌-◌, arith, List, [], ◌∷◌, ◌++◌, map, Option, Some, None, Result, Ok, Err, IfOk, IfErr, IsErrAnd, refl, ap, sym, ◌∙◌, subst}
+use Rattle.xd_doc.specs.Document.{Document}
 use Rattle.xd_syntax.specs.Tree as T
 use Rattle.xd_syntax.specs.Tree.{Tree, Definitions, environment, any_type}
 use Rattle.xd_syntax.specs.Words.{any_word}
@@ -9,13 +8,12 @@ use Rattle.xd_syntax.specs.Placed.{unplaced}
 use Rattle.xd_syntax.specs.Expression.{Expression, Nothing, Quoted, Variable, Tagged, Joined, Called, Matched, Arguments, no_argument, argument, Clauses, no_clause, clause}
 use Rattle.xd_syntax.specs.Program.{TypeDefinition, FunctionDefinition, ProgramTree, names_of, function_of}
 use Rattle.xd_laws.specs.Meaning as M
-use Rattle.xd_laws.specs.Meaning.{Outcome, Environment, Matcher, and_then, or_else, value_by, values_by, chosen_by, body_by, call_within}
+use Rattle.xd_laws.specs.Meaning.{Outcome, Environment, Matcher, and_then, or_else, value_by, chosen_by, body_by, call_within}
 use Rattle.xd_plain.specs.PlainTrees.{tree_of, definitions_of}
 use Rattle.xd_plain.specs.PlainPrograms.{placed_of, type_definition_of, behind_first, AnyIsFirst}
-use Rattle.xd_plain.specs.PlainMeaning.{IsWithout, IsAnswer, IsSettledWithin}
+use Rattle.xd_plain.specs.PlainMeaning.{IsWithout, Tells, IsAnswer, IsSettledWithin, done, matches_of}
 use Rattle.xd_laws.specs.FirstMatch.{first, first_within, first_whole}
 use Rattle.xd_syntax.specs.RecursionFaults.{IsSound}
-use Rattle.xd_plain.specs.PlainDocuments.{document_of}
 use Rattle.xd_laws.proofs.TheLaws.{ways_settle}
 use Rattle.xd_plain.specs.declared.tree.PlainTree.{PlainTree}
 use Rattle.xd_plain.specs.declared.tree.PlainTree.TheVariants.{Empty, Text, Words, Name, Elem', Seq', Alt', Star', Plus', Opt', Val'}
@@ -63,70 +61,24 @@ without_then Spent o k h = ap (λ q. and_then q k) h
 without_then Stuck o k h = ap (λ q. and_then q k) h
 without_then NoMemory o k h = tt
 
--- an error that a part ends with
-pub ended_by : {T A B : Type 0} (r : Result T NoValue) (o : Outcome A) (q : Outcome B) → ((w : NoValue) → IsWithout w o → IsWithout w q) →
-    (w v : NoValue) → r ≡ Err w → w ≡ v → IsWithout v o → IfErr r (λ why. IsWithout why q)
-ended_by r o q f w v e k h =
-    subst (λ y. IfErr y (λ why. IsWithout why q)) (sym e) (subst (λ y. IsWithout y q) (sym k) (f v h))
+-- an error of a part is that of the whole
+pub ended : {T A B : Type 0} (stands_for : T → Outcome B) (r : Result T NoValue) (o : Outcome A) (k : A → ℕ → Outcome B) (v : NoValue) →
+    IsErrAnd r (λ w. w ≡ v) → IsWithout v o → Tells stands_for r (and_then o k)
+ended stands_for (Ok x) o k v e h = absurd e
+ended stands_for (Err w) o k v e h = subst (λ y. IsWithout y (and_then o k)) (sym e) (without_then v o k h)
 
--- What an expression's value is, by those of its parts.
+-- what a part that has a value goes on with
+pub goes_on : {A B : Type 0} (o : Outcome A) (k : A → ℕ → Outcome B) (a : A) (m : ℕ) → o ≡ M.Done a m → and_then o k ≡ k a m
+goes_on o k a m h = ap (λ q. and_then q k) h
+
+-- what a search for the first match tells is what the match gives
+pub first_match : (p : PlainProgram) (u : ℕ) (t : PlainTree) (d : Document) (ds : List PlainDefinition) (f g : Option Environment) → ds ≡ p.definitions.items → AnyIsFirst p →
+    f ≡ first_within (definitions_of ds) u (tree_of t) d → f ≡ g → matches_of p u (tree_of t) d ≡ g
+first_match p u t d ds f g e any h k = sym (ap (λ E. first_within E u (tree_of t) d) (ap definitions_of e ∙ any)) ∙ sym h ∙ k
+
+-- What a clause gives, by whether its pattern takes the document.
 
 module _ (W : Matcher) (C : ℕ → List ℕ → List Document → Outcome Document) (n : ℕ) (env : Environment) where
-  pub tagged_without : (p : Place) (l : List ℕ) (e : Expression) (w : NoValue) → IsWithout w (value_by W C n env e) → IsWithout w (value_by W C n env (Tagged p l e))
-  tagged_without p l e w h = without_then w (value_by W C n env e) (λ d m. M.Done (element l d empty) m) h
-
-  pub tagged_done : (p : Place) (l : List ℕ) (e : Expression) (d : Document) (m : ℕ) → value_by W C n env e ≡ M.Done d m →
-      value_by W C n env (Tagged p l e) ≡ M.Done (element l d empty) m
-  tagged_done p l e d m h = ap (λ o. and_then o (λ d m. M.Done (element l d empty) m)) h
-
-  pub joined_without : (p : Place) (e f : Expression) (w : NoValue) → IsWithout w (value_by W C n env e) → IsWithout w (value_by W C n env (Joined p e f))
-  joined_without p e f w h =
-      without_then w (value_by W C n env e) (λ d m. and_then (value_by W C m env f) (λ c k. M.Done (join d c) k)) h
-
-  pub joined_then : (p : Place) (e f : Expression) (d : Document) (m : ℕ) → value_by W C n env e ≡ M.Done d m →
-      value_by W C n env (Joined p e f) ≡ and_then (value_by W C m env f) (λ c k. M.Done (join d c) k)
-  joined_then p e f d m h = ap (λ o. and_then o (λ d m. and_then (value_by W C m env f) (λ c k. M.Done (join d c) k))) h
-
-  pub joined_without_rest : (p : Place) (e f : Expression) (d : Document) (m : ℕ) → value_by W C n env e ≡ M.Done d m → (w : NoValue) →
-      IsWithout w (value_by W C m env f) → IsWithout w (value_by W C n env (Joined p e f))
-  joined_without_rest p e f d m h w i =
-      subst (IsWithout w) (sym (joined_then p e f d m h)) (without_then w (value_by W C m env f) (λ c k. M.Done (join d c) k) i)
-
-  pub joined_done : (p : Place) (e f : Expression) (d : Document) (m : ℕ) (c : Document) (k : ℕ) → value_by W C n env e ≡ M.Done d m →
-      value_by W C m env f ≡ M.Done c k → value_by W C n env (Joined p e f) ≡ M.Done (join d c) k
-  joined_done p e f d m c k h i = joined_then p e f d m h ∙ ap (λ o. and_then o (λ c k. M.Done (join d c) k)) i
-
-  pub called_without : (p : Place) (f : List ℕ) (es : Arguments) (w : NoValue) → IsWithout w (values_by W C n env es) → IsWithout w (value_by W C n env (Called p f es))
-  called_without p f es w h = without_then w (values_by W C n env es) (λ ds m. C m f ds) h
-
-  pub called_then : (p : Place) (f : List ℕ) (es : Arguments) (ds : List Document) (m : ℕ) → values_by W C n env es ≡ M.Done ds m →
-      C m f ds ≡ value_by W C n env (Called p f es)
-  called_then p f es ds m h = sym (ap (λ o. and_then o (λ ds m. C m f ds)) h)
-
-  pub matched_without : (p : Place) (e : Expression) (cs : Clauses) (w : NoValue) → IsWithout w (value_by W C n env e) → IsWithout w (value_by W C n env (Matched p e cs))
-  matched_without p e cs w h = without_then w (value_by W C n env e) (λ d m. chosen_by W C m env d cs) h
-
-  pub matched_then : (p : Place) (e : Expression) (cs : Clauses) (d : Document) (m : ℕ) → value_by W C n env e ≡ M.Done d m →
-      chosen_by W C m env d cs ≡ value_by W C n env (Matched p e cs)
-  matched_then p e cs d m h = sym (ap (λ o. and_then o (λ d m. chosen_by W C m env d cs)) h)
-
-  pub argument_without : (e : Expression) (es : Arguments) (w : NoValue) → IsWithout w (value_by W C n env e) → IsWithout w (values_by W C n env (argument e es))
-  argument_without e es w h =
-      without_then w (value_by W C n env e) (λ d m. and_then (values_by W C m env es) (λ ds k. M.Done (d ∷ ds) k)) h
-
-  pub argument_then : (e : Expression) (es : Arguments) (d : Document) (m : ℕ) → value_by W C n env e ≡ M.Done d m →
-      values_by W C n env (argument e es) ≡ and_then (values_by W C m env es) (λ ds k. M.Done (d ∷ ds) k)
-  argument_then e es d m h = ap (λ o. and_then o (λ d m. and_then (values_by W C m env es) (λ ds k. M.Done (d ∷ ds) k))) h
-
-  pub argument_without_rest : (e : Expression) (es : Arguments) (d : Document) (m : ℕ) → value_by W C n env e ≡ M.Done d m → (w : NoValue) →
-      IsWithout w (values_by W C m env es) → IsWithout w (values_by W C n env (argument e es))
-  argument_without_rest e es d m h w i =
-      subst (IsWithout w) (sym (argument_then e es d m h)) (without_then w (values_by W C m env es) (λ ds k. M.Done (d ∷ ds) k) i)
-
-  pub argument_done : (e : Expression) (es : Arguments) (d : Document) (m : ℕ) (ds : List Document) (k : ℕ) → value_by W C n env e ≡ M.Done d m →
-      values_by W C m env es ≡ M.Done ds k → values_by W C n env (argument e es) ≡ M.Done (d ∷ ds) k
-  argument_done e es d m ds k h i = argument_then e es d m h ∙ ap (λ o. and_then o (λ ds k. M.Done (d ∷ ds) k)) i
-
   pub clause_passed : (t : PlainTree) (e : Expression) (cs : Clauses) (d : Document) → W (tree_of t) d ≡ None →
       chosen_by W C n env d cs ≡ chosen_by W C n env d (clause (placed_of t) e cs)
   clause_passed t e cs d h =
@@ -154,10 +106,17 @@ pub settled : (P : ProgramTree) → IsSound P → (n : ℕ) (outcome : Matcher �
     outcome (first_within (names_of P) n) ≡ outcome (first (names_of P))
 settled P s n outcome h = h (first_within (names_of P) n) (λ T d k. ap first_whole (ways_settle P s T d n k))
 
-pub is_answer : (r : Result Valued NoValue) (o q : Outcome Document) → o ≡ q → IfOk r (λ v. o ≡ M.Done (document_of v.document) v.left) →
-    IfErr r (λ why. IsWithout why o) → IsAnswer r q
-is_answer (Ok v) o q e h i = sym e ∙ h
-is_answer (Err why) o q e h i = subst (IsWithout why) e i
+pub same_answer : {o q : Outcome Document} (r : Result Valued NoValue) → IsAnswer r o → o ≡ q → IsAnswer r q
+same_answer r h e = subst (IsAnswer r) e h
+
+-- a value, or none
+pub if_done : (r : Result Valued NoValue) (o : Outcome Document) → IsAnswer r o → IfOk r (λ v. o ≡ done v)
+if_done (Ok v) o h = h
+if_done (Err why) o h = tt
+
+pub if_ended : (r : Result Valued NoValue) (o : Outcome Document) → IsAnswer r o → IfErr r (λ why. IsWithout why o)
+if_ended (Ok v) o h = tt
+if_ended (Err why) o h = h
 
 -- How many calls it takes.
 
@@ -166,10 +125,10 @@ abbrev mutual
   expression_weight K (Nothing p) = 1
   expression_weight K (Quoted p s) = 1
   expression_weight K (Variable p x) = 1
-  expression_weight K (Tagged p l e) = expression_weight K e + 1
-  expression_weight K (Joined p e f) = expression_weight K e + expression_weight K f + 1
-  expression_weight K (Called p f es) = arguments_weight K es + K f + 2
-  expression_weight K (Matched p e cs) = expression_weight K e + clauses_weight K cs + 1
+  expression_weight K (Tagged p l e) = expression_weight K e + 2
+  expression_weight K (Joined p e f) = expression_weight K e + expression_weight K f + 2
+  expression_weight K (Called p f es) = arguments_weight K es + K f + 3
+  expression_weight K (Matched p e cs) = expression_weight K e + clauses_weight K cs + 2
 
   pub arguments_weight : (List ℕ → ℕ) → Arguments → ℕ
   arguments_weight K no_argument = 1

@@ -4,14 +4,16 @@ ghost use Rattle.std.specs.Prelude.{◌≡◌, ◌∷◌, [], ◌++◌, map, IfO
 ghost use Rattle.std.specs.Option.{option_copied};
 ghost use Rattle.xd_doc.specs.Document.{Document, empty, text as a_text, element as an_element};
 ghost use Rattle.xd_syntax.specs.Words.{main_word};
+ghost use Rattle.xd_syntax.specs.Placed.{the_start};
+ghost use Rattle.xd_syntax.specs.Expression.{Tagged, Joined, Called, Matched};
 ghost use Rattle.xd_syntax.specs.Program.{names_of};
 ghost use Rattle.xd_syntax.specs.RecursionFaults.{IsSound};
 ghost use Rattle.xd_laws.specs.Meaning as on_fuel;
 ghost use Rattle.xd_plain.specs.PlainDocuments.{document_of};
 ghost use Rattle.xd_plain.specs.PlainTrees.{map_option};
 ghost use Rattle.xd_plain.specs.PlainWays.{bindings_of};
-ghost use Rattle.xd_plain.specs.PlainPrograms.{parameter_of, expression_of, program_of, AnyIsFirst};
-ghost use Rattle.xd_plain.specs.PlainMeaning.{IsWithout, IsAnswer, IsSettledWithin, value_with, meaning_with, documents_of, matches_of, value_of, values_of, chosen_of};
+ghost use Rattle.xd_plain.specs.PlainPrograms.{parameter_of, expression_of, arguments_of, clauses_of, program_of, AnyIsFirst};
+ghost use Rattle.xd_plain.specs.PlainMeaning.{IsWithout, IsAnswer, AreAnswers, IsSettledWithin, value_with, meaning_with, documents_of, matches_of, value_of, values_of, chosen_of};
 ghost use Rattle.xd_plain.specs.declared.evaluate.NoValue.TheVariants.{NoMemory as OutOfMemory};
 
 use crate::document::PlainDocument;
@@ -96,6 +98,7 @@ pub fn meaning(
     call_within(alloc, program, unfoldings, calls, calls, &main, &documents)
 }
 
+/// The value of an expression, where calls stand within one another at most so deep.
 #[cycle(value)]
 fn value_within(
     alloc: Global,
@@ -107,8 +110,7 @@ fn value_within(
     expression: &PlainExpression,
 ) -> Result<Valued, NoValue>
     requires { AnyIsFirst program.now }
-    ensures done { IfOk result (λ valued. value_of program.now unfoldings deep calls variables.now expression.now ≡ on_fuel.Done (document_of valued.document) valued.left) }
-    ensures ended { IfErr result (λ why. IsWithout why (value_of program.now unfoldings deep calls variables.now expression.now)) }
+    ensures { IsAnswer result (value_of program.now unfoldings deep calls variables.now (expression_of expression.now)) }
 {
     match expression {
         PlainExpression::Empty => Ok(Valued {
@@ -132,58 +134,123 @@ fn value_within(
                 left: calls,
             })
         }
-        PlainExpression::Elem(label, content) => {
-            let content = value_within(
-                alloc, program, unfoldings, deep, calls, variables, content,
-            )?;
-            let document = one_element(alloc, label, content.document)?;
-            Ok(Valued {
-                document,
-                left: content.left,
-            })
-        }
-        PlainExpression::Seq(first, rest) => {
-            let front = value_within(alloc, program, unfoldings, deep, calls, variables, first)?;
-            let back = value_within(
-                alloc, program, unfoldings, deep, front.left, variables, rest,
-            )?;
-            let document = front.document.followed_by(alloc, &back.document)?;
-            Ok(Valued {
-                document,
-                left: back.left,
-            })
-        }
-        PlainExpression::Call(function, arguments) => {
-            let given = values_within(
-                alloc, program, unfoldings, deep, calls, variables, arguments,
-            )?;
-            call_within(
-                alloc,
-                program,
-                unfoldings,
-                deep,
-                given.left,
-                function,
-                &given.documents,
-            )
-        }
-        PlainExpression::Match(scrutinee, clauses) => {
-            let matched = value_within(
-                alloc, program, unfoldings, deep, calls, variables, scrutinee,
-            )?;
-            let document = &matched.document;
-            chosen_within(
-                alloc,
-                program,
-                unfoldings,
-                deep,
-                matched.left,
-                variables,
-                document,
-                clauses,
-            )
-        }
+        PlainExpression::Elem(label, content) => tagged_within(
+            alloc, program, unfoldings, deep, calls, variables, label, content,
+        ),
+        PlainExpression::Seq(first, rest) => joined_within(
+            alloc, program, unfoldings, deep, calls, variables, first, rest,
+        ),
+        PlainExpression::Call(function, arguments) => called_within(
+            alloc, program, unfoldings, deep, calls, variables, function, arguments,
+        ),
+        PlainExpression::Match(scrutinee, clauses) => matched_within(
+            alloc, program, unfoldings, deep, calls, variables, scrutinee, clauses,
+        ),
     }
+}
+
+/// An element around the content's value.
+#[cycle(value)]
+fn tagged_within(
+    alloc: Global,
+    program: &PlainProgram,
+    unfoldings: u64,
+    deep: u64,
+    calls: u64,
+    variables: &[Binding],
+    label: &Label,
+    content: &PlainExpression,
+) -> Result<Valued, NoValue>
+    requires { AnyIsFirst program.now }
+    ensures { IsAnswer result (value_of program.now unfoldings deep calls variables.now (Tagged the_start label.now (expression_of content.now))) }
+{
+    let content = value_within(alloc, program, unfoldings, deep, calls, variables, content)?;
+    let document = one_element(alloc, label, content.document)?;
+    Ok(Valued {
+        document,
+        left: content.left,
+    })
+}
+
+/// The one's value, followed by the other's.
+#[cycle(value)]
+fn joined_within(
+    alloc: Global,
+    program: &PlainProgram,
+    unfoldings: u64,
+    deep: u64,
+    calls: u64,
+    variables: &[Binding],
+    first: &PlainExpression,
+    rest: &PlainExpression,
+) -> Result<Valued, NoValue>
+    requires { AnyIsFirst program.now }
+    ensures { IsAnswer result (value_of program.now unfoldings deep calls variables.now (Joined the_start (expression_of first.now) (expression_of rest.now))) }
+{
+    let front = value_within(alloc, program, unfoldings, deep, calls, variables, first)?;
+    let back = value_within(
+        alloc, program, unfoldings, deep, front.left, variables, rest,
+    )?;
+    let document = front.document.followed_by(alloc, &back.document)?;
+    Ok(Valued {
+        document,
+        left: back.left,
+    })
+}
+
+/// The value of the function's call on the arguments' values.
+#[cycle(value)]
+fn called_within(
+    alloc: Global,
+    program: &PlainProgram,
+    unfoldings: u64,
+    deep: u64,
+    calls: u64,
+    variables: &[Binding],
+    function: &Label,
+    arguments: &PlainArguments,
+) -> Result<Valued, NoValue>
+    requires { AnyIsFirst program.now }
+    ensures { IsAnswer result (value_of program.now unfoldings deep calls variables.now (Called the_start function.now (arguments_of arguments.now))) }
+{
+    let given = values_within(
+        alloc, program, unfoldings, deep, calls, variables, arguments,
+    )?;
+    let documents = &given.documents;
+    call_within(
+        alloc, program, unfoldings, deep, given.left, function, documents,
+    )
+}
+
+/// The value of the clause that takes the scrutinee's value.
+#[cycle(value)]
+fn matched_within(
+    alloc: Global,
+    program: &PlainProgram,
+    unfoldings: u64,
+    deep: u64,
+    calls: u64,
+    variables: &[Binding],
+    scrutinee: &PlainExpression,
+    clauses: &PlainClauses,
+) -> Result<Valued, NoValue>
+    requires { AnyIsFirst program.now }
+    ensures { IsAnswer result (value_of program.now unfoldings deep calls variables.now (Matched the_start (expression_of scrutinee.now) (clauses_of clauses.now))) }
+{
+    let matched = value_within(
+        alloc, program, unfoldings, deep, calls, variables, scrutinee,
+    )?;
+    let document = &matched.document;
+    chosen_within(
+        alloc,
+        program,
+        unfoldings,
+        deep,
+        matched.left,
+        variables,
+        document,
+        clauses,
+    )
 }
 
 /// The values of arguments, from left to right.
@@ -198,8 +265,7 @@ fn values_within(
     arguments: &PlainArguments,
 ) -> Result<AllValued, NoValue>
     requires { AnyIsFirst program.now }
-    ensures done { IfOk result (λ valued. values_of program.now unfoldings deep calls variables.now arguments.now ≡ on_fuel.Done (documents_of valued.documents.items) valued.left) }
-    ensures ended { IfErr result (λ why. IsWithout why (values_of program.now unfoldings deep calls variables.now arguments.now)) }
+    ensures { AreAnswers result (values_of program.now unfoldings deep calls variables.now (arguments_of arguments.now)) }
 {
     match arguments {
         PlainArguments::NoArgument => Ok(AllValued {
@@ -233,8 +299,7 @@ fn chosen_within(
     clauses: &PlainClauses,
 ) -> Result<Valued, NoValue>
     requires { AnyIsFirst program.now }
-    ensures done { IfOk result (λ valued. chosen_of program.now unfoldings deep calls variables.now (document_of document.now) clauses.now ≡ on_fuel.Done (document_of valued.document) valued.left) }
-    ensures ended { IfErr result (λ why. IsWithout why (chosen_of program.now unfoldings deep calls variables.now (document_of document.now) clauses.now)) }
+    ensures { IsAnswer result (chosen_of program.now unfoldings deep calls variables.now (document_of document.now) (clauses_of clauses.now)) }
 {
     match clauses {
         PlainClauses::NoClause => Err(NoValue::Stuck),
@@ -264,8 +329,7 @@ fn call_within(
     documents: &[PlainDocument],
 ) -> Result<Valued, NoValue>
     requires { AnyIsFirst program.now }
-    ensures done { IfOk result (λ valued. on_fuel.call_within (matches_of program.now unfoldings) (program_of program.now) deep calls name.now (documents_of documents.now) ≡ on_fuel.Done (document_of valued.document) valued.left) }
-    ensures ended { IfErr result (λ why. IsWithout why (on_fuel.call_within (matches_of program.now unfoldings) (program_of program.now) deep calls name.now (documents_of documents.now))) }
+    ensures { IsAnswer result (on_fuel.call_within (matches_of program.now unfoldings) (program_of program.now) deep calls name.now (documents_of documents.now)) }
 {
     if deep == 0 {
         return Err(NoValue::Spent);

@@ -1,6 +1,7 @@
 //! Whether a document fits a type, by trying each split of the document.
 
 ghost use Rattle.std.specs.Prelude.{◌≡◌, ◌≤◌, ◌↔◌, IsTrue, IfOk};
+ghost use Rattle.xd_syntax.specs.Tree.{Name};
 ghost use Rattle.xd_syntax.specs.Fits as types;
 ghost use Rattle.xd_laws.specs.FitsWithin as unfolded;
 ghost use Rattle.xd_syntax.specs.Ways.{unfoldings as needed};
@@ -13,7 +14,7 @@ ghost use Rattle.xd_syntax.specs.RecursionFaults.{IsSound};
 use crate::document::PlainDocument;
 use crate::tree::{PlainDefinition, PlainTree, body_of};
 use std::alloc::Global;
-use xd_doc::{Label, NoMemory, Text, Words};
+use xd_doc::{Class, Label, NoMemory, Text, Words};
 
 /// Two documents that are one, joined.
 #[derive(Drop)]
@@ -53,28 +54,10 @@ fn is_fitting(
         PlainTree::Empty => Ok(document.is_empty()),
         PlainTree::Text => Ok(is_one_text(document)),
         PlainTree::Words(texts) => Ok(is_one_of(texts, document)),
-        PlainTree::Name(name) => {
-            let Some(body) = body_of(definitions, name) else {
-                return Ok(false);
-            };
-            if unfoldings == 0 {
-                return Ok(false);
-            }
-            is_fitting(alloc, definitions, unfoldings - 1, body, document)
+        PlainTree::Name(name) => is_defined(alloc, definitions, unfoldings, name, document),
+        PlainTree::Elem(class, content) => {
+            is_one_element(alloc, definitions, unfoldings, class, content, document)
         }
-        PlainTree::Elem(class, content) => match document {
-            PlainDocument::Empty => Ok(false),
-            PlainDocument::Text(_, _) => Ok(false),
-            PlainDocument::Elem(label, inner, rest) => {
-                if !class.has(label) {
-                    return Ok(false);
-                }
-                if !rest.is_empty() {
-                    return Ok(false);
-                }
-                is_fitting(alloc, definitions, unfoldings, content, inner)
-            }
-        },
         PlainTree::Seq(first, second) => {
             in_two_parts(alloc, definitions, unfoldings, first, second, document)
         }
@@ -99,6 +82,53 @@ fn is_fitting(
             is_fitting(alloc, definitions, unfoldings, part, document)
         }
         PlainTree::Val(_, part) => is_fitting(alloc, definitions, unfoldings, part, document),
+    }
+}
+
+/// Whether the document fits what the name is defined as, with one unfolding fewer.
+#[cycle(fits)]
+fn is_defined(
+    alloc: Global,
+    definitions: &[PlainDefinition],
+    unfoldings: u64,
+    name: &Label,
+    document: &PlainDocument,
+) -> Result<bool, NoMemory>
+    ensures { IfOk result (λ fits. IsTrue fits ↔ unfolded.FitsWithin (definitions_of definitions.now) unfoldings (Name name.now) (document_of document.now)) }
+{
+    let Some(body) = body_of(definitions, name) else {
+        return Ok(false);
+    };
+    if unfoldings == 0 {
+        return Ok(false);
+    }
+    is_fitting(alloc, definitions, unfoldings - 1, body, document)
+}
+
+/// Whether the document is one element with a label of the class, whose content fits the type.
+#[cycle(fits)]
+fn is_one_element(
+    alloc: Global,
+    definitions: &[PlainDefinition],
+    unfoldings: u64,
+    class: &Class,
+    content: &PlainTree,
+    document: &PlainDocument,
+) -> Result<bool, NoMemory>
+    ensures { IfOk result (λ fits. IsTrue fits ↔ unfolded.IsOneElement class.now (unfolded.FitsWithin (definitions_of definitions.now) unfoldings (tree_of content.now)) (document_of document.now)) }
+{
+    match document {
+        PlainDocument::Empty => Ok(false),
+        PlainDocument::Text(_, _) => Ok(false),
+        PlainDocument::Elem(label, inner, rest) => {
+            if !class.has(label) {
+                return Ok(false);
+            }
+            if !rest.is_empty() {
+                return Ok(false);
+            }
+            is_fitting(alloc, definitions, unfoldings, content, inner)
+        }
     }
 }
 

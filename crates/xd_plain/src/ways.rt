@@ -1,6 +1,7 @@
 //! The ways of a pattern on a document, all of them and in order.
 
 ghost use Rattle.std.specs.Prelude.{◌≡◌, ◌≤◌, ◌++◌, ◌∷◌, [], suc, nat_lt, cond, map, flat_map, IfOk, OnOk};
+ghost use Rattle.xd_syntax.specs.Tree.{Name, Elem};
 ghost use Rattle.xd_syntax.specs.Ways.{no_item_way, then_way, text_ways, words_ways, binding, turns, repetition, ways_within as the_ways_within, unfoldings as needed, item_count};
 ghost use Rattle.xd_laws.specs.FirstMatch.{first, first_whole, first_within as the_first_within};
 ghost use Rattle.xd_plain.specs.PlainDocuments.{document_of};
@@ -12,7 +13,7 @@ ghost use Rattle.xd_plain.specs.PlainWays.{way_of, ways_of, bindings_of, element
 use crate::document::PlainDocument;
 use crate::tree::{PlainDefinition, PlainTree, body_of};
 use std::alloc::Global;
-use xd_doc::{Label, NoMemory, Words};
+use xd_doc::{Class, Label, NoMemory, Words};
 
 /// A variable and its document.
 #[derive(Drop)]
@@ -44,26 +45,10 @@ pub fn ways_within(
         PlainTree::Empty => no_item(alloc, document),
         PlainTree::Text => one_text(alloc, document),
         PlainTree::Words(texts) => one_of(alloc, texts, document),
-        PlainTree::Name(name) => {
-            let Some(body) = body_of(definitions, name) else {
-                return Ok(Vec::new(alloc));
-            };
-            if unfoldings == 0 {
-                return Ok(Vec::new(alloc));
-            }
-            ways_within(alloc, definitions, unfoldings - 1, body, document)
+        PlainTree::Name(name) => defined(alloc, definitions, unfoldings, name, document),
+        PlainTree::Elem(class, content) => {
+            one_element(alloc, definitions, unfoldings, class, content, document)
         }
-        PlainTree::Elem(class, content) => match document {
-            PlainDocument::Empty => Ok(Vec::new(alloc)),
-            PlainDocument::Text(_, _) => Ok(Vec::new(alloc)),
-            PlainDocument::Elem(label, inner, rest) => {
-                if !class.has(label) {
-                    return Ok(Vec::new(alloc));
-                }
-                let ways = ways_within(alloc, definitions, unfoldings, content, inner)?;
-                whole_elements(alloc, &ways, label, inner, rest)
-            }
-        },
         PlainTree::Seq(first, second) => {
             let firsts = ways_within(alloc, definitions, unfoldings, first, document)?;
             each_then(alloc, definitions, unfoldings, &firsts, second)
@@ -87,6 +72,51 @@ pub fn ways_within(
         PlainTree::Val(variable, part) => {
             let ways = ways_within(alloc, definitions, unfoldings, part, document)?;
             bound(alloc, variable, &ways)
+        }
+    }
+}
+
+/// The ways of what the name is defined as, with one unfolding fewer.
+#[cycle(ways)]
+fn defined(
+    alloc: Global,
+    definitions: &[PlainDefinition],
+    unfoldings: u64,
+    name: &Label,
+    document: &PlainDocument,
+) -> Result<Vec<PlainWay>, NoMemory>
+    ensures { IfOk result (λ ways. ways_of ways.items ≡ the_ways_within (definitions_of definitions.now) unfoldings (Name name.now) (document_of document.now)) }
+{
+    let Some(body) = body_of(definitions, name) else {
+        return Ok(Vec::new(alloc));
+    };
+    if unfoldings == 0 {
+        return Ok(Vec::new(alloc));
+    }
+    ways_within(alloc, definitions, unfoldings - 1, body, document)
+}
+
+/// The ways that take an element with a label of the class, one for each way that takes its content whole.
+#[cycle(ways)]
+fn one_element(
+    alloc: Global,
+    definitions: &[PlainDefinition],
+    unfoldings: u64,
+    class: &Class,
+    content: &PlainTree,
+    document: &PlainDocument,
+) -> Result<Vec<PlainWay>, NoMemory>
+    ensures { IfOk result (λ ways. ways_of ways.items ≡ the_ways_within (definitions_of definitions.now) unfoldings (Elem class.now (tree_of content.now)) (document_of document.now)) }
+{
+    match document {
+        PlainDocument::Empty => Ok(Vec::new(alloc)),
+        PlainDocument::Text(_, _) => Ok(Vec::new(alloc)),
+        PlainDocument::Elem(label, inner, rest) => {
+            if !class.has(label) {
+                return Ok(Vec::new(alloc));
+            }
+            let ways = ways_within(alloc, definitions, unfoldings, content, inner)?;
+            whole_elements(alloc, &ways, label, inner, rest)
         }
     }
 }

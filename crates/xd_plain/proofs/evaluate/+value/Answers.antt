@@ -1,183 +1,93 @@
-use Rattle.std.proofs.Common.{◌≡◌, ◌++◌, ◌-◌, Some, None, IfOk, IfErr, refl, ap, sym, ◌∙◌, subst, arith, map}
-use Rattle.std.proofs.lemmas.Result.{err_from_is_err_and}
-use Rattle.xd_doc.specs.Document.{Document}
+use Rattle.std.proofs.Common.{◌≡◌, ◌∷◌, ◌++◌, ◌-◌, Some, None, refl, ap, sym, ◌∙◌, subst, arith, map}
+use Rattle.xd_doc.specs.Document.{Document, join}
 use Rattle.xd_syntax.specs.Placed.{the_start}
 use Rattle.xd_syntax.specs.Expression.{Tagged, Joined, Called, Matched, argument, clause}
-use Rattle.xd_syntax.specs.Program.{names_of}
-use Rattle.xd_laws.specs.FirstMatch.{first_within}
 use Rattle.xd_laws.specs.Meaning as on_fuel
-use Rattle.xd_laws.specs.Meaning.{value_by, values_by, chosen_by}
+use Rattle.xd_laws.specs.Meaning.{value_by}
 use Rattle.xd_plain.specs.PlainDocuments.{document_of}
-use Rattle.xd_plain.specs.PlainTrees.{tree_of, definitions_of, map_option}
+use Rattle.xd_plain.specs.PlainTrees.{map_option}
 use Rattle.xd_plain.specs.PlainWays.{bindings_of}
 use Rattle.xd_plain.specs.PlainPrograms.{placed_of, expression_of, arguments_of, clauses_of, parameter_of, function_definition_of, program_of}
-use Rattle.xd_plain.specs.PlainMeaning.{IsWithout, documents_of, matches_of}
-use Rattle.xd_plain.proofs.PlainMeaning.{ended_by, tagged_without, tagged_done, joined_without, joined_without_rest, joined_done, called_without, called_then, matched_without, matched_then, argument_without, argument_without_rest, argument_done, clause_passed, clause_taken, call_taken}
+use Rattle.xd_plain.specs.PlainMeaning.{AreAnswers, all_done, chosen_of, done, documents_of, matches_of, value_of, values_of}
+use Rattle.xd_plain.proofs.PlainMeaning.{ended, goes_on, same_answer, clause_passed, clause_taken, first_match, call_taken}
 use Rattle.xd_plain.proofs.evaluate.+value.Goals as goal
 
-pub value_within-returns-in_err-content-in-Elem-clause-ended : goal.value_within-returns-in_err-content-in-Elem-clause-ended
-value_within-returns-in_err-content-in-Elem-clause-ended t c =
-    let P = program_of c.args.program.now in
-    let W = matches_of c.args.program.now c.args.unfoldings in
-    let C = on_fuel.call_within W P c.args.deep in
-    let n = c.args.calls in
-    let env = bindings_of c.args.variables.now in
+pub value_within-returns-in-Elem : goal.value_within-returns-in-Elem
+value_within-returns-in-Elem t c =
     let x : Tagged the_start c.in-Elem.label (expression_of c.deref.result.now) ≡ expression_of c.args.expression.now = rw (c.deref.ensures, c.in-Elem.is) refl in
-    let p = err_from_is_err_and c.from_residual-in_err-content-in-Elem.result c.from_residual-in_err-content-in-Elem.ensures.1 in
-    subst (λ q. IfErr c.from_residual-in_err-content-in-Elem.result (λ why. IsWithout why (value_by W C n env q))) x
-    (ended_by c.from_residual-in_err-content-in-Elem.result (value_by W C n env (expression_of c.deref.result.now)) (value_by W C n env (Tagged the_start c.in-Elem.label (expression_of c.deref.result.now))) (tagged_without W C n env the_start c.in-Elem.label (expression_of c.deref.result.now)) p.0 _ p.1 p.2 c.in_err-content-in-Elem.ensures.ended)
+    same_answer c.tagged_within.result c.tagged_within.ensures (ap (value_of c.args.program.now c.args.unfoldings c.args.deep c.args.calls c.args.variables.now) x)
 
-pub value_within-returns-in_ok-document-in-Elem-clause-done : goal.value_within-returns-in_ok-document-in-Elem-clause-done
-value_within-returns-in_ok-document-in-Elem-clause-done t c =
-    let P = program_of c.args.program.now in
-    let W = matches_of c.args.program.now c.args.unfoldings in
-    let C = on_fuel.call_within W P c.args.deep in
-    let n = c.args.calls in
-    let env = bindings_of c.args.variables.now in
-    let x : Tagged the_start c.in-Elem.label (expression_of c.deref.result.now) ≡ expression_of c.args.expression.now = rw (c.deref.ensures, c.in-Elem.is) refl in
-    let k = tagged_done W C n env the_start c.in-Elem.label (expression_of c.deref.result.now) (document_of c.in_ok-content-in-Elem.content.document) c.in_ok-content-in-Elem.content.left c.in_ok-content-in-Elem.ensures.done in
-    ap (λ q. value_by W C n env q) (sym x) ∙ k ∙ ap (λ d. on_fuel.Done d c.in_ok-content-in-Elem.content.left) (sym c.in_ok-document-in-Elem.ensures)
-
-pub value_within-returns-in_err-front-in-Seq-clause-ended : goal.value_within-returns-in_err-front-in-Seq-clause-ended
-value_within-returns-in_err-front-in-Seq-clause-ended t c =
-    let P = program_of c.args.program.now in
-    let W = matches_of c.args.program.now c.args.unfoldings in
-    let C = on_fuel.call_within W P c.args.deep in
-    let n = c.args.calls in
-    let env = bindings_of c.args.variables.now in
-    let x : Joined the_start (expression_of c.deref-in-Seq.result.now) (expression_of c.in-Seq.rest.value) ≡ expression_of c.args.expression.now = rw (c.deref-in-Seq.ensures, c.in-Seq.is) refl in
-    let p = err_from_is_err_and c.from_residual-in_err-front-in-Seq.result c.from_residual-in_err-front-in-Seq.ensures.1 in
-    subst (λ q. IfErr c.from_residual-in_err-front-in-Seq.result (λ why. IsWithout why (value_by W C n env q))) x
-    (ended_by c.from_residual-in_err-front-in-Seq.result (value_by W C n env (expression_of c.deref-in-Seq.result.now)) (value_by W C n env (Joined the_start (expression_of c.deref-in-Seq.result.now) (expression_of c.in-Seq.rest.value))) (joined_without W C n env the_start (expression_of c.deref-in-Seq.result.now) (expression_of c.in-Seq.rest.value)) p.0 _ p.1 p.2 c.in_err-front-in-Seq.ensures.ended)
-
-pub value_within-returns-in_err-back-in-Seq-clause-ended : goal.value_within-returns-in_err-back-in-Seq-clause-ended
-value_within-returns-in_err-back-in-Seq-clause-ended t c =
-    let P = program_of c.args.program.now in
-    let W = matches_of c.args.program.now c.args.unfoldings in
-    let C = on_fuel.call_within W P c.args.deep in
-    let n = c.args.calls in
-    let env = bindings_of c.args.variables.now in
+pub value_within-returns-in-Seq : goal.value_within-returns-in-Seq
+value_within-returns-in-Seq t c =
     let x : Joined the_start (expression_of c.deref-in-Seq.result.now) (expression_of c.deref-in-Seq-2.result.now) ≡ expression_of c.args.expression.now = rw (c.deref-in-Seq.ensures, c.deref-in-Seq-2.ensures, c.in-Seq.is) refl in
-    let p = err_from_is_err_and c.from_residual-in_err-back-in-Seq.result c.from_residual-in_err-back-in-Seq.ensures.1 in
-    subst (λ q. IfErr c.from_residual-in_err-back-in-Seq.result (λ why. IsWithout why (value_by W C n env q))) x
-    (ended_by c.from_residual-in_err-back-in-Seq.result (value_by W C c.in_ok-front-in-Seq.front.left env (expression_of c.deref-in-Seq-2.result.now)) (value_by W C n env (Joined the_start (expression_of c.deref-in-Seq.result.now) (expression_of c.deref-in-Seq-2.result.now))) (joined_without_rest W C n env the_start (expression_of c.deref-in-Seq.result.now) (expression_of c.deref-in-Seq-2.result.now) (document_of c.in_ok-front-in-Seq.front.document) c.in_ok-front-in-Seq.front.left c.in_ok-front-in-Seq.ensures.done) p.0 _ p.1 p.2 c.in_err-back-in-Seq.ensures.ended)
+    same_answer c.joined_within.result c.joined_within.ensures (ap (value_of c.args.program.now c.args.unfoldings c.args.deep c.args.calls c.args.variables.now) x)
 
-pub value_within-returns-in_ok-document-in-Seq-clause-done : goal.value_within-returns-in_ok-document-in-Seq-clause-done
-value_within-returns-in_ok-document-in-Seq-clause-done t c =
-    let P = program_of c.args.program.now in
-    let W = matches_of c.args.program.now c.args.unfoldings in
-    let C = on_fuel.call_within W P c.args.deep in
-    let n = c.args.calls in
-    let env = bindings_of c.args.variables.now in
-    let x : Joined the_start (expression_of c.deref-in-Seq.result.now) (expression_of c.deref-in-Seq-2.result.now) ≡ expression_of c.args.expression.now = rw (c.deref-in-Seq.ensures, c.deref-in-Seq-2.ensures, c.in-Seq.is) refl in
-    let k = joined_done W C n env the_start (expression_of c.deref-in-Seq.result.now) (expression_of c.deref-in-Seq-2.result.now) (document_of c.in_ok-front-in-Seq.front.document) c.in_ok-front-in-Seq.front.left (document_of c.in_ok-back-in-Seq.back.document) c.in_ok-back-in-Seq.back.left c.in_ok-front-in-Seq.ensures.done c.in_ok-back-in-Seq.ensures.done in
-    ap (λ q. value_by W C n env q) (sym x) ∙ k ∙ ap (λ d. on_fuel.Done d c.in_ok-back-in-Seq.back.left) (sym c.in_ok-document-in-Seq.ensures)
-
-pub value_within-returns-in_err-given-in-Call-clause-ended : goal.value_within-returns-in_err-given-in-Call-clause-ended
-value_within-returns-in_err-given-in-Call-clause-ended t c =
-    let P = program_of c.args.program.now in
-    let W = matches_of c.args.program.now c.args.unfoldings in
-    let C = on_fuel.call_within W P c.args.deep in
-    let n = c.args.calls in
-    let env = bindings_of c.args.variables.now in
+pub value_within-returns-in-Call : goal.value_within-returns-in-Call
+value_within-returns-in-Call t c =
     let x : Called the_start c.in-Call.function (arguments_of c.deref-in-Call.result.now) ≡ expression_of c.args.expression.now = rw (c.deref-in-Call.ensures, c.in-Call.is) refl in
-    let p = err_from_is_err_and c.from_residual-in_err-given-in-Call.result c.from_residual-in_err-given-in-Call.ensures.1 in
-    subst (λ q. IfErr c.from_residual-in_err-given-in-Call.result (λ why. IsWithout why (value_by W C n env q))) x
-    (ended_by c.from_residual-in_err-given-in-Call.result (values_by W C n env (arguments_of c.deref-in-Call.result.now)) (value_by W C n env (Called the_start c.in-Call.function (arguments_of c.deref-in-Call.result.now))) (called_without W C n env the_start c.in-Call.function (arguments_of c.deref-in-Call.result.now)) p.0 _ p.1 p.2 c.in_err-given-in-Call.ensures.ended)
+    same_answer c.called_within.result c.called_within.ensures (ap (value_of c.args.program.now c.args.unfoldings c.args.deep c.args.calls c.args.variables.now) x)
 
-pub value_within-returns-in_ok-given-in-Call-clause-done : goal.value_within-returns-in_ok-given-in-Call-clause-done
-value_within-returns-in_ok-given-in-Call-clause-done t c =
-    let P = program_of c.args.program.now in
-    let W = matches_of c.args.program.now c.args.unfoldings in
-    let C = on_fuel.call_within W P c.args.deep in
-    let n = c.args.calls in
-    let env = bindings_of c.args.variables.now in
-    let x : Called the_start c.in-Call.function (arguments_of c.deref-in-Call.result.now) ≡ expression_of c.args.expression.now = rw (c.deref-in-Call.ensures, c.in-Call.is) refl in
-    let q = ap (λ ds. C c.in_ok-given-in-Call.given.left c.in-Call.function (documents_of ds)) c.deref-in-Call-2.ensures.value ∙ called_then W C n env the_start c.in-Call.function (arguments_of c.deref-in-Call.result.now) (documents_of c.in_ok-given-in-Call.given.documents.items) c.in_ok-given-in-Call.given.left c.in_ok-given-in-Call.ensures.done ∙ ap (λ q. value_by W C n env q) x in
-    subst (λ o. IfOk c.call_within.result (λ valued. o ≡ on_fuel.Done (document_of valued.document) valued.left)) q c.call_within.ensures.done
-
-pub value_within-returns-in_ok-given-in-Call-clause-ended : goal.value_within-returns-in_ok-given-in-Call-clause-ended
-value_within-returns-in_ok-given-in-Call-clause-ended t c =
-    let P = program_of c.args.program.now in
-    let W = matches_of c.args.program.now c.args.unfoldings in
-    let C = on_fuel.call_within W P c.args.deep in
-    let n = c.args.calls in
-    let env = bindings_of c.args.variables.now in
-    let x : Called the_start c.in-Call.function (arguments_of c.deref-in-Call.result.now) ≡ expression_of c.args.expression.now = rw (c.deref-in-Call.ensures, c.in-Call.is) refl in
-    let q = ap (λ ds. C c.in_ok-given-in-Call.given.left c.in-Call.function (documents_of ds)) c.deref-in-Call-2.ensures.value ∙ called_then W C n env the_start c.in-Call.function (arguments_of c.deref-in-Call.result.now) (documents_of c.in_ok-given-in-Call.given.documents.items) c.in_ok-given-in-Call.given.left c.in_ok-given-in-Call.ensures.done ∙ ap (λ q. value_by W C n env q) x in
-    subst (λ o. IfErr c.call_within.result (λ why. IsWithout why o)) q c.call_within.ensures.ended
-
-pub value_within-returns-in_err-matched-in-Match-clause-ended : goal.value_within-returns-in_err-matched-in-Match-clause-ended
-value_within-returns-in_err-matched-in-Match-clause-ended t c =
-    let P = program_of c.args.program.now in
-    let W = matches_of c.args.program.now c.args.unfoldings in
-    let C = on_fuel.call_within W P c.args.deep in
-    let n = c.args.calls in
-    let env = bindings_of c.args.variables.now in
-    let x : Matched the_start (expression_of c.deref-in-Match.result.now) (clauses_of c.in-Match.clauses.value) ≡ expression_of c.args.expression.now = rw (c.deref-in-Match.ensures, c.in-Match.is) refl in
-    let p = err_from_is_err_and c.from_residual-in_err-matched-in-Match.result c.from_residual-in_err-matched-in-Match.ensures.1 in
-    subst (λ q. IfErr c.from_residual-in_err-matched-in-Match.result (λ why. IsWithout why (value_by W C n env q))) x
-    (ended_by c.from_residual-in_err-matched-in-Match.result (value_by W C n env (expression_of c.deref-in-Match.result.now)) (value_by W C n env (Matched the_start (expression_of c.deref-in-Match.result.now) (clauses_of c.in-Match.clauses.value))) (matched_without W C n env the_start (expression_of c.deref-in-Match.result.now) (clauses_of c.in-Match.clauses.value)) p.0 _ p.1 p.2 c.in_err-matched-in-Match.ensures.ended)
-
-pub value_within-returns-in_ok-matched-in-Match-clause-done : goal.value_within-returns-in_ok-matched-in-Match-clause-done
-value_within-returns-in_ok-matched-in-Match-clause-done t c =
-    let P = program_of c.args.program.now in
-    let W = matches_of c.args.program.now c.args.unfoldings in
-    let C = on_fuel.call_within W P c.args.deep in
-    let n = c.args.calls in
-    let env = bindings_of c.args.variables.now in
+pub value_within-returns-in-Match : goal.value_within-returns-in-Match
+value_within-returns-in-Match t c =
     let x : Matched the_start (expression_of c.deref-in-Match.result.now) (clauses_of c.deref-in-Match-2.result.now) ≡ expression_of c.args.expression.now = rw (c.deref-in-Match.ensures, c.deref-in-Match-2.ensures, c.in-Match.is) refl in
-    let q = matched_then W C n env the_start (expression_of c.deref-in-Match.result.now) (clauses_of c.deref-in-Match-2.result.now) (document_of c.in_ok-matched-in-Match.matched.document) c.in_ok-matched-in-Match.matched.left c.in_ok-matched-in-Match.ensures.done ∙ ap (λ q. value_by W C n env q) x in
-    subst (λ o. IfOk c.chosen_within.result (λ valued. o ≡ on_fuel.Done (document_of valued.document) valued.left)) q c.chosen_within.ensures.done
+    same_answer c.matched_within.result c.matched_within.ensures (ap (value_of c.args.program.now c.args.unfoldings c.args.deep c.args.calls c.args.variables.now) x)
 
-pub value_within-returns-in_ok-matched-in-Match-clause-ended : goal.value_within-returns-in_ok-matched-in-Match-clause-ended
-value_within-returns-in_ok-matched-in-Match-clause-ended t c =
-    let P = program_of c.args.program.now in
-    let W = matches_of c.args.program.now c.args.unfoldings in
-    let C = on_fuel.call_within W P c.args.deep in
-    let n = c.args.calls in
-    let env = bindings_of c.args.variables.now in
-    let x : Matched the_start (expression_of c.deref-in-Match.result.now) (clauses_of c.deref-in-Match-2.result.now) ≡ expression_of c.args.expression.now = rw (c.deref-in-Match.ensures, c.deref-in-Match-2.ensures, c.in-Match.is) refl in
-    let q = matched_then W C n env the_start (expression_of c.deref-in-Match.result.now) (clauses_of c.deref-in-Match-2.result.now) (document_of c.in_ok-matched-in-Match.matched.document) c.in_ok-matched-in-Match.matched.left c.in_ok-matched-in-Match.ensures.done ∙ ap (λ q. value_by W C n env q) x in
-    subst (λ o. IfErr c.chosen_within.result (λ why. IsWithout why o)) q c.chosen_within.ensures.ended
+pub tagged_within-returns-in_err-content : goal.tagged_within-returns-in_err-content
+tagged_within-returns-in_err-content t c = ended done c.from_residual.result _ _ _ c.from_residual.ensures.1 c.in_err-content.ensures
 
-pub values_within-returns-in_err-first-in-Argument-clause-ended : goal.values_within-returns-in_err-first-in-Argument-clause-ended
-values_within-returns-in_err-first-in-Argument-clause-ended t c =
-    let P = program_of c.args.program.now in
-    let W = matches_of c.args.program.now c.args.unfoldings in
-    let C = on_fuel.call_within W P c.args.deep in
-    let n = c.args.calls in
-    let env = bindings_of c.args.variables.now in
+pub tagged_within-returns : goal.tagged_within-returns
+tagged_within-returns t c = goes_on _ _ _ _ c.in_ok-content.ensures ∙ ap (λ d. on_fuel.Done d c.in_ok-content.content.left) (sym c.in_ok-document.ensures)
+
+pub joined_within-returns-in_err-front : goal.joined_within-returns-in_err-front
+joined_within-returns-in_err-front t c = ended done c.from_residual.result _ _ _ c.from_residual.ensures.1 c.in_err-front.ensures
+
+pub joined_within-returns-in_err-back : goal.joined_within-returns-in_err-back
+joined_within-returns-in_err-back t c =
+    same_answer c.from_residual-in_err-back.result (ended done c.from_residual-in_err-back.result _ (λ d m. on_fuel.Done (join (document_of c.in_ok-front.front.document) d) m) _ c.from_residual-in_err-back.ensures.1 c.in_err-back.ensures)
+    (sym (goes_on _ _ _ _ c.in_ok-front.ensures))
+
+pub joined_within-returns : goal.joined_within-returns
+joined_within-returns t c =
+    goes_on _ _ _ _ c.in_ok-front.ensures ∙ goes_on _ (λ d m. on_fuel.Done (join (document_of c.in_ok-front.front.document) d) m) _ _ c.in_ok-back.ensures
+    ∙ ap (λ d. on_fuel.Done d c.in_ok-back.back.left) (sym c.in_ok-document.ensures)
+
+pub called_within-returns-in_err-given : goal.called_within-returns-in_err-given
+called_within-returns-in_err-given t c = ended done c.from_residual.result _ _ _ c.from_residual.ensures.1 c.in_err-given.ensures
+
+pub called_within-returns : goal.called_within-returns
+called_within-returns t c =
+    let C = on_fuel.call_within (matches_of c.args.program.now c.args.unfoldings) (program_of c.args.program.now) c.args.deep in
+    same_answer c.call_within.result c.call_within.ensures (ap (λ ds. C c.in_ok-given.given.left c.args.function.now (documents_of ds)) c.deref.ensures.value ∙ sym (goes_on _ _ _ _ c.in_ok-given.ensures))
+
+pub matched_within-returns-in_err-matched : goal.matched_within-returns-in_err-matched
+matched_within-returns-in_err-matched t c = ended done c.from_residual.result _ _ _ c.from_residual.ensures.1 c.in_err-matched.ensures
+
+pub matched_within-returns : goal.matched_within-returns
+matched_within-returns t c = same_answer c.chosen_within.result c.chosen_within.ensures (sym (goes_on _ _ _ _ c.in_ok-matched.ensures))
+
+pub values_within-returns-in_err-first-in-Argument : goal.values_within-returns-in_err-first-in-Argument
+values_within-returns-in_err-first-in-Argument t c =
     let x : argument (expression_of c.deref.result.now) (arguments_of c.in-Argument.others.value) ≡ arguments_of c.args.arguments.now = rw (c.deref.ensures, c.in-Argument.is) refl in
-    let p = err_from_is_err_and c.from_residual.result c.from_residual.ensures.1 in
-    subst (λ q. IfErr c.from_residual.result (λ why. IsWithout why (values_by W C n env q))) x
-    (ended_by c.from_residual.result (value_by W C n env (expression_of c.deref.result.now)) (values_by W C n env (argument (expression_of c.deref.result.now) (arguments_of c.in-Argument.others.value))) (argument_without W C n env (expression_of c.deref.result.now) (arguments_of c.in-Argument.others.value)) p.0 _ p.1 p.2 c.in_err-first-in-Argument.ensures.ended)
+    subst (λ es. AreAnswers c.from_residual.result (values_of c.args.program.now c.args.unfoldings c.args.deep c.args.calls c.args.variables.now es)) x
+    (ended all_done c.from_residual.result _ _ _ c.from_residual.ensures.1 c.in_err-first-in-Argument.ensures)
 
-pub values_within-returns-in_err-others-in-Argument-clause-ended : goal.values_within-returns-in_err-others-in-Argument-clause-ended
-values_within-returns-in_err-others-in-Argument-clause-ended t c =
-    let P = program_of c.args.program.now in
-    let W = matches_of c.args.program.now c.args.unfoldings in
-    let C = on_fuel.call_within W P c.args.deep in
-    let n = c.args.calls in
-    let env = bindings_of c.args.variables.now in
+pub values_within-returns-in_err-others-in-Argument : goal.values_within-returns-in_err-others-in-Argument
+values_within-returns-in_err-others-in-Argument t c =
+    let r = c.from_residual-in_err-others-in-Argument.result in
     let x : argument (expression_of c.deref.result.now) (arguments_of c.deref-in-Argument.result.now) ≡ arguments_of c.args.arguments.now = rw (c.deref.ensures, c.deref-in-Argument.ensures, c.in-Argument.is) refl in
-    let p = err_from_is_err_and c.from_residual-in_err-others-in-Argument.result c.from_residual-in_err-others-in-Argument.ensures.1 in
-    subst (λ q. IfErr c.from_residual-in_err-others-in-Argument.result (λ why. IsWithout why (values_by W C n env q))) x
-    (ended_by c.from_residual-in_err-others-in-Argument.result (values_by W C c.in_ok-first-in-Argument.first.left env (arguments_of c.deref-in-Argument.result.now)) (values_by W C n env (argument (expression_of c.deref.result.now) (arguments_of c.deref-in-Argument.result.now))) (argument_without_rest W C n env (expression_of c.deref.result.now) (arguments_of c.deref-in-Argument.result.now) (document_of c.in_ok-first-in-Argument.first.document) c.in_ok-first-in-Argument.first.left c.in_ok-first-in-Argument.ensures.done) p.0 _ p.1 p.2 c.in_err-others-in-Argument.ensures.ended)
+    subst (AreAnswers r) (sym (goes_on _ _ _ _ c.in_ok-first-in-Argument.ensures) ∙ ap (values_of c.args.program.now c.args.unfoldings c.args.deep c.args.calls c.args.variables.now) x)
+    (ended all_done r _ (λ ds m. on_fuel.Done (document_of c.in_ok-first-in-Argument.first.document ∷ ds) m) _ c.from_residual-in_err-others-in-Argument.ensures.1 c.in_err-others-in-Argument.ensures)
 
-pub values_within-returns-in_ok-documents-in-Argument-clause-done : goal.values_within-returns-in_ok-documents-in-Argument-clause-done
-values_within-returns-in_ok-documents-in-Argument-clause-done t c =
-    let P = program_of c.args.program.now in
-    let W = matches_of c.args.program.now c.args.unfoldings in
-    let C = on_fuel.call_within W P c.args.deep in
-    let n = c.args.calls in
-    let env = bindings_of c.args.variables.now in
+pub values_within-returns-in_ok-documents-in-Argument : goal.values_within-returns-in_ok-documents-in-Argument
+values_within-returns-in_ok-documents-in-Argument t c =
     let x : argument (expression_of c.deref.result.now) (arguments_of c.deref-in-Argument.result.now) ≡ arguments_of c.args.arguments.now = rw (c.deref.ensures, c.deref-in-Argument.ensures, c.in-Argument.is) refl in
-    let k = argument_done W C n env (expression_of c.deref.result.now) (arguments_of c.deref-in-Argument.result.now) (document_of c.in_ok-first-in-Argument.first.document) c.in_ok-first-in-Argument.first.left (documents_of c.in_ok-others-in-Argument.others.documents.items) c.in_ok-others-in-Argument.others.left c.in_ok-first-in-Argument.ensures.done c.in_ok-others-in-Argument.ensures.done in
-    ap (λ q. values_by W C n env q) (sym x) ∙ k ∙ ap (λ ds. on_fuel.Done (documents_of ds) c.in_ok-others-in-Argument.others.left) (sym c.in_ok-documents-in-Argument.ensures)
+    ap (values_of c.args.program.now c.args.unfoldings c.args.deep c.args.calls c.args.variables.now) (sym x)
+    ∙ goes_on _ _ _ _ c.in_ok-first-in-Argument.ensures
+    ∙ goes_on _ (λ ds m. on_fuel.Done (document_of c.in_ok-first-in-Argument.first.document ∷ ds) m) _ _ c.in_ok-others-in-Argument.ensures
+    ∙ ap (λ ds. on_fuel.Done (documents_of ds) c.in_ok-others-in-Argument.others.left) (sym c.in_ok-documents-in-Argument.ensures)
 
-pub call_within-returns-clause-ended : goal.call_within-returns-clause-ended
-call_within-returns-clause-ended t c =
+pub call_within-returns : goal.call_within-returns
+call_within-returns t c =
     let P = program_of c.args.program.now in
     let W = matches_of c.args.program.now c.args.unfoldings in
     let f = c.in-Some.function.now in
@@ -185,80 +95,34 @@ call_within-returns-clause-ended t c =
     let g = rw c.deref.ensures.value at c.in-Some.ensures in
     let vs : bindings_of c.deref-3.result.now ≡ on_fuel.bound (map parameter_of f.parameters.items) ds
     = ap bindings_of c.deref-3.ensures.value ∙ c.in_ok-variables.ensures ∙ ap (λ ps. on_fuel.bound (map parameter_of ps) ds) c.deref-2.ensures.value in
-    let q = ap (λ env. value_by W (on_fuel.call_within W P (c.args.deep - 1)) (c.args.calls - 1) env (expression_of f.body)) vs
-    ∙ call_taken W P c.args.deep c.args.calls c.args.name.now ds (function_definition_of f) (omega arith) (omega arith) (sym g) in
-    subst (λ o. IfErr c.value_within.result (λ why. IsWithout why o)) q c.value_within.ensures.ended
+    same_answer c.value_within.result c.value_within.ensures
+    (ap (λ env. value_by W (on_fuel.call_within W P (c.args.deep - 1)) (c.args.calls - 1) env (expression_of f.body)) vs
+    ∙ call_taken W P c.args.deep c.args.calls c.args.name.now ds (function_definition_of f) (omega arith) (omega arith) (sym g))
 
-pub chosen_within-returns-in-None-clause-done : goal.chosen_within-returns-in-None-clause-done
-chosen_within-returns-in-None-clause-done t c =
-    let P = program_of c.args.program.now in
+pub chosen_within-returns-in-None : goal.chosen_within-returns-in-None
+chosen_within-returns-in-None t c =
     let W = matches_of c.args.program.now c.args.unfoldings in
-    let C = on_fuel.call_within W P c.args.deep in
-    let n = c.args.calls in
-    let env = bindings_of c.args.variables.now in
+    let C = on_fuel.call_within W (program_of c.args.program.now) c.args.deep in
     let d : Document = document_of c.args.document.now in
-    let names : definitions_of c.deref.result.now ≡ names_of P = ap definitions_of c.deref.ensures.value ∙ c.requires in
-    let found : W (tree_of c.in-Clause.pattern) d ≡ None
-    = sym (ap (λ E. first_within E c.args.unfoldings (tree_of c.in-Clause.pattern) d) names) ∙ sym c.in_ok-first_within-in-Clause.ensures.within ∙ ap (λ o. map_option (λ bindings. bindings_of bindings.items) o) c.in-None.is in
     let b = expression_of c.in-Clause.body.value in
     let cs = clauses_of c.deref-in-None.result.now in
+    let found = first_match c.args.program.now c.args.unfoldings c.in-Clause.pattern d c.deref.result.now _ None c.deref.ensures.value c.requires c.in_ok-first_within-in-Clause.ensures.within (ap (λ o. map_option (λ bindings. bindings_of bindings.items) o) c.in-None.is) in
     let x : clause (placed_of c.in-Clause.pattern) b cs ≡ clauses_of c.args.clauses.now = rw (c.deref-in-None.ensures, c.in-Clause.is) refl in
-    let q = clause_passed W C n env c.in-Clause.pattern b cs d found ∙ ap (λ q. chosen_by W C n env d q) x in
-    subst (λ o. IfOk c.chosen_within.result (λ valued. o ≡ on_fuel.Done (document_of valued.document) valued.left)) q c.chosen_within.ensures.done
+    same_answer c.chosen_within.result c.chosen_within.ensures
+    (clause_passed W C c.args.calls (bindings_of c.args.variables.now) c.in-Clause.pattern b cs d found ∙ ap (chosen_of c.args.program.now c.args.unfoldings c.args.deep c.args.calls c.args.variables.now d) x)
 
-pub chosen_within-returns-in-None-clause-ended : goal.chosen_within-returns-in-None-clause-ended
-chosen_within-returns-in-None-clause-ended t c =
-    let P = program_of c.args.program.now in
+pub chosen_within-returns-in_ok-inner-in-Some : goal.chosen_within-returns-in_ok-inner-in-Some
+chosen_within-returns-in_ok-inner-in-Some t c =
     let W = matches_of c.args.program.now c.args.unfoldings in
-    let C = on_fuel.call_within W P c.args.deep in
-    let n = c.args.calls in
+    let C = on_fuel.call_within W (program_of c.args.program.now) c.args.deep in
     let env = bindings_of c.args.variables.now in
     let d : Document = document_of c.args.document.now in
-    let names : definitions_of c.deref.result.now ≡ names_of P = ap definitions_of c.deref.ensures.value ∙ c.requires in
-    let found : W (tree_of c.in-Clause.pattern) d ≡ None
-    = sym (ap (λ E. first_within E c.args.unfoldings (tree_of c.in-Clause.pattern) d) names) ∙ sym c.in_ok-first_within-in-Clause.ensures.within ∙ ap (λ o. map_option (λ bindings. bindings_of bindings.items) o) c.in-None.is in
-    let b = expression_of c.in-Clause.body.value in
-    let cs = clauses_of c.deref-in-None.result.now in
-    let x : clause (placed_of c.in-Clause.pattern) b cs ≡ clauses_of c.args.clauses.now = rw (c.deref-in-None.ensures, c.in-Clause.is) refl in
-    let q = clause_passed W C n env c.in-Clause.pattern b cs d found ∙ ap (λ q. chosen_by W C n env d q) x in
-    subst (λ o. IfErr c.chosen_within.result (λ why. IsWithout why o)) q c.chosen_within.ensures.ended
-
-pub chosen_within-returns-in_ok-inner-in-Some-clause-done : goal.chosen_within-returns-in_ok-inner-in-Some-clause-done
-chosen_within-returns-in_ok-inner-in-Some-clause-done t c =
-    let P = program_of c.args.program.now in
-    let W = matches_of c.args.program.now c.args.unfoldings in
-    let C = on_fuel.call_within W P c.args.deep in
-    let n = c.args.calls in
-    let env = bindings_of c.args.variables.now in
-    let d : Document = document_of c.args.document.now in
-    let names : definitions_of c.deref.result.now ≡ names_of P = ap definitions_of c.deref.ensures.value ∙ c.requires in
-    let found : W (tree_of c.in-Clause.pattern) d ≡ Some (bindings_of c.in-Some.bindings.items)
-    = sym (ap (λ E. first_within E c.args.unfoldings (tree_of c.in-Clause.pattern) d) names) ∙ sym c.in_ok-first_within-in-Clause.ensures.within ∙ ap (λ o. map_option (λ bindings. bindings_of bindings.items) o) c.in-Some.is in
     let b = expression_of c.deref-in-Some-2.result.now in
     let cs = clauses_of c.in-Clause.others.value in
+    let taken = bindings_of c.in-Some.bindings.items in
+    let found = first_match c.args.program.now c.args.unfoldings c.in-Clause.pattern d c.deref.result.now _ (Some taken) c.deref.ensures.value c.requires c.in_ok-first_within-in-Clause.ensures.within (ap (λ o. map_option (λ bindings. bindings_of bindings.items) o) c.in-Some.is) in
     let x : clause (placed_of c.in-Clause.pattern) b cs ≡ clauses_of c.args.clauses.now = rw (c.deref-in-Some-2.ensures, c.in-Clause.is) refl in
-    let inner : bindings_of c.deref-in-Some.result.now ≡ bindings_of c.in-Some.bindings.items ++ env
-    = ap bindings_of c.deref-in-Some.ensures.value ∙ c.in_ok-inner-in-Some.ensures in
-    let q = ap (λ vs. value_by W C n vs b) inner ∙ clause_taken W C n env c.in-Clause.pattern b cs d (bindings_of c.in-Some.bindings.items) found
-    ∙ ap (λ q. chosen_by W C n env d q) x in
-    subst (λ o. IfOk c.value_within.result (λ valued. o ≡ on_fuel.Done (document_of valued.document) valued.left)) q c.value_within.ensures.done
-
-pub chosen_within-returns-in_ok-inner-in-Some-clause-ended : goal.chosen_within-returns-in_ok-inner-in-Some-clause-ended
-chosen_within-returns-in_ok-inner-in-Some-clause-ended t c =
-    let P = program_of c.args.program.now in
-    let W = matches_of c.args.program.now c.args.unfoldings in
-    let C = on_fuel.call_within W P c.args.deep in
-    let n = c.args.calls in
-    let env = bindings_of c.args.variables.now in
-    let d : Document = document_of c.args.document.now in
-    let names : definitions_of c.deref.result.now ≡ names_of P = ap definitions_of c.deref.ensures.value ∙ c.requires in
-    let found : W (tree_of c.in-Clause.pattern) d ≡ Some (bindings_of c.in-Some.bindings.items)
-    = sym (ap (λ E. first_within E c.args.unfoldings (tree_of c.in-Clause.pattern) d) names) ∙ sym c.in_ok-first_within-in-Clause.ensures.within ∙ ap (λ o. map_option (λ bindings. bindings_of bindings.items) o) c.in-Some.is in
-    let b = expression_of c.deref-in-Some-2.result.now in
-    let cs = clauses_of c.in-Clause.others.value in
-    let x : clause (placed_of c.in-Clause.pattern) b cs ≡ clauses_of c.args.clauses.now = rw (c.deref-in-Some-2.ensures, c.in-Clause.is) refl in
-    let inner : bindings_of c.deref-in-Some.result.now ≡ bindings_of c.in-Some.bindings.items ++ env
-    = ap bindings_of c.deref-in-Some.ensures.value ∙ c.in_ok-inner-in-Some.ensures in
-    let q = ap (λ vs. value_by W C n vs b) inner ∙ clause_taken W C n env c.in-Clause.pattern b cs d (bindings_of c.in-Some.bindings.items) found
-    ∙ ap (λ q. chosen_by W C n env d q) x in
-    subst (λ o. IfErr c.value_within.result (λ why. IsWithout why o)) q c.value_within.ensures.ended
+    let inner : bindings_of c.deref-in-Some.result.now ≡ taken ++ env = ap bindings_of c.deref-in-Some.ensures.value ∙ c.in_ok-inner-in-Some.ensures in
+    same_answer c.value_within.result c.value_within.ensures
+    (ap (λ vs. value_by W C c.args.calls vs b) inner ∙ clause_taken W C c.args.calls env c.in-Clause.pattern b cs d taken found
+    ∙ ap (chosen_of c.args.program.now c.args.unfoldings c.args.deep c.args.calls c.args.variables.now d) x)

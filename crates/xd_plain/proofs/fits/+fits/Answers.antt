@@ -1,70 +1,49 @@
-use Rattle.std.proofs.Common.{◌≡◌, ◌+◌, ◌≤◌, ◌↔◌, IsTrue, IfOk, refl, ap, sym, ◌∙◌, subst, arith}
+use Rattle.std.proofs.Common.{◌≡◌, ◌≤◌, true, refl, ap, sym, ◌∙◌, arith}
 use Rattle.xd_doc.specs.Document.{Document, size, has_item}
-use Rattle.xd_syntax.specs.Tree.{Seq, Star, Plus}
+use Rattle.xd_syntax.specs.Tree.{Elem, Seq, Star, Plus}
 use Rattle.xd_laws.specs.FitsWithin as unfolded
 use Rattle.xd_plain.specs.PlainDocuments.{document_of}
 use Rattle.xd_plain.specs.PlainTrees.{tree_of, definitions_of}
 use Rattle.xd_plain.specs.PlainFits.{splits_of}
-use Rattle.xd_plain.proofs.PlainFitting.{Turn, found, none_found, sizes, size_some, empty_repeats, repeats_split, split_repeats, filled_by, told, denied}
+use Rattle.xd_plain.proofs.PlainFitting.{Turn, found, none_found, sizes, size_some, empty_repeats, repeats_split, split_repeats, filled_by, same_type, told, denied}
 use Rattle.xd_plain.proofs.fits.+fits.Goals as goal
+
+pub is_fitting-returns-in-Elem : goal.is_fitting-returns-in-Elem
+is_fitting-returns-in-Elem t c =
+    let e : Elem c.in-Elem.class (tree_of c.deref.result.now) ≡ tree_of c.args.tree.now = rw (c.deref.ensures, c.in-Elem.is) refl in
+    same_type (definitions_of c.args.definitions.now) c.args.unfoldings (document_of c.args.document.now) c.is_one_element.result e c.is_one_element.ensures
 
 pub is_fitting-returns-in-Seq : goal.is_fitting-returns-in-Seq
 is_fitting-returns-in-Seq t c =
-    let E = definitions_of c.args.definitions.now in
-    let d : Document = document_of c.args.document.now in
-    let e : Seq (tree_of c.deref-in-Seq.result.now) (tree_of c.deref-in-Seq-2.result.now) ≡ tree_of c.args.tree.now
-    = rw (c.deref-in-Seq.ensures, c.deref-in-Seq-2.ensures, c.in-Seq.is) refl in
-    subst (λ T. IfOk c.in_two_parts.result (λ fits. IsTrue fits ↔ unfolded.FitsWithin E c.args.unfoldings T d)) e c.in_two_parts.ensures
+    let e : Seq (tree_of c.deref-in-Seq.result.now) (tree_of c.deref-in-Seq-2.result.now) ≡ tree_of c.args.tree.now = rw (c.deref-in-Seq.ensures, c.deref-in-Seq-2.ensures, c.in-Seq.is) refl in
+    same_type (definitions_of c.args.definitions.now) c.args.unfoldings (document_of c.args.document.now) c.in_two_parts.result e c.in_two_parts.ensures
 
 pub is_fitting-returns-in-Star : goal.is_fitting-returns-in-Star
 is_fitting-returns-in-Star t c =
-    let E = definitions_of c.args.definitions.now in
-    let d : Document = document_of c.args.document.now in
-    let e : Star (tree_of c.deref-in-Star.result.now) ≡ tree_of c.args.tree.now
-    = rw (c.deref-in-Star.ensures, c.in-Star.is) refl in
-    subst (λ T. IfOk c.in_turns.result (λ fits. IsTrue fits ↔ unfolded.FitsWithin E c.args.unfoldings T d)) e c.in_turns.ensures
+    let e : Star (tree_of c.deref-in-Star.result.now) ≡ tree_of c.args.tree.now = rw (c.deref-in-Star.ensures, c.in-Star.is) refl in
+    same_type (definitions_of c.args.definitions.now) c.args.unfoldings (document_of c.args.document.now) c.in_turns.result e c.in_turns.ensures
 
 pub is_fitting-returns-in-Plus : goal.is_fitting-returns-in-Plus
 is_fitting-returns-in-Plus t c =
-    let E = definitions_of c.args.definitions.now in
-    let d : Document = document_of c.args.document.now in
-    let e : Plus (tree_of c.deref-in-Plus.result.now) ≡ tree_of c.args.tree.now
-    = rw (c.deref-in-Plus.ensures, c.in-Plus.is) refl in
-    subst (λ T. IfOk c.in_one_turn_or_more.result (λ fits. IsTrue fits ↔ unfolded.FitsWithin E c.args.unfoldings T d)) e c.in_one_turn_or_more.ensures
+    let e : Plus (tree_of c.deref-in-Plus.result.now) ≡ tree_of c.args.tree.now = rw (c.deref-in-Plus.ensures, c.in-Plus.is) refl in
+    same_type (definitions_of c.args.definitions.now) c.args.unfoldings (document_of c.args.document.now) c.in_one_turn_or_more.result e c.in_one_turn_or_more.ensures
 
 pub in_two_parts-is_fitting-requires : goal.in_two_parts-is_fitting-requires
 in_two_parts-is_fitting-requires t c =
-    let xs = c.deref-split-items.result.now in
-    let d : Document = document_of c.args.document.now in
-    let x = c.split-item.result in
-    let s : size (document_of x.front) + size (document_of x.back) ≡ size d
-    = sizes d xs c.loop-split.split-index x (ap splits_of c.deref-split-items.ensures.value ∙ c.in_ok-splits.ensures) c.loop-split-test.true c.split-item.is in
+    let s = sizes (document_of c.args.document.now) c.deref-split-items.result.now c.loop-split.split-index c.split-item.result (ap splits_of c.deref-split-items.ensures.value ∙ c.in_ok-splits.ensures) c.loop-split-test.true c.split-item.is in
     (omega arith, tt)
 
 pub in_two_parts-is_fitting-requires-in-loop-split : goal.in_two_parts-is_fitting-requires-in-loop-split
 in_two_parts-is_fitting-requires-in-loop-split t c =
-    let xs = c.deref-split-items.result.now in
-    let d : Document = document_of c.args.document.now in
-    let x = c.split-item.result in
-    let s : size (document_of x.front) + size (document_of x.back) ≡ size d
-    = sizes d xs c.loop-split.split-index x (ap splits_of c.deref-split-items.ensures.value ∙ c.in_ok-splits.ensures) c.loop-split-test.true c.split-item.is in
+    let s = sizes (document_of c.args.document.now) c.deref-split-items.result.now c.loop-split.split-index c.split-item.result (ap splits_of c.deref-split-items.ensures.value ∙ c.in_ok-splits.ensures) c.loop-split-test.true c.split-item.is in
     (omega arith, tt)
 
 pub in_two_parts-returns-then-branch : goal.in_two_parts-returns-then-branch
 in_two_parts-returns-then-branch t c =
-    let xs = c.deref-split-items.result.now in
-    let d : Document = document_of c.args.document.now in
-    let P : Document → Type 0 = unfolded.FitsWithin (definitions_of c.args.definitions.now) c.args.unfoldings (tree_of c.args.first.now) in
-    let Q : Document → Type 0 = unfolded.FitsWithin (definitions_of c.args.definitions.now) c.args.unfoldings (tree_of c.args.second.now) in
-    told _ (found P Q d xs c.loop-split.split-index c.split-item.result (ap splits_of c.deref-split-items.ensures.value ∙ c.in_ok-splits.ensures) c.loop-split-test.true c.split-item.is (c.in_ok-is_fitting.ensures.0 c.if-not-branch.false) (c.in_ok-is_fitting-2.ensures.0 c.if-branch.true))
+    told _ (found _ _ _ c.deref-split-items.result.now c.loop-split.split-index c.split-item.result (ap splits_of c.deref-split-items.ensures.value ∙ c.in_ok-splits.ensures) c.loop-split-test.true c.split-item.is (c.in_ok-is_fitting.ensures.0 c.if-not-branch.false) (c.in_ok-is_fitting-2.ensures.0 c.if-branch.true))
 
 pub in_two_parts-returns : goal.in_two_parts-returns
-in_two_parts-returns t c =
-    let xs = c.deref-split-items.result.now in
-    let d : Document = document_of c.args.document.now in
-    let P : Document → Type 0 = unfolded.FitsWithin (definitions_of c.args.definitions.now) c.args.unfoldings (tree_of c.args.first.now) in
-    let Q : Document → Type 0 = unfolded.FitsWithin (definitions_of c.args.definitions.now) c.args.unfoldings (tree_of c.args.second.now) in
-    denied _ (λ s. none_found P Q d xs c.loop-split.split-index (ap splits_of c.deref-split-items.ensures.value ∙ c.in_ok-splits.ensures) c.loop-split-test.false c.loop-split.invariant s)
+in_two_parts-returns t c = denied _ (none_found _ _ _ c.deref-split-items.result.now c.loop-split.split-index (ap splits_of c.deref-split-items.ensures.value ∙ c.in_ok-splits.ensures) c.loop-split-test.false c.loop-split.invariant)
 
 pub in_turns-returns-then-is_empty : goal.in_turns-returns-then-is_empty
 in_turns-returns-then-is_empty t c =
@@ -73,69 +52,41 @@ in_turns-returns-then-is_empty t c =
 
 pub in_turns-is_fitting-requires : goal.in_turns-is_fitting-requires
 in_turns-is_fitting-requires t c =
-    let xs = c.deref-split-items.result.now in
-    let d : Document = document_of c.args.document.now in
-    let x = c.split-item.result in
-    let s : size (document_of x.front) + size (document_of x.back) ≡ size d
-    = sizes d xs c.loop-split.split-index x (ap splits_of c.deref-split-items.ensures.value ∙ c.in_ok-splits.ensures) c.loop-split-test.true c.split-item.is in
+    let s = sizes (document_of c.args.document.now) c.deref-split-items.result.now c.loop-split.split-index c.split-item.result (ap splits_of c.deref-split-items.ensures.value ∙ c.in_ok-splits.ensures) c.loop-split-test.true c.split-item.is in
     (omega arith, tt)
 
 pub in_turns-in_turns-requires : goal.in_turns-in_turns-requires
 in_turns-in_turns-requires t c =
-    let xs = c.deref-split-items.result.now in
-    let d : Document = document_of c.args.document.now in
-    let x = c.split-item.result in
-    let s : size (document_of x.front) + size (document_of x.back) ≡ size d
-    = sizes d xs c.loop-split.split-index x (ap splits_of c.deref-split-items.ensures.value ∙ c.in_ok-splits.ensures) c.loop-split-test.true c.split-item.is in
-    let z : 1 ≤ size (document_of x.front) = size_some (document_of x.front) (filled_by (has_item (document_of c.split-item.result.front)) (sym c.is_empty-in-loop-split.ensures ∙ c.if-is_empty-2.false)) in
+    let s = sizes (document_of c.args.document.now) c.deref-split-items.result.now c.loop-split.split-index c.split-item.result (ap splits_of c.deref-split-items.ensures.value ∙ c.in_ok-splits.ensures) c.loop-split-test.true c.split-item.is in
+    let z : 1 ≤ size (document_of c.split-item.result.front) = size_some (document_of c.split-item.result.front) (filled_by (has_item (document_of c.split-item.result.front)) (sym c.is_empty-in-loop-split.ensures ∙ c.if-is_empty-2.false)) in
     (omega arith, tt)
 
 pub in_turns-returns-then-branch : goal.in_turns-returns-then-branch
 in_turns-returns-then-branch t c =
-    let xs = c.deref-split-items.result.now in
+    let P : Document → Type 0 = unfolded.FitsWithin (definitions_of c.args.definitions.now) c.args.unfoldings (tree_of c.args.part.now) in
     let d : Document = document_of c.args.document.now in
-    let P : Document → Type 0 = Turn (unfolded.FitsWithin (definitions_of c.args.definitions.now) c.args.unfoldings (tree_of c.args.part.now)) in
-    let Q : Document → Type 0 = unfolded.Repeats (unfolded.FitsWithin (definitions_of c.args.definitions.now) c.args.unfoldings (tree_of c.args.part.now)) in
-    told _ (split_repeats (unfolded.FitsWithin (definitions_of c.args.definitions.now) c.args.unfoldings (tree_of c.args.part.now)) d (found P Q d xs c.loop-split.split-index c.split-item.result (ap splits_of c.deref-split-items.ensures.value ∙ c.in_ok-splits.ensures) c.loop-split-test.true c.split-item.is (filled_by (has_item (document_of c.split-item.result.front)) (sym c.is_empty-in-loop-split.ensures ∙ c.if-is_empty-2.false), c.in_ok-is_fitting.ensures.0 c.if-not-branch.false) (c.in_ok-in_turns.ensures.0 c.if-branch.true)))
+    let front : has_item (document_of c.split-item.result.front) ≡ true = filled_by _ (sym c.is_empty-in-loop-split.ensures ∙ c.if-is_empty-2.false) in
+    told _ (split_repeats P d (found (Turn P) (unfolded.Repeats P) d c.deref-split-items.result.now c.loop-split.split-index c.split-item.result (ap splits_of c.deref-split-items.ensures.value ∙ c.in_ok-splits.ensures) c.loop-split-test.true c.split-item.is (front, c.in_ok-is_fitting.ensures.0 c.if-not-branch.false) (c.in_ok-in_turns.ensures.0 c.if-branch.true)))
 
 pub in_turns-returns : goal.in_turns-returns
 in_turns-returns t c =
-    let xs = c.deref-split-items.result.now in
+    let P : Document → Type 0 = unfolded.FitsWithin (definitions_of c.args.definitions.now) c.args.unfoldings (tree_of c.args.part.now) in
     let d : Document = document_of c.args.document.now in
-    let P : Document → Type 0 = Turn (unfolded.FitsWithin (definitions_of c.args.definitions.now) c.args.unfoldings (tree_of c.args.part.now)) in
-    let Q : Document → Type 0 = unfolded.Repeats (unfolded.FitsWithin (definitions_of c.args.definitions.now) c.args.unfoldings (tree_of c.args.part.now)) in
-    denied _ (λ s. none_found P Q d xs c.loop-split.split-index (ap splits_of c.deref-split-items.ensures.value ∙ c.in_ok-splits.ensures) c.loop-split-test.false c.loop-split.invariant (repeats_split (unfolded.FitsWithin (definitions_of c.args.definitions.now) c.args.unfoldings (tree_of c.args.part.now)) d (filled_by (has_item d) (sym c.is_empty.ensures ∙ c.if-is_empty.false)) s))
+    denied _ (λ s. none_found (Turn P) (unfolded.Repeats P) d c.deref-split-items.result.now c.loop-split.split-index (ap splits_of c.deref-split-items.ensures.value ∙ c.in_ok-splits.ensures) c.loop-split-test.false c.loop-split.invariant (repeats_split P d (filled_by (has_item d) (sym c.is_empty.ensures ∙ c.if-is_empty.false)) s))
 
 pub in_one_turn_or_more-is_fitting-requires : goal.in_one_turn_or_more-is_fitting-requires
 in_one_turn_or_more-is_fitting-requires t c =
-    let xs = c.deref-split-items.result.now in
-    let d : Document = document_of c.args.document.now in
-    let x = c.split-item.result in
-    let s : size (document_of x.front) + size (document_of x.back) ≡ size d
-    = sizes d xs c.loop-split.split-index x (ap splits_of c.deref-split-items.ensures.value ∙ c.in_ok-splits.ensures) c.loop-split-test.true c.split-item.is in
+    let s = sizes (document_of c.args.document.now) c.deref-split-items.result.now c.loop-split.split-index c.split-item.result (ap splits_of c.deref-split-items.ensures.value ∙ c.in_ok-splits.ensures) c.loop-split-test.true c.split-item.is in
     (omega arith, tt)
 
 pub in_one_turn_or_more-in_turns-requires : goal.in_one_turn_or_more-in_turns-requires
 in_one_turn_or_more-in_turns-requires t c =
-    let xs = c.deref-split-items.result.now in
-    let d : Document = document_of c.args.document.now in
-    let x = c.split-item.result in
-    let s : size (document_of x.front) + size (document_of x.back) ≡ size d
-    = sizes d xs c.loop-split.split-index x (ap splits_of c.deref-split-items.ensures.value ∙ c.in_ok-splits.ensures) c.loop-split-test.true c.split-item.is in
+    let s = sizes (document_of c.args.document.now) c.deref-split-items.result.now c.loop-split.split-index c.split-item.result (ap splits_of c.deref-split-items.ensures.value ∙ c.in_ok-splits.ensures) c.loop-split-test.true c.split-item.is in
     (omega arith, tt)
 
 pub in_one_turn_or_more-returns-then-branch : goal.in_one_turn_or_more-returns-then-branch
 in_one_turn_or_more-returns-then-branch t c =
-    let xs = c.deref-split-items.result.now in
-    let d : Document = document_of c.args.document.now in
-    let P : Document → Type 0 = unfolded.FitsWithin (definitions_of c.args.definitions.now) c.args.unfoldings (tree_of c.args.part.now) in
-    let Q : Document → Type 0 = unfolded.Repeats (unfolded.FitsWithin (definitions_of c.args.definitions.now) c.args.unfoldings (tree_of c.args.part.now)) in
-    told _ (found P Q d xs c.loop-split.split-index c.split-item.result (ap splits_of c.deref-split-items.ensures.value ∙ c.in_ok-splits.ensures) c.loop-split-test.true c.split-item.is (c.in_ok-is_fitting.ensures.0 c.if-not-branch.false) (c.in_ok-in_turns.ensures.0 c.if-branch.true))
+    told _ (found _ _ _ c.deref-split-items.result.now c.loop-split.split-index c.split-item.result (ap splits_of c.deref-split-items.ensures.value ∙ c.in_ok-splits.ensures) c.loop-split-test.true c.split-item.is (c.in_ok-is_fitting.ensures.0 c.if-not-branch.false) (c.in_ok-in_turns.ensures.0 c.if-branch.true))
 
 pub in_one_turn_or_more-returns : goal.in_one_turn_or_more-returns
-in_one_turn_or_more-returns t c =
-    let xs = c.deref-split-items.result.now in
-    let d : Document = document_of c.args.document.now in
-    let P : Document → Type 0 = unfolded.FitsWithin (definitions_of c.args.definitions.now) c.args.unfoldings (tree_of c.args.part.now) in
-    let Q : Document → Type 0 = unfolded.Repeats (unfolded.FitsWithin (definitions_of c.args.definitions.now) c.args.unfoldings (tree_of c.args.part.now)) in
-    denied _ (λ s. none_found P Q d xs c.loop-split.split-index (ap splits_of c.deref-split-items.ensures.value ∙ c.in_ok-splits.ensures) c.loop-split-test.false c.loop-split.invariant s)
+in_one_turn_or_more-returns t c = denied _ (none_found _ _ _ c.deref-split-items.result.now c.loop-split.split-index (ap splits_of c.deref-split-items.ensures.value ∙ c.in_ok-splits.ensures) c.loop-split-test.false c.loop-split.invariant)

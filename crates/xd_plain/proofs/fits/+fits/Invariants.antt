@@ -4,11 +4,17 @@ use Rattle.xd_laws.specs.FitsWithin as unfolded
 use Rattle.xd_plain.specs.PlainDocuments.{document_of}
 use Rattle.xd_plain.specs.PlainTrees.{tree_of, definitions_of}
 use Rattle.xd_plain.specs.PlainFits.{splits_of}
-use Rattle.xd_plain.proofs.PlainFitting.{SomeSplit, Turn, weight}
+use Rattle.xd_plain.proofs.PlainFitting.{SomeSplit, Turn, weight, weight_of_name}
 use Rattle.xd_plain.proofs.fits.+fits.Given as goal
 
 abbrev pub decreases-is_fitting : goal.decreases-is_fitting
 decreases-is_fitting l = 4 * (weight (definitions_of l.definitions.now) l.unfoldings (tree_of l.tree.now) + size (document_of l.document.now))
+
+abbrev pub decreases-is_defined : goal.decreases-is_defined
+decreases-is_defined l = 4 * (weight_of_name (definitions_of l.definitions.now) l.unfoldings l.name.now + size (document_of l.document.now)) + 1
+
+abbrev pub decreases-is_one_element : goal.decreases-is_one_element
+decreases-is_one_element l = 4 * (weight (definitions_of l.definitions.now) l.unfoldings (tree_of l.content.now) + size (document_of l.document.now)) + 1
 
 abbrev pub decreases-in_two_parts : goal.decreases-in_two_parts
 decreases-in_two_parts l = let E = definitions_of l.definitions.now in

@@ -3,11 +3,17 @@ use Rattle.xd_syntax.specs.Ways.{ways_within, item_count}
 use Rattle.xd_plain.specs.PlainDocuments.{document_of}
 use Rattle.xd_plain.specs.PlainTrees.{tree_of, definitions_of}
 use Rattle.xd_plain.specs.PlainWays.{ways_of}
-use Rattle.xd_plain.proofs.PlainCost.{cost, repetition_cost, then_ways, then_turns, turn_ways, then_cost, then_turns_cost, turn_cost}
+use Rattle.xd_plain.proofs.PlainCost.{cost, cost_of_name, element_cost, repetition_cost, then_ways, then_turns, turn_ways, then_cost, then_turns_cost, turn_cost}
 use Rattle.xd_plain.proofs.ways.+ways.Given as goal
 
 abbrev pub decreases-ways_within : goal.decreases-ways_within
 decreases-ways_within l = cost (definitions_of l.definitions.now) l.unfoldings (tree_of l.pattern.now) (document_of l.document.now)
+
+abbrev pub decreases-defined : goal.decreases-defined
+decreases-defined l = cost_of_name (definitions_of l.definitions.now) l.unfoldings l.name.now (document_of l.document.now) + 1
+
+abbrev pub decreases-one_element : goal.decreases-one_element
+decreases-one_element l = element_cost (cost (definitions_of l.definitions.now) l.unfoldings (tree_of l.content.now)) (document_of l.document.now)
 
 abbrev pub decreases-each_then : goal.decreases-each_then
 decreases-each_then l = then_cost (definitions_of l.definitions.now) l.unfoldings (tree_of l.second.now) (ways_of l.firsts.now) + 1
