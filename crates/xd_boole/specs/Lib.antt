@@ -1,6 +1,5 @@
 pub mod Meaning
 pub mod Groups
-pub mod Matching
 pub mod Universal
 pub mod Choices
 pub mod Points

@@ -107,14 +107,6 @@ pub record AreExpanded (a b : Automaton) (p : Points) (done : ℕ) : Type 0 wher
   pub has : (i : ℕ) → i < done → i < length p.points.items → is_old p i ≡ false → HasMoves a b p i
   pub bare : (i : ℕ) → done ≤ i → i < length p.points.items → IsBare (moves_at p.made (state_at i))
 
--- a state gets these moves too; some are left to be given
-pub record Gives (s : State) (labels_left : List LabelMove) (texts_left : List TextMove) (labels : List LabelMove) (texts : List TextMove) (old new : Automaton) : Type 0 where
-  pub count : length new ≡ length old
-  pub last : (moves_at new s).last ≡ (moves_at old s).last
-  pub labels_too : (p : LabelMove → Bool) → (list_any p (moves_at new s).labels || list_any p labels_left) ≡ (list_any p (moves_at old s).labels || list_any p labels)
-  pub texts_too : (p : TextMove → Bool) → (list_any p (moves_at new s).texts || list_any p texts_left) ≡ (list_any p (moves_at old s).texts || list_any p texts)
-  pub others : (i : ℕ) → (i ≡ s.number → ⊥) → moves_at new (state_at i) ≡ moves_at old (state_at i)
-
 -- points stay
 pub record KeepsPoints (old new : Points) : Type 0 where
   pub longer : length old.points.items ≤ length new.points.items

@@ -16,7 +16,7 @@ use crate::choices::{Choice, choices_of};
 use crate::groups::{Group, Side, Step, label_groups, text_groups};
 use crate::merging::merged;
 use crate::placing::place_points;
-use crate::points::{NewMoves, Points, copy_point, find_or_add, set_moves};
+use crate::points::{Points, copy_point, find_or_add};
 use crate::states::set_of;
 use crate::universal::{any_marked, universal_states};
 use std::alloc::Global;
@@ -115,7 +115,7 @@ fn add_labels(
     requires universal { MarkUniversal taken.now.auto taken.now.universal.items }
     ensures { OnOk result (AddsLabels auto.now taken.now.auto points.old points.new labels.old.items labels.new.items (λ q. move_takes auto.now q step.now && not (any_accepts taken.now.auto rights.now (element_of q)))) }
 {
-    let groups = label_groups(alloc, &taken.auto, &step.class, rights)?;
+    let groups = label_groups(alloc, &taken.auto, step, rights)?;
     for group in &groups {
         add_group(alloc, auto, taken, points, labels, step.side(), group)?;
     }
@@ -190,7 +190,7 @@ fn add_texts(
     requires universal { MarkUniversal taken.now.auto taken.now.universal.items }
     ensures { OnOk result (AddsTexts auto.now taken.now.auto points.old points.new texts.old.items texts.new.items (λ q. text_takes auto.now q step.now && not (any_accepts taken.now.auto rights.now (text_of q)))) }
 {
-    let groups = text_groups(alloc, &taken.auto, &step.words, rights)?;
+    let groups = text_groups(alloc, &taken.auto, step, rights)?;
     for group in &groups {
         add_text_group(alloc, auto, taken, points, texts, step.rest, group)?;
     }
@@ -241,7 +241,7 @@ fn expand(
     let labels = label_moves(alloc, auto, taken, points, left, &rights)?;
     let texts = text_moves(alloc, auto, taken, points, left, &rights)?;
     let state = points.made.state(number);
-    set_moves(&mut points.made, state, NewMoves { labels, texts })?;
+    points.made.set_moves(state, labels, texts);
     Ok(())
 }
 

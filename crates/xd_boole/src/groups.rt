@@ -1,14 +1,13 @@
 //! The names of a class, labels or texts, in groups that the same moves match.
 
 ghost use Rattle.std.specs.Prelude.{◌≡◌, ◌<◌, ◌&&◌, ◌++◌, ◌∷◌, [], List, ℕ, Bool, true, false, length, IfOk, OnOk};
-ghost use Rattle.std.specs.List.{AllByRecursion};
+ghost use Rattle.std.specs.List.{All, AllByRecursion};
 ghost use Rattle.xd_doc.specs.Classes.{class_has};
 ghost use Rattle.xd_auto.specs.Automaton.{IsState, has_label, has_text};
 ghost use Rattle.xd_boole.specs.Groups.{AreLabelGroups, AreTextGroups, Divides, DividesAll, DividesBy, IsPartBy, label_side};
 
-use crate::matching::{matching_labels, matching_texts};
 use std::alloc::Global;
-use xd_auto::{Auto, LabelMove, State, TextMove};
+use xd_auto::{Auto, LabelMove, Move, State, TextMove};
 use xd_doc::{Class, NoMemory, Words};
 
 /// A class of names that can be divided: of labels or of texts.
@@ -172,7 +171,7 @@ fn divide_by<C: Divisible, S: Copy, M: Step<C, S>>(
     moves: &[M],
     numbers: &[usize],
 ) -> Result<Vec<Group<C, S>>, NoMemory>
-    requires { AllByRecursion (λ k. k < length moves.now) numbers.now }
+    requires { All (λ k. k < length moves.now) numbers.now }
     ensures { IfOk result (λ made. DividesBy C.has M.class_of M.side_of moves.now numbers.now groups.items made.items) }
 {
     let mut groups = groups;
@@ -183,45 +182,45 @@ fn divide_by<C: Divisible, S: Copy, M: Step<C, S>>(
     Ok(groups)
 }
 
-/// The labels of a class in groups, by the moves of these states that match them.
+/// The labels of a move's class in groups, by the moves of these states that match them.
 pub(crate) fn label_groups(
     alloc: Global,
     auto: &Auto,
-    class: &Class,
+    step: &LabelMove,
     states: &[State],
 ) -> Result<Vec<Group<Class, Side>>, NoMemory>
     requires { AllByRecursion (IsState auto.now) states.now }
-    ensures { IfOk result (λ made. AreLabelGroups auto.now class.now states.now made.items) }
+    ensures { IfOk result (λ made. AreLabelGroups auto.now step.now.class states.now made.items) }
 {
     let mut groups = Vec::new(alloc);
     groups.push(Group {
-        class: class.share()?,
+        class: step.class.share()?,
         sides: Vec::new(alloc),
     })?;
     for state in states {
-        let numbers = matching_labels(alloc, auto, class, *state)?;
+        let numbers = step.matching(alloc, auto, *state)?;
         groups = divide_by(alloc, groups, auto.label_moves(*state), &numbers)?;
     }
     Ok(groups)
 }
 
-/// The texts of a class in groups, by the moves of these states that match them.
+/// The texts of a move's class in groups, by the moves of these states that match them.
 pub(crate) fn text_groups(
     alloc: Global,
     auto: &Auto,
-    words: &Words,
+    step: &TextMove,
     states: &[State],
 ) -> Result<Vec<Group<Words, State>>, NoMemory>
     requires { AllByRecursion (IsState auto.now) states.now }
-    ensures { IfOk result (λ made. AreTextGroups auto.now words.now states.now made.items) }
+    ensures { IfOk result (λ made. AreTextGroups auto.now step.now.words states.now made.items) }
 {
     let mut groups = Vec::new(alloc);
     groups.push(Group {
-        class: words.share()?,
+        class: step.words.share()?,
         sides: Vec::new(alloc),
     })?;
     for state in states {
-        let numbers = matching_texts(alloc, auto, words, *state)?;
+        let numbers = step.matching(alloc, auto, *state)?;
         groups = divide_by(alloc, groups, auto.text_moves(*state), &numbers)?;
     }
     Ok(groups)

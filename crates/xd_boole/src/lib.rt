@@ -4,7 +4,6 @@
 mod choices;
 mod difference;
 mod groups;
-mod matching;
 mod merging;
 mod placing;
 mod points;

@@ -5,13 +5,13 @@ ghost use Rattle.std.specs.List.{AllByRecursion};
 ghost use Rattle.std.specs.Cmp.Lexicographic.{pointwise};
 ghost use Rattle.xd_auto.specs.Automaton.{Automaton, IsState};
 ghost use Rattle.xd_boole.specs.Meaning.{less};
-ghost use Rattle.xd_boole.specs.Points.{ArePoints, Gives, Grows, IsStateFor, MoveBelow, TextBelow, found_at, point_at, point_key, point_last};
+ghost use Rattle.xd_boole.specs.Points.{ArePoints, Grows, IsStateFor, found_at, point_at, point_key, point_last};
 
 use crate::states::any_last;
 use std::alloc::Global;
 use std::collections::BTreeMap;
 use std::marker::Model;
-use xd_auto::{Auto, LabelMove, State, StateKey, TextMove};
+use xd_auto::{Auto, State, StateKey};
 use xd_doc::NoMemory;
 
 /// A state, the left, and states of another automaton that are taken away from it, the rights: what a
@@ -36,13 +36,6 @@ pub(crate) struct Points {
     pub(crate) made: Auto,
     pub(crate) points: Vec<Point>,
     pub(crate) found: BTreeMap<StateKey, usize>,
-}
-
-/// The moves of a state of the new automaton.
-#[derive(Drop)]
-pub(crate) struct NewMoves {
-    pub(crate) labels: Vec<LabelMove>,
-    pub(crate) texts: Vec<TextMove>,
 }
 
 impl Points {
@@ -127,26 +120,6 @@ pub(crate) fn find_or_add(
         Some(number) => Ok(points.made.state(*number)),
         None => add_point(alloc, auto, other, points, key, left, rights),
     }
-}
-
-/// Gives a state its moves.
-pub(crate) fn set_moves(made: &mut Auto, state: State, moves: NewMoves) -> Result<(), NoMemory>
-    requires state { IsState made.old state }
-    requires labels { AllByRecursion (MoveBelow (length made.old)) moves.labels.items }
-    requires texts { AllByRecursion (TextBelow (length made.old)) moves.texts.items }
-    ensures { OnOk result (Gives state [] [] moves.labels.items moves.texts.items made.old made.new) }
-{
-    let NewMoves {
-        mut labels,
-        mut texts,
-    } = moves;
-    while let Some(step) = labels.pop() {
-        made.add_label_move(state, step.class, step.content, step.rest)?;
-    }
-    while let Some(step) = texts.pop() {
-        made.add_text_move(state, step.words, step.rest)?;
-    }
-    Ok(())
 }
 
 /// The left and the rights of a point.

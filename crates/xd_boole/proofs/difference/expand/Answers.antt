@@ -1,18 +1,30 @@
-use Rattle.std.proofs.Common.{◌≡◌, ◌==◌, ℕ, [], length, vec_len, ap, sym, ◌∙◌, subst, arith}
+use Rattle.std.proofs.Common.{◌≡◌, ◌==◌, ℕ, length, vec_len, ap, sym, ◌∙◌, subst, arith}
+use Rattle.xd_auto.specs.Automaton.{ChangesOnly, moves_at}
 use Rattle.xd_boole.specs.Meaning.{PointView, element_of, is_whole, text_of, less, means}
-use Rattle.xd_boole.specs.Points.{Gives, state_at}
-use Rattle.xd_boole.proofs.Expanding.{expanded_more, one_skipped, points_same}
+use Rattle.xd_boole.specs.Points.{state_at}
+use Rattle.xd_boole.proofs.Expanding.{expanded_more, given_moves, labels_lead, one_skipped, points_same, texts_lead}
 use Rattle.xd_boole.proofs.Refusing.{same_number}
 use Rattle.xd_boole.proofs.difference.expand.Goals as goal
+
+pub set_moves-requires : goal.set_moves-requires
+set_moves-requires c =
+    let a = c.args.auto.now in let b = c.args.taken.now.auto in
+    record {
+      state = c.state-state.ensures.belongs;
+      labels = labels_lead a b c.args.points.now c.label_moves.new.points c.text_moves.new.points c.in_ok-labels.labels.items _ c.in_ok-labels.ensures c.in_ok-texts.ensures.grows c.in_ok-texts.ensures.whole;
+      texts = texts_lead a b c.label_moves.new.points c.text_moves.new.points c.in_ok-texts.texts.items _ c.in_ok-texts.ensures;
+    }
 
 pub returns-clause-expanded : goal.returns-clause-expanded
 returns-clause-expanded c =
     let a = c.args.auto.now in let b = c.args.taken.now.auto in
     let p = c.args.points.now in
     let i = c.args.number in
-    expanded_more a b p c.label_moves.new.points c.text_moves.new.points c.set_moves.new.made i c.in_ok-labels.labels.items c.in_ok-texts.texts.items _ _
+    expanded_more a b p c.label_moves.new.points c.text_moves.new.points c.set_moves.new.self i c.in_ok-labels.labels.items c.in_ok-texts.texts.items _ _
     c.requires.expanded c.requires.number c.len-states.ensures.closed c.in_ok-labels.ensures c.in_ok-texts.ensures
-    (subst (λ (n : ℕ). Gives (state_at n) [] [] c.in_ok-labels.labels.items c.in_ok-texts.texts.items c.text_moves.new.points.made c.set_moves.new.made) c.state-state.ensures.number c.in_ok-set_moves.ensures)
+    (subst (λ (n : ℕ). moves_at c.set_moves.new.self (state_at n) ≡ record (moves_at c.text_moves.new.points.made (state_at n)) { labels = c.in_ok-labels.labels.items; texts = c.in_ok-texts.texts.items }) c.state-state.ensures.number
+    (given_moves c.text_moves.new.points.made c.set_moves.new.self c.state-state.result _ c.state-state.ensures.belongs c.set_moves.ensures.value))
+    (subst (λ (n : ℕ). ChangesOnly (state_at n) c.text_moves.new.points.made c.set_moves.new.self) c.state-state.ensures.number c.set_moves.ensures.others)
     (λ q. ap (λ (w : PointView). means a b w (element_of q)) (ap (less c.in_ok-left.left) c.deref.ensures.value ∙ c.in_ok-left.ensures))
     (λ q. ap (λ (w : PointView). means a b w (text_of q)) (ap (less c.in_ok-left.left) c.deref-2.ensures.value ∙ c.in_ok-left.ensures))
 

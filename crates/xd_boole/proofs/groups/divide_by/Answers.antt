@@ -1,6 +1,6 @@
 use Rattle.std.proofs.Common.{◌≡◌, ◌&&◌, not, true, ◌<◌, length, get_or, ap, sym, ◌∙◌}
 use Rattle.xd_boole.specs.Groups.{any_group, passes_at}
-use Rattle.xd_boole.proofs.Lists.{all_at, all_step, at_itself}
+use Rattle.xd_boole.proofs.Lists.{all_at, at_itself}
 use Rattle.xd_boole.proofs.Dividing.{divided_by_more, passes_there}
 use Rattle.xd_boole.proofs.groups.divide_by.Goals as goal
 
@@ -11,7 +11,7 @@ loop-number-preserved g c =
     let i = c.loop-number.number-index in
     let k = get_or numbers i 0 in
     let at = at_itself numbers i 0 c.loop-number-test.true in
-    let next = all_step (λ n. n < length moves) numbers i k c.loop-number-test.true at c.loop-number.invariant.left in
+    let within : k < length moves = c.requires i 0 c.loop-number-test.true in
     let m = c.index-moves-number.result in
     let has = g.C.Divisible.has in
     record {
@@ -22,10 +22,9 @@ loop-number-preserved g c =
           (c.in_ok-groups.ensures.taken p x
           ∙ ap (λ w. any_group has p x c.loop-number.groups.items && not w)
           (ap (λ w. has w x && p c.side.result) c.class.ensures ∙ ap (λ w. has (g.M.Step.class_of m) x && p w) c.side.ensures
-          ∙ sym (passes_there (λ w. has (g.M.Step.class_of w) x && p (g.M.Step.side_of w)) moves k m next.0 c.index-moves-number.is)))
+          ∙ sym (passes_there (λ w. has (g.M.Step.class_of w) x && p (g.M.Step.side_of w)) moves k m within c.index-moves-number.is)))
           (c.loop-number.invariant.taken p x);
       sides = λ p h all.
           c.in_ok-groups.ensures.sides p (c.loop-number.invariant.sides p h all)
-          (ap p c.side.ensures ∙ all_at (λ w. p (g.M.Step.side_of w) ≡ true) moves all k m next.0 c.index-moves-number.is);
-      left = next.1;
+          (ap p c.side.ensures ∙ all_at (λ w. p (g.M.Step.side_of w) ≡ true) moves all k m within c.index-moves-number.is);
     }

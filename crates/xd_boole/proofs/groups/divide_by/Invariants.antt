@@ -8,5 +8,4 @@ invariant-loop-number g l = record {
   taken : (p : g.row.S.Denot → Bool) (x : List ℕ) → any_group g.C.Divisible.has p x l.groups.items
       ≡ (any_group g.C.Divisible.has p x l.initial.groups.items && not (list_any (passes_at (λ m. g.C.Divisible.has (g.M.Step.class_of m) x && p (g.M.Step.side_of m)) l.moves) (take l.number-index l.numbers)));
   sides : (p : g.row.S.Denot → Bool) → AllSides p l.initial.groups.items → AllByRecursion (λ m. p (g.M.Step.side_of m) ≡ true) l.moves → AllSides p l.groups.items;
-  left : AllByRecursion (λ k. k < length l.moves) (drop l.number-index l.numbers);
 }

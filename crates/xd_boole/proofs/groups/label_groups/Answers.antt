@@ -9,14 +9,13 @@ use Rattle.xd_boole.specs.Groups.{any_group, is_side, label_side, passes_at, sid
 use Rattle.xd_boole.specs.Points.{MoveBelow, state_at}
 use Rattle.xd_boole.proofs.Bools.{divided_state}
 use Rattle.xd_boole.proofs.Closing.{labels_are}
-use Rattle.xd_boole.proofs.Lists.{all_contained, all_map, all_step, at_itself}
+use Rattle.xd_boole.proofs.Lists.{all_map, all_step, at_itself}
 use Rattle.xd_boole.proofs.MatchLemmas.{matching_tells}
 use Rattle.xd_boole.proofs.Refusing.{side_is}
 use Rattle.xd_boole.proofs.groups.label_groups.Goals as goal
 
 pub divide_by-requires : goal.divide_by-requires
-divide_by-requires c =
-    rw (c.label_moves.ensures.value, c.deref.ensures.value) (all_contained (λ (k : ℕ). k < length (moves_at c.args.auto.now (get_or c.args.states.now c.loop-state.state-index (state_at 0))).labels) c.in_ok-numbers.numbers.items c.in_ok-numbers.ensures.within)
+divide_by-requires c = rw (c.label_moves.ensures.value, c.deref.ensures.value) c.in_ok-numbers.ensures.within
 
 pub loop-state-preserved : goal.loop-state-preserved
 loop-state-preserved c =
@@ -31,10 +30,10 @@ loop-state-preserved c =
     record {
       taken = λ q.
           let p = side_accepts a q.content q.rest in
-          divided_state (class_has c.args.class.now q.label) (any_group class_has p q.label c.loop-state.groups.items) (any_group class_has p q.label c.in_ok-groups.groups.items)
+          divided_state (class_has c.args.step.now.class q.label) (any_group class_has p q.label c.loop-state.groups.items) (any_group class_has p q.label c.in_ok-groups.groups.items)
           (list_any (passes_at (λ (m : LabelMove). class_has m.class q.label && p (label_side m)) moves) numbers) (accepts a (element_of q) s) (any_accepts a (take i states) (element_of q)) (any_accepts a (take (i + 1) states) (element_of q))
           (c.loop-state.invariant.taken q) (c.in_ok-groups.ensures.taken p q.label)
-          (λ has. rw (c.label_moves.ensures.value, c.deref.ensures.value) (matching_tells has_label (λ m. p (label_side m)) c.args.class.now (moves_at a s).labels c.in_ok-numbers.numbers.items c.in_ok-numbers.ensures q.label has))
+          (λ has. rw (c.label_moves.ensures.value, c.deref.ensures.value) (matching_tells has_label (λ m. p (label_side m)) c.args.step.now (moves_at a s).labels c.in_ok-numbers.numbers.items c.in_ok-numbers.ensures q.label has))
           (list_any_more (λ w. accepts a (element_of q) w) states i (state_at 0) c.loop-state-test.true);
       sides = c.in_ok-groups.ensures.sides (is_side a) c.loop-state.invariant.sides
           (all_map (MoveBelow (length a)) (λ m. is_side a (label_side m) ≡ true) moves (side_is a) (labels_are a s moves c.label_moves.ensures.value c.label_moves.ensures.closed));

@@ -10,14 +10,13 @@ use Rattle.xd_boole.specs.Groups.{any_group, passes_at}
 use Rattle.xd_boole.specs.Points.{TextBelow, state_at}
 use Rattle.xd_boole.proofs.Bools.{divided_state}
 use Rattle.xd_boole.proofs.Closing.{texts_are}
-use Rattle.xd_boole.proofs.Lists.{all_contained, all_map, all_step, at_itself}
+use Rattle.xd_boole.proofs.Lists.{all_map, all_step, at_itself}
 use Rattle.xd_boole.proofs.MatchLemmas.{matching_tells}
 use Rattle.xd_boole.proofs.Refusing.{is_state_of}
 use Rattle.xd_boole.proofs.groups.text_groups.Goals as goal
 
 pub divide_by-requires : goal.divide_by-requires
-divide_by-requires c =
-    rw (c.text_moves.ensures.value, c.deref.ensures.value) (all_contained (λ (k : ℕ). k < length (moves_at c.args.auto.now (get_or c.args.states.now c.loop-state.state-index (state_at 0))).texts) c.in_ok-numbers.numbers.items c.in_ok-numbers.ensures.within)
+divide_by-requires c = rw (c.text_moves.ensures.value, c.deref.ensures.value) c.in_ok-numbers.ensures.within
 
 pub loop-state-preserved : goal.loop-state-preserved
 loop-state-preserved c =
@@ -32,10 +31,10 @@ loop-state-preserved c =
     record {
       taken = λ q.
           let p : State → Bool = λ w. accepts a q.rest w in
-          divided_state (class_has c.args.words.now q.characters) (any_group class_has p q.characters c.loop-state.groups.items) (any_group class_has p q.characters c.in_ok-groups.groups.items)
+          divided_state (class_has c.args.step.now.words q.characters) (any_group class_has p q.characters c.loop-state.groups.items) (any_group class_has p q.characters c.in_ok-groups.groups.items)
           (list_any (passes_at (λ (m : TextMove). class_has m.words q.characters && p m.rest) moves) numbers) (accepts a (text_of q) s) (any_accepts a (take i states) (text_of q)) (any_accepts a (take (i + 1) states) (text_of q))
           (c.loop-state.invariant.taken q) (c.in_ok-groups.ensures.taken p q.characters)
-          (λ has. rw (c.text_moves.ensures.value, c.deref.ensures.value) (matching_tells has_text (λ m. p m.rest) c.args.words.now (moves_at a s).texts c.in_ok-numbers.numbers.items c.in_ok-numbers.ensures q.characters has))
+          (λ has. rw (c.text_moves.ensures.value, c.deref.ensures.value) (matching_tells has_text (λ m. p m.rest) c.args.step.now (moves_at a s).texts c.in_ok-numbers.numbers.items c.in_ok-numbers.ensures q.characters has))
           (list_any_more (λ w. accepts a (text_of q) w) states i (state_at 0) c.loop-state-test.true);
       sides = c.in_ok-groups.ensures.sides (is_state a) c.loop-state.invariant.sides
           (all_map (TextBelow (length a)) (λ m. is_state a m.rest ≡ true) moves (λ m below. is_state_of a m.rest below) (texts_are a s moves c.text_moves.ensures.value c.text_moves.ensures.closed));
