@@ -1,33 +1,29 @@
 -- The types of a proof text are no deeper than a text may be nested.
-use Rattle.std.proofs.Common.{◌≡◌, ℕ, zero, suc, ◌+◌, ◌≤◌, arith, List, [], ◌∷◌, ◌++◌, map, length, Option, Some, None, Result, Ok, Err, refl, ap, sym, subst, ◌∙◌, inl, inr}
-use Rattle.std.specs.Prelude.{IfOk}
+use Rattle.std.proofs.Common.{◌≡◌, ℕ, zero, suc, ◌+◌, ◌≤◌, arith, List, [], ◌∷◌, ◌++◌, map, length, Some, refl, ap, sym, subst, inl, inr}
 use Rattle.std.specs.List.{AllZip, AllByRecursion}
-use Rattle.xd_lex.specs.Tokens.{Lexeme, tokens_of}
+use Rattle.xd_lex.specs.Tokens.{tokens_of}
 use Rattle.xd_syntax.specs.Tree.{Tree}
 use Rattle.xd_syntax.specs.TypeText.{depth}
 use Rattle.xd_syntax.specs.Table.{Row}
 use Rattle.xd_syntax.specs.Types.{tree}
 use Rattle.xd_syntax.specs.Sound.{IsTypeAt}
 use Rattle.xd_syntax.specs.Shallow.{nesting_limit}
-use Rattle.xd_syntax.specs.Placed.{unplaced}
 use Rattle.xd_syntax.specs.declared.types.TypeId.{TypeId}
 use Rattle.xd_parse.specs.declared.grammar.Nonterminal.TheVariants as nonterminals
-use Rattle.xd_parse.specs.declared.grammar.Symbol.TheVariants.{Part as symbol}
-use Rattle.xd_parse.specs.Means.{Means}
 use Rattle.xd_parse.specs.Values.{Value, a_tree}
 use Rattle.xd_parse.specs.Reading.{Reads}
 use Rattle.xd_parse.proofs.Sure.{sure}
 use Rattle.xd_parse.proofs.Spelled.{read_within}
-use Rattle.xd_parse.proofs.Nesting.{Within, all_within}
+use Rattle.xd_parse.proofs.Nesting.{all_within}
 use Rattle.xd_parse.proofs.Depth.{AnyWithin}
 use Rattle.xd_laws.specs.Consistent.{numbered}
 use Rattle.xd_laws.specs.Breach.{Lined}
 use Rattle.xd_proof_form.specs.Lines.{SpellsNumber}
 use Rattle.xd_proof_form.specs.Parts.{Part, type_part, left_part, right_part, SpellsPart, SpellParts}
-use Rattle.xd_proof_form.specs.Form.{Block, empty_parts, block_parts, blocks_from, goal_list, types_from, goals_from, block_length, AreNamed, NamesTypes, NameTypes, AreProof, IsProofText}
+use Rattle.xd_proof_form.specs.Form.{Block, block_parts, blocks_from, types_from, goals_from, block_length, AreNamed, NameTypes, AreProof, IsProofText}
 use Rattle.xd_proof_form.specs.TypeTexts.{SpellsType}
 use Rattle.xd_proof.specs.declared.proof.ProofGoal.{ProofGoal}
-use Rattle.xd_proof.specs.Goals.{IsLinedAt, AreGoalsAt}
+use Rattle.xd_proof.specs.Goals.{AreGoalsAt}
 use Rattle.xd_proof_read.specs.Depths.{IsShallowGoal}
 
 abbrev Shallow : Tree → Type 0
