@@ -8,7 +8,7 @@ use Rattle.xd_syntax.specs.Program.{TypeDefinition, Parameter, FunctionDefinitio
 use Rattle.xd_syntax.specs.Words.{has_word, any_word, string_word}
 use Rattle.xd_syntax.specs.Order.{precedes, put_in, ordered_after}
 use Rattle.xd_syntax.specs.NameFaults as names
-use Rattle.xd_syntax.specs.NameFaults.{Spot, fault_at, fault_if}
+use Rattle.xd_syntax.specs.NameFaults.{Spot, fault_if}
 use Rattle.xd_syntax.specs.RecursionFaults.{AreRecursionFaults, not_tail_fault, unguarded_fault}
 use Rattle.xd_syntax.specs.declared.fault.Fault.{Fault}
 use Rattle.xd_syntax.specs.declared.fault.FaultKind.{FaultKind}

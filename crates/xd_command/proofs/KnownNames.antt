@@ -8,7 +8,7 @@ use Rattle.xd_syntax.specs.NameFaults.{known_types}
 use Rattle.xd_syntax.specs.Program.{ProgramTree}
 use Rattle.xd_syntax.specs.Sound.{is_defined, type_named}
 use Rattle.xd_syntax.specs.Table.{Row}
-use Rattle.xd_syntax.specs.Tree.{Tree, Text, Name}
+use Rattle.xd_syntax.specs.Tree.{Text, Name}
 use Rattle.xd_syntax.specs.Types.{tree}
 use Rattle.xd_syntax.specs.Words.{has_word, string_word}
 use Rattle.xd_syntax.specs.declared.types.TypeId.{TypeId}
