@@ -5,7 +5,7 @@ ghost use Rattle.std.specs.Option.{option_copied};
 ghost use Rattle.std.specs.Ordering.{nat_cmp};
 ghost use Rattle.std.specs.Cmp.Lexicographic.{slice_cmp};
 ghost use Rattle.std.specs.BTreeMap.{get};
-ghost use Rattle.xd_eval.specs.Functions.{AreFunctionNames, row_of};
+ghost use Rattle.xd_eval.specs.Functions.{AreFunctionNames, numbered, row_of};
 
 use std::alloc::Global;
 use std::collections::BTreeMap;
@@ -34,15 +34,22 @@ impl FunctionNames {
         requires { AreFunctionNames self.now functions.now }
         ensures { option_copied result ≡ row_of functions.now name.now }
     {
-        match self.number(name) {
-            Some(number) => Some(&functions[number]),
-            None => None,
-        }
+        function_at(functions, self.number(name))
     }
 
     fn number(&self, name: &Label) -> Option<usize>
         ensures { result ≡ get (slice_cmp nat_cmp) self.now.numbers name.now }
     {
         self.numbers.get(name).copied()
+    }
+}
+
+/// The function of this number, where there is one.
+fn function_at(functions: &[Function], number: Option<usize>) -> Option<&Function>
+    ensures { option_copied result ≡ numbered functions.now number }
+{
+    match number {
+        Some(number) => functions.get(number),
+        None => None,
     }
 }
