@@ -1,14 +1,17 @@
 -- A word that is no keyword.
-use Rattle.std.proofs.Common.{◌≡◌, ℕ, Bool, true, false, cond, List, refl, sym, ◌∙◌}
+use Rattle.std.proofs.Common.{◌≡◌, ℕ, Bool, true, false, cond, List, Option, Some, refl, sym, subst, ◌∙◌}
 use Rattle.std.specs.Prelude.{codes}
 use Rattle.std.specs.Str.{bytes_eq}
 use Rattle.xd_lex.specs.declared.Kind.{Kind}
 use Rattle.xd_lex.specs.declared.Kind.TheVariants as kinds
+use Rattle.xd_lex.specs.Tokens.{Lexeme}
 use Rattle.xd_syntax.specs.Words.{has_word, keywords}
 use Rattle.xd_syntax.proofs.NamedLaws.{bytes_eq-turned}
+use Rattle.xd_parse.specs.declared.cursor.Lookahead.{Lookahead}
 use Rattle.xd_parse.specs.declared.grammar.Terminal.{Terminal}
 use Rattle.xd_parse.specs.declared.grammar.Terminal.TheVariants as t
 use Rattle.xd_parse.specs.Fits.{same}
+use Rattle.xd_parse.specs.Lookahead.{IsAhead, IsInFront}
 use Rattle.xd_parse.specs.Text.{terminal_of, word_terminal}
 
 -- the test of a word against a keyword failed, where the result is no keyword
@@ -77,3 +80,9 @@ terminal_plain kinds.Caret w e = absurd (not_number t.Caret e refl)
 terminal_plain kinds.Arrow w e = absurd (not_number t.Arrow e refl)
 terminal_plain kinds.End w e = absurd (not_number t.End e refl)
 terminal_plain (kinds.Broken f) w e = absurd (not_number t.Broken e refl)
+
+-- the token that comes next, where it is a word
+pub ahead_plain : (next : Option Lookahead) (ahead : Lookahead) (ls : List Lexeme) → IsInFront next ls → next ≡ Some ahead → ahead.terminal ≡ t.Word → has_word keywords ahead.token.text.now ≡ false
+ahead_plain next ahead ls front is e =
+    let known : IsAhead ahead ls = subst (λ (o : Option Lookahead). IsInFront o ls) is front in
+    terminal_plain ahead.token.kind ahead.token.text.now (sym known.terminal ∙ e)

@@ -1,15 +1,13 @@
 -- Texts from their tokens.
-use Rattle.std.proofs.Common.{◌≡◌, ◌<◌, ◌+◌, ℕ, zero, suc, ◌++◌, true, List, [], ◌∷◌, Option, Some, None, take, drop, length, get_or, map, refl, sym, ap, subst, ◌∙◌, arith}
+use Rattle.std.proofs.Common.{◌≡◌, ◌+◌, ℕ, ◌++◌, true, List, [], ◌∷◌, Option, Some, None, take, drop, refl, sym, ap, subst}
 use Rattle.std.proofs.lemmas.Bool.{false≢true}
 use Rattle.std.proofs.lemmas.List.{take-append-drop}
 use Rattle.std.specs.Prelude.{IsUtf8, MatchOption, IsSome}
 use Rattle.xd_lex.specs.declared.Kind.{Kind}
 use Rattle.xd_lex.specs.declared.Kind.TheVariants as kinds
-use Rattle.xd_lex.specs.Tokens.{Lexeme, lexeme_of, is_last, tokens_of}
+use Rattle.xd_lex.specs.Tokens.{Lexeme, is_last, tokens_of}
 use Rattle.xd_lex.specs.Reading.{HasOneLast}
 use Rattle.xd_lex.proofs.ReadLemmas.{one_last}
-use Rattle.xd_parse.specs.declared.fault.Refusal.{Refusal}
-use Rattle.xd_parse.specs.declared.fault.Refusal.TheVariants as refusals
 use Rattle.xd_parse.specs.declared.grammar.Nonterminal.{Nonterminal}
 use Rattle.xd_parse.specs.declared.grammar.Nonterminal.TheVariants as n
 use Rattle.xd_parse.specs.declared.grammar.Symbol.TheVariants.{Part}
@@ -17,10 +15,8 @@ use Rattle.xd_parse.specs.declared.grammar.Terminal.{Terminal}
 use Rattle.xd_parse.specs.declared.text.TextFault.{TextFault}
 use Rattle.xd_parse.specs.declared.text.TextFault.TheVariants as faults
 use Rattle.xd_parse.specs.Grammar.{Begins, Spells}
-use Rattle.xd_parse.specs.FirstFault.{IsFirstFault}
-use Rattle.xd_parse.specs.Text.{terminal_of, terminals_of, ends_text, is_text, SpellsText, IsPlaceAt, IsLexemeFault, IsTextFault, fault_of}
-use Rattle.xd_lex.specs.declared.lexer.Token.{Token}
-use Rattle.xd_base.specs.declared.Place.{Place}
+use Rattle.xd_parse.specs.FirstFault.{Refusal, no_text, too_deep, IsFirstFault}
+use Rattle.xd_parse.specs.Text.{terminal_of, terminals_of, ends_text, is_text, SpellsText, IsLexemeFault, IsTextFault}
 use Rattle.xd_parse.proofs.Ends.{sealed, ended, front_of}
 use Rattle.xd_syntax.specs.Shallow.{nesting_limit}
 
@@ -60,31 +56,18 @@ take_drop : (k : ℕ) (ts : List Terminal) → ts ≡ take k ts ++ drop k ts
 take_drop k ts = sym (take-append-drop k ts)
 
 refused : (part : Nonterminal) (ts : List Terminal) (k : ℕ) (refusal : Refusal) → IsFirstFault part ts k refusal → Spells nesting_limit part ts → ⊥
-refused part ts k refusals.Syntax f g = f.there nesting_limit (front_of g (take (k + 1) ts) (drop (k + 1) ts) (take_drop (k + 1) ts))
-refused part ts k refusals.TooDeep f g = f.there.0 (front_of g (take (k + 1) ts) (drop (k + 1) ts) (take_drop (k + 1) ts))
+refused part ts k no_text f g = f.there nesting_limit (front_of g (take (k + 1) ts) (drop (k + 1) ts) (take_drop (k + 1) ts))
+refused part ts k too_deep f g = f.there.0 (front_of g (take (k + 1) ts) (drop (k + 1) ts) (take_drop (k + 1) ts))
 
 unspelled_at : (part : Nonterminal) (bytes : List ℕ) (fault : TextFault) → IsTextFault part bytes fault → SpellsText part bytes → ⊥
 unspelled_at part bytes (faults.NotUtf8 place) f s = f.refused s.utf8
-unspelled_at part bytes (faults.Syntax place) f s = refused part (terminals_of (tokens_of bytes)) f.1.index refusals.Syntax f.1.first s.spells
-unspelled_at part bytes (faults.TooDeep place) f s = refused part (terminals_of (tokens_of bytes)) f.1.index refusals.TooDeep f.1.first s.spells
+unspelled_at part bytes (faults.Syntax place) f s = refused part (terminals_of (tokens_of bytes)) f.1.index no_text f.1.first s.spells
+unspelled_at part bytes (faults.TooDeep place) f s = refused part (terminals_of (tokens_of bytes)) f.1.index too_deep f.1.first s.spells
 
 -- a text with a fault is not spelled
 pub unspelled : (part : Nonterminal) (bytes : List ℕ) (found : Option TextFault) → MatchOption found (SpellsText part bytes) (λ fault. IsTextFault part bytes fault) → IsSome found → SpellsText part bytes → ⊥
 unspelled part bytes None m some s = absurd (false≢true some)
 unspelled part bytes (Some fault) m some s = unspelled_at part bytes fault m s
-
-pub terminals_map : (xs : List Token) → map (λ (x : Token). terminal_of x.kind x.text.now) xs ≡ terminals_of (map lexeme_of xs)
-terminals_map [] = refl
-terminals_map (x ∷ xs) = ap (λ (ts : List Terminal). terminal_of x.kind x.text.now ∷ ts) (terminals_map xs)
-
-pub place_of : (xs : List Token) (i : ℕ) (d : Token) → i < length xs → IsPlaceAt (map lexeme_of xs) i (get_or xs i d).place
-place_of [] i d h = absurd (omega arith)
-place_of (x ∷ xs) zero d h = record { lexeme = lexeme_of x; stands = refl; at = refl }
-place_of (x ∷ xs) (suc i) d h = let more : IsPlaceAt (map lexeme_of xs) i (get_or xs i d).place = place_of xs i d (omega arith) in record { lexeme = more.lexeme; stands = more.stands; at = more.at }
-
-pub fault_lexeme : (part : Nonterminal) (ls : List Lexeme) (ts : List Terminal) (index : ℕ) (refusal : Refusal) (place : Place) → ts ≡ terminals_of ls → IsFirstFault part ts index refusal → IsPlaceAt ls index place → IsLexemeFault part ls (fault_of refusal place)
-fault_lexeme part ls ts index refusals.Syntax place e f p = record { index = index; first = subst (λ (x : List Terminal). IsFirstFault part x index refusals.Syntax) e f; placed = p }
-fault_lexeme part ls ts index refusals.TooDeep place e f p = record { index = index; first = subst (λ (x : List Terminal). IsFirstFault part x index refusals.TooDeep) e f; placed = p }
 
 text_of : (part : Nonterminal) (bytes : List ℕ) (fault : TextFault) → IsUtf8 bytes → IsLexemeFault part (tokens_of bytes) fault → IsTextFault part bytes fault
 text_of part bytes (faults.NotUtf8 place) utf8 f = absurd f
@@ -94,10 +77,3 @@ text_of part bytes (faults.TooDeep place) utf8 f = (utf8, f)
 pub found_text : (part : Nonterminal) (bytes : List ℕ) (ls : List Lexeme) (found : Option TextFault) → is_text part ≡ true → IsUtf8 bytes → ls ≡ tokens_of bytes → MatchOption found (Begins nesting_limit part (terminals_of ls)) (λ fault. IsLexemeFault part ls fault) → MatchOption found (SpellsText part bytes) (λ fault. IsTextFault part bytes fault)
 found_text part bytes ls None h utf8 e g = spelled part bytes h utf8 (subst (λ (x : List Lexeme). Begins nesting_limit part (terminals_of x)) e g)
 found_text part bytes ls (Some fault) h utf8 e f = text_of part bytes fault utf8 (subst (λ (x : List Lexeme). IsLexemeFault part x fault) e f)
-
--- the terminals of the tokens are what was read
-pub read_front : (part : Nonterminal) (xs : List Token) (ks ts : List Terminal) → ks ≡ map (λ (x : Token). terminal_of x.kind x.text.now) xs → ts ≡ ks → Begins nesting_limit part ts → Begins nesting_limit part (terminals_of (map lexeme_of xs))
-read_front part xs ks ts e f g = subst (Begins nesting_limit part) (f ∙ e ∙ terminals_map xs) g
-
-pub read_fault : (part : Nonterminal) (xs : List Token) (ks ts : List Terminal) (index : ℕ) (refusal : Refusal) (place : Place) → ks ≡ map (λ (x : Token). terminal_of x.kind x.text.now) xs → ts ≡ ks → IsFirstFault part ts index refusal → IsPlaceAt (map lexeme_of xs) index place → IsLexemeFault part (map lexeme_of xs) (fault_of refusal place)
-read_fault part xs ks ts index refusal place e f g p = fault_lexeme part (map lexeme_of xs) ts index refusal place (f ∙ e ∙ terminals_map xs) g p

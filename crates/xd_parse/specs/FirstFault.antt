@@ -1,7 +1,5 @@
 -- The first token that no text goes on with.
 use Rattle.std.specs.Prelude.{◌≡◌, ◌<◌, ◌+◌, ℕ, List, [], ◌∷◌, length, take}
-use Rattle.xd_parse.specs.declared.fault.Refusal.{Refusal}
-use Rattle.xd_parse.specs.declared.fault.Refusal.TheVariants as refusals
 use Rattle.xd_parse.specs.declared.grammar.Nonterminal.{Nonterminal}
 use Rattle.xd_parse.specs.declared.grammar.Symbol.{Symbol}
 use Rattle.xd_parse.specs.declared.grammar.Symbol.TheVariants.{Part}
@@ -11,10 +9,16 @@ use Rattle.xd_parse.specs.declared.machine.Reading.TheVariants.{Plain}
 use Rattle.xd_parse.specs.Grammar.{Begins}
 use Rattle.xd_syntax.specs.Shallow.{nesting_limit}
 
+-- Why no text within the limit of nesting goes on with a token: none begins with the tokens up to this one, or the token
+-- opens more levels than may be open.
+pub data Refusal : Type 0 where
+  no_text : Refusal
+  too_deep : Refusal
+
 -- The token n is the first that no text goes on with: without a limit of nesting, or else within it.
 abbrev pub IsRefusedAt : Nonterminal → List Terminal → ℕ → Refusal → Type 0
-IsRefusedAt part ts n refusals.Syntax = (limit : ℕ) → ¬ (Begins limit part (take (n + 1) ts))
-IsRefusedAt part ts n refusals.TooDeep = ¬ (Begins nesting_limit part (take (n + 1) ts)) × ((limit : ℕ) × Begins limit part (take (n + 1) ts))
+IsRefusedAt part ts n no_text = (limit : ℕ) → ¬ (Begins limit part (take (n + 1) ts))
+IsRefusedAt part ts n too_deep = ¬ (Begins nesting_limit part (take (n + 1) ts)) × ((limit : ℕ) × Begins limit part (take (n + 1) ts))
 
 pub record IsFirstFault (part : Nonterminal) (ts : List Terminal) (n : ℕ) (refusal : Refusal) : Type 0 where
   pub within : n < length ts

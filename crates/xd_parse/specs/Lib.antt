@@ -11,6 +11,7 @@ pub mod Means
 pub mod Laws
 pub mod Erasing
 pub mod Reading
+pub mod Lookahead
 pub mod Pieces
 pub mod Nodes
 pub mod Grows

@@ -5,8 +5,6 @@ use Rattle.xd_base.specs.declared.Place.{Place}
 use Rattle.xd_lex.specs.declared.Kind.{Kind}
 use Rattle.xd_lex.specs.declared.Kind.TheVariants as kinds
 use Rattle.xd_lex.specs.Tokens.{Lexeme, tokens_of, IsNotUtf8At}
-use Rattle.xd_parse.specs.declared.fault.Refusal.{Refusal}
-use Rattle.xd_parse.specs.declared.fault.Refusal.TheVariants as refusals
 use Rattle.xd_parse.specs.declared.grammar.Nonterminal.{Nonterminal}
 use Rattle.xd_parse.specs.declared.grammar.Nonterminal.TheVariants as n
 use Rattle.xd_parse.specs.declared.grammar.Terminal.{Terminal}
@@ -14,7 +12,7 @@ use Rattle.xd_parse.specs.declared.grammar.Terminal.TheVariants as t
 use Rattle.xd_parse.specs.declared.text.TextFault.{TextFault}
 use Rattle.xd_parse.specs.declared.text.TextFault.TheVariants as faults
 use Rattle.xd_parse.specs.Grammar.{Spells}
-use Rattle.xd_parse.specs.FirstFault.{IsFirstFault}
+use Rattle.xd_parse.specs.FirstFault.{Refusal, no_text, too_deep, IsFirstFault}
 use Rattle.xd_syntax.specs.Shallow.{nesting_limit}
 
 -- a keyword is a terminal of its own
@@ -85,14 +83,10 @@ pub record IsFaultAt (part : Nonterminal) (ls : List Lexeme) (refusal : Refusal)
   pub first : IsFirstFault part (terminals_of ls) index refusal
   pub placed : IsPlaceAt ls index place
 
-abbrev pub fault_of : Refusal → Place → TextFault
-fault_of refusals.Syntax place = faults.Syntax place
-fault_of refusals.TooDeep place = faults.TooDeep place
-
 abbrev pub IsLexemeFault : Nonterminal → List Lexeme → TextFault → Type 0
 IsLexemeFault part ls (faults.NotUtf8 place) = ⊥
-IsLexemeFault part ls (faults.Syntax place) = IsFaultAt part ls refusals.Syntax place
-IsLexemeFault part ls (faults.TooDeep place) = IsFaultAt part ls refusals.TooDeep place
+IsLexemeFault part ls (faults.Syntax place) = IsFaultAt part ls no_text place
+IsLexemeFault part ls (faults.TooDeep place) = IsFaultAt part ls too_deep place
 
 abbrev pub IsTextFault : Nonterminal → List ℕ → TextFault → Type 0
 IsTextFault part bytes (faults.NotUtf8 place) = IsNotUtf8At bytes place

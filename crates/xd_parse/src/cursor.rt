@@ -1,13 +1,14 @@
 //! The tokens that are left.
 
-ghost use Rattle.std.specs.Prelude.{All, ◌≡◌, ◌-◌, false, true, map, take, length, IfOk};
-ghost use Rattle.xd_lex.specs.Tokens.{lexeme_of};
+ghost use Rattle.std.specs.Prelude.{◌≡◌, ◌-◌, ◌<◌, ◌∷◌, [], false, true, take, length, IfOk};
+ghost use Rattle.xd_lex.specs.Tokens.{is_last, lexeme_of};
 ghost use Rattle.xd_lex.specs.Spelled.{IsSpelling, unescaped};
 ghost use Rattle.xd_lex.specs.declared.Kind.TheVariants as kinds;
 ghost use Rattle.xd_syntax.specs.Words.{has_word, keywords};
 ghost use Rattle.xd_parse.specs.declared.grammar.Terminal.TheVariants as terminals;
 ghost use Rattle.xd_doc.specs.Word.{is_word};
 ghost use Rattle.xd_parse.specs.Fits.{same};
+ghost use Rattle.xd_parse.specs.Lookahead.{IsAhead, IsInFront, lexemes_left};
 ghost use Rattle.xd_parse.specs.Reading.{SpellNo, behind, element_row, front_place, front_terminal, front_text, group_row};
 
 use crate::grammar::{Sort, Terminal};
@@ -17,7 +18,7 @@ use std::alloc::Global;
 use std::marker::Model;
 use xd_base::Place;
 use xd_doc::{Label, NoMemory, Text};
-use xd_lex::{Kind, Token, unescape};
+use xd_lex::{Kind, Lexer, Token, unescape};
 
 /// A word and its place.
 #[derive(Drop)]
@@ -33,38 +34,76 @@ pub struct Quoted {
     pub place: Place,
 }
 
-/// The tokens that are left of a text.
+/// A token, and what it is to the grammar.
+#[derive(Clone, Copy)]
+struct Lookahead<'a> {
+    terminal: Terminal,
+    token: Token<'a>,
+}
+
+/// Takes the next token of a lexer.
+fn take_next<'a>(lexer: &mut Lexer<'a>) -> Lookahead<'a>
+    requires { 0 < length lexer.old }
+    ensures tokens { lexer.old ≡ lexeme_of result.token ∷ lexer.new }
+    ensures ahead { IsAhead result lexer.new }
+{
+    let token = lexer.next_token();
+    Lookahead {
+        terminal: terminal(token.kind, token.text),
+        token,
+    }
+}
+
+/// Takes the token behind one of this kind, if one is left.
+fn take_behind<'a>(kind: Kind, lexer: &mut Lexer<'a>) -> Option<Lookahead<'a>>
+    requires last { is_last kind ≡ true → lexer.old ≡ [] }
+    requires more { is_last kind ≡ false → 0 < length lexer.old }
+    ensures tokens { lexemes_left result lexer.new ≡ lexer.old }
+    ensures front { IsInFront result lexer.new }
+{
+    if kind.is_last() {
+        return None;
+    }
+    Some(take_next(lexer))
+}
+
+/// The tokens that are left of a text: the next one, and a lexer that has those behind it.
 #[derive(Drop)]
 pub struct Cursor<'a> {
-    left: &'a [Token<'a>],
+    next: Option<Lookahead<'a>>,
+    lexer: Lexer<'a>,
 }
 
 impl<'a> Model for Cursor<'a> {
-    ghost use Rattle.std.specs.Prelude.{All, List, map};
-    ghost use Rattle.xd_lex.specs.Tokens.{Lexeme, lexeme_of};
-    ghost use Rattle.xd_lex.specs.Spelled.{IsSpelling};
+    ghost use Rattle.std.specs.Prelude.{List};
+    ghost use Rattle.xd_lex.specs.Tokens.{Lexeme};
+    ghost use Rattle.xd_parse.specs.Lookahead.{IsInFront, lexemes_left};
 
     ghost Value = { List Lexeme };
 
-    ghost view = { λ c. map lexeme_of c.left.now };
+    ghost view = { λ c. lexemes_left c.next c.lexer };
 
-    ghost invariant = { λ c. All (λ token. IsSpelling token.kind token.text.now) c.left.now };
+    ghost invariant = { λ c. IsInFront c.next c.lexer };
 }
 
 impl<'a> Cursor<'a> {
-    pub fn new(tokens: &'a [Token<'a>]) -> Self
-        requires { All (λ token. IsSpelling token.kind token.text.now) tokens.now }
-        ensures { result ≡ map lexeme_of tokens.now }
+    pub fn new(mut lexer: Lexer<'a>) -> Self
+        requires { 0 < length lexer }
+        ensures { result ≡ lexer.entry }
     {
-        Self { left: tokens }
+        let next = take_next(&mut lexer);
+        Self {
+            next: Some(next),
+            lexer,
+        }
     }
 
     /// What the next token is to the grammar; `Broken` where no token is left.
     pub fn peek(&self) -> Terminal
         ensures { result ≡ front_terminal self.now }
     {
-        match self.left.first() {
-            Some(token) => terminal(token.kind, token.text),
+        match self.next {
+            Some(ahead) => ahead.terminal,
             None => Terminal::Broken,
         }
     }
@@ -81,13 +120,12 @@ impl<'a> Cursor<'a> {
         ensures place { result ≡ front_place self.old }
         ensures left { self.new ≡ behind self.old }
     {
-        match self.left {
-            [token, left @ ..] => {
-                let place = token.place;
-                self.left = left;
-                place
+        match self.next {
+            Some(ahead) => {
+                self.next = take_behind(ahead.token.kind, &mut self.lexer);
+                ahead.token.place
             }
-            [] => Place { line: 1, column: 1 },
+            None => Place { line: 1, column: 1 },
         }
     }
 
@@ -111,9 +149,9 @@ impl<'a> Cursor<'a> {
         ensures plain { has_word keywords result.now ≡ false }
         ensures valid { is_word result.now ≡ true }
     {
-        match self.left.first() {
-            Some(token) => match terminal(token.kind, token.text) {
-                Terminal::Word => token.text,
+        match self.next {
+            Some(ahead) => match ahead.terminal {
+                Terminal::Word => ahead.token.text,
                 _ => "_",
             },
             None => "_",
@@ -129,7 +167,10 @@ impl<'a> Cursor<'a> {
         ensures listed { result ≡ true → SpellNo (group_row sort) self.now }
         ensures grouped { result ≡ false → SpellNo (element_row sort) self.now }
     {
-        let mut ahead = Cursor { left: self.left };
+        let mut ahead = Cursor {
+            next: self.next,
+            lexer: self.lexer.fork(),
+        };
         let mut reading = Reading::Opened(sort);
         ahead.step();
         'tokens: loop {
@@ -161,9 +202,9 @@ impl<'a> Cursor<'a> {
         ensures word { front_terminal self.now ≡ terminals.Label → result.now ≡ take (length (front_text self.now) - 1) (front_text self.now) }
         ensures valid { is_word result.now ≡ true }
     {
-        match self.left.first() {
-            Some(token) => match token.kind {
-                Kind::Label => label_word(token.text),
+        match self.next {
+            Some(ahead) => match ahead.token.kind {
+                Kind::Label => label_word(ahead.token.text),
                 _ => "_",
             },
             None => "_",
@@ -186,9 +227,9 @@ impl<'a> Cursor<'a> {
     fn unescaped_text(&self, alloc: Global) -> Result<Text, NoMemory>
         ensures { IfOk result (λ text. front_terminal self.now ≡ terminals.Text → text ≡ unescaped (front_text self.now)) }
     {
-        match self.left.first() {
-            Some(token) => match token.kind {
-                Kind::Text => unescape(alloc, token.text),
+        match self.next {
+            Some(ahead) => match ahead.token.kind {
+                Kind::Text => unescape(alloc, ahead.token.text),
                 _ => Text::new(alloc, ""),
             },
             None => Text::new(alloc, ""),

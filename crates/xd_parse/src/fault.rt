@@ -1,31 +1,17 @@
 //! The first token that no text goes on with.
 
-ghost use Rattle.std.specs.Prelude.{IfOk, MatchOption};
+ghost use Rattle.std.specs.Prelude.{◌<◌, length, IfOk, MatchOption};
 ghost use Rattle.xd_parse.specs.Grammar.{Begins};
-ghost use Rattle.xd_parse.specs.FirstFault.{IsFirstFault, IsStart};
+ghost use Rattle.xd_parse.specs.FirstFault.{IsStart};
+ghost use Rattle.xd_parse.specs.Text.{IsLexemeFault, terminals_of};
 ghost use Rattle.xd_syntax.specs.Shallow.{nesting_limit};
 
-use crate::grammar::{Nonterminal, Symbol, Terminal};
+use crate::grammar::{Nonterminal, Symbol};
 use crate::machine::{Machine, Reading, Step, advance};
+use crate::text::{TextFault, terminal};
 use std::alloc::Global;
 use xd_doc::NoMemory;
-
-/// Why no text within the limit of nesting goes on with a token.
-#[derive(Clone, Copy, Debug, PartialEq, Eq)]
-pub enum Refusal {
-    /// No text begins with the tokens up to this one.
-    Syntax,
-    /// The token opens more levels of nesting than may be open.
-    TooDeep,
-}
-
-/// A token that no text goes on with.
-#[derive(Clone, Copy, Debug, PartialEq, Eq)]
-pub(crate) struct FirstFault {
-    /// The token's position in the list.
-    pub index: usize,
-    pub refusal: Refusal,
-}
+use xd_lex::Lexer;
 
 fn start(alloc: Global, part: Nonterminal) -> Result<Machine, NoMemory>
     ensures { IfOk result (λ machine. IsStart part machine.reading machine.depth machine.stack.items) }
@@ -39,27 +25,25 @@ fn start(alloc: Global, part: Nonterminal) -> Result<Machine, NoMemory>
     })
 }
 
-/// The first of the tokens that no text of this nonterminal goes on with.
+/// The fault at the first of the lexer's tokens that no text of this nonterminal goes on with.
 pub(crate) fn first_fault(
     alloc: Global,
     part: Nonterminal,
-    tokens: &[Terminal],
-) -> Result<Option<FirstFault>, NoMemory>
-    ensures { IfOk result (λ found. MatchOption found (Begins nesting_limit part tokens.now) (λ fault. IsFirstFault part tokens.now fault.index fault.refusal)) }
+    mut lexer: Lexer<'_>,
+) -> Result<Option<TextFault>, NoMemory>
+    requires { 0 < length lexer }
+    ensures { IfOk result (λ found. MatchOption found (Begins nesting_limit part (terminals_of lexer.entry)) (IsLexemeFault part lexer.entry)) }
 {
     let mut machine = start(alloc, part)?;
-    for (i, token) in tokens.iter().enumerate() {
-        match advance(&mut machine, *token)? {
+    'tokens: loop {
+        let token = lexer.next_token();
+        match advance(&mut machine, terminal(token.kind, token.text))? {
             Step::Next(reading) => machine.reading = reading,
-            Step::Syntax => return Ok(Some(FirstFault {
-                index: i,
-                refusal: Refusal::Syntax,
-            })),
-            Step::TooDeep => return Ok(Some(FirstFault {
-                index: i,
-                refusal: Refusal::TooDeep,
-            })),
+            Step::Syntax => return Ok(Some(TextFault::Syntax(token.place))),
+            Step::TooDeep => return Ok(Some(TextFault::TooDeep(token.place))),
+        }
+        if token.kind.is_last() {
+            return Ok(None);
         }
     }
-    Ok(None)
 }

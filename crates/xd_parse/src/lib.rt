@@ -19,7 +19,6 @@ mod text;
 mod trees;
 mod types;
 
-pub use fault::Refusal;
 pub use grammar::{Nonterminal, Sort, Symbol, Terminal};
 pub use parse::{ParseError, parse_program, parse_type};
 pub use text::TextFault;

@@ -8,6 +8,7 @@ ghost use Rattle.xd_parse.specs.Fits.{same, fits, first_fit, work};
 ghost use Rattle.xd_parse.specs.Grammar.{rules};
 ghost use Rattle.xd_parse.specs.Machine.{main_row, listed_row, course, group_of, Shifts, TurnsOr, Advances, entered, is_keyword, at_name};
 ghost use Rattle.xd_parse.specs.Rows.{rows_now};
+ghost use Rattle.xd_parse.specs.declared.machine.Reading.TheVariants as readings;
 
 use crate::grammar::{Nonterminal, Sort, Symbol, Terminal, rules};
 use xd_doc::NoMemory;
@@ -289,49 +290,41 @@ fn push_main(stack: &mut Vec<Symbol>, reading: Reading) -> Result<(), NoMemory>
     }
 }
 
+/// Puts on the stack what is to come behind one of the words of a class.
+fn push_more_names(stack: &mut Vec<Symbol>, sort: Sort) -> Result<(), NoMemory>
+    ensures { OnOk result (reverse stack.new.items ≡ listed_row (readings.Named sort) ++ reverse stack.old.items) }
+{
+    push_row(
+        stack,
+        &[
+            Symbol::Part(Nonterminal::MoreNames),
+            Symbol::Token(Terminal::ParenR),
+            Symbol::Closed,
+            Symbol::Opening(Terminal::BracketL),
+            Symbol::Part(Nonterminal::Content(sort)),
+        ],
+    )
+}
+
 /// Puts on the stack what is to come where the parentheses hold the labels of a class.
 fn push_listed(stack: &mut Vec<Symbol>, reading: Reading) -> Result<(), NoMemory>
     ensures { OnOk result (reverse stack.new.items ≡ listed_row reading ++ reverse stack.old.items) }
 {
     match reading {
         Reading::Plain => Ok(()),
-        Reading::Opened(sort) | Reading::Barred(sort) => push_row(
-            stack,
-            &[
-                Symbol::Part(Nonterminal::AnyWord),
-                Symbol::Part(Nonterminal::MoreNames),
-                Symbol::Token(Terminal::ParenR),
-                Symbol::Closed,
-                Symbol::Opening(Terminal::BracketL),
-                Symbol::Part(Nonterminal::Content(sort)),
-            ],
-        ),
-        Reading::Named(sort) => push_row(
-            stack,
-            &[
-                Symbol::Part(Nonterminal::MoreNames),
-                Symbol::Token(Terminal::ParenR),
-                Symbol::Closed,
-                Symbol::Opening(Terminal::BracketL),
-                Symbol::Part(Nonterminal::Content(sort)),
-            ],
-        ),
+        Reading::Opened(sort) | Reading::Barred(sort) => {
+            push_more_names(stack, sort)?;
+            stack.push(Symbol::Part(Nonterminal::AnyWord))?;
+            Ok(())
+        }
+        Reading::Named(sort) => push_more_names(stack, sort),
+        Reading::AfterVal => push_more_names(stack, Sort::Pattern),
         Reading::Shut(sort) => push_row(
             stack,
             &[
                 Symbol::Closed,
                 Symbol::Opening(Terminal::BracketL),
                 Symbol::Part(Nonterminal::Content(sort)),
-            ],
-        ),
-        Reading::AfterVal => push_row(
-            stack,
-            &[
-                Symbol::Part(Nonterminal::MoreNames),
-                Symbol::Token(Terminal::ParenR),
-                Symbol::Closed,
-                Symbol::Opening(Terminal::BracketL),
-                Symbol::Part(Nonterminal::Content(Sort::Pattern)),
             ],
         ),
     }

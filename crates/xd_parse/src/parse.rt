@@ -1,8 +1,7 @@
 //! Programs and types from bytes.
 
-ghost use Rattle.std.specs.Prelude.{◌≡◌, All, Some, true, map, IfOk, IfErr, OnErr};
-ghost use Rattle.xd_lex.specs.Tokens.{lexeme_of, tokens_of};
-ghost use Rattle.xd_lex.specs.Spelled.{IsSpelling};
+ghost use Rattle.std.specs.Prelude.{◌≡◌, Some, true, IfOk, IfErr, OnErr};
+ghost use Rattle.xd_lex.specs.Tokens.{tokens_of};
 ghost use Rattle.xd_syntax.specs.Placed.{placed_at};
 ghost use Rattle.xd_syntax.specs.Table.{KeepsRows};
 ghost use Rattle.xd_syntax.specs.Types.{BelongsTo};
@@ -17,12 +16,13 @@ ghost use Rattle.xd_parse.specs.ParseErrors.{IsParseError, IsFault};
 
 use crate::cursor::Cursor;
 use crate::definitions::read_definitions;
+use crate::fault::first_fault;
 use crate::grammar::Nonterminal;
-use crate::text::{TextFault, placed_fault};
+use crate::text::TextFault;
 use crate::types::read_type;
 use std::alloc::Global;
 use xd_doc::NoMemory;
-use xd_lex::{LexError, Token, tokens};
+use xd_lex::Lexer;
 use xd_syntax::{Fault, FaultKind, Program, TypeId, Types};
 
 /// Why no program, or no type, was read.
@@ -61,24 +61,22 @@ fn spelled_tokens<'a>(
     alloc: Global,
     part: Nonterminal,
     bytes: &'a [u8],
-) -> Result<Vec<Token<'a>>, ParseError>
+) -> Result<Cursor<'a>, ParseError>
     requires { is_text part ≡ true }
-    ensures tokens { IfOk result (λ all. map lexeme_of all.items ≡ tokens_of bytes.now) }
-    ensures spelled { IfOk result (λ all. All (λ token. IsSpelling token.kind token.text.now) all.items) }
-    ensures spells { IfOk result (λ all. SpellsText part bytes.now) }
+    ensures tokens { IfOk result (λ cursor. cursor ≡ tokens_of bytes.now) }
+    ensures spells { IfOk result (λ cursor. SpellsText part bytes.now) }
     ensures fault { IfErr result (IsParseError part bytes.now) }
     ensures unspelled { IfErr result (λ e. IsFault e → ¬ (SpellsText part bytes.now)) }
 {
-    let all = match tokens(alloc, bytes) {
-        Ok(all) => all,
-        Err(LexError::NotUtf8(place)) => {
-            let fault = reported(TextFault::NotUtf8(place));
+    let lexer = match Lexer::new(bytes) {
+        Ok(lexer) => lexer,
+        Err(e) => {
+            let fault = reported(TextFault::NotUtf8(e.place));
             return Err(ParseError::Fault(fault));
         }
-        Err(LexError::NoMemory) => return Err(ParseError::NoMemory),
     };
-    match placed_fault(alloc, part, all.as_slice())? {
-        None => Ok(all),
+    match first_fault(alloc, part, lexer.fork())? {
+        None => Ok(Cursor::new(lexer)),
         Some(found) => Err(ParseError::Fault(reported(found))),
     }
 }
@@ -91,8 +89,7 @@ pub fn parse_program(alloc: Global, bytes: &[u8]) -> Result<Program, ParseError>
     ensures fault { IfErr result (IsParseError nonterminals.Definitions bytes.now) }
     ensures unspelled { IfErr result (λ e. IsFault e → ¬ (SpellsText nonterminals.Definitions bytes.now)) }
 {
-    let all = spelled_tokens(alloc, Nonterminal::Definitions, bytes)?;
-    let mut cursor = Cursor::new(all.as_slice());
+    let mut cursor = spelled_tokens(alloc, Nonterminal::Definitions, bytes)?;
     let program = read_definitions(alloc, &mut cursor)?;
     Ok(program)
 }
@@ -108,8 +105,7 @@ pub fn parse_type(alloc: Global, types: &mut Types, bytes: &[u8]) -> Result<Type
     ensures fault { IfErr result (IsParseError nonterminals.TypeText bytes.now) }
     ensures unspelled { IfErr result (λ e. IsFault e → ¬ (SpellsText nonterminals.TypeText bytes.now)) }
 {
-    let all = spelled_tokens(alloc, Nonterminal::TypeText, bytes)?;
-    let mut cursor = Cursor::new(all.as_slice());
+    let mut cursor = spelled_tokens(alloc, Nonterminal::TypeText, bytes)?;
     let len = types.len();
     match read_type(alloc, &mut cursor, types) {
         Ok(id) => Ok(id),

@@ -1,17 +1,11 @@
-//! The fault of tokens.
+//! What tokens are to the grammar, and what may be wrong with a text.
 
-ghost use Rattle.std.specs.Prelude.{◌≡◌, ◌<◌, length, map, IfOk, MatchOption};
-ghost use Rattle.xd_lex.specs.Tokens.{lexeme_of};
-ghost use Rattle.xd_parse.specs.Grammar.{Begins};
-ghost use Rattle.xd_parse.specs.Text.{word_terminal, terminal_of, terminals_of, IsPlaceAt, IsLexemeFault, fault_of};
-ghost use Rattle.xd_syntax.specs.Shallow.{nesting_limit};
+ghost use Rattle.std.specs.Prelude.{◌≡◌};
+ghost use Rattle.xd_parse.specs.Text.{word_terminal, terminal_of};
 
-use crate::fault::{Refusal, first_fault};
-use crate::grammar::{Nonterminal, Terminal};
-use std::alloc::Global;
+use crate::grammar::Terminal;
 use xd_base::Place;
-use xd_doc::NoMemory;
-use xd_lex::{Kind, Token};
+use xd_lex::Kind;
 
 /// Why a text is no program, or no type, and where.
 #[derive(Clone, Copy, Debug, PartialEq, Eq)]
@@ -69,49 +63,5 @@ pub(crate) fn terminal(kind: Kind, text: &str) -> Terminal
         Kind::Arrow => Terminal::Arrow,
         Kind::End => Terminal::End,
         Kind::Broken(_) => Terminal::Broken,
-    }
-}
-
-/// The fault at this token.
-fn fault_at(refusal: Refusal, place: Place) -> TextFault
-    ensures { result ≡ fault_of refusal place }
-{
-    match refusal {
-        Refusal::Syntax => TextFault::Syntax(place),
-        Refusal::TooDeep => TextFault::TooDeep(place),
-    }
-}
-
-/// The terminals of tokens.
-fn terminals(alloc: Global, all: &[Token]) -> Result<Vec<Terminal>, NoMemory>
-    ensures { IfOk result (λ made. made.items ≡ map (λ t. terminal_of t.kind t.text.now) all.now) }
-{
-    let made = all.iter().map(|t| terminal(t.kind, t.text)).collect(alloc)?;
-    Ok(made)
-}
-
-/// The place of a token.
-fn place_at(all: &[Token], index: usize) -> Place
-    requires { index < length all.now }
-    ensures { IsPlaceAt (map lexeme_of all.now) index result }
-{
-    all[index].place
-}
-
-/// The first fault of tokens, and its place.
-pub(crate) fn placed_fault(
-    alloc: Global,
-    part: Nonterminal,
-    all: &[Token],
-) -> Result<Option<TextFault>, NoMemory>
-    ensures { IfOk result (λ found. MatchOption found (Begins nesting_limit part (terminals_of (map lexeme_of all.now))) (λ fault. IsLexemeFault part (map lexeme_of all.now) fault)) }
-{
-    let kinds = terminals(alloc, all)?;
-    match first_fault(alloc, part, kinds.as_slice())? {
-        None => Ok(None),
-        Some(fault) => {
-            let place = place_at(all, fault.index);
-            Ok(Some(fault_at(fault.refusal, place)))
-        }
     }
 }

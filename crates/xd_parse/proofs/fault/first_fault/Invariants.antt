@@ -1,6 +1,12 @@
-use Rattle.std.proofs.Common.{take, reverse}
-use Rattle.xd_parse.proofs.Stands.{Stands}
+use Rattle.std.proofs.Common.{◌<◌, length, reverse}
+use Rattle.xd_parse.proofs.Stands.{ReadsTo}
 use Rattle.xd_parse.proofs.fault.first_fault.Given as goal
 
-abbrev pub invariant-loop-i : goal.invariant-loop-i
-invariant-loop-i l = Stands l.fn.part (take l.i l.tokens) l.machine.reading l.machine.depth (reverse l.machine.stack.items)
+abbrev pub invariant-tokens : goal.invariant-tokens
+invariant-tokens l = record {
+  reads : ReadsTo l.fn.part l.fn.lexer l.lexer l.machine.reading l.machine.depth (reverse l.machine.stack.items);
+  more : 0 < length l.lexer;
+}
+
+abbrev pub decreases-tokens : goal.decreases-tokens
+decreases-tokens l = length l.lexer

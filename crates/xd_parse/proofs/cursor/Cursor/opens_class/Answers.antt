@@ -1,10 +1,14 @@
-use Rattle.std.proofs.Common.{sym, ap, ◌∙◌}
+use Rattle.std.proofs.Common.{◌≡◌, sym, ap, ◌∙◌}
+use Rattle.xd_parse.specs.Lookahead.{lexemes_left}
+use Rattle.xd_parse.specs.Reading.{behind}
 use Rattle.xd_parse.specs.Machine.{course}
 use Rattle.xd_parse.proofs.Ahead.{readings_begin, readings_go, both_shorter, main_alone, listed_alone}
 use Rattle.xd_parse.proofs.cursor.Cursor.opens_class.Goals as goal
 
 pub tokens-init : goal.tokens-init
-tokens-init c = rw (c.step.ensures.left, c.self.view_is) (readings_begin c.args.sort c.args.self.now c.requires)
+tokens-init c =
+    let same : lexemes_left c.self.inside.next c.fork.result ≡ c.args.self.now = ap (lexemes_left c.self.inside.next) c.fork.ensures ∙ c.self.view_is in
+    rw (c.step.ensures.left ∙ ap behind same) (readings_begin c.args.sort c.args.self.now c.requires)
 
 pub tokens-preserved : goal.tokens-preserved
 tokens-preserved c =
