@@ -3,9 +3,10 @@ use Rattle.std.proofs.Common.{◌≡◌, ◌≢◌, ℕ, suc, ◌+◌, ◌<◌, 
 use Rattle.std.specs.Prelude.{◌==◌, ◌||◌, slice_index}
 use Rattle.std.specs.List.{AllByRecursion}
 use Rattle.xd_base.specs.declared.Place.{Place}
+use Rattle.xd_lex.specs.declared.Kind.{Kind}
 use Rattle.xd_lex.specs.declared.Kind.TheVariants as kinds
 use Rattle.xd_lex.specs.Tokens.{past}
-use Rattle.xd_lex.proofs.Symbols.{EndsWord, paren_l, paren_r, comma, bar, star, plus, query}
+use Rattle.xd_lex.proofs.Symbols.{IsToken, EndsWord, paren_l, paren_r, comma, bar, star, plus, query}
 use Rattle.xd_syntax.specs.Tree.{Tree, Empty, Seq, Alt, Star, Plus, Opt, seq_of, alt_of, is_empty, is_seq, is_alt}
 use Rattle.xd_syntax.specs.Placed.{PlacedTree, unplaced, place_of, placed_seq, placed_alt}
 use Rattle.xd_syntax.specs.Placed as placed
@@ -17,7 +18,9 @@ use Rattle.xd_parse.specs.declared.grammar.Terminal.{Terminal}
 use Rattle.xd_parse.specs.declared.grammar.Terminal.TheVariants as t
 use Rattle.xd_parse.specs.Fits.{same}
 use Rattle.xd_parse.specs.Merged.{parts_of_seq, parts_of_alt, merged_seq, sequence, alternative}
-use Rattle.xd_parse.specs.Values.{absent, a_tree, trees}
+use Rattle.xd_parse.specs.Grammar.{rules, IsOneOf}
+use Rattle.xd_parse.specs.Text.{terminal_of}
+use Rattle.xd_parse.specs.Values.{Value, absent, a_tree, token_of, trees, value_of}
 use Rattle.xd_type_laws.proofs.Building.{Reads, read_end, read_token, read_opening, read_closed, read_alone, read_then, read_unless, same_bytes, Starts, starts_token}
 
 -- ---- what may stand behind
@@ -164,50 +167,36 @@ pub longer : (s r : List ℕ) → 0 < length s → 0 < length (s ++ r)
 longer [] r h = absurd (omega (arith, h))
 longer (c ∷ cs) r h = omega arith
 
-pub with_star : (s : List ℕ) (T : Tree) (k : ℕ) → Spells prim behind_prim s T k → Spells post behind_post (s ++ 42 ∷ []) (Star T) k
-with_star s T k a = record {
-  some = longer s (42 ∷ []) a.some;
-  front = front_kept s (42 ∷ []) a.some a.front;
+-- what is read of a part and its operator is this type at a place
+abbrev IsOperator : Terminal → List ℕ → (Tree → Tree) → Type 0
+IsOperator mark x op = (V : PlacedTree) (p : Place) → (U : PlacedTree) × (unplaced U ≡ op (unplaced V)) × (value_of post (a_tree V ∷ (value_of n.Operator (token_of mark x p ∷ []) ∷ [])) ≡ a_tree U)
+
+with_operator : (byte : ℕ) (kind : Kind) (mark : Terminal) (op : Tree → Tree) → ((rest : List ℕ) → IsToken kind (byte ∷ []) rest) → terminal_of kind (byte ∷ []) ≡ mark → behind_prim mark ≡ true → ((rest : List ℕ) → EndsWord (byte ∷ rest)) →
+    IsOneOf (Token mark ∷ []) (rules n.Operator) → IsOperator mark (byte ∷ []) op → (s : List ℕ) (T : Tree) (k : ℕ) → Spells prim behind_prim s T k → Spells post behind_post (s ++ byte ∷ []) (op T) k
+with_operator byte kind mark op token is may ends one made s T k a = record {
+  some = longer s (byte ∷ []) a.some;
+  front = front_kept s (byte ∷ []) a.some a.front;
   read = λ l d p rest h f.
-      let r = a.read l d p (42 ∷ rest) h (record { terminal = t.Star; starts = starts_token kinds.Star t.Star (42 ∷ []) rest (star rest) refl; may = refl; ends = record { no_part = refl; no_bracket = refl } }) in (
-        placed.Star_at (place_of r.0) r.0,
-        ap Star r.1,
-        read_alone l d d post (Part prim ∷ Part n.Operator ∷ []) p (s ++ 42 ∷ []) rest _ (inl refl)
-            (read_then l d d d prim (Part n.Operator ∷ []) p s (42 ∷ []) rest (a_tree r.0) _ r.2
-            (read_alone l d d n.Operator (Token t.Star ∷ []) (past p s) (42 ∷ []) rest _ (inl refl)
-            (read_token l d d [] (past p s) kinds.Star t.Star (42 ∷ []) [] rest [] (star rest) refl (read_end l d _ rest)))),
+      let r = a.read l d p (byte ∷ rest) h (record { terminal = mark; starts = starts_token kind mark (byte ∷ []) rest (token rest) is; may = may; ends = ends rest }) in
+      let m = made r.0 (past p s) in (
+        m.0,
+        m.1 ∙ ap op r.1,
+        subst (λ (v : Value). Reads l d (Part post ∷ []) d p (s ++ byte ∷ []) rest (v ∷ [])) m.2
+            (read_alone l d d post (Part prim ∷ Part n.Operator ∷ []) p (s ++ byte ∷ []) rest _ (inl refl)
+            (read_then l d d d prim (Part n.Operator ∷ []) p s (byte ∷ []) rest (a_tree r.0) _ r.2
+            (read_alone l d d n.Operator (Token mark ∷ []) (past p s) (byte ∷ []) rest _ one
+            (read_token l d d [] (past p s) kind mark (byte ∷ []) [] rest [] (token rest) is (read_end l d _ rest))))),
       );
 }
+
+pub with_star : (s : List ℕ) (T : Tree) (k : ℕ) → Spells prim behind_prim s T k → Spells post behind_post (s ++ 42 ∷ []) (Star T) k
+with_star = with_operator 42 kinds.Star t.Star Star star refl refl (λ rest. record { no_part = refl; no_bracket = refl }) (inl refl) (λ V p. (placed.Star_at (place_of V) V, refl, refl))
 
 pub with_plus : (s : List ℕ) (T : Tree) (k : ℕ) → Spells prim behind_prim s T k → Spells post behind_post (s ++ 43 ∷ []) (Plus T) k
-with_plus s T k a = record {
-  some = longer s (43 ∷ []) a.some;
-  front = front_kept s (43 ∷ []) a.some a.front;
-  read = λ l d p rest h f.
-      let r = a.read l d p (43 ∷ rest) h (record { terminal = t.Plus; starts = starts_token kinds.Plus t.Plus (43 ∷ []) rest (plus rest) refl; may = refl; ends = record { no_part = refl; no_bracket = refl } }) in (
-        placed.Plus_at (place_of r.0) r.0,
-        ap Plus r.1,
-        read_alone l d d post (Part prim ∷ Part n.Operator ∷ []) p (s ++ 43 ∷ []) rest _ (inl refl)
-            (read_then l d d d prim (Part n.Operator ∷ []) p s (43 ∷ []) rest (a_tree r.0) _ r.2
-            (read_alone l d d n.Operator (Token t.Plus ∷ []) (past p s) (43 ∷ []) rest _ (inr (inl refl))
-            (read_token l d d [] (past p s) kinds.Plus t.Plus (43 ∷ []) [] rest [] (plus rest) refl (read_end l d _ rest)))),
-      );
-}
+with_plus = with_operator 43 kinds.Plus t.Plus Plus plus refl refl (λ rest. record { no_part = refl; no_bracket = refl }) (inr (inl refl)) (λ V p. (placed.Plus_at (place_of V) V, refl, refl))
 
 pub with_query : (s : List ℕ) (T : Tree) (k : ℕ) → Spells prim behind_prim s T k → Spells post behind_post (s ++ 63 ∷ []) (Opt T) k
-with_query s T k a = record {
-  some = longer s (63 ∷ []) a.some;
-  front = front_kept s (63 ∷ []) a.some a.front;
-  read = λ l d p rest h f.
-      let r = a.read l d p (63 ∷ rest) h (record { terminal = t.Query; starts = starts_token kinds.Query t.Query (63 ∷ []) rest (query rest) refl; may = refl; ends = record { no_part = refl; no_bracket = refl } }) in (
-        placed.Opt_at (place_of r.0) r.0,
-        ap Opt r.1,
-        read_alone l d d post (Part prim ∷ Part n.Operator ∷ []) p (s ++ 63 ∷ []) rest _ (inl refl)
-            (read_then l d d d prim (Part n.Operator ∷ []) p s (63 ∷ []) rest (a_tree r.0) _ r.2
-            (read_alone l d d n.Operator (Token t.Query ∷ []) (past p s) (63 ∷ []) rest _ (inr (inr (inl refl)))
-            (read_token l d d [] (past p s) kinds.Query t.Query (63 ∷ []) [] rest [] (query rest) refl (read_end l d _ rest)))),
-      );
-}
+with_query = with_operator 63 kinds.Query t.Query Opt query refl refl (λ rest. record { no_part = refl; no_bracket = refl }) (inr (inr (inl refl))) (λ V p. (placed.Opt_at (place_of V) V, refl, refl))
 
 -- ---- lists of parts and of branches
 cons_same : (T U : Tree) (Ts Us : List Tree) → T ≡ U → Ts ≡ Us → T ∷ Ts ≡ U ∷ Us
