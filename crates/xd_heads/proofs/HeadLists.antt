@@ -1,5 +1,7 @@
 -- Heads that were found, as types of a program that grows.
-use Rattle.std.proofs.Common.{◌≡◌, ◌≤◌, ◌<◌, ℕ, zero, suc, arith, false, get_or, Option, Some, None, List, [], ◌∷◌, ◌++◌, map, length, refl, ap, sym, subst, ◌∙◌}
+use Rattle.std.proofs.Common.{◌≡◌, ◌≤◌, ◌<◌, ℕ, zero, suc, arith, Bool, true, false, cond, nat_eq, get_or, Option, Some, None, List, [], ◌∷◌, ◌++◌, map, length, refl, ap, sym, subst, ◌∙◌}
+use Rattle.std.proofs.lemmas.Bool.{eqb-true}
+use Rattle.std.specs.HashMap.{HashMap, get}
 use Rattle.std.specs.List.{AllByRecursion}
 use Rattle.xd_syntax.specs.Tree.{Tree, Empty, Text, Words, Name, Elem, Seq, Alt, Star, Plus, Opt, Val, Definitions, seq_of}
 use Rattle.xd_syntax.specs.TypeText.{depth}
@@ -20,9 +22,11 @@ use Rattle.xd_continuations.proofs.Merging.{tree_merged}
 use Rattle.xd_continuations.proofs.MoveLemmas.{all_append, map_append, IsMove, pieces_stand, seq_of-pieces, moves_are_heads, moves_continue}
 use Rattle.xd_continuations.proofs.Deepening.{moves_no_deeper}
 use Rattle.xd_continuations.proofs.Reaching.{all_same}
-use Rattle.xd_heads.specs.Found.{continuation, move_of, move_at, AreOfTypes, AreMovesOf, IsFound}
+use Rattle.xd_continuations.specs.Chains.{KeepsLinks}
+use Rattle.xd_continuations.proofs.ChainLemmas.{kept_length, kept_list, kept_then, list_none}
+use Rattle.xd_heads.specs.Found.{continuation, piece_tree, move_of, move_at, AreOfTypes, AreMovesOf, IsFound}
 use Rattle.xd_heads.specs.Growing.{GrowsTypes}
-use Rattle.xd_heads.specs.HeadList.{kind_at, head_at, content_at, ContentBelongs, HeadBelongs, IsHeadAt, IsKindOf, IsHeadFound, AreHeadsFound}
+use Rattle.xd_heads.specs.HeadList.{kind_at, head_at, content_at, AreRestTypes, ContentBelongs, HeadBelongs, IsHeadAt, IsKindOf, IsHeadFound, AreHeadsFound}
 use Rattle.xd_heads.specs.declared.listing.HeadKind.{HeadKind as RustKind}
 use Rattle.xd_heads.specs.declared.listing.HeadKind.TheVariants.{Label, Text as Text_in}
 use Rattle.xd_heads.specs.Cells.{Cell}
@@ -93,6 +97,39 @@ module _ (p q : ProgramTable) (g : GrowsTypes p q) (cells : List Cell) (nodes : 
     shallow = λ s. subst (λ K. depth (seq_of K) ≤ nesting_limit) (sym (continuation_stays p.types q.types g.adds.types cells nodes f.rest))
         (i.shallow (shallow_before p.types q.types g.adds.types s));
   }
+
+-- ---- types of rests
+
+pub no_rest : (types : List Row) (cells : List Cell) → continuation types cells 0 ≡ []
+no_rest types cells = ap (map (piece_tree types)) (list_none cells)
+
+-- they stay right while the program gets more types
+pub rests_stay : {S : Type 0} (old new : List Row) → KeepsRows old new → (cells : List Cell) → AreOfTypes old cells → (rests : HashMap ℕ TypeId S) → AreRestTypes old cells rests → AreRestTypes new cells rests
+rests_stay old new k cells nodes rests r = record {
+  within = r.within;
+  right = λ n id e.
+      subst (λ K. IsTypeAt new (seq_of K) id) (sym (continuation_stays old new k cells nodes n)) (type_kept old new (seq_of (continuation old cells n)) id k (r.right n id e));
+}
+
+-- and while there are more cells
+pub rests_of_more : {S : Type 0} (types : List Row) (old new : List Cell) → KeepsLinks old new → (rests : HashMap ℕ TypeId S) → AreRestTypes types old rests → AreRestTypes types new rests
+rests_of_more types old new k rests r = record {
+  within = λ n id e. (let w = r.within n id e in let l = kept_length old new k in omega arith);
+  right = λ n id e. subst (λ ps. IsTypeAt types (seq_of (map (piece_tree types) ps)) id) (sym (kept_list old new k n (r.within n id e))) (r.right n id e);
+}
+
+-- one more is put in
+pub rests_put : {S : Type 0} (types : List Row) (cells : List Cell) (old new : HashMap ℕ TypeId S) (n : ℕ) (id : TypeId) → n ≤ length cells → IsTypeAt types (seq_of (continuation types cells n)) id →
+    ((q : ℕ) → get nat_eq new q ≡ cond (nat_eq n q) (Some id) (get nat_eq old q)) → AreRestTypes types cells old → AreRestTypes types cells new
+rests_put types cells old new n id w t u r = record { within = λ q j e. (go q j (nat_eq n q) refl (sym (u q) ∙ e)).0; right = λ q j e. (go q j (nat_eq n q) refl (sym (u q) ∙ e)).1 }
+  where
+    go : (q : ℕ) (j : TypeId) (b : Bool) → nat_eq n q ≡ b → cond b (Some id) (get nat_eq old q) ≡ Some j → (q ≤ length cells) × IsTypeAt types (seq_of (continuation types cells q)) j
+    go q j true e h =
+        let i : id ≡ j = cc in
+        subst (λ m. (m ≤ length cells) × IsTypeAt types (seq_of (continuation types cells m)) j) (eqb-true n q e) (w, subst (IsTypeAt types (seq_of (continuation types cells n))) i t)
+    go q j false e h = (r.within q j h, r.right q j h)
+
+-- ---- heads
 
 -- heads stay what they are
 pub heads_stay : (old new : List Row) → KeepsRows old new → (hs : List Head) → AllByRecursion (HeadBelongs old) hs → map (head_at new) hs ≡ map (head_at old) hs
@@ -177,15 +214,16 @@ module _ (p : ProgramTable) (stands : ProgramStands p) (built : AreBuilt false p
       )
 
   pub heads_found : (middle cells : List Cell) (number : ℕ) (found : List Found) → AreOfTypes p.types middle → continuation p.types middle number ≡ pieces T → AreMovesOf p.types p.type_defs middle cells number found →
-      AreHeadsFound p T cells found
+      (old : List Cell) → KeepsLinks old middle → AreHeadsFound p T old cells found
   unfolding E
-  heads_found middle cells number found nodes c m =
+  heads_found middle cells number found nodes c m old kept =
       let M = are_merged p stands built in
       let K = pieces T in
       let k = pieces_stand T merged in
       let t = seq_of-pieces T merged in
       let e : map (move_at p.types cells) found ≡ moves E K = m.same ∙ ap (moves E) c in
       record {
+        kept = kept_then old middle cells kept m.cells.kept;
         nodes = m.cells.nodes nodes;
         each = each cells found m.stand (subst (AllByRecursion IsMove) (sym e) (moves_continue E M K k))
             (λ s. subst (AllByRecursion (IsNoDeeper nesting_limit)) (sym e)

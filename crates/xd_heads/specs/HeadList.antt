@@ -1,9 +1,11 @@
 -- The heads that a list of them stands for.
-use Rattle.std.specs.Prelude.{◌≡◌, ◌≤◌, List, [], map, Option, Some, None}
+use Rattle.std.specs.Prelude.{◌≡◌, ℕ, ◌≤◌, nat_eq, List, [], map, length, Option, Some, None}
+use Rattle.std.specs.HashMap.{HashMap, get}
 use Rattle.std.specs.List.{AllByRecursion}
 use Rattle.xd_syntax.specs.Table.{Row, tree_at}
 use Rattle.xd_syntax.specs.Types.{BelongsTo, tree}
-use Rattle.xd_syntax.specs.Tree.{Tree, Empty, seq_of}
+use Rattle.xd_syntax.specs.Sound.{IsTypeAt}
+use Rattle.xd_syntax.specs.Tree.{Tree, Empty, any_type, seq_of}
 use Rattle.xd_syntax.specs.TypeText.{depth}
 use Rattle.xd_syntax.specs.Shallow.{IsShallow, nesting_limit}
 use Rattle.xd_syntax.specs.Program.{names_of}
@@ -11,12 +13,14 @@ use Rattle.xd_syntax.specs.Kept.{ProgramTable, program_tree}
 use Rattle.xd_syntax.specs.declared.types.TypeId.{TypeId}
 use Rattle.xd_laws.specs.Heads.{element_in, text_in}
 use Rattle.xd_laws.specs.Heads as laws
+use Rattle.xd_continuations.specs.Chains.{KeepsLinks}
 use Rattle.xd_continuations.specs.Continuation.{Move, head_of, IsMerged, IsContinuation}
 use Rattle.xd_heads.specs.Found.{continuation, move_of, move_at, AreOfTypes, IsFound}
 use Rattle.xd_heads.specs.Cells.{Cell}
 use Rattle.xd_heads.specs.declared.expand.Found.{Found}
 use Rattle.xd_heads.specs.declared.listing.Head.{Head}
 use Rattle.xd_heads.specs.declared.listing.HeadKind.{HeadKind}
+use Rattle.xd_heads.specs.declared.listing.HeadLister.{HeadLister}
 use Rattle.xd_heads.specs.declared.listing.HeadKind.TheVariants.{Label, Text}
 
 abbrev pub kind_at : HeadKind → laws.HeadKind
@@ -58,8 +62,20 @@ pub record IsHeadFound (p : ProgramTable) (cells : List Cell) (f : Found) : Type
   pub pieces : IsContinuation (continuation p.types cells f.rest)
   pub shallow : IsShallow p.types → depth (seq_of (continuation p.types cells f.rest)) ≤ nesting_limit
 
--- the heads of a type, as what was found
-pub record AreHeadsFound (p : ProgramTable) (T : Tree) (cells : List Cell) (found : List Found) : Type 0 where
+-- the heads of a type, as what was found; cells were added for them
+pub record AreHeadsFound (p : ProgramTable) (T : Tree) (old cells : List Cell) (found : List Found) : Type 0 where
+  pub kept : KeepsLinks old cells
   pub nodes : AreOfTypes p.types cells
   pub each : AllByRecursion (IsHeadFound p cells) found
   pub same : map head_of (map (move_at p.types cells) found) ≡ laws.heads (names_of (program_tree p)) T
+
+-- each type is that of the continuation with its number
+pub record AreRestTypes {S : Type 0} (types : List Row) (cells : List Cell) (rests : HashMap ℕ TypeId S) : Type 0 where
+  pub within : (n : ℕ) (id : TypeId) → get nat_eq rests n ≡ Some id → n ≤ length cells
+  pub right : (n : ℕ) (id : TypeId) → get nat_eq rests n ≡ Some id → IsTypeAt types (seq_of (continuation types cells n)) id
+
+-- what is kept of earlier lists of heads is right for the program
+pub record Serves (p : ProgramTable) (l : HeadLister) : Type 0 where
+  pub any : IsTypeAt p.types any_type l.any
+  pub nodes : AreOfTypes p.types l.cells
+  pub rests : AreRestTypes p.types l.cells l.rests

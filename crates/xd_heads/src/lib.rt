@@ -11,5 +11,5 @@ mod states;
 mod typed;
 mod types;
 
-pub use listing::{Head, HeadKind, heads};
+pub use listing::{Head, HeadKind, HeadLister, heads};
 pub use types::{Cells, compile_type, mirrors_stay};

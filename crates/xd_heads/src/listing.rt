@@ -1,22 +1,23 @@
 //! The heads of a type.
 
-ghost use Rattle.std.specs.Prelude.{◌≡◌, ◌<◌, length, map, IfOk};
+ghost use Rattle.std.specs.Prelude.{◌≡◌, ◌<◌, ◌≤◌, length, map, IfOk, OnOk};
 ghost use Rattle.std.specs.List.{AllByRecursion};
 ghost use Rattle.xd_laws.specs.Heads.{heads};
-ghost use Rattle.xd_continuations.specs.Continuation.{head_of as head_of_move};
+ghost use Rattle.xd_continuations.specs.Continuation.{IsContinuation, head_of as head_of_move};
 ghost use Rattle.xd_syntax.specs.Emptiness.{AreEmptyMarks};
 ghost use Rattle.xd_syntax.specs.Kept.{AddsTypes, program_tree};
 ghost use Rattle.xd_syntax.specs.Program.{names_of};
 ghost use Rattle.xd_syntax.specs.RecursionFaults.{IsSound};
-ghost use Rattle.xd_syntax.specs.Shallow.{IsShallow};
+ghost use Rattle.xd_syntax.specs.Shallow.{IsShallow, nesting_limit};
 ghost use Rattle.xd_syntax.specs.Sound.{IsTypeAt};
 ghost use Rattle.xd_syntax.specs.Table.{tree_at};
-ghost use Rattle.xd_syntax.specs.Tree.{any_type};
+ghost use Rattle.xd_syntax.specs.Tree.{any_type, seq_of};
 ghost use Rattle.xd_syntax.specs.TypeNames.{AreNumbered};
+ghost use Rattle.xd_syntax.specs.TypeText.{depth};
 ghost use Rattle.xd_syntax.specs.Types.{BelongsTo, tree};
-ghost use Rattle.xd_heads.specs.Found.{AreOfTypes, move_at};
+ghost use Rattle.xd_heads.specs.Found.{AreOfTypes, continuation, move_at};
 ghost use Rattle.xd_heads.specs.Growing.{GrowsTypes};
-ghost use Rattle.xd_heads.specs.HeadList.{AreHeadsFound, ContentBelongs, HeadBelongs, IsHeadAt, IsHeadFound, IsKindOf, content_at, head_at};
+ghost use Rattle.xd_heads.specs.HeadList.{AreHeadsFound, AreRestTypes, ContentBelongs, HeadBelongs, IsHeadAt, IsHeadFound, IsKindOf, Serves, content_at, head_at};
 
 use crate::bodies::Bodies;
 use crate::cells::Interned;
@@ -25,6 +26,7 @@ use crate::content::content;
 use crate::expand::{Found, expand};
 use crate::typed::continuation_type;
 use std::alloc::Global;
+use std::collections::HashMap;
 use xd_continuations::meaning_of_any;
 use xd_doc::{Class, NoMemory, Words};
 use xd_syntax::{Known, Program, SoundProgram, TypeForm, TypeId, Types};
@@ -45,10 +47,70 @@ pub struct Head {
     pub rest: TypeId,
 }
 
-/// The heads of a type, in order, repetitions kept (after Hosoya, Vouillon and Pierce, TOPLAS 2005).
+/// Lists the heads of types of one program, one type after the other.
 ///
-/// Contents and rests are types of the program; types are added to it for them. It does no recursion, over names or over
-/// the parts of a sequence. Which types can be empty is found once for a program, and not anew in each call.
+/// What was added to the program for one type serves the next ones: equal rests are one type, and so are all empty contents.
+#[derive(Drop)]
+pub struct HeadLister {
+    alloc: Global,
+    any: TypeId,
+    cells: Interned,
+    /// The types of the rests that were listed, by the numbers of their continuations.
+    rests: HashMap<usize, TypeId>,
+}
+
+impl HeadLister {
+    /// One that has listed nothing. What `Any` stands for is added to the program.
+    pub fn new(alloc: Global, sound: &mut SoundProgram) -> Result<Self, NoMemory>
+        ensures serves { IfOk result (Serves sound.new) }
+        ensures adds { AddsTypes sound.old sound.new }
+        ensures same { program_tree sound.new ≡ program_tree sound.old }
+        ensures shallow { IsShallow sound.old.types → IsShallow sound.new.types }
+    {
+        let any = meaning_of_any(alloc, sound)?;
+        Ok(Self {
+            alloc,
+            any,
+            cells: Interned::new(alloc),
+            rests: HashMap::new(alloc),
+        })
+    }
+
+    /// The heads of a type, in order, repetitions kept (after Hosoya, Vouillon and Pierce, TOPLAS 2005).
+    ///
+    /// Contents and rests are types of the program; types are added to it for them. It does no recursion, over names or over
+    /// the parts of a sequence. Which types can be empty is found once for a program, and not anew in each call.
+    pub fn heads(&mut self, sound: &mut SoundProgram, id: TypeId) -> Result<Vec<Head>, NoMemory>
+        requires belongs { BelongsTo sound.old.types id }
+        requires serves { Serves sound.old self.old }
+        ensures heads { IfOk result (λ found. map (head_at sound.new.types) found.items ≡ heads (names_of (program_tree sound.old)) (tree sound.old.types id)) }
+        ensures belong { IfOk result (λ found. AllByRecursion (HeadBelongs sound.new.types) found.items) }
+        ensures serves { OnOk result (Serves sound.new self.new) }
+        ensures adds { AddsTypes sound.old sound.new }
+        ensures same { program_tree sound.new ≡ program_tree sound.old }
+        ensures shallow { IsShallow sound.old.types → IsShallow sound.new.types }
+    {
+        let Known { names, empty_marks } = sound.take_known()?;
+        let bodies = Bodies {
+            names,
+            any: self.any.at(),
+        };
+        let found = find_heads(
+            self.alloc,
+            sound.program(),
+            &bodies,
+            &empty_marks,
+            id,
+            &mut self.cells,
+        )?;
+        let Bodies { names, any: _ } = bodies;
+        sound.give_back(Known { names, empty_marks });
+        let made = list_heads(self.alloc, sound, &self.cells, &mut self.rests, &found)?;
+        Ok(made)
+    }
+}
+
+/// The heads of one type, as a `HeadLister` lists them.
 pub fn heads(alloc: Global, sound: &mut SoundProgram, id: TypeId) -> Result<Vec<Head>, NoMemory>
     requires { BelongsTo sound.old.types id }
     ensures heads { IfOk result (λ found. map (head_at sound.new.types) found.items ≡ heads (names_of (program_tree sound.old)) (tree sound.old.types id)) }
@@ -57,25 +119,9 @@ pub fn heads(alloc: Global, sound: &mut SoundProgram, id: TypeId) -> Result<Vec<
     ensures same { program_tree sound.new ≡ program_tree sound.old }
     ensures shallow { IsShallow sound.old.types → IsShallow sound.new.types }
 {
-    let any = meaning_of_any(alloc, sound)?;
-    let Known { names, empty_marks } = sound.take_known()?;
-    let bodies = Bodies {
-        names,
-        any: any.at(),
-    };
-    let mut cells = Interned::new(alloc);
-    let found = find_heads(
-        alloc,
-        sound.program(),
-        &bodies,
-        &empty_marks,
-        id,
-        &mut cells,
-    )?;
-    let Bodies { names, any: _ } = bodies;
-    sound.give_back(Known { names, empty_marks });
-    let made = list_heads(alloc, sound, &cells, &found)?;
-    Ok(made)
+    let mut lister = HeadLister::new(alloc, sound)?;
+    let found = lister.heads(sound, id)?;
+    Ok(found)
 }
 
 /// The moves of a type that are its heads, and the cells of their rests.
@@ -94,7 +140,7 @@ fn find_heads(
     requires marks { AreEmptyMarks program.now.types program.now.type_defs marks.now }
     requires belongs { BelongsTo program.now.types id }
     requires nodes { AreOfTypes program.now.types cells.old }
-    ensures { IfOk result (λ found. AreHeadsFound program.now (tree program.now.types id) cells.new found.items) }
+    ensures { IfOk result (λ found. AreHeadsFound program.now (tree program.now.types id) cells.old cells.new found.items) }
 {
     let types = program.types();
     types.see_table();
@@ -127,15 +173,52 @@ fn kind_of(
     }
 }
 
-/// A content as a type: the empty type, where there is none.
-fn content_type(sound: &mut SoundProgram, inside: Option<TypeId>) -> Result<TypeId, NoMemory>
-    requires { ContentBelongs sound.old.types inside }
+/// A rest as a type, which is added to the program only where none was made for it before.
+fn rest_type(
+    alloc: Global,
+    sound: &mut SoundProgram,
+    cells: &Interned,
+    rests: &mut HashMap<usize, TypeId>,
+    number: usize,
+) -> Result<TypeId, NoMemory>
+    requires nodes { AreOfTypes sound.old.types cells.now }
+    requires rests { AreRestTypes sound.old.types cells.now rests.old }
+    requires number { number ≤ length cells.now }
+    requires pieces { IsContinuation (continuation sound.old.types cells.now number) }
+    requires shallow { IsShallow sound.old.types → depth (seq_of (continuation sound.old.types cells.now number)) ≤ nesting_limit }
+    ensures ok { IfOk result (IsTypeAt sound.new.types (seq_of (continuation sound.old.types cells.now number))) }
+    ensures rests { OnOk result (AreRestTypes sound.new.types cells.now rests.new) }
+    ensures grows { GrowsTypes sound.old sound.new }
+{
+    if let Some(id) = rests.get(&number) {
+        return Ok(*id);
+    }
+    let id = continuation_type(alloc, sound, cells, number)?;
+    rests.insert(number, id)?;
+    Ok(id)
+}
+
+/// A content as a type: the empty type, which is an empty rest too, where there is none.
+fn content_type(
+    alloc: Global,
+    sound: &mut SoundProgram,
+    cells: &Interned,
+    rests: &mut HashMap<usize, TypeId>,
+    inside: Option<TypeId>,
+) -> Result<TypeId, NoMemory>
+    requires nodes { AreOfTypes sound.old.types cells.now }
+    requires rests { AreRestTypes sound.old.types cells.now rests.old }
+    requires inside { ContentBelongs sound.old.types inside }
     ensures ok { IfOk result (IsTypeAt sound.new.types (content_at sound.old.types inside)) }
+    ensures rests { OnOk result (AreRestTypes sound.new.types cells.now rests.new) }
     ensures grows { GrowsTypes sound.old sound.new }
 {
     match inside {
         Some(part) => Ok(part),
-        None => sound.add_type(TypeForm::Empty),
+        None => {
+            let rest = rest_type(alloc, sound, cells, rests, 0)?;
+            Ok(rest)
+        }
     }
 }
 
@@ -144,16 +227,19 @@ fn head_of(
     alloc: Global,
     sound: &mut SoundProgram,
     cells: &Interned,
+    rests: &mut HashMap<usize, TypeId>,
     found: Found,
 ) -> Result<Head, NoMemory>
     requires nodes { AreOfTypes sound.old.types cells.now }
+    requires rests { AreRestTypes sound.old.types cells.now rests.old }
     requires found { IsHeadFound sound.old cells.now found }
     ensures ok { IfOk result (IsHeadAt sound.new.types (move_at sound.old.types cells.now found)) }
+    ensures rests { OnOk result (AreRestTypes sound.new.types cells.now rests.new) }
     ensures grows { GrowsTypes sound.old sound.new }
 {
     let (kind, inside) = kind_of(alloc, sound.program().types(), found.node)?;
-    let rest = continuation_type(alloc, sound, cells, found.rest)?;
-    let content = content_type(sound, inside)?;
+    let rest = rest_type(alloc, sound, cells, rests, found.rest)?;
+    let content = content_type(alloc, sound, cells, rests, inside)?;
     Ok(Head {
         kind,
         content,
@@ -166,17 +252,20 @@ fn list_heads(
     alloc: Global,
     sound: &mut SoundProgram,
     cells: &Interned,
+    rests: &mut HashMap<usize, TypeId>,
     found: &[Found],
 ) -> Result<Vec<Head>, NoMemory>
     requires nodes { AreOfTypes sound.old.types cells.now }
+    requires rests { AreRestTypes sound.old.types cells.now rests.old }
     requires found { AllByRecursion (IsHeadFound sound.old cells.now) found.now }
     ensures heads { IfOk result (λ made. map (head_at sound.new.types) made.items ≡ map head_of_move (map (move_at sound.old.types cells.now) found.now)) }
     ensures belong { IfOk result (λ made. AllByRecursion (HeadBelongs sound.new.types) made.items) }
+    ensures rests { OnOk result (AreRestTypes sound.new.types cells.now rests.new) }
     ensures grows { GrowsTypes sound.old sound.new }
 {
-    let mut made = Vec::new(alloc);
+    let mut made = Vec::with_capacity(alloc, found.len())?;
     for one in found {
-        made.push(head_of(alloc, sound, cells, *one)?)?;
+        made.push(head_of(alloc, sound, cells, rests, *one)?)?;
     }
     Ok(made)
 }

@@ -41,3 +41,4 @@ returns c =
     (subst (λ (t : List Row). AreOfTypes t c.content.new.cells) e (c.in_ok-number.ensures.cells.nodes (subst (λ (t : List Row). AreOfTypes t c.args.cells.now) (sym e) c.requires.nodes)))
     (subst (λ (t : List Row). continuation t c.content.new.cells c.in_ok-number.number ≡ pieces (tree_at t c.args.id.at)) e c.in_ok-number.ensures.same)
     (back_along p types c.type_defs.result.now (λ t d. AreMovesOf t d c.content.new.cells c.expand.new.cells c.in_ok-number.number c.in_ok-found.found.items) e c.type_defs.ensures.type_defs c.in_ok-found.ensures)
+    c.args.cells.now c.in_ok-number.ensures.cells.kept
