@@ -214,20 +214,13 @@ text_atoms_are w labels texts =
     p : Atom → Bool
     p a = matches_atom a (text_in w)
 
-flat_both : {A B : Type 0} (f : A → List B) (xs ys : List A) → flat_map f (xs ++ ys) ≡ flat_map f xs ++ flat_map f ys
+pub flat_both : {A B : Type 0} (f : A → List B) (xs ys : List A) → flat_map f (xs ++ ys) ≡ flat_map f xs ++ flat_map f ys
 flat_both f [] ys = refl
 flat_both f (x ∷ xs) ys = ap (λ zs. f x ++ zs) (flat_both f xs ys) ∙ sym (append_assoc (f x) (flat_map f xs) (flat_map f ys))
 
 pub map_both : {A B : Type 0} (f : A → B) (xs ys : List A) → map f (xs ++ ys) ≡ map f xs ++ map f ys
 map_both f [] ys = refl
 map_both f (x ∷ xs) ys = ap (λ zs. f x ∷ zs) (map_both f xs ys)
-
--- what the heads of both sides name
-pub both_named : (f : HeadKind → List (List ℕ)) (old mid new : List (List ℕ)) (ks js : List HeadKind) → old ≡ [] → mid ≡ old ++ flat_map f ks → new ≡ mid ++ flat_map f js →
-    (names : List (List ℕ)) → IsStrictlySortedBy R names → ((l : List ℕ) → is_named names l ≡ is_named new l) → names ≡ in_byte_order (flat_map f (ks ++ js))
-both_named f old mid new ks js a b c names s h =
-    in_order names new s h
-    ∙ ap in_byte_order (c ∙ ap (λ xs. xs ++ flat_map f js) (b ∙ ap (λ xs. xs ++ flat_map f ks) a) ∙ sym (flat_both f ks js))
 
 -- the atoms that are put, where the class has the others
 pub with_others : (f : List ℕ → Atom) (other : Atom) (c : NameClass) (old mid new : List Atom) (names labels : List (List ℕ)) → old ≡ [] → names ≡ labels →

@@ -2,6 +2,7 @@ pub mod ListLemmas
 pub mod CodeLemmas
 pub mod PathLemmas
 pub mod AtomLemmas
+pub mod NameLemmas
 pub mod WalkLemmas
 pub mod LeafLemmas
 pub mod SettingLemmas

@@ -1,5 +1,5 @@
 -- Numbers of lists.
-use Rattle.std.proofs.Common.{◌≡◌, ℕ, zero, suc, ◌+◌, ◌≤◌, arith, Bool, true, false, ◌&&◌, ◌||◌, nat_eq, Some, List, [], ◌∷◌, ◌++◌, append-nil, length, refl, ap, sym, subst, ◌∙◌, inl, inr}
+use Rattle.std.proofs.Common.{◌≡◌, ℕ, zero, suc, arith, Bool, true, false, ◌&&◌, ◌||◌, nat_eq, Some, List, [], ◌∷◌, ◌++◌, append-nil, length, refl, ap, sym, subst, ◌∙◌, inl, inr}
 use Rattle.std.proofs.lemmas.Bool.Decides.{nat_tests}
 use Rattle.std.specs.Cmp.Lexicographic.{pointwise}
 use Rattle.std.specs.List.{list_any, slice_get}
@@ -53,9 +53,6 @@ whole_items [] = refl
 whole_items (x ∷ xs) = let e : nat_eq x x ≡ true = grind (arith, nat_tests) in rw e (whole_items xs)
 
 module _ {A : Type 0} where
-  tested : Vec ℕ A → Vec ℕ A → Bool
-  tested v w = pointwise nat_eq v.items w.items
-
   pub get_items : (vs : List (Vec ℕ A)) (k : ℕ) (v : Vec ℕ A) → slice_get vs k ≡ Some v → slice_get (lists_of vs) k ≡ Some v.items
   get_items [] k v h = cc
   get_items (w ∷ vs) zero v h = let e : w ≡ v = cc in ap (λ (u : Vec ℕ A). Some u.items) e

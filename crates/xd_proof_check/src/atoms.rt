@@ -10,9 +10,10 @@ ghost use Rattle.xd_laws.proofs.FirstWrong.{same_atom};
 ghost use Rattle.xd_heads.specs.HeadList.{kind_at};
 ghost use Rattle.xd_proof_lines.specs.Cases.{atom_of};
 ghost use Rattle.xd_proof_check.specs.Atoms.{AreNamed, AreNamedFor, kinds_of};
-ghost use Rattle.xd_proof_check.specs.Names.{Names};
+ghost use Rattle.xd_proof_check.specs.Names.{AddsNames, Names};
 
 use std::alloc::Global;
+use std::collections::BTreeSet;
 use xd_doc::{Class, Label, NoMemory, Text, Words};
 use xd_heads::{Head, HeadKind};
 use xd_proof_lines::Atom;
@@ -59,33 +60,44 @@ pub(crate) fn are_same(one: &Atom, other: &Atom) -> bool
     }
 }
 
-/// All labels and texts that are named in the classes of these heads.
+/// All labels and texts that are named in the classes of these heads. Each is held once, however many heads name it.
 pub(crate) fn named_in(alloc: Global, left: &[Head], rights: &[Head]) -> Result<Named, NoMemory>
     ensures { IfOk result (λ named. AreNamed (kinds_of left.now ++ kinds_of rights.now) named) }
 {
-    let mut labels = Vec::new(alloc);
-    push_labels(&mut labels, left)?;
-    push_labels(&mut labels, rights)?;
-    let mut texts = Vec::new(alloc);
-    push_texts(&mut texts, left)?;
-    push_texts(&mut texts, rights)?;
+    let mut labels = BTreeSet::new(alloc);
+    put_labels(&mut labels, left)?;
+    put_labels(&mut labels, rights)?;
+    let mut texts = BTreeSet::new(alloc);
+    put_texts(&mut texts, left)?;
+    put_texts(&mut texts, rights)?;
     Ok(Named {
-        labels: Class::new(alloc, labels, true)?,
-        texts: Words::new(alloc, texts, true)?,
+        labels: Class::new(alloc, listed(alloc, labels)?, true)?,
+        texts: Words::new(alloc, listed(alloc, texts)?, true)?,
     })
 }
 
-fn push_labels(labels: &mut Vec<Label>, heads: &[Head]) -> Result<(), NoMemory>
-    ensures { OnOk result (labels.new.items ≡ labels.old.items ++ flat_map labels_of (kinds_of heads.now)) }
+/// The items of a set, in order.
+fn listed<T: Ord + Drop>(alloc: Global, set: BTreeSet<T>) -> Result<Vec<T>, NoMemory>
+    ensures { IfOk result (λ made. made.items ≡ set.keys) }
+{
+    let mut made = Vec::new(alloc);
+    for item in set {
+        made.push(item)?;
+    }
+    Ok(made)
+}
+
+fn put_labels(labels: &mut BTreeSet<Label>, heads: &[Head]) -> Result<(), NoMemory>
+    ensures { OnOk result (AddsNames labels.old.keys (flat_map labels_of (kinds_of heads.now)) labels.new.keys) }
 {
     for head in heads {
-        push_labels_of(labels, &head.kind)?;
+        put_labels_of(labels, &head.kind)?;
     }
     Ok(())
 }
 
-fn push_labels_of(labels: &mut Vec<Label>, kind: &HeadKind) -> Result<(), NoMemory>
-    ensures { OnOk result (labels.new.items ≡ labels.old.items ++ labels_of (kind_at kind.now)) }
+fn put_labels_of(labels: &mut BTreeSet<Label>, kind: &HeadKind) -> Result<(), NoMemory>
+    ensures { OnOk result (AddsNames labels.old.keys (labels_of (kind_at kind.now)) labels.new.keys) }
 {
     match kind {
         HeadKind::Label(class) => share_labels(labels, class.names()),
@@ -93,26 +105,34 @@ fn push_labels_of(labels: &mut Vec<Label>, kind: &HeadKind) -> Result<(), NoMemo
     }
 }
 
-fn share_labels(labels: &mut Vec<Label>, more: &[Label]) -> Result<(), NoMemory>
-    ensures { OnOk result (labels.new.items ≡ labels.old.items ++ more.now) }
+fn share_labels(labels: &mut BTreeSet<Label>, more: &[Label]) -> Result<(), NoMemory>
+    ensures { OnOk result (AddsNames labels.old.keys more.now labels.new.keys) }
 {
     for label in more {
-        labels.push(label.share()?)?;
+        put_label(labels, label)?;
     }
     Ok(())
 }
 
-fn push_texts(texts: &mut Vec<Text>, heads: &[Head]) -> Result<(), NoMemory>
-    ensures { OnOk result (texts.new.items ≡ texts.old.items ++ flat_map texts_of (kinds_of heads.now)) }
+fn put_label(labels: &mut BTreeSet<Label>, label: &Label) -> Result<(), NoMemory>
+    ensures { OnOk result (AddsNames labels.old.keys (label.now ∷ []) labels.new.keys) }
+{
+    let label = label.share()?;
+    labels.insert(label)?;
+    Ok(())
+}
+
+fn put_texts(texts: &mut BTreeSet<Text>, heads: &[Head]) -> Result<(), NoMemory>
+    ensures { OnOk result (AddsNames texts.old.keys (flat_map texts_of (kinds_of heads.now)) texts.new.keys) }
 {
     for head in heads {
-        push_texts_of(texts, &head.kind)?;
+        put_texts_of(texts, &head.kind)?;
     }
     Ok(())
 }
 
-fn push_texts_of(texts: &mut Vec<Text>, kind: &HeadKind) -> Result<(), NoMemory>
-    ensures { OnOk result (texts.new.items ≡ texts.old.items ++ texts_of (kind_at kind.now)) }
+fn put_texts_of(texts: &mut BTreeSet<Text>, kind: &HeadKind) -> Result<(), NoMemory>
+    ensures { OnOk result (AddsNames texts.old.keys (texts_of (kind_at kind.now)) texts.new.keys) }
 {
     match kind {
         HeadKind::Label(_) => Ok(()),
@@ -120,12 +140,20 @@ fn push_texts_of(texts: &mut Vec<Text>, kind: &HeadKind) -> Result<(), NoMemory>
     }
 }
 
-fn share_texts(texts: &mut Vec<Text>, more: &[Text]) -> Result<(), NoMemory>
-    ensures { OnOk result (texts.new.items ≡ texts.old.items ++ more.now) }
+fn share_texts(texts: &mut BTreeSet<Text>, more: &[Text]) -> Result<(), NoMemory>
+    ensures { OnOk result (AddsNames texts.old.keys more.now texts.new.keys) }
 {
     for text in more {
-        texts.push(text.share()?)?;
+        put_text(texts, text)?;
     }
+    Ok(())
+}
+
+fn put_text(texts: &mut BTreeSet<Text>, text: &Text) -> Result<(), NoMemory>
+    ensures { OnOk result (AddsNames texts.old.keys (text.now ∷ []) texts.new.keys) }
+{
+    let text = text.share()?;
+    texts.insert(text)?;
     Ok(())
 }
 

@@ -5,13 +5,14 @@ ghost use Rattle.std.specs.List.{AllByRecursion, AllZip};
 ghost use Rattle.xd_syntax.specs.Kept.{program_tree};
 ghost use Rattle.xd_syntax.specs.Program.{names_of};
 ghost use Rattle.xd_heads.specs.Growing.{GrowsTypes};
+ghost use Rattle.xd_heads.specs.HeadList.{Serves};
 ghost use Rattle.xd_syntax.specs.declared.types.TypeId.{TypeId};
 ghost use Rattle.xd_proof_check.specs.GoalHeads.{AreGoalHeads, AreHeadsOf};
 ghost use Rattle.xd_proof_check.specs.Leaves.{GoalBelongs, GoalsBelong};
 
 use std::alloc::Global;
 use xd_doc::NoMemory;
-use xd_heads::{Head, heads};
+use xd_heads::{Head, HeadLister};
 use xd_proof::ProofGoal;
 use xd_syntax::{SoundProgram, TypeId};
 
@@ -32,9 +33,10 @@ pub(crate) fn all_heads(
     ensures heads { IfOk result (λ made. AllZip (AreGoalHeads sound.new.types (names_of (program_tree sound.old))) goals.now made.items) }
     ensures grows { GrowsTypes sound.old sound.new }
 {
-    let mut made = Vec::new(alloc);
+    let mut lister = HeadLister::new(alloc, sound)?;
+    let mut made = Vec::with_capacity(alloc, goals.len())?;
     for goal in goals {
-        made.push(goal_heads(alloc, sound, goal)?)?;
+        made.push(goal_heads(alloc, sound, &mut lister, goal)?)?;
     }
     Ok(made)
 }
@@ -42,14 +44,17 @@ pub(crate) fn all_heads(
 fn goal_heads(
     alloc: Global,
     sound: &mut SoundProgram,
+    lister: &mut HeadLister,
     goal: &ProofGoal,
 ) -> Result<GoalHeads, NoMemory>
-    requires { GoalBelongs (length sound.old.types) goal.now }
+    requires belongs { GoalBelongs (length sound.old.types) goal.now }
+    requires serves { Serves sound.old lister.old }
     ensures heads { IfOk result (AreGoalHeads sound.new.types (names_of (program_tree sound.old)) goal.now) }
+    ensures serves { OnOk result (Serves sound.new lister.new) }
     ensures grows { GrowsTypes sound.old sound.new }
 {
-    let left = heads(alloc, sound, goal.left)?;
-    let rights = heads_of_all(alloc, sound, &goal.rights)?;
+    let left = lister.heads(sound, goal.left)?;
+    let rights = heads_of_all(alloc, sound, lister, &goal.rights)?;
     Ok(GoalHeads { left, rights })
 }
 
@@ -57,15 +62,18 @@ fn goal_heads(
 fn heads_of_all(
     alloc: Global,
     sound: &mut SoundProgram,
+    lister: &mut HeadLister,
     types: &[TypeId],
 ) -> Result<Vec<Head>, NoMemory>
-    requires { AllByRecursion (λ (id : TypeId). id.at < length sound.old.types) types.now }
+    requires belong { AllByRecursion (λ (id : TypeId). id.at < length sound.old.types) types.now }
+    requires serves { Serves sound.old lister.old }
     ensures heads { IfOk result (λ made. AreHeadsOf sound.new.types (names_of (program_tree sound.old)) types.now made.items) }
+    ensures serves { OnOk result (Serves sound.new lister.new) }
     ensures grows { GrowsTypes sound.old sound.new }
 {
     let mut made = Vec::new(alloc);
     for id in types {
-        let more = heads(alloc, sound, *id)?;
+        let more = lister.heads(sound, *id)?;
         push_heads(&mut made, more)?;
     }
     Ok(made)

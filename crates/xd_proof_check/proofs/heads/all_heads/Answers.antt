@@ -3,8 +3,8 @@ use Rattle.xd_heads.proofs.Growing.{grows_then}
 use Rattle.xd_proof_check.proofs.HeadLemmas.{goal_at_index, goals_below, listed_goals, rows_grow}
 use Rattle.xd_proof_check.proofs.heads.all_heads.Goals as goal
 
-pub goal_heads-requires : goal.goal_heads-requires
-goal_heads-requires c =
+pub goal_heads-requires-clause-belongs : goal.goal_heads-requires-clause-belongs
+goal_heads-requires-clause-belongs c =
     let p = c.args.sound.now in
     let q = c.loop-goal.sound in
     goal_at_index (length q.types) c.args.goals.now c.loop-goal.goal-index c.goal-item.result
@@ -22,6 +22,7 @@ loop-goal-preserved c =
     let q = c.loop-goal.sound in
     let r = c.goal_heads.new.sound in
     record {
+      serves = c.in_ok-goal_heads.ensures.serves;
       grows = grows_then p q r c.loop-goal.invariant.grows c.goal_heads.ensures.grows;
       heads =
           listed_goals p q r c.args.goals.now c.loop-goal.goal-index c.goal-item.result c.loop-goal.made.items c.push.new.self.items c.in_ok-goal_heads.field-0 c.loop-goal.invariant.grows

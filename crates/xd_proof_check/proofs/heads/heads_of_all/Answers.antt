@@ -22,8 +22,9 @@ loop-id-preserved c =
     let r = c.heads.new.sound in
     let b = grown_by q r c.heads.ensures.adds c.heads.ensures.same c.heads.ensures.shallow in
     record {
+      serves = c.in_ok-more.ensures.serves;
       grows = grows_then p q r c.loop-id.invariant.grows b;
       heads =
-          listed_heads p q r c.args.types.now c.loop-id.id-index no_type c.loop-id.made.items c.push_heads.new.made.items c.in_ok-more.more.items c.loop-id.invariant.grows b c.requires
+          listed_heads p q r c.args.types.now c.loop-id.id-index no_type c.loop-id.made.items c.push_heads.new.made.items c.in_ok-more.more.items c.loop-id.invariant.grows b c.requires.belong
           c.loop-id-test.true c.loop-id.invariant.heads c.in_ok-more.ensures.heads c.in_ok-more.ensures.belong c.in_ok-push_heads.ensures;
     }

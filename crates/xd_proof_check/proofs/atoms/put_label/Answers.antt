@@ -1,0 +1,9 @@
+use Rattle.std.proofs.Common.{[], ◌∷◌, ℕ, List, subst}
+use Rattle.xd_proof_check.specs.Names.{AddsNames}
+use Rattle.xd_proof_check.proofs.NameLemmas.{adds_one}
+use Rattle.xd_proof_check.proofs.atoms.put_label.Goals as goal
+
+pub returns : goal.returns
+returns c =
+    subst (λ (w : List ℕ). AddsNames c.args.labels.now.keys (w ∷ []) c.insert.new.self.keys) c.in_ok-label.ensures
+    (adds_one c.in_ok-label.label c.args.labels.now.keys c.insert.new.self.keys (c.in_ok-insert.ensures.updates).0)
