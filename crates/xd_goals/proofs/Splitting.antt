@@ -1,6 +1,7 @@
 -- Right heads that are on neither side of a path, and which of them a tree splits on.
 use Rattle.std.proofs.Common.{ℕ, zero, suc, ◌+◌, ◌<◌, ◌≤◌, ◌≡◌, ◌⊎◌, Bool, true, false, cond, nat_eq, ◌||◌, List, [], ◌∷◌, take, get_or, MatchOption, Option, None, Some, inl, inr, ⊎_elim, refl, sym, subst, ◌∙◌, arith}
 use Rattle.std.specs.List.{slice_get, AllByRecursion, list_any}
+use Rattle.std.specs.Option.{option_or}
 use Rattle.std.proofs.lemmas.Bool.Decides.{Decides-eqb}
 use Rattle.std.proofs.lemmas.List.{take_more}
 use Rattle.std.proofs.lemmas.Option.{slice_get_within, get_or_from_slice_get}
@@ -135,6 +136,18 @@ all-take_more P xs i x at h p =
     let e = get_or_from_slice_get xs i x x at in
     let lt = slice_get_within xs i x at in
     subst (AllByRecursion P) (sym (take_more xs i x lt)) (all_push P (take i xs) (get_or xs i x) h (subst P (sym e) p))
+
+-- of the heads so far, one that takes the element, or none
+pub none_to : {X : Type 0} (P R : Type 0) (Q : X → Type 0) (o : Option X) → (P → R) → MatchOption o P Q → MatchOption o R Q
+none_to P R Q None f h = f h
+none_to P R Q (Some x) f h = h
+
+pub none_more : {X : Type 0} (P Q : X → Type 0) (xs : List X) (i : ℕ) (x : X) (o : Option X) → slice_get xs i ≡ Some x → P x → MatchOption o (AllByRecursion P (take i xs)) Q → MatchOption o (AllByRecursion P (take (i + 1) xs)) Q
+none_more P Q xs i x o at p h = none_to (AllByRecursion P (take i xs)) (AllByRecursion P (take (i + 1) xs)) Q o (λ k. all-take_more P xs i x at k p) h
+
+pub or_found : {X : Type 0} (P R : Type 0) (Q : X → Type 0) (o : Option X) (x : X) (r : Option X) → r ≡ option_or o (Some x) → MatchOption o P Q → Q x → MatchOption r R Q
+or_found P R Q None x r e h q = rw e q
+or_found P R Q (Some y) x r e h q = rw e h
 
 -- the document of a leaf's goal that was read as refuted
 pub leaf_separated : {A : List State → Type 0} (a : Automaton) (ds : List Document) (s t : TableView) → GrowsBy A s t → AreSeparated a ds s.rows → (owner : ℕ) (c : Claim State) (g : GoalId) (st : Standing) (seq : Seq)

@@ -1,22 +1,21 @@
 //! How choice trees grow.
 
-ghost use Rattle.std.specs.Prelude.{◌≡◌, ◌<◌, [], false, length, Some, slice_get, IfOk, MatchOption};
-ghost use Rattle.std.specs.List.{AllByRecursion};
-ghost use Rattle.xd_doc.specs.Stored.{BelongsTo};
-ghost use Rattle.xd_auto.specs.Automaton.{IsState, state_number};
+ghost use Rattle.std.specs.Prelude.{◌≡◌, ◌<◌, [], length, Some, slice_get, IfOk};
+ghost use Rattle.xd_auto.specs.Automaton.{state_number};
 ghost use Rattle.xd_auto.specs.Kept.{AreRight};
 ghost use Rattle.xd_goals.specs.Moves.{AreBelow, IsInOrder, claim_with, with_state};
-ghost use Rattle.xd_goals.specs.Rows.{claim_at};
+ghost use Rattle.xd_goals.specs.Rows.{IsRefuted, claim_at};
 ghost use Rattle.xd_goals.specs.Kept.{Grows, IsConsistent, view_of};
 ghost use Rattle.xd_goals.specs.Standing.{AreSeparated};
-ghost use Rattle.xd_goals.specs.Trees.{GrownAs, HasOpenTree, HasTree, IsFailure, IsGrown, IsLeafFor, IsNumbered, IsPathBelow, IsSplitAt, IsTaker, IsTextFailure, IsTextTree, gathered, takes};
+ghost use Rattle.xd_goals.specs.Trees.{GrownAs, HasOpenTree, HasTree, IsFailure, IsGrown, IsLeafFor, IsNumbered, IsPathBelow, IsSplitAt, IsTextFailure, IsTextTree, gathered};
 ghost use Rattle.xd_goals.specs.declared.heads.Side.{Side};
 
 use crate::goals::{Goals, add_node, depend, find_or_add};
 use crate::heads::Side;
 use crate::table::{ChoiceNode, GoalId, Standing};
+use crate::takers::taker;
 use std::alloc::Global;
-use xd_auto::{Answers, Auto, State, accepts_kept};
+use xd_auto::{Answers, Auto, State};
 use xd_doc::{NoMemory, Seq, Store};
 
 /// What a choice tree is for: its goal, what the left head says of the content and the rest, and the
@@ -53,7 +52,7 @@ fn with_state(alloc: Global, states: &[State], state: State) -> Result<Vec<State
 }
 
 /// The right head at this place.
-fn side_of(sides: &[Side], place: usize) -> Side
+pub(crate) fn side_of(sides: &[Side], place: usize) -> Side
     requires { place < length sides.now }
     ensures { slice_get sides.now place ≡ Some result }
 {
@@ -72,57 +71,6 @@ fn side_numbered(sides: &[Side], number: usize) -> Side
         }
     }
     unreachable!()
-}
-
-/// Whether a right head takes an element with this content and this rest.
-fn is_taker(
-    auto: &Auto,
-    store: &Store,
-    answers: &mut Answers,
-    side: Side,
-    inside: Seq,
-    behind: Seq,
-) -> Result<bool, NoMemory>
-    requires content { IsState auto.now side.content }
-    requires rest { IsState auto.now side.rest }
-    requires inside { BelongsTo store.now inside }
-    requires behind { BelongsTo store.now behind }
-    requires right { AreRight auto.now store.now answers.old }
-    ensures answer { IfOk result (λ answer. answer ≡ takes auto.now store.now inside behind side) }
-    ensures right { AreRight auto.now store.now answers.new }
-{
-    if accepts_kept(answers, auto, side.content, store, inside)? {
-        accepts_kept(answers, auto, side.rest, store, behind)
-    } else {
-        Ok(false)
-    }
-}
-
-/// The first right head that takes the element.
-fn first_taker(
-    auto: &Auto,
-    store: &Store,
-    answers: &mut Answers,
-    sides: &[Side],
-    inside: Seq,
-    behind: Seq,
-) -> Result<Option<Side>, NoMemory>
-    requires sides { AllByRecursion (λ (side : Side). (IsState auto.now side.content) × (IsState auto.now side.rest)) sides.now }
-    requires inside { BelongsTo store.now inside }
-    requires behind { BelongsTo store.now behind }
-    requires right { AreRight auto.now store.now answers.old }
-    ensures found { IfOk result (λ found. MatchOption found
-        (AllByRecursion (λ (side : Side). takes auto.now store.now inside behind side ≡ false) sides.now)
-        (IsTaker auto.now store.now sides.now inside behind)) }
-    ensures right { AreRight auto.now store.now answers.new }
-{
-    for place in 0..sides.len() {
-        let side = side_of(sides, place);
-        if is_taker(auto, store, answers, side, inside, behind)? {
-            return Ok(Some(side));
-        }
-    }
-    Ok(None)
 }
 
 /// The goal for a leaf, among whose dependents the tree's goal is.
@@ -178,8 +126,8 @@ fn add_split(
 /// A tree for an element, from a path on which some of the matching right heads are on the two sides.
 ///
 /// Where the path's goals are refuted, by a content and a rest, only a head that takes the element
-/// made of these can help: the tree splits on the first one. No head on the path is such a one, and
-/// where there is none, the element separates.
+/// made of these can help: the tree splits on such a one. No head on the path is such a one, and where
+/// there is none, the element separates.
 pub(crate) fn grow(
     alloc: Global,
     auto: &Auto,
@@ -212,7 +160,10 @@ pub(crate) fn grow(
     let Standing::Refuted(behind) = goals.standing(rest) else {
         return Ok(Grown::Stands(add_node(goals, task.states, ChoiceNode::Rest(rest))?));
     };
-    let Some(side) = first_taker(auto, store, answers, sides, inside, behind)? else {
+    let Some(side) = taker(
+        auto, store, answers, task, sides, contents, rests, inside, behind,
+    )?
+    else {
         return Ok(Grown::Fails(inside, behind));
     };
     let more = with_state(alloc, contents, side.content)?;
@@ -246,6 +197,44 @@ pub(crate) fn node_at(nodes: &[ChoiceNode], number: usize) -> ChoiceNode
     nodes[number]
 }
 
+/// A leaf that names this goal: as it is, or grown anew where the goal is refuted.
+fn repair_leaf(
+    alloc: Global,
+    auto: &Auto,
+    store: &Store,
+    answers: &mut Answers,
+    goals: &mut Goals,
+    task: Task,
+    sides: &[Side],
+    root: usize,
+    goal: GoalId,
+    contents: &[State],
+    rests: &[State],
+) -> Result<Grown, NoMemory>
+    requires consistent { IsConsistent task.states goals.old }
+    requires owner { task.owner.number < length goals.old.rows.items }
+    requires path { IsPathBelow task.states task sides.now contents.now rests.now }
+    requires states { task.states ≡ length auto.now }
+    requires separated { AreSeparated auto.now store.now goals.old.rows.items }
+    requires right { AreRight auto.now store.now answers.old }
+    requires there { goal.number < length goals.old.rows.items }
+    requires opens { ¬ (IsRefuted goals.old.rows.items goal.number) → HasOpenTree (view_of goals.old) (λ tree. IsGrown goals.old.rows.items task sides.now tree contents.now rests.now) task.owner.number root }
+    ensures consistent { IsConsistent task.states goals.new }
+    ensures grows { Grows (view_of goals.old) (view_of goals.new) }
+    ensures grown { IfOk result (GrownAs
+        (HasOpenTree (view_of goals.new) (λ tree. IsGrown goals.new.rows.items task sides.now tree contents.now rests.now) task.owner.number)
+        (IsFailure auto.now store.now task sides.now)) }
+    ensures right { AreRight auto.now store.now answers.new }
+{
+    if goals.is_refuted(goal) {
+        grow(
+            alloc, auto, store, answers, goals, task, sides, contents, rests,
+        )
+    } else {
+        Ok(Grown::Stands(root))
+    }
+}
+
 /// The tree of this root with each leaf that names a refuted goal grown anew.
 pub(crate) fn repair(
     alloc: Global,
@@ -274,24 +263,12 @@ pub(crate) fn repair(
     ensures right { AreRight auto.now store.now answers.new }
 {
     match node_at(&goals.nodes, root) {
-        ChoiceNode::Content(goal) => {
-            if goals.is_refuted(goal) {
-                grow(
-                    alloc, auto, store, answers, goals, task, sides, contents, rests,
-                )
-            } else {
-                Ok(Grown::Stands(root))
-            }
-        }
-        ChoiceNode::Rest(goal) => {
-            if goals.is_refuted(goal) {
-                grow(
-                    alloc, auto, store, answers, goals, task, sides, contents, rests,
-                )
-            } else {
-                Ok(Grown::Stands(root))
-            }
-        }
+        ChoiceNode::Content(goal) => repair_leaf(
+            alloc, auto, store, answers, goals, task, sides, root, goal, contents, rests,
+        ),
+        ChoiceNode::Rest(goal) => repair_leaf(
+            alloc, auto, store, answers, goals, task, sides, root, goal, contents, rests,
+        ),
         ChoiceNode::Split {
             right,
             content,

@@ -8,6 +8,7 @@ mod inclusion;
 mod laws;
 mod settled;
 mod table;
+mod takers;
 mod work;
 
 pub use inclusion::{Verdict, decide};

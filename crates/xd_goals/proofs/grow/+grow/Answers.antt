@@ -61,14 +61,26 @@ returns-clause-grows t c =
     (Grows-then (view_of c.leaf-2.new.goals) (view_of c.grow.new.goals) (view_of c.add_split.new.goals) c.in_ok-inside.ensures.grows
     (Grows-then (view_of c.grow.new.goals) (view_of c.grow-in-Stands.new.goals) (view_of c.add_split.new.goals) c.in_ok-inside-in-Stands.ensures.grows c.add_split.ensures.grows)))
 
-pub first_taker-requires-clause-inside : goal.first_taker-requires-clause-inside
-first_taker-requires-clause-inside t c =
+pub taker-requires-clause-content : goal.taker-requires-clause-content
+taker-requires-clause-content t c = rw c.requires.states at c.requires.path.content_below
+
+pub taker-requires-clause-rest : goal.taker-requires-clause-rest
+taker-requires-clause-rest t c = rw c.requires.states at c.requires.path.rest_below
+
+pub taker-requires-clause-contents : goal.taker-requires-clause-contents
+taker-requires-clause-contents t c = rw c.requires.states at c.requires.path.contents_below
+
+pub taker-requires-clause-rests : goal.taker-requires-clause-rests
+taker-requires-clause-rests t c = rw c.requires.states at c.requires.path.rests_below
+
+pub taker-requires-clause-inside : goal.taker-requires-clause-inside
+taker-requires-clause-inside t c =
     let x = leaf_separated c.args.auto.now c.args.store.now (view_of c.args.goals.now) (view_of c.leaf.new.goals) c.in_ok-content.ensures.grows c.requires.separated c.args.task.owner.number
     (claim_with c.args.task.content c.args.contents.now) c.in_ok-content.content c.standing.result c.in-Refuted.inside c.in_ok-content.ensures.ok c.standing.ensures c.in-Refuted.is in
     x.belongs
 
-pub first_taker-requires-clause-behind : goal.first_taker-requires-clause-behind
-first_taker-requires-clause-behind t c =
+pub taker-requires-clause-behind : goal.taker-requires-clause-behind
+taker-requires-clause-behind t c =
     let y = leaf_separated c.args.auto.now c.args.store.now (view_of c.args.goals.now) (view_of c.leaf-2.new.goals)
     (Grows-then (view_of c.args.goals.now) (view_of c.leaf.new.goals) (view_of c.leaf-2.new.goals) c.in_ok-content.ensures.grows c.in_ok-rest.ensures.grows) c.requires.separated c.args.task.owner.number
     (claim_with c.args.task.rest c.args.rests.now) c.in_ok-rest.rest c.standing-2.result c.in-Refuted-standing.behind c.in_ok-rest.ensures.ok c.standing-2.ensures c.in-Refuted-standing.is in

@@ -27,25 +27,25 @@ node_at-requires t c =
     rw c.deref.ensures.value
     (HasTree-within (view_of c.args.goals.now) (λ tree. IsGrown c.args.goals.now.rows.items c.args.task c.args.sides.now tree c.args.contents.now c.args.rests.now) c.args.task.owner.number c.args.root c.requires.tree)
 
-pub is_refuted-requires : goal.is_refuted-requires
-is_refuted-requires t c =
+pub repair_leaf-requires-clause-there : goal.repair_leaf-requires-clause-there
+repair_leaf-requires-clause-there t c =
     content_there (view_of c.args.goals.now) c.args.task c.args.sides.now c.args.contents.now c.args.rests.now c.args.task.owner.number c.args.root c.in-Content.goal c.requires.tree
     (rw c.deref.ensures.value at c.in-Content.ensures)
 
-pub returns-in-Content-clause-grown : goal.returns-in-Content-clause-grown
-returns-in-Content-clause-grown t c =
+pub repair_leaf-requires-clause-opens : goal.repair_leaf-requires-clause-opens
+repair_leaf-requires-clause-opens t c =
     content_open (view_of c.args.goals.now) (λ tree. IsGrown c.args.goals.now.rows.items c.args.task c.args.sides.now tree c.args.contents.now c.args.rests.now) c.args.task.owner.number c.args.root
-    c.in-Content.goal c.requires.tree (rw c.deref.ensures.value at c.in-Content.ensures) (c.is_refuted.ensures c.if-is_refuted.false)
+    c.in-Content.goal c.requires.tree (rw c.deref.ensures.value at c.in-Content.ensures)
 
-pub is_refuted-requires-in-Rest : goal.is_refuted-requires-in-Rest
-is_refuted-requires-in-Rest t c =
+pub repair_leaf-requires-in-Rest-clause-there : goal.repair_leaf-requires-in-Rest-clause-there
+repair_leaf-requires-in-Rest-clause-there t c =
     rest_there (view_of c.args.goals.now) c.args.task c.args.sides.now c.args.contents.now c.args.rests.now c.args.task.owner.number c.args.root c.in-Rest.goal c.requires.tree
     (rw c.deref.ensures.value at c.in-Rest.ensures)
 
-pub returns-in-Rest-clause-grown : goal.returns-in-Rest-clause-grown
-returns-in-Rest-clause-grown t c =
+pub repair_leaf-requires-in-Rest-clause-opens : goal.repair_leaf-requires-in-Rest-clause-opens
+repair_leaf-requires-in-Rest-clause-opens t c =
     rest_open (view_of c.args.goals.now) (λ tree. IsGrown c.args.goals.now.rows.items c.args.task c.args.sides.now tree c.args.contents.now c.args.rests.now) c.args.task.owner.number c.args.root
-    c.in-Rest.goal c.requires.tree (rw c.deref.ensures.value at c.in-Rest.ensures) (c.is_refuted-in-Rest.ensures c.if-is_refuted-2.false)
+    c.in-Rest.goal c.requires.tree (rw c.deref.ensures.value at c.in-Rest.ensures)
 
 pub side_numbered-side-requires : goal.side_numbered-side-requires
 side_numbered-side-requires t c =

@@ -1,0 +1,128 @@
+//! On which right head a choice tree splits.
+
+ghost use Rattle.std.specs.Prelude.{◌≡◌, false, IfOk, MatchOption};
+ghost use Rattle.std.specs.List.{AllByRecursion};
+ghost use Rattle.xd_doc.specs.Stored.{BelongsTo};
+ghost use Rattle.xd_auto.specs.Automaton.{IsState};
+ghost use Rattle.xd_auto.specs.Kept.{AreRight};
+ghost use Rattle.xd_goals.specs.Trees.{IsTaker, takes};
+ghost use Rattle.xd_goals.specs.declared.heads.Side.{Side};
+
+use crate::grow::{Task, side_of};
+use crate::heads::Side;
+use xd_auto::{Answers, Auto, State, accepts_kept};
+use xd_doc::{Label, NoMemory, Seq, Store};
+
+/// Whether a right head takes an element with this content and this rest.
+fn is_taker(
+    auto: &Auto,
+    store: &Store,
+    answers: &mut Answers,
+    side: Side,
+    inside: Seq,
+    behind: Seq,
+) -> Result<bool, NoMemory>
+    requires content { IsState auto.now side.content }
+    requires rest { IsState auto.now side.rest }
+    requires inside { BelongsTo store.now inside }
+    requires behind { BelongsTo store.now behind }
+    requires right { AreRight auto.now store.now answers.old }
+    ensures answer { IfOk result (λ answer. answer ≡ takes auto.now store.now inside behind side) }
+    ensures right { AreRight auto.now store.now answers.new }
+{
+    if accepts_kept(answers, auto, side.content, store, inside)? {
+        accepts_kept(answers, auto, side.rest, store, behind)
+    } else {
+        Ok(false)
+    }
+}
+
+/// Whether one of some states, or one more, has a move on the label.
+fn any_takes(auto: &Auto, states: &[State], more: State, label: &Label) -> bool
+    requires states { AllByRecursion (IsState auto.now) states.now }
+    requires more { IsState auto.now more }
+{
+    if auto.next_label_move(more, label, 0).is_some() {
+        return true;
+    }
+    for state in states {
+        if auto.next_label_move(*state, label, 0).is_some() {
+            return true;
+        }
+    }
+    false
+}
+
+/// Whether they have a move on each of the labels.
+fn all_taken(auto: &Auto, labels: &[Label], states: &[State], more: State) -> bool
+    requires states { AllByRecursion (IsState auto.now) states.now }
+    requires more { IsState auto.now more }
+{
+    for label in labels {
+        if !any_takes(auto, states, more, label) {
+            return false;
+        }
+    }
+    true
+}
+
+/// Whether some states, with one more, have a move on each label that a move of the left names, as they
+/// must where they accept all that the left does.
+fn looks_covered(auto: &Auto, left: State, states: &[State], more: State) -> bool
+    requires left { IsState auto.now left }
+    requires states { AllByRecursion (IsState auto.now) states.now }
+    requires more { IsState auto.now more }
+{
+    for step in auto.label_moves(left) {
+        if !step.class.takes_others() && !all_taken(auto, step.class.names(), states, more) {
+            return false;
+        }
+    }
+    true
+}
+
+/// A right head that takes the element: the first one with which the two sides look as if they could do
+/// without another head, and where there is none such, the first of all.
+///
+/// A head that takes the element may be too small for what the left head has. The goals that it leads to
+/// are refuted in the end, and until then they lead to others, which stay. So a head that lacks a label right at
+/// the beginning is put off.
+pub(crate) fn taker(
+    auto: &Auto,
+    store: &Store,
+    answers: &mut Answers,
+    task: Task,
+    sides: &[Side],
+    contents: &[State],
+    rests: &[State],
+    inside: Seq,
+    behind: Seq,
+) -> Result<Option<Side>, NoMemory>
+    requires content { IsState auto.now task.content }
+    requires rest { IsState auto.now task.rest }
+    requires sides { AllByRecursion (λ (side : Side). (IsState auto.now side.content) × (IsState auto.now side.rest)) sides.now }
+    requires contents { AllByRecursion (IsState auto.now) contents.now }
+    requires rests { AllByRecursion (IsState auto.now) rests.now }
+    requires inside { BelongsTo store.now inside }
+    requires behind { BelongsTo store.now behind }
+    requires right { AreRight auto.now store.now answers.old }
+    ensures found { IfOk result (λ found. MatchOption found
+        (AllByRecursion (λ (side : Side). takes auto.now store.now inside behind side ≡ false) sides.now)
+        (IsTaker auto.now store.now sides.now inside behind)) }
+    ensures right { AreRight auto.now store.now answers.new }
+{
+    let mut first = None;
+    for place in 0..sides.len() {
+        let side = side_of(sides, place);
+        if !is_taker(auto, store, answers, side, inside, behind)? {
+            continue;
+        }
+        if looks_covered(auto, task.content, contents, side.content)
+            && looks_covered(auto, task.rest, rests, side.rest)
+        {
+            return Ok(Some(side));
+        }
+        first = first.or(Some(side));
+    }
+    Ok(first)
+}
