@@ -41,11 +41,11 @@ pub record IsMerged {N : Type 0} (is_name : N → Bool) (order : N → N → Ord
 
 -- what the first class has and is in the second, which has these names or all but these; no class where that is nothing
 abbrev pub common_has : {N : Type 0} → (N → N → Bool) → Names N → List N → Bool → N → Bool
-common_has same c names except x = is_in c.except (list_any (λ n. same n x) c.names.items) && is_in except (list_any (λ n. same n x) names)
+common_has same c names except x = is_in c.except (list_any (λ n. same n x) c.names.value.items) && is_in except (list_any (λ n. same n x) names)
 
 pub record IsCommonClass {N : Type 0} (is_name : N → Bool) (order : N → N → Ordering) (same : N → N → Bool) (c : Names N) (names : List N) (except : Bool) (made : Names N) : Type 0 where
-  pub valid : AreClassNames is_name order made.names.items made.except
-  pub has : (x : N) → is_in made.except (list_any (λ n. same n x) made.names.items) ≡ common_has same c names except x
+  pub valid : AreClassNames is_name order made.names.value.items made.except
+  pub has : (x : N) → is_in made.except (list_any (λ n. same n x) made.names.value.items) ≡ common_has same c names except x
 
 abbrev pub IsCommon : {N : Type 0} → (N → Bool) → (N → N → Ordering) → (N → N → Bool) → Names N → List N → Bool → Option (Names N) → Type 0
 IsCommon {N = N} is_name order same c names except None = (x : N) → common_has same c names except x ≡ false

@@ -22,9 +22,9 @@ impl Model for Class {
 
     ghost Value = { LabelClass };
 
-    ghost view = { λ c. record { names = c.labels.names.items; except = c.labels.except } };
+    ghost view = { λ c. record { names = c.labels.names.value.items; except = c.labels.except } };
 
-    ghost invariant = { λ c. IsClass (record { names = c.labels.names.items; except = c.labels.except }) };
+    ghost invariant = { λ c. IsClass (record { names = c.labels.names.value.items; except = c.labels.except }) };
 }
 
 impl Class {
@@ -64,7 +64,7 @@ impl Class {
         self.labels.names.as_slice()
     }
 
-    /// An equal class.
+    /// An equal class over the same list of names. It takes no memory, however many names there are.
     pub fn share(&self) -> Result<Self, NoMemory>
         ensures same { IfOk result (λ class. class ≡ self.now) }
         ensures valid { IsClass self.now }

@@ -8,6 +8,7 @@ ghost use Rattle.xd_doc.specs.Merging.{IsCommon, IsMerged, IsNext, is_kept};
 
 use crate::error::NoMemory;
 use std::cmp::Ordering;
+use std::rc::Rc;
 
 /// What a class names: a label or a text.
 pub(crate) trait Name: Ord + Drop {
@@ -23,10 +24,10 @@ pub(crate) trait Name: Ord + Drop {
         ensures { is_name self.now ≡ true };
 }
 
-/// Names in order, each once, and whether they are excepted.
+/// Names in order, each once, and whether they are excepted. Equal classes may have one list of names.
 #[derive(Debug, Drop)]
 pub(crate) struct Names<N> {
-    pub(crate) names: Vec<N>,
+    pub(crate) names: Rc<Vec<N>>,
     pub(crate) except: bool,
 }
 
@@ -34,9 +35,9 @@ impl<N: Name> Names<N> {
     /// These names, in any order and with repeats.
     pub(crate) fn new(names: Vec<N>, except: bool) -> Result<Self, NoMemory>
         requires { (0 < vec_len names) ⊎ (except ≡ true) }
-        ensures named { IfOk result (λ made. (x : N) → list_any (λ name. N.eq name x) made.names.items ≡ list_any (λ name. N.eq name x) names.items) }
+        ensures named { IfOk result (λ made. (x : N) → list_any (λ name. N.eq name x) made.names.value.items ≡ list_any (λ name. N.eq name x) names.items) }
         ensures except { IfOk result (λ made. made.except ≡ except) }
-        ensures valid { IfOk result (λ made. AreClassNames N.is_name N.cmp made.names.items made.except) }
+        ensures valid { IfOk result (λ made. AreClassNames N.is_name N.cmp made.names.value.items made.except) }
     {
         let mut names = names;
         names.sort()?;
@@ -44,26 +45,24 @@ impl<N: Name> Names<N> {
         for name in &names {
             name.see();
         }
+        let names = Rc::new(*names.allocator(), names)?;
         Ok(Self { names, except })
     }
 
     /// Whether the name is in the class, by bisection.
     pub(crate) fn has(&self, name: &N) -> bool
-        requires { AreClassNames N.is_name N.cmp self.now.names.items self.now.except }
-        ensures { let named = list_any (λ n. N.eq n name.now) self.now.names.items in result ≡ cond self.now.except (not named) named }
+        requires { AreClassNames N.is_name N.cmp self.now.names.value.items self.now.except }
+        ensures { let named = list_any (λ n. N.eq n name.now) self.now.names.value.items in result ≡ cond self.now.except (not named) named }
     {
         self.names.binary_search(name).is_ok() != self.except
     }
 
-    /// The same class, whose names are shared.
+    /// The same class, over the same list of names.
     pub(crate) fn share(&self) -> Result<Self, NoMemory>
-        ensures names { IfOk result (λ copy. copy.names.items ≡ self.now.names.items) }
+        ensures names { IfOk result (λ copy. copy.names.value.items ≡ self.now.names.value.items) }
         ensures except { IfOk result (λ copy. copy.except ≡ self.now.except) }
     {
-        let mut names = Vec::with_capacity(*self.names.allocator(), self.names.len())?;
-        for name in &self.names {
-            names.push(name.share()?)?;
-        }
+        let names = self.names.clone()?;
         Ok(Self {
             names,
             except: self.except,
@@ -72,25 +71,25 @@ impl<N: Name> Names<N> {
 
     /// What both classes have, or `None` where that is nothing.
     pub(crate) fn meet(&self, other: &Self) -> Result<Option<Self>, NoMemory>
-        requires one { AreClassNames N.is_name N.cmp self.now.names.items self.now.except }
-        requires two { AreClassNames N.is_name N.cmp other.now.names.items other.now.except }
-        ensures { IfOk result (IsCommon N.is_name N.cmp N.eq self.now other.now.names.items other.now.except) }
+        requires one { AreClassNames N.is_name N.cmp self.now.names.value.items self.now.except }
+        requires two { AreClassNames N.is_name N.cmp other.now.names.value.items other.now.except }
+        ensures { IfOk result (IsCommon N.is_name N.cmp N.eq self.now other.now.names.value.items other.now.except) }
     {
         self.common(&other.names, other.except)
     }
 
     /// What this class has and the other one hasn't, or `None` where that is nothing.
     pub(crate) fn without(&self, other: &Self) -> Result<Option<Self>, NoMemory>
-        requires one { AreClassNames N.is_name N.cmp self.now.names.items self.now.except }
-        requires two { AreClassNames N.is_name N.cmp other.now.names.items other.now.except }
-        ensures { IfOk result (IsCommon N.is_name N.cmp N.eq self.now other.now.names.items (not other.now.except)) }
+        requires one { AreClassNames N.is_name N.cmp self.now.names.value.items self.now.except }
+        requires two { AreClassNames N.is_name N.cmp other.now.names.value.items other.now.except }
+        ensures { IfOk result (IsCommon N.is_name N.cmp N.eq self.now other.now.names.value.items (not other.now.except)) }
     {
         self.common(&other.names, !other.except)
     }
 
     /// What this class has and is among these names, or isn't where `except` is true.
     fn common(&self, others: &[N], except: bool) -> Result<Option<Self>, NoMemory>
-        requires one { AreClassNames N.is_name N.cmp self.now.names.items self.now.except }
+        requires one { AreClassNames N.is_name N.cmp self.now.names.value.items self.now.except }
         requires two { IsStrictlySortedBy N.cmp others.now }
         ensures { IfOk result (IsCommon N.is_name N.cmp N.eq self.now others.now except) }
     {
@@ -99,14 +98,15 @@ impl<N: Name> Names<N> {
         if names.is_empty() && !except {
             return Ok(None);
         }
+        let names = Rc::new(*names.allocator(), names)?;
         Ok(Some(Self { names, except }))
     }
 
     /// The names of that class, by one walk along both lists.
     fn merge(&self, others: &[N], except: bool) -> Result<Vec<N>, NoMemory>
-        requires one { IsStrictlySortedBy N.cmp self.now.names.items }
+        requires one { IsStrictlySortedBy N.cmp self.now.names.value.items }
         requires two { IsStrictlySortedBy N.cmp others.now }
-        ensures { IfOk result (λ made. IsMerged N.is_name N.cmp N.eq self.now.except except self.now.names.items others.now made.items) }
+        ensures { IfOk result (λ made. IsMerged N.is_name N.cmp N.eq self.now.except except self.now.names.value.items others.now made.items) }
     {
         let mut kept = Vec::new(*self.names.allocator());
         let mut one = self.names.as_slice();

@@ -22,9 +22,9 @@ impl Model for Words {
 
     ghost Value = { TextClass };
 
-    ghost view = { λ w. record { names = w.texts.names.items; except = w.texts.except } };
+    ghost view = { λ w. record { names = w.texts.names.value.items; except = w.texts.except } };
 
-    ghost invariant = { λ w. IsTextClass (record { names = w.texts.names.items; except = w.texts.except }) };
+    ghost invariant = { λ w. IsTextClass (record { names = w.texts.names.value.items; except = w.texts.except }) };
 }
 
 impl Words {
@@ -64,7 +64,7 @@ impl Words {
         self.texts.names.as_slice()
     }
 
-    /// An equal class.
+    /// An equal class over the same list of names. It takes no memory, however many names there are.
     pub fn share(&self) -> Result<Self, NoMemory>
         ensures same { IfOk result (λ words. words ≡ self.now) }
         ensures valid { IsTextClass self.now }
