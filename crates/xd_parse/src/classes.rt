@@ -57,7 +57,8 @@ fn read_any_word(alloc: Global, cursor: &mut Cursor<'_>) -> Result<Label, NoMemo
     ensures reads { IfOk result (λ w. Reads nonterminals.AnyWord cursor.old cursor.new (names (w ∷ []))) }
     ensures left { IfOk result (λ w. cursor.new ≡ behind cursor.old) }
 {
-    let word = Label::new(alloc, any_text(cursor.peek(), cursor.word_text()))?;
+    let text = any_text(cursor.peek(), cursor.word_text());
+    let word = cursor.shared_label(alloc, text)?;
     cursor.step();
     Ok(word)
 }

@@ -68,10 +68,13 @@ fn take_behind<'a>(kind: Kind, lexer: &mut Lexer<'a>) -> Option<Lookahead<'a>>
 }
 
 /// The tokens that are left of a text: the next one, and a lexer that has those behind it.
+///
+/// Keeps the last label that it made, so that a word that comes many times in a row is one block of memory.
 #[derive(Drop)]
 pub struct Cursor<'a> {
     next: Option<Lookahead<'a>>,
     lexer: Lexer<'a>,
+    last_label: Option<Label>,
 }
 
 impl<'a> Model for Cursor<'a> {
@@ -95,6 +98,7 @@ impl<'a> Cursor<'a> {
         Self {
             next: Some(next),
             lexer,
+            last_label: None,
         }
     }
 
@@ -137,10 +141,25 @@ impl<'a> Cursor<'a> {
         ensures plain { IfOk result (λ w. has_word keywords w.word ≡ false) }
         ensures left { IfOk result (λ w. self.new ≡ behind self.old) }
     {
-        let text = self.word_text();
-        let word = Label::new(alloc, text)?;
+        let word = self.shared_label(alloc, self.word_text())?;
         let place = self.step();
         Ok(Word { word, place })
+    }
+
+    /// A label of this word. Shares the last one that was made where that has the same word.
+    pub fn shared_label(&mut self, alloc: Global, word: &str) -> Result<Label, NoMemory>
+        requires { is_word word.now ≡ true }
+        ensures word { IfOk result (λ label. label ≡ word.now) }
+        ensures same { self.new ≡ self.old }
+    {
+        if let Some(last) = &self.last_label {
+            if last.as_str() == word {
+                return last.share();
+            }
+        }
+        let label = Label::new(alloc, word)?;
+        self.last_label = Some(label.share()?);
+        Ok(label)
     }
 
     /// The next token's text where it is a word that is no keyword, else `_`.
@@ -170,6 +189,7 @@ impl<'a> Cursor<'a> {
         let mut ahead = Cursor {
             next: self.next,
             lexer: self.lexer.fork(),
+            last_label: None,
         };
         let mut reading = Reading::Opened(sort);
         ahead.step();
@@ -192,7 +212,7 @@ impl<'a> Cursor<'a> {
         ensures place { IfOk result (λ w. w.place ≡ front_place self.old) }
         ensures left { IfOk result (λ w. self.new ≡ behind self.old) }
     {
-        let word = Label::new(alloc, self.label_text())?;
+        let word = self.shared_label(alloc, self.label_text())?;
         let place = self.step();
         Ok(Word { word, place })
     }
