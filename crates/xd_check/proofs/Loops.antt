@@ -39,6 +39,9 @@ pub ceiling_within : (n : ℕ) (is : List ℕ) → AllByRecursion (λ i. i < n) 
 ceiling_within n [] a = omega arith
 ceiling_within n (i ∷ is) a = let r = ceiling_within n is a.1 in let s : i < n = a.0 in omega arith
 
+pub ceiling_again : (n : ℕ) (ps qs : List ExprId) → ps ≡ qs → AllByRecursion (λ i. i < n) (expr_numbers qs) → ceiling (expr_numbers ps) ≤ n
+ceiling_again n ps qs e a = ceiling_within n (expr_numbers ps) (subst (λ xs. AllByRecursion (λ i. i < n) (expr_numbers xs)) (sym e) a)
+
 abbrev pub bodies : List (ℕ × ℕ) → List ℕ
 bodies cs = map (λ (c : ℕ × ℕ). c.1) cs
 

@@ -1,5 +1,5 @@
 -- States that are made: of one text, and of documents one after the other.
-use Rattle.std.proofs.Common.{◌≡◌, ◌↔◌, ℕ, ◌+◌, ◌<◌, arith, Bool, true, false, cond, not, nat_eq, ◌||◌, List, [], ◌∷◌, ◌++◌, length, refl, ap, sym, subst, ◌∙◌, length-append, append-nil, append_assoc, ◌⊎◌, inl, inr}
+use Rattle.std.proofs.Common.{◌≡◌, ◌↔◌, ℕ, ◌+◌, ◌<◌, arith, Bool, true, false, cond, not, nat_eq, List, [], ◌∷◌, ◌++◌, length, refl, ap, sym, subst, ◌∙◌, length-append, append-nil, append_assoc}
 use Rattle.std.proofs.Math.Bool.{or-false}
 use Rattle.std.specs.List.{AllByRecursion, list_any}
 use Rattle.std.specs.Cmp.Lexicographic.{pointwise}
@@ -13,7 +13,7 @@ use Rattle.xd_auto.specs.Automaton.{Automaton, ChangesOnly, Extends, IsClosed, I
 use Rattle.xd_auto.specs.Membership.{takes_element, takes_word}
 use Rattle.xd_auto.proofs.Extending.{keeps}
 use Rattle.xd_auto.proofs.Anys.{and_left, and_right, and_both}
-use Rattle.xd_check.specs.Walked.{AcceptedBySome, AcceptedInTurn, Grows}
+use Rattle.xd_check.specs.Walked.{AcceptedInTurn, Grows}
 use Rattle.xd_check.proofs.Keeping.{grows_then}
 
 -- a state that has no moves and is last accepts the empty document alone
@@ -180,52 +180,3 @@ joined_next a0 a b all left rest s made new j e h i x k =
 
 pub joined_end : (a0 a : Automaton) (all left : List State) (made : State) → AreJoined a0 a all left made → left ≡ [] → (d : Document) → (accepts a d made ≡ true) ↔ AcceptedInTurn a0 all d
 joined_end a0 a all left made j e d = subst (λ ss. (accepts a d made ≡ true) ↔ AcceptedInTurn a0 ss d) (sym (j.split ∙ ap (λ xs. xs ++ j.joined) e)) (j.accepts_joined d)
-
--- the states from the last on are united, and the first ones are left
-pub record AreUnited (a0 a : Automaton) (all left : List State) (made : State) : Type 0 where
-  pub united : List State
-  pub split : all ≡ left ++ united
-  pub there : AllByRecursion (IsState a0) left
-  pub belongs : IsState a made
-  pub grows : Grows a0 a
-  pub accepts_some : (d : Document) → (accepts a d made ≡ true) ↔ AcceptedBySome a0 united d
-
-pub united_begin : (a0 a : Automaton) (all : List State) (made : State) → AllByRecursion (IsState a0) all → state_number made ≡ length a0 → a ≡ a0 ++ no_moves false ∷ [] →
-    IsState a made → Extends a0 a → KeepsAccepting a0 a → AreUnited a0 a all all made
-united_begin a0 a all made h n e b x k = record {
-  united = [];
-  split = sym (append-nil all);
-  there = h;
-  belongs = b;
-  grows = record { extends = x; keeps = k };
-  accepts_some = λ d. ((λ m. never a made (new_moves a0 a made false n e) d m), (λ m. absurd m));
-}
-
-pub last_united : (a0 a : Automaton) (all left rest : List State) (s made : State) → AreUnited a0 a all left made → left ≡ rest ++ s ∷ [] → IsState a s
-last_united a0 a all left rest s made j e = ((j.grows).extends).states s (all_front a0 rest s (subst (AllByRecursion (IsState a0)) e j.there)).1
-
-or_cases : (x y : Bool) → ((x || y) ≡ true) ↔ ((x ≡ true) ⊎ (y ≡ true))
-or_cases true y = ((λ e. inl refl), (λ e. refl))
-or_cases false y = ((λ e. inr e), (λ e. elim e [ inl f ↦ absurd (cc) | inr f ↦ f ]))
-
-pub united_next : (a0 a b : Automaton) (all left rest : List State) (s made new : State) → AreUnited a0 a all left made → left ≡ rest ++ s ∷ [] →
-    ((d : Document) → accepts b d new ≡ (accepts a d s || accepts a d made)) → IsState b new → Extends a b → KeepsAccepting a b → AreUnited a0 b all rest new
-united_next a0 a b all left rest s made new j e h i x k =
-    let r = all_front a0 rest s (subst (AllByRecursion (IsState a0)) e j.there) in
-    let g = j.grows in
-    record {
-      united = s ∷ j.united;
-      split = j.split ∙ ap (λ xs. xs ++ j.united) e ∙ append_assoc rest (s ∷ []) j.united;
-      there = r.0;
-      belongs = i;
-      grows = grows_then a0 a b j.grows (record { extends = x; keeps = k });
-      accepts_some = λ d.
-          (let o = or_cases (accepts a d s) (accepts a d made) in
-          let q : accepts a d s ≡ accepts a0 d s = g.keeps d s r.1 in (
-            (λ m. elim (o.0 (sym (h d) ∙ m)) [ inl y ↦ inl (sym q ∙ y) | inr y ↦ inr ((j.accepts_some d).0 y) ]),
-            (λ m. h d ∙ o.1 (elim m [ inl y ↦ inl (q ∙ y) | inr y ↦ inr ((j.accepts_some d).1 y) ])),
-          ));
-    }
-
-pub united_end : (a0 a : Automaton) (all left : List State) (made : State) → AreUnited a0 a all left made → left ≡ [] → (d : Document) → (accepts a d made ≡ true) ↔ AcceptedBySome a0 all d
-united_end a0 a all left made j e d = subst (λ ss. (accepts a d made ≡ true) ↔ AcceptedBySome a0 ss d) (sym (j.split ∙ ap (λ xs. xs ++ j.united) e)) (j.accepts_some d)

@@ -2,13 +2,13 @@
 
 ghost use Rattle.std.specs.Prelude.{◌≡◌, ◌<◌, [], length, IfOk, OnOk};
 ghost use Rattle.xd_doc.specs.Stored.{Keeps};
-ghost use Rattle.xd_syntax.specs.Kept.{AddsTypes, program_tree};
+ghost use Rattle.xd_syntax.specs.Kept.{AddsTypes, function_definition, program_tree};
 ghost use Rattle.xd_auto.specs.Automaton.{IsState};
 ghost use Rattle.xd_syntax.specs.Placed.{place_of, placed_at};
 ghost use Rattle.xd_syntax.specs.Patterns.{IsPattern};
 ghost use Rattle.xd_syntax.specs.Exprs.{IsExpr};
 ghost use Rattle.xd_syntax.specs.Expression.{place_of_expression};
-ghost use Rattle.xd_syntax.specs.CheckFaults.{LineWhere, LinesOfFunctions, wrong_result};
+ghost use Rattle.xd_syntax.specs.CheckFaults.{LineWhere, LinesOfFunction, LinesOfFunctions, wrong_result};
 ghost use Rattle.xd_check.specs.FoundLines.{AddsLines};
 ghost use Rattle.xd_check.specs.InScope.{parameters_in_scope};
 ghost use Rattle.xd_check.specs.Known.{IsKnown};
@@ -24,7 +24,7 @@ use xd_base::Place;
 use xd_doc::{NoMemory, Store};
 use xd_patterns::PatternCompiler;
 use xd_runs::laws::programs_are_linear;
-use xd_syntax::{ExprId, Param, PatternId, SoundProgram};
+use xd_syntax::{ExprId, Function, Param, PatternId, SoundProgram};
 
 /// The program, what compiles its patterns, and its functions' declared types as states of an automaton.
 #[derive(Drop)]
@@ -36,7 +36,8 @@ pub(crate) struct Checker {
 }
 
 impl Checker {
-    ghost use Rattle.xd_check.specs.Ready.{AddsLinesOfFunction, IsReady, expr_at};
+    ghost use Rattle.xd_check.specs.Ready.{AddsLinesOfFunction, CanBeWalked, IsReady, expr_at};
+    ghost use Rattle.xd_check.specs.Signed.{IsSignatureOfRow};
     ghost use Rattle.xd_check.specs.Walked.{Grows, IsMisfit};
 
     /// The states of declared types are added to the automaton.
@@ -120,6 +121,29 @@ impl Checker {
         programs_are_linear();
         let function = &self.sound.program().functions()[number];
         let signature = &self.signatures.rows()[number];
+        self.in_body(function, signature, auto, known, lines, store)?;
+        Ok(())
+    }
+
+    /// The same of a function whose declared types have these states.
+    fn in_body(
+        &self,
+        function: &Function,
+        signature: &Signature,
+        auto: &mut Auto,
+        known: &mut Known,
+        lines: &mut Vec<FoundLine>,
+        store: &mut Store,
+    ) -> Result<(), NoMemory>
+        requires ready { IsReady self.now auto.old }
+        requires body { CanBeWalked self.now.sound function.now.body.at }
+        requires signature { IsSignatureOfRow self.now.sound auto.old function.now signature.now }
+        requires known { IsKnown auto.old store.old known.old }
+        ensures lines { OnOk result (AddsLines store.new (LinesOfFunction (program_tree self.now.sound) (function_definition self.now.sound function.now)) lines.old.items lines.new.items) }
+        ensures grows { OnOk result (Grows auto.old auto.new) }
+        ensures known { OnOk result (IsKnown auto.new store.new known.new) }
+        ensures keeps { Keeps store.old store.new }
+    {
         let mut variables = parameters(self.alloc, function.params(), &signature.parameters)?;
         let body = function.body();
         let state = self.in_expression(body, &mut variables, auto, known, lines, store)?;

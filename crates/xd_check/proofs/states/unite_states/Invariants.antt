@@ -1,9 +1,6 @@
-use Rattle.std.proofs.Common.{vec_len}
-use Rattle.xd_check.proofs.Making.{AreUnited}
+use Rattle.std.proofs.Common.{drop}
+use Rattle.xd_check.proofs.Uniting.{AreUnited}
 use Rattle.xd_check.proofs.states.unite_states.Given as goal
 
 abbrev pub invariant-loop-state : goal.invariant-loop-state
-invariant-loop-state l = AreUnited l.fn.auto l.auto' l.fn.states.items l.states.items l.made
-
-abbrev pub decreases-loop-state : goal.decreases-loop-state
-decreases-loop-state l = vec_len l.states
+invariant-loop-state l = AreUnited l.fn.auto l.auto' l.made l.state-items (drop l.state-index l.state-items)

@@ -28,7 +28,7 @@ use Rattle.xd_check.proofs.Keeping.{grows_then, keeps_same, keeps_then, scope_ke
 use Rattle.xd_check.proofs.Knowing.{known_kept, known_learnt}
 use Rattle.xd_check.proofs.ClauseLoop.{ClausesLoop, clause_here, clauses_loop_begin, clauses_loop_end, clauses_loop_more}
 use Rattle.xd_check.proofs.Scoping.{clause_left, clause_scope, clause_states, parameter_states}
-use Rattle.xd_check.proofs.Loops.{PartsLoop, argument_here, arguments_begin, arguments_end, arguments_more, bodies, bodies_below, ceiling, ceiling_within, part_here, parts_begin, parts_end, parts_more}
+use Rattle.xd_check.proofs.Loops.{PartsLoop, argument_here, arguments_begin, arguments_end, arguments_more, bodies, bodies_below, ceiling, ceiling_again, ceiling_within, part_here, parts_begin, parts_end, parts_more}
 use Rattle.xd_check.proofs.Lists.{all_as, if_some}
 use Rattle.xd_check.proofs.Making.{joined_none, never, new_moves}
 use Rattle.xd_check.proofs.Readying.{found_there, ready_kept, signed_none, signed_some, states_again}
@@ -67,8 +67,7 @@ in_expression-in_parts-requires t c =
     let form = sym c.form.ensures ∙ ap shape_of c.in-Seq.is in
     let tree = expr_is p c.exprs.result.now c.args.id n.place n.form (seq_shape ids) e (c.node-node.ensures.expression p.patterns) form in
     let older : AllByRecursion (λ i. i < c.args.id.at) ids = subst (ExprPartsBelow c.args.id.at) form c.node-node.ensures.parts in
-    let here : AllByRecursion (λ i. i < c.args.id.at) (expr_numbers c.deref.result.now) = subst (λ (ps : List ExprId). AllByRecursion (λ i. i < c.args.id.at) (expr_numbers ps)) (sym c.deref.ensures.value) older in
-    let top = ceiling_within c.args.id.at (expr_numbers c.deref.result.now) here in
+    let top = ceiling_again c.args.id.at c.deref.result.now c.in-Seq.parts.items c.deref.ensures.value older in
     let falls : 4 * ceiling (expr_numbers c.deref.result.now) + 1 < t = omega arith in
     (falls, (c.requires.ready, (subst (λ (ps : List ExprId). AllByRecursion (CanBeWalked p) (expr_numbers ps)) (sym c.deref.ensures.value) (walk_parts p c.args.id.at n.place ids c.requires.expression tree older), (c.requires.variables, c.requires.known))))
 
@@ -84,8 +83,7 @@ in_expression-in_call-requires t c =
     let form = sym c.form.ensures ∙ ap shape_of c.in-Call.is in
     let tree = expr_is p c.exprs.result.now c.args.id n.place n.form (call_shape c.in-Call.word ids) e (c.node-node.ensures.expression p.patterns) form in
     let older : AllByRecursion (λ i. i < c.args.id.at) ids = subst (ExprPartsBelow c.args.id.at) form c.node-node.ensures.parts in
-    let here : AllByRecursion (λ i. i < c.args.id.at) (expr_numbers c.deref-in-Call.result.now) = subst (λ (ps : List ExprId). AllByRecursion (λ i. i < c.args.id.at) (expr_numbers ps)) (sym c.deref-in-Call.ensures.value) older in
-    let top = ceiling_within c.args.id.at (expr_numbers c.deref-in-Call.result.now) here in
+    let top = ceiling_again c.args.id.at c.deref-in-Call.result.now c.in-Call.arguments.items c.deref-in-Call.ensures.value older in
     let falls : 4 * ceiling (expr_numbers c.deref-in-Call.result.now) + 2 < t = omega arith in
     (falls, (c.requires.ready, (subst (λ (ps : List ExprId). AllByRecursion (CanBeWalked p) (expr_numbers ps)) (sym c.deref-in-Call.ensures.value) (walk_arguments p c.args.id.at n.place c.in-Call.word ids c.requires.expression tree older), (c.requires.variables, c.requires.known))))
 

@@ -1,0 +1,72 @@
+use Rattle.std.proofs.Common.{◌≡◌, ◌<◌, List, map, length, ap, sym, subst, ◌∙◌}
+use Rattle.xd_syntax.specs.FunctionRow.{FunctionRow}
+use Rattle.xd_syntax.specs.Kept.{ProgramTable, parameter, program_tree}
+use Rattle.xd_syntax.specs.Program.{ProgramTree, names_of}
+use Rattle.xd_syntax.specs.declared.program.Param.{Param}
+use Rattle.xd_syntax.specs.Placed.{placed_at}
+use Rattle.xd_syntax.specs.Expression.{Expression, place_of_expression}
+use Rattle.xd_syntax.specs.May.{Scope, parameters_scope}
+use Rattle.xd_syntax.specs.CheckFaults.{LineWhere, LinesOf, Misfits, wrong_result}
+use Rattle.xd_syntax.specs.declared.exprs.ExprId.{ExprId}
+use Rattle.xd_check.specs.declared.signatures.Signature.{Signature}
+use Rattle.xd_check.specs.FoundLines.{AddsLines}
+use Rattle.xd_check.specs.InScope.{AreStates, ScopeStands, parameters_in_scope}
+use Rattle.xd_check.specs.Ready.{CanBeWalked, expr_at}
+use Rattle.xd_check.specs.Walked.{IsMisfit, IsWalked}
+use Rattle.xd_check.proofs.Arguments.{misfit_lines}
+use Rattle.xd_check.proofs.LineLists.{adds_as, adds_both}
+use Rattle.xd_check.proofs.Signing.{state_kept}
+use Rattle.xd_check.proofs.Scoping.{parameters_count, parameters_stand, parameters_states}
+use Rattle.xd_check.proofs.checker.Checker.in_body.Goals as goal
+
+pub parameters-requires : goal.parameters-requires
+parameters-requires c =
+    let p : ProgramTable = c.args.self.now.sound in
+    ap (λ (qs : List Param). length qs) c.params.ensures.params
+    ∙ parameters_count (names_of (program_tree p)) p c.args.auto.now c.args.function.now.params c.args.signature.now.parameters.items c.requires.signature.parameters ∙ sym (ap (λ ss. length ss) c.deref.ensures.value)
+
+pub in_expression-requires : goal.in_expression-requires
+in_expression-requires c =
+    let p : ProgramTable = c.args.self.now.sound in
+    let f : FunctionRow = c.args.function.now in
+    let g : Signature = c.args.signature.now in
+    let scope : c.in_ok-variables.variables ≡ parameters_in_scope f.params g.parameters.items = c.in_ok-variables.ensures
+    ∙ ap (λ (qs : List Param). parameters_in_scope qs c.deref.result.now) c.params.ensures.params ∙ ap (λ ss. parameters_in_scope f.params ss) c.deref.ensures.value in
+    record {
+      ready = c.requires.ready;
+      expression = subst (λ (id : ExprId). CanBeWalked p id.at) (sym c.body-body.ensures) c.requires.body;
+      variables = subst (AreStates c.args.auto.now) (sym scope) (parameters_states (names_of (program_tree p)) p c.args.auto.now f.params g.parameters.items c.requires.signature.parameters);
+      known = c.requires.known;
+    }
+
+pub see_result-requires-clause-body : goal.see_result-requires-clause-body
+see_result-requires-clause-body c = subst (λ (id : ExprId). id.at < length c.args.self.now.sound.exprs) (sym c.body-body.ensures) c.requires.body.there
+
+pub see_result-requires-clause-known : goal.see_result-requires-clause-known
+see_result-requires-clause-known c = c.in_ok-state.ensures.known
+
+pub see_result-requires-clause-wanted : goal.see_result-requires-clause-wanted
+see_result-requires-clause-wanted c = c.in_ok-state.ensures.grows.extends.states c.args.signature.now.declared c.requires.signature.result.belongs
+
+pub returns-clause-lines : goal.returns-clause-lines
+returns-clause-lines c =
+    let p : ProgramTable = c.args.self.now.sound in
+    let P : ProgramTree = program_tree p in
+    let f : FunctionRow = c.args.function.now in
+    let g : Signature = c.args.signature.now in
+    let scope : c.in_ok-variables.variables ≡ parameters_in_scope f.params g.parameters.items = c.in_ok-variables.ensures
+    ∙ ap (λ (qs : List Param). parameters_in_scope qs c.deref.result.now) c.params.ensures.params ∙ ap (λ ss. parameters_in_scope f.params ss) c.deref.ensures.value in
+    let S : Scope = parameters_scope (map (parameter p.types) f.params) in
+    let x : Expression = expr_at p f.body.at in
+    let grows = c.in_ok-state.ensures.grows in
+    let inside : ScopeStands P S c.args.auto.now c.in_ok-variables.variables = subst (ScopeStands P S c.args.auto.now) (sym scope) (parameters_stand P p c.args.auto.now f.params g.parameters.items c.requires.signature.parameters) in
+    let w0 = c.in_ok-state.ensures.walked S inside in
+    let w : IsWalked P S x c.in_expression.new.auto c.in_expression.new.store c.args.lines.now.items c.in_expression.new.lines.items c.in_ok-state.state
+    = subst (λ (id : ExprId). IsWalked P S (expr_at p id.at) c.in_expression.new.auto c.in_expression.new.store c.args.lines.now.items c.in_expression.new.lines.items c.in_ok-state.state) c.body-body.ensures w0 in
+    let line : AddsLines c.see_result.new.store (LineWhere (place_of_expression x) wrong_result (IsMisfit c.in_expression.new.auto c.in_ok-state.state g.declared)) c.in_expression.new.lines.items c.see_result.new.lines.items
+    = subst (λ (id : ExprId). AddsLines c.see_result.new.store (LineWhere (place_of_expression (expr_at p id.at)) wrong_result (IsMisfit c.in_expression.new.auto c.in_ok-state.state g.declared)) c.in_expression.new.lines.items c.see_result.new.lines.items) c.body-body.ensures c.in_ok-see_result.ensures.lines in
+    let wanted = state_kept (names_of P) c.args.auto.now c.in_expression.new.auto grows (placed_at p.types f.declared.at) g.declared c.requires.signature.result in
+    adds_both c.in_expression.new.store c.see_result.new.store c.in_ok-see_result.ensures.keeps (LinesOf P S x) (LineWhere (place_of_expression x) wrong_result (Misfits P S x (placed_at p.types f.declared.at)))
+    c.args.lines.now.items c.in_expression.new.lines.items c.see_result.new.lines.items w.lines
+    (adds_as c.see_result.new.store (LineWhere (place_of_expression x) wrong_result (IsMisfit c.in_expression.new.auto c.in_ok-state.state g.declared)) (LineWhere (place_of_expression x) wrong_result (Misfits P S x (placed_at p.types f.declared.at)))
+    (misfit_lines P S x (placed_at p.types f.declared.at) (place_of_expression x) wrong_result c.in_expression.new.auto c.in_ok-state.state g.declared w.may wanted.exact) c.in_expression.new.lines.items c.see_result.new.lines.items line)
