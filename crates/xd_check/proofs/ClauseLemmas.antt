@@ -1,6 +1,7 @@
 -- Clauses of a match: what comes to each, and what its variables may be.
-use Rattle.std.proofs.Common.{◌≡◌, ◌↔◌, ℕ, true, false, ◌||◌, ◌⊎◌, List, [], ◌∷◌, ◌++◌, map, Bool, cond, inl, inr, Option, Some, None, refl, ap, sym, subst, ◌∙◌}
+use Rattle.std.proofs.Common.{◌≡◌, ◌≢◌, ◌↔◌, ℕ, true, false, ◌||◌, ◌⊎◌, List, [], ◌∷◌, ◌++◌, map, Bool, cond, inl, inr, Option, Some, None, refl, ap, sym, subst, ◌∙◌}
 use Rattle.std.specs.List.{AllByRecursion}
+use Rattle.std.specs.Option.{IfSome}
 use Rattle.std.specs.Str.{bytes_eq}
 use Rattle.xd_base.specs.declared.Place.{Place}
 use Rattle.xd_doc.specs.Document.{Document, is_proper}
@@ -63,11 +64,15 @@ module _ (P : ProgramTree) (S : Scope) (e : Expression) (earlier : List PlacedTr
   bind_to : (Q : PlacedTree) (x : List ℕ) (d : Document) → MayBind E (May P S e) earlier Q x d → MayBind E C [] Q x d
   bind_to Q x d h = (h.0, h.1, arrives_to h.0 h.2, h.3, h.4)
 
-  -- what is left comes behind the pattern too
-  pub passed : (Q : PlacedTree) (D : Document → Type 0) → ((d : Document) → D d ↔ (C d × (Takes E (unplaced Q) d → ⊥))) → ComesBehind P S e (Q ∷ earlier) D
-  passed Q D h d p = (
-    (λ m. (let i = (h d).0 m in let j = (comes d p).0 i.0 in (j.0, (i.1, j.1)))),
-    (λ m. (h d).1 ((comes d p).1 (m.0, (m.1).1), (m.1).0)),
+  -- what is left comes behind the pattern too, where nothing was taken away for a dead clause
+  pub passed : (Q : PlacedTree) (o : Option State) (D : Document → Type 0) → (o ≡ None → IsLiveIn P S e earlier Q → ⊥) → ((d : Document) → D d ↔ (C d × (o ≢ None → Takes E (unplaced Q) d → ⊥))) → ComesBehind P S e (Q ∷ earlier) D
+  passed Q None D dead h d p = (
+    (λ m. (let j = (comes d p).0 ((h d).0 m).0 in (j.0, ((λ t. dead refl (d, (p, j.0, j.1), t)), j.1)))),
+    (λ m. (h d).1 ((comes d p).1 (m.0, (m.1).1), (λ x. (m.1).0))),
+  )
+  passed Q (Some s) D dead h d p = (
+    (λ m. (let i = (h d).0 m in let j = (comes d p).0 i.0 in (j.0, (i.1 (λ r. absurd (cc)), j.1)))),
+    (λ m. (h d).1 ((comes d p).1 (m.0, (m.1).1), (λ x. (m.1).0))),
   )
 
   -- what comes behind all patterns
@@ -123,6 +128,7 @@ pub clause_dead : (P : ProgramTree) (S : Scope) (e : Expression) (earlier : List
 clause_dead P S e earlier Q f a ds old new n h = record {
   may = λ d p. ((λ m. absurd m), (λ m. absurd (n m.0)));
   lines = adds_as ds (λ ms. ms ≡ record { place = place_of Q; kind = dead_clause; document = None } ∷ []) (LinesOfClause P S e earlier Q f) (λ ms m. inr (n, m)) old new h;
+  dead = λ r. n;
 }
 
 -- and one that is, whose body was walked
@@ -131,6 +137,19 @@ pub clause_live : (P : ProgramTree) (S : Scope) (e : Expression) (earlier : List
 clause_live P S e earlier Q f a ds old new s l w = record {
   may = λ d p. ((λ m. (l, (w.may d p).0 m)), (λ m. (w.may d p).1 m.1));
   lines = adds_as ds (LinesOf P (clause_entry e earlier Q ∷ S) f) (LinesOfClause P S e earlier Q f) (λ ms m. inl (l, m)) old new w.lines;
+  dead = λ r. absurd (cc);
+}
+
+-- the automaton may grow behind a clause
+pub clause_kept : (P : ProgramTree) (S : Scope) (e : Expression) (earlier : List PlacedTree) (Q : PlacedTree) (f : Expression) (a b : Automaton) (ds : List Document) (old new : List FoundLine) (o : Option State) →
+    Grows a b → IfSome o (IsState a) → IsClauseWalked P S e earlier Q f a ds old new o → IsClauseWalked P S e earlier Q f b ds old new o
+clause_kept P S e earlier Q f a b ds old new None g i w = record { may = w.may; lines = w.lines; dead = w.dead }
+clause_kept P S e earlier Q f a b ds old new (Some s) g i w = record {
+  may = λ d p.
+      (let same : accepts b d s ≡ accepts a d s = g.keeps d s i in
+      ((λ m. (w.may d p).0 (sym same ∙ m)), (λ m. same ∙ (w.may d p).1 m)));
+  lines = w.lines;
+  dead = w.dead;
 }
 
 -- clauses from some on are still to be walked

@@ -1,6 +1,7 @@
 -- The loop over the clauses of a match.
-use Rattle.std.proofs.Common.{◌≡◌, ◌↔◌, ℕ, ◌+◌, ◌<◌, ◌≤◌, arith, true, List, [], ◌∷◌, length, get_or, drop, Option, ap, sym, subst, ◌∙◌}
+use Rattle.std.proofs.Common.{◌≡◌, ◌≢◌, ◌↔◌, ℕ, ◌+◌, ◌<◌, ◌≤◌, arith, true, List, [], ◌∷◌, length, get_or, drop, Option, None, ap, sym, subst, ◌∙◌}
 use Rattle.std.specs.List.{AllByRecursion}
+use Rattle.std.specs.Option.{IfSome}
 use Rattle.std.proofs.lemmas.List.{drop_more}
 use Rattle.xd_base.specs.declared.Place.{Place}
 use Rattle.xd_doc.specs.Document.{Document}
@@ -23,8 +24,10 @@ use Rattle.xd_check.specs.FoundLines.{AddsLines}
 use Rattle.xd_check.specs.InScope.{AreStates, ScopeStands}
 use Rattle.xd_check.specs.Ready.{ClauseCanBeWalked, expr_at}
 use Rattle.xd_check.specs.Walked.{AcceptedBySome, AreClausesWalked, ComesBehind, Grows, IsClauseWalked, with_found}
-use Rattle.xd_check.proofs.ClauseLemmas.{AreClausesGoing, clauses_begin, clauses_end, clauses_more, passed}
+use Rattle.xd_check.proofs.ClauseLemmas.{AreClausesGoing, clause_kept, clauses_begin, clauses_end, clauses_more, passed}
 use Rattle.xd_check.proofs.Keeping.{grows_then, scope_kept}
+use Rattle.xd_check.proofs.Lists.{all_as}
+use Rattle.xd_check.proofs.Readying.{found_there}
 use Rattle.xd_check.proofs.Loops.{Stays, bodies, ceiling, stays_begin, stays_more}
 
 -- the clauses of these
@@ -69,11 +72,12 @@ came P S e earlier b m v g i h d p =
     let same : accepts m d v ≡ accepts b d v = g.keeps d v i in
     ((λ x. (h d p).0 (sym same ∙ x)), (λ x. same ∙ (h d p).1 x))
 
+-- one more clause is walked, and what it leaves is an old state or a new one
 pub clauses_loop_more : (p : ProgramTable) (place : Place) (a b m c : Automaton) (vs ws xs : List Variable) (ds es fs : List Document) (old mid new : List FoundLine) (cs : List Clause) (n : ℕ) (ss us : List State) (first v w : State) (k : Clause) (o : Option State) → AreStates a vs →
     ClausesLoop p place a b vs ws ds es old mid cs n ss first v → n < length cs → k ≡ get_or cs n k →
-    ((S : Scope) (e : Expression) (earlier : List PlacedTree) → ScopeStands (program_tree p) S m ws → ComesBehind (program_tree p) S e earlier (Accepted m v) →
-    IsClauseWalked (program_tree p) S e earlier (placed_at p.patterns (k.pattern).at) (expr_at p (k.body).at) c fs mid new o) → xs ≡ ws → Grows b m → Grows m c → Keeps es fs → us ≡ with_found ss o → AllByRecursion (IsState c) us →
-    IsState m w → ((d : Document) → Accepted m w d ↔ (Accepted b v d × (Takes (names_of (program_tree p)) (unplaced (placed_at p.patterns (k.pattern).at)) d → ⊥))) →
+    ((S : Scope) (e : Expression) (earlier : List PlacedTree) → ScopeStands (program_tree p) S b ws → ComesBehind (program_tree p) S e earlier (Accepted b v) →
+    IsClauseWalked (program_tree p) S e earlier (placed_at p.patterns (k.pattern).at) (expr_at p (k.body).at) m fs mid new o) → xs ≡ ws → Grows b m → Grows m c → Keeps es fs → us ≡ with_found ss o → IfSome o (IsState m) →
+    IsState c w → ((d : Document) → Accepted c w d ↔ (Accepted m v d × (o ≢ None → Takes (names_of (program_tree p)) (unplaced (placed_at p.patterns (k.pattern).at)) d → ⊥))) →
     ClausesLoop p place a c vs xs ds fs old new cs (n + 1) us first w
 clauses_loop_more p place a b m c vs ws xs ds es fs old mid new cs n ss us first v w k o av h l e f x gm gc q u i j pass =
     let P : ProgramTree = program_tree p in
@@ -83,20 +87,19 @@ clauses_loop_more p place a b m c vs ws xs ds es fs old mid new cs n ss us first
     let top : ceiling (bodies (clause_numbers (k ∷ drop (n + 1) cs))) ≤ ceiling (bodies (clause_numbers cs)) = subst (λ (ys : List Clause). ceiling (bodies (clause_numbers ys)) ≤ ceiling (bodies (clause_numbers cs))) fr h.below in
     let st = h.stays in
     let g : Grows b c = grows_then b m c gm gc in
-    let left : (d : Document) → Accepted c w d ↔ (Accepted b v d × (Takes (names_of P) (unplaced Q) d → ⊥)) = λ d.
-    (let same : accepts c d w ≡ accepts m d w = gc.keeps d w j in ((λ y. (pass d).0 (sym same ∙ y)), (λ y. same ∙ (pass d).1 y))) in
     record {
       stays = stays_more a b c vs ws xs ds es fs h.stays x g q;
-      there = i;
+      there = all_as (IsState m) (IsState c) (λ s t. (gc.extends).states s t) us (found_there b m gm ss us o h.there i u);
       rest = r.1;
       below = omega arith;
-      arriving = (gc.extends).states w j;
+      arriving = j;
       walked = λ S z stands comes.
           (let y : AreClausesGoing P S place z (clauses_in p cs) (clauses_in p (k ∷ drop (n + 1) cs)) (Accepted b v) b es old mid ss
           = subst (λ (ys : List Clause). AreClausesGoing P S place z (clauses_in p cs) (clauses_in p ys) (Accepted b v) b es old mid ss) fr (h.walked S z stands comes) in
-          let t = f S z y.earlier (subst (ScopeStands P S m) (sym st.variables) (scope_kept P S a m (grows_then a b m st.grows gm) vs av stands)) (came P S z y.earlier b m v gm h.arriving y.comes) in
-          clauses_more P S place z (clauses_in p cs) (clauses_in p (drop (n + 1) cs)) Q (expr_at p (k.body).at) (Accepted b v) (Accepted c w) b c es fs old mid new ss us o g q h.there y t
-          (passed P S z y.earlier (Accepted b v) y.comes Q (Accepted c w) left) u);
+          let t = f S z y.earlier (subst (ScopeStands P S b) (sym st.variables) (scope_kept P S a b st.grows vs av stands)) y.comes in
+          clauses_more P S place z (clauses_in p cs) (clauses_in p (drop (n + 1) cs)) Q (expr_at p (k.body).at) (Accepted b v) (Accepted c w) b c es fs old mid new ss us o g q h.there y
+          (clause_kept P S z y.earlier Q (expr_at p (k.body).at) m c fs mid new o gc i t)
+          (passed P S z y.earlier (Accepted m v) (came P S z y.earlier b m v gm h.arriving y.comes) Q o (Accepted c w) t.dead pass) u);
     }
 
 pub clauses_loop_end : (p : ProgramTable) (place : Place) (a b c : Automaton) (vs ws : List Variable) (ds es fs : List Document) (old mid new : List FoundLine) (cs : List Clause) (n : ℕ) (ss : List State) (first v : State) (made : State) → drop n cs ≡ [] →

@@ -1,13 +1,18 @@
-//! Clauses of a match: what its variables may be, and what no clause takes.
+//! Clauses of a match: what its variables may be, what goes on to the next one, and what no clause takes.
 
-ghost use Rattle.std.specs.Prelude.{◌≡◌, ◌++◌, OnOk};
+ghost use Rattle.std.specs.Prelude.{◌≡◌, ◌≢◌, ◌↔◌, ◌++◌, None, IfOk, OnOk};
+ghost use Rattle.xd_doc.specs.Document.{Document};
 ghost use Rattle.xd_doc.specs.Stored.{Keeps};
 ghost use Rattle.xd_auto.specs.Automaton.{IsState};
 ghost use Rattle.xd_syntax.specs.CheckFaults.{LineWhere, not_exhaustive};
-ghost use Rattle.xd_clauses.specs.Clauses.{Accepted};
+ghost use Rattle.xd_syntax.specs.Placed.{PlacedTree, unplaced};
+ghost use Rattle.xd_syntax.specs.Tree.{Definitions};
+ghost use Rattle.xd_syntax.specs.Ways.{Takes};
+ghost use Rattle.xd_clauses.specs.Clauses.{Accepted, IsPatternOf};
 ghost use Rattle.xd_check.specs.FoundLines.{AddsLines};
 ghost use Rattle.xd_check.specs.InScope.{given_variables};
 ghost use Rattle.xd_check.specs.Known.{IsKnown};
+ghost use Rattle.xd_check.specs.Walked.{Grows};
 
 use crate::known::Known;
 use crate::lines::{Finding, FoundLine};
@@ -16,7 +21,7 @@ use std::alloc::Global;
 use xd_auto::{Auto, State};
 use xd_base::Place;
 use xd_bind::Given;
-use xd_clauses::accepted_document;
+use xd_clauses::{ClausePattern, accepted_document};
 use xd_doc::{NoMemory, Store};
 
 /// Brings the variables of a pattern into scope, the first one as the newest.
@@ -32,6 +37,26 @@ pub(crate) fn bring_in(givens: Vec<Given>, variables: &mut Variables) -> Result<
         })?;
     }
     Ok(())
+}
+
+/// A state for what goes on to the next clause: what the pattern doesn't take, where a state was found since the clause is live.
+/// A dead clause takes nothing, so all that came to it goes on, as the state that it was.
+pub(crate) fn pass_on(
+    alloc: Global,
+    pattern: &ClausePattern,
+    found: Option<State>,
+    auto: &mut Auto,
+    arriving: State,
+) -> Result<State, NoMemory>
+    requires { IsState auto.old arriving }
+    ensures belongs { IfOk result (IsState auto.new) }
+    ensures exact { IfOk result (λ left. (E : Definitions) (P : PlacedTree) → IsPatternOf E (unplaced P) pattern.now → (d : Document) → Accepted auto.new left d ↔ (Accepted auto.old arriving d × (found ≢ None → Takes E (unplaced P) d → ⊥))) }
+    ensures grows { OnOk result (Grows auto.old auto.new) }
+{
+    match found {
+        Some(_) => Ok(pattern.pass(alloc, auto, arriving)?),
+        None => Ok(arriving),
+    }
 }
 
 /// The line of a match at this place where documents come behind its last clause.

@@ -25,7 +25,7 @@ ghost use Rattle.xd_check.specs.Ready.{CanBeWalked, ClauseCanBeWalked, IsReady, 
 ghost use Rattle.xd_check.specs.Walked.{AreClausesWalked, ArePartsWalked, ComesBehind, Grows, IsClauseWalked, IsWalked, LinesOfArgument, with_found};
 
 use crate::checker::Checker;
-use crate::clauses::{bring_in, see_uncovered};
+use crate::clauses::{bring_in, pass_on, see_uncovered};
 use crate::known::Known;
 use crate::lines::{Finding, FoundLine};
 use crate::states::{join_states, misfit, text_state, unite_states, variable_state};
@@ -249,10 +249,10 @@ impl Checker {
                 &self.sound,
                 clause.pattern,
             )?;
-            let left = pattern.pass(self.alloc, auto, arriving)?;
             let found = self.in_clause(
                 *clause, &pattern, arriving, variables, auto, known, lines, store,
             )?;
+            let left = pass_on(self.alloc, &pattern, found, auto, arriving)?;
             push_found(found, &mut states)?;
             arriving = left;
         }

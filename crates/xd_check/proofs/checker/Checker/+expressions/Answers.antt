@@ -31,7 +31,7 @@ use Rattle.xd_check.proofs.Scoping.{clause_left, clause_scope, clause_states, pa
 use Rattle.xd_check.proofs.Loops.{PartsLoop, argument_here, arguments_begin, arguments_end, arguments_more, bodies, bodies_below, ceiling, ceiling_again, ceiling_within, part_here, parts_begin, parts_end, parts_more}
 use Rattle.xd_check.proofs.Lists.{all_as, if_some}
 use Rattle.xd_check.proofs.Making.{joined_none, never, new_moves}
-use Rattle.xd_check.proofs.Readying.{found_there, ready_kept, signed_none, signed_some, states_again}
+use Rattle.xd_check.proofs.Readying.{ready_kept, signed_none, signed_some, states_again}
 use Rattle.xd_check.proofs.Walkable.{expr_is, walk_arguments, walk_clauses, walk_content, walk_parts, walk_scrutinee}
 use Rattle.xd_check.proofs.Walks.{walked_joined, walked_nothing, walked_quoted, walked_tagged, walked_variable}
 use Rattle.xd_check.proofs.checker.Checker.+expressions.Goals as goal
@@ -426,31 +426,26 @@ in_clauses-in_clause-requires t c =
     c.args.clauses.now n c.loop-clause.states.items c.args.arriving c.loop-clause.arriving k c.loop-clause.invariant.walk c.loop-clause-test.true e in
     let w = h.0 in
     let st = c.loop-clause.invariant.walk.stays in
-    let left : Grows c.loop-clause.auto' c.pass.new.auto = record { extends = c.in_ok-left.ensures.extends; keeps = c.in_ok-left.ensures.accepting } in
-    let whole = grows_then c.args.auto.now c.loop-clause.auto' c.pass.new.auto st.grows left in
     let top = h.1 in
     let falls : 4 * (k.body).at + 4 < t = omega arith in (
       falls,
       (
-        ready_kept c.args.self.now c.args.auto.now c.pass.new.auto whole c.requires.ready,
+        ready_kept c.args.self.now c.args.auto.now c.loop-clause.auto' st.grows c.requires.ready,
         (
           w,
           (
             c.in_ok-pattern.ensures,
             (
-              (left.extends).states c.loop-clause.arriving c.loop-clause.invariant.walk.arriving,
-              (
-                states_again c.args.auto.now c.pass.new.auto whole c.args.variables.now c.loop-clause.variables st.variables c.requires.variables,
-                known_kept c.loop-clause.auto' c.pass.new.auto c.loop-clause.store c.loop-clause.store c.loop-clause.known left (keeps_same c.loop-clause.store) c.loop-clause.invariant.known,
-              ),
+              c.loop-clause.invariant.walk.arriving,
+              (states_again c.args.auto.now c.loop-clause.auto' st.grows c.args.variables.now c.loop-clause.variables st.variables c.requires.variables, c.loop-clause.invariant.known),
             ),
           ),
         ),
       ),
     )
 
-pub in_clauses-pass-requires : goal.in_clauses-pass-requires
-in_clauses-pass-requires t c = c.loop-clause.invariant.walk.arriving
+pub in_clauses-pass_on-requires : goal.in_clauses-pass_on-requires
+in_clauses-pass_on-requires t c = (c.in_ok-found.ensures.grows.extends).states c.loop-clause.arriving c.loop-clause.invariant.walk.arriving
 
 pub in_clauses-loop-clause-preserved : goal.in_clauses-loop-clause-preserved
 in_clauses-loop-clause-preserved t c =
@@ -459,18 +454,15 @@ in_clauses-loop-clause-preserved t c =
     let none : Clause = record { pattern = record { at = 0 }; body = record { at = 0 } } in
     let k : Clause = get_or c.args.clauses.now n none in
     let f = c.in_ok-found.ensures in
-    let i = c.loop-clause.invariant.walk in
+    let w = c.in_ok-left.ensures in
     let Q : PlacedTree = placed_at p.patterns (k.pattern).at in
     let made : IsPatternOf (names_of (program_tree p)) (unplaced Q) c.in_ok-pattern.pattern = subst (λ T. IsPatternOf (names_of (program_tree p)) T c.in_ok-pattern.pattern) (sym (unplaced_at p.patterns (k.pattern).at)) c.in_ok-pattern.ensures in
-    let left : Grows c.loop-clause.auto' c.pass.new.auto = record { extends = c.in_ok-left.ensures.extends; keeps = c.in_ok-left.ensures.accepting } in
-    let both = grows_then c.loop-clause.auto' c.pass.new.auto c.in_clause.new.auto left f.grows in
     record {
-      walk = clauses_loop_more p c.args.place c.args.auto.now c.loop-clause.auto' c.pass.new.auto c.in_clause.new.auto c.args.variables.now c.loop-clause.variables c.in_clause.new.variables c.args.store.now c.loop-clause.store c.in_clause.new.store
+      walk = clauses_loop_more p c.args.place c.args.auto.now c.loop-clause.auto' c.in_clause.new.auto c.pass_on.new.auto c.args.variables.now c.loop-clause.variables c.in_clause.new.variables c.args.store.now c.loop-clause.store c.in_clause.new.store
           c.args.lines.now.items c.loop-clause.lines.items c.in_clause.new.lines.items c.args.clauses.now n c.loop-clause.states.items c.push_found.new.states.items c.args.arriving c.loop-clause.arriving c.in_ok-left.left k c.in_ok-found.found
-          c.requires.variables i c.loop-clause-test.true (get_or_default c.args.clauses.now n none k c.loop-clause-test.true) f.walked f.variables left f.grows f.keeps c.in_ok-push_found.ensures
-          (found_there c.loop-clause.auto' c.in_clause.new.auto both c.loop-clause.states.items c.push_found.new.states.items c.in_ok-found.found i.there f.belongs c.in_ok-push_found.ensures)
-          c.in_ok-left.ensures.belongs (c.in_ok-left.ensures.exact (names_of (program_tree p)) Q made);
-      known = f.known;
+          c.requires.variables c.loop-clause.invariant.walk c.loop-clause-test.true (get_or_default c.args.clauses.now n none k c.loop-clause-test.true) f.walked f.variables f.grows w.grows f.keeps c.in_ok-push_found.ensures f.belongs
+          w.belongs (w.exact (names_of (program_tree p)) Q made);
+      known = known_kept c.in_clause.new.auto c.pass_on.new.auto c.in_clause.new.store c.in_clause.new.store c.in_clause.new.known w.grows (keeps_same c.in_clause.new.store) f.known;
     }
 
 pub in_clauses-see_uncovered-requires : goal.in_clauses-see_uncovered-requires
@@ -649,7 +641,7 @@ pub in_clauses-returns-in_err-push_found-clause-keeps : goal.in_clauses-returns-
 in_clauses-returns-in_err-push_found-clause-keeps t c = keeps_then c.args.store.now c.loop-clause.store c.in_clause.new.store c.loop-clause.invariant.walk.stays.keeps c.in_clause.ensures.keeps
 
 pub in_clauses-returns-in_err-left-clause-keeps : goal.in_clauses-returns-in_err-left-clause-keeps
-in_clauses-returns-in_err-left-clause-keeps t c = c.loop-clause.invariant.walk.stays.keeps
+in_clauses-returns-in_err-left-clause-keeps t c = keeps_then c.args.store.now c.loop-clause.store c.in_clause.new.store c.loop-clause.invariant.walk.stays.keeps c.in_clause.ensures.keeps
 
 pub in_clauses-returns-in_err-see_uncovered-clause-keeps : goal.in_clauses-returns-in_err-see_uncovered-clause-keeps
 in_clauses-returns-in_err-see_uncovered-clause-keeps t c = keeps_then c.args.store.now c.loop-clause.store c.see_uncovered.new.store c.loop-clause.invariant.walk.stays.keeps c.see_uncovered.ensures.keeps
