@@ -2,7 +2,7 @@
 //!
 //! The nodes are walked by recursion, no deeper than expressions stand in one another.
 
-ghost use Rattle.std.specs.Prelude.{◌≡◌, ◌<◌, ◌↔◌, ℕ, true, List, [], map, length, IfOk, OnOk};
+ghost use Rattle.std.specs.Prelude.{◌≡◌, ◌<◌, ◌↔◌, true, List, [], map, IfOk, OnOk};
 ghost use Rattle.std.specs.List.{AllByRecursion, slice_get};
 ghost use Rattle.xd_doc.specs.Document.{Document};
 ghost use Rattle.xd_doc.specs.Stored.{Keeps};

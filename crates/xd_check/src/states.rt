@@ -1,7 +1,7 @@
 //! States for what expressions may be.
 
 ghost use Rattle.std.specs.Prelude.{◌≡◌, ◌≢◌, ◌↔◌, ◌||◌, None, Ok, true, IfOk, OnOk};
-ghost use Rattle.std.specs.List.{AllByRecursion, list_any};
+ghost use Rattle.std.specs.List.{AllByRecursion};
 ghost use Rattle.std.specs.Option.{IfSome};
 ghost use Rattle.xd_doc.specs.Document.{Document, empty, text};
 ghost use Rattle.xd_doc.specs.Stored.{BelongsTo, Keeps, document_at};
