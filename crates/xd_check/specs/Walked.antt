@@ -59,7 +59,7 @@ LinesOfClause P S e earlier Q f ms =
     (IsLiveIn P S e earlier Q × LinesOf P (clause_entry e earlier Q ∷ S) f ms)
     ⊎ ((IsLiveIn P S e earlier Q → ⊥) × (ms ≡ record { place = place_of Q; kind = dead_clause; document = None } ∷ []))
 
--- The same of a clause of a match: there is a state where the clause is live, and none where it is dead.
+-- The same of a clause of a match: there is a state where the clause is live.
 pub record IsClauseWalked (P : ProgramTree) (S : Scope) (e : Expression) (earlier : List PlacedTree) (Q : PlacedTree) (f : Expression) (a : Automaton) (ds : List Document) (old new : List FoundLine) (o : Option State) : Type 0 where
   pub may : (d : Document) → is_proper d ≡ true → AcceptedBy a o d ↔ (IsLiveIn P S e earlier Q × May P (clause_entry e earlier Q ∷ S) f d)
   pub lines : AddsLines ds (LinesOfClause P S e earlier Q f) old new
