@@ -317,8 +317,9 @@ pub fn member(auto: &Auto, state: State, store: &Store, seq: Seq, scratch: &mut 
 /// Answers that are kept over many calls, while the store and the automaton grow.
 ///
 /// They are right for good: an old node stands for its document for good, and an old state accepts
-/// what it did as long as no move is added to it. A state that was never asked costs an empty vector
-/// at most; one that was asked costs two bits for each node up to the newest that it was asked at.
+/// what it did as long as the automaton only grows: each state that is there keeps its flag and its
+/// moves. A state that was never asked costs an empty vector at most; one that was asked costs two
+/// bits for each node up to the newest that it was asked at.
 #[derive(Debug, Drop)]
 pub struct Answers {
     known: Known,

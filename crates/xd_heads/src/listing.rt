@@ -49,7 +49,8 @@ pub struct Head {
 
 /// Lists the heads of types of one program, one type after the other.
 ///
-/// What was added to the program for one type serves the next ones: equal rests are one type, and so are all empty contents.
+/// What was added to the program for one type serves the next ones: a rest that comes again is the same type, as long as it
+/// is made of the same nodes, and the contents of all texts are one empty type. After want of memory a lister has no use.
 #[derive(Drop)]
 pub struct HeadLister {
     alloc: Global,

@@ -28,7 +28,7 @@ pub record NothingIsReported : Type 0 where
   pub none : AreLines telephone_program []
   pub only : (ls : List Line) → AreLines telephone_program ls → ls ≡ []
 
--- Persons are an input, and their telephones are the value, by a call for each person and one for the end.
+-- Persons are an input, and the names and telephones of those that have one are the value, by a call for each person and one for the end.
 pub record TelephonesAreListed : Type 0 where
   pub inputs : (persons : ℕ) → Fits (names_of telephone_program) (unplaced persons_at) (sample_of persons)
   pub values : (persons : ℕ) → meaning telephone_program (persons + 1) (sample_of persons) ≡ Done (telephones_to persons) 0

@@ -1,4 +1,4 @@
--- Persons in a row, and the telephone numbers among them.
+-- Persons in a row, and the names and telephones among them.
 use Rattle.std.specs.Prelude.{ℕ, suc, zero, ◌%◌, ◌++◌, List, codes, decimal, nat_eq, if◌then◌else◌}
 use Rattle.xd_doc.specs.Document.{Document, empty, text, element}
 
@@ -31,6 +31,6 @@ listed_to (suc n) d = listed_to n (listed (suc n) d)
 abbrev pub sample_of : ℕ → Document
 sample_of persons = persons_to persons empty
 
--- the telephones of so many persons
+-- the names and telephones of those that have one, of so many persons
 abbrev pub telephones_to : ℕ → Document
 telephones_to persons = listed_to persons empty

@@ -1,4 +1,4 @@
--- What the code answers for two automata side by side.
+-- What `pair_up` adds to an automaton, and which pairs of states its states stand for.
 use Rattle.std.specs.Prelude.{◌≡◌, ℕ, ◌+◌, ◌-◌, ◌<◌, ◌≤◌, Some, length, slice_get}
 use Rattle.xd_auto.specs.declared.auto.State.{State}
 use Rattle.xd_auto.specs.declared.auto.LabelMove.{LabelMove}

@@ -44,8 +44,7 @@ pub struct Pairs {
 /// for each pair that is reached, which accepts what both of its states accept.
 ///
 /// Each move stands for one move of each state, on the labels or texts of both, and no two for the
-/// same; moves stand in the order of the first's, then of the second's. So the accepting runs are
-/// exactly the pairs of accepting runs on one document (the law [`crate::laws::pairings_pair_runs`]). This is
+/// same. So the accepting runs are exactly the pairs of accepting runs on one document (the law [`crate::laws::pairings_pair_runs`]). This is
 /// the product of Comon et al., *Tree Automata Techniques and Applications*, section 1.3, with its
 /// moves kept apart.
 ///
