@@ -19,3 +19,4 @@ pub mod Lists
 pub mod NameLemmas
 pub mod EmptyLemmas
 pub mod KnownLaws
+mod WaitingLaws

@@ -1,22 +1,20 @@
 //! The nodes that a type reaches, and copies of them.
 
-ghost use Rattle.std.specs.Prelude.{◌≡◌, ◌+◌, ◌^◌, ◌<◌, ◌≤◌, ◌++◌, map, length, IfOk, OnOk};
-ghost use Rattle.std.specs.BinaryHeap.{KeepsHeap, heap_items};
-ghost use Rattle.std.specs.List.Sorted.{IsPermutation};
-ghost use Rattle.std.specs.Ordering.{nat_cmp};
+ghost use Rattle.std.specs.Prelude.{◌≡◌, ◌+◌, ◌^◌, ◌<◌, ◌≤◌, map, length, IfOk};
 ghost use Rattle.xd_syntax.specs.Types.{BelongsTo, form_of, type_numbers};
 ghost use Rattle.xd_syntax.specs.Adopt.{AreReached, AreRising, place_among, copy_from, copied_form};
 
 use crate::nodes::Nodes;
 use crate::types::{TypeForm, TypeId, Types};
+use crate::waiting::Waiting;
 use std::alloc::Global;
-use std::collections::BinaryHeap;
 use xd_doc::NoMemory;
 
 /// The numbers of the nodes that a type reaches, each once, the oldest first.
 ///
-/// Parts are older nodes, so the greatest number that still waits is met for the last time. It takes n log n steps for n
-/// parts of these nodes, whatever else the table holds.
+/// Parts are older nodes, so the greatest number that still waits is met for the last time. It takes n steps for n parts of
+/// these nodes where the parts of each node were made in their order, one after the other, and n log n steps otherwise,
+/// whatever else the table holds.
 pub(crate) fn reached_from(alloc: Global, types: &Types, id: TypeId) -> Result<Vec<usize>, NoMemory>
     requires { BelongsTo types.now id }
     ensures { IfOk result (λ reached. AreReached types.now id.at reached.items) }
@@ -24,28 +22,17 @@ pub(crate) fn reached_from(alloc: Global, types: &Types, id: TypeId) -> Result<V
     types.see_table();
     let mut reached = Vec::new(alloc);
     let mut above = types.len();
-    let mut waiting = BinaryHeap::new(alloc);
+    let mut waiting = Waiting::new(alloc);
     waiting.push(id.at())?;
     while let Some(at) = waiting.pop() {
         if at < above {
             above = at;
             reached.push(at)?;
-            wait_for(&mut waiting, types.view(TypeId::of(at)).parts)?;
+            waiting.push_all(types.view(TypeId::of(at)).parts)?;
         }
     }
     reached.reverse();
     Ok(reached)
-}
-
-/// Adds the numbers of these nodes.
-fn wait_for(waiting: &mut BinaryHeap<usize>, parts: &[TypeId]) -> Result<(), NoMemory>
-    ensures numbers { OnOk result (IsPermutation (heap_items waiting.old ++ type_numbers parts.now) (heap_items waiting.new)) }
-    ensures heap { OnOk result (KeepsHeap nat_cmp (heap_items waiting.old) (heap_items waiting.new)) }
-{
-    for part in parts {
-        waiting.push(part.at())?;
-    }
-    Ok(())
 }
 
 /// The copy of a node, which is one of these. Their copies follow one another from `first` on.

@@ -14,6 +14,7 @@ mod program;
 mod sound;
 mod type_names;
 mod types;
+mod waiting;
 
 pub use exprs::{Clause, ExprForm, ExprId, ExprNode, Exprs};
 pub use fault::{Fault, FaultKind, Warning};
