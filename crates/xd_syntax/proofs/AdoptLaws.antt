@@ -1,10 +1,11 @@
 -- Copies of the nodes that a node reaches.
-use Rattle.std.proofs.Common.{◌≡◌, ℕ, zero, suc, ◌+◌, ◌<◌, ◌≤◌, ⊎_elim, arith, true, false, ◌||◌, List, [], ◌∷◌, ◌++◌, map, length, take, drop, get_or, length-append, take-append-drop, append_assoc, refl, ap, sym, subst, ◌∙◌}
+use Rattle.std.proofs.Common.{◌≡◌, ℕ, zero, suc, ◌<◌, ◌≤◌, ⊎_elim, arith, true, false, ◌||◌, List, [], ◌∷◌, ◌++◌, map, length, take, drop, get_or, length-append, take-append-drop, append_assoc, refl, ap, sym, subst, ◌∙◌}
 use Rattle.std.specs.List.{AllByRecursion, Contains}
 use Rattle.std.specs.List.Sorted.{IsNonDecreasing}
 use Rattle.std.proofs.lemmas.Bool.{cases_lt, le-ltb, lt-ltb}
 use Rattle.std.proofs.lemmas.Grind.{get_or_default_zero}
-use Rattle.std.proofs.lemmas.List.{get_or-take, length-take-le}
+use Rattle.std.proofs.Math.ListN.{get_or-append}
+use Rattle.std.proofs.lemmas.List.{get_or-take, get_or_push, length_push, length-take-le}
 use Rattle.std.proofs.lemmas.List.Elements.{Contains-get_or}
 use Rattle.xd_syntax.specs.Tree.{Tree, Elem, Star, Plus, Opt, Val, seq_of, alt_of, is_seq, is_alt, is_empty}
 use Rattle.xd_syntax.specs.TypeText.{depth}
@@ -113,23 +114,23 @@ rising_front is k l rising m n h b =
     let t = length-take-le k is l in
     rw (get_or-take k is m 0 (omega arith), get_or-take k is n 0 (omega arith)) (rising m n h (omega arith))
 
--- ---- copies one after the other, from the oldest on
-abbrev pub numbered : ℕ → TypeId
-numbered n = record { at = n }
+-- ---- copies, from the oldest on
+abbrev pub no_type : TypeId
+no_type = record { at = 0 }
 
--- the first k of these are copied, the copies one after the other from this number on
-abbrev pub AreCopied : (from into : List Row) (first : ℕ) (is : List ℕ) (k : ℕ) → Type 0
-AreCopied from into first is k = (m : ℕ) → m < k → IsTypeAt into (tree_at from (get_or is m 0)) (numbered (first + m))
+-- the first ones are copied, and these are their copies
+abbrev pub AreCopied : (from into : List Row) (is : List ℕ) → List TypeId → Type 0
+AreCopied from into is copies = (m : ℕ) → m < length copies → IsTypeAt into (tree_at from (get_or is m 0)) (get_or copies m no_type)
 
 -- the parts of the next one are copied
-copy_ready : (from : List Row) (root : ℕ) (is : List ℕ) (k : ℕ) (into : List Row) (first : ℕ) → AreBuilt false from → root < length from → AreReached from root is → AreCopied from into first is k →
-    k < length is → AllByRecursion (IsCopied from into (copy_from first (take k is))) (parts_of from (get_or is k 0))
-copy_ready from root is k into first built h reached done l =
+copy_ready : (from : List Row) (root : ℕ) (is : List ℕ) (k : ℕ) (into : List Row) (copies : List TypeId) → AreBuilt false from → root < length from → AreReached from root is → AreCopied from into is copies →
+    k ≡ length copies → k < length is → AllByRecursion (IsCopied from into (copy_from copies (take k is))) (parts_of from (get_or is k 0))
+copy_ready from root is k into copies built h reached done n l =
     let p = get_or is k 0 in
     let r : Reaches from root p = (reached.exact p).0 (Contains-get_or is k 0 l) in
     let o = reached_older false from root built h p r in
     let a = older_parts false from built p (omega arith) in
-    each_contained (IsCopied from into (copy_from first (take k is))) (parts_of from p)
+    each_contained (IsCopied from into (copy_from copies (take k is))) (parts_of from p)
     (λ j d. one j (contained_each (λ m. m < p) (parts_of from p) j a d) ((reached.exact j).1 (part p r d)))
   where
     earlier : (j m : ℕ) → j < get_or is k 0 → m < length is → get_or is m 0 ≡ j → m < k
@@ -141,15 +142,15 @@ copy_ready from root is k into first built h reached done l =
         (cases_lt k m)))
         (cases_lt m k)
 
-    one : (j : ℕ) → j < get_or is k 0 → Contains is j → IsCopied from into (copy_from first (take k is)) j
+    one : (j : ℕ) → j < get_or is k 0 → Contains is j → IsCopied from into (copy_from copies (take k is)) j
     one j low c =
         let m : ℕ = c.0 in
         let e : get_or is m 0 ≡ j = sym (get_or_default_zero is m j c.1) ∙ c.2 in
         let b : m < k = earlier j m low c.1 e in
-        let n = length-take-le k is (omega arith) in
+        let t = length-take-le k is (omega arith) in
         let q : place_among (take k is) j ≡ m = ap (place_among (take k is)) (sym (get_or-take k is m 0 b ∙ e)) ∙ place_at (take k is) (rising_front is k (omega arith) reached.rising) m (omega arith) in
-        subst (λ i. IsTypeAt into (tree_at from i) (numbered (first + place_among (take k is) j))) e
-        (subst (λ i. IsTypeAt into (tree_at from (get_or is m 0)) (numbered (first + i))) (sym q) (done m b))
+        subst (λ i. IsTypeAt into (tree_at from i) (get_or copies (place_among (take k is) j) no_type)) e
+        (subst (λ i. IsTypeAt into (tree_at from (get_or is m 0)) (get_or copies i no_type)) (sym q) (done m (omega arith)))
 
 pub copy_inside : (from : List Row) (root : ℕ) (is : List ℕ) (k : ℕ) → AreBuilt false from → root < length from → AreReached from root is → k < length is → get_or is k 0 < length from
 copy_inside from root is k built h reached l =
@@ -161,15 +162,15 @@ pub record IsReady (from : List Row) (root p : ℕ) (f : Form) (into : List Row)
   pub same : form_tree (tree_at into) (copied_form copy f) ≡ tree_at from p
   pub within : depth (tree_at from p) ≤ depth (tree_at from root)
 
-pub is_ready : (from : List Row) (root : ℕ) (is : List ℕ) (k at : ℕ) (r : Row) (f : Form) (into : List Row) (first : ℕ) → AreBuilt false from → root < length from → AreReached from root is →
-    AreCopied from into first is k → k < length is → at ≡ get_or is k 0 → r ≡ get_or from at r → tree_at from at ≡ form_tree (tree_at from) r.form → CanFollow false (take at from) r.form → f ≡ r.form →
-    IsReady from root (get_or is k 0) f into (copy_from first (take k is))
-is_ready from root is k at r f into first built h reached done l q row t m g =
+pub is_ready : (from : List Row) (root : ℕ) (is : List ℕ) (k at : ℕ) (r : Row) (f : Form) (into : List Row) (copies : List TypeId) → AreBuilt false from → root < length from → AreReached from root is →
+    AreCopied from into is copies → k ≡ length copies → k < length is → at ≡ get_or is k 0 → r ≡ get_or from at r → tree_at from at ≡ form_tree (tree_at from) r.form → CanFollow false (take at from) r.form → f ≡ r.form →
+    IsReady from root (get_or is k 0) f into (copy_from copies (take k is))
+is_ready from root is k at r f into copies built h reached done n l q row t m g =
     let p = get_or is k 0 in
-    let copy = copy_from first (take k is) in
+    let copy = copy_from copies (take k is) in
     let inside = copy_inside from root is k built h reached l in
     let parts : parts_of from p ≡ form_parts r.form = ap (parts_of from) (sym q) ∙ parts_seen from at r row (omega arith) in
-    let all : AllByRecursion (IsCopied from into copy) (form_parts r.form) = subst (AllByRecursion (IsCopied from into copy)) parts (copy_ready from root is k into first built h reached done l) in
+    let all : AllByRecursion (IsCopied from into copy) (form_parts r.form) = subst (AllByRecursion (IsCopied from into copy)) parts (copy_ready from root is k into copies built h reached done n l) in
     record {
       follows = subst (λ x. CanFollow false into (copied_form copy x)) (sym g) (copied_follows from into copy at (omega arith) r.form all m);
       same = ap (λ x. form_tree (tree_at into) (copied_form copy x)) g ∙ copied_tree from into copy r.form all ∙ sym t ∙ ap (tree_at from) q;
@@ -182,30 +183,29 @@ within_more limit old into new T U keeps a one e d =
     within_both limit old into new keeps a (weaker_within (depth U) limit into new (let s = ap depth e in omega arith) (one_within U into new one))
 
 -- the next one is copied
-pub copy_goes_on : (from : List Row) (is : List ℕ) (k : ℕ) (id : TypeId) (into new : List Row) (first : ℕ) → AreCopied from into first is k → KeepsRows into new →
-    IsTypeAt new (tree_at from (get_or is k 0)) id → id.at ≡ length into → length into ≡ first + k → AreCopied from new first is (k + 1)
-copy_goes_on from is k id into new first done keeps made last count m h = ⊎_elim
-    (λ (l : m < k). type_kept into new (tree_at from (get_or is m 0)) (numbered (first + m)) keeps (done m l))
-    (λ (l : k ≤ m). (let q : k ≡ m = omega arith in subst (λ i. IsTypeAt new (tree_at from (get_or is i 0)) (numbered (first + i))) q here))
+pub copy_goes_on : (from : List Row) (is : List ℕ) (k : ℕ) (id : TypeId) (into new : List Row) (copies : List TypeId) → AreCopied from into is copies → KeepsRows into new →
+    IsTypeAt new (tree_at from (get_or is k 0)) id → k ≡ length copies → AreCopied from new is (copies ++ id ∷ [])
+copy_goes_on from is k id into new copies done keeps made n m h = ⊎_elim
+    (λ (l : m < k).
+    (let s : m < length copies = omega arith in
+    subst (IsTypeAt new (tree_at from (get_or is m 0))) (sym (get_or-append copies (id ∷ []) no_type m s)) (type_kept into new (tree_at from (get_or is m 0)) (get_or copies m no_type) keeps (done m s))))
+    (λ (l : k ≤ m).
+    (let t = length_push copies id in
+    let q : k ≡ m = omega arith in
+    subst (IsTypeAt new (tree_at from (get_or is m 0))) (sym (get_or_push copies id no_type m (sym n ∙ q))) (subst (λ i. IsTypeAt new (tree_at from (get_or is i 0)) id) q made)))
     (cases_lt m k)
-  where
-    at : id.at ≡ first + k
-    at = last ∙ count
-
-    here : IsTypeAt new (tree_at from (get_or is k 0)) (numbered (first + k))
-    here = record { belongs = let b = made.belongs in omega (arith, at); same = ap (tree_at new) (sym at) ∙ made.same }
 
 -- all are copied
-pub copy_ends : (from : List Row) (root : ℕ) (is : List ℕ) (into : List Row) (first k : ℕ) → AreReached from root is → AreCopied from into first is k → length is ≤ k →
-    IsTypeAt into (tree_at from root) (copy_from first is root)
-copy_ends from root is into first k reached done l =
+pub copy_ends : (from : List Row) (root : ℕ) (is : List ℕ) (into : List Row) (copies : List TypeId) → AreReached from root is → AreCopied from into is copies → length is ≤ length copies →
+    IsTypeAt into (tree_at from root) (copy_from copies is root)
+copy_ends from root is into copies reached done l =
     let c = (reached.exact root).1 itself in
     let m : ℕ = c.0 in
     let e : get_or is m 0 ≡ root = sym (get_or_default_zero is m root c.1) ∙ c.2 in
     let q : place_among is root ≡ m = ap (place_among is) (sym e) ∙ place_at is reached.rising m c.1 in
     let n = c.1 in
-    subst (λ i. IsTypeAt into (tree_at from i) (numbered (first + place_among is root))) e
-    (subst (λ i. IsTypeAt into (tree_at from (get_or is m 0)) (numbered (first + i))) (sym q) (done m (omega arith)))
+    subst (λ i. IsTypeAt into (tree_at from i) (get_or copies (place_among is root) no_type)) e
+    (subst (λ i. IsTypeAt into (tree_at from (get_or is m 0)) (get_or copies i no_type)) (sym q) (done m (omega arith)))
 
 pub AddsTypes-trans : (p q r : ProgramTable) → AddsTypes p q → AddsTypes q r → AddsTypes p r
 AddsTypes-trans p q r a b = record {

@@ -60,9 +60,9 @@ abbrev pub place_among : List ℕ → ℕ → ℕ
 place_among [] i = 0
 place_among (j ∷ js) i = cond (nat_lt j i) (suc (place_among js i)) 0
 
--- the copy of a node, where the copies of these follow one another from this number on
-abbrev pub copy_from : ℕ → List ℕ → ℕ → TypeId
-copy_from first originals i = record { at = first + place_among originals i }
+-- the copy of a node, where these are the copies of those
+abbrev pub copy_from : List TypeId → List ℕ → ℕ → TypeId
+copy_from copies originals i = get_or copies (place_among originals i) (record { at = 0 })
 
 -- the form over the copies of its parts
 abbrev pub copied_form : (ℕ → TypeId) → Form → Form

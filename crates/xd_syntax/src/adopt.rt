@@ -1,6 +1,6 @@
 //! The nodes that a type reaches, and copies of them.
 
-ghost use Rattle.std.specs.Prelude.{◌≡◌, ◌+◌, ◌^◌, ◌<◌, ◌≤◌, map, length, IfOk};
+ghost use Rattle.std.specs.Prelude.{◌≡◌, ◌≤◌, map, length, slice_index_or, IfOk};
 ghost use Rattle.xd_syntax.specs.Types.{BelongsTo, form_of, type_numbers};
 ghost use Rattle.xd_syntax.specs.Adopt.{AreReached, AreRising, place_among, copy_from, copied_form};
 
@@ -35,14 +35,23 @@ pub(crate) fn reached_from(alloc: Global, types: &Types, id: TypeId) -> Result<V
     Ok(reached)
 }
 
-/// The copy of a node, which is one of these. Their copies follow one another from `first` on.
-pub(crate) fn copy_of(originals: &[usize], first: usize, id: TypeId) -> TypeId
-    requires rising { AreRising originals.now }
-    requires room { first + length originals.now < 2 ^ 64 }
-    ensures { result ≡ copy_from first originals.now id.at }
+/// The copy of a node, which is one of the originals. Each has its copy at its own place.
+pub(crate) fn copy_of(originals: &[usize], copies: &[TypeId], id: TypeId) -> TypeId
+    requires { AreRising originals.now }
+    ensures { result ≡ copy_from copies.now originals.now id.at }
 {
     let newest = originals.len().saturating_sub(1);
-    TypeId::of(first + place_of(originals, id.at(), newest))
+    copy_at(copies, place_of(originals, id.at(), newest))
+}
+
+/// The copy at a place. Where there is none, which no part of a node asks for, it is any.
+fn copy_at(copies: &[TypeId], place: usize) -> TypeId
+    ensures { result ≡ slice_index_or copies.now place (record { at = 0 }) }
+{
+    match copies.get(place) {
+        Some(copy) => *copy,
+        None => TypeId::of(0),
+    }
 }
 
 /// The number's place among these, which is mostly the guess.
@@ -62,17 +71,16 @@ fn parts_copied(
     alloc: Global,
     parts: &[TypeId],
     originals: &[usize],
-    first: usize,
+    copies: &[TypeId],
 ) -> Result<Vec<TypeId>, NoMemory>
-    requires rising { AreRising originals.now }
-    requires room { first + length originals.now < 2 ^ 64 }
-    ensures { IfOk result (λ made. made.items ≡ map (copy_from first originals.now) (type_numbers parts.now)) }
+    requires { AreRising originals.now }
+    ensures { IfOk result (λ made. made.items ≡ map (copy_from copies.now originals.now) (type_numbers parts.now)) }
 {
     let mut made = Vec::with_capacity(alloc, parts.len())?;
     let mut next = 0;
     for part in parts {
         let place = place_of(originals, part.at(), next);
-        made.push(TypeId::of(first + place))?;
+        made.push(copy_at(copies, place))?;
         next = place + 1;
     }
     Ok(made)
@@ -83,11 +91,10 @@ pub(crate) fn copy_form(
     alloc: Global,
     form: &TypeForm,
     originals: &[usize],
-    first: usize,
+    copies: &[TypeId],
 ) -> Result<TypeForm, NoMemory>
-    requires rising { AreRising originals.now }
-    requires room { first + length originals.now < 2 ^ 64 }
-    ensures { IfOk result (λ made. form_of made ≡ copied_form (copy_from first originals.now) (form_of form.now)) }
+    requires { AreRising originals.now }
+    ensures { IfOk result (λ made. form_of made ≡ copied_form (copy_from copies.now originals.now) (form_of form.now)) }
 {
     match form {
         TypeForm::Empty => Ok(TypeForm::Empty),
@@ -96,12 +103,12 @@ pub(crate) fn copy_form(
         TypeForm::Name(word) => Ok(TypeForm::Name(word.share()?)),
         TypeForm::Elem(class, content) => Ok(TypeForm::Elem(
             class.share()?,
-            copy_of(originals, first, *content),
+            copy_of(originals, copies, *content),
         )),
-        TypeForm::Seq(parts) => Ok(TypeForm::Seq(parts_copied(alloc, parts, originals, first)?)),
-        TypeForm::Alt(parts) => Ok(TypeForm::Alt(parts_copied(alloc, parts, originals, first)?)),
-        TypeForm::Star(part) => Ok(TypeForm::Star(copy_of(originals, first, *part))),
-        TypeForm::Plus(part) => Ok(TypeForm::Plus(copy_of(originals, first, *part))),
-        TypeForm::Opt(part) => Ok(TypeForm::Opt(copy_of(originals, first, *part))),
+        TypeForm::Seq(parts) => Ok(TypeForm::Seq(parts_copied(alloc, parts, originals, copies)?)),
+        TypeForm::Alt(parts) => Ok(TypeForm::Alt(parts_copied(alloc, parts, originals, copies)?)),
+        TypeForm::Star(part) => Ok(TypeForm::Star(copy_of(originals, copies, *part))),
+        TypeForm::Plus(part) => Ok(TypeForm::Plus(copy_of(originals, copies, *part))),
+        TypeForm::Opt(part) => Ok(TypeForm::Opt(copy_of(originals, copies, *part))),
     }
 }

@@ -197,14 +197,6 @@ impl Program {
         self.functions.as_slice()
     }
 
-    /// Room for so many more nodes of types.
-    pub(crate) fn reserve_types(&mut self, additional: usize) -> Result<(), NoMemory>
-        ensures same { self.new ≡ self.old }
-        ensures room { OnOk result (length self.old.types + additional < 2 ^ 64) }
-    {
-        self.types.reserve(additional)
-    }
-
     /// One more node of a type.
     pub(crate) fn add_type(&mut self, place: Place, form: TypeForm) -> Result<TypeId, NoMemory>
         requires { CanFollow false self.old.types (form_of form) }

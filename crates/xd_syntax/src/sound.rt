@@ -1,12 +1,13 @@
 //! Programs without faults of names, arity, linearity and recursion, and those that are checked besides.
 
-ghost use Rattle.std.specs.Prelude.{◌≡◌, ◌+◌, ◌^◌, ◌<◌, ◌≤◌, true, false, length, IfOk, is_some};
+ghost use Rattle.std.specs.Prelude.{◌≡◌, ◌+◌, ◌^◌, ◌<◌, ◌≤◌, true, false, length, IfOk, is_some, IsTrue};
 ghost use Rattle.std.specs.List.{AllByRecursion, list_all};
 ghost use Rattle.std.specs.Option.{IfSome};
 ghost use Rattle.std.specs.Str.{bytes_eq};
 ghost use Rattle.xd_doc.specs.Word.{are_word_parts, is_word, is_word_part, is_word_start};
 ghost use Rattle.xd_syntax.specs.Words.{has_word, string_word, is_type_name};
 ghost use Rattle.xd_syntax.specs.Table.{CanFollow, form_tree, tree_at};
+ghost use Rattle.xd_syntax.specs.Tree.{Name};
 ghost use Rattle.xd_syntax.specs.Types.{form_of, tree, BelongsTo};
 ghost use Rattle.xd_syntax.specs.Shallow.{AddsOne, AddsWithin, IsShallow, nesting_limit};
 ghost use Rattle.xd_syntax.specs.TypeText.{depth};
@@ -27,6 +28,7 @@ use crate::program::{Function, Param, Program};
 use crate::type_names::TypeNames;
 use crate::types::{TypeForm, TypeId, Types};
 use std::alloc::Global;
+use std::collections::BTreeMap;
 use std::marker::Model;
 use xd_base::Place;
 use xd_doc::{Label, NoMemory};
@@ -142,8 +144,8 @@ impl SoundProgram {
     /// A type of another table, taken into the program; `None` exactly where it uses a name that is not defined, and then
     /// nothing is added.
     ///
-    /// It copies the nodes that the type reaches, each once, in n log n steps for n parts of these nodes, whatever else the
-    /// other table holds. Each name among them is looked up in the order of names.
+    /// It copies the nodes that the type reaches, each once, and each name once, in n log n steps for n parts of these nodes,
+    /// whatever else the other table holds. Each name among them is looked up in the order of names.
     pub fn adopt(&mut self, types: &Types, id: TypeId) -> Result<Option<TypeId>, NoMemory>
         requires { BelongsTo types.now id }
         ensures defined { IfOk result (λ adopted. is_some adopted ≡ uses_only (known_types (program_tree self.old)) (tree types.now id)) }
@@ -209,7 +211,7 @@ impl SoundProgram {
         names.find(word).is_some()
     }
 
-    /// Copies the nodes that a type reaches, the oldest first.
+    /// Copies the nodes that a type reaches, the oldest first. Each name is copied once, however often it stands there.
     fn copy_in(&mut self, types: &Types, id: TypeId, reached: &[usize]) -> Result<TypeId, NoMemory>
         requires belongs { BelongsTo types.now id }
         requires reached { AreReached types.now id.at reached.now }
@@ -220,32 +222,57 @@ impl SoundProgram {
         ensures within { AddsWithin (depth (tree types.now id)) self.old.types self.new.types }
     {
         types.see_table();
-        self.program.reserve_types(reached.len())?;
-        let first = self.program.types().len();
+        let mut names = BTreeMap::new(self.alloc);
+        let mut copies = Vec::with_capacity(self.alloc, reached.len())?;
         for place in 0..reached.len() {
             let form = types.node(TypeId::of(reached[place])).form();
-            self.copy_node(form, &reached[..place], first)?;
+            let copy = self.copy_node(form, &reached[..place], &copies, &mut names)?;
+            copies.push(copy)?;
         }
-        Ok(copy_of(reached, first, id))
+        Ok(copy_of(reached, &copies, id))
     }
 
     fn copy_node(
         &mut self,
         form: &TypeForm,
         originals: &[usize],
-        first: usize,
+        copies: &[TypeId],
+        names: &mut BTreeMap<Label, TypeId>,
     ) -> Result<TypeId, NoMemory>
         requires rising { AreRising originals.now }
-        requires room { first + length originals.now < 2 ^ 64 }
-        requires follows { CanFollow false self.old.types (copied_form (copy_from first originals.now) (form_of form.now)) }
-        ensures ok { IfOk result (IsTypeAt self.new.types (form_tree (tree_at self.old.types) (copied_form (copy_from first originals.now) (form_of form.now)))) }
-        ensures last { IfOk result (λ id. id.at ≡ length self.old.types) }
+        requires follows { CanFollow false self.old.types (copied_form (copy_from copies.now originals.now) (form_of form.now)) }
+        ensures ok { IfOk result (IsTypeAt self.new.types (form_tree (tree_at self.old.types) (copied_form (copy_from copies.now originals.now) (form_of form.now)))) }
         ensures adds { AddsTypes self.old self.new }
         ensures same { program_tree self.new ≡ program_tree self.old }
-        ensures one { AddsOne (form_tree (tree_at self.old.types) (copied_form (copy_from first originals.now) (form_of form.now))) self.old.types self.new.types }
+        ensures one { AddsOne (form_tree (tree_at self.old.types) (copied_form (copy_from copies.now originals.now) (form_of form.now))) self.old.types self.new.types }
     {
-        let copy = copy_form(self.alloc, form, originals, first)?;
+        if let TypeForm::Name(word) = form {
+            return self.name_type(word, names);
+        }
+        let copy = copy_form(self.alloc, form, originals, copies)?;
         self.add_type(copy)
+    }
+
+    /// The type that is this name: the one among these, or else one more.
+    fn name_type(
+        &mut self,
+        word: &Label,
+        names: &mut BTreeMap<Label, TypeId>,
+    ) -> Result<TypeId, NoMemory>
+        requires { is_type_name word.now ≡ true }
+        ensures ok { IfOk result (IsTypeAt self.new.types (Name word.now)) }
+        ensures adds { AddsTypes self.old self.new }
+        ensures same { program_tree self.new ≡ program_tree self.old }
+        ensures one { AddsOne (Name word.now) self.old.types self.new.types }
+    {
+        if let Some(id) = names.get(word).copied() {
+            if is_name(self.program.types(), id, word) {
+                return Ok(id);
+            }
+        }
+        let id = self.add_type(TypeForm::Name(word.share()?))?;
+        names.insert(word.share()?, id)?;
+        Ok(id)
     }
 
     /// One more type, of parts that the program has.
@@ -326,6 +353,19 @@ impl Checked {
     {
         let functions = self.sound.program().functions();
         parameter_of_main(functions)
+    }
+}
+
+/// Whether the type is this name.
+fn is_name(types: &Types, id: TypeId, word: &Label) -> bool
+    ensures { IsTrue result → IsTypeAt types.now (Name word.now) id }
+{
+    if id.at() >= types.len() {
+        return false;
+    }
+    match types.node(id).form() {
+        TypeForm::Name(other) => other == word,
+        _ => false,
     }
 }
 

@@ -154,16 +154,6 @@ impl Types {
         self.nodes.truncate(len);
     }
 
-    /// Room for so many more nodes.
-    pub(crate) fn reserve(&mut self, additional: usize) -> Result<(), NoMemory>
-        ensures same { self.new ≡ self.old }
-        ensures room { OnOk result (length self.old + additional < 2 ^ 64) }
-    {
-        self.nodes.reserve(additional)?;
-        let _room = self.nodes.capacity();
-        Ok(())
-    }
-
     /// What is so of every table.
     pub fn see_table(&self)
         ensures { IsTable false self.now }

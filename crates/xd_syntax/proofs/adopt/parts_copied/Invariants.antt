@@ -4,4 +4,4 @@ use Rattle.xd_syntax.specs.Adopt.{copy_from}
 use Rattle.xd_syntax.proofs.adopt.parts_copied.Given as goal
 
 abbrev pub invariant-loop-part : goal.invariant-loop-part
-invariant-loop-part l = l.made.items ≡ map (copy_from l.first l.originals) (type_numbers (take l.part-index l.parts))
+invariant-loop-part l = l.made.items ≡ map (copy_from l.copies l.originals) (type_numbers (take l.part-index l.parts))

@@ -1,4 +1,4 @@
-use Rattle.std.proofs.Common.{◌≡◌, ◌+◌, length}
+use Rattle.std.proofs.Common.{◌≡◌, ◌+◌, ◌≤◌, length}
 use Rattle.xd_syntax.specs.Kept.{program_tree, AddsTypes}
 use Rattle.xd_syntax.specs.Shallow.{AddsWithin}
 use Rattle.xd_syntax.specs.TypeText.{depth}
@@ -8,9 +8,9 @@ use Rattle.xd_syntax.proofs.sound.SoundProgram.copy_in.Given as goal
 
 abbrev pub invariant-loop-place : goal.invariant-loop-place
 invariant-loop-place l = record {
-  copied : AreCopied l.types l.self.types l.first l.reached l.place;
-  count : length l.self.types ≡ l.first + l.place;
-  begins : l.first ≡ length l.initial.self.types;
+  copied : AreCopied l.types l.self.types l.reached l.copies.items;
+  each : l.place ≡ length l.copies.items;
+  few : length l.self.types ≤ length l.initial.self.types + l.place;
   ends : l.place-end ≡ length l.reached;
   adds : AddsTypes l.initial.self l.self;
   same : program_tree l.self ≡ program_tree l.initial.self;
