@@ -1,9 +1,9 @@
 //! What the names of a program's types stand for.
 
-ghost use Rattle.std.specs.Prelude.{◌≡◌, ◌<◌, ◌++◌, length, IfOk, OnOk};
-ghost use Rattle.xd_syntax.specs.Table.{CanFollow, KeepsRows};
+ghost use Rattle.std.specs.Prelude.{◌≡◌, IfOk, OnOk};
+ghost use Rattle.xd_syntax.specs.Table.{KeepsRows};
 ghost use Rattle.xd_syntax.specs.Tree.{any_type};
-ghost use Rattle.xd_syntax.specs.Types.{BelongsTo, form_of, tree};
+ghost use Rattle.xd_syntax.specs.Types.{BelongsTo, tree};
 ghost use Rattle.xd_match.specs.Meanings.{Means};
 
 use std::alloc::Global;
@@ -23,49 +23,11 @@ impl Meanings {
     pub(crate) fn new(alloc: Global, program: &Program) -> Result<Self, NoMemory>
         ensures { IfOk result (Means program.now) }
     {
-        let mut types = copied(alloc, program.types())?;
+        let mut types = program.types().copy(alloc)?;
         let any = add_any(alloc, &mut types)?;
         let bodies = Bodies::new(alloc, program.type_defs(), any.at())?;
         Ok(Self { types, bodies })
     }
-}
-
-/// The same types, under the same numbers.
-fn copied(alloc: Global, types: &Types) -> Result<Types, NoMemory>
-    ensures { IfOk result (λ made. made ≡ types.now) }
-{
-    types.see_table();
-    let mut made = Types::new(alloc);
-    for at in 0..types.len() {
-        let node = types.node(TypeId::of(at));
-        let form = copied_form(alloc, node.form())?;
-        made.add(node.place(), form)?;
-    }
-    Ok(made)
-}
-
-fn copied_form(alloc: Global, form: &TypeForm) -> Result<TypeForm, NoMemory>
-    ensures { IfOk result (λ made. form_of made ≡ form_of form.now) }
-{
-    match form {
-        TypeForm::Empty => Ok(TypeForm::Empty),
-        TypeForm::Text => Ok(TypeForm::Text),
-        TypeForm::Words(texts) => Ok(TypeForm::Words(texts.share()?)),
-        TypeForm::Name(word) => Ok(TypeForm::Name(word.share()?)),
-        TypeForm::Elem(class, content) => Ok(TypeForm::Elem(class.share()?, *content)),
-        TypeForm::Seq(parts) => Ok(TypeForm::Seq(copied_parts(alloc, parts)?)),
-        TypeForm::Alt(parts) => Ok(TypeForm::Alt(copied_parts(alloc, parts)?)),
-        TypeForm::Star(part) => Ok(TypeForm::Star(*part)),
-        TypeForm::Plus(part) => Ok(TypeForm::Plus(*part)),
-        TypeForm::Opt(part) => Ok(TypeForm::Opt(*part)),
-    }
-}
-
-fn copied_parts(alloc: Global, parts: &[TypeId]) -> Result<Vec<TypeId>, NoMemory>
-    ensures { IfOk result (λ made. made.items ≡ parts.now) }
-{
-    let made = Vec::from_slice(alloc, parts)?;
-    Ok(made)
 }
 
 /// The type that `Any` stands for, behind the others.

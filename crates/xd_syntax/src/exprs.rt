@@ -7,6 +7,7 @@ ghost use Rattle.xd_syntax.specs.Expression.{KeepsExprs, ExprCanFollow, ExprPart
 ghost use Rattle.xd_syntax.specs.ProperTables.{IsProperShape, IsExprTable};
 ghost use Rattle.xd_syntax.specs.Exprs.{IsExpr, shape_of, expression};
 
+use crate::copies::{Copied, copied_expression, copied_rows};
 use crate::patterns::PatternId;
 use std::alloc::Global;
 use std::marker::Model;
@@ -111,6 +112,16 @@ impl ExprNode {
     }
 }
 
+impl Copied for ExprNode {
+    fn copied(&self, alloc: Global) -> Result<Self, NoMemory> {
+        let form = copied_expression(alloc, &self.form)?;
+        Ok(Self {
+            place: self.place,
+            form,
+        })
+    }
+}
+
 impl Exprs {
     /// With no node.
     pub fn new(alloc: Global) -> Self
@@ -119,6 +130,14 @@ impl Exprs {
         Self {
             nodes: Vec::new(alloc),
         }
+    }
+
+    /// The same expressions, under the same numbers.
+    pub(crate) fn copy(&self, alloc: Global) -> Result<Self, NoMemory>
+        ensures { IfOk result (λ made. made ≡ self.now) }
+    {
+        let nodes = copied_rows(alloc, &self.nodes)?;
+        Ok(Self { nodes })
     }
 
     /// The number of nodes.

@@ -2,6 +2,7 @@
 #![tactic(auto)]
 
 mod adopt;
+mod copies;
 mod empty;
 mod exprs;
 mod fault;

@@ -6,6 +6,7 @@ ghost use Rattle.xd_syntax.specs.Table.{KeepsRows, CanFollow, PartsBelow, form_t
 ghost use Rattle.xd_syntax.specs.ProperTables.{IsProperForm, IsTable};
 ghost use Rattle.xd_syntax.specs.Patterns.{IsPattern, form_of_pattern, pattern_tree};
 
+use crate::copies::{Copied, copied_pattern, copied_rows};
 use std::alloc::Global;
 use std::marker::Model;
 use xd_base::Place;
@@ -127,6 +128,16 @@ impl PatternNode {
     }
 }
 
+impl Copied for PatternNode {
+    fn copied(&self, alloc: Global) -> Result<Self, NoMemory> {
+        let form = copied_pattern(alloc, &self.form)?;
+        Ok(Self {
+            place: self.place,
+            form,
+        })
+    }
+}
+
 impl Patterns {
     /// With no node.
     pub fn new(alloc: Global) -> Self
@@ -135,6 +146,14 @@ impl Patterns {
         Self {
             nodes: Vec::new(alloc),
         }
+    }
+
+    /// The same patterns, under the same numbers.
+    pub(crate) fn copy(&self, alloc: Global) -> Result<Self, NoMemory>
+        ensures { IfOk result (λ made. made ≡ self.now) }
+    {
+        let nodes = copied_rows(alloc, &self.nodes)?;
+        Ok(Self { nodes })
     }
 
     /// The number of nodes.

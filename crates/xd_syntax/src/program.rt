@@ -11,9 +11,11 @@ ghost use Rattle.xd_syntax.specs.Proper.{IsProperProgram};
 ghost use Rattle.xd_syntax.specs.Sound.{IsTypeAt};
 ghost use Rattle.xd_syntax.specs.Shallow.{AddsOne};
 
+use crate::copies::{Copied, copied_rows};
 use crate::exprs::{ExprId, Exprs};
 use crate::patterns::Patterns;
 use crate::types::{TypeDef, TypeForm, TypeId, Types};
+use std::alloc::Global;
 use std::marker::Model;
 use xd_base::Place;
 use xd_doc::{Label, NoMemory};
@@ -130,6 +132,31 @@ impl Function {
     }
 }
 
+impl Copied for Param {
+    fn copied(&self, _alloc: Global) -> Result<Self, NoMemory> {
+        let name = self.name.share()?;
+        Ok(Self {
+            name,
+            place: self.place,
+            body: self.body,
+        })
+    }
+}
+
+impl Copied for Function {
+    fn copied(&self, alloc: Global) -> Result<Self, NoMemory> {
+        let name = self.name.share()?;
+        let params = copied_rows(alloc, &self.params)?;
+        Ok(Self {
+            name,
+            place: self.place,
+            params,
+            result: self.result,
+            body: self.body,
+        })
+    }
+}
+
 impl Program {
     pub fn new(
         types: Types,
@@ -160,6 +187,19 @@ impl Program {
         ensures { IsProperProgram (program_tree self.now) }
     {
         let _types = &self.types;
+    }
+
+    /// An equal program, with the same numbers of nodes.
+    pub(crate) fn copy(&self, alloc: Global) -> Result<Self, NoMemory>
+        ensures { IfOk result (λ made. made ≡ self.now) }
+    {
+        Ok(Self {
+            types: self.types.copy(alloc)?,
+            patterns: self.patterns.copy(alloc)?,
+            exprs: self.exprs.copy(alloc)?,
+            type_defs: copied_rows(alloc, &self.type_defs)?,
+            functions: copied_rows(alloc, &self.functions)?,
+        })
     }
 
     pub fn types(&self) -> &Types

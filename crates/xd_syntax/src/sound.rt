@@ -93,6 +93,18 @@ impl SoundProgram {
         &self.program
     }
 
+    /// An equal program, with the same ids. What is known of its types is found anew when it is first needed.
+    pub fn copy(&self, alloc: Global) -> Result<Self, NoMemory>
+        ensures { IfOk result (λ made. made ≡ self.now) }
+    {
+        let program = self.program.copy(alloc)?;
+        Ok(Self {
+            program,
+            known: None,
+            alloc,
+        })
+    }
+
     /// The type that is this name, `String` and `Any` included; `None` where it is not defined.
     pub fn find_type(&mut self, word: &str) -> Result<Option<TypeId>, NoMemory>
         ensures defined { IfOk result (λ found. is_some found ≡ is_defined (program_tree self.old) word.now) }

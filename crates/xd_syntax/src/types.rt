@@ -6,6 +6,7 @@ ghost use Rattle.xd_syntax.specs.Table.{KeepsRows, CanFollow, PartsBelow, form_t
 ghost use Rattle.xd_syntax.specs.ProperTables.{IsProperForm, IsTable};
 ghost use Rattle.xd_syntax.specs.Types.{BelongsTo, form_of, tree};
 
+use crate::copies::{Copied, copied_rows, copied_type};
 use std::alloc::Global;
 use std::marker::Model;
 use xd_base::Place;
@@ -130,6 +131,27 @@ impl TypeNode {
     }
 }
 
+impl Copied for TypeNode {
+    fn copied(&self, alloc: Global) -> Result<Self, NoMemory> {
+        let form = copied_type(alloc, &self.form)?;
+        Ok(Self {
+            place: self.place,
+            form,
+        })
+    }
+}
+
+impl Copied for TypeDef {
+    fn copied(&self, _alloc: Global) -> Result<Self, NoMemory> {
+        let name = self.name.share()?;
+        Ok(Self {
+            name,
+            place: self.place,
+            body: self.body,
+        })
+    }
+}
+
 impl Types {
     /// With no node.
     pub fn new(alloc: Global) -> Self
@@ -138,6 +160,14 @@ impl Types {
         Self {
             nodes: Vec::new(alloc),
         }
+    }
+
+    /// The same types, under the same numbers.
+    pub fn copy(&self, alloc: Global) -> Result<Self, NoMemory>
+        ensures { IfOk result (λ made. made ≡ self.now) }
+    {
+        let nodes = copied_rows(alloc, &self.nodes)?;
+        Ok(Self { nodes })
     }
 
     /// The number of nodes.
