@@ -10,7 +10,7 @@ use Rattle.xd_syntax.specs.Placed.{PlacedTree, Empty_at, Seq_at, Alt_at, placed_
 use Rattle.xd_syntax.proofs.Trees.{tree_kept}
 use Rattle.xd_syntax.proofs.PlacedTrees.{placed_kept, placed_new, unplaced_at}
 use Rattle.xd_parse.specs.declared.parts.Parts.{Parts}
-use Rattle.xd_parse.specs.declared.parts.Parts.TheVariants.{Sequence, Alternative}
+use Rattle.xd_parse.specs.declared.parts.Parts.TheVariants.{One, Sequence, Alternative}
 use Rattle.xd_parse.specs.Merged.{parts_of_seq, parts_of_alt, merged_seq, sequence, alternative}
 use Rattle.xd_parse.specs.Nodes.{merges, has_none, parts_place, IsAdded, Extends, Merges}
 use Rattle.xd_parse.specs.Pieces.{Pieces, in_row, in_choice, pieces, tree_of, first_place, IsBranchAlone, Stand}
@@ -300,15 +300,11 @@ node_place t p (seq_form is) h = absurd (true_false h)
 node_place t p (alt_form is) h = absurd (true_false h)
 node_place t p f h = refl
 
-one_id : {I : Type 0} (at : I → ℕ) (ids : List I) (id : I) → ids ≡ id ∷ [] → map at ids ≡ at id ∷ []
-one_id at ids id e = ap (map at) e
-
-pub part_added : {I : Type 0} (at : I → ℕ) (old new : List Row) (p : Place) (f : Form) (ids : List I) (id : I) → merges f ≡ false → IsAdded old new (placed_form (placed_at old) p f) (at id) → ids ≡ id ∷ [] →
-    Merges old new (placed_form (placed_at old) p f) (in_row p (map at ids))
-part_added at old new p f ids id m a e =
+pub part_added : (old new : List Row) (p : Place) (f : Form) (i : ℕ) → merges f ≡ false → IsAdded old new (placed_form (placed_at old) p f) i → Merges old new (placed_form (placed_at old) p f) (in_row p (i ∷ []))
+part_added old new p f i m a =
     let T : PlacedTree = placed_form (placed_at old) p f in
-    let t = added_tree old new T (at id) a in
-    subst (λ (is : List ℕ). Merges old new T (in_row p is)) (sym (one_id at ids id e)) (record {
+    let t = added_tree old new T i a in
+    record {
       is = a.placed;
       stand = (
         ((a.belongs, subst (λ (U : Tree). (is_seq U || is_empty U) ≡ false) (sym t) (node_piece (placed_at old) p f m)), tt),
@@ -317,7 +313,7 @@ part_added at old new p f ids id m a e =
       );
       keeps = a.keeps;
       no_deeper = λ limit o w. only_within limit old new T a.only w;
-    })
+    }
 
 -- ---- two that are merged
 none_row : {I : Type 0} (at : I → ℕ) (rs : List Row) (p : Place) (ids : List I) → length ids ≡ 0 → parts_of_seq (placed_seq p (map (placed_at rs) (map at ids))) ≡ []
@@ -325,6 +321,7 @@ none_row at rs p [] e = refl
 none_row at rs p (i ∷ ids) e = absurd (omega arith)
 
 none_parts : {I : Type 0} (at : I → ℕ) (rs : List Row) (parts : Parts I) → has_none parts ≡ true → parts_of_seq (tree_of rs (pieces at parts)) ≡ []
+none_parts at rs (One p i) h = absurd (true_false (sym h))
 none_parts at rs (Sequence p parts) h = none_row at rs p parts.items (eqb-true (length parts.items) 0 h)
 none_parts at rs (Alternative p parts) h = absurd (true_false (sym h))
 
@@ -333,6 +330,7 @@ some_row at rs [] h = absurd (true_false h)
 some_row at rs (i ∷ ids) h = omega arith
 
 some_parts : {I : Type 0} (at : I → ℕ) (rs : List Row) (parts : Parts I) → has_none parts ≡ false → Stand rs (pieces at parts) → 0 < length (parts_of_seq (tree_of rs (pieces at parts)))
+some_parts at rs (One p i) h s = subst (λ (Ts : List PlacedTree). 0 < length Ts) (sym (one_seq_part rs (at i) s.0.0)) (lit< tt)
 some_parts at rs (Sequence p parts) h s =
     subst (λ (Ts : List PlacedTree). 0 < length Ts) (sym (parts_of_placed p (map (placed_at rs) (map at parts.items)) (are_pieces rs (map at parts.items) s.0))) (some_row at rs parts.items h)
 some_parts at rs (Alternative p parts) h s = subst (λ (Ts : List PlacedTree). 0 < length Ts) (sym (two_piece (placed_at rs) p (map at parts.items) s.0)) (lit< tt)
@@ -400,6 +398,7 @@ alone_none rs (i ∷ []) h = absurd (omega arith)
 alone_none rs (i ∷ (j ∷ is)) h = tt
 
 parts_place_is : {I : Type 0} (at : I → ℕ) (parts : Parts I) → parts_place parts ≡ place_in (pieces at parts)
+parts_place_is at (One p i) = refl
 parts_place_is at (Sequence p parts) = refl
 parts_place_is at (Alternative p parts) = refl
 

@@ -17,7 +17,7 @@ use Rattle.xd_parse.specs.declared.grammar.Terminal.TheVariants as t
 use Rattle.xd_parse.specs.declared.grammar.Sort.{Sort}
 use Rattle.xd_parse.specs.declared.grammar.Sort.TheVariants as sorts
 use Rattle.xd_parse.specs.declared.parts.Parts.{Parts}
-use Rattle.xd_parse.specs.declared.parts.Parts.TheVariants.{Sequence, Alternative}
+use Rattle.xd_parse.specs.declared.parts.Parts.TheVariants.{One, Sequence, Alternative}
 use Rattle.xd_parse.specs.Grammar.{Row, rules, IsOneOf}
 use Rattle.xd_parse.specs.Fits.{same, first_fit}
 use Rattle.xd_lex.specs.Spelled.{unescaped}
@@ -301,6 +301,7 @@ nothing_stands : (rows : List TableRow) (p : Place) → Stand rows (in_row p [])
 nothing_stands rows p = (tt, tt, refl)
 
 nothing_is : {I : Type 0} (at : I → ℕ) (p : Place) (parts : Parts I) → IsNothing p parts → pieces at parts ≡ in_row p []
+nothing_is at p (One q i) h = absurd h
 nothing_is at p (Sequence q parts) h = let e = h.0 in let f = ap (map at) h.1 in cc
 nothing_is at p (Alternative q parts) h = absurd h
 

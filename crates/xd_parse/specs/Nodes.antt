@@ -14,7 +14,7 @@ use Rattle.xd_parse.specs.declared.nodes.NodeForm.{NodeForm}
 use Rattle.xd_parse.specs.declared.nodes.NodeForm.TheVariants.{Empty, Text, Words, Name, Elem, Seq, Alt, Star, Plus, Opt, Val}
 use Rattle.xd_base.specs.declared.Place.{Place}
 use Rattle.xd_parse.specs.declared.parts.Parts.{Parts}
-use Rattle.xd_parse.specs.declared.parts.Parts.TheVariants.{Sequence, Alternative}
+use Rattle.xd_parse.specs.declared.parts.Parts.TheVariants.{One, Sequence, Alternative}
 use Rattle.xd_parse.specs.Values.{Value, a_tree, value_of}
 use Rattle.xd_parse.specs.Grammar.{Row as GrammarRow, rules, IsOneOf}
 use Rattle.xd_parse.specs.Means.{Means}
@@ -49,14 +49,17 @@ merges (alt_form is) = true
 merges f = false
 
 abbrev pub has_none : {I : Type 0} → Parts I → Bool
+has_none (One p i) = false
 has_none (Sequence p parts) = length parts.items == 0
 has_none (Alternative p parts) = false
 
 abbrev pub parts_place : {I : Type 0} → Parts I → Place
+parts_place (One p i) = p
 parts_place (Sequence p parts) = p
 parts_place (Alternative p parts) = p
 
 abbrev pub IsNothing : {I : Type 0} → Place → Parts I → Type 0
+IsNothing p (One q i) = ⊥
 IsNothing p (Sequence q parts) = (q ≡ p) × (parts.items ≡ [])
 IsNothing p (Alternative q parts) = ⊥
 

@@ -8,7 +8,7 @@ use Rattle.xd_syntax.specs.Expression.{Expression, ExprRow, expression_at, IsJoi
 use Rattle.xd_syntax.specs.Exprs.{expr_numbers}
 use Rattle.xd_parse.specs.declared.joining.Items.{Items}
 use Rattle.xd_parse.specs.declared.parts.Parts.{Parts}
-use Rattle.xd_parse.specs.declared.parts.Parts.TheVariants.{Sequence, Alternative}
+use Rattle.xd_parse.specs.declared.parts.Parts.TheVariants.{One, Sequence, Alternative}
 use Rattle.xd_parse.specs.Merged.{merged_expression}
 
 -- ---- types and patterns
@@ -18,6 +18,7 @@ pub data Pieces : Type 0 where
   in_choice : Place → List ℕ → Pieces
 
 abbrev pub pieces : {I : Type 0} → (I → ℕ) → Parts I → Pieces
+pieces at (One p i) = in_row p (at i ∷ [])
 pieces at (Sequence p parts) = in_row p (map at parts.items)
 pieces at (Alternative p parts) = in_choice p (map at parts.items)
 

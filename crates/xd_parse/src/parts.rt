@@ -9,7 +9,7 @@ ghost use Rattle.xd_parse.specs.Nodes.{binders, shape, merges, has_none, parts_p
 ghost use Rattle.xd_parse.specs.Pieces.{pieces, in_row, tree_of, Stand};
 
 use crate::nodes::{NodeForm, Nodes};
-use crate::queue::{join, queue_of};
+use crate::queue::join;
 use std::alloc::Global;
 use std::collections::VecDeque;
 use xd_base::Place;
@@ -19,6 +19,8 @@ use xd_doc::NoMemory;
 /// when something uses it as one part. The place is that of the first part.
 #[derive(Drop)]
 pub(crate) enum Parts<I> {
+    /// One part, which is no sequence and no alternative.
+    One(Place, I),
     /// Parts in a row; of no part it is empty, and one part is itself.
     Sequence(Place, VecDeque<I>),
     /// Branches, two or more.
@@ -34,7 +36,6 @@ pub(crate) fn nothing_at<I: Copy>(alloc: Global, place: Place) -> Parts<I>
 
 /// Adds a node that is not empty, no sequence and no alternative.
 pub(crate) fn add_part<N: Nodes>(
-    alloc: Global,
     nodes: &mut N,
     place: Place,
     form: NodeForm<N::Id>,
@@ -44,9 +45,8 @@ pub(crate) fn add_part<N: Nodes>(
     ensures merges { IfOk result (λ parts. Merges (N.rows nodes.old) (N.rows nodes.new) (placed_form (placed_at (N.rows nodes.old)) place (shape N.at form)) (pieces N.at parts)) }
     ensures keeps { KeepsRows (N.rows nodes.old) (N.rows nodes.new) }
 {
-    let id = nodes.add(place, form)?;
-    let parts = queue_of(alloc, id)?;
-    Ok(Parts::Sequence(place, parts))
+    let part = nodes.add(place, form)?;
+    Ok(Parts::One(place, part))
 }
 
 /// The node of what was read.
@@ -56,6 +56,7 @@ pub(crate) fn to_node<N: Nodes>(nodes: &mut N, parts: Parts<N::Id>) -> Result<N:
     ensures keeps { KeepsRows (N.rows nodes.old) (N.rows nodes.new) }
 {
     match parts {
+        Parts::One(_, part) => Ok(part),
         Parts::Sequence(place, parts) => sequence_node(nodes, place, parts.into_vec()),
         Parts::Alternative(place, parts) => nodes.add(place, NodeForm::Alt(parts.into_vec())),
     }
@@ -84,7 +85,7 @@ fn is_none<I>(parts: &Parts<I>) -> bool
 {
     match parts {
         Parts::Sequence(_, parts) => parts.is_empty(),
-        Parts::Alternative(_, _) => false,
+        Parts::One(_, _) | Parts::Alternative(_, _) => false,
     }
 }
 
@@ -93,6 +94,7 @@ pub(crate) fn place_of<I>(parts: &Parts<I>) -> Place
     ensures { result ≡ parts_place parts.now }
 {
     match parts {
+        Parts::One(place, _) => *place,
         Parts::Sequence(place, _) => *place,
         Parts::Alternative(place, _) => *place,
     }
@@ -109,6 +111,10 @@ fn with_parts<N: Nodes>(
     ensures keeps { KeepsRows (N.rows nodes.old) (N.rows nodes.new) }
 {
     match parts {
+        Parts::One(_, part) => {
+            row.push_back(part)?;
+            Ok(row)
+        }
         Parts::Sequence(_, more) => join(row, more),
         Parts::Alternative(place, branches) => {
             let id = nodes.add(place, NodeForm::Alt(branches.into_vec()))?;
@@ -129,6 +135,10 @@ fn with_branches<N: Nodes>(
     ensures keeps { KeepsRows (N.rows nodes.old) (N.rows nodes.new) }
 {
     match parts {
+        Parts::One(_, part) => {
+            branches.push_back(part)?;
+            Ok(branches)
+        }
         Parts::Alternative(_, more) => join(branches, more),
         Parts::Sequence(place, row) => {
             let id = sequence_node(nodes, place, row.into_vec())?;

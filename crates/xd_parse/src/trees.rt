@@ -26,16 +26,16 @@ use xd_base::Place;
 use xd_doc::{Class, Label, NoMemory, Text, Words};
 
 /// A word: `String` is the type of texts.
-fn add_named<N: Nodes>(alloc: Global, nodes: &mut N, word: Word) -> Result<Parts<N::Id>, NoMemory>
+fn add_named<N: Nodes>(nodes: &mut N, word: Word) -> Result<Parts<N::Id>, NoMemory>
     requires { has_word keywords word.word ≡ false }
     ensures merges { IfOk result (λ parts. Merges (N.rows nodes.old) (N.rows nodes.new) (named word.word word.place) (pieces N.at parts)) }
     ensures keeps { KeepsRows (N.rows nodes.old) (N.rows nodes.new) }
 {
     let Word { word, place } = word;
     if word.as_str() == "String" {
-        return add_part(alloc, nodes, place, NodeForm::Text);
+        return add_part(nodes, place, NodeForm::Text);
     }
-    add_part(alloc, nodes, place, NodeForm::Name(word))
+    add_part(nodes, place, NodeForm::Name(word))
 }
 
 /// One text, or all texts but these.
@@ -52,7 +52,7 @@ fn add_texts<N: Nodes>(
     ensures keeps { KeepsRows (N.rows nodes.old) (N.rows nodes.new) }
 {
     let words = Words::new(alloc, texts, except)?;
-    add_part(alloc, nodes, place, NodeForm::Words(words))
+    add_part(nodes, place, NodeForm::Words(words))
 }
 
 /// One text.
@@ -90,7 +90,6 @@ fn repeated<I: Copy>(operator: Terminal, part: I) -> NodeForm<I>
 
 /// The operator behind a part, if one comes.
 fn read_operator<N: Nodes>(
-    alloc: Global,
     cursor: &mut Cursor<'_>,
     nodes: &mut N,
     parts: Parts<N::Id>,
@@ -104,14 +103,13 @@ fn read_operator<N: Nodes>(
         cursor.step();
         let place = place_of(&parts);
         let part = to_node(nodes, parts)?;
-        return add_part(alloc, nodes, place, repeated(operator, part));
+        return add_part(nodes, place, repeated(operator, part));
     }
     Ok(parts)
 }
 
 /// An element around what was read as its content.
 fn add_element<N: Nodes>(
-    alloc: Global,
     nodes: &mut N,
     place: Place,
     class: Class,
@@ -122,12 +120,11 @@ fn add_element<N: Nodes>(
     ensures keeps { KeepsRows (N.rows nodes.old) (N.rows nodes.new) }
 {
     let inside = to_node(nodes, content)?;
-    add_part(alloc, nodes, place, NodeForm::Elem(class, inside))
+    add_part(nodes, place, NodeForm::Elem(class, inside))
 }
 
 /// A variable around what was read behind its `as`.
 fn add_bound<N: Nodes>(
-    alloc: Global,
     nodes: &mut N,
     place: Place,
     variable: Word,
@@ -140,7 +137,7 @@ fn add_bound<N: Nodes>(
 {
     let Word { word, place: at } = variable;
     let bound = to_node(nodes, part)?;
-    add_part(alloc, nodes, place, NodeForm::Val(word, at, bound))
+    add_part(nodes, place, NodeForm::Val(word, at, bound))
 }
 
 /// A variable that may be anything.
@@ -157,7 +154,7 @@ fn add_unbound<N: Nodes>(
     let Word { word, place: at } = variable;
     let any = Label::new(alloc, "Any")?;
     let bound = nodes.add(at, NodeForm::Name(any))?;
-    add_part(alloc, nodes, place, NodeForm::Val(word, at, bound))
+    add_part(nodes, place, NodeForm::Val(word, at, bound))
 }
 
 /// Branches between `|`.
@@ -212,7 +209,7 @@ fn read_part<N: Nodes>(
         return read_variable(alloc, cursor, nodes);
     }
     let part = read_primary(alloc, cursor, nodes)?;
-    read_operator(alloc, cursor, nodes, part)
+    read_operator(cursor, nodes, part)
 }
 
 /// A variable, from its `val` on.
@@ -252,7 +249,7 @@ fn read_bound<N: Nodes>(
     if cursor.at(Terminal::As) {
         cursor.step();
         let part = read_part(alloc, cursor, nodes)?;
-        return add_bound(alloc, nodes, place, variable, part);
+        return add_bound(nodes, place, variable, part);
     }
     add_unbound(alloc, nodes, place, variable)
 }
@@ -270,7 +267,7 @@ fn read_primary<N: Nodes>(
     match cursor.peek() {
         Terminal::Word => {
             let word = cursor.word(alloc)?;
-            add_named(alloc, nodes, word)
+            add_named(nodes, word)
         }
         Terminal::ParenL => {
             if cursor.opens_class(N::sort()) {
@@ -299,7 +296,7 @@ fn read_element<N: Nodes>(
 {
     let class = read_class(alloc, cursor)?;
     let content = read_content(alloc, cursor, nodes)?;
-    add_element(alloc, nodes, class.place, class.class, content)
+    add_element(nodes, class.place, class.class, content)
 }
 
 /// All texts but some, or an element with all labels but some, from the `^` on.
@@ -320,7 +317,7 @@ fn read_exception<N: Nodes>(
         Excepted::Labels(names) => {
             let class = Class::new(alloc, names, true)?;
             let content = read_content(alloc, cursor, nodes)?;
-            add_element(alloc, nodes, place, class, content)
+            add_element(nodes, place, class, content)
         }
     }
 }
