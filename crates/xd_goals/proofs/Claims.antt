@@ -10,6 +10,7 @@ use Rattle.xd_goals.specs.Rows.{GoalRow, claim_at}
 use Rattle.xd_goals.specs.Trees.{IsGrown, IsTextTree, IsTreeBySort}
 use Rattle.xd_goals.specs.Standing.{IsCaseTree, claim_sides, task_for}
 use Rattle.xd_goals.specs.declared.heads.Side.{Side}
+use Rattle.xd_goals.specs.declared.table.GoalCase.{GoalCase}
 use Rattle.xd_goals.specs.declared.grow.Task.{Task}
 
 module _ (a : Automaton) (old new : List GoalRow) (same : (g : ℕ) → claim_at new g ≡ claim_at old g) where
@@ -24,7 +25,7 @@ module _ (a : Automaton) (old new : List GoalRow) (same : (g : ℕ) → claim_at
   text_same task sides (RestLeaf g) k = same g ∙ k
   text_same task sides (SplitOn j x y) k = k
 
-  pub same_kinds : (owner : ℕ) (c : Claim State) (h : Head State) (atom : Atom) (tree : ChoiceTree) → IsCaseTree a old owner c h atom tree → IsCaseTree a new owner c h atom tree
+  pub same_kinds : (owner : GoalCase) (c : Claim State) (h : Head State) (atom : Atom) (tree : ChoiceTree) → IsCaseTree a old owner c h atom tree → IsCaseTree a new owner c h atom tree
   same_kinds owner c h atom tree k = go (is_text_atom atom) k
     where
       go : (b : Bool) → IsTreeBySort b old (task_for a owner h) (claim_sides a c atom) tree → IsTreeBySort b new (task_for a owner h) (claim_sides a c atom) tree

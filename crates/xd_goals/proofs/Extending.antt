@@ -1,6 +1,6 @@
 -- A table that stands goes on to stand while the automaton and the store grow.
 use Rattle.std.proofs.Common.{ℕ, zero, suc, ◌<◌, ◌≤◌, ◌≡◌, Bool, true, false, List, [], ◌∷◌, ◌++◌, map, length, ⊎_elim, refl, sym, ap, subst, ◌∙◌, arith}
-use Rattle.std.specs.List.{AllByRecursion, flat_map, list_any}
+use Rattle.std.specs.List.{flat_map, list_any}
 use Rattle.std.proofs.lemmas.Bool.{cases_lt}
 use Rattle.xd_doc.specs.Document.{Document}
 use Rattle.xd_doc.specs.declared.store.Seq.{Seq}
@@ -11,13 +11,14 @@ use Rattle.xd_rules.specs.Heads.{Head, AreNames, is_text_atom}
 use Rattle.xd_rules.specs.Rules.{Claim, ChoiceTree, ContentLeaf, RestLeaf, SplitOn, head_number, right_heads, wanted_cases}
 use Rattle.xd_rules.proofs.Members.{one_of-all}
 use Rattle.xd_goals.specs.Moves.{AreBelow, heads_of, is_last_in, label_head, text_head}
-use Rattle.xd_goals.specs.Rows.{GoalRow, TableView, row_at, claim_of}
+use Rattle.xd_goals.specs.Rows.{GoalRow, TableView, row_at, claim_of, goal_case}
 use Rattle.xd_goals.specs.Trees.{IsGrown, IsTextTree, IsTreeBySort, matching_sides}
 use Rattle.xd_goals.specs.Standing.{ChoiceStands, IsBegun, IsCaseTree, IsSeparatedBy, StandsOn, claim_sides, task_for}
 use Rattle.xd_goals.specs.declared.heads.Side.{Side}
 use Rattle.xd_goals.specs.declared.grow.Task.{Task}
 use Rattle.xd_goals.specs.declared.table.Choice.{Choice}
-use Rattle.xd_goals.proofs.Lists.{all_map}
+use Rattle.xd_goals.specs.declared.table.GoalCase.{GoalCase}
+use Rattle.xd_goals.proofs.Lists.{none_at}
 use Rattle.xd_goals.proofs.Growing.{past_is_new}
 
 below_more : (n m : ℕ) → n ≤ m → (states : List State) → AreBelow n states → AreBelow m states
@@ -77,14 +78,14 @@ module _ (a b : Automaton) (more : Extends a b) (keep : KeepsAccepting a b) wher
       };
     }
 
-    case_tree-extends : (rows : List GoalRow) (owner : ℕ) (h : Head State) (atom : Atom) (tree : ChoiceTree) → IsCaseTree a rows owner c h atom tree → IsCaseTree b rows owner c h atom tree
+    case_tree-extends : (rows : List GoalRow) (owner : GoalCase) (h : Head State) (atom : Atom) (tree : ChoiceTree) → IsCaseTree a rows owner c h atom tree → IsCaseTree b rows owner c h atom tree
     case_tree-extends rows owner h atom tree k = subst (λ (hs : List (Head State)). IsTreeBySort (is_text_atom atom) rows (task_for b owner h) (matching_sides atom 1 hs) tree) (sym right_heads-same) (go (is_text_atom atom) k)
       where
         go : (sort : Bool) → IsTreeBySort sort rows (task_for a owner h) (claim_sides a c atom) tree → IsTreeBySort sort rows (task_for b owner h) (claim_sides a c atom) tree
         go true x = IsTextTree-task rows (task_for a owner h) (task_for b owner h) (claim_sides a c atom) refl tree x
         go false x = IsGrown-task rows (task_for a owner h) (task_for b owner h) (claim_sides a c atom) refl refl tree [] [] x
 
-    choice-extends : (t : TableView) (owner : ℕ) (k : Choice) → ChoiceStands a t owner c k → ChoiceStands b t owner c k
+    choice-extends : (t : TableView) (owner : GoalCase) (k : Choice) → ChoiceStands a t owner c k → ChoiceStands b t owner c k
     choice-extends t owner k h = record {
       head = h.head;
       found = ap (λ (hs : List (Head State)). head_number hs k.head) left_heads-same ∙ h.found;
@@ -114,12 +115,12 @@ module _ (a b : Automaton) (more : Extends a b) (keep : KeepsAccepting a b) wher
         (λ lt. let r = h.states.each i lt in separated-extends (claim_of (row_at t.rows i)) r.left r.rights ds seq (h.refuted i seq e))
         (λ ge. let w = (past_is_new t.rows i ge).standing in absurd (cc))
         (cases_lt i (length t.rows));
-    choices = λ i. ⊎_elim
-        (λ lt. let r = h.states.each i lt in
-        all_map (ChoiceStands a t i (claim_of (row_at t.rows i))) (ChoiceStands b t i (claim_of (row_at t.rows i))) (row_at t.rows i).choices
-        (λ k x. choice-extends (claim_of (row_at t.rows i)) r.left r.rights t i k x) (h.choices i))
-        (λ ge. subst (λ (ks : List Choice). AllByRecursion (ChoiceStands b t i (claim_of (row_at t.rows i))) ks) (sym (past_is_new t.rows i ge).choices) tt)
+    choices = λ i place k e. ⊎_elim
+        (λ lt. let r = h.states.each i lt in choice-extends (claim_of (row_at t.rows i)) r.left r.rights t (goal_case i place) k (h.choices i place k e))
+        (λ ge. absurd (none_at (row_at t.rows i).choices place k (past_is_new t.rows i ge).choices e))
         (cases_lt i (length t.rows));
+    flags = h.flags;
+    unbroken = h.unbroken;
     begun = λ i n. ⊎_elim
         (λ lt. let r = h.states.each i lt in begun-extends (claim_of (row_at t.rows i)) r.left r.rights (row_at t.rows i).choices (h.begun i n))
         (λ ge. absurd (n (past_is_new t.rows i ge).choices))

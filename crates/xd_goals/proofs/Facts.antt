@@ -1,6 +1,6 @@
 -- The facts of a table, while it grows and while goals come to hold, to be refuted and to wait.
-use Rattle.std.proofs.Common.{ℕ, ◌<◌, ◌≡◌, Bool, true, false, List, [], ◌∷◌, length, ⊎_elim, sym, ap, subst, ◌∙◌, arith}
-use Rattle.std.specs.List.{AllByRecursion}
+use Rattle.std.proofs.Common.{ℕ, ◌<◌, ◌≡◌, Bool, true, false, List, [], ◌∷◌, length, Some, ⊎_elim, sym, ap, subst, ◌∙◌, arith}
+use Rattle.std.specs.List.{AllByRecursion, slice_get}
 use Rattle.std.specs.BTreeMap.{BTreeMap}
 use Rattle.std.proofs.lemmas.Bool.{cases_lt}
 use Rattle.xd_doc.specs.Document.{Document}
@@ -12,17 +12,18 @@ use Rattle.xd_rules.specs.Heads.{Head, is_text_atom}
 use Rattle.xd_rules.specs.Meaning.{Separates}
 use Rattle.xd_rules.specs.Rules.{Claim, ChoiceTree, AllLeaves}
 use Rattle.xd_goals.specs.Moves.{Accepts, claim_with}
-use Rattle.xd_goals.specs.Rows.{GoalRow, TableView, row_at, claim_of, claim_key, no_view, IsRefuted, RowsBelow}
+use Rattle.xd_goals.specs.Rows.{GoalRow, TableView, row_at, claim_of, claim_key, goal_case, no_view, IsRefuted, IsUnbroken, RowsBelow}
 use Rattle.xd_goals.specs.Kept.{GrowsBy, IsIndexed, found_at}
 use Rattle.xd_goals.specs.Trees.{IsTreeBySort}
 use Rattle.xd_goals.specs.Standing.{AreSeparated, ChoiceStands, IsBegun, IsCaseTree, IsOpen, IsSeparatedBy, RowHolds, StandsOn, KeepsGoals, task_for, claim_sides}
 use Rattle.xd_goals.specs.declared.table.Choice.{Choice}
+use Rattle.xd_goals.specs.declared.table.GoalCase.{GoalCase}
 use Rattle.xd_goals.specs.declared.table.Standing.TheVariants.{Holds}
-use Rattle.xd_goals.proofs.Lists.{all_map}
+use Rattle.xd_goals.proofs.Lists.{all_at, all_places, none_at}
 use Rattle.xd_goals.proofs.Growing.{past_is_new}
-use Rattle.xd_goals.proofs.Trees.{AllLeaves-map, StandsAt-more, StandsAt-one, HasTree-grows, IsGrown-grows, IsTextTree-grows, standing-grows, choices-grows, open-grows}
+use Rattle.xd_goals.proofs.Trees.{AllLeaves-map, StandsAt-more, StandsAt-one, HasTree-grows, IsGrown-grows, IsTextTree-grows, standing-grows, broken-grows, choices-grows, open-grows}
 
-pub case_tree-grows : {A : List State → Type 0} (a : Automaton) (t u : TableView) → GrowsBy A t u → (owner : ℕ) (c : Claim State) (h : Head State) (atom : Atom) (tree : ChoiceTree)
+pub case_tree-grows : {A : List State → Type 0} (a : Automaton) (t u : TableView) → GrowsBy A t u → (owner : GoalCase) (c : Claim State) (h : Head State) (atom : Atom) (tree : ChoiceTree)
     → IsCaseTree a t.rows owner c h atom tree → IsCaseTree a u.rows owner c h atom tree
 case_tree-grows a t u g owner c h atom tree k = go (is_text_atom atom) k
   where
@@ -30,7 +31,7 @@ case_tree-grows a t u g owner c h atom tree k = go (is_text_atom atom) k
     go true x = IsTextTree-grows t u g (task_for a owner h) (claim_sides a c atom) tree x
     go false x = IsGrown-grows t u g (task_for a owner h) (claim_sides a c atom) tree [] [] x
 
-pub choice-grows : {A : List State → Type 0} (a : Automaton) (t u : TableView) → GrowsBy A t u → (owner : ℕ) (c : Claim State) (k : Choice) → ChoiceStands a t owner c k → ChoiceStands a u owner c k
+pub choice-grows : {A : List State → Type 0} (a : Automaton) (t u : TableView) → GrowsBy A t u → (owner : GoalCase) (c : Claim State) (k : Choice) → ChoiceStands a t owner c k → ChoiceStands a u owner c k
 choice-grows a t u g owner c k h = record {
   head = h.head;
   found = h.found;
@@ -39,7 +40,7 @@ choice-grows a t u g owner c k h = record {
 }
 
 -- a choice that is open stays open
-pub open_choice-grows : {A : List State → Type 0} (a : Automaton) (t u : TableView) → GrowsBy A t u → (owner : ℕ) (c : Claim State) (k : Choice) → ChoiceStands a t owner c k → IsOpen t k → IsOpen u k
+pub open_choice-grows : {A : List State → Type 0} (a : Automaton) (t u : TableView) → GrowsBy A t u → (owner : GoalCase) (c : Claim State) (k : Choice) → ChoiceStands a t owner c k → IsOpen t k → IsOpen u k
 open_choice-grows a t u g owner c k h o tree s =
     let there = StandsAt-more t.nodes u.nodes g.nodes h.has.tree k.root h.has.stands in
     let same : h.has.tree ≡ tree = StandsAt-one u.nodes h.has.tree tree k.root there s in
@@ -49,6 +50,13 @@ open_choice-grows a t u g owner c k h o tree s =
 pub all_both : {X : Type 0} (P Q R : X → Type 0) (xs : List X) → ((x : X) → P x → Q x → R x) → AllByRecursion P xs → AllByRecursion Q xs → AllByRecursion R xs
 all_both P Q R [] f h k = tt
 all_both P Q R (x ∷ xs) f h k = (f x h.0 k.0, all_both P Q R xs f h.1 k.1)
+
+-- the choice stands, whichever case of the goal it is
+abbrev pub StandsSomewhere : Automaton → TableView → Claim State → Choice → Type 0
+StandsSomewhere a t c k = (owner : GoalCase) × ChoiceStands a t owner c k
+
+pub choices_stand : (a : Automaton) (ds : List Document) (t : TableView) → StandsOn a ds t → (i : ℕ) → AllByRecursion (StandsSomewhere a t (claim_of (row_at t.rows i))) (row_at t.rows i).choices
+choices_stand a ds t h i = all_places (StandsSomewhere a t (claim_of (row_at t.rows i))) (row_at t.rows i).choices (λ place k e. (goal_case i place, h.choices i place k e))
 
 -- no two goals are alike, since the map tells them apart
 pub unlike_index : (found : BTreeMap (List ℕ) ℕ) (rows : List GoalRow) → IsIndexed found rows → (i j : ℕ) → i < length rows → j < length rows → claim_of (row_at rows i) ≡ claim_of (row_at rows j) → i ≡ j
@@ -76,20 +84,27 @@ module _ {A : List State → Type 0} (a : Automaton) (ds : List Document) (t u :
   holds_there : (i : ℕ) → (row_at t.rows i).standing ≡ Holds → i < length t.rows
   holds_there i e = ⊎_elim (λ lt. lt) (λ ge. let w = (past_is_new t.rows i ge).standing in absurd (cc)) (cases_lt i (length t.rows))
 
-  choices_at : StandsOn a ds t → (i : ℕ) → AllByRecursion (ChoiceStands a u i (claim_of (row_at u.rows i))) (row_at u.rows i).choices
-  choices_at h i = ⊎_elim
-      (λ lt. subst (λ (ks : List Choice). AllByRecursion (ChoiceStands a u i (claim_of (row_at u.rows i))) ks) (sym (choices-grows t u g i))
-      (subst (λ (c : Claim State). AllByRecursion (ChoiceStands a u i c) (row_at t.rows i).choices) (sym (claim-grows t u g i lt))
-      (all_map (ChoiceStands a t i (claim_of (row_at t.rows i))) (ChoiceStands a u i (claim_of (row_at t.rows i))) (row_at t.rows i).choices
-      (λ k x. choice-grows a t u g i (claim_of (row_at t.rows i)) k x) (h.choices i))))
-      (λ ge. subst (λ (ks : List Choice). AllByRecursion (ChoiceStands a u i (claim_of (row_at u.rows i))) ks) (sym (g.added i ge).choices) tt)
+  was_choice : (i place : ℕ) (k : Choice) → slice_get (row_at u.rows i).choices place ≡ Some k → slice_get (row_at t.rows i).choices place ≡ Some k
+  was_choice i place k e = subst (λ (ks : List Choice). slice_get ks place ≡ Some k) (choices-grows t u g i) e
+
+  choices_at : StandsOn a ds t → (i place : ℕ) (k : Choice) → slice_get (row_at u.rows i).choices place ≡ Some k → ChoiceStands a u (goal_case i place) (claim_of (row_at u.rows i)) k
+  choices_at h i place k e = ⊎_elim
+      (λ lt. subst (λ (c : Claim State). ChoiceStands a u (goal_case i place) c k) (sym (claim-grows t u g i lt))
+      (choice-grows a t u g (goal_case i place) (claim_of (row_at t.rows i)) k (h.choices i place k (was_choice i place k e))))
+      (λ ge. absurd (none_at (row_at u.rows i).choices place k (g.added i ge).choices e))
       (cases_lt i (length t.rows))
+
+  unbroken_at : StandsOn a ds t → (i place : ℕ) (k : Choice) → slice_get (row_at u.rows i).choices place ≡ Some k → IsUnbroken (row_at u.rows i) place → IsOpen u k
+  unbroken_at h i place k e b =
+      let was = was_choice i place k e in
+      open_choice-grows a t u g (goal_case i place) (claim_of (row_at t.rows i)) k (h.choices i place k was)
+      (h.unbroken i place k was (subst (λ (flags : List Bool). slice_get flags place ≡ Some false) (broken-grows t u g i) b))
 
   row_holds : StandsOn a ds t → (i : ℕ) → (row_at t.rows i).standing ≡ Holds → RowHolds a u (claim_of (row_at t.rows i)) (row_at t.rows i).choices
   row_holds h i e = let r = h.holds i e in record {
     begun = r.begun;
-    opens = all_both (ChoiceStands a t i (claim_of (row_at t.rows i))) (IsOpen t) (IsOpen u) (row_at t.rows i).choices
-        (λ k x o. open_choice-grows a t u g i (claim_of (row_at t.rows i)) k x o) (h.choices i) r.opens;
+    opens = all_places (IsOpen u) (row_at t.rows i).choices
+        (λ place k e. open_choice-grows a t u g (goal_case i place) (claim_of (row_at t.rows i)) k (h.choices i place k e) (all_at (IsOpen t) (row_at t.rows i).choices place k r.opens e));
   }
 
   begun_at : StandsOn a ds t → (i : ℕ) → ¬ ((row_at u.rows i).choices ≡ []) → IsBegun a (claim_of (row_at u.rows i)) (row_at u.rows i).choices
@@ -107,6 +122,8 @@ module _ {A : List State → Type 0} (a : Automaton) (ds : List Document) (t u :
     refuted = separated-grows a ds t u g h.refuted;
     choices = choices_at h;
     begun = begun_at h;
+    flags = λ i. ap length (broken-grows t u g i) ∙ h.flags i ∙ sym (ap length (choices-grows t u g i));
+    unbroken = unbroken_at h;
     holds = λ i e.
         let was = sym (standing-grows t u g i) ∙ e in
         subst (λ (ks : List Choice). RowHolds a u (claim_of (row_at u.rows i)) ks) (sym (choices-grows t u g i))
@@ -137,6 +154,8 @@ stands-keeps a ds es t k h = record {
   unlike = h.unlike;
   choices = h.choices;
   begun = h.begun;
+  flags = h.flags;
+  unbroken = h.unbroken;
   holds = h.holds;
   refuted = λ i seq e. let s = h.refuted i seq e in record {
     belongs = k.belongs seq s.belongs;
@@ -150,7 +169,9 @@ stands-none a ds = record {
   states = record { each = λ i lt. absurd (omega arith) };
   unlike = λ i j li lj e. absurd (omega arith);
   refuted = λ i seq e. let w = (past_is_new [] i (omega arith)).standing in absurd (cc);
-  choices = λ i. subst (λ (ks : List Choice). AllByRecursion (ChoiceStands a no_view i (claim_of (row_at [] i))) ks) (sym (past_is_new [] i (omega arith)).choices) tt;
+  choices = λ i place k e. absurd (none_at (row_at [] i).choices place k (past_is_new [] i (omega arith)).choices e);
   begun = λ i n. absurd (n (past_is_new [] i (omega arith)).choices);
+  flags = λ i. ap length (past_is_new [] i (omega arith)).broken ∙ sym (ap length (past_is_new [] i (omega arith)).choices);
+  unbroken = λ i place k e b. absurd (none_at (row_at [] i).choices place k (past_is_new [] i (omega arith)).choices e);
   holds = λ i e. let w = (past_is_new [] i (omega arith)).standing in absurd (cc);
 }

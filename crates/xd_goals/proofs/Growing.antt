@@ -16,20 +16,20 @@ use Rattle.xd_goals.specs.Moves.{AreBelow, claim_with}
 use Rattle.xd_goals.specs.Rows.{GoalRow, TableView, new_row, no_row, row_at, claim_of, claim_at, claim_key, state_numbers, IsListed, Leads, here, behind, IsRowBelow, RowsBelow}
 use Rattle.xd_goals.specs.Kept.{AreLinked, AreThese, BeginsWith, GrowsBy, IsIndexed, IsNew, IsSameGoal, found_at}
 use Rattle.xd_goals.specs.declared.table.ChoiceNode.{ChoiceNode}
-use Rattle.xd_goals.specs.declared.table.GoalId.{GoalId}
+use Rattle.xd_goals.specs.declared.table.GoalCase.{GoalCase}
 use Rattle.xd_goals.specs.declared.table.Link.{Link}
 use Rattle.xd_goals.proofs.Lists.{slice_get-append, slice_get-seam, slice_get-push_cases}
 
 pub same_goal : (row : GoalRow) → IsSameGoal row row
-same_goal row = record { left = refl; rights = refl; standing = refl; choices = refl }
+same_goal row = record { left = refl; rights = refl; standing = refl; choices = refl; broken = refl }
 
 -- a goal that isn't there is new
 pub past_is_new : (rows : List GoalRow) (i : ℕ) → length rows ≤ i → IsNew (row_at rows i)
 past_is_new rows i le =
     let e : row_at rows i ≡ no_row = get_or_past rows i no_row le in
-    record { standing = ap (λ (r : GoalRow). r.standing) e; choices = ap (λ (r : GoalRow). r.choices) e }
+    record { standing = ap (λ (r : GoalRow). r.standing) e; choices = ap (λ (r : GoalRow). r.choices) e; broken = ap (λ (r : GoalRow). r.broken) e }
 
-pub Leads-append : (links more : List Link) (goal : ℕ) (first : Option ℕ) → Leads links goal first → Leads (links ++ more) goal first
+pub Leads-append : (links more : List Link) (goal : GoalCase) (first : Option ℕ) → Leads links goal first → Leads (links ++ more) goal first
 Leads-append links more goal first (here k l at is) = here k l (slice_get-append links more k l at) is
 Leads-append links more goal first (behind k l at h) = behind k l (slice_get-append links more k l at) (Leads-append links more goal l.next h)
 
@@ -47,9 +47,9 @@ pub Grows-then : {A : List State → Type 0} (s t u : TableView) → GrowsBy A s
 Grows-then {A} s t u h k = record {
   longer = omega (arith, h.longer, k.longer);
   kept = λ i lt. let a = h.kept i lt in let b = k.kept i (omega (arith, h.longer)) in
-      record { left = b.left ∙ a.left; rights = b.rights ∙ a.rights; standing = b.standing ∙ a.standing; choices = b.choices ∙ a.choices };
+      record { left = b.left ∙ a.left; rights = b.rights ∙ a.rights; standing = b.standing ∙ a.standing; choices = b.choices ∙ a.choices; broken = b.broken ∙ a.broken };
   added = λ i le. ⊎_elim
-      (λ lt. let b = k.kept i lt in let n = h.added i le in record { standing = b.standing ∙ n.standing; choices = b.choices ∙ n.choices })
+      (λ lt. let b = k.kept i lt in let n = h.added i le in record { standing = b.standing ∙ n.standing; choices = b.choices ∙ n.choices; broken = b.broken ∙ n.broken })
       (λ ge. k.added i ge) (cases_lt i (length t.rows));
   allowed = λ i le lt. ⊎_elim
       (λ old. subst A (sym (k.kept i old).rights) (h.allowed i le old))
@@ -97,11 +97,11 @@ module _ (rows : List GoalRow) (nodes : List ChoiceNode) (links : List Link) whe
     where
       new_at : (i : ℕ) → length rows ≤ i → IsNew (row_at (with_row left rights) i)
       new_at i le = ⊎_elim
-          (λ q. subst (λ (k : ℕ). IsNew (row_at (with_row left rights) k)) (sym q) (subst IsNew (sym (row_at-new (new_row left rights))) (record { standing = refl; choices = refl })))
+          (λ q. subst (λ (k : ℕ). IsNew (row_at (with_row left rights) k)) (sym q) (subst IsNew (sym (row_at-new (new_row left rights))) (record { standing = refl; choices = refl; broken = refl })))
           (λ ne. past_is_new (with_row left rights) i (omega (arith, length_more (new_row left rights), ne)))
           (cases_eq i (length rows))
 
-      listed_at : (on goal : ℕ) → IsListed table on goal → Leads links goal (row_at (with_row left rights) on).dependents
+      listed_at : (on : ℕ) (goal : GoalCase) → IsListed table on goal → Leads links goal (row_at (with_row left rights) on).dependents
       listed_at on goal h = ⊎_elim
           (λ lt. subst (λ (r : GoalRow). Leads links goal r.dependents) (sym (row_at-old (new_row left rights) on lt)) h)
           (λ ge. no_list (row_at rows on) (get_or_past rows on no_row ge) h)
@@ -204,7 +204,7 @@ module _ (rows : List GoalRow) (nodes : List ChoiceNode) (links : List Link) whe
       more = record { all = all_at; only = only_at }
 
   -- a goal's list of dependents with one more link in front
-  module _ (on : ℕ) (owner : GoalId) (lt : on < length rows) where
+  module _ (on : ℕ) (owner : GoalCase) (lt : on < length rows) where
     abbrev linked_row : GoalRow
     linked_row = record (row_at rows on) { dependents = Some (length links) }
 
@@ -212,7 +212,7 @@ module _ (rows : List GoalRow) (nodes : List ChoiceNode) (links : List Link) whe
     linked_rows = set rows on linked_row
 
     abbrev new_link : Link
-    new_link = record { goal = owner; next = (row_at rows on).dependents }
+    new_link = record { case = owner; next = (row_at rows on).dependents }
 
     abbrev more_links : List Link
     more_links = links ++ new_link ∷ []
@@ -236,7 +236,7 @@ module _ (rows : List GoalRow) (nodes : List ChoiceNode) (links : List Link) whe
     pub Grows-link : {A : List State → Type 0} → GrowsBy A table linked_table
     Grows-link = record {
       longer = omega (arith, length-set rows on linked_row);
-      kept = λ i l. by_row (λ k r. IsSameGoal (row_at rows k) r) (record { left = refl; rights = refl; standing = refl; choices = refl }) (λ k ne. same_goal (row_at rows k)) i;
+      kept = λ i l. by_row (λ k r. IsSameGoal (row_at rows k) r) (record { left = refl; rights = refl; standing = refl; choices = refl; broken = refl }) (λ k ne. same_goal (row_at rows k)) i;
       added = λ i le. by_row (λ k r. length rows ≤ k → IsNew r) (λ past. absurd (omega arith)) (λ k ne past. past_is_new rows k past) i le;
       allowed = λ i le lt. absurd (omega (arith, length-set rows on linked_row));
       nodes = λ n x at. at;
@@ -245,8 +245,8 @@ module _ (rows : List GoalRow) (nodes : List ChoiceNode) (links : List Link) whe
           (λ j ne old. Leads-append links (new_link ∷ []) goal (row_at rows j).dependents old) k h;
     }
 
-    pub IsListed-link : IsListed linked_table on owner.number
-    IsListed-link = subst (λ (r : GoalRow). Leads more_links owner.number r.dependents) (sym row_at-linked) (here (length links) new_link (slice_get-seam links new_link) refl)
+    pub IsListed-link : IsListed linked_table on owner
+    IsListed-link = subst (λ (r : GoalRow). Leads more_links owner r.dependents) (sym row_at-linked) (here (length links) new_link (slice_get-seam links new_link) refl)
 
     pub RowsBelow-link : (n : ℕ) → RowsBelow n rows → RowsBelow n linked_rows
     RowsBelow-link n h = record {
@@ -268,7 +268,7 @@ module _ (rows : List GoalRow) (nodes : List ChoiceNode) (links : List Link) whe
     count_links : length more_links ≡ length links + 1
     count_links = length-append links (new_link ∷ [])
 
-    pub AreLinked-link : owner.number < length rows → AreLinked rows links → AreLinked linked_rows more_links
+    pub AreLinked-link : owner.goal.number < length rows → AreLinked rows links → AreLinked linked_rows more_links
     AreLinked-link ol h = record {
       first = λ i. subst (λ (n : ℕ). IsBelow n (row_at linked_rows i).dependents) (sym count_links)
           (by_row (λ k r. IsBelow (length links + 1) r.dependents) (omega arith) (λ k ne. below_more (row_at rows k).dependents 0 (h.first k)) i);
@@ -278,13 +278,13 @@ module _ (rows : List GoalRow) (nodes : List ChoiceNode) (links : List Link) whe
           (slice_get-push_cases links new_link l k at);
       goals = λ k l at. let n = length-set rows on linked_row in ⊎_elim
           (λ old. let g = h.goals k l old in omega arith)
-          (λ q. subst (λ (w : Link). w.goal.number < length linked_rows) q.1 (omega arith))
+          (λ q. subst (λ (w : Link). w.case.goal.number < length linked_rows) q.1 (omega arith))
           (slice_get-push_cases links new_link l k at);
     }
 
--- a list of dependents that begins with the goal has it
-pub Leads-begins : (links : List Link) (first : Option ℕ) (goal : ℕ) → BeginsWith links first goal → Leads links goal first
-Leads-begins links first goal h = subst (λ (o : Option ℕ). Leads links goal o) (sym h.is_first) (here h.place h.link h.found h.is_goal)
+-- a list of dependents that begins with the case has it
+pub Leads-begins : (links : List Link) (first : Option ℕ) (goal : GoalCase) → BeginsWith links first goal → Leads links goal first
+Leads-begins links first goal h = subst (λ (o : Option ℕ). Leads links goal o) (sym h.is_first) (here h.place h.link h.found h.is_case)
 
 -- states have the numbers that they have
 pub same_state : (s t : State) → s.number ≡ t.number → s ≡ t

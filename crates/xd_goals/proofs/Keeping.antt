@@ -12,6 +12,7 @@ use Rattle.xd_goals.specs.Rows.{GoalRow, claim_at}
 use Rattle.xd_goals.specs.Trees.{AreApart, IsFree, IsGrown, IsTextTree, IsTreeBySort, side_at, matching_sides, gathered}
 use Rattle.xd_goals.specs.Standing.{IsCaseTree, claim_sides, task_for}
 use Rattle.xd_goals.specs.declared.heads.Side.{Side}
+use Rattle.xd_goals.specs.declared.table.GoalCase.{GoalCase}
 use Rattle.xd_goals.proofs.Trees.{with_state-from, with_state-keeps, with_state-has}
 use Rattle.xd_goals.proofs.Repairing.{same_side}
 
@@ -117,7 +118,7 @@ module _ (sides : List Side) (seen : List ℕ) (contents rests : List State) (h 
   seen_rest s is i (inl q) = (place, side, at, sym e ∙ q, inr (subst (λ (w : State). IsOneOf w (with_state s rests)) is (with_state-has s rests)))
   seen_rest s is i (inr m) = let was = h i m in (was.0, was.1, was.2, was.3, ⊎_elim (λ c. inl c) (λ r. inr (with_state-keeps s was.1.rest rests r)) was.4)
 
-module _ (rows : List GoalRow) (a : Automaton) (owner : ℕ) (head : Head State) (atom : Atom) (hs : List (Head State)) where
+module _ (rows : List GoalRow) (a : Automaton) (owner : GoalCase) (head : Head State) (atom : Atom) (hs : List (Head State)) where
   pub grown_keeps : (tree : ChoiceTree) (contents rests : List State) (ps qs : List State) (seen : List ℕ) → AreIn contents ps → AreIn rests qs → AreSeen (matching_sides atom 1 hs) seen contents rests
       → IsGrown rows (task_for a owner head) (matching_sides atom 1 hs) tree contents rests → TreeKeeps (claim_at rows) head atom hs tree ps qs seen
   grown_keeps (ContentLeaf g) contents rests ps qs seen hp hq were k = leaf_keeps rows g head.content contents ps hp k
@@ -162,7 +163,7 @@ gathered-has (x ∷ xs) states zero side e =
     subst (λ (w : Side). IsOneOf w.rest (gathered (with_state x.rest states) xs)) same (gathered-keeps xs (with_state x.rest states) x.rest (with_state-has x.rest states))
 gathered-has (x ∷ xs) states (suc i) side e = gathered-has xs (with_state x.rest states) i side e
 
-text_keeps : (rows : List GoalRow) (a : Automaton) (owner : ℕ) (head : Head State) (atom : Atom) (hs : List (Head State)) (tree : ChoiceTree)
+text_keeps : (rows : List GoalRow) (a : Automaton) (owner : GoalCase) (head : Head State) (atom : Atom) (hs : List (Head State)) (tree : ChoiceTree)
     → IsTextTree rows (task_for a owner head) (matching_sides atom 1 hs) tree → TextKeeps (claim_at rows) head atom hs tree
 text_keeps rows a owner head atom hs (ContentLeaf g) k = k
 text_keeps rows a owner head atom hs (RestLeaf g) k =
@@ -170,7 +171,7 @@ text_keeps rows a owner head atom hs (RestLeaf g) k =
 text_keeps rows a owner head atom hs (SplitOn j x y) k = k
 
 -- the tree of a case keeps the rules
-pub case_keeps : (rows : List GoalRow) (a : Automaton) (owner : ℕ) (c : Claim State) (head : Head State) (atom : Atom) (tree : ChoiceTree)
+pub case_keeps : (rows : List GoalRow) (a : Automaton) (owner : GoalCase) (c : Claim State) (head : Head State) (atom : Atom) (tree : ChoiceTree)
     → IsCaseTree a rows owner c head atom tree → CaseKeeps (claim_at rows) head atom (right_heads (heads_of a) c) tree
 case_keeps rows a owner c head atom tree k = go (is_text_atom atom) k
   where

@@ -19,3 +19,4 @@ pub mod Verdicts
 pub mod Working
 pub mod Measuring
 pub mod Stepping
+pub mod Mending

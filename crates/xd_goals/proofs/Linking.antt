@@ -9,6 +9,7 @@ use Rattle.xd_goals.specs.Rows.{GoalRow, new_row, no_row, row_at, claim_at, clai
 use Rattle.xd_goals.specs.Kept.{AreLinked, AreThese, GrowsBy, IsIndexed, found_at}
 use Rattle.xd_goals.specs.declared.table.ChoiceNode.{ChoiceNode}
 use Rattle.xd_goals.specs.declared.table.GoalId.{GoalId}
+use Rattle.xd_goals.specs.declared.table.GoalCase.{GoalCase}
 use Rattle.xd_goals.specs.declared.table.Link.{Link}
 use Rattle.xd_goals.proofs.Growing.{Grows-same, Grows-row, Grows-link, IsListed-link, RowsBelow-row, RowsBelow-link, IsIndexed-row, IsIndexed-link, AreLinked-row, AreLinked-link, claim_at-row}
 
@@ -16,21 +17,21 @@ pub row_read : (rows : List GoalRow) (i : ℕ) (row : GoalRow) → i < length ro
 row_read rows i row lt e = e ∙ get_or_default rows i row no_row lt
 
 -- what holds after a link was made
-pub record IsLinkedNow (A : List State → Type 0) (rows : List GoalRow) (nodes : List ChoiceNode) (links : List Link) (on : ℕ) (owner : GoalId) (rows2 : List GoalRow) (links2 : List Link) : Type 0 where
+pub record IsLinkedNow (A : List State → Type 0) (rows : List GoalRow) (nodes : List ChoiceNode) (links : List Link) (on : ℕ) (owner : GoalCase) (rows2 : List GoalRow) (links2 : List Link) : Type 0 where
   pub grows : GrowsBy A (record { rows = rows; nodes = nodes; links = links }) (record { rows = rows2; nodes = nodes; links = links2 })
-  pub listed : IsListed (record { rows = rows2; nodes = nodes; links = links2 }) on owner.number
+  pub listed : IsListed (record { rows = rows2; nodes = nodes; links = links2 }) on owner
   pub states : (n : ℕ) → RowsBelow n rows → RowsBelow n rows2
   pub index : (found : BTreeMap (List ℕ) ℕ) → IsIndexed found rows → IsIndexed found rows2
-  pub linked : owner.number < length rows → AreLinked rows links → AreLinked rows2 links2
+  pub linked : owner.goal.number < length rows → AreLinked rows links → AreLinked rows2 links2
 
-pub linked_now : {A : List State → Type 0} (rows : List GoalRow) (nodes : List ChoiceNode) (links : List Link) (on : ℕ) (owner : GoalId) → on < length rows
+pub linked_now : {A : List State → Type 0} (rows : List GoalRow) (nodes : List ChoiceNode) (links : List Link) (on : ℕ) (owner : GoalCase) → on < length rows
     → (rows2 : List GoalRow) (links2 : List Link) (n : ℕ) (next : Option ℕ) → n ≡ length links → next ≡ (row_at rows on).dependents
-    → rows2 ≡ set rows on (record (row_at rows on) { dependents = Some n }) → links2 ≡ links ++ (record { goal = owner; next = next }) ∷ []
+    → rows2 ≡ set rows on (record (row_at rows on) { dependents = Some n }) → links2 ≡ links ++ (record { case = owner; next = next }) ∷ []
     → IsLinkedNow A rows nodes links on owner rows2 links2
 linked_now {A} rows nodes links on owner lt rows2 links2 n next count is e f =
     subst (λ (rs : List GoalRow). IsLinkedNow A rows nodes links on owner rs links2) (sym (e ∙ ap (λ (k : ℕ). set rows on (record (row_at rows on) { dependents = Some k })) count))
     (subst (λ (ls : List Link). IsLinkedNow A rows nodes links on owner (set rows on (record (row_at rows on) { dependents = Some (length links) })) ls)
-    (sym (f ∙ ap (λ (o : Option ℕ). links ++ (record { goal = owner; next = o }) ∷ []) is))
+    (sym (f ∙ ap (λ (o : Option ℕ). links ++ (record { case = owner; next = o }) ∷ []) is))
     (record {
       grows = Grows-link rows nodes links on owner lt;
       listed = IsListed-link rows nodes links on owner lt;

@@ -1,6 +1,7 @@
 -- Lists by places.
-use Rattle.std.proofs.Common.{ℕ, zero, suc, ◌+◌, ◌<◌, ◌≡◌, List, [], ◌∷◌, ◌++◌, length, take, map, get_or, Some, ◌⊎◌, inl, inr, ⊎_elim, refl, sym, ap, ◌∙◌, subst, arith}
+use Rattle.std.proofs.Common.{ℕ, zero, suc, ◌+◌, ◌<◌, ◌≡◌, Bool, true, false, List, [], ◌∷◌, ◌++◌, length, take, map, get_or, set, Some, ◌⊎◌, inl, inr, ⊎_elim, refl, sym, ap, ◌∙◌, subst, arith}
 use Rattle.std.specs.List.{slice_get, AllByRecursion, flat_map}
+use Rattle.std.proofs.lemmas.Bool.{cases_eq}
 use Rattle.std.proofs.lemmas.List.{take_more, append-nil, map-append}
 use Rattle.std.proofs.lemmas.Grind.{flat_map-append}
 use Rattle.xd_rules.specs.Members.{IsOneOf}
@@ -56,3 +57,53 @@ one_of-get (y ∷ xs) (suc i) x lt e = inr (one_of-get xs i x (omega arith) e)
 
 pub slice_get-at : {X : Type 0} (xs ys : List X) (x : X) (n : ℕ) → ys ≡ xs ++ x ∷ [] → n ≡ length xs → slice_get ys n ≡ Some x
 slice_get-at xs ys x n e at = rw (e, at) (slice_get-seam xs x)
+
+pub none_at : {X : Type 0} (xs : List X) (n : ℕ) (x : X) → xs ≡ [] → slice_get xs n ≡ Some x → ⊥
+none_at [] n x z e = cc
+none_at (y ∷ xs) n x z e = cc
+
+-- what holds at each place
+pub all_places : {X : Type 0} (P : X → Type 0) (xs : List X) → ((n : ℕ) (x : X) → slice_get xs n ≡ Some x → P x) → AllByRecursion P xs
+all_places P [] f = tt
+all_places P (x ∷ xs) f = (f zero x refl, all_places P xs (λ n y e. f (suc n) y e))
+
+-- a list with another element at a place
+pub set_here : {X : Type 0} (xs : List X) (n : ℕ) (x y : X) → slice_get (set xs n x) n ≡ Some y → x ≡ y
+set_here [] n x y e = absurd (cc)
+set_here (z ∷ xs) zero x y e = cc
+set_here (z ∷ xs) (suc n) x y e = set_here xs n x y e
+
+pub set_there : {X : Type 0} (xs : List X) (n m : ℕ) (x y : X) → ¬ (m ≡ n) → slice_get (set xs n x) m ≡ Some y → slice_get xs m ≡ Some y
+set_there [] n m x y ne e = e
+set_there (z ∷ xs) zero zero x y ne e = absurd (ne refl)
+set_there (z ∷ xs) zero (suc m) x y ne e = e
+set_there (z ∷ xs) (suc n) zero x y ne e = e
+set_there (z ∷ xs) (suc n) (suc m) x y ne e = set_there xs n m x y (λ q. ne (ap suc q)) e
+
+pub set_other : {X : Type 0} (xs : List X) (n m : ℕ) (x y : X) → ¬ (m ≡ n) → slice_get xs m ≡ Some y → slice_get (set xs n x) m ≡ Some y
+set_other [] n m x y ne e = e
+set_other (z ∷ xs) zero zero x y ne e = absurd (ne refl)
+set_other (z ∷ xs) zero (suc m) x y ne e = e
+set_other (z ∷ xs) (suc n) zero x y ne e = e
+set_other (z ∷ xs) (suc n) (suc m) x y ne e = set_other xs n m x y (λ q. ne (ap suc q)) e
+
+pub set_at : {X : Type 0} (xs : List X) (n : ℕ) (x : X) → n < length xs → slice_get (set xs n x) n ≡ Some x
+set_at [] n x lt = absurd (omega arith)
+set_at (z ∷ xs) zero x lt = refl
+set_at (z ∷ xs) (suc n) x lt = set_at xs n x (omega arith)
+
+-- an element that looks the same
+pub set-map : {X Y : Type 0} (f : X → Y) (xs : List X) (n : ℕ) (x y : X) → slice_get xs n ≡ Some x → f y ≡ f x → map f (set xs n y) ≡ map f xs
+set-map f [] n x y e same = refl
+set-map {X} {Y} f (z ∷ xs) zero x y e same = let is : z ≡ x = cc in ap (λ (w : Y). w ∷ map f xs) (same ∙ ap f (sym is))
+set-map {X} {Y} f (z ∷ xs) (suc n) x y e same = ap (λ (ws : List Y). f z ∷ ws) (set-map f xs n x y e same)
+
+-- a flag that was set
+pub flag_set : (flags : List Bool) (n : ℕ) → ¬ (slice_get (set flags n true) n ≡ Some false)
+flag_set flags n e = let is : true ≡ false = set_here flags n true false e in cc
+
+pub flag_was : (flags : List Bool) (n m : ℕ) → slice_get (set flags n true) m ≡ Some false → slice_get flags m ≡ Some false
+flag_was flags n m e = ⊎_elim
+    (λ q. absurd (flag_set flags n (subst (λ (k : ℕ). slice_get (set flags n true) k ≡ Some false) q e)))
+    (λ ne. set_there flags n m true false ne e)
+    (cases_eq m n)

@@ -66,41 +66,39 @@ grown_weight n s t g i = ⊎_elim
 pub potential-grows : {A : List State → Type 0} (s t : TableView) → GrowsBy A s t → (n : ℕ) → potential n t.rows ≤ potential n s.rows
 potential-grows s t g n = total-le (λ i. weight n (slice_get t.rows i)) (λ i. weight n (slice_get s.rows i)) (λ i. grown_weight n s t g i) n
 
+-- the row of a goal is changed
+module _ (rows : List GoalRow) (goal : ℕ) (row : GoalRow) (lt : goal < length rows) (n : ℕ) where
+  changed_here : weight n (slice_get (set rows goal row) goal) ≡ standing_weight n row.standing
+  changed_here = weight_at n (set rows goal row) goal (let count = length-set rows goal row in omega arith) ∙ ap (λ (r : GoalRow). standing_weight n r.standing) (get_or-set_same rows goal row no_row lt)
+
+  changed_weight : standing_weight n row.standing ≤ standing_weight n (row_at rows goal).standing → (i : ℕ) → weight n (slice_get (set rows goal row) i) ≤ weight n (slice_get rows i)
+  changed_weight le i = ⊎_elim
+      (λ e. subst (λ (k : ℕ). weight n (slice_get (set rows goal row) k) ≤ weight n (slice_get rows k)) (sym e)
+      (let was = weight_at n rows goal lt in let here = changed_here in omega arith))
+      (λ ne. ⊎_elim
+      (λ l. let a = weight_at n rows i l in
+      let b = weight_at n (set rows goal row) i (let count = length-set rows goal row in omega arith) in
+      let c = ap (λ (r : GoalRow). standing_weight n r.standing) (get_or-set_other rows goal i row no_row ne) in omega arith)
+      (λ past. let a = weight_past n rows i past in let b = weight_past n (set rows goal row) i (let count = length-set rows goal row in omega arith) in omega arith)
+      (cases_lt i (length rows)))
+      (cases_eq i goal)
+
+  -- its standing stays
+  pub level-changed : row.standing ≡ (row_at rows goal).standing → potential n (set rows goal row) ≤ potential n rows
+  level-changed e = total-le (λ i. weight n (slice_get (set rows goal row) i)) (λ i. weight n (slice_get rows i)) (changed_weight (let w = ap (standing_weight n) e in omega arith)) n
+
 -- a goal that waited comes to hold
-pub lowers-held : (rows : List GoalRow) (goal : ℕ) (made : List Choice) → goal < length rows → (row_at rows goal).standing ≡ Waiting
-    → Lowers rows (set rows goal (record (row_at rows goal) { standing = Holds; choices = made }))
-lowers-held rows goal made lt waits n le =
-    total-less (λ i. weight n (slice_get new i)) (λ i. weight n (slice_get rows i)) each goal n (omega (arith, count)) falls
+pub lowers-held : (rows : List GoalRow) (goal : ℕ) (row : GoalRow) → row.standing ≡ Holds → goal < length rows → (row_at rows goal).standing ≡ Waiting → Lowers rows (set rows goal row)
+lowers-held rows goal row holds lt waits n le =
+    total-less (λ i. weight n (slice_get (set rows goal row) i)) (λ i. weight n (slice_get rows i)) (changed_weight rows goal row lt n (omega (arith, is, was))) goal n
+    (let count = length-set rows goal row in omega arith)
+    (let here = changed_here rows goal row lt n in let old = weight_at n rows goal lt in omega (arith, is, was))
   where
-    held : GoalRow
-    held = record (row_at rows goal) { standing = Holds; choices = made }
+    is : standing_weight n row.standing ≡ n
+    is = ap (standing_weight n) holds
 
-    new : List GoalRow
-    new = set rows goal (record (row_at rows goal) { standing = Holds; choices = made })
-
-    count : length (set rows goal (record (row_at rows goal) { standing = Holds; choices = made })) ≡ length rows
-    count = length-set rows goal (record (row_at rows goal) { standing = Holds; choices = made })
-
-    here : weight n (slice_get (set rows goal (record (row_at rows goal) { standing = Holds; choices = made })) goal) ≡ n
-    here = weight_at n (set rows goal (record (row_at rows goal) { standing = Holds; choices = made })) goal (omega (arith, count))
-        ∙ ap (λ (r : GoalRow). standing_weight n r.standing) (get_or-set_same rows goal (record (row_at rows goal) { standing = Holds; choices = made }) no_row lt)
-
-    was : weight n (slice_get rows goal) ≡ n + 1
-    was = weight_at n rows goal lt ∙ ap (standing_weight n) waits
-
-    falls : weight n (slice_get (set rows goal (record (row_at rows goal) { standing = Holds; choices = made })) goal) < weight n (slice_get rows goal)
-    falls = omega (arith, here, was)
-
-    each : (i : ℕ) → weight n (slice_get (set rows goal (record (row_at rows goal) { standing = Holds; choices = made })) i) ≤ weight n (slice_get rows i)
-    each i = ⊎_elim
-        (λ e. subst (λ (k : ℕ). weight n (slice_get (set rows goal (record (row_at rows goal) { standing = Holds; choices = made })) k) ≤ weight n (slice_get rows k)) (sym e) (omega (arith, here, was)))
-        (λ ne. ⊎_elim
-        (λ l. let a = weight_at n rows i l in
-        let b = weight_at n (set rows goal (record (row_at rows goal) { standing = Holds; choices = made })) i (omega (arith, count)) in
-        let c = ap (λ (r : GoalRow). standing_weight n r.standing) (get_or-set_other rows goal i (record (row_at rows goal) { standing = Holds; choices = made }) no_row ne) in omega arith)
-        (λ past. let a = weight_past n rows i past in let b = weight_past n (set rows goal (record (row_at rows goal) { standing = Holds; choices = made })) i (omega (arith, count)) in omega arith)
-        (cases_lt i (length rows)))
-        (cases_eq i goal)
+    was : standing_weight n (row_at rows goal).standing ≡ n + 1
+    was = ap (standing_weight n) waits
 
 -- one is refuted
 pub lowers-refuted : (links : List Link) (goal : ℕ) (seq : Seq) (old new : List GoalRow) → goal < length old → (row_at old goal).standing ≡ Waiting → Refutes links goal seq old new → Lowers old new

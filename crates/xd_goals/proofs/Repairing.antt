@@ -10,13 +10,14 @@ use Rattle.xd_goals.specs.Kept.{Grows}
 use Rattle.xd_goals.specs.Trees.{StandsAt, AreApart, IsFree, IsGrown, IsNumbered, HasTree, HasOpenTree, IsSplitAt}
 use Rattle.xd_goals.specs.declared.table.ChoiceNode.{ChoiceNode}
 use Rattle.xd_goals.specs.declared.table.ChoiceNode.TheVariants.{Split, Content, Rest}
+use Rattle.xd_goals.specs.declared.table.GoalCase.{GoalCase}
 use Rattle.xd_goals.specs.declared.table.GoalId.{GoalId}
 use Rattle.xd_goals.specs.declared.heads.Side.{Side}
 use Rattle.xd_goals.specs.declared.grow.Task.{Task}
 use Rattle.xd_goals.proofs.Growing.{claim_within}
 use Rattle.xd_goals.proofs.Trees.{StandsAt-within}
 
-pub HasTree-within : (t : TableView) (Kind : ChoiceTree → Type 0) (owner root : ℕ) → HasTree t Kind owner root → root < length t.nodes
+pub HasTree-within : (t : TableView) (Kind : ChoiceTree → Type 0) (owner : GoalCase) (root : ℕ) → HasTree t Kind owner root → root < length t.nodes
 HasTree-within t Kind owner root h = StandsAt-within t.nodes h.tree root h.stands
 
 abbrev pub number_in : Option ChoiceNode → ℕ
@@ -33,7 +34,7 @@ abbrev pub rest_in : Option ChoiceNode → ℕ
 rest_in (Some (Split j x y)) = y
 rest_in _ = 0
 
-module _ (t : TableView) (task : Task) (sides : List Side) (contents rests : List State) (owner root : ℕ) where
+module _ (t : TableView) (task : Task) (sides : List Side) (contents rests : List State) (owner : GoalCase) (root : ℕ) where
   abbrev Kind : ChoiceTree → Type 0
   Kind tree = IsGrown t.rows task sides tree contents rests
 
@@ -90,7 +91,7 @@ module _ (t : TableView) (task : Task) (sides : List Side) (contents rests : Lis
       go (SplitOn j a b) s k = let n = s.2 in absurd (cc)
 
 -- a tree that is one leaf is open where the goal isn't refuted
-module _ (t : TableView) (Kind : ChoiceTree → Type 0) (owner root : ℕ) where
+module _ (t : TableView) (Kind : ChoiceTree → Type 0) (owner : GoalCase) (root : ℕ) where
   pub content_open : (g : GoalId) → (h : HasTree t Kind owner root) → slice_get t.nodes root ≡ Some (Content g) → ¬ (IsRefuted t.rows g.number) → HasOpenTree t Kind owner root
   content_open g h e o = record { has = h; open_ = go h.tree h.stands }
     where

@@ -1,6 +1,6 @@
--- The facts of a table when a goal comes to hold, and when one is refuted.
+-- The facts of a table when the row of a goal changes, and when one is refuted.
 use Rattle.std.proofs.Common.{ℕ, ◌<◌, ◌≡◌, List, [], length, set, get_or-set_same, get_or-set_other, length-set, Option, Some, ⊎_elim, sym, refl, ap, subst, ◌∙◌, arith}
-use Rattle.std.specs.List.{AllByRecursion}
+use Rattle.std.specs.List.{slice_get}
 use Rattle.std.specs.Option.{option_map}
 use Rattle.std.proofs.lemmas.Bool.{cases_lt, cases_eq}
 use Rattle.std.proofs.lemmas.Option.{slice_get_past}
@@ -10,18 +10,18 @@ use Rattle.xd_auto.specs.declared.auto.State.{State}
 use Rattle.xd_auto.specs.Automaton.{Automaton}
 use Rattle.xd_rules.specs.Rules.{Claim, ChoiceTree, ContentLeaf, RestLeaf, SplitOn, AllLeaves}
 use Rattle.xd_goals.specs.Moves.{AreBelow, claim_with}
-use Rattle.xd_goals.specs.Rows.{GoalRow, TableView, no_row, row_at, claim_of, claim_at, IsListed, IsRefuted, Leads, RowsBelow}
+use Rattle.xd_goals.specs.Rows.{GoalRow, TableView, no_row, row_at, claim_of, claim_at, goal_case, IsListed, IsRefuted, IsUnbroken, Leads, RowsBelow}
 use Rattle.xd_goals.specs.Kept.{Refutes}
 use Rattle.xd_goals.specs.Standing.{ChoiceStands, IsBegun, IsOpen, IsSeparatedBy, RowHolds, StandsOn}
 use Rattle.xd_goals.specs.declared.table.Choice.{Choice}
 use Rattle.xd_goals.specs.declared.table.ChoiceNode.{ChoiceNode}
+use Rattle.xd_goals.specs.declared.table.GoalCase.{GoalCase}
 use Rattle.xd_goals.specs.declared.table.Link.{Link}
 use Rattle.xd_goals.specs.declared.table.Standing.{Standing}
 use Rattle.xd_goals.specs.declared.table.Standing.TheVariants.{Holds, Refuted, Waiting}
-use Rattle.xd_goals.proofs.Lists.{all_map}
+use Rattle.xd_goals.proofs.Lists.{all_at, all_places}
 use Rattle.xd_goals.proofs.Growing.{claim_at-is}
 use Rattle.xd_goals.proofs.Trees.{AllLeaves-map, StandsAt-one}
-use Rattle.xd_goals.proofs.Facts.{all_both}
 use Rattle.xd_goals.proofs.Claims.{same_kinds}
 
 -- the same goals, with the same dependents, and as many
@@ -43,10 +43,10 @@ module _ (a : Automaton) (old new : List GoalRow) (nodes : List ChoiceNode) (lin
   abbrev after : TableView
   after = record { rows = new; nodes = nodes; links = links }
 
-  listed_same : (on goal : ℕ) → IsListed before on goal → IsListed after on goal
-  listed_same on goal l = subst (λ (o : Option ℕ). Leads links goal o) (sym (same.dependents on)) l
+  listed_same : (on : ℕ) (owner : GoalCase) → IsListed before on owner → IsListed after on owner
+  listed_same on owner l = subst (λ (o : Option ℕ). Leads links owner o) (sym (same.dependents on)) l
 
-  choice_same : (owner : ℕ) (c : Claim State) (k : Choice) → ChoiceStands a before owner c k → ChoiceStands a after owner c k
+  pub choice_same : (owner : GoalCase) (c : Claim State) (k : Choice) → ChoiceStands a before owner c k → ChoiceStands a after owner c k
   choice_same owner c k h = record {
     head = h.head;
     found = h.found;
@@ -58,9 +58,6 @@ module _ (a : Automaton) (old new : List GoalRow) (nodes : List ChoiceNode) (lin
       listed = AllLeaves-map (λ g. IsListed before g owner) (λ g. IsListed after g owner) (λ g l. listed_same g owner l) h.has.tree h.has.listed;
     };
   }
-
-  pub choices_same : (owner : ℕ) (c : Claim State) (ks : List Choice) → AllByRecursion (ChoiceStands a before owner c) ks → AllByRecursion (ChoiceStands a after owner c) ks
-  choices_same owner c ks h = all_map (ChoiceStands a before owner c) (ChoiceStands a after owner c) ks (λ k x. choice_same owner c k x) h
 
   states_same : (n : ℕ) → RowsBelow n old → RowsBelow n new
   states_same n h = record {
@@ -74,24 +71,29 @@ module _ (a : Automaton) (old new : List GoalRow) (nodes : List ChoiceNode) (lin
       → (i j : ℕ) → i < length new → j < length new → claim_of (row_at new i) ≡ claim_of (row_at new j) → i ≡ j
   unlike_same h i j li lj e = h i j (omega (arith, same.count)) (omega (arith, same.count)) (sym (same.claims i) ∙ e ∙ same.claims j)
 
-  -- the facts stay, where the choices of each goal are known, and what is newly refuted and what still holds
+  -- the facts stay, where the choices of each goal are known, and what is newly refuted, in doubt, and what still holds
   pub stands_same : (ds : List Document) → StandsOn a ds before
-      → ((i : ℕ) → AllByRecursion (ChoiceStands a before i (claim_of (row_at old i))) (row_at new i).choices)
+      → ((i place : ℕ) (k : Choice) → slice_get (row_at new i).choices place ≡ Some k → ChoiceStands a before (goal_case i place) (claim_of (row_at old i)) k)
       → ((i : ℕ) (seq : Seq) → (row_at new i).standing ≡ Refuted seq → IsSeparatedBy a ds (claim_of (row_at old i)) seq)
       → ((i : ℕ) → ¬ ((row_at new i).choices ≡ []) → IsBegun a (claim_of (row_at old i)) (row_at new i).choices)
+      → ((i : ℕ) → length (row_at new i).broken ≡ length (row_at new i).choices)
+      → ((i place : ℕ) (k : Choice) → slice_get (row_at new i).choices place ≡ Some k → IsUnbroken (row_at new i) place → IsOpen after k)
       → ((i : ℕ) → (row_at new i).standing ≡ Holds → RowHolds a after (claim_of (row_at old i)) (row_at new i).choices)
       → StandsOn a ds after
-  stands_same ds h choices refuted begun holds = record {
+  stands_same ds h choices refuted begun flags unbroken holds = record {
     states = states_same (length a) h.states;
     unlike = unlike_same h.unlike;
     refuted = λ i seq e. subst (λ (c : Claim State). IsSeparatedBy a ds c seq) (sym (same.claims i)) (refuted i seq e);
-    choices = λ i. subst (λ (c : Claim State). AllByRecursion (ChoiceStands a after i c) (row_at new i).choices) (sym (same.claims i)) (choices_same i (claim_of (row_at old i)) (row_at new i).choices (choices i));
+    choices = λ i place k e. subst (λ (c : Claim State). ChoiceStands a after (goal_case i place) c k) (sym (same.claims i))
+        (choice_same (goal_case i place) (claim_of (row_at old i)) k (choices i place k e));
     begun = λ i n. subst (λ (c : Claim State). IsBegun a c (row_at new i).choices) (sym (same.claims i)) (begun i n);
+    flags = flags;
+    unbroken = unbroken;
     holds = λ i e. subst (λ (c : Claim State). RowHolds a after c (row_at new i).choices) (sym (same.claims i)) (holds i e);
   }
 
   -- trees whose leaves are neither refuted before nor the goal that is refuted now
-  pub open_same : (owner : ℕ) (c : Claim State) (k : Choice) → ((g : ℕ) → IsListed before g owner → ¬ (IsRefuted old g) → ¬ (IsRefuted new g)) → ChoiceStands a before owner c k → IsOpen before k → IsOpen after k
+  pub open_same : (owner : GoalCase) (c : Claim State) (k : Choice) → ((g : ℕ) → IsListed before g owner → ¬ (IsRefuted old g) → ¬ (IsRefuted new g)) → ChoiceStands a before owner c k → IsOpen before k → IsOpen after k
   open_same owner c k f h o tree s =
       let is : h.has.tree ≡ tree = StandsAt-one nodes h.has.tree tree k.root h.has.stands s in
       subst (λ (w : ChoiceTree). AllLeaves (λ n. ¬ (IsRefuted new n)) w) is (both h.has.tree h.has.listed (o h.has.tree h.has.stands))
@@ -101,11 +103,12 @@ module _ (a : Automaton) (old new : List GoalRow) (nodes : List ChoiceNode) (lin
       both (RestLeaf g) l n = f g l n
       both (SplitOn j x y) l n = (both x l.0 n.0, both y l.1 n.1)
 
-  pub holds_same : (i : ℕ) (c : Claim State) (ks : List Choice) → ((g : ℕ) → IsListed before g i → ¬ (IsRefuted old g) → ¬ (IsRefuted new g)) → AllByRecursion (ChoiceStands a before i c) ks
+  pub holds_same : (i : ℕ) (c : Claim State) (ks : List Choice) → ((place g : ℕ) → IsListed before g (goal_case i place) → ¬ (IsRefuted old g) → ¬ (IsRefuted new g))
+      → ((place : ℕ) (k : Choice) → slice_get ks place ≡ Some k → ChoiceStands a before (goal_case i place) c k)
       → RowHolds a before c ks → RowHolds a after c ks
   holds_same i c ks f h r = record {
     begun = r.begun;
-    opens = all_both (ChoiceStands a before i c) (IsOpen before) (IsOpen after) ks (λ k x o. open_same i c k f x o) h r.opens;
+    opens = all_places (IsOpen after) ks (λ place k e. open_same (goal_case i place) c k (λ g l n. f place g l n) (h place k e) (all_at (IsOpen before) ks place k r.opens e));
   }
 
 -- after a refutation
@@ -129,7 +132,7 @@ module _ (a : Automaton) (ds : List Document) (old new : List GoalRow) (nodes : 
   pub stands-refuted : IsSeparatedBy a ds (claim_of (row_at old goal)) seq → StandsOn a ds (record { rows = old; nodes = nodes; links = links }) → StandsOn a ds (record { rows = new; nodes = nodes; links = links })
   stands-refuted doc h =
       stands_same a old new nodes links refutes_same ds h
-      (λ i. subst (λ (ks : List Choice). AllByRecursion (ChoiceStands a (record { rows = old; nodes = nodes; links = links }) i (claim_of (row_at old i))) ks) (sym (r.same i).choices) (h.choices i))
+      (λ i place k e. h.choices i place k (was_choice i place k e))
       (λ i s e. ⊎_elim
       (λ q.
       let x : (row_at new i).standing ≡ Refuted seq = ap (λ (k : ℕ). (row_at new k).standing) q ∙ r.goal_is in
@@ -138,52 +141,71 @@ module _ (a : Automaton) (ds : List Document) (old new : List GoalRow) (nodes : 
       (λ ne. h.refuted i s (was_refuted i s ne e))
       (cases_eq i goal))
       (λ i n. subst (λ (ks : List Choice). IsBegun a (claim_of (row_at old i)) ks) (sym (r.same i).choices) (h.begun i (λ e. n ((r.same i).choices ∙ e))))
+      (λ i. (r.same i).flags ∙ h.flags i ∙ sym (ap length (r.same i).choices))
+      (λ i place k e u.
+      let was = was_choice i place k e in
+      open_same a old new nodes links refutes_same (goal_case i place) (claim_of (row_at old i)) k
+      (λ g l n x. still_open g n x (λ q. (r.dependents (goal_case i place) (subst (λ (m : ℕ). Leads links (goal_case i place) (row_at old m).dependents) q l)).broken u))
+      (h.choices i place k was) (h.unbroken i place k was ((r.same i).unbroken place u)))
       (λ i e.
       let w = held i e in
       subst (λ (ks : List Choice). RowHolds a (record { rows = new; nodes = nodes; links = links }) (claim_of (row_at old i)) ks) (sym (r.same i).choices)
-      (holds_same a old new nodes links refutes_same i (claim_of (row_at old i)) (row_at old i).choices (λ g l n x. still_open i e g l n x) (h.choices i) (h.holds i w.1)))
+      (holds_same a old new nodes links refutes_same i (claim_of (row_at old i)) (row_at old i).choices
+      (λ place g l n x. still_open g n x (λ q. (r.dependents (goal_case i place) (subst (λ (m : ℕ). Leads links (goal_case i place) (row_at old m).dependents) q l)).settled e))
+      (λ place k x. h.choices i place k x) (h.holds i w.1)))
     where
       refuted_one : (s : Standing) (x y : Seq) → s ≡ Refuted x → s ≡ Refuted y → x ≡ y
       refuted_one s x y e f = cc
 
-      still_open : (i : ℕ) → (row_at new i).standing ≡ Holds → (g : ℕ) → IsListed (record { rows = old; nodes = nodes; links = links }) g i → ¬ (IsRefuted old g) → ¬ (IsRefuted new g)
-      still_open i e g l n x = ⊎_elim
-          (λ q. r.dependents i (subst (λ (k : ℕ). Leads links i (row_at old k).dependents) q l) e)
-          (λ ne. n (x.0, was_refuted g x.0 ne x.1))
-          (cases_eq g goal)
+      was_choice : (i place : ℕ) (k : Choice) → slice_get (row_at new i).choices place ≡ Some k → slice_get (row_at old i).choices place ≡ Some k
+      was_choice i place k e = subst (λ (ks : List Choice). slice_get ks place ≡ Some k) (r.same i).choices e
 
--- after a goal that waited comes to hold
-module _ (a : Automaton) (ds : List Document) (old : List GoalRow) (nodes : List ChoiceNode) (links : List Link) (goal : ℕ) (made : List Choice) (lt : goal < length old) (waits : (row_at old goal).standing ≡ Waiting) where
-  abbrev held_row : GoalRow
-  held_row = record (row_at old goal) { standing = Holds; choices = made }
+      -- a goal that is refuted only now is the one that was
+      still_open : (g : ℕ) → ¬ (IsRefuted old g) → IsRefuted new g → ¬ (g ≡ goal) → ⊥
+      still_open g n x ne = n (x.0, was_refuted g x.0 ne x.1)
 
+-- after the row of a goal that waits was changed
+module _ (a : Automaton) (ds : List Document) (old : List GoalRow) (nodes : List ChoiceNode) (links : List Link) (goal : ℕ) (row : GoalRow) (lt : goal < length old)
+    (claim : claim_of row ≡ claim_of (row_at old goal)) (dependents : row.dependents ≡ (row_at old goal).dependents) (unrefuted : (seq : Seq) → ¬ (row.standing ≡ Refuted seq)) where
   abbrev new_rows : List GoalRow
-  new_rows = set old goal held_row
+  new_rows = set old goal row
 
-  by_row : (P : ℕ → GoalRow → Type 0) → P goal held_row → ((i : ℕ) → ¬ (i ≡ goal) → P i (row_at old i)) → (i : ℕ) → P i (row_at new_rows i)
+  by_row : (P : ℕ → GoalRow → Type 0) → P goal row → ((i : ℕ) → ¬ (i ≡ goal) → P i (row_at old i)) → (i : ℕ) → P i (row_at new_rows i)
   by_row P here_ other i = ⊎_elim
-      (λ q. subst (λ (k : ℕ). P k (row_at new_rows k)) (sym q) (subst (P goal) (sym (get_or-set_same old goal held_row no_row lt)) here_))
-      (λ ne. subst (P i) (sym (get_or-set_other old goal i held_row no_row ne)) (other i ne))
+      (λ q. subst (λ (k : ℕ). P k (row_at new_rows k)) (sym q) (subst (P goal) (sym (get_or-set_same old goal row no_row lt)) here_))
+      (λ ne. subst (P i) (sym (get_or-set_other old goal i row no_row ne)) (other i ne))
       (cases_eq i goal)
 
-  pub hold_same : SameGoals old new_rows
-  hold_same = record {
-    count = length-set old goal held_row;
-    claims = by_row (λ i r. claim_of r ≡ claim_of (row_at old i)) refl (λ i ne. refl);
-    dependents = by_row (λ i r. r.dependents ≡ (row_at old i).dependents) refl (λ i ne. refl);
+  pub changed_same : SameGoals old new_rows
+  changed_same = record {
+    count = length-set old goal row;
+    claims = by_row (λ i r. claim_of r ≡ claim_of (row_at old i)) claim (λ i ne. refl);
+    dependents = by_row (λ i r. r.dependents ≡ (row_at old i).dependents) dependents (λ i ne. refl);
   }
 
-  still_open : (i g : ℕ) → IsListed (record { rows = old; nodes = nodes; links = links }) g i → ¬ (IsRefuted old g) → ¬ (IsRefuted new_rows g)
-  still_open i g l = by_row (λ k r. ¬ (IsRefuted old k) → ¬ ((s : Seq) × (r.standing ≡ Refuted s))) (λ n x. let e = x.1 in cc) (λ k ne n x. n x) g
+  still_open : (g : ℕ) → ¬ (IsRefuted old g) → ¬ (IsRefuted new_rows g)
+  still_open g = by_row (λ k r. ¬ (IsRefuted old k) → ¬ ((s : Seq) × (r.standing ≡ Refuted s))) (λ n x. unrefuted x.0 x.1) (λ k ne n x. n x) g
 
-  pub stands-held : AllByRecursion (ChoiceStands a (record { rows = old; nodes = nodes; links = links }) goal (claim_of (row_at old goal))) made
-      → RowHolds a (record { rows = old; nodes = nodes; links = links }) (claim_of (row_at old goal)) made
+  pub stands-changed : ((place : ℕ) (k : Choice) → slice_get row.choices place ≡ Some k → ChoiceStands a (record { rows = old; nodes = nodes; links = links }) (goal_case goal place) (claim_of (row_at old goal)) k)
+      → (¬ (row.choices ≡ []) → IsBegun a (claim_of (row_at old goal)) row.choices)
+      → length row.broken ≡ length row.choices
+      → ((place : ℕ) (k : Choice) → slice_get row.choices place ≡ Some k → IsUnbroken row place → IsOpen (record { rows = old; nodes = nodes; links = links }) k)
+      → (row.standing ≡ Holds → RowHolds a (record { rows = old; nodes = nodes; links = links }) (claim_of (row_at old goal)) row.choices)
       → StandsOn a ds (record { rows = old; nodes = nodes; links = links }) → StandsOn a ds (record { rows = new_rows; nodes = nodes; links = links })
-  stands-held stands holds h =
-      stands_same a old new_rows nodes links hold_same ds h
-      (by_row (λ i r. AllByRecursion (ChoiceStands a (record { rows = old; nodes = nodes; links = links }) i (claim_of (row_at old i))) r.choices) stands (λ i ne. h.choices i))
-      (by_row (λ i r. (seq : Seq) → r.standing ≡ Refuted seq → IsSeparatedBy a ds (claim_of (row_at old i)) seq) (λ seq e. absurd (cc)) (λ i ne seq e. h.refuted i seq e))
-      (by_row (λ i r. ¬ (r.choices ≡ []) → IsBegun a (claim_of (row_at old i)) r.choices) (λ n. holds.begun) (λ i ne n. h.begun i n))
+  stands-changed stand begun flags unbroken holds h =
+      stands_same a old new_rows nodes links changed_same ds h
+      (by_row (λ i r. (place : ℕ) (k : Choice) → slice_get r.choices place ≡ Some k → ChoiceStands a (record { rows = old; nodes = nodes; links = links }) (goal_case i place) (claim_of (row_at old i)) k)
+      stand (λ i ne. h.choices i))
+      (by_row (λ i r. (seq : Seq) → r.standing ≡ Refuted seq → IsSeparatedBy a ds (claim_of (row_at old i)) seq) (λ seq e. absurd (unrefuted seq e)) (λ i ne seq e. h.refuted i seq e))
+      (by_row (λ i r. ¬ (r.choices ≡ []) → IsBegun a (claim_of (row_at old i)) r.choices) begun (λ i ne n. h.begun i n))
+      (by_row (λ i r. length r.broken ≡ length r.choices) flags (λ i ne. h.flags i))
+      (by_row (λ i r. (place : ℕ) (k : Choice) → slice_get r.choices place ≡ Some k → IsUnbroken r place → IsOpen (record { rows = new_rows; nodes = nodes; links = links }) k)
+      (λ place k e u. open_now goal place k (stand place k e) (unbroken place k e u))
+      (λ i ne place k e u. open_now i place k (h.choices i place k e) (h.unbroken i place k e u)))
       (by_row (λ i r. r.standing ≡ Holds → RowHolds a (record { rows = new_rows; nodes = nodes; links = links }) (claim_of (row_at old i)) r.choices)
-      (λ e. holds_same a old new_rows nodes links hold_same goal (claim_of (row_at old goal)) made (λ g l n. still_open goal g l n) stands holds)
-      (λ i ne e. holds_same a old new_rows nodes links hold_same i (claim_of (row_at old i)) (row_at old i).choices (λ g l n. still_open i g l n) (h.choices i) (h.holds i e)))
+      (λ e. holds_same a old new_rows nodes links changed_same goal (claim_of (row_at old goal)) row.choices (λ place g l n. still_open g n) stand (holds e))
+      (λ i ne e. holds_same a old new_rows nodes links changed_same i (claim_of (row_at old i)) (row_at old i).choices (λ place g l n. still_open g n) (h.choices i) (h.holds i e)))
+    where
+      open_now : (i place : ℕ) (k : Choice) → ChoiceStands a (record { rows = old; nodes = nodes; links = links }) (goal_case i place) (claim_of (row_at old i)) k
+          → IsOpen (record { rows = old; nodes = nodes; links = links }) k → IsOpen (record { rows = new_rows; nodes = nodes; links = links }) k
+      open_now i place k x o = open_same a old new_rows nodes links changed_same (goal_case i place) (claim_of (row_at old i)) k (λ g l n. still_open g n) x o

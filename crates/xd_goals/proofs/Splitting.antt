@@ -18,6 +18,7 @@ use Rattle.xd_goals.specs.Rows.{TableView, row_at}
 use Rattle.xd_goals.specs.Trees.{IsFree, IsLeafFor, IsTaker}
 use Rattle.xd_goals.specs.Standing.{AreSeparated, IsSeparatedBy}
 use Rattle.xd_goals.specs.declared.heads.Side.{Side}
+use Rattle.xd_goals.specs.declared.table.GoalCase.{GoalCase}
 use Rattle.xd_goals.specs.declared.table.GoalId.{GoalId}
 use Rattle.xd_goals.specs.declared.table.Standing.{Standing}
 use Rattle.xd_goals.specs.declared.table.Standing.TheVariants.{Refuted}
@@ -150,7 +151,7 @@ or_found P R Q None x r e h q = rw e q
 or_found P R Q (Some y) x r e h q = rw e h
 
 -- the document of a leaf's goal that was read as refuted
-pub leaf_separated : {A : List State → Type 0} (a : Automaton) (ds : List Document) (s t : TableView) → GrowsBy A s t → AreSeparated a ds s.rows → (owner : ℕ) (c : Claim State) (g : GoalId) (st : Standing) (seq : Seq)
+pub leaf_separated : {A : List State → Type 0} (a : Automaton) (ds : List Document) (s t : TableView) → GrowsBy A s t → AreSeparated a ds s.rows → (owner : GoalCase) (c : Claim State) (g : GoalId) (st : Standing) (seq : Seq)
     → IsLeafFor t owner c g.number → st ≡ (row_at t.rows g.number).standing → st ≡ Refuted seq → IsSeparatedBy a ds c seq
 leaf_separated a ds s t grows h owner c g st seq l e r =
     subst (λ (x : Claim State). IsSeparatedBy a ds x seq) (claim_within t.rows g.number c l.claim).1 (separated-grows a ds s t grows h g.number seq (sym e ∙ r))

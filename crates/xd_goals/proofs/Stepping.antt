@@ -1,6 +1,6 @@
 -- What a step of work does to a table.
-use Rattle.std.proofs.Common.{ℕ, ◌+◌, ◌<◌, ◌≤◌, ◌≡◌, true, List, [], ◌∷◌, ◌++◌, length, set, length-set, Option, Some, get_or-set_other, ⊎_elim, sym, refl, ap, subst, ◌∙◌, arith}
-use Rattle.std.specs.List.{AllByRecursion, list_any}
+use Rattle.std.proofs.Common.{ℕ, ◌+◌, ◌<◌, ◌≤◌, ◌≡◌, Bool, true, List, [], ◌∷◌, ◌++◌, length, set, length-set, Option, Some, get_or-set_other, ⊎_elim, sym, refl, ap, subst, ◌∙◌, arith}
+use Rattle.std.specs.List.{AllByRecursion, list_any, slice_get}
 use Rattle.std.specs.BTreeMap.{BTreeMap}
 use Rattle.std.proofs.lemmas.Bool.{cases_eq}
 use Rattle.xd_doc.specs.Document.{Document}
@@ -10,9 +10,9 @@ use Rattle.xd_auto.specs.declared.auto.State.{State}
 use Rattle.xd_auto.specs.Automaton.{Automaton}
 use Rattle.xd_rules.specs.Rules.{Claim}
 use Rattle.xd_goals.specs.Moves.{claim_with, is_last_in}
-use Rattle.xd_goals.specs.Rows.{GoalRow, TableView, no_row, claim_at, claim_of, claim_key, row_at}
+use Rattle.xd_goals.specs.Rows.{GoalRow, TableView, no_row, claim_at, claim_of, claim_key, goal_case, row_at, IsUnbroken}
 use Rattle.xd_goals.specs.Kept.{AreLinked, Grows, GrowsBy, IsConsistent, IsIndexed, IsWhole, Refutes, found_at, view_of}
-use Rattle.xd_goals.specs.Standing.{ChoiceStands, IsSeparatedBy, KeepsGoals, RowHolds, StandsOn}
+use Rattle.xd_goals.specs.Standing.{ChoiceStands, IsOpen, IsSeparatedBy, KeepsGoals, RowHolds, StandsOn}
 use Rattle.xd_goals.specs.Cases.{AreSettled}
 use Rattle.xd_goals.specs.Measure.{AreMadeFrom, Lowers, possible}
 use Rattle.xd_goals.specs.Reached.{HasTreeWithin, HaveTreesWithin, IsSettled, IsWaitingIn}
@@ -25,11 +25,11 @@ use Rattle.xd_goals.specs.declared.table.ChoiceNode.{ChoiceNode}
 use Rattle.xd_goals.specs.declared.table.Link.{Link}
 use Rattle.xd_goals.specs.declared.table.Standing.TheVariants.{Holds, Refuted, Waiting}
 use Rattle.xd_goals.proofs.Facts.{keeps_goals-grows, keeps_goals-then, claim-grows, stands-grows, unlike_index}
-use Rattle.xd_goals.proofs.Settling.{SameGoals, hold_same, refutes_same, stands-held, stands-refuted}
+use Rattle.xd_goals.proofs.Settling.{SameGoals, changed_same, refutes_same, stands-changed, stands-refuted}
 use Rattle.xd_goals.proofs.Measuring.{rows_bound, lowers-grown, lowers-held, lowers-refuted, made-grows, made-then}
-use Rattle.xd_goals.proofs.Working.{leaves_there, settled_holds, settled_stands}
+use Rattle.xd_goals.proofs.Working.{leaves_there, settled_holds}
 use Rattle.xd_goals.proofs.Growing.{claim_at-is, claim_within}
-use Rattle.xd_goals.proofs.Lists.{all_map}
+use Rattle.xd_goals.proofs.Lists.{all_at, all_map, all_places}
 use Rattle.xd_goals.proofs.Verdicts.{settled_is_included}
 
 -- a goal was settled, and the facts stay
@@ -91,32 +91,35 @@ module _ (a : Automaton) (ds : List Document) (old new : List GoalRow) (nodes : 
           (cases_eq i goal)
 
 -- a goal comes to hold
-module _ (a : Automaton) (ds : List Document) (old : List GoalRow) (nodes : List ChoiceNode) (links : List Link) (goal : ℕ) (made : List Choice) (lt : goal < length old) (waits : (row_at old goal).standing ≡ Waiting) where
-  abbrev pub held_rows : List GoalRow
-  held_rows = set old goal (record (row_at old goal) { standing = Holds; choices = made })
+module _ (a : Automaton) (ds : List Document) (old : List GoalRow) (nodes : List ChoiceNode) (links : List Link) (goal : ℕ) (row : GoalRow) (lt : goal < length old) (waits : (row_at old goal).standing ≡ Waiting)
+    (claim : claim_of row ≡ claim_of (row_at old goal)) (dependents : row.dependents ≡ (row_at old goal).dependents) (holds : row.standing ≡ Holds) where
+  unrefuted : (seq : Seq) → ¬ (row.standing ≡ Refuted seq)
+  unrefuted seq e = cc
 
-  pub same_held : SameGoals old (set old goal (record (row_at old goal) { standing = Holds; choices = made }))
-  same_held = hold_same a ds old nodes links goal made lt waits
+  pub same_held : SameGoals old (set old goal row)
+  same_held = changed_same a ds old nodes links goal row lt claim dependents unrefuted
 
-  pub step_held : AllByRecursion (ChoiceStands a (record { rows = old; nodes = nodes; links = links }) goal (claim_of (row_at old goal))) made
-      → RowHolds a (record { rows = old; nodes = nodes; links = links }) (claim_of (row_at old goal)) made
+  pub step_held : ((place : ℕ) (k : Choice) → slice_get row.choices place ≡ Some k → ChoiceStands a (record { rows = old; nodes = nodes; links = links }) (goal_case goal place) (claim_of (row_at old goal)) k)
+      → length row.broken ≡ length row.choices
+      → RowHolds a (record { rows = old; nodes = nodes; links = links }) (claim_of (row_at old goal)) row.choices
       → StandsOn a ds (record { rows = old; nodes = nodes; links = links })
-      → IsStep a ds (record { rows = old; nodes = nodes; links = links }) (record { rows = set old goal (record (row_at old goal) { standing = Holds; choices = made }); nodes = nodes; links = links })
-  step_held stand holds h = record {
-    stands = stands-held a ds old nodes links goal made lt waits stand holds h;
+      → IsStep a ds (record { rows = old; nodes = nodes; links = links }) (record { rows = set old goal row; nodes = nodes; links = links })
+  step_held stand flags k h = record {
+    stands = stands-changed a ds old nodes links goal row lt claim dependents unrefuted stand (λ n. k.begun) flags
+        (λ place x e u. all_at (IsOpen (record { rows = old; nodes = nodes; links = links })) row.choices place x k.opens e) (λ e. k) h;
     kept = record {
-      longer = omega (arith, length-set old goal (record (row_at old goal) { standing = Holds; choices = made }));
-      claims = λ i l. (hold_same a ds old nodes links goal made lt waits).claims i;
+      longer = omega (arith, length-set old goal row);
+      claims = λ i l. same_held.claims i;
       refuted = λ i s e. refuted_stays i s e;
     };
-    made = none_made old (set old goal (record (row_at old goal) { standing = Holds; choices = made })) (hold_same a ds old nodes links goal made lt waits);
-    lowers = lowers-held old goal made lt waits;
+    made = none_made old (set old goal row) same_held;
+    lowers = lowers-held old goal row holds lt waits;
   }
     where
-      refuted_stays : (i : ℕ) (s : Seq) → (row_at old i).standing ≡ Refuted s → (row_at (set old goal (record (row_at old goal) { standing = Holds; choices = made })) i).standing ≡ Refuted s
+      refuted_stays : (i : ℕ) (s : Seq) → (row_at old i).standing ≡ Refuted s → (row_at (set old goal row) i).standing ≡ Refuted s
       refuted_stays i s e = ⊎_elim
           (λ q. let both = ap (λ (k : ℕ). (row_at old k).standing) q in absurd (cc))
-          (λ ne. ap (λ (row : GoalRow). row.standing) (get_or-set_other old goal i (record (row_at old goal) { standing = Holds; choices = made }) no_row ne) ∙ e)
+          (λ ne. ap (λ (r : GoalRow). r.standing) (get_or-set_other old goal i row no_row ne) ∙ e)
           (cases_eq i goal)
 
 -- the facts while the table grew
@@ -128,14 +131,21 @@ pub owner_claim : (s t : TableView) → Grows s t → (i : ℕ) (c : Claim State
 owner_claim s t g i c lt e = claim-grows s t g i lt ∙ e
 
 -- the goal that a step worked on, by what settled it
-pub held_by : (a : Automaton) (ds : List Document) (t : TableView) (goal : ℕ) (c : Claim State) (made : List Choice) → goal < length t.rows → (row_at t.rows goal).standing ≡ Waiting → claim_of (row_at t.rows goal) ≡ c
+pub held_by : (a : Automaton) (ds : List Document) (t : TableView) (goal : ℕ) (c : Claim State) (made : List Choice) (broken : List Bool) → length broken ≡ length made
+    → goal < length t.rows → (row_at t.rows goal).standing ≡ Waiting → claim_of (row_at t.rows goal) ≡ c
     → (is_last_in a c.left ≡ true → list_any (is_last_in a) c.rights ≡ true) → AreSettled a t goal c made → StandsOn a ds t
-    → IsStep a ds t (record { rows = set t.rows goal (record (row_at t.rows goal) { standing = Holds; choices = made }); nodes = t.nodes; links = t.links })
-held_by a ds t goal c made lt waits e last h stands =
-    step_held a ds t.rows t.nodes t.links goal made lt waits
-    (subst (λ (x : Claim State). AllByRecursion (ChoiceStands a t goal x) made) (sym e) (settled_stands a t goal c made h))
+    → IsStep a ds t (record { rows = set t.rows goal (record (row_at t.rows goal) { standing = Holds; choices = made; broken = broken }); nodes = t.nodes; links = t.links })
+held_by a ds t goal c made broken flags lt waits e last h stands =
+    step_held a ds t.rows t.nodes t.links goal (record (row_at t.rows goal) { standing = Holds; choices = made; broken = broken }) lt waits refl refl refl
+    (λ place k at. subst (λ (x : Claim State). ChoiceStands a t (goal_case goal place) x k) (sym e) (h.open_choices place k at).stands)
+    flags
     (subst (λ (x : Claim State). RowHolds a t x made) (sym e) (settled_holds a t goal c made last h))
     stands
+
+pub same_held_by : (a : Automaton) (ds : List Document) (t : TableView) (goal : ℕ) (made : List Choice) (broken : List Bool) → goal < length t.rows → (row_at t.rows goal).standing ≡ Waiting
+    → SameGoals t.rows (set t.rows goal (record (row_at t.rows goal) { standing = Holds; choices = made; broken = broken }))
+same_held_by a ds t goal made broken lt waits =
+    same_held a ds t.rows t.nodes t.links goal (record (row_at t.rows goal) { standing = Holds; choices = made; broken = broken }) lt waits refl refl refl
 
 -- a table has no more goals than its first ones and the possible ones
 pub bounded : (a : Automaton) (ds : List Document) (first : ℕ) (t : TableView) → StandsOn a ds t → AreMadeFrom first t.rows → first ≤ length t.rows → length t.rows ≤ first + length (possible (length a))
@@ -161,8 +171,8 @@ keeps-same ds = record { belongs = λ s b. b; same = λ s b. refl }
 -- trees of a table that stands name goals that are there
 pub trees_there : (a : Automaton) (ds : List Document) (t : TableView) → StandsOn a ds t → (i : ℕ) → HaveTreesWithin t.nodes (length t.rows) (row_at t.rows i).choices
 trees_there a ds t h i =
-    all_map (ChoiceStands a t i (claim_of (row_at t.rows i))) (λ (k : Choice). HasTreeWithin t.nodes (length t.rows) k.root) (row_at t.rows i).choices
-    (λ k x. leaves_there a t i (claim_of (row_at t.rows i)) k x) (h.choices i)
+    all_places (λ (k : Choice). HasTreeWithin t.nodes (length t.rows) k.root) (row_at t.rows i).choices
+    (λ place k e. leaves_there a t (goal_case i place) (claim_of (row_at t.rows i)) k (h.choices i place k e))
 
 -- what the asked goal's standing says
 pub asked_separated : (a : Automaton) (ds : List Document) (t : TableView) (goal : ℕ) (c : Claim State) (seq : Seq) → StandsOn a ds t → claim_at t.rows goal ≡ Some c → (row_at t.rows goal).standing ≡ Refuted seq → IsSeparatedBy a ds c seq

@@ -15,6 +15,7 @@ use Rattle.xd_goals.specs.declared.table.ChoiceNode.{ChoiceNode}
 use Rattle.xd_goals.specs.declared.table.ChoiceNode.TheVariants.{Split, Content, Rest}
 use Rattle.xd_goals.specs.declared.table.Standing.{Standing}
 use Rattle.xd_goals.specs.declared.table.Standing.TheVariants.{Holds, Refuted, Waiting}
+use Rattle.xd_goals.specs.declared.table.GoalCase.{GoalCase}
 use Rattle.xd_goals.specs.declared.table.GoalId.{GoalId}
 use Rattle.xd_goals.specs.declared.heads.Side.{Side}
 use Rattle.xd_goals.specs.declared.grow.Task.{Task}
@@ -82,6 +83,12 @@ choices-grows s t h g = ⊎_elim
     (λ ge. (h.added g ge).choices ∙ sym (past_is_new s.rows g ge).choices)
     (cases_lt g (length s.rows))
 
+pub broken-grows : {A : List State → Type 0} (s t : TableView) → GrowsBy A s t → (g : ℕ) → ((row_at t.rows g).broken ≡ (row_at s.rows g).broken)
+broken-grows s t h g = ⊎_elim
+    (λ lt. (h.kept g lt).broken)
+    (λ ge. (h.added g ge).broken ∙ sym (past_is_new s.rows g ge).broken)
+    (cases_lt g (length s.rows))
+
 pub open-grows : {A : List State → Type 0} (s t : TableView) → GrowsBy A s t → (g : ℕ) → ¬ (IsRefuted s.rows g) → ¬ (IsRefuted t.rows g)
 open-grows s t h g n r = n (r.0, sym (standing-grows s t h g) ∙ r.1)
 
@@ -102,7 +109,7 @@ IsTextTree-grows s t h task sides (ContentLeaf g) k = k
 IsTextTree-grows s t h task sides (RestLeaf g) k = claim_at-grows s t h g (claim_with task.rest (gathered [] sides)) k
 IsTextTree-grows s t h task sides (SplitOn j a b) k = k
 
-abbrev pub HasTree-grows : {A : List State → Type 0} (s t : TableView) → GrowsBy A s t → (Kind Kind2 : ChoiceTree → Type 0) → ((tree : ChoiceTree) → Kind tree → Kind2 tree) → (owner root : ℕ) → HasTree s Kind owner root → HasTree t Kind2 owner root
+abbrev pub HasTree-grows : {A : List State → Type 0} (s t : TableView) → GrowsBy A s t → (Kind Kind2 : ChoiceTree → Type 0) → ((tree : ChoiceTree) → Kind tree → Kind2 tree) → (owner : GoalCase) (root : ℕ) → HasTree s Kind owner root → HasTree t Kind2 owner root
 HasTree-grows s t h Kind Kind2 f owner root k = record {
   tree = k.tree;
   stands = StandsAt-more s.nodes t.nodes h.nodes k.tree root k.stands;
@@ -110,7 +117,7 @@ HasTree-grows s t h Kind Kind2 f owner root k = record {
   listed = AllLeaves-map (λ g. IsListed s g owner) (λ g. IsListed t g owner) (λ g l. h.listed g owner l) k.tree k.listed;
 }
 
-pub HasOpenTree-grows : {A : List State → Type 0} (s t : TableView) → GrowsBy A s t → (Kind Kind2 : ChoiceTree → Type 0) → ((tree : ChoiceTree) → Kind tree → Kind2 tree) → (owner root : ℕ) → HasOpenTree s Kind owner root → HasOpenTree t Kind2 owner root
+pub HasOpenTree-grows : {A : List State → Type 0} (s t : TableView) → GrowsBy A s t → (Kind Kind2 : ChoiceTree → Type 0) → ((tree : ChoiceTree) → Kind tree → Kind2 tree) → (owner : GoalCase) (root : ℕ) → HasOpenTree s Kind owner root → HasOpenTree t Kind2 owner root
 HasOpenTree-grows s t h Kind Kind2 f owner root k = record {
   has = HasTree-grows s t h Kind Kind2 f owner root k.has;
   open_ = AllLeaves-map (λ g. ¬ (IsRefuted s.rows g)) (λ g. ¬ (IsRefuted t.rows g)) (λ g n. open-grows s t h g n) k.has.tree k.open_;
@@ -128,32 +135,32 @@ module _ (task : Task) (sides : List Side) (contents rests : List State) where
   abbrev pub Kind : TableView → ChoiceTree → Type 0
   Kind t tree = IsGrown t.rows task sides tree contents rests
 
-  pub content_leaf : (t u : TableView) (g : GoalId) (n : ℕ) → IsLeafFor t task.owner.number (claim_with task.content contents) g.number → ¬ (IsRefuted t.rows g.number)
-      → Grows t u → slice_get u.nodes n ≡ Some (Content g) → HasOpenTree u (Kind u) task.owner.number n
+  pub content_leaf : (t u : TableView) (g : GoalId) (n : ℕ) → IsLeafFor t task.owner (claim_with task.content contents) g.number → ¬ (IsRefuted t.rows g.number)
+      → Grows t u → slice_get u.nodes n ≡ Some (Content g) → HasOpenTree u (Kind u) task.owner n
   content_leaf t u g n l o h e = record {
-    has = record { tree = ContentLeaf g.number; stands = e; kind = claim_at-grows t u h g.number (claim_with task.content contents) l.claim; listed = h.listed g.number task.owner.number l.listed };
+    has = record { tree = ContentLeaf g.number; stands = e; kind = claim_at-grows t u h g.number (claim_with task.content contents) l.claim; listed = h.listed g.number task.owner l.listed };
     open_ = open-grows t u h g.number o;
   }
 
-  pub rest_leaf : (t u : TableView) (g : GoalId) (n : ℕ) → IsLeafFor t task.owner.number (claim_with task.rest rests) g.number → ¬ (IsRefuted t.rows g.number)
-      → Grows t u → slice_get u.nodes n ≡ Some (Rest g) → HasOpenTree u (Kind u) task.owner.number n
+  pub rest_leaf : (t u : TableView) (g : GoalId) (n : ℕ) → IsLeafFor t task.owner (claim_with task.rest rests) g.number → ¬ (IsRefuted t.rows g.number)
+      → Grows t u → slice_get u.nodes n ≡ Some (Rest g) → HasOpenTree u (Kind u) task.owner n
   rest_leaf t u g n l o h e = record {
-    has = record { tree = RestLeaf g.number; stands = e; kind = claim_at-grows t u h g.number (claim_with task.rest rests) l.claim; listed = h.listed g.number task.owner.number l.listed };
+    has = record { tree = RestLeaf g.number; stands = e; kind = claim_at-grows t u h g.number (claim_with task.rest rests) l.claim; listed = h.listed g.number task.owner l.listed };
     open_ = open-grows t u h g.number o;
   }
 
   -- a split between two trees
   pub split_tree : (t u w : TableView) (side : Side) (cs rs : List State) (x y n : ℕ) → IsFree sides contents rests side → cs ≡ with_state side.content contents → rs ≡ with_state side.rest rests
-      → HasOpenTree t (λ tree. IsGrown t.rows task sides tree cs rests) task.owner.number x → Grows t u
-      → HasOpenTree u (λ tree. IsGrown u.rows task sides tree contents rs) task.owner.number y → Grows u w
-      → IsSplitAt w.nodes side.number x y n → HasOpenTree w (Kind w) task.owner.number n
+      → HasOpenTree t (λ tree. IsGrown t.rows task sides tree cs rests) task.owner x → Grows t u
+      → HasOpenTree u (λ tree. IsGrown u.rows task sides tree contents rs) task.owner y → Grows u w
+      → IsSplitAt w.nodes side.number x y n → HasOpenTree w (Kind w) task.owner n
   split_tree t u w side cs rs x y n free ce re a h b k split =
       let a1 = HasOpenTree-grows t u h (λ tree. IsGrown t.rows task sides tree cs rests) (λ tree. IsGrown u.rows task sides tree cs rests)
-      (λ tree g. IsGrown-grows t u h task sides tree cs rests g) task.owner.number x a in
+      (λ tree g. IsGrown-grows t u h task sides tree cs rests g) task.owner x a in
       let a2 = HasOpenTree-grows u w k (λ tree. IsGrown u.rows task sides tree cs rests) (λ tree. IsGrown w.rows task sides tree cs rests)
-      (λ tree g. IsGrown-grows u w k task sides tree cs rests g) task.owner.number x a1 in
+      (λ tree g. IsGrown-grows u w k task sides tree cs rests g) task.owner x a1 in
       let b2 = HasOpenTree-grows u w k (λ tree. IsGrown u.rows task sides tree contents rs) (λ tree. IsGrown w.rows task sides tree contents rs)
-      (λ tree g. IsGrown-grows u w k task sides tree contents rs g) task.owner.number y b in
+      (λ tree g. IsGrown-grows u w k task sides tree contents rs g) task.owner y b in
       record {
         has = record {
           tree = SplitOn side.number a2.has.tree b2.has.tree;
@@ -267,7 +274,7 @@ module _ (sides : List Side) (contents rests : List State) (side : Side) (place 
 pub read_open : (rows : List GoalRow) (g : ℕ) (s : Standing) → s ≡ (row_at rows g).standing → ((seq : Seq) → s ≡ Refuted seq → ⊥) → ¬ (IsRefuted rows g)
 read_open rows g s e n r = n r.0 (e ∙ r.1)
 
-pub read_refuted : {A : List State → Type 0} (s t : TableView) → GrowsBy A s t → (owner : ℕ) (c : Claim State) (g : GoalId) (st : Standing) (seq : Seq) → IsLeafFor s owner c g.number → st ≡ (row_at s.rows g.number).standing → st ≡ Refuted seq
+pub read_refuted : {A : List State → Type 0} (s t : TableView) → GrowsBy A s t → (owner : GoalCase) (c : Claim State) (g : GoalId) (st : Standing) (seq : Seq) → IsLeafFor s owner c g.number → st ≡ (row_at s.rows g.number).standing → st ≡ Refuted seq
     → IsRefutedBy t.rows c seq
 read_refuted s t h owner c g st seq l e r = IsRefutedBy-grows s t h c seq (record { goal = g.number; claim = l.claim; refuted = sym e ∙ r })
 
@@ -283,10 +290,10 @@ StandsAt-within nodes (ContentLeaf g) n h = slice_get_within nodes n (Content (r
 StandsAt-within nodes (RestLeaf g) n h = slice_get_within nodes n (Rest (record { number = g })) h
 StandsAt-within nodes (SplitOn j a b) n h = slice_get_within nodes n (Split j h.0 h.1) h.2
 
-pub HasOpenTree-within : (t : TableView) (Kind : ChoiceTree → Type 0) (owner root : ℕ) → HasOpenTree t Kind owner root → root < length t.nodes
+pub HasOpenTree-within : (t : TableView) (Kind : ChoiceTree → Type 0) (owner : GoalCase) (root : ℕ) → HasOpenTree t Kind owner root → root < length t.nodes
 HasOpenTree-within t Kind owner root h = StandsAt-within t.nodes h.has.tree root h.has.stands
 
-pub open_within-grows : (t u : TableView) → Grows t u → (Kind : ChoiceTree → Type 0) (owner root : ℕ) → HasOpenTree t Kind owner root → root < length u.nodes
+pub open_within-grows : (t u : TableView) → Grows t u → (Kind : ChoiceTree → Type 0) (owner : GoalCase) (root : ℕ) → HasOpenTree t Kind owner root → root < length u.nodes
 open_within-grows t u h Kind owner root k = StandsAt-within u.nodes k.has.tree root (StandsAt-more t.nodes u.nodes h.nodes k.has.tree root k.has.stands)
 
 pub gathered-below : (n : ℕ) (states : List State) (sides : List Side) → AreBelow n states → AllByRecursion (λ (s : Side). (s.content.number < n) × (s.rest.number < n)) sides → AreBelow n (gathered states sides)
@@ -299,14 +306,14 @@ gathered-order states (s ∷ ss) h = gathered-order (with_state s.rest states) s
 
 -- the leaf of a text
 pub text_leaf : (task : Task) (sides : List Side) (t u : TableView) (g : GoalId) (n : ℕ) (rests : List State) → rests ≡ gathered [] sides
-    → IsLeafFor t task.owner.number (claim_with task.rest rests) g.number → ¬ (IsRefuted t.rows g.number)
-    → Grows t u → slice_get u.nodes n ≡ Some (Rest g) → HasOpenTree u (IsTextTree u.rows task sides) task.owner.number n
+    → IsLeafFor t task.owner (claim_with task.rest rests) g.number → ¬ (IsRefuted t.rows g.number)
+    → Grows t u → slice_get u.nodes n ≡ Some (Rest g) → HasOpenTree u (IsTextTree u.rows task sides) task.owner n
 text_leaf task sides t u g n rests same l o h e = record {
   has = record {
     tree = RestLeaf g.number;
     stands = e;
     kind = subst (λ (rs : List State). claim_at u.rows g.number ≡ Some (claim_with task.rest rs)) same (claim_at-grows t u h g.number (claim_with task.rest rests) l.claim);
-    listed = h.listed g.number task.owner.number l.listed;
+    listed = h.listed g.number task.owner l.listed;
   };
   open_ = open-grows t u h g.number o;
 }

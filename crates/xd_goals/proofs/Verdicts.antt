@@ -22,41 +22,41 @@ use Rattle.xd_goals.specs.Moves.{Accepts, claim_with, heads_of, is_last_in}
 use Rattle.xd_goals.specs.Rows.{TableView, row_at, claim_of, claim_at, choice_key}
 use Rattle.xd_goals.specs.Trees.{IsFailure, IsFailureBySort, IsTextFailure, IsRefutedBy, gathered, takes}
 use Rattle.xd_goals.specs.declared.heads.Side.{Side}
-use Rattle.xd_goals.specs.Standing.{ChoiceStands, IsSeparatedBy, StandsOn, claim_sides, task_for}
+use Rattle.xd_goals.specs.Standing.{IsSeparatedBy, StandsOn, claim_sides, task_for}
 use Rattle.xd_goals.specs.Reached.{is_marked, LeadsToMarked, IsSettled}
 use Rattle.xd_goals.specs.Truth.{IsIncluded, KeepsRules}
 use Rattle.xd_goals.specs.Cases.{BeginsAs, FailsAt, names_in}
 use Rattle.xd_goals.specs.declared.table.Choice.{Choice}
+use Rattle.xd_goals.specs.declared.table.GoalCase.{GoalCase}
 use Rattle.xd_goals.specs.declared.table.Standing.TheVariants.{Holds}
 use Rattle.xd_goals.proofs.Growing.{claim_at-is, claim_within, past_is_new}
 use Rattle.xd_goals.proofs.Lists.{all_at, all_map}
+use Rattle.xd_goals.proofs.Facts.{StandsSomewhere, choices_stand}
 use Rattle.xd_goals.proofs.Keeping.{case_keeps, side_of_head, gathered-has}
 use Rattle.xd_goals.proofs.Meaning.{automaton_meaning}
 
 module _ (a : Automaton) (ds : List Document) (t : TableView) (stands : StandsOn a ds t) where
-  case_of : (i : ℕ) (c : Claim State) (k : Choice) → ChoiceStands a t i c k → Case
-  case_of i c k h = record { head = k.head; atom = k.atom; tree = h.has.tree }
+  cases_of : (c : Claim State) (ks : List Choice) → AllByRecursion (StandsSomewhere a t c) ks → List Case
+  cases_of c [] h = []
+  cases_of c (k ∷ ks) h = record { head = k.head; atom = k.atom; tree = h.0.1.has.tree } ∷ cases_of c ks h.1
 
-  cases_of : (i : ℕ) (c : Claim State) (ks : List Choice) → AllByRecursion (ChoiceStands a t i c) ks → List Case
-  cases_of i c [] h = []
-  cases_of i c (k ∷ ks) h = record { head = k.head; atom = k.atom; tree = h.0.has.tree } ∷ cases_of i c ks h.1
-
-  keys_are : (i : ℕ) (c : Claim State) (ks : List Choice) (h : AllByRecursion (ChoiceStands a t i c) ks) → map key_of (cases_of i c ks h) ≡ map choice_key ks
+  keys_are : (c : Claim State) (ks : List Choice) (h : AllByRecursion (StandsSomewhere a t c) ks) → map key_of (cases_of c ks h) ≡ map choice_key ks
   unfolding cases_of
-  keys_are i c [] h = refl
-  keys_are i c (k ∷ ks) h = ap (λ (rest : List CaseKey). keyed k.head k.atom ∷ rest) (keys_are i c ks h.1)
+  keys_are c [] h = refl
+  keys_are c (k ∷ ks) h = ap (λ (rest : List CaseKey). keyed k.head k.atom ∷ rest) (keys_are c ks h.1)
 
-  each_is : (i : ℕ) (c : Claim State) (ks : List Choice) (h : AllByRecursion (ChoiceStands a t i c) ks) → AllByRecursion (IsCase (heads_of a) (claim_at t.rows) c) (cases_of i c ks h)
+  each_is : (c : Claim State) (ks : List Choice) (h : AllByRecursion (StandsSomewhere a t c) ks) → AllByRecursion (IsCase (heads_of a) (claim_at t.rows) c) (cases_of c ks h)
   unfolding cases_of
-  each_is i c [] h = tt
-  each_is i c (k ∷ ks) h =
-      (record { head = h.0.head; found = h.0.found; keeps = case_keeps t.rows a i c h.0.head k.atom h.0.has.tree h.0.has.kind }, each_is i c ks h.1)
+  each_is c [] h = tt
+  each_is c (k ∷ ks) h =
+      let x = h.0.1 in
+      (record { head = x.head; found = x.found; keeps = case_keeps t.rows a h.0.0 c x.head k.atom x.has.tree x.has.kind }, each_is c ks h.1)
 
-  leaves_are : (marks : List Bool) (i : ℕ) (c : Claim State) (ks : List Choice) (h : AllByRecursion (ChoiceStands a t i c) ks) → AllByRecursion (LeadsToMarked t.nodes marks) ks
-      → AllByRecursion (λ (k : Case). AllLeaves (λ g. is_marked marks g ≡ true) k.tree) (cases_of i c ks h)
+  leaves_are : (marks : List Bool) (c : Claim State) (ks : List Choice) (h : AllByRecursion (StandsSomewhere a t c) ks) → AllByRecursion (LeadsToMarked t.nodes marks) ks
+      → AllByRecursion (λ (k : Case). AllLeaves (λ g. is_marked marks g ≡ true) k.tree) (cases_of c ks h)
   unfolding cases_of
-  leaves_are marks i c [] h m = tt
-  leaves_are marks i c (k ∷ ks) h m = (m.0 h.0.has.tree h.0.has.stands, leaves_are marks i c ks h.1 m.1)
+  leaves_are marks c [] h m = tt
+  leaves_are marks c (k ∷ ks) h m = (m.0 h.0.1.has.tree h.0.1.has.stands, leaves_are marks c ks h.1 m.1)
 
   there : (g : ℕ) → (row_at t.rows g).standing ≡ Holds → g < length t.rows
   there g e = ⊎_elim (λ lt. lt) (λ ge. let w = (past_is_new t.rows g ge).standing in absurd (cc)) (cases_lt g (length t.rows))
@@ -66,18 +66,19 @@ module _ (a : Automaton) (ds : List Document) (t : TableView) (stands : StandsOn
       let r = stands.holds g (s.holds g m) in
       let c = claim_of (row_at t.rows g) in
       let ks = (row_at t.rows g).choices in
+      let stand = choices_stand a ds t stands g in
       record {
         claim = c;
-        cases = cases_of g c ks (stands.choices g);
+        cases = cases_of c ks stand;
         found = claim_at-is t.rows g (there g (s.holds g m));
         rules = record {
           last = r.begun.last;
           named = r.begun.named;
           names = r.begun.names;
-          complete = keys_are g c ks (stands.choices g) ∙ r.begun.complete;
-          each = each_is g c ks (stands.choices g);
+          complete = keys_are c ks stand ∙ r.begun.complete;
+          each = each_is c ks stand;
         };
-        leaves = leaves_are s.marks g c ks (stands.choices g) (s.leads g m);
+        leaves = leaves_are s.marks c ks stand (s.leads g m);
       }
 
   -- a goal that holds, and leads to goals alone that hold, is true
@@ -105,7 +106,7 @@ not_named c x e h = go c.except (is_named c.names x) e h
     go false m p q = absurd (cc)
 
 -- the document that is made where a case fails separates the goal
-module _ (a : Automaton) (ds : List Document) (t : TableView) (stands : StandsOn a ds t) (owner : ℕ) (c : Claim State)
+module _ (a : Automaton) (ds : List Document) (t : TableView) (stands : StandsOn a ds t) (owner : GoalCase) (c : Claim State)
     (labels texts : NameClass) (names : AreNames (heads_of a c.left ++ right_heads (heads_of a) c) (names_in labels texts)) (labels_except : labels.except ≡ true) (texts_except : texts.except ≡ true)
     (h : Head State) (m : IsOneOf h (heads_of a c.left)) (atom : Atom) (matched : matches h.kind atom ≡ true) (inside behind : Seq) where
   element_separates : IsFailure a ds (task_for a owner h) (claim_sides a c atom) inside behind → (l : List ℕ)
@@ -140,45 +141,45 @@ module _ (a : Automaton) (ds : List Document) (t : TableView) (stands : StandsOn
       (document_at ds behind) no_rest.accepted (none_accepts a (claim_with h.rest rests) (document_at ds behind) no_rest rests (λ s y. y))
 
 -- by the atom
-pub failure_separates : (a : Automaton) (ds : List Document) (t : TableView) → StandsOn a ds t → (owner : ℕ) (c : Claim State) (labels texts : NameClass)
+pub failure_separates : (a : Automaton) (ds : List Document) (t : TableView) → StandsOn a ds t → (c : Claim State) (labels texts : NameClass)
     → AreNames (heads_of a c.left ++ right_heads (heads_of a) c) (names_in labels texts) → labels.except ≡ true → texts.except ≡ true
-    → (atom : Atom) (inside behind : Seq) → FailsAt a ds t owner c atom inside behind → (d : Document) → BeginsAs labels texts atom (document_at ds inside) (document_at ds behind) d → Separates (Accepts a) c d
-failure_separates a ds t stands owner c labels texts names le te (Label l) inside behind f d b =
+    → (atom : Atom) (inside behind : Seq) → FailsAt a ds t c atom inside behind → (d : Document) → BeginsAs labels texts atom (document_at ds inside) (document_at ds behind) d → Separates (Accepts a) c d
+failure_separates a ds t stands c labels texts names le te (Label l) inside behind f d b =
     subst (λ (w : Document). Separates (Accepts a) c w) (sym b)
-    (element_separates a ds t stands owner c labels texts names le te f.of_head f.among (Label l) f.matched inside behind f.fails l (λ k km. matches-label l k.kind))
-failure_separates a ds t stands owner c labels texts names le te OtherLabel inside behind f d b =
+    (element_separates a ds t stands f.owner c labels texts names le te f.of_head f.among (Label l) f.matched inside behind f.fails l (λ k km. matches-label l k.kind))
+failure_separates a ds t stands c labels texts names le te OtherLabel inside behind f d b =
     subst (λ (w : Document). Separates (Accepts a) c w) (sym b.2)
-    (element_separates a ds t stands owner c labels texts names le te f.of_head f.among OtherLabel f.matched inside behind f.fails b.0
+    (element_separates a ds t stands f.owner c labels texts names le te f.of_head f.among OtherLabel f.matched inside behind f.fails b.0
     (matches-other_label (heads_of a c.left ++ right_heads (heads_of a) c) (names_in labels texts) names b.0 (not_named labels b.0 le b.1)))
-failure_separates a ds t stands owner c labels texts names le te (Text x) inside behind f d b =
+failure_separates a ds t stands c labels texts names le te (Text x) inside behind f d b =
     subst (λ (w : Document). Separates (Accepts a) c w) (sym b)
-    (text_separates a ds t stands owner c labels texts names le te f.of_head f.among (Text x) f.matched inside behind f.fails x (λ k km. matches-text x k.kind))
-failure_separates a ds t stands owner c labels texts names le te OtherText inside behind f d b =
+    (text_separates a ds t stands f.owner c labels texts names le te f.of_head f.among (Text x) f.matched inside behind f.fails x (λ k km. matches-text x k.kind))
+failure_separates a ds t stands c labels texts names le te OtherText inside behind f d b =
     subst (λ (w : Document). Separates (Accepts a) c w) (sym b.2)
-    (text_separates a ds t stands owner c labels texts names le te f.of_head f.among OtherText f.matched inside behind f.fails b.0
+    (text_separates a ds t stands f.owner c labels texts names le te f.of_head f.among OtherText f.matched inside behind f.fails b.0
     (matches-other_text (heads_of a c.left ++ right_heads (heads_of a) c) (names_in labels texts) names b.0 (not_named texts b.0 te b.1)))
 
 -- the documents of a case that fails are those of goals
-pub content_belongs : (a : Automaton) (ds : List Document) (t : TableView) → StandsOn a ds t → (owner : ℕ) (c : Claim State) (atom : Atom) (inside behind : Seq) → FailsAt a ds t owner c atom inside behind → is_text_atom atom ≡ false → BelongsTo ds inside
-content_belongs a ds t stands owner c atom inside behind f e =
-    let g : IsFailure a ds (task_for a owner f.of_head) (claim_sides a c atom) inside behind =
-    subst (λ (b : Bool). IsFailureBySort b a ds t.rows (task_for a owner f.of_head) (claim_sides a c atom) inside behind) e f.fails in g.content_belongs
+pub content_belongs : (a : Automaton) (ds : List Document) (t : TableView) → StandsOn a ds t → (c : Claim State) (atom : Atom) (inside behind : Seq) → FailsAt a ds t c atom inside behind → is_text_atom atom ≡ false → BelongsTo ds inside
+content_belongs a ds t stands c atom inside behind f e =
+    let g : IsFailure a ds (task_for a f.owner f.of_head) (claim_sides a c atom) inside behind =
+    subst (λ (b : Bool). IsFailureBySort b a ds t.rows (task_for a f.owner f.of_head) (claim_sides a c atom) inside behind) e f.fails in g.content_belongs
 
-pub rest_belongs : (a : Automaton) (ds : List Document) (t : TableView) → StandsOn a ds t → (owner : ℕ) (c : Claim State) (atom : Atom) (inside behind : Seq) → FailsAt a ds t owner c atom inside behind → BelongsTo ds behind
-rest_belongs a ds t stands owner c atom inside behind f = go (is_text_atom atom) f.fails
+pub rest_belongs : (a : Automaton) (ds : List Document) (t : TableView) → StandsOn a ds t → (c : Claim State) (atom : Atom) (inside behind : Seq) → FailsAt a ds t c atom inside behind → BelongsTo ds behind
+rest_belongs a ds t stands c atom inside behind f = go (is_text_atom atom) f.fails
   where
-    go : (b : Bool) → IsFailureBySort b a ds t.rows (task_for a owner f.of_head) (claim_sides a c atom) inside behind → BelongsTo ds behind
+    go : (b : Bool) → IsFailureBySort b a ds t.rows (task_for a f.owner f.of_head) (claim_sides a c atom) inside behind → BelongsTo ds behind
     go true g = (refuted_by a ds t stands (claim_with f.of_head.rest (gathered [] (claim_sides a c atom))) behind g).belongs
     go false g = g.rest_belongs
 
 -- in the store that holds the new document
-pub separated_by : {E : Type 0} (a : Automaton) (ds es : List Document) (t : TableView) → StandsOn a ds t → (owner : ℕ) (c : Claim State) (labels texts : NameClass)
+pub separated_by : {E : Type 0} (a : Automaton) (ds es : List Document) (t : TableView) → StandsOn a ds t → (c : Claim State) (labels texts : NameClass)
     → AreNames (heads_of a c.left ++ right_heads (heads_of a) c) (names_in labels texts) → labels.except ≡ true → texts.except ≡ true
-    → (atom : Atom) (inside behind : Seq) → FailsAt a ds t owner c atom inside behind → (r : Result Seq E) → IfOk r (BelongsTo es)
+    → (atom : Atom) (inside behind : Seq) → FailsAt a ds t c atom inside behind → (r : Result Seq E) → IfOk r (BelongsTo es)
     → IfOk r (λ seq. BeginsAs labels texts atom (document_at ds inside) (document_at ds behind) (document_at es seq)) → IfOk r (IsSeparatedBy a es c)
-separated_by a ds es t stands owner c labels texts names le te atom inside behind f (Ok seq) belongs begins =
-    record { belongs = belongs; separates = failure_separates a ds t stands owner c labels texts names le te atom inside behind f (document_at es seq) begins }
-separated_by a ds es t stands owner c labels texts names le te atom inside behind f (Err e) belongs begins = tt
+separated_by a ds es t stands c labels texts names le te atom inside behind f (Ok seq) belongs begins =
+    record { belongs = belongs; separates = failure_separates a ds t stands c labels texts names le te atom inside behind f (document_at es seq) begins }
+separated_by a ds es t stands c labels texts names le te atom inside behind f (Err e) belongs begins = tt
 
 pub empty_separates : (a : Automaton) (c : Claim State) → is_last_in a c.left ≡ true → list_any (is_last_in a) c.rights ≡ false → Separates (Accepts a) c empty
 empty_separates a c left rights =
@@ -195,15 +196,15 @@ empty_separates a c left rights =
 -- the choice trees of a table that stands keep the rules
 pub choices_keep : (a : Automaton) (ds : List Document) (t : TableView) → StandsOn a ds t → (i : ℕ) → AllByRecursion (KeepsRules a t (claim_of (row_at t.rows i))) (row_at t.rows i).choices
 choices_keep a ds t h i =
-    all_map (ChoiceStands a t i (claim_of (row_at t.rows i))) (KeepsRules a t (claim_of (row_at t.rows i))) (row_at t.rows i).choices
-    (λ k x. record {
+    all_map (StandsSomewhere a t (claim_of (row_at t.rows i))) (KeepsRules a t (claim_of (row_at t.rows i))) (row_at t.rows i).choices
+    (λ k s. let x = s.1 in record {
       head = x.head;
       found = x.found;
       tree = x.has.tree;
       stands = x.has.stands;
-      keeps = case_keeps t.rows a i (claim_of (row_at t.rows i)) x.head k.atom x.has.tree x.has.kind;
+      keeps = case_keeps t.rows a s.0 (claim_of (row_at t.rows i)) x.head k.atom x.has.tree x.has.kind;
     })
-    (h.choices i)
+    (choices_stand a ds t h i)
 
 pub empty_separated : (a : Automaton) (ds : List Document) (c : Claim State) (seq : Seq) → seq ≡ no_items → is_last_in a c.left ≡ true → list_any (is_last_in a) c.rights ≡ false → IsSeparatedBy a ds c seq
 empty_separated a ds c seq e left rights = rw e (record {

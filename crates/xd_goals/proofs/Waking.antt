@@ -5,24 +5,25 @@ use Rattle.std.proofs.lemmas.Bool.{cases_eq}
 use Rattle.xd_doc.specs.Stored.{IsBelow}
 use Rattle.xd_doc.specs.declared.store.Seq.{Seq}
 use Rattle.xd_goals.specs.Rows.{GoalRow, no_row, row_at, Leads, here, behind}
-use Rattle.xd_goals.specs.Kept.{IsSameClaim, IsWoken, IsWokenRow, Refutes, with_standing}
+use Rattle.xd_goals.specs.Kept.{IsInDoubt, IsSameClaim, IsWoken, IsWokenRow, Refutes, with_standing}
 use Rattle.xd_goals.specs.declared.table.Standing.TheVariants.{Holds, Refuted, Waiting}
+use Rattle.xd_goals.specs.declared.table.GoalCase.{GoalCase}
 use Rattle.xd_goals.specs.declared.table.Link.{Link}
 
 pub same_claim_row : (row : GoalRow) → IsSameClaim row row
-same_claim_row row = record { left = refl; rights = refl; choices = refl; dependents = refl }
+same_claim_row row = record { left = refl; rights = refl; choices = refl; dependents = refl; flags = refl; unbroken = λ place u. u }
 
 -- a number that falls along a list
 abbrev pub steps_left : Option ℕ → ℕ
 steps_left None = 0
 steps_left (Some k) = suc k
 
--- so far, up to a place of the list, goals that held wait, and of those that the list led to before it none holds
+-- so far, up to a place of the list, goals that held wait, and the cases that the list led to before it are in doubt
 pub record WakesTo (links : List Link) (first at : Option ℕ) (old new : List GoalRow) : Type 0 where
   pub count : length new ≡ length old
   pub same : (i : ℕ) → IsSameClaim (row_at old i) (row_at new i)
   pub others : (i : ℕ) → IsWokenRow (row_at old i) (row_at new i)
-  pub done : (i : ℕ) → Leads links i first → (¬ ((row_at new i).standing ≡ Holds)) ⊎ Leads links i at
+  pub done : (owner : GoalCase) → Leads links owner first → IsInDoubt (row_at new owner.goal.number) owner.place ⊎ Leads links owner at
   pub place : IsBelow (length links) at
 
 pub WakesTo-start : (links : List Link) (first : Option ℕ) (rows : List GoalRow) → IsBelow (length links) first → WakesTo links first first rows rows
@@ -40,6 +41,8 @@ same_claim_then a b c h k = record {
   rights = k.rights ∙ h.rights;
   choices = k.choices ∙ h.choices;
   dependents = k.dependents ∙ h.dependents;
+  flags = k.flags ∙ h.flags;
+  unbroken = λ place u. h.unbroken place (k.unbroken place u);
 }
 
 woken_then : (a b c : GoalRow) → IsWokenRow a b → IsWokenRow b c → IsWokenRow a c
@@ -54,28 +57,31 @@ woken_then a b c h k = ⊎_elim
 still_not : (a b : GoalRow) → IsWokenRow a b → ¬ (a.standing ≡ Holds) → ¬ (b.standing ≡ Holds)
 still_not a b h n f = ⊎_elim (λ s. n (sym s ∙ f)) (λ w. n w.0) h
 
+still_in_doubt : (a b : GoalRow) (place : ℕ) → IsWokenRow a b → IsSameClaim a b → IsInDoubt a place → IsInDoubt b place
+still_in_doubt a b place w s d = record { settled = still_not a b w d.settled; broken = λ u. d.broken (s.unbroken place u) }
+
 -- the list's next link
-pub Leads-next : (links : List Link) (goal place : ℕ) (link : Link) → slice_get links place ≡ Some link → Leads links goal (Some place) → (link.goal.number ≡ goal) ⊎ Leads links goal link.next
+pub Leads-next : (links : List Link) (goal : GoalCase) (place : ℕ) (link : Link) → slice_get links place ≡ Some link → Leads links goal (Some place) → (link.case ≡ goal) ⊎ Leads links goal link.next
 Leads-next links goal place link at h = by_cases (Some place) h refl
   where
-    by_cases : (o : Option ℕ) → Leads links goal o → o ≡ Some place → (link.goal.number ≡ goal) ⊎ Leads links goal link.next
+    by_cases : (o : Option ℕ) → Leads links goal o → o ≡ Some place → (link.case ≡ goal) ⊎ Leads links goal link.next
     by_cases o (here k l found is) e =
         let n : k ≡ place = cc in
         let same : l ≡ link = cc in
-        inl (subst (λ (w : Link). w.goal.number ≡ goal) same is)
+        inl (subst (λ (w : Link). w.case ≡ goal) same is)
     by_cases o (behind k l found b) e =
         let n : k ≡ place = cc in
         let same : l ≡ link = cc in
         inr (subst (λ (w : Link). Leads links goal w.next) same b)
 
 pub WakesTo-step : (links : List Link) (first : Option ℕ) (place : ℕ) (link : Link) (old mid new : List GoalRow) → slice_get links place ≡ Some link
-    → IsBelow (length links) link.next → WakesTo links first (Some place) old mid → IsWoken (λ k. k ≡ link.goal.number) mid new → WakesTo links first link.next old new
+    → IsBelow (length links) link.next → WakesTo links first (Some place) old mid → IsWoken (λ k. k ≡ link.case) mid new → WakesTo links first link.next old new
 WakesTo-step links first place link old mid new at below h k = record {
   count = k.count ∙ h.count;
   same = λ i. same_claim_then (row_at old i) (row_at mid i) (row_at new i) (h.same i) (k.same i);
   others = λ i. woken_then (row_at old i) (row_at mid i) (row_at new i) (h.others i) (k.others i);
   done = λ i l. ⊎_elim
-      (λ n. inl (still_not (row_at mid i) (row_at new i) (k.others i) n))
+      (λ n. inl (still_in_doubt (row_at mid i.goal.number) (row_at new i.goal.number) i.place (k.others i.goal.number) (k.same i.goal.number) n))
       (λ m. ⊎_elim (λ is. inl (k.these i (sym is))) (λ r. inr r) (Leads-next links i place link at m))
       (h.done i l);
   place = below;
@@ -89,7 +95,7 @@ WakesTo-end links first old new h = record {
   these = λ i l. ⊎_elim (λ n. n) (λ m. absurd (leads_none None refl m)) (h.done i l);
 }
   where
-    leads_none : (o : Option ℕ) → o ≡ None → {i : ℕ} → Leads links i o → ⊥
+    leads_none : (o : Option ℕ) → o ≡ None → {i : GoalCase} → Leads links i o → ⊥
     leads_none o e (here k l at is) = absurd (cc)
     leads_none o e (behind k l at b) = absurd (cc)
 
@@ -115,7 +121,7 @@ Refutes-steps links goal seq old mid new lt e k = record {
 
     first_same : (i : ℕ) → IsSameClaim (row_at old i) (row_at mid i)
     first_same i = ⊎_elim
-        (λ q. subst (λ (n : ℕ). IsSameClaim (row_at old n) (row_at mid n)) (sym q) (subst (λ (r : GoalRow). IsSameClaim (row_at old goal) r) (sym here_is) (record { left = refl; rights = refl; choices = refl; dependents = refl })))
+        (λ q. subst (λ (n : ℕ). IsSameClaim (row_at old n) (row_at mid n)) (sym q) (subst (λ (r : GoalRow). IsSameClaim (row_at old goal) r) (sym here_is) (record { left = refl; rights = refl; choices = refl; dependents = refl; flags = refl; unbroken = λ place u. u })))
         (λ ne. subst (λ (r : GoalRow). IsSameClaim (row_at old i) r) (sym (other_is i ne)) (same_claim_row (row_at old i)))
         (cases_eq i goal)
 

@@ -1,7 +1,7 @@
 -- Work on the cases of a goal.
-use Rattle.std.proofs.Common.{ℕ, zero, suc, ◌+◌, ◌<◌, ◌≤◌, ◌≡◌, Bool, true, false, cond, List, [], ◌∷◌, ◌++◌, length, take, map, get_or, Some, Result, Ok, Err, IfOk, inl, inr, sym, refl, ap, subst, ◌∙◌, arith}
+use Rattle.std.proofs.Common.{ℕ, zero, suc, ◌+◌, ◌<◌, ◌≤◌, ◌≡◌, Bool, true, false, cond, List, [], ◌∷◌, ◌++◌, length, take, map, get_or, Some, Result, Ok, Err, IfOk, inl, inr, ⊎_elim, sym, refl, ap, subst, ◌∙◌, arith}
 use Rattle.std.specs.List.{AllByRecursion, All, flat_map, list_any}
-use Rattle.std.proofs.lemmas.List.{map-append}
+use Rattle.std.proofs.lemmas.List.{length-map, length-take-le, map-append}
 use Rattle.std.proofs.lemmas.Option.{slice_get_within, get_or_from_slice_get}
 use Rattle.xd_doc.specs.Document.{Document}
 use Rattle.xd_doc.specs.declared.store.Seq.{Seq}
@@ -16,7 +16,7 @@ use Rattle.xd_rules.specs.Heads.{Head, matches, is_text_atom}
 use Rattle.xd_rules.specs.Rules.{Claim, CaseKey, ChoiceTree, ContentLeaf, RestLeaf, SplitOn, AllLeaves, head_number}
 use Rattle.xd_rules.proofs.Members.{get-one_of, one_of-all, one_of-append_cases, one_of-from_map, one_of-from_flat_map, one_of-head_number}
 use Rattle.xd_goals.specs.Moves.{claim_with, heads_of, is_last_in, label_head, text_head, with_state}
-use Rattle.xd_goals.specs.Rows.{GoalRow, TableView, IsRefuted, choice_key}
+use Rattle.xd_goals.specs.Rows.{GoalRow, TableView, IsRefuted, choice_key, goal_case}
 use Rattle.xd_goals.specs.Kept.{Grows}
 use Rattle.xd_goals.specs.Trees.{HasTree, HasOpenTree, IsGrown, IsTextTree, gathered, IsTreeBySort, IsFailureBySort, IsPathBelow, GrownAs, matching_sides, side_at}
 use Rattle.xd_goals.specs.Standing.{ChoiceStands, IsOpen, IsCaseTree, RowHolds, claim_sides, task_for}
@@ -27,8 +27,8 @@ use Rattle.xd_goals.specs.declared.grow.Task.{Task}
 use Rattle.xd_goals.specs.declared.grow.Grown.{Grown}
 use Rattle.xd_goals.specs.declared.grow.Grown.TheVariants.{Stands, Fails}
 use Rattle.xd_goals.specs.declared.table.Choice.{Choice}
-use Rattle.xd_goals.specs.declared.table.GoalId.{GoalId}
-use Rattle.xd_goals.proofs.Lists.{all_map, all_push, map-take_more}
+use Rattle.xd_goals.specs.declared.table.GoalCase.{GoalCase}
+use Rattle.xd_goals.proofs.Lists.{all_places, map-take_more, slice_get-push_cases}
 use Rattle.xd_goals.proofs.Growing.{claim_within}
 use Rattle.xd_goals.proofs.Facts.{choice-grows, open_choice-grows}
 use Rattle.xd_goals.proofs.Trees.{StandsAt-one}
@@ -70,12 +70,12 @@ sides_below a closed rights are atom =
     (λ h m. let r = one_of-from_flat_map (heads_of a) h rights m in heads_below a closed r.0 (one_of-all (IsState a) r.0 rights are r.1) h r.2)
 
 -- a case as the code sees it: what its head says of the content and the rest, and the right heads that match
-module _ (a : Automaton) (owner : GoalId) (c : Claim State) (number : ℕ) (atom : Atom) (content rest : State) (has : HasHead a c.left number content rest) (states : ℕ) (count : states ≡ length a)
+module _ (a : Automaton) (owner : GoalCase) (c : Claim State) (number : ℕ) (atom : Atom) (content rest : State) (has : HasHead a c.left number content rest) (states : ℕ) (count : states ≡ length a)
     (sides : List Side) (same_sides : sides ≡ claim_sides a c atom) where
   abbrev pub task_of : Task
   task_of = record { owner = owner; content = content; rest = rest; states = states }
 
-  task_is : task_of ≡ task_for a owner.number has.of_head
+  task_is : task_of ≡ task_for a owner has.of_head
   task_is =
       ap (λ (s : State). record { owner = owner; content = s; rest = rest; states = states }) has.content_is
       ∙ ap (λ (s : State). record { owner = owner; content = has.of_head.content; rest = s; states = states }) has.rest_is
@@ -95,28 +95,28 @@ module _ (a : Automaton) (owner : GoalId) (c : Claim State) (number : ℕ) (atom
         rests_order = tt;
       }
 
-  tree_to : (text : Bool) → is_text_atom atom ≡ text → (rows : List GoalRow) (tree : ChoiceTree) → IsTreeBySort text rows task_of sides tree → IsCaseTree a rows owner.number c has.of_head atom tree
+  tree_to : (text : Bool) → is_text_atom atom ≡ text → (rows : List GoalRow) (tree : ChoiceTree) → IsTreeBySort text rows task_of sides tree → IsCaseTree a rows owner c has.of_head atom tree
   tree_to text is rows tree k =
-      subst (λ (b : Bool). IsTreeBySort b rows (task_for a owner.number has.of_head) (claim_sides a c atom) tree) (sym is)
-      (subst (λ (ss : List Side). IsTreeBySort text rows (task_for a owner.number has.of_head) ss tree) same_sides
+      subst (λ (b : Bool). IsTreeBySort b rows (task_for a owner has.of_head) (claim_sides a c atom) tree) (sym is)
+      (subst (λ (ss : List Side). IsTreeBySort text rows (task_for a owner has.of_head) ss tree) same_sides
       (subst (λ (t : Task). IsTreeBySort text rows t sides tree) task_is k))
 
-  tree_from : (text : Bool) → is_text_atom atom ≡ text → (rows : List GoalRow) (tree : ChoiceTree) → IsCaseTree a rows owner.number c has.of_head atom tree → IsTreeBySort text rows task_of sides tree
+  tree_from : (text : Bool) → is_text_atom atom ≡ text → (rows : List GoalRow) (tree : ChoiceTree) → IsCaseTree a rows owner c has.of_head atom tree → IsTreeBySort text rows task_of sides tree
   tree_from text is rows tree k =
       subst (λ (t : Task). IsTreeBySort text rows t sides tree) (sym task_is)
-      (subst (λ (ss : List Side). IsTreeBySort text rows (task_for a owner.number has.of_head) ss tree) (sym same_sides)
-      (subst (λ (b : Bool). IsTreeBySort b rows (task_for a owner.number has.of_head) (claim_sides a c atom) tree) is k))
+      (subst (λ (ss : List Side). IsTreeBySort text rows (task_for a owner has.of_head) ss tree) (sym same_sides)
+      (subst (λ (b : Bool). IsTreeBySort b rows (task_for a owner has.of_head) (claim_sides a c atom) tree) is k))
 
   failure_to : (text : Bool) → is_text_atom atom ≡ text → (ds : List Document) (rows : List GoalRow) (inside behind : Seq) → IsFailureBySort text a ds rows task_of sides inside behind
-      → IsFailureBySort (is_text_atom atom) a ds rows (task_for a owner.number has.of_head) (claim_sides a c atom) inside behind
+      → IsFailureBySort (is_text_atom atom) a ds rows (task_for a owner has.of_head) (claim_sides a c atom) inside behind
   failure_to text is ds rows inside behind k =
-      subst (λ (b : Bool). IsFailureBySort b a ds rows (task_for a owner.number has.of_head) (claim_sides a c atom) inside behind) (sym is)
-      (subst (λ (ss : List Side). IsFailureBySort text a ds rows (task_for a owner.number has.of_head) ss inside behind) same_sides
+      subst (λ (b : Bool). IsFailureBySort b a ds rows (task_for a owner has.of_head) (claim_sides a c atom) inside behind) (sym is)
+      (subst (λ (ss : List Side). IsFailureBySort text a ds rows (task_for a owner has.of_head) ss inside behind) same_sides
       (subst (λ (t : Task). IsFailureBySort text a ds rows t sides inside behind) task_is k))
 
   -- what was grown is a case
   module _ (matched : matches has.of_head.kind atom ≡ true) (text : Bool) (is : is_text_atom atom ≡ text) (ds : List Document) (t : TableView) where
-    case_stands : (root : ℕ) → HasOpenTree t (IsTreeBySort text t.rows task_of sides) owner.number root → IsOpenChoice a t owner.number c (record { head = number; atom = atom; root = root })
+    case_stands : (root : ℕ) → HasOpenTree t (IsTreeBySort text t.rows task_of sides) owner root → IsOpenChoice a t owner c (record { head = number; atom = atom; root = root })
     case_stands root k = record {
       stands = record {
         head = has.of_head;
@@ -127,24 +127,25 @@ module _ (a : Automaton) (owner : GoalId) (c : Claim State) (number : ℕ) (atom
       opens = λ other s. subst (λ (x : ChoiceTree). AllLeaves (λ n. ¬ (IsRefuted t.rows n)) x) (StandsAt-one t.nodes k.has.tree other root k.has.stands s) k.open_;
     }
 
-    case_fails : (inside behind : Seq) → IsFailureBySort text a ds t.rows task_of sides inside behind → FailsAt a ds t owner.number c atom inside behind
+    case_fails : (inside behind : Seq) → IsFailureBySort text a ds t.rows task_of sides inside behind → FailsAt a ds t c atom inside behind
     case_fails inside behind k = record {
+      owner = owner;
       of_head = has.of_head;
       among = one_of-head_number has.of_head (heads_of a c.left) number has.found;
       matched = matched;
       fails = failure_to text is ds t.rows inside behind k;
     }
 
-    by_case : (g : Grown) → GrownAs (HasOpenTree t (IsTreeBySort text t.rows task_of sides) owner.number) (IsFailureBySort text a ds t.rows task_of sides) g → IsCaseGrown a ds t owner.number c number atom g
+    by_case : (g : Grown) → GrownAs (HasOpenTree t (IsTreeBySort text t.rows task_of sides) owner) (IsFailureBySort text a ds t.rows task_of sides) g → IsCaseGrown a ds t owner c number atom g
     by_case (Stands root) k = case_stands root k
     by_case (Fails inside behind) k = case_fails inside behind k
 
-    pub case_grown : {E : Type 0} (r : Result Grown E) → IfOk r (GrownAs (HasOpenTree t (IsTreeBySort text t.rows task_of sides) owner.number) (IsFailureBySort text a ds t.rows task_of sides)) → IfOk r (IsCaseGrown a ds t owner.number c number atom)
+    pub case_grown : {E : Type 0} (r : Result Grown E) → IfOk r (GrownAs (HasOpenTree t (IsTreeBySort text t.rows task_of sides) owner) (IsFailureBySort text a ds t.rows task_of sides)) → IfOk r (IsCaseGrown a ds t owner c number atom)
     case_grown (Ok g) k = by_case g k
     case_grown (Err e) k = tt
 
   -- the tree that a choice has
-  pub case_tree : (text : Bool) → is_text_atom atom ≡ text → (t : TableView) (root : ℕ) → ChoiceStands a t owner.number c (record { head = number; atom = atom; root = root }) → HasTree t (IsTreeBySort text t.rows task_of sides) owner.number root
+  pub case_tree : (text : Bool) → is_text_atom atom ≡ text → (t : TableView) (root : ℕ) → ChoiceStands a t owner c (record { head = number; atom = atom; root = root }) → HasTree t (IsTreeBySort text t.rows task_of sides) owner root
   case_tree text is t root k =
       let found = has.found in
       let other = k.found in
@@ -152,7 +153,7 @@ module _ (a : Automaton) (owner : GoalId) (c : Claim State) (number : ℕ) (atom
       record {
         tree = k.has.tree;
         stands = k.has.stands;
-        kind = tree_from text is t.rows k.has.tree (subst (λ (h : Head State). IsCaseTree a t.rows owner.number c h atom k.has.tree) same k.has.kind);
+        kind = tree_from text is t.rows k.has.tree (subst (λ (h : Head State). IsCaseTree a t.rows owner c h atom k.has.tree) same k.has.kind);
         listed = k.has.listed;
       }
 
@@ -161,7 +162,7 @@ pub head_within : (hs : List (Head State)) (number : ℕ) (h : Head State) → h
 head_within hs zero h e = absurd (cc)
 head_within hs (suc k) h e = let w = slice_get_within hs k h e in (omega arith, omega arith)
 
-pub same_head : (a : Automaton) (owner : ℕ) (c : Claim State) (t : TableView) (k : Choice) (x y : State) → ChoiceStands a t owner c k → (has : HasHead a c.left k.head x y) → matches has.of_head.kind k.atom ≡ true
+pub same_head : (a : Automaton) (owner : GoalCase) (c : Claim State) (t : TableView) (k : Choice) (x y : State) → ChoiceStands a t owner c k → (has : HasHead a c.left k.head x y) → matches has.of_head.kind k.atom ≡ true
 same_head a owner c t k x y s has =
     let one = s.found in
     let two = has.found in
@@ -169,7 +170,7 @@ same_head a owner c t k x y s has =
     subst (λ (h : Head State). matches h.kind k.atom ≡ true) same s.matched
 
 -- the leaves of a choice's tree name goals that are there
-pub leaves_there : (a : Automaton) (t : TableView) (owner : ℕ) (c : Claim State) (k : Choice) → ChoiceStands a t owner c k → HasTreeWithin t.nodes (length t.rows) k.root
+pub leaves_there : (a : Automaton) (t : TableView) (owner : GoalCase) (c : Claim State) (k : Choice) → ChoiceStands a t owner c k → HasTreeWithin t.nodes (length t.rows) k.root
 leaves_there a t owner c k h = record { tree = h.has.tree; stands = h.has.stands; within = go (is_text_atom k.atom) h.has.tree h.has.kind }
   where
     grown : (tree : ChoiceTree) (contents rests : List State) → IsGrown t.rows (task_for a owner h.head) (claim_sides a c k.atom) tree contents rests → AllLeaves (λ g. g < length t.rows) tree
@@ -187,28 +188,27 @@ leaves_there a t owner c k h = record { tree = h.has.tree; stands = h.has.stands
     go false tree x = grown tree [] [] x
 
 -- one more choice
-module _ (a : Automaton) (s t : TableView) (g : Grows s t) (owner : ℕ) (c : Claim State) where
-  open_choice_still : (k : Choice) → IsOpenChoice a s owner c k → IsOpenChoice a t owner c k
-  open_choice_still k h = record { stands = choice-grows a s t g owner c k h.stands; opens = open_choice-grows a s t g owner c k h.stands h.opens }
+module _ (a : Automaton) (s t : TableView) (g : Grows s t) (goal : ℕ) (c : Claim State) where
+  open_choice_still : (owner : GoalCase) (k : Choice) → IsOpenChoice a s owner c k → IsOpenChoice a t owner c k
+  open_choice_still owner k h = record { stands = choice-grows a s t g owner c k h.stands; opens = open_choice-grows a s t g owner c k h.stands h.opens }
 
   pub begun_more : {X : Type 0} (key : X → CaseKey) (xs : List X) (i : ℕ) (x : X) (made made2 : List Choice) (k : Choice) → i < length xs → x ≡ get_or xs i x → choice_key k ≡ key x
-      → AreBegun a s owner c (map key (take i xs)) made → IsOpenChoice a t owner c k → made2 ≡ made ++ k ∷ [] → AreBegun a t owner c (map key (take (i + 1) xs)) made2
-  begun_more key xs i x made made2 k lt e same h o m = subst (λ (ks : List Choice). AreBegun a t owner c (map key (take (i + 1) xs)) ks) (sym m) (record {
+      → AreBegun a s goal c (map key (take i xs)) made → IsOpenChoice a t (goal_case goal i) c k → made2 ≡ made ++ k ∷ [] → AreBegun a t goal c (map key (take (i + 1) xs)) made2
+  begun_more key xs i x made made2 k lt e same h o m = subst (λ (ks : List Choice). AreBegun a t goal c (map key (take (i + 1) xs)) ks) (sym m) (record {
     keys_are = map-append choice_key made (k ∷ []) ∙ ap (λ (ks : List CaseKey). ks ++ choice_key k ∷ []) h.keys_are ∙ ap (λ (q : CaseKey). map key (take i xs) ++ q ∷ []) same
         ∙ sym (map-take_more key xs i x lt e);
-    open_choices = all_push (IsOpenChoice a t owner c) made k (all_map (IsOpenChoice a s owner c) (IsOpenChoice a t owner c) made open_choice_still h.open_choices) o;
+    open_choices = λ place y at. ⊎_elim
+        (λ old. open_choice_still (goal_case goal place) y (h.open_choices place y old))
+        (λ q. subst (λ (n : ℕ). IsOpenChoice a t (goal_case goal n) c y) (sym (q.0 ∙ count)) (subst (λ (w : Choice). IsOpenChoice a t (goal_case goal i) c w) q.1 o))
+        (slice_get-push_cases made k y place at);
   })
-
--- the choices stand while the table grows
-pub choices_still : (a : Automaton) (s t : TableView) → Grows s t → (owner : ℕ) (c : Claim State) (ks : List Choice) → AllByRecursion (ChoiceStands a s owner c) ks → AllByRecursion (ChoiceStands a t owner c) ks
-choices_still a s t g owner c ks h = all_map (ChoiceStands a s owner c) (ChoiceStands a t owner c) ks (λ k x. choice-grows a s t g owner c k x) h
+    where
+      count : length made ≡ i
+      count = sym (length-map made choice_key) ∙ ap length h.keys_are ∙ length-map (take i xs) key ∙ length-take-le i xs (omega arith)
 
 -- a goal whose cases are all settled holds
-pub settled_stands : (a : Automaton) (t : TableView) (owner : ℕ) (c : Claim State) (ks : List Choice) → AreSettled a t owner c ks → AllByRecursion (ChoiceStands a t owner c) ks
-settled_stands a t owner c ks h = all_map (IsOpenChoice a t owner c) (ChoiceStands a t owner c) ks (λ k x. x.stands) h.open_choices
-
-pub settled_holds : (a : Automaton) (t : TableView) (owner : ℕ) (c : Claim State) (ks : List Choice) → (is_last_in a c.left ≡ true → list_any (is_last_in a) c.rights ≡ true) → AreSettled a t owner c ks → RowHolds a t c ks
-settled_holds a t owner c ks last h = record {
+pub settled_holds : (a : Automaton) (t : TableView) (goal : ℕ) (c : Claim State) (ks : List Choice) → (is_last_in a c.left ≡ true → list_any (is_last_in a) c.rights ≡ true) → AreSettled a t goal c ks → RowHolds a t c ks
+settled_holds a t goal c ks last h = record {
   begun = record { last = last; named = h.named; names = h.names; complete = h.complete };
-  opens = all_map (IsOpenChoice a t owner c) (IsOpen t) ks (λ k x. x.opens) h.open_choices;
+  opens = all_places (IsOpen t) ks (λ place k e. (h.open_choices place k e).opens);
 }

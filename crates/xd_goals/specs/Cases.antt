@@ -1,6 +1,6 @@
 -- The cases of a goal as work on it sees them. Only private contracts speak of them.
-use Rattle.std.specs.Prelude.{◌≡◌, ℕ, suc, true, false, List, [], ◌∷◌, ◌++◌, map, Some}
-use Rattle.std.specs.List.{AllByRecursion, list_any}
+use Rattle.std.specs.Prelude.{◌≡◌, ℕ, suc, ◌≤◌, true, false, List, [], ◌∷◌, ◌++◌, length, map, Option, None, Some, slice_get}
+use Rattle.std.specs.List.{list_any}
 use Rattle.xd_doc.specs.Document.{Document, text, element}
 use Rattle.xd_doc.specs.Classes.{NameClass, class_has}
 use Rattle.xd_doc.specs.declared.store.Seq.{Seq}
@@ -13,13 +13,16 @@ use Rattle.xd_rules.specs.Members.{IsOneOf}
 use Rattle.xd_rules.specs.Heads.{Head, Named, AreNames, atoms_of, label_names, text_names, matches, is_text_atom}
 use Rattle.xd_rules.specs.Rules.{CaseKey, Claim, head_number, keyed, right_heads, wanted_cases}
 use Rattle.xd_goals.specs.Moves.{heads_of, is_last_in}
-use Rattle.xd_goals.specs.Rows.{TableView, choice_key}
+use Rattle.xd_goals.specs.Rows.{TableView, choice_key, claim_of, goal_case, row_at, IsUnbroken}
+use Rattle.xd_goals.specs.Measure.{AreMadeFrom, potential}
 use Rattle.xd_goals.specs.Trees.{IsFailureBySort}
-use Rattle.xd_goals.specs.Standing.{ChoiceStands, IsOpen, claim_sides, task_for}
+use Rattle.xd_goals.specs.Standing.{ChoiceStands, IsOpen, KeepsGoals, claim_sides, task_for}
 use Rattle.xd_goals.specs.declared.heads.Want.{Want}
 use Rattle.xd_goals.specs.declared.grow.Grown.{Grown}
 use Rattle.xd_goals.specs.declared.grow.Grown.TheVariants.{Stands, Fails}
 use Rattle.xd_goals.specs.declared.table.Choice.{Choice}
+use Rattle.xd_goals.specs.declared.table.GoalCase.{GoalCase}
+use Rattle.xd_goals.specs.declared.work.Failure.{Failure}
 use Rattle.xd_goals.specs.declared.work.Settled.{Settled}
 use Rattle.xd_goals.specs.declared.work.Settled.TheVariants.{Holds, Separates}
 
@@ -74,7 +77,8 @@ pub record IsCaseOf (a : Automaton) (left : State) (w : Want) : Type 0 where
   pub matched : matches has.of_head.kind w.atom ≡ true
 
 -- an atom of a head of the left, where a content and a rest are those of a document that no right head takes
-pub record FailsAt (a : Automaton) (ds : List Document) (t : TableView) (owner : ℕ) (c : Claim State) (atom : Atom) (inside behind : Seq) : Type 0 where
+pub record FailsAt (a : Automaton) (ds : List Document) (t : TableView) (c : Claim State) (atom : Atom) (inside behind : Seq) : Type 0 where
+  pub owner : GoalCase
   pub of_head : Head State
   pub among : IsOneOf of_head (heads_of a c.left)
   pub matched : matches of_head.kind atom ≡ true
@@ -86,27 +90,41 @@ pub record IsUncovered (a : Automaton) (left : State) (rights : List State) : Ty
   pub rights_not : list_any (is_last_in a) rights ≡ false
 
 -- a choice that stands, with an open tree
-pub record IsOpenChoice (a : Automaton) (t : TableView) (owner : ℕ) (c : Claim State) (k : Choice) : Type 0 where
+pub record IsOpenChoice (a : Automaton) (t : TableView) (owner : GoalCase) (c : Claim State) (k : Choice) : Type 0 where
   pub stands : ChoiceStands a t owner c k
   pub opens : IsOpen t k
 
 -- a case was settled: by a tree, or by documents
-abbrev pub IsCaseGrown : Automaton → List Document → TableView → ℕ → Claim State → ℕ → Atom → Grown → Type 0
+abbrev pub IsCaseGrown : Automaton → List Document → TableView → GoalCase → Claim State → ℕ → Atom → Grown → Type 0
 IsCaseGrown a ds t owner c head atom (Stands root) = IsOpenChoice a t owner c (record { head = head; atom = atom; root = root })
-IsCaseGrown a ds t owner c head atom (Fails inside behind) = FailsAt a ds t owner c atom inside behind
+IsCaseGrown a ds t owner c head atom (Fails inside behind) = FailsAt a ds t c atom inside behind
 
 -- there are open trees for all cases of a goal
-pub record AreSettled (a : Automaton) (t : TableView) (owner : ℕ) (c : Claim State) (choices : List Choice) : Type 0 where
+pub record AreSettled (a : Automaton) (t : TableView) (goal : ℕ) (c : Claim State) (choices : List Choice) : Type 0 where
   pub named : Named
   pub names : AreNames (heads_of a c.left ++ right_heads (heads_of a) c) named
   pub complete : map choice_key choices ≡ wanted_cases named 1 (heads_of a c.left)
-  pub open_choices : AllByRecursion (IsOpenChoice a t owner c) choices
+  pub open_choices : (place : ℕ) (k : Choice) → slice_get choices place ≡ Some k → IsOpenChoice a t (goal_case goal place) c k
 
 abbrev pub IsSettling : Automaton → List Document → TableView → ℕ → Claim State → Settled → Type 0
-IsSettling a ds t owner c (Holds made) = AreSettled a t owner c made.items
-IsSettling a ds t owner c (Separates atom inside behind) = FailsAt a ds t owner c atom inside behind
+IsSettling a ds t goal c (Holds made) = AreSettled a t goal c made.items
+IsSettling a ds t goal c (Separates atom inside behind) = FailsAt a ds t c atom inside behind
+
+-- cases of a goal were repaired, and perhaps goals were added: it waits as it did, and no case became doubtful
+pub record IsMending (goal : ℕ) (old new : TableView) : Type 0 where
+  pub kept : KeepsGoals old new
+  pub made : AreMadeFrom (length old.rows) new.rows
+  pub level : (n : ℕ) → potential n new.rows ≤ potential n old.rows
+  pub standing : (row_at new.rows goal).standing ≡ (row_at old.rows goal).standing
+  pub flags : length (row_at new.rows goal).broken ≡ length (row_at old.rows goal).broken
+  pub unbroken : (place : ℕ) → IsUnbroken (row_at old.rows goal) place → IsUnbroken (row_at new.rows goal) place
+
+-- a case was repaired, or fails
+abbrev pub IsMended : Automaton → List Document → TableView → GoalCase → Option Failure → Type 0
+IsMended a ds t owner None = IsUnbroken (row_at t.rows owner.goal.number) owner.place
+IsMended a ds t owner (Some f) = FailsAt a ds t (claim_of (row_at t.rows owner.goal.number)) f.atom f.inside f.behind
 
 -- open trees for the first cases
-pub record AreBegun (a : Automaton) (t : TableView) (owner : ℕ) (c : Claim State) (keys : List CaseKey) (choices : List Choice) : Type 0 where
+pub record AreBegun (a : Automaton) (t : TableView) (goal : ℕ) (c : Claim State) (keys : List CaseKey) (choices : List Choice) : Type 0 where
   pub keys_are : map choice_key choices ≡ keys
-  pub open_choices : AllByRecursion (IsOpenChoice a t owner c) choices
+  pub open_choices : (place : ℕ) (k : Choice) → slice_get choices place ≡ Some k → IsOpenChoice a t (goal_case goal place) c k

@@ -1,17 +1,19 @@
 -- What a table keeps about itself, and how it grows. Of what follows only private contracts speak.
-use Rattle.std.specs.Prelude.{◌≡◌, ℕ, ◌<◌, ◌≤◌, ◌⊎◌, List, [], length, Option, Some, slice_get}
+use Rattle.std.specs.Prelude.{◌≡◌, ℕ, ◌<◌, ◌≤◌, ◌⊎◌, true, false, List, [], length, Option, Some, slice_get, slice_set}
 use Rattle.std.specs.Ordering.{nat_cmp}
 use Rattle.std.specs.Cmp.Lexicographic.{slice_cmp}
 use Rattle.std.specs.BTreeMap.{BTreeMap, get}
 use Rattle.xd_doc.specs.Stored.{IsBelow}
 use Rattle.xd_auto.specs.declared.auto.State.{State}
 use Rattle.xd_goals.specs.Moves.{IsInOrder}
-use Rattle.xd_goals.specs.Rows.{GoalRow, TableView, row_at, claim_of, claim_key, IsListed, Leads, RowsBelow}
+use Rattle.xd_goals.specs.Rows.{GoalRow, TableView, row_at, claim_of, claim_key, IsListed, IsUnbroken, Leads, RowsBelow}
+use Rattle.xd_goals.specs.declared.table.Choice.{Choice}
 use Rattle.xd_goals.specs.declared.table.ChoiceNode.{ChoiceNode}
 use Rattle.xd_doc.specs.declared.store.Seq.{Seq}
 use Rattle.xd_goals.specs.declared.table.Standing.{Standing}
 use Rattle.xd_goals.specs.declared.table.Standing.TheVariants.{Holds, Refuted, Waiting}
 use Rattle.xd_goals.specs.declared.table.Link.{Link}
+use Rattle.xd_goals.specs.declared.table.GoalCase.{GoalCase}
 use Rattle.xd_goals.specs.declared.goals.Goals.{Goals}
 
 abbrev pub view_of : Goals → TableView
@@ -30,7 +32,7 @@ pub record IsIndexed (found : BTreeMap (List ℕ) ℕ) (rows : List GoalRow) : T
 pub record AreLinked (rows : List GoalRow) (links : List Link) : Type 0 where
   pub first : (i : ℕ) → IsBelow (length links) (row_at rows i).dependents
   pub next : (k : ℕ) (l : Link) → slice_get links k ≡ Some l → IsBelow k l.next
-  pub goals : (k : ℕ) (l : Link) → slice_get links k ≡ Some l → l.goal.number < length rows
+  pub goals : (k : ℕ) (l : Link) → slice_get links k ≡ Some l → l.case.goal.number < length rows
 
 pub record IsWhole (g : Goals) : Type 0 where
   pub index : IsIndexed g.found g.rows.items
@@ -48,11 +50,13 @@ pub record IsSameGoal (old new : GoalRow) : Type 0 where
   pub rights : new.rights ≡ old.rights
   pub standing : new.standing ≡ old.standing
   pub choices : new.choices ≡ old.choices
+  pub broken : new.broken ≡ old.broken
 
 -- nothing is known of it yet
 pub record IsNew (row : GoalRow) : Type 0 where
   pub standing : row.standing ≡ Waiting
   pub choices : row.choices ≡ []
+  pub broken : row.broken ≡ []
 
 -- goals with such rights, nodes and dependents were added, and nothing else has changed
 pub record GrowsBy (Allows : List State → Type 0) (old new : TableView) : Type 0 where
@@ -61,7 +65,7 @@ pub record GrowsBy (Allows : List State → Type 0) (old new : TableView) : Type
   pub added : (i : ℕ) → length old.rows ≤ i → IsNew (row_at new.rows i)
   pub allowed : (i : ℕ) → length old.rows ≤ i → i < length new.rows → Allows (row_at new.rows i).rights
   pub nodes : (n : ℕ) (node : ChoiceNode) → slice_get old.nodes n ≡ Some node → slice_get new.nodes n ≡ Some node
-  pub listed : (on goal : ℕ) → IsListed old on goal → IsListed new on goal
+  pub listed : (on : ℕ) (owner : GoalCase) → IsListed old on owner → IsListed new on owner
 
 -- the rights are these
 abbrev pub AreThese : List State → List State → Type 0
@@ -71,39 +75,54 @@ AreThese rights added = added ≡ rights
 abbrev pub Grows : TableView → TableView → Type 0
 Grows old new = GrowsBy IsInOrder old new
 
--- the list's first link stands for the goal
-pub record BeginsWith (links : List Link) (first : Option ℕ) (goal : ℕ) : Type 0 where
+-- the list's first link stands for the case
+pub record BeginsWith (links : List Link) (first : Option ℕ) (owner : GoalCase) : Type 0 where
   pub place : ℕ
   pub link : Link
   pub is_first : first ≡ Some place
   pub found : slice_get links place ≡ Some link
-  pub is_goal : link.goal.number ≡ goal
+  pub is_case : link.case ≡ owner
 
 abbrev pub with_standing : Standing → GoalRow → GoalRow
 with_standing standing row = record row { standing = standing }
 
--- the same but for how far it is settled
+-- the row with the flag of a case set, where the case is there
+abbrev pub with_flag : ℕ → GoalRow → GoalRow
+with_flag place row = record row { broken = slice_set row.broken place true }
+
+-- the row with another choice at a place, whose flag isn't set
+abbrev pub with_choice : ℕ → Choice → GoalRow → GoalRow
+with_choice place k row = record row { choices = slice_set row.choices place k; broken = slice_set row.broken place false }
+
+-- the same but for how far it is settled, and for flags that were set
 pub record IsSameClaim (old new : GoalRow) : Type 0 where
   pub left : new.left ≡ old.left
   pub rights : new.rights ≡ old.rights
   pub choices : new.choices ≡ old.choices
   pub dependents : new.dependents ≡ old.dependents
+  pub flags : length new.broken ≡ length old.broken
+  pub unbroken : (place : ℕ) → IsUnbroken new place → IsUnbroken old place
 
 -- it stands as it did, or held and waits
 abbrev pub IsWokenRow : GoalRow → GoalRow → Type 0
 IsWokenRow old new = (new.standing ≡ old.standing) ⊎ ((old.standing ≡ Holds) × (new.standing ≡ Waiting))
 
--- goals that held wait; of these, none holds any more
-pub record IsWoken (These : ℕ → Type 0) (old new : List GoalRow) : Type 0 where
+-- the goal doesn't hold, and work on it looks at the case
+pub record IsInDoubt (row : GoalRow) (place : ℕ) : Type 0 where
+  pub settled : ¬ (row.standing ≡ Holds)
+  pub broken : ¬ (IsUnbroken row place)
+
+-- goals that held wait; of these cases, each is in doubt
+pub record IsWoken (These : GoalCase → Type 0) (old new : List GoalRow) : Type 0 where
   pub count : length new ≡ length old
   pub same : (i : ℕ) → IsSameClaim (row_at old i) (row_at new i)
   pub others : (i : ℕ) → IsWokenRow (row_at old i) (row_at new i)
-  pub these : (i : ℕ) → These i → ¬ ((row_at new i).standing ≡ Holds)
+  pub these : (owner : GoalCase) → These owner → IsInDoubt (row_at new owner.goal.number) owner.place
 
--- the goal is refuted by the document, and none of its dependents holds any more
+-- the goal is refuted by the document, and each case that depends on it is in doubt
 pub record Refutes (links : List Link) (goal : ℕ) (seq : Seq) (old new : List GoalRow) : Type 0 where
   pub count : length new ≡ length old
   pub same : (i : ℕ) → IsSameClaim (row_at old i) (row_at new i)
   pub goal_is : (row_at new goal).standing ≡ Refuted seq
   pub others : (i : ℕ) → ¬ (i ≡ goal) → IsWokenRow (row_at old i) (row_at new i)
-  pub dependents : (i : ℕ) → Leads links i (row_at old goal).dependents → ¬ ((row_at new i).standing ≡ Holds)
+  pub dependents : (owner : GoalCase) → Leads links owner (row_at old goal).dependents → IsInDoubt (row_at new owner.goal.number) owner.place

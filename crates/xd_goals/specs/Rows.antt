@@ -1,21 +1,23 @@
 -- What contracts see of a table: its goals, the nodes of its choice trees, and the links of its lists of dependents.
-use Rattle.std.specs.Prelude.{◌≡◌, ℕ, ◌<◌, List, [], ◌∷◌, map, length, Option, Some, None, slice_get, slice_index_or, option_map}
+use Rattle.std.specs.Prelude.{◌≡◌, ℕ, ◌<◌, Bool, false, List, [], ◌∷◌, map, length, Option, Some, None, slice_get, slice_index_or, option_map}
 use Rattle.xd_doc.specs.declared.store.Seq.{Seq}
 use Rattle.xd_auto.specs.declared.auto.State.{State}
 use Rattle.xd_rules.specs.Rules.{Claim, CaseKey, keyed}
 use Rattle.xd_goals.specs.Moves.{AreBelow}
 use Rattle.xd_goals.specs.declared.table.Choice.{Choice}
 use Rattle.xd_goals.specs.declared.table.ChoiceNode.{ChoiceNode}
+use Rattle.xd_goals.specs.declared.table.GoalCase.{GoalCase}
 use Rattle.xd_goals.specs.declared.table.Standing.{Standing}
 use Rattle.xd_goals.specs.declared.table.Standing.TheVariants.{Refuted, Waiting}
 use Rattle.xd_goals.specs.declared.table.Link.{Link}
 
--- a goal, its choice trees, and where its list of dependents begins
+-- a goal, its choice trees with a flag for each, and where its list of dependents begins
 pub record GoalRow : Type 0 where
   pub left : State
   pub rights : List State
   pub standing : Standing
   pub choices : List Choice
+  pub broken : List Bool
   pub dependents : Option ℕ
 
 pub record TableView : Type 0 where
@@ -28,7 +30,7 @@ no_view = record { rows = []; nodes = []; links = [] }
 
 -- a goal that waits, and has nothing yet
 abbrev pub new_row : State → List State → GoalRow
-new_row left rights = record { left = left; rights = rights; standing = Waiting; choices = []; dependents = None }
+new_row left rights = record { left = left; rights = rights; standing = Waiting; choices = []; broken = []; dependents = None }
 
 abbrev pub no_row : GoalRow
 no_row = new_row (record { number = 0 }) []
@@ -46,6 +48,10 @@ claim_at rows g = option_map claim_of (slice_get rows g)
 abbrev pub IsRefuted : List GoalRow → ℕ → Type 0
 IsRefuted rows g = (seq : Seq) × ((row_at rows g).standing ≡ Refuted seq)
 
+-- no flag says that a leaf of this case's tree may name a refuted goal
+abbrev pub IsUnbroken : GoalRow → ℕ → Type 0
+IsUnbroken row place = slice_get row.broken place ≡ Some false
+
 -- the head and the atom of a choice tree
 abbrev pub choice_key : Choice → CaseKey
 choice_key k = keyed k.head k.atom
@@ -57,14 +63,18 @@ state_numbers states = map (λ (s : State). s.number) states
 abbrev pub claim_key : Claim State → List ℕ
 claim_key c = c.left.number ∷ state_numbers c.rights
 
--- from this link on, the list leads to the goal
-pub data Leads (links : List Link) (goal : ℕ) : Option ℕ → Type 0 where
-  here : (k : ℕ) (l : Link) → slice_get links k ≡ Some l → l.goal.number ≡ goal → Leads links goal (Some k)
-  behind : (k : ℕ) (l : Link) → slice_get links k ≡ Some l → Leads links goal l.next → Leads links goal (Some k)
+-- the case of a goal, by the goal's number and the case's place
+abbrev pub goal_case : ℕ → ℕ → GoalCase
+goal_case goal place = record { goal = record { number = goal }; place = place }
 
--- the goal is in the list of dependents of the other
-abbrev pub IsListed : TableView → ℕ → ℕ → Type 0
-IsListed t on goal = Leads t.links goal (row_at t.rows on).dependents
+-- from this link on, the list leads to the case
+pub data Leads (links : List Link) (owner : GoalCase) : Option ℕ → Type 0 where
+  here : (k : ℕ) (l : Link) → slice_get links k ≡ Some l → l.case ≡ owner → Leads links owner (Some k)
+  behind : (k : ℕ) (l : Link) → slice_get links k ≡ Some l → Leads links owner l.next → Leads links owner (Some k)
+
+-- the case is in the list of dependents of the goal
+abbrev pub IsListed : TableView → ℕ → GoalCase → Type 0
+IsListed t on owner = Leads t.links owner (row_at t.rows on).dependents
 
 -- the goal's states belong to an automaton with so many states
 pub record IsRowBelow (n : ℕ) (row : GoalRow) : Type 0 where

@@ -1,5 +1,5 @@
 -- A table stands on an automaton and a store: what its goals say of them.
-use Rattle.std.specs.Prelude.{◌≡◌, ℕ, ◌<◌, ◌≤◌, true, List, [], ◌++◌, map, length, Some}
+use Rattle.std.specs.Prelude.{◌≡◌, ℕ, ◌<◌, ◌≤◌, true, List, [], ◌++◌, map, length, Some, slice_get}
 use Rattle.std.specs.List.{AllByRecursion, list_any}
 use Rattle.xd_doc.specs.Document.{Document}
 use Rattle.xd_doc.specs.Stored.{BelongsTo, document_at}
@@ -11,9 +11,10 @@ use Rattle.xd_rules.specs.Heads.{Head, Named, AreNames, matches, is_text_atom}
 use Rattle.xd_rules.specs.Rules.{Claim, ChoiceTree, AllLeaves, head_number, right_heads, wanted_cases}
 use Rattle.xd_rules.specs.Meaning.{Separates}
 use Rattle.xd_goals.specs.Moves.{heads_of, is_last_in, Accepts}
-use Rattle.xd_goals.specs.Rows.{GoalRow, TableView, row_at, claim_of, choice_key, IsRefuted, RowsBelow}
+use Rattle.xd_goals.specs.Rows.{GoalRow, TableView, row_at, claim_of, choice_key, goal_case, IsRefuted, IsUnbroken, RowsBelow}
 use Rattle.xd_goals.specs.Trees.{StandsAt, matching_sides, IsTreeBySort, HasTree}
 use Rattle.xd_goals.specs.declared.table.Choice.{Choice}
+use Rattle.xd_goals.specs.declared.table.GoalCase.{GoalCase}
 use Rattle.xd_goals.specs.declared.table.Standing.TheVariants.{Holds, Refuted}
 use Rattle.xd_goals.specs.declared.grow.Task.{Task}
 use Rattle.xd_goals.specs.declared.heads.Side.{Side}
@@ -31,15 +32,15 @@ AreSeparated a ds rows = (i : ℕ) (seq : Seq) → (row_at rows i).standing ≡ 
 abbrev pub claim_sides : Automaton → Claim State → Atom → List Side
 claim_sides a c atom = matching_sides atom 1 (right_heads (heads_of a) c)
 
-abbrev pub task_for : Automaton → ℕ → Head State → Task
-task_for a owner h = record { owner = record { number = owner }; content = h.content; rest = h.rest; states = length a }
+abbrev pub task_for : Automaton → GoalCase → Head State → Task
+task_for a owner h = record { owner = owner; content = h.content; rest = h.rest; states = length a }
 
 -- the tree is one for this head at this atom
-abbrev pub IsCaseTree : Automaton → List GoalRow → ℕ → Claim State → Head State → Atom → ChoiceTree → Type 0
+abbrev pub IsCaseTree : Automaton → List GoalRow → GoalCase → Claim State → Head State → Atom → ChoiceTree → Type 0
 IsCaseTree a rows owner c h atom tree = IsTreeBySort (is_text_atom atom) rows (task_for a owner h) (claim_sides a c atom) tree
 
--- a choice of a goal: a head of its left at an atom of it, with a tree
-pub record ChoiceStands (a : Automaton) (t : TableView) (owner : ℕ) (c : Claim State) (k : Choice) : Type 0 where
+-- a choice of a goal, for this case of it: a head of its left at an atom of it, with a tree
+pub record ChoiceStands (a : Automaton) (t : TableView) (owner : GoalCase) (c : Claim State) (k : Choice) : Type 0 where
   pub head : Head State
   pub found : head_number (heads_of a c.left) k.head ≡ Some head
   pub matched : matches head.kind k.atom ≡ true
@@ -66,8 +67,10 @@ pub record StandsOn (a : Automaton) (ds : List Document) (t : TableView) : Type 
   pub states : RowsBelow (length a) t.rows
   pub unlike : (i j : ℕ) → i < length t.rows → j < length t.rows → claim_of (row_at t.rows i) ≡ claim_of (row_at t.rows j) → i ≡ j
   pub refuted : AreSeparated a ds t.rows
-  pub choices : (i : ℕ) → AllByRecursion (ChoiceStands a t i (claim_of (row_at t.rows i))) (row_at t.rows i).choices
+  pub choices : (i place : ℕ) (k : Choice) → slice_get (row_at t.rows i).choices place ≡ Some k → ChoiceStands a t (goal_case i place) (claim_of (row_at t.rows i)) k
   pub begun : (i : ℕ) → ¬ ((row_at t.rows i).choices ≡ []) → IsBegun a (claim_of (row_at t.rows i)) (row_at t.rows i).choices
+  pub flags : (i : ℕ) → length (row_at t.rows i).broken ≡ length (row_at t.rows i).choices
+  pub unbroken : (i place : ℕ) (k : Choice) → slice_get (row_at t.rows i).choices place ≡ Some k → IsUnbroken (row_at t.rows i) place → IsOpen t k
   pub holds : (i : ℕ) → (row_at t.rows i).standing ≡ Holds → RowHolds a t (claim_of (row_at t.rows i)) (row_at t.rows i).choices
 
 -- goals stay, with their states, and those that are refuted stay so

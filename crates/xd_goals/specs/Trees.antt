@@ -13,6 +13,7 @@ use Rattle.std.specs.List.{AllByRecursion}
 use Rattle.xd_goals.specs.Moves.{AreBelow, IsInOrder, claim_with, with_state}
 use Rattle.xd_goals.specs.Rows.{GoalRow, TableView, row_at, claim_at, IsRefuted, IsListed}
 use Rattle.xd_goals.specs.declared.table.ChoiceNode.{ChoiceNode}
+use Rattle.xd_goals.specs.declared.table.GoalCase.{GoalCase}
 use Rattle.xd_goals.specs.declared.table.ChoiceNode.TheVariants.{Split, Content, Rest}
 use Rattle.xd_goals.specs.declared.table.Standing.TheVariants.{Refuted}
 use Rattle.xd_goals.specs.declared.heads.Side.{Side}
@@ -66,15 +67,15 @@ abbrev pub IsTreeBySort : Bool → List GoalRow → Task → List Side → Choic
 IsTreeBySort true rows task sides tree = IsTextTree rows task sides tree
 IsTreeBySort false rows task sides tree = IsGrown rows task sides tree [] []
 
--- a tree of the task's goal that stands in the table, each of whose leaves names a goal with this one among its dependents
-pub record HasTree (t : TableView) (Kind : ChoiceTree → Type 0) (owner root : ℕ) : Type 0 where
+-- a tree of a case that stands in the table, each of whose leaves names a goal with the case among its dependents
+pub record HasTree (t : TableView) (Kind : ChoiceTree → Type 0) (owner : GoalCase) (root : ℕ) : Type 0 where
   pub tree : ChoiceTree
   pub stands : StandsAt t.nodes root tree
   pub kind : Kind tree
   pub listed : AllLeaves (λ g. IsListed t g owner) tree
 
 -- no leaf names a refuted goal
-pub record HasOpenTree (t : TableView) (Kind : ChoiceTree → Type 0) (owner root : ℕ) : Type 0 where
+pub record HasOpenTree (t : TableView) (Kind : ChoiceTree → Type 0) (owner : GoalCase) (root : ℕ) : Type 0 where
   pub has : HasTree t Kind owner root
   pub open_ : AllLeaves (λ g. ¬ (IsRefuted t.rows g)) has.tree
 
@@ -115,8 +116,8 @@ abbrev pub GrownAs : (ℕ → Type 0) → (Seq → Seq → Type 0) → Grown →
 GrownAs P Q (Stands root) = P root
 GrownAs P Q (Fails inside behind) = Q inside behind
 
--- the goal has this claim, and the owner among its dependents
-pub record IsLeafFor (t : TableView) (owner : ℕ) (c : Claim State) (goal : ℕ) : Type 0 where
+-- the goal has this claim, and the case among its dependents
+pub record IsLeafFor (t : TableView) (owner : GoalCase) (c : Claim State) (goal : ℕ) : Type 0 where
   pub claim : claim_at t.rows goal ≡ Some c
   pub listed : IsListed t goal owner
 

@@ -6,10 +6,10 @@ ghost use Rattle.xd_auto.specs.Automaton.{state_number};
 ghost use Rattle.xd_doc.specs.Stored.{IsBelow};
 ghost use Rattle.xd_goals.specs.Moves.{AreBelow, claim_with};
 ghost use Rattle.xd_goals.specs.Rows.{IsListed, IsRefuted, claim_at, claim_key, new_row, row_at};
-ghost use Rattle.xd_goals.specs.Kept.{AreLinked, AreThese, BeginsWith, Grows, GrowsBy, IsConsistent, IsWoken, Refutes, found_at, view_of, with_standing};
+ghost use Rattle.xd_goals.specs.Kept.{AreLinked, AreThese, BeginsWith, Grows, GrowsBy, IsConsistent, IsWoken, Refutes, found_at, view_of, with_choice, with_flag, with_standing};
 ghost use Rattle.xd_goals.specs.Rows.{Leads};
 
-use crate::table::{Choice, ChoiceNode, GoalId, Link, Row, Standing};
+use crate::table::{Choice, ChoiceNode, GoalCase, GoalId, Link, Row, Standing};
 use std::alloc::Global;
 use std::collections::BTreeMap;
 use xd_auto::{State, StateKey};
@@ -92,6 +92,7 @@ fn add_row(
         rights,
         standing: Standing::Waiting,
         choices: Vec::new(alloc),
+        broken: Vec::new(alloc),
         dependents: None,
     })?;
     match put(found, key, number) {
@@ -127,16 +128,16 @@ pub(crate) fn find_or_add(
     }
 }
 
-/// Whether the list of dependents begins with the goal.
-fn begins_with(links: &[Link], first: Option<usize>, owner: GoalId) -> bool
+/// Whether the list of dependents begins with the case.
+fn begins_with(links: &[Link], first: Option<usize>, owner: GoalCase) -> bool
     requires { IsBelow (length links.now) first }
-    ensures { result ≡ true → BeginsWith links.now first owner.number }
+    ensures { result ≡ true → BeginsWith links.now first owner }
 {
     match first {
         None => false,
         Some(place) => {
             let link = links[place];
-            link.goal.number == owner.number
+            link.case == owner
         }
     }
 }
@@ -150,20 +151,20 @@ fn set_dependents(rows: &mut Vec<Row>, goal: GoalId, link: usize)
     row.dependents = Some(link);
 }
 
-/// Puts a goal among those that depend on another.
+/// Puts a case among those that depend on a goal.
 pub(crate) fn depend(
     goals: &mut Goals,
     states: usize,
     on: GoalId,
-    owner: GoalId,
+    owner: GoalCase,
 ) -> Result<(), NoMemory>
     requires consistent { IsConsistent states goals.old }
     requires on { on.number < length goals.old.rows.items }
-    requires owner { owner.number < length goals.old.rows.items }
+    requires owner { owner.goal.number < length goals.old.rows.items }
     ensures consistent { IsConsistent states goals.new }
     ensures grows { Grows (view_of goals.old) (view_of goals.new) }
     ensures count { length goals.new.rows.items ≡ length goals.old.rows.items }
-    ensures listed { OnOk result (IsListed (view_of goals.new) on.number owner.number) }
+    ensures listed { OnOk result (IsListed (view_of goals.new) on.number owner) }
 {
     let _count = states;
     let row = &goals.rows[on.number];
@@ -172,7 +173,7 @@ pub(crate) fn depend(
         return Ok(());
     }
     let link = goals.links.len();
-    goals.links.push(Link { goal: owner, next })?;
+    goals.links.push(Link { case: owner, next })?;
     set_dependents(&mut goals.rows, on, link);
     Ok(())
 }
@@ -196,18 +197,40 @@ pub(crate) fn add_node(
     Ok(number)
 }
 
-/// Says that the goal holds by these choice trees, as far as those hold that it rests on.
-pub(crate) fn hold(rows: &mut Vec<Row>, goal: GoalId, choices: Vec<Choice>)
+/// Says that the goal holds by these choice trees, with their flags, as far as those hold that it rests on.
+pub(crate) fn hold(rows: &mut Vec<Row>, goal: GoalId, choices: Vec<Choice>, broken: Vec<bool>)
     requires { goal.number < length rows.old.items }
-    ensures { rows.new.items ≡ slice_set rows.old.items goal.number (record (row_at rows.old.items goal.number) { standing = Standing.Holds; choices = choices.items }) }
+    ensures { rows.new.items ≡ slice_set rows.old.items goal.number (record (row_at rows.old.items goal.number) { standing = Standing.Holds; choices = choices.items; broken = broken.items }) }
 {
     let row = &mut rows[goal.number];
     row.choices = choices;
+    row.broken = broken;
     row.standing = Standing::Holds;
 }
 
+/// Gives a choice another root.
+fn set_choice_root(choices: &mut Vec<Choice>, place: usize, root: usize)
+    requires { place < length choices.old.items }
+    ensures { (k : Choice) → slice_get choices.old.items place ≡ Some k → choices.new.items ≡ slice_set choices.old.items place (record k { root = root }) }
+{
+    let choice = &mut choices[place];
+    choice.root = root;
+}
+
+/// Gives a case another choice tree, of which no leaf names a refuted goal.
+pub(crate) fn set_root(rows: &mut Vec<Row>, case: GoalCase, root: usize)
+    requires goal { case.goal.number < length rows.old.items }
+    requires choice { case.place < length (row_at rows.old.items case.goal.number).choices }
+    requires flag { case.place < length (row_at rows.old.items case.goal.number).broken }
+    ensures { (k : Choice) → slice_get (row_at rows.old.items case.goal.number).choices case.place ≡ Some k → rows.new.items ≡ slice_set rows.old.items case.goal.number (with_choice case.place (record k { root = root }) (row_at rows.old.items case.goal.number)) }
+{
+    let row = &mut rows[case.goal.number];
+    set_choice_root(&mut row.choices, case.place, root);
+    row.broken[case.place] = false;
+}
+
 /// Sets how far a goal is settled.
-fn set_standing(rows: &mut Vec<Row>, goal: GoalId, standing: Standing)
+pub(crate) fn set_standing(rows: &mut Vec<Row>, goal: GoalId, standing: Standing)
     requires { goal.number < length rows.old.items }
     ensures { rows.new.items ≡ slice_set rows.old.items goal.number (with_standing standing (row_at rows.old.items goal.number)) }
 {
@@ -215,18 +238,30 @@ fn set_standing(rows: &mut Vec<Row>, goal: GoalId, standing: Standing)
     row.standing = standing;
 }
 
-/// Lets a goal that holds wait.
-fn wake(rows: &mut Vec<Row>, goal: GoalId)
-    requires { goal.number < length rows.old.items }
-    ensures { IsWoken (λ k. k ≡ goal.number) rows.old.items rows.new.items }
+/// Marks a case of which a leaf may name a refuted goal. It isn't there where work on the goal was broken off.
+fn set_flag(rows: &mut Vec<Row>, case: GoalCase)
+    requires { case.goal.number < length rows.old.items }
+    ensures { rows.new.items ≡ slice_set rows.old.items case.goal.number (with_flag case.place (row_at rows.old.items case.goal.number)) }
 {
-    let row = &rows[goal.number];
-    if let Standing::Holds = row.standing {
-        set_standing(rows, goal, Standing::Waiting);
+    let row = &mut rows[case.goal.number];
+    if case.place < row.broken.len() {
+        row.broken[case.place] = true;
     }
 }
 
-/// Lets those of a goal's dependents that hold wait.
+/// Marks a case, and lets its goal wait where it holds.
+fn wake(rows: &mut Vec<Row>, case: GoalCase)
+    requires { case.goal.number < length rows.old.items }
+    ensures { IsWoken (λ k. k ≡ case) rows.old.items rows.new.items }
+{
+    set_flag(rows, case);
+    let row = &rows[case.goal.number];
+    if let Standing::Holds = row.standing {
+        set_standing(rows, case.goal, Standing::Waiting);
+    }
+}
+
+/// Marks the cases that depend on a goal, and lets those of their goals wait that hold.
 fn wake_all(rows: &mut Vec<Row>, links: &[Link], first: Option<usize>)
     requires links { AreLinked rows.old.items links.now }
     requires first { IsBelow (length links.now) first }
@@ -235,12 +270,13 @@ fn wake_all(rows: &mut Vec<Row>, links: &[Link], first: Option<usize>)
     let mut at = first;
     while let Some(place) = at {
         let link = links[place];
-        wake(rows, link.goal);
+        wake(rows, link.case);
         at = link.next;
     }
 }
 
-/// Refutes a goal by a document, and lets those of its dependents that hold wait. It takes no memory.
+/// Refutes a goal by a document, marks the cases that depend on it, and lets those of their goals wait
+/// that hold. It takes no memory.
 pub(crate) fn refute(rows: &mut Vec<Row>, links: &[Link], goal: GoalId, document: Seq)
     requires goal { goal.number < length rows.old.items }
     requires links { AreLinked rows.old.items links.now }

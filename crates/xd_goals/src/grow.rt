@@ -12,17 +12,17 @@ ghost use Rattle.xd_goals.specs.declared.heads.Side.{Side};
 
 use crate::goals::{Goals, add_node, depend, find_or_add};
 use crate::heads::Side;
-use crate::table::{ChoiceNode, GoalId, Standing};
+use crate::table::{ChoiceNode, GoalCase, GoalId, Standing};
 use crate::takers::taker;
 use std::alloc::Global;
 use xd_auto::{Answers, Auto, State};
 use xd_doc::{NoMemory, Seq, Store};
 
-/// What a choice tree is for: its goal, what the left head says of the content and the rest, and the
+/// What a choice tree is for: its case, what the left head says of the content and the rest, and the
 /// number of the automaton's states, of which only contracts speak.
 #[derive(Clone, Copy, Debug)]
 pub(crate) struct Task {
-    pub(crate) owner: GoalId,
+    pub(crate) owner: GoalCase,
     pub(crate) content: State,
     pub(crate) rest: State,
     pub(crate) states: usize,
@@ -73,7 +73,7 @@ fn side_numbered(sides: &[Side], number: usize) -> Side
     unreachable!()
 }
 
-/// The goal for a leaf, among whose dependents the tree's goal is.
+/// The goal for a leaf, among whose dependents the tree's case is.
 fn leaf(
     alloc: Global,
     goals: &mut Goals,
@@ -82,13 +82,13 @@ fn leaf(
     rights: &[State],
 ) -> Result<GoalId, NoMemory>
     requires consistent { IsConsistent task.states goals.old }
-    requires owner { task.owner.number < length goals.old.rows.items }
+    requires owner { task.owner.goal.number < length goals.old.rows.items }
     requires left { state_number left < task.states }
     requires rights { AreBelow task.states rights.now }
     requires order { IsInOrder rights.now }
     ensures consistent { IsConsistent task.states goals.new }
     ensures grows { Grows (view_of goals.old) (view_of goals.new) }
-    ensures ok { IfOk result (λ goal. IsLeafFor (view_of goals.new) task.owner.number (claim_with left rights.now) goal.number) }
+    ensures ok { IfOk result (λ goal. IsLeafFor (view_of goals.new) task.owner (claim_with left rights.now) goal.number) }
     ensures there { IfOk result (λ goal. goal.number < length goals.new.rows.items) }
 {
     let goal = find_or_add(alloc, goals, task.states, left, rights)?;
@@ -140,7 +140,7 @@ pub(crate) fn grow(
     rests: &[State],
 ) -> Result<Grown, NoMemory>
     requires consistent { IsConsistent task.states goals.old }
-    requires owner { task.owner.number < length goals.old.rows.items }
+    requires owner { task.owner.goal.number < length goals.old.rows.items }
     requires path { IsPathBelow task.states task sides.now contents.now rests.now }
     requires states { task.states ≡ length auto.now }
     requires separated { AreSeparated auto.now store.now goals.old.rows.items }
@@ -148,7 +148,7 @@ pub(crate) fn grow(
     ensures consistent { IsConsistent task.states goals.new }
     ensures grows { Grows (view_of goals.old) (view_of goals.new) }
     ensures grown { IfOk result (GrownAs
-        (HasOpenTree (view_of goals.new) (λ tree. IsGrown goals.new.rows.items task sides.now tree contents.now rests.now) task.owner.number)
+        (HasOpenTree (view_of goals.new) (λ tree. IsGrown goals.new.rows.items task sides.now tree contents.now rests.now) task.owner)
         (IsFailure auto.now store.now task sides.now)) }
     ensures right { AreRight auto.now store.now answers.new }
 {
@@ -212,17 +212,17 @@ fn repair_leaf(
     rests: &[State],
 ) -> Result<Grown, NoMemory>
     requires consistent { IsConsistent task.states goals.old }
-    requires owner { task.owner.number < length goals.old.rows.items }
+    requires owner { task.owner.goal.number < length goals.old.rows.items }
     requires path { IsPathBelow task.states task sides.now contents.now rests.now }
     requires states { task.states ≡ length auto.now }
     requires separated { AreSeparated auto.now store.now goals.old.rows.items }
     requires right { AreRight auto.now store.now answers.old }
     requires there { goal.number < length goals.old.rows.items }
-    requires opens { ¬ (IsRefuted goals.old.rows.items goal.number) → HasOpenTree (view_of goals.old) (λ tree. IsGrown goals.old.rows.items task sides.now tree contents.now rests.now) task.owner.number root }
+    requires opens { ¬ (IsRefuted goals.old.rows.items goal.number) → HasOpenTree (view_of goals.old) (λ tree. IsGrown goals.old.rows.items task sides.now tree contents.now rests.now) task.owner root }
     ensures consistent { IsConsistent task.states goals.new }
     ensures grows { Grows (view_of goals.old) (view_of goals.new) }
     ensures grown { IfOk result (GrownAs
-        (HasOpenTree (view_of goals.new) (λ tree. IsGrown goals.new.rows.items task sides.now tree contents.now rests.now) task.owner.number)
+        (HasOpenTree (view_of goals.new) (λ tree. IsGrown goals.new.rows.items task sides.now tree contents.now rests.now) task.owner)
         (IsFailure auto.now store.now task sides.now)) }
     ensures right { AreRight auto.now store.now answers.new }
 {
@@ -249,16 +249,16 @@ pub(crate) fn repair(
     rests: &[State],
 ) -> Result<Grown, NoMemory>
     requires consistent { IsConsistent task.states goals.old }
-    requires owner { task.owner.number < length goals.old.rows.items }
+    requires owner { task.owner.goal.number < length goals.old.rows.items }
     requires path { IsPathBelow task.states task sides.now contents.now rests.now }
     requires states { task.states ≡ length auto.now }
     requires separated { AreSeparated auto.now store.now goals.old.rows.items }
     requires right { AreRight auto.now store.now answers.old }
-    requires tree { HasTree (view_of goals.old) (λ tree. IsGrown goals.old.rows.items task sides.now tree contents.now rests.now) task.owner.number root }
+    requires tree { HasTree (view_of goals.old) (λ tree. IsGrown goals.old.rows.items task sides.now tree contents.now rests.now) task.owner root }
     ensures consistent { IsConsistent task.states goals.new }
     ensures grows { Grows (view_of goals.old) (view_of goals.new) }
     ensures grown { IfOk result (GrownAs
-        (HasOpenTree (view_of goals.new) (λ tree. IsGrown goals.new.rows.items task sides.now tree contents.now rests.now) task.owner.number)
+        (HasOpenTree (view_of goals.new) (λ tree. IsGrown goals.new.rows.items task sides.now tree contents.now rests.now) task.owner)
         (IsFailure auto.now store.now task sides.now)) }
     ensures right { AreRight auto.now store.now answers.new }
 {
@@ -318,12 +318,12 @@ pub(crate) fn grow_text(
     sides: &[Side],
 ) -> Result<Grown, NoMemory>
     requires consistent { IsConsistent task.states goals.old }
-    requires owner { task.owner.number < length goals.old.rows.items }
+    requires owner { task.owner.goal.number < length goals.old.rows.items }
     requires path { IsPathBelow task.states task sides.now [] [] }
     ensures consistent { IsConsistent task.states goals.new }
     ensures grows { Grows (view_of goals.old) (view_of goals.new) }
     ensures grown { IfOk result (GrownAs
-        (HasOpenTree (view_of goals.new) (IsTextTree goals.new.rows.items task sides.now) task.owner.number)
+        (HasOpenTree (view_of goals.new) (IsTextTree goals.new.rows.items task sides.now) task.owner)
         (λ inside behind. IsTextFailure goals.new.rows.items task sides.now behind)) }
 {
     let rests = rests_of(alloc, sides)?;

@@ -203,8 +203,8 @@ fn list_woken(goals: &Goals, goal: GoalId, agenda: &mut Vec<GoalId>) -> Result<(
     let mut at = row.dependents;
     while let Some(number) = at {
         let link = link_at(&goals.links, number);
-        if let Standing::Waiting = goals.standing(link.goal) {
-            agenda.push(link.goal)?;
+        if let Standing::Waiting = goals.standing(link.case.goal) {
+            agenda.push(link.case.goal)?;
         }
         at = link.next;
     }

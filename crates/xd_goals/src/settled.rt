@@ -13,7 +13,7 @@ ghost use Rattle.xd_goals.specs.declared.table.Standing.TheVariants.{Holds};
 
 use crate::goals::Goals;
 use crate::grow::node_at;
-use crate::table::{Choice, ChoiceNode, GoalId, Row, Standing};
+use crate::table::{Choice, ChoiceNode, GoalId, Standing};
 use std::alloc::Global;
 use xd_doc::NoMemory;
 
@@ -72,13 +72,13 @@ fn mark_choices(
     Ok(())
 }
 
-/// No mark.
-fn no_marks(alloc: Global, rows: &[Row]) -> Result<Vec<bool>, NoMemory>
-    ensures count { IfOk result (λ marks. length marks.items ≡ length rows.now) }
+/// So many marks, none of them set.
+pub(crate) fn no_marks(alloc: Global, count: usize) -> Result<Vec<bool>, NoMemory>
+    ensures count { IfOk result (λ marks. length marks.items ≡ count) }
     ensures none { IfOk result (λ marks. (g : ℕ) → is_marked marks.items g ≡ false) }
 {
     let mut marks = Vec::new(alloc);
-    for _ in 0..rows.len() {
+    for _ in 0..count {
         marks.push(false)?;
     }
     Ok(marks)
@@ -98,7 +98,7 @@ pub(crate) fn unsettled(
     ensures none { IfOk result (λ waiting. waiting.items ≡ [] → IsSettled (view_of goals.now) start.number) }
 {
     let mut found = Reached {
-        marks: no_marks(alloc, &goals.rows)?,
+        marks: no_marks(alloc, goals.rows.len())?,
         order: Vec::new(alloc),
     };
     mark(&mut found, start)?;

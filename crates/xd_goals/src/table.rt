@@ -19,6 +19,13 @@ pub struct GoalId {
     pub(crate) number: usize,
 }
 
+/// A case of a goal, by the place of its choice in the goal's list, from 0.
+#[derive(Clone, Copy, Debug, PartialEq, Eq)]
+pub(crate) struct GoalCase {
+    pub(crate) goal: GoalId,
+    pub(crate) place: usize,
+}
+
 /// How far a goal is settled. A goal that holds may rest on goals that wait.
 #[derive(Clone, Copy, Debug)]
 pub enum Standing {
@@ -48,13 +55,15 @@ pub enum ChoiceNode {
     Rest(GoalId),
 }
 
-/// A goal, its choice trees, and where the list of its dependents begins.
+/// A goal, its choice trees, for each of them whether a leaf may name a refuted goal, and where the
+/// list of the goal's dependents begins.
 #[derive(Debug, Drop)]
 pub(crate) struct Row {
     pub(crate) left: State,
     pub(crate) rights: Vec<State>,
     pub(crate) standing: Standing,
     pub(crate) choices: Vec<Choice>,
+    pub(crate) broken: Vec<bool>,
     pub(crate) dependents: Option<usize>,
 }
 
@@ -63,13 +72,13 @@ impl Model for Row {
 
     ghost Value = { GoalRow };
 
-    ghost view = { λ r. record { left = r.left; rights = r.rights.items; standing = r.standing; choices = r.choices.items; dependents = r.dependents } };
+    ghost view = { λ r. record { left = r.left; rights = r.rights.items; standing = r.standing; choices = r.choices.items; broken = r.broken.items; dependents = r.dependents } };
 }
 
-/// A dependent of a goal, and where the list goes on.
+/// A case that depends on a goal, and where the list goes on.
 #[derive(Clone, Copy, Debug)]
 pub(crate) struct Link {
-    pub(crate) goal: GoalId,
+    pub(crate) case: GoalCase,
     pub(crate) next: Option<usize>,
 }
 
@@ -171,6 +180,7 @@ impl Table {
     }
 
     /// Where the list of the goals that depend on this one begins; `None` exactly where there are none.
+    /// A goal may come once for each of its cases, and for each time that the case began to depend on it.
     pub fn first_dependent(&self, goal: GoalId) -> Option<usize>
         requires { goal.number < length self.now.rows }
         ensures value { result ≡ (row_at self.now.rows goal.number).dependents }
@@ -193,10 +203,10 @@ impl Table {
     /// The goal that a link stands for.
     pub fn dependent(&self, link: usize) -> GoalId
         requires { link < length self.now.links }
-        ensures value { IfSome (slice_get self.now.links link) (λ found. found.goal ≡ result) }
+        ensures value { IfSome (slice_get self.now.links link) (λ found. found.case.goal ≡ result) }
         ensures there { result.number < length self.now.rows }
     {
         let found = self.goals.links[link];
-        found.goal
+        found.case.goal
     }
 }

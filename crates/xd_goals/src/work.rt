@@ -1,24 +1,25 @@
 //! Work on one goal.
 
-ghost use Rattle.std.specs.Prelude.{◌≡◌, ◌<◌, [], false, true, length, IfOk, OnOk};
+ghost use Rattle.std.specs.Prelude.{◌≡◌, ◌<◌, [], false, true, length, IfOk, OnOk, Some, slice_get};
 ghost use Rattle.std.specs.List.{AllByRecursion, list_any};
 ghost use Rattle.xd_doc.specs.Stored.{BelongsTo, Keeps, document_at};
 ghost use Rattle.xd_auto.specs.Automaton.{IsState};
 ghost use Rattle.xd_auto.specs.Kept.{AreRight};
 ghost use Rattle.xd_rules.specs.Heads.{is_text_atom};
 ghost use Rattle.xd_goals.specs.Moves.{claim_with, is_last_in};
-ghost use Rattle.xd_goals.specs.Rows.{IsRefuted, claim_of, row_at};
+ghost use Rattle.xd_goals.specs.Rows.{IsRefuted, IsUnbroken, claim_of, row_at};
 ghost use Rattle.xd_goals.specs.Kept.{Grows, IsConsistent, IsWhole, view_of};
-ghost use Rattle.xd_goals.specs.Cases.{BeginsAs, FailsAt, IsCaseGrown, IsCaseOf, IsSettling, IsUncovered};
-ghost use Rattle.xd_goals.specs.Standing.{AreSeparated, ChoiceStands, IsBegun, IsSeparatedBy, KeepsGoals, StandsOn};
+ghost use Rattle.xd_goals.specs.Cases.{BeginsAs, FailsAt, IsCaseGrown, IsCaseOf, IsMended, IsMending, IsSettling, IsUncovered};
+ghost use Rattle.xd_goals.specs.Standing.{AreSeparated, ChoiceStands, IsSeparatedBy, KeepsGoals, StandsOn};
 ghost use Rattle.xd_goals.specs.Reached.{HasTreeWithin, IsOpenAt};
 ghost use Rattle.xd_goals.specs.Measure.{AreMadeFrom, Lowers};
 ghost use Rattle.xd_goals.specs.declared.table.Standing.TheVariants.{Waiting};
 
-use crate::goals::{Goals, hold, refute};
+use crate::goals::{Goals, hold, refute, set_root, set_standing};
 use crate::grow::{Grown, Task, grow, grow_text, node_at, repair};
 use crate::heads::{Unnamed, Want, cases_of, head_of, is_text, share, sides_of, unnamed_of};
-use crate::table::{Choice, ChoiceNode, GoalId, Row, Standing};
+use crate::settled::no_marks;
+use crate::table::{Choice, ChoiceNode, GoalCase, GoalId, Row, Standing};
 use std::alloc::Global;
 use xd_auto::{Answers, Auto, State};
 use xd_doc::{NoMemory, Seq, Store};
@@ -74,7 +75,7 @@ fn separate(
 ) -> Result<Seq, NoMemory>
     requires owner { owner.number < length goals.now.rows.items }
     requires stands { StandsOn auto.now store.old (view_of goals.now) }
-    requires fails { FailsAt auto.now store.old (view_of goals.now) owner.number (claim_of (row_at goals.now.rows.items owner.number)) atom.now inside behind }
+    requires fails { FailsAt auto.now store.old (view_of goals.now) (claim_of (row_at goals.now.rows.items owner.number)) atom.now inside behind }
     ensures keeps { Keeps store.old store.new }
     ensures separated { IfOk result (IsSeparatedBy auto.now store.new (claim_of (row_at goals.now.rows.items owner.number))) }
 {
@@ -90,13 +91,13 @@ fn begin_case(
     store: &Store,
     answers: &mut Answers,
     goals: &mut Goals,
-    owner: GoalId,
+    owner: GoalCase,
     left: State,
     rights: &[State],
     case: &Want,
 ) -> Result<Grown, NoMemory>
     requires consistent { IsConsistent (length auto.now) goals.old }
-    requires owner { owner.number < length goals.old.rows.items }
+    requires owner { owner.goal.number < length goals.old.rows.items }
     requires left { IsState auto.now left }
     requires rights { AllByRecursion (IsState auto.now) rights.now }
     requires case { IsCaseOf auto.now left case.now }
@@ -104,7 +105,7 @@ fn begin_case(
     requires right { AreRight auto.now store.now answers.old }
     ensures consistent { IsConsistent (length auto.now) goals.new }
     ensures grows { Grows (view_of goals.old) (view_of goals.new) }
-    ensures grown { IfOk result (IsCaseGrown auto.now store.now (view_of goals.new) owner.number (claim_with left rights.now) case.now.head case.now.atom) }
+    ensures grown { IfOk result (IsCaseGrown auto.now store.now (view_of goals.new) owner (claim_with left rights.now) case.now.head case.now.atom) }
     ensures right { AreRight auto.now store.now answers.new }
 {
     let _left = left;
@@ -157,6 +158,10 @@ fn begin(
     let mut made = Vec::new(alloc);
     for number in 0..cases.len() {
         let case = &cases[number];
+        let owner = GoalCase {
+            goal: owner,
+            place: number,
+        };
         match begin_case(
             alloc, auto, store, answers, goals, owner, left, rights, case,
         )? {
@@ -203,21 +208,21 @@ fn mend_choice(
     store: &Store,
     answers: &mut Answers,
     goals: &mut Goals,
-    owner: GoalId,
+    owner: GoalCase,
     left: State,
     rights: &[State],
     choice: &Choice,
 ) -> Result<Grown, NoMemory>
     requires consistent { IsConsistent (length auto.now) goals.old }
-    requires owner { owner.number < length goals.old.rows.items }
+    requires owner { owner.goal.number < length goals.old.rows.items }
     requires left { IsState auto.now left }
     requires rights { AllByRecursion (IsState auto.now) rights.now }
-    requires choice { ChoiceStands auto.now (view_of goals.old) owner.number (claim_with left rights.now) choice.now }
+    requires choice { ChoiceStands auto.now (view_of goals.old) owner (claim_with left rights.now) choice.now }
     requires separated { AreSeparated auto.now store.now goals.old.rows.items }
     requires right { AreRight auto.now store.now answers.old }
     ensures consistent { IsConsistent (length auto.now) goals.new }
     ensures grows { Grows (view_of goals.old) (view_of goals.new) }
-    ensures grown { IfOk result (IsCaseGrown auto.now store.now (view_of goals.new) owner.number (claim_with left rights.now) choice.now.head choice.now.atom) }
+    ensures grown { IfOk result (IsCaseGrown auto.now store.now (view_of goals.new) owner (claim_with left rights.now) choice.now.head choice.now.atom) }
     ensures right { AreRight auto.now store.now answers.new }
 {
     if !is_broken(&goals.nodes, &goals.rows, choice.root) {
@@ -249,6 +254,16 @@ fn mend_choice(
     }
 }
 
+/// The choice of a case.
+fn choice_of(rows: &[Row], case: GoalCase) -> Result<Choice, NoMemory>
+    requires goal { case.goal.number < length rows.now }
+    requires choice { case.place < length (row_at rows.now case.goal.number).choices }
+    ensures { IfOk result (λ shared. slice_get (row_at rows.now case.goal.number).choices case.place ≡ Some shared) }
+{
+    let row = &rows[case.goal.number];
+    share_choice(&row.choices[case.place])
+}
+
 /// An equal choice.
 fn share_choice(choice: &Choice) -> Result<Choice, NoMemory>
     ensures { IfOk result (λ shared. shared ≡ choice.now) }
@@ -260,93 +275,61 @@ fn share_choice(choice: &Choice) -> Result<Choice, NoMemory>
     })
 }
 
-/// The choices of a goal.
-fn choices_of(alloc: Global, rows: &[Row], owner: GoalId) -> Result<Vec<Choice>, NoMemory>
-    requires { owner.number < length rows.now }
-    ensures { IfOk result (λ choices. choices.items ≡ (row_at rows.now owner.number).choices) }
+/// Whether a leaf of the case may name a refuted goal.
+fn is_marked(rows: &[Row], case: GoalCase) -> bool
+    requires goal { case.goal.number < length rows.now }
+    requires flag { case.place < length (row_at rows.now case.goal.number).broken }
+    ensures { result ≡ false → IsUnbroken (row_at rows.now case.goal.number) case.place }
 {
-    let row = &rows[owner.number];
-    let choices = row.choices.as_slice();
-    let mut shared = Vec::new(alloc);
-    for choice in choices {
-        shared.push(share_choice(choice)?)?;
-    }
-    Ok(shared)
+    let row = &rows[case.goal.number];
+    row.broken[case.place]
 }
 
-/// Trees for the cases of a goal, made of those that it has.
-fn mend(
+/// A case that fails: at an atom of a head, with a content and a rest for a document that separates.
+#[derive(Drop)]
+struct Failure {
+    atom: Atom,
+    inside: Seq,
+    behind: Seq,
+}
+
+/// Repairs the choice tree of a case, or says how the case fails.
+fn mend_case(
     alloc: Global,
     auto: &Auto,
     store: &Store,
     answers: &mut Answers,
     goals: &mut Goals,
-    owner: GoalId,
+    owner: GoalCase,
     left: State,
     rights: &[State],
-) -> Result<Settled, NoMemory>
-    requires consistent { IsConsistent (length auto.now) goals.old }
-    requires owner { owner.number < length goals.old.rows.items }
-    requires left { IsState auto.now left }
-    requires rights { AllByRecursion (IsState auto.now) rights.now }
-    requires choices { AllByRecursion (ChoiceStands auto.now (view_of goals.old) owner.number (claim_with left rights.now)) (row_at goals.old.rows.items owner.number).choices }
-    requires begun { IsBegun auto.now (claim_with left rights.now) (row_at goals.old.rows.items owner.number).choices }
-    requires separated { AreSeparated auto.now store.now goals.old.rows.items }
+) -> Result<Option<Failure>, NoMemory>
+    requires whole { IsWhole goals.old }
+    requires owner { owner.goal.number < length goals.old.rows.items }
+    requires waits { (row_at goals.old.rows.items owner.goal.number).standing ≡ Waiting }
+    requires place { owner.place < length (row_at goals.old.rows.items owner.goal.number).choices }
+    requires stands { StandsOn auto.now store.now (view_of goals.old) }
+    requires claim { claim_of (row_at goals.old.rows.items owner.goal.number) ≡ claim_with left rights.now }
     requires right { AreRight auto.now store.now answers.old }
-    ensures consistent { IsConsistent (length auto.now) goals.new }
-    ensures grows { Grows (view_of goals.old) (view_of goals.new) }
-    ensures settled { IfOk result (IsSettling auto.now store.now (view_of goals.new) owner.number (claim_with left rights.now)) }
+    ensures whole { IsWhole goals.new }
+    ensures stands { StandsOn auto.now store.now (view_of goals.new) }
+    ensures mending { IsMending owner.goal.number (view_of goals.old) (view_of goals.new) }
+    ensures mended { IfOk result (IsMended auto.now store.now (view_of goals.new) owner) }
     ensures right { AreRight auto.now store.now answers.new }
 {
-    let choices = choices_of(alloc, &goals.rows, owner)?;
-    let mut made = Vec::new(alloc);
-    for number in 0..choices.len() {
-        let choice = &choices[number];
-        match mend_choice(
-            alloc, auto, store, answers, goals, owner, left, rights, choice,
-        )? {
-            Grown::Stands(root) => made.push(Choice {
-                head: choice.head,
-                atom: share(&choice.atom)?,
-                root,
-            })?,
-            Grown::Fails(inside, behind) => {
-                return Ok(Settled::Separates(share(&choice.atom)?, inside, behind));
-            }
+    let choice = choice_of(&goals.rows, owner)?;
+    match mend_choice(
+        alloc, auto, store, answers, goals, owner, left, rights, &choice,
+    )? {
+        Grown::Stands(root) => {
+            set_root(&mut goals.rows, owner, root);
+            Ok(None)
         }
-    }
-    Ok(Settled::Holds(made))
-}
-
-/// Trees for the cases of a goal.
-fn settle(
-    alloc: Global,
-    auto: &Auto,
-    store: &Store,
-    answers: &mut Answers,
-    goals: &mut Goals,
-    owner: GoalId,
-    left: State,
-    rights: &[State],
-) -> Result<Settled, NoMemory>
-    requires consistent { IsConsistent (length auto.now) goals.old }
-    requires owner { owner.number < length goals.old.rows.items }
-    requires left { IsState auto.now left }
-    requires rights { AllByRecursion (IsState auto.now) rights.now }
-    requires choices { AllByRecursion (ChoiceStands auto.now (view_of goals.old) owner.number (claim_with left rights.now)) (row_at goals.old.rows.items owner.number).choices }
-    requires begun { ¬ ((row_at goals.old.rows.items owner.number).choices ≡ []) → IsBegun auto.now (claim_with left rights.now) (row_at goals.old.rows.items owner.number).choices }
-    requires separated { AreSeparated auto.now store.now goals.old.rows.items }
-    requires right { AreRight auto.now store.now answers.old }
-    ensures consistent { IsConsistent (length auto.now) goals.new }
-    ensures grows { Grows (view_of goals.old) (view_of goals.new) }
-    ensures settled { IfOk result (IsSettling auto.now store.now (view_of goals.new) owner.number (claim_with left rights.now)) }
-    ensures right { AreRight auto.now store.now answers.new }
-{
-    let row = &goals.rows[owner.number];
-    if row.choices.is_empty() {
-        begin(alloc, auto, store, answers, goals, owner, left, rights)
-    } else {
-        mend(alloc, auto, store, answers, goals, owner, left, rights)
+        Grown::Fails(inside, behind) => Ok(Some(Failure {
+            atom: share(&choice.atom)?,
+            inside,
+            behind,
+        })),
     }
 }
 
@@ -366,7 +349,7 @@ fn refute_at(
     requires owner { owner.number < length goals.old.rows.items }
     requires waits { (row_at goals.old.rows.items owner.number).standing ≡ Waiting }
     requires stands { StandsOn auto.now store.old (view_of goals.old) }
-    requires fails { FailsAt auto.now store.old (view_of goals.old) owner.number (claim_of (row_at goals.old.rows.items owner.number)) atom.now inside behind }
+    requires fails { FailsAt auto.now store.old (view_of goals.old) (claim_of (row_at goals.old.rows.items owner.number)) atom.now inside behind }
     requires right { AreRight auto.now store.old answers.now }
     ensures whole { IsWhole goals.new }
     ensures stands { StandsOn auto.now store.new (view_of goals.new) }
@@ -379,6 +362,94 @@ fn refute_at(
     let document = separate(alloc, auto, goals, owner, store, atom, inside, behind)?;
     answers.stay_right();
     refute(&mut goals.rows, &goals.links, owner, document);
+    Ok(())
+}
+
+/// Brings a goal that has no choices yet to hold, or to be refuted where a case of it fails.
+fn begin_goal(
+    alloc: Global,
+    auto: &Auto,
+    goals: &mut Goals,
+    owner: GoalId,
+    store: &mut Store,
+    answers: &mut Answers,
+    left: State,
+    rights: &[State],
+) -> Result<(), NoMemory>
+    requires whole { IsWhole goals.old }
+    requires owner { owner.number < length goals.old.rows.items }
+    requires waits { (row_at goals.old.rows.items owner.number).standing ≡ Waiting }
+    requires stands { StandsOn auto.now store.old (view_of goals.old) }
+    requires claim { claim_of (row_at goals.old.rows.items owner.number) ≡ claim_with left rights.now }
+    requires last { is_last_in auto.now left ≡ true → list_any (is_last_in auto.now) rights.now ≡ true }
+    requires right { AreRight auto.now store.old answers.old }
+    ensures whole { IsWhole goals.new }
+    ensures stands { StandsOn auto.now store.new (view_of goals.new) }
+    ensures goals { KeepsGoals (view_of goals.old) (view_of goals.new) }
+    ensures keeps { Keeps store.old store.new }
+    ensures made { AreMadeFrom (length goals.old.rows.items) goals.new.rows.items }
+    ensures lowers { OnOk result (Lowers goals.old.rows.items goals.new.rows.items) }
+    ensures right { OnOk result (AreRight auto.now store.new answers.new) }
+{
+    match begin(alloc, auto, store, answers, goals, owner, left, rights)? {
+        Settled::Holds(made) => {
+            let broken = no_marks(alloc, made.len())?;
+            hold(&mut goals.rows, owner, made, broken);
+            Ok(())
+        }
+        Settled::Separates(atom, inside, behind) => {
+            refute_at(
+                alloc, auto, goals, owner, store, answers, &atom, inside, behind,
+            )
+        }
+    }
+}
+
+/// Brings a goal that waits again to hold, or to be refuted where a case of it fails. Only the cases of
+/// which a leaf may name a refuted goal are looked at.
+fn mend_goal(
+    alloc: Global,
+    auto: &Auto,
+    goals: &mut Goals,
+    owner: GoalId,
+    store: &mut Store,
+    answers: &mut Answers,
+    left: State,
+    rights: &[State],
+) -> Result<(), NoMemory>
+    requires whole { IsWhole goals.old }
+    requires owner { owner.number < length goals.old.rows.items }
+    requires waits { (row_at goals.old.rows.items owner.number).standing ≡ Waiting }
+    requires begun { ¬ ((row_at goals.old.rows.items owner.number).choices ≡ []) }
+    requires stands { StandsOn auto.now store.old (view_of goals.old) }
+    requires claim { claim_of (row_at goals.old.rows.items owner.number) ≡ claim_with left rights.now }
+    requires right { AreRight auto.now store.old answers.old }
+    ensures whole { IsWhole goals.new }
+    ensures stands { StandsOn auto.now store.new (view_of goals.new) }
+    ensures goals { KeepsGoals (view_of goals.old) (view_of goals.new) }
+    ensures keeps { Keeps store.old store.new }
+    ensures made { AreMadeFrom (length goals.old.rows.items) goals.new.rows.items }
+    ensures lowers { OnOk result (Lowers goals.old.rows.items goals.new.rows.items) }
+    ensures right { OnOk result (AreRight auto.now store.new answers.new) }
+{
+    let row = &goals.rows[owner.number];
+    for place in 0..row.broken.len() {
+        let case = GoalCase { goal: owner, place };
+        if is_marked(&goals.rows, case) {
+            let failure = mend_case(alloc, auto, store, answers, goals, case, left, rights)?;
+            if let Some(Failure {
+                atom,
+                inside,
+                behind,
+            }) = failure
+            {
+                return refute_at(
+                    alloc, auto, goals, owner, store, answers, &atom, inside, behind,
+                );
+            }
+        }
+    }
+    set_standing(&mut goals.rows, owner, Standing::Holds);
     Ok(())
 }
 
@@ -408,16 +479,15 @@ fn work_on_cases(
     ensures lowers { OnOk result (Lowers goals.old.rows.items goals.new.rows.items) }
     ensures right { OnOk result (AreRight auto.now store.new answers.new) }
 {
-    match settle(alloc, auto, store, answers, goals, owner, left, rights)? {
-        Settled::Holds(made) => {
-            hold(&mut goals.rows, owner, made);
-            Ok(())
-        }
-        Settled::Separates(atom, inside, behind) => {
-            refute_at(
-                alloc, auto, goals, owner, store, answers, &atom, inside, behind,
-            )
-        }
+    let row = &goals.rows[owner.number];
+    if row.choices.is_empty() {
+        begin_goal(
+            alloc, auto, goals, owner, store, answers, left, rights,
+        )
+    } else {
+        mend_goal(
+            alloc, auto, goals, owner, store, answers, left, rights,
+        )
     }
 }
 

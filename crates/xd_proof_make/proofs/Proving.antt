@@ -19,7 +19,7 @@ use Rattle.xd_rules.specs.Members.{IsOneOf}
 use Rattle.xd_rules.proofs.Members.{one_of-all, one_of-get, get-one_of}
 use Rattle.xd_goals.specs.Moves.{heads_of}
 use Rattle.xd_goals.specs.Rows.{GoalRow, TableView, row_at, claim_of, IsRowBelow}
-use Rattle.xd_goals.specs.Standing.{IsBegun, StandsOn, ChoiceStands}
+use Rattle.xd_goals.specs.Standing.{IsBegun, StandsOn}
 use Rattle.xd_goals.specs.Reached.{IsSettled, is_marked, LeadsToMarked}
 use Rattle.xd_goals.specs.Trees.{StandsAt}
 use Rattle.xd_goals.specs.declared.table.Choice.{Choice}
@@ -27,7 +27,7 @@ use Rattle.xd_goals.specs.declared.table.ChoiceNode.{ChoiceNode}
 use Rattle.xd_goals.specs.declared.table.Standing.TheVariants.{Holds}
 use Rattle.xd_goals.proofs.Growing.{past_is_new}
 use Rattle.xd_goals.proofs.Lists.{all_map}
-use Rattle.xd_goals.proofs.Facts.{all_both}
+use Rattle.xd_goals.proofs.Facts.{StandsSomewhere, all_both, choices_stand}
 use Rattle.xd_goals.proofs.Verdicts.{choices_keep}
 use Rattle.xd_heads.specs.CellsView.{CellsView}
 use Rattle.xd_heads.specs.Mirrors.{Mirrors, continuation_of}
@@ -111,7 +111,8 @@ module _ (p : ProgramTable) (c : CellsView) (a : Automaton) (ds : List Document)
 
   matched : (g : ℕ) → IsMet numbers g → (k : Choice) (h : table.Head State) → IsOneOf k (row_at t.rows g).choices → rules.head_number (heads_of a (row_at t.rows g).left) k.head ≡ Some h → table.matches h.kind k.atom ≡ true
   matched g x k h m e =
-      let y = one_of-all (ChoiceStands a t g (claim_of (row_at t.rows g))) k (row_at t.rows g).choices (stands.choices g) m in
+      let s = one_of-all (StandsSomewhere a t (claim_of (row_at t.rows g))) k (row_at t.rows g).choices (choices_stand a ds t stands g) m in
+      let y = s.1 in
       let q : y.head ≡ h = (let f = y.found in cc) in
       subst (λ (w : table.Head State). table.matches w.kind k.atom ≡ true) q y.matched
 

@@ -7,9 +7,9 @@ use Rattle.xd_goals.proofs.goals.depend.Goals as goal
 
 pub returns-then-begins_with-clause-listed : goal.returns-then-begins_with-clause-listed
 returns-then-begins_with-clause-listed c =
-    subst (λ (o : Option ℕ). Leads c.args.goals.now.links.items c.args.owner.number o)
+    subst (λ (o : Option ℕ). Leads c.args.goals.now.links.items c.args.owner o)
     (ap (λ (r : GoalRow). r.dependents) (c.row.view_is ∙ row_read c.args.goals.now.rows.items c.args.on.number c.index-row.result.now c.requires.on c.index-row.ensures))
-    (rw c.deref.ensures.value at (Leads-begins c.deref.result.now c.row.inside.dependents c.args.owner.number (c.if-begins_with.ensures refl)))
+    (rw c.deref.ensures.value at (Leads-begins c.deref.result.now c.row.inside.dependents c.args.owner (c.if-begins_with.ensures refl)))
 
 linked : (c : goal.After-set_dependents) → IsLinkedNow IsInOrder c.args.goals.now.rows.items c.args.goals.now.nodes.items c.args.goals.now.links.items c.args.on.number c.args.owner c.set_dependents.new.rows.items c.push.new.self.items
 linked c =

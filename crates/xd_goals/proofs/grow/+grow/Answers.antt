@@ -38,13 +38,13 @@ returns-in-Fails-2-clause-grows t c =
 pub add_split-requires-clause-content : goal.add_split-requires-clause-content
 add_split-requires-clause-content t c =
     open_within-grows (view_of c.grow.new.goals) (view_of c.grow-in-Stands.new.goals) c.in_ok-inside-in-Stands.ensures.grows
-    (λ tree. IsGrown c.grow.new.goals.rows.items c.args.task c.args.sides.now tree c.deref.result.now c.args.rests.now) c.args.task.owner.number c.in-Stands.one
+    (λ tree. IsGrown c.grow.new.goals.rows.items c.args.task c.args.sides.now tree c.deref.result.now c.args.rests.now) c.args.task.owner c.in-Stands.one
     (rw c.in-Stands.is at c.in_ok-inside.ensures.grown)
 
 pub add_split-requires-clause-rest : goal.add_split-requires-clause-rest
 add_split-requires-clause-rest t c =
     HasOpenTree-within (view_of c.grow-in-Stands.new.goals)
-    (λ tree. IsGrown c.grow-in-Stands.new.goals.rows.items c.args.task c.args.sides.now tree c.args.contents.now c.deref-in-Stands.result.now) c.args.task.owner.number c.in-Stands-2.two
+    (λ tree. IsGrown c.grow-in-Stands.new.goals.rows.items c.args.task c.args.sides.now tree c.args.contents.now c.deref-in-Stands.result.now) c.args.task.owner c.in-Stands-2.two
     (rw c.in-Stands-2.is at c.in_ok-inside-in-Stands.ensures.grown)
 
 pub returns-in_err-add_split-in-Stands-2-clause-grows : goal.returns-in_err-add_split-in-Stands-2-clause-grows
@@ -75,23 +75,23 @@ taker-requires-clause-rests t c = rw c.requires.states at c.requires.path.rests_
 
 pub taker-requires-clause-inside : goal.taker-requires-clause-inside
 taker-requires-clause-inside t c =
-    let x = leaf_separated c.args.auto.now c.args.store.now (view_of c.args.goals.now) (view_of c.leaf.new.goals) c.in_ok-content.ensures.grows c.requires.separated c.args.task.owner.number
+    let x = leaf_separated c.args.auto.now c.args.store.now (view_of c.args.goals.now) (view_of c.leaf.new.goals) c.in_ok-content.ensures.grows c.requires.separated c.args.task.owner
     (claim_with c.args.task.content c.args.contents.now) c.in_ok-content.content c.standing.result c.in-Refuted.inside c.in_ok-content.ensures.ok c.standing.ensures c.in-Refuted.is in
     x.belongs
 
 pub taker-requires-clause-behind : goal.taker-requires-clause-behind
 taker-requires-clause-behind t c =
     let y = leaf_separated c.args.auto.now c.args.store.now (view_of c.args.goals.now) (view_of c.leaf-2.new.goals)
-    (Grows-then (view_of c.args.goals.now) (view_of c.leaf.new.goals) (view_of c.leaf-2.new.goals) c.in_ok-content.ensures.grows c.in_ok-rest.ensures.grows) c.requires.separated c.args.task.owner.number
+    (Grows-then (view_of c.args.goals.now) (view_of c.leaf.new.goals) (view_of c.leaf-2.new.goals) c.in_ok-content.ensures.grows c.in_ok-rest.ensures.grows) c.requires.separated c.args.task.owner
     (claim_with c.args.task.rest c.args.rests.now) c.in_ok-rest.rest c.standing-2.result c.in-Refuted-standing.behind c.in_ok-rest.ensures.ok c.standing-2.ensures c.in-Refuted-standing.is in
     y.belongs
 
 pub returns-in_default-2-clause-grown : goal.returns-in_default-2-clause-grown
 returns-in_default-2-clause-grown t c =
-    let x = leaf_separated c.args.auto.now c.args.store.now (view_of c.args.goals.now) (view_of c.leaf.new.goals) c.in_ok-content.ensures.grows c.requires.separated c.args.task.owner.number
+    let x = leaf_separated c.args.auto.now c.args.store.now (view_of c.args.goals.now) (view_of c.leaf.new.goals) c.in_ok-content.ensures.grows c.requires.separated c.args.task.owner
     (claim_with c.args.task.content c.args.contents.now) c.in_ok-content.content c.standing.result c.in-Refuted.inside c.in_ok-content.ensures.ok c.standing.ensures c.in-Refuted.is in
     let y = leaf_separated c.args.auto.now c.args.store.now (view_of c.args.goals.now) (view_of c.leaf-2.new.goals)
-    (Grows-then (view_of c.args.goals.now) (view_of c.leaf.new.goals) (view_of c.leaf-2.new.goals) c.in_ok-content.ensures.grows c.in_ok-rest.ensures.grows) c.requires.separated c.args.task.owner.number
+    (Grows-then (view_of c.args.goals.now) (view_of c.leaf.new.goals) (view_of c.leaf-2.new.goals) c.in_ok-content.ensures.grows c.in_ok-rest.ensures.grows) c.requires.separated c.args.task.owner
     (claim_with c.args.task.rest c.args.rests.now) c.in_ok-rest.rest c.standing-2.result c.in-Refuted-standing.behind c.in_ok-rest.ensures.ok c.standing-2.ensures c.in-Refuted-standing.is in
     record {
       content_belongs = x.belongs;
@@ -104,10 +104,10 @@ returns-in_default-2-clause-grown t c =
 
 pub grow-requires : goal.grow-requires
 grow-requires t c =
-    let x = leaf_separated c.args.auto.now c.args.store.now (view_of c.args.goals.now) (view_of c.leaf.new.goals) c.in_ok-content.ensures.grows c.requires.separated c.args.task.owner.number
+    let x = leaf_separated c.args.auto.now c.args.store.now (view_of c.args.goals.now) (view_of c.leaf.new.goals) c.in_ok-content.ensures.grows c.requires.separated c.args.task.owner
     (claim_with c.args.task.content c.args.contents.now) c.in_ok-content.content c.standing.result c.in-Refuted.inside c.in_ok-content.ensures.ok c.standing.ensures c.in-Refuted.is in
     let y = leaf_separated c.args.auto.now c.args.store.now (view_of c.args.goals.now) (view_of c.leaf-2.new.goals)
-    (Grows-then (view_of c.args.goals.now) (view_of c.leaf.new.goals) (view_of c.leaf-2.new.goals) c.in_ok-content.ensures.grows c.in_ok-rest.ensures.grows) c.requires.separated c.args.task.owner.number
+    (Grows-then (view_of c.args.goals.now) (view_of c.leaf.new.goals) (view_of c.leaf-2.new.goals) c.in_ok-content.ensures.grows c.in_ok-rest.ensures.grows) c.requires.separated c.args.task.owner
     (claim_with c.args.task.rest c.args.rests.now) c.in_ok-rest.rest c.standing-2.result c.in-Refuted-standing.behind c.in_ok-rest.ensures.ok c.standing-2.ensures c.in-Refuted-standing.is in
     let free = taker_free c.args.auto.now c.args.store.now c.args.task.content c.args.task.rest c.args.sides.now c.args.contents.now c.args.rests.now c.in-Refuted.inside c.in-Refuted-standing.behind c.in-Some.side x y
     (some_found (AllByRecursion (λ (s : Side). takes c.args.auto.now c.args.store.now c.in-Refuted.inside c.in-Refuted-standing.behind s ≡ false) c.args.sides.now)
@@ -135,10 +135,10 @@ grow-requires t c =
 
 pub grow-requires-in-Stands : goal.grow-requires-in-Stands
 grow-requires-in-Stands t c =
-    let x = leaf_separated c.args.auto.now c.args.store.now (view_of c.args.goals.now) (view_of c.leaf.new.goals) c.in_ok-content.ensures.grows c.requires.separated c.args.task.owner.number
+    let x = leaf_separated c.args.auto.now c.args.store.now (view_of c.args.goals.now) (view_of c.leaf.new.goals) c.in_ok-content.ensures.grows c.requires.separated c.args.task.owner
     (claim_with c.args.task.content c.args.contents.now) c.in_ok-content.content c.standing.result c.in-Refuted.inside c.in_ok-content.ensures.ok c.standing.ensures c.in-Refuted.is in
     let y = leaf_separated c.args.auto.now c.args.store.now (view_of c.args.goals.now) (view_of c.leaf-2.new.goals)
-    (Grows-then (view_of c.args.goals.now) (view_of c.leaf.new.goals) (view_of c.leaf-2.new.goals) c.in_ok-content.ensures.grows c.in_ok-rest.ensures.grows) c.requires.separated c.args.task.owner.number
+    (Grows-then (view_of c.args.goals.now) (view_of c.leaf.new.goals) (view_of c.leaf-2.new.goals) c.in_ok-content.ensures.grows c.in_ok-rest.ensures.grows) c.requires.separated c.args.task.owner
     (claim_with c.args.task.rest c.args.rests.now) c.in_ok-rest.rest c.standing-2.result c.in-Refuted-standing.behind c.in_ok-rest.ensures.ok c.standing-2.ensures c.in-Refuted-standing.is in
     let free = taker_free c.args.auto.now c.args.store.now c.args.task.content c.args.task.rest c.args.sides.now c.args.contents.now c.args.rests.now c.in-Refuted.inside c.in-Refuted-standing.behind c.in-Some.side x y
     (some_found (AllByRecursion (λ (s : Side). takes c.args.auto.now c.args.store.now c.in-Refuted.inside c.in-Refuted-standing.behind s ≡ false) c.args.sides.now)
@@ -167,10 +167,10 @@ grow-requires-in-Stands t c =
 
 pub returns-clause-grown : goal.returns-clause-grown
 returns-clause-grown t c =
-    let x = leaf_separated c.args.auto.now c.args.store.now (view_of c.args.goals.now) (view_of c.leaf.new.goals) c.in_ok-content.ensures.grows c.requires.separated c.args.task.owner.number
+    let x = leaf_separated c.args.auto.now c.args.store.now (view_of c.args.goals.now) (view_of c.leaf.new.goals) c.in_ok-content.ensures.grows c.requires.separated c.args.task.owner
     (claim_with c.args.task.content c.args.contents.now) c.in_ok-content.content c.standing.result c.in-Refuted.inside c.in_ok-content.ensures.ok c.standing.ensures c.in-Refuted.is in
     let y = leaf_separated c.args.auto.now c.args.store.now (view_of c.args.goals.now) (view_of c.leaf-2.new.goals)
-    (Grows-then (view_of c.args.goals.now) (view_of c.leaf.new.goals) (view_of c.leaf-2.new.goals) c.in_ok-content.ensures.grows c.in_ok-rest.ensures.grows) c.requires.separated c.args.task.owner.number
+    (Grows-then (view_of c.args.goals.now) (view_of c.leaf.new.goals) (view_of c.leaf-2.new.goals) c.in_ok-content.ensures.grows c.in_ok-rest.ensures.grows) c.requires.separated c.args.task.owner
     (claim_with c.args.task.rest c.args.rests.now) c.in_ok-rest.rest c.standing-2.result c.in-Refuted-standing.behind c.in_ok-rest.ensures.ok c.standing-2.ensures c.in-Refuted-standing.is in
     let free = taker_free c.args.auto.now c.args.store.now c.args.task.content c.args.task.rest c.args.sides.now c.args.contents.now c.args.rests.now c.in-Refuted.inside c.in-Refuted-standing.behind c.in-Some.side x y
     (some_found (AllByRecursion (λ (s : Side). takes c.args.auto.now c.args.store.now c.in-Refuted.inside c.in-Refuted-standing.behind s ≡ false) c.args.sides.now)

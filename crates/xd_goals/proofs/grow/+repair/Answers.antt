@@ -17,34 +17,34 @@ use Rattle.xd_goals.proofs.grow.+repair.Goals as goal
 
 -- the parts of the tree that is there
 parts : (g : Goals) (task : Task) (sides : List Side) (contents rests : List State) (root right x y : ℕ) (nodes : List ChoiceNode)
-    → HasTree (view_of g) (λ tree. IsGrown g.rows.items task sides tree contents rests) task.owner.number root → nodes ≡ g.nodes.items
-    → slice_get nodes root ≡ Some (Split right x y) → HasParts (view_of g) task sides contents rests task.owner.number root right x y
+    → HasTree (view_of g) (λ tree. IsGrown g.rows.items task sides tree contents rests) task.owner root → nodes ≡ g.nodes.items
+    → slice_get nodes root ≡ Some (Split right x y) → HasParts (view_of g) task sides contents rests task.owner root right x y
 parts g task sides contents rests root right x y nodes h e at =
-    tree_parts (view_of g) task sides contents rests task.owner.number root right x y h (subst (λ (ns : List ChoiceNode). slice_get ns root ≡ Some (Split right x y)) e at)
+    tree_parts (view_of g) task sides contents rests task.owner root right x y h (subst (λ (ns : List ChoiceNode). slice_get ns root ≡ Some (Split right x y)) e at)
 
 pub node_at-requires : goal.node_at-requires
 node_at-requires t c =
     rw c.deref.ensures.value
-    (HasTree-within (view_of c.args.goals.now) (λ tree. IsGrown c.args.goals.now.rows.items c.args.task c.args.sides.now tree c.args.contents.now c.args.rests.now) c.args.task.owner.number c.args.root c.requires.tree)
+    (HasTree-within (view_of c.args.goals.now) (λ tree. IsGrown c.args.goals.now.rows.items c.args.task c.args.sides.now tree c.args.contents.now c.args.rests.now) c.args.task.owner c.args.root c.requires.tree)
 
 pub repair_leaf-requires-clause-there : goal.repair_leaf-requires-clause-there
 repair_leaf-requires-clause-there t c =
-    content_there (view_of c.args.goals.now) c.args.task c.args.sides.now c.args.contents.now c.args.rests.now c.args.task.owner.number c.args.root c.in-Content.goal c.requires.tree
+    content_there (view_of c.args.goals.now) c.args.task c.args.sides.now c.args.contents.now c.args.rests.now c.args.task.owner c.args.root c.in-Content.goal c.requires.tree
     (rw c.deref.ensures.value at c.in-Content.ensures)
 
 pub repair_leaf-requires-clause-opens : goal.repair_leaf-requires-clause-opens
 repair_leaf-requires-clause-opens t c =
-    content_open (view_of c.args.goals.now) (λ tree. IsGrown c.args.goals.now.rows.items c.args.task c.args.sides.now tree c.args.contents.now c.args.rests.now) c.args.task.owner.number c.args.root
+    content_open (view_of c.args.goals.now) (λ tree. IsGrown c.args.goals.now.rows.items c.args.task c.args.sides.now tree c.args.contents.now c.args.rests.now) c.args.task.owner c.args.root
     c.in-Content.goal c.requires.tree (rw c.deref.ensures.value at c.in-Content.ensures)
 
 pub repair_leaf-requires-in-Rest-clause-there : goal.repair_leaf-requires-in-Rest-clause-there
 repair_leaf-requires-in-Rest-clause-there t c =
-    rest_there (view_of c.args.goals.now) c.args.task c.args.sides.now c.args.contents.now c.args.rests.now c.args.task.owner.number c.args.root c.in-Rest.goal c.requires.tree
+    rest_there (view_of c.args.goals.now) c.args.task c.args.sides.now c.args.contents.now c.args.rests.now c.args.task.owner c.args.root c.in-Rest.goal c.requires.tree
     (rw c.deref.ensures.value at c.in-Rest.ensures)
 
 pub repair_leaf-requires-in-Rest-clause-opens : goal.repair_leaf-requires-in-Rest-clause-opens
 repair_leaf-requires-in-Rest-clause-opens t c =
-    rest_open (view_of c.args.goals.now) (λ tree. IsGrown c.args.goals.now.rows.items c.args.task c.args.sides.now tree c.args.contents.now c.args.rests.now) c.args.task.owner.number c.args.root
+    rest_open (view_of c.args.goals.now) (λ tree. IsGrown c.args.goals.now.rows.items c.args.task c.args.sides.now tree c.args.contents.now c.args.rests.now) c.args.task.owner c.args.root
     c.in-Rest.goal c.requires.tree (rw c.deref.ensures.value at c.in-Rest.ensures)
 
 pub side_numbered-side-requires : goal.side_numbered-side-requires
@@ -73,7 +73,7 @@ repair-requires t c =
                 c.requires.separated,
                 (
                   c.requires.right,
-                  subst (λ (cs : List State). HasTree (view_of c.args.goals.now) (λ tree. IsGrown c.args.goals.now.rows.items c.args.task c.args.sides.now tree cs c.args.rests.now) c.args.task.owner.number c.in-Split.content)
+                  subst (λ (cs : List State). HasTree (view_of c.args.goals.now) (λ tree. IsGrown c.args.goals.now.rows.items c.args.task c.args.sides.now tree cs c.args.rests.now) c.args.task.owner c.in-Split.content)
                       (sym e) p.content,
                 ),
               ),
@@ -103,13 +103,13 @@ repair-requires-in-Stands t c =
                 separated-grows c.args.auto.now c.args.store.now (view_of c.args.goals.now) (view_of c.repair.new.goals) c.in_ok-inside-in-Split.ensures.grows c.requires.separated,
                 (
                   c.in_ok-inside-in-Split.ensures.right,
-                  subst (λ (rs : List State). HasTree (view_of c.repair.new.goals) (λ tree. IsGrown c.repair.new.goals.rows.items c.args.task c.args.sides.now tree c.args.contents.now rs) c.args.task.owner.number c.in-Split.rest)
+                  subst (λ (rs : List State). HasTree (view_of c.repair.new.goals) (λ tree. IsGrown c.repair.new.goals.rows.items c.args.task c.args.sides.now tree c.args.contents.now rs) c.args.task.owner c.in-Split.rest)
                       (sym f)
                       (HasTree-grows (view_of c.args.goals.now) (view_of c.repair.new.goals) c.in_ok-inside-in-Split.ensures.grows
                       (λ tree. IsGrown c.args.goals.now.rows.items c.args.task c.args.sides.now tree c.args.contents.now (with_state p.side.rest c.args.rests.now))
                       (λ tree. IsGrown c.repair.new.goals.rows.items c.args.task c.args.sides.now tree c.args.contents.now (with_state p.side.rest c.args.rests.now))
                       (λ tree k. IsGrown-grows (view_of c.args.goals.now) (view_of c.repair.new.goals) c.in_ok-inside-in-Split.ensures.grows c.args.task c.args.sides.now tree c.args.contents.now (with_state p.side.rest c.args.rests.now) k)
-                      c.args.task.owner.number c.in-Split.rest p.rest),
+                      c.args.task.owner c.in-Split.rest p.rest),
                 ),
               ),
             ),
@@ -141,13 +141,13 @@ returns-then-two-rest-clause-grown t c =
 pub add_split-requires-clause-content : goal.add_split-requires-clause-content
 add_split-requires-clause-content t c =
     open_within-grows (view_of c.repair.new.goals) (view_of c.repair-in-Stands.new.goals) c.in_ok-inside-in-Stands.ensures.grows
-    (λ tree. IsGrown c.repair.new.goals.rows.items c.args.task c.args.sides.now tree c.deref-in-Split.result.now c.args.rests.now) c.args.task.owner.number c.in-Stands.one
+    (λ tree. IsGrown c.repair.new.goals.rows.items c.args.task c.args.sides.now tree c.deref-in-Split.result.now c.args.rests.now) c.args.task.owner c.in-Stands.one
     (rw c.in-Stands.is at c.in_ok-inside-in-Split.ensures.grown)
 
 pub add_split-requires-clause-rest : goal.add_split-requires-clause-rest
 add_split-requires-clause-rest t c =
     HasOpenTree-within (view_of c.repair-in-Stands.new.goals)
-    (λ tree. IsGrown c.repair-in-Stands.new.goals.rows.items c.args.task c.args.sides.now tree c.args.contents.now c.deref-in-Stands.result.now) c.args.task.owner.number c.in-Stands-2.two
+    (λ tree. IsGrown c.repair-in-Stands.new.goals.rows.items c.args.task c.args.sides.now tree c.args.contents.now c.deref-in-Stands.result.now) c.args.task.owner c.in-Stands-2.two
     (rw c.in-Stands-2.is at c.in_ok-inside-in-Stands.ensures.grown)
 
 pub returns-clause-grown : goal.returns-clause-grown

@@ -14,7 +14,7 @@ loop-at-preserved-in_ok-push c =
     record {
       place = next_below (length c.args.goals.now.links.items) c.in-Some.number c.link_at-link.result.next
           (slice_get_within c.args.goals.now.links.items c.in-Some.number c.link_at-link.result found) (c.requires.whole.links.next c.in-Some.number c.link_at-link.result found);
-      agenda = rw c.in_ok-push.ensures.items (all_push (IsGoalBelow (length c.args.goals.now.rows.items)) c.loop-at.agenda.items c.link_at-link.result.goal c.loop-at.invariant.agenda
+      agenda = rw c.in_ok-push.ensures.items (all_push (IsGoalBelow (length c.args.goals.now.rows.items)) c.loop-at.agenda.items c.link_at-link.result.case.goal c.loop-at.invariant.agenda
           (c.requires.whole.links.goals c.in-Some.number c.link_at-link.result found));
     }
 

@@ -18,7 +18,7 @@ pub mark_choices-requires : goal.mark_choices-requires
 mark_choices-requires c =
     let lt : c.loop-next.next < length c.loop-next.found.order.items = search rules in
     let n = walk_number (view_of c.args.goals.now) c.args.start.number c.loop-next.waiting.items c.loop-next.found.marks.items c.loop-next.found.order.items c.loop-next.next c.index-number.result.now c.loop-next.invariant lt c.index-number.ensures in
-    rw (c.deref-in-Holds.ensures.value, c.deref-in-Holds-2.ensures.value, c.loop-next.invariant.sized)
+    rw (c.deref.ensures.value, c.deref-in-Holds.ensures.value, c.loop-next.invariant.sized)
     (subst (λ (r : GoalRow). HaveTreesWithin c.args.goals.now.nodes.items (length c.args.goals.now.rows.items) r.choices)
     (sym (c.row.view_is ∙ row_read c.args.goals.now.rows.items c.index-number.result.now c.index-row.result.now n c.index-row.ensures)) (c.requires.trees c.index-number.result.now))
 
@@ -28,9 +28,9 @@ loop-next-preserved c =
     elim c.match-row.branch [
       | in-Holds+in_ok-mark_choices-in-Holds w ↦
           rw (w.found-is, w.waiting-is) (walk_on (view_of c.args.goals.now) c.args.start.number c.loop-next.waiting.items c.loop-next.found.marks.items w.mark_choices.new.found.marks.items c.loop-next.found.order.items w.mark_choices.new.found.order.items c.loop-next.next
-          c.index-number.result.now c.index-row.result.now w.deref-in-Holds.result.now w.deref-in-Holds-2.result.now c.loop-next.invariant lt c.index-number.ensures c.index-row.ensures
-          (ap (λ (r : GoalRow). r.standing) (sym c.row.view_is) ∙ w.in-Holds.is) w.deref-in-Holds.ensures.value
-          (w.deref-in-Holds-2.ensures.value ∙ ap (λ (r : GoalRow). r.choices) c.row.view_is)
+          c.index-number.result.now c.index-row.result.now w.deref.result.now w.deref-in-Holds.result.now c.loop-next.invariant lt c.index-number.ensures c.index-row.ensures
+          (ap (λ (r : GoalRow). r.standing) (sym c.row.view_is) ∙ w.in-Holds.is) w.deref.ensures.value
+          (w.deref-in-Holds.ensures.value ∙ ap (λ (r : GoalRow). r.choices) c.row.view_is)
           c.requires.opens w.mark_choices.ensures.only w.in_ok-mark_choices-in-Holds.ensures.more w.in_ok-mark_choices-in-Holds.ensures.ok)
       | in-Waiting+in_ok-push-in-Waiting w ↦
           let n = walk_number (view_of c.args.goals.now) c.args.start.number c.loop-next.waiting.items c.loop-next.found.marks.items c.loop-next.found.order.items c.loop-next.next c.index-number.result.now c.loop-next.invariant lt c.index-number.ensures in

@@ -20,7 +20,7 @@ pub loop-number-init : goal.loop-number-init
 loop-number-init c = record {
   consistent = c.requires.consistent;
   grows = Grows-same (view_of c.args.goals.now);
-  begun = rw c.new-made.ensures.items (record { keys_are = refl; open_choices = tt });
+  begun = rw c.new-made.ensures.items (record { keys_are = refl; open_choices = λ place k e. absurd (cc) });
   right = c.requires.right;
   end_is = search rules;
 }

@@ -5,7 +5,7 @@ use Rattle.xd_goals.proofs.Working.{case_path, case_grown, case_tree, head_withi
 use Rattle.xd_goals.proofs.work.mend_choice.Goals as goal
 
 pub is_broken-requires : goal.is_broken-requires
-is_broken-requires c = rw (c.deref.ensures.value, c.deref-2.ensures.value) (leaves_there c.args.auto.now (view_of c.args.goals.now) c.args.owner.number (claim_with c.args.left c.args.rights.now) c.args.choice.now c.requires.choice)
+is_broken-requires c = rw (c.deref.ensures.value, c.deref-2.ensures.value) (leaves_there c.args.auto.now (view_of c.args.goals.now) c.args.owner (claim_with c.args.left c.args.rights.now) c.args.choice.now c.requires.choice)
 
 pub returns-then-not-is_broken-clause-grown : goal.returns-then-not-is_broken-clause-grown
 returns-then-not-is_broken-clause-grown c = record { stands = c.requires.choice; opens = rw (c.deref.ensures.value, c.deref-2.ensures.value) at (c.is_broken.ensures c.if-not-is_broken.true) }
@@ -24,7 +24,7 @@ grow_text-requires-clause-path c =
 pub returns-then-is_text-clause-grown : goal.returns-then-is_text-clause-grown
 returns-then-is_text-clause-grown c =
     case_grown c.args.auto.now c.args.owner (claim_with c.args.left c.args.rights.now) c.args.choice.now.head c.args.choice.now.atom c.head_of.result.0 c.head_of.result.1 c.head_of.ensures c.len.result c.len.ensures.value c.deref-then-is_text.result.now (c.deref-then-is_text.ensures.value ∙ c.in_ok-sides.ensures)
-    (same_head c.args.auto.now c.args.owner.number (claim_with c.args.left c.args.rights.now) (view_of c.args.goals.now) c.args.choice.now c.head_of.result.0 c.head_of.result.1 c.requires.choice c.head_of.ensures) true (sym c.is_text.ensures ∙ c.if-is_text.true) c.args.store.now (view_of c.grow_text.new.goals) c.grow_text.result c.grow_text.ensures.grown
+    (same_head c.args.auto.now c.args.owner (claim_with c.args.left c.args.rights.now) (view_of c.args.goals.now) c.args.choice.now c.head_of.result.0 c.head_of.result.1 c.requires.choice c.head_of.ensures) true (sym c.is_text.ensures ∙ c.if-is_text.true) c.args.store.now (view_of c.grow_text.new.goals) c.grow_text.result c.grow_text.ensures.grown
 
 pub repair-requires-clause-path : goal.repair-requires-clause-path
 repair-requires-clause-path c =
@@ -39,4 +39,4 @@ repair-requires-clause-tree c =
 pub returns-clause-grown : goal.returns-clause-grown
 returns-clause-grown c =
     case_grown c.args.auto.now c.args.owner (claim_with c.args.left c.args.rights.now) c.args.choice.now.head c.args.choice.now.atom c.head_of.result.0 c.head_of.result.1 c.head_of.ensures c.len.result c.len.ensures.value c.deref-else-is_text.result.now (c.deref-else-is_text.ensures.value ∙ c.in_ok-sides.ensures)
-    (same_head c.args.auto.now c.args.owner.number (claim_with c.args.left c.args.rights.now) (view_of c.args.goals.now) c.args.choice.now c.head_of.result.0 c.head_of.result.1 c.requires.choice c.head_of.ensures) false (sym c.is_text.ensures ∙ c.if-is_text.false) c.args.store.now (view_of c.repair.new.goals) c.repair.result c.repair.ensures.grown
+    (same_head c.args.auto.now c.args.owner (claim_with c.args.left c.args.rights.now) (view_of c.args.goals.now) c.args.choice.now c.head_of.result.0 c.head_of.result.1 c.requires.choice c.head_of.ensures) false (sym c.is_text.ensures ∙ c.if-is_text.false) c.args.store.now (view_of c.repair.new.goals) c.repair.result c.repair.ensures.grown

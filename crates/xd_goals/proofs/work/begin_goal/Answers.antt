@@ -1,0 +1,95 @@
+use Rattle.std.proofs.Common.{◌<◌, length, sym, subst, ◌∙◌, arith, rules}
+use Rattle.std.specs.List.{AllByRecursion}
+use Rattle.xd_rules.specs.Rules.{Claim}
+use Rattle.xd_auto.specs.declared.auto.State.{State}
+use Rattle.xd_goals.specs.Moves.{claim_with}
+use Rattle.xd_goals.specs.Rows.{row_at}
+use Rattle.xd_goals.specs.Kept.{view_of}
+use Rattle.xd_goals.specs.Standing.{ChoiceStands, IsBegun}
+use Rattle.xd_goals.specs.Cases.{FailsAt}
+use Rattle.xd_goals.proofs.Facts.{keeps_goals-grows, keeps_goals-then}
+use Rattle.xd_goals.proofs.Trees.{standing-grows}
+use Rattle.xd_goals.proofs.Measuring.{lowers-grown, made-grows, made-then}
+use Rattle.xd_goals.proofs.Finding.{OnOk-map}
+use Rattle.xd_goals.proofs.Stepping.{held_by, owner_claim, same_held_by, stands_grown, step_grown, whole_same}
+use Rattle.xd_goals.proofs.work.begin_goal.Goals as goal
+
+pub begin-requires-clause-consistent : goal.begin-requires-clause-consistent
+begin-requires-clause-consistent c = record { states = c.requires.stands.states; index = c.requires.whole.index; links = c.requires.whole.links }
+
+pub begin-requires-clause-left : goal.begin-requires-clause-left
+begin-requires-clause-left c = subst (λ (x : Claim State). x.left.number < length c.args.auto.now) c.requires.claim (c.requires.stands.states.each c.args.owner.number c.requires.owner).left
+
+pub begin-requires-clause-rights : goal.begin-requires-clause-rights
+begin-requires-clause-rights c = subst (λ (x : Claim State). AllByRecursion (λ (s : State). s.number < length c.args.auto.now) x.rights) c.requires.claim (c.requires.stands.states.each c.args.owner.number c.requires.owner).rights
+
+pub returns-in_err-made-clause-stands : goal.returns-in_err-made-clause-stands
+returns-in_err-made-clause-stands c =
+    stands_grown c.args.auto.now c.args.store.now c.args.goals.now c.begin.new.goals c.begin.ensures.grows c.begin.ensures.consistent c.requires.stands
+
+pub returns-in_err-broken-in-Holds-clause-stands : goal.returns-in_err-broken-in-Holds-clause-stands
+returns-in_err-broken-in-Holds-clause-stands c =
+    stands_grown c.args.auto.now c.args.store.now c.args.goals.now c.begin.new.goals c.begin.ensures.grows c.begin.ensures.consistent c.requires.stands
+
+pub returns-in_err-made-clause-goals : goal.returns-in_err-made-clause-goals
+returns-in_err-made-clause-goals c = keeps_goals-grows (view_of c.args.goals.now) (view_of c.begin.new.goals) c.begin.ensures.grows
+
+pub returns-in_err-made-clause-made : goal.returns-in_err-made-clause-made
+returns-in_err-made-clause-made c = made-grows (view_of c.args.goals.now) (view_of c.begin.new.goals) c.begin.ensures.grows
+
+pub refute_at-requires-clause-stands : goal.refute_at-requires-clause-stands
+refute_at-requires-clause-stands c = (stands_grown c.args.auto.now c.args.store.now c.args.goals.now c.begin.new.goals c.begin.ensures.grows c.begin.ensures.consistent c.requires.stands)
+
+pub refute_at-requires-clause-waits : goal.refute_at-requires-clause-waits
+refute_at-requires-clause-waits c = (standing-grows (view_of c.args.goals.now) (view_of c.begin.new.goals) c.begin.ensures.grows c.args.owner.number ∙ c.requires.waits)
+
+pub refute_at-requires-clause-fails : goal.refute_at-requires-clause-fails
+refute_at-requires-clause-fails c =
+    subst (λ (x : Claim State). FailsAt c.args.auto.now c.args.store.now (view_of c.begin.new.goals) x c.in-Separates.atom c.in-Separates.inside c.in-Separates.behind)
+    (sym (owner_claim (view_of c.args.goals.now) (view_of c.begin.new.goals) c.begin.ensures.grows c.args.owner.number (claim_with c.args.left c.args.rights.now) c.requires.owner c.requires.claim)) (rw c.in-Separates.is at c.in_ok-made.ensures.settled)
+
+pub returns-in_ok-broken-in-Holds-clause-whole : goal.returns-in_ok-broken-in-Holds-clause-whole
+returns-in_ok-broken-in-Holds-clause-whole c =
+    let same = same_held_by c.args.auto.now c.args.store.now (view_of c.begin.new.goals) c.args.owner.number c.in-Holds.made.items c.in_ok-broken-in-Holds.broken.items (omega (arith, c.begin.ensures.grows.longer, c.requires.owner)) (standing-grows (view_of c.args.goals.now) (view_of c.begin.new.goals) c.begin.ensures.grows c.args.owner.number ∙ c.requires.waits) in
+    let w = whole_same c.begin.new.goals.rows.items _ c.begin.new.goals.links.items c.begin.new.goals.found same c.begin.ensures.consistent.index c.begin.ensures.consistent.links in
+    record { index = rw c.hold.ensures w.0; links = rw c.hold.ensures w.1 }
+
+pub returns-in_ok-broken-in-Holds-clause-stands : goal.returns-in_ok-broken-in-Holds-clause-stands
+returns-in_ok-broken-in-Holds-clause-stands c =
+    let step = step_grown c.args.auto.now c.args.store.now (view_of c.args.goals.now) (view_of c.begin.new.goals) _ c.begin.ensures.grows
+    (held_by c.args.auto.now c.args.store.now (view_of c.begin.new.goals) c.args.owner.number (claim_with c.args.left c.args.rights.now) c.in-Holds.made.items c.in_ok-broken-in-Holds.broken.items (search rules) (omega (arith, c.begin.ensures.grows.longer, c.requires.owner)) (standing-grows (view_of c.args.goals.now) (view_of c.begin.new.goals) c.begin.ensures.grows c.args.owner.number ∙ c.requires.waits)
+    (owner_claim (view_of c.args.goals.now) (view_of c.begin.new.goals) c.begin.ensures.grows c.args.owner.number (claim_with c.args.left c.args.rights.now) c.requires.owner c.requires.claim) c.requires.last (rw c.in-Holds.is at c.in_ok-made.ensures.settled) (stands_grown c.args.auto.now c.args.store.now c.args.goals.now c.begin.new.goals c.begin.ensures.grows c.begin.ensures.consistent c.requires.stands)) in
+    rw c.hold.ensures step.stands
+
+pub returns-in_ok-broken-in-Holds-clause-goals : goal.returns-in_ok-broken-in-Holds-clause-goals
+returns-in_ok-broken-in-Holds-clause-goals c =
+    let step = step_grown c.args.auto.now c.args.store.now (view_of c.args.goals.now) (view_of c.begin.new.goals) _ c.begin.ensures.grows
+    (held_by c.args.auto.now c.args.store.now (view_of c.begin.new.goals) c.args.owner.number (claim_with c.args.left c.args.rights.now) c.in-Holds.made.items c.in_ok-broken-in-Holds.broken.items (search rules) (omega (arith, c.begin.ensures.grows.longer, c.requires.owner)) (standing-grows (view_of c.args.goals.now) (view_of c.begin.new.goals) c.begin.ensures.grows c.args.owner.number ∙ c.requires.waits)
+    (owner_claim (view_of c.args.goals.now) (view_of c.begin.new.goals) c.begin.ensures.grows c.args.owner.number (claim_with c.args.left c.args.rights.now) c.requires.owner c.requires.claim) c.requires.last (rw c.in-Holds.is at c.in_ok-made.ensures.settled) (stands_grown c.args.auto.now c.args.store.now c.args.goals.now c.begin.new.goals c.begin.ensures.grows c.begin.ensures.consistent c.requires.stands)) in
+    rw c.hold.ensures step.kept
+
+pub returns-in_ok-broken-in-Holds-clause-made : goal.returns-in_ok-broken-in-Holds-clause-made
+returns-in_ok-broken-in-Holds-clause-made c =
+    let step = step_grown c.args.auto.now c.args.store.now (view_of c.args.goals.now) (view_of c.begin.new.goals) _ c.begin.ensures.grows
+    (held_by c.args.auto.now c.args.store.now (view_of c.begin.new.goals) c.args.owner.number (claim_with c.args.left c.args.rights.now) c.in-Holds.made.items c.in_ok-broken-in-Holds.broken.items (search rules) (omega (arith, c.begin.ensures.grows.longer, c.requires.owner)) (standing-grows (view_of c.args.goals.now) (view_of c.begin.new.goals) c.begin.ensures.grows c.args.owner.number ∙ c.requires.waits)
+    (owner_claim (view_of c.args.goals.now) (view_of c.begin.new.goals) c.begin.ensures.grows c.args.owner.number (claim_with c.args.left c.args.rights.now) c.requires.owner c.requires.claim) c.requires.last (rw c.in-Holds.is at c.in_ok-made.ensures.settled) (stands_grown c.args.auto.now c.args.store.now c.args.goals.now c.begin.new.goals c.begin.ensures.grows c.begin.ensures.consistent c.requires.stands)) in
+    rw c.hold.ensures step.made
+
+pub returns-in_ok-broken-in-Holds-clause-lowers : goal.returns-in_ok-broken-in-Holds-clause-lowers
+returns-in_ok-broken-in-Holds-clause-lowers c =
+    let step = step_grown c.args.auto.now c.args.store.now (view_of c.args.goals.now) (view_of c.begin.new.goals) _ c.begin.ensures.grows
+    (held_by c.args.auto.now c.args.store.now (view_of c.begin.new.goals) c.args.owner.number (claim_with c.args.left c.args.rights.now) c.in-Holds.made.items c.in_ok-broken-in-Holds.broken.items (search rules) (omega (arith, c.begin.ensures.grows.longer, c.requires.owner)) (standing-grows (view_of c.args.goals.now) (view_of c.begin.new.goals) c.begin.ensures.grows c.args.owner.number ∙ c.requires.waits)
+    (owner_claim (view_of c.args.goals.now) (view_of c.begin.new.goals) c.begin.ensures.grows c.args.owner.number (claim_with c.args.left c.args.rights.now) c.requires.owner c.requires.claim) c.requires.last (rw c.in-Holds.is at c.in_ok-made.ensures.settled) (stands_grown c.args.auto.now c.args.store.now c.args.goals.now c.begin.new.goals c.begin.ensures.grows c.begin.ensures.consistent c.requires.stands)) in
+    rw c.hold.ensures step.lowers
+
+pub returns-in-Separates-clause-goals : goal.returns-in-Separates-clause-goals
+returns-in-Separates-clause-goals c =
+    keeps_goals-then (view_of c.args.goals.now) (view_of c.begin.new.goals) (view_of c.refute_at.new.goals) (keeps_goals-grows (view_of c.args.goals.now) (view_of c.begin.new.goals) c.begin.ensures.grows) c.refute_at.ensures.goals
+
+pub returns-in-Separates-clause-made : goal.returns-in-Separates-clause-made
+returns-in-Separates-clause-made c =
+    made-then (length c.args.goals.now.rows.items) (view_of c.begin.new.goals) (view_of c.refute_at.new.goals) c.refute_at.ensures.goals (made-grows (view_of c.args.goals.now) (view_of c.begin.new.goals) c.begin.ensures.grows) c.refute_at.ensures.made
+
+pub returns-in-Separates-clause-lowers : goal.returns-in-Separates-clause-lowers
+returns-in-Separates-clause-lowers c =
+    OnOk-map c.refute_at.result (λ h. lowers-grown (view_of c.args.goals.now) (view_of c.begin.new.goals) c.refute_at.new.goals.rows.items c.begin.ensures.grows h) c.refute_at.ensures.lowers

@@ -1,0 +1,105 @@
+use Rattle.std.proofs.Common.{ℕ, ◌≡◌, length, ⊎_elim, sym, subst, ◌∙◌, rules, arith}
+use Rattle.std.proofs.lemmas.Bool.{cases_lt}
+use Rattle.xd_goals.specs.Kept.{view_of}
+use Rattle.xd_goals.specs.Rows.{GoalRow, row_at, IsUnbroken}
+use Rattle.xd_goals.proofs.Linking.{row_read}
+use Rattle.xd_goals.proofs.Facts.{keeps_goals-then, keeps-then}
+use Rattle.xd_goals.proofs.Finding.{OnOk-map}
+use Rattle.xd_goals.proofs.Stepping.{keeps-same, whole_same}
+use Rattle.xd_goals.proofs.Mending.{lowers-mended, mended_none, mending-same, mending-then, repaired_same, repaired_step}
+use Rattle.xd_goals.proofs.work.mend_goal.Goals as goal
+use Rattle.xd_goals.proofs.work.mend_goal.Goals.{then-is_marked+in_ok-failure+in_default, else-is_marked}
+
+pub loop-place-init : goal.loop-place-init
+loop-place-init c = record {
+  whole = c.requires.whole;
+  stands = c.requires.stands;
+  mending = mending-same c.args.owner.number (view_of c.args.goals.now);
+  keeps = keeps-same c.args.store.now;
+  right = c.requires.right;
+  unbroken = λ k lt. absurd (omega arith);
+  end_is = subst (λ (r : GoalRow). c.len-place-end.result ≡ length r.broken) (c.row.view_is ∙ row_read c.args.goals.now.rows.items c.args.owner.number _ c.requires.owner c.index-row.ensures) (search rules);
+}
+
+pub loop-place-preserved : goal.loop-place-preserved
+loop-place-preserved c = elim c.if-is_marked.branch [
+  | then-is_marked+in_ok-failure+in_default w ↦
+      rw (w.goals-is, w.answers-is) (record {
+        whole = w.mend_case.ensures.whole;
+        stands = w.mend_case.ensures.stands;
+        mending = mending-then c.args.owner.number (view_of c.args.goals.now) (view_of c.loop-place.goals) (view_of w.mend_case.new.goals) c.loop-place.invariant.mending w.mend_case.ensures.mending;
+        keeps = c.loop-place.invariant.keeps;
+        right = w.mend_case.ensures.right;
+        unbroken = λ k lt. ⊎_elim
+            (λ old. w.mend_case.ensures.mending.unbroken k (c.loop-place.invariant.unbroken k old))
+            (λ ge.
+            let q : c.loop-place.place ≡ k = omega arith in
+            subst (λ (n : ℕ). IsUnbroken (row_at w.mend_case.new.goals.rows.items c.args.owner.number) n) q
+            (mended_none c.args.auto.now c.loop-place.store (view_of w.mend_case.new.goals) (record { goal = c.args.owner; place = c.loop-place.place }) w.in_ok-failure.failure w.in_default.not-Some w.in_ok-failure.ensures.mended))
+            (cases_lt k c.loop-place.place);
+        end_is = c.loop-place.invariant.end_is ∙ sym w.mend_case.ensures.mending.flags;
+      })
+  | else-is_marked w ↦
+      rw (w.goals-is, w.answers-is) (record {
+        whole = c.loop-place.invariant.whole;
+        stands = c.loop-place.invariant.stands;
+        mending = c.loop-place.invariant.mending;
+        keeps = c.loop-place.invariant.keeps;
+        right = c.loop-place.invariant.right;
+        unbroken = λ k lt. ⊎_elim
+            (λ old. c.loop-place.invariant.unbroken k old)
+            (λ ge.
+            let q : c.loop-place.place ≡ k = omega arith in
+            subst (λ (n : ℕ). IsUnbroken (row_at c.loop-place.goals.rows.items c.args.owner.number) n) q
+            (rw c.deref.ensures.value at (c.is_marked.ensures w.if-is_marked.false)))
+            (cases_lt k c.loop-place.place);
+        end_is = c.loop-place.invariant.end_is;
+      })
+]
+
+pub returns-in_err-failure-clause-goals : goal.returns-in_err-failure-clause-goals
+returns-in_err-failure-clause-goals c = (mending-then c.args.owner.number (view_of c.args.goals.now) (view_of c.loop-place.goals) (view_of c.mend_case.new.goals) c.loop-place.invariant.mending c.mend_case.ensures.mending).kept
+
+pub returns-in_err-failure-clause-keeps : goal.returns-in_err-failure-clause-keeps
+returns-in_err-failure-clause-keeps c = c.loop-place.invariant.keeps
+
+pub returns-in-Some-clause-goals : goal.returns-in-Some-clause-goals
+returns-in-Some-clause-goals c =
+    keeps_goals-then (view_of c.args.goals.now) (view_of c.mend_case.new.goals) (view_of c.refute_at.new.goals)
+    (mending-then c.args.owner.number (view_of c.args.goals.now) (view_of c.loop-place.goals) (view_of c.mend_case.new.goals) c.loop-place.invariant.mending c.mend_case.ensures.mending).kept c.refute_at.ensures.goals
+
+pub returns-in-Some-clause-keeps : goal.returns-in-Some-clause-keeps
+returns-in-Some-clause-keeps c = keeps-then c.args.store.now c.loop-place.store c.refute_at.new.store c.loop-place.invariant.keeps c.refute_at.ensures.keeps
+
+pub returns-in-Some-clause-lowers : goal.returns-in-Some-clause-lowers
+returns-in-Some-clause-lowers c =
+    OnOk-map c.refute_at.result (λ h. lowers-mended c.args.owner.number (view_of c.args.goals.now) (view_of c.mend_case.new.goals) c.refute_at.new.goals.rows.items
+    (mending-then c.args.owner.number (view_of c.args.goals.now) (view_of c.loop-place.goals) (view_of c.mend_case.new.goals) c.loop-place.invariant.mending c.mend_case.ensures.mending) h) c.refute_at.ensures.lowers
+
+pub returns-clause-whole : goal.returns-clause-whole
+returns-clause-whole c =
+    let same = repaired_same c.args.auto.now c.args.store.now c.loop-place.store c.args.owner.number (view_of c.args.goals.now) (view_of c.loop-place.goals) c.requires.owner c.requires.waits c.requires.begun c.requires.stands c.loop-place.invariant.stands
+    c.loop-place.invariant.mending (λ k lt. c.loop-place.invariant.unbroken k (omega (arith, c.loop-place-test.false, c.loop-place.invariant.end_is, lt))) in
+    let w = whole_same c.loop-place.goals.rows.items _ c.loop-place.goals.links.items c.loop-place.goals.found same c.loop-place.invariant.whole.index c.loop-place.invariant.whole.links in
+    record { index = rw c.set_standing.ensures w.0; links = rw c.set_standing.ensures w.1 }
+
+pub returns-clause-stands : goal.returns-clause-stands
+returns-clause-stands c =
+    let step = repaired_step c.args.auto.now c.args.store.now c.loop-place.store c.args.owner.number (view_of c.args.goals.now) (view_of c.loop-place.goals) c.requires.owner c.requires.waits c.requires.begun c.requires.stands c.loop-place.invariant.stands
+    c.loop-place.invariant.mending (λ k lt. c.loop-place.invariant.unbroken k (omega (arith, c.loop-place-test.false, c.loop-place.invariant.end_is, lt))) in
+    rw c.set_standing.ensures step.stands
+
+pub returns-clause-goals : goal.returns-clause-goals
+returns-clause-goals c =
+    let step = repaired_step c.args.auto.now c.args.store.now c.loop-place.store c.args.owner.number (view_of c.args.goals.now) (view_of c.loop-place.goals) c.requires.owner c.requires.waits c.requires.begun c.requires.stands c.loop-place.invariant.stands
+    c.loop-place.invariant.mending (λ k lt. c.loop-place.invariant.unbroken k (omega (arith, c.loop-place-test.false, c.loop-place.invariant.end_is, lt))) in
+    rw c.set_standing.ensures step.kept
+
+pub returns-clause-lowers : goal.returns-clause-lowers
+returns-clause-lowers c =
+    let step = repaired_step c.args.auto.now c.args.store.now c.loop-place.store c.args.owner.number (view_of c.args.goals.now) (view_of c.loop-place.goals) c.requires.owner c.requires.waits c.requires.begun c.requires.stands c.loop-place.invariant.stands
+    c.loop-place.invariant.mending (λ k lt. c.loop-place.invariant.unbroken k (omega (arith, c.loop-place-test.false, c.loop-place.invariant.end_is, lt))) in
+    rw c.set_standing.ensures step.lowers
+
+pub returns-clause-keeps : goal.returns-clause-keeps
+returns-clause-keeps c = c.loop-place.invariant.keeps
