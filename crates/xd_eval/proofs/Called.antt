@@ -1,5 +1,5 @@
 -- A call whose last argument has its value.
-use Rattle.std.proofs.Common.{◌≡◌, ℕ, zero, suc, ◌+◌, ◌-◌, ◌*◌, ◌≤◌, arith, List, [], ◌∷◌, ◌++◌, map, length, Some, None, refl, ap, sym, subst, ◌∙◌}
+use Rattle.std.proofs.Common.{◌≡◌, ℕ, zero, suc, ◌+◌, ◌-◌, ◌*◌, arith, List, [], ◌∷◌, ◌++◌, map, Some, None, refl, ap, sym, subst, ◌∙◌}
 use Rattle.std.specs.Prelude.{option_map}
 use Rattle.std.proofs.Math.Nat.{suc-mul}
 use Rattle.std.specs.List.{AllByRecursion}
@@ -13,7 +13,7 @@ use Rattle.xd_syntax.specs.Kept.{ProgramTable, program_tree, function_definition
 use Rattle.xd_laws.specs.Meaning.{Stuck, and_then, value_by, body_by}
 use Rattle.xd_eval.specs.Waiting.{resumed}
 use Rattle.xd_eval.specs.Functions.{row_of}
-use Rattle.xd_eval.specs.Machine.{IsRunnable, environment_in, parts_of, function_named, expression_in, all_waiting, ScopeStands, FramesStand, matcher, caller, outcome, most_steps, Leads, bound_seqs}
+use Rattle.xd_eval.specs.Machine.{IsRunnable, environment_in, function_named, expression_in, all_waiting, ScopeStands, HasOneMore, HasNoneLeft, FramesStand, matcher, caller, outcome, most_steps, Leads, bound_seqs}
 use Rattle.xd_eval.specs.declared.frame.Parts.{Parts}
 use Rattle.xd_eval.specs.declared.frame.Scope.{Scope}
 use Rattle.xd_eval.specs.declared.frame.Frame.{Frame}
@@ -21,7 +21,7 @@ use Rattle.xd_eval.specs.declared.frame.Frame.TheVariants.{Call}
 use Rattle.xd_eval.specs.declared.frame.Control.TheVariants.{Evaluate, Give}
 use Rattle.xd_eval.proofs.Calls.{call_body}
 use Rattle.xd_eval.proofs.Naming.{named}
-use Rattle.xd_eval.proofs.Resumed.{HasOneMore, ends_call, call_steps, bound_environment, bound_stands, body_steps}
+use Rattle.xd_eval.proofs.Resumed.{ends_call, call_steps, bound_environment, bound_stands, body_steps}
 
 -- a call, by its function's row
 pub row_called : (p : ProgramTable) (m : ℕ) (w : List ℕ) (xs : List Document) →
@@ -30,7 +30,7 @@ row_called p m w xs =
     call_body (matcher p) (program_tree p) m w xs ∙ ap (λ o. body_by (value_by (matcher p) (caller p) m) o xs) (named p p.functions w)
 
 module _ (p : ProgramTable) (ds : List Document) (parts more : Parts) (seq : Seq) (h : HasOneMore parts more seq) (fs : List Frame)
-    (l : length (parts_of (shape_at p.exprs parts.expr.at)) ≤ length parts.values.items + 1) where
+    (l : HasNoneLeft p parts) where
   abbrev name : List ℕ
   name = function_named (shape_at p.exprs parts.expr.at)
 

@@ -23,7 +23,7 @@ use Rattle.xd_syntax.specs.declared.exprs.ExprId.{ExprId}
 use Rattle.xd_syntax.specs.declared.program.Param.{Param}
 use Rattle.xd_eval.specs.Waiting.{Waiting, in_sequence, in_call, joined_all, resumed, steps, waiting_steps, all_steps}
 use Rattle.xd_eval.specs.Functions.{row_of}
-use Rattle.xd_eval.specs.Machine.{IsRunnable, environment_in, parts_of, function_named, expression_in, before, after, waiting_of, all_waiting, ScopeStands, IsSequence, IsCall, PartsStand, FrameStands, FramesStand, matcher, caller, outcome, most_steps, Leads, bound_seqs}
+use Rattle.xd_eval.specs.Machine.{IsRunnable, environment_in, parts_of, function_named, expression_in, before, after, waiting_of, all_waiting, ScopeStands, IsSequence, IsCall, PartsStand, HasOneMore, HasNoneLeft, IsNextPart, part_numbers, FrameStands, FramesStand, matcher, caller, outcome, most_steps, Leads, bound_seqs}
 use Rattle.xd_eval.specs.declared.frame.Parts.{Parts}
 use Rattle.xd_eval.specs.declared.frame.Scope.{Scope}
 use Rattle.xd_eval.specs.declared.frame.Frame.{Frame}
@@ -36,15 +36,6 @@ pub joined_values : (ds : List Document) (seqs : List Seq) → joined_at ds seqs
 joined_values ds [] = refl
 joined_values ds (seq ∷ seqs) = ap (join (document_at ds seq)) (joined_values ds seqs)
 
--- One more value than before stands in a frame that is else the same.
-pub record HasOneMore (old new : Parts) (seq : Seq) : Type 0 where
-  pub expr : new.expr ≡ old.expr
-  pub values : new.values.items ≡ old.values.items ++ seq ∷ []
-  pub scope : new.scope.bindings.value.items ≡ old.scope.bindings.value.items
-
-abbrev numbers : ProgramTable → Parts → List ℕ
-numbers p parts = parts_of (shape_at p.exprs parts.expr.at)
-
 module _ (p : ProgramTable) (ds : List Document) (parts : Parts) (more : Parts) (seq : Seq) (h : HasOneMore parts more seq) where
   before_more : before ds more ≡ before ds parts ++ document_at ds seq ∷ []
   before_more = ap (map (document_at ds)) h.values ∙ map-append (document_at ds) parts.values.items (seq ∷ [])
@@ -52,22 +43,22 @@ module _ (p : ProgramTable) (ds : List Document) (parts : Parts) (more : Parts) 
   count_more : length more.values.items ≡ length parts.values.items + 1
   count_more = ap length h.values ∙ length-append parts.values.items (seq ∷ [])
 
-  after_more : after p more ≡ map (expression_in p) (drop (length parts.values.items + 1 + 1) (numbers p parts))
+  after_more : after p more ≡ map (expression_in p) (drop (length parts.values.items + 1 + 1) (part_numbers p parts))
   after_more =
       ap (λ (i : ExprId). map (expression_in p) (drop (length more.values.items + 1) (parts_of (shape_at p.exprs i.at)))) h.expr
-      ∙ ap (λ k. map (expression_in p) (drop (k + 1) (numbers p parts))) count_more
+      ∙ ap (λ k. map (expression_in p) (drop (k + 1) (part_numbers p parts))) count_more
 
-  pub after_next : (i : ℕ) → length parts.values.items + 1 < length (numbers p parts) → i ≡ get_or (numbers p parts) (length parts.values.items + 1) i →
+  pub after_next : (i : ℕ) → length parts.values.items + 1 < length (part_numbers p parts) → i ≡ get_or (part_numbers p parts) (length parts.values.items + 1) i →
       after p parts ≡ expression_in p i ∷ after p more
   after_next i l g =
-      ap (map (expression_in p)) (drop_more (numbers p parts) (length parts.values.items + 1) i l)
-      ∙ ap (λ j. expression_in p j ∷ map (expression_in p) (drop (length parts.values.items + 1 + 1) (numbers p parts))) (sym g)
+      ap (map (expression_in p)) (drop_more (part_numbers p parts) (length parts.values.items + 1) i l)
+      ∙ ap (λ j. expression_in p j ∷ map (expression_in p) (drop (length parts.values.items + 1 + 1) (part_numbers p parts))) (sym g)
       ∙ ap (λ es. expression_in p i ∷ es) (sym after_more)
 
-  pub after_last : length (numbers p parts) ≤ length parts.values.items + 1 → after p parts ≡ []
-  after_last l = ap (map (expression_in p)) (drop_all (length parts.values.items + 1) (numbers p parts) l)
+  pub after_last : HasNoneLeft p parts → after p parts ≡ []
+  after_last l = ap (map (expression_in p)) (drop_all (length parts.values.items + 1) (part_numbers p parts) l)
 
-  pub more_stands : PartsStand p ds parts → BelongsTo ds seq → length parts.values.items + 1 < length (numbers p parts) → PartsStand p ds more
+  pub more_stands : PartsStand p ds parts → BelongsTo ds seq → length parts.values.items + 1 < length (part_numbers p parts) → PartsStand p ds more
   more_stands s b l =
       record {
         there = subst (λ (i : ExprId). IsRunnable p i.at) (sym h.expr) s.there;
@@ -81,8 +72,7 @@ module _ (p : ProgramTable) (ds : List Document) (parts : Parts) (more : Parts) 
   environment_more = ap (environment_in ds) h.scope
 
   module _ (fs gs : List Frame) (stand : FramesStand p ds fs) (ps : PartsStand p ds parts) (b : BelongsTo ds seq) (n : ℕ) (next : ExprId) (scope : Scope)
-      (l : length parts.values.items + 1 < length (numbers p parts)) (g : next.at ≡ get_or (numbers p parts) (length parts.values.items + 1) next.at)
-      (below : IsRunnable p next.at) (sc : scope.bindings.value.items ≡ parts.scope.bindings.value.items) where
+      (is_next : IsNextPart p parts next scope) where
     abbrev env : Environment
     env = environment_in ds parts.scope.bindings.value.items
 
@@ -99,9 +89,9 @@ module _ (p : ProgramTable) (ds : List Document) (parts : Parts) (more : Parts) 
         let m = n * (most_steps (program_tree p).functions + 1) in
         record {
           same = ap (λ ws. and_then (value_by (matcher p) (caller p) n (environment_in ds scope.bindings.value.items) (expression_in p next.at)) (resumed (matcher p) (caller p) ws)) a
-              ∙ ap (λ (bs : List (List ℕ × Seq)). and_then (value_by (matcher p) (caller p) n (environment_in ds bs) (expression_in p next.at)) (resumed (matcher p) (caller p) (v ∷ all_waiting p ds fs))) sc
+              ∙ ap (λ (bs : List (List ℕ × Seq)). and_then (value_by (matcher p) (caller p) n (environment_in ds bs) (expression_in p next.at)) (resumed (matcher p) (caller p) (v ∷ all_waiting p ds fs))) is_next.scope_same
               ∙ sym k ∙ ap (λ ws. resumed (matcher p) (caller p) ws (document_at ds seq) n) (sym c);
-          control = (below, subst (ScopeStands ds) (sym sc) ps.scope_stands);
+          control = (is_next.runnable, subst (ScopeStands ds) (sym is_next.scope_same) ps.scope_stands);
           frames = subst (FramesStand p ds) (sym e) (all_append (FrameStands p ds) fs (q ∷ []) stand (t, tt));
           less = omega arith;
         }
@@ -109,8 +99,8 @@ module _ (p : ProgramTable) (ds : List Document) (parts : Parts) (more : Parts) 
     pub next_in_sequence : gs ≡ fs ++ Sequence more ∷ [] → IsSequence (shape_at p.exprs parts.expr.at) → Leads p ds (fs ++ Sequence parts ∷ []) (Give seq) n ds gs n (Evaluate next scope)
     next_in_sequence e s =
         leads_by (Sequence parts) (Sequence more) (in_sequence env (before ds parts) (expression_in p next.at ∷ after p more)) (in_sequence env (before ds parts ++ document_at ds seq ∷ []) (after p more)) e
-        (subst (λ (i : ExprId). IsSequence (shape_at p.exprs i.at)) (sym h.expr) s, more_stands ps b l)
-        (ap (in_sequence env (before ds parts)) (after_next next.at l g))
+        (subst (λ (i : ExprId). IsSequence (shape_at p.exprs i.at)) (sym h.expr) s, more_stands ps b is_next.waits)
+        (ap (in_sequence env (before ds parts)) (after_next next.at is_next.waits is_next.part))
         (ap (λ x. in_sequence x (before ds more) (after p more)) environment_more ∙ ap (λ x. in_sequence env x (after p more)) before_more)
         (next_part (matcher p) (caller p) n env (before ds parts) (document_at ds seq) (expression_in p next.at) (after p more) (all_waiting p ds fs))
         (omega arith)
@@ -119,8 +109,8 @@ module _ (p : ProgramTable) (ds : List Document) (parts : Parts) (more : Parts) 
     next_in_call e s =
         let f : List ℕ = function_named (shape_at p.exprs parts.expr.at) in
         leads_by (Call parts) (Call more) (in_call env f (before ds parts) (expression_in p next.at ∷ after p more)) (in_call env f (before ds parts ++ document_at ds seq ∷ []) (after p more)) e
-        (subst (λ (i : ExprId). IsCall (shape_at p.exprs i.at)) (sym h.expr) s, more_stands ps b l)
-        (ap (in_call env f (before ds parts)) (after_next next.at l g))
+        (subst (λ (i : ExprId). IsCall (shape_at p.exprs i.at)) (sym h.expr) s, more_stands ps b is_next.waits)
+        (ap (in_call env f (before ds parts)) (after_next next.at is_next.waits is_next.part))
         (ap (λ x. in_call x (function_named (shape_at p.exprs more.expr.at)) (before ds more) (after p more)) environment_more
         ∙ ap (λ x. in_call env (function_named (shape_at p.exprs more.expr.at)) x (after p more)) before_more
         ∙ ap (λ (i : ExprId). in_call env (function_named (shape_at p.exprs i.at)) (before ds parts ++ document_at ds seq ∷ []) (after p more)) h.expr)
@@ -129,7 +119,7 @@ module _ (p : ProgramTable) (ds : List Document) (parts : Parts) (more : Parts) 
 
   -- the last part of a sequence has its value
   pub ends_sequence : (fs : List Frame) → FramesStand p ds fs → (new : List Document) → Keeps ds new → (made : Seq) → BelongsTo new made → document_at new made ≡ joined_at ds more.values.items →
-      length (numbers p parts) ≤ length parts.values.items + 1 → (n : ℕ) → Leads p ds (fs ++ Sequence parts ∷ []) (Give seq) n new fs n (Give made)
+      HasNoneLeft p parts → (n : ℕ) → Leads p ds (fs ++ Sequence parts ∷ []) (Give seq) n new fs n (Give made)
   ends_sequence fs s new k made b d l n =
       let a : all_waiting p ds (fs ++ Sequence parts ∷ []) ≡ in_sequence (environment_in ds parts.scope.bindings.value.items) (before ds parts) [] ∷ all_waiting p ds fs =
       waiting_more p ds fs (Sequence parts) ∙ ap (λ es. in_sequence (environment_in ds parts.scope.bindings.value.items) (before ds parts) es ∷ all_waiting p ds fs) (after_last l) in
@@ -147,7 +137,7 @@ module _ (p : ProgramTable) (ds : List Document) (parts : Parts) (more : Parts) 
       }
 
   -- the last argument of a call has its value
-  pub ends_call : (fs : List Frame) (n : ℕ) → length (numbers p parts) ≤ length parts.values.items + 1 →
+  pub ends_call : (fs : List Frame) (n : ℕ) → HasNoneLeft p parts →
       outcome p ds (fs ++ Call parts ∷ []) (Give seq) n
       ≡ and_then (caller p n (function_named (shape_at p.exprs parts.expr.at)) (map (document_at ds) more.values.items)) (resumed (matcher p) (caller p) (all_waiting p ds fs))
   ends_call fs n l =
@@ -158,7 +148,7 @@ module _ (p : ProgramTable) (ds : List Document) (parts : Parts) (more : Parts) 
       ap (λ ws. resumed (matcher p) (caller p) ws (document_at ds seq) n) a
       ∙ ap (λ xs. and_then (caller p n f xs) (resumed (matcher p) (caller p) (all_waiting p ds fs))) (sym before_more)
 
-  pub call_steps : (fs : List Frame) → length (numbers p parts) ≤ length parts.values.items + 1 → all_steps (all_waiting p ds (fs ++ Call parts ∷ [])) ≡ suc (all_steps (all_waiting p ds fs))
+  pub call_steps : (fs : List Frame) → HasNoneLeft p parts → all_steps (all_waiting p ds (fs ++ Call parts ∷ [])) ≡ suc (all_steps (all_waiting p ds fs))
   call_steps fs l =
       let env : Environment = environment_in ds parts.scope.bindings.value.items in
       let f : List ℕ = function_named (shape_at p.exprs parts.expr.at) in

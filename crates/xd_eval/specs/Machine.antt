@@ -1,5 +1,5 @@
 -- The state of an evaluation, and what it means.
-use Rattle.std.specs.Prelude.{suc, ◌≡◌, ℕ, ◌+◌, ◌*◌, ◌<◌, ◌≤◌, List, [], ◌∷◌, map, take, drop, length, Option, Some, None, reverse, cond}
+use Rattle.std.specs.Prelude.{suc, ◌≡◌, ℕ, ◌+◌, ◌*◌, ◌<◌, ◌≤◌, List, [], ◌∷◌, ◌++◌, map, take, drop, length, Option, Some, None, reverse, cond, slice_index_or}
 use Rattle.std.specs.List.{AllByRecursion}
 use Rattle.std.specs.Str.{bytes_eq}
 use Rattle.xd_base.specs.declared.Place.{Place}
@@ -109,6 +109,27 @@ pub record PartsStand (p : ProgramTable) (ds : List Document) (parts : Parts) : 
   pub waits : length parts.values.items < length (parts_of (shape_at p.exprs parts.expr.at))
   pub values_there : AllByRecursion (BelongsTo ds) parts.values.items
   pub scope_stands : ScopeStands ds parts.scope.bindings.value.items
+
+-- the numbers of its parts
+abbrev pub part_numbers : ProgramTable → Parts → List ℕ
+part_numbers p parts = parts_of (shape_at p.exprs parts.expr.at)
+
+-- One more value than before stands in a frame that is else the same.
+pub record HasOneMore (old new : Parts) (seq : Seq) : Type 0 where
+  pub expr : new.expr ≡ old.expr
+  pub values : new.values.items ≡ old.values.items ++ seq ∷ []
+  pub scope : new.scope.bindings.value.items ≡ old.scope.bindings.value.items
+
+-- the part that is waited for is the last one
+abbrev pub HasNoneLeft : ProgramTable → Parts → Type 0
+HasNoneLeft p parts = length (part_numbers p parts) ≤ length parts.values.items + 1
+
+-- the part behind the one that is waited for, and the variables for it
+pub record IsNextPart (p : ProgramTable) (parts : Parts) (next : ExprId) (scope : Scope) : Type 0 where
+  pub waits : length parts.values.items + 1 < length (part_numbers p parts)
+  pub part : next.at ≡ slice_index_or (part_numbers p parts) (length parts.values.items + 1) next.at
+  pub runnable : IsRunnable p next.at
+  pub scope_same : scope.bindings.value.items ≡ parts.scope.bindings.value.items
 
 abbrev pub FrameStands : ProgramTable → List Document → Frame → Type 0
 FrameStands p ds (Element l) = Unit {0}

@@ -1,13 +1,13 @@
 //! What a value leads to.
 
-ghost use Rattle.std.specs.Prelude.{◌≡◌, ◌<◌, ◌≤◌, ◌∷◌, ◌++◌, [], ℕ, map, length, IfOk, OnOk};
+ghost use Rattle.std.specs.Prelude.{◌≡◌, ◌<◌, ◌≤◌, ◌∷◌, ◌++◌, [], ℕ, map, length, IfOk, MatchOption, OnOk};
 ghost use Rattle.std.specs.List.{AllByRecursion};
 ghost use Rattle.std.specs.Option.{IfSome, option_copied};
 ghost use Rattle.xd_doc.specs.Stored.{BelongsTo, Keeps, document_at};
 ghost use Rattle.xd_syntax.specs.Expression.{shape_at};
 ghost use Rattle.xd_syntax.specs.Exprs.{expr_numbers, clause_numbers};
 ghost use Rattle.xd_eval.specs.Functions.{AreFunctionNames, row_of};
-ghost use Rattle.xd_eval.specs.Machine.{ClausesStand, FrameStands, FramesStand, IsCall, IsChosen, IsRunnable, IsSequence, IsStep, PartsStand, ScopeStands, bound_seqs, clause_numbers_of, function_named, parts_of};
+ghost use Rattle.xd_eval.specs.Machine.{ClausesStand, FrameStands, FramesStand, HasNoneLeft, HasOneMore, IsCall, IsChosen, IsNextPart, IsRunnable, IsSequence, IsStep, PartsStand, ScopeStands, bound_seqs, clause_numbers_of, function_named, parts_of};
 
 use crate::entering::{form_of, part_at};
 use crate::frame::{Control, Frame, Parts, Scope, Step};
@@ -69,17 +69,32 @@ fn next_of_sequence(
     ensures keeps { Keeps store.old store.new }
 {
     let mut parts = parts;
-    let all = all_parts(sound, parts.expr);
-    keep_value(&mut parts.values, seq, all.len())?;
-    let done = parts.values.as_slice().len();
-    if done < all.len() {
-        let next = part_at(all, done);
-        let scope = parts.scope.share()?;
+    if let Some((next, scope)) = take_value(sound, &mut parts, seq)? {
         frames.push(Frame::Sequence(parts))?;
         return Ok(Step::Next(Control::Evaluate(next, scope)));
     }
     let made = store.join(&parts.values)?;
     Ok(Step::Next(Control::Give(made)))
+}
+
+/// One more part has its value. If another one is left, it is next, with the variables for it.
+fn take_value(
+    sound: &SoundProgram,
+    parts: &mut Parts,
+    seq: Seq,
+) -> Result<Option<(ExprId, Scope)>, NoMemory>
+    requires { IsRunnable sound.now parts.old.expr.at }
+    ensures more { OnOk result (HasOneMore parts.old parts.new seq) }
+    ensures next { IfOk result (λ next. MatchOption next (HasNoneLeft sound.now parts.old) (λ part. IsNextPart sound.now parts.old part.0 part.1)) }
+{
+    let all = all_parts(sound, parts.expr);
+    keep_value(&mut parts.values, seq, all.len())?;
+    let done = parts.values.as_slice().len();
+    if done >= all.len() {
+        return Ok(None);
+    }
+    let scope = parts.scope.share()?;
+    Ok(Some((part_at(all, done), scope)))
 }
 
 /// Adds the value of one of so many parts. Millions of frames may wait with a few values each, so the first
@@ -126,12 +141,7 @@ fn next_of_call(
     ensures step { IfOk result (λ step. IsStep sound.now store.now (frames.old.items ++ Frame.Call parts ∷ []) (Control.Give seq) left.old store.now frames.new.items left.new step) }
 {
     let mut parts = parts;
-    let all = all_parts(sound, parts.expr);
-    keep_value(&mut parts.values, seq, all.len())?;
-    let done = parts.values.as_slice().len();
-    if done < all.len() {
-        let next = part_at(all, done);
-        let scope = parts.scope.share()?;
+    if let Some((next, scope)) = take_value(sound, &mut parts, seq)? {
         frames.push(Frame::Call(parts))?;
         return Ok(Step::Next(Control::Evaluate(next, scope)));
     }
