@@ -27,24 +27,9 @@ bound_are ds (Some vs) None bs a e = absurd a
 bound_are ds None (Some cs) bs a e = absurd a
 bound_are ds None None bs a e = absurd (cc)
 
-pub none_bound : {S : Type 0} (ds : List Document) (o : Option Environment) (found : Option (Vec (List ℕ × Seq) S)) → AreBindings ds o found → found ≡ None → o ≡ None
-none_bound ds (Some vs) (Some cs) a e = absurd (cc)
-none_bound ds (Some vs) None a e = absurd a
-none_bound ds None (Some cs) a e = absurd a
-none_bound ds None None a e = refl
-
 module _ (p : ProgramTable) (env : Environment) (d : Document) (cs : List Clause) (i : ℕ) (c : Clause) (l : i < length cs) (e : c ≡ get_or cs i c) where
   front : clauses_in p (clause_numbers (drop i cs)) ≡ clauses_in p (clause_numbers (c ∷ drop (i + 1) cs))
   front = ap (λ xs. clauses_in p (clause_numbers xs)) (drop_more cs i c l ∙ ap (λ x. x ∷ drop (i + 1) cs) (sym e))
-
-  pub passed : matcher p (unplaced (placed_at p.patterns c.pattern.at)) d ≡ None → (n : ℕ) →
-      chosen_by (matcher p) (caller p) n env d (clauses_in p (clause_numbers (drop i cs))) ≡ chosen_by (matcher p) (caller p) n env d (clauses_in p (clause_numbers (drop (i + 1) cs)))
-  passed h n =
-      ap (chosen_by (matcher p) (caller p) n env d) front
-      ∙ ap (λ o. or_else o (λ vs. value_by (matcher p) (caller p) n (vs ++ env) (expression_in p c.body.at)) (chosen_by (matcher p) (caller p) n env d (clauses_in p (clause_numbers (drop (i + 1) cs))))) h
-
-  pub passed_steps : clause_steps (clauses_in p (clause_numbers (drop (i + 1) cs))) ≤ clause_steps (clauses_in p (clause_numbers (drop i cs)))
-  passed_steps = let a = ap clause_steps front in omega arith
 
   taken : (vs : Environment) → matcher p (unplaced (placed_at p.patterns c.pattern.at)) d ≡ Some vs → (n : ℕ) →
       chosen_by (matcher p) (caller p) n env d (clauses_in p (clause_numbers (drop i cs))) ≡ value_by (matcher p) (caller p) n (vs ++ env) (expression_in p c.body.at)

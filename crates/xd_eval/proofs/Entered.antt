@@ -36,24 +36,12 @@ module _ (p : ProgramTable) (ds : List Document) (fs : List Frame) (stand : Fram
   abbrev asked : Expression → Outcome Document
   asked e = and_then (value_by (matcher p) (caller p) n (environment_in ds bs) e) (resumed (matcher p) (caller p) (all_waiting p ds fs))
 
-  abbrev value_of : Expression → Outcome Document
-  value_of e = value_by (matcher p) (caller p) n (environment_in ds bs) e
-
   pub gives_text : (new : List Document) → Keeps ds new → (q : Place) (s : List ℕ) → expression_in p id.at ≡ Quoted q s → (d : Document) → d ≡ text s empty →
       resumed (matcher p) (caller p) (all_waiting p new fs) d n ≡ asked (expression_in p id.at)
   gives_text new k q s e d h =
       ap (λ ws. resumed (matcher p) (caller p) ws d n) (all_kept ds new k p fs stand)
       ∙ ap (λ x. resumed (matcher p) (caller p) (all_waiting p ds fs) x n) h
       ∙ sym (ap asked e)
-
-  -- one more frame waits for a part
-  pub frame_outcome : (f : Frame) (e : Expression) (o : Outcome Document) →
-      o ≡ and_then (value_of e) (resumed (matcher p) (caller p) (waiting_of p ds f ∷ all_waiting p ds fs)) →
-      and_then (value_of e) (resumed (matcher p) (caller p) (all_waiting p ds (fs ++ f ∷ []))) ≡ o
-  frame_outcome f e o h = ap (λ ws. and_then (value_of e) (resumed (matcher p) (caller p) ws)) (waiting_more p ds fs f) ∙ sym h
-
-  pub frame_steps : (f : Frame) → all_steps (all_waiting p ds (fs ++ f ∷ [])) ≡ waiting_steps (waiting_of p ds f) + all_steps (all_waiting p ds fs)
-  frame_steps f = ap all_steps (waiting_more p ds fs f)
 
 pub first_of_joined : (q : Place) (e : Expression) (es : List Expression) → steps e + argument_steps (arguments_of es) ≤ steps (joined q (e ∷ es)) + 1
 first_of_joined q e [] = omega arith

@@ -1,18 +1,14 @@
 -- What each step makes of an outcome.
 use Rattle.std.proofs.Common.{◌≡◌, ℕ, List, [], ◌∷◌, ◌++◌, ap, sym, ◌∙◌, append_assoc}
 use Rattle.xd_base.specs.declared.Place.{Place}
-use Rattle.xd_doc.specs.Document.{Document, empty, element, join}
+use Rattle.xd_doc.specs.Document.{Document, empty, join}
 use Rattle.xd_doc.proofs.Joins.{join_empty-right}
-use Rattle.xd_syntax.specs.Expression.{Expression, Tagged, Called, Matched, Clauses, joined, arguments_of, place_of_expression}
+use Rattle.xd_syntax.specs.Expression.{Expression, Called, Matched, Clauses, joined, arguments_of, place_of_expression}
 use Rattle.xd_laws.specs.Meaning.{Done, Environment, Matcher, and_then, value_by, values_by, chosen_by}
-use Rattle.xd_eval.specs.Waiting.{Waiting, in_element, in_sequence, in_call, in_match, Caller, joined_all, resumed}
+use Rattle.xd_eval.specs.Waiting.{Waiting, in_sequence, in_call, in_match, Caller, joined_all, resumed}
 use Rattle.xd_eval.proofs.Outcomes.{then_then, then_same, then_done}
 
 module _ (M : Matcher) (C : Caller) where
-  pub tagged_step : (n : ℕ) (env : Environment) (p : Place) (l : List ℕ) (e : Expression) (ws : List Waiting) →
-      and_then (value_by M C n env (Tagged p l e)) (resumed M C ws) ≡ and_then (value_by M C n env e) (resumed M C (in_element l ∷ ws))
-  tagged_step n env p l e ws = then_then (value_by M C n env e) (λ d m. Done (element l d empty) m) (resumed M C ws)
-
   -- the parts of a sequence, from left to right
   pub joined_value : (n : ℕ) (env : Environment) (p : Place) (e : Expression) (es : List Expression) →
       value_by M C n env (joined p (e ∷ es)) ≡ and_then (value_by M C n env e) (λ d m. and_then (values_by M C m env (arguments_of es)) (λ ds k. Done (joined_all (d ∷ ds)) k))

@@ -74,9 +74,6 @@ pub waiting_more : (p : ProgramTable) (ds : List Document) (fs : List Frame) (f 
 waiting_more p ds fs f =
     ap reverse (map-append (waiting_of p ds) fs (f ∷ [])) ∙ reverse-append (map (waiting_of p ds) fs) (waiting_of p ds f ∷ [])
 
-pub keeps_itself : (ds : List Document) → Keeps ds ds
-keeps_itself ds = record { belongs = λ seq h. h; same = λ seq h. refl }
-
 pub keeps_then : (a b c : List Document) → Keeps a b → Keeps b c → Keeps a c
 keeps_then a b c h k =
     record { belongs = λ seq m. k.belongs seq (h.belongs seq m); same = λ seq m. k.same seq (h.belongs seq m) ∙ h.same seq m }
