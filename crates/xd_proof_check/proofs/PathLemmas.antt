@@ -4,7 +4,7 @@ use Rattle.std.proofs.lemmas.List.{reverse-append, length-reverse}
 use Rattle.std.proofs.lemmas.Bool.{eq-eqb, eqb-true}
 use Rattle.std.proofs.Math.ListN.{set}
 use Rattle.xd_proof_check.specs.Numbers.{number_at}
-use Rattle.xd_proof_check.specs.Paths.{count_of, AreCounts, AreMarks, HasRoom, IsClear, IsPath, KeepsRoom, content_side, rest_side, heads_split, turned, turns_of}
+use Rattle.xd_proof_check.specs.Paths.{count_of, AreCounts, AreMarks, IsClear, IsPath, content_side, rest_side, heads_split, turns_of}
 use Rattle.xd_proof_check.specs.declared.path.Path.{Path}
 use Rattle.xd_proof_check.specs.declared.path.Turn.{Turn}
 
@@ -37,21 +37,6 @@ counts_more cs ns n k h a e m = go (nat_eq n m) refl
         subst (λ j. number_at (set cs n k) j ≡ count_of j (n ∷ ns)) s (get_or-set_same cs n k 0 h ∙ e ∙ ap (λ j. j + 1) (a n) ∙ sym (count_here n ns))
     go false q = get_or-set_other cs n m k 0 (apart m n q) ∙ a m ∙ sym (count_other m n ns q)
 
-pub counts_less : (cs ns : List ℕ) (n k : ℕ) → n < length cs → AreCounts cs (n ∷ ns) → k + 1 ≡ number_at cs n → AreCounts (set cs n k) ns
-counts_less cs ns n k h a e m = go (nat_eq n m) refl
-  where
-    go : (b : Bool) → nat_eq n m ≡ b → number_at (set cs n k) m ≡ count_of m ns
-    go true q =
-        let s : n ≡ m = eqb-true n m q in
-        let c = count_here n ns in
-        let d = a n in
-        let r : k ≡ count_of n ns = omega arith in
-        subst (λ j. number_at (set cs n k) j ≡ count_of j ns) s (get_or-set_same cs n k 0 h ∙ r)
-    go false q = get_or-set_other cs n m k 0 (apart m n q) ∙ a m ∙ count_other m n ns q
-
-pub counted : (cs ns : List ℕ) (n : ℕ) → AreCounts cs (n ∷ ns) → 0 < number_at cs n
-counted cs ns n a = let c = count_here n ns in let d = a n in omega arith
-
 length_content : (contents : List ℕ) (ts : List Turn) → length (content_side contents ts) ≤ length ts
 length_content contents [] = omega arith
 length_content contents (t ∷ ts) = go t.on_rest (length_content contents ts)
@@ -82,42 +67,11 @@ rest_few rests rs ts n a = let e = a n in let h = count_bound n (rest_side rests
 pub split_few : (ss : List ℕ) (ts : List Turn) (n : ℕ) → AreCounts ss (heads_split ts) → number_at ss n ≤ length ts
 split_few ss ts n a = let e = a n in let h = count_bound n (heads_split ts) in let l = length_split ts in omega arith
 
--- one more turn, which goes to the content side, or to the rest side
-pub entered : (contents rests : List ℕ) (ts : List Turn) (c r s d z : List ℕ) (right : ℕ) → AreMarks contents rests ts c r s → right < length contents →
-    AreCounts d (number_at contents right ∷ content_side contents ts) → AreCounts z (right ∷ heads_split ts) → AreMarks contents rests (record { right = right; on_rest = false } ∷ ts) d r z
-entered contents rests ts c r s d z right m h a b = record { within = (h, m.within); on_content = a; on_rest = m.on_rest; on_path = b }
-
-pub put_aside : (contents rests : List ℕ) (ts : List Turn) (c r s q z : List ℕ) (right : ℕ) → AreMarks contents rests ts c r s → right < length contents →
-    AreCounts q (number_at rests right ∷ rest_side rests ts) → AreCounts z (right ∷ heads_split ts) → AreMarks contents rests (record { right = right; on_rest = true } ∷ ts) c q z
-put_aside contents rests ts c r s q z right m h a b = record { within = (h, m.within); on_content = m.on_content; on_rest = a; on_path = b }
-
-pub switched : (contents rests : List ℕ) (ts : List Turn) (c r s d q : List ℕ) (right : ℕ) → AreMarks contents rests (record { right = right; on_rest = false } ∷ ts) c r s →
-    AreCounts d (content_side contents ts) → AreCounts q (number_at rests right ∷ rest_side rests ts) → AreMarks contents rests (record { right = right; on_rest = true } ∷ ts) d q s
-switched contents rests ts c r s d q right m a b = record { within = m.within; on_content = a; on_rest = b; on_path = m.on_path }
-
--- a turn as its two parts
-pub turn_is : (t : Turn) (b : Bool) → t.on_rest ≡ b → t ≡ record { right = t.right; on_rest = b }
-turn_is t b e = ap (λ (c : Bool). let u : Turn = record { right = t.right; on_rest = c } in u) e
-
-pub turned_on : (t : Turn) (ts : List Turn) → t.on_rest ≡ true → turned (t ∷ ts) ≡ turned ts
-turned_on t ts e = ap (λ b. cond b (turned ts) (record { right = t.right; on_rest = true } ∷ ts)) e
-
-pub turned_here : (t : Turn) (ts : List Turn) → t.on_rest ≡ false → turned (t ∷ ts) ≡ record { right = t.right; on_rest = true } ∷ ts
-turned_here t ts e = ap (λ b. cond b (turned ts) (record { right = t.right; on_rest = true } ∷ ts)) e
-
 pub turns_pushed : (old new : List Turn) (t : Turn) → new ≡ old ++ t ∷ [] → reverse new ≡ t ∷ reverse old
 turns_pushed old new t e = ap reverse e ∙ reverse-append old (t ∷ [])
 
 pub turns_long : (p : Path) → length (turns_of p) ≡ length p.turns.items
 turns_long p = length-reverse p.turns.items
-
--- a clear path is one over any right heads
-pub clear_path : (contents rests : List ℕ) (p : Path) → IsClear p → IsPath contents rests p
-clear_path contents rests p c = record {
-  marks =
-      subst (λ ts. AreMarks contents rests ts p.content.items p.rest.items p.split.items) (sym c.turns)
-      (record { within = tt; on_content = c.on_content; on_rest = c.on_rest; on_path = c.on_path });
-}
 
 pub path_clear : (contents rests : List ℕ) (p : Path) → IsPath contents rests p → turns_of p ≡ [] → IsClear p
 path_clear contents rests p i e =
@@ -125,17 +79,3 @@ path_clear contents rests p i e =
     record { turns = e; on_content = m.on_content; on_rest = m.on_rest; on_path = m.on_path }
 
 -- ---- room stays
-
-pub keeps_same : (p : Path) → KeepsRoom p p
-keeps_same p = record { content = refl; rest = refl; split = refl }
-
-pub keeps_then : (p q r : Path) → KeepsRoom p q → KeepsRoom q r → KeepsRoom p r
-keeps_then p q r k l = record { content = l.content ∙ k.content; rest = l.rest ∙ k.rest; split = l.split ∙ k.split }
-
-pub room_kept : (contents rests : List ℕ) (p q : Path) → HasRoom contents rests p → KeepsRoom p q → HasRoom contents rests q
-room_kept contents rests p q h k = record {
-  content = λ i. subst (λ n. number_at contents i < n) (sym k.content) (h.content i);
-  rest = λ i. subst (λ n. number_at rests i < n) (sym k.rest) (h.rest i);
-  split = subst (λ n. length contents ≤ n) (sym k.split) h.split;
-  same = h.same;
-}

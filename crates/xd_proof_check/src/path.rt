@@ -1,6 +1,6 @@
 //! The path of a walk over a choice tree.
 
-ghost use Rattle.std.specs.Prelude.{◌≡◌, ◌+◌, ◌<◌, ◌^◌, ◌∷◌, ℕ, List, true, false, length, slice_index, IfOk, OnOk};
+ghost use Rattle.std.specs.Prelude.{◌≡◌, ◌+◌, ◌<◌, ◌^◌, ◌∷◌, ℕ, List, length, slice_index, IfOk, OnOk};
 ghost use Rattle.xd_proof_check.specs.Paths.{AreCounts, AreMarks, HasRoom, IsClear, IsPath, KeepsRoom, turned, turns_of};
 
 use std::alloc::Global;
@@ -59,52 +59,45 @@ impl Path {
         })
     }
 
-    /// Goes to the content side of a split on this right head.
-    pub(crate) fn enter(
+    /// Goes to this side of a split on this right head.
+    pub(crate) fn take(
         &mut self,
         contents: &[usize],
         rests: &[usize],
-        right: usize,
+        turn: Turn,
     ) -> Result<(), NoMemory>
         requires path { IsPath contents.now rests.now self.old }
         requires room { HasRoom contents.now rests.now self.old }
-        requires within { right < length contents.now }
+        requires within { turn.right < length contents.now }
         ensures path { OnOk result (IsPath contents.now rests.now self.new) }
-        ensures turns { OnOk result (turns_of self.new ≡ record { right = right; on_rest = false } ∷ turns_of self.old) }
+        ensures turns { OnOk result (turns_of self.new ≡ turn ∷ turns_of self.old) }
         ensures keeps { OnOk result (KeepsRoom self.old self.new) }
     {
-        self.turns.push(Turn {
-            right,
-            on_rest: false,
-        })?;
+        self.turns.push(turn)?;
         let _turns = self.turns.len();
-        count(&mut self.content, contents[right]);
-        count(&mut self.split, right);
+        count(&mut self.split, turn.right);
+        if turn.on_rest {
+            count(&mut self.rest, rests[turn.right]);
+        } else {
+            count(&mut self.content, contents[turn.right]);
+        }
         Ok(())
     }
 
-    /// Goes to the rest side of a split on this right head.
-    pub(crate) fn put_rest(
-        &mut self,
-        contents: &[usize],
-        rests: &[usize],
-        right: usize,
-    ) -> Result<(), NoMemory>
-        requires path { IsPath contents.now rests.now self.old }
+    /// Leaves the side of a split whose turn was taken off.
+    fn leave(&mut self, contents: &[usize], rests: &[usize], turn: Turn)
+        requires marks { AreMarks contents.now rests.now (turn ∷ turns_of self.old) self.old.content.items self.old.rest.items self.old.split.items }
         requires room { HasRoom contents.now rests.now self.old }
-        requires within { right < length contents.now }
-        ensures path { OnOk result (IsPath contents.now rests.now self.new) }
-        ensures turns { OnOk result (turns_of self.new ≡ record { right = right; on_rest = true } ∷ turns_of self.old) }
-        ensures keeps { OnOk result (KeepsRoom self.old self.new) }
+        ensures path { IsPath contents.now rests.now self.new }
+        ensures turns { turns_of self.new ≡ turns_of self.old }
+        ensures keeps { KeepsRoom self.old self.new }
     {
-        self.turns.push(Turn {
-            right,
-            on_rest: true,
-        })?;
-        let _turns = self.turns.len();
-        count(&mut self.rest, rests[right]);
-        count(&mut self.split, right);
-        Ok(())
+        uncount(&mut self.split, turn.right);
+        if turn.on_rest {
+            uncount(&mut self.rest, rests[turn.right]);
+        } else {
+            uncount(&mut self.content, contents[turn.right]);
+        }
     }
 
     /// Goes to the next branch: the rest side of the newest split that is on its content side. Newer splits are left.
@@ -120,40 +113,15 @@ impl Path {
         ensures keeps { OnOk result (KeepsRoom self.old self.new) }
     {
         while let Some(turn) = self.turns.pop() {
+            self.leave(contents, rests, turn);
             if !turn.on_rest {
-                return self.to_rest(contents, rests, turn.right);
+                let turn = Turn {
+                    right: turn.right,
+                    on_rest: true,
+                };
+                return self.take(contents, rests, turn);
             }
-            self.leave(rests, turn.right);
         }
         Ok(())
-    }
-
-    /// To the rest side, of a split whose turn was taken off.
-    fn to_rest(&mut self, contents: &[usize], rests: &[usize], right: usize) -> Result<(), NoMemory>
-        requires marks { AreMarks contents.now rests.now (record { right = right; on_rest = false } ∷ turns_of self.old) self.old.content.items self.old.rest.items self.old.split.items }
-        requires room { HasRoom contents.now rests.now self.old }
-        ensures path { OnOk result (IsPath contents.now rests.now self.new) }
-        ensures turns { OnOk result (turns_of self.new ≡ record { right = right; on_rest = true } ∷ turns_of self.old) }
-        ensures keeps { OnOk result (KeepsRoom self.old self.new) }
-    {
-        self.turns.push(Turn {
-            right,
-            on_rest: true,
-        })?;
-        let _turns = self.turns.len();
-        uncount(&mut self.content, contents[right]);
-        count(&mut self.rest, rests[right]);
-        Ok(())
-    }
-
-    /// Leaves a split on its rest side, whose turn was taken off.
-    fn leave(&mut self, rests: &[usize], right: usize)
-        requires marks { (contents : List ℕ) × AreMarks contents rests.now (record { right = right; on_rest = true } ∷ turns_of self.old) self.old.content.items self.old.rest.items self.old.split.items × HasRoom contents rests.now self.old }
-        ensures marks { (contents : List ℕ) → AreMarks contents rests.now (record { right = right; on_rest = true } ∷ turns_of self.old) self.old.content.items self.old.rest.items self.old.split.items → IsPath contents rests.now self.new }
-        ensures turns { turns_of self.new ≡ turns_of self.old }
-        ensures keeps { KeepsRoom self.old self.new }
-    {
-        uncount(&mut self.rest, rests[right]);
-        uncount(&mut self.split, right);
     }
 }

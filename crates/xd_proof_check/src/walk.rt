@@ -18,7 +18,7 @@ ghost use Rattle.xd_proof_check.specs.Walk.{IsSetting, rest_turns, setting_of, s
 
 use crate::atoms::matches;
 use crate::leaves::{leaf_stands, numbered};
-use crate::path::Path;
+use crate::path::{Path, Turn};
 use crate::verdict::Reason;
 use xd_doc::NoMemory;
 use xd_heads::Head;
@@ -135,7 +135,11 @@ fn split_step(setting: &Setting, number: u64, path: &mut Path) -> Result<Option<
     let Some(right) = head_to_split(setting, number, path) else {
         return Ok(Some(Reason::Split));
     };
-    path.enter(setting.contents, setting.rests, right)?;
+    let turn = Turn {
+        right,
+        on_rest: false,
+    };
+    path.take(setting.contents, setting.rests, turn)?;
     Ok(None)
 }
 
@@ -184,7 +188,11 @@ fn put_matching(setting: &Setting, path: &mut Path) -> Result<(), NoMemory>
 {
     for right in (0..setting.rights.len()).rev() {
         if matches(setting.atom, &setting.rights[right].kind) {
-            path.put_rest(setting.contents, setting.rests, right)?;
+            let turn = Turn {
+                right,
+                on_rest: true,
+            };
+            path.take(setting.contents, setting.rests, turn)?;
         }
     }
     Ok(())
