@@ -15,7 +15,6 @@ use Rattle.xd_laws.specs.Consistent.{Case, Claim, IsConsistent}
 use Rattle.xd_laws.proofs.FirstWrong.{first_wrong}
 use Rattle.xd_laws.proofs.BreachLaw.{first_is, none_is, rules_are_tested}
 use Rattle.xd_laws.proofs.TheLaws.{consistent_proofs_hold_in, empty_decides}
-use Rattle.xd_syntax.specs.declared.types.TypeDef.{TypeDef}
 use Rattle.xd_heads.specs.Growing.{GrowsTypes}
 use Rattle.xd_heads.specs.HeadList.{HeadBelongs}
 use Rattle.xd_heads.specs.declared.listing.Head.{Head}
@@ -26,7 +25,7 @@ use Rattle.xd_proof_lines.specs.declared.cases.ReadCase.{ReadCase}
 use Rattle.xd_proof_check.specs.CaseWalk.{IsTree}
 use Rattle.xd_proof_check.specs.Corresponds.{IsClaimAt}
 use Rattle.xd_proof_check.specs.GoalHeads.{AreGoalHeads}
-use Rattle.xd_proof_check.specs.GoalWalk.{GoalFits, HeadsThere, IsKnown, PartsThere, ProofFits, SheetView, Stands, verdict_of}
+use Rattle.xd_proof_check.specs.GoalWalk.{GoalFits, HeadsThere, IsKnown, PartsThere, ProofFits, Stands, verdict_of}
 use Rattle.xd_proof_check.specs.Leaves.{GoalBelongs, GoalsBelong}
 use Rattle.xd_proof_check.specs.Numbers.{AreNumbers, number_at}
 use Rattle.xd_proof_check.specs.Reasons.{IsVerdict, reason_of}
@@ -130,9 +129,6 @@ parts_below m n e hs b = subst (λ k. AllByRecursion (PartsThere k) hs) e b
 -- ---- the whole proof
 
 module _ (types : List Row) (goals : List ProofGoal) (marks : List Bool) (numbers : List ℕ) (limit : ℕ) (a : AreNumbers types numbers limit) (p : Path) where
-  sheet : SheetView
-  sheet = record { goals = goals; numbers = numbers; marks = marks }
-
   all_fit : GoalsBelong (length types) goals → length marks ≡ length types → length p.content.items ≡ limit → length p.rest.items ≡ limit →
       (gs : List ProofGoal) (hs : List GoalHeads) → GoalsBelong (length types) gs → length hs ≡ length gs → AllByRecursion (HeadsThere (length types)) hs →
       AllByRecursion (λ (g : ProofGoal). AllByRecursion IsTree g.cases.items) gs → AllByRecursion (λ (h : GoalHeads). length h.rights.items ≤ length p.split.items) hs →
@@ -186,9 +182,6 @@ fits_of types E goals ls heads marks z w m =
 pub fits_same : (T U : List Row) (G F : List ProofGoal) (H J : List GoalHeads) (M N : List Bool) → T ≡ U → G ≡ F → H ≡ J → M ≡ N → ProofFits U F J N → ProofFits T G H M
 fits_same T U G F H J M N t g h m f =
     subst (λ x. ProofFits x G H M) (sym t) (subst (λ x. ProofFits U x H M) (sym g) (subst (λ x. ProofFits U F x M) (sym h) (subst (λ x. ProofFits U F J x) (sym m) f)))
-
-pub marks_long : (types : List Row) (ds : List TypeDef) (M N : List Bool) → M ≡ N → AreEmptyMarks types ds N → length M ≡ length types
-marks_long types ds M N e a = ap length e ∙ a.count
 
 pub says_verdict : (p q : ProgramTable) (T : List Row) (G F : List ProofGoal) (H J : List GoalHeads) (M N : List Bool) (v : ProofVerdict) → GrowsTypes p q → IsSound (program_tree q) →
     AreEmptyMarks q.types q.type_defs N → T ≡ q.types → G ≡ F → H ≡ J → M ≡ N → AllZip (AreGoalHeads q.types (names_of (program_tree p))) F J →

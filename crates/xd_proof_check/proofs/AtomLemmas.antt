@@ -21,9 +21,6 @@ R x y = slice_cmp nat_cmp x y
 same_is : (x y : List ℕ) → pointwise nat_eq x y ≡ true → x ≡ y
 same_is x y h = (bytes_eq-Decides x y).0 h
 
-is_same : (x : List ℕ) → pointwise nat_eq x x ≡ true
-is_same x = (bytes_eq-Decides x x).1 refl
-
 is_equal : Ordering → Bool
 is_equal Less = false
 is_equal Equal = true
@@ -101,10 +98,6 @@ pub in_order : (names ws : List (List ℕ)) → IsStrictlySortedBy R names → (
 in_order names ws s h = same_words names (in_byte_order ws) s (ordered_sorted ws) (λ l. h l ∙ sym (ordered_names ws l))
 
 -- ---- what a head names is named
-
-or_true_left : (a b : Bool) → a ≡ true → (a || b) ≡ true
-or_true_left true b h = refl
-or_true_left false b h = cc
 
 or_true_right : (a b : Bool) → b ≡ true → (a || b) ≡ true
 or_true_right true b h = refl

@@ -9,7 +9,7 @@ use Rattle.xd_syntax.specs.Tree.{Definitions}
 use Rattle.xd_syntax.specs.Table.{Row}
 use Rattle.xd_syntax.proofs.TableRows.{all_at}
 use Rattle.xd_laws.specs.Heads as laws
-use Rattle.xd_laws.specs.Consistent.{Atom, Case, ChoiceTree, Goal, HeadAtom, atoms_from, atoms_of, named, named_in, in_byte_order, labels_of, texts_of, right_heads, numbered}
+use Rattle.xd_laws.specs.Consistent.{Atom, Case, ChoiceTree, Goal, HeadAtom, atoms_from, atoms_of, named, in_byte_order, labels_of, texts_of, right_heads, numbered}
 use Rattle.xd_laws.specs.Consistent as proof
 use Rattle.xd_laws.specs.Breach.{bad_case}
 use Rattle.xd_laws.proofs.FirstWrong.{Refusal, at_line, or_next, reason_unless, same_atom, same_head_atom, wrong_case, wrong_cases, wrong_tree}
@@ -25,7 +25,6 @@ use Rattle.xd_proof_check.specs.Names.{Names}
 use Rattle.xd_proof_check.specs.CaseWalk.{CasesView, CasesFit, IsTree, Meets, wrong_after}
 use Rattle.xd_proof_check.specs.Corresponds.{Corresponds, IsNumberOf}
 use Rattle.xd_proof_check.specs.Numbers.{number_at}
-use Rattle.xd_proof_check.specs.Paths.{KeepsRoom}
 use Rattle.xd_proof_check.specs.Reasons.{reason_of}
 use Rattle.xd_proof_check.specs.Walk.{IsSetting, SettingView}
 use Rattle.xd_proof_check.specs.declared.atoms.Named.{Named}
@@ -107,18 +106,6 @@ fits_setting v a h p f =
         same = l ∙ sym m;
       };
     }
-
-pub fit_kept : (v : CasesView) (p q : Path) → CasesFit v p → KeepsRoom p q → CasesFit v q
-fit_kept v p q f k = record {
-  belong = f.belong;
-  trees = f.trees;
-  left = f.left;
-  on_content = λ i. subst (λ n. number_at v.numbers i < n) (sym k.content) (f.on_content i);
-  on_rest = λ i. subst (λ n. number_at v.numbers i < n) (sym k.rest) (f.on_rest i);
-  contents = f.contents;
-  rests = f.rests;
-  split = subst (λ n. length v.rights ≤ n) (sym k.split) f.split;
-}
 
 module _ (types : List Row) (E : Definitions) (gs : List Goal) (g : Goal) (v : CasesView) (p : Path) (f : CasesFit v p) (m : Meets types E gs g v) where
   pub meets_setting : (a : Atom) (i : ℕ) (d : Head) → i < length v.left → Corresponds types (setting_at v a (get_or v.left i d)) (head_at types (get_or v.left i d)) (right_heads E g) gs

@@ -1,5 +1,5 @@
 -- Goals of a proof, one after the other.
-use Rattle.std.proofs.Common.{◌≡◌, ℕ, zero, suc, ◌+◌, ◌<◌, ◌≤◌, arith, true, false, not, ◌&&◌, Option, Some, None, Result, Ok, Err, IfOk, List, [], ◌∷◌, ◌++◌, map, flat_map, length, drop, get_or, refl, ap, sym, subst, ◌∙◌, append-nil}
+use Rattle.std.proofs.Common.{◌≡◌, ℕ, zero, suc, ◌+◌, ◌<◌, ◌≤◌, arith, true, false, not, ◌&&◌, Option, Some, None, Result, Ok, Err, IfOk, List, [], ◌∷◌, ◌++◌, flat_map, length, drop, get_or, refl, ap, sym, subst, ◌∙◌, append-nil}
 use Rattle.std.specs.List.{AllByRecursion, AllZip}
 use Rattle.std.specs.Option.{option_map}
 use Rattle.std.proofs.lemmas.List.{drop_all}
@@ -18,7 +18,7 @@ use Rattle.xd_heads.specs.declared.listing.Head.{Head}
 use Rattle.xd_proof.specs.Goals.{IsGoalAt, IsLinedAt}
 use Rattle.xd_proof_lines.specs.declared.cases.ReadCase.{ReadCase}
 use Rattle.xd_proof.specs.declared.proof.ProofGoal.{ProofGoal}
-use Rattle.xd_proof_check.specs.CaseWalk.{CasesFit, Meets}
+use Rattle.xd_proof_check.specs.CaseWalk.{Meets}
 use Rattle.xd_proof_check.specs.GoalHeads.{AreGoalHeads}
 use Rattle.xd_proof_check.specs.GoalWalk.{SheetView, Stands, GoalFits, breach_of, empty_marked, empty_marked_by, right_marked}
 use Rattle.xd_proof_check.specs.Numbers.{number_at}
@@ -95,12 +95,6 @@ module _ (types : List Row) (E : Definitions) (gs : List Goal) (s : SheetView) (
         left_belong = u.belong;
         rights_belong = w.belong;
       }
-
-pub goal_fits : (s : SheetView) (made : ProofGoal) (h : GoalHeads) (p : Path) (contents rests : List ℕ) → GoalFits s made h p → contents ≡ map (λ (x : Head). number_at s.numbers x.content.at) h.rights.items →
-    rests ≡ map (λ (x : Head). number_at s.numbers x.rest.at) h.rights.items →
-    CasesFit (record { goals = s.goals; numbers = s.numbers; cases = made.cases.items; left = h.left.items; rights = h.rights.items; contents = contents; rests = rests }) p
-goal_fits s made h p contents rests f c r =
-    record { belong = f.belong; trees = f.trees; left = f.left; on_content = f.on_content; on_rest = f.on_rest; contents = c; rests = r; split = f.split }
 
 pub goal_refused : (s : SheetView) (made : ProofGoal) (h : GoalHeads) (line : ℕ) → line ≡ made.line + 2 + length made.rights.items → empty_marked s.marks made ≡ false →
     (types : List Row) (E : Definitions) (gs : List Goal) (l : Lined) → Stands types E gs s → IsLinedAt types made l → AreGoalHeads types E made h → Some (line, bad_empty) ≡ wrong_goal E gs l

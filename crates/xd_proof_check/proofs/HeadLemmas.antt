@@ -103,9 +103,6 @@ all_take P zero xs a = tt
 all_take P (suc i) [] a = tt
 all_take P (suc i) (x ∷ xs) a = (a.0, all_take P i xs a.1)
 
-pub ids_kept : (m n : ℕ) → m ≤ n → (ids : List TypeId) → AllByRecursion (λ (id : TypeId). id.at < m) ids → AllByRecursion (λ (id : TypeId). id.at < n) ids
-ids_kept m n h ids b = ids_below m n h ids b
-
 abbrev names_at : ProgramTable → Definitions
 names_at p = names_of (program_tree p)
 

@@ -1,47 +1,26 @@
 -- Settings of cases.
-use Rattle.std.proofs.Common.{◌≡◌, ℕ, zero, suc, ◌-◌, ◌<◌, arith, Bool, true, false, not, cond, ◌&&◌, Option, Some, None, Result, Ok, Err, IfOk, List, [], ◌∷◌, length, drop, get_or, refl, ap, sym, subst, ◌∙◌}
-use Rattle.std.proofs.Math.Seq.{drop-cons}
+use Rattle.std.proofs.Common.{◌≡◌, ℕ, zero, suc, ◌-◌, ◌<◌, arith, Bool, true, false, not, cond, ◌&&◌, Option, Some, None, Result, Ok, Err, IfOk, List, [], ◌∷◌, length, refl, ap, sym, ◌∙◌}
 use Rattle.std.specs.Option.{IfNone, option_map}
 use Rattle.xd_laws.specs.Heads as laws
-use Rattle.xd_laws.specs.Consistent.{Atom, this_label, other_label, this_text, other_text, ChoiceTree, settles_content, settles_rest, split_on, Goal, numbered, matches_atom, no_sides}
+use Rattle.xd_laws.specs.Consistent.{Atom, this_label, other_label, this_text, other_text, ChoiceTree, Goal, numbered, matches_atom, no_sides}
 use Rattle.xd_syntax.specs.Table.{Row}
 use Rattle.xd_laws.specs.Breach.{Reason}
-use Rattle.xd_laws.proofs.FirstWrong.{or_next, wrong_choice, wrong_text, wrong_tree}
+use Rattle.xd_laws.proofs.FirstWrong.{wrong_choice, wrong_text, wrong_tree}
 use Rattle.xd_heads.specs.HeadList.{kind_at}
 use Rattle.xd_heads.specs.declared.listing.Head.{Head}
 use Rattle.xd_proof_lines.specs.Steps.{steps_of}
 use Rattle.xd_proof_lines.specs.declared.steps.Step.{Step}
-use Rattle.xd_proof_lines.specs.declared.steps.Step.TheVariants.{Rest}
 use Rattle.xd_proof_check.specs.Atoms.{kinds_of}
-use Rattle.xd_proof_check.specs.Numbers.{number_at}
 use Rattle.xd_proof_check.specs.Leaves.{is_among}
 use Rattle.xd_proof_check.specs.Corresponds.{Corresponds}
-use Rattle.xd_proof_check.specs.Paths.{IsClear, IsPath, KeepsRoom, heads_split, turned, turns_of}
+use Rattle.xd_proof_check.specs.Paths.{IsClear, IsPath, heads_split, turned, turns_of}
 use Rattle.xd_proof_check.specs.Reasons.{reason_of}
 use Rattle.xd_proof_check.specs.declared.verdict.Reason as code
-use Rattle.xd_proof_check.specs.Walk.{SettingView, IsSetting, kind_matches, rest_turns, split_fits, turns_after, turns_behind, wrong_step, wrong_steps, wrong_text_step}
+use Rattle.xd_proof_check.specs.Walk.{SettingView, kind_matches, rest_turns, split_fits, turns_after, wrong_steps, wrong_text_step}
 use Rattle.xd_proof_check.specs.declared.path.Path.{Path}
 use Rattle.xd_proof_check.specs.declared.path.Turn.{Turn}
-use Rattle.xd_proof_check.proofs.PathLemmas.{path_clear, room_kept}
+use Rattle.xd_proof_check.proofs.PathLemmas.{path_clear}
 use Rattle.xd_proof_check.proofs.WalkLemmas.{text_walked, tree_left, tree_walked}
-
-pub setting_kept : (s : SettingView) (p q : Path) → IsSetting s p → KeepsRoom p q → IsSetting s q
-setting_kept s p q i k = record {
-  belong = i.belong;
-  contents = λ n. subst (λ m. number_at s.numbers n < m) (sym k.content) (i.contents n);
-  rests = λ n. subst (λ m. number_at s.numbers n < m) (sym k.rest) (i.rests n);
-  heads = i.heads;
-  room = room_kept s.contents s.rests p q i.room k;
-}
-
--- a step that is right is followed by the others
-pub step_right : (s : SettingView) (ts us : List Turn) (t : Step) (ss : List Step) (o : Option Reason) → o ≡ None → o ≡ wrong_step s ts t → us ≡ turns_behind ts t →
-    wrong_steps s ts (t ∷ ss) ≡ wrong_steps s us ss
-step_right s ts us t ss o n e u =
-    ap (λ w. or_next w (wrong_steps s (turns_behind ts t) ss)) (sym e ∙ n) ∙ ap (λ vs. wrong_steps s vs ss) (sym u)
-
-pub step_wrong : (s : SettingView) (ts : List Turn) (t : Step) (ss : List Step) (r : Reason) → Some r ≡ wrong_step s ts t → Some r ≡ wrong_steps s ts (t ∷ ss)
-step_wrong s ts t ss r e = ap (λ w. or_next w (wrong_steps s (turns_behind ts t) ss)) e
 
 -- kinds of heads by number
 pub kind_none : (hs : List Head) (n : ℕ) → None ≡ numbered hs n → numbered (kinds_of hs) n ≡ None
@@ -77,19 +56,6 @@ pub fits_new : (s : SettingView) (ts : List Turn) (n : ℕ) (k : laws.HeadKind) 
     split_fits s ts n ≡ true
 fits_new s ts n k e m a =
     ap (λ o. kind_matches s.atom o && not (is_among (heads_split ts) (n - 1))) e ∙ ap (λ b. b && not (is_among (heads_split ts) (n - 1))) m ∙ ap not a
-
--- one more head in front
-pub turns_more : (a : Atom) (hs : List Head) (i : ℕ) (d : Head) → i < length hs → (b : Bool) → b ≡ matches_atom a (kind_at (get_or hs i d).kind) →
-    rest_turns a i (kinds_of (drop i hs)) ≡ cond b (record { right = i; on_rest = true } ∷ rest_turns a (suc i) (kinds_of (drop (suc i) hs))) (rest_turns a (suc i) (kinds_of (drop (suc i) hs)))
-turns_more a hs i d h b e =
-    ap (λ xs. rest_turns a i (kinds_of xs)) (drop-cons hs i d h)
-    ∙ ap (λ b. cond b (record { right = i; on_rest = true } ∷ rest_turns a (suc i) (kinds_of (drop (suc i) hs))) (rest_turns a (suc i) (kinds_of (drop (suc i) hs)))) (sym e)
-
--- the first step tells the tree of a text
-pub text_rest : (s : SettingView) (t : ChoiceTree) (n : ℕ) (ss : List Step) → steps_of t ≡ Rest n ∷ ss → wrong_text_step s t ≡ wrong_step s (rest_turns s.atom 0 s.kinds) (Rest n)
-text_rest s (settles_content m) n ss e = cc
-text_rest s (settles_rest m) n ss e = let q : m ≡ n = cc in ap (λ k. wrong_step s (rest_turns s.atom 0 s.kinds) (Rest k)) q
-text_rest s (split_on m t u) n ss e = cc
 
 -- a walk over the steps of a tree, from a clear path
 pub walk_found : (types : List Row) (s : SettingView) (left : laws.Head) (hs : List laws.Head) (gs : List Goal) (t : ChoiceTree) (steps : List Step) (ts : List Turn) (o : Option Reason) →
