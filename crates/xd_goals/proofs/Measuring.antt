@@ -13,7 +13,6 @@ use Rattle.xd_goals.specs.Rows.{GoalRow, TableView, no_row, row_at, claim_of, Ro
 use Rattle.xd_goals.specs.Kept.{Grows, GrowsBy, IsWokenRow, Refutes}
 use Rattle.xd_goals.specs.Standing.{KeepsGoals}
 use Rattle.xd_goals.specs.Measure.{AreMadeFrom, Lowers, possible, potential, rising, standing_weight, states_below, total, weight}
-use Rattle.xd_goals.specs.declared.table.Choice.{Choice}
 use Rattle.xd_goals.specs.declared.table.Link.{Link}
 use Rattle.xd_goals.specs.declared.table.Standing.{Standing}
 use Rattle.xd_goals.specs.declared.table.Standing.TheVariants.{Holds, Refuted, Waiting}

@@ -1,5 +1,5 @@
 -- What the repair of a case does to a table.
-use Rattle.std.proofs.Common.{ℕ, ◌<◌, ◌≤◌, ◌≡◌, Bool, true, false, List, [], length, map, set, get_or-set_same, get_or-set_other, length-set, Option, Some, None, ⊎_elim, sym, refl, ap, subst, ◌∙◌, arith}
+use Rattle.std.proofs.Common.{ℕ, ◌<◌, ◌≡◌, Bool, false, List, [], length, map, set, get_or-set_same, get_or-set_other, length-set, Option, Some, None, ⊎_elim, sym, refl, ap, subst, ◌∙◌, arith}
 use Rattle.std.specs.List.{slice_get}
 use Rattle.std.proofs.lemmas.Bool.{cases_eq}
 use Rattle.std.proofs.lemmas.Option.{slice_get_within}
@@ -7,25 +7,23 @@ use Rattle.xd_doc.specs.Document.{Document}
 use Rattle.xd_doc.specs.declared.store.Seq.{Seq}
 use Rattle.xd_auto.specs.declared.auto.State.{State}
 use Rattle.xd_auto.specs.Automaton.{Automaton}
-use Rattle.xd_rules.specs.declared.atom.Atom.{Atom}
 use Rattle.xd_rules.specs.Rules.{Claim}
-use Rattle.xd_goals.specs.Moves.{claim_with}
 use Rattle.xd_goals.specs.Rows.{GoalRow, TableView, choice_key, claim_of, goal_case, no_row, row_at, IsUnbroken}
 use Rattle.xd_goals.specs.Kept.{AreLinked, Grows, IsConsistent, IsIndexed, view_of, with_choice, with_standing}
 use Rattle.xd_goals.specs.declared.goals.Goals.{Goals}
-use Rattle.xd_goals.specs.Standing.{ChoiceStands, IsBegun, IsOpen, KeepsGoals, RowHolds, StandsOn}
+use Rattle.xd_goals.specs.Standing.{ChoiceStands, IsBegun, IsOpen, StandsOn}
 use Rattle.xd_goals.specs.Cases.{IsMended, IsMending, IsOpenChoice}
 use Rattle.xd_goals.specs.declared.work.Failure.{Failure}
-use Rattle.xd_goals.specs.Measure.{AreMadeFrom, Lowers, potential}
+use Rattle.xd_goals.specs.Measure.{Lowers}
 use Rattle.xd_goals.specs.declared.table.Choice.{Choice}
 use Rattle.xd_goals.specs.declared.table.ChoiceNode.{ChoiceNode}
 use Rattle.xd_goals.specs.declared.table.GoalCase.{GoalCase}
 use Rattle.xd_goals.specs.declared.table.Link.{Link}
 use Rattle.xd_goals.specs.declared.table.Standing.TheVariants.{Holds, Refuted, Waiting}
-use Rattle.xd_goals.proofs.Lists.{all_at, all_places, none_at, set_at, set_here, set_other, set_there, set-map}
+use Rattle.xd_goals.proofs.Lists.{all_places, none_at, set_at, set_here, set_other, set_there, set-map}
 use Rattle.xd_goals.proofs.Trees.{broken-grows, choices-grows, standing-grows}
 use Rattle.xd_goals.proofs.Facts.{keeps_goals-grows, keeps_goals-then}
-use Rattle.xd_goals.proofs.Measuring.{level-changed, lowers-then, made-grows, made-then, potential-grows}
+use Rattle.xd_goals.proofs.Measuring.{level-changed, made-grows, made-then, potential-grows}
 use Rattle.xd_goals.proofs.Settling.{SameGoals, changed_same, stands-changed}
 use Rattle.xd_goals.proofs.Stepping.{IsStep, keeps_goals-same, no_length, none_added, none_made, owner_claim, same_held, stands_grown, step_held, whole_same}
 

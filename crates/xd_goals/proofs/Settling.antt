@@ -18,7 +18,7 @@ use Rattle.xd_goals.specs.declared.table.ChoiceNode.{ChoiceNode}
 use Rattle.xd_goals.specs.declared.table.GoalCase.{GoalCase}
 use Rattle.xd_goals.specs.declared.table.Link.{Link}
 use Rattle.xd_goals.specs.declared.table.Standing.{Standing}
-use Rattle.xd_goals.specs.declared.table.Standing.TheVariants.{Holds, Refuted, Waiting}
+use Rattle.xd_goals.specs.declared.table.Standing.TheVariants.{Holds, Refuted}
 use Rattle.xd_goals.proofs.Lists.{all_at, all_places}
 use Rattle.xd_goals.proofs.Growing.{claim_at-is}
 use Rattle.xd_goals.proofs.Trees.{AllLeaves-map, StandsAt-one}

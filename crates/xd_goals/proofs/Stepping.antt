@@ -10,7 +10,7 @@ use Rattle.xd_auto.specs.declared.auto.State.{State}
 use Rattle.xd_auto.specs.Automaton.{Automaton}
 use Rattle.xd_rules.specs.Rules.{Claim}
 use Rattle.xd_goals.specs.Moves.{claim_with, is_last_in}
-use Rattle.xd_goals.specs.Rows.{GoalRow, TableView, no_row, claim_at, claim_of, claim_key, goal_case, row_at, IsUnbroken}
+use Rattle.xd_goals.specs.Rows.{GoalRow, TableView, no_row, claim_at, claim_of, claim_key, goal_case, row_at}
 use Rattle.xd_goals.specs.Kept.{AreLinked, Grows, GrowsBy, IsConsistent, IsIndexed, IsWhole, Refutes, found_at, view_of}
 use Rattle.xd_goals.specs.Standing.{ChoiceStands, IsOpen, IsSeparatedBy, KeepsGoals, RowHolds, StandsOn}
 use Rattle.xd_goals.specs.Cases.{AreSettled}

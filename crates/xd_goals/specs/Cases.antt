@@ -108,7 +108,7 @@ pub record AreSettled (a : Automaton) (t : TableView) (goal : ℕ) (c : Claim St
 
 abbrev pub IsSettling : Automaton → List Document → TableView → ℕ → Claim State → Settled → Type 0
 IsSettling a ds t goal c (Holds made) = AreSettled a t goal c made.items
-IsSettling a ds t goal c (Separates atom inside behind) = FailsAt a ds t c atom inside behind
+IsSettling a ds t goal c (Separates f) = FailsAt a ds t c f.atom f.inside f.behind
 
 -- cases of a goal were repaired, and perhaps goals were added: it waits as it did, and no case became doubtful
 pub record IsMending (goal : ℕ) (old new : TableView) : Type 0 where

@@ -197,7 +197,8 @@ pub(crate) fn add_node(
     Ok(number)
 }
 
-/// Says that the goal holds by these choice trees, with their flags, as far as those hold that it rests on.
+/// Says that the goal holds by these choice trees, with a flag for each, as far as those hold that it
+/// rests on.
 pub(crate) fn hold(rows: &mut Vec<Row>, goal: GoalId, choices: Vec<Choice>, broken: Vec<bool>)
     requires { goal.number < length rows.old.items }
     ensures { rows.new.items ≡ slice_set rows.old.items goal.number (record (row_at rows.old.items goal.number) { standing = Standing.Holds; choices = choices.items; broken = broken.items }) }
@@ -217,7 +218,7 @@ fn set_choice_root(choices: &mut Vec<Choice>, place: usize, root: usize)
     choice.root = root;
 }
 
-/// Gives a case another choice tree, of which no leaf names a refuted goal.
+/// Gives a case another choice tree, of which no leaf names a refuted goal, and takes its flag away.
 pub(crate) fn set_root(rows: &mut Vec<Row>, case: GoalCase, root: usize)
     requires goal { case.goal.number < length rows.old.items }
     requires choice { case.place < length (row_at rows.old.items case.goal.number).choices }
@@ -238,7 +239,8 @@ pub(crate) fn set_standing(rows: &mut Vec<Row>, goal: GoalId, standing: Standing
     row.standing = standing;
 }
 
-/// Marks a case of which a leaf may name a refuted goal. It isn't there where work on the goal was broken off.
+/// Sets the flag of a case: a leaf of its tree may name a refuted goal. The case isn't there where work on
+/// a new goal was broken off.
 fn set_flag(rows: &mut Vec<Row>, case: GoalCase)
     requires { case.goal.number < length rows.old.items }
     ensures { rows.new.items ≡ slice_set rows.old.items case.goal.number (with_flag case.place (row_at rows.old.items case.goal.number)) }
@@ -249,7 +251,7 @@ fn set_flag(rows: &mut Vec<Row>, case: GoalCase)
     }
 }
 
-/// Marks a case, and lets its goal wait where it holds.
+/// Sets the flag of a case, and lets its goal wait where it holds.
 fn wake(rows: &mut Vec<Row>, case: GoalCase)
     requires { case.goal.number < length rows.old.items }
     ensures { IsWoken (λ k. k ≡ case) rows.old.items rows.new.items }
@@ -261,7 +263,7 @@ fn wake(rows: &mut Vec<Row>, case: GoalCase)
     }
 }
 
-/// Marks the cases that depend on a goal, and lets those of their goals wait that hold.
+/// Sets the flags of the cases that depend on a goal, and lets those of their goals wait that hold.
 fn wake_all(rows: &mut Vec<Row>, links: &[Link], first: Option<usize>)
     requires links { AreLinked rows.old.items links.now }
     requires first { IsBelow (length links.now) first }
@@ -275,8 +277,8 @@ fn wake_all(rows: &mut Vec<Row>, links: &[Link], first: Option<usize>)
     }
 }
 
-/// Refutes a goal by a document, marks the cases that depend on it, and lets those of their goals wait
-/// that hold. It takes no memory.
+/// Refutes a goal by a document, sets the flags of the cases that depend on it, and lets those of their
+/// goals wait that hold. It takes no memory.
 pub(crate) fn refute(rows: &mut Vec<Row>, links: &[Link], goal: GoalId, document: Seq)
     requires goal { goal.number < length rows.old.items }
     requires links { AreLinked rows.old.items links.now }

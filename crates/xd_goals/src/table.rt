@@ -55,8 +55,8 @@ pub enum ChoiceNode {
     Rest(GoalId),
 }
 
-/// A goal, its choice trees, for each of them whether a leaf may name a refuted goal, and where the
-/// list of the goal's dependents begins.
+/// A goal, its choice trees, for each of these a flag that is set where a leaf may name a refuted goal,
+/// and where the list of the goal's dependents begins.
 #[derive(Debug, Drop)]
 pub(crate) struct Row {
     pub(crate) left: State,
@@ -180,7 +180,7 @@ impl Table {
     }
 
     /// Where the list of the goals that depend on this one begins; `None` exactly where there are none.
-    /// A goal may come once for each of its cases, and for each time that the case began to depend on it.
+    /// A goal may come more than once, for one of its cases or for several.
     pub fn first_dependent(&self, goal: GoalId) -> Option<usize>
         requires { goal.number < length self.now.rows }
         ensures value { result ≡ (row_at self.now.rows goal.number).dependents }

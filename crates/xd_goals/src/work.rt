@@ -123,12 +123,21 @@ fn begin_case(
     }
 }
 
-/// Trees for all cases of a goal, none of whose leaves names a refuted goal; or an atom of a head for
-/// which there is none, with a content and a rest for a document that separates.
+/// A case for which there is no tree: an atom of a head, with a content and a rest for a document that
+/// separates.
+#[derive(Drop)]
+struct Failure {
+    atom: Atom,
+    inside: Seq,
+    behind: Seq,
+}
+
+/// Trees for all cases of a goal, none of whose leaves names a refuted goal; or a case for which there
+/// is none.
 #[derive(Drop)]
 enum Settled {
     Holds(Vec<Choice>),
-    Separates(Atom, Seq, Seq),
+    Separates(Failure),
 }
 
 /// Trees for the cases of a goal that has none yet.
@@ -171,7 +180,11 @@ fn begin(
                 root,
             })?,
             Grown::Fails(inside, behind) => {
-                return Ok(Settled::Separates(share(&case.atom)?, inside, behind));
+                return Ok(Settled::Separates(Failure {
+                    atom: share(&case.atom)?,
+                    inside,
+                    behind,
+                }));
             }
         }
     }
@@ -275,22 +288,14 @@ fn share_choice(choice: &Choice) -> Result<Choice, NoMemory>
     })
 }
 
-/// Whether a leaf of the case may name a refuted goal.
-fn is_marked(rows: &[Row], case: GoalCase) -> bool
+/// Whether the flag of a case is set.
+fn is_flagged(rows: &[Row], case: GoalCase) -> bool
     requires goal { case.goal.number < length rows.now }
     requires flag { case.place < length (row_at rows.now case.goal.number).broken }
     ensures { result ≡ false → IsUnbroken (row_at rows.now case.goal.number) case.place }
 {
     let row = &rows[case.goal.number];
     row.broken[case.place]
-}
-
-/// A case that fails: at an atom of a head, with a content and a rest for a document that separates.
-#[derive(Drop)]
-struct Failure {
-    atom: Atom,
-    inside: Seq,
-    behind: Seq,
 }
 
 /// Repairs the choice tree of a case, or says how the case fails.
@@ -333,7 +338,7 @@ fn mend_case(
     }
 }
 
-/// Refutes a goal for which a case fails, by a document that is made of a content and a rest.
+/// Refutes a goal of which a case fails, by a document that is made of a content and a rest.
 fn refute_at(
     alloc: Global,
     auto: &Auto,
@@ -341,15 +346,13 @@ fn refute_at(
     owner: GoalId,
     store: &mut Store,
     answers: &Answers,
-    atom: &Atom,
-    inside: Seq,
-    behind: Seq,
+    failure: &Failure,
 ) -> Result<(), NoMemory>
     requires whole { IsWhole goals.old }
     requires owner { owner.number < length goals.old.rows.items }
     requires waits { (row_at goals.old.rows.items owner.number).standing ≡ Waiting }
     requires stands { StandsOn auto.now store.old (view_of goals.old) }
-    requires fails { FailsAt auto.now store.old (view_of goals.old) (claim_of (row_at goals.old.rows.items owner.number)) atom.now inside behind }
+    requires fails { FailsAt auto.now store.old (view_of goals.old) (claim_of (row_at goals.old.rows.items owner.number)) failure.now.atom failure.now.inside failure.now.behind }
     requires right { AreRight auto.now store.old answers.now }
     ensures whole { IsWhole goals.new }
     ensures stands { StandsOn auto.now store.new (view_of goals.new) }
@@ -359,7 +362,16 @@ fn refute_at(
     ensures lowers { OnOk result (Lowers goals.old.rows.items goals.new.rows.items) }
     ensures right { OnOk result (AreRight auto.now store.new answers.now) }
 {
-    let document = separate(alloc, auto, goals, owner, store, atom, inside, behind)?;
+    let document = separate(
+        alloc,
+        auto,
+        goals,
+        owner,
+        store,
+        &failure.atom,
+        failure.inside,
+        failure.behind,
+    )?;
     answers.stay_right();
     refute(&mut goals.rows, &goals.links, owner, document);
     Ok(())
@@ -397,16 +409,14 @@ fn begin_goal(
             hold(&mut goals.rows, owner, made, broken);
             Ok(())
         }
-        Settled::Separates(atom, inside, behind) => {
-            refute_at(
-                alloc, auto, goals, owner, store, answers, &atom, inside, behind,
-            )
+        Settled::Separates(failure) => {
+            refute_at(alloc, auto, goals, owner, store, answers, &failure)
         }
     }
 }
 
-/// Brings a goal that waits again to hold, or to be refuted where a case of it fails. Only the cases of
-/// which a leaf may name a refuted goal are looked at.
+/// Brings a goal that waits again to hold, or to be refuted where a case of it fails. It looks at the
+/// cases alone whose flags are set.
 fn mend_goal(
     alloc: Global,
     auto: &Auto,
@@ -435,17 +445,10 @@ fn mend_goal(
     let row = &goals.rows[owner.number];
     for place in 0..row.broken.len() {
         let case = GoalCase { goal: owner, place };
-        if is_marked(&goals.rows, case) {
+        if is_flagged(&goals.rows, case) {
             let failure = mend_case(alloc, auto, store, answers, goals, case, left, rights)?;
-            if let Some(Failure {
-                atom,
-                inside,
-                behind,
-            }) = failure
-            {
-                return refute_at(
-                    alloc, auto, goals, owner, store, answers, &atom, inside, behind,
-                );
+            if let Some(failure) = failure {
+                return refute_at(alloc, auto, goals, owner, store, answers, &failure);
             }
         }
     }
@@ -481,13 +484,9 @@ fn work_on_cases(
 {
     let row = &goals.rows[owner.number];
     if row.choices.is_empty() {
-        begin_goal(
-            alloc, auto, goals, owner, store, answers, left, rights,
-        )
+        begin_goal(alloc, auto, goals, owner, store, answers, left, rights)
     } else {
-        mend_goal(
-            alloc, auto, goals, owner, store, answers, left, rights,
-        )
+        mend_goal(alloc, auto, goals, owner, store, answers, left, rights)
     }
 }
 

@@ -3,9 +3,7 @@ use Rattle.std.specs.List.{AllByRecursion}
 use Rattle.xd_rules.specs.Rules.{Claim}
 use Rattle.xd_auto.specs.declared.auto.State.{State}
 use Rattle.xd_goals.specs.Moves.{claim_with}
-use Rattle.xd_goals.specs.Rows.{row_at}
 use Rattle.xd_goals.specs.Kept.{view_of}
-use Rattle.xd_goals.specs.Standing.{ChoiceStands, IsBegun}
 use Rattle.xd_goals.specs.Cases.{FailsAt}
 use Rattle.xd_goals.proofs.Facts.{keeps_goals-grows, keeps_goals-then}
 use Rattle.xd_goals.proofs.Trees.{standing-grows}
@@ -45,7 +43,7 @@ refute_at-requires-clause-waits c = (standing-grows (view_of c.args.goals.now) (
 
 pub refute_at-requires-clause-fails : goal.refute_at-requires-clause-fails
 refute_at-requires-clause-fails c =
-    subst (λ (x : Claim State). FailsAt c.args.auto.now c.args.store.now (view_of c.begin.new.goals) x c.in-Separates.atom c.in-Separates.inside c.in-Separates.behind)
+    subst (λ (x : Claim State). FailsAt c.args.auto.now c.args.store.now (view_of c.begin.new.goals) x c.in-Separates.failure.atom c.in-Separates.failure.inside c.in-Separates.failure.behind)
     (sym (owner_claim (view_of c.args.goals.now) (view_of c.begin.new.goals) c.begin.ensures.grows c.args.owner.number (claim_with c.args.left c.args.rights.now) c.requires.owner c.requires.claim)) (rw c.in-Separates.is at c.in_ok-made.ensures.settled)
 
 pub returns-in_ok-broken-in-Holds-clause-whole : goal.returns-in_ok-broken-in-Holds-clause-whole

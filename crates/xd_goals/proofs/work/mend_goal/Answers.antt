@@ -8,7 +8,7 @@ use Rattle.xd_goals.proofs.Finding.{OnOk-map}
 use Rattle.xd_goals.proofs.Stepping.{keeps-same, whole_same}
 use Rattle.xd_goals.proofs.Mending.{lowers-mended, mended_none, mending-same, mending-then, repaired_same, repaired_step}
 use Rattle.xd_goals.proofs.work.mend_goal.Goals as goal
-use Rattle.xd_goals.proofs.work.mend_goal.Goals.{then-is_marked+in_ok-failure+in_default, else-is_marked}
+use Rattle.xd_goals.proofs.work.mend_goal.Goals.{then-is_flagged+in_ok-failure+in_default, else-is_flagged}
 
 pub loop-place-init : goal.loop-place-init
 loop-place-init c = record {
@@ -22,8 +22,8 @@ loop-place-init c = record {
 }
 
 pub loop-place-preserved : goal.loop-place-preserved
-loop-place-preserved c = elim c.if-is_marked.branch [
-  | then-is_marked+in_ok-failure+in_default w ↦
+loop-place-preserved c = elim c.if-is_flagged.branch [
+  | then-is_flagged+in_ok-failure+in_default w ↦
       rw (w.goals-is, w.answers-is) (record {
         whole = w.mend_case.ensures.whole;
         stands = w.mend_case.ensures.stands;
@@ -39,7 +39,7 @@ loop-place-preserved c = elim c.if-is_marked.branch [
             (cases_lt k c.loop-place.place);
         end_is = c.loop-place.invariant.end_is ∙ sym w.mend_case.ensures.mending.flags;
       })
-  | else-is_marked w ↦
+  | else-is_flagged w ↦
       rw (w.goals-is, w.answers-is) (record {
         whole = c.loop-place.invariant.whole;
         stands = c.loop-place.invariant.stands;
@@ -51,7 +51,7 @@ loop-place-preserved c = elim c.if-is_marked.branch [
             (λ ge.
             let q : c.loop-place.place ≡ k = omega arith in
             subst (λ (n : ℕ). IsUnbroken (row_at c.loop-place.goals.rows.items c.args.owner.number) n) q
-            (rw c.deref.ensures.value at (c.is_marked.ensures w.if-is_marked.false)))
+            (rw c.deref.ensures.value at (c.is_flagged.ensures w.if-is_flagged.false)))
             (cases_lt k c.loop-place.place);
         end_is = c.loop-place.invariant.end_is;
       })
