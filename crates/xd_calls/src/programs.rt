@@ -10,16 +10,17 @@ use std::io::Write;
 use xd_names::resolve;
 use xd_parse::{ParseError, parse_program, parse_type};
 use xd_rec::{Soundness, well_formed};
-use xd_syntax::{Fault, TypeId, Types};
+use xd_syntax::{Fault, SoundProgram, TypeId, Types};
 
 /// `parse_program`, `resolve` and `well_formed` of the program that was read last, and about the sound one that came of it
-/// `find_type NAME` and `adopt`, of the type that was read last.
+/// `find_type NAME`, `find_in_copy NAME`, in a copy of it, and `adopt`, of the type that was read last.
 pub fn program(desk: &mut Desk<'_>, call: &Call<'_>, out: &mut Vec<u8>) -> Result<(), CallError> {
     match call.name {
         "parse_program" => show_parsed(desk, call, out),
         "resolve" => show_resolved(desk, out),
         "well_formed" => show_soundness(desk, out),
         "find_type" => find_type(desk, call, out),
+        "find_in_copy" => find_in_copy(desk, call, out),
         "adopt" => adopt(desk, out),
         _ => Err(CallError::Call),
     }
@@ -112,7 +113,18 @@ fn show_soundness(desk: &mut Desk<'_>, out: &mut Vec<u8>) -> Result<(), CallErro
 
 fn find_type(desk: &mut Desk<'_>, call: &Call<'_>, out: &mut Vec<u8>) -> Result<(), CallError> {
     let sound = desk.sound.as_mut().ok_or(CallError::Unknown)?;
-    match sound.find_type(call.word(0)?)? {
+    show_found(sound, call.word(0)?, out)
+}
+
+fn find_in_copy(desk: &Desk<'_>, call: &Call<'_>, out: &mut Vec<u8>) -> Result<(), CallError> {
+    let sound = desk.sound.as_ref().ok_or(CallError::Unknown)?;
+    let mut copy = sound.copy(desk.alloc)?;
+    show_found(&mut copy, call.word(0)?, out)
+}
+
+/// The type of this name, or that there is none.
+fn show_found(sound: &mut SoundProgram, word: &str, out: &mut Vec<u8>) -> Result<(), CallError> {
+    match sound.find_type(word)? {
         Some(id) => show_line(sound.program().types(), id, out),
         None => {
             out.extend_from_slice(b"none\n")?;
