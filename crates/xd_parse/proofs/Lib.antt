@@ -26,3 +26,4 @@ pub mod JoinLemmas
 pub mod ExprRows
 pub mod Readers
 pub mod Adding
+pub mod Tests

@@ -18,3 +18,4 @@ pub mod Grows
 pub mod Definitions
 pub mod ParseErrors
 pub mod Shallow
+pub mod Tests

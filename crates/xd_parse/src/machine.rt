@@ -3,11 +3,12 @@
 //! The next token settles which rule a symbol takes, but for a `(` in a type or a pattern: it begins the labels of a
 //! class, or a type in parentheses. As long as the tokens may be both, the reader keeps both in its `Reading`.
 
-ghost use Rattle.std.specs.Prelude.{◌≡◌, ◌++◌, ◌<◌, reverse, IfOk, OnOk, MatchOption, None, Some};
+ghost use Rattle.std.specs.Prelude.{◌≡◌, ◌++◌, ◌<◌, ◌≤◌, drop, length, reverse, IfOk, OnOk, MatchOption, None, Some};
 ghost use Rattle.xd_parse.specs.Fits.{same, fits, first_fit, work};
 ghost use Rattle.xd_parse.specs.Grammar.{rules};
 ghost use Rattle.xd_parse.specs.Machine.{main_row, listed_row, course, group_of, Shifts, TurnsOr, Advances, entered, is_keyword, at_name};
 ghost use Rattle.xd_parse.specs.Rows.{rows_now};
+ghost use Rattle.xd_parse.specs.Tests.{without_tests, begins_with_token, behind_token, front_step};
 ghost use Rattle.xd_parse.specs.declared.machine.Reading.TheVariants as readings;
 
 use crate::grammar::{Nonterminal, Sort, Symbol, Terminal, rules};
@@ -94,6 +95,45 @@ fn push_row(stack: &mut Vec<Symbol>, row: &[Symbol]) -> Result<(), NoMemory>
     Ok(())
 }
 
+/// How many tests stand at the front of a row.
+fn tests_len(row: &[Symbol]) -> usize
+    ensures within { result ≤ length row.now }
+    ensures tests { drop result row.now ≡ without_tests row.now }
+{
+    let mut len = 0;
+    for symbol in row {
+        match symbol {
+            Symbol::Unless(_) => len += 1,
+            _ => return len,
+        }
+    }
+    len
+}
+
+fn begins_with_token(row: &[Symbol]) -> bool
+    ensures { result ≡ begins_with_token row.now }
+{
+    match row.first() {
+        Some(Symbol::Token(_)) => true,
+        _ => false,
+    }
+}
+
+/// Puts a row on the stack that lets the token come next. Its tests are passed, so they are left out, and if a token is then
+/// its first symbol, it is this one, and is taken.
+fn push_fit(stack: &mut Vec<Symbol>, row: &[Symbol]) -> Result<Option<Step>, NoMemory>
+    ensures step { IfOk result (λ done. done ≡ front_step (without_tests row.now)) }
+    ensures stack { OnOk result (reverse stack.new.items ≡ behind_token (without_tests row.now) ++ reverse stack.old.items) }
+{
+    let rest = &row[tests_len(row)..];
+    if begins_with_token(rest) {
+        push_row(stack, &rest[1..])?;
+        return Ok(Some(Step::Next(Reading::Plain)));
+    }
+    push_row(stack, rest)?;
+    Ok(None)
+}
+
 /// What stands in the parentheses where a primary begins with one.
 fn group_of(part: Nonterminal, kind: Terminal) -> Option<Sort>
     ensures { result ≡ group_of part kind }
@@ -155,8 +195,8 @@ fn turn(
             Some(sort) => Ok(Some(enter(depth, Reading::Opened(sort)))),
             None => match first_fit(rules(part), kind) {
                 Some(made) => {
-                    push_row(stack, made)?;
-                    Ok(None)
+                    let done = push_fit(stack, made)?;
+                    Ok(done)
                 }
                 None => Ok(Some(Step::Syntax)),
             },

@@ -1,9 +1,12 @@
-use Rattle.std.proofs.Common.{◌≡◌, ◌<◌, reverse, subst, sym, ◌∙◌, arith, List, [], ◌∷◌, Some, None}
+use Rattle.std.proofs.Common.{◌≡◌, ◌++◌, Option, reverse, subst, sym, ◌∙◌, arith, List, [], Some, None}
 use Rattle.xd_parse.specs.declared.grammar.Symbol.TheVariants.{Part}
 use Rattle.xd_parse.specs.Grammar.{Row, rules}
-use Rattle.xd_parse.specs.Fits.{first_fit, work}
-use Rattle.xd_parse.specs.Machine.{Turns}
-use Rattle.xd_parse.proofs.Shift.{token_next, token_stops, opening_enters, opening_stops, closed_turns, unless_turns, part_stops, part_goes, group_enters}
+use Rattle.xd_parse.specs.Fits.{first_fit}
+use Rattle.xd_parse.specs.Machine.{TurnsOr}
+use Rattle.xd_parse.specs.Tests.{without_tests, behind_token}
+use Rattle.xd_parse.specs.declared.machine.Step.{Step}
+use Rattle.xd_parse.proofs.Shift.{token_next, token_stops, opening_enters, opening_stops, closed_turns, unless_turns, part_stops, group_enters}
+use Rattle.xd_parse.proofs.Tests.{fit_goes}
 use Rattle.xd_parse.proofs.machine.turn.Goals as goal
 
 pub returns-then-same : goal.returns-then-same
@@ -27,10 +30,15 @@ returns-else-same-3 c = rw c.in-Unless.is (unless_turns _ _ _ _ (sym c.same-in-U
 pub returns-in-Some : goal.returns-in-Some
 returns-in-Some c = rw c.in-Part.is (group_enters _ _ c.in-Some.sort _ _ _ _ (sym c.in-Some.ensures) c.enter-in-Some.ensures)
 
-pub returns-in_ok-push_row-in-Some-first_fit : goal.returns-in_ok-push_row-in-Some-first_fit
-returns-in_ok-push_row-in-Some-first_fit c =
-    let e : first_fit (rules c.in-Part.part) c.args.kind ≡ Some c.in-Some-first_fit.made.now = subst (λ (rs : List Row). first_fit rs c.args.kind ≡ Some c.in-Some-first_fit.made.now) c.rules.ensures c.in-Some-first_fit.ensures in
-    rw c.in-Part.is (subst (λ (x : Row). Turns c.args.depth.now (Part c.in-Part.part ∷ reverse c.args.stack.now.items) c.args.kind c.args.depth.now x × (work x < work (Part c.in-Part.part ∷ reverse c.args.stack.now.items))) (sym c.in_ok-push_row-in-Some-first_fit.ensures) (part_goes _ _ _ _ _ (sym c.in-None.ensures) e))
+pub returns-in_ok-done-in-Some-first_fit : goal.returns-in_ok-done-in-Some-first_fit
+returns-in_ok-done-in-Some-first_fit c =
+    let part = c.in-Part.part in
+    let old = reverse c.args.stack.now.items in
+    let made = c.in-Some-first_fit.made.now in
+    let e : first_fit (rules part) c.args.kind ≡ Some made = subst (λ (rs : List Row). first_fit rs c.args.kind ≡ Some made) c.rules.ensures c.in-Some-first_fit.ensures in
+    let d = c.args.depth.now in
+    rw c.in-Part.is (subst (λ (x : Row). TurnsOr c.in_ok-done-in-Some-first_fit.done d (Part part) old c.args.kind d x) (sym c.in_ok-done-in-Some-first_fit.ensures.stack)
+    (subst (λ (o : Option Step). TurnsOr o d (Part part) old c.args.kind d (behind_token (without_tests made) ++ old)) (sym c.in_ok-done-in-Some-first_fit.ensures.step) (fit_goes d old part c.args.kind made (sym c.in-None.ensures) e)))
 
 pub returns-in-None-first_fit : goal.returns-in-None-first_fit
 returns-in-None-first_fit c = rw c.in-Part.is (part_stops _ _ _ _ 0 [] (subst (λ (rs : List Row). first_fit rs c.args.kind ≡ None) c.rules.ensures c.in-None-first_fit.ensures))
