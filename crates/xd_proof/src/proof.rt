@@ -1,6 +1,8 @@
 //! The goals of a proof, with the numbers of their lines.
 
 ghost use Rattle.std.specs.Prelude.{◌≡◌, ◌<◌, ◌∷◌, List, length};
+ghost use Rattle.std.specs.List.{AllByRecursion};
+ghost use Rattle.xd_proof.specs.Lines.{LinesFit};
 ghost use Rattle.xd_proof.specs.declared.proof.ProofGoal.{ProofGoal};
 
 use std::marker::Model;
@@ -21,7 +23,8 @@ pub struct ProofGoal {
     pub cases: Vec<ReadCase>,
 }
 
-/// The goals of a proof, one at least. The first is its claim; others are named by their numbers, from 1.
+/// The goals of a proof, one at least. The first is its claim; others are named by their numbers, from 1. Each of their lines, and
+/// the line behind a goal, has a number below 2^64.
 #[derive(Drop)]
 pub struct Proof {
     goals: Vec<ProofGoal>,
@@ -29,19 +32,22 @@ pub struct Proof {
 
 impl Model for Proof {
     ghost use Rattle.std.specs.Prelude.{List, ◌<◌, length};
+    ghost use Rattle.std.specs.List.{AllByRecursion};
+    ghost use Rattle.xd_proof.specs.Lines.{LinesFit};
     ghost use Rattle.xd_proof.specs.declared.proof.ProofGoal.{ProofGoal};
 
     ghost Value = { List ProofGoal };
 
     ghost view = { λ p. p.goals.items };
 
-    ghost invariant = { λ p. 0 < length p.goals.items };
+    ghost invariant = { λ p. (0 < length p.goals.items) × AllByRecursion LinesFit p.goals.items };
 }
 
 impl Proof {
-    /// One of these goals.
+    /// One of these goals. Their lines must have numbers, since a checker tells the line at which a rule is broken.
     pub fn new(goals: Vec<ProofGoal>) -> Self
-        requires { 0 < length goals.items }
+        requires some { 0 < length goals.items }
+        requires lines { AllByRecursion LinesFit goals.items }
         ensures { result ≡ goals.items }
     {
         Self { goals }
@@ -51,6 +57,7 @@ impl Proof {
     pub fn goals(&self) -> &[ProofGoal]
         ensures same { result.now ≡ self.now }
         ensures some { 0 < length self.now }
+        ensures lines { AllByRecursion LinesFit self.now }
     {
         self.goals.as_slice()
     }
