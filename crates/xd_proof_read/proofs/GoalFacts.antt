@@ -1,23 +1,28 @@
 -- First bad lines, and lists of goals that are under way.
-use Rattle.std.proofs.Common.{Bor, Vec, Global, ◌≡◌, ◌⊎◌, ℕ, suc, ◌+◌, ◌-◌, ◌<◌, ◌≤◌, arith, List, [], ◌∷◌, ◌++◌, map, length, length-append, get_or, take, drop, append_assoc, Option, Some, None, refl, ap, sym, subst, ◌∙◌, inl, inr}
+use Rattle.std.proofs.Common.{Bor, Vec, Global, ◌≡◌, ◌⊎◌, ℕ, suc, ◌+◌, ◌-◌, ◌^◌, ◌<◌, ◌≤◌, arith, List, [], ◌∷◌, ◌++◌, map, length, length-append, get_or, take, drop, append_assoc, Option, Some, None, refl, ap, sym, subst, ◌∙◌, inl, inr}
+use Rattle.std.specs.List.{AllByRecursion}
 use Rattle.std.proofs.lemmas.List.{take-append-drop, take_more, take_all, length-take-le, get_or-map}
+use Rattle.std.proofs.lemmas.Slice.Zip.{AllZip-long}
 use Rattle.std.proofs.Math.Seq.{take-append-add}
 use Rattle.xd_syntax.specs.Tree.{Tree}
 use Rattle.xd_syntax.specs.Table.{Row}
 use Rattle.xd_syntax.specs.Kept.{ProgramTable}
+use Rattle.xd_syntax.specs.Sound.{IsTypeAt}
 use Rattle.xd_proof_form.specs.Parts.{Part, SpellsPart, SpellParts}
-use Rattle.xd_proof_form.specs.Form.{Block, goal_list, goals_from}
+use Rattle.xd_proof_form.specs.Form.{Block, block_length, goal_list, goals_from}
 use Rattle.xd_proof_form.specs.Course.{Course, at_count, at_end, next, and_on, along}
 use Rattle.xd_proof_form.proofs.CourseLemmas.{along_joined, course_reads, list_follows}
 use Rattle.xd_proof_form.proofs.BeginLemmas.{spell_joined, front_course, course_list}
 use Rattle.xd_proof_form.proofs.Unique.{parts_one}
+use Rattle.xd_proof_lines.specs.Cases.{IsCase}
 use Rattle.xd_proof.specs.declared.proof.ProofGoal.{ProofGoal}
 use Rattle.xd_proof.specs.Goals.{AreGoalsAt}
+use Rattle.xd_proof.specs.Lines.{LinesFit}
 use Rattle.xd_proof_read.specs.declared.naming.Naming.{Naming}
 use Rattle.xd_proof_read.specs.declared.stages.Stage.{Stage}
 use Rattle.xd_proof_read.specs.declared.stages.Stage.TheVariants as stages
 use Rattle.xd_proof_read.specs.Naming.{SpellsTypeOf, Names, NamingStands, GrowsTypes}
-use Rattle.xd_proof_read.specs.Stages.{IsStage, passed, IsLineTaken}
+use Rattle.xd_proof_read.specs.Stages.{IsStage, IsLineTaken, lines_of, passed}
 use Rattle.xd_proof_read.specs.BadLines.{GoalLines, CanGoOn, IsFirstBad, IsBehind}
 use Rattle.xd_proof_read.proofs.NamingFacts.{CanName, spelled_kept, names_kept}
 use Rattle.xd_proof_read.proofs.StageFacts.{one_passed, of_goals, length-made}
@@ -143,6 +148,17 @@ module _ (p q : ProgramTable) (naming : Naming) (stands : NamingStands p.types n
       goals_stop (SpellsTypeOf p) (Names p naming) can lines w.parts w.course line w.spelled w.follows
       (λ x d s n. r d (record { part = x; says = record { spelled = part_on line x s; of_goals = of_goals w.course x d n }; goes = n }))
 
+-- the lines of goals have numbers, where those of the text have
+goals_fit : (types : List Row) (first : ℕ) (made : List ProofGoal) (bs : List (Block Tree)) → AreGoalsAt types made (goals_from first bs) → first + lines_of bs + 1 < 2 ^ 64 → AllByRecursion LinesFit made
+goals_fit types first [] [] a h = tt
+goals_fit types first [] (b ∷ bs) a h = absurd a
+goals_fit types first (g ∷ gs) [] a h = absurd a
+goals_fit types first (g ∷ gs) (b ∷ bs) a h =
+    let l = (a.0).line in
+    let r = AllZip-long (λ id T. IsTypeAt types T id) g.rights.items b.rights ((a.0).goal).rights in
+    let c = AllZip-long IsCase g.cases.items b.cases ((a.0).goal).cases in
+    (record { fits = omega (arith, l, r, c, h) }, goals_fit types (first + block_length b) gs bs a.1 (omega (arith, h)))
+
 -- ---- the walk ends
 module _ (R S : List ℕ → Tree → Type 0) (can : CanName R S) where
   pub way_goes_on : (types : List Row) (first : ℕ) (lines : List (List ℕ)) (stage : Stage) → IsUnderWay R S types first lines stage → CanGoOn (GoalLines R S) lines
@@ -169,20 +185,22 @@ module _ (R S : List ℕ → Tree → Type 0) (can : CanName R S) where
     pub spelled : SpellParts R S lines (goal_list blocks)
     pub goals : AreGoalsAt types made (goals_from first blocks)
     pub some : 0 < length made
+    pub fit : first + length lines ≤ 2 ^ 64 → AllByRecursion LinesFit made
 
   pub way_ends : (types : List Row) (first : ℕ) (lines : List (List ℕ)) (made : Vec ProofGoal Global) → IsUnderWay R S types first lines (stages.AtEnd made) → IsListRead types first lines made.items
-  way_ends types first lines made w = go w.course w.follows w.reached
+  way_ends types first lines made w = go w.course w.follows w.reached w.passed_all
     where
-      go : (c : Course Tree) → along (Some at_count) w.parts ≡ Some c → IsStage types first (stages.AtEnd made) c → IsListRead types first lines made.items
-      go (at_end bs) e i =
+      go : (c : Course Tree) → along (Some at_count) w.parts ≡ Some c → IsStage types first (stages.AtEnd made) c → passed c ≡ length lines → IsListRead types first lines made.items
+      go (at_end bs) e i n =
           let r = (course_reads w.parts bs).0 e in
           record {
             blocks = bs;
             spelled = subst (SpellParts R S lines) r.0 w.spelled;
             goals = i;
             some = (let l = length-made types made.items first bs i in let h = r.1 in omega (arith, l, h));
+            fit = λ h. goals_fit types first made.items bs i (omega (arith, n, h));
           }
-      go _ e i = absurd i
+      go _ e i n = absurd i
 
 -- ---- lines of a slice
 pub one_more_line : (lines : List (List ℕ)) (i : ℕ) (line : List ℕ) → i < length lines → line ≡ get_or lines i [] → take (i + 1) lines ≡ take i lines ++ line ∷ []

@@ -2,7 +2,7 @@ use Rattle.std.proofs.Common.{◌+◌, arith, sym, subst}
 use Rattle.xd_proof_form.specs.Form.{goals_from}
 use Rattle.xd_proof.specs.Goals.{AreGoalsAt}
 use Rattle.xd_proof_read.proofs.NamingFacts.{grows_none, grows_then, naming_stands, can_name}
-use Rattle.xd_proof_read.proofs.GoalFacts.{way_begins, loop_on, loop_stops, loop_short, loop_ends}
+use Rattle.xd_proof_read.proofs.GoalFacts.{way_begins, length-texts, loop_on, loop_stops, loop_short, loop_ends}
 use Rattle.xd_proof_read.proofs.goals.read_goals.Goals as goal
 
 pub loop-line-init : goal.loop-line-init
@@ -34,11 +34,19 @@ loop-line-preserved c =
       number = (let e = i.number in omega (arith, e));
     }
 
-pub new-requires : goal.new-requires
-new-requires c =
+pub new-requires-clause-some : goal.new-requires-clause-some
+new-requires-clause-some c =
     let i = c.loop-line.invariant in
     (loop_ends _ _ (can_name c.args.sound.now c.args.naming.now c.requires.stands) c.loop-line.sound.types c.args.before c.loop-line.number c.loop-line.line-index c.args.lines.now c.loop-line.stage c.loop-line-test.false
     c.loop-line.auto.line-index-end i.number i.way c.in-AtEnd.goals c.in-AtEnd.is).some
+
+pub new-requires-clause-lines : goal.new-requires-clause-lines
+new-requires-clause-lines c =
+    let i = c.loop-line.invariant in
+    let l = length-texts c.args.lines.now in
+    let h = c.requires.fits in
+    (loop_ends _ _ (can_name c.args.sound.now c.args.naming.now c.requires.stands) c.loop-line.sound.types c.args.before c.loop-line.number c.loop-line.line-index c.args.lines.now c.loop-line.stage c.loop-line-test.false
+    c.loop-line.auto.line-index-end i.number i.way c.in-AtEnd.goals c.in-AtEnd.is).fit (omega (arith, l, h))
 
 pub returns-in-AtEnd-clause-ok : goal.returns-in-AtEnd-clause-ok
 returns-in-AtEnd-clause-ok c =
