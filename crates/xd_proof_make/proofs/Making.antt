@@ -149,13 +149,14 @@ module _ (p : ProgramTable) (c : CellsView) (a : Automaton) (nodes : List Choice
     each = in_order.1;
   }
 
-  pub goal_made : made.left ≡ known.id → AllZip (IsIdOf states) (made.rights).items row.rights → IsEmptyRight a row.left row.rights made.empty_right → made.line ≡ 1 → AreFew row.rights → AreFew places
+  pub goal_made : made.left ≡ known.id → AllZip (IsIdOf states) (made.rights).items row.rights → IsEmptyRight a row.left row.rights made.empty_right → made.line ≡ 1 → AreFew row.rights → AreFew places → AreFew (made.cases).items
       → IsGoalMade p c a nodes numbers row made
-  goal_made left ids empty line few_rights few_places = record {
+  goal_made left ids empty line few_rights few_places few_cases = record {
     goal = goal;
     is = record { left = subst (λ (i : TypeId). IsTypeAt p.types x.type_ i) (sym left) x.there; rights = r.ids (made.rights).items ids; empty_right = refl; cases = cases.read };
     written = written empty;
     line = line;
+    fit = record { fits = (let n = zip_length (IsIdOf states) (made.rights).items row.rights ids in omega (arith, line, few_rights, few_cases, n)) };
     small = record {
       rights = subst (λ (n : ℕ). n < 10 ^ 18) (zip_length (λ (s : State) (T : Tree). C s ≡ Some T) row.rights r.types r.typed) few_rights;
       on_left = subst (λ (n : ℕ). n < 10 ^ 18) (ap length x.sorts ∙ length_map (λ (h : Head). is_text h.kind) (heads E x.type_)) x.few;

@@ -32,6 +32,7 @@ use Rattle.xd_goals.proofs.Verdicts.{choices_keep}
 use Rattle.xd_heads.specs.CellsView.{CellsView}
 use Rattle.xd_heads.specs.Mirrors.{Mirrors, continuation_of}
 use Rattle.xd_proof.specs.Goals.{AreGoalsAt, IsLinedAt}
+use Rattle.xd_proof.specs.Lines.{LinesFit}
 use Rattle.xd_proof.specs.declared.proof.ProofGoal.{ProofGoal}
 use Rattle.xd_proof_write.specs.SecondText.{distinct_types}
 use Rattle.xd_proof_make.specs.Written.{IsWritten}
@@ -65,18 +66,19 @@ numbered-get (x ∷ xs) (suc i) = numbered-get xs i
 record AreLines (p : ProgramTable) (c : CellsView) (a : Automaton) (nodes : List ChoiceNode) (numbers : List ℕ) (rows : List GoalRow) (order : List ℕ) (made : List ProofGoal) : Type 0 where
   lined : List Lined
   at : AreGoalsAt p.types made lined
+  first : AllByRecursion (λ (m : ProofGoal). m.line ≡ 1) made
   written : AllZip (λ g goal. IsWritten (names_of (program_tree p)) a (continuation_of p.types c) nodes (number_in numbers) (row_at rows g) goal) order (goals_of lined)
   small : AllByRecursion (IsSmall (names_of (program_tree p))) (goals_of lined)
 
 lines_of : (p : ProgramTable) (c : CellsView) (a : Automaton) (nodes : List ChoiceNode) (numbers : List ℕ) (rows : List GoalRow) (order : List ℕ) (made : List ProofGoal) → AllZip (λ g m. IsGoalMade p c a nodes numbers (row_at rows g) m) order made
     → AreLines p c a nodes numbers rows order made
-lines_of p c a nodes numbers rows [] [] z = record { lined = []; at = tt; written = tt; small = tt }
+lines_of p c a nodes numbers rows [] [] z = record { lined = []; at = tt; first = tt; written = tt; small = tt }
 lines_of p c a nodes numbers rows [] (m ∷ made) z = absurd z
 lines_of p c a nodes numbers rows (g ∷ order) [] z = absurd z
 lines_of p c a nodes numbers rows (g ∷ order) (m ∷ made) z =
     let h = z.0 in
     let i = lines_of p c a nodes numbers rows order made z.1 in
-    record { lined = record { line = 1; goal = h.goal } ∷ i.lined; at = (record { line = h.line; goal = h.is }, i.at); written = (h.written, i.written); small = (h.small, i.small) }
+    record { lined = record { line = 1; goal = h.goal } ∷ i.lined; at = (record { line = h.line; goal = h.is }, i.at); first = (h.line, i.first); written = (h.written, i.written); small = (h.small, i.small) }
 
 -- what is so of each goal that is reached
 pub record IsFit (a : Automaton) (t : TableView) (c : CellsView) (g : ℕ) : Type 0 where
@@ -148,6 +150,7 @@ module _ (p : ProgramTable) (c : CellsView) (a : Automaton) (ds : List Document)
       record {
         lined = ls.lined;
         goals = ls.at;
+        lines = ls.first;
         consistent = keep;
         writable = goals_writable E gs few gs keep ls.small;
         goal_count = record { least = some_there gs y.0 first; most = few };
@@ -243,6 +246,13 @@ pub all_made : (p : ProgramTable) (c : CellsView) (a : Automaton) (t : TableView
 all_made p c a t states states2 numbers numbers2 order order2 made f e g h m k =
     subst (λ (xs : List ℕ). AllZip (λ i x. IsGoalMade p c a t.nodes numbers (row_at t.rows i) x) xs made) h
     (subst (λ (ns : List ℕ). AllZip (λ i x. IsGoalMade p c a t.nodes ns (row_at t.rows i) x) order2 made) g (f p c m (subst (AreKnown p c) (sym e) k)))
+
+pub all_fit_lines : (p : ProgramTable) (c : CellsView) (a : Automaton) (nodes : List ChoiceNode) (numbers : List ℕ) (rows : List GoalRow) (order : List ℕ) (made : List ProofGoal) → AllZip (λ g m. IsGoalMade p c a nodes numbers (row_at rows g) m) order made
+    → AllByRecursion LinesFit made
+all_fit_lines p c a nodes numbers rows [] [] z = tt
+all_fit_lines p c a nodes numbers rows [] (m ∷ made) z = absurd z
+all_fit_lines p c a nodes numbers rows (g ∷ order) [] z = absurd z
+all_fit_lines p c a nodes numbers rows (g ∷ order) (m ∷ made) z = ((z.0).fit, all_fit_lines p c a nodes numbers rows order made z.1)
 
 pub some_made : {B : Type 0} (R : ℕ → B → Type 0) (order : List ℕ) (made : List B) (start : ℕ) → AllZip R order made → slice_get order 0 ≡ Some start → 0 < length made
 some_made R order made start z e = let y = zip_get R order made 0 start z e in slice_get_within made 0 y.0 y.1

@@ -21,6 +21,7 @@ use Rattle.xd_heads.specs.CellsView.{CellsView}
 use Rattle.xd_heads.specs.Mirrors.{IsTypeState, Mirrors, continuation_of}
 use Rattle.xd_proof_form.specs.Lines.{IsNumber}
 use Rattle.xd_proof.specs.Goals.{IsGoalAt, AreGoalsAt}
+use Rattle.xd_proof.specs.Lines.{LinesFit}
 use Rattle.xd_proof.specs.declared.proof.ProofGoal.{ProofGoal}
 use Rattle.xd_proof_write.specs.SecondText.{distinct_types, types_of}
 use Rattle.xd_proof_write.specs.Laws.{IsWritableGoal}
@@ -46,10 +47,12 @@ abbrev pub UsesDefined : ProgramTree → Tree → Type 0
 UsesDefined P T = uses_only (known_types P) T ≡ true
 
 -- The goals of a proof keep its rules. They are those that a goal of the table leads to through leaves, itself first, each once,
--- between the types of their states. A text can spell them: no number is too long, that of the goals and of their types included.
+-- between the types of their states. Each begins on line 1. A text can spell them: no number is too long, that of the goals and of
+-- their types included.
 pub record IsProofOf (p : ProgramTable) (c : CellsView) (t : TableView) (goal : ℕ) (proof : List ProofGoal) : Type 0 where
   pub lined : List Lined
   pub goals : AreGoalsAt p.types proof lined
+  pub lines : AllByRecursion (λ (g : ProofGoal). g.line ≡ 1) proof
   pub consistent : IsConsistent (names_of (program_tree p)) (goals_of lined)
   pub writable : AllByRecursion IsWritableGoal (goals_of lined)
   pub goal_count : IsNumber (length (goals_of lined))
@@ -101,4 +104,5 @@ pub record IsGoalMade (p : ProgramTable) (c : CellsView) (a : Automaton) (nodes 
   pub is : IsGoalAt p.types made goal
   pub written : IsWritten (names_of (program_tree p)) a (continuation_of p.types c) nodes (number_in numbers) row goal
   pub line : made.line ≡ 1
+  pub fit : LinesFit made
   pub small : IsSmall (names_of (program_tree p)) goal

@@ -114,6 +114,11 @@ fn add_cases(
     Ok(())
 }
 
+/// No more cases fit into memory.
+fn see_few(cases: &[ReadCase])
+    ensures { AreFew cases.now }
+{}
+
 /// The choices of a goal as cases: in the order of its left's heads, of which these are texts and the others elements, so many.
 pub(crate) fn write_cases(
     alloc: Global,
@@ -127,7 +132,8 @@ pub(crate) fn write_cases(
     requires writable { AllByRecursion (IsWritable table.now.nodes (length goals.now) (length heads.now)) choices.now }
     requires small { elements + length sorts.now + 2 < 2 ^ 64 }
     ensures cases { IfOk result (λ made. AreWrittenCases table.now.nodes (new_numbers heads.now) goals.now sorts.now elements choices.now made.items) }
-    ensures few { AreFew heads.now }
+    ensures few_cases { IfOk result (λ made. AreFew made.items) }
+    ensures few_heads { AreFew heads.now }
 {
     let (mut at_elements, mut at_texts) = cut_choices(choices, elements + 1);
     let mut element = 1;
@@ -147,5 +153,6 @@ pub(crate) fn write_cases(
             element += 1;
         }
     }
+    see_few(&cases);
     Ok(cases)
 }

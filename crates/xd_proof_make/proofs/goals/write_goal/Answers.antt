@@ -27,7 +27,7 @@ returns c =
     let places : List ℕ = new_numbers c.deref-2.result.now in
     let kept = places_kept c.args.states.now c.rights-rights.result.now c.in_ok-sorts.sorts.items c.deref.result.now c.deref.ensures.value c.in_ok-sorts.ensures (new_numbers c.in_ok-places.places.items) c.in_ok-places.ensures.places in
     let few_rights = few_kept c.args.states.now c.rights-rights.result.now c.in_ok-sorts.sorts.items c.deref.result.now c.deref.ensures.value c.in_ok-sorts.ensures row.rights c.rights-rights.ensures c.right_places.ensures.few in
-    let few_places : AreFew places = subst (λ (n : ℕ). n < 10 ^ 18) (sym (new_numbers-length c.deref-2.result.now)) c.write_cases.ensures.few in
+    let few_places : AreFew places = subst (λ (n : ℕ). n < 10 ^ 18) (sym (new_numbers-length c.deref-2.result.now)) c.write_cases.ensures.few_heads in
     λ p k m h.
     goal_made p k c.args.auto.now nodes c.args.states.now c.args.numbers.now places row _ c.known_of-known.result.now elements m h
     (subst (λ (s : State). known_at c.args.states.now s ≡ Some (Some c.known_of-known.result.now)) c.left-left.ensures c.known_of-known.ensures) c.requires.can.types.rights c.requires.can.begun
@@ -39,4 +39,4 @@ returns c =
     (subst (AllZip (IsIdOf c.args.states.now) c.in_ok-type_ids.field-0.items) c.rights-rights.ensures c.in_ok-type_ids.ensures)
     (subst (λ (ss : List State). IsEmptyRight c.args.auto.now row.left ss c.empty_right.result) c.rights-rights.ensures
     (subst (λ (s : State). IsEmptyRight c.args.auto.now s c.rights-rights.result.now c.empty_right.result) c.left-left.ensures c.empty_right.ensures))
-    refl few_rights few_places
+    refl few_rights few_places c.in_ok-cases.ensures.few_cases

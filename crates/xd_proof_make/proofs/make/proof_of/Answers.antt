@@ -6,7 +6,7 @@ use Rattle.xd_heads.proofs.Mirrored.{mirrors_stay}
 use Rattle.xd_proof_make.specs.Few.{AreFew}
 use Rattle.xd_proof_make.specs.Made.{CanWrite, HasTypes, IsGoalMade, IsProofOf, IsTypedRow}
 use Rattle.xd_proof_make.specs.declared.states.Known.{Known}
-use Rattle.xd_proof_make.proofs.Proving.{all_can, all_fit, all_made, all_there, all_typed_rows, holds_there, made_proof, some_made}
+use Rattle.xd_proof_make.proofs.Proving.{all_can, all_fit, all_fit_lines, all_made, all_there, all_typed_rows, holds_there, made_proof, some_made}
 use Rattle.xd_proof_make.proofs.make.proof_of.Goals as goal
 
 pub reach-requires-clause-there : goal.reach-requires-clause-there
@@ -47,14 +47,22 @@ write_goals-requires-clause-can c =
     c.requires.settled c.requires.types c.in_ok-reached.ensures)
     (subst (AllByRecursion (λ g. HasTypes c.learn_goals.new.states.items (row_at c.args.table.now.rows g))) c.deref.ensures.value c.in_ok-learn_goals.ensures.has))))
 
-pub new-requires : goal.new-requires
-new-requires c =
+pub new-requires-clause-some : goal.new-requires-clause-some
+new-requires-clause-some c =
     some_made (λ g x. IsGoalMade c.learn_goals.new.sound c.args.cells.now c.args.auto.now c.args.table.now.nodes c.in_ok-reached.reached.numbers.items (row_at c.args.table.now.rows g) x) c.in_ok-reached.reached.order.items c.in_ok-goals.goals.items c.args.goal.number
     (all_made c.learn_goals.new.sound c.args.cells.now c.args.auto.now c.args.table.now c.learn_goals.new.states.items c.deref-2.result.now c.in_ok-reached.reached.numbers.items c.deref-3.result.now
     c.in_ok-reached.reached.order.items c.deref-4.result.now c.in_ok-goals.goals.items c.in_ok-goals.ensures.made c.deref-2.ensures.value c.deref-3.ensures.value c.deref-4.ensures.value
     (mirrors_stay c.args.sound.now c.learn_goals.new.sound c.args.cells.now c.args.auto.now c.requires.mirrors c.learn_goals.ensures.grows.adds c.learn_goals.ensures.grows.same)
     (c.learn_goals.ensures.known (c.in_ok-states.ensures.known c.args.sound.now c.args.cells.now)))
     c.in_ok-reached.ensures.first
+
+pub new-requires-clause-lines : goal.new-requires-clause-lines
+new-requires-clause-lines c =
+    all_fit_lines c.learn_goals.new.sound c.args.cells.now c.args.auto.now c.args.table.now.nodes c.in_ok-reached.reached.numbers.items c.args.table.now.rows c.in_ok-reached.reached.order.items c.in_ok-goals.goals.items
+    (all_made c.learn_goals.new.sound c.args.cells.now c.args.auto.now c.args.table.now c.learn_goals.new.states.items c.deref-2.result.now c.in_ok-reached.reached.numbers.items c.deref-3.result.now
+    c.in_ok-reached.reached.order.items c.deref-4.result.now c.in_ok-goals.goals.items c.in_ok-goals.ensures.made c.deref-2.ensures.value c.deref-3.ensures.value c.deref-4.ensures.value
+    (mirrors_stay c.args.sound.now c.learn_goals.new.sound c.args.cells.now c.args.auto.now c.requires.mirrors c.learn_goals.ensures.grows.adds c.learn_goals.ensures.grows.same)
+    (c.learn_goals.ensures.known (c.in_ok-states.ensures.known c.args.sound.now c.args.cells.now)))
 
 pub returns-clause-proof : goal.returns-clause-proof
 returns-clause-proof c =
