@@ -1,5 +1,5 @@
 -- The goals of a proof, one after the other.
-use Rattle.std.specs.Prelude.{◌≡◌, ℕ, ◌+◌, ◌^◌, ◌<◌, ◌≤◌, Bool, false, not, ◌&&◌, List, length, Option, Some, None}
+use Rattle.std.specs.Prelude.{◌≡◌, ℕ, ◌<◌, ◌≤◌, Bool, false, not, ◌&&◌, List, length, Option, Some, None}
 use Rattle.std.specs.List.{AllByRecursion, AllZip}
 use Rattle.xd_syntax.specs.Tree.{Definitions}
 use Rattle.xd_syntax.specs.Table.{Row, tree_at}
@@ -39,10 +39,6 @@ pub record Stands (types : List Row) (E : Definitions) (gs : List Goal) (s : She
 
 abbrev pub breach_of : Breach → Refusal
 breach_of b = (b.line, reason_of b.reason)
-
--- the numbers of its lines, and of the line behind the last one, are numbers of lines
-pub record LinesFit (g : ProofGoal) : Type 0 where
-  pub fits : g.line + 3 + length g.rights.items + length g.cases.items < 2 ^ 64
 
 abbrev pub right_marked : List Bool → Option TypeId → Bool
 right_marked marks None = false

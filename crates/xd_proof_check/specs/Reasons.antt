@@ -1,5 +1,5 @@
 -- Answers of the checker.
-use Rattle.std.specs.Prelude.{ℕ, codes, List}
+use Rattle.std.specs.Prelude.{List}
 use Rattle.xd_syntax.specs.Tree.{Definitions}
 use Rattle.xd_laws.specs.Consistent.{IsConsistent}
 use Rattle.xd_laws.specs.Breach as laws
@@ -15,20 +15,6 @@ reason_of Empty = bad_empty
 reason_of Case = bad_case
 reason_of Split = bad_split
 reason_of Leaf = bad_leaf
-
-abbrev pub number_of : Reason → ℕ
-number_of Form = 1
-number_of Empty = 2
-number_of Case = 3
-number_of Split = 4
-number_of Leaf = 5
-
-abbrev pub word_of : Reason → List ℕ
-word_of Form = codes "form"
-word_of Empty = codes "empty"
-word_of Case = codes "case"
-word_of Split = codes "split"
-word_of Leaf = codes "leaf"
 
 -- the verdict on a proof with these goals: that it is consistent, or its first breach
 abbrev pub IsVerdict : Definitions → List Lined → ProofVerdict → Type 0

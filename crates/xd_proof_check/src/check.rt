@@ -11,8 +11,9 @@ ghost use Rattle.xd_laws.proofs.FirstWrong.{first_wrong, wrong_cases, wrong_goal
 ghost use Rattle.xd_heads.specs.declared.listing.Head.{Head};
 ghost use Rattle.xd_syntax.specs.declared.types.TypeId.{TypeId};
 ghost use Rattle.xd_proof.specs.Goals.{IsGoalAt, IsLinedAt};
+ghost use Rattle.xd_proof.specs.Lines.{LinesFit};
 ghost use Rattle.xd_proof_check.specs.GoalHeads.{AreGoalHeads};
-ghost use Rattle.xd_proof_check.specs.GoalWalk.{GoalFits, LinesFit, PartsThere, Stands, breach_of, empty_marked, right_marked, sheet_of};
+ghost use Rattle.xd_proof_check.specs.GoalWalk.{GoalFits, PartsThere, Stands, breach_of, empty_marked, right_marked, sheet_of};
 ghost use Rattle.xd_proof_check.specs.Numbers.{number_at};
 ghost use Rattle.xd_proof_check.specs.Paths.{IsClear, KeepsRoom};
 

@@ -10,8 +10,9 @@ ghost use Rattle.xd_laws.specs.Breach.{Lined, goals_of};
 ghost use Rattle.xd_laws.specs.Consistent.{Claim, IsConsistent};
 ghost use Rattle.xd_laws.proofs.FirstWrong.{first_wrong};
 ghost use Rattle.xd_proof.specs.Goals.{AreGoalsAt};
+ghost use Rattle.xd_proof.specs.Lines.{LinesFit};
 ghost use Rattle.xd_proof_check.specs.GoalHeads.{AreGoalHeads};
-ghost use Rattle.xd_proof_check.specs.GoalWalk.{IsKnown, LinesFit, ProofFits, verdict_of};
+ghost use Rattle.xd_proof_check.specs.GoalWalk.{IsKnown, ProofFits, verdict_of};
 ghost use Rattle.xd_proof_check.specs.Reasons.{IsVerdict};
 ghost use Rattle.xd_proof_check.specs.declared.heads.GoalHeads.{GoalHeads};
 ghost use Rattle.xd_proof_check.specs.declared.verdict.ProofVerdict.TheVariants as verdicts;
@@ -34,8 +35,7 @@ pub fn accepts(
     sound: &mut SoundProgram,
     proof: &Proof,
 ) -> Result<ProofVerdict, NoMemory>
-    requires goals { (goals : List Lined) × AreGoalsAt sound.old.types proof.now goals }
-    requires lines { AllByRecursion LinesFit proof.now }
+    requires { (goals : List Lined) × AreGoalsAt sound.old.types proof.now goals }
 
     ensures accepted { IfOk result (λ verdict. (goals : List Lined) → AreGoalsAt sound.old.types proof.now goals → (verdict ≡ verdicts.Accepted) ↔ IsConsistent (names_of (program_tree sound.old)) (goals_of goals)) }
     ensures verdict { IfOk result (λ verdict. (goals : List Lined) → AreGoalsAt sound.old.types proof.now goals → IsVerdict (names_of (program_tree sound.old)) goals verdict) }

@@ -1,8 +1,5 @@
 //! Verdicts on proofs.
 
-ghost use Rattle.std.specs.Prelude.{◌≡◌};
-ghost use Rattle.xd_proof_check.specs.Reasons.{number_of, word_of};
-
 /// Why a line of a proof is refused.
 #[derive(Clone, Copy, Debug, PartialEq, Eq)]
 pub enum Reason {
@@ -23,32 +20,4 @@ pub enum Reason {
 pub enum ProofVerdict {
     Accepted,
     Refused(u64, Reason),
-}
-
-impl Reason {
-    /// Its number, from 1.
-    pub fn number(self) -> u8
-        ensures { result ≡ number_of self }
-    {
-        match self {
-            Reason::Form => 1,
-            Reason::Empty => 2,
-            Reason::Case => 3,
-            Reason::Split => 4,
-            Reason::Leaf => 5,
-        }
-    }
-
-    /// Its word.
-    pub fn word(self) -> &'static str
-        ensures { result.now ≡ word_of self }
-    {
-        match self {
-            Reason::Form => "form",
-            Reason::Empty => "empty",
-            Reason::Case => "case",
-            Reason::Split => "split",
-            Reason::Leaf => "leaf",
-        }
-    }
 }

@@ -11,18 +11,18 @@ use Rattle.xd_proof_check.proofs.checker.accepts.Goals as goal
 pub all_heads-requires : goal.all_heads-requires
 all_heads-requires c =
     let p = c.args.sound.now in
-    subst (λ gs. GoalsBelong (length p.types) gs) (sym c.goals.ensures.same) (belong_of p.types c.args.proof.now c.requires.goals.0 c.requires.goals.1)
+    subst (λ gs. GoalsBelong (length p.types) gs) (sym c.goals.ensures.same) (belong_of p.types c.args.proof.now c.requires.0 c.requires.1)
 
 pub check_proof-requires-clause-fits : goal.check_proof-requires-clause-fits
 check_proof-requires-clause-fits c =
     let p = c.args.sound.now in
     let q = c.all_heads.new.sound in
     let F = c.args.proof.now in
-    let ls = c.requires.goals.0 in
+    let ls = c.requires.0 in
     let J = c.in_ok-heads.heads.items in
     let N = c.in_ok-names.field-0.empty_marks.items in
     let w = subst (λ gs. AllZip (AreGoalHeads q.types (names_of (program_tree p))) gs J) c.goals.ensures.same c.in_ok-heads.ensures.heads in
-    let z = goals_stay p.types q.types c.all_heads.ensures.grows.adds.types F ls c.requires.goals.1 in
+    let z = goals_stay p.types q.types c.all_heads.ensures.grows.adds.types F ls c.requires.1 in
     fits_same c.types-types.result.now q.types c.goals-2.result.now F c.deref.result.now J c.deref-2.result.now N
     (c.types-types.ensures.types ∙ ap (λ (x : ProgramTable). x.types) (c.program.ensures.program ∙ c.take_known.ensures.same)) c.goals-2.ensures.same c.deref.ensures.value
     c.deref-2.ensures.value
