@@ -11,5 +11,4 @@ pub mod Verdicts
 pub mod Inputs
 pub mod Running
 pub mod Telephones
-pub mod Fitting
 pub mod Judging

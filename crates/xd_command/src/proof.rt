@@ -1,6 +1,6 @@
 //! Proofs from their files.
 
-ghost use Rattle.std.specs.Prelude.{◌≡◌, ◌≤◌, ◌^◌, length};
+ghost use Rattle.std.specs.Prelude.{◌≡◌, ◌≤◌};
 ghost use Rattle.xd_base.specs.Outside.{HasRisen};
 ghost use Rattle.xd_syntax.specs.Kept.{program_tree};
 ghost use Rattle.xd_command.specs.Proofs.{EndsAtForm, EndsAtProof};
@@ -18,7 +18,6 @@ use xd_syntax::SoundProgram;
 
 /// The proof of a text. Its types are added to the program.
 fn well_formed_proof(alloc: Global, sound: &mut SoundProgram, bytes: &[u8]) -> Result<Proof, Stop>
-    requires { length bytes.now ≤ 2 ^ 24 }
     ensures step { DoesStep result (EndsAtForm (program_tree sound.old) bytes.now) (IsRead (program_tree sound.old) sound.new.types bytes.now) }
     ensures same { program_tree sound.new ≡ program_tree sound.old }
 {

@@ -1,11 +1,9 @@
 //! The command `verify`.
 
 ghost use Rattle.std.specs.Prelude.{◌≡◌, List, IfOk};
-ghost use Rattle.std.specs.List.{AllByRecursion};
 ghost use Rattle.xd_base.specs.Outside.{HasRisen};
 ghost use Rattle.xd_laws.specs.Breach.{Lined};
 ghost use Rattle.xd_proof.specs.Goals.{AreGoalsAt};
-ghost use Rattle.xd_proof_check.specs.GoalWalk.{LinesFit};
 ghost use Rattle.xd_syntax.specs.Kept.{program_tree};
 ghost use Rattle.xd_command.specs.Answer.{Answers};
 ghost use Rattle.xd_command.specs.Proofs.{AnswersVerify, Judges};
@@ -24,8 +22,7 @@ use xd_syntax::SoundProgram;
 
 /// Whether the proof is consistent.
 fn judge(alloc: Global, sound: &mut SoundProgram, proof: &Proof) -> Result<Output, NoMemory>
-    requires goals { (goals : List Lined) × AreGoalsAt sound.old.types proof.now goals }
-    requires lines { AllByRecursion LinesFit proof.now }
+    requires { (goals : List Lined) × AreGoalsAt sound.old.types proof.now goals }
     ensures { IfOk result (λ o. (goals : List Lined) → AreGoalsAt sound.old.types proof.now goals → Judges (program_tree sound.old) goals o) }
 {
     let _some = proof.goals();

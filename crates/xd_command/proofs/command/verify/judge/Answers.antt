@@ -9,7 +9,7 @@ use Rattle.xd_command.proofs.command.verify.judge.Goals as goal
 
 pub claim-requires : goal.claim-requires
 claim-requires c =
-    let g = c.requires.goals in
+    let g = c.requires in
     (g.0, goals_stay c.args.sound.now.types c.accepts.new.sound.types c.in_ok-accepts.ensures.adds.types c.args.proof.now g.0 g.1)
 
 pub returns-in_ok-claim-in-Accepted : goal.returns-in_ok-claim-in-Accepted
