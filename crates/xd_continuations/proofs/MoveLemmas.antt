@@ -53,7 +53,7 @@ pieces_stand (Plus T) m = ((refl, m), tt)
 pieces_stand (Opt T) m = ((refl, m), tt)
 pieces_stand (Val x T) m = absurd m
 
-one_piece : (T : Tree) → is_piece T ≡ true → pieces T ≡ T ∷ []
+pub one_piece : (T : Tree) → is_piece T ≡ true → pieces T ≡ T ∷ []
 one_piece Empty e = cc
 one_piece Text e = refl
 one_piece (Words w) e = refl

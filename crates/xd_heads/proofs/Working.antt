@@ -26,7 +26,7 @@ use Rattle.xd_continuations.proofs.TaskBounds.{along_bounded, left_bounded}
 use Rattle.xd_heads.specs.declared.cells.Piece.{Piece}
 use Rattle.xd_heads.specs.Cells.{Cell}
 use Rattle.xd_heads.specs.declared.expand.Found.{Found}
-use Rattle.xd_continuations.proofs.MoveLemmas.{all_append, map_append}
+use Rattle.xd_continuations.proofs.MoveLemmas.{all_append, map_append, one_piece}
 use Rattle.xd_continuations.proofs.Merging.{part_piece}
 use Rattle.xd_continuations.proofs.Reaching.{all_same}
 use Rattle.xd_continuations.proofs.Expanding.{tasks_stand, step_gives, step_falls, none_to_come}
@@ -49,19 +49,6 @@ alt_parts older types more e [] a = tt
 alt_parts older types more e (i ∷ is) a =
     let k : tree_at types i ≡ tree_at older i = ap (λ rs. tree_at rs i) e ∙ tree_kept older more i (a.0).0 in
     (subst (λ T. is_alt T ≡ false) (sym k) (a.0).1, alt_parts older types more e is a.1)
-
-one_piece : (T : Tree) → is_piece T ≡ true → pieces T ≡ T ∷ []
-one_piece Empty e = cc
-one_piece Text e = refl
-one_piece (Words w) e = refl
-one_piece (Name x) e = refl
-one_piece (Elem c T) e = refl
-one_piece (Seq T U) e = cc
-one_piece (Alt T U) e = refl
-one_piece (Star T) e = refl
-one_piece (Plus T) e = refl
-one_piece (Opt T) e = refl
-one_piece (Val x T) e = refl
 
 one_option : (T : Tree) → is_alt T ≡ false → options T ≡ T ∷ []
 one_option Empty e = refl
