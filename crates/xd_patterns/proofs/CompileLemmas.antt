@@ -1,6 +1,8 @@
 -- States get their moves one after the other.
 use Rattle.std.proofs.Common.{◌≡◌, ℕ, zero, suc, ◌+◌, ◌-◌, ◌<◌, ◌≤◌, ◌⊎◌, nat_lt, arith, Bool, true, false, cond, List, [], ◌∷◌, ◌++◌, map, length, length-append, append-nil, append_assoc, get_or, Option, Some, None, refl, ap, sym, subst, ◌∙◌, inl, inr}
 use Rattle.std.proofs.lemmas.Bool.Decides.{nat_tests}
+use Rattle.std.proofs.Math.ListN.{get_or-append}
+use Rattle.std.proofs.Math.Seq.{get_or-append_seam}
 use Rattle.std.specs.List.{AllByRecursion, AllZip, slice_get}
 use Rattle.xd_syntax.specs.Tree.{Definitions, Tree}
 use Rattle.xd_auto.specs.declared.auto.State.{State}
@@ -16,39 +18,20 @@ use Rattle.xd_continuations.specs.Chains.{list_at}
 use Rattle.xd_patterns.specs.Marked.{marked_text, marked_label, with_each, marked_moves}
 use Rattle.xd_patterns.specs.Tasks.{Tables, words_at, piece_part, pieces_at, continuation, ArePieces, Adds}
 use Rattle.xd_patterns.specs.Pieces.{form_at, variable_of}
-use Rattle.xd_patterns.specs.Compiling.{stands, standing, TextsAre, LabelsAre, Makes, IsDone, texts_at, labels_at, rows_in, IsCompiling, marking, FindsState}
+use Rattle.xd_patterns.specs.Compiling.{stands, standing, TextsAre, LabelsAre, Makes, IsDone, texts_at, labels_at, rows_in, IsCompiling, marking}
 use Rattle.xd_continuations.specs.declared.links.Link.{Link}
 use Rattle.xd_patterns.specs.declared.chains.Piece.{Piece}
 use Rattle.xd_patterns.specs.declared.compile.StateMarks.{StateMarks}
 use Rattle.xd_continuations.proofs.ChainLemmas.{list_none}
 use Rattle.xd_patterns.proofs.Tasking.{adds_none, adds_then}
-use Rattle.xd_patterns.proofs.StateLemmas.{get_all, get_kept, continuation_kept, standing_kept, moves_kept, standing_at, finds_adds}
+use Rattle.xd_patterns.proofs.StateLemmas.{get_all, get_kept, continuation_kept, standing_kept, moves_kept, standing_at}
 
 rows_push : (rs : List StateMarks) (r : StateMarks) → rows_in (rs ++ r ∷ []) ≡ rows_in rs ++ (r.texts.items, r.labels.items) ∷ []
 rows_push [] r = refl
 rows_push (x ∷ rs) r = ap (λ z. (x.texts.items, x.labels.items) ∷ z) (rows_push rs r)
 
-texts_front : (rs : List (List ℕ × List ℕ)) (r : List ℕ × List ℕ) (i : ℕ) → i < length rs → texts_at (rs ++ r ∷ []) i ≡ texts_at rs i
-texts_front [] r i h = absurd (omega arith)
-texts_front (x ∷ rs) r zero h = refl
-texts_front (x ∷ rs) r (suc i) h = texts_front rs r i (omega arith)
-
-texts_last : (rs : List (List ℕ × List ℕ)) (r : List ℕ × List ℕ) (i : ℕ) → i ≡ length rs → texts_at (rs ++ r ∷ []) i ≡ r.0
-texts_last [] r zero h = refl
-texts_last [] r (suc i) h = absurd (omega arith)
-texts_last (x ∷ rs) r zero h = absurd (omega arith)
-texts_last (x ∷ rs) r (suc i) h = texts_last rs r i (omega arith)
-
-labels_front : (rs : List (List ℕ × List ℕ)) (r : List ℕ × List ℕ) (i : ℕ) → i < length rs → labels_at (rs ++ r ∷ []) i ≡ labels_at rs i
-labels_front [] r i h = absurd (omega arith)
-labels_front (x ∷ rs) r zero h = refl
-labels_front (x ∷ rs) r (suc i) h = labels_front rs r i (omega arith)
-
-labels_last : (rs : List (List ℕ × List ℕ)) (r : List ℕ × List ℕ) (i : ℕ) → i ≡ length rs → labels_at (rs ++ r ∷ []) i ≡ r.1
-labels_last [] r zero h = refl
-labels_last [] r (suc i) h = absurd (omega arith)
-labels_last (x ∷ rs) r zero h = absurd (omega arith)
-labels_last (x ∷ rs) r (suc i) h = labels_last rs r i (omega arith)
+row_last : (rs : List (List ℕ × List ℕ)) (r : List ℕ × List ℕ) (i : ℕ) → i ≡ length rs → get_or (rs ++ r ∷ []) i ([], []) ≡ r
+row_last rs r i e = ap (λ n. get_or (rs ++ r ∷ []) n ([], [])) e ∙ get_or-append_seam rs r [] ([], [])
 
 less_cases : (i n : ℕ) → i < n + 1 → (i < n) ⊎ (i ≡ n)
 less_cases zero zero h = inr refl
@@ -111,20 +94,20 @@ compiling_more E t m0 m m' c0 c c' base number states0 states states' auto0 auto
         IsDone E t m' c' base states' (moves_at auto' s) j (texts_at (rows_in rows ++ (r.texts.items, r.labels.items) ∷ []) j) (labels_at (rows_in rows ++ (r.texts.items, r.labels.items) ∷ []) j)
     go j s q (inl h) =
         let lined = i.lined in
+        let row = get_or-append (rows_in rows) ((r.texts.items, r.labels.items) ∷ []) ([], []) j (omega arith) in
         done_kept E t m m' c c' base states states' k.grows.more (moves_at auto s) (moves_at auto' s) j (texts_at (rows_in rows) j) _ (labels_at (rows_in rows) j) _ k.grows.adds i.pieces i.bounded k.grows.grown
-        (k.grows.moves s (λ w. omega arith)) (texts_front (rows_in rows) (r.texts.items, r.labels.items) j (omega arith)) (labels_front (rows_in rows) (r.texts.items, r.labels.items) j (omega arith)) (i.finished j s h q)
+        (k.grows.moves s (λ w. omega arith)) (ap (λ (x : List ℕ × List ℕ). x.0) row) (ap (λ (x : List ℕ × List ℕ). x.1) row) (i.finished j s h q)
     go j s q (inr h) =
         let lined = i.lined in
         let same : s ≡ from = ap (λ (n : ℕ). let x : State = record { number = n } in x) (q ∙ ap (λ n. base + n) h ∙ sym at) in
         subst (λ x. IsDone E t m' c' base states' (moves_at auto' x) j (texts_at (rows_in rows ++ (r.texts.items, r.labels.items) ∷ []) j) (labels_at (rows_in rows ++ (r.texts.items, r.labels.items) ∷ []) j)) (sym same)
-        (subst (λ ts. IsDone E t m' c' base states' (moves_at auto' from) j ts (labels_at (rows_in rows ++ (r.texts.items, r.labels.items) ∷ []) j)) (sym (texts_last (rows_in rows) (r.texts.items, r.labels.items) j (omega arith)))
-        (subst (λ ls. IsDone E t m' c' base states' (moves_at auto' from) j r.texts.items ls) (sym (labels_last (rows_in rows) (r.texts.items, r.labels.items) j (omega arith))) (record {
+        (subst (λ (x : List ℕ × List ℕ). IsDone E t m' c' base states' (moves_at auto' from) j x.0 x.1) (sym (row_last (rows_in rows) (r.texts.items, r.labels.items) j (omega arith))) (record {
           number = number;
           there = subst (λ w. slice_get w j ≡ Some number) (sym k.grows.grown) (get_kept states k.grows.more j number (ap (slice_get states) h ∙ there));
           found = k.found;
           alike = subst (λ K. Alike k.found (choices E K)) (sym (continuation_kept t m m' c c' k.grows.adds i.pieces number (get_all (λ n. n ≤ length c) states i.bounded done number there))) k.alike;
           has = k.has;
-        })))
+        }))
 
 -- at the end the automaton mirrors the lists
 
@@ -192,14 +175,6 @@ numbered (x ∷ xs) zero d h = refl
 numbered (x ∷ xs) (suc n) d h = numbered xs n d (omega arith)
 
 -- a pattern
-
-past : (a : Automaton) (n : ℕ) → length a ≤ n → get_or a n (no_moves false) ≡ no_moves false
-past [] n h = refl
-past (x ∷ a) zero h = absurd (omega arith)
-past (x ∷ a) (suc n) h = past a n (omega arith)
-
-pub start_fresh : (number : ℕ) (new : List ℕ) (a b : Automaton) (s : State) → FindsState number (length a) [] new a b s → (q : State) → length a ≤ state_number q → moves_at b q ≡ no_moves false
-start_fresh number new a b s f q h = (finds_adds number (length a) [] new a b s f).moves q ∙ past a (state_number q) h
 
 pub start_stands : (E : Definitions) (t : Tables) (m0 m : List (Link ℕ)) (c0 c : List (Link Piece)) (base : ℕ) (states0 states : List ℕ) (auto0 auto : Automaton) (rows : List (List ℕ × List ℕ)) (number done : ℕ) (s : State) (q : Piece) (T : Tree) →
     IsCompiling E t m0 m c0 c base states0 states auto0 auto done rows → ArePieces t m0 c0 → number ≤ length c0 → list_at c0 number ≡ q ∷ [] → q.marks ≡ 0 → piece_part t q ≡ T → base ≤ state_number s →

@@ -251,10 +251,6 @@ module _ (t : Tables) (m : List (Link ℕ)) (c : List (Link Piece)) (base : ℕ)
         has = λ cs x. subst (λ w. HasMoves t m (standing t m c base states) w ts ls (cs ++ stop ∷ [])) (sym (at_changed auto from v here)) (has_stop_more t m (standing t m c base states) (moves_at auto from) ts ls cs x);
       })
 
-  -- numbers of new states are those of lists
-  more_numbers : (c' : List (Link Piece)) (states' : List ℕ) → AllByRecursion (λ n. n ≤ length c') states' → AllByRecursion (λ n. n ≤ length c) states → AllByRecursion (λ n. n ≤ length c') states'
-  more_numbers c' states' a b = a
-
   -- one more move, where states were added and the moves are these
   adds_choice : (c' : List (Link Piece)) → Adds t m m c c' → (states' : List ℕ) → AllByRecursion (λ n. n ≤ length c') states' → (auto' made : Automaton) → AddsStates base states states' auto made →
       (u : StateMoves) → auto' ≡ with_moves made from u → (ts ts' ls ls' : List ℕ) (choice : Choice) →

@@ -7,7 +7,7 @@ use Rattle.xd_syntax.specs.Table.{tree_at}
 use Rattle.xd_runs.specs.Runs.{Continuation}
 use Rattle.xd_runs.specs.Steps.{ahead, marked, behind_turn, part_choice, part_steps, body_steps}
 use Rattle.xd_runs.proofs.Alike.{map_append_of}
-use Rattle.xd_continuations.specs.Chains.{list_at, HasLink, KeepsLinks}
+use Rattle.xd_continuations.specs.Chains.{list_at, KeepsLinks}
 use Rattle.xd_patterns.specs.Pieces.{Sees, form_at, part_of, variable_of, IsLike, IsPieceOf, IsBinder}
 use Rattle.xd_patterns.specs.Tasks.{Tables, rows_of, tree_of_body, AreBodies, words_at, piece_part, piece_at, pieces_at, continuation, IsPiece, ArePieces, or_none, IsTurn, StandsFor, PutsTasks, item_choice, is_item, Collects, Adds, PushesPart, PushesRow, PushesBody, IsBound, HasFound, IsStep}
 use Rattle.xd_continuations.specs.declared.links.Link.{Link}
@@ -63,9 +63,6 @@ module _ (t : Tables) (E : Definitions) (m : List (Link ℕ)) (c : List (Link Pi
   empty_arm xs ys fs e h =
       step_with m c xs ys fs fs Empty e (adds_none t m c) (λ F u l i p. puts_one t m c xs ys (task_at behind o) (ahead (pieces_at t m F) (option_map (pieces_at t m) u)) h (stands_behind t m c behind o F u hb l i))
       (λ F u l i p. collects_none t m c fs)
-
-  item_of : Found
-  item_of = record { is_stop = false; piece = q; rest = behind }
 
   pieces_behind : (F : List Piece) (u : Option (List Piece)) → list_at c behind ≡ F ++ or_none u → continuation t m c behind ≡ pieces_at t m F ++ behind_turn (option_map (pieces_at t m) u)
   pieces_behind F None l = ap (pieces_at t m) l ∙ map_append_of (piece_at t m) F []

@@ -20,7 +20,7 @@ use Rattle.xd_laws.proofs.Unfoldings.{same_word_eq}
 use Rattle.xd_continuations.specs.Chains.{list_at, lists_in}
 use Rattle.xd_patterns.specs.Pieces.{form_at, variable_of}
 use Rattle.xd_patterns.specs.Variables.{if_some, words_of, with_position, with_number, HasVariables, AreNumbered, numbers_in, put_each}
-use Rattle.xd_patterns.specs.Compiling.{texts_at, labels_at, rows_in}
+use Rattle.xd_patterns.specs.Compiling.{rows_in}
 use Rattle.xd_patterns.specs.declared.variables.Numbers.{Numbers}
 use Rattle.xd_patterns.specs.declared.compile.StateMarks.{StateMarks}
 use Rattle.xd_continuations.specs.declared.links.Link.{Link}
@@ -384,18 +384,13 @@ number_got (l ∷ ls) (suc n) d h = number_got ls n d (omega arith)
 
 -- rows of lists
 
-pub texts_row : (rs : List StateMarks) (i : ℕ) (d : StateMarks) → i < length rs → texts_at (rows_in rs) i ≡ (get_or rs i d).texts.items
-texts_row [] i d h = absurd (omega arith)
-texts_row (x ∷ rs) zero d h = refl
-texts_row (x ∷ rs) (suc i) d h = texts_row rs i d (omega arith)
+pub row_got : (rs : List StateMarks) (i : ℕ) (d : StateMarks) → i < length rs → get_or (rows_in rs) i ([], []) ≡ ((get_or rs i d).texts.items, (get_or rs i d).labels.items)
+row_got [] i d h = absurd (omega arith)
+row_got (x ∷ rs) zero d h = refl
+row_got (x ∷ rs) (suc i) d h = row_got rs i d (omega arith)
 
-pub labels_row : (rs : List StateMarks) (i : ℕ) (d : StateMarks) → i < length rs → labels_at (rows_in rs) i ≡ (get_or rs i d).labels.items
-labels_row [] i d h = absurd (omega arith)
-labels_row (x ∷ rs) zero d h = refl
-labels_row (x ∷ rs) (suc i) d h = labels_row rs i d (omega arith)
-
-pub no_row : (rs : List StateMarks) (i : ℕ) → length rs ≤ i → (texts_at (rows_in rs) i ≡ []) × (labels_at (rows_in rs) i ≡ [])
-no_row [] i h = (refl, refl)
+pub no_row : (rs : List StateMarks) (i : ℕ) → length rs ≤ i → get_or (rows_in rs) i ([], []) ≡ ([], [])
+no_row [] i h = refl
 no_row (x ∷ rs) zero h = absurd (omega arith)
 no_row (x ∷ rs) (suc i) h = no_row rs i (omega arith)
 

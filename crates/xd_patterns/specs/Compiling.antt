@@ -1,5 +1,5 @@
 -- States of lists of pieces, while they are made.
-use Rattle.std.specs.Prelude.{◌≡◌, ℕ, zero, suc, ◌+◌, ◌-◌, ◌<◌, ◌≤◌, ◌⊎◌, nat_lt, false, cond, List, [], ◌∷◌, ◌++◌, map, length, Option, Some, None}
+use Rattle.std.specs.Prelude.{◌≡◌, ℕ, ◌+◌, ◌-◌, ◌<◌, ◌≤◌, ◌⊎◌, nat_lt, false, cond, List, [], ◌∷◌, ◌++◌, map, length, get_or, Option, Some, None}
 use Rattle.std.specs.List.{AllByRecursion, slice_get}
 use Rattle.xd_doc.specs.Classes.{LabelClass, TextClass}
 use Rattle.xd_syntax.specs.Tree.{Definitions}
@@ -133,15 +133,12 @@ pub record IsDone (E : Definitions) (t : Tables) (m : List (Link ℕ)) (c : List
   pub alike : Alike found (choices E (continuation t m c number))
   pub has : HasMoves t m (standing t m c base states) moves texts labels found
 
+-- the lists of marks in the row of this number; where there is no row there are none
 abbrev pub texts_at : List (List ℕ × List ℕ) → ℕ → List ℕ
-texts_at [] n = []
-texts_at (r ∷ rs) zero = r.0
-texts_at (r ∷ rs) (suc n) = texts_at rs n
+texts_at rows n = (get_or rows n ([], [])).0
 
 abbrev pub labels_at : List (List ℕ × List ℕ) → ℕ → List ℕ
-labels_at [] n = []
-labels_at (r ∷ rs) zero = r.1
-labels_at (r ∷ rs) (suc n) = labels_at rs n
+labels_at rows n = (get_or rows n ([], [])).1
 
 -- the numbers of the lists of marks, state by state
 abbrev pub rows_in : List StateMarks → List (List ℕ × List ℕ)

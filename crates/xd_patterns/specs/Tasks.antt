@@ -1,13 +1,10 @@
 -- What lists of pieces, tasks, and what they find stand for.
 use Rattle.std.specs.Prelude.{◌≡◌, ℕ, ◌<◌, ◌≤◌, ◌⊎◌, Bool, true, false, cond, List, [], ◌∷◌, ◌++◌, map, reverse, length, Option, Some, None, option_map}
 use Rattle.std.specs.List.{AllByRecursion, AllZip}
-use Rattle.xd_syntax.specs.Tree.{Tree, Text, Words, Elem, Definitions, body, environment}
+use Rattle.xd_syntax.specs.Tree.{Tree, Text, Words, Elem, Definitions, body}
 use Rattle.xd_laws.specs.Heads.{all_texts}
 use Rattle.xd_syntax.specs.Table.{Row, tree_at}
-use Rattle.xd_syntax.specs.Placed.{unplaced}
-use Rattle.xd_syntax.specs.Program.{TypeDefinition}
-use Rattle.xd_syntax.specs.Kept.{type_definition}
-use Rattle.xd_syntax.specs.declared.types.TypeDef.{TypeDef}
+pub use Rattle.xd_syntax.specs.TypeNames.{meanings}
 use Rattle.xd_syntax.specs.Ways.{Among}
 use Rattle.xd_runs.specs.Alike.{Alike}
 use Rattle.xd_runs.specs.Runs as Runs
@@ -27,10 +24,6 @@ pub record Tables : Type 0 where
 
 abbrev pub rows_of : Tables → Bool → List Row
 rows_of t of_pattern = cond of_pattern t.patterns t.types
-
--- what the names of types stand for, `Any` among them
-abbrev pub meanings : List Row → List TypeDef → Definitions
-meanings types ds = environment (map (λ (d : TypeDefinition). (d.name, unplaced d.body)) (map (type_definition types) ds))
 
 abbrev pub tree_of_body : List Row → Option ℕ → Option Tree
 tree_of_body types None = None

@@ -6,25 +6,25 @@ use Rattle.std.proofs.lemmas.List.{drop_all, drop_more}
 use Rattle.indexmap.specs.IndexMap.{get}
 use Rattle.xd_syntax.specs.Sound.{definition_of}
 use Rattle.xd_syntax.specs.declared.types.TypeDef.{TypeDef}
-use Rattle.xd_patterns.specs.Bodies.{node_of_definition}
+use Rattle.xd_syntax.specs.TypeNames.{body_at}
 use Rattle.xd_patterns.proofs.bodies.Bodies.new.Goals as goal
 
 pub loop-number-init : goal.loop-number-init
 loop-number-init c w =
     ap (lookup (pointwise nat_eq w)) c.new-nodes.ensures.empty
-    ∙ sym (ap (λ ds. node_of_definition (definition_of ds w)) (drop_all (length c.args.defs.now) c.args.defs.now (omega arith)))
+    ∙ sym (ap (λ ds. body_at (definition_of ds w)) (drop_all (length c.args.defs.now) c.args.defs.now (omega arith)))
 
 -- one more definition in front
 node_front : (ds : List TypeDef) (n : ℕ) (w : List ℕ) (d : TypeDef) → 0 < n → n ≤ length ds →
-    node_of_definition (definition_of (drop (n - 1) ds) w) ≡ cond (bytes_eq (get_or ds (n - 1) d).name w) (Some (get_or ds (n - 1) d).body.at) (node_of_definition (definition_of (drop n ds) w))
+    body_at (definition_of (drop (n - 1) ds) w) ≡ cond (bytes_eq (get_or ds (n - 1) d).name w) (Some (get_or ds (n - 1) d).body.at) (body_at (definition_of (drop n ds) w))
 node_front ds n w d h k =
     let l : n - 1 < length ds = omega arith in
     let s : n - 1 + 1 ≡ n = omega arith in
-    ap (λ xs. node_of_definition (definition_of xs w)) (drop_more ds (n - 1) d l)
+    ap (λ xs. body_at (definition_of xs w)) (drop_more ds (n - 1) d l)
     ∙ split (bytes_eq (get_or ds (n - 1) d).name w) (get_or ds (n - 1) d) (definition_of (drop (n - 1 + 1) ds) w)
-    ∙ ap (λ m. cond (bytes_eq (get_or ds (n - 1) d).name w) (Some (get_or ds (n - 1) d).body.at) (node_of_definition (definition_of (drop m ds) w))) s
+    ∙ ap (λ m. cond (bytes_eq (get_or ds (n - 1) d).name w) (Some (get_or ds (n - 1) d).body.at) (body_at (definition_of (drop m ds) w))) s
   where
-    split : (b : Bool) (x : TypeDef) (o : Option TypeDef) → node_of_definition (cond b (Some x) o) ≡ cond b (Some x.body.at) (node_of_definition o)
+    split : (b : Bool) (x : TypeDef) (o : Option TypeDef) → body_at (cond b (Some x) o) ≡ cond b (Some x.body.at) (body_at o)
     split true x o = refl
     split false x o = refl
 
