@@ -1,5 +1,5 @@
 -- When two links are the same, as the program tests it.
-use Rattle.std.proofs.Common.{◌≡◌, ◌+◌, ◌≤◌, ◌&&◌, ℕ, Bool, true, false, nat_eq, refl, subst, ap, arith, ◌∙◌, Some, List, [], ◌∷◌, ◌++◌, length}
+use Rattle.std.proofs.Common.{◌≡◌, ◌+◌, ◌≤◌, ◌&&◌, ℕ, Bool, true, false, nat_eq, refl, sym, subst, ap, arith, ◌∙◌, Some, List, [], ◌∷◌, ◌++◌, length}
 use Rattle.std.proofs.lemmas.Bool.Decides.{nat_tests}
 use mathlib.Core.Bool.{beq}
 use Rattle.std.specs.List.{list_any, slice_get}
@@ -32,12 +32,12 @@ pub and_true : (x y : Bool) → x ≡ true → y ≡ true → (x && y) ≡ true
 and_true x y a b = rw (a, b) refl
 
 -- what an insertion leaves, where a test of items is at hand
-module _ {A : Type 0} (test : A → A → Bool) (same : (a b : A) → test a b ≡ true → b ≡ a) (itself : (a : A) → test a a ≡ true) where
+module _ {A : Type 0} (test : A → A → Bool) (exact : (a b : A) → test a b ≡ true → a ≡ b) (itself : (a : A) → test a a ≡ true) where
   abbrev link_test : Link A → Link A → Bool
   link_test c d = test c.item d.item && nat_eq c.behind d.behind
 
   same_as : (c d : Link A) → link_test c d ≡ true → d ≡ c
-  same_as c d h = let r = both (test c.item d.item) (nat_eq c.behind d.behind) h in same_link d c (same c.item d.item r.0) (same_number c.behind d.behind r.1)
+  same_as c d h = let r = both (test c.item d.item) (nat_eq c.behind d.behind) h in same_link d c (sym (exact c.item d.item r.0)) (same_number c.behind d.behind r.1)
 
   pub inserted : (keys old new : List (Link A)) (c : Link A) → keys ≡ old → new ≡ if list_any (link_test c) keys then keys else keys ++ c ∷ [] →
       HasLink old c new × (AreLinks old → c.behind ≤ length old → AreLinks new)

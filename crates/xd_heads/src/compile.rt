@@ -19,9 +19,10 @@ ghost use Rattle.xd_heads.specs.States.{AreContinuationsFrom, nodes_in};
 ghost use Rattle.xd_continuations.specs.TailUses.{RecursOnlyInTail};
 
 use crate::bodies::Bodies;
-use crate::cells::Interned;
+use crate::cells::Continuations;
 use crate::content::content;
 use crate::expand::{Found, expand, is_empty};
+use crate::first_uses::FirstUses;
 use crate::states::States;
 use std::alloc::Global;
 use xd_auto::{Auto, State};
@@ -29,7 +30,13 @@ use xd_doc::{Class, NoMemory, Words};
 use xd_syntax::{TypeDef, TypeForm, TypeId, Types};
 
 /// Whether a continuation can be empty.
-fn is_last(types: &Types, defs: &[TypeDef], marks: &[bool], cells: &Interned, number: usize) -> bool
+fn is_last(
+    types: &Types,
+    defs: &[TypeDef],
+    marks: &[bool],
+    cells: &Continuations,
+    number: usize,
+) -> bool
     requires marks { AreDecidingMarks types.now defs.now marks.now }
     requires nodes { AreOfTypes types.now cells.now }
     requires number { number ≤ length cells.now }
@@ -37,7 +44,7 @@ fn is_last(types: &Types, defs: &[TypeDef], marks: &[bool], cells: &Interned, nu
 {
     let mut at = number;
     while at > 0 {
-        let cell = cells.cell(at);
+        let cell = cells.link(at);
         if !is_empty(types, defs, marks, cell.item) {
             return false;
         }
@@ -51,7 +58,7 @@ fn state_of(
     types: &Types,
     defs: &[TypeDef],
     marks: &[bool],
-    cells: &Interned,
+    cells: &Continuations,
     number: usize,
     states: &mut States,
     auto: &mut Auto,
@@ -82,7 +89,8 @@ fn add_label(
     part: TypeId,
     rest: usize,
     from: State,
-    cells: &mut Interned,
+    cells: &mut Continuations,
+    uses: &mut FirstUses,
     states: &mut States,
     auto: &mut Auto,
 ) -> Result<(), NoMemory>
@@ -95,7 +103,7 @@ fn add_label(
     ensures moves { OnOk result (AddsMoves types.now defs.now cells.old cells.new states.old states.new auto.old auto.new from (record { kind = element_in class.now; content = pieces (tree_at types.now part.at); rest = continuation types.now cells.old rest } ∷ [])) }
     ensures spares { SparesOthers from auto.old auto.new }
 {
-    let inside = content(types, part, cells)?;
+    let inside = content(types, part, cells, uses)?;
     let content = state_of(types, defs, marks, cells, inside, states, auto)?;
     let after = state_of(types, defs, marks, cells, rest, states, auto)?;
     let copy = class.share()?;
@@ -119,7 +127,7 @@ fn add_text(
     words: Words,
     rest: usize,
     from: State,
-    cells: &Interned,
+    cells: &Continuations,
     states: &mut States,
     auto: &mut Auto,
 ) -> Result<(), NoMemory>
@@ -144,7 +152,8 @@ fn add_move(
     marks: &[bool],
     found: Found,
     from: State,
-    cells: &mut Interned,
+    cells: &mut Continuations,
+    uses: &mut FirstUses,
     states: &mut States,
     auto: &mut Auto,
 ) -> Result<(), NoMemory>
@@ -159,7 +168,7 @@ fn add_move(
     let node = types.node(TypeId::of(found.node));
     match node.form() {
         TypeForm::Elem(class, part) => add_label(
-            types, defs, marks, class, *part, found.rest, from, cells, states, auto,
+            types, defs, marks, class, *part, found.rest, from, cells, uses, states, auto,
         ),
         TypeForm::Words(words) => {
             let copy = words.share()?;
@@ -185,7 +194,8 @@ fn add_moves(
     marks: &[bool],
     number: usize,
     from: State,
-    cells: &mut Interned,
+    cells: &mut Continuations,
+    uses: &mut FirstUses,
     states: &mut States,
     auto: &mut Auto,
 ) -> Result<(), NoMemory>
@@ -199,9 +209,11 @@ fn add_moves(
     ensures moves { OnOk result (AddsMoves types.now defs.now cells.old cells.new states.old states.new auto.old auto.new from (moves (meanings types.now defs.now) (continuation types.now cells.old number))) }
     ensures spares { SparesOthers from auto.old auto.new }
 {
-    let found = expand(alloc, types, defs, bodies, marks, cells, number)?;
+    let found = expand(alloc, types, defs, bodies, marks, cells, uses, number)?;
     for one in &found {
-        add_move(alloc, types, defs, marks, *one, from, cells, states, auto)?;
+        add_move(
+            alloc, types, defs, marks, *one, from, cells, uses, states, auto,
+        )?;
     }
     Ok(())
 }
@@ -216,7 +228,8 @@ pub(crate) fn compile(
     bodies: &Bodies,
     marks: &[bool],
     first: usize,
-    cells: &mut Interned,
+    cells: &mut Continuations,
+    uses: &mut FirstUses,
     states: &mut States,
     auto: &mut Auto,
 ) -> Result<(), NoMemory>
@@ -240,7 +253,7 @@ pub(crate) fn compile(
         let _states = states.len();
         let from = auto.state(done);
         add_moves(
-            alloc, types, defs, bodies, marks, number, from, cells, states, auto,
+            alloc, types, defs, bodies, marks, number, from, cells, uses, states, auto,
         )?;
         done += 1;
     }
@@ -257,7 +270,8 @@ pub(crate) fn compile_node(
     bodies: &Bodies,
     marks: &[bool],
     part: TypeId,
-    cells: &mut Interned,
+    cells: &mut Continuations,
+    uses: &mut FirstUses,
     states: &mut States,
     auto: &mut Auto,
 ) -> Result<State, NoMemory>
@@ -278,10 +292,10 @@ pub(crate) fn compile_node(
     ensures spares { Spares (length auto.old) auto.old auto.new }
 {
     let first = states.len();
-    let inside = content(types, part, cells)?;
+    let inside = content(types, part, cells, uses)?;
     let state = state_of(types, defs, marks, cells, inside, states, auto)?;
     compile(
-        alloc, types, defs, bodies, marks, first, cells, states, auto,
+        alloc, types, defs, bodies, marks, first, cells, uses, states, auto,
     )?;
     Ok(state)
 }

@@ -12,7 +12,8 @@ ghost use Rattle.xd_syntax.specs.TypeNames.{meanings};
 ghost use Rattle.xd_heads.specs.Found.{AddsCells, AreBodies, AreDecidingMarks, AreMovesOf, AreOfTypes, Finds, IsTask, IsWorkedOff, PutsSequence, PutsTasks, StayBounded, continuation, form_moves, form_put, form_tasks, is_plus, move_of, piece_tree, waiting_at};
 
 use crate::bodies::Bodies;
-use crate::cells::{Cell, Interned, Piece};
+use crate::cells::{Cell, Continuations, Piece};
+use crate::first_uses::FirstUses;
 use std::alloc::Global;
 use xd_continuations::Link;
 use xd_doc::{Label, NoMemory};
@@ -31,7 +32,7 @@ fn push_turn(
     part: TypeId,
     turns: Piece,
     behind: usize,
-    cells: &mut Interned,
+    cells: &mut Continuations,
     tasks: &mut Vec<Cell>,
 ) -> Result<(), NoMemory>
     requires part { part.at < length types.now }
@@ -67,7 +68,8 @@ fn push_sequence(
     marks: &[bool],
     parts: &[TypeId],
     behind: usize,
-    cells: &mut Interned,
+    cells: &mut Continuations,
+    uses: &mut FirstUses,
     tasks: &mut Vec<Cell>,
 ) -> Result<(), NoMemory>
     requires parts { AllByRecursion (λ i. i < length types.now) (type_numbers parts.now) }
@@ -89,7 +91,7 @@ fn push_sequence(
             item: whole(part),
             behind: rest,
         })?;
-        let first = cells.first(types, part.at())?;
+        let first = uses.first(types, part.at())?;
         rest = cells.put(
             Piece {
                 node: first,
@@ -106,7 +108,7 @@ fn push_options(
     types: &Types,
     parts: &[TypeId],
     behind: usize,
-    cells: &Interned,
+    cells: &Continuations,
     tasks: &mut Vec<Cell>,
 ) -> Result<(), NoMemory>
     requires parts { AllByRecursion (λ i. i < length types.now) (type_numbers parts.now) }
@@ -129,7 +131,7 @@ fn push_body(
     bodies: &Bodies,
     name: &Label,
     behind: usize,
-    cells: &Interned,
+    cells: &Continuations,
     tasks: &mut Vec<Cell>,
 ) -> Result<(), NoMemory>
     requires bodies { AreBodies types.now defs.now bodies.now }
@@ -153,7 +155,7 @@ fn push_part(
     types: &Types,
     part: TypeId,
     behind: usize,
-    cells: &Interned,
+    cells: &Continuations,
     tasks: &mut Vec<Cell>,
 ) -> Result<(), NoMemory>
     requires part { part.at < length types.now }
@@ -171,7 +173,7 @@ fn push_part(
 fn push_found(
     types: &Types,
     task: Cell,
-    cells: &Interned,
+    cells: &Continuations,
     found: &mut Vec<Found>,
 ) -> Result<(), NoMemory>
     requires { IsTask types.now cells.now task }
@@ -202,7 +204,8 @@ fn work_form(
     marks: &[bool],
     form: &TypeForm,
     task: Cell,
-    cells: &mut Interned,
+    cells: &mut Continuations,
+    uses: &mut FirstUses,
     tasks: &mut Vec<Cell>,
     found: &mut Vec<Found>,
 ) -> Result<(), NoMemory>
@@ -222,7 +225,15 @@ fn work_form(
         TypeForm::Words(_) => push_found(types, task, cells, found)?,
         TypeForm::Name(name) => { push_body(types, defs, bodies, name, task.behind, cells, tasks)? }
         TypeForm::Elem(_, _) => push_found(types, task, cells, found)?,
-        TypeForm::Seq(parts) => push_sequence(types, marks, parts, task.behind, cells, tasks)?,
+        TypeForm::Seq(parts) => push_sequence(
+            types,
+            marks,
+            parts,
+            task.behind,
+            cells,
+            uses,
+            tasks,
+        )?,
         TypeForm::Alt(parts) => push_options(types, parts, task.behind, cells, tasks)?,
         TypeForm::Star(part) => push_turn(types, *part, task.item, task.behind, cells, tasks)?,
         TypeForm::Plus(part) => {
@@ -247,7 +258,8 @@ fn work_off(
     bodies: &Bodies,
     marks: &[bool],
     task: Cell,
-    cells: &mut Interned,
+    cells: &mut Continuations,
+    uses: &mut FirstUses,
     tasks: &mut Vec<Cell>,
     found: &mut Vec<Found>,
 ) -> Result<(), NoMemory>
@@ -258,7 +270,9 @@ fn work_off(
 {
     let node = types.node(TypeId::of(task.item.node));
     let form = node.form();
-    work_form(types, defs, bodies, marks, form, task, cells, tasks, found)?;
+    work_form(
+        types, defs, bodies, marks, form, task, cells, uses, tasks, found,
+    )?;
     Ok(())
 }
 
@@ -292,7 +306,7 @@ fn first_tasks(
     types: &Types,
     defs: &[TypeDef],
     marks: &[bool],
-    cells: &Interned,
+    cells: &Continuations,
     number: usize,
 ) -> Result<Vec<Cell>, NoMemory>
     requires marks { AreDecidingMarks types.now defs.now marks.now }
@@ -304,7 +318,7 @@ fn first_tasks(
     let mut tasks = Vec::new(alloc);
     let mut at = number;
     while at > 0 {
-        let cell = cells.cell(at);
+        let cell = cells.link(at);
         tasks.push(cell)?;
         at = if is_empty(types, defs, marks, cell.item) {
             cell.behind
@@ -323,7 +337,8 @@ pub(crate) fn expand(
     defs: &[TypeDef],
     bodies: &Bodies,
     marks: &[bool],
-    cells: &mut Interned,
+    cells: &mut Continuations,
+    uses: &mut FirstUses,
     number: usize,
 ) -> Result<Vec<Found>, NoMemory>
     requires guarded { Guarded (meanings types.now defs.now) }
@@ -337,7 +352,7 @@ pub(crate) fn expand(
     let mut found = Vec::new(alloc);
     while let Some(task) = tasks.pop() {
         work_off(
-            types, defs, bodies, marks, task, cells, &mut tasks, &mut found,
+            types, defs, bodies, marks, task, cells, uses, &mut tasks, &mut found,
         )?;
     }
     Ok(found)

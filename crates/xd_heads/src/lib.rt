@@ -6,6 +6,7 @@ mod cells;
 mod compile;
 mod content;
 mod expand;
+mod first_uses;
 mod listing;
 mod states;
 mod typed;

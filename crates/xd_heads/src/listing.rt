@@ -20,10 +20,11 @@ ghost use Rattle.xd_heads.specs.Growing.{GrowsTypes};
 ghost use Rattle.xd_heads.specs.HeadList.{AreHeadsFound, AreRestTypes, ContentBelongs, HeadBelongs, IsHeadAt, IsHeadFound, IsKindOf, Serves, content_at, head_at};
 
 use crate::bodies::Bodies;
-use crate::cells::Interned;
+use crate::cells::Continuations;
 use crate::compile::every_text;
 use crate::content::content;
 use crate::expand::{Found, expand};
+use crate::first_uses::FirstUses;
 use crate::typed::continuation_type;
 use std::alloc::Global;
 use std::collections::HashMap;
@@ -55,7 +56,8 @@ pub struct Head {
 pub struct HeadLister {
     alloc: Global,
     any: TypeId,
-    cells: Interned,
+    cells: Continuations,
+    uses: FirstUses,
     /// The types of the rests that were listed, by the numbers of their continuations.
     rests: HashMap<usize, TypeId>,
 }
@@ -72,7 +74,8 @@ impl HeadLister {
         Ok(Self {
             alloc,
             any,
-            cells: Interned::new(alloc),
+            cells: Continuations::new(alloc),
+            uses: FirstUses::new(alloc),
             rests: HashMap::new(alloc),
         })
     }
@@ -103,6 +106,7 @@ impl HeadLister {
             &empty_marks,
             id,
             &mut self.cells,
+            &mut self.uses,
         )?;
         let Bodies { names, any: _ } = bodies;
         sound.give_back(Known { names, empty_marks });
@@ -132,7 +136,8 @@ fn find_heads(
     bodies: &Bodies,
     marks: &[bool],
     id: TypeId,
-    cells: &mut Interned,
+    cells: &mut Continuations,
+    uses: &mut FirstUses,
 ) -> Result<Vec<Found>, NoMemory>
     requires sound { IsSound (program_tree program.now) }
     requires numbered { AreNumbered bodies.now.names program.now.type_defs }
@@ -145,7 +150,7 @@ fn find_heads(
 {
     let types = program.types();
     types.see_table();
-    let number = content(types, id, cells)?;
+    let number = content(types, id, cells, uses)?;
     let found = expand(
         alloc,
         types,
@@ -153,6 +158,7 @@ fn find_heads(
         bodies,
         marks,
         cells,
+        uses,
         number,
     )?;
     Ok(found)
@@ -178,7 +184,7 @@ fn kind_of(
 fn rest_type(
     alloc: Global,
     sound: &mut SoundProgram,
-    cells: &Interned,
+    cells: &Continuations,
     rests: &mut HashMap<usize, TypeId>,
     number: usize,
 ) -> Result<TypeId, NoMemory>
@@ -203,7 +209,7 @@ fn rest_type(
 fn content_type(
     alloc: Global,
     sound: &mut SoundProgram,
-    cells: &Interned,
+    cells: &Continuations,
     rests: &mut HashMap<usize, TypeId>,
     inside: Option<TypeId>,
 ) -> Result<TypeId, NoMemory>
@@ -227,7 +233,7 @@ fn content_type(
 fn head_of(
     alloc: Global,
     sound: &mut SoundProgram,
-    cells: &Interned,
+    cells: &Continuations,
     rests: &mut HashMap<usize, TypeId>,
     found: Found,
 ) -> Result<Head, NoMemory>
@@ -252,7 +258,7 @@ fn head_of(
 fn list_heads(
     alloc: Global,
     sound: &mut SoundProgram,
-    cells: &Interned,
+    cells: &Continuations,
     rests: &mut HashMap<usize, TypeId>,
     found: &[Found],
 ) -> Result<Vec<Head>, NoMemory>

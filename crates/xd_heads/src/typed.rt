@@ -13,7 +13,7 @@ ghost use Rattle.xd_syntax.specs.Types.{BelongsTo, tree, type_numbers};
 ghost use Rattle.xd_heads.specs.Found.{AreOfTypes, continuation, is_plus, piece_tree};
 ghost use Rattle.xd_heads.specs.Growing.{GrowsTypes};
 
-use crate::cells::{Interned, Piece};
+use crate::cells::{Continuations, Piece};
 use std::alloc::Global;
 use xd_doc::NoMemory;
 use xd_syntax::{SoundProgram, TypeForm, TypeId, Types};
@@ -50,7 +50,7 @@ fn piece_type(sound: &mut SoundProgram, piece: Piece) -> Result<TypeId, NoMemory
 fn piece_types(
     alloc: Global,
     sound: &mut SoundProgram,
-    cells: &Interned,
+    cells: &Continuations,
     number: usize,
 ) -> Result<Vec<TypeId>, NoMemory>
     requires nodes { AreOfTypes sound.old.types cells.now }
@@ -62,7 +62,7 @@ fn piece_types(
     let mut ids = Vec::new(alloc);
     let mut at = number;
     while at > 0 {
-        let cell = cells.cell(at);
+        let cell = cells.link(at);
         ids.push(piece_type(sound, cell.item)?)?;
         at = cell.behind;
     }
@@ -73,7 +73,7 @@ fn piece_types(
 pub(crate) fn continuation_type(
     alloc: Global,
     sound: &mut SoundProgram,
-    cells: &Interned,
+    cells: &Continuations,
     number: usize,
 ) -> Result<TypeId, NoMemory>
     requires nodes { AreOfTypes sound.old.types cells.now }

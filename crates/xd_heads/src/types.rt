@@ -19,8 +19,9 @@ ghost use Rattle.xd_heads.specs.CellsView.{CellsView, no_cells};
 ghost use Rattle.xd_heads.specs.Mirrors.{IsPatternState, IsTypeState, KeepsStates, Mirrors, MirrorsStay, continuation_of};
 
 use crate::bodies::Bodies;
-use crate::cells::Interned;
+use crate::cells::Continuations;
 use crate::compile::compile_node;
+use crate::first_uses::FirstUses;
 use crate::states::States;
 use crate::typed::continuation_type;
 use std::alloc::Global;
@@ -36,7 +37,8 @@ use xd_syntax::{Known, Program, SoundProgram, TypeId};
 /// continuation, so that recursive types share states.
 #[derive(Drop)]
 pub struct Cells {
-    continuations: Interned,
+    continuations: Continuations,
+    uses: FirstUses,
     states: States,
     alloc: Global,
 }
@@ -56,7 +58,8 @@ impl Cells {
         ensures mirrors { (p : ProgramTable) → Mirrors p result [] }
     {
         Self {
-            continuations: Interned::new(alloc),
+            continuations: Continuations::new(alloc),
+            uses: FirstUses::new(alloc),
             states: States::new(alloc),
             alloc,
         }
@@ -174,6 +177,7 @@ fn compile_in(
         marks,
         id,
         &mut cells.continuations,
+        &mut cells.uses,
         &mut cells.states,
         auto,
     )?;

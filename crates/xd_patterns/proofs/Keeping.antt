@@ -1,5 +1,6 @@
 -- What is kept where it stands first.
-use Rattle.std.proofs.Common.{◌≡◌, ◌&&◌, ◌||◌, not, ℕ, Bool, true, false, nat_eq, Option, Some, None, refl, ap, sym, subst, ◌∙◌, List, [], ◌∷◌, ◌++◌, inl, inr}
+use Rattle.std.proofs.Common.{◌≡◌, ◌&&◌, ◌||◌, not, ℕ, Bool, true, false, nat_eq, arith, Option, Some, None, refl, ap, sym, subst, ◌∙◌, List, [], ◌∷◌, ◌++◌, inl, inr}
+use Rattle.std.proofs.lemmas.Bool.Decides.{nat_tests}
 use mathlib.Core.Bool.{beq}
 use Rattle.std.specs.List.{list_any}
 use Rattle.std.specs.Prelude.{if◌then◌else◌}
@@ -10,33 +11,30 @@ use Rattle.xd_patterns.specs.Expanding.{Enters}
 use Rattle.xd_patterns.specs.declared.expand.Task.{Task}
 use Rattle.xd_patterns.specs.declared.chains.Piece.{Piece}
 use Rattle.xd_patterns.specs.declared.expand.Found.{Found}
-use Rattle.xd_continuations.proofs.LinkTests.{both, same_bit, same_number}
-use Rattle.xd_patterns.proofs.PieceTests.{piece_test, same_piece}
+use Rattle.xd_continuations.proofs.LinkTests.{both, same_number}
+
+any_among : {A : Type 0} (test : A → Bool) (x : A) → ((y : A) → test y ≡ true → y ≡ x) → (ys : List A) → list_any test ys ≡ true → Among x ys
+any_among test x right [] h = cc
+any_among test x right (y ∷ ys) h = go (test y) refl h (λ k. any_among test x right ys k)
+  where
+    go : (b : Bool) → test y ≡ b → (b || list_any test ys) ≡ true → (list_any test ys ≡ true → Among x ys) → Among x (y ∷ ys)
+    go true e k rec = inl (right y e)
+    go false e k rec = inr (rec k)
+
+abbrev piece_test : Piece → Piece → Bool
+piece_test p q = beq p.of_pattern q.of_pattern && (nat_eq p.node q.node && (nat_eq p.from q.from && (beq p.is_turns q.is_turns && nat_eq p.marks q.marks)))
 
 abbrev found_test : Found → Found → Bool
 found_test f g = beq f.is_stop g.is_stop && (piece_test f.piece g.piece && nat_eq f.rest g.rest)
 
 same_found : (f g : Found) → found_test f g ≡ true → g ≡ f
-same_found f g h =
-    let a = both (beq f.is_stop g.is_stop) (piece_test f.piece g.piece && nat_eq f.rest g.rest) h in
-    let b = both (piece_test f.piece g.piece) (nat_eq f.rest g.rest) a.1 in
-    ap (λ (x : Bool). let r : Found = record { is_stop = x; piece = g.piece; rest = g.rest } in r) (same_bit f.is_stop g.is_stop a.0)
-    ∙ ap (λ (x : Piece). let r : Found = record { is_stop = f.is_stop; piece = x; rest = g.rest } in r) (same_piece f.piece g.piece b.0)
-    ∙ ap (λ (x : ℕ). let r : Found = record { is_stop = f.is_stop; piece = f.piece; rest = x } in r) (same_number f.rest g.rest b.1)
-
-any_among : (f : Found) (fs : List Found) → list_any (found_test f) fs ≡ true → Among f fs
-any_among f [] h = cc
-any_among f (g ∷ fs) h = go (found_test f g) refl h (λ k. any_among f fs k)
-  where
-    go : (b : Bool) → found_test f g ≡ b → (b || list_any (found_test f) fs) ≡ true → (list_any (found_test f) fs ≡ true → Among f fs) → Among f (g ∷ fs)
-    go true e k rec = inl (same_found f g e)
-    go false e k rec = inr (rec k)
+same_found f g h = grind (arith, nat_tests)
 
 pub has_found : (old new : List Found) (f : Found) → new ≡ if list_any (found_test f) old then old else old ++ f ∷ [] → HasFound old f new
 has_found old new f e = go (list_any (found_test f) old) refl e
   where
     go : (b : Bool) → list_any (found_test f) old ≡ b → new ≡ if b then old else old ++ f ∷ [] → HasFound old f new
-    go true i q = inl (any_among f old i, q)
+    go true i q = inl (any_among (found_test f) f (same_found f) old i, q)
     go false i q = inr q
 
 -- the same of tasks
@@ -56,17 +54,9 @@ same_task x y h =
     ap (λ (n : ℕ). let r : Task = record { cell = n; turn = y.turn } in r) (same_number x.cell y.cell a.0)
     ∙ ap (λ (o : Option ℕ). let r : Task = record { cell = x.cell; turn = o } in r) (same_turn x.turn y.turn a.1)
 
-any_task : (x : Task) (xs : List Task) → list_any (task_test x) xs ≡ true → Among x xs
-any_task x [] h = cc
-any_task x (y ∷ xs) h = go (task_test x y) refl h (λ k. any_task x xs k)
-  where
-    go : (b : Bool) → task_test x y ≡ b → (b || list_any (task_test x) xs) ≡ true → (list_any (task_test x) xs ≡ true → Among x xs) → Among x (y ∷ xs)
-    go true e k rec = inl (same_task x y e)
-    go false e k rec = inr (rec k)
-
 pub enters : (old new : List Task) (x : Task) (first : Bool) → new ≡ (if list_any (task_test x) old then old else old ++ x ∷ []) → first ≡ not (list_any (task_test x) old) → Enters old x new first
 enters old new x first e f = go (list_any (task_test x) old) refl e f
   where
     go : (b : Bool) → list_any (task_test x) old ≡ b → new ≡ (if b then old else old ++ x ∷ []) → first ≡ not b → Enters old x new first
-    go true i q f = subst (Enters old x new) (sym f) (any_task x old i, q)
+    go true i q f = subst (Enters old x new) (sym f) (any_among (task_test x) x (same_task x) old i, q)
     go false i q f = subst (Enters old x new) (sym f) q

@@ -1,4 +1,3 @@
-pub mod PieceTests
 pub mod VariableLemmas
 pub mod MarkedLaw
 pub mod MarksLaw

@@ -19,7 +19,7 @@ loop-number-smaller c =
     let types = c.args.types.now in
     let E = meanings types c.args.defs.now in
     let i = c.loop-number.invariant in
-    let few = states_few E (nodes_in types) types c.loop-number.cells c.args.first c.loop-number.states c.len-count.ensures.cells (i.cells_added.nodes c.requires.nodes)
+    let few = states_few E (nodes_in types) types c.loop-number.cells c.args.first c.loop-number.states c.len-count.ensures.links (i.cells_added.nodes c.requires.nodes)
     (i.bounded c.requires.tail c.requires.stand c.requires.bounded) c.len-states.ensures.owners i.compiled.numbers i.behind in
     let h = number_within c.loop-number.states c.loop-number.done c.in-Some.number (sym c.continuation.ensures ∙ c.in-Some.is) in
     less_left c.loop-number.done (c.args.first + room (length types) (longest E (nodes_in types))) (omega arith)

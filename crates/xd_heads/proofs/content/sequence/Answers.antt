@@ -1,12 +1,10 @@
-use Rattle.std.proofs.Common.{◌∷◌, List, ◌∙◌, ◌-◌, ◌<◌, map, length, drop, get_or, arith, ap, sym, subst}
+use Rattle.std.proofs.Common.{◌∙◌, ◌-◌, ◌<◌, map, length, drop, get_or, arith, ap, sym, subst}
 use Rattle.std.proofs.lemmas.List.{drop_all}
 use Rattle.xd_syntax.specs.Table.{tree_at}
 use Rattle.xd_syntax.specs.Types.{type_numbers}
 use Rattle.xd_syntax.specs.declared.types.TypeId.{TypeId}
-use Rattle.xd_continuations.specs.Chains.{HasLink, list_at}
 use Rattle.xd_heads.specs.Found.{IsContent}
-use Rattle.xd_heads.specs.Cells.{Cell}
-use Rattle.xd_heads.proofs.Putting.{node_cell, node_piece, numbers_drop, numbers_below}
+use Rattle.xd_heads.proofs.Putting.{numbers_drop, numbers_below}
 use Rattle.xd_heads.proofs.Working.{content_none, content_put}
 use Rattle.xd_heads.proofs.content.sequence.Goals as goal
 
@@ -44,6 +42,6 @@ loop-at-preserved c =
     let i = (get_or parts (n - 1) no_type).at in
     content_put types c.args.cells.now c.loop-at.cells c.put.new.self (map (tree_at types) (type_numbers (drop n parts))) c.loop-at.number c.in_ok-number.number i c.loop-at.invariant
     c.in_ok-first.first c.in_ok-first.ensures.there (c.in_ok-first.ensures.tree ∙ ap (tree_at types) c.at.ensures)
-    (subst (λ cs. HasLink cs (node_cell c.in_ok-first.first c.loop-at.number) c.put.new.self) c.first.ensures.same c.in_ok-number.ensures.cells) c.in_ok-number.ensures.within.1
-    (c.in_ok-number.ensures.list ∙ ap (λ (cs : List Cell). node_piece c.in_ok-first.first ∷ list_at cs c.loop-at.number) c.first.ensures.same)
+    c.in_ok-number.ensures.links c.in_ok-number.ensures.within.1
+    c.in_ok-number.ensures.list
     (map (tree_at types) (type_numbers (drop (n - 1) parts))) (ap (map (tree_at types)) (numbers_drop parts n no_type t u))

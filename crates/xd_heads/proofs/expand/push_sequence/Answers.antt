@@ -1,10 +1,8 @@
-use Rattle.std.proofs.Common.{◌≡◌, ◌∷◌, List, ◌-◌, ◌<◌, true, false, cond, length, drop, take, get_or, arith, ap, subst, ◌∙◌}
+use Rattle.std.proofs.Common.{◌≡◌, ◌-◌, ◌<◌, true, false, cond, length, drop, take, get_or, arith, ap, subst, ◌∙◌}
 use Rattle.xd_syntax.specs.Table.{tree_at}
 use Rattle.xd_syntax.specs.Types.{type_numbers}
-use Rattle.xd_continuations.specs.Chains.{HasLink, list_at}
-use Rattle.xd_heads.specs.Cells.{Cell}
 use Rattle.xd_syntax.specs.declared.types.TypeId.{TypeId}
-use Rattle.xd_heads.proofs.Putting.{node_cell, node_piece, pushed_next, kept_all, kept_none, numbers_drop, numbers_below}
+use Rattle.xd_heads.proofs.Putting.{pushed_next, kept_all, kept_none, numbers_drop, numbers_below}
 use Rattle.xd_heads.proofs.expand.push_sequence.Goals as goal
 use Rattle.xd_heads.proofs.expand.push_sequence.Goals.{then-not-marks-at, else-not-marks-at}
 
@@ -65,6 +63,6 @@ loop-at-preserved c =
     i (numbers_below (length types) parts (n - 1) no_type c.requires.parts l) c.if-not-marks-at.tasks.items kept
     c.whole.result c.whole.ensures c.in_ok-first.first c.in_ok-first.ensures.there (c.in_ok-first.ensures.tree ∙ ap (tree_at types) c.at-in-loop-at.ensures)
     c.put.new.self c.in_ok-rest.rest
-    (subst (λ cs. HasLink cs (node_cell c.in_ok-first.first c.loop-at.rest) c.put.new.self) c.first.ensures.same c.in_ok-rest.ensures.cells) c.in_ok-rest.ensures.within.1
-    (c.in_ok-rest.ensures.list ∙ ap (λ (cs : List Cell). node_piece c.in_ok-first.first ∷ list_at cs c.loop-at.rest) c.first.ensures.same)
+    c.in_ok-rest.ensures.links c.in_ok-rest.ensures.within.1
+    c.in_ok-rest.ensures.list
     c.push.new.self.items c.in_ok-push.ensures.items (type_numbers (drop (n - 1) parts)) (numbers_drop parts n no_type t u)

@@ -11,4 +11,4 @@ same c e f =
     ap (λ (cs : List Cell). let v : CellsView = record { cells = cs; owners = c.owners } in v) e ∙ ap (λ (os : List Owner). let v : CellsView = record { cells = []; owners = os } in v) f
 
 pub returns-clause-mirrors : goal.returns-clause-mirrors
-returns-clause-mirrors c p = subst (λ v. Mirrors p v []) (sym (same (record { cells = c.new.result; owners = c.new-2.result }) c.new.ensures c.new-2.ensures)) (mirrors_none p)
+returns-clause-mirrors c p = subst (λ v. Mirrors p v []) (sym (same (record { cells = c.new.result; owners = c.new-3.result }) c.new.ensures c.new-3.ensures)) (mirrors_none p)
