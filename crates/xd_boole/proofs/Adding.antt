@@ -44,17 +44,6 @@ module _ (a b : Automaton) (old new : Points) (left : State) (rights : List Stat
   end_moves : (i : ℕ) → i ≡ length old.points.items → moves_at new.made (state_at i) ≡ no_moves last
   end_moves i e = at_end old.made new.made (no_moves last) (no_moves false) i made (e ∙ sym count)
 
-  pub added_grows : Grows old new
-  added_grows = record {
-    longer = omega (arith, sizes.0);
-    points = front_point;
-    moves = front_moves;
-    fresh = λ i le lt. let bare = end_moves i (omega (arith, sizes.0)) in record { labels = ap (λ (m : StateMoves). m.labels) bare; texts = ap (λ (m : StateMoves). m.texts) bare };
-  }
-
-  pub added_state : (s : State) → s.number ≡ length old.made → IsStateFor new left rights s
-  added_state s e = record { within = omega (arith, sizes.0, e, count); is = end_point s.number (e ∙ count) }
-
   module _ (number : ℕ) (is_number : number ≡ length old.points.items) (is_last : last ≡ point_last a b (less left rights))
       (left_state : IsState a left) (right_states : AllByRecursion (IsState b) rights)
       (put : (q : List ℕ) → found_at new.found q ≡ cond (pointwise nat_eq (point_key (less left rights)) q) (Some number) (found_at old.found q))

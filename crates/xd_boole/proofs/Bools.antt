@@ -1,24 +1,6 @@
 -- Equations of tests.
 use Rattle.std.proofs.Common.{◌≡◌, Bool, true, false, not, ◌&&◌, ◌||◌, refl, ap, sym, ◌∙◌}
 
-pub divided_away : (x n y t : Bool) → (x && y) ≡ false → ((x && n) || false) ≡ ((x && n) && not (y && t))
-divided_away true true true true h0 = cc
-divided_away true true true false h0 = refl
-divided_away true true false true h0 = refl
-divided_away true true false false h0 = refl
-divided_away true false true true h0 = refl
-divided_away true false true false h0 = refl
-divided_away true false false true h0 = refl
-divided_away true false false false h0 = refl
-divided_away false true true true h0 = refl
-divided_away false true true false h0 = refl
-divided_away false true false true h0 = refl
-divided_away false true false false h0 = refl
-divided_away false false true true h0 = refl
-divided_away false false true false h0 = refl
-divided_away false false false true h0 = refl
-divided_away false false false false h0 = refl
-
 pub divided_inside : (x y s t : Bool) → (x && not y) ≡ false → (((x && y) && not (s || t)) || false) ≡ ((x && not s) && not (y && t))
 divided_inside true true true true h0 = refl
 divided_inside true true true false h0 = refl
@@ -178,23 +160,11 @@ implied_by true k h = refl
 implied_by false true h = h refl
 implied_by false false h = refl
 
-pub and_swap : (x y : Bool) → (x && y) ≡ (y && x)
-and_swap true true = refl
-and_swap true false = refl
-and_swap false true = refl
-and_swap false false = refl
-
 -- one more state's moves were taken from what is left of a class
 pub divided_state : (h old new l s t u : Bool) → old ≡ (h && not t) → new ≡ (old && not l) → (h ≡ true → l ≡ s) → u ≡ (t || s) → new ≡ (h && not u)
 divided_state false old new l s t u before step same all = step ∙ ap (λ w. w && not l) before
 divided_state true old new l s t u before step same all =
     step ∙ ap (λ w. w && not l) before ∙ ap (λ w. not t && not w) (same refl) ∙ and_more true t s ∙ ap not (sym all)
-
--- of the parts of an element that a side accepts those that a group refuses
-pub part_refused : (h p r : Bool) → (p && (h && not r)) ≡ ((h && p) && not r)
-part_refused true p r = refl
-part_refused false true r = refl
-part_refused false false r = refl
 
 pub part_chosen : (h x y u v : Bool) → (h && ((x && not u) && (y && not v))) ≡ (h && ((x && y) && (not u && not v)))
 part_chosen false x y u v = refl

@@ -43,14 +43,6 @@ choice_dropped k other old within = record {
   states = λ a h e. h;
 }
 
-pub choice_kept : (k other : Choice) (old new : List Choice) → new ≡ old ++ other ∷ [] → KeepsChoice k other old new
-choice_kept k other old new is = record {
-  refused = λ a c d.
-      ap (λ w. any_choice a c d w || choice_refuses a c d k) is
-      ∙ ap (λ w. w || choice_refuses a c d k) (list_any-append (choice_refuses a c d) old (other ∷ []) ∙ ap (λ w. any_choice a c d old || w) (or_nothing (choice_refuses a c d other)));
-  states = λ a h e. subst (AllChoices a) (sym is) (all_push (IsChoiceOf a) old other h e);
-}
-
 -- another choice refuses all that it does
 pub choice_there : (k other : Choice) (choices : List Choice) (i : ℕ) → i < length choices → other ≡ get_or choices i other → contains k other ≡ true → AddsChoice k choices choices
 choice_there k other choices i lt at within = record {
@@ -178,12 +170,6 @@ extends_more universal side k initial extended new left rest adds is before = re
       ∙ before.refused a u c d;
   left_states = λ a h. all_front (IsChoiceOf a) rest k (subst (AllChoices a) is (before.left_states a h));
   states = λ a h s. adds.states a (before.states a h s) (all_last (IsChoiceOf a) rest k (subst (AllChoices a) is (before.left_states a h))) s;
-}
-
-pub extends_all : (universal : List Bool) (side : Side) (initial extended left : List Choice) → left ≡ [] → ExtendsFirst universal side initial extended left → ExtendsAll universal side initial extended
-extends_all universal side initial extended left none before = record {
-  refused = λ a u c d. sym (or_nothing (any_choice a c d extended)) ∙ ap (λ w. any_choice a c d extended || (any_choice a c d w && not (side_accepts a c d side))) (sym none) ∙ before.refused a u c d;
-  states = before.states;
 }
 
 -- the choices for the first of these moves

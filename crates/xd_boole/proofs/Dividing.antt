@@ -1,17 +1,11 @@
 -- How a group is divided by a move.
-use Rattle.std.proofs.Common.{◌≡◌, ℕ, zero, suc, ◌+◌, ◌<◌, length, take, get_or, Bool, true, false, not, ◌&&◌, ◌||◌, List, [], ◌∷◌, ◌++◌, Option, Some, None, refl, sym, ap, ◌∙◌, subst, arith}
+use Rattle.std.proofs.Common.{◌≡◌, ℕ, zero, suc, ◌+◌, ◌<◌, length, take, get_or, Bool, true, false, not, ◌&&◌, ◌||◌, List, [], ◌∷◌, ◌++◌, Some, None, refl, sym, ap, ◌∙◌, subst, arith}
 use Rattle.std.specs.List.{list_any}
 use Rattle.std.proofs.lemmas.List.Folds.{list_any-append, list_any_more}
-use Rattle.xd_doc.specs.Classes.{NameClass, IsPart, class_has}
 use Rattle.xd_boole.specs.declared.groups.Group.{Group}
 use Rattle.xd_boole.specs.Groups.{AllPass, AllSides, Divides, IsPartBy, any_group, group_refuses, passes_at}
 use Rattle.xd_boole.proofs.Lists.{all_push, all_front, all_last}
-use Rattle.xd_boole.proofs.Bools.{and_more, divided_away, divided_inside, divided_both, next_one, or_join, or_nothing}
-
--- what classes of labels and of texts have in common, or not
-pub part_by : (inside : Bool) (c e : NameClass) (r : Option NameClass) → IsPart inside c e r → IsPartBy class_has inside c e r
-part_by inside c e None h = h
-part_by inside c e (Some part) h = h
+use Rattle.xd_boole.proofs.Bools.{and_more, divided_inside, divided_both, next_one, or_join, or_nothing}
 
 or_false : (x y : Bool) → (x || (y || false)) ≡ (x || y)
 or_false true y = refl
@@ -19,15 +13,6 @@ or_false false true = refl
 or_false false false = refl
 
 module _ {C S : Type 0} (has : C → List ℕ → Bool) (class : C) (side : S) where
-  -- the move matches none of the names
-  pub divides_none : (g : Group C S) (old new : List (Group C S)) → new ≡ old ++ g ∷ [] → IsPartBy has true g.class class None → Divides has class side g old new
-  divides_none g old new is none = record {
-    taken = λ p x.
-        ap (any_group has p x) is ∙ list_any-append (group_refuses has p x) old (g ∷ [])
-        ∙ ap (λ w. any_group has p x old || w) (divided_away (has g.class x) (not (list_any p g.sides.items)) (has class x) (p side) (none x));
-    sides = λ p h k s. subst (AllSides p) (sym is) (all_push (λ (w : Group C S). AllPass p w.sides.items) old g h k);
-  }
-
   -- the group of the names that the move matches
   pub record IsInside (g i : Group C S) : Type 0 where
     pub class_is : IsPartBy has true g.class class (Some i.class)
@@ -103,10 +88,6 @@ pub divided_by_more : {X : Type 0} (p : X → Bool) (xs : List X) (i : ℕ) (x :
 divided_by_more {X} p xs i x now next initial lt at step before =
     step ∙ ap (λ w. w && not (p x)) before ∙ and_more initial (list_any p (take i xs)) (p x)
     ∙ ap (λ w. initial && not w) (ap (λ w. list_any p (take i xs) || p w) at ∙ sym (list_any_more p xs i x lt))
-
-pub nothing_divided : (x : Bool) → x ≡ (x && not false)
-nothing_divided true = refl
-nothing_divided false = refl
 
 -- the test of a number is that of the element there
 pub passes_there : {M : Type 0} (t : M → Bool) (ms : List M) (k : ℕ) (m : M) → k < length ms → m ≡ get_or ms k m → passes_at t ms k ≡ t m

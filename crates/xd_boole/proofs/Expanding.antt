@@ -103,19 +103,6 @@ module _ (a b : Automaton) (old mid new : Points) (made : Automaton) (number : �
   pub expanded_more : AreExpanded a b (with_made new made) (number + 1)
   expanded_more = record { whole = whole; has = all_have; bare = bare_else }
 
-  pub keeps_points : KeepsPoints old (with_made new made)
-  keeps_points = record { longer = grows.longer; points = grows.points }
-
--- a start has no moves yet
-pub none_expanded : (a b : Automaton) (none start : Points) → none.points.items ≡ [] → ArePoints a b start → Grows none start → AreExpanded a b start 0
-none_expanded a b none start no_points are_points begins =
-    let count : length none.points.items ≡ 0 = ap length no_points in
-    record {
-      whole = are_points;
-      has = λ i lt there taken. absurd (omega arith);
-      bare = λ i le lt. begins.fresh i (omega (arith, count)) lt;
-    }
-
 -- the state of a point from which nothing is taken away needs no moves
 pub one_skipped : (a b : Automaton) (p : Points) (number : ℕ) → AreExpanded a b p number → is_old p number ≡ true → AreExpanded a b p (number + 1)
 one_skipped a b p number expanded old = record {

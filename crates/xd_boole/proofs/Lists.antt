@@ -1,6 +1,6 @@
 -- Facts about all elements of a list.
 use Rattle.std.proofs.Common.{ℕ, zero, suc, ◌+◌, ◌<◌, ◌≤◌, ◌≡◌, Bool, take, ap, List, [], ◌∷◌, ◌++◌, length, drop, get_or, refl, sym, subst, arith}
-use Rattle.std.specs.List.{AllByRecursion, Contains, list_any}
+use Rattle.std.specs.List.{AllByRecursion, list_any}
 use Rattle.std.proofs.lemmas.List.{at_drop_more, take_all}
 
 pub all_push : {X : Type 0} (P : X → Type 0) (xs : List X) (x : X) → AllByRecursion P xs → P x → AllByRecursion P (xs ++ x ∷ [])
@@ -40,11 +40,6 @@ pub all_at : {X : Type 0} (P : X → Type 0) (xs : List X) → AllByRecursion P 
 all_at P [] h i x lt at = absurd (omega arith)
 all_at P (y ∷ ys) h zero x lt at = subst P (sym at) h.0
 all_at P (y ∷ ys) h (suc i) x lt at = all_at P ys h.1 i x (omega arith) at
-
--- what holds of all that a list contains
-pub all_contained : {X : Type 0} (P : X → Type 0) (xs : List X) → ((x : X) → Contains xs x → P x) → AllByRecursion P xs
-all_contained P [] h = tt
-all_contained P (x ∷ xs) h = (h x (zero, omega arith, refl), all_contained P xs (λ y among. h y (suc among.0, omega (arith, among.1), among.2)))
 
 -- the whole list was walked
 pub any_walked : {X : Type 0} (p : X → Bool) (xs : List X) (i : ℕ) → length xs ≤ i → list_any p (take i xs) ≡ list_any p xs

@@ -1,5 +1,5 @@
 -- On states that accept the same, made one.
-use Rattle.std.proofs.Common.{◌≡◌, ℕ, zero, suc, ◌+◌, ◌<◌, ◌≤◌, inl, inr, Bool, ◌&&◌, ◌||◌, cond, nat_eq, List, [], ◌∷◌, ◌++◌, length, get_or, set, take, true, false, Some, refl, ap, sym, ◌∙◌, subst, arith, length-set, get_or-set_other, get_or-set_same, take_all}
+use Rattle.std.proofs.Common.{◌≡◌, ℕ, zero, suc, ◌+◌, ◌<◌, inl, inr, Bool, ◌&&◌, ◌||◌, cond, nat_eq, List, [], ◌∷◌, ◌++◌, length, get_or, set, take, true, false, Some, refl, ap, sym, ◌∙◌, subst, arith, length-set, get_or-set_other, get_or-set_same}
 use Rattle.std.specs.List.{AllByRecursion, AllZip, list_any}
 use Rattle.std.specs.HashMap.{HashMap}
 use Rattle.std.proofs.lemmas.Bool.{cases_eq}
@@ -26,9 +26,6 @@ zip_more R xs ys i x y lt lt2 at at2 h r =
     subst (λ zs. AllZip R zs (take (i + 1) ys)) (ap (λ z. take i xs ++ z ∷ []) at ∙ sym (take_more xs i x lt))
     (subst (λ zs. AllZip R (take i xs ++ x ∷ []) zs) (ap (λ z. take i ys ++ z ∷ []) at2 ∙ sym (take_more ys i y lt2)) (AllZip-push R (take i xs) (take i ys) x y h r))
 
-pub zip_whole : {X : Type 0} (R : X → X → Type 0) (xs ys : List X) (i : ℕ) → length xs ≤ i → length ys ≤ i → AllZip R (take i xs) (take i ys) → AllZip R xs ys
-zip_whole R xs ys i le le2 h = subst (λ zs. AllZip R zs ys) (take_all i xs le) (subst (λ zs. AllZip R (take i xs) zs) (take_all i ys le2) h)
-
 -- classes with the same names
 pub same_class : (c e : NameClass) → c.except ≡ e.except → pointwise (pointwise nat_eq) c.names e.names ≡ true → c ≡ e
 same_class c e excepts names =
@@ -49,11 +46,6 @@ same_class c e excepts names =
     same_names (x ∷ xs) (y ∷ ys) h =
         ap (λ z. z ∷ xs) (same_text x y (sym (left (pointwise nat_eq x y) (pointwise (pointwise nat_eq) xs ys) h)))
         ∙ ap (λ zs. y ∷ zs) (same_names xs ys (right (pointwise nat_eq x y) (pointwise (pointwise nat_eq) xs ys) h))
-
--- what are states of an automaton are states of one with as many
-pub states_stay : (a b : Automaton) (xs : List State) → length b ≡ length a → AllByRecursion (IsState a) xs → AllByRecursion (IsState b) xs
-states_stay a b [] e h = tt
-states_stay a b (x ∷ xs) e h = (omega (arith, e, h.0), states_stay a b xs e h.1)
 
 -- what stands in for a state is a state
 pub stand_in_there : (a : Automaton) (same : List State) (s : State) → AllByRecursion (IsState a) same → IsState a s → IsState a (stand_in same s)

@@ -1,25 +1,20 @@
 -- How the points of a difference are put into the automaton that has their lefts.
-use Rattle.std.proofs.Common.{ℕ, zero, suc, ◌+◌, ◌<◌, ◌≤◌, ◌≡◌, Bool, false, ◌&&◌, ◌||◌, List, [], ◌∷◌, ◌++◌, take, length, get_or, Some, None, IfSome, inl, inr, refl, sym, ap, ◌∙◌, subst, arith}
+use Rattle.std.proofs.Common.{ℕ, zero, suc, ◌+◌, ◌<◌, ◌≤◌, ◌≡◌, Bool, false, ◌&&◌, List, [], ◌∷◌, ◌++◌, length, get_or, IfSome, inl, inr, refl, sym, ap, ◌∙◌, subst, arith}
 use Rattle.std.specs.List.{list_any}
 use Rattle.std.proofs.lemmas.Bool.{cases_eq, cases_lt}
-use Rattle.std.proofs.lemmas.List.{get_or_past, get_or-set_same}
-use Rattle.std.proofs.lemmas.List.Folds.{list_any-append, list_any_more}
+use Rattle.std.proofs.lemmas.List.{get_or_past}
 use Rattle.xd_doc.specs.Document.{Document, empty, text, element}
 use Rattle.xd_doc.specs.Classes.{class_has}
 use Rattle.xd_auto.specs.declared.auto.State.{State}
 use Rattle.xd_auto.specs.declared.auto.LabelMove.{LabelMove}
 use Rattle.xd_auto.specs.declared.auto.TextMove.{TextMove}
-use Rattle.xd_auto.specs.Automaton.{Automaton, ChangesOnly, Extends, IsState, StateMoves, accepts, moves_at, no_moves, with_label_move, with_text_move}
+use Rattle.xd_auto.specs.Automaton.{Automaton, ChangesOnly, Extends, IsState, StateMoves, accepts, moves_at, no_moves}
 use Rattle.xd_boole.specs.declared.points.Points.{Points}
 use Rattle.xd_boole.specs.declared.placing.Place.{Place}
 use Rattle.xd_boole.specs.declared.placing.Place.TheVariants.{Old, New, Nowhere}
-use Rattle.xd_boole.specs.Placing.{AreIn, ArePlaces, GivesLabels, GivesTexts, IsBareAt, IsPlaceOf, IsPlaced, PlacesFirst, passes_there, passes_to, place_at, state_of, text_passes_there, text_passes_to}
+use Rattle.xd_boole.specs.Placing.{AreIn, ArePlaces, IsBareAt, IsPlaceOf, IsPlaced, PlacesFirst, place_at, state_of}
 use Rattle.xd_boole.specs.Points.{IsPointOf, point_at, state_at}
 use Rattle.xd_boole.proofs.Adding.{at_end, at_front, place_cases}
-use Rattle.xd_boole.proofs.Bools.{or_join, or_nothing}
-
-pub extends_same : (a : Automaton) → Extends a a
-extends_same a = record { states = λ s here. here; moves = λ s here. refl }
 
 pub extends_trans : (a b c : Automaton) → Extends a b → Extends b c → Extends a c
 extends_trans a b c one two = record {
@@ -81,9 +76,6 @@ module _ (old mid new : Automaton) (p : Points) (marks : List Bool) (one : Exten
       ];
     }
 
-pub no_places : (a : Automaton) (p : Points) (marks : List Bool) → ArePlaces a a p marks []
-no_places a p marks = record { each = λ i lt. absurd (omega arith); rises = λ i k s t less lt at_i at_k. absurd (omega arith) }
-
 -- the states at the places belong to the automaton
 pub places_in : (a b new : Automaton) (p : Points) (marks : List Bool) (places : List Place) → ((i : ℕ) → i < length places → IsPointOf a b (point_at p.points.items i)) → Extends a new
     → ((i : ℕ) → i < length places → IsPlaceOf a new p marks i (place_at places i)) → AreIn new places
@@ -96,100 +88,6 @@ places_in a b new p marks places points extends each i = elim (cases_lt i (lengt
     go (Old s) point is = subst (IsState new) (sym is.1) (extends.states (point_at p.points.items i).left point.left)
     go (New s) point is = is.2
     go Nowhere point is = tt
-
--- moves are given
-module _ (places : List Place) (s : State) where
-  label_dropped : (m : LabelMove) (a : Automaton) → ((f : LabelMove → Bool) → passes_there f places m ≡ false) → GivesLabels places s (m ∷ []) a a
-  label_dropped m a none = record {
-    last = refl;
-    labels = λ f. sym (or_nothing (list_any f (moves_at a s).labels)) ∙ ap (λ w. list_any f (moves_at a s).labels || w) (sym (or_nothing (passes_there f places m) ∙ none f));
-    texts = refl;
-  }
-
-  pub no_content : (m : LabelMove) (a : Automaton) → state_of (place_at places m.content.number) ≡ None → GivesLabels places s (m ∷ []) a a
-  no_content m a e = label_dropped m a (λ f. ap (λ o. passes_to f m.class o (state_of (place_at places m.rest.number))) e)
-
-  pub no_rest : (m : LabelMove) (a : Automaton) (content : State) → state_of (place_at places m.content.number) ≡ Some content → state_of (place_at places m.rest.number) ≡ None → GivesLabels places s (m ∷ []) a a
-  no_rest m a content e h = label_dropped m a (λ f. ap (λ o. passes_to f m.class o (state_of (place_at places m.rest.number))) e ∙ ap (λ o. passes_to f m.class (Some content) o) h)
-
-  pub label_given : (m : LabelMove) (a new : Automaton) (content rest : State) → IsState a s → state_of (place_at places m.content.number) ≡ Some content → state_of (place_at places m.rest.number) ≡ Some rest
-      → new ≡ with_label_move a s (record { class = m.class; content = content; rest = rest }) → GivesLabels places s (m ∷ []) a new
-  label_given m a new content rest there e h is =
-      let step : LabelMove = record { class = m.class; content = content; rest = rest } in
-      let now : moves_at new s ≡ record (moves_at a s) { labels = (moves_at a s).labels ++ step ∷ [] } =
-      ap (λ w. moves_at w s) is ∙ get_or-set_same a s.number (record (moves_at a s) { labels = (moves_at a s).labels ++ step ∷ [] }) (no_moves false) there in
-      record {
-        last = ap (λ (w : StateMoves). w.last) now;
-        labels = λ f.
-            ap (λ (w : StateMoves). list_any f w.labels) now ∙ list_any-append f (moves_at a s).labels (step ∷ [])
-            ∙ ap (λ w. list_any f (moves_at a s).labels || (w || false))
-            (sym (ap (λ o. passes_to f m.class o (state_of (place_at places m.rest.number))) e ∙ ap (λ o. passes_to f m.class (Some content) o) h));
-        texts = ap (λ (w : StateMoves). w.texts) now;
-      }
-
-  pub no_labels : (a : Automaton) → GivesLabels places s [] a a
-  no_labels a = record { last = refl; labels = λ f. sym (or_nothing (list_any f (moves_at a s).labels)); texts = refl }
-
-  pub more_labels : (moves : List LabelMove) (i : ℕ) (m : LabelMove) (a b c : Automaton) → i < length moves → m ≡ get_or moves i m
-      → GivesLabels places s (take i moves) a b → GivesLabels places s (m ∷ []) b c → GivesLabels places s (take (i + 1) moves) a c
-  more_labels moves i m a b c lt at before gives = record {
-    last = gives.last ∙ before.last;
-    labels = λ f.
-        gives.labels f ∙ ap (λ w. list_any f (moves_at b s).labels || w) (or_nothing (passes_there f places m)) ∙ ap (λ w. w || passes_there f places m) (before.labels f)
-        ∙ or_join (list_any f (moves_at a s).labels) (list_any (passes_there f places) (take i moves)) (passes_there f places m)
-        ∙ ap (λ w. list_any f (moves_at a s).labels || w)
-        (ap (λ w. list_any (passes_there f places) (take i moves) || passes_there f places w) at ∙ sym (list_any_more (passes_there f places) moves i m lt));
-    texts = gives.texts ∙ before.texts;
-  }
-
-  pub no_text_rest : (m : TextMove) (a : Automaton) → state_of (place_at places m.rest.number) ≡ None → GivesTexts places s (m ∷ []) a a
-  no_text_rest m a e = record {
-    last = refl;
-    labels = refl;
-    texts = λ f. sym (or_nothing (list_any f (moves_at a s).texts))
-        ∙ ap (λ w. list_any f (moves_at a s).texts || w) (sym (or_nothing (text_passes_there f places m) ∙ ap (text_passes_to f m.words) e));
-  }
-
-  pub text_given : (m : TextMove) (a new : Automaton) (rest : State) → IsState a s → state_of (place_at places m.rest.number) ≡ Some rest
-      → new ≡ with_text_move a s (record { words = m.words; rest = rest }) → GivesTexts places s (m ∷ []) a new
-  text_given m a new rest there e is =
-      let step : TextMove = record { words = m.words; rest = rest } in
-      let now : moves_at new s ≡ record (moves_at a s) { texts = (moves_at a s).texts ++ step ∷ [] } =
-      ap (λ w. moves_at w s) is ∙ get_or-set_same a s.number (record (moves_at a s) { texts = (moves_at a s).texts ++ step ∷ [] }) (no_moves false) there in
-      record {
-        last = ap (λ (w : StateMoves). w.last) now;
-        labels = ap (λ (w : StateMoves). w.labels) now;
-        texts = λ f.
-            ap (λ (w : StateMoves). list_any f w.texts) now ∙ list_any-append f (moves_at a s).texts (step ∷ [])
-            ∙ ap (λ w. list_any f (moves_at a s).texts || (w || false)) (sym (ap (text_passes_to f m.words) e));
-      }
-
-  pub no_texts : (a : Automaton) → GivesTexts places s [] a a
-  no_texts a = record { last = refl; labels = refl; texts = λ f. sym (or_nothing (list_any f (moves_at a s).texts)) }
-
-  pub more_texts : (moves : List TextMove) (i : ℕ) (m : TextMove) (a b c : Automaton) → i < length moves → m ≡ get_or moves i m
-      → GivesTexts places s (take i moves) a b → GivesTexts places s (m ∷ []) b c → GivesTexts places s (take (i + 1) moves) a c
-  more_texts moves i m a b c lt at before gives = record {
-    last = gives.last ∙ before.last;
-    labels = gives.labels ∙ before.labels;
-    texts = λ f.
-        gives.texts f ∙ ap (λ w. list_any f (moves_at b s).texts || w) (or_nothing (text_passes_there f places m)) ∙ ap (λ w. w || text_passes_there f places m) (before.texts f)
-        ∙ or_join (list_any f (moves_at a s).texts) (list_any (text_passes_there f places) (take i moves)) (text_passes_there f places m)
-        ∙ ap (λ w. list_any f (moves_at a s).texts || w)
-        (ap (λ w. list_any (text_passes_there f places) (take i moves) || text_passes_there f places w) at ∙ sym (list_any_more (text_passes_there f places) moves i m lt));
-  }
-
--- all moves of a point's state were given
-pub placed : (p : Points) (places : List Place) (s : State) (i : ℕ) (a b c : Automaton) → moves_at a s ≡ no_moves (moves_at p.made (state_at i)).last
-    → GivesLabels places s (moves_at p.made (state_at i)).labels a b → GivesTexts places s (moves_at p.made (state_at i)).texts b c → IsPlaced p places c i s
-placed p places s i a b c bare labels texts = record {
-  last = texts.last ∙ labels.last ∙ ap (λ (m : StateMoves). m.last) bare;
-  labels = λ f.
-      ap (list_any f) texts.labels ∙ labels.labels f ∙ ap (λ (m : StateMoves). list_any f m.labels || list_any (passes_there f places) (moves_at p.made (state_at i)).labels) bare;
-  texts = λ f.
-      texts.texts f
-      ∙ ap (λ w. list_any f w || list_any (text_passes_there f places) (moves_at p.made (state_at i)).texts) (labels.texts ∙ ap (λ (m : StateMoves). m.texts) bare);
-}
 
 -- the next point has its place
 module _ (old start a b : Automaton) (p : Points) (marks : List Bool) (places : List Place) (n : ℕ) (are : ArePlaces old start p marks places) (first : PlacesFirst p places a n) (within : n < length places) where

@@ -73,9 +73,6 @@ marks_more a old new mark t is at accept before = λ s e.
       | inr le ↦ absurd (let none : false ≡ true = sym (get_or_past new s.number false le) ∙ e in cc)
     ]
 
-pub no_marks : (a : Automaton) → MarkUniversal a []
-no_marks a s e = absurd (cc)
-
 -- where a marked state is in a set, the set accepts every document
 pub marked_accepts : (a : Automaton) (marks : List Bool) (states : List State) (d : Document) → MarkUniversal a marks → list_any (is_marked marks) states ≡ true → any_accepts a states d ≡ true
 marked_accepts a marks states d universal e = any_implies (is_marked marks) (λ s. accepts a d s) states (λ s h. universal s h d) e

@@ -1,4 +1,4 @@
-use Rattle.std.proofs.Common.{◌≡◌, ◌&&◌, not, Bool, true, ℕ, ◌<◌, List, take, drop, length}
+use Rattle.std.proofs.Common.{◌≡◌, ◌&&◌, not, Bool, true, ℕ, List, take}
 use Rattle.std.specs.List.{AllByRecursion, list_any}
 use Rattle.xd_boole.specs.Groups.{AllSides, any_group, passes_at}
 use Rattle.xd_boole.proofs.groups.divide_by.Given as goal

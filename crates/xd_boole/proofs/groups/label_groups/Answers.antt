@@ -1,4 +1,4 @@
-use Rattle.std.proofs.Common.{◌≡◌, ℕ, ◌<◌, true, take, length, get_or, ◌&&◌, ◌+◌}
+use Rattle.std.proofs.Common.{◌≡◌, true, take, length, get_or, ◌&&◌, ◌+◌}
 use Rattle.std.specs.List.{list_any}
 use Rattle.std.proofs.lemmas.List.Folds.{list_any_more}
 use Rattle.xd_doc.specs.Classes.{class_has}
