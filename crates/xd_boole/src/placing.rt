@@ -1,12 +1,11 @@
 //! The states of a difference, put into the automaton that has its left.
 
 ghost use Rattle.std.specs.Prelude.{◌≡◌, ◌<◌, ◌∷◌, [], length, IfOk, OnOk};
-ghost use Rattle.std.specs.List.{AllByRecursion};
 ghost use Rattle.xd_doc.specs.Document.{Document};
 ghost use Rattle.xd_auto.specs.Automaton.{Automaton, ChangesOnly, Extends, IsState, accepts, moves_at};
 ghost use Rattle.xd_empty.specs.Parts.{AreMarks};
 ghost use Rattle.xd_boole.specs.Points.{AreExpanded, MoveBelow, TextBelow, meaning};
-ghost use Rattle.xd_boole.specs.Placing.{AreIn, ArePlaces, GivesLabels, GivesTexts, IsBareAt, IsPlaceOf, IsPlaced, PlacesFirst, state_of};
+ghost use Rattle.xd_boole.specs.Placing.{AreIn, ArePlaces, GivesLabels, GivesTexts, IsBareAt, IsPlaceOf, IsPlaced, PlacesFirst, place_at, state_of};
 
 use crate::points::Points;
 use std::alloc::Global;
@@ -22,11 +21,12 @@ pub(crate) enum Place {
     Nowhere,
 }
 
-/// The state that stands there.
-fn state_of(place: Place) -> Option<State>
-    ensures { result ≡ state_of place }
+/// The state that stands at the place of a point.
+fn state_there(places: &[Place], point: State) -> Option<State>
+    requires { point.number < length places.now }
+    ensures { result ≡ state_of (place_at places.now point.number) }
 {
-    match place {
+    match places[point.number()] {
         Place::Old(state) => Some(state),
         Place::New(state) => Some(state),
         Place::Nowhere => None,
@@ -94,32 +94,13 @@ fn give_label(
     ensures gives { OnOk result (GivesLabels places.now state (step.now ∷ []) auto.old auto.new) }
     ensures others { ChangesOnly state auto.old auto.new }
 {
-    let Some(content) = state_of(places[step.content.number()]) else {
+    let Some(content) = state_there(places, step.content) else {
         return Ok(());
     };
-    let Some(rest) = state_of(places[step.rest.number()]) else {
+    let Some(rest) = state_there(places, step.rest) else {
         return Ok(());
     };
     auto.add_label_move(state, step.class.share()?, content, rest)?;
-    Ok(())
-}
-
-/// Gives a state moves on an element.
-fn give_labels(
-    auto: &mut Auto,
-    state: State,
-    moves: &[LabelMove],
-    places: &[Place],
-) -> Result<(), NoMemory>
-    requires state { IsState auto.old state }
-    requires moves { AllByRecursion (MoveBelow (length places.now)) moves.now }
-    requires places { AreIn auto.old places.now }
-    ensures gives { OnOk result (GivesLabels places.now state moves.now auto.old auto.new) }
-    ensures others { ChangesOnly state auto.old auto.new }
-{
-    for step in moves {
-        give_label(auto, state, step, places)?;
-    }
     Ok(())
 }
 
@@ -136,29 +117,10 @@ fn give_text(
     ensures gives { OnOk result (GivesTexts places.now state (step.now ∷ []) auto.old auto.new) }
     ensures others { ChangesOnly state auto.old auto.new }
 {
-    let Some(rest) = state_of(places[step.rest.number()]) else {
+    let Some(rest) = state_there(places, step.rest) else {
         return Ok(());
     };
     auto.add_text_move(state, step.words.share()?, rest)?;
-    Ok(())
-}
-
-/// Gives a state moves on a text.
-fn give_texts(
-    auto: &mut Auto,
-    state: State,
-    moves: &[TextMove],
-    places: &[Place],
-) -> Result<(), NoMemory>
-    requires state { IsState auto.old state }
-    requires moves { AllByRecursion (TextBelow (length places.now)) moves.now }
-    requires places { AreIn auto.old places.now }
-    ensures gives { OnOk result (GivesTexts places.now state moves.now auto.old auto.new) }
-    ensures others { ChangesOnly state auto.old auto.new }
-{
-    for step in moves {
-        give_text(auto, state, step, places)?;
-    }
     Ok(())
 }
 
@@ -179,8 +141,12 @@ fn give_moves(
     ensures others { ChangesOnly state auto.old auto.new }
 {
     let point = points.made.state(number);
-    give_labels(auto, state, points.made.label_moves(point), places)?;
-    give_texts(auto, state, points.made.text_moves(point), places)?;
+    for step in points.made.label_moves(point) {
+        give_label(auto, state, step, places)?;
+    }
+    for step in points.made.text_moves(point) {
+        give_text(auto, state, step, places)?;
+    }
     Ok(())
 }
 
@@ -208,7 +174,7 @@ pub(crate) fn place_points(
             give_moves(auto, state, points, number, &places)?;
         }
     }
-    match state_of(places[start.number()]) {
+    match state_there(&places, start) {
         Some(state) => Ok(state),
         None => {
             let nothing = auto.add_state(false)?;

@@ -4,7 +4,7 @@ use Rattle.xd_auto.specs.declared.auto.State.{State}
 use Rattle.xd_auto.specs.Automaton.{Automaton, IsState}
 use Rattle.xd_boole.specs.declared.placing.Place.{Place}
 use Rattle.xd_boole.specs.Placing.{AreIn, IsPlaced, accepts_at, place_at, state_of}
-use Rattle.xd_boole.proofs.PlaceLemmas.{PlacesSoFar, bare_accepts, each_there, next_so_far, none_so_far, place_read, places_in}
+use Rattle.xd_boole.proofs.PlaceLemmas.{PlacesSoFar, bare_accepts, each_there, extends_trans, next_so_far, none_so_far, place_read, places_in}
 use Rattle.xd_boole.proofs.Simulating.{stands}
 use Rattle.xd_boole.proofs.placing.place_points.Goals as goal
 use Rattle.xd_boole.proofs.placing.place_points.Goals.{in-New+in_ok-give_moves, in_default}
@@ -49,9 +49,7 @@ returns-in-Some-clause-belongs c =
     let marks = c.args.marks.now in
     let places = c.in_ok-places.places.items in
     let each = each_there a c.places_of.new.auto now p marks places c.loop-number.number c.in_ok-places.ensures.places c.loop-number.invariant in
-    let within : c.number.result < length places = omega (arith, c.requires.start, c.in_ok-places.ensures.count, c.number.ensures) in
-    let at : place_at places c.args.start.number ≡ c.index-2.result.now = ap (place_at places) (sym c.number.ensures) ∙ place_read places c.number.result c.index-2.result.now within c.index-2.ensures in
-    let is : state_of (place_at places c.args.start.number) ≡ Some c.in-Some.state = ap state_of at ∙ sym c.in-Some.ensures in
+    let is : state_of (place_at places c.args.start.number) ≡ Some c.in-Some.state = ap (λ (ps : List Place). state_of (place_at ps c.args.start.number)) (sym c.deref-2.ensures.value) ∙ sym c.in-Some.ensures in
     subst (λ (o : Option State). IfSome o (IsState now)) is
     (places_in a c.args.other.now now p marks places (λ i lt. c.requires.expanded.whole.points i (omega (arith, lt, c.in_ok-places.ensures.count))) c.loop-number.invariant.extends each c.args.start.number)
 
@@ -63,15 +61,16 @@ returns-in-Some-clause-exact c = λ d.
     let marks = c.args.marks.now in
     let places = c.in_ok-places.places.items in
     let each = each_there a c.places_of.new.auto now p marks places c.loop-number.number c.in_ok-places.ensures.places c.loop-number.invariant in
-    let within : c.number.result < length places = omega (arith, c.requires.start, c.in_ok-places.ensures.count, c.number.ensures) in
-    let at : place_at places c.args.start.number ≡ c.index-2.result.now = ap (place_at places) (sym c.number.ensures) ∙ place_read places c.number.result c.index-2.result.now within c.index-2.ensures in
-    let is : state_of (place_at places c.args.start.number) ≡ Some c.in-Some.state = ap state_of at ∙ sym c.in-Some.ensures in
+    let is : state_of (place_at places c.args.start.number) ≡ Some c.in-Some.state = ap (λ (ps : List Place). state_of (place_at ps c.args.start.number)) (sym c.deref-2.ensures.value) ∙ sym c.in-Some.ensures in
     let all : length places ≤ c.loop-number.number = grind (arith, common_steps) in
     ap (accepts_at now d) (sym is)
     ∙ stands a c.args.other.now p c.requires.expanded c.len-made.ensures.closed marks c.requires.marks places now c.len-old.ensures.closed c.loop-number.invariant.extends
     (λ i lt. each i (omega (arith, lt, c.in_ok-places.ensures.count)))
     (λ i s lt e. c.loop-number.invariant.first.done i s (omega (arith, lt, all, c.in_ok-places.ensures.count)) (omega (arith, lt, c.in_ok-places.ensures.count)) e)
     d c.args.start.number c.requires.start
+
+pub returns-clause-extends : goal.returns-clause-extends
+returns-clause-extends c = extends_trans c.args.auto.now c.loop-number.auto' c.add_state.new.self c.loop-number.invariant.extends c.add_state.ensures.extends
 
 pub returns-clause-exact : goal.returns-clause-exact
 returns-clause-exact c = λ d.
@@ -81,9 +80,7 @@ returns-clause-exact c = λ d.
     let marks = c.args.marks.now in
     let places = c.in_ok-places.places.items in
     let each = each_there a c.places_of.new.auto now p marks places c.loop-number.number c.in_ok-places.ensures.places c.loop-number.invariant in
-    let within : c.number.result < length places = omega (arith, c.requires.start, c.in_ok-places.ensures.count, c.number.ensures) in
-    let at : place_at places c.args.start.number ≡ c.index-2.result.now = ap (place_at places) (sym c.number.ensures) ∙ place_read places c.number.result c.index-2.result.now within c.index-2.ensures in
-    let is : state_of (place_at places c.args.start.number) ≡ None = ap state_of at ∙ sym c.in-None.ensures in
+    let is : state_of (place_at places c.args.start.number) ≡ None = ap (λ (ps : List Place). state_of (place_at ps c.args.start.number)) (sym c.deref-2.ensures.value) ∙ sym c.in-None.ensures in
     let all : length places ≤ c.loop-number.number = grind (arith, common_steps) in
     bare_accepts now c.add_state.new.self c.in_ok-nothing-in-None.nothing c.in_ok-nothing-in-None.ensures.ok.0 c.in_ok-nothing-in-None.ensures.ok.1 d
     ∙ ap (accepts_at now d) (sym is)
