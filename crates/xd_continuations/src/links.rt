@@ -63,6 +63,14 @@ impl<T: Item> Interned<T> {
         self.links.len()
     }
 
+    /// Makes room for so many more lists at once.
+    pub fn reserve(&mut self, additional: usize) -> Result<(), NoMemory>
+        ensures { self.new ≡ self.old }
+    {
+        self.links.reserve(additional)?;
+        Ok(())
+    }
+
     /// The number of the list of an item before another list.
     pub fn put(&mut self, item: T, behind: usize) -> Result<usize, NoMemory>
         requires { behind ≤ length self.old }

@@ -40,6 +40,7 @@ fn sequence(
     requires { AllByRecursion (λ i. i < length types.now) (type_numbers parts.now) }
     ensures { IfOk result (IsContent types.now cells.old cells.new (map (tree_at types.now) (type_numbers parts.now))) }
 {
+    cells.reserve(parts.len())?;
     let mut number = 0;
     for at in (0..parts.len()).rev() {
         let first = uses.first(types, parts[at].at())?;

@@ -81,6 +81,7 @@ fn push_sequence(
 {
     let _count = types.len();
     let others = tasks.len();
+    cells.reserve(parts.len())?;
     let mut rest = behind;
     for at in (0..parts.len()).rev() {
         let part = parts[at];

@@ -15,8 +15,9 @@ pub loop-at-init : goal.loop-at-init
 loop-at-init c =
     let types = c.args.types.now in
     let parts = c.args.parts.now in
-    subst (λ ps. IsContent types c.args.cells.now c.args.cells.now (map (tree_at types) (type_numbers ps)) 0) (sym (drop_all (length parts) parts (omega arith)))
-    (content_none types c.args.cells.now)
+    subst (λ cells. IsContent types c.args.cells.now cells (map (tree_at types) (type_numbers (drop (length parts) parts))) 0) (sym c.reserve.ensures)
+    (subst (λ ps. IsContent types c.args.cells.now c.args.cells.now (map (tree_at types) (type_numbers ps)) 0) (sym (drop_all (length parts) parts (omega arith)))
+    (content_none types c.args.cells.now))
 
 pub first-requires : goal.first-requires
 unfolding no_type
