@@ -1,21 +1,37 @@
 //! Interned lists.
 
-ghost use Rattle.std.specs.Prelude.{◌≡◌, ◌+◌, ◌<◌, ◌≤◌, [], ◌∷◌, length, true, IfOk, OnErr};
+ghost use Rattle.std.specs.Prelude.{◌≡◌, ◌+◌, ◌<◌, ◌≤◌, [], ◌∷◌, ◌++◌, ◌/◌, length, true, IfOk, OnErr};
 ghost use Rattle.std.specs.Cmp.{unsigned_Decides};
+ghost use Rattle.std.specs.Cmp.Rules.{comparing, hashing};
+ghost use Rattle.std.specs.Hash.{usize};
+ghost use Rattle.std.proofs.Common.{rules};
 ghost use Rattle.xd_syntax.specs.Ways.{Among};
 ghost use Rattle.xd_continuations.specs.Chains.{AreLinks, HasLink, list_at};
 
 use indexmap::IndexSet;
 use std::alloc::Global;
-use std::hash::Hash;
+use std::hash::{Hash, Hasher};
 use std::marker::Model;
 use xd_doc::NoMemory;
 
 /// An item, and the number of the list behind it.
-#[derive(Clone, Copy, Debug, PartialEq, Eq, Hash)]
+#[derive(Clone, Copy, Debug, PartialEq, Eq)]
 pub struct Link<T> {
     pub item: T,
     pub behind: usize,
+}
+
+impl<T: Hash> Hash for Link<T> {
+    ghost hash_input = { λ l. T.hash_input l.item ++ usize (l.behind / 4) };
+
+    ghost respects_eq = { Prim.search (hashing, rules) };
+
+    // Four lists that were made one after the other share a hash: a long list, made from its end, then looks at a quarter
+    // of the places of the table.
+    fn hash<H: Hasher>(&self, state: &mut H) {
+        self.item.hash(state);
+        (self.behind / 4).hash(state);
+    }
 }
 
 /// What interned lists are of: equal items are the same.
