@@ -79,7 +79,7 @@ fn parts_code(
     requires { AllByRecursion (λ i. i < length numbers.now) (type_numbers parts.now) }
     ensures { IfOk result (λ code. code.items ≡ kind ∷ map (number_at numbers.now) (type_numbers parts.now)) }
 {
-    let mut code = Vec::new(alloc);
+    let mut code = Vec::with_capacity(alloc, parts.len() + 1)?;
     code.push(kind)?;
     push_parts(&mut code, parts, numbers)?;
     Ok(code)
