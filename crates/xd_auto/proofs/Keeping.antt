@@ -1,9 +1,9 @@
 -- Answers that are kept: what stays right, and how one is put into a row and into the rows.
 use Rattle.std.proofs.Common.{ℕ, zero, suc, ◌≡◌, ◌≢◌, ◌⊎◌, ◌+◌, ◌*◌, ◌%◌, ◌<◌, ◌≤◌, Bool, true, List, [], ◌∷◌, ◌++◌, length, get_or, set, Some, None, Result, Ok, Err, OnErr, Vec, arith, refl, sym, subst, ap, ◌∙◌, inl, inr}
 use Rattle.std.specs.Vec.{vec_capacity}
-use Rattle.std.proofs.lemmas.Bool.{cases_eq, cases_lt}
+use Rattle.std.proofs.lemmas.Bool.{cases_eq}
 use Rattle.std.proofs.lemmas.Nat.Bits.{bit_at-zero}
-use Rattle.std.proofs.lemmas.List.{map-set, length-map, get_or-map, get_or-set_same, get_or-set_other, get_or_append_left, get_or_at, length_push, length-set}
+use Rattle.std.proofs.lemmas.List.{map-set, length-map, get_or-map, get_or-set_same, get_or-set_other, get_or_append_left, length_push, length-set}
 use Rattle.xd_doc.specs.Document.{Document}
 use Rattle.xd_doc.specs.Stored.{node_seq}
 use Rattle.xd_auto.specs.Automaton.{Automaton, accepts}
@@ -79,18 +79,6 @@ module _ {A : Type 0} where
         let below : s < length rows = omega (arith, h.enough) in
         rw (get_or_append_left rows (row ∷ []) r s below) (h.wide s r lt);
   }
-
-  pub room_push : (rows : List (Vec ℕ A)) (row : Vec ℕ A) (states words : ℕ) → length rows ≡ states → words ≤ vec_capacity row → HasRoom states words rows → HasRoom (states + 1) words (rows ++ row ∷ [])
-  room_push rows row states words len wide h = record {
-    enough = omega (arith, length_push rows row);
-    wide = λ s r lt. go s r lt (cases_lt s (length rows));
-  }
-    where
-      go : (s : ℕ) (r : Vec ℕ A) → s < states + 1 → (s < length rows) ⊎ (length rows ≤ s) → words ≤ vec_capacity (get_or (rows ++ row ∷ []) s r)
-      go s r lt (inl l) = rw (get_or_append_left rows (row ∷ []) r s l) (h.wide s r (omega arith))
-      go s r lt (inr g) =
-          let last : length rows ≡ s = omega arith in
-          rw (get_or_at rows row [] r s last) wide
 
   -- a row with as much room in the place of another
   pub room_set : (rows : List (Vec ℕ A)) (i : ℕ) (row : Vec ℕ A) (states words : ℕ) → i < length rows → vec_capacity (get_or rows i row) ≤ vec_capacity row

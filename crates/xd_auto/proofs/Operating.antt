@@ -1,15 +1,16 @@
 -- What states accept that were made of others.
-use Rattle.std.proofs.Common.{ℕ, zero, suc, ◌≡◌, ◌+◌, ◌-◌, ◌<◌, ◌≤◌, Bool, true, false, ◌||◌, List, [], ◌∷◌, ◌++◌, length, get_or, map, Some, None, arith, refl, sym, ap, subst, ◌∙◌, length-append, inl, inr}
+use Rattle.std.proofs.Common.{ℕ, zero, suc, ◌≡◌, ◌+◌, ◌-◌, ◌<◌, ◌≤◌, Bool, true, false, ◌||◌, List, [], ◌∷◌, ◌++◌, length, get_or, take, map, Some, None, arith, refl, sym, ap, subst, ◌∙◌, length-append, inl, inr}
 use Rattle.std.proofs.lemmas.List.{get_or_default, get_or-append-add, length-map, get_or-map}
 use Rattle.std.proofs.lemmas.Bool.{cases_lt}
 use Rattle.std.specs.List.{All, AllZip, list_any}
 use Rattle.std.proofs.lemmas.List.Elements.{All-head, All-tail, All-cons, All-nil, All-append, All-map}
+use Rattle.std.proofs.lemmas.List.Folds.{list_any_more}
 use Rattle.xd_doc.specs.Document.{Document, empty, text, element}
 use Rattle.xd_auto.specs.declared.auto.State.{State}
 use Rattle.xd_auto.specs.declared.auto.LabelMove.{LabelMove}
 use Rattle.xd_auto.specs.declared.auto.TextMove.{TextMove}
 use Rattle.xd_auto.specs.Automaton.{Automaton, StateMoves, IsState, IsClosed, LeadsBelow, Extends, KeepsAccepting, accepts, moves_at, no_moves}
-use Rattle.xd_auto.specs.Copying.{AddsMoves, AreCopied, AreStateCopies, Copies, HasCopy, IsCopy, IsCopyOf, IsEither, IsReached, IsStateCopy, is_content, is_rest, LabelBelow, LeadsTo, by_element, by_text, here, further, Reached, copy_of, moved, moved_text, no_copies}
+use Rattle.xd_auto.specs.Copying.{AddsMoves, AreCopied, AreStateCopies, AreUnited, Copies, HasCopy, IsCopy, IsCopyOf, IsReached, IsStateCopy, is_content, is_rest, LabelBelow, LeadsTo, by_element, by_text, here, further, Reached, accepts_by, copy_of, moved, moved_text, no_copies}
 use Rattle.xd_auto.specs.Membership.{takes_element, takes_word}
 use Rattle.xd_auto.proofs.Closed.{moves_at-closed, LeadsBelow-more, no_moves-below}
 use Rattle.xd_auto.proofs.Extending.{list_any-agree}
@@ -40,11 +41,6 @@ stays_below a n s old new closed is le below h =
     let own = LeadsBelow-more (length a) n (moves_at a s) le (moves_at-closed a s closed is) in
     adds_below n no_copies no_copies (moves_at a s) old new below own.labels own.texts h
 
-pub either_below : (a : Automaton) (n : ℕ) (one two : State) (made : StateMoves) → IsClosed a → IsState a one → IsState a two → length a ≤ n → IsEither a one two made → LeadsBelow n made
-either_below a n one two made closed is_one is_two le h =
-    stays_below a n two h.front made closed is_two le
-    (stays_below a n one _ h.front closed is_one le (no_moves-below n ((moves_at a one).last || (moves_at a two).last)) h.first) h.second
-
 module _ (a b : Automaton) (more : Extends a b) (keep : KeepsAccepting a b) where
   -- an old state's moves accept what the state did
   pub old_text : (s : State) (t : List ℕ) (r : Document) → IsState a s → list_any (takes_word b t r) (moves_at a s).texts ≡ accepts a (text t r) s
@@ -53,20 +49,41 @@ module _ (a b : Automaton) (more : Extends a b) (keep : KeepsAccepting a b) wher
   pub old_element : (s : State) (l : List ℕ) (c r : Document) → IsState a s → list_any (takes_element b l c r) (moves_at a s).labels ≡ accepts a (element l c r) s
   old_element s l c r is = ap (λ (m : StateMoves). list_any (takes_element b l c r) m.labels) (sym (more.moves s is)) ∙ keep (element l c r) s is
 
-  -- a new state with the moves of two old ones
-  pub either_accepts : (one two u : State) → IsState a one → IsState a two → IsEither a one two (moves_at b u) → (d : Document) → accepts b d u ≡ (accepts a d one || accepts a d two)
-  either_accepts one two u is_one is_two h empty = h.second.last ∙ h.first.last
-  either_accepts one two u is_one is_two h (text t r) =
-      adds_text no_copies no_copies (moves_at a two) h.front (moves_at b u) (takes_word b t r) h.second
-      ∙ ap (λ w. w || list_any (takes_word b t r) (moves_at a two).texts)
-      (adds_text no_copies no_copies (moves_at a one) (no_moves ((moves_at a one).last || (moves_at a two).last)) h.front (takes_word b t r) h.first ∙ old_text one t r is_one)
-      ∙ ap (λ w. accepts a (text t r) one || w) (old_text two t r is_two)
-  either_accepts one two u is_one is_two h (element l c r) =
-      adds_element b no_copies no_copies (moves_at a two) h.front (moves_at b u) (λ m. Unit {0}) (takes_element b l c r) l c r (λ m p. refl) (λ k d lt. tt) h.second
-      ∙ ap (λ w. w || list_any (takes_element b l c r) (moves_at a two).labels)
-      (adds_element b no_copies no_copies (moves_at a one) (no_moves ((moves_at a one).last || (moves_at a two).last)) h.front (λ m. Unit {0}) (takes_element b l c r) l c r (λ m p. refl) (λ k d lt. tt) h.first
-      ∙ old_element one l c r is_one)
-      ∙ ap (λ w. accepts a (element l c r) one || w) (old_element two l c r is_two)
+  -- moves with those of an old state accept what that state does too
+  accepts_more : (s : State) (old new : StateMoves) → IsState a s → AddsMoves no_copies no_copies (moves_at a s) (record old { last = old.last || (moves_at a s).last }) new
+      → (d : Document) → accepts_by b new d ≡ (accepts_by b old d || accepts a d s)
+  accepts_more s old new is h empty = h.last
+  accepts_more s old new is h (text t r) =
+      adds_text no_copies no_copies (moves_at a s) (record old { last = old.last || (moves_at a s).last }) new (takes_word b t r) h
+      ∙ ap (λ w. list_any (takes_word b t r) old.texts || w) (old_text s t r is)
+  accepts_more s old new is h (element l c r) =
+      adds_element b no_copies no_copies (moves_at a s) (record old { last = old.last || (moves_at a s).last }) new (λ m. Unit {0}) (takes_element b l c r) l c r (λ m p. refl) (λ k d lt. tt) h
+      ∙ ap (λ w. list_any (takes_element b l c r) old.labels || w) (old_element s l c r is)
+
+pub accepts_by_moves : (a : Automaton) (s : State) (d : Document) → accepts a d s ≡ accepts_by a (moves_at a s) d
+accepts_by_moves a s empty = refl
+accepts_by_moves a s (text t r) = refl
+accepts_by_moves a s (element l c r) = refl
+
+pub united_none : (a : Automaton) → AreUnited a [] (no_moves false)
+united_none a = record { below = λ closed. no_moves-below (length a) false; accepted = λ b more keep d. none b d }
+  where
+    none : (b : Automaton) (d : Document) → accepts_by b (no_moves false) d ≡ false
+    none b empty = refl
+    none b (text t r) = refl
+    none b (element l c r) = refl
+
+pub united_more : (a : Automaton) (ss : List State) (i : ℕ) (d : State) (old new : StateMoves) → i < length ss → IsState a (get_or ss i d) → AreUnited a (take i ss) old
+    → AddsMoves no_copies no_copies (moves_at a (get_or ss i d)) (record old { last = old.last || (moves_at a (get_or ss i d)).last }) new → AreUnited a (take (i + 1) ss) new
+united_more a ss i d old new lt is u h =
+    let s : State = get_or ss i d in
+    record {
+      below = λ closed.
+          let b = u.below closed in
+          stays_below a (length a) s (record old { last = old.last || (moves_at a s).last }) new closed is (omega arith) (record { labels = b.labels; texts = b.texts }) h;
+      accepted = λ b more keep t.
+          accepts_more a b more keep s old new is h t ∙ ap (λ w. w || accepts a t s) (u.accepted b more keep t) ∙ sym (list_any_more (accepts a t) ss i d lt);
+    }
 
 -- the state behind an automaton
 pub moves_behind : (a more : Automaton) (i : ℕ) (d : StateMoves) → i < length more → moves_at (a ++ more) (state_at (length a + i)) ≡ get_or more i (no_moves false)

@@ -1,6 +1,5 @@
 -- Steps of the walk over pairs of a node and a state.
-use Rattle.std.proofs.Common.{ℕ, ◌≡◌, ◌≤◌, Bool, false, List, length, take, Some, None, arith, refl}
-use Rattle.std.specs.List.{list_any}
+use Rattle.std.proofs.Common.{ℕ, ◌≡◌, Bool, List, Some, arith, refl}
 use Rattle.xd_doc.specs.Document.{Document, empty, text, element, content_of, rest_of}
 use Rattle.xd_doc.specs.Stored.{first_of_document}
 use Rattle.xd_doc.specs.declared.store.Item.TheVariants.{Text, Elem}
@@ -11,18 +10,6 @@ use Rattle.xd_auto.specs.Automaton.{Automaton, accepts, moves_at}
 use Rattle.xd_auto.specs.Membership.{FailsBefore, ProgressAt, ProgressOver, takes_element, takes_word}
 
 module _ (a : Automaton) (s : State) (n : ℕ) where
-  pub text_fails : (d : Document) (t : List ℕ) → first_of_document d ≡ Some (Text t) → FailsBefore a d s n
-      → (n ≤ length (moves_at a s).texts) × (list_any (takes_word a t (rest_of d)) (take n (moves_at a s).texts) ≡ false)
-  text_fails empty t e h = absurd (cc)
-  text_fails (text u rest) t e h = let same : u ≡ t = cc in rw (← same) h
-  text_fails (element l content rest) t e h = absurd (cc)
-
-  pub label_fails : (d : Document) (l : List ℕ) → first_of_document d ≡ Some (Elem l) → FailsBefore a d s n
-      → (n ≤ length (moves_at a s).labels) × (list_any (takes_element a l (content_of d) (rest_of d)) (take n (moves_at a s).labels) ≡ false)
-  label_fails empty l e h = absurd (cc)
-  label_fails (text u rest) l e h = absurd (cc)
-  label_fails (element k content rest) l e h = let same : k ≡ l = cc in rw (← same) h
-
   pub text_progress : (d : Document) (t : List ℕ) (Wait : ℕ → State → Type 0) (p : Progress) → first_of_document d ≡ Some (Text t)
       → ProgressOver (takes_word a t (rest_of d)) (moves_at a s).texts n Wait p → ProgressAt a d s n Wait p
   text_progress empty t Wait p e h = absurd (cc)
@@ -34,12 +21,6 @@ module _ (a : Automaton) (s : State) (n : ℕ) where
   label_progress empty l Wait p e h = absurd (cc)
   label_progress (text u rest) l Wait p e h = absurd (cc)
   label_progress (element k content rest) l Wait p e h = let same : k ≡ l = cc in rw same h
-
-  pub empty_progress : (d : Document) (Wait : ℕ → State → Type 0) (b : Bool) → first_of_document d ≡ None
-      → b ≡ (moves_at a s).last → ProgressAt a d s n Wait (Done b)
-  empty_progress empty Wait b e h = h
-  empty_progress (text u rest) Wait b e h = absurd (cc)
-  empty_progress (element k content rest) Wait b e h = absurd (cc)
 
   pub done_is : (d : Document) (Wait : ℕ → State → Type 0) (b : Bool) → ProgressAt a d s n Wait (Done b) → b ≡ accepts a d s
   done_is empty Wait b h = h

@@ -129,17 +129,6 @@ module _ (a : Automaton) (ds : List Document) (top : ℕ) (s : State) where
         | inr h ↦ absurd (not_empty rest f h.0)
       ]
 
-  pub walk_starts : (rows : Answers) → AreRight a ds rows → IsState a s → kept_at rows top s.number ≡ None → FailsBefore a (from_node ds top) s 0
-      → Walk a ds top s rows (frame top s 0 ∷ [])
-  walk_starts rows right state none fails = record {
-    right = right;
-    frames =
-        places_push (IsFrame a ds rows top) [] (frame top s 0) (λ i d lt. absurd (omega arith))
-        (record { high = omega arith; state = state; unknown = none; fails = fails });
-    falls = all_pairs_push Falls [] (frame top s 0) (λ i j d lt below. absurd (omega arith)) (λ k d lt. absurd (omega arith));
-    root = inl refl;
-  }
-
   -- the pair on top is settled
   pub walk_done : (rows new : Answers) (rest : List Frame) (f : Frame) (answer : Bool) → Walk a ds top s rows (rest ++ f ∷ [])
       → BelongsTo ds (node_seq f.node) → answer ≡ accepts a (from_node ds f.node) f.state → KeepsAnswer f.node f.state.number answer rows new

@@ -1,14 +1,14 @@
 -- Which states are reached from another; and how states are copied, of which only private contracts speak.
-use Rattle.std.specs.Prelude.{◌≡◌, ◌≢◌, ℕ, ◌+◌, ◌<◌, ◌≤◌, Bool, true, false, nat_eq, ◌&&◌, ◌||◌, is_some, List, [], ◌∷◌, ◌++◌, length, map, slice_index_or, Option, Some, None}
-use Rattle.std.specs.List.{All, AllZip, Contains}
+use Rattle.std.specs.Prelude.{◌≡◌, ◌≢◌, ℕ, ◌+◌, ◌<◌, ◌≤◌, Bool, true, false, nat_eq, ◌&&◌, is_some, List, [], ◌∷◌, ◌++◌, length, map, slice_index_or, Option, Some, None}
+use Rattle.std.specs.List.{All, AllZip, Contains, list_any}
 use Rattle.std.specs.HashMap.{HashMap, get}
 use Rattle.std.specs.Cmp.Lexicographic.{pointwise}
-use Rattle.xd_doc.specs.Document.{Document}
+use Rattle.xd_doc.specs.Document.{Document, empty, text, element}
 use Rattle.xd_doc.specs.Classes.{LabelClass, class_has}
 use Rattle.xd_auto.specs.declared.auto.State.{State}
 use Rattle.xd_auto.specs.declared.auto.LabelMove.{LabelMove}
 use Rattle.xd_auto.specs.declared.auto.TextMove.{TextMove}
-use Rattle.xd_auto.specs.Automaton.{Automaton, IsState, StateMoves, accepts, moves_at, no_moves}
+use Rattle.xd_auto.specs.Automaton.{Automaton, Extends, IsClosed, IsState, KeepsAccepting, LeadsBelow, StateMoves, accepts, moves_at, no_moves}
 use Rattle.xd_auto.specs.Counts.{left_out}
 
 -- the copy of each state, by the state's number, if it has one
@@ -67,11 +67,17 @@ IsStateCopy a contents rests (Some tail) s made = IsFrontCopy a contents rests t
 abbrev pub AreStateCopies : Automaton → Copies → Copies → Option State → List State → List StateMoves → Type 0
 AreStateCopies a contents rests tail order made = AllZip (IsStateCopy a contents rests tail) order made
 
--- the moves of two states
-pub record IsEither (a : Automaton) (one two : State) (made : StateMoves) : Type 0 where
-  pub front : StateMoves
-  pub first : AddsMoves no_copies no_copies (moves_at a one) (no_moves ((moves_at a one).last || (moves_at a two).last)) front
-  pub second : AddsMoves no_copies no_copies (moves_at a two) front made
+-- whether a state with these moves accepts the document
+abbrev pub accepts_by : Automaton → StateMoves → Document → Bool
+accepts_by a moves empty = moves.last
+accepts_by a moves (text t rest) = list_any (λ m. class_has m.words t && accepts a rest m.rest) moves.texts
+accepts_by a moves (element l content rest) =
+    list_any (λ m. class_has m.class l && (accepts a content m.content && accepts a rest m.rest)) moves.labels
+
+-- the moves of some states: what they accept in an automaton that has grown is what one of the states does
+pub record AreUnited (a : Automaton) (states : List State) (made : StateMoves) : Type 0 where
+  pub below : IsClosed a → LeadsBelow (length a) made
+  pub accepted : (b : Automaton) → Extends a b → KeepsAccepting a b → (d : Document) → accepts_by b made d ≡ list_any (accepts a d) states
 
 -- one move, on an element with this label alone
 pub record IsAround (label : List ℕ) (content rest : State) (made : StateMoves) : Type 0 where

@@ -4,7 +4,6 @@ pub mod LineLists
 pub mod Ranks
 pub mod Telling
 pub mod Making
-pub mod Uniting
 pub mod Newest
 pub mod Going
 pub mod Walks

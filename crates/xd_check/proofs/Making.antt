@@ -82,10 +82,6 @@ module _ (a0 a1 a2 a3 : Automaton) (end start : State) (w : TextClass) (m : IsTe
   longest : length a2 ≡ length a1 + 1
   longest = ap length m.start_is ∙ length-append a1 (no_moves false ∷ [])
 
-  pub start_there : IsState a3 start
-  start_there =
-      let x = longest in let y = (m.others).states in let z = m.start_number in omega arith
-
   start_moves : moves_at a3 start ≡ record { last = false; labels = []; texts = record { words = w; rest = end } ∷ [] }
   start_moves =
       let x = longest in

@@ -1,7 +1,6 @@
 pub mod FoundLines
 pub mod InScope
 pub mod Walked
-pub mod United
 pub mod Signed
 pub mod Ready
 pub mod Known

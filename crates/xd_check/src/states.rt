@@ -1,14 +1,12 @@
 //! States for what expressions may be.
 
-ghost use Rattle.std.specs.Prelude.{◌≡◌, ◌≢◌, ◌↔◌, ◌||◌, None, Ok, true, IfOk, OnOk};
+ghost use Rattle.std.specs.Prelude.{◌≡◌, ◌↔◌, None, Ok, true, IfOk, OnOk};
 ghost use Rattle.std.specs.List.{AllByRecursion};
 ghost use Rattle.std.specs.Option.{IfSome};
 ghost use Rattle.xd_doc.specs.Document.{Document, empty, text};
 ghost use Rattle.xd_doc.specs.Stored.{BelongsTo, Keeps, document_at};
-ghost use Rattle.xd_auto.specs.Automaton.{IsState, accepts, moves_at, state_number};
+ghost use Rattle.xd_auto.specs.Automaton.{IsState, accepts};
 ghost use Rattle.xd_check.specs.Walked.{AcceptedBySome, AcceptedInTurn, Grows};
-ghost use Rattle.xd_bind.specs.Blocks.{IsChange, with_labels, with_texts};
-ghost use Rattle.xd_check.specs.United.{either_moves};
 ghost use Rattle.xd_check.specs.InScope.{AcceptedBy, AreStates, state_of};
 ghost use Rattle.xd_check.specs.Known.{IsKnown};
 
@@ -74,79 +72,14 @@ pub(crate) fn join_states(states: Vec<State>, auto: &mut Auto) -> Result<State, 
     Ok(made)
 }
 
-/// A state that accepts what some of these states accept: one, with copies of the moves of all.
+/// A state that accepts what some of these states accept.
 pub(crate) fn unite_states(states: Vec<State>, auto: &mut Auto) -> Result<State, NoMemory>
     requires { AllByRecursion (IsState auto.old) states.items }
     ensures belongs { IfOk result (IsState auto.new) }
     ensures accepts { IfOk result (λ made. (d : Document) → (accepts auto.new d made ≡ true) ↔ AcceptedBySome auto.old states.items d) }
     ensures grows { OnOk result (Grows auto.old auto.new) }
 {
-    let _states = auto.len();
-    let made = auto.add_state(false)?;
-    for state in &states {
-        add_moves(*state, made, auto)?;
-    }
-    Ok(made)
-}
-
-/// Gives the second state copies of the first one's moves: it accepts what either did.
-fn add_moves(from: State, to: State, auto: &mut Auto) -> Result<(), NoMemory>
-    requires from { IsState auto.old from }
-    requires to { IsState auto.old to }
-    requires other { state_number from ≢ state_number to }
-    ensures { OnOk result (IsChange auto.old auto.new to (either_moves (moves_at auto.old to) (moves_at auto.old from))) }
-{
-    let last = is_either_last(auto, to, from);
-    auto.set_last(to, last);
-    add_labels(from, to, auto)?;
-    add_texts(from, to, auto)?;
-    Ok(())
-}
-
-/// Whether either state accepts the empty document.
-fn is_either_last(auto: &Auto, one: State, two: State) -> bool
-    requires one { IsState auto.now one }
-    requires two { IsState auto.now two }
-    ensures { result ≡ ((moves_at auto.now one).last || (moves_at auto.now two).last) }
-{
-    auto.is_last(one) || auto.is_last(two)
-}
-
-/// The same of the moves on an element.
-fn add_labels(from: State, to: State, auto: &mut Auto) -> Result<(), NoMemory>
-    requires from { IsState auto.old from }
-    requires to { IsState auto.old to }
-    requires other { state_number from ≢ state_number to }
-    ensures { OnOk result (IsChange auto.old auto.new to (with_labels (moves_at auto.old from).labels (moves_at auto.old to))) }
-{
-    let count = auto.label_moves(from).len();
-    for number in 0..count {
-        let moves = auto.label_moves(from);
-        let step = &moves[number];
-        let class = step.class.share()?;
-        let content = step.content;
-        let rest = step.rest;
-        auto.add_label_move(to, class, content, rest)?;
-    }
-    Ok(())
-}
-
-/// The same of the moves on a text.
-fn add_texts(from: State, to: State, auto: &mut Auto) -> Result<(), NoMemory>
-    requires from { IsState auto.old from }
-    requires to { IsState auto.old to }
-    requires other { state_number from ≢ state_number to }
-    ensures { OnOk result (IsChange auto.old auto.new to (with_texts (moves_at auto.old from).texts (moves_at auto.old to))) }
-{
-    let count = auto.text_moves(from).len();
-    for number in 0..count {
-        let moves = auto.text_moves(from);
-        let step = &moves[number];
-        let words = step.words.share()?;
-        let rest = step.rest;
-        auto.add_text_move(to, words, rest)?;
-    }
-    Ok(())
+    Ok(auto.unite(&states)?)
 }
 
 /// A document that the first state accepts and the second doesn't, where there is one.

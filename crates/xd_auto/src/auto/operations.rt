@@ -1,9 +1,10 @@
 //! Operations that make states for sets of documents.
 
 ghost use Rattle.std.specs.Prelude.{◌≡◌, ◌↔◌, ◌+◌, ◌≤◌, ◌||◌, true, length, IfOk, OnErr, OnOk};
+ghost use Rattle.std.specs.List.{All, list_any};
 ghost use Rattle.xd_doc.specs.Document.{Document};
 ghost use Rattle.xd_auto.specs.Automaton.{Extends, IsJoined, IsState, IsWrapped, KeepsAccepting, accepts, state_number};
-ghost use Rattle.xd_auto.specs.Copying.{IsAround, IsCopyOf, IsEither, IsReached};
+ghost use Rattle.xd_auto.specs.Copying.{AreUnited, IsAround, IsCopyOf, IsReached};
 
 use super::copying::{add_moves, copy_states, reach_from, without_copies};
 use super::{Auto, LabelMove, Moves, State};
@@ -24,10 +25,25 @@ impl Auto {
         ensures extends { Extends self.old self.new }
         ensures keeps { KeepsAccepting self.old self.new }
     {
+        self.unite(&[one, two])
+    }
+
+    /// A state that accepts what some of these states accept.
+    ///
+    /// It adds one state, which has copies of their moves.
+    pub fn unite(&mut self, states: &[State]) -> Result<State, NoMemory>
+        requires { All (IsState self.old) states.now }
+        ensures ok { IfOk result (λ made. (d : Document) → accepts self.new d made ≡ list_any (accepts self.old d) states.now) }
+        ensures belongs { IfOk result (IsState self.new) }
+        ensures count { OnOk result (length self.new ≡ length self.old + 1) }
+        ensures err { OnErr result (self.new ≡ self.old) }
+        ensures extends { Extends self.old self.new }
+        ensures keeps { KeepsAccepting self.old self.new }
+    {
         let number = self.len();
         let alloc = *self.states.allocator();
         let mut made = Vec::new(alloc);
-        made.push(either(alloc, self, one, two)?)?;
+        made.push(moves_of_all(alloc, self, states)?)?;
         self.extend(made)?;
         Ok(State { number })
     }
@@ -112,16 +128,18 @@ impl Auto {
     }
 }
 
-/// The moves of two states.
-fn either(alloc: Global, auto: &Auto, one: State, two: State) -> Result<Moves, NoMemory>
-    requires one { IsState auto.now one }
-    requires two { IsState auto.now two }
-    ensures { IfOk result (IsEither auto.now one two) }
+/// The moves of all these states.
+fn moves_of_all(alloc: Global, auto: &Auto, states: &[State]) -> Result<Moves, NoMemory>
+    requires { All (IsState auto.now) states.now }
+    ensures { IfOk result (AreUnited auto.now states.now) }
 {
-    let mut made = Moves::new(alloc, auto.is_last(one) || auto.is_last(two));
     let none = without_copies(alloc);
-    add_moves(&mut made, auto, one, &none, &none)?;
-    add_moves(&mut made, auto, two, &none, &none)?;
+    let mut made = Moves::new(alloc, false);
+    for state in states {
+        let last = made.last | auto.is_last(*state);
+        made.set_last(last);
+        add_moves(&mut made, auto, *state, &none, &none)?;
+    }
     Ok(made)
 }
 
