@@ -109,27 +109,29 @@ module _ (a b : Automaton) (more : Extends a b) (keep : KeepsAccepting a b) wher
 
   pub stands-extends : length a ≤ length b → (ds : List Document) (t : TableView) → StandsOn a ds t → StandsOn b ds t
   stands-extends longer ds t h = record {
-    states = record { each = λ i lt. let r = h.states.each i lt in record { left = let l = r.left in omega (arith, longer, l); rights = below_more (length a) (length b) longer _ r.rights } };
-    unlike = h.unlike;
+    facts = record {
+      states = record { each = λ i lt. let r = h.facts.states.each i lt in record { left = let l = r.left in omega (arith, longer, l); rights = below_more (length a) (length b) longer _ r.rights } };
+      unlike = h.facts.unlike;
+      choices = λ i place k e. ⊎_elim
+          (λ lt. let r = h.facts.states.each i lt in choice-extends (claim_of (row_at t.rows i)) r.left r.rights t (goal_case i place) k (h.facts.choices i place k e))
+          (λ ge. absurd (none_at (row_at t.rows i).choices place k (past_is_new t.rows i ge).choices e))
+          (cases_lt i (length t.rows));
+      flags = h.facts.flags;
+      unbroken = h.facts.unbroken;
+      begun = λ i n. ⊎_elim
+          (λ lt. let r = h.facts.states.each i lt in begun-extends (claim_of (row_at t.rows i)) r.left r.rights (row_at t.rows i).choices (h.facts.begun i n))
+          (λ ge. absurd (n (past_is_new t.rows i ge).choices))
+          (cases_lt i (length t.rows));
+      holds = λ i e. ⊎_elim
+          (λ lt. let r = h.facts.states.each i lt in let k = h.facts.holds i e in record {
+            begun = begun-extends (claim_of (row_at t.rows i)) r.left r.rights (row_at t.rows i).choices k.begun;
+            opens = k.opens;
+          })
+          (λ ge. let w = (past_is_new t.rows i ge).standing in absurd (cc))
+          (cases_lt i (length t.rows));
+    };
     refuted = λ i seq e. ⊎_elim
-        (λ lt. let r = h.states.each i lt in separated-extends (claim_of (row_at t.rows i)) r.left r.rights ds seq (h.refuted i seq e))
-        (λ ge. let w = (past_is_new t.rows i ge).standing in absurd (cc))
-        (cases_lt i (length t.rows));
-    choices = λ i place k e. ⊎_elim
-        (λ lt. let r = h.states.each i lt in choice-extends (claim_of (row_at t.rows i)) r.left r.rights t (goal_case i place) k (h.choices i place k e))
-        (λ ge. absurd (none_at (row_at t.rows i).choices place k (past_is_new t.rows i ge).choices e))
-        (cases_lt i (length t.rows));
-    flags = h.flags;
-    unbroken = h.unbroken;
-    begun = λ i n. ⊎_elim
-        (λ lt. let r = h.states.each i lt in begun-extends (claim_of (row_at t.rows i)) r.left r.rights (row_at t.rows i).choices (h.begun i n))
-        (λ ge. absurd (n (past_is_new t.rows i ge).choices))
-        (cases_lt i (length t.rows));
-    holds = λ i e. ⊎_elim
-        (λ lt. let r = h.states.each i lt in let k = h.holds i e in record {
-          begun = begun-extends (claim_of (row_at t.rows i)) r.left r.rights (row_at t.rows i).choices k.begun;
-          opens = k.opens;
-        })
+        (λ lt. let r = h.facts.states.each i lt in separated-extends (claim_of (row_at t.rows i)) r.left r.rights ds seq (h.refuted i seq e))
         (λ ge. let w = (past_is_new t.rows i ge).standing in absurd (cc))
         (cases_lt i (length t.rows));
   }

@@ -15,7 +15,7 @@ use Rattle.xd_goals.specs.Moves.{Accepts, claim_with}
 use Rattle.xd_goals.specs.Rows.{GoalRow, TableView, row_at, claim_of, claim_key, goal_case, no_view, IsRefuted, IsUnbroken, RowsBelow}
 use Rattle.xd_goals.specs.Kept.{GrowsBy, IsIndexed, found_at}
 use Rattle.xd_goals.specs.Trees.{IsTreeBySort}
-use Rattle.xd_goals.specs.Standing.{AreSeparated, ChoiceStands, IsBegun, IsCaseTree, IsOpen, IsSeparatedBy, RowHolds, StandsOn, KeepsGoals, task_for, claim_sides}
+use Rattle.xd_goals.specs.Standing.{AreSeparated, ChoiceStands, IsBegun, IsCaseTree, IsOpen, IsSeparatedBy, RowHolds, StandsOn, StandsOnAutomaton, KeepsGoals, task_for, claim_sides}
 use Rattle.xd_goals.specs.declared.table.Choice.{Choice}
 use Rattle.xd_goals.specs.declared.table.GoalCase.{GoalCase}
 use Rattle.xd_goals.specs.declared.table.Standing.TheVariants.{Holds}
@@ -55,8 +55,8 @@ all_both P Q R (x ∷ xs) f h k = (f x h.0 k.0, all_both P Q R xs f h.1 k.1)
 abbrev pub StandsSomewhere : Automaton → TableView → Claim State → Choice → Type 0
 StandsSomewhere a t c k = (owner : GoalCase) × ChoiceStands a t owner c k
 
-pub choices_stand : (a : Automaton) (ds : List Document) (t : TableView) → StandsOn a ds t → (i : ℕ) → AllByRecursion (StandsSomewhere a t (claim_of (row_at t.rows i))) (row_at t.rows i).choices
-choices_stand a ds t h i = all_places (StandsSomewhere a t (claim_of (row_at t.rows i))) (row_at t.rows i).choices (λ place k e. (goal_case i place, h.choices i place k e))
+pub choices_stand : (a : Automaton) (t : TableView) → StandsOnAutomaton a t → (i : ℕ) → AllByRecursion (StandsSomewhere a t (claim_of (row_at t.rows i))) (row_at t.rows i).choices
+choices_stand a t h i = all_places (StandsSomewhere a t (claim_of (row_at t.rows i))) (row_at t.rows i).choices (λ place k e. (goal_case i place, h.choices i place k e))
 
 -- no two goals are alike, since the map tells them apart
 pub unlike_index : (found : BTreeMap (List ℕ) ℕ) (rows : List GoalRow) → IsIndexed found rows → (i j : ℕ) → i < length rows → j < length rows → claim_of (row_at rows i) ≡ claim_of (row_at rows j) → i ≡ j
@@ -80,46 +80,45 @@ separated-grows a ds t u g h i seq e =
     (cases_lt i (length t.rows))
 
 -- of a goal that was not there nothing is known
-module _ {A : List State → Type 0} (a : Automaton) (ds : List Document) (t u : TableView) (g : GrowsBy A t u) where
+module _ {A : List State → Type 0} (a : Automaton) (t u : TableView) (g : GrowsBy A t u) where
   holds_there : (i : ℕ) → (row_at t.rows i).standing ≡ Holds → i < length t.rows
   holds_there i e = ⊎_elim (λ lt. lt) (λ ge. let w = (past_is_new t.rows i ge).standing in absurd (cc)) (cases_lt i (length t.rows))
 
   was_choice : (i place : ℕ) (k : Choice) → slice_get (row_at u.rows i).choices place ≡ Some k → slice_get (row_at t.rows i).choices place ≡ Some k
   was_choice i place k e = subst (λ (ks : List Choice). slice_get ks place ≡ Some k) (choices-grows t u g i) e
 
-  choices_at : StandsOn a ds t → (i place : ℕ) (k : Choice) → slice_get (row_at u.rows i).choices place ≡ Some k → ChoiceStands a u (goal_case i place) (claim_of (row_at u.rows i)) k
+  choices_at : StandsOnAutomaton a t → (i place : ℕ) (k : Choice) → slice_get (row_at u.rows i).choices place ≡ Some k → ChoiceStands a u (goal_case i place) (claim_of (row_at u.rows i)) k
   choices_at h i place k e = ⊎_elim
       (λ lt. subst (λ (c : Claim State). ChoiceStands a u (goal_case i place) c k) (sym (claim-grows t u g i lt))
       (choice-grows a t u g (goal_case i place) (claim_of (row_at t.rows i)) k (h.choices i place k (was_choice i place k e))))
       (λ ge. absurd (none_at (row_at u.rows i).choices place k (g.added i ge).choices e))
       (cases_lt i (length t.rows))
 
-  unbroken_at : StandsOn a ds t → (i place : ℕ) (k : Choice) → slice_get (row_at u.rows i).choices place ≡ Some k → IsUnbroken (row_at u.rows i) place → IsOpen u k
+  unbroken_at : StandsOnAutomaton a t → (i place : ℕ) (k : Choice) → slice_get (row_at u.rows i).choices place ≡ Some k → IsUnbroken (row_at u.rows i) place → IsOpen u k
   unbroken_at h i place k e b =
       let was = was_choice i place k e in
       open_choice-grows a t u g (goal_case i place) (claim_of (row_at t.rows i)) k (h.choices i place k was)
       (h.unbroken i place k was (subst (λ (flags : List Bool). slice_get flags place ≡ Some false) (broken-grows t u g i) b))
 
-  row_holds : StandsOn a ds t → (i : ℕ) → (row_at t.rows i).standing ≡ Holds → RowHolds a u (claim_of (row_at t.rows i)) (row_at t.rows i).choices
+  row_holds : StandsOnAutomaton a t → (i : ℕ) → (row_at t.rows i).standing ≡ Holds → RowHolds a u (claim_of (row_at t.rows i)) (row_at t.rows i).choices
   row_holds h i e = let r = h.holds i e in record {
     begun = r.begun;
     opens = all_places (IsOpen u) (row_at t.rows i).choices
         (λ place k e. open_choice-grows a t u g (goal_case i place) (claim_of (row_at t.rows i)) k (h.choices i place k e) (all_at (IsOpen t) (row_at t.rows i).choices place k r.opens e));
   }
 
-  begun_at : StandsOn a ds t → (i : ℕ) → ¬ ((row_at u.rows i).choices ≡ []) → IsBegun a (claim_of (row_at u.rows i)) (row_at u.rows i).choices
+  begun_at : StandsOnAutomaton a t → (i : ℕ) → ¬ ((row_at u.rows i).choices ≡ []) → IsBegun a (claim_of (row_at u.rows i)) (row_at u.rows i).choices
   begun_at h i n = ⊎_elim
       (λ lt. subst (λ (ks : List Choice). IsBegun a (claim_of (row_at u.rows i)) ks) (sym (choices-grows t u g i))
       (subst (λ (c : Claim State). IsBegun a c (row_at t.rows i).choices) (sym (claim-grows t u g i lt)) (h.begun i (λ e. n (choices-grows t u g i ∙ e)))))
       (λ ge. absurd (n (g.added i ge).choices))
       (cases_lt i (length t.rows))
 
-  pub stands-grows : RowsBelow (length a) u.rows → ((i j : ℕ) → i < length u.rows → j < length u.rows → claim_of (row_at u.rows i) ≡ claim_of (row_at u.rows j) → i ≡ j)
-      → StandsOn a ds t → StandsOn a ds u
-  stands-grows states unlike h = record {
+  pub facts-grows : RowsBelow (length a) u.rows → ((i j : ℕ) → i < length u.rows → j < length u.rows → claim_of (row_at u.rows i) ≡ claim_of (row_at u.rows j) → i ≡ j)
+      → StandsOnAutomaton a t → StandsOnAutomaton a u
+  facts-grows states unlike h = record {
     states = states;
     unlike = unlike;
-    refuted = separated-grows a ds t u g h.refuted;
     choices = choices_at h;
     begun = begun_at h;
     flags = λ i. ap length (broken-grows t u g i) ∙ h.flags i ∙ sym (ap length (choices-grows t u g i));
@@ -150,13 +149,7 @@ keeps-then ds es fs h k = record { belongs = λ s b. k.belongs s (h.belongs s b)
 
 pub stands-keeps : (a : Automaton) (ds es : List Document) (t : TableView) → Keeps ds es → StandsOn a ds t → StandsOn a es t
 stands-keeps a ds es t k h = record {
-  states = h.states;
-  unlike = h.unlike;
-  choices = h.choices;
-  begun = h.begun;
-  flags = h.flags;
-  unbroken = h.unbroken;
-  holds = h.holds;
+  facts = h.facts;
   refuted = λ i seq e. let s = h.refuted i seq e in record {
     belongs = k.belongs seq s.belongs;
     separates = subst (λ (d : Document). Separates (Accepts a) (claim_of (row_at t.rows i)) d) (sym (k.same seq s.belongs)) s.separates;
@@ -166,12 +159,14 @@ stands-keeps a ds es t k h = record {
 -- a table with no goal
 pub stands-none : (a : Automaton) (ds : List Document) → StandsOn a ds no_view
 stands-none a ds = record {
-  states = record { each = λ i lt. absurd (omega arith) };
-  unlike = λ i j li lj e. absurd (omega arith);
+  facts = record {
+    states = record { each = λ i lt. absurd (omega arith) };
+    unlike = λ i j li lj e. absurd (omega arith);
+    choices = λ i place k e. absurd (none_at (row_at [] i).choices place k (past_is_new [] i (omega arith)).choices e);
+    begun = λ i n. absurd (n (past_is_new [] i (omega arith)).choices);
+    flags = λ i. ap length (past_is_new [] i (omega arith)).broken ∙ sym (ap length (past_is_new [] i (omega arith)).choices);
+    unbroken = λ i place k e b. absurd (none_at (row_at [] i).choices place k (past_is_new [] i (omega arith)).choices e);
+    holds = λ i e. let w = (past_is_new [] i (omega arith)).standing in absurd (cc);
+  };
   refuted = λ i seq e. let w = (past_is_new [] i (omega arith)).standing in absurd (cc);
-  choices = λ i place k e. absurd (none_at (row_at [] i).choices place k (past_is_new [] i (omega arith)).choices e);
-  begun = λ i n. absurd (n (past_is_new [] i (omega arith)).choices);
-  flags = λ i. ap length (past_is_new [] i (omega arith)).broken ∙ sym (ap length (past_is_new [] i (omega arith)).choices);
-  unbroken = λ i place k e b. absurd (none_at (row_at [] i).choices place k (past_is_new [] i (omega arith)).choices e);
-  holds = λ i e. let w = (past_is_new [] i (omega arith)).standing in absurd (cc);
 }

@@ -1,9 +1,7 @@
 -- Lists by places.
-use Rattle.std.proofs.Common.{ℕ, zero, suc, ◌+◌, ◌<◌, ◌≡◌, Bool, true, false, List, [], ◌∷◌, ◌++◌, length, take, map, get_or, set, Some, ◌⊎◌, inl, inr, ⊎_elim, refl, sym, ap, ◌∙◌, subst, arith}
-use Rattle.std.specs.List.{slice_get, AllByRecursion, flat_map}
-use Rattle.std.proofs.lemmas.Bool.{cases_eq}
-use Rattle.std.proofs.lemmas.List.{take_more, append-nil, map-append}
-use Rattle.std.proofs.lemmas.Grind.{flat_map-append}
+use Rattle.std.proofs.Common.{ℕ, zero, suc, ◌+◌, ◌<◌, ◌≡◌, List, [], ◌∷◌, ◌++◌, length, take, map, get_or, set, Some, ◌⊎◌, inl, inr, ⊎_elim, refl, sym, ap, ◌∙◌, subst, arith}
+use Rattle.std.specs.List.{slice_get, AllByRecursion}
+use Rattle.std.proofs.lemmas.List.{take_more, map-append}
 use Rattle.xd_rules.specs.Members.{IsOneOf}
 
 pub slice_get-append : {X : Type 0} (xs ys : List X) (n : ℕ) (x : X) → slice_get xs n ≡ Some x → slice_get (xs ++ ys) n ≡ Some x
@@ -44,11 +42,6 @@ all_get P (y ∷ xs) (suc i) d h lt = all_get P xs i d h.1 (omega arith)
 -- one more element of a mapped front
 pub map-take_more : {X Y : Type 0} (f : X → Y) (xs : List X) (i : ℕ) (x : X) → i < length xs → x ≡ get_or xs i x → map f (take (i + 1) xs) ≡ map f (take i xs) ++ f x ∷ []
 map-take_more {X} {Y} f xs i x lt e = ap (map f) (take_more xs i x lt) ∙ map-append f (take i xs) (get_or xs i x ∷ []) ∙ ap (λ (y : X). map f (take i xs) ++ f y ∷ []) (sym e)
-
-pub flat_map-take_more : {X Y : Type 0} (f : X → List Y) (xs : List X) (i : ℕ) (x : X) → i < length xs → x ≡ get_or xs i x → flat_map f (take (i + 1) xs) ≡ flat_map f (take i xs) ++ f x
-flat_map-take_more {X} {Y} f xs i x lt e =
-    ap (flat_map f) (take_more xs i x lt) ∙ flat_map-append f (take i xs) (get_or xs i x ∷ [])
-    ∙ ap (λ (ys : List Y). flat_map f (take i xs) ++ ys) (append-nil (f (get_or xs i x))) ∙ ap (λ (y : X). flat_map f (take i xs) ++ f y) (sym e)
 
 pub one_of-get : {X : Type 0} (xs : List X) (i : ℕ) (x : X) → i < length xs → x ≡ get_or xs i x → IsOneOf x xs
 one_of-get [] i x lt e = absurd (omega arith)
@@ -97,13 +90,3 @@ pub set-map : {X Y : Type 0} (f : X → Y) (xs : List X) (n : ℕ) (x y : X) →
 set-map f [] n x y e same = refl
 set-map {X} {Y} f (z ∷ xs) zero x y e same = let is : z ≡ x = cc in ap (λ (w : Y). w ∷ map f xs) (same ∙ ap f (sym is))
 set-map {X} {Y} f (z ∷ xs) (suc n) x y e same = ap (λ (ws : List Y). f z ∷ ws) (set-map f xs n x y e same)
-
--- a flag that was set
-pub flag_set : (flags : List Bool) (n : ℕ) → ¬ (slice_get (set flags n true) n ≡ Some false)
-flag_set flags n e = let is : true ≡ false = set_here flags n true false e in cc
-
-pub flag_was : (flags : List Bool) (n m : ℕ) → slice_get (set flags n true) m ≡ Some false → slice_get flags m ≡ Some false
-flag_was flags n m e = ⊎_elim
-    (λ q. absurd (flag_set flags n (subst (λ (k : ℕ). slice_get (set flags n true) k ≡ Some false) q e)))
-    (λ ne. set_there flags n m true false ne e)
-    (cases_eq m n)

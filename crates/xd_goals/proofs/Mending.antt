@@ -11,7 +11,7 @@ use Rattle.xd_rules.specs.Rules.{Claim}
 use Rattle.xd_goals.specs.Rows.{GoalRow, TableView, choice_key, claim_of, goal_case, no_row, row_at, IsUnbroken}
 use Rattle.xd_goals.specs.Kept.{AreLinked, Grows, IsConsistent, IsIndexed, view_of, with_choice, with_standing}
 use Rattle.xd_goals.specs.declared.goals.Goals.{Goals}
-use Rattle.xd_goals.specs.Standing.{ChoiceStands, IsBegun, IsOpen, StandsOn}
+use Rattle.xd_goals.specs.Standing.{ChoiceStands, IsBegun, IsOpen, StandsOn, StandsOnAutomaton}
 use Rattle.xd_goals.specs.Cases.{IsMended, IsMending, IsOpenChoice}
 use Rattle.xd_goals.specs.declared.work.Failure.{Failure}
 use Rattle.xd_goals.specs.Measure.{Lowers}
@@ -86,7 +86,7 @@ module _ (a : Automaton) (ds : List Document) (rows : List GoalRow) (nodes : Lis
 
   begun_same : IsBegun a (claim_of (row_at rows goal)) (set (row_at rows goal).choices place changed)
   begun_same =
-      let b = stands.begun goal (λ z. none_at (row_at rows goal).choices place k z found) in
+      let b = stands.facts.begun goal (λ z. none_at (row_at rows goal).choices place k z found) in
       record { last = b.last; named = b.named; names = b.names; complete = keys_same ∙ b.complete }
 
   module _ (opens : IsOpenChoice a (record { rows = rows; nodes = nodes; links = links }) (goal_case goal place) (claim_of (row_at rows goal)) (record k { root = root })) where
@@ -96,13 +96,13 @@ module _ (a : Automaton) (ds : List Document) (rows : List GoalRow) (nodes : Lis
         (λ p x e. ⊎_elim
         (λ q. at_place p x q e (λ (w : Choice). ChoiceStands a before (goal_case goal p) (claim_of (row_at rows goal)) w)
         (subst (λ (n : ℕ). ChoiceStands a before (goal_case goal n) (claim_of (row_at rows goal)) changed) (sym q) opens.stands))
-        (λ ne. stands.choices goal p x (set_there (row_at rows goal).choices place p changed x ne e))
+        (λ ne. stands.facts.choices goal p x (set_there (row_at rows goal).choices place p changed x ne e))
         (cases_eq p place))
         (λ n. begun_same)
-        (length-set (row_at rows goal).broken place false ∙ stands.flags goal ∙ sym (length-set (row_at rows goal).choices place changed))
+        (length-set (row_at rows goal).broken place false ∙ stands.facts.flags goal ∙ sym (length-set (row_at rows goal).choices place changed))
         (λ p x e u. ⊎_elim
         (λ q. at_place p x q e (λ (w : Choice). IsOpen before w) opens.opens)
-        (λ ne. stands.unbroken goal p x (set_there (row_at rows goal).choices place p changed x ne e) (set_there (row_at rows goal).broken place p false false ne u))
+        (λ ne. stands.facts.unbroken goal p x (set_there (row_at rows goal).choices place p changed x ne e) (set_there (row_at rows goal).broken place p false false ne u))
         (cases_eq p place))
         (λ e. absurd (held e))
         stands
@@ -154,11 +154,11 @@ module _ (a : Automaton) (ds : List Document) (t : TableView) (goal : ℕ) (lt :
       → IsStep a ds t (record { rows = set t.rows goal (with_standing Holds (row_at t.rows goal)); nodes = t.nodes; links = t.links })
   holds_again begun unbroken =
       step_held a ds t.rows t.nodes t.links goal (with_standing Holds (row_at t.rows goal)) lt waits refl refl refl
-      (stands.choices goal) (stands.flags goal)
+      (stands.facts.choices goal) (stands.facts.flags goal)
       (record {
-        begun = stands.begun goal begun;
+        begun = stands.facts.begun goal begun;
         opens = all_places (IsOpen t) (row_at t.rows goal).choices
-            (λ place k e. stands.unbroken goal place k e (unbroken place (let n = slice_get_within (row_at t.rows goal).choices place k e in let f = stands.flags goal in omega arith)));
+            (λ place k e. stands.facts.unbroken goal place k e (unbroken place (let n = slice_get_within (row_at t.rows goal).choices place k e in let f = stands.facts.flags goal in omega arith)));
       })
       stands
 
@@ -215,7 +215,7 @@ module _ (a : Automaton) (ds : List Document) (g h : Goals) (grows : Grows (view
   pub repaired_unbroken : IsUnbroken (row_at rows owner.goal.number) owner.place
   repaired_unbroken = subst (λ (rs : List GoalRow). IsUnbroken (row_at rs owner.goal.number) owner.place) (sym is)
       (unbroken_now a ds h.rows.items h.nodes.items h.links.items owner.goal.number owner.place k root there waits_still found_still stands_still
-      (let f = stands_still.flags owner.goal.number in let n = slice_get_within (row_at h.rows.items owner.goal.number).choices owner.place k found_still in omega arith))
+      (let f = stands_still.facts.flags owner.goal.number in let n = slice_get_within (row_at h.rows.items owner.goal.number).choices owner.place k found_still in omega arith))
 
 -- where no case failed, this one was repaired
 pub mended_none : (a : Automaton) (ds : List Document) (t : TableView) (owner : GoalCase) (o : Option Failure) → ((f : Failure) → o ≡ Some f → ⊥) → IsMended a ds t owner o → IsUnbroken (row_at t.rows owner.goal.number) owner.place
@@ -223,17 +223,17 @@ mended_none a ds t owner None n h = h
 mended_none a ds t owner (Some f) n h = absurd (n f refl)
 
 -- a goal that was begun has its choices still
-pub begun_still : (a : Automaton) (ds es : List Document) (goal : ℕ) (s t : TableView) → StandsOn a ds s → StandsOn a es t → IsMending goal s t → ¬ ((row_at s.rows goal).choices ≡ []) → ¬ ((row_at t.rows goal).choices ≡ [])
-begun_still a ds es goal s t hs ht m begun e =
+pub begun_still : (a : Automaton) (goal : ℕ) (s t : TableView) → StandsOnAutomaton a s → StandsOnAutomaton a t → IsMending goal s t → ¬ ((row_at s.rows goal).choices ≡ []) → ¬ ((row_at t.rows goal).choices ≡ [])
+begun_still a goal s t hs ht m begun e =
     let n = ap length e in let f = hs.flags goal in let g = ht.flags goal in let k = m.flags in
     begun (no_length (row_at s.rows goal).choices (omega arith))
 
 -- all cases were repaired
-module _ (a : Automaton) (ds es : List Document) (goal : ℕ) (s t : TableView) (lt : goal < length s.rows) (waits : (row_at s.rows goal).standing ≡ Waiting) (begun : ¬ ((row_at s.rows goal).choices ≡ []))
-    (was : StandsOn a ds s) (stands : StandsOn a es t) (m : IsMending goal s t) (unbroken : (place : ℕ) → place < length (row_at t.rows goal).broken → IsUnbroken (row_at t.rows goal) place) where
+module _ (a : Automaton) (ds : List Document) (goal : ℕ) (s t : TableView) (lt : goal < length s.rows) (waits : (row_at s.rows goal).standing ≡ Waiting) (begun : ¬ ((row_at s.rows goal).choices ≡ []))
+    (was : StandsOnAutomaton a s) (stands : StandsOn a ds t) (m : IsMending goal s t) (unbroken : (place : ℕ) → place < length (row_at t.rows goal).broken → IsUnbroken (row_at t.rows goal) place) where
   pub repaired_same : SameGoals t.rows (set t.rows goal (with_standing Holds (row_at t.rows goal)))
-  repaired_same = same_again a es t goal (omega (arith, m.kept.longer, lt)) (m.standing ∙ waits) stands
+  repaired_same = same_again a ds t goal (omega (arith, m.kept.longer, lt)) (m.standing ∙ waits) stands
 
-  pub repaired_step : IsStep a es s (record { rows = set t.rows goal (with_standing Holds (row_at t.rows goal)); nodes = t.nodes; links = t.links })
-  repaired_step = step_mended a es goal s t (record { rows = set t.rows goal (with_standing Holds (row_at t.rows goal)); nodes = t.nodes; links = t.links }) m
-      (holds_again a es t goal (omega (arith, m.kept.longer, lt)) (m.standing ∙ waits) stands (begun_still a ds es goal s t was stands m begun) unbroken)
+  pub repaired_step : IsStep a ds s (record { rows = set t.rows goal (with_standing Holds (row_at t.rows goal)); nodes = t.nodes; links = t.links })
+  repaired_step = step_mended a ds goal s t (record { rows = set t.rows goal (with_standing Holds (row_at t.rows goal)); nodes = t.nodes; links = t.links }) m
+      (holds_again a ds t goal (omega (arith, m.kept.longer, lt)) (m.standing ∙ waits) stands (begun_still a goal s t was stands.facts m begun) unbroken)

@@ -1,5 +1,5 @@
 -- Goals that are reached through leaves.
-use Rattle.std.proofs.Common.{ℕ, zero, suc, ◌+◌, ◌<◌, ◌≤◌, ◌≡◌, Bool, true, false, Some, List, [], ◌∷◌, ◌++◌, length, get_or, set, get_or-set_same, get_or-set_other, ◌⊎◌, inl, inr, ⊎_elim, refl, sym, ap, ◌∙◌, subst, arith, length-append, length-set, take}
+use Rattle.std.proofs.Common.{ℕ, zero, suc, ◌+◌, ◌<◌, ◌≡◌, Bool, true, false, Some, List, [], ◌∷◌, ◌++◌, length, get_or, set, get_or-set_same, get_or-set_other, ◌⊎◌, inl, inr, ⊎_elim, sym, ap, ◌∙◌, subst, arith, length-append, length-set, take}
 use Rattle.std.specs.List.{slice_get, AllByRecursion}
 use Rattle.std.proofs.lemmas.Bool.{cases_lt, cases_eq}
 use Rattle.std.proofs.lemmas.List.{get_or_past, get_or_append_left, get_or_default, take_more}
@@ -7,7 +7,7 @@ use Rattle.std.proofs.Math.Seq.{get_or-append_seam}
 use Rattle.xd_rules.specs.Rules.{ChoiceTree, ContentLeaf, RestLeaf, SplitOn, AllLeaves}
 use Rattle.xd_goals.specs.Rows.{GoalRow, TableView, IsRefuted, row_at}
 use Rattle.xd_goals.specs.Trees.{StandsAt}
-use Rattle.xd_goals.specs.Reached.{is_marked, HasLeaf, IsLeafAt, IsWaitingIn, LeadsToMarked, HasTreeWithin, unmarked, ReachesMore, IsWalked, IsSettled}
+use Rattle.xd_goals.specs.Reached.{is_marked, HasLeaf, IsLeafAt, IsWaitingIn, LeadsToMarked, HasTreeWithin, unmarked, ReachesMore, IsWalked}
 use Rattle.xd_goals.specs.Standing.{IsOpen}
 use Rattle.xd_rules.specs.Members.{IsOneOf, SomeOf}
 use Rattle.xd_rules.proofs.Members.{one_of-all}
@@ -30,9 +30,6 @@ unmarked-set (false ∷ ms) (suc g) lt e = let h = unmarked-set ms g (omega arit
 
 pub marked_within : (marks : List Bool) (g : ℕ) → is_marked marks g ≡ true → g < length marks
 marked_within marks g e = ⊎_elim (λ lt. lt) (λ ge. let n : is_marked marks g ≡ false = get_or_past marks g false ge in absurd (cc)) (cases_lt g (length marks))
-
-pub reaches-same : (marks : List Bool) (order : List ℕ) → ReachesMore marks order marks order
-reaches-same marks order = record { sized = refl; kept = λ g h. h; longer = omega arith; front = λ k lt. refl; fewer = refl; marked = λ h. h; ordered = λ h. h }
 
 pub reaches-then : (m : List Bool) (o : List ℕ) (m2 : List Bool) (o2 : List ℕ) (m3 : List Bool) (o3 : List ℕ) → ReachesMore m o m2 o2 → ReachesMore m2 o2 m3 o3 → ReachesMore m o m3 o3
 reaches-then m o m2 o2 m3 o3 h k = record {
@@ -190,20 +187,6 @@ only_more nodes ks i k m m2 m3 lt e one two g is = ⊎_elim (λ a. one g a) (λ 
 
 -- the walk begins at a goal, goes on, and ends
 module _ (t : TableView) (start : ℕ) where
-  pub walk_start : (m0 marks : List Bool) (o0 order : List ℕ) (waiting : List GoalId) → length m0 ≡ length t.rows → ((g : ℕ) → is_marked m0 g ≡ false) → o0 ≡ [] → waiting ≡ [] → ReachesMore m0 o0 marks order → is_marked marks start ≡ true
-      → MarksOnly m0 marks (λ g. start ≡ g) → ¬ (IsRefuted t.rows start) → IsWalked t start waiting marks order 0
-  walk_start m0 marks o0 order waiting n none e w h s only open_ = record {
-    sized = h.sized ∙ n;
-    started = s;
-    marked = h.marked (λ k lt. let z = ap length e in absurd (omega arith));
-    ordered = h.ordered (λ g m. let no' = none g in absurd (cc));
-    within = omega arith;
-    open_ = λ g m. ⊎_elim (λ old. let no' = none g in absurd (cc)) (λ q. subst (λ (k : ℕ). ¬ (IsRefuted t.rows k)) q open_) (only g m);
-    waits = rw w tt;
-    holds = λ z k lt. absurd (omega arith);
-    leads = λ z k lt. absurd (omega arith);
-  }
-
   pub walk_step : (waiting : List GoalId) (marks marks2 : List Bool) (order order2 : List ℕ) (next : ℕ) → IsWalked t start waiting marks order next → next < length order → ReachesMore marks order marks2 order2
       → MarksOnly marks marks2 (λ g. ¬ (IsRefuted t.rows g))
       → (row_at t.rows (get_or order next 0)).standing ≡ Holds → AllByRecursion (LeadsToMarked t.nodes marks2) (row_at t.rows (get_or order next 0)).choices → IsWalked t start waiting marks2 order2 (next + 1)
@@ -224,14 +207,6 @@ module _ (t : TableView) (start : ℕ) where
         (leads-more t.nodes marks marks2 (row_at t.rows (get_or order k 0)).choices h.kept (w.leads z k a)))
         (λ b. let q : k ≡ next = omega arith in subst (λ (g : ℕ). AllByRecursion (LeadsToMarked t.nodes marks2) (row_at t.rows g).choices) (sym (ap (λ (n : ℕ). get_or order2 n 0) q ∙ h.front next lt)) leads)
         (cases_lt k next);
-  }
-
-  pub walk_end : (waiting : List GoalId) (marks : List Bool) (order : List ℕ) (next : ℕ) → IsWalked t start waiting marks order next → length order ≤ next → waiting ≡ [] → IsSettled t start
-  walk_end waiting marks order next w le z = record {
-    marks = marks;
-    start = w.started;
-    holds = λ g m. let o = w.ordered g m in subst (λ (n : ℕ). (row_at t.rows n).standing ≡ Holds) o.2 (w.holds z o.0 (omega (arith, o.1)));
-    leads = λ g m. let o = w.ordered g m in subst (λ (n : ℕ). AllByRecursion (LeadsToMarked t.nodes marks) (row_at t.rows n).choices) o.2 (w.leads z o.0 (omega (arith, o.1)));
   }
 
   pub walk_number : (waiting : List GoalId) (marks : List Bool) (order : List ℕ) (next n : ℕ) → IsWalked t start waiting marks order next → next < length order → n ≡ get_or order next n → n < length t.rows

@@ -81,15 +81,17 @@ module _ (a : Automaton) (old new : List GoalRow) (nodes : List ChoiceNode) (lin
       → ((i : ℕ) → (row_at new i).standing ≡ Holds → RowHolds a after (claim_of (row_at old i)) (row_at new i).choices)
       → StandsOn a ds after
   stands_same ds h choices refuted begun flags unbroken holds = record {
-    states = states_same (length a) h.states;
-    unlike = unlike_same h.unlike;
+    facts = record {
+      states = states_same (length a) h.facts.states;
+      unlike = unlike_same h.facts.unlike;
+      choices = λ i place k e. subst (λ (c : Claim State). ChoiceStands a after (goal_case i place) c k) (sym (same.claims i))
+          (choice_same (goal_case i place) (claim_of (row_at old i)) k (choices i place k e));
+      begun = λ i n. subst (λ (c : Claim State). IsBegun a c (row_at new i).choices) (sym (same.claims i)) (begun i n);
+      flags = flags;
+      unbroken = unbroken;
+      holds = λ i e. subst (λ (c : Claim State). RowHolds a after c (row_at new i).choices) (sym (same.claims i)) (holds i e);
+    };
     refuted = λ i seq e. subst (λ (c : Claim State). IsSeparatedBy a ds c seq) (sym (same.claims i)) (refuted i seq e);
-    choices = λ i place k e. subst (λ (c : Claim State). ChoiceStands a after (goal_case i place) c k) (sym (same.claims i))
-        (choice_same (goal_case i place) (claim_of (row_at old i)) k (choices i place k e));
-    begun = λ i n. subst (λ (c : Claim State). IsBegun a c (row_at new i).choices) (sym (same.claims i)) (begun i n);
-    flags = flags;
-    unbroken = unbroken;
-    holds = λ i e. subst (λ (c : Claim State). RowHolds a after c (row_at new i).choices) (sym (same.claims i)) (holds i e);
   }
 
   -- trees whose leaves are neither refuted before nor the goal that is refuted now
@@ -132,7 +134,7 @@ module _ (a : Automaton) (ds : List Document) (old new : List GoalRow) (nodes : 
   pub stands-refuted : IsSeparatedBy a ds (claim_of (row_at old goal)) seq → StandsOn a ds (record { rows = old; nodes = nodes; links = links }) → StandsOn a ds (record { rows = new; nodes = nodes; links = links })
   stands-refuted doc h =
       stands_same a old new nodes links refutes_same ds h
-      (λ i place k e. h.choices i place k (was_choice i place k e))
+      (λ i place k e. h.facts.choices i place k (was_choice i place k e))
       (λ i s e. ⊎_elim
       (λ q.
       let x : (row_at new i).standing ≡ Refuted seq = ap (λ (k : ℕ). (row_at new k).standing) q ∙ r.goal_is in
@@ -140,19 +142,19 @@ module _ (a : Automaton) (ds : List Document) (old new : List GoalRow) (nodes : 
       subst (λ (w : Seq). IsSeparatedBy a ds (claim_of (row_at old i)) w) ss (subst (λ (k : ℕ). IsSeparatedBy a ds (claim_of (row_at old k)) seq) (sym q) doc))
       (λ ne. h.refuted i s (was_refuted i s ne e))
       (cases_eq i goal))
-      (λ i n. subst (λ (ks : List Choice). IsBegun a (claim_of (row_at old i)) ks) (sym (r.same i).choices) (h.begun i (λ e. n ((r.same i).choices ∙ e))))
-      (λ i. (r.same i).flags ∙ h.flags i ∙ sym (ap length (r.same i).choices))
+      (λ i n. subst (λ (ks : List Choice). IsBegun a (claim_of (row_at old i)) ks) (sym (r.same i).choices) (h.facts.begun i (λ e. n ((r.same i).choices ∙ e))))
+      (λ i. (r.same i).flags ∙ h.facts.flags i ∙ sym (ap length (r.same i).choices))
       (λ i place k e u.
       let was = was_choice i place k e in
       open_same a old new nodes links refutes_same (goal_case i place) (claim_of (row_at old i)) k
       (λ g l n x. still_open g n x (λ q. (r.dependents (goal_case i place) (subst (λ (m : ℕ). Leads links (goal_case i place) (row_at old m).dependents) q l)).broken u))
-      (h.choices i place k was) (h.unbroken i place k was ((r.same i).unbroken place u)))
+      (h.facts.choices i place k was) (h.facts.unbroken i place k was ((r.same i).unbroken place u)))
       (λ i e.
       let w = held i e in
       subst (λ (ks : List Choice). RowHolds a (record { rows = new; nodes = nodes; links = links }) (claim_of (row_at old i)) ks) (sym (r.same i).choices)
       (holds_same a old new nodes links refutes_same i (claim_of (row_at old i)) (row_at old i).choices
       (λ place g l n x. still_open g n x (λ q. (r.dependents (goal_case i place) (subst (λ (m : ℕ). Leads links (goal_case i place) (row_at old m).dependents) q l)).settled e))
-      (λ place k x. h.choices i place k x) (h.holds i w.1)))
+      (λ place k x. h.facts.choices i place k x) (h.facts.holds i w.1)))
     where
       refuted_one : (s : Standing) (x y : Seq) → s ≡ Refuted x → s ≡ Refuted y → x ≡ y
       refuted_one s x y e f = cc
@@ -195,16 +197,16 @@ module _ (a : Automaton) (ds : List Document) (old : List GoalRow) (nodes : List
   stands-changed stand begun flags unbroken holds h =
       stands_same a old new_rows nodes links changed_same ds h
       (by_row (λ i r. (place : ℕ) (k : Choice) → slice_get r.choices place ≡ Some k → ChoiceStands a (record { rows = old; nodes = nodes; links = links }) (goal_case i place) (claim_of (row_at old i)) k)
-      stand (λ i ne. h.choices i))
+      stand (λ i ne. h.facts.choices i))
       (by_row (λ i r. (seq : Seq) → r.standing ≡ Refuted seq → IsSeparatedBy a ds (claim_of (row_at old i)) seq) (λ seq e. absurd (unrefuted seq e)) (λ i ne seq e. h.refuted i seq e))
-      (by_row (λ i r. ¬ (r.choices ≡ []) → IsBegun a (claim_of (row_at old i)) r.choices) begun (λ i ne n. h.begun i n))
-      (by_row (λ i r. length r.broken ≡ length r.choices) flags (λ i ne. h.flags i))
+      (by_row (λ i r. ¬ (r.choices ≡ []) → IsBegun a (claim_of (row_at old i)) r.choices) begun (λ i ne n. h.facts.begun i n))
+      (by_row (λ i r. length r.broken ≡ length r.choices) flags (λ i ne. h.facts.flags i))
       (by_row (λ i r. (place : ℕ) (k : Choice) → slice_get r.choices place ≡ Some k → IsUnbroken r place → IsOpen (record { rows = new_rows; nodes = nodes; links = links }) k)
       (λ place k e u. open_now goal place k (stand place k e) (unbroken place k e u))
-      (λ i ne place k e u. open_now i place k (h.choices i place k e) (h.unbroken i place k e u)))
+      (λ i ne place k e u. open_now i place k (h.facts.choices i place k e) (h.facts.unbroken i place k e u)))
       (by_row (λ i r. r.standing ≡ Holds → RowHolds a (record { rows = new_rows; nodes = nodes; links = links }) (claim_of (row_at old i)) r.choices)
       (λ e. holds_same a old new_rows nodes links changed_same goal (claim_of (row_at old goal)) row.choices (λ place g l n. still_open g n) stand (holds e))
-      (λ i ne e. holds_same a old new_rows nodes links changed_same i (claim_of (row_at old i)) (row_at old i).choices (λ place g l n. still_open g n) (h.choices i) (h.holds i e)))
+      (λ i ne e. holds_same a old new_rows nodes links changed_same i (claim_of (row_at old i)) (row_at old i).choices (λ place g l n. still_open g n) (h.facts.choices i) (h.facts.holds i e)))
     where
       open_now : (i place : ℕ) (k : Choice) → ChoiceStands a (record { rows = old; nodes = nodes; links = links }) (goal_case i place) (claim_of (row_at old i)) k
           → IsOpen (record { rows = old; nodes = nodes; links = links }) k → IsOpen (record { rows = new_rows; nodes = nodes; links = links }) k

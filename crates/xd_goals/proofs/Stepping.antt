@@ -12,7 +12,7 @@ use Rattle.xd_rules.specs.Rules.{Claim}
 use Rattle.xd_goals.specs.Moves.{claim_with, is_last_in}
 use Rattle.xd_goals.specs.Rows.{GoalRow, TableView, no_row, claim_at, claim_of, claim_key, goal_case, row_at}
 use Rattle.xd_goals.specs.Kept.{AreLinked, Grows, GrowsBy, IsConsistent, IsIndexed, IsWhole, Refutes, found_at, view_of}
-use Rattle.xd_goals.specs.Standing.{ChoiceStands, IsOpen, IsSeparatedBy, KeepsGoals, RowHolds, StandsOn}
+use Rattle.xd_goals.specs.Standing.{ChoiceStands, IsOpen, IsSeparatedBy, KeepsGoals, RowHolds, StandsOn, StandsOnAutomaton}
 use Rattle.xd_goals.specs.Cases.{AreSettled}
 use Rattle.xd_goals.specs.Measure.{AreMadeFrom, Lowers, possible}
 use Rattle.xd_goals.specs.Reached.{HasTreeWithin, HaveTreesWithin, IsSettled, IsWaitingIn}
@@ -24,7 +24,7 @@ use Rattle.xd_goals.specs.declared.table.Choice.{Choice}
 use Rattle.xd_goals.specs.declared.table.ChoiceNode.{ChoiceNode}
 use Rattle.xd_goals.specs.declared.table.Link.{Link}
 use Rattle.xd_goals.specs.declared.table.Standing.TheVariants.{Holds, Refuted, Waiting}
-use Rattle.xd_goals.proofs.Facts.{keeps_goals-grows, keeps_goals-then, claim-grows, stands-grows, unlike_index}
+use Rattle.xd_goals.proofs.Facts.{facts-grows, keeps_goals-grows, keeps_goals-then, claim-grows, separated-grows, unlike_index}
 use Rattle.xd_goals.proofs.Settling.{SameGoals, changed_same, refutes_same, stands-changed, stands-refuted}
 use Rattle.xd_goals.proofs.Measuring.{rows_bound, lowers-grown, lowers-held, lowers-refuted, made-grows, made-then}
 use Rattle.xd_goals.proofs.Working.{leaves_there, settled_holds}
@@ -124,7 +124,10 @@ module _ (a : Automaton) (ds : List Document) (old : List GoalRow) (nodes : List
 
 -- the facts while the table grew
 pub stands_grown : {A : List State → Type 0} (a : Automaton) (ds : List Document) (g h : Goals) → GrowsBy A (view_of g) (view_of h) → IsConsistent (length a) h → StandsOn a ds (view_of g) → StandsOn a ds (view_of h)
-stands_grown a ds g h grows k s = stands-grows a ds (view_of g) (view_of h) grows k.states (unlike_index h.found h.rows.items k.index) s
+stands_grown a ds g h grows k s = record {
+  facts = facts-grows a (view_of g) (view_of h) grows k.states (unlike_index h.found h.rows.items k.index) s.facts;
+  refuted = separated-grows a ds (view_of g) (view_of h) grows s.refuted;
+}
 
 -- a goal's claim while the table grew
 pub owner_claim : (s t : TableView) → Grows s t → (i : ℕ) (c : Claim State) → i < length s.rows → claim_of (row_at s.rows i) ≡ c → claim_of (row_at t.rows i) ≡ c
@@ -148,8 +151,8 @@ same_held_by a ds t goal made broken lt waits =
     same_held a ds t.rows t.nodes t.links goal (record (row_at t.rows goal) { standing = Holds; choices = made; broken = broken }) lt waits refl refl refl
 
 -- a table has no more goals than its first ones and the possible ones
-pub bounded : (a : Automaton) (ds : List Document) (first : ℕ) (t : TableView) → StandsOn a ds t → AreMadeFrom first t.rows → first ≤ length t.rows → length t.rows ≤ first + length (possible (length a))
-bounded a ds first t h made le = rows_bound (length a) first t.rows h.states h.unlike made le
+pub bounded : (a : Automaton) (first : ℕ) (t : TableView) → StandsOnAutomaton a t → AreMadeFrom first t.rows → first ≤ length t.rows → length t.rows ≤ first + length (possible (length a))
+bounded a first t h made le = rows_bound (length a) first t.rows h.states h.unlike made le
 
 -- the asked goal was found or added
 module _ {A : List State → Type 0} (a : Automaton) (ds : List Document) (g h : Goals) (grows : GrowsBy A (view_of g) (view_of h)) (consistent : IsConsistent (length a) h) (stands : StandsOn a ds (view_of g)) where
@@ -169,8 +172,8 @@ pub keeps-same : (ds : List Document) → Keeps ds ds
 keeps-same ds = record { belongs = λ s b. b; same = λ s b. refl }
 
 -- trees of a table that stands name goals that are there
-pub trees_there : (a : Automaton) (ds : List Document) (t : TableView) → StandsOn a ds t → (i : ℕ) → HaveTreesWithin t.nodes (length t.rows) (row_at t.rows i).choices
-trees_there a ds t h i =
+pub trees_there : (a : Automaton) (t : TableView) → StandsOnAutomaton a t → (i : ℕ) → HaveTreesWithin t.nodes (length t.rows) (row_at t.rows i).choices
+trees_there a t h i =
     all_places (λ (k : Choice). HasTreeWithin t.nodes (length t.rows) k.root) (row_at t.rows i).choices
     (λ place k e. leaves_there a t (goal_case i place) (claim_of (row_at t.rows i)) k (h.choices i place k e))
 
@@ -178,10 +181,10 @@ trees_there a ds t h i =
 pub asked_separated : (a : Automaton) (ds : List Document) (t : TableView) (goal : ℕ) (c : Claim State) (seq : Seq) → StandsOn a ds t → claim_at t.rows goal ≡ Some c → (row_at t.rows goal).standing ≡ Refuted seq → IsSeparatedBy a ds c seq
 asked_separated a ds t goal c seq h e r = subst (λ (x : Claim State). IsSeparatedBy a ds x seq) (claim_within t.rows goal c e).1 (h.refuted goal seq r)
 
-pub asked_included : (a : Automaton) (ds : List Document) (t : TableView) (goal : ℕ) (left : State) (rights : List State) → StandsOn a ds t → claim_at t.rows goal ≡ Some (claim_with left rights) → IsSettled t goal
+pub asked_included : (a : Automaton) (t : TableView) (goal : ℕ) (left : State) (rights : List State) → StandsOnAutomaton a t → claim_at t.rows goal ≡ Some (claim_with left rights) → IsSettled t goal
     → IsIncluded a left rights × IsProved t left rights goal
-asked_included a ds t goal left rights h e s =
-    (settled_is_included a ds t h goal s left rights e, record { there = (claim_within t.rows goal (claim_with left rights) e).0; claim = e; holds = s.holds goal s.start; settled = s })
+asked_included a t goal left rights h e s =
+    (settled_is_included a t h goal s left rights e, record { there = (claim_within t.rows goal (claim_with left rights) e).0; claim = e; holds = s.holds goal s.start; settled = s })
 
 -- the asked goal's claim stays
 pub claim_stays : (s t : TableView) → KeepsGoals s t → (goal : ℕ) (c : Claim State) → claim_at s.rows goal ≡ Some c → claim_at t.rows goal ≡ Some c

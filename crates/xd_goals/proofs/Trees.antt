@@ -6,11 +6,11 @@ use Rattle.std.proofs.lemmas.Option.{slice_get_within}
 use Rattle.xd_doc.specs.declared.store.Seq.{Seq}
 use Rattle.xd_auto.specs.declared.auto.State.{State}
 use Rattle.xd_rules.specs.Members.{IsOneOf}
-use Rattle.xd_rules.specs.Rules.{Claim, ChoiceTree, ContentLeaf, RestLeaf, SplitOn, AllLeaves}
+use Rattle.xd_rules.specs.Rules.{ChoiceTree, ContentLeaf, RestLeaf, SplitOn, AllLeaves}
 use Rattle.xd_goals.specs.Moves.{AreBelow, IsInOrder, RiseFrom, claim_with, with_state}
 use Rattle.xd_goals.specs.Rows.{GoalRow, TableView, row_at, claim_at, IsListed, IsRefuted}
 use Rattle.xd_goals.specs.Kept.{Grows, GrowsBy}
-use Rattle.xd_goals.specs.Trees.{StandsAt, IsGrown, IsTextTree, HasTree, HasOpenTree, IsRefutedBy, IsFree, IsLeafFor, IsPathBelow, IsSplitAt, GrownAs, gathered}
+use Rattle.xd_goals.specs.Trees.{StandsAt, IsGrown, IsTextTree, HasTree, HasOpenTree, IsFree, IsLeafFor, IsPathBelow, IsSplitAt, gathered}
 use Rattle.xd_goals.specs.declared.table.ChoiceNode.{ChoiceNode}
 use Rattle.xd_goals.specs.declared.table.ChoiceNode.TheVariants.{Split, Content, Rest}
 use Rattle.xd_goals.specs.declared.table.Standing.{Standing}
@@ -19,8 +19,6 @@ use Rattle.xd_goals.specs.declared.table.GoalCase.{GoalCase}
 use Rattle.xd_goals.specs.declared.table.GoalId.{GoalId}
 use Rattle.xd_goals.specs.declared.heads.Side.{Side}
 use Rattle.xd_goals.specs.declared.grow.Task.{Task}
-use Rattle.xd_goals.specs.declared.grow.Grown.{Grown}
-use Rattle.xd_goals.specs.declared.grow.Grown.TheVariants.{Stands, Fails}
 use Rattle.std.proofs.lemmas.Bool.Decides.{Decides-eqb, Decides-ltb}
 use Rattle.xd_goals.proofs.Lists.{all_at}
 use Rattle.xd_goals.proofs.Growing.{claim_at-grows, past_is_new}
@@ -122,9 +120,6 @@ HasOpenTree-grows s t h Kind Kind2 f owner root k = record {
   has = HasTree-grows s t h Kind Kind2 f owner root k.has;
   open_ = AllLeaves-map (λ g. ¬ (IsRefuted s.rows g)) (λ g. ¬ (IsRefuted t.rows g)) (λ g n. open-grows s t h g n) k.has.tree k.open_;
 }
-
-pub IsRefutedBy-grows : {A : List State → Type 0} (s t : TableView) → GrowsBy A s t → (c : Claim State) (seq : Seq) → IsRefutedBy s.rows c seq → IsRefutedBy t.rows c seq
-IsRefutedBy-grows s t h c seq k = record { goal = k.goal; claim = claim_at-grows s t h k.goal c k.claim; refuted = standing-grows s t h k.goal ∙ k.refuted }
 
 -- goals with the same standing
 pub not_refuted : (rows : List GoalRow) (g : ℕ) → ((row_at rows g).standing ≡ Holds) ⊎ ((row_at rows g).standing ≡ Waiting) → ¬ (IsRefuted rows g)
@@ -273,16 +268,6 @@ module _ (sides : List Side) (contents rests : List State) (side : Side) (place 
 -- a goal whose standing was read, and isn't a refutation
 pub read_open : (rows : List GoalRow) (g : ℕ) (s : Standing) → s ≡ (row_at rows g).standing → ((seq : Seq) → s ≡ Refuted seq → ⊥) → ¬ (IsRefuted rows g)
 read_open rows g s e n r = n r.0 (e ∙ r.1)
-
-pub read_refuted : {A : List State → Type 0} (s t : TableView) → GrowsBy A s t → (owner : GoalCase) (c : Claim State) (g : GoalId) (st : Standing) (seq : Seq) → IsLeafFor s owner c g.number → st ≡ (row_at s.rows g.number).standing → st ≡ Refuted seq
-    → IsRefutedBy t.rows c seq
-read_refuted s t h owner c g st seq l e r = IsRefutedBy-grows s t h c seq (record { goal = g.number; claim = l.claim; refuted = sym e ∙ r })
-
-pub grown_stands : (P : ℕ → Type 0) (Q : Seq → Seq → Type 0) (r : Grown) (root : ℕ) → r ≡ Stands root → GrownAs P Q r → P root
-grown_stands P Q r root e h = let F : Grown → Type 0 = λ w. GrownAs P Q w in subst F e h
-
-pub grown_fails : (P : ℕ → Type 0) (Q : Seq → Seq → Type 0) (r : Grown) (inside behind : Seq) → r ≡ Fails inside behind → GrownAs P Q r → Q inside behind
-grown_fails P Q r inside behind e h = let F : Grown → Type 0 = λ w. GrownAs P Q w in subst F e h
 
 -- the node of a tree is there
 pub StandsAt-within : (nodes : List ChoiceNode) (tree : ChoiceTree) (n : ℕ) → StandsAt nodes n tree → n < length nodes

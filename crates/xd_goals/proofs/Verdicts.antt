@@ -22,7 +22,7 @@ use Rattle.xd_goals.specs.Moves.{Accepts, claim_with, heads_of, is_last_in}
 use Rattle.xd_goals.specs.Rows.{TableView, row_at, claim_of, claim_at, choice_key}
 use Rattle.xd_goals.specs.Trees.{IsFailure, IsFailureBySort, IsTextFailure, IsRefutedBy, gathered, takes}
 use Rattle.xd_goals.specs.declared.heads.Side.{Side}
-use Rattle.xd_goals.specs.Standing.{IsSeparatedBy, StandsOn, claim_sides, task_for}
+use Rattle.xd_goals.specs.Standing.{IsSeparatedBy, StandsOn, StandsOnAutomaton, claim_sides, task_for}
 use Rattle.xd_goals.specs.Reached.{is_marked, LeadsToMarked, IsSettled}
 use Rattle.xd_goals.specs.Truth.{IsIncluded, KeepsRules}
 use Rattle.xd_goals.specs.Cases.{BeginsAs, FailsAt, names_in}
@@ -35,7 +35,7 @@ use Rattle.xd_goals.proofs.Facts.{StandsSomewhere, choices_stand}
 use Rattle.xd_goals.proofs.Keeping.{case_keeps, side_of_head, gathered-has}
 use Rattle.xd_goals.proofs.Meaning.{automaton_meaning}
 
-module _ (a : Automaton) (ds : List Document) (t : TableView) (stands : StandsOn a ds t) where
+module _ (a : Automaton) (t : TableView) (stands : StandsOnAutomaton a t) where
   cases_of : (c : Claim State) (ks : List Choice) → AllByRecursion (StandsSomewhere a t c) ks → List Case
   cases_of c [] h = []
   cases_of c (k ∷ ks) h = record { head = k.head; atom = k.atom; tree = h.0.1.has.tree } ∷ cases_of c ks h.1
@@ -66,7 +66,7 @@ module _ (a : Automaton) (ds : List Document) (t : TableView) (stands : StandsOn
       let r = stands.holds g (s.holds g m) in
       let c = claim_of (row_at t.rows g) in
       let ks = (row_at t.rows g).choices in
-      let stand = choices_stand a ds t stands g in
+      let stand = choices_stand a t stands g in
       record {
         claim = c;
         cases = cases_of c ks stand;
@@ -86,11 +86,11 @@ module _ (a : Automaton) (ds : List Document) (t : TableView) (stands : StandsOn
   settled_is_included goal s left rights e d =
       holds (Accepts a) (heads_of a) (is_last_in a) (automaton_meaning a) (claim_at t.rows) (λ k. is_marked s.marks k ≡ true) (λ g m. row_is goal s g m) d goal s.start (claim_with left rights) e
 
-  -- the document of a refuted goal
-  pub refuted_by : (c : Claim State) (seq : Seq) → IsRefutedBy t.rows c seq → IsSeparatedBy a ds c seq
-  refuted_by c seq h =
-      let w = claim_within t.rows h.goal c h.claim in
-      subst (λ (x : Claim State). IsSeparatedBy a ds x seq) w.1 (stands.refuted h.goal seq h.refuted)
+-- the document of a refuted goal
+pub refuted_by : (a : Automaton) (ds : List Document) (t : TableView) → StandsOn a ds t → (c : Claim State) (seq : Seq) → IsRefutedBy t.rows c seq → IsSeparatedBy a ds c seq
+refuted_by a ds t stands c seq h =
+    let w = claim_within t.rows h.goal c h.claim in
+    subst (λ (x : Claim State). IsSeparatedBy a ds x seq) w.1 (stands.refuted h.goal seq h.refuted)
 
 none_accepts : (a : Automaton) (c : Claim State) (d : Document) → Separates (Accepts a) c d → (states : List State) → ((s : State) → IsOneOf s states → IsOneOf s c.rights) → NoneOf (λ s. Accepts a s d) states
 none_accepts a c d h [] f = tt
@@ -194,8 +194,8 @@ empty_separates a c left rights =
         go false q p rec = (q, rec p)
 
 -- the choice trees of a table that stands keep the rules
-pub choices_keep : (a : Automaton) (ds : List Document) (t : TableView) → StandsOn a ds t → (i : ℕ) → AllByRecursion (KeepsRules a t (claim_of (row_at t.rows i))) (row_at t.rows i).choices
-choices_keep a ds t h i =
+pub choices_keep : (a : Automaton) (t : TableView) → StandsOnAutomaton a t → (i : ℕ) → AllByRecursion (KeepsRules a t (claim_of (row_at t.rows i))) (row_at t.rows i).choices
+choices_keep a t h i =
     all_map (StandsSomewhere a t (claim_of (row_at t.rows i))) (KeepsRules a t (claim_of (row_at t.rows i))) (row_at t.rows i).choices
     (λ k s. let x = s.1 in record {
       head = x.head;
@@ -204,7 +204,7 @@ choices_keep a ds t h i =
       stands = x.has.stands;
       keeps = case_keeps t.rows a s.0 (claim_of (row_at t.rows i)) x.head k.atom x.has.tree x.has.kind;
     })
-    (choices_stand a ds t h i)
+    (choices_stand a t h i)
 
 pub empty_separated : (a : Automaton) (ds : List Document) (c : Claim State) (seq : Seq) → seq ≡ no_items → is_last_in a c.left ≡ true → list_any (is_last_in a) c.rights ≡ false → IsSeparatedBy a ds c seq
 empty_separated a ds c seq e left rights = rw e (record {

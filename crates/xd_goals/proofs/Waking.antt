@@ -1,12 +1,11 @@
 -- How goals that held come to wait.
 use Rattle.std.proofs.Common.{ℕ, suc, ◌<◌, ◌≡◌, ◌⊎◌, List, length, set, get_or-set_same, get_or-set_other, Option, Some, None, inl, inr, ⊎_elim, refl, sym, ap, ◌∙◌, subst, arith, length-set}
-use Rattle.std.specs.List.{slice_get}
 use Rattle.std.proofs.lemmas.Bool.{cases_eq}
 use Rattle.xd_doc.specs.Stored.{IsBelow}
 use Rattle.xd_doc.specs.declared.store.Seq.{Seq}
-use Rattle.xd_goals.specs.Rows.{GoalRow, no_row, row_at, Leads, here, behind}
+use Rattle.xd_goals.specs.Rows.{GoalRow, no_row, row_at, Leads}
 use Rattle.xd_goals.specs.Kept.{IsInDoubt, IsSameClaim, IsWoken, IsWokenRow, Refutes, with_standing}
-use Rattle.xd_goals.specs.declared.table.Standing.TheVariants.{Holds, Refuted, Waiting}
+use Rattle.xd_goals.specs.declared.table.Standing.TheVariants.{Holds, Refuted}
 use Rattle.xd_goals.specs.declared.table.GoalCase.{GoalCase}
 use Rattle.xd_goals.specs.declared.table.Link.{Link}
 
@@ -44,60 +43,6 @@ same_claim_then a b c h k = record {
   flags = k.flags ∙ h.flags;
   unbroken = λ place u. h.unbroken place (k.unbroken place u);
 }
-
-woken_then : (a b c : GoalRow) → IsWokenRow a b → IsWokenRow b c → IsWokenRow a c
-woken_then a b c h k = ⊎_elim
-    (λ s. ⊎_elim (λ t. inl (t ∙ s)) (λ w. inr (sym s ∙ w.0, w.1)) k)
-    (λ v. ⊎_elim (λ t. inr (v.0, t ∙ v.1)) (λ w. absurd (two_standings b v.1 w.0)) k)
-    h
-  where
-    two_standings : (r : GoalRow) → r.standing ≡ Waiting → r.standing ≡ Holds → ⊥
-    two_standings r e f = cc
-
-still_not : (a b : GoalRow) → IsWokenRow a b → ¬ (a.standing ≡ Holds) → ¬ (b.standing ≡ Holds)
-still_not a b h n f = ⊎_elim (λ s. n (sym s ∙ f)) (λ w. n w.0) h
-
-still_in_doubt : (a b : GoalRow) (place : ℕ) → IsWokenRow a b → IsSameClaim a b → IsInDoubt a place → IsInDoubt b place
-still_in_doubt a b place w s d = record { settled = still_not a b w d.settled; broken = λ u. d.broken (s.unbroken place u) }
-
--- the list's next link
-pub Leads-next : (links : List Link) (goal : GoalCase) (place : ℕ) (link : Link) → slice_get links place ≡ Some link → Leads links goal (Some place) → (link.case ≡ goal) ⊎ Leads links goal link.next
-Leads-next links goal place link at h = by_cases (Some place) h refl
-  where
-    by_cases : (o : Option ℕ) → Leads links goal o → o ≡ Some place → (link.case ≡ goal) ⊎ Leads links goal link.next
-    by_cases o (here k l found is) e =
-        let n : k ≡ place = cc in
-        let same : l ≡ link = cc in
-        inl (subst (λ (w : Link). w.case ≡ goal) same is)
-    by_cases o (behind k l found b) e =
-        let n : k ≡ place = cc in
-        let same : l ≡ link = cc in
-        inr (subst (λ (w : Link). Leads links goal w.next) same b)
-
-pub WakesTo-step : (links : List Link) (first : Option ℕ) (place : ℕ) (link : Link) (old mid new : List GoalRow) → slice_get links place ≡ Some link
-    → IsBelow (length links) link.next → WakesTo links first (Some place) old mid → IsWoken (λ k. k ≡ link.case) mid new → WakesTo links first link.next old new
-WakesTo-step links first place link old mid new at below h k = record {
-  count = k.count ∙ h.count;
-  same = λ i. same_claim_then (row_at old i) (row_at mid i) (row_at new i) (h.same i) (k.same i);
-  others = λ i. woken_then (row_at old i) (row_at mid i) (row_at new i) (h.others i) (k.others i);
-  done = λ i l. ⊎_elim
-      (λ n. inl (still_in_doubt (row_at mid i.goal.number) (row_at new i.goal.number) i.place (k.others i.goal.number) (k.same i.goal.number) n))
-      (λ m. ⊎_elim (λ is. inl (k.these i (sym is))) (λ r. inr r) (Leads-next links i place link at m))
-      (h.done i l);
-  place = below;
-}
-
-pub WakesTo-end : (links : List Link) (first : Option ℕ) (old new : List GoalRow) → WakesTo links first None old new → IsWoken (λ k. Leads links k first) old new
-WakesTo-end links first old new h = record {
-  count = h.count;
-  same = h.same;
-  others = h.others;
-  these = λ i l. ⊎_elim (λ n. n) (λ m. absurd (leads_none None refl m)) (h.done i l);
-}
-  where
-    leads_none : (o : Option ℕ) → o ≡ None → {i : GoalCase} → Leads links i o → ⊥
-    leads_none o e (here k l at is) = absurd (cc)
-    leads_none o e (behind k l at b) = absurd (cc)
 
 -- the goal's standing is set, and then its dependents wait
 pub Refutes-steps : (links : List Link) (goal : ℕ) (seq : Seq) (old mid new : List GoalRow) → goal < length old → mid ≡ set old goal (with_standing (Refuted seq) (row_at old goal))

@@ -62,16 +62,20 @@ pub record RowHolds (a : Automaton) (t : TableView) (c : Claim State) (choices :
   pub begun : IsBegun a c choices
   pub opens : AllByRecursion (IsOpen t) choices
 
--- the table stands on the automaton and the store
-pub record StandsOn (a : Automaton) (ds : List Document) (t : TableView) : Type 0 where
+-- the table stands on the automaton: the facts that name no document
+pub record StandsOnAutomaton (a : Automaton) (t : TableView) : Type 0 where
   pub states : RowsBelow (length a) t.rows
   pub unlike : (i j : ℕ) → i < length t.rows → j < length t.rows → claim_of (row_at t.rows i) ≡ claim_of (row_at t.rows j) → i ≡ j
-  pub refuted : AreSeparated a ds t.rows
   pub choices : (i place : ℕ) (k : Choice) → slice_get (row_at t.rows i).choices place ≡ Some k → ChoiceStands a t (goal_case i place) (claim_of (row_at t.rows i)) k
   pub begun : (i : ℕ) → ¬ ((row_at t.rows i).choices ≡ []) → IsBegun a (claim_of (row_at t.rows i)) (row_at t.rows i).choices
   pub flags : (i : ℕ) → length (row_at t.rows i).broken ≡ length (row_at t.rows i).choices
   pub unbroken : (i place : ℕ) (k : Choice) → slice_get (row_at t.rows i).choices place ≡ Some k → IsUnbroken (row_at t.rows i) place → IsOpen t k
   pub holds : (i : ℕ) → (row_at t.rows i).standing ≡ Holds → RowHolds a t (claim_of (row_at t.rows i)) (row_at t.rows i).choices
+
+-- the table stands on the automaton and the store
+pub record StandsOn (a : Automaton) (ds : List Document) (t : TableView) : Type 0 where
+  pub facts : StandsOnAutomaton a t
+  pub refuted : AreSeparated a ds t.rows
 
 -- goals stay, with their states, and those that are refuted stay so
 pub record KeepsGoals (old new : TableView) : Type 0 where

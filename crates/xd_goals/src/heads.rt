@@ -1,16 +1,19 @@
 //! Heads of states, as a case of a goal sees them.
 
-ghost use Rattle.std.specs.Prelude.{◌≡◌, ◌+◌, ◌<◌, ◌≤◌, ◌^◌, ◌++◌, length, map, slice_index_or, IfOk, OnOk, true};
+ghost use Rattle.std.specs.Prelude.{◌≡◌, ◌+◌, ◌<◌, ◌≤◌, ◌^◌, ◌++◌, Bool, length, map, refl, slice_index_or, IfOk, OnOk, true};
 ghost use Rattle.std.specs.List.{AllByRecursion, flat_map};
-ghost use Rattle.xd_auto.specs.Automaton.{IsState, moves_at};
-ghost use Rattle.xd_rules.specs.Heads.{AreNames, IsSorted, element_in, is_text_atom, text_in};
+ghost use Rattle.std.specs.Option.{IfSome, unwrap_or};
+ghost use Rattle.xd_auto.specs.Automaton.{IsNext, IsState, has_label, has_text, moves_at};
+ghost use Rattle.xd_auto.specs.declared.auto.State.{State};
+ghost use Rattle.xd_rules.specs.declared.atom.Atom.{Atom};
+ghost use Rattle.xd_rules.specs.Heads.{AreNames, Head, IsSorted, element_in, is_text_atom, matches, text_in};
 ghost use Rattle.xd_goals.specs.Moves.{heads_of, label_head, text_head};
-ghost use Rattle.xd_goals.specs.Trees.{matching_sides};
+ghost use Rattle.xd_goals.specs.Trees.{matching_sides, side_at};
 ghost use Rattle.xd_rules.specs.Listed.{AreAmong};
 ghost use Rattle.xd_goals.specs.Cases.{HasHead, IsHeadNamed, head_labels, head_texts, names_in, want_at, wants_at, wants_of};
 
 use std::alloc::Global;
-use xd_auto::{Auto, State};
+use xd_auto::{Auto, LabelMove, Move, State, TextMove};
 use xd_doc::{Class, Label, NoMemory, Text, Words};
 use xd_rules::{Atom, label_atoms, text_atoms};
 
@@ -63,107 +66,142 @@ pub(crate) fn share(atom: &Atom) -> Result<Atom, NoMemory>
     }
 }
 
-/// Puts the heads of a state that take a label behind the others, where so many heads stand before
+/// A move as a head, and the atoms of its kind.
+trait Headed: Move {
+    /// What its class names: labels or texts.
+    type Name;
+
+    /// Its head.
+    ghost head: { Self → Head State };
+
+    /// The atom of a name.
+    ghost named: { Self.Name → Atom };
+
+    /// The atom of those that nothing names.
+    ghost others: { Atom };
+
+    /// Whether it takes the name.
+    ghost takes: { Self → Self.Name → Bool };
+
+    /// The number of the first of the state's moves, from this number on, that takes the name.
+    fn next(auto: &Auto, state: State, name: &Self::Name, from: usize) -> Option<usize>
+        requires state { IsState auto.now state }
+        requires from { from ≤ length (Self.moves_in (moves_at auto.now state)) }
+        ensures next { IsNext takes (Self.moves_in (moves_at auto.now state)) name.now from (unwrap_or result (length (Self.moves_in (moves_at auto.now state)))) }
+        ensures some { IfSome result (λ number. number < length (Self.moves_in (moves_at auto.now state))) };
+
+    /// Whether it takes what nothing names.
+    fn takes_others(&self) -> bool
+        ensures { result ≡ matches (head self.now).kind others };
+
+    /// Its head as a right one of this number.
+    fn side(&self, number: usize) -> Side
+        ensures { result ≡ side_at number (head self.now) };
+
+    /// It takes a name where its head matches the atom.
+    ghost matches_named: { (step : Self) (name : Self.Name) → takes step name ≡ matches (head step).kind (named name) };
+}
+
+impl Headed for LabelMove {
+    type Name = Label;
+
+    ghost head = { label_head };
+
+    ghost named = { λ label. Atom.Label label };
+
+    ghost others = { Atom.OtherLabel };
+
+    ghost takes = { has_label };
+
+    ghost matches_named = { λ step label. refl };
+
+    fn next(auto: &Auto, state: State, label: &Label, from: usize) -> Option<usize> {
+        auto.next_label_move(state, label, from)
+    }
+
+    fn takes_others(&self) -> bool {
+        self.class.takes_others()
+    }
+
+    fn side(&self, number: usize) -> Side {
+        Side {
+            number,
+            content: self.content,
+            rest: self.rest,
+        }
+    }
+}
+
+impl Headed for TextMove {
+    type Name = Text;
+
+    ghost head = { text_head };
+
+    ghost named = { λ text. Atom.Text text };
+
+    ghost others = { Atom.OtherText };
+
+    ghost takes = { has_text };
+
+    ghost matches_named = { λ step text. refl };
+
+    fn next(auto: &Auto, state: State, text: &Text, from: usize) -> Option<usize> {
+        auto.next_text_move(state, text, from)
+    }
+
+    fn takes_others(&self) -> bool {
+        self.words.takes_others()
+    }
+
+    fn side(&self, number: usize) -> Side {
+        Side {
+            number,
+            content: self.rest,
+            rest: self.rest,
+        }
+    }
+}
+
+/// Puts the heads of a state that take a name behind the others, where so many heads stand before
 /// them.
-fn add_with_label(
+fn add_with_name<M: Headed>(
     sides: &mut Vec<Side>,
     auto: &Auto,
     state: State,
-    label: &Label,
+    name: &M::Name,
     before: usize,
 ) -> Result<(), NoMemory>
     requires state { IsState auto.now state }
-    requires room { before + length (moves_at auto.now state).labels < 2 ^ 64 }
-    ensures { OnOk result (sides.new.items ≡ sides.old.items ++ matching_sides (Atom.Label label.now) (before + 1) (map label_head (moves_at auto.now state).labels)) }
+    requires room { before + length (M.moves_in (moves_at auto.now state)) < 2 ^ 64 }
+    ensures { OnOk result (sides.new.items ≡ sides.old.items ++ matching_sides (M.named name.now) (before + 1) (map M.head (M.moves_in (moves_at auto.now state)))) }
 {
-    let moves = auto.label_moves(state);
+    let moves = M::moves(auto, state);
     let mut from = 0;
-    while let Some(number) = auto.next_label_move(state, label, from) {
-        let step = &moves[number];
-        sides.push(Side {
-            number: before + number + 1,
-            content: step.content,
-            rest: step.rest,
-        })?;
+    while let Some(number) = M::next(auto, state, name, from) {
+        sides.push(moves[number].side(before + number + 1))?;
         from = number + 1;
     }
     Ok(())
 }
 
-/// The same for the heads that take a text.
-fn add_with_text(
-    sides: &mut Vec<Side>,
-    auto: &Auto,
-    state: State,
-    text: &Text,
-    before: usize,
-) -> Result<(), NoMemory>
-    requires state { IsState auto.now state }
-    requires room { before + length (moves_at auto.now state).texts < 2 ^ 64 }
-    ensures { OnOk result (sides.new.items ≡ sides.old.items ++ matching_sides (Atom.Text text.now) (before + 1) (map text_head (moves_at auto.now state).texts)) }
-{
-    let moves = auto.text_moves(state);
-    let mut from = 0;
-    while let Some(number) = auto.next_text_move(state, text, from) {
-        let step = &moves[number];
-        sides.push(Side {
-            number: before + number + 1,
-            content: step.rest,
-            rest: step.rest,
-        })?;
-        from = number + 1;
-    }
-    Ok(())
-}
-
-/// The same for the heads that take labels which nothing names.
-fn add_with_other_labels(
+/// The same for the heads that take what nothing names.
+fn add_with_others<M: Headed>(
     sides: &mut Vec<Side>,
     auto: &Auto,
     state: State,
     before: usize,
 ) -> Result<(), NoMemory>
     requires state { IsState auto.now state }
-    requires room { before + length (moves_at auto.now state).labels < 2 ^ 64 }
-    ensures { OnOk result (sides.new.items ≡ sides.old.items ++ matching_sides Atom.OtherLabel (before + 1) (map label_head (moves_at auto.now state).labels)) }
+    requires room { before + length (M.moves_in (moves_at auto.now state)) < 2 ^ 64 }
+    ensures { OnOk result (sides.new.items ≡ sides.old.items ++ matching_sides M.others (before + 1) (map M.head (M.moves_in (moves_at auto.now state)))) }
 {
-    let moves = auto.label_moves(state);
+    let moves = M::moves(auto, state);
     for number in 0..moves.len() {
         let step = &moves[number];
-        if !step.class.takes_others() {
+        if !step.takes_others() {
             continue;
         }
-        sides.push(Side {
-            number: before + number + 1,
-            content: step.content,
-            rest: step.rest,
-        })?;
-    }
-    Ok(())
-}
-
-/// The same for the heads that take texts which nothing names.
-fn add_with_other_texts(
-    sides: &mut Vec<Side>,
-    auto: &Auto,
-    state: State,
-    before: usize,
-) -> Result<(), NoMemory>
-    requires state { IsState auto.now state }
-    requires room { before + length (moves_at auto.now state).texts < 2 ^ 64 }
-    ensures { OnOk result (sides.new.items ≡ sides.old.items ++ matching_sides Atom.OtherText (before + 1) (map text_head (moves_at auto.now state).texts)) }
-{
-    let moves = auto.text_moves(state);
-    for number in 0..moves.len() {
-        let step = &moves[number];
-        if !step.words.takes_others() {
-            continue;
-        }
-        sides.push(Side {
-            number: before + number + 1,
-            content: step.rest,
-            rest: step.rest,
-        })?;
+        sides.push(step.side(before + number + 1))?;
     }
     Ok(())
 }
@@ -185,10 +223,10 @@ fn add_sides(
     let _texts = auto.text_moves(state);
     let behind = before + labels.len();
     match atom {
-        Atom::Label(label) => add_with_label(sides, auto, state, label, before),
-        Atom::OtherLabel => add_with_other_labels(sides, auto, state, before),
-        Atom::Text(text) => add_with_text(sides, auto, state, text, behind),
-        Atom::OtherText => add_with_other_texts(sides, auto, state, behind),
+        Atom::Label(label) => add_with_name::<LabelMove>(sides, auto, state, label, before),
+        Atom::OtherLabel => add_with_others::<LabelMove>(sides, auto, state, before),
+        Atom::Text(text) => add_with_name::<TextMove>(sides, auto, state, text, behind),
+        Atom::OtherText => add_with_others::<TextMove>(sides, auto, state, behind),
     }
 }
 

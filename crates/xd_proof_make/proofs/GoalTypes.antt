@@ -1,7 +1,6 @@
 -- The types of the goals of a proof: how deep they are, and which names they use.
 use Rattle.std.proofs.Common.{◌≡◌, ℕ, ◌≤◌, Bool, true, List, [], ◌∷◌, Option, Some, subst}
 use Rattle.std.specs.List.{AllByRecursion, AllZip}
-use Rattle.xd_doc.specs.Document.{Document}
 use Rattle.xd_syntax.specs.Tree.{Tree}
 use Rattle.xd_syntax.specs.TypeText.{depth}
 use Rattle.xd_syntax.specs.Shallow.{IsShallow, nesting_limit}
@@ -13,21 +12,17 @@ use Rattle.xd_syntax.specs.Kept.{ProgramTable, program_tree}
 use Rattle.xd_auto.specs.declared.auto.State.{State}
 use Rattle.xd_auto.specs.Automaton.{Automaton}
 use Rattle.xd_laws.specs.Consistent.{Goal}
-use Rattle.xd_laws.specs.Breach.{goals_of}
 use Rattle.xd_continuations.proofs.MoveLemmas.{all_append}
 use Rattle.xd_goals.specs.Rows.{GoalRow, TableView, row_at}
-use Rattle.xd_goals.specs.Standing.{StandsOn}
-use Rattle.xd_goals.proofs.Facts.{all_both}
+use Rattle.xd_goals.specs.Standing.{StandsOnAutomaton}
 use Rattle.xd_goals.proofs.Lists.{all_map}
 use Rattle.xd_goals.proofs.Verdicts.{choices_keep}
 use Rattle.xd_heads.specs.CellsView.{CellsView}
 use Rattle.xd_heads.specs.Mirrors.{Mirrors, continuation_of}
-use Rattle.xd_proof.specs.declared.proof.ProofGoal.{ProofGoal}
 use Rattle.xd_proof_write.specs.SecondText.{types_of}
-use Rattle.xd_proof_write.specs.Laws.{IsWritable}
 use Rattle.xd_proof_make.specs.Written.{AreTypes}
 use Rattle.xd_proof_make.specs.Met.{AreReached}
-use Rattle.xd_proof_make.specs.Made.{IsBetween, IsProofOf, UsesDefined}
+use Rattle.xd_proof_make.specs.Made.{IsBetween, UsesDefined}
 use Rattle.xd_proof_make.proofs.NamedTypes.{program_heads_named}
 use Rattle.xd_proof_make.proofs.Spreading.{HasPassing, IsPassing, row_passes, row_passes-is, row_passes-from, passing_leads}
 
@@ -73,7 +68,7 @@ zip_passing C test [] (T ∷ Ts) z h = absurd z
 zip_passing C test (s ∷ ss) [] z h = absurd z
 zip_passing C test (s ∷ ss) (T ∷ Ts) z h = ((T, z.0, h.0), zip_passing C test ss Ts z.1 h.1)
 
-module _ (p : ProgramTable) (c : CellsView) (a : Automaton) (ds : List Document) (t : TableView) (m : Mirrors p c a) (sound : IsSound (program_tree p)) (stands : StandsOn a ds t) (start : ℕ) (order numbers : List ℕ) (reached : AreReached t start order numbers) where
+module _ (p : ProgramTable) (c : CellsView) (a : Automaton) (t : TableView) (m : Mirrors p c a) (sound : IsSound (program_tree p)) (stands : StandsOnAutomaton a t) (start : ℕ) (order numbers : List ℕ) (reached : AreReached t start order numbers) where
   abbrev C : State → Option Tree
   C = continuation_of p.types c
 
@@ -84,7 +79,7 @@ module _ (p : ProgramTable) (c : CellsView) (a : Automaton) (ds : List Document)
   rows_named h =
       all_map (λ g. row_passes C test (row_at t.rows g) ≡ true) (λ g. IsPassing C test (row_at t.rows g)) order (λ g e. row_passes-is C test (row_at t.rows g) e)
       (reached.only (λ g. row_passes C test (row_at t.rows g)) (row_passes-from C test (row_at t.rows start) h)
-      (λ g e. passing_leads (names_of (program_tree p)) a C m.moves test (program_heads_named (program_tree p) sound) t g (row_at t.rows g).choices (choices_keep a ds t stands g) e))
+      (λ g e. passing_leads (names_of (program_tree p)) a C m.moves test (program_heads_named (program_tree p) sound) t g (row_at t.rows g).choices (choices_keep a t stands g) e))
 
   pub all_named : (gs : List Goal) → AllZip (λ g made. IsBetween C (row_at t.rows g) made) order gs → (claim : Goal) → C (row_at t.rows start).left ≡ Some claim.left → AreTypes C (row_at t.rows start).rights claim.rights
       → AllByRecursion (UsesDefined (program_tree p)) (claim.left ∷ claim.rights) → AllByRecursion (UsesDefined (program_tree p)) (types_of gs)
@@ -95,9 +90,3 @@ module _ (p : ProgramTable) (c : CellsView) (a : Automaton) (ds : List Document)
       order gs (rows_named ((claim.left, left, h.0), zip_passing C test (row_at t.rows start).rights claim.rights rights h.1)) z)
 
 -- ---- both
-
--- the types of a proof of a shallow program can be written, where those of its claim use defined names alone
-pub proof_types : (p : ProgramTable) (c : CellsView) (t : TableView) (goal : ℕ) (proof : List ProofGoal) (h : IsProofOf p c t goal proof) → IsShallow p.types → AllByRecursion (UsesDefined (program_tree p)) ((h.claim).left ∷ (h.claim).rights)
-    → AllByRecursion (IsWritable (known_types (program_tree p))) (types_of (goals_of h.lined))
-proof_types p c t goal proof h s n =
-    all_both (UsesDefined (program_tree p)) (λ T. depth T ≤ nesting_limit) (IsWritable (known_types (program_tree p))) (types_of (goals_of h.lined)) (λ T x y. record { names = x; shallow = y }) (h.named n) (h.shallow s)

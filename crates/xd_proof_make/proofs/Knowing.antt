@@ -66,9 +66,6 @@ mirrors_grow p q c m g = (m.0, mirrors_stay p q c m.0 m.1 g.adds g.same)
 
 -- ---- what is kept
 
-pub keeps-none : (states : List (Option Known)) → KeepsKnown states states
-keeps-none states = record { sized = refl; kept = λ s k e. e }
-
 pub keeps-then : (old mid new : List (Option Known)) → KeepsKnown old mid → KeepsKnown mid new → KeepsKnown old new
 keeps-then old mid new h k = record { sized = k.sized ∙ h.sized; kept = λ s known e. k.kept s known (h.kept s known e) }
 

@@ -41,9 +41,6 @@ unmet-set (suc m ∷ ns) (suc g) n e = unmet-set ns g n e
 
 -- ---- more are met
 
-pub meets-same : (order numbers : List ℕ) → MeetsMore order numbers order numbers
-meets-same order numbers = record { sized = refl; kept = λ g k e. e; front = λ k g e. e; numbered = λ h. h; fewer = refl }
-
 pub meets-then : (o n o2 n2 o3 n3 : List ℕ) → MeetsMore o n o2 n2 → MeetsMore o2 n2 o3 n3 → MeetsMore o n o3 n3
 meets-then o n o2 n2 o3 n3 h k = record {
   sized = k.sized ∙ h.sized;

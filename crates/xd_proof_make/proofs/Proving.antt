@@ -4,7 +4,6 @@ use Rattle.std.specs.List.{AllByRecursion, AllZip, slice_get}
 use Rattle.std.proofs.lemmas.Bool.{cases_lt}
 use Rattle.std.proofs.lemmas.List.{length-map}
 use Rattle.std.proofs.lemmas.Option.{get_or_from_slice_get, slice_get_within}
-use Rattle.xd_doc.specs.Document.{Document}
 use Rattle.xd_syntax.specs.Tree.{Tree, Definitions}
 use Rattle.xd_syntax.specs.Program.{names_of}
 use Rattle.xd_syntax.specs.RecursionFaults.{IsSound}
@@ -19,7 +18,7 @@ use Rattle.xd_rules.specs.Members.{IsOneOf}
 use Rattle.xd_rules.proofs.Members.{one_of-all, one_of-get, get-one_of}
 use Rattle.xd_goals.specs.Moves.{heads_of}
 use Rattle.xd_goals.specs.Rows.{GoalRow, TableView, row_at, claim_of, IsRowBelow}
-use Rattle.xd_goals.specs.Standing.{IsBegun, StandsOn}
+use Rattle.xd_goals.specs.Standing.{IsBegun, StandsOnAutomaton}
 use Rattle.xd_goals.specs.Reached.{IsSettled, is_marked, LeadsToMarked}
 use Rattle.xd_goals.specs.Trees.{StandsAt}
 use Rattle.xd_goals.specs.declared.table.Choice.{Choice}
@@ -87,7 +86,7 @@ pub record IsFit (a : Automaton) (t : TableView) (c : CellsView) (g : ℕ) : Typ
   pub below : IsRowBelow (length a) (row_at t.rows g)
   pub types : IsOfTypes c (row_at t.rows g)
 
-module _ (p : ProgramTable) (c : CellsView) (a : Automaton) (ds : List Document) (t : TableView) (stands : StandsOn a ds t) (start : ℕ) (order numbers : List ℕ) (reached : AreReached t start order numbers)
+module _ (p : ProgramTable) (c : CellsView) (a : Automaton) (t : TableView) (stands : StandsOnAutomaton a t) (start : ℕ) (order numbers : List ℕ) (reached : AreReached t start order numbers)
     (made : List ProofGoal) (z : AllZip (λ g m. IsGoalMade p c a t.nodes numbers (row_at t.rows g) m) order made) (m : Mirrors p c a) (sound : IsSound (program_tree p))
     (few_goals : AreFew made) (states : List (Option Known)) (few_states : AreFew states) (sized : length states ≡ length a) (fit : AllByRecursion (IsFit a t c) order) where
   abbrev E : Definitions
@@ -113,7 +112,7 @@ module _ (p : ProgramTable) (c : CellsView) (a : Automaton) (ds : List Document)
 
   matched : (g : ℕ) → IsMet numbers g → (k : Choice) (h : table.Head State) → IsOneOf k (row_at t.rows g).choices → rules.head_number (heads_of a (row_at t.rows g).left) k.head ≡ Some h → table.matches h.kind k.atom ≡ true
   matched g x k h m e =
-      let s = one_of-all (StandsSomewhere a t (claim_of (row_at t.rows g))) k (row_at t.rows g).choices (choices_stand a ds t stands g) m in
+      let s = one_of-all (StandsSomewhere a t (claim_of (row_at t.rows g))) k (row_at t.rows g).choices (choices_stand a t stands g) m in
       let y = s.1 in
       let q : y.head ≡ h = (let f = y.found in cc) in
       subst (λ (w : table.Head State). table.matches w.kind k.atom ≡ true) q y.matched
@@ -128,7 +127,7 @@ module _ (p : ProgramTable) (c : CellsView) (a : Automaton) (ds : List Document)
   consistent [] (y ∷ ys) w f = absurd w
   consistent (g ∷ xs) [] w f = absurd w
   consistent (g ∷ xs) (y ∷ ys) w f =
-      (goal_keeps E a C t gs (number_in numbers) (IsMet numbers) (λ i h. choices_keep a ds t stands i) leads matched written g (f g (inl refl)) y w.0, consistent xs ys w.1 (λ i m. f i (inr m)))
+      (goal_keeps E a C t gs (number_in numbers) (IsMet numbers) (λ i h. choices_keep a t stands i) leads matched written g (f g (inl refl)) y w.0, consistent xs ys w.1 (λ i m. f i (inr m)))
 
   between : (xs : List ℕ) (ys : List Goal) → AllZip (λ g goal. IsWritten E a C t.nodes (number_in numbers) (row_at t.rows g) goal) xs ys → AllZip (λ g goal. IsBetween C (row_at t.rows g) goal) xs ys
   between [] [] w = tt
@@ -164,7 +163,7 @@ module _ (p : ProgramTable) (c : CellsView) (a : Automaton) (ds : List Document)
         reached = reached;
         types = between order gs ls.written;
         shallow = all_shallow p c a m t order gs (between order gs ls.written);
-        named = all_named p c a ds t m sound stands start order numbers reached gs (between order gs ls.written) y.0 (y.2).left (y.2).rights;
+        named = all_named p c a t m sound stands start order numbers reached gs (between order gs ls.written) y.0 (y.2).left (y.2).rights;
         claim = y.0;
         first = first;
         between = record { left = (y.2).left; rights = (y.2).rights };
@@ -187,9 +186,9 @@ all_leaves P Q R f (rules.ContentLeaf g) h k = f g h k
 all_leaves P Q R f (rules.RestLeaf g) h k = f g h k
 all_leaves P Q R f (rules.SplitOn j t u) h k = (all_leaves P Q R f t h.0 k.0, all_leaves P Q R f u h.1 k.1)
 
-pub all_fit : (p : ProgramTable) (c : CellsView) (a : Automaton) (ds : List Document) (t : TableView) (start : ℕ) (order numbers : List ℕ) → Mirrors p c a → StandsOn a ds t → IsSettled t start → IsOfTypes c (row_at t.rows start)
+pub all_fit : (p : ProgramTable) (c : CellsView) (a : Automaton) (t : TableView) (start : ℕ) (order numbers : List ℕ) → Mirrors p c a → StandsOnAutomaton a t → IsSettled t start → IsOfTypes c (row_at t.rows start)
     → AreReached t start order numbers → AllByRecursion (IsFit a t c) order
-all_fit p c a ds t start order numbers m stands s types reached =
+all_fit p c a t start order numbers m stands s types reached =
     all_map (λ g. passes g ≡ true) (IsFit a t c) order fit
     (reached.only passes (join (is_marked s.marks start) (typed_row p c (row_at t.rows start)) s.start (row_typed-from p c (row_at t.rows start) types)) closed)
   where
@@ -201,7 +200,7 @@ all_fit p c a ds t start order numbers m stands s types reached =
         let b = both (is_marked s.marks g) (typed_row p c (row_at t.rows g)) e in
         all_both (LeadsToMarked t.nodes s.marks) (LeadsTo t.nodes (λ i. typed_row p c (row_at t.rows i) ≡ true)) (LeadsTo t.nodes (λ h. passes h ≡ true)) (row_at t.rows g).choices
         (λ k x y tree u. all_leaves (λ i. is_marked s.marks i ≡ true) (λ i. typed_row p c (row_at t.rows i) ≡ true) (λ h. passes h ≡ true) (λ i v w. join (is_marked s.marks i) (typed_row p c (row_at t.rows i)) v w) tree (x tree u) (y tree u))
-        (s.leads g b.0) (typed_leads p c a m t g (row_at t.rows g).choices (choices_keep a ds t stands g) b.1)
+        (s.leads g b.0) (typed_leads p c a m t g (row_at t.rows g).choices (choices_keep a t stands g) b.1)
 
     fit : (g : ℕ) → passes g ≡ true → IsFit a t c g
     fit g e =
@@ -222,15 +221,15 @@ all_typed_rows a t c order n e h =
       rights_there = subst (λ (k : ℕ). AllByRecursion (λ (s : State). s.number < k) (row_at t.rows g).rights) (sym e) (x.below).rights;
     }) h
 
-pub all_can : (p : ProgramTable) (c : CellsView) (a : Automaton) (ds : List Document) (t : TableView) (states : List (Option Known)) (numbers order : List ℕ) → StandsOn a ds t → length numbers ≡ length t.rows → Mirrors p c a → AreKnown p c states
+pub all_can : (p : ProgramTable) (c : CellsView) (a : Automaton) (t : TableView) (states : List (Option Known)) (numbers order : List ℕ) → StandsOnAutomaton a t → length numbers ≡ length t.rows → Mirrors p c a → AreKnown p c states
     → AllByRecursion (IsFit a t c) order → AllByRecursion (λ g. HasTypes states (row_at t.rows g)) order → AllByRecursion (CanWrite a t states numbers) order
-all_can p c a ds t states numbers order stands sized m k fit types =
+all_can p c a t states numbers order stands sized m k fit types =
     all_both (IsFit a t c) (λ g. HasTypes states (row_at t.rows g)) (CanWrite a t states numbers) order
     (λ g x y. record {
       left_there = (x.below).left;
       rights_there = (x.below).rights;
       begun = x.begun;
-      writable = all_writable a t (length numbers) (claim_of (row_at t.rows g)) (row_at t.rows g).choices sized (choices_keep a ds t stands g);
+      writable = all_writable a t (length numbers) (claim_of (row_at t.rows g)) (row_at t.rows g).choices sized (choices_keep a t stands g);
       types = y;
       program = p;
       cells = c;

@@ -16,39 +16,13 @@ use Rattle.xd_proof_lines.specs.Steps.{steps_of}
 use Rattle.xd_proof_lines.specs.declared.cases.ReadCase.{ReadCase}
 use Rattle.xd_proof_lines.specs.declared.steps.Step.{Step}
 use Rattle.xd_proof_lines.specs.declared.steps.Step.TheVariants.{Split}
-use Rattle.xd_proof_make.specs.Steps.{table_steps, HasTree}
+use Rattle.xd_proof_make.specs.Steps.{table_steps}
 use Rattle.xd_proof_make.specs.Written.{written_atom, written_tree}
 use Rattle.xd_proof_make.specs.Places.{place_in}
 use Rattle.xd_proof_make.specs.Met.{IsMet, number_in}
-use Rattle.xd_proof_make.specs.Ordered.{BeginsAt, IsCut, IsCaseOf, AreOrdered, AreWrittenCases, IsMadeOf, SplitsWithin, IsWritable, IsStepWithin, written_step}
+use Rattle.xd_proof_make.specs.Ordered.{IsCut, IsCaseOf, AreOrdered, AreWrittenCases, IsMadeOf, SplitsWithin, IsWritable, IsStepWithin, written_step}
 
 -- ---- cuts
-
-pub cut_all : (bound : ℕ) (ks : List Choice) → AllByRecursion (λ (k : Choice). k.head < bound) ks → (front back : List Choice) → front ≡ ks → back ≡ [] → IsCut bound ks front back
-cut_all bound ks a front back e f = record {
-  same = sym (append-nil ks) ∙ (ap (λ (x : List Choice). x ++ []) (sym e) ∙ ap (λ (x : List Choice). front ++ x) (sym f));
-  below = subst (AllByRecursion (λ (k : Choice). k.head < bound)) (sym e) a;
-  above = subst (BeginsAt bound) (sym f) tt;
-}
-
-pub cut_here : (bound : ℕ) (ks : List Choice) (i : ℕ) (k : Choice) → i < length ks → k ≡ get_or ks i k → AllByRecursion (λ (x : Choice). x.head < bound) (take i ks) → bound ≤ k.head
-    → (front back : List Choice) → front ≡ take i ks → back ≡ drop i ks → IsCut bound ks front back
-cut_here bound ks i k lt e a le front back f b = record {
-  same = both ks i ∙ (ap (λ (x : List Choice). x ++ drop i ks) (sym f) ∙ ap (λ (x : List Choice). front ++ x) (sym b));
-  below = subst (AllByRecursion (λ (x : Choice). x.head < bound)) (sym f) a;
-  above = subst (BeginsAt bound) (sym b) (begins ks i lt e);
-}
-  where
-    both : (xs : List Choice) (n : ℕ) → xs ≡ take n xs ++ drop n xs
-    both [] zero = refl
-    both [] (suc n) = refl
-    both (x ∷ xs) zero = refl
-    both (x ∷ xs) (suc n) = ap (λ (ys : List Choice). x ∷ ys) (both xs n)
-
-    begins : (xs : List Choice) (n : ℕ) → n < length xs → k ≡ get_or xs n k → BeginsAt bound (drop n xs)
-    begins [] n l q = absurd (omega arith)
-    begins (x ∷ xs) zero l q = subst (λ (y : Choice). bound ≤ y.head) q le
-    begins (x ∷ xs) (suc n) l q = begins xs n (omega arith) q
 
 -- ---- steps with other numbers
 
@@ -74,9 +48,6 @@ steps_within goals heads (SplitOn j a b) h k =
 pub writable_steps : (nodes : List ChoiceNode) (goals heads : ℕ) (k : Choice) (steps : List Step) → IsWritable nodes goals heads k → ((tree : ChoiceTree) → StandsAt nodes k.root tree → steps ≡ table_steps tree)
     → AllByRecursion (IsStepWithin goals heads) steps
 writable_steps nodes goals heads k steps w e = subst (AllByRecursion (IsStepWithin goals heads)) (sym (e w.tree w.stands)) (steps_within goals heads w.tree w.leaves w.splits)
-
-pub writable_tree : (nodes : List ChoiceNode) (goals heads : ℕ) (k : Choice) → IsWritable nodes goals heads k → HasTree nodes k.root
-writable_tree nodes goals heads k w = (w.tree, w.stands)
 
 -- a choice as a case
 pub made_case : (nodes : List ChoiceNode) (places numbers : List ℕ) (goals heads n : ℕ) (k : Choice) (made : ReadCase) (steps : List Step) → IsWritable nodes goals heads k → ((tree : ChoiceTree) → StandsAt nodes k.root tree → steps ≡ table_steps tree)

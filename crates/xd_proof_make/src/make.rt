@@ -1,10 +1,9 @@
 //! A proof of a goal that holds.
 
-ghost use Rattle.std.specs.Prelude.{◌≡◌, List, length, IfOk};
-ghost use Rattle.xd_doc.specs.Document.{Document};
+ghost use Rattle.std.specs.Prelude.{◌≡◌, length, IfOk};
 ghost use Rattle.xd_goals.specs.Reached.{IsSettled};
 ghost use Rattle.xd_goals.specs.Rows.{row_at};
-ghost use Rattle.xd_goals.specs.Standing.{StandsOn};
+ghost use Rattle.xd_goals.specs.Standing.{StandsOnAutomaton};
 ghost use Rattle.xd_heads.specs.Growing.{GrowsTypes};
 ghost use Rattle.xd_heads.specs.Mirrors.{Mirrors};
 ghost use Rattle.xd_syntax.specs.Kept.{AddsTypes, program_tree};
@@ -35,7 +34,7 @@ pub fn proof_of(
     goal: GoalId,
 ) -> Result<Proof, NoMemory>
     requires mirrors { Mirrors sound.old cells.now auto.now }
-    requires stands { (ds : List Document) × StandsOn auto.now ds table.now }
+    requires stands { StandsOnAutomaton auto.now table.now }
     requires settled { IsSettled table.now goal.number }
     requires types { IsOfTypes cells.now (row_at table.now.rows goal.number) }
     ensures proof { IfOk result (IsProofOf sound.new cells.now table.now goal.number) }

@@ -1,10 +1,9 @@
 //! The proof text of a goal that holds.
 
 ghost use Rattle.std.specs.Prelude.{◌≡◌, ◌++◌, ℕ, List, OnOk, OnErr};
-ghost use Rattle.xd_doc.specs.Document.{Document};
 ghost use Rattle.xd_goals.specs.Reached.{IsSettled};
 ghost use Rattle.xd_goals.specs.Rows.{row_at};
-ghost use Rattle.xd_goals.specs.Standing.{StandsOn};
+ghost use Rattle.xd_goals.specs.Standing.{StandsOnAutomaton};
 ghost use Rattle.xd_heads.specs.Mirrors.{Mirrors, continuation_of};
 ghost use Rattle.xd_syntax.specs.Kept.{AddsTypes, program_tree};
 ghost use Rattle.xd_syntax.specs.Shallow.{IsShallow};
@@ -37,7 +36,7 @@ pub fn proof_text(
 ) -> Result<(), NoMemory>
     requires shallow { IsShallow sound.old.types }
     requires mirrors { Mirrors sound.old cells.now auto.now }
-    requires stands { (ds : List Document) × StandsOn auto.now ds table.now }
+    requires stands { StandsOnAutomaton auto.now table.now }
     requires settled { IsSettled table.now goal.number }
     requires types { IsOfTypes cells.now (row_at table.now.rows goal.number) }
     requires names { UsesKnownNames (program_tree sound.old) (continuation_of sound.old.types cells.now) (row_at table.now.rows goal.number) }

@@ -7,16 +7,16 @@ use Rattle.xd_goals.proofs.heads.add_sides.Goals as goal
 
 pub returns-in-Label : goal.returns-in-Label
 returns-in-Label c =
-    rw c.in-Label.is (OnOk-map c.add_with_label.result (λ h. at_label c.args.auto.now c.args.state (Label c.in-Label.label) c.args.before c.args.sides.now.items c.add_with_label.new.sides.items (λ m. refl) h) c.add_with_label.ensures)
+    rw c.in-Label.is (OnOk-map c.add_with_name.result (λ h. at_label c.args.auto.now c.args.state (Label c.in-Label.label) c.args.before c.args.sides.now.items c.add_with_name.new.sides.items (λ m. refl) h) c.add_with_name.ensures)
 
 pub returns-in-OtherLabel : goal.returns-in-OtherLabel
 returns-in-OtherLabel c =
-    rw c.in-OtherLabel.is (OnOk-map c.add_with_other_labels.result (λ h. at_label c.args.auto.now c.args.state OtherLabel c.args.before c.args.sides.now.items c.add_with_other_labels.new.sides.items (λ m. refl) h) c.add_with_other_labels.ensures)
+    rw c.in-OtherLabel.is (OnOk-map c.add_with_others.result (λ h. at_label c.args.auto.now c.args.state OtherLabel c.args.before c.args.sides.now.items c.add_with_others.new.sides.items (λ m. refl) h) c.add_with_others.ensures)
 
 pub returns-in-Text : goal.returns-in-Text
 returns-in-Text c =
-    rw c.in-Text.is (OnOk-map c.add_with_text.result (λ h. at_text c.args.auto.now c.args.state (Text c.in-Text.text) c.args.before c.args.sides.now.items c.add_with_text.new.sides.items _ (ap (λ (ms : List LabelMove). c.args.before + length ms) c.label_moves-labels.ensures.value) (λ m. refl) h) c.add_with_text.ensures)
+    rw c.in-Text.is (OnOk-map c.add_with_name-in-Text.result (λ h. at_text c.args.auto.now c.args.state (Text c.in-Text.text) c.args.before c.args.sides.now.items c.add_with_name-in-Text.new.sides.items _ (ap (λ (ms : List LabelMove). c.args.before + length ms) c.label_moves-labels.ensures.value) (λ m. refl) h) c.add_with_name-in-Text.ensures)
 
 pub returns-in-OtherText : goal.returns-in-OtherText
 returns-in-OtherText c =
-    rw c.in-OtherText.is (OnOk-map c.add_with_other_texts.result (λ h. at_text c.args.auto.now c.args.state OtherText c.args.before c.args.sides.now.items c.add_with_other_texts.new.sides.items _ (ap (λ (ms : List LabelMove). c.args.before + length ms) c.label_moves-labels.ensures.value) (λ m. refl) h) c.add_with_other_texts.ensures)
+    rw c.in-OtherText.is (OnOk-map c.add_with_others-in-OtherText.result (λ h. at_text c.args.auto.now c.args.state OtherText c.args.before c.args.sides.now.items c.add_with_others-in-OtherText.new.sides.items _ (ap (λ (ms : List LabelMove). c.args.before + length ms) c.label_moves-labels.ensures.value) (λ m. refl) h) c.add_with_others-in-OtherText.ensures)

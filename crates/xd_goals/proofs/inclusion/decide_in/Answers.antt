@@ -33,14 +33,14 @@ pub unsettled-requires : goal.unsettled-requires
 unsettled-requires c = record {
   start = (claim_within c.loop-document.goals.rows.items c.in_ok-asked.asked.number (claim_with c.args.left c.args.rights.now) c.loop-document.invariant.asked).0;
   open_start = read_open c.loop-document.goals.rows.items c.in_ok-asked.asked.number c.standing.result c.standing.ensures c.in_default.not-Refuted;
-  trees = trees_there c.args.auto.now c.loop-document.store (view_of c.loop-document.goals) c.loop-document.invariant.stands;
-  opens = λ i e. (c.loop-document.invariant.stands.holds i e).opens;
+  trees = trees_there c.args.auto.now (view_of c.loop-document.goals) c.loop-document.invariant.stands.facts;
+  opens = λ i e. (c.loop-document.invariant.stands.facts.holds i e).opens;
 }
 
 pub returns-in-None : goal.returns-in-None
 returns-in-None c = record {
   whole = c.loop-document.invariant.whole;
-  verdict = asked_included c.args.auto.now c.loop-document.store (view_of c.loop-document.goals) c.in_ok-asked.asked.number c.args.left c.args.rights.now c.loop-document.invariant.stands c.loop-document.invariant.asked
+  verdict = asked_included c.args.auto.now (view_of c.loop-document.goals) c.in_ok-asked.asked.number c.args.left c.args.rights.now c.loop-document.invariant.stands.facts c.loop-document.invariant.asked
       (c.in_ok-agenda.ensures.none (no_length c.in_ok-agenda.agenda.items (search rules)));
   stands = c.loop-document.invariant.stands;
   goals = c.loop-document.invariant.kept;
@@ -64,7 +64,7 @@ loop-document-smaller c =
     let longer = keeps_goals-then (view_of c.find_or_add.new.goals) (view_of c.loop-document.goals) (view_of c.run.new.goals) c.loop-document.invariant.longer c.run.ensures.goals in
     let made = made-then (length c.find_or_add.new.goals.rows.items) (view_of c.loop-document.goals) (view_of c.run.new.goals) c.run.ensures.goals c.loop-document.invariant.made c.run.ensures.made in
     c.in_ok-run-in-Some.ensures.lowers (length c.find_or_add.new.goals.rows.items + length (possible (length c.args.auto.now)))
-    (bounded c.args.auto.now c.run.new.store (length c.find_or_add.new.goals.rows.items) (view_of c.run.new.goals) c.run.ensures.stands made longer.longer)
+    (bounded c.args.auto.now (length c.find_or_add.new.goals.rows.items) (view_of c.run.new.goals) c.run.ensures.stands.facts made longer.longer)
 
 pub loop-document-preserved : goal.loop-document-preserved
 loop-document-preserved c = record {

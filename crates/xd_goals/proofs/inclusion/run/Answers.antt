@@ -11,7 +11,7 @@ loop-goal-smaller c =
     let kept = keeps_goals-then (view_of c.args.goals.now) (view_of c.loop-goal.goals) (view_of c.step-in-Some.new.goals) c.loop-goal.invariant.kept c.step-in-Some.ensures.goals in
     let made = made-then (length c.args.goals.now.rows.items) (view_of c.loop-goal.goals) (view_of c.step-in-Some.new.goals) c.step-in-Some.ensures.goals c.loop-goal.invariant.made c.step-in-Some.ensures.made in
     c.in_ok-step-2.ensures.lowers (length c.args.goals.now.rows.items + length (possible (length c.args.auto.now)))
-    (bounded c.args.auto.now c.step-in-Some.new.store (length c.args.goals.now.rows.items) (view_of c.step-in-Some.new.goals) c.step-in-Some.ensures.stands made kept.longer)
+    (bounded c.args.auto.now (length c.args.goals.now.rows.items) (view_of c.step-in-Some.new.goals) c.step-in-Some.ensures.stands.facts made kept.longer)
 
 pub loop-goal-preserved : goal.loop-goal-preserved
 loop-goal-preserved c = record {

@@ -13,13 +13,13 @@ use Rattle.xd_goals.proofs.Stepping.{held_by, owner_claim, same_held_by, stands_
 use Rattle.xd_goals.proofs.work.begin_goal.Goals as goal
 
 pub begin-requires-clause-consistent : goal.begin-requires-clause-consistent
-begin-requires-clause-consistent c = record { states = c.requires.stands.states; index = c.requires.whole.index; links = c.requires.whole.links }
+begin-requires-clause-consistent c = record { states = c.requires.stands.facts.states; index = c.requires.whole.index; links = c.requires.whole.links }
 
 pub begin-requires-clause-left : goal.begin-requires-clause-left
-begin-requires-clause-left c = subst (λ (x : Claim State). x.left.number < length c.args.auto.now) c.requires.claim (c.requires.stands.states.each c.args.owner.number c.requires.owner).left
+begin-requires-clause-left c = subst (λ (x : Claim State). x.left.number < length c.args.auto.now) c.requires.claim (c.requires.stands.facts.states.each c.args.owner.number c.requires.owner).left
 
 pub begin-requires-clause-rights : goal.begin-requires-clause-rights
-begin-requires-clause-rights c = subst (λ (x : Claim State). AllByRecursion (λ (s : State). s.number < length c.args.auto.now) x.rights) c.requires.claim (c.requires.stands.states.each c.args.owner.number c.requires.owner).rights
+begin-requires-clause-rights c = subst (λ (x : Claim State). AllByRecursion (λ (s : State). s.number < length c.args.auto.now) x.rights) c.requires.claim (c.requires.stands.facts.states.each c.args.owner.number c.requires.owner).rights
 
 pub returns-in_err-made-clause-stands : goal.returns-in_err-made-clause-stands
 returns-in_err-made-clause-stands c =

@@ -11,7 +11,7 @@ use Rattle.xd_goals.proofs.work.mend_case.Goals as goal
 pub mend_choice-requires-clause-choice : goal.mend_choice-requires-clause-choice
 mend_choice-requires-clause-choice c =
     subst (λ (x : Claim State). ChoiceStands c.args.auto.now (view_of c.args.goals.now) c.args.owner x c.in_ok-choice.choice) c.requires.claim
-    (c.requires.stands.choices c.args.owner.goal.number c.args.owner.place c.in_ok-choice.choice (rw c.deref.ensures.value at c.in_ok-choice.ensures))
+    (c.requires.stands.facts.choices c.args.owner.goal.number c.args.owner.place c.in_ok-choice.choice (rw c.deref.ensures.value at c.in_ok-choice.ensures))
 
 pub returns-in_err-root-clause-stands : goal.returns-in_err-root-clause-stands
 returns-in_err-root-clause-stands c = stands_grown c.args.auto.now c.args.store.now c.args.goals.now c.mend_choice.new.goals c.mend_choice.ensures.grows c.mend_choice.ensures.consistent c.requires.stands

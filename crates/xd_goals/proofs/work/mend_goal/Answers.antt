@@ -78,26 +78,26 @@ returns-in-Some-clause-lowers c =
 
 pub returns-clause-whole : goal.returns-clause-whole
 returns-clause-whole c =
-    let same = repaired_same c.args.auto.now c.args.store.now c.loop-place.store c.args.owner.number (view_of c.args.goals.now) (view_of c.loop-place.goals) c.requires.owner c.requires.waits c.requires.begun c.requires.stands c.loop-place.invariant.stands
+    let same = repaired_same c.args.auto.now c.loop-place.store c.args.owner.number (view_of c.args.goals.now) (view_of c.loop-place.goals) c.requires.owner c.requires.waits c.requires.begun c.requires.stands.facts c.loop-place.invariant.stands
     c.loop-place.invariant.mending (λ k lt. c.loop-place.invariant.unbroken k (omega (arith, c.loop-place-test.false, c.loop-place.invariant.end_is, lt))) in
     let w = whole_same c.loop-place.goals.rows.items _ c.loop-place.goals.links.items c.loop-place.goals.found same c.loop-place.invariant.whole.index c.loop-place.invariant.whole.links in
     record { index = rw c.set_standing.ensures w.0; links = rw c.set_standing.ensures w.1 }
 
 pub returns-clause-stands : goal.returns-clause-stands
 returns-clause-stands c =
-    let step = repaired_step c.args.auto.now c.args.store.now c.loop-place.store c.args.owner.number (view_of c.args.goals.now) (view_of c.loop-place.goals) c.requires.owner c.requires.waits c.requires.begun c.requires.stands c.loop-place.invariant.stands
+    let step = repaired_step c.args.auto.now c.loop-place.store c.args.owner.number (view_of c.args.goals.now) (view_of c.loop-place.goals) c.requires.owner c.requires.waits c.requires.begun c.requires.stands.facts c.loop-place.invariant.stands
     c.loop-place.invariant.mending (λ k lt. c.loop-place.invariant.unbroken k (omega (arith, c.loop-place-test.false, c.loop-place.invariant.end_is, lt))) in
     rw c.set_standing.ensures step.stands
 
 pub returns-clause-goals : goal.returns-clause-goals
 returns-clause-goals c =
-    let step = repaired_step c.args.auto.now c.args.store.now c.loop-place.store c.args.owner.number (view_of c.args.goals.now) (view_of c.loop-place.goals) c.requires.owner c.requires.waits c.requires.begun c.requires.stands c.loop-place.invariant.stands
+    let step = repaired_step c.args.auto.now c.loop-place.store c.args.owner.number (view_of c.args.goals.now) (view_of c.loop-place.goals) c.requires.owner c.requires.waits c.requires.begun c.requires.stands.facts c.loop-place.invariant.stands
     c.loop-place.invariant.mending (λ k lt. c.loop-place.invariant.unbroken k (omega (arith, c.loop-place-test.false, c.loop-place.invariant.end_is, lt))) in
     rw c.set_standing.ensures step.kept
 
 pub returns-clause-lowers : goal.returns-clause-lowers
 returns-clause-lowers c =
-    let step = repaired_step c.args.auto.now c.args.store.now c.loop-place.store c.args.owner.number (view_of c.args.goals.now) (view_of c.loop-place.goals) c.requires.owner c.requires.waits c.requires.begun c.requires.stands c.loop-place.invariant.stands
+    let step = repaired_step c.args.auto.now c.loop-place.store c.args.owner.number (view_of c.args.goals.now) (view_of c.loop-place.goals) c.requires.owner c.requires.waits c.requires.begun c.requires.stands.facts c.loop-place.invariant.stands
     c.loop-place.invariant.mending (λ k lt. c.loop-place.invariant.unbroken k (omega (arith, c.loop-place-test.false, c.loop-place.invariant.end_is, lt))) in
     rw c.set_standing.ensures step.lowers
 
