@@ -13,4 +13,5 @@ pub mod TaskBounds
 pub mod Expanding
 pub mod Mirroring
 pub mod Deepening
+pub mod Bodied
 pub mod TheLaws

@@ -1,7 +1,6 @@
 -- When two links are the same, as the program tests it.
 use Rattle.std.proofs.Common.{◌≡◌, ◌+◌, ◌≤◌, ◌&&◌, ℕ, Bool, true, false, nat_eq, refl, sym, subst, ap, arith, ◌∙◌, Some, List, [], ◌∷◌, ◌++◌, length}
 use Rattle.std.proofs.lemmas.Bool.Decides.{nat_tests}
-use mathlib.Core.Bool.{beq}
 use Rattle.std.specs.List.{list_any, slice_get}
 use Rattle.std.specs.Prelude.{if◌then◌else◌}
 use Rattle.xd_continuations.specs.Chains.{AreLinks, HasLink, list_at}
@@ -17,16 +16,6 @@ same_number m n h = grind (arith, nat_tests)
 
 pub itself_number : (m : ℕ) → nat_eq m m ≡ true
 itself_number m = grind (arith, nat_tests)
-
-pub same_bit : (s t : Bool) → beq s t ≡ true → t ≡ s
-same_bit true true h = refl
-same_bit true false h = cc
-same_bit false true h = cc
-same_bit false false h = refl
-
-pub itself_bit : (s : Bool) → beq s s ≡ true
-itself_bit true = refl
-itself_bit false = refl
 
 pub and_true : (x y : Bool) → x ≡ true → y ≡ true → (x && y) ≡ true
 and_true x y a b = rw (a, b) refl

@@ -261,22 +261,6 @@ module _ (types : List Row) (ds : List TypeDef) where
         moves = subst (λ L. AreMirrored (continuations_of types cells states) (moves (meanings types ds) L) (state_at auto n).labels (state_at auto n).texts) r.2 (c.complete n r.0 (omega arith) r.1);
       }
 
-  -- before there is any state
-  pub compiled_none : AreCompiled types ds [] [] [] 0 []
-  compiled_none = record {
-    aligned = refl;
-    numbers = tt;
-    continuations = λ n i e. cc;
-    flags = λ n i e. cc;
-    complete = λ n i h e. absurd (omega arith);
-    current = no_move;
-    fresh = λ n h. nothing n;
-  }
-    where
-      nothing : (n : ℕ) → ((state_at [] n).labels ≡ []) × ((state_at [] n).texts ≡ [])
-      nothing zero = (refl, refl)
-      nothing (suc n) = (refl, refl)
-
   pub bounded_no_cells : (E : Definitions) (m : ℕ) → AreBounded E m types []
   bounded_no_cells E m zero h = subst (IsBounded E m) (sym (ap (map (piece_tree types)) (list_none []))) (bounded_none E m)
   bounded_no_cells E m (suc n) h = absurd (omega arith)

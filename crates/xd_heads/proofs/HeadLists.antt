@@ -33,7 +33,7 @@ use Rattle.xd_heads.specs.Cells.{Cell}
 use Rattle.xd_heads.specs.declared.expand.Found.{Found}
 use Rattle.xd_heads.specs.declared.listing.Head.{Head}
 use Rattle.xd_heads.proofs.AddingMoves.{none_deeper}
-use Rattle.xd_heads.proofs.Growing.{grows_none, grows_then}
+use Rattle.xd_heads.proofs.Growing.{grows_then}
 use Rattle.xd_continuations.proofs.GrownTables.{tree_stays, more_rows}
 use Rattle.xd_heads.proofs.Mirrored.{continuation_stays, shallow_before}
 use Rattle.xd_heads.proofs.Wrapping.{bodies_stand, are_merged}
@@ -172,9 +172,6 @@ pub record IsListing (p q : ProgramTable) (cells : List Cell) (found : List Foun
   pub grows : GrowsTypes p q
   pub belong : AllByRecursion (HeadBelongs q.types) made
   pub same : map (head_at q.types) made ≡ map head_of (map (move_at p.types cells) found)
-
-pub listing_none : (p : ProgramTable) (cells : List Cell) → IsListing p p cells [] []
-listing_none p cells = record { grows = grows_none p; belong = tt; same = refl }
 
 pub listing_more : (p q r : ProgramTable) (cells : List Cell) → AreOfTypes p.types cells → (found : List Found) (made : List Head) → IsListing p q cells found made → (f : Found) → IsHeadFound p cells f →
     (h : Head) → IsHeadAt r.types (move_at q.types cells f) h → GrowsTypes q r → IsListing p r cells (found ++ f ∷ []) (made ++ h ∷ [])

@@ -117,9 +117,6 @@ pub record IsPushed (types : List Row) (marks : List Bool) (old_cells : List Cel
   pub tasks : PutsTasks types cells old new (marked_front types marks is (continuation types old_cells behind))
   pub bounded : StayBounded types old_cells cells (map (tree_at types) is ++ continuation types old_cells behind)
 
-pub pushed_none : (types : List Row) (marks : List Bool) (cells : List Cell) (behind : ℕ) (old : List Cell) → behind ≤ length cells → IsPushed types marks cells behind old [] behind cells old
-pushed_none types marks cells behind old h = record { within = h; cells_added = adds_none types cells; list = refl; tasks = puts_none types cells old; bounded = bounded_same types cells (continuation types cells behind) }
-
 abbrev pub node_piece : ℕ → Piece
 node_piece i = record { node = i; is_turns = false }
 

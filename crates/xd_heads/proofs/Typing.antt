@@ -15,7 +15,7 @@ use Rattle.xd_heads.specs.Found.{continuation, piece_tree}
 use Rattle.xd_heads.specs.Growing.{GrowsTypes}
 use Rattle.xd_heads.specs.Cells.{Cell}
 use Rattle.xd_continuations.proofs.ChainLemmas.{list_none}
-use Rattle.xd_heads.proofs.Growing.{grows_none, grows_then}
+use Rattle.xd_heads.proofs.Growing.{grows_then}
 use Rattle.xd_continuations.proofs.GrownTables.{tree_stays, more_rows}
 use Rattle.xd_heads.proofs.Mirrored.{piece_stays}
 
@@ -25,9 +25,6 @@ pub record IsTyping (p q : ProgramTable) (cells : List Cell) (number at : ℕ) (
   pub within : at ≤ length cells
   pub there : AllByRecursion (λ i. i < length q.types) (type_numbers ids)
   pub trees : map (tree_at q.types) (type_numbers ids) ++ continuation p.types cells at ≡ continuation p.types cells number
-
-pub typing_none : (p : ProgramTable) (cells : List Cell) (number : ℕ) → number ≤ length cells → IsTyping p p cells number number []
-typing_none p cells number h = record { grows = grows_none p; within = h; there = tt; trees = refl }
 
 numbers_push : (ids : List TypeId) (id : TypeId) → type_numbers (ids ++ id ∷ []) ≡ type_numbers ids ++ id.at ∷ []
 numbers_push [] id = refl

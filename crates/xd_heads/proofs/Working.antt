@@ -355,19 +355,6 @@ plus_empty E (Plus T) e = refl
 plus_empty E (Opt T) e = cc
 plus_empty E (Val x T) e = cc
 
-pub no_plus : (T : Tree) → is_plus T ≡ false → turns_of T ≡ T
-no_plus Empty e = refl
-no_plus Text e = refl
-no_plus (Words w) e = refl
-no_plus (Name x) e = refl
-no_plus (Elem c T) e = refl
-no_plus (Seq T U) e = refl
-no_plus (Alt T U) e = refl
-no_plus (Star T) e = refl
-no_plus (Plus T) e = cc
-no_plus (Opt T) e = refl
-no_plus (Val x T) e = refl
-
 -- a form that is no `+` has a tree that is none
 pub plus_form_only : (t : ℕ → Tree) (rows : List Row) (f : Form) → CanFollow false rows f → ((i : ℕ) → f ≡ plus_form i → ⊥) → is_plus (form_tree t f) ≡ false
 plus_form_only t rows empty_form c n = refl

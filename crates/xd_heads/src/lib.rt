@@ -7,6 +7,7 @@ mod compile;
 mod content;
 mod expand;
 mod first_uses;
+mod front;
 mod listing;
 mod states;
 mod typed;

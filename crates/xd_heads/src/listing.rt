@@ -2,6 +2,7 @@
 
 ghost use Rattle.std.specs.Prelude.{◌≡◌, ◌<◌, ◌≤◌, length, map, IfOk, OnOk};
 ghost use Rattle.std.specs.List.{AllByRecursion};
+ghost use Rattle.std.specs.Option.{IfSome};
 ghost use Rattle.xd_laws.specs.Heads.{heads};
 ghost use Rattle.xd_continuations.specs.Continuation.{IsContinuation, head_of as head_of_move};
 ghost use Rattle.xd_syntax.specs.Emptiness.{AreEmptyMarks};
@@ -25,6 +26,7 @@ use crate::compile::every_text;
 use crate::content::content;
 use crate::expand::{Found, expand};
 use crate::first_uses::FirstUses;
+use crate::front::{front_part, have_no_rest, other_parts, with_rest};
 use crate::typed::continuation_type;
 use std::alloc::Global;
 use std::collections::HashMap;
@@ -51,7 +53,8 @@ pub struct Head {
 /// Lists the heads of types of one program, one type after the other.
 ///
 /// What was added to the program for one type serves the next ones: a rest that comes again is the same type, as long as it
-/// is made of the same nodes, and the contents of all texts are one empty type. After want of memory a lister has no use.
+/// is made of the same nodes, what stands behind the first part of a sequence is one type for each sequence, and the contents of
+/// all texts are one empty type. After want of memory a lister has no use.
 #[derive(Drop)]
 pub struct HeadLister {
     alloc: Global,
@@ -60,6 +63,8 @@ pub struct HeadLister {
     uses: FirstUses,
     /// The types of the rests that were listed, by the numbers of their continuations.
     rests: HashMap<usize, TypeId>,
+    /// The types of the other parts of sequences that were listed by their first part.
+    others: HashMap<usize, TypeId>,
 }
 
 impl HeadLister {
@@ -77,6 +82,7 @@ impl HeadLister {
             cells: Continuations::new(alloc),
             uses: FirstUses::new(alloc),
             rests: HashMap::new(alloc),
+            others: HashMap::new(alloc),
         })
     }
 
@@ -93,6 +99,51 @@ impl HeadLister {
         ensures adds { AddsTypes sound.old sound.new }
         ensures same { program_tree sound.new ≡ program_tree sound.old }
         ensures shallow { IsShallow sound.old.types → IsShallow sound.new.types }
+    {
+        if let Some(found) = self.heads_by_front(sound, id)? {
+            return Ok(found);
+        }
+        self.heads_by_moves(sound, id)
+    }
+
+    /// Those of a sequence whose first part can't be empty and has no head with a rest.
+    fn heads_by_front(
+        &mut self,
+        sound: &mut SoundProgram,
+        id: TypeId,
+    ) -> Result<Option<Vec<Head>>, NoMemory>
+        requires belongs { BelongsTo sound.old.types id }
+        requires serves { Serves sound.old self.old }
+        ensures heads { IfOk result (λ made. IfSome made (λ found. map (head_at sound.new.types) found.items ≡ heads (names_of (program_tree sound.old)) (tree sound.old.types id))) }
+        ensures belong { IfOk result (λ made. IfSome made (λ found. AllByRecursion (HeadBelongs sound.new.types) found.items)) }
+        ensures serves { OnOk result (Serves sound.new self.new) }
+        ensures grows { GrowsTypes sound.old sound.new }
+    {
+        let Some(first) = front_part(sound, id)? else {
+            return Ok(None);
+        };
+        let found = self.heads_by_moves(sound, first)?;
+        if !have_no_rest(sound.program().types(), &found) {
+            return Ok(None);
+        }
+        match other_parts(self.alloc, sound, &mut self.others, id)? {
+            Some(others) => Ok(Some(with_rest(self.alloc, found, others)?)),
+            None => Ok(None),
+        }
+    }
+
+    /// Those of any type, by the moves of its continuation.
+    fn heads_by_moves(
+        &mut self,
+        sound: &mut SoundProgram,
+        id: TypeId,
+    ) -> Result<Vec<Head>, NoMemory>
+        requires belongs { BelongsTo sound.old.types id }
+        requires serves { Serves sound.old self.old }
+        ensures heads { IfOk result (λ found. map (head_at sound.new.types) found.items ≡ heads (names_of (program_tree sound.old)) (tree sound.old.types id)) }
+        ensures belong { IfOk result (λ found. AllByRecursion (HeadBelongs sound.new.types) found.items) }
+        ensures serves { OnOk result (Serves sound.new self.new) }
+        ensures grows { GrowsTypes sound.old sound.new }
     {
         let Known { names, empty_marks } = sound.take_known()?;
         let bodies = Bodies {

@@ -1,0 +1,52 @@
+-- Names stand for what their first definitions do.
+use Rattle.std.proofs.Common.{◌≡◌, ℕ, ◌<◌, Bool, true, false, cond, List, [], ◌∷◌, map, length, Option, None, Some, ap, sym, subst, ◌∙◌}
+use Rattle.std.specs.Str.{bytes_eq}
+use Rattle.std.specs.List.{AllByRecursion}
+use Rattle.xd_syntax.specs.Words.{any_word}
+use Rattle.xd_syntax.specs.Tree.{Tree, body, any_type}
+use Rattle.xd_syntax.specs.Table.{Row, tree_at}
+use Rattle.xd_syntax.specs.Placed.{placed_at, unplaced}
+use Rattle.xd_syntax.specs.Program.{TypeDefinition}
+use Rattle.xd_syntax.specs.Kept.{type_definition}
+use Rattle.xd_syntax.specs.Sound.{definition_of}
+use Rattle.xd_syntax.specs.declared.types.TypeDef.{TypeDef}
+use Rattle.xd_syntax.specs.TypeNames.{body_at, meanings}
+use Rattle.xd_syntax.proofs.PlacedTrees.{unplaced_at}
+
+abbrev pair : TypeDefinition → List ℕ × Tree
+pair t = (t.name, unplaced t.body)
+
+-- the node of a name, or of `Any`, has as its tree what the name stands for
+module _ (types : List Row) (tree_of : Option ℕ → Option Tree) (none : tree_of None ≡ None) (some : (i : ℕ) → tree_of (Some i) ≡ Some (tree_at types i)) where
+  defined : (ds : List TypeDef) (w : List ℕ) → tree_of (body_at (definition_of ds w)) ≡ body (map pair (map (type_definition types) ds)) w
+  defined [] w = none
+  defined (d ∷ ds) w = go (bytes_eq d.name w) (defined ds w)
+    where
+      go : (b : Bool) → tree_of (body_at (definition_of ds w)) ≡ body (map pair (map (type_definition types) ds)) w →
+          tree_of (body_at (cond b (Some d) (definition_of ds w))) ≡ cond b (Some (unplaced (placed_at types d.body.at))) (body (map pair (map (type_definition types) ds)) w)
+      go true i = some d.body.at ∙ ap Some (sym (unplaced_at types d.body.at))
+      go false i = i
+
+  pub node_trees : (ds : List TypeDef) (any : ℕ) → tree_at types any ≡ any_type → (w : List ℕ) → tree_of (cond (bytes_eq any_word w) (Some any) (body_at (definition_of ds w))) ≡ body (meanings types ds) w
+  node_trees ds any t w = go (bytes_eq any_word w)
+    where
+      go : (b : Bool) → tree_of (cond b (Some any) (body_at (definition_of ds w))) ≡ cond b (Some any_type) (body (map pair (map (type_definition types) ds)) w)
+      go true = some any ∙ ap Some t
+      go false = defined ds w
+
+-- and it is one of the table
+inside : (types : List Row) (ds : List TypeDef) → AllByRecursion (λ (d : TypeDef). d.body.at < length types) ds → (w : List ℕ) (i : ℕ) → body_at (definition_of ds w) ≡ Some i → i < length types
+inside types [] a w i e = cc
+inside types (d ∷ ds) a w i e = go (bytes_eq d.name w) e (λ k. inside types ds a.1 w i k)
+  where
+    go : (b : Bool) → body_at (cond b (Some d) (definition_of ds w)) ≡ Some i → (body_at (definition_of ds w) ≡ Some i → i < length types) → i < length types
+    go true k rec = let q : d.body.at ≡ i = cc in subst (λ j. j < length types) q a.0
+    go false k rec = rec k
+
+pub nodes_within : (types : List Row) (ds : List TypeDef) (any : ℕ) → AllByRecursion (λ (d : TypeDef). d.body.at < length types) ds → any < length types →
+    (w : List ℕ) (i : ℕ) → cond (bytes_eq any_word w) (Some any) (body_at (definition_of ds w)) ≡ Some i → i < length types
+nodes_within types ds any a h w i e = go (bytes_eq any_word w) e
+  where
+    go : (b : Bool) → cond b (Some any) (body_at (definition_of ds w)) ≡ Some i → i < length types
+    go true e = let q : any ≡ i = cc in subst (λ j. j < length types) q h
+    go false e = inside types ds a w i e
