@@ -1,9 +1,8 @@
 -- Inclusion of types, by states that accept what fits them, and its proofs.
-use Rattle.std.proofs.Common.{◌≡◌, ℕ, inl, inr, true, false, List, [], ◌∷◌, Option, Some, sym, ap, subst, ◌∙◌}
+use Rattle.std.proofs.Common.{◌≡◌, ℕ, inl, inr, List, [], ◌∷◌, Option, Some, sym, ap, subst, ◌∙◌}
 use Rattle.std.specs.List.{AllByRecursion}
-use Rattle.xd_auto.specs.Automaton.{Automaton, accepts}
+use Rattle.xd_auto.specs.Automaton.{Automaton}
 use Rattle.xd_auto.specs.declared.auto.State.{State}
-use Rattle.xd_doc.specs.Document.{Document, is_proper}
 use Rattle.xd_rules.specs.Members.{IsOneOf}
 use Rattle.xd_goals.specs.Moves.{Accepts, claim_with}
 use Rattle.xd_goals.specs.Rows.{TableView, claim_of, row_at}
@@ -21,9 +20,8 @@ use Rattle.xd_laws.specs.Included.{Included}
 use Rattle.xd_syntax.specs.Kept.{ProgramTable, program_tree}
 use Rattle.xd_syntax.specs.Program.{ProgramTree, names_of}
 use Rattle.xd_syntax.specs.Tree.{Tree}
-use Rattle.xd_command.specs.Output.{Output, separated}
+use Rattle.xd_steps.specs.Output.{Output}
 use Rattle.xd_command.specs.Subtype.{AnswersInclusion, IsStateOf, ProvesInclusion}
-use Rattle.xd_command.proofs.Steps.{not_both}
 
 only_one : {X : Type 0} (x y : X) → IsOneOf x (y ∷ []) → x ≡ y
 only_one x y (inl e) = sym e
@@ -43,9 +41,6 @@ module _ (p : ProgramTable) (c : CellsView) (a : Automaton) (L R : Tree) (one ot
 
   pub answers_proof : IsIncluded a one (other ∷ []) → (o : Output) → o.status ≡ 0 → ProvesInclusion P L R o.text → AnswersInclusion P L R o
   answers_proof h o e t = inl (included h, e, t)
-
-  pub answers_no : (d : Document) → is_proper d ≡ true → accepts a d one ≡ true → accepts a d other ≡ false → (o : Output) → o ≡ separated d → AnswersInclusion P L R o
-  answers_no d proper h k o e = inr (d, proper, (left.acceptor.1 d).0 h, (λ f. not_both (sym k ∙ (right.acceptor.1 d).1 f)), e)
 
   state_typed : (s : State) (T : Tree) → C s ≡ Some T → IsTypeState c s
   state_typed s T e = let i = type_is p.types c s T e in (i.0, i.1)

@@ -9,9 +9,10 @@ use Rattle.xd_laws.specs.Breach.{Lined, goals_of}
 use Rattle.xd_proof.specs.Goals.{AreGoalsAt}
 use Rattle.xd_proof.specs.declared.proof.ProofGoal.{ProofGoal}
 use Rattle.xd_proof_write.specs.ClaimText.{claim_text}
-use Rattle.xd_command.specs.Output.{Output}
-use Rattle.xd_command.specs.Texts.{Holding, IsHeld, document_limit}
-use Rattle.xd_command.specs.Proofs.{IsProved, Judges, EndsAtProof, IsProof, AnswersVerify, AnswersUpgrade}
+use Rattle.xd_steps.specs.Output.{Output}
+use Rattle.xd_steps.specs.Texts.{Holding, IsHeld, document_limit}
+use Rattle.xd_steps.specs.Proofs.{EndsAtProof, IsProof}
+use Rattle.xd_command.specs.Verify.{IsProved, Judges, AnswersVerify, AnswersUpgrade}
 use Rattle.xd_command.proofs.Steps.{text_later}
 
 claim_of : (P : ProgramTree) (types : List Row) (proof : List ProofGoal) (goals : List Lined) (o : Output) → AreGoalsAt types proof goals → 0 < length proof →

@@ -1,12 +1,8 @@
-pub mod Growth
-pub mod CarryNothing
 pub mod Steps
 pub mod Inclusions
-pub mod KnownNames
 pub mod LineOrder
 pub mod Merged
 pub mod Numbers
-pub mod Reporting
 pub mod Verdicts
 pub mod Inputs
 pub mod Running

@@ -9,7 +9,7 @@ use Rattle.xd_syntax.specs.declared.fault.Warning.{Warning}
 use Rattle.xd_syntax.proofs.Sorting.{IsLeast, IsUp}
 use Rattle.xd_laws.specs.KeptLines.{AllPaired, IsFaultOf, IsWarningOf, warnings_among}
 use Rattle.xd_command.specs.Report.{of_fault, of_warning, AreLineTexts, no_line, next_line}
-use Rattle.xd_command.specs.Merging.{IsMerged, no_more, a_fault, a_warning, stands_behind, is_placed_behind}
+use Rattle.xd_steps.specs.Merging.{IsMerged, no_more, a_fault, a_warning, stands_behind, is_placed_behind}
 
 is_dead : (k : LineKind) → is_warning k ≡ true → k ≡ dead_clause
 is_dead dead_clause e = refl

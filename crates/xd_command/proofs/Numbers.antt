@@ -1,5 +1,5 @@
 -- The numbers among the words of a command.
-use Rattle.std.proofs.Common.{◌≡◌, ℕ, ◌+◌, ◌<◌, ◌≤◌, ◌^◌, Bool, true, false, cond, ◌&&◌, nat_lt, List, Some, None, refl, ap, sym, ◌∙◌, arith}
+use Rattle.std.proofs.Common.{◌≡◌, ℕ, ◌+◌, ◌<◌, ◌≤◌, true, false, nat_lt, List, Some, None, refl, ap, sym, ◌∙◌, arith}
 use Rattle.std.specs.Fmt.{decimal}
 use Rattle.std.specs.Str.{bytes_eq}
 use Rattle.std.specs.Str.Parse.{AllDigits, digits_value}
@@ -32,19 +32,3 @@ number_too_great limit w n s h =
     let some : nat_lt 0 n ≡ true = let l = (s.number).least in grind (arith, nat_tests, l) in
     let few : nat_lt n (limit + 1) ≡ false = grind (arith, nat_tests, h) in
     rw (v, same, some, few) refl
-
--- and a word that spells none has none
-pub number_missing : (limit : ℕ) (w : List ℕ) → limit < 10 ^ 18 → ((n : ℕ) → SpellsNumber w n → ⊥) → number_within limit w ≡ None
-number_missing limit w small h = by (bytes_eq (decimal n) w) (nat_lt 0 n) (nat_lt n (limit + 1)) refl refl refl
-  where
-    n : ℕ
-    n = digits_value 10 w
-
-    by : (a b c : Bool) → bytes_eq (decimal n) w ≡ a → nat_lt 0 n ≡ b → nat_lt n (limit + 1) ≡ c → cond (a && (b && c)) (Some n) None ≡ None
-    by false b c p q r = refl
-    by true false c p q r = refl
-    by true true false p q r = refl
-    by true true true p q r =
-        let least : 0 < n = grind (arith, nat_tests, q) in
-        let most : n < limit + 1 = grind (arith, nat_tests, r) in
-        absurd (h n (record { digits = sym ((bytes_eq-Decides (decimal n) w).0 p); number = record { least = least; most = omega (arith, most, small) } }))

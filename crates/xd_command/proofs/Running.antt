@@ -12,17 +12,15 @@ use Rattle.xd_syntax.specs.Types.{tree}
 use Rattle.xd_syntax.specs.declared.types.TypeId.{TypeId}
 use Rattle.xd_syntax.specs.Sound.{main_parameter}
 use Rattle.xd_command.specs.Fits.{IsAcceptor}
-use Rattle.xd_command.specs.Output.{Output}
-use Rattle.xd_command.specs.declared.output.Stop.{Stop}
+use Rattle.xd_steps.specs.Output.{Output}
+use Rattle.xd_steps.specs.declared.output.Stop.{Stop}
 use Rattle.xd_command.specs.Run.{AnswersInput, AnswersMain, AnswersRun, input_type, no_main}
-use Rattle.xd_command.specs.Step.{DoesAll}
+use Rattle.xd_steps.specs.Step.{DoesAll}
 use Rattle.xd_command.specs.Running.{AcceptsInput, IsInputTest}
-use Rattle.xd_command.specs.Documents.{EndsAtDocument, IsDocument}
-use Rattle.xd_command.specs.Texts.{Holding}
+use Rattle.xd_steps.specs.Documents.{EndsAtDocument, IsDocument}
+use Rattle.xd_steps.specs.Texts.{Holding}
 use Rattle.xd_command.proofs.Inputs.{tree_of, input_is}
 use Rattle.xd_command.proofs.Steps.{document_later, document_same, does-map}
-
--- a program has a test of its input where it has an input type
 
 test_none : (E : Definitions) (i : Option Tree) → i ≡ None → AcceptsInput E i None
 test_none E None e = tt
@@ -63,14 +61,6 @@ module _ (holds : Holding) (rose : Type 0) (document : List ℕ) (fuel : ℕ) (P
   goes_on None o T e d k h = absurd (cc)
   goes_on (Some U) o T e d k h = let q : T ≡ U = cc in inr (d, k, subst (λ V. AnswersInput P V fuel d o) q h)
 
-  -- a run that ends at its document, and one that comes to an answer
-  pub main_ends : (a : Automaton) (s : State) (o : Output) → IsInputTest P (Some (a, s)) → EndsAtDocument holds rose document o → AnswersMain holds rose document fuel P (input_type P) o
-  main_ends a s o t h = let k = has_type P a s t in ends_at (input_type P) o k.0 k.1 h
-
-  pub main_answers : (a : Automaton) (s : State) (o : Output) (d : Document) → IsInputTest P (Some (a, s)) → IsDocument holds document d → ((T : Tree) → input_type P ≡ Some T → AnswersInput P T fuel d o)
-      → AnswersMain holds rose document fuel P (input_type P) o
-  main_answers a s o d t k h = let e = has_type P a s t in goes_on (input_type P) o e.0 e.1 d k (h e.0 e.1)
-
   -- a run that answers so on a document of a file
   pub main_does : (a : Automaton) (s : State) (d : Document) (r : Result Output Stop) → IsInputTest P (Some (a, s)) → IsDocument holds document d →
       ((T : Tree) → input_type P ≡ Some T → DoesAll r (AnswersInput P T fuel d)) → DoesAll r (AnswersMain holds rose document fuel P (input_type P))
@@ -87,8 +77,6 @@ module _ (holds : Holding) (rose : Type 0) (document : List ℕ) (fuel : ℕ) (P
 
   pub without_test : (o : Output) → IsAccepted P → IsInputTest P None → o ≡ no_main → AnswersRun holds rose document fuel P o
   without_test o a t e = inr (a, no_type (names_of P) (input_type P) o t e)
-
--- what a run answers where the shelf holds the same
 
 main_later : (a b c : ℕ) {old new : Holding} (document : List ℕ) (fuel : ℕ) (P : ProgramTree) (i : Option Tree) (o : Output) → a ≤ b → new ≡ old →
     AnswersMain new (HasRisen b c) document fuel P i o → AnswersMain old (HasRisen a c) document fuel P i o

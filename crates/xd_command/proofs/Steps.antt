@@ -1,16 +1,15 @@
 -- What the steps of a command give.
-use Rattle.std.proofs.Common.{◌≡◌, ℕ, ◌+◌, ◌<◌, ◌≤◌, inl, inr, Bool, true, false, List, length, Option, Some, None, Result, Ok, Err, refl, sym, ap, subst, ◌∙◌, arith, length-take}
-use Rattle.std.proofs.lemmas.List.{take_all}
+use Rattle.std.proofs.Common.{◌≡◌, ℕ, ◌≤◌, inl, inr, Bool, true, false, List, Result, Ok, Err, sym, ap, subst, ◌∙◌, arith}
 use Rattle.std.proofs.lemmas.Result.{err_from_is_err_and}
 use Rattle.std.specs.Result.{IsErrAnd}
-use Rattle.xd_base.specs.Outside.{HasRisen, GivesFront, IsFrontOf, IsLacking}
+use Rattle.xd_base.specs.Outside.{HasRisen, IsLacking}
 use Rattle.xd_doc.specs.Document.{Document}
-use Rattle.xd_command.specs.declared.output.Stop.{Stop}
-use Rattle.xd_command.specs.declared.output.Stop.TheVariants.{Refused, NoMemory}
-use Rattle.xd_command.specs.Output.{Output}
-use Rattle.xd_command.specs.Step.{DoesStep}
-use Rattle.xd_command.specs.Texts.{Holding, IsHeld, EndsAtText, document_limit}
-use Rattle.xd_command.specs.Documents.{EndsAtDocument, IsDocument}
+use Rattle.xd_steps.specs.declared.output.Stop.{Stop}
+use Rattle.xd_steps.specs.declared.output.Stop.TheVariants.{Refused, NoMemory}
+use Rattle.xd_steps.specs.Output.{Output}
+use Rattle.xd_steps.specs.Step.{DoesStep}
+use Rattle.xd_steps.specs.Texts.{Holding, IsHeld, EndsAtText, document_limit}
+use Rattle.xd_steps.specs.Documents.{EndsAtDocument, IsDocument}
 use Rattle.xd_syntax.specs.Program.{ProgramTree}
 use Rattle.xd_command.specs.Fits.{AnswersFits}
 
@@ -35,28 +34,6 @@ does-map ends ends' finds finds' (Err NoMemory) f g h = tt
 -- no test is false and true
 pub not_both : ◌≡◌ {A = Bool} false true → ⊥
 not_both e = cc
-
--- what is fetched within a limit
-
-front_is : (n : ℕ) (t : Option (List ℕ)) (bytes : List ℕ) → IsFrontOf t (n + 1) bytes → length bytes ≤ n → t ≡ Some bytes
-front_is n (Some t) bytes e h =
-    let short : length t ≤ n = omega (arith, ap length e, length-take (n + 1) t) in
-    ap (λ x. Some x) (sym (e ∙ take_all (n + 1) t (omega arith)))
-front_is n None bytes e h = absurd e
-
-front_long : (n : ℕ) (t : Option (List ℕ)) (bytes : List ℕ) → IsFrontOf t (n + 1) bytes → n < length bytes → (text : List ℕ) × ((t ≡ Some text) × (n < length text))
-front_long n (Some t) bytes e h = (t, (refl, omega (arith, ap length e, length-take (n + 1) t)))
-front_long n None bytes e h = absurd e
-
-pub text_told : (holds : Holding) (name : List ℕ) (n : ℕ) (bytes : List ℕ) → GivesFront holds name (n + 1) bytes → length bytes ≤ n → IsHeld holds name bytes
-text_told (Some texts) name n bytes g h = front_is n (texts name) bytes g h
-text_told None name n bytes g h = tt
-
-pub long_told : (holds : Holding) (name : List ℕ) (n : ℕ) (bytes : List ℕ) → GivesFront holds name (n + 1) bytes → n < length bytes → (text : List ℕ) × (IsHeld holds name text × (n < length text))
-long_told (Some texts) name n bytes g h = front_long n (texts name) bytes g h
-long_told None name n bytes g h = (bytes, (tt, h))
-
--- what a later step gives, the shelf holding the same
 
 -- a count that rises later has risen
 risen_later : (a b c : ℕ) → a ≤ b → HasRisen b c → HasRisen a c

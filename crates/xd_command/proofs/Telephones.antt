@@ -13,8 +13,8 @@ use Rattle.xd_laws.specs.LineSamples.{persons_at}
 use Rattle.xd_telephones.specs.Telephones.{telephone_text, telephone_program}
 use Rattle.xd_telephones.specs.Laws.{TextIsRead, NothingIsReported, TelephonesAreListed}
 use Rattle.xd_telephones.specs.Persons.{sample_of, telephones_to}
-use Rattle.xd_command.specs.Output.{Output}
-use Rattle.xd_command.specs.Programs.{AreTextFaults, EndsAtFaults}
+use Rattle.xd_steps.specs.Output.{Output}
+use Rattle.xd_steps.specs.Programs.{AreTextFaults, EndsAtFaults}
 use Rattle.xd_command.specs.Run.{EndsAtLines, EndsAtValue, IsValue, input_type}
 use Rattle.xd_command.specs.Running.{AcceptsInput, IsInputTest}
 

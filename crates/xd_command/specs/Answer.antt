@@ -3,13 +3,13 @@
 use Rattle.std.specs.Prelude.{◌≡◌, Option, Some, None}
 use Rattle.xd_command.specs.declared.command.Command.{Command}
 use Rattle.xd_command.specs.declared.command.Command.TheVariants.{Fits, Subtype, Verify, Upgrade, Check, Run, Sample}
-use Rattle.xd_command.specs.Output.{Output, usage}
-use Rattle.xd_command.specs.Step.{Step}
-use Rattle.xd_command.specs.Texts.{Holding}
-use Rattle.xd_command.specs.Programs.{EndsAtProgram, IsProgram}
+use Rattle.xd_steps.specs.Output.{Output, usage}
+use Rattle.xd_steps.specs.Step.{Step}
+use Rattle.xd_steps.specs.Texts.{Holding}
+use Rattle.xd_steps.specs.Programs.{EndsAtProgram, IsProgram}
 use Rattle.xd_command.specs.Fits.{AnswersFits}
 use Rattle.xd_command.specs.Subtype.{AnswersSubtype}
-use Rattle.xd_command.specs.Proofs.{AnswersVerify, AnswersUpgrade}
+use Rattle.xd_command.specs.Verify.{AnswersVerify, AnswersUpgrade}
 use Rattle.xd_command.specs.Check.{AnswersCheck}
 use Rattle.xd_command.specs.Run.{AnswersRun}
 use Rattle.xd_command.specs.Sample.{AnswersSample}

@@ -2,7 +2,7 @@
 use Rattle.std.specs.Prelude.{◌≡◌, ℕ, List, [], ◌∷◌, ◌++◌, codes}
 use Rattle.xd_syntax.specs.Program.{ProgramTree}
 use Rattle.xd_syntax.specs.CheckFaults.{Line, AreLines, faults_among}
-use Rattle.xd_command.specs.Output.{Output}
+use Rattle.xd_steps.specs.Output.{Output}
 use Rattle.xd_command.specs.Report.{AreLineTexts}
 
 -- the text of the lines, and `accepted` where none of them is a fault

@@ -8,10 +8,10 @@ use Rattle.xd_syntax.specs.Fits as types
 use Rattle.xd_syntax.specs.Program.{ProgramTree, names_of}
 use Rattle.xd_syntax.specs.Sound.{is_defined, type_named}
 use Rattle.xd_syntax.specs.declared.fault.FaultKind.TheVariants.{NoSuchName}
-use Rattle.xd_command.specs.Output.{Output, yes, no, fault_lines}
-use Rattle.xd_command.specs.Step.{Step}
-use Rattle.xd_command.specs.Texts.{Holding}
-use Rattle.xd_command.specs.Documents.{EndsAtDocument, IsDocument}
+use Rattle.xd_steps.specs.Output.{Output, yes, no, fault_lines}
+use Rattle.xd_steps.specs.Step.{Step}
+use Rattle.xd_steps.specs.Texts.{Holding}
+use Rattle.xd_steps.specs.Documents.{EndsAtDocument, IsDocument}
 
 -- no type has this name
 abbrev pub EndsAtName : ProgramTree → (name : List ℕ) → Output → Type 0

@@ -1,15 +1,8 @@
-pub mod Output
-pub mod Step
-pub mod Texts
-pub mod Programs
-pub mod Documents
 pub mod Command
 pub mod Fits
 pub mod Subtype
-pub mod Proofs
-pub mod Reading
+pub mod Verify
 pub mod Report
-pub mod Merging
 pub mod Check
 pub mod Run
 pub mod Running

@@ -10,11 +10,11 @@ use Rattle.xd_syntax.specs.Program.{Parameter, FunctionDefinition, ProgramTree, 
 use Rattle.xd_syntax.specs.CheckFaults.{Line, AreLines, faults_among, IsAccepted}
 use Rattle.xd_laws.specs.Meaning.{Done, Spent, meaning}
 use Rattle.xd_syntax.specs.declared.fault.FaultKind.TheVariants.{NoMain}
-use Rattle.xd_command.specs.Output.{Output, fault_lines, outside_input, fuel_spent, canonical}
+use Rattle.xd_steps.specs.Output.{Output, fault_lines, outside_input, fuel_spent, canonical}
 use Rattle.xd_command.specs.Report.{AreLineTexts}
-use Rattle.xd_command.specs.Step.{Step}
-use Rattle.xd_command.specs.Texts.{Holding}
-use Rattle.xd_command.specs.Documents.{EndsAtDocument, IsDocument}
+use Rattle.xd_steps.specs.Step.{Step}
+use Rattle.xd_steps.specs.Texts.{Holding}
+use Rattle.xd_steps.specs.Documents.{EndsAtDocument, IsDocument}
 
 abbrev pub only_declared : List Parameter → Option Tree
 only_declared [] = None

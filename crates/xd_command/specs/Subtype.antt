@@ -18,8 +18,8 @@ use Rattle.xd_heads.specs.Mirrors.{continuation_of}
 use Rattle.xd_laws.specs.Breach.{Lined, goals_of}
 use Rattle.xd_laws.specs.Consistent.{Goal, IsConsistent, numbered}
 use Rattle.xd_command.specs.Fits.{IsAcceptor}
-use Rattle.xd_command.specs.Output.{Output, separated, fault_lines}
-use Rattle.xd_command.specs.Proofs.{HasGoals}
+use Rattle.xd_steps.specs.Output.{Output, separated, fault_lines}
+use Rattle.xd_steps.specs.Proofs.{HasGoals}
 
 -- a fault where no type has this name
 abbrev pub undefined : ProgramTree → (name : List ℕ) → List Fault

@@ -6,13 +6,13 @@ ghost use Rattle.xd_base.specs.Outside.{HasRisen};
 ghost use Rattle.xd_command.specs.Answer.{Answers};
 ghost use Rattle.xd_command.specs.Command.{CanRun, command_of, fuel_limit, number_within, of_one, of_three, of_two, sample_limit};
 ghost use Rattle.xd_command.specs.declared.command.Command.TheVariants as commands;
-ghost use Rattle.xd_command.specs.Step.{DoesAll};
+ghost use Rattle.xd_steps.specs.Step.{DoesAll};
 
-use crate::output::{Output, Stop};
 use std::alloc::Global;
 use std::marker::Model;
 use xd_base::Shelf;
 use xd_proof_form::read_number;
+use xd_steps::{Output, Stop};
 
 mod check;
 mod fits;

@@ -7,25 +7,18 @@ ghost use Rattle.xd_base.specs.Outside.{HasRisen};
 ghost use Rattle.xd_command.specs.Answer.{IsAnswer};
 ghost use Rattle.xd_command.specs.Command.{command_of};
 ghost use Rattle.xd_command.specs.Outcome.{IsOutcome};
-ghost use Rattle.xd_command.specs.Step.{DoesAll};
+ghost use Rattle.xd_steps.specs.Step.{DoesAll};
 
 use crate::command::Command;
-use crate::output::{Output, Stop};
 use std::alloc::Global;
 use xd_base::{Shelf, Sink};
+use xd_steps::{Output, Stop};
 
 mod command;
-mod document;
 mod membership;
-mod output;
-mod program;
-mod proof;
-mod report;
-mod status;
-mod text;
 
 pub use command::sample_document;
-pub use status::Status;
+pub use xd_steps::Status;
 
 /// What the words ask for, made in memory.
 fn answer<H: Shelf>(alloc: Global, words: &[String], shelf: &mut H) -> Result<Output, Stop>

@@ -5,16 +5,14 @@ ghost use Rattle.xd_base.specs.Outside.{HasRisen};
 ghost use Rattle.xd_syntax.specs.Kept.{program_tree};
 ghost use Rattle.xd_command.specs.Answer.{Answers};
 ghost use Rattle.xd_command.specs.Check.{AnswersCheck};
-ghost use Rattle.xd_command.specs.Step.{DoesAll};
+ghost use Rattle.xd_steps.specs.Step.{DoesAll};
 ghost use Rattle.xd_command.specs.declared.command.Command.TheVariants as commands;
 
-use crate::output::{Output, Stop};
-use crate::program::load_program;
-use crate::report::report_lines;
 use std::alloc::Global;
 use xd_base::Shelf;
 use xd_check::CheckOutcome;
 use xd_doc::{NoMemory, Store};
+use xd_steps::{Output, Stop, load_program, report_lines};
 use xd_syntax::SoundProgram;
 
 /// The lines of the sound program, and whether it is accepted.

@@ -4,16 +4,14 @@ ghost use Rattle.xd_base.specs.Outside.{HasRisen};
 ghost use Rattle.xd_syntax.specs.Kept.{program_tree};
 ghost use Rattle.xd_command.specs.Answer.{Answers};
 ghost use Rattle.xd_command.specs.Fits.{AnswersFits};
-ghost use Rattle.xd_command.specs.Step.{DoesAll};
+ghost use Rattle.xd_steps.specs.Step.{DoesAll};
 ghost use Rattle.xd_command.specs.declared.command.Command.TheVariants as commands;
 
-use crate::document::load_document;
 use crate::membership::{acceptor, accepts};
-use crate::output::{Output, Stop};
-use crate::program::load_program;
 use std::alloc::Global;
 use xd_base::Shelf;
 use xd_doc::Store;
+use xd_steps::{Output, Stop, load_document, load_program};
 use xd_syntax::SoundProgram;
 
 /// Whether the document of this file fits the type of this name in the sound program.

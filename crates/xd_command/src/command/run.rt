@@ -9,20 +9,17 @@ ghost use Rattle.xd_syntax.specs.Tree.{Tree};
 ghost use Rattle.xd_command.specs.Answer.{Answers};
 ghost use Rattle.xd_command.specs.Run.{AnswersInput, AnswersMain, AnswersRun, EndsAtLines, EndsAtValue, IsValue, input_type};
 ghost use Rattle.xd_command.specs.Running.{IsInputTest};
-ghost use Rattle.xd_command.specs.Step.{DoesAll, DoesStep};
+ghost use Rattle.xd_steps.specs.Step.{DoesAll, DoesStep};
 ghost use Rattle.xd_command.specs.declared.command.Command.TheVariants as commands;
 
-use crate::document::load_document;
 use crate::membership::{acceptor, accepts};
-use crate::output::{Output, Stop};
-use crate::program::load_program;
-use crate::report::report_lines;
 use std::alloc::Global;
 use xd_auto::{Auto, State};
 use xd_base::Shelf;
 use xd_check::{CheckOutcome, check};
 use xd_doc::{NoMemory, Seq, Store};
 use xd_eval::{Outcome, evaluate};
+use xd_steps::{Output, Stop, load_document, load_program, report_lines};
 use xd_syntax::{Checked, SoundProgram, parameter_of_main};
 
 /// A state that accepts exactly what fits the input type, where `main` has one parameter.

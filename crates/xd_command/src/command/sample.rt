@@ -10,14 +10,13 @@ ghost use Rattle.xd_telephones.specs.Persons.{field, person, persons_to};
 ghost use Rattle.xd_command.specs.Command.{sample_limit};
 ghost use Rattle.xd_command.specs.Running.{IsInputTest};
 ghost use Rattle.xd_command.specs.Sample.{AnswersSample};
-ghost use Rattle.xd_command.specs.Step.{DoesAll};
+ghost use Rattle.xd_steps.specs.Step.{DoesAll};
 
 use crate::command::run::{accept, value_on};
-use crate::output::{Output, Stop};
-use crate::program::sound_program;
 use std::alloc::Global;
 use xd_auto::{Auto, State};
 use xd_doc::{Label, NoMemory, Seq, Store, Text};
+use xd_steps::{Output, Stop, sound_program};
 use xd_syntax::{Checked, SoundProgram};
 use xd_telephones::{nothing_is_reported, telephones_are_listed, text_is_read};
 use xd_write::write_document;

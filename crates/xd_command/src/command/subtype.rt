@@ -9,11 +9,9 @@ ghost use Rattle.xd_syntax.specs.Types as types;
 ghost use Rattle.xd_proof_make.specs.Made.{UsesDefined};
 ghost use Rattle.xd_command.specs.Answer.{Answers};
 ghost use Rattle.xd_command.specs.Subtype.{AnswersInclusion, AnswersSubtype, AreNamed, EndsAtNames, IsStateOf};
-ghost use Rattle.xd_command.specs.Step.{DoesAll, DoesStep};
+ghost use Rattle.xd_steps.specs.Step.{DoesAll, DoesStep};
 ghost use Rattle.xd_command.specs.declared.command.Command.TheVariants as commands;
 
-use crate::output::{Output, Stop};
-use crate::program::load_program;
 use std::alloc::Global;
 use xd_auto::{Auto, State};
 use xd_base::Shelf;
@@ -21,6 +19,7 @@ use xd_doc::{NoMemory, Store};
 use xd_goals::{Table, Verdict, decide, new_tables_stand};
 use xd_heads::{Cells, compile_type};
 use xd_proof_text::proof_text;
+use xd_steps::{Output, Stop, load_program};
 use xd_syntax::{SoundProgram, TypeId};
 
 /// Two types as states of one automaton, with its cells.

@@ -6,18 +6,16 @@ ghost use Rattle.xd_laws.specs.Breach.{Lined};
 ghost use Rattle.xd_proof.specs.Goals.{AreGoalsAt};
 ghost use Rattle.xd_syntax.specs.Kept.{program_tree};
 ghost use Rattle.xd_command.specs.Answer.{Answers};
-ghost use Rattle.xd_command.specs.Proofs.{AnswersVerify, Judges};
-ghost use Rattle.xd_command.specs.Step.{DoesAll};
+ghost use Rattle.xd_command.specs.Verify.{AnswersVerify, Judges};
+ghost use Rattle.xd_steps.specs.Step.{DoesAll};
 ghost use Rattle.xd_command.specs.declared.command.Command.TheVariants as commands;
 
-use crate::output::{Output, Stop};
-use crate::program::load_program;
-use crate::proof::load_proof;
 use std::alloc::Global;
 use xd_base::Shelf;
 use xd_doc::NoMemory;
 use xd_proof::Proof;
 use xd_proof_check::{ProofVerdict, accepts};
+use xd_steps::{Output, Stop, load_program, load_proof};
 use xd_syntax::SoundProgram;
 
 /// Whether the proof is consistent.

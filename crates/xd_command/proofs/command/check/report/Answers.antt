@@ -2,8 +2,8 @@ use Rattle.std.proofs.Common.{[], subst, sym}
 use Rattle.xd_syntax.specs.CheckFaults.{faults_among}
 use Rattle.xd_syntax.specs.Kept.{program_tree}
 use Rattle.xd_check.specs.Outcome.{IsOutcome}
-use Rattle.xd_command.specs.Merging.{IsMerged}
-use Rattle.xd_command.proofs.Reporting.{Carry}
+use Rattle.xd_steps.specs.Merging.{IsMerged}
+use Rattle.xd_steps.proofs.Reporting.{Carry}
 use Rattle.xd_command.proofs.Verdicts.{all_carry, answers_accepted, answers_refused}
 use Rattle.xd_command.proofs.command.check.report.Goals as goal
 

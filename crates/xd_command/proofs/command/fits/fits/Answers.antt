@@ -3,7 +3,7 @@ use Rattle.xd_base.specs.Outside.{HasRisen}
 use Rattle.xd_syntax.specs.Kept.{program_tree}
 use Rattle.xd_command.specs.Answer.{Answers}
 use Rattle.xd_command.specs.Fits.{AnswersFits}
-use Rattle.xd_command.specs.Output.{Output}
+use Rattle.xd_steps.specs.Output.{Output}
 use Rattle.xd_command.specs.declared.command.Command.TheVariants.{Fits}
 use Rattle.xd_command.proofs.Steps.{does-map, fits_later}
 use Rattle.xd_command.proofs.command.fits.fits.Goals as goal

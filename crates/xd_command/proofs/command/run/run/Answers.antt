@@ -3,7 +3,7 @@ use Rattle.xd_base.specs.Outside.{HasRisen}
 use Rattle.xd_syntax.specs.Kept.{program_tree}
 use Rattle.xd_command.specs.Answer.{Answers}
 use Rattle.xd_command.specs.Run.{AnswersRun}
-use Rattle.xd_command.specs.Output.{Output}
+use Rattle.xd_steps.specs.Output.{Output}
 use Rattle.xd_command.specs.declared.command.Command.TheVariants.{Run}
 use Rattle.xd_command.proofs.Running.{run_later}
 use Rattle.xd_command.proofs.Steps.{does-map}

@@ -3,10 +3,13 @@ use Rattle.xd_goals.specs.Verdicts.{IsVerdict}
 use Rattle.xd_proof_make.specs.Made.{UsesDefined}
 use Rattle.xd_syntax.specs.Kept.{program_tree}
 use Rattle.xd_syntax.specs.Types.{tree}
-use Rattle.xd_command.specs.Output.{Output}
+use Rattle.xd_steps.specs.Output.{Output}
 use Rattle.xd_command.specs.Subtype.{AnswersInclusion, ProvesInclusion}
 use Rattle.xd_command.proofs.Inclusions.{answers_proof, inclusion_proved, row_known, row_typed}
 use Rattle.xd_command.proofs.command.subtype.compare.Goals as goal
+
+pub proof_text-requires-clause-stands : goal.proof_text-requires-clause-stands
+proof_text-requires-clause-stands c = c.decide.ensures.stands.facts
 
 pub proof_text-requires-clause-types : goal.proof_text-requires-clause-types
 proof_text-requires-clause-types c =

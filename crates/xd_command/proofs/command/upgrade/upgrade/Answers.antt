@@ -2,8 +2,8 @@ use Rattle.std.proofs.Common.{inr}
 use Rattle.xd_base.specs.Outside.{HasRisen}
 use Rattle.xd_syntax.specs.Kept.{program_tree}
 use Rattle.xd_command.specs.Answer.{Answers}
-use Rattle.xd_command.specs.Proofs.{AnswersUpgrade}
-use Rattle.xd_command.specs.Output.{Output}
+use Rattle.xd_command.specs.Verify.{AnswersUpgrade}
+use Rattle.xd_steps.specs.Output.{Output}
 use Rattle.xd_command.specs.declared.command.Command.TheVariants.{Upgrade}
 use Rattle.xd_command.proofs.Judging.{upgrade_later}
 use Rattle.xd_command.proofs.Steps.{does-map}

@@ -1,0 +1,4 @@
+pub mod Growth
+pub mod CarryNothing
+pub mod Fetching
+pub mod Reporting

@@ -1,0 +1,18 @@
+//! The steps that commands share: each reads a text from the shelf, as a program, a document or a proof, or ends the command with
+//! an output.
+#![tactic(auto)]
+
+mod document;
+mod output;
+mod program;
+mod proof;
+mod report;
+mod status;
+mod text;
+
+pub use document::load_document;
+pub use output::{Output, Stop};
+pub use program::{load_program, sound_program};
+pub use proof::load_proof;
+pub use report::report_lines;
+pub use status::Status;
