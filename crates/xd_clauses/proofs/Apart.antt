@@ -104,11 +104,6 @@ apart_more a gs bs i g b lt e p h =
     subst (λ hs. AllPaired (IsApart a) hs (bs ++ b ∷ [])) (sym (take_more gs i g lt))
     (paired_end (IsApart a) (take i gs) bs (get_or gs i g) b h (subst (λ (k : Given). IsApart a k b) e p))
 
-pub apart_there : (a : Automaton) (gs : List Given) (i : ℕ) (g : Given) → i < length gs → g ≡ get_or gs i g → AllByRecursion (λ (k : Given). IsState a k.state) gs → IsState a g.state
-apart_there a [] i g lt e h = absurd (omega arith)
-apart_there a (k ∷ gs) zero g lt e h = subst (λ (w : Given). IsState a w.state) (sym e) h.0
-apart_there a (k ∷ gs) (suc i) g lt e h = apart_there a gs i g (omega arith) e h.1
-
 module _ (E : Definitions) (A : Document → Type 0) (earlier : List PlacedTree) (P : PlacedTree) (a : Automaton) where
   pub givens_there : (gs : List Given) → All (IsMayGiven E A earlier P a) gs → AllByRecursion (λ (g : Given). IsState a g.state) gs
   givens_there [] h = tt

@@ -9,12 +9,11 @@ use Rattle.xd_auto.specs.Automaton.{Automaton, IsState, accepts, moves_at}
 use Rattle.xd_syntax.specs.Words.{has_word}
 use Rattle.xd_syntax.specs.Tree.{Definitions, occurrences}
 use Rattle.xd_syntax.specs.Placed.{PlacedTree, unplaced}
-use Rattle.xd_syntax.specs.May.{IsLive}
 use Rattle.xd_syntax.specs.Ways.{Among, Takes}
 use Rattle.xd_traces.specs.Traces.{KeepsTogether, IsTogether, trace_of}
 use Rattle.xd_traces.specs.Pairing.{IsGivenWhere}
 use Rattle.xd_traces.specs.Universal.{IsUniversal, universal_moves}
-use Rattle.xd_bind.specs.Cases.{AreCases, IsCaseOf, IsShared}
+use Rattle.xd_bind.specs.Cases.{AreCases, IsCaseOf}
 use Rattle.xd_bind.specs.declared.tracks.Given.{Given}
 use Rattle.xd_bind.proofs.SameOwned.{same_back, together_same}
 use Rattle.xd_patterns.specs.Held.{marking_of, variables_in}
@@ -95,15 +94,6 @@ module _ (E : Definitions) (P : PlacedTree) (a : Automaton) (all : State) (m : M
   }
 
   -- ---- which documents it takes
-
-  pub shared_live : IsShared a m.start q t → IsLive E (Accepted q t) [] P
-  shared_live s = (s.document, (s.proper, s.in_two, tt), (p.compiled.accepts s.document).0 s.in_one)
-
-  pub apart_dead : ((d : Document) → (accepts a d m.start && accepts q d t) ≡ false) → IsLive E (Accepted q t) [] P → ⊥
-  apart_dead h l =
-      let one : accepts q l.0 t ≡ true = l.1.1 in
-      let two : accepts a l.0 m.start ≡ true = (p.compiled.accepts l.0).1 l.2 in
-      let both : (true && true) ≡ false = sym (ap (λ v. v && true) two) ∙ sym (ap (λ v. accepts a l.0 m.start && v) one) ∙ h l.0 in cc
 
   pub left_over : (b : Bool) (d : Document) → b ≡ (accepts q d t && not (accepts a d m.start)) → (b ≡ true) ↔ ((accepts q d t ≡ true) × (Takes E (unplaced P) d → ⊥))
   left_over b d e = (

@@ -1,29 +1,21 @@
 -- A variable has by its number the moves that it has by its word.
-use Rattle.std.proofs.Common.{◌≡◌, ◌≢◌, ℕ, ◌<◌, nat_lt, Bool, true, false, ◌&&◌, [], length, get_or, arith, refl, ap, sym, ◌∙◌}
+use Rattle.std.proofs.Common.{◌≡◌, ℕ, ◌<◌, nat_lt, Bool, true, false, ◌&&◌, [], length, get_or, arith, refl, ap, sym, ◌∙◌}
 use Rattle.std.proofs.lemmas.Bool.Decides.{nat_tests}
 use Rattle.xd_doc.specs.Document.{Document}
 use Rattle.xd_auto.specs.declared.auto.State.{State}
 use Rattle.xd_auto.specs.Automaton.{Automaton}
 use Rattle.xd_syntax.specs.Words.{has_word}
-use Rattle.xd_traces.specs.declared.kind.MoveKind.{MoveKind}
 use Rattle.xd_traces.specs.declared.kind.MoveKind.TheVariants as M
 use Rattle.xd_traces.specs.Traces.{Owned, held}
 use Rattle.xd_traces.specs.Pairing.{IsGivenWhere}
 use Rattle.xd_bind.specs.Cases.{OwnsNone}
-use Rattle.xd_bind.specs.Owning.{is_owned}
 use Rattle.xd_bind.proofs.SameOwned.{SameOwned, trace_same}
 use Rattle.xd_patterns.specs.Held.{marking_of, marks_at, variables_in}
 use Rattle.xd_patterns.specs.Marked.{MoveMarks}
 use Rattle.xd_patterns.specs.declared.marked.Marked.{Marked}
 use Rattle.xd_clauses.specs.Owning.{moves_of, moves_of_number}
 use Rattle.xd_clauses.specs.Whole.{without}
-use Rattle.xd_clauses.proofs.Turning.{without_here, without_there}
-
--- a move of either kind
-pub owned_by_kind : (m : Marked) (all : State) (x : ℕ) (kind : MoveKind) (s : State) (n : ℕ) →
-    is_owned (moves_of_number m all x) kind s n ≡ (nat_lt x (length (variables_in m)) && has_word (marks_at (without all (marking_of m) s) kind n) (get_or (variables_in m) x []))
-owned_by_kind m all x M.Label s n = refl
-owned_by_kind m all x M.Text s n = refl
+use Rattle.xd_clauses.proofs.Turning.{without_here}
 
 tested : (x n : ℕ) (b : Bool) → x < n → (nat_lt x n && b) ≡ b
 tested x n b h = let t : nat_lt x n ≡ true = grind (arith, nat_tests) in ap (λ v. v && b) t
@@ -61,7 +53,3 @@ owns_none m all x =
       text = λ n. ap (λ (k : MoveMarks). below && has_word (get_or k.texts n []) w) here ∙ and_false below;
       element = λ n. ap (λ (k : MoveMarks). below && has_word (get_or k.labels n []) w) here ∙ and_false below;
     }
-
--- the marks of another state
-pub held_elsewhere : (m : Marked) (all : State) (kind : MoveKind) (s : State) (n : ℕ) → s.number ≢ all.number → marks_at (without all (marking_of m) s) kind n ≡ marks_at (marking_of m s) kind n
-held_elsewhere m all kind s n ne = ap (λ (k : MoveMarks). marks_at k kind n) (without_there all (marking_of m) s ne)

@@ -1,5 +1,5 @@
 -- A pattern's automaton with contents turned to a universal state is that of the pattern too.
-use Rattle.std.proofs.Common.{◌≡◌, ◌≢◌, inl, inr, ℕ, zero, suc, ◌+◌, ◌<◌, ◌≤◌, nat_eq, true, false, cond, List, [], ◌∷◌, ◌++◌, length, take, get_or, get_or-set_same, below_more, refl, sym, ap, ◌∙◌, subst, arith}
+use Rattle.std.proofs.Common.{◌≡◌, ◌≢◌, inl, inr, ℕ, zero, suc, ◌+◌, ◌<◌, ◌≤◌, nat_eq, true, false, cond, List, [], ◌∷◌, ◌++◌, length, take, get_or, get_or-set_same, refl, sym, ap, ◌∙◌, subst, arith}
 use Rattle.std.proofs.lemmas.Bool.{cases_lt}
 use Rattle.std.proofs.lemmas.Bool.Decides.{nat_tests}
 use Rattle.std.proofs.lemmas.List.{take_more}
@@ -12,7 +12,7 @@ use Rattle.xd_syntax.specs.Tree.{Tree, Definitions}
 use Rattle.xd_laws.specs.KeptLines.{AllPaired}
 use Rattle.xd_traces.specs.Universal.{IsUniversal, every_name, moves_back, reads_back}
 use Rattle.xd_patterns.specs.Marked.{Marking, IsCompiled}
-use Rattle.xd_clauses.specs.Whole.{TakesAll, AreWhole, IsTurned, AreTurned, HasUniversal, without, bare, AreTurnedTo, AddsTurned}
+use Rattle.xd_clauses.specs.Whole.{TakesAll, AreWhole, IsTurned, HasUniversal, without, bare, AreTurnedTo, AddsTurned}
 use Rattle.xd_clauses.proofs.Alike.{IsLikeText, IsLikeLabel, AreAlike, compiled_same}
 
 -- ---- marks without those of a state
@@ -137,28 +137,6 @@ state_at n = record { number = n }
 same_state : (s t : State) → s.number ≡ t.number → s ≡ t
 unfolding state_at
 same_state s t e = ap state_at e
-
--- the moves on a text of one state more, with those on an element before
-pub turned_state : (a : Automaton) (k : Marking) (all s : State) (old b c d : Automaton) (n : ℕ) → n ≡ s.number → moves_at old s ≡ no_moves (moves_at a s).last →
-    AreTurnedTo a k all old b n → AddsTurned a k all s (moves_at a s).labels b c → ChangesOnly s c d → moves_at d s ≡ record (moves_at c s) { texts = (moves_at a s).texts } →
-    AreTurnedTo a k all old d (n + 1)
-turned_state a k all s old b c d n e bare_before h more changes here =
-    let last : (moves_at d s).last ≡ (moves_at a s).last =
-    ap (λ (x : StateMoves). x.last) here ∙ more.last ∙ ap (λ (x : StateMoves). x.last) (h.waiting s (omega arith)) ∙ ap (λ (x : StateMoves). x.last) bare_before in
-    let at_s : AreTurned a k all (moves_at a s) (moves_at d s) = record {
-      last = last;
-      labels = subst (λ ws. AllPaired (IsTurned a k all) (moves_at a s).labels ws) (sym (ap (λ (x : StateMoves). x.labels) here)) more.labels;
-      texts = ap (λ (x : StateMoves). x.texts) here;
-    } in
-    record {
-      sized = changes.states ∙ more.changes.states ∙ h.sized;
-      done = λ t lt. below_more (λ (i : ℕ). (q : State) → q.number ≡ i → AreTurned a k all (moves_at a q) (moves_at d q)) n
-          (λ i lt2 q is. let ne : q.number ≢ s.number = λ r. omega (arith, r, e, is, lt2) in
-          let before : q.number < n = omega (arith, is, lt2) in
-          subst (λ ms. AreTurned a k all (moves_at a q) ms) (sym (changes.others q ne ∙ more.changes.others q ne)) (h.done q before))
-          (λ q is. subst (λ (w : State). AreTurned a k all (moves_at a w) (moves_at d w)) (same_state s q (sym e ∙ sym is)) at_s) t.number lt t refl;
-      waiting = λ t le. let ne : t.number ≢ s.number = λ q. omega (arith, q, e, le) in changes.others t ne ∙ more.changes.others t ne ∙ h.waiting t (omega arith);
-    }
 
 -- ---- the whole
 

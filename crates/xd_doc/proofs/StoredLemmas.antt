@@ -4,7 +4,7 @@ use Rattle.std.proofs.lemmas.List.{get_or_append_left, length_push}
 use Rattle.std.proofs.Math.Seq.{get_or-append_seam}
 use Rattle.std.specs.List.{AllByRecursion}
 use Rattle.xd_doc.specs.Document.{Document, empty, text, element, is_proper, has_item, rest_of, content_of, first_then, join, size, breadth}
-use Rattle.xd_doc.specs.Stored.{at_node, IsBelow, document_at, BelongsTo, item_before, is_proper_item, node_document, documents_after, documents, AreLinked, IsLinked, IsBare, Keeps, IsOlder, first_of_document, firsts_then, IsSpine, joined_at, breadth_before_last}
+use Rattle.xd_doc.specs.Stored.{at_node, IsBelow, document_at, BelongsTo, item_before, is_proper_item, node_document, documents_after, documents, AreLinked, IsLinked, IsBare, Keeps, IsOlder, first_of_document, firsts_then, joined_at, breadth_before_last}
 use Rattle.xd_doc.specs.declared.store.Seq.{Seq}
 use Rattle.xd_doc.specs.declared.store.Node.{Node}
 use Rattle.xd_doc.specs.declared.store.Item.{Item}
@@ -191,9 +191,6 @@ pub record SpineSoFar (ds : List Document) (seq : Seq) (seqs : List Seq) (rest :
   pub items : (d : Document) → firsts_then ds seqs (join (document_at ds rest) d) ≡ join (document_at ds seq) d
   pub count : length seqs + breadth (document_at ds rest) ≡ breadth (document_at ds seq)
 
-pub spine_none : (ds : List Document) (seq : Seq) → BelongsTo ds seq → SpineSoFar ds seq [] seq
-spine_none ds seq h = record { belong = tt; left = h; items = λ d. refl; count = omega arith }
-
 pub belong-push : (ds : List Document) (xs : List Seq) (seq : Seq) → AllByRecursion (BelongsTo ds) xs → BelongsTo ds seq → AllByRecursion (BelongsTo ds) (xs ++ seq ∷ [])
 belong-push ds [] seq h b = (b, tt)
 belong-push ds (x ∷ xs) seq h b = (h.0, belong-push ds xs seq h.1 b)
@@ -215,19 +212,6 @@ spine_more ds seq seqs rest next h b e filled = record {
   items = λ d. rw (firsts_then-append, e, first_then-join) (h.items d);
   count = rw e (omega (arith, length_push seqs rest, breadth-rest_of (document_at ds rest) filled, h.count));
 }
-
-pub spine_all : (ds : List Document) (seq : Seq) (seqs : List Seq) (rest : Seq) → SpineSoFar ds seq seqs rest → document_at ds rest ≡ empty → IsSpine ds seq seqs
-spine_all ds seq seqs rest h e = record {
-  belong = h.belong;
-  items = λ d. let s = h.items d in rw e at s;
-  count = let s = h.count in let t = rw e at s in omega arith;
-}
-
--- what follows an item is smaller
-pub size-rest_of : (d : Document) → has_item d ≡ true → size (rest_of d) < size d
-size-rest_of empty h = cc
-size-rest_of (text s r) h = omega arith
-size-rest_of (element l c r) h = omega arith
 
 pub is_empty : (d : Document) → has_item d ≡ false → d ≡ empty
 is_empty empty h = refl
@@ -270,11 +254,6 @@ size-parts (Text s) ds content next h =
     let e : size (document_at ds content) ≡ 0 = ap (λ (c : Seq). size (document_at ds c)) h in
     omega arith
 size-parts (Elem l) ds content next h = refl
-
-pub first_then-rest_of : (d : Document) → first_then d (rest_of d) ≡ d
-first_then-rest_of empty = refl
-first_then-rest_of (text s r) = refl
-first_then-rest_of (element l c r) = refl
 
 pub belongs_in : (ds : List Document) (parts : List Seq) (i : ℕ) (d : Seq) → AllByRecursion (BelongsTo ds) parts → i < length parts → BelongsTo ds (get_or parts i d)
 belongs_in ds [] i d h lt = absurd (omega arith)

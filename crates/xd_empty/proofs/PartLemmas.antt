@@ -1,7 +1,7 @@
 -- On the part of an automaton that leads to states that accept something.
 use Rattle.std.proofs.Common.{◌≡◌, ℕ, zero, suc, ◌+◌, ◌<◌, ◌≤◌, inl, inr, Bool, true, false, cond, ◌&&◌, ◌||◌, List, [], ◌∷◌, ◌++◌, map, take, length, get_or, Option, Some, None, is_some, refl, ap, sym, ◌∙◌, arith, subst, append_assoc, append-nil}
 use Rattle.std.specs.List.{list_any, filter}
-use Rattle.std.proofs.lemmas.Bool.{cases_eq, cases_lt}
+use Rattle.std.proofs.lemmas.Bool.{cases_lt}
 use Rattle.std.proofs.lemmas.List.{get_or_past, get_or-set_same}
 use Rattle.std.proofs.lemmas.List.Elements.{filter_more}
 use Rattle.xd_doc.specs.Document.{Document, empty, text, element}
@@ -207,31 +207,6 @@ pub record KeepsFirst (a : Automaton) (marks : List Bool) (made : Automaton) (n 
   pub count : length made ≡ length a
   pub done : (s : State) → state_number s < n → state_number s < length a → IsKeptState a marks made s
   pub bare : (s : State) → n ≤ state_number s → state_number s < length a → moves_at made s ≡ no_moves (moves_at a s).last
-
-pub keeps_next : (a : Automaton) (marks : List Bool) (made mid new : Automaton) (n : ℕ) (t : State) → state_number t ≡ n → IsState a t → KeepsFirst a marks made n
-    → AddsLabels marks t (moves_at a t).labels made mid → AddsTexts marks t (moves_at a t).texts mid new → KeepsFirst a marks new (n + 1)
-keeps_next a marks made mid new n t is there before labels texts = record {
-  count = texts.others.states ∙ labels.others.states ∙ before.count;
-  done = λ s lt below. elim (cases_eq (state_number s) (state_number t)) [
-    | inl e ↦ subst (IsKeptState a marks new) (ap (λ k. record { number = k }) (sym e)) here
-    | inr ne ↦ let old = before.done s (omega arith) below in let stays = moves_stay s ne in
-        record { last = ap (λ (m : StateMoves). m.last) stays ∙ old.last; labels = ap (λ (m : StateMoves). m.labels) stays ∙ old.labels; texts = ap (λ (m : StateMoves). m.texts) stays ∙ old.texts }
-  ];
-  bare = λ s le below. moves_stay s (λ e. omega arith) ∙ before.bare s (omega arith) below;
-}
-  where
-    moves_stay : (s : State) → (state_number s ≡ state_number t → ⊥) → moves_at new s ≡ moves_at made s
-    moves_stay s ne =
-        texts.others.others s ne ∙ labels.others.others s ne
-
-    here : IsKeptState a marks new t
-    here =
-        let none = before.bare t (omega arith) there in
-        record {
-          last = texts.last ∙ labels.last ∙ ap (λ (m : StateMoves). m.last) none;
-          labels = texts.labels ∙ labels.labels ∙ ap (λ (m : StateMoves). m.labels ++ filter (leads_on marks) (moves_at a t).labels) none;
-          texts = texts.texts ∙ ap (λ w. w ++ filter (text_leads_on marks) (moves_at a t).texts) (labels.texts ∙ ap (λ (m : StateMoves). m.texts) none);
-        }
 
 -- all states have their moves
 pub keeps_all : (a : Automaton) (marks : List Bool) (made : Automaton) (n : ℕ) → length a ≤ n → KeepsFirst a marks made n → IsKeptPart a marks made

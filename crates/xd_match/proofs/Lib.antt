@@ -2,7 +2,6 @@ pub mod Firsts
 pub mod TailLaw
 pub mod Spreading
 pub mod Pieces
-pub mod Noting
 pub mod Taken
 pub mod Staying
 pub mod Variables

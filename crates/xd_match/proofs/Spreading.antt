@@ -101,9 +101,6 @@ no_mark_more (b ∷ mixed) h (suc i) = no_mark_more mixed (λ j. h (suc j)) i
 pub state_of_number : (s t : State) → state_number s ≡ state_number t → s ≡ t
 state_of_number s t e = ap (λ (n : ℕ). record { number = n }) e
 
-pub seeded_none : (a : Automaton) (k : Marking) → AreSeeded a k [] [] 0
-seeded_none a k = record { count = refl; none = λ i. refl; even = λ s l. absurd (omega arith); within = λ i m. absurd m }
-
 pub seeded_waits : (a : Automaton) (k : Marking) (mixed : List Bool) (waiting : List ℕ) (n : ℕ) → AreSeeded a k mixed waiting n → AreSeeded a k (mixed ++ false ∷ []) (waiting ++ n ∷ []) (n + 1)
 seeded_waits a k mixed waiting n h = record {
   count = (let l = length_push mixed false in let c = h.count in omega arith);

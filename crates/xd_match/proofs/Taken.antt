@@ -116,15 +116,6 @@ module _ {A : Type 0} (a : Automaton) (k : Marking) (vs : List (List ℕ)) (ds :
       noted_whole true w = refl
       noted_whole false w = refl
 
-  pub taken_starts : (old : List (Vec Piece A)) → length old ≡ length vs → ((x : ℕ) (e : Vec Piece A) → x < length vs → (get_or old x e).items ≡ []) → IsReady a ds start
-      → AreTaken a k vs ds start old (start ∷ [])
-  taken_starts old len bare ready = record {
-    count = len;
-    ready = (ready, tt);
-    belong = λ x e lt. rw (bare x e lt) tt;
-    held_is = λ x e lt. ap (λ (ys : List Piece). pieces_then ds ys (first_held a k (get_or vs x []) (document_at ds start.seq) start.state)) (bare x e lt);
-  }
-
 pub empty_from : (d : Document) → first_of_document d ≡ None → d ≡ empty
 empty_from empty e = refl
 empty_from (text t r) e = absurd (cc)

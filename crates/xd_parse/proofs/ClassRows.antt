@@ -43,9 +43,6 @@ pub record SoFar (rest : Nonterminal) (made : List (List ℕ) → Value) (from n
   pub reads : (to : List Lexeme) (ws : List (List ℕ)) → Reads rest now to (made ws) → Reads rest from to (made (more ++ ws))
   pub fewer : length now ≤ length from
 
-pub list_begins : (rest : Nonterminal) (made : List (List ℕ) → Value) (from : List Lexeme) (first : List (List ℕ)) → SoFar rest made from from first first
-list_begins rest made from first = record { more = []; split = sym (append-nil first); reads = λ to ws r. r; fewer = omega arith }
-
 pub behind_fewer : (now : List Lexeme) → length (behind now) ≤ length now
 behind_fewer [] = omega arith
 behind_fewer (l ∷ ls) = omega arith

@@ -27,7 +27,7 @@ use Rattle.xd_parse.specs.Grows.{Grows}
 use Rattle.xd_parse.specs.Shallow.{NoDeeper, TreeWithin, ParametersWithin, DefinitionsWithin}
 use Rattle.xd_parse.proofs.Derive.{same-true}
 use Rattle.xd_parse.proofs.Grown.{IsPattern-more, IsExpr-more, same_pattern, same_expression, Grows-refl}
-use Rattle.xd_parse.proofs.AddedDepth.{none_deeper, deeper_both}
+use Rattle.xd_parse.proofs.AddedDepth.{deeper_both}
 use Rattle.xd_parse.proofs.Rows.{MeansView, means_view, ReadsRow, row_end, row_token, row_opening, row_closed, row_unless, row_part, part_one, part_fit, part_none}
 
 -- ---- what is left behind a token
@@ -141,13 +141,6 @@ last_param types from here ps h so = last_parameter from here (map (parameter ty
 pub params_kept : (old new : List NodeRow) (from to : List Lexeme) (ps : List Param) → KeepsRows old new → ParamsBelong old ps → ReadsParameters from to (map (parameter old) ps) → ReadsParameters from to (map (parameter new) ps)
 params_kept old new from to ps k b r = subst (ReadsParameters from to) (sym (same_params old new ps k b)) r
 
-some_parameters : (from here : List Lexeme) (types : List NodeRow) (ps : List Param) → ReadsParametersSoFar from here (map (parameter types) ps) → 1 ≤ length ps
-some_parameters from here types [] so = absurd so
-some_parameters from here types (q ∷ ps) so = omega arith
-
-pub some_params : (types : List NodeRow) (from here : List Lexeme) (ps : List Param) → Params types from here ps → 1 ≤ length ps
-some_params types from here ps so = some_parameters from here types ps so.reads
-
 -- ---- how deep the types of parameters are
 all_front : {X : Type 0} (P : X → Type 0) (xs ys : List X) → AllByRecursion P (xs ++ ys) → AllByRecursion P xs
 all_front P [] ys a = tt
@@ -253,9 +246,6 @@ pub record Collected (p : ProgramTable) (from here : List Lexeme) : Type 0 where
 
 abbrev pub table : List NodeRow → List NodeRow → List ExprRow → List TypeDef → List FunctionRow → ProgramTable
 table types patterns exprs defs functions = record { types = types; patterns = patterns; exprs = exprs; type_defs = defs; functions = functions }
-
-pub none_collected : (from : List Lexeme) → Collected (table [] [] [] [] []) from from
-none_collected from = record { stands = record { clauses = tt; type_defs = tt; functions = tt }; reads = λ to Q more. more; no_deeper = none_deeper (DefinitionsWithin nothing) [] }
 
 defs_more : (old new : List NodeRow) (defs : List TypeDef) → KeepsRows old new → AllByRecursion (TypeDefStands old) defs → AllByRecursion (TypeDefStands new) defs
 defs_more old new [] k a = tt

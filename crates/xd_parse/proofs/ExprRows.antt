@@ -167,10 +167,6 @@ pub behind_le : (c : List Lexeme) → length (behind c) ≤ length c
 behind_le [] = omega arith
 behind_le (l ∷ ls) = omega arith
 
-pub behind_lt : (k : Terminal) (c : List Lexeme) → same k t.Broken ≡ false → same k (front_terminal c) ≡ true → length (behind c) < length c
-behind_lt k [] h e = cc
-behind_lt k (l ∷ ls) h e = omega arith
-
 pub next_lt : (k : Terminal) (c : List Lexeme) → same k t.Broken ≡ false → front_terminal c ≡ k → length (behind c) < length c
 next_lt k [] h e = let f : same k t.Broken ≡ true = subst (λ (x : Terminal). same k x ≡ true) (sym e) (same-refl k) in cc
 next_lt k (l ∷ ls) h e = omega arith

@@ -35,23 +35,6 @@ unfolding expression_at
 expression_patterns ps qs rs i a =
     ap (λ es. expression_in es i) (after_same (placed_at ps) (placed_at (ps ++ qs)) (length ps) (λ j h. placed_kept ps qs j h) [] rs a)
 
-shape_more : (n m : ℕ) → ((i : ℕ) → i < n → i < m) → (cs : List (ℕ × ℕ)) → AllByRecursion (λ (c : ℕ × ℕ). c.0 < n) cs → AllByRecursion (λ (c : ℕ × ℕ). c.0 < m) cs
-shape_more n m h [] a = tt
-shape_more n m h (c ∷ cs) a = (h c.0 a.0, shape_more n m h cs a.1)
-
-shape_belongs_more : (n m : ℕ) → ((i : ℕ) → i < n → i < m) → (f : ExprShape) → ShapePatternsBelong n f → ShapePatternsBelong m f
-shape_belongs_more n m h empty_shape a = tt
-shape_belongs_more n m h (text_shape s) a = tt
-shape_belongs_more n m h (var_shape x) a = tt
-shape_belongs_more n m h (elem_shape l i) a = tt
-shape_belongs_more n m h (seq_shape is) a = tt
-shape_belongs_more n m h (call_shape f is) a = tt
-shape_belongs_more n m h (match_shape i cs) a = shape_more n m h cs a
-
-pub belong_more : (n m : ℕ) → ((i : ℕ) → i < n → i < m) → (rs : List ExprRow) → PatternsBelong n rs → PatternsBelong m rs
-belong_more n m h [] a = tt
-belong_more n m h (r ∷ rs) a = (shape_belongs_more n m h r.form a.0, belong_more n m h rs a.1)
-
 pub belong_push : (n : ℕ) (rs : List ExprRow) (r : ExprRow) → PatternsBelong n rs → ShapePatternsBelong n r.form → PatternsBelong n (rs ++ r ∷ [])
 belong_push n [] r a b = (b, tt)
 belong_push n (q ∷ rs) r a b = (a.0, belong_push n rs r a.1 b)
@@ -91,10 +74,6 @@ Grows-node ps es fs r a e b = record {
   nodes = record { more = r ∷ []; grown = e };
   clauses = subst (PatternsBelong (length ps)) (sym e) (belong_push (length ps) es r a b);
 }
-
--- more patterns
-pub Grows-patterns : (ps qs : List Row) (es : List ExprRow) → KeepsRows ps qs → PatternsBelong (length ps) es → Grows ps es qs es
-Grows-patterns ps qs es k a = record { rows = k; nodes = KeepsExprs-refl es; clauses = belong_more (length ps) (length qs) (λ i h. below_more ps qs i k h) es a }
 
 -- an old expression stays what it was
 pub same_expression : (ps : List Row) (es : List ExprRow) (qs : List Row) (fs : List ExprRow) (i : ℕ) → Grows ps es qs fs → PatternsBelong (length ps) es → i < length es → expression_at qs fs i ≡ expression_at ps es i

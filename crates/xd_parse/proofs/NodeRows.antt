@@ -1,10 +1,10 @@
 -- The rows of types and of patterns.
-use Rattle.std.proofs.Common.{◌≡◌, ◌≢◌, ℕ, ◌+◌, ◌<◌, ◌≤◌, arith, Bool, true, false, List, [], ◌∷◌, map, length, Some, refl, sym, ap, subst, ◌∙◌, inl, inr}
+use Rattle.std.proofs.Common.{◌≡◌, ◌≢◌, ℕ, ◌+◌, ◌≤◌, arith, true, false, List, [], ◌∷◌, map, length, Some, refl, sym, ap, subst, ◌∙◌, inl, inr}
 use Rattle.std.specs.Str.{bytes_eq}
 use Rattle.xd_base.specs.declared.Place.{Place}
 use Rattle.xd_doc.specs.Classes.{LabelClass}
 use Rattle.xd_lex.specs.Tokens.{Lexeme}
-use Rattle.xd_syntax.specs.Table.{CanFollow, KeepsRows}
+use Rattle.xd_syntax.specs.Table.{KeepsRows}
 use Rattle.xd_syntax.specs.Table.{Row as TableRow}
 use Rattle.xd_syntax.specs.Placed.{PlacedTree, Empty_at, Words_at, Name_at, Elem_at, Val_at, place_of, placed_at, placed_form}
 use Rattle.xd_syntax.specs.Words.{any_word, has_word, keywords, string_word, is_type_name}
@@ -27,7 +27,7 @@ use Rattle.xd_parse.specs.Means.{Means}
 use Rattle.xd_parse.specs.Reading.{Reads, SpellNo, group_row, element_row, front_terminal, front_place, front_text, behind}
 use Rattle.xd_parse.specs.Shallow.{NoDeeper, TreeWithin, TreesWithin}
 use Rattle.xd_parse.specs.Pieces.{Pieces, in_row, pieces, tree_of, Stand}
-use Rattle.xd_parse.specs.Nodes.{shape, merges, is_operator, repeated_node, parts_place, IsNothing, BeginsElement, IsAdded, Merges, ReadsNode, ReadsInto}
+use Rattle.xd_parse.specs.Nodes.{shape, is_operator, repeated_node, parts_place, IsNothing, BeginsElement, IsAdded, Merges, ReadsNode, ReadsInto}
 use Rattle.xd_parse.proofs.Derive.{same-other, same-true, same-false, may, is_group}
 use Rattle.xd_parse.proofs.Deeper.{alternative_branches, sequence_parts}
 use Rattle.xd_parse.proofs.AddedDepth.{IsIn, none_deeper, only_within, content_in, bound_in, repeated_in, operator_in}
@@ -114,16 +114,6 @@ repeated_is tree at t.Star p i T e f = cc
 repeated_is tree at t.Plus p i T e f = cc
 repeated_is tree at k p i T e f = cc
 
-pub repeated_follows : {I : Type 0} (at : I → ℕ) (b : Bool) (rows : List TableRow) (k : Terminal) (i : I) → at i < length rows → CanFollow b rows (shape at (repeated_node k i))
-repeated_follows at b rows t.Star i h = h
-repeated_follows at b rows t.Plus i h = h
-repeated_follows at b rows k i h = h
-
-pub repeated_alone : {I : Type 0} (at : I → ℕ) (k : Terminal) (i : I) → merges (shape at (repeated_node k i)) ≡ false
-repeated_alone at t.Star i = refl
-repeated_alone at t.Plus i = refl
-repeated_alone at k i = refl
-
 pub once_makes : (s : Sort) (T : PlacedTree) → value_of (n.Post s) (a_tree T ∷ (absent ∷ [])) ≡ a_tree T
 once_makes s T = refl
 
@@ -206,16 +196,6 @@ only_group s other from rest vs f h m (inr (inr (inr (inl e)))) = absurd (not_ro
 only_group s other from rest vs f h m (inr (inr (inr (inr (inl e))))) = absurd (not_row other _ from rest vs m e (h rest vs))
 only_group s other from rest vs f h m (inr (inr (inr (inr (inr z))))) = absurd z
 
--- a token that begins no word, no text and no exception
-only_class : (s : Sort) (k : Terminal) (from : List Lexeme) → front_terminal from ≡ k → same t.Word k ≡ false → same t.Text k ≡ false → same t.Caret k ≡ false → SpellNo (group_row s) from →
-    (other : Row) (rest : List Lexeme) (vs : List Value) → IsOneOf other (rules (n.Prim s)) → Means other from rest vs → other ≡ element_row s
-only_class s k from f w x c h other rest vs (inl e) m = absurd (not_row other _ from rest vs m e (token_other t.Word k [] from rest vs f w))
-only_class s k from f w x c h other rest vs (inr (inl e)) m = absurd (not_row other _ from rest vs m e (h rest vs))
-only_class s k from f w x c h other rest vs (inr (inr (inl e))) m = absurd (not_row other _ from rest vs m e (token_other t.Text k [] from rest vs f x))
-only_class s k from f w x c h other rest vs (inr (inr (inr (inl e)))) m = absurd (not_row other _ from rest vs m e (token_other t.Caret k _ from rest vs f c))
-only_class s k from f w x c h other rest vs (inr (inr (inr (inr (inl e))))) m = e
-only_class s k from f w x c h other rest vs (inr (inr (inr (inr (inr z))))) m = absurd z
-
 pub primary_group : (s : Sort) (from to : List Lexeme) (v : Value) (U : PlacedTree) → front_terminal from ≡ t.ParenL → SpellNo (element_row s) from → Reads (n.Group s) (behind from) to v →
     value_of (n.Prim s) (mark t.ParenL (front_place from) ∷ (v ∷ [])) ≡ a_tree U → Reads (n.Prim s) from to (a_tree U)
 primary_group s from to v U e h r m =
@@ -229,23 +209,12 @@ primary_element s from middle to p c T b r q =
     by_row (n.Prim s) (element_row s) from to _ b.only
     (row_part n.Class _ from middle to _ _ r (row_part (n.Content s) _ middle to to _ _ q (row_end to)))
 
-some_left : (k : Terminal) (from : List Lexeme) → front_terminal from ≡ k → same k t.Broken ≡ false → 0 < length from
-some_left k [] e h = absurd (same-false k t.Broken h (sym e))
-some_left k (l ∷ ls) e h = omega arith
-
 opening_other : (j k : Terminal) (row : Row) (from rest : List Lexeme) (vs : List Value) → front_terminal from ≡ k → same j k ≡ false → Means (Opening j ∷ row) from rest vs → ⊥
 opening_other j k row from rest vs e h m =
     let v : MeansView (Opening j ∷ row) from rest vs = means_view m in same-false j k h (sym v.4 ∙ sym (ap front_terminal v.3) ∙ e)
 
 no_group : (s : Sort) (k : Terminal) (from : List Lexeme) → front_terminal from ≡ k → same t.ParenL k ≡ false → SpellNo (group_row s) from
 no_group s k from e h rest vs m = opening_other t.ParenL k (Part (n.Group s) ∷ []) from rest vs e h m
-
-pub begins_listed : (s : Sort) (from : List Lexeme) → front_terminal from ≡ t.ParenL → SpellNo (group_row s) from → BeginsElement s from
-begins_listed s from e h = record { some = some_left t.ParenL from e refl; only = only_class s t.ParenL from e refl refl refl h }
-
--- a token that begins a class and no group
-pub begins_class : (s : Sort) (k : Terminal) (from : List Lexeme) → front_terminal from ≡ k → same k t.Broken ≡ false → same t.Word k ≡ false → same t.Text k ≡ false → same t.Caret k ≡ false → same t.ParenL k ≡ false → BeginsElement s from
-begins_class s k from e b w x c p = record { some = some_left k from e b; only = only_class s k from e w x c (no_group s k from e p) }
 
 -- a text, and what stands behind a `^`
 primary_text : (s : Sort) (from : List Lexeme) → front_terminal from ≡ t.Text → Reads (n.Prim s) from (behind from) (a_tree (Words_at (front_place from) (class_of false (unescaped (front_text from) ∷ []))))

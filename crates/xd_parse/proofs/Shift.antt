@@ -41,10 +41,6 @@ turns_shift d r k e s TooDeep f q a b = record {
   alive = a.back Front b.limit [] b.above b.alive;
 }
 
--- the empty row
-pub empty_stops : (d : ℕ) (k : Terminal) (f : ℕ) (q : Row) → Shifts d [] k Syntax f q
-empty_stops d k f q = record { dead = λ e l ts h g. view g k ts refl }
-
 -- a token
 pub token_next : (d : ℕ) (r : Row) (j k : Terminal) → same j k ≡ true → Shifts d (Token j ∷ r) k (Next Plain) d r
 token_next d r j k m = record {
@@ -78,22 +74,11 @@ opening_enters d r j k (Next next) f m (is, low, new) =
 opening_enters d r j k TooDeep f m high = opening_sinks d r j k f r m high
 opening_enters d r j k Syntax f m none = absurd none
 
--- the end of a level
-zero_suc : (d e : ℕ) → d ≡ 0 → d ≡ suc e → ⊥
-zero_suc d e p q = omega arith
-
-pub closed_stops : (d : ℕ) (r : Row) (k : Terminal) (f : ℕ) (q : Row) → d ≡ 0 → Shifts d (Closed ∷ r) k Syntax f q
-closed_stops d r k f q z = record { dead = λ e l ts h g. let v : View e l d (Closed ∷ r) k ts = view g k ts refl in zero_suc d v.0 z v.1 }
-
 pub closed_turns : (d f : ℕ) (r : Row) (k : Terminal) → d ≡ suc f → Turns d (Closed ∷ r) k f r
 closed_turns d f r k is = record {
   on = λ e l ts h g. let v : View e l d (Closed ∷ r) k ts = view g k ts refl in let q : v.0 ≡ f = omega (arith, v.1) in subst (λ (x : ℕ). Derives e l x r (k ∷ ts)) q v.2;
   back = λ e l ts h g. subst (λ (x : ℕ). Derives e l x (Closed ∷ r) (k ∷ ts)) (sym is) (closed g);
 }
-
--- a test of the next token
-pub unless_stops : (d : ℕ) (r : Row) (j k : Terminal) (f : ℕ) (q : Row) → same j k ≡ true → Shifts d (Unless j ∷ r) k Syntax f q
-unless_stops d r j k f q m = record { dead = λ e l ts h g. (view g k ts refl).0 (same-true j k m) }
 
 pub unless_turns : (d : ℕ) (r : Row) (j k : Terminal) → same j k ≡ false → Turns d (Unless j ∷ r) k d r
 unless_turns d r j k m = record {

@@ -146,9 +146,6 @@ spelled_within limit part ls s = one_of limit part ls (means_of s ls refl)
 all_of : (limit : ℕ) (part : Nonterminal) (ls : List Lexeme) (v : Value) → MeansWithin limit part ls v → MeansAll part ls v
 all_of limit part ls v m = subst (λ (w : Value). MeansAll part ls w) (sym m.is) (a_part m.made m.one (levels_aside m.within) ends)
 
-pub spelled_means : (limit : ℕ) (part : Nonterminal) (ls : List Lexeme) → Spells limit part (terminals_of ls) → (v : Value) × MeansAll part ls v
-spelled_means limit part ls s = let m = spelled_within limit part ls s in (m.0, all_of limit part ls m.0 m.1)
-
 -- what was read is what they stand for, and within the limit
 pub read_within : (limit : ℕ) (part : Nonterminal) (ls to : List Lexeme) (v : Value) → Spells limit part (terminals_of ls) → Reads part ls to v → MeansWithin limit part ls v
 read_within limit part ls to v s r =

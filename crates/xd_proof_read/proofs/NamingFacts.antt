@@ -10,19 +10,17 @@ use Rattle.xd_syntax.specs.Table.{Row, KeepsRows, tree_at}
 use Rattle.xd_syntax.specs.Types.{BelongsTo, tree}
 use Rattle.xd_syntax.specs.Sound.{IsTypeAt}
 use Rattle.xd_syntax.specs.Placed.{placed_at, unplaced}
-use Rattle.xd_syntax.specs.Kept.{ProgramTable, AddsTypes, program_tree}
-use Rattle.xd_syntax.specs.Shallow.{AddsWithin, nesting_limit}
-use Rattle.xd_syntax.specs.TypeText.{depth, type_text}
+use Rattle.xd_syntax.specs.Kept.{ProgramTable, program_tree}
+use Rattle.xd_syntax.specs.Shallow.{nesting_limit}
+use Rattle.xd_syntax.specs.TypeText.{type_text}
 use Rattle.xd_syntax.specs.Adopt.{uses_only}
 use Rattle.xd_syntax.specs.NameFaults.{known_types}
 use Rattle.xd_syntax.specs.declared.types.TypeId.{TypeId}
 use Rattle.xd_syntax.proofs.Trees.{tree_kept}
 use Rattle.xd_syntax.proofs.PlacedTrees.{unplaced_at}
-use Rattle.xd_syntax.proofs.ShallowTables.{none_within, within_both, weaker_within}
+use Rattle.xd_syntax.proofs.ShallowTables.{none_within, within_both}
 use Rattle.xd_syntax.proofs.AdoptLaws.{AddsTypes-trans}
 use Rattle.xd_parse.specs.Means.{IsTypeText}
-use Rattle.xd_parse.specs.Text.{SpellsText}
-use Rattle.xd_parse.specs.declared.grammar.Nonterminal.TheVariants as nonterminals
 use Rattle.xd_parse.proofs.Grown.{KeepsRows-refl}
 use Rattle.xd_parse.proofs.Sure.{texts_mean_one_thing}
 use Rattle.xd_type_laws.proofs.TheLaw.{types_read_back}
@@ -73,23 +71,7 @@ pub spelled_read : (p : ProgramTable) (new types : List Row) (bytes : List ℕ) 
 spelled_read p new types bytes id (Ok made) t u f = spelled_is p new types bytes id made t u f
 spelled_read p new types bytes id (Err e) t u f = tt
 
-pub not_spelled : (p : ProgramTable) (bytes : List ℕ) → (SpellsText nonterminals.TypeText bytes → ⊥) → (T : Tree) → SpellsTypeOf p bytes T → ⊥
-not_spelled p bytes never T s = let mine : SpellsType (known_types (program_tree p)) bytes T = s in never (mine.text).spells
-
-pub grows_adopted : (p q : ProgramTable) (old types : List Row) (id : TypeId) → old ≡ [] → BelongsTo types id → AddsWithin nesting_limit old types → AddsTypes p q → program_tree q ≡ program_tree p →
-    AddsWithin (depth (tree types id)) p.types q.types → GrowsTypes p q
-grows_adopted p q old types id e b w a s d = record {
-  adds = a;
-  same = s;
-  within = weaker_within (depth (tree types id)) nesting_limit p.types q.types (w id.at (let l = ap length e in omega (arith, l)) b) d;
-}
-
 -- ---- numbers
-pub numbered_in : {A : Type 0} (xs : List A) (k : ℕ) (d : A) → k < length xs → numbered xs (suc k) ≡ Some (get_or xs k d)
-numbered_in [] k d h = absurd (omega (arith, h))
-numbered_in (x ∷ xs) zero d h = refl
-numbered_in (x ∷ xs) (suc k) d h = numbered_in xs k d (omega (arith, h))
-
 pub numbered_past : {A : Type 0} (xs : List A) (k : ℕ) → length xs ≤ k → numbered xs (suc k) ≡ None
 numbered_past [] k h = refl
 numbered_past (x ∷ xs) zero h = absurd (omega (arith, h))

@@ -2,7 +2,7 @@
 use Rattle.std.proofs.Common.{Vec, Global, ◌≡◌, ℕ, suc, ◌+◌, arith, Bool, true, false, ◌&&◌, List, [], ◌∷◌, ◌++◌, length, length-append, Option, Some, None, Result, Ok, Err, refl, ap, sym, subst, ◌∙◌, rules}
 use Rattle.std.specs.Prelude.{nat_eq, nat_lt, vec_len, MatchOption, IfOk}
 use Rattle.std.specs.List.{AllZip}
-use Rattle.std.proofs.lemmas.Bool.{eq-eqb, lt-ltb, ne_eqb}
+use Rattle.std.proofs.lemmas.Bool.{ne_eqb}
 use Rattle.std.proofs.lemmas.Slice.Zip.{all_zipped_more}
 use Rattle.xd_doc.specs.declared.NoMemory.{NoMemory}
 use Rattle.xd_syntax.specs.Tree.{Tree}
@@ -38,18 +38,6 @@ abbrev Never : {A : Type 0} → (A → Said) → Said → Type 0
 Never {A} made s = (x : A) → s ≡ made x → ⊥
 
 module _ (types : List Row) where
-  no_goals : (s : Said) (m : ℕ) → Never said.Goals s → IsPart types s (goal_count m) → ⊥
-  no_goals (said.Goals n) m h q = h n refl
-  no_goals _ m h q = q
-
-  no_goal : (s : Said) (m : ℕ) → Never said.Goal s → IsPart types s (goal_part m) → ⊥
-  no_goal (said.Goal n) m h q = h n refl
-  no_goal _ m h q = q
-
-  no_left : (s : Said) (T : Tree) → Never said.Left s → IsPart types s (left_part T) → ⊥
-  no_left (said.Left i) T h q = h i refl
-  no_left _ T h q = q
-
   no_right : (s : Said) (T : Tree) → Never said.Right s → IsPart types s (right_part T) → ⊥
   no_right (said.Right i) T h q = h i refl
   no_right _ T h q = q
@@ -74,26 +62,7 @@ pub as_stage : (stage other : Stage) (s : Said) (line : ℕ) (o : Option Stage) 
 as_stage stage other s line o e f = subst (λ x. LeadsTo x s line o) (sym e) f
 
 -- ---- the number of goals
-pub title_next : (n line : ℕ) → LeadsTo stages.AtCount (said.Goals n) line (Some (stages.AtFirstGoal n))
-title_next n line types first at_count (goal_count m) i q e = (at_first_goal m, only_true (nat_lt 0 m) (at_first_goal m) (lt-ltb 0 m q.1), q.0)
-title_next n line types first at_count p i q e = absurd q
-title_next n line types first c p i q e = absurd i
-
-pub title_none : (s : Said) → Never said.Goals s → (line : ℕ) → LeadsTo stages.AtCount s line None
-title_none s h line types first at_count (goal_count m) i q e = absurd (no_goals types s m h q)
-title_none s h line types first at_count p i q e = refl
-title_none s h line types first c p i q e = absurd i
-
 -- ---- the first line of the first goal
-pub count_next : (n k line : ℕ) (ended : Ended) → k ≡ 1 → ended.count ≡ n → (ended.goals).items ≡ [] → LeadsTo (stages.AtFirstGoal n) (said.Goal k) line (Some (stages.AtLeft ended line))
-count_next n k line ended one many none types first (at_first_goal m) (goal_part j) i q e = (
-  at_left m [],
-  only_true (nat_eq j 1) (at_left m []) (eq-eqb j 1 (sym q ∙ one)),
-  (record { count = many ∙ i; goals = subst (λ gs. AreGoalsAt types gs []) (sym none) tt }, omega (arith, e)),
-)
-count_next n k line ended one many none types first (at_first_goal m) p i q e = absurd q
-count_next n k line ended one many none types first c p i q e = absurd i
-
 only_false : {B : Type 0} (b : Bool) (x : B) → b ≡ false → only_if b x ≡ None
 only_false true x e = absurd (cc)
 only_false false x e = refl
@@ -102,11 +71,6 @@ pub count_other : (n k line : ℕ) → (k ≡ 1 → ⊥) → LeadsTo (stages.AtF
 count_other n k line h types first (at_first_goal m) (goal_part j) i q e = only_false (nat_eq j 1) (at_left m []) (ne_eqb j 1 (λ z. h (q ∙ z)))
 count_other n k line h types first (at_first_goal m) p i q e = absurd q
 count_other n k line h types first c p i q e = absurd i
-
-pub count_none : (n : ℕ) (s : Said) (line : ℕ) → Never said.Goal s → LeadsTo (stages.AtFirstGoal n) s line None
-count_none n s line h types first (at_first_goal m) (goal_part j) i q e = absurd (no_goal types s j h q)
-count_none n s line h types first (at_first_goal m) p i q e = refl
-count_none n s line h types first c p i q e = absurd i
 
 -- ---- the left
 pub left_next : (ended : Ended) (begun : ℕ) (id : TypeId) (goal : ProofGoal) → goal.line ≡ begun → goal.left ≡ id → (goal.rights).items ≡ [] → goal.empty_right ≡ None → (goal.cases).items ≡ [] →
@@ -129,11 +93,6 @@ left_next ended begun id goal l i r m k line types first (at_left n bs) (left_pa
 )
 left_next ended begun id goal l i r m k line types first (at_left n bs) p s q e = absurd q
 left_next ended begun id goal l i r m k line types first c p s q e = absurd s
-
-pub left_none : (ended : Ended) (begun : ℕ) (s : Said) → Never said.Left s → (line : ℕ) → LeadsTo (stages.AtLeft ended begun) s line None
-left_none ended begun s h line types first (at_left n bs) (left_part T) i q e = absurd (no_left types s T h q)
-left_none ended begun s h line types first (at_left n bs) p i q e = refl
-left_none ended begun s h line types first c p i q e = absurd i
 
 -- ---- rights, and the line on being empty
 pub right_next : (ended : Ended) (goal new : ProofGoal) (id : TypeId) (line : ℕ) → new.line ≡ goal.line → new.left ≡ goal.left → (new.rights).items ≡ (goal.rights).items ++ id ∷ [] → new.empty_right ≡ goal.empty_right → new.cases ≡ goal.cases →
@@ -214,13 +173,6 @@ case_next ended goal new made line a b r m d types first (in_cases n bs g) (case
     )
 case_next ended goal new made line a b r m d types first (in_cases n bs g) p s q e = absurd q
 case_next ended goal new made line a b r m d types first c p s q e = absurd s
-
-pub case_none : (ended : Ended) (goal : ProofGoal) (s : Said) (line : ℕ) → Never said.Case s → Never said.Goal s → (s ≡ said.End → ⊥) → LeadsTo (stages.InCases ended goal) s line None
-case_none ended goal s line h k l types first (in_cases n bs g) (case_part c) i q e = absurd (no_case types s c h q)
-case_none ended goal s line h k l types first (in_cases n bs g) (goal_part j) i q e = absurd (no_goal types s j k q)
-case_none ended goal s line h k l types first (in_cases n bs g) end_part i q e = absurd (no_end types s l q)
-case_none ended goal s line h k l types first (in_cases n bs g) p i q e = refl
-case_none ended goal s line h k l types first c p i q e = absurd i
 
 -- ---- the end of a goal
 goals_joined : (n : ℕ) (bs : List (Block Tree)) (b : Block Tree) → goals_from n (bs ++ b ∷ []) ≡ goals_from n bs ++ lined_behind n bs b ∷ []
@@ -319,10 +271,6 @@ end_none ended more goal line test a b t h types first (in_cases n bs g) p s q e
 end_none ended more goal line test a b t h types first c p s q e = absurd s
 
 -- ---- the end
-pub nothing_next : (made : Vec ProofGoal Global) (s : Said) (line : ℕ) → LeadsTo (stages.AtEnd made) s line None
-nothing_next made s line types first (at_end bs) p i q e = refl
-nothing_next made s line types first c p i q e = absurd i
-
 -- ---- lines passed, and types that are added
 behind_passed : (n : ℕ) (bs : List (Block Tree)) (b : Block Tree) (p : Part Tree) (d : Course Tree) → after_goal n bs b p ≡ Some d → passed d ≡ lines_of bs + block_length b + 2
 behind_passed n bs b (goal_part k) d e =

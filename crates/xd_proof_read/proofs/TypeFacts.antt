@@ -25,12 +25,6 @@ use Rattle.xd_proof_read.specs.BadLines.{IsTypeLine, IsBadTypeLine}
 use Rattle.xd_proof_read.proofs.NamingFacts.{spelled_kept}
 use Rattle.xd_proof_read.proofs.GoalFacts.{texts, length-texts, text_at, one_more_line}
 
-pub type_free : IsFreeOf space (codes "type")
-type_free = (λ e. omega (arith, e), (λ e. omega (arith, e), (λ e. omega (arith, e), (λ e. omega (arith, e), tt))))
-
-pub type_word_free : (word : List ℕ) → word ≡ codes "type" → IsFreeOf space word
-type_word_free word e = subst (IsFreeOf space) (sym e) type_free
-
 module _ (R : List ℕ → Tree → Type 0) where
   -- what stands behind the word
   behind_type : (line behind : List ℕ) (k : ℕ) (T : Tree) → line ≡ codes "type" ++ space ∷ behind → IsTypeLine R line k T → SpellsTypePart R behind k T
@@ -185,9 +179,6 @@ pub record AreTypesRead (R : List ℕ → Tree → Type 0) (rows : List Row) (li
   pub types : List Tree
   pub spelled : SpellParts {A = ℕ} R SpellsNumber lines (types_from 1 types)
   pub there : AllZip (λ i U. IsTypeAt rows U i) ids types
-
-pub types_begin : (R : List ℕ → Tree → Type 0) (rows : List Row) → AreTypesRead R rows [] []
-types_begin R rows = record { types = []; spelled = tt; there = tt }
 
 pub types_on : (R : List ℕ → Tree → Type 0) (old new : List Row) (lines : List (List ℕ)) (ids : List TypeId) (line : List ℕ) (id : TypeId) (k : ℕ) → KeepsRows old new → AreTypesRead R old lines ids → k ≡ length lines + 1 →
     ((T : Tree) × IsTypeLine R line k T × IsTypeAt new T id) → AreTypesRead R new (lines ++ line ∷ []) (ids ++ id ∷ [])

@@ -62,10 +62,6 @@ still_numbered texts t s m h more =
     let g = grows bytes_eq texts t in
     ap (λ ts. number_among bytes_eq (ts ++ more) s) g.1 ∙ ap (λ ts. number_among bytes_eq ts s) (append_assoc texts g.0 more) ∙ h (g.0 ++ more)
 
--- a text that is there is put to no effect
-pub put_again : (texts : List (List ℕ)) (t : List ℕ) → list_any (bytes_eq t) texts ≡ true → with_text texts t ≡ texts
-put_again texts t h = rw h refl
-
 -- ---- lines of types
 lines-push : (k : ℕ) (ts : List (List ℕ)) (t : List ℕ) → type_lines k (ts ++ t ∷ []) ≡ type_lines k ts ++ type_line (k + length ts) t
 lines-push k [] t = append-nil (type_line k t) ∙ ap (λ n. type_line n t) (omega arith)

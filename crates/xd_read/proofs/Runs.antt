@@ -1,5 +1,5 @@
 -- The tokens that were read, and those that are left.
-use Rattle.std.proofs.Common.{◌≡◌, ◌-◌, ◌^◌, ◌<◌, ℕ, Bool, true, false, List, [], ◌∷◌, ◌++◌, length, take, reverse, refl, sym, ap, subst, ◌∙◌, inl, inr, append_assoc, length-append, arith, ◌↔◌, IsUtf8}
+use Rattle.std.proofs.Common.{◌≡◌, ◌-◌, ◌^◌, ◌<◌, ℕ, Bool, false, List, [], ◌∷◌, ◌++◌, length, take, reverse, refl, sym, ap, subst, ◌∙◌, inl, inr, append_assoc, length-append, arith, ◌↔◌, IsUtf8}
 use Rattle.std.proofs.lemmas.List.{map-append}
 use Rattle.xd_base.specs.declared.Place.{Place}
 use Rattle.xd_doc.specs.Document.{Document}
@@ -129,11 +129,6 @@ rest_next bytes rest token behind kind old ds ds' r r' s f l k p =
       parts = split_at bytes rest token behind kind s.front s.parts f ∙ sym (append_assoc (s.front ++ f.gap) token behind);
       stands = rw there (stands_next (tokens_of bytes) (tokens_from 0 (past start s.front) rest) (tokens_from 0 (past here token) behind) x old ds ds' r r' s.stands left (some_token 0 (past here token) behind) k p);
     }
-
-pub rest_spelled : (bytes rest token behind : List ℕ) (kind : Kind) (old ds : List Document) (r : Reader) (d : Document) → StandsAtRest bytes rest old ds r → IsFirstToken rest kind token behind → is_last kind ≡ true → EndsDocument ds r (terminal kind token) d → Spells (terminals_of (tokens_of bytes)) d
-rest_spelled bytes rest token behind kind old ds r d s f l e =
-    let here : Place = past (past start s.front) f.gap in
-    spelled (tokens_of bytes) (tokens_from 0 (past start s.front) rest) (tokens_left (is_last kind) (past here token) behind) (record { kind = kind; text = token; place = here }) old ds r d s.stands (f.tokens (past start s.front)) (ap (λ (b : Bool). tokens_left b (past here token) behind) l) e
 
 pub rest_malformed : (bytes rest token behind : List ℕ) (kind : Kind) (at : ℕ) (place : Place) (old ds : List Document) (r : Reader) → IsUtf8 bytes → StandsAtRest bytes rest old ds r → IsFirstToken rest kind token behind → at ≡ length bytes - length behind - length token → place ≡ past start (take at bytes) → StopsAt ds r (terminal kind token) → IsMalformedAt bytes place
 rest_malformed bytes rest token behind kind at place old ds r u s f e p stops =

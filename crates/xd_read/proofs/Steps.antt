@@ -93,12 +93,6 @@ moves_at expects.Closed k = tt
 moves_by : (e : Expect) (k : Kind) (m : Move) → move_for e k ≡ m → MovesAt m k
 moves_by e k m h = subst (λ (x : Move). MovesAt x k) h (moves_at e k)
 
-pub text_kind : (e : Expect) (k : Kind) → move_for e k ≡ moves.Text → k ≡ kinds.Text
-text_kind e k h = moves_by e k moves.Text h
-
-pub label_kind : (e : Expect) (k : Kind) → move_for e k ≡ moves.Open → k ≡ kinds.Label
-label_kind e k h = moves_by e k moves.Open h
-
 abbrev GoesOn : Move → Kind → Type 0
 GoesOn moves.End k = k ≡ kinds.End
 GoesOn moves.Refuse k = Unit {0}
@@ -108,9 +102,6 @@ goes_on : (m : Move) (k : Kind) → MovesAt m k → GoesOn m k
 goes_on moves.Text k h = ap is_last h
 goes_on moves.Open k h = ap is_last h
 goes_on m k h = h
-
-pub not_last : (e : Expect) (k : Kind) (m : Move) → move_for e k ≡ m → GoesOn m k
-not_last e k m h = goes_on m k (moves_by e k m h)
 
 acted : (e : Expect) (k : Kind) (t : List ℕ) (front : Document) (fs : List Frame) (m : Move) (o : Option State) → move_for e k ≡ m → act m front fs t ≡ o → step (At e front fs) (terminal k t) ≡ o
 acted e k t front fs m o h a = acts e k t front fs ∙ ap (λ (x : Move). act x front fs t) h ∙ a

@@ -1,11 +1,10 @@
 -- Finished items, and their storing from the last to the first.
-use Rattle.std.proofs.Common.{◌≡◌, ℕ, ◌<◌, ◌≤◌, List, [], ◌∷◌, ◌++◌, length, take, drop, refl, sym, ap, subst, ◌∙◌, arith, length-append, append_assoc}
+use Rattle.std.proofs.Common.{◌≡◌, ℕ, ◌<◌, ◌≤◌, List, [], ◌∷◌, ◌++◌, length, refl, ap, subst, ◌∙◌, arith, length-append, append_assoc}
 use Rattle.std.specs.List.{AllByRecursion}
-use Rattle.std.proofs.Math.Seq.{take-append_seam, drop-append_seam}
 use Rattle.xd_doc.specs.Document.{Document, text, element, join}
 use Rattle.xd_doc.specs.Stored.{document_at, BelongsTo, Keeps, no_items}
 use Rattle.xd_doc.specs.declared.store.Seq.{Seq}
-use Rattle.xd_doc.proofs.StoredLemmas.{Keeps-same, Keeps-trans}
+use Rattle.xd_doc.proofs.StoredLemmas.{Keeps-trans}
 use Rattle.xd_read.specs.declared.reader.Finished.{Finished}
 use Rattle.xd_read.specs.declared.reader.Finished.TheVariants.{Text, Element}
 use Rattle.xd_read.specs.Pending.{items_of, IsInStore}
@@ -43,31 +42,11 @@ append-nil : (xs : List Finished) → xs ++ [] ≡ xs
 append-nil [] = refl
 append-nil (x ∷ xs) = ap (λ (ys : List Finished). x ∷ ys) (append-nil xs)
 
-pub stored_none : (ds : List Document) (all : List Finished) (start : ℕ) → start ≤ length all → StoredSoFar ds ds all all start no_items
-stored_none ds all start h = record {
-  keeps = Keeps-same ds;
-  belongs = nothing ds;
-  rest = [];
-  split = sym (append-nil all);
-  same = refl;
-  within = h;
-}
-
 shorter : (start : ℕ) (left : List Finished) (x : Finished) → start < length (left ++ x ∷ []) → start ≤ length left
 shorter start left x h = omega (arith, length-append left (x ∷ []))
 
 next_split : (all left now rest : List Finished) (x : Finished) → all ≡ left ++ rest → left ≡ now ++ x ∷ [] → all ≡ now ++ (x ∷ rest)
 next_split all left now rest x e f = e ∙ ap (λ (ys : List Finished). ys ++ rest) f ∙ append_assoc now (x ∷ []) rest
-
-pub stored_text : (ds es es' : List Document) (all left now : List Finished) (start : ℕ) (seq seq' : Seq) (s : List ℕ) → StoredSoFar ds es all left start seq → left ≡ now ++ Text s ∷ [] → start < length left → Keeps es es' → BelongsTo es' seq' → document_at es' seq' ≡ text s (document_at es seq) → StoredSoFar ds es' all now start seq'
-stored_text ds es es' all left now start seq seq' s h f lt k b e = record {
-  keeps = Keeps-trans ds es es' h.keeps k;
-  belongs = b;
-  rest = Text s ∷ h.rest;
-  split = next_split all left now h.rest (Text s) h.split f;
-  same = e ∙ ap (text s) h.same;
-  within = shorter start now (Text s) (subst (λ (l : List Finished). start < length l) f lt);
-}
 
 -- the content of an element that is taken
 pub content_in : (ds es : List Document) (all left now : List Finished) (start : ℕ) (seq content : Seq) (l : List ℕ) → StoredSoFar ds es all left start seq → AllByRecursion (IsInStore ds) all → left ≡ now ++ Element l content ∷ [] → BelongsTo ds content
@@ -85,13 +64,3 @@ stored_element ds es es' all left now start seq seq' content l h a f lt k b e =
       same = e ∙ ap (λ (x : Document). element l x (document_at es seq)) (h.keeps.same content c) ∙ ap (element l (document_at ds content)) h.same;
       within = shorter start now (Element l content) (subst (λ (l : List Finished). start < length l) f lt);
     }
-
-same_length : (start n : ℕ) → start ≤ n → n ≤ start → start ≡ n
-same_length start n h k = omega arith
-
-pub stored_all : (ds es : List Document) (all left : List Finished) (start : ℕ) (seq : Seq) → StoredSoFar ds es all left start seq → length left ≤ start → (document_at es seq ≡ items_of ds (drop start all)) × (left ≡ take start all)
-stored_all ds es all left start seq h le =
-    let n = same_length start (length left) h.within le in (
-      h.same ∙ ap (items_of ds) (sym (drop-append_seam left h.rest)) ∙ ap (λ (k : ℕ). items_of ds (drop k (left ++ h.rest))) (sym n) ∙ ap (λ (l : List Finished). items_of ds (drop start l)) (sym h.split),
-      sym (take-append_seam left h.rest) ∙ ap (λ (k : ℕ). take k (left ++ h.rest)) (sym n) ∙ ap (take start) (sym h.split),
-    )

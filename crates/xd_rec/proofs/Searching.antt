@@ -3,7 +3,7 @@ use Rattle.std.proofs.Common.{◌≡◌, ℕ, ◌+◌, ◌<◌, ◌≤◌, arith
 use Rattle.std.proofs.lemmas.List.{length_push, length-take-le, get_or_append_left, get_or_push, take_all, take_more}
 use Rattle.std.proofs.lemmas.Bool.{cases_lt, cases_eq}
 use Rattle.xd_syntax.specs.Graph.{HasEdge, IsClosed}
-use Rattle.xd_rec.specs.Components.{AreComponents, has_same_number, standing_of, node_at, no_segment, path_from, todo_from, unseen, NoneBetween, IsSettled, HasSource, IsSearched, Path, stay, edge_then}
+use Rattle.xd_rec.specs.Components.{AreComponents, has_same_number, standing_of, node_at, no_segment, path_from, todo_from, NoneBetween, IsSettled, HasSource, IsSearched, Path, stay, edge_then}
 use Rattle.xd_rec.specs.declared.components.Standing.{Standing}
 use Rattle.xd_rec.specs.declared.components.Standing.TheVariants.{Unseen, Open, Done}
 use Rattle.xd_rec.specs.declared.components.Segment.{Segment}
@@ -217,26 +217,6 @@ waiting g st path todo segs fin m i es n =
 pub target_in : (g : List (List ℕ)) (st : List Standing) (path todo : List ℕ) (segs : List Segment) (fin j : ℕ) → IsSearched g st path todo segs fin → IsClosed g →
     j < length todo → node_at todo j < length g
 target_in g st path todo segs fin j i c l = let s = i.sources j l in c (node_at path s.0) (node_at todo j) s.2
-
--- nothing is known at first
-pub searched_none : (g : List (List ℕ)) (st : List Standing) → length st ≡ length g → unseen st ≡ length g → ((v : ℕ) → standing_of st v ≡ Unseen) → IsSearched g st [] [] [] 0
-searched_none g st n u h = record {
-  count = n;
-  numbers = omega arith;
-  stands = λ p l. absurd (omega arith);
-  on_path = λ v p e. absurd (let x : Unseen ≡ Open p = sym (h v) ∙ e in cc);
-  reach = λ p q a l. absurd (omega arith);
-  back = λ p q a l b. absurd (omega arith);
-  edges = λ p w l e. absurd (omega arith);
-  sources = λ j l. absurd (omega arith);
-  done_edges = λ v c w e k. absurd (let x : Unseen ≡ Done c = sym (h v) ∙ e in cc);
-  done_same = λ v w c e k. absurd (let x : Unseen ≡ Done c = sym (h v) ∙ e in cc);
-  done_below = λ v c e. absurd (let x : Unseen ≡ Done c = sym (h v) ∙ e in cc);
-  rising = λ k l a b. absurd (omega arith);
-  starts = λ k l. absurd (omega arith);
-  first = λ z. absurd (omega arith);
-  ended = λ z. (refl, refl);
-}
 
 -- where nothing is open or unseen, each node is done
 all_done : (g : List (List ℕ)) (st : List Standing) (path todo : List ℕ) (segs : List Segment) (fin : ℕ) → IsSearched g st path todo segs fin → segs ≡ [] →

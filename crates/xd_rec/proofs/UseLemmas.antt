@@ -103,9 +103,6 @@ size_some : (T : PlacedTree) → 1 ≤ size T
 size_some (Empty_at p) = omega arith
 size_some _ = omega arith
 
-pub size_positive : (T : PlacedTree) → 0 < size T
-size_positive T = let h = size_some T in omega arith
-
 sequence_le : (Z : Tree → Bool) (types : List Row) (k : ℕ) (t f : Bool) (p : Place) (is : List ℕ) →
     sizes types (sequence Z types k t f is) ≤ size (placed_seq p (map (placed_at types) is))
 sequence_le Z types k t f p [] = omega arith

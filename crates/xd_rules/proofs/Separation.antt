@@ -1,17 +1,13 @@
 -- Documents that the left of a claim accepts and no right does.
-use Rattle.std.proofs.Common.{ℕ, ◌≡◌, Bool, true, false, List, ◌++◌, ◌⊎◌, inl, inr, sym, ◌∙◌}
+use Rattle.std.proofs.Common.{ℕ, ◌≡◌, Bool, true, false, List, ◌++◌, sym, ◌∙◌}
 use Rattle.std.specs.List.{AllByRecursion}
-use Rattle.xd_doc.specs.Document.{Document, empty, text, element}
+use Rattle.xd_doc.specs.Document.{Document, empty, text}
 use Rattle.xd_rules.specs.declared.atom.Atom.{Atom}
 use Rattle.xd_rules.specs.Members.{IsOneOf, NoneOf}
-use Rattle.xd_rules.specs.Heads.{Head, takes_label, takes_text, matches}
+use Rattle.xd_rules.specs.Heads.{Head, takes_text, matches}
 use Rattle.xd_rules.specs.Rules.{Claim, right_heads}
 use Rattle.xd_rules.specs.Meaning.{IsMeaning, Separates}
 use Rattle.xd_rules.proofs.Members.{one_of-append_left, one_of-append_right, one_of-to_flat_map, one_of-all}
-
--- a right head that matches has its content among the contents, or its rest among the rests
-abbrev pub IsOnASide : {S : Type 0} → Atom → List S → List S → Head S → Type 0
-IsOnASide atom contents rests k = matches k.kind atom ≡ true → IsOneOf k.content contents ⊎ IsOneOf k.rest rests
 
 module _ {S : Type 0} (Accepts : S → Document → Type 0) (heads : S → List (Head S)) (is_last : S → Bool) (meaning : IsMeaning Accepts heads is_last) where
   pub separates-empty : (c : Claim S) → is_last c.left ≡ true → AllByRecursion (λ r. is_last r ≡ false) c.rights → Separates Accepts c empty
@@ -20,26 +16,6 @@ module _ {S : Type 0} (Accepts : S → Document → Type 0) (heads : S → List 
         accepted = meaning.empty_to c.left left;
         refused = λ r m p. let f = one_of-all (λ x. is_last x ≡ false) r c.rights rights m in let t = meaning.empty_from r p in cc;
       }
-
-  pub separates-element : (c : Claim S) (h : Head S) → IsOneOf h (heads c.left) → (atom : Atom) (l : List ℕ)
-      → ((k : Head S) → IsOneOf k (heads c.left ++ right_heads heads c) → matches k.kind atom ≡ takes_label k.kind l) → matches h.kind atom ≡ true
-      → (contents rests : List S) → ((k : Head S) → IsOneOf k (right_heads heads c) → IsOnASide atom contents rests k)
-      → (content d : Document) → Accepts h.content content → Accepts h.rest d → NoneOf (λ s. Accepts s content) contents → NoneOf (λ s. Accepts s d) rests
-      → Separates Accepts c (element l content d)
-  separates-element c h m atom l same matched contents rests sides content d p q no_content no_rest =
-      record {
-        accepted = meaning.element_to c.left l content d h m (sym (same h (one_of-append_left h (heads c.left) (right_heads heads c) m)) ∙ matched) p q;
-        refused = λ r rm a. from_head r rm (meaning.element_from r l content d a);
-      }
-    where
-      from_head : (r : S) → IsOneOf r c.rights → (k : Head S) × IsOneOf k (heads r) × (takes_label k.kind l ≡ true) × Accepts k.content content × Accepts k.rest d → ⊥
-      from_head r rm k =
-          let km = one_of-to_flat_map heads k.0 r c.rights rm k.1 in
-          let hit : matches k.0.kind atom ≡ true = same k.0 (one_of-append_right k.0 (heads c.left) (right_heads heads c) km) ∙ k.2 in
-          elim (sides k.0 km hit) [
-            | inl x ↦ one_of-all (λ s. ¬ (Accepts s content)) k.0.content contents no_content x k.3
-            | inr y ↦ one_of-all (λ s. ¬ (Accepts s d)) k.0.rest rests no_rest y k.4
-          ]
 
   pub separates-text : (c : Claim S) (h : Head S) → IsOneOf h (heads c.left) → (atom : Atom) (t : List ℕ)
       → ((k : Head S) → IsOneOf k (heads c.left ++ right_heads heads c) → matches k.kind atom ≡ takes_text k.kind t) → matches h.kind atom ≡ true

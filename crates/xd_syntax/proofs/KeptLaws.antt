@@ -33,10 +33,6 @@ functions_more types more exprs (f ∷ fs) a = (
 abbrev pub grown : ProgramTable → List Row → ProgramTable
 grown p more = record { types = p.types ++ more; patterns = p.patterns; exprs = p.exprs; type_defs = p.type_defs; functions = p.functions }
 
-pub ProgramStands-grown : (p : ProgramTable) (more : List Row) → ProgramStands p → ProgramStands (grown p more)
-ProgramStands-grown p more s =
-    record { clauses = s.clauses; type_defs = defs_more p.types more p.type_defs s.type_defs; functions = functions_more p.types more p.exprs p.functions s.functions }
-
 same_defs : (types more : List Row) (defs : List TypeDef) → AllByRecursion (TypeDefStands types) defs → map (type_definition (types ++ more)) defs ≡ map (type_definition types) defs
 same_defs types more [] a = refl
 same_defs types more (def ∷ defs) a =

@@ -14,7 +14,7 @@ use Rattle.xd_syntax.specs.Kept.{ProgramTable, TypeDefStands, AddsTypes, program
 use Rattle.xd_syntax.specs.TypeNames.{meanings}
 use Rattle.xd_syntax.specs.Emptiness.{is_marked, name_marked, form_marked, IsRead, AreEmptyMarks, AreEmptySoFar, empty_by}
 use Rattle.xd_syntax.specs.Nodes.{form_at}
-use Rattle.xd_syntax.specs.Known.{AreKnownTypes, AreKnownSoFar, IsSoundAndKnown}
+use Rattle.xd_syntax.specs.Known.{AreKnownSoFar, IsSoundAndKnown}
 use Rattle.xd_syntax.specs.declared.types.TypeDef.{TypeDef}
 use Rattle.xd_syntax.specs.declared.known.Known.{Known}
 use Rattle.xd_syntax.proofs.Trees.{tree_kept}
@@ -44,17 +44,10 @@ so_far_more types ds marks b m l r e =
     bodies_more a c h [] k = tt
     bodies_more a c h (d ∷ ds) k = let z = k.0 in (omega arith, bodies_more a c h ds k.1)
 
--- each node has its mark
-pub all_marked_now : (types : List Row) (ds : List TypeDef) (marks : List Bool) → AreEmptySoFar types ds marks → length types ≤ length marks → AreEmptyMarks types ds marks
-all_marked_now types ds marks m l = let c = m.count in record { count = omega arith; exact = λ i h. m.exact i (omega arith) }
-
 marks_so_far : (types : List Row) (ds : List TypeDef) (marks : List Bool) → AllByRecursion (TypeDefStands types) ds → AreEmptyMarks types ds marks → AreEmptySoFar types ds marks
 marks_so_far types ds marks s m =
     let c = m.count in
     record { count = omega arith; bodies = bodies_below types (length marks) (omega arith) ds s; exact = λ i h. m.exact i (omega arith) }
-
-pub known_so_far : (types : List Row) (ds : List TypeDef) (k : Known) → AllByRecursion (TypeDefStands types) ds → AreKnownTypes types ds k → AreKnownSoFar types ds k
-known_so_far types ds k s a = record { numbered = a.numbered; marked = marks_so_far types ds k.empty_marks.items s a.marked }
 
 marks_kept : (old new : List Row) (ds : List TypeDef) (marks : List Bool) → KeepsRows old new → meanings new ds ≡ meanings old ds → AreEmptySoFar old ds marks → AreEmptySoFar new ds marks
 marks_kept old new ds marks k e m =

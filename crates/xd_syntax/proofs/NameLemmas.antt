@@ -1,6 +1,5 @@
 -- look-ups of names
-use Rattle.std.proofs.Common.{◌≡◌, ℕ, zero, suc, ◌+◌, ◌-◌, ◌<◌, ◌≤◌, arith, Bool, true, false, cond, List, [], ◌∷◌, map, length, get_or, drop, Option, Some, None, refl, ap, ◌∙◌}
-use Rattle.std.specs.List.{AllByRecursion}
+use Rattle.std.proofs.Common.{◌≡◌, ℕ, suc, ◌+◌, ◌-◌, ◌<◌, ◌≤◌, arith, Bool, true, false, cond, List, [], ◌∷◌, map, length, get_or, drop, Option, Some, None, refl, ap, ◌∙◌}
 use Rattle.std.specs.Str.{bytes_eq}
 use Rattle.std.proofs.lemmas.List.{drop_more}
 use Rattle.xd_syntax.specs.Words.{any_word}
@@ -13,11 +12,6 @@ use Rattle.xd_syntax.specs.Sound.{definition_of}
 use Rattle.xd_syntax.specs.declared.types.TypeDef.{TypeDef}
 use Rattle.xd_syntax.proofs.PlacedTrees.{unplaced_at}
 use Rattle.xd_syntax.specs.TypeNames.{first_from, meanings}
-
-pub all_by_at : {A : Type 0} (Q : A → Type 0) (xs : List A) → AllByRecursion Q xs → (i : ℕ) (d : A) → i < length xs → Q (get_or xs i d)
-all_by_at Q [] a i d l = absurd (omega arith)
-all_by_at Q (x ∷ xs) a zero d l = a.0
-all_by_at Q (x ∷ xs) a (suc i) d l = all_by_at Q xs a.1 i d (omega arith)
 
 -- what the number of a name says
 pub record IsFirst (ds : List TypeDef) (n k : ℕ) (w : List ℕ) : Type 0 where

@@ -13,9 +13,6 @@ use Rattle.xd_syntax.specs.TypeNames.{first_from}
 use Rattle.xd_syntax.specs.Sound.{definition_of}
 use Rattle.xd_syntax.specs.declared.types.TypeDef.{TypeDef}
 
-bytes_eq-refl : (a : List ℕ) → bytes_eq a a ≡ true
-bytes_eq-refl a = (bytes_eq-Decides a a).1 refl
-
 -- words that differ, differ the other way round
 pub bytes_eq-turned : (a b : List ℕ) → bytes_eq a b ≡ false → bytes_eq b a ≡ false
 bytes_eq-turned a b h = go (bytes_eq b a) refl

@@ -1,5 +1,5 @@
 -- The parts of a node, in order.
-use Rattle.std.proofs.Common.{◌≡◌, ℕ, ◌<◌, Bool, List, length, get_or, ap, sym, subst, ◌∙◌, arith}
+use Rattle.std.proofs.Common.{◌≡◌, ℕ, ◌<◌, Bool, List, length, get_or, ap, sym, ◌∙◌, arith}
 use Rattle.std.specs.List.{AllByRecursion}
 use Rattle.std.proofs.lemmas.List.{get_or_default}
 use Rattle.xd_base.specs.declared.Place.{Place}
@@ -21,10 +21,6 @@ form_parts_below n (star_form i) p = (p, tt)
 form_parts_below n (plus_form i) p = (p, tt)
 form_parts_below n (opt_form i) p = (p, tt)
 form_parts_below n (val_form x q i) p = (p, tt)
-
--- parts that are seen are older nodes
-pub viewed_older : (b : Bool) (rows : List Row) (i : ℕ) (p : Place) (f : Form) (is : List ℕ) → IsNode b rows i p f → is ≡ form_parts f → AllByRecursion (λ j. j < i) is
-viewed_older b rows i p f is n e = subst (AllByRecursion (λ j. j < i)) (sym e) (form_parts_below i f n.parts)
 
 -- the parts of a node, from its form
 pub parts_seen : (rows : List Row) (i : ℕ) (r : Row) → r ≡ get_or rows i r → i < length rows → parts_of rows i ≡ form_parts r.form

@@ -30,19 +30,6 @@ leads_to_old q made closed keeps = λ s lt. subst (λ m. LeadsBelow (length q) m
 pub old_later : (base : ℕ) (q a b : Automaton) → base ≡ length q → KeepsOld (length q) q a → KeepsOld base a b → KeepsOld (length q) q b
 old_later base q a b size h k = old_both (length q) q a b h (subst (λ n. KeepsOld n a b) size k)
 
--- no added state has its moves yet
-pub paired_none : {A B : Type 0} (p : Automaton) (old : OldStates) (made : Automaton) (g : Growing) → IsKept p old made g → ((s : State) → old.base ≤ s.number → HasNoMoves made s)
-    → IsPairedTo {A = A} {B = B} p old made g.states.items (found_at g.found.items) [] [] old.base
-paired_none p old made g kept none = record {
-  whole = kept.whole;
-  texts_count = omega arith;
-  labels_count = omega arith;
-  within = omega (arith, kept.whole.count);
-  has_labels = λ s x lt h. let le = h.0 in absurd (omega arith);
-  has_texts = λ s x lt h. let le = h.0 in absurd (omega arith);
-  waiting = none;
-}
-
 module _ {A : Type 0} where
   -- what is read of older rows, and of the last
   pub row_front : (rows : List (Vec Both A)) (v : Vec Both A) (n : ℕ) → n < length rows → boths_in (slice_get (rows ++ v ∷ []) n) ≡ boths_in (slice_get rows n)

@@ -182,9 +182,6 @@ map_push f [] x = refl
 map_push f (y ∷ xs) x = ap (λ ys. f y ∷ ys) (map_push f xs x)
 
 module _ {M S : Type 0} (both_of : M → Both) where
-  pub made_none : (IsMade : M → S → Type 0) → AreMade both_of IsMade [] [] []
-  made_none IsMade = record { count = refl; numbers = refl; each = λ n m step e. absurd (cc) }
-
   -- one more move, while what older ones stand for stays
   pub made_more : (Old New : M → S → Type 0) → ((m : M) (s : S) → Old m s → New m s) → (ms : List M) (steps : List S) (boths : List Both) (m : M) (step : S)
       → AreMade both_of Old ms steps boths → New m step → AreMade both_of New (ms ++ m ∷ []) (steps ++ step ∷ []) (boths ++ both_of m ∷ [])

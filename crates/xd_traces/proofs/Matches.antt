@@ -8,7 +8,7 @@ use Rattle.std.proofs.lemmas.Option.{get_or_from_slice_get, slice_get_within}
 use Rattle.xd_auto.specs.Matching.{AreMatching}
 use Rattle.xd_auto.proofs.Anys.{and_left, and_right}
 use Rattle.xd_traces.specs.declared.pairs.Both.{Both}
-use Rattle.xd_traces.specs.Matching.{AddsMeet, adds_none, adds_one, AreMatches, HasMatch, IsBefore, IsMatchOf, MatchedTo, Share, share}
+use Rattle.xd_traces.specs.Matching.{AddsMeet, adds_none, adds_one, HasMatch, IsBefore, IsMatchOf, MatchedTo, Share, share}
 use Rattle.xd_traces.proofs.Steps.{some_same}
 
 pub there_front : {X : Type 0} (xs ys : List X) (i : ℕ) (x : X) → slice_get xs i ≡ Some x → slice_get (xs ++ ys) i ≡ Some x
@@ -31,17 +31,6 @@ module _ {M S : Type 0} (both_of : M → Both) (IsMeetOf : S → S → Both → 
   -- the matches of the pairs before these numbers
   abbrev To : ℕ → ℕ → List M → Type 0
   To i j ms = MatchedTo both_of IsMeetOf shares ones twos i j ms
-
-  pub matched_none : MatchedTo both_of IsMeetOf shares ones twos 0 0 []
-  matched_none = record {
-    each = λ n m e. absurd (cc);
-    before = λ n m e. absurd (cc);
-    all = λ k l b s. absurd (⊎_elim (λ lt. none_below k lt) (λ p. none_below l p.1) b);
-    once = λ n k m w e. absurd (cc);
-  }
-    where
-      none_below : (k : ℕ) → k < 0 → ⊥
-      none_below k lt = omega arith
 
   later : (i j r k l : ℕ) → j ≤ r → IsBefore i j k l → IsBefore i r k l
   later i j r k l le b = ⊎_elim (λ lt. inl lt) (λ p. inr (p.0, omega (arith, p.1))) b
@@ -145,13 +134,6 @@ module _ {M S : Type 0} (both_of : M → Both) (IsMeetOf : S → S → Both → 
           (λ same. h.all k l (inr (same, omega (arith, slice_get_within twos l s.two s.right, all))) s)
           (λ ne. h.all k l (inl (omega arith)) s)
           (cases_eq k i)
-
-  pub matched_all : (n : ℕ) (ms : List M) → MatchedTo both_of IsMeetOf shares ones twos n 0 ms → length ones ≤ n → AreMatches both_of IsMeetOf shares ones twos ms
-  matched_all n ms h all = record {
-    each = h.each;
-    all = λ k l s. h.all k l (inl (omega (arith, slice_get_within ones k s.one s.left, all))) s;
-    once = h.once;
-  }
 
 -- the pairs of a move with the moves of the first of these numbers, so many
 pub record RowTo {M S : Type 0} (both_of : M → Both) (IsMeetOf : S → S → Both → M → Type 0) (shares : S → S → List ℕ → Bool) (ones twos : List S) (rights : List ℕ) (i p : ℕ) (ms : List M) : Type 0 where

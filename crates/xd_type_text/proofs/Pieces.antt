@@ -48,15 +48,6 @@ module _ (rows : List Row) where
   work_push [] w = refl
   work_push (v ∷ vs) w = let h = work_push vs w in omega (arith, h)
 
-  -- one piece more
-  pub opened_push : (all : List ℕ) (most : ℕ) (out new_out : List ℕ) (old ws : List Waiting) (w : Waiting) → PieceBelongs rows w → AllByRecursion (PieceBelongs rows) ws →
-      new_out ++ (piece_text rows w ++ waiting_text rows ws) ≡ out ++ (all ++ waiting_text rows old) → piece_work rows w + work rows ws < most + work rows old → IsOpened rows all most out new_out old (ws ++ w ∷ [])
-  opened_push all most out new_out old ws w b a e l = record {
-    written = ap (λ t. new_out ++ t) (waiting_push ws w) ∙ e;
-    belong = all_push (PieceBelongs rows) ws w a b;
-    less = let h = work_push ws w in omega (arith, h, l);
-  }
-
   -- the pieces of parts
   pub parts_pushed : (j : Joined) (v : Level) (m : ℕ) (id : TypeId) (ids : Bor (List TypeId)) (old : List Waiting) → level_of v ≡ inner_level j → m ≡ mark_of j →
       0 < length ids.now → AllByRecursion (BelongsTo rows) (id ∷ ids.now) → AllByRecursion (PieceBelongs rows) old →
@@ -156,14 +147,6 @@ module _ (rows : List Row) where
       let x : o2 ≡ (out ++ text.class_text c) ++ 91 ∷ [] = q ∙ ap (λ l. l ++ 91 ∷ []) p in
       let y : s2 ≡ (old ++ waits.Mark 93 ∷ []) ++ cond (is_empty (tree rows part)) [] (waits.Part level.Any part ∷ []) = s ∙ ap (λ l. l ++ cond (is_empty (tree rows part)) [] (waits.Part level.Any part ∷ [])) r in
       rw (e, x, y) (content_opened (is_empty (tree rows part)) (text.class_text c) part (8 * size (Elem c (tree rows part))) out old (omega arith) a b)
-
-  pub plain_opened : (v : text.Level) (T : Tree) (all out o1 : List ℕ) (old : List Waiting) → text.text_at_level v T ≡ all → o1 ≡ out ++ all → AllByRecursion (PieceBelongs rows) old →
-      IsOpened rows (text.text_at_level v T) (8 * size T) out o1 old old
-  plain_opened v T all out o1 old e p b = record {
-    written = ap (λ l. l ++ waiting_text rows old) p ∙ append_assoc out all (waiting_text rows old) ∙ ap (λ l. out ++ (l ++ waiting_text rows old)) (sym e);
-    belong = b;
-    less = let h = size_some T in omega (arith, h);
-  }
 
   -- ---- the parts of a node
   pub parts_there : (n : ℕ) (ids : List TypeId) → n < length rows → AllByRecursion (λ i. i < n) (type_numbers ids) → AllByRecursion (BelongsTo rows) ids

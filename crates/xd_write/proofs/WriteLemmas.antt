@@ -1,9 +1,9 @@
 -- On a document's text, as it is written.
-use Rattle.std.proofs.Common.{◌≡◌, ℕ, ◌+◌, ◌-◌, ◌<◌, ◌≤◌, Some, None, Result, Ok, Err, List, [], ◌∷◌, ◌++◌, true, refl, ap, sym, ◌∙◌, arith, append_assoc, drop, take, get_or, length, length-drop, add-one, drop-cons}
+use Rattle.std.proofs.Common.{◌≡◌, ℕ, ◌+◌, ◌-◌, ◌<◌, ◌≤◌, Some, None, Result, Ok, Err, List, [], ◌∷◌, ◌++◌, refl, ap, sym, ◌∙◌, arith, append_assoc, drop, take, get_or, length, length-drop, add-one, drop-cons}
 use Rattle.std.proofs.lemmas.List.{append-nil, take_more, get_or-drop}
 use Rattle.std.specs.List.{slice_range}
 use Rattle.std.specs.Result.{OnErr}
-use Rattle.xd_doc.specs.Document.{Document, empty, text, element, size, comma_before, items_text, canonical_text, has_item, rest_of, content_of, escaped, escaped_all}
+use Rattle.xd_doc.specs.Document.{Document, empty, text, element, size, comma_before, items_text, rest_of, content_of, escaped, escaped_all}
 use Rattle.xd_doc.specs.Stored.{document_at, first_of_document}
 use Rattle.xd_doc.specs.declared.store.Seq.{Seq}
 use Rattle.xd_doc.specs.declared.store.Item.{Item}
@@ -30,9 +30,6 @@ pub record IsWritten (all old now left : List ℕ) : Type 0 where
   pub appended : now ≡ old ++ prefix
   pub whole : prefix ++ left ≡ all
 
-pub written_none : (all old : List ℕ) → IsWritten all old old all
-written_none all old = record { prefix = []; appended = sym (append-nil old); whole = refl }
-
 -- a piece more
 pub written_more : (all old now new piece left : List ℕ) → IsWritten all old now (piece ++ left) → new ≡ now ++ piece → IsWritten all old new left
 written_more all old now new piece left w e = record {
@@ -40,9 +37,6 @@ written_more all old now new piece left w e = record {
   appended = e ∙ ap (λ xs. xs ++ piece) w.appended ∙ append_assoc old w.prefix piece;
   whole = append_assoc w.prefix piece left ∙ w.whole;
 }
-
-pub written_all : (all old now : List ℕ) → IsWritten all old now [] → now ≡ old ++ all
-written_all all old now w = w.appended ∙ ap (λ xs. old ++ xs) (sym (append-nil w.prefix) ∙ w.whole)
 
 -- no more is written
 pub written_part : (all old now left : List ℕ) → IsWritten all old now left → AppendsPrefix all old now
@@ -123,11 +117,6 @@ pub is_empty : (d : Document) → None ≡ first_of_document d → d ≡ empty
 is_empty empty h = refl
 is_empty (text t r) h = cc
 is_empty (element m c r) h = cc
-
-pub canonical_text-filled : (d : Document) → has_item d ≡ true → canonical_text d ≡ items_text d
-canonical_text-filled empty h = cc
-canonical_text-filled (text s r) h = refl
-canonical_text-filled (element l c r) h = refl
 
 pub closing-push : (ds : List Document) (xs : List Seq) (s : Seq) → closing ds (xs ++ s ∷ []) ≡ after_content (document_at ds s) ++ closing ds xs
 closing-push ds [] s = sym (append-nil (after_content (document_at ds s)))
