@@ -2,7 +2,9 @@
 use Rattle.std.proofs.Common.{◌≡◌, ◌≤◌, ◌<◌, ◌-◌, ℕ, zero, suc, max, arith, Bool, false, ◌||◌, cond, get_or, Some, List, [], ◌∷◌, ◌++◌, map, take, drop, length, length-append, append-nil, refl, ap, sym, subst, ◌∙◌}
 use Rattle.std.specs.List.{AllByRecursion, slice_get}
 use Rattle.std.proofs.lemmas.List.{take_all}
-use Rattle.xd_syntax.specs.Kept.{ProgramTable}
+use Rattle.xd_syntax.specs.Kept.{ProgramTable, program_tree}
+use Rattle.xd_syntax.specs.Program.{names_of}
+use Rattle.xd_syntax.specs.Sound.{IsTypeAt}
 use Rattle.xd_syntax.specs.Table.{Row, Form, AreBuilt, CanFollow, IsSeqPart, KeepsRows, PartsBelow, seq_form, form_tree, tree_at}
 use Rattle.xd_syntax.specs.Tree.{Tree, Empty, Seq, Definitions, is_empty, is_seq, seq_of}
 use Rattle.xd_syntax.specs.TypeText.{depth, depth_at_level, postfix_level, sequence_level}
@@ -21,7 +23,9 @@ use Rattle.xd_continuations.specs.Continuation.{IsMerged}
 use Rattle.xd_continuations.proofs.Merging.{tree_merged}
 use Rattle.xd_continuations.proofs.MoveLemmas.{seq_of-pieces}
 use Rattle.xd_heads.specs.Fronts.{IsFront, with_rest}
+use Rattle.xd_heads.specs.Growing.{GrowsTypes}
 use Rattle.xd_heads.specs.HeadList.{HeadBelongs, head_at}
+use Rattle.xd_heads.proofs.HeadLists.{heads_there}
 use Rattle.xd_heads.specs.declared.listing.Head.{Head}
 use Rattle.xd_heads.proofs.Wrapping.{marks_decide}
 use Rattle.xd_heads.proofs.Working.{parts_there}
@@ -118,7 +122,7 @@ number_is (x ∷ xs) (suc i) d h = number_is xs i d (omega arith)
 -- ---- heads
 
 -- the heads of such a sequence are those of its first part, each with the others behind it
-pub heads_of_front : (E : Definitions) (T U : Tree) → can_be_empty E T ≡ false → heads E (Seq T U) ≡ map (with_behind U) (heads E T)
+heads_of_front : (E : Definitions) (T U : Tree) → can_be_empty E T ≡ false → heads E (Seq T U) ≡ map (with_behind U) (heads E T)
 unfolding heads
 heads_of_front E T U e =
     ap (λ b. map (with_behind U) (heads_within E (length E) T) ++ cond b (heads_within E (length E) U) []) e
@@ -128,7 +132,7 @@ same_rest : (U : Tree) → IsMerged U → (h : laws.Head) → h.rest ≡ Empty �
 same_rest U m h e = ap (λ (R : Tree). let g : laws.Head = record h { rest = seq_of (pieces R ++ pieces U) } in g) e ∙ ap (λ (R : Tree). let g : laws.Head = record h { rest = R } in g) (seq_of-pieces U m)
 
 -- heads without rests, with a type behind each
-pub all_behind : (old new : List Row) (rest : TypeId) (U : Tree) → IsMerged U → tree new rest ≡ U → (hs : List Head)
+all_behind : (old new : List Row) (rest : TypeId) (U : Tree) → IsMerged U → tree new rest ≡ U → (hs : List Head)
     → AllByRecursion (λ (h : Head). tree old h.rest ≡ Empty) hs → AllByRecursion (λ (h : Head). tree new h.content ≡ tree old h.content) hs
     → map (head_at new) (map (with_rest rest) hs) ≡ map (with_behind U) (map (head_at old) hs)
 all_behind old new rest U m e [] a b = refl
@@ -140,10 +144,28 @@ all_behind old new rest U m e (h ∷ hs) a b =
     let more = all_behind old new rest U m e hs a.1 b.1 in cc
 
 -- contents stay what they are
-pub contents_stay : (old new : List Row) → KeepsRows old new → (hs : List Head) → AllByRecursion (HeadBelongs old) hs → AllByRecursion (λ (h : Head). tree new h.content ≡ tree old h.content) hs
+contents_stay : (old new : List Row) → KeepsRows old new → (hs : List Head) → AllByRecursion (HeadBelongs old) hs → AllByRecursion (λ (h : Head). tree new h.content ≡ tree old h.content) hs
 contents_stay old new k [] a = tt
 contents_stay old new k (h ∷ hs) a = (tree_stays old new k h.content.at (a.0).0, contents_stay old new k hs a.1)
 
-pub behind_there : (types : List Row) (rest : TypeId) → BelongsTo types rest → (hs : List Head) → AllByRecursion (HeadBelongs types) hs → AllByRecursion (HeadBelongs types) (map (with_rest rest) hs)
+behind_there : (types : List Row) (rest : TypeId) → BelongsTo types rest → (hs : List Head) → AllByRecursion (HeadBelongs types) hs → AllByRecursion (HeadBelongs types) (map (with_rest rest) hs)
 behind_there types rest b [] a = tt
 behind_there types rest b (h ∷ hs) a = (((a.0).0, b), behind_there types rest b hs a.1)
+
+-- the heads that are made so are those of the sequence, and are there
+pub listed : (p q r : ProgramTable) → GrowsTypes p q → GrowsTypes q r → (id first others : TypeId) → BelongsTo p.types id → IsFront p id first → (hs made : List Head)
+    → map (head_at q.types) hs ≡ heads (names_of (program_tree p)) (tree p.types first) → AllByRecursion (HeadBelongs q.types) hs → AllByRecursion (λ (h : Head). tree q.types h.rest ≡ Empty) hs
+    → ((T U : Tree) → tree q.types id ≡ Seq T U → IsTypeAt r.types U others) → made ≡ map (with_rest others) hs
+    → (map (head_at r.types) made ≡ heads (names_of (program_tree p)) (tree p.types id)) × AllByRecursion (HeadBelongs r.types) made
+listed p q r g h id first others b f hs made found there none at made_is =
+    let E : Definitions = names_of (program_tree p) in
+    let k = h.adds.types in
+    let split : tree q.types id ≡ Seq (tree p.types first) f.others = tree_stays p.types q.types g.adds.types id.at b ∙ f.parts in
+    let ot = at (tree p.types first) f.others split in (
+      ap (map (head_at r.types)) made_is
+          ∙ all_behind q.types r.types others f.others f.merged ot.same hs none (contents_stay q.types r.types k hs there)
+          ∙ ap (map (with_behind f.others)) found
+          ∙ sym (heads_of_front E (tree p.types first) f.others f.some)
+          ∙ ap (heads E) (sym f.parts),
+      subst (AllByRecursion (HeadBelongs r.types)) (sym made_is) (behind_there r.types others ot.belongs hs (heads_there q.types r.types k hs there)),
+    )

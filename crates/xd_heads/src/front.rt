@@ -3,7 +3,7 @@
 //! Where the first part can't be empty and nothing stands behind its heads, what stands behind the sequence's heads is the type
 //! of the other parts: so no continuation is made for each of them.
 
-ghost use Rattle.std.specs.Prelude.{◌≡◌, ◌<◌, ◌≤◌, false, get_or, length, map, IfOk};
+ghost use Rattle.std.specs.Prelude.{◌≡◌, ◌<◌, get_or, length, map, IfOk};
 ghost use Rattle.std.specs.Bool.{OnTrue};
 ghost use Rattle.std.specs.List.{AllByRecursion};
 ghost use Rattle.std.specs.Option.{IfSome};
@@ -11,12 +11,10 @@ ghost use Rattle.xd_syntax.specs.Emptiness.{AreEmptyMarks};
 ghost use Rattle.xd_syntax.specs.Kept.{program_tree};
 ghost use Rattle.xd_syntax.specs.RecursionFaults.{IsSound};
 ghost use Rattle.xd_syntax.specs.Sound.{IsTypeAt};
-ghost use Rattle.xd_syntax.specs.Shallow.{IsShallow, nesting_limit};
-ghost use Rattle.xd_syntax.specs.Table.{CanFollow, seq_form, tree_at};
+ghost use Rattle.xd_syntax.specs.Table.{tree_at};
 ghost use Rattle.xd_syntax.specs.Tree.{Tree, Empty, Seq, seq_of};
-ghost use Rattle.xd_syntax.specs.TypeText.{depth};
 ghost use Rattle.xd_syntax.specs.Types.{BelongsTo, tree, type_numbers};
-ghost use Rattle.xd_heads.specs.Fronts.{IsFront, with_rest};
+ghost use Rattle.xd_heads.specs.Fronts.{IsFront, IsSequence, with_rest};
 ghost use Rattle.xd_heads.specs.Growing.{GrowsTypes};
 ghost use Rattle.xd_heads.specs.HeadList.{HeadBelongs};
 ghost use Rattle.xd_heads.specs.declared.listing.Head.{Head};
@@ -93,8 +91,7 @@ fn is_sequence(types: &Types, id: TypeId, parts: &[TypeId]) -> bool
 
 /// The sequence of these parts, as a type that is added to the program.
 fn add_sequence(sound: &mut SoundProgram, parts: Vec<TypeId>) -> Result<TypeId, NoMemory>
-    requires follows { CanFollow false sound.old.types (seq_form (type_numbers parts.items)) }
-    requires shallow { IsShallow sound.old.types → depth (seq_of (map (tree_at sound.old.types) (type_numbers parts.items))) ≤ nesting_limit }
+    requires { IsSequence sound.old.types (type_numbers parts.items) }
     ensures ok { IfOk result (IsTypeAt sound.new.types (seq_of (map (tree_at sound.old.types) (type_numbers parts.items)))) }
     ensures grows { GrowsTypes sound.old sound.new }
 {
