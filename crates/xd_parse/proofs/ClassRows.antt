@@ -17,7 +17,7 @@ use Rattle.xd_parse.specs.Merged.{class_of}
 use Rattle.xd_parse.proofs.Derive.{same-true}
 use Rattle.xd_parse.specs.Values.{Value, mark, quoted, a_tree, names, labels, class, texts, labelled, value_of}
 use Rattle.xd_parse.specs.Reading.{Reads, ReadsListed, ReadsTexts, ReadsExcepted, front_terminal, front_place, front_text, behind, any_text}
-use Rattle.xd_parse.proofs.Rows.{ReadsRow, row_end, row_token, row_token_where, row_opening, row_closed, row_unless, row_part, part_one, part_fit, part_none}
+use Rattle.xd_parse.proofs.Rows.{ReadsRow, row_end, row_token, row_token_where, row_opening, row_closed, row_unless, row_part, part_one, part_fit, part_none, front_same}
 
 abbrev IsAnyWord : (k : Terminal) (from : List Lexeme) (s : List ℕ) → Type 0
 IsAnyWord k from s = front_terminal from ≡ k → (k ≡ t.Word → s ≡ front_text from) → Reads n.AnyWord from (behind from) (names (any_text k s ∷ []))
@@ -93,9 +93,6 @@ names_reads start now all s =
     (row_token t.ParenR (Closed ∷ []) now (behind now) _ (row_closed [] (behind now) (behind now) [] (row_end (behind now))))))))
 
 -- ---- texts
-front_same : (j : Terminal) (from : List Lexeme) → same j (front_terminal from) ≡ true → front_terminal from ≡ j
-front_same j from h = sym (same-true j (front_terminal from) h)
-
 more_texts_reads : (now to : List Lexeme) (x : List ℕ) (ws : List (List ℕ)) → same t.Bar (front_terminal now) ≡ true → (front_terminal (behind now) ≡ t.Text → x ≡ unescaped (front_text (behind now))) → Reads n.MoreTexts (behind (behind now)) to (texts ws) →
     Reads n.MoreTexts now to (texts (x ∷ ws))
 more_texts_reads now to x ws e h r =

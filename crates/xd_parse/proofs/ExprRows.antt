@@ -15,8 +15,8 @@ use Rattle.xd_parse.specs.Fits.{same, first_fit}
 use Rattle.xd_parse.specs.Merged.{sequence_of_expressions}
 use Rattle.xd_parse.specs.Values.{Value, token_of, absent, a_tree, an_expression, expressions, a_clause, clauses, word_expression, value_of}
 use Rattle.xd_parse.specs.Reading.{Reads, front_terminal, front_place, front_text, behind}
-use Rattle.xd_parse.proofs.Derive.{same-true, same-refl}
-use Rattle.xd_parse.proofs.Rows.{ReadsRow, row_end, row_token, row_opening, row_closed, row_unless, row_part, part_one, part_fit, part_none}
+use Rattle.xd_parse.proofs.Derive.{same-refl}
+use Rattle.xd_parse.proofs.Rows.{front_same, ReadsRow, row_end, row_token, row_opening, row_closed, row_unless, row_part, part_one, part_fit, part_none}
 
 -- the value of the next token as this terminal
 abbrev as_token : Terminal → List Lexeme → Value
@@ -77,7 +77,7 @@ item_none c to e a b d f g =
 -- ---- what stands in brackets and parentheses
 pub content_empty : (c : List Lexeme) → same t.BracketR (front_terminal c) ≡ true → Reads n.ExprContent c (behind c) (an_expression (Nothing (front_place c)))
 content_empty c h =
-    let e : front_terminal c ≡ t.BracketR = sym (same-true t.BracketR (front_terminal c) h) in
+    let e : front_terminal c ≡ t.BracketR = front_same t.BracketR c h in
     part_fit n.ExprContent (Token t.BracketR ∷ Closed ∷ []) c (behind c) (as_token t.BracketR c ∷ []) refl (rw e refl) (token_closed t.BracketR c)
 
 content_first : (k : Terminal) → same t.BracketR k ≡ false → first_fit (rules n.ExprContent) k ≡ Some (Part n.Expr ∷ Token t.BracketR ∷ Closed ∷ [])
@@ -95,7 +95,7 @@ group c to v r =
 
 pub paren_empty : (c : List Lexeme) → same t.ParenR (front_terminal (behind c)) ≡ true → Reads n.Paren c (behind (behind c)) (an_expression (Nothing (front_place c)))
 paren_empty c h =
-    let e : front_terminal (behind c) ≡ t.ParenR = sym (same-true t.ParenR (front_terminal (behind c)) h) in
+    let e : front_terminal (behind c) ≡ t.ParenR = front_same t.ParenR (behind c) h in
     group c (behind (behind c)) absent
     (part_fit n.ParenContent (Token t.ParenR ∷ Closed ∷ []) (behind c) (behind (behind c)) (as_token t.ParenR (behind c) ∷ []) refl (rw e refl) (token_closed t.ParenR (behind c)))
 
@@ -130,7 +130,7 @@ items_end c h = part_fit n.MoreItems (Unless t.Comma ∷ []) c c [] refl (no_com
 pub items_more : (c m to : List Lexeme) (e : Expression) (es : List Expression) → same t.Comma (front_terminal c) ≡ true → Reads n.Item (behind c) m (an_expression e) →
     Reads n.MoreItems m to (expressions es) → Reads n.MoreItems c to (expressions (e ∷ es))
 items_more c m to e es h r s =
-    let k : front_terminal c ≡ t.Comma = sym (same-true t.Comma (front_terminal c) h) in
+    let k : front_terminal c ≡ t.Comma = front_same t.Comma c h in
     part_fit n.MoreItems (Token t.Comma ∷ Part n.Item ∷ Part n.MoreItems ∷ []) c to (as_token t.Comma c ∷ an_expression e ∷ expressions es ∷ []) refl (rw k refl)
     (row_token t.Comma (Part n.Item ∷ Part n.MoreItems ∷ []) c to (an_expression e ∷ expressions es ∷ [])
     (row_part n.Item (Part n.MoreItems ∷ []) (behind c) m to (an_expression e) (expressions es ∷ []) r (one_part n.MoreItems m to (expressions es) s)))
@@ -144,7 +144,7 @@ parens_end c h = part_fit n.MoreParens (Unless t.ParenL ∷ []) c c [] refl (no_
 pub parens_more : (c m to : List Lexeme) (e : Expression) (es : List Expression) → same t.ParenL (front_terminal c) ≡ true → Reads n.Paren c m (an_expression e) →
     Reads n.MoreParens m to (expressions es) → Reads n.MoreParens c to (expressions (e ∷ es))
 parens_more c m to e es h r s =
-    let k : front_terminal c ≡ t.ParenL = sym (same-true t.ParenL (front_terminal c) h) in
+    let k : front_terminal c ≡ t.ParenL = front_same t.ParenL c h in
     part_fit n.MoreParens (Part n.Paren ∷ Part n.MoreParens ∷ []) c to (an_expression e ∷ expressions es ∷ []) refl (rw k refl)
     (row_part n.Paren (Part n.MoreParens ∷ []) c m to (an_expression e) (expressions es ∷ []) r (one_part n.MoreParens m to (expressions es) s))
 
@@ -157,7 +157,7 @@ clauses_end c h = part_fit n.MoreClauses (Unless t.Bar ∷ []) c c [] refl (no_b
 pub clauses_more : (c m to : List Lexeme) (P : PlacedTree) (e : Expression) (cs : Clauses) → same t.Bar (front_terminal c) ≡ true → Reads n.Clause (behind c) m (a_clause P e) →
     Reads n.MoreClauses m to (clauses cs) → Reads n.MoreClauses c to (clauses (clause P e cs))
 clauses_more c m to P e cs h r s =
-    let k : front_terminal c ≡ t.Bar = sym (same-true t.Bar (front_terminal c) h) in
+    let k : front_terminal c ≡ t.Bar = front_same t.Bar c h in
     part_fit n.MoreClauses (Token t.Bar ∷ Part n.Clause ∷ Part n.MoreClauses ∷ []) c to (as_token t.Bar c ∷ a_clause P e ∷ clauses cs ∷ []) refl (rw k refl)
     (row_token t.Bar (Part n.Clause ∷ Part n.MoreClauses ∷ []) c to (a_clause P e ∷ clauses cs ∷ [])
     (row_part n.Clause (Part n.MoreClauses ∷ []) (behind c) m to (a_clause P e) (clauses cs ∷ []) r (one_part n.MoreClauses m to (clauses cs) s)))
@@ -170,3 +170,6 @@ behind_le (l ∷ ls) = omega arith
 pub next_lt : (k : Terminal) (c : List Lexeme) → same k t.Broken ≡ false → front_terminal c ≡ k → length (behind c) < length c
 next_lt k [] h e = let f : same k t.Broken ≡ true = subst (λ (x : Terminal). same k x ≡ true) (sym e) (same-refl k) in cc
 next_lt k (l ∷ ls) h e = omega arith
+
+pub next_lt_at : (k : Terminal) (c : List Lexeme) → same k t.Broken ≡ false → same k (front_terminal c) ≡ true → length (behind c) < length c
+next_lt_at k c h e = next_lt k c h (front_same k c e)

@@ -28,18 +28,15 @@ use Rattle.xd_parse.specs.Reading.{Reads, SpellNo, group_row, element_row, front
 use Rattle.xd_parse.specs.Shallow.{NoDeeper, TreeWithin, TreesWithin}
 use Rattle.xd_parse.specs.Pieces.{Pieces, in_row, pieces, tree_of, Stand}
 use Rattle.xd_parse.specs.Nodes.{shape, is_operator, repeated_node, parts_place, IsNothing, BeginsElement, IsAdded, Merges, ReadsNode, ReadsInto}
-use Rattle.xd_parse.proofs.Derive.{same-other, same-true, same-false, may, is_group}
+use Rattle.xd_parse.proofs.Derive.{same-other, same-false, may, is_group}
 use Rattle.xd_parse.proofs.Deeper.{alternative_branches, sequence_parts}
 use Rattle.xd_parse.proofs.AddedDepth.{IsIn, none_deeper, only_within, content_in, bound_in, repeated_in, operator_in}
 use Rattle.xd_syntax.proofs.ShallowTables.{within_both}
 use Rattle.xd_parse.proofs.Grown.{KeepsRows-refl, KeepsRows-trans}
 use Rattle.xd_parse.proofs.Merging.{tree_of_stays, stand_stays, free_parts, free_branches, is_whole, sequence_on, alternative_on, place_of_parts}
-use Rattle.xd_parse.proofs.Rows.{MeansView, means_view, ReadsRow, row_end, row_token, row_token_where, row_opening, row_closed, row_unless, row_part, part_one, part_fit, by_row, empty_means, means_may}
+use Rattle.xd_parse.proofs.Rows.{MeansView, means_view, ReadsRow, row_end, row_token, row_token_where, row_opening, row_closed, row_unless, row_part, part_one, part_fit, by_row, empty_means, means_may, front_same}
 
 -- ---- tokens
-front_same : (j : Terminal) (from : List Lexeme) → same j (front_terminal from) ≡ true → front_terminal from ≡ j
-front_same j from h = sym (same-true j (front_terminal from) h)
-
 -- a token is left
 pub behind_fewer : (j : Terminal) (from : List Lexeme) → j ≢ t.Broken → front_terminal from ≡ j → length (behind from) + 1 ≡ length from
 behind_fewer j [] ne e = absurd (ne (sym e))
@@ -208,13 +205,6 @@ pub primary_element : (s : Sort) (from middle to : List Lexeme) (p : Place) (c :
 primary_element s from middle to p c T b r q =
     by_row (n.Prim s) (element_row s) from to _ b.only
     (row_part n.Class _ from middle to _ _ r (row_part (n.Content s) _ middle to to _ _ q (row_end to)))
-
-opening_other : (j k : Terminal) (row : Row) (from rest : List Lexeme) (vs : List Value) → front_terminal from ≡ k → same j k ≡ false → Means (Opening j ∷ row) from rest vs → ⊥
-opening_other j k row from rest vs e h m =
-    let v : MeansView (Opening j ∷ row) from rest vs = means_view m in same-false j k h (sym v.4 ∙ sym (ap front_terminal v.3) ∙ e)
-
-no_group : (s : Sort) (k : Terminal) (from : List Lexeme) → front_terminal from ≡ k → same t.ParenL k ≡ false → SpellNo (group_row s) from
-no_group s k from e h rest vs m = opening_other t.ParenL k (Part (n.Group s) ∷ []) from rest vs e h m
 
 -- a text, and what stands behind a `^`
 primary_text : (s : Sort) (from : List Lexeme) → front_terminal from ≡ t.Text → Reads (n.Prim s) from (behind from) (a_tree (Words_at (front_place from) (class_of false (unescaped (front_text from) ∷ []))))

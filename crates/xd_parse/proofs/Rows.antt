@@ -13,7 +13,11 @@ use Rattle.xd_parse.specs.Fits.{same, fits, first_fit}
 use Rattle.xd_parse.specs.Values.{Value, token_of, token_value, value_of}
 use Rattle.xd_parse.specs.Means.{Means, ends, a_token, an_opening, a_closing, a_bar, a_part, terminal_at}
 use Rattle.xd_parse.specs.Reading.{Reads, front_terminal, front_place, front_text, behind}
-use Rattle.xd_parse.proofs.Derive.{same-of, same-other, may, any_of, is_group, rules_decided, chosen_none, chosen_only, all_rows, all_of}
+use Rattle.xd_parse.proofs.Derive.{same-of, same-other, same-true, may, any_of, is_group, rules_decided, chosen_none, chosen_only, all_rows, all_of}
+
+-- the next token, by its test
+pub front_same : (j : Terminal) (from : List Lexeme) → same j (front_terminal from) ≡ true → front_terminal from ≡ j
+front_same j from h = sym (same-true j (front_terminal from) h)
 
 -- ---- what is read, by the row's first symbol
 abbrev pub MeansView : Row → (from to : List Lexeme) → List Value → Type 0

@@ -5,6 +5,8 @@ use Rattle.xd_parse.specs.Values.{definitions}
 use Rattle.xd_parse.specs.Reading.{Reads}
 use Rattle.xd_parse.specs.Shallow.{NoDeeper, DefinitionsWithin}
 use Rattle.xd_parse.proofs.DefinitionRows.{table, type_def_collected, function_collected, all_collected}
+use Rattle.xd_parse.specs.declared.grammar.Terminal.TheVariants as t
+use Rattle.xd_parse.proofs.Rows.{front_same}
 use Rattle.xd_parse.proofs.definitions.read_definitions.Goals as goal
 
 pub definitions-preserved-in_ok-push : goal.definitions-preserved-in_ok-push
@@ -24,3 +26,18 @@ returns-clause-reads c =
 
 pub returns-clause-no_deeper : goal.returns-clause-no_deeper
 returns-clause-no_deeper c = subst (λ (p : ProgramTable). NoDeeper (DefinitionsWithin (program_tree p)) [] p.types) (sym c.new.ensures) c.definitions.invariant.no_deeper
+
+pub definitions-smaller-in_ok-push : goal.definitions-smaller-in_ok-push
+definitions-smaller-in_ok-push c = c.in_ok-read_type_def.ensures.fewer
+
+pub definitions-smaller : goal.definitions-smaller
+definitions-smaller c = c.in_ok-function.ensures.fewer
+
+pub read_type_def-requires : goal.read_type_def-requires
+read_type_def-requires c = front_same t.Type c.definitions.cursor (sym c.if-at.ensures)
+
+pub read_function-requires-clause-front : goal.read_function-requires-clause-front
+read_function-requires-clause-front c = front_same t.Fun c.definitions.cursor (sym c.if-at-2.ensures)
+
+pub read_function-requires-clause-clauses : goal.read_function-requires-clause-clauses
+read_function-requires-clause-clauses c = c.definitions.invariant.stands.clauses

@@ -6,6 +6,7 @@ use Rattle.xd_parse.specs.declared.grammar.Terminal.TheVariants as t
 use Rattle.xd_parse.specs.Definitions.{ReadsInFront, one_function}
 use Rattle.xd_parse.specs.Shallow.{NoDeeper, DefinitionsWithin}
 use Rattle.xd_parse.proofs.DefinitionRows.{table, function_reads, function_deeper, params_kept, params_more, behind_less, behind_fewer}
+use Rattle.xd_parse.proofs.Grown.{KeepsRows-refl, KeepsRows-trans}
 use Rattle.xd_parse.proofs.definitions.read_function.Goals as goal
 
 pub returns-clause-reads : goal.returns-clause-reads
@@ -41,3 +42,21 @@ pub returns-clause-no_deeper : goal.returns-clause-no_deeper
 returns-clause-no_deeper c =
     subst (λ (f : FunctionRow). NoDeeper (DefinitionsWithin (one_function (function_definition (table c.read_type.new.types c.read_expr.new.patterns c.read_expr.new.exprs [] []) f))) c.args.types.now c.read_type.new.types) (sym c.new.ensures)
     (λ limit o w. function_deeper c.args.types.now c.read_params.new.types c.read_type.new.types c.in_ok-params.params.items (placed_at c.read_type.new.types c.in_ok-declared.declared.at) c.in_ok-declared.ensures.keeps c.in_ok-params.ensures.belong c.in_ok-params.ensures.no_deeper c.in_ok-declared.ensures.no_deeper limit o w.1.0)
+
+pub returns-in_err-name-clause-keeps : goal.returns-in_err-name-clause-keeps
+returns-in_err-name-clause-keeps c = KeepsRows-refl _
+
+pub returns-in_err-params-clause-keeps : goal.returns-in_err-params-clause-keeps
+returns-in_err-params-clause-keeps c = c.read_params.ensures.keeps
+
+pub returns-in_err-declared-clause-keeps : goal.returns-in_err-declared-clause-keeps
+returns-in_err-declared-clause-keeps c = KeepsRows-trans _ _ _ c.read_params.ensures.keeps c.read_type.ensures.keeps
+
+pub returns-in_err-body-clause-keeps : goal.returns-in_err-body-clause-keeps
+returns-in_err-body-clause-keeps c = KeepsRows-trans _ _ _ c.read_params.ensures.keeps c.read_type.ensures.keeps
+
+pub returns-clause-keeps : goal.returns-clause-keeps
+returns-clause-keeps c = KeepsRows-trans _ _ _ c.read_params.ensures.keeps c.read_type.ensures.keeps
+
+pub returns-clause-grows : goal.returns-clause-grows
+returns-clause-grows c = c.in_ok-body.ensures.grows

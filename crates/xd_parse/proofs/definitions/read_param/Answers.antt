@@ -1,5 +1,6 @@
 use Rattle.std.proofs.Common.{arith, ap, length}
 use Rattle.xd_parse.proofs.DefinitionRows.{param_reads, behind_less}
+use Rattle.xd_parse.proofs.Grown.{KeepsRows-refl}
 use Rattle.xd_parse.proofs.definitions.read_param.Goals as goal
 
 pub returns-clause-reads : goal.returns-clause-reads
@@ -17,3 +18,18 @@ returns-clause-fewer c =
       c.in_ok-body.ensures.fewer,
       behind_less c.read_type.new.cursor c.step-4.new.self c.step-4.ensures.left,
     )
+
+pub returns-in_err-name-clause-keeps : goal.returns-in_err-name-clause-keeps
+returns-in_err-name-clause-keeps c = KeepsRows-refl _
+
+pub returns-in_err-body-clause-keeps : goal.returns-in_err-body-clause-keeps
+returns-in_err-body-clause-keeps c = c.read_type.ensures.keeps
+
+pub returns-clause-keeps : goal.returns-clause-keeps
+returns-clause-keeps c = c.read_type.ensures.keeps
+
+pub returns-clause-belongs : goal.returns-clause-belongs
+returns-clause-belongs c = c.in_ok-body.ensures.belongs
+
+pub returns-clause-no_deeper : goal.returns-clause-no_deeper
+returns-clause-no_deeper c = c.in_ok-body.ensures.no_deeper

@@ -2,6 +2,8 @@ use Rattle.std.proofs.Common.{arith, sym, refl}
 use Rattle.xd_parse.specs.Reading.{behind}
 use Rattle.xd_parse.proofs.Grown.{KeepsRows-trans}
 use Rattle.xd_parse.proofs.DefinitionRows.{first_param, next_param, next_deeper, last_param, behind_less}
+use Rattle.xd_parse.proofs.ExprRows.{next_lt_at}
+use Rattle.xd_parse.specs.declared.grammar.Terminal.TheVariants as t
 use Rattle.xd_parse.proofs.definitions.read_params.Goals as goal
 
 pub params-init : goal.params-init
@@ -24,3 +26,30 @@ params-preserved c = record {
 
 pub returns-clause-reads : goal.returns-clause-reads
 returns-clause-reads c = last_param c.params.types c.args.cursor.now c.params.cursor c.params.params.items (sym c.params-test.ensures) c.params.invariant.read
+
+pub returns-in_err-read_param-clause-keeps : goal.returns-in_err-read_param-clause-keeps
+returns-in_err-read_param-clause-keeps c = c.read_param.ensures.keeps
+
+pub returns-in_err-push-clause-keeps : goal.returns-in_err-push-clause-keeps
+returns-in_err-push-clause-keeps c = c.read_param.ensures.keeps
+
+pub returns-in_err-read_param-2-clause-keeps : goal.returns-in_err-read_param-2-clause-keeps
+returns-in_err-read_param-2-clause-keeps c = KeepsRows-trans _ _ _ c.params.invariant.keeps c.read_param-in-params.ensures.keeps
+
+pub returns-in_err-push-2-clause-keeps : goal.returns-in_err-push-2-clause-keeps
+returns-in_err-push-2-clause-keeps c = KeepsRows-trans _ _ _ c.params.invariant.keeps c.read_param-in-params.ensures.keeps
+
+pub returns-clause-keeps : goal.returns-clause-keeps
+returns-clause-keeps c = c.params.invariant.keeps
+
+pub returns-clause-no_deeper : goal.returns-clause-no_deeper
+returns-clause-no_deeper c = c.params.invariant.no_deeper
+
+pub returns-clause-belong : goal.returns-clause-belong
+returns-clause-belong c = c.params.invariant.read.belong
+
+pub returns-clause-fewer : goal.returns-clause-fewer
+returns-clause-fewer c = c.params.invariant.fewer
+
+pub params-smaller : goal.params-smaller
+params-smaller c = omega (arith, next_lt_at t.ParenL c.params.cursor refl (sym c.params-test.ensures), c.in_ok-read_param-2.ensures.fewer)

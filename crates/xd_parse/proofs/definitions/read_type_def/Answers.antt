@@ -1,6 +1,7 @@
 use Rattle.std.proofs.Common.{arith}
 use Rattle.xd_parse.specs.declared.grammar.Terminal.TheVariants as t
 use Rattle.xd_parse.proofs.DefinitionRows.{type_def_reads, behind_less, behind_fewer}
+use Rattle.xd_parse.proofs.Grown.{KeepsRows-refl}
 use Rattle.xd_parse.proofs.definitions.read_type_def.Goals as goal
 
 pub returns-clause-reads : goal.returns-clause-reads
@@ -19,3 +20,12 @@ returns-clause-fewer c =
 
 pub returns-clause-no_deeper : goal.returns-clause-no_deeper
 returns-clause-no_deeper c = λ limit o w. c.in_ok-body.ensures.no_deeper limit o w.0.0
+
+pub returns-in_err-name-clause-keeps : goal.returns-in_err-name-clause-keeps
+returns-in_err-name-clause-keeps c = KeepsRows-refl _
+
+pub returns-in_err-body-clause-keeps : goal.returns-in_err-body-clause-keeps
+returns-in_err-body-clause-keeps c = c.read_type.ensures.keeps
+
+pub returns-clause-keeps : goal.returns-clause-keeps
+returns-clause-keeps c = c.read_type.ensures.keeps

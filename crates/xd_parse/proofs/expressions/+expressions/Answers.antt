@@ -1,5 +1,5 @@
-use Rattle.std.proofs.Common.{◌≡◌, ◌++◌, ◌<◌, ◌≤◌, ℕ, List, [], ◌∷◌, length, map, true, false, arith, sym, ap, subst, ◌∙◌, vec_len}
-use Rattle.std.proofs.lemmas.Result.{IfOk-weaker}
+use Rattle.std.proofs.Common.{◌≡◌, ◌++◌, ◌<◌, ◌≤◌, ℕ, List, [], ◌∷◌, length, map, true, false, arith, refl, sym, ap, subst, ◌∙◌, vec_len}
+use Rattle.std.proofs.lemmas.Result.{IfOk-from_err, IfOk-weaker}
 use Rattle.xd_base.specs.declared.Place.{Place}
 use Rattle.xd_lex.specs.Tokens.{Lexeme}
 use Rattle.xd_syntax.specs.Placed.{PlacedTree, placed_at}
@@ -14,11 +14,12 @@ use Rattle.xd_parse.specs.Fits.{same}
 use Rattle.xd_parse.specs.Values.{an_expression, a_clause, word_expression}
 use Rattle.xd_parse.specs.Reading.{Reads, front_terminal, front_place, behind}
 use Rattle.xd_parse.specs.Pieces.{expression_of}
-use Rattle.xd_parse.proofs.Grown.{Grows-refl, same_pattern}
+use Rattle.xd_parse.proofs.Grown.{Grows-refl, IsPattern-more, KeepsRows-trans, same_pattern}
 use Rattle.xd_parse.proofs.JoinLemmas.{numbers_push, positive}
-use Rattle.xd_parse.proofs.ExprRows.{item_text, item_label, item_paren, content_empty, content_full, paren_empty, paren_full, clause_reads, behind_le}
+use Rattle.xd_parse.proofs.ExprRows.{item_text, item_label, item_paren, content_empty, content_full, paren_empty, paren_full, clause_reads, behind_le, next_lt, next_lt_at}
 use Rattle.xd_parse.proofs.Readers.{items_start, items_step, items_done, ReadArguments, arguments_start, arguments_step, arguments_done, ReadClauses, clauses_start, clauses_step, clauses_done}
-use Rattle.xd_parse.proofs.Adding.{from_there, to_there, add_reads, item_reads, nothing_reads, nothing_stands, node_reads, node_grows, add_grows, at_place, quoted_at, tagged_at, no_ids, call_is, length-numbers, clause_numbers_push, first_pushed, nothing_begins}
+use Rattle.xd_parse.proofs.Adding.{if_ok, from_there, to_there, add_reads, item_reads, nothing_reads, nothing_stands, node_reads, node_grows, add_grows, at_place, quoted_at, tagged_at, no_ids, call_is, length-numbers, clause_numbers_push, first_pushed, nothing_begins}
+use Rattle.xd_parse.proofs.Rows.{front_same}
 use Rattle.xd_parse.proofs.expressions.+expressions.Goals as goal
 
 pub read_clause-returns-clause-reads : goal.read_clause-returns-clause-reads
@@ -264,3 +265,288 @@ pub read_match-returns-clause-grows : goal.read_match-returns-clause-grows
 read_match-returns-clause-grows size c =
     add_grows c.add_item.result c.args.patterns.now c.args.exprs.now c.clauses.patterns c.clauses.exprs c.add_item.new.exprs c.step-place.result (match_shape c.in_ok-scrutinee.scrutinee.at (clause_numbers c.clauses.clauses.items))
     c.clauses.invariant.grows c.clauses.invariant.patterns_there c.add_item.ensures.grown
+
+-- ---- nodes are there, and the tables grow
+pub read_expr-to_expr-requires : goal.read_expr-to_expr-requires
+read_expr-to_expr-requires size c = c.in_ok-items.ensures.stand
+
+pub read_expr-returns-clause-belongs : goal.read_expr-returns-clause-belongs
+read_expr-returns-clause-belongs size c = c.to_expr.ensures.belongs
+
+pub read_expr-returns-clause-left : goal.read_expr-returns-clause-left
+read_expr-returns-clause-left size c = if_ok c.to_expr.result _ (λ id. c.in_ok-items.ensures.left)
+
+pub read_argument-to_expr-requires : goal.read_argument-to_expr-requires
+read_argument-to_expr-requires size c = c.in_ok-items.ensures.stand
+
+pub read_argument-returns-clause-belongs : goal.read_argument-returns-clause-belongs
+read_argument-returns-clause-belongs size c = c.to_expr.ensures.belongs
+
+pub read_argument-returns-clause-left : goal.read_argument-returns-clause-left
+read_argument-returns-clause-left size c = if_ok c.to_expr.result _ (λ id. c.in_ok-items.ensures.left)
+
+pub read_clause-returns-clause-pattern : goal.read_clause-returns-clause-pattern
+read_clause-returns-clause-pattern size c = IsPattern-more _ _ _ c.in_ok-body.ensures.grows.rows c.in_ok-pattern.ensures.belongs
+
+pub read_clause-returns-clause-body : goal.read_clause-returns-clause-body
+read_clause-returns-clause-body size c = c.in_ok-body.ensures.belongs
+
+pub read_clause-returns-clause-grows : goal.read_clause-returns-clause-grows
+read_clause-returns-clause-grows size c = record { rows = KeepsRows-trans _ _ _ c.read_pattern_seq.ensures.keeps c.in_ok-body.ensures.grows.rows; nodes = c.in_ok-body.ensures.grows.nodes; clauses = c.in_ok-body.ensures.grows.clauses }
+
+pub read_content-returns-clause-belongs : goal.read_content-returns-clause-belongs
+read_content-returns-clause-belongs size c = c.in_ok-content.ensures.belongs
+
+pub read_content-returns-clause-grows : goal.read_content-returns-clause-grows
+read_content-returns-clause-grows size c = c.in_ok-content.ensures.grows
+
+pub read_element-returns-clause-stand : goal.read_element-returns-clause-stand
+read_element-returns-clause-stand size c = c.add_item.ensures.stand
+
+pub read_element-returns-clause-grows : goal.read_element-returns-clause-grows
+read_element-returns-clause-grows size c = add_grows c.add_item.result _ _ _ _ _ c.in_ok-label.label.place _ c.in_ok-content.ensures.grows tt c.add_item.ensures.grown
+
+pub read_item-returns-in_ok-quoted-in-Text-clause-stand : goal.read_item-returns-in_ok-quoted-in-Text-clause-stand
+read_item-returns-in_ok-quoted-in-Text-clause-stand size c = c.add_item.ensures.stand
+
+pub read_item-returns-in-Word-clause-reads : goal.read_item-returns-in-Word-clause-reads
+read_item-returns-in-Word-clause-reads size c = c.read_named.ensures.reads
+
+pub read_item-returns-in-Word-clause-stand : goal.read_item-returns-in-Word-clause-stand
+read_item-returns-in-Word-clause-stand size c = c.read_named.ensures.stand
+
+pub read_item-returns-in-Word-clause-grows : goal.read_item-returns-in-Word-clause-grows
+read_item-returns-in-Word-clause-grows size c = c.read_named.ensures.grows
+
+pub read_item-returns-in-Label-clause-reads : goal.read_item-returns-in-Label-clause-reads
+read_item-returns-in-Label-clause-reads size c = c.read_element.ensures.reads
+
+pub read_item-returns-in-Label-clause-stand : goal.read_item-returns-in-Label-clause-stand
+read_item-returns-in-Label-clause-stand size c = c.read_element.ensures.stand
+
+pub read_item-returns-in-Label-clause-grows : goal.read_item-returns-in-Label-clause-grows
+read_item-returns-in-Label-clause-grows size c = c.read_element.ensures.grows
+
+pub read_item-returns-in-Match-clause-reads : goal.read_item-returns-in-Match-clause-reads
+read_item-returns-in-Match-clause-reads size c = c.read_match.ensures.reads
+
+pub read_item-returns-in-Match-clause-stand : goal.read_item-returns-in-Match-clause-stand
+read_item-returns-in-Match-clause-stand size c = c.read_match.ensures.stand
+
+pub read_item-returns-in-Match-clause-grows : goal.read_item-returns-in-Match-clause-grows
+read_item-returns-in-Match-clause-grows size c = c.read_match.ensures.grows
+
+pub read_item-returns-in-ParenL-clause-stand : goal.read_item-returns-in-ParenL-clause-stand
+read_item-returns-in-ParenL-clause-stand size c = c.read_paren.ensures.stand
+
+pub read_item-returns-in-ParenL-clause-grows : goal.read_item-returns-in-ParenL-clause-grows
+read_item-returns-in-ParenL-clause-grows size c = c.read_paren.ensures.grows
+
+pub read_items-returns-clause-stand : goal.read_items-returns-clause-stand
+read_items-returns-clause-stand size c = c.items.invariant.stand
+
+pub read_items-returns-clause-grows : goal.read_items-returns-clause-grows
+read_items-returns-clause-grows size c = c.items.invariant.grows
+
+pub read_items-returns-clause-left : goal.read_items-returns-clause-left
+read_items-returns-clause-left size c = c.items.invariant.left
+
+pub read_match-returns-clause-stand : goal.read_match-returns-clause-stand
+read_match-returns-clause-stand size c = c.add_item.ensures.stand
+
+pub read_match-returns-clause-left : goal.read_match-returns-clause-left
+read_match-returns-clause-left size c = if_ok c.add_item.result _ (λ items. c.clauses.invariant.left)
+
+pub read_named-returns-then-is_empty-clause-stand : goal.read_named-returns-then-is_empty-clause-stand
+read_named-returns-then-is_empty-clause-stand size c = c.add_item.ensures.stand
+
+pub read_named-returns-then-is_empty-clause-grows : goal.read_named-returns-then-is_empty-clause-grows
+read_named-returns-then-is_empty-clause-grows size c = add_grows c.add_item.result _ _ _ _ _ c.in_ok-name.name.place _ c.arguments.invariant.grows tt c.add_item.ensures.grown
+
+pub read_named-returns-then-is_empty-clause-left : goal.read_named-returns-then-is_empty-clause-left
+read_named-returns-then-is_empty-clause-left size c = if_ok c.add_item.result _ (λ items. c.arguments.invariant.left)
+
+pub read_named-returns-else-is_empty-clause-stand : goal.read_named-returns-else-is_empty-clause-stand
+read_named-returns-else-is_empty-clause-stand size c = c.add_item-else-is_empty.ensures.stand
+
+pub read_named-returns-else-is_empty-clause-grows : goal.read_named-returns-else-is_empty-clause-grows
+read_named-returns-else-is_empty-clause-grows size c = add_grows c.add_item-else-is_empty.result _ _ _ _ _ c.in_ok-name.name.place _ c.arguments.invariant.grows tt c.add_item-else-is_empty.ensures.grown
+
+pub read_named-returns-else-is_empty-clause-left : goal.read_named-returns-else-is_empty-clause-left
+read_named-returns-else-is_empty-clause-left size c = if_ok c.add_item-else-is_empty.result _ (λ items. c.arguments.invariant.left)
+
+pub read_paren-returns-then-at-clause-grows : goal.read_paren-returns-then-at-clause-grows
+read_paren-returns-then-at-clause-grows size c = Grows-refl _ _ c.requires.clauses
+
+pub read_paren-returns-clause-stand : goal.read_paren-returns-clause-stand
+read_paren-returns-clause-stand size c = c.in_ok-inner.ensures.stand
+
+pub read_paren-returns-clause-grows : goal.read_paren-returns-clause-grows
+read_paren-returns-clause-grows size c = c.in_ok-inner.ensures.grows
+
+-- ---- where memory runs out nothing is said
+pub read_argument-returns-in_err-items : goal.read_argument-returns-in_err-items
+read_argument-returns-in_err-items size c = let no = c.from_residual.ensures.0 in record { reads = IfOk-from_err c.from_residual.result _ no; belongs = IfOk-from_err c.from_residual.result _ no; grows = IfOk-from_err c.from_residual.result _ no; left = IfOk-from_err c.from_residual.result _ no }
+
+pub read_clause-returns-in_err-pattern : goal.read_clause-returns-in_err-pattern
+read_clause-returns-in_err-pattern size c = let no = c.from_residual.ensures.0 in record { reads = IfOk-from_err c.from_residual.result _ no; pattern = IfOk-from_err c.from_residual.result _ no; body = IfOk-from_err c.from_residual.result _ no; grows = IfOk-from_err c.from_residual.result _ no; left = IfOk-from_err c.from_residual.result _ no }
+
+pub read_clause-returns-in_err-body : goal.read_clause-returns-in_err-body
+read_clause-returns-in_err-body size c = let no = c.from_residual-in_err-body.ensures.0 in record { reads = IfOk-from_err c.from_residual-in_err-body.result _ no; pattern = IfOk-from_err c.from_residual-in_err-body.result _ no; body = IfOk-from_err c.from_residual-in_err-body.result _ no; grows = IfOk-from_err c.from_residual-in_err-body.result _ no; left = IfOk-from_err c.from_residual-in_err-body.result _ no }
+
+pub read_content-returns-in_err-content : goal.read_content-returns-in_err-content
+read_content-returns-in_err-content size c = let no = c.from_residual.ensures.0 in record { reads = IfOk-from_err c.from_residual.result _ no; belongs = IfOk-from_err c.from_residual.result _ no; grows = IfOk-from_err c.from_residual.result _ no; left = IfOk-from_err c.from_residual.result _ no }
+
+pub read_element-returns-in_err-label : goal.read_element-returns-in_err-label
+read_element-returns-in_err-label size c = let no = c.from_residual.ensures.0 in record { reads = IfOk-from_err c.from_residual.result _ no; stand = IfOk-from_err c.from_residual.result _ no; grows = IfOk-from_err c.from_residual.result _ no; left = IfOk-from_err c.from_residual.result _ no }
+
+pub read_element-returns-in_err-content : goal.read_element-returns-in_err-content
+read_element-returns-in_err-content size c = let no = c.from_residual-in_err-content.ensures.0 in record { reads = IfOk-from_err c.from_residual-in_err-content.result _ no; stand = IfOk-from_err c.from_residual-in_err-content.result _ no; grows = IfOk-from_err c.from_residual-in_err-content.result _ no; left = IfOk-from_err c.from_residual-in_err-content.result _ no }
+
+pub read_expr-returns-in_err-items : goal.read_expr-returns-in_err-items
+read_expr-returns-in_err-items size c = let no = c.from_residual.ensures.0 in record { reads = IfOk-from_err c.from_residual.result _ no; belongs = IfOk-from_err c.from_residual.result _ no; grows = IfOk-from_err c.from_residual.result _ no; left = IfOk-from_err c.from_residual.result _ no }
+
+pub read_item-returns-in_err-quoted-in-Text : goal.read_item-returns-in_err-quoted-in-Text
+read_item-returns-in_err-quoted-in-Text size c = let no = c.from_residual.ensures.0 in record { reads = IfOk-from_err c.from_residual.result _ no; stand = IfOk-from_err c.from_residual.result _ no; grows = IfOk-from_err c.from_residual.result _ no; left = IfOk-from_err c.from_residual.result _ no }
+
+pub read_items-returns-in_err-read : goal.read_items-returns-in_err-read
+read_items-returns-in_err-read size c = let no = c.from_residual.ensures.0 in record { reads = IfOk-from_err c.from_residual.result _ no; stand = IfOk-from_err c.from_residual.result _ no; grows = IfOk-from_err c.from_residual.result _ no; left = IfOk-from_err c.from_residual.result _ no }
+
+pub read_items-returns-in_err-item : goal.read_items-returns-in_err-item
+read_items-returns-in_err-item size c = let no = c.from_residual-in_err-item.ensures.0 in record { reads = IfOk-from_err c.from_residual-in_err-item.result _ no; stand = IfOk-from_err c.from_residual-in_err-item.result _ no; grows = IfOk-from_err c.from_residual-in_err-item.result _ no; left = IfOk-from_err c.from_residual-in_err-item.result _ no }
+
+pub read_items-returns-in_err-read-2 : goal.read_items-returns-in_err-read-2
+read_items-returns-in_err-read-2 size c = let no = c.from_residual-in_err-read-2.ensures.0 in record { reads = IfOk-from_err c.from_residual-in_err-read-2.result _ no; stand = IfOk-from_err c.from_residual-in_err-read-2.result _ no; grows = IfOk-from_err c.from_residual-in_err-read-2.result _ no; left = IfOk-from_err c.from_residual-in_err-read-2.result _ no }
+
+pub read_match-returns-in_err-scrutinee : goal.read_match-returns-in_err-scrutinee
+read_match-returns-in_err-scrutinee size c = let no = c.from_residual.ensures.0 in record { reads = IfOk-from_err c.from_residual.result _ no; stand = IfOk-from_err c.from_residual.result _ no; grows = IfOk-from_err c.from_residual.result _ no; left = IfOk-from_err c.from_residual.result _ no }
+
+pub read_match-returns-in_err-first : goal.read_match-returns-in_err-first
+read_match-returns-in_err-first size c = let no = c.from_residual-in_err-first.ensures.0 in record { reads = IfOk-from_err c.from_residual-in_err-first.result _ no; stand = IfOk-from_err c.from_residual-in_err-first.result _ no; grows = IfOk-from_err c.from_residual-in_err-first.result _ no; left = IfOk-from_err c.from_residual-in_err-first.result _ no }
+
+pub read_match-returns-in_err-push : goal.read_match-returns-in_err-push
+read_match-returns-in_err-push size c = let no = c.from_residual-in_err-push.ensures.0 in record { reads = IfOk-from_err c.from_residual-in_err-push.result _ no; stand = IfOk-from_err c.from_residual-in_err-push.result _ no; grows = IfOk-from_err c.from_residual-in_err-push.result _ no; left = IfOk-from_err c.from_residual-in_err-push.result _ no }
+
+pub read_match-returns-in_err-clause : goal.read_match-returns-in_err-clause
+read_match-returns-in_err-clause size c = let no = c.from_residual-in_err-clause.ensures.0 in record { reads = IfOk-from_err c.from_residual-in_err-clause.result _ no; stand = IfOk-from_err c.from_residual-in_err-clause.result _ no; grows = IfOk-from_err c.from_residual-in_err-clause.result _ no; left = IfOk-from_err c.from_residual-in_err-clause.result _ no }
+
+pub read_match-returns-in_err-push-2 : goal.read_match-returns-in_err-push-2
+read_match-returns-in_err-push-2 size c = let no = c.from_residual-in_err-push-2.ensures.0 in record { reads = IfOk-from_err c.from_residual-in_err-push-2.result _ no; stand = IfOk-from_err c.from_residual-in_err-push-2.result _ no; grows = IfOk-from_err c.from_residual-in_err-push-2.result _ no; left = IfOk-from_err c.from_residual-in_err-push-2.result _ no }
+
+pub read_named-returns-in_err-name : goal.read_named-returns-in_err-name
+read_named-returns-in_err-name size c = let no = c.from_residual.ensures.0 in record { reads = IfOk-from_err c.from_residual.result _ no; stand = IfOk-from_err c.from_residual.result _ no; grows = IfOk-from_err c.from_residual.result _ no; left = IfOk-from_err c.from_residual.result _ no }
+
+pub read_named-returns-in_err-argument : goal.read_named-returns-in_err-argument
+read_named-returns-in_err-argument size c = let no = c.from_residual-in_err-argument.ensures.0 in record { reads = IfOk-from_err c.from_residual-in_err-argument.result _ no; stand = IfOk-from_err c.from_residual-in_err-argument.result _ no; grows = IfOk-from_err c.from_residual-in_err-argument.result _ no; left = IfOk-from_err c.from_residual-in_err-argument.result _ no }
+
+pub read_named-returns-in_err-push : goal.read_named-returns-in_err-push
+read_named-returns-in_err-push size c = let no = c.from_residual-in_err-push.ensures.0 in record { reads = IfOk-from_err c.from_residual-in_err-push.result _ no; stand = IfOk-from_err c.from_residual-in_err-push.result _ no; grows = IfOk-from_err c.from_residual-in_err-push.result _ no; left = IfOk-from_err c.from_residual-in_err-push.result _ no }
+
+pub read_paren-returns-in_err-inner : goal.read_paren-returns-in_err-inner
+read_paren-returns-in_err-inner size c = let no = c.from_residual.ensures.0 in record { reads = IfOk-from_err c.from_residual.result _ no; stand = IfOk-from_err c.from_residual.result _ no; grows = IfOk-from_err c.from_residual.result _ no; left = IfOk-from_err c.from_residual.result _ no }
+
+-- ---- fewer tokens are left
+pub read_argument-read_paren-requires : goal.read_argument-read_paren-requires
+read_argument-read_paren-requires size c = (omega arith, (c.requires.clauses, c.requires.next))
+
+pub read_content-read_expr-requires : goal.read_content-read_expr-requires
+read_content-read_expr-requires size c = (omega arith, c.requires)
+
+pub read_element-read_content-requires : goal.read_element-read_content-requires
+read_element-read_content-requires size c = (omega (arith, next_lt t.Label c.args.cursor.now refl c.requires.next, ap length c.in_ok-label.ensures.left), c.requires.clauses)
+
+pub read_expr-read_items-requires : goal.read_expr-read_items-requires
+read_expr-read_items-requires size c = (omega arith, c.requires)
+
+pub read_item-read_named-requires : goal.read_item-read_named-requires
+read_item-read_named-requires size c = (omega arith, (c.requires, sym c.peek.ensures ∙ c.in-Word.is))
+
+pub read_item-returns-in-Word-clause-left : goal.read_item-returns-in-Word-clause-left
+read_item-returns-in-Word-clause-left size c = IfOk-weaker c.read_named.result _ _ (λ items h. omega arith) c.read_named.ensures.left
+
+pub read_item-read_element-requires : goal.read_item-read_element-requires
+read_item-read_element-requires size c = (omega arith, (c.requires, sym c.peek.ensures ∙ c.in-Label.is))
+
+pub read_item-returns-in-Label-clause-left : goal.read_item-returns-in-Label-clause-left
+read_item-returns-in-Label-clause-left size c = IfOk-weaker c.read_element.result _ _ (λ items h. omega arith) c.read_element.ensures.left
+
+pub read_item-read_match-requires : goal.read_item-read_match-requires
+read_item-read_match-requires size c = (omega arith, (c.requires, sym c.peek.ensures ∙ c.in-Match.is))
+
+pub read_item-returns-in-Match-clause-left : goal.read_item-returns-in-Match-clause-left
+read_item-returns-in-Match-clause-left size c = IfOk-weaker c.read_match.result _ _ (λ items h. omega arith) c.read_match.ensures.left
+
+pub read_item-read_paren-requires : goal.read_item-read_paren-requires
+read_item-read_paren-requires size c = (omega arith, (c.requires, sym c.peek.ensures ∙ c.in-ParenL.is))
+
+pub read_item-returns-in-ParenL-clause-left : goal.read_item-returns-in-ParenL-clause-left
+read_item-returns-in-ParenL-clause-left size c = IfOk-weaker c.read_paren.result _ _ (λ items h. omega arith) c.read_paren.ensures.left
+
+pub read_items-read_item-requires : goal.read_items-read_item-requires
+read_items-read_item-requires size c = (omega arith, c.requires)
+
+pub read_items-read_item-requires-in-items : goal.read_items-read_item-requires-in-items
+read_items-read_item-requires-in-items size c = (omega (arith, c.items.invariant.left, behind_le c.items.cursor, ap length c.step.ensures.left), c.items.invariant.grows.clauses)
+
+pub read_items-items-smaller : goal.read_items-items-smaller
+read_items-items-smaller size c = omega (arith, next_lt_at t.Comma c.items.cursor refl (sym c.at.ensures ∙ c.items-test.true), ap length c.step.ensures.left, c.in_ok-item.ensures.left)
+
+pub read_match-read_expr-requires : goal.read_match-read_expr-requires
+read_match-read_expr-requires size c = (omega (arith, next_lt t.Match c.args.cursor.now refl c.requires.next, ap length c.step-place.ensures.left), c.requires.clauses)
+
+pub read_match-read_clause-requires : goal.read_match-read_clause-requires
+read_match-read_clause-requires size c = (omega (arith, next_lt t.Match c.args.cursor.now refl c.requires.next, ap length c.step-place.ensures.left, c.in_ok-scrutinee.ensures.left, behind_le c.read_expr.new.cursor, ap length c.step.ensures.left), c.in_ok-scrutinee.ensures.grows.clauses)
+
+pub read_match-read_clause-requires-in-clauses : goal.read_match-read_clause-requires-in-clauses
+read_match-read_clause-requires-in-clauses size c = (omega (arith, c.clauses.invariant.left, behind_le c.clauses.cursor, ap length c.step-in-clauses.ensures.left), c.clauses.invariant.grows.clauses)
+
+pub read_match-clauses-smaller : goal.read_match-clauses-smaller
+read_match-clauses-smaller size c = omega (arith, next_lt_at t.Bar c.clauses.cursor refl (sym c.at.ensures ∙ c.clauses-test.true), ap length c.step-in-clauses.ensures.left, c.in_ok-clause.ensures.left)
+
+pub read_named-read_argument-requires : goal.read_named-read_argument-requires
+read_named-read_argument-requires size c = (omega (arith, c.arguments.invariant.left), (c.arguments.invariant.grows.clauses, front_same t.ParenL c.arguments.cursor (sym c.at.ensures ∙ c.arguments-test.true)))
+
+pub read_named-arguments-smaller : goal.read_named-arguments-smaller
+read_named-arguments-smaller size c = c.in_ok-argument.ensures.left
+
+pub read_paren-read_items-requires : goal.read_paren-read_items-requires
+read_paren-read_items-requires size c = (omega (arith, next_lt t.ParenL c.args.cursor.now refl c.requires.next, ap length c.step-opening.ensures.left), c.requires.clauses)
+
+pub read_paren-returns-then-at-clause-left : goal.read_paren-returns-then-at-clause-left
+read_paren-returns-then-at-clause-left size c = omega (arith, next_lt t.ParenL c.args.cursor.now refl c.requires.next, behind_le c.step-opening.new.self, ap length c.step-opening.ensures.left, ap length c.step.ensures.left)
+
+pub read_paren-returns-clause-left : goal.read_paren-returns-clause-left
+read_paren-returns-clause-left size c = omega (arith, next_lt t.ParenL c.args.cursor.now refl c.requires.next, ap length c.step-opening.ensures.left, c.in_ok-inner.ensures.left, behind_le c.read_items.new.cursor, ap length c.step-2.ensures.left)
+
+pub read_content-returns-clause-left : goal.read_content-returns-clause-left
+read_content-returns-clause-left size c = omega (arith, c.in_ok-content.ensures.left, behind_le c.read_expr.new.cursor, ap length c.step.ensures.left)
+
+pub read_content-returns-then-at-clause-left : goal.read_content-returns-then-at-clause-left
+read_content-returns-then-at-clause-left size c = if_ok c.add.result _ (λ id. omega (arith, behind_le c.args.cursor.now, ap length c.step-place.ensures.left))
+
+pub read_element-returns-clause-left : goal.read_element-returns-clause-left
+read_element-returns-clause-left size c = if_ok c.add_item.result _ (λ items. omega (arith, next_lt t.Label c.args.cursor.now refl c.requires.next, ap length c.in_ok-label.ensures.left, c.in_ok-content.ensures.left))
+
+pub read_clause-returns-clause-left : goal.read_clause-returns-clause-left
+read_clause-returns-clause-left size c = omega (arith, c.in_ok-pattern.ensures.left, behind_le c.read_pattern_seq.new.cursor, ap length c.step.ensures.left, c.in_ok-body.ensures.left)
+
+pub read_item-returns-in_ok-quoted-in-Text-clause-left : goal.read_item-returns-in_ok-quoted-in-Text-clause-left
+read_item-returns-in_ok-quoted-in-Text-clause-left size c = if_ok c.add_item.result _ (λ items. omega (arith, behind_le c.args.cursor.now, ap length c.in_ok-quoted-in-Text.ensures.left))
+
+pub read_item-returns-in_ok-quoted-in-Text-clause-grows : goal.read_item-returns-in_ok-quoted-in-Text-clause-grows
+read_item-returns-in_ok-quoted-in-Text-clause-grows size c = add_grows c.add_item.result _ _ _ _ _ c.in_ok-quoted-in-Text.quoted.place _ (Grows-refl _ _ c.requires) tt c.add_item.ensures.grown
+
+pub read_element-add_item-requires-clause-alone : goal.read_element-add_item-requires-clause-alone
+read_element-add_item-requires-clause-alone size c = refl
+
+pub read_item-add_item-requires-clause-alone : goal.read_item-add_item-requires-clause-alone
+read_item-add_item-requires-clause-alone size c = refl
+
+pub read_match-add_item-requires-clause-alone : goal.read_match-add_item-requires-clause-alone
+read_match-add_item-requires-clause-alone size c = refl
+
+pub read_named-add_item-requires-clause-alone : goal.read_named-add_item-requires-clause-alone
+read_named-add_item-requires-clause-alone size c = refl
+
+pub read_named-add_item-requires-else-is_empty-clause-alone : goal.read_named-add_item-requires-else-is_empty-clause-alone
+read_named-add_item-requires-else-is_empty-clause-alone size c = refl

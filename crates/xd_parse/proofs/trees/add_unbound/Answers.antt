@@ -2,6 +2,7 @@ use Rattle.std.proofs.Common.{ℕ, List, subst}
 use Rattle.std.proofs.lemmas.Result.{IfOk-weaker}
 use Rattle.xd_syntax.specs.Placed.{Name_at}
 use Rattle.xd_parse.specs.Nodes.{IsAdded}
+use Rattle.xd_parse.proofs.Grown.{KeepsRows-refl, KeepsRows-trans}
 use Rattle.xd_parse.proofs.trees.add_unbound.Goals as goal
 
 pub returns-clause-adds : goal.returns-clause-adds
@@ -14,3 +15,12 @@ returns-clause-adds g c =
       merges = m;
     })
     c.add_part.ensures.merges
+
+pub returns-in_err-any-clause-keeps : goal.returns-in_err-any-clause-keeps
+returns-in_err-any-clause-keeps g c = KeepsRows-refl _
+
+pub returns-in_err-bound-clause-keeps : goal.returns-in_err-bound-clause-keeps
+returns-in_err-bound-clause-keeps g c = c.add.ensures.keeps
+
+pub returns-clause-keeps : goal.returns-clause-keeps
+returns-clause-keeps g c = KeepsRows-trans _ _ _ c.add.ensures.keeps c.add_part.ensures.keeps

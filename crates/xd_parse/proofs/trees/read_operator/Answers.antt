@@ -4,6 +4,7 @@ use Rattle.xd_syntax.specs.Placed.{placed_at, placed_form}
 use Rattle.xd_parse.specs.Nodes.{shape, is_operator, Merges}
 use Rattle.xd_parse.specs.Pieces.{pieces}
 use Rattle.xd_parse.proofs.NodeRows.{operator_read, operator_not_read}
+use Rattle.xd_parse.proofs.Grown.{KeepsRows-refl, KeepsRows-trans}
 use Rattle.xd_parse.proofs.trees.read_operator.Goals as goal
 
 pub returns-then-is_operator-clause-reads : goal.returns-then-is_operator-clause-reads
@@ -19,3 +20,12 @@ returns-then-is_operator-clause-reads g c =
 
 pub returns-clause-reads : goal.returns-clause-reads
 returns-clause-reads g c = operator_not_read g.N.Nodes.sort _ _ _ c.requires (sym (c.is_operator.ensures ∙ ap is_operator c.peek-operator.ensures) ∙ c.if-is_operator.false)
+
+pub returns-in_err-part-clause-keeps : goal.returns-in_err-part-clause-keeps
+returns-in_err-part-clause-keeps g c = c.to_node.ensures.keeps
+
+pub returns-then-is_operator-clause-keeps : goal.returns-then-is_operator-clause-keeps
+returns-then-is_operator-clause-keeps g c = KeepsRows-trans _ _ _ c.to_node.ensures.keeps c.add_part.ensures.keeps
+
+pub returns-clause-keeps : goal.returns-clause-keeps
+returns-clause-keeps g c = KeepsRows-refl _
