@@ -123,14 +123,6 @@ module _ (sides : List Side) (contents rests : List State) (side : Side) (free :
       sides free.place side free.found was_free
       (or_right _ _ (stands_in-to side.rest (with_state side.rest rests) (with_state-has side.rest rests))))
 
--- where no head was found
-pub none_found : {X : Type 0} (P : Type 0) (Q : X → Type 0) (o : Option X) → ((x : X) → o ≡ Some x → ⊥) → MatchOption o P Q → P
-none_found P Q None n h = h
-none_found P Q (Some x) n h = absurd (n x refl)
-
-pub some_found : {X : Type 0} (P : Type 0) (Q : X → Type 0) (o : Option X) (x : X) → o ≡ Some x → MatchOption o P Q → Q x
-some_found {X} P Q o x e h = let F : Option X → Type 0 = λ w. MatchOption w P Q in subst F e h
-
 -- one more of a list
 pub all-take_more : {X : Type 0} (P : X → Type 0) (xs : List X) (i : ℕ) (x : X) → slice_get xs i ≡ Some x → AllByRecursion P (take i xs) → P x → AllByRecursion P (take (i + 1) xs)
 all-take_more P xs i x at h p =

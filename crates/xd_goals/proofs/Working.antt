@@ -13,7 +13,7 @@ use Rattle.xd_auto.proofs.Closed.{moves_at-closed}
 use Rattle.xd_rules.specs.declared.atom.Atom.{Atom}
 use Rattle.xd_rules.specs.Members.{IsOneOf}
 use Rattle.xd_rules.specs.Heads.{Head, matches, is_text_atom}
-use Rattle.xd_rules.specs.Rules.{Claim, CaseKey, ChoiceTree, ContentLeaf, RestLeaf, SplitOn, AllLeaves, head_number}
+use Rattle.xd_rules.specs.Rules.{Claim, CaseKey, ChoiceTree, ContentLeaf, RestLeaf, SplitOn, AllLeaves, head_number, keyed}
 use Rattle.xd_rules.proofs.Members.{get-one_of, one_of-all, one_of-append_cases, one_of-from_map, one_of-from_flat_map, one_of-head_number}
 use Rattle.xd_goals.specs.Moves.{claim_with, heads_of, is_last_in, label_head, text_head, with_state}
 use Rattle.xd_goals.specs.Rows.{GoalRow, TableView, IsRefuted, choice_key, goal_case}
@@ -21,12 +21,15 @@ use Rattle.xd_goals.specs.Kept.{Grows}
 use Rattle.xd_goals.specs.Trees.{HasTree, HasOpenTree, IsGrown, IsTextTree, gathered, IsTreeBySort, IsFailureBySort, IsPathBelow, GrownAs, matching_sides, side_at}
 use Rattle.xd_goals.specs.Standing.{ChoiceStands, IsOpen, IsCaseTree, RowHolds, claim_sides, task_for}
 use Rattle.xd_goals.specs.Reached.{HasTreeWithin}
-use Rattle.xd_goals.specs.Cases.{AreBegun, AreSettled, FailsAt, HasHead, IsCaseGrown, IsOpenChoice}
+use Rattle.xd_goals.specs.Cases.{AreBegun, AreSettled, FailsAt, HasHead, IsCaseGrown, IsOpenChoice, case_end_of}
 use Rattle.xd_goals.specs.declared.heads.Side.{Side}
 use Rattle.xd_goals.specs.declared.grow.Task.{Task}
 use Rattle.xd_goals.specs.declared.grow.Grown.{Grown}
 use Rattle.xd_goals.specs.declared.grow.Grown.TheVariants.{Stands, Fails}
 use Rattle.xd_goals.specs.declared.table.Choice.{Choice}
+use Rattle.xd_goals.specs.declared.work.CaseEnd.{CaseEnd}
+use Rattle.xd_goals.specs.declared.work.CaseEnd.TheVariants.{Chosen, Failed}
+use Rattle.xd_goals.specs.declared.work.Failure.{Failure}
 use Rattle.xd_goals.specs.declared.table.GoalCase.{GoalCase}
 use Rattle.xd_goals.proofs.Lists.{all_places, map-take_more, slice_get-push_cases}
 use Rattle.xd_goals.proofs.Growing.{claim_within}
@@ -212,3 +215,23 @@ settled_holds a t goal c ks last h = record {
   begun = record { last = last; named = h.named; names = h.names; complete = h.complete };
   opens = all_places (IsOpen t) ks (λ place k e. (h.open_choices place k e).opens);
 }
+
+-- what a case came to
+module _ (a : Automaton) (ds : List Document) (t : TableView) (owner : GoalCase) (c : Claim State) (head : ℕ) (atom : Atom) where
+  abbrev choice_with : ℕ → Choice
+  choice_with root = record { head = head; atom = atom; root = root }
+
+  abbrev failure_with : Seq → Seq → Failure
+  failure_with inside behind = record { atom = atom; inside = inside; behind = behind }
+
+  pub end_chosen : (g : Grown) (end : CaseEnd) (k : Choice) → end ≡ case_end_of head atom g → end ≡ Chosen k → IsCaseGrown a ds t owner c head atom g → (choice_key k ≡ keyed head atom) × IsOpenChoice a t owner c k
+  end_chosen (Stands root) end k e is h =
+      let same : choice_with root ≡ k = cc in
+      (ap choice_key (sym same), subst (λ (w : Choice). IsOpenChoice a t owner c w) same h)
+  end_chosen (Fails inside behind) end k e is h = absurd (cc)
+
+  pub end_failed : (g : Grown) (end : CaseEnd) (f : Failure) → end ≡ case_end_of head atom g → end ≡ Failed f → IsCaseGrown a ds t owner c head atom g → FailsAt a ds t c f.atom f.inside f.behind
+  end_failed (Stands root) end f e is h = absurd (cc)
+  end_failed (Fails inside behind) end f e is h =
+      let same : failure_with inside behind ≡ f = cc in
+      subst (λ (w : Failure). FailsAt a ds t c w.atom w.inside w.behind) same h

@@ -1,6 +1,6 @@
 -- The cases of a goal as work on it sees them. Only private contracts speak of them.
 use Rattle.std.specs.Prelude.{◌≡◌, ℕ, suc, ◌≤◌, true, false, List, [], ◌∷◌, ◌++◌, length, map, Option, None, Some, slice_get}
-use Rattle.std.specs.List.{list_any}
+use Rattle.std.specs.List.{AllByRecursion, list_any}
 use Rattle.xd_doc.specs.Document.{Document, text, element}
 use Rattle.xd_doc.specs.Classes.{NameClass, class_has}
 use Rattle.xd_doc.specs.declared.store.Seq.{Seq}
@@ -22,6 +22,8 @@ use Rattle.xd_goals.specs.declared.grow.Grown.{Grown}
 use Rattle.xd_goals.specs.declared.grow.Grown.TheVariants.{Stands, Fails}
 use Rattle.xd_goals.specs.declared.table.Choice.{Choice}
 use Rattle.xd_goals.specs.declared.table.GoalCase.{GoalCase}
+use Rattle.xd_goals.specs.declared.work.CaseEnd.{CaseEnd}
+use Rattle.xd_goals.specs.declared.work.CaseEnd.TheVariants.{Chosen, Failed}
 use Rattle.xd_goals.specs.declared.work.Failure.{Failure}
 use Rattle.xd_goals.specs.declared.work.Settled.{Settled}
 use Rattle.xd_goals.specs.declared.work.Settled.TheVariants.{Holds, Separates}
@@ -76,6 +78,13 @@ pub record IsCaseOf (a : Automaton) (left : State) (w : Want) : Type 0 where
   pub has : HasHead a left w.head w.content w.rest
   pub matched : matches has.of_head.kind w.atom ≡ true
 
+-- the cases of a claim, in order
+pub record AreCases (a : Automaton) (c : Claim State) (cases : List Want) : Type 0 where
+  pub named : Named
+  pub names : AreNames (heads_of a c.left ++ right_heads (heads_of a) c) named
+  pub complete : map want_key cases ≡ wanted_cases named 1 (heads_of a c.left)
+  pub each : AllByRecursion (IsCaseOf a c.left) cases
+
 -- an atom of a head of the left, where a content and a rest are those of a document that no right head takes
 pub record FailsAt (a : Automaton) (ds : List Document) (t : TableView) (c : Claim State) (atom : Atom) (inside behind : Seq) : Type 0 where
   pub owner : GoalCase
@@ -105,6 +114,11 @@ pub record AreSettled (a : Automaton) (t : TableView) (goal : ℕ) (c : Claim St
   pub names : AreNames (heads_of a c.left ++ right_heads (heads_of a) c) named
   pub complete : map choice_key choices ≡ wanted_cases named 1 (heads_of a c.left)
   pub open_choices : (place : ℕ) (k : Choice) → slice_get choices place ≡ Some k → IsOpenChoice a t (goal_case goal place) c k
+
+-- what a case comes to by what was grown for it
+abbrev pub case_end_of : ℕ → Atom → Grown → CaseEnd
+case_end_of head atom (Stands root) = Chosen (record { head = head; atom = atom; root = root })
+case_end_of head atom (Fails inside behind) = Failed (record { atom = atom; inside = inside; behind = behind })
 
 abbrev pub IsSettling : Automaton → List Document → TableView → ℕ → Claim State → Settled → Type 0
 IsSettling a ds t goal c (Holds made) = AreSettled a t goal c made.items

@@ -20,6 +20,8 @@ use Rattle.xd_goals.specs.declared.heads.Side.{Side}
 use Rattle.xd_goals.specs.declared.grow.Task.{Task}
 use Rattle.xd_goals.specs.declared.grow.Grown.{Grown}
 use Rattle.xd_goals.specs.declared.grow.Grown.TheVariants.{Stands, Fails}
+use Rattle.xd_goals.specs.declared.grow.Growth.{Growth}
+use Rattle.xd_goals.specs.declared.grow.Growth.TheVariants.{Ends, Splits}
 
 -- the tree stands at this node, and its parts at older ones
 abbrev pub StandsAt : List ChoiceNode → ℕ → ChoiceTree → Type 0
@@ -115,6 +117,11 @@ IsFailureBySort false a ds rows task sides inside behind = IsFailure a ds task s
 abbrev pub GrownAs : (ℕ → Type 0) → (Seq → Seq → Type 0) → Grown → Type 0
 GrownAs P Q (Stands root) = P root
 GrownAs P Q (Fails inside behind) = Q inside behind
+
+-- the same, or a right head is there
+abbrev pub GoesOnAs : (ℕ → Type 0) → (Seq → Seq → Type 0) → (Side → Type 0) → Growth → Type 0
+GoesOnAs P Q R (Ends grown) = GrownAs P Q grown
+GoesOnAs P Q R (Splits side) = R side
 
 -- the goal has this claim, and the case among its dependents
 pub record IsLeafFor (t : TableView) (owner : GoalCase) (c : Claim State) (goal : ℕ) : Type 0 where

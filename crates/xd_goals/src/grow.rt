@@ -7,7 +7,7 @@ ghost use Rattle.xd_goals.specs.Moves.{AreBelow, IsInOrder, claim_with, with_sta
 ghost use Rattle.xd_goals.specs.Rows.{IsRefuted, claim_at};
 ghost use Rattle.xd_goals.specs.Kept.{Grows, IsConsistent, view_of};
 ghost use Rattle.xd_goals.specs.Standing.{AreSeparated};
-ghost use Rattle.xd_goals.specs.Trees.{GrownAs, HasOpenTree, HasTree, IsFailure, IsGrown, IsLeafFor, IsNumbered, IsPathBelow, IsSplitAt, IsTextFailure, IsTextTree, gathered};
+ghost use Rattle.xd_goals.specs.Trees.{GoesOnAs, GrownAs, HasOpenTree, HasTree, IsFailure, IsFree, IsGrown, IsLeafFor, IsNumbered, IsPathBelow, IsSplitAt, IsTextFailure, IsTextTree, gathered};
 ghost use Rattle.xd_goals.specs.declared.heads.Side.{Side};
 
 use crate::goals::{Goals, add_node, depend, find_or_add};
@@ -20,7 +20,7 @@ use xd_doc::{NoMemory, Seq, Store};
 
 /// What a choice tree is for: its case, what the left head says of the content and the rest, and the
 /// number of the automaton's states, of which only contracts speak.
-#[derive(Clone, Copy, Debug)]
+#[derive(Clone, Copy)]
 pub(crate) struct Task {
     pub(crate) owner: GoalCase,
     pub(crate) content: State,
@@ -30,7 +30,7 @@ pub(crate) struct Task {
 
 /// A tree by its root, none of whose leaves names a refuted goal; or a content and a rest of an
 /// element that no right head takes.
-#[derive(Clone, Copy, Debug)]
+#[derive(Clone, Copy)]
 pub(crate) enum Grown {
     Stands(usize),
     Fails(Seq, Seq),
@@ -123,11 +123,62 @@ fn add_split(
     )
 }
 
-/// A tree for an element, from a path on which some of the matching right heads are on the two sides.
+/// How a tree goes on from a path: it ends here, or splits on a right head.
+#[derive(Clone, Copy)]
+enum Growth {
+    Ends(Grown),
+    Splits(Side),
+}
+
+/// How a tree goes on from a path on which some of the matching right heads are on the two sides.
 ///
 /// Where the path's goals are refuted, by a content and a rest, only a head that takes the element
 /// made of these can help: the tree splits on such a one. No head on the path is such a one, and where
 /// there is none, the element separates.
+fn next_growth(
+    alloc: Global,
+    auto: &Auto,
+    store: &Store,
+    answers: &mut Answers,
+    goals: &mut Goals,
+    task: Task,
+    sides: &[Side],
+    contents: &[State],
+    rests: &[State],
+) -> Result<Growth, NoMemory>
+    requires consistent { IsConsistent task.states goals.old }
+    requires owner { task.owner.goal.number < length goals.old.rows.items }
+    requires path { IsPathBelow task.states task sides.now contents.now rests.now }
+    requires states { task.states ≡ length auto.now }
+    requires separated { AreSeparated auto.now store.now goals.old.rows.items }
+    requires right { AreRight auto.now store.now answers.old }
+    ensures consistent { IsConsistent task.states goals.new }
+    ensures grows { Grows (view_of goals.old) (view_of goals.new) }
+    ensures growth { IfOk result (GoesOnAs
+        (HasOpenTree (view_of goals.new) (λ tree. IsGrown goals.new.rows.items task sides.now tree contents.now rests.now) task.owner)
+        (IsFailure auto.now store.now task sides.now)
+        (IsFree sides.now contents.now rests.now)) }
+    ensures right { AreRight auto.now store.now answers.new }
+{
+    let content = leaf(alloc, goals, task, task.content, contents)?;
+    let Standing::Refuted(inside) = goals.standing(content) else {
+        let leaf = add_node(goals, task.states, ChoiceNode::Content(content))?;
+        return Ok(Growth::Ends(Grown::Stands(leaf)));
+    };
+    let rest = leaf(alloc, goals, task, task.rest, rests)?;
+    let Standing::Refuted(behind) = goals.standing(rest) else {
+        let leaf = add_node(goals, task.states, ChoiceNode::Rest(rest))?;
+        return Ok(Growth::Ends(Grown::Stands(leaf)));
+    };
+    match taker(
+        auto, store, answers, task, sides, contents, rests, inside, behind,
+    )? {
+        Some(side) => Ok(Growth::Splits(side)),
+        None => Ok(Growth::Ends(Grown::Fails(inside, behind))),
+    }
+}
+
+/// A tree for an element, from a path on which some of the matching right heads are on the two sides.
 pub(crate) fn grow(
     alloc: Global,
     auto: &Auto,
@@ -152,19 +203,11 @@ pub(crate) fn grow(
         (IsFailure auto.now store.now task sides.now)) }
     ensures right { AreRight auto.now store.now answers.new }
 {
-    let content = leaf(alloc, goals, task, task.content, contents)?;
-    let Standing::Refuted(inside) = goals.standing(content) else {
-        return Ok(Grown::Stands(add_node(goals, task.states, ChoiceNode::Content(content))?));
-    };
-    let rest = leaf(alloc, goals, task, task.rest, rests)?;
-    let Standing::Refuted(behind) = goals.standing(rest) else {
-        return Ok(Grown::Stands(add_node(goals, task.states, ChoiceNode::Rest(rest))?));
-    };
-    let Some(side) = taker(
-        auto, store, answers, task, sides, contents, rests, inside, behind,
-    )?
-    else {
-        return Ok(Grown::Fails(inside, behind));
+    let side = match next_growth(
+        alloc, auto, store, answers, goals, task, sides, contents, rests,
+    )? {
+        Growth::Ends(grown) => return Ok(grown),
+        Growth::Splits(side) => side,
     };
     let more = with_state(alloc, contents, side.content)?;
     match grow(
@@ -177,13 +220,10 @@ pub(crate) fn grow(
                 alloc, auto, store, answers, goals, task, sides, contents, &more,
             )? {
                 Grown::Fails(inside, behind) => Ok(Grown::Fails(inside, behind)),
-                Grown::Stands(two) => Ok(Grown::Stands(add_split(
-                    goals,
-                    task,
-                    side.number,
-                    one,
-                    two,
-                )?)),
+                Grown::Stands(two) => {
+                    let root = add_split(goals, task, side.number, one, two)?;
+                    Ok(Grown::Stands(root))
+                }
             }
         }
     }
@@ -195,6 +235,31 @@ pub(crate) fn node_at(nodes: &[ChoiceNode], number: usize) -> ChoiceNode
     ensures { slice_get nodes.now number ≡ Some result }
 {
     nodes[number]
+}
+
+/// The node that splits between these two trees: the one that is there, where they are its own.
+fn split_again(
+    goals: &mut Goals,
+    task: Task,
+    root: usize,
+    right: usize,
+    content: usize,
+    rest: usize,
+    one: usize,
+    two: usize,
+) -> Result<usize, NoMemory>
+    requires consistent { IsConsistent task.states goals.old }
+    requires there { IsSplitAt goals.old.nodes.items right content rest root }
+    requires one { one < length goals.old.nodes.items }
+    requires two { two < length goals.old.nodes.items }
+    ensures consistent { IsConsistent task.states goals.new }
+    ensures grows { Grows (view_of goals.old) (view_of goals.new) }
+    ensures split { IfOk result (IsSplitAt goals.new.nodes.items right one two) }
+{
+    if one == content && two == rest {
+        return Ok(root);
+    }
+    add_split(goals, task, right, one, two)
 }
 
 /// A leaf that names this goal: as it is, or grown anew where the goal is refuted.
@@ -287,10 +352,10 @@ pub(crate) fn repair(
                     )? {
                         Grown::Fails(inside, behind) => Ok(Grown::Fails(inside, behind)),
                         Grown::Stands(two) => {
-                            if one == content && two == rest {
-                                return Ok(Grown::Stands(root));
-                            }
-                            Ok(Grown::Stands(add_split(goals, task, right, one, two)?))
+                            let root = split_again(
+                                goals, task, root, right, content, rest, one, two,
+                            )?;
+                            Ok(Grown::Stands(root))
                         }
                     }
                 }

@@ -7,10 +7,10 @@ ghost use Rattle.xd_auto.specs.Automaton.{IsNext, IsState, has_label, has_text, 
 ghost use Rattle.xd_auto.specs.declared.auto.State.{State};
 ghost use Rattle.xd_rules.specs.declared.atom.Atom.{Atom};
 ghost use Rattle.xd_rules.specs.Heads.{AreNames, Head, IsSorted, element_in, is_text_atom, matches, text_in};
-ghost use Rattle.xd_goals.specs.Moves.{heads_of, label_head, text_head};
+ghost use Rattle.xd_goals.specs.Moves.{claim_with, heads_of, label_head, text_head};
 ghost use Rattle.xd_goals.specs.Trees.{matching_sides, side_at};
 ghost use Rattle.xd_rules.specs.Listed.{AreAmong};
-ghost use Rattle.xd_goals.specs.Cases.{HasHead, IsHeadNamed, head_labels, head_texts, names_in, want_at, wants_at, wants_of};
+ghost use Rattle.xd_goals.specs.Cases.{AreCases, HasHead, IsHeadNamed, head_labels, head_texts, names_in, want_at, wants_at, wants_of};
 
 use std::alloc::Global;
 use xd_auto::{Auto, LabelMove, Move, State, TextMove};
@@ -19,7 +19,7 @@ use xd_rules::{Atom, label_atoms, text_atoms};
 
 /// A right head that matches an atom: its number, from 1 on, and what it says of the content and of
 /// the rest.
-#[derive(Clone, Copy, Debug)]
+#[derive(Clone, Copy)]
 pub(crate) struct Side {
     pub(crate) number: usize,
     pub(crate) content: State,
@@ -27,7 +27,7 @@ pub(crate) struct Side {
 }
 
 /// A case of a goal: a left head, its number and an atom of it.
-#[derive(Debug, Drop)]
+#[derive(Drop)]
 pub(crate) struct Want {
     pub(crate) head: usize,
     pub(crate) atom: Atom,
@@ -482,8 +482,8 @@ fn add_state_text_cases(
     Ok(())
 }
 
-/// The cases of a goal: each head of its left at each of its atoms.
-pub(crate) fn cases_of(
+/// The cases of a state's heads at their atoms, by the names that are known.
+fn cases_of(
     alloc: Global,
     auto: &Auto,
     left: State,
@@ -497,6 +497,21 @@ pub(crate) fn cases_of(
     add_state_label_cases(alloc, &mut cases, auto, left, unnamed)?;
     add_state_text_cases(alloc, &mut cases, auto, left, unnamed)?;
     Ok(cases)
+}
+
+/// The cases of a claim: each head of the left at each of its atoms.
+pub(crate) fn goal_cases(
+    alloc: Global,
+    auto: &Auto,
+    left: State,
+    rights: &[State],
+) -> Result<Vec<Want>, NoMemory>
+    requires left { IsState auto.now left }
+    requires rights { AllByRecursion (IsState auto.now) rights.now }
+    ensures { IfOk result (λ cases. AreCases auto.now (claim_with left rights.now) cases.items) }
+{
+    let unnamed = unnamed_of(alloc, auto, left, rights)?;
+    cases_of(alloc, auto, left, &unnamed)
 }
 
 /// What the head of this number, from 1 on, says of the content and of the rest.

@@ -20,7 +20,7 @@ pub struct GoalId {
 }
 
 /// A case of a goal, by the place of its choice in the goal's list, from 0.
-#[derive(Clone, Copy, Debug, PartialEq, Eq)]
+#[derive(Clone, Copy, PartialEq, Eq)]
 pub(crate) struct GoalCase {
     pub(crate) goal: GoalId,
     pub(crate) place: usize,
@@ -57,7 +57,7 @@ pub enum ChoiceNode {
 
 /// A goal, its choice trees, for each of these a flag that is set where a leaf may name a refuted goal,
 /// and where the list of the goal's dependents begins.
-#[derive(Debug, Drop)]
+#[derive(Drop)]
 pub(crate) struct Row {
     pub(crate) left: State,
     pub(crate) rights: Vec<State>,
@@ -76,7 +76,7 @@ impl Model for Row {
 }
 
 /// A case that depends on a goal, and where the list goes on.
-#[derive(Clone, Copy, Debug)]
+#[derive(Clone, Copy)]
 pub(crate) struct Link {
     pub(crate) case: GoalCase,
     pub(crate) next: Option<usize>,

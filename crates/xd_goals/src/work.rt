@@ -9,7 +9,7 @@ ghost use Rattle.xd_rules.specs.Heads.{is_text_atom};
 ghost use Rattle.xd_goals.specs.Moves.{claim_with, is_last_in};
 ghost use Rattle.xd_goals.specs.Rows.{IsRefuted, IsUnbroken, claim_of, row_at};
 ghost use Rattle.xd_goals.specs.Kept.{Grows, IsConsistent, IsWhole, view_of};
-ghost use Rattle.xd_goals.specs.Cases.{BeginsAs, FailsAt, IsCaseGrown, IsCaseOf, IsMended, IsMending, IsSettling, IsUncovered};
+ghost use Rattle.xd_goals.specs.Cases.{BeginsAs, FailsAt, IsCaseGrown, IsCaseOf, IsMended, IsMending, IsSettling, IsUncovered, case_end_of};
 ghost use Rattle.xd_goals.specs.Standing.{AreSeparated, ChoiceStands, IsSeparatedBy, KeepsGoals, StandsOn};
 ghost use Rattle.xd_goals.specs.Reached.{HasTreeWithin, IsOpenAt};
 ghost use Rattle.xd_goals.specs.Measure.{AreMadeFrom, Lowers};
@@ -17,7 +17,7 @@ ghost use Rattle.xd_goals.specs.declared.table.Standing.TheVariants.{Waiting};
 
 use crate::goals::{Goals, hold, refute, set_root, set_standing};
 use crate::grow::{Grown, Task, grow, grow_text, node_at, repair};
-use crate::heads::{Unnamed, Want, cases_of, head_of, is_text, share, sides_of, unnamed_of};
+use crate::heads::{Unnamed, Want, goal_cases, head_of, is_text, share, sides_of, unnamed_of};
 use crate::settled::no_marks;
 use crate::table::{Choice, ChoiceNode, GoalCase, GoalId, Row, Standing};
 use std::alloc::Global;
@@ -132,6 +132,28 @@ struct Failure {
     behind: Seq,
 }
 
+/// What a case comes to: a choice with a tree, or how it fails.
+#[derive(Drop)]
+enum CaseEnd {
+    Chosen(Choice),
+    Failed(Failure),
+}
+
+/// What the case of a head at an atom comes to by what was grown for it.
+fn case_end(head: usize, atom: &Atom, grown: Grown) -> Result<CaseEnd, NoMemory>
+    ensures { IfOk result (λ end. end ≡ case_end_of head atom.now grown) }
+{
+    let atom = share(atom)?;
+    match grown {
+        Grown::Stands(root) => Ok(CaseEnd::Chosen(Choice { head, atom, root })),
+        Grown::Fails(inside, behind) => Ok(CaseEnd::Failed(Failure {
+            atom,
+            inside,
+            behind,
+        })),
+    }
+}
+
 /// Trees for all cases of a goal, none of whose leaves names a refuted goal; or a case for which there
 /// is none.
 #[derive(Drop)]
@@ -162,8 +184,7 @@ fn begin(
     ensures settled { IfOk result (IsSettling auto.now store.now (view_of goals.new) owner.number (claim_with left rights.now)) }
     ensures right { AreRight auto.now store.now answers.new }
 {
-    let unnamed = unnamed_of(alloc, auto, left, rights)?;
-    let cases = cases_of(alloc, auto, left, &unnamed)?;
+    let cases = goal_cases(alloc, auto, left, rights)?;
     let mut made = Vec::new(alloc);
     for number in 0..cases.len() {
         let case = &cases[number];
@@ -171,21 +192,12 @@ fn begin(
             goal: owner,
             place: number,
         };
-        match begin_case(
+        let grown = begin_case(
             alloc, auto, store, answers, goals, owner, left, rights, case,
-        )? {
-            Grown::Stands(root) => made.push(Choice {
-                head: case.head,
-                atom: share(&case.atom)?,
-                root,
-            })?,
-            Grown::Fails(inside, behind) => {
-                return Ok(Settled::Separates(Failure {
-                    atom: share(&case.atom)?,
-                    inside,
-                    behind,
-                }));
-            }
+        )?;
+        match case_end(case.head, &case.atom, grown)? {
+            CaseEnd::Chosen(choice) => made.push(choice)?,
+            CaseEnd::Failed(failure) => return Ok(Settled::Separates(failure)),
         }
     }
     Ok(Settled::Holds(made))
@@ -330,11 +342,14 @@ fn mend_case(
             set_root(&mut goals.rows, owner, root);
             Ok(None)
         }
-        Grown::Fails(inside, behind) => Ok(Some(Failure {
-            atom: share(&choice.atom)?,
-            inside,
-            behind,
-        })),
+        Grown::Fails(inside, behind) => {
+            let Choice { atom, .. } = choice;
+            Ok(Some(Failure {
+                atom,
+                inside,
+                behind,
+            }))
+        }
     }
 }
 

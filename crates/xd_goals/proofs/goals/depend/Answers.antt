@@ -1,7 +1,8 @@
 use Rattle.std.proofs.Common.{ap, subst, refl, ◌∙◌, rules, ℕ, Option}
+use Rattle.xd_goals.specs.Kept.{view_of}
 use Rattle.xd_goals.specs.Moves.{IsInOrder}
 use Rattle.xd_goals.specs.Rows.{GoalRow, Leads}
-use Rattle.xd_goals.proofs.Growing.{Leads-begins}
+use Rattle.xd_goals.proofs.Growing.{Grows-same, Leads-begins}
 use Rattle.xd_goals.proofs.Linking.{linked_now, row_read, IsLinkedNow}
 use Rattle.xd_goals.proofs.goals.depend.Goals as goal
 
@@ -26,3 +27,6 @@ returns-clause-grows c = (linked c).grows
 
 pub returns-clause-listed : goal.returns-clause-listed
 returns-clause-listed c = (linked c).listed
+
+pub returns-then-begins_with-clause-grows : goal.returns-then-begins_with-clause-grows
+returns-then-begins_with-clause-grows c = Grows-same (view_of c.args.goals.now)

@@ -118,34 +118,14 @@ repair-requires-in-Stands t c =
       ),
     )
 
-pub returns-then-two-rest-clause-grown : goal.returns-then-two-rest-clause-grown
-returns-then-two-rest-clause-grown t c =
-    let p = parts c.args.goals.now c.args.task c.args.sides.now c.args.contents.now c.args.rests.now c.args.root c.in-Split.right c.in-Split.content c.in-Split.rest c.deref.result.now
-    c.requires.tree c.deref.ensures.value c.in-Split.ensures in
-    let s = same_side c.args.sides.now c.args.contents.now c.args.rests.now c.in-Split.right p.side c.side_numbered-side.result c.requires.path.apart p.number p.free c.side_numbered-side.ensures in
-    let g = Grows-then (view_of c.args.goals.now) (view_of c.repair.new.goals) (view_of c.repair-in-Stands.new.goals) c.in_ok-inside-in-Split.ensures.grows c.in_ok-inside-in-Stands.ensures.grows in
-    let one : c.in-Stands.one ≡ c.in-Split.content = c.if-one-content.true in
-    let two : c.in-Stands-2.two ≡ c.in-Split.rest = c.if-two-rest.true in
-    let stays = split_stays (view_of c.args.goals.now) (view_of c.repair-in-Stands.new.goals) g c.in-Split.right c.in-Split.content c.in-Split.rest c.args.root (rw c.deref.ensures.value at c.in-Split.ensures) p.content_older p.rest_older in
-    let e : c.deref-in-Split.result.now ≡ with_state p.side.content c.args.contents.now =
-    c.deref-in-Split.ensures.value ∙ c.in_ok-more-in-Split.ensures ∙ ap (λ (w : Side). with_state w.content c.args.contents.now) s in
-    let f : c.deref-in-Stands.result.now ≡ with_state p.side.rest c.args.rests.now =
-    c.deref-in-Stands.ensures.value ∙ c.in_ok-more-in-Stands.ensures ∙ ap (λ (w : Side). with_state w.rest c.args.rests.now) s in
-    split_tree c.args.task c.args.sides.now c.args.contents.now c.args.rests.now
-    (view_of c.repair.new.goals) (view_of c.repair-in-Stands.new.goals) (view_of c.repair-in-Stands.new.goals) p.side c.deref-in-Split.result.now c.deref-in-Stands.result.now c.in-Stands.one c.in-Stands-2.two c.args.root
-    p.free e f (rw c.in-Stands.is at c.in_ok-inside-in-Split.ensures.grown) c.in_ok-inside-in-Stands.ensures.grows (rw c.in-Stands-2.is at c.in_ok-inside-in-Stands.ensures.grown) (Grows-same (view_of c.repair-in-Stands.new.goals))
-    (subst (λ (x : ℕ). IsSplitAt c.repair-in-Stands.new.goals.nodes.items p.side.number x c.in-Stands-2.two c.args.root) (sym one)
-    (subst (λ (y : ℕ). IsSplitAt c.repair-in-Stands.new.goals.nodes.items p.side.number c.in-Split.content y c.args.root) (sym two)
-    (subst (λ (n : ℕ). IsSplitAt c.repair-in-Stands.new.goals.nodes.items n c.in-Split.content c.in-Split.rest c.args.root) p.number stays)))
-
-pub add_split-requires-clause-content : goal.add_split-requires-clause-content
-add_split-requires-clause-content t c =
+pub split_again-requires-clause-one : goal.split_again-requires-clause-one
+split_again-requires-clause-one t c =
     open_within-grows (view_of c.repair.new.goals) (view_of c.repair-in-Stands.new.goals) c.in_ok-inside-in-Stands.ensures.grows
     (λ tree. IsGrown c.repair.new.goals.rows.items c.args.task c.args.sides.now tree c.deref-in-Split.result.now c.args.rests.now) c.args.task.owner c.in-Stands.one
     (rw c.in-Stands.is at c.in_ok-inside-in-Split.ensures.grown)
 
-pub add_split-requires-clause-rest : goal.add_split-requires-clause-rest
-add_split-requires-clause-rest t c =
+pub split_again-requires-clause-two : goal.split_again-requires-clause-two
+split_again-requires-clause-two t c =
     HasOpenTree-within (view_of c.repair-in-Stands.new.goals)
     (λ tree. IsGrown c.repair-in-Stands.new.goals.rows.items c.args.task c.args.sides.now tree c.args.contents.now c.deref-in-Stands.result.now) c.args.task.owner c.in-Stands-2.two
     (rw c.in-Stands-2.is at c.in_ok-inside-in-Stands.ensures.grown)
@@ -160,6 +140,34 @@ returns-clause-grown t c =
     let f : c.deref-in-Stands.result.now ≡ with_state p.side.rest c.args.rests.now =
     c.deref-in-Stands.ensures.value ∙ c.in_ok-more-in-Stands.ensures ∙ ap (λ (w : Side). with_state w.rest c.args.rests.now) s in
     split_tree c.args.task c.args.sides.now c.args.contents.now c.args.rests.now
-    (view_of c.repair.new.goals) (view_of c.repair-in-Stands.new.goals) (view_of c.add_split.new.goals) p.side c.deref-in-Split.result.now c.deref-in-Stands.result.now c.in-Stands.one c.in-Stands-2.two c.in_ok-add_split-in-Stands-2.field-0
-    p.free e f (rw c.in-Stands.is at c.in_ok-inside-in-Split.ensures.grown) c.in_ok-inside-in-Stands.ensures.grows (rw c.in-Stands-2.is at c.in_ok-inside-in-Stands.ensures.grown) c.add_split.ensures.grows
-    (subst (λ (n : ℕ). IsSplitAt c.add_split.new.goals.nodes.items n c.in-Stands.one c.in-Stands-2.two c.in_ok-add_split-in-Stands-2.field-0) p.number c.in_ok-add_split-in-Stands-2.ensures.split)
+    (view_of c.repair.new.goals) (view_of c.repair-in-Stands.new.goals) (view_of c.split_again.new.goals) p.side c.deref-in-Split.result.now c.deref-in-Stands.result.now c.in-Stands.one c.in-Stands-2.two c.in_ok-root-in-Stands-2.root
+    p.free e f (rw c.in-Stands.is at c.in_ok-inside-in-Split.ensures.grown) c.in_ok-inside-in-Stands.ensures.grows (rw c.in-Stands-2.is at c.in_ok-inside-in-Stands.ensures.grown) c.split_again.ensures.grows
+    (subst (λ (n : ℕ). IsSplitAt c.split_again.new.goals.nodes.items n c.in-Stands.one c.in-Stands-2.two c.in_ok-root-in-Stands-2.root) p.number c.in_ok-root-in-Stands-2.ensures.split)
+
+pub split_again-requires-clause-there : goal.split_again-requires-clause-there
+split_again-requires-clause-there t c =
+    let p = parts c.args.goals.now c.args.task c.args.sides.now c.args.contents.now c.args.rests.now c.args.root c.in-Split.right c.in-Split.content c.in-Split.rest c.deref.result.now
+    c.requires.tree c.deref.ensures.value c.in-Split.ensures in
+    split_stays (view_of c.args.goals.now) (view_of c.repair-in-Stands.new.goals) (Grows-then (view_of c.args.goals.now) (view_of c.repair.new.goals) (view_of c.repair-in-Stands.new.goals) c.repair.ensures.grows c.repair-in-Stands.ensures.grows)
+    c.in-Split.right c.in-Split.content c.in-Split.rest c.args.root (rw c.deref.ensures.value at c.in-Split.ensures) p.content_older p.rest_older
+
+pub returns-in_err-more-in-Split-clause-grows : goal.returns-in_err-more-in-Split-clause-grows
+returns-in_err-more-in-Split-clause-grows t c = Grows-same (view_of c.args.goals.now)
+
+pub returns-in_err-inside-in-Stands-clause-grows : goal.returns-in_err-inside-in-Stands-clause-grows
+returns-in_err-inside-in-Stands-clause-grows t c = Grows-then (view_of c.args.goals.now) (view_of c.repair.new.goals) (view_of c.repair-in-Stands.new.goals) c.repair.ensures.grows c.repair-in-Stands.ensures.grows
+
+pub returns-in-Fails-2-clause-grows : goal.returns-in-Fails-2-clause-grows
+returns-in-Fails-2-clause-grows t c = Grows-then (view_of c.args.goals.now) (view_of c.repair.new.goals) (view_of c.repair-in-Stands.new.goals) c.repair.ensures.grows c.repair-in-Stands.ensures.grows
+
+pub returns-in_err-root-in-Stands-2-clause-grows : goal.returns-in_err-root-in-Stands-2-clause-grows
+returns-in_err-root-in-Stands-2-clause-grows t c = Grows-then (view_of c.args.goals.now) (view_of c.repair-in-Stands.new.goals) (view_of c.split_again.new.goals) (Grows-then (view_of c.args.goals.now) (view_of c.repair.new.goals) (view_of c.repair-in-Stands.new.goals) c.repair.ensures.grows c.repair-in-Stands.ensures.grows) c.split_again.ensures.grows
+
+pub returns-clause-grows : goal.returns-clause-grows
+returns-clause-grows t c = Grows-then (view_of c.args.goals.now) (view_of c.repair-in-Stands.new.goals) (view_of c.split_again.new.goals) (Grows-then (view_of c.args.goals.now) (view_of c.repair.new.goals) (view_of c.repair-in-Stands.new.goals) c.repair.ensures.grows c.repair-in-Stands.ensures.grows) c.split_again.ensures.grows
+
+pub returns-in-Fails-clause-grown : goal.returns-in-Fails-clause-grown
+returns-in-Fails-clause-grown t c = rw c.in-Fails.is at c.in_ok-inside-in-Split.ensures.grown
+
+pub returns-in-Fails-2-clause-grown : goal.returns-in-Fails-2-clause-grown
+returns-in-Fails-2-clause-grown t c = rw c.in-Fails-2.is at c.in_ok-inside-in-Stands.ensures.grown

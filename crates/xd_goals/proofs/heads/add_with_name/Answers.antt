@@ -1,4 +1,5 @@
 use Rattle.std.proofs.Common.{◌<◌, sym, ap, ◌∙◌, arith, length}
+use Rattle.std.proofs.lemmas.List.{append-nil}
 use Rattle.xd_auto.specs.Automaton.{moves_at}
 use Rattle.xd_goals.proofs.Sides.{sides_hit, sides_next, sides_done}
 use Rattle.xd_goals.proofs.heads.add_with_name.Goals as goal
@@ -29,3 +30,6 @@ returns g c =
     sides_done head (g.M.Headed.named name) c.args.before ms (g.M.Move.moves_in (moves_at c.args.auto.now c.args.state)) (length ms) c.args.sides.now.items c.loop-number.sides.items c.moves-moves.ensures.value (omega arith)
     (sides_next head (g.M.Headed.named name) c.args.before ms g.M.Headed.takes name (λ step. g.met.M.Headed.matches_named step name) c.loop-number.from (length ms) (rw (← c.moves-moves.ensures.value) at c.in_default.ensures.next)
     c.args.sides.now.items c.loop-number.sides.items c.loop-number.invariant.made)
+
+pub loop-number-init : goal.loop-number-init
+loop-number-init g c = record { within = omega arith; made = sym (append-nil c.args.sides.now.items) }

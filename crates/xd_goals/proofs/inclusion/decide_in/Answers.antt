@@ -86,3 +86,18 @@ returns-in_err-run-in-Some c = record {
   goals = keeps_goals-then (view_of c.args.goals.now) (view_of c.loop-document.goals) (view_of c.run.new.goals) c.loop-document.invariant.kept c.run.ensures.goals;
   keeps = keeps-then c.args.store.now c.loop-document.store c.run.new.store c.loop-document.invariant.keeps c.run.ensures.keeps;
 }
+
+pub find_or_add-requires-clause-consistent : goal.find_or_add-requires-clause-consistent
+find_or_add-requires-clause-consistent c = record { states = rw c.len.ensures.value c.requires.stands.facts.states; index = c.requires.whole.index; links = c.requires.whole.links }
+
+pub standing-requires : goal.standing-requires
+standing-requires c = (claim_within c.loop-document.goals.rows.items c.in_ok-asked.asked.number (claim_with c.args.left c.args.rights.now) c.loop-document.invariant.asked).0
+
+pub returns-in_err-asked-clause-whole : goal.returns-in_err-asked-clause-whole
+returns-in_err-asked-clause-whole c = whole_of c.len.result c.find_or_add.new.goals c.find_or_add.ensures.consistent
+
+pub returns-in_err-asked-clause-goals : goal.returns-in_err-asked-clause-goals
+returns-in_err-asked-clause-goals c = asked_kept c.args.auto.now c.args.store.now c.args.goals.now c.find_or_add.new.goals c.find_or_add.ensures.grows (rw c.len.ensures.value at c.find_or_add.ensures.consistent) c.requires.stands
+
+pub returns-in_err-asked-clause-keeps : goal.returns-in_err-asked-clause-keeps
+returns-in_err-asked-clause-keeps c = keeps-same c.args.store.now

@@ -1,4 +1,4 @@
-use Rattle.std.proofs.Common.{◌+◌, length, rules}
+use Rattle.std.proofs.Common.{◌+◌, arith, length, rules}
 use Rattle.xd_goals.specs.Kept.{view_of}
 use Rattle.xd_goals.specs.Measure.{possible}
 use Rattle.xd_goals.proofs.Facts.{keeps_goals-then, keeps-then}
@@ -34,4 +34,19 @@ returns-in_err-step-2 c = record {
   made = made-then (length c.args.goals.now.rows.items) (view_of c.loop-goal.goals) (view_of c.step-in-Some.new.goals) c.step-in-Some.ensures.goals c.loop-goal.invariant.made c.step-in-Some.ensures.made;
   lowers = search rules;
   right = search rules;
+}
+
+pub standing-requires : goal.standing-requires
+standing-requires c = omega (arith, c.loop-goal.invariant.kept.longer, c.requires.asked)
+
+pub loop-goal-init : goal.loop-goal-init
+loop-goal-init c = record {
+  whole = c.step.ensures.whole;
+  stands = c.step.ensures.stands;
+  kept = c.step.ensures.goals;
+  keeps = c.step.ensures.keeps;
+  made = c.step.ensures.made;
+  right = c.in_ok-step.ensures.right;
+  agenda = c.in_ok-step.ensures.agenda;
+  lowers = c.in_ok-step.ensures.lowers;
 }

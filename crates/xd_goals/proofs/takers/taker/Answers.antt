@@ -1,4 +1,4 @@
-use Rattle.std.proofs.Common.{◌≡◌, ◌+◌, false, arith, sym, subst, ◌∙◌, take}
+use Rattle.std.proofs.Common.{◌≡◌, ◌+◌, false, arith, refl, sym, subst, ◌∙◌, take}
 use Rattle.std.specs.List.{AllByRecursion}
 use Rattle.xd_auto.specs.Automaton.{IsState}
 use Rattle.xd_goals.specs.Trees.{IsTaker, takes}
@@ -42,3 +42,12 @@ returns-clause-found c =
     (λ h. subst (AllByRecursion (λ (s : Side). takes c.args.auto.now c.args.store.now c.args.inside c.args.behind s ≡ false))
     (take_all c.args.sides.now c.loop-place.place (omega (arith, c.loop-place-test.false, c.loop-place.invariant.end_is))) h)
     c.loop-place.invariant.found
+
+pub is_taker-requires-clause-content : goal.is_taker-requires-clause-content
+is_taker-requires-clause-content c = (all_at (λ (s : Side). (IsState c.args.auto.now s.content) × (IsState c.args.auto.now s.rest)) c.args.sides.now c.loop-place.place c.side_of-side.result c.requires.sides c.side_of-side.ensures).0
+
+pub is_taker-requires-clause-rest : goal.is_taker-requires-clause-rest
+is_taker-requires-clause-rest c = (all_at (λ (s : Side). (IsState c.args.auto.now s.content) × (IsState c.args.auto.now s.rest)) c.args.sides.now c.loop-place.place c.side_of-side.result c.requires.sides c.side_of-side.ensures).1
+
+pub loop-place-init : goal.loop-place-init
+loop-place-init c = record { right = c.requires.right; found = tt; end_is = refl }

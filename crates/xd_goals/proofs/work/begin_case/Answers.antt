@@ -1,6 +1,7 @@
 use Rattle.std.proofs.Common.{sym, true, false, ◌∙◌}
 use Rattle.xd_goals.specs.Moves.{claim_with}
 use Rattle.xd_goals.specs.Kept.{view_of}
+use Rattle.xd_goals.proofs.Growing.{Grows-same}
 use Rattle.xd_goals.proofs.Working.{case_path, case_grown}
 use Rattle.xd_goals.proofs.work.begin_case.Goals as goal
 
@@ -23,3 +24,18 @@ pub returns-clause-grown : goal.returns-clause-grown
 returns-clause-grown c =
     case_grown c.args.auto.now c.args.owner (claim_with c.args.left c.args.rights.now) c.args.case.now.head c.args.case.now.atom c.args.case.now.content c.args.case.now.rest c.requires.case.has c.len.result c.len.ensures.value c.deref-else-is_text.result.now (c.deref-else-is_text.ensures.value ∙ c.in_ok-sides.ensures)
     c.requires.case.matched false (sym c.is_text.ensures ∙ c.if-is_text.false) c.args.store.now (view_of c.grow.new.goals) c.grow.result c.grow.ensures.grown
+
+pub returns-in_err-sides-clause-grows : goal.returns-in_err-sides-clause-grows
+returns-in_err-sides-clause-grows c = Grows-same (view_of c.args.goals.now)
+
+pub grow_text-requires-clause-consistent : goal.grow_text-requires-clause-consistent
+grow_text-requires-clause-consistent c = rw c.len.ensures.value c.requires.consistent
+
+pub grow-requires-clause-consistent : goal.grow-requires-clause-consistent
+grow-requires-clause-consistent c = rw c.len.ensures.value c.requires.consistent
+
+pub returns-then-is_text-clause-consistent : goal.returns-then-is_text-clause-consistent
+returns-then-is_text-clause-consistent c = rw c.len.ensures.value at c.grow_text.ensures.consistent
+
+pub returns-clause-consistent : goal.returns-clause-consistent
+returns-clause-consistent c = rw c.len.ensures.value at c.grow.ensures.consistent

@@ -9,7 +9,7 @@ use Rattle.xd_goals.proofs.Facts.{keeps_goals-grows, keeps_goals-then}
 use Rattle.xd_goals.proofs.Trees.{standing-grows}
 use Rattle.xd_goals.proofs.Measuring.{lowers-grown, made-grows, made-then}
 use Rattle.xd_goals.proofs.Finding.{OnOk-map}
-use Rattle.xd_goals.proofs.Stepping.{held_by, owner_claim, same_held_by, stands_grown, step_grown, whole_same}
+use Rattle.xd_goals.proofs.Stepping.{held_by, keeps-same, owner_claim, same_held_by, stands_grown, step_grown, whole_of, whole_same}
 use Rattle.xd_goals.proofs.work.begin_goal.Goals as goal
 
 pub begin-requires-clause-consistent : goal.begin-requires-clause-consistent
@@ -91,3 +91,36 @@ returns-in-Separates-clause-made c =
 pub returns-in-Separates-clause-lowers : goal.returns-in-Separates-clause-lowers
 returns-in-Separates-clause-lowers c =
     OnOk-map c.refute_at.result (λ h. lowers-grown (view_of c.args.goals.now) (view_of c.begin.new.goals) c.refute_at.new.goals.rows.items c.begin.ensures.grows h) c.refute_at.ensures.lowers
+
+pub returns-in_err-broken-in-Holds-clause-goals : goal.returns-in_err-broken-in-Holds-clause-goals
+returns-in_err-broken-in-Holds-clause-goals c = keeps_goals-grows (view_of c.args.goals.now) (view_of c.begin.new.goals) c.begin.ensures.grows
+
+pub returns-in_err-broken-in-Holds-clause-made : goal.returns-in_err-broken-in-Holds-clause-made
+returns-in_err-broken-in-Holds-clause-made c = made-grows (view_of c.args.goals.now) (view_of c.begin.new.goals) c.begin.ensures.grows
+
+pub begin-requires-clause-separated : goal.begin-requires-clause-separated
+begin-requires-clause-separated c = c.requires.stands.refuted
+
+pub returns-in_err-made-clause-whole : goal.returns-in_err-made-clause-whole
+returns-in_err-made-clause-whole c = whole_of (length c.args.auto.now) c.begin.new.goals c.begin.ensures.consistent
+
+pub returns-in_err-broken-in-Holds-clause-whole : goal.returns-in_err-broken-in-Holds-clause-whole
+returns-in_err-broken-in-Holds-clause-whole c = whole_of (length c.args.auto.now) c.begin.new.goals c.begin.ensures.consistent
+
+pub refute_at-requires-clause-whole : goal.refute_at-requires-clause-whole
+refute_at-requires-clause-whole c = whole_of (length c.args.auto.now) c.begin.new.goals c.begin.ensures.consistent
+
+pub refute_at-requires-clause-owner : goal.refute_at-requires-clause-owner
+refute_at-requires-clause-owner c = omega (arith, c.begin.ensures.grows.longer, c.requires.owner)
+
+pub hold-requires : goal.hold-requires
+hold-requires c = omega (arith, c.begin.ensures.grows.longer, c.requires.owner)
+
+pub returns-in_err-made-clause-keeps : goal.returns-in_err-made-clause-keeps
+returns-in_err-made-clause-keeps c = keeps-same c.args.store.now
+
+pub returns-in_err-broken-in-Holds-clause-keeps : goal.returns-in_err-broken-in-Holds-clause-keeps
+returns-in_err-broken-in-Holds-clause-keeps c = keeps-same c.args.store.now
+
+pub returns-in_ok-broken-in-Holds-clause-keeps : goal.returns-in_ok-broken-in-Holds-clause-keeps
+returns-in_ok-broken-in-Holds-clause-keeps c = keeps-same c.args.store.now

@@ -1,6 +1,7 @@
 use Rattle.std.proofs.Common.{sym, true, false, ◌∙◌}
 use Rattle.xd_goals.specs.Moves.{claim_with, heads_of}
 use Rattle.xd_goals.specs.Kept.{view_of}
+use Rattle.xd_goals.proofs.Growing.{Grows-same}
 use Rattle.xd_goals.proofs.Working.{case_path, case_grown, case_tree, head_within, leaves_there, same_head}
 use Rattle.xd_goals.proofs.work.mend_choice.Goals as goal
 
@@ -40,3 +41,21 @@ pub returns-clause-grown : goal.returns-clause-grown
 returns-clause-grown c =
     case_grown c.args.auto.now c.args.owner (claim_with c.args.left c.args.rights.now) c.args.choice.now.head c.args.choice.now.atom c.head_of.result.0 c.head_of.result.1 c.head_of.ensures c.len.result c.len.ensures.value c.deref-else-is_text.result.now (c.deref-else-is_text.ensures.value ∙ c.in_ok-sides.ensures)
     (same_head c.args.auto.now c.args.owner (claim_with c.args.left c.args.rights.now) (view_of c.args.goals.now) c.args.choice.now c.head_of.result.0 c.head_of.result.1 c.requires.choice c.head_of.ensures) false (sym c.is_text.ensures ∙ c.if-is_text.false) c.args.store.now (view_of c.repair.new.goals) c.repair.result c.repair.ensures.grown
+
+pub returns-then-not-is_broken-clause-grows : goal.returns-then-not-is_broken-clause-grows
+returns-then-not-is_broken-clause-grows c = Grows-same (view_of c.args.goals.now)
+
+pub returns-in_err-sides-clause-grows : goal.returns-in_err-sides-clause-grows
+returns-in_err-sides-clause-grows c = Grows-same (view_of c.args.goals.now)
+
+pub grow_text-requires-clause-consistent : goal.grow_text-requires-clause-consistent
+grow_text-requires-clause-consistent c = rw c.len.ensures.value c.requires.consistent
+
+pub repair-requires-clause-consistent : goal.repair-requires-clause-consistent
+repair-requires-clause-consistent c = rw c.len.ensures.value c.requires.consistent
+
+pub returns-then-is_text-clause-consistent : goal.returns-then-is_text-clause-consistent
+returns-then-is_text-clause-consistent c = rw c.len.ensures.value at c.grow_text.ensures.consistent
+
+pub returns-clause-consistent : goal.returns-clause-consistent
+returns-clause-consistent c = rw c.len.ensures.value at c.repair.ensures.consistent

@@ -5,6 +5,7 @@ use Rattle.xd_goals.specs.Rows.{GoalRow, row_at, IsUnbroken}
 use Rattle.xd_goals.proofs.Linking.{row_read}
 use Rattle.xd_goals.proofs.Facts.{keeps_goals-then, keeps-then}
 use Rattle.xd_goals.proofs.Finding.{OnOk-map}
+use Rattle.xd_goals.proofs.Measuring.{made-then}
 use Rattle.xd_goals.proofs.Stepping.{keeps-same, whole_same}
 use Rattle.xd_goals.proofs.Mending.{lowers-mended, mended_none, mending-same, mending-then, repaired_same, repaired_step}
 use Rattle.xd_goals.proofs.work.mend_goal.Goals as goal
@@ -103,3 +104,40 @@ returns-clause-lowers c =
 
 pub returns-clause-keeps : goal.returns-clause-keeps
 returns-clause-keeps c = c.loop-place.invariant.keeps
+
+pub is_flagged-requires-clause-goal : goal.is_flagged-requires-clause-goal
+is_flagged-requires-clause-goal c = rw c.deref.ensures.value (omega (arith, c.loop-place.invariant.mending.kept.longer, c.requires.owner))
+
+pub is_flagged-requires-clause-flag : goal.is_flagged-requires-clause-flag
+is_flagged-requires-clause-flag c = rw c.deref.ensures.value (omega (arith, c.loop-place-test.true, c.loop-place.invariant.end_is))
+
+pub mend_case-requires-clause-owner : goal.mend_case-requires-clause-owner
+mend_case-requires-clause-owner c = omega (arith, c.loop-place.invariant.mending.kept.longer, c.requires.owner)
+
+pub mend_case-requires-clause-waits : goal.mend_case-requires-clause-waits
+mend_case-requires-clause-waits c = c.loop-place.invariant.mending.standing ∙ c.requires.waits
+
+pub mend_case-requires-clause-place : goal.mend_case-requires-clause-place
+mend_case-requires-clause-place c = rw (← c.loop-place.invariant.stands.facts.flags c.args.owner.number) (omega (arith, c.loop-place-test.true, c.loop-place.invariant.end_is))
+
+pub mend_case-requires-clause-claim : goal.mend_case-requires-clause-claim
+mend_case-requires-clause-claim c = c.loop-place.invariant.mending.kept.claims c.args.owner.number c.requires.owner ∙ c.requires.claim
+
+pub refute_at-requires-clause-owner : goal.refute_at-requires-clause-owner
+refute_at-requires-clause-owner c = omega (arith, (mending-then c.args.owner.number (view_of c.args.goals.now) (view_of c.loop-place.goals) (view_of c.mend_case.new.goals) c.loop-place.invariant.mending c.mend_case.ensures.mending).kept.longer, c.requires.owner)
+
+pub refute_at-requires-clause-waits : goal.refute_at-requires-clause-waits
+refute_at-requires-clause-waits c = (mending-then c.args.owner.number (view_of c.args.goals.now) (view_of c.loop-place.goals) (view_of c.mend_case.new.goals) c.loop-place.invariant.mending c.mend_case.ensures.mending).standing ∙ c.requires.waits
+
+pub returns-in_err-failure-clause-made : goal.returns-in_err-failure-clause-made
+returns-in_err-failure-clause-made c = (mending-then c.args.owner.number (view_of c.args.goals.now) (view_of c.loop-place.goals) (view_of c.mend_case.new.goals) c.loop-place.invariant.mending c.mend_case.ensures.mending).made
+
+pub returns-in-Some-clause-made : goal.returns-in-Some-clause-made
+returns-in-Some-clause-made c =
+    made-then (length c.args.goals.now.rows.items) (view_of c.mend_case.new.goals) (view_of c.refute_at.new.goals) c.refute_at.ensures.goals (mending-then c.args.owner.number (view_of c.args.goals.now) (view_of c.loop-place.goals) (view_of c.mend_case.new.goals) c.loop-place.invariant.mending c.mend_case.ensures.mending).made c.refute_at.ensures.made
+
+pub returns-clause-made : goal.returns-clause-made
+returns-clause-made c =
+    let step = repaired_step c.args.auto.now c.loop-place.store c.args.owner.number (view_of c.args.goals.now) (view_of c.loop-place.goals) c.requires.owner c.requires.waits c.requires.begun c.requires.stands.facts c.loop-place.invariant.stands
+    c.loop-place.invariant.mending (λ k lt. c.loop-place.invariant.unbroken k (omega (arith, c.loop-place-test.false, c.loop-place.invariant.end_is, lt))) in
+    rw c.set_standing.ensures step.made

@@ -1,6 +1,6 @@
 use Rattle.xd_goals.specs.Kept.{view_of}
 use Rattle.xd_goals.proofs.Facts.{stands-keeps}
-use Rattle.xd_goals.proofs.Stepping.{IsStep, step_refuted, same_refuted, whole_same}
+use Rattle.xd_goals.proofs.Stepping.{IsStep, keeps_goals-same, none_added, step_refuted, same_refuted, whole_same}
 use Rattle.xd_goals.proofs.work.refute_at.Goals as goal
 
 refuted : (c : goal.After-refute) → IsStep c.args.auto.now c.separate.new.store (view_of c.args.goals.now) (record { rows = c.refute.new.rows.items; nodes = c.args.goals.now.nodes.items; links = c.args.goals.now.links.items })
@@ -32,3 +32,9 @@ returns-in_err-document-clause-stands c = stands-keeps c.args.auto.now c.args.st
 
 pub returns-clause-right : goal.returns-clause-right
 returns-clause-right c = c.stay_right.ensures.store c.args.auto.now c.args.store.now c.separate.new.store c.separate.ensures.keeps c.requires.right
+
+pub returns-in_err-document-clause-goals : goal.returns-in_err-document-clause-goals
+returns-in_err-document-clause-goals c = keeps_goals-same (view_of c.args.goals.now)
+
+pub returns-in_err-document-clause-made : goal.returns-in_err-document-clause-made
+returns-in_err-document-clause-made c = none_added c.args.goals.now.rows.items

@@ -1,11 +1,13 @@
-use Rattle.std.proofs.Common.{◌++◌, ◌∙◌, subst}
+use Rattle.std.proofs.Common.{◌++◌, ◌∙◌, subst, sym}
+use Rattle.xd_auto.specs.Automaton.{IsState}
 use Rattle.xd_goals.specs.Rows.{GoalRow, row_at, claim_of}
-use Rattle.std.specs.List.{flat_map}
+use Rattle.std.specs.List.{AllByRecursion, flat_map}
 use Rattle.xd_rules.specs.Heads.{AreNames}
 use Rattle.xd_goals.specs.Moves.{heads_of}
 use Rattle.xd_goals.specs.Cases.{names_in}
 use Rattle.xd_goals.specs.Kept.{view_of}
 use Rattle.xd_goals.proofs.Linking.{row_read}
+use Rattle.xd_goals.proofs.Stepping.{keeps-same}
 use Rattle.xd_goals.proofs.Verdicts.{content_belongs, rest_belongs, separated_by}
 use Rattle.xd_goals.proofs.work.separate.Goals as goal
 
@@ -24,3 +26,14 @@ returns-clause-separated c =
     c.in_ok-unnamed.unnamed.labels c.in_ok-unnamed.unnamed.texts
     (subst (λ (r : GoalRow). AreNames (heads_of c.args.auto.now r.left ++ flat_map (heads_of c.args.auto.now) r.rights) (names_in c.in_ok-unnamed.unnamed.labels c.in_ok-unnamed.unnamed.texts)) row (rw c.deref.ensures.value at c.in_ok-unnamed.ensures.names)) c.in_ok-unnamed.ensures.labels c.in_ok-unnamed.ensures.texts
     c.args.atom.now c.args.inside c.args.behind c.requires.fails c.begin_with.result c.begin_with.ensures.belongs c.begin_with.ensures.begins
+
+pub unnamed_of-requires-clause-left : goal.unnamed_of-requires-clause-left
+unnamed_of-requires-clause-left c =
+    subst (λ (r : GoalRow). IsState c.args.auto.now r.left) (sym (c.row.view_is ∙ row_read c.args.goals.now.rows.items c.args.owner.number _ c.requires.owner c.index-row.ensures)) (c.requires.stands.facts.states.each c.args.owner.number c.requires.owner).left
+
+pub unnamed_of-requires-clause-rights : goal.unnamed_of-requires-clause-rights
+unnamed_of-requires-clause-rights c =
+    rw c.deref.ensures.value (subst (λ (r : GoalRow). AllByRecursion (IsState c.args.auto.now) r.rights) (sym (c.row.view_is ∙ row_read c.args.goals.now.rows.items c.args.owner.number _ c.requires.owner c.index-row.ensures)) (c.requires.stands.facts.states.each c.args.owner.number c.requires.owner).rights)
+
+pub returns-in_err-unnamed-clause-keeps : goal.returns-in_err-unnamed-clause-keeps
+returns-in_err-unnamed-clause-keeps c = keeps-same c.args.store.now

@@ -1,11 +1,12 @@
-use Rattle.std.proofs.Common.{◌≡◌, true, false, refl, subst, ◌∙◌, rules}
-use Rattle.std.specs.List.{list_any}
+use Rattle.std.proofs.Common.{◌≡◌, true, false, refl, ap, subst, sym, ◌∙◌, rules}
+use Rattle.std.specs.List.{AllByRecursion, list_any}
+use Rattle.xd_auto.specs.Automaton.{IsState}
 use Rattle.xd_goals.specs.Moves.{is_last_in}
 use Rattle.xd_goals.specs.Rows.{GoalRow, claim_of, row_at}
 use Rattle.xd_goals.specs.Kept.{view_of}
 use Rattle.xd_goals.proofs.Linking.{row_read}
 use Rattle.xd_goals.proofs.Verdicts.{empty_separated}
-use Rattle.xd_goals.proofs.Stepping.{IsStep, same_refuted, step_refuted, whole_same}
+use Rattle.xd_goals.proofs.Stepping.{IsStep, keeps-same, keeps_goals-same, none_added, same_refuted, step_refuted, whole_same}
 use Rattle.xd_goals.proofs.work.work.Goals as goal
 
 refuted : (c : goal.After-drop-rights) → IsStep c.args.auto.now c.args.store.now (view_of c.args.goals.now) (record { rows = c.refute.new.rows.items; nodes = c.args.goals.now.nodes.items; links = c.args.goals.now.links.items })
@@ -40,3 +41,32 @@ returns-then-is_uncovered-clause-made c = (refuted c).made
 
 pub returns-then-is_uncovered-clause-lowers : goal.returns-then-is_uncovered-clause-lowers
 returns-then-is_uncovered-clause-lowers c = (refuted c).lowers
+
+pub returns-in_err-rights-clause-goals : goal.returns-in_err-rights-clause-goals
+returns-in_err-rights-clause-goals c = keeps_goals-same (view_of c.args.goals.now)
+
+pub returns-in_err-rights-clause-made : goal.returns-in_err-rights-clause-made
+returns-in_err-rights-clause-made c = none_added c.args.goals.now.rows.items
+
+pub returns-in_err-rights-clause-keeps : goal.returns-in_err-rights-clause-keeps
+returns-in_err-rights-clause-keeps c = keeps-same c.args.store.now
+
+pub returns-then-is_uncovered-clause-keeps : goal.returns-then-is_uncovered-clause-keeps
+returns-then-is_uncovered-clause-keeps c = keeps-same c.args.store.now
+
+pub is_uncovered-requires-clause-left : goal.is_uncovered-requires-clause-left
+is_uncovered-requires-clause-left c =
+    subst (λ (r : GoalRow). IsState c.args.auto.now r.left) (sym (c.row.view_is ∙ row_read c.args.goals.now.rows.items c.args.owner.number _ c.requires.owner c.index-row.ensures)) (c.requires.stands.facts.states.each c.args.owner.number c.requires.owner).left
+
+pub is_uncovered-requires-clause-rights : goal.is_uncovered-requires-clause-rights
+is_uncovered-requires-clause-rights c =
+    let same : c.in_ok-rights.rights.items ≡ c.as_slice.result.now = search rules in
+    rw (c.deref.ensures.value, same, c.as_slice.ensures.value) (subst (λ (r : GoalRow). AllByRecursion (IsState c.args.auto.now) r.rights) (sym (c.row.view_is ∙ row_read c.args.goals.now.rows.items c.args.owner.number _ c.requires.owner c.index-row.ensures)) (c.requires.stands.facts.states.each c.args.owner.number c.requires.owner).rights)
+
+pub work_on_cases-requires-clause-claim : goal.work_on_cases-requires-clause-claim
+work_on_cases-requires-clause-claim c =
+    let same : c.in_ok-rights.rights.items ≡ c.as_slice.result.now = search rules in
+    rw (c.deref-2.ensures.value, same, c.as_slice.ensures.value) (sym (ap claim_of (c.row.view_is ∙ row_read c.args.goals.now.rows.items c.args.owner.number _ c.requires.owner c.index-row.ensures)))
+
+pub work_on_cases-requires-clause-last : goal.work_on_cases-requires-clause-last
+work_on_cases-requires-clause-last c = rw c.deref-2.ensures.value (rw c.deref.ensures.value at (c.if-is_uncovered.ensures.no refl))
