@@ -1,0 +1,39 @@
+//! What the calls work on.
+
+use crate::automata::auto;
+use crate::documents::store;
+use crate::named::Names;
+use crate::reports::report;
+use std::alloc::Global;
+use xd_auto::Auto;
+use xd_call_lines::{Call, CallError, Desk};
+use xd_doc::Store;
+
+/// Documents and their names, and an automaton and the names of its states.
+#[derive(Drop)]
+pub struct Documents {
+    pub store: Store,
+    pub documents: Names,
+    pub auto: Auto,
+    pub states: Names,
+}
+
+impl Desk for Documents {
+    fn new(alloc: Global) -> Documents {
+        Documents {
+            store: Store::new(alloc),
+            documents: Names::new(alloc),
+            auto: Auto::new(alloc),
+            states: Names::new(alloc),
+        }
+    }
+
+    fn answer(&mut self, call: &Call<'_>, out: &mut Vec<u8>) -> Result<(), CallError> {
+        match call.name {
+            "store" => store(self, &call.of_subject(), out),
+            "auto" => auto(self, &call.of_subject(), out),
+            "report" => report(self, &call.of_subject(), out),
+            _ => Err(CallError::Call),
+        }
+    }
+}

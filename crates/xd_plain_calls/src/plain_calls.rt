@@ -1,0 +1,282 @@
+//! Calls of the slow programs about documents.
+
+ghost use Rattle.std.specs.Prelude.{◌<◌, length};
+ghost use Rattle.xd_plain.specs.PlainPrograms.{AnyIsFirst};
+
+use crate::plain::{plain_program, plain_tree};
+use std::alloc::{AllocError, Global};
+use std::io::Write;
+use xd_call_lines::{Call, CallError, show_answer_on};
+use xd_call_programs::Programs;
+use xd_doc::{Item, Store};
+use xd_plain::{
+    Binding, NoValue, PlainClauses, PlainDocument, PlainExpression, PlainFunction, PlainProgram,
+    PlainTree, Valued, first_within, fits_within, meaning, value, ways_within,
+};
+use xd_read::read_document;
+
+/// More unfoldings of names than these small documents need.
+const MANY: u64 = 200;
+
+/// About each document of its text, by the definitions of the sound program: `fits`, for the type that was read last; `ways` and
+/// `first`, for the pattern of the first clause; `meaning CALLS`, the value of the program. `value CALLS`: that of the first
+/// function's body, where it has no variables.
+pub fn plain(desk: &Programs, call: &Call<'_>, out: &mut Vec<u8>) -> Result<(), CallError> {
+    let sound = desk.sound.as_ref().ok_or(CallError::Unknown)?;
+    let program = plain_program(call.alloc, sound.program())?;
+    match call.name {
+        "fits" => show_all_fits(call, &program, &newest_type(desk)?, out),
+        "ways" => show_all_ways(call, &program, out),
+        "first" => show_all_first(call, &program, out),
+        "meaning" => show_all_meanings(call, &program, out),
+        "value" => show_value(call, &program, out),
+        _ => Err(CallError::Call),
+    }
+}
+
+fn show_all_fits(
+    call: &Call<'_>,
+    program: &PlainProgram,
+    tree: &PlainTree,
+    out: &mut Vec<u8>,
+) -> Result<(), CallError> {
+    for line in call.text.lines() {
+        show_fits(call.alloc, program, tree, line, out)?;
+    }
+    Ok(())
+}
+
+fn show_all_ways(
+    call: &Call<'_>,
+    program: &PlainProgram,
+    out: &mut Vec<u8>,
+) -> Result<(), CallError> {
+    let pattern = first_pattern(&program.functions)?;
+    for line in call.text.lines() {
+        show_ways(call.alloc, program, pattern, line, out)?;
+    }
+    Ok(())
+}
+
+fn show_all_first(
+    call: &Call<'_>,
+    program: &PlainProgram,
+    out: &mut Vec<u8>,
+) -> Result<(), CallError> {
+    let pattern = first_pattern(&program.functions)?;
+    for line in call.text.lines() {
+        show_first(call.alloc, program, pattern, line, out)?;
+    }
+    Ok(())
+}
+
+fn show_all_meanings(
+    call: &Call<'_>,
+    program: &PlainProgram,
+    out: &mut Vec<u8>,
+) -> Result<(), CallError>
+    requires { AnyIsFirst program.now }
+{
+    let calls = call.number(0)?;
+    for line in call.text.lines() {
+        show_meaning(call.alloc, program, calls, line, out)?;
+    }
+    Ok(())
+}
+
+fn show_value(call: &Call<'_>, program: &PlainProgram, out: &mut Vec<u8>) -> Result<(), CallError>
+    requires { AnyIsFirst program.now }
+{
+    let calls = call.number(0)?;
+    let body = first_body(&program.functions)?;
+    show_valued(value(call.alloc, program, MANY, calls, &[], body), out)
+}
+
+fn newest_type(desk: &Programs) -> Result<PlainTree, CallError> {
+    let newest = desk.newest.ok_or(CallError::Unknown)?;
+    if newest.at() >= desk.types.len() {
+        return Err(CallError::Unknown);
+    }
+    plain_tree(desk.alloc, &desk.types, newest)
+}
+
+/// The body of the first function.
+fn first_body(functions: &[PlainFunction]) -> Result<&PlainExpression, CallError> {
+    match functions.first() {
+        Some(function) => Ok(&function.body),
+        None => Err(CallError::Unknown),
+    }
+}
+
+/// The pattern of the first clause of the first function's match.
+fn first_pattern(functions: &[PlainFunction]) -> Result<&PlainTree, CallError> {
+    match first_body(functions)? {
+        PlainExpression::Match(_, clauses) => pattern_of(clauses),
+        _ => Err(CallError::Unknown),
+    }
+}
+
+fn pattern_of(clauses: &PlainClauses) -> Result<&PlainTree, CallError> {
+    match clauses {
+        PlainClauses::NoClause => Err(CallError::Unknown),
+        PlainClauses::Clause(pattern, _, _) => Ok(pattern),
+    }
+}
+
+fn show_fits(
+    alloc: Global,
+    program: &PlainProgram,
+    tree: &PlainTree,
+    line: &str,
+    out: &mut Vec<u8>,
+) -> Result<(), CallError> {
+    let document = plain_document(alloc, line)?;
+    let fits = fits_within(alloc, &program.definitions, MANY, tree, &document)?;
+    show_answer_on(fits, line, out)
+}
+
+fn show_ways(
+    alloc: Global,
+    program: &PlainProgram,
+    pattern: &PlainTree,
+    line: &str,
+    out: &mut Vec<u8>,
+) -> Result<(), CallError> {
+    let document = plain_document(alloc, line)?;
+    let ways = ways_within(alloc, &program.definitions, MANY, pattern, &document)?;
+    writeln!(out, "{} ways", ways.len())?;
+    Ok(())
+}
+
+/// What the first match binds.
+fn show_first(
+    alloc: Global,
+    program: &PlainProgram,
+    pattern: &PlainTree,
+    line: &str,
+    out: &mut Vec<u8>,
+) -> Result<(), CallError> {
+    let document = plain_document(alloc, line)?;
+    match first_within(alloc, &program.definitions, MANY, pattern, &document)? {
+        Some(found) => show_bindings(&found, out),
+        None => Ok(out.extend_from_slice(b"no match\n")?),
+    }
+}
+
+fn show_bindings(bindings: &[Binding], out: &mut Vec<u8>) -> Result<(), CallError> {
+    out.extend_from_slice(b"match")?;
+    for binding in bindings {
+        write!(out, " {} = ", binding.variable.as_str())?;
+        spell(&binding.document, out)?;
+    }
+    out.push(b'\n')?;
+    Ok(())
+}
+
+fn show_meaning(
+    alloc: Global,
+    program: &PlainProgram,
+    calls: u64,
+    line: &str,
+    out: &mut Vec<u8>,
+) -> Result<(), CallError>
+    requires { AnyIsFirst program.now }
+{
+    let document = plain_document(alloc, line)?;
+    show_valued(meaning(alloc, program, MANY, calls, document), out)
+}
+
+/// A value and the calls that are left, or why there is none.
+fn show_valued(valued: Result<Valued, NoValue>, out: &mut Vec<u8>) -> Result<(), CallError> {
+    match valued {
+        Ok(valued) => {
+            spell(&valued.document, out)?;
+            writeln!(out, " and {} calls left", valued.left)?;
+        }
+        Err(NoValue::Spent) => out.extend_from_slice(b"spent\n")?,
+        Err(NoValue::Stuck) => out.extend_from_slice(b"stuck\n")?,
+        Err(NoValue::NoMemory) => return Err(CallError::Memory(AllocError)),
+    }
+    Ok(())
+}
+
+/// The canonical text of a document whose texts need no escapes.
+fn spell(document: &PlainDocument, out: &mut Vec<u8>) -> Result<(), CallError> {
+    match document {
+        PlainDocument::Empty => out.extend_from_slice(b"()")?,
+        _ => spell_items(document, out)?,
+    }
+    Ok(())
+}
+
+fn spell_items(document: &PlainDocument, out: &mut Vec<u8>) -> Result<(), CallError> {
+    match document {
+        PlainDocument::Empty => Ok(()),
+        PlainDocument::Text(text, rest) => {
+            write!(out, "\"{}\"", text.as_str())?;
+            spell_rest(rest.is_empty(), out)?;
+            spell_items(rest, out)
+        }
+        PlainDocument::Elem(label, content, rest) => {
+            write!(out, "{}[", label.as_str())?;
+            spell_items(content, out)?;
+            out.push(b']')?;
+            spell_rest(rest.is_empty(), out)?;
+            spell_items(rest, out)
+        }
+    }
+}
+
+fn spell_rest(is_last: bool, out: &mut Vec<u8>) -> Result<(), CallError> {
+    if !is_last {
+        out.push(b',')?;
+    }
+    Ok(())
+}
+
+/// The document that a line spells.
+fn plain_document(alloc: Global, line: &str) -> Result<PlainDocument, CallError> {
+    let mut store = Store::new(alloc);
+    let seq = read_document(alloc, &mut store, line.as_bytes())?;
+    let place = seq.place();
+    let mut made = Vec::new(alloc);
+    for number in 0..store.len() {
+        let document = plain_node(alloc, &store, number, &made)?;
+        made.push(document)?;
+    }
+    older(alloc, &made, place)
+}
+
+/// The document that begins at this place.
+fn older(
+    alloc: Global,
+    made: &[PlainDocument],
+    place: Option<usize>,
+) -> Result<PlainDocument, CallError> {
+    let Some(number) = place else {
+        return Ok(PlainDocument::Empty);
+    };
+    let document = made.get(number).ok_or(CallError::Unknown)?;
+    Ok(document.copy(alloc)?)
+}
+
+/// The document that begins at this node, made of those of older nodes.
+fn plain_node(
+    alloc: Global,
+    store: &Store,
+    number: usize,
+    made: &[PlainDocument],
+) -> Result<PlainDocument, CallError>
+    requires { number < length store.now }
+{
+    let seq = store.at(number);
+    let rest = Box::new(alloc, older(alloc, made, store.next(seq).place())?)?;
+    match store.first(seq) {
+        None => Err(CallError::Unknown),
+        Some(Item::Text(text)) => Ok(PlainDocument::Text(text.share()?, rest)),
+        Some(Item::Elem(label)) => {
+            let content = Box::new(alloc, older(alloc, made, store.content(seq).place())?)?;
+            Ok(PlainDocument::Elem(label.share()?, content, rest))
+        }
+    }
+}

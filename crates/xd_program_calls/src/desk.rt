@@ -1,0 +1,41 @@
+//! What the calls work on.
+
+use crate::lexing::lex;
+use crate::naming::name;
+use crate::outside::{shelf, sink};
+use crate::programs::{program, types};
+use std::alloc::Global;
+use xd_base::{MemoryShelf, MemorySink};
+use xd_call_lines::{Call, CallError, Desk};
+use xd_call_programs::Programs;
+
+/// A shelf and a sink, and the programs and types that were read.
+#[derive(Drop)]
+pub struct Texts {
+    pub shelf: MemoryShelf,
+    pub sink: Option<MemorySink>,
+    pub programs: Programs,
+}
+
+impl Desk for Texts {
+    fn new(alloc: Global) -> Texts {
+        Texts {
+            shelf: MemoryShelf::new(alloc),
+            sink: None,
+            programs: Programs::new(alloc),
+        }
+    }
+
+    fn answer(&mut self, call: &Call<'_>, out: &mut Vec<u8>) -> Result<(), CallError> {
+        let about = call.of_subject();
+        match call.name {
+            "shelf" => shelf(&mut self.shelf, &about, out),
+            "sink" => sink(&mut self.sink, &about, out),
+            "lex" => lex(&about, out),
+            "name" => name(&about, out),
+            "program" => program(&mut self.programs, &about, out),
+            "types" => types(&mut self.programs, &about, out),
+            _ => Err(CallError::Call),
+        }
+    }
+}

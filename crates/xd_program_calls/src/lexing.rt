@@ -1,0 +1,42 @@
+//! Calls about tokens.
+
+use std::alloc::Global;
+use std::io::Write;
+use xd_call_lines::{Call, CallError, show_place};
+use xd_lex::{Kind, Lexer, tokens, unescape};
+
+/// `tokens : TEXT`, `unescape : TOKEN`.
+pub fn lex(call: &Call<'_>, out: &mut Vec<u8>) -> Result<(), CallError> {
+    match call.name {
+        "tokens" => show_tokens(call.alloc, call.text.as_bytes(), out),
+        "unescape" => show_unescaped(call.alloc, call.text.as_bytes(), out),
+        _ => Err(CallError::Call),
+    }
+}
+
+/// The place, the kind and the text of each token.
+fn show_tokens(alloc: Global, text: &[u8], out: &mut Vec<u8>) -> Result<(), CallError> {
+    for token in &tokens(alloc, text)? {
+        show_place(token.place, out)?;
+        write!(out, " {:?}", token.kind)?;
+        if !token.text.is_empty() {
+            write!(out, " {}", token.text)?;
+        }
+        writeln!(out)?;
+    }
+    Ok(())
+}
+
+fn show_unescaped(alloc: Global, text: &[u8], out: &mut Vec<u8>) -> Result<(), CallError> {
+    let Ok(mut lexer) = Lexer::new(text) else {
+        return Err(CallError::Malformed);
+    };
+    let token = lexer.next_token();
+    match token.kind {
+        Kind::Text => {
+            out.extend_from_slice(unescape(alloc, token.text)?.as_str().as_bytes())?;
+            Ok(())
+        }
+        _ => Err(CallError::Words),
+    }
+}
