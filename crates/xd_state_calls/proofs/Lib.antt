@@ -1,3 +1,1 @@
-mod ClausePatterns
 mod StatesOfTypes
-mod Tracking

@@ -1,22 +1,16 @@
--- States of types, and types that stay.
+-- States of types.
 use Rattle.std.proofs.Common.{◌≡◌, ◌++◌, ◌∷◌, [], ℕ, List, Option, Some, None, refl}
 use Rattle.std.specs.List.{AllByRecursion}
 use Rattle.xd_auto.specs.declared.auto.State.{State}
 use Rattle.xd_auto.specs.Automaton.{Automaton, Extends, IsState, state_number}
-use Rattle.xd_syntax.specs.Table.{Row, KeepsRows, tree_at}
+use Rattle.xd_syntax.specs.Table.{Row}
 use Rattle.xd_syntax.specs.Tree.{Tree}
-use Rattle.xd_syntax.specs.Types.{BelongsTo}
-use Rattle.xd_syntax.specs.declared.types.TypeId.{TypeId}
-use Rattle.xd_syntax.proofs.AdoptLaws.{type_kept}
 use Rattle.xd_goals.proofs.Lists.{all_map, all_push}
 use Rattle.xd_heads.specs.CellsView.{CellsView}
 use Rattle.xd_heads.specs.Compiled.{numbered}
 use Rattle.xd_heads.specs.Mirrors.{IsTypeState, as_type, continuation_of}
 use Rattle.xd_heads.specs.States.{number_at}
-use Rattle.xd_state_calls.specs.declared.programs.Named.{Named}
-
-pub belongs_kept : (old new : List Row) (id : TypeId) → KeepsRows old new → BelongsTo old id → BelongsTo new id
-belongs_kept old new id k b = (type_kept old new (tree_at old id.at) id k (record { belongs = b; same = refl })).belongs
+use Rattle.xd_state_calls.specs.declared.named.Named.{Named}
 
 some_number : (types : List Row) (c : CellsView) (o : Option ℕ) (T : Tree) → as_type (numbered types c.cells o) ≡ Some T → (n : ℕ) × (o ≡ Some n)
 some_number types c None T e = absurd (cc)

@@ -1,8 +1,7 @@
 //! Calls about lines of proof texts.
 
-use crate::call::Call;
-use crate::error::CallError;
 use std::io::Write;
+use xd_call_lines::{Call, CallError};
 use xd_proof_lines::{Atom, Step, read_case};
 
 /// `read_case LINE`: the number of the head, the atom, and the steps of the choice tree; or `none`.
@@ -21,11 +20,16 @@ pub fn show_case(call: &Call<'_>, out: &mut Vec<u8>) -> Result<(), CallError> {
 
 fn show_atom(atom: &Atom, out: &mut Vec<u8>) -> Result<(), CallError> {
     match atom {
-        Atom::Label(label) => write!(out, "label {}", label.as_str())?,
-        Atom::OtherLabel => write!(out, "another label")?,
-        Atom::Text(text) => write!(out, "text {}", text.as_str())?,
-        Atom::OtherText => write!(out, "another text")?,
+        Atom::Label(label) => show_named("label ", label.as_str(), out),
+        Atom::OtherLabel => show_named("another label", "", out),
+        Atom::Text(text) => show_named("text ", text.as_str(), out),
+        Atom::OtherText => show_named("another text", "", out),
     }
+}
+
+fn show_named(kind: &str, name: &str, out: &mut Vec<u8>) -> Result<(), CallError> {
+    out.extend_from_slice(kind.as_bytes())?;
+    out.extend_from_slice(name.as_bytes())?;
     Ok(())
 }
 

@@ -4,17 +4,14 @@ ghost use Rattle.std.specs.Prelude.{IfOk, false};
 ghost use Rattle.xd_auto.specs.Automaton.{IsState};
 ghost use Rattle.xd_traces.specs.Universal.{IsUniversal};
 
-use crate::call::Call;
-use crate::error::CallError;
-use crate::programs::state_of;
-use std::alloc::Global;
 use std::io::Write;
-use xd_auto::{Auto, Scratch, State, member};
+use xd_auto::{Auto, State};
 use xd_bind::{Holds, MoveKind, cases};
 use xd_boole::{minus, product};
+use xd_call_lines::{Call, CallError, show_answer};
+use xd_call_programs::{show_members, state_of};
 use xd_doc::Store;
 use xd_empty::Inhabitants;
-use xd_read::read_document;
 use xd_traces::{add_universal, pair_up};
 
 /// `product ONE TWO DOCUMENTS`: which of the documents the product accepts.
@@ -31,34 +28,6 @@ pub fn show_minus(call: &Call<'_>, out: &mut Vec<u8>) -> Result<(), CallError> {
     let (two, second) = state_of(call, 1)?;
     let (auto, state) = minus(call.alloc, &one, first, &two, second)?;
     show_members(call, 2, &auto, state, out)
-}
-
-/// Of each document from the call's word of this number on whether the state accepts it.
-pub fn show_members(
-    call: &Call<'_>,
-    first: usize,
-    auto: &Auto,
-    state: State,
-    out: &mut Vec<u8>,
-) -> Result<(), CallError>
-    requires { IsState auto.now state }
-{
-    for number in first..call.words.len() {
-        let document = call.word(number)?;
-        let accepts = is_member(call.alloc, auto, state, document)?;
-        writeln!(out, "{} {document}", if accepts { "yes" } else { "no" })?;
-    }
-    Ok(())
-}
-
-/// Whether the state accepts the document.
-fn is_member(alloc: Global, auto: &Auto, state: State, document: &str) -> Result<bool, CallError>
-    requires { IsState auto.now state }
-{
-    let mut store = Store::new(alloc);
-    let seq = read_document(alloc, &mut store, document.as_bytes())?;
-    let mut scratch = Scratch::reserve(alloc, auto.len(), store.len())?;
-    Ok(member(auto, state, &store, seq, &mut scratch))
 }
 
 /// A state for the type that the call's word of this number names, beside one that accepts all, in an automaton of its own.
@@ -109,6 +78,5 @@ pub fn show_shared(call: &Call<'_>, out: &mut Vec<u8>) -> Result<(), CallError> 
         &mut known,
         &mut store,
     )?;
-    writeln!(out, "{}", if found.is_some() { "yes" } else { "no" })?;
-    Ok(())
+    show_answer(found.is_some(), out)
 }

@@ -6,68 +6,25 @@ ghost use Rattle.xd_auto.specs.Automaton.{IsState};
 ghost use Rattle.xd_goals.specs.Reached.{HasTreeWithin, HaveTreesWithin};
 ghost use Rattle.xd_goals.specs.Rows.{row_at};
 ghost use Rattle.xd_goals.specs.Standing.{StandsOn};
-ghost use Rattle.xd_state_calls.specs.declared.programs.Named.{Named};
+ghost use Rattle.xd_state_calls.specs.declared.named.Named.{Named};
 
-use crate::call::Call;
-use crate::error::CallError;
-use crate::programs::{Named, named_states, states_of};
+use crate::named::{Named, named_states, states_of};
 use std::alloc::Global;
 use std::io::Write;
 use xd_auto::{Auto, State};
+use xd_call_lines::{Call, CallError};
+use xd_call_programs::{show_both_ways, show_verdict};
 use xd_doc::Store;
 use xd_goals::{Choice, ChoiceNode, GoalId, Standing, Table, Verdict, decide, new_tables_stand};
-use xd_write::write_document;
 
 /// `decide MOST ONE TWO`: whether the one is included in the two, then the other way round, by one table; and whether this has at
 /// most so many goals then.
 pub fn show_decided(call: &Call<'_>, out: &mut Vec<u8>) -> Result<(), CallError> {
-    let most = call.number(0)?;
+    let most = call.size(0)?;
     let (auto, one, two) = states_of(call, 1, 2)?;
     let rows = show_both_ways(call.alloc, &auto, one, two, out)?;
     let bound = if rows > most { "more than" } else { "at most" };
     writeln!(out, "{bound} {most} goals")?;
-    Ok(())
-}
-
-/// Both verdicts, and how many goals the table has then.
-pub fn show_both_ways(
-    alloc: Global,
-    auto: &Auto,
-    one: State,
-    two: State,
-    out: &mut Vec<u8>,
-) -> Result<usize, CallError>
-    requires one { IsState auto.now one }
-    requires two { IsState auto.now two }
-{
-    let mut store = Store::new(alloc);
-    let mut table = Table::new(alloc);
-    new_tables_stand(auto, &store);
-    show_verdict(alloc, auto, &mut table, one, two, &mut store, out)?;
-    show_verdict(alloc, auto, &mut table, two, one, &mut store, out)?;
-    Ok(table.rows())
-}
-
-/// `included`, or the document that separates the states.
-fn show_verdict(
-    alloc: Global,
-    auto: &Auto,
-    table: &mut Table,
-    left: State,
-    right: State,
-    store: &mut Store,
-    out: &mut Vec<u8>,
-) -> Result<(), CallError>
-    requires stands { StandsOn auto.now store.old table.old }
-    requires left { IsState auto.now left }
-    requires right { IsState auto.now right }
-    ensures { OnOk result (StandsOn auto.now store.new table.new) }
-{
-    match decide(alloc, auto, table, left, &[right], store)? {
-        Verdict::Included(_) => out.extend_from_slice(b"included")?,
-        Verdict::Separated(seq) => write_document(alloc, store, seq, out)?,
-    }
-    out.push(b'\n')?;
     Ok(())
 }
 

@@ -4,13 +4,12 @@ ghost use Rattle.xd_heads.specs.HeadList.{HeadBelongs};
 ghost use Rattle.xd_heads.specs.Mirrors.{IsTypeState, Mirrors};
 ghost use Rattle.xd_syntax.specs.Types.{BelongsTo};
 
-use crate::call::Call;
-use crate::error::CallError;
-use crate::programs::{find_type, program_of, state_of};
 use std::alloc::Global;
 use std::io::Write;
 use xd_auto::{Auto, State};
-use xd_doc::{Class, Store, Words};
+use xd_call_lines::{Call, CallError, show_class, show_words};
+use xd_call_programs::{find_type, program_of, state_of};
+use xd_doc::Store;
 use xd_empty::inhabitant;
 use xd_heads::{Cells, Head, HeadKind, compile_type, heads};
 use xd_syntax::{SoundProgram, TypeId, Types};
@@ -41,46 +40,22 @@ fn show_heads_of(
     Ok(())
 }
 
+fn show_kind(kind: &HeadKind, out: &mut Vec<u8>) -> Result<(), CallError> {
+    match kind {
+        HeadKind::Label(class) => show_class(class, out),
+        HeadKind::Text(words) => show_words(words, out),
+    }
+}
+
 fn show_head(alloc: Global, types: &Types, head: &Head, out: &mut Vec<u8>) -> Result<(), CallError>
     requires { HeadBelongs types.now head.now }
 {
-    match &head.kind {
-        HeadKind::Label(class) => show_class(class, out)?,
-        HeadKind::Text(words) => show_words(words, out)?,
-    }
+    show_kind(&head.kind, out)?;
     out.push(b'[')?;
     type_text(alloc, types, head.content, out)?;
     out.extend_from_slice(b"] then ")?;
     type_text(alloc, types, head.rest, out)?;
     out.push(b'\n')?;
-    Ok(())
-}
-
-/// Labels, as `a|b`; `^` stands before those that are excepted.
-fn show_class(class: &Class, out: &mut Vec<u8>) -> Result<(), CallError> {
-    if class.takes_others() {
-        out.push(b'^')?;
-    }
-    for (i, name) in class.names().iter().enumerate() {
-        if i > 0 {
-            out.push(b'|')?;
-        }
-        out.extend_from_slice(name.as_str().as_bytes())?;
-    }
-    Ok(())
-}
-
-/// Texts, as `"a"|"b"`; `^` stands before those that are excepted.
-fn show_words(words: &Words, out: &mut Vec<u8>) -> Result<(), CallError> {
-    if words.takes_others() {
-        out.push(b'^')?;
-    }
-    for (i, text) in words.texts().iter().enumerate() {
-        if i > 0 {
-            out.push(b'|')?;
-        }
-        write!(out, "\"{}\"", text.as_str())?;
-    }
     Ok(())
 }
 

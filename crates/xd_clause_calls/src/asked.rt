@@ -1,0 +1,38 @@
+//! The program that the calls are about, and where each is made.
+
+use crate::{clauses, tracks};
+use std::alloc::Global;
+use xd_call_lines::{Call, CallError, Desk};
+use xd_call_programs::Case;
+
+/// The program of the case.
+#[derive(Drop)]
+pub struct Asked {
+    case: Case,
+}
+
+impl Desk for Asked {
+    fn new(alloc: Global) -> Asked {
+        Asked {
+            case: Case::new(alloc),
+        }
+    }
+
+    fn answer(&mut self, call: &Call<'_>, out: &mut Vec<u8>) -> Result<(), CallError> {
+        self.case.take(call.text)?;
+        answer(&call.about(self.case.program()), out)
+    }
+}
+
+/// Makes a call about the program that is its text.
+fn answer(call: &Call<'_>, out: &mut Vec<u8>) -> Result<(), CallError> {
+    match call.name {
+        "uncovered" => clauses::show_uncovered(call, out),
+        "live" => clauses::show_live(call, out),
+        "case_types" => clauses::show_case_types(call, out),
+        "bound" => clauses::show_bound(call, out),
+        "first_way" => clauses::show_first_way(call, out),
+        "project" => tracks::show_projected(call, out),
+        _ => Err(CallError::Call),
+    }
+}

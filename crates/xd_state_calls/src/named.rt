@@ -1,0 +1,104 @@
+//! States for several types of a program, in one automaton.
+
+ghost use Rattle.std.specs.Prelude.{IfOk, OnOk};
+ghost use Rattle.std.specs.List.{AllByRecursion};
+ghost use Rattle.xd_auto.specs.Automaton.{IsState};
+ghost use Rattle.xd_heads.specs.Mirrors.{Mirrors};
+ghost use Rattle.xd_syntax.specs.Types.{BelongsTo};
+ghost use Rattle.xd_state_calls.specs.declared.named.Named.{Named};
+
+use std::alloc::Global;
+use xd_auto::{Auto, State};
+use xd_call_lines::{Call, CallError};
+use xd_call_programs::{find_type, program_of};
+use xd_heads::{Cells, compile_type};
+use xd_syntax::{SoundProgram, TypeId};
+
+/// The types of two names.
+fn types_of(sound: &mut SoundProgram, one: &str, two: &str) -> Result<(TypeId, TypeId), CallError>
+    ensures one { IfOk result (λ ids. BelongsTo sound.new.types ids.0) }
+    ensures two { IfOk result (λ ids. BelongsTo sound.new.types ids.1) }
+{
+    let first = find_type(sound, one)?;
+    let second = find_type(sound, two)?;
+    Ok((first, second))
+}
+
+/// States for the types that the call's words of these numbers name, in one automaton.
+pub fn states_of(call: &Call<'_>, one: usize, two: usize) -> Result<(Auto, State, State), CallError>
+    ensures one { IfOk result (λ made. IsState made.0 made.1) }
+    ensures two { IfOk result (λ made. IsState made.0 made.2) }
+{
+    let first = call.word(one)?;
+    let second = call.word(two)?;
+    let mut sound = program_of(call)?;
+    let (left, right) = types_of(&mut sound, first, second)?;
+    states_at(call.alloc, &mut sound, left, right)
+}
+
+/// States for these types.
+fn states_at(
+    alloc: Global,
+    sound: &mut SoundProgram,
+    left: TypeId,
+    right: TypeId,
+) -> Result<(Auto, State, State), CallError>
+    requires left { BelongsTo sound.old.types left }
+    requires right { BelongsTo sound.old.types right }
+    ensures one { IfOk result (λ made. IsState made.0 made.1) }
+    ensures two { IfOk result (λ made. IsState made.0 made.2) }
+{
+    let mut cells = Cells::new(alloc);
+    let mut auto = Auto::new(alloc);
+    let first = compile_type(alloc, sound, &mut cells, &mut auto, left)?;
+    let second = compile_type(alloc, sound, &mut cells, &mut auto, right)?;
+    Ok((auto, first, second))
+}
+
+/// A type's name, and a state for it.
+#[derive(Drop)]
+pub struct Named<'a> {
+    pub name: &'a str,
+    pub state: State,
+}
+
+/// States for the types that the call's words name, in one automaton.
+pub fn named_states<'a>(call: &Call<'a>) -> Result<(Auto, Vec<Named<'a>>), CallError>
+    ensures { IfOk result (λ made. AllByRecursion (λ (n : Named). IsState made.0 n.state) made.1.items) }
+{
+    let mut sound = program_of(call)?;
+    let mut cells = Cells::new(call.alloc);
+    let mut auto = Auto::new(call.alloc);
+    let mut states = Vec::new(call.alloc);
+    for name in call.behind.split_whitespace() {
+        name_state(
+            call.alloc,
+            &mut sound,
+            &mut cells,
+            &mut auto,
+            &mut states,
+            name,
+        )?;
+    }
+    Ok((auto, states))
+}
+
+/// Puts a state for the type of this name behind the others.
+fn name_state<'a>(
+    alloc: Global,
+    sound: &mut SoundProgram,
+    cells: &mut Cells,
+    auto: &mut Auto,
+    states: &mut Vec<Named<'a>>,
+    name: &'a str,
+) -> Result<(), CallError>
+    requires mirrors { Mirrors sound.old cells.old auto.old }
+    requires states { AllByRecursion (λ (n : Named). IsState auto.old n.state) states.old.items }
+    ensures mirrors { OnOk result (Mirrors sound.new cells.new auto.new) }
+    ensures states { OnOk result (AllByRecursion (λ (n : Named). IsState auto.new n.state) states.new.items) }
+{
+    let id = find_type(sound, name)?;
+    let state = compile_type(alloc, sound, cells, auto, id)?;
+    states.push(Named { name, state })?;
+    Ok(())
+}
