@@ -17,7 +17,8 @@ use Rattle.xd_continuations.specs.Continuation.{Move, moves, IsContinuation}
 use Rattle.xd_continuations.specs.Chains.{KeepsLinks}
 use Rattle.xd_continuations.specs.Bounds.{IsBounded}
 use Rattle.xd_syntax.specs.TypeNames.{meanings}
-use Rattle.xd_heads.specs.Found.{continuation, piece_tree, AreBounded}
+use Rattle.xd_pieces.specs.Pieces.{piece_tree}
+use Rattle.xd_heads.specs.Found.{continuation, AreBounded}
 use Rattle.xd_continuations.proofs.Bounding.{bounded_none}
 use Rattle.xd_continuations.specs.Mirrors.{Continuations, AreMirrored, no_move, on_label, on_text, AreMirrors}
 use Rattle.xd_heads.specs.Compiled.{numbered, continuations_of, fresh_state, GetsState, state_at, IsOfState, AreCompiled}

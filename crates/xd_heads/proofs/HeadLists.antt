@@ -23,8 +23,9 @@ use Rattle.xd_continuations.proofs.MoveLemmas.{all_append, map_append, IsMove, p
 use Rattle.xd_continuations.proofs.Deepening.{moves_no_deeper}
 use Rattle.xd_continuations.proofs.Reaching.{all_same}
 use Rattle.xd_continuations.specs.Chains.{KeepsLinks}
-use Rattle.xd_continuations.proofs.ChainLemmas.{kept_length, kept_list, kept_then, list_none}
-use Rattle.xd_heads.specs.Found.{continuation, piece_tree, move_of, move_at, AreOfTypes, AreMovesOf, IsFound}
+use Rattle.xd_continuations.proofs.ChainLemmas.{kept_then, list_none}
+use Rattle.xd_pieces.specs.Pieces.{piece_tree}
+use Rattle.xd_heads.specs.Found.{continuation, move_of, move_at, AreOfTypes, AreMovesOf, IsFound}
 use Rattle.xd_heads.specs.Growing.{GrowsTypes}
 use Rattle.xd_heads.specs.HeadList.{kind_at, head_at, content_at, AreRestTypes, ContentBelongs, HeadBelongs, IsHeadAt, IsKindOf, IsHeadFound, AreHeadsFound}
 use Rattle.xd_heads.specs.declared.listing.HeadKind.{HeadKind as RustKind}
@@ -80,10 +81,6 @@ other_kind types T copy m c = record {
 -- ---- a program that grows
 
 module _ (p q : ProgramTable) (g : GrowsTypes p q) (cells : List Cell) (nodes : AreOfTypes p.types cells) where
-  pub nodes_stay : AreOfTypes q.types cells
-  nodes_stay = all_same (λ (d : Cell). d.item.node < length p.types) (λ (d : Cell). d.item.node < length q.types) cells
-      (λ d h. let l = more_rows p.types q.types g.adds.types in omega arith) nodes
-
   pub move_stays : (f : Found) → IsFound p.types cells f → move_at q.types cells f ≡ move_at p.types cells f
   move_stays f i =
       ap (λ T. move_of T (continuation q.types cells f.rest)) (tree_stays p.types q.types g.adds.types f.node i.0)
@@ -109,13 +106,6 @@ rests_stay old new k cells nodes rests r = record {
   within = r.within;
   right = λ n id e.
       subst (λ K. IsTypeAt new (seq_of K) id) (sym (continuation_stays old new k cells nodes n)) (type_kept old new (seq_of (continuation old cells n)) id k (r.right n id e));
-}
-
--- and while there are more cells
-pub rests_of_more : {S : Type 0} (types : List Row) (old new : List Cell) → KeepsLinks old new → (rests : HashMap ℕ TypeId S) → AreRestTypes types old rests → AreRestTypes types new rests
-rests_of_more types old new k rests r = record {
-  within = λ n id e. (let w = r.within n id e in let l = kept_length old new k in omega arith);
-  right = λ n id e. subst (λ ps. IsTypeAt types (seq_of (map (piece_tree types) ps)) id) (sym (kept_list old new k n (r.within n id e))) (r.right n id e);
 }
 
 -- one more is put in

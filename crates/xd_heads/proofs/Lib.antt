@@ -11,4 +11,4 @@ pub mod Wrapping
 pub mod Growing
 pub mod Typing
 pub mod HeadLists
-pub mod Fronts
+pub mod Numbering

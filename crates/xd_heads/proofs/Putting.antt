@@ -8,11 +8,12 @@ use Rattle.xd_syntax.specs.Types.{type_numbers}
 use Rattle.xd_syntax.specs.declared.types.TypeId.{TypeId}
 use Rattle.xd_continuations.specs.Expansion.{Task, task}
 use Rattle.xd_continuations.specs.Chains.{list_at, HasLink, KeepsLinks}
-use Rattle.xd_heads.specs.Found.{piece_tree, continuation, task_at, waiting_at, AreOfTypes, IsTask, AddsCells, PutsTasks, marked_front, AreBounded, StayBounded}
+use Rattle.xd_pieces.specs.Pieces.{piece_tree}
+use Rattle.xd_heads.specs.Found.{continuation, task_at, waiting_at, AreOfTypes, IsTask, AddsCells, PutsTasks, marked_front, AreBounded, StayBounded}
 use Rattle.xd_continuations.specs.Bounds.{IsBounded}
 use Rattle.xd_continuations.proofs.Bounding.{bounded_rest}
-use Rattle.xd_heads.specs.declared.cells.Piece.{Piece}
-use Rattle.xd_heads.specs.Cells.{Cell}
+use Rattle.xd_pieces.specs.declared.piece.Piece.{Piece}
+use Rattle.xd_heads.specs.Cells.{Cell, AreChosen, StayChosen}
 use Rattle.xd_continuations.proofs.MoveLemmas.{all_append, map_append}
 use Rattle.xd_continuations.proofs.Reaching.{all_same}
 use Rattle.xd_continuations.proofs.ChainLemmas.{list_kept, list_new, has_kept, kept_list, kept_length, kept_same, kept_then}
@@ -42,6 +43,10 @@ adds_cell types old new c h k = record { kept = has_kept old c new k; nodes = go
     go : HasLink old c new → AreOfTypes types old → AreOfTypes types new
     go (inl r) n = subst (AreOfTypes types) (sym r.1) n
     go (inr e) n = subst (AreOfTypes types) (sym e) (all_append (λ (d : Cell). d.item.node < length types) old (c ∷ []) n (h, tt))
+
+pub chosen_cell : (P : Piece → Type 0) (old new : List Cell) (c : Cell) → P c.item → HasLink old c new → StayChosen P old new
+chosen_cell P old new c h (inl r) a = subst (AreChosen P) (sym r.1) a
+chosen_cell P old new c h (inr e) a = subst (AreChosen P) (sym e) (all_append (λ (d : Cell). P d.item) old (c ∷ []) a (h, tt))
 
 pub continuation_kept : (types : List Row) (old new : List Cell) → KeepsLinks old new → (n : ℕ) → n ≤ length old → continuation types new n ≡ continuation types old n
 continuation_kept types old new k n h = ap (map (piece_tree types)) (kept_list old new k n h)
@@ -120,8 +125,11 @@ pub record IsPushed (types : List Row) (marks : List Bool) (old_cells : List Cel
 abbrev pub node_piece : ℕ → Piece
 node_piece i = record { node = i; is_turns = false }
 
+abbrev pub piece_cell : Piece → ℕ → Cell
+piece_cell p n = record { item = p; behind = n }
+
 abbrev pub node_cell : ℕ → ℕ → Cell
-node_cell i n = record { item = node_piece i; behind = n }
+node_cell i n = piece_cell (node_piece i) n
 
 take_front : {A : Type 0} (xs ys : List A) → take (length xs) (xs ++ ys) ≡ xs
 take_front [] ys = refl
@@ -136,11 +144,11 @@ cut_tasks types cells old new kept ts false p e =
 
 pub pushed_more : (types : List Row) (marks : List Bool) (old_cells : List Cell) (behind : ℕ) (old : List Cell) (is : List ℕ) (rest : ℕ) (cells new : List Cell) →
     IsPushed types marks old_cells behind old is rest cells new → (i : ℕ) → i < length types → (kept : List Cell) → kept ≡ cond (get_or marks i false) new (take (length old) new) →
-    (j : ℕ) → j < length types → tree_at types j ≡ tree_at types i →
-    (cells' : List Cell) (number : ℕ) → HasLink cells (node_cell j rest) cells' → number ≤ length cells' → list_at cells' number ≡ node_piece j ∷ list_at cells rest →
+    (q : Piece) → q.node < length types → piece_tree types q ≡ tree_at types i →
+    (cells' : List Cell) (number : ℕ) → HasLink cells (piece_cell q rest) cells' → number ≤ length cells' → list_at cells' number ≡ q ∷ list_at cells rest →
     IsPushed types marks old_cells behind old (i ∷ is) number cells' (kept ++ node_cell i rest ∷ [])
-pushed_more types marks old_cells behind old is rest cells new p i h kept e j u v cells' number k w l =
-    let a = adds_cell types cells cells' (node_cell j rest) u k in
+pushed_more types marks old_cells behind old is rest cells new p i h kept e q u v cells' number k w l =
+    let a = adds_cell types cells cells' (piece_cell q rest) u k in
     let K : List Tree = continuation types old_cells behind in
     let c = cut_tasks types cells old new kept (marked_front types marks is K) (get_or marks i false) p.tasks e in
     let m = puts_more types cells old kept (cond (get_or marks i false) (marked_front types marks is K) []) (node_cell i rest) c (h, p.within) in
@@ -151,7 +159,7 @@ pushed_more types marks old_cells behind old is rest cells new p i h kept e j u 
       list = ap (map (piece_tree types)) l ∙ ap (λ T. T ∷ continuation types cells rest) v ∙ ap (λ L. tree_at types i ∷ L) p.list;
       tasks = puts_kept types cells cells' old (kept ++ node_cell i rest ∷ []) (marked_front types marks (i ∷ is) K) a.kept n;
       bounded = λ E m o b.
-          bounded_cell types cells cells' (node_cell j rest) (tree_at types i ∷ (map (tree_at types) is ++ K)) k (ap (λ T. T ∷ continuation types cells rest) v ∙ ap (λ L. tree_at types i ∷ L) p.list) E m
+          bounded_cell types cells cells' (piece_cell q rest) (tree_at types i ∷ (map (tree_at types) is ++ K)) k (ap (λ T. T ∷ continuation types cells rest) v ∙ ap (λ L. tree_at types i ∷ L) p.list) E m
           (p.bounded E m o (bounded_rest E m (tree_at types i) (map (tree_at types) is ++ K) b)) b;
     }
 
@@ -171,12 +179,12 @@ numbers_below m (p ∷ parts) (suc i) d a h = numbers_below m parts i d a.1 (ome
 -- the same, as the loop has it
 pub pushed_next : (types : List Row) (marks : List Bool) (old_cells : List Cell) (behind : ℕ) (old : List Cell) (is : List ℕ) (rest : ℕ) (cells new : List Cell) →
     IsPushed types marks old_cells behind old is rest cells new → (i : ℕ) → i < length types → (kept : List Cell) → kept ≡ cond (get_or marks i false) new (take (length old) new) →
-    (p : Piece) → p ≡ node_piece i → (j : ℕ) → j < length types → tree_at types j ≡ tree_at types i → (cells' : List Cell) (number : ℕ) →
-    HasLink cells (node_cell j rest) cells' → number ≤ length cells' → list_at cells' number ≡ node_piece j ∷ list_at cells rest →
+    (p : Piece) → p ≡ node_piece i → (q : Piece) → q.node < length types → piece_tree types q ≡ tree_at types i → (cells' : List Cell) (number : ℕ) →
+    HasLink cells (piece_cell q rest) cells' → number ≤ length cells' → list_at cells' number ≡ q ∷ list_at cells rest →
     (after : List Cell) → after ≡ kept ++ (let c : Cell = record { item = p; behind = rest } in c ∷ []) → (js : List ℕ) → js ≡ i ∷ is →
     IsPushed types marks old_cells behind old js number cells' after
-pushed_next types marks old_cells behind old is rest cells new x i h kept e p pe j u v cells' number k w l after ae js je =
-    let r = pushed_more types marks old_cells behind old is rest cells new x i h kept e j u v cells' number k w l in
+pushed_next types marks old_cells behind old is rest cells new x i h kept e p pe q u v cells' number k w l after ae js je =
+    let r = pushed_more types marks old_cells behind old is rest cells new x i h kept e q u v cells' number k w l in
     let ae' : kept ++ node_cell i rest ∷ [] ≡ after = sym (ae ∙ ap (λ (r : Piece). kept ++ (let c : Cell = record { item = r; behind = rest } in c ∷ [])) pe) in
     subst (λ ks. IsPushed types marks old_cells behind old ks number cells' after) (sym je)
     (subst (IsPushed types marks old_cells behind old (i ∷ is) number cells') ae' r)

@@ -27,7 +27,8 @@ use Rattle.xd_continuations.specs.Bounds.{node_count, NoneLarger, longest}
 use Rattle.xd_continuations.specs.Chains.{list_at, AreLinks, KeepsLinks}
 use Rattle.xd_heads.specs.Cells.{room}
 use Rattle.xd_syntax.specs.TypeNames.{meanings}
-use Rattle.xd_heads.specs.Found.{piece_tree, continuation, move_of, AreOfTypes, AreBounded}
+use Rattle.xd_pieces.specs.Pieces.{piece_tree}
+use Rattle.xd_heads.specs.Found.{continuation, move_of, AreOfTypes, AreBounded}
 use Rattle.xd_heads.specs.States.{EachOnce, IsBelow, AreOwners, number_of, number_at, AddsOwner, IsOfCell, AddsStates, AreContinuationsFrom, nodes_from, nodes_in}
 use Rattle.xd_heads.specs.declared.states.Owner.{Owner}
 use Rattle.xd_heads.specs.declared.states.Owner.TheVariants.{Continuation, Pattern}

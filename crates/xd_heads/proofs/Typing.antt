@@ -11,7 +11,8 @@ use Rattle.xd_continuations.specs.Continuation.{is_piece, IsContinuation}
 use Rattle.xd_continuations.proofs.MoveLemmas.{all_append, map_append}
 use Rattle.xd_continuations.proofs.Reaching.{all_same}
 use Rattle.xd_continuations.specs.Chains.{list_at}
-use Rattle.xd_heads.specs.Found.{continuation, piece_tree}
+use Rattle.xd_pieces.specs.Pieces.{piece_tree}
+use Rattle.xd_heads.specs.Found.{continuation}
 use Rattle.xd_heads.specs.Growing.{GrowsTypes}
 use Rattle.xd_heads.specs.Cells.{Cell}
 use Rattle.xd_continuations.proofs.ChainLemmas.{list_none}

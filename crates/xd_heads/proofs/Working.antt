@@ -17,13 +17,14 @@ use Rattle.xd_continuations.specs.Continuation.{Move, moves, is_piece}
 use Rattle.xd_continuations.specs.Expansion.{Task, in_front, options, task, own_moves, tasks_left, tasks_of, moves_to_come, work_left}
 use Rattle.xd_continuations.specs.Chains.{list_at, HasLink, KeepsLinks}
 use Rattle.xd_syntax.specs.TypeNames.{meanings}
-use Rattle.xd_heads.specs.Found.{turns_of, piece_tree, continuation, task_at, waiting_at, move_of, move_at, IsTask, IsFound, AddsCells, PutsTasks, Finds, IsWorkedOff, AreDecidingMarks, AreMovesOf, marked_front, form_tasks, form_moves, form_put, is_plus, AreBounded, StayBounded, IsContent}
+use Rattle.xd_pieces.specs.Pieces.{piece_tree, turns_of}
+use Rattle.xd_heads.specs.Found.{continuation, task_at, waiting_at, move_of, move_at, IsTask, IsFound, AddsCells, PutsTasks, Finds, IsWorkedOff, AreDecidingMarks, AreMovesOf, marked_front, form_tasks, form_moves, form_put, is_plus, AreBounded, StayBounded, IsContent}
 use Rattle.xd_continuations.specs.TailUses.{RecursOnlyInTail}
 use Rattle.xd_continuations.specs.Bounds.{NoneLarger, IsBounded}
 use Rattle.xd_continuations.specs.Laws.{IsBoundedTask}
 use Rattle.xd_continuations.proofs.Bounding.{bounded_rest, bounded_pieces, bounded_plus}
 use Rattle.xd_continuations.proofs.TaskBounds.{along_bounded, left_bounded}
-use Rattle.xd_heads.specs.declared.cells.Piece.{Piece}
+use Rattle.xd_pieces.specs.declared.piece.Piece.{Piece}
 use Rattle.xd_heads.specs.Cells.{Cell}
 use Rattle.xd_heads.specs.declared.expand.Found.{Found}
 use Rattle.xd_continuations.proofs.MoveLemmas.{all_append, map_append, one_piece}
@@ -31,7 +32,7 @@ use Rattle.xd_continuations.proofs.Merging.{part_piece}
 use Rattle.xd_continuations.proofs.Reaching.{all_same}
 use Rattle.xd_continuations.proofs.Expanding.{tasks_stand, step_gives, step_falls, none_to_come}
 use Rattle.xd_continuations.proofs.ChainLemmas.{kept_length, list_none}
-use Rattle.xd_heads.proofs.Putting.{adds_none, adds_then, adds_cell, bounded_same, bounded_cell, node_piece, node_cell, continuation_kept, waiting_kept, tasks_stand_on}
+use Rattle.xd_heads.proofs.Putting.{adds_none, adds_then, adds_cell, bounded_same, bounded_cell, piece_cell, continuation_kept, waiting_kept, tasks_stand_on}
 
 -- ---- parts of sequences and alternatives
 
@@ -454,17 +455,16 @@ plus_of (V.Opt t) i e = cc
 pub content_none : (types : List Row) (cells : List Cell) → IsContent types cells cells [] 0
 content_none types cells = record { cells = adds_none types cells; within = omega arith; same = ap (map (piece_tree types)) (list_none cells); bounded = bounded_same types cells [] }
 
-pub content_more : (types : List Row) (old cells new : List Cell) (K : List Tree) (rest number i : ℕ) → IsContent types old cells K rest → i < length types →
-    HasLink cells (node_cell i rest) new → number ≤ length new → list_at new number ≡ node_piece i ∷ list_at cells rest → IsContent types old new (tree_at types i ∷ K) number
-content_more types old cells new K rest number i c h k w l =
-    let a = adds_cell types cells new (node_cell i rest) h k in
+pub content_more : (types : List Row) (old cells new : List Cell) (K : List Tree) (rest number : ℕ) → IsContent types old cells K rest → (p : Piece) → p.node < length types →
+    HasLink cells (piece_cell p rest) new → number ≤ length new → list_at new number ≡ p ∷ list_at cells rest → IsContent types old new (piece_tree types p ∷ K) number
+content_more types old cells new K rest number c p h k w l =
+    let a = adds_cell types cells new (piece_cell p rest) h k in
+    let T = piece_tree types p in
     record {
       cells = adds_then types old cells new c.cells a;
       within = w;
-      same = ap (map (piece_tree types)) l ∙ ap (λ L. tree_at types i ∷ L) c.same;
-      bounded = λ E m o b.
-          bounded_cell types cells new (node_cell i rest) (tree_at types i ∷ K) k (ap (λ L. tree_at types i ∷ L) c.same) E m
-          (c.bounded E m o (bounded_rest E m (tree_at types i) K b)) b;
+      same = ap (map (piece_tree types)) l ∙ ap (λ L. T ∷ L) c.same;
+      bounded = λ E m o b. bounded_cell types cells new (piece_cell p rest) (T ∷ K) k (ap (λ L. T ∷ L) c.same) E m (c.bounded E m o (bounded_rest E m T K b)) b;
     }
 
 -- the pieces of a node
@@ -516,7 +516,7 @@ seq_of_form (V.Opt t) is e = cc
 
 -- the same, as the code has it
 pub content_put : (types : List Row) (old cells new : List Cell) (K : List Tree) (rest number i : ℕ) → IsContent types old cells K rest →
-    (at : ℕ) → at < length types → tree_at types at ≡ tree_at types i → HasLink cells (node_cell at rest) new → number ≤ length new → list_at new number ≡ node_piece at ∷ list_at cells rest →
+    (p : Piece) → p.node < length types → piece_tree types p ≡ tree_at types i → HasLink cells (piece_cell p rest) new → number ≤ length new → list_at new number ≡ p ∷ list_at cells rest →
     (L : List Tree) → L ≡ tree_at types i ∷ K → IsContent types old new L number
-content_put types old cells new K rest number i c at h e k w l L q =
-    subst (λ M. IsContent types old new M number) (sym (q ∙ ap (λ T. T ∷ K) (sym e))) (content_more types old cells new K rest number at c h k w l)
+content_put types old cells new K rest number i c p h e k w l L q =
+    subst (λ M. IsContent types old new M number) (sym (q ∙ ap (λ T. T ∷ K) (sym e))) (content_more types old cells new K rest number c p h k w l)

@@ -1,7 +1,7 @@
 -- The types, continuations and moves that pieces, cells and tasks stand for.
 use Rattle.std.specs.Prelude.{◌≡◌, ℕ, ◌<◌, ◌≤◌, Bool, true, false, cond, List, [], ◌∷◌, ◌++◌, map, reverse, length, get_or, Option, Some, None}
 use Rattle.std.specs.List.{AllByRecursion}
-use Rattle.xd_syntax.specs.Tree.{Tree, Empty, Text, Words, Name, Elem, Seq, Alt, Star, Plus, Opt, Val, Definitions, body}
+use Rattle.xd_syntax.specs.Tree.{Tree, Words, Elem, Star, Plus, Definitions, body}
 use Rattle.xd_syntax.specs.Table.{Row, Form, empty_form, text_form, words_form, name_form, elem_form, seq_form, alt_form, star_form, plus_form, opt_form, val_form, tree_at}
 use Rattle.xd_syntax.specs.TypeNames.{AreNumbered, meanings}
 use Rattle.xd_laws.specs.Heads.{element_in, text_in, pieces, all_texts}
@@ -12,29 +12,11 @@ use Rattle.xd_continuations.specs.Expansion.{Task, task, definition_task, own_mo
 use Rattle.xd_continuations.specs.TailUses.{RecursOnlyInTail}
 use Rattle.xd_continuations.specs.Bounds.{NoneLarger, IsBounded}
 use Rattle.xd_continuations.specs.Chains.{list_at, KeepsLinks}
+use Rattle.xd_pieces.specs.Pieces.{piece_tree}
 use Rattle.xd_heads.specs.Bodies.{node_of}
 use Rattle.xd_heads.specs.declared.bodies.Bodies.{Bodies}
-use Rattle.xd_heads.specs.declared.cells.Piece.{Piece}
 use Rattle.xd_heads.specs.Cells.{Cell}
 use Rattle.xd_heads.specs.declared.expand.Found.{Found}
-
--- the star of what `+` repeats
-abbrev pub turns_of : Tree → Tree
-turns_of (Plus T) = Star T
-turns_of Empty = Empty
-turns_of Text = Text
-turns_of (Words w) = (Words w)
-turns_of (Name x) = Name x
-turns_of (Elem c T) = Elem c T
-turns_of (Seq T U) = Seq T U
-turns_of (Alt T U) = Alt T U
-turns_of (Star T) = Star T
-turns_of (Opt T) = Opt T
-turns_of (Val x T) = Val x T
-
--- the type that a piece is
-abbrev pub piece_tree : List Row → Piece → Tree
-piece_tree types p = cond p.is_turns (turns_of (tree_at types p.node)) (tree_at types p.node)
 
 -- the continuation with this number
 abbrev pub continuation : List Row → List Cell → ℕ → List Tree

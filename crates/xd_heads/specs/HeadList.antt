@@ -5,7 +5,7 @@ use Rattle.std.specs.List.{AllByRecursion}
 use Rattle.xd_syntax.specs.Table.{Row, tree_at}
 use Rattle.xd_syntax.specs.Types.{BelongsTo, tree}
 use Rattle.xd_syntax.specs.Sound.{IsTypeAt}
-use Rattle.xd_syntax.specs.Tree.{Tree, Empty, any_type, seq_of}
+use Rattle.xd_syntax.specs.Tree.{Tree, Empty, seq_of}
 use Rattle.xd_syntax.specs.TypeText.{depth}
 use Rattle.xd_syntax.specs.Shallow.{IsShallow, nesting_limit}
 use Rattle.xd_syntax.specs.Program.{names_of}
@@ -20,7 +20,6 @@ use Rattle.xd_heads.specs.Cells.{Cell}
 use Rattle.xd_heads.specs.declared.expand.Found.{Found}
 use Rattle.xd_heads.specs.declared.listing.Head.{Head}
 use Rattle.xd_heads.specs.declared.listing.HeadKind.{HeadKind}
-use Rattle.xd_heads.specs.declared.listing.HeadLister.{HeadLister}
 use Rattle.xd_heads.specs.declared.listing.HeadKind.TheVariants.{Label, Text}
 
 abbrev pub kind_at : HeadKind → laws.HeadKind
@@ -73,9 +72,3 @@ pub record AreHeadsFound (p : ProgramTable) (T : Tree) (old cells : List Cell) (
 pub record AreRestTypes {S : Type 0} (types : List Row) (cells : List Cell) (rests : HashMap ℕ TypeId S) : Type 0 where
   pub within : (n : ℕ) (id : TypeId) → get nat_eq rests n ≡ Some id → n ≤ length cells
   pub right : (n : ℕ) (id : TypeId) → get nat_eq rests n ≡ Some id → IsTypeAt types (seq_of (continuation types cells n)) id
-
--- what is kept of earlier lists of heads is right for the program
-pub record Serves (p : ProgramTable) (l : HeadLister) : Type 0 where
-  pub any : IsTypeAt p.types any_type l.any
-  pub nodes : AreOfTypes p.types l.cells
-  pub rests : AreRestTypes p.types l.cells l.rests

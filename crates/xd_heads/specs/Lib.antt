@@ -7,4 +7,4 @@ pub mod CellsView
 pub mod Mirrors
 pub mod Growing
 pub mod HeadList
-pub mod Fronts
+pub mod Numbered

@@ -90,7 +90,7 @@ fn add_label(
     rest: usize,
     from: State,
     cells: &mut Continuations,
-    uses: &mut FirstUses,
+    uses: &FirstUses,
     states: &mut States,
     auto: &mut Auto,
 ) -> Result<(), NoMemory>
@@ -153,7 +153,7 @@ fn add_move(
     found: Found,
     from: State,
     cells: &mut Continuations,
-    uses: &mut FirstUses,
+    uses: &FirstUses,
     states: &mut States,
     auto: &mut Auto,
 ) -> Result<(), NoMemory>
@@ -195,7 +195,7 @@ fn add_moves(
     number: usize,
     from: State,
     cells: &mut Continuations,
-    uses: &mut FirstUses,
+    uses: &FirstUses,
     states: &mut States,
     auto: &mut Auto,
 ) -> Result<(), NoMemory>
@@ -229,7 +229,7 @@ pub(crate) fn compile(
     marks: &[bool],
     first: usize,
     cells: &mut Continuations,
-    uses: &mut FirstUses,
+    uses: &FirstUses,
     states: &mut States,
     auto: &mut Auto,
 ) -> Result<(), NoMemory>
@@ -271,7 +271,7 @@ pub(crate) fn compile_node(
     marks: &[bool],
     part: TypeId,
     cells: &mut Continuations,
-    uses: &mut FirstUses,
+    uses: &FirstUses,
     states: &mut States,
     auto: &mut Auto,
 ) -> Result<State, NoMemory>

@@ -9,14 +9,17 @@ ghost use Rattle.xd_syntax.specs.Types.{form_of, type_numbers};
 ghost use Rattle.xd_laws.specs.CanBeEmpty.{can_be_empty};
 ghost use Rattle.xd_continuations.specs.Expansion.{definition_task, task, tasks_of};
 ghost use Rattle.xd_syntax.specs.TypeNames.{meanings};
-ghost use Rattle.xd_heads.specs.Found.{AddsCells, AreBodies, AreDecidingMarks, AreMovesOf, AreOfTypes, Finds, IsTask, IsWorkedOff, PutsSequence, PutsTasks, StayBounded, continuation, form_moves, form_put, form_tasks, is_plus, move_of, piece_tree, waiting_at};
+ghost use Rattle.xd_heads.specs.Cells.{StayChosen};
+ghost use Rattle.xd_pieces.specs.Pieces.{piece_tree};
+ghost use Rattle.xd_heads.specs.Found.{AddsCells, AreBodies, AreDecidingMarks, AreMovesOf, AreOfTypes, Finds, IsTask, IsWorkedOff, PutsSequence, PutsTasks, StayBounded, continuation, form_moves, form_put, form_tasks, is_plus, move_of, waiting_at};
 
 use crate::bodies::Bodies;
-use crate::cells::{Cell, Continuations, Piece};
-use crate::first_uses::FirstUses;
+use crate::cells::{Cell, Continuations};
+use crate::stand_ins::StandIns;
 use std::alloc::Global;
 use xd_continuations::Link;
 use xd_doc::{Label, NoMemory};
+use xd_pieces::Piece;
 use xd_syntax::{TypeDef, TypeForm, TypeId, Types};
 
 /// An element or a text that a document can begin with, and the number of the continuation behind it.
@@ -27,23 +30,26 @@ pub(crate) struct Found {
 }
 
 /// Puts the tasks of a repetition on the others: one turn, and more turns behind it.
-fn push_turn(
+fn push_turn<S: StandIns>(
     types: &Types,
     part: TypeId,
     turns: Piece,
     behind: usize,
     cells: &mut Continuations,
+    stand_ins: &S,
     tasks: &mut Vec<Cell>,
 ) -> Result<(), NoMemory>
     requires part { part.at < length types.now }
     requires turns { turns.node < length types.now }
     requires star { piece_tree types.now turns ≡ Star (tree_at types.now part.at) }
     requires behind { behind ≤ length cells.old }
+    requires serve { S.serve types.now stand_ins.now }
     ensures cells { OnOk result (AddsCells types.now cells.old cells.new) }
     ensures bounded { OnOk result (StayBounded types.now cells.old cells.new (Star (tree_at types.now part.at) ∷ continuation types.now cells.old behind)) }
     ensures tasks { OnOk result (PutsTasks types.now cells.new tasks.old.items tasks.new.items (task (Star (tree_at types.now part.at) ∷ continuation types.now cells.old behind) (tree_at types.now part.at) ∷ [])) }
+    ensures chosen { OnOk result (StayChosen (S.chosen types.now stand_ins.now) cells.old cells.new) }
 {
-    let rest = cells.put(turns, behind)?;
+    let rest = cells.put(stand_ins.stand_in(types, turns), behind)?;
     tasks.push(Link {
         item: whole(part),
         behind: rest,
@@ -63,43 +69,38 @@ fn whole(part: TypeId) -> Piece
 
 /// Puts the tasks of a sequence on the others: each part, with the parts after it behind it, as long as those before it
 /// can be empty.
-fn push_sequence(
+fn push_sequence<S: StandIns>(
     types: &Types,
     marks: &[bool],
     parts: &[TypeId],
     behind: usize,
     cells: &mut Continuations,
-    uses: &mut FirstUses,
+    stand_ins: &S,
     tasks: &mut Vec<Cell>,
 ) -> Result<(), NoMemory>
     requires parts { AllByRecursion (λ i. i < length types.now) (type_numbers parts.now) }
     requires marks { length marks.now ≡ length types.now }
     requires behind { behind ≤ length cells.old }
+    requires serve { S.serve types.now stand_ins.now }
     ensures cells { OnOk result (AddsCells types.now cells.old cells.new) }
     ensures bounded { OnOk result (StayBounded types.now cells.old cells.new (map (tree_at types.now) (type_numbers parts.now) ++ continuation types.now cells.old behind)) }
     ensures tasks { OnOk result (PutsSequence types.now marks.now cells.new tasks.old.items tasks.new.items (type_numbers parts.now) (continuation types.now cells.old behind)) }
+    ensures chosen { OnOk result (StayChosen (S.chosen types.now stand_ins.now) cells.old cells.new) }
 {
     let _count = types.len();
     let others = tasks.len();
     cells.reserve(parts.len())?;
     let mut rest = behind;
     for at in (0..parts.len()).rev() {
-        let part = parts[at];
-        if !marks[part.at()] {
+        let part = whole(parts[at]);
+        if !marks[part.node] {
             tasks.truncate(others);
         }
         tasks.push(Link {
-            item: whole(part),
+            item: part,
             behind: rest,
         })?;
-        let first = uses.first(types, part.at())?;
-        rest = cells.put(
-            Piece {
-                node: first,
-                is_turns: false,
-            },
-            rest,
-        )?;
+        rest = cells.put(stand_ins.stand_in(types, part), rest)?;
     }
     Ok(())
 }
@@ -198,7 +199,7 @@ fn turns(node: usize) -> Piece
 }
 
 /// Works off a task, where its node has this form.
-fn work_form(
+fn work_form<S: StandIns>(
     types: &Types,
     defs: &[TypeDef],
     bodies: &Bodies,
@@ -206,7 +207,7 @@ fn work_form(
     form: &TypeForm,
     task: Cell,
     cells: &mut Continuations,
-    uses: &mut FirstUses,
+    stand_ins: &S,
     tasks: &mut Vec<Cell>,
     found: &mut Vec<Found>,
 ) -> Result<(), NoMemory>
@@ -215,10 +216,12 @@ fn work_form(
     requires task { IsTask types.now cells.old task }
     requires tree { tree_at types.now task.item.node ≡ form_tree (tree_at types.now) (form_of form.now) }
     requires parts { PartsBelow (length types.now) (form_of form.now) }
+    requires serve { S.serve types.now stand_ins.now }
     ensures cells { OnOk result (AddsCells types.now cells.old cells.new) }
     ensures bounded { OnOk result (StayBounded types.now cells.old cells.new (form_put types.now (form_of form.now) (continuation types.now cells.old task.behind))) }
     ensures tasks { OnOk result (PutsTasks types.now cells.new tasks.old.items tasks.new.items (form_tasks types.now defs.now marks.now (form_of form.now) (continuation types.now cells.old task.behind))) }
     ensures moves { OnOk result (Finds types.now cells.new found.old.items found.new.items (form_moves types.now task.item.node (form_of form.now) (continuation types.now cells.old task.behind))) }
+    ensures chosen { OnOk result (StayChosen (S.chosen types.now stand_ins.now) cells.old cells.new) }
 {
     match form {
         TypeForm::Empty => {}
@@ -232,11 +235,19 @@ fn work_form(
             parts,
             task.behind,
             cells,
-            uses,
+            stand_ins,
             tasks,
         )?,
         TypeForm::Alt(parts) => push_options(types, parts, task.behind, cells, tasks)?,
-        TypeForm::Star(part) => push_turn(types, *part, task.item, task.behind, cells, tasks)?,
+        TypeForm::Star(part) => push_turn(
+            types,
+            *part,
+            task.item,
+            task.behind,
+            cells,
+            stand_ins,
+            tasks,
+        )?,
         TypeForm::Plus(part) => {
             push_turn(
                 types,
@@ -244,6 +255,7 @@ fn work_form(
                 turns(task.item.node),
                 task.behind,
                 cells,
+                stand_ins,
                 tasks,
             )?
         }
@@ -253,26 +265,28 @@ fn work_form(
 }
 
 /// Works off a task: finds what it gives itself, and puts the tasks that it leaves on the others.
-fn work_off(
+fn work_off<S: StandIns>(
     types: &Types,
     defs: &[TypeDef],
     bodies: &Bodies,
     marks: &[bool],
     task: Cell,
     cells: &mut Continuations,
-    uses: &mut FirstUses,
+    stand_ins: &S,
     tasks: &mut Vec<Cell>,
     found: &mut Vec<Found>,
 ) -> Result<(), NoMemory>
     requires bodies { AreBodies types.now defs.now bodies.now }
     requires marks { AreDecidingMarks types.now defs.now marks.now }
     requires task { IsTask types.now cells.old task }
-    ensures { OnOk result (IsWorkedOff types.now defs.now cells.old cells.new task tasks.old.items tasks.new.items found.old.items found.new.items) }
+    requires serve { S.serve types.now stand_ins.now }
+    ensures worked { OnOk result (IsWorkedOff types.now defs.now cells.old cells.new task tasks.old.items tasks.new.items found.old.items found.new.items) }
+    ensures chosen { OnOk result (StayChosen (S.chosen types.now stand_ins.now) cells.old cells.new) }
 {
     let node = types.node(TypeId::of(task.item.node));
     let form = node.form();
     work_form(
-        types, defs, bodies, marks, form, task, cells, uses, tasks, found,
+        types, defs, bodies, marks, form, task, cells, stand_ins, tasks, found,
     )?;
     Ok(())
 }
@@ -332,14 +346,14 @@ fn first_tasks(
 }
 
 /// The moves of a continuation, in order, repetitions kept.
-pub(crate) fn expand(
+pub(crate) fn expand<S: StandIns>(
     alloc: Global,
     types: &Types,
     defs: &[TypeDef],
     bodies: &Bodies,
     marks: &[bool],
     cells: &mut Continuations,
-    uses: &mut FirstUses,
+    stand_ins: &S,
     number: usize,
 ) -> Result<Vec<Found>, NoMemory>
     requires guarded { Guarded (meanings types.now defs.now) }
@@ -347,13 +361,15 @@ pub(crate) fn expand(
     requires marks { AreDecidingMarks types.now defs.now marks.now }
     requires nodes { AreOfTypes types.now cells.old }
     requires number { number ≤ length cells.old }
-    ensures { IfOk result (λ found. AreMovesOf types.now defs.now cells.old cells.new number found.items) }
+    requires serve { S.serve types.now stand_ins.now }
+    ensures moves { IfOk result (λ found. AreMovesOf types.now defs.now cells.old cells.new number found.items) }
+    ensures chosen { OnOk result (StayChosen (S.chosen types.now stand_ins.now) cells.old cells.new) }
 {
     let mut tasks = first_tasks(alloc, types, defs, marks, cells, number)?;
     let mut found = Vec::new(alloc);
     while let Some(task) = tasks.pop() {
         work_off(
-            types, defs, bodies, marks, task, cells, uses, &mut tasks, &mut found,
+            types, defs, bodies, marks, task, cells, stand_ins, &mut tasks, &mut found,
         )?;
     }
     Ok(found)

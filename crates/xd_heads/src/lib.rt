@@ -7,11 +7,13 @@ mod compile;
 mod content;
 mod expand;
 mod first_uses;
-mod front;
+mod lister;
 mod listing;
+mod stand_ins;
 mod states;
 mod typed;
 mod types;
 
-pub use listing::{Head, HeadKind, HeadLister, heads};
+pub use lister::{HeadLister, NumberedHead, numbers_tell};
+pub use listing::{Head, HeadKind, heads};
 pub use types::{Cells, compile_type, mirrors_stay};

@@ -1,9 +1,8 @@
 //! The heads of a type.
 
-ghost use Rattle.std.specs.Prelude.{◌≡◌, ◌<◌, ◌≤◌, length, map, IfOk, OnOk};
+ghost use Rattle.std.specs.Prelude.{◌≡◌, ◌<◌, ◌≤◌, [], length, map, IfOk, OnOk};
 ghost use Rattle.std.specs.List.{AllByRecursion};
-ghost use Rattle.std.specs.Option.{IfSome};
-ghost use Rattle.xd_laws.specs.Heads.{heads};
+ghost use Rattle.xd_laws.specs.Heads.{heads, pieces};
 ghost use Rattle.xd_continuations.specs.Continuation.{IsContinuation, head_of as head_of_move};
 ghost use Rattle.xd_syntax.specs.Emptiness.{AreEmptyMarks};
 ghost use Rattle.xd_syntax.specs.Kept.{AddsTypes, program_tree};
@@ -16,17 +15,17 @@ ghost use Rattle.xd_syntax.specs.Tree.{any_type, seq_of};
 ghost use Rattle.xd_syntax.specs.TypeNames.{AreNumbered};
 ghost use Rattle.xd_syntax.specs.TypeText.{depth};
 ghost use Rattle.xd_syntax.specs.Types.{BelongsTo, tree};
+ghost use Rattle.xd_heads.specs.Cells.{StayChosen};
 ghost use Rattle.xd_heads.specs.Found.{AreOfTypes, continuation, move_at};
 ghost use Rattle.xd_heads.specs.Growing.{GrowsTypes};
-ghost use Rattle.xd_heads.specs.HeadList.{AreHeadsFound, AreRestTypes, ContentBelongs, HeadBelongs, IsHeadAt, IsHeadFound, IsKindOf, Serves, content_at, head_at};
+ghost use Rattle.xd_heads.specs.HeadList.{AreHeadsFound, AreRestTypes, ContentBelongs, HeadBelongs, IsHeadAt, IsHeadFound, IsKindOf, content_at, head_at};
 
 use crate::bodies::Bodies;
 use crate::cells::Continuations;
 use crate::compile::every_text;
 use crate::content::content;
 use crate::expand::{Found, expand};
-use crate::first_uses::FirstUses;
-use crate::front::{front_part, have_no_rest, other_parts, with_rest};
+use crate::stand_ins::{StandIns, Themselves};
 use crate::typed::continuation_type;
 use std::alloc::Global;
 use std::collections::HashMap;
@@ -50,123 +49,10 @@ pub struct Head {
     pub rest: TypeId,
 }
 
-/// Lists the heads of types of one program, one type after the other.
+/// The heads of a type, in order, repetitions kept (after Hosoya, Vouillon and Pierce, TOPLAS 2005).
 ///
-/// What was added to the program for one type serves the next ones: a rest that comes again is the same type, as long as it
-/// is made of the same nodes, what stands behind the first part of a sequence is one type for each sequence, and the contents of
-/// all texts are one empty type. After want of memory a lister has no use.
-#[derive(Drop)]
-pub struct HeadLister {
-    alloc: Global,
-    any: TypeId,
-    cells: Continuations,
-    uses: FirstUses,
-    /// The types of the rests that were listed, by the numbers of their continuations.
-    rests: HashMap<usize, TypeId>,
-    /// The types of the other parts of sequences that were listed by their first part.
-    others: HashMap<usize, TypeId>,
-}
-
-impl HeadLister {
-    /// One that has listed nothing. What `Any` stands for is added to the program.
-    pub fn new(alloc: Global, sound: &mut SoundProgram) -> Result<Self, NoMemory>
-        ensures serves { IfOk result (Serves sound.new) }
-        ensures adds { AddsTypes sound.old sound.new }
-        ensures same { program_tree sound.new ≡ program_tree sound.old }
-        ensures shallow { IsShallow sound.old.types → IsShallow sound.new.types }
-    {
-        let any = meaning_of_any(alloc, sound)?;
-        Ok(Self {
-            alloc,
-            any,
-            cells: Continuations::new(alloc),
-            uses: FirstUses::new(alloc),
-            rests: HashMap::new(alloc),
-            others: HashMap::new(alloc),
-        })
-    }
-
-    /// The heads of a type, in order, repetitions kept (after Hosoya, Vouillon and Pierce, TOPLAS 2005).
-    ///
-    /// Contents and rests are types of the program; types are added to it for them. It does no recursion, over names or over
-    /// the parts of a sequence. Which types can be empty is found once for a program, and not anew in each call.
-    pub fn heads(&mut self, sound: &mut SoundProgram, id: TypeId) -> Result<Vec<Head>, NoMemory>
-        requires belongs { BelongsTo sound.old.types id }
-        requires serves { Serves sound.old self.old }
-        ensures heads { IfOk result (λ found. map (head_at sound.new.types) found.items ≡ heads (names_of (program_tree sound.old)) (tree sound.old.types id)) }
-        ensures belong { IfOk result (λ found. AllByRecursion (HeadBelongs sound.new.types) found.items) }
-        ensures serves { OnOk result (Serves sound.new self.new) }
-        ensures adds { AddsTypes sound.old sound.new }
-        ensures same { program_tree sound.new ≡ program_tree sound.old }
-        ensures shallow { IsShallow sound.old.types → IsShallow sound.new.types }
-    {
-        if let Some(found) = self.heads_by_front(sound, id)? {
-            return Ok(found);
-        }
-        self.heads_by_moves(sound, id)
-    }
-
-    /// Those of a sequence whose first part can't be empty and has no head with a rest.
-    fn heads_by_front(
-        &mut self,
-        sound: &mut SoundProgram,
-        id: TypeId,
-    ) -> Result<Option<Vec<Head>>, NoMemory>
-        requires belongs { BelongsTo sound.old.types id }
-        requires serves { Serves sound.old self.old }
-        ensures heads { IfOk result (λ made. IfSome made (λ found. map (head_at sound.new.types) found.items ≡ heads (names_of (program_tree sound.old)) (tree sound.old.types id))) }
-        ensures belong { IfOk result (λ made. IfSome made (λ found. AllByRecursion (HeadBelongs sound.new.types) found.items)) }
-        ensures serves { OnOk result (Serves sound.new self.new) }
-        ensures grows { GrowsTypes sound.old sound.new }
-    {
-        let Some(first) = front_part(sound, id)? else {
-            return Ok(None);
-        };
-        let found = self.heads_by_moves(sound, first)?;
-        if !have_no_rest(sound.program().types(), &found) {
-            return Ok(None);
-        }
-        match other_parts(self.alloc, sound, &mut self.others, id)? {
-            Some(others) => Ok(Some(with_rest(self.alloc, found, others)?)),
-            None => Ok(None),
-        }
-    }
-
-    /// Those of any type, by the moves of its continuation.
-    fn heads_by_moves(
-        &mut self,
-        sound: &mut SoundProgram,
-        id: TypeId,
-    ) -> Result<Vec<Head>, NoMemory>
-        requires belongs { BelongsTo sound.old.types id }
-        requires serves { Serves sound.old self.old }
-        ensures heads { IfOk result (λ found. map (head_at sound.new.types) found.items ≡ heads (names_of (program_tree sound.old)) (tree sound.old.types id)) }
-        ensures belong { IfOk result (λ found. AllByRecursion (HeadBelongs sound.new.types) found.items) }
-        ensures serves { OnOk result (Serves sound.new self.new) }
-        ensures grows { GrowsTypes sound.old sound.new }
-    {
-        let Known { names, empty_marks } = sound.take_known()?;
-        let bodies = Bodies {
-            names,
-            any: self.any.at(),
-        };
-        let found = find_heads(
-            self.alloc,
-            sound.program(),
-            &bodies,
-            &empty_marks,
-            id,
-            &mut self.cells,
-            &mut self.uses,
-        )?;
-        let Bodies { names, any: _ } = bodies;
-        sound.give_back(Known { names, empty_marks });
-        let made = list_heads(self.alloc, sound, &self.cells, &mut self.rests, &found)?;
-        Ok(made)
-    }
-}
-
-/// The heads of one type, as a `HeadLister` lists them.
+/// Contents and rests are types of the program; types are added to it for them, one for each rest. It does no recursion, over
+/// names or over the parts of a sequence. Which types can be empty is found once for a program, and not anew in each call.
 pub fn heads(alloc: Global, sound: &mut SoundProgram, id: TypeId) -> Result<Vec<Head>, NoMemory>
     requires { BelongsTo sound.old.types id }
     ensures heads { IfOk result (λ found. map (head_at sound.new.types) found.items ≡ heads (names_of (program_tree sound.old)) (tree sound.old.types id)) }
@@ -175,9 +61,18 @@ pub fn heads(alloc: Global, sound: &mut SoundProgram, id: TypeId) -> Result<Vec<
     ensures same { program_tree sound.new ≡ program_tree sound.old }
     ensures shallow { IsShallow sound.old.types → IsShallow sound.new.types }
 {
-    let mut lister = HeadLister::new(alloc, sound)?;
-    let found = lister.heads(sound, id)?;
-    Ok(found)
+    let any = meaning_of_any(alloc, sound)?;
+    let Known { names, empty_marks } = sound.take_known()?;
+    let bodies = Bodies {
+        names,
+        any: any.at(),
+    };
+    let (cells, found) = find_heads(alloc, sound.program(), &bodies, &empty_marks, id)?;
+    let Bodies { names, any: _ } = bodies;
+    sound.give_back(Known { names, empty_marks });
+    let mut rests = HashMap::new(alloc);
+    let made = list_heads(alloc, sound, &cells, &mut rests, &found)?;
+    Ok(made)
 }
 
 /// The moves of a type that are its heads, and the cells of their rests.
@@ -187,8 +82,42 @@ fn find_heads(
     bodies: &Bodies,
     marks: &[bool],
     id: TypeId,
+) -> Result<(Continuations, Vec<Found>), NoMemory>
+    requires sound { IsSound (program_tree program.now) }
+    requires numbered { AreNumbered bodies.now.names program.now.type_defs }
+    requires any { bodies.now.any < length program.now.types }
+    requires any_type { tree_at program.now.types bodies.now.any ≡ any_type }
+    requires marks { AreEmptyMarks program.now.types program.now.type_defs marks.now }
+    requires belongs { BelongsTo program.now.types id }
+    ensures { IfOk result (λ made. AreHeadsFound program.now (tree program.now.types id) [] made.0 made.1.items) }
+{
+    let types = program.types();
+    types.see_table();
+    let mut cells = Continuations::new(alloc);
+    let number = content(types, id, &mut cells, &Themselves)?;
+    let found = find_moves(
+        alloc,
+        program,
+        bodies,
+        marks,
+        id,
+        number,
+        &mut cells,
+        &Themselves,
+    )?;
+    Ok((cells, found))
+}
+
+/// Those of a type whose pieces are the continuation with this number.
+pub(crate) fn find_moves<S: StandIns>(
+    alloc: Global,
+    program: &Program,
+    bodies: &Bodies,
+    marks: &[bool],
+    id: TypeId,
+    number: usize,
     cells: &mut Continuations,
-    uses: &mut FirstUses,
+    stand_ins: &S,
 ) -> Result<Vec<Found>, NoMemory>
     requires sound { IsSound (program_tree program.now) }
     requires numbered { AreNumbered bodies.now.names program.now.type_defs }
@@ -197,11 +126,14 @@ fn find_heads(
     requires marks { AreEmptyMarks program.now.types program.now.type_defs marks.now }
     requires belongs { BelongsTo program.now.types id }
     requires nodes { AreOfTypes program.now.types cells.old }
-    ensures { IfOk result (λ found. AreHeadsFound program.now (tree program.now.types id) cells.old cells.new found.items) }
+    requires number { number ≤ length cells.old }
+    requires pieces { continuation program.now.types cells.old number ≡ pieces (tree program.now.types id) }
+    requires serve { S.serve program.now.types stand_ins.now }
+    ensures found { IfOk result (λ found. AreHeadsFound program.now (tree program.now.types id) cells.old cells.new found.items) }
+    ensures chosen { OnOk result (StayChosen (S.chosen program.now.types stand_ins.now) cells.old cells.new) }
 {
     let types = program.types();
     types.see_table();
-    let number = content(types, id, cells, uses)?;
     let found = expand(
         alloc,
         types,
@@ -209,14 +141,14 @@ fn find_heads(
         bodies,
         marks,
         cells,
-        uses,
+        stand_ins,
         number,
     )?;
     Ok(found)
 }
 
 /// What kind of head a node is, and its content, if it is an element.
-fn kind_of(
+pub(crate) fn kind_of(
     alloc: Global,
     types: &Types,
     node: usize,

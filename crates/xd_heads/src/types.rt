@@ -169,6 +169,7 @@ fn compile_in(
 {
     let types = program.types();
     types.see_table();
+    cells.uses.cover(types)?;
     let state = compile_node(
         alloc,
         types,
@@ -177,7 +178,7 @@ fn compile_in(
         marks,
         id,
         &mut cells.continuations,
-        &mut cells.uses,
+        &cells.uses,
         &mut cells.states,
         auto,
     )?;

@@ -13,8 +13,10 @@ use Rattle.xd_laws.specs.Consistent.{Atom, Case, ChoiceTree, Goal, HeadAtom, ato
 use Rattle.xd_laws.specs.Consistent as proof
 use Rattle.xd_laws.specs.Breach.{bad_case}
 use Rattle.xd_laws.proofs.FirstWrong.{Refusal, at_line, or_next, reason_unless, same_atom, same_head_atom, wrong_case, wrong_cases, wrong_tree}
-use Rattle.xd_heads.specs.HeadList.{head_at, kind_at, HeadBelongs}
-use Rattle.xd_heads.specs.declared.listing.Head.{Head}
+use Rattle.xd_heads.specs.Cells.{Cell}
+use Rattle.xd_heads.specs.HeadList.{kind_at}
+use Rattle.xd_heads.specs.Numbered.{IsNumberIn, IsHeadIn}
+use Rattle.xd_heads.specs.declared.lister.NumberedHead.{NumberedHead}
 use Rattle.xd_proof_lines.specs.Cases.{IsCase, atom_of}
 use Rattle.xd_proof_lines.specs.Steps.{steps_of}
 use Rattle.xd_proof_lines.specs.declared.steps.Step.{Step}
@@ -23,8 +25,7 @@ use Rattle.xd_proof_lines.specs.declared.cases.ReadCase.{ReadCase}
 use Rattle.xd_proof_check.specs.Atoms.{AreNamed, AreNamedFor, kinds_of}
 use Rattle.xd_proof_check.specs.Names.{Names}
 use Rattle.xd_proof_check.specs.CaseWalk.{CasesView, CasesFit, IsTree, Meets, wrong_after}
-use Rattle.xd_proof_check.specs.Corresponds.{Corresponds, IsNumberOf}
-use Rattle.xd_proof_check.specs.Numbers.{number_at}
+use Rattle.xd_proof_check.specs.Corresponds.{Corresponds}
 use Rattle.xd_proof_check.specs.Reasons.{reason_of}
 use Rattle.xd_proof_check.specs.Walk.{IsSetting, SettingView}
 use Rattle.xd_proof_check.specs.declared.atoms.Named.{Named}
@@ -50,28 +51,36 @@ zip_at P (x ∷ xs) (y ∷ ys) z (suc i) d h = zip_at P xs ys z.1 i d (omega ari
 
 -- ---- a setting of a goal's case
 
-kinds_same : (types : List Row) (hs : List Head) → kinds_of hs ≡ map (λ (h : laws.Head). h.kind) (map (head_at types) hs)
-kinds_same types [] = refl
-kinds_same types (h ∷ hs) = ap (λ ks. kind_at h.kind ∷ ks) (kinds_same types hs)
+kinds_same : (types : List Row) (cells : List Cell) (made : List NumberedHead) (hs : List laws.Head) → AllZip (IsHeadIn types cells) made hs → kinds_of made ≡ map (λ (h : laws.Head). h.kind) hs
+kinds_same types cells [] [] z = refl
+kinds_same types cells [] (h ∷ hs) z = absurd z
+kinds_same types cells (m ∷ ms) [] z = absurd z
+kinds_same types cells (m ∷ ms) (h ∷ hs) z =
+    let i = z.0 in
+    ap (λ (k : laws.HeadKind). k ∷ kinds_of ms) i.kind ∙ ap (λ ks. h.kind ∷ ks) (kinds_same types cells ms hs z.1)
 
-content_zip : (types : List Row) (numbers : List ℕ) (hs : List Head) → AllByRecursion (HeadBelongs types) hs →
-    AllZip (λ number (h : laws.Head). IsNumberOf types numbers number h.content) (map (λ (h : Head). number_at numbers h.content.at) hs) (map (head_at types) hs)
-content_zip types numbers [] b = tt
-content_zip types numbers (h ∷ hs) b = (let p = b.0 in record { node = h.content.at; there = p.0; tree = refl; has = refl }, content_zip types numbers hs b.1)
+content_zip : (types : List Row) (cells : List Cell) (made : List NumberedHead) (hs : List laws.Head) → AllZip (IsHeadIn types cells) made hs →
+    AllZip (λ number (h : laws.Head). IsNumberIn types cells number h.content) (map (λ (h : NumberedHead). h.content) made) hs
+content_zip types cells [] [] z = tt
+content_zip types cells [] (h ∷ hs) z = absurd z
+content_zip types cells (m ∷ ms) [] z = absurd z
+content_zip types cells (m ∷ ms) (h ∷ hs) z = (let i = z.0 in i.content, content_zip types cells ms hs z.1)
 
-rest_zip : (types : List Row) (numbers : List ℕ) (hs : List Head) → AllByRecursion (HeadBelongs types) hs →
-    AllZip (λ number (h : laws.Head). IsNumberOf types numbers number h.rest) (map (λ (h : Head). number_at numbers h.rest.at) hs) (map (head_at types) hs)
-rest_zip types numbers [] b = tt
-rest_zip types numbers (h ∷ hs) b = (let p = b.0 in record { node = h.rest.at; there = p.1; tree = refl; has = refl }, rest_zip types numbers hs b.1)
+rest_zip : (types : List Row) (cells : List Cell) (made : List NumberedHead) (hs : List laws.Head) → AllZip (IsHeadIn types cells) made hs →
+    AllZip (λ number (h : laws.Head). IsNumberIn types cells number h.rest) (map (λ (h : NumberedHead). h.rest) made) hs
+rest_zip types cells [] [] z = tt
+rest_zip types cells [] (h ∷ hs) z = absurd z
+rest_zip types cells (m ∷ ms) [] z = absurd z
+rest_zip types cells (m ∷ ms) (h ∷ hs) z = (let i = z.0 in i.rest, rest_zip types cells ms hs z.1)
 
-abbrev pub setting_at : CasesView → Atom → Head → SettingView
+abbrev pub setting_at : CasesView → Atom → NumberedHead → SettingView
 setting_at v a h = record {
   numbers = v.numbers;
   goals = v.goals;
   atom = a;
   kinds = kinds_of v.rights;
-  left_content = number_at v.numbers h.content.at;
-  left_rest = number_at v.numbers h.rest.at;
+  left_content = h.content;
+  left_rest = h.rest;
   contents = v.contents;
   rests = v.rests;
 }
@@ -80,61 +89,56 @@ length-map' : {A B : Type 0} (f : A → B) (xs : List A) → length (map f xs) �
 length-map' f [] = refl
 length-map' f (x ∷ xs) = ap suc (length-map' f xs)
 
-mapped_at : (numbers : List ℕ) (f : Head → ℕ) (hs : List Head) (n : ℕ) → ((i : ℕ) → number_at numbers i < n) → 0 < n → (i : ℕ) → number_at (map (λ (h : Head). number_at numbers (f h)) hs) i < n
-mapped_at numbers f [] n h z i = z
-mapped_at numbers f (x ∷ hs) n h z zero = h (f x)
-mapped_at numbers f (x ∷ hs) n h z (suc i) = mapped_at numbers f hs n h z i
-
-some_room : (numbers : List ℕ) (n : ℕ) → ((i : ℕ) → number_at numbers i < n) → 0 < n
-some_room numbers n h = let a = h 0 in omega arith
-
-pub fits_setting : (v : CasesView) (a : Atom) (h : Head) (p : Path) → CasesFit v p → IsSetting (setting_at v a h) p
+pub fits_setting : (v : CasesView) (a : Atom) (h : NumberedHead) (p : Path) → CasesFit v p → IsSetting (setting_at v a h) p
 fits_setting v a h p f =
-    let l : length v.contents ≡ length v.rights = ap length f.contents ∙ length-map' (λ (h : Head). number_at v.numbers h.content.at) v.rights in
-    let m : length v.rests ≡ length v.rights = ap length f.rests ∙ length-map' (λ (h : Head). number_at v.numbers h.rest.at) v.rights in
+    let l : length v.contents ≡ length v.rights = ap length f.contents ∙ length-map' (λ (h : NumberedHead). h.content) v.rights in
+    let m : length v.rests ≡ length v.rights = ap length f.rests ∙ length-map' (λ (h : NumberedHead). h.rest) v.rights in
     record {
       belong = f.belong;
       contents = f.on_content;
       rests = f.on_rest;
       heads = length-kinds_of v.rights ∙ sym l;
       room = record {
-        content = λ i. subst (λ ns. number_at ns i < length p.content.items) (sym f.contents)
-            (mapped_at v.numbers (λ (h : Head). h.content.at) v.rights (length p.content.items) f.on_content (some_room v.numbers (length p.content.items) f.on_content) i);
-        rest = λ i. subst (λ ns. number_at ns i < length p.rest.items) (sym f.rests)
-            (mapped_at v.numbers (λ (h : Head). h.rest.at) v.rights (length p.rest.items) f.on_rest (some_room v.numbers (length p.rest.items) f.on_rest) i);
+        content = f.contents_fit;
+        rest = f.rests_fit;
         split = let s = f.split in omega arith;
         same = l ∙ sym m;
       };
     }
 
-module _ (types : List Row) (E : Definitions) (gs : List Goal) (g : Goal) (v : CasesView) (p : Path) (f : CasesFit v p) (m : Meets types E gs g v) where
-  pub meets_setting : (a : Atom) (i : ℕ) (d : Head) → i < length v.left → Corresponds types (setting_at v a (get_or v.left i d)) (head_at types (get_or v.left i d)) (right_heads E g) gs
-  meets_setting a i d l =
-      let b = all_at (HeadBelongs types) v.left m.left_belong i d l in
+module _ (types : List Row) (cells : List Cell) (E : Definitions) (gs : List Goal) (g : Goal) (v : CasesView) (p : Path) (f : CasesFit v p) (m : Meets types cells E gs g v) where
+  -- the left head at this position, and those from it on
+  abbrev pub IsLeft : ℕ → NumberedHead → laws.Head → Type 0
+  IsLeft i made h = (drop i (laws.heads E g.left) ≡ h ∷ drop (suc i) (laws.heads E g.left)) × IsHeadIn types cells made h
+
+  pub left_head : (i : ℕ) (d : NumberedHead) → i < length v.left → (h : laws.Head) × IsLeft i (get_or v.left i d) h
+  left_head i d l = let r = zip_at (IsHeadIn types cells) v.left (laws.heads E g.left) m.left i d l in (r.0, (r.1, r.2))
+
+  pub meets_setting : (a : Atom) (i : ℕ) (made : NumberedHead) (h : laws.Head) → IsLeft i made h → Corresponds types cells (setting_at v a made) h (right_heads E g) gs
+  meets_setting a i made h b =
+      let n = b.1 in
       record {
         numbers = m.numbers;
         goals = m.goals;
-        kinds = kinds_same types v.rights ∙ ap (map (λ (h : laws.Head). h.kind)) m.rights;
+        kinds = kinds_same types cells v.rights (right_heads E g) m.rights;
         contents =
-            subst (λ hs. AllZip (λ number (h : laws.Head). IsNumberOf types v.numbers number h.content) v.contents hs) m.rights
-            (subst (λ ns. AllZip (λ number (h : laws.Head). IsNumberOf types v.numbers number h.content) ns (map (head_at types) v.rights)) (sym f.contents)
-            (content_zip types v.numbers v.rights m.rights_belong));
+            subst (λ ns. AllZip (λ number (h : laws.Head). IsNumberIn types cells number h.content) ns (right_heads E g)) (sym f.contents)
+            (content_zip types cells v.rights (right_heads E g) m.rights);
         rests =
-            subst (λ hs. AllZip (λ number (h : laws.Head). IsNumberOf types v.numbers number h.rest) v.rests hs) m.rights
-            (subst (λ ns. AllZip (λ number (h : laws.Head). IsNumberOf types v.numbers number h.rest) ns (map (head_at types) v.rights)) (sym f.rests)
-            (rest_zip types v.numbers v.rights m.rights_belong));
-        left_content = record { node = (get_or v.left i d).content.at; there = b.0; tree = refl; has = refl };
-        left_rest = record { node = (get_or v.left i d).rest.at; there = b.1; tree = refl; has = refl };
+            subst (λ ns. AllZip (λ number (h : laws.Head). IsNumberIn types cells number h.rest) ns (right_heads E g)) (sym f.rests)
+            (rest_zip types cells v.rights (right_heads E g) m.rights);
+        left_content = n.content;
+        left_rest = n.rest;
       }
 
-  mapped_get : (hs : List Head) (i : ℕ) (d : Head) → i < length hs → numbered (map (head_at types) hs) (suc i) ≡ Some (head_at types (get_or hs i d))
-  mapped_get [] i d l = absurd (omega arith)
-  mapped_get (h ∷ hs) zero d l = refl
-  mapped_get (h ∷ hs) (suc i) d l = mapped_get hs i d (omega arith)
+  drop_numbered : (hs : List laws.Head) (i : ℕ) (h : laws.Head) → drop i hs ≡ h ∷ drop (suc i) hs → numbered hs (suc i) ≡ Some h
+  drop_numbered [] zero h e = cc
+  drop_numbered [] (suc i) h e = cc
+  drop_numbered (x ∷ hs) zero h e = let q : x ≡ h = cc in ap Some q
+  drop_numbered (x ∷ hs) (suc i) h e = drop_numbered hs i h e
 
-  left_numbered : (i : ℕ) (d : Head) → i < length v.left → numbered (laws.heads E g.left) (i + 1) ≡ Some (head_at types (get_or v.left i d))
-  left_numbered i d l =
-      let e : i + 1 ≡ suc i = omega arith in ap (numbered (laws.heads E g.left)) e ∙ ap (λ hs. numbered hs (suc i)) (sym m.left) ∙ mapped_get v.left i d l
+  left_numbered : (i : ℕ) (made : NumberedHead) (h : laws.Head) → IsLeft i made h → numbered (laws.heads E g.left) (i + 1) ≡ Some h
+  left_numbered i made h b = let e : i + 1 ≡ suc i = omega arith in ap (numbered (laws.heads E g.left)) e ∙ drop_numbered (laws.heads E g.left) i h b.0
 
   -- no case is left
   pub case_missing : (at line : ℕ) (w : HeadAtom) (ws : List HeadAtom) → length v.cases ≤ at → wrong_cases E gs g line (w ∷ ws) (drop at g.cases) ≡ Some (line, bad_case)
@@ -171,12 +175,12 @@ module _ (types : List Row) (E : Definitions) (gs : List Goal) (g : Goal) (v : C
   after line (Some r) rest = refl
 
   -- a case of this head and atom, whose tree was looked at
-  pub case_looked : (at line left : ℕ) (a : Atom) (ws : List HeadAtom) (d made : ReadCase) (e : Head) (found : Option Reason) → at < length v.cases → left < length v.left → made ≡ get_or v.cases at d →
+  pub case_looked : (at line left : ℕ) (a : Atom) (ws : List HeadAtom) (d made : ReadCase) (read : NumberedHead) (h : laws.Head) (found : Option Reason) → at < length v.cases → IsLeft left read h → made ≡ get_or v.cases at d →
       (nat_eq made.head (left + 1) && same_atom (atom_of made.atom) a) ≡ true →
-      ((c : Case) → IsCase made c → option_map reason_of found ≡ wrong_tree gs (atom_of made.atom) (head_at types (get_or v.left left e)) (right_heads E g) c.choice) →
+      ((c : Case) → IsCase made c → option_map reason_of found ≡ wrong_tree gs (atom_of made.atom) h (right_heads E g) c.choice) →
       wrong_cases E gs g line ((left + 1, a) ∷ ws) (drop at g.cases) ≡ wrong_after line found (wrong_cases E gs g (line + 1) ws (drop (at + 1) g.cases))
-  case_looked at line left a ws d made e found h l s q k =
-      let r = zip_at IsCase v.cases g.cases m.cases at d h in
+  case_looked at line left a ws d made read h found w l s q k =
+      let r = zip_at IsCase v.cases g.cases m.cases at d w in
       let c = r.0 in
       let i = subst (λ x. IsCase x c) (sym s) r.2 in
       let n : c.head ≡ left + 1 = sym i.head ∙ eqb-true made.head (left + 1) (and_left (nat_eq made.head (left + 1)) (same_atom (atom_of made.atom) a) q) in
@@ -185,8 +189,8 @@ module _ (types : List Row) (E : Definitions) (gs : List Goal) (g : Goal) (v : C
       ap (wrong_cases E gs g line ((left + 1, a) ∷ ws)) r.1
       ∙ ap (λ b. or_next (at_line line (reason_unless b bad_case)) (or_next (at_line line (wrong_case gs (right_heads E g) c (numbered (laws.heads E g.left) c.head))) rest))
       (sym (same_wanted made c (left + 1) a i) ∙ q)
-      ∙ ap (λ o. or_next (at_line line (wrong_case gs (right_heads E g) c o)) rest) (ap (numbered (laws.heads E g.left)) n ∙ left_numbered left e l)
-      ∙ ap (λ b. or_next (at_line line (wrong_tree gs b (head_at types (get_or v.left left e)) (right_heads E g) c.choice)) rest) (sym i.atom)
+      ∙ ap (λ o. or_next (at_line line (wrong_case gs (right_heads E g) c o)) rest) (ap (numbered (laws.heads E g.left)) n ∙ left_numbered left read h l)
+      ∙ ap (λ b. or_next (at_line line (wrong_tree gs b h (right_heads E g) c.choice)) rest) (sym i.atom)
       ∙ ap (λ o. or_next (at_line line o) rest) (sym (k c i))
       ∙ after line found rest
       ∙ ap (λ j. wrong_after line found (wrong_cases E gs g (line + 1) ws (drop j g.cases))) z
@@ -203,33 +207,29 @@ module _ (types : List Row) (E : Definitions) (gs : List Goal) (g : Goal) (v : C
 
   kinds_are : kinds_of v.left ++ kinds_of v.rights ≡ map (λ (h : laws.Head). h.kind) (laws.heads E g.left ++ right_heads E g)
   kinds_are =
-      ap (λ ks. ks ++ kinds_of v.rights) (kinds_same types v.left ∙ ap (map (λ (h : laws.Head). h.kind)) m.left)
-      ∙ ap (λ ks. map (λ (h : laws.Head). h.kind) (laws.heads E g.left) ++ ks) (kinds_same types v.rights ∙ ap (map (λ (h : laws.Head). h.kind)) m.rights)
+      ap (λ ks. ks ++ kinds_of v.rights) (kinds_same types cells v.left (laws.heads E g.left) m.left)
+      ∙ ap (λ ks. map (λ (h : laws.Head). h.kind) (laws.heads E g.left) ++ ks) (kinds_same types cells v.rights (right_heads E g) m.rights)
       ∙ sym (map_both' (λ (h : laws.Head). h.kind) (laws.heads E g.left) (right_heads E g))
 
   names_are : (f : laws.HeadKind → List (List ℕ)) → in_byte_order (flat_map f (kinds_of v.left ++ kinds_of v.rights)) ≡ in_byte_order (flat_map (λ (h : laws.Head). f h.kind) (laws.heads E g.left ++ right_heads E g))
   names_are f = ap in_byte_order (ap (flat_map f) kinds_are ∙ flat_kinds f (laws.heads E g.left ++ right_heads E g))
 
   -- the heads from one on begin with the atoms of that head
-  pub atoms_first : (n : Named) → AreNamed (kinds_of v.left ++ kinds_of v.rights) n → (left : ℕ) (d : Head) → left < length v.left →
+  pub atoms_first : (n : Named) → AreNamed (kinds_of v.left ++ kinds_of v.rights) n → (left : ℕ) (d : NumberedHead) → left < length v.left →
       atoms_from (named E g) (left + 1) (drop left (laws.heads E g.left))
       ≡ map (λ a. (left + 1, a)) (atoms_of (record { labels = n.labels.names; texts = n.texts.names }) (kind_at (get_or v.left left d).kind)) ++ atoms_from (named E g) (left + 1 + 1) (drop (left + 1) (laws.heads E g.left))
   atoms_first n a left d l =
-      let h = head_at types (get_or v.left left d) in
+      let y = left_head left d l in
+      let h = y.0 in
+      let i = (y.1).1 in
       let e : suc left ≡ left + 1 = omega arith in
-      let c : drop left (laws.heads E g.left) ≡ h ∷ drop (left + 1) (laws.heads E g.left) = dropped left d l ∙ ap (λ k. h ∷ drop k (laws.heads E g.left)) e in
+      let c : drop left (laws.heads E g.left) ≡ h ∷ drop (left + 1) (laws.heads E g.left) = (y.1).0 ∙ ap (λ k. h ∷ drop k (laws.heads E g.left)) e in
+      let behind = atoms_from (named E g) (left + 1 + 1) (drop (left + 1) (laws.heads E g.left)) in
       ap (atoms_from (named E g) (left + 1)) c
-      ∙ ap (λ ns. map (λ b. (left + 1, b)) (atoms_of ns h.kind) ++ atoms_from (named E g) (left + 1 + 1) (drop (left + 1) (laws.heads E g.left)))
+      ∙ ap (λ ns. map (λ b. (left + 1, b)) (atoms_of ns h.kind) ++ behind)
       (sym (same_named (n.labels.names) (n.texts.names) (a.labels ∙ names_are labels_of) (a.texts ∙ names_are texts_of)))
+      ∙ ap (λ k. map (λ b. (left + 1, b)) (atoms_of (record { labels = n.labels.names; texts = n.texts.names }) k) ++ behind) (sym i.kind)
     where
-      dropped : (i : ℕ) (d : Head) → i < length v.left → drop i (laws.heads E g.left) ≡ head_at types (get_or v.left i d) ∷ drop (suc i) (laws.heads E g.left)
-      dropped i d l = ap (drop i) (sym m.left) ∙ go i v.left l ∙ ap (λ hs. head_at types (get_or v.left i d) ∷ drop (suc i) hs) m.left
-        where
-          go : (i : ℕ) (hs : List Head) → i < length hs → drop i (map (head_at types) hs) ≡ head_at types (get_or hs i d) ∷ drop (suc i) (map (head_at types) hs)
-          go i [] l = absurd (omega arith)
-          go zero (h ∷ hs) l = refl
-          go (suc i) (h ∷ hs) l = go i hs (omega arith)
-
       same_named : (ls ts : List (List ℕ)) → ls ≡ (named E g).labels → ts ≡ (named E g).texts → named_lists ls ts ≡ named E g
       same_named ls ts p q = ap (λ xs. named_lists xs ts) p ∙ ap (λ xs. named_lists (named E g).labels xs) q
 
@@ -258,23 +258,24 @@ setting_by v a lc lr = record {
   rests = v.rests;
 }
 
-pub case_says : {X : Type 0} (v : CasesView) (p : Path) (f : CasesFit v p) (at left : ℕ) (a : Atom) (made : ReadCase) (h : Head) (lc lr : ℕ) (steps : List Step) (r : Result (Option Reason) X) →
-    at < length v.cases → left < length v.left → made ≡ get_or v.cases at made → h ≡ get_or v.left left h → lc ≡ number_at v.numbers h.content.at → lr ≡ number_at v.numbers h.rest.at →
+pub case_says : {X : Type 0} (v : CasesView) (p : Path) (f : CasesFit v p) (at left : ℕ) (a : Atom) (made : ReadCase) (h : NumberedHead) (lc lr : ℕ) (steps : List Step) (r : Result (Option Reason) X) →
+    at < length v.cases → left < length v.left → made ≡ get_or v.cases at made → h ≡ get_or v.left left h → lc ≡ h.content → lr ≡ h.rest →
     steps ≡ (made.steps).items → (nat_eq made.head (left + 1) && same_atom (atom_of made.atom) a) ≡ true →
-    IfOk r (λ found. (types : List Row) (gs : List Goal) (l : laws.Head) (hs : List laws.Head) (t : ChoiceTree) → Corresponds types (setting_by v (atom_of made.atom) lc lr) l hs gs → steps ≡ steps_of t →
+    IfOk r (λ found. (types : List Row) (cells : List Cell) (gs : List Goal) (l : laws.Head) (hs : List laws.Head) (t : ChoiceTree) → Corresponds types cells (setting_by v (atom_of made.atom) lc lr) l hs gs → steps ≡ steps_of t →
     option_map reason_of found ≡ wrong_tree gs (atom_of made.atom) l hs t) →
-    IfOk r (λ found. (types : List Row) (E : Definitions) (gs : List Goal) (g : Goal) (line : ℕ) (ws : List HeadAtom) → Meets types E gs g v →
+    IfOk r (λ found. (types : List Row) (cells : List Cell) (E : Definitions) (gs : List Goal) (g : Goal) (line : ℕ) (ws : List HeadAtom) → Meets types cells E gs g v →
     wrong_cases E gs g line ((left + 1, a) ∷ ws) (drop at g.cases) ≡ wrong_after line found (wrong_cases E gs g (line + 1) ws (drop (at + 1) g.cases)))
 case_says v p f at left a made h lc lr steps (Ok found) k l e d c b s q says =
-    λ types E gs g line ws m.
-    let H = get_or v.left left h in
+    λ types cells E gs g line ws m.
     let A = atom_of made.atom in
-    let cs = meets_setting types E gs g v p f m A left h l in
-    let x : number_at v.numbers H.content.at ≡ lc = sym (c ∙ ap (λ (y : Head). number_at v.numbers y.content.at) d) in
-    let z : number_at v.numbers H.rest.at ≡ lr = sym (b ∙ ap (λ (y : Head). number_at v.numbers y.rest.at) d) in
-    let cs2 = subst (λ n. Corresponds types (setting_by v A n (number_at v.numbers H.rest.at)) (head_at types H) (right_heads E g) gs) x cs in
-    let cs3 = subst (λ n. Corresponds types (setting_by v A lc n) (head_at types H) (right_heads E g) gs) z cs2 in
-    case_looked types E gs g v p f m at line left a ws made made h found k l e q (λ (cz : Case) (i : IsCase made cz). says types gs (head_at types H) (right_heads E g) cz.choice cs3 (s ∙ i.steps))
+    let y = left_head types cells E gs g v p f m left h l in
+    let read = get_or v.left left h in
+    let cs = meets_setting types cells E gs g v p f m A left read y.0 y.1 in
+    let x : read.content ≡ lc = sym (c ∙ ap (λ (y : NumberedHead). y.content) d) in
+    let z : read.rest ≡ lr = sym (b ∙ ap (λ (y : NumberedHead). y.rest) d) in
+    let cs2 = subst (λ n. Corresponds types cells (setting_by v A n read.rest) y.0 (right_heads E g) gs) x cs in
+    let cs3 = subst (λ n. Corresponds types cells (setting_by v A lc n) y.0 (right_heads E g) gs) z cs2 in
+    case_looked types cells E gs g v p f m at line left a ws made made read y.0 found k y.1 e q (λ (cz : Case) (i : IsCase made cz). says types cells gs y.0 (right_heads E g) cz.choice cs3 (s ∙ i.steps))
 case_says v p f at left a made h lc lr steps (Err x) k l e d c b s q says = tt
 
 pub tree_clears : {X : Type 0} (C : Type 0) (steps : List Step) (t : ChoiceTree) (r : Result (Option Reason) X) → steps ≡ steps_of t →
@@ -287,12 +288,12 @@ tree_at_case cases at made a h e = subst IsTree (sym e) (all_at IsTree cases a a
 
 -- ---- the cases of a head
 
-kinds_split : (hs : List Head) (i : ℕ) (d : Head) → i < length hs → kinds_of hs ≡ kinds_of (take i hs) ++ kind_at (get_or hs i d).kind ∷ kinds_of (drop (suc i) hs)
+kinds_split : (hs : List NumberedHead) (i : ℕ) (d : NumberedHead) → i < length hs → kinds_of hs ≡ kinds_of (take i hs) ++ kind_at (get_or hs i d).kind ∷ kinds_of (drop (suc i) hs)
 kinds_split [] i d l = absurd (omega arith)
 kinds_split (h ∷ hs) zero d l = refl
 kinds_split (h ∷ hs) (suc i) d l = ap (λ ks. kind_at h.kind ∷ ks) (kinds_split hs i d (omega arith))
 
-pub named_for : (left rights : List Head) (n : Named) → AreNamed (kinds_of left ++ kinds_of rights) n → (i : ℕ) (d : Head) → i < length left → AreNamedFor (kind_at (get_or left i d).kind) n
+pub named_for : (left rights : List NumberedHead) (n : Named) → AreNamed (kinds_of left ++ kinds_of rights) n → (i : ℕ) (d : NumberedHead) → i < length left → AreNamedFor (kind_at (get_or left i d).kind) n
 named_for left rights n a i d l = record {
   labels = subst (λ ns. Names ns (labels_of k)) (sym (a.labels ∙ ap (λ ks. in_byte_order (flat_map labels_of ks)) e)) (named_among labels_of (kinds_of (take i left)) behind k);
   texts = subst (λ ns. Names ns (texts_of k)) (sym (a.texts ∙ ap (λ ks. in_byte_order (flat_map texts_of ks)) e)) (named_among texts_of (kinds_of (take i left)) behind k);
@@ -312,19 +313,19 @@ pub wanted_next : (n : ℕ) (items : List read.Atom) (i : ℕ) (a : read.Atom) (
 wanted_next n items i a ws l e =
     ap (λ xs. wanted_of n xs ++ ws) (drop-cons items i a l) ∙ ap (λ (x : read.Atom). (n, atom_of x) ∷ (wanted_of n (drop (suc i) items) ++ ws)) (sym e)
 
-module _ (types : List Row) (E : Definitions) (gs : List Goal) (g : Goal) (v : CasesView) (p : Path) (f : CasesFit v p) (m : Meets types E gs g v) where
+module _ (types : List Row) (cells : List Cell) (E : Definitions) (gs : List Goal) (g : Goal) (v : CasesView) (p : Path) (f : CasesFit v p) (m : Meets types cells E gs g v) where
   -- the cases that a head wants, and those behind them
-  pub head_start : (n : Named) → AreNamed (kinds_of v.left ++ kinds_of v.rights) n → (left : ℕ) (d : Head) → left < length v.left → (atoms items : List read.Atom) →
+  pub head_start : (n : Named) → AreNamed (kinds_of v.left ++ kinds_of v.rights) n → (left : ℕ) (d : NumberedHead) → left < length v.left → (atoms items : List read.Atom) →
       map atom_of atoms ≡ atoms_of (record { labels = n.labels.names; texts = n.texts.names }) (kind_at (get_or v.left left d).kind) → items ≡ atoms →
       atoms_from (named E g) (left + 1) (drop left (laws.heads E g.left)) ≡ wanted_of (left + 1) items ++ atoms_from (named E g) (left + 1 + 1) (drop (left + 1) (laws.heads E g.left))
   head_start n a left d l atoms items e q =
       let rest = atoms_from (named E g) (left + 1 + 1) (drop (left + 1) (laws.heads E g.left)) in
-      atoms_first types E gs g v p f m n a left d l
+      atoms_first types cells E gs g v p f m n a left d l
       ∙ ap (λ ws. ws ++ rest) (sym (ap (wanted_of (left + 1)) q ∙ wanted_are (left + 1) atoms (atoms_of (record { labels = n.labels.names; texts = n.texts.names }) (kind_at (get_or v.left left d).kind)) e))
 
   pub heads_done : (left : ℕ) → length v.left ≤ left → atoms_from (named E g) (left + 1) (drop left (laws.heads E g.left)) ≡ []
   heads_done left h =
-      let l : length (laws.heads E g.left) ≡ length v.left = ap length (sym m.left) ∙ length-map' (head_at types) v.left in
+      let l : length v.left ≡ length (laws.heads E g.left) = zip_long (IsHeadIn types cells) v.left (laws.heads E g.left) m.left in
       ap (atoms_from (named E g) (left + 1)) (drop_all left (laws.heads E g.left) (omega arith))
 
   too_many : (cs : List Case) (at line : ℕ) → at < length cs → wrong_cases E gs g line [] (drop at cs) ≡ Some (line, bad_case)
@@ -336,4 +337,4 @@ module _ (types : List Row) (E : Definitions) (gs : List Goal) (g : Goal) (v : C
   cases_left at line h = let l = zip_long IsCase v.cases g.cases m.cases in too_many g.cases at line (omega arith)
 
   pub cases_done : (at line : ℕ) → length v.cases ≤ at → wrong_cases E gs g line [] (drop at g.cases) ≡ None
-  cases_done at line h = no_case_left types E gs g v p f m at line h
+  cases_done at line h = no_case_left types cells E gs g v p f m at line h

@@ -1,5 +1,5 @@
 -- Goals of a proof, one after the other.
-use Rattle.std.proofs.Common.{◌≡◌, ℕ, zero, suc, ◌+◌, ◌<◌, ◌≤◌, arith, true, false, not, ◌&&◌, Option, Some, None, Result, Ok, Err, IfOk, List, [], ◌∷◌, ◌++◌, flat_map, length, drop, get_or, refl, ap, sym, subst, ◌∙◌, append-nil}
+use Rattle.std.proofs.Common.{◌≡◌, ℕ, zero, suc, ◌+◌, ◌<◌, ◌≤◌, arith, true, false, not, ◌&&◌, Bool, Option, Some, None, Result, Ok, Err, IfOk, List, [], ◌∷◌, ◌++◌, flat_map, length, drop, get_or, refl, ap, sym, subst, ◌∙◌, append-nil}
 use Rattle.std.specs.List.{AllByRecursion, AllZip}
 use Rattle.std.specs.Option.{option_map}
 use Rattle.std.proofs.lemmas.List.{drop_all}
@@ -14,18 +14,18 @@ use Rattle.xd_laws.specs.Heads as laws
 use Rattle.xd_laws.specs.Consistent.{Goal, numbered, wanted}
 use Rattle.xd_laws.specs.Breach.{Lined, bad_empty, empty_lines, line_behind}
 use Rattle.xd_laws.proofs.FirstWrong.{at_line, empty_stands, or_next, reason_unless, right_is_empty, wrong_cases, wrong_goal, wrong_goals}
-use Rattle.xd_heads.specs.declared.listing.Head.{Head}
+use Rattle.xd_heads.specs.Cells.{Cell}
+use Rattle.xd_heads.specs.Numbered.{IsHeadIn}
+use Rattle.xd_heads.specs.declared.lister.NumberedHead.{NumberedHead}
 use Rattle.xd_proof.specs.Goals.{IsGoalAt, IsLinedAt}
 use Rattle.xd_proof_lines.specs.declared.cases.ReadCase.{ReadCase}
 use Rattle.xd_proof.specs.declared.proof.ProofGoal.{ProofGoal}
 use Rattle.xd_proof_check.specs.CaseWalk.{Meets}
+use Rattle.xd_proof_check.specs.Corresponds.{IsClaimAt}
 use Rattle.xd_proof_check.specs.GoalHeads.{AreGoalHeads}
-use Rattle.xd_proof_check.specs.GoalWalk.{SheetView, Stands, GoalFits, breach_of, empty_marked, empty_marked_by, right_marked}
-use Rattle.xd_proof_check.specs.Numbers.{number_at}
-use Rattle.xd_proof_check.specs.Paths.{KeepsRoom}
+use Rattle.xd_proof_check.specs.GoalWalk.{MarksDecide, SheetView, Stands, breach_of, empty_marked, empty_marked_by, right_marked}
 use Rattle.xd_proof_check.specs.declared.check.Breach.{Breach}
 use Rattle.xd_proof_check.specs.declared.heads.GoalHeads.{GoalHeads}
-use Rattle.xd_proof_check.specs.declared.path.Path.{Path}
 
 zip_long : {A B : Type 0} (P : A → B → Type 0) (xs : List A) (ys : List B) → AllZip P xs ys → length xs ≡ length ys
 zip_long P [] [] z = refl
@@ -33,11 +33,11 @@ zip_long P [] (y ∷ ys) z = absurd z
 zip_long P (x ∷ xs) [] z = absurd z
 zip_long P (x ∷ xs) (y ∷ ys) z = ap suc (zip_long P xs ys z.1)
 
-module _ (types : List Row) (E : Definitions) (gs : List Goal) (s : SheetView) (a : Stands types E gs s) where
-  mark_same : (id : TypeId) (T : Tree) → IsTypeAt types T id → is_marked s.marks id.at ≡ can_be_empty E T
-  mark_same id T i = a.marks id.at i.belongs ∙ ap (can_be_empty E) i.same
+module _ (types : List Row) (E : Definitions) (marks : List Bool) (known : MarksDecide types E marks) where
+  mark_same : (id : TypeId) (T : Tree) → IsTypeAt types T id → is_marked marks id.at ≡ can_be_empty E T
+  mark_same id T i = known id.at i.belongs ∙ ap (can_be_empty E) i.same
 
-  right_same : (ids : List TypeId) (Ts : List Tree) → AllZip (λ id T. IsTypeAt types T id) ids Ts → (n : ℕ) → right_marked s.marks (numbered ids n) ≡ right_is_empty E (numbered Ts n)
+  right_same : (ids : List TypeId) (Ts : List Tree) → AllZip (λ id T. IsTypeAt types T id) ids Ts → (n : ℕ) → right_marked marks (numbered ids n) ≡ right_is_empty E (numbered Ts n)
   right_same ids Ts z zero = refl
   right_same [] [] z (suc n) = refl
   right_same [] (T ∷ Ts) z (suc n) = absurd z
@@ -45,34 +45,35 @@ module _ (types : List Row) (E : Definitions) (gs : List Goal) (s : SheetView) (
   right_same (id ∷ ids) (T ∷ Ts) z (suc zero) = mark_same id T z.0
   right_same (id ∷ ids) (T ∷ Ts) z (suc (suc n)) = right_same ids Ts z.1 (suc n)
 
-  empty_same : (made : ProofGoal) (g : Goal) → IsGoalAt types made g → empty_marked s.marks made ≡ empty_stands E g g.empty_right
-  empty_same made g i = ap (empty_marked_by s.marks made) i.empty_right ∙ go g.empty_right
+  empty_same : (made : ProofGoal) (g : Goal) → IsGoalAt types made g → empty_marked marks made ≡ empty_stands E g g.empty_right
+  empty_same made g i = ap (empty_marked_by marks made) i.empty_right ∙ go g.empty_right
     where
-      go : (o : Option ℕ) → empty_marked_by s.marks made o ≡ empty_stands E g o
+      go : (o : Option ℕ) → empty_marked_by marks made o ≡ empty_stands E g o
       go None = ap not (mark_same made.left g.left i.left)
       go (Some n) =
-          ap (λ b. b && right_marked s.marks (numbered made.rights.items n)) (mark_same made.left g.left i.left)
+          ap (λ b. b && right_marked marks (numbered made.rights.items n)) (mark_same made.left g.left i.left)
           ∙ ap (λ b. can_be_empty E g.left && b) (right_same made.rights.items g.rights i.rights n)
 
   line_is : (made : ProofGoal) (l : Lined) → IsLinedAt types made l → made.line + 2 + length made.rights.items ≡ line_behind l
   line_is made l i =
       ap (λ n. n + 2 + length made.rights.items) i.line ∙ ap (λ n. l.line + 2 + n) (let g = i.goal in zip_long (λ id T. IsTypeAt types T id) made.rights.items (l.goal).rights g.rights)
 
-  goal_wrong : (made : ProofGoal) (l : Lined) (line : ℕ) → IsLinedAt types made l → line ≡ made.line + 2 + length made.rights.items → empty_marked s.marks made ≡ false →
+  goal_wrong : (gs : List Goal) (made : ProofGoal) (l : Lined) (line : ℕ) → IsLinedAt types made l → line ≡ made.line + 2 + length made.rights.items → empty_marked marks made ≡ false →
       Some (line, bad_empty) ≡ wrong_goal E gs l
-  goal_wrong made l line i e f =
+  goal_wrong gs made l line i e f =
       ap (λ n. Some (n, bad_empty)) (e ∙ line_is made l i)
       ∙ ap (λ b. or_next (at_line (line_behind l) (reason_unless b bad_empty)) (wrong_cases E gs l.goal (line_behind l + empty_lines (l.goal).empty_right) (wanted E l.goal) (l.goal).cases))
       (sym f ∙ empty_same made l.goal i.goal)
 
-  goal_right : (made : ProofGoal) (l : Lined) (line first : ℕ) → IsLinedAt types made l → line ≡ made.line + 2 + length made.rights.items → first ≡ line + empty_lines made.empty_right →
-      empty_marked s.marks made ≡ true → wrong_cases E gs l.goal first (wanted E l.goal) (l.goal).cases ≡ wrong_goal E gs l
-  goal_right made l line first i e f t =
+  goal_right : (gs : List Goal) (made : ProofGoal) (l : Lined) (line first : ℕ) → IsLinedAt types made l → line ≡ made.line + 2 + length made.rights.items → first ≡ line + empty_lines made.empty_right →
+      empty_marked marks made ≡ true → wrong_cases E gs l.goal first (wanted E l.goal) (l.goal).cases ≡ wrong_goal E gs l
+  goal_right gs made l line first i e f t =
       ap (λ n. wrong_cases E gs l.goal n (wanted E l.goal) (l.goal).cases)
       (f ∙ ap (λ n. n + empty_lines made.empty_right) (e ∙ line_is made l i) ∙ ap (λ o. line_behind l + empty_lines o) (let g = i.goal in g.empty_right))
       ∙ ap (λ b. or_next (at_line (line_behind l) (reason_unless b bad_empty)) (wrong_cases E gs l.goal (line_behind l + empty_lines (l.goal).empty_right) (wanted E l.goal) (l.goal).cases))
       (sym t ∙ empty_same made l.goal i.goal)
 
+module _ (types : List Row) (cells : List Cell) (E : Definitions) (gs : List Goal) (s : SheetView) (a : Stands types cells gs s) where
   same_rights : (ids : List TypeId) (Ts : List Tree) → AllZip (λ id T. IsTypeAt types T id) ids Ts → flat_map (λ (id : TypeId). laws.heads E (tree types id)) ids ≡ flat_map (laws.heads E) Ts
   same_rights [] [] z = refl
   same_rights [] (T ∷ Ts) z = absurd z
@@ -80,61 +81,33 @@ module _ (types : List Row) (E : Definitions) (gs : List Goal) (s : SheetView) (
   same_rights (id ∷ ids) (T ∷ Ts) z =
       ap (λ U. laws.heads E U ++ flat_map (λ (i : TypeId). laws.heads E (tree types i)) ids) (let i = z.0 in i.same) ∙ ap (λ hs. laws.heads E T ++ hs) (same_rights ids Ts z.1)
 
-  pub meets : (made : ProofGoal) (g : Goal) (h : GoalHeads) → IsGoalAt types made g → AreGoalHeads types E made h → (contents rests : List ℕ) →
-      Meets types E gs g (record { goals = s.goals; numbers = s.numbers; cases = made.cases.items; left = h.left.items; rights = h.rights.items; contents = contents; rests = rests })
-  meets made g h i j contents rests =
-      let u = j.left in
-      let w = j.rights in
-      record {
-        numbers = a.numbers;
-        count = a.count;
-        goals = a.goals;
-        cases = i.cases;
-        left = u.same ∙ append-nil (laws.heads E (tree types made.left)) ∙ ap (laws.heads E) (let k = i.left in k.same);
-        rights = w.same ∙ same_rights made.rights.items g.rights i.rights;
-        left_belong = u.belong;
-        rights_belong = w.belong;
-      }
+  pub meets : (made : ProofGoal) (g : Goal) (h : GoalHeads) → IsGoalAt types made g → AreGoalHeads types cells E made h → (contents rests : List ℕ) →
+      Meets types cells E gs g (record { goals = s.goals; numbers = s.numbers; cases = made.cases.items; left = h.left.items; rights = h.rights.items; contents = contents; rests = rests })
+  meets made g h i j contents rests = record {
+    numbers = a.numbers;
+    goals = a.goals;
+    cases = i.cases;
+    left = subst (λ hs. AllZip (IsHeadIn types cells) h.left.items hs) (append-nil (laws.heads E (tree types made.left)) ∙ ap (laws.heads E) (let k = i.left in k.same)) j.left;
+    rights = subst (λ hs. AllZip (IsHeadIn types cells) h.rights.items hs) (same_rights made.rights.items g.rights i.rights) j.rights;
+  }
 
-pub goal_refused : (s : SheetView) (made : ProofGoal) (h : GoalHeads) (line : ℕ) → line ≡ made.line + 2 + length made.rights.items → empty_marked s.marks made ≡ false →
-    (types : List Row) (E : Definitions) (gs : List Goal) (l : Lined) → Stands types E gs s → IsLinedAt types made l → AreGoalHeads types E made h → Some (line, bad_empty) ≡ wrong_goal E gs l
-goal_refused s made h line e f = λ types E gs l a i j. goal_wrong types E gs s a made l line i e f
+pub goal_refused : (types : List Row) (E : Definitions) (marks : List Bool) → MarksDecide types E marks → (gs : List Goal) (made : ProofGoal) (line : ℕ) → line ≡ made.line + 2 + length made.rights.items →
+    empty_marked marks made ≡ false → (l : Lined) → IsLinedAt types made l → Some (line, bad_empty) ≡ wrong_goal E gs l
+goal_refused types E marks known gs made line e f l i = goal_wrong types E marks known gs made l line i e f
 
-pub goal_says : {X : Type 0} (s : SheetView) (made : ProofGoal) (h : GoalHeads) (line first : ℕ) (r : Result (Option Breach) X) → line ≡ made.line + 2 + length made.rights.items →
-    first ≡ line + empty_lines made.empty_right → empty_marked s.marks made ≡ true →
-    IfOk r (λ found. (types : List Row) (E : Definitions) (gs : List Goal) (g : Goal) → Stands types E gs s → IsGoalAt types made g → AreGoalHeads types E made h →
-    option_map breach_of found ≡ wrong_cases E gs g first (wanted E g) g.cases) →
-    IfOk r (λ found. (types : List Row) (E : Definitions) (gs : List Goal) (l : Lined) → Stands types E gs s → IsLinedAt types made l → AreGoalHeads types E made h →
-    option_map breach_of found ≡ wrong_goal E gs l)
-goal_says s made h line first (Ok found) e f t k = λ types E gs l a i j. k types E gs l.goal a i.goal j ∙ goal_right types E gs s a made l line first i e f t
-goal_says s made h line first (Err x) e f t k = tt
+-- what is wrong first in the cases of a goal, where the rule on the empty document holds, is what is wrong with the goal
+pub goal_found : {X : Type 0} (types : List Row) (cells : List Cell) (E : Definitions) (goals : List ProofGoal) (marks : List Bool) (numbers : List ℕ) (made : ProofGoal) (h : GoalHeads) (line first : ℕ)
+    (r : Result (Option Breach) X) → MarksDecide types E marks →
+    ((gs : List Goal) → AllZip (IsClaimAt types) goals gs → Stands types cells gs (record { goals = goals; numbers = numbers })) →
+    line ≡ made.line + 2 + length made.rights.items → first ≡ line + empty_lines made.empty_right → empty_marked marks made ≡ true → AreGoalHeads types cells E made h →
+    IfOk r (λ found. (types : List Row) (cells : List Cell) (E : Definitions) (gs : List Goal) (g : Goal) → Stands types cells gs (record { goals = goals; numbers = numbers }) →
+    IsGoalAt types made g → AreGoalHeads types cells E made h → option_map breach_of found ≡ wrong_cases E gs g first (wanted E g) g.cases) →
+    IfOk r (λ found. (gs : List Goal) (l : Lined) → AllZip (IsClaimAt types) goals gs → IsLinedAt types made l → option_map breach_of found ≡ wrong_goal E gs l)
+goal_found types cells E goals marks numbers made h line first (Ok found) known a e f t j k = λ gs l z i.
+    k types cells E gs l.goal (a gs z) i.goal j ∙ goal_right types E marks known gs made l line first i e f t
+goal_found types cells E goals marks numbers made h line first (Err x) known a e f t j k = tt
 
 -- ---- from goal to goal
-
-pub fits_kept : (s : SheetView) (g : ProofGoal) (h : GoalHeads) (p q : Path) → GoalFits s g h p → KeepsRoom p q → GoalFits s g h q
-fits_kept s g h p q f k = record {
-  belong = f.belong;
-  here = f.here;
-  marked = f.marked;
-  left = f.left;
-  rights = f.rights;
-  on_content = λ i. subst (λ n. number_at s.numbers i < n) (sym k.content) (f.on_content i);
-  on_rest = λ i. subst (λ n. number_at s.numbers i < n) (sym k.rest) (f.on_rest i);
-  split = subst (λ n. length h.rights.items ≤ n) (sym k.split) f.split;
-  trees = f.trees;
-}
-
-pub all_fit_kept : (s : SheetView) (p q : Path) → KeepsRoom p q → (gs : List ProofGoal) (hs : List GoalHeads) → AllZip (λ g h. GoalFits s g h p) gs hs → AllZip (λ g h. GoalFits s g h q) gs hs
-all_fit_kept s p q k [] [] z = tt
-all_fit_kept s p q k [] (h ∷ hs) z = absurd z
-all_fit_kept s p q k (g ∷ gs) [] z = absurd z
-all_fit_kept s p q k (g ∷ gs) (h ∷ hs) z = (fits_kept s g h p q z.0 k, all_fit_kept s p q k gs hs z.1)
-
-pub zip_get : {A B : Type 0} (P : A → B → Type 0) (xs : List A) (ys : List B) → AllZip P xs ys → (i : ℕ) (x : A) (y : B) → i < length xs → x ≡ get_or xs i x → y ≡ get_or ys i y → P x y
-zip_get P [] ys z i x y h e f = absurd (omega arith)
-zip_get P (v ∷ xs) [] z i x y h e f = absurd z
-zip_get P (v ∷ xs) (w ∷ ys) z zero x y h e f = subst (λ a. P a y) (sym e) (subst (P v) (sym f) z.0)
-zip_get P (v ∷ xs) (w ∷ ys) z (suc i) x y h e f = zip_get P xs ys z.1 i x y (omega arith) e f
 
 zip_drop : {A B : Type 0} (P : A → B → Type 0) (xs : List A) (ys : List B) → AllZip P xs ys → (i : ℕ) (x : A) → i < length xs → x ≡ get_or xs i x → (y : B) × (drop i ys ≡ y ∷ drop (suc i) ys) × P x y
 zip_drop P [] ys z i x h e = absurd (omega arith)
@@ -143,15 +116,13 @@ zip_drop P (v ∷ xs) (w ∷ ys) z zero x h e = (w, refl, subst (λ a. P a w) (s
 zip_drop P (v ∷ xs) (w ∷ ys) z (suc i) x h e = zip_drop P xs ys z.1 i x (omega arith) e
 
 -- a goal that was looked at, and those behind it
-pub goals_step : (types : List Row) (E : Definitions) (gs : List Goal) (s : SheetView) (ls : List Lined) (heads : List GoalHeads) (at : ℕ) (g : ProofGoal) (h : GoalHeads) (found : Option Breach) →
-    Stands types E gs s → AllZip (IsLinedAt types) s.goals ls → AllZip (AreGoalHeads types E) s.goals heads → at < length s.goals → g ≡ get_or s.goals at g → h ≡ get_or heads at h →
-    ((types : List Row) (E : Definitions) (gs : List Goal) (l : Lined) → Stands types E gs s → IsLinedAt types g l → AreGoalHeads types E g h → option_map breach_of found ≡ wrong_goal E gs l) →
+pub goals_step : (types : List Row) (E : Definitions) (gs : List Goal) (goals : List ProofGoal) (ls : List Lined) (at : ℕ) (g : ProofGoal) (found : Option Breach) →
+    AllZip (IsLinedAt types) goals ls → at < length goals → g ≡ get_or goals at g → ((l : Lined) → IsLinedAt types g l → option_map breach_of found ≡ wrong_goal E gs l) →
     wrong_goals E gs (drop at ls) ≡ or_next (option_map breach_of found) (wrong_goals E gs (drop (at + 1) ls))
-goals_step types E gs s ls heads at g h found a z w l e f says =
-    let r = zip_drop (IsLinedAt types) s.goals ls z at g l e in
-    let k = zip_get (AreGoalHeads types E) s.goals heads w at g h l e f in
+goals_step types E gs goals ls at g found z l e says =
+    let r = zip_drop (IsLinedAt types) goals ls z at g l e in
     let n : suc at ≡ at + 1 = omega arith in
-    ap (wrong_goals E gs) r.1 ∙ ap (λ o. or_next o (wrong_goals E gs (drop (suc at) ls))) (sym (says types E gs r.0 a r.2 k))
+    ap (wrong_goals E gs) r.1 ∙ ap (λ o. or_next o (wrong_goals E gs (drop (suc at) ls))) (sym (says r.0 r.2))
     ∙ ap (λ i. or_next (option_map breach_of found) (wrong_goals E gs (drop i ls))) n
 
 pub none_drop : (E : Definitions) (gs : List Goal) (ls : List Lined) (at : ℕ) → length ls ≤ at → wrong_goals E gs (drop at ls) ≡ None
@@ -166,11 +137,11 @@ id_there n [] (suc k) id a e = cc
 id_there n (x ∷ ids) (suc zero) id a e = let q : x ≡ id = cc in subst (λ (y : TypeId). y.at < n) q a.0
 id_there n (x ∷ ids) (suc (suc k)) id a e = id_there n ids (suc k) id a.1 e
 
-pub meets_by : (types : List Row) (E : Definitions) (gs : List Goal) (s : SheetView) → Stands types E gs s → (made : ProofGoal) (g : Goal) (h : GoalHeads) → IsGoalAt types made g →
-    AreGoalHeads types E made h → (contents rests : List ℕ) (cs : List ReadCase) (ls rs : List Head) → cs ≡ made.cases.items → ls ≡ h.left.items → rs ≡ h.rights.items →
-    Meets types E gs g (record { goals = s.goals; numbers = s.numbers; cases = cs; left = ls; rights = rs; contents = contents; rests = rests })
-meets_by types E gs s a made g h i j contents rests cs ls rs p q r =
-    subst (λ x. Meets types E gs g (record { goals = s.goals; numbers = s.numbers; cases = x; left = ls; rights = rs; contents = contents; rests = rests })) (sym p)
-    (subst (λ x. Meets types E gs g (record { goals = s.goals; numbers = s.numbers; cases = made.cases.items; left = x; rights = rs; contents = contents; rests = rests })) (sym q)
-    (subst (λ x. Meets types E gs g (record { goals = s.goals; numbers = s.numbers; cases = made.cases.items; left = h.left.items; rights = x; contents = contents; rests = rests })) (sym r)
-    (meets types E gs s a made g h i j contents rests)))
+pub meets_by : (types : List Row) (cells : List Cell) (E : Definitions) (gs : List Goal) (s : SheetView) → Stands types cells gs s → (made : ProofGoal) (g : Goal) (h : GoalHeads) → IsGoalAt types made g →
+    AreGoalHeads types cells E made h → (contents rests : List ℕ) (cs : List ReadCase) (ls rs : List NumberedHead) → cs ≡ made.cases.items → ls ≡ h.left.items → rs ≡ h.rights.items →
+    Meets types cells E gs g (record { goals = s.goals; numbers = s.numbers; cases = cs; left = ls; rights = rs; contents = contents; rests = rests })
+meets_by types cells E gs s a made g h i j contents rests cs ls rs p q r =
+    subst (λ x. Meets types cells E gs g (record { goals = s.goals; numbers = s.numbers; cases = x; left = ls; rights = rs; contents = contents; rests = rests })) (sym p)
+    (subst (λ x. Meets types cells E gs g (record { goals = s.goals; numbers = s.numbers; cases = made.cases.items; left = x; rights = rs; contents = contents; rests = rests })) (sym q)
+    (subst (λ x. Meets types cells E gs g (record { goals = s.goals; numbers = s.numbers; cases = made.cases.items; left = h.left.items; rights = x; contents = contents; rests = rests })) (sym r)
+    (meets types cells E gs s a made g h i j contents rests)))

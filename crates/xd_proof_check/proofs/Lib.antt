@@ -1,5 +1,3 @@
-pub mod ListLemmas
-pub mod CodeLemmas
 pub mod PathLemmas
 pub mod AtomLemmas
 pub mod NameLemmas

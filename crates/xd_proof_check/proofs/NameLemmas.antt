@@ -1,5 +1,5 @@
 -- Sets of names that grow.
-use Rattle.std.proofs.Common.{◌≡◌, ℕ, ◌<◌, Bool, true, false, cond, ◌||◌, nat_eq, List, [], ◌∷◌, ◌++◌, map, flat_map, length, take, get_or, ◌+◌, append-nil, refl, ap, sym, subst, ◌∙◌}
+use Rattle.std.proofs.Common.{◌≡◌, ℕ, ◌<◌, Bool, true, false, cond, ◌||◌, nat_eq, List, [], ◌∷◌, ◌++◌, flat_map, length, take, get_or, ◌+◌, append-nil, refl, ap, sym, subst, ◌∙◌}
 use Rattle.std.specs.List.{list_any}
 use Rattle.std.specs.List.Sorted.{IsStrictlySortedBy}
 use Rattle.std.specs.Ordering.{nat_cmp, is_eq}
@@ -12,7 +12,7 @@ use Rattle.xd_doc.specs.Classes.{is_named}
 use Rattle.xd_laws.specs.Heads.{HeadKind}
 use Rattle.xd_laws.specs.Consistent.{in_byte_order}
 use Rattle.xd_heads.specs.HeadList.{kind_at}
-use Rattle.xd_heads.specs.declared.listing.Head.{Head}
+use Rattle.xd_heads.specs.declared.lister.NumberedHead.{NumberedHead}
 use Rattle.xd_proof_check.specs.Atoms.{kinds_of}
 use Rattle.xd_proof_check.specs.Names.{AddsNames}
 use Rattle.xd_proof_check.proofs.AtomLemmas.{flat_both, in_order, map_both}
@@ -61,18 +61,18 @@ adds_next a b c xs i x h e k m =
     subst (λ ys. AddsNames a ys c) (sym (take_more xs i x h))
     (adds_then a b c (take i xs) (get_or xs i x ∷ []) k (subst (λ y. AddsNames b (y ∷ []) c) e m))
 
-flat_one : (f : HeadKind → List (List ℕ)) (hs : List Head) (h : Head) → flat_map f (kinds_of (hs ++ h ∷ [])) ≡ flat_map f (kinds_of hs) ++ f (kind_at h.kind)
+flat_one : (f : HeadKind → List (List ℕ)) (hs : List NumberedHead) (h : NumberedHead) → flat_map f (kinds_of (hs ++ h ∷ [])) ≡ flat_map f (kinds_of hs) ++ f (kind_at h.kind)
 flat_one f hs h =
-    ap (flat_map f) (map_both (λ (x : Head). kind_at x.kind) hs (h ∷ []))
+    ap (flat_map f) (map_both (λ (x : NumberedHead). kind_at x.kind) hs (h ∷ []))
     ∙ flat_both f (kinds_of hs) (kind_at h.kind ∷ [])
     ∙ ap (λ ns. flat_map f (kinds_of hs) ++ ns) (append-nil (f (kind_at h.kind)))
 
 -- what one more head names
-pub adds_head : (f : HeadKind → List (List ℕ)) (a b c : List (List ℕ)) (hs : List Head) (i : ℕ) (x : Head) → i < length hs → x ≡ get_or hs i x → AddsNames a (flat_map f (kinds_of (take i hs))) b →
+pub adds_head : (f : HeadKind → List (List ℕ)) (a b c : List (List ℕ)) (hs : List NumberedHead) (i : ℕ) (x : NumberedHead) → i < length hs → x ≡ get_or hs i x → AddsNames a (flat_map f (kinds_of (take i hs))) b →
     AddsNames b (f (kind_at x.kind)) c → AddsNames a (flat_map f (kinds_of (take (i + 1) hs))) c
 adds_head f a b c hs i x h e k m =
     subst (λ ns. AddsNames a ns c) (sym (ap (λ xs. flat_map f (kinds_of xs)) (take_more hs i x h) ∙ flat_one f (take i hs) (get_or hs i x)))
-    (adds_then a b c (flat_map f (kinds_of (take i hs))) (f (kind_at (get_or hs i x).kind)) k (subst (λ (y : Head). AddsNames b (f (kind_at y.kind)) c) e m))
+    (adds_then a b c (flat_map f (kinds_of (take i hs))) (f (kind_at (get_or hs i x).kind)) k (subst (λ (y : NumberedHead). AddsNames b (f (kind_at y.kind)) c) e m))
 
 -- what the heads of both sides name
 pub both_named : (f : HeadKind → List (List ℕ)) (old mid new : List (List ℕ)) (ks js : List HeadKind) → old ≡ [] → AddsNames old (flat_map f ks) mid → AddsNames mid (flat_map f js) new →

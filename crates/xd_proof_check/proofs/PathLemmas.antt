@@ -1,9 +1,9 @@
 -- Marks of a path.
-use Rattle.std.proofs.Common.{◌≡◌, ◌≢◌, ℕ, suc, ◌+◌, ◌<◌, ◌≤◌, arith, Bool, true, false, cond, nat_eq, List, [], ◌∷◌, ◌++◌, reverse, length, refl, ap, sym, subst, ◌∙◌, get_or-set_other, get_or-set_same}
+use Rattle.std.proofs.Common.{◌≡◌, ◌≢◌, ℕ, zero, suc, ◌+◌, ◌<◌, ◌≤◌, arith, Bool, true, false, cond, nat_eq, List, [], ◌∷◌, ◌++◌, replicate, reverse, length, refl, ap, sym, subst, ◌∙◌, get_or-set_other, get_or-set_same}
 use Rattle.std.proofs.lemmas.List.{reverse-append, length-reverse}
 use Rattle.std.proofs.lemmas.Bool.{eq-eqb, eqb-true}
 use Rattle.std.proofs.Math.ListN.{set}
-use Rattle.xd_proof_check.specs.Numbers.{number_at}
+use Rattle.xd_pieces.specs.Codes.{number_at}
 use Rattle.xd_proof_check.specs.Paths.{count_of, AreCounts, AreMarks, IsClear, IsPath, content_side, rest_side, heads_split, turns_of}
 use Rattle.xd_proof_check.specs.declared.path.Path.{Path}
 use Rattle.xd_proof_check.specs.declared.path.Turn.{Turn}
@@ -79,3 +79,14 @@ path_clear contents rests p i e =
     record { turns = e; on_content = m.on_content; on_rest = m.on_rest; on_path = m.on_path }
 
 -- ---- room stays
+
+-- counts of nothing, and more zeros behind them
+pub counts_longer : (cs zs : List ℕ) → AreCounts cs [] → AreCounts zs [] → AreCounts (cs ++ zs) []
+counts_longer [] zs a b m = b m
+counts_longer (c ∷ cs) zs a b zero = a zero
+counts_longer (c ∷ cs) zs a b (suc m) = counts_longer cs zs (λ j. a (suc j)) b m
+
+pub no_counts : (n : ℕ) → AreCounts (replicate n 0) []
+no_counts zero m = refl
+no_counts (suc n) zero = refl
+no_counts (suc n) (suc m) = no_counts n m

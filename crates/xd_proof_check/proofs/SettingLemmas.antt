@@ -6,8 +6,9 @@ use Rattle.xd_laws.specs.Consistent.{Atom, this_label, other_label, this_text, o
 use Rattle.xd_syntax.specs.Table.{Row}
 use Rattle.xd_laws.specs.Breach.{Reason}
 use Rattle.xd_laws.proofs.FirstWrong.{wrong_choice, wrong_text, wrong_tree}
+use Rattle.xd_heads.specs.Cells.{Cell}
 use Rattle.xd_heads.specs.HeadList.{kind_at}
-use Rattle.xd_heads.specs.declared.listing.Head.{Head}
+use Rattle.xd_heads.specs.declared.lister.NumberedHead.{NumberedHead}
 use Rattle.xd_proof_lines.specs.Steps.{steps_of}
 use Rattle.xd_proof_lines.specs.declared.steps.Step.{Step}
 use Rattle.xd_proof_check.specs.Atoms.{kinds_of}
@@ -23,19 +24,19 @@ use Rattle.xd_proof_check.proofs.PathLemmas.{path_clear}
 use Rattle.xd_proof_check.proofs.WalkLemmas.{text_walked, tree_left, tree_walked}
 
 -- kinds of heads by number
-pub kind_none : (hs : List Head) (n : ℕ) → None ≡ numbered hs n → numbered (kinds_of hs) n ≡ None
+pub kind_none : (hs : List NumberedHead) (n : ℕ) → None ≡ numbered hs n → numbered (kinds_of hs) n ≡ None
 kind_none hs zero e = refl
 kind_none [] (suc n) e = refl
 kind_none (h ∷ hs) (suc zero) e = cc
 kind_none (h ∷ hs) (suc (suc n)) e = kind_none hs (suc n) e
 
-pub kind_some : (hs : List Head) (n : ℕ) (h : Head) → Some h ≡ numbered hs n → (numbered (kinds_of hs) n ≡ Some (kind_at h.kind)) × (0 < n) × (n - 1 < length hs)
+pub kind_some : (hs : List NumberedHead) (n : ℕ) (h : NumberedHead) → Some h ≡ numbered hs n → (numbered (kinds_of hs) n ≡ Some (kind_at h.kind)) × (0 < n) × (n - 1 < length hs)
 kind_some hs zero h e = cc
 kind_some [] (suc n) h e = cc
-kind_some (g ∷ hs) (suc zero) h e = let q : g ≡ h = cc in (ap (λ (x : Head). Some (kind_at x.kind)) q, omega arith, omega arith)
+kind_some (g ∷ hs) (suc zero) h e = let q : g ≡ h = cc in (ap (λ (x : NumberedHead). Some (kind_at x.kind)) q, omega arith, omega arith)
 kind_some (g ∷ hs) (suc (suc n)) h e = let r = kind_some hs (suc n) h e in (r.0, omega arith, (let l = r.2 in omega arith))
 
-pub length-kinds_of : (hs : List Head) → length (kinds_of hs) ≡ length hs
+pub length-kinds_of : (hs : List NumberedHead) → length (kinds_of hs) ≡ length hs
 length-kinds_of [] = refl
 length-kinds_of (h ∷ hs) = ap suc (length-kinds_of hs)
 
@@ -58,9 +59,9 @@ fits_new s ts n k e m a =
     ap (λ o. kind_matches s.atom o && not (is_among (heads_split ts) (n - 1))) e ∙ ap (λ b. b && not (is_among (heads_split ts) (n - 1))) m ∙ ap not a
 
 -- a walk over the steps of a tree, from a clear path
-pub walk_found : (types : List Row) (s : SettingView) (left : laws.Head) (hs : List laws.Head) (gs : List Goal) (t : ChoiceTree) (steps : List Step) (ts : List Turn) (o : Option Reason) →
-    Corresponds types s left hs gs → steps ≡ steps_of t → ts ≡ [] → o ≡ wrong_steps s ts steps → o ≡ wrong_choice gs s.atom left hs no_sides t
-walk_found types s left hs gs t steps ts o c e n q = q ∙ ap (λ us. wrong_steps s us steps) n ∙ ap (wrong_steps s []) e ∙ tree_walked types s left hs gs c t
+pub walk_found : (types : List Row) (cells : List Cell) (s : SettingView) (left : laws.Head) (hs : List laws.Head) (gs : List Goal) (t : ChoiceTree) (steps : List Step) (ts : List Turn) (o : Option Reason) →
+    Corresponds types cells s left hs gs → steps ≡ steps_of t → ts ≡ [] → o ≡ wrong_steps s ts steps → o ≡ wrong_choice gs s.atom left hs no_sides t
+walk_found types cells s left hs gs t steps ts o c e n q = q ∙ ap (λ us. wrong_steps s us steps) n ∙ ap (wrong_steps s []) e ∙ tree_walked types cells s left hs gs c t
 
 pub walk_clear : (s : SettingView) (t : ChoiceTree) (steps : List Step) (ts us : List Turn) → steps ≡ steps_of t → ts ≡ [] → us ≡ turns_after ts steps → us ≡ []
 walk_clear s t steps ts us e n q = q ∙ ap (λ vs. turns_after vs steps) n ∙ ap (turns_after []) e ∙ tree_left t
@@ -108,16 +109,16 @@ tree_of_text gs other_text left hs t e = refl
 
 module _ {E : Type 0} (s : SettingView) (steps : List Step) where
   pub walk_says : (ts : List Turn) (r : Result (Option code.Reason) E) → ts ≡ [] → is_text s.atom ≡ false → IfOk r (λ found. option_map reason_of found ≡ wrong_steps s ts steps) →
-      IfOk r (λ found. (types : List Row) (gs : List Goal) (left : laws.Head) (hs : List laws.Head) (t : ChoiceTree) → Corresponds types s left hs gs → steps ≡ steps_of t →
+      IfOk r (λ found. (types : List Row) (cells : List Cell) (gs : List Goal) (left : laws.Head) (hs : List laws.Head) (t : ChoiceTree) → Corresponds types cells s left hs gs → steps ≡ steps_of t →
       option_map reason_of found ≡ wrong_tree gs s.atom left hs t)
   walk_says ts (Ok found) n a h =
-      λ types gs left hs t c e. walk_found types s left hs gs t steps ts (option_map reason_of found) c e n h ∙ sym (tree_of_label gs s.atom left hs t a)
+      λ types cells gs left hs t c e. walk_found types cells s left hs gs t steps ts (option_map reason_of found) c e n h ∙ sym (tree_of_label gs s.atom left hs t a)
   walk_says ts (Err e) n a h = tt
 
   pub text_says : (r : Result (Option code.Reason) E) → is_text s.atom ≡ true → IfOk r (λ found. (t : ChoiceTree) → steps ≡ steps_of t → option_map reason_of found ≡ wrong_text_step s t) →
-      IfOk r (λ found. (types : List Row) (gs : List Goal) (left : laws.Head) (hs : List laws.Head) (t : ChoiceTree) → Corresponds types s left hs gs → steps ≡ steps_of t →
+      IfOk r (λ found. (types : List Row) (cells : List Cell) (gs : List Goal) (left : laws.Head) (hs : List laws.Head) (t : ChoiceTree) → Corresponds types cells s left hs gs → steps ≡ steps_of t →
       option_map reason_of found ≡ wrong_tree gs s.atom left hs t)
-  text_says (Ok found) a h = λ types gs left hs t c e. h t e ∙ text_walked types s left hs gs c t ∙ sym (tree_of_text gs s.atom left hs t a)
+  text_says (Ok found) a h = λ types cells gs left hs t c e. h t e ∙ text_walked types cells s left hs gs c t ∙ sym (tree_of_text gs s.atom left hs t a)
   text_says (Err e) a h = tt
 
   pub walk_clears : (contents rests : List ℕ) (ts : List Turn) (p : Path) (r : Result (Option code.Reason) E) → ts ≡ [] →

@@ -14,11 +14,13 @@ use Rattle.xd_laws.proofs.SameTrees.{same_tree-is, tree_same}
 use Rattle.xd_proof.specs.declared.proof.ProofGoal.{ProofGoal}
 use Rattle.xd_proof_lines.specs.Steps.{steps_of}
 use Rattle.xd_proof_lines.specs.declared.steps.Step.{Step}
-use Rattle.xd_proof_check.specs.Numbers.{number_at}
+use Rattle.xd_pieces.specs.Codes.{number_at}
 use Rattle.xd_proof_check.specs.Paths.{content_side, rest_side, heads_split, turned}
 use Rattle.xd_proof_check.specs.Leaves.{is_among, leaf_numbered}
 use Rattle.xd_proof_check.specs.Walk.{SettingView, kind_matches, split_fits, wrong_steps, turns_after, rest_turns, wrong_text_step}
-use Rattle.xd_proof_check.specs.Corresponds.{IsClaimAt, IsNumberOf, AreEqualTypes, Corresponds}
+use Rattle.xd_proof_check.specs.Corresponds.{IsClaimAt, Corresponds, Knows}
+use Rattle.xd_heads.specs.Cells.{Cell}
+use Rattle.xd_heads.specs.Numbered.{IsNumberIn}
 use Rattle.xd_proof_check.specs.declared.path.Turn.{Turn}
 
 bool_same : (a b : Bool) → (a ≡ true → b ≡ true) → (b ≡ true → a ≡ true) → a ≡ b
@@ -50,28 +52,26 @@ sides_of : List Turn → Sides
 sides_of [] = no_sides
 sides_of (t ∷ ts) = cond t.on_rest (on_rest (suc t.right) (sides_of ts)) (on_content (suc t.right) (sides_of ts))
 
-module _ (types : List Row) (numbers : List ℕ) (equal : AreEqualTypes types numbers) where
+module _ (types : List Row) (cells : List Cell) (numbers : List ℕ) (known : Knows types cells numbers) where
   -- numbers tell types apart
-  number_same : (k m : ℕ) (T U : Tree) → IsNumberOf types numbers k T → IsNumberOf types numbers m U → nat_eq k m ≡ same_tree T U
+  number_same : (k m : ℕ) (T U : Tree) → IsNumberIn types cells k T → IsNumberIn types cells m U → nat_eq k m ≡ same_tree T U
   number_same k m T U a b = bool_same (nat_eq k m) (same_tree T U) to_tree to_number
     where
       to_tree : nat_eq k m ≡ true → same_tree T U ≡ true
-      to_tree e =
-          let q = sym a.tree ∙ (equal a.node b.node a.there b.there).0 (a.has ∙ eqb-true k m e ∙ sym b.has) ∙ b.tree in
-          subst (λ V. same_tree T V ≡ true) q (tree_same T)
+      to_tree e = subst (λ V. same_tree T V ≡ true) ((known.tell k m T U a b).0 (eqb-true k m e)) (tree_same T)
 
       to_number : same_tree T U ≡ true → nat_eq k m ≡ true
-      to_number e = eq-eqb k m (sym a.has ∙ (equal a.node b.node a.there b.there).1 (a.tree ∙ same_tree-is T U e ∙ sym b.tree) ∙ b.has)
+      to_number e = eq-eqb k m ((known.tell k m T U a b).1 (same_tree-is T U e))
 
-  type_number : (id : TypeId) (T : Tree) → IsTypeAt types T id → IsNumberOf types numbers (number_at numbers id.at) T
-  type_number id T i = record { node = id.at; there = i.belongs; tree = i.same; has = refl }
+  type_number : (id : TypeId) (T : Tree) → IsTypeAt types T id → IsNumberIn types cells (number_at numbers id.at) T
+  type_number id T i = subst (IsNumberIn types cells (number_at numbers id.at)) i.same (known.nodes id.at i.belongs)
 
   module _ (part : Head → Tree) (hs : List Head) where
     -- the number is that of a part of the right head of this number
     IsPartAt : ℕ → ℕ → Type 0
-    IsPartAt k n = (h : Head) × (numbered hs n ≡ Some h) × IsNumberOf types numbers k (part h)
+    IsPartAt k n = (h : Head) × (numbered hs n ≡ Some h) × IsNumberIn types cells k (part h)
 
-    among_same : (ks ns : List ℕ) → AllZip IsPartAt ks ns → (m : ℕ) (T : Tree) → IsNumberOf types numbers m T → is_among ks m ≡ some_head part hs ns T
+    among_same : (ks ns : List ℕ) → AllZip IsPartAt ks ns → (m : ℕ) (T : Tree) → IsNumberIn types cells m T → is_among ks m ≡ some_head part hs ns T
     unfolding IsPartAt
     among_same [] [] a m T i = refl
     among_same [] (n ∷ ns) a m T i = absurd a
@@ -90,7 +90,7 @@ module _ (types : List Row) (numbers : List ℕ) (equal : AreEqualTypes types nu
         ap (λ b. b && list_all (λ (i : TypeId). is_among ks (number_at numbers i.at)) ids) (among_same ks ns a (number_at numbers id.at) T (type_number id T z.0))
         ∙ ap (λ b. some_head part hs ns T && b) (each_same ks ns a ids Ts z.1)
 
-    leaf_same : (goals : List ProofGoal) (gs : List Goal) → AllZip (IsClaimAt types) goals gs → (k : ℕ) (left : Head) → IsNumberOf types numbers k (part left) → (ks ns : List ℕ) →
+    leaf_same : (goals : List ProofGoal) (gs : List Goal) → AllZip (IsClaimAt types) goals gs → (k : ℕ) (left : Head) → IsNumberIn types cells k (part left) → (ks ns : List ℕ) →
         AllZip IsPartAt ks ns → (n : ℕ) → leaf_numbered numbers k ks (numbered goals n) ≡ leaf_stands part left hs ns (numbered gs n)
     leaf_same goals gs z k left i ks ns a zero = refl
     leaf_same [] [] z k left i ks ns a (suc n) = refl
@@ -103,14 +103,14 @@ module _ (types : List Row) (numbers : List ℕ) (equal : AreEqualTypes types nu
     leaf_same (m ∷ goals) (g ∷ gs) z k left i ks ns a (suc (suc n)) = leaf_same goals gs z.1 k left i ks ns a (suc n)
 
     -- the parts of right heads by their positions
-    part_at : (cs : List ℕ) (js : List Head) → AllZip (λ number (h : Head). IsNumberOf types numbers number (part h)) cs js → (i : ℕ) → i < length cs →
-        (h : Head) × (numbered js (suc i) ≡ Some h) × IsNumberOf types numbers (number_at cs i) (part h)
+    part_at : (cs : List ℕ) (js : List Head) → AllZip (λ number (h : Head). IsNumberIn types cells number (part h)) cs js → (i : ℕ) → i < length cs →
+        (h : Head) × (numbered js (suc i) ≡ Some h) × IsNumberIn types cells (number_at cs i) (part h)
     part_at [] js z i l = absurd (omega arith)
     part_at (c ∷ cs) [] z i l = absurd z
     part_at (c ∷ cs) (j ∷ js) z zero l = (j, refl, z.0)
     part_at (c ∷ cs) (j ∷ js) z (suc i) l = part_at cs js z.1 i (omega arith)
 
-    content_parts : (cs : List ℕ) → AllZip (λ number (h : Head). IsNumberOf types numbers number (part h)) cs hs → (ts : List Turn) → AllByRecursion (λ (t : Turn). t.right < length cs) ts →
+    content_parts : (cs : List ℕ) → AllZip (λ number (h : Head). IsNumberIn types cells number (part h)) cs hs → (ts : List Turn) → AllByRecursion (λ (t : Turn). t.right < length cs) ts →
         AllZip IsPartAt (content_side cs ts) (sides_of ts).content
     unfolding IsPartAt sides_of
     content_parts cs z [] w = tt
@@ -121,7 +121,7 @@ module _ (types : List Row) (numbers : List ℕ) (equal : AreEqualTypes types nu
         go true i = i
         go false i = (part_at cs hs z t.right w.0, i)
 
-    rest_parts : (rs : List ℕ) → AllZip (λ number (h : Head). IsNumberOf types numbers number (part h)) rs hs → (ts : List Turn) → AllByRecursion (λ (t : Turn). t.right < length rs) ts →
+    rest_parts : (rs : List ℕ) → AllZip (λ number (h : Head). IsNumberIn types cells number (part h)) rs hs → (ts : List Turn) → AllByRecursion (λ (t : Turn). t.right < length rs) ts →
         AllZip IsPartAt (rest_side rs ts) (sides_of ts).rest
     unfolding IsPartAt sides_of
     rest_parts rs z [] w = tt
@@ -187,7 +187,7 @@ after_tree (split_on n t u) ts ss =
 pub tree_left : (t : ChoiceTree) → turns_after [] (steps_of t) ≡ []
 tree_left t = ap (turns_after []) (sym (append-nil (steps_of t))) ∙ after_tree t [] []
 
-module _ (types : List Row) (s : SettingView) (left : Head) (hs : List Head) (gs : List Goal) (c : Corresponds types s left hs gs) where
+module _ (types : List Row) (cells : List Cell) (s : SettingView) (left : Head) (hs : List Head) (gs : List Goal) (c : Corresponds types cells s left hs gs) where
   fits_same : (ts : List Turn) (n : ℕ) → split_fits s ts n ≡ split_allowed s.atom hs (sides_of ts) n
   fits_same ts n = ap (λ ks. kind_matches s.atom (numbered ks n) && not (is_among (heads_split ts) (n - 1))) c.kinds ∙ allowed_same s.atom hs ts n
 
@@ -199,13 +199,13 @@ module _ (types : List Row) (s : SettingView) (left : Head) (hs : List Head) (gs
 
   long_rests : length s.rests ≡ length s.contents
   long_rests =
-      long_zip (λ number (h : Head). IsNumberOf types s.numbers number h.rest) s.rests hs c.rests ∙ sym (long_zip (λ number (h : Head). IsNumberOf types s.numbers number h.content) s.contents hs c.contents)
+      long_zip (λ number (h : Head). IsNumberIn types cells number h.rest) s.rests hs c.rests ∙ sym (long_zip (λ number (h : Head). IsNumberIn types cells number h.content) s.contents hs c.contents)
 
   rests_within : (ts : List Turn) → AllByRecursion (λ (t : Turn). t.right < length s.contents) ts → AllByRecursion (λ (t : Turn). t.right < length s.rests) ts
   rests_within ts w = subst (λ n. AllByRecursion (λ (t : Turn). t.right < n) ts) (sym long_rests) w
 
   kinds_long : length s.kinds ≡ length s.contents
-  kinds_long = ap length c.kinds ∙ mapped hs ∙ sym (long_zip (λ number (h : Head). IsNumberOf types s.numbers number h.content) s.contents hs c.contents)
+  kinds_long = ap length c.kinds ∙ mapped hs ∙ sym (long_zip (λ number (h : Head). IsNumberIn types cells number h.content) s.contents hs c.contents)
     where
       mapped : (js : List Head) → length (map (λ (h : Head). h.kind) js) ≡ length js
       mapped [] = refl
@@ -214,14 +214,14 @@ module _ (types : List Row) (s : SettingView) (left : Head) (hs : List Head) (gs
   content_leaf_same : (ts : List Turn) → AllByRecursion (λ (t : Turn). t.right < length s.contents) ts → (n : ℕ) →
       leaf_numbered s.numbers s.left_content (content_side s.contents ts) (numbered s.goals n) ≡ leaf_stands (λ h. h.content) left hs (sides_of ts).content (numbered gs n)
   content_leaf_same ts w n =
-      leaf_same types s.numbers c.numbers (λ h. h.content) hs s.goals gs c.goals s.left_content left c.left_content (content_side s.contents ts) (sides_of ts).content
-      (content_parts types s.numbers c.numbers (λ h. h.content) hs s.contents c.contents ts w) n
+      leaf_same types cells s.numbers c.numbers (λ h. h.content) hs s.goals gs c.goals s.left_content left c.left_content (content_side s.contents ts) (sides_of ts).content
+      (content_parts types cells s.numbers c.numbers (λ h. h.content) hs s.contents c.contents ts w) n
 
   rest_leaf_same : (ts : List Turn) → AllByRecursion (λ (t : Turn). t.right < length s.contents) ts → (n : ℕ) →
       leaf_numbered s.numbers s.left_rest (rest_side s.rests ts) (numbered s.goals n) ≡ leaf_stands (λ h. h.rest) left hs (sides_of ts).rest (numbered gs n)
   rest_leaf_same ts w n =
-      leaf_same types s.numbers c.numbers (λ h. h.rest) hs s.goals gs c.goals s.left_rest left c.left_rest (rest_side s.rests ts) (sides_of ts).rest
-      (rest_parts types s.numbers c.numbers (λ h. h.rest) hs s.rests c.rests ts (rests_within ts w)) n
+      leaf_same types cells s.numbers c.numbers (λ h. h.rest) hs s.goals gs c.goals s.left_rest left c.left_rest (rest_side s.rests ts) (sides_of ts).rest
+      (rest_parts types cells s.numbers c.numbers (λ h. h.rest) hs s.rests c.rests ts (rests_within ts w)) n
 
   walked : (t : ChoiceTree) (ts : List Turn) (ss : List Step) → AllByRecursion (λ (t : Turn). t.right < length s.contents) ts →
       wrong_steps s ts (steps_of t ++ ss) ≡ or_next (wrong_choice gs s.atom left hs (sides_of ts) t) (wrong_steps s (turned ts) ss)

@@ -3,12 +3,12 @@ use Rattle.std.specs.Prelude.{◌≡◌, List, map, flat_map}
 use Rattle.xd_laws.specs.Heads as laws
 use Rattle.xd_laws.specs.Consistent.{in_byte_order, labels_of, texts_of}
 use Rattle.xd_heads.specs.HeadList.{kind_at}
-use Rattle.xd_heads.specs.declared.listing.Head.{Head}
+use Rattle.xd_heads.specs.declared.lister.NumberedHead.{NumberedHead}
 use Rattle.xd_proof_check.specs.Names.{Names}
 use Rattle.xd_proof_check.specs.declared.atoms.Named.{Named}
 
-abbrev pub kinds_of : List Head → List laws.HeadKind
-kinds_of hs = map (λ (h : Head). kind_at h.kind) hs
+abbrev pub kinds_of : List NumberedHead → List laws.HeadKind
+kinds_of hs = map (λ (h : NumberedHead). kind_at h.kind) hs
 
 -- all that is named in these classes, in byte order
 pub record AreNamed (kinds : List laws.HeadKind) (n : Named) : Type 0 where

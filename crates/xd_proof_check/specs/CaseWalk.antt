@@ -6,15 +6,16 @@ use Rattle.xd_syntax.specs.Table.{Row}
 use Rattle.xd_laws.specs.Heads.{heads}
 use Rattle.xd_laws.specs.Consistent.{ChoiceTree, Goal, HeadAtom, right_heads}
 use Rattle.xd_laws.proofs.FirstWrong.{Refusal, wrong_cases}
-use Rattle.xd_heads.specs.HeadList.{head_at, HeadBelongs}
-use Rattle.xd_heads.specs.declared.listing.Head.{Head}
+use Rattle.xd_heads.specs.Cells.{Cell}
+use Rattle.xd_heads.specs.Numbered.{IsHeadIn}
+use Rattle.xd_heads.specs.declared.lister.NumberedHead.{NumberedHead}
 use Rattle.xd_proof.specs.declared.proof.ProofGoal.{ProofGoal}
 use Rattle.xd_proof_lines.specs.Cases.{IsCase}
 use Rattle.xd_proof_lines.specs.Steps.{steps_of}
 use Rattle.xd_proof_lines.specs.declared.cases.ReadCase.{ReadCase}
-use Rattle.xd_proof_check.specs.Corresponds.{AreEqualTypes, IsClaimAt}
+use Rattle.xd_proof_check.specs.Corresponds.{IsClaimAt, Knows}
 use Rattle.xd_proof_check.specs.Leaves.{GoalsBelong}
-use Rattle.xd_proof_check.specs.Numbers.{number_at}
+use Rattle.xd_pieces.specs.Codes.{number_at}
 use Rattle.xd_proof_check.specs.Reasons.{reason_of}
 use Rattle.xd_proof_check.specs.declared.cases.Cases.{Cases}
 use Rattle.xd_proof_check.specs.declared.cases.Progress.{Progress}
@@ -26,8 +27,8 @@ pub record CasesView : Type 0 where
   pub goals : List ProofGoal
   pub numbers : List ℕ
   pub cases : List ReadCase
-  pub left : List Head
-  pub rights : List Head
+  pub left : List NumberedHead
+  pub rights : List NumberedHead
   pub contents : List ℕ
   pub rests : List ℕ
 
@@ -43,29 +44,27 @@ cases_of c = record {
 }
 
 -- the cases are those of this goal of a proof, and the heads are its heads
-pub record Meets (types : List Row) (E : Definitions) (gs : List Goal) (g : Goal) (v : CasesView) : Type 0 where
-  pub numbers : AreEqualTypes types v.numbers
-  pub count : length v.numbers ≡ length types
+pub record Meets (types : List Row) (cells : List Cell) (E : Definitions) (gs : List Goal) (g : Goal) (v : CasesView) : Type 0 where
+  pub numbers : Knows types cells v.numbers
   pub goals : AllZip (IsClaimAt types) v.goals gs
   pub cases : AllZip IsCase v.cases g.cases
-  pub left : map (head_at types) v.left ≡ heads E g.left
-  pub rights : map (head_at types) v.rights ≡ right_heads E g
-  pub left_belong : AllByRecursion (HeadBelongs types) v.left
-  pub rights_belong : AllByRecursion (HeadBelongs types) v.rights
+  pub left : AllZip (IsHeadIn types cells) v.left (heads E g.left)
+  pub rights : AllZip (IsHeadIn types cells) v.rights (right_heads E g)
 
 -- its steps are those of one tree
 abbrev pub IsTree : ReadCase → Type 0
 IsTree made = (t : ChoiceTree) × ((made.steps).items ≡ steps_of t)
 
--- all types and right heads have their places in the marks of a path
+-- All types and right heads have their places in the marks of a path, the steps are those of trees, and contents and rests are the right heads' numbers.
 pub record CasesFit (v : CasesView) (p : Path) : Type 0 where
   pub belong : GoalsBelong (length v.numbers) v.goals
   pub trees : AllByRecursion IsTree v.cases
-  pub left : AllByRecursion (λ (h : Head). (h.content.at < length v.numbers) × (h.rest.at < length v.numbers)) v.left
   pub on_content : (i : ℕ) → number_at v.numbers i < length p.content.items
   pub on_rest : (i : ℕ) → number_at v.numbers i < length p.rest.items
-  pub contents : v.contents ≡ map (λ (h : Head). number_at v.numbers h.content.at) v.rights
-  pub rests : v.rests ≡ map (λ (h : Head). number_at v.numbers h.rest.at) v.rights
+  pub contents_fit : (i : ℕ) → number_at v.contents i < length p.content.items
+  pub rests_fit : (i : ℕ) → number_at v.rests i < length p.rest.items
+  pub contents : v.contents ≡ map (λ (h : NumberedHead). h.content) v.rights
+  pub rests : v.rests ≡ map (λ (h : NumberedHead). h.rest) v.rights
   pub split : length v.rights ≤ length p.split.items
 
 -- what is wrong first on a line, or else behind it

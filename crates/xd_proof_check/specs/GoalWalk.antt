@@ -8,12 +8,13 @@ use Rattle.xd_syntax.specs.Emptiness.{is_marked}
 use Rattle.xd_syntax.specs.declared.types.TypeId.{TypeId}
 use Rattle.xd_laws.specs.Consistent.{Goal, numbered}
 use Rattle.xd_laws.proofs.FirstWrong.{Refusal}
-use Rattle.xd_heads.specs.declared.listing.Head.{Head}
+use Rattle.xd_heads.specs.declared.lister.NumberedHead.{NumberedHead}
 use Rattle.xd_proof.specs.declared.proof.ProofGoal.{ProofGoal}
+use Rattle.xd_heads.specs.Cells.{Cell}
 use Rattle.xd_proof_check.specs.CaseWalk.{IsTree}
-use Rattle.xd_proof_check.specs.Corresponds.{AreEqualTypes, IsClaimAt}
-use Rattle.xd_proof_check.specs.Leaves.{GoalBelongs, GoalsBelong}
-use Rattle.xd_proof_check.specs.Numbers.{number_at}
+use Rattle.xd_proof_check.specs.Corresponds.{IsClaimAt, Knows}
+use Rattle.xd_proof_check.specs.Leaves.{GoalsBelong}
+use Rattle.xd_pieces.specs.Codes.{number_at}
 use Rattle.xd_proof_check.specs.Reasons.{reason_of}
 use Rattle.xd_proof_check.specs.declared.check.Breach.{Breach}
 use Rattle.xd_proof_check.specs.declared.check.Sheet.{Sheet}
@@ -25,17 +26,18 @@ use Rattle.xd_proof_check.specs.declared.verdict.ProofVerdict.TheVariants.{Accep
 pub record SheetView : Type 0 where
   pub goals : List ProofGoal
   pub numbers : List ℕ
-  pub marks : List Bool
 
 abbrev pub sheet_of : Sheet → SheetView
-sheet_of s = record { goals = s.goals.now; numbers = s.numbers.now; marks = s.empty_marks.now }
+sheet_of s = record { goals = s.goals.now; numbers = s.numbers.now }
 
--- these are the goals of a proof, over types that are known
-pub record Stands (types : List Row) (E : Definitions) (gs : List Goal) (s : SheetView) : Type 0 where
-  pub numbers : AreEqualTypes types s.numbers
-  pub count : length s.numbers ≡ length types
+-- these are the goals of a proof, and the numbers tell their types apart
+pub record Stands (types : List Row) (cells : List Cell) (gs : List Goal) (s : SheetView) : Type 0 where
+  pub numbers : Knows types cells s.numbers
   pub goals : AllZip (IsClaimAt types) s.goals gs
-  pub marks : (i : ℕ) → i < length types → is_marked s.marks i ≡ can_be_empty E (tree_at types i)
+
+-- the marks say of each type whether it can be empty
+abbrev pub MarksDecide : List Row → Definitions → List Bool → Type 0
+MarksDecide types E marks = (i : ℕ) → i < length types → is_marked marks i ≡ can_be_empty E (tree_at types i)
 
 abbrev pub breach_of : Breach → Refusal
 breach_of b = (b.line, reason_of b.reason)
@@ -52,35 +54,22 @@ empty_marked_by marks g (Some n) = is_marked marks g.left.at && right_marked mar
 abbrev pub empty_marked : List Bool → ProofGoal → Bool
 empty_marked marks g = empty_marked_by marks g g.empty_right
 
-abbrev pub PartsThere : ℕ → Head → Type 0
-PartsThere n h = (h.content.at < n) × (h.rest.at < n)
+-- the steps of each case are those of a tree
+abbrev pub AreTrees : ProofGoal → Type 0
+AreTrees g = AllByRecursion IsTree g.cases.items
+
+-- content and rest have their places in the marks of a path
+abbrev pub PartsFit : Path → NumberedHead → Type 0
+PartsFit p h = (h.content < length p.content.items) × (h.rest < length p.rest.items)
 
 -- all types have their places, and the right heads
 pub record GoalFits (s : SheetView) (g : ProofGoal) (h : GoalHeads) (p : Path) : Type 0 where
   pub belong : GoalsBelong (length s.numbers) s.goals
-  pub here : GoalBelongs (length s.numbers) g
-  pub marked : length s.marks ≡ length s.numbers
-  pub left : AllByRecursion (PartsThere (length s.numbers)) h.left.items
-  pub rights : AllByRecursion (PartsThere (length s.numbers)) h.rights.items
+  pub rights : AllByRecursion (PartsFit p) h.rights.items
   pub on_content : (i : ℕ) → number_at s.numbers i < length p.content.items
   pub on_rest : (i : ℕ) → number_at s.numbers i < length p.rest.items
   pub split : length h.rights.items ≤ length p.split.items
-  pub trees : AllByRecursion IsTree g.cases.items
-
--- a program's marks say of each type whether it can be empty
-pub record IsKnown (types : List Row) (E : Definitions) (marks : List Bool) : Type 0 where
-  pub marked : (i : ℕ) → i < length types → is_marked marks i ≡ can_be_empty E (tree_at types i)
-
-abbrev pub HeadsThere : ℕ → GoalHeads → Type 0
-HeadsThere n h = AllByRecursion (PartsThere n) h.left.items × AllByRecursion (PartsThere n) h.rights.items
-
--- the types of goals and of their heads are there, and the steps of each case are those of a tree
-pub record ProofFits (types : List Row) (goals : List ProofGoal) (heads : List GoalHeads) (marks : List Bool) : Type 0 where
-  pub belong : GoalsBelong (length types) goals
-  pub count : length heads ≡ length goals
-  pub marked : length marks ≡ length types
-  pub there : AllByRecursion (HeadsThere (length types)) heads
-  pub trees : AllByRecursion (λ (g : ProofGoal). AllByRecursion IsTree g.cases.items) goals
+  pub trees : AreTrees g
 
 abbrev pub verdict_of : ProofVerdict → Option Refusal
 verdict_of Accepted = None

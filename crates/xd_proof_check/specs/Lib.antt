@@ -1,5 +1,3 @@
-pub mod Lists
-pub mod Numbers
 pub mod Paths
 pub mod Names
 pub mod Atoms

@@ -9,7 +9,7 @@ use Rattle.xd_proof_lines.specs.declared.steps.Step.{Step}
 use Rattle.xd_proof_lines.specs.declared.steps.Step.TheVariants.{Content, Rest, Split}
 use Rattle.xd_proof_lines.specs.Cases.{atom_of}
 use Rattle.xd_proof_check.specs.Atoms.{kinds_of}
-use Rattle.xd_proof_check.specs.Numbers.{number_at}
+use Rattle.xd_pieces.specs.Codes.{number_at}
 use Rattle.xd_proof_check.specs.Leaves.{GoalsBelong, is_among, leaf_numbered}
 use Rattle.xd_proof_check.specs.Paths.{HasRoom, content_side, rest_side, heads_split, turned}
 use Rattle.xd_proof_check.specs.declared.path.Turn.{Turn}

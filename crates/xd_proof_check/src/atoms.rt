@@ -15,7 +15,7 @@ ghost use Rattle.xd_proof_check.specs.Names.{AddsNames, Names};
 use std::alloc::Global;
 use std::collections::BTreeSet;
 use xd_doc::{Class, Label, NoMemory, Text, Words};
-use xd_heads::{Head, HeadKind};
+use xd_heads::{HeadKind, NumberedHead};
 use xd_proof_lines::Atom;
 
 /// The labels and the texts that heads name, as classes that have all others.
@@ -61,7 +61,11 @@ pub(crate) fn are_same(one: &Atom, other: &Atom) -> bool
 }
 
 /// All labels and texts that are named in the classes of these heads. Each is held once, however many heads name it.
-pub(crate) fn named_in(alloc: Global, left: &[Head], rights: &[Head]) -> Result<Named, NoMemory>
+pub(crate) fn named_in(
+    alloc: Global,
+    left: &[NumberedHead],
+    rights: &[NumberedHead],
+) -> Result<Named, NoMemory>
     ensures { IfOk result (λ named. AreNamed (kinds_of left.now ++ kinds_of rights.now) named) }
 {
     let mut labels = BTreeSet::new(alloc);
@@ -87,7 +91,7 @@ fn listed<T: Ord + Drop>(alloc: Global, set: BTreeSet<T>) -> Result<Vec<T>, NoMe
     Ok(made)
 }
 
-fn put_labels(labels: &mut BTreeSet<Label>, heads: &[Head]) -> Result<(), NoMemory>
+fn put_labels(labels: &mut BTreeSet<Label>, heads: &[NumberedHead]) -> Result<(), NoMemory>
     ensures { OnOk result (AddsNames labels.old.keys (flat_map labels_of (kinds_of heads.now)) labels.new.keys) }
 {
     for head in heads {
@@ -122,7 +126,7 @@ fn put_label(labels: &mut BTreeSet<Label>, label: &Label) -> Result<(), NoMemory
     Ok(())
 }
 
-fn put_texts(texts: &mut BTreeSet<Text>, heads: &[Head]) -> Result<(), NoMemory>
+fn put_texts(texts: &mut BTreeSet<Text>, heads: &[NumberedHead]) -> Result<(), NoMemory>
     ensures { OnOk result (AddsNames texts.old.keys (flat_map texts_of (kinds_of heads.now)) texts.new.keys) }
 {
     for head in heads {

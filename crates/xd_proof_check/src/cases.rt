@@ -9,6 +9,7 @@ ghost use Rattle.xd_laws.proofs.FirstWrong.{same_atom, wrong_cases};
 ghost use Rattle.xd_proof_lines.specs.Cases.{atom_of};
 ghost use Rattle.xd_syntax.specs.Table.{Row};
 ghost use Rattle.xd_syntax.specs.Tree.{Definitions};
+ghost use Rattle.xd_heads.specs.Cells.{Cell};
 ghost use Rattle.xd_proof_check.specs.Atoms.{AreNamed, kinds_of};
 ghost use Rattle.xd_proof_check.specs.CaseWalk.{CasesFit, IsKept, IsWithin, Meets, cases_of, wrong_after, wrong_behind};
 ghost use Rattle.xd_proof_check.specs.Paths.{IsClear, KeepsRoom};
@@ -20,7 +21,7 @@ use crate::verdict::Reason;
 use crate::walk::{Setting, check_tree};
 use std::alloc::Global;
 use xd_doc::NoMemory;
-use xd_heads::Head;
+use xd_heads::NumberedHead;
 use xd_proof::ProofGoal;
 use xd_proof_lines::{Atom, ReadCase};
 
@@ -32,8 +33,8 @@ pub(crate) struct Cases<'a> {
     pub numbers: &'a [usize],
     pub cases: &'a [ReadCase],
     /// The heads of the goal's left, and of its rights.
-    pub left: &'a [Head],
-    pub rights: &'a [Head],
+    pub left: &'a [NumberedHead],
+    pub rights: &'a [NumberedHead],
     /// The numbers of the contents and of the rests of the latter.
     pub contents: &'a [usize],
     pub rests: &'a [usize],
@@ -56,7 +57,7 @@ pub(crate) fn check_cases(
 ) -> Result<Option<(usize, Reason)>, NoMemory>
     requires fit { CasesFit (cases_of cases.now) path.old }
     requires clear { IsClear path.old }
-    ensures found { IfOk result (λ found. (types : List Row) (E : Definitions) (gs : List Goal) (g : Goal) (line : ℕ) → Meets types E gs g (cases_of cases.now) → wrong_cases E gs g line (wanted E g) g.cases ≡ option_map (λ (p : ℕ × Reason). (line + p.0, reason_of p.1)) found) }
+    ensures found { IfOk result (λ found. (types : List Row) (cells : List Cell) (E : Definitions) (gs : List Goal) (g : Goal) (line : ℕ) → Meets types cells E gs g (cases_of cases.now) → wrong_cases E gs g line (wanted E g) g.cases ≡ option_map (λ (p : ℕ × Reason). (line + p.0, reason_of p.1)) found) }
     ensures within { IfOk result (λ found. IfSome found (λ p. p.0 ≤ length cases.now.cases.now)) }
     ensures clear { IfOk result (λ found. IfNone found (IsClear path.new)) }
     ensures keeps { IfOk result (λ found. IfNone found (KeepsRoom path.old path.new)) }
@@ -89,7 +90,7 @@ fn head_cases(
     requires left { left < length cases.now.left.now }
     requires named { AreNamed (kinds_of cases.now.left.now ++ kinds_of cases.now.rights.now) named.now }
     requires within { at ≤ length cases.now.cases.now }
-    ensures found { IfOk result (λ progress. (types : List Row) (E : Definitions) (gs : List Goal) (g : Goal) (line : ℕ) → Meets types E gs g (cases_of cases.now) → wrong_cases E gs g (line + at) (atoms_from (laws.named E g) (left + 1) (drop left (heads E g.left))) (drop at g.cases) ≡ wrong_behind E gs g line progress (atoms_from (laws.named E g) (left + 1 + 1) (drop (left + 1) (heads E g.left)))) }
+    ensures found { IfOk result (λ progress. (types : List Row) (cells : List Cell) (E : Definitions) (gs : List Goal) (g : Goal) (line : ℕ) → Meets types cells E gs g (cases_of cases.now) → wrong_cases E gs g (line + at) (atoms_from (laws.named E g) (left + 1) (drop left (heads E g.left))) (drop at g.cases) ≡ wrong_behind E gs g line progress (atoms_from (laws.named E g) (left + 1 + 1) (drop (left + 1) (heads E g.left)))) }
     ensures within { IfOk result (IsWithin (length cases.now.cases.now)) }
     ensures clear { IfOk result (λ progress. IsKept progress (IsClear path.new × KeepsRoom path.old path.new)) }
 {
@@ -115,7 +116,7 @@ fn check_case(
     requires fit { CasesFit (cases_of cases.now) path.old }
     requires clear { IsClear path.old }
     requires left { left < length cases.now.left.now }
-    ensures found { IfOk result (λ found. (types : List Row) (E : Definitions) (gs : List Goal) (g : Goal) (line : ℕ) (ws : List HeadAtom) → Meets types E gs g (cases_of cases.now) → wrong_cases E gs g line ((left + 1, atom_of atom.now) ∷ ws) (drop at g.cases) ≡ wrong_after line found (wrong_cases E gs g (line + 1) ws (drop (at + 1) g.cases))) }
+    ensures found { IfOk result (λ found. (types : List Row) (cells : List Cell) (E : Definitions) (gs : List Goal) (g : Goal) (line : ℕ) (ws : List HeadAtom) → Meets types cells E gs g (cases_of cases.now) → wrong_cases E gs g line ((left + 1, atom_of atom.now) ∷ ws) (drop at g.cases) ≡ wrong_after line found (wrong_cases E gs g (line + 1) ws (drop (at + 1) g.cases))) }
     ensures within { IfOk result (λ found. IfNone found (at < length cases.now.cases.now)) }
     ensures clear { IfOk result (λ found. IfNone found (IsClear path.new)) }
     ensures keeps { IfOk result (λ found. IfNone found (KeepsRoom path.old path.new)) }
@@ -134,8 +135,8 @@ fn check_case(
         rights: cases.rights,
         contents: cases.contents,
         rests: cases.rests,
-        left_content: cases.numbers[head.content.at()],
-        left_rest: cases.numbers[head.rest.at()],
+        left_content: head.content,
+        left_rest: head.rest,
     };
     check_tree(&setting, &case.steps, path)
 }

@@ -1,32 +1,37 @@
 //! The goals of a proof.
 
-ghost use Rattle.std.specs.Prelude.{◌≡◌, ◌+◌, ◌<◌, ◌≤◌, ◌^◌, List, map, length, IfOk};
+ghost use Rattle.std.specs.Prelude.{◌≡◌, ◌+◌, ◌<◌, ◌≤◌, ◌^◌, List, map, length, IfOk, OnOk};
 ghost use Rattle.std.specs.List.{AllByRecursion, AllZip};
 ghost use Rattle.std.specs.Option.{IfNone, option_map};
+ghost use Rattle.xd_syntax.specs.Kept.{program_tree};
+ghost use Rattle.xd_syntax.specs.Program.{names_of};
 ghost use Rattle.xd_syntax.specs.Table.{Row};
 ghost use Rattle.xd_syntax.specs.Tree.{Definitions};
 ghost use Rattle.xd_laws.specs.Consistent.{Goal, numbered, wanted};
-ghost use Rattle.xd_laws.specs.Breach.{Lined, empty_lines, goals_of};
+ghost use Rattle.xd_laws.specs.Breach.{Lined, empty_lines};
 ghost use Rattle.xd_laws.proofs.FirstWrong.{first_wrong, wrong_cases, wrong_goal};
-ghost use Rattle.xd_heads.specs.declared.listing.Head.{Head};
+ghost use Rattle.xd_heads.specs.Cells.{Cell};
+ghost use Rattle.xd_heads.specs.Numbered.{Serves};
+ghost use Rattle.xd_heads.specs.declared.lister.NumberedHead.{NumberedHead};
 ghost use Rattle.xd_syntax.specs.declared.types.TypeId.{TypeId};
-ghost use Rattle.xd_proof.specs.Goals.{IsGoalAt, IsLinedAt};
+ghost use Rattle.xd_proof.specs.Goals.{AreGoalsAt, IsGoalAt, IsLinedAt};
 ghost use Rattle.xd_proof.specs.Lines.{LinesFit};
+ghost use Rattle.xd_proof_check.specs.Corresponds.{IsClaimAt};
 ghost use Rattle.xd_proof_check.specs.GoalHeads.{AreGoalHeads};
-ghost use Rattle.xd_proof_check.specs.GoalWalk.{GoalFits, PartsThere, Stands, breach_of, empty_marked, right_marked, sheet_of};
-ghost use Rattle.xd_proof_check.specs.Numbers.{number_at};
-ghost use Rattle.xd_proof_check.specs.Paths.{IsClear, KeepsRoom};
+ghost use Rattle.xd_proof_check.specs.GoalWalk.{AreTrees, GoalFits, Stands, breach_of, empty_marked, right_marked, sheet_of};
+ghost use Rattle.xd_proof_check.specs.Leaves.{GoalBelongs, GoalsBelong};
+ghost use Rattle.xd_proof_check.specs.Paths.{IsClear};
 
 use crate::cases::{Cases, check_cases};
-use crate::heads::GoalHeads;
+use crate::heads::{GoalHeads, goal_heads};
 use crate::leaves::numbered;
 use crate::path::Path;
 use crate::verdict::Reason;
 use std::alloc::Global;
 use xd_doc::NoMemory;
-use xd_heads::Head;
+use xd_heads::{HeadLister, NumberedHead};
 use xd_proof::ProofGoal;
-use xd_syntax::TypeId;
+use xd_syntax::{Program, TypeId};
 
 /// A line at which a rule is broken, and why.
 #[derive(Clone, Copy)]
@@ -35,31 +40,31 @@ pub(crate) struct Breach {
     pub reason: Reason,
 }
 
-/// A proof beside what is known of the types of its program.
+/// A proof beside the numbers of its types.
 #[derive(Clone, Copy)]
 pub(crate) struct Sheet<'a> {
     pub goals: &'a [ProofGoal],
-    /// The number of each type.
+    /// The number of each type of the program.
     pub numbers: &'a [usize],
-    /// Whether each type can be empty.
-    pub empty_marks: &'a [bool],
 }
 
-/// The first breach in a proof, if there is one.
+/// The first breach in a proof, if there is one. The heads of a goal are held while it is looked at.
 pub(crate) fn check_goals(
     alloc: Global,
-    sheet: &Sheet,
-    heads: &[GoalHeads],
-    path: &mut Path,
+    program: &Program,
+    lister: &mut HeadLister,
+    goals: &[ProofGoal],
 ) -> Result<Option<Breach>, NoMemory>
-    requires count { length heads.now ≡ length sheet.now.goals.now }
-    requires fits { AllZip (λ g h. GoalFits (sheet_of sheet.now) g h path.old) sheet.now.goals.now heads.now }
-    requires lines { AllByRecursion LinesFit sheet.now.goals.now }
-    requires clear { IsClear path.old }
-    ensures { IfOk result (λ found. (types : List Row) (E : Definitions) (ls : List Lined) → Stands types E (goals_of ls) (sheet_of sheet.now) → AllZip (IsLinedAt types) sheet.now.goals.now ls → AllZip (AreGoalHeads types E) sheet.now.goals.now heads.now → option_map breach_of found ≡ first_wrong E ls) }
+    requires serves { Serves program.now lister.old }
+    requires belong { GoalsBelong (length program.now.types) goals.now }
+    requires trees { AllByRecursion AreTrees goals.now }
+    requires lines { AllByRecursion LinesFit goals.now }
+    ensures found { IfOk result (λ found. (ls : List Lined) → AreGoalsAt program.now.types goals.now ls → option_map breach_of found ≡ first_wrong (names_of (program_tree program.now)) ls) }
+    ensures serves { OnOk result (Serves program.now lister.new) }
 {
-    for at in 0..sheet.goals.len() {
-        if let Some(breach) = check_goal(alloc, sheet, &sheet.goals[at], &heads[at], path)? {
+    let mut path = Path::new(alloc);
+    for goal in goals {
+        if let Some(breach) = check_goal(alloc, program, lister, goals, goal, &mut path)? {
             return Ok(Some(breach));
         }
     }
@@ -69,27 +74,37 @@ pub(crate) fn check_goals(
 /// The first breach in a goal, if there is one.
 fn check_goal(
     alloc: Global,
-    sheet: &Sheet,
+    program: &Program,
+    lister: &mut HeadLister,
+    goals: &[ProofGoal],
     goal: &ProofGoal,
-    heads: &GoalHeads,
     path: &mut Path,
 ) -> Result<Option<Breach>, NoMemory>
-    requires fits { GoalFits (sheet_of sheet.now) goal.now heads.now path.old }
+    requires serves { Serves program.now lister.old }
+    requires belong { GoalsBelong (length program.now.types) goals.now }
+    requires here { GoalBelongs (length program.now.types) goal.now }
+    requires trees { AreTrees goal.now }
     requires lines { LinesFit goal.now }
     requires clear { IsClear path.old }
-    ensures found { IfOk result (λ found. (types : List Row) (E : Definitions) (gs : List Goal) (l : Lined) → Stands types E gs (sheet_of sheet.now) → IsLinedAt types goal.now l → AreGoalHeads types E goal.now heads.now → option_map breach_of found ≡ wrong_goal E gs l) }
+    ensures found { IfOk result (λ found. (gs : List Goal) (l : Lined) → AllZip (IsClaimAt program.now.types) goals.now gs → IsLinedAt program.now.types goal.now l → option_map breach_of found ≡ wrong_goal (names_of (program_tree program.now)) gs l) }
+    ensures serves { OnOk result (Serves program.now lister.new) }
     ensures clear { IfOk result (λ found. IfNone found (IsClear path.new)) }
-    ensures keeps { IfOk result (λ found. IfNone found (KeepsRoom path.old path.new)) }
 {
     let rights = goal.rights.as_slice();
     let line = goal.line + 2 + rights.len() as u64;
-    if !empty_stands(goal, sheet.empty_marks) {
+    if !empty_stands(goal, lister.empty_marks()) {
         return Ok(Some(Breach {
             line,
             reason: Reason::Empty,
         }));
     }
-    check_cases_of(alloc, sheet, goal, heads, line + empty_lines(goal), path)
+    let heads = goal_heads(alloc, program, lister, goal)?;
+    path.widen(lister.bound(), heads.rights.len())?;
+    let sheet = Sheet {
+        goals,
+        numbers: lister.numbers(),
+    };
+    check_cases_of(alloc, &sheet, goal, &heads, line + empty_lines(goal), path)
 }
 
 /// The number of lines on the empty document.
@@ -139,12 +154,11 @@ fn check_cases_of(
     requires fits { GoalFits (sheet_of sheet.now) goal.now heads.now path.old }
     requires lines { line + length goal.now.cases.items < 2 ^ 64 }
     requires clear { IsClear path.old }
-    ensures found { IfOk result (λ found. (types : List Row) (E : Definitions) (gs : List Goal) (g : Goal) → Stands types E gs (sheet_of sheet.now) → IsGoalAt types goal.now g → AreGoalHeads types E goal.now heads.now → option_map breach_of found ≡ wrong_cases E gs g line (wanted E g) g.cases) }
+    ensures found { IfOk result (λ found. (types : List Row) (cells : List Cell) (E : Definitions) (gs : List Goal) (g : Goal) → Stands types cells gs (sheet_of sheet.now) → IsGoalAt types goal.now g → AreGoalHeads types cells E goal.now heads.now → option_map breach_of found ≡ wrong_cases E gs g line (wanted E g) g.cases) }
     ensures clear { IfOk result (λ found. IfNone found (IsClear path.new)) }
-    ensures keeps { IfOk result (λ found. IfNone found (KeepsRoom path.old path.new)) }
 {
-    let contents = content_numbers(alloc, &heads.rights, sheet.numbers)?;
-    let rests = rest_numbers(alloc, &heads.rights, sheet.numbers)?;
+    let contents = content_numbers(alloc, &heads.rights)?;
+    let rests = rest_numbers(alloc, &heads.rights)?;
     let cases = Cases {
         goals: sheet.goals,
         numbers: sheet.numbers,
@@ -164,25 +178,23 @@ fn check_cases_of(
 }
 
 /// The numbers of the contents of heads.
-fn content_numbers(alloc: Global, heads: &[Head], numbers: &[usize]) -> Result<Vec<usize>, NoMemory>
-    requires { AllByRecursion (PartsThere (length numbers.now)) heads.now }
-    ensures { IfOk result (λ made. made.items ≡ map (λ (h : Head). number_at numbers.now h.content.at) heads.now) }
+fn content_numbers(alloc: Global, heads: &[NumberedHead]) -> Result<Vec<usize>, NoMemory>
+    ensures { IfOk result (λ made. made.items ≡ map (λ (h : NumberedHead). h.content) heads.now) }
 {
-    let mut made = Vec::new(alloc);
+    let mut made = Vec::with_capacity(alloc, heads.len())?;
     for head in heads {
-        made.push(numbers[head.content.at()])?;
+        made.push(head.content)?;
     }
     Ok(made)
 }
 
 /// Those of their rests.
-fn rest_numbers(alloc: Global, heads: &[Head], numbers: &[usize]) -> Result<Vec<usize>, NoMemory>
-    requires { AllByRecursion (PartsThere (length numbers.now)) heads.now }
-    ensures { IfOk result (λ made. made.items ≡ map (λ (h : Head). number_at numbers.now h.rest.at) heads.now) }
+fn rest_numbers(alloc: Global, heads: &[NumberedHead]) -> Result<Vec<usize>, NoMemory>
+    ensures { IfOk result (λ made. made.items ≡ map (λ (h : NumberedHead). h.rest) heads.now) }
 {
-    let mut made = Vec::new(alloc);
+    let mut made = Vec::with_capacity(alloc, heads.len())?;
     for head in heads {
-        made.push(numbers[head.rest.at()])?;
+        made.push(head.rest)?;
     }
     Ok(made)
 }

@@ -7,8 +7,6 @@ mod check;
 mod checker;
 mod heads;
 mod leaves;
-mod lists;
-mod numbers;
 mod path;
 mod verdict;
 mod walk;

@@ -1,6 +1,6 @@
 //! The path of a walk over a choice tree.
 
-ghost use Rattle.std.specs.Prelude.{◌≡◌, ◌+◌, ◌<◌, ◌^◌, ◌∷◌, ℕ, List, length, slice_index, IfOk, OnOk};
+ghost use Rattle.std.specs.Prelude.{◌≡◌, ◌+◌, ◌<◌, ◌^◌, [], ◌∷◌, ℕ, List, length, slice_index, IfOk, OnOk};
 ghost use Rattle.xd_proof_check.specs.Paths.{AreCounts, AreMarks, HasRoom, IsClear, IsPath, KeepsRoom, turned, turns_of};
 
 use std::alloc::Global;
@@ -43,20 +43,45 @@ fn uncount(counts: &mut Vec<usize>, number: usize)
     counts[number] -= 1;
 }
 
+/// Counts of nothing, up to this number at least.
+fn lengthen(counts: &mut Vec<usize>, most: usize) -> Result<(), NoMemory>
+    requires { AreCounts counts.old.items [] }
+    ensures counts { OnOk result (AreCounts counts.new.items []) }
+    ensures room { OnOk result (most < length counts.new.items) }
+{
+    if counts.len() <= most {
+        counts.resize(most, 0)?;
+        counts.push(0)?;
+    }
+    let _room = counts.len();
+    Ok(())
+}
+
 impl Path {
-    /// Without turns, with room for types of numbers below `limit` and for this many right heads.
-    pub(crate) fn new(alloc: Global, limit: usize, rights: usize) -> Result<Self, NoMemory>
-        ensures clear { IfOk result IsClear }
-        ensures content { IfOk result (λ path. length path.content.items ≡ limit) }
-        ensures rest { IfOk result (λ path. length path.rest.items ≡ limit) }
-        ensures split { IfOk result (λ path. length path.split.items ≡ rights) }
+    /// Without turns, and without room for any mark.
+    pub(crate) fn new(alloc: Global) -> Self
+        ensures { IsClear result }
     {
-        Ok(Self {
+        Self {
             turns: Vec::new(alloc),
-            content: vec![in alloc; 0; limit]?,
-            rest: vec![in alloc; 0; limit]?,
-            split: vec![in alloc; 0; rights]?,
-        })
+            content: Vec::new(alloc),
+            rest: Vec::new(alloc),
+            split: Vec::new(alloc),
+        }
+    }
+
+    /// Makes room for types of numbers up to `most` and for this many right heads.
+    pub(crate) fn widen(&mut self, most: usize, rights: usize) -> Result<(), NoMemory>
+        requires { IsClear self.old }
+        ensures clear { OnOk result (IsClear self.new) }
+        ensures content { OnOk result (most < length self.new.content.items) }
+        ensures rest { OnOk result (most < length self.new.rest.items) }
+        ensures split { OnOk result (rights < length self.new.split.items) }
+    {
+        lengthen(&mut self.content, most)?;
+        lengthen(&mut self.rest, most)?;
+        lengthen(&mut self.split, rights)?;
+        Ok(())
     }
 
     /// Goes to this side of a split on this right head.

@@ -10,6 +10,7 @@ ghost use Rattle.xd_proof_lines.specs.Steps.{steps_of};
 ghost use Rattle.xd_proof_lines.specs.declared.steps.Step.TheVariants as steps;
 ghost use Rattle.xd_proof_lines.specs.Cases.{atom_of};
 ghost use Rattle.xd_syntax.specs.Table.{Row};
+ghost use Rattle.xd_heads.specs.Cells.{Cell};
 ghost use Rattle.xd_proof_check.specs.Atoms.{kinds_of};
 ghost use Rattle.xd_proof_check.specs.Corresponds.{Corresponds};
 ghost use Rattle.xd_proof_check.specs.Paths.{HasRoom, IsClear, IsPath, KeepsRoom, turns_of};
@@ -21,7 +22,7 @@ use crate::leaves::{leaf_stands, numbered};
 use crate::path::{Path, Turn};
 use crate::verdict::Reason;
 use xd_doc::NoMemory;
-use xd_heads::Head;
+use xd_heads::NumberedHead;
 use xd_proof::ProofGoal;
 use xd_proof_lines::{Atom, Step};
 
@@ -32,7 +33,7 @@ pub(crate) struct Setting<'a> {
     /// The number of each type of the program.
     pub numbers: &'a [usize],
     pub atom: &'a Atom,
-    pub rights: &'a [Head],
+    pub rights: &'a [NumberedHead],
     /// The numbers of the contents and of the rests of these heads.
     pub contents: &'a [usize],
     pub rests: &'a [usize],
@@ -52,7 +53,7 @@ pub(crate) fn check_tree(
 ) -> Result<Option<Reason>, NoMemory>
     requires setting { IsSetting (setting_of setting.now) path.old }
     requires clear { IsClear path.old }
-    ensures found { IfOk result (λ found. (types : List Row) (gs : List Goal) (left : laws.Head) (hs : List laws.Head) (t : ChoiceTree) → Corresponds types (setting_of setting.now) left hs gs → steps.now ≡ steps_of t → option_map reason_of found ≡ wrong_tree gs (setting_of setting.now).atom left hs t) }
+    ensures found { IfOk result (λ found. (types : List Row) (cells : List Cell) (gs : List Goal) (left : laws.Head) (hs : List laws.Head) (t : ChoiceTree) → Corresponds types cells (setting_of setting.now) left hs gs → steps.now ≡ steps_of t → option_map reason_of found ≡ wrong_tree gs (setting_of setting.now).atom left hs t) }
     ensures clear { IfOk result (λ found. (t : ChoiceTree) → steps.now ≡ steps_of t → IfNone found (IsClear path.new)) }
     ensures keeps { IfOk result (λ found. IfNone found (KeepsRoom path.old path.new)) }
 {

@@ -29,13 +29,13 @@ loop-one-init c = (
 )
 
 pub add_move-requires-clause-nodes : goal.add_move-requires-clause-nodes
-add_move-requires-clause-nodes c = c.loop-one.invariant.0.adds.cells_added.nodes (c.in_ok-found.ensures.cells.nodes c.requires.nodes)
+add_move-requires-clause-nodes c = c.loop-one.invariant.0.adds.cells_added.nodes (c.in_ok-found.ensures.moves.cells.nodes c.requires.nodes)
 
 pub add_move-requires-clause-found : goal.add_move-requires-clause-found
 unfolding no_move
 add_move-requires-clause-found c =
     let types = c.args.types.now in
-    let stand = subst (AllByRecursion (IsFound types c.expand.new.cells)) (sym c.deref-one-items.ensures.value) c.in_ok-found.ensures.stand in
+    let stand = subst (AllByRecursion (IsFound types c.expand.new.cells)) (sym c.deref-one-items.ensures.value) c.in_ok-found.ensures.moves.stand in
     still_found types c.expand.new.cells c.loop-one.cells (get_or c.deref-one-items.result.now c.loop-one.one-index no_move) c.loop-one.invariant.0.adds.cells_added.kept
     (found_at types c.expand.new.cells c.deref-one-items.result.now c.loop-one.one-index no_move stand c.loop-one-test.true)
 
@@ -51,7 +51,7 @@ loop-one-preserved c =
     let types = c.args.types.now in
     let fs = c.deref-one-items.result.now in
     let i = c.loop-one.one-index in
-    let stand = subst (AllByRecursion (IsFound types c.expand.new.cells)) (sym c.deref-one-items.ensures.value) c.in_ok-found.ensures.stand in (
+    let stand = subst (AllByRecursion (IsFound types c.expand.new.cells)) (sym c.deref-one-items.ensures.value) c.in_ok-found.ensures.moves.stand in (
       subst (IsAdding types c.args.defs.now c.expand.new.cells c.add_move.new.cells c.args.states.now c.add_move.new.states c.args.auto.now c.add_move.new.auto c.args.from) (sym (take_more fs i no_move c.loop-one-test.true))
           (adding_more types c.args.defs.now c.expand.new.cells c.loop-one.cells c.add_move.new.cells c.args.states.now c.loop-one.states c.add_move.new.states
           c.args.auto.now c.loop-one.auto' c.add_move.new.auto c.args.from (take i fs) (get_or fs i no_move)
@@ -69,5 +69,5 @@ returns-clause-moves c =
     let t = c.loop-one-test.false in
     let e = take_all c.loop-one.one-index c.deref-one-items.result.now t ∙ c.deref-one-items.ensures.value in
     moves_added types c.args.defs.now c.args.cells.now c.expand.new.cells c.loop-one.cells c.args.states.now c.loop-one.states c.args.auto.now c.loop-one.auto' c.args.from c.args.number
-    c.in_ok-found.found.items c.requires.number c.in_ok-found.ensures
+    c.in_ok-found.found.items c.requires.number c.in_ok-found.ensures.moves
     (subst (IsAdding types c.args.defs.now c.expand.new.cells c.loop-one.cells c.args.states.now c.loop-one.states c.args.auto.now c.loop-one.auto' c.args.from) e c.loop-one.invariant.0) c.requires.from

@@ -16,24 +16,24 @@ compile-requires-clause-compiled c =
     let good : IsOfState types (pieces T) = (pieces_stand T c.requires.merged_part, λ s. subst (λ U. depth U ≤ nesting_limit) (sym (seq_of-pieces T c.requires.merged_part)) (s c.args.part.at c.requires.part)) in
     subst (λ n. AreCompiled types c.args.defs.now c.content.new.cells c.state_of.new.states c.state_of.new.auto n []) (sym c.len-first.ensures.count)
     (type_started types c.args.defs.now c.args.cells.now c.content.new.cells c.args.states.now c.state_of.new.states c.args.auto.now c.state_of.new.auto (pieces (tree_at types c.args.part.at))
-    c.in_ok-inside.inside c.in_ok-state.state good c.in_ok-inside.ensures c.in_ok-state.ensures.got c.requires.compiled)
+    c.in_ok-inside.inside c.in_ok-state.state good c.in_ok-inside.ensures.content c.in_ok-state.ensures.got c.requires.compiled)
 
 pub compile-requires-clause-behind : goal.compile-requires-clause-behind
 compile-requires-clause-behind c =
     subst (λ n. AreContinuationsFrom n c.state_of.new.states) (sym c.len-first.ensures.count)
     (type_behind c.args.types.now c.args.defs.now c.content.new.cells c.args.states.now c.state_of.new.states c.args.auto.now c.state_of.new.auto
-    c.in_ok-inside.inside c.in_ok-state.state c.in_ok-inside.ensures.within c.in_ok-state.ensures.got).0
+    c.in_ok-inside.inside c.in_ok-state.state c.in_ok-inside.ensures.content.within c.in_ok-state.ensures.got).0
 
 pub compile-requires-clause-bounded : goal.compile-requires-clause-bounded
 compile-requires-clause-bounded c =
-    type_bounded c.args.types.now c.args.defs.now c.args.cells.now c.content.new.cells c.args.part.at c.in_ok-inside.inside c.requires.part c.in_ok-inside.ensures
+    type_bounded c.args.types.now c.args.defs.now c.args.cells.now c.content.new.cells c.args.part.at c.in_ok-inside.inside c.requires.part c.in_ok-inside.ensures.content
     c.requires.tail c.requires.stand c.requires.bounded
 
 pub returns-clause-continuation : goal.returns-clause-continuation
 returns-clause-continuation c =
     type_continues c.args.types.now c.args.defs.now c.args.cells.now c.content.new.cells c.compile.new.cells c.args.states.now c.state_of.new.states c.compile.new.states
     c.args.auto.now c.state_of.new.auto c.compile.new.auto (pieces (tree_at c.args.types.now c.args.part.at)) c.in_ok-inside.inside c.in_ok-state.state
-    c.in_ok-inside.ensures c.in_ok-state.ensures.got c.in_ok-compile.ensures.compiled
+    c.in_ok-inside.ensures.content c.in_ok-state.ensures.got c.in_ok-compile.ensures.compiled
 
 pub returns-clause-accepts : goal.returns-clause-accepts
 returns-clause-accepts c d =
@@ -41,10 +41,10 @@ returns-clause-accepts c d =
     c.compile.new.auto c.args.part.at c.in_ok-state.state c.requires.merged_part c.in_ok-compile.ensures.compiled
     (type_continues c.args.types.now c.args.defs.now c.args.cells.now c.content.new.cells c.compile.new.cells c.args.states.now c.state_of.new.states c.compile.new.states
     c.args.auto.now c.state_of.new.auto c.compile.new.auto (pieces (tree_at c.args.types.now c.args.part.at)) c.in_ok-inside.inside c.in_ok-state.state
-    c.in_ok-inside.ensures c.in_ok-state.ensures.got c.in_ok-compile.ensures.compiled) d
+    c.in_ok-inside.ensures.content c.in_ok-state.ensures.got c.in_ok-compile.ensures.compiled) d
 
 pub returns-clause-compiled : goal.returns-clause-compiled
 returns-clause-compiled c =
     type_compiled c.args.types.now c.args.defs.now c.args.cells.now c.content.new.cells c.compile.new.cells c.args.states.now c.state_of.new.states c.compile.new.states
-    c.args.auto.now c.state_of.new.auto c.compile.new.auto c.args.part.at c.in_ok-inside.inside c.in_ok-state.state c.requires.part c.in_ok-inside.ensures c.in_ok-state.ensures.got
+    c.args.auto.now c.state_of.new.auto c.compile.new.auto c.args.part.at c.in_ok-inside.inside c.in_ok-state.state c.requires.part c.in_ok-inside.ensures.content c.in_ok-state.ensures.got
     c.in_ok-compile.ensures.compiled

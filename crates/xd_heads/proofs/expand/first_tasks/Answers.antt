@@ -2,7 +2,8 @@ use Rattle.std.proofs.Common.{◌≡◌, ◌<◌, true, false, cond, length, ari
 use Rattle.std.specs.List.{AllByRecursion}
 use Rattle.xd_laws.specs.CanBeEmpty.{can_be_empty}
 use Rattle.xd_syntax.specs.TypeNames.{meanings}
-use Rattle.xd_heads.specs.Found.{IsTask, piece_tree, waiting_at}
+use Rattle.xd_pieces.specs.Pieces.{piece_tree}
+use Rattle.xd_heads.specs.Found.{IsTask, waiting_at}
 use Rattle.xd_heads.specs.Cells.{Cell}
 use Rattle.xd_continuations.proofs.Reaching.{all_among}
 use Rattle.xd_heads.proofs.Working.{AreFirstTasks, first_more, first_all, all_reversed}

@@ -2,7 +2,7 @@ use Rattle.std.proofs.Common.{cond, ap, sym, ◌∙◌}
 use Rattle.xd_laws.specs.CanBeEmpty.{can_be_empty}
 use Rattle.xd_syntax.specs.Table.{tree_at}
 use Rattle.xd_syntax.specs.TypeNames.{meanings}
-use Rattle.xd_heads.specs.Found.{turns_of}
+use Rattle.xd_pieces.specs.Pieces.{turns_of}
 use Rattle.xd_heads.proofs.Working.{plus_empty}
 use Rattle.xd_heads.proofs.expand.is_empty.Goals as goal
 

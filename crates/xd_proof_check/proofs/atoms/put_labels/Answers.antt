@@ -1,7 +1,7 @@
 use Rattle.std.proofs.Common.{List, arith, flat_map, subst}
 use Rattle.std.proofs.lemmas.List.{take_all}
 use Rattle.xd_laws.specs.Consistent.{labels_of}
-use Rattle.xd_heads.specs.declared.listing.Head.{Head}
+use Rattle.xd_heads.specs.declared.lister.NumberedHead.{NumberedHead}
 use Rattle.xd_proof_check.specs.Atoms.{kinds_of}
 use Rattle.xd_proof_check.specs.Names.{AddsNames}
 use Rattle.xd_proof_check.proofs.NameLemmas.{adds_head, adds_none}
@@ -17,5 +17,5 @@ loop-head-init c = adds_none c.args.labels.now.keys
 
 pub returns : goal.returns
 returns c =
-    subst (λ (hs : List Head). AddsNames c.args.labels.now.keys (flat_map labels_of (kinds_of hs)) c.loop-head.labels.keys)
+    subst (λ (hs : List NumberedHead). AddsNames c.args.labels.now.keys (flat_map labels_of (kinds_of hs)) c.loop-head.labels.keys)
     (take_all c.loop-head.head-index c.args.heads.now (omega (arith, c.loop-head-test.false))) c.loop-head.invariant

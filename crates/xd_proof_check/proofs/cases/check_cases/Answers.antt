@@ -8,16 +8,16 @@ pub returns-then-at-cases-clause-found : goal.returns-then-at-cases-clause-found
 returns-then-at-cases-clause-found c =
     let v = cases_of c.args.cases.now in
     let at = c.loop-left.at in
-    λ types E gs g line m.
-    c.loop-left.invariant.found types E gs g line m
-    ∙ ap (λ ws. wrong_cases E gs g (line + at) ws (drop at g.cases)) (heads_done types E gs g v c.args.path.now c.requires.fit m c.loop-left.left (omega (arith, c.loop-left-test.false)))
-    ∙ cases_left types E gs g v c.args.path.now c.requires.fit m at (line + at) c.if-at-cases.true
+    λ types cells E gs g line m.
+    c.loop-left.invariant.found types cells E gs g line m
+    ∙ ap (λ ws. wrong_cases E gs g (line + at) ws (drop at g.cases)) (heads_done types cells E gs g v c.args.path.now c.requires.fit m c.loop-left.left (omega (arith, c.loop-left-test.false)))
+    ∙ cases_left types cells E gs g v c.args.path.now c.requires.fit m at (line + at) c.if-at-cases.true
 
 pub returns-clause-found : goal.returns-clause-found
 returns-clause-found c =
     let v = cases_of c.args.cases.now in
     let at = c.loop-left.at in
-    λ types E gs g line m.
-    c.loop-left.invariant.found types E gs g line m
-    ∙ ap (λ ws. wrong_cases E gs g (line + at) ws (drop at g.cases)) (heads_done types E gs g v c.args.path.now c.requires.fit m c.loop-left.left (omega (arith, c.loop-left-test.false)))
-    ∙ cases_done types E gs g v c.args.path.now c.requires.fit m at (line + at) c.if-at-cases.false
+    λ types cells E gs g line m.
+    c.loop-left.invariant.found types cells E gs g line m
+    ∙ ap (λ ws. wrong_cases E gs g (line + at) ws (drop at g.cases)) (heads_done types cells E gs g v c.args.path.now c.requires.fit m c.loop-left.left (omega (arith, c.loop-left-test.false)))
+    ∙ cases_done types cells E gs g v c.args.path.now c.requires.fit m at (line + at) c.if-at-cases.false

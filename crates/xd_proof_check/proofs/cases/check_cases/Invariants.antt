@@ -4,6 +4,7 @@ use Rattle.xd_syntax.specs.Tree.{Definitions}
 use Rattle.xd_laws.specs.Consistent.{Goal, atoms_from, named, wanted}
 use Rattle.xd_laws.specs.Heads.{heads}
 use Rattle.xd_laws.proofs.FirstWrong.{wrong_cases}
+use Rattle.xd_heads.specs.Cells.{Cell}
 use Rattle.xd_proof_check.specs.CaseWalk.{CasesFit, Meets, cases_of}
 use Rattle.xd_proof_check.specs.Paths.{IsClear, KeepsRoom}
 use Rattle.xd_proof_check.proofs.cases.check_cases.Given as goal
@@ -14,7 +15,7 @@ invariant-loop-left l = record {
   clear : IsClear l.path;
   within : l.at ≤ length l.cases.cases.now;
   keeps : KeepsRoom l.initial.path l.path;
-  found : (types : List Row) (E : Definitions) (gs : List Goal) (g : Goal) (line : ℕ) → Meets types E gs g (cases_of l.cases) →
+  found : (types : List Row) (cells : List Cell) (E : Definitions) (gs : List Goal) (g : Goal) (line : ℕ) → Meets types cells E gs g (cases_of l.cases) →
       wrong_cases E gs g line (wanted E g) g.cases
       ≡ wrong_cases E gs g (line + l.at) (atoms_from (named E g) (l.left + 1) (drop l.left (heads E g.left))) (drop l.at g.cases);
 }

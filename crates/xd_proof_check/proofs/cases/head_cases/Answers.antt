@@ -19,14 +19,14 @@ returns-in-Some-clause-found c =
     let i = c.loop-atom.atom-index in
     let a = c.atom-item.result in
     let at = c.loop-atom.at in
-    λ types E gs g line m.
+    λ types cells E gs g line m.
     let rest = atoms_from (laws.named E g) (left + 1 + 1) (drop (left + 1) (heads E g.left)) in
     ap (λ ws. wrong_cases E gs g (line + c.args.at) ws (drop c.args.at g.cases))
-    (head_start types E gs g v c.args.path.now c.requires.fit m c.args.named.now c.requires.named left c.index-cases-left.result c.requires.left c.in_ok-atoms.atoms.items items c.in_ok-atoms.ensures
+    (head_start types cells E gs g v c.args.path.now c.requires.fit m c.args.named.now c.requires.named left c.index-cases-left.result c.requires.left c.in_ok-atoms.atoms.items items c.in_ok-atoms.ensures
     c.deref-atom-items.ensures.value)
-    ∙ c.loop-atom.invariant.found types E gs g line rest m
+    ∙ c.loop-atom.invariant.found types cells E gs g line rest m
     ∙ ap (λ ws. wrong_cases E gs g (line + at) ws (drop at g.cases)) (wanted_next (left + 1) items i a rest c.loop-atom-test.true c.atom-item.is)
-    ∙ c.in_ok-reason.ensures.found types E gs g (line + at) (wanted_of (left + 1) (drop (suc i) items) ++ rest) m
+    ∙ c.in_ok-reason.ensures.found types cells E gs g (line + at) (wanted_of (left + 1) (drop (suc i) items) ++ rest) m
     ∙ ap (λ o. wrong_after (line + at) o (wrong_cases E gs g (line + at + 1) (wanted_of (left + 1) (drop (suc i) items) ++ rest) (drop (at + 1) g.cases))) c.in-Some.is
 
 pub returns-clause-found : goal.returns-clause-found
@@ -36,10 +36,10 @@ returns-clause-found c =
     let items = c.deref-atom-items.result.now in
     let i = c.loop-atom.atom-index in
     let at = c.loop-atom.at in
-    λ types E gs g line m.
+    λ types cells E gs g line m.
     let rest = atoms_from (laws.named E g) (left + 1 + 1) (drop (left + 1) (heads E g.left)) in
     ap (λ ws. wrong_cases E gs g (line + c.args.at) ws (drop c.args.at g.cases))
-    (head_start types E gs g v c.args.path.now c.requires.fit m c.args.named.now c.requires.named left c.index-cases-left.result c.requires.left c.in_ok-atoms.atoms.items items c.in_ok-atoms.ensures
+    (head_start types cells E gs g v c.args.path.now c.requires.fit m c.args.named.now c.requires.named left c.index-cases-left.result c.requires.left c.in_ok-atoms.atoms.items items c.in_ok-atoms.ensures
     c.deref-atom-items.ensures.value)
-    ∙ c.loop-atom.invariant.found types E gs g line rest m
+    ∙ c.loop-atom.invariant.found types cells E gs g line rest m
     ∙ ap (λ xs. wrong_cases E gs g (line + at) (wanted_of (left + 1) xs ++ rest) (drop at g.cases)) (drop_all i items (omega (arith, c.loop-atom-test.false)))

@@ -3,6 +3,7 @@ use Rattle.xd_syntax.specs.Table.{Row}
 use Rattle.xd_syntax.specs.Tree.{Definitions}
 use Rattle.xd_laws.specs.Consistent.{Goal, HeadAtom}
 use Rattle.xd_laws.proofs.FirstWrong.{wrong_cases}
+use Rattle.xd_heads.specs.Cells.{Cell}
 use Rattle.xd_proof_check.specs.CaseWalk.{CasesFit, Meets, cases_of}
 use Rattle.xd_proof_check.specs.Paths.{IsClear, KeepsRoom}
 use Rattle.xd_proof_check.proofs.CaseLemmas.{wanted_of}
@@ -14,7 +15,7 @@ invariant-loop-atom l = record {
   clear : IsClear l.path;
   within : l.at ≤ length l.cases.cases.now;
   keeps : KeepsRoom l.initial.path l.path;
-  found : (types : List Row) (E : Definitions) (gs : List Goal) (g : Goal) (line : ℕ) (ws : List HeadAtom) → Meets types E gs g (cases_of l.cases) →
+  found : (types : List Row) (cells : List Cell) (E : Definitions) (gs : List Goal) (g : Goal) (line : ℕ) (ws : List HeadAtom) → Meets types cells E gs g (cases_of l.cases) →
       wrong_cases E gs g (line + l.initial.at) (wanted_of (l.left + 1) l.atom-items ++ ws) (drop l.initial.at g.cases)
       ≡ wrong_cases E gs g (line + l.at) (wanted_of (l.left + 1) (drop l.atom-index l.atom-items) ++ ws) (drop l.at g.cases);
 }

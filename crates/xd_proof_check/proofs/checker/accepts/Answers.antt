@@ -1,53 +1,48 @@
-use Rattle.std.proofs.Common.{◌∙◌, length, ap, sym, subst}
-use Rattle.std.specs.List.{AllZip}
+use Rattle.std.proofs.Common.{◌≡◌, ◌∙◌, List, length, ap, sym, subst}
+use Rattle.std.specs.List.{AllByRecursion}
+use Rattle.std.specs.Option.{option_map}
 use Rattle.xd_syntax.specs.Kept.{ProgramTable, program_tree}
 use Rattle.xd_syntax.specs.Program.{names_of}
 use Rattle.xd_syntax.specs.RecursionFaults.{IsSound}
-use Rattle.xd_proof_check.specs.GoalHeads.{AreGoalHeads}
+use Rattle.xd_laws.proofs.FirstWrong.{first_wrong}
+use Rattle.xd_proof.specs.Goals.{AreGoalsAt}
+use Rattle.xd_proof.specs.declared.proof.ProofGoal.{ProofGoal}
+use Rattle.xd_proof_check.specs.GoalWalk.{AreTrees, breach_of}
 use Rattle.xd_proof_check.specs.Leaves.{GoalsBelong}
-use Rattle.xd_proof_check.proofs.AcceptLemmas.{accepted_is, belong_of, claims_hold, fits_of, fits_same, goals_stay, says_verdict}
+use Rattle.xd_proof_check.proofs.AcceptLemmas.{accepted_is, belong_of, claims_hold, goals_stay, says_verdict, trees_of}
 use Rattle.xd_proof_check.proofs.checker.accepts.Goals as goal
 
-pub all_heads-requires : goal.all_heads-requires
-all_heads-requires c =
-    let p = c.args.sound.now in
-    subst (λ gs. GoalsBelong (length p.types) gs) (sym c.goals.ensures.same) (belong_of p.types c.args.proof.now c.requires.0 c.requires.1)
-
-pub check_proof-requires-clause-fits : goal.check_proof-requires-clause-fits
-check_proof-requires-clause-fits c =
-    let p = c.args.sound.now in
-    let q = c.all_heads.new.sound in
+pub check_goals-requires-clause-belong : goal.check_goals-requires-clause-belong
+check_goals-requires-clause-belong c =
+    let q = c.new.new.sound in
     let F = c.args.proof.now in
-    let ls = c.requires.0 in
-    let J = c.in_ok-heads.heads.items in
-    let N = c.in_ok-names.field-0.empty_marks.items in
-    let w = subst (λ gs. AllZip (AreGoalHeads q.types (names_of (program_tree p))) gs J) c.goals.ensures.same c.in_ok-heads.ensures.heads in
-    let z = goals_stay p.types q.types c.all_heads.ensures.grows.adds.types F ls c.requires.1 in
-    fits_same c.types-types.result.now q.types c.goals-2.result.now F c.deref.result.now J c.deref-2.result.now N
-    (c.types-types.ensures.types ∙ ap (λ (x : ProgramTable). x.types) (c.program.ensures.program ∙ c.take_known.ensures.same)) c.goals-2.ensures.same c.deref.ensures.value
-    c.deref-2.ensures.value
-    (fits_of q.types (names_of (program_tree p)) F ls J N z w c.in_ok-names.ensures.known.marked.count)
+    subst (λ (x : ProgramTable). GoalsBelong (length x.types) c.goals.result.now) (sym c.program.ensures.program)
+    (subst (GoalsBelong (length q.types)) (sym c.goals.ensures.same)
+    (belong_of q.types F c.requires.0 (goals_stay c.args.sound.now.types q.types c.new.ensures.adds.types F c.requires.0 c.requires.1)))
+
+pub check_goals-requires-clause-trees : goal.check_goals-requires-clause-trees
+check_goals-requires-clause-trees c =
+    subst (AllByRecursion AreTrees) (sym c.goals.ensures.same) (trees_of c.args.sound.now.types c.args.proof.now c.requires.0 c.requires.1)
 
 pub returns-clause-verdict : goal.returns-clause-verdict
 returns-clause-verdict c =
     let p = c.args.sound.now in
-    let q = c.all_heads.new.sound in
+    let q = c.new.new.sound in
     let F = c.args.proof.now in
-    let J = c.in_ok-heads.heads.items in
-    let N = c.in_ok-names.field-0.empty_marks.items in
-    let w = subst (λ gs. AllZip (AreGoalHeads q.types (names_of (program_tree p))) gs J) c.goals.ensures.same c.in_ok-heads.ensures.heads in
-    let s = subst (λ (x : ProgramTable). IsSound (program_tree x)) c.take_known.ensures.same c.program.ensures.sound in
-    says_verdict p q c.types-types.result.now c.goals-2.result.now F c.deref.result.now J c.deref-2.result.now N c.in_ok-verdict.verdict c.all_heads.ensures.grows s
-    c.in_ok-names.ensures.known.marked (c.types-types.ensures.types ∙ ap (λ (x : ProgramTable). x.types) (c.program.ensures.program ∙ c.take_known.ensures.same)) c.goals-2.ensures.same
-    c.deref.ensures.value c.deref-2.ensures.value w c.in_ok-verdict.ensures
+    says_verdict p q (names_of (program_tree p)) F c.verdict.result c.new.ensures.adds.types (ap names_of c.new.ensures.same)
+    (λ ls z.
+    c.verdict.ensures
+    ∙ subst (λ (x : ProgramTable). AreGoalsAt x.types F ls → option_map breach_of c.in_ok-found.found ≡ first_wrong (names_of (program_tree x)) ls) c.program.ensures.program
+    (subst (λ (gs : List ProofGoal). AreGoalsAt c.program.result.now.types gs ls → option_map breach_of c.in_ok-found.found ≡ first_wrong (names_of (program_tree c.program.result.now)) ls) c.goals.ensures.same
+    (c.in_ok-found.ensures.found ls)) z)
 
 pub returns-clause-accepted : goal.returns-clause-accepted
 returns-clause-accepted c =
     let p = c.args.sound.now in
-    λ ls z. accepted_is (names_of (program_tree p)) ls c.in_ok-verdict.verdict (returns-clause-verdict c ls z)
+    λ ls z. accepted_is (names_of (program_tree p)) ls c.verdict.result (returns-clause-verdict c ls z)
 
 pub returns-clause-holds : goal.returns-clause-holds
 returns-clause-holds c =
     let p = c.args.sound.now in
-    let s = subst (λ (x : ProgramTable). IsSound (program_tree x)) c.take_known.ensures.same c.program.ensures.sound in
-    λ ls z e. claims_hold (program_tree p) (subst IsSound c.all_heads.ensures.grows.same s) ls c.in_ok-verdict.verdict (returns-clause-verdict c ls z) e
+    let s = c.in_ok-lister.ensures.serves in
+    λ ls z e. claims_hold (program_tree p) (subst IsSound c.new.ensures.same s.sound) ls c.verdict.result (returns-clause-verdict c ls z) e

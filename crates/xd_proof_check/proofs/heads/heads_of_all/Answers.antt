@@ -1,30 +1,30 @@
+use Rattle.std.proofs.Common.{◌∙◌}
+use Rattle.xd_syntax.specs.Kept.{program_tree}
+use Rattle.xd_syntax.specs.Program.{names_of}
 use Rattle.xd_syntax.specs.declared.types.TypeId.{TypeId}
-use Rattle.xd_heads.proofs.Growing.{grows_then}
-use Rattle.xd_proof_check.proofs.HeadLemmas.{grown_by, listed_heads}
+use Rattle.xd_continuations.proofs.ChainLemmas.{kept_then}
+use Rattle.xd_proof_check.proofs.HeadLemmas.{heads_more}
 use Rattle.xd_proof_check.proofs.heads.heads_of_all.Goals as goal
 
 no_type : TypeId
 no_type = record { at = 0 }
 
-pub returns-in_err-more-clause-grows : goal.returns-in_err-more-clause-grows
-returns-in_err-more-clause-grows c =
-    grows_then c.args.sound.now c.loop-id.sound c.heads.new.sound c.loop-id.invariant.grows (grown_by c.loop-id.sound c.heads.new.sound c.heads.ensures.adds c.heads.ensures.same c.heads.ensures.shallow)
-
-pub returns-in_err-push_heads-clause-grows : goal.returns-in_err-push_heads-clause-grows
-returns-in_err-push_heads-clause-grows c =
-    grows_then c.args.sound.now c.loop-id.sound c.heads.new.sound c.loop-id.invariant.grows (grown_by c.loop-id.sound c.heads.new.sound c.heads.ensures.adds c.heads.ensures.same c.heads.ensures.shallow)
-
 pub loop-id-preserved : goal.loop-id-preserved
 unfolding no_type
 loop-id-preserved c =
-    let p = c.args.sound.now in
-    let q = c.loop-id.sound in
-    let r = c.heads.new.sound in
-    let b = grown_by q r c.heads.ensures.adds c.heads.ensures.same c.heads.ensures.shallow in
+    let p = c.args.program.now in
+    let v = c.loop-id.invariant in
+    let k = c.in_ok-more.ensures.keeps in
+    let old = c.loop-id.lister.cells in
+    let new = c.heads.new.self.cells in
     record {
       serves = c.in_ok-more.ensures.serves;
-      grows = grows_then p q r c.loop-id.invariant.grows b;
+      keeps = record {
+        cells = kept_then c.args.lister.now.cells old new v.keeps.cells k.cells;
+        numbers = k.numbers ∙ v.keeps.numbers;
+        marks = k.marks ∙ v.keeps.marks;
+      };
       heads =
-          listed_heads p q r c.args.types.now c.loop-id.id-index no_type c.loop-id.made.items c.push_heads.new.made.items c.in_ok-more.more.items c.loop-id.invariant.grows b c.requires.belong
-          c.loop-id-test.true c.loop-id.invariant.heads c.in_ok-more.ensures.heads c.in_ok-more.ensures.belong c.in_ok-push_heads.ensures;
+          heads_more p.types old new (names_of (program_tree p)) c.args.types.now c.loop-id.id-index no_type c.loop-id.made.items c.push_heads.new.made.items c.in_ok-more.more.items
+          k.cells c.loop-id-test.true v.heads c.in_ok-more.ensures.heads c.in_ok-push_heads.ensures;
     }

@@ -1,0 +1,23 @@
+use Rattle.std.proofs.Common.{get_or}
+use Rattle.xd_syntax.specs.Table.{tree_at}
+use Rattle.xd_heads.proofs.Numbering.{number_kept}
+use Rattle.xd_heads.proofs.lister.HeadLister.find.Goals as goal
+
+pub returns-clause-serves : goal.returns-clause-serves
+returns-clause-serves c =
+    let p = c.args.program.now in
+    let l = c.args.self.now in
+    let s = c.requires.serves in
+    let f = c.in_ok-found.ensures.found in
+    record {
+      sound = s.sound;
+      known = s.known;
+      any = s.any;
+      any_type = s.any_type;
+      firsts = s.firsts;
+      nodes = f.nodes;
+      links = c.len-count.ensures.links;
+      chosen = c.in_ok-found.ensures.chosen s.chosen;
+      count = s.count;
+      numbers = λ i h. number_kept p.types l.cells c.find_moves.new.cells f.kept (get_or l.numbers.items i 0) (tree_at p.types i) (s.numbers i h);
+    }

@@ -1,7 +1,0 @@
-use Rattle.std.proofs.Common.{◌≡◌, ◌++◌, map, take}
-use Rattle.xd_syntax.specs.Types.{type_numbers}
-use Rattle.xd_proof_check.specs.Numbers.{number_at}
-use Rattle.xd_proof_check.proofs.numbers.push_parts.Given as goal
-
-abbrev pub invariant-loop-part : goal.invariant-loop-part
-invariant-loop-part l = l.code.items ≡ l.initial.code.items ++ map (number_at l.numbers) (type_numbers (take l.part-index l.parts))
