@@ -12,18 +12,19 @@ use Rattle.xd_syntax.specs.declared.exprs.ExprId.{ExprId}
 use Rattle.xd_syntax.specs.declared.exprs.Clause.{Clause}
 use Rattle.std.specs.List.{AllByRecursion}
 use Rattle.xd_parse.specs.declared.joining.Items.{Items}
-use Rattle.xd_parse.specs.Merged.{merged_expression}
-use Rattle.xd_parse.specs.Pieces.{AreItems, expression_of}
-use Rattle.xd_parse.specs.declared.grammar.Nonterminal.{Nonterminal}
-use Rattle.xd_parse.specs.declared.grammar.Nonterminal.TheVariants as n
-use Rattle.xd_parse.specs.declared.grammar.Terminal.{Terminal}
-use Rattle.xd_parse.specs.declared.grammar.Terminal.TheVariants as t
-use Rattle.xd_parse.specs.Fits.{same}
-use Rattle.xd_parse.specs.Values.{Value, an_expression, word_expression}
-use Rattle.xd_parse.specs.Reading.{Reads, front_terminal}
+use Rattle.xd_trees.specs.Merged.{merged_expression}
+use Rattle.xd_parse.specs.Items.{AreItems, expression_of}
+use Rattle.xd_grammar.specs.declared.grammar.Nonterminal.{Nonterminal}
+use Rattle.xd_grammar.specs.declared.grammar.Nonterminal.TheVariants as n
+use Rattle.xd_grammar.specs.declared.grammar.Terminal.{Terminal}
+use Rattle.xd_grammar.specs.declared.grammar.Terminal.TheVariants as t
+use Rattle.xd_grammar.specs.Fits.{same}
+use Rattle.xd_trees.specs.Values.{Value, an_expression, word_expression}
+use Rattle.xd_trees.specs.Reading.{Reads, front_terminal}
 use Rattle.xd_parse.specs.Grows.{Grows}
-use Rattle.xd_parse.proofs.Derive.{same-other}
-use Rattle.xd_parse.proofs.Grown.{Grows-node, Grows-trans, KeepsRows-refl}
+use Rattle.xd_grammar.proofs.Derive.{same-other}
+use Rattle.xd_trees.proofs.Kept.{KeepsRows-refl}
+use Rattle.xd_parse.proofs.Grown.{Grows-node, Grows-trans}
 use Rattle.xd_parse.proofs.ExprRows.{item_none}
 
 pub if_ok : {X E : Type 0} (r : Result X E) (P : X → Type 0) → ((x : X) → P x) → IfOk r P

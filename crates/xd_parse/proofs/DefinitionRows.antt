@@ -13,22 +13,23 @@ use Rattle.xd_syntax.specs.FunctionRow.{FunctionRow}
 use Rattle.xd_syntax.specs.Kept.{ProgramTable, TypeDefStands, FunctionStands, ProgramStands, type_definition, parameter, function_definition, program_tree}
 use Rattle.xd_syntax.specs.declared.types.TypeDef.{TypeDef}
 use Rattle.xd_syntax.specs.declared.program.Param.{Param}
-use Rattle.xd_parse.specs.declared.grammar.Nonterminal.TheVariants as n
-use Rattle.xd_parse.specs.declared.grammar.Sort.TheVariants as sorts
-use Rattle.xd_parse.specs.declared.grammar.Symbol.TheVariants.{Token, Opening, Closed, Unless, Part}
-use Rattle.xd_parse.specs.declared.grammar.Terminal.{Terminal}
-use Rattle.xd_parse.specs.declared.grammar.Terminal.TheVariants as t
-use Rattle.xd_parse.specs.Grammar.{Row, rules}
-use Rattle.xd_parse.specs.Fits.{same, first_fit}
-use Rattle.xd_parse.specs.Values.{Value, word, a_tree, an_expression, a_parameter, parameters, definitions, token_of}
-use Rattle.xd_parse.specs.Reading.{Reads, front_terminal, front_place, front_text, behind}
+use Rattle.xd_grammar.specs.declared.grammar.Nonterminal.TheVariants as n
+use Rattle.xd_grammar.specs.declared.grammar.Sort.TheVariants as sorts
+use Rattle.xd_grammar.specs.declared.grammar.Symbol.TheVariants.{Token, Opening, Closed, Unless, Part}
+use Rattle.xd_grammar.specs.declared.grammar.Terminal.{Terminal}
+use Rattle.xd_grammar.specs.declared.grammar.Terminal.TheVariants as t
+use Rattle.xd_grammar.specs.Grammar.{Row, rules}
+use Rattle.xd_grammar.specs.Fits.{same, first_fit}
+use Rattle.xd_trees.specs.Values.{Value, word, a_tree, an_expression, a_parameter, parameters, definitions, token_of}
+use Rattle.xd_trees.specs.Reading.{Reads, front_terminal, front_place, front_text, behind}
 use Rattle.xd_parse.specs.Definitions.{in_front, one_type, one_function, ReadsInFront, ReadsParameters}
 use Rattle.xd_parse.specs.Grows.{Grows}
-use Rattle.xd_parse.specs.Shallow.{NoDeeper, TreeWithin, ParametersWithin, DefinitionsWithin}
-use Rattle.xd_parse.proofs.Derive.{same-true}
-use Rattle.xd_parse.proofs.Grown.{IsPattern-more, IsExpr-more, same_pattern, same_expression, Grows-refl}
-use Rattle.xd_parse.proofs.AddedDepth.{deeper_both}
-use Rattle.xd_parse.proofs.Rows.{MeansView, means_view, ReadsRow, row_end, row_token, row_opening, row_closed, row_unless, row_part, part_one, part_fit, part_none}
+use Rattle.xd_trees.specs.Shallow.{NoDeeper, TreeWithin, ParametersWithin, DefinitionsWithin}
+use Rattle.xd_grammar.proofs.Derive.{same-true}
+use Rattle.xd_trees.proofs.Kept.{IsPattern-more}
+use Rattle.xd_parse.proofs.Grown.{IsExpr-more, same_pattern, same_expression, Grows-refl}
+use Rattle.xd_trees.proofs.AddedDepth.{deeper_both}
+use Rattle.xd_trees.proofs.Rows.{MeansView, means_view, ReadsRow, row_end, row_token, row_opening, row_closed, row_unless, row_part, part_one, part_fit, part_none}
 
 -- ---- what is left behind a token
 pub behind_less : (from next : List Lexeme) → next ≡ behind from → length next ≤ length from

@@ -1,22 +1,21 @@
 -- What the rows of expressions read.
-use Rattle.std.proofs.Common.{◌≡◌, ◌<◌, ◌≤◌, ◌-◌, arith, true, false, List, [], ◌∷◌, Some, None, length, take, refl, sym, subst}
+use Rattle.std.proofs.Common.{◌≡◌, ◌-◌, true, false, List, [], ◌∷◌, Some, None, length, take, refl}
 use Rattle.xd_lex.specs.Tokens.{Lexeme}
 use Rattle.xd_lex.specs.Spelled.{unescaped}
 use Rattle.xd_syntax.specs.Placed.{PlacedTree}
 use Rattle.xd_syntax.specs.Expression.{Expression, Nothing, Quoted, Tagged, Matched, Clauses, no_clause, clause}
-use Rattle.xd_parse.specs.declared.grammar.Nonterminal.{Nonterminal}
-use Rattle.xd_parse.specs.declared.grammar.Nonterminal.TheVariants as n
-use Rattle.xd_parse.specs.declared.grammar.Sort.TheVariants as sorts
-use Rattle.xd_parse.specs.declared.grammar.Symbol.TheVariants.{Token, Opening, Closed, Unless, Part}
-use Rattle.xd_parse.specs.declared.grammar.Terminal.{Terminal}
-use Rattle.xd_parse.specs.declared.grammar.Terminal.TheVariants as t
-use Rattle.xd_parse.specs.Grammar.{Row, rules}
-use Rattle.xd_parse.specs.Fits.{same, first_fit}
-use Rattle.xd_parse.specs.Merged.{sequence_of_expressions}
-use Rattle.xd_parse.specs.Values.{Value, token_of, absent, a_tree, an_expression, expressions, a_clause, clauses, word_expression, value_of}
-use Rattle.xd_parse.specs.Reading.{Reads, front_terminal, front_place, front_text, behind}
-use Rattle.xd_parse.proofs.Derive.{same-refl}
-use Rattle.xd_parse.proofs.Rows.{front_same, ReadsRow, row_end, row_token, row_opening, row_closed, row_unless, row_part, part_one, part_fit, part_none}
+use Rattle.xd_grammar.specs.declared.grammar.Nonterminal.{Nonterminal}
+use Rattle.xd_grammar.specs.declared.grammar.Nonterminal.TheVariants as n
+use Rattle.xd_grammar.specs.declared.grammar.Sort.TheVariants as sorts
+use Rattle.xd_grammar.specs.declared.grammar.Symbol.TheVariants.{Token, Opening, Closed, Unless, Part}
+use Rattle.xd_grammar.specs.declared.grammar.Terminal.{Terminal}
+use Rattle.xd_grammar.specs.declared.grammar.Terminal.TheVariants as t
+use Rattle.xd_grammar.specs.Grammar.{Row, rules}
+use Rattle.xd_grammar.specs.Fits.{same, first_fit}
+use Rattle.xd_trees.specs.Merged.{sequence_of_expressions}
+use Rattle.xd_trees.specs.Values.{Value, token_of, absent, a_tree, an_expression, expressions, a_clause, clauses, word_expression, value_of}
+use Rattle.xd_trees.specs.Reading.{Reads, front_terminal, front_place, front_text, behind}
+use Rattle.xd_trees.proofs.Rows.{front_same, ReadsRow, row_end, row_token, row_opening, row_closed, row_unless, row_part, part_one, part_fit, part_none}
 
 -- the value of the next token as this terminal
 abbrev as_token : Terminal → List Lexeme → Value
@@ -161,15 +160,3 @@ clauses_more c m to P e cs h r s =
     part_fit n.MoreClauses (Token t.Bar ∷ Part n.Clause ∷ Part n.MoreClauses ∷ []) c to (as_token t.Bar c ∷ a_clause P e ∷ clauses cs ∷ []) refl (rw k refl)
     (row_token t.Bar (Part n.Clause ∷ Part n.MoreClauses ∷ []) c to (a_clause P e ∷ clauses cs ∷ [])
     (row_part n.Clause (Part n.MoreClauses ∷ []) (behind c) m to (a_clause P e) (clauses cs ∷ []) r (one_part n.MoreClauses m to (clauses cs) s)))
-
--- ---- how many tokens are left
-pub behind_le : (c : List Lexeme) → length (behind c) ≤ length c
-behind_le [] = omega arith
-behind_le (l ∷ ls) = omega arith
-
-pub next_lt : (k : Terminal) (c : List Lexeme) → same k t.Broken ≡ false → front_terminal c ≡ k → length (behind c) < length c
-next_lt k [] h e = let f : same k t.Broken ≡ true = subst (λ (x : Terminal). same k x ≡ true) (sym e) (same-refl k) in cc
-next_lt k (l ∷ ls) h e = omega arith
-
-pub next_lt_at : (k : Terminal) (c : List Lexeme) → same k t.Broken ≡ false → same k (front_terminal c) ≡ true → length (behind c) < length c
-next_lt_at k c h e = next_lt k c h (front_same k c e)

@@ -7,6 +7,7 @@ use Rattle.xd_syntax.specs.Table.{Row, KeepsRows}
 use Rattle.xd_syntax.specs.Expression.{Expression, ExprRow, ExprShape, empty_shape, text_shape, var_shape, elem_shape, seq_shape, call_shape, match_shape, clauses_of, shape_expression, expression_in, expressions_after, expression_at, KeepsExprs, ShapePatternsBelong, PatternsBelong}
 use Rattle.xd_syntax.proofs.PlacedTrees.{placed_kept}
 use Rattle.xd_syntax.proofs.ExprTrees.{expression_kept}
+use Rattle.xd_trees.proofs.Kept.{KeepsRows-refl, KeepsRows-trans}
 use Rattle.xd_parse.specs.Grows.{Grows}
 
 -- ---- more patterns
@@ -40,23 +41,11 @@ belong_push n [] r a b = (b, tt)
 belong_push n (q ∷ rs) r a b = (a.0, belong_push n rs r a.1 b)
 
 -- ---- how tables grow
-pub KeepsRows-refl : (ps : List Row) → KeepsRows ps ps
-KeepsRows-refl ps = record { more = []; grown = sym (append-nil ps) }
-
-pub KeepsRows-trans : (ps qs rs : List Row) → KeepsRows ps qs → KeepsRows qs rs → KeepsRows ps rs
-KeepsRows-trans ps qs rs a b = record { more = a.more ++ b.more; grown = b.grown ∙ ap (λ xs. xs ++ b.more) a.grown ∙ append_assoc ps a.more b.more }
-
 pub KeepsExprs-refl : (es : List ExprRow) → KeepsExprs es es
 KeepsExprs-refl es = record { more = []; grown = sym (append-nil es) }
 
 pub KeepsExprs-trans : (es fs gs : List ExprRow) → KeepsExprs es fs → KeepsExprs fs gs → KeepsExprs es gs
 KeepsExprs-trans es fs gs a b = record { more = a.more ++ b.more; grown = b.grown ∙ ap (λ xs. xs ++ b.more) a.grown ∙ append_assoc es a.more b.more }
-
-below_more : (ps qs : List Row) (i : ℕ) → KeepsRows ps qs → i < length ps → i < length qs
-below_more ps qs i k h = let e = ap length k.grown in omega (arith, length-append ps k.more, e)
-
-pub IsPattern-more : (ps qs : List Row) (i : ℕ) → KeepsRows ps qs → i < length ps → i < length qs
-IsPattern-more ps qs i k h = below_more ps qs i k h
 
 pub IsExpr-more : (es fs : List ExprRow) (i : ℕ) → KeepsExprs es fs → i < length es → i < length fs
 IsExpr-more es fs i k h = let e = ap length k.grown in omega (arith, length-append es k.more, e)

@@ -10,7 +10,7 @@ use Rattle.xd_syntax.specs.Expression.{Expression, Nothing, Joined, place_of_exp
 use Rattle.xd_syntax.specs.Exprs.{expression, expr_numbers}
 use Rattle.xd_syntax.specs.declared.exprs.ExprId.{ExprId}
 use Rattle.xd_syntax.proofs.ExprTrees.{expression_kept, expression_new}
-use Rattle.xd_parse.specs.Merged.{parts_of_expression, merged_expression, sequence_of_expressions}
+use Rattle.xd_trees.specs.Merged.{parts_of_expression, merged_expression, sequence_of_expressions}
 
 -- ---- a node's expression, by its row
 pub record IsShaped (patterns : List Row) (e : Expression) (r : ExprRow) : Type 0 where

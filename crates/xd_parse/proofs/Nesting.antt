@@ -7,18 +7,18 @@ use Rattle.xd_lex.specs.Tokens.{Lexeme}
 use Rattle.xd_syntax.specs.Tree.{is_empty}
 use Rattle.xd_syntax.specs.Placed.{PlacedTree, Empty_at, Text_at, Words_at, Name_at, Elem_at, Seq_at, Alt_at, Star_at, Plus_at, Opt_at, Val_at, unplaced}
 use Rattle.xd_syntax.specs.Program.{TypeDefinition, Parameter, FunctionDefinition, ProgramTree}
-use Rattle.xd_parse.specs.declared.grammar.Nonterminal.{Nonterminal}
-use Rattle.xd_parse.specs.declared.grammar.Nonterminal.TheVariants as n
-use Rattle.xd_parse.specs.declared.grammar.Sort.TheVariants as sorts
-use Rattle.xd_parse.specs.declared.grammar.Symbol.TheVariants.{Token, Opening, Closed, Unless, Part}
-use Rattle.xd_parse.specs.declared.grammar.Terminal.{Terminal}
-use Rattle.xd_parse.specs.declared.grammar.Terminal.TheVariants as t
-use Rattle.xd_parse.specs.Grammar.{Row, rules, IsOneOf}
+use Rattle.xd_grammar.specs.declared.grammar.Nonterminal.{Nonterminal}
+use Rattle.xd_grammar.specs.declared.grammar.Nonterminal.TheVariants as n
+use Rattle.xd_grammar.specs.declared.grammar.Sort.TheVariants as sorts
+use Rattle.xd_grammar.specs.declared.grammar.Symbol.TheVariants.{Token, Opening, Closed, Unless, Part}
+use Rattle.xd_grammar.specs.declared.grammar.Terminal.{Terminal}
+use Rattle.xd_grammar.specs.declared.grammar.Terminal.TheVariants as t
+use Rattle.xd_grammar.specs.Grammar.{Row, rules, IsOneOf}
+use Rattle.xd_grammar.specs.Text.{terminal_at}
 use Rattle.xd_syntax.specs.TypeText.{list_depth}
-use Rattle.xd_parse.specs.Means.{terminal_at}
-use Rattle.xd_parse.specs.Merged.{in_byte_order, class_of}
-use Rattle.xd_parse.specs.Values.{Value, mark, word, label, quoted, absent, a_tree, trees, class, names, texts, labelled, token_of, excepted_value, excepted_list_value, an_expression, a_parameter, parameters, definitions, token_value, value_of, alternative_value, sequence_value, more_trees_value, post_value, prim_value, group_value, content_value, type_text_value, param_value, more_params_value, definitions_value}
-use Rattle.xd_parse.proofs.Depth.{plain, any_depth, AnyWithin, SeqWithin, PostWithin, PrimWithin, prim_post, any_prim, sequence_within, alternative_within, repeated_within, named_within}
+use Rattle.xd_trees.specs.Merged.{in_byte_order, class_of}
+use Rattle.xd_trees.specs.Values.{Value, mark, word, label, quoted, absent, a_tree, trees, class, names, texts, labelled, token_of, excepted_value, excepted_list_value, an_expression, a_parameter, parameters, definitions, token_value, value_of, alternative_value, sequence_value, more_trees_value, post_value, prim_value, group_value, content_value, type_text_value, param_value, more_params_value, definitions_value}
+use Rattle.xd_trees.proofs.Depth.{plain, any_depth, AnyWithin, SeqWithin, PostWithin, PrimWithin, prim_post, any_prim, sequence_within, alternative_within, repeated_within, named_within}
 use Rattle.xd_parse.proofs.Spelled.{MeansAt, ends_at, token_at, opening_at, closing_at, bar_at, part_at, MeansWithin}
 
 -- ---- levels behind a row

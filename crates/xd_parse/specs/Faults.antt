@@ -3,10 +3,10 @@ use Rattle.std.specs.Prelude.{◌≡◌, ℕ, List}
 use Rattle.xd_syntax.specs.NameFaults.{fault_at}
 use Rattle.xd_syntax.specs.declared.fault.Fault.{Fault}
 use Rattle.xd_syntax.specs.declared.fault.FaultKind.TheVariants.{NotUtf8, Syntax, TooDeep}
-use Rattle.xd_parse.specs.declared.grammar.Nonterminal.{Nonterminal}
-use Rattle.xd_parse.specs.declared.text.TextFault.{TextFault}
-use Rattle.xd_parse.specs.declared.text.TextFault.TheVariants as faults
-use Rattle.xd_parse.specs.Text.{IsTextFault}
+use Rattle.xd_grammar.specs.declared.grammar.Nonterminal.{Nonterminal}
+use Rattle.xd_grammar.specs.declared.text.TextFault.{TextFault}
+use Rattle.xd_grammar.specs.declared.text.TextFault.TheVariants as faults
+use Rattle.xd_grammar.specs.Text.{IsTextFault}
 
 -- the fault with its place
 abbrev pub reported : TextFault → Fault

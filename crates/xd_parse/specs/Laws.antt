@@ -2,7 +2,7 @@
 use Rattle.std.specs.Prelude.{◌≡◌, ℕ, List}
 use Rattle.xd_syntax.specs.Placed.{PlacedTree}
 use Rattle.xd_syntax.specs.Program.{ProgramTree}
-use Rattle.xd_parse.specs.Means.{IsProgramText, IsTypeText}
+use Rattle.xd_trees.specs.Means.{IsProgramText, IsTypeText}
 
 -- a text is that of one program at most, and of one type at most
 pub record TextsMeanOneThing : Type 0 where

@@ -1,6 +1,6 @@
 -- Why a text was not read.
 use Rattle.std.specs.Prelude.{ℕ, List}
-use Rattle.xd_parse.specs.declared.grammar.Nonterminal.{Nonterminal}
+use Rattle.xd_grammar.specs.declared.grammar.Nonterminal.{Nonterminal}
 use Rattle.xd_parse.specs.declared.parse.ParseError.{ParseError}
 use Rattle.xd_parse.specs.declared.parse.ParseError.TheVariants.{Fault, NoMemory}
 use Rattle.xd_parse.specs.Faults.{IsFirstTextFault}

@@ -6,15 +6,15 @@ ghost use Rattle.xd_syntax.specs.Table.{Row};
 ghost use Rattle.xd_syntax.specs.Placed.{placed_at};
 ghost use Rattle.xd_syntax.specs.Expression.{ExprCanFollow, KeepsExprs, IsJoinedPart, PatternsBelong, expression_at, is_joined_shape, shape_expression};
 ghost use Rattle.xd_syntax.specs.Exprs.{IsExpr, expr_numbers, expression, shape_of};
-ghost use Rattle.xd_parse.specs.Merged.{merged_expression};
-ghost use Rattle.xd_parse.specs.Pieces.{AreItems, expression_of};
+ghost use Rattle.xd_trees.specs.Merged.{merged_expression};
+ghost use Rattle.xd_parse.specs.Items.{AreItems, expression_of};
 
-use crate::queue::{join, queue_of};
 use std::alloc::Global;
 use std::collections::VecDeque;
 use xd_base::Place;
 use xd_doc::NoMemory;
 use xd_syntax::{ExprForm, ExprId, Exprs};
+use xd_trees::{join, queue_of};
 
 /// What was read, before a node is made of it: the parts of a sequence, so that what stands around it merges with them.
 /// Of no part it is empty, at the place; one part is itself.

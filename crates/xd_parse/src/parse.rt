@@ -6,24 +6,20 @@ ghost use Rattle.xd_syntax.specs.Placed.{placed_at};
 ghost use Rattle.xd_syntax.specs.Table.{KeepsRows};
 ghost use Rattle.xd_syntax.specs.Types.{BelongsTo};
 ghost use Rattle.xd_syntax.specs.Kept.{program_tree};
-ghost use Rattle.xd_parse.specs.declared.grammar.Nonterminal.TheVariants as nonterminals;
+ghost use Rattle.xd_grammar.specs.declared.grammar.Nonterminal.TheVariants as nonterminals;
 ghost use Rattle.xd_parse.specs.declared.parse.ParseError.TheVariants as errors;
-ghost use Rattle.xd_parse.specs.Text.{is_text, SpellsText};
-ghost use Rattle.xd_parse.specs.Means.{IsProgramText, IsTypeText};
+ghost use Rattle.xd_grammar.specs.Text.{is_text, SpellsText};
+ghost use Rattle.xd_trees.specs.Means.{IsProgramText, IsTypeText};
 ghost use Rattle.xd_parse.specs.Faults.{reported};
 ghost use Rattle.xd_syntax.specs.Shallow.{IsShallow, AddsWithin, nesting_limit};
 ghost use Rattle.xd_parse.specs.ParseErrors.{IsParseError, IsFault};
 
-use crate::cursor::Cursor;
 use crate::definitions::read_definitions;
-use crate::fault::first_fault;
-use crate::grammar::Nonterminal;
-use crate::text::TextFault;
-use crate::types::read_type;
 use std::alloc::Global;
 use xd_doc::NoMemory;
-use xd_lex::Lexer;
+use xd_grammar::{Nonterminal, TextError, TextFault, spelled_tokens};
 use xd_syntax::{Fault, FaultKind, Program, TypeId, Types};
+use xd_trees::{Cursor, read_type};
 
 /// Why no program, or no type, was read.
 #[derive(Debug, Drop)]
@@ -57,7 +53,7 @@ fn reported(found: TextFault) -> Fault
 }
 
 /// The tokens of a text, where they spell the nonterminal.
-fn spelled_tokens<'a>(
+fn cursor_over<'a>(
     alloc: Global,
     part: Nonterminal,
     bytes: &'a [u8],
@@ -68,16 +64,10 @@ fn spelled_tokens<'a>(
     ensures fault { IfErr result (IsParseError part bytes.now) }
     ensures unspelled { IfErr result (λ e. IsFault e → ¬ (SpellsText part bytes.now)) }
 {
-    let lexer = match Lexer::new(bytes) {
-        Ok(lexer) => lexer,
-        Err(e) => {
-            let fault = reported(TextFault::NotUtf8(e.place));
-            return Err(ParseError::Fault(fault));
-        }
-    };
-    match first_fault(alloc, part, lexer.fork())? {
-        None => Ok(Cursor::new(lexer)),
-        Some(found) => Err(ParseError::Fault(reported(found))),
+    match spelled_tokens(alloc, part, bytes) {
+        Ok(lexer) => Ok(Cursor::new(lexer)),
+        Err(TextError::Fault(found)) => Err(ParseError::Fault(reported(found))),
+        Err(TextError::NoMemory) => Err(ParseError::NoMemory),
     }
 }
 
@@ -89,7 +79,7 @@ pub fn parse_program(alloc: Global, bytes: &[u8]) -> Result<Program, ParseError>
     ensures fault { IfErr result (IsParseError nonterminals.Definitions bytes.now) }
     ensures unspelled { IfErr result (λ e. IsFault e → ¬ (SpellsText nonterminals.Definitions bytes.now)) }
 {
-    let mut cursor = spelled_tokens(alloc, Nonterminal::Definitions, bytes)?;
+    let mut cursor = cursor_over(alloc, Nonterminal::Definitions, bytes)?;
     let program = read_definitions(alloc, &mut cursor)?;
     Ok(program)
 }
@@ -105,7 +95,7 @@ pub fn parse_type(alloc: Global, types: &mut Types, bytes: &[u8]) -> Result<Type
     ensures fault { IfErr result (IsParseError nonterminals.TypeText bytes.now) }
     ensures unspelled { IfErr result (λ e. IsFault e → ¬ (SpellsText nonterminals.TypeText bytes.now)) }
 {
-    let mut cursor = spelled_tokens(alloc, Nonterminal::TypeText, bytes)?;
+    let mut cursor = cursor_over(alloc, Nonterminal::TypeText, bytes)?;
     let len = types.len();
     match read_type(alloc, &mut cursor, types) {
         Ok(id) => Ok(id),

@@ -3,7 +3,7 @@ use Rattle.std.specs.Prelude.{◌≡◌, ℕ, true, List}
 use Rattle.xd_syntax.specs.Tree.{Tree}
 use Rattle.xd_syntax.specs.Adopt.{uses_only}
 use Rattle.xd_syntax.specs.Placed.{PlacedTree, unplaced}
-use Rattle.xd_parse.specs.Means.{IsTypeText}
+use Rattle.xd_trees.specs.Means.{IsTypeText}
 
 -- the bytes are the text of a type that, places aside, is this one, and each name that it uses is among these
 pub record SpellsType (known : List (List ℕ)) (bytes : List ℕ) (T : Tree) : Type 0 where

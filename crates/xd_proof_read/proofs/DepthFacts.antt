@@ -9,13 +9,13 @@ use Rattle.xd_syntax.specs.Types.{tree}
 use Rattle.xd_syntax.specs.Sound.{IsTypeAt}
 use Rattle.xd_syntax.specs.Shallow.{nesting_limit}
 use Rattle.xd_syntax.specs.declared.types.TypeId.{TypeId}
-use Rattle.xd_parse.specs.declared.grammar.Nonterminal.TheVariants as nonterminals
-use Rattle.xd_parse.specs.Values.{Value, a_tree}
-use Rattle.xd_parse.specs.Reading.{Reads}
+use Rattle.xd_grammar.specs.declared.grammar.Nonterminal.TheVariants as nonterminals
+use Rattle.xd_trees.specs.Values.{Value, a_tree}
+use Rattle.xd_trees.specs.Reading.{Reads}
 use Rattle.xd_parse.proofs.Sure.{sure}
 use Rattle.xd_parse.proofs.Spelled.{read_within}
 use Rattle.xd_parse.proofs.Nesting.{all_within}
-use Rattle.xd_parse.proofs.Depth.{AnyWithin}
+use Rattle.xd_trees.proofs.Depth.{AnyWithin}
 use Rattle.xd_laws.specs.Consistent.{numbered}
 use Rattle.xd_laws.specs.Breach.{Lined}
 use Rattle.xd_proof_form.specs.Lines.{SpellsNumber}

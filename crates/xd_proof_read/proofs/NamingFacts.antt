@@ -20,8 +20,8 @@ use Rattle.xd_syntax.proofs.Trees.{tree_kept}
 use Rattle.xd_syntax.proofs.PlacedTrees.{unplaced_at}
 use Rattle.xd_syntax.proofs.ShallowTables.{none_within, within_both}
 use Rattle.xd_syntax.proofs.AdoptLaws.{AddsTypes-trans}
-use Rattle.xd_parse.specs.Means.{IsTypeText}
-use Rattle.xd_parse.proofs.Grown.{KeepsRows-refl}
+use Rattle.xd_trees.specs.Means.{IsTypeText}
+use Rattle.xd_trees.proofs.Kept.{KeepsRows-refl}
 use Rattle.xd_parse.proofs.Sure.{texts_mean_one_thing}
 use Rattle.xd_type_laws.proofs.TheLaw.{types_read_back}
 use Rattle.xd_laws.specs.Consistent.{numbered}

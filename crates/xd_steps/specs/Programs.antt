@@ -4,9 +4,9 @@ use Rattle.xd_syntax.specs.Program.{ProgramTree}
 use Rattle.xd_syntax.specs.NameFaults.{name_faults}
 use Rattle.xd_syntax.specs.RecursionFaults.{AreRecursionFaults, IsSound}
 use Rattle.xd_syntax.specs.declared.fault.Fault.{Fault}
-use Rattle.xd_parse.specs.declared.grammar.Nonterminal.TheVariants as nonterminals
+use Rattle.xd_grammar.specs.declared.grammar.Nonterminal.TheVariants as nonterminals
 use Rattle.xd_parse.specs.Faults.{IsFirstTextFault}
-use Rattle.xd_parse.specs.Means.{IsProgramText}
+use Rattle.xd_trees.specs.Means.{IsProgramText}
 use Rattle.xd_steps.specs.Output.{Output, fault_lines}
 use Rattle.xd_steps.specs.Texts.{Holding, EndsAtText, IsText, program_limit}
 

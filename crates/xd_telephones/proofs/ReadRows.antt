@@ -2,15 +2,15 @@
 use Rattle.std.proofs.Common.{◌≡◌, ℕ, zero, suc, ltb, ltb-true, Bool, true, false, cond, List, [], ◌∷◌, ◌++◌, Option, Some, None, refl, sym, subst}
 use Rattle.xd_lex.specs.Tokens.{Lexeme}
 use Rattle.xd_syntax.specs.Shallow.{nesting_limit}
-use Rattle.xd_parse.specs.declared.grammar.Nonterminal.{Nonterminal}
-use Rattle.xd_parse.specs.declared.grammar.Symbol.TheVariants.{Token, Opening, Closed, Unless, Part}
-use Rattle.xd_parse.specs.declared.grammar.Terminal.{Terminal}
-use Rattle.xd_parse.specs.Grammar.{Row, rules, IsOneOf, Whole, Derives, token, opening, closed, unless, by}
-use Rattle.xd_parse.specs.Fits.{same, first_fit}
-use Rattle.xd_parse.specs.Text.{terminals_of}
-use Rattle.xd_parse.specs.Means.{Means, ends, a_token, an_opening, a_closing, a_bar, a_part, terminal_at}
-use Rattle.xd_parse.specs.Values.{Value, token_value, value_of}
-use Rattle.xd_parse.proofs.Derive.{same-true, same-false, chosen_is}
+use Rattle.xd_grammar.specs.declared.grammar.Nonterminal.{Nonterminal}
+use Rattle.xd_grammar.specs.declared.grammar.Symbol.TheVariants.{Token, Opening, Closed, Unless, Part}
+use Rattle.xd_grammar.specs.declared.grammar.Terminal.{Terminal}
+use Rattle.xd_grammar.specs.Grammar.{Row, rules, IsOneOf, Whole, Derives, token, opening, closed, unless, by}
+use Rattle.xd_grammar.specs.Fits.{same, first_fit}
+use Rattle.xd_grammar.specs.Text.{terminals_of, terminal_at}
+use Rattle.xd_trees.specs.Means.{Means, ends, a_token, an_opening, a_closing, a_bar, a_part}
+use Rattle.xd_trees.specs.Values.{Value, token_value, value_of}
+use Rattle.xd_grammar.proofs.Derive.{same-true, same-false, chosen_is}
 
 -- the tokens that are left, the levels that are open, and what the row stands for
 pub record Read : Type 0 where

@@ -6,15 +6,15 @@ use Rattle.std.proofs.lemmas.Str.Ascii.{IsAscii-nil, IsAscii-cons}
 use Rattle.xd_lex.specs.Scan.{front_of, symbol}
 use Rattle.xd_lex.specs.Tokens.{tokens_of}
 use Rattle.xd_syntax.specs.declared.fault.Fault.{Fault}
-use Rattle.xd_parse.specs.declared.grammar.Nonterminal.TheVariants as n
-use Rattle.xd_parse.specs.declared.grammar.Symbol.TheVariants.{Part}
-use Rattle.xd_parse.specs.Grammar.{end}
+use Rattle.xd_grammar.specs.declared.grammar.Nonterminal.TheVariants as n
+use Rattle.xd_grammar.specs.declared.grammar.Symbol.TheVariants.{Part}
+use Rattle.xd_grammar.specs.Grammar.{end}
 use Rattle.xd_parse.specs.Faults.{IsFirstTextFault}
-use Rattle.xd_parse.specs.Means.{IsProgramText}
-use Rattle.xd_parse.specs.Values.{definitions}
-use Rattle.xd_parse.proofs.Derive.{both_of}
+use Rattle.xd_trees.specs.Means.{IsProgramText}
+use Rattle.xd_trees.specs.Values.{definitions}
+use Rattle.xd_grammar.proofs.Derive.{both_of}
 use Rattle.xd_parse.proofs.Sure.{texts_mean_one_thing}
-use Rattle.xd_parse.proofs.TextLemmas.{unspelled}
+use Rattle.xd_grammar.proofs.TextLemmas.{refused_text}
 use Rattle.xd_telephones.specs.Telephones.{telephone_text, telephone_program}
 use Rattle.xd_telephones.specs.Laws.{TextIsRead}
 use Rattle.xd_telephones.proofs.ReadRows.{Read, read_row, IsRead, read_is}
@@ -47,7 +47,7 @@ spelled : IsProgramText telephone_text telephone_program
 spelled = record { spells = record { utf8 = utf8; spells = read.derives [] (end tt) }; means = read.means }
 
 no_fault : (f : Fault) → IsFirstTextFault n.Definitions telephone_text f → ⊥
-no_fault f h = unspelled n.Definitions telephone_text (Some h.0) h.1 refl spelled.spells
+no_fault f h = (refused_text n.Definitions telephone_text h.0 h.1).1 spelled.spells
 
 pub text_is_read : TextIsRead
 text_is_read = record {

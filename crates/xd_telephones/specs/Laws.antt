@@ -7,9 +7,9 @@ use Rattle.xd_syntax.specs.RecursionFaults.{AreRecursionFaults, IsSound}
 use Rattle.xd_syntax.specs.CheckFaults.{Line, AreLines}
 use Rattle.xd_laws.specs.Meaning.{Done, meaning}
 use Rattle.xd_syntax.specs.declared.fault.Fault.{Fault}
-use Rattle.xd_parse.specs.declared.grammar.Nonterminal.TheVariants.{Definitions}
+use Rattle.xd_grammar.specs.declared.grammar.Nonterminal.TheVariants.{Definitions}
 use Rattle.xd_parse.specs.Faults.{IsFirstTextFault}
-use Rattle.xd_parse.specs.Means.{IsProgramText}
+use Rattle.xd_trees.specs.Means.{IsProgramText}
 use Rattle.xd_laws.specs.LineSamples.{persons_at}
 use Rattle.xd_telephones.specs.Telephones.{telephone_text, telephone_program}
 use Rattle.xd_telephones.specs.Persons.{sample_of, telephones_to}

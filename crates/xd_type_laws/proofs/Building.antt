@@ -3,13 +3,12 @@ use Rattle.std.proofs.Common.{◌≡◌, ◌≢◌, ℕ, suc, ◌<◌, List, [],
 use Rattle.xd_base.specs.declared.Place.{Place}
 use Rattle.xd_lex.specs.declared.Kind.{Kind}
 use Rattle.xd_lex.specs.Tokens.{Lexeme, after, past, tokens_from}
-use Rattle.xd_parse.specs.declared.grammar.Nonterminal.{Nonterminal}
-use Rattle.xd_parse.specs.declared.grammar.Symbol.TheVariants.{Token, Opening, Closed, Unless, Part}
-use Rattle.xd_parse.specs.declared.grammar.Terminal.{Terminal}
-use Rattle.xd_parse.specs.Grammar.{Row, rules, IsOneOf, Whole, Derives, token, opening, closed, unless, by}
-use Rattle.xd_parse.specs.Text.{terminal_of, terminals_of}
-use Rattle.xd_parse.specs.Means.{terminal_at}
-use Rattle.xd_parse.specs.Values.{Value, token_of, value_of}
+use Rattle.xd_grammar.specs.declared.grammar.Nonterminal.{Nonterminal}
+use Rattle.xd_grammar.specs.declared.grammar.Symbol.TheVariants.{Token, Opening, Closed, Unless, Part}
+use Rattle.xd_grammar.specs.declared.grammar.Terminal.{Terminal}
+use Rattle.xd_grammar.specs.Grammar.{Row, rules, IsOneOf, Whole, Derives, token, opening, closed, unless, by}
+use Rattle.xd_grammar.specs.Text.{terminal_of, terminals_of, terminal_at}
+use Rattle.xd_trees.specs.Values.{Value, token_of, value_of}
 use Rattle.xd_parse.proofs.Spelled.{MeansAt, ends_at, token_at, opening_at, closing_at, bar_at, part_at}
 use Rattle.xd_lex.proofs.Symbols.{IsToken}
 

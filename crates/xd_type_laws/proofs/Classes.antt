@@ -20,16 +20,16 @@ use Rattle.xd_syntax.specs.Tree.{Tree, Empty, Text, Words, Name, Elem}
 use Rattle.xd_syntax.specs.TypeText.{quoted, barred, labels_text, excepted_text, list_depth}
 use Rattle.xd_syntax.specs.Placed.{PlacedTree, unplaced, Text_at, Words_at, Name_at, Elem_at, Empty_at}
 use Rattle.xd_syntax.proofs.NamedLaws.{bytes_eq-turned}
-use Rattle.xd_parse.specs.declared.grammar.Nonterminal.TheVariants as n
-use Rattle.xd_parse.specs.declared.grammar.Sort.TheVariants as sorts
-use Rattle.xd_parse.specs.declared.grammar.Symbol.TheVariants.{Token, Opening, Closed, Unless, Part}
-use Rattle.xd_parse.specs.declared.grammar.Terminal.{Terminal}
-use Rattle.xd_parse.specs.declared.grammar.Terminal.TheVariants as t
-use Rattle.xd_parse.specs.Grammar.{rules, IsOneOf}
-use Rattle.xd_parse.specs.Text.{word_terminal}
-use Rattle.xd_parse.specs.Merged.{class_of}
-use Rattle.xd_parse.specs.Values.{quoted as a_quoted, mark, a_tree, names, texts, labels, class, labelled, token_of, any_word_value, named}
-use Rattle.xd_parse.proofs.ByteOrder.{class_made}
+use Rattle.xd_grammar.specs.declared.grammar.Nonterminal.TheVariants as n
+use Rattle.xd_grammar.specs.declared.grammar.Sort.TheVariants as sorts
+use Rattle.xd_grammar.specs.declared.grammar.Symbol.TheVariants.{Token, Opening, Closed, Unless, Part}
+use Rattle.xd_grammar.specs.declared.grammar.Terminal.{Terminal}
+use Rattle.xd_grammar.specs.declared.grammar.Terminal.TheVariants as t
+use Rattle.xd_grammar.specs.Grammar.{rules, IsOneOf}
+use Rattle.xd_grammar.specs.Text.{word_terminal}
+use Rattle.xd_trees.specs.Merged.{class_of}
+use Rattle.xd_trees.specs.Values.{quoted as a_quoted, mark, a_tree, names, texts, labels, class, labelled, token_of, any_word_value, named}
+use Rattle.xd_trees.proofs.ByteOrder.{class_made}
 use Rattle.xd_type_laws.proofs.Building.{Reads, read_end, read_token, read_opening, read_closed, read_alone, read_then, read_unless, same_bytes, starts_token}
 use Rattle.xd_type_laws.proofs.Levels.{Spells, prim, alt, behind_prim, behind_any}
 

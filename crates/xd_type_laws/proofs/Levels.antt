@@ -10,17 +10,17 @@ use Rattle.xd_lex.proofs.Symbols.{IsToken, EndsWord, paren_l, paren_r, comma, ba
 use Rattle.xd_syntax.specs.Tree.{Tree, Empty, Seq, Alt, Star, Plus, Opt, seq_of, alt_of, is_empty, is_seq, is_alt}
 use Rattle.xd_syntax.specs.Placed.{PlacedTree, unplaced, place_of, placed_seq, placed_alt}
 use Rattle.xd_syntax.specs.Placed as placed
-use Rattle.xd_parse.specs.declared.grammar.Nonterminal.{Nonterminal}
-use Rattle.xd_parse.specs.declared.grammar.Nonterminal.TheVariants as n
-use Rattle.xd_parse.specs.declared.grammar.Sort.TheVariants as sorts
-use Rattle.xd_parse.specs.declared.grammar.Symbol.TheVariants.{Token, Opening, Closed, Unless, Part}
-use Rattle.xd_parse.specs.declared.grammar.Terminal.{Terminal}
-use Rattle.xd_parse.specs.declared.grammar.Terminal.TheVariants as t
-use Rattle.xd_parse.specs.Fits.{same}
-use Rattle.xd_parse.specs.Merged.{parts_of_seq, parts_of_alt, merged_seq, sequence, alternative}
-use Rattle.xd_parse.specs.Grammar.{rules, IsOneOf}
-use Rattle.xd_parse.specs.Text.{terminal_of}
-use Rattle.xd_parse.specs.Values.{Value, absent, a_tree, token_of, trees, value_of}
+use Rattle.xd_grammar.specs.declared.grammar.Nonterminal.{Nonterminal}
+use Rattle.xd_grammar.specs.declared.grammar.Nonterminal.TheVariants as n
+use Rattle.xd_grammar.specs.declared.grammar.Sort.TheVariants as sorts
+use Rattle.xd_grammar.specs.declared.grammar.Symbol.TheVariants.{Token, Opening, Closed, Unless, Part}
+use Rattle.xd_grammar.specs.declared.grammar.Terminal.{Terminal}
+use Rattle.xd_grammar.specs.declared.grammar.Terminal.TheVariants as t
+use Rattle.xd_grammar.specs.Fits.{same}
+use Rattle.xd_trees.specs.Merged.{parts_of_seq, parts_of_alt, merged_seq, sequence, alternative}
+use Rattle.xd_grammar.specs.Grammar.{rules, IsOneOf}
+use Rattle.xd_grammar.specs.Text.{terminal_of}
+use Rattle.xd_trees.specs.Values.{Value, absent, a_tree, token_of, trees, value_of}
 use Rattle.xd_type_laws.proofs.Building.{Reads, read_end, read_token, read_opening, read_closed, read_alone, read_then, read_unless, same_bytes, Starts, starts_token}
 
 -- ---- what may stand behind

@@ -8,13 +8,13 @@ use Rattle.xd_syntax.specs.Tree.{Tree, Empty, Text, Words, Name, Elem, Seq, Alt,
 use Rattle.xd_syntax.specs.Proper.{IsProperTree}
 use Rattle.xd_syntax.specs.Placed.{PlacedTree, unplaced}
 use Rattle.xd_syntax.specs.TypeText.{any_type_level, sequence_level, postfix_level, primary_level, text_at_level, depth_at_level, type_text}
-use Rattle.xd_parse.specs.declared.grammar.Nonterminal.TheVariants as n
-use Rattle.xd_parse.specs.declared.grammar.Sort.TheVariants as sorts
-use Rattle.xd_parse.specs.declared.grammar.Symbol.TheVariants.{Token, Part}
-use Rattle.xd_parse.specs.declared.grammar.Terminal.TheVariants as t
-use Rattle.xd_parse.specs.Grammar.{end}
-use Rattle.xd_parse.specs.Means.{MeansAll}
-use Rattle.xd_parse.specs.Values.{mark, a_tree}
+use Rattle.xd_grammar.specs.declared.grammar.Nonterminal.TheVariants as n
+use Rattle.xd_grammar.specs.declared.grammar.Sort.TheVariants as sorts
+use Rattle.xd_grammar.specs.declared.grammar.Symbol.TheVariants.{Token, Part}
+use Rattle.xd_grammar.specs.declared.grammar.Terminal.TheVariants as t
+use Rattle.xd_grammar.specs.Grammar.{end}
+use Rattle.xd_trees.specs.Means.{MeansAll}
+use Rattle.xd_trees.specs.Values.{mark, a_tree}
 use Rattle.xd_parse.proofs.Sure.{type_sure}
 use Rattle.xd_parse.proofs.Spelled.{MeansAt, ends_at, token_at, part_at, levels_aside}
 use Rattle.xd_type_laws.specs.ReadsBack.{IsMerged, TypesReadBack}

@@ -7,7 +7,7 @@ use Rattle.xd_syntax.specs.ProperTables.{IsTable}
 use Rattle.xd_syntax.specs.Proper.{IsProperTree}
 use Rattle.xd_syntax.specs.Placed.{PlacedTree, unplaced}
 use Rattle.xd_syntax.specs.TypeText.{type_text, depth}
-use Rattle.xd_parse.specs.Means.{IsTypeText}
+use Rattle.xd_trees.specs.Means.{IsTypeText}
 
 -- Parts are merged: a sequence is of two or more, of which none is empty and only what leans to the right is a sequence; an
 -- alternative likewise. No name is a keyword or `String`, and there are no binders.

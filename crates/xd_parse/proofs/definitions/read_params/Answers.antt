@@ -1,9 +1,9 @@
 use Rattle.std.proofs.Common.{arith, sym, refl}
-use Rattle.xd_parse.specs.Reading.{behind}
-use Rattle.xd_parse.proofs.Grown.{KeepsRows-trans}
+use Rattle.xd_trees.specs.Reading.{behind}
+use Rattle.xd_trees.proofs.Kept.{KeepsRows-trans}
 use Rattle.xd_parse.proofs.DefinitionRows.{first_param, next_param, next_deeper, last_param, behind_less}
-use Rattle.xd_parse.proofs.ExprRows.{next_lt_at}
-use Rattle.xd_parse.specs.declared.grammar.Terminal.TheVariants as t
+use Rattle.xd_trees.proofs.Rows.{next_lt_at}
+use Rattle.xd_grammar.specs.declared.grammar.Terminal.TheVariants as t
 use Rattle.xd_parse.proofs.definitions.read_params.Goals as goal
 
 pub params-init : goal.params-init

@@ -8,18 +8,19 @@ use Rattle.xd_syntax.specs.Expression.{Expression, Nothing, Quoted, ExprRow, emp
 use Rattle.xd_syntax.specs.Exprs.{expression, expr_numbers, clause_numbers}
 use Rattle.xd_syntax.specs.declared.exprs.ExprId.{ExprId}
 use Rattle.xd_syntax.specs.declared.exprs.Clause.{Clause}
-use Rattle.xd_parse.specs.declared.grammar.Nonterminal.TheVariants as n
-use Rattle.xd_parse.specs.declared.grammar.Terminal.TheVariants as t
-use Rattle.xd_parse.specs.Fits.{same}
-use Rattle.xd_parse.specs.Values.{an_expression, a_clause, word_expression}
-use Rattle.xd_parse.specs.Reading.{Reads, front_terminal, front_place, behind}
-use Rattle.xd_parse.specs.Pieces.{expression_of}
-use Rattle.xd_parse.proofs.Grown.{Grows-refl, IsPattern-more, KeepsRows-trans, same_pattern}
+use Rattle.xd_grammar.specs.declared.grammar.Nonterminal.TheVariants as n
+use Rattle.xd_grammar.specs.declared.grammar.Terminal.TheVariants as t
+use Rattle.xd_grammar.specs.Fits.{same}
+use Rattle.xd_trees.specs.Values.{an_expression, a_clause, word_expression}
+use Rattle.xd_trees.specs.Reading.{Reads, front_terminal, front_place, behind}
+use Rattle.xd_parse.specs.Items.{expression_of}
+use Rattle.xd_trees.proofs.Kept.{IsPattern-more, KeepsRows-trans}
+use Rattle.xd_parse.proofs.Grown.{Grows-refl, same_pattern}
 use Rattle.xd_parse.proofs.JoinLemmas.{numbers_push, positive}
-use Rattle.xd_parse.proofs.ExprRows.{item_text, item_label, item_paren, content_empty, content_full, paren_empty, paren_full, clause_reads, behind_le, next_lt, next_lt_at}
+use Rattle.xd_trees.proofs.Rows.{behind_le, next_lt, next_lt_at, front_same}
+use Rattle.xd_parse.proofs.ExprRows.{item_text, item_label, item_paren, content_empty, content_full, paren_empty, paren_full, clause_reads}
 use Rattle.xd_parse.proofs.Readers.{items_start, items_step, items_done, ReadArguments, arguments_start, arguments_step, arguments_done, ReadClauses, clauses_start, clauses_step, clauses_done}
 use Rattle.xd_parse.proofs.Adding.{if_ok, from_there, to_there, add_reads, item_reads, nothing_reads, nothing_stands, node_reads, node_grows, add_grows, at_place, quoted_at, tagged_at, no_ids, call_is, length-numbers, clause_numbers_push, first_pushed, nothing_begins}
-use Rattle.xd_parse.proofs.Rows.{front_same}
 use Rattle.xd_parse.proofs.expressions.+expressions.Goals as goal
 
 pub read_clause-returns-clause-reads : goal.read_clause-returns-clause-reads

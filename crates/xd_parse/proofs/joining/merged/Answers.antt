@@ -5,7 +5,7 @@ use Rattle.xd_syntax.specs.Table.{Row}
 use Rattle.xd_syntax.specs.Expression.{ExprRow, expression_at, joined, place_of_expression}
 use Rattle.xd_syntax.specs.Exprs.{expr_numbers, expression}
 use Rattle.xd_syntax.specs.declared.exprs.ExprId.{ExprId}
-use Rattle.xd_parse.specs.Merged.{merged_expression}
+use Rattle.xd_trees.specs.Merged.{merged_expression}
 use Rattle.xd_parse.proofs.JoinLemmas.{merged_is, place_of_shape}
 use Rattle.xd_parse.proofs.joining.merged.Goals as goal
 

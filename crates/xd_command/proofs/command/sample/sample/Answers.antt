@@ -1,6 +1,6 @@
 use Rattle.std.proofs.Common.{◌≡◌, subst}
 use Rattle.xd_syntax.specs.Kept.{ProgramTable, program_tree}
-use Rattle.xd_parse.specs.Means.{IsProgramText}
+use Rattle.xd_trees.specs.Means.{IsProgramText}
 use Rattle.xd_telephones.specs.Telephones.{telephone_text}
 use Rattle.xd_steps.specs.Programs.{EndsAtFaults, IsSoundText}
 use Rattle.xd_command.specs.Sample.{AnswersSample}

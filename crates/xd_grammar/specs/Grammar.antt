@@ -1,0 +1,83 @@
+-- The grammar of programs and types, and what its rows of symbols spell.
+use Rattle.std.specs.Prelude.{◌≡◌, ◌≢◌, ◌<◌, ◌++◌, ◌⊎◌, ℕ, suc, List, [], ◌∷◌}
+use Rattle.xd_grammar.specs.declared.grammar.Nonterminal.{Nonterminal}
+use Rattle.xd_grammar.specs.declared.grammar.Nonterminal.TheVariants as n
+use Rattle.xd_grammar.specs.declared.grammar.Sort.TheVariants as sorts
+use Rattle.xd_grammar.specs.declared.grammar.Symbol.{Symbol}
+use Rattle.xd_grammar.specs.declared.grammar.Symbol.TheVariants.{Token, Opening, Closed, Unless, Part}
+use Rattle.xd_grammar.specs.declared.grammar.Terminal.{Terminal}
+use Rattle.xd_grammar.specs.declared.grammar.Terminal.TheVariants as t
+
+abbrev pub Row : Type 0
+Row = List Symbol
+
+-- The rows that a nonterminal stands for. Types and patterns have the same rows, but for the variables of patterns.
+-- `MoreX` is the rest of a repetition. A repetition or an option is left
+-- out only where its first token does not come, so each takes as many tokens as it can; and parentheses with a `[`
+-- behind them are the list of a class. Behind a `^` stand labels or texts, one or a list of them.
+abbrev pub rules : Nonterminal → List Row
+rules n.Definitions = (Token t.Type ∷ Token t.Word ∷ Token t.Equals ∷ Part (n.Alternative sorts.Type) ∷ Part n.Definitions ∷ []) ∷ (Token t.Fun ∷ Token t.Word ∷ Part n.Param ∷ Part n.MoreParams ∷ Token t.Colon ∷ Part (n.Alternative sorts.Type) ∷ Token t.Equals ∷ Part n.Expr ∷ Part n.Definitions ∷ []) ∷ (Token t.End ∷ []) ∷ []
+rules n.Param = (Opening t.ParenL ∷ Token t.Val ∷ Token t.Word ∷ Token t.As ∷ Part (n.Alternative sorts.Type) ∷ Token t.ParenR ∷ Closed ∷ []) ∷ []
+rules n.MoreParams = (Unless t.ParenL ∷ []) ∷ (Part n.Param ∷ Part n.MoreParams ∷ []) ∷ []
+rules n.TypeText = (Part (n.Alternative sorts.Type) ∷ Token t.End ∷ []) ∷ []
+rules (n.Alternative s) = (Part (n.Sequence s) ∷ Part (n.MoreBranches s) ∷ []) ∷ []
+rules (n.MoreBranches s) = (Token t.Bar ∷ Part (n.Sequence s) ∷ Part (n.MoreBranches s) ∷ []) ∷ (Unless t.Bar ∷ []) ∷ []
+rules (n.Sequence s) = (Part (n.Post s) ∷ Part (n.MoreParts s) ∷ []) ∷ []
+rules (n.MoreParts s) = (Token t.Comma ∷ Part (n.Post s) ∷ Part (n.MoreParts s) ∷ []) ∷ (Unless t.Comma ∷ []) ∷ []
+rules (n.Post sorts.Type) = (Part (n.Prim sorts.Type) ∷ Part n.Operator ∷ []) ∷ []
+rules (n.Post sorts.Pattern) = (Token t.Val ∷ Token t.Word ∷ Part n.Bound ∷ []) ∷ (Part (n.Prim sorts.Pattern) ∷ Part n.Operator ∷ []) ∷ []
+rules (n.Prim s) = (Token t.Word ∷ []) ∷ (Opening t.ParenL ∷ Part (n.Group s) ∷ []) ∷ (Token t.Text ∷ []) ∷ (Token t.Caret ∷ Part (n.Excepted s) ∷ []) ∷ (Part n.Class ∷ Part (n.Content s) ∷ []) ∷ []
+rules (n.Excepted s) = (Token t.Text ∷ []) ∷ (Opening t.Label ∷ Part (n.Content s) ∷ []) ∷ (Opening t.ParenL ∷ Part (n.ExceptedList s) ∷ []) ∷ []
+rules (n.ExceptedList s) = (Token t.Text ∷ Part n.MoreTexts ∷ Token t.ParenR ∷ Closed ∷ []) ∷ (Part n.AnyWord ∷ Part n.MoreNames ∷ Token t.ParenR ∷ Closed ∷ Opening t.BracketL ∷ Part (n.Content s) ∷ []) ∷ []
+rules (n.Group s) = (Token t.ParenR ∷ Closed ∷ Unless t.BracketL ∷ []) ∷ (Part (n.Alternative s) ∷ Token t.ParenR ∷ Closed ∷ Unless t.BracketL ∷ []) ∷ []
+rules (n.Content s) = (Token t.BracketR ∷ Closed ∷ []) ∷ (Part (n.Alternative s) ∷ Token t.BracketR ∷ Closed ∷ []) ∷ []
+rules n.Bound = (Opening t.As ∷ Part (n.Post sorts.Pattern) ∷ Closed ∷ []) ∷ (Unless t.As ∷ []) ∷ []
+rules n.Operator = (Token t.Star ∷ []) ∷ (Token t.Plus ∷ []) ∷ (Token t.Query ∷ []) ∷ (Unless t.Star ∷ Unless t.Plus ∷ Unless t.Query ∷ []) ∷ []
+rules n.Class = (Token t.Tilde ∷ Opening t.BracketL ∷ []) ∷ (Part n.Labels ∷ []) ∷ []
+rules n.Labels = (Opening t.Label ∷ []) ∷ (Part n.Names ∷ Opening t.BracketL ∷ []) ∷ []
+rules n.Names = (Opening t.ParenL ∷ Part n.AnyWord ∷ Part n.MoreNames ∷ Token t.ParenR ∷ Closed ∷ []) ∷ []
+rules n.MoreNames = (Token t.Bar ∷ Part n.AnyWord ∷ Part n.MoreNames ∷ []) ∷ (Unless t.Bar ∷ []) ∷ []
+rules n.MoreTexts = (Token t.Bar ∷ Token t.Text ∷ Part n.MoreTexts ∷ []) ∷ (Unless t.Bar ∷ []) ∷ []
+rules n.AnyWord = (Token t.Word ∷ []) ∷ (Token t.Type ∷ []) ∷ (Token t.Fun ∷ []) ∷ (Token t.Val ∷ []) ∷ (Token t.As ∷ []) ∷ (Token t.Match ∷ []) ∷ (Token t.With ∷ []) ∷ []
+rules n.Expr = (Part n.Item ∷ Part n.MoreItems ∷ []) ∷ []
+rules n.MoreItems = (Token t.Comma ∷ Part n.Item ∷ Part n.MoreItems ∷ []) ∷ (Unless t.Comma ∷ []) ∷ []
+rules n.Item = (Token t.Text ∷ []) ∷ (Token t.Word ∷ Part n.MoreParens ∷ []) ∷ (Opening t.Label ∷ Part n.ExprContent ∷ []) ∷ (Opening t.Match ∷ Part n.Expr ∷ Token t.With ∷ Part n.Clause ∷ Part n.MoreClauses ∷ Closed ∷ []) ∷ (Part n.Paren ∷ []) ∷ []
+rules n.ExprContent = (Token t.BracketR ∷ Closed ∷ []) ∷ (Part n.Expr ∷ Token t.BracketR ∷ Closed ∷ []) ∷ []
+rules n.Paren = (Opening t.ParenL ∷ Part n.ParenContent ∷ []) ∷ []
+rules n.ParenContent = (Token t.ParenR ∷ Closed ∷ []) ∷ (Part n.Expr ∷ Token t.ParenR ∷ Closed ∷ []) ∷ []
+rules n.MoreParens = (Unless t.ParenL ∷ []) ∷ (Part n.Paren ∷ Part n.MoreParens ∷ []) ∷ []
+rules n.Clause = (Part (n.Sequence sorts.Pattern) ∷ Token t.Arrow ∷ Part n.Expr ∷ []) ∷ []
+rules n.MoreClauses = (Token t.Bar ∷ Part n.Clause ∷ Part n.MoreClauses ∷ []) ∷ (Unless t.Bar ∷ []) ∷ []
+
+-- the row is one of these
+abbrev pub IsOneOf : Row → List Row → Type 0
+IsOneOf row [] = ⊥
+IsOneOf row (r ∷ rs) = (row ≡ r) ⊎ IsOneOf row rs
+
+-- whether tokens are to spell a row to its end, or may break off anywhere
+pub data Extent : Type 0 where
+  Whole : Extent
+  Front : Extent
+
+-- what may be left of a row behind the last token
+abbrev pub MayEnd : Extent → Row → Type 0
+MayEnd Whole [] = Unit {0}
+MayEnd Whole (symbol ∷ row) = ⊥
+MayEnd Front row = Unit {0}
+
+-- Where so many levels of nesting are open, and at most `limit` may be, the tokens spell the row, or a front of it.
+pub data Derives (extent : Extent) (limit : ℕ) : ℕ → Row → List Terminal → Type 0 where
+  end : {depth : ℕ} {row : Row} → MayEnd extent row → Derives extent limit depth row []
+  token : {depth : ℕ} {k : Terminal} {row : Row} {ts : List Terminal} → Derives extent limit depth row ts → Derives extent limit depth (Token k ∷ row) (k ∷ ts)
+  opening : {depth : ℕ} {k : Terminal} {row : Row} {ts : List Terminal} → depth < limit → Derives extent limit (suc depth) row ts → Derives extent limit depth (Opening k ∷ row) (k ∷ ts)
+  closed : {depth : ℕ} {row : Row} {ts : List Terminal} → Derives extent limit depth row ts → Derives extent limit (suc depth) (Closed ∷ row) ts
+  unless : {depth : ℕ} {j k : Terminal} {row : Row} {ts : List Terminal} → j ≢ k → Derives extent limit depth row (k ∷ ts) → Derives extent limit depth (Unless j ∷ row) (k ∷ ts)
+  by : {depth : ℕ} {part : Nonterminal} (made : Row) {row : Row} {ts : List Terminal} → IsOneOf made (rules part) → Derives extent limit depth (made ++ row) ts → Derives extent limit depth (Part part ∷ row) ts
+
+-- the tokens are a whole text of this nonterminal
+abbrev pub Spells : ℕ → Nonterminal → List Terminal → Type 0
+Spells limit part ts = Derives Whole limit 0 (Part part ∷ []) ts
+
+-- the tokens are the front of a text of this nonterminal
+abbrev pub Begins : ℕ → Nonterminal → List Terminal → Type 0
+Begins limit part ts = Derives Front limit 0 (Part part ∷ []) ts

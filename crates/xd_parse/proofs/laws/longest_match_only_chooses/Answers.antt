@@ -1,5 +1,0 @@
-use Rattle.xd_parse.proofs.Erasing.{longest_match_only_chooses}
-use Rattle.xd_parse.proofs.laws.longest_match_only_chooses.Goals as goal
-
-pub returns : goal.returns
-returns c = longest_match_only_chooses

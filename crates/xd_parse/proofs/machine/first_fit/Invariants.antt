@@ -1,7 +1,0 @@
-use Rattle.std.proofs.Common.{◌≡◌, drop}
-use Rattle.xd_parse.specs.Fits.{first_fit}
-use Rattle.xd_parse.specs.Rows.{rows_now}
-use Rattle.xd_parse.proofs.machine.first_fit.Given as goal
-
-abbrev pub invariant-loop-row : goal.invariant-loop-row
-invariant-loop-row l = first_fit (rows_now (drop l.row-index l.rows)) l.kind ≡ first_fit (rows_now l.rows) l.kind

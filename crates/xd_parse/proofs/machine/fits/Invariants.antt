@@ -1,6 +1,0 @@
-use Rattle.std.proofs.Common.{◌≡◌, drop}
-use Rattle.xd_parse.specs.Fits.{fits}
-use Rattle.xd_parse.proofs.machine.fits.Given as goal
-
-abbrev pub invariant-loop-symbol : goal.invariant-loop-symbol
-invariant-loop-symbol l = fits (drop l.symbol-index l.row) l.kind ≡ fits l.row l.kind
