@@ -182,3 +182,10 @@ part_group false false k = refl
 pub or_true : (b : Bool) → (b || true) ≡ true
 or_true true = refl
 or_true false = refl
+
+-- what a part takes of a class
+pub part_class : (p h k : Bool) → (p && (h && k)) ≡ ((h && p) && k)
+part_class true true k = refl
+part_class true false k = refl
+part_class false true k = refl
+part_class false false k = refl

@@ -1,15 +1,16 @@
 -- On moves that lead to the states that stand in for theirs.
-use Rattle.std.proofs.Common.{◌≡◌, ℕ, ◌≤◌, inl, inr, Bool, false, ◌&&◌, ◌||◌, List, [], ◌∷◌, map, length, refl, ap, sym, ◌∙◌, arith}
+use Rattle.std.proofs.Common.{◌≡◌, ℕ, ◌+◌, ◌<◌, ◌≤◌, ◌++◌, take, get_or, append_assoc, inl, inr, Bool, false, ◌&&◌, ◌||◌, List, [], ◌∷◌, map, length, refl, ap, sym, ◌∙◌, arith}
 use Rattle.std.specs.List.{list_any}
 use Rattle.std.proofs.lemmas.Bool.{cases_lt}
-use Rattle.std.proofs.lemmas.List.{get_or_past}
+use Rattle.std.proofs.lemmas.List.{get_or_past, take_more}
 use Rattle.xd_doc.specs.Document.{Document, empty, text, element}
-use Rattle.xd_doc.specs.Classes.{class_has}
+use Rattle.xd_doc.specs.Classes.{LabelClass, TextClass, class_has}
 use Rattle.xd_auto.specs.declared.auto.State.{State}
 use Rattle.xd_auto.specs.declared.auto.LabelMove.{LabelMove}
 use Rattle.xd_auto.specs.declared.auto.TextMove.{TextMove}
-use Rattle.xd_auto.specs.Automaton.{Automaton, StateMoves, accepts, moves_at, no_moves, state_number}
-use Rattle.xd_boole.specs.Merging.{AreStandIns, IsRedirected, RedirectsFirst, redirected, text_redirected, stand_in}
+use Rattle.xd_auto.specs.Automaton.{Automaton, ChangesOnly, IsState, StateMoves, accepts, moves_at, no_moves, state_number, with_label_move, with_text_move}
+use Rattle.xd_boole.specs.Merging.{AreStandIns, IsRedirected, RedirectsFirst, RedirectsLabels, RedirectsTexts, redirected, text_redirected, stand_in}
+use Rattle.xd_boole.proofs.Expanding.{given_moves}
 
 any_map : {X : Type 0} (h : X → X) (f g : X → Bool) (xs : List X) → ((x : X) → f (h x) ≡ g x) → list_any f (map h xs) ≡ list_any g xs
 any_map h f g [] same = refl
@@ -41,3 +42,51 @@ module _ (a : Automaton) (same : List State) (made : Automaton) (n : ℕ) (stand
       ∙ any_map (redirected same) (λ m. class_has m.class l && (accepts made c m.content && accepts made r m.rest)) (λ m. class_has m.class l && (accepts a c m.content && accepts a r m.rest)) (moves_at a s).labels
       (λ m. ap (λ w. class_has m.class l && (w && accepts made r (stand_in same m.rest))) (redirected_accepts c (stand_in same m.content) ∙ stand.accept c m.content)
       ∙ ap (λ w. class_has m.class l && (accepts a c m.content && w)) (redirected_accepts r (stand_in same m.rest) ∙ stand.accept r m.rest))
+
+-- ---- one more move
+
+changes_then : (s : State) (a b c : Automaton) → ChangesOnly s a b → ChangesOnly s b c → ChangesOnly s a c
+changes_then s a b c one two = record { states = two.states ∙ one.states; others = λ t other. two.others t other ∙ one.others t other }
+
+map_push : {X Y : Type 0} (f : X → Y) (xs : List X) (x : X) → map f (xs ++ x ∷ []) ≡ map f xs ++ f x ∷ []
+map_push f [] x = refl
+map_push f (y ∷ ys) x = ap (λ zs. f y ∷ zs) (map_push f ys x)
+
+map_more : {X Y : Type 0} (f : X → Y) (before : List Y) (xs : List X) (i : ℕ) (x : X) (y : Y) → i < length xs → x ≡ get_or xs i x → y ≡ f x → (before ++ map f (take i xs)) ++ y ∷ [] ≡ before ++ map f (take (i + 1) xs)
+map_more f before xs i x y lt at is =
+    append_assoc before (map f (take i xs)) (y ∷ [])
+    ∙ ap (λ z. before ++ (map f (take i xs) ++ z ∷ [])) (is ∙ ap f at)
+    ∙ ap (λ zs. before ++ zs) (sym (map_push f (take i xs) (get_or xs i x)) ∙ ap (map f) (sym (take_more xs i x lt)))
+
+pub label_given : (same : List State) (s : State) (moves : List LabelMove) (i : ℕ) (m : LabelMove) (class : LabelClass) (content rest : State) (old mid new : Automaton) → i < length moves → m ≡ get_or moves i m
+    → class ≡ m.class → content ≡ stand_in same m.content → rest ≡ stand_in same m.rest → IsState mid s → new ≡ with_label_move mid s (record { class = class; content = content; rest = rest }) → ChangesOnly s mid new
+    → RedirectsLabels same s (take i moves) old mid → RedirectsLabels same s (take (i + 1) moves) old new
+label_given same s moves i m class content rest old mid new lt at k u v there is others before =
+    let given : LabelMove = record { class = class; content = content; rest = rest } in
+    let same_move : given ≡ redirected same m =
+    ap (λ (x : LabelClass). let y : LabelMove = record { class = x; content = content; rest = rest } in y) k
+    ∙ ap (λ (x : State). let y : LabelMove = record { class = m.class; content = x; rest = rest } in y) u
+    ∙ ap (λ (x : State). let y : LabelMove = record { class = m.class; content = stand_in same m.content; rest = x } in y) v in
+    let e : moves_at new s ≡ record (moves_at mid s) { labels = (moves_at mid s).labels ++ given ∷ [] } = given_moves mid new s _ there is in
+    record {
+      others = changes_then s old mid new before.others others;
+      last = ap (λ (x : StateMoves). x.last) e ∙ before.last;
+      labels = ap (λ (x : StateMoves). x.labels) e ∙ ap (λ ls. ls ++ given ∷ []) before.labels ∙ map_more (redirected same) (moves_at old s).labels moves i m given lt at same_move;
+      texts = ap (λ (x : StateMoves). x.texts) e ∙ before.texts;
+    }
+
+pub text_given : (same : List State) (s : State) (moves : List TextMove) (i : ℕ) (m : TextMove) (words : TextClass) (rest : State) (old mid new : Automaton) → i < length moves → m ≡ get_or moves i m
+    → words ≡ m.words → rest ≡ stand_in same m.rest → IsState mid s → new ≡ with_text_move mid s (record { words = words; rest = rest }) → ChangesOnly s mid new
+    → RedirectsTexts same s (take i moves) old mid → RedirectsTexts same s (take (i + 1) moves) old new
+text_given same s moves i m words rest old mid new lt at k v there is others before =
+    let given : TextMove = record { words = words; rest = rest } in
+    let same_move : given ≡ text_redirected same m =
+    ap (λ (x : TextClass). let y : TextMove = record { words = x; rest = rest } in y) k
+    ∙ ap (λ (x : State). let y : TextMove = record { words = m.words; rest = x } in y) v in
+    let e : moves_at new s ≡ record (moves_at mid s) { texts = (moves_at mid s).texts ++ given ∷ [] } = given_moves mid new s _ there is in
+    record {
+      others = changes_then s old mid new before.others others;
+      last = ap (λ (x : StateMoves). x.last) e ∙ before.last;
+      labels = ap (λ (x : StateMoves). x.labels) e ∙ before.labels;
+      texts = ap (λ (x : StateMoves). x.texts) e ∙ ap (λ ls. ls ++ given ∷ []) before.texts ∙ map_more (text_redirected same) (moves_at old s).texts moves i m given lt at same_move;
+    }

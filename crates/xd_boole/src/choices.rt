@@ -12,7 +12,7 @@ use xd_auto::State;
 use xd_doc::NoMemory;
 
 /// States that are to refuse the content, and states that are to refuse what follows.
-#[derive(Debug, Drop)]
+#[derive(Drop)]
 pub(crate) struct Choice {
     pub(crate) contents: Vec<State>,
     pub(crate) rests: Vec<State>,

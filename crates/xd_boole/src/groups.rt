@@ -63,7 +63,7 @@ pub(crate) trait Step<C, S> {
 }
 
 /// What a move on an element says of the content and of what follows the element.
-#[derive(Clone, Copy, Debug)]
+#[derive(Clone, Copy)]
 pub(crate) struct Side {
     pub(crate) content: State,
     pub(crate) rest: State,
@@ -101,7 +101,7 @@ impl Step<Words, State> for TextMove {
 }
 
 /// Names that the same moves match, and what these moves say.
-#[derive(Debug, Drop)]
+#[derive(Drop)]
 pub(crate) struct Group<C, S> {
     pub(crate) class: C,
     pub(crate) sides: Vec<S>,

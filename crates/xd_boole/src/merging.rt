@@ -13,7 +13,7 @@ use xd_auto::{Auto, LabelMove, State, TextMove};
 use xd_doc::{Class, NoMemory, Words};
 
 /// Two states that are compared.
-#[derive(Clone, Copy, Debug)]
+#[derive(Clone, Copy)]
 pub(crate) struct Compared {
     pub(crate) one: State,
     pub(crate) other: State,
@@ -249,7 +249,6 @@ fn see_states(alloc: Global, auto: &Auto, same: &mut Vec<State>) -> Result<(), N
 }
 
 /// Each state for itself.
-#[tactic(auto, using(crate::proofs::MergeLemmas::itself_push, crate::proofs::MergeLemmas::all_themselves))]
 fn each_itself(alloc: Global, auto: &Auto) -> Result<Vec<State>, NoMemory>
     ensures { IfOk result (λ same. AreStandIns auto.now same.items) }
 {

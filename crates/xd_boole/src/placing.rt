@@ -14,7 +14,7 @@ use xd_doc::NoMemory;
 
 /// Where a point stands in the automaton: at the old state from which nothing is taken away, at a new
 /// one, or nowhere, since it accepts nothing.
-#[derive(Clone, Copy, Debug)]
+#[derive(Clone, Copy)]
 pub(crate) enum Place {
     Old(State),
     New(State),

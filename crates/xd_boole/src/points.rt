@@ -16,7 +16,7 @@ use xd_doc::NoMemory;
 
 /// A state, the left, and states of another automaton that are taken away from it, the rights: what a
 /// state of the new automaton stands for.
-#[derive(Debug, Drop)]
+#[derive(Drop)]
 pub(crate) struct Point {
     pub(crate) left: State,
     pub(crate) rights: Vec<State>,

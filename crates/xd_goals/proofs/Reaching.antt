@@ -1,5 +1,5 @@
 -- Goals that are reached through leaves.
-use Rattle.std.proofs.Common.{ℕ, zero, suc, ◌+◌, ◌<◌, ◌≡◌, Bool, true, false, Some, List, [], ◌∷◌, ◌++◌, length, get_or, set, get_or-set_same, get_or-set_other, ◌⊎◌, inl, inr, ⊎_elim, sym, ap, ◌∙◌, subst, arith, length-append, length-set, take}
+use Rattle.std.proofs.Common.{ℕ, zero, suc, ◌+◌, ◌<◌, ◌≡◌, Bool, true, false, Some, List, [], ◌∷◌, ◌++◌, length, get_or, set, get_or-set_same, get_or-set_other, ◌⊎◌, inl, inr, ⊎_elim, refl, sym, ap, ◌∙◌, subst, arith, length-append, length-set, take}
 use Rattle.std.specs.List.{slice_get, AllByRecursion}
 use Rattle.std.proofs.lemmas.Bool.{cases_lt, cases_eq}
 use Rattle.std.proofs.lemmas.List.{get_or_past, get_or_append_left, get_or_default, take_more}
@@ -273,3 +273,10 @@ leads_push nodes m m2 ks i k lt e f h p =
 
 pub new_mark : (marks : List Bool) (g : ℕ) (b : Bool) → g < length marks → b ≡ get_or marks g b → b ≡ false → is_marked marks g ≡ false
 new_mark marks g b lt e f = get_or_default marks g false b lt ∙ sym e ∙ f
+
+-- one more mark that isn't set
+pub unmarked_push : (ms : List Bool) → ((g : ℕ) → is_marked ms g ≡ false) → (g : ℕ) → is_marked (ms ++ false ∷ []) g ≡ false
+unmarked_push [] h zero = refl
+unmarked_push [] h (suc g) = refl
+unmarked_push (m ∷ ms) h zero = h zero
+unmarked_push (m ∷ ms) h (suc g) = unmarked_push ms (λ k. h (suc k)) g

@@ -1,5 +1,5 @@
 -- A program that gets more types, in steps.
-use Rattle.std.proofs.Common.{◌≡◌, ◌≤◌, [], refl, sym, ◌∙◌, append-nil}
+use Rattle.std.proofs.Common.{◌≡◌, ◌≤◌, [], refl, ap, sym, subst, ◌∙◌, append-nil}
 use Rattle.xd_syntax.specs.Tree.{Tree}
 use Rattle.xd_syntax.specs.TypeText.{depth}
 use Rattle.xd_syntax.specs.Kept.{ProgramTable, AddsTypes, program_tree}
@@ -21,3 +21,7 @@ grows_then p q r a b = record { adds = AddsTypes-trans p q r a.adds b.adds; same
 pub grows_one : (p q r : ProgramTable) (T : Tree) → GrowsTypes p q → AddsTypes q r → program_tree r ≡ program_tree q → (depth T ≤ nesting_limit → IsShallow q.types → IsShallow r.types) →
     (IsShallow p.types → depth T ≤ nesting_limit) → GrowsTypes p r
 grows_one p q r T g a e s d = record { adds = AddsTypes-trans p q r g.adds a; same = e ∙ g.same; shallow = λ h. s (d h) (g.shallow h) }
+
+-- the program is one that grew already
+pub grows_along : (p q r : ProgramTable) → AddsTypes p q → program_tree q ≡ program_tree p → (IsShallow p.types → IsShallow q.types) → r ≡ q → GrowsTypes p r
+grows_along p q r a s h e = record { adds = subst (AddsTypes p) (sym e) a; same = ap program_tree e ∙ s; shallow = λ w. subst (λ (t : ProgramTable). IsShallow t.types) (sym e) (h w) }

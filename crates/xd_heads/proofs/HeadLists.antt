@@ -95,6 +95,16 @@ module _ (p q : ProgramTable) (g : GrowsTypes p q) (cells : List Cell) (nodes : 
         (i.shallow (shallow_before p.types q.types g.adds.types s));
   }
 
+-- the cells' nodes stay where they are, and so does a content
+pub nodes_stay : (old new : List Row) → KeepsRows old new → (cells : List Cell) → AreOfTypes old cells → AreOfTypes new cells
+nodes_stay old new k cells nodes =
+    let l = more_rows old new k in
+    all_same (λ (c : Cell). c.item.node < length old) (λ (c : Cell). c.item.node < length new) cells (λ c h. omega arith) nodes
+
+pub content_belongs : (old new : List Row) → KeepsRows old new → (inside : Option TypeId) → ContentBelongs old inside → ContentBelongs new inside
+content_belongs old new k None b = tt
+content_belongs old new k (Some id) b = let l = more_rows old new k in omega arith
+
 -- ---- types of rests
 
 pub no_rest : (types : List Row) (cells : List Cell) → continuation types cells 0 ≡ []

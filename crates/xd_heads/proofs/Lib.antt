@@ -1,5 +1,6 @@
 pub mod CellLemmas
 pub mod Putting
+pub mod Forming
 pub mod Working
 pub mod StateLemmas
 pub mod Sparing

@@ -28,3 +28,9 @@ others_then from a b c s t = record {
 -- where all old states stay, the automaton extends the old one
 pub spares_extends : (a b : Automaton) → Spares (length a) a b → Extends a b
 spares_extends a b s = record { states = λ t h. (let l = s.longer in omega arith); moves = λ t h. s.stay (state_number t) h }
+
+pub spares_both : (first second : ℕ) (a b c : Automaton) → first ≤ second → Spares first a b → Spares second b c → Spares first a c
+spares_both first second a b c l s o = record {
+  longer = (let p = s.longer in let q = o.longer in omega arith);
+  stay = λ n h. o.stay n (omega arith) ∙ s.stay n h;
+}

@@ -23,7 +23,7 @@ use xd_pieces::Piece;
 use xd_syntax::{TypeDef, TypeForm, TypeId, Types};
 
 /// An element or a text that a document can begin with, and the number of the continuation behind it.
-#[derive(Clone, Copy, Debug)]
+#[derive(Clone, Copy)]
 pub(crate) struct Found {
     pub node: usize,
     pub rest: usize,
@@ -224,11 +224,11 @@ fn work_form<S: StandIns>(
     ensures chosen { OnOk result (StayChosen (S.chosen types.now stand_ins.now) cells.old cells.new) }
 {
     match form {
-        TypeForm::Empty => {}
-        TypeForm::Text => push_found(types, task, cells, found)?,
-        TypeForm::Words(_) => push_found(types, task, cells, found)?,
-        TypeForm::Name(name) => { push_body(types, defs, bodies, name, task.behind, cells, tasks)? }
-        TypeForm::Elem(_, _) => push_found(types, task, cells, found)?,
+        TypeForm::Empty => Ok(()),
+        TypeForm::Text => push_found(types, task, cells, found),
+        TypeForm::Words(_) => push_found(types, task, cells, found),
+        TypeForm::Name(name) => push_body(types, defs, bodies, name, task.behind, cells, tasks),
+        TypeForm::Elem(_, _) => push_found(types, task, cells, found),
         TypeForm::Seq(parts) => push_sequence(
             types,
             marks,
@@ -237,8 +237,8 @@ fn work_form<S: StandIns>(
             cells,
             stand_ins,
             tasks,
-        )?,
-        TypeForm::Alt(parts) => push_options(types, parts, task.behind, cells, tasks)?,
+        ),
+        TypeForm::Alt(parts) => push_options(types, parts, task.behind, cells, tasks),
         TypeForm::Star(part) => push_turn(
             types,
             *part,
@@ -247,7 +247,7 @@ fn work_form<S: StandIns>(
             cells,
             stand_ins,
             tasks,
-        )?,
+        ),
         TypeForm::Plus(part) => {
             push_turn(
                 types,
@@ -257,11 +257,10 @@ fn work_form<S: StandIns>(
                 cells,
                 stand_ins,
                 tasks,
-            )?
+            )
         }
-        TypeForm::Opt(part) => push_part(types, *part, task.behind, cells, tasks)?,
+        TypeForm::Opt(part) => push_part(types, *part, task.behind, cells, tasks),
     }
-    Ok(())
 }
 
 /// Works off a task: finds what it gives itself, and puts the tasks that it leaves on the others.

@@ -13,7 +13,7 @@ use xd_doc::NoMemory;
 
 /// What a state belongs to: the continuation with this number, or a pattern. Each stands once, so the latter has the
 /// state's own number.
-#[derive(Clone, Copy, Debug, PartialEq, Eq, Hash)]
+#[derive(Clone, Copy, PartialEq, Eq, Hash)]
 pub(crate) enum Owner {
     Continuation(usize),
     Pattern(usize),

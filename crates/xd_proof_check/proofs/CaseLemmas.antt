@@ -29,6 +29,7 @@ use Rattle.xd_proof_check.specs.Corresponds.{Corresponds}
 use Rattle.xd_proof_check.specs.Reasons.{reason_of}
 use Rattle.xd_proof_check.specs.Walk.{IsSetting, SettingView}
 use Rattle.xd_proof_check.specs.declared.atoms.Named.{Named}
+use Rattle.xd_proof_check.specs.Paths.{KeepsRoom}
 use Rattle.xd_proof_check.specs.declared.path.Path.{Path}
 use Rattle.xd_proof_check.specs.declared.verdict.Reason.{Reason}
 use Rattle.xd_proof_check.proofs.SettingLemmas.{length-kinds_of}
@@ -338,3 +339,17 @@ module _ (types : List Row) (cells : List Cell) (E : Definitions) (gs : List Goa
 
   pub cases_done : (at line : ℕ) → length v.cases ≤ at → wrong_cases E gs g line [] (drop at g.cases) ≡ None
   cases_done at line h = no_case_left types cells E gs g v p f m at line h
+
+-- cases go on to fit where the tables of marks are as long as they were
+pub fits_kept : (v : CasesView) (p q : Path) → KeepsRoom p q → CasesFit v p → CasesFit v q
+fits_kept v p q k h = record {
+  belong = h.belong;
+  trees = h.trees;
+  on_content = λ i. omega (arith, k.content, h.on_content i);
+  on_rest = λ i. omega (arith, k.rest, h.on_rest i);
+  contents_fit = λ i. omega (arith, k.content, h.contents_fit i);
+  rests_fit = λ i. omega (arith, k.rest, h.rests_fit i);
+  contents = h.contents;
+  rests = h.rests;
+  split = omega (arith, k.split, h.split);
+}

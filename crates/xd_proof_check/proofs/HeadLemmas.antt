@@ -123,3 +123,17 @@ cases_fit s g h p f cs ls rs contents rests c r k m =
       rests = m;
       split = subst (λ xs. length xs ≤ length p.split.items) (sym r) f.split;
     }
+
+-- one more element of a mapped front
+pub map-take_more : {A B : Type 0} (f : A → B) (xs : List A) (i : ℕ) (x : A) → i < length xs → x ≡ get_or xs i x → map f (take (i + 1) xs) ≡ map f (take i xs) ++ f x ∷ []
+map-take_more {A} {B} f xs i x lt e = ap (map f) (take_more xs i x lt) ∙ mapped (take i xs) (get_or xs i x) ∙ ap (λ (y : A). map f (take i xs) ++ f y ∷ []) (sym e)
+  where
+    mapped : (ys : List A) (y : A) → map f (ys ++ y ∷ []) ≡ map f ys ++ f y ∷ []
+    mapped [] y = refl
+    mapped (z ∷ ys) y = ap (λ (zs : List B). f z ∷ zs) (mapped ys y)
+
+-- what holds of all holds of the one at a place
+pub all_get : {A : Type 0} (P : A → Type 0) (xs : List A) (i : ℕ) (d : A) → AllByRecursion P xs → i < length xs → P (get_or xs i d)
+all_get P [] i d h lt = absurd (omega arith)
+all_get P (y ∷ xs) zero d h lt = h.0
+all_get P (y ∷ xs) (suc i) d h lt = all_get P xs i d h.1 (omega arith)

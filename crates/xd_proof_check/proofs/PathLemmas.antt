@@ -4,7 +4,7 @@ use Rattle.std.proofs.lemmas.List.{reverse-append, length-reverse}
 use Rattle.std.proofs.lemmas.Bool.{eq-eqb, eqb-true}
 use Rattle.std.proofs.Math.ListN.{set}
 use Rattle.xd_pieces.specs.Codes.{number_at}
-use Rattle.xd_proof_check.specs.Paths.{count_of, AreCounts, AreMarks, IsClear, IsPath, content_side, rest_side, heads_split, turns_of}
+use Rattle.xd_proof_check.specs.Paths.{count_of, AreCounts, AreMarks, HasRoom, IsClear, IsPath, KeepsRoom, content_side, rest_side, heads_split, turns_of}
 use Rattle.xd_proof_check.specs.declared.path.Path.{Path}
 use Rattle.xd_proof_check.specs.declared.path.Turn.{Turn}
 
@@ -90,3 +90,15 @@ pub no_counts : (n : ℕ) → AreCounts (replicate n 0) []
 no_counts zero m = refl
 no_counts (suc n) zero = refl
 no_counts (suc n) (suc m) = no_counts n m
+
+-- room for marks stays where their tables are as long as they were
+pub room_kept : (contents rests : List ℕ) (p q : Path) → KeepsRoom p q → HasRoom contents rests p → HasRoom contents rests q
+room_kept contents rests p q k h = record {
+  content = λ i. omega (arith, k.content, h.content i);
+  rest = λ i. omega (arith, k.rest, h.rest i);
+  split = omega (arith, k.split, h.split);
+  same = h.same;
+}
+
+pub keeps_then : (p q r : Path) → KeepsRoom p q → KeepsRoom q r → KeepsRoom p r
+keeps_then p q r h k = record { content = k.content ∙ h.content; rest = k.rest ∙ h.rest; split = k.split ∙ h.split }

@@ -1,5 +1,6 @@
 -- Settings of cases.
-use Rattle.std.proofs.Common.{◌≡◌, ℕ, zero, suc, ◌-◌, ◌<◌, arith, Bool, true, false, not, cond, ◌&&◌, Option, Some, None, Result, Ok, Err, IfOk, List, [], ◌∷◌, length, refl, ap, sym, ◌∙◌}
+use Rattle.std.proofs.Common.{◌≡◌, ℕ, zero, suc, ◌-◌, ◌<◌, ◌≤◌, arith, Bool, true, false, not, cond, ◌&&◌, Option, Some, None, Result, Ok, Err, IfOk, List, [], ◌∷◌, length, drop, get_or, refl, ap, sym, ◌∙◌}
+use Rattle.std.proofs.Math.Seq.{drop-cons}
 use Rattle.std.specs.Option.{IfNone, option_map}
 use Rattle.xd_laws.specs.Heads as laws
 use Rattle.xd_laws.specs.Consistent.{Atom, this_label, other_label, this_text, other_text, ChoiceTree, Goal, numbered, matches_atom, no_sides}
@@ -14,13 +15,13 @@ use Rattle.xd_proof_lines.specs.declared.steps.Step.{Step}
 use Rattle.xd_proof_check.specs.Atoms.{kinds_of}
 use Rattle.xd_proof_check.specs.Leaves.{is_among}
 use Rattle.xd_proof_check.specs.Corresponds.{Corresponds}
-use Rattle.xd_proof_check.specs.Paths.{IsClear, IsPath, heads_split, turned, turns_of}
+use Rattle.xd_proof_check.specs.Paths.{IsClear, IsPath, KeepsRoom, heads_split, turned, turns_of}
 use Rattle.xd_proof_check.specs.Reasons.{reason_of}
 use Rattle.xd_proof_check.specs.declared.verdict.Reason as code
-use Rattle.xd_proof_check.specs.Walk.{SettingView, kind_matches, rest_turns, split_fits, turns_after, wrong_steps, wrong_text_step}
+use Rattle.xd_proof_check.specs.Walk.{IsSetting, SettingView, kind_matches, rest_turns, split_fits, turns_after, wrong_steps, wrong_text_step}
 use Rattle.xd_proof_check.specs.declared.path.Path.{Path}
 use Rattle.xd_proof_check.specs.declared.path.Turn.{Turn}
-use Rattle.xd_proof_check.proofs.PathLemmas.{path_clear}
+use Rattle.xd_proof_check.proofs.PathLemmas.{path_clear, room_kept}
 use Rattle.xd_proof_check.proofs.WalkLemmas.{text_walked, tree_left, tree_walked}
 
 -- kinds of heads by number
@@ -132,3 +133,26 @@ pub text_clears : {E : Type 0} (contents rests : List ℕ) (a : Atom) (ks : List
 text_clears contents rests a ks ts p (Ok None) n h = path_clear contents rests p h.0 (h.1 ∙ ap turned n ∙ rest_turns_left a 0 ks)
 text_clears contents rests a ks ts p (Ok (Some r)) n h = tt
 text_clears contents rests a ks ts p (Err e) n h = tt
+
+-- a setting goes on to fit where the tables of marks are as long as they were
+pub setting_kept : (s : SettingView) (p q : Path) → KeepsRoom p q → IsSetting s p → IsSetting s q
+setting_kept s p q k h = record {
+  belong = h.belong;
+  contents = λ i. omega (arith, k.content, h.contents i);
+  rests = λ i. omega (arith, k.rest, h.rests i);
+  heads = h.heads;
+  room = room_kept s.contents s.rests p q k h.room;
+}
+
+abbrev pub rest_turn : ℕ → Turn
+rest_turn n = record { right = n; on_rest = true }
+
+-- one more right head, from the last one on
+pub rest_turns_more : (a : Atom) (hs : List NumberedHead) (r : ℕ) (h : NumberedHead) (b : Bool) → 0 < r → r ≤ length hs → b ≡ matches_atom a (kind_at (get_or hs (r - 1) h).kind)
+    → rest_turns a (r - 1) (kinds_of (drop (r - 1) hs)) ≡ cond b (rest_turn (r - 1) ∷ rest_turns a r (kinds_of (drop r hs))) (rest_turns a r (kinds_of (drop r hs)))
+rest_turns_more a hs r h b pos le m =
+    let s : suc (r - 1) ≡ r = omega arith in
+    let lt : r - 1 < length hs = omega arith in
+    ap (λ (xs : List NumberedHead). rest_turns a (r - 1) (kinds_of xs)) (drop-cons hs (r - 1) h lt)
+    ∙ ap (λ c. cond c (rest_turn (r - 1) ∷ rest_turns a (suc (r - 1)) (kinds_of (drop (suc (r - 1)) hs))) (rest_turns a (suc (r - 1)) (kinds_of (drop (suc (r - 1)) hs)))) (sym m)
+    ∙ ap (λ n. cond b (rest_turn (r - 1) ∷ rest_turns a n (kinds_of (drop n hs))) (rest_turns a n (kinds_of (drop n hs)))) s

@@ -1,4 +1,4 @@
-use Rattle.std.proofs.Common.{◌≡◌, ◌∙◌, sym, subst, List, [], ◌∷◌, ◌++◌, arith}
+use Rattle.std.proofs.Common.{◌≡◌, ◌∙◌, sym, subst, List, [], arith}
 use Rattle.std.proofs.lemmas.Grind.{common_steps}
 use Rattle.xd_boole.specs.declared.choices.Choice.{Choice}
 use Rattle.xd_boole.specs.Choices.{AddsChoice}
@@ -12,9 +12,8 @@ returns-then-contains c =
 
 pub loop-other-2-preserved : goal.loop-other-2-preserved
 loop-other-2-preserved c =
-    let is : c.loop-other-2.choices.items ≡ c.pop.new.self.items ++ c.in-Some.other ∷ [] = grind (arith, common_steps) in
     drops_more c.args.choice c.in-Some.other c.args.choices.items c.loop-other-2.kept.items c.keep_choice.new.kept.items c.loop-other-2.choices.items c.pop.new.self.items
-    c.in_ok-keep_choice.ensures is c.loop-other-2.invariant
+    c.in_ok-keep_choice.ensures c.in-Some.ensures.items c.loop-other-2.invariant
 
 pub returns : goal.returns
 returns c =

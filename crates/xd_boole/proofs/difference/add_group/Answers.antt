@@ -47,3 +47,14 @@ returns c =
     (any_walked (choice_refuses b q.content q.rest) items c.loop-choice.choice-index c.loop-choice-test.false ∙ ap (any_choice b q.content q.rest) c.deref-choice-items.ensures.value
     ∙ c.in_ok-choices.ensures.refused b universal q.content q.rest ∙ ap (λ ss. not (list_any (side_accepts b q.content q.rest) ss)) c.deref.ensures.value)
     ∙ part_group (side_accepts a q.content q.rest c.args.part) (class_has group.class q.label) (not (list_any (side_accepts b q.content q.rest) group.sides.items)))
+
+pub add_move-requires : goal.add_move-requires
+add_move-requires c =
+    let b = c.args.taken.now.auto in
+    let next = all_step (IsChoiceOf b) c.deref-choice-items.result.now c.loop-choice.choice-index c.choice-item.result c.loop-choice-test.true c.choice-item.is c.loop-choice.invariant.left in
+    record {
+      whole = c.loop-choice.invariant.adds.whole;
+      below = c.loop-choice.invariant.adds.below;
+      part = c.requires.part;
+      choice = next.0;
+    }

@@ -1,5 +1,6 @@
-use Rattle.std.proofs.Common.{◌&&◌, not, ap, ◌∙◌}
+use Rattle.std.proofs.Common.{◌&&◌, not, ap, refl, ◌∙◌}
 use Rattle.xd_auto.specs.Automaton.{accepts}
+use Rattle.xd_auto.proofs.Extending.{Extends-same}
 use Rattle.xd_boole.specs.Meaning.{PointView, means}
 use Rattle.xd_boole.proofs.Bools.{or_nothing}
 use Rattle.xd_boole.proofs.difference.subtract.Goals as goal
@@ -11,3 +12,27 @@ returns-clause-exact c = λ d.
     c.in_ok-state.ensures.exact d ∙ ap (λ (q : PointView). means a b q d) c.in_ok-points.ensures.start.is
     ∙ ap (λ w. accepts a d c.args.left && not w)
     (or_nothing (accepts b d c.in_ok-part.right) ∙ c.in_ok-part-2.ensures.same d c.in_ok-part.right ∙ c.in_ok-part.ensures.ok d)
+
+pub returns-in_err-part-clause-extends : goal.returns-in_err-part-clause-extends
+returns-in_err-part-clause-extends c = Extends-same c.args.auto.now c.args.auto.now refl
+
+pub returns-in_err-part-2-clause-extends : goal.returns-in_err-part-2-clause-extends
+returns-in_err-part-2-clause-extends c = Extends-same c.args.auto.now c.args.auto.now refl
+
+pub returns-in_err-universal-clause-extends : goal.returns-in_err-universal-clause-extends
+returns-in_err-universal-clause-extends c = Extends-same c.args.auto.now c.args.auto.now refl
+
+pub returns-in_err-points-clause-extends : goal.returns-in_err-points-clause-extends
+returns-in_err-points-clause-extends c = Extends-same c.args.auto.now c.args.auto.now refl
+
+pub returns-in_err-marks-clause-extends : goal.returns-in_err-marks-clause-extends
+returns-in_err-marks-clause-extends c = Extends-same c.args.auto.now c.args.auto.now refl
+
+pub returns-in_err-state-clause-extends : goal.returns-in_err-state-clause-extends
+returns-in_err-state-clause-extends c = c.place_points.ensures.extends
+
+pub returns-clause-extends : goal.returns-clause-extends
+returns-clause-extends c = c.place_points.ensures.extends
+
+pub returns-clause-belongs : goal.returns-clause-belongs
+returns-clause-belongs c = c.in_ok-state.ensures.belongs

@@ -1,9 +1,13 @@
-use Rattle.std.proofs.Common.{not, length}
+use Rattle.std.proofs.Common.{◌&&◌, false, not, List, [], length, ap, refl, sym, subst, ◌∙◌}
+use Rattle.std.specs.List.{list_any}
+use Rattle.xd_auto.specs.declared.auto.TextMove.{TextMove}
 use Rattle.xd_boole.specs.Meaning.{any_accepts, text_of, text_takes}
-use Rattle.xd_boole.specs.Points.{TextBelow, text_means}
+use Rattle.xd_boole.specs.Points.{AddsTexts, TextBelow, text_means}
+use Rattle.xd_boole.proofs.Adding.{grows_same}
+use Rattle.xd_boole.proofs.Closing.{texts_are}
 use Rattle.xd_boole.proofs.Differing.{left_more}
-use Rattle.xd_boole.proofs.Growing.{adds_then, text_below_more, text_stays}
-use Rattle.xd_boole.proofs.Lists.{all_step}
+use Rattle.xd_boole.proofs.Growing.{adds_like, adds_none, adds_then, text_below_more, text_stays}
+use Rattle.xd_boole.proofs.Lists.{all_step, any_walked}
 use Rattle.xd_boole.proofs.difference.text_moves.Goals as goal
 
 pub loop-step-preserved : goal.loop-step-preserved
@@ -18,3 +22,22 @@ loop-step-preserved c =
           (λ q. left_more (text_takes a q) items i x (not (any_accepts b c.args.rights.now (text_of q))) c.loop-step-test.true c.step-item.is);
       left = next.1;
     }
+
+pub loop-step-init : goal.loop-step-init
+loop-step-init c =
+    let a = c.args.auto.now in
+    let b = c.args.taken.now.auto in
+    let p = c.args.points.now in
+    record {
+      adds = subst (λ (ms : List TextMove). AddsTexts a b p p [] ms (λ q. false)) (sym c.new-texts.ensures.items)
+          (adds_none TextBelow (text_means a b) a b (text_stays a b) text_below_more p [] (λ q. false) c.requires.whole tt (grows_same p) (λ q. refl));
+      left = texts_are a c.args.left c.text_moves-step-items.result.now c.text_moves-step-items.ensures.value c.text_moves-step-items.ensures.closed;
+    }
+
+pub returns : goal.returns
+returns c =
+    let a = c.args.auto.now in
+    let b = c.args.taken.now.auto in
+    adds_like TextBelow (text_means a b) a b (text_stays a b) text_below_more c.args.points.now c.loop-step.points [] c.loop-step.texts.items _ _ c.loop-step.invariant.adds
+    (λ q. ap (λ w. w && not (any_accepts b c.args.rights.now (text_of q)))
+    (any_walked (text_takes a q) c.text_moves-step-items.result.now c.loop-step.step-index c.loop-step-test.false ∙ ap (list_any (text_takes a q)) c.text_moves-step-items.ensures.value))

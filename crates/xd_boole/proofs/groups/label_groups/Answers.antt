@@ -1,4 +1,4 @@
-use Rattle.std.proofs.Common.{◌≡◌, true, take, length, get_or, ◌&&◌, ◌+◌}
+use Rattle.std.proofs.Common.{◌≡◌, true, not, take, length, get_or, ap, ◌∙◌, ◌&&◌, ◌+◌}
 use Rattle.std.specs.List.{list_any}
 use Rattle.std.proofs.lemmas.List.Folds.{list_any_more}
 use Rattle.xd_doc.specs.Classes.{class_has}
@@ -9,7 +9,7 @@ use Rattle.xd_boole.specs.Groups.{any_group, is_side, label_side, passes_at, sid
 use Rattle.xd_boole.specs.Points.{MoveBelow, state_at}
 use Rattle.xd_boole.proofs.Bools.{divided_state}
 use Rattle.xd_boole.proofs.Closing.{labels_are}
-use Rattle.xd_boole.proofs.Lists.{all_map, all_step, at_itself}
+use Rattle.xd_boole.proofs.Lists.{all_map, all_step, any_walked, at_itself}
 use Rattle.xd_boole.proofs.MatchLemmas.{matching_tells}
 use Rattle.xd_boole.proofs.Refusing.{side_is}
 use Rattle.xd_boole.proofs.groups.label_groups.Goals as goal
@@ -39,3 +39,11 @@ loop-state-preserved c =
           (all_map (MoveBelow (length a)) (λ m. is_side a (label_side m) ≡ true) moves (side_is a) (labels_are a s moves c.label_moves.ensures.value c.label_moves.ensures.closed));
       left = next.1;
     }
+
+pub returns : goal.returns
+returns c = record {
+  taken = λ q.
+      c.loop-state.invariant.taken q
+      ∙ ap (λ w. class_has c.args.step.now.class q.label && not w) (any_walked (λ s. accepts c.args.auto.now (element_of q) s) c.args.states.now c.loop-state.state-index c.loop-state-test.false);
+  sides = c.loop-state.invariant.sides;
+}

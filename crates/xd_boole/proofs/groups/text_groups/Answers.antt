@@ -1,4 +1,4 @@
-use Rattle.std.proofs.Common.{◌≡◌, Bool, true, take, length, get_or, ◌&&◌, ◌+◌}
+use Rattle.std.proofs.Common.{◌≡◌, Bool, true, not, take, length, get_or, ap, ◌∙◌, ◌&&◌, ◌+◌}
 use Rattle.std.specs.List.{list_any}
 use Rattle.std.proofs.lemmas.List.Folds.{list_any_more}
 use Rattle.xd_doc.specs.Classes.{class_has}
@@ -10,7 +10,7 @@ use Rattle.xd_boole.specs.Groups.{any_group, passes_at}
 use Rattle.xd_boole.specs.Points.{TextBelow, state_at}
 use Rattle.xd_boole.proofs.Bools.{divided_state}
 use Rattle.xd_boole.proofs.Closing.{texts_are}
-use Rattle.xd_boole.proofs.Lists.{all_map, all_step, at_itself}
+use Rattle.xd_boole.proofs.Lists.{all_map, all_step, any_walked, at_itself}
 use Rattle.xd_boole.proofs.MatchLemmas.{matching_tells}
 use Rattle.xd_boole.proofs.Refusing.{is_state_of}
 use Rattle.xd_boole.proofs.groups.text_groups.Goals as goal
@@ -40,3 +40,11 @@ loop-state-preserved c =
           (all_map (TextBelow (length a)) (λ m. is_state a m.rest ≡ true) moves (λ m below. is_state_of a m.rest below) (texts_are a s moves c.text_moves.ensures.value c.text_moves.ensures.closed));
       left = next.1;
     }
+
+pub returns : goal.returns
+returns c = record {
+  taken = λ q.
+      c.loop-state.invariant.taken q
+      ∙ ap (λ w. class_has c.args.step.now.words q.characters && not w) (any_walked (λ s. accepts c.args.auto.now (text_of q) s) c.args.states.now c.loop-state.state-index c.loop-state-test.false);
+  sides = c.loop-state.invariant.sides;
+}

@@ -1,5 +1,4 @@
 use Rattle.std.proofs.Common.{◌≡◌, ◌<◌, ◌≤◌, length, arith, ap, sym, subst, ◌∙◌, IfSome, Option, Some, None, List, ◌+◌}
-use Rattle.std.proofs.lemmas.Grind.{common_steps}
 use Rattle.xd_auto.specs.declared.auto.State.{State}
 use Rattle.xd_auto.specs.Automaton.{Automaton, IsState}
 use Rattle.xd_boole.specs.declared.placing.Place.{Place}
@@ -29,7 +28,7 @@ loop-number-preserved c =
     let marks = c.args.marks.now in
     let places = c.in_ok-places.places.items in
     let n = c.loop-number.number in
-    let within : n < length places = grind (arith, common_steps) in
+    let within : n < length places = omega (arith, c.in_ok-places.places.ok.0) in
     let at : place_at places n ≡ c.index.result.now = place_read places n c.index.result.now within c.index.ensures in
     elim c.match-index.branch [
       | in-New+in_ok-give_moves w ↦
@@ -62,7 +61,7 @@ returns-in-Some-clause-exact c = λ d.
     let places = c.in_ok-places.places.items in
     let each = each_there a c.places_of.new.auto now p marks places c.loop-number.number c.in_ok-places.ensures.places c.loop-number.invariant in
     let is : state_of (place_at places c.args.start.number) ≡ Some c.in-Some.state = ap (λ (ps : List Place). state_of (place_at ps c.args.start.number)) (sym c.deref-2.ensures.value) ∙ sym c.in-Some.ensures in
-    let all : length places ≤ c.loop-number.number = grind (arith, common_steps) in
+    let all : length places ≤ c.loop-number.number = omega (arith, c.in_ok-places.places.ok.0) in
     ap (accepts_at now d) (sym is)
     ∙ stands a c.args.other.now p c.requires.expanded c.len-made.ensures.closed marks c.requires.marks places now c.len-old.ensures.closed c.loop-number.invariant.extends
     (λ i lt. each i (omega (arith, lt, c.in_ok-places.ensures.count)))
@@ -81,7 +80,7 @@ returns-clause-exact c = λ d.
     let places = c.in_ok-places.places.items in
     let each = each_there a c.places_of.new.auto now p marks places c.loop-number.number c.in_ok-places.ensures.places c.loop-number.invariant in
     let is : state_of (place_at places c.args.start.number) ≡ None = ap (λ (ps : List Place). state_of (place_at ps c.args.start.number)) (sym c.deref-2.ensures.value) ∙ sym c.in-None.ensures in
-    let all : length places ≤ c.loop-number.number = grind (arith, common_steps) in
+    let all : length places ≤ c.loop-number.number = omega (arith, c.in_ok-places.places.ok.0) in
     bare_accepts now c.add_state.new.self c.in_ok-nothing-in-None.nothing c.in_ok-nothing-in-None.ensures.ok.0 c.in_ok-nothing-in-None.ensures.ok.1 d
     ∙ ap (accepts_at now d) (sym is)
     ∙ stands a c.args.other.now p c.requires.expanded c.len-made.ensures.closed marks c.requires.marks places now c.len-old.ensures.closed c.loop-number.invariant.extends

@@ -1,3 +1,5 @@
+use Rattle.xd_goals.proofs.Growing.{Grows-same}
+use Rattle.xd_goals.specs.Kept.{view_of}
 use Rattle.std.proofs.Common.{◌≡◌, ◌∙◌, sym, ap, None}
 use Rattle.xd_goals.specs.Moves.{claim_with}
 use Rattle.xd_goals.specs.Rows.{claim_key}
@@ -42,3 +44,9 @@ pub returns-in-None-clause-there : goal.returns-in-None-clause-there
 returns-in-None-clause-there c =
     added_there c.add_row.result c.args.goals.now.rows.items c.add_row.new.rows.items c.args.goals.now.found c.add_row.new.found c.args.goals.now.nodes.items c.args.goals.now.links.items
     c.args.left c.args.rights.now c.add_row.ensures.ok c.add_row.ensures.err c.add_row.ensures.place
+
+pub returns-in-Some-clause-grows : goal.returns-in-Some-clause-grows
+returns-in-Some-clause-grows c = Grows-same (view_of c.args.goals.now)
+
+pub returns-in_err-key-clause-grows : goal.returns-in_err-key-clause-grows
+returns-in_err-key-clause-grows c = Grows-same (view_of c.args.goals.now)

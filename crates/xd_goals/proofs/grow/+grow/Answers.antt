@@ -1,3 +1,4 @@
+use Rattle.std.proofs.lemmas.Result.{IfOk-from_err}
 use Rattle.std.proofs.Common.{◌≡◌, ◌∙◌, arith}
 use Rattle.xd_goals.specs.Kept.{view_of}
 use Rattle.xd_goals.specs.Moves.{with_state}
@@ -104,3 +105,111 @@ returns-in-Fails-clause-grown t c = rw c.in-Fails.is at c.in_ok-inside.ensures.g
 
 pub returns-in-Fails-2-clause-grown : goal.returns-in-Fails-2-clause-grown
 returns-in-Fails-2-clause-grown t c = rw c.in-Fails-2.is at c.in_ok-inside-in-Stands.ensures.grown
+
+pub returns-in_err-grown-clause-consistent : goal.returns-in_err-grown-clause-consistent
+returns-in_err-grown-clause-consistent t c = c.next_growth.ensures.consistent
+
+pub returns-in_err-grown-clause-grows : goal.returns-in_err-grown-clause-grows
+returns-in_err-grown-clause-grows t c = c.next_growth.ensures.grows
+
+pub returns-in_err-grown-clause-grown : goal.returns-in_err-grown-clause-grown
+returns-in_err-grown-clause-grown t c = IfOk-from_err c.from_residual.result _ c.from_residual.ensures.0
+
+pub returns-in_err-grown-clause-right : goal.returns-in_err-grown-clause-right
+returns-in_err-grown-clause-right t c = c.next_growth.ensures.right
+
+pub returns-in_err-more-clause-consistent : goal.returns-in_err-more-clause-consistent
+returns-in_err-more-clause-consistent t c = c.next_growth.ensures.consistent
+
+pub returns-in_err-more-clause-grows : goal.returns-in_err-more-clause-grows
+returns-in_err-more-clause-grows t c = c.next_growth.ensures.grows
+
+pub returns-in_err-more-clause-grown : goal.returns-in_err-more-clause-grown
+returns-in_err-more-clause-grown t c = IfOk-from_err c.from_residual-in_err-more.result _ c.from_residual-in_err-more.ensures.0
+
+pub returns-in_err-more-clause-right : goal.returns-in_err-more-clause-right
+returns-in_err-more-clause-right t c = c.next_growth.ensures.right
+
+pub returns-in-Ends-clause-consistent : goal.returns-in-Ends-clause-consistent
+returns-in-Ends-clause-consistent t c = c.next_growth.ensures.consistent
+
+pub returns-in-Ends-clause-grows : goal.returns-in-Ends-clause-grows
+returns-in-Ends-clause-grows t c = c.next_growth.ensures.grows
+
+pub returns-in-Ends-clause-right : goal.returns-in-Ends-clause-right
+returns-in-Ends-clause-right t c = c.next_growth.ensures.right
+
+pub returns-in_err-inside-clause-consistent : goal.returns-in_err-inside-clause-consistent
+returns-in_err-inside-clause-consistent t c = c.grow.ensures.consistent
+
+pub returns-in_err-inside-clause-grown : goal.returns-in_err-inside-clause-grown
+returns-in_err-inside-clause-grown t c = IfOk-from_err c.from_residual-in_err-inside.result _ c.from_residual-in_err-inside.ensures.0
+
+pub returns-in_err-inside-clause-right : goal.returns-in_err-inside-clause-right
+returns-in_err-inside-clause-right t c = c.grow.ensures.right
+
+pub returns-in-Fails-clause-consistent : goal.returns-in-Fails-clause-consistent
+returns-in-Fails-clause-consistent t c = c.grow.ensures.consistent
+
+pub returns-in-Fails-clause-right : goal.returns-in-Fails-clause-right
+returns-in-Fails-clause-right t c = c.grow.ensures.right
+
+pub returns-in_err-more-in-Stands-clause-consistent : goal.returns-in_err-more-in-Stands-clause-consistent
+returns-in_err-more-in-Stands-clause-consistent t c = c.grow.ensures.consistent
+
+pub returns-in_err-more-in-Stands-clause-grown : goal.returns-in_err-more-in-Stands-clause-grown
+returns-in_err-more-in-Stands-clause-grown t c = IfOk-from_err c.from_residual-in_err-more-in-Stands.result _ c.from_residual-in_err-more-in-Stands.ensures.0
+
+pub returns-in_err-more-in-Stands-clause-right : goal.returns-in_err-more-in-Stands-clause-right
+returns-in_err-more-in-Stands-clause-right t c = c.grow.ensures.right
+
+pub returns-in_err-inside-in-Stands-clause-consistent : goal.returns-in_err-inside-in-Stands-clause-consistent
+returns-in_err-inside-in-Stands-clause-consistent t c = c.grow-in-Stands.ensures.consistent
+
+pub returns-in_err-inside-in-Stands-clause-grown : goal.returns-in_err-inside-in-Stands-clause-grown
+returns-in_err-inside-in-Stands-clause-grown t c = IfOk-from_err c.from_residual-in_err-inside-in-Stands.result _ c.from_residual-in_err-inside-in-Stands.ensures.0
+
+pub returns-in_err-inside-in-Stands-clause-right : goal.returns-in_err-inside-in-Stands-clause-right
+returns-in_err-inside-in-Stands-clause-right t c = c.grow-in-Stands.ensures.right
+
+pub returns-in-Fails-2-clause-consistent : goal.returns-in-Fails-2-clause-consistent
+returns-in-Fails-2-clause-consistent t c = c.grow-in-Stands.ensures.consistent
+
+pub returns-in-Fails-2-clause-right : goal.returns-in-Fails-2-clause-right
+returns-in-Fails-2-clause-right t c = c.grow-in-Stands.ensures.right
+
+pub returns-in_err-root-in-Stands-2-clause-consistent : goal.returns-in_err-root-in-Stands-2-clause-consistent
+returns-in_err-root-in-Stands-2-clause-consistent t c = c.add_split.ensures.consistent
+
+pub returns-in_err-root-in-Stands-2-clause-grown : goal.returns-in_err-root-in-Stands-2-clause-grown
+returns-in_err-root-in-Stands-2-clause-grown t c = IfOk-from_err c.from_residual-in_err-root-in-Stands-2.result _ c.from_residual-in_err-root-in-Stands-2.ensures.0
+
+pub returns-in_err-root-in-Stands-2-clause-right : goal.returns-in_err-root-in-Stands-2-clause-right
+returns-in_err-root-in-Stands-2-clause-right t c = c.grow-in-Stands.ensures.right
+
+pub returns-clause-consistent : goal.returns-clause-consistent
+returns-clause-consistent t c = c.add_split.ensures.consistent
+
+pub returns-clause-right : goal.returns-clause-right
+returns-clause-right t c = c.grow-in-Stands.ensures.right
+
+pub next_growth-requires-clause-consistent : goal.next_growth-requires-clause-consistent
+next_growth-requires-clause-consistent t c = c.requires.consistent
+
+pub next_growth-requires-clause-owner : goal.next_growth-requires-clause-owner
+next_growth-requires-clause-owner t c = c.requires.owner
+
+pub next_growth-requires-clause-path : goal.next_growth-requires-clause-path
+next_growth-requires-clause-path t c = c.requires.path
+
+pub next_growth-requires-clause-states : goal.next_growth-requires-clause-states
+next_growth-requires-clause-states t c = c.requires.states
+
+pub next_growth-requires-clause-separated : goal.next_growth-requires-clause-separated
+next_growth-requires-clause-separated t c = c.requires.separated
+
+pub next_growth-requires-clause-right : goal.next_growth-requires-clause-right
+next_growth-requires-clause-right t c = c.requires.right
+
+pub add_split-requires-clause-consistent : goal.add_split-requires-clause-consistent
+add_split-requires-clause-consistent t c = c.grow-in-Stands.ensures.consistent

@@ -1,3 +1,4 @@
+use Rattle.std.proofs.lemmas.Result.{IfOk-from_err}
 use Rattle.std.proofs.Common.{ℕ, ◌≡◌, List, Some, sym, ap, subst, ◌∙◌, arith}
 use Rattle.std.specs.List.{slice_get}
 use Rattle.xd_auto.specs.declared.auto.State.{State}
@@ -171,3 +172,138 @@ returns-in-Fails-clause-grown t c = rw c.in-Fails.is at c.in_ok-inside-in-Split.
 
 pub returns-in-Fails-2-clause-grown : goal.returns-in-Fails-2-clause-grown
 returns-in-Fails-2-clause-grown t c = rw c.in-Fails-2.is at c.in_ok-inside-in-Stands.ensures.grown
+
+pub returns-in_err-more-in-Split-clause-consistent : goal.returns-in_err-more-in-Split-clause-consistent
+returns-in_err-more-in-Split-clause-consistent t c = c.requires.consistent
+
+pub returns-in_err-more-in-Split-clause-grown : goal.returns-in_err-more-in-Split-clause-grown
+returns-in_err-more-in-Split-clause-grown t c = IfOk-from_err c.from_residual.result _ c.from_residual.ensures.0
+
+pub returns-in_err-more-in-Split-clause-right : goal.returns-in_err-more-in-Split-clause-right
+returns-in_err-more-in-Split-clause-right t c = c.requires.right
+
+pub returns-in_err-inside-in-Split-clause-consistent : goal.returns-in_err-inside-in-Split-clause-consistent
+returns-in_err-inside-in-Split-clause-consistent t c = c.repair.ensures.consistent
+
+pub returns-in_err-inside-in-Split-clause-grows : goal.returns-in_err-inside-in-Split-clause-grows
+returns-in_err-inside-in-Split-clause-grows t c = c.repair.ensures.grows
+
+pub returns-in_err-inside-in-Split-clause-grown : goal.returns-in_err-inside-in-Split-clause-grown
+returns-in_err-inside-in-Split-clause-grown t c = IfOk-from_err c.from_residual-in_err-inside-in-Split.result _ c.from_residual-in_err-inside-in-Split.ensures.0
+
+pub returns-in_err-inside-in-Split-clause-right : goal.returns-in_err-inside-in-Split-clause-right
+returns-in_err-inside-in-Split-clause-right t c = c.repair.ensures.right
+
+pub returns-in-Fails-clause-consistent : goal.returns-in-Fails-clause-consistent
+returns-in-Fails-clause-consistent t c = c.repair.ensures.consistent
+
+pub returns-in-Fails-clause-grows : goal.returns-in-Fails-clause-grows
+returns-in-Fails-clause-grows t c = c.repair.ensures.grows
+
+pub returns-in-Fails-clause-right : goal.returns-in-Fails-clause-right
+returns-in-Fails-clause-right t c = c.repair.ensures.right
+
+pub returns-in_err-more-in-Stands-clause-consistent : goal.returns-in_err-more-in-Stands-clause-consistent
+returns-in_err-more-in-Stands-clause-consistent t c = c.repair.ensures.consistent
+
+pub returns-in_err-more-in-Stands-clause-grows : goal.returns-in_err-more-in-Stands-clause-grows
+returns-in_err-more-in-Stands-clause-grows t c = c.repair.ensures.grows
+
+pub returns-in_err-more-in-Stands-clause-grown : goal.returns-in_err-more-in-Stands-clause-grown
+returns-in_err-more-in-Stands-clause-grown t c = IfOk-from_err c.from_residual-in_err-more-in-Stands.result _ c.from_residual-in_err-more-in-Stands.ensures.0
+
+pub returns-in_err-more-in-Stands-clause-right : goal.returns-in_err-more-in-Stands-clause-right
+returns-in_err-more-in-Stands-clause-right t c = c.repair.ensures.right
+
+pub returns-in_err-inside-in-Stands-clause-consistent : goal.returns-in_err-inside-in-Stands-clause-consistent
+returns-in_err-inside-in-Stands-clause-consistent t c = c.repair-in-Stands.ensures.consistent
+
+pub returns-in_err-inside-in-Stands-clause-grown : goal.returns-in_err-inside-in-Stands-clause-grown
+returns-in_err-inside-in-Stands-clause-grown t c = IfOk-from_err c.from_residual-in_err-inside-in-Stands.result _ c.from_residual-in_err-inside-in-Stands.ensures.0
+
+pub returns-in_err-inside-in-Stands-clause-right : goal.returns-in_err-inside-in-Stands-clause-right
+returns-in_err-inside-in-Stands-clause-right t c = c.repair-in-Stands.ensures.right
+
+pub returns-in-Fails-2-clause-consistent : goal.returns-in-Fails-2-clause-consistent
+returns-in-Fails-2-clause-consistent t c = c.repair-in-Stands.ensures.consistent
+
+pub returns-in-Fails-2-clause-right : goal.returns-in-Fails-2-clause-right
+returns-in-Fails-2-clause-right t c = c.repair-in-Stands.ensures.right
+
+pub returns-in_err-root-in-Stands-2-clause-consistent : goal.returns-in_err-root-in-Stands-2-clause-consistent
+returns-in_err-root-in-Stands-2-clause-consistent t c = c.split_again.ensures.consistent
+
+pub returns-in_err-root-in-Stands-2-clause-grown : goal.returns-in_err-root-in-Stands-2-clause-grown
+returns-in_err-root-in-Stands-2-clause-grown t c = IfOk-from_err c.from_residual-in_err-root-in-Stands-2.result _ c.from_residual-in_err-root-in-Stands-2.ensures.0
+
+pub returns-in_err-root-in-Stands-2-clause-right : goal.returns-in_err-root-in-Stands-2-clause-right
+returns-in_err-root-in-Stands-2-clause-right t c = c.repair-in-Stands.ensures.right
+
+pub returns-clause-consistent : goal.returns-clause-consistent
+returns-clause-consistent t c = c.split_again.ensures.consistent
+
+pub returns-clause-right : goal.returns-clause-right
+returns-clause-right t c = c.repair-in-Stands.ensures.right
+
+pub returns-in-Content-clause-consistent : goal.returns-in-Content-clause-consistent
+returns-in-Content-clause-consistent t c = c.repair_leaf.ensures.consistent
+
+pub returns-in-Content-clause-grows : goal.returns-in-Content-clause-grows
+returns-in-Content-clause-grows t c = c.repair_leaf.ensures.grows
+
+pub returns-in-Content-clause-grown : goal.returns-in-Content-clause-grown
+returns-in-Content-clause-grown t c = c.repair_leaf.ensures.grown
+
+pub returns-in-Content-clause-right : goal.returns-in-Content-clause-right
+returns-in-Content-clause-right t c = c.repair_leaf.ensures.right
+
+pub returns-in-Rest-clause-consistent : goal.returns-in-Rest-clause-consistent
+returns-in-Rest-clause-consistent t c = c.repair_leaf-in-Rest.ensures.consistent
+
+pub returns-in-Rest-clause-grows : goal.returns-in-Rest-clause-grows
+returns-in-Rest-clause-grows t c = c.repair_leaf-in-Rest.ensures.grows
+
+pub returns-in-Rest-clause-grown : goal.returns-in-Rest-clause-grown
+returns-in-Rest-clause-grown t c = c.repair_leaf-in-Rest.ensures.grown
+
+pub returns-in-Rest-clause-right : goal.returns-in-Rest-clause-right
+returns-in-Rest-clause-right t c = c.repair_leaf-in-Rest.ensures.right
+
+pub repair_leaf-requires-clause-consistent : goal.repair_leaf-requires-clause-consistent
+repair_leaf-requires-clause-consistent t c = c.requires.consistent
+
+pub repair_leaf-requires-clause-owner : goal.repair_leaf-requires-clause-owner
+repair_leaf-requires-clause-owner t c = c.requires.owner
+
+pub repair_leaf-requires-clause-path : goal.repair_leaf-requires-clause-path
+repair_leaf-requires-clause-path t c = c.requires.path
+
+pub repair_leaf-requires-clause-states : goal.repair_leaf-requires-clause-states
+repair_leaf-requires-clause-states t c = c.requires.states
+
+pub repair_leaf-requires-clause-separated : goal.repair_leaf-requires-clause-separated
+repair_leaf-requires-clause-separated t c = c.requires.separated
+
+pub repair_leaf-requires-clause-right : goal.repair_leaf-requires-clause-right
+repair_leaf-requires-clause-right t c = c.requires.right
+
+pub repair_leaf-requires-in-Rest-clause-consistent : goal.repair_leaf-requires-in-Rest-clause-consistent
+repair_leaf-requires-in-Rest-clause-consistent t c = c.requires.consistent
+
+pub repair_leaf-requires-in-Rest-clause-owner : goal.repair_leaf-requires-in-Rest-clause-owner
+repair_leaf-requires-in-Rest-clause-owner t c = c.requires.owner
+
+pub repair_leaf-requires-in-Rest-clause-path : goal.repair_leaf-requires-in-Rest-clause-path
+repair_leaf-requires-in-Rest-clause-path t c = c.requires.path
+
+pub repair_leaf-requires-in-Rest-clause-states : goal.repair_leaf-requires-in-Rest-clause-states
+repair_leaf-requires-in-Rest-clause-states t c = c.requires.states
+
+pub repair_leaf-requires-in-Rest-clause-separated : goal.repair_leaf-requires-in-Rest-clause-separated
+repair_leaf-requires-in-Rest-clause-separated t c = c.requires.separated
+
+pub repair_leaf-requires-in-Rest-clause-right : goal.repair_leaf-requires-in-Rest-clause-right
+repair_leaf-requires-in-Rest-clause-right t c = c.requires.right
+
+pub split_again-requires-clause-consistent : goal.split_again-requires-clause-consistent
+split_again-requires-clause-consistent t c = c.repair-in-Stands.ensures.consistent

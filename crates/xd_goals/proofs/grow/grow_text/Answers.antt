@@ -1,3 +1,4 @@
+use Rattle.std.proofs.lemmas.Result.{IfOk-from_err}
 use Rattle.std.proofs.Common.{◌≡◌, List, [], Some, subst, sym, ◌∙◌}
 use Rattle.xd_auto.specs.declared.auto.State.{State}
 use Rattle.xd_goals.specs.Moves.{claim_with}
@@ -34,3 +35,42 @@ returns-in-Refuted-clause-grown c = record {
   claim = subst (λ (ss : List State). claim_at c.leaf.new.goals.rows.items c.in_ok-rest.rest.number ≡ Some (claim_with c.args.task.rest ss)) (c.deref.ensures.value ∙ c.in_ok-rests.ensures) c.in_ok-rest.ensures.ok.claim;
   refuted = sym c.standing.ensures ∙ c.in-Refuted.is;
 }
+
+pub returns-in_err-rests-clause-consistent : goal.returns-in_err-rests-clause-consistent
+returns-in_err-rests-clause-consistent c = c.requires.consistent
+
+pub returns-in_err-rests-clause-grown : goal.returns-in_err-rests-clause-grown
+returns-in_err-rests-clause-grown c = IfOk-from_err c.from_residual.result _ c.from_residual.ensures.0
+
+pub returns-in_err-rest-clause-consistent : goal.returns-in_err-rest-clause-consistent
+returns-in_err-rest-clause-consistent c = c.leaf.ensures.consistent
+
+pub returns-in_err-rest-clause-grows : goal.returns-in_err-rest-clause-grows
+returns-in_err-rest-clause-grows c = c.leaf.ensures.grows
+
+pub returns-in_err-rest-clause-grown : goal.returns-in_err-rest-clause-grown
+returns-in_err-rest-clause-grown c = IfOk-from_err c.from_residual-in_err-rest.result _ c.from_residual-in_err-rest.ensures.0
+
+pub returns-in_err-add_node-in_default-clause-consistent : goal.returns-in_err-add_node-in_default-clause-consistent
+returns-in_err-add_node-in_default-clause-consistent c = c.add_node.ensures.consistent
+
+pub returns-in_err-add_node-in_default-clause-grown : goal.returns-in_err-add_node-in_default-clause-grown
+returns-in_err-add_node-in_default-clause-grown c = IfOk-from_err c.from_residual-in_err-add_node-in_default.result _ c.from_residual-in_err-add_node-in_default.ensures.0
+
+pub returns-in-Refuted-clause-consistent : goal.returns-in-Refuted-clause-consistent
+returns-in-Refuted-clause-consistent c = c.leaf.ensures.consistent
+
+pub returns-in-Refuted-clause-grows : goal.returns-in-Refuted-clause-grows
+returns-in-Refuted-clause-grows c = c.leaf.ensures.grows
+
+pub leaf-requires-clause-consistent : goal.leaf-requires-clause-consistent
+leaf-requires-clause-consistent c = c.requires.consistent
+
+pub leaf-requires-clause-owner : goal.leaf-requires-clause-owner
+leaf-requires-clause-owner c = c.requires.owner
+
+pub leaf-requires-clause-left : goal.leaf-requires-clause-left
+leaf-requires-clause-left c = c.requires.path.rest_below
+
+pub standing-requires : goal.standing-requires
+standing-requires c = c.in_ok-rest.ensures.there

@@ -1,4 +1,4 @@
-use Rattle.std.proofs.Common.{subst, sym}
+use Rattle.std.proofs.Common.{arith, subst, sym}
 use Rattle.xd_goals.specs.Kept.{AreThese, Grows, view_of}
 use Rattle.xd_goals.specs.Moves.{IsInOrder, claim_with}
 use Rattle.xd_goals.proofs.Growing.{Grows-then, Grows-weaken, claim_at-grows}
@@ -25,3 +25,18 @@ returns-clause-ok c = record {
   claim = claim_at-grows (view_of c.find_or_add.new.goals) (view_of c.depend.new.goals) c.in_ok-depend.ensures.grows c.in_ok-goal.goal.number (claim_with c.args.left c.args.rights.now) c.in_ok-goal.ensures.found;
   listed = c.in_ok-depend.ensures.listed;
 }
+
+pub returns-clause-consistent : goal.returns-clause-consistent
+returns-clause-consistent c = c.depend.ensures.consistent
+
+pub returns-in_err-depend-clause-consistent : goal.returns-in_err-depend-clause-consistent
+returns-in_err-depend-clause-consistent c = c.depend.ensures.consistent
+
+pub depend-requires-clause-consistent : goal.depend-requires-clause-consistent
+depend-requires-clause-consistent c = c.find_or_add.ensures.consistent
+
+pub depend-requires-clause-on : goal.depend-requires-clause-on
+depend-requires-clause-on c = c.in_ok-goal.ensures.there
+
+pub depend-requires-clause-owner : goal.depend-requires-clause-owner
+depend-requires-clause-owner c = omega (arith, c.find_or_add.ensures.grows.longer, c.requires.owner)

@@ -1,3 +1,5 @@
+use Rattle.std.proofs.lemmas.Result.{IfOk-from_err}
+use Rattle.std.proofs.Common.{arith}
 use Rattle.xd_goals.specs.Kept.{view_of}
 use Rattle.xd_goals.specs.Moves.{claim_with}
 use Rattle.xd_goals.specs.Standing.{IsSeparatedBy}
@@ -92,3 +94,102 @@ returns-in-None-clause-growth c =
 
 pub taker-requires-clause-sides : goal.taker-requires-clause-sides
 taker-requires-clause-sides c = rw c.requires.states at c.requires.path.sides_below
+
+pub returns-in_err-content-clause-consistent : goal.returns-in_err-content-clause-consistent
+returns-in_err-content-clause-consistent c = c.leaf.ensures.consistent
+
+pub returns-in_err-content-clause-grows : goal.returns-in_err-content-clause-grows
+returns-in_err-content-clause-grows c = c.leaf.ensures.grows
+
+pub returns-in_err-content-clause-growth : goal.returns-in_err-content-clause-growth
+returns-in_err-content-clause-growth c = IfOk-from_err c.from_residual.result _ c.from_residual.ensures.0
+
+pub returns-in_err-content-clause-right : goal.returns-in_err-content-clause-right
+returns-in_err-content-clause-right c = c.requires.right
+
+pub returns-in_err-leaf-clause-consistent : goal.returns-in_err-leaf-clause-consistent
+returns-in_err-leaf-clause-consistent c = c.add_node.ensures.consistent
+
+pub returns-in_err-leaf-clause-growth : goal.returns-in_err-leaf-clause-growth
+returns-in_err-leaf-clause-growth c = IfOk-from_err c.from_residual-in_err-leaf.result _ c.from_residual-in_err-leaf.ensures.0
+
+pub returns-in_err-leaf-clause-right : goal.returns-in_err-leaf-clause-right
+returns-in_err-leaf-clause-right c = c.requires.right
+
+pub returns-in_err-rest-clause-consistent : goal.returns-in_err-rest-clause-consistent
+returns-in_err-rest-clause-consistent c = c.leaf-2.ensures.consistent
+
+pub returns-in_err-rest-clause-growth : goal.returns-in_err-rest-clause-growth
+returns-in_err-rest-clause-growth c = IfOk-from_err c.from_residual-in_err-rest.result _ c.from_residual-in_err-rest.ensures.0
+
+pub returns-in_err-rest-clause-right : goal.returns-in_err-rest-clause-right
+returns-in_err-rest-clause-right c = c.requires.right
+
+pub returns-in_err-side-clause-consistent : goal.returns-in_err-side-clause-consistent
+returns-in_err-side-clause-consistent c = c.leaf-2.ensures.consistent
+
+pub returns-in_err-side-clause-growth : goal.returns-in_err-side-clause-growth
+returns-in_err-side-clause-growth c = IfOk-from_err c.from_residual-in_err-side.result _ c.from_residual-in_err-side.ensures.0
+
+pub returns-in_err-side-clause-right : goal.returns-in_err-side-clause-right
+returns-in_err-side-clause-right c = c.taker.ensures.right
+
+pub returns-in-Some-clause-consistent : goal.returns-in-Some-clause-consistent
+returns-in-Some-clause-consistent c = c.leaf-2.ensures.consistent
+
+pub returns-in-Some-clause-right : goal.returns-in-Some-clause-right
+returns-in-Some-clause-right c = c.taker.ensures.right
+
+pub returns-in-None-clause-consistent : goal.returns-in-None-clause-consistent
+returns-in-None-clause-consistent c = c.leaf-2.ensures.consistent
+
+pub returns-in-None-clause-right : goal.returns-in-None-clause-right
+returns-in-None-clause-right c = c.taker.ensures.right
+
+pub returns-in_err-leaf-2 : goal.returns-in_err-leaf-2
+returns-in_err-leaf-2 c = record {
+  consistent = c.add_node-in_default-standing.ensures.consistent;
+  grows = Grows-then (view_of c.args.goals.now) (view_of c.leaf.new.goals) (view_of c.add_node-in_default-standing.new.goals) c.in_ok-content.ensures.grows
+      (Grows-then (view_of c.leaf.new.goals) (view_of c.leaf-2.new.goals) (view_of c.add_node-in_default-standing.new.goals) c.in_ok-rest.ensures.grows c.add_node-in_default-standing.ensures.grows);
+  growth = IfOk-from_err c.from_residual-in_err-leaf-2.result _ c.from_residual-in_err-leaf-2.ensures.0;
+  right = c.requires.right;
+}
+
+pub leaf-requires-clause-consistent : goal.leaf-requires-clause-consistent
+leaf-requires-clause-consistent c = c.requires.consistent
+
+pub leaf-requires-clause-owner : goal.leaf-requires-clause-owner
+leaf-requires-clause-owner c = c.requires.owner
+
+pub leaf-requires-clause-left : goal.leaf-requires-clause-left
+leaf-requires-clause-left c = c.requires.path.content_below
+
+pub leaf-requires-clause-rights : goal.leaf-requires-clause-rights
+leaf-requires-clause-rights c = c.requires.path.contents_below
+
+pub leaf-requires-clause-order : goal.leaf-requires-clause-order
+leaf-requires-clause-order c = c.requires.path.contents_order
+
+pub leaf-requires-2-clause-consistent : goal.leaf-requires-2-clause-consistent
+leaf-requires-2-clause-consistent c = c.leaf.ensures.consistent
+
+pub leaf-requires-2-clause-owner : goal.leaf-requires-2-clause-owner
+leaf-requires-2-clause-owner c = omega (arith, c.leaf.ensures.grows.longer, c.requires.owner)
+
+pub leaf-requires-2-clause-left : goal.leaf-requires-2-clause-left
+leaf-requires-2-clause-left c = c.requires.path.rest_below
+
+pub leaf-requires-2-clause-rights : goal.leaf-requires-2-clause-rights
+leaf-requires-2-clause-rights c = c.requires.path.rests_below
+
+pub leaf-requires-2-clause-order : goal.leaf-requires-2-clause-order
+leaf-requires-2-clause-order c = c.requires.path.rests_order
+
+pub taker-requires-clause-right : goal.taker-requires-clause-right
+taker-requires-clause-right c = c.requires.right
+
+pub standing-requires : goal.standing-requires
+standing-requires c = c.in_ok-content.ensures.there
+
+pub standing-requires-2 : goal.standing-requires-2
+standing-requires-2 c = c.in_ok-rest.ensures.there

@@ -1,3 +1,5 @@
+use Rattle.xd_goals.proofs.Sides.{count_heads_of}
+use Rattle.std.proofs.Common.{arith}
 use Rattle.std.proofs.Common.{◌+◌, List, length, ap, refl}
 use Rattle.xd_auto.specs.declared.auto.LabelMove.{LabelMove}
 use Rattle.xd_rules.specs.declared.atom.Atom.TheVariants.{Label, OtherLabel, Text, OtherText}
@@ -20,3 +22,18 @@ returns-in-Text c =
 pub returns-in-OtherText : goal.returns-in-OtherText
 returns-in-OtherText c =
     rw c.in-OtherText.is (OnOk-map c.add_with_others-in-OtherText.result (λ h. at_text c.args.auto.now c.args.state OtherText c.args.before c.args.sides.now.items c.add_with_others-in-OtherText.new.sides.items _ (ap (λ (ms : List LabelMove). c.args.before + length ms) c.label_moves-labels.ensures.value) (λ m. refl) h) c.add_with_others-in-OtherText.ensures)
+
+pub overflow_add-behind : goal.overflow_add-behind
+overflow_add-behind c = omega (arith, c.requires.room, count_heads_of c.args.auto.now c.args.state, ap (λ (ms : List LabelMove). length ms) c.label_moves-labels.ensures.value)
+
+pub add_with_name-requires-clause-room : goal.add_with_name-requires-clause-room
+add_with_name-requires-clause-room c = omega (arith, c.requires.room, count_heads_of c.args.auto.now c.args.state)
+
+pub add_with_others-requires-clause-room : goal.add_with_others-requires-clause-room
+add_with_others-requires-clause-room c = omega (arith, c.requires.room, count_heads_of c.args.auto.now c.args.state)
+
+pub add_with_name-requires-in-Text-clause-room : goal.add_with_name-requires-in-Text-clause-room
+add_with_name-requires-in-Text-clause-room c = omega (arith, c.requires.room, count_heads_of c.args.auto.now c.args.state, ap (λ (ms : List LabelMove). length ms) c.label_moves-labels.ensures.value)
+
+pub add_with_others-requires-in-OtherText-clause-room : goal.add_with_others-requires-in-OtherText-clause-room
+add_with_others-requires-in-OtherText-clause-room c = omega (arith, c.requires.room, count_heads_of c.args.auto.now c.args.state, ap (λ (ms : List LabelMove). length ms) c.label_moves-labels.ensures.value)

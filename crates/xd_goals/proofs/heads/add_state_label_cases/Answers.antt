@@ -1,3 +1,5 @@
+use Rattle.xd_goals.proofs.Naming.{heads_done}
+use Rattle.xd_auto.specs.Automaton.{moves_at}
 use Rattle.std.proofs.Common.{◌+◌, refl, arith}
 use Rattle.xd_goals.specs.Moves.{label_head}
 use Rattle.xd_goals.specs.Cases.{names_in}
@@ -13,3 +15,7 @@ loop-number-preserved c = record {
       c.loop-number-test.true c.index-moves-number.is (omega arith) refl c.loop-number.invariant.made c.in_ok-add_label_cases.ensures;
   end_is = refl;
 }
+
+pub returns : goal.returns
+returns c = heads_done label_head (names_in c.args.unnamed.now.labels c.args.unnamed.now.texts) 1 c.label_moves-moves.result.now (moves_at c.args.auto.now c.args.left).labels c.loop-number.number c.args.cases.now.items c.loop-number.cases.items
+    c.label_moves-moves.ensures.value c.loop-number-test.false c.loop-number.invariant.made

@@ -1,3 +1,5 @@
+use Rattle.xd_auto.specs.Automaton.{IsState}
+use Rattle.xd_goals.proofs.Lists.{all_get}
 use Rattle.xd_doc.specs.Classes.{IsClass}
 use Rattle.std.proofs.Common.{sym, ◌∙◌}
 use Rattle.std.specs.List.{flat_map}
@@ -19,3 +21,6 @@ loop-state-preserved c =
 
 pub loop-state-init : goal.loop-state-init
 loop-state-init c = (rw c.new-names.ensures.items at c.in_ok-add_state_labels.ensures) ∙ sym (append-nil (flat_map head_labels (heads_of c.args.auto.now c.args.left)))
+
+pub add_state_labels-requires-in-loop-state : goal.add_state_labels-requires-in-loop-state
+add_state_labels-requires-in-loop-state c = all_get (IsState c.args.auto.now) c.args.rights.now c.loop-state.state-index _ c.requires.rights c.loop-state-test.true

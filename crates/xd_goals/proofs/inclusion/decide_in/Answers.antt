@@ -101,3 +101,18 @@ returns-in_err-asked-clause-goals c = asked_kept c.args.auto.now c.args.store.no
 
 pub returns-in_err-asked-clause-keeps : goal.returns-in_err-asked-clause-keeps
 returns-in_err-asked-clause-keeps c = keeps-same c.args.store.now
+
+pub find_or_add-requires-clause-rights : goal.find_or_add-requires-clause-rights
+find_or_add-requires-clause-rights c = rw c.len.ensures.value c.requires.rights
+
+pub returns-in-Refuted-clause-stands : goal.returns-in-Refuted-clause-stands
+returns-in-Refuted-clause-stands c = c.loop-document.invariant.stands
+
+pub returns-in-Refuted-clause-goals : goal.returns-in-Refuted-clause-goals
+returns-in-Refuted-clause-goals c = c.loop-document.invariant.kept
+
+pub returns-in-Refuted-clause-keeps : goal.returns-in-Refuted-clause-keeps
+returns-in-Refuted-clause-keeps c = c.loop-document.invariant.keeps
+
+pub returns-in-Refuted-clause-whole : goal.returns-in-Refuted-clause-whole
+returns-in-Refuted-clause-whole c = c.loop-document.invariant.whole

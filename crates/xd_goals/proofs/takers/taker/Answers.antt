@@ -51,3 +51,36 @@ is_taker-requires-clause-rest c = (all_at (λ (s : Side). (IsState c.args.auto.n
 
 pub loop-place-init : goal.loop-place-init
 loop-place-init c = record { right = c.requires.right; found = tt; end_is = refl }
+
+pub returns-then-looks_covered-2-clause-right : goal.returns-then-looks_covered-2-clause-right
+returns-then-looks_covered-2-clause-right c = c.is_taker.ensures.right
+
+pub returns-in_err-is_taker-clause-right : goal.returns-in_err-is_taker-clause-right
+returns-in_err-is_taker-clause-right c = c.is_taker.ensures.right
+
+pub returns-clause-right : goal.returns-clause-right
+returns-clause-right c = c.loop-place.invariant.right
+
+pub returns-then-looks_covered-2-clause-found : goal.returns-then-looks_covered-2-clause-found
+returns-then-looks_covered-2-clause-found c = record { place = c.loop-place.place; found = c.side_of-side.ensures; takes_it = sym c.in_ok-is_taker.ensures.answer ∙ c.if-not-branch.false }
+
+pub looks_covered-requires-clause-left : goal.looks_covered-requires-clause-left
+looks_covered-requires-clause-left c = c.requires.content
+
+pub looks_covered-requires-clause-states : goal.looks_covered-requires-clause-states
+looks_covered-requires-clause-states c = c.requires.contents
+
+pub looks_covered-requires-then-looks_covered-clause-left : goal.looks_covered-requires-then-looks_covered-clause-left
+looks_covered-requires-then-looks_covered-clause-left c = c.requires.rest
+
+pub looks_covered-requires-then-looks_covered-clause-states : goal.looks_covered-requires-then-looks_covered-clause-states
+looks_covered-requires-then-looks_covered-clause-states c = c.requires.rests
+
+pub is_taker-requires-clause-inside : goal.is_taker-requires-clause-inside
+is_taker-requires-clause-inside c = c.requires.inside
+
+pub is_taker-requires-clause-behind : goal.is_taker-requires-clause-behind
+is_taker-requires-clause-behind c = c.requires.behind
+
+pub is_taker-requires-clause-right : goal.is_taker-requires-clause-right
+is_taker-requires-clause-right c = c.loop-place.invariant.right

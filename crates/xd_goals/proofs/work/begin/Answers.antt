@@ -1,3 +1,4 @@
+use Rattle.std.proofs.lemmas.Result.{IfOk-from_err}
 use Rattle.std.proofs.Common.{List, map, sym, ap, subst, refl, ◌∙◌, arith, rules}
 use Rattle.xd_goals.specs.Moves.{claim_with}
 use Rattle.xd_goals.specs.Kept.{view_of}
@@ -72,3 +73,72 @@ returns-in_err-push-in-Chosen-clause-grows c = Grows-then (view_of c.args.goals.
 
 pub returns-in-Failed-clause-grows : goal.returns-in-Failed-clause-grows
 returns-in-Failed-clause-grows c = Grows-then (view_of c.args.goals.now) (view_of c.loop-number.goals) (view_of c.begin_case.new.goals) c.loop-number.invariant.grows c.begin_case.ensures.grows
+
+pub returns-in-Failed-clause-consistent : goal.returns-in-Failed-clause-consistent
+returns-in-Failed-clause-consistent c = c.begin_case.ensures.consistent
+
+pub returns-in-Failed-clause-right : goal.returns-in-Failed-clause-right
+returns-in-Failed-clause-right c = c.begin_case.ensures.right
+
+pub returns-in_err-push-in-Chosen-clause-consistent : goal.returns-in_err-push-in-Chosen-clause-consistent
+returns-in_err-push-in-Chosen-clause-consistent c = c.begin_case.ensures.consistent
+
+pub returns-in_err-push-in-Chosen-clause-right : goal.returns-in_err-push-in-Chosen-clause-right
+returns-in_err-push-in-Chosen-clause-right c = c.begin_case.ensures.right
+
+pub returns-in_err-push-in-Chosen-clause-settled : goal.returns-in_err-push-in-Chosen-clause-settled
+returns-in_err-push-in-Chosen-clause-settled c = IfOk-from_err c.from_residual-in_err-push-in-Chosen.result _ c.from_residual-in_err-push-in-Chosen.ensures.0
+
+pub returns-in_err-choice-clause-consistent : goal.returns-in_err-choice-clause-consistent
+returns-in_err-choice-clause-consistent c = c.begin_case.ensures.consistent
+
+pub returns-in_err-choice-clause-right : goal.returns-in_err-choice-clause-right
+returns-in_err-choice-clause-right c = c.begin_case.ensures.right
+
+pub returns-in_err-choice-clause-settled : goal.returns-in_err-choice-clause-settled
+returns-in_err-choice-clause-settled c = IfOk-from_err c.from_residual-in_err-choice.result _ c.from_residual-in_err-choice.ensures.0
+
+pub returns-in_err-grown-clause-consistent : goal.returns-in_err-grown-clause-consistent
+returns-in_err-grown-clause-consistent c = c.begin_case.ensures.consistent
+
+pub returns-in_err-grown-clause-right : goal.returns-in_err-grown-clause-right
+returns-in_err-grown-clause-right c = c.begin_case.ensures.right
+
+pub returns-in_err-grown-clause-settled : goal.returns-in_err-grown-clause-settled
+returns-in_err-grown-clause-settled c = IfOk-from_err c.from_residual-in_err-grown.result _ c.from_residual-in_err-grown.ensures.0
+
+pub returns-in_err-cases-clause-consistent : goal.returns-in_err-cases-clause-consistent
+returns-in_err-cases-clause-consistent c = c.requires.consistent
+
+pub returns-in_err-cases-clause-right : goal.returns-in_err-cases-clause-right
+returns-in_err-cases-clause-right c = c.requires.right
+
+pub returns-in_err-cases-clause-settled : goal.returns-in_err-cases-clause-settled
+returns-in_err-cases-clause-settled c = IfOk-from_err c.from_residual.result _ c.from_residual.ensures.0
+
+pub returns-clause-consistent : goal.returns-clause-consistent
+returns-clause-consistent c = c.loop-number.invariant.consistent
+
+pub returns-clause-grows : goal.returns-clause-grows
+returns-clause-grows c = c.loop-number.invariant.grows
+
+pub returns-clause-right : goal.returns-clause-right
+returns-clause-right c = c.loop-number.invariant.right
+
+pub begin_case-requires-clause-consistent : goal.begin_case-requires-clause-consistent
+begin_case-requires-clause-consistent c = c.loop-number.invariant.consistent
+
+pub begin_case-requires-clause-right : goal.begin_case-requires-clause-right
+begin_case-requires-clause-right c = c.loop-number.invariant.right
+
+pub begin_case-requires-clause-left : goal.begin_case-requires-clause-left
+begin_case-requires-clause-left c = c.requires.left
+
+pub begin_case-requires-clause-rights : goal.begin_case-requires-clause-rights
+begin_case-requires-clause-rights c = c.requires.rights
+
+pub goal_cases-requires-clause-left : goal.goal_cases-requires-clause-left
+goal_cases-requires-clause-left c = c.requires.left
+
+pub goal_cases-requires-clause-rights : goal.goal_cases-requires-clause-rights
+goal_cases-requires-clause-rights c = c.requires.rights

@@ -1,3 +1,4 @@
+use Rattle.std.proofs.lemmas.Result.{IfOk-from_err}
 use Rattle.std.proofs.Common.{sym, true, false, ◌∙◌}
 use Rattle.xd_goals.specs.Moves.{claim_with}
 use Rattle.xd_goals.specs.Kept.{view_of}
@@ -39,3 +40,42 @@ returns-then-is_text-clause-consistent c = rw c.len.ensures.value at c.grow_text
 
 pub returns-clause-consistent : goal.returns-clause-consistent
 returns-clause-consistent c = rw c.len.ensures.value at c.grow.ensures.consistent
+
+pub grow-requires-clause-owner : goal.grow-requires-clause-owner
+grow-requires-clause-owner c = c.requires.owner
+
+pub grow-requires-clause-right : goal.grow-requires-clause-right
+grow-requires-clause-right c = c.requires.right
+
+pub grow-requires-clause-separated : goal.grow-requires-clause-separated
+grow-requires-clause-separated c = c.requires.separated
+
+pub grow-requires-clause-states : goal.grow-requires-clause-states
+grow-requires-clause-states c = c.len.ensures.value
+
+pub grow_text-requires-clause-owner : goal.grow_text-requires-clause-owner
+grow_text-requires-clause-owner c = c.requires.owner
+
+pub returns-clause-grows : goal.returns-clause-grows
+returns-clause-grows c = c.grow.ensures.grows
+
+pub returns-clause-right : goal.returns-clause-right
+returns-clause-right c = c.grow.ensures.right
+
+pub returns-then-is_text-clause-grows : goal.returns-then-is_text-clause-grows
+returns-then-is_text-clause-grows c = c.grow_text.ensures.grows
+
+pub returns-then-is_text-clause-right : goal.returns-then-is_text-clause-right
+returns-then-is_text-clause-right c = c.requires.right
+
+pub returns-in_err-sides-clause-consistent : goal.returns-in_err-sides-clause-consistent
+returns-in_err-sides-clause-consistent c = c.requires.consistent
+
+pub returns-in_err-sides-clause-right : goal.returns-in_err-sides-clause-right
+returns-in_err-sides-clause-right c = c.requires.right
+
+pub returns-in_err-sides-clause-grown : goal.returns-in_err-sides-clause-grown
+returns-in_err-sides-clause-grown c = IfOk-from_err c.from_residual.result _ c.from_residual.ensures.0
+
+pub sides_of-requires : goal.sides_of-requires
+sides_of-requires c = c.requires.rights

@@ -1,3 +1,4 @@
+use Rattle.std.proofs.lemmas.Result.{IfOk-from_err}
 use Rattle.std.proofs.Common.{◌<◌, arith, length, subst, sym}
 use Rattle.std.specs.List.{AllByRecursion}
 use Rattle.xd_auto.specs.declared.auto.State.{State}
@@ -90,3 +91,36 @@ pub returns-in-Fails-clause-mended : goal.returns-in-Fails-clause-mended
 returns-in-Fails-clause-mended c =
     subst (λ (x : Claim State). FailsAt c.args.auto.now c.args.store.now (view_of c.mend_choice.new.goals) x c.in_ok-choice.choice.atom c.in-Fails.inside c.in-Fails.behind)
     (sym (owner_claim (view_of c.args.goals.now) (view_of c.mend_choice.new.goals) c.mend_choice.ensures.grows c.args.owner.goal.number (claim_with c.args.left c.args.rights.now) c.requires.owner c.requires.claim)) (rw c.in-Fails.is at c.in_ok-root.ensures.grown)
+
+pub returns-in-Fails-clause-right : goal.returns-in-Fails-clause-right
+returns-in-Fails-clause-right c = c.mend_choice.ensures.right
+
+pub returns-in-Stands-clause-right : goal.returns-in-Stands-clause-right
+returns-in-Stands-clause-right c = c.mend_choice.ensures.right
+
+pub returns-in_err-root-clause-right : goal.returns-in_err-root-clause-right
+returns-in_err-root-clause-right c = c.mend_choice.ensures.right
+
+pub returns-in_err-root-clause-mended : goal.returns-in_err-root-clause-mended
+returns-in_err-root-clause-mended c = IfOk-from_err c.from_residual-in_err-root.result _ c.from_residual-in_err-root.ensures.0
+
+pub returns-in_err-choice-clause-right : goal.returns-in_err-choice-clause-right
+returns-in_err-choice-clause-right c = c.requires.right
+
+pub returns-in_err-choice-clause-whole : goal.returns-in_err-choice-clause-whole
+returns-in_err-choice-clause-whole c = c.requires.whole
+
+pub returns-in_err-choice-clause-stands : goal.returns-in_err-choice-clause-stands
+returns-in_err-choice-clause-stands c = c.requires.stands
+
+pub returns-in_err-choice-clause-mended : goal.returns-in_err-choice-clause-mended
+returns-in_err-choice-clause-mended c = IfOk-from_err c.from_residual.result _ c.from_residual.ensures.0
+
+pub mend_choice-requires-clause-owner : goal.mend_choice-requires-clause-owner
+mend_choice-requires-clause-owner c = c.requires.owner
+
+pub mend_choice-requires-clause-right : goal.mend_choice-requires-clause-right
+mend_choice-requires-clause-right c = c.requires.right
+
+pub mend_choice-requires-clause-separated : goal.mend_choice-requires-clause-separated
+mend_choice-requires-clause-separated c = c.requires.stands.refuted

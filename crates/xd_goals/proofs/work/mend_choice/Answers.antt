@@ -1,3 +1,4 @@
+use Rattle.std.proofs.lemmas.Result.{IfOk-from_err}
 use Rattle.std.proofs.Common.{sym, true, false, ◌∙◌}
 use Rattle.xd_goals.specs.Moves.{claim_with, heads_of}
 use Rattle.xd_goals.specs.Kept.{view_of}
@@ -59,3 +60,51 @@ returns-then-is_text-clause-consistent c = rw c.len.ensures.value at c.grow_text
 
 pub returns-clause-consistent : goal.returns-clause-consistent
 returns-clause-consistent c = rw c.len.ensures.value at c.repair.ensures.consistent
+
+pub repair-requires-clause-owner : goal.repair-requires-clause-owner
+repair-requires-clause-owner c = c.requires.owner
+
+pub repair-requires-clause-right : goal.repair-requires-clause-right
+repair-requires-clause-right c = c.requires.right
+
+pub repair-requires-clause-separated : goal.repair-requires-clause-separated
+repair-requires-clause-separated c = c.requires.separated
+
+pub repair-requires-clause-states : goal.repair-requires-clause-states
+repair-requires-clause-states c = c.len.ensures.value
+
+pub grow_text-requires-clause-owner : goal.grow_text-requires-clause-owner
+grow_text-requires-clause-owner c = c.requires.owner
+
+pub head_of-requires-clause-left : goal.head_of-requires-clause-left
+head_of-requires-clause-left c = c.requires.left
+
+pub returns-clause-grows : goal.returns-clause-grows
+returns-clause-grows c = c.repair.ensures.grows
+
+pub returns-clause-right : goal.returns-clause-right
+returns-clause-right c = c.repair.ensures.right
+
+pub returns-then-is_text-clause-grows : goal.returns-then-is_text-clause-grows
+returns-then-is_text-clause-grows c = c.grow_text.ensures.grows
+
+pub returns-then-is_text-clause-right : goal.returns-then-is_text-clause-right
+returns-then-is_text-clause-right c = c.requires.right
+
+pub returns-in_err-sides-clause-consistent : goal.returns-in_err-sides-clause-consistent
+returns-in_err-sides-clause-consistent c = c.requires.consistent
+
+pub returns-in_err-sides-clause-right : goal.returns-in_err-sides-clause-right
+returns-in_err-sides-clause-right c = c.requires.right
+
+pub returns-in_err-sides-clause-grown : goal.returns-in_err-sides-clause-grown
+returns-in_err-sides-clause-grown c = IfOk-from_err c.from_residual.result _ c.from_residual.ensures.0
+
+pub returns-then-not-is_broken-clause-consistent : goal.returns-then-not-is_broken-clause-consistent
+returns-then-not-is_broken-clause-consistent c = c.requires.consistent
+
+pub returns-then-not-is_broken-clause-right : goal.returns-then-not-is_broken-clause-right
+returns-then-not-is_broken-clause-right c = c.requires.right
+
+pub sides_of-requires : goal.sides_of-requires
+sides_of-requires c = c.requires.rights

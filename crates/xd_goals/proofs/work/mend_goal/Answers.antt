@@ -4,9 +4,9 @@ use Rattle.xd_goals.specs.Kept.{view_of}
 use Rattle.xd_goals.specs.Rows.{GoalRow, row_at, IsUnbroken}
 use Rattle.xd_goals.proofs.Linking.{row_read}
 use Rattle.xd_goals.proofs.Facts.{keeps_goals-then, keeps-then}
-use Rattle.xd_goals.proofs.Finding.{OnOk-map}
+use Rattle.xd_goals.proofs.Finding.{OnOk-map, OnOk-from_err}
 use Rattle.xd_goals.proofs.Measuring.{made-then}
-use Rattle.xd_goals.proofs.Stepping.{keeps-same, whole_same}
+use Rattle.xd_goals.proofs.Stepping.{IsStep, keeps-same, whole_same}
 use Rattle.xd_goals.proofs.Mending.{lowers-mended, mended_none, mending-same, mending-then, repaired_same, repaired_step}
 use Rattle.xd_goals.proofs.work.mend_goal.Goals as goal
 use Rattle.xd_goals.proofs.work.mend_goal.Goals.{then-is_flagged+in_ok-failure+in_default, else-is_flagged}
@@ -84,23 +84,20 @@ returns-clause-whole c =
     let w = whole_same c.loop-place.goals.rows.items _ c.loop-place.goals.links.items c.loop-place.goals.found same c.loop-place.invariant.whole.index c.loop-place.invariant.whole.links in
     record { index = rw c.set_standing.ensures w.0; links = rw c.set_standing.ensures w.1 }
 
+-- all cases were repaired
+held : (c : goal.After-set_standing) → IsStep c.args.auto.now c.loop-place.store (view_of c.args.goals.now) (record { rows = c.set_standing.new.rows.items; nodes = c.loop-place.goals.nodes.items; links = c.loop-place.goals.links.items })
+held c =
+    rw c.set_standing.ensures (repaired_step c.args.auto.now c.loop-place.store c.args.owner.number (view_of c.args.goals.now) (view_of c.loop-place.goals) c.requires.owner c.requires.waits c.requires.begun c.requires.stands.facts c.loop-place.invariant.stands
+    c.loop-place.invariant.mending (λ k lt. c.loop-place.invariant.unbroken k (omega (arith, c.loop-place-test.false, c.loop-place.invariant.end_is, lt))))
+
 pub returns-clause-stands : goal.returns-clause-stands
-returns-clause-stands c =
-    let step = repaired_step c.args.auto.now c.loop-place.store c.args.owner.number (view_of c.args.goals.now) (view_of c.loop-place.goals) c.requires.owner c.requires.waits c.requires.begun c.requires.stands.facts c.loop-place.invariant.stands
-    c.loop-place.invariant.mending (λ k lt. c.loop-place.invariant.unbroken k (omega (arith, c.loop-place-test.false, c.loop-place.invariant.end_is, lt))) in
-    rw c.set_standing.ensures step.stands
+returns-clause-stands c = (held c).stands
 
 pub returns-clause-goals : goal.returns-clause-goals
-returns-clause-goals c =
-    let step = repaired_step c.args.auto.now c.loop-place.store c.args.owner.number (view_of c.args.goals.now) (view_of c.loop-place.goals) c.requires.owner c.requires.waits c.requires.begun c.requires.stands.facts c.loop-place.invariant.stands
-    c.loop-place.invariant.mending (λ k lt. c.loop-place.invariant.unbroken k (omega (arith, c.loop-place-test.false, c.loop-place.invariant.end_is, lt))) in
-    rw c.set_standing.ensures step.kept
+returns-clause-goals c = (held c).kept
 
 pub returns-clause-lowers : goal.returns-clause-lowers
-returns-clause-lowers c =
-    let step = repaired_step c.args.auto.now c.loop-place.store c.args.owner.number (view_of c.args.goals.now) (view_of c.loop-place.goals) c.requires.owner c.requires.waits c.requires.begun c.requires.stands.facts c.loop-place.invariant.stands
-    c.loop-place.invariant.mending (λ k lt. c.loop-place.invariant.unbroken k (omega (arith, c.loop-place-test.false, c.loop-place.invariant.end_is, lt))) in
-    rw c.set_standing.ensures step.lowers
+returns-clause-lowers c = (held c).lowers
 
 pub returns-clause-keeps : goal.returns-clause-keeps
 returns-clause-keeps c = c.loop-place.invariant.keeps
@@ -137,7 +134,52 @@ returns-in-Some-clause-made c =
     made-then (length c.args.goals.now.rows.items) (view_of c.mend_case.new.goals) (view_of c.refute_at.new.goals) c.refute_at.ensures.goals (mending-then c.args.owner.number (view_of c.args.goals.now) (view_of c.loop-place.goals) (view_of c.mend_case.new.goals) c.loop-place.invariant.mending c.mend_case.ensures.mending).made c.refute_at.ensures.made
 
 pub returns-clause-made : goal.returns-clause-made
-returns-clause-made c =
-    let step = repaired_step c.args.auto.now c.loop-place.store c.args.owner.number (view_of c.args.goals.now) (view_of c.loop-place.goals) c.requires.owner c.requires.waits c.requires.begun c.requires.stands.facts c.loop-place.invariant.stands
-    c.loop-place.invariant.mending (λ k lt. c.loop-place.invariant.unbroken k (omega (arith, c.loop-place-test.false, c.loop-place.invariant.end_is, lt))) in
-    rw c.set_standing.ensures step.made
+returns-clause-made c = (held c).made
+
+pub returns-in-Some-clause-right : goal.returns-in-Some-clause-right
+returns-in-Some-clause-right c = c.refute_at.ensures.right
+
+pub returns-in-Some-clause-stands : goal.returns-in-Some-clause-stands
+returns-in-Some-clause-stands c = c.refute_at.ensures.stands
+
+pub returns-in-Some-clause-whole : goal.returns-in-Some-clause-whole
+returns-in-Some-clause-whole c = c.refute_at.ensures.whole
+
+pub returns-in_err-failure-clause-stands : goal.returns-in_err-failure-clause-stands
+returns-in_err-failure-clause-stands c = c.mend_case.ensures.stands
+
+pub returns-in_err-failure-clause-whole : goal.returns-in_err-failure-clause-whole
+returns-in_err-failure-clause-whole c = c.mend_case.ensures.whole
+
+pub returns-in_err-failure-clause-right : goal.returns-in_err-failure-clause-right
+returns-in_err-failure-clause-right c = OnOk-from_err c.from_residual.result _ c.from_residual.ensures.0
+
+pub returns-in_err-failure-clause-lowers : goal.returns-in_err-failure-clause-lowers
+returns-in_err-failure-clause-lowers c = OnOk-from_err c.from_residual.result _ c.from_residual.ensures.0
+
+pub returns-clause-right : goal.returns-clause-right
+returns-clause-right c = c.loop-place.invariant.right
+
+pub refute_at-requires-clause-right : goal.refute_at-requires-clause-right
+refute_at-requires-clause-right c = c.mend_case.ensures.right
+
+pub refute_at-requires-clause-stands : goal.refute_at-requires-clause-stands
+refute_at-requires-clause-stands c = c.mend_case.ensures.stands
+
+pub refute_at-requires-clause-whole : goal.refute_at-requires-clause-whole
+refute_at-requires-clause-whole c = c.mend_case.ensures.whole
+
+pub refute_at-requires-clause-fails : goal.refute_at-requires-clause-fails
+refute_at-requires-clause-fails c = rw c.in-Some.is at c.in_ok-failure.ensures.mended
+
+pub mend_case-requires-clause-stands : goal.mend_case-requires-clause-stands
+mend_case-requires-clause-stands c = c.loop-place.invariant.stands
+
+pub mend_case-requires-clause-right : goal.mend_case-requires-clause-right
+mend_case-requires-clause-right c = c.loop-place.invariant.right
+
+pub mend_case-requires-clause-whole : goal.mend_case-requires-clause-whole
+mend_case-requires-clause-whole c = c.loop-place.invariant.whole
+
+pub set_standing-requires : goal.set_standing-requires
+set_standing-requires c = omega (arith, c.loop-place.invariant.mending.kept.longer, c.requires.owner)

@@ -38,3 +38,18 @@ returns-in_err-document-clause-goals c = keeps_goals-same (view_of c.args.goals.
 
 pub returns-in_err-document-clause-made : goal.returns-in_err-document-clause-made
 returns-in_err-document-clause-made c = none_added c.args.goals.now.rows.items
+
+pub refute-requires-clause-links : goal.refute-requires-clause-links
+refute-requires-clause-links c = rw c.deref.ensures.value c.requires.whole.links
+
+pub returns-clause-keeps : goal.returns-clause-keeps
+returns-clause-keeps c = c.separate.ensures.keeps
+
+pub refute-requires-clause-goal : goal.refute-requires-clause-goal
+refute-requires-clause-goal c = c.requires.owner
+
+pub returns-in_err-document-clause-whole : goal.returns-in_err-document-clause-whole
+returns-in_err-document-clause-whole c = c.requires.whole
+
+pub returns-in_err-document-clause-keeps : goal.returns-in_err-document-clause-keeps
+returns-in_err-document-clause-keeps c = c.separate.ensures.keeps

@@ -37,3 +37,6 @@ unnamed_of-requires-clause-rights c =
 
 pub returns-in_err-unnamed-clause-keeps : goal.returns-in_err-unnamed-clause-keeps
 returns-in_err-unnamed-clause-keeps c = keeps-same c.args.store.now
+
+pub returns-clause-keeps : goal.returns-clause-keeps
+returns-clause-keeps c = c.begin_with.ensures.keeps

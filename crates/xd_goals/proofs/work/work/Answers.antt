@@ -1,3 +1,4 @@
+use Rattle.xd_goals.proofs.Finding.{OnOk-from_err}
 use Rattle.std.proofs.Common.{◌≡◌, true, false, refl, ap, subst, sym, ◌∙◌, rules}
 use Rattle.std.specs.List.{AllByRecursion, list_any}
 use Rattle.xd_auto.specs.Automaton.{IsState}
@@ -70,3 +71,60 @@ work_on_cases-requires-clause-claim c =
 
 pub work_on_cases-requires-clause-last : goal.work_on_cases-requires-clause-last
 work_on_cases-requires-clause-last c = rw c.deref-2.ensures.value (rw c.deref.ensures.value at (c.if-is_uncovered.ensures.no refl))
+
+pub returns-clause-whole : goal.returns-clause-whole
+returns-clause-whole c = c.work_on_cases.ensures.whole
+
+pub returns-clause-stands : goal.returns-clause-stands
+returns-clause-stands c = c.work_on_cases.ensures.stands
+
+pub returns-clause-goals : goal.returns-clause-goals
+returns-clause-goals c = c.work_on_cases.ensures.goals
+
+pub returns-clause-keeps : goal.returns-clause-keeps
+returns-clause-keeps c = c.work_on_cases.ensures.keeps
+
+pub returns-clause-made : goal.returns-clause-made
+returns-clause-made c = c.work_on_cases.ensures.made
+
+pub returns-clause-lowers : goal.returns-clause-lowers
+returns-clause-lowers c = c.work_on_cases.ensures.lowers
+
+pub returns-clause-right : goal.returns-clause-right
+returns-clause-right c = c.work_on_cases.ensures.right
+
+pub returns-in_err-rights-clause-whole : goal.returns-in_err-rights-clause-whole
+returns-in_err-rights-clause-whole c = c.requires.whole
+
+pub returns-in_err-rights-clause-stands : goal.returns-in_err-rights-clause-stands
+returns-in_err-rights-clause-stands c = c.requires.stands
+
+pub returns-in_err-rights-clause-right : goal.returns-in_err-rights-clause-right
+returns-in_err-rights-clause-right c = OnOk-from_err c.from_residual.result _ c.from_residual.ensures.0
+
+pub returns-in_err-rights-clause-lowers : goal.returns-in_err-rights-clause-lowers
+returns-in_err-rights-clause-lowers c = OnOk-from_err c.from_residual.result _ c.from_residual.ensures.0
+
+pub returns-then-is_uncovered-clause-right : goal.returns-then-is_uncovered-clause-right
+returns-then-is_uncovered-clause-right c = c.requires.right
+
+pub work_on_cases-requires-clause-owner : goal.work_on_cases-requires-clause-owner
+work_on_cases-requires-clause-owner c = c.requires.owner
+
+pub work_on_cases-requires-clause-stands : goal.work_on_cases-requires-clause-stands
+work_on_cases-requires-clause-stands c = c.requires.stands
+
+pub work_on_cases-requires-clause-right : goal.work_on_cases-requires-clause-right
+work_on_cases-requires-clause-right c = c.requires.right
+
+pub work_on_cases-requires-clause-waits : goal.work_on_cases-requires-clause-waits
+work_on_cases-requires-clause-waits c = c.requires.waits
+
+pub work_on_cases-requires-clause-whole : goal.work_on_cases-requires-clause-whole
+work_on_cases-requires-clause-whole c = c.requires.whole
+
+pub refute-requires-clause-goal : goal.refute-requires-clause-goal
+refute-requires-clause-goal c = c.requires.owner
+
+pub refute-requires-clause-links : goal.refute-requires-clause-links
+refute-requires-clause-links c = rw c.deref-then-is_uncovered.ensures.value c.requires.whole.links

@@ -4,7 +4,8 @@ use Rattle.xd_heads.specs.Cells.{room}
 use Rattle.xd_syntax.specs.TypeNames.{meanings}
 use Rattle.xd_heads.specs.States.{nodes_in, number_at}
 use Rattle.xd_heads.proofs.StateLemmas.{states_few, number_below, number_within, number_from}
-use Rattle.xd_heads.proofs.AddingMoves.{compiling_more, all_compiled}
+use Rattle.xd_heads.proofs.AddingMoves.{compiling_none, compiling_more, all_compiled}
+use Rattle.xd_heads.proofs.Sparing.{spares_then}
 use Rattle.xd_heads.proofs.compile.compile.Goals as goal
 
 less_left : (n room : ℕ) → n < room → room - (n + 1) < room - n
@@ -37,3 +38,19 @@ returns-clause-compiled c =
     let e = sym c.continuation.ensures ∙ nothing c.continuation.result c.in_default.not-Some in
     all_compiled c.args.types.now c.args.defs.now c.args.cells.now c.loop-number.cells c.args.states.now c.loop-number.states c.args.first c.args.auto.now c.loop-number.auto' c.loop-number.done
     (number_from c.args.first c.loop-number.states c.loop-number.invariant.behind c.loop-number.done c.loop-number.invariant.later e) c.loop-number.invariant
+
+pub loop-number-init : goal.loop-number-init
+loop-number-init c =
+    compiling_none c.args.types.now c.args.defs.now c.args.cells.now c.args.states.now c.args.auto.now c.args.first c.requires.first c.requires.behind c.requires.compiled
+
+pub returns-in_err-add_moves-clause-spares : goal.returns-in_err-add_moves-clause-spares
+returns-in_err-add_moves-clause-spares c =
+    let i = c.loop-number.invariant in
+    let w = i.within in
+    let b = i.later in
+    let al = i.compiled.aligned in
+    let f = c.state-from.ensures.number in
+    spares_then c.args.first c.state-from.result c.args.auto.now c.loop-number.auto' c.add_moves.new.auto (omega arith) (omega arith) i.spares c.add_moves.ensures.spares
+
+pub returns-clause-spares : goal.returns-clause-spares
+returns-clause-spares c = c.loop-number.invariant.spares

@@ -1,4 +1,4 @@
-use Rattle.std.proofs.Common.{[], ◌≤◌, sym, subst}
+use Rattle.std.proofs.Common.{[], ◌≤◌, arith, length, sym, subst}
 use Rattle.xd_laws.specs.Heads.{pieces}
 use Rattle.xd_syntax.specs.Table.{tree_at}
 use Rattle.xd_syntax.specs.TypeText.{depth}
@@ -7,6 +7,7 @@ use Rattle.xd_heads.specs.Compiled.{IsOfState, AreCompiled}
 use Rattle.xd_heads.specs.States.{AreContinuationsFrom}
 use Rattle.xd_continuations.proofs.MoveLemmas.{pieces_stand, seq_of-pieces}
 use Rattle.xd_heads.proofs.AddingMoves.{type_started, type_behind, type_bounded, type_compiled, type_continues, type_accepts}
+use Rattle.xd_heads.proofs.Sparing.{spares_both}
 use Rattle.xd_heads.proofs.compile.compile_node.Goals as goal
 
 pub compile-requires-clause-compiled : goal.compile-requires-clause-compiled
@@ -48,3 +49,15 @@ returns-clause-compiled c =
     type_compiled c.args.types.now c.args.defs.now c.args.cells.now c.content.new.cells c.compile.new.cells c.args.states.now c.state_of.new.states c.compile.new.states
     c.args.auto.now c.state_of.new.auto c.compile.new.auto c.args.part.at c.in_ok-inside.inside c.in_ok-state.state c.requires.part c.in_ok-inside.ensures.content c.in_ok-state.ensures.got
     c.in_ok-compile.ensures.compiled
+
+pub returns-in_err-compile-clause-spares : goal.returns-in_err-compile-clause-spares
+returns-in_err-compile-clause-spares c =
+    let n = c.len-first.ensures.count in
+    let al = c.requires.compiled.aligned in
+    spares_both (length c.args.auto.now) c.len-first.result c.args.auto.now c.state_of.new.auto c.compile.new.auto (omega arith) c.state_of.ensures.spares c.compile.ensures.spares
+
+pub returns-clause-spares : goal.returns-clause-spares
+returns-clause-spares c =
+    let n = c.len-first.ensures.count in
+    let al = c.requires.compiled.aligned in
+    spares_both (length c.args.auto.now) c.len-first.result c.args.auto.now c.state_of.new.auto c.compile.new.auto (omega arith) c.state_of.ensures.spares c.compile.ensures.spares

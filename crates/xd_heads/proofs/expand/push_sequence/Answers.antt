@@ -1,8 +1,10 @@
-use Rattle.std.proofs.Common.{◌≡◌, ◌-◌, ◌<◌, true, false, cond, length, drop, take, get_or, arith, ap, subst, ◌∙◌}
+use Rattle.std.proofs.Common.{◌≡◌, ◌-◌, ◌<◌, ◌++◌, map, true, false, cond, length, drop, take, get_or, arith, ap, subst, ◌∙◌}
+use Rattle.xd_syntax.specs.Table.{tree_at}
 use Rattle.xd_syntax.specs.Types.{type_numbers}
 use Rattle.xd_syntax.specs.declared.types.TypeId.{TypeId}
 use Rattle.xd_pieces.specs.Pieces.{piece_tree}
 use Rattle.xd_pieces.specs.declared.piece.Piece.{Piece}
+use Rattle.xd_heads.specs.Found.{PutsSequence, StayBounded, continuation}
 use Rattle.xd_heads.proofs.Putting.{chosen_cell, pushed_next, kept_all, kept_none, node_piece, numbers_drop, numbers_below, piece_cell}
 use Rattle.xd_heads.proofs.expand.push_sequence.Goals as goal
 use Rattle.xd_heads.proofs.expand.push_sequence.Goals.{then-not-marks-part, else-not-marks-part}
@@ -75,3 +77,24 @@ loop-at-preserved g c =
           chosen_cell (g.S.StandIns.chosen types c.args.stand_ins.now) c.loop-at.cells c.put.new.self (piece_cell c.stand_in.result c.loop-at.rest) c.stand_in.ensures.chosen c.in_ok-rest.ensures.links
           (c.loop-at.invariant.chosen b);
     }
+
+pub returns-clause-cells : goal.returns-clause-cells
+returns-clause-cells g c = c.loop-at.invariant.pushed.cells_added
+
+pub returns-clause-bounded : goal.returns-clause-bounded
+returns-clause-bounded g c =
+    let types = c.args.types.now in
+    let t = c.loop-at-test.false in
+    let z : c.loop-at.at ≡ 0 = omega arith in
+    subst (λ n. StayBounded types c.args.cells.now c.loop-at.cells (map (tree_at types) (type_numbers (drop n c.args.parts.now)) ++ continuation types c.args.cells.now c.args.behind)) z c.loop-at.invariant.pushed.bounded
+
+pub returns-clause-tasks : goal.returns-clause-tasks
+returns-clause-tasks g c =
+    let types = c.args.types.now in
+    let t = c.loop-at-test.false in
+    let z : c.loop-at.at ≡ 0 = omega arith in
+    subst (λ n. PutsSequence types c.args.marks.now c.loop-at.cells c.args.tasks.now.items c.loop-at.tasks.items (type_numbers (drop n c.args.parts.now)) (continuation types c.args.cells.now c.args.behind)) z
+    c.loop-at.invariant.pushed.tasks
+
+pub returns-clause-chosen : goal.returns-clause-chosen
+returns-clause-chosen g c = c.loop-at.invariant.chosen

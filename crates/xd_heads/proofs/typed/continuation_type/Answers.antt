@@ -25,3 +25,9 @@ returns-in_default-clause-grows c =
     let T : Tree = seq_of (map (tree_at q.types) (type_numbers c.in_ok-ids.ids.items)) in
     grows_one c.args.sound.now q c.add_type-in_default.new.self T c.piece_types.ensures.grows c.add_type-in_default.ensures.adds c.add_type-in_default.ensures.same c.add_type-in_default.ensures.shallow
     (λ h. subst (λ (K : List Tree). depth (seq_of K) ≤ nesting_limit) (sym c.in_ok-ids.ensures.trees) (c.requires.shallow h))
+
+pub returns-in_err-ids-clause-grows : goal.returns-in_err-ids-clause-grows
+returns-in_err-ids-clause-grows c = c.piece_types.ensures.grows
+
+pub returns-in-len1-clause-grows : goal.returns-in-len1-clause-grows
+returns-in-len1-clause-grows c = c.piece_types.ensures.grows

@@ -1,12 +1,13 @@
-use Rattle.std.proofs.Common.{◌≡◌, ◌↔◌, true, Some, ap, sym, subst, ◌∙◌}
+use Rattle.std.proofs.Common.{◌≡◌, ◌↔◌, true, Some, refl, ap, sym, subst, ◌∙◌}
 use Rattle.xd_auto.specs.Automaton.{accepts}
-use Rattle.xd_auto.proofs.Extending.{keeps}
+use Rattle.xd_auto.proofs.Extending.{Extends-same, keeps}
 use Rattle.xd_syntax.specs.Tree.{Tree}
 use Rattle.xd_syntax.specs.Table.{tree_at}
 use Rattle.xd_syntax.specs.Fits.{Fits}
 use Rattle.xd_syntax.specs.Kept.{ProgramTable, program_tree}
 use Rattle.xd_syntax.specs.Program.{ProgramTree, names_of}
 use Rattle.xd_heads.specs.Mirrors.{continuation_of, KeepsStates, Mirrors}
+use Rattle.xd_heads.proofs.Growing.{grows_along}
 use Rattle.xd_heads.proofs.Sparing.{spares_extends}
 use Rattle.xd_continuations.proofs.GrownTables.{tree_stays}
 use Rattle.xd_heads.proofs.Mirrored.{mirrors_stay}
@@ -57,3 +58,61 @@ returns-clause-owners c =
     let k = subst (λ (r : ProgramTable). KeepsStates r.types r.types c.args.cells.now c.compile_in.new.cells) e c.in_ok-state.ensures.owners in
     subst (λ (r : ProgramTable). KeepsStates q.types r.types c.args.cells.now c.compile_in.new.cells) (sym (c.give_back.ensures ∙ c.take_known.ensures.same))
     (keeps_from q.types c.meaning_of_any.new.sound.types c.meaning_of_any.ensures.adds.types c.args.cells.now c.compile_in.new.cells c.requires.mirrors.kept.nodes k)
+
+pub returns-in_err-any-clause-adds : goal.returns-in_err-any-clause-adds
+returns-in_err-any-clause-adds c = c.meaning_of_any.ensures.adds
+
+pub returns-in_err-any-clause-same : goal.returns-in_err-any-clause-same
+returns-in_err-any-clause-same c = c.meaning_of_any.ensures.same
+
+pub returns-in_err-any-clause-shallow : goal.returns-in_err-any-clause-shallow
+returns-in_err-any-clause-shallow c = c.meaning_of_any.ensures.shallow
+
+pub returns-in_err-names-clause-adds : goal.returns-in_err-names-clause-adds
+returns-in_err-names-clause-adds c = (grows_along c.args.sound.now c.meaning_of_any.new.sound c.take_known.new.self c.meaning_of_any.ensures.adds c.meaning_of_any.ensures.same c.meaning_of_any.ensures.shallow c.take_known.ensures.same).adds
+
+pub returns-in_err-names-clause-same : goal.returns-in_err-names-clause-same
+returns-in_err-names-clause-same c = (grows_along c.args.sound.now c.meaning_of_any.new.sound c.take_known.new.self c.meaning_of_any.ensures.adds c.meaning_of_any.ensures.same c.meaning_of_any.ensures.shallow c.take_known.ensures.same).same
+
+pub returns-in_err-names-clause-shallow : goal.returns-in_err-names-clause-shallow
+returns-in_err-names-clause-shallow c = (grows_along c.args.sound.now c.meaning_of_any.new.sound c.take_known.new.self c.meaning_of_any.ensures.adds c.meaning_of_any.ensures.same c.meaning_of_any.ensures.shallow c.take_known.ensures.same).shallow
+
+pub returns-in_err-state-clause-adds : goal.returns-in_err-state-clause-adds
+returns-in_err-state-clause-adds c = (grows_along c.args.sound.now c.meaning_of_any.new.sound c.take_known.new.self c.meaning_of_any.ensures.adds c.meaning_of_any.ensures.same c.meaning_of_any.ensures.shallow c.take_known.ensures.same).adds
+
+pub returns-in_err-state-clause-same : goal.returns-in_err-state-clause-same
+returns-in_err-state-clause-same c = (grows_along c.args.sound.now c.meaning_of_any.new.sound c.take_known.new.self c.meaning_of_any.ensures.adds c.meaning_of_any.ensures.same c.meaning_of_any.ensures.shallow c.take_known.ensures.same).same
+
+pub returns-in_err-state-clause-shallow : goal.returns-in_err-state-clause-shallow
+returns-in_err-state-clause-shallow c = (grows_along c.args.sound.now c.meaning_of_any.new.sound c.take_known.new.self c.meaning_of_any.ensures.adds c.meaning_of_any.ensures.same c.meaning_of_any.ensures.shallow c.take_known.ensures.same).shallow
+
+pub returns-clause-adds : goal.returns-clause-adds
+returns-clause-adds c = (grows_along c.args.sound.now c.meaning_of_any.new.sound c.give_back.new.self c.meaning_of_any.ensures.adds c.meaning_of_any.ensures.same c.meaning_of_any.ensures.shallow (c.give_back.ensures ∙ c.take_known.ensures.same)).adds
+
+pub returns-clause-same : goal.returns-clause-same
+returns-clause-same c = (grows_along c.args.sound.now c.meaning_of_any.new.sound c.give_back.new.self c.meaning_of_any.ensures.adds c.meaning_of_any.ensures.same c.meaning_of_any.ensures.shallow (c.give_back.ensures ∙ c.take_known.ensures.same)).same
+
+pub returns-clause-shallow : goal.returns-clause-shallow
+returns-clause-shallow c = (grows_along c.args.sound.now c.meaning_of_any.new.sound c.give_back.new.self c.meaning_of_any.ensures.adds c.meaning_of_any.ensures.same c.meaning_of_any.ensures.shallow (c.give_back.ensures ∙ c.take_known.ensures.same)).shallow
+
+pub returns-in_err-any-clause-keeps : goal.returns-in_err-any-clause-keeps
+returns-in_err-any-clause-keeps c d s h = refl
+
+pub returns-in_err-any-clause-extends : goal.returns-in_err-any-clause-extends
+returns-in_err-any-clause-extends c = Extends-same c.args.auto.now c.args.auto.now refl
+
+pub returns-in_err-names-clause-keeps : goal.returns-in_err-names-clause-keeps
+returns-in_err-names-clause-keeps c d s h = refl
+
+pub returns-in_err-names-clause-extends : goal.returns-in_err-names-clause-extends
+returns-in_err-names-clause-extends c = Extends-same c.args.auto.now c.args.auto.now refl
+
+pub returns-in_err-state-clause-extends : goal.returns-in_err-state-clause-extends
+returns-in_err-state-clause-extends c = spares_extends c.args.auto.now c.compile_in.new.auto c.compile_in.ensures.spares
+
+pub returns-clause-extends : goal.returns-clause-extends
+returns-clause-extends c = spares_extends c.args.auto.now c.compile_in.new.auto c.compile_in.ensures.spares
+
+pub returns-clause-mirrors : goal.returns-clause-mirrors
+returns-clause-mirrors c =
+    subst (λ (r : ProgramTable). Mirrors r c.compile_in.new.cells c.compile_in.new.auto) (c.program.ensures.program ∙ sym c.give_back.ensures) c.in_ok-state.ensures.mirrors

@@ -1,4 +1,4 @@
-use Rattle.std.proofs.Common.{◌≡◌, ◌+◌, ◌∙◌, ◌<◌, arith, List, Bool, length, ap, sym, subst}
+use Rattle.std.proofs.Common.{◌≡◌, ◌+◌, ◌∙◌, ◌<◌, arith, List, Bool, length, ap, sym, subst, Result, Ok, Err, OnOk}
 use Rattle.xd_syntax.specs.Kept.{program_tree}
 use Rattle.xd_syntax.specs.Program.{names_of}
 use Rattle.xd_syntax.specs.declared.types.TypeId.{TypeId}
@@ -9,6 +9,10 @@ use Rattle.xd_proof_check.proofs.AcceptLemmas.{marks_decide, stands}
 use Rattle.xd_proof_check.proofs.GoalLemmas.{goal_found, goal_refused}
 use Rattle.xd_proof_check.proofs.HeadLemmas.{numbers_within, rights_fit}
 use Rattle.xd_proof_check.proofs.check.check_goal.Goals as goal
+
+on_ok : {T E : Type 0} (r : Result T E) (P : Type 0) → P → OnOk r P
+on_ok (Ok x) P h = h
+on_ok (Err e) P h = tt
 
 pub returns-then-not-empty_stands-clause-found : goal.returns-then-not-empty_stands-clause-found
 returns-then-not-empty_stands-clause-found c =
@@ -58,3 +62,21 @@ returns-clause-found c =
     (ap (λ (ids : List TypeId). g.line + 2 + length ids) c.as_slice-rights.ensures.value) (ap (λ k. g.line + 2 + n + k) c.empty_lines.ensures.value)
     (ap (λ (marks : List Bool). empty_marked marks g) (sym c.empty_marks.ensures) ∙ sym c.empty_stands.ensures ∙ c.if-not-empty_stands.false)
     c.in_ok-heads.ensures.heads c.check_cases_of.ensures.found
+
+pub check_cases_of-requires-clause-clear : goal.check_cases_of-requires-clause-clear
+check_cases_of-requires-clause-clear c = c.in_ok-widen.ensures.clear
+
+pub widen-requires : goal.widen-requires
+widen-requires c = c.requires.clear
+
+pub returns-then-not-empty_stands-clause-serves : goal.returns-then-not-empty_stands-clause-serves
+returns-then-not-empty_stands-clause-serves c = c.requires.serves
+
+pub goal_heads-requires-clause-belongs : goal.goal_heads-requires-clause-belongs
+goal_heads-requires-clause-belongs c = c.requires.here
+
+pub goal_heads-requires-clause-serves : goal.goal_heads-requires-clause-serves
+goal_heads-requires-clause-serves c = c.requires.serves
+
+pub returns-clause-serves : goal.returns-clause-serves
+returns-clause-serves c = on_ok c.check_cases_of.result _ c.in_ok-heads.ensures.serves

@@ -1,11 +1,14 @@
-use Rattle.std.proofs.Common.{◌+◌, ◌∙◌, drop, ap, sym, subst, arith}
+use Rattle.std.proofs.Common.{◌+◌, ◌∙◌, drop, ap, sym, subst, arith, length}
 use Rattle.std.specs.Option.{IfNone, option_map}
+use Rattle.xd_proof.specs.Lines.{LinesFit}
+use Rattle.xd_proof_check.specs.Leaves.{GoalBelongs}
 use Rattle.xd_syntax.specs.Kept.{program_tree}
 use Rattle.xd_syntax.specs.Program.{names_of}
 use Rattle.xd_laws.specs.Breach.{goals_of}
-use Rattle.xd_laws.proofs.FirstWrong.{or_next, wrong_goals}
-use Rattle.xd_proof_check.specs.GoalWalk.{breach_of}
+use Rattle.xd_proof_check.specs.GoalWalk.{breach_of, AreTrees}
 use Rattle.xd_proof_check.specs.Paths.{IsClear}
+use Rattle.xd_proof_check.proofs.HeadLemmas.{all_get}
+use Rattle.xd_laws.proofs.FirstWrong.{or_next, wrong_goals}
 use Rattle.xd_proof_check.proofs.AcceptLemmas.{claims_of}
 use Rattle.xd_proof_check.proofs.GoalLemmas.{goals_step, lined_long, none_drop}
 use Rattle.xd_proof_check.proofs.check.check_goals.Goals as goal
@@ -46,3 +49,12 @@ returns-clause-found c =
     λ ls z.
     let n = lined_long p.types c.args.goals.now ls z in
     sym (c.loop-goal.invariant.found ls z ∙ none_drop E (goals_of ls) ls c.loop-goal.goal-index (omega (arith, c.loop-goal-test.false)))
+
+pub check_goal-requires-clause-here : goal.check_goal-requires-clause-here
+check_goal-requires-clause-here c = subst (GoalBelongs (length c.args.program.now.types)) (sym c.goal-item.is) (all_get (GoalBelongs (length c.args.program.now.types)) c.args.goals.now c.loop-goal.goal-index c.goal-item.result c.requires.belong c.loop-goal-test.true)
+
+pub check_goal-requires-clause-lines : goal.check_goal-requires-clause-lines
+check_goal-requires-clause-lines c = subst LinesFit (sym c.goal-item.is) (all_get LinesFit c.args.goals.now c.loop-goal.goal-index c.goal-item.result c.requires.lines c.loop-goal-test.true)
+
+pub check_goal-requires-clause-trees : goal.check_goal-requires-clause-trees
+check_goal-requires-clause-trees c = subst AreTrees (sym c.goal-item.is) (all_get AreTrees c.args.goals.now c.loop-goal.goal-index c.goal-item.result c.requires.trees c.loop-goal-test.true)

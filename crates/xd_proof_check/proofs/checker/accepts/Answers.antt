@@ -46,3 +46,9 @@ returns-clause-holds c =
     let p = c.args.sound.now in
     let s = c.in_ok-lister.ensures.serves in
     λ ls z e. claims_hold (program_tree p) (subst IsSound c.new.ensures.same s.sound) ls c.verdict.result (returns-clause-verdict c ls z) e
+
+pub give_back-requires : goal.give_back-requires
+give_back-requires c = rw c.program.ensures.program at c.in_ok-found.ensures.serves
+
+pub check_goals-requires-clause-serves : goal.check_goals-requires-clause-serves
+check_goals-requires-clause-serves c = rw c.program.ensures.program c.in_ok-lister.ensures.serves

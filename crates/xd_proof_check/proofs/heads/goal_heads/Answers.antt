@@ -19,3 +19,6 @@ returns-clause-heads c =
       left = heads_alone p.types new E id left (heads_kept p.types old new c.in_ok-rights.ensures.keeps.cells left (heads E (tree p.types id)) c.in_ok-left.ensures.heads);
       rights = subst (λ ids. AreHeadsOf p.types new E ids c.in_ok-rights.rights.items) c.deref.ensures.value c.in_ok-rights.ensures.heads;
     }
+
+pub heads_of_all-requires-clause-belong : goal.heads_of_all-requires-clause-belong
+heads_of_all-requires-clause-belong c = rw c.deref.ensures.value c.requires.belongs.rights

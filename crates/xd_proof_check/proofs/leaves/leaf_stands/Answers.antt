@@ -32,3 +32,6 @@ returns-then-numbers-at c =
     leaf_left numbers c.args.left ns (numbered c.args.goals.now c.args.number) g c.rights_stand.result c.in-Some.ensures
     (eq-eqb (number_at numbers g.left.at) c.args.left (ap (number_at numbers) (sym c.at.ensures) ∙ c.if-numbers-at.true))
     (c.rights_stand.ensures ns a ∙ ap (list_all (λ (id : TypeId). is_among ns (number_at numbers id.at))) c.deref.ensures.value)
+
+pub rights_stand-requires-clause-room : goal.rights_stand-requires-clause-room
+rights_stand-requires-clause-room c = c.requires.room

@@ -1,3 +1,4 @@
+use Rattle.std.proofs.lemmas.Result.{IfOk-weaker}
 use Rattle.std.proofs.Common.{ap}
 use Rattle.xd_proof_lines.specs.Cases.{atom_of}
 use Rattle.xd_proof_lines.specs.declared.atoms.Atom.{Atom}
@@ -36,3 +37,21 @@ pub returns-in-OtherText-clause-found : goal.returns-in-OtherText-clause-found
 returns-in-OtherText-clause-found c =
     let s = setting_of c.args.setting.now in
     text_says s c.args.steps.now c.text_leaf-in-OtherText.result (other_text_is s.atom (ap (λ (a : Atom). atom_of a) c.in-OtherText.is)) c.text_leaf-in-OtherText.ensures.found
+
+pub returns-in-Label-clause-keeps : goal.returns-in-Label-clause-keeps
+returns-in-Label-clause-keeps c = c.walk.ensures.keeps
+
+pub returns-in-OtherLabel-clause-keeps : goal.returns-in-OtherLabel-clause-keeps
+returns-in-OtherLabel-clause-keeps c = c.walk-in-OtherLabel.ensures.keeps
+
+pub returns-in-Text-clause-keeps : goal.returns-in-Text-clause-keeps
+returns-in-Text-clause-keeps c = c.text_leaf.ensures.keeps
+
+pub returns-in-OtherText-clause-keeps : goal.returns-in-OtherText-clause-keeps
+returns-in-OtherText-clause-keeps c = c.text_leaf-in-OtherText.ensures.keeps
+
+pub returns-in-Text-clause-clear : goal.returns-in-Text-clause-clear
+returns-in-Text-clause-clear c = IfOk-weaker c.text_leaf.result _ _ (λ found h t e. h) c.text_leaf.ensures.clear
+
+pub returns-in-OtherText-clause-clear : goal.returns-in-OtherText-clause-clear
+returns-in-OtherText-clause-clear c = IfOk-weaker c.text_leaf-in-OtherText.result _ _ (λ found h t e. h) c.text_leaf-in-OtherText.ensures.clear
