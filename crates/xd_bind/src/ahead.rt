@@ -17,7 +17,7 @@ use xd_traces::MoveKind;
 
 /// States in the order in which they were found, and for each state of a layer, from its base on,
 /// whether it was found.
-#[derive(Debug, Drop)]
+#[derive(Drop)]
 struct Search {
     order: Vec<State>,
     marks: Vec<bool>,

@@ -11,7 +11,7 @@ use xd_doc::NoMemory;
 use xd_traces::MoveKind;
 
 /// No move belongs to a variable.
-#[derive(Debug, Drop)]
+#[derive(Drop)]
 struct Nobody;
 
 impl Holds for Nobody {

@@ -13,7 +13,7 @@ use xd_doc::{NoMemory, Seq};
 use xd_syntax::{Fault, FaultKind, Warning};
 
 /// What a line says, with the document that it carries.
-#[derive(Clone, Copy, Debug)]
+#[derive(Clone, Copy)]
 pub(crate) enum Finding {
     NotExhaustive(Seq),
     Argument(Seq),
@@ -22,7 +22,7 @@ pub(crate) enum Finding {
 }
 
 /// A line of the report.
-#[derive(Clone, Copy, Debug)]
+#[derive(Clone, Copy)]
 pub(crate) struct FoundLine {
     pub place: Place,
     pub finding: Finding,

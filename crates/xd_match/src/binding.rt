@@ -11,7 +11,7 @@ use std::alloc::Global;
 use xd_doc::{NoMemory, Seq, Store};
 
 /// Items that stand in a store: the first of a document, or all of a document's own.
-#[derive(Clone, Copy, Debug)]
+#[derive(Clone, Copy)]
 pub(crate) enum Piece {
     First(Seq),
     Whole(Seq),

@@ -22,7 +22,7 @@ use xd_patterns::Marked;
 use xd_traces::MoveKind;
 
 /// A document that a state accepts, over which its first run is still to be followed.
-#[derive(Clone, Copy, Debug)]
+#[derive(Clone, Copy)]
 pub(crate) struct Task {
     pub state: State,
     pub seq: Seq,

@@ -9,7 +9,7 @@ use xd_continuations::{Interned, Item};
 ///
 /// It is the node of this number in the table of patterns or in that of types; or of the sequence that the node is the parts
 /// from this number on; or the star of the repetition that the node is.
-#[derive(Clone, Copy, Debug, PartialEq, Eq, Hash)]
+#[derive(Clone, Copy, PartialEq, Eq, Hash)]
 pub(crate) struct Piece {
     pub of_pattern: bool,
     pub node: usize,

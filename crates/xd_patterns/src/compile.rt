@@ -21,7 +21,7 @@ use xd_doc::{Class, NoMemory, Words};
 use xd_syntax::{Patterns, TypeDef, Types};
 
 /// For each move of a state, the number of the list of the variables that its item belongs to.
-#[derive(Debug, Drop)]
+#[derive(Drop)]
 pub(crate) struct StateMarks {
     pub texts: Vec<usize>,
     pub labels: Vec<usize>,

@@ -20,14 +20,14 @@ use xd_doc::{Label, NoMemory};
 use xd_syntax::{Patterns, TypeDef, Types};
 
 /// A list of pieces that stands ahead; in a turn of a repetition, the list that stands behind the turn.
-#[derive(Clone, Copy, Debug, PartialEq, Eq, Hash)]
+#[derive(Clone, Copy, PartialEq, Eq, Hash)]
 pub(crate) struct Task {
     pub cell: usize,
     pub turn: Option<usize>,
 }
 
 /// What can come next: nothing, or an item of the piece, and what stands ahead behind it.
-#[derive(Clone, Copy, Debug, PartialEq, Eq, Hash)]
+#[derive(Clone, Copy, PartialEq, Eq, Hash)]
 pub(crate) struct Found {
     pub is_stop: bool,
     pub piece: Piece,

@@ -16,7 +16,7 @@ use xd_doc::{Label, NoMemory};
 use xd_syntax::{FormView, Nodes, PatternForm, PatternId, Patterns};
 
 /// Variables by their numbers, each once.
-#[derive(Debug, Drop)]
+#[derive(Drop)]
 pub(crate) struct Numbers {
     pub list: Vec<usize>,
 }
