@@ -14,5 +14,5 @@ pub use crate::reading::{
     Programs, read_type, show_read_program, show_read_type, show_resolved, show_soundness,
     show_type_line,
 };
-pub use crate::states::{find_type, program_of, state_at, state_of};
+pub use crate::states::{find_type, program_of, state_at, state_of, type_of};
 pub use crate::verdicts::{show_both_ways, show_verdict};

@@ -47,13 +47,21 @@ pub fn program_of(call: &Call<'_>) -> Result<SoundProgram, CallError> {
     sound_program(call.alloc, call.text)
 }
 
-/// A state for the type that the call's word of this number names, in an automaton of its own.
-pub fn state_of(call: &Call<'_>, number: usize) -> Result<(Auto, State), CallError>
-    ensures { IfOk result (λ made. IsState made.0 made.1) }
+/// The program of a call, and the type that the call's word of this number names.
+pub fn type_of(call: &Call<'_>, number: usize) -> Result<(SoundProgram, TypeId), CallError>
+    ensures { IfOk result (λ made. BelongsTo made.0.types made.1) }
 {
     let name = call.word(number)?;
     let mut sound = program_of(call)?;
     let id = find_type(&mut sound, name)?;
+    Ok((sound, id))
+}
+
+/// A state for the type that the call's word of this number names, in an automaton of its own.
+pub fn state_of(call: &Call<'_>, number: usize) -> Result<(Auto, State), CallError>
+    ensures { IfOk result (λ made. IsState made.0 made.1) }
+{
+    let (mut sound, id) = type_of(call, number)?;
     state_at(call.alloc, &mut sound, id)
 }
 

@@ -1,6 +1,6 @@
 //! Calls of the slow programs about documents.
 
-ghost use Rattle.std.specs.Prelude.{◌<◌, length};
+ghost use Rattle.std.specs.Prelude.{◌<◌, length, IfOk};
 ghost use Rattle.xd_plain.specs.PlainPrograms.{AnyIsFirst};
 
 use crate::plain::{plain_program, plain_tree};
@@ -22,66 +22,67 @@ const MANY: u64 = 200;
 /// `first`, for the pattern of the first clause; `meaning CALLS`, the value of the program. `value CALLS`: that of the first
 /// function's body, where it has no variables.
 pub fn plain(desk: &Programs, call: &Call<'_>, out: &mut Vec<u8>) -> Result<(), CallError> {
-    let sound = desk.sound.as_ref().ok_or(CallError::Unknown)?;
-    let program = plain_program(call.alloc, sound.program())?;
-    match call.name {
-        "fits" => show_all_fits(call, &program, &newest_type(desk)?, out),
-        "ways" => show_all_ways(call, &program, out),
-        "first" => show_all_first(call, &program, out),
-        "meaning" => show_all_meanings(call, &program, out),
-        "value" => show_value(call, &program, out),
-        _ => Err(CallError::Call),
+    let program = sound_program(desk)?;
+    show_asked(desk, call, &program, out)
+}
+
+fn sound_program(desk: &Programs) -> Result<PlainProgram, CallError>
+    ensures { IfOk result AnyIsFirst }
+{
+    match &desk.sound {
+        Some(sound) => plain_program(desk.alloc, sound.program()),
+        None => Err(CallError::Unknown),
     }
 }
 
-fn show_all_fits(
-    call: &Call<'_>,
-    program: &PlainProgram,
-    tree: &PlainTree,
-    out: &mut Vec<u8>,
-) -> Result<(), CallError> {
-    for line in call.text.lines() {
-        show_fits(call.alloc, program, tree, line, out)?;
-    }
-    Ok(())
-}
-
-fn show_all_ways(
-    call: &Call<'_>,
-    program: &PlainProgram,
-    out: &mut Vec<u8>,
-) -> Result<(), CallError> {
-    let pattern = first_pattern(&program.functions)?;
-    for line in call.text.lines() {
-        show_ways(call.alloc, program, pattern, line, out)?;
-    }
-    Ok(())
-}
-
-fn show_all_first(
-    call: &Call<'_>,
-    program: &PlainProgram,
-    out: &mut Vec<u8>,
-) -> Result<(), CallError> {
-    let pattern = first_pattern(&program.functions)?;
-    for line in call.text.lines() {
-        show_first(call.alloc, program, pattern, line, out)?;
-    }
-    Ok(())
-}
-
-fn show_all_meanings(
+fn show_asked(
+    desk: &Programs,
     call: &Call<'_>,
     program: &PlainProgram,
     out: &mut Vec<u8>,
 ) -> Result<(), CallError>
     requires { AnyIsFirst program.now }
 {
-    let calls = call.number(0)?;
+    if call.name == "value" {
+        return show_value(call, program, out);
+    }
     for line in call.text.lines() {
-        show_meaning(call.alloc, program, calls, line, out)?;
+        show_on(desk, call, program, line, out)?;
     }
     Ok(())
+}
+
+/// What is asked about the document that a line spells.
+fn show_on(
+    desk: &Programs,
+    call: &Call<'_>,
+    program: &PlainProgram,
+    line: &str,
+    out: &mut Vec<u8>,
+) -> Result<(), CallError>
+    requires { AnyIsFirst program.now }
+{
+    let document = plain_document(call.alloc, line)?;
+    show_about(desk, call, program, &document, line, out)
+}
+
+fn show_about(
+    desk: &Programs,
+    call: &Call<'_>,
+    program: &PlainProgram,
+    document: &PlainDocument,
+    line: &str,
+    out: &mut Vec<u8>,
+) -> Result<(), CallError>
+    requires { AnyIsFirst program.now }
+{
+    match call.name {
+        "fits" => show_answer_on(is_fitting(desk, program, document)?, line, out),
+        "ways" => show_ways(call.alloc, program, document, out),
+        "first" => show_first(call.alloc, program, document, out),
+        "meaning" => show_meaning(call, program, document, out),
+        _ => Err(CallError::Call),
+    }
 }
 
 fn show_value(call: &Call<'_>, program: &PlainProgram, out: &mut Vec<u8>) -> Result<(), CallError>
@@ -90,6 +91,19 @@ fn show_value(call: &Call<'_>, program: &PlainProgram, out: &mut Vec<u8>) -> Res
     let calls = call.number(0)?;
     let body = first_body(&program.functions)?;
     show_valued(value(call.alloc, program, MANY, calls, &[], body), out)
+}
+
+fn show_meaning(
+    call: &Call<'_>,
+    program: &PlainProgram,
+    document: &PlainDocument,
+    out: &mut Vec<u8>,
+) -> Result<(), CallError>
+    requires { AnyIsFirst program.now }
+{
+    let calls = call.number(0)?;
+    let document = document.copy(call.alloc)?;
+    show_valued(meaning(call.alloc, program, MANY, calls, document), out)
 }
 
 fn newest_type(desk: &Programs) -> Result<PlainTree, CallError> {
@@ -123,27 +137,24 @@ fn pattern_of(clauses: &PlainClauses) -> Result<&PlainTree, CallError> {
     }
 }
 
-fn show_fits(
-    alloc: Global,
+/// Whether the document fits the type that was read last.
+fn is_fitting(
+    desk: &Programs,
     program: &PlainProgram,
-    tree: &PlainTree,
-    line: &str,
-    out: &mut Vec<u8>,
-) -> Result<(), CallError> {
-    let document = plain_document(alloc, line)?;
-    let fits = fits_within(alloc, &program.definitions, MANY, tree, &document)?;
-    show_answer_on(fits, line, out)
+    document: &PlainDocument,
+) -> Result<bool, CallError> {
+    let tree = newest_type(desk)?;
+    Ok(fits_within(desk.alloc, &program.definitions, MANY, &tree, document)?)
 }
 
 fn show_ways(
     alloc: Global,
     program: &PlainProgram,
-    pattern: &PlainTree,
-    line: &str,
+    document: &PlainDocument,
     out: &mut Vec<u8>,
 ) -> Result<(), CallError> {
-    let document = plain_document(alloc, line)?;
-    let ways = ways_within(alloc, &program.definitions, MANY, pattern, &document)?;
+    let pattern = first_pattern(&program.functions)?;
+    let ways = ways_within(alloc, &program.definitions, MANY, pattern, document)?;
     writeln!(out, "{} ways", ways.len())?;
     Ok(())
 }
@@ -152,12 +163,11 @@ fn show_ways(
 fn show_first(
     alloc: Global,
     program: &PlainProgram,
-    pattern: &PlainTree,
-    line: &str,
+    document: &PlainDocument,
     out: &mut Vec<u8>,
 ) -> Result<(), CallError> {
-    let document = plain_document(alloc, line)?;
-    match first_within(alloc, &program.definitions, MANY, pattern, &document)? {
+    let pattern = first_pattern(&program.functions)?;
+    match first_within(alloc, &program.definitions, MANY, pattern, document)? {
         Some(found) => show_bindings(&found, out),
         None => Ok(out.extend_from_slice(b"no match\n")?),
     }
@@ -173,29 +183,25 @@ fn show_bindings(bindings: &[Binding], out: &mut Vec<u8>) -> Result<(), CallErro
     Ok(())
 }
 
-fn show_meaning(
-    alloc: Global,
-    program: &PlainProgram,
-    calls: u64,
-    line: &str,
-    out: &mut Vec<u8>,
-) -> Result<(), CallError>
-    requires { AnyIsFirst program.now }
-{
-    let document = plain_document(alloc, line)?;
-    show_valued(meaning(alloc, program, MANY, calls, document), out)
-}
-
 /// A value and the calls that are left, or why there is none.
 fn show_valued(valued: Result<Valued, NoValue>, out: &mut Vec<u8>) -> Result<(), CallError> {
-    match valued {
-        Ok(valued) => {
-            spell(&valued.document, out)?;
-            writeln!(out, " and {} calls left", valued.left)?;
-        }
-        Err(NoValue::Spent) => out.extend_from_slice(b"spent\n")?,
-        Err(NoValue::Stuck) => out.extend_from_slice(b"stuck\n")?,
-        Err(NoValue::NoMemory) => return Err(CallError::Memory(AllocError)),
+    match &valued {
+        Ok(valued) => show_done(valued, out),
+        Err(why) => show_reason(*why, out),
+    }
+}
+
+fn show_done(valued: &Valued, out: &mut Vec<u8>) -> Result<(), CallError> {
+    spell(&valued.document, out)?;
+    writeln!(out, " and {} calls left", valued.left)?;
+    Ok(())
+}
+
+fn show_reason(why: NoValue, out: &mut Vec<u8>) -> Result<(), CallError> {
+    match why {
+        NoValue::Spent => out.extend_from_slice(b"spent\n")?,
+        NoValue::Stuck => out.extend_from_slice(b"stuck\n")?,
+        NoValue::NoMemory => return Err(CallError::Memory(AllocError)),
     }
     Ok(())
 }

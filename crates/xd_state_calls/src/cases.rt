@@ -2,14 +2,17 @@
 
 use std::io::Write;
 use xd_call_lines::{Call, CallError};
-use xd_proof_lines::{Atom, Step, read_case};
+use xd_proof_lines::{Atom, ReadCase, Step, read_case};
 
 /// `read_case LINE`: the number of the head, the atom, and the steps of the choice tree; or `none`.
 pub fn show_case(call: &Call<'_>, out: &mut Vec<u8>) -> Result<(), CallError> {
-    let Some(read) = read_case(call.alloc, call.behind.as_bytes())? else {
-        out.extend_from_slice(b"none\n")?;
-        return Ok(());
-    };
+    match read_case(call.alloc, call.behind.as_bytes())? {
+        Some(read) => show_read(&read, out),
+        None => Ok(out.extend_from_slice(b"none\n")?),
+    }
+}
+
+fn show_read(read: &ReadCase, out: &mut Vec<u8>) -> Result<(), CallError> {
     write!(out, "head {} at ", read.head)?;
     show_atom(&read.atom, out)?;
     for step in &read.steps {

@@ -32,27 +32,44 @@ pub fn states_of(call: &Call<'_>, one: usize, two: usize) -> Result<(Auto, State
     let first = call.word(one)?;
     let second = call.word(two)?;
     let mut sound = program_of(call)?;
-    let (left, right) = types_of(&mut sound, first, second)?;
-    states_at(call.alloc, &mut sound, left, right)
+    states_for(call.alloc, &mut sound, first, second)
 }
 
-/// States for these types.
-fn states_at(
+/// States for the types of two names.
+fn states_for(
     alloc: Global,
     sound: &mut SoundProgram,
-    left: TypeId,
-    right: TypeId,
+    one: &str,
+    two: &str,
 ) -> Result<(Auto, State, State), CallError>
-    requires left { BelongsTo sound.old.types left }
-    requires right { BelongsTo sound.old.types right }
     ensures one { IfOk result (λ made. IsState made.0 made.1) }
     ensures two { IfOk result (λ made. IsState made.0 made.2) }
 {
+    let (left, right) = types_of(sound, one, two)?;
     let mut cells = Cells::new(alloc);
     let mut auto = Auto::new(alloc);
-    let first = compile_type(alloc, sound, &mut cells, &mut auto, left)?;
-    let second = compile_type(alloc, sound, &mut cells, &mut auto, right)?;
+    let (first, second) = compile_both(alloc, sound, &mut cells, &mut auto, left, right)?;
     Ok((auto, first, second))
+}
+
+/// Puts states for these types into the automaton.
+fn compile_both(
+    alloc: Global,
+    sound: &mut SoundProgram,
+    cells: &mut Cells,
+    auto: &mut Auto,
+    left: TypeId,
+    right: TypeId,
+) -> Result<(State, State), CallError>
+    requires left { BelongsTo sound.old.types left }
+    requires right { BelongsTo sound.old.types right }
+    requires mirrors { Mirrors sound.old cells.old auto.old }
+    ensures one { IfOk result (λ made. IsState auto.new made.0) }
+    ensures two { IfOk result (λ made. IsState auto.new made.1) }
+{
+    let first = compile_type(alloc, sound, cells, auto, left)?;
+    let second = compile_type(alloc, sound, cells, auto, right)?;
+    Ok((first, second))
 }
 
 /// A type's name, and a state for it.
@@ -69,18 +86,25 @@ pub fn named_states<'a>(call: &Call<'a>) -> Result<(Auto, Vec<Named<'a>>), CallE
     let mut sound = program_of(call)?;
     let mut cells = Cells::new(call.alloc);
     let mut auto = Auto::new(call.alloc);
+    let states = name_states(call, &mut sound, &mut cells, &mut auto)?;
+    Ok((auto, states))
+}
+
+/// The same in this automaton.
+fn name_states<'a>(
+    call: &Call<'a>,
+    sound: &mut SoundProgram,
+    cells: &mut Cells,
+    auto: &mut Auto,
+) -> Result<Vec<Named<'a>>, CallError>
+    requires { Mirrors sound.old cells.old auto.old }
+    ensures { IfOk result (λ states. AllByRecursion (λ (n : Named). IsState auto.new n.state) states.items) }
+{
     let mut states = Vec::new(call.alloc);
     for name in call.behind.split_whitespace() {
-        name_state(
-            call.alloc,
-            &mut sound,
-            &mut cells,
-            &mut auto,
-            &mut states,
-            name,
-        )?;
+        name_state(call.alloc, sound, cells, auto, &mut states, name)?;
     }
-    Ok((auto, states))
+    Ok(states)
 }
 
 /// Puts a state for the type of this name behind the others.

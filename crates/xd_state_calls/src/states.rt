@@ -4,6 +4,7 @@ ghost use Rattle.std.specs.Prelude.{IfOk, false};
 ghost use Rattle.xd_auto.specs.Automaton.{IsState};
 ghost use Rattle.xd_traces.specs.Universal.{IsUniversal};
 
+use std::alloc::Global;
 use std::io::Write;
 use xd_auto::{Auto, State};
 use xd_bind::{Holds, MoveKind, cases};
@@ -18,7 +19,21 @@ use xd_traces::{add_universal, pair_up};
 pub fn show_product(call: &Call<'_>, out: &mut Vec<u8>) -> Result<(), CallError> {
     let (one, first) = state_of(call, 0)?;
     let (two, second) = state_of(call, 1)?;
-    let (auto, state) = product(call.alloc, &one, first, &two, second)?;
+    show_product_of(call, &one, first, &two, second, out)
+}
+
+fn show_product_of(
+    call: &Call<'_>,
+    one: &Auto,
+    first: State,
+    two: &Auto,
+    second: State,
+    out: &mut Vec<u8>,
+) -> Result<(), CallError>
+    requires one { IsState one.now first }
+    requires two { IsState two.now second }
+{
+    let (auto, state) = product(call.alloc, one, first, two, second)?;
     show_members(call, 2, &auto, state, out)
 }
 
@@ -26,7 +41,21 @@ pub fn show_product(call: &Call<'_>, out: &mut Vec<u8>) -> Result<(), CallError>
 pub fn show_minus(call: &Call<'_>, out: &mut Vec<u8>) -> Result<(), CallError> {
     let (one, first) = state_of(call, 0)?;
     let (two, second) = state_of(call, 1)?;
-    let (auto, state) = minus(call.alloc, &one, first, &two, second)?;
+    show_minus_of(call, &one, first, &two, second, out)
+}
+
+fn show_minus_of(
+    call: &Call<'_>,
+    one: &Auto,
+    first: State,
+    two: &Auto,
+    second: State,
+    out: &mut Vec<u8>,
+) -> Result<(), CallError>
+    requires one { IsState one.now first }
+    requires two { IsState two.now second }
+{
+    let (auto, state) = minus(call.alloc, one, first, two, second)?;
     show_members(call, 2, &auto, state, out)
 }
 
@@ -64,19 +93,37 @@ impl Holds for NoVariables {
 pub fn show_shared(call: &Call<'_>, out: &mut Vec<u8>) -> Result<(), CallError> {
     let (one, first, all) = pattern_of(call, 0)?;
     let (mut two, second) = state_of(call, 1)?;
-    let mut known = Inhabitants::new(call.alloc);
-    let mut store = Store::new(call.alloc);
+    show_answer(
+        has_shared(call.alloc, &one, first, all, &mut two, second)?,
+        out,
+    )
+}
+
+fn has_shared(
+    alloc: Global,
+    one: &Auto,
+    first: State,
+    all: State,
+    two: &mut Auto,
+    second: State,
+) -> Result<bool, CallError>
+    requires first { IsState one.now first }
+    requires all { IsUniversal one.now all }
+    requires second { IsState two.old second }
+{
+    let mut known = Inhabitants::new(alloc);
+    let mut store = Store::new(alloc);
     let found = cases(
-        call.alloc,
-        &one,
+        alloc,
+        one,
         first,
         all,
         &[],
         &NoVariables,
-        &mut two,
+        two,
         second,
         &mut known,
         &mut store,
     )?;
-    show_answer(found.is_some(), out)
+    Ok(found.is_some())
 }

@@ -8,7 +8,7 @@ use std::alloc::Global;
 use std::io::Write;
 use xd_auto::{Auto, State};
 use xd_call_lines::{Call, CallError, show_class, show_words};
-use xd_call_programs::{find_type, program_of, state_of};
+use xd_call_programs::{state_of, type_of};
 use xd_doc::Store;
 use xd_empty::inhabitant;
 use xd_heads::{Cells, Head, HeadKind, compile_type, heads};
@@ -18,9 +18,7 @@ use xd_write::write_document;
 
 /// `heads TYPE`: a line for each, its class, its content in brackets, and its rest.
 pub fn show_heads(call: &Call<'_>, out: &mut Vec<u8>) -> Result<(), CallError> {
-    let name = call.word(0)?;
-    let mut sound = program_of(call)?;
-    let id = find_type(&mut sound, name)?;
+    let (mut sound, id) = type_of(call, 0)?;
     show_heads_of(call.alloc, &mut sound, id, out)
 }
 
@@ -61,9 +59,7 @@ fn show_head(alloc: Global, types: &Types, head: &Head, out: &mut Vec<u8>) -> Re
 
 /// `state_type TYPE`: what the type's state stands for.
 pub fn show_state_type(call: &Call<'_>, out: &mut Vec<u8>) -> Result<(), CallError> {
-    let name = call.word(0)?;
-    let mut sound = program_of(call)?;
-    let id = find_type(&mut sound, name)?;
+    let (mut sound, id) = type_of(call, 0)?;
     show_state_of(call.alloc, &mut sound, id, out)
 }
 
@@ -77,8 +73,22 @@ fn show_state_of(
 {
     let mut cells = Cells::new(alloc);
     let mut auto = Auto::new(alloc);
-    let state = compile_type(alloc, sound, &mut cells, &mut auto, id)?;
-    show_state(alloc, sound, &cells, &auto, state, out)
+    show_compiled(alloc, sound, &mut cells, &mut auto, id, out)
+}
+
+fn show_compiled(
+    alloc: Global,
+    sound: &mut SoundProgram,
+    cells: &mut Cells,
+    auto: &mut Auto,
+    id: TypeId,
+    out: &mut Vec<u8>,
+) -> Result<(), CallError>
+    requires belongs { BelongsTo sound.old.types id }
+    requires mirrors { Mirrors sound.old cells.old auto.old }
+{
+    let state = compile_type(alloc, sound, cells, auto, id)?;
+    show_state(alloc, sound, cells, auto, state, out)
 }
 
 /// What a state stands for.

@@ -1,5 +1,5 @@
 use Rattle.std.proofs.Common.{vec_len}
 use Rattle.xd_plain_calls.proofs.plain.match_of.Given as goal
 
-abbrev pub decreases-loop-pattern : goal.decreases-loop-pattern
-decreases-loop-pattern l = vec_len l.clauses
+abbrev pub decreases-loop-clause : goal.decreases-loop-clause
+decreases-loop-clause l = vec_len l.clauses
