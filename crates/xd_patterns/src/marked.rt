@@ -17,7 +17,7 @@ use crate::bodies::Bodies;
 use crate::chains::{Marks, Piece};
 use crate::compile::StateMarks;
 use crate::start::compile_piece;
-use crate::variables::{Numbers, number_lists, variables};
+use crate::variables::{Numbers, variables_and_lists};
 use indexmap::IndexSet;
 use std::alloc::Global;
 use xd_auto::{Auto, State};
@@ -132,8 +132,7 @@ pub fn compile_pattern(
     let (start, table) = compile_piece(
         alloc, types, patterns, defs, bodies, piece, &mut marks, auto,
     )?;
-    let variables = variables(alloc, patterns, pattern)?;
-    let lists = number_lists(alloc, patterns, &marks, &variables)?;
+    let (variables, lists) = variables_and_lists(alloc, patterns, pattern, &marks)?;
     Ok(Marked {
         start,
         variables,

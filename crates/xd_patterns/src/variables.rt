@@ -46,7 +46,7 @@ fn push_variables(
 }
 
 /// The variables of the pattern in order of first occurrence.
-pub(crate) fn variables(
+fn variables(
     alloc: Global,
     patterns: &Patterns,
     pattern: PatternId,
@@ -68,9 +68,7 @@ fn copied(alloc: Global, numbers: &[usize]) -> Result<Vec<usize>, NoMemory>
     ensures { IfOk result (λ list. list.items ≡ numbers.now) }
 {
     let mut list = Vec::with_capacity(alloc, numbers.len())?;
-    for number in numbers {
-        list.push(*number)?;
-    }
+    list.extend_from_slice(numbers)?;
     Ok(list)
 }
 
@@ -116,7 +114,7 @@ fn with_variable(
 }
 
 /// For each list of binders the numbers of their variables, each once.
-pub(crate) fn number_lists(
+fn number_lists(
     alloc: Global,
     patterns: &Patterns,
     marks: &Marks,
@@ -136,4 +134,21 @@ pub(crate) fn number_lists(
         lists.push(Numbers { list })?;
     }
     Ok(lists)
+}
+
+/// The variables of the pattern in order of first occurrence, and for each list of binders the numbers of its variables.
+pub(crate) fn variables_and_lists(
+    alloc: Global,
+    patterns: &Patterns,
+    pattern: PatternId,
+    marks: &Marks,
+) -> Result<(IndexSet<Label>, Vec<Numbers>), NoMemory>
+    requires pattern { IsPattern patterns.now pattern }
+    requires binders { AllByRecursion (λ l. IsBinder patterns.now l.item) marks.now }
+    ensures variables { IfOk result (λ made. made.0.keys ≡ variables_of (pattern_tree patterns.now pattern)) }
+    ensures lists { IfOk result (λ made. AreNumbered patterns.now made.0.keys marks.now (length marks.now + 1) (numbers_in made.1.items)) }
+{
+    let found = variables(alloc, patterns, pattern)?;
+    let lists = number_lists(alloc, patterns, marks, &found)?;
+    Ok((found, lists))
 }

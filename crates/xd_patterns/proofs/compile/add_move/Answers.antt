@@ -52,3 +52,26 @@ returns-in_ok-add_element-in-Elem-clause-made c =
     let found = not_stop t m k f plain c.requires.found in
     let sees = subst (Sees (rows_of t f.piece.of_pattern) f.piece) c.in-Elem.is c.view.ensures in
     elem_arm t m k c.args.base c.args.states.now.keys c.args.auto.now c.args.from c.requires.from c.requires.count c.requires.pieces c.requires.numbers f plain found c.in-Elem.class.now c.in_ok-share-in-Elem.field-0 c.in-Elem.part sees.0 sees.1 c.in_ok-share-in-Elem.ensures.same c.put.new.self c.in_ok-inside-in-Elem.inside c.in_ok-inside-in-Elem.ensures.within.1 c.in_ok-inside-in-Elem.ensures.links c.in_ok-inside-in-Elem.ensures.list c.add_element.new.states.keys c.add_element.new.auto c.args.made.now.texts.items c.add_element.new.made.texts.items c.args.made.now.labels.items c.add_element.new.made.labels.items c.in_ok-add_element-in-Elem.ensures.made
+
+-- ---- old states stay as they were
+pub returns-in_ok-add_text-in-Text-clause-spares : goal.returns-in_ok-add_text-in-Text-clause-spares
+returns-in_ok-add_text-in-Text-clause-spares c = c.add_text.ensures.spares
+
+pub returns-in_ok-add_text-in-Words-clause-spares : goal.returns-in_ok-add_text-in-Words-clause-spares
+returns-in_ok-add_text-in-Words-clause-spares c = c.add_text-in-Words.ensures.spares
+
+pub returns-in_ok-add_element-in-Elem-clause-spares : goal.returns-in_ok-add_element-in-Elem-clause-spares
+returns-in_ok-add_element-in-Elem-clause-spares c = c.add_element.ensures.spares
+
+pub returns-in_err-add_element-in-Elem-clause-spares : goal.returns-in_err-add_element-in-Elem-clause-spares
+returns-in_err-add_element-in-Elem-clause-spares c = c.add_element.ensures.spares
+
+-- ---- what the calls ask
+pub add_element-requires-clause-count : goal.add_element-requires-clause-count
+add_element-requires-clause-count c = c.requires.count
+
+pub add_element-requires-clause-from : goal.add_element-requires-clause-from
+add_element-requires-clause-from c = c.requires.from
+
+pub add_element-requires-clause-after : goal.add_element-requires-clause-after
+add_element-requires-clause-after c = c.requires.after

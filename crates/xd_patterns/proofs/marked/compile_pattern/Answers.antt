@@ -28,13 +28,13 @@ returns-clause-compiled c =
     let rows = rows_in c.in_ok-start.table.items in
     let m = c.compile_piece.new.marks in
     let vs = c.in_ok-variables.variables.keys in
-    let same : vs ≡ variables_of P = c.in_ok-variables.ensures in
-    let ls = numbers_in c.in_ok-lists.lists.items in
+    let same : vs ≡ variables_of P = c.in_ok-variables.ensures.variables in
+    let ls = numbers_in c.in_ok-variables.lists.items in
     let start = c.in_ok-start.start in
-    let marked : Marked = record { start = start; variables = c.in_ok-variables.variables; base = base; table = c.in_ok-start.table; lists = c.in_ok-lists.lists } in
+    let marked : Marked = record { start = start; variables = c.in_ok-variables.variables; base = base; table = c.in_ok-start.table; lists = c.in_ok-variables.lists } in
     let kept : Keeps vs (marking t m base rows) (marking_of marked) = λ q n x. (
-      marks_kept t.patterns vs m ls c.in_ok-lists.ensures (texts_from base rows q) n x,
-      marks_kept t.patterns vs m ls c.in_ok-lists.ensures (labels_from base rows q) n x,
+      marks_kept t.patterns vs m ls c.in_ok-variables.ensures.lists (texts_from base rows q) n x,
+      marks_kept t.patterns vs m ls c.in_ok-variables.ensures.lists (labels_from base rows q) n x,
     ) in
     let made : IsCompiled E P c.compile_piece.new.auto (marking t m base rows) start =
     subst (λ (b : ℕ). IsCompiled E P c.compile_piece.new.auto (marking t m b rows) start) (sym c.len-base.ensures.value)

@@ -9,7 +9,7 @@ use Rattle.xd_patterns.proofs.Tasking.{adds_link}
 use Rattle.xd_patterns.proofs.Sparing.{spares_none, spares_then, extends_from, keeps_from}
 use Rattle.xd_patterns.proofs.CompileLemmas.{compiled_mirrors, start_stands}
 use Rattle.xd_patterns.proofs.MarkedLaw.{mirrored_is_compiled}
-use Rattle.xd_patterns.proofs.start.compile_piece.Goals as goal
+use Rattle.xd_patterns.proofs.start.compile_from.Goals as goal
 
 pub returns-in_err-first-clause-extends : goal.returns-in_err-first-clause-extends
 returns-in_err-first-clause-extends c = extends_from c.len-base.result c.args.auto.now c.args.auto.now c.len-base.ensures.value (spares_none c.len-base.result c.args.auto.now)
@@ -53,13 +53,13 @@ returns-clause-compiled c =
     let z = c.requires.outside in
     let iq : IsPiece t m0 q = record { piece = c.requires.piece; marked = omega arith } in
     let link : Link Piece = record { item = q; behind = 0 } in
-    let none : ArePieces t m0 c.new-cells.result = subst (ArePieces t m0) (sym c.new-cells.ensures) tt in
-    let p : ArePieces t m0 c.put.new.self = (adds_link t m0 c.new-cells.result c.put.new.self link iq c.in_ok-first.ensures.links).pieces none in
+    let none : ArePieces t m0 c.args.cells.now = subst (ArePieces t m0) (sym c.requires.cells) tt in
+    let p : ArePieces t m0 c.put.new.self = (adds_link t m0 c.args.cells.now c.put.new.self link iq c.in_ok-first.ensures.links).pieces none in
     let rows = rows_in c.in_ok-table.table.items in
     let base = c.len-base.result in
     let mirrors = compiled_mirrors E t m0 c.compile.new.marks c.put.new.self c.compile.new.cells base c.state_of.new.states.keys c.compile.new.states.keys c.state_of.new.auto c.compile.new.auto rows i in
     let stands = start_stands E t m0 c.compile.new.marks c.put.new.self c.compile.new.cells base c.state_of.new.states.keys c.compile.new.states.keys c.state_of.new.auto c.compile.new.auto rows c.in_ok-first.first
-    (length c.compile.new.states.keys) c.in_ok-start.start q (piece_part t q) i p c.in_ok-first.ensures.within.1 (c.in_ok-first.ensures.list ∙ ap (λ z. q ∷ z) (list_none c.new-cells.result)) c.requires.outside
+    (length c.compile.new.states.keys) c.in_ok-start.start q (piece_part t q) i p c.in_ok-first.ensures.within.1 (c.in_ok-first.ensures.list ∙ ap (λ z. q ∷ z) (list_none c.args.cells.now)) c.requires.outside
     refl c.in_ok-start.ensures.finds.after c.in_ok-start.ensures.finds.there in
     subst (λ (b : ℕ). IsCompiled E (piece_part t q) c.compile.new.auto (marking t c.compile.new.marks b rows) c.in_ok-start.start) c.len-base.ensures.value
     (mirrored_is_compiled E c.requires.guarded c.requires.none (piece_part t q) c.requires.linear c.compile.new.auto (marking t c.compile.new.marks base rows)
