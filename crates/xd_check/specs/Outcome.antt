@@ -4,8 +4,14 @@ use Rattle.xd_doc.specs.Document.{Document}
 use Rattle.xd_syntax.specs.CheckFaults.{Line, AreLines, faults_among}
 use Rattle.xd_syntax.specs.Kept.{ProgramTable, AddsTypes, program_tree}
 use Rattle.xd_laws.specs.KeptLines.{AreFaultsOf, AreWarningsOf}
+use Rattle.xd_syntax.specs.Program.{ProgramTree}
+use Rattle.xd_check.specs.declared.lines.Told.{Told}
 use Rattle.xd_check.specs.declared.outcome.CheckOutcome.{CheckOutcome}
 use Rattle.xd_check.specs.declared.outcome.CheckOutcome.TheVariants.{Accepted, Refused}
+
+-- these are all lines of the program, as faults and as warnings
+abbrev pub AreTold : ProgramTree → List Document → Told → Type 0
+AreTold P ds told = (ls : List Line) × AreLines P ls × AreFaultsOf ds ls told.faults.items × AreWarningsOf ls told.warnings.items
 
 -- All lines of the program, told as faults and warnings, with the documents in the store. A program is accepted exactly where it
 -- has no fault; then it is the given one, to which types alone were added.

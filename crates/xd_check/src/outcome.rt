@@ -2,7 +2,9 @@
 
 ghost use Rattle.std.specs.Prelude.{IfOk};
 ghost use Rattle.xd_doc.specs.Stored.{Keeps};
-ghost use Rattle.xd_check.specs.Outcome.{IsOutcome};
+ghost use Rattle.xd_syntax.specs.Kept.{program_tree};
+ghost use Rattle.xd_check.specs.Outcome.{AreTold, IsOutcome};
+ghost use Rattle.xd_check.specs.Ready.{IsReady};
 
 use crate::checker::Checker;
 use crate::known::Known;
@@ -40,11 +42,7 @@ pub fn check(
 {
     let mut auto = Auto::new(alloc);
     let checker = Checker::new(alloc, sound, &mut auto)?;
-    let mut lines = Vec::new(alloc);
-    let mut known = Known::new(alloc, &auto, store);
-    checker.in_functions(&mut auto, &mut known, &mut lines, store)?;
-    sort_lines(&mut lines)?;
-    let Told { faults, warnings } = tell(alloc, &lines)?;
+    let Told { faults, warnings } = told_by(alloc, &checker, &mut auto, store)?;
     if !faults.is_empty() {
         return Ok(CheckOutcome::Refused { faults, warnings });
     }
@@ -52,4 +50,23 @@ pub fn check(
         checked: Checked::new(checker.into_sound()),
         warnings,
     })
+}
+
+/// The lines of all functions as faults and as warnings, in order.
+fn told_by(
+    alloc: Global,
+    checker: &Checker,
+    auto: &mut Auto,
+    store: &mut Store,
+) -> Result<Told, NoMemory>
+    requires { IsReady checker.now auto.old }
+    ensures told { IfOk result (AreTold (program_tree checker.now.sound) store.new) }
+    ensures keeps { Keeps store.old store.new }
+{
+    let mut lines = Vec::new(alloc);
+    let mut known = Known::new(alloc, auto, store);
+    checker.in_functions(auto, &mut known, &mut lines, store)?;
+    sort_lines(&mut lines)?;
+    let told = tell(alloc, &lines)?;
+    Ok(told)
 }

@@ -89,6 +89,7 @@ fn numbers(alloc: Global, functions: &[Function]) -> Result<BTreeMap<Label, usiz
     Ok(numbers)
 }
 
+/// The signatures of all functions, in their order.
 fn compile_functions(
     alloc: Global,
     sound: &mut SoundProgram,
@@ -99,10 +100,24 @@ fn compile_functions(
     ensures types { OnOk result (GrowsTypes sound.old sound.new) }
 {
     let mut cells = Cells::new(alloc);
+    compile_each(alloc, sound, &mut cells, auto)
+}
+
+/// The same over these cells.
+fn compile_each(
+    alloc: Global,
+    sound: &mut SoundProgram,
+    cells: &mut Cells,
+    auto: &mut Auto,
+) -> Result<Vec<Signature>, NoMemory>
+    requires { Mirrors sound.old cells.old auto.old }
+    ensures rows { IfOk result (λ rows. AllPaired (IsSignatureOfRow sound.old auto.new) sound.old.functions rows.items) }
+    ensures types { OnOk result (GrowsTypes sound.old sound.new) }
+{
     let mut rows = Vec::new(alloc);
     for number in 0..sound.program().functions().len() {
         let declared = declared_types(alloc, sound, number)?;
-        rows.push(compile_declared(alloc, sound, &mut cells, auto, &declared)?)?;
+        rows.push(compile_declared(alloc, sound, cells, auto, &declared)?)?;
     }
     Ok(rows)
 }
