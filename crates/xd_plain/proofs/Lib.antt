@@ -2,3 +2,4 @@ mod PlainCost
 mod PlainFitting
 mod PlainMeaning
 mod MeaningSamples
+mod PlainLoops

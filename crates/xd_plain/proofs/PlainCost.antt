@@ -1,6 +1,6 @@
 -- How many calls it takes to find all ways, as a measure.
-use Rattle.std.proofs.Common.{◌≡◌, ℕ, zero, suc, ◌+◌, ◌<◌, ◌≤◌, arith, nat_lt, cond, List, [], ◌∷◌, ◌++◌, Option, Some, None, map, flat_map, drop, length, get_or, append_assoc, ap, sym, ◌∙◌}
-use Rattle.std.proofs.lemmas.List.{at_drop_more}
+use Rattle.std.proofs.Common.{◌≡◌, ℕ, zero, suc, ◌+◌, ◌<◌, ◌≤◌, arith, nat_lt, cond, List, [], ◌∷◌, ◌++◌, Option, Some, None, map, flat_map, drop, length, get_or, append_assoc, append-nil, ap, sym, ◌∙◌}
+use Rattle.std.proofs.lemmas.List.{at_drop_more, at_drop_all}
 use Rattle.xd_plain.specs.declared.ways.PlainWay.{PlainWay}
 use Rattle.xd_plain.specs.PlainWays.{way_of, ways_of}
 use Rattle.xd_doc.specs.Document.{Document, empty, text, element}
@@ -13,7 +13,7 @@ total f (w ∷ ws) = f w + total f ws
 
 abbrev pub turns_cost : (Document → List Way) → (Document → ℕ) → ℕ → Document → ℕ
 turns_cost V C zero d = 1
-turns_cost V C (suc k) d = C d + total (λ v. cond (nat_lt (item_count v.rest) (item_count d)) (turns_cost V C k v.rest) 0) (V d) + 3
+turns_cost V C (suc k) d = C d + total (λ v. cond (nat_lt (item_count v.rest) (item_count d)) (turns_cost V C k v.rest) 0) (V d) + 5
 
 abbrev pub element_cost : (Document → ℕ) → Document → ℕ
 element_cost C empty = 1
@@ -29,7 +29,7 @@ cost_by N K (Elem c T) d = element_cost (cost_by N K T) d + 1
 cost_by N K (Seq T U) d = cost_by N K T d + total (λ v. cost_by N K U v.rest) (ways_by N T d) + 2
 cost_by N K (Alt T U) d = cost_by N K T d + cost_by N K U d + 1
 cost_by N K (Star T) d = turns_cost (ways_by N T) (cost_by N K T) (item_count d) d + 1
-cost_by N K (Plus T) d = cost_by N K T d + total (λ v. turns_cost (ways_by N T) (cost_by N K T) (item_count v.rest) v.rest) (ways_by N T d) + 2
+cost_by N K (Plus T) d = cost_by N K T d + total (λ v. turns_cost (ways_by N T) (cost_by N K T) (item_count v.rest) v.rest) (ways_by N T d) + 3
 cost_by N K (Opt T) d = cost_by N K T d + 1
 cost_by N K (Val x T) d = cost_by N K T d + 1
 
@@ -81,3 +81,18 @@ pub cost_step : (C : Way → ℕ) (xs : List PlainWay) (i : ℕ) (x : PlainWay) 
 cost_step C xs i x all h k =
     let s : total C (ways_of (drop i xs)) ≡ C (way_of (get_or xs i x)) + total C (ways_of (drop (i + 1) xs)) = at_drop_more (λ ys. total C (ways_of ys)) xs i x h in
     omega arith
+
+-- the item of a loop costs no more than all of them
+pub cost_here : (C : Way → ℕ) (xs : List PlainWay) (i : ℕ) (x : PlainWay) → i < length xs → x ≡ get_or xs i x → C (way_of x) ≤ total C (ways_of (drop i xs))
+cost_here C xs i x h e =
+    let s : total C (ways_of (drop i xs)) ≡ C (way_of (get_or xs i x)) + total C (ways_of (drop (i + 1) xs)) = at_drop_more (λ ys. total C (ways_of ys)) xs i x h in
+    let w : C (way_of x) ≡ C (way_of (get_or xs i x)) = ap (λ y. C (way_of y)) e in
+    omega arith
+
+-- the end of a loop over ways
+pub ways_done : (F : Way → List Way) (xs : List PlainWay) (i : ℕ) (made all : List Way) → length xs ≤ i → made ++ flat_map F (ways_of (drop i xs)) ≡ all → made ≡ all
+ways_done F xs i made all h k =
+    sym (append-nil made) ∙ sym (at_drop_all (λ ys. made ++ flat_map F (ways_of ys)) xs i h) ∙ k
+
+pub plus_falls : (E : Definitions) (n : ℕ) (T : Tree) (d : Document) → then_turns_cost E n T (ways_within E n T d) + 2 < cost E n (Plus T) d
+plus_falls E n T d = omega arith

@@ -188,3 +188,7 @@ weight_of_name E (suc n) x = weight_of_definition (weight_by (weight_of_name E n
 -- of a type, names unfolded
 abbrev pub weight : Definitions → ℕ → Tree → ℕ
 weight E n T = weight_by (weight_of_name E n) T
+
+-- what is told of a fact that is not so
+pub refused : {A : Type 0} (b : Bool) → b ≡ false → (IsTrue b → A) × (A → IsTrue b) → A → ⊥
+refused b e h a = let k : b ≡ true = h.1 a in let w : ⊥ = cc in w

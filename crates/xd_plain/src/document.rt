@@ -1,7 +1,7 @@
 //! Documents as lists of boxed items.
 
 ghost use Rattle.std.specs.Prelude.{◌≡◌, ◌+◌, not, nat_lt, IfOk};
-ghost use Rattle.xd_doc.specs.Document.{join, has_item};
+ghost use Rattle.xd_doc.specs.Document.{text, element, join, has_item};
 ghost use Rattle.xd_syntax.specs.Ways.{item_count};
 ghost use Rattle.xd_plain.specs.PlainDocuments.{document_of};
 
@@ -18,6 +18,32 @@ pub enum PlainDocument {
 }
 
 impl PlainDocument {
+    /// The text, and the rest behind it.
+    pub(crate) fn with_text(
+        alloc: Global,
+        characters: &Text,
+        rest: PlainDocument,
+    ) -> Result<PlainDocument, NoMemory>
+        ensures { IfOk result (λ made. document_of made ≡ text characters.now (document_of rest)) }
+    {
+        let rest = Box::new(alloc, rest)?;
+        Ok(PlainDocument::Text(characters.share()?, rest))
+    }
+
+    /// The element, and the rest behind it.
+    pub(crate) fn with_element(
+        alloc: Global,
+        label: &Label,
+        content: PlainDocument,
+        rest: PlainDocument,
+    ) -> Result<PlainDocument, NoMemory>
+        ensures { IfOk result (λ made. document_of made ≡ element label.now (document_of content) (document_of rest)) }
+    {
+        let content = Box::new(alloc, content)?;
+        let rest = Box::new(alloc, rest)?;
+        Ok(PlainDocument::Elem(label.share()?, content, rest))
+    }
+
     pub fn is_empty(&self) -> bool
         ensures { result ≡ not (has_item (document_of self.now)) }
     {
@@ -35,13 +61,12 @@ impl PlainDocument {
         match self {
             PlainDocument::Empty => Ok(PlainDocument::Empty),
             PlainDocument::Text(text, rest) => {
-                let rest = Box::new(alloc, rest.copy(alloc)?)?;
-                Ok(PlainDocument::Text(text.share()?, rest))
+                PlainDocument::with_text(alloc, text, rest.copy(alloc)?)
             }
             PlainDocument::Elem(label, content, rest) => {
-                let content = Box::new(alloc, content.copy(alloc)?)?;
-                let rest = Box::new(alloc, rest.copy(alloc)?)?;
-                Ok(PlainDocument::Elem(label.share()?, content, rest))
+                let content = content.copy(alloc)?;
+                let rest = rest.copy(alloc)?;
+                PlainDocument::with_element(alloc, label, content, rest)
             }
         }
     }
@@ -57,13 +82,13 @@ impl PlainDocument {
         match self {
             PlainDocument::Empty => back.copy(alloc),
             PlainDocument::Text(text, rest) => {
-                let rest = Box::new(alloc, rest.followed_by(alloc, back)?)?;
-                Ok(PlainDocument::Text(text.share()?, rest))
+                let rest = rest.followed_by(alloc, back)?;
+                PlainDocument::with_text(alloc, text, rest)
             }
             PlainDocument::Elem(label, content, rest) => {
-                let content = Box::new(alloc, content.copy(alloc)?)?;
-                let rest = Box::new(alloc, rest.followed_by(alloc, back)?)?;
-                Ok(PlainDocument::Elem(label.share()?, content, rest))
+                let content = content.copy(alloc)?;
+                let rest = rest.followed_by(alloc, back)?;
+                PlainDocument::with_element(alloc, label, content, rest)
             }
         }
     }

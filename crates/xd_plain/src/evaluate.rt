@@ -2,7 +2,6 @@
 
 ghost use Rattle.std.specs.Prelude.{◌≡◌, ◌∷◌, [], ◌++◌, map, IfOk, IfErr};
 ghost use Rattle.std.specs.Option.{option_copied};
-ghost use Rattle.xd_doc.specs.Document.{Document, empty, text as a_text, element as an_element};
 ghost use Rattle.xd_syntax.specs.Words.{main_word};
 ghost use Rattle.xd_syntax.specs.Placed.{the_start};
 ghost use Rattle.xd_syntax.specs.Expression.{Tagged, Joined, Called, Matched};
@@ -20,9 +19,9 @@ use crate::document::PlainDocument;
 use crate::program::{
     PlainArguments, PlainClauses, PlainExpression, PlainParameter, PlainProgram, function_named,
 };
-use crate::ways::{Binding, first_within, push_bindings};
+use crate::ways::{Binding, first_within, push_binding, push_bindings};
 use std::alloc::Global;
-use xd_doc::{Label, NoMemory, Text};
+use xd_doc::{Label, NoMemory};
 
 /// A value, and the calls that are left.
 #[derive(Drop)]
@@ -118,7 +117,7 @@ fn value_within(
             left: calls,
         }),
         PlainExpression::Text(text) => {
-            let document = one_text(alloc, text)?;
+            let document = PlainDocument::with_text(alloc, text, PlainDocument::Empty)?;
             Ok(Valued {
                 document,
                 left: calls,
@@ -165,7 +164,12 @@ fn tagged_within(
     ensures { IsAnswer result (value_of program.now unfoldings deep calls variables.now (Tagged the_start label.now (expression_of content.now))) }
 {
     let content = value_within(alloc, program, unfoldings, deep, calls, variables, content)?;
-    let document = one_element(alloc, label, content.document)?;
+    let document = PlainDocument::with_element(
+        alloc,
+        label,
+        content.document,
+        PlainDocument::Empty,
+    )?;
     Ok(Valued {
         document,
         left: content.left,
@@ -378,10 +382,7 @@ fn parameters_bound(
         let Some((document, others)) = left.split_first() else {
             return Ok(made);
         };
-        made.push(Binding {
-            variable: parameter.name.share()?,
-            document: document.copy(alloc)?,
-        })?;
+        push_binding(alloc, &mut made, &parameter.name, document)?;
         left = others;
     }
     Ok(made)
@@ -412,23 +413,4 @@ fn in_front(
     let mut others = others;
     made.append(&mut others)?;
     Ok(made)
-}
-
-fn one_text(alloc: Global, characters: &Text) -> Result<PlainDocument, NoMemory>
-    ensures { IfOk result (λ made. document_of made ≡ a_text characters.now empty) }
-{
-    let end = Box::new(alloc, PlainDocument::Empty)?;
-    Ok(PlainDocument::Text(characters.share()?, end))
-}
-
-fn one_element(
-    alloc: Global,
-    label: &Label,
-    content: PlainDocument,
-) -> Result<PlainDocument, NoMemory>
-    ensures { IfOk result (λ made. document_of made ≡ an_element label.now (document_of content) empty) }
-{
-    let content = Box::new(alloc, content)?;
-    let end = Box::new(alloc, PlainDocument::Empty)?;
-    Ok(PlainDocument::Elem(label.share()?, content, end))
 }

@@ -1,6 +1,6 @@
 //! Whether a document fits a type, by trying each split of the document.
 
-ghost use Rattle.std.specs.Prelude.{◌≡◌, ◌≤◌, ◌↔◌, IsTrue, IfOk};
+ghost use Rattle.std.specs.Prelude.{◌≡◌, ◌≤◌, ◌↔◌, ◌++◌, ◌∷◌, [], IsTrue, IfOk, OnOk};
 ghost use Rattle.xd_syntax.specs.Tree.{Name};
 ghost use Rattle.xd_syntax.specs.Fits as types;
 ghost use Rattle.xd_laws.specs.FitsWithin as unfolded;
@@ -229,60 +229,84 @@ fn is_one_of(texts: &Words, document: &PlainDocument) -> bool
 }
 
 /// All splits of the document, the shortest front first.
+#[cycle(splits)]
 fn all_splits(alloc: Global, document: &PlainDocument) -> Result<Vec<Split>, NoMemory>
     ensures { IfOk result (λ made. splits_of made.items ≡ splits (document_of document.now)) }
 {
     let mut made = Vec::new(alloc);
-    made.push(Split {
-        front: PlainDocument::Empty,
-        back: document.copy(alloc)?,
-    })?;
+    push_splits(alloc, document, &mut made)?;
+    Ok(made)
+}
+
+/// Appends all splits of the document.
+#[cycle(splits)]
+fn push_splits(
+    alloc: Global,
+    document: &PlainDocument,
+    made: &mut Vec<Split>,
+) -> Result<(), NoMemory>
+    ensures { OnOk result (splits_of made.new.items ≡ splits_of made.old.items ++ splits (document_of document.now)) }
+{
+    push_split(alloc, PlainDocument::Empty, document, made)?;
     match document {
-        PlainDocument::Empty => {}
+        PlainDocument::Empty => Ok(()),
         PlainDocument::Text(text, rest) => {
-            let mut longer = behind_a_text(alloc, text, &all_splits(alloc, rest)?)?;
-            made.append(&mut longer)?;
+            let shorter = all_splits(alloc, rest)?;
+            push_behind_text(alloc, text, &shorter, made)
         }
         PlainDocument::Elem(label, content, rest) => {
-            let mut longer = behind_an_element(alloc, label, content, &all_splits(alloc, rest)?)?;
-            made.append(&mut longer)?;
+            let shorter = all_splits(alloc, rest)?;
+            push_behind_element(alloc, label, content, &shorter, made)
         }
     }
-    Ok(made)
 }
 
-/// The splits, with the text before each front.
-fn behind_a_text(alloc: Global, text: &Text, splits: &[Split]) -> Result<Vec<Split>, NoMemory>
-    ensures { IfOk result (λ made. splits_of made.items ≡ behind_text text.now (splits_of splits.now)) }
+/// Appends the split into this front and a copy of the back.
+fn push_split(
+    alloc: Global,
+    front: PlainDocument,
+    back: &PlainDocument,
+    made: &mut Vec<Split>,
+) -> Result<(), NoMemory>
+    ensures { OnOk result (splits_of made.new.items ≡ splits_of made.old.items ++ (document_of front, document_of back.now) ∷ []) }
 {
-    let mut made = Vec::new(alloc);
-    for split in splits {
-        let front = Box::new(alloc, split.front.copy(alloc)?)?;
-        made.push(Split {
-            front: PlainDocument::Text(text.share()?, front),
-            back: split.back.copy(alloc)?,
-        })?;
-    }
-    Ok(made)
+    let back = back.copy(alloc)?;
+    made.push(Split { front, back })?;
+    Ok(())
 }
 
-/// The splits, with the element before each front.
-fn behind_an_element(
+/// Appends the splits, with the text before each front.
+fn push_behind_text(
+    alloc: Global,
+    text: &Text,
+    splits: &[Split],
+    made: &mut Vec<Split>,
+) -> Result<(), NoMemory>
+    ensures { OnOk result (splits_of made.new.items ≡ splits_of made.old.items ++ behind_text text.now (splits_of splits.now)) }
+{
+    for split in splits {
+        let behind = split.front.copy(alloc)?;
+        let front = PlainDocument::with_text(alloc, text, behind)?;
+        push_split(alloc, front, &split.back, made)?;
+    }
+    Ok(())
+}
+
+/// Appends the splits, with the element before each front.
+fn push_behind_element(
     alloc: Global,
     label: &Label,
     content: &PlainDocument,
     splits: &[Split],
-) -> Result<Vec<Split>, NoMemory>
-    ensures { IfOk result (λ made. splits_of made.items ≡ behind_element label.now (document_of content.now) (splits_of splits.now)) }
+    made: &mut Vec<Split>,
+) -> Result<(), NoMemory>
+    ensures { OnOk result (splits_of made.new.items ≡ splits_of made.old.items ++ behind_element label.now (document_of content.now) (splits_of splits.now)) }
 {
-    let mut made = Vec::new(alloc);
     for split in splits {
-        let content = Box::new(alloc, content.copy(alloc)?)?;
-        let front = Box::new(alloc, split.front.copy(alloc)?)?;
-        made.push(Split {
-            front: PlainDocument::Elem(label.share()?, content, front),
-            back: split.back.copy(alloc)?,
-        })?;
+        let behind = split.front.copy(alloc)?;
+        let inside = content.copy(alloc)?;
+        let front = PlainDocument::with_element(alloc, label, inside, behind)?;
+        push_split(alloc, front, &split.back, made)?;
     }
-    Ok(made)
+    Ok(())
 }

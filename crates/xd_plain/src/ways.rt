@@ -144,9 +144,7 @@ fn first_of_whole(alloc: Global, ways: &[PlainWay]) -> Result<Option<Vec<Binding
 {
     for way in ways {
         if way.rest.is_empty() {
-            let mut bindings = Vec::new(alloc);
-            push_bindings(alloc, &mut bindings, &way.bindings)?;
-            return Ok(Some(bindings));
+            return Ok(Some(copied(alloc, &way.bindings)?));
         }
     }
     Ok(None)
@@ -184,9 +182,16 @@ fn each_then_turns(
 {
     let mut made = Vec::new(alloc);
     for first in firsts {
-        let rest = &first.rest;
-        let seconds = turns_within(alloc, definitions, unfoldings, part, rest, rest)?;
-        push_joined(alloc, &mut made, first, &seconds)?;
+        let counter = &first.rest;
+        push_turns(
+            alloc,
+            definitions,
+            unfoldings,
+            part,
+            counter,
+            first,
+            &mut made,
+        )?;
     }
     Ok(made)
 }
@@ -227,56 +232,91 @@ fn one_more_turn(
     ensures { IfOk result (λ ways. ways_of ways.items ≡ turns (the_ways_within (definitions_of definitions.now) unfoldings (tree_of part.now)) (suc (item_count (document_of counter.now))) (document_of document.now)) }
 {
     let firsts = ways_within(alloc, definitions, unfoldings, part, document)?;
-    let mut made = Vec::new(alloc);
-    for first in &firsts {
-        let turned = after_turn(
-            alloc,
-            definitions,
-            unfoldings,
-            part,
-            counter,
-            document,
-            first,
-        )?;
-        made = both(made, turned)?;
-    }
+    let turned = each_turned(
+        alloc,
+        definitions,
+        unfoldings,
+        part,
+        counter,
+        document,
+        &firsts,
+    )?;
     let stop = no_item(alloc, document)?;
-    both(made, stop)
+    both(turned, stop)
 }
 
-/// One turn that leaves fewer items, followed by others; nothing where it leaves as many.
+/// Each of the ways that leaves fewer items than the document has, followed by those of a repetition on its rest, with
+/// at most as many turns as the counter has items.
 #[cycle(ways)]
-fn after_turn(
+fn each_turned(
     alloc: Global,
     definitions: &[PlainDefinition],
     unfoldings: u64,
     part: &PlainTree,
     counter: &PlainDocument,
     document: &PlainDocument,
-    first: &PlainWay,
+    firsts: &[PlainWay],
 ) -> Result<Vec<PlainWay>, NoMemory>
-    ensures { IfOk result (λ ways. ways_of ways.items ≡ cond (nat_lt (item_count (document_of first.now.rest)) (item_count (document_of document.now))) (map (then_way (way_of first.now)) (turns (the_ways_within (definitions_of definitions.now) unfoldings (tree_of part.now)) (item_count (document_of counter.now)) (document_of first.now.rest))) []) }
+    ensures { IfOk result (λ ways. ways_of ways.items ≡ flat_map (λ v. cond (nat_lt (item_count v.rest) (item_count (document_of document.now))) (map (then_way v) (turns (the_ways_within (definitions_of definitions.now) unfoldings (tree_of part.now)) (item_count (document_of counter.now)) v.rest)) []) (ways_of firsts.now)) }
 {
-    if !first.rest.is_shorter(document) {
-        return Ok(Vec::new(alloc));
+    let mut made = Vec::new(alloc);
+    for first in firsts {
+        if first.rest.is_shorter(document) {
+            push_turns(
+                alloc,
+                definitions,
+                unfoldings,
+                part,
+                counter,
+                first,
+                &mut made,
+            )?;
+        }
     }
+    Ok(made)
+}
+
+/// Appends the way, followed by each of a repetition on its rest, with at most as many turns as the counter has items.
+#[cycle(ways)]
+fn push_turns(
+    alloc: Global,
+    definitions: &[PlainDefinition],
+    unfoldings: u64,
+    part: &PlainTree,
+    counter: &PlainDocument,
+    first: &PlainWay,
+    made: &mut Vec<PlainWay>,
+) -> Result<(), NoMemory>
+    ensures { OnOk result (ways_of made.new.items ≡ ways_of made.old.items ++ map (then_way (way_of first.now)) (turns (the_ways_within (definitions_of definitions.now) unfoldings (tree_of part.now)) (item_count (document_of counter.now)) (document_of first.now.rest))) }
+{
     let rest = &first.rest;
     let seconds = turns_within(alloc, definitions, unfoldings, part, counter, rest)?;
-    let mut made = Vec::new(alloc);
-    push_joined(alloc, &mut made, first, &seconds)?;
-    Ok(made)
+    push_joined(alloc, made, first, &seconds)
 }
 
 /// The way that takes nothing.
 fn no_item(alloc: Global, document: &PlainDocument) -> Result<Vec<PlainWay>, NoMemory>
     ensures { IfOk result (λ ways. ways_of ways.items ≡ no_item_way (document_of document.now) ∷ []) }
 {
-    let way = PlainWay {
-        bindings: Vec::new(alloc),
-        taken: PlainDocument::Empty,
-        rest: document.copy(alloc)?,
-    };
+    let way = leaving(alloc, Vec::new(alloc), PlainDocument::Empty, document)?;
     only(alloc, way)
+}
+
+/// The way that binds these, takes this document and leaves a copy of the rest.
+fn leaving(
+    alloc: Global,
+    bindings: Vec<Binding>,
+    taken: PlainDocument,
+    rest: &PlainDocument,
+) -> Result<PlainWay, NoMemory>
+    ensures { IfOk result (λ made. way_of made ≡ record { bindings = bindings_of bindings.items; taken = document_of taken; rest = document_of rest.now }) }
+{
+    let rest = rest.copy(alloc)?;
+    Ok(PlainWay {
+        bindings,
+        taken,
+        rest,
+    })
 }
 
 fn only(alloc: Global, way: PlainWay) -> Result<Vec<PlainWay>, NoMemory>
@@ -294,12 +334,8 @@ fn one_text(alloc: Global, document: &PlainDocument) -> Result<Vec<PlainWay>, No
     match document {
         PlainDocument::Empty => Ok(Vec::new(alloc)),
         PlainDocument::Text(text, rest) => {
-            let end = Box::new(alloc, PlainDocument::Empty)?;
-            let way = PlainWay {
-                bindings: Vec::new(alloc),
-                taken: PlainDocument::Text(text.share()?, end),
-                rest: rest.copy(alloc)?,
-            };
+            let taken = PlainDocument::with_text(alloc, text, PlainDocument::Empty)?;
+            let way = leaving(alloc, Vec::new(alloc), taken, rest)?;
             only(alloc, way)
         }
         PlainDocument::Elem(_, _, _) => Ok(Vec::new(alloc)),
@@ -350,15 +386,10 @@ fn an_element(
 ) -> Result<PlainWay, NoMemory>
     ensures { IfOk result (λ made. way_of made ≡ element_way label.now (document_of content.now) (document_of rest.now) (way_of way.now)) }
 {
-    let content = Box::new(alloc, content.copy(alloc)?)?;
-    let end = Box::new(alloc, PlainDocument::Empty)?;
-    let mut bindings = Vec::new(alloc);
-    push_bindings(alloc, &mut bindings, &way.bindings)?;
-    Ok(PlainWay {
-        bindings,
-        taken: PlainDocument::Elem(label.share()?, content, end),
-        rest: rest.copy(alloc)?,
-    })
+    let content = content.copy(alloc)?;
+    let taken = PlainDocument::with_element(alloc, label, content, PlainDocument::Empty)?;
+    let bindings = copied(alloc, &way.bindings)?;
+    leaving(alloc, bindings, taken, rest)
 }
 
 /// Each way, with the variable bound to what it takes.
@@ -367,7 +398,8 @@ fn bound(alloc: Global, variable: &Label, ways: &[PlainWay]) -> Result<Vec<Plain
 {
     let mut made = Vec::new(alloc);
     for way in ways {
-        made.push(one_bound(alloc, variable, way)?)?;
+        let way = one_bound(alloc, variable, way)?;
+        made.push(way)?;
     }
     Ok(made)
 }
@@ -375,17 +407,34 @@ fn bound(alloc: Global, variable: &Label, ways: &[PlainWay]) -> Result<Vec<Plain
 fn one_bound(alloc: Global, variable: &Label, way: &PlainWay) -> Result<PlainWay, NoMemory>
     ensures { IfOk result (λ made. way_of made ≡ binding variable.now (way_of way.now)) }
 {
-    let mut bindings = Vec::new(alloc);
-    bindings.push(Binding {
-        variable: variable.share()?,
-        document: way.taken.copy(alloc)?,
-    })?;
-    push_bindings(alloc, &mut bindings, &way.bindings)?;
-    Ok(PlainWay {
-        bindings,
-        taken: way.taken.copy(alloc)?,
-        rest: way.rest.copy(alloc)?,
-    })
+    let bindings = with_variable(alloc, variable, way)?;
+    let taken = way.taken.copy(alloc)?;
+    leaving(alloc, bindings, taken, &way.rest)
+}
+
+/// The variable bound to what the way takes, and the way's bindings behind it.
+fn with_variable(alloc: Global, variable: &Label, way: &PlainWay) -> Result<Vec<Binding>, NoMemory>
+    ensures { IfOk result (λ made. bindings_of made.items ≡ (variable.now, document_of way.now.taken) ∷ bindings_of way.now.bindings.items) }
+{
+    let mut made = Vec::new(alloc);
+    push_binding(alloc, &mut made, variable, &way.taken)?;
+    push_bindings(alloc, &mut made, &way.bindings)?;
+    Ok(made)
+}
+
+/// Appends a copy of the variable and of its document.
+pub(super) fn push_binding(
+    alloc: Global,
+    made: &mut Vec<Binding>,
+    variable: &Label,
+    document: &PlainDocument,
+) -> Result<(), NoMemory>
+    ensures { OnOk result (bindings_of made.new.items ≡ bindings_of made.old.items ++ (variable.now, document_of document.now) ∷ []) }
+{
+    let variable = variable.share()?;
+    let document = document.copy(alloc)?;
+    made.push(Binding { variable, document })?;
+    Ok(())
 }
 
 pub(super) fn push_bindings(
@@ -396,12 +445,18 @@ pub(super) fn push_bindings(
     ensures { OnOk result (bindings_of made.new.items ≡ bindings_of made.old.items ++ bindings_of bindings.now) }
 {
     for binding in bindings {
-        made.push(Binding {
-            variable: binding.variable.share()?,
-            document: binding.document.copy(alloc)?,
-        })?;
+        push_binding(alloc, made, &binding.variable, &binding.document)?;
     }
     Ok(())
+}
+
+/// A copy of the bindings.
+fn copied(alloc: Global, bindings: &[Binding]) -> Result<Vec<Binding>, NoMemory>
+    ensures { IfOk result (λ made. bindings_of made.items ≡ bindings_of bindings.now) }
+{
+    let mut made = Vec::new(alloc);
+    push_bindings(alloc, &mut made, bindings)?;
+    Ok(made)
 }
 
 /// The ways of both, the first's first.
@@ -424,7 +479,8 @@ fn push_joined(
     ensures { OnOk result (ways_of made.new.items ≡ ways_of made.old.items ++ map (then_way (way_of first.now)) (ways_of seconds.now)) }
 {
     for second in seconds {
-        made.push(one_joined(alloc, first, second)?)?;
+        let way = one_joined(alloc, first, second)?;
+        made.push(way)?;
     }
     Ok(())
 }
@@ -432,12 +488,16 @@ fn push_joined(
 fn one_joined(alloc: Global, first: &PlainWay, second: &PlainWay) -> Result<PlainWay, NoMemory>
     ensures { IfOk result (λ made. way_of made ≡ then_way (way_of first.now) (way_of second.now)) }
 {
-    let mut bindings = Vec::new(alloc);
-    push_bindings(alloc, &mut bindings, &first.bindings)?;
-    push_bindings(alloc, &mut bindings, &second.bindings)?;
-    Ok(PlainWay {
-        bindings,
-        taken: first.taken.followed_by(alloc, &second.taken)?,
-        rest: second.rest.copy(alloc)?,
-    })
+    let bindings = joined(alloc, &first.bindings, &second.bindings)?;
+    let taken = first.taken.followed_by(alloc, &second.taken)?;
+    leaving(alloc, bindings, taken, &second.rest)
+}
+
+/// A copy of these bindings, followed by one of those.
+fn joined(alloc: Global, firsts: &[Binding], seconds: &[Binding]) -> Result<Vec<Binding>, NoMemory>
+    ensures { IfOk result (λ made. bindings_of made.items ≡ bindings_of firsts.now ++ bindings_of seconds.now) }
+{
+    let mut made = copied(alloc, firsts)?;
+    push_bindings(alloc, &mut made, seconds)?;
+    Ok(made)
 }

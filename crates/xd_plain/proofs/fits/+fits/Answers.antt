@@ -5,7 +5,7 @@ use Rattle.xd_laws.specs.FitsWithin as unfolded
 use Rattle.xd_plain.specs.PlainDocuments.{document_of}
 use Rattle.xd_plain.specs.PlainTrees.{tree_of, definitions_of}
 use Rattle.xd_plain.specs.PlainFits.{splits_of}
-use Rattle.xd_plain.proofs.PlainFitting.{Turn, found, none_found, sizes, size_some, empty_repeats, repeats_split, split_repeats, filled_by, same_type, told, denied}
+use Rattle.xd_plain.proofs.PlainFitting.{Turn, found, some_later, none_found, refused, sizes, size_some, empty_repeats, repeats_split, split_repeats, filled_by, same_type, told, denied}
 use Rattle.xd_plain.proofs.fits.+fits.Goals as goal
 
 pub is_fitting-returns-in-Elem : goal.is_fitting-returns-in-Elem
@@ -90,3 +90,27 @@ in_one_turn_or_more-returns-then-branch t c =
 
 pub in_one_turn_or_more-returns : goal.in_one_turn_or_more-returns
 in_one_turn_or_more-returns t c = denied _ (none_found _ _ _ c.deref-split-items.result.now c.loop-split.split-index (ap splits_of c.deref-split-items.ensures.value ∙ c.in_ok-splits.ensures) c.loop-split-test.false c.loop-split.invariant)
+
+pub in_two_parts-loop-split-preserved-then-not-branch : goal.in_two_parts-loop-split-preserved-then-not-branch
+in_two_parts-loop-split-preserved-then-not-branch t c =
+    λ s. some_later _ _ c.deref-split-items.result.now c.loop-split.split-index c.split-item.result c.loop-split-test.true c.split-item.is (λ p q. refused _ c.if-not-branch.true c.in_ok-is_fitting.ensures p) (c.loop-split.invariant s)
+
+pub in_two_parts-loop-split-preserved : goal.in_two_parts-loop-split-preserved
+in_two_parts-loop-split-preserved t c =
+    λ s. some_later _ _ c.deref-split-items.result.now c.loop-split.split-index c.split-item.result c.loop-split-test.true c.split-item.is (λ p q. refused _ c.if-branch.false c.in_ok-is_fitting-2.ensures q) (c.loop-split.invariant s)
+
+pub in_turns-loop-split-preserved-then-not-branch : goal.in_turns-loop-split-preserved-then-not-branch
+in_turns-loop-split-preserved-then-not-branch t c =
+    λ s. some_later _ _ c.deref-split-items.result.now c.loop-split.split-index c.split-item.result c.loop-split-test.true c.split-item.is (λ p q. refused _ c.if-not-branch.true c.in_ok-is_fitting.ensures p.1) (c.loop-split.invariant s)
+
+pub in_turns-loop-split-preserved : goal.in_turns-loop-split-preserved
+in_turns-loop-split-preserved t c =
+    λ s. some_later _ _ c.deref-split-items.result.now c.loop-split.split-index c.split-item.result c.loop-split-test.true c.split-item.is (λ p q. refused _ c.if-branch.false c.in_ok-in_turns.ensures q) (c.loop-split.invariant s)
+
+pub in_one_turn_or_more-loop-split-preserved-then-not-branch : goal.in_one_turn_or_more-loop-split-preserved-then-not-branch
+in_one_turn_or_more-loop-split-preserved-then-not-branch t c =
+    λ s. some_later _ _ c.deref-split-items.result.now c.loop-split.split-index c.split-item.result c.loop-split-test.true c.split-item.is (λ p q. refused _ c.if-not-branch.true c.in_ok-is_fitting.ensures p) (c.loop-split.invariant s)
+
+pub in_one_turn_or_more-loop-split-preserved : goal.in_one_turn_or_more-loop-split-preserved
+in_one_turn_or_more-loop-split-preserved t c =
+    λ s. some_later _ _ c.deref-split-items.result.now c.loop-split.split-index c.split-item.result c.loop-split-test.true c.split-item.is (λ p q. refused _ c.if-branch.false c.in_ok-in_turns.ensures q) (c.loop-split.invariant s)

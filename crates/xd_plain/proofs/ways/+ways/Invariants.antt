@@ -1,4 +1,4 @@
-use Rattle.std.proofs.Common.{◌≡◌, ◌+◌, ◌≤◌, ◌++◌, cond, nat_lt, drop}
+use Rattle.std.proofs.Common.{◌≡◌, ◌+◌, ◌≤◌, ◌++◌, drop}
 use Rattle.xd_syntax.specs.Ways.{ways_within, item_count}
 use Rattle.xd_plain.specs.PlainDocuments.{document_of}
 use Rattle.xd_plain.specs.PlainTrees.{tree_of, definitions_of}
@@ -19,7 +19,7 @@ abbrev pub decreases-each_then : goal.decreases-each_then
 decreases-each_then l = then_cost (definitions_of l.definitions.now) l.unfoldings (tree_of l.second.now) (ways_of l.firsts.now) + 1
 
 abbrev pub decreases-each_then_turns : goal.decreases-each_then_turns
-decreases-each_then_turns l = then_turns_cost (definitions_of l.definitions.now) l.unfoldings (tree_of l.part.now) (ways_of l.firsts.now) + 1
+decreases-each_then_turns l = then_turns_cost (definitions_of l.definitions.now) l.unfoldings (tree_of l.part.now) (ways_of l.firsts.now) + 2
 
 abbrev pub decreases-turns_within : goal.decreases-turns_within
 decreases-turns_within l = repetition_cost (definitions_of l.definitions.now) l.unfoldings (tree_of l.part.now) (item_count (document_of l.counter.now)) (document_of l.document.now)
@@ -28,13 +28,13 @@ abbrev pub decreases-one_more_turn : goal.decreases-one_more_turn
 decreases-one_more_turn l = let E = definitions_of l.definitions.now in
     let T = tree_of l.part.now in
     let d = document_of l.document.now in
-    cost E l.unfoldings T d + turn_cost E l.unfoldings T (item_count (document_of l.counter.now)) d (ways_within E l.unfoldings T d) + 2
+    cost E l.unfoldings T d + turn_cost E l.unfoldings T (item_count (document_of l.counter.now)) d (ways_within E l.unfoldings T d) + 4
 
-abbrev pub decreases-after_turn : goal.decreases-after_turn
-decreases-after_turn l =
-    cond (nat_lt (item_count (document_of l.first.now.rest)) (item_count (document_of l.document.now)))
-    (repetition_cost (definitions_of l.definitions.now) l.unfoldings (tree_of l.part.now) (item_count (document_of l.counter.now)) (document_of l.first.now.rest)) 0
-    + 1
+abbrev pub decreases-each_turned : goal.decreases-each_turned
+decreases-each_turned l = turn_cost (definitions_of l.definitions.now) l.unfoldings (tree_of l.part.now) (item_count (document_of l.counter.now)) (document_of l.document.now) (ways_of l.firsts.now) + 3
+
+abbrev pub decreases-push_turns : goal.decreases-push_turns
+decreases-push_turns l = repetition_cost (definitions_of l.definitions.now) l.unfoldings (tree_of l.part.now) (item_count (document_of l.counter.now)) (document_of l.first.now.rest) + 1
 
 abbrev pub invariant-each_then-loop-first : goal.invariant-each_then-loop-first
 invariant-each_then-loop-first l = let E = definitions_of l.definitions in
@@ -50,11 +50,11 @@ invariant-each_then_turns-loop-first l = let E = definitions_of l.definitions in
     (ways_of l.made.items ++ then_turns E l.unfoldings T left ≡ then_turns E l.unfoldings T (ways_of l.firsts))
     × (then_turns_cost E l.unfoldings T left ≤ then_turns_cost E l.unfoldings T (ways_of l.firsts))
 
-abbrev pub invariant-one_more_turn-loop-first : goal.invariant-one_more_turn-loop-first
-invariant-one_more_turn-loop-first l = let E = definitions_of l.definitions in
+abbrev pub invariant-each_turned-loop-first : goal.invariant-each_turned-loop-first
+invariant-each_turned-loop-first l = let E = definitions_of l.definitions in
     let T = tree_of l.part in
     let k = item_count (document_of l.counter) in
     let d = document_of l.document in
-    let left = ways_of (drop l.first-index l.first-items) in
-    (ways_of l.made.items ++ turn_ways E l.unfoldings T k d left ≡ turn_ways E l.unfoldings T k d (ways_of l.first-items))
-    × (turn_cost E l.unfoldings T k d left ≤ turn_cost E l.unfoldings T k d (ways_of l.first-items))
+    let left = ways_of (drop l.first-index l.firsts) in
+    (ways_of l.made.items ++ turn_ways E l.unfoldings T k d left ≡ turn_ways E l.unfoldings T k d (ways_of l.firsts))
+    × (turn_cost E l.unfoldings T k d left ≤ turn_cost E l.unfoldings T k d (ways_of l.firsts))
