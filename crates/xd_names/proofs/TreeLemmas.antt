@@ -1,5 +1,5 @@
 -- What is read from the nodes of lists of parts.
-use Rattle.std.proofs.Common.{◌≡◌, ℕ, zero, suc, ◌<◌, ◌≤◌, arith, Bool, Bor, length, drop, List, [], ◌∷◌, ◌++◌, map, flat_map, refl, ap, sym, ◌∙◌, append-nil}
+use Rattle.std.proofs.Common.{◌≡◌, ℕ, zero, suc, ◌+◌, ◌<◌, ◌≤◌, arith, Bool, Bor, length, drop, get_or, append_assoc, subst, List, [], ◌∷◌, ◌++◌, map, flat_map, refl, ap, sym, ◌∙◌, append-nil}
 use Rattle.std.proofs.lemmas.List.Folds.{flat_map-map}
 use Rattle.std.specs.List.{AllByRecursion}
 use Rattle.xd_base.specs.declared.Place.{Place}
@@ -10,6 +10,7 @@ use Rattle.xd_syntax.specs.Nodes.{IsNode, form_parts, view_form}
 use Rattle.xd_syntax.specs.declared.nodes.FormView.{FormView}
 use Rattle.xd_syntax.specs.declared.nodes.FormView.TheVariants.{Empty, Text, Words, Name, Elem, Seq, Alt, Star, Plus, Opt, Val}
 use Rattle.xd_syntax.specs.NameFaults.{unknown_types}
+use Rattle.xd_names.proofs.WordLemmas.{drop_at, drop_item}
 
 unknown_in_seq : (known : List (List ℕ)) (p : Place) (ts : List PlacedTree) → unknown_types known (placed_seq p ts) ≡ flat_map (unknown_types known) ts
 unknown_in_seq known p [] = refl
@@ -108,3 +109,28 @@ variables_done at b rows i p f xs n made old node e other h loop =
 pub below_more : (m n : ℕ) → m ≤ n → (is : List ℕ) → AllByRecursion (λ i. i < m) is → AllByRecursion (λ i. i < n) is
 below_more m n h [] a = tt
 below_more m n h (i ∷ is) a = (omega arith, below_more m n h is a.1)
+
+-- one more part of a loop that appends what each gives
+pub part_step : {X Y Z : Type 0} (n : X → Z) (g : Z → List Y) (xs : List X) (i : ℕ) (d : X) (made all : List Y) → i < length xs →
+    made ++ flat_map g (map n (drop i xs)) ≡ all → (made ++ g (n (get_or xs i d))) ++ flat_map g (map n (drop (i + 1) xs)) ≡ all
+part_step n g xs i d made all h e =
+    append_assoc made (g (n (get_or xs i d))) (flat_map g (map n (drop (i + 1) xs)))
+    ∙ ap (λ ys. made ++ flat_map g (map n ys)) (sym (drop_at xs i d h))
+    ∙ e
+
+-- what is so of all from here on is so of this one and of those behind it
+pub parts_step : {X Z : Type 0} (P : Z → Type 0) (n : X → Z) (xs : List X) (i : ℕ) (d : X) → i < length xs → AllByRecursion P (map n (drop i xs)) →
+    P (n (get_or xs i d)) × AllByRecursion P (map n (drop (i + 1) xs))
+parts_step P n xs i d h a = subst (λ ys. AllByRecursion P (map n ys)) (drop_at xs i d h) a
+
+-- the same of items that stand in no table
+pub item_step : {X Y : Type 0} (g : X → List Y) (xs : List X) (i : ℕ) (x : X) (made all : List Y) → i < length xs → x ≡ get_or xs i x →
+    made ++ flat_map g (drop i xs) ≡ all → (made ++ g x) ++ flat_map g (drop (i + 1) xs) ≡ all
+item_step g xs i x made all h e k =
+    append_assoc made (g x) (flat_map g (drop (i + 1) xs))
+    ∙ ap (λ ys. made ++ flat_map g ys) (sym (drop_item xs i x h e))
+    ∙ k
+
+pub items_step : {X : Type 0} (P : X → Type 0) (xs : List X) (i : ℕ) (x : X) → i < length xs → x ≡ get_or xs i x → AllByRecursion P (drop i xs) →
+    P x × AllByRecursion P (drop (i + 1) xs)
+items_step P xs i x h e a = subst (AllByRecursion P) (drop_item xs i x h e) a

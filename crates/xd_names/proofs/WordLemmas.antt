@@ -1,7 +1,7 @@
 -- Sets and counts of words against lists of words.
 use Rattle.std.proofs.Common.{◌≡◌, ℕ, suc, ◌+◌, ◌-◌, ◌<◌, ◌≤◌, arith, Bool, true, false, not, cond, ◌&&◌, ◌||◌, nat_lt, List, [], ◌∷◌, ◌++◌, length, refl, ap, sym, ◌∙◌, subst, lt-ltb, zero-add, drop, get_or, drop-cons, add-one, Option, Some, unwrap_or, Result, Ok, Err}
 use Rattle.std.specs.List.{list_any}
-use Rattle.std.specs.Result.{is_ok, OnOk}
+use Rattle.std.specs.Result.{is_ok, OnOk, OnErr}
 use Rattle.std.specs.Ordering.{nat_cmp, is_eq}
 use Rattle.std.specs.BTreeMap.{is_at}
 use Rattle.std.specs.Cmp.Lexicographic.{slice_cmp, nat_list_eq_equiv}
@@ -105,6 +105,11 @@ occurs_last v xs =
 pub on_ok : {T E : Type 0} (r : Result T E) (P : Type 0) → is_ok r ≡ true → OnOk r P → P
 on_ok (Ok x) P e h = h
 on_ok (Err x) P e h = absurd (cc)
+
+-- what holds of failure
+pub on_err : {T E : Type 0} (r : Result T E) (P : Type 0) → is_ok r ≡ false → OnErr r P → P
+on_err (Ok x) P e h = absurd (cc)
+on_err (Err x) P e h = h
 
 or_true : (b : Bool) → (b || true) ≡ true
 or_true true = refl

@@ -90,11 +90,24 @@ fn in_each(
 {
     let mut common = words_of(alloc, words)?;
     for branch in branches {
-        let mut variables = Vec::new(alloc);
-        push_variables(patterns, *branch, &mut variables)?;
-        common = kept(alloc, &variables, &common)?;
+        common = in_this(alloc, patterns, *branch, &common)?;
     }
     Ok(common)
+}
+
+/// Those of the words that the branch has as a variable.
+fn in_this(
+    alloc: Global,
+    patterns: &Patterns,
+    branch: PatternId,
+    words: &Words,
+) -> Result<Words, NoMemory>
+    requires { IsPattern patterns.now branch }
+    ensures { IfOk result (λ made. (w : List ℕ) → has_word made w ≡ (has_word words.now w && has_word (variables (placed_at patterns.now branch.at)) w)) }
+{
+    let mut variables = Vec::new(alloc);
+    push_variables(patterns, branch, &mut variables)?;
+    kept(alloc, &variables, words)
 }
 
 /// Adds the words that the set lacks.
@@ -156,9 +169,23 @@ fn enter(
 {
     let mut words = Vec::new(alloc);
     push_each(patterns, branches, &mut words)?;
-    let common = in_each(alloc, patterns, branches, &words)?;
-    add_lacking(&words, &common, partial)?;
+    add_partial(alloc, patterns, branches, &words, partial)?;
     Ok(words)
+}
+
+/// Adds those of the words that some of the branches lacks as a variable.
+fn add_partial(
+    alloc: Global,
+    patterns: &Patterns,
+    branches: &[PatternId],
+    words: &[Label],
+    partial: &mut Words,
+) -> Result<(), NoMemory>
+    requires { AllByRecursion (λ i. i < length patterns.now) (pattern_numbers branches.now) }
+    ensures { OnOk result ((w : List ℕ) → has_word partial.new w ≡ (has_word partial.old w || (not (list_all (λ i. has_word (variables (placed_at patterns.now i)) w) (pattern_numbers branches.now)) && has_word words.now w))) }
+{
+    let common = in_each(alloc, patterns, branches, words)?;
+    add_lacking(words, &common, partial)
 }
 
 /// One more fault for each occurrence of a variable that isn't linear.

@@ -37,6 +37,6 @@ fn type_names(alloc: Global, type_defs: &[TypeDef]) -> Result<Words, NoMemory>
     for number in (0..type_defs.len()).rev() {
         types.add(&type_defs[number].name)?;
     }
-    types.add(&Label::new(alloc, "Any")?)?;
+    types.add_text(alloc, "Any")?;
     Ok(types)
 }

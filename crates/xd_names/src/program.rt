@@ -1,13 +1,14 @@
 //! All faults of names, of numbers of arguments, and of variables that aren't linear.
 
-ghost use Rattle.std.specs.Prelude.{◌≡◌, [], ◌++◌, map, flat_map, IfOk, OnOk};
+ghost use Rattle.std.specs.Prelude.{◌≡◌, ℕ, List, [], ◌∷◌, ◌++◌, map, flat_map, IfOk, OnOk};
 ghost use Rattle.std.specs.List.{AllByRecursion};
 ghost use Rattle.xd_syntax.specs.Types.{BelongsTo};
+ghost use Rattle.xd_syntax.specs.Words.{has_word, any_word, string_word};
 ghost use Rattle.xd_syntax.specs.Placed.{placed_at};
 ghost use Rattle.xd_syntax.specs.Kept.{FunctionStands, TypeDefStands, function_definition, program_tree};
 ghost use Rattle.xd_syntax.specs.NameFaults.{duplicates, duplicate_names, unknown_types, function_faults, name_faults};
-ghost use Rattle.xd_names.specs.Knows.{Knows, whole};
-ghost use Rattle.xd_names.specs.Spots.{param_spot};
+ghost use Rattle.xd_names.specs.Knows.{Knows, whole, unordered};
+ghost use Rattle.xd_names.specs.Spots.{type_spot, function_spot, param_spot};
 
 use crate::duplicates::{in_functions, in_params, in_types};
 use crate::expressions::in_expression;
@@ -16,7 +17,7 @@ use crate::scope::Scope;
 use crate::types::in_tree;
 use crate::words::Words;
 use std::alloc::Global;
-use xd_doc::{Label, NoMemory};
+use xd_doc::NoMemory;
 use xd_syntax::{Fault, Function, Param, Program, TypeDef, Types, sort_faults};
 
 /// All faults of names, of numbers of arguments and of linearity, in order of place, then of number.
@@ -28,31 +29,71 @@ pub fn resolve(alloc: Global, program: &Program) -> Result<Vec<Fault>, NoMemory>
 {
     let names = Names::new(alloc, program)?;
     let mut faults = Vec::new(alloc);
-    duplicated(alloc, program, &mut faults)?;
-    in_type_defs(
-        program.types(),
-        program.type_defs(),
-        &names.types,
-        &mut faults,
-    )?;
-    in_bodies(alloc, program, &names, &mut faults)?;
+    in_program(alloc, program, &names, &mut faults)?;
     sort_faults(&mut faults)?;
     Ok(faults)
+}
+
+/// The faults of definitions, then those of types, then those of functions.
+fn in_program(
+    alloc: Global,
+    program: &Program,
+    names: &Names,
+    faults: &mut Vec<Fault>,
+) -> Result<(), NoMemory>
+    requires { Knows names.now (whole program.now) }
+    ensures { OnOk result (faults.new.items ≡ faults.old.items ++ unordered (whole program.now)) }
+{
+    duplicated(alloc, program, faults)?;
+    let types = program.types();
+    in_type_defs(types, program.type_defs(), &names.types, faults)?;
+    in_bodies(alloc, program, names, faults)
 }
 
 /// Names that are defined twice, those of types, of functions, and of each function's parameters.
 fn duplicated(alloc: Global, program: &Program, faults: &mut Vec<Fault>) -> Result<(), NoMemory>
     ensures { OnOk result (faults.new.items ≡ faults.old.items ++ duplicate_names (whole program.now)) }
 {
-    let mut types = Words::new(alloc);
-    types.add(&Label::new(alloc, "Any")?)?;
-    types.add(&Label::new(alloc, "String")?)?;
-    in_types(program.type_defs(), &mut types, faults)?;
-    let mut functions = Words::new(alloc);
-    in_functions(program.functions(), &mut functions, faults)?;
+    duplicated_types(alloc, program.type_defs(), faults)?;
+    duplicated_functions(alloc, program.functions(), faults)?;
     duplicated_params(alloc, program.functions(), faults)
 }
 
+/// Names of types that are defined twice. `Any` and `String` are defined already.
+fn duplicated_types(
+    alloc: Global,
+    type_defs: &[TypeDef],
+    faults: &mut Vec<Fault>,
+) -> Result<(), NoMemory>
+    ensures { OnOk result (faults.new.items ≡ faults.old.items ++ duplicates (string_word ∷ (any_word ∷ [])) (map type_spot type_defs.now)) }
+{
+    let mut seen = built_in(alloc)?;
+    in_types(type_defs, &mut seen, faults)
+}
+
+/// `Any` and `String`.
+fn built_in(alloc: Global) -> Result<Words, NoMemory>
+    ensures { IfOk result (λ words. (w : List ℕ) → has_word words w ≡ has_word (string_word ∷ (any_word ∷ [])) w) }
+{
+    let mut words = Words::new(alloc);
+    words.add_text(alloc, "Any")?;
+    words.add_text(alloc, "String")?;
+    Ok(words)
+}
+
+/// Names of functions that are defined twice.
+fn duplicated_functions(
+    alloc: Global,
+    functions: &[Function],
+    faults: &mut Vec<Fault>,
+) -> Result<(), NoMemory>
+    ensures { OnOk result (faults.new.items ≡ faults.old.items ++ duplicates [] (map function_spot functions.now)) }
+{
+    let mut seen = Words::new(alloc);
+    in_functions(functions, &mut seen, faults)
+}
+
+/// Names that are defined twice among the parameters of one function.
 fn duplicated_params(
     alloc: Global,
     functions: &[Function],

@@ -1,7 +1,8 @@
 //! Sets of words.
 
-ghost use Rattle.std.specs.Prelude.{◌≡◌, ℕ, List, [], not, ◌||◌, ◌&&◌, IfOk, OnOk};
+ghost use Rattle.std.specs.Prelude.{◌≡◌, ℕ, List, [], true, not, ◌||◌, ◌&&◌, IfOk, OnOk};
 ghost use Rattle.std.specs.Str.{bytes_eq};
+ghost use Rattle.xd_doc.specs.Word.{is_word};
 ghost use Rattle.xd_syntax.specs.Words.{has_word};
 
 use std::alloc::Global;
@@ -46,6 +47,16 @@ impl Words {
     {
         let word = word.share()?;
         Ok(self.words.insert(word)?)
+    }
+
+    /// Adds the word that this text spells.
+    pub fn add_text(&mut self, alloc: Global, text: &str) -> Result<(), NoMemory>
+        requires { is_word text.now ≡ true }
+        ensures { OnOk result ((w : List ℕ) → has_word self.new w ≡ (bytes_eq text.now w || has_word self.old w)) }
+    {
+        let word = Label::new(alloc, text)?;
+        self.add(&word)?;
+        Ok(())
     }
 
     pub fn remove(&mut self, word: &Label)

@@ -1,4 +1,4 @@
-use Rattle.std.proofs.Common.{◌≡◌, ℕ, ◌<◌, ◌≤◌, ◌+◌, ◌*◌, arith, rules, List, ◌++◌, map, flat_map, length, vec_len, take, drop, get_or, ap, sym, subst, ◌∙◌, append_assoc}
+use Rattle.std.proofs.Common.{◌≡◌, ℕ, ◌<◌, ◌≤◌, ◌+◌, ◌*◌, arith, rules, max, List, ◌++◌, map, flat_map, length, vec_len, take, drop, get_or, ap, sym, subst, ◌∙◌, append_assoc}
 use Rattle.std.specs.List.{AllByRecursion}
 use Rattle.std.proofs.lemmas.List.{length-map}
 use Rattle.xd_base.specs.declared.Place.{Place}
@@ -12,7 +12,7 @@ use Rattle.xd_syntax.specs.declared.exprs.Clause.{Clause}
 use Rattle.xd_syntax.specs.declared.fault.Fault.{Fault}
 use Rattle.xd_names.specs.Knows.{whole, wanted_faults}
 use Rattle.xd_names.proofs.WordLemmas.{drop_at}
-use Rattle.xd_names.proofs.TreeLemmas.{below_more}
+use Rattle.xd_names.proofs.TreeLemmas.{below_more, part_step}
 use Rattle.xd_names.proofs.LinearLemmas.{take_front}
 use Rattle.xd_names.proofs.NameLemmas.{call_wants}
 use Rattle.xd_names.proofs.ExprLemmas.{faults_of_parts, faults_of_arguments, arguments_given, body_faults, ceiling, ceiling_within, bodies, bodies_below, bodies_more}
@@ -135,3 +135,51 @@ in_clauses-loop-clause-preserved t c =
       exprs = (subst (λ ys. AllByRecursion (λ (k : ℕ × ℕ). k.1 < length c.args.program.now.exprs) (clause_numbers ys)) d i.exprs).1;
       below = omega arith;
     }
+
+pub in_parts-in_expression-requires : goal.in_parts-in_expression-requires
+in_parts-in_expression-requires t c =
+    let xs = c.args.parts.now in
+    let i : ℕ = c.loop-part.part-index in
+    let first : ExprId = record { at = 0 } in
+    let d = drop_at xs i first c.loop-part-test.true in
+    let lower : max ((get_or xs i first).at + 1) (ceiling (expr_numbers (drop (i + 1) xs))) ≤ ceiling (expr_numbers xs) = subst (λ ys. ceiling (expr_numbers ys) ≤ ceiling (expr_numbers xs)) d c.loop-part.invariant.below in
+    let falls : 2 * (get_or xs i first).at + 1 < t = omega arith in
+    (falls, (c.requires.knows, (subst (λ ys. AllByRecursion (λ j. j < length c.args.program.now.exprs) (expr_numbers ys)) d c.loop-part.invariant.belong).0))
+
+pub in_parts-loop-part-preserved : goal.in_parts-loop-part-preserved
+in_parts-loop-part-preserved t c =
+    let W : ProgramTree = whole c.args.program.now in
+    let E : ℕ → Expression = expression_at c.args.program.now.patterns c.args.program.now.exprs in
+    let F : ℕ → List Fault = λ j. expression_faults W c.args.scope.now (E j) in
+    let xs = c.args.parts.now in
+    let n : ℕ = c.loop-part.part-index in
+    let first : ExprId = record { at = 0 } in
+    let i = c.loop-part.invariant in
+    let d = drop_at xs n first c.loop-part-test.true in
+    let k = c.in_ok-in_expression.ensures in
+    let lower : max ((get_or xs n first).at + 1) (ceiling (expr_numbers (drop (n + 1) xs))) ≤ ceiling (expr_numbers xs) = subst (λ ys. ceiling (expr_numbers ys) ≤ ceiling (expr_numbers xs)) d i.below in
+    record {
+      scope = k.scope ∙ i.scope;
+      faults = ap (λ fs. fs ++ flat_map F (expr_numbers (drop (n + 1) xs)))
+          (k.faults ∙ ap (λ s. c.loop-part.faults.items ++ expression_faults W s (E (get_or xs n first).at)) i.scope)
+          ∙ part_step (λ (id : ExprId). id.at) F xs n first c.loop-part.faults.items _ c.loop-part-test.true i.faults;
+      belong = (subst (λ ys. AllByRecursion (λ j. j < length c.args.program.now.exprs) (expr_numbers ys)) d i.belong).1;
+      below = omega arith;
+    }
+
+pub in_clauses-in_clause_pattern-requires-clause-belongs : goal.in_clauses-in_clause_pattern-requires-clause-belongs
+in_clauses-in_clause_pattern-requires-clause-belongs t c =
+    let first : Clause = record { pattern = record { at = 0 }; body = record { at = 0 } } in
+    let d = drop_at c.args.clauses.now c.loop-clause.clause-index first c.loop-clause-test.true in
+    (subst (λ ys. AllByRecursion (λ (k : ℕ × ℕ). k.0 < length c.args.program.now.patterns) (clause_numbers ys)) d c.loop-clause.invariant.patterns).0
+
+pub in_clauses-in_expression-requires : goal.in_clauses-in_expression-requires
+in_clauses-in_expression-requires t c =
+    let xs = c.args.clauses.now in
+    let n : ℕ = c.loop-clause.clause-index in
+    let first : Clause = record { pattern = record { at = 0 }; body = record { at = 0 } } in
+    let i = c.loop-clause.invariant in
+    let d = drop_at xs n first c.loop-clause-test.true in
+    let lower : max ((get_or xs n first).body.at + 1) (ceiling (bodies (clause_numbers (drop (n + 1) xs)))) ≤ ceiling (bodies (clause_numbers xs)) = subst (λ ys. ceiling (bodies (clause_numbers ys)) ≤ ceiling (bodies (clause_numbers xs))) d i.below in
+    let falls : 2 * (get_or xs n first).body.at + 1 < t = omega arith in
+    (falls, (c.requires.knows, (subst (λ ys. AllByRecursion (λ (k : ℕ × ℕ). k.1 < length c.args.program.now.exprs) (clause_numbers ys)) d i.exprs).0))

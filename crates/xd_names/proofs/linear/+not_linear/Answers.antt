@@ -1,4 +1,4 @@
-use Rattle.std.proofs.Common.{◌≡◌, ℕ, ◌<◌, ◌≤◌, ◌+◌, arith, Bool, true, false, not, ◌&&◌, ◌||◌, List, ◌++◌, map, flat_map, length, take, drop, get_or, ap, sym, subst, ◌∙◌, append_assoc, append-nil}
+use Rattle.std.proofs.Common.{◌≡◌, ℕ, ◌<◌, ◌≤◌, ◌+◌, arith, Bool, true, false, not, ◌&&◌, ◌||◌, List, [], ◌∷◌, ◌++◌, map, flat_map, length, take, drop, get_or, ap, sym, subst, ◌∙◌, append_assoc, append-nil}
 use Rattle.std.specs.List.{AllByRecursion, list_all}
 use Rattle.xd_syntax.specs.Words.{has_word}
 use Rattle.xd_syntax.specs.Table.{CanFollow}
@@ -11,7 +11,7 @@ use Rattle.xd_syntax.specs.declared.fault.Fault.{Fault}
 use Rattle.xd_syntax.specs.declared.fault.FaultKind.TheVariants.{NotLinear}
 use Rattle.xd_syntax.proofs.NodeParts.{viewed_tree}
 use Rattle.xd_names.proofs.WordLemmas.{drop_at}
-use Rattle.xd_names.proofs.TreeLemmas.{variables_seq, variables_alt, parts_done, drop_past}
+use Rattle.xd_names.proofs.TreeLemmas.{parts_step, variables_seq, variables_alt, parts_done, drop_past}
 use Rattle.xd_names.proofs.LinearLemmas.{no_alts, not_linear-seq, seq_faults, alt_faults, seq_more, alt_more, alt_all, partial_more, partial_val, partial_alt, val_faults, take_front}
 use Rattle.xd_names.proofs.linear.+not_linear.Goals as goal
 
@@ -169,3 +169,26 @@ returns-in_ok-push_all-in-Alt-clause-faults t c =
     ∙ c.loop-branch.invariant.faults
     ∙ ap (λ fs. old ++ fs) (alt_all r e p q P pl ids merged.0 (no_alts c.args.patterns.now c.args.id.at ids within merged) added)
     ∙ ap (λ U. old ++ not_linear r e p false U) (sym (viewed_tree (λ (id : PatternId). id.at) _ c.args.patterns.now _ _ _ _ c.view.ensures.node is))
+
+pub not_linear-requires-in-loop-part : goal.not_linear-requires-in-loop-part
+not_linear-requires-in-loop-part t c =
+    let first : PatternId = record { at = 0 } in
+    let older : (get_or c.in-Seq.parts.now c.loop-part.part-index first).at < c.args.id.at
+    = (parts_step (λ j. j < c.args.id.at) (λ (id : PatternId). id.at) c.in-Seq.parts.now c.loop-part.part-index first c.loop-part-test.true c.loop-part.invariant.older).0 in
+    (omega arith, omega arith)
+
+pub not_linear-requires-in-loop-branch : goal.not_linear-requires-in-loop-branch
+not_linear-requires-in-loop-branch t c =
+    let first : PatternId = record { at = 0 } in
+    let older : (get_or c.in-Alt.branches.now c.loop-branch.branch-index first).at < c.args.id.at
+    = (parts_step (λ j. j < c.args.id.at) (λ (id : PatternId). id.at) c.in-Alt.branches.now c.loop-branch.branch-index first c.loop-branch-test.true c.loop-branch.invariant.older).0 in
+    (omega arith, omega arith)
+
+pub returns-in_ok-not_linear-in-Val-clause-earlier : goal.returns-in_ok-not_linear-in-Val-clause-earlier
+returns-in_ok-not_linear-in-Val-clause-earlier t c =
+    let own : List (List ℕ) = variables (placed_at c.args.patterns.now c.in-Val.part.at) in
+    let e = viewed_tree (λ (id : PatternId). id.at) _ c.args.patterns.now _ _ _ _ c.view.ensures.node c.in-Val.is in
+    c.in_ok-not_linear-in-Val.ensures.earlier
+    ∙ ap (λ es. es ++ own) c.in_ok-occur-in-Val.ensures.earlier
+    ∙ append_assoc c.args.earlier.now (c.in-Val.word.now ∷ []) own
+    ∙ ap (λ T. c.args.earlier.now ++ variables T) (sym e)

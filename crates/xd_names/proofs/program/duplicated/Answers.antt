@@ -1,7 +1,6 @@
-use Rattle.std.proofs.Common.{◌≡◌, ℕ, ◌||◌, List, [], ◌∷◌, ◌++◌, map, flat_map, ap, ◌∙◌, append_assoc}
-use Rattle.std.specs.Str.{bytes_eq}
+use Rattle.std.proofs.Common.{◌≡◌, ℕ, List, [], ◌∷◌, ◌++◌, map, flat_map, ap, ◌∙◌, append_assoc}
 use Rattle.std.proofs.lemmas.Result.{on_ok_weaker}
-use Rattle.xd_syntax.specs.Words.{has_word, any_word, string_word}
+use Rattle.xd_syntax.specs.Words.{any_word, string_word}
 use Rattle.xd_syntax.specs.FunctionRow.{FunctionRow}
 use Rattle.xd_syntax.specs.Kept.{ProgramTable, type_definition, function_definition}
 use Rattle.xd_syntax.specs.NameFaults.{duplicates}
@@ -9,8 +8,6 @@ use Rattle.xd_syntax.specs.declared.types.TypeDef.{TypeDef}
 use Rattle.xd_syntax.specs.declared.fault.Fault.{Fault}
 use Rattle.xd_names.specs.Knows.{whole}
 use Rattle.xd_names.specs.Spots.{type_spot, function_spot, param_spot}
-use Rattle.xd_names.proofs.LinearLemmas.{Same}
-use Rattle.xd_names.proofs.NameLemmas.{duplicates-same}
 use Rattle.xd_names.proofs.ProgramLemmas.{definition_spot, of_function, spots_types, spots_functions, params_twice}
 use Rattle.xd_names.proofs.program.duplicated.Goals as goal
 
@@ -20,23 +17,16 @@ returns c =
     let p : ProgramTable = c.args.program.now in
     let old : List Fault = c.args.faults.now.items in
     let taken : List (List ℕ) = string_word ∷ (any_word ∷ []) in
-    let same : Same c.add-2.new.self taken
-    = λ w. c.in_ok-add-2.ensures.words w
-    ∙ ap (λ v. bytes_eq v w || has_word c.add.new.self w) c.in_ok-new-2.ensures
-    ∙ ap (λ b. bytes_eq string_word w || b) (c.in_ok-add.ensures.words w ∙ ap (λ v. bytes_eq v w || has_word c.new-types.result w) c.in_ok-new.ensures ∙ ap (λ ks. bytes_eq any_word w || has_word ks w) c.new-types.ensures) in
     let s1 = map definition_spot (map (type_definition p.types) p.type_defs) in
     let s2 = map of_function (map (function_definition p) p.functions) in
     let d1 : List Fault = duplicates taken (map type_spot p.type_defs) in
     let d2 : List Fault = duplicates [] (map function_spot p.functions) in
     let d3 : List Fault = flat_map (λ (f : FunctionRow). duplicates [] (map param_spot f.params)) p.functions in
-    let first : c.in_types.new.faults.items ≡ old ++ d1
-    = c.in_ok-in_types.ensures
-    ∙ ap (λ ds. old ++ ds) (duplicates-same c.add-2.new.self taken (map type_spot c.type_defs.result.now) same
-    ∙ ap (λ (defs : List TypeDef). duplicates taken (map type_spot defs)) c.type_defs.ensures.type_defs) in
-    let second : c.in_functions.new.faults.items ≡ (old ++ d1) ++ d2
-    = c.in_ok-in_functions.ensures
-    ∙ ap (λ fs. fs ++ duplicates c.new-functions.result (map function_spot c.functions.result.now)) first
-    ∙ ap (λ ks. (old ++ d1) ++ duplicates ks (map function_spot c.functions.result.now)) c.new-functions.ensures
+    let first : c.duplicated_types.new.faults.items ≡ old ++ d1
+    = c.in_ok-duplicated_types.ensures ∙ ap (λ (defs : List TypeDef). old ++ duplicates taken (map type_spot defs)) c.type_defs.ensures.type_defs in
+    let second : c.duplicated_functions.new.faults.items ≡ (old ++ d1) ++ d2
+    = c.in_ok-duplicated_functions.ensures
+    ∙ ap (λ fs. fs ++ duplicates [] (map function_spot c.functions.result.now)) first
     ∙ ap (λ (fs : List FunctionRow). (old ++ d1) ++ duplicates [] (map function_spot fs)) c.functions.ensures.functions in
     on_ok_weaker c.duplicated_params.result
     (λ e. e
