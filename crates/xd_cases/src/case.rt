@@ -43,6 +43,15 @@ impl<'a> Case<'a> {
         Ok(())
     }
 
+    /// The same, with a first line where one is given.
+    pub fn begin_with(&mut self, name: &'a str, line: Option<&str>) -> Result<(), CaseError> {
+        self.begin(name)?;
+        match line {
+            Some(line) => self.add_line(line),
+            None => Ok(()),
+        }
+    }
+
     /// Adds a line to the newest text. A line feed goes before it, unless it is the first.
     pub fn add_line(&mut self, line: &str) -> Result<(), CaseError> {
         let file = self.files.last_mut().ok_or(CaseError::NoFile)?;

@@ -114,32 +114,46 @@ fn varied(line: &str) -> Result<(Variation<'_>, &str), CaseError> {
     Ok((variation, words))
 }
 
+/// Runs whose statuses are shown.
+fn each(line: &str) -> Result<Directive<'_>, CaseError> {
+    let (variation, words) = varied(line)?;
+    Ok(Directive::Each(variation, words))
+}
+
+/// Runs of which what is written is shown too.
+fn every(line: &str) -> Result<Directive<'_>, CaseError> {
+    let (variation, words) = varied(line)?;
+    Ok(Directive::Every(variation, words))
+}
+
+/// A text's name, with the first line behind it where one is given.
+fn file(line: &str) -> Directive<'_> {
+    match line.split_once(' ') {
+        Some((name, line)) => Directive::File(name, Some(line)),
+        None => Directive::File(line, None),
+    }
+}
+
+/// What is said of the shelf: `fails NUMBERS`.
+fn shelf(alloc: Global, line: &str) -> Result<Directive<'_>, CaseError> {
+    let list = line.strip_prefix("fails").ok_or(CaseError::Directive)?;
+    Ok(Directive::ShelfFails(numbers(alloc, list)?))
+}
+
 /// What a line says.
 pub fn parse(alloc: Global, line: &str) -> Result<Directive<'_>, CaseError> {
     let (head, rest) = line.split_once(' ').unwrap_or((line, ""));
     match head {
         "" | "#" => Ok(Directive::Blank),
         "case" => Ok(Directive::Case),
-        "file" => Ok(match rest.split_once(' ') {
-            Some((name, line)) => Directive::File(name, Some(line)),
-            None => Directive::File(rest, None),
-        }),
+        "file" => Ok(file(rest)),
         "|" => Ok(Directive::Line(rest)),
         "+" => piece(alloc, rest),
-        "shelf" => {
-            let list = rest.strip_prefix("fails").ok_or(CaseError::Directive)?;
-            Ok(Directive::ShelfFails(numbers(alloc, list)?))
-        }
+        "shelf" => shelf(alloc, rest),
         "sink" => sink(alloc, rest),
         "$" => Ok(Directive::Run(rest)),
-        "each" => {
-            let (variation, words) = varied(rest)?;
-            Ok(Directive::Each(variation, words))
-        }
-        "every" => {
-            let (variation, words) = varied(rest)?;
-            Ok(Directive::Every(variation, words))
-        }
+        "each" => each(rest),
+        "every" => every(rest),
         _ => Err(CaseError::Directive),
     }
 }

@@ -10,12 +10,47 @@ mod report;
 mod run;
 
 use crate::case::Case;
-use crate::directive::Directive;
+use crate::directive::{Directive, Variation};
 use crate::error::CaseError;
 use anyhow::{Context, Result};
 use std::alloc::Global;
 use std::io;
 use std::io::Write;
+
+/// Appends the status and the output of a run.
+fn show_run(
+    alloc: Global,
+    case: &Case<'_>,
+    words: &str,
+    out: &mut Vec<u8>,
+) -> Result<(), CaseError> {
+    let (status, sink) = run::run(alloc, case, words)?;
+    report::show_run(out, status, sink.written())
+}
+
+/// Appends the statuses of a run's variations.
+fn show_each(
+    alloc: Global,
+    case: &Case<'_>,
+    variation: Variation<'_>,
+    words: &str,
+    out: &mut Vec<u8>,
+) -> Result<(), CaseError> {
+    let ended = run::run_each(alloc, case, variation, words)?;
+    report::show_statuses(out, &ended)
+}
+
+/// The same, with what is written.
+fn show_every(
+    alloc: Global,
+    case: &Case<'_>,
+    variation: Variation<'_>,
+    words: &str,
+    out: &mut Vec<u8>,
+) -> Result<(), CaseError> {
+    let ended = run::run_each(alloc, case, variation, words)?;
+    report::show_outputs(out, &ended)
+}
 
 /// Does what a line says, and appends its answer.
 fn obey<'a>(
@@ -25,34 +60,47 @@ fn obey<'a>(
     out: &mut Vec<u8>,
 ) -> Result<(), CaseError> {
     match directive::parse(alloc, line)? {
-        Directive::Blank => {}
-        Directive::Case => *case = Case::new(alloc),
-        Directive::File(name, line) => {
-            case.begin(name)?;
-            if let Some(line) = line {
-                case.add_line(line)?;
-            }
+        Directive::Blank => Ok(()),
+        Directive::Case => {
+            *case = Case::new(alloc);
+            Ok(())
         }
-        Directive::Line(text) => case.add_line(text)?,
-        Directive::Repeat(times, text) => case.add(times, text.as_bytes())?,
-        Directive::Bytes(bytes) => case.add(1, &bytes)?,
-        Directive::ShelfFails(calls) => case.shelf_fails = calls,
-        Directive::SinkFails(calls) => case.sink_fails = calls,
-        Directive::Room(room) => case.room = room,
-        Directive::Piece(piece) => case.piece = piece,
-        Directive::Run(words) => {
-            let (status, sink) = run::run(alloc, case, &run::words(alloc, words)?)?;
-            writeln!(out, "status {status}")?;
-            report::show_output(out, sink.written())?;
+        Directive::File(name, line) => case.begin_with(name, line),
+        Directive::Line(text) => case.add_line(text),
+        Directive::Repeat(times, text) => case.add(times, text.as_bytes()),
+        Directive::Bytes(bytes) => case.add(1, &bytes),
+        Directive::ShelfFails(calls) => {
+            case.shelf_fails = calls;
+            Ok(())
         }
-        Directive::Each(variation, words) => {
-            let ended = run::run_each(alloc, case, variation, &run::words(alloc, words)?)?;
-            report::show_statuses(out, &ended)?;
+        Directive::SinkFails(calls) => {
+            case.sink_fails = calls;
+            Ok(())
         }
-        Directive::Every(variation, words) => {
-            let ended = run::run_each(alloc, case, variation, &run::words(alloc, words)?)?;
-            report::show_outputs(out, &ended)?;
+        Directive::Room(room) => {
+            case.room = room;
+            Ok(())
         }
+        Directive::Piece(piece) => {
+            case.piece = piece;
+            Ok(())
+        }
+        Directive::Run(words) => show_run(alloc, case, words, out),
+        Directive::Each(variation, words) => show_each(alloc, case, variation, words, out),
+        Directive::Every(variation, words) => show_every(alloc, case, variation, words, out),
+    }
+}
+
+/// Appends each line of the input, with an answer behind each run.
+fn answer_lines<'a>(
+    alloc: Global,
+    input: &'a str,
+    case: &mut Case<'a>,
+    out: &mut Vec<u8>,
+) -> Result<()> {
+    for (number, line) in (1..u64::MAX).zip(input.lines()) {
+        writeln!(out, "{line}")?;
+        obey(alloc, case, line, out).context(format_args!("line {number}"))?;
     }
     Ok(())
 }
@@ -61,10 +109,7 @@ fn obey<'a>(
 fn answered(alloc: Global, input: &str) -> Result<Vec<u8>> {
     let mut out = Vec::new(alloc);
     let mut case = Case::new(alloc);
-    for (number, line) in (1..u64::MAX).zip(input.lines()) {
-        writeln!(out, "{line}")?;
-        obey(alloc, &mut case, line, &mut out).context(format_args!("line {number}"))?;
-    }
+    answer_lines(alloc, input, &mut case, &mut out)?;
     Ok(out)
 }
 

@@ -27,6 +27,12 @@ pub fn show_output(out: &mut Vec<u8>, output: &[u8]) -> Result<(), CaseError> {
     Ok(())
 }
 
+/// Appends the line of a run's status, and behind it its output.
+pub fn show_run(out: &mut Vec<u8>, status: u8, output: &[u8]) -> Result<(), CaseError> {
+    writeln!(out, "status {status}")?;
+    show_output(out, output)
+}
+
 /// Appends a line for each status and how often it comes in a row: `status 4 x 10`, then `status 0 x 1`.
 pub fn show_statuses(out: &mut Vec<u8>, runs: &[Ended]) -> Result<(), CaseError> {
     for row in runs.chunk_by(|one, next| one.status == next.status) {
