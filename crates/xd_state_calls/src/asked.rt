@@ -1,6 +1,9 @@
 //! The program that the calls are about, and where each is made.
 
-use crate::{cases, states, tables, types};
+use crate::cases::show_case;
+use crate::states::{Operation, PairShown, show_made, show_paired};
+use crate::tables::{show_decided, show_moved, show_questions};
+use crate::types::{TypeShown, show_inhabitant, show_type};
 use std::alloc::Global;
 use xd_call_lines::{Call, CallError, Desk};
 use xd_call_programs::Case;
@@ -27,17 +30,17 @@ impl Desk for Asked {
 /// Makes a call about the program that is its text.
 fn answer(call: &Call<'_>, out: &mut Vec<u8>) -> Result<(), CallError> {
     match call.name {
-        "heads" => types::show_heads(call, out),
-        "state_type" => types::show_state_type(call, out),
-        "inhabitant" => types::show_inhabitant(call, out),
-        "decide" => tables::show_decided(call, out),
-        "moved" => tables::show_moved(call, out),
-        "questions" => tables::show_questions(call, out),
-        "product" => states::show_product(call, out),
-        "minus" => states::show_minus(call, out),
-        "pair_up" => states::show_pairs(call, out),
-        "shares" => states::show_shared(call, out),
-        "read_case" => cases::show_case(call, out),
+        "heads" => show_type(call, TypeShown::Heads, out),
+        "state_type" => show_type(call, TypeShown::State, out),
+        "inhabitant" => show_inhabitant(call, out),
+        "decide" => show_decided(call, out),
+        "moved" => show_moved(call, out),
+        "questions" => show_questions(call, out),
+        "product" => show_made(call, Operation::Product, out),
+        "minus" => show_made(call, Operation::Minus, out),
+        "pair_up" => show_paired(call, PairShown::Pairs, out),
+        "shares" => show_paired(call, PairShown::Shared, out),
+        "read_case" => show_case(call, out),
         _ => Err(CallError::Call),
     }
 }

@@ -1,6 +1,6 @@
 //! States for several types of a program, in one automaton.
 
-ghost use Rattle.std.specs.Prelude.{IfOk, OnOk};
+ghost use Rattle.std.specs.Prelude.{◌≡◌, [], IfOk, OnOk};
 ghost use Rattle.std.specs.List.{AllByRecursion};
 ghost use Rattle.xd_auto.specs.Automaton.{IsState};
 ghost use Rattle.xd_heads.specs.Mirrors.{Mirrors};
@@ -31,11 +31,19 @@ pub fn states_of(call: &Call<'_>, one: usize, two: usize) -> Result<(Auto, State
 {
     let first = call.word(one)?;
     let second = call.word(two)?;
-    let mut sound = program_of(call)?;
-    states_for(call.alloc, &mut sound, first, second)
+    states_in(call, first, second)
 }
 
-/// States for the types of two names.
+/// States for the types of two names of the call's program.
+fn states_in(call: &Call<'_>, one: &str, two: &str) -> Result<(Auto, State, State), CallError>
+    ensures one { IfOk result (λ made. IsState made.0 made.1) }
+    ensures two { IfOk result (λ made. IsState made.0 made.2) }
+{
+    let mut sound = program_of(call)?;
+    states_for(call.alloc, &mut sound, one, two)
+}
+
+/// The same of this program.
 fn states_for(
     alloc: Global,
     sound: &mut SoundProgram,
@@ -46,10 +54,27 @@ fn states_for(
     ensures two { IfOk result (λ made. IsState made.0 made.2) }
 {
     let (left, right) = types_of(sound, one, two)?;
-    let mut cells = Cells::new(alloc);
     let mut auto = Auto::new(alloc);
-    let (first, second) = compile_both(alloc, sound, &mut cells, &mut auto, left, right)?;
+    let (first, second) = compile_into(alloc, sound, &mut auto, left, right)?;
     Ok((auto, first, second))
+}
+
+/// Puts states for these types into an automaton without states.
+fn compile_into(
+    alloc: Global,
+    sound: &mut SoundProgram,
+    auto: &mut Auto,
+    left: TypeId,
+    right: TypeId,
+) -> Result<(State, State), CallError>
+    requires left { BelongsTo sound.old.types left }
+    requires right { BelongsTo sound.old.types right }
+    requires empty { auto.old ≡ [] }
+    ensures one { IfOk result (λ made. IsState auto.new made.0) }
+    ensures two { IfOk result (λ made. IsState auto.new made.1) }
+{
+    let mut cells = Cells::new(alloc);
+    compile_both(alloc, sound, &mut cells, auto, left, right)
 }
 
 /// Puts states for these types into the automaton.
@@ -84,27 +109,52 @@ pub fn named_states<'a>(call: &Call<'a>) -> Result<(Auto, Vec<Named<'a>>), CallE
     ensures { IfOk result (λ made. AllByRecursion (λ (n : Named). IsState made.0 n.state) made.1.items) }
 {
     let mut sound = program_of(call)?;
-    let mut cells = Cells::new(call.alloc);
+    named_states_of(call, &mut sound)
+}
+
+/// The same of the types of this program.
+fn named_states_of<'a>(
+    call: &Call<'a>,
+    sound: &mut SoundProgram,
+) -> Result<(Auto, Vec<Named<'a>>), CallError>
+    ensures { IfOk result (λ made. AllByRecursion (λ (n : Named). IsState made.0 n.state) made.1.items) }
+{
     let mut auto = Auto::new(call.alloc);
-    let states = name_states(call, &mut sound, &mut cells, &mut auto)?;
+    let states = name_states(call, sound, &mut auto)?;
     Ok((auto, states))
 }
 
-/// The same in this automaton.
+/// The same in this automaton, which has no states yet.
 fn name_states<'a>(
+    call: &Call<'a>,
+    sound: &mut SoundProgram,
+    auto: &mut Auto,
+) -> Result<Vec<Named<'a>>, CallError>
+    requires { auto.old ≡ [] }
+    ensures { IfOk result (λ states. AllByRecursion (λ (n : Named). IsState auto.new n.state) states.items) }
+{
+    let mut cells = Cells::new(call.alloc);
+    let mut states = Vec::new(call.alloc);
+    name_each(call, sound, &mut cells, auto, &mut states)?;
+    Ok(states)
+}
+
+/// Puts a state for each of the types behind the others.
+fn name_each<'a>(
     call: &Call<'a>,
     sound: &mut SoundProgram,
     cells: &mut Cells,
     auto: &mut Auto,
-) -> Result<Vec<Named<'a>>, CallError>
-    requires { Mirrors sound.old cells.old auto.old }
-    ensures { IfOk result (λ states. AllByRecursion (λ (n : Named). IsState auto.new n.state) states.items) }
+    states: &mut Vec<Named<'a>>,
+) -> Result<(), CallError>
+    requires mirrors { Mirrors sound.old cells.old auto.old }
+    requires states { AllByRecursion (λ (n : Named). IsState auto.old n.state) states.old.items }
+    ensures { OnOk result (AllByRecursion (λ (n : Named). IsState auto.new n.state) states.new.items) }
 {
-    let mut states = Vec::new(call.alloc);
     for name in call.behind.split_whitespace() {
-        name_state(call.alloc, sound, cells, auto, &mut states, name)?;
+        name_state(call.alloc, sound, cells, auto, states, name)?;
     }
-    Ok(states)
+    Ok(())
 }
 
 /// Puts a state for the type of this name behind the others.

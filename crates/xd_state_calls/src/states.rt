@@ -11,19 +11,31 @@ use xd_bind::{Holds, MoveKind, cases};
 use xd_boole::{minus, product};
 use xd_call_lines::{Call, CallError, show_answer};
 use xd_call_programs::{show_members, state_of};
-use xd_doc::Store;
+use xd_doc::{NoMemory, Store};
 use xd_empty::Inhabitants;
 use xd_traces::{add_universal, pair_up};
 
-/// `product ONE TWO DOCUMENTS`: which of the documents the product accepts.
-pub fn show_product(call: &Call<'_>, out: &mut Vec<u8>) -> Result<(), CallError> {
-    let (one, first) = state_of(call, 0)?;
-    let (two, second) = state_of(call, 1)?;
-    show_product_of(call, &one, first, &two, second, out)
+/// What is made of two states.
+#[derive(Clone, Copy)]
+pub enum Operation {
+    Product,
+    Minus,
 }
 
-fn show_product_of(
+/// `product ONE TWO DOCUMENTS`, `minus ONE TWO DOCUMENTS`: which of the documents the product, or the difference, accepts.
+pub fn show_made(
     call: &Call<'_>,
+    operation: Operation,
+    out: &mut Vec<u8>,
+) -> Result<(), CallError> {
+    let (one, first) = state_of(call, 0)?;
+    let (two, second) = state_of(call, 1)?;
+    show_made_of(call, operation, &one, first, &two, second, out)
+}
+
+fn show_made_of(
+    call: &Call<'_>,
+    operation: Operation,
     one: &Auto,
     first: State,
     two: &Auto,
@@ -33,47 +45,99 @@ fn show_product_of(
     requires one { IsState one.now first }
     requires two { IsState two.now second }
 {
-    let (auto, state) = product(call.alloc, one, first, two, second)?;
+    let (auto, state) = make(call.alloc, operation, one, first, two, second)?;
     show_members(call, 2, &auto, state, out)
 }
 
-/// `minus ONE TWO DOCUMENTS`: which of the documents the difference accepts.
-pub fn show_minus(call: &Call<'_>, out: &mut Vec<u8>) -> Result<(), CallError> {
-    let (one, first) = state_of(call, 0)?;
-    let (two, second) = state_of(call, 1)?;
-    show_minus_of(call, &one, first, &two, second, out)
-}
-
-fn show_minus_of(
-    call: &Call<'_>,
+fn make(
+    alloc: Global,
+    operation: Operation,
     one: &Auto,
     first: State,
     two: &Auto,
     second: State,
-    out: &mut Vec<u8>,
-) -> Result<(), CallError>
+) -> Result<(Auto, State), NoMemory>
     requires one { IsState one.now first }
     requires two { IsState two.now second }
+    ensures { IfOk result (λ made. IsState made.0 made.1) }
 {
-    let (auto, state) = minus(call.alloc, one, first, two, second)?;
-    show_members(call, 2, &auto, state, out)
+    match operation {
+        Operation::Product => product(alloc, one, first, two, second),
+        Operation::Minus => minus(alloc, one, first, two, second),
+    }
 }
 
-/// A state for the type that the call's word of this number names, beside one that accepts all, in an automaton of its own.
-fn pattern_of(call: &Call<'_>, number: usize) -> Result<(Auto, State, State), CallError>
-    ensures start { IfOk result (λ made. IsState made.0 made.1) }
-    ensures all { IfOk result (λ made. IsUniversal made.0 made.2) }
+/// A state for a type, beside one that accepts all, in an automaton of its own.
+#[derive(Drop)]
+struct Pattern {
+    auto: Auto,
+    start: State,
+    all: State,
+}
+
+/// A pattern of the type that the call's word of this number names.
+fn pattern_of(call: &Call<'_>, number: usize) -> Result<Pattern, CallError>
+    ensures start { IfOk result (λ made. IsState made.auto made.start) }
+    ensures all { IfOk result (λ made. IsUniversal made.auto made.all) }
 {
     let (mut auto, start) = state_of(call, number)?;
     let all = add_universal(call.alloc, &mut auto)?;
-    Ok((auto, start, all))
+    Ok(Pattern { auto, start, all })
 }
 
-/// `pair_up ONE TWO`: how many pairs of states the two lead to.
-pub fn show_pairs(call: &Call<'_>, out: &mut Vec<u8>) -> Result<(), CallError> {
-    let (one, first, all) = pattern_of(call, 0)?;
-    let (mut two, second) = state_of(call, 1)?;
-    let pairs = pair_up(call.alloc, &one, first, all, &mut two, second)?;
+/// What is shown of two states side by side.
+#[derive(Clone, Copy)]
+pub enum PairShown {
+    /// How many pairs of states the two lead to.
+    Pairs,
+    /// Whether they have a document in common.
+    Shared,
+}
+
+/// `pair_up ONE TWO`, `shares ONE TWO`.
+pub fn show_paired(call: &Call<'_>, shown: PairShown, out: &mut Vec<u8>) -> Result<(), CallError> {
+    let pattern = pattern_of(call, 0)?;
+    let (mut auto, state) = state_of(call, 1)?;
+    show_paired_of(call.alloc, shown, &pattern, &mut auto, state, out)
+}
+
+fn show_paired_of(
+    alloc: Global,
+    shown: PairShown,
+    pattern: &Pattern,
+    auto: &mut Auto,
+    state: State,
+    out: &mut Vec<u8>,
+) -> Result<(), CallError>
+    requires start { IsState pattern.now.auto pattern.now.start }
+    requires all { IsUniversal pattern.now.auto pattern.now.all }
+    requires state { IsState auto.old state }
+{
+    match shown {
+        PairShown::Pairs => show_pairs(alloc, pattern, auto, state, out),
+        PairShown::Shared => show_shared(alloc, pattern, auto, state, out),
+    }
+}
+
+fn show_pairs(
+    alloc: Global,
+    pattern: &Pattern,
+    auto: &mut Auto,
+    state: State,
+    out: &mut Vec<u8>,
+) -> Result<(), CallError>
+    requires start { IsState pattern.now.auto pattern.now.start }
+    requires all { IsUniversal pattern.now.auto pattern.now.all }
+    requires state { IsState auto.old state }
+{
+    let pairs = pair_up(
+        alloc,
+        &pattern.auto,
+        pattern.start,
+        pattern.all,
+        auto,
+        state,
+    )?;
     writeln!(out, "{} pairs", pairs.states.len())?;
     Ok(())
 }
@@ -89,39 +153,42 @@ impl Holds for NoVariables {
     }
 }
 
-/// `shares ONE TWO`: whether they have a document in common.
-pub fn show_shared(call: &Call<'_>, out: &mut Vec<u8>) -> Result<(), CallError> {
-    let (one, first, all) = pattern_of(call, 0)?;
-    let (mut two, second) = state_of(call, 1)?;
-    show_answer(
-        has_shared(call.alloc, &one, first, all, &mut two, second)?,
-        out,
-    )
+fn show_shared(
+    alloc: Global,
+    pattern: &Pattern,
+    auto: &mut Auto,
+    state: State,
+    out: &mut Vec<u8>,
+) -> Result<(), CallError>
+    requires start { IsState pattern.now.auto pattern.now.start }
+    requires all { IsUniversal pattern.now.auto pattern.now.all }
+    requires state { IsState auto.old state }
+{
+    let shared = has_shared(alloc, pattern, auto, state)?;
+    show_answer(shared, out)
 }
 
 fn has_shared(
     alloc: Global,
-    one: &Auto,
-    first: State,
-    all: State,
-    two: &mut Auto,
-    second: State,
+    pattern: &Pattern,
+    auto: &mut Auto,
+    state: State,
 ) -> Result<bool, CallError>
-    requires first { IsState one.now first }
-    requires all { IsUniversal one.now all }
-    requires second { IsState two.old second }
+    requires start { IsState pattern.now.auto pattern.now.start }
+    requires all { IsUniversal pattern.now.auto pattern.now.all }
+    requires state { IsState auto.old state }
 {
     let mut known = Inhabitants::new(alloc);
     let mut store = Store::new(alloc);
     let found = cases(
         alloc,
-        one,
-        first,
-        all,
+        &pattern.auto,
+        pattern.start,
+        pattern.all,
         &[],
         &NoVariables,
-        two,
-        second,
+        auto,
+        state,
         &mut known,
         &mut store,
     )?;

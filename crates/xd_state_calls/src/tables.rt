@@ -17,26 +17,110 @@ use xd_call_programs::{show_both_ways, show_verdict};
 use xd_doc::Store;
 use xd_goals::{Choice, ChoiceNode, GoalId, Standing, Table, Verdict, decide, new_tables_stand};
 
-/// `decide MOST ONE TWO`: whether the one is included in the two, then the other way round, by one table; and whether this has at
-/// most so many goals then.
+/// What is shown of two states of an automaton.
+#[derive(Clone, Copy)]
+enum StatesShown {
+    /// Whether the one is included in the two, then the other way round, by one table; and whether this has at most so many goals
+    /// then.
+    Decided(usize),
+    /// Whether the one is included in the two; and for each goal that was refuted for it whether a goal that holds is among its
+    /// dependents, and whether a leaf of one that holds names it.
+    Moved,
+}
+
+/// `decide MOST ONE TWO`.
 pub fn show_decided(call: &Call<'_>, out: &mut Vec<u8>) -> Result<(), CallError> {
     let most = call.size(0)?;
-    let (auto, one, two) = states_of(call, 1, 2)?;
-    let rows = show_both_ways(call.alloc, &auto, one, two, out)?;
+    show_states(call, StatesShown::Decided(most), 1, 2, out)
+}
+
+/// `moved ONE TWO`.
+pub fn show_moved(call: &Call<'_>, out: &mut Vec<u8>) -> Result<(), CallError> {
+    show_states(call, StatesShown::Moved, 0, 1, out)
+}
+
+/// Shows this of the types that the call's words of these numbers name.
+fn show_states(
+    call: &Call<'_>,
+    shown: StatesShown,
+    one: usize,
+    two: usize,
+    out: &mut Vec<u8>,
+) -> Result<(), CallError> {
+    let (auto, first, second) = states_of(call, one, two)?;
+    show_states_of(call.alloc, shown, &auto, first, second, out)
+}
+
+fn show_states_of(
+    alloc: Global,
+    shown: StatesShown,
+    auto: &Auto,
+    one: State,
+    two: State,
+    out: &mut Vec<u8>,
+) -> Result<(), CallError>
+    requires one { IsState auto.now one }
+    requires two { IsState auto.now two }
+{
+    match shown {
+        StatesShown::Decided(most) => show_decided_of(alloc, auto, one, two, most, out),
+        StatesShown::Moved => show_moved_of(alloc, auto, one, two, out),
+    }
+}
+
+fn show_decided_of(
+    alloc: Global,
+    auto: &Auto,
+    one: State,
+    two: State,
+    most: usize,
+    out: &mut Vec<u8>,
+) -> Result<(), CallError>
+    requires one { IsState auto.now one }
+    requires two { IsState auto.now two }
+{
+    let rows = show_both_ways(alloc, auto, one, two, out)?;
+    show_bound(rows, most, out)
+}
+
+fn show_bound(rows: usize, most: usize, out: &mut Vec<u8>) -> Result<(), CallError> {
     let bound = if rows > most { "more than" } else { "at most" };
     writeln!(out, "{bound} {most} goals")?;
     Ok(())
 }
 
-/// `moved ONE TWO`: whether the one is included in the two; and for each goal that was refuted for it whether a goal that holds is
-/// among its dependents, and whether a leaf of one that holds names it.
-pub fn show_moved(call: &Call<'_>, out: &mut Vec<u8>) -> Result<(), CallError> {
-    let (auto, one, two) = states_of(call, 0, 1)?;
-    let mut store = Store::new(call.alloc);
-    let mut table = Table::new(call.alloc);
-    new_tables_stand(&auto, &store);
-    show_verdict(call.alloc, &auto, &mut table, one, two, &mut store, out)?;
-    show_all_refuted(&auto, &store, &table, out)
+fn show_moved_of(
+    alloc: Global,
+    auto: &Auto,
+    one: State,
+    two: State,
+    out: &mut Vec<u8>,
+) -> Result<(), CallError>
+    requires one { IsState auto.now one }
+    requires two { IsState auto.now two }
+{
+    let mut store = Store::new(alloc);
+    let mut table = Table::new(alloc);
+    new_tables_stand(auto, &store);
+    show_moved_in(alloc, auto, &mut table, one, two, &mut store, out)
+}
+
+/// The same with this table.
+fn show_moved_in(
+    alloc: Global,
+    auto: &Auto,
+    table: &mut Table,
+    one: State,
+    two: State,
+    store: &mut Store,
+    out: &mut Vec<u8>,
+) -> Result<(), CallError>
+    requires stands { StandsOn auto.now store.old table.old }
+    requires one { IsState auto.now one }
+    requires two { IsState auto.now two }
+{
+    show_verdict(alloc, auto, table, one, two, store, out)?;
+    show_all_refuted(auto, store, table, out)
 }
 
 fn show_all_refuted(
@@ -151,8 +235,23 @@ fn show_all_questions(
     let mut store = Store::new(alloc);
     let mut table = Table::new(alloc);
     new_tables_stand(auto, &store);
+    show_questions_in(alloc, auto, &mut table, states, &mut store, out)
+}
+
+/// The same with this table.
+fn show_questions_in(
+    alloc: Global,
+    auto: &Auto,
+    table: &mut Table,
+    states: &[Named<'_>],
+    store: &mut Store,
+    out: &mut Vec<u8>,
+) -> Result<(), CallError>
+    requires stands { StandsOn auto.now store.old table.old }
+    requires states { AllByRecursion (λ (n : Named). IsState auto.now n.state) states.now }
+{
     for left in states {
-        show_questions_on(alloc, auto, &mut table, left, states, &mut store, out)?;
+        show_questions_on(alloc, auto, table, left, states, store, out)?;
     }
     Ok(())
 }

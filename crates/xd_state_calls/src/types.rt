@@ -1,5 +1,6 @@
 //! Calls about one type.
 
+ghost use Rattle.xd_auto.specs.Automaton.{IsState};
 ghost use Rattle.xd_heads.specs.HeadList.{HeadBelongs};
 ghost use Rattle.xd_heads.specs.Mirrors.{IsTypeState, Mirrors};
 ghost use Rattle.xd_syntax.specs.Types.{BelongsTo};
@@ -16,10 +17,34 @@ use xd_syntax::{SoundProgram, TypeId, Types};
 use xd_type_text::type_text;
 use xd_write::write_document;
 
-/// `heads TYPE`: a line for each, its class, its content in brackets, and its rest.
-pub fn show_heads(call: &Call<'_>, out: &mut Vec<u8>) -> Result<(), CallError> {
+/// What is shown of a type.
+#[derive(Clone, Copy)]
+pub enum TypeShown {
+    /// A line for each of its heads: its class, its content in brackets, and its rest.
+    Heads,
+    /// What its state stands for.
+    State,
+}
+
+/// `heads TYPE`, `state_type TYPE`.
+pub fn show_type(call: &Call<'_>, shown: TypeShown, out: &mut Vec<u8>) -> Result<(), CallError> {
     let (mut sound, id) = type_of(call, 0)?;
-    show_heads_of(call.alloc, &mut sound, id, out)
+    show_type_of(call.alloc, shown, &mut sound, id, out)
+}
+
+fn show_type_of(
+    alloc: Global,
+    shown: TypeShown,
+    sound: &mut SoundProgram,
+    id: TypeId,
+    out: &mut Vec<u8>,
+) -> Result<(), CallError>
+    requires { BelongsTo sound.old.types id }
+{
+    match shown {
+        TypeShown::Heads => show_heads_of(alloc, sound, id, out),
+        TypeShown::State => show_state_of(alloc, sound, id, out),
+    }
 }
 
 fn show_heads_of(
@@ -55,12 +80,6 @@ fn show_head(alloc: Global, types: &Types, head: &Head, out: &mut Vec<u8>) -> Re
     type_text(alloc, types, head.rest, out)?;
     out.push(b'\n')?;
     Ok(())
-}
-
-/// `state_type TYPE`: what the type's state stands for.
-pub fn show_state_type(call: &Call<'_>, out: &mut Vec<u8>) -> Result<(), CallError> {
-    let (mut sound, id) = type_of(call, 0)?;
-    show_state_of(call.alloc, &mut sound, id, out)
 }
 
 fn show_state_of(
@@ -113,8 +132,20 @@ fn show_state(
 pub fn show_inhabitant(call: &Call<'_>, out: &mut Vec<u8>) -> Result<(), CallError> {
     let (auto, state) = state_of(call, 0)?;
     let mut store = Store::new(call.alloc);
-    match inhabitant(call.alloc, &auto, state, &mut store)? {
-        Some(seq) => write_document(call.alloc, &store, seq, out)?,
+    show_inhabitant_of(call.alloc, &auto, state, &mut store, out)
+}
+
+fn show_inhabitant_of(
+    alloc: Global,
+    auto: &Auto,
+    state: State,
+    store: &mut Store,
+    out: &mut Vec<u8>,
+) -> Result<(), CallError>
+    requires { IsState auto.now state }
+{
+    match inhabitant(alloc, auto, state, store)? {
+        Some(seq) => write_document(alloc, store, seq, out)?,
         None => out.extend_from_slice(b"none\n")?,
     }
     Ok(())

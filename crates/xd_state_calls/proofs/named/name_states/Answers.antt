@@ -1,16 +1,9 @@
+use Rattle.std.proofs.Common.{subst, sym}
+use Rattle.xd_heads.specs.Mirrors.{Mirrors}
 use Rattle.xd_state_calls.proofs.named.name_states.Goals as goal
 
-pub loop-name-init : goal.loop-name-init
-loop-name-init c = record {
-  mirrors = c.requires;
-  states = rw c.new-states.ensures.items tt;
-}
+pub name_each-requires-clause-mirrors : goal.name_each-requires-clause-mirrors
+name_each-requires-clause-mirrors c = subst (Mirrors c.args.sound.now c.new-cells.result) (sym c.requires) (c.new-cells.ensures.mirrors c.args.sound.now)
 
-pub name_state-requires-clause-mirrors : goal.name_state-requires-clause-mirrors
-name_state-requires-clause-mirrors c = c.loop-name.invariant.mirrors
-
-pub name_state-requires-clause-states : goal.name_state-requires-clause-states
-name_state-requires-clause-states c = c.loop-name.invariant.states
-
-pub returns : goal.returns
-returns c = c.loop-name.invariant.states
+pub name_each-requires-clause-states : goal.name_each-requires-clause-states
+name_each-requires-clause-states c = rw c.new-states.ensures.items tt

@@ -2,7 +2,7 @@ use Rattle.std.specs.List.{AllByRecursion}
 use Rattle.xd_auto.specs.Automaton.{IsState}
 use Rattle.xd_heads.specs.Mirrors.{Mirrors}
 use Rattle.xd_state_calls.specs.declared.named.Named.{Named}
-use Rattle.xd_state_calls.proofs.named.name_states.Given as goal
+use Rattle.xd_state_calls.proofs.named.name_each.Given as goal
 
 abbrev pub invariant-loop-name : goal.invariant-loop-name
 invariant-loop-name l = record {
