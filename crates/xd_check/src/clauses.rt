@@ -12,7 +12,7 @@ ghost use Rattle.xd_clauses.specs.Clauses.{Accepted, IsPatternOf};
 ghost use Rattle.xd_check.specs.FoundLines.{AddsLines};
 ghost use Rattle.xd_check.specs.InScope.{given_variables};
 ghost use Rattle.xd_check.specs.Known.{IsKnown};
-ghost use Rattle.xd_check.specs.Walked.{Grows};
+ghost use Rattle.xd_check.specs.Walked.{Grows, with_found};
 
 use crate::known::Known;
 use crate::lines::{Finding, FoundLine};
@@ -40,21 +40,27 @@ pub(crate) fn bring_in(givens: Vec<Given>, variables: &mut Variables) -> Result<
 }
 
 /// A state for what goes on to the next clause: what the pattern doesn't take, where a state was found since the clause is live.
-/// A dead clause takes nothing, so all that came to it goes on, as the state that it was.
+/// A dead clause takes nothing, so all that came to it goes on, as the state that it was. The state that was found is put behind
+/// the others.
 pub(crate) fn pass_on(
     alloc: Global,
     pattern: &ClausePattern,
     found: Option<State>,
     auto: &mut Auto,
     arriving: State,
+    states: &mut Vec<State>,
 ) -> Result<State, NoMemory>
     requires { IsState auto.old arriving }
     ensures belongs { IfOk result (IsState auto.new) }
     ensures exact { IfOk result (λ left. (E : Definitions) (P : PlacedTree) → IsPatternOf E (unplaced P) pattern.now → (d : Document) → Accepted auto.new left d ↔ (Accepted auto.old arriving d × (found ≢ None → Takes E (unplaced P) d → ⊥))) }
     ensures grows { OnOk result (Grows auto.old auto.new) }
+    ensures states { OnOk result (states.new.items ≡ with_found states.old.items found) }
 {
     match found {
-        Some(_) => Ok(pattern.pass(alloc, auto, arriving)?),
+        Some(state) => {
+            states.push(state)?;
+            Ok(pattern.pass(alloc, auto, arriving)?)
+        }
         None => Ok(arriving),
     }
 }

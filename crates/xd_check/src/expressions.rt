@@ -22,7 +22,7 @@ ghost use Rattle.xd_check.specs.InScope.{AreStates, ScopeStands};
 ghost use Rattle.xd_check.specs.Known.{IsKnown};
 ghost use Rattle.xd_check.specs.Signed.{AreParameters};
 ghost use Rattle.xd_check.specs.Ready.{CanBeWalked, ClauseCanBeWalked, IsReady, expr_at};
-ghost use Rattle.xd_check.specs.Walked.{AreClausesWalked, ArePartsWalked, ComesBehind, Grows, IsClauseWalked, IsWalked, LinesOfArgument, with_found};
+ghost use Rattle.xd_check.specs.Walked.{AreClausesWalked, ArePartsWalked, ComesBehind, Grows, IsClauseWalked, IsWalked, LinesOfArgument};
 
 use crate::checker::Checker;
 use crate::clauses::{bring_in, pass_on, see_uncovered};
@@ -252,8 +252,7 @@ impl Checker {
             let found = self.in_clause(
                 *clause, &pattern, arriving, variables, auto, known, lines, store,
             )?;
-            let left = pass_on(self.alloc, &pattern, found, auto, arriving)?;
-            push_found(found, &mut states)?;
+            let left = pass_on(self.alloc, &pattern, found, auto, arriving, &mut states)?;
             arriving = left;
         }
         see_uncovered(self.alloc, place, auto, arriving, known, lines, store)?;
@@ -301,14 +300,4 @@ impl Checker {
         variables.truncate(before);
         Ok(Some(state))
     }
-}
-
-/// One more state, if one was found.
-fn push_found(found: Option<State>, states: &mut Vec<State>) -> Result<(), NoMemory>
-    ensures { OnOk result (states.new.items ≡ with_found states.old.items found) }
-{
-    if let Some(state) = found {
-        states.push(state)?;
-    }
-    Ok(())
 }

@@ -1,14 +1,15 @@
 //! The check of a program.
 
-ghost use Rattle.std.specs.Prelude.{IfOk};
+ghost use Rattle.std.specs.Prelude.{◌≡◌, [], IfOk};
 ghost use Rattle.xd_doc.specs.Stored.{Keeps};
 ghost use Rattle.xd_syntax.specs.Kept.{program_tree};
+ghost use Rattle.xd_check.specs.Known.{IsKnown};
 ghost use Rattle.xd_check.specs.Outcome.{AreTold, IsOutcome};
 ghost use Rattle.xd_check.specs.Ready.{IsReady};
 
 use crate::checker::Checker;
 use crate::known::Known;
-use crate::lines::{Told, sort_lines, tell};
+use crate::lines::{FoundLine, Told, sort_lines, tell};
 use std::alloc::Global;
 use xd_auto::Auto;
 use xd_doc::{NoMemory, Store};
@@ -65,8 +66,25 @@ fn told_by(
 {
     let mut lines = Vec::new(alloc);
     let mut known = Known::new(alloc, auto, store);
-    checker.in_functions(auto, &mut known, &mut lines, store)?;
-    sort_lines(&mut lines)?;
-    let told = tell(alloc, &lines)?;
+    tell_all(checker, auto, &mut known, &mut lines, store)
+}
+
+/// The same where no line was found yet.
+fn tell_all(
+    checker: &Checker,
+    auto: &mut Auto,
+    known: &mut Known,
+    lines: &mut Vec<FoundLine>,
+    store: &mut Store,
+) -> Result<Told, NoMemory>
+    requires ready { IsReady checker.now auto.old }
+    requires known { IsKnown auto.old store.old known.old }
+    requires lines { lines.old.items ≡ [] }
+    ensures told { IfOk result (AreTold (program_tree checker.now.sound) store.new) }
+    ensures keeps { Keeps store.old store.new }
+{
+    checker.in_functions(auto, known, lines, store)?;
+    sort_lines(lines)?;
+    let told = tell(checker.alloc, lines)?;
     Ok(told)
 }

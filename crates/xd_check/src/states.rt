@@ -1,8 +1,10 @@
 //! States for what expressions may be.
 
-ghost use Rattle.std.specs.Prelude.{◌≡◌, ◌↔◌, None, Ok, true, IfOk, OnOk};
+ghost use Rattle.std.specs.Prelude.{◌≡◌, ◌↔◌, ℕ, List, nat_eq, None, Ok, true, IfOk, OnOk};
+ghost use Rattle.std.specs.Cmp.Lexicographic.{pointwise};
 ghost use Rattle.std.specs.List.{AllByRecursion};
 ghost use Rattle.std.specs.Option.{IfSome};
+ghost use Rattle.xd_doc.specs.Classes.{class_has};
 ghost use Rattle.xd_doc.specs.Document.{Document, empty, text};
 ghost use Rattle.xd_doc.specs.Stored.{BelongsTo, Keeps, document_at};
 ghost use Rattle.xd_auto.specs.Automaton.{IsState, accepts};
@@ -17,6 +19,16 @@ use xd_auto::{Auto, State};
 use xd_doc::{Label, NoMemory, Seq, Store, Text, Words};
 use xd_goals::{Verdict, decide};
 
+/// The class of one text alone.
+fn one_text(alloc: Global, characters: &Text) -> Result<Words, NoMemory>
+    ensures { IfOk result (λ words. (t : List ℕ) → class_has words t ≡ pointwise nat_eq characters.now t) }
+{
+    let mut texts = Vec::new(alloc);
+    texts.push(characters.share()?)?;
+    let words = Words::new(alloc, texts, false)?;
+    Ok(words)
+}
+
 /// A state that accepts one text alone.
 pub(crate) fn text_state(
     alloc: Global,
@@ -28,11 +40,9 @@ pub(crate) fn text_state(
     ensures grows { OnOk result (Grows auto.old auto.new) }
 {
     let _states = auto.len();
-    let mut texts = Vec::new(alloc);
-    texts.push(characters.share()?)?;
-    let words = Words::new(alloc, texts, false)?;
     let end = auto.add_state(true)?;
     let start = auto.add_state(false)?;
+    let words = one_text(alloc, characters)?;
     auto.add_text_move(start, words, end)?;
     Ok(start)
 }

@@ -1,5 +1,4 @@
-use Rattle.std.proofs.Common.{◌≡◌, [], ◌∷◌, ◌++◌, ap, ◌∙◌}
-use Rattle.xd_check.proofs.Making.{IsTextMade, made_grows, made_law, one_class}
+use Rattle.xd_check.proofs.Making.{IsTextMade, made_grows, made_law}
 use Rattle.xd_check.proofs.states.text_state.Goals as goal
 use Rattle.xd_check.proofs.states.text_state.Goals.{In_ok-add_text_move}
 
@@ -16,10 +15,7 @@ made c = record {
 }
 
 pub returns-clause-accepts : goal.returns-clause-accepts
-returns-clause-accepts c =
-    let texts : c.push.new.self.items ≡ c.args.characters.now ∷ [] =
-    c.in_ok-push.ensures.items ∙ ap (λ ts. ts ++ c.in_ok-share.field-0 ∷ []) c.new-texts.ensures.items ∙ ap (λ t. t ∷ []) c.in_ok-share.ensures in
-    made_law _ _ _ _ _ _ _ (made c) c.args.characters.now (one_class c.in_ok-words.words c.args.characters.now c.push.new.self.items texts c.in_ok-words.ensures.except c.in_ok-words.ensures.texts)
+returns-clause-accepts c = made_law _ _ _ _ _ _ _ (made c) c.args.characters.now c.in_ok-words.ensures
 
 pub returns-clause-grows : goal.returns-clause-grows
 returns-clause-grows c = made_grows _ _ _ _ _ _ _ (made c) c.len-states.ensures.closed

@@ -1,6 +1,7 @@
 use Rattle.std.proofs.Common.{◌≡◌, ◌↔◌, ℕ, ◌+◌, ◌-◌, ◌*◌, ◌<◌, arith, true, false, Ok, None, List, [], ◌∷◌, map, length, get_or, drop, ap, sym, subst, ◌∙◌}
 use Rattle.std.specs.List.{AllByRecursion}
 use Rattle.std.proofs.lemmas.List.{drop_all, get_or_default}
+use Rattle.std.proofs.lemmas.Result.{IfOk-from_err}
 use Rattle.xd_base.specs.declared.Place.{Place}
 use Rattle.xd_auto.specs.declared.auto.State.{State}
 use Rattle.xd_auto.specs.Automaton.{IsState, accepts}
@@ -346,9 +347,6 @@ in_expression-returns-in_ok-in_clauses-in-Match-clause-grows t c =
 pub in_expression-returns-in_ok-in_clauses-in-Match-clause-keeps : goal.in_expression-returns-in_ok-in_clauses-in-Match-clause-keeps
 in_expression-returns-in_ok-in_clauses-in-Match-clause-keeps t c = keeps_then c.args.store.now c.in_expression-in-Match.new.store c.in_clauses.new.store c.in_ok-value-in-Match.ensures.keeps c.in_clauses.ensures.keeps
 
-pub in_expression-returns-in_err-in_clauses-in-Match-clause-keeps : goal.in_expression-returns-in_err-in_clauses-in-Match-clause-keeps
-in_expression-returns-in_err-in_clauses-in-Match-clause-keeps t c = keeps_then c.args.store.now c.in_expression-in-Match.new.store c.in_clauses.new.store c.in_ok-value-in-Match.ensures.keeps c.in_clauses.ensures.keeps
-
 pub in_expression-returns-in_ok-add_state-in-Empty-clause-known : goal.in_expression-returns-in_ok-add_state-in-Empty-clause-known
 in_expression-returns-in_ok-add_state-in-Empty-clause-known t c =
     let e = c.in_ok-add_state-in-Empty.ensures in
@@ -459,8 +457,8 @@ in_clauses-loop-clause-preserved t c =
     let made : IsPatternOf (names_of (program_tree p)) (unplaced Q) c.in_ok-pattern.pattern = subst (λ T. IsPatternOf (names_of (program_tree p)) T c.in_ok-pattern.pattern) (sym (unplaced_at p.patterns (k.pattern).at)) c.in_ok-pattern.ensures in
     record {
       walk = clauses_loop_more p c.args.place c.args.auto.now c.loop-clause.auto' c.in_clause.new.auto c.pass_on.new.auto c.args.variables.now c.loop-clause.variables c.in_clause.new.variables c.args.store.now c.loop-clause.store c.in_clause.new.store
-          c.args.lines.now.items c.loop-clause.lines.items c.in_clause.new.lines.items c.args.clauses.now n c.loop-clause.states.items c.push_found.new.states.items c.args.arriving c.loop-clause.arriving c.in_ok-left.left k c.in_ok-found.found
-          c.requires.variables c.loop-clause.invariant.walk c.loop-clause-test.true (get_or_default c.args.clauses.now n none k c.loop-clause-test.true) f.walked f.variables f.grows w.grows f.keeps c.in_ok-push_found.ensures f.belongs
+          c.args.lines.now.items c.loop-clause.lines.items c.in_clause.new.lines.items c.args.clauses.now n c.loop-clause.states.items c.pass_on.new.states.items c.args.arriving c.loop-clause.arriving c.in_ok-left.left k c.in_ok-found.found
+          c.requires.variables c.loop-clause.invariant.walk c.loop-clause-test.true (get_or_default c.args.clauses.now n none k c.loop-clause-test.true) f.walked f.variables f.grows w.grows f.keeps c.in_ok-left.ensures.states f.belongs
           w.belongs (w.exact (names_of (program_tree p)) Q made);
       known = known_kept c.in_clause.new.auto c.pass_on.new.auto c.in_clause.new.store c.in_clause.new.store c.in_clause.new.known w.grows (keeps_same c.in_clause.new.store) f.known;
     }
@@ -562,9 +560,6 @@ in_clause-returns-clause-grows t c =
 pub in_clause-returns-clause-keeps : goal.in_clause-returns-clause-keeps
 in_clause-returns-clause-keeps t c = keeps_then c.args.store.now c.bindings.new.store c.in_expression.new.store c.in_ok-found.ensures.keeps c.in_ok-state.ensures.keeps
 
-pub in_clause-returns-in_err-state-clause-keeps : goal.in_clause-returns-in_err-state-clause-keeps
-in_clause-returns-in_err-state-clause-keeps t c = keeps_then c.args.store.now c.bindings.new.store c.in_expression.new.store c.in_ok-found.ensures.keeps c.in_expression.ensures.keeps
-
 pub in_call-in_arguments-requires : goal.in_call-in_arguments-requires
 in_call-in_arguments-requires t c =
     let P : ProgramTree = program_tree c.args.self.now.sound in
@@ -625,39 +620,164 @@ in_call-returns-in_ok-add_state-in-None-clause-grows t c =
     let e = c.in_ok-add_state-in-None.ensures in
     grows_then c.args.auto.now c.in_arguments-in-None.new.auto c.add_state.new.self c.in_ok-in_arguments-in-None.ensures.grows (record { extends = e.extends; keeps = e.keeps })
 
-pub in_parts-returns-in_err-state-clause-keeps : goal.in_parts-returns-in_err-state-clause-keeps
-in_parts-returns-in_err-state-clause-keeps t c = keeps_then c.args.store.now c.loop-part.store c.in_expression.new.store c.loop-part.invariant.walk.stays.keeps c.in_expression.ensures.keeps
-
-pub in_parts-returns-in_err-push-clause-keeps : goal.in_parts-returns-in_err-push-clause-keeps
-in_parts-returns-in_err-push-clause-keeps t c = keeps_then c.args.store.now c.loop-part.store c.in_expression.new.store c.loop-part.invariant.walk.stays.keeps c.in_expression.ensures.keeps
-
-pub in_arguments-returns-in_err-state-clause-keeps : goal.in_arguments-returns-in_err-state-clause-keeps
-in_arguments-returns-in_err-state-clause-keeps t c = keeps_then c.args.store.now c.loop-number.store c.in_expression.new.store c.loop-number.invariant.walk.stays.keeps c.in_expression.ensures.keeps
-
-pub in_clauses-returns-in_err-found-clause-keeps : goal.in_clauses-returns-in_err-found-clause-keeps
-in_clauses-returns-in_err-found-clause-keeps t c = keeps_then c.args.store.now c.loop-clause.store c.in_clause.new.store c.loop-clause.invariant.walk.stays.keeps c.in_clause.ensures.keeps
-
-pub in_clauses-returns-in_err-push_found-clause-keeps : goal.in_clauses-returns-in_err-push_found-clause-keeps
-in_clauses-returns-in_err-push_found-clause-keeps t c = keeps_then c.args.store.now c.loop-clause.store c.in_clause.new.store c.loop-clause.invariant.walk.stays.keeps c.in_clause.ensures.keeps
-
-pub in_clauses-returns-in_err-left-clause-keeps : goal.in_clauses-returns-in_err-left-clause-keeps
-in_clauses-returns-in_err-left-clause-keeps t c = keeps_then c.args.store.now c.loop-clause.store c.in_clause.new.store c.loop-clause.invariant.walk.stays.keeps c.in_clause.ensures.keeps
-
-pub in_clauses-returns-in_err-see_uncovered-clause-keeps : goal.in_clauses-returns-in_err-see_uncovered-clause-keeps
-in_clauses-returns-in_err-see_uncovered-clause-keeps t c = keeps_then c.args.store.now c.loop-clause.store c.see_uncovered.new.store c.loop-clause.invariant.walk.stays.keeps c.see_uncovered.ensures.keeps
-
-pub in_clauses-returns-in_err-unite_states-clause-keeps : goal.in_clauses-returns-in_err-unite_states-clause-keeps
-in_clauses-returns-in_err-unite_states-clause-keeps t c = keeps_then c.args.store.now c.loop-clause.store c.see_uncovered.new.store c.loop-clause.invariant.walk.stays.keeps c.see_uncovered.ensures.keeps
-
-pub in_arguments-returns-in_err-see_argument-clause-keeps : goal.in_arguments-returns-in_err-see_argument-clause-keeps
-in_arguments-returns-in_err-see_argument-clause-keeps t c =
-    keeps_then c.args.store.now c.loop-number.store c.see_argument.new.store c.loop-number.invariant.walk.stays.keeps (keeps_then c.loop-number.store c.in_expression.new.store c.see_argument.new.store c.in_expression.ensures.keeps c.see_argument.ensures.keeps)
-
-pub in_clauses-returns-in_err-pattern-clause-keeps : goal.in_clauses-returns-in_err-pattern-clause-keeps
-in_clauses-returns-in_err-pattern-clause-keeps t c = c.loop-clause.invariant.walk.stays.keeps
-
 pub in_clauses-returns-clause-grows : goal.in_clauses-returns-clause-grows
 in_clauses-returns-clause-grows t c = grows_then c.args.auto.now c.loop-clause.auto' c.unite_states.new.auto c.loop-clause.invariant.walk.stays.grows c.in_ok-unite_states.ensures.grows
 
 pub in_clauses-returns-clause-keeps : goal.in_clauses-returns-clause-keeps
 in_clauses-returns-clause-keeps t c = keeps_then c.args.store.now c.loop-clause.store c.see_uncovered.new.store c.loop-clause.invariant.walk.stays.keeps c.in_ok-see_uncovered.ensures.keeps
+
+pub in_expression-returns-in_err-in_clauses-in-Match : goal.in_expression-returns-in_err-in_clauses-in-Match
+in_expression-returns-in_err-in_clauses-in-Match t c =
+    let e = c.from_residual-in_err-in_clauses-in-Match.ensures.0 in
+    let r = c.from_residual-in_err-in_clauses-in-Match.result in
+    record { belongs = IfOk-from_err r _ e; walked = IfOk-from_err r _ e; variables = IfOk-from_err r _ e; grows = IfOk-from_err r _ e; known = IfOk-from_err r _ e; keeps = keeps_then c.args.store.now c.in_expression-in-Match.new.store c.in_clauses.new.store c.in_ok-value-in-Match.ensures.keeps c.in_clauses.ensures.keeps }
+
+pub in_clause-returns-in_err-state : goal.in_clause-returns-in_err-state
+in_clause-returns-in_err-state t c =
+    let e = c.from_residual-in_err-state.ensures.0 in
+    let r = c.from_residual-in_err-state.result in
+    record { belongs = IfOk-from_err r _ e; walked = IfOk-from_err r _ e; variables = IfOk-from_err r _ e; grows = IfOk-from_err r _ e; known = IfOk-from_err r _ e; keeps = keeps_then c.args.store.now c.bindings.new.store c.in_expression.new.store c.in_ok-found.ensures.keeps c.in_expression.ensures.keeps }
+
+pub in_parts-returns-in_err-state : goal.in_parts-returns-in_err-state
+in_parts-returns-in_err-state t c =
+    let e = c.from_residual.ensures.0 in
+    let r = c.from_residual.result in
+    record { belong = IfOk-from_err r _ e; walked = IfOk-from_err r _ e; variables = IfOk-from_err r _ e; grows = IfOk-from_err r _ e; known = IfOk-from_err r _ e; keeps = keeps_then c.args.store.now c.loop-part.store c.in_expression.new.store c.loop-part.invariant.walk.stays.keeps c.in_expression.ensures.keeps }
+
+pub in_parts-returns-in_err-push : goal.in_parts-returns-in_err-push
+in_parts-returns-in_err-push t c =
+    let e = c.from_residual-in_err-push.ensures.0 in
+    let r = c.from_residual-in_err-push.result in
+    record { belong = IfOk-from_err r _ e; walked = IfOk-from_err r _ e; variables = IfOk-from_err r _ e; grows = IfOk-from_err r _ e; known = IfOk-from_err r _ e; keeps = keeps_then c.args.store.now c.loop-part.store c.in_expression.new.store c.loop-part.invariant.walk.stays.keeps c.in_expression.ensures.keeps }
+
+pub in_arguments-returns-in_err-state : goal.in_arguments-returns-in_err-state
+in_arguments-returns-in_err-state t c =
+    let e = c.from_residual.ensures.0 in
+    let r = c.from_residual.result in
+    record { lines = IfOk-from_err r _ e; variables = IfOk-from_err r _ e; grows = IfOk-from_err r _ e; known = IfOk-from_err r _ e; keeps = keeps_then c.args.store.now c.loop-number.store c.in_expression.new.store c.loop-number.invariant.walk.stays.keeps c.in_expression.ensures.keeps }
+
+pub in_clauses-returns-in_err-found : goal.in_clauses-returns-in_err-found
+in_clauses-returns-in_err-found t c =
+    let e = c.from_residual-in_err-found.ensures.0 in
+    let r = c.from_residual-in_err-found.result in
+    record { belongs = IfOk-from_err r _ e; walked = IfOk-from_err r _ e; variables = IfOk-from_err r _ e; grows = IfOk-from_err r _ e; known = IfOk-from_err r _ e; keeps = keeps_then c.args.store.now c.loop-clause.store c.in_clause.new.store c.loop-clause.invariant.walk.stays.keeps c.in_clause.ensures.keeps }
+
+pub in_clauses-returns-in_err-left : goal.in_clauses-returns-in_err-left
+in_clauses-returns-in_err-left t c =
+    let e = c.from_residual-in_err-left.ensures.0 in
+    let r = c.from_residual-in_err-left.result in
+    record { belongs = IfOk-from_err r _ e; walked = IfOk-from_err r _ e; variables = IfOk-from_err r _ e; grows = IfOk-from_err r _ e; known = IfOk-from_err r _ e; keeps = keeps_then c.args.store.now c.loop-clause.store c.in_clause.new.store c.loop-clause.invariant.walk.stays.keeps c.in_clause.ensures.keeps }
+
+pub in_clauses-returns-in_err-see_uncovered : goal.in_clauses-returns-in_err-see_uncovered
+in_clauses-returns-in_err-see_uncovered t c =
+    let e = c.from_residual-in_err-see_uncovered.ensures.0 in
+    let r = c.from_residual-in_err-see_uncovered.result in
+    record { belongs = IfOk-from_err r _ e; walked = IfOk-from_err r _ e; variables = IfOk-from_err r _ e; grows = IfOk-from_err r _ e; known = IfOk-from_err r _ e; keeps = keeps_then c.args.store.now c.loop-clause.store c.see_uncovered.new.store c.loop-clause.invariant.walk.stays.keeps c.see_uncovered.ensures.keeps }
+
+pub in_clauses-returns-in_err-unite_states : goal.in_clauses-returns-in_err-unite_states
+in_clauses-returns-in_err-unite_states t c =
+    let e = c.from_residual-in_err-unite_states.ensures.0 in
+    let r = c.from_residual-in_err-unite_states.result in
+    record { belongs = IfOk-from_err r _ e; walked = IfOk-from_err r _ e; variables = IfOk-from_err r _ e; grows = IfOk-from_err r _ e; known = IfOk-from_err r _ e; keeps = keeps_then c.args.store.now c.loop-clause.store c.see_uncovered.new.store c.loop-clause.invariant.walk.stays.keeps c.see_uncovered.ensures.keeps }
+
+pub in_arguments-returns-in_err-see_argument : goal.in_arguments-returns-in_err-see_argument
+in_arguments-returns-in_err-see_argument t c =
+    let e = c.from_residual-in_err-see_argument.ensures.0 in
+    let r = c.from_residual-in_err-see_argument.result in
+    record { lines = IfOk-from_err r _ e; variables = IfOk-from_err r _ e; grows = IfOk-from_err r _ e; known = IfOk-from_err r _ e; keeps = keeps_then c.args.store.now c.loop-number.store c.see_argument.new.store c.loop-number.invariant.walk.stays.keeps (keeps_then c.loop-number.store c.in_expression.new.store c.see_argument.new.store c.in_expression.ensures.keeps c.see_argument.ensures.keeps) }
+
+pub in_clauses-returns-in_err-pattern : goal.in_clauses-returns-in_err-pattern
+in_clauses-returns-in_err-pattern t c =
+    let e = c.from_residual.ensures.0 in
+    let r = c.from_residual.result in
+    record { belongs = IfOk-from_err r _ e; walked = IfOk-from_err r _ e; variables = IfOk-from_err r _ e; grows = IfOk-from_err r _ e; known = IfOk-from_err r _ e; keeps = c.loop-clause.invariant.walk.stays.keeps }
+
+pub in_expression-returns-in_err-add_state-in-Empty : goal.in_expression-returns-in_err-add_state-in-Empty
+in_expression-returns-in_err-add_state-in-Empty t c =
+    let e = c.from_residual.ensures.0 in
+    let r = c.from_residual.result in
+    record { belongs = IfOk-from_err r _ e; walked = IfOk-from_err r _ e; variables = IfOk-from_err r _ e; grows = IfOk-from_err r _ e; known = IfOk-from_err r _ e; keeps = keeps_same c.args.store.now }
+
+pub in_expression-returns-in_err-text_state-in-Text : goal.in_expression-returns-in_err-text_state-in-Text
+in_expression-returns-in_err-text_state-in-Text t c =
+    let e = c.from_residual-in_err-text_state-in-Text.ensures.0 in
+    let r = c.from_residual-in_err-text_state-in-Text.result in
+    record { belongs = IfOk-from_err r _ e; walked = IfOk-from_err r _ e; variables = IfOk-from_err r _ e; grows = IfOk-from_err r _ e; known = IfOk-from_err r _ e; keeps = keeps_same c.args.store.now }
+
+pub in_expression-returns-in_err-variable_state-in-Var : goal.in_expression-returns-in_err-variable_state-in-Var
+in_expression-returns-in_err-variable_state-in-Var t c =
+    let e = c.from_residual-in_err-variable_state-in-Var.ensures.0 in
+    let r = c.from_residual-in_err-variable_state-in-Var.result in
+    record { belongs = IfOk-from_err r _ e; walked = IfOk-from_err r _ e; variables = IfOk-from_err r _ e; grows = IfOk-from_err r _ e; known = IfOk-from_err r _ e; keeps = keeps_same c.args.store.now }
+
+pub in_expression-returns-in_err-inside-in-Elem : goal.in_expression-returns-in_err-inside-in-Elem
+in_expression-returns-in_err-inside-in-Elem t c =
+    let e = c.from_residual-in_err-inside-in-Elem.ensures.0 in
+    let r = c.from_residual-in_err-inside-in-Elem.result in
+    record { belongs = IfOk-from_err r _ e; walked = IfOk-from_err r _ e; variables = IfOk-from_err r _ e; grows = IfOk-from_err r _ e; known = IfOk-from_err r _ e; keeps = c.in_expression.ensures.keeps }
+
+pub in_expression-returns-in_err-wrap-in-Elem : goal.in_expression-returns-in_err-wrap-in-Elem
+in_expression-returns-in_err-wrap-in-Elem t c =
+    let e = c.from_residual-in_err-wrap-in-Elem.ensures.0 in
+    let r = c.from_residual-in_err-wrap-in-Elem.result in
+    record { belongs = IfOk-from_err r _ e; walked = IfOk-from_err r _ e; variables = IfOk-from_err r _ e; grows = IfOk-from_err r _ e; known = IfOk-from_err r _ e; keeps = c.in_expression.ensures.keeps }
+
+pub in_expression-returns-in_err-states-in-Seq : goal.in_expression-returns-in_err-states-in-Seq
+in_expression-returns-in_err-states-in-Seq t c =
+    let e = c.from_residual-in_err-states-in-Seq.ensures.0 in
+    let r = c.from_residual-in_err-states-in-Seq.result in
+    record { belongs = IfOk-from_err r _ e; walked = IfOk-from_err r _ e; variables = IfOk-from_err r _ e; grows = IfOk-from_err r _ e; known = IfOk-from_err r _ e; keeps = c.in_parts.ensures.keeps }
+
+pub in_expression-returns-in_err-join_states-in-Seq : goal.in_expression-returns-in_err-join_states-in-Seq
+in_expression-returns-in_err-join_states-in-Seq t c =
+    let e = c.from_residual-in_err-join_states-in-Seq.ensures.0 in
+    let r = c.from_residual-in_err-join_states-in-Seq.result in
+    record { belongs = IfOk-from_err r _ e; walked = IfOk-from_err r _ e; variables = IfOk-from_err r _ e; grows = IfOk-from_err r _ e; known = IfOk-from_err r _ e; keeps = c.in_parts.ensures.keeps }
+
+pub in_expression-returns-in_err-in_call-in-Call : goal.in_expression-returns-in_err-in_call-in-Call
+in_expression-returns-in_err-in_call-in-Call t c =
+    let e = c.from_residual-in_err-in_call-in-Call.ensures.0 in
+    let r = c.from_residual-in_err-in_call-in-Call.result in
+    record { belongs = IfOk-from_err r _ e; walked = IfOk-from_err r _ e; variables = IfOk-from_err r _ e; grows = IfOk-from_err r _ e; known = IfOk-from_err r _ e; keeps = c.in_call.ensures.keeps }
+
+pub in_expression-returns-in_err-value-in-Match : goal.in_expression-returns-in_err-value-in-Match
+in_expression-returns-in_err-value-in-Match t c =
+    let e = c.from_residual-in_err-value-in-Match.ensures.0 in
+    let r = c.from_residual-in_err-value-in-Match.result in
+    record { belongs = IfOk-from_err r _ e; walked = IfOk-from_err r _ e; variables = IfOk-from_err r _ e; grows = IfOk-from_err r _ e; known = IfOk-from_err r _ e; keeps = c.in_expression-in-Match.ensures.keeps }
+
+pub in_clause-returns-in_err-found : goal.in_clause-returns-in_err-found
+in_clause-returns-in_err-found t c =
+    let e = c.from_residual.ensures.0 in
+    let r = c.from_residual.result in
+    record { belongs = IfOk-from_err r _ e; walked = IfOk-from_err r _ e; variables = IfOk-from_err r _ e; grows = IfOk-from_err r _ e; known = IfOk-from_err r _ e; keeps = c.bindings.ensures.keeps }
+
+pub in_clause-returns-in_err-push : goal.in_clause-returns-in_err-push
+in_clause-returns-in_err-push t c =
+    let e = c.from_residual-in_err-push.ensures.0 in
+    let r = c.from_residual-in_err-push.result in
+    record { belongs = IfOk-from_err r _ e; walked = IfOk-from_err r _ e; variables = IfOk-from_err r _ e; grows = IfOk-from_err r _ e; known = IfOk-from_err r _ e; keeps = c.bindings.ensures.keeps }
+
+pub in_clause-returns-in_err-bring_in : goal.in_clause-returns-in_err-bring_in
+in_clause-returns-in_err-bring_in t c =
+    let e = c.from_residual-in_err-bring_in.ensures.0 in
+    let r = c.from_residual-in_err-bring_in.result in
+    record { belongs = IfOk-from_err r _ e; walked = IfOk-from_err r _ e; variables = IfOk-from_err r _ e; grows = IfOk-from_err r _ e; known = IfOk-from_err r _ e; keeps = c.bindings.ensures.keeps }
+
+pub in_call-returns-in_err-in_arguments-in-Some : goal.in_call-returns-in_err-in_arguments-in-Some
+in_call-returns-in_err-in_arguments-in-Some t c =
+    let e = c.from_residual.ensures.0 in
+    let r = c.from_residual.result in
+    record { belongs = IfOk-from_err r _ e; result = IfOk-from_err r _ e; lines = IfOk-from_err r _ e; variables = IfOk-from_err r _ e; grows = IfOk-from_err r _ e; known = IfOk-from_err r _ e; keeps = c.in_arguments.ensures.keeps }
+
+pub in_call-returns-in_err-in_arguments-in-None : goal.in_call-returns-in_err-in_arguments-in-None
+in_call-returns-in_err-in_arguments-in-None t c =
+    let e = c.from_residual-in_err-in_arguments-in-None.ensures.0 in
+    let r = c.from_residual-in_err-in_arguments-in-None.result in
+    record { belongs = IfOk-from_err r _ e; result = IfOk-from_err r _ e; lines = IfOk-from_err r _ e; variables = IfOk-from_err r _ e; grows = IfOk-from_err r _ e; known = IfOk-from_err r _ e; keeps = c.in_arguments-in-None.ensures.keeps }
+
+pub in_call-returns-in_err-add_state-in-None : goal.in_call-returns-in_err-add_state-in-None
+in_call-returns-in_err-add_state-in-None t c =
+    let e = c.from_residual-in_err-add_state-in-None.ensures.0 in
+    let r = c.from_residual-in_err-add_state-in-None.result in
+    record { belongs = IfOk-from_err r _ e; result = IfOk-from_err r _ e; lines = IfOk-from_err r _ e; variables = IfOk-from_err r _ e; grows = IfOk-from_err r _ e; known = IfOk-from_err r _ e; keeps = c.in_arguments-in-None.ensures.keeps }

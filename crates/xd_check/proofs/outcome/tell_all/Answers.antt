@@ -4,14 +4,14 @@ use Rattle.xd_syntax.specs.Kept.{program_tree}
 use Rattle.xd_check.specs.declared.lines.FoundLine.{FoundLine}
 use Rattle.xd_check.specs.FoundLines.{lines_of}
 use Rattle.xd_check.proofs.Outcomes.{lines_sorted}
-use Rattle.xd_check.proofs.outcome.told_by.Goals as goal
+use Rattle.xd_check.proofs.outcome.tell_all.Goals as goal
 
 pub in_functions-requires : goal.in_functions-requires
-in_functions-requires c = record { ready = c.requires; known = c.new-known.ensures }
+in_functions-requires c = record { ready = c.requires.ready; known = c.requires.known }
 
 pub returns-clause-told : goal.returns-clause-told
 returns-clause-told c =
     let ds : List Document = c.in_functions.new.store in
     let ls : List FoundLine = c.deref.result.now in
-    let s = lines_sorted (program_tree c.args.checker.now.sound) ds c.new-lines.result.items c.in_functions.new.lines.items ls c.new-lines.ensures.items c.in_ok-in_functions.ensures.lines (c.deref.ensures.value ∙ c.in_ok-sort_lines.ensures) in
+    let s = lines_sorted (program_tree c.args.checker.now.sound) ds c.args.lines.now.items c.in_functions.new.lines.items ls c.requires.lines c.in_ok-in_functions.ensures.lines (c.deref.ensures.value ∙ c.in_ok-sort_lines.ensures) in
     (lines_of ds ls, s.lines, c.in_ok-told.ensures.faults ds s.belong, c.in_ok-told.ensures.warnings ds)
