@@ -87,6 +87,30 @@ alt_row is = record {
   below = λ n h. h;
 }
 
+-- a piece whose node is neither a row nor a repetition of at least one turn is the whole node
+module _ (rows : List Row) (p : Piece) (piece : IsPieceOf rows p) (b : Bool) (i : ℕ) (same : i ≡ p.node) (place : Place) (seen : Form) (node : IsNode b rows i place seen) (f : Form) (is : seen ≡ f)
+    (no_rest : (n : ℕ) → HasRest n f → ⊥) (no_turns : HasTurns f → ⊥) where
+  pub whole_seen : part_of rows p ≡ form_tree (tree_at rows) f
+  whole_seen = go p.is_turns p.from (subst (IsFormPart p.is_turns p.from) form_is piece.part)
+    where
+      form_is : form_at rows p.node ≡ f
+      form_is = same_row rows p.node (record { place = place; form = seen }) piece.there (subst (λ n. record { place = place; form = seen } ≡ get_or rows n (record { place = place; form = seen })) same node.row) ∙ is
+
+      go : (s : Bool) (n : ℕ) → IsFormPart s n f → part_from rows s n p.node ≡ form_tree (tree_at rows) f
+      go false zero q = sym (ap (tree_at rows) same) ∙ node.tree ∙ ap (form_tree (tree_at rows)) is
+      go false (suc n) q = absurd (no_rest (suc n) q)
+      go true zero q = absurd (no_turns q)
+      go true (suc n) q = absurd q
+
+  -- with its only part
+  pub part_seen : (G : Tree → Tree) (j marks : ℕ) (q : Piece) → form_tree (tree_at rows) f ≡ G (tree_at rows j) → (PartsBelow i f → j < i) → q ≡ node_piece p.of_pattern j marks
+      → (part_of rows p ≡ G (part_of rows q)) × IsLike rows p.of_pattern marks q
+  part_seen G j marks q tree below e =
+      let lt : j < i = below (subst (PartsBelow i) is node.parts) in
+      let there = piece.there in
+      let h : j < length rows = omega arith in
+      subst (λ (r : Piece). (part_of rows p ≡ G (part_of rows r)) × IsLike rows p.of_pattern marks r) (sym e) (whole_seen ∙ tree, like_node rows p.of_pattern marks j h)
+
 -- a piece whose node is a row: the first part that it has, and the others
 module _ (rows : List Row) (p : Piece) (piece : IsPieceOf rows p) (b : Bool) (i : ℕ) (same : i ≡ p.node) (place : Place) (f : Form) (node : IsNode b rows i place f) (is : List ℕ) (F : List Tree → Tree) (G : Tree → Tree → Tree)
     (row : IsRow f is F G) where

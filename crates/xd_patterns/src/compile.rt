@@ -190,9 +190,50 @@ fn add_moves(
     Ok(made)
 }
 
-/// The moves of all these states, and of those that are made on the way, state by state with their marks.
+/// Adds the moves of all these states, and of those that are made on the way, and puts their marks into a table, state by state.
 ///
 /// In a sound program the lists that come are finitely many.
+fn compile_into(
+    alloc: Global,
+    types: &Types,
+    patterns: &Patterns,
+    defs: &[TypeDef],
+    bodies: &Bodies,
+    base: usize,
+    cells: &mut Cells,
+    marks: &mut Marks,
+    states: &mut IndexSet<usize>,
+    auto: &mut Auto,
+    table: &mut Vec<StateMarks>,
+) -> Result<(), NoMemory>
+    requires guarded { Guarded (meanings types.now defs.now) }
+    requires bodies { AreBodies types.now (meanings types.now defs.now) (node_of bodies.now) }
+    requires count { length auto.old ≡ base + length states.old.keys }
+    requires fresh { (s : State) → base ≤ state_number s → moves_at auto.old s ≡ no_moves false }
+    requires pieces { ArePieces (record { types = types.now; patterns = patterns.now }) marks.old cells.old }
+    requires numbers { AllByRecursion (λ n. n ≤ length cells.old) states.old.keys }
+    requires none { table.old.items ≡ [] }
+    ensures spares { Spares base auto.old auto.new }
+    ensures made { OnOk result (IsCompiling (meanings types.now defs.now) (record { types = types.now; patterns = patterns.now }) marks.old marks.new cells.old cells.new base states.old.keys states.new.keys auto.old auto.new
+        (length states.new.keys) (rows_in table.new.items)) }
+{
+    for done in 0..usize::MAX {
+        let _states = auto.len();
+        if done >= states.len() {
+            return Ok(());
+        }
+        let number = states.as_slice()[done];
+        let from = auto.state(base + done);
+        let made = add_moves(
+            alloc, types, patterns, defs, bodies, number, from, base, cells, marks, states, auto,
+        )?;
+        table.push(made)?;
+    }
+    let _states = states.len();
+    Ok(())
+}
+
+/// The moves of all these states, and of those that are made on the way, state by state with their marks.
 pub(crate) fn compile(
     alloc: Global,
     types: &Types,
@@ -216,18 +257,8 @@ pub(crate) fn compile(
         (length states.new.keys) (rows_in table.items)) }
 {
     let mut table = Vec::new(alloc);
-    for done in 0..usize::MAX {
-        let _states = auto.len();
-        if done >= states.len() {
-            return Ok(table);
-        }
-        let number = states.as_slice()[done];
-        let from = auto.state(base + done);
-        let made = add_moves(
-            alloc, types, patterns, defs, bodies, number, from, base, cells, marks, states, auto,
-        )?;
-        table.push(made)?;
-    }
-    let _states = states.len();
+    compile_into(
+        alloc, types, patterns, defs, bodies, base, cells, marks, states, auto, &mut table,
+    )?;
     Ok(table)
 }

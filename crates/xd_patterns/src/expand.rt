@@ -140,16 +140,19 @@ fn step_view(
         turn: task.turn,
     };
     match view {
-        View::Empty => tasks.push(rest)?,
-        View::Text => keep_item(first, found)?,
-        View::Words(_) => keep_item(first, found)?,
-        View::Elem(_, _) => keep_item(first, found)?,
-        View::Name(name) => push_body(bodies, name, first.item, rest, cells, tasks)?,
-        View::Seq(part, others) => push_row(part, others, rest, cells, tasks)?,
-        View::Plus(part, turns) => push_row(part, turns, rest, cells, tasks)?,
+        View::Empty => {
+            tasks.push(rest)?;
+            Ok(())
+        }
+        View::Text => keep_item(first, found),
+        View::Words(_) => keep_item(first, found),
+        View::Elem(_, _) => keep_item(first, found),
+        View::Name(name) => push_body(bodies, name, first.item, rest, cells, tasks),
+        View::Seq(part, others) => push_row(part, others, rest, cells, tasks),
+        View::Plus(part, turns) => push_row(part, turns, rest, cells, tasks),
         View::Alt(part, others) => {
             push_part(others, rest, cells, tasks)?;
-            push_part(part, rest, cells, tasks)?;
+            push_part(part, rest, cells, tasks)
         }
         View::Star(part) => {
             let turns = Task {
@@ -157,18 +160,17 @@ fn step_view(
                 turn: Some(task.cell),
             };
             tasks.push(rest)?;
-            push_part(part, turns, cells, tasks)?;
+            push_part(part, turns, cells, tasks)
         }
         View::Opt(part) => {
             tasks.push(rest)?;
-            push_part(part, rest, cells, tasks)?;
+            push_part(part, rest, cells, tasks)
         }
         View::Val(part) => {
             let bound = bind(first.item, part, marks)?;
-            push_part(bound, rest, cells, tasks)?;
+            push_part(bound, rest, cells, tasks)
         }
     }
-    Ok(())
 }
 
 /// The item of the first piece of a list, with what stands behind it.
@@ -299,6 +301,40 @@ fn visit(
     Ok(())
 }
 
+/// Goes through the tasks that begin with a list of pieces, one after another, until none is left.
+fn expand_all(
+    types: &Types,
+    patterns: &Patterns,
+    defs: &[TypeDef],
+    bodies: &Bodies,
+    number: usize,
+    cells: &mut Cells,
+    marks: &mut Marks,
+    tasks: &mut Vec<Task>,
+    found: &mut IndexSet<Found>,
+    seen: &mut IndexSet<Task>,
+) -> Result<(), NoMemory>
+    requires guarded { Guarded (meanings types.now defs.now) }
+    requires bodies { AreBodies types.now (meanings types.now defs.now) (node_of bodies.now) }
+    requires pieces { ArePieces (record { types = types.now; patterns = patterns.now }) marks.old cells.old }
+    requires number { number ≤ length cells.old }
+    requires none_waiting { tasks.old.items ≡ [] }
+    requires none_found { found.old.keys ≡ [] }
+    requires none_seen { seen.old.keys ≡ [] }
+    ensures { OnOk result (AreFound (meanings types.now defs.now) (record { types = types.now; patterns = patterns.now }) marks.old marks.new cells.old cells.new number found.new.keys) }
+{
+    tasks.push(Task {
+        cell: number,
+        turn: None,
+    })?;
+    while let Some(task) = tasks.pop() {
+        visit(
+            types, patterns, defs, bodies, task, cells, marks, tasks, found, seen,
+        )?;
+    }
+    Ok(())
+}
+
 /// All that can come next in a list of pieces, each once, in order of preference.
 ///
 /// A part of a pattern that comes again in the same place with the same marks, as by a name in two alternatives, is gone
@@ -322,14 +358,8 @@ pub(crate) fn expand(
     let mut tasks = Vec::new(alloc);
     let mut found = IndexSet::new(alloc);
     let mut seen = IndexSet::new(alloc);
-    tasks.push(Task {
-        cell: number,
-        turn: None,
-    })?;
-    while let Some(task) = tasks.pop() {
-        visit(
-            types, patterns, defs, bodies, task, cells, marks, &mut tasks, &mut found, &mut seen,
-        )?;
-    }
+    expand_all(
+        types, patterns, defs, bodies, number, cells, marks, &mut tasks, &mut found, &mut seen,
+    )?;
     Ok(found)
 }

@@ -99,6 +99,48 @@ impl Marked {
     }
 }
 
+/// The same with lists of binders, of which there are none at first.
+fn compile_marked(
+    alloc: Global,
+    types: &Types,
+    patterns: &Patterns,
+    defs: &[TypeDef],
+    bodies: &Bodies,
+    pattern: PatternId,
+    marks: &mut Marks,
+    auto: &mut Auto,
+) -> Result<Marked, NoMemory>
+    requires guarded { Guarded (meanings types.now defs.now) }
+    requires none { BindNothing (meanings types.now defs.now) }
+    requires bodies { AreBodies types.now (meanings types.now defs.now) (node_of bodies.now) }
+    requires pattern { IsPattern patterns.now pattern }
+    requires linear { IsLinear (pattern_tree patterns.now pattern) }
+    requires fresh { marks.old ≡ [] }
+    ensures extends { Extends auto.old auto.new }
+    ensures keeps { KeepsAccepting auto.old auto.new }
+    ensures start { IfOk result (λ marked. IsState auto.new marked.start) }
+    ensures variables { IfOk result (λ marked. variables_in marked ≡ variables_of (pattern_tree patterns.now pattern)) }
+    ensures compiled { IfOk result (λ marked. IsCompiled (meanings types.now defs.now) (pattern_tree patterns.now pattern) auto.new (marking_of marked) marked.start) }
+{
+    let base = auto.len();
+    let piece = Piece {
+        of_pattern: true,
+        node: pattern.at(),
+        from: 0,
+        is_turns: false,
+        marks: 0,
+    };
+    let (start, table) = compile_piece(alloc, types, patterns, defs, bodies, piece, marks, auto)?;
+    let (variables, lists) = variables_and_lists(alloc, patterns, pattern, marks)?;
+    Ok(Marked {
+        start,
+        variables,
+        base,
+        table,
+        lists,
+    })
+}
+
 /// Adds the states of a pattern, whose moves stand in order of preference.
 pub fn compile_pattern(
     alloc: Global,
@@ -120,24 +162,8 @@ pub fn compile_pattern(
     ensures variables { IfOk result (λ marked. variables_in marked ≡ variables_of (pattern_tree patterns.now pattern)) }
     ensures compiled { IfOk result (λ marked. IsCompiled (meanings types.now defs.now) (pattern_tree patterns.now pattern) auto.new (marking_of marked) marked.start) }
 {
-    let base = auto.len();
     let mut marks = Marks::new(alloc);
-    let piece = Piece {
-        of_pattern: true,
-        node: pattern.at(),
-        from: 0,
-        is_turns: false,
-        marks: 0,
-    };
-    let (start, table) = compile_piece(
-        alloc, types, patterns, defs, bodies, piece, &mut marks, auto,
-    )?;
-    let (variables, lists) = variables_and_lists(alloc, patterns, pattern, &marks)?;
-    Ok(Marked {
-        start,
-        variables,
-        base,
-        table,
-        lists,
-    })
+    compile_marked(
+        alloc, types, patterns, defs, bodies, pattern, &mut marks, auto,
+    )
 }

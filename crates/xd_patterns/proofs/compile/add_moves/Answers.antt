@@ -3,7 +3,7 @@ use Rattle.std.proofs.lemmas.List.{take_more, take_all}
 use Rattle.xd_patterns.specs.Tasks.{Tables, StandFound, meanings}
 use Rattle.xd_patterns.specs.Compiling.{IsAdding}
 use Rattle.xd_patterns.specs.declared.expand.Found.{Found}
-use Rattle.xd_patterns.proofs.MoveLemmas.{adding_none, adding_more, makes, numbers_grow, found_at}
+use Rattle.xd_patterns.proofs.MoveLemmas.{adding_none, adding_more, makes, numbers_grow, found_at, still_found}
 use Rattle.xd_patterns.proofs.Sparing.{spares_none, spares_then}
 use Rattle.xd_patterns.proofs.compile.add_moves.Goals as goal
 
@@ -48,3 +48,13 @@ returns-clause-made c =
 
 pub returns-in_err-add_move-clause-spares : goal.returns-in_err-add_move-clause-spares
 returns-in_err-add_move-clause-spares c = spares_then c.args.base c.args.auto.now c.loop-one.auto' c.add_move.new.auto c.loop-one.invariant.1 c.add_move.ensures.spares
+
+pub add_move-requires-clause-found : goal.add_move-requires-clause-found
+unfolding no_found
+add_move-requires-clause-found c =
+    let t : Tables = record { types = c.args.types.now; patterns = c.args.patterns.now } in
+    let fs = c.as_slice-one-items.result.now in
+    let i = c.loop-one.one-index in
+    let stand = subst (StandFound t c.expand.new.marks c.expand.new.cells) (sym c.as_slice-one-items.ensures.keys) c.in_ok-found.ensures.stand in
+    still_found t c.expand.new.marks c.expand.new.cells c.loop-one.cells c.loop-one.invariant.0.grows.adds.cells (get_or fs i no_found)
+    (found_at t c.expand.new.marks c.expand.new.cells fs i no_found stand c.loop-one-test.true)

@@ -1,53 +1,18 @@
-use Rattle.std.proofs.Common.{◌≡◌, ◌+◌, ◌<◌, List, length, length-append, get_or, Some, arith, refl, ap, sym, subst, ◌∙◌}
-use Rattle.std.specs.List.{slice_get}
-use Rattle.xd_patterns.specs.Tasks.{Tables, meanings}
-use Rattle.xd_patterns.specs.Compiling.{IsCompiling, rows_in}
-use Rattle.xd_patterns.specs.declared.compile.StateMarks.{StateMarks}
-use Rattle.xd_patterns.proofs.CompileLemmas.{compiling_none, compiling_more, numbered}
-use Rattle.xd_patterns.proofs.Sparing.{spares_none, spares_then}
 use Rattle.xd_patterns.proofs.compile.compile.Goals as goal
 
-pub loop-done-init : goal.loop-done-init
-loop-done-init c =
-    let t : Tables = record { types = c.args.types.now; patterns = c.args.patterns.now } in
-    let E = meanings c.args.types.now c.args.defs.now in (
-      subst (λ (rs : List StateMarks). IsCompiling E t c.args.marks.now c.args.marks.now c.args.cells.now c.args.cells.now c.args.base c.args.states.now.keys c.args.states.now.keys c.args.auto.now c.args.auto.now 0 (rows_in rs)) (sym c.new-table.ensures.items)
-          (compiling_none E t c.args.marks.now c.args.cells.now c.args.base c.args.states.now.keys c.args.auto.now c.requires.pieces c.requires.numbers c.requires.count c.requires.fresh),
-      omega arith,
-      spares_none c.args.base c.args.auto.now,
-    )
+pub compile_into-requires : goal.compile_into-requires
+compile_into-requires c = record {
+  guarded = c.requires.guarded;
+  bodies = c.requires.bodies;
+  count = c.requires.count;
+  fresh = c.requires.fresh;
+  pieces = c.requires.pieces;
+  numbers = c.requires.numbers;
+  none = c.new-table.ensures.items;
+}
 
-pub add_moves-requires-clause-count : goal.add_moves-requires-clause-count
-add_moves-requires-clause-count c = c.loop-done.invariant.0.count
-
-pub add_moves-requires-clause-fresh : goal.add_moves-requires-clause-fresh
-add_moves-requires-clause-fresh c = let n = c.state-from.ensures.number in c.loop-done.invariant.0.fresh c.state-from.result (omega arith)
-
-pub add_moves-requires-clause-pieces : goal.add_moves-requires-clause-pieces
-add_moves-requires-clause-pieces c = c.loop-done.invariant.0.pieces
-
-pub add_moves-requires-clause-numbers : goal.add_moves-requires-clause-numbers
-add_moves-requires-clause-numbers c = c.loop-done.invariant.0.bounded
-
-pub loop-done-preserved : goal.loop-done-preserved
-loop-done-preserved c =
-    let t : Tables = record { types = c.args.types.now; patterns = c.args.patterns.now } in
-    let E = meanings c.args.types.now c.args.defs.now in
-    let i = c.loop-done.invariant.0 in
-    let done = c.loop-done.done in
-    let states = c.loop-done.states.keys in
-    let test = c.if-done-len.false in
-    let long = c.len.ensures.len in
-    let room : done < length states = omega arith in
-    let r : StateMarks = c.in_ok-made.made in
-    let there = subst (λ xs. slice_get states done ≡ Some (get_or xs done 0)) (sym c.as_slice.ensures.keys) (numbered states done 0 room) in
-    let k = c.in_ok-made.ensures.made in
-    let l : length c.add_moves.new.states.keys ≡ length states + length k.grows.more = ap length k.grows.grown ∙ length-append states k.grows.more in (
-      compiling_more E t c.args.marks.now c.loop-done.marks c.add_moves.new.marks c.args.cells.now c.loop-done.cells c.add_moves.new.cells c.args.base (get_or c.as_slice.result.now done 0) c.args.states.now.keys states c.add_moves.new.states.keys
-          c.args.auto.now c.loop-done.auto' c.add_moves.new.auto c.state-from.result done c.loop-done.table.items r i c.state-from.ensures.number there room k c.push.new.self.items c.in_ok-push.ensures.items (done + 1) refl,
-      omega arith,
-      spares_then c.args.base c.args.auto.now c.loop-done.auto' c.add_moves.new.auto c.loop-done.invariant.2 c.in_ok-made.ensures.spares,
-    )
-
-pub returns-in_err-made-clause-spares : goal.returns-in_err-made-clause-spares
-returns-in_err-made-clause-spares c = spares_then c.args.base c.args.auto.now c.loop-done.auto' c.add_moves.new.auto c.loop-done.invariant.2 c.add_moves.ensures.spares
+pub returns : goal.returns
+returns c = record {
+  spares = c.in_ok-compile_into.ensures.spares;
+  made = c.in_ok-compile_into.ensures.made;
+}

@@ -1,3 +1,4 @@
+use Rattle.std.proofs.lemmas.Result.{IfOk-weaker}
 use Rattle.std.proofs.Common.{subst}
 use Rattle.xd_patterns.specs.Pieces.{Sees}
 use Rattle.xd_patterns.specs.Tasks.{Tables, rows_of}
@@ -15,52 +16,52 @@ returns-in_ok-push-in-Empty c E b =
     let sees = subst (Sees (rows_of (tables c.args.types.now c.args.patterns.now) c.args.first.item.of_pattern) c.args.first.item) c.in-Empty.is c.requires.sees in
     empty_arm _ E _ _ _ c.requires.piece _ c.requires.behind _ _ _ _ sees c.in_ok-push-in-Empty.ensures.items
 
-pub returns-in_ok-keep_item-in-Text : goal.returns-in_ok-keep_item-in-Text
-returns-in_ok-keep_item-in-Text c E b =
+pub returns-in-Text : goal.returns-in-Text
+returns-in-Text c =
     let sees = subst (Sees (rows_of (tables c.args.types.now c.args.patterns.now) c.args.first.item.of_pattern) c.args.first.item) c.in-Text.is c.requires.sees in
-    text_arm _ E _ _ _ c.requires.piece _ c.requires.behind _ _ _ _ sees c.in_ok-keep_item-in-Text.ensures
+    IfOk-weaker c.keep_item.result _ _ (λ _ h E b. text_arm _ E _ _ _ c.requires.piece _ c.requires.behind _ _ _ _ sees h) c.keep_item.ensures
 
-pub returns-in_ok-keep_item-in-Words : goal.returns-in_ok-keep_item-in-Words
-returns-in_ok-keep_item-in-Words c E b =
+pub returns-in-Words : goal.returns-in-Words
+returns-in-Words c =
     let sees = subst (Sees (rows_of (tables c.args.types.now c.args.patterns.now) c.args.first.item.of_pattern) c.args.first.item) c.in-Words.is c.requires.sees in
-    words_arm _ E _ _ _ c.requires.piece _ c.requires.behind _ _ _ _ _ sees c.in_ok-keep_item-in-Words.ensures
+    IfOk-weaker c.keep_item-in-Words.result _ _ (λ _ h E b. words_arm _ E _ _ _ c.requires.piece _ c.requires.behind _ _ _ _ _ sees h) c.keep_item-in-Words.ensures
 
-pub returns-in_ok-keep_item-in-Elem : goal.returns-in_ok-keep_item-in-Elem
-returns-in_ok-keep_item-in-Elem c E b =
+pub returns-in-Elem : goal.returns-in-Elem
+returns-in-Elem c =
     let sees = subst (Sees (rows_of (tables c.args.types.now c.args.patterns.now) c.args.first.item.of_pattern) c.args.first.item) c.in-Elem.is c.requires.sees in
-    elem_arm _ E _ _ _ c.requires.piece _ c.requires.behind _ _ _ _ _ _ sees.0 c.in_ok-keep_item-in-Elem.ensures
+    IfOk-weaker c.keep_item-in-Elem.result _ _ (λ _ h E b. elem_arm _ E _ _ _ c.requires.piece _ c.requires.behind _ _ _ _ _ _ sees.0 h) c.keep_item-in-Elem.ensures
 
-pub returns-in_ok-push_body-in-Name : goal.returns-in_ok-push_body-in-Name
-returns-in_ok-push_body-in-Name c E b =
+pub returns-in-Name : goal.returns-in-Name
+returns-in-Name c =
     let sees = subst (Sees (rows_of (tables c.args.types.now c.args.patterns.now) c.args.first.item.of_pattern) c.args.first.item) c.in-Name.is c.requires.sees in
-    name_arm _ E _ _ _ c.requires.piece _ c.requires.behind _ _ _ _ _ _ (node_of c.args.bodies.now) b sees c.in_ok-push_body-in-Name.ensures
+    IfOk-weaker c.push_body.result _ _ (λ _ h E b. name_arm _ E _ _ _ c.requires.piece _ c.requires.behind _ _ _ _ _ _ (node_of c.args.bodies.now) b sees h) c.push_body.ensures
 
-pub returns-in_ok-push_row-in-Seq : goal.returns-in_ok-push_row-in-Seq
-returns-in_ok-push_row-in-Seq c E b =
+pub returns-in-Seq : goal.returns-in-Seq
+returns-in-Seq c =
     let sees = subst (Sees (rows_of (tables c.args.types.now c.args.patterns.now) c.args.first.item.of_pattern) c.args.first.item) c.in-Seq.is c.requires.sees in
-    seq_arm _ E _ _ _ c.requires.piece _ c.requires.behind _ _ _ _ _ _ _ sees c.in_ok-push_row-in-Seq.ensures
+    IfOk-weaker c.push_row.result _ _ (λ _ h E b. seq_arm _ E _ _ _ c.requires.piece _ c.requires.behind _ _ _ _ _ _ _ sees h) c.push_row.ensures
 
-pub returns-in_ok-push_row-in-Plus : goal.returns-in_ok-push_row-in-Plus
-returns-in_ok-push_row-in-Plus c E b =
+pub returns-in-Plus : goal.returns-in-Plus
+returns-in-Plus c =
     let sees = subst (Sees (rows_of (tables c.args.types.now c.args.patterns.now) c.args.first.item.of_pattern) c.args.first.item) c.in-Plus.is c.requires.sees in
-    plus_arm _ E _ _ _ c.requires.piece _ c.requires.behind _ _ _ _ _ _ _ sees c.in_ok-push_row-in-Plus.ensures
+    IfOk-weaker c.push_row-in-Plus.result _ _ (λ _ h E b. plus_arm _ E _ _ _ c.requires.piece _ c.requires.behind _ _ _ _ _ _ _ sees h) c.push_row-in-Plus.ensures
 
-pub returns-in_ok-push_part-in-Alt-2 : goal.returns-in_ok-push_part-in-Alt-2
-returns-in_ok-push_part-in-Alt-2 c E b =
+pub returns-in_ok-push_part-in-Alt : goal.returns-in_ok-push_part-in-Alt
+returns-in_ok-push_part-in-Alt c =
     let sees = subst (Sees (rows_of (tables c.args.types.now c.args.patterns.now) c.args.first.item.of_pattern) c.args.first.item) c.in-Alt.is c.requires.sees in
-    alt_arm _ E _ _ _ c.requires.piece _ c.requires.behind _ _ _ _ _ _ _ _ _ sees c.in_ok-push_part-in-Alt.ensures c.in_ok-push_part-in-Alt-2.ensures
+    IfOk-weaker c.push_part-in-Alt.result _ _ (λ _ h E b. alt_arm _ E _ _ _ c.requires.piece _ c.requires.behind _ _ _ _ _ _ _ _ _ sees c.in_ok-push_part-in-Alt.ensures h) c.push_part-in-Alt.ensures
 
-pub returns-in_ok-push_part-in-Star : goal.returns-in_ok-push_part-in-Star
-returns-in_ok-push_part-in-Star c E b =
+pub returns-in_ok-push-in-Star : goal.returns-in_ok-push-in-Star
+returns-in_ok-push-in-Star c =
     let sees = subst (Sees (rows_of (tables c.args.types.now c.args.patterns.now) c.args.first.item.of_pattern) c.args.first.item) c.in-Star.is c.requires.sees in
-    star_arm _ E _ _ _ c.requires.piece _ c.requires.behind _ _ _ _ _ _ _ _ c.requires.cell c.requires.list sees c.in_ok-push-in-Star.ensures.items c.in_ok-push_part-in-Star.ensures
+    IfOk-weaker c.push_part-in-Star.result _ _ (λ _ h E b. star_arm _ E _ _ _ c.requires.piece _ c.requires.behind _ _ _ _ _ _ _ _ c.requires.cell c.requires.list sees c.in_ok-push-in-Star.ensures.items h) c.push_part-in-Star.ensures
 
-pub returns-in_ok-push_part-in-Opt : goal.returns-in_ok-push_part-in-Opt
-returns-in_ok-push_part-in-Opt c E b =
+pub returns-in_ok-push-in-Opt : goal.returns-in_ok-push-in-Opt
+returns-in_ok-push-in-Opt c =
     let sees = subst (Sees (rows_of (tables c.args.types.now c.args.patterns.now) c.args.first.item.of_pattern) c.args.first.item) c.in-Opt.is c.requires.sees in
-    opt_arm _ E _ _ _ c.requires.piece _ c.requires.behind _ _ _ _ _ _ _ sees c.in_ok-push-in-Opt.ensures.items c.in_ok-push_part-in-Opt.ensures
+    IfOk-weaker c.push_part-in-Opt.result _ _ (λ _ h E b. opt_arm _ E _ _ _ c.requires.piece _ c.requires.behind _ _ _ _ _ _ _ sees c.in_ok-push-in-Opt.ensures.items h) c.push_part-in-Opt.ensures
 
-pub returns-in_ok-push_part-in-Val : goal.returns-in_ok-push_part-in-Val
-returns-in_ok-push_part-in-Val c E b =
+pub returns-in_ok-bound-in-Val : goal.returns-in_ok-bound-in-Val
+returns-in_ok-bound-in-Val c =
     let sees = subst (Sees (rows_of (tables c.args.types.now c.args.patterns.now) c.args.first.item.of_pattern) c.args.first.item) c.in-Val.is c.requires.sees in
-    val_arm _ E _ _ _ c.requires.piece _ c.requires.behind _ _ _ _ _ _ _ _ sees c.in_ok-bound-in-Val.ensures c.in_ok-push_part-in-Val.ensures
+    IfOk-weaker c.push_part-in-Val.result _ _ (λ _ h E b. val_arm _ E _ _ _ c.requires.piece _ c.requires.behind _ _ _ _ _ _ _ _ sees c.in_ok-bound-in-Val.ensures h) c.push_part-in-Val.ensures

@@ -1,7 +1,7 @@
 use Rattle.std.proofs.Common.{◌≤◌, length}
 use Rattle.xd_patterns.specs.Tasks.{meanings}
 use Rattle.xd_patterns.specs.Compiling.{IsCompiling, Spares, rows_in}
-use Rattle.xd_patterns.proofs.compile.compile.Given as goal
+use Rattle.xd_patterns.proofs.compile.compile_into.Given as goal
 
 abbrev pub invariant-loop-done : goal.invariant-loop-done
 invariant-loop-done l =

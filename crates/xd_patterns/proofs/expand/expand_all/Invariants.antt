@@ -1,6 +1,6 @@
 use Rattle.xd_patterns.specs.Tasks.{meanings}
 use Rattle.xd_patterns.specs.Expanding.{IsExpanding, all_steps}
-use Rattle.xd_patterns.proofs.expand.expand.Given as goal
+use Rattle.xd_patterns.proofs.expand.expand_all.Given as goal
 
 abbrev pub invariant-loop-task : goal.invariant-loop-task
 invariant-loop-task l =
