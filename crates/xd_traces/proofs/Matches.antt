@@ -8,7 +8,7 @@ use Rattle.std.proofs.lemmas.Option.{get_or_from_slice_get, slice_get_within}
 use Rattle.xd_auto.specs.Matching.{AreMatching}
 use Rattle.xd_auto.proofs.Anys.{and_left, and_right}
 use Rattle.xd_traces.specs.declared.pairs.Both.{Both}
-use Rattle.xd_traces.specs.Matching.{AddsMeet, adds_none, adds_one, HasMatch, IsBefore, IsMatchOf, MatchedTo, Share, share}
+use Rattle.xd_traces.specs.Matching.{AddsMeet, AreMatches, adds_none, adds_one, HasMatch, IsBefore, IsMatchOf, MatchedTo, Share, share}
 use Rattle.xd_traces.proofs.Steps.{some_same}
 
 pub there_front : {X : Type 0} (xs ys : List X) (i : ℕ) (x : X) → slice_get xs i ≡ Some x → slice_get (xs ++ ys) i ≡ Some x
@@ -134,6 +134,14 @@ module _ {M S : Type 0} (both_of : M → Both) (IsMeetOf : S → S → Both → 
           (λ same. h.all k l (inr (same, omega (arith, slice_get_within twos l s.two s.right, all))) s)
           (λ ne. h.all k l (inl (omega arith)) s)
           (cases_eq k i)
+
+  -- all pairs
+  pub matched_all : (i : ℕ) (ms : List M) → length ones ≤ i → MatchedTo both_of IsMeetOf shares ones twos i 0 ms → AreMatches both_of IsMeetOf shares ones twos ms
+  matched_all i ms all h = record {
+    each = h.each;
+    all = λ k l s. h.all k l (inl (omega (arith, slice_get_within ones k s.one s.left, all))) s;
+    once = h.once;
+  }
 
 -- the pairs of a move with the moves of the first of these numbers, so many
 pub record RowTo {M S : Type 0} (both_of : M → Both) (IsMeetOf : S → S → Both → M → Type 0) (shares : S → S → List ℕ → Bool) (ones twos : List S) (rights : List ℕ) (i p : ℕ) (ms : List M) : Type 0 where

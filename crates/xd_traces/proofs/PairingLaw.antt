@@ -106,6 +106,12 @@ module _ (p q made : Automaton) (o : Origins) (is : IsPairing p q made o) where
 both_is : (b : Both) (i j : ℕ) → b.left ≡ i → b.right ≡ j → b ≡ record { left = i; right = j }
 both_is b i j e f = ap (λ (x : ℕ). record { left = x; right = b.right }) e ∙ ap (λ (y : ℕ). record { left = i; right = y }) f
 
+same_text : (i j : ℕ) (x y : Run) → takes_text i x ≡ takes_text j y → (i ≡ j) × (x ≡ y)
+same_text i j x y e = (cc, cc)
+
+same_element : (i j : ℕ) (k m x y : Run) → takes_element i k x ≡ takes_element j m y → (i ≡ j) × (k ≡ m) × (x ≡ y)
+same_element i j k m x y e = (cc, cc, cc)
+
 same_bool : (x y : Bool) → (x ≡ true → y ≡ true) → (y ≡ true → x ≡ true) → x ≡ y
 same_bool true y f g = sym (f refl)
 same_bool false true f g = g refl
@@ -154,15 +160,13 @@ module _ (p q made : Automaton) (o : Origins) (is : IsPairing p q made o) where
       only_text c d s i j x y w more (takes_element n c2 r) k e f = absurd k
       only_text c d s i j x y w more (takes_text n r) k e f =
           let m = takes_text_at made c d s n r k in
-          let ei : (o.text s n).left ≡ i = cc in
-          let ej : (o.text s n).right ≡ j = cc in
-          let ex : left_run made o (after_text made s n) r ≡ x = cc in
-          let ey : right_run made o (after_text made s n) r ≡ y = cc in
-          let num = w.alone n m.step m.there (both_is (o.text s n) i j ei ej) in
+          let at_left = same_text (o.text s n).left i (left_run made o (after_text made s n) r) x e in
+          let at_right = same_text (o.text s n).right j (right_run made o (after_text made s n) r) y f in
+          let num = w.alone n m.step m.there (both_is (o.text s n) i j at_left.0 at_right.0) in
           let same : m.step ≡ w.step = some_same (sym m.there ∙ ap (λ z. slice_get (moves_at made s).texts z) num ∙ w.there) in
           let r_same = ap (λ (z : TextMove). z.rest) same in
           let onto = m.onto ∙ r_same in
-          let rest = more.alone r (subst (λ z. IsAcceptingRun made d z r) r_same m.rest) (ap (λ z. left_run made o z r) (sym onto) ∙ ex) (ap (λ z. right_run made o z r) (sym onto) ∙ ey) in
+          let rest = more.alone r (subst (λ z. IsAcceptingRun made d z r) r_same m.rest) (ap (λ z. left_run made o z r) (sym onto) ∙ at_left.1) (ap (λ z. right_run made o z r) (sym onto) ∙ at_right.1) in
           ap (λ z. takes_text z r) num ∙ ap (λ z. takes_text w.number z) rest
   pair (element l c d) s ends two here h g = absurd h
   pair (element l c d) s (takes_text n r) two here h g = absurd h
@@ -204,20 +208,16 @@ module _ (p q made : Automaton) (o : Origins) (is : IsPairing p q made o) where
       only_element l c d s i j k x m y w inner more (takes_text n r) a e f = absurd a
       only_element l c d s i j k x m y w inner more (takes_element n b r) a e f =
           let t = takes_element_at made l c d s n b r a in
-          let ei : (o.element s n).left ≡ i = cc in
-          let ej : (o.element s n).right ≡ j = cc in
-          let ek : left_run made o (in_element made s n) b ≡ k = cc in
-          let em : right_run made o (in_element made s n) b ≡ m = cc in
-          let ex : left_run made o (after_element made s n) r ≡ x = cc in
-          let ey : right_run made o (after_element made s n) r ≡ y = cc in
-          let num = w.alone n t.step t.there (both_is (o.element s n) i j ei ej) in
+          let at_left = same_element (o.element s n).left i (left_run made o (in_element made s n) b) k (left_run made o (after_element made s n) r) x e in
+          let at_right = same_element (o.element s n).right j (right_run made o (in_element made s n) b) m (right_run made o (after_element made s n) r) y f in
+          let num = w.alone n t.step t.there (both_is (o.element s n) i j at_left.0 at_right.0) in
           let same : t.step ≡ w.step = some_same (sym t.there ∙ ap (λ z. slice_get (moves_at made s).labels z) num ∙ w.there) in
           let c_same = ap (λ (z : LabelMove). z.content) same in
           let r_same = ap (λ (z : LabelMove). z.rest) same in
           let into = t.into ∙ c_same in
           let onto = t.onto ∙ r_same in
-          let is_inner = inner.alone b (subst (λ z. IsAcceptingRun made c z b) c_same t.content) (ap (λ z. left_run made o z b) (sym into) ∙ ek) (ap (λ z. right_run made o z b) (sym into) ∙ em) in
-          let is_more = more.alone r (subst (λ z. IsAcceptingRun made d z r) r_same t.rest) (ap (λ z. left_run made o z r) (sym onto) ∙ ex) (ap (λ z. right_run made o z r) (sym onto) ∙ ey) in
+          let is_inner = inner.alone b (subst (λ z. IsAcceptingRun made c z b) c_same t.content) (ap (λ z. left_run made o z b) (sym into) ∙ at_left.1) (ap (λ z. right_run made o z b) (sym into) ∙ at_right.1) in
+          let is_more = more.alone r (subst (λ z. IsAcceptingRun made d z r) r_same t.rest) (ap (λ z. left_run made o z r) (sym onto) ∙ at_left.2) (ap (λ z. right_run made o z r) (sym onto) ∙ at_right.2) in
           ap (λ z. takes_element z b r) num ∙ ap (λ z. takes_element w.number z r) is_inner ∙ ap (λ z. takes_element w.number inner.run z) is_more
 
   both_accept : (d : Document) (s : State) → IsState made s → accepts made d s ≡ true → (accepts p d (o.left s) && accepts q d (o.right s)) ≡ true

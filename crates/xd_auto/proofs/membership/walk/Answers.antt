@@ -1,4 +1,4 @@
-use Rattle.std.proofs.Common.{◌≡◌, ◌+◌, ◌≤◌, ◌<◌, [], ◌∷◌, ◌++◌, length, arith, rules, vec_len}
+use Rattle.std.proofs.Common.{◌≡◌, ◌+◌, ◌≤◌, ◌<◌, [], ◌∷◌, ◌++◌, length, sym, ◌∙◌, arith, rules, vec_len}
 use Rattle.xd_auto.specs.Automaton.{accepts}
 use Rattle.xd_auto.specs.Kept.{words_of}
 use Rattle.xd_auto.specs.Membership.{IsFrame, MayWait, Walk, from_node}
@@ -94,3 +94,27 @@ returns-in_err-push-in-Waits-2-clause-full c =
     let len : vec_len c.pop.new.self ≡ length c.pop.new.self.items = search rules in
     on_err c.from_residual-in_err-push-in-Waits-2.result
     (λ room tall. omega (arith, c.in_err-push-in-Waits-2.ensures.full, c.in_ok-push-in-Waits.ensures.len, c.in_ok-push-in-Waits.ensures.capacity))
+
+pub advance-requires-clause-node : goal.advance-requires-clause-node
+advance-requires-clause-node c =
+    let here : IsFrame c.args.auto.now c.args.store.now (words_of c.loop-frame.known.rows.items) c.args.node (length c.pop.new.self.items) c.in-Some.frame =
+    top_frame c.args.auto.now c.args.store.now c.args.node c.args.state (words_of c.loop-frame.known.rows.items) c.pop.new.self.items c.in-Some.frame (rw c.in-Some.ensures.items at c.loop-frame.invariant.walk) in
+    omega (arith, here.high, c.requires.node)
+
+pub advance-requires-clause-state : goal.advance-requires-clause-state
+advance-requires-clause-state c =
+    let here : IsFrame c.args.auto.now c.args.store.now (words_of c.loop-frame.known.rows.items) c.args.node (length c.pop.new.self.items) c.in-Some.frame =
+    top_frame c.args.auto.now c.args.store.now c.args.node c.args.state (words_of c.loop-frame.known.rows.items) c.pop.new.self.items c.in-Some.frame (rw c.in-Some.ensures.items at c.loop-frame.invariant.walk) in
+    here.state
+
+pub advance-requires-clause-fails : goal.advance-requires-clause-fails
+advance-requires-clause-fails c =
+    let here : IsFrame c.args.auto.now c.args.store.now (words_of c.loop-frame.known.rows.items) c.args.node (length c.pop.new.self.items) c.in-Some.frame =
+    top_frame c.args.auto.now c.args.store.now c.args.node c.args.state (words_of c.loop-frame.known.rows.items) c.pop.new.self.items c.in-Some.frame (rw c.in-Some.ensures.items at c.loop-frame.invariant.walk) in
+    here.fails
+
+pub returns-in_err-keep-in-Done-clause-right : goal.returns-in_err-keep-in-Done-clause-right
+returns-in_err-keep-in-Done-clause-right c node s answer kept = c.loop-frame.invariant.walk.right node s answer (sym (c.in_err-keep-in-Done.ensures.err node s.number) ∙ kept)
+
+pub returns-in_err-keep-in-Done-clause-keeps : goal.returns-in_err-keep-in-Done-clause-keeps
+returns-in_err-keep-in-Done-clause-keeps c node s answer kept = c.in_err-keep-in-Done.ensures.err node s ∙ c.loop-frame.invariant.keeps node s answer kept

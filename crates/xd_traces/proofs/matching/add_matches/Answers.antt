@@ -1,4 +1,4 @@
-use Rattle.std.proofs.Common.{◌≡◌, Some, refl, get_or, length}
+use Rattle.std.proofs.Common.{◌≡◌, Some, refl, get_or, length, arith}
 use Rattle.std.specs.List.{slice_get}
 use Rattle.std.proofs.lemmas.Option.{slice_get_read}
 use Rattle.xd_traces.proofs.Matches.{row_all, row_first, row_next}
@@ -26,3 +26,15 @@ returns g c =
     let left : slice_get c.args.ones.now c.args.left ≡ Some one = slice_get_read c.args.ones.now (length c.args.ones.now) c.args.left one refl c.requires.left c.index-ones-left.is in
     row_all g.S.Matched.both_of g.S.Matched.is_meet g.S.Move.has c.args.ones.now c.args.twos.now c.args.rights.now c.args.left one left (c.requires.rights one left) c.loop-right.right-index c.loop-right.matches.items
     c.loop-right-test.false c.loop-right.invariant
+
+pub bounds-twos-right : goal.bounds-twos-right
+bounds-twos-right g c =
+    let one = c.index-ones-left.result in
+    let left : slice_get c.args.ones.now c.args.left ≡ Some one = slice_get_read c.args.ones.now (length c.args.ones.now) c.args.left one refl c.requires.left c.index-ones-left.is in
+    (c.requires.rights one left).within c.loop-right.right-index 0 c.loop-right-test.true
+
+pub offset_bounds-twos-right : goal.offset_bounds-twos-right
+offset_bounds-twos-right g c =
+    let one = c.index-ones-left.result in
+    let left : slice_get c.args.ones.now c.args.left ≡ Some one = slice_get_read c.args.ones.now (length c.args.ones.now) c.args.left one refl c.requires.left c.index-ones-left.is in
+    omega (arith, (c.requires.rights one left).within c.loop-right.right-index 0 c.loop-right-test.true)

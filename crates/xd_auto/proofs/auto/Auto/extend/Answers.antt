@@ -10,3 +10,6 @@ invariant_of-self-2 c = rw c.in_ok-append.ensures.items (IsClosed-append _ _ c.s
 
 pub returns-clause-keeps : goal.returns-clause-keeps
 returns-clause-keeps c = rw (c.in_ok-append.ensures.items, ← c.self.view_is) (keeps _ _ c.self.invariant (Extends-append _ _))
+
+pub returns-clause-extends : goal.returns-clause-extends
+returns-clause-extends c = rw (c.in_ok-append.ensures.items, ← c.self.view_is) (Extends-append _ _)

@@ -1,4 +1,4 @@
-use Rattle.std.proofs.Common.{◌≡◌, ◌+◌, [], false, length, arith, refl, ap, ◌∙◌}
+use Rattle.std.proofs.Common.{◌≡◌, ◌+◌, [], ◌∷◌, false, length, length-append, arith, refl, ap, ◌∙◌}
 use Rattle.std.proofs.lemmas.List.{get_or_at}
 use Rattle.std.proofs.lemmas.List.Elements.{All-cons, All-nil}
 use Rattle.xd_auto.specs.Automaton.{LeadsBelow, moves_at, no_moves}
@@ -22,3 +22,11 @@ returns-clause-ok c d =
     (get_or_at c.args.self.now c.in_ok-moves_of_all.field-0 [] (no_moves false) (length c.args.self.now) refl) in
     accepts_by_moves c.extend.new.self (state_at c.len-number.result) d ∙ ap (λ m. accepts_by c.extend.new.self m d) at
     ∙ c.in_ok-moves_of_all.ensures.accepted c.extend.new.self c.in_ok-extend.ensures.extends c.in_ok-extend.ensures.keeps d
+
+pub returns-clause-count : goal.returns-clause-count
+returns-clause-count c =
+    rw (c.in_ok-extend.ensures.ok, c.in_ok-push.ensures.items, c.new-made.ensures.items, length-append c.args.self.now (c.in_ok-moves_of_all.field-0 ∷ [])) refl
+
+pub returns-clause-belongs : goal.returns-clause-belongs
+returns-clause-belongs c =
+    rw (c.in_ok-extend.ensures.ok, c.in_ok-push.ensures.items, c.new-made.ensures.items, c.len-number.ensures.value, length-append c.args.self.now (c.in_ok-moves_of_all.field-0 ∷ [])) (omega arith)

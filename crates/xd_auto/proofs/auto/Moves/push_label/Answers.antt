@@ -11,3 +11,9 @@ invariant_of-self-2 c = (
       (IsIndex-push has_label c.self.inside.labels.items c.extend.new.self.count (numbers_at (slice_cmp nat_cmp) c.extend.new.self.named) c.extend.new.self.others.items c.args.step (rw c.deref.ensures.value at c.in_ok-extend.ensures.index)),
   c.self.invariant.1,
 )
+
+pub invariant_of-self-in_err-push : goal.invariant_of-self-in_err-push
+invariant_of-self-in_err-push c = (rw (c.in_err-push.ensures.items, ← c.deref.ensures.value) c.in_ok-extend.ensures.index, c.self.invariant.1)
+
+pub invariant_of-self : goal.invariant_of-self
+invariant_of-self c = (rw c.deref.ensures.value at c.in_err-extend.ensures.index, c.self.invariant.1)

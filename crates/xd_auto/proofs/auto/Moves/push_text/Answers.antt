@@ -11,3 +11,9 @@ invariant_of-self-2 c = (
   rw c.in_ok-push.ensures.items
       (IsIndex-push has_text c.self.inside.texts.items c.extend.new.self.count (numbers_at (slice_cmp nat_cmp) c.extend.new.self.named) c.extend.new.self.others.items c.args.step (rw c.deref.ensures.value at c.in_ok-extend.ensures.index)),
 )
+
+pub invariant_of-self-in_err-push : goal.invariant_of-self-in_err-push
+invariant_of-self-in_err-push c = (c.self.invariant.0, rw (c.in_err-push.ensures.items, ← c.deref.ensures.value) c.in_ok-extend.ensures.index)
+
+pub invariant_of-self : goal.invariant_of-self
+invariant_of-self c = (c.self.invariant.0, rw c.deref.ensures.value at c.in_err-extend.ensures.index)

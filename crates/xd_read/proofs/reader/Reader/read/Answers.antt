@@ -1,6 +1,6 @@
 use Rattle.std.proofs.Common.{◌≡◌, ◌<◌, length, refl, sym, ◌∙◌, rules}
 use Rattle.std.proofs.lemmas.List.{nil_from_length}
-use Rattle.xd_read.proofs.Steps.{text_passes, open_passes, close_passes, none_open, some_open, refused, ended}
+use Rattle.xd_read.proofs.Steps.{passes_by, text_passes, open_passes, close_passes, none_open, some_open, refused, ended}
 use Rattle.xd_read.proofs.reader.Reader.read.Goals as goal
 
 pub returns-then-not-is_empty-clause-stops : goal.returns-then-not-is_empty-clause-stops
@@ -38,3 +38,6 @@ returns-in_ok-seq-in-End-clause-ends c =
 
 pub returns-in-Refuse-clause-stops : goal.returns-in-Refuse-clause-stops
 returns-in-Refuse-clause-stops c = λ _. refused c.args.store.now _ c.args.self.now.finished.items c.args.self.now.elements.items _ _ (sym c.move_for.ensures ∙ c.in-Refuse.is)
+
+pub returns-in-Go-clause-passes : goal.returns-in-Go-clause-passes
+returns-in-Go-clause-passes c = passes_by _ _ _ _ _ _ _ _ _ _ _ (sym c.move_for.ensures ∙ c.in-Go.is) c.requires.ready refl
