@@ -1,10 +1,10 @@
 //! What a state accepts, at the clauses of a match.
 
-ghost use Rattle.std.specs.Prelude.{◌≡◌, ◌↔◌, true, false, [], Ok, None, IfOk, IfSome, map};
+ghost use Rattle.std.specs.Prelude.{◌≡◌, ◌↔◌, List, true, false, [], Ok, None, IfOk, IfSome, map};
 ghost use Rattle.std.specs.List.{All, AllByRecursion};
 ghost use Rattle.xd_doc.specs.Document.{Document};
 ghost use Rattle.xd_doc.specs.Stored.{BelongsTo, Keeps, document_at};
-ghost use Rattle.xd_auto.specs.Automaton.{IsState};
+ghost use Rattle.xd_auto.specs.Automaton.{Automaton, IsState};
 ghost use Rattle.xd_empty.specs.Known.{Knows};
 ghost use Rattle.xd_syntax.specs.Kept.{AddsTypes, program_tree};
 ghost use Rattle.xd_syntax.specs.May.{IsLive, NoneTakes};
@@ -70,6 +70,27 @@ fn left_over(
     Ok(left)
 }
 
+/// The same in an automaton of its own.
+fn left_behind(
+    alloc: Global,
+    compiler: &PatternCompiler,
+    sound: &SoundProgram,
+    patterns: &[PatternId],
+    auto: &Auto,
+    state: State,
+) -> Result<(Auto, State), NoMemory>
+    requires serves { Serves sound.now compiler.now }
+    requires patterns { All (IsLinearPattern sound.now.patterns) patterns.now }
+    requires state { IsState auto.now state }
+    ensures belongs { IfOk result (λ left. IsState left.0 left.1) }
+    ensures exact { IfOk result (λ left. (d : Document) → Accepted left.0 left.1 d ↔ (Accepted auto.now state d × NoneTakes (names_of (program_tree sound.now)) (placed_patterns sound.now.patterns patterns.now) d)) }
+{
+    let mut own = Auto::new(alloc);
+    let start = own.absorb(auto, state)?;
+    let left = left_over(alloc, compiler, sound, patterns, &mut own, start)?;
+    Ok((own, left))
+}
+
 /// For each variable a state that accepts nothing.
 fn given_nothing(
     alloc: Global,
@@ -128,6 +149,69 @@ fn apart(alloc: Global, auto: &Auto, givens: &[Given]) -> Result<Vec<Binding>, N
     Ok(bindings)
 }
 
+/// What comes to a clause: a state of an automaton of its own for the documents that no earlier pattern takes, and the clause's pattern.
+#[derive(Drop)]
+struct Arrival {
+    auto: Auto,
+    state: State,
+    clause: ClausePattern,
+}
+
+impl Arrival {
+    /// What the variables of the pattern may be.
+    fn bindings(&mut self, alloc: Global) -> Result<Vec<Binding>, NoMemory>
+        requires state { IsState self.old.auto self.old.state }
+        requires clause { (E : Definitions) × (P : PlacedTree) × IsPatternOf E (unplaced P) self.old.clause }
+        ensures { (E : Definitions) (b : Automaton) (s : State) (Ps : List PlacedTree) (P : PlacedTree) → IsPatternOf E (unplaced P) self.old.clause → ((d : Document) → Accepted self.old.auto self.old.state d ↔ (Accepted b s d × NoneTakes E Ps d)) → IfOk result (λ bindings. AreMayBindings E (Accepted b s) Ps P bindings.items) }
+    {
+        let givens = givens_of(alloc, &self.clause, &mut self.auto, self.state)?;
+        let bindings = apart(alloc, &self.auto, &givens)?;
+        Ok(bindings)
+    }
+
+    /// Whether the pattern takes some document that comes.
+    fn is_live(&mut self, alloc: Global) -> Result<bool, NoMemory>
+        requires { IsState self.old.auto self.old.state }
+        ensures live { (E : Definitions) (b : Automaton) (s : State) (Ps : List PlacedTree) (P : PlacedTree) → IsPatternOf E (unplaced P) self.old.clause → ((d : Document) → Accepted self.old.auto self.old.state d ↔ (Accepted b s d × NoneTakes E Ps d)) → result ≡ Ok true → IsLive E (Accepted b s) Ps P }
+        ensures dead { (E : Definitions) (b : Automaton) (s : State) (Ps : List PlacedTree) (P : PlacedTree) → IsPatternOf E (unplaced P) self.old.clause → ((d : Document) → Accepted self.old.auto self.old.state d ↔ (Accepted b s d × NoneTakes E Ps d)) → result ≡ Ok false → IsLive E (Accepted b s) Ps P → ⊥ }
+    {
+        let mut known = Inhabitants::new(alloc);
+        let mut store = Store::new(alloc);
+        let clause = &self.clause;
+        let found = clause.bindings(alloc, &mut self.auto, self.state, &mut known, &mut store)?;
+        Ok(found.is_some())
+    }
+}
+
+/// What the state accepts, at a clause with this pattern behind the earlier ones.
+fn arriving(
+    alloc: Global,
+    sound: &mut SoundProgram,
+    auto: &Auto,
+    state: State,
+    earlier: &[PatternId],
+    pattern: PatternId,
+) -> Result<Arrival, NoMemory>
+    requires state { IsState auto.now state }
+    requires earlier { All (IsLinearPattern sound.old.patterns) earlier.now }
+    requires pattern { IsLinearPattern sound.old.patterns pattern }
+    ensures belongs { IfOk result (λ arrival. IsState arrival.auto arrival.state) }
+    ensures exact { IfOk result (λ arrival. (d : Document) → Accepted arrival.auto arrival.state d ↔ (Accepted auto.now state d × NoneTakes (names_of (program_tree sound.old)) (placed_patterns sound.old.patterns earlier.now) d)) }
+    ensures clause { IfOk result (λ arrival. IsPatternOf (names_of (program_tree sound.old)) (unplaced (placed_pattern sound.old.patterns pattern)) arrival.clause) }
+    ensures adds { AddsTypes sound.old sound.new }
+    ensures same { program_tree sound.new ≡ program_tree sound.old }
+    ensures shallow { IsShallow sound.old.types → IsShallow sound.new.types }
+{
+    let compiler = PatternCompiler::new(alloc, sound)?;
+    let clause = ClausePattern::new(alloc, &compiler, sound, pattern)?;
+    let (auto, state) = left_behind(alloc, &compiler, sound, earlier, auto, state)?;
+    Ok(Arrival {
+        auto,
+        state,
+        clause,
+    })
+}
+
 /// For each variable of a pattern, in order of first occurrence and once, what it may be: an automaton that accepts exactly what
 /// some whole way gives it, on a document that the state accepts and no earlier pattern takes.
 pub fn case_types(
@@ -146,14 +230,8 @@ pub fn case_types(
     ensures same { program_tree sound.new ≡ program_tree sound.old }
     ensures shallow { IsShallow sound.old.types → IsShallow sound.new.types }
 {
-    let compiler = PatternCompiler::new(alloc, sound)?;
-    let mut own = Auto::new(alloc);
-    let start = own.absorb(auto, state)?;
-    let left = left_over(alloc, &compiler, sound, earlier, &mut own, start)?;
-    let clause = ClausePattern::new(alloc, &compiler, sound, pattern)?;
-    let givens = givens_of(alloc, &clause, &mut own, left)?;
-    let bindings = apart(alloc, &own, &givens)?;
-    Ok(bindings)
+    let mut arrival = arriving(alloc, sound, auto, state, earlier, pattern)?;
+    arrival.bindings(alloc)
 }
 
 /// A document that the state accepts and no pattern takes, where there is one.
@@ -177,9 +255,7 @@ pub fn uncovered(
     ensures shallow { IsShallow sound.old.types → IsShallow sound.new.types }
 {
     let compiler = PatternCompiler::new(alloc, sound)?;
-    let mut own = Auto::new(alloc);
-    let start = own.absorb(auto, state)?;
-    let left = left_over(alloc, &compiler, sound, patterns, &mut own, start)?;
+    let (own, left) = left_behind(alloc, &compiler, sound, patterns, auto, state)?;
     let mut known = Inhabitants::new(alloc);
     let found = accepted_document(alloc, &own, left, &mut known, store)?;
     Ok(found)
@@ -203,13 +279,6 @@ pub fn live(
     ensures same { program_tree sound.new ≡ program_tree sound.old }
     ensures shallow { IsShallow sound.old.types → IsShallow sound.new.types }
 {
-    let compiler = PatternCompiler::new(alloc, sound)?;
-    let mut own = Auto::new(alloc);
-    let start = own.absorb(auto, state)?;
-    let left = left_over(alloc, &compiler, sound, earlier, &mut own, start)?;
-    let clause = ClausePattern::new(alloc, &compiler, sound, pattern)?;
-    let mut known = Inhabitants::new(alloc);
-    let mut store = Store::new(alloc);
-    let found = clause.bindings(alloc, &mut own, left, &mut known, &mut store)?;
-    Ok(found.is_some())
+    let mut arrival = arriving(alloc, sound, auto, state, earlier, pattern)?;
+    arrival.is_live(alloc)
 }
