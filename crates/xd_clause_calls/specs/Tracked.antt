@@ -5,11 +5,13 @@ use Rattle.xd_auto.specs.declared.auto.State.{State}
 use Rattle.xd_auto.specs.Automaton.{Automaton, IsState, StateMoves, moves_at}
 use Rattle.xd_traces.specs.declared.kind.MoveKind.{MoveKind}
 use Rattle.xd_traces.specs.declared.kind.MoveKind.TheVariants.{Label, Text}
+use Rattle.xd_traces.specs.Traces.{KeepsTogether}
 use Rattle.xd_syntax.specs.Words.{has_word}
 use Rattle.xd_bind.specs.Projection.{has_track}
 use Rattle.xd_bind.specs.declared.tracks.Track.{Track}
 use Rattle.xd_patterns.specs.Held.{marking_of, marks_at, variables_in}
 use Rattle.xd_patterns.specs.declared.marked.Marked.{Marked}
+use Rattle.xd_clauses.specs.Owning.{moves_of}
 
 -- the move belongs to the variable of this number
 abbrev pub is_held : Marked → State → MoveKind → ℕ → ℕ → Bool
@@ -42,3 +44,7 @@ count_of moves Text = length moves.texts
 -- a move of one of the first states
 abbrev pub IsOfStates : Automaton → ℕ → ℕ → State → MoveKind → ℕ → ℕ → Type 0
 IsOfStates a count variables s k n x = (s.number < count) × (n < count_of (moves_at a s) k) × (x < variables)
+
+-- the items that an accepting run gives a variable stand together
+abbrev pub KeepTogether : Automaton → Marked → Type 0
+KeepTogether a m = (x : List ℕ) → KeepsTogether a (moves_of (marking_of m) x) m.start

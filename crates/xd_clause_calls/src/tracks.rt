@@ -6,9 +6,9 @@ ghost use Rattle.xd_auto.specs.Automaton.{Automaton, IsState};
 ghost use Rattle.xd_bind.specs.Projection.{CanProject};
 ghost use Rattle.xd_clauses.specs.Cases.{IsLinearPattern};
 ghost use Rattle.xd_patterns.specs.Held.{variables_in};
-ghost use Rattle.xd_clause_calls.specs.Tracked.{IsOfMove, IsOfMoves, IsOfStates, MoreTracks};
+ghost use Rattle.xd_clause_calls.specs.Tracked.{IsOfMove, IsOfMoves, IsOfStates, KeepTogether, MoreTracks};
 
-use crate::clauses::{at_clause, binding_of, clause_patterns};
+use crate::clauses::{binding_of, pattern_at};
 use std::alloc::Global;
 use xd_auto::{Auto, State};
 use xd_bind::{Binding, MoveKind, Track, Tracks, project};
@@ -81,11 +81,35 @@ fn tracks_of(
     requires { IsLinearPattern sound.old.patterns pattern }
     ensures { IfOk result CanProject }
 {
+    let mut auto = Auto::new(alloc);
+    let marked = marked_in(alloc, sound, pattern, &mut auto)?;
+    tracked(alloc, auto, &marked)
+}
+
+/// The pattern's states, whose moves are marked by variables.
+fn marked_in(
+    alloc: Global,
+    sound: &mut SoundProgram,
+    pattern: PatternId,
+    auto: &mut Auto,
+) -> Result<Marked, CallError>
+    requires { IsLinearPattern sound.old.patterns pattern }
+    ensures start { IfOk result (λ marked. IsState auto.new marked.start) }
+    ensures together { IfOk result (λ marked. KeepTogether auto.new marked) }
+{
     patterns_tell_variables();
     let compiler = PatternCompiler::new(alloc, sound)?;
-    let mut auto = Auto::new(alloc);
-    let marked = compiler.compile(alloc, sound, pattern, &mut auto)?;
-    let marks = tracks_in(alloc, &auto, &marked)?;
+    let marked = compiler.compile(alloc, sound, pattern, auto)?;
+    Ok(marked)
+}
+
+/// The marks of the automaton's moves as tracks.
+fn tracked(alloc: Global, auto: Auto, marked: &Marked) -> Result<Tracks, CallError>
+    requires start { IsState auto marked.now.start }
+    requires together { KeepTogether auto marked.now }
+    ensures { IfOk result CanProject }
+{
+    let marks = tracks_in(alloc, &auto, marked)?;
     let mut variables = Vec::new(alloc);
     for variable in marked.variables() {
         variables.push(variable.share()?)?;
@@ -117,8 +141,7 @@ pub fn show_projected(call: &Call<'_>, out: &mut Vec<u8>) -> Result<(), CallErro
     let number = call.size(0)?;
     let variable = call.word(1)?;
     let mut sound = program_of(call)?;
-    let patterns = clause_patterns(call.alloc, &sound)?;
-    let (_, pattern) = at_clause(&patterns, number)?;
+    let pattern = pattern_at(call.alloc, &sound, number)?;
     let bindings = projected(call.alloc, &mut sound, pattern)?;
     let (auto, state) = binding_of(bindings, variable)?;
     show_members(call, 2, &auto, state, out)
