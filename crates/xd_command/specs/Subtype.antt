@@ -15,6 +15,7 @@ use Rattle.xd_syntax.specs.declared.fault.Fault.{Fault}
 use Rattle.xd_syntax.specs.declared.fault.FaultKind.TheVariants.{NoSuchName}
 use Rattle.xd_heads.specs.CellsView.{CellsView}
 use Rattle.xd_heads.specs.Mirrors.{continuation_of}
+use Rattle.xd_proof_make.specs.Made.{UsesDefined}
 use Rattle.xd_laws.specs.Breach.{Lined, goals_of}
 use Rattle.xd_laws.specs.Consistent.{Goal, IsConsistent, numbered}
 use Rattle.xd_command.specs.Fits.{IsAcceptor}
@@ -60,6 +61,12 @@ AnswersSubtype left right P o =
 pub record IsStateOf (p : ProgramTable) (c : CellsView) (a : Automaton) (T : Tree) (s : State) : Type 0 where
   pub acceptor : IsAcceptor (names_of (program_tree p)) T a s
   pub continuation : continuation_of p.types c s ≡ Some T
+
+-- the state accepts exactly what fits a type of names that the program defines, which its cells know
+pub record IsKnownState (p : ProgramTable) (c : CellsView) (a : Automaton) (s : State) : Type 0 where
+  pub T : Tree
+  pub stands : IsStateOf p c a T s
+  pub names : UsesDefined (program_tree p) T
 
 -- both names are defined, and these are the types that they name
 pub record AreNamed (P : ProgramTree) (types : List Row) (left right : List ℕ) (ids : TypeId × TypeId) : Type 0 where

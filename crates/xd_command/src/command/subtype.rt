@@ -1,14 +1,19 @@
 //! The command `subtype`.
 
-ghost use Rattle.std.specs.Prelude.{◌≡◌, IfOk};
+ghost use Rattle.std.specs.Prelude.{◌≡◌, IfOk, OnOk};
 ghost use Rattle.xd_base.specs.Outside.{HasRisen};
-ghost use Rattle.xd_heads.specs.Mirrors.{Mirrors};
+ghost use Rattle.xd_goals.specs.Reached.{IsSettled};
+ghost use Rattle.xd_goals.specs.Rows.{row_at};
+ghost use Rattle.xd_goals.specs.Standing.{StandsOnAutomaton};
+ghost use Rattle.xd_heads.specs.Mirrors.{Mirrors, continuation_of};
 ghost use Rattle.xd_syntax.specs.Kept.{program_tree};
 ghost use Rattle.xd_syntax.specs.Shallow.{IsShallow};
+ghost use Rattle.xd_syntax.specs.Tree.{Tree};
 ghost use Rattle.xd_syntax.specs.Types as types;
-ghost use Rattle.xd_proof_make.specs.Made.{UsesDefined};
+ghost use Rattle.xd_proof_make.specs.Made.{IsOfTypes, UsesDefined};
+ghost use Rattle.xd_proof_text.specs.ProofText.{ProvesRow, UsesKnownNames};
 ghost use Rattle.xd_command.specs.Answer.{Answers};
-ghost use Rattle.xd_command.specs.Subtype.{AnswersInclusion, AnswersSubtype, AreNamed, EndsAtNames, IsStateOf};
+ghost use Rattle.xd_command.specs.Subtype.{AnswersInclusion, AnswersSubtype, AreNamed, EndsAtNames, IsKnownState, IsStateOf};
 ghost use Rattle.xd_steps.specs.Step.{DoesAll, DoesStep};
 ghost use Rattle.xd_command.specs.declared.command.Command.TheVariants as commands;
 
@@ -16,20 +21,11 @@ use std::alloc::Global;
 use xd_auto::{Auto, State};
 use xd_base::Shelf;
 use xd_doc::{NoMemory, Store};
-use xd_goals::{Table, Verdict, decide, new_tables_stand};
+use xd_goals::{GoalId, Table, Verdict, decide, new_tables_stand};
 use xd_heads::{Cells, compile_type};
 use xd_proof_text::proof_text;
 use xd_steps::{Output, Stop, load_program};
 use xd_syntax::{SoundProgram, TypeId};
-
-/// Two types as states of one automaton, with its cells.
-#[derive(Drop)]
-struct Both {
-    cells: Cells,
-    auto: Auto,
-    left: State,
-    right: State,
-}
 
 /// The types of both names; the command ends where one isn't defined.
 fn named_types(
@@ -58,28 +54,93 @@ fn compile_both(
     sound: &mut SoundProgram,
     left: TypeId,
     right: TypeId,
-) -> Result<Both, NoMemory>
+    cells: &mut Cells,
+    auto: &mut Auto,
+) -> Result<(State, State), NoMemory>
     requires left { types.BelongsTo sound.old.types left }
     requires right { types.BelongsTo sound.old.types right }
-    ensures left { IfOk result (λ both. IsStateOf sound.new both.cells both.auto (types.tree sound.old.types left) both.left) }
-    ensures right { IfOk result (λ both. IsStateOf sound.new both.cells both.auto (types.tree sound.old.types right) both.right) }
-    ensures mirrors { IfOk result (λ both. Mirrors sound.new both.cells both.auto) }
+    requires mirrors { Mirrors sound.old cells.old auto.old }
+    ensures left { IfOk result (λ states. IsStateOf sound.new cells.new auto.new (types.tree sound.old.types left) states.0) }
+    ensures right { IfOk result (λ states. IsStateOf sound.new cells.new auto.new (types.tree sound.old.types right) states.1) }
+    ensures mirrors { OnOk result (Mirrors sound.new cells.new auto.new) }
     ensures same { program_tree sound.new ≡ program_tree sound.old }
     ensures shallow { IsShallow sound.old.types → IsShallow sound.new.types }
 {
-    let mut cells = Cells::new(alloc);
-    let mut auto = Auto::new(alloc);
-    let one = compile_type(alloc, sound, &mut cells, &mut auto, left)?;
-    let other = compile_type(alloc, sound, &mut cells, &mut auto, right)?;
-    Ok(Both {
-        cells,
-        auto,
-        left: one,
-        right: other,
-    })
+    let one = compile_type(alloc, sound, cells, auto, left)?;
+    let other = compile_type(alloc, sound, cells, auto, right)?;
+    Ok((one, other))
 }
 
-/// Whether every document of the one type is one of the other: a proof, or a document of the one alone.
+/// A proof text of a goal that holds.
+fn prove_goal(
+    alloc: Global,
+    sound: &mut SoundProgram,
+    cells: &Cells,
+    auto: &Auto,
+    table: &Table,
+    goal: GoalId,
+) -> Result<Output, NoMemory>
+    requires shallow { IsShallow sound.old.types }
+    requires mirrors { Mirrors sound.old cells.now auto.now }
+    requires stands { StandsOnAutomaton auto.now table.now }
+    requires settled { IsSettled table.now goal.number }
+    requires types { IsOfTypes cells.now (row_at table.now.rows goal.number) }
+    requires names { UsesKnownNames (program_tree sound.old) (continuation_of sound.old.types cells.now) (row_at table.now.rows goal.number) }
+    ensures status { IfOk result (λ o. o.status ≡ 0) }
+    ensures text { IfOk result (λ o. ProvesRow (program_tree sound.old) (continuation_of sound.old.types cells.now) (row_at table.now.rows goal.number) o.text) }
+{
+    let mut text = Vec::new(alloc);
+    proof_text(alloc, sound, cells, auto, table, goal, &mut text)?;
+    Ok(Output::proved(text))
+}
+
+/// Whether every document that the one state accepts is accepted by the other: a proof, or a document that the one alone accepts.
+fn compare_states(
+    alloc: Global,
+    sound: &mut SoundProgram,
+    cells: &Cells,
+    auto: &Auto,
+    left: State,
+    right: State,
+) -> Result<Output, NoMemory>
+    requires shallow { IsShallow sound.old.types }
+    requires mirrors { Mirrors sound.old cells.now auto.now }
+    requires left { IsKnownState sound.old cells.now auto.now left }
+    requires right { IsKnownState sound.old cells.now auto.now right }
+    ensures { (L R : Tree) → IsStateOf sound.old cells.now auto.now L left → IsStateOf sound.old cells.now auto.now R right → IfOk result (AnswersInclusion (program_tree sound.old) L R) }
+{
+    let mut store = Store::new(alloc);
+    let mut table = Table::new(alloc);
+    new_tables_stand(auto, &store);
+    match decide(alloc, auto, &mut table, left, &[right], &mut store)? {
+        Verdict::Included(goal) => prove_goal(alloc, sound, cells, auto, &table, goal),
+        Verdict::Separated(document) => Output::separated(alloc, &store, document),
+    }
+}
+
+/// Whether every document of the one type is one of the other: a proof, or a document of the one alone. The cells and the
+/// automaton get the states of both.
+fn compare_in(
+    alloc: Global,
+    sound: &mut SoundProgram,
+    left: TypeId,
+    right: TypeId,
+    cells: &mut Cells,
+    auto: &mut Auto,
+) -> Result<Output, NoMemory>
+    requires left { types.BelongsTo sound.old.types left }
+    requires right { types.BelongsTo sound.old.types right }
+    requires shallow { IsShallow sound.old.types }
+    requires mirrors { Mirrors sound.old cells.old auto.old }
+    requires left_names { UsesDefined (program_tree sound.old) (types.tree sound.old.types left) }
+    requires right_names { UsesDefined (program_tree sound.old) (types.tree sound.old.types right) }
+    ensures { IfOk result (AnswersInclusion (program_tree sound.old) (types.tree sound.old.types left) (types.tree sound.old.types right)) }
+{
+    let (one, other) = compile_both(alloc, sound, left, right, cells, auto)?;
+    compare_states(alloc, sound, cells, auto, one, other)
+}
+
+/// The same in cells and an automaton of its own.
 fn compare(
     alloc: Global,
     sound: &mut SoundProgram,
@@ -93,33 +154,9 @@ fn compare(
     requires right_names { UsesDefined (program_tree sound.old) (types.tree sound.old.types right) }
     ensures { IfOk result (AnswersInclusion (program_tree sound.old) (types.tree sound.old.types left) (types.tree sound.old.types right)) }
 {
-    let both = compile_both(alloc, sound, left, right)?;
-    let mut store = Store::new(alloc);
-    let mut table = Table::new(alloc);
-    new_tables_stand(&both.auto, &store);
-    match decide(
-        alloc,
-        &both.auto,
-        &mut table,
-        both.left,
-        &[both.right],
-        &mut store,
-    )? {
-        Verdict::Included(goal) => {
-            let mut text = Vec::new(alloc);
-            proof_text(
-                alloc,
-                sound,
-                &both.cells,
-                &both.auto,
-                &table,
-                goal,
-                &mut text,
-            )?;
-            Ok(Output::proved(text))
-        }
-        Verdict::Separated(document) => Ok(Output::separated(alloc, &store, document)?),
-    }
+    let mut cells = Cells::new(alloc);
+    let mut auto = Auto::new(alloc);
+    compare_in(alloc, sound, left, right, &mut cells, &mut auto)
 }
 
 /// Whether every document of the one type of the program of this file is one of the other.

@@ -1,5 +1,4 @@
 use Rattle.std.proofs.Common.{refl, ap, subst}
-use Rattle.xd_auto.specs.Automaton.{accepts}
 use Rattle.xd_syntax.specs.Kept.{ProgramTable, program_tree}
 use Rattle.xd_syntax.specs.Program.{names_of}
 use Rattle.xd_syntax.specs.Types as types

@@ -2,13 +2,9 @@ use Rattle.std.proofs.Common.{refl, sym, subst, ap, ◌∙◌}
 use Rattle.xd_syntax.specs.Types.{tree}
 use Rattle.xd_syntax.specs.Program.{names_of}
 use Rattle.xd_syntax.proofs.AdoptLaws.{type_kept}
-use Rattle.xd_heads.specs.Mirrors.{Mirrors}
 use Rattle.xd_command.specs.Fits.{IsAcceptor}
 use Rattle.xd_command.specs.Subtype.{IsStateOf}
 use Rattle.xd_command.proofs.command.subtype.compile_both.Goals as goal
-
-pub compile_type-requires-clause-mirrors : goal.compile_type-requires-clause-mirrors
-compile_type-requires-clause-mirrors c = subst (Mirrors c.args.sound.now c.new-cells.result) (sym c.new-auto.ensures) (c.new-cells.ensures.mirrors c.args.sound.now)
 
 pub returns-clause-left : goal.returns-clause-left
 returns-clause-left c =
