@@ -18,6 +18,27 @@ use xd_read::read_document;
 /// More unfoldings of names than these small documents need.
 const MANY: u64 = 200;
 
+/// What a call asks about each document of its text.
+#[derive(Clone, Copy)]
+enum Question {
+    Fits,
+    Ways,
+    First,
+    Meaning,
+}
+
+impl Question {
+    fn of_name(name: &str) -> Result<Question, CallError> {
+        match name {
+            "fits" => Ok(Question::Fits),
+            "ways" => Ok(Question::Ways),
+            "first" => Ok(Question::First),
+            "meaning" => Ok(Question::Meaning),
+            _ => Err(CallError::Call),
+        }
+    }
+}
+
 /// About each document of its text, by the definitions of the sound program: `fits`, for the type that was read last; `ways` and
 /// `first`, for the pattern of the first clause; `meaning CALLS`, the value of the program. `value CALLS`: that of the first
 /// function's body, where it has no variables.
@@ -46,8 +67,9 @@ fn show_asked(
     if call.name == "value" {
         return show_value(call, program, out);
     }
+    let question = Question::of_name(call.name)?;
     for line in call.text.lines() {
-        show_on(desk, call, program, line, out)?;
+        show_on(desk, call, question, program, line, out)?;
     }
     Ok(())
 }
@@ -56,6 +78,7 @@ fn show_asked(
 fn show_on(
     desk: &Programs,
     call: &Call<'_>,
+    question: Question,
     program: &PlainProgram,
     line: &str,
     out: &mut Vec<u8>,
@@ -63,12 +86,13 @@ fn show_on(
     requires { AnyIsFirst program.now }
 {
     let document = plain_document(call.alloc, line)?;
-    show_about(desk, call, program, &document, line, out)
+    show_about(desk, call, question, program, &document, line, out)
 }
 
 fn show_about(
     desk: &Programs,
     call: &Call<'_>,
+    question: Question,
     program: &PlainProgram,
     document: &PlainDocument,
     line: &str,
@@ -76,12 +100,11 @@ fn show_about(
 ) -> Result<(), CallError>
     requires { AnyIsFirst program.now }
 {
-    match call.name {
-        "fits" => show_answer_on(is_fitting(desk, program, document)?, line, out),
-        "ways" => show_ways(call.alloc, program, document, out),
-        "first" => show_first(call.alloc, program, document, out),
-        "meaning" => show_meaning(call, program, document, out),
-        _ => Err(CallError::Call),
+    match question {
+        Question::Fits => show_answer_on(is_fitting(desk, program, document)?, line, out),
+        Question::Ways => show_ways(call.alloc, program, document, out),
+        Question::First => show_first(call.alloc, program, document, out),
+        Question::Meaning => show_meaning(call, program, document, out),
     }
 }
 
