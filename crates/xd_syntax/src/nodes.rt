@@ -11,7 +11,7 @@ use xd_base::Place;
 use xd_doc::{Class, Label, Words};
 
 /// What a node of a type or of a pattern is, borrowed from its table.
-#[derive(Clone, Copy)]
+#[derive(Drop)]
 pub enum FormView<'a, I: Copy> {
     Empty,
     Text,
@@ -28,7 +28,7 @@ pub enum FormView<'a, I: Copy> {
 }
 
 /// A node of a type or of a pattern, borrowed from its table: the place of its first token, what it is, and its parts in order.
-#[derive(Clone, Copy)]
+#[derive(Drop)]
 pub struct NodeView<'a, I: Copy> {
     pub place: Place,
     pub form: FormView<'a, I>,
