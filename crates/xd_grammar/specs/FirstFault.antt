@@ -15,7 +15,7 @@ pub data Refusal : Type 0 where
   no_text : Refusal
   too_deep : Refusal
 
--- The token n is the first that no text goes on with: without a limit of nesting, or else within it.
+-- No text goes on with the token n behind those before it: without a limit of nesting, or else within it.
 abbrev pub IsRefusedAt : Nonterminal → List Terminal → ℕ → Refusal → Type 0
 IsRefusedAt part ts n no_text = (limit : ℕ) → ¬ (Begins limit part (take (n + 1) ts))
 IsRefusedAt part ts n too_deep = ¬ (Begins nesting_limit part (take (n + 1) ts)) × ((limit : ℕ) × Begins limit part (take (n + 1) ts))

@@ -26,14 +26,14 @@ option_more (Some n) = Some (n + 1)
 option_more None = None
 
 -- Behind the opening quote of a text: how many bytes its pieces and its closing quote have. The flag says
--- that a `\` stands directly before.
+-- that a `\` which begins an escape stands directly before.
 abbrev pub quoted : Bool → List ℕ → Result ℕ LexFault
 quoted escaped [] = Err OpenText
 quoted true (b ∷ bs) = if is_escape b then one_more (quoted false bs) else Err BadCharacter
 quoted false (b ∷ bs) = if b == 34 then Ok 1 else one_more (quoted (b == 92) bs)
 
 -- Behind the `(*` of a comment: how many bytes there are up to the end of the first `*)`. The flag says
--- that a `*` stands directly before.
+-- that a `*` stands directly before, other than that of the `(*`.
 abbrev pub commented : Bool → List ℕ → Option ℕ
 commented starred [] = None
 commented starred (b ∷ bs) = if starred && (b == 41) then Some 1 else option_more (commented (b == 42) bs)

@@ -6,7 +6,7 @@ use Rattle.xd_lex.specs.declared.Kind.TheVariants as kinds
 use Rattle.xd_lex.specs.Scan.{is_escape}
 
 -- Pieces of a quoted text: a `\` and a character that makes an escape, or a character other than `"` and `\`.
--- The flag says that a `\` stands directly before.
+-- The flag says that a `\` which begins an escape stands directly before.
 abbrev pub are_pieces : Bool → List ℕ → Bool
 are_pieces escaped [] = not escaped
 are_pieces true (b ∷ bs) = is_escape b && are_pieces false bs
@@ -39,7 +39,7 @@ abbrev pub escape_meaning : ℕ → ℕ
 escape_meaning b = if b == 110 then 10 else (if b == 116 then 9 else b)
 
 -- Behind the opening quote: the characters that the pieces stand for, up to the closing quote. The flag
--- says that a `\` stands directly before.
+-- says that a `\` which begins an escape stands directly before.
 abbrev pub characters : Bool → List ℕ → List ℕ
 characters escaped [] = []
 characters true (b ∷ bs) = escape_meaning b ∷ characters false bs

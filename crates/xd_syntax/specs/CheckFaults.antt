@@ -27,7 +27,7 @@ rank wrong_argument = 13
 rank wrong_result = 14
 rank dead_clause = 17
 
--- the earlier place comes first, then the smaller number, with a warning behind all faults
+-- the earlier place comes first; of one place the smaller number, and a warning behind the faults
 abbrev pub line_precedes : Line → Line → Bool
 line_precedes l m = is_earlier l.place m.place || (is_same_place l.place m.place && nat_lt (rank l.kind) (rank m.kind))
 

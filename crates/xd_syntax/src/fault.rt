@@ -33,7 +33,7 @@ pub struct Fault {
     pub kind: FaultKind,
 }
 
-/// A clause that is never reached, at the first token of its pattern.
+/// A clause that is never reached, at the first token of its pattern, but for parentheses around it.
 #[derive(Clone, Copy, Debug, PartialEq, Eq)]
 pub struct Warning {
     pub place: Place,

@@ -88,6 +88,7 @@ impl<'a> Model for Cursor<'a> {
 }
 
 impl<'a> Cursor<'a> {
+    /// At the first token that the lexer gives.
     pub fn new(mut lexer: Lexer<'a>) -> Self
         requires { 0 < length lexer }
         ensures { result ≡ lexer.entry }
