@@ -4,7 +4,7 @@ use Rattle.std.specs.List.{AllByRecursion}
 use Rattle.xd_auto.specs.Automaton.{Automaton}
 use Rattle.xd_auto.specs.declared.auto.State.{State}
 use Rattle.xd_rules.specs.Members.{IsOneOf}
-use Rattle.xd_goals.specs.Moves.{Accepts, claim_with}
+use Rattle.xd_state_heads.specs.Moves.{Accepts, claim_with}
 use Rattle.xd_goals.specs.Rows.{TableView, claim_of, row_at}
 use Rattle.xd_goals.specs.Truth.{IsIncluded}
 use Rattle.xd_goals.specs.Verdicts.{IsProved}

@@ -10,15 +10,16 @@ use Rattle.xd_rules.specs.declared.atom.Atom.{Atom}
 use Rattle.xd_rules.specs.Heads.{Head, AreNames, is_text_atom}
 use Rattle.xd_rules.specs.Rules.{Claim, ChoiceTree, ContentLeaf, RestLeaf, SplitOn, head_number, right_heads, wanted_cases}
 use Rattle.xd_rules.proofs.Members.{one_of-all}
-use Rattle.xd_goals.specs.Moves.{AreBelow, heads_of, is_last_in, label_head, text_head}
+use Rattle.xd_state_heads.specs.Moves.{AreBelow, heads_of, is_last_in, label_head, text_head}
 use Rattle.xd_goals.specs.Rows.{GoalRow, TableView, row_at, claim_of, goal_case}
-use Rattle.xd_goals.specs.Trees.{IsGrown, IsTextTree, IsTreeBySort, matching_sides}
+use Rattle.xd_goals.specs.Trees.{IsGrown, IsTextTree, IsTreeBySort}
+use Rattle.xd_state_heads.specs.Wants.{matching_sides}
 use Rattle.xd_goals.specs.Standing.{ChoiceStands, IsBegun, IsCaseTree, IsSeparatedBy, StandsOn, claim_sides, task_for}
-use Rattle.xd_goals.specs.declared.heads.Side.{Side}
+use Rattle.xd_state_heads.specs.declared.heads.Side.{Side}
 use Rattle.xd_goals.specs.declared.grow.Task.{Task}
 use Rattle.xd_goals.specs.declared.table.Choice.{Choice}
 use Rattle.xd_goals.specs.declared.table.GoalCase.{GoalCase}
-use Rattle.xd_goals.proofs.Lists.{none_at}
+use Rattle.xd_state_heads.proofs.Lists.{none_at}
 use Rattle.xd_goals.proofs.Growing.{past_is_new}
 
 below_more : (n m : ℕ) → n ≤ m → (states : List State) → AreBelow n states → AreBelow m states

@@ -11,7 +11,7 @@ use Rattle.xd_rules.specs.declared.atom.Atom.{Atom}
 use Rattle.xd_rules.specs.Heads.{Head, is_text_atom}
 use Rattle.xd_rules.specs.Meaning.{Separates}
 use Rattle.xd_rules.specs.Rules.{Claim, ChoiceTree, AllLeaves}
-use Rattle.xd_goals.specs.Moves.{Accepts, claim_with}
+use Rattle.xd_state_heads.specs.Moves.{Accepts, claim_with}
 use Rattle.xd_goals.specs.Rows.{GoalRow, TableView, row_at, claim_of, claim_key, goal_case, no_view, IsRefuted, IsUnbroken, RowsBelow}
 use Rattle.xd_goals.specs.Kept.{GrowsBy, IsIndexed, found_at}
 use Rattle.xd_goals.specs.Trees.{IsTreeBySort}
@@ -19,7 +19,7 @@ use Rattle.xd_goals.specs.Standing.{AreSeparated, ChoiceStands, IsBegun, IsCaseT
 use Rattle.xd_goals.specs.declared.table.Choice.{Choice}
 use Rattle.xd_goals.specs.declared.table.GoalCase.{GoalCase}
 use Rattle.xd_goals.specs.declared.table.Standing.TheVariants.{Holds}
-use Rattle.xd_goals.proofs.Lists.{all_at, all_places, none_at}
+use Rattle.xd_state_heads.proofs.Lists.{all_at, all_places, none_at}
 use Rattle.xd_goals.proofs.Growing.{past_is_new}
 use Rattle.xd_goals.proofs.Trees.{AllLeaves-map, StandsAt-more, StandsAt-one, HasTree-grows, IsGrown-grows, IsTextTree-grows, standing-grows, broken-grows, choices-grows, open-grows}
 

@@ -12,13 +12,13 @@ use Rattle.std.proofs.Math.Seq.{get_or-append_seam}
 use Rattle.xd_doc.specs.Stored.{IsBelow}
 use Rattle.xd_auto.specs.declared.auto.State.{State}
 use Rattle.xd_rules.specs.Rules.{Claim}
-use Rattle.xd_goals.specs.Moves.{AreBelow, claim_with}
+use Rattle.xd_state_heads.specs.Moves.{AreBelow, claim_with}
 use Rattle.xd_goals.specs.Rows.{GoalRow, TableView, new_row, no_row, row_at, claim_of, claim_at, claim_key, state_numbers, IsListed, Leads, here, behind, IsRowBelow, RowsBelow}
 use Rattle.xd_goals.specs.Kept.{AreLinked, AreThese, BeginsWith, GrowsBy, IsIndexed, IsNew, IsSameGoal, found_at}
 use Rattle.xd_goals.specs.declared.table.ChoiceNode.{ChoiceNode}
 use Rattle.xd_goals.specs.declared.table.GoalCase.{GoalCase}
 use Rattle.xd_goals.specs.declared.table.Link.{Link}
-use Rattle.xd_goals.proofs.Lists.{slice_get-append, slice_get-seam, slice_get-push_cases}
+use Rattle.xd_state_heads.proofs.Lists.{slice_get-append, slice_get-seam, slice_get-push_cases}
 
 pub same_goal : (row : GoalRow) → IsSameGoal row row
 same_goal row = record { left = refl; rights = refl; standing = refl; choices = refl; broken = refl }

@@ -7,11 +7,12 @@ use Rattle.xd_rules.specs.declared.atom.Atom.{Atom}
 use Rattle.xd_rules.specs.Members.{IsOneOf}
 use Rattle.xd_rules.specs.Heads.{Head, matches, is_text_atom}
 use Rattle.xd_rules.specs.Rules.{Claim, ChoiceTree, ContentLeaf, RestLeaf, SplitOn, LeafKeeps, TreeKeeps, TextKeeps, KeepsBySort, CaseKeeps, head_number, matching_rests, right_heads}
-use Rattle.xd_goals.specs.Moves.{claim_with, with_state, heads_of}
+use Rattle.xd_state_heads.specs.Moves.{claim_with, with_state, heads_of}
 use Rattle.xd_goals.specs.Rows.{GoalRow, claim_at}
-use Rattle.xd_goals.specs.Trees.{AreApart, IsFree, IsGrown, IsTextTree, IsTreeBySort, side_at, matching_sides, gathered}
+use Rattle.xd_goals.specs.Trees.{AreApart, IsFree, IsGrown, IsTextTree, IsTreeBySort, gathered}
+use Rattle.xd_state_heads.specs.Wants.{side_at, matching_sides}
 use Rattle.xd_goals.specs.Standing.{IsCaseTree, claim_sides, task_for}
-use Rattle.xd_goals.specs.declared.heads.Side.{Side}
+use Rattle.xd_state_heads.specs.declared.heads.Side.{Side}
 use Rattle.xd_goals.specs.declared.table.GoalCase.{GoalCase}
 use Rattle.xd_goals.proofs.Trees.{with_state-from, with_state-keeps, with_state-has}
 use Rattle.xd_goals.proofs.Repairing.{same_side}

@@ -1,4 +1,3 @@
-pub mod Lists
 pub mod Growing
 pub mod Waking
 pub mod Finding
@@ -10,8 +9,6 @@ pub mod Splitting
 pub mod Keeping
 pub mod Facts
 pub mod Extending
-pub mod Naming
-pub mod Sides
 pub mod Reaching
 pub mod Claims
 pub mod Settling

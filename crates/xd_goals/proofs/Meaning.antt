@@ -10,7 +10,7 @@ use Rattle.xd_rules.specs.Members.{IsOneOf}
 use Rattle.xd_rules.specs.Heads.{Head, takes_label, takes_text}
 use Rattle.xd_rules.specs.Meaning.{IsMeaning}
 use Rattle.xd_rules.proofs.Members.{one_of-append_left, one_of-append_right, one_of-append_cases, one_of-map, one_of-from_map, one_of-any, any-one_of}
-use Rattle.xd_goals.specs.Moves.{Accepts, heads_of, is_last_in, label_head, text_head}
+use Rattle.xd_state_heads.specs.Moves.{Accepts, heads_of, is_last_in, label_head, text_head}
 
 pub and_parts : (x y : Bool) → (x && y) ≡ true → (x ≡ true) × (y ≡ true)
 and_parts true y e = (refl, e)

@@ -20,7 +20,7 @@ use Rattle.xd_goals.specs.declared.table.ChoiceNode.{ChoiceNode}
 use Rattle.xd_goals.specs.declared.table.GoalCase.{GoalCase}
 use Rattle.xd_goals.specs.declared.table.Link.{Link}
 use Rattle.xd_goals.specs.declared.table.Standing.TheVariants.{Holds, Refuted, Waiting}
-use Rattle.xd_goals.proofs.Lists.{all_places, none_at, set_at, set_here, set_other, set_there, set-map}
+use Rattle.xd_state_heads.proofs.Lists.{all_places, none_at, set_at, set_here, set_other, set_there, set-map}
 use Rattle.xd_goals.proofs.Trees.{broken-grows, choices-grows, standing-grows}
 use Rattle.xd_goals.proofs.Facts.{keeps_goals-grows, keeps_goals-then}
 use Rattle.xd_goals.proofs.Measuring.{level-changed, made-grows, made-then, potential-grows}

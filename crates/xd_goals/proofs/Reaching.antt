@@ -16,7 +16,7 @@ use Rattle.xd_goals.specs.declared.table.ChoiceNode.{ChoiceNode}
 use Rattle.xd_goals.specs.declared.table.ChoiceNode.TheVariants.{Split, Content, Rest}
 use Rattle.xd_goals.specs.declared.table.GoalId.{GoalId}
 use Rattle.xd_goals.specs.declared.table.Standing.TheVariants.{Holds}
-use Rattle.xd_goals.proofs.Lists.{all_map, all_push, one_of-get}
+use Rattle.xd_state_heads.proofs.Lists.{all_map, all_push, one_of-get}
 use Rattle.xd_goals.proofs.Trees.{AllLeaves-map}
 use Rattle.xd_goals.proofs.Linking.{row_read}
 use Rattle.xd_goals.proofs.Repairing.{number_in, content_in, rest_in}

@@ -4,7 +4,7 @@ use Rattle.std.specs.List.{slice_get}
 use Rattle.std.proofs.lemmas.Bool.{cases_eq, cases_lt}
 use Rattle.xd_auto.specs.declared.auto.State.{State}
 use Rattle.xd_rules.specs.Rules.{ChoiceTree, ContentLeaf, RestLeaf, SplitOn, AllLeaves}
-use Rattle.xd_goals.specs.Moves.{claim_with, with_state}
+use Rattle.xd_state_heads.specs.Moves.{claim_with, with_state}
 use Rattle.xd_goals.specs.Rows.{TableView, IsListed, IsRefuted}
 use Rattle.xd_goals.specs.Kept.{Grows}
 use Rattle.xd_goals.specs.Trees.{StandsAt, AreApart, IsFree, IsGrown, IsNumbered, HasTree, HasOpenTree, IsSplitAt}
@@ -12,7 +12,7 @@ use Rattle.xd_goals.specs.declared.table.ChoiceNode.{ChoiceNode}
 use Rattle.xd_goals.specs.declared.table.ChoiceNode.TheVariants.{Split, Content, Rest}
 use Rattle.xd_goals.specs.declared.table.GoalCase.{GoalCase}
 use Rattle.xd_goals.specs.declared.table.GoalId.{GoalId}
-use Rattle.xd_goals.specs.declared.heads.Side.{Side}
+use Rattle.xd_state_heads.specs.declared.heads.Side.{Side}
 use Rattle.xd_goals.specs.declared.grow.Task.{Task}
 use Rattle.xd_goals.proofs.Growing.{claim_within}
 use Rattle.xd_goals.proofs.Trees.{StandsAt-within}

@@ -9,7 +9,7 @@ use Rattle.xd_doc.specs.declared.store.Seq.{Seq}
 use Rattle.xd_auto.specs.declared.auto.State.{State}
 use Rattle.xd_auto.specs.Automaton.{Automaton}
 use Rattle.xd_rules.specs.Rules.{Claim, ChoiceTree, ContentLeaf, RestLeaf, SplitOn, AllLeaves}
-use Rattle.xd_goals.specs.Moves.{AreBelow, claim_with}
+use Rattle.xd_state_heads.specs.Moves.{AreBelow, claim_with}
 use Rattle.xd_goals.specs.Rows.{GoalRow, TableView, no_row, row_at, claim_of, claim_at, goal_case, IsListed, IsRefuted, IsUnbroken, Leads, RowsBelow}
 use Rattle.xd_goals.specs.Kept.{Refutes}
 use Rattle.xd_goals.specs.Standing.{ChoiceStands, IsBegun, IsOpen, IsSeparatedBy, RowHolds, StandsOn}
@@ -19,7 +19,7 @@ use Rattle.xd_goals.specs.declared.table.GoalCase.{GoalCase}
 use Rattle.xd_goals.specs.declared.table.Link.{Link}
 use Rattle.xd_goals.specs.declared.table.Standing.{Standing}
 use Rattle.xd_goals.specs.declared.table.Standing.TheVariants.{Holds, Refuted}
-use Rattle.xd_goals.proofs.Lists.{all_at, all_places}
+use Rattle.xd_state_heads.proofs.Lists.{all_at, all_places}
 use Rattle.xd_goals.proofs.Growing.{claim_at-is}
 use Rattle.xd_goals.proofs.Trees.{AllLeaves-map, StandsAt-one}
 use Rattle.xd_goals.proofs.Claims.{same_kinds}

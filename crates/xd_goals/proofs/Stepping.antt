@@ -9,7 +9,7 @@ use Rattle.xd_doc.specs.declared.store.Seq.{Seq}
 use Rattle.xd_auto.specs.declared.auto.State.{State}
 use Rattle.xd_auto.specs.Automaton.{Automaton}
 use Rattle.xd_rules.specs.Rules.{Claim}
-use Rattle.xd_goals.specs.Moves.{claim_with, is_last_in}
+use Rattle.xd_state_heads.specs.Moves.{claim_with, is_last_in}
 use Rattle.xd_goals.specs.Rows.{GoalRow, TableView, no_row, claim_at, claim_of, claim_key, goal_case, row_at}
 use Rattle.xd_goals.specs.Kept.{AreLinked, Grows, GrowsBy, IsConsistent, IsIndexed, IsWhole, Refutes, found_at, view_of}
 use Rattle.xd_goals.specs.Standing.{ChoiceStands, IsOpen, IsSeparatedBy, KeepsGoals, RowHolds, StandsOn, StandsOnAutomaton}
@@ -29,7 +29,7 @@ use Rattle.xd_goals.proofs.Settling.{SameGoals, changed_same, refutes_same, stan
 use Rattle.xd_goals.proofs.Measuring.{rows_bound, lowers-grown, lowers-held, lowers-refuted, made-grows, made-then}
 use Rattle.xd_goals.proofs.Working.{leaves_there, settled_holds}
 use Rattle.xd_goals.proofs.Growing.{claim_at-is, claim_within}
-use Rattle.xd_goals.proofs.Lists.{all_at, all_map, all_places}
+use Rattle.xd_state_heads.proofs.Lists.{all_at, all_map, all_places}
 use Rattle.xd_goals.proofs.Verdicts.{settled_is_included}
 
 -- a goal was settled, and the facts stay

@@ -15,14 +15,15 @@ use Rattle.xd_rules.specs.Members.{IsOneOf}
 use Rattle.xd_rules.specs.Heads.{Head, matches, is_text_atom}
 use Rattle.xd_rules.specs.Rules.{Claim, CaseKey, ChoiceTree, ContentLeaf, RestLeaf, SplitOn, AllLeaves, head_number, keyed}
 use Rattle.xd_rules.proofs.Members.{get-one_of, one_of-all, one_of-append_cases, one_of-from_map, one_of-from_flat_map, one_of-head_number}
-use Rattle.xd_goals.specs.Moves.{claim_with, heads_of, is_last_in, label_head, text_head, with_state}
+use Rattle.xd_state_heads.specs.Moves.{claim_with, heads_of, is_last_in, label_head, text_head, with_state}
 use Rattle.xd_goals.specs.Rows.{GoalRow, TableView, IsRefuted, choice_key, goal_case}
 use Rattle.xd_goals.specs.Kept.{Grows}
-use Rattle.xd_goals.specs.Trees.{HasTree, HasOpenTree, IsGrown, IsTextTree, gathered, IsTreeBySort, IsFailureBySort, IsPathBelow, GrownAs, matching_sides, side_at}
+use Rattle.xd_goals.specs.Trees.{HasTree, HasOpenTree, IsGrown, IsTextTree, gathered, IsTreeBySort, IsFailureBySort, IsPathBelow, GrownAs}
+use Rattle.xd_state_heads.specs.Wants.{matching_sides, side_at, HasHead}
 use Rattle.xd_goals.specs.Standing.{ChoiceStands, IsOpen, IsCaseTree, RowHolds, claim_sides, task_for}
 use Rattle.xd_goals.specs.Reached.{HasTreeWithin}
-use Rattle.xd_goals.specs.Cases.{AreBegun, AreSettled, FailsAt, HasHead, IsCaseGrown, IsOpenChoice, case_end_of}
-use Rattle.xd_goals.specs.declared.heads.Side.{Side}
+use Rattle.xd_goals.specs.Cases.{AreBegun, AreSettled, FailsAt, IsCaseGrown, IsOpenChoice, case_end_of}
+use Rattle.xd_state_heads.specs.declared.heads.Side.{Side}
 use Rattle.xd_goals.specs.declared.grow.Task.{Task}
 use Rattle.xd_goals.specs.declared.grow.Grown.{Grown}
 use Rattle.xd_goals.specs.declared.grow.Grown.TheVariants.{Stands, Fails}
@@ -31,7 +32,7 @@ use Rattle.xd_goals.specs.declared.work.CaseEnd.{CaseEnd}
 use Rattle.xd_goals.specs.declared.work.CaseEnd.TheVariants.{Chosen, Failed}
 use Rattle.xd_goals.specs.declared.work.Failure.{Failure}
 use Rattle.xd_goals.specs.declared.table.GoalCase.{GoalCase}
-use Rattle.xd_goals.proofs.Lists.{all_places, map-take_more, slice_get-push_cases}
+use Rattle.xd_state_heads.proofs.Lists.{all_places, map-take_more, slice_get-push_cases}
 use Rattle.xd_goals.proofs.Growing.{claim_within}
 use Rattle.xd_goals.proofs.Facts.{choice-grows, open_choice-grows}
 use Rattle.xd_goals.proofs.Trees.{StandsAt-one}

@@ -1,6 +1,6 @@
 -- The cases of a goal as work on it sees them. Only private contracts speak of them.
-use Rattle.std.specs.Prelude.{◌≡◌, ℕ, suc, ◌≤◌, true, false, List, [], ◌∷◌, ◌++◌, length, map, Option, None, Some, slice_get}
-use Rattle.std.specs.List.{AllByRecursion, list_any}
+use Rattle.std.specs.Prelude.{◌≡◌, ℕ, ◌≤◌, true, false, List, ◌++◌, length, map, Option, None, Some, slice_get}
+use Rattle.std.specs.List.{list_any}
 use Rattle.xd_doc.specs.Document.{Document, text, element}
 use Rattle.xd_doc.specs.Classes.{NameClass, class_has}
 use Rattle.xd_doc.specs.declared.store.Seq.{Seq}
@@ -8,16 +8,14 @@ use Rattle.xd_auto.specs.declared.auto.State.{State}
 use Rattle.xd_auto.specs.Automaton.{Automaton}
 use Rattle.xd_rules.specs.declared.atom.Atom.{Atom}
 use Rattle.xd_rules.specs.declared.atom.Atom.TheVariants.{Label, OtherLabel, Text, OtherText}
-use Rattle.xd_rules.specs.Listed.{AreAmong}
 use Rattle.xd_rules.specs.Members.{IsOneOf}
-use Rattle.xd_rules.specs.Heads.{Head, Named, AreNames, atoms_of, label_names, text_names, matches, is_text_atom}
-use Rattle.xd_rules.specs.Rules.{CaseKey, Claim, head_number, keyed, right_heads, wanted_cases}
-use Rattle.xd_goals.specs.Moves.{heads_of, is_last_in}
+use Rattle.xd_rules.specs.Heads.{Head, Named, AreNames, matches, is_text_atom}
+use Rattle.xd_rules.specs.Rules.{CaseKey, Claim, right_heads, wanted_cases}
+use Rattle.xd_state_heads.specs.Moves.{heads_of, is_last_in}
 use Rattle.xd_goals.specs.Rows.{TableView, choice_key, claim_of, goal_case, row_at, IsUnbroken}
 use Rattle.xd_goals.specs.Measure.{AreMadeFrom, potential}
 use Rattle.xd_goals.specs.Trees.{IsFailureBySort}
 use Rattle.xd_goals.specs.Standing.{ChoiceStands, IsOpen, KeepsGoals, claim_sides, task_for}
-use Rattle.xd_goals.specs.declared.heads.Want.{Want}
 use Rattle.xd_goals.specs.declared.grow.Grown.{Grown}
 use Rattle.xd_goals.specs.declared.grow.Grown.TheVariants.{Stands, Fails}
 use Rattle.xd_goals.specs.declared.table.Choice.{Choice}
@@ -28,62 +26,12 @@ use Rattle.xd_goals.specs.declared.work.Failure.{Failure}
 use Rattle.xd_goals.specs.declared.work.Settled.{Settled}
 use Rattle.xd_goals.specs.declared.work.Settled.TheVariants.{Holds, Separates}
 
-abbrev pub want_at : ℕ → State → State → Atom → Want
-want_at number content rest atom = record { head = number; atom = atom; content = content; rest = rest }
-
-abbrev pub want_of : ℕ → Head State → Atom → Want
-want_of number h atom = want_at number h.content h.rest atom
-
-abbrev pub wants_at : Named → ℕ → Head State → List Want
-wants_at named k h = map (want_of k h) (atoms_of named h)
-
-abbrev pub wants_of : Named → ℕ → List (Head State) → List Want
-wants_of named k [] = []
-wants_of named k (h ∷ hs) = wants_at named k h ++ wants_of named (suc k) hs
-
-abbrev pub want_key : Want → CaseKey
-want_key w = keyed w.head w.atom
-
-abbrev pub head_labels : Head State → List (List ℕ)
-head_labels h = label_names h.kind
-
-abbrev pub head_texts : Head State → List (List ℕ)
-head_texts h = text_names h.kind
-
--- the names of two classes
-abbrev pub names_in : NameClass → NameClass → Named
-names_in labels texts = record { labels = labels.names; texts = texts.names }
-
--- the labels and texts that the head names are among these
-pub record IsHeadNamed (named : Named) (h : Head State) : Type 0 where
-  pub labels : AreAmong (label_names h.kind) named.labels
-  pub texts : AreAmong (text_names h.kind) named.texts
-
 -- the document begins as the atom says, other labels and texts being those of two classes
 abbrev pub BeginsAs : NameClass → NameClass → Atom → Document → Document → Document → Type 0
 BeginsAs labels texts (Label l) inside behind d = d ≡ element l inside behind
 BeginsAs labels texts OtherLabel inside behind d = (l : List ℕ) × (class_has labels l ≡ true) × (d ≡ element l inside behind)
 BeginsAs labels texts (Text t) inside behind d = d ≡ text t behind
 BeginsAs labels texts OtherText inside behind d = (t : List ℕ) × (class_has texts t ≡ true) × (d ≡ text t behind)
-
--- what a head of the left, by its number, says of the content and of the rest
-pub record HasHead (a : Automaton) (left : State) (number : ℕ) (content rest : State) : Type 0 where
-  pub of_head : Head State
-  pub found : head_number (heads_of a left) number ≡ Some of_head
-  pub content_is : content ≡ of_head.content
-  pub rest_is : rest ≡ of_head.rest
-
--- the case is one of a head of the left at an atom that it matches
-pub record IsCaseOf (a : Automaton) (left : State) (w : Want) : Type 0 where
-  pub has : HasHead a left w.head w.content w.rest
-  pub matched : matches has.of_head.kind w.atom ≡ true
-
--- the cases of a claim, in order
-pub record AreCases (a : Automaton) (c : Claim State) (cases : List Want) : Type 0 where
-  pub named : Named
-  pub names : AreNames (heads_of a c.left ++ right_heads (heads_of a) c) named
-  pub complete : map want_key cases ≡ wanted_cases named 1 (heads_of a c.left)
-  pub each : AllByRecursion (IsCaseOf a c.left) cases
 
 -- an atom of a head of the left, where a content and a rest are those of a document that no right head takes
 pub record FailsAt (a : Automaton) (ds : List Document) (t : TableView) (c : Claim State) (atom : Atom) (inside behind : Seq) : Type 0 where

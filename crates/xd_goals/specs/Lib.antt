@@ -1,4 +1,3 @@
-pub mod Moves
 pub mod Rows
 pub mod Kept
 pub mod Trees

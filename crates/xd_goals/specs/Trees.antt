@@ -1,22 +1,20 @@
 -- How the choice trees of a table are made.
-use Rattle.std.specs.Prelude.{◌≡◌, ℕ, suc, ◌<◌, Bool, true, false, ◌&&◌, cond, List, [], ◌∷◌, Some, slice_get}
+use Rattle.std.specs.Prelude.{◌≡◌, ℕ, ◌<◌, Bool, true, false, ◌&&◌, List, [], ◌∷◌, Some, slice_get}
 use Rattle.xd_doc.specs.Document.{Document}
 use Rattle.xd_doc.specs.Stored.{BelongsTo, document_at}
 use Rattle.xd_doc.specs.declared.store.Seq.{Seq}
 use Rattle.xd_auto.specs.declared.auto.State.{State}
 use Rattle.xd_auto.specs.Automaton.{Automaton, accepts}
-use Rattle.xd_rules.specs.declared.atom.Atom.{Atom}
 use Rattle.xd_rules.specs.Members.{IsOneOf}
-use Rattle.xd_rules.specs.Heads.{Head, matches}
 use Rattle.xd_rules.specs.Rules.{Claim, ChoiceTree, ContentLeaf, RestLeaf, SplitOn, AllLeaves}
 use Rattle.std.specs.List.{AllByRecursion}
-use Rattle.xd_goals.specs.Moves.{AreBelow, IsInOrder, claim_with, with_state}
+use Rattle.xd_state_heads.specs.Moves.{AreBelow, IsInOrder, claim_with, with_state}
 use Rattle.xd_goals.specs.Rows.{GoalRow, TableView, row_at, claim_at, IsRefuted, IsListed}
 use Rattle.xd_goals.specs.declared.table.ChoiceNode.{ChoiceNode}
 use Rattle.xd_goals.specs.declared.table.GoalCase.{GoalCase}
 use Rattle.xd_goals.specs.declared.table.ChoiceNode.TheVariants.{Split, Content, Rest}
 use Rattle.xd_goals.specs.declared.table.Standing.TheVariants.{Refuted}
-use Rattle.xd_goals.specs.declared.heads.Side.{Side}
+use Rattle.xd_state_heads.specs.declared.heads.Side.{Side}
 use Rattle.xd_goals.specs.declared.grow.Task.{Task}
 use Rattle.xd_goals.specs.declared.grow.Grown.{Grown}
 use Rattle.xd_goals.specs.declared.grow.Grown.TheVariants.{Stands, Fails}
@@ -28,15 +26,6 @@ abbrev pub StandsAt : List ChoiceNode → ℕ → ChoiceTree → Type 0
 StandsAt nodes n (ContentLeaf g) = slice_get nodes n ≡ Some (Content (record { number = g }))
 StandsAt nodes n (RestLeaf g) = slice_get nodes n ≡ Some (Rest (record { number = g }))
 StandsAt nodes n (SplitOn j a b) = (x : ℕ) × (y : ℕ) × (slice_get nodes n ≡ Some (Split j x y)) × (x < n) × (y < n) × StandsAt nodes x a × StandsAt nodes y b
-
--- a right head as a case sees it
-abbrev pub side_at : ℕ → Head State → Side
-side_at number h = record { number = number; content = h.content; rest = h.rest }
-
--- the right heads that match an atom, with their numbers, counting from k
-abbrev pub matching_sides : Atom → ℕ → List (Head State) → List Side
-matching_sides atom k [] = []
-matching_sides atom k (h ∷ hs) = cond (matches h.kind atom) (side_at k h ∷ matching_sides atom (suc k) hs) (matching_sides atom (suc k) hs)
 
 -- a right head, of which nothing is on the two sides
 pub record IsFree (sides : List Side) (contents rests : List State) (side : Side) : Type 0 where

@@ -3,7 +3,6 @@
 
 mod goals;
 mod grow;
-mod heads;
 mod inclusion;
 mod laws;
 mod settled;

@@ -6,10 +6,11 @@ ghost use Rattle.xd_doc.specs.Stored.{BelongsTo, Keeps, document_at};
 ghost use Rattle.xd_auto.specs.Automaton.{IsState};
 ghost use Rattle.xd_auto.specs.Kept.{AreRight};
 ghost use Rattle.xd_rules.specs.Heads.{is_text_atom};
-ghost use Rattle.xd_goals.specs.Moves.{claim_with, is_last_in};
+ghost use Rattle.xd_state_heads.specs.Moves.{claim_with, is_last_in};
 ghost use Rattle.xd_goals.specs.Rows.{IsRefuted, IsUnbroken, claim_of, row_at};
 ghost use Rattle.xd_goals.specs.Kept.{Grows, IsConsistent, IsWhole, view_of};
-ghost use Rattle.xd_goals.specs.Cases.{BeginsAs, FailsAt, IsCaseGrown, IsCaseOf, IsMended, IsMending, IsSettling, IsUncovered, case_end_of};
+ghost use Rattle.xd_goals.specs.Cases.{BeginsAs, FailsAt, IsCaseGrown, IsMended, IsMending, IsSettling, IsUncovered, case_end_of};
+ghost use Rattle.xd_state_heads.specs.Wants.{IsCaseOf};
 ghost use Rattle.xd_goals.specs.Standing.{AreSeparated, ChoiceStands, IsSeparatedBy, KeepsGoals, StandsOn};
 ghost use Rattle.xd_goals.specs.Reached.{HasTreeWithin, IsOpenAt};
 ghost use Rattle.xd_goals.specs.Measure.{AreMadeFrom, Lowers};
@@ -17,7 +18,6 @@ ghost use Rattle.xd_goals.specs.declared.table.Standing.TheVariants.{Waiting};
 
 use crate::goals::{Goals, hold, refute, set_root, set_standing};
 use crate::grow::{Grown, Task, grow, grow_text, node_at, repair};
-use crate::heads::{Unnamed, Want, goal_cases, head_of, is_text, share, sides_of, unnamed_of};
 use crate::settled::no_marks;
 use crate::table::{Choice, ChoiceNode, GoalCase, GoalId, Row, Standing};
 use std::alloc::Global;
@@ -25,6 +25,7 @@ use xd_auto::{Answers, Auto, State};
 use xd_doc::{NoMemory, Seq, Store};
 use xd_empty::{label_of, text_of};
 use xd_rules::Atom;
+use xd_state_heads::{Unnamed, Want, goal_cases, head_of, is_text, share, sides_of, unnamed_of};
 
 /// Whether some state accepts the empty document.
 fn any_last(auto: &Auto, states: &[State]) -> bool

@@ -15,7 +15,7 @@ use Rattle.xd_laws.specs.Consistent.{Goal}
 use Rattle.xd_continuations.proofs.MoveLemmas.{all_append}
 use Rattle.xd_goals.specs.Rows.{GoalRow, TableView, row_at}
 use Rattle.xd_goals.specs.Standing.{StandsOnAutomaton}
-use Rattle.xd_goals.proofs.Lists.{all_map}
+use Rattle.xd_state_heads.proofs.Lists.{all_map}
 use Rattle.xd_goals.proofs.Verdicts.{choices_keep}
 use Rattle.xd_heads.specs.CellsView.{CellsView}
 use Rattle.xd_heads.specs.Mirrors.{Mirrors, continuation_of}

@@ -14,7 +14,7 @@ use Rattle.xd_rules.specs.Members.{IsOneOf, SomeOf}
 use Rattle.xd_rules.proofs.Members.{one_of-from_map, one_of-from_filter, one_of-all, get-one_of}
 use Rattle.xd_rules.specs.declared.atom.Atom.{Atom as TableAtom}
 use Rattle.xd_rules.specs.declared.atom.Atom.TheVariants.{Label, OtherLabel, Text, OtherText}
-use Rattle.xd_goals.specs.Moves.{heads_of}
+use Rattle.xd_state_heads.specs.Moves.{heads_of}
 use Rattle.xd_goals.specs.Rows.{GoalRow, TableView, row_at, claim_of, claim_at}
 use Rattle.xd_goals.specs.Trees.{StandsAt}
 use Rattle.xd_goals.specs.Truth as goals

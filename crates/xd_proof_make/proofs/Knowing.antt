@@ -16,7 +16,7 @@ use Rattle.xd_syntax.specs.declared.types.TypeId.{TypeId}
 use Rattle.xd_auto.specs.declared.auto.State.{State}
 use Rattle.xd_auto.specs.Automaton.{Automaton}
 use Rattle.xd_laws.specs.Heads.{heads}
-use Rattle.xd_goals.proofs.Lists.{slice_get-push_cases, all_map}
+use Rattle.xd_state_heads.proofs.Lists.{slice_get-push_cases, all_map}
 use Rattle.xd_heads.specs.CellsView.{CellsView}
 use Rattle.xd_heads.specs.Growing.{GrowsTypes}
 use Rattle.xd_heads.specs.HeadList.{head_at, kind_at}

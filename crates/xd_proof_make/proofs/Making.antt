@@ -17,7 +17,7 @@ use Rattle.xd_rules.specs.Heads as table
 use Rattle.xd_rules.specs.Rules as rules
 use Rattle.xd_rules.specs.Members.{IsOneOf}
 use Rattle.xd_rules.proofs.Members.{one_of-append_left, one_of-append_right}
-use Rattle.xd_goals.specs.Moves.{heads_of, is_last_in, label_head, text_head}
+use Rattle.xd_state_heads.specs.Moves.{heads_of, is_last_in, label_head, text_head}
 use Rattle.xd_goals.specs.Rows.{GoalRow, TableView, row_at, claim_of, claim_at, choice_key}
 use Rattle.xd_goals.specs.Standing.{IsBegun}
 use Rattle.xd_goals.specs.Truth as goals

@@ -11,7 +11,7 @@ use Rattle.xd_goals.specs.Trees.{StandsAt}
 use Rattle.xd_goals.specs.Reached.{HasTreeWithin}
 use Rattle.xd_goals.specs.declared.table.Choice.{Choice}
 use Rattle.xd_goals.specs.declared.table.ChoiceNode.{ChoiceNode}
-use Rattle.xd_goals.proofs.Lists.{all_map, all_push, slice_get-append, slice_get-push_cases, slice_get-seam}
+use Rattle.xd_state_heads.proofs.Lists.{all_map, all_push, slice_get-append, slice_get-push_cases, slice_get-seam}
 use Rattle.xd_goals.proofs.Trees.{AllLeaves-map}
 use Rattle.xd_proof_lines.specs.declared.steps.Step.{Step}
 use Rattle.xd_proof_lines.specs.declared.steps.Step.TheVariants.{Content, Rest, Split}

@@ -20,7 +20,7 @@ use Rattle.xd_laws.specs.Consistent.{Goal, named, right_heads, put_word, in_byte
 use Rattle.xd_rules.specs.Heads as table
 use Rattle.xd_rules.specs.Rules as rules
 use Rattle.xd_doc.proofs.SortedNames.{same_words}
-use Rattle.xd_goals.specs.Moves.{heads_of, label_head, text_head}
+use Rattle.xd_state_heads.specs.Moves.{heads_of, label_head, text_head}
 use Rattle.xd_heads.specs.Mirrors.{AreHeadMoves, no_head, element_head}
 use Rattle.xd_heads.specs.Mirrors as mirrors
 use Rattle.xd_proof_make.specs.Written.{kind_of, written_names, AreTypes}

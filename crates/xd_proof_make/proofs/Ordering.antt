@@ -14,7 +14,7 @@ use Rattle.xd_rules.specs.Members.{IsOneOf, SomeOf}
 use Rattle.xd_rules.proofs.Members.{one_of-append_left, one_of-append_right}
 use Rattle.xd_rules.specs.declared.atom.Atom.{Atom as TableAtom}
 use Rattle.xd_rules.specs.declared.atom.Atom.TheVariants.{Label, OtherLabel, Text, OtherText}
-use Rattle.xd_goals.specs.Moves.{label_head, text_head}
+use Rattle.xd_state_heads.specs.Moves.{label_head, text_head}
 use Rattle.xd_goals.specs.Rows.{choice_key}
 use Rattle.xd_goals.specs.declared.table.Choice.{Choice}
 use Rattle.xd_goals.specs.declared.table.ChoiceNode.{ChoiceNode}

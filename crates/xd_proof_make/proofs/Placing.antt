@@ -13,7 +13,7 @@ use Rattle.xd_laws.specs.Heads.{Head, heads}
 use Rattle.xd_laws.specs.Consistent.{numbered}
 use Rattle.xd_rules.specs.Heads as table
 use Rattle.xd_rules.specs.Rules as rules
-use Rattle.xd_goals.specs.Moves.{heads_of, label_head, text_head}
+use Rattle.xd_state_heads.specs.Moves.{heads_of, label_head, text_head}
 use Rattle.xd_heads.specs.Mirrors.{AreHeadMoves, no_head, element_head}
 use Rattle.xd_heads.specs.Mirrors as mirrors
 use Rattle.xd_proof_make.specs.Written.{AreTypes, IsAt, Renumbers}

@@ -16,7 +16,7 @@ use Rattle.xd_rules.specs.Heads as table
 use Rattle.xd_rules.specs.Rules as rules
 use Rattle.xd_rules.specs.Members.{IsOneOf}
 use Rattle.xd_rules.proofs.Members.{one_of-all, one_of-get, get-one_of}
-use Rattle.xd_goals.specs.Moves.{heads_of}
+use Rattle.xd_state_heads.specs.Moves.{heads_of}
 use Rattle.xd_goals.specs.Rows.{GoalRow, TableView, row_at, claim_of, IsRowBelow}
 use Rattle.xd_goals.specs.Standing.{IsBegun, StandsOnAutomaton}
 use Rattle.xd_goals.specs.Reached.{IsSettled, is_marked, LeadsToMarked}
@@ -25,7 +25,7 @@ use Rattle.xd_goals.specs.declared.table.Choice.{Choice}
 use Rattle.xd_goals.specs.declared.table.ChoiceNode.{ChoiceNode}
 use Rattle.xd_goals.specs.declared.table.Standing.TheVariants.{Holds}
 use Rattle.xd_goals.proofs.Growing.{past_is_new}
-use Rattle.xd_goals.proofs.Lists.{all_map}
+use Rattle.xd_state_heads.proofs.Lists.{all_map}
 use Rattle.xd_goals.proofs.Facts.{StandsSomewhere, all_both, choices_stand}
 use Rattle.xd_goals.proofs.Verdicts.{choices_keep}
 use Rattle.xd_heads.specs.CellsView.{CellsView}

@@ -16,12 +16,12 @@ use Rattle.xd_rules.specs.Rules as rules
 use Rattle.xd_rules.specs.Members.{IsOneOf}
 use Rattle.xd_rules.proofs.Members.{one_of-all, one_of-head_number}
 use Rattle.xd_rules.specs.declared.atom.Atom.{Atom as TableAtom}
-use Rattle.xd_goals.specs.Moves.{heads_of, label_head, text_head}
+use Rattle.xd_state_heads.specs.Moves.{heads_of, label_head, text_head}
 use Rattle.xd_goals.specs.Rows.{GoalRow, TableView, row_at, claim_of, claim_at}
 use Rattle.xd_goals.specs.Truth as goals
 use Rattle.xd_goals.specs.declared.table.Choice.{Choice}
 use Rattle.xd_goals.proofs.Growing.{claim_within}
-use Rattle.xd_goals.proofs.Lists.{all_map}
+use Rattle.xd_state_heads.proofs.Lists.{all_map}
 use Rattle.xd_goals.proofs.Trees.{StandsAt-one}
 use Rattle.xd_heads.specs.CellsView.{CellsView}
 use Rattle.xd_heads.specs.Found.{continuation}

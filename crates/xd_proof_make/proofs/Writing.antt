@@ -8,7 +8,7 @@ use Rattle.xd_rules.proofs.Members.{one_of-append_left, one_of-append_right, one
 use Rattle.xd_goals.specs.Trees.{StandsAt}
 use Rattle.xd_goals.specs.declared.table.Choice.{Choice}
 use Rattle.xd_goals.specs.declared.table.ChoiceNode.{ChoiceNode}
-use Rattle.xd_goals.proofs.Lists.{slice_get-push_cases}
+use Rattle.xd_state_heads.proofs.Lists.{slice_get-push_cases}
 use Rattle.xd_laws.specs.Consistent.{Case}
 use Rattle.xd_proof_form.specs.Parts.{IsAtom}
 use Rattle.xd_proof_lines.specs.Cases.{IsCase, atom_of}

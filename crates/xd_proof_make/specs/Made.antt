@@ -13,7 +13,7 @@ use Rattle.xd_auto.specs.Automaton.{Automaton}
 use Rattle.xd_laws.specs.Consistent.{Goal, IsConsistent, numbered}
 use Rattle.xd_laws.specs.Breach.{Lined, goals_of}
 use Rattle.xd_rules.specs.Rules.{right_heads}
-use Rattle.xd_goals.specs.Moves.{AreBelow, heads_of, is_last_in}
+use Rattle.xd_state_heads.specs.Moves.{AreBelow, heads_of, is_last_in}
 use Rattle.xd_goals.specs.Rows.{GoalRow, TableView, claim_of, row_at}
 use Rattle.xd_goals.specs.Standing.{IsBegun}
 use Rattle.xd_goals.specs.declared.table.ChoiceNode.{ChoiceNode}

@@ -12,7 +12,7 @@ use Rattle.xd_rules.specs.Rules as rules
 use Rattle.xd_rules.specs.Members.{SomeOf}
 use Rattle.xd_rules.specs.declared.atom.Atom.{Atom as TableAtom}
 use Rattle.xd_rules.specs.declared.atom.Atom.TheVariants.{Label, OtherLabel, Text, OtherText}
-use Rattle.xd_goals.specs.Moves.{heads_of}
+use Rattle.xd_state_heads.specs.Moves.{heads_of}
 use Rattle.xd_goals.specs.Rows.{GoalRow, claim_of}
 use Rattle.xd_goals.specs.Trees.{StandsAt}
 use Rattle.xd_goals.specs.declared.table.Choice.{Choice}

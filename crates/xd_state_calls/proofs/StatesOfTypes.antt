@@ -5,7 +5,7 @@ use Rattle.xd_auto.specs.declared.auto.State.{State}
 use Rattle.xd_auto.specs.Automaton.{Automaton, Extends, IsState, state_number}
 use Rattle.xd_syntax.specs.Table.{Row}
 use Rattle.xd_syntax.specs.Tree.{Tree}
-use Rattle.xd_goals.proofs.Lists.{all_map, all_push}
+use Rattle.xd_state_heads.proofs.Lists.{all_map, all_push}
 use Rattle.xd_heads.specs.CellsView.{CellsView}
 use Rattle.xd_heads.specs.Compiled.{numbered}
 use Rattle.xd_heads.specs.Mirrors.{IsTypeState, as_type, continuation_of}

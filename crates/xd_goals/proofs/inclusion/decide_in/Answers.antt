@@ -1,6 +1,6 @@
 use Rattle.std.proofs.Common.{◌+◌, ◌∙◌, length, sym, rules}
 use Rattle.xd_goals.specs.Kept.{view_of}
-use Rattle.xd_goals.specs.Moves.{claim_with}
+use Rattle.xd_state_heads.specs.Moves.{claim_with}
 use Rattle.xd_goals.specs.Measure.{possible}
 use Rattle.xd_goals.specs.Reached.{IsWaitingIn}
 use Rattle.xd_goals.proofs.Facts.{keeps_goals-then, keeps-then}

@@ -1,4 +1,4 @@
-use Rattle.xd_goals.proofs.Finding.{OnOk-from_err}
+use Rattle.xd_state_heads.proofs.Results.{OnOk-from_err}
 use Rattle.std.proofs.Common.{◌+◌, arith, length, rules}
 use Rattle.xd_goals.specs.Kept.{view_of}
 use Rattle.xd_goals.specs.Measure.{possible}

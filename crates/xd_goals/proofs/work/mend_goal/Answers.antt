@@ -4,7 +4,7 @@ use Rattle.xd_goals.specs.Kept.{view_of}
 use Rattle.xd_goals.specs.Rows.{GoalRow, row_at, IsUnbroken}
 use Rattle.xd_goals.proofs.Linking.{row_read}
 use Rattle.xd_goals.proofs.Facts.{keeps_goals-then, keeps-then}
-use Rattle.xd_goals.proofs.Finding.{OnOk-map, OnOk-from_err}
+use Rattle.xd_state_heads.proofs.Results.{OnOk-map, OnOk-from_err}
 use Rattle.xd_goals.proofs.Measuring.{made-then}
 use Rattle.xd_goals.proofs.Stepping.{IsStep, keeps-same, whole_same}
 use Rattle.xd_goals.proofs.Mending.{lowers-mended, mended_none, mending-same, mending-then, repaired_same, repaired_step}

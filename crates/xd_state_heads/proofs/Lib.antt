@@ -1,0 +1,4 @@
+pub mod Lists
+pub mod Naming
+pub mod Results
+pub mod Sides
