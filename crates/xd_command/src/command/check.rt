@@ -2,7 +2,8 @@
 
 ghost use Rattle.std.specs.Prelude.{IfOk};
 ghost use Rattle.xd_base.specs.Outside.{HasRisen};
-ghost use Rattle.xd_syntax.specs.Kept.{program_tree};
+ghost use Rattle.xd_check.specs.Outcome.{IsOutcome};
+ghost use Rattle.xd_syntax.specs.Kept.{ProgramTable, program_tree};
 ghost use Rattle.xd_command.specs.Answer.{Answers};
 ghost use Rattle.xd_command.specs.Check.{AnswersCheck};
 ghost use Rattle.xd_steps.specs.Step.{DoesAll};
@@ -20,13 +21,22 @@ fn report(alloc: Global, sound: SoundProgram) -> Result<Output, NoMemory>
     ensures { IfOk result (AnswersCheck (program_tree sound)) }
 {
     let mut store = Store::new(alloc);
-    match xd_check::check(alloc, sound, &mut store)? {
+    let outcome = xd_check::check(alloc, sound, &mut store)?;
+    verdict(alloc, &store, &outcome)
+}
+
+/// The lines of what a check gave, and whether the program is accepted.
+fn verdict(alloc: Global, store: &Store, outcome: &CheckOutcome) -> Result<Output, NoMemory>
+    requires { (p : ProgramTable) × IsOutcome p store.now outcome.now }
+    ensures { (p : ProgramTable) → IsOutcome p store.now outcome.now → IfOk result (AnswersCheck (program_tree p)) }
+{
+    match outcome {
         CheckOutcome::Accepted { warnings, .. } => {
-            let text = report_lines(alloc, &store, &[], &warnings)?;
+            let text = report_lines(alloc, store, &[], warnings)?;
             Ok(Output::accepted(text)?)
         }
         CheckOutcome::Refused { faults, warnings } => {
-            let text = report_lines(alloc, &store, &faults, &warnings)?;
+            let text = report_lines(alloc, store, faults, warnings)?;
             Ok(Output::refused(text))
         }
     }
