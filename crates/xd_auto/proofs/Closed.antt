@@ -1,5 +1,5 @@
 -- Changes keep every move leading to a state that is there.
-use Rattle.std.proofs.Common.{ℕ, ◌+◌, ◌<◌, ◌≤◌, ◌≡◌, Bool, false, [], ◌∷◌, ◌++◌, length, arith, subst, sym, length-append}
+use Rattle.std.proofs.Common.{ℕ, ◌+◌, ◌<◌, ◌≤◌, ◌≡◌, Bool, false, [], ◌∷◌, ◌++◌, length, ap, arith, subst, sym, length-append}
 use Rattle.std.proofs.Math.ListN.{length-set}
 use Rattle.std.specs.List.{All}
 use Rattle.std.proofs.lemmas.List.Elements.{All-weaker, All-append, All-push, All-set, All-get_or, All-nil, All-cons}
@@ -8,6 +8,10 @@ use Rattle.xd_auto.specs.declared.auto.State.{State}
 use Rattle.xd_auto.specs.declared.auto.LabelMove.{LabelMove}
 use Rattle.xd_auto.specs.declared.auto.TextMove.{TextMove}
 use Rattle.xd_auto.specs.Automaton.{Automaton, StateMoves, IsState, LeadsBelow, IsClosed, no_moves, moves_at, with_moves}
+
+-- states of one number are one
+pub same_state : (s t : State) → s.number ≡ t.number → s ≡ t
+same_state s t e = ap (λ (n : ℕ). let u : State = record { number = n } in u) e
 
 pub LeadsBelow-more : (n m : ℕ) (moves : StateMoves) → n ≤ m → LeadsBelow n moves → LeadsBelow m moves
 LeadsBelow-more n m moves le h = record {

@@ -8,9 +8,8 @@ use Rattle.xd_doc.specs.Document.{Document}
 use Rattle.xd_doc.specs.Classes.{class_has}
 use Rattle.xd_auto.specs.declared.auto.LabelMove.{LabelMove}
 use Rattle.xd_auto.specs.declared.auto.TextMove.{TextMove}
-use Rattle.xd_auto.specs.Automaton.{Automaton, StateMoves, accepts}
+use Rattle.xd_auto.specs.Automaton.{Automaton, StateMoves, accepts, takes_element}
 use Rattle.xd_auto.specs.Copying.{IsCopy, AddsCopies, AddsMoves, Copies, moved, moved_text}
-use Rattle.xd_auto.specs.Membership.{takes_element}
 
 pub AddsCopies-more : (contents rests : Copies) (moves old new : List LabelMove) (i : ℕ) (m n : LabelMove) → i < length moves → m ≡ get_or moves i m
     → AddsCopies contents rests (take i moves) old new → IsCopy contents rests m n → AddsCopies contents rests (take (i + 1) moves) old (new ++ n ∷ [])

@@ -7,9 +7,8 @@ use Rattle.xd_doc.specs.Classes.{class_has}
 use Rattle.xd_auto.specs.declared.auto.State.{State}
 use Rattle.xd_auto.specs.declared.auto.LabelMove.{LabelMove}
 use Rattle.xd_auto.specs.declared.auto.TextMove.{TextMove}
-use Rattle.xd_auto.specs.Automaton.{Automaton, StateMoves, IsState, IsClosed, IsJoined, LeadsBelow, accepts, moves_at, no_moves}
+use Rattle.xd_auto.specs.Automaton.{Automaton, StateMoves, IsState, IsClosed, IsJoined, LeadsBelow, accepts, moves_at, no_moves, takes_element, takes_word}
 use Rattle.xd_auto.specs.Copying.{AddsMoves, AreCopied, AreStateCopies, Copies, HasCopy, IsFrontCopy, IsStateCopy, Reached, copy_of, moved_text, no_copies}
-use Rattle.xd_auto.specs.Membership.{takes_element, takes_word}
 use Rattle.xd_auto.proofs.Anys.{found, any_at, and_left, and_right, and_both}
 use Rattle.xd_auto.proofs.Closed.{moves_at-closed, no_moves-below}
 use Rattle.xd_auto.proofs.Extending.{list_any-agree, keeps, Extends-append}

@@ -3,11 +3,7 @@ pub mod Extending
 pub mod Anys
 pub mod Members
 pub mod RunLaw
-pub mod Bits
-pub mod Keeping
 pub mod Counting
-pub mod Walking
-pub mod Walks
 pub mod Copies
 pub mod Placing
 pub mod Following

@@ -9,9 +9,8 @@ use Rattle.xd_doc.specs.Document.{Document, empty, text, element}
 use Rattle.xd_auto.specs.declared.auto.State.{State}
 use Rattle.xd_auto.specs.declared.auto.LabelMove.{LabelMove}
 use Rattle.xd_auto.specs.declared.auto.TextMove.{TextMove}
-use Rattle.xd_auto.specs.Automaton.{Automaton, StateMoves, IsState, IsClosed, LeadsBelow, Extends, KeepsAccepting, accepts, moves_at, no_moves}
+use Rattle.xd_auto.specs.Automaton.{Automaton, StateMoves, IsState, IsClosed, LeadsBelow, Extends, KeepsAccepting, accepts, moves_at, no_moves, takes_element, takes_word}
 use Rattle.xd_auto.specs.Copying.{AddsMoves, AreCopied, AreStateCopies, AreUnited, Copies, HasCopy, IsCopy, IsCopyOf, IsReached, IsStateCopy, is_content, is_rest, LabelBelow, LeadsTo, by_element, by_text, here, further, Reached, accepts_by, copy_of, moved, moved_text, no_copies}
-use Rattle.xd_auto.specs.Membership.{takes_element, takes_word}
 use Rattle.xd_auto.proofs.Closed.{moves_at-closed, LeadsBelow-more, no_moves-below}
 use Rattle.xd_auto.proofs.Extending.{list_any-agree}
 use Rattle.xd_auto.proofs.Copies.{adds_text, adds_element}

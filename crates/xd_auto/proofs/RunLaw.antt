@@ -6,9 +6,7 @@ use Rattle.xd_doc.specs.Classes.{class_has}
 use Rattle.xd_auto.specs.declared.auto.State.{State}
 use Rattle.xd_auto.specs.declared.auto.LabelMove.{LabelMove}
 use Rattle.xd_auto.specs.declared.auto.TextMove.{TextMove}
-use Rattle.xd_auto.specs.Membership.{takes_word}
-use Rattle.xd_auto.specs.Membership.{takes_element as takes_over}
-use Rattle.xd_auto.specs.Automaton.{Automaton, accepts, moves_at}
+use Rattle.xd_auto.specs.Automaton.{takes_word, takes_element as takes_over, Automaton, accepts, moves_at}
 use Rattle.xd_auto.specs.Runs.{Run, ends, takes_text, takes_element, IsAcceptingRun, AcceptsByRuns, RunsAreAccepting, runs}
 use Rattle.xd_auto.proofs.Members.{in_cond, of_cond, in_each, of_each, in_flat, of_flat, in_map, of_map, first_in, only_in}
 use Rattle.xd_auto.proofs.Anys.{found, any_at, IsSomeAnd-at, IsSomeAnd-parts, and_left, and_right, and_both}

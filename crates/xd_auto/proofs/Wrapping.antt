@@ -7,9 +7,8 @@ use Rattle.xd_doc.specs.Document.{Document, empty, text, element}
 use Rattle.xd_doc.specs.Classes.{class_has}
 use Rattle.xd_auto.specs.declared.auto.State.{State}
 use Rattle.xd_auto.specs.declared.auto.LabelMove.{LabelMove}
-use Rattle.xd_auto.specs.Automaton.{Automaton, StateMoves, IsState, IsWrapped, KeepsAccepting, accepts, moves_at, no_moves}
+use Rattle.xd_auto.specs.Automaton.{Automaton, StateMoves, IsState, IsWrapped, KeepsAccepting, accepts, moves_at, no_moves, takes_element, takes_word}
 use Rattle.xd_auto.specs.Copying.{IsAround}
-use Rattle.xd_auto.specs.Membership.{takes_element, takes_word}
 use Rattle.xd_auto.proofs.Anys.{and_left, and_right, and_both}
 
 -- what has no moves accepts no item

@@ -38,6 +38,14 @@ accepts a (text t rest) s = list_any (λ m. class_has m.words t && accepts a res
 accepts a (element l content rest) s =
     list_any (λ m. class_has m.class l && (accepts a content m.content && accepts a rest m.rest)) (moves_at a s).labels
 
+-- the move leads over an element with this label and content, and what follows it
+abbrev pub takes_element : Automaton → List ℕ → Document → Document → LabelMove → Bool
+takes_element a l content rest m = class_has m.class l && (accepts a content m.content && accepts a rest m.rest)
+
+-- the same over a text, and what follows it
+abbrev pub takes_word : Automaton → List ℕ → Document → TextMove → Bool
+takes_word a t rest m = class_has m.words t && accepts a rest m.rest
+
 -- the moves lead to states below n
 pub record LeadsBelow (n : ℕ) (moves : StateMoves) : Type 0 where
   pub labels : All (λ m. (state_number m.content < n) × (state_number m.rest < n)) moves.labels

@@ -3,7 +3,4 @@ pub mod Index
 pub mod Matching
 pub mod Counts
 pub mod Runs
-pub mod Marks
-pub mod Kept
-pub mod Membership
 pub mod Copying

@@ -3,9 +3,10 @@
 ghost use Rattle.xd_auto.specs.Automaton.{IsState};
 
 use std::alloc::Global;
-use xd_auto::{Auto, Scratch, State, member};
+use xd_auto::{Auto, State};
 use xd_call_lines::{Call, CallError, show_answer_on};
 use xd_doc::Store;
+use xd_member::{Scratch, member};
 use xd_read::read_document;
 
 /// Of each document from the call's word of this number on whether the state accepts it.

@@ -7,7 +7,8 @@ use xd_call_lines::{CallError, show_place};
 use xd_names::resolve;
 use xd_parse::{ParseError, parse_program, parse_type};
 use xd_rec::{Soundness, well_formed};
-use xd_syntax::{Fault, Program, SoundProgram, TypeId, Types};
+use xd_sound::SoundProgram;
+use xd_syntax::{Fault, Program, TypeId, Types};
 
 /// The program that was read last, the sound one that was made of one last, and a table of types beside them.
 #[derive(Drop)]

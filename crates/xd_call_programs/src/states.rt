@@ -12,7 +12,8 @@ use xd_heads::{Cells, compile_type};
 use xd_names::resolve;
 use xd_parse::{ParseError, parse_program};
 use xd_rec::{Soundness, well_formed};
-use xd_syntax::{SoundProgram, TypeId};
+use xd_sound::SoundProgram;
+use xd_syntax::TypeId;
 
 /// The program of a text without faults.
 fn sound_program(alloc: Global, text: &str) -> Result<SoundProgram, CallError> {

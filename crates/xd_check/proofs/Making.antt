@@ -9,8 +9,7 @@ use Rattle.xd_doc.specs.Document.{Document, empty, text, element}
 use Rattle.xd_doc.specs.Classes.{TextClass, class_has, is_named}
 use Rattle.xd_auto.specs.declared.auto.State.{State}
 use Rattle.xd_auto.specs.declared.auto.TextMove.{TextMove}
-use Rattle.xd_auto.specs.Automaton.{Automaton, ChangesOnly, Extends, IsClosed, IsJoined, IsState, KeepsAccepting, StateMoves, accepts, moves_at, no_moves, state_number, with_text_move}
-use Rattle.xd_auto.specs.Membership.{takes_element, takes_word}
+use Rattle.xd_auto.specs.Automaton.{Automaton, ChangesOnly, Extends, IsClosed, IsJoined, IsState, KeepsAccepting, StateMoves, accepts, moves_at, no_moves, state_number, with_text_move, takes_element, takes_word}
 use Rattle.xd_auto.proofs.Extending.{keeps}
 use Rattle.xd_auto.proofs.Anys.{and_left, and_right, and_both}
 use Rattle.xd_check.specs.Walked.{AcceptedInTurn, Grows}

@@ -24,7 +24,8 @@ use xd_base::Place;
 use xd_doc::{NoMemory, Store};
 use xd_patterns::PatternCompiler;
 use xd_runs::laws::programs_are_linear;
-use xd_syntax::{ExprId, Function, Param, PatternId, SoundProgram};
+use xd_sound::SoundProgram;
+use xd_syntax::{ExprId, Function, Param, PatternId};
 
 /// The program, what compiles its patterns, and its functions' declared types as states of an automaton.
 #[derive(Drop)]

@@ -13,7 +13,8 @@ use crate::lines::{FoundLine, Told, sort_lines, tell};
 use std::alloc::Global;
 use xd_auto::Auto;
 use xd_doc::{NoMemory, Store};
-use xd_syntax::{Checked, Fault, SoundProgram, Warning};
+use xd_sound::{Checked, SoundProgram};
+use xd_syntax::{Fault, Warning};
 
 /// What a check gives: the program as an accepted one, or its faults; and its warnings.
 ///

@@ -21,7 +21,8 @@ use std::collections::BTreeMap;
 use xd_auto::{Auto, State};
 use xd_doc::{Label, NoMemory};
 use xd_heads::{Cells, compile_type};
-use xd_syntax::{Function, Param, SoundProgram, TypeId};
+use xd_sound::SoundProgram;
+use xd_syntax::{Function, Param, TypeId};
 
 /// The types that a function declares.
 #[derive(Drop)]

@@ -20,7 +20,8 @@ use xd_doc::{Label, Seq, Store};
 use xd_match::first_way;
 use xd_read::read_document;
 use xd_runs::laws::programs_are_linear;
-use xd_syntax::{Clause, ExprForm, PatternId, SoundProgram};
+use xd_sound::SoundProgram;
+use xd_syntax::{Clause, ExprForm, PatternId};
 use xd_write::write_document;
 
 /// The patterns of these clauses.

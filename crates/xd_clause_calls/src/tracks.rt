@@ -16,7 +16,8 @@ use xd_call_lines::{Call, CallError};
 use xd_call_programs::{program_of, show_members};
 use xd_clauses::patterns_tell_variables;
 use xd_patterns::{Marked, PatternCompiler};
-use xd_syntax::{PatternId, SoundProgram};
+use xd_sound::SoundProgram;
+use xd_syntax::PatternId;
 
 /// Adds a track for each variable that this move belongs to.
 fn add_of_move(

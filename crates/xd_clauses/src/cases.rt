@@ -24,7 +24,8 @@ use xd_bind::{Binding, Given};
 use xd_doc::{Label, NoMemory, Seq, Store};
 use xd_empty::Inhabitants;
 use xd_patterns::PatternCompiler;
-use xd_syntax::{PatternId, SoundProgram};
+use xd_sound::SoundProgram;
+use xd_syntax::PatternId;
 
 /// A document that the state accepts, where there is one. What is found of other states on the way is known from then on.
 pub fn accepted_document(

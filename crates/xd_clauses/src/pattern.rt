@@ -11,7 +11,8 @@ use xd_boole::subtract;
 use xd_doc::{NoMemory, Store};
 use xd_empty::Inhabitants;
 use xd_patterns::{Marked, PatternCompiler};
-use xd_syntax::{PatternId, SoundProgram};
+use xd_sound::SoundProgram;
+use xd_syntax::PatternId;
 
 /// A clause's pattern as an automaton of its own.
 #[derive(Drop)]

@@ -9,10 +9,12 @@ ghost use Rattle.xd_syntax.specs.Types as types;
 ghost use Rattle.xd_command.specs.Fits.{IsAcceptor};
 
 use std::alloc::Global;
-use xd_auto::{Auto, Scratch, State, member};
+use xd_auto::{Auto, State};
 use xd_doc::{NoMemory, Seq, Store};
+use xd_member::{Scratch, member};
 use xd_patterns::PatternCompiler;
-use xd_syntax::{SoundProgram, TypeId};
+use xd_sound::SoundProgram;
+use xd_syntax::TypeId;
 
 /// A state that accepts exactly the documents that fit the type, in an automaton of its own.
 ///

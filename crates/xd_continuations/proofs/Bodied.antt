@@ -10,7 +10,7 @@ use Rattle.xd_syntax.specs.Program.{TypeDefinition}
 use Rattle.xd_syntax.specs.Kept.{type_definition}
 use Rattle.xd_syntax.specs.Sound.{definition_of}
 use Rattle.xd_syntax.specs.declared.types.TypeDef.{TypeDef}
-use Rattle.xd_syntax.specs.TypeNames.{body_at, meanings}
+use Rattle.xd_sound.specs.TypeNames.{body_at, meanings}
 use Rattle.xd_syntax.proofs.PlacedTrees.{unplaced_at}
 
 abbrev pair : TypeDefinition → List ℕ × Tree

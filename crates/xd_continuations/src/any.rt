@@ -10,7 +10,8 @@ ghost use Rattle.xd_syntax.specs.Types.{BelongsTo, tree};
 use std::alloc::Global;
 use xd_base::Place;
 use xd_doc::{Class, Label, NoMemory};
-use xd_syntax::{SoundProgram, TypeForm, TypeId, Types};
+use xd_sound::SoundProgram;
+use xd_syntax::{TypeForm, TypeId, Types};
 
 /// The type that `Any` stands for, in a table of its own.
 fn any_nodes(alloc: Global) -> Result<(Types, TypeId), NoMemory>

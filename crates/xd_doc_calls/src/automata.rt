@@ -7,10 +7,11 @@ use crate::desk::Documents;
 use crate::named::{document, document_at, state};
 use std::alloc::Global;
 use std::io::Write;
-use xd_auto::{Answers, Auto, Scratch, State, accepts_kept, member, trim};
+use xd_auto::{Auto, State, trim};
 use xd_call_lines::{Call, CallError, class, label, show_answer, show_answer_on, words};
 use xd_doc::{Seq, Store};
 use xd_empty::{inhabitant, inhabitants};
+use xd_member::{Answers, Scratch, accepts_kept, member};
 use xd_read::read_document;
 
 /// What builds: `add_state NAME`, `add_state NAME last`, `add_label_move FROM CLASS CONTENT REST`,

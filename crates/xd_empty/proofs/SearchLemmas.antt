@@ -16,7 +16,7 @@ use Rattle.xd_auto.specs.declared.auto.LabelMove.{LabelMove}
 use Rattle.xd_auto.specs.declared.auto.TextMove.{TextMove}
 use Rattle.xd_auto.specs.Automaton.{Automaton, IsState, StateMoves, accepts, moves_at, no_moves, state_number}
 use Rattle.xd_auto.proofs.Members.{first_in, first_or_later, none_in, only_in}
-use Rattle.xd_auto.proofs.Walks.{same_state}
+use Rattle.xd_auto.proofs.Closed.{same_state}
 use Rattle.xd_empty.specs.declared.uses.Use.{Use}
 use Rattle.xd_empty.specs.declared.uses.Use.TheVariants.{Element, Text}
 use Rattle.xd_empty.specs.Uses.{AreUses, IsNewUse, IsUse, element_parts, parts_of, text_parts, user, uses_at}

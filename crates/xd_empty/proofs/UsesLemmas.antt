@@ -10,7 +10,7 @@ use Rattle.xd_auto.specs.declared.auto.LabelMove.{LabelMove}
 use Rattle.xd_auto.specs.declared.auto.TextMove.{TextMove}
 use Rattle.xd_auto.specs.Automaton.{Automaton, moves_at, state_number}
 use Rattle.xd_auto.proofs.Members.{none_in, only_in}
-use Rattle.xd_auto.proofs.Walks.{same_state}
+use Rattle.xd_auto.proofs.Closed.{same_state}
 use Rattle.xd_empty.specs.declared.uses.Use.{Use}
 use Rattle.xd_empty.specs.declared.uses.Use.TheVariants.{Element, Text}
 use Rattle.xd_empty.specs.Uses.{AddsUses, AreUses, IsNewUse, IsUse, Lists, element_parts, lists_from, parts_of, text_parts, user, uses_at}

@@ -10,7 +10,8 @@ ghost use Rattle.xd_eval.specs.Machine.{FramesStand, IsRunnable, IsStep, IsSeque
 use crate::frame::{Control, Frame, Parts, Scope, Step};
 use std::alloc::Global;
 use xd_doc::{Label, NoMemory, Seq, Store, Text};
-use xd_syntax::{ExprForm, ExprId, SoundProgram};
+use xd_sound::SoundProgram;
+use xd_syntax::{ExprForm, ExprId};
 
 /// What an expression leads to: a value, or its first part, whose value a new frame waits for.
 pub(crate) fn enter(

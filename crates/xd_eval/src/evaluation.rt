@@ -16,7 +16,7 @@ use std::alloc::Global;
 use xd_doc::{Label, NoMemory, Seq, Store};
 use xd_laws::{accepted_programs_are_safe, bindings_are_in_order};
 use xd_match::Matchers;
-use xd_syntax::{Checked, SoundProgram};
+use xd_sound::{Checked, SoundProgram};
 
 /// What an accepted program comes to on fuel.
 #[derive(Clone, Copy)]

@@ -12,7 +12,7 @@ use crate::matching::Matching;
 use crate::resuming::resume;
 use std::alloc::Global;
 use xd_doc::{NoMemory, Store};
-use xd_syntax::SoundProgram;
+use xd_sound::SoundProgram;
 
 /// Evaluates until there is a value that nothing waits for, with so many calls.
 pub(crate) fn run<M: Matching>(

@@ -11,7 +11,8 @@ ghost use Rattle.xd_eval.specs.Matches.{AreBindings, matcher};
 use std::alloc::Global;
 use xd_doc::{Label, NoMemory, Seq, Store};
 use xd_match::Matchers;
-use xd_syntax::{PatternId, SoundProgram};
+use xd_sound::SoundProgram;
+use xd_syntax::PatternId;
 
 /// Finds first matches. What it keeps from one match to the next is its own.
 pub trait Matching {

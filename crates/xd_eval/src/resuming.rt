@@ -15,7 +15,8 @@ use crate::functions::FunctionNames;
 use crate::matching::Matching;
 use std::alloc::Global;
 use xd_doc::{Label, NoMemory, Seq, Store};
-use xd_syntax::{Clause, ExprForm, ExprId, Function, Param, SoundProgram};
+use xd_sound::SoundProgram;
+use xd_syntax::{Clause, ExprForm, ExprId, Function, Param};
 
 /// What becomes of a value where a frame waited for it.
 pub(crate) fn resume<M: Matching>(

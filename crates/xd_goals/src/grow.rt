@@ -2,7 +2,7 @@
 
 ghost use Rattle.std.specs.Prelude.{◌≡◌, ◌<◌, [], length, Some, slice_get, IfOk};
 ghost use Rattle.xd_auto.specs.Automaton.{state_number};
-ghost use Rattle.xd_auto.specs.Kept.{AreRight};
+ghost use Rattle.xd_member.specs.Kept.{AreRight};
 ghost use Rattle.xd_state_heads.specs.Moves.{AreBelow, IsInOrder, claim_with, with_state};
 ghost use Rattle.xd_goals.specs.Rows.{IsRefuted, claim_at};
 ghost use Rattle.xd_goals.specs.Kept.{Grows, IsConsistent, view_of};
@@ -14,8 +14,9 @@ use crate::goals::{Goals, add_node, depend, find_or_add};
 use crate::table::{ChoiceNode, GoalCase, GoalId, Standing};
 use crate::takers::taker;
 use std::alloc::Global;
-use xd_auto::{Answers, Auto, State};
+use xd_auto::{Auto, State};
 use xd_doc::{NoMemory, Seq, Store};
+use xd_member::Answers;
 use xd_state_heads::Side;
 
 /// What a choice tree is for: its case, what the left head says of the content and the rest, and the

@@ -5,7 +5,7 @@ ghost use Rattle.std.specs.Option.{IfSome};
 ghost use Rattle.std.specs.List.{AllByRecursion};
 ghost use Rattle.xd_doc.specs.Stored.{Keeps};
 ghost use Rattle.xd_auto.specs.Automaton.{IsState};
-ghost use Rattle.xd_auto.specs.Kept.{AreRight};
+ghost use Rattle.xd_member.specs.Kept.{AreRight};
 ghost use Rattle.xd_goals.specs.Kept.{IsWhole, view_of};
 ghost use Rattle.xd_goals.specs.Standing.{KeepsGoals, StandsOn};
 ghost use Rattle.xd_goals.specs.Reached.{IsWaitingIn};
@@ -17,8 +17,9 @@ use crate::settled::unsettled;
 use crate::table::{GoalId, Link, Row, Standing, Table};
 use crate::work::work;
 use std::alloc::Global;
-use xd_auto::{Answers, Auto, State};
+use xd_auto::{Auto, State};
 use xd_doc::{NoMemory, Seq, Store};
+use xd_member::Answers;
 
 /// Whether every document of the left is one of some right: the goal that says so, or a document of
 /// the left alone.

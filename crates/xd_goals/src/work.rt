@@ -4,7 +4,7 @@ ghost use Rattle.std.specs.Prelude.{◌≡◌, ◌<◌, [], false, true, length,
 ghost use Rattle.std.specs.List.{AllByRecursion, list_any};
 ghost use Rattle.xd_doc.specs.Stored.{BelongsTo, Keeps, document_at};
 ghost use Rattle.xd_auto.specs.Automaton.{IsState};
-ghost use Rattle.xd_auto.specs.Kept.{AreRight};
+ghost use Rattle.xd_member.specs.Kept.{AreRight};
 ghost use Rattle.xd_rules.specs.Heads.{is_text_atom};
 ghost use Rattle.xd_state_heads.specs.Moves.{claim_with, is_last_in};
 ghost use Rattle.xd_goals.specs.Rows.{IsRefuted, IsUnbroken, claim_of, row_at};
@@ -21,9 +21,10 @@ use crate::grow::{Grown, Task, grow, grow_text, node_at, repair};
 use crate::settled::no_marks;
 use crate::table::{Choice, ChoiceNode, GoalCase, GoalId, Row, Standing};
 use std::alloc::Global;
-use xd_auto::{Answers, Auto, State};
+use xd_auto::{Auto, State};
 use xd_doc::{NoMemory, Seq, Store};
 use xd_empty::{label_of, text_of};
+use xd_member::Answers;
 use xd_rules::Atom;
 use xd_state_heads::{Unnamed, Want, goal_cases, head_of, is_text, share, sides_of, unnamed_of};
 

@@ -21,14 +21,14 @@ use Rattle.xd_auto.specs.declared.auto.LabelMove.{LabelMove}
 use Rattle.xd_auto.specs.declared.auto.TextMove.{TextMove}
 use Rattle.xd_laws.specs.Heads.{element_in, text_in}
 use Rattle.xd_continuations.specs.Continuation.{Move, moves, IsMerged, AreMerged}
-use Rattle.xd_syntax.specs.TypeNames.{meanings}
-use Rattle.xd_heads.specs.Found.{continuation, AddsCells, IsContent, AreMovesOf, IsFound, move_at}
+use Rattle.xd_sound.specs.TypeNames.{meanings}
+use Rattle.xd_moves.specs.Found.{continuation, AddsCells, IsContent, AreMovesOf, IsFound, move_at}
 use Rattle.xd_heads.specs.States.{AddsStates, StaysBounded, AreContinuationsFrom, IsOfCell, number_at, nodes_in}
 use Rattle.xd_heads.specs.declared.states.Owner.{Owner}
 use Rattle.xd_heads.specs.declared.states.Owner.TheVariants.{Continuation}
 use Rattle.xd_heads.specs.Compiled.{numbered, continuations_of, GetsState, fresh_state, Spares, SparesOthers, IsOfState, AreCompiled, AddsMoves, AreAllCompiled}
-use Rattle.xd_heads.specs.Cells.{Cell}
-use Rattle.xd_heads.specs.declared.expand.Found.{Found}
+use Rattle.xd_moves.specs.Cells.{Cell}
+use Rattle.xd_moves.specs.declared.expansion.Found.{Found}
 use Rattle.xd_doc.specs.Document.{Document}
 use Rattle.xd_syntax.specs.Fits.{Fits}
 use Rattle.xd_laws.specs.Guarded.{Guarded}
@@ -37,8 +37,8 @@ use Rattle.xd_continuations.proofs.MoveLemmas.{all_append, seq_of-pieces, IsMove
 use Rattle.xd_continuations.proofs.ChainLemmas.{kept_length, kept_same}
 use Rattle.xd_continuations.proofs.Bounding.{bounded_pieces, bounded_start}
 use Rattle.xd_continuations.specs.Bounds.{IsBounded}
-use Rattle.xd_heads.proofs.Putting.{adds_none, adds_then, continuation_kept}
-use Rattle.xd_heads.proofs.Working.{moves_kept}
+use Rattle.xd_moves.proofs.Putting.{adds_none, adds_then, continuation_kept}
+use Rattle.xd_moves.proofs.Working.{moves_kept}
 use Rattle.xd_heads.proofs.Sparing.{spares_none, spares_then}
 use Rattle.xd_heads.proofs.StateLemmas.{states_none, states_then, from_more, from_all, number_within, number_front, nodes_below, none_larger_in}
 use Rattle.xd_heads.proofs.Compiling.{compiled_cells, compiled_state, compiled_label, compiled_text, compiled_next, compiled_mirrors}

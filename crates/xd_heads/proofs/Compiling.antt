@@ -16,17 +16,17 @@ use Rattle.xd_laws.specs.Heads.{element_in, text_in}
 use Rattle.xd_continuations.specs.Continuation.{Move, moves, IsContinuation}
 use Rattle.xd_continuations.specs.Chains.{KeepsLinks}
 use Rattle.xd_continuations.specs.Bounds.{IsBounded}
-use Rattle.xd_syntax.specs.TypeNames.{meanings}
+use Rattle.xd_sound.specs.TypeNames.{meanings}
 use Rattle.xd_pieces.specs.Pieces.{piece_tree}
-use Rattle.xd_heads.specs.Found.{continuation, AreBounded}
+use Rattle.xd_moves.specs.Found.{continuation, AreBounded}
 use Rattle.xd_continuations.proofs.Bounding.{bounded_none}
 use Rattle.xd_continuations.specs.Mirrors.{Continuations, AreMirrored, no_move, on_label, on_text, AreMirrors}
 use Rattle.xd_heads.specs.Compiled.{numbered, continuations_of, fresh_state, GetsState, state_at, IsOfState, AreCompiled}
-use Rattle.xd_heads.specs.Cells.{Cell}
+use Rattle.xd_moves.specs.Cells.{Cell}
 use Rattle.xd_continuations.proofs.MoveLemmas.{all_append}
 use Rattle.xd_continuations.proofs.Reaching.{all_same}
 use Rattle.xd_continuations.proofs.ChainLemmas.{kept_length, list_none}
-use Rattle.xd_heads.proofs.Putting.{continuation_kept}
+use Rattle.xd_moves.proofs.Putting.{continuation_kept}
 use Rattle.xd_heads.specs.States.{IsOfCell, number_of, number_at}
 use Rattle.xd_heads.specs.declared.states.Owner.{Owner}
 use Rattle.xd_heads.specs.declared.states.Owner.TheVariants.{Continuation, Pattern}

@@ -4,7 +4,7 @@ use Rattle.xd_syntax.specs.Tree.{Tree}
 use Rattle.xd_syntax.specs.TypeText.{depth}
 use Rattle.xd_syntax.specs.Kept.{ProgramTable, AddsTypes, program_tree}
 use Rattle.xd_syntax.specs.Shallow.{IsShallow, nesting_limit}
-use Rattle.xd_syntax.proofs.AdoptLaws.{AddsTypes-trans}
+use Rattle.xd_sound.proofs.AdoptLaws.{AddsTypes-trans}
 use Rattle.xd_heads.specs.Growing.{GrowsTypes}
 
 pub grows_none : (p : ProgramTable) → GrowsTypes p p

@@ -13,7 +13,7 @@ use Rattle.xd_syntax.specs.Kept.{ProgramTable, ProgramStands, program_tree}
 use Rattle.xd_syntax.specs.declared.types.TypeId.{TypeId}
 use Rattle.xd_doc.specs.Classes.{LabelClass, TextClass}
 use Rattle.xd_syntax.specs.Sound.{IsTypeAt}
-use Rattle.xd_syntax.proofs.AdoptLaws.{type_kept}
+use Rattle.xd_sound.proofs.AdoptLaws.{type_kept}
 use Rattle.xd_laws.specs.Heads.{HeadKind, element_in, text_in, heads, pieces, all_texts}
 use Rattle.xd_laws.specs.Heads as laws
 use Rattle.xd_continuations.specs.Continuation.{Move, moves, head_of, IsMerged, IsContinuation}
@@ -25,13 +25,13 @@ use Rattle.xd_continuations.proofs.Reaching.{all_same}
 use Rattle.xd_continuations.specs.Chains.{KeepsLinks}
 use Rattle.xd_continuations.proofs.ChainLemmas.{kept_then, list_none}
 use Rattle.xd_pieces.specs.Pieces.{piece_tree}
-use Rattle.xd_heads.specs.Found.{continuation, move_of, move_at, AreOfTypes, AreMovesOf, IsFound}
+use Rattle.xd_moves.specs.Found.{continuation, move_of, move_at, AreOfTypes, AreMovesOf, IsFound}
 use Rattle.xd_heads.specs.Growing.{GrowsTypes}
 use Rattle.xd_heads.specs.HeadList.{kind_at, head_at, content_at, AreRestTypes, ContentBelongs, HeadBelongs, IsHeadAt, IsKindOf, IsHeadFound, AreHeadsFound}
 use Rattle.xd_heads.specs.declared.listing.HeadKind.{HeadKind as RustKind}
 use Rattle.xd_heads.specs.declared.listing.HeadKind.TheVariants.{Label, Text as Text_in}
-use Rattle.xd_heads.specs.Cells.{Cell}
-use Rattle.xd_heads.specs.declared.expand.Found.{Found}
+use Rattle.xd_moves.specs.Cells.{Cell}
+use Rattle.xd_moves.specs.declared.expansion.Found.{Found}
 use Rattle.xd_heads.specs.declared.listing.Head.{Head}
 use Rattle.xd_heads.proofs.AddingMoves.{none_deeper}
 use Rattle.xd_heads.proofs.Growing.{grows_then}

@@ -1,12 +1,7 @@
-pub mod CellLemmas
-pub mod Putting
-pub mod Forming
-pub mod Working
 pub mod StateLemmas
 pub mod Sparing
 pub mod Compiling
 pub mod AddingMoves
-pub mod Bodied
 pub mod Mirrored
 pub mod Wrapping
 pub mod Growing

@@ -22,13 +22,13 @@ use Rattle.xd_continuations.proofs.Bounding.{bounded_larger}
 use Rattle.xd_continuations.proofs.Reaching.{all_same}
 use Rattle.xd_continuations.specs.Chains.{lists_after, lists_in, list_at}
 use Rattle.xd_pieces.specs.Pieces.{piece_tree, turns_of}
-use Rattle.xd_heads.specs.Found.{continuation, AreOfTypes, AreBounded}
+use Rattle.xd_moves.specs.Found.{continuation, AreOfTypes, AreBounded}
 use Rattle.xd_heads.specs.States.{IsOfCell, AddsPatterns, number_at, nodes_from, nodes_in}
 use Rattle.xd_heads.specs.Compiled.{numbered, continuations_of, state_at, AreCompiled}
 use Rattle.xd_heads.specs.CellsView.{CellsView, no_cells}
 use Rattle.xd_heads.specs.Mirrors.{as_type, continuation_of, IsPatternState, KeepsStates, AreHeadMoves, no_head, element_head, text_head, Mirrors, MirrorsStay}
 use Rattle.xd_pieces.specs.declared.piece.Piece.{Piece}
-use Rattle.xd_heads.specs.Cells.{Cell}
+use Rattle.xd_moves.specs.Cells.{Cell}
 use Rattle.xd_heads.specs.declared.states.Owner.{Owner}
 use Rattle.xd_heads.specs.declared.states.Owner.TheVariants.{Pattern}
 use Rattle.xd_heads.proofs.StateLemmas.{number_within, number_front}

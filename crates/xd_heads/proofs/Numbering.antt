@@ -17,16 +17,16 @@ use Rattle.xd_continuations.proofs.MoveLemmas.{seq_of-pieces, pieces-seq_of}
 use Rattle.xd_pieces.specs.Pieces.{AreFirst, IsFirst, piece_tree}
 use Rattle.xd_pieces.specs.declared.firsts.FirstPieces.{FirstPieces}
 use Rattle.xd_pieces.specs.declared.piece.Piece.{Piece}
-use Rattle.xd_heads.specs.Cells.{Cell}
-use Rattle.xd_heads.specs.Found.{IsContent, continuation, move_at}
+use Rattle.xd_moves.specs.Cells.{Cell}
+use Rattle.xd_moves.specs.Found.{IsContent, continuation, move_at}
 use Rattle.xd_heads.specs.HeadList.{ContentBelongs, IsHeadFound, IsKindOf, content_at}
 use Rattle.xd_heads.specs.Numbered.{AreNodeNumbers, IsNumberIn, IsHeadIn, Serves, Tell}
-use Rattle.xd_heads.specs.declared.expand.Found.{Found}
+use Rattle.xd_moves.specs.declared.expansion.Found.{Found}
 use Rattle.xd_heads.specs.declared.lister.HeadLister.{HeadLister}
 use Rattle.xd_heads.specs.declared.listing.HeadKind.{HeadKind}
 use Rattle.xd_heads.proofs.HeadLists.{stands_before}
 use Rattle.xd_heads.proofs.Mirrored.{pieces_there}
-use Rattle.xd_heads.proofs.Putting.{continuation_kept}
+use Rattle.xd_moves.proofs.Putting.{continuation_kept}
 
 -- a type keeps its number
 pub number_kept : (types : List Row) (old new : List Cell) → KeepsLinks old new → (n : ℕ) (T : Tree) → IsNumberIn types old n T → IsNumberIn types new n T

@@ -18,27 +18,27 @@ use Rattle.xd_syntax.specs.Kept.{type_definition}
 use Rattle.xd_syntax.specs.Ways.{Among}
 use Rattle.xd_laws.specs.Heads.{text_in, all_texts}
 use Rattle.xd_laws.specs.CanBeEmpty.{can_be_empty, empty_name}
-use Rattle.xd_syntax.specs.Emptiness.{empty_by}
+use Rattle.xd_syntax.specs.Fits.{empty_by}
 use Rattle.xd_syntax.specs.declared.types.TypeDef.{TypeDef}
 use Rattle.xd_syntax.proofs.Members.{mem_append, map_mem}
 use Rattle.xd_laws.proofs.Pigeon.{NoRepeat, pigeon}
 use Rattle.xd_syntax.proofs.PlacedTrees.{unplaced_at}
 use Rattle.xd_continuations.specs.Bounds.{node_count, NoneLarger, longest}
 use Rattle.xd_continuations.specs.Chains.{list_at, AreLinks, KeepsLinks}
-use Rattle.xd_heads.specs.Cells.{room}
-use Rattle.xd_syntax.specs.TypeNames.{meanings}
+use Rattle.xd_moves.specs.Cells.{room}
+use Rattle.xd_sound.specs.TypeNames.{meanings}
 use Rattle.xd_pieces.specs.Pieces.{piece_tree}
-use Rattle.xd_heads.specs.Found.{continuation, move_of, AreOfTypes, AreBounded}
+use Rattle.xd_moves.specs.Found.{continuation, move_of, AreOfTypes, AreBounded}
 use Rattle.xd_heads.specs.States.{EachOnce, IsBelow, AreOwners, number_of, number_at, AddsOwner, IsOfCell, AddsStates, AreContinuationsFrom, nodes_from, nodes_in}
 use Rattle.xd_heads.specs.declared.states.Owner.{Owner}
 use Rattle.xd_heads.specs.declared.states.Owner.TheVariants.{Continuation, Pattern}
 use Rattle.xd_heads.specs.contracts.states.OwnerPartialEq.TheImpl as Eq
-use Rattle.xd_heads.specs.Cells.{Cell}
+use Rattle.xd_moves.specs.Cells.{Cell}
 use Rattle.xd_continuations.proofs.MoveLemmas.{all_append}
 use Rattle.xd_continuations.proofs.Reaching.{all_same}
 use Rattle.xd_continuations.proofs.Bounding.{bounded_length}
 use Rattle.xd_continuations.proofs.ChainLemmas.{kept_length, lists_within_are}
-use Rattle.xd_heads.proofs.CellLemmas.{few_cells}
+use Rattle.xd_moves.proofs.CellLemmas.{few_cells}
 
 less_true : (m n : ℕ) → nat_lt m n ≡ true → m < n
 less_true m n e = grind (arith, nat_tests)

@@ -12,9 +12,9 @@ use Rattle.xd_continuations.proofs.MoveLemmas.{all_append, map_append}
 use Rattle.xd_continuations.proofs.Reaching.{all_same}
 use Rattle.xd_continuations.specs.Chains.{list_at}
 use Rattle.xd_pieces.specs.Pieces.{piece_tree}
-use Rattle.xd_heads.specs.Found.{continuation}
+use Rattle.xd_moves.specs.Found.{continuation}
 use Rattle.xd_heads.specs.Growing.{GrowsTypes}
-use Rattle.xd_heads.specs.Cells.{Cell}
+use Rattle.xd_moves.specs.Cells.{Cell}
 use Rattle.xd_continuations.proofs.ChainLemmas.{list_none}
 use Rattle.xd_heads.proofs.Growing.{grows_then}
 use Rattle.xd_continuations.proofs.GrownTables.{tree_stays, more_rows}

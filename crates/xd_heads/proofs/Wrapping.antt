@@ -6,9 +6,9 @@ use Rattle.xd_syntax.specs.Table.{Row, AreBuilt, KeepsRows, tree_at}
 use Rattle.xd_syntax.specs.Kept.{ProgramTable, TypeDefStands, ProgramStands, program_tree}
 use Rattle.xd_syntax.specs.Program.{names_of}
 use Rattle.xd_syntax.specs.RecursionFaults.{IsSound}
-use Rattle.xd_syntax.specs.TypeNames.{meanings}
+use Rattle.xd_sound.specs.TypeNames.{meanings}
 use Rattle.xd_laws.specs.CanBeEmpty.{can_be_empty}
-use Rattle.xd_syntax.specs.Emptiness.{AreEmptyMarks}
+use Rattle.xd_sound.specs.Emptiness.{AreEmptyMarks}
 use Rattle.xd_syntax.specs.declared.types.TypeDef.{TypeDef}
 use Rattle.xd_laws.specs.Guarded.{Guarded}
 use Rattle.xd_laws.proofs.SoundGuarded.{guarded}
@@ -19,14 +19,14 @@ use Rattle.xd_continuations.specs.Continuation.{AreMerged}
 use Rattle.xd_continuations.proofs.Merging.{program_merged}
 use Rattle.xd_continuations.proofs.SoundTail.{recurs_only_in_tail}
 use Rattle.xd_continuations.proofs.Reaching.{all_same}
-use Rattle.xd_heads.specs.Found.{AreDecidingMarks, AreOfTypes}
+use Rattle.xd_moves.specs.Found.{AreDecidingMarks, AreOfTypes}
 use Rattle.xd_heads.specs.States.{number_at}
 use Rattle.xd_heads.specs.Compiled.{AreAllCompiled}
 use Rattle.xd_heads.specs.CellsView.{CellsView}
 use Rattle.xd_heads.specs.Mirrors.{continuation_of, KeepsStates, Mirrors}
 use Rattle.xd_heads.specs.declared.states.Owner.{Owner}
 use Rattle.xd_heads.specs.declared.states.Owner.TheVariants.{Continuation, Pattern}
-use Rattle.xd_heads.proofs.Putting.{continuation_kept}
+use Rattle.xd_moves.proofs.Putting.{continuation_kept}
 use Rattle.xd_heads.proofs.StateLemmas.{number_below, number_front, number_within}
 use Rattle.xd_heads.proofs.Mirrored.{type_is, type_of_number, types_stay, to_mirrors}
 

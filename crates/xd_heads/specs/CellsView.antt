@@ -1,6 +1,6 @@
 -- What contracts see of cells.
 use Rattle.std.specs.Prelude.{List, []}
-use Rattle.xd_heads.specs.Cells.{Cell}
+use Rattle.xd_moves.specs.Cells.{Cell}
 use Rattle.xd_heads.specs.declared.states.Owner.{Owner}
 
 -- continuations, each as a piece and an older continuation, and what each state of the automaton belongs to

@@ -11,10 +11,10 @@ use Rattle.xd_auto.specs.Automaton.{Automaton, StateMoves, no_moves, state_numbe
 use Rattle.xd_auto.specs.declared.auto.State.{State}
 use Rattle.xd_continuations.specs.Continuation.{Move, moves, IsContinuation}
 use Rattle.xd_continuations.specs.Mirrors.{Continuations, AreMirrored}
-use Rattle.xd_syntax.specs.TypeNames.{meanings}
-use Rattle.xd_heads.specs.Found.{continuation, AddsCells}
+use Rattle.xd_sound.specs.TypeNames.{meanings}
+use Rattle.xd_moves.specs.Found.{continuation, AddsCells}
 use Rattle.xd_heads.specs.States.{AddsStates, StaysBounded, IsOfCell, number_at}
-use Rattle.xd_heads.specs.Cells.{Cell}
+use Rattle.xd_moves.specs.Cells.{Cell}
 use Rattle.xd_heads.specs.declared.states.Owner.{Owner}
 use Rattle.xd_heads.specs.declared.states.Owner.TheVariants.{Continuation}
 

@@ -15,9 +15,9 @@ use Rattle.xd_laws.specs.Heads.{element_in, text_in}
 use Rattle.xd_laws.specs.Heads as laws
 use Rattle.xd_continuations.specs.Chains.{KeepsLinks}
 use Rattle.xd_continuations.specs.Continuation.{Move, head_of, IsMerged, IsContinuation}
-use Rattle.xd_heads.specs.Found.{continuation, move_of, move_at, AreOfTypes, IsFound}
-use Rattle.xd_heads.specs.Cells.{Cell}
-use Rattle.xd_heads.specs.declared.expand.Found.{Found}
+use Rattle.xd_moves.specs.Found.{continuation, move_of, move_at, AreOfTypes, IsFound}
+use Rattle.xd_moves.specs.Cells.{Cell}
+use Rattle.xd_moves.specs.declared.expansion.Found.{Found}
 use Rattle.xd_heads.specs.declared.listing.Head.{Head}
 use Rattle.xd_heads.specs.declared.listing.HeadKind.{HeadKind}
 use Rattle.xd_heads.specs.declared.listing.HeadKind.TheVariants.{Label, Text}

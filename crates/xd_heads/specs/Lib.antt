@@ -1,6 +1,3 @@
-pub mod Cells
-pub mod Found
-pub mod Bodies
 pub mod States
 pub mod Compiled
 pub mod CellsView

@@ -14,7 +14,7 @@ use Rattle.xd_auto.specs.declared.auto.LabelMove.{LabelMove}
 use Rattle.xd_auto.specs.declared.auto.TextMove.{TextMove}
 use Rattle.xd_laws.specs.Heads.{Head, element_in, text_in, heads}
 use Rattle.xd_continuations.specs.Continuation.{IsContinuation}
-use Rattle.xd_heads.specs.Found.{continuation, AreBounded, AreOfTypes}
+use Rattle.xd_moves.specs.Found.{continuation, AreBounded, AreOfTypes}
 use Rattle.xd_heads.specs.States.{IsOfCell, number_at, nodes_in}
 use Rattle.xd_heads.specs.Compiled.{continuations_of}
 use Rattle.xd_heads.specs.CellsView.{CellsView}

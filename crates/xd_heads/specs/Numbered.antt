@@ -1,7 +1,7 @@
 -- Types of a program by numbers, one for equal types.
 use Rattle.std.specs.Prelude.{◌≡◌, ℕ, ◌<◌, ◌≤◌, ◌↔◌, List, length}
 use Rattle.xd_syntax.specs.Kept.{ProgramTable, program_tree}
-use Rattle.xd_syntax.specs.Known.{AreKnownTypes}
+use Rattle.xd_sound.specs.Known.{AreKnownTypes}
 use Rattle.xd_syntax.specs.RecursionFaults.{IsSound}
 use Rattle.xd_syntax.specs.Table.{Row, tree_at}
 use Rattle.xd_syntax.specs.Tree.{Tree, any_type, seq_of}
@@ -10,8 +10,8 @@ use Rattle.xd_laws.specs.Heads as laws
 use Rattle.xd_continuations.specs.Chains.{AreLinks, KeepsLinks}
 use Rattle.xd_pieces.specs.Codes.{number_at}
 use Rattle.xd_pieces.specs.Pieces.{AreFirst, IsFirst}
-use Rattle.xd_heads.specs.Cells.{AreChosen, Cell}
-use Rattle.xd_heads.specs.Found.{AreOfTypes, continuation}
+use Rattle.xd_moves.specs.Cells.{AreChosen, Cell}
+use Rattle.xd_moves.specs.Found.{AreOfTypes, continuation}
 use Rattle.xd_heads.specs.HeadList.{kind_at}
 use Rattle.xd_heads.specs.declared.lister.HeadLister.{HeadLister}
 use Rattle.xd_heads.specs.declared.lister.NumberedHead.{NumberedHead}

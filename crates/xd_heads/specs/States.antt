@@ -6,9 +6,9 @@ use Rattle.xd_syntax.specs.Ways.{Among}
 use Rattle.xd_syntax.specs.declared.types.TypeDef.{TypeDef}
 use Rattle.xd_continuations.specs.TailUses.{RecursOnlyInTail}
 use Rattle.xd_continuations.specs.Bounds.{node_count}
-use Rattle.xd_syntax.specs.TypeNames.{meanings}
-use Rattle.xd_heads.specs.Found.{AreBounded}
-use Rattle.xd_heads.specs.Cells.{Cell}
+use Rattle.xd_sound.specs.TypeNames.{meanings}
+use Rattle.xd_moves.specs.Found.{AreBounded}
+use Rattle.xd_moves.specs.Cells.{Cell}
 use Rattle.xd_heads.specs.declared.states.Owner.{Owner}
 use Rattle.xd_heads.specs.declared.states.Owner.TheVariants.{Continuation, Pattern}
 

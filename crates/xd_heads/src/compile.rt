@@ -13,20 +13,16 @@ ghost use Rattle.xd_syntax.specs.declared.types.TypeDef.{TypeDef};
 ghost use Rattle.xd_heads.specs.Compiled.{AddsMoves, AreAllCompiled, AreCompiled, GetsState, Spares, SparesOthers, continuations_of};
 ghost use Rattle.xd_continuations.specs.Continuation.{AreMerged, IsMerged, moves};
 ghost use Rattle.xd_syntax.specs.Table.{tree_at};
-ghost use Rattle.xd_syntax.specs.TypeNames.{meanings};
-ghost use Rattle.xd_heads.specs.Found.{AreBodies, AreBounded, AreDecidingMarks, AreOfTypes, IsFound, continuation, move_at};
+ghost use Rattle.xd_sound.specs.TypeNames.{meanings};
+ghost use Rattle.xd_moves.specs.Found.{AreBodies, AreBounded, AreDecidingMarks, AreOfTypes, IsFound, continuation, move_at};
 ghost use Rattle.xd_heads.specs.States.{AreContinuationsFrom, nodes_in};
 ghost use Rattle.xd_continuations.specs.TailUses.{RecursOnlyInTail};
 
-use crate::bodies::Bodies;
-use crate::cells::Continuations;
-use crate::content::content;
-use crate::expand::{Found, expand, is_empty};
-use crate::first_uses::FirstUses;
 use crate::states::States;
 use std::alloc::Global;
 use xd_auto::{Auto, State};
 use xd_doc::{Class, NoMemory, Words};
+use xd_moves::{Bodies, Continuations, FirstUses, Found, content, expand, is_empty};
 use xd_syntax::{TypeDef, TypeForm, TypeId, Types};
 
 /// Whether a continuation can be empty.

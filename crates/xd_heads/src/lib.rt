@@ -1,15 +1,9 @@
 //! Heads of types, and types as states of automata.
 #![tactic(auto)]
 
-mod bodies;
-mod cells;
 mod compile;
-mod content;
-mod expand;
-mod first_uses;
 mod lister;
 mod listing;
-mod stand_ins;
 mod states;
 mod typed;
 mod types;

@@ -9,21 +9,19 @@ ghost use Rattle.xd_syntax.specs.Kept.{AddsTypes, ProgramTable, program_tree};
 ghost use Rattle.xd_syntax.specs.Program.{names_of};
 ghost use Rattle.xd_syntax.specs.Shallow.{IsShallow};
 ghost use Rattle.xd_syntax.specs.Types.{BelongsTo, tree};
-ghost use Rattle.xd_heads.specs.Cells.{AreChosen};
-ghost use Rattle.xd_heads.specs.Found.{AreOfTypes, move_at};
+ghost use Rattle.xd_moves.specs.Cells.{AreChosen};
+ghost use Rattle.xd_moves.specs.Found.{AreOfTypes, move_at};
 ghost use Rattle.xd_heads.specs.HeadList.{AreHeadsFound, IsHeadFound};
 ghost use Rattle.xd_heads.specs.Numbered.{AreNodeNumbers, IsHeadIn, KeepsNumbers, NumbersStay, NumbersTell, Serves};
 
-use crate::bodies::Bodies;
-use crate::cells::Continuations;
-use crate::content::content;
-use crate::expand::Found;
 use crate::listing::{HeadKind, find_moves, kind_of};
 use std::alloc::Global;
 use xd_continuations::meaning_of_any;
 use xd_doc::NoMemory;
+use xd_moves::{Bodies, Continuations, Found, content};
 use xd_pieces::FirstPieces;
-use xd_syntax::{Known, Program, SoundProgram, TypeId, Types};
+use xd_sound::{Known, SoundProgram};
+use xd_syntax::{Program, TypeId, Types};
 
 /// How documents that fit a type begin: what the first item is, what stands in it, and what follows it. Content and rest are
 /// given by the numbers that a `HeadLister` has for them.

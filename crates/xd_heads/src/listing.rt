@@ -4,7 +4,7 @@ ghost use Rattle.std.specs.Prelude.{◌≡◌, ◌<◌, ◌≤◌, [], length, m
 ghost use Rattle.std.specs.List.{AllByRecursion};
 ghost use Rattle.xd_laws.specs.Heads.{heads, pieces};
 ghost use Rattle.xd_continuations.specs.Continuation.{IsContinuation, head_of as head_of_move};
-ghost use Rattle.xd_syntax.specs.Emptiness.{AreEmptyMarks};
+ghost use Rattle.xd_sound.specs.Emptiness.{AreEmptyMarks};
 ghost use Rattle.xd_syntax.specs.Kept.{AddsTypes, program_tree};
 ghost use Rattle.xd_syntax.specs.Program.{names_of};
 ghost use Rattle.xd_syntax.specs.RecursionFaults.{IsSound};
@@ -12,26 +12,23 @@ ghost use Rattle.xd_syntax.specs.Shallow.{IsShallow, nesting_limit};
 ghost use Rattle.xd_syntax.specs.Sound.{IsTypeAt};
 ghost use Rattle.xd_syntax.specs.Table.{tree_at};
 ghost use Rattle.xd_syntax.specs.Tree.{any_type, seq_of};
-ghost use Rattle.xd_syntax.specs.TypeNames.{AreNumbered};
+ghost use Rattle.xd_sound.specs.TypeNames.{AreNumbered};
 ghost use Rattle.xd_syntax.specs.TypeText.{depth};
 ghost use Rattle.xd_syntax.specs.Types.{BelongsTo, tree};
-ghost use Rattle.xd_heads.specs.Cells.{StayChosen};
-ghost use Rattle.xd_heads.specs.Found.{AreOfTypes, continuation, move_at};
+ghost use Rattle.xd_moves.specs.Cells.{StayChosen};
+ghost use Rattle.xd_moves.specs.Found.{AreOfTypes, continuation, move_at};
 ghost use Rattle.xd_heads.specs.Growing.{GrowsTypes};
 ghost use Rattle.xd_heads.specs.HeadList.{AreHeadsFound, AreRestTypes, ContentBelongs, HeadBelongs, IsHeadAt, IsHeadFound, IsKindOf, content_at, head_at};
 
-use crate::bodies::Bodies;
-use crate::cells::Continuations;
 use crate::compile::every_text;
-use crate::content::content;
-use crate::expand::{Found, expand};
-use crate::stand_ins::{StandIns, Themselves};
 use crate::typed::continuation_type;
 use std::alloc::Global;
 use std::collections::HashMap;
 use xd_continuations::meaning_of_any;
 use xd_doc::{Class, NoMemory, Words};
-use xd_syntax::{Known, Program, SoundProgram, TypeForm, TypeId, Types};
+use xd_moves::{Bodies, Continuations, Found, StandIns, Themselves, content, expand};
+use xd_sound::{Known, SoundProgram};
+use xd_syntax::{Program, TypeForm, TypeId, Types};
 
 /// What the first item of a document is: an element whose label is in the class, or a text that is in the class.
 #[derive(Drop)]

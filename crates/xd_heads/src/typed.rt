@@ -10,15 +10,16 @@ ghost use Rattle.xd_syntax.specs.Table.{tree_at};
 ghost use Rattle.xd_syntax.specs.Tree.{Plus, seq_of};
 ghost use Rattle.xd_syntax.specs.TypeText.{depth};
 ghost use Rattle.xd_syntax.specs.Types.{BelongsTo, tree, type_numbers};
-ghost use Rattle.xd_heads.specs.Found.{AreOfTypes, continuation, is_plus};
+ghost use Rattle.xd_moves.specs.Found.{AreOfTypes, continuation, is_plus};
 ghost use Rattle.xd_pieces.specs.Pieces.{piece_tree};
 ghost use Rattle.xd_heads.specs.Growing.{GrowsTypes};
 
-use crate::cells::Continuations;
 use std::alloc::Global;
 use xd_doc::NoMemory;
+use xd_moves::Continuations;
 use xd_pieces::Piece;
-use xd_syntax::{SoundProgram, TypeForm, TypeId, Types};
+use xd_sound::SoundProgram;
+use xd_syntax::{TypeForm, TypeId, Types};
 
 /// What a repetition of at least one turn repeats.
 fn repeated(types: &Types, id: TypeId) -> Option<TypeId>

@@ -11,17 +11,14 @@ ghost use Rattle.xd_syntax.specs.RecursionFaults.{IsSound};
 ghost use Rattle.xd_syntax.specs.Shallow.{IsShallow};
 ghost use Rattle.xd_syntax.specs.Table.{Row, tree_at};
 ghost use Rattle.xd_syntax.specs.Tree.{any_type};
-ghost use Rattle.xd_syntax.specs.TypeNames.{AreNumbered};
-ghost use Rattle.xd_syntax.specs.Emptiness.{AreEmptyMarks};
+ghost use Rattle.xd_sound.specs.TypeNames.{AreNumbered};
+ghost use Rattle.xd_sound.specs.Emptiness.{AreEmptyMarks};
 ghost use Rattle.xd_syntax.specs.Types.{BelongsTo, tree};
 ghost use Rattle.xd_heads.specs.Compiled.{Spares};
 ghost use Rattle.xd_heads.specs.CellsView.{CellsView, no_cells};
 ghost use Rattle.xd_heads.specs.Mirrors.{IsPatternState, IsTypeState, KeepsStates, Mirrors, MirrorsStay, continuation_of};
 
-use crate::bodies::Bodies;
-use crate::cells::Continuations;
 use crate::compile::compile_node;
-use crate::first_uses::FirstUses;
 use crate::states::States;
 use crate::typed::continuation_type;
 use std::alloc::Global;
@@ -29,7 +26,9 @@ use std::marker::Model;
 use xd_auto::{Auto, State};
 use xd_continuations::meaning_of_any;
 use xd_doc::NoMemory;
-use xd_syntax::{Known, Program, SoundProgram, TypeId};
+use xd_moves::{Bodies, Continuations, FirstUses};
+use xd_sound::{Known, SoundProgram};
+use xd_syntax::{Program, TypeId};
 
 /// What the states of an automaton belong to: continuations of types, or patterns.
 ///

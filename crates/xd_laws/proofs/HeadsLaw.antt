@@ -3,10 +3,9 @@ use Rattle.std.proofs.Common.{◌≡◌, ℕ, suc, zero, ◌+◌, ◌≤◌, ari
 use Rattle.xd_doc.specs.Document.{Document, empty, text, element, join}
 use Rattle.xd_doc.specs.Classes.{LabelClass, TextClass, class_has}
 use Rattle.xd_syntax.specs.Tree.{Tree, Empty, Text, Words, Name, Elem, Seq, Alt, Star, Plus, Opt, Val, Definitions, body, seq_of}
-use Rattle.xd_syntax.specs.Fits.{Fits, Split}
+use Rattle.xd_syntax.specs.Fits.{Fits, Split, empty_by}
 use Rattle.xd_syntax.specs.Ways.{Among}
 use Rattle.xd_laws.specs.Guarded.{Front, one, Guarded, Defined}
-use Rattle.xd_syntax.specs.Emptiness.{empty_by}
 use Rattle.xd_laws.specs.CanBeEmpty.{empty_definition, empty_name, can_be_empty}
 use Rattle.xd_laws.specs.Heads.{Head, element_in, text_in, pieces, followed_by, with_behind, heads_by, heads_of_definition, heads_of_name, heads, Begins, all_texts}
 use Rattle.xd_laws.proofs.Documents.{HasItem, filled, has, join_assoc, join_empty-right}

@@ -1,7 +1,7 @@
 -- Whether the empty document fits a type, computed.
 use Rattle.std.specs.Prelude.{ℕ, zero, suc, Bool, false, List, length, Option, Some, None}
 use Rattle.xd_syntax.specs.Tree.{Tree, Definitions, body}
-use Rattle.xd_syntax.specs.Emptiness.{empty_by}
+use Rattle.xd_syntax.specs.Fits.{empty_by}
 
 abbrev pub empty_definition : (Tree → Bool) → Option Tree → Bool
 empty_definition F None = false

@@ -6,8 +6,7 @@ use Rattle.xd_doc.specs.Classes.{class_has}
 use Rattle.xd_auto.specs.declared.auto.State.{State}
 use Rattle.xd_auto.specs.declared.auto.LabelMove.{LabelMove}
 use Rattle.xd_auto.specs.declared.auto.TextMove.{TextMove}
-use Rattle.xd_auto.specs.Automaton.{Automaton, accepts, moves_at}
-use Rattle.xd_auto.specs.Membership.{takes_element as takes_by_label, takes_word}
+use Rattle.xd_auto.specs.Automaton.{Automaton, accepts, moves_at, takes_element as takes_by_label, takes_word}
 use Rattle.xd_auto.specs.Runs as Numbered
 use Rattle.xd_auto.specs.Runs.{takes_text, takes_element, from_each}
 use Rattle.xd_auto.proofs.RunLaw.{runs_law, runs_are_accepting}

@@ -11,7 +11,7 @@ use Rattle.xd_syntax.specs.Kept.{ProgramTable, ProgramStands, TypeDefStands, typ
 use Rattle.xd_syntax.specs.declared.types.TypeDef.{TypeDef}
 use Rattle.xd_syntax.proofs.Trees.{tree_kept}
 use Rattle.xd_syntax.proofs.PlacedTrees.{placed_kept}
-use Rattle.xd_syntax.proofs.EmptyLemmas.{bodies_below}
+use Rattle.xd_sound.proofs.EmptyLemmas.{bodies_below}
 use Rattle.xd_patterns.specs.Bodies.{IsNodeOf, node_of}
 use Rattle.xd_patterns.proofs.Bodied.{are_bodies}
 use Rattle.xd_match.specs.Meanings.{Means}

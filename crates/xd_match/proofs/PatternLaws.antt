@@ -7,7 +7,7 @@ use Rattle.xd_doc.specs.Document.{Document}
 use Rattle.xd_doc.specs.Stored.{Keeps}
 use Rattle.xd_auto.specs.declared.auto.State.{State}
 use Rattle.xd_auto.specs.Automaton.{Automaton}
-use Rattle.xd_auto.proofs.Walks.{places_push}
+use Rattle.xd_member.proofs.Walks.{places_push}
 use Rattle.xd_syntax.specs.Tree.{Definitions, Tree}
 use Rattle.xd_laws.specs.Bindings.{variables_of, first_bindings}
 use Rattle.xd_runs.specs.Laws.{run_bindings}

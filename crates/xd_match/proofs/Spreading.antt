@@ -5,11 +5,11 @@ use Rattle.std.proofs.lemmas.Bool.{cases_eq, cases_lt}
 use Rattle.xd_auto.specs.declared.auto.State.{State}
 use Rattle.xd_auto.specs.Automaton.{Automaton, IsState, state_number}
 use Rattle.xd_syntax.specs.Ways.{Among}
-use Rattle.xd_syntax.specs.Emptiness.{is_marked}
-use Rattle.xd_syntax.specs.Graph.{HasEdge, successors}
+use Rattle.xd_sound.specs.Emptiness.{is_marked}
+use Rattle.xd_sound.specs.Graph.{HasEdge, successors}
 use Rattle.xd_syntax.proofs.Members.{mem_append, append_left, append_right}
-use Rattle.xd_syntax.proofs.EmptyLemmas.{among_one}
-use Rattle.xd_syntax.proofs.Graphs.{edge_made, edges_kept, with_edge}
+use Rattle.xd_sound.proofs.EmptyLemmas.{among_one}
+use Rattle.xd_sound.proofs.Graphs.{edge_made, edges_kept, with_edge}
 use Rattle.xd_patterns.specs.Marked.{Marking}
 use Rattle.xd_match.specs.Tails.{AreBehind, AreTails, IsEven, IsSpread, LeadsFrom, is_mixed}
 

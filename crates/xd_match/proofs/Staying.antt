@@ -3,7 +3,7 @@ use Rattle.std.proofs.Common.{get_or}
 use Rattle.xd_doc.specs.Document.{Document}
 use Rattle.xd_doc.specs.Stored.{Keeps}
 use Rattle.std.proofs.Common.{List}
-use Rattle.xd_auto.proofs.Keeping.{stay_right_for_store}
+use Rattle.xd_member.proofs.Keeping.{stay_right_for_store}
 use Rattle.xd_syntax.specs.Kept.{ProgramTable}
 use Rattle.xd_match.specs.declared.matcher.Matcher.{Matcher}
 use Rattle.xd_match.specs.declared.matchers.Matchers.{Matchers}

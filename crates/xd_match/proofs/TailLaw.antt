@@ -5,8 +5,7 @@ use Rattle.xd_doc.specs.Document.{Document, empty, text, element, join}
 use Rattle.xd_auto.specs.declared.auto.State.{State}
 use Rattle.xd_auto.specs.declared.auto.LabelMove.{LabelMove}
 use Rattle.xd_auto.specs.declared.auto.TextMove.{TextMove}
-use Rattle.xd_auto.specs.Automaton.{Automaton, IsState, accepts, moves_at}
-use Rattle.xd_auto.specs.Membership.{takes_element, takes_word}
+use Rattle.xd_auto.specs.Automaton.{Automaton, IsState, accepts, moves_at, takes_element, takes_word}
 use Rattle.xd_syntax.specs.Words.{has_word}
 use Rattle.xd_patterns.specs.Marked.{Marking, no_text_move, no_label_move}
 use Rattle.xd_match.specs.First.{first_held}

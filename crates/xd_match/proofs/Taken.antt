@@ -8,8 +8,7 @@ use Rattle.xd_doc.specs.declared.store.Item.TheVariants.{Text, Elem}
 use Rattle.xd_auto.specs.declared.auto.State.{State}
 use Rattle.xd_auto.specs.declared.auto.LabelMove.{LabelMove}
 use Rattle.xd_auto.specs.declared.auto.TextMove.{TextMove}
-use Rattle.xd_auto.specs.Automaton.{Automaton, moves_at}
-use Rattle.xd_auto.specs.Membership.{takes_element, takes_word}
+use Rattle.xd_auto.specs.Automaton.{Automaton, moves_at, takes_element, takes_word}
 use Rattle.xd_syntax.specs.Words.{has_word}
 use Rattle.xd_laws.proofs.Documents.{join_assoc, join_empty-right}
 use Rattle.xd_runs.specs.Runs.{if_marked}

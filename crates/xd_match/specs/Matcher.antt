@@ -4,7 +4,7 @@ use Rattle.std.specs.List.{IsDistinct}
 use Rattle.std.specs.Str.{bytes_eq}
 use Rattle.xd_doc.specs.Document.{Document}
 use Rattle.xd_auto.specs.Automaton.{IsState}
-use Rattle.xd_auto.specs.Kept.{AreRight}
+use Rattle.xd_member.specs.Kept.{AreRight}
 use Rattle.xd_syntax.specs.Tree.{Tree, Definitions}
 use Rattle.xd_laws.specs.Bindings.{variables_of, first_bindings}
 use Rattle.xd_runs.specs.Laws.{run_bindings}

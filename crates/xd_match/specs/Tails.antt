@@ -4,9 +4,9 @@ use Rattle.xd_auto.specs.declared.auto.State.{State}
 use Rattle.xd_auto.specs.declared.auto.LabelMove.{LabelMove}
 use Rattle.xd_auto.specs.declared.auto.TextMove.{TextMove}
 use Rattle.xd_auto.specs.Automaton.{Automaton, IsState, moves_at, state_number}
-use Rattle.xd_syntax.specs.Graph.{HasEdge}
+use Rattle.xd_sound.specs.Graph.{HasEdge}
 use Rattle.xd_syntax.specs.Ways.{Among}
-use Rattle.xd_syntax.specs.Emptiness.{is_marked}
+use Rattle.xd_sound.specs.Emptiness.{is_marked}
 use Rattle.xd_patterns.specs.Marked.{Marking, MoveMarks}
 
 -- the state has no move

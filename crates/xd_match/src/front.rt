@@ -5,9 +5,8 @@ ghost use Rattle.std.specs.List.{IsDistinct, list_any};
 ghost use Rattle.std.specs.Str.{bytes_eq};
 ghost use Rattle.xd_doc.specs.Document.{content_of, rest_of};
 ghost use Rattle.xd_doc.specs.Stored.{BelongsTo, Keeps, document_at, first_of_document};
-ghost use Rattle.xd_auto.specs.Automaton.{IsState, accepts, moves_at};
-ghost use Rattle.xd_auto.specs.Kept.{AreRight};
-ghost use Rattle.xd_auto.specs.Membership.{takes_element, takes_word};
+ghost use Rattle.xd_auto.specs.Automaton.{IsState, accepts, moves_at, takes_element, takes_word};
+ghost use Rattle.xd_member.specs.Kept.{AreRight};
 ghost use Rattle.xd_patterns.specs.Held.{marking_of, variables_in};
 ghost use Rattle.xd_match.specs.First.{AreHeld, first_run};
 ghost use Rattle.xd_match.specs.Tails.{AreTails};
@@ -16,8 +15,9 @@ ghost use Rattle.xd_match.specs.Taking.{AddsPiece, AreTaken, IsFirst, IsReady, T
 use crate::binding::{Piece, bind_each};
 use crate::tails::tail_of;
 use std::alloc::Global;
-use xd_auto::{Answers, Auto, LabelMove, State, accepts_kept};
+use xd_auto::{Auto, LabelMove, State};
 use xd_doc::{Item, Label, NoMemory, Seq, Store, Text};
+use xd_member::{Answers, accepts_kept};
 use xd_patterns::Marked;
 use xd_traces::MoveKind;
 

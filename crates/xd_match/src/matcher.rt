@@ -18,10 +18,12 @@ use crate::front::first_items;
 use crate::meanings::Meanings;
 use crate::tails::mixed_states;
 use std::alloc::Global;
-use xd_auto::{Answers, Auto};
+use xd_auto::Auto;
 use xd_doc::{Label, NoMemory, Seq, Store};
+use xd_member::Answers;
 use xd_patterns::{Marked, compile_pattern};
-use xd_syntax::{PatternId, SoundProgram};
+use xd_sound::SoundProgram;
+use xd_syntax::PatternId;
 
 /// A compiled pattern, and the answers that its matches have found so far. Compiled patterns share no states, so each has
 /// an automaton of its own.

@@ -18,7 +18,8 @@ use crate::meanings::Meanings;
 use std::alloc::Global;
 use std::collections::HashMap;
 use xd_doc::{Label, NoMemory, Seq, Store};
-use xd_syntax::{PatternId, SoundProgram};
+use xd_sound::SoundProgram;
+use xd_syntax::PatternId;
 
 /// The patterns of one program. Each is compiled when it is first asked for, and the answers that its matches find are
 /// kept. So a run in which each match looks at the front of its document is linear.

@@ -4,8 +4,8 @@ ghost use Rattle.std.specs.Prelude.{◌≡◌, ℕ, ◌<◌, [], true, false, le
 ghost use Rattle.xd_auto.specs.Automaton.{IsState, moves_at, state_number};
 ghost use Rattle.xd_auto.specs.declared.auto.LabelMove.{LabelMove};
 ghost use Rattle.xd_auto.specs.declared.auto.TextMove.{TextMove};
-ghost use Rattle.xd_syntax.specs.Emptiness.{is_marked};
-ghost use Rattle.xd_syntax.specs.Graph.{HasEdge};
+ghost use Rattle.xd_sound.specs.Emptiness.{is_marked};
+ghost use Rattle.xd_sound.specs.Graph.{HasEdge};
 ghost use Rattle.xd_patterns.specs.Held.{marking_of, variables_in};
 ghost use Rattle.xd_patterns.specs.Variables.{words_of};
 ghost use Rattle.xd_match.specs.Tails.{AreBehind, AreTails, GoesOnWith, HasEvenLabels, HasEvenTexts, IsEven, IsSpread, tail_marks};
@@ -14,7 +14,7 @@ use std::alloc::Global;
 use xd_auto::{Auto, State};
 use xd_doc::NoMemory;
 use xd_patterns::Marked;
-use xd_syntax::Graph;
+use xd_sound::Graph;
 use xd_traces::MoveKind;
 
 /// The variables of the state's first move. Where the state isn't mixed, all items that are left of a level from it on

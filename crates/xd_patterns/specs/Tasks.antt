@@ -4,7 +4,7 @@ use Rattle.std.specs.List.{AllByRecursion, AllZip}
 use Rattle.xd_syntax.specs.Tree.{Tree, Text, Words, Elem, Definitions, body}
 use Rattle.xd_laws.specs.Heads.{all_texts}
 use Rattle.xd_syntax.specs.Table.{Row, tree_at}
-pub use Rattle.xd_syntax.specs.TypeNames.{meanings}
+pub use Rattle.xd_sound.specs.TypeNames.{meanings}
 use Rattle.xd_syntax.specs.Ways.{Among}
 use Rattle.xd_runs.specs.Alike.{Alike}
 use Rattle.xd_runs.specs.Runs as Runs

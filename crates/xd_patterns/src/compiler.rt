@@ -22,7 +22,8 @@ use std::alloc::Global;
 use xd_auto::{Auto, State};
 use xd_continuations::meaning_of_any;
 use xd_doc::NoMemory;
-use xd_syntax::{PatternId, SoundProgram, TypeId};
+use xd_sound::SoundProgram;
+use xd_syntax::{PatternId, TypeId};
 
 /// Compiles the patterns of one program: it knows what the names of types stand for.
 #[derive(Drop)]

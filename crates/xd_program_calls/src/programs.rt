@@ -6,7 +6,7 @@ use xd_call_programs::{
     Programs, read_type, show_read_program, show_read_type, show_resolved, show_soundness,
     show_type_line,
 };
-use xd_syntax::SoundProgram;
+use xd_sound::SoundProgram;
 
 /// `parse_program`, `resolve` and `well_formed` of the program that was read last, and about the sound one that came of it
 /// `find_type NAME`, `find_in_copy NAME`, in a copy of it, and `adopt`, of the type that was read last.

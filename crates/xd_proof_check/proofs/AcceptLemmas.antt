@@ -5,7 +5,7 @@ use Rattle.xd_syntax.specs.Tree.{Tree, Definitions}
 use Rattle.xd_syntax.specs.Table.{Row, KeepsRows, tree_at}
 use Rattle.xd_syntax.specs.Sound.{IsTypeAt}
 use Rattle.xd_laws.specs.CanBeEmpty.{can_be_empty}
-use Rattle.xd_syntax.specs.Emptiness.{AreEmptyMarks, is_marked}
+use Rattle.xd_sound.specs.Emptiness.{AreEmptyMarks, is_marked}
 use Rattle.xd_syntax.specs.Kept.{ProgramTable, program_tree}
 use Rattle.xd_syntax.specs.Program.{ProgramTree, names_of}
 use Rattle.xd_syntax.specs.RecursionFaults.{IsSound}

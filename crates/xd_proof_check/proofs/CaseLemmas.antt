@@ -13,7 +13,7 @@ use Rattle.xd_laws.specs.Consistent.{Atom, Case, ChoiceTree, Goal, HeadAtom, ato
 use Rattle.xd_laws.specs.Consistent as proof
 use Rattle.xd_laws.specs.Breach.{bad_case}
 use Rattle.xd_laws.proofs.FirstWrong.{Refusal, at_line, or_next, reason_unless, same_atom, same_head_atom, wrong_case, wrong_cases, wrong_tree}
-use Rattle.xd_heads.specs.Cells.{Cell}
+use Rattle.xd_moves.specs.Cells.{Cell}
 use Rattle.xd_heads.specs.HeadList.{kind_at}
 use Rattle.xd_heads.specs.Numbered.{IsNumberIn, IsHeadIn}
 use Rattle.xd_heads.specs.declared.lister.NumberedHead.{NumberedHead}

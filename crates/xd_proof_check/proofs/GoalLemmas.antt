@@ -8,13 +8,13 @@ use Rattle.xd_syntax.specs.Table.{Row}
 use Rattle.xd_syntax.specs.Types.{tree}
 use Rattle.xd_syntax.specs.Sound.{IsTypeAt}
 use Rattle.xd_laws.specs.CanBeEmpty.{can_be_empty}
-use Rattle.xd_syntax.specs.Emptiness.{is_marked}
+use Rattle.xd_sound.specs.Emptiness.{is_marked}
 use Rattle.xd_syntax.specs.declared.types.TypeId.{TypeId}
 use Rattle.xd_laws.specs.Heads as laws
 use Rattle.xd_laws.specs.Consistent.{Goal, numbered, wanted}
 use Rattle.xd_laws.specs.Breach.{Lined, bad_empty, empty_lines, line_behind}
 use Rattle.xd_laws.proofs.FirstWrong.{at_line, empty_stands, or_next, reason_unless, right_is_empty, wrong_cases, wrong_goal, wrong_goals}
-use Rattle.xd_heads.specs.Cells.{Cell}
+use Rattle.xd_moves.specs.Cells.{Cell}
 use Rattle.xd_heads.specs.Numbered.{IsHeadIn}
 use Rattle.xd_heads.specs.declared.lister.NumberedHead.{NumberedHead}
 use Rattle.xd_proof.specs.Goals.{IsGoalAt, IsLinedAt}

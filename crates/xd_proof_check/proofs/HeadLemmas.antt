@@ -10,7 +10,7 @@ use Rattle.xd_syntax.specs.Types.{tree}
 use Rattle.xd_syntax.specs.declared.types.TypeId.{TypeId}
 use Rattle.xd_laws.specs.Heads as laws
 use Rattle.xd_continuations.specs.Chains.{KeepsLinks}
-use Rattle.xd_heads.specs.Cells.{Cell}
+use Rattle.xd_moves.specs.Cells.{Cell}
 use Rattle.xd_heads.specs.Numbered.{IsHeadIn, Serves}
 use Rattle.xd_heads.specs.declared.lister.HeadLister.{HeadLister}
 use Rattle.xd_heads.specs.declared.lister.NumberedHead.{NumberedHead}

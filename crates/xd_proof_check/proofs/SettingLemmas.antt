@@ -7,7 +7,7 @@ use Rattle.xd_laws.specs.Consistent.{Atom, this_label, other_label, this_text, o
 use Rattle.xd_syntax.specs.Table.{Row}
 use Rattle.xd_laws.specs.Breach.{Reason}
 use Rattle.xd_laws.proofs.FirstWrong.{wrong_choice, wrong_text, wrong_tree}
-use Rattle.xd_heads.specs.Cells.{Cell}
+use Rattle.xd_moves.specs.Cells.{Cell}
 use Rattle.xd_heads.specs.HeadList.{kind_at}
 use Rattle.xd_heads.specs.declared.lister.NumberedHead.{NumberedHead}
 use Rattle.xd_proof_lines.specs.Steps.{steps_of}

@@ -19,7 +19,7 @@ use Rattle.xd_proof_check.specs.Paths.{content_side, rest_side, heads_split, tur
 use Rattle.xd_proof_check.specs.Leaves.{is_among, leaf_numbered}
 use Rattle.xd_proof_check.specs.Walk.{SettingView, kind_matches, split_fits, wrong_steps, turns_after, rest_turns, wrong_text_step}
 use Rattle.xd_proof_check.specs.Corresponds.{IsClaimAt, Corresponds, Knows}
-use Rattle.xd_heads.specs.Cells.{Cell}
+use Rattle.xd_moves.specs.Cells.{Cell}
 use Rattle.xd_heads.specs.Numbered.{IsNumberIn}
 use Rattle.xd_proof_check.specs.declared.path.Turn.{Turn}
 

@@ -6,7 +6,7 @@ use Rattle.xd_syntax.specs.Table.{Row}
 use Rattle.xd_laws.specs.Heads.{heads}
 use Rattle.xd_laws.specs.Consistent.{ChoiceTree, Goal, HeadAtom, right_heads}
 use Rattle.xd_laws.proofs.FirstWrong.{Refusal, wrong_cases}
-use Rattle.xd_heads.specs.Cells.{Cell}
+use Rattle.xd_moves.specs.Cells.{Cell}
 use Rattle.xd_heads.specs.Numbered.{IsHeadIn}
 use Rattle.xd_heads.specs.declared.lister.NumberedHead.{NumberedHead}
 use Rattle.xd_proof.specs.declared.proof.ProofGoal.{ProofGoal}

@@ -6,7 +6,7 @@ use Rattle.xd_syntax.specs.Sound.{IsTypeAt}
 use Rattle.xd_laws.specs.Heads.{Head}
 use Rattle.xd_laws.specs.Consistent.{Goal}
 use Rattle.xd_pieces.specs.Codes.{number_at}
-use Rattle.xd_heads.specs.Cells.{Cell}
+use Rattle.xd_moves.specs.Cells.{Cell}
 use Rattle.xd_heads.specs.Numbered.{IsNumberIn, Tell}
 use Rattle.xd_proof.specs.declared.proof.ProofGoal.{ProofGoal}
 use Rattle.xd_proof_check.specs.Walk.{SettingView}

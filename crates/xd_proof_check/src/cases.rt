@@ -9,7 +9,7 @@ ghost use Rattle.xd_laws.proofs.FirstWrong.{same_atom, wrong_cases};
 ghost use Rattle.xd_proof_lines.specs.Cases.{atom_of};
 ghost use Rattle.xd_syntax.specs.Table.{Row};
 ghost use Rattle.xd_syntax.specs.Tree.{Definitions};
-ghost use Rattle.xd_heads.specs.Cells.{Cell};
+ghost use Rattle.xd_moves.specs.Cells.{Cell};
 ghost use Rattle.xd_proof_check.specs.Atoms.{AreNamed, kinds_of};
 ghost use Rattle.xd_proof_check.specs.CaseWalk.{CasesFit, IsKept, IsWithin, Meets, cases_of, wrong_after, wrong_behind};
 ghost use Rattle.xd_proof_check.specs.Paths.{IsClear, KeepsRoom};

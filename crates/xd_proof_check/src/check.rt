@@ -10,7 +10,7 @@ ghost use Rattle.xd_syntax.specs.Tree.{Definitions};
 ghost use Rattle.xd_laws.specs.Consistent.{Goal, numbered, wanted};
 ghost use Rattle.xd_laws.specs.Breach.{Lined, empty_lines};
 ghost use Rattle.xd_laws.proofs.FirstWrong.{first_wrong, wrong_cases, wrong_goal};
-ghost use Rattle.xd_heads.specs.Cells.{Cell};
+ghost use Rattle.xd_moves.specs.Cells.{Cell};
 ghost use Rattle.xd_heads.specs.Numbered.{Serves};
 ghost use Rattle.xd_heads.specs.declared.lister.NumberedHead.{NumberedHead};
 ghost use Rattle.xd_syntax.specs.declared.types.TypeId.{TypeId};

@@ -19,7 +19,7 @@ use std::alloc::Global;
 use xd_doc::NoMemory;
 use xd_heads::HeadLister;
 use xd_proof::Proof;
-use xd_syntax::SoundProgram;
+use xd_sound::SoundProgram;
 
 /// Whether a proof is consistent; if not, its first bad line and the reason.
 ///

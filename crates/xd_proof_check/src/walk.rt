@@ -10,7 +10,7 @@ ghost use Rattle.xd_proof_lines.specs.Steps.{steps_of};
 ghost use Rattle.xd_proof_lines.specs.declared.steps.Step.TheVariants as steps;
 ghost use Rattle.xd_proof_lines.specs.Cases.{atom_of};
 ghost use Rattle.xd_syntax.specs.Table.{Row};
-ghost use Rattle.xd_heads.specs.Cells.{Cell};
+ghost use Rattle.xd_moves.specs.Cells.{Cell};
 ghost use Rattle.xd_proof_check.specs.Atoms.{kinds_of};
 ghost use Rattle.xd_proof_check.specs.Corresponds.{Corresponds};
 ghost use Rattle.xd_proof_check.specs.Paths.{HasRoom, IsClear, IsPath, KeepsRoom, turns_of};

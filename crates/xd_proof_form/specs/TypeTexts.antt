@@ -1,7 +1,6 @@
 -- The types of a proof text: of the grammar of types, over known names.
 use Rattle.std.specs.Prelude.{◌≡◌, ℕ, true, List}
-use Rattle.xd_syntax.specs.Tree.{Tree}
-use Rattle.xd_syntax.specs.Adopt.{uses_only}
+use Rattle.xd_syntax.specs.Tree.{Tree, uses_only}
 use Rattle.xd_syntax.specs.Placed.{PlacedTree, unplaced}
 use Rattle.xd_trees.specs.Means.{IsTypeText}
 

@@ -1,10 +1,9 @@
 -- The types of the goals of a proof: how deep they are, and which names they use.
 use Rattle.std.proofs.Common.{◌≡◌, ℕ, ◌≤◌, Bool, true, List, [], ◌∷◌, Option, Some, subst}
 use Rattle.std.specs.List.{AllByRecursion, AllZip}
-use Rattle.xd_syntax.specs.Tree.{Tree}
+use Rattle.xd_syntax.specs.Tree.{Tree, uses_only}
 use Rattle.xd_syntax.specs.TypeText.{depth}
 use Rattle.xd_syntax.specs.Shallow.{IsShallow, nesting_limit}
-use Rattle.xd_syntax.specs.Adopt.{uses_only}
 use Rattle.xd_syntax.specs.NameFaults.{known_types}
 use Rattle.xd_syntax.specs.Program.{names_of}
 use Rattle.xd_syntax.specs.RecursionFaults.{IsSound}

@@ -11,7 +11,7 @@ use Rattle.xd_syntax.specs.Table.{Row}
 use Rattle.xd_syntax.specs.Program.{names_of}
 use Rattle.xd_syntax.specs.Shallow.{IsShallow}
 use Rattle.xd_syntax.specs.Kept.{ProgramTable, AddsTypes, program_tree}
-use Rattle.xd_syntax.proofs.AdoptLaws.{AddsTypes-trans, type_kept}
+use Rattle.xd_sound.proofs.AdoptLaws.{AddsTypes-trans, type_kept}
 use Rattle.xd_syntax.specs.declared.types.TypeId.{TypeId}
 use Rattle.xd_auto.specs.declared.auto.State.{State}
 use Rattle.xd_auto.specs.Automaton.{Automaton}

@@ -24,7 +24,7 @@ use Rattle.xd_goals.proofs.Growing.{claim_within}
 use Rattle.xd_state_heads.proofs.Lists.{all_map}
 use Rattle.xd_goals.proofs.Trees.{StandsAt-one}
 use Rattle.xd_heads.specs.CellsView.{CellsView}
-use Rattle.xd_heads.specs.Found.{continuation}
+use Rattle.xd_moves.specs.Found.{continuation}
 use Rattle.xd_heads.specs.Mirrors.{AreHeadMoves, no_head, element_head, IsTypeState, Mirrors, continuation_of}
 use Rattle.xd_heads.specs.Mirrors as mirrors
 use Rattle.xd_heads.proofs.Mirrored.{type_is, type_of_number}

@@ -1,10 +1,9 @@
 -- Goals of a proof that are made from rows of a table.
 use Rattle.std.specs.Prelude.{◌≡◌, ℕ, ◌<◌, ◌≤◌, true, false, List, ◌∷◌, length, Option, Some, None}
 use Rattle.std.specs.List.{AllByRecursion, AllZip}
-use Rattle.xd_syntax.specs.Tree.{Tree}
+use Rattle.xd_syntax.specs.Tree.{Tree, uses_only}
 use Rattle.xd_syntax.specs.TypeText.{depth}
 use Rattle.xd_syntax.specs.Shallow.{IsShallow, nesting_limit}
-use Rattle.xd_syntax.specs.Adopt.{uses_only}
 use Rattle.xd_syntax.specs.NameFaults.{known_types}
 use Rattle.xd_syntax.specs.Program.{ProgramTree, names_of}
 use Rattle.xd_syntax.specs.Kept.{ProgramTable, program_tree}

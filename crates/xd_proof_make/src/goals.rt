@@ -22,7 +22,8 @@ use xd_doc::NoMemory;
 use xd_goals::{GoalId, Table};
 use xd_heads::Cells;
 use xd_proof::ProofGoal;
-use xd_syntax::{SoundProgram, TypeId};
+use xd_sound::SoundProgram;
+use xd_syntax::TypeId;
 
 /// The number of the first right that can be empty, where the left can be.
 fn empty_right(auto: &Auto, left: State, rights: &[State]) -> Option<u64>

@@ -19,7 +19,7 @@ use xd_doc::NoMemory;
 use xd_goals::{GoalId, Table};
 use xd_heads::Cells;
 use xd_proof::Proof;
-use xd_syntax::SoundProgram;
+use xd_sound::SoundProgram;
 
 /// A proof of what a goal claims: its goals are those that the goal leads to through leaves, itself first, each once, between the
 /// types of their states. Types are added to the program for them; each goal begins on line 1.

@@ -20,7 +20,8 @@ use std::alloc::Global;
 use xd_auto::State;
 use xd_doc::NoMemory;
 use xd_heads::{Cells, Head, HeadKind, heads};
-use xd_syntax::{SoundProgram, TypeId};
+use xd_sound::SoundProgram;
+use xd_syntax::TypeId;
 
 /// The type of a state, and for each of its heads whether it is a text.
 #[derive(Drop)]

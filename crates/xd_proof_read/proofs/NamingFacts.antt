@@ -5,7 +5,7 @@ use Rattle.std.specs.Option.{IfSome}
 use Rattle.std.specs.List.{AllByRecursion}
 use Rattle.std.specs.Fmt.{decimal}
 use Rattle.xd_doc.specs.declared.NoMemory.{NoMemory}
-use Rattle.xd_syntax.specs.Tree.{Tree, Empty}
+use Rattle.xd_syntax.specs.Tree.{Tree, Empty, uses_only}
 use Rattle.xd_syntax.specs.Table.{Row, KeepsRows, tree_at}
 use Rattle.xd_syntax.specs.Types.{BelongsTo, tree}
 use Rattle.xd_syntax.specs.Sound.{IsTypeAt}
@@ -13,13 +13,12 @@ use Rattle.xd_syntax.specs.Placed.{placed_at, unplaced}
 use Rattle.xd_syntax.specs.Kept.{ProgramTable, program_tree}
 use Rattle.xd_syntax.specs.Shallow.{nesting_limit}
 use Rattle.xd_syntax.specs.TypeText.{type_text}
-use Rattle.xd_syntax.specs.Adopt.{uses_only}
 use Rattle.xd_syntax.specs.NameFaults.{known_types}
 use Rattle.xd_syntax.specs.declared.types.TypeId.{TypeId}
 use Rattle.xd_syntax.proofs.Trees.{tree_kept}
 use Rattle.xd_syntax.proofs.PlacedTrees.{unplaced_at}
 use Rattle.xd_syntax.proofs.ShallowTables.{none_within, within_both}
-use Rattle.xd_syntax.proofs.AdoptLaws.{AddsTypes-trans}
+use Rattle.xd_sound.proofs.AdoptLaws.{AddsTypes-trans}
 use Rattle.xd_trees.specs.Means.{IsTypeText}
 use Rattle.xd_trees.proofs.Kept.{KeepsRows-refl}
 use Rattle.xd_parse.proofs.Sure.{texts_mean_one_thing}

@@ -10,7 +10,7 @@ use Rattle.xd_syntax.specs.Table.{Row, KeepsRows}
 use Rattle.xd_syntax.specs.Sound.{IsTypeAt}
 use Rattle.xd_syntax.specs.Kept.{ProgramTable}
 use Rattle.xd_syntax.specs.declared.types.TypeId.{TypeId}
-use Rattle.xd_syntax.proofs.AdoptLaws.{type_kept}
+use Rattle.xd_sound.proofs.AdoptLaws.{type_kept}
 use Rattle.xd_laws.specs.Consistent.{Case}
 use Rattle.xd_laws.specs.Breach.{Lined}
 use Rattle.xd_proof_form.specs.Parts.{Part, first_title, second_title, type_count, type_part, goal_count, goal_part, left_part, right_part, empty_part, case_part, end_part}

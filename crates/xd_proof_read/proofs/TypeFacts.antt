@@ -13,7 +13,7 @@ use Rattle.xd_syntax.specs.Types.{BelongsTo, tree}
 use Rattle.xd_syntax.specs.Sound.{IsTypeAt}
 use Rattle.xd_syntax.specs.Kept.{ProgramTable}
 use Rattle.xd_syntax.specs.declared.types.TypeId.{TypeId}
-use Rattle.xd_syntax.proofs.AdoptLaws.{type_kept}
+use Rattle.xd_sound.proofs.AdoptLaws.{type_kept}
 use Rattle.xd_proof_form.specs.Lines.{space, IsFreeOf, SpellsNumber, IsNumber}
 use Rattle.xd_proof_form.specs.Parts.{Part, type_part, SpellsTypePart, SpellParts}
 use Rattle.xd_proof_form.specs.Form.{types_from}

@@ -20,7 +20,8 @@ use xd_doc::NoMemory;
 use xd_proof::Proof;
 use xd_proof_form::{before_mark, read_number};
 use xd_proof_lines::{behind_word, read_numbered};
-use xd_syntax::{SoundProgram, TypeId};
+use xd_sound::SoundProgram;
+use xd_syntax::TypeId;
 
 /// Reads the lines of a proof text, in the format that the first one names.
 pub(crate) fn read_lines(

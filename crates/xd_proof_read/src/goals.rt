@@ -16,7 +16,7 @@ use crate::stages::Stage;
 use std::alloc::Global;
 use xd_doc::NoMemory;
 use xd_proof::Proof;
-use xd_syntax::SoundProgram;
+use xd_sound::SoundProgram;
 
 /// Reads the lines from the number of goals on. So many lines stand before them.
 pub(crate) fn read_goals(

@@ -10,7 +10,8 @@ use std::alloc::Global;
 use xd_doc::NoMemory;
 use xd_parse::{ParseError, parse_type};
 use xd_proof_form::read_number;
-use xd_syntax::{SoundProgram, TypeId, Types};
+use xd_sound::SoundProgram;
+use xd_syntax::{TypeId, Types};
 
 /// How goals name their types.
 #[derive(Drop)]

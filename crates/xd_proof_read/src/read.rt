@@ -17,7 +17,7 @@ use crate::formats::read_lines;
 use std::alloc::Global;
 use xd_proof::Proof;
 use xd_proof_form::cut_lines;
-use xd_syntax::SoundProgram;
+use xd_sound::SoundProgram;
 
 /// Reads a proof text of either format; its types become types of the program. Takes n log n steps for n bytes.
 pub fn read_proof(

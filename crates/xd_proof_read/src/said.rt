@@ -10,7 +10,8 @@ use std::alloc::Global;
 use xd_doc::NoMemory;
 use xd_proof_form::{before_mark, read_number};
 use xd_proof_lines::{ReadCase, read_case};
-use xd_syntax::{SoundProgram, TypeId};
+use xd_sound::SoundProgram;
+use xd_syntax::TypeId;
 
 /// What a line says.
 #[derive(Drop)]

@@ -17,7 +17,7 @@ use xd_goals::{GoalId, Table};
 use xd_heads::Cells;
 use xd_proof_make::proof_of;
 use xd_proof_write::second_text;
-use xd_syntax::SoundProgram;
+use xd_sound::SoundProgram;
 
 /// Appends a proof text, in the second format, of what a goal claims: the goals are those that the goal leads to through leaves,
 /// itself first, between the types of their states. Types are added to the program for that.

@@ -1,8 +1,7 @@
 -- The second text of goals is a proof text, and spells these goals.
 use Rattle.std.specs.Prelude.{◌≡◌, ◌↔◌, ℕ, ◌≤◌, true, false, List, length, Option, Some, None}
 use Rattle.std.specs.List.{AllByRecursion}
-use Rattle.xd_syntax.specs.Tree.{Tree}
-use Rattle.xd_syntax.specs.Adopt.{uses_only}
+use Rattle.xd_syntax.specs.Tree.{Tree, uses_only}
 use Rattle.xd_syntax.specs.Proper.{IsProperTree}
 use Rattle.xd_syntax.specs.Shallow.{nesting_limit}
 use Rattle.xd_syntax.specs.TypeText.{depth}

@@ -11,7 +11,8 @@ ghost use Rattle.xd_proof_write.specs.ClaimText.{claim_text, rights_text};
 use std::alloc::Global;
 use xd_doc::NoMemory;
 use xd_proof::Proof;
-use xd_syntax::{SoundProgram, TypeId, Types};
+use xd_sound::SoundProgram;
+use xd_syntax::{TypeId, Types};
 use xd_type_text::type_text;
 
 /// Appends the line by which a verifier says that it accepted the claim of a proof, without the line end.

@@ -15,7 +15,8 @@ use crate::numbers::Numbers;
 use std::alloc::Global;
 use xd_doc::NoMemory;
 use xd_proof::{Proof, ProofGoal};
-use xd_syntax::{SoundProgram, TypeId, Types};
+use xd_sound::SoundProgram;
+use xd_syntax::{TypeId, Types};
 
 /// Appends the goals of a proof in the second format, where each type is listed once, as it first comes up, and goals name it by
 /// its number.

@@ -2,12 +2,12 @@
 use Rattle.std.proofs.Common.{◌≡◌, ℕ, ◌+◌, ◌<◌, ◌≤◌, arith, ◌⊎◌, List, [], ◌∷◌, ◌++◌, length, get_or, take, refl, ap, sym, subst, ◌∙◌, inl, inr}
 use Rattle.std.proofs.lemmas.List.{length_push, length-take-le, get_or_append_left, get_or_push, get_or-take}
 use Rattle.std.proofs.lemmas.Bool.{cases_lt}
-use Rattle.xd_syntax.specs.Graph.{HasEdge}
+use Rattle.xd_sound.specs.Graph.{HasEdge}
 use Rattle.xd_rec.specs.Components.{standing_of, node_at, no_segment, path_from, todo_from, NoneBetween, IsSettled, HasSource, IsSearched, IsDoneFrom, Path}
 use Rattle.xd_rec.specs.declared.components.Standing.{Standing}
 use Rattle.xd_rec.specs.declared.components.Standing.TheVariants.{Unseen, Open, Done}
 use Rattle.xd_rec.specs.declared.components.Segment.{Segment}
-use Rattle.xd_syntax.proofs.Lists.{all_push, all_front, all_last}
+use Rattle.xd_sound.proofs.Lists.{all_push, all_front, all_last}
 use Rattle.xd_rec.proofs.Searching.{open_same, done_same_number, last_split}
 
 module _ (g : List (List ℕ)) (st new : List Standing) (path todo : List ℕ) (segs : List Segment) (top : Segment) (fin : ℕ) (i : IsSearched g st path todo (segs ++ top ∷ []) fin)

@@ -3,11 +3,11 @@ use Rattle.std.proofs.Common.{◌≡◌, ℕ, zero, suc, ◌<◌, arith, Bool, t
 use Rattle.xd_syntax.proofs.Members.{mem_append, append_left, append_right}
 use Rattle.xd_syntax.specs.declared.types.TypeDef.{TypeDef}
 use Rattle.xd_syntax.specs.declared.fault.Fault.{Fault}
-use Rattle.xd_syntax.specs.Graph.{HasEdge, successors}
-use Rattle.xd_syntax.specs.TypeNames.{first_of}
+use Rattle.xd_sound.specs.Graph.{HasEdge, successors}
+use Rattle.xd_sound.specs.TypeNames.{first_of}
 use Rattle.xd_rec.specs.Faults.{AreOwned, IsGraphOf, AddsUse, faults_of}
 use Rattle.xd_rec.specs.declared.uses.TopUse.{TopUse}
-use Rattle.xd_syntax.proofs.Graphs.{with_edge, edges_more, edges_kept, edge_made}
+use Rattle.xd_sound.proofs.Graphs.{with_edge, edges_more, edges_kept, edge_made}
 use Rattle.std.proofs.lemmas.List.{append_assoc, length-set}
 
 pub graph_none : (ds : List TypeDef) (front : Bool) (g : List (List ℕ)) → length g ≡ length ds → ((v w : ℕ) → HasEdge g v w → ⊥) → IsGraphOf ds [] front g

@@ -2,12 +2,12 @@
 use Rattle.std.proofs.Common.{◌≡◌, ℕ, zero, suc, ◌+◌, ◌-◌, ◌<◌, ◌≤◌, arith, ◌⊎◌, List, [], ◌∷◌, ◌++◌, length, get_or, set, refl, ap, sym, subst, ◌∙◌, inl, inr}
 use Rattle.std.proofs.lemmas.List.{length_push, length-append, length-set, get_or_append_left, get_or_push, get_or-append-add, get_or-set_same, get_or-set_other}
 use Rattle.std.proofs.lemmas.Bool.{cases_lt, cases_eq}
-use Rattle.xd_syntax.specs.Graph.{successors, HasEdge}
+use Rattle.xd_sound.specs.Graph.{successors, HasEdge}
 use Rattle.xd_rec.specs.Components.{standing_of, node_at, no_segment, path_from, todo_from, unseen, NoneBetween, IsSettled, HasSource, IsSearched, Path, stay}
 use Rattle.xd_rec.specs.declared.components.Standing.{Standing}
 use Rattle.xd_rec.specs.declared.components.Standing.TheVariants.{Unseen, Open, Done}
 use Rattle.xd_rec.specs.declared.components.Segment.{Segment}
-use Rattle.xd_syntax.proofs.Lists.{all_push, all_front, place_in, among_at}
+use Rattle.xd_sound.proofs.Lists.{all_push, all_front, place_in, among_at}
 use Rattle.xd_rec.proofs.Searching.{open_same}
 
 pub unseen_less : (st : List Standing) (v p : ℕ) → v < length st → get_or st v Unseen ≡ Unseen → unseen (set st v (Open p)) + 1 ≡ unseen st

@@ -16,17 +16,17 @@ use Rattle.xd_syntax.specs.RecursionFaults.{Use, top_uses, AllCanBeEmpty, IsFron
 use Rattle.xd_syntax.specs.declared.types.TypeDef.{TypeDef}
 use Rattle.xd_syntax.specs.declared.fault.Fault.{Fault}
 use Rattle.xd_syntax.proofs.Members.{Among, mem_append, append_left, append_right, mem_map, map_mem}
-use Rattle.xd_syntax.specs.Graph.{HasEdge}
+use Rattle.xd_sound.specs.Graph.{HasEdge}
 use Rattle.xd_rec.specs.Components.{AreComponents, Path, stay, edge_then}
-use Rattle.xd_syntax.specs.TypeNames.{first_from, first_of, meanings}
+use Rattle.xd_sound.specs.TypeNames.{first_from, first_of, meanings}
 use Rattle.xd_rec.specs.Names.{AreUnique, program_of}
 use Rattle.xd_rec.specs.Uses.{all_empty, seen, tree_uses, uses_from}
 use Rattle.xd_rec.specs.Faults.{AreOwned, IsGraphOf, same_as, is_back, recurs, recursion_fault, faults_of}
 use Rattle.xd_rec.specs.declared.faults.Recursion.TheVariants.{OutsideTail, Unguarded}
 use Rattle.xd_rec.specs.declared.components.Standing.{Standing}
 use Rattle.xd_rec.specs.declared.uses.TopUse.{TopUse}
-use Rattle.xd_syntax.proofs.EmptyLemmas.{defined_at, defined_in}
-use Rattle.xd_syntax.proofs.NameLemmas.{first_found, first_missing}
+use Rattle.xd_sound.proofs.EmptyLemmas.{defined_at, defined_in}
+use Rattle.xd_sound.proofs.NameLemmas.{first_found, first_missing}
 
 abbrev no_def : TypeDef
 no_def = record { name = []; place = the_start; body = record { at = 0 } }

@@ -2,12 +2,12 @@
 use Rattle.std.proofs.Common.{◌≡◌, ℕ, ◌+◌, ◌<◌, ◌≤◌, arith, ◌⊎◌, List, [], ◌∷◌, ◌++◌, length, get_or, take, eqb, eq-eqb, eqb-true, refl, ap, sym, subst, ◌∙◌, inl, inr}
 use Rattle.std.proofs.lemmas.List.{length_push, length-take-le, get_or_append_left, get_or_push, take_all, take_more}
 use Rattle.std.proofs.lemmas.Bool.{cases_lt, cases_eq}
-use Rattle.xd_syntax.specs.Graph.{HasEdge, IsClosed}
+use Rattle.xd_sound.specs.Graph.{HasEdge, IsClosed}
 use Rattle.xd_rec.specs.Components.{AreComponents, has_same_number, standing_of, node_at, no_segment, path_from, todo_from, NoneBetween, IsSettled, HasSource, IsSearched, Path, stay, edge_then}
 use Rattle.xd_rec.specs.declared.components.Standing.{Standing}
 use Rattle.xd_rec.specs.declared.components.Standing.TheVariants.{Unseen, Open, Done}
 use Rattle.xd_rec.specs.declared.components.Segment.{Segment}
-use Rattle.xd_syntax.proofs.Lists.{all_push, all_front, all_last}
+use Rattle.xd_sound.proofs.Lists.{all_push, all_front, all_last}
 
 pub path_then : (g : List (List ℕ)) {u v w : ℕ} → Path g u v → Path g v w → Path g u w
 path_then g stay q = q

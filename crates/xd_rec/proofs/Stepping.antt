@@ -1,7 +1,7 @@
 -- what a step of a search reads
 use Rattle.std.proofs.Common.{◌≡◌, ℕ, ◌+◌, ◌-◌, ◌<◌, arith, List, length, get_or, ap, sym, subst, ◌∙◌}
 use Rattle.std.proofs.lemmas.List.{get_or_read}
-use Rattle.xd_syntax.specs.Graph.{IsClosed}
+use Rattle.xd_sound.specs.Graph.{IsClosed}
 use Rattle.xd_rec.specs.Components.{IsNextTarget, IsSearched, node_at, todo_from, Path}
 use Rattle.xd_rec.specs.declared.components.Segment.{Segment}
 use Rattle.xd_rec.specs.declared.components.Standing.{Standing}

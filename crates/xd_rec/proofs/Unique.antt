@@ -12,7 +12,7 @@ use Rattle.xd_syntax.specs.declared.fault.Fault.{Fault}
 use Rattle.xd_syntax.specs.declared.fault.FaultKind.TheVariants.{DuplicateName}
 use Rattle.xd_syntax.specs.declared.types.TypeDef.{TypeDef}
 use Rattle.xd_base.specs.declared.Place.{Place}
-use Rattle.xd_syntax.specs.TypeNames.{first_from}
+use Rattle.xd_sound.specs.TypeNames.{first_from}
 use Rattle.xd_rec.specs.Names.{AreUnique}
 
 put_in-length : (f : Fault) (gs : List Fault) → length (put_in precedes f gs) ≡ length gs + 1

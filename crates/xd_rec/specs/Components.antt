@@ -1,6 +1,6 @@
 -- Strongly connected components, and what a search for them has found so far.
 use Rattle.std.specs.Prelude.{◌≡◌, ℕ, ◌+◌, ◌-◌, ◌*◌, ◌^◌, ◌<◌, ◌≤◌, Bool, true, false, ◌⊎◌, ◌↔◌, nat_eq, List, [], ◌∷◌, length, get_or}
-use Rattle.xd_syntax.specs.Graph.{HasEdge}
+use Rattle.xd_sound.specs.Graph.{HasEdge}
 use Rattle.xd_rec.specs.declared.components.Standing.{Standing}
 use Rattle.xd_rec.specs.declared.components.Standing.TheVariants.{Unseen, Open, Done}
 use Rattle.xd_rec.specs.declared.components.Segment.{Segment}

@@ -5,8 +5,8 @@ use Rattle.xd_syntax.specs.NameFaults.{fault_at}
 use Rattle.xd_syntax.specs.declared.types.TypeDef.{TypeDef}
 use Rattle.xd_syntax.specs.declared.fault.Fault.{Fault}
 use Rattle.xd_syntax.specs.declared.fault.FaultKind.TheVariants as kinds
-use Rattle.xd_syntax.specs.Graph.{HasEdge}
-use Rattle.xd_syntax.specs.TypeNames.{first_of}
+use Rattle.xd_sound.specs.Graph.{HasEdge}
+use Rattle.xd_sound.specs.TypeNames.{first_of}
 use Rattle.xd_rec.specs.Components.{standing_of, has_same_number}
 use Rattle.xd_rec.specs.declared.components.Standing.{Standing}
 use Rattle.xd_rec.specs.declared.faults.Recursion.{Recursion}

@@ -3,7 +3,7 @@ use Rattle.std.specs.Prelude.{◌≡◌, ◌<◌, ℕ, length, get_or, List, map
 use Rattle.xd_syntax.specs.Table.{Row}
 use Rattle.xd_syntax.specs.Program.{FunctionDefinition, ProgramTree}
 use Rattle.xd_syntax.specs.Kept.{type_definition}
-use Rattle.xd_syntax.specs.TypeNames.{first_of}
+use Rattle.xd_sound.specs.TypeNames.{first_of}
 use Rattle.xd_syntax.specs.declared.types.TypeDef.{TypeDef}
 
 -- each definition is the first of its name

@@ -8,7 +8,8 @@ use Rattle.xd_syntax.specs.Ways.{Among}
 use Rattle.xd_syntax.specs.Program.{TypeDefinition}
 use Rattle.xd_syntax.specs.RecursionFaults.{Use, top_uses}
 use Rattle.xd_syntax.specs.declared.types.TypeDef.{TypeDef}
-use Rattle.xd_syntax.specs.Emptiness.{is_marked, name_marked, empty_by}
+use Rattle.xd_sound.specs.Emptiness.{is_marked, name_marked}
+use Rattle.xd_syntax.specs.Fits.{empty_by}
 use Rattle.xd_rec.specs.declared.uses.TopUse.{TopUse}
 use Rattle.xd_rec.specs.declared.uses.Part.{Part}
 

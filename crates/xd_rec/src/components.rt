@@ -1,12 +1,12 @@
 //! Strongly connected components.
 
 ghost use Rattle.std.specs.Prelude.{◌≡◌, ◌+◌, ◌-◌, ◌<◌, ◌≤◌, ◌++◌, ◌∷◌, [], ℕ, take, length, slice_set, get_or, IfOk, OnOk, MatchOption, vec_len};
-ghost use Rattle.xd_syntax.specs.Graph.{IsClosed, successors};
+ghost use Rattle.xd_sound.specs.Graph.{IsClosed, successors};
 ghost use Rattle.xd_rec.specs.Components.{AreComponents, IsKnown, IsSearched, IsDoneFrom, IsNextTarget, StaySeen, has_same_number, no_segment, node_at, path_from, standing_of, todo_from, unseen, work_left, Path};
 
 use std::alloc::Global;
 use xd_doc::NoMemory;
-use xd_syntax::Graph;
+use xd_sound::Graph;
 
 /// How far a search has come with a node: it is at a place of the path, or done with the number of
 /// its component.

@@ -1,15 +1,16 @@
 //! Faults of recursion.
 
 ghost use Rattle.std.specs.Prelude.{◌≡◌, ◌<◌, ◌++◌, ℕ, length, IfOk, OnOk};
-ghost use Rattle.xd_syntax.specs.Graph.{HasEdge};
-ghost use Rattle.xd_syntax.specs.TypeNames.{AreNumbered};
+ghost use Rattle.xd_sound.specs.Graph.{HasEdge};
+ghost use Rattle.xd_sound.specs.TypeNames.{AreNumbered};
 ghost use Rattle.xd_rec.specs.Faults.{AreOwned, AddsUse, IsGraphOf, faults_of, is_back, recurs, recursion_fault};
 
 use crate::components::{Standing, are_together};
 use crate::uses::TopUse;
 use std::alloc::Global;
 use xd_doc::NoMemory;
-use xd_syntax::{Fault, FaultKind, Graph, TypeDef, TypeNames};
+use xd_sound::{Graph, TypeNames};
+use xd_syntax::{Fault, FaultKind, TypeDef};
 
 /// The two ways in which a use may recur that are faults.
 #[derive(Clone, Copy)]

@@ -6,7 +6,7 @@ ghost use Rattle.std.specs.List.{AllByRecursion};
 ghost use Rattle.xd_syntax.specs.NameFaults.{name_faults};
 ghost use Rattle.xd_syntax.specs.Program.{FunctionDefinition};
 ghost use Rattle.xd_syntax.specs.Kept.{TypeDefStands, program_tree};
-ghost use Rattle.xd_syntax.specs.Known.{AreKnown, AreKnownTypes};
+ghost use Rattle.xd_sound.specs.Known.{AreKnown, AreKnownTypes};
 ghost use Rattle.xd_rec.specs.Names.{AreUnique, program_of};
 ghost use Rattle.xd_syntax.specs.RecursionFaults.{AreRecursionFaults};
 ghost use Rattle.xd_rec.specs.Soundness.{IsSoundness};
@@ -21,7 +21,8 @@ use crate::faults::{Recursion, add_faults, use_graph};
 use crate::uses::top_uses;
 use std::alloc::Global;
 use xd_doc::NoMemory;
-use xd_syntax::{Fault, Known, Program, SoundProgram, TypeDef, Types, sort_faults};
+use xd_sound::{Known, SoundProgram};
+use xd_syntax::{Fault, Program, TypeDef, Types, sort_faults};
 
 /// A program without faults of recursion, or the list of these faults.
 #[derive(Drop)]

@@ -12,7 +12,8 @@ use xd_auto::{Auto, State};
 use xd_call_lines::{Call, CallError};
 use xd_call_programs::{find_type, program_of};
 use xd_heads::{Cells, compile_type};
-use xd_syntax::{SoundProgram, TypeId};
+use xd_sound::SoundProgram;
+use xd_syntax::TypeId;
 
 /// The types of two names.
 fn types_of(sound: &mut SoundProgram, one: &str, two: &str) -> Result<(TypeId, TypeId), CallError>

@@ -13,7 +13,8 @@ use xd_call_programs::{state_of, type_of};
 use xd_doc::Store;
 use xd_empty::inhabitant;
 use xd_heads::{Cells, Head, HeadKind, compile_type, heads};
-use xd_syntax::{SoundProgram, TypeId, Types};
+use xd_sound::SoundProgram;
+use xd_syntax::{TypeId, Types};
 use xd_type_text::type_text;
 use xd_write::write_document;
 

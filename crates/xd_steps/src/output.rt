@@ -27,7 +27,8 @@ use xd_proof::Proof;
 use xd_proof_check::Reason;
 use xd_proof_write::{claim_line, second_text};
 use xd_report::fault_line;
-use xd_syntax::{Fault, FaultKind, SoundProgram};
+use xd_sound::SoundProgram;
+use xd_syntax::{Fault, FaultKind};
 use xd_write::write_document;
 
 /// A text that is to be written whole, and the status that goes with it.

@@ -16,7 +16,7 @@ use xd_base::Shelf;
 use xd_names::resolve;
 use xd_parse::{ParseError, parse_program};
 use xd_rec::{Soundness, well_formed};
-use xd_syntax::SoundProgram;
+use xd_sound::SoundProgram;
 
 /// The program of a text, where it has no faults.
 pub fn sound_program(alloc: Global, bytes: &[u8]) -> Result<SoundProgram, Stop>

@@ -14,7 +14,7 @@ use xd_base::Shelf;
 use xd_proof::Proof;
 use xd_proof_check::Reason;
 use xd_proof_read::{ProofError, read_proof};
-use xd_syntax::SoundProgram;
+use xd_sound::SoundProgram;
 
 /// The proof of a text. Its types are added to the program.
 fn well_formed_proof(alloc: Global, sound: &mut SoundProgram, bytes: &[u8]) -> Result<Proof, Stop>

@@ -5,18 +5,10 @@ pub mod Fronts
 pub mod PlacedTrees
 pub mod ExprTrees
 pub mod ProperTrees
-pub mod Members
 pub mod KeptLaws
-pub mod NamedLaws
-pub mod SameClass
+pub mod Members
 pub mod NodeParts
-pub mod Reached
-pub mod AdoptLaws
+pub mod SameClass
+pub mod Words
 pub mod Sorting
 pub mod Ranks
-pub mod Graphs
-pub mod Lists
-pub mod NameLemmas
-pub mod EmptyLemmas
-pub mod KnownLaws
-mod WaitingLaws

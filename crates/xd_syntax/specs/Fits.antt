@@ -1,5 +1,5 @@
 -- Which documents fit a type (Hosoya, Vouillon and Pierce, TOPLAS 2005: the meaning of types).
-use Rattle.std.specs.Prelude.{◌≡◌, ℕ, true, List, Some}
+use Rattle.std.specs.Prelude.{◌≡◌, ℕ, Bool, true, false, ◌||◌, ◌&&◌, List, Some}
 use Rattle.xd_doc.specs.Document.{Document, empty, text, element, join, has_item}
 use Rattle.xd_doc.specs.Classes.{LabelClass, TextClass, class_has}
 use Rattle.xd_syntax.specs.Tree.{Tree, Empty, Text, Words, Name, Elem, Seq, Alt, Star, Plus, Opt, Val, Definitions, body}
@@ -24,3 +24,15 @@ pub data Fits (E : Definitions) : Tree → Document → Type 0 where
 -- a document of two parts
 abbrev pub Split : (Document → Type 0) → (Document → Type 0) → Document → Type 0
 Split P Q d = (a : Document) × (b : Document) × (join a b ≡ d) × P a × Q b
+
+-- whether the empty document fits, where N answers for names
+abbrev pub empty_by : (List ℕ → Bool) → Tree → Bool
+empty_by N Empty = true
+empty_by N (Name x) = N x
+empty_by N (Seq T U) = empty_by N T && empty_by N U
+empty_by N (Alt T U) = empty_by N T || empty_by N U
+empty_by N (Star T) = true
+empty_by N (Plus T) = empty_by N T
+empty_by N (Opt T) = true
+empty_by N (Val x T) = empty_by N T
+empty_by N _ = false

@@ -22,8 +22,3 @@ pub mod Exprs
 pub mod FunctionRow
 pub mod Kept
 pub mod Sound
-pub mod Graph
-pub mod TypeNames
-pub mod Emptiness
-pub mod Known
-pub mod Adopt

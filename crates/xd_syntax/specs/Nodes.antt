@@ -27,6 +27,10 @@ form_parts (opt_form i) = i ∷ []
 form_parts (val_form x p i) = i ∷ []
 form_parts _ = []
 
+-- the parts of the node with this number
+abbrev pub parts_of : List Row → ℕ → List ℕ
+parts_of rows i = form_parts (form_at rows i)
+
 -- the form that is seen, its parts as numbers of nodes
 abbrev pub view_form : {I : Type 0} → (I → ℕ) → FormView I → Form
 view_form at Empty = empty_form

@@ -1,8 +1,8 @@
 -- Types and patterns as trees, places aside.
-use Rattle.std.specs.Prelude.{ℕ, Bool, true, false, cond, List, [], ◌∷◌, ◌++◌, Option, Some, None}
+use Rattle.std.specs.Prelude.{ℕ, ◌+◌, Bool, true, false, cond, ◌&&◌, List, [], ◌∷◌, ◌++◌, Option, Some, None}
 use Rattle.std.specs.Str.{bytes_eq}
 use Rattle.xd_doc.specs.Classes.{LabelClass, TextClass}
-use Rattle.xd_syntax.specs.Words.{any_word}
+use Rattle.xd_syntax.specs.Words.{any_word, has_word}
 
 -- A type or a pattern. A sequence or an alternative of more than two parts leans to the right.
 -- `Text` is the type `String`, `Words` a class of texts; `Val` binds a variable, and stands in patterns alone.
@@ -48,6 +48,29 @@ occurrences (Plus T) = occurrences T
 occurrences (Opt T) = occurrences T
 occurrences (Val x T) = x ∷ occurrences T
 occurrences _ = []
+
+-- each name that the type uses is among these
+abbrev pub uses_only : List (List ℕ) → Tree → Bool
+uses_only known (Name x) = has_word known x
+uses_only known (Elem c T) = uses_only known T
+uses_only known (Seq T U) = uses_only known T && uses_only known U
+uses_only known (Alt T U) = uses_only known T && uses_only known U
+uses_only known (Star T) = uses_only known T
+uses_only known (Plus T) = uses_only known T
+uses_only known (Opt T) = uses_only known T
+uses_only known (Val x T) = uses_only known T
+uses_only known _ = true
+
+-- how many nodes the tree has
+abbrev pub size : Tree → ℕ
+size (Elem c T) = size T + 1
+size (Seq T U) = size T + size U + 1
+size (Alt T U) = size T + size U + 1
+size (Star T) = size T + 1
+size (Plus T) = size T + 1
+size (Opt T) = size T + 1
+size (Val x T) = size T + 1
+size _ = 1
 
 -- the sequence and the alternative of a list of parts
 abbrev pub seq_of : List Tree → Tree

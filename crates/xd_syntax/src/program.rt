@@ -182,15 +182,16 @@ impl Program {
         }
     }
 
-    /// Its words are words, its texts have characters that UTF-8 can spell, and its classes are as they are built.
-    pub(crate) fn see_program(&self)
+    /// Its words are words, its texts have characters that UTF-8 can spell, and its classes are as they are built. The call does nothing; its
+    /// contract is the law.
+    pub fn see_program(&self)
         ensures { IsProperProgram (program_tree self.now) }
     {
         let _types = &self.types;
     }
 
     /// An equal program, with the same numbers of nodes.
-    pub(crate) fn copy(&self, alloc: Global) -> Result<Self, NoMemory>
+    pub fn copy(&self, alloc: Global) -> Result<Self, NoMemory>
         ensures { IfOk result (λ made. made ≡ self.now) }
     {
         Ok(Self {
@@ -238,7 +239,7 @@ impl Program {
     }
 
     /// One more node of a type.
-    pub(crate) fn add_type(&mut self, place: Place, form: TypeForm) -> Result<TypeId, NoMemory>
+    pub fn add_type(&mut self, place: Place, form: TypeForm) -> Result<TypeId, NoMemory>
         requires { CanFollow false self.old.types (form_of form) }
         ensures ok { IfOk result (IsTypeAt self.new.types (form_tree (tree_at self.old.types) (form_of form))) }
         ensures last { IfOk result (λ id. id.at ≡ length self.old.types) }

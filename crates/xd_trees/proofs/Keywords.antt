@@ -6,7 +6,7 @@ use Rattle.xd_lex.specs.declared.Kind.{Kind}
 use Rattle.xd_lex.specs.declared.Kind.TheVariants as kinds
 use Rattle.xd_lex.specs.Tokens.{Lexeme}
 use Rattle.xd_syntax.specs.Words.{has_word, keywords}
-use Rattle.xd_syntax.proofs.NamedLaws.{bytes_eq-turned}
+use Rattle.xd_syntax.proofs.Words.{bytes_eq-turned}
 use Rattle.xd_trees.specs.declared.cursor.Lookahead.{Lookahead}
 use Rattle.xd_grammar.specs.declared.grammar.Terminal.{Terminal}
 use Rattle.xd_grammar.specs.declared.grammar.Terminal.TheVariants as t

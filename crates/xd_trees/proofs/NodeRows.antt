@@ -8,7 +8,7 @@ use Rattle.xd_syntax.specs.Table.{KeepsRows}
 use Rattle.xd_syntax.specs.Table.{Row as TableRow}
 use Rattle.xd_syntax.specs.Placed.{PlacedTree, Empty_at, Words_at, Name_at, Elem_at, Val_at, place_of, placed_at, placed_form}
 use Rattle.xd_syntax.specs.Words.{any_word, has_word, keywords, string_word, is_type_name}
-use Rattle.xd_syntax.proofs.NamedLaws.{bytes_eq-turned}
+use Rattle.xd_syntax.proofs.Words.{bytes_eq-turned}
 use Rattle.xd_grammar.specs.declared.grammar.Nonterminal.{Nonterminal}
 use Rattle.xd_grammar.specs.declared.grammar.Nonterminal.TheVariants as n
 use Rattle.xd_grammar.specs.declared.grammar.Symbol.TheVariants.{Token, Closed, Unless, Part}

@@ -19,7 +19,7 @@ use Rattle.xd_syntax.specs.Words.{has_word, keywords, string_word, is_type_name}
 use Rattle.xd_syntax.specs.Tree.{Tree, Empty, Text, Words, Name, Elem}
 use Rattle.xd_syntax.specs.TypeText.{quoted, barred, labels_text, excepted_text, list_depth}
 use Rattle.xd_syntax.specs.Placed.{PlacedTree, unplaced, Text_at, Words_at, Name_at, Elem_at, Empty_at}
-use Rattle.xd_syntax.proofs.NamedLaws.{bytes_eq-turned}
+use Rattle.xd_syntax.proofs.Words.{bytes_eq-turned}
 use Rattle.xd_grammar.specs.declared.grammar.Nonterminal.TheVariants as n
 use Rattle.xd_grammar.specs.declared.grammar.Sort.TheVariants as sorts
 use Rattle.xd_grammar.specs.declared.grammar.Symbol.TheVariants.{Token, Opening, Closed, Unless, Part}

@@ -4,13 +4,12 @@ use Rattle.std.specs.List.{AllByRecursion}
 use Rattle.std.specs.Prelude.{codes, ◌==◌}
 use Rattle.std.proofs.lemmas.List.{length-map}
 use Rattle.std.proofs.lemmas.Bool.{eqb-true}
-use Rattle.xd_syntax.specs.Tree.{Tree, Elem, Seq, Alt, Star, Plus, Opt, Val, seq_of, alt_of, is_empty}
+use Rattle.xd_syntax.specs.Tree.{Tree, Elem, Seq, Alt, Star, Plus, Opt, Val, seq_of, alt_of, is_empty, size}
 use Rattle.xd_doc.specs.Classes.{LabelClass}
 use Rattle.xd_syntax.specs.Table.{Row, Form, tree_at, form_tree, CanFollow, PartsBelow}
 use Rattle.xd_syntax.specs.Types.{BelongsTo, tree, type_numbers, form_of}
 use Rattle.xd_syntax.specs.declared.types.TypeForm.{TypeForm}
 use Rattle.xd_syntax.specs.declared.types.TypeForm.TheVariants as forms
-use Rattle.xd_syntax.specs.Adopt.{size}
 use Rattle.xd_syntax.specs.TypeText as text
 use Rattle.xd_syntax.specs.declared.types.TypeId.{TypeId}
 use Rattle.xd_type_text.specs.declared.level.Level.{Level}

@@ -1,10 +1,9 @@
 -- What of a type's text is still to be written.
 use Rattle.std.specs.Prelude.{◌≡◌, ℕ, ◌+◌, ◌*◌, ◌<◌, List, [], ◌∷◌, ◌++◌, map}
 use Rattle.std.specs.List.{AllByRecursion}
-use Rattle.xd_syntax.specs.Tree.{Tree}
+use Rattle.xd_syntax.specs.Tree.{Tree, size}
 use Rattle.xd_syntax.specs.Table.{Row}
 use Rattle.xd_syntax.specs.Types.{BelongsTo, tree}
-use Rattle.xd_syntax.specs.Adopt.{size}
 use Rattle.xd_syntax.specs.TypeText as text
 use Rattle.xd_syntax.specs.declared.types.TypeId.{TypeId}
 use Rattle.xd_type_text.specs.declared.level.Level.{Level}

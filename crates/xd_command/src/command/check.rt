@@ -13,8 +13,8 @@ use std::alloc::Global;
 use xd_base::Shelf;
 use xd_check::CheckOutcome;
 use xd_doc::{NoMemory, Store};
+use xd_sound::SoundProgram;
 use xd_steps::{Output, Stop, load_program, report_lines};
-use xd_syntax::SoundProgram;
 
 /// The lines of the sound program, and whether it is accepted.
 fn report(alloc: Global, sound: SoundProgram) -> Result<Output, NoMemory>

@@ -11,8 +11,8 @@ use crate::membership::{acceptor, accepts};
 use std::alloc::Global;
 use xd_base::Shelf;
 use xd_doc::Store;
+use xd_sound::SoundProgram;
 use xd_steps::{Output, Stop, load_document, load_program};
-use xd_syntax::SoundProgram;
 
 /// Whether the document of this file fits the type of this name in the sound program.
 fn fits_program<H: Shelf>(

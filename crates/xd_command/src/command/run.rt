@@ -19,8 +19,8 @@ use xd_base::Shelf;
 use xd_check::{CheckOutcome, check};
 use xd_doc::{NoMemory, Seq, Store};
 use xd_eval::{Outcome, evaluate};
+use xd_sound::{Checked, SoundProgram, parameter_of_main};
 use xd_steps::{Output, Stop, load_document, load_program, report_lines};
-use xd_syntax::{Checked, SoundProgram, parameter_of_main};
 
 /// A state that accepts exactly what fits the input type, where `main` has one parameter.
 fn input_test(alloc: Global, sound: &mut SoundProgram) -> Result<Option<(Auto, State)>, NoMemory>

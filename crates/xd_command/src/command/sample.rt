@@ -16,8 +16,8 @@ use crate::command::run::{accept, value_on};
 use std::alloc::Global;
 use xd_auto::{Auto, State};
 use xd_doc::{Label, NoMemory, Seq, Store, Text};
+use xd_sound::{Checked, SoundProgram};
 use xd_steps::{Output, Stop, sound_program};
-use xd_syntax::{Checked, SoundProgram};
 use xd_telephones::{nothing_is_reported, telephones_are_listed, text_is_read};
 use xd_write::write_document;
 

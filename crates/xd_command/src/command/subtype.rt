@@ -24,8 +24,9 @@ use xd_doc::{NoMemory, Store};
 use xd_goals::{GoalId, Table, Verdict, decide, new_tables_stand};
 use xd_heads::{Cells, compile_type};
 use xd_proof_text::proof_text;
+use xd_sound::SoundProgram;
 use xd_steps::{Output, Stop, load_program};
-use xd_syntax::{SoundProgram, TypeId};
+use xd_syntax::TypeId;
 
 /// The types of both names; the command ends where one isn't defined.
 fn named_types(

@@ -9,8 +9,8 @@ ghost use Rattle.xd_command.specs.declared.command.Command.TheVariants as comman
 
 use std::alloc::Global;
 use xd_base::Shelf;
+use xd_sound::SoundProgram;
 use xd_steps::{Output, Stop, load_program, load_proof};
-use xd_syntax::SoundProgram;
 
 /// The proof of this file over the types of the sound program, in the second format.
 fn upgrade_in<H: Shelf>(

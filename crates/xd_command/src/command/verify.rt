@@ -15,8 +15,8 @@ use xd_base::Shelf;
 use xd_doc::NoMemory;
 use xd_proof::Proof;
 use xd_proof_check::{ProofVerdict, accepts};
+use xd_sound::SoundProgram;
 use xd_steps::{Output, Stop, load_program, load_proof};
-use xd_syntax::SoundProgram;
 
 /// Whether the proof is consistent.
 fn judge(alloc: Global, sound: &mut SoundProgram, proof: &Proof) -> Result<Output, NoMemory>

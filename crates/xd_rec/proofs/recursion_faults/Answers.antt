@@ -2,8 +2,8 @@ use Rattle.std.proofs.Common.{true, false, ◌++◌, map, ap, sym, subst, ◌∙
 use Rattle.xd_syntax.specs.Order.{in_order}
 use Rattle.xd_syntax.specs.Kept.{type_definition}
 use Rattle.xd_rec.specs.Components.{AreComponents}
-use Rattle.xd_syntax.specs.Emptiness.{AreEmptyMarks}
-use Rattle.xd_syntax.proofs.KnownLaws.{marks_test, marks_decide}
+use Rattle.xd_sound.specs.Emptiness.{AreEmptyMarks}
+use Rattle.xd_sound.proofs.KnownLaws.{marks_test, marks_decide}
 use Rattle.xd_rec.specs.Uses.{test_of, uses_from}
 use Rattle.xd_rec.specs.Faults.{AreOwned, IsGraphOf, faults_of, recurs, recursion_fault}
 use Rattle.xd_rec.specs.declared.faults.Recursion.TheVariants.{OutsideTail, Unguarded}

@@ -1,4 +1,4 @@
-use Rattle.xd_auto.specs.Kept.{AreRight}
+use Rattle.xd_member.specs.Kept.{AreRight}
 use Rattle.xd_doc_calls.proofs.automata.show_kept.Given as goal
 
 abbrev pub invariant-loop-name : goal.invariant-loop-name

@@ -2,7 +2,7 @@ use Rattle.std.proofs.Common.{arith, ◌≡◌, ◌≤◌, ◌∙◌, false, len
 use Rattle.std.proofs.lemmas.List.{length-set}
 use Rattle.xd_doc.specs.Stored.{no_items}
 use Rattle.xd_auto.specs.Automaton.{moves_at, state_number}
-use Rattle.xd_auto.proofs.Walks.{same_state}
+use Rattle.xd_auto.proofs.Closed.{same_state}
 use Rattle.xd_empty.specs.Uses.{lists_by_state}
 use Rattle.xd_empty.proofs.UsesLemmas.{length-lists}
 use Rattle.xd_empty.proofs.SearchLemmas.{another, empty_witness, searching_flag, searching_finds}

@@ -2,7 +2,7 @@ use Rattle.std.proofs.Common.{◌+◌, ◌≡◌, Some, length}
 use Rattle.xd_doc.specs.Stored.{Keeps}
 use Rattle.xd_state_heads.specs.Moves.{claim_with}
 use Rattle.xd_goals.specs.Rows.{claim_at}
-use Rattle.xd_auto.specs.Kept.{AreRight}
+use Rattle.xd_member.specs.Kept.{AreRight}
 use Rattle.xd_goals.specs.Kept.{IsWhole, view_of}
 use Rattle.xd_goals.specs.Measure.{AreMadeFrom, possible, potential}
 use Rattle.xd_goals.specs.Standing.{KeepsGoals, StandsOn}

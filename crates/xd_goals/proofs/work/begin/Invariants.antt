@@ -1,5 +1,5 @@
 use Rattle.std.proofs.Common.{◌≡◌, length, map, take}
-use Rattle.xd_auto.specs.Kept.{AreRight}
+use Rattle.xd_member.specs.Kept.{AreRight}
 use Rattle.xd_state_heads.specs.Moves.{claim_with}
 use Rattle.xd_goals.specs.Kept.{Grows, IsConsistent, view_of}
 use Rattle.xd_goals.specs.Cases.{AreBegun}

@@ -5,7 +5,7 @@ use Rattle.xd_syntax.specs.Table.{Form, elem_form, words_form, form_tree, tree_a
 use Rattle.xd_syntax.specs.declared.types.TypeId.{TypeId}
 use Rattle.xd_continuations.specs.Continuation.{Move}
 use Rattle.xd_heads.specs.Compiled.{AddsMoves}
-use Rattle.xd_heads.specs.Found.{continuation, move_of, move_at}
+use Rattle.xd_moves.specs.Found.{continuation, move_of, move_at}
 use Rattle.xd_heads.proofs.StateLemmas.{kind_of_other, elem_of, words_of_form}
 use Rattle.xd_heads.proofs.compile.add_move.Goals as goal
 

@@ -2,10 +2,10 @@ use Rattle.std.proofs.Common.{◌<◌, ℕ, zero, suc, List, [], ◌∷◌, leng
 use Rattle.std.specs.List.{AllByRecursion}
 use Rattle.std.proofs.lemmas.List.{take_more, take_all}
 use Rattle.xd_syntax.specs.Table.{Row}
-use Rattle.xd_heads.specs.Found.{IsFound}
+use Rattle.xd_moves.specs.Found.{IsFound}
 use Rattle.xd_continuations.specs.Chains.{KeepsLinks}
-use Rattle.xd_heads.specs.Cells.{Cell}
-use Rattle.xd_heads.specs.declared.expand.Found.{Found}
+use Rattle.xd_moves.specs.Cells.{Cell}
+use Rattle.xd_moves.specs.declared.expansion.Found.{Found}
 use Rattle.xd_continuations.proofs.ChainLemmas.{kept_length}
 use Rattle.xd_heads.proofs.Sparing.{others_same, others_then}
 use Rattle.xd_heads.proofs.AddingMoves.{IsAdding, adding_none, adding_more, moves_added}

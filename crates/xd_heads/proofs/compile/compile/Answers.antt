@@ -1,7 +1,7 @@
 use Rattle.std.proofs.Common.{◌≡◌, ◌+◌, ◌-◌, ◌<◌, ℕ, length, arith, refl, sym, ◌∙◌, Option, None, Some}
 use Rattle.xd_continuations.specs.Bounds.{longest}
-use Rattle.xd_heads.specs.Cells.{room}
-use Rattle.xd_syntax.specs.TypeNames.{meanings}
+use Rattle.xd_moves.specs.Cells.{room}
+use Rattle.xd_sound.specs.TypeNames.{meanings}
 use Rattle.xd_heads.specs.States.{nodes_in, number_at}
 use Rattle.xd_heads.proofs.StateLemmas.{states_few, number_below, number_within, number_from}
 use Rattle.xd_heads.proofs.AddingMoves.{compiling_none, compiling_more, all_compiled}

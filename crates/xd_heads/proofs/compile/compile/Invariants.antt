@@ -1,7 +1,7 @@
 use Rattle.std.proofs.Common.{◌+◌, ◌-◌, length}
 use Rattle.xd_continuations.specs.Bounds.{longest}
-use Rattle.xd_heads.specs.Cells.{room}
-use Rattle.xd_syntax.specs.TypeNames.{meanings}
+use Rattle.xd_moves.specs.Cells.{room}
+use Rattle.xd_sound.specs.TypeNames.{meanings}
 use Rattle.xd_heads.specs.States.{nodes_in}
 use Rattle.xd_heads.proofs.AddingMoves.{IsCompiling}
 use Rattle.xd_heads.proofs.compile.compile.Given as goal

@@ -1,8 +1,8 @@
 use Rattle.std.proofs.Common.{◌≡◌, ◌≤◌, length}
 use Rattle.xd_laws.specs.CanBeEmpty.{can_be_empty}
 use Rattle.xd_syntax.specs.Tree.{seq_of}
-use Rattle.xd_syntax.specs.TypeNames.{meanings}
-use Rattle.xd_heads.specs.Found.{continuation}
+use Rattle.xd_sound.specs.TypeNames.{meanings}
+use Rattle.xd_moves.specs.Found.{continuation}
 use Rattle.xd_heads.proofs.compile.is_last.Given as goal
 
 abbrev pub invariant-loop-at : goal.invariant-loop-at

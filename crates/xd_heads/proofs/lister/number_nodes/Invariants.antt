@@ -1,7 +1,7 @@
 use Rattle.std.proofs.Common.{◌≡◌, length}
 use Rattle.xd_pieces.specs.Pieces.{IsFirst}
-use Rattle.xd_heads.specs.Cells.{AreChosen}
-use Rattle.xd_heads.specs.Found.{AreOfTypes}
+use Rattle.xd_moves.specs.Cells.{AreChosen}
+use Rattle.xd_moves.specs.Found.{AreOfTypes}
 use Rattle.xd_heads.specs.Numbered.{AreNodeNumbers}
 use Rattle.xd_heads.proofs.lister.number_nodes.Given as goal
 

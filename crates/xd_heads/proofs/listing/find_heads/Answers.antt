@@ -3,8 +3,8 @@ use Rattle.xd_syntax.specs.Table.{Row, tree_at}
 use Rattle.xd_laws.specs.Heads.{pieces}
 use Rattle.xd_continuations.proofs.ChainLemmas.{kept_then}
 use Rattle.xd_continuations.specs.Chains.{KeepsLinks}
-use Rattle.xd_heads.specs.Cells.{Cell}
-use Rattle.xd_heads.specs.Found.{AreOfTypes, continuation}
+use Rattle.xd_moves.specs.Cells.{Cell}
+use Rattle.xd_moves.specs.Found.{AreOfTypes, continuation}
 use Rattle.xd_heads.proofs.listing.find_heads.Goals as goal
 
 pub find_moves-requires-clause-nodes : goal.find_moves-requires-clause-nodes

@@ -3,7 +3,7 @@ use Rattle.xd_doc.specs.Classes.{LabelClass, TextClass}
 use Rattle.xd_syntax.specs.Table.{Form, PartsBelow, elem_form, words_form, form_tree, tree_at}
 use Rattle.xd_syntax.specs.Types.{form_of}
 use Rattle.xd_syntax.specs.declared.types.TypeId.{TypeId}
-use Rattle.xd_heads.specs.Found.{move_of}
+use Rattle.xd_moves.specs.Found.{move_of}
 use Rattle.xd_heads.proofs.StateLemmas.{kind_of_other, elem_of, words_of_form}
 use Rattle.xd_heads.proofs.HeadLists.{elem_kind, other_kind}
 use Rattle.xd_heads.proofs.listing.kind_of.Goals as goal

@@ -8,7 +8,7 @@ use Rattle.xd_syntax.specs.Shallow.{nesting_limit}
 use Rattle.xd_syntax.specs.declared.types.TypeId.{TypeId}
 use Rattle.xd_heads.proofs.Growing.{grows_one}
 use Rattle.xd_heads.proofs.Typing.{seq_parts_of}
-use Rattle.xd_heads.specs.Found.{continuation}
+use Rattle.xd_moves.specs.Found.{continuation}
 use Rattle.xd_heads.proofs.typed.continuation_type.Goals as goal
 
 pub add_type-requires-in_default : goal.add_type-requires-in_default

@@ -1,5 +1,5 @@
 use Rattle.std.proofs.Common.{◌<◌, length, arith, sym, subst}
-use Rattle.xd_heads.specs.Cells.{Cell}
+use Rattle.xd_moves.specs.Cells.{Cell}
 use Rattle.xd_continuations.proofs.Reaching.{all_among}
 use Rattle.xd_heads.proofs.Growing.{grows_then}
 use Rattle.xd_continuations.proofs.GrownTables.{more_rows}

@@ -2,7 +2,7 @@ use Rattle.std.proofs.Common.{◌≡◌, ◌<◌, false, length, Some, ap, sym, 
 use Rattle.std.specs.List.{AllByRecursion}
 use Rattle.xd_syntax.specs.Table.{Row, AreBuilt, tree_at}
 use Rattle.xd_syntax.specs.Kept.{program_tree}
-use Rattle.xd_syntax.specs.TypeNames.{meanings}
+use Rattle.xd_sound.specs.TypeNames.{meanings}
 use Rattle.xd_syntax.specs.declared.types.TypeDef.{TypeDef}
 use Rattle.xd_laws.specs.Guarded.{Guarded}
 use Rattle.xd_laws.proofs.SoundGuarded.{guarded}
@@ -13,9 +13,9 @@ use Rattle.xd_continuations.proofs.MoveLemmas.{seq_of-pieces}
 use Rattle.xd_continuations.proofs.SoundTail.{recurs_only_in_tail}
 use Rattle.xd_heads.specs.CellsView.{CellsView}
 use Rattle.xd_heads.specs.Compiled.{AreCompiled, AreAllCompiled}
-use Rattle.xd_heads.specs.Found.{AreBodies, AreDecidingMarks}
+use Rattle.xd_moves.specs.Found.{AreBodies, AreDecidingMarks}
 use Rattle.xd_heads.specs.Mirrors.{as_type, continuation_of, KeepsStates, Mirrors}
-use Rattle.xd_heads.proofs.Bodied.{are_bodies}
+use Rattle.xd_moves.proofs.Bodied.{are_bodies}
 use Rattle.xd_heads.proofs.Mirrored.{to_compiled}
 use Rattle.xd_heads.proofs.Wrapping.{along, back_along, bodies_stand, are_merged, marks_decide, compiled_keeps, compiled_mirrors_again}
 use Rattle.xd_heads.proofs.types.compile_in.Goals as goal

@@ -3,8 +3,7 @@ use Rattle.std.proofs.lemmas.Bool.{cases_lt}
 use Rattle.std.proofs.lemmas.List.Folds.{list_any_none}
 use Rattle.xd_doc.specs.Stored.{document_at}
 use Rattle.xd_doc.specs.Classes.{class_has}
-use Rattle.xd_auto.specs.Automaton.{moves_at}
-use Rattle.xd_auto.specs.Membership.{takes_element}
+use Rattle.xd_auto.specs.Automaton.{moves_at, takes_element}
 use Rattle.xd_match.proofs.front.first_label.Goals as goal
 
 and_false : (x y : Bool) → x ≡ false → (x && y) ≡ false

@@ -1,8 +1,7 @@
 use Rattle.std.proofs.Common.{◌≡◌, true, [], get_or, sym, subst, ap}
 use Rattle.xd_doc.specs.Stored.{document_at}
 use Rattle.xd_auto.specs.declared.auto.LabelMove.{LabelMove}
-use Rattle.xd_auto.specs.Automaton.{IsState, moves_at}
-use Rattle.xd_auto.specs.Membership.{takes_element}
+use Rattle.xd_auto.specs.Automaton.{IsState, moves_at, takes_element}
 use Rattle.xd_patterns.specs.Held.{marking_of, variables_in}
 use Rattle.xd_match.specs.Taking.{IsFirst}
 use Rattle.xd_match.proofs.Firsts.{content_accepted, rest_accepted}

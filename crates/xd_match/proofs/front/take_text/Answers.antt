@@ -1,8 +1,7 @@
 use Rattle.std.proofs.Common.{◌≡◌, true, [], get_or, sym, subst, ap}
 use Rattle.xd_doc.specs.Stored.{document_at}
 use Rattle.xd_auto.specs.declared.auto.TextMove.{TextMove}
-use Rattle.xd_auto.specs.Automaton.{IsState, moves_at}
-use Rattle.xd_auto.specs.Membership.{takes_word}
+use Rattle.xd_auto.specs.Automaton.{IsState, moves_at, takes_word}
 use Rattle.xd_patterns.specs.Held.{marking_of, variables_in}
 use Rattle.xd_match.specs.Taking.{IsFirst}
 use Rattle.xd_match.proofs.Firsts.{word_accepted}

@@ -2,8 +2,8 @@ use Rattle.std.proofs.Common.{ℕ, ◌≡◌, ◌<◌, List, arith, length, get_
 use Rattle.std.proofs.lemmas.List.{length-set}
 use Rattle.xd_auto.specs.declared.auto.TextMove.{TextMove}
 use Rattle.xd_auto.specs.Automaton.{moves_at, state_number}
-use Rattle.xd_syntax.specs.Graph.{HasEdge}
-use Rattle.xd_syntax.proofs.Graphs.{with_edge}
+use Rattle.xd_sound.specs.Graph.{HasEdge}
+use Rattle.xd_sound.proofs.Graphs.{with_edge}
 use Rattle.xd_match.proofs.Spreading.{each_more, edge_kept, edge_there}
 use Rattle.xd_match.proofs.tails.add_texts.Goals as goal
 

@@ -1,7 +1,7 @@
 use Rattle.std.proofs.Common.{ℕ, ◌≡◌, ◌<◌, length, get_or}
 use Rattle.xd_auto.specs.declared.auto.TextMove.{TextMove}
 use Rattle.xd_auto.specs.Automaton.{moves_at, state_number}
-use Rattle.xd_syntax.specs.Graph.{HasEdge}
+use Rattle.xd_sound.specs.Graph.{HasEdge}
 use Rattle.xd_match.proofs.tails.add_texts.Given as goal
 
 abbrev pub invariant-loop-step : goal.invariant-loop-step

@@ -1,6 +1,6 @@
 use Rattle.std.proofs.Common.{◌≡◌, ◌<◌, arith, rules, true, false, [], ◌∷◌, ◌++◌, length, set, vec_len, ap, sym, subst, ◌∙◌}
 use Rattle.std.proofs.lemmas.List.{length-append, length-set, get_or_read}
-use Rattle.xd_syntax.proofs.EmptyLemmas.{unmarked_less}
+use Rattle.xd_sound.proofs.EmptyLemmas.{unmarked_less}
 use Rattle.xd_match.specs.Tails.{IsSpread}
 use Rattle.xd_match.proofs.Spreading.{spread_marked, spread_more, spread_one}
 use Rattle.xd_match.proofs.tails.spread.Goals as goal

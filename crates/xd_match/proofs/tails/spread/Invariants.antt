@@ -1,5 +1,5 @@
 use Rattle.std.proofs.Common.{◌≡◌, length}
-use Rattle.xd_syntax.proofs.EmptyLemmas.{visits_left}
+use Rattle.xd_sound.proofs.EmptyLemmas.{visits_left}
 use Rattle.xd_match.specs.Tails.{IsSpread}
 use Rattle.xd_match.proofs.tails.spread.Given as goal
 

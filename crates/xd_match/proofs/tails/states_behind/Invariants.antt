@@ -1,7 +1,7 @@
 use Rattle.std.proofs.Common.{◌≡◌, ◌<◌, length}
 use Rattle.xd_auto.specs.declared.auto.State.{State}
 use Rattle.xd_auto.specs.Automaton.{state_number}
-use Rattle.xd_syntax.specs.Graph.{HasEdge}
+use Rattle.xd_sound.specs.Graph.{HasEdge}
 use Rattle.xd_match.specs.Tails.{LeadsFrom}
 use Rattle.xd_match.proofs.tails.states_behind.Given as goal
 

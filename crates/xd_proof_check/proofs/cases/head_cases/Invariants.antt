@@ -3,7 +3,7 @@ use Rattle.xd_syntax.specs.Table.{Row}
 use Rattle.xd_syntax.specs.Tree.{Definitions}
 use Rattle.xd_laws.specs.Consistent.{Goal, HeadAtom}
 use Rattle.xd_laws.proofs.FirstWrong.{wrong_cases}
-use Rattle.xd_heads.specs.Cells.{Cell}
+use Rattle.xd_moves.specs.Cells.{Cell}
 use Rattle.xd_proof_check.specs.CaseWalk.{CasesFit, Meets, cases_of}
 use Rattle.xd_proof_check.specs.Paths.{IsClear, KeepsRoom}
 use Rattle.xd_proof_check.proofs.CaseLemmas.{wanted_of}

@@ -1,6 +1,6 @@
 use Rattle.std.proofs.Common.{arith, sym, subst, ◌∙◌}
 use Rattle.xd_rec.specs.Faults.{AddsUse}
-use Rattle.xd_syntax.proofs.EmptyLemmas.{defined_in}
+use Rattle.xd_sound.proofs.EmptyLemmas.{defined_in}
 use Rattle.xd_rec.proofs.FaultLemmas.{use_added}
 use Rattle.xd_rec.proofs.faults.add_use.Goals as goal
 use Rattle.xd_rec.proofs.faults.add_use.Goals.{else-front_only-via-then-front_only+else-not-top_use, else-front_only-via-else-front_only}

@@ -1,5 +1,5 @@
 use Rattle.std.proofs.Common.{arith, sym, ◌∙◌}
-use Rattle.xd_syntax.proofs.EmptyLemmas.{defined_in}
+use Rattle.xd_sound.proofs.EmptyLemmas.{defined_in}
 use Rattle.xd_rec.proofs.faults.leads_back.Goals as goal
 
 pub are_together-requires-clause-two : goal.are_together-requires-clause-two

@@ -4,7 +4,7 @@ use Rattle.xd_syntax.specs.declared.types.TypeDef.{TypeDef}
 use Rattle.xd_syntax.proofs.Members.{append_left}
 use Rattle.xd_rec.specs.Uses.{AllBelong, parts_uses, sizes, test_of}
 use Rattle.xd_rec.specs.declared.uses.Part.{Part}
-use Rattle.xd_syntax.proofs.EmptyLemmas.{among_one}
+use Rattle.xd_sound.proofs.EmptyLemmas.{among_one}
 use Rattle.xd_rec.proofs.UseLemmas.{definition_parts, definition_parts_more, definition_uses, definitions_belong, listed_uses, listed_belong, listed_less}
 use Rattle.xd_rec.proofs.uses.top_uses.Goals as goal
 

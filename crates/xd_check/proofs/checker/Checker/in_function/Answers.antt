@@ -6,7 +6,7 @@ use Rattle.xd_syntax.specs.Program.{ProgramTree}
 use Rattle.xd_syntax.specs.Ways.{Among}
 use Rattle.xd_syntax.specs.NameFaults.{name_faults}
 use Rattle.xd_syntax.specs.CheckFaults.{LinesOfFunction}
-use Rattle.xd_syntax.proofs.Lists.{among_at}
+use Rattle.xd_sound.proofs.Lists.{among_at}
 use Rattle.xd_syntax.proofs.Members.{map_mem}
 use Rattle.xd_check.specs.declared.signatures.Signature.{Signature}
 use Rattle.xd_check.specs.FoundLines.{AddsLines}

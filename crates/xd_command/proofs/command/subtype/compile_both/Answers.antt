@@ -1,7 +1,7 @@
 use Rattle.std.proofs.Common.{refl, sym, subst, ap, ◌∙◌}
 use Rattle.xd_syntax.specs.Types.{tree}
 use Rattle.xd_syntax.specs.Program.{names_of}
-use Rattle.xd_syntax.proofs.AdoptLaws.{type_kept}
+use Rattle.xd_sound.proofs.AdoptLaws.{type_kept}
 use Rattle.xd_command.specs.Fits.{IsAcceptor}
 use Rattle.xd_command.specs.Subtype.{IsStateOf}
 use Rattle.xd_command.proofs.command.subtype.compile_both.Goals as goal

@@ -6,7 +6,7 @@ use Rattle.xd_syntax.specs.Program.{ProgramTree}
 use Rattle.xd_syntax.specs.Sound.{is_defined, type_named, IsTypeAt}
 use Rattle.xd_syntax.specs.declared.types.TypeId.{TypeId}
 use Rattle.xd_syntax.specs.declared.fault.FaultKind.TheVariants.{NoSuchName}
-use Rattle.xd_syntax.proofs.AdoptLaws.{type_kept}
+use Rattle.xd_sound.proofs.AdoptLaws.{type_kept}
 use Rattle.xd_command.specs.Subtype.{undefined}
 use Rattle.xd_command.proofs.command.subtype.named_types.Goals as goal
 

@@ -3,9 +3,9 @@ use Rattle.std.specs.List.{AllZip}
 use Rattle.xd_syntax.specs.Table.{Row}
 use Rattle.xd_laws.specs.Heads as laws
 use Rattle.xd_continuations.specs.Continuation.{head_of}
-use Rattle.xd_heads.specs.Found.{move_at}
+use Rattle.xd_moves.specs.Found.{move_at}
 use Rattle.xd_heads.specs.Numbered.{IsHeadIn}
-use Rattle.xd_heads.specs.declared.expand.Found.{Found}
+use Rattle.xd_moves.specs.declared.expansion.Found.{Found}
 use Rattle.xd_heads.proofs.lister.HeadLister.heads.Goals as goal
 
 pub returns-clause-heads : goal.returns-clause-heads

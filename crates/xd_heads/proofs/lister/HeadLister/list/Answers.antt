@@ -4,10 +4,10 @@ use Rattle.std.proofs.lemmas.List.{take_more}
 use Rattle.xd_auto.proofs.Copies.{zip_push}
 use Rattle.xd_continuations.specs.Continuation.{head_of}
 use Rattle.xd_continuations.proofs.MoveLemmas.{map_append}
-use Rattle.xd_heads.specs.Found.{move_at}
+use Rattle.xd_moves.specs.Found.{move_at}
 use Rattle.xd_heads.specs.HeadList.{IsHeadFound}
 use Rattle.xd_heads.specs.Numbered.{IsHeadIn}
-use Rattle.xd_heads.specs.declared.expand.Found.{Found}
+use Rattle.xd_moves.specs.declared.expansion.Found.{Found}
 use Rattle.xd_heads.proofs.HeadLists.{each_found}
 use Rattle.xd_heads.proofs.lister.HeadLister.list.Goals as goal
 

@@ -1,7 +1,7 @@
 use Rattle.std.proofs.Common.{map, take}
 use Rattle.std.specs.List.{AllZip}
 use Rattle.xd_continuations.specs.Continuation.{head_of}
-use Rattle.xd_heads.specs.Found.{move_at}
+use Rattle.xd_moves.specs.Found.{move_at}
 use Rattle.xd_heads.specs.Numbered.{IsHeadIn}
 use Rattle.xd_heads.proofs.lister.HeadLister.list.Given as goal
 

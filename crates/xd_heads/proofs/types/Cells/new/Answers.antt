@@ -1,7 +1,7 @@
 use Rattle.std.proofs.Common.{◌≡◌, [], List, ap, sym, subst, ◌∙◌}
 use Rattle.xd_heads.specs.CellsView.{CellsView, no_cells}
 use Rattle.xd_heads.specs.Mirrors.{Mirrors}
-use Rattle.xd_heads.specs.Cells.{Cell}
+use Rattle.xd_moves.specs.Cells.{Cell}
 use Rattle.xd_heads.specs.declared.states.Owner.{Owner}
 use Rattle.xd_heads.proofs.Mirrored.{mirrors_none}
 use Rattle.xd_heads.proofs.types.Cells.new.Goals as goal

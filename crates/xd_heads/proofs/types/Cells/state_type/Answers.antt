@@ -2,7 +2,7 @@ use Rattle.std.proofs.Common.{◌≡◌, Some, ap, sym, subst, ◌∙◌}
 use Rattle.xd_syntax.specs.Tree.{seq_of}
 use Rattle.xd_auto.specs.Automaton.{state_number}
 use Rattle.xd_heads.specs.CellsView.{CellsView}
-use Rattle.xd_heads.specs.Found.{continuation}
+use Rattle.xd_moves.specs.Found.{continuation}
 use Rattle.xd_heads.specs.States.{number_at}
 use Rattle.xd_heads.specs.Mirrors.{Mirrors}
 use Rattle.xd_heads.proofs.Mirrored.{type_of_number}

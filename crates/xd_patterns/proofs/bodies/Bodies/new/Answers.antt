@@ -6,7 +6,7 @@ use Rattle.std.proofs.lemmas.List.{drop_all, drop_more}
 use Rattle.indexmap.specs.IndexMap.{get}
 use Rattle.xd_syntax.specs.Sound.{definition_of}
 use Rattle.xd_syntax.specs.declared.types.TypeDef.{TypeDef}
-use Rattle.xd_syntax.specs.TypeNames.{body_at}
+use Rattle.xd_sound.specs.TypeNames.{body_at}
 use Rattle.xd_patterns.proofs.bodies.Bodies.new.Goals as goal
 
 pub loop-number-init : goal.loop-number-init

@@ -1,9 +1,0 @@
-use Rattle.xd_heads.proofs.Working.{AreFirstTasks}
-use Rattle.xd_syntax.specs.TypeNames.{meanings}
-use Rattle.xd_heads.proofs.expand.first_tasks.Given as goal
-
-abbrev pub invariant-loop-at : goal.invariant-loop-at
-invariant-loop-at l = AreFirstTasks (meanings l.types l.defs) l.types l.cells l.number l.at l.tasks.items
-
-abbrev pub decreases-loop-at : goal.decreases-loop-at
-decreases-loop-at l = l.at

@@ -1,0 +1,16 @@
+//! The moves of a continuation: by which elements and texts a document of it can begin.
+#![tactic(auto)]
+
+mod bodies;
+mod cells;
+mod contents;
+mod expansion;
+mod first_uses;
+mod stand_ins;
+
+pub use bodies::Bodies;
+pub use cells::{Cell, Continuations};
+pub use contents::content;
+pub use expansion::{Found, expand, is_empty};
+pub use first_uses::FirstUses;
+pub use stand_ins::{StandIns, Themselves};
