@@ -7,12 +7,16 @@ use std::alloc::Global;
 use std::io;
 use std::io::Write;
 
-/// What the calls of a case work on. A case begins with a new one.
+/// What the calls of a case are made at.
 pub trait Desk: Drop {
-    fn new(alloc: Global) -> Self;
-
     /// Makes a call, and appends what came.
     fn answer(&mut self, call: &Call<'_>, out: &mut Vec<u8>) -> Result<(), CallError>;
+}
+
+/// One of several desks, which lines of the input choose by their names.
+pub trait NamedDesk: Desk + Sized {
+    /// A new desk of this name.
+    fn named(alloc: Global, name: &str) -> Result<Self, CallError>;
 }
 
 /// Appends what came, a line behind each `>`.
@@ -55,58 +59,84 @@ fn add_line(text: &mut String, line: &str) -> Result<(), CallError> {
     Ok(())
 }
 
-/// Makes the call of a line, which takes the text that was gathered and what stands behind a colon, and appends what came.
-fn make_call<D: Desk>(
+/// What lines have said so far: the desk that was chosen, as it stands in this case, and the text that the next call takes.
+#[derive(Drop)]
+struct Reading<'a, D> {
     alloc: Global,
-    desk: &mut D,
-    text: &mut String,
-    line: &str,
-    out: &mut Vec<u8>,
-) -> Result<(), CallError> {
-    let (head, behind) = line.split_once(" : ").unwrap_or((line, ""));
-    text.push_str(behind)?;
-    let mut came = Vec::new(alloc);
-    desk.answer(&Call::new(alloc, head, text.as_str()), &mut came)?;
-    text.clear();
-    show(&came, out)
+    name: &'a str,
+    desk: Option<D>,
+    text: String,
 }
 
-/// Does what a line says, and appends what came.
-fn obey<D: Desk>(
-    alloc: Global,
-    desk: &mut D,
-    text: &mut String,
-    line: &str,
-    out: &mut Vec<u8>,
-) -> Result<(), CallError> {
-    if line.is_empty() || line.starts_with("#") {
-        return Ok(());
+impl<'a, D: NamedDesk> Reading<'a, D> {
+    fn new(alloc: Global) -> Reading<'a, D> {
+        Reading {
+            alloc,
+            name: "",
+            desk: None,
+            text: String::new(alloc),
+        }
     }
-    if line.starts_with("|") || line.starts_with("*") {
-        return gather(text, line);
+
+    /// Chooses the desk for what comes behind.
+    fn choose(&mut self, name: &'a str) -> Result<(), CallError> {
+        self.name = name;
+        self.begin_case()
     }
-    if line.starts_with("case ") {
-        *desk = D::new(alloc);
-        text.clear();
-        return Ok(());
+
+    /// Begins with a new desk and no text.
+    fn begin_case(&mut self) -> Result<(), CallError> {
+        self.desk = Some(D::named(self.alloc, self.name)?);
+        self.text.clear();
+        Ok(())
     }
-    make_call(alloc, desk, text, line, out)
+
+    /// Makes the call of a line, which takes the text that was gathered and what stands behind a colon, and appends what came.
+    fn make_call(&mut self, line: &str, out: &mut Vec<u8>) -> Result<(), CallError> {
+        let Some(desk) = &mut self.desk else {
+            return Err(CallError::Desk);
+        };
+        let (head, behind) = line.split_once(" : ").unwrap_or((line, ""));
+        self.text.push_str(behind)?;
+        let mut came = Vec::new(self.alloc);
+        desk.answer(&Call::new(self.alloc, head, self.text.as_str()), &mut came)?;
+        self.text.clear();
+        show(&came, out)
+    }
+
+    /// Does what a line says, and appends what came.
+    fn obey(&mut self, line: &'a str, out: &mut Vec<u8>) -> Result<(), CallError> {
+        if line.is_empty() || line.starts_with("#") {
+            return Ok(());
+        }
+        if line.starts_with("|") || line.starts_with("*") {
+            return gather(&mut self.text, line);
+        }
+        if let Some(name) = line.strip_prefix("desk ") {
+            return self.choose(name);
+        }
+        if line.starts_with("case ") {
+            return self.begin_case();
+        }
+        self.make_call(line, out)
+    }
 }
 
 /// The input with what came behind each call.
-fn answered<D: Desk>(alloc: Global, input: &str) -> Result<Vec<u8>> {
+fn answered<D: NamedDesk>(alloc: Global, input: &str) -> Result<Vec<u8>> {
     let mut out = Vec::new(alloc);
-    let mut desk = D::new(alloc);
-    let mut text = String::new(alloc);
+    let mut reading = Reading::<D>::new(alloc);
     for (number, line) in (1..u64::MAX).zip(input.lines()) {
         writeln!(out, "{line}")?;
-        obey(alloc, &mut desk, &mut text, line, &mut out).context(format_args!("line {number}"))?;
+        reading
+            .obey(line, &mut out)
+            .context(format_args!("line {number}"))?;
     }
     Ok(out)
 }
 
 /// Reads calls from the standard input, and writes them again with what came behind each.
-pub fn run<D: Desk>(rt: &(impl Input + Print + AllocGlobal)) -> Result<()> {
+pub fn run<D: NamedDesk>(rt: &(impl Input + Print + AllocGlobal)) -> Result<()> {
     let input = io::read_to_string(rt.alloc(), rt.reader())?;
     let out = answered::<D>(rt.alloc(), input.as_str())?;
     io::writer(rt).write_all(&out)?;

@@ -3,7 +3,7 @@
 ghost use Rattle.std.specs.Prelude.{IfOk};
 ghost use Rattle.xd_auto.specs.Automaton.{IsState};
 
-use crate::desk::Documents;
+use crate::desk::DocumentDesk;
 use crate::named::{document, document_at, state};
 use std::alloc::Global;
 use std::io::Write;
@@ -19,7 +19,7 @@ use xd_read::read_document;
 /// `absorb NAME STATE` (of a trimmed copy), `trim NAME STATE` (in place of the automaton). What asks: `member STATE` about
 /// the document on each line of its text, `accepts_kept STATE DOCUMENTS` about those of the store, `inhabitant NAME STATE`,
 /// which gives the document that was found a name, `inhabitants`.
-pub fn auto(desk: &mut Documents, call: &Call<'_>, out: &mut Vec<u8>) -> Result<(), CallError> {
+pub fn auto(desk: &mut DocumentDesk, call: &Call<'_>, out: &mut Vec<u8>) -> Result<(), CallError> {
     match call.name {
         "add_state" => add_state(desk, call, out),
         "add_label_move" => add_label_move(desk, call),
@@ -38,7 +38,7 @@ pub fn auto(desk: &mut Documents, call: &Call<'_>, out: &mut Vec<u8>) -> Result<
 }
 
 /// The state that the call's word of this number names.
-fn state_of(desk: &Documents, call: &Call<'_>, number: usize) -> Result<State, CallError>
+fn state_of(desk: &DocumentDesk, call: &Call<'_>, number: usize) -> Result<State, CallError>
     ensures { IfOk result (IsState desk.now.auto) }
 {
     state(&desk.auto, &desk.states, call.word(number)?)
@@ -46,7 +46,7 @@ fn state_of(desk: &Documents, call: &Call<'_>, number: usize) -> Result<State, C
 
 /// The states that the call's words of these numbers name.
 fn states_of(
-    desk: &Documents,
+    desk: &DocumentDesk,
     call: &Call<'_>,
     first: usize,
     second: usize,
@@ -61,7 +61,7 @@ fn states_of(
 
 /// Gives the state the call's first word as a name, and shows how many states there are.
 fn give(
-    desk: &mut Documents,
+    desk: &mut DocumentDesk,
     call: &Call<'_>,
     state: State,
     out: &mut Vec<u8>,
@@ -71,12 +71,12 @@ fn give(
     Ok(())
 }
 
-fn add_state(desk: &mut Documents, call: &Call<'_>, out: &mut Vec<u8>) -> Result<(), CallError> {
+fn add_state(desk: &mut DocumentDesk, call: &Call<'_>, out: &mut Vec<u8>) -> Result<(), CallError> {
     let made = desk.auto.add_state(call.word(1).is_ok())?;
     give(desk, call, made, out)
 }
 
-fn add_label_move(desk: &mut Documents, call: &Call<'_>) -> Result<(), CallError> {
+fn add_label_move(desk: &mut DocumentDesk, call: &Call<'_>) -> Result<(), CallError> {
     let from = state_of(desk, call, 0)?;
     let (content, rest) = states_of(desk, call, 2, 3)?;
     let class = class(call.alloc, call.word(1)?)?;
@@ -84,7 +84,7 @@ fn add_label_move(desk: &mut Documents, call: &Call<'_>) -> Result<(), CallError
     Ok(())
 }
 
-fn add_text_move(desk: &mut Documents, call: &Call<'_>) -> Result<(), CallError> {
+fn add_text_move(desk: &mut DocumentDesk, call: &Call<'_>) -> Result<(), CallError> {
     let from = state_of(desk, call, 0)?;
     let rest = state_of(desk, call, 2)?;
     let words = words(call.alloc, call.word(1)?)?;
@@ -92,40 +92,40 @@ fn add_text_move(desk: &mut Documents, call: &Call<'_>) -> Result<(), CallError>
     Ok(())
 }
 
-fn union(desk: &mut Documents, call: &Call<'_>, out: &mut Vec<u8>) -> Result<(), CallError> {
+fn union(desk: &mut DocumentDesk, call: &Call<'_>, out: &mut Vec<u8>) -> Result<(), CallError> {
     let (one, two) = states_of(desk, call, 1, 2)?;
     let made = desk.auto.union(one, two)?;
     give(desk, call, made, out)
 }
 
-fn concat(desk: &mut Documents, call: &Call<'_>, out: &mut Vec<u8>) -> Result<(), CallError> {
+fn concat(desk: &mut DocumentDesk, call: &Call<'_>, out: &mut Vec<u8>) -> Result<(), CallError> {
     let (one, two) = states_of(desk, call, 1, 2)?;
     let made = desk.auto.concat(one, two)?;
     give(desk, call, made, out)
 }
 
-fn wrap(desk: &mut Documents, call: &Call<'_>, out: &mut Vec<u8>) -> Result<(), CallError> {
+fn wrap(desk: &mut DocumentDesk, call: &Call<'_>, out: &mut Vec<u8>) -> Result<(), CallError> {
     let content = state_of(desk, call, 2)?;
     let label = label(call.alloc, call.word(1)?)?;
     let made = desk.auto.wrap(&label, content)?;
     give(desk, call, made, out)
 }
 
-fn absorb(desk: &mut Documents, call: &Call<'_>, out: &mut Vec<u8>) -> Result<(), CallError> {
+fn absorb(desk: &mut DocumentDesk, call: &Call<'_>, out: &mut Vec<u8>) -> Result<(), CallError> {
     let start = state_of(desk, call, 1)?;
     let (part, start) = trim(call.alloc, &desk.auto, start)?;
     let made = desk.auto.absorb(&part, start)?;
     give(desk, call, made, out)
 }
 
-fn trimmed(desk: &mut Documents, call: &Call<'_>, out: &mut Vec<u8>) -> Result<(), CallError> {
+fn trimmed(desk: &mut DocumentDesk, call: &Call<'_>, out: &mut Vec<u8>) -> Result<(), CallError> {
     let start = state_of(desk, call, 1)?;
     let (part, start) = trim(call.alloc, &desk.auto, start)?;
     desk.auto = part;
     give(desk, call, start, out)
 }
 
-fn show_member(desk: &Documents, call: &Call<'_>, out: &mut Vec<u8>) -> Result<(), CallError> {
+fn show_member(desk: &DocumentDesk, call: &Call<'_>, out: &mut Vec<u8>) -> Result<(), CallError> {
     let asked = state_of(desk, call, 0)?;
     for line in call.text.lines() {
         let accepts = is_member(call.alloc, &desk.auto, asked, line)?;
@@ -144,7 +144,7 @@ fn is_member(alloc: Global, auto: &Auto, asked: State, line: &str) -> Result<boo
     Ok(member(auto, asked, &store, seq, &mut scratch))
 }
 
-fn show_kept(desk: &Documents, call: &Call<'_>, out: &mut Vec<u8>) -> Result<(), CallError> {
+fn show_kept(desk: &DocumentDesk, call: &Call<'_>, out: &mut Vec<u8>) -> Result<(), CallError> {
     let asked = state_of(desk, call, 0)?;
     let mut answers = Answers::new(call.alloc);
     for name in call.behind.split_whitespace().skip(1) {
@@ -156,7 +156,7 @@ fn show_kept(desk: &Documents, call: &Call<'_>, out: &mut Vec<u8>) -> Result<(),
 }
 
 fn show_inhabitant(
-    desk: &mut Documents,
+    desk: &mut DocumentDesk,
     call: &Call<'_>,
     out: &mut Vec<u8>,
 ) -> Result<(), CallError> {
@@ -174,7 +174,7 @@ fn show_inhabitant(
 
 /// Of each state whether it accepts the document that was found for it, or `none` where none was.
 fn show_inhabitants(
-    desk: &mut Documents,
+    desk: &mut DocumentDesk,
     call: &Call<'_>,
     out: &mut Vec<u8>,
 ) -> Result<(), CallError> {
@@ -190,7 +190,7 @@ fn show_inhabitants(
 
 /// Whether the state of this number accepts the document.
 fn show_found(
-    desk: &Documents,
+    desk: &DocumentDesk,
     alloc: Global,
     number: usize,
     found: Seq,

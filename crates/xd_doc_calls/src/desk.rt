@@ -11,23 +11,25 @@ use xd_doc::Store;
 
 /// Documents and their names, and an automaton and the names of its states.
 #[derive(Drop)]
-pub struct Documents {
-    pub store: Store,
-    pub documents: Names,
-    pub auto: Auto,
-    pub states: Names,
+pub struct DocumentDesk {
+    pub(crate) store: Store,
+    pub(crate) documents: Names,
+    pub(crate) auto: Auto,
+    pub(crate) states: Names,
 }
 
-impl Desk for Documents {
-    fn new(alloc: Global) -> Documents {
-        Documents {
+impl DocumentDesk {
+    pub fn new(alloc: Global) -> DocumentDesk {
+        DocumentDesk {
             store: Store::new(alloc),
             documents: Names::new(alloc),
             auto: Auto::new(alloc),
             states: Names::new(alloc),
         }
     }
+}
 
+impl Desk for DocumentDesk {
     fn answer(&mut self, call: &Call<'_>, out: &mut Vec<u8>) -> Result<(), CallError> {
         match call.name {
             "store" => store(self, &call.of_subject(), out),

@@ -3,7 +3,7 @@
 ghost use Rattle.std.specs.Prelude.{IfOk};
 ghost use Rattle.xd_doc.specs.Stored.{BelongsTo};
 
-use crate::desk::Documents;
+use crate::desk::DocumentDesk;
 use crate::named::document;
 use std::alloc::Global;
 use std::io::Write;
@@ -15,7 +15,7 @@ use xd_write::write_document;
 /// `read NAME : DOCUMENT`, `write DOC`, and what makes a document of others and gives it a name: `text_node NAME NEXT : TEXT`,
 /// `elem_node NAME LABEL CONTENT NEXT`, `append NAME FRONT BACK`, `join NAME ONE TWO THREE`, `first_before NAME DOC NEXT`,
 /// `copy_out NAME DOC`, which copies into a new store in place of the old one.
-pub fn store(desk: &mut Documents, call: &Call<'_>, out: &mut Vec<u8>) -> Result<(), CallError> {
+pub fn store(desk: &mut DocumentDesk, call: &Call<'_>, out: &mut Vec<u8>) -> Result<(), CallError> {
     match call.name {
         "read" => read(desk, call, out),
         "write" => {
@@ -33,7 +33,7 @@ pub fn store(desk: &mut Documents, call: &Call<'_>, out: &mut Vec<u8>) -> Result
 }
 
 /// The document that the call's word of this number names.
-pub fn document_of(desk: &Documents, call: &Call<'_>, number: usize) -> Result<Seq, CallError>
+pub fn document_of(desk: &DocumentDesk, call: &Call<'_>, number: usize) -> Result<Seq, CallError>
     ensures { IfOk result (BelongsTo desk.now.store) }
 {
     document(&desk.store, &desk.documents, call.word(number)?)
@@ -41,7 +41,7 @@ pub fn document_of(desk: &Documents, call: &Call<'_>, number: usize) -> Result<S
 
 /// The documents that the call's words of these numbers name.
 fn documents_of(
-    desk: &Documents,
+    desk: &DocumentDesk,
     call: &Call<'_>,
     first: usize,
     second: usize,
@@ -55,7 +55,12 @@ fn documents_of(
 }
 
 /// Gives the document the call's first word as a name, and shows it.
-fn give(desk: &mut Documents, call: &Call<'_>, seq: Seq, out: &mut Vec<u8>) -> Result<(), CallError>
+fn give(
+    desk: &mut DocumentDesk,
+    call: &Call<'_>,
+    seq: Seq,
+    out: &mut Vec<u8>,
+) -> Result<(), CallError>
     requires { BelongsTo desk.old.store seq }
 {
     desk.documents.give(call.word(0)?, seq.place())?;
@@ -70,7 +75,7 @@ fn show(alloc: Global, store: &Store, seq: Seq, out: &mut Vec<u8>) -> Result<(),
     Ok(write_document(alloc, store, seq, out)?)
 }
 
-fn read(desk: &mut Documents, call: &Call<'_>, out: &mut Vec<u8>) -> Result<(), CallError> {
+fn read(desk: &mut DocumentDesk, call: &Call<'_>, out: &mut Vec<u8>) -> Result<(), CallError> {
     match read_document(call.alloc, &mut desk.store, call.text.as_bytes()) {
         Ok(seq) => give(desk, call, seq, out),
         Err(ReadError::Malformed(place)) => {
@@ -81,41 +86,45 @@ fn read(desk: &mut Documents, call: &Call<'_>, out: &mut Vec<u8>) -> Result<(), 
     }
 }
 
-fn text_node(desk: &mut Documents, call: &Call<'_>, out: &mut Vec<u8>) -> Result<(), CallError> {
+fn text_node(desk: &mut DocumentDesk, call: &Call<'_>, out: &mut Vec<u8>) -> Result<(), CallError> {
     let next = document_of(desk, call, 1)?;
     let text = Text::new(call.alloc, call.text)?;
     let seq = desk.store.text_node(text, next)?;
     give(desk, call, seq, out)
 }
 
-fn elem_node(desk: &mut Documents, call: &Call<'_>, out: &mut Vec<u8>) -> Result<(), CallError> {
+fn elem_node(desk: &mut DocumentDesk, call: &Call<'_>, out: &mut Vec<u8>) -> Result<(), CallError> {
     let (content, next) = documents_of(desk, call, 2, 3)?;
     let label = label(call.alloc, call.word(1)?)?;
     let seq = desk.store.elem_node(label, content, next)?;
     give(desk, call, seq, out)
 }
 
-fn append(desk: &mut Documents, call: &Call<'_>, out: &mut Vec<u8>) -> Result<(), CallError> {
+fn append(desk: &mut DocumentDesk, call: &Call<'_>, out: &mut Vec<u8>) -> Result<(), CallError> {
     let (front, back) = documents_of(desk, call, 1, 2)?;
     let seq = desk.store.append(front, back)?;
     give(desk, call, seq, out)
 }
 
-fn first_before(desk: &mut Documents, call: &Call<'_>, out: &mut Vec<u8>) -> Result<(), CallError> {
+fn first_before(
+    desk: &mut DocumentDesk,
+    call: &Call<'_>,
+    out: &mut Vec<u8>,
+) -> Result<(), CallError> {
     let (seq, next) = documents_of(desk, call, 1, 2)?;
     let seq = desk.store.first_before(seq, next)?;
     give(desk, call, seq, out)
 }
 
 /// Three documents, joined.
-fn join(desk: &mut Documents, call: &Call<'_>, out: &mut Vec<u8>) -> Result<(), CallError> {
+fn join(desk: &mut DocumentDesk, call: &Call<'_>, out: &mut Vec<u8>) -> Result<(), CallError> {
     let (one, two) = documents_of(desk, call, 1, 2)?;
     let three = document_of(desk, call, 3)?;
     let seq = desk.store.join(&[one, two, three])?;
     give(desk, call, seq, out)
 }
 
-fn copy_out(desk: &mut Documents, call: &Call<'_>, out: &mut Vec<u8>) -> Result<(), CallError> {
+fn copy_out(desk: &mut DocumentDesk, call: &Call<'_>, out: &mut Vec<u8>) -> Result<(), CallError> {
     let seq = document_of(desk, call, 1)?;
     let mut store = Store::new(call.alloc);
     let copy = desk.store.copy_out(call.alloc, seq, &mut store)?;

@@ -4,7 +4,7 @@ ghost use Rattle.std.specs.Prelude.{IfOk, List};
 ghost use Rattle.xd_doc.specs.Document.{Document};
 ghost use Rattle.xd_report.specs.Report.{CarriesFrom};
 
-use crate::desk::Documents;
+use crate::desk::DocumentDesk;
 use crate::documents::document_of;
 use xd_base::Place;
 use xd_call_lines::{Call, CallError, label};
@@ -14,7 +14,7 @@ use xd_syntax::{Fault, FaultKind, Warning};
 
 /// `warning LINE COLUMN`, and lines of faults: `fault LINE COLUMN KIND`, with the document, the name or the numbers that the kind
 /// carries behind it; LINE 0 for none.
-pub fn report(desk: &Documents, call: &Call<'_>, out: &mut Vec<u8>) -> Result<(), CallError> {
+pub fn report(desk: &DocumentDesk, call: &Call<'_>, out: &mut Vec<u8>) -> Result<(), CallError> {
     match call.name {
         "warning" => {
             let place = place_of(call)?;
@@ -37,7 +37,7 @@ fn place_of(call: &Call<'_>) -> Result<Place, CallError> {
 }
 
 /// The kind of a fault, with the document that it carries.
-fn kind_of(desk: &Documents, call: &Call<'_>) -> Result<FaultKind, CallError>
+fn kind_of(desk: &DocumentDesk, call: &Call<'_>) -> Result<FaultKind, CallError>
     ensures { IfOk result (CarriesFrom desk.now.store) }
 {
     match call.word(2)? {

@@ -7,17 +7,19 @@ use xd_call_programs::{Programs, show_read_program, show_read_type, show_soundne
 
 /// The programs and types that were read.
 #[derive(Drop)]
-pub struct Read {
+pub struct PlainDesk {
     programs: Programs,
 }
 
-impl Desk for Read {
-    fn new(alloc: Global) -> Read {
-        Read {
+impl PlainDesk {
+    pub fn new(alloc: Global) -> PlainDesk {
+        PlainDesk {
             programs: Programs::new(alloc),
         }
     }
+}
 
+impl Desk for PlainDesk {
     fn answer(&mut self, call: &Call<'_>, out: &mut Vec<u8>) -> Result<(), CallError> {
         let about = call.of_subject();
         match call.name {

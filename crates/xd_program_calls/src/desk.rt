@@ -11,21 +11,23 @@ use xd_call_programs::Programs;
 
 /// A shelf and a sink, and the programs and types that were read.
 #[derive(Drop)]
-pub struct Texts {
-    pub shelf: MemoryShelf,
-    pub sink: Option<MemorySink>,
-    pub programs: Programs,
+pub struct ProgramDesk {
+    shelf: MemoryShelf,
+    sink: Option<MemorySink>,
+    programs: Programs,
 }
 
-impl Desk for Texts {
-    fn new(alloc: Global) -> Texts {
-        Texts {
+impl ProgramDesk {
+    pub fn new(alloc: Global) -> ProgramDesk {
+        ProgramDesk {
             shelf: MemoryShelf::new(alloc),
             sink: None,
             programs: Programs::new(alloc),
         }
     }
+}
 
+impl Desk for ProgramDesk {
     fn answer(&mut self, call: &Call<'_>, out: &mut Vec<u8>) -> Result<(), CallError> {
         let about = call.of_subject();
         match call.name {

@@ -1,17 +1,10 @@
 //! The program `xduce`: files and the standard output around the command.
 #![tactic(auto)]
 
-mod file_shelf;
-mod stream_sink;
-#[cfg(test)]
-mod tests;
-
-use crate::file_shelf::FileShelf;
-use crate::stream_sink::StreamSink;
-use std::alloc::{AllocError, Global};
 use std::process::ExitCode;
 use std::rt::Env;
 use std::{env, io};
+use xd_files::{FileShelf, StreamSink};
 
 /// The words after the program's name.
 fn words(rt: &(impl Env + AllocGlobal)) -> io::Result<Vec<String>> {

@@ -7,10 +7,4 @@ mod documents;
 mod named;
 mod reports;
 
-use crate::desk::Documents;
-use anyhow::Result;
-use xd_call_lines::run;
-
-fn main(rt: HostRuntime) -> Result<()> {
-    run::<Documents>(&rt)
-}
+pub use crate::desk::DocumentDesk;

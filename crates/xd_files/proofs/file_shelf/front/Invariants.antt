@@ -1,5 +1,5 @@
 use Rattle.std.proofs.Common.{◌≤◌, ◌-◌, vec_len}
-use Rattle.xduce.proofs.file_shelf.front.Given as goal
+use Rattle.xd_files.proofs.file_shelf.front.Given as goal
 
 abbrev pub invariant-loop-piece : goal.invariant-loop-piece
 invariant-loop-piece g l = vec_len l.text ≤ l.most

@@ -7,17 +7,19 @@ use xd_call_programs::Case;
 
 /// The program of the case.
 #[derive(Drop)]
-pub struct Asked {
+pub struct ClauseDesk {
     case: Case,
 }
 
-impl Desk for Asked {
-    fn new(alloc: Global) -> Asked {
-        Asked {
+impl ClauseDesk {
+    pub fn new(alloc: Global) -> ClauseDesk {
+        ClauseDesk {
             case: Case::new(alloc),
         }
     }
+}
 
+impl Desk for ClauseDesk {
     fn answer(&mut self, call: &Call<'_>, out: &mut Vec<u8>) -> Result<(), CallError> {
         self.case.take(call.text)?;
         answer(&call.about(self.case.program()), out)

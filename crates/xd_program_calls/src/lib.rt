@@ -7,10 +7,4 @@ mod naming;
 mod outside;
 mod programs;
 
-use crate::desk::Texts;
-use anyhow::Result;
-use xd_call_lines::run;
-
-fn main(rt: HostRuntime) -> Result<()> {
-    run::<Texts>(&rt)
-}
+pub use crate::desk::ProgramDesk;

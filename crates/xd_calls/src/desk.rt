@@ -1,0 +1,44 @@
+//! The desks and their names.
+
+use std::alloc::Global;
+use xd_call_lines::{Call, CallError, Desk, NamedDesk};
+use xd_clause_calls::ClauseDesk;
+use xd_doc_calls::DocumentDesk;
+use xd_plain_calls::PlainDesk;
+use xd_program_calls::ProgramDesk;
+use xd_state_calls::StateDesk;
+
+/// The desk that a line of the input chose.
+#[derive(Drop)]
+pub enum AnyDesk {
+    Documents(DocumentDesk),
+    Programs(ProgramDesk),
+    Plain(PlainDesk),
+    Clauses(ClauseDesk),
+    States(StateDesk),
+}
+
+impl Desk for AnyDesk {
+    fn answer(&mut self, call: &Call<'_>, out: &mut Vec<u8>) -> Result<(), CallError> {
+        match self {
+            Self::Documents(desk) => desk.answer(call, out),
+            Self::Programs(desk) => desk.answer(call, out),
+            Self::Plain(desk) => desk.answer(call, out),
+            Self::Clauses(desk) => desk.answer(call, out),
+            Self::States(desk) => desk.answer(call, out),
+        }
+    }
+}
+
+impl NamedDesk for AnyDesk {
+    fn named(alloc: Global, name: &str) -> Result<AnyDesk, CallError> {
+        match name {
+            "documents" => Ok(Self::Documents(DocumentDesk::new(alloc))),
+            "programs" => Ok(Self::Programs(ProgramDesk::new(alloc))),
+            "plain" => Ok(Self::Plain(PlainDesk::new(alloc))),
+            "clauses" => Ok(Self::Clauses(ClauseDesk::new(alloc))),
+            "states" => Ok(Self::States(StateDesk::new(alloc))),
+            _ => Err(CallError::Unknown),
+        }
+    }
+}

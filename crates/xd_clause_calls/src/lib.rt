@@ -1,0 +1,8 @@
+//! Calls about the clauses of a match: what comes to them, and what their variables may be.
+#![tactic(auto)]
+
+mod clauses;
+mod desk;
+mod tracks;
+
+pub use crate::desk::ClauseDesk;

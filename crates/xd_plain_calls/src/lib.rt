@@ -1,0 +1,8 @@
+//! Calls of the slow programs, about programs and types that are read.
+#![tactic(auto)]
+
+mod desk;
+mod plain;
+mod plain_calls;
+
+pub use crate::desk::PlainDesk;
