@@ -18,12 +18,13 @@ use Rattle.xd_bind.specs.declared.shift.Shift.{Shift}
 use Rattle.xd_bind.specs.declared.tracks.Given.{Given}
 use Rattle.xd_bind.specs.Marks.{mark_of}
 use Rattle.xd_bind.specs.Cases.{OwnsNone}
-use Rattle.xd_bind.specs.Projection.{IsGivenOf}
+use Rattle.xd_bind.specs.Projection.{AreGivens, IsGivenOf}
 use Rattle.xd_bind.specs.Shifts.{IsLayer, LandsBelow, OwnsNoneBelow, free_by, shifted}
 use Rattle.xd_bind.specs.Blocks.{IsChange, IsPart, HasFirst, HasSide, IsProjection, with_side, chosen, first_moves, is_side, label_onto, labels_of_side, side_moves, text_onto, texts_of_side}
 use Rattle.xd_bind.specs.Search.{IsSearched}
 use Rattle.xd_bind.specs.Adding.{IsAlone, IsAside}
 use Rattle.xd_bind.proofs.Changes.{extends_changed}
+use Rattle.xd_bind.proofs.SameOwned.{SameOwned, given_same}
 use Rattle.xd_bind.proofs.Shifting.{extends_longer, front_extends, front_moves, layer_count, layer_lands, layer_stays, shifted_below, shifted_lands}
 
 -- all are chosen, and each stays as it is
@@ -218,6 +219,21 @@ given_stays a owned start variables old new x one closed more h = record {
   variable = h.variable;
   belongs = more.states one.state h.belongs;
   given = given_by_same a (owned x) start old new one.state one.state h.given (λ d. keeps old new closed more d one.state h.belongs);
+}
+
+-- what is given stays so where the same moves belong to the variables
+pub givens_same : (a b : Automaton) (one two : ℕ → Owned) (start : State) (vs ws : List (List ℕ)) (made : Automaton) (givens : List Given) → a ≡ b → ((x : ℕ) → SameOwned (one x) (two x)) → vs ≡ ws
+    → AreGivens a one start vs made givens → AreGivens b two start ws made givens
+givens_same a b one two start vs ws made givens e same f h = record {
+  count = h.count ∙ ap length f;
+  each = λ x d lt.
+      let g = h.each x d lt in
+      let given : Given = get_or givens x d in
+      record {
+        variable = ap (λ v. slice_get v x) (sym f) ∙ g.variable;
+        belongs = g.belongs;
+        given = given_same b (one x) (two x) (same x) start made given.state (subst (λ (c : Automaton). AcceptsGiven c (one x) start made given.state) e g.given);
+      };
 }
 
 -- one more element of which something holds by its number

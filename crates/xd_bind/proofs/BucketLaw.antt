@@ -1,10 +1,13 @@
 -- Marks that are put by their states and numbers.
-use Rattle.std.proofs.Common.{◌≡◌, ℕ, ◌+◌, ◌<◌, Bool, true, false, ◌&&◌, ◌||◌, cond, nat_eq, List, [], ◌∷◌, ◌++◌, length, take, get_or, refl, sym, ap, ◌∙◌}
+use Rattle.std.proofs.Common.{◌≡◌, ℕ, zero, suc, Vec, ◌+◌, ◌<◌, Bool, true, false, ◌&&◌, ◌||◌, cond, nat_eq, List, [], ◌∷◌, ◌++◌, length, take, get_or, refl, sym, ap, ◌∙◌}
+use Rattle.std.specs.HashMap.{HashMap}
+use Rattle.std.specs.List.{slice_get}
 use Rattle.std.proofs.lemmas.List.{take_more}
 use Rattle.std.proofs.lemmas.List.Folds.{list_any-append}
 use Rattle.xd_auto.specs.declared.auto.State.{State}
 use Rattle.xd_traces.specs.declared.kind.MoveKind.{MoveKind}
 use Rattle.xd_bind.specs.declared.tracks.Track.{Track}
+use Rattle.xd_bind.specs.Buckets.{bucket_at, tracks_in}
 use Rattle.xd_bind.specs.Projection.{has_track, is_kind, is_track}
 
 or_false : (a : Bool) → (a || false) ≡ a
@@ -42,3 +45,15 @@ bucket_more marks old new i t x kind s n lt is e h = go (nat_eq s.number t.state
     go false f =
         ap (λ ts. has_track ts x kind s n) (e ∙ rw f refl) ∙ h ∙ sym (or_false (has_track (take i marks) x kind s n))
         ∙ ap (λ b. has_track (take i marks) x kind s n || b) (sym (other_move t x kind s n f)) ∙ sym all
+
+none_at : {A S : Type 0} (rows : List (HashMap ℕ (Vec Track A) S)) (row : HashMap ℕ (Vec Track A) S) → row.entries ≡ [] → ((k n : ℕ) → tracks_in (slice_get rows k) n ≡ []) → (k n : ℕ)
+    → tracks_in (slice_get (rows ++ row ∷ []) k) n ≡ []
+none_at [] row empty none zero n = rw empty refl
+none_at [] row empty none (suc k) n = refl
+none_at (x ∷ rows) row empty none zero n = none zero n
+none_at (x ∷ rows) row empty none (suc k) n = none_at rows row empty (λ i m. none (suc i) m) k n
+
+-- one more row without marks
+pub none_more : {A S : Type 0} (rows : List (HashMap ℕ (Vec Track A) S)) (row : HashMap ℕ (Vec Track A) S) → row.entries ≡ [] → ((s : State) (n : ℕ) → bucket_at rows s n ≡ []) → (s : State) (n : ℕ)
+    → bucket_at (rows ++ row ∷ []) s n ≡ []
+none_more rows row empty none s n = none_at rows row empty (λ k m. none (record { number = k }) m) s.number n

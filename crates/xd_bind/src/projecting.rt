@@ -5,7 +5,10 @@ ghost use Rattle.std.specs.List.{All};
 ghost use Rattle.xd_doc.specs.Stored.{Keeps};
 ghost use Rattle.xd_auto.specs.Automaton.{Extends, IsState, moves_at, state_number};
 ghost use Rattle.xd_empty.specs.Known.{Knows};
-ghost use Rattle.xd_bind.specs.Projection.{AreBindings, AreGivens, CanProject};
+ghost use Rattle.xd_auto.specs.declared.auto.State.{State};
+ghost use Rattle.xd_traces.specs.declared.kind.MoveKind.{MoveKind};
+ghost use Rattle.xd_bind.specs.Buckets.{bucket_at};
+ghost use Rattle.xd_bind.specs.Projection.{AreBindings, AreGivens, CanProject, has_track, owned_by};
 ghost use Rattle.xd_traces.specs.Traces.{AcceptsGiven, KeepsTogether};
 ghost use Rattle.xd_bind.specs.Adding.{IsAlone, IsAside};
 ghost use Rattle.xd_bind.specs.Blocks.{HasFirst};
@@ -198,14 +201,43 @@ pub fn add_givens<H: Holds>(
     Ok(givens)
 }
 
-/// For each variable, in their order, an automaton and a state that accepts exactly the documents
-/// that an accepting run gives it: the items that its moves take, in order and with their contents.
-pub fn project(alloc: Global, tracks: &Tracks) -> Result<Vec<Binding>, NoMemory>
-    requires { CanProject tracks.now }
+/// For each of these states of an automaton, in their order, its part that accepts what the state does.
+fn bindings_of(
+    alloc: Global,
+    tracks: &Tracks,
+    made: &Auto,
+    givens: &[Given],
+) -> Result<Vec<Binding>, NoMemory>
+    requires { AreGivens tracks.now.auto (owned_by tracks.now.marks.items) tracks.now.start tracks.now.variables.items made.now givens.now }
     ensures { IfOk result (λ bindings. AreBindings tracks.now bindings.items) }
 {
-    let marks = Marks::new(alloc, &tracks.auto, &tracks.marks)?;
-    let mut made = copied(alloc, &tracks.auto)?;
+    let mut bindings = Vec::new(alloc);
+    for number in 0..givens.len() {
+        let given = &givens[number];
+        let (auto, state) = inhabited_part(alloc, made, given.state)?;
+        let variable = given.variable.share()?;
+        bindings.push(Binding {
+            variable,
+            auto,
+            state,
+        })?;
+    }
+    Ok(bindings)
+}
+
+/// What [`project`] gives, where `marks` has the marks of the tracks, and `made` is a copy of their
+/// automaton.
+fn project_marked(
+    alloc: Global,
+    tracks: &Tracks,
+    marks: &Marks,
+    made: &mut Auto,
+) -> Result<Vec<Binding>, NoMemory>
+    requires tracks { CanProject tracks.now }
+    requires marks { (x : ℕ) (kind : MoveKind) (s : State) (n : ℕ) → has_track (bucket_at marks.now.rows.items s n) x kind s n ≡ has_track tracks.now.marks.items x kind s n }
+    requires copy { made.old ≡ tracks.now.auto }
+    ensures { IfOk result (λ bindings. AreBindings tracks.now bindings.items) }
+{
     let layer = Layer {
         base: 0,
         end: made.len(),
@@ -215,23 +247,23 @@ pub fn project(alloc: Global, tracks: &Tracks) -> Result<Vec<Binding>, NoMemory>
     let mut store = Store::new(alloc);
     let givens = add_givens(
         alloc,
-        &mut made,
+        made,
         layer,
-        &marks,
+        marks,
         &tracks.variables,
         &mut known,
         &mut store,
     )?;
-    let mut bindings = Vec::new(alloc);
-    for number in 0..givens.len() {
-        let given = &givens[number];
-        let (auto, state) = inhabited_part(alloc, &made, given.state)?;
-        let variable = given.variable.share()?;
-        bindings.push(Binding {
-            variable,
-            auto,
-            state,
-        })?;
-    }
-    Ok(bindings)
+    bindings_of(alloc, tracks, made, &givens)
+}
+
+/// For each variable, in their order, an automaton and a state that accepts exactly the documents
+/// that an accepting run gives it: the items that its moves take, in order and with their contents.
+pub fn project(alloc: Global, tracks: &Tracks) -> Result<Vec<Binding>, NoMemory>
+    requires { CanProject tracks.now }
+    ensures { IfOk result (λ bindings. AreBindings tracks.now bindings.items) }
+{
+    let marks = Marks::new(alloc, &tracks.auto, &tracks.marks)?;
+    let mut made = copied(alloc, &tracks.auto)?;
+    project_marked(alloc, tracks, &marks, &mut made)
 }

@@ -5,10 +5,11 @@ use Rattle.std.specs.Option.{IfSome, is_some}
 use Rattle.std.proofs.lemmas.Bool.{cases_eq, cases_lt}
 use Rattle.std.proofs.lemmas.List.{get_or_append_left, get_or-append-add, get_or_default, get_or_past, length-set}
 use Rattle.std.proofs.lemmas.List.Elements.{Contains-append_cases}
-use Rattle.std.proofs.lemmas.List.Folds.{list_any_none}
+use Rattle.std.proofs.lemmas.List.Folds.{list_any_none, list_any_at}
+use Rattle.std.proofs.lemmas.List.Sums.{sum_by-set}
 use Rattle.std.proofs.lemmas.Option.{slice_get-get_or}
 use Rattle.xd_doc.specs.Document.{Document, empty, text, element}
-use Rattle.xd_doc.specs.Stored.{Keeps, no_items}
+use Rattle.xd_doc.specs.Stored.{BelongsTo, Keeps, document_at, no_items}
 use Rattle.xd_doc.specs.Classes.{class_has}
 use Rattle.xd_doc.specs.declared.store.Seq.{Seq}
 use Rattle.xd_auto.specs.declared.auto.State.{State}
@@ -20,7 +21,7 @@ use Rattle.xd_auto.proofs.Closed.{same_state}
 use Rattle.xd_empty.specs.declared.uses.Use.{Use}
 use Rattle.xd_empty.specs.declared.uses.Use.TheVariants.{Element, Text}
 use Rattle.xd_empty.specs.Uses.{AreUses, IsNewUse, IsUse, element_parts, parts_of, text_parts, user, uses_at}
-use Rattle.xd_empty.specs.Inhabited.{AreInhabitants, AreWitnesses, IsUnknown, IsWitness, LacksOne, Searching, Starts}
+use Rattle.xd_empty.specs.Inhabited.{AreInhabitants, AreWitnesses, IsUnknown, IsWitness, LacksOne, Searching, Starts, steps_in}
 use Rattle.xd_empty.proofs.UsesLemmas.{uses_here, uses_other}
 
 -- the state doesn't accept the empty document, and each of its moves leads to a state for which none was found
@@ -75,6 +76,28 @@ witnesses_keep a ds es fs k w s seq f = witness_keeps a ds es s seq k (w s seq f
 -- the empty document
 pub empty_witness : (a : Automaton) (ds : List Document) (s : State) → (moves_at a s).last ≡ true → IsWitness a ds s no_items
 empty_witness a ds s last = record { belongs = record { place = tt; proper = refl; filled = refl }; accepted = last }
+
+-- a document that begins with what the move takes
+pub element_witness : (a : Automaton) (ds new : List Document) (s : State) (n : ℕ) (moves : List LabelMove) (m : LabelMove) (l : List ℕ) (content rest made : Seq)
+    → moves ≡ (moves_at a s).labels → n < length moves → m ≡ get_or moves n m → class_has m.class l ≡ true → IsWitness a ds m.content content → IsWitness a ds m.rest rest
+    → BelongsTo new made → document_at new made ≡ element l (document_at ds content) (document_at ds rest) → IsWitness a new s made
+element_witness a ds new s n moves m l content rest made is lt at has c r belongs e =
+    let takes = λ (q : LabelMove). class_has q.class l && (accepts a (document_at ds content) q.content && accepts a (document_at ds rest) q.rest) in
+    record {
+      belongs = belongs;
+      accepted =
+          ap (λ d. accepts a d s) e ∙ ap (list_any takes) (sym is) ∙ list_any_at takes moves n m lt (ap takes (sym at) ∙ rw (has, c.accepted, r.accepted) refl);
+    }
+
+pub text_witness : (a : Automaton) (ds new : List Document) (s : State) (n : ℕ) (moves : List TextMove) (m : TextMove) (t : List ℕ) (rest made : Seq)
+    → moves ≡ (moves_at a s).texts → n < length moves → m ≡ get_or moves n m → class_has m.words t ≡ true → IsWitness a ds m.rest rest
+    → BelongsTo new made → document_at new made ≡ text t (document_at ds rest) → IsWitness a new s made
+text_witness a ds new s n moves m t rest made is lt at has r belongs e =
+    let takes = λ (q : TextMove). class_has q.words t && accepts a (document_at ds rest) q.rest in
+    record {
+      belongs = belongs;
+      accepted = ap (λ d. accepts a d s) e ∙ ap (list_any takes) (sym is) ∙ list_any_at takes moves n m lt (ap takes (sym at) ∙ rw (has, r.accepted) refl);
+    }
 
 pub user_there : (a : Automaton) (u : Use) → IsUse a u → IsState a (user u)
 user_there a (Element s n) is = is.0
@@ -253,6 +276,10 @@ module _ (a : Automaton) (ds : List Document) (first n : ℕ) (fs : List (Option
       (omega (arith, length-append waiting (uses_at uses (user u)))) (get_or_append_left waiting (uses_at uses (user u)) u done lt ∙ at)
       (λ unknown. absurd (another a ds first n fs uses waiting done h (user u) seq there is.1 w (user u) unknown refl))
 
+-- the moves that were listed under a state wait from now on, and none is lost
+pub steps_kept : (uses : List (List Use)) (waiting : List Use) (s : State) → state_number s < length uses → steps_in (set uses (state_number s) []) (waiting ++ uses_at uses s) ≡ steps_in uses waiting
+steps_kept uses waiting s lt = omega (arith, sum_by-set length uses (state_number s) [] [] lt, length-append waiting (uses_at uses s))
+
 -- no new state has a document yet
 pub searching_starts : (a : Automaton) (ds : List Document) (first : ℕ) (fs : List (Option Seq)) (uses : List (List Use)) (waiting : List Use) → Starts a ds first fs → AreUses a first uses waiting
     → Searching a ds first first fs uses waiting 0
@@ -282,9 +309,9 @@ found_at fs n o seq l e is = get_or_default fs n None o l ∙ sym e ∙ is
 pub not_unknown : (o : Option Seq) → is_some o ≡ true → o ≡ None → ⊥
 not_unknown o some none = let both : is_some o ≡ false = ap is_some none in absurd (cc)
 
-pub none_from : (o : Option Seq) → ((seq : Seq) → o ≡ Some seq → ⊥) → o ≡ None
+pub none_from : {X : Type 0} (o : Option X) → ((x : X) → o ≡ Some x → ⊥) → o ≡ None
 none_from None h = refl
-none_from (Some seq) h = absurd (h seq refl)
+none_from (Some x) h = absurd (h x refl)
 
 -- a move on a text that leads to a state for which none was found
 pub text_lacks : (a : Automaton) (s : State) (n : ℕ) (moves : List TextMove) (fs : List (Option Seq)) (m : TextMove) → moves ≡ (moves_at a s).texts → IsUse a (Text s n) → m ≡ get_or moves n m → IsUnknown fs m.rest → LacksOne fs (parts_of a (Text s n))

@@ -5,7 +5,7 @@ use Rattle.xd_doc.specs.Document.{Document, empty, text, element, first_then, jo
 use Rattle.xd_doc.specs.Stored.{BelongsTo, Keeps, document_at, no_items}
 use Rattle.xd_match.specs.declared.binding.Piece.{Piece}
 use Rattle.xd_match.specs.declared.binding.Piece.TheVariants.{First, Whole}
-use Rattle.xd_match.specs.Taking.{PieceBelongs, pieces_then}
+use Rattle.xd_match.specs.Taking.{PieceBelongs, pieces_then, seq_of}
 
 pub piece_belongs : (ds : List Document) (ps : List Piece) (i : ℕ) (e : Piece) → AllByRecursion (PieceBelongs ds) ps → i < length ps → PieceBelongs ds (get_or ps i e)
 piece_belongs ds [] i e h lt = absurd (omega arith)
@@ -55,3 +55,8 @@ pub nothing_in : (d : Document) → true ≡ not (has_item d) → d ≡ empty
 nothing_in empty e = refl
 nothing_in (text t d) e = absurd (cc)
 nothing_in (element l c d) e = absurd (cc)
+
+-- pieces that stand in a store stand in one that keeps it
+pub pieces_belong : (ds es : List Document) (ps : List Piece) → Keeps ds es → AllByRecursion (PieceBelongs ds) ps → AllByRecursion (PieceBelongs es) ps
+pieces_belong ds es [] k h = tt
+pieces_belong ds es (p ∷ ps) k h = (k.belongs (seq_of p) h.0, pieces_belong ds es ps k h.1)

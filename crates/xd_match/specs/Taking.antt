@@ -72,3 +72,7 @@ pub record AreTaken {A : Type 0} (a : Automaton) (k : Marking) (vs : List (List 
   pub belong : (x : ℕ) (e : Vec Piece A) → x < length vs → AllByRecursion (PieceBelongs ds) (slice_index_or items x e).items
   pub held_is : (x : ℕ) (e : Vec Piece A) → x < length vs
       → pieces_then ds (slice_index_or items x e).items (waiting a k ds (get_or vs x []) tasks) ≡ first_held a k (get_or vs x []) (document_at ds start.seq) start.state
+
+-- what was taken before stays so, where these tasks wait now
+abbrev pub TakesTask : {A : Type 0} → Automaton → Marking → List (List ℕ) → List Document → List (Vec Piece A) → List (Vec Piece A) → List Task → List Task → Type 0
+TakesTask a k vs ds old new tasks tasks2 = (start : Task) → AreTaken a k vs ds start old tasks → AreTaken a k vs ds start new tasks2

@@ -10,7 +10,7 @@ ghost use Rattle.xd_member.specs.Kept.{AreRight};
 ghost use Rattle.xd_patterns.specs.Held.{marking_of, variables_in};
 ghost use Rattle.xd_match.specs.First.{AreHeld, first_run};
 ghost use Rattle.xd_match.specs.Tails.{AreTails};
-ghost use Rattle.xd_match.specs.Taking.{AddsPiece, AreTaken, IsFirst, IsReady, TakesItem};
+ghost use Rattle.xd_match.specs.Taking.{AddsPiece, AreTaken, IsFirst, IsReady, TakesItem, TakesTask, work};
 
 use crate::binding::{Piece, bind_each};
 use crate::tails::tail_of;
@@ -187,6 +187,50 @@ fn take_element(
     Ok((behind, inside))
 }
 
+/// Takes the first item of a document that was the last to wait, or all of its own where they belong to the same
+/// variables, and adds what waits behind it and in it.
+fn take_task(
+    answers: &mut Answers,
+    auto: &Auto,
+    marked: &Marked,
+    mixed: &[bool],
+    task: Task,
+    store: &Store,
+    tasks: &mut Vec<Task>,
+    items: &mut Vec<Vec<Piece>>,
+) -> Result<(), NoMemory>
+    requires ready { IsReady auto.now store.now task }
+    requires distinct { IsDistinct bytes_eq (variables_in marked.now) }
+    requires tails { AreTails auto.now (marking_of marked.now) mixed.now }
+    requires right { AreRight auto.now store.now answers.old }
+    ensures taken { OnOk result (TakesTask auto.now (marking_of marked.now) (variables_in marked.now) store.now items.old.items items.new.items (tasks.old.items ++ task ∷ []) tasks.new.items) }
+    ensures less { OnOk result (work store.now tasks.new.items < work store.now (tasks.old.items ++ task ∷ [])) }
+    ensures right { AreRight auto.now store.now answers.new }
+{
+    if !mixed[task.state.number()] {
+        note(
+            items,
+            tail_of(auto, marked, task.state),
+            Piece::Whole(task.seq),
+        )?;
+        return Ok(());
+    }
+    match store.first(task.seq) {
+        None => Ok(()),
+        Some(Item::Text(text)) => {
+            let next = take_text(answers, auto, marked, store, task, text, items)?;
+            tasks.push(next)?;
+            Ok(())
+        }
+        Some(Item::Elem(label)) => {
+            let next = take_element(answers, auto, marked, store, task, label, items)?;
+            tasks.push(next.0)?;
+            tasks.push(next.1)?;
+            Ok(())
+        }
+    }
+}
+
 /// The items of each variable in the first run, in order.
 fn take_items(
     alloc: Global,
@@ -208,26 +252,9 @@ fn take_items(
     let mut tasks = Vec::new(alloc);
     tasks.push(start)?;
     while let Some(task) = tasks.pop() {
-        if !mixed[task.state.number()] {
-            note(
-                &mut items,
-                tail_of(auto, marked, task.state),
-                Piece::Whole(task.seq),
-            )?;
-            continue;
-        }
-        match store.first(task.seq) {
-            None => {}
-            Some(Item::Text(text)) => {
-                let next = take_text(answers, auto, marked, store, task, text, &mut items)?;
-                tasks.push(next)?;
-            }
-            Some(Item::Elem(label)) => {
-                let next = take_element(answers, auto, marked, store, task, label, &mut items)?;
-                tasks.push(next.0)?;
-                tasks.push(next.1)?;
-            }
-        }
+        take_task(
+            answers, auto, marked, mixed, task, store, &mut tasks, &mut items,
+        )?;
     }
     Ok(items)
 }

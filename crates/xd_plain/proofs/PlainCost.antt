@@ -26,12 +26,12 @@ cost_by N K Text d = 1
 cost_by N K (Words w) d = 1
 cost_by N K (Name x) d = K x d + 2
 cost_by N K (Elem c T) d = element_cost (cost_by N K T) d + 1
-cost_by N K (Seq T U) d = cost_by N K T d + total (λ v. cost_by N K U v.rest) (ways_by N T d) + 2
-cost_by N K (Alt T U) d = cost_by N K T d + cost_by N K U d + 1
+cost_by N K (Seq T U) d = cost_by N K T d + total (λ v. cost_by N K U v.rest) (ways_by N T d) + 3
+cost_by N K (Alt T U) d = cost_by N K T d + cost_by N K U d + 2
 cost_by N K (Star T) d = turns_cost (ways_by N T) (cost_by N K T) (item_count d) d + 1
-cost_by N K (Plus T) d = cost_by N K T d + total (λ v. turns_cost (ways_by N T) (cost_by N K T) (item_count v.rest) v.rest) (ways_by N T d) + 3
-cost_by N K (Opt T) d = cost_by N K T d + 1
-cost_by N K (Val x T) d = cost_by N K T d + 1
+cost_by N K (Plus T) d = cost_by N K T d + total (λ v. turns_cost (ways_by N T) (cost_by N K T) (item_count v.rest) v.rest) (ways_by N T d) + 4
+cost_by N K (Opt T) d = cost_by N K T d + 2
+cost_by N K (Val x T) d = cost_by N K T d + 2
 
 abbrev pub cost_of_definition : (Tree → Document → ℕ) → Option Tree → Document → ℕ
 cost_of_definition C None d = 0
@@ -93,6 +93,3 @@ cost_here C xs i x h e =
 pub ways_done : (F : Way → List Way) (xs : List PlainWay) (i : ℕ) (made all : List Way) → length xs ≤ i → made ++ flat_map F (ways_of (drop i xs)) ≡ all → made ≡ all
 ways_done F xs i made all h k =
     sym (append-nil made) ∙ sym (at_drop_all (λ ys. made ++ flat_map F (ways_of ys)) xs i h) ∙ k
-
-pub plus_falls : (E : Definitions) (n : ℕ) (T : Tree) (d : Document) → then_turns_cost E n T (ways_within E n T d) + 2 < cost E n (Plus T) d
-plus_falls E n T d = omega arith

@@ -2,6 +2,7 @@
 
 ghost use Rattle.std.specs.Prelude.{◌≡◌, ◌∷◌, [], ◌++◌, map, IfOk, IfErr};
 ghost use Rattle.std.specs.Option.{option_copied};
+ghost use Rattle.xd_doc.specs.Document.{join};
 ghost use Rattle.xd_syntax.specs.Words.{main_word};
 ghost use Rattle.xd_syntax.specs.Placed.{the_start};
 ghost use Rattle.xd_syntax.specs.Expression.{Tagged, Joined, Called, Matched};
@@ -195,6 +196,13 @@ fn joined_within(
     let back = value_within(
         alloc, program, unfoldings, deep, front.left, variables, rest,
     )?;
+    joined(alloc, &front, &back)
+}
+
+/// The one, followed by the other.
+fn joined(alloc: Global, front: &Valued, back: &Valued) -> Result<Valued, NoValue>
+    ensures { IsAnswer result (on_fuel.Done (join (document_of front.now.document) (document_of back.now.document)) back.now.left) }
+{
     let document = front.document.followed_by(alloc, &back.document)?;
     Ok(Valued {
         document,

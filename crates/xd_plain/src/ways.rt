@@ -1,7 +1,7 @@
 //! The ways of a pattern on a document, all of them and in order.
 
 ghost use Rattle.std.specs.Prelude.{◌≡◌, ◌≤◌, ◌++◌, ◌∷◌, [], suc, nat_lt, cond, map, flat_map, IfOk, OnOk};
-ghost use Rattle.xd_syntax.specs.Tree.{Name, Elem};
+ghost use Rattle.xd_syntax.specs.Tree.{Name, Elem, Seq, Alt, Plus, Opt, Val};
 ghost use Rattle.xd_syntax.specs.Ways.{no_item_way, then_way, text_ways, words_ways, binding, turns, repetition, ways_within as the_ways_within, unfoldings as needed, item_count};
 ghost use Rattle.xd_laws.specs.FirstMatch.{first, first_whole, first_within as the_first_within};
 ghost use Rattle.xd_plain.specs.PlainDocuments.{document_of};
@@ -50,30 +50,100 @@ pub fn ways_within(
             one_element(alloc, definitions, unfoldings, class, content, document)
         }
         PlainTree::Seq(first, second) => {
-            let firsts = ways_within(alloc, definitions, unfoldings, first, document)?;
-            each_then(alloc, definitions, unfoldings, &firsts, second)
+            in_sequence(alloc, definitions, unfoldings, first, second, document)
         }
         PlainTree::Alt(left, right) => {
-            let of_left = ways_within(alloc, definitions, unfoldings, left, document)?;
-            let of_right = ways_within(alloc, definitions, unfoldings, right, document)?;
-            both(of_left, of_right)
+            by_either(alloc, definitions, unfoldings, left, right, document)
         }
         PlainTree::Star(part) => {
             turns_within(alloc, definitions, unfoldings, part, document, document)
         }
-        PlainTree::Plus(part) => {
-            let firsts = ways_within(alloc, definitions, unfoldings, part, document)?;
-            each_then_turns(alloc, definitions, unfoldings, &firsts, part)
-        }
-        PlainTree::Opt(part) => {
-            let present = ways_within(alloc, definitions, unfoldings, part, document)?;
-            both(present, no_item(alloc, document)?)
-        }
+        PlainTree::Plus(part) => one_turn_or_more(alloc, definitions, unfoldings, part, document),
+        PlainTree::Opt(part) => one_or_none(alloc, definitions, unfoldings, part, document),
         PlainTree::Val(variable, part) => {
-            let ways = ways_within(alloc, definitions, unfoldings, part, document)?;
-            bound(alloc, variable, &ways)
+            with_bound(alloc, definitions, unfoldings, variable, part, document)
         }
     }
+}
+
+/// The ways of the one, each followed by those of the other on its rest.
+#[cycle(ways)]
+fn in_sequence(
+    alloc: Global,
+    definitions: &[PlainDefinition],
+    unfoldings: u64,
+    first: &PlainTree,
+    second: &PlainTree,
+    document: &PlainDocument,
+) -> Result<Vec<PlainWay>, NoMemory>
+    ensures { IfOk result (λ ways. ways_of ways.items ≡ the_ways_within (definitions_of definitions.now) unfoldings (Seq (tree_of first.now) (tree_of second.now)) (document_of document.now)) }
+{
+    let firsts = ways_within(alloc, definitions, unfoldings, first, document)?;
+    each_then(alloc, definitions, unfoldings, &firsts, second)
+}
+
+/// The ways of the left, and then those of the right.
+#[cycle(ways)]
+fn by_either(
+    alloc: Global,
+    definitions: &[PlainDefinition],
+    unfoldings: u64,
+    left: &PlainTree,
+    right: &PlainTree,
+    document: &PlainDocument,
+) -> Result<Vec<PlainWay>, NoMemory>
+    ensures { IfOk result (λ ways. ways_of ways.items ≡ the_ways_within (definitions_of definitions.now) unfoldings (Alt (tree_of left.now) (tree_of right.now)) (document_of document.now)) }
+{
+    let of_left = ways_within(alloc, definitions, unfoldings, left, document)?;
+    let of_right = ways_within(alloc, definitions, unfoldings, right, document)?;
+    both(of_left, of_right)
+}
+
+/// The ways of the part, each followed by those of its repetition on its rest.
+#[cycle(ways)]
+fn one_turn_or_more(
+    alloc: Global,
+    definitions: &[PlainDefinition],
+    unfoldings: u64,
+    part: &PlainTree,
+    document: &PlainDocument,
+) -> Result<Vec<PlainWay>, NoMemory>
+    ensures { IfOk result (λ ways. ways_of ways.items ≡ the_ways_within (definitions_of definitions.now) unfoldings (Plus (tree_of part.now)) (document_of document.now)) }
+{
+    let firsts = ways_within(alloc, definitions, unfoldings, part, document)?;
+    each_then_turns(alloc, definitions, unfoldings, &firsts, part)
+}
+
+/// The ways of the part, and then the one that takes nothing.
+#[cycle(ways)]
+fn one_or_none(
+    alloc: Global,
+    definitions: &[PlainDefinition],
+    unfoldings: u64,
+    part: &PlainTree,
+    document: &PlainDocument,
+) -> Result<Vec<PlainWay>, NoMemory>
+    ensures { IfOk result (λ ways. ways_of ways.items ≡ the_ways_within (definitions_of definitions.now) unfoldings (Opt (tree_of part.now)) (document_of document.now)) }
+{
+    let present = ways_within(alloc, definitions, unfoldings, part, document)?;
+    let absent = no_item(alloc, document)?;
+    both(present, absent)
+}
+
+/// The ways of the part, which bind the variable too.
+#[cycle(ways)]
+fn with_bound(
+    alloc: Global,
+    definitions: &[PlainDefinition],
+    unfoldings: u64,
+    variable: &Label,
+    part: &PlainTree,
+    document: &PlainDocument,
+) -> Result<Vec<PlainWay>, NoMemory>
+    ensures { IfOk result (λ ways. ways_of ways.items ≡ the_ways_within (definitions_of definitions.now) unfoldings (Val variable.now (tree_of part.now)) (document_of document.now)) }
+{
+    let ways = ways_within(alloc, definitions, unfoldings, part, document)?;
+    bound(alloc, variable, &ways)
 }
 
 /// The ways of what the name is defined as, with one unfolding fewer.

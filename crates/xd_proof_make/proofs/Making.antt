@@ -1,7 +1,7 @@
 -- A row as a goal between types.
 use Rattle.std.proofs.Common.{◌≡◌, ℕ, zero, suc, ◌+◌, ◌^◌, ◌<◌, ◌≤◌, Bool, true, false, ◌||◌, List, [], ◌∷◌, ◌++◌, map, length, get_or, take, Option, Some, None, Bor, refl, sym, ap, subst, ◌∙◌, arith}
 use Rattle.std.specs.List.{AllByRecursion, AllZip, flat_map, list_any}
-use Rattle.std.proofs.lemmas.List.{take_more}
+use Rattle.std.proofs.lemmas.List.{map-append, take_more}
 use Rattle.std.proofs.lemmas.Option.{slice_get_within}
 use Rattle.xd_syntax.specs.Tree.{Tree, Definitions}
 use Rattle.xd_laws.specs.CanBeEmpty.{can_be_empty}
@@ -247,6 +247,12 @@ zip_more {B} R xs i ys ys2 y lt z r e =
     push [] (v ∷ vs) w = absurd w
     push (u ∷ us) [] w = absurd w
     push (u ∷ us) (v ∷ vs) w = (w.0, push us vs w.1)
+
+-- what a list maps to, with one more element
+pub map_more : {X Y : Type 0} (f : X → Y) (xs : List X) (i : ℕ) (x : X) (y : Y) (made : List Y) → i < length xs → x ≡ get_or xs i x → y ≡ f x → made ≡ map f (take i xs) → made ++ y ∷ [] ≡ map f (take (i + 1) xs)
+map_more f xs i x y made lt at is before =
+    ap (λ ys. ys ++ y ∷ []) before ∙ ap (λ w. map f (take i xs) ++ w ∷ []) (is ∙ ap f at) ∙ sym (map-append f (take i xs) (get_or xs i x ∷ []))
+    ∙ ap (map f) (sym (take_more xs i x lt))
 
 pub take_past : (xs : List ℕ) (i : ℕ) → length xs ≤ i → take i xs ≡ xs
 take_past [] zero le = refl

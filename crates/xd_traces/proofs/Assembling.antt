@@ -13,7 +13,7 @@ use Rattle.xd_traces.specs.declared.pairs.Pairs.{Pairs}
 use Rattle.xd_traces.specs.declared.growing.Growing.{Growing}
 use Rattle.xd_traces.specs.declared.growing.OldStates.{OldStates}
 use Rattle.xd_traces.specs.Matching.{label_both, text_both}
-use Rattle.xd_traces.specs.Growing.{AreLabelsFor, AreTextsFor, ExpandsLabels, ExpandsTexts, Found, GrowsBut, HasNoMoves, IsKept, IsPairOf, IsPairedTo, KeepsOld, LeadsToOld, Stands, found_at, pair_of}
+use Rattle.xd_traces.specs.Growing.{AreLabelsFor, AreTextsFor, ExpandsLabels, ExpandsTexts, Found, Grows, GrowsBut, HasNoMoves, IsKept, IsPairOf, IsPairedTo, IsWhole, KeepsOld, LeadsToOld, Stands, found_at, pair_of}
 use Rattle.xd_traces.specs.Pairing.{StandsFor, boths_in}
 use Rattle.xd_traces.specs.Paired.{ArePairs, IsAdded, origins_in}
 use Rattle.xd_traces.specs.Universal.{IsUniversal}
@@ -29,6 +29,23 @@ leads_to_old q made closed keeps = λ s lt. subst (λ m. LeadsBelow (length q) m
 
 pub old_later : (base : ℕ) (q a b : Automaton) → base ≡ length q → KeepsOld (length q) q a → KeepsOld base a b → KeepsOld (length q) q b
 old_later base q a b size h k = old_both (length q) q a b h (subst (λ n. KeepsOld n a b) size k)
+
+-- the added states have no moves yet
+pub paired_none : {A B : Type 0} (p q made : Automaton) (old : OldStates) (states states2 : List Pair) (found : Found) (texts : List (Vec Both A)) (labels : List (Vec Both B)) → texts ≡ [] → labels ≡ []
+    → old.base ≡ length q → IsWhole p old made states2 found → Grows old.base q made states states2 → IsPairedTo p old made states2 found texts labels old.base
+paired_none p q made old states states2 found texts labels no_texts no_labels size whole grows = record {
+  whole = whole;
+  texts_count = rw no_texts (omega arith);
+  labels_count = rw no_labels (omega arith);
+  within = omega (arith, grows.adds.longer, size);
+  has_labels = λ s x lt e. absurd (omega (arith, e.0));
+  has_texts = λ s x lt e. absurd (omega (arith, e.0));
+  waiting = λ s le. wait s le (cases_lt s.number (length made));
+}
+  where
+    wait : (s : State) → old.base ≤ s.number → (s.number < length made) ⊎ (length made ≤ s.number) → HasNoMoves made s
+    wait s le (inl lt) = grows.adds.fresh s lt (omega (arith, size))
+    wait s le (inr past) = past_moves made s past
 
 module _ {A : Type 0} where
   -- what is read of older rows, and of the last

@@ -1,5 +1,6 @@
 -- On an automaton of pairs while it is made.
-use Rattle.std.proofs.Common.{◌≡◌, ◌≢◌, ◌⊎◌, inl, inr, ⊎_elim, ℕ, ◌+◌, ◌-◌, ◌<◌, ◌≤◌, Bool, true, false, ◌&&◌, cond, nat_eq, List, [], ◌∷◌, ◌++◌, length, map, get_or-set_same, Some, None, refl, sym, ap, ◌∙◌, subst, arith, append_assoc}
+use Rattle.std.proofs.Common.{◌≡◌, ◌≢◌, ◌⊎◌, inl, inr, ⊎_elim, ℕ, zero, suc, ◌+◌, ◌-◌, ◌<◌, ◌≤◌, Bool, true, false, ◌&&◌, cond, nat_eq, List, [], ◌∷◌, ◌++◌, length, map, get_or-set_same, Some, None, refl, sym, ap, ◌∙◌, subst, arith, append_assoc}
+use Rattle.std.specs.HashMap.{HashMap}
 use Rattle.std.specs.List.{slice_get}
 use Rattle.std.proofs.lemmas.Bool.{cases_eq, cases_lt, eq-eqb, eqb-true}
 use Rattle.std.proofs.lemmas.Option.{slice_get_within}
@@ -7,7 +8,7 @@ use Rattle.std.proofs.lemmas.List.{get_or_append_left, get_or_at, get_or_past, l
 use Rattle.xd_auto.specs.declared.auto.State.{State}
 use Rattle.xd_auto.specs.declared.auto.LabelMove.{LabelMove}
 use Rattle.xd_auto.specs.declared.auto.TextMove.{TextMove}
-use Rattle.xd_auto.specs.Automaton.{Automaton, ChangesOnly, Extends, IsState, StateMoves, moves_at, no_moves, with_moves}
+use Rattle.xd_auto.specs.Automaton.{Automaton, ChangesOnly, Extends, IsState, LeadsBelow, StateMoves, moves_at, no_moves, with_moves}
 use Rattle.xd_auto.proofs.Anys.{and_left, and_right}
 use Rattle.xd_traces.specs.declared.pairs.Both.{Both}
 use Rattle.xd_traces.specs.declared.pairs.Pair.{Pair}
@@ -15,7 +16,7 @@ use Rattle.xd_traces.specs.declared.matching.LabelMatch.{LabelMatch}
 use Rattle.xd_traces.specs.declared.matching.TextMatch.{TextMatch}
 use Rattle.xd_traces.specs.declared.growing.OldStates.{OldStates}
 use Rattle.xd_traces.specs.Matching.{AreLabelMatches, AreTextMatches, label_both, text_both}
-use Rattle.xd_traces.specs.Growing.{AddsLabelMove, AddsLabelMoves, AddsTextMove, AddsTextMoves, AreLabelsFor, AreMade, AreTextsFor, Found, Grows, GrowsBut, HasNoMoves, IsContent, IsLabelMade, IsPairOf, IsPairState, IsTextMade, IsWhole, KeepsOld, Stands, pair_of, state_at}
+use Rattle.xd_traces.specs.Growing.{AddsLabelMove, AddsLabelMoves, AddsTextMove, AddsTextMoves, AreLabelsFor, AreMade, AreTextsFor, Found, Grows, GrowsBut, HasNoMoves, IsContent, IsLabelMade, IsPairOf, IsPairState, IsTextMade, IsWhole, KeepsOld, LeadsToOld, Stands, found_at, pair_of, state_at}
 use Rattle.xd_traces.proofs.Matches.{there_front, there_last, there_more}
 use Rattle.xd_traces.proofs.Steps.{some_same}
 
@@ -28,6 +29,14 @@ same_pair x y e f = ap (λ (l : State). pair_of l x.right) (same_state x.left y.
 -- a state that isn't there has no moves
 pub past_moves : (a : Automaton) (s : State) → length a ≤ s.number → HasNoMoves a s
 past_moves a s le = let e = get_or_past a s.number (no_moves false) le in (ap (λ (m : StateMoves). m.labels) e, ap (λ (m : StateMoves). m.texts) e)
+
+-- all states are kept, and more may be there
+pub old_all : (a b : Automaton) → KeepsOld (length a) a b → Extends a b
+old_all a b h = record { states = λ s lt. omega (arith, h.within); moves = h.moves }
+
+-- old states lead to old ones where they have the moves that they had
+pub leads_kept : (base : ℕ) (a b : Automaton) → LeadsToOld base a → KeepsOld base a b → LeadsToOld base b
+leads_kept base a b leads h = λ s lt. subst (LeadsBelow base) (sym (h.moves s lt)) (leads s lt)
 
 -- old states stay what they are
 pub old_both : (base : ℕ) (a b c : Automaton) → KeepsOld base a b → KeepsOld base b c → KeepsOld base a c
@@ -56,6 +65,13 @@ whole_none p old made found none size = record {
   found_there = λ l r s e. let no : None ≡ Some s = sym (none l.number r.number) ∙ e in absurd (cc);
   listed = λ s x h. let e = h.1 in absurd (cc);
 }
+
+-- nothing is found in one more row, which is empty
+pub none_more : {S : Type 0} (rows : List (HashMap ℕ State S)) (row : HashMap ℕ State S) → row.entries ≡ [] → ((l r : ℕ) → found_at rows l r ≡ None) → (l r : ℕ) → found_at (rows ++ row ∷ []) l r ≡ None
+none_more [] row empty none zero r = rw empty refl
+none_more [] row empty none (suc l) r = refl
+none_more (x ∷ rows) row empty none zero r = none zero r
+none_more (x ∷ rows) row empty none (suc l) r = none_more rows row empty (λ k q. none (suc k) q) l r
 
 -- one more state, for a pair that has none
 module _ (p : Automaton) (old : OldStates) (made : Automaton) (states : List Pair) (found : Found) (x : Pair) (last : Bool) (was : IsWhole p old made states found)

@@ -35,6 +35,10 @@ found_at numbers = λ l r. found_in (slice_get numbers l) r
 abbrev pub Stands : ℕ → List Pair → State → Pair → Type 0
 Stands base states s x = (base ≤ s.number) × (slice_get states (s.number - base) ≡ Some x)
 
+-- what stood for a pair still does
+abbrev pub StillStand : ℕ → List Pair → List Pair → Type 0
+StillStand base states states2 = (s : State) (x : Pair) → Stands base states s x → Stands base states2 s x
+
 -- a state of the first automaton, and of those that the second had
 pub record IsPairOf (p : Automaton) (old : OldStates) (x : Pair) : Type 0 where
   pub left : IsState p x.left

@@ -1,8 +1,9 @@
 //! Two automata side by side.
 
-ghost use Rattle.std.specs.Prelude.{◌≡◌, ◌&&◌, IfOk};
+ghost use Rattle.std.specs.Prelude.{◌≡◌, ◌&&◌, IfOk, OnOk, length};
 ghost use Rattle.xd_doc.specs.Document.{Document};
-ghost use Rattle.xd_auto.specs.Automaton.{Extends, IsState, accepts};
+ghost use Rattle.xd_auto.specs.Automaton.{Extends, IsClosed, IsState, accepts};
+ghost use Rattle.xd_traces.specs.Growing.{IsKept, IsPairedTo, KeepsOld, LeadsToOld, StillStand, found_at};
 ghost use Rattle.xd_traces.specs.Paired.{ArePairs};
 ghost use Rattle.xd_traces.specs.Universal.{IsUniversal};
 
@@ -38,6 +39,34 @@ pub struct Pairs {
     pub states: Vec<Pair>,
     pub texts: Vec<Vec<Both>>,
     pub labels: Vec<Vec<Both>>,
+}
+
+/// Gives each added state its moves, and those that these lead to, which are added too.
+fn expand_all(
+    alloc: Global,
+    one: &Auto,
+    two: &mut Auto,
+    old: OldStates,
+    growing: &mut Growing,
+    texts: &mut Vec<Vec<Both>>,
+    labels: &mut Vec<Vec<Both>>,
+) -> Result<(), NoMemory>
+    requires kept { IsKept one.now old two.old growing.old }
+    requires paired { IsPairedTo one.now old two.old growing.old.states.items (found_at growing.old.found.items) texts.old.items labels.old.items old.base }
+    requires leads { LeadsToOld old.base two.old }
+    ensures paired { OnOk result (IsPairedTo one.now old two.new growing.new.states.items (found_at growing.new.found.items) texts.new.items labels.new.items (length two.new)) }
+    ensures stay { OnOk result (StillStand old.base growing.old.states.items growing.new.states.items) }
+    ensures closed { OnOk result (IsClosed two.new) }
+    ensures keeps_old { KeepsOld old.base two.old two.new }
+{
+    let mut number = old.base;
+    while number < two.len() {
+        let at = two.state(number);
+        labels.push(growing.expand_labels(alloc, one, two, old, at)?)?;
+        texts.push(growing.expand_texts(alloc, one, two, old, at)?)?;
+        number += 1;
+    }
+    Ok(())
 }
 
 /// Two automata side by side, in the second one itself, from the pair of two states on: adds a state
@@ -80,13 +109,7 @@ pub fn pair_up(
     let start = growing.find(one, two, old, begin)?;
     let mut texts = Vec::new(alloc);
     let mut labels = Vec::new(alloc);
-    let mut number = old.base;
-    while number < two.len() {
-        let at = two.state(number);
-        labels.push(growing.expand_labels(alloc, one, two, old, at)?)?;
-        texts.push(growing.expand_texts(alloc, one, two, old, at)?)?;
-        number += 1;
-    }
+    expand_all(alloc, one, two, old, &mut growing, &mut texts, &mut labels)?;
     Ok(Pairs {
         base: old.base,
         start,

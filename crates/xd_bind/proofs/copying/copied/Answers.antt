@@ -1,8 +1,9 @@
-use Rattle.std.proofs.Common.{◌≡◌, ◌≢◌, ℕ, ◌<◌, ◌∙◌, false, sym, subst, length, arith}
-use Rattle.xd_auto.specs.Automaton.{moves_at}
+use Rattle.std.proofs.Common.{◌≡◌, ◌≢◌, ℕ, ◌<◌, ◌∙◌, false, ap, map, sym, subst, length, arith}
+use Rattle.xd_auto.specs.Automaton.{moves_at, no_moves}
 use Rattle.xd_bind.specs.Shifts.{LandsBelow, shifted}
 use Rattle.xd_bind.specs.Blocks.{labels_of_side, texts_of_side}
-use Rattle.xd_bind.proofs.Copied.{copied_more, lands_themselves, nobody, themselves}
+use Rattle.xd_bind.proofs.Changes.{length-map'}
+use Rattle.xd_bind.proofs.Copied.{begun, copied_more, lands_themselves, nobody, themselves}
 use Rattle.xd_bind.proofs.Shifting.{same_automata}
 use Rattle.xd_bind.proofs.copying.copied.Goals as goal
 
@@ -37,3 +38,15 @@ loop-number-preserved c =
 
 pub returns : goal.returns
 returns c = same_automata c.loop-number.made c.args.auto.now c.loop-number.invariant.count (λ s here. c.loop-number.invariant.done s (let e = c.len-count.ensures.value in omega (arith, c.loop-number.invariant.count)))
+
+pub loop-number-init : goal.loop-number-init
+loop-number-init c =
+    let a = c.args.auto.now in
+    let lasts = c.in_ok-lasts.lasts.items in
+    let long : length lasts ≡ length a = omega (arith, c.in_ok-lasts.ensures.len, c.len-count.ensures.value) in
+    let is : c.add_states.new.auto ≡ map no_moves lasts = rw (c.new-made.ensures, c.deref.ensures.value) at c.in_ok-add_states.ensures.ok in
+    record {
+      count = omega (arith, ap length is, length-map' lasts, long);
+      done = λ s lt. absurd (omega arith);
+      waiting = λ s le lt. begun a c.add_states.new.auto lasts long is (λ t here. c.in_ok-lasts.ensures.lasts t (omega arith) (omega (arith, here, c.len-count.ensures.value))) s lt;
+    }

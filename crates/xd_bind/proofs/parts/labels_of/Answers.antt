@@ -1,8 +1,8 @@
-use Rattle.std.proofs.Common.{◌≡◌, ◌<◌, true, false, ◌∙◌, sym, ap, length, get_or, []}
+use Rattle.std.proofs.Common.{◌≡◌, ◌<◌, true, false, ◌∙◌, sym, ap, length, get_or, [], map, take_all, arith}
 use Rattle.std.proofs.lemmas.List.{get_or_default}
 use Rattle.xd_auto.specs.declared.auto.LabelMove.{LabelMove}
 use Rattle.xd_bind.specs.Shifts.{shifted}
-use Rattle.xd_bind.specs.Blocks.{is_side, label_onto}
+use Rattle.xd_bind.specs.Blocks.{is_side, label_onto, chosen}
 use Rattle.xd_bind.proofs.Changes.{one_taken, one_passed, same_side, label_onto_is}
 use Rattle.xd_bind.proofs.parts.labels_of.Goals as goal
 use Rattle.xd_bind.proofs.parts.labels_of.Goals.{then-holds-part+in_ok-class+in_ok-push, else-holds-part}
@@ -34,3 +34,10 @@ loop-number-preserved g c =
           rw w.labels-is
           (one_passed (label_onto contents rests) (λ n. is_side own (b.element c.args.state n)) xs i m c.loop-number.labels.items within (get_or_default xs i some_move m within) passed c.loop-number.invariant)
     ]
+
+pub returns : goal.returns
+returns g c =
+    let b = g.H.Holds.owned c.args.owner.now c.args.part.variable in
+    c.loop-number.invariant
+    ∙ ap (λ ms. map (label_onto (shifted c.args.part.contents) (shifted c.args.part.rests)) (chosen (λ n. is_side c.args.part.own (b.element c.args.state n)) ms))
+    (take_all c.loop-number.number c.label_moves-moves.result.now (omega arith) ∙ c.label_moves-moves.ensures.value)

@@ -1,8 +1,8 @@
-use Rattle.std.proofs.Common.{◌≡◌, ◌<◌, true, false, ◌∙◌, sym, ap, length, get_or, []}
+use Rattle.std.proofs.Common.{◌≡◌, ◌<◌, true, false, ◌∙◌, sym, ap, length, get_or, [], map, take_all, arith}
 use Rattle.std.proofs.lemmas.List.{get_or_default}
 use Rattle.xd_auto.specs.declared.auto.TextMove.{TextMove}
 use Rattle.xd_bind.specs.Shifts.{shifted}
-use Rattle.xd_bind.specs.Blocks.{is_side, text_onto}
+use Rattle.xd_bind.specs.Blocks.{is_side, text_onto, chosen}
 use Rattle.xd_bind.proofs.Changes.{one_taken, one_passed, same_side, text_onto_is}
 use Rattle.xd_bind.proofs.parts.texts_of.Goals as goal
 use Rattle.xd_bind.proofs.parts.texts_of.Goals.{then-holds-part+in_ok-words+in_ok-push, else-holds-part}
@@ -33,3 +33,10 @@ loop-number-preserved g c =
           rw w.texts-is
           (one_passed (text_onto rests) (λ n. is_side own (b.text c.args.state n)) xs i m c.loop-number.texts.items within (get_or_default xs i some_move m within) passed c.loop-number.invariant)
     ]
+
+pub returns : goal.returns
+returns g c =
+    let b = g.H.Holds.owned c.args.owner.now c.args.part.variable in
+    c.loop-number.invariant
+    ∙ ap (λ ms. map (text_onto (shifted c.args.part.rests)) (chosen (λ n. is_side c.args.part.own (b.text c.args.state n)) ms))
+    (take_all c.loop-number.number c.text_moves-moves.result.now (omega arith) ∙ c.text_moves-moves.ensures.value)

@@ -17,3 +17,10 @@ returns-clause-knows c =
     let all = c.in_ok-search.ensures.inhabitants in
     let whole : take c.resize.new.self.len (found ++ drop (length found) c.resize.new.self.items) ≡ found = take_at found (drop (length found) c.resize.new.self.items) c.resize.new.self.len (omega (arith, all.count, c.in_ok-resize.ensures.len, c.len.ensures.value)) in
     rw whole (inhabitants_known c.args.auto.now c.search.new.store found c.len.ensures.closed all)
+
+pub returns-clause-all : goal.returns-clause-all
+returns-clause-all c =
+    let found = c.search.new.found in
+    let all = c.in_ok-search.ensures.inhabitants in
+    let whole : take c.resize.new.self.len (found ++ drop (length found) c.resize.new.self.items) ≡ found = take_at found (drop (length found) c.resize.new.self.items) c.resize.new.self.len (omega (arith, all.count, c.in_ok-resize.ensures.len, c.len.ensures.value)) in
+    rw whole all.count

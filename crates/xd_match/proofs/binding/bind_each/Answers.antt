@@ -8,7 +8,7 @@ use Rattle.xd_doc.proofs.StoredLemmas.{Keeps-trans}
 use Rattle.xd_member.proofs.Walks.{places_push}
 use Rattle.xd_match.specs.declared.binding.Piece.{Piece}
 use Rattle.xd_match.specs.Taking.{PieceBelongs, pieces_then}
-use Rattle.xd_match.proofs.Pieces.{pieces_kept}
+use Rattle.xd_match.proofs.Pieces.{pieces_belong, pieces_kept}
 use Rattle.xd_match.proofs.binding.bind_each.Goals as goal
 
 pub loop-x-preserved : goal.loop-x-preserved
@@ -35,3 +35,16 @@ loop-x-preserved c =
           (rw (c.loop-x.invariant.count, ← read f) here) k e
           (omega (arith, length_push c.loop-x.bound.items c.in_ok-made.made, c.loop-x.invariant.count)));
     }
+
+pub bind-requires : goal.bind-requires
+bind-requires c =
+    let inside : c.loop-x.x < length c.args.items.now.items = search rules in
+    let read = get_or_read c.args.items.now.items c.loop-x.x c.index.result.now inside c.index.ensures c.index.result.now in
+    let all : AllByRecursion (PieceBelongs c.args.store.now) c.index.result.now.items = rw read (c.requires c.loop-x.x c.index.result.now inside) in
+    rw c.deref.ensures.value (pieces_belong c.args.store.now c.loop-x.store c.index.result.now.items c.loop-x.invariant.keeps all)
+
+pub returns-in_err-made-clause-keeps : goal.returns-in_err-made-clause-keeps
+returns-in_err-made-clause-keeps c = Keeps-trans _ _ _ c.loop-x.invariant.keeps c.bind.ensures.keeps
+
+pub returns-in_err-push-clause-keeps : goal.returns-in_err-push-clause-keeps
+returns-in_err-push-clause-keeps c = Keeps-trans _ _ _ c.loop-x.invariant.keeps c.bind.ensures.keeps

@@ -2,7 +2,7 @@ use Rattle.std.proofs.Common.{ℕ, ◌≡◌, ◌<◌, List, length, true, false
 use Rattle.xd_doc.specs.Document.{Document}
 use Rattle.xd_doc.specs.Stored.{document_at}
 use Rattle.xd_auto.specs.declared.auto.State.{State}
-use Rattle.xd_auto.specs.Automaton.{accepts}
+use Rattle.xd_auto.specs.Automaton.{IsState, accepts}
 use Rattle.xd_patterns.specs.Held.{marking_of, variables_in}
 use Rattle.xd_match.specs.declared.binding.Piece.{Piece}
 use Rattle.xd_match.specs.First.{AreHeld, first_run}
@@ -42,3 +42,10 @@ returns-clause-found c =
       belong = λ x e lt. bound.belong x e (below x lt);
       bindings = λ x e lt. (let f : Vec Piece Global = some_of rows x (below x lt) in bound.bindings x e f (below x lt) ∙ taken.held_is x f lt);
     })
+
+pub take_items-requires-clause-start : goal.take_items-requires-clause-start
+take_items-requires-clause-start c = record {
+  state = subst (λ (s : State). IsState c.args.auto.now s) (sym c.start-start.ensures) c.requires.start;
+  seq = c.requires.seq;
+  accepted = sym c.in_ok-accepts_kept.ensures.answer ∙ c.if-not-branch.false;
+}

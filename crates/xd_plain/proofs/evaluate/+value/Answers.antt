@@ -48,8 +48,8 @@ joined_within-returns-in_err-back t c =
 
 pub joined_within-returns : goal.joined_within-returns
 joined_within-returns t c =
-    goes_on _ _ _ _ c.in_ok-front.ensures ∙ goes_on _ (λ d m. on_fuel.Done (join (document_of c.in_ok-front.front.document) d) m) _ _ c.in_ok-back.ensures
-    ∙ ap (λ d. on_fuel.Done d c.in_ok-back.back.left) (sym c.in_ok-document.ensures)
+    same_answer c.joined.result c.joined.ensures
+    (sym (goes_on _ _ _ _ c.in_ok-front.ensures ∙ goes_on _ (λ d m. on_fuel.Done (join (document_of c.in_ok-front.front.document) d) m) _ _ c.in_ok-back.ensures))
 
 pub called_within-returns-in_err-given : goal.called_within-returns-in_err-given
 called_within-returns-in_err-given t c = ended done c.from_residual.result _ _ _ c.from_residual.ensures.1 c.in_err-given.ensures

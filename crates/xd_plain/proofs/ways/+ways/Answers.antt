@@ -1,59 +1,144 @@
 use Rattle.std.proofs.Common.{◌≡◌, ℕ, suc, ◌+◌, ◌<◌, arith, cond, nat_lt, List, [], ◌++◌, map, drop, IfOk, refl, ap, sym, ◌∙◌, subst, append-nil}
 use Rattle.std.proofs.lemmas.List.{map-append}
 use Rattle.xd_doc.specs.Document.{Document}
-use Rattle.xd_syntax.specs.Tree.{Tree, Plus, Definitions}
+use Rattle.xd_syntax.specs.Tree.{Tree, Seq, Alt, Plus, Opt, Val, Definitions}
 use Rattle.xd_syntax.specs.Ways.{Way, then_way, turns, repetition, item_count}
 use Rattle.xd_syntax.specs.Ways.{ways_within as the_ways_within}
 use Rattle.xd_plain.specs.PlainDocuments.{document_of}
 use Rattle.xd_plain.specs.PlainTrees.{tree_of, definitions_of}
 use Rattle.xd_plain.specs.PlainWays.{way_of, ways_of}
 use Rattle.xd_plain.proofs.PlainFitting.{if_ok}
-use Rattle.xd_plain.proofs.PlainCost.{cost, then_ways, then_turns, turn_ways, then_turns_cost, repetition_cost, ways_step, cost_step, cost_here, ways_done, plus_falls}
+use Rattle.xd_plain.proofs.PlainCost.{cost, then_ways, then_turns, turn_ways, then_cost, then_turns_cost, repetition_cost, ways_step, cost_step, cost_here, ways_done}
 use Rattle.xd_plain.proofs.ways.+ways.Goals as goal
 use Rattle.xd_plain.proofs.ways.+ways.Goals.{each_turned-then-is_shorter+in_ok-push_turns, each_turned-else-is_shorter}
 
-pub ways_within-returns-in_ok-firsts-in-Plus : goal.ways_within-returns-in_ok-firsts-in-Plus
-ways_within-returns-in_ok-firsts-in-Plus t c =
-    let E = definitions_of c.args.definitions.now in
-    let n = c.args.unfoldings in
-    let e : then_turns E n (tree_of c.deref-in-Plus-3.result.now) (ways_of c.deref-in-Plus-2.result.now)
-    ≡ the_ways_within E n (tree_of c.args.pattern.now) (document_of c.args.document.now)
-    = rw (c.deref-in-Plus-3.ensures, c.deref-in-Plus-2.ensures.value, c.in_ok-firsts-in-Plus.ensures, c.deref-in-Plus.ensures, c.in-Plus.is) refl in
-    subst (λ ws. IfOk c.each_then_turns.result (λ ways. ways_of ways.items ≡ ws)) e c.each_then_turns.ensures
-
-pub ways_within-each_then_turns-requires : goal.ways_within-each_then_turns-requires
-ways_within-each_then_turns-requires t c =
+pub ways_within-returns-in-Seq : goal.ways_within-returns-in-Seq
+ways_within-returns-in-Seq t c =
     let E : Definitions = definitions_of c.args.definitions.now in
     let n : ℕ = c.args.unfoldings in
-    let T : Tree = tree_of c.deref-in-Plus-3.result.now in
     let d : Document = document_of c.args.document.now in
-    let ws : List Way = ways_of c.deref-in-Plus-2.result.now in
-    let pattern : Plus T ≡ tree_of c.args.pattern.now = rw (c.deref-in-Plus-3.ensures, c.in-Plus.is) refl in
-    let firsts : ws ≡ the_ways_within E n T d = rw (c.deref-in-Plus-2.ensures.value, c.in_ok-firsts-in-Plus.ensures, c.deref-in-Plus.ensures, c.deref-in-Plus-3.ensures) refl in
-    let falls : then_turns_cost E n T ws + 2 < cost E n (tree_of c.args.pattern.now) d
-    = subst (λ U. then_turns_cost E n T ws + 2 < cost E n U d) pattern (subst (λ vs. then_turns_cost E n T vs + 2 < cost E n (Plus T) d) (sym firsts) (plus_falls E n T d)) in
+    let pattern : Seq (tree_of c.deref-in-Seq.result.now) (tree_of c.deref-in-Seq-2.result.now) ≡ tree_of c.args.pattern.now = rw (c.deref-in-Seq.ensures, c.deref-in-Seq-2.ensures, c.in-Seq.is) refl in
+    subst (λ (P : Tree). IfOk c.in_sequence.result (λ ways. ways_of ways.items ≡ the_ways_within E n P d)) pattern c.in_sequence.ensures
+
+pub ways_within-returns-in-Alt : goal.ways_within-returns-in-Alt
+ways_within-returns-in-Alt t c =
+    let E : Definitions = definitions_of c.args.definitions.now in
+    let n : ℕ = c.args.unfoldings in
+    let d : Document = document_of c.args.document.now in
+    let pattern : Alt (tree_of c.deref-in-Alt.result.now) (tree_of c.deref-in-Alt-2.result.now) ≡ tree_of c.args.pattern.now = rw (c.deref-in-Alt.ensures, c.deref-in-Alt-2.ensures, c.in-Alt.is) refl in
+    subst (λ (P : Tree). IfOk c.by_either.result (λ ways. ways_of ways.items ≡ the_ways_within E n P d)) pattern c.by_either.ensures
+
+pub ways_within-returns-in-Plus : goal.ways_within-returns-in-Plus
+ways_within-returns-in-Plus t c =
+    let E : Definitions = definitions_of c.args.definitions.now in
+    let n : ℕ = c.args.unfoldings in
+    let d : Document = document_of c.args.document.now in
+    let pattern : Plus (tree_of c.deref-in-Plus.result.now) ≡ tree_of c.args.pattern.now = rw (c.deref-in-Plus.ensures, c.in-Plus.is) refl in
+    subst (λ (P : Tree). IfOk c.one_turn_or_more.result (λ ways. ways_of ways.items ≡ the_ways_within E n P d)) pattern c.one_turn_or_more.ensures
+
+pub ways_within-returns-in-Opt : goal.ways_within-returns-in-Opt
+ways_within-returns-in-Opt t c =
+    let E : Definitions = definitions_of c.args.definitions.now in
+    let n : ℕ = c.args.unfoldings in
+    let d : Document = document_of c.args.document.now in
+    let pattern : Opt (tree_of c.deref-in-Opt.result.now) ≡ tree_of c.args.pattern.now = rw (c.deref-in-Opt.ensures, c.in-Opt.is) refl in
+    subst (λ (P : Tree). IfOk c.one_or_none.result (λ ways. ways_of ways.items ≡ the_ways_within E n P d)) pattern c.one_or_none.ensures
+
+pub ways_within-returns-in-Val : goal.ways_within-returns-in-Val
+ways_within-returns-in-Val t c =
+    let E : Definitions = definitions_of c.args.definitions.now in
+    let n : ℕ = c.args.unfoldings in
+    let d : Document = document_of c.args.document.now in
+    let pattern : Val c.in-Val.variable (tree_of c.deref-in-Val.result.now) ≡ tree_of c.args.pattern.now = rw (c.deref-in-Val.ensures, c.in-Val.is) refl in
+    subst (λ (P : Tree). IfOk c.with_bound.result (λ ways. ways_of ways.items ≡ the_ways_within E n P d)) pattern c.with_bound.ensures
+
+pub ways_within-in_sequence-requires : goal.ways_within-in_sequence-requires
+ways_within-in_sequence-requires t c =
+    let E : Definitions = definitions_of c.args.definitions.now in
+    let n : ℕ = c.args.unfoldings in
+    let d : Document = document_of c.args.document.now in
+    let T : Tree = tree_of c.deref-in-Seq.result.now in
+    let U : Tree = tree_of c.deref-in-Seq-2.result.now in
+    let pattern : Seq T U ≡ tree_of c.args.pattern.now = rw (c.deref-in-Seq.ensures, c.deref-in-Seq-2.ensures, c.in-Seq.is) refl in
+    let falls : cost E n T d + then_cost E n U (the_ways_within E n T d) + 2 < cost E n (tree_of c.args.pattern.now) d
+    = subst (λ (P : Tree). cost E n T d + then_cost E n U (the_ways_within E n T d) + 2 < cost E n P d) pattern (omega arith) in
     (omega arith, tt)
 
-pub ways_within-returns-in_ok-firsts-in-Seq : goal.ways_within-returns-in_ok-firsts-in-Seq
-ways_within-returns-in_ok-firsts-in-Seq t c =
-    let E = definitions_of c.args.definitions.now in
-    let n = c.args.unfoldings in
-    let e : then_ways E n (tree_of c.deref-in-Seq-3.result.now) (ways_of c.deref-in-Seq-2.result.now)
-    ≡ the_ways_within E n (tree_of c.args.pattern.now) (document_of c.args.document.now)
-    = rw (c.deref-in-Seq-3.ensures, c.deref-in-Seq-2.ensures.value, c.in_ok-firsts-in-Seq.ensures, c.deref-in-Seq.ensures, c.in-Seq.is) refl in
-    subst (λ ws. IfOk c.each_then.result (λ ways. ways_of ways.items ≡ ws)) e c.each_then.ensures
+pub ways_within-one_turn_or_more-requires : goal.ways_within-one_turn_or_more-requires
+ways_within-one_turn_or_more-requires t c =
+    let E : Definitions = definitions_of c.args.definitions.now in
+    let n : ℕ = c.args.unfoldings in
+    let d : Document = document_of c.args.document.now in
+    let T : Tree = tree_of c.deref-in-Plus.result.now in
+    let pattern : Plus T ≡ tree_of c.args.pattern.now = rw (c.deref-in-Plus.ensures, c.in-Plus.is) refl in
+    let falls : cost E n T d + then_turns_cost E n T (the_ways_within E n T d) + 3 < cost E n (tree_of c.args.pattern.now) d
+    = subst (λ (P : Tree). cost E n T d + then_turns_cost E n T (the_ways_within E n T d) + 3 < cost E n P d) pattern (omega arith) in
+    (omega arith, tt)
 
-pub ways_within-returns-in_ok-of_right-in-Alt : goal.ways_within-returns-in_ok-of_right-in-Alt
-ways_within-returns-in_ok-of_right-in-Alt t c =
-    let E = definitions_of c.args.definitions.now in
-    let n = c.args.unfoldings in
-    let d = document_of c.args.document.now in
-    let left = c.in_ok-of_left-in-Alt.of_left.items in
-    let right = c.in_ok-of_right-in-Alt.of_right.items in
-    let e : ways_of left ++ ways_of right ≡ the_ways_within E n (tree_of c.args.pattern.now) d
-    = rw (c.in_ok-of_left-in-Alt.ensures, c.in_ok-of_right-in-Alt.ensures, c.deref-in-Alt.ensures, c.deref-in-Alt-2.ensures, c.in-Alt.is) refl in
-    if_ok (λ made. made.items ≡ left ++ right) (λ ways. ways_of ways.items ≡ the_ways_within E n (tree_of c.args.pattern.now) d)
-    (λ made h. ap ways_of h ∙ map-append way_of left right ∙ e) c.both.result c.both.ensures
+pub in_sequence-returns : goal.in_sequence-returns
+in_sequence-returns t c =
+    let E : Definitions = definitions_of c.args.definitions.now in
+    let n : ℕ = c.args.unfoldings in
+    let d : Document = document_of c.args.document.now in
+    let T : Tree = tree_of c.args.first.now in
+    let U : Tree = tree_of c.args.second.now in
+    let firsts : ways_of c.deref.result.now ≡ the_ways_within E n T d = ap ways_of c.deref.ensures.value ∙ c.in_ok-firsts.ensures in
+    subst (λ ws. IfOk c.each_then.result (λ ways. ways_of ways.items ≡ ws)) (ap (then_ways E n U) firsts) c.each_then.ensures
+
+pub in_sequence-each_then-requires : goal.in_sequence-each_then-requires
+in_sequence-each_then-requires t c =
+    let E : Definitions = definitions_of c.args.definitions.now in
+    let n : ℕ = c.args.unfoldings in
+    let d : Document = document_of c.args.document.now in
+    let T : Tree = tree_of c.args.first.now in
+    let U : Tree = tree_of c.args.second.now in
+    let firsts : ways_of c.deref.result.now ≡ the_ways_within E n T d = ap ways_of c.deref.ensures.value ∙ c.in_ok-firsts.ensures in
+    let same = ap (then_cost E n U) firsts in
+    (omega (arith, same), tt)
+
+pub by_either-returns : goal.by_either-returns
+by_either-returns t c =
+    let E : Definitions = definitions_of c.args.definitions.now in
+    let n : ℕ = c.args.unfoldings in
+    let d : Document = document_of c.args.document.now in
+    let T : Tree = tree_of c.args.left.now in
+    let U : Tree = tree_of c.args.right.now in
+    let left = c.in_ok-of_left.of_left.items in
+    let right = c.in_ok-of_right.of_right.items in
+    if_ok (λ made. made.items ≡ left ++ right) (λ ways. ways_of ways.items ≡ the_ways_within E n (Alt T U) d)
+    (λ made h. ap ways_of h ∙ map-append way_of left right ∙ ap (λ ws. ws ++ ways_of right) c.in_ok-of_left.ensures ∙ ap (λ ws. the_ways_within E n T d ++ ws) c.in_ok-of_right.ensures)
+    c.both.result c.both.ensures
+
+pub one_turn_or_more-returns : goal.one_turn_or_more-returns
+one_turn_or_more-returns t c =
+    let E : Definitions = definitions_of c.args.definitions.now in
+    let n : ℕ = c.args.unfoldings in
+    let d : Document = document_of c.args.document.now in
+    let T : Tree = tree_of c.args.part.now in
+    let firsts : ways_of c.deref.result.now ≡ the_ways_within E n T d = ap ways_of c.deref.ensures.value ∙ c.in_ok-firsts.ensures in
+    subst (λ ws. IfOk c.each_then_turns.result (λ ways. ways_of ways.items ≡ ws)) (ap (then_turns E n T) firsts) c.each_then_turns.ensures
+
+pub one_turn_or_more-each_then_turns-requires : goal.one_turn_or_more-each_then_turns-requires
+one_turn_or_more-each_then_turns-requires t c =
+    let E : Definitions = definitions_of c.args.definitions.now in
+    let n : ℕ = c.args.unfoldings in
+    let d : Document = document_of c.args.document.now in
+    let T : Tree = tree_of c.args.part.now in
+    let firsts : ways_of c.deref.result.now ≡ the_ways_within E n T d = ap ways_of c.deref.ensures.value ∙ c.in_ok-firsts.ensures in
+    let same = ap (then_turns_cost E n T) firsts in
+    (omega (arith, same), tt)
+
+pub one_or_none-returns : goal.one_or_none-returns
+one_or_none-returns t c =
+    let E : Definitions = definitions_of c.args.definitions.now in
+    let n : ℕ = c.args.unfoldings in
+    let d : Document = document_of c.args.document.now in
+    let T : Tree = tree_of c.args.part.now in
+    let present = c.in_ok-present.present.items in
+    let absent = c.in_ok-absent.absent.items in
+    if_ok (λ made. made.items ≡ present ++ absent) (λ ways. ways_of ways.items ≡ the_ways_within E n (Opt T) d)
+    (λ made h. ap ways_of h ∙ map-append way_of present absent ∙ ap (λ ws. ws ++ ways_of absent) c.in_ok-present.ensures ∙ ap (λ ws. the_ways_within E n T d ++ ws) c.in_ok-absent.ensures)
+    c.both.result c.both.ensures
 
 pub each_then-loop-first-preserved : goal.each_then-loop-first-preserved
 each_then-loop-first-preserved t c =

@@ -9,6 +9,29 @@ use Rattle.xd_plain.proofs.ways.+ways.Given as goal
 abbrev pub decreases-ways_within : goal.decreases-ways_within
 decreases-ways_within l = cost (definitions_of l.definitions.now) l.unfoldings (tree_of l.pattern.now) (document_of l.document.now)
 
+abbrev pub decreases-in_sequence : goal.decreases-in_sequence
+decreases-in_sequence l = let E = definitions_of l.definitions.now in
+    let T = tree_of l.first.now in
+    let d = document_of l.document.now in
+    cost E l.unfoldings T d + then_cost E l.unfoldings (tree_of l.second.now) (ways_within E l.unfoldings T d) + 2
+
+abbrev pub decreases-by_either : goal.decreases-by_either
+decreases-by_either l = let E = definitions_of l.definitions.now in
+    let d = document_of l.document.now in
+    cost E l.unfoldings (tree_of l.left.now) d + cost E l.unfoldings (tree_of l.right.now) d + 1
+
+abbrev pub decreases-one_turn_or_more : goal.decreases-one_turn_or_more
+decreases-one_turn_or_more l = let E = definitions_of l.definitions.now in
+    let T = tree_of l.part.now in
+    let d = document_of l.document.now in
+    cost E l.unfoldings T d + then_turns_cost E l.unfoldings T (ways_within E l.unfoldings T d) + 3
+
+abbrev pub decreases-one_or_none : goal.decreases-one_or_none
+decreases-one_or_none l = cost (definitions_of l.definitions.now) l.unfoldings (tree_of l.part.now) (document_of l.document.now) + 1
+
+abbrev pub decreases-with_bound : goal.decreases-with_bound
+decreases-with_bound l = cost (definitions_of l.definitions.now) l.unfoldings (tree_of l.part.now) (document_of l.document.now) + 1
+
 abbrev pub decreases-defined : goal.decreases-defined
 decreases-defined l = cost_of_name (definitions_of l.definitions.now) l.unfoldings l.name.now (document_of l.document.now) + 1
 

@@ -1,6 +1,8 @@
-use Rattle.std.proofs.Common.{ℕ, get_or, length, ap, subst, ◌∙◌}
+use Rattle.std.proofs.Common.{ℕ, ◌<◌, get_or, length, ap, sym, subst, ◌∙◌}
 use Rattle.std.specs.List.{AllByRecursion}
+use Rattle.xd_auto.specs.declared.auto.State.{State}
 use Rattle.xd_goals.specs.Rows.{row_at}
+use Rattle.xd_heads.specs.Mirrors.{IsTypeState}
 use Rattle.xd_heads.proofs.Growing.{grows_then}
 use Rattle.xd_proof_make.specs.Known.{HasKnown}
 use Rattle.xd_proof_make.specs.Made.{HasTypes, IsTypedRow}
@@ -50,3 +52,40 @@ loop-number-preserved c =
       keeps = keeps-then c.args.states.now.items c.loop-number.states.items c.learn_all.new.states.items i.keeps keeps;
       grows = grows_then c.args.sound.now c.learn.new.sound c.learn_all.new.sound (grows_then c.args.sound.now c.loop-number.sound c.learn.new.sound i.grows c.learn.ensures.grows) c.learn_all.ensures.grows;
     }
+
+pub learn-requires-clause-state : goal.learn-requires-clause-state
+learn-requires-clause-state c =
+    let row = all_get_by (λ g. IsTypedRow c.args.cells.now (length c.args.states.now.items) (row_at c.args.table.now.rows g)) c.args.goals.now c.loop-number.number-index 0 c.loop-number-test.true c.requires.types in
+    subst (IsTypeState c.args.cells.now) (sym (c.left.ensures ∙ ap (λ (n : ℕ). (row_at c.args.table.now.rows n).left) c.goal-goal.ensures)) row.types.left
+
+pub learn-requires-clause-there : goal.learn-requires-clause-there
+learn-requires-clause-there c =
+    let row = all_get_by (λ g. IsTypedRow c.args.cells.now (length c.args.states.now.items) (row_at c.args.table.now.rows g)) c.args.goals.now c.loop-number.number-index 0 c.loop-number-test.true c.requires.types in
+    let there = subst (λ (n : ℕ). (row_at c.args.table.now.rows (get_or c.args.goals.now c.loop-number.number-index 0)).left.number < n) (sym c.loop-number.invariant.keeps.sized) row.left_there in
+    subst (λ (s : State). s.number < length c.loop-number.states.items) (sym (c.left.ensures ∙ ap (λ (n : ℕ). (row_at c.args.table.now.rows n).left) c.goal-goal.ensures)) there
+
+pub learn_all-requires-clause-state : goal.learn_all-requires-clause-state
+learn_all-requires-clause-state c =
+    let row = all_get_by (λ g. IsTypedRow c.args.cells.now (length c.args.states.now.items) (row_at c.args.table.now.rows g)) c.args.goals.now c.loop-number.number-index 0 c.loop-number-test.true c.requires.types in
+    subst (AllByRecursion (IsTypeState c.args.cells.now)) (sym (c.rights.ensures ∙ ap (λ (n : ℕ). (row_at c.args.table.now.rows n).rights) c.goal-goal.ensures)) row.types.rights
+
+pub returns-in_err-learn-clause-keeps : goal.returns-in_err-learn-clause-keeps
+returns-in_err-learn-clause-keeps c = keeps-then c.args.states.now.items c.loop-number.states.items c.learn.new.states.items c.loop-number.invariant.keeps c.learn.ensures.keeps
+
+pub returns-in_err-learn_all-clause-keeps : goal.returns-in_err-learn_all-clause-keeps
+returns-in_err-learn_all-clause-keeps c =
+    keeps-then c.args.states.now.items c.loop-number.states.items c.learn_all.new.states.items c.loop-number.invariant.keeps
+    (keeps-then c.loop-number.states.items c.learn.new.states.items c.learn_all.new.states.items c.learn.ensures.keeps c.learn_all.ensures.keeps)
+
+pub goal-goal-requires : goal.goal-goal-requires
+goal-goal-requires c = all_get_by (λ g. g < length c.args.table.now.rows) c.args.goals.now c.loop-number.number-index 0 c.loop-number-test.true c.requires.there
+
+pub left-requires : goal.left-requires
+left-requires c =
+    subst (λ (g : ℕ). g < length c.args.table.now.rows) (sym c.goal-goal.ensures)
+    (all_get_by (λ g. g < length c.args.table.now.rows) c.args.goals.now c.loop-number.number-index 0 c.loop-number-test.true c.requires.there)
+
+pub rights-requires : goal.rights-requires
+rights-requires c =
+    subst (λ (g : ℕ). g < length c.args.table.now.rows) (sym c.goal-goal.ensures)
+    (all_get_by (λ g. g < length c.args.table.now.rows) c.args.goals.now c.loop-number.number-index 0 c.loop-number-test.true c.requires.there)

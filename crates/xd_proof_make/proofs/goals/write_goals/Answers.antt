@@ -1,6 +1,5 @@
-use Rattle.std.proofs.Common.{ℕ, List, subst}
+use Rattle.std.proofs.Common.{ℕ, ◌<◌, List, length, subst, sym}
 use Rattle.std.specs.List.{AllZip}
-use Rattle.std.proofs.Common.{sym}
 use Rattle.xd_goals.specs.Rows.{row_at}
 use Rattle.xd_proof_make.specs.Made.{CanWrite, IsGoalMade}
 use Rattle.xd_proof_make.proofs.Meeting.{all_get_by}
@@ -23,3 +22,11 @@ pub returns-clause-made : goal.returns-clause-made
 returns-clause-made c = λ p k m h.
     subst (λ (gs : List ℕ). AllZip (λ g x. IsGoalMade p k c.args.auto.now c.args.table.now.nodes c.args.numbers.now (row_at c.args.table.now.rows g) x) gs c.loop-number.made.items)
     (take_past c.args.goals.now c.loop-number.number-index c.loop-number-test.false) (c.loop-number.invariant p k m h)
+
+pub goal-goal-requires : goal.goal-goal-requires
+goal-goal-requires c = all_get_by (λ g. g < length c.args.table.now.rows) c.args.goals.now c.loop-number.number-index 0 c.loop-number-test.true c.requires.there
+
+pub write_goal-requires-clause-there : goal.write_goal-requires-clause-there
+write_goal-requires-clause-there c =
+    subst (λ (g : ℕ). g < length c.args.table.now.rows) (sym c.goal-goal.ensures)
+    (all_get_by (λ g. g < length c.args.table.now.rows) c.args.goals.now c.loop-number.number-index 0 c.loop-number-test.true c.requires.there)

@@ -41,3 +41,8 @@ returns-in_err-meet_steps-clause-only c =
     (steps-lead c.args.table.now.nodes (λ g. p g ≡ true) n c.choice-item.result c.in_ok-steps.steps.items tree c.in_ok-steps.ensures
     (all_get (LeadsTo c.args.table.now.nodes (λ g. p g ≡ true)) c.args.choices.now c.loop-choice.choice-index c.choice-item.result c.loop-choice-test.true c.choice-item.is h)))
     (c.loop-choice.invariant.only p h k)
+
+pub returns-in_err-meet_steps-clause-more : goal.returns-in_err-meet_steps-clause-more
+returns-in_err-meet_steps-clause-more c =
+    meets-then c.args.met.now.order.items c.args.met.now.numbers.items c.loop-choice.met.order.items c.loop-choice.met.numbers.items c.meet_steps.new.met.order.items c.meet_steps.new.met.numbers.items
+    c.loop-choice.invariant.more c.meet_steps.ensures.more

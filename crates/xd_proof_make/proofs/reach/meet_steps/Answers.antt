@@ -19,3 +19,8 @@ loop-step-preserved c =
 pub returns-in_err-meet_step-clause-only : goal.returns-in_err-meet_step-clause-only
 returns-in_err-meet_step-clause-only c =
     λ p h k. c.meet_step.ensures.only p (all_get_by (IsStepTo (λ g. p g ≡ true)) c.args.steps.now c.loop-step.step-index (Content 0) c.loop-step-test.true h) (c.loop-step.invariant.only p h k)
+
+pub returns-in_err-meet_step-clause-more : goal.returns-in_err-meet_step-clause-more
+returns-in_err-meet_step-clause-more c =
+    meets-then c.args.met.now.order.items c.args.met.now.numbers.items c.loop-step.met.order.items c.loop-step.met.numbers.items c.meet_step.new.met.order.items c.meet_step.new.met.numbers.items
+    c.loop-step.invariant.more c.meet_step.ensures.more

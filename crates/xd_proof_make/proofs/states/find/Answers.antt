@@ -16,3 +16,16 @@ pub returns-clause-grows : goal.returns-clause-grows
 returns-clause-grows c =
     grows_then c.args.sound.now c.state_type.new.sound c.heads.new.sound (grows_by c.args.sound.now c.state_type.new.sound c.state_type.ensures.adds c.state_type.ensures.same c.state_type.ensures.shallow)
     (grows_by c.state_type.new.sound c.heads.new.sound c.heads.ensures.adds c.heads.ensures.same c.heads.ensures.shallow)
+
+pub returns-in_err-found-clause-grows : goal.returns-in_err-found-clause-grows
+returns-in_err-found-clause-grows c =
+    grows_then c.args.sound.now c.state_type.new.sound c.heads.new.sound (grows_by c.args.sound.now c.state_type.new.sound c.state_type.ensures.adds c.state_type.ensures.same c.state_type.ensures.shallow)
+    (grows_by c.state_type.new.sound c.heads.new.sound c.heads.ensures.adds c.heads.ensures.same c.heads.ensures.shallow)
+
+pub returns-in_err-sorts-clause-grows : goal.returns-in_err-sorts-clause-grows
+returns-in_err-sorts-clause-grows c =
+    grows_then c.args.sound.now c.state_type.new.sound c.heads.new.sound (grows_by c.args.sound.now c.state_type.new.sound c.state_type.ensures.adds c.state_type.ensures.same c.state_type.ensures.shallow)
+    (grows_by c.state_type.new.sound c.heads.new.sound c.heads.ensures.adds c.heads.ensures.same c.heads.ensures.shallow)
+
+pub returns-in_err-id-clause-grows : goal.returns-in_err-id-clause-grows
+returns-in_err-id-clause-grows c = grows_by c.args.sound.now c.state_type.new.sound c.state_type.ensures.adds c.state_type.ensures.same c.state_type.ensures.shallow

@@ -23,3 +23,6 @@ returns-in_err-learn-clause-known c = λ k. c.learn.ensures.known (c.loop-state.
 
 pub returns-in_err-learn-clause-grows : goal.returns-in_err-learn-clause-grows
 returns-in_err-learn-clause-grows c = grows_then c.args.sound.now c.loop-state.sound c.learn.new.sound c.loop-state.invariant.grows c.learn.ensures.grows
+
+pub returns-in_err-learn-clause-keeps : goal.returns-in_err-learn-clause-keeps
+returns-in_err-learn-clause-keeps c = keeps-then c.args.states.now.items c.loop-state.states.items c.learn.new.states.items c.loop-state.invariant.keeps c.learn.ensures.keeps

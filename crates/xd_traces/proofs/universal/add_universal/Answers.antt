@@ -1,5 +1,5 @@
-use Rattle.std.proofs.Common.{◌≡◌, ◌∙◌, ap, sym, true, false, [], arith}
-use Rattle.std.proofs.lemmas.List.{get_or_at}
+use Rattle.std.proofs.Common.{◌≡◌, ◌∙◌, ap, sym, true, false, [], length, arith}
+use Rattle.std.proofs.lemmas.List.{get_or_at, length_push}
 use Rattle.xd_doc.specs.Classes.{is_named}
 use Rattle.xd_auto.specs.Automaton.{IsState, moves_at, no_moves}
 use Rattle.xd_traces.proofs.Universals.{accepts_all, every, universal_made}
@@ -20,3 +20,8 @@ returns-clause-universal c =
 
 pub returns-clause-accepted : goal.returns-clause-accepted
 returns-clause-accepted c = λ d. accepts_all c.add_text_move.new.self c.in_ok-state.state (returns-clause-universal c) d
+
+pub returns-clause-count : goal.returns-clause-count
+returns-clause-count c =
+    let new = c.in_ok-state.ensures.ok in
+    omega (arith, c.in_ok-add_text_move.ensures.others.states, c.in_ok-add_label_move.ensures.others.states, ap length new.1, length_push c.args.auto.now (no_moves true))

@@ -1,8 +1,8 @@
-use Rattle.std.proofs.Common.{ℕ, ◌<◌, ◌∙◌, [], ap, arith, length, replicate, subst}
+use Rattle.std.proofs.Common.{ℕ, ◌<◌, ◌∙◌, [], ap, arith, length, replicate, subst, sym}
 use Rattle.xd_auto.specs.Automaton.{moves_at}
 use Rattle.xd_empty.specs.declared.uses.Use.TheVariants.{Element, Text}
 use Rattle.xd_empty.specs.Uses.{AddsUses, IsNewUse, Lists, lists_by_state, parts_of}
-use Rattle.xd_empty.proofs.UsesLemmas.{listing_starts, listing_step, listing_ends}
+use Rattle.xd_empty.proofs.UsesLemmas.{length-lists, listing_starts, listing_step, listing_ends}
 use Rattle.xd_empty.proofs.uses.Uses.new.Goals as goal
 
 pub loop-number-init : goal.loop-number-init
@@ -32,3 +32,10 @@ loop-number-preserved c =
 
 pub returns-clause-uses : goal.returns-clause-uses
 returns-clause-uses c = listing_ends c.args.auto.now c.args.first c.loop-number.number (lists_by_state c.loop-number.uses) c.loop-number.uses.waiting.items (omega (arith, c.len-number-end.ensures.value)) c.loop-number.invariant.listing
+
+pub add_elements-requires-clause-count : goal.add_elements-requires-clause-count
+add_elements-requires-clause-count c = sym (length-lists c.loop-number.uses.first c.loop-number.uses.lists.items) ∙ c.loop-number.invariant.listing.sized
+
+pub add_texts-requires-clause-count : goal.add_texts-requires-clause-count
+add_texts-requires-clause-count c =
+    sym (length-lists c.add_elements.new.self.first c.add_elements.new.self.lists.items) ∙ c.in_ok-add_elements.ensures.adds.sized ∙ c.loop-number.invariant.listing.sized

@@ -1,6 +1,9 @@
-use Rattle.std.proofs.Common.{arith}
+use Rattle.std.proofs.Common.{arith, sym, subst, ◌∙◌}
 use Rattle.std.proofs.lemmas.Option.{slice_get-get_or}
 use Rattle.xd_traces.proofs.Expanding.{label_match_states}
+use Rattle.xd_traces.specs.declared.pairs.Pair.{Pair}
+use Rattle.xd_traces.specs.Growing.{AreLabelsFor}
+use Rattle.xd_traces.proofs.Steps.{some_same}
 use Rattle.xd_traces.proofs.growing.Growing.expand_labels.Goals as goal
 
 pub matches-requires : goal.matches-requires
@@ -19,3 +22,17 @@ add_label_moves-requires-clause-rests c k d lt =
     let x = c.pair-pair.result in
     (label_match_states c.args.one.now c.args.old c.args.two.now x.left x.right _ c.label_moves.ensures.closed c.requires.closed (c.requires.kept.whole.pairs c.args.at x c.pair-pair.ensures).pair.right
     ((rw c.label_moves.ensures.value at c.in_ok-matches.ensures).each k _ (slice_get-get_or c.in_ok-matches.matches.items k d lt))).1
+
+pub label_moves-requires : goal.label_moves-requires
+label_moves-requires c = (c.requires.kept.whole.pairs c.args.at c.pair-pair.result c.pair-pair.ensures).pair.left
+
+pub returns-clause-expands : goal.returns-clause-expands
+returns-clause-expands c =
+    let adds = c.in_ok-numbers.ensures.adds in
+    record {
+      steps = adds.steps;
+      are = λ x here.
+          subst (λ (y : Pair). AreLabelsFor c.args.one.now c.args.old c.args.two.now c.add_label_moves.new.self.states.items y adds.steps c.in_ok-numbers.numbers.items) (some_same (sym c.pair-pair.ensures.1 ∙ here.1))
+          (record { matches = c.in_ok-matches.matches.items; are = rw c.label_moves.ensures.value at c.in_ok-matches.ensures; made_for = adds.made_for });
+      adds = adds.adds;
+    }
