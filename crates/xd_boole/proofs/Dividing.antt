@@ -1,9 +1,9 @@
 -- How a group is divided by a move.
-use Rattle.std.proofs.Common.{◌≡◌, ℕ, zero, suc, ◌+◌, ◌<◌, length, take, get_or, Bool, true, false, not, ◌&&◌, ◌||◌, List, [], ◌∷◌, ◌++◌, Some, None, refl, sym, ap, ◌∙◌, subst, arith}
+use Rattle.std.proofs.Common.{◌≡◌, ℕ, zero, suc, ◌+◌, ◌<◌, length, take, get_or, Bool, true, false, not, ◌&&◌, ◌||◌, List, [], ◌∷◌, ◌++◌, Option, Some, None, refl, sym, ap, ◌∙◌, subst, arith}
 use Rattle.std.specs.List.{list_any}
 use Rattle.std.proofs.lemmas.List.Folds.{list_any-append, list_any_more}
 use Rattle.xd_boole.specs.declared.groups.Group.{Group}
-use Rattle.xd_boole.specs.Groups.{AllPass, AllSides, Divides, IsPartBy, any_group, group_refuses, passes_at}
+use Rattle.xd_boole.specs.Groups.{AddsInside, AddsOutside, AllPass, AllSides, Divides, IsPartAdded, IsPartBy, any_group, group_refuses, passes_at}
 use Rattle.xd_boole.proofs.Lists.{all_push, all_front, all_last}
 use Rattle.xd_boole.proofs.Bools.{and_more, divided_inside, divided_both, next_one, or_join, or_nothing}
 
@@ -11,6 +11,12 @@ or_false : (x y : Bool) → (x || (y || false)) ≡ (x || y)
 or_false true y = refl
 or_false false true = refl
 or_false false false = refl
+
+none_matches : (h c a s : Bool) → (h && c) ≡ false → ((h && not a) || false) ≡ ((h && not a) && not (c && s))
+none_matches false c a s e = refl
+none_matches true true a s e = absurd (cc)
+none_matches true false true s e = refl
+none_matches true false false s e = refl
 
 module _ {C S : Type 0} (has : C → List ℕ → Bool) (class : C) (side : S) where
   -- the group of the names that the move matches
@@ -27,8 +33,17 @@ module _ {C S : Type 0} (has : C → List ℕ → Bool) (class : C) (side : S) w
   inside_sides : (g i : Group C S) → IsInside g i → (p : S → Bool) → AllPass p g.sides.items → p side ≡ true → AllPass p i.sides.items
   inside_sides g i is p h s = subst (AllPass p) (sym is.sides_are) (all_push (λ w. p w ≡ true) g.sides.items side h s)
 
+  -- it matches none of them
+  pub divides_none : (g : Group C S) (old new : List (Group C S)) → new ≡ old ++ g ∷ [] → IsPartBy has true g.class class None → Divides has class side g old new
+  divides_none g old new is none = record {
+    taken = λ p x.
+        ap (any_group has p x) is ∙ list_any-append (group_refuses has p x) old (g ∷ [])
+        ∙ ap (λ w. any_group has p x old || w) (none_matches (has g.class x) (has class x) (list_any p g.sides.items) (p side) (none x));
+    sides = λ p h k s. subst (AllSides p) (sym is) (all_push (λ (w : Group C S). AllPass p w.sides.items) old g h k);
+  }
+
   -- it matches all of them
-  pub divides_all : (g i : Group C S) (old new : List (Group C S)) → new ≡ old ++ i ∷ [] → IsInside g i → IsPartBy has false g.class class None → Divides has class side g old new
+  divides_all : (g i : Group C S) (old new : List (Group C S)) → new ≡ old ++ i ∷ [] → IsInside g i → IsPartBy has false g.class class None → Divides has class side g old new
   divides_all g i old new is inside none = record {
     taken = λ p x.
         ap (any_group has p x) is ∙ list_any-append (group_refuses has p x) old (i ∷ [])
@@ -38,7 +53,7 @@ module _ {C S : Type 0} (has : C → List ℕ → Bool) (class : C) (side : S) w
   }
 
   -- it matches some of them
-  pub divides_both : (g i o : Group C S) (old mid new : List (Group C S)) → mid ≡ old ++ i ∷ [] → new ≡ mid ++ o ∷ [] → IsInside g i
+  divides_both : (g i o : Group C S) (old mid new : List (Group C S)) → mid ≡ old ++ i ∷ [] → new ≡ mid ++ o ∷ [] → IsInside g i
       → IsPartBy has false g.class class (Some o.class) → o.sides.items ≡ g.sides.items → Divides has class side g old new
   divides_both g i o old mid new first second inside outside same = record {
     taken = λ p x.
@@ -63,6 +78,18 @@ module _ {C S : Type 0} (has : C → List ℕ → Bool) (class : C) (side : S) w
       or_first : (x y : Bool) → ((x || false) || y) ≡ (x || y)
       or_first true y = refl
       or_first false y = refl
+
+  -- the names that it matches stand behind the groups, and then those that it doesn't
+  pub divides : (g : Group C S) (inside : C) (old mid new : List (Group C S)) → IsPartBy has true g.class class (Some inside)
+      → AddsInside inside g.sides.items side old mid → AddsOutside has class g mid new → Divides has class side g old new
+  divides g inside old mid new is first second = divides_in second.part second.is second.items
+    where
+      group_is : IsInside g first.group
+      group_is = record { class_is = λ x. ap (λ w. has w x) first.class_is ∙ is x; sides_are = first.sides_are }
+
+      divides_in : (part : Option C) → IsPartBy has false g.class class part → IsPartAdded g mid new part → Divides has class side g old new
+      divides_in None none same = divides_all g first.group old new (same ∙ first.items) group_is none
+      divides_in (Some part) outside added = divides_both g first.group (record g { class = part }) old mid new first.items added group_is outside refl
 
   -- some groups were divided, and others are left
   pub record DividesFirst (initial divided left : List (Group C S)) : Type 0 where

@@ -1,6 +1,6 @@
 -- On moves that lead to the states that stand in for theirs.
-use Rattle.std.proofs.Common.{◌≡◌, ℕ, ◌+◌, ◌<◌, ◌≤◌, ◌++◌, take, get_or, append_assoc, inl, inr, Bool, false, ◌&&◌, ◌||◌, List, [], ◌∷◌, map, length, refl, ap, sym, ◌∙◌, arith}
-use Rattle.std.specs.List.{list_any}
+use Rattle.std.proofs.Common.{◌≡◌, ℕ, ◌+◌, ◌<◌, ◌≤◌, ◌++◌, take, get_or, append_assoc, inl, inr, Bool, false, ◌&&◌, ◌||◌, List, [], ◌∷◌, map, length, refl, ap, sym, subst, ◌∙◌, arith}
+use Rattle.std.specs.List.{AllByRecursion, list_any}
 use Rattle.std.proofs.lemmas.Bool.{cases_lt}
 use Rattle.std.proofs.lemmas.List.{get_or_past, take_more}
 use Rattle.xd_doc.specs.Document.{Document, empty, text, element}
@@ -11,6 +11,7 @@ use Rattle.xd_auto.specs.declared.auto.TextMove.{TextMove}
 use Rattle.xd_auto.specs.Automaton.{Automaton, ChangesOnly, IsState, StateMoves, accepts, moves_at, no_moves, state_number, with_label_move, with_text_move}
 use Rattle.xd_boole.specs.Merging.{AreStandIns, IsRedirected, RedirectsFirst, RedirectsLabels, RedirectsTexts, redirected, text_redirected, stand_in}
 use Rattle.xd_boole.proofs.Expanding.{given_moves}
+use Rattle.xd_boole.proofs.MergeLemmas.{stand_in_there}
 
 any_map : {X : Type 0} (h : X → X) (f g : X → Bool) (xs : List X) → ((x : X) → f (h x) ≡ g x) → list_any f (map h xs) ≡ list_any g xs
 any_map h f g [] same = refl
@@ -44,6 +45,10 @@ module _ (a : Automaton) (same : List State) (made : Automaton) (n : ℕ) (stand
       ∙ ap (λ w. class_has m.class l && (accepts a c m.content && w)) (redirected_accepts r (stand_in same m.rest) ∙ stand.accept r m.rest))
 
 -- ---- one more move
+
+-- what stands in for a state belongs to an automaton with as many states
+pub stands_within : (same : List State) (s t : State) (old mid : Automaton) → length mid ≡ length old → AllByRecursion (IsState old) same → IsState old s → t ≡ stand_in same s → IsState mid t
+stands_within same s t old mid count all there is = subst (λ n. state_number t < n) (sym count) (subst (IsState old) (sym is) (stand_in_there old same s all there))
 
 changes_then : (s : State) (a b c : Automaton) → ChangesOnly s a b → ChangesOnly s b c → ChangesOnly s a c
 changes_then s a b c one two = record { states = two.states ∙ one.states; others = λ t other. two.others t other ∙ one.others t other }

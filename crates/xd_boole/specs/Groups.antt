@@ -1,5 +1,5 @@
 -- Names in groups that the same moves match. Of this only private contracts speak.
-use Rattle.std.specs.Prelude.{◌≡◌, ℕ, zero, suc, Bool, true, false, not, cond, ◌&&◌, ◌||◌, List, [], ◌∷◌, Option, Some, None}
+use Rattle.std.specs.Prelude.{◌≡◌, ℕ, zero, suc, Bool, true, false, not, cond, ◌&&◌, ◌||◌, List, [], ◌∷◌, ◌++◌, Option, Some, None}
 use Rattle.std.specs.List.{AllByRecursion, list_any}
 use Rattle.xd_doc.specs.Document.{Document}
 use Rattle.xd_doc.specs.Classes.{LabelClass, TextClass, class_has}
@@ -28,6 +28,24 @@ AllPass {S = S} p sides = AllByRecursion (λ s. p s ≡ true) sides
 
 abbrev pub AllSides : {C S : Type 0} → (S → Bool) → List (Group C S) → Type 0
 AllSides {C = C} {S = S} p groups = AllByRecursion (λ (g : Group C S). AllPass p g.sides.items) groups
+
+-- the names that a move matches were put behind the groups, with the move's side
+pub record AddsInside {C S : Type 0} (inside : C) (sides : List S) (side : S) (old new : List (Group C S)) : Type 0 where
+  pub group : Group C S
+  pub items : new ≡ old ++ group ∷ []
+  pub class_is : group.class ≡ inside
+  pub sides_are : group.sides.items ≡ sides ++ side ∷ []
+
+-- the names of the group that make up this part were put behind the groups, if there is one
+abbrev pub IsPartAdded : {C S : Type 0} → Group C S → List (Group C S) → List (Group C S) → Option C → Type 0
+IsPartAdded {C = C} {S = S} g old new None = new ≡ old
+IsPartAdded {C = C} {S = S} g old new (Some part) = new ≡ old ++ record g { class = part } ∷ []
+
+-- the names of the group that a move on this class doesn't match were put behind the groups
+pub record AddsOutside {C S : Type 0} (has : C → List ℕ → Bool) (class : C) (g : Group C S) (old new : List (Group C S)) : Type 0 where
+  pub part : Option C
+  pub is : IsPartBy has false g.class class part
+  pub items : IsPartAdded g old new part
 
 -- a group was put behind the others, divided by a move on this class
 pub record Divides {C S : Type 0} (has : C → List ℕ → Bool) (class : C) (side : S) (g : Group C S) (old new : List (Group C S)) : Type 0 where

@@ -4,6 +4,7 @@ ghost use Rattle.std.specs.Prelude.{◌≡◌, ◌+◌, ◌<◌, ◌&&◌, ◌�
 ghost use Rattle.std.specs.List.{AllByRecursion};
 ghost use Rattle.xd_doc.specs.Document.{Document};
 ghost use Rattle.xd_doc.specs.Classes.{class_has};
+ghost use Rattle.xd_auto.specs.declared.auto.State.{State};
 ghost use Rattle.xd_auto.specs.Automaton.{Extends, IsState, accepts};
 ghost use Rattle.xd_empty.specs.Parts.{IsInhabitedPart};
 ghost use Rattle.xd_boole.specs.Meaning.{any_accepts, element_of, is_state, less, means, move_takes, text_of, text_takes};
@@ -271,6 +272,38 @@ fn difference(
     Ok((points, start))
 }
 
+/// The states of an automaton as what is taken away: those that are like each other are made one.
+fn taken_from(alloc: Global, part: &Auto) -> Result<Taken, NoMemory>
+    ensures count { IfOk result (λ taken. length taken.auto ≡ length part.now) }
+    ensures same { IfOk result (λ taken. (d : Document) (s : State) → accepts taken.auto d s ≡ accepts part.now d s) }
+    ensures universal { IfOk result (λ taken. MarkUniversal taken.auto taken.universal.items) }
+{
+    let auto = merged(alloc, part)?;
+    let universal = universal_states(alloc, &auto)?;
+    Ok(Taken { auto, universal })
+}
+
+/// Adds a state that accepts what `left` accepts and `right`, a state of what is taken away, doesn't.
+fn subtract_taken(
+    alloc: Global,
+    auto: &mut Auto,
+    left: State,
+    taken: &Taken,
+    right: State,
+) -> Result<State, NoMemory>
+    requires left { IsState auto.old left }
+    requires right { IsState taken.now.auto right }
+    requires universal { MarkUniversal taken.now.auto taken.now.universal.items }
+    ensures belongs { IfOk result (IsState auto.new) }
+    ensures exact { IfOk result (λ made. (d : Document) → accepts auto.new d made ≡ (accepts auto.old d left && not (accepts taken.now.auto d right))) }
+    ensures extends { Extends auto.old auto.new }
+{
+    let (points, start) = difference(alloc, auto, taken, left, right)?;
+    let marks = inhabited(alloc, &points.made)?;
+    let state = place_points(alloc, auto, &taken.auto, &points, &marks, start)?;
+    Ok(state)
+}
+
 /// Adds a state that accepts what `left` accepts and `right`, a state of the other automaton, doesn't.
 ///
 /// A new state stands for a state of the automaton as it was, and a set of states of the other one,
@@ -296,16 +329,8 @@ pub fn subtract(
     ensures extends { Extends auto.old auto.new }
 {
     let (part, right) = trim(alloc, other, right)?;
-    let part = merged(alloc, &part)?;
-    let universal = universal_states(alloc, &part)?;
-    let taken = Taken {
-        auto: part,
-        universal,
-    };
-    let (points, start) = difference(alloc, auto, &taken, left, right)?;
-    let marks = inhabited(alloc, &points.made)?;
-    let state = place_points(alloc, auto, &taken.auto, &points, &marks, start)?;
-    Ok(state)
+    let taken = taken_from(alloc, &part)?;
+    subtract_taken(alloc, auto, left, &taken, right)
 }
 
 /// A state that accepts exactly what the first accepts and the second doesn't, by [`subtract`] from a

@@ -4,7 +4,7 @@ ghost use Rattle.std.specs.Prelude.{◌≡◌, ◌<◌, ◌&&◌, ◌++◌, ◌�
 ghost use Rattle.std.specs.List.{All, AllByRecursion};
 ghost use Rattle.xd_doc.specs.Classes.{class_has};
 ghost use Rattle.xd_auto.specs.Automaton.{IsState, has_label, has_text};
-ghost use Rattle.xd_boole.specs.Groups.{AreLabelGroups, AreTextGroups, Divides, DividesAll, DividesBy, IsPartBy, label_side};
+ghost use Rattle.xd_boole.specs.Groups.{AddsInside, AddsOutside, AreLabelGroups, AreTextGroups, Divides, DividesAll, DividesBy, IsPartBy, label_side};
 
 use std::alloc::Global;
 use xd_auto::{Auto, LabelMove, Move, State, TextMove};
@@ -119,6 +119,41 @@ fn with_side<S: Copy>(alloc: Global, sides: &[S], side: S) -> Result<Vec<S>, NoM
     Ok(made)
 }
 
+/// Puts the names of a group that a move matches behind the groups, with the move's side.
+fn add_inside<C: Drop, S: Copy>(
+    alloc: Global,
+    groups: &mut Vec<Group<C, S>>,
+    inside: C,
+    sides: &[S],
+    side: S,
+) -> Result<(), NoMemory>
+    ensures { OnOk result (AddsInside inside sides.now side groups.old.items groups.new.items) }
+{
+    let sides = with_side(alloc, sides, side)?;
+    groups.push(Group {
+        class: inside,
+        sides,
+    })?;
+    Ok(())
+}
+
+/// Puts the names of a group that a move doesn't match behind the groups, if there are any.
+fn add_outside<C: Divisible, S: Copy>(
+    groups: &mut Vec<Group<C, S>>,
+    group: Group<C, S>,
+    class: &C,
+) -> Result<(), NoMemory>
+    ensures { OnOk result (AddsOutside C.has class.now group groups.old.items groups.new.items) }
+{
+    if let Some(outside) = group.class.without(class)? {
+        groups.push(Group {
+            class: outside,
+            sides: group.sides,
+        })?;
+    }
+    Ok(())
+}
+
 /// Divides a group into the names that a move matches and those that it doesn't.
 fn divide<C: Divisible, S: Copy>(
     alloc: Global,
@@ -133,18 +168,8 @@ fn divide<C: Divisible, S: Copy>(
         groups.push(group)?;
         return Ok(());
     };
-    let sides = with_side(alloc, &group.sides, side)?;
-    groups.push(Group {
-        class: inside,
-        sides,
-    })?;
-    if let Some(outside) = group.class.without(class)? {
-        groups.push(Group {
-            class: outside,
-            sides: group.sides,
-        })?;
-    }
-    Ok(())
+    add_inside(alloc, groups, inside, &group.sides, side)?;
+    add_outside(groups, group, class)
 }
 
 /// Divides each group by a move.

@@ -1,3 +1,4 @@
+use Rattle.std.proofs.lemmas.Result.{IfOk-from_err}
 use Rattle.std.proofs.Common.{◌≡◌, ◌==◌, ℕ, length, vec_len, ap, sym, ◌∙◌, subst, arith}
 use Rattle.xd_auto.specs.Automaton.{ChangesOnly, moves_at}
 use Rattle.xd_boole.specs.Meaning.{PointView, element_of, is_whole, text_of, less, means}
@@ -40,3 +41,21 @@ returns-then-is_empty c =
       expanded = one_skipped a b p c.args.number c.requires.expanded (ap is_whole (sym c.in_ok-left.ensures) ∙ ap (λ n. n == 0) none);
       grows = points_same p;
     }
+
+pub returns-in_err-left : goal.returns-in_err-left
+returns-in_err-left c = record {
+  expanded = IfOk-from_err c.from_residual.result _ c.from_residual.ensures.0;
+  grows = IfOk-from_err c.from_residual.result _ c.from_residual.ensures.0;
+}
+
+pub returns-in_err-labels : goal.returns-in_err-labels
+returns-in_err-labels c = record {
+  expanded = IfOk-from_err c.from_residual-in_err-labels.result _ c.from_residual-in_err-labels.ensures.0;
+  grows = IfOk-from_err c.from_residual-in_err-labels.result _ c.from_residual-in_err-labels.ensures.0;
+}
+
+pub returns-in_err-texts : goal.returns-in_err-texts
+returns-in_err-texts c = record {
+  expanded = IfOk-from_err c.from_residual-in_err-texts.result _ c.from_residual-in_err-texts.ensures.0;
+  grows = IfOk-from_err c.from_residual-in_err-texts.result _ c.from_residual-in_err-texts.ensures.0;
+}

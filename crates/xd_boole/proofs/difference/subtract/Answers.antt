@@ -1,38 +1,23 @@
 use Rattle.std.proofs.Common.{◌&&◌, not, ap, refl, ◌∙◌}
+use Rattle.std.proofs.lemmas.Result.{IfOk-weaker}
 use Rattle.xd_auto.specs.Automaton.{accepts}
 use Rattle.xd_auto.proofs.Extending.{Extends-same}
-use Rattle.xd_boole.specs.Meaning.{PointView, means}
-use Rattle.xd_boole.proofs.Bools.{or_nothing}
 use Rattle.xd_boole.proofs.difference.subtract.Goals as goal
 
 pub returns-clause-exact : goal.returns-clause-exact
-returns-clause-exact c = λ d.
-    let a = c.args.auto.now in
-    let b = c.in_ok-part-2.part in
-    c.in_ok-state.ensures.exact d ∙ ap (λ (q : PointView). means a b q d) c.in_ok-points.ensures.start.is
-    ∙ ap (λ w. accepts a d c.args.left && not w)
-    (or_nothing (accepts b d c.in_ok-part.right) ∙ c.in_ok-part-2.ensures.same d c.in_ok-part.right ∙ c.in_ok-part.ensures.ok d)
+returns-clause-exact c =
+    IfOk-weaker c.subtract_taken.result _ _
+    (λ made exact d. exact d ∙ ap (λ w. accepts c.args.auto.now d c.args.left && not w) (c.in_ok-taken.ensures.same d c.in_ok-part.right ∙ c.in_ok-part.ensures.ok d))
+    c.subtract_taken.ensures.exact
 
 pub returns-in_err-part-clause-extends : goal.returns-in_err-part-clause-extends
 returns-in_err-part-clause-extends c = Extends-same c.args.auto.now c.args.auto.now refl
 
-pub returns-in_err-part-2-clause-extends : goal.returns-in_err-part-2-clause-extends
-returns-in_err-part-2-clause-extends c = Extends-same c.args.auto.now c.args.auto.now refl
-
-pub returns-in_err-universal-clause-extends : goal.returns-in_err-universal-clause-extends
-returns-in_err-universal-clause-extends c = Extends-same c.args.auto.now c.args.auto.now refl
-
-pub returns-in_err-points-clause-extends : goal.returns-in_err-points-clause-extends
-returns-in_err-points-clause-extends c = Extends-same c.args.auto.now c.args.auto.now refl
-
-pub returns-in_err-marks-clause-extends : goal.returns-in_err-marks-clause-extends
-returns-in_err-marks-clause-extends c = Extends-same c.args.auto.now c.args.auto.now refl
-
-pub returns-in_err-state-clause-extends : goal.returns-in_err-state-clause-extends
-returns-in_err-state-clause-extends c = c.place_points.ensures.extends
+pub returns-in_err-taken-clause-extends : goal.returns-in_err-taken-clause-extends
+returns-in_err-taken-clause-extends c = Extends-same c.args.auto.now c.args.auto.now refl
 
 pub returns-clause-extends : goal.returns-clause-extends
-returns-clause-extends c = c.place_points.ensures.extends
+returns-clause-extends c = c.subtract_taken.ensures.extends
 
 pub returns-clause-belongs : goal.returns-clause-belongs
-returns-clause-belongs c = c.in_ok-state.ensures.belongs
+returns-clause-belongs c = c.subtract_taken.ensures.belongs

@@ -47,3 +47,11 @@ returns c = record {
       ∙ ap (λ w. class_has c.args.step.now.class q.label && not w) (any_walked (λ s. accepts c.args.auto.now (element_of q) s) c.args.states.now c.loop-state.state-index c.loop-state-test.false);
   sides = c.loop-state.invariant.sides;
 }
+
+pub label_moves-requires : goal.label_moves-requires
+label_moves-requires c =
+    (all_step (IsState c.args.auto.now) c.args.states.now c.loop-state.state-index _ c.loop-state-test.true (at_itself c.args.states.now c.loop-state.state-index (state_at 0) c.loop-state-test.true) c.loop-state.invariant.left).0
+
+pub matching-requires : goal.matching-requires
+matching-requires c =
+    (all_step (IsState c.args.auto.now) c.args.states.now c.loop-state.state-index _ c.loop-state-test.true (at_itself c.args.states.now c.loop-state.state-index (state_at 0) c.loop-state-test.true) c.loop-state.invariant.left).0
