@@ -29,6 +29,16 @@ pub(crate) struct Task {
     pub(crate) states: usize,
 }
 
+/// What the choice tree of an element grows in: the automaton, the documents that refute goals, its task, and the right heads
+/// that match.
+#[derive(Clone, Copy)]
+pub(crate) struct Setting<'a> {
+    pub(crate) auto: &'a Auto,
+    pub(crate) store: &'a Store,
+    pub(crate) task: Task,
+    pub(crate) sides: &'a [Side],
+}
+
 /// A tree by its root, none of whose leaves names a refuted goal; or a content and a rest of an
 /// element that no right head takes.
 #[derive(Clone, Copy)]
@@ -138,42 +148,37 @@ enum Growth {
 /// there is none, the element separates.
 fn next_growth(
     alloc: Global,
-    auto: &Auto,
-    store: &Store,
+    setting: &Setting,
     answers: &mut Answers,
     goals: &mut Goals,
-    task: Task,
-    sides: &[Side],
     contents: &[State],
     rests: &[State],
 ) -> Result<Growth, NoMemory>
-    requires consistent { IsConsistent task.states goals.old }
-    requires owner { task.owner.goal.number < length goals.old.rows.items }
-    requires path { IsPathBelow task.states task sides.now contents.now rests.now }
-    requires states { task.states ≡ length auto.now }
-    requires separated { AreSeparated auto.now store.now goals.old.rows.items }
-    requires right { AreRight auto.now store.now answers.old }
-    ensures consistent { IsConsistent task.states goals.new }
+    requires consistent { IsConsistent setting.now.task.states goals.old }
+    requires owner { setting.now.task.owner.goal.number < length goals.old.rows.items }
+    requires path { IsPathBelow setting.now.task.states setting.now.task setting.now.sides.now contents.now rests.now }
+    requires states { setting.now.task.states ≡ length setting.now.auto.now }
+    requires separated { AreSeparated setting.now.auto.now setting.now.store.now goals.old.rows.items }
+    requires right { AreRight setting.now.auto.now setting.now.store.now answers.old }
+    ensures consistent { IsConsistent setting.now.task.states goals.new }
     ensures grows { Grows (view_of goals.old) (view_of goals.new) }
     ensures growth { IfOk result (GoesOnAs
-        (HasOpenTree (view_of goals.new) (λ tree. IsGrown goals.new.rows.items task sides.now tree contents.now rests.now) task.owner)
-        (IsFailure auto.now store.now task sides.now)
-        (IsFree sides.now contents.now rests.now)) }
-    ensures right { AreRight auto.now store.now answers.new }
+        (HasOpenTree (view_of goals.new) (λ tree. IsGrown goals.new.rows.items setting.now.task setting.now.sides.now tree contents.now rests.now) setting.now.task.owner)
+        (IsFailure setting.now.auto.now setting.now.store.now setting.now.task setting.now.sides.now)
+        (IsFree setting.now.sides.now contents.now rests.now)) }
+    ensures right { AreRight setting.now.auto.now setting.now.store.now answers.new }
 {
-    let content = leaf(alloc, goals, task, task.content, contents)?;
+    let content = leaf(alloc, goals, setting.task, setting.task.content, contents)?;
     let Standing::Refuted(inside) = goals.standing(content) else {
-        let leaf = add_node(goals, task.states, ChoiceNode::Content(content))?;
+        let leaf = add_node(goals, setting.task.states, ChoiceNode::Content(content))?;
         return Ok(Growth::Ends(Grown::Stands(leaf)));
     };
-    let rest = leaf(alloc, goals, task, task.rest, rests)?;
+    let rest = leaf(alloc, goals, setting.task, setting.task.rest, rests)?;
     let Standing::Refuted(behind) = goals.standing(rest) else {
-        let leaf = add_node(goals, task.states, ChoiceNode::Rest(rest))?;
+        let leaf = add_node(goals, setting.task.states, ChoiceNode::Rest(rest))?;
         return Ok(Growth::Ends(Grown::Stands(leaf)));
     };
-    match taker(
-        auto, store, answers, task, sides, contents, rests, inside, behind,
-    )? {
+    match taker(setting, answers, contents, rests, inside, behind)? {
         Some(side) => Ok(Growth::Splits(side)),
         None => Ok(Growth::Ends(Grown::Fails(inside, behind))),
     }
@@ -182,47 +187,38 @@ fn next_growth(
 /// A tree for an element, from a path on which some of the matching right heads are on the two sides.
 pub(crate) fn grow(
     alloc: Global,
-    auto: &Auto,
-    store: &Store,
+    setting: &Setting,
     answers: &mut Answers,
     goals: &mut Goals,
-    task: Task,
-    sides: &[Side],
     contents: &[State],
     rests: &[State],
 ) -> Result<Grown, NoMemory>
-    requires consistent { IsConsistent task.states goals.old }
-    requires owner { task.owner.goal.number < length goals.old.rows.items }
-    requires path { IsPathBelow task.states task sides.now contents.now rests.now }
-    requires states { task.states ≡ length auto.now }
-    requires separated { AreSeparated auto.now store.now goals.old.rows.items }
-    requires right { AreRight auto.now store.now answers.old }
-    ensures consistent { IsConsistent task.states goals.new }
+    requires consistent { IsConsistent setting.now.task.states goals.old }
+    requires owner { setting.now.task.owner.goal.number < length goals.old.rows.items }
+    requires path { IsPathBelow setting.now.task.states setting.now.task setting.now.sides.now contents.now rests.now }
+    requires states { setting.now.task.states ≡ length setting.now.auto.now }
+    requires separated { AreSeparated setting.now.auto.now setting.now.store.now goals.old.rows.items }
+    requires right { AreRight setting.now.auto.now setting.now.store.now answers.old }
+    ensures consistent { IsConsistent setting.now.task.states goals.new }
     ensures grows { Grows (view_of goals.old) (view_of goals.new) }
     ensures grown { IfOk result (GrownAs
-        (HasOpenTree (view_of goals.new) (λ tree. IsGrown goals.new.rows.items task sides.now tree contents.now rests.now) task.owner)
-        (IsFailure auto.now store.now task sides.now)) }
-    ensures right { AreRight auto.now store.now answers.new }
+        (HasOpenTree (view_of goals.new) (λ tree. IsGrown goals.new.rows.items setting.now.task setting.now.sides.now tree contents.now rests.now) setting.now.task.owner)
+        (IsFailure setting.now.auto.now setting.now.store.now setting.now.task setting.now.sides.now)) }
+    ensures right { AreRight setting.now.auto.now setting.now.store.now answers.new }
 {
-    let side = match next_growth(
-        alloc, auto, store, answers, goals, task, sides, contents, rests,
-    )? {
+    let side = match next_growth(alloc, setting, answers, goals, contents, rests)? {
         Growth::Ends(grown) => return Ok(grown),
         Growth::Splits(side) => side,
     };
     let more = with_state(alloc, contents, side.content)?;
-    match grow(
-        alloc, auto, store, answers, goals, task, sides, &more, rests,
-    )? {
+    match grow(alloc, setting, answers, goals, &more, rests)? {
         Grown::Fails(inside, behind) => Ok(Grown::Fails(inside, behind)),
         Grown::Stands(one) => {
             let more = with_state(alloc, rests, side.rest)?;
-            match grow(
-                alloc, auto, store, answers, goals, task, sides, contents, &more,
-            )? {
+            match grow(alloc, setting, answers, goals, contents, &more)? {
                 Grown::Fails(inside, behind) => Ok(Grown::Fails(inside, behind)),
                 Grown::Stands(two) => {
-                    let root = add_split(goals, task, side.number, one, two)?;
+                    let root = add_split(goals, setting.task, side.number, one, two)?;
                     Ok(Grown::Stands(root))
                 }
             }
@@ -266,36 +262,31 @@ fn split_again(
 /// A leaf that names this goal: as it is, or grown anew where the goal is refuted.
 fn repair_leaf(
     alloc: Global,
-    auto: &Auto,
-    store: &Store,
+    setting: &Setting,
     answers: &mut Answers,
     goals: &mut Goals,
-    task: Task,
-    sides: &[Side],
     root: usize,
     goal: GoalId,
     contents: &[State],
     rests: &[State],
 ) -> Result<Grown, NoMemory>
-    requires consistent { IsConsistent task.states goals.old }
-    requires owner { task.owner.goal.number < length goals.old.rows.items }
-    requires path { IsPathBelow task.states task sides.now contents.now rests.now }
-    requires states { task.states ≡ length auto.now }
-    requires separated { AreSeparated auto.now store.now goals.old.rows.items }
-    requires right { AreRight auto.now store.now answers.old }
+    requires consistent { IsConsistent setting.now.task.states goals.old }
+    requires owner { setting.now.task.owner.goal.number < length goals.old.rows.items }
+    requires path { IsPathBelow setting.now.task.states setting.now.task setting.now.sides.now contents.now rests.now }
+    requires states { setting.now.task.states ≡ length setting.now.auto.now }
+    requires separated { AreSeparated setting.now.auto.now setting.now.store.now goals.old.rows.items }
+    requires right { AreRight setting.now.auto.now setting.now.store.now answers.old }
     requires there { goal.number < length goals.old.rows.items }
-    requires opens { ¬ (IsRefuted goals.old.rows.items goal.number) → HasOpenTree (view_of goals.old) (λ tree. IsGrown goals.old.rows.items task sides.now tree contents.now rests.now) task.owner root }
-    ensures consistent { IsConsistent task.states goals.new }
+    requires opens { ¬ (IsRefuted goals.old.rows.items goal.number) → HasOpenTree (view_of goals.old) (λ tree. IsGrown goals.old.rows.items setting.now.task setting.now.sides.now tree contents.now rests.now) setting.now.task.owner root }
+    ensures consistent { IsConsistent setting.now.task.states goals.new }
     ensures grows { Grows (view_of goals.old) (view_of goals.new) }
     ensures grown { IfOk result (GrownAs
-        (HasOpenTree (view_of goals.new) (λ tree. IsGrown goals.new.rows.items task sides.now tree contents.now rests.now) task.owner)
-        (IsFailure auto.now store.now task sides.now)) }
-    ensures right { AreRight auto.now store.now answers.new }
+        (HasOpenTree (view_of goals.new) (λ tree. IsGrown goals.new.rows.items setting.now.task setting.now.sides.now tree contents.now rests.now) setting.now.task.owner)
+        (IsFailure setting.now.auto.now setting.now.store.now setting.now.task setting.now.sides.now)) }
+    ensures right { AreRight setting.now.auto.now setting.now.store.now answers.new }
 {
     if goals.is_refuted(goal) {
-        grow(
-            alloc, auto, store, answers, goals, task, sides, contents, rests,
-        )
+        grow(alloc, setting, answers, goals, contents, rests)
     } else {
         Ok(Grown::Stands(root))
     }
@@ -304,57 +295,57 @@ fn repair_leaf(
 /// The tree of this root with each leaf that names a refuted goal grown anew.
 pub(crate) fn repair(
     alloc: Global,
-    auto: &Auto,
-    store: &Store,
+    setting: &Setting,
     answers: &mut Answers,
     goals: &mut Goals,
-    task: Task,
-    sides: &[Side],
     root: usize,
     contents: &[State],
     rests: &[State],
 ) -> Result<Grown, NoMemory>
-    requires consistent { IsConsistent task.states goals.old }
-    requires owner { task.owner.goal.number < length goals.old.rows.items }
-    requires path { IsPathBelow task.states task sides.now contents.now rests.now }
-    requires states { task.states ≡ length auto.now }
-    requires separated { AreSeparated auto.now store.now goals.old.rows.items }
-    requires right { AreRight auto.now store.now answers.old }
-    requires tree { HasTree (view_of goals.old) (λ tree. IsGrown goals.old.rows.items task sides.now tree contents.now rests.now) task.owner root }
-    ensures consistent { IsConsistent task.states goals.new }
+    requires consistent { IsConsistent setting.now.task.states goals.old }
+    requires owner { setting.now.task.owner.goal.number < length goals.old.rows.items }
+    requires path { IsPathBelow setting.now.task.states setting.now.task setting.now.sides.now contents.now rests.now }
+    requires states { setting.now.task.states ≡ length setting.now.auto.now }
+    requires separated { AreSeparated setting.now.auto.now setting.now.store.now goals.old.rows.items }
+    requires right { AreRight setting.now.auto.now setting.now.store.now answers.old }
+    requires tree { HasTree (view_of goals.old) (λ tree. IsGrown goals.old.rows.items setting.now.task setting.now.sides.now tree contents.now rests.now) setting.now.task.owner root }
+    ensures consistent { IsConsistent setting.now.task.states goals.new }
     ensures grows { Grows (view_of goals.old) (view_of goals.new) }
     ensures grown { IfOk result (GrownAs
-        (HasOpenTree (view_of goals.new) (λ tree. IsGrown goals.new.rows.items task sides.now tree contents.now rests.now) task.owner)
-        (IsFailure auto.now store.now task sides.now)) }
-    ensures right { AreRight auto.now store.now answers.new }
+        (HasOpenTree (view_of goals.new) (λ tree. IsGrown goals.new.rows.items setting.now.task setting.now.sides.now tree contents.now rests.now) setting.now.task.owner)
+        (IsFailure setting.now.auto.now setting.now.store.now setting.now.task setting.now.sides.now)) }
+    ensures right { AreRight setting.now.auto.now setting.now.store.now answers.new }
 {
     match node_at(&goals.nodes, root) {
         ChoiceNode::Content(goal) => repair_leaf(
-            alloc, auto, store, answers, goals, task, sides, root, goal, contents, rests,
+            alloc, setting, answers, goals, root, goal, contents, rests,
         ),
         ChoiceNode::Rest(goal) => repair_leaf(
-            alloc, auto, store, answers, goals, task, sides, root, goal, contents, rests,
+            alloc, setting, answers, goals, root, goal, contents, rests,
         ),
         ChoiceNode::Split {
             right,
             content,
             rest,
         } => {
-            let side = side_numbered(sides, right);
+            let side = side_numbered(setting.sides, right);
             let more = with_state(alloc, contents, side.content)?;
-            match repair(
-                alloc, auto, store, answers, goals, task, sides, content, &more, rests,
-            )? {
+            match repair(alloc, setting, answers, goals, content, &more, rests)? {
                 Grown::Fails(inside, behind) => Ok(Grown::Fails(inside, behind)),
                 Grown::Stands(one) => {
                     let more = with_state(alloc, rests, side.rest)?;
-                    match repair(
-                        alloc, auto, store, answers, goals, task, sides, rest, contents, &more,
-                    )? {
+                    match repair(alloc, setting, answers, goals, rest, contents, &more)? {
                         Grown::Fails(inside, behind) => Ok(Grown::Fails(inside, behind)),
                         Grown::Stands(two) => {
                             let root = split_again(
-                                goals, task, root, right, content, rest, one, two,
+                                goals,
+                                setting.task,
+                                root,
+                                right,
+                                content,
+                                rest,
+                                one,
+                                two,
                             )?;
                             Ok(Grown::Stands(root))
                         }

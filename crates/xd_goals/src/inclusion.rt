@@ -1,11 +1,14 @@
 //! The decision of inclusion.
 
-ghost use Rattle.std.specs.Prelude.{◌≡◌, ◌<◌, length, slice_get, IfOk, OnOk, Some};
+ghost use Rattle.std.specs.Prelude.{◌≡◌, ◌<◌, List, length, slice_get, IfOk, OnOk, Some};
 ghost use Rattle.std.specs.Option.{IfSome};
 ghost use Rattle.std.specs.List.{AllByRecursion};
 ghost use Rattle.xd_doc.specs.Stored.{Keeps};
+ghost use Rattle.xd_auto.specs.declared.auto.State.{State};
 ghost use Rattle.xd_auto.specs.Automaton.{IsState};
 ghost use Rattle.xd_member.specs.Kept.{AreRight};
+ghost use Rattle.xd_state_heads.specs.Moves.{claim_with};
+ghost use Rattle.xd_goals.specs.Rows.{claim_at};
 ghost use Rattle.xd_goals.specs.Kept.{IsWhole, view_of};
 ghost use Rattle.xd_goals.specs.Standing.{KeepsGoals, StandsOn};
 ghost use Rattle.xd_goals.specs.Reached.{IsWaitingIn};
@@ -77,6 +80,28 @@ fn decide_in(
 {
     let asked = find_or_add(alloc, goals, auto.len(), left, rights)?;
     let mut answers = Answers::new(alloc);
+    settle(alloc, auto, goals, asked, store, &mut answers)
+}
+
+/// Works until the goal that was asked is refuted, or leads to no goal that waits.
+fn settle(
+    alloc: Global,
+    auto: &Auto,
+    goals: &mut Goals,
+    asked: GoalId,
+    store: &mut Store,
+    answers: &mut Answers,
+) -> Result<Verdict, NoMemory>
+    requires whole { IsWhole goals.old }
+    requires asked { asked.number < length goals.old.rows.items }
+    requires stands { StandsOn auto.now store.old (view_of goals.old) }
+    requires right { AreRight auto.now store.old answers.old }
+    ensures whole { IsWhole goals.new }
+    ensures verdict { (left : State) (rights : List State) → claim_at goals.old.rows.items asked.number ≡ Some (claim_with left rights) → IfOk result (IsVerdict auto.now store.new (view_of goals.new) left rights) }
+    ensures stands { StandsOn auto.now store.new (view_of goals.new) }
+    ensures goals { KeepsGoals (view_of goals.old) (view_of goals.new) }
+    ensures keeps { Keeps store.old store.new }
+{
     loop {
         if let Standing::Refuted(document) = goals.standing(asked) {
             return Ok(Verdict::Separated(document));
@@ -84,7 +109,7 @@ fn decide_in(
         let mut agenda = unsettled(alloc, goals, asked)?;
         match agenda.pop() {
             None => return Ok(Verdict::Included(asked)),
-            Some(goal) => run(alloc, auto, goals, asked, goal, agenda, store, &mut answers)?,
+            Some(goal) => run(alloc, auto, goals, asked, goal, &mut agenda, store, answers)?,
         }
     }
 }
@@ -97,14 +122,14 @@ fn run(
     goals: &mut Goals,
     asked: GoalId,
     goal: GoalId,
-    agenda: Vec<GoalId>,
+    agenda: &mut Vec<GoalId>,
     store: &mut Store,
     answers: &mut Answers,
 ) -> Result<(), NoMemory>
     requires whole { IsWhole goals.old }
     requires asked { asked.number < length goals.old.rows.items }
     requires goal { IsWaitingIn goals.old.rows.items goal }
-    requires agenda { AllByRecursion (IsGoalBelow (length goals.old.rows.items)) agenda.items }
+    requires agenda { AllByRecursion (IsGoalBelow (length goals.old.rows.items)) agenda.old.items }
     requires stands { StandsOn auto.now store.old (view_of goals.old) }
     requires right { AreRight auto.now store.old answers.old }
     ensures whole { IsWhole goals.new }
@@ -115,13 +140,12 @@ fn run(
     ensures lowers { OnOk result (Lowers goals.old.rows.items goals.new.rows.items) }
     ensures right { OnOk result (AreRight auto.now store.new answers.new) }
 {
-    let mut agenda = agenda;
-    step(alloc, auto, goals, goal, &mut agenda, store, answers)?;
-    while let Some(goal) = next_waiting(goals, &mut agenda) {
+    step(alloc, auto, goals, goal, agenda, store, answers)?;
+    while let Some(goal) = next_waiting(goals, agenda) {
         if let Standing::Refuted(_) = goals.standing(asked) {
             return Ok(());
         }
-        step(alloc, auto, goals, goal, &mut agenda, store, answers)?;
+        step(alloc, auto, goals, goal, agenda, store, answers)?;
     }
     Ok(())
 }

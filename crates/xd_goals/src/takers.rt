@@ -8,7 +8,7 @@ ghost use Rattle.xd_member.specs.Kept.{AreRight};
 ghost use Rattle.xd_goals.specs.Trees.{IsTaker, takes};
 ghost use Rattle.xd_state_heads.specs.declared.heads.Side.{Side};
 
-use crate::grow::{Task, side_of};
+use crate::grow::{Setting, side_of};
 use xd_auto::{Auto, State};
 use xd_doc::{Label, NoMemory, Seq, Store};
 use xd_member::{Answers, accepts_kept};
@@ -89,37 +89,34 @@ fn looks_covered(auto: &Auto, left: State, states: &[State], more: State) -> boo
 /// are refuted in the end, and until then they lead to others, which stay. So a head that lacks a label right at
 /// the beginning is put off.
 pub(crate) fn taker(
-    auto: &Auto,
-    store: &Store,
+    setting: &Setting,
     answers: &mut Answers,
-    task: Task,
-    sides: &[Side],
     contents: &[State],
     rests: &[State],
     inside: Seq,
     behind: Seq,
 ) -> Result<Option<Side>, NoMemory>
-    requires content { IsState auto.now task.content }
-    requires rest { IsState auto.now task.rest }
-    requires sides { AllByRecursion (λ (side : Side). (IsState auto.now side.content) × (IsState auto.now side.rest)) sides.now }
-    requires contents { AllByRecursion (IsState auto.now) contents.now }
-    requires rests { AllByRecursion (IsState auto.now) rests.now }
-    requires inside { BelongsTo store.now inside }
-    requires behind { BelongsTo store.now behind }
-    requires right { AreRight auto.now store.now answers.old }
+    requires content { IsState setting.now.auto.now setting.now.task.content }
+    requires rest { IsState setting.now.auto.now setting.now.task.rest }
+    requires sides { AllByRecursion (λ (side : Side). (IsState setting.now.auto.now side.content) × (IsState setting.now.auto.now side.rest)) setting.now.sides.now }
+    requires contents { AllByRecursion (IsState setting.now.auto.now) contents.now }
+    requires rests { AllByRecursion (IsState setting.now.auto.now) rests.now }
+    requires inside { BelongsTo setting.now.store.now inside }
+    requires behind { BelongsTo setting.now.store.now behind }
+    requires right { AreRight setting.now.auto.now setting.now.store.now answers.old }
     ensures found { IfOk result (λ found. MatchOption found
-        (AllByRecursion (λ (side : Side). takes auto.now store.now inside behind side ≡ false) sides.now)
-        (IsTaker auto.now store.now sides.now inside behind)) }
-    ensures right { AreRight auto.now store.now answers.new }
+        (AllByRecursion (λ (side : Side). takes setting.now.auto.now setting.now.store.now inside behind side ≡ false) setting.now.sides.now)
+        (IsTaker setting.now.auto.now setting.now.store.now setting.now.sides.now inside behind)) }
+    ensures right { AreRight setting.now.auto.now setting.now.store.now answers.new }
 {
     let mut first = None;
-    for place in 0..sides.len() {
-        let side = side_of(sides, place);
-        if !is_taker(auto, store, answers, side, inside, behind)? {
+    for place in 0..setting.sides.len() {
+        let side = side_of(setting.sides, place);
+        if !is_taker(setting.auto, setting.store, answers, side, inside, behind)? {
             continue;
         }
-        if looks_covered(auto, task.content, contents, side.content)
-            && looks_covered(auto, task.rest, rests, side.rest)
+        if looks_covered(setting.auto, setting.task.content, contents, side.content)
+            && looks_covered(setting.auto, setting.task.rest, rests, side.rest)
         {
             return Ok(Some(side));
         }

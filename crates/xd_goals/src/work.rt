@@ -17,7 +17,7 @@ ghost use Rattle.xd_goals.specs.Measure.{AreMadeFrom, Lowers};
 ghost use Rattle.xd_goals.specs.declared.table.Standing.TheVariants.{Waiting};
 
 use crate::goals::{Goals, hold, refute, set_root, set_standing};
-use crate::grow::{Grown, Task, grow, grow_text, node_at, repair};
+use crate::grow::{Grown, Setting, Task, grow, grow_text, node_at, repair};
 use crate::settled::no_marks;
 use crate::table::{Choice, ChoiceNode, GoalCase, GoalId, Row, Standing};
 use std::alloc::Global;
@@ -121,7 +121,13 @@ fn begin_case(
     if is_text(&case.atom) {
         grow_text(alloc, goals, task, &sides)
     } else {
-        grow(alloc, auto, store, answers, goals, task, &sides, &[], &[])
+        let setting = Setting {
+            auto,
+            store,
+            task,
+            sides: &sides,
+        };
+        grow(alloc, &setting, answers, goals, &[], &[])
     }
 }
 
@@ -266,18 +272,13 @@ fn mend_choice(
     if is_text(&choice.atom) {
         grow_text(alloc, goals, task, &sides)
     } else {
-        repair(
-            alloc,
+        let setting = Setting {
             auto,
             store,
-            answers,
-            goals,
             task,
-            &sides,
-            choice.root,
-            &[],
-            &[],
-        )
+            sides: &sides,
+        };
+        repair(alloc, &setting, answers, goals, choice.root, &[], &[])
     }
 }
 

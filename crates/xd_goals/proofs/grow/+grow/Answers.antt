@@ -13,17 +13,17 @@ pub grow-requires : goal.grow-requires
 grow-requires t c =
     let free = rw c.in-Splits.is at c.in_ok-grown.ensures.growth in
     let e : c.deref.result.now ≡ with_state c.in-Splits.side.content c.args.contents.now = c.deref.ensures.value ∙ c.in_ok-more.ensures in (
-      omega (arith, falls_content c.args.sides.now c.args.contents.now c.args.rests.now c.in-Splits.side free c.deref.result.now e, c.decreases),
+      omega (arith, falls_content c.args.setting.now.sides.now c.args.contents.now c.args.rests.now c.in-Splits.side free c.deref.result.now e, c.decreases),
       (
         c.next_growth.ensures.consistent,
         (
           omega (arith, c.next_growth.ensures.grows.longer, c.requires.owner),
           (
-            content_path c.args.sides.now c.args.contents.now c.args.rests.now c.in-Splits.side free.place free.found c.args.task.states c.args.task c.requires.path c.deref.result.now e,
+            content_path c.args.setting.now.sides.now c.args.contents.now c.args.rests.now c.in-Splits.side free.place free.found c.args.setting.now.task.states c.args.setting.now.task c.requires.path c.deref.result.now e,
             (
               c.requires.states,
               (
-                separated-grows c.args.auto.now c.args.store.now (view_of c.args.goals.now) (view_of c.next_growth.new.goals) c.next_growth.ensures.grows c.requires.separated,
+                separated-grows c.args.setting.now.auto.now c.args.setting.now.store.now (view_of c.args.goals.now) (view_of c.next_growth.new.goals) c.next_growth.ensures.grows c.requires.separated,
                 c.next_growth.ensures.right,
               ),
             ),
@@ -36,17 +36,17 @@ pub grow-requires-in-Stands : goal.grow-requires-in-Stands
 grow-requires-in-Stands t c =
     let free = rw c.in-Splits.is at c.in_ok-grown.ensures.growth in
     let e : c.deref-in-Stands.result.now ≡ with_state c.in-Splits.side.rest c.args.rests.now = c.deref-in-Stands.ensures.value ∙ c.in_ok-more-in-Stands.ensures in (
-      omega (arith, falls_rest c.args.sides.now c.args.contents.now c.args.rests.now c.in-Splits.side free c.deref-in-Stands.result.now e, c.decreases),
+      omega (arith, falls_rest c.args.setting.now.sides.now c.args.contents.now c.args.rests.now c.in-Splits.side free c.deref-in-Stands.result.now e, c.decreases),
       (
         c.grow.ensures.consistent,
         (
           omega (arith, c.next_growth.ensures.grows.longer, c.grow.ensures.grows.longer, c.requires.owner),
           (
-            rest_path c.args.sides.now c.args.contents.now c.args.rests.now c.in-Splits.side free.place free.found c.args.task.states c.args.task c.requires.path c.deref-in-Stands.result.now e,
+            rest_path c.args.setting.now.sides.now c.args.contents.now c.args.rests.now c.in-Splits.side free.place free.found c.args.setting.now.task.states c.args.setting.now.task c.requires.path c.deref-in-Stands.result.now e,
             (
               c.requires.states,
               (
-                separated-grows c.args.auto.now c.args.store.now (view_of c.args.goals.now) (view_of c.grow.new.goals)
+                separated-grows c.args.setting.now.auto.now c.args.setting.now.store.now (view_of c.args.goals.now) (view_of c.grow.new.goals)
                     (Grows-then (view_of c.args.goals.now) (view_of c.next_growth.new.goals) (view_of c.grow.new.goals) c.next_growth.ensures.grows c.grow.ensures.grows) c.requires.separated,
                 c.grow.ensures.right,
               ),
@@ -59,13 +59,13 @@ grow-requires-in-Stands t c =
 pub add_split-requires-clause-content : goal.add_split-requires-clause-content
 add_split-requires-clause-content t c =
     open_within-grows (view_of c.grow.new.goals) (view_of c.grow-in-Stands.new.goals) c.grow-in-Stands.ensures.grows
-    (λ tree. IsGrown c.grow.new.goals.rows.items c.args.task c.args.sides.now tree c.deref.result.now c.args.rests.now) c.args.task.owner c.in-Stands.one
+    (λ tree. IsGrown c.grow.new.goals.rows.items c.args.setting.now.task c.args.setting.now.sides.now tree c.deref.result.now c.args.rests.now) c.args.setting.now.task.owner c.in-Stands.one
     (rw c.in-Stands.is at c.in_ok-inside.ensures.grown)
 
 pub add_split-requires-clause-rest : goal.add_split-requires-clause-rest
 add_split-requires-clause-rest t c =
     HasOpenTree-within (view_of c.grow-in-Stands.new.goals)
-    (λ tree. IsGrown c.grow-in-Stands.new.goals.rows.items c.args.task c.args.sides.now tree c.args.contents.now c.deref-in-Stands.result.now) c.args.task.owner c.in-Stands-2.two
+    (λ tree. IsGrown c.grow-in-Stands.new.goals.rows.items c.args.setting.now.task c.args.setting.now.sides.now tree c.args.contents.now c.deref-in-Stands.result.now) c.args.setting.now.task.owner c.in-Stands-2.two
     (rw c.in-Stands-2.is at c.in_ok-inside-in-Stands.ensures.grown)
 
 pub returns-in_err-inside-clause-grows : goal.returns-in_err-inside-clause-grows
@@ -91,7 +91,7 @@ returns-clause-grows t c = Grows-then (view_of c.args.goals.now) (view_of c.grow
 
 pub returns-clause-grown : goal.returns-clause-grown
 returns-clause-grown t c =
-    split_tree c.args.task c.args.sides.now c.args.contents.now c.args.rests.now
+    split_tree c.args.setting.now.task c.args.setting.now.sides.now c.args.contents.now c.args.rests.now
     (view_of c.grow.new.goals) (view_of c.grow-in-Stands.new.goals) (view_of c.add_split.new.goals) c.in-Splits.side c.deref.result.now c.deref-in-Stands.result.now c.in-Stands.one c.in-Stands-2.two c.in_ok-root-in-Stands-2.root
     (rw c.in-Splits.is at c.in_ok-grown.ensures.growth) (c.deref.ensures.value ∙ c.in_ok-more.ensures) (c.deref-in-Stands.ensures.value ∙ c.in_ok-more-in-Stands.ensures)
     (rw c.in-Stands.is at c.in_ok-inside.ensures.grown) c.grow-in-Stands.ensures.grows (rw c.in-Stands-2.is at c.in_ok-inside-in-Stands.ensures.grown) c.add_split.ensures.grows

@@ -26,39 +26,39 @@ parts g task sides contents rests root right x y nodes h e at =
 pub node_at-requires : goal.node_at-requires
 node_at-requires t c =
     rw c.deref.ensures.value
-    (HasTree-within (view_of c.args.goals.now) (λ tree. IsGrown c.args.goals.now.rows.items c.args.task c.args.sides.now tree c.args.contents.now c.args.rests.now) c.args.task.owner c.args.root c.requires.tree)
+    (HasTree-within (view_of c.args.goals.now) (λ tree. IsGrown c.args.goals.now.rows.items c.args.setting.now.task c.args.setting.now.sides.now tree c.args.contents.now c.args.rests.now) c.args.setting.now.task.owner c.args.root c.requires.tree)
 
 pub repair_leaf-requires-clause-there : goal.repair_leaf-requires-clause-there
 repair_leaf-requires-clause-there t c =
-    content_there (view_of c.args.goals.now) c.args.task c.args.sides.now c.args.contents.now c.args.rests.now c.args.task.owner c.args.root c.in-Content.goal c.requires.tree
+    content_there (view_of c.args.goals.now) c.args.setting.now.task c.args.setting.now.sides.now c.args.contents.now c.args.rests.now c.args.setting.now.task.owner c.args.root c.in-Content.goal c.requires.tree
     (rw c.deref.ensures.value at c.in-Content.ensures)
 
 pub repair_leaf-requires-clause-opens : goal.repair_leaf-requires-clause-opens
 repair_leaf-requires-clause-opens t c =
-    content_open (view_of c.args.goals.now) (λ tree. IsGrown c.args.goals.now.rows.items c.args.task c.args.sides.now tree c.args.contents.now c.args.rests.now) c.args.task.owner c.args.root
+    content_open (view_of c.args.goals.now) (λ tree. IsGrown c.args.goals.now.rows.items c.args.setting.now.task c.args.setting.now.sides.now tree c.args.contents.now c.args.rests.now) c.args.setting.now.task.owner c.args.root
     c.in-Content.goal c.requires.tree (rw c.deref.ensures.value at c.in-Content.ensures)
 
 pub repair_leaf-requires-in-Rest-clause-there : goal.repair_leaf-requires-in-Rest-clause-there
 repair_leaf-requires-in-Rest-clause-there t c =
-    rest_there (view_of c.args.goals.now) c.args.task c.args.sides.now c.args.contents.now c.args.rests.now c.args.task.owner c.args.root c.in-Rest.goal c.requires.tree
+    rest_there (view_of c.args.goals.now) c.args.setting.now.task c.args.setting.now.sides.now c.args.contents.now c.args.rests.now c.args.setting.now.task.owner c.args.root c.in-Rest.goal c.requires.tree
     (rw c.deref.ensures.value at c.in-Rest.ensures)
 
 pub repair_leaf-requires-in-Rest-clause-opens : goal.repair_leaf-requires-in-Rest-clause-opens
 repair_leaf-requires-in-Rest-clause-opens t c =
-    rest_open (view_of c.args.goals.now) (λ tree. IsGrown c.args.goals.now.rows.items c.args.task c.args.sides.now tree c.args.contents.now c.args.rests.now) c.args.task.owner c.args.root
+    rest_open (view_of c.args.goals.now) (λ tree. IsGrown c.args.goals.now.rows.items c.args.setting.now.task c.args.setting.now.sides.now tree c.args.contents.now c.args.rests.now) c.args.setting.now.task.owner c.args.root
     c.in-Rest.goal c.requires.tree (rw c.deref.ensures.value at c.in-Rest.ensures)
 
 pub side_numbered-side-requires : goal.side_numbered-side-requires
 side_numbered-side-requires t c =
-    let p = parts c.args.goals.now c.args.task c.args.sides.now c.args.contents.now c.args.rests.now c.args.root c.in-Split.right c.in-Split.content c.in-Split.rest c.deref.result.now
+    let p = parts c.args.goals.now c.args.setting.now.task c.args.setting.now.sides.now c.args.contents.now c.args.rests.now c.args.root c.in-Split.right c.in-Split.content c.in-Split.rest c.deref.result.now
     c.requires.tree c.deref.ensures.value c.in-Split.ensures in
     (p.side, record { place = p.free.place; found = p.free.found; same = sym p.number })
 
 pub repair-requires : goal.repair-requires
 repair-requires t c =
-    let p = parts c.args.goals.now c.args.task c.args.sides.now c.args.contents.now c.args.rests.now c.args.root c.in-Split.right c.in-Split.content c.in-Split.rest c.deref.result.now
+    let p = parts c.args.goals.now c.args.setting.now.task c.args.setting.now.sides.now c.args.contents.now c.args.rests.now c.args.root c.in-Split.right c.in-Split.content c.in-Split.rest c.deref.result.now
     c.requires.tree c.deref.ensures.value c.in-Split.ensures in
-    let s = same_side c.args.sides.now c.args.contents.now c.args.rests.now c.in-Split.right p.side c.side_numbered-side.result c.requires.path.apart p.number p.free c.side_numbered-side.ensures in
+    let s = same_side c.args.setting.now.sides.now c.args.contents.now c.args.rests.now c.in-Split.right p.side c.side_numbered-side.result c.requires.path.apart p.number p.free c.side_numbered-side.ensures in
     let e : c.deref-in-Split.result.now ≡ with_state p.side.content c.args.contents.now =
     c.deref-in-Split.ensures.value ∙ c.in_ok-more-in-Split.ensures ∙ ap (λ (w : Side). with_state w.content c.args.contents.now) s in (
       omega (arith, p.content_older, c.decreases),
@@ -67,14 +67,14 @@ repair-requires t c =
         (
           c.requires.owner,
           (
-            content_path c.args.sides.now c.args.contents.now c.args.rests.now p.side p.free.place p.free.found c.args.task.states c.args.task c.requires.path c.deref-in-Split.result.now e,
+            content_path c.args.setting.now.sides.now c.args.contents.now c.args.rests.now p.side p.free.place p.free.found c.args.setting.now.task.states c.args.setting.now.task c.requires.path c.deref-in-Split.result.now e,
             (
               c.requires.states,
               (
                 c.requires.separated,
                 (
                   c.requires.right,
-                  subst (λ (cs : List State). HasTree (view_of c.args.goals.now) (λ tree. IsGrown c.args.goals.now.rows.items c.args.task c.args.sides.now tree cs c.args.rests.now) c.args.task.owner c.in-Split.content)
+                  subst (λ (cs : List State). HasTree (view_of c.args.goals.now) (λ tree. IsGrown c.args.goals.now.rows.items c.args.setting.now.task c.args.setting.now.sides.now tree cs c.args.rests.now) c.args.setting.now.task.owner c.in-Split.content)
                       (sym e) p.content,
                 ),
               ),
@@ -86,9 +86,9 @@ repair-requires t c =
 
 pub repair-requires-in-Stands : goal.repair-requires-in-Stands
 repair-requires-in-Stands t c =
-    let p = parts c.args.goals.now c.args.task c.args.sides.now c.args.contents.now c.args.rests.now c.args.root c.in-Split.right c.in-Split.content c.in-Split.rest c.deref.result.now
+    let p = parts c.args.goals.now c.args.setting.now.task c.args.setting.now.sides.now c.args.contents.now c.args.rests.now c.args.root c.in-Split.right c.in-Split.content c.in-Split.rest c.deref.result.now
     c.requires.tree c.deref.ensures.value c.in-Split.ensures in
-    let s = same_side c.args.sides.now c.args.contents.now c.args.rests.now c.in-Split.right p.side c.side_numbered-side.result c.requires.path.apart p.number p.free c.side_numbered-side.ensures in
+    let s = same_side c.args.setting.now.sides.now c.args.contents.now c.args.rests.now c.in-Split.right p.side c.side_numbered-side.result c.requires.path.apart p.number p.free c.side_numbered-side.ensures in
     let f : c.deref-in-Stands.result.now ≡ with_state p.side.rest c.args.rests.now =
     c.deref-in-Stands.ensures.value ∙ c.in_ok-more-in-Stands.ensures ∙ ap (λ (w : Side). with_state w.rest c.args.rests.now) s in (
       omega (arith, p.rest_older, c.decreases),
@@ -97,20 +97,20 @@ repair-requires-in-Stands t c =
         (
           omega (arith, c.in_ok-inside-in-Split.ensures.grows.longer, c.requires.owner),
           (
-            rest_path c.args.sides.now c.args.contents.now c.args.rests.now p.side p.free.place p.free.found c.args.task.states c.args.task c.requires.path c.deref-in-Stands.result.now f,
+            rest_path c.args.setting.now.sides.now c.args.contents.now c.args.rests.now p.side p.free.place p.free.found c.args.setting.now.task.states c.args.setting.now.task c.requires.path c.deref-in-Stands.result.now f,
             (
               c.requires.states,
               (
-                separated-grows c.args.auto.now c.args.store.now (view_of c.args.goals.now) (view_of c.repair.new.goals) c.in_ok-inside-in-Split.ensures.grows c.requires.separated,
+                separated-grows c.args.setting.now.auto.now c.args.setting.now.store.now (view_of c.args.goals.now) (view_of c.repair.new.goals) c.in_ok-inside-in-Split.ensures.grows c.requires.separated,
                 (
                   c.in_ok-inside-in-Split.ensures.right,
-                  subst (λ (rs : List State). HasTree (view_of c.repair.new.goals) (λ tree. IsGrown c.repair.new.goals.rows.items c.args.task c.args.sides.now tree c.args.contents.now rs) c.args.task.owner c.in-Split.rest)
+                  subst (λ (rs : List State). HasTree (view_of c.repair.new.goals) (λ tree. IsGrown c.repair.new.goals.rows.items c.args.setting.now.task c.args.setting.now.sides.now tree c.args.contents.now rs) c.args.setting.now.task.owner c.in-Split.rest)
                       (sym f)
                       (HasTree-grows (view_of c.args.goals.now) (view_of c.repair.new.goals) c.in_ok-inside-in-Split.ensures.grows
-                      (λ tree. IsGrown c.args.goals.now.rows.items c.args.task c.args.sides.now tree c.args.contents.now (with_state p.side.rest c.args.rests.now))
-                      (λ tree. IsGrown c.repair.new.goals.rows.items c.args.task c.args.sides.now tree c.args.contents.now (with_state p.side.rest c.args.rests.now))
-                      (λ tree k. IsGrown-grows (view_of c.args.goals.now) (view_of c.repair.new.goals) c.in_ok-inside-in-Split.ensures.grows c.args.task c.args.sides.now tree c.args.contents.now (with_state p.side.rest c.args.rests.now) k)
-                      c.args.task.owner c.in-Split.rest p.rest),
+                      (λ tree. IsGrown c.args.goals.now.rows.items c.args.setting.now.task c.args.setting.now.sides.now tree c.args.contents.now (with_state p.side.rest c.args.rests.now))
+                      (λ tree. IsGrown c.repair.new.goals.rows.items c.args.setting.now.task c.args.setting.now.sides.now tree c.args.contents.now (with_state p.side.rest c.args.rests.now))
+                      (λ tree k. IsGrown-grows (view_of c.args.goals.now) (view_of c.repair.new.goals) c.in_ok-inside-in-Split.ensures.grows c.args.setting.now.task c.args.setting.now.sides.now tree c.args.contents.now (with_state p.side.rest c.args.rests.now) k)
+                      c.args.setting.now.task.owner c.in-Split.rest p.rest),
                 ),
               ),
             ),
@@ -122,32 +122,32 @@ repair-requires-in-Stands t c =
 pub split_again-requires-clause-one : goal.split_again-requires-clause-one
 split_again-requires-clause-one t c =
     open_within-grows (view_of c.repair.new.goals) (view_of c.repair-in-Stands.new.goals) c.in_ok-inside-in-Stands.ensures.grows
-    (λ tree. IsGrown c.repair.new.goals.rows.items c.args.task c.args.sides.now tree c.deref-in-Split.result.now c.args.rests.now) c.args.task.owner c.in-Stands.one
+    (λ tree. IsGrown c.repair.new.goals.rows.items c.args.setting.now.task c.args.setting.now.sides.now tree c.deref-in-Split.result.now c.args.rests.now) c.args.setting.now.task.owner c.in-Stands.one
     (rw c.in-Stands.is at c.in_ok-inside-in-Split.ensures.grown)
 
 pub split_again-requires-clause-two : goal.split_again-requires-clause-two
 split_again-requires-clause-two t c =
     HasOpenTree-within (view_of c.repair-in-Stands.new.goals)
-    (λ tree. IsGrown c.repair-in-Stands.new.goals.rows.items c.args.task c.args.sides.now tree c.args.contents.now c.deref-in-Stands.result.now) c.args.task.owner c.in-Stands-2.two
+    (λ tree. IsGrown c.repair-in-Stands.new.goals.rows.items c.args.setting.now.task c.args.setting.now.sides.now tree c.args.contents.now c.deref-in-Stands.result.now) c.args.setting.now.task.owner c.in-Stands-2.two
     (rw c.in-Stands-2.is at c.in_ok-inside-in-Stands.ensures.grown)
 
 pub returns-clause-grown : goal.returns-clause-grown
 returns-clause-grown t c =
-    let p = parts c.args.goals.now c.args.task c.args.sides.now c.args.contents.now c.args.rests.now c.args.root c.in-Split.right c.in-Split.content c.in-Split.rest c.deref.result.now
+    let p = parts c.args.goals.now c.args.setting.now.task c.args.setting.now.sides.now c.args.contents.now c.args.rests.now c.args.root c.in-Split.right c.in-Split.content c.in-Split.rest c.deref.result.now
     c.requires.tree c.deref.ensures.value c.in-Split.ensures in
-    let s = same_side c.args.sides.now c.args.contents.now c.args.rests.now c.in-Split.right p.side c.side_numbered-side.result c.requires.path.apart p.number p.free c.side_numbered-side.ensures in
+    let s = same_side c.args.setting.now.sides.now c.args.contents.now c.args.rests.now c.in-Split.right p.side c.side_numbered-side.result c.requires.path.apart p.number p.free c.side_numbered-side.ensures in
     let e : c.deref-in-Split.result.now ≡ with_state p.side.content c.args.contents.now =
     c.deref-in-Split.ensures.value ∙ c.in_ok-more-in-Split.ensures ∙ ap (λ (w : Side). with_state w.content c.args.contents.now) s in
     let f : c.deref-in-Stands.result.now ≡ with_state p.side.rest c.args.rests.now =
     c.deref-in-Stands.ensures.value ∙ c.in_ok-more-in-Stands.ensures ∙ ap (λ (w : Side). with_state w.rest c.args.rests.now) s in
-    split_tree c.args.task c.args.sides.now c.args.contents.now c.args.rests.now
+    split_tree c.args.setting.now.task c.args.setting.now.sides.now c.args.contents.now c.args.rests.now
     (view_of c.repair.new.goals) (view_of c.repair-in-Stands.new.goals) (view_of c.split_again.new.goals) p.side c.deref-in-Split.result.now c.deref-in-Stands.result.now c.in-Stands.one c.in-Stands-2.two c.in_ok-root-in-Stands-2.root
     p.free e f (rw c.in-Stands.is at c.in_ok-inside-in-Split.ensures.grown) c.in_ok-inside-in-Stands.ensures.grows (rw c.in-Stands-2.is at c.in_ok-inside-in-Stands.ensures.grown) c.split_again.ensures.grows
     (subst (λ (n : ℕ). IsSplitAt c.split_again.new.goals.nodes.items n c.in-Stands.one c.in-Stands-2.two c.in_ok-root-in-Stands-2.root) p.number c.in_ok-root-in-Stands-2.ensures.split)
 
 pub split_again-requires-clause-there : goal.split_again-requires-clause-there
 split_again-requires-clause-there t c =
-    let p = parts c.args.goals.now c.args.task c.args.sides.now c.args.contents.now c.args.rests.now c.args.root c.in-Split.right c.in-Split.content c.in-Split.rest c.deref.result.now
+    let p = parts c.args.goals.now c.args.setting.now.task c.args.setting.now.sides.now c.args.contents.now c.args.rests.now c.args.root c.in-Split.right c.in-Split.content c.in-Split.rest c.deref.result.now
     c.requires.tree c.deref.ensures.value c.in-Split.ensures in
     split_stays (view_of c.args.goals.now) (view_of c.repair-in-Stands.new.goals) (Grows-then (view_of c.args.goals.now) (view_of c.repair.new.goals) (view_of c.repair-in-Stands.new.goals) c.repair.ensures.grows c.repair-in-Stands.ensures.grows)
     c.in-Split.right c.in-Split.content c.in-Split.rest c.args.root (rw c.deref.ensures.value at c.in-Split.ensures) p.content_older p.rest_older

@@ -16,7 +16,7 @@ pub returns-in_default : goal.returns-in_default
 returns-in_default c = record {
   consistent = c.in_ok-leaf.ensures.consistent;
   grows = Grows-then (view_of c.args.goals.now) (view_of c.leaf.new.goals) (view_of c.add_node.new.goals) c.in_ok-content.ensures.grows c.in_ok-leaf.ensures.grows;
-  growth = content_leaf c.args.task c.args.sides.now c.args.contents.now c.args.rests.now (view_of c.leaf.new.goals) (view_of c.add_node.new.goals) c.in_ok-content.content c.in_ok-leaf.leaf
+  growth = content_leaf c.args.setting.now.task c.args.setting.now.sides.now c.args.contents.now c.args.rests.now (view_of c.leaf.new.goals) (view_of c.add_node.new.goals) c.in_ok-content.content c.in_ok-leaf.leaf
       c.in_ok-content.ensures.ok (read_open c.leaf.new.goals.rows.items c.in_ok-content.content.number c.standing.result c.standing.ensures c.in_default.not-Refuted) c.in_ok-leaf.ensures.grows c.in_ok-leaf.ensures.found;
   right = c.requires.right;
 }
@@ -29,7 +29,7 @@ returns-in_default-standing c = record {
   consistent = c.in_ok-leaf-2.ensures.consistent;
   grows = Grows-then (view_of c.args.goals.now) (view_of c.leaf.new.goals) (view_of c.add_node-in_default-standing.new.goals) c.in_ok-content.ensures.grows
       (Grows-then (view_of c.leaf.new.goals) (view_of c.leaf-2.new.goals) (view_of c.add_node-in_default-standing.new.goals) c.in_ok-rest.ensures.grows c.in_ok-leaf-2.ensures.grows);
-  growth = rest_leaf c.args.task c.args.sides.now c.args.contents.now c.args.rests.now (view_of c.leaf-2.new.goals) (view_of c.add_node-in_default-standing.new.goals) c.in_ok-rest.rest c.in_ok-leaf-2.leaf
+  growth = rest_leaf c.args.setting.now.task c.args.setting.now.sides.now c.args.contents.now c.args.rests.now (view_of c.leaf-2.new.goals) (view_of c.add_node-in_default-standing.new.goals) c.in_ok-rest.rest c.in_ok-leaf-2.leaf
       c.in_ok-rest.ensures.ok (read_open c.leaf-2.new.goals.rows.items c.in_ok-rest.rest.number c.standing-2.result c.standing-2.ensures c.in_default-standing.not-Refuted) c.in_ok-leaf-2.ensures.grows c.in_ok-leaf-2.ensures.found;
   right = c.requires.right;
 }
@@ -47,16 +47,16 @@ pub taker-requires-clause-rests : goal.taker-requires-clause-rests
 taker-requires-clause-rests c = rw c.requires.states at c.requires.path.rests_below
 
 -- what the documents say that refute the two leaves' goals
-inside_separates : (c : In-Refuted-standing) → IsSeparatedBy c.args.auto.now c.args.store.now (claim_with c.args.task.content c.args.contents.now) c.in-Refuted.inside
+inside_separates : (c : In-Refuted-standing) → IsSeparatedBy c.args.setting.now.auto.now c.args.setting.now.store.now (claim_with c.args.setting.now.task.content c.args.contents.now) c.in-Refuted.inside
 inside_separates c =
-    leaf_separated c.args.auto.now c.args.store.now (view_of c.args.goals.now) (view_of c.leaf.new.goals) c.in_ok-content.ensures.grows c.requires.separated c.args.task.owner
-    (claim_with c.args.task.content c.args.contents.now) c.in_ok-content.content c.standing.result c.in-Refuted.inside c.in_ok-content.ensures.ok c.standing.ensures c.in-Refuted.is
+    leaf_separated c.args.setting.now.auto.now c.args.setting.now.store.now (view_of c.args.goals.now) (view_of c.leaf.new.goals) c.in_ok-content.ensures.grows c.requires.separated c.args.setting.now.task.owner
+    (claim_with c.args.setting.now.task.content c.args.contents.now) c.in_ok-content.content c.standing.result c.in-Refuted.inside c.in_ok-content.ensures.ok c.standing.ensures c.in-Refuted.is
 
-behind_separates : (c : In-Refuted-standing) → IsSeparatedBy c.args.auto.now c.args.store.now (claim_with c.args.task.rest c.args.rests.now) c.in-Refuted-standing.behind
+behind_separates : (c : In-Refuted-standing) → IsSeparatedBy c.args.setting.now.auto.now c.args.setting.now.store.now (claim_with c.args.setting.now.task.rest c.args.rests.now) c.in-Refuted-standing.behind
 behind_separates c =
-    leaf_separated c.args.auto.now c.args.store.now (view_of c.args.goals.now) (view_of c.leaf-2.new.goals)
-    (Grows-then (view_of c.args.goals.now) (view_of c.leaf.new.goals) (view_of c.leaf-2.new.goals) c.in_ok-content.ensures.grows c.in_ok-rest.ensures.grows) c.requires.separated c.args.task.owner
-    (claim_with c.args.task.rest c.args.rests.now) c.in_ok-rest.rest c.standing-2.result c.in-Refuted-standing.behind c.in_ok-rest.ensures.ok c.standing-2.ensures c.in-Refuted-standing.is
+    leaf_separated c.args.setting.now.auto.now c.args.setting.now.store.now (view_of c.args.goals.now) (view_of c.leaf-2.new.goals)
+    (Grows-then (view_of c.args.goals.now) (view_of c.leaf.new.goals) (view_of c.leaf-2.new.goals) c.in_ok-content.ensures.grows c.in_ok-rest.ensures.grows) c.requires.separated c.args.setting.now.task.owner
+    (claim_with c.args.setting.now.task.rest c.args.rests.now) c.in_ok-rest.rest c.standing-2.result c.in-Refuted-standing.behind c.in_ok-rest.ensures.ok c.standing-2.ensures c.in-Refuted-standing.is
 
 pub taker-requires-clause-inside : goal.taker-requires-clause-inside
 taker-requires-clause-inside c = (inside_separates (goal.at.taker-requires-clause-inside c).In-Refuted-standing).belongs
@@ -76,7 +76,7 @@ returns-in-None-clause-grows c = Grows-then (view_of c.args.goals.now) (view_of 
 pub returns-in-Some-clause-growth : goal.returns-in-Some-clause-growth
 returns-in-Some-clause-growth c =
     let at = (goal.at.returns-in-Some-clause-growth c).In-Refuted-standing in
-    taker_free c.args.auto.now c.args.store.now c.args.task.content c.args.task.rest c.args.sides.now c.args.contents.now c.args.rests.now c.in-Refuted.inside c.in-Refuted-standing.behind c.in-Some.side
+    taker_free c.args.setting.now.auto.now c.args.setting.now.store.now c.args.setting.now.task.content c.args.setting.now.task.rest c.args.setting.now.sides.now c.args.contents.now c.args.rests.now c.in-Refuted.inside c.in-Refuted-standing.behind c.in-Some.side
     (inside_separates at) (behind_separates at) (rw c.in-Some.is at c.in_ok-side.ensures.found)
 
 pub returns-in-None-clause-growth : goal.returns-in-None-clause-growth

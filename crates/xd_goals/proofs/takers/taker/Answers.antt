@@ -10,44 +10,44 @@ use Rattle.xd_goals.proofs.takers.taker.Goals as goal
 
 pub looks_covered-requires-clause-more : goal.looks_covered-requires-clause-more
 looks_covered-requires-clause-more c =
-    (all_at (λ (s : Side). (IsState c.args.auto.now s.content) × (IsState c.args.auto.now s.rest)) c.args.sides.now c.loop-place.place c.side_of-side.result c.requires.sides c.side_of-side.ensures).0
+    (all_at (λ (s : Side). (IsState c.args.setting.now.auto.now s.content) × (IsState c.args.setting.now.auto.now s.rest)) c.args.setting.now.sides.now c.loop-place.place c.side_of-side.result c.requires.sides c.side_of-side.ensures).0
 
 pub looks_covered-requires-then-looks_covered-clause-more : goal.looks_covered-requires-then-looks_covered-clause-more
 looks_covered-requires-then-looks_covered-clause-more c =
-    (all_at (λ (s : Side). (IsState c.args.auto.now s.content) × (IsState c.args.auto.now s.rest)) c.args.sides.now c.loop-place.place c.side_of-side.result c.requires.sides c.side_of-side.ensures).1
+    (all_at (λ (s : Side). (IsState c.args.setting.now.auto.now s.content) × (IsState c.args.setting.now.auto.now s.rest)) c.args.setting.now.sides.now c.loop-place.place c.side_of-side.result c.requires.sides c.side_of-side.ensures).1
 
 pub loop-place-preserved-then-not-branch : goal.loop-place-preserved-then-not-branch
 loop-place-preserved-then-not-branch c = record {
   right = c.is_taker.ensures.right;
-  found = none_more (λ (s : Side). takes c.args.auto.now c.args.store.now c.args.inside c.args.behind s ≡ false) (IsTaker c.args.auto.now c.args.store.now c.args.sides.now c.args.inside c.args.behind)
-      c.args.sides.now c.loop-place.place c.side_of-side.result c.loop-place.first c.side_of-side.ensures (sym c.in_ok-is_taker.ensures.answer ∙ c.if-not-branch.true) c.loop-place.invariant.found;
+  found = none_more (λ (s : Side). takes c.args.setting.now.auto.now c.args.setting.now.store.now c.args.inside c.args.behind s ≡ false) (IsTaker c.args.setting.now.auto.now c.args.setting.now.store.now c.args.setting.now.sides.now c.args.inside c.args.behind)
+      c.args.setting.now.sides.now c.loop-place.place c.side_of-side.result c.loop-place.first c.side_of-side.ensures (sym c.in_ok-is_taker.ensures.answer ∙ c.if-not-branch.true) c.loop-place.invariant.found;
   end_is = c.loop-place.invariant.end_is;
 }
 
 pub loop-place-preserved : goal.loop-place-preserved
 loop-place-preserved c = record {
   right = c.is_taker.ensures.right;
-  found = or_found (AllByRecursion (λ (s : Side). takes c.args.auto.now c.args.store.now c.args.inside c.args.behind s ≡ false) (take c.loop-place.place c.args.sides.now))
-      (AllByRecursion (λ (s : Side). takes c.args.auto.now c.args.store.now c.args.inside c.args.behind s ≡ false) (take (c.loop-place.place + 1) c.args.sides.now))
-      (IsTaker c.args.auto.now c.args.store.now c.args.sides.now c.args.inside c.args.behind) c.loop-place.first c.side_of-side.result c.or-first.result c.or-first.ensures c.loop-place.invariant.found
+  found = or_found (AllByRecursion (λ (s : Side). takes c.args.setting.now.auto.now c.args.setting.now.store.now c.args.inside c.args.behind s ≡ false) (take c.loop-place.place c.args.setting.now.sides.now))
+      (AllByRecursion (λ (s : Side). takes c.args.setting.now.auto.now c.args.setting.now.store.now c.args.inside c.args.behind s ≡ false) (take (c.loop-place.place + 1) c.args.setting.now.sides.now))
+      (IsTaker c.args.setting.now.auto.now c.args.setting.now.store.now c.args.setting.now.sides.now c.args.inside c.args.behind) c.loop-place.first c.side_of-side.result c.or-first.result c.or-first.ensures c.loop-place.invariant.found
       (record { place = c.loop-place.place; found = c.side_of-side.ensures; takes_it = sym c.in_ok-is_taker.ensures.answer ∙ c.if-not-branch.false });
   end_is = c.loop-place.invariant.end_is;
 }
 
 pub returns-clause-found : goal.returns-clause-found
 returns-clause-found c =
-    none_to (AllByRecursion (λ (s : Side). takes c.args.auto.now c.args.store.now c.args.inside c.args.behind s ≡ false) (take c.loop-place.place c.args.sides.now))
-    (AllByRecursion (λ (s : Side). takes c.args.auto.now c.args.store.now c.args.inside c.args.behind s ≡ false) c.args.sides.now)
-    (IsTaker c.args.auto.now c.args.store.now c.args.sides.now c.args.inside c.args.behind) c.loop-place.first
-    (λ h. subst (AllByRecursion (λ (s : Side). takes c.args.auto.now c.args.store.now c.args.inside c.args.behind s ≡ false))
-    (take_all c.args.sides.now c.loop-place.place (omega (arith, c.loop-place-test.false, c.loop-place.invariant.end_is))) h)
+    none_to (AllByRecursion (λ (s : Side). takes c.args.setting.now.auto.now c.args.setting.now.store.now c.args.inside c.args.behind s ≡ false) (take c.loop-place.place c.args.setting.now.sides.now))
+    (AllByRecursion (λ (s : Side). takes c.args.setting.now.auto.now c.args.setting.now.store.now c.args.inside c.args.behind s ≡ false) c.args.setting.now.sides.now)
+    (IsTaker c.args.setting.now.auto.now c.args.setting.now.store.now c.args.setting.now.sides.now c.args.inside c.args.behind) c.loop-place.first
+    (λ h. subst (AllByRecursion (λ (s : Side). takes c.args.setting.now.auto.now c.args.setting.now.store.now c.args.inside c.args.behind s ≡ false))
+    (take_all c.args.setting.now.sides.now c.loop-place.place (omega (arith, c.loop-place-test.false, c.loop-place.invariant.end_is))) h)
     c.loop-place.invariant.found
 
 pub is_taker-requires-clause-content : goal.is_taker-requires-clause-content
-is_taker-requires-clause-content c = (all_at (λ (s : Side). (IsState c.args.auto.now s.content) × (IsState c.args.auto.now s.rest)) c.args.sides.now c.loop-place.place c.side_of-side.result c.requires.sides c.side_of-side.ensures).0
+is_taker-requires-clause-content c = (all_at (λ (s : Side). (IsState c.args.setting.now.auto.now s.content) × (IsState c.args.setting.now.auto.now s.rest)) c.args.setting.now.sides.now c.loop-place.place c.side_of-side.result c.requires.sides c.side_of-side.ensures).0
 
 pub is_taker-requires-clause-rest : goal.is_taker-requires-clause-rest
-is_taker-requires-clause-rest c = (all_at (λ (s : Side). (IsState c.args.auto.now s.content) × (IsState c.args.auto.now s.rest)) c.args.sides.now c.loop-place.place c.side_of-side.result c.requires.sides c.side_of-side.ensures).1
+is_taker-requires-clause-rest c = (all_at (λ (s : Side). (IsState c.args.setting.now.auto.now s.content) × (IsState c.args.setting.now.auto.now s.rest)) c.args.setting.now.sides.now c.loop-place.place c.side_of-side.result c.requires.sides c.side_of-side.ensures).1
 
 pub loop-place-init : goal.loop-place-init
 loop-place-init c = record { right = c.requires.right; found = tt; end_is = refl }

@@ -7,7 +7,7 @@ use Rattle.xd_goals.proofs.takers.taker.Given as goal
 
 abbrev pub invariant-loop-place : goal.invariant-loop-place
 invariant-loop-place l = record {
-  right : AreRight l.auto' l.store l.answers;
-  found : MatchOption l.first (AllByRecursion (λ (s : Side). takes l.auto' l.store l.inside l.behind s ≡ false) (take l.place l.sides)) (IsTaker l.auto' l.store l.sides l.inside l.behind);
-  end_is : l.place-end ≡ length l.sides;
+  right : AreRight l.setting.auto.now l.setting.store.now l.answers;
+  found : MatchOption l.first (AllByRecursion (λ (s : Side). takes l.setting.auto.now l.setting.store.now l.inside l.behind s ≡ false) (take l.place l.setting.sides.now)) (IsTaker l.setting.auto.now l.setting.store.now l.setting.sides.now l.inside l.behind);
+  end_is : l.place-end ≡ length l.setting.sides.now;
 }

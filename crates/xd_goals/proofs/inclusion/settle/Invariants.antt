@@ -1,12 +1,10 @@
-use Rattle.std.proofs.Common.{◌+◌, ◌≡◌, Some, length}
+use Rattle.std.proofs.Common.{◌+◌, length}
 use Rattle.xd_doc.specs.Stored.{Keeps}
-use Rattle.xd_state_heads.specs.Moves.{claim_with}
-use Rattle.xd_goals.specs.Rows.{claim_at}
 use Rattle.xd_member.specs.Kept.{AreRight}
 use Rattle.xd_goals.specs.Kept.{IsWhole, view_of}
 use Rattle.xd_goals.specs.Measure.{AreMadeFrom, possible, potential}
 use Rattle.xd_goals.specs.Standing.{KeepsGoals, StandsOn}
-use Rattle.xd_goals.proofs.inclusion.decide_in.Given as goal
+use Rattle.xd_goals.proofs.inclusion.settle.Given as goal
 
 abbrev pub invariant-loop-document : goal.invariant-loop-document
 invariant-loop-document l = record {
@@ -15,10 +13,8 @@ invariant-loop-document l = record {
   kept : KeepsGoals (view_of l.fn.goals) (view_of l.goals);
   keeps : Keeps l.fn.store l.store;
   right : AreRight l.auto' l.store l.answers;
-  longer : KeepsGoals (view_of l.initial.goals) (view_of l.goals);
-  made : AreMadeFrom (length l.initial.goals.rows.items) l.goals.rows.items;
-  asked : claim_at l.goals.rows.items l.asked.number ≡ Some (claim_with l.fn.left l.rights);
+  made : AreMadeFrom (length l.fn.goals.rows.items) l.goals.rows.items;
 }
 
 abbrev pub decreases-loop-document : goal.decreases-loop-document
-decreases-loop-document l = potential (length l.initial.goals.rows.items + length (possible (length l.auto'))) l.goals.rows.items
+decreases-loop-document l = potential (length l.fn.goals.rows.items + length (possible (length l.auto'))) l.goals.rows.items

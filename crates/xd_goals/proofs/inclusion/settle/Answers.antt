@@ -1,0 +1,102 @@
+use Rattle.std.proofs.lemmas.Result.{IfOk-from_err}
+use Rattle.std.proofs.Common.{◌+◌, ◌∙◌, arith, length, sym, rules}
+use Rattle.xd_goals.specs.Kept.{view_of}
+use Rattle.xd_state_heads.specs.Moves.{claim_with}
+use Rattle.xd_goals.specs.Measure.{possible}
+use Rattle.xd_goals.specs.Reached.{IsWaitingIn}
+use Rattle.xd_goals.proofs.Facts.{keeps_goals-then, keeps-then}
+use Rattle.xd_goals.proofs.Measuring.{made-then}
+use Rattle.xd_goals.proofs.Trees.{read_open}
+use Rattle.xd_goals.proofs.Stepping.{asked_included, asked_separated, bounded, claim_stays, keeps-same, none_added, trees_there, waiting_below, keeps_goals-same, all_before, no_length}
+use Rattle.xd_goals.proofs.inclusion.settle.Goals as goal
+
+pub loop-document-init : goal.loop-document-init
+loop-document-init c = record {
+  whole = c.requires.whole;
+  stands = c.requires.stands;
+  kept = keeps_goals-same (view_of c.args.goals.now);
+  keeps = keeps-same c.args.store.now;
+  right = c.requires.right;
+  made = none_added c.args.goals.now.rows.items;
+}
+
+pub standing-requires : goal.standing-requires
+standing-requires c = omega (arith, c.loop-document.invariant.kept.longer, c.requires.asked)
+
+pub returns-in-Refuted : goal.returns-in-Refuted
+returns-in-Refuted c = record {
+  whole = c.loop-document.invariant.whole;
+  verdict = λ left rights claim.
+      asked_separated c.args.auto.now c.loop-document.store (view_of c.loop-document.goals) c.args.asked.number (claim_with left rights) c.in-Refuted.document c.loop-document.invariant.stands
+      (claim_stays (view_of c.args.goals.now) (view_of c.loop-document.goals) c.loop-document.invariant.kept c.args.asked.number (claim_with left rights) claim) (sym c.standing.ensures ∙ c.in-Refuted.is);
+  stands = c.loop-document.invariant.stands;
+  goals = c.loop-document.invariant.kept;
+  keeps = c.loop-document.invariant.keeps;
+}
+
+pub unsettled-requires : goal.unsettled-requires
+unsettled-requires c = record {
+  start = omega (arith, c.loop-document.invariant.kept.longer, c.requires.asked);
+  open_start = read_open c.loop-document.goals.rows.items c.args.asked.number c.standing.result c.standing.ensures c.in_default.not-Refuted;
+  trees = trees_there c.args.auto.now (view_of c.loop-document.goals) c.loop-document.invariant.stands.facts;
+  opens = λ i e. (c.loop-document.invariant.stands.facts.holds i e).opens;
+}
+
+pub returns-in_err-agenda : goal.returns-in_err-agenda
+returns-in_err-agenda c = record {
+  whole = c.loop-document.invariant.whole;
+  verdict = λ left rights claim. IfOk-from_err c.from_residual.result _ c.from_residual.ensures.0;
+  stands = c.loop-document.invariant.stands;
+  goals = c.loop-document.invariant.kept;
+  keeps = c.loop-document.invariant.keeps;
+}
+
+pub returns-in-None : goal.returns-in-None
+returns-in-None c = record {
+  whole = c.loop-document.invariant.whole;
+  verdict = λ left rights claim.
+      asked_included c.args.auto.now (view_of c.loop-document.goals) c.args.asked.number left rights c.loop-document.invariant.stands.facts
+      (claim_stays (view_of c.args.goals.now) (view_of c.loop-document.goals) c.loop-document.invariant.kept c.args.asked.number (claim_with left rights) claim)
+      (c.in_ok-agenda.ensures.none (no_length c.in_ok-agenda.agenda.items (search rules)));
+  stands = c.loop-document.invariant.stands;
+  goals = c.loop-document.invariant.kept;
+  keeps = c.loop-document.invariant.keeps;
+}
+
+pub run-requires : goal.run-requires
+run-requires c =
+    let parts = all_before (IsWaitingIn c.loop-document.goals.rows.items) c.pop.new.self.items c.in_ok-agenda.agenda.items c.in-Some.goal c.in-Some.ensures.items c.in_ok-agenda.ensures.waiting in
+    record {
+      whole = c.loop-document.invariant.whole;
+      asked = omega (arith, c.loop-document.invariant.kept.longer, c.requires.asked);
+      goal = parts.1;
+      agenda = waiting_below c.loop-document.goals.rows.items c.pop.new.self.items parts.0;
+      stands = c.loop-document.invariant.stands;
+      right = c.loop-document.invariant.right;
+    }
+
+pub loop-document-smaller : goal.loop-document-smaller
+loop-document-smaller c =
+    let kept = keeps_goals-then (view_of c.args.goals.now) (view_of c.loop-document.goals) (view_of c.run.new.goals) c.loop-document.invariant.kept c.run.ensures.goals in
+    let made = made-then (length c.args.goals.now.rows.items) (view_of c.loop-document.goals) (view_of c.run.new.goals) c.run.ensures.goals c.loop-document.invariant.made c.run.ensures.made in
+    c.in_ok-run-in-Some.ensures.lowers (length c.args.goals.now.rows.items + length (possible (length c.args.auto.now)))
+    (bounded c.args.auto.now (length c.args.goals.now.rows.items) (view_of c.run.new.goals) c.run.ensures.stands.facts made kept.longer)
+
+pub loop-document-preserved : goal.loop-document-preserved
+loop-document-preserved c = record {
+  whole = c.run.ensures.whole;
+  stands = c.run.ensures.stands;
+  kept = keeps_goals-then (view_of c.args.goals.now) (view_of c.loop-document.goals) (view_of c.run.new.goals) c.loop-document.invariant.kept c.run.ensures.goals;
+  keeps = keeps-then c.args.store.now c.loop-document.store c.run.new.store c.loop-document.invariant.keeps c.run.ensures.keeps;
+  right = c.in_ok-run-in-Some.ensures.right;
+  made = made-then (length c.args.goals.now.rows.items) (view_of c.loop-document.goals) (view_of c.run.new.goals) c.run.ensures.goals c.loop-document.invariant.made c.run.ensures.made;
+}
+
+pub returns-in_err-run-in-Some : goal.returns-in_err-run-in-Some
+returns-in_err-run-in-Some c = record {
+  whole = c.run.ensures.whole;
+  verdict = λ left rights claim. IfOk-from_err c.from_residual-in_err-run-in-Some.result _ c.from_residual-in_err-run-in-Some.ensures.0;
+  stands = c.run.ensures.stands;
+  goals = keeps_goals-then (view_of c.args.goals.now) (view_of c.loop-document.goals) (view_of c.run.new.goals) c.loop-document.invariant.kept c.run.ensures.goals;
+  keeps = keeps-then c.args.store.now c.loop-document.store c.run.new.store c.loop-document.invariant.keeps c.run.ensures.keeps;
+}
