@@ -1,8 +1,9 @@
 //! The check of a program.
 
-ghost use Rattle.std.specs.Prelude.{◌≡◌, [], IfOk};
+ghost use Rattle.std.specs.Prelude.{◌≡◌, [], IfOk, List};
+ghost use Rattle.xd_doc.specs.Document.{Document};
 ghost use Rattle.xd_doc.specs.Stored.{Keeps};
-ghost use Rattle.xd_syntax.specs.Kept.{program_tree};
+ghost use Rattle.xd_syntax.specs.Kept.{AddsTypes, ProgramTable, program_tree};
 ghost use Rattle.xd_check.specs.Known.{IsKnown};
 ghost use Rattle.xd_check.specs.Outcome.{AreTold, IsOutcome};
 ghost use Rattle.xd_check.specs.Ready.{IsReady};
@@ -44,15 +45,38 @@ pub fn check(
     ensures keeps { Keeps store.old store.new }
 {
     let mut auto = Auto::new(alloc);
-    let checker = Checker::new(alloc, sound, &mut auto)?;
-    let Told { faults, warnings } = told_by(alloc, &checker, &mut auto, store)?;
+    check_in(alloc, sound, &mut auto, store)
+}
+
+/// The same by an automaton that has no states yet.
+fn check_in(
+    alloc: Global,
+    sound: SoundProgram,
+    auto: &mut Auto,
+    store: &mut Store,
+) -> Result<CheckOutcome, NoMemory>
+    requires { auto.old ≡ [] }
+    ensures outcome { IfOk result (IsOutcome sound store.new) }
+    ensures keeps { Keeps store.old store.new }
+{
+    let checker = Checker::new(alloc, sound, auto)?;
+    let told = told_by(alloc, &checker, auto, store)?;
+    Ok(outcome_of(told, checker.into_sound()))
+}
+
+/// What a check gives where this was told of a program.
+fn outcome_of(told: Told, sound: SoundProgram) -> CheckOutcome
+    requires { (ds : List Document) × AreTold (program_tree sound) ds told }
+    ensures { (given : ProgramTable) (ds : List Document) → AreTold (program_tree given) ds told → AddsTypes given sound → program_tree sound ≡ program_tree given → IsOutcome given ds result }
+{
+    let Told { faults, warnings } = told;
     if !faults.is_empty() {
-        return Ok(CheckOutcome::Refused { faults, warnings });
+        return CheckOutcome::Refused { faults, warnings };
     }
-    Ok(CheckOutcome::Accepted {
-        checked: Checked::new(checker.into_sound()),
+    CheckOutcome::Accepted {
+        checked: Checked::new(sound),
         warnings,
-    })
+    }
 }
 
 /// The lines of all functions as faults and as warnings, in order.

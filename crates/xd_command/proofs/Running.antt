@@ -6,7 +6,6 @@ use Rattle.xd_auto.specs.declared.auto.State.{State}
 use Rattle.xd_doc.specs.Document.{Document}
 use Rattle.xd_syntax.specs.Tree.{Tree, Definitions}
 use Rattle.xd_syntax.specs.Program.{ProgramTree, names_of}
-use Rattle.xd_syntax.specs.CheckFaults.{IsAccepted}
 use Rattle.xd_syntax.specs.Kept.{ProgramTable, program_tree}
 use Rattle.xd_syntax.specs.Types.{tree}
 use Rattle.xd_syntax.specs.declared.types.TypeId.{TypeId}
@@ -53,7 +52,7 @@ pub has_type : (P : ProgramTree) (a : Automaton) (s : State) → IsInputTest P (
 has_type P a s h = some_type (names_of P) (input_type P) a s h
 
 module _ (holds : Holding) (rose : Type 0) (document : List ℕ) (fuel : ℕ) (P : ProgramTree) where
-  ends_at : (i : Option Tree) (o : Output) → (T : Tree) → i ≡ Some T → EndsAtDocument holds rose document o → AnswersMain holds rose document fuel P i o
+  pub ends_at : (i : Option Tree) (o : Output) → (T : Tree) → i ≡ Some T → EndsAtDocument holds rose document o → AnswersMain holds rose document fuel P i o
   ends_at None o T e h = absurd (cc)
   ends_at (Some U) o T e h = inl h
 
@@ -75,8 +74,8 @@ module _ (holds : Holding) (rose : Type 0) (document : List ℕ) (fuel : ℕ) (P
   no_type E None o t e = e
   no_type E (Some T) o t e = absurd t
 
-  pub without_test : (o : Output) → IsAccepted P → IsInputTest P None → o ≡ no_main → AnswersRun holds rose document fuel P o
-  without_test o a t e = inr (a, no_type (names_of P) (input_type P) o t e)
+  pub without_test : (o : Output) → IsInputTest P None → o ≡ no_main → AnswersMain holds rose document fuel P (input_type P) o
+  without_test o t e = no_type (names_of P) (input_type P) o t e
 
 main_later : (a b c : ℕ) {old new : Holding} (document : List ℕ) (fuel : ℕ) (P : ProgramTree) (i : Option Tree) (o : Output) → a ≤ b → new ≡ old →
     AnswersMain new (HasRisen b c) document fuel P i o → AnswersMain old (HasRisen a c) document fuel P i o

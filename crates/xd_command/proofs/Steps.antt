@@ -1,17 +1,20 @@
 -- What the steps of a command give.
-use Rattle.std.proofs.Common.{◌≡◌, ℕ, ◌≤◌, inl, inr, Bool, true, false, List, Result, Ok, Err, sym, ap, subst, ◌∙◌, arith}
+use Rattle.std.proofs.Common.{◌≡◌, ℕ, ◌≤◌, inl, inr, Bool, true, false, cond, List, Result, Ok, Err, refl, sym, ap, subst, ◌∙◌, arith}
 use Rattle.std.proofs.lemmas.Result.{err_from_is_err_and}
 use Rattle.std.specs.Result.{IsErrAnd}
 use Rattle.xd_base.specs.Outside.{HasRisen, IsLacking}
 use Rattle.xd_doc.specs.Document.{Document}
 use Rattle.xd_steps.specs.declared.output.Stop.{Stop}
 use Rattle.xd_steps.specs.declared.output.Stop.TheVariants.{Refused, NoMemory}
-use Rattle.xd_steps.specs.Output.{Output}
+use Rattle.xd_steps.specs.Output.{Output, yes, no}
 use Rattle.xd_steps.specs.Step.{DoesStep}
 use Rattle.xd_steps.specs.Texts.{Holding, IsHeld, EndsAtText, document_limit}
 use Rattle.xd_steps.specs.Documents.{EndsAtDocument, IsDocument}
-use Rattle.xd_syntax.specs.Program.{ProgramTree}
-use Rattle.xd_command.specs.Fits.{AnswersFits}
+use Rattle.xd_auto.specs.Automaton.{Automaton, accepts}
+use Rattle.xd_auto.specs.declared.auto.State.{State}
+use Rattle.xd_syntax.specs.Program.{ProgramTree, names_of}
+use Rattle.xd_syntax.specs.Sound.{is_defined, type_named}
+use Rattle.xd_command.specs.Fits.{AnswersByState, AnswersFits, AnswersMembership, IsAcceptor}
 
 -- a step ends where another does
 pub ends-map : {A B : Type 0} (ends ends' : Output → Type 0) (finds : A → Type 0) (finds' : B → Type 0) (s : Stop) → ((o : Output) → ends o → ends' o) → DoesStep (Err s) ends finds → DoesStep (Err s) ends' finds'
@@ -24,6 +27,12 @@ pub ends-returned : {A B : Type 0} (ends ends' : Output → Type 0) (finds : A �
 ends-returned ends ends' finds finds' s r e f h =
     let p = err_from_is_err_and r e in
     subst (λ x. DoesStep x ends' finds') (sym (p.1 ∙ ap (λ t. Err t) p.2)) (ends-map ends ends' finds finds' s f h)
+
+-- want of memory, as its `?` returns it, is no end of a step
+pub no-memory : {A : Type 0} (ends : Output → Type 0) (finds : A → Type 0) (r : Result A Stop) → IsErrAnd r (λ t. t ≡ NoMemory) → DoesStep r ends finds
+no-memory ends finds r e =
+    let p = err_from_is_err_and r e in
+    subst (λ x. DoesStep x ends finds) (sym (p.1 ∙ ap (λ t. Err t) p.2)) tt
 
 -- a step does what another does
 pub does-map : {A : Type 0} (ends ends' : Output → Type 0) (finds finds' : A → Type 0) (r : Result A Stop) → ((o : Output) → ends o → ends' o) → ((x : A) → finds x → finds' x) → DoesStep r ends finds → DoesStep r ends' finds'
@@ -56,3 +65,13 @@ pub fits_later : (a b c : ℕ) {old new : Holding} (name document : List ℕ) (P
 fits_later a b c {old} {new} name document P o le e (inl h) = inl h
 fits_later a b c {old} {new} name document P o le e (inr (k, inl h)) = inr (k, inl (document_later a b c {old = old} {new = new} document o le e h))
 fits_later a b c {old} {new} name document P o le e (inr (k, inr h)) = inr (k, inr (h.0, document_same {old = old} {new = new} document h.0 e h.1, h.2))
+
+-- a document that a state accepts fits the type that it stands for
+pub fits_by_state : (holds : Holding) (rose : Type 0) (name document : List ℕ) (P : ProgramTree) (a : Automaton) (s : State) (o : Output) → is_defined P name ≡ true → IsAcceptor (names_of P) (type_named name) a s →
+    AnswersByState a s holds rose document o → AnswersFits holds rose name document P o
+fits_by_state holds rose name document P a s o defined acceptor (inl e) = inr (defined, inl e)
+fits_by_state holds rose name document P a s o defined acceptor (inr h) = inr (defined, inr (h.0, h.1, tells (accepts a h.0 s) refl h.2))
+  where
+    tells : (b : Bool) → accepts a h.0 s ≡ b → o ≡ cond b yes no → AnswersMembership P name h.0 o
+    tells true e t = inl ((acceptor.1 h.0).0 e, t)
+    tells false e t = inr ((λ f. not_both (sym e ∙ (acceptor.1 h.0).1 f)), t)

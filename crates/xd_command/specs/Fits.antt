@@ -1,5 +1,5 @@
 -- What `fits` answers, behind the faults of the program.
-use Rattle.std.specs.Prelude.{◌≡◌, ◌⊎◌, ◌↔◌, ℕ, true, false, List, [], ◌∷◌, None}
+use Rattle.std.specs.Prelude.{◌≡◌, ◌⊎◌, ◌↔◌, ℕ, cond, true, false, List, [], ◌∷◌, None}
 use Rattle.xd_auto.specs.Automaton.{Automaton, accepts, IsState}
 use Rattle.xd_auto.specs.declared.auto.State.{State}
 use Rattle.xd_doc.specs.Document.{Document}
@@ -31,3 +31,13 @@ AnswersFits holds rose name document P o =
 -- the state accepts exactly what fits the type
 abbrev pub IsAcceptor : Definitions → Tree → Automaton → State → Type 0
 IsAcceptor E T a s = IsState a s × ((d : Document) → (accepts a d s ≡ true) ↔ types.Fits E T d)
+
+-- ---- of what follows only private contracts speak
+
+-- whether the state accepts the document
+abbrev pub TellsMembership : Automaton → State → Document → Output → Type 0
+TellsMembership a s d o = o ≡ cond (accepts a d s) yes no
+
+-- whether the state accepts the document of this file
+abbrev pub AnswersByState : Automaton → State → Holding → (rose : Type 0) → (document : List ℕ) → Output → Type 0
+AnswersByState a s holds rose document o = Step (EndsAtDocument holds rose document) (IsDocument holds document) (TellsMembership a s) o

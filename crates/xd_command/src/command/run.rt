@@ -154,8 +154,24 @@ fn run_program<H: Shelf>(
     ensures { DoesAll result (AnswersRun (H.holds shelf.old) (HasRisen (H.faults shelf.old) (H.faults shelf.new)) document.now fuel (program_tree sound)) }
 {
     let (test, checked) = accept(alloc, sound)?;
+    run_accepted(alloc, &test, &checked, document, fuel, shelf)
+}
+
+/// Runs the accepted program, whose input has this test, on the document of this file.
+fn run_accepted<H: Shelf>(
+    alloc: Global,
+    test: &Option<(Auto, State)>,
+    checked: &Checked,
+    document: &str,
+    fuel: u64,
+    shelf: &mut H,
+) -> Result<Output, Stop>
+    requires test { IsInputTest (program_tree checked.now) test.now }
+    requires fuel { 1 ≤ fuel }
+    ensures { DoesAll result (AnswersMain (H.holds shelf.old) (HasRisen (H.faults shelf.old) (H.faults shelf.new)) document.now fuel (program_tree checked.now) (input_type (program_tree checked.now))) }
+{
     match test {
         None => Ok(Output::no_main(alloc)?),
-        Some((auto, state)) => run_main(alloc, &checked, &auto, state, document, fuel, shelf),
+        Some((auto, state)) => run_main(alloc, checked, auto, *state, document, fuel, shelf),
     }
 }

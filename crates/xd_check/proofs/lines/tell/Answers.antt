@@ -1,3 +1,4 @@
+use Rattle.std.proofs.lemmas.Result.{IfOk-from_err}
 use Rattle.std.proofs.Common.{◌≡◌, ℕ, ◌+◌, List, [], get_or, drop, ap, sym, subst, ◌∙◌, append-nil}
 use Rattle.std.proofs.lemmas.List.{drop_all, get_or_default}
 use Rattle.xd_doc.specs.Stored.{no_items}
@@ -30,16 +31,35 @@ loop-line-preserved c =
           (sym c.fault_kind.ensures ∙ w.in-None.is) (ap (λ v. v.items) w.warnings-is ∙ w.in_ok-push-in-None.ensures.items))
     ]
 
-pub returns-clause-faults : goal.returns-clause-faults
-returns-clause-faults c ds b =
-    let ls : List FoundLine = c.args.lines.now in
-    let done : drop c.loop-line.line-index ls ≡ [] = drop_all c.loop-line.line-index ls c.loop-line-test.false in
-    subst (FaultsTell ds ls) (append-nil c.loop-line.faults.items)
-    ((c.loop-line.invariant.faults ds b).1 [] (subst (λ ms. FaultsTell ds ms []) (sym done) tt))
+pub returns : goal.returns
+returns c =
+    record {
+      faults = λ ds b.
+          let ls : List FoundLine = c.args.lines.now in
+          let done : drop c.loop-line.line-index ls ≡ [] = drop_all c.loop-line.line-index ls c.loop-line-test.false in
+          subst (FaultsTell ds ls) (append-nil c.loop-line.faults.items)
+          ((c.loop-line.invariant.faults ds b).1 [] (subst (λ ms. FaultsTell ds ms []) (sym done) tt));
+      warnings = λ ds.
+          let ls : List FoundLine = c.args.lines.now in
+          let done : drop c.loop-line.line-index ls ≡ [] = drop_all c.loop-line.line-index ls c.loop-line-test.false in
+          subst (WarningsTell ds ls) (append-nil c.loop-line.warnings.items)
+          (c.loop-line.invariant.warnings ds [] (subst (λ ms. WarningsTell ds ms []) (sym done) tt));
+    }
 
-pub returns-clause-warnings : goal.returns-clause-warnings
-returns-clause-warnings c ds =
-    let ls : List FoundLine = c.args.lines.now in
-    let done : drop c.loop-line.line-index ls ≡ [] = drop_all c.loop-line.line-index ls c.loop-line-test.false in
-    subst (WarningsTell ds ls) (append-nil c.loop-line.warnings.items)
-    (c.loop-line.invariant.warnings ds [] (subst (λ ms. WarningsTell ds ms []) (sym done) tt))
+pub returns-in_err-push-in-Some : goal.returns-in_err-push-in-Some
+returns-in_err-push-in-Some c =
+    let e = c.from_residual.ensures.0 in
+    let r = c.from_residual.result in
+    record {
+      faults = IfOk-from_err r _ e;
+      warnings = IfOk-from_err r _ e;
+    }
+
+pub returns-in_err-push-in-None : goal.returns-in_err-push-in-None
+returns-in_err-push-in-None c =
+    let e = c.from_residual-in_err-push-in-None.ensures.0 in
+    let r = c.from_residual-in_err-push-in-None.result in
+    record {
+      faults = IfOk-from_err r _ e;
+      warnings = IfOk-from_err r _ e;
+    }

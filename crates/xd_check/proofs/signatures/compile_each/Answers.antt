@@ -1,3 +1,4 @@
+use Rattle.std.proofs.lemmas.Result.{IfOk-from_err}
 use Rattle.std.proofs.Common.{◌≡◌, ◌<◌, ◌≤◌, List, length, ap, sym, subst, ◌∙◌}
 use Rattle.std.proofs.lemmas.List.{take_all}
 use Rattle.xd_laws.specs.KeptLines.{AllPaired}
@@ -30,9 +31,48 @@ loop-number-preserved c =
     c.loop-number.rows.items c.push.new.self.items c.in_ok-declared.declared c.in_ok-compile_declared.field-0 stands.functions c.loop-number.invariant c.in_ok-declared.ensures within
     e.grows e.types e.mirrors e.parameters e.declared_type c.in_ok-push.ensures.items
 
-pub returns-clause-rows : goal.returns-clause-rows
-returns-clause-rows c =
-    let p : ProgramTable = c.args.sound.now in
-    let same : c.functions-number-end.result.now ≡ p.functions = c.functions-number-end.ensures.functions ∙ ap (λ (q : ProgramTable). q.functions) c.program.ensures.program in
-    let all : length p.functions ≤ c.loop-number.number = subst (λ (fs : List FunctionRow). length fs ≤ c.loop-number.number) same c.loop-number-test.false in
-    subst (λ (fs : List FunctionRow). AllPaired (IsSignatureOfRow p c.loop-number.auto') fs c.loop-number.rows.items) (take_all c.loop-number.number p.functions all) c.loop-number.invariant.signed
+pub returns : goal.returns
+returns c =
+    record {
+      rows =
+          let p : ProgramTable = c.args.sound.now in
+          let same : c.functions-number-end.result.now ≡ p.functions = c.functions-number-end.ensures.functions ∙ ap (λ (q : ProgramTable). q.functions) c.program.ensures.program in
+          let all : length p.functions ≤ c.loop-number.number = subst (λ (fs : List FunctionRow). length fs ≤ c.loop-number.number) same c.loop-number-test.false in
+          subst (λ (fs : List FunctionRow). AllPaired (IsSignatureOfRow p c.loop-number.auto') fs c.loop-number.rows.items) (take_all c.loop-number.number p.functions all) c.loop-number.invariant.signed;
+      types = c.loop-number.invariant.types;
+    }
+
+pub compile_declared-requires : goal.compile_declared-requires
+compile_declared-requires c =
+    record {
+      parameters = c.in_ok-declared.ensures.parameters_there;
+      declared_type = c.in_ok-declared.ensures.result_there;
+      mirrors = c.loop-number.invariant.mirrors;
+    }
+
+pub returns-in_err-declared : goal.returns-in_err-declared
+returns-in_err-declared c =
+    let e = c.from_residual.ensures.0 in
+    let r = c.from_residual.result in
+    record {
+      rows = IfOk-from_err r _ e;
+      types = IfOk-from_err r _ e;
+    }
+
+pub returns-in_err-compile_declared : goal.returns-in_err-compile_declared
+returns-in_err-compile_declared c =
+    let e = c.from_residual-in_err-compile_declared.ensures.0 in
+    let r = c.from_residual-in_err-compile_declared.result in
+    record {
+      rows = IfOk-from_err r _ e;
+      types = IfOk-from_err r _ e;
+    }
+
+pub returns-in_err-push : goal.returns-in_err-push
+returns-in_err-push c =
+    let e = c.from_residual-in_err-push.ensures.0 in
+    let r = c.from_residual-in_err-push.result in
+    record {
+      rows = IfOk-from_err r _ e;
+      types = IfOk-from_err r _ e;
+    }

@@ -1,3 +1,4 @@
+use Rattle.std.proofs.lemmas.Result.{IfOk-from_err}
 use Rattle.std.proofs.Common.{◌≡◌, ◌↔◌, ◌⊎◌, inl, inr, true, false, Bool, ◌||◌, refl, sym, subst, List, [], ◌∷◌}
 use Rattle.std.specs.List.{AllByRecursion, list_any}
 use Rattle.xd_doc.specs.Document.{Document}
@@ -23,7 +24,22 @@ some_accepts a (s ∷ ss) d =
 pub unite-requires : goal.unite-requires
 unite-requires c = λ k d lt. all_at (IsState c.args.auto.now) c.deref.result.now k d (subst (AllByRecursion (IsState c.args.auto.now)) (sym c.deref.ensures.value) c.requires) lt
 
-pub returns-clause-accepts : goal.returns-clause-accepts
-returns-clause-accepts c d =
-    subst (λ ss. (accepts c.unite.new.self d c.in_ok-unite.field-0 ≡ true) ↔ AcceptedBySome c.args.auto.now ss d) c.deref.ensures.value
-    (subst (λ b. (b ≡ true) ↔ AcceptedBySome c.args.auto.now c.deref.result.now d) (sym (c.in_ok-unite.ensures.ok d)) (some_accepts c.args.auto.now c.deref.result.now d))
+pub returns : goal.returns
+returns c =
+    record {
+      belongs = c.in_ok-unite.ensures.belongs;
+      accepts = λ d.
+          subst (λ ss. (accepts c.unite.new.self d c.in_ok-unite.field-0 ≡ true) ↔ AcceptedBySome c.args.auto.now ss d) c.deref.ensures.value
+          (subst (λ b. (b ≡ true) ↔ AcceptedBySome c.args.auto.now c.deref.result.now d) (sym (c.in_ok-unite.ensures.ok d)) (some_accepts c.args.auto.now c.deref.result.now d));
+      grows = record { extends = c.in_ok-unite.ensures.extends; keeps = c.in_ok-unite.ensures.keeps };
+    }
+
+pub returns-in_err-unite : goal.returns-in_err-unite
+returns-in_err-unite c =
+    let e = c.from_residual.ensures.0 in
+    let r = c.from_residual.result in
+    record {
+      belongs = IfOk-from_err r _ e;
+      accepts = IfOk-from_err r _ e;
+      grows = IfOk-from_err r _ e;
+    }

@@ -6,6 +6,11 @@ use Rattle.xd_sound.proofs.AdoptLaws.{type_kept}
 use Rattle.xd_command.specs.Fits.{IsAcceptor}
 use Rattle.xd_command.proofs.membership.acceptor.Goals as goal
 
+pub compile_plain_type-requires-clause-belongs : goal.compile_plain_type-requires-clause-belongs
+compile_plain_type-requires-clause-belongs c =
+    let p : ProgramTable = c.args.sound.now in
+    (type_kept p.types c.new.new.sound.types (types.tree p.types c.args.id) c.args.id c.in_ok-compiler.ensures.adds.types (record { belongs = c.requires; same = refl })).belongs
+
 -- the types that the compiler adds leave this one as it is
 pub returns-clause-acceptor : goal.returns-clause-acceptor
 returns-clause-acceptor c =

@@ -1,4 +1,5 @@
-use Rattle.std.proofs.Common.{◌≡◌, ◌↔◌, ℕ, ◌+◌, ◌-◌, ◌*◌, ◌<◌, arith, true, false, Ok, None, List, [], ◌∷◌, map, length, get_or, drop, ap, sym, subst, ◌∙◌}
+use borrow.Author.Count.{falls}
+use Rattle.std.proofs.Common.{◌≡◌, ◌↔◌, ℕ, ◌+◌, ◌-◌, ◌*◌, ◌<◌, arith, true, false, Ok, None, List, [], ◌∷◌, map, length, get_or, drop, refl, ap, sym, subst, ◌∙◌}
 use Rattle.std.specs.List.{AllByRecursion}
 use Rattle.std.proofs.lemmas.List.{drop_all, get_or_default}
 use Rattle.std.proofs.lemmas.Result.{IfOk-from_err}
@@ -53,8 +54,8 @@ in_expression-in_expression-requires t c =
     let form = sym c.form.ensures ∙ ap shape_of c.in-Elem.is in
     let tree = expr_is p c.exprs.result.now c.args.id n.place n.form (elem_shape c.in-Elem.label c.in-Elem.content.at) e (c.node-node.ensures.expression p.patterns) form in
     let older : c.in-Elem.content.at < c.args.id.at = subst (ExprPartsBelow c.args.id.at) form c.node-node.ensures.parts in
-    let falls : 4 * c.in-Elem.content.at + 3 < t = omega arith in
-    (falls, (c.requires.ready, (walk_content p c.args.id.at c.in-Elem.content.at n.place c.in-Elem.label c.requires.expression tree older, (c.requires.variables, c.requires.known))))
+    let fallen : 4 * c.in-Elem.content.at + 3 < t = omega arith in
+    (fallen, (c.requires.ready, (walk_content p c.args.id.at c.in-Elem.content.at n.place c.in-Elem.label c.requires.expression tree older, (c.requires.variables, c.requires.known))))
 
 pub in_expression-wrap-requires : goal.in_expression-wrap-requires
 in_expression-wrap-requires t c = c.in_ok-inside-in-Elem.ensures.belongs
@@ -69,8 +70,8 @@ in_expression-in_parts-requires t c =
     let tree = expr_is p c.exprs.result.now c.args.id n.place n.form (seq_shape ids) e (c.node-node.ensures.expression p.patterns) form in
     let older : AllByRecursion (λ i. i < c.args.id.at) ids = subst (ExprPartsBelow c.args.id.at) form c.node-node.ensures.parts in
     let top = ceiling_again c.args.id.at c.deref.result.now c.in-Seq.parts.items c.deref.ensures.value older in
-    let falls : 4 * ceiling (expr_numbers c.deref.result.now) + 1 < t = omega arith in
-    (falls, (c.requires.ready, (subst (λ (ps : List ExprId). AllByRecursion (CanBeWalked p) (expr_numbers ps)) (sym c.deref.ensures.value) (walk_parts p c.args.id.at n.place ids c.requires.expression tree older), (c.requires.variables, c.requires.known))))
+    let fallen : 4 * ceiling (expr_numbers c.deref.result.now) + 1 < t = omega arith in
+    (fallen, (c.requires.ready, (subst (λ (ps : List ExprId). AllByRecursion (CanBeWalked p) (expr_numbers ps)) (sym c.deref.ensures.value) (walk_parts p c.args.id.at n.place ids c.requires.expression tree older), (c.requires.variables, c.requires.known))))
 
 pub in_expression-join_states-requires : goal.in_expression-join_states-requires
 in_expression-join_states-requires t c = c.in_ok-states-in-Seq.ensures.belong
@@ -85,8 +86,8 @@ in_expression-in_call-requires t c =
     let tree = expr_is p c.exprs.result.now c.args.id n.place n.form (call_shape c.in-Call.word ids) e (c.node-node.ensures.expression p.patterns) form in
     let older : AllByRecursion (λ i. i < c.args.id.at) ids = subst (ExprPartsBelow c.args.id.at) form c.node-node.ensures.parts in
     let top = ceiling_again c.args.id.at c.deref-in-Call.result.now c.in-Call.arguments.items c.deref-in-Call.ensures.value older in
-    let falls : 4 * ceiling (expr_numbers c.deref-in-Call.result.now) + 2 < t = omega arith in
-    (falls, (c.requires.ready, (subst (λ (ps : List ExprId). AllByRecursion (CanBeWalked p) (expr_numbers ps)) (sym c.deref-in-Call.ensures.value) (walk_arguments p c.args.id.at n.place c.in-Call.word ids c.requires.expression tree older), (c.requires.variables, c.requires.known))))
+    let fallen : 4 * ceiling (expr_numbers c.deref-in-Call.result.now) + 2 < t = omega arith in
+    (fallen, (c.requires.ready, (subst (λ (ps : List ExprId). AllByRecursion (CanBeWalked p) (expr_numbers ps)) (sym c.deref-in-Call.ensures.value) (walk_arguments p c.args.id.at n.place c.in-Call.word ids c.requires.expression tree older), (c.requires.variables, c.requires.known))))
 
 pub in_expression-in_expression-requires-in-Match : goal.in_expression-in_expression-requires-in-Match
 in_expression-in_expression-requires-in-Match t c =
@@ -98,79 +99,124 @@ in_expression-in_expression-requires-in-Match t c =
     let tree = expr_is p c.exprs.result.now c.args.id n.place n.form (match_shape c.in-Match.scrutinee.at cs) e (c.node-node.ensures.expression p.patterns) form in
     let older : (c.in-Match.scrutinee.at < c.args.id.at) × AllByRecursion (λ (k : ℕ × ℕ). k.1 < c.args.id.at) cs = subst (ExprPartsBelow c.args.id.at) form c.node-node.ensures.parts in
     let first : c.in-Match.scrutinee.at < c.args.id.at = older.0 in
-    let falls : 4 * c.in-Match.scrutinee.at + 3 < t = omega arith in
-    (falls, (c.requires.ready, (walk_scrutinee p c.args.id.at c.in-Match.scrutinee.at n.place cs c.requires.expression tree first, (c.requires.variables, c.requires.known))))
+    let fallen : 4 * c.in-Match.scrutinee.at + 3 < t = omega arith in
+    (fallen, (c.requires.ready, (walk_scrutinee p c.args.id.at c.in-Match.scrutinee.at n.place cs c.requires.expression tree first, (c.requires.variables, c.requires.known))))
 
-pub in_expression-returns-in_ok-add_state-in-Empty-clause-walked : goal.in_expression-returns-in_ok-add_state-in-Empty-clause-walked
-in_expression-returns-in_ok-add_state-in-Empty-clause-walked t c S stands =
-    let p : ProgramTable = c.args.self.now.sound in
-    let e : c.exprs.result.now ≡ p.exprs = c.exprs.ensures.exprs ∙ ap (λ (q : ProgramTable). q.exprs) c.program.ensures.program in
-    let n = c.node-node.result.now in
-    let tree = expr_is p c.exprs.result.now c.args.id n.place n.form empty_shape e (c.node-node.ensures.expression p.patterns) (sym c.form.ensures ∙ ap shape_of c.in-Empty.is) in
-    let s : State = c.in_ok-add_state-in-Empty.field-0 in
-    let ok = c.in_ok-add_state-in-Empty.ensures.ok in
-    subst (λ x. IsWalked (program_tree p) S x c.add_state.new.self c.args.store.now c.args.lines.now.items c.args.lines.now.items s) (sym tree)
-    (walked_nothing (program_tree p) S n.place c.add_state.new.self c.args.store.now c.args.lines.now.items s (joined_none c.add_state.new.self s (new_moves c.args.auto.now c.add_state.new.self s true ok.0 ok.1)))
+pub in_expression-returns-in_ok-add_state-in-Empty : goal.in_expression-returns-in_ok-add_state-in-Empty
+in_expression-returns-in_ok-add_state-in-Empty t c =
+    record {
+      belongs = c.in_ok-add_state-in-Empty.ensures.belongs;
+      walked = λ S stands.
+          let p : ProgramTable = c.args.self.now.sound in
+          let e : c.exprs.result.now ≡ p.exprs = c.exprs.ensures.exprs ∙ ap (λ (q : ProgramTable). q.exprs) c.program.ensures.program in
+          let n = c.node-node.result.now in
+          let tree = expr_is p c.exprs.result.now c.args.id n.place n.form empty_shape e (c.node-node.ensures.expression p.patterns) (sym c.form.ensures ∙ ap shape_of c.in-Empty.is) in
+          let s : State = c.in_ok-add_state-in-Empty.field-0 in
+          let ok = c.in_ok-add_state-in-Empty.ensures.ok in
+          subst (λ x. IsWalked (program_tree p) S x c.add_state.new.self c.args.store.now c.args.lines.now.items c.args.lines.now.items s) (sym tree)
+          (walked_nothing (program_tree p) S n.place c.add_state.new.self c.args.store.now c.args.lines.now.items s (joined_none c.add_state.new.self s (new_moves c.args.auto.now c.add_state.new.self s true ok.0 ok.1)));
+      variables = refl;
+      grows = record { extends = c.in_ok-add_state-in-Empty.ensures.extends; keeps = c.in_ok-add_state-in-Empty.ensures.keeps };
+      known =
+          let e = c.in_ok-add_state-in-Empty.ensures in
+          known_kept c.args.auto.now c.add_state.new.self c.args.store.now c.args.store.now c.args.known.now (record { extends = e.extends; keeps = e.keeps }) (keeps_same c.args.store.now) c.requires.known;
+      keeps = keeps_same c.args.store.now;
+    }
 
-pub in_expression-returns-in_ok-text_state-in-Text-clause-walked : goal.in_expression-returns-in_ok-text_state-in-Text-clause-walked
-in_expression-returns-in_ok-text_state-in-Text-clause-walked t c S stands =
-    let p : ProgramTable = c.args.self.now.sound in
-    let e : c.exprs.result.now ≡ p.exprs = c.exprs.ensures.exprs ∙ ap (λ (q : ProgramTable). q.exprs) c.program.ensures.program in
-    let n = c.node-node.result.now in
-    let tree = expr_is p c.exprs.result.now c.args.id n.place n.form (text_shape c.in-Text.text) e (c.node-node.ensures.expression p.patterns) (sym c.form.ensures ∙ ap shape_of c.in-Text.is) in
-    subst (λ x. IsWalked (program_tree p) S x c.text_state.new.auto c.args.store.now c.args.lines.now.items c.args.lines.now.items c.in_ok-text_state-in-Text.field-0) (sym tree)
-    (walked_quoted (program_tree p) S n.place c.in-Text.text c.text_state.new.auto c.args.store.now c.args.lines.now.items c.in_ok-text_state-in-Text.field-0 c.in_ok-text_state-in-Text.ensures.accepts)
+pub in_expression-returns-in_ok-text_state-in-Text : goal.in_expression-returns-in_ok-text_state-in-Text
+in_expression-returns-in_ok-text_state-in-Text t c =
+    record {
+      belongs = c.in_ok-text_state-in-Text.ensures.belongs;
+      walked = λ S stands.
+          let p : ProgramTable = c.args.self.now.sound in
+          let e : c.exprs.result.now ≡ p.exprs = c.exprs.ensures.exprs ∙ ap (λ (q : ProgramTable). q.exprs) c.program.ensures.program in
+          let n = c.node-node.result.now in
+          let tree = expr_is p c.exprs.result.now c.args.id n.place n.form (text_shape c.in-Text.text) e (c.node-node.ensures.expression p.patterns) (sym c.form.ensures ∙ ap shape_of c.in-Text.is) in
+          subst (λ x. IsWalked (program_tree p) S x c.text_state.new.auto c.args.store.now c.args.lines.now.items c.args.lines.now.items c.in_ok-text_state-in-Text.field-0) (sym tree)
+          (walked_quoted (program_tree p) S n.place c.in-Text.text c.text_state.new.auto c.args.store.now c.args.lines.now.items c.in_ok-text_state-in-Text.field-0 c.in_ok-text_state-in-Text.ensures.accepts);
+      variables = refl;
+      grows = c.in_ok-text_state-in-Text.ensures.grows;
+      known = known_kept c.args.auto.now c.text_state.new.auto c.args.store.now c.args.store.now c.args.known.now c.in_ok-text_state-in-Text.ensures.grows (keeps_same c.args.store.now) c.requires.known;
+      keeps = keeps_same c.args.store.now;
+    }
 
-pub in_expression-returns-in_ok-variable_state-in-Var-clause-walked : goal.in_expression-returns-in_ok-variable_state-in-Var-clause-walked
-in_expression-returns-in_ok-variable_state-in-Var-clause-walked t c S stands =
-    let p : ProgramTable = c.args.self.now.sound in
-    let e : c.exprs.result.now ≡ p.exprs = c.exprs.ensures.exprs ∙ ap (λ (q : ProgramTable). q.exprs) c.program.ensures.program in
-    let n = c.node-node.result.now in
-    let tree = expr_is p c.exprs.result.now c.args.id n.place n.form (var_shape c.in-Var.word) e (c.node-node.ensures.expression p.patterns) (sym c.form.ensures ∙ ap shape_of c.in-Var.is) in
-    subst (λ x. IsWalked (program_tree p) S x c.variable_state.new.auto c.args.store.now c.args.lines.now.items c.args.lines.now.items c.in_ok-variable_state-in-Var.field-0) (sym tree)
-    (walked_variable (program_tree p) S n.place c.in-Var.word c.args.auto.now c.variable_state.new.auto c.args.variables.now c.args.store.now c.args.lines.now.items c.in_ok-variable_state-in-Var.field-0 stands c.in_ok-variable_state-in-Var.ensures.accepts)
+pub in_expression-returns-in_ok-variable_state-in-Var : goal.in_expression-returns-in_ok-variable_state-in-Var
+in_expression-returns-in_ok-variable_state-in-Var t c =
+    record {
+      belongs = c.in_ok-variable_state-in-Var.ensures.belongs;
+      walked = λ S stands.
+          let p : ProgramTable = c.args.self.now.sound in
+          let e : c.exprs.result.now ≡ p.exprs = c.exprs.ensures.exprs ∙ ap (λ (q : ProgramTable). q.exprs) c.program.ensures.program in
+          let n = c.node-node.result.now in
+          let tree = expr_is p c.exprs.result.now c.args.id n.place n.form (var_shape c.in-Var.word) e (c.node-node.ensures.expression p.patterns) (sym c.form.ensures ∙ ap shape_of c.in-Var.is) in
+          subst (λ x. IsWalked (program_tree p) S x c.variable_state.new.auto c.args.store.now c.args.lines.now.items c.args.lines.now.items c.in_ok-variable_state-in-Var.field-0) (sym tree)
+          (walked_variable (program_tree p) S n.place c.in-Var.word c.args.auto.now c.variable_state.new.auto c.args.variables.now c.args.store.now c.args.lines.now.items c.in_ok-variable_state-in-Var.field-0 stands c.in_ok-variable_state-in-Var.ensures.accepts);
+      variables = refl;
+      grows = c.in_ok-variable_state-in-Var.ensures.grows;
+      known = known_kept c.args.auto.now c.variable_state.new.auto c.args.store.now c.args.store.now c.args.known.now c.in_ok-variable_state-in-Var.ensures.grows (keeps_same c.args.store.now) c.requires.known;
+      keeps = keeps_same c.args.store.now;
+    }
 
-pub in_expression-returns-in_ok-wrap-in-Elem-clause-walked : goal.in_expression-returns-in_ok-wrap-in-Elem-clause-walked
-in_expression-returns-in_ok-wrap-in-Elem-clause-walked t c S stands =
-    let p : ProgramTable = c.args.self.now.sound in
-    let e : c.exprs.result.now ≡ p.exprs = c.exprs.ensures.exprs ∙ ap (λ (q : ProgramTable). q.exprs) c.program.ensures.program in
-    let n = c.node-node.result.now in
-    let tree = expr_is p c.exprs.result.now c.args.id n.place n.form (elem_shape c.in-Elem.label c.in-Elem.content.at) e (c.node-node.ensures.expression p.patterns) (sym c.form.ensures ∙ ap shape_of c.in-Elem.is) in
-    subst (λ x. IsWalked (program_tree p) S x c.wrap.new.self c.in_expression.new.store c.args.lines.now.items c.in_expression.new.lines.items c.in_ok-wrap-in-Elem.field-0) (sym tree)
-    (walked_tagged (program_tree p) S n.place c.in-Elem.label (expr_at p c.in-Elem.content.at) c.in_expression.new.auto c.wrap.new.self c.in_expression.new.store c.args.lines.now.items c.in_expression.new.lines.items
-    c.in_ok-inside-in-Elem.inside c.in_ok-wrap-in-Elem.field-0 (c.in_ok-inside-in-Elem.ensures.walked S stands) c.in_ok-wrap-in-Elem.ensures.ok)
+pub in_expression-returns-in_ok-wrap-in-Elem : goal.in_expression-returns-in_ok-wrap-in-Elem
+in_expression-returns-in_ok-wrap-in-Elem t c =
+    record {
+      belongs = c.in_ok-wrap-in-Elem.ensures.belongs;
+      walked = λ S stands.
+          let p : ProgramTable = c.args.self.now.sound in
+          let e : c.exprs.result.now ≡ p.exprs = c.exprs.ensures.exprs ∙ ap (λ (q : ProgramTable). q.exprs) c.program.ensures.program in
+          let n = c.node-node.result.now in
+          let tree = expr_is p c.exprs.result.now c.args.id n.place n.form (elem_shape c.in-Elem.label c.in-Elem.content.at) e (c.node-node.ensures.expression p.patterns) (sym c.form.ensures ∙ ap shape_of c.in-Elem.is) in
+          subst (λ x. IsWalked (program_tree p) S x c.wrap.new.self c.in_expression.new.store c.args.lines.now.items c.in_expression.new.lines.items c.in_ok-wrap-in-Elem.field-0) (sym tree)
+          (walked_tagged (program_tree p) S n.place c.in-Elem.label (expr_at p c.in-Elem.content.at) c.in_expression.new.auto c.wrap.new.self c.in_expression.new.store c.args.lines.now.items c.in_expression.new.lines.items
+          c.in_ok-inside-in-Elem.inside c.in_ok-wrap-in-Elem.field-0 (c.in_ok-inside-in-Elem.ensures.walked S stands) c.in_ok-wrap-in-Elem.ensures.ok);
+      variables = c.in_ok-inside-in-Elem.ensures.variables;
+      grows = grows_then c.args.auto.now c.in_expression.new.auto c.wrap.new.self c.in_ok-inside-in-Elem.ensures.grows (record { extends = c.in_ok-wrap-in-Elem.ensures.extends; keeps = c.in_ok-wrap-in-Elem.ensures.keeps });
+      known =
+          let e = c.in_ok-wrap-in-Elem.ensures in
+          known_kept c.in_expression.new.auto c.wrap.new.self c.in_expression.new.store c.in_expression.new.store c.in_expression.new.known (record { extends = e.extends; keeps = e.keeps }) (keeps_same c.in_expression.new.store)
+          c.in_ok-inside-in-Elem.ensures.known;
+      keeps = c.in_expression.ensures.keeps;
+    }
 
-pub in_expression-returns-in_ok-wrap-in-Elem-clause-grows : goal.in_expression-returns-in_ok-wrap-in-Elem-clause-grows
-in_expression-returns-in_ok-wrap-in-Elem-clause-grows t c =
-    grows_then c.args.auto.now c.in_expression.new.auto c.wrap.new.self c.in_ok-inside-in-Elem.ensures.grows (record { extends = c.in_ok-wrap-in-Elem.ensures.extends; keeps = c.in_ok-wrap-in-Elem.ensures.keeps })
+pub in_expression-returns-in_ok-join_states-in-Seq : goal.in_expression-returns-in_ok-join_states-in-Seq
+in_expression-returns-in_ok-join_states-in-Seq t c =
+    record {
+      belongs = c.in_ok-join_states-in-Seq.ensures.belongs;
+      walked = λ S stands.
+          let p : ProgramTable = c.args.self.now.sound in
+          let e : c.exprs.result.now ≡ p.exprs = c.exprs.ensures.exprs ∙ ap (λ (q : ProgramTable). q.exprs) c.program.ensures.program in
+          let n = c.node-node.result.now in
+          let ids : List ℕ = expr_numbers c.deref.result.now in
+          let form = sym c.form.ensures ∙ ap shape_of c.in-Seq.is ∙ ap (λ (ps : List ExprId). seq_shape (expr_numbers ps)) (sym c.deref.ensures.value) in
+          let tree = expr_is p c.exprs.result.now c.args.id n.place n.form (seq_shape ids) e (c.node-node.ensures.expression p.patterns) form in
+          subst (λ x. IsWalked (program_tree p) S x c.join_states.new.auto c.in_parts.new.store c.args.lines.now.items c.in_parts.new.lines.items c.in_ok-join_states-in-Seq.field-0) (sym tree)
+          (walked_joined (program_tree p) S n.place (map (expr_at p) ids) c.in_parts.new.auto c.join_states.new.auto c.in_parts.new.store c.args.lines.now.items c.in_parts.new.lines.items c.in_ok-states-in-Seq.states.items
+          c.in_ok-join_states-in-Seq.field-0 (c.in_ok-states-in-Seq.ensures.walked S stands) c.in_ok-join_states-in-Seq.ensures.accepts);
+      variables = c.in_ok-states-in-Seq.ensures.variables;
+      grows = grows_then c.args.auto.now c.in_parts.new.auto c.join_states.new.auto c.in_ok-states-in-Seq.ensures.grows c.in_ok-join_states-in-Seq.ensures.grows;
+      known = known_kept c.in_parts.new.auto c.join_states.new.auto c.in_parts.new.store c.in_parts.new.store c.in_parts.new.known c.in_ok-join_states-in-Seq.ensures.grows (keeps_same c.in_parts.new.store) c.in_ok-states-in-Seq.ensures.known;
+      keeps = c.in_parts.ensures.keeps;
+    }
 
-pub in_expression-returns-in_ok-join_states-in-Seq-clause-walked : goal.in_expression-returns-in_ok-join_states-in-Seq-clause-walked
-in_expression-returns-in_ok-join_states-in-Seq-clause-walked t c S stands =
-    let p : ProgramTable = c.args.self.now.sound in
-    let e : c.exprs.result.now ≡ p.exprs = c.exprs.ensures.exprs ∙ ap (λ (q : ProgramTable). q.exprs) c.program.ensures.program in
-    let n = c.node-node.result.now in
-    let ids : List ℕ = expr_numbers c.deref.result.now in
-    let form = sym c.form.ensures ∙ ap shape_of c.in-Seq.is ∙ ap (λ (ps : List ExprId). seq_shape (expr_numbers ps)) (sym c.deref.ensures.value) in
-    let tree = expr_is p c.exprs.result.now c.args.id n.place n.form (seq_shape ids) e (c.node-node.ensures.expression p.patterns) form in
-    subst (λ x. IsWalked (program_tree p) S x c.join_states.new.auto c.in_parts.new.store c.args.lines.now.items c.in_parts.new.lines.items c.in_ok-join_states-in-Seq.field-0) (sym tree)
-    (walked_joined (program_tree p) S n.place (map (expr_at p) ids) c.in_parts.new.auto c.join_states.new.auto c.in_parts.new.store c.args.lines.now.items c.in_parts.new.lines.items c.in_ok-states-in-Seq.states.items
-    c.in_ok-join_states-in-Seq.field-0 (c.in_ok-states-in-Seq.ensures.walked S stands) c.in_ok-join_states-in-Seq.ensures.accepts)
-
-pub in_expression-returns-in_ok-join_states-in-Seq-clause-grows : goal.in_expression-returns-in_ok-join_states-in-Seq-clause-grows
-in_expression-returns-in_ok-join_states-in-Seq-clause-grows t c =
-    grows_then c.args.auto.now c.in_parts.new.auto c.join_states.new.auto c.in_ok-states-in-Seq.ensures.grows c.in_ok-join_states-in-Seq.ensures.grows
-
-pub in_expression-returns-in_ok-in_call-in-Call-clause-walked : goal.in_expression-returns-in_ok-in_call-in-Call-clause-walked
-in_expression-returns-in_ok-in_call-in-Call-clause-walked t c S stands =
-    let p : ProgramTable = c.args.self.now.sound in
-    let e : c.exprs.result.now ≡ p.exprs = c.exprs.ensures.exprs ∙ ap (λ (q : ProgramTable). q.exprs) c.program.ensures.program in
-    let n = c.node-node.result.now in
-    let ids : List ℕ = expr_numbers c.deref-in-Call.result.now in
-    let form = sym c.form.ensures ∙ ap shape_of c.in-Call.is ∙ ap (λ (ps : List ExprId). call_shape c.in-Call.word (expr_numbers ps)) (sym c.deref-in-Call.ensures.value) in
-    let tree = expr_is p c.exprs.result.now c.args.id n.place n.form (call_shape c.in-Call.word ids) e (c.node-node.ensures.expression p.patterns) form in
-    let r = c.in_ok-in_call-in-Call.ensures in
-    subst (λ x. IsWalked (program_tree p) S x c.in_call.new.auto c.in_call.new.store c.args.lines.now.items c.in_call.new.lines.items c.in_ok-in_call-in-Call.field-0) (sym tree)
-    (walked_called (program_tree p) S n.place c.in-Call.word (map (expr_at p) ids) c.in_call.new.auto c.in_call.new.store c.args.lines.now.items c.in_call.new.lines.items c.in_ok-in_call-in-Call.field-0 (r.lines S stands) r.result)
+pub in_expression-returns-in_ok-in_call-in-Call : goal.in_expression-returns-in_ok-in_call-in-Call
+in_expression-returns-in_ok-in_call-in-Call t c =
+    record {
+      belongs = c.in_ok-in_call-in-Call.ensures.belongs;
+      walked = λ S stands.
+          let p : ProgramTable = c.args.self.now.sound in
+          let e : c.exprs.result.now ≡ p.exprs = c.exprs.ensures.exprs ∙ ap (λ (q : ProgramTable). q.exprs) c.program.ensures.program in
+          let n = c.node-node.result.now in
+          let ids : List ℕ = expr_numbers c.deref-in-Call.result.now in
+          let form = sym c.form.ensures ∙ ap shape_of c.in-Call.is ∙ ap (λ (ps : List ExprId). call_shape c.in-Call.word (expr_numbers ps)) (sym c.deref-in-Call.ensures.value) in
+          let tree = expr_is p c.exprs.result.now c.args.id n.place n.form (call_shape c.in-Call.word ids) e (c.node-node.ensures.expression p.patterns) form in
+          let r = c.in_ok-in_call-in-Call.ensures in
+          subst (λ x. IsWalked (program_tree p) S x c.in_call.new.auto c.in_call.new.store c.args.lines.now.items c.in_call.new.lines.items c.in_ok-in_call-in-Call.field-0) (sym tree)
+          (walked_called (program_tree p) S n.place c.in-Call.word (map (expr_at p) ids) c.in_call.new.auto c.in_call.new.store c.args.lines.now.items c.in_call.new.lines.items c.in_ok-in_call-in-Call.field-0 (r.lines S stands) r.result);
+      variables = c.in_ok-in_call-in-Call.ensures.variables;
+      grows = c.in_ok-in_call-in-Call.ensures.grows;
+      known = c.in_ok-in_call-in-Call.ensures.known;
+      keeps = c.in_call.ensures.keeps;
+    }
 
 pub in_parts-loop-part-init : goal.in_parts-loop-part-init
 in_parts-loop-part-init t c =
@@ -189,8 +235,8 @@ in_parts-in_expression-requires t c =
     let h = part_here c.args.self.now.sound c.args.auto.now c.loop-part.auto' c.args.variables.now c.loop-part.variables c.args.store.now c.loop-part.store c.args.lines.now.items c.loop-part.lines.items c.args.parts.now n c.loop-part.states.items id i
     c.loop-part-test.true (get_or_default c.args.parts.now n (record { at = 0 }) id c.loop-part-test.true) in
     let top = h.1 in
-    let falls : 4 * id.at + 3 < t = omega arith in
-    (falls, (ready_kept c.args.self.now c.args.auto.now c.loop-part.auto' st.grows c.requires.ready, (h.0, (states_again c.args.auto.now c.loop-part.auto' st.grows c.args.variables.now c.loop-part.variables st.variables c.requires.variables, c.loop-part.invariant.known))))
+    let fallen : 4 * id.at + 3 < t = omega arith in
+    (fallen, (ready_kept c.args.self.now c.args.auto.now c.loop-part.auto' st.grows c.requires.ready, (h.0, (states_again c.args.auto.now c.loop-part.auto' st.grows c.args.variables.now c.loop-part.variables st.variables c.requires.variables, c.loop-part.invariant.known))))
 
 pub in_parts-loop-part-preserved : goal.in_parts-loop-part-preserved
 in_parts-loop-part-preserved t c =
@@ -204,22 +250,18 @@ in_parts-loop-part-preserved t c =
       known = e.known;
     }
 
-pub in_parts-returns-clause-belong : goal.in_parts-returns-clause-belong
-in_parts-returns-clause-belong t c = c.loop-part.invariant.walk.there
-
-pub in_parts-returns-clause-walked : goal.in_parts-returns-clause-walked
-in_parts-returns-clause-walked t c =
-    parts_end c.args.self.now.sound c.args.auto.now c.loop-part.auto' c.args.variables.now c.loop-part.variables c.args.store.now c.loop-part.store c.args.lines.now.items c.loop-part.lines.items c.args.parts.now c.loop-part.part-index
-    c.loop-part.states.items (drop_all c.loop-part.part-index c.args.parts.now c.loop-part-test.false) c.loop-part.invariant.walk
-
-pub in_parts-returns-clause-variables : goal.in_parts-returns-clause-variables
-in_parts-returns-clause-variables t c = c.loop-part.invariant.walk.stays.variables
-
-pub in_parts-returns-clause-grows : goal.in_parts-returns-clause-grows
-in_parts-returns-clause-grows t c = c.loop-part.invariant.walk.stays.grows
-
-pub in_parts-returns-clause-keeps : goal.in_parts-returns-clause-keeps
-in_parts-returns-clause-keeps t c = c.loop-part.invariant.walk.stays.keeps
+pub in_parts-returns : goal.in_parts-returns
+in_parts-returns t c =
+    record {
+      belong = c.loop-part.invariant.walk.there;
+      walked =
+          parts_end c.args.self.now.sound c.args.auto.now c.loop-part.auto' c.args.variables.now c.loop-part.variables c.args.store.now c.loop-part.store c.args.lines.now.items c.loop-part.lines.items c.args.parts.now c.loop-part.part-index
+          c.loop-part.states.items (drop_all c.loop-part.part-index c.args.parts.now c.loop-part-test.false) c.loop-part.invariant.walk;
+      variables = c.loop-part.invariant.walk.stays.variables;
+      grows = c.loop-part.invariant.walk.stays.grows;
+      known = c.loop-part.invariant.known;
+      keeps = c.loop-part.invariant.walk.stays.keeps;
+    }
 
 pub in_arguments-loop-number-init : goal.in_arguments-loop-number-init
 in_arguments-loop-number-init t c =
@@ -234,35 +276,38 @@ in_arguments-in_expression-requires t c =
     let h = argument_here c.args.self.now.sound c.args.auto.now c.loop-number.auto' c.args.variables.now c.loop-number.variables c.args.store.now c.loop-number.store c.args.lines.now.items c.loop-number.lines.items c.args.parameters.now
     c.args.arguments.now n id i c.loop-number-test.true (get_or_default c.args.arguments.now n (record { at = 0 }) id c.loop-number-test.true) in
     let top = h.1 in
-    let falls : 4 * id.at + 3 < t = omega arith in
-    (falls, (ready_kept c.args.self.now c.args.auto.now c.loop-number.auto' st.grows c.requires.ready, (h.0, (states_again c.args.auto.now c.loop-number.auto' st.grows c.args.variables.now c.loop-number.variables st.variables c.requires.variables, c.loop-number.invariant.known))))
+    let fallen : 4 * id.at + 3 < t = omega arith in
+    (fallen, (ready_kept c.args.self.now c.args.auto.now c.loop-number.auto' st.grows c.requires.ready, (h.0, (states_again c.args.auto.now c.loop-number.auto' st.grows c.args.variables.now c.loop-number.variables st.variables c.requires.variables, c.loop-number.invariant.known))))
 
-pub in_arguments-see_argument-requires-clause-argument : goal.in_arguments-see_argument-requires-clause-argument
-in_arguments-see_argument-requires-clause-argument t c =
-    let n : ℕ = c.loop-number.number in
-    let id : ExprId = get_or c.args.arguments.now n (record { at = 0 }) in
-    let h = argument_here c.args.self.now.sound c.args.auto.now c.loop-number.auto' c.args.variables.now c.loop-number.variables c.args.store.now c.loop-number.store c.args.lines.now.items c.loop-number.lines.items c.args.parameters.now
-    c.args.arguments.now n id c.loop-number.invariant.walk c.loop-number-test.true (get_or_default c.args.arguments.now n (record { at = 0 }) id c.loop-number-test.true) in
-    let w = h.0 in
-    w.there
+pub in_arguments-see_argument-requires : goal.in_arguments-see_argument-requires
+in_arguments-see_argument-requires t c =
+    record {
+      argument =
+          let n : ℕ = c.loop-number.number in
+          let id : ExprId = get_or c.args.arguments.now n (record { at = 0 }) in
+          let h = argument_here c.args.self.now.sound c.args.auto.now c.loop-number.auto' c.args.variables.now c.loop-number.variables c.args.store.now c.loop-number.store c.args.lines.now.items c.loop-number.lines.items c.args.parameters.now
+          c.args.arguments.now n id c.loop-number.invariant.walk c.loop-number-test.true (get_or_default c.args.arguments.now n (record { at = 0 }) id c.loop-number-test.true) in
+          let w = h.0 in
+          w.there;
+      state = c.in_ok-state.ensures.belongs;
+      parameters =
+          let st = c.loop-number.invariant.walk.stays in
+          let g = grows_then c.args.auto.now c.loop-number.auto' c.in_expression.new.auto st.grows c.in_ok-state.ensures.grows in
+          all_as (IsState c.args.auto.now) (IsState c.in_expression.new.auto) (λ s m. (g.extends).states s m) c.args.parameters.now c.requires.parameters;
+      known = c.in_ok-state.ensures.known;
+    }
 
-pub in_arguments-see_argument-requires-clause-state : goal.in_arguments-see_argument-requires-clause-state
-in_arguments-see_argument-requires-clause-state t c = c.in_ok-state.ensures.belongs
-
-pub in_arguments-see_argument-requires-clause-parameters : goal.in_arguments-see_argument-requires-clause-parameters
-in_arguments-see_argument-requires-clause-parameters t c =
-    let st = c.loop-number.invariant.walk.stays in
-    let g = grows_then c.args.auto.now c.loop-number.auto' c.in_expression.new.auto st.grows c.in_ok-state.ensures.grows in
-    all_as (IsState c.args.auto.now) (IsState c.in_expression.new.auto) (λ s m. (g.extends).states s m) c.args.parameters.now c.requires.parameters
-
-pub in_arguments-see_argument-requires-clause-known : goal.in_arguments-see_argument-requires-clause-known
-in_arguments-see_argument-requires-clause-known t c = c.in_ok-state.ensures.known
-
-pub in_arguments-returns-clause-known : goal.in_arguments-returns-clause-known
-in_arguments-returns-clause-known t c = c.loop-number.invariant.known
-
-pub in_parts-returns-clause-known : goal.in_parts-returns-clause-known
-in_parts-returns-clause-known t c = c.loop-part.invariant.known
+pub in_arguments-returns : goal.in_arguments-returns
+in_arguments-returns t c =
+    record {
+      lines =
+          arguments_end c.args.self.now.sound c.args.auto.now c.loop-number.auto' c.args.variables.now c.loop-number.variables c.args.store.now c.loop-number.store c.args.lines.now.items c.loop-number.lines.items c.args.parameters.now
+          c.args.arguments.now c.loop-number.number (drop_all c.loop-number.number c.args.arguments.now c.loop-number-test.false) c.loop-number.invariant.walk;
+      variables = c.loop-number.invariant.walk.stays.variables;
+      grows = c.loop-number.invariant.walk.stays.grows;
+      known = c.loop-number.invariant.known;
+      keeps = c.loop-number.invariant.walk.stays.keeps;
+    }
 
 pub in_arguments-loop-number-preserved : goal.in_arguments-loop-number-preserved
 in_arguments-loop-number-preserved t c =
@@ -275,20 +320,6 @@ in_arguments-loop-number-preserved t c =
           c.loop-number.invariant.walk c.loop-number-test.true (get_or_default c.args.arguments.now n (record { at = 0 }) id c.loop-number-test.true) e.walked e.variables e.grows e.keeps c.in_ok-see_argument.ensures.lines c.in_ok-see_argument.ensures.keeps;
       known = c.in_ok-see_argument.ensures.known;
     }
-
-pub in_arguments-returns-clause-lines : goal.in_arguments-returns-clause-lines
-in_arguments-returns-clause-lines t c =
-    arguments_end c.args.self.now.sound c.args.auto.now c.loop-number.auto' c.args.variables.now c.loop-number.variables c.args.store.now c.loop-number.store c.args.lines.now.items c.loop-number.lines.items c.args.parameters.now
-    c.args.arguments.now c.loop-number.number (drop_all c.loop-number.number c.args.arguments.now c.loop-number-test.false) c.loop-number.invariant.walk
-
-pub in_arguments-returns-clause-variables : goal.in_arguments-returns-clause-variables
-in_arguments-returns-clause-variables t c = c.loop-number.invariant.walk.stays.variables
-
-pub in_arguments-returns-clause-grows : goal.in_arguments-returns-clause-grows
-in_arguments-returns-clause-grows t c = c.loop-number.invariant.walk.stays.grows
-
-pub in_arguments-returns-clause-keeps : goal.in_arguments-returns-clause-keeps
-in_arguments-returns-clause-keeps t c = c.loop-number.invariant.walk.stays.keeps
 
 pub in_expression-in_clauses-requires : goal.in_expression-in_clauses-requires
 in_expression-in_clauses-requires t c =
@@ -304,9 +335,9 @@ in_expression-in_clauses-requires t c =
     (subst (PatternsBelong (length c.program.result.now.patterns)) (sym c.exprs.ensures.exprs) c.exprs.ensures.stands.clauses) in
     let patterns : AllByRecursion (λ (k : ℕ × ℕ). k.0 < m) cs = subst (ShapePatternsBelong m) form (c.node-node.ensures.clauses m stands) in
     let top = ceiling_within c.args.id.at (bodies cs) (bodies_below c.args.id.at cs older.1) in
-    let falls : 4 * ceiling (bodies cs) + 1 < t = omega arith in
+    let fallen : 4 * ceiling (bodies cs) + 1 < t = omega arith in
     let v = c.in_ok-value-in-Match.ensures in (
-      falls,
+      fallen,
       (
         ready_kept c.args.self.now c.args.auto.now c.in_expression-in-Match.new.auto v.grows c.requires.ready,
         (
@@ -316,69 +347,76 @@ in_expression-in_clauses-requires t c =
       ),
     )
 
-pub in_expression-returns-in_ok-in_clauses-in-Match-clause-walked : goal.in_expression-returns-in_ok-in_clauses-in-Match-clause-walked
-in_expression-returns-in_ok-in_clauses-in-Match-clause-walked t c S stands =
-    let p : ProgramTable = c.args.self.now.sound in
-    let P : ProgramTree = program_tree p in
-    let e : c.exprs.result.now ≡ p.exprs = c.exprs.ensures.exprs ∙ ap (λ (q : ProgramTable). q.exprs) c.program.ensures.program in
-    let n = c.node-node.result.now in
-    let cs : List (ℕ × ℕ) = clause_numbers c.deref-in-Match.result.now in
-    let form = sym c.form.ensures ∙ ap shape_of c.in-Match.is ∙ ap (λ (ks : List Clause). match_shape c.in-Match.scrutinee.at (clause_numbers ks)) (sym c.deref-in-Match.ensures.value) in
-    let x : Expression = expr_at p c.in-Match.scrutinee.at in
-    let ks : Clauses = clauses_of (placed_at p.patterns) (expr_at p) cs in
-    let tree : expr_at p c.args.id.at ≡ Matched c.place-place.result x ks = expr_is p c.exprs.result.now c.args.id n.place n.form (match_shape c.in-Match.scrutinee.at cs) e (c.node-node.ensures.expression p.patterns) form
-    ∙ ap (λ q. Matched q x ks) (sym c.place-place.ensures) in
-    let v = c.in_ok-value-in-Match.ensures in
-    let w = v.walked S stands in
-    let a1 = c.in_expression-in-Match.new.auto in
-    let there : ScopeStands P S a1 c.in_expression-in-Match.new.variables = subst (ScopeStands P S a1) (sym v.variables) (scope_kept P S c.args.auto.now a1 v.grows c.args.variables.now c.requires.variables stands) in
-    let comes = comes_first P S x a1 c.in_ok-value-in-Match.value (Accepted a1 c.in_ok-value-in-Match.value) w.may (λ d. ((λ m. m), (λ m. m))) in
-    subst (λ y. IsWalked P S y c.in_clauses.new.auto c.in_clauses.new.store c.args.lines.now.items c.in_clauses.new.lines.items c.in_ok-in_clauses-in-Match.field-0) (sym tree)
-    (walked_matched P S c.place-place.result x ks a1 c.in_clauses.new.auto c.in_expression-in-Match.new.store c.in_clauses.new.store c.args.lines.now.items c.in_expression-in-Match.new.lines.items c.in_clauses.new.lines.items
-    c.in_ok-value-in-Match.value c.in_ok-in_clauses-in-Match.field-0 c.in_clauses.ensures.keeps w (c.in_ok-in_clauses-in-Match.ensures.walked S x there comes))
+pub in_expression-returns-in_ok-in_clauses-in-Match : goal.in_expression-returns-in_ok-in_clauses-in-Match
+in_expression-returns-in_ok-in_clauses-in-Match t c =
+    record {
+      belongs = c.in_ok-in_clauses-in-Match.ensures.belongs;
+      walked = λ S stands.
+          let p : ProgramTable = c.args.self.now.sound in
+          let P : ProgramTree = program_tree p in
+          let e : c.exprs.result.now ≡ p.exprs = c.exprs.ensures.exprs ∙ ap (λ (q : ProgramTable). q.exprs) c.program.ensures.program in
+          let n = c.node-node.result.now in
+          let cs : List (ℕ × ℕ) = clause_numbers c.deref-in-Match.result.now in
+          let form = sym c.form.ensures ∙ ap shape_of c.in-Match.is ∙ ap (λ (ks : List Clause). match_shape c.in-Match.scrutinee.at (clause_numbers ks)) (sym c.deref-in-Match.ensures.value) in
+          let x : Expression = expr_at p c.in-Match.scrutinee.at in
+          let ks : Clauses = clauses_of (placed_at p.patterns) (expr_at p) cs in
+          let tree : expr_at p c.args.id.at ≡ Matched c.place-place.result x ks = expr_is p c.exprs.result.now c.args.id n.place n.form (match_shape c.in-Match.scrutinee.at cs) e (c.node-node.ensures.expression p.patterns) form
+          ∙ ap (λ q. Matched q x ks) (sym c.place-place.ensures) in
+          let v = c.in_ok-value-in-Match.ensures in
+          let w = v.walked S stands in
+          let a1 = c.in_expression-in-Match.new.auto in
+          let there : ScopeStands P S a1 c.in_expression-in-Match.new.variables = subst (ScopeStands P S a1) (sym v.variables) (scope_kept P S c.args.auto.now a1 v.grows c.args.variables.now c.requires.variables stands) in
+          let comes = comes_first P S x a1 c.in_ok-value-in-Match.value (Accepted a1 c.in_ok-value-in-Match.value) w.may (λ d. ((λ m. m), (λ m. m))) in
+          subst (λ y. IsWalked P S y c.in_clauses.new.auto c.in_clauses.new.store c.args.lines.now.items c.in_clauses.new.lines.items c.in_ok-in_clauses-in-Match.field-0) (sym tree)
+          (walked_matched P S c.place-place.result x ks a1 c.in_clauses.new.auto c.in_expression-in-Match.new.store c.in_clauses.new.store c.args.lines.now.items c.in_expression-in-Match.new.lines.items c.in_clauses.new.lines.items
+          c.in_ok-value-in-Match.value c.in_ok-in_clauses-in-Match.field-0 c.in_clauses.ensures.keeps w (c.in_ok-in_clauses-in-Match.ensures.walked S x there comes));
+      variables = c.in_ok-in_clauses-in-Match.ensures.variables ∙ c.in_ok-value-in-Match.ensures.variables;
+      grows = grows_then c.args.auto.now c.in_expression-in-Match.new.auto c.in_clauses.new.auto c.in_ok-value-in-Match.ensures.grows c.in_ok-in_clauses-in-Match.ensures.grows;
+      known = c.in_ok-in_clauses-in-Match.ensures.known;
+      keeps = keeps_then c.args.store.now c.in_expression-in-Match.new.store c.in_clauses.new.store c.in_ok-value-in-Match.ensures.keeps c.in_clauses.ensures.keeps;
+    }
 
-pub in_expression-returns-in_ok-in_clauses-in-Match-clause-variables : goal.in_expression-returns-in_ok-in_clauses-in-Match-clause-variables
-in_expression-returns-in_ok-in_clauses-in-Match-clause-variables t c = c.in_ok-in_clauses-in-Match.ensures.variables ∙ c.in_ok-value-in-Match.ensures.variables
+pub in_call-returns-in_ok-add_state-in-None : goal.in_call-returns-in_ok-add_state-in-None
+in_call-returns-in_ok-add_state-in-None t c =
+    record {
+      belongs = c.in_ok-add_state-in-None.ensures.belongs;
+      result = λ d.
+          let P : ProgramTree = program_tree c.args.self.now.sound in
+          let named = c.requires.ready.signatures.named c.args.word.now in
+          let none = signed_none (names_of P) c.args.auto.now (function_of P.functions c.args.word.now) (signature_of c.args.self.now.signatures c.args.word.now) c.in-None.ensures named in
+          let ok = c.in_ok-add_state-in-None.ensures.ok in
+          subst (λ o. (accepts c.add_state.new.self d c.in_ok-add_state-in-None.field-0 ≡ true) ↔ FitsResult (names_of P) o d) (sym none)
+          ((λ m. never c.add_state.new.self c.in_ok-add_state-in-None.field-0 (new_moves c.in_arguments-in-None.new.auto c.add_state.new.self c.in_ok-add_state-in-None.field-0 false ok.0 ok.1) d m), (λ m. absurd m));
+      lines = λ S stands.
+          let P : ProgramTree = program_tree c.args.self.now.sound in
+          let named = c.requires.ready.signatures.named c.args.word.now in
+          let none = signed_none (names_of P) c.args.auto.now (function_of P.functions c.args.word.now) (signature_of c.args.self.now.signatures c.args.word.now) c.in-None.ensures named in
+          c.in_ok-in_arguments-in-None.ensures.lines S (parameters_of (function_of P.functions c.args.word.now)) stands
+          (subst (λ o. AreParameters (names_of P) c.args.auto.now (parameters_of o) []) (sym none) tt);
+      variables = c.in_ok-in_arguments-in-None.ensures.variables;
+      grows =
+          let e = c.in_ok-add_state-in-None.ensures in
+          grows_then c.args.auto.now c.in_arguments-in-None.new.auto c.add_state.new.self c.in_ok-in_arguments-in-None.ensures.grows (record { extends = e.extends; keeps = e.keeps });
+      known =
+          let e = c.in_ok-add_state-in-None.ensures in
+          known_kept c.in_arguments-in-None.new.auto c.add_state.new.self c.in_arguments-in-None.new.store c.in_arguments-in-None.new.store c.in_arguments-in-None.new.known (record { extends = e.extends; keeps = e.keeps })
+          (keeps_same c.in_arguments-in-None.new.store) c.in_ok-in_arguments-in-None.ensures.known;
+      keeps = c.in_arguments-in-None.ensures.keeps;
+    }
 
-pub in_expression-returns-in_ok-in_clauses-in-Match-clause-grows : goal.in_expression-returns-in_ok-in_clauses-in-Match-clause-grows
-in_expression-returns-in_ok-in_clauses-in-Match-clause-grows t c =
-    grows_then c.args.auto.now c.in_expression-in-Match.new.auto c.in_clauses.new.auto c.in_ok-value-in-Match.ensures.grows c.in_ok-in_clauses-in-Match.ensures.grows
-
-pub in_expression-returns-in_ok-in_clauses-in-Match-clause-keeps : goal.in_expression-returns-in_ok-in_clauses-in-Match-clause-keeps
-in_expression-returns-in_ok-in_clauses-in-Match-clause-keeps t c = keeps_then c.args.store.now c.in_expression-in-Match.new.store c.in_clauses.new.store c.in_ok-value-in-Match.ensures.keeps c.in_clauses.ensures.keeps
-
-pub in_expression-returns-in_ok-add_state-in-Empty-clause-known : goal.in_expression-returns-in_ok-add_state-in-Empty-clause-known
-in_expression-returns-in_ok-add_state-in-Empty-clause-known t c =
-    let e = c.in_ok-add_state-in-Empty.ensures in
-    known_kept c.args.auto.now c.add_state.new.self c.args.store.now c.args.store.now c.args.known.now (record { extends = e.extends; keeps = e.keeps }) (keeps_same c.args.store.now) c.requires.known
-
-pub in_expression-returns-in_ok-text_state-in-Text-clause-known : goal.in_expression-returns-in_ok-text_state-in-Text-clause-known
-in_expression-returns-in_ok-text_state-in-Text-clause-known t c =
-    known_kept c.args.auto.now c.text_state.new.auto c.args.store.now c.args.store.now c.args.known.now c.in_ok-text_state-in-Text.ensures.grows (keeps_same c.args.store.now) c.requires.known
-
-pub in_expression-returns-in_ok-variable_state-in-Var-clause-known : goal.in_expression-returns-in_ok-variable_state-in-Var-clause-known
-in_expression-returns-in_ok-variable_state-in-Var-clause-known t c =
-    known_kept c.args.auto.now c.variable_state.new.auto c.args.store.now c.args.store.now c.args.known.now c.in_ok-variable_state-in-Var.ensures.grows (keeps_same c.args.store.now) c.requires.known
-
-pub in_expression-returns-in_ok-wrap-in-Elem-clause-known : goal.in_expression-returns-in_ok-wrap-in-Elem-clause-known
-in_expression-returns-in_ok-wrap-in-Elem-clause-known t c =
-    let e = c.in_ok-wrap-in-Elem.ensures in
-    known_kept c.in_expression.new.auto c.wrap.new.self c.in_expression.new.store c.in_expression.new.store c.in_expression.new.known (record { extends = e.extends; keeps = e.keeps }) (keeps_same c.in_expression.new.store)
-    c.in_ok-inside-in-Elem.ensures.known
-
-pub in_expression-returns-in_ok-join_states-in-Seq-clause-known : goal.in_expression-returns-in_ok-join_states-in-Seq-clause-known
-in_expression-returns-in_ok-join_states-in-Seq-clause-known t c =
-    known_kept c.in_parts.new.auto c.join_states.new.auto c.in_parts.new.store c.in_parts.new.store c.in_parts.new.known c.in_ok-join_states-in-Seq.ensures.grows (keeps_same c.in_parts.new.store) c.in_ok-states-in-Seq.ensures.known
-
-pub in_call-returns-in_ok-add_state-in-None-clause-known : goal.in_call-returns-in_ok-add_state-in-None-clause-known
-in_call-returns-in_ok-add_state-in-None-clause-known t c =
-    let e = c.in_ok-add_state-in-None.ensures in
-    known_kept c.in_arguments-in-None.new.auto c.add_state.new.self c.in_arguments-in-None.new.store c.in_arguments-in-None.new.store c.in_arguments-in-None.new.known (record { extends = e.extends; keeps = e.keeps })
-    (keeps_same c.in_arguments-in-None.new.store) c.in_ok-in_arguments-in-None.ensures.known
-
-pub in_clauses-returns-clause-known : goal.in_clauses-returns-clause-known
-in_clauses-returns-clause-known t c =
-    known_kept c.loop-clause.auto' c.unite_states.new.auto c.see_uncovered.new.store c.see_uncovered.new.store c.see_uncovered.new.known c.in_ok-unite_states.ensures.grows (keeps_same c.see_uncovered.new.store) c.in_ok-see_uncovered.ensures.known
+pub in_clauses-returns : goal.in_clauses-returns
+in_clauses-returns t c =
+    record {
+      belongs = c.in_ok-unite_states.ensures.belongs;
+      walked =
+          clauses_loop_end c.args.self.now.sound c.args.place c.args.auto.now c.loop-clause.auto' c.unite_states.new.auto c.args.variables.now c.loop-clause.variables c.args.store.now c.loop-clause.store c.see_uncovered.new.store
+          c.args.lines.now.items c.loop-clause.lines.items c.see_uncovered.new.lines.items c.args.clauses.now c.loop-clause.clause-index c.loop-clause.states.items c.args.arriving c.loop-clause.arriving c.in_ok-unite_states.field-0
+          (drop_all c.loop-clause.clause-index c.args.clauses.now c.loop-clause-test.false) c.loop-clause.invariant.walk c.in_ok-see_uncovered.ensures.keeps c.in_ok-see_uncovered.ensures.lines c.in_ok-unite_states.ensures.accepts;
+      variables = c.loop-clause.invariant.walk.stays.variables;
+      grows = grows_then c.args.auto.now c.loop-clause.auto' c.unite_states.new.auto c.loop-clause.invariant.walk.stays.grows c.in_ok-unite_states.ensures.grows;
+      known = known_kept c.loop-clause.auto' c.unite_states.new.auto c.see_uncovered.new.store c.see_uncovered.new.store c.see_uncovered.new.known c.in_ok-unite_states.ensures.grows (keeps_same c.see_uncovered.new.store) c.in_ok-see_uncovered.ensures.known;
+      keeps = keeps_then c.args.store.now c.loop-clause.store c.see_uncovered.new.store c.loop-clause.invariant.walk.stays.keeps c.in_ok-see_uncovered.ensures.keeps;
+    }
 
 pub in_clauses-loop-clause-init : goal.in_clauses-loop-clause-init
 in_clauses-loop-clause-init t c =
@@ -389,30 +427,29 @@ in_clauses-loop-clause-init t c =
       known = c.requires.known;
     }
 
-pub in_clauses-new-requires-clause-serves : goal.in_clauses-new-requires-clause-serves
-in_clauses-new-requires-clause-serves t c = c.requires.ready.serves
-
-pub in_clauses-new-requires-clause-pattern : goal.in_clauses-new-requires-clause-pattern
-in_clauses-new-requires-clause-pattern t c =
-    let n : ℕ = c.loop-clause.clause-index in
-    let none : Clause = record { pattern = record { at = 0 }; body = record { at = 0 } } in
-    let k : Clause = get_or c.args.clauses.now n none in
-    let e : k ≡ get_or c.args.clauses.now n k = get_or_default c.args.clauses.now n none k c.loop-clause-test.true in
-    let h = clause_here c.args.self.now.sound c.args.place c.args.auto.now c.loop-clause.auto' c.args.variables.now c.loop-clause.variables c.args.store.now c.loop-clause.store c.args.lines.now.items c.loop-clause.lines.items
-    c.args.clauses.now n c.loop-clause.states.items c.args.arriving c.loop-clause.arriving k c.loop-clause.invariant.walk c.loop-clause-test.true e in
-    let w = h.0 in
-    w.there
-
-pub in_clauses-new-requires-clause-linear : goal.in_clauses-new-requires-clause-linear
-in_clauses-new-requires-clause-linear t c =
-    let n : ℕ = c.loop-clause.clause-index in
-    let none : Clause = record { pattern = record { at = 0 }; body = record { at = 0 } } in
-    let k : Clause = get_or c.args.clauses.now n none in
-    let e : k ≡ get_or c.args.clauses.now n k = get_or_default c.args.clauses.now n none k c.loop-clause-test.true in
-    let h = clause_here c.args.self.now.sound c.args.place c.args.auto.now c.loop-clause.auto' c.args.variables.now c.loop-clause.variables c.args.store.now c.loop-clause.store c.args.lines.now.items c.loop-clause.lines.items
-    c.args.clauses.now n c.loop-clause.states.items c.args.arriving c.loop-clause.arriving k c.loop-clause.invariant.walk c.loop-clause-test.true e in
-    let w = h.0 in
-    w.linear
+pub in_clauses-new-requires : goal.in_clauses-new-requires
+in_clauses-new-requires t c =
+    record {
+      serves = c.requires.ready.serves;
+      pattern =
+          let n : ℕ = c.loop-clause.clause-index in
+          let none : Clause = record { pattern = record { at = 0 }; body = record { at = 0 } } in
+          let k : Clause = get_or c.args.clauses.now n none in
+          let e : k ≡ get_or c.args.clauses.now n k = get_or_default c.args.clauses.now n none k c.loop-clause-test.true in
+          let h = clause_here c.args.self.now.sound c.args.place c.args.auto.now c.loop-clause.auto' c.args.variables.now c.loop-clause.variables c.args.store.now c.loop-clause.store c.args.lines.now.items c.loop-clause.lines.items
+          c.args.clauses.now n c.loop-clause.states.items c.args.arriving c.loop-clause.arriving k c.loop-clause.invariant.walk c.loop-clause-test.true e in
+          let w = h.0 in
+          w.there;
+      linear =
+          let n : ℕ = c.loop-clause.clause-index in
+          let none : Clause = record { pattern = record { at = 0 }; body = record { at = 0 } } in
+          let k : Clause = get_or c.args.clauses.now n none in
+          let e : k ≡ get_or c.args.clauses.now n k = get_or_default c.args.clauses.now n none k c.loop-clause-test.true in
+          let h = clause_here c.args.self.now.sound c.args.place c.args.auto.now c.loop-clause.auto' c.args.variables.now c.loop-clause.variables c.args.store.now c.loop-clause.store c.args.lines.now.items c.loop-clause.lines.items
+          c.args.clauses.now n c.loop-clause.states.items c.args.arriving c.loop-clause.arriving k c.loop-clause.invariant.walk c.loop-clause-test.true e in
+          let w = h.0 in
+          w.linear;
+    }
 
 pub in_clauses-in_clause-requires : goal.in_clauses-in_clause-requires
 in_clauses-in_clause-requires t c =
@@ -425,8 +462,8 @@ in_clauses-in_clause-requires t c =
     let w = h.0 in
     let st = c.loop-clause.invariant.walk.stays in
     let top = h.1 in
-    let falls : 4 * (k.body).at + 4 < t = omega arith in (
-      falls,
+    let fallen : 4 * (k.body).at + 4 < t = omega arith in (
+      fallen,
       (
         ready_kept c.args.self.now c.args.auto.now c.loop-clause.auto' st.grows c.requires.ready,
         (
@@ -469,41 +506,37 @@ in_clauses-see_uncovered-requires t c = record { arriving = c.loop-clause.invari
 pub in_clauses-unite_states-requires : goal.in_clauses-unite_states-requires
 in_clauses-unite_states-requires t c = c.loop-clause.invariant.walk.there
 
-pub in_clauses-returns-clause-walked : goal.in_clauses-returns-clause-walked
-in_clauses-returns-clause-walked t c =
-    clauses_loop_end c.args.self.now.sound c.args.place c.args.auto.now c.loop-clause.auto' c.unite_states.new.auto c.args.variables.now c.loop-clause.variables c.args.store.now c.loop-clause.store c.see_uncovered.new.store
-    c.args.lines.now.items c.loop-clause.lines.items c.see_uncovered.new.lines.items c.args.clauses.now c.loop-clause.clause-index c.loop-clause.states.items c.args.arriving c.loop-clause.arriving c.in_ok-unite_states.field-0
-    (drop_all c.loop-clause.clause-index c.args.clauses.now c.loop-clause-test.false) c.loop-clause.invariant.walk c.in_ok-see_uncovered.ensures.keeps c.in_ok-see_uncovered.ensures.lines c.in_ok-unite_states.ensures.accepts
-
-pub in_clauses-returns-clause-variables : goal.in_clauses-returns-clause-variables
-in_clauses-returns-clause-variables t c = c.loop-clause.invariant.walk.stays.variables
-
 pub in_clause-bindings-requires : goal.in_clause-bindings-requires
 in_clause-bindings-requires t c = record { arriving = c.requires.arriving; known = c.requires.known.inhabitants }
 
 pub in_clause-pattern_place-requires : goal.in_clause-pattern_place-requires
 in_clause-pattern_place-requires t c = c.requires.clause.there
 
-pub in_clause-returns-in_default-clause-walked : goal.in_clause-returns-in_default-clause-walked
-in_clause-returns-in_default-clause-walked t c S e earlier stands comes =
-    let p : ProgramTable = c.args.self.now.sound in
-    let P : ProgramTree = program_tree p in
-    let Q : PlacedTree = placed_at p.patterns c.args.clause.pattern.at in
-    let C = Accepted c.args.auto.now c.args.arriving in
-    let made : IsPatternOf (names_of P) (unplaced Q) c.args.pattern.now = subst (λ T. IsPatternOf (names_of P) T c.args.pattern.now) (sym (unplaced_at p.patterns c.args.clause.pattern.at)) c.requires.pattern in
-    let dead : IsLiveIn P S e earlier Q → ⊥ = λ l. c.in_ok-found.ensures.dead (ap (λ o. Ok o) c.in_default.is) (names_of P) Q made (live_to P S e earlier C comes Q l) in
-    clause_dead P S e earlier Q (expr_at p c.args.clause.body.at) c.bindings.new.auto c.bindings.new.store c.args.lines.now.items c.push.new.self.items dead
-    (record {
-      more = record { place = c.pattern_place.result; finding = DeadClause } ∷ [];
-      grown = c.in_ok-push.ensures.items;
-      belong = (tt, tt);
-      meet = ap (λ (q : Place). record { place = q; kind = dead_clause; document = None } ∷ []) c.pattern_place.ensures;
-    })
-
-pub in_clause-returns-in_default-clause-known : goal.in_clause-returns-in_default-clause-known
-in_clause-returns-in_default-clause-known t c =
-    let f = c.in_ok-found.ensures in
-    known_learnt c.args.auto.now c.bindings.new.auto c.args.store.now c.bindings.new.store c.args.known.now c.bindings.new.known (record { extends = f.extends; keeps = f.accepting }) f.keeps c.requires.known f.known
+pub in_clause-returns-in_default : goal.in_clause-returns-in_default
+in_clause-returns-in_default t c =
+    record {
+      belongs = tt;
+      walked = λ S e earlier stands comes.
+          let p : ProgramTable = c.args.self.now.sound in
+          let P : ProgramTree = program_tree p in
+          let Q : PlacedTree = placed_at p.patterns c.args.clause.pattern.at in
+          let C = Accepted c.args.auto.now c.args.arriving in
+          let made : IsPatternOf (names_of P) (unplaced Q) c.args.pattern.now = subst (λ T. IsPatternOf (names_of P) T c.args.pattern.now) (sym (unplaced_at p.patterns c.args.clause.pattern.at)) c.requires.pattern in
+          let dead : IsLiveIn P S e earlier Q → ⊥ = λ l. c.in_ok-found.ensures.dead (ap (λ o. Ok o) c.in_default.is) (names_of P) Q made (live_to P S e earlier C comes Q l) in
+          clause_dead P S e earlier Q (expr_at p c.args.clause.body.at) c.bindings.new.auto c.bindings.new.store c.args.lines.now.items c.push.new.self.items dead
+          (record {
+            more = record { place = c.pattern_place.result; finding = DeadClause } ∷ [];
+            grown = c.in_ok-push.ensures.items;
+            belong = (tt, tt);
+            meet = ap (λ (q : Place). record { place = q; kind = dead_clause; document = None } ∷ []) c.pattern_place.ensures;
+          });
+      variables = refl;
+      grows = record { extends = c.in_ok-found.ensures.extends; keeps = c.in_ok-found.ensures.accepting };
+      known =
+          let f = c.in_ok-found.ensures in
+          known_learnt c.args.auto.now c.bindings.new.auto c.args.store.now c.bindings.new.store c.args.known.now c.bindings.new.known (record { extends = f.extends; keeps = f.accepting }) f.keeps c.requires.known f.known;
+      keeps = c.in_ok-found.ensures.keeps;
+    }
 
 pub in_clause-in_expression-requires : goal.in_clause-in_expression-requires
 in_clause-in_expression-requires t c =
@@ -516,8 +549,8 @@ in_clause-in_expression-requires t c =
     let grows : Grows c.args.auto.now c.bindings.new.auto = record { extends = f.extends; keeps = f.accepting } in
     let gs = c.in-Some.givens.items in
     let bound : AreMayGivens (names_of P) C [] Q c.bindings.new.auto gs = if_some (λ hs. (D : Definitions) (R : PlacedTree) → IsPatternOf D (unplaced R) c.args.pattern.now → AreMayGivens D C [] R c.bindings.new.auto hs.items) c.in_ok-found.found c.in-Some.givens c.in-Some.is f.bindings (names_of P) Q made in
-    let falls : 4 * c.args.clause.body.at + 3 < t = omega arith in (
-      falls,
+    let fallen : 4 * c.args.clause.body.at + 3 < t = omega arith in (
+      fallen,
       (
         ready_kept c.args.self.now c.args.auto.now c.bindings.new.auto grows c.requires.ready,
         (
@@ -530,101 +563,75 @@ in_clause-in_expression-requires t c =
       ),
     )
 
-pub in_clause-returns-clause-walked : goal.in_clause-returns-clause-walked
-in_clause-returns-clause-walked t c S e earlier stands comes =
-    let p : ProgramTable = c.args.self.now.sound in
-    let P : ProgramTree = program_tree p in
-    let Q : PlacedTree = placed_at p.patterns c.args.clause.pattern.at in
-    let C = Accepted c.args.auto.now c.args.arriving in
-    let made : IsPatternOf (names_of P) (unplaced Q) c.args.pattern.now = subst (λ T. IsPatternOf (names_of P) T c.args.pattern.now) (sym (unplaced_at p.patterns c.args.clause.pattern.at)) c.requires.pattern in
-    let f = c.in_ok-found.ensures in
-    let grows : Grows c.args.auto.now c.bindings.new.auto = record { extends = f.extends; keeps = f.accepting } in
-    let gs = c.in-Some.givens.items in
-    let bound : AreMayGivens (names_of P) C [] Q c.bindings.new.auto gs = if_some (λ hs. (D : Definitions) (R : PlacedTree) → IsPatternOf D (unplaced R) c.args.pattern.now → AreMayGivens D C [] R c.bindings.new.auto hs.items) c.in_ok-found.found c.in-Some.givens c.in-Some.is f.bindings (names_of P) Q made in
-    let live : IsLiveIn P S e earlier Q = live_from P S e earlier C comes Q (if_some (λ hs. (D : Definitions) (R : PlacedTree) → IsPatternOf D (unplaced R) c.args.pattern.now → IsLive D C [] R) c.in_ok-found.found c.in-Some.givens c.in-Some.is f.live (names_of P) Q made) in
-    let inside = clause_scope P S e earlier C comes Q c.args.auto.now c.bindings.new.auto c.args.variables.now c.bring_in.new.variables gs grows c.requires.variables stands bound c.in_ok-bring_in.ensures in
-    clause_live P S e earlier Q (expr_at p c.args.clause.body.at) c.in_expression.new.auto c.in_expression.new.store c.args.lines.now.items c.in_expression.new.lines.items c.in_ok-state.state live
-    (c.in_ok-state.ensures.walked (clause_entry e earlier Q ∷ S) inside)
-
-pub in_clause-returns-clause-variables : goal.in_clause-returns-clause-variables
-in_clause-returns-clause-variables t c =
-    let same : c.in_expression.new.variables ≡ c.bring_in.new.variables = c.in_ok-state.ensures.variables in
-    clause_left c.args.variables.now c.bring_in.new.variables c.truncate.new.self c.len-before.result c.in-Some.givens.items c.in_ok-bring_in.ensures c.len-before.ensures
-    (c.truncate.ensures ∙ ap (λ (vs : List Variable). drop (length vs - c.len-before.result) vs) same)
-
-pub in_clause-returns-clause-grows : goal.in_clause-returns-clause-grows
-in_clause-returns-clause-grows t c =
-    let f = c.in_ok-found.ensures in
-    grows_then c.args.auto.now c.bindings.new.auto c.in_expression.new.auto (record { extends = f.extends; keeps = f.accepting }) c.in_ok-state.ensures.grows
-
-pub in_clause-returns-clause-keeps : goal.in_clause-returns-clause-keeps
-in_clause-returns-clause-keeps t c = keeps_then c.args.store.now c.bindings.new.store c.in_expression.new.store c.in_ok-found.ensures.keeps c.in_ok-state.ensures.keeps
+pub in_clause-returns : goal.in_clause-returns
+in_clause-returns t c =
+    record {
+      belongs = c.in_ok-state.ensures.belongs;
+      walked = λ S e earlier stands comes.
+          let p : ProgramTable = c.args.self.now.sound in
+          let P : ProgramTree = program_tree p in
+          let Q : PlacedTree = placed_at p.patterns c.args.clause.pattern.at in
+          let C = Accepted c.args.auto.now c.args.arriving in
+          let made : IsPatternOf (names_of P) (unplaced Q) c.args.pattern.now = subst (λ T. IsPatternOf (names_of P) T c.args.pattern.now) (sym (unplaced_at p.patterns c.args.clause.pattern.at)) c.requires.pattern in
+          let f = c.in_ok-found.ensures in
+          let grows : Grows c.args.auto.now c.bindings.new.auto = record { extends = f.extends; keeps = f.accepting } in
+          let gs = c.in-Some.givens.items in
+          let bound : AreMayGivens (names_of P) C [] Q c.bindings.new.auto gs = if_some (λ hs. (D : Definitions) (R : PlacedTree) → IsPatternOf D (unplaced R) c.args.pattern.now → AreMayGivens D C [] R c.bindings.new.auto hs.items) c.in_ok-found.found c.in-Some.givens c.in-Some.is f.bindings (names_of P) Q made in
+          let live : IsLiveIn P S e earlier Q = live_from P S e earlier C comes Q (if_some (λ hs. (D : Definitions) (R : PlacedTree) → IsPatternOf D (unplaced R) c.args.pattern.now → IsLive D C [] R) c.in_ok-found.found c.in-Some.givens c.in-Some.is f.live (names_of P) Q made) in
+          let inside = clause_scope P S e earlier C comes Q c.args.auto.now c.bindings.new.auto c.args.variables.now c.bring_in.new.variables gs grows c.requires.variables stands bound c.in_ok-bring_in.ensures in
+          clause_live P S e earlier Q (expr_at p c.args.clause.body.at) c.in_expression.new.auto c.in_expression.new.store c.args.lines.now.items c.in_expression.new.lines.items c.in_ok-state.state live
+          (c.in_ok-state.ensures.walked (clause_entry e earlier Q ∷ S) inside);
+      variables =
+          let same : c.in_expression.new.variables ≡ c.bring_in.new.variables = c.in_ok-state.ensures.variables in
+          clause_left c.args.variables.now c.bring_in.new.variables c.truncate.new.self c.len-before.result c.in-Some.givens.items c.in_ok-bring_in.ensures c.len-before.ensures
+          (c.truncate.ensures ∙ ap (λ (vs : List Variable). drop (length vs - c.len-before.result) vs) same);
+      grows =
+          let f = c.in_ok-found.ensures in
+          grows_then c.args.auto.now c.bindings.new.auto c.in_expression.new.auto (record { extends = f.extends; keeps = f.accepting }) c.in_ok-state.ensures.grows;
+      known = c.in_ok-state.ensures.known;
+      keeps = keeps_then c.args.store.now c.bindings.new.store c.in_expression.new.store c.in_ok-found.ensures.keeps c.in_ok-state.ensures.keeps;
+    }
 
 pub in_call-in_arguments-requires : goal.in_call-in_arguments-requires
 in_call-in_arguments-requires t c =
     let P : ProgramTree = program_tree c.args.self.now.sound in
     let named = c.requires.ready.signatures.named c.args.word.now in
     let g = signed_some (names_of P) c.args.auto.now (function_of P.functions c.args.word.now) (signature_of c.args.self.now.signatures c.args.word.now) c.in-Some.signature.now c.in-Some.ensures named in
-    let falls : 4 * ceiling (expr_numbers c.args.arguments.now) + 1 < t = omega arith in
-    (falls, (c.requires.ready, (c.requires.arguments, (subst (AllByRecursion (IsState c.args.auto.now)) (sym c.deref.ensures.value) (parameter_states (names_of P) c.args.auto.now (parameters_of (function_of P.functions c.args.word.now)) c.in-Some.signature.now.parameters.items g.0), (c.requires.variables, c.requires.known)))))
+    let fallen : 4 * ceiling (expr_numbers c.args.arguments.now) + 1 < t = omega arith in
+    (fallen, (c.requires.ready, (c.requires.arguments, (subst (AllByRecursion (IsState c.args.auto.now)) (sym c.deref.ensures.value) (parameter_states (names_of P) c.args.auto.now (parameters_of (function_of P.functions c.args.word.now)) c.in-Some.signature.now.parameters.items g.0), (c.requires.variables, c.requires.known)))))
 
 pub in_call-in_arguments-requires-in-None : goal.in_call-in_arguments-requires-in-None
 in_call-in_arguments-requires-in-None t c =
-    let falls : 4 * ceiling (expr_numbers c.args.arguments.now) + 1 < t = omega arith in
-    (falls, (c.requires.ready, (c.requires.arguments, (tt, (c.requires.variables, c.requires.known)))))
+    let fallen : 4 * ceiling (expr_numbers c.args.arguments.now) + 1 < t = omega arith in
+    (fallen, (c.requires.ready, (c.requires.arguments, (tt, (c.requires.variables, c.requires.known)))))
 
-pub in_call-returns-in_ok-in_arguments-in-Some-clause-result : goal.in_call-returns-in_ok-in_arguments-in-Some-clause-result
-in_call-returns-in_ok-in_arguments-in-Some-clause-result t c d =
-    let P : ProgramTree = program_tree c.args.self.now.sound in
-    let named = c.requires.ready.signatures.named c.args.word.now in
-    let g = signed_some (names_of P) c.args.auto.now (function_of P.functions c.args.word.now) (signature_of c.args.self.now.signatures c.args.word.now) c.in-Some.signature.now c.in-Some.ensures named in
-    let grows = c.in_ok-in_arguments-in-Some.ensures.grows in
-    let same : accepts c.in_arguments.new.auto d c.in-Some.signature.now.declared ≡ accepts c.args.auto.now d c.in-Some.signature.now.declared = grows.keeps d c.in-Some.signature.now.declared g.1 in
-    ((λ m. (g.2 d).0 (sym same ∙ m)), (λ m. same ∙ (g.2 d).1 m))
-
-pub in_call-returns-in_ok-in_arguments-in-Some-clause-belongs : goal.in_call-returns-in_ok-in_arguments-in-Some-clause-belongs
-in_call-returns-in_ok-in_arguments-in-Some-clause-belongs t c =
-    let P : ProgramTree = program_tree c.args.self.now.sound in
-    let named = c.requires.ready.signatures.named c.args.word.now in
-    let g = signed_some (names_of P) c.args.auto.now (function_of P.functions c.args.word.now) (signature_of c.args.self.now.signatures c.args.word.now) c.in-Some.signature.now c.in-Some.ensures named in
-    let grows = c.in_ok-in_arguments-in-Some.ensures.grows in
-    (grows.extends).states c.in-Some.signature.now.declared g.1
-
-pub in_call-returns-in_ok-in_arguments-in-Some-clause-lines : goal.in_call-returns-in_ok-in_arguments-in-Some-clause-lines
-in_call-returns-in_ok-in_arguments-in-Some-clause-lines t c S stands =
-    let P : ProgramTree = program_tree c.args.self.now.sound in
-    let named = c.requires.ready.signatures.named c.args.word.now in
-    let g = signed_some (names_of P) c.args.auto.now (function_of P.functions c.args.word.now) (signature_of c.args.self.now.signatures c.args.word.now) c.in-Some.signature.now c.in-Some.ensures named in
-    c.in_ok-in_arguments-in-Some.ensures.lines S (parameters_of (function_of P.functions c.args.word.now)) stands
-    (subst (AreParameters (names_of P) c.args.auto.now (parameters_of (function_of P.functions c.args.word.now))) (sym c.deref.ensures.value) g.0)
-
-pub in_call-returns-in_ok-add_state-in-None-clause-result : goal.in_call-returns-in_ok-add_state-in-None-clause-result
-in_call-returns-in_ok-add_state-in-None-clause-result t c d =
-    let P : ProgramTree = program_tree c.args.self.now.sound in
-    let named = c.requires.ready.signatures.named c.args.word.now in
-    let none = signed_none (names_of P) c.args.auto.now (function_of P.functions c.args.word.now) (signature_of c.args.self.now.signatures c.args.word.now) c.in-None.ensures named in
-    let ok = c.in_ok-add_state-in-None.ensures.ok in
-    subst (λ o. (accepts c.add_state.new.self d c.in_ok-add_state-in-None.field-0 ≡ true) ↔ FitsResult (names_of P) o d) (sym none)
-    ((λ m. never c.add_state.new.self c.in_ok-add_state-in-None.field-0 (new_moves c.in_arguments-in-None.new.auto c.add_state.new.self c.in_ok-add_state-in-None.field-0 false ok.0 ok.1) d m), (λ m. absurd m))
-
-pub in_call-returns-in_ok-add_state-in-None-clause-lines : goal.in_call-returns-in_ok-add_state-in-None-clause-lines
-in_call-returns-in_ok-add_state-in-None-clause-lines t c S stands =
-    let P : ProgramTree = program_tree c.args.self.now.sound in
-    let named = c.requires.ready.signatures.named c.args.word.now in
-    let none = signed_none (names_of P) c.args.auto.now (function_of P.functions c.args.word.now) (signature_of c.args.self.now.signatures c.args.word.now) c.in-None.ensures named in
-    c.in_ok-in_arguments-in-None.ensures.lines S (parameters_of (function_of P.functions c.args.word.now)) stands
-    (subst (λ o. AreParameters (names_of P) c.args.auto.now (parameters_of o) []) (sym none) tt)
-
-pub in_call-returns-in_ok-add_state-in-None-clause-grows : goal.in_call-returns-in_ok-add_state-in-None-clause-grows
-in_call-returns-in_ok-add_state-in-None-clause-grows t c =
-    let e = c.in_ok-add_state-in-None.ensures in
-    grows_then c.args.auto.now c.in_arguments-in-None.new.auto c.add_state.new.self c.in_ok-in_arguments-in-None.ensures.grows (record { extends = e.extends; keeps = e.keeps })
-
-pub in_clauses-returns-clause-grows : goal.in_clauses-returns-clause-grows
-in_clauses-returns-clause-grows t c = grows_then c.args.auto.now c.loop-clause.auto' c.unite_states.new.auto c.loop-clause.invariant.walk.stays.grows c.in_ok-unite_states.ensures.grows
-
-pub in_clauses-returns-clause-keeps : goal.in_clauses-returns-clause-keeps
-in_clauses-returns-clause-keeps t c = keeps_then c.args.store.now c.loop-clause.store c.see_uncovered.new.store c.loop-clause.invariant.walk.stays.keeps c.in_ok-see_uncovered.ensures.keeps
+pub in_call-returns-in_ok-in_arguments-in-Some : goal.in_call-returns-in_ok-in_arguments-in-Some
+in_call-returns-in_ok-in_arguments-in-Some t c =
+    record {
+      belongs =
+          let P : ProgramTree = program_tree c.args.self.now.sound in
+          let named = c.requires.ready.signatures.named c.args.word.now in
+          let g = signed_some (names_of P) c.args.auto.now (function_of P.functions c.args.word.now) (signature_of c.args.self.now.signatures c.args.word.now) c.in-Some.signature.now c.in-Some.ensures named in
+          let grows = c.in_ok-in_arguments-in-Some.ensures.grows in
+          (grows.extends).states c.in-Some.signature.now.declared g.1;
+      result = λ d.
+          let P : ProgramTree = program_tree c.args.self.now.sound in
+          let named = c.requires.ready.signatures.named c.args.word.now in
+          let g = signed_some (names_of P) c.args.auto.now (function_of P.functions c.args.word.now) (signature_of c.args.self.now.signatures c.args.word.now) c.in-Some.signature.now c.in-Some.ensures named in
+          let grows = c.in_ok-in_arguments-in-Some.ensures.grows in
+          let same : accepts c.in_arguments.new.auto d c.in-Some.signature.now.declared ≡ accepts c.args.auto.now d c.in-Some.signature.now.declared = grows.keeps d c.in-Some.signature.now.declared g.1 in
+          ((λ m. (g.2 d).0 (sym same ∙ m)), (λ m. same ∙ (g.2 d).1 m));
+      lines = λ S stands.
+          let P : ProgramTree = program_tree c.args.self.now.sound in
+          let named = c.requires.ready.signatures.named c.args.word.now in
+          let g = signed_some (names_of P) c.args.auto.now (function_of P.functions c.args.word.now) (signature_of c.args.self.now.signatures c.args.word.now) c.in-Some.signature.now c.in-Some.ensures named in
+          c.in_ok-in_arguments-in-Some.ensures.lines S (parameters_of (function_of P.functions c.args.word.now)) stands
+          (subst (AreParameters (names_of P) c.args.auto.now (parameters_of (function_of P.functions c.args.word.now))) (sym c.deref.ensures.value) g.0);
+      variables = c.in_ok-in_arguments-in-Some.ensures.variables;
+      grows = c.in_ok-in_arguments-in-Some.ensures.grows;
+      known = c.in_ok-in_arguments-in-Some.ensures.known;
+      keeps = c.in_arguments.ensures.keeps;
+    }
 
 pub in_expression-returns-in_err-in_clauses-in-Match : goal.in_expression-returns-in_err-in_clauses-in-Match
 in_expression-returns-in_err-in_clauses-in-Match t c =
@@ -781,3 +788,12 @@ in_call-returns-in_err-add_state-in-None t c =
     let e = c.from_residual-in_err-add_state-in-None.ensures.0 in
     let r = c.from_residual-in_err-add_state-in-None.result in
     record { belongs = IfOk-from_err r _ e; result = IfOk-from_err r _ e; lines = IfOk-from_err r _ e; variables = IfOk-from_err r _ e; grows = IfOk-from_err r _ e; known = IfOk-from_err r _ e; keeps = c.in_arguments-in-None.ensures.keeps }
+
+pub in_parts-loop-part-smaller : goal.in_parts-loop-part-smaller
+in_parts-loop-part-smaller t c = falls (length c.args.parts.now) c.loop-part.part-index c.loop-part-test.true
+
+pub in_arguments-loop-number-smaller : goal.in_arguments-loop-number-smaller
+in_arguments-loop-number-smaller t c = falls (length c.args.arguments.now) c.loop-number.number c.loop-number-test.true
+
+pub in_clauses-loop-clause-smaller : goal.in_clauses-loop-clause-smaller
+in_clauses-loop-clause-smaller t c = falls (length c.args.clauses.now) c.loop-clause.clause-index c.loop-clause-test.true

@@ -1,3 +1,5 @@
+use Rattle.xd_check.proofs.Keeping.{keeps_same, keeps_then}
+use Rattle.std.proofs.lemmas.Result.{IfOk-from_err}
 use Rattle.std.proofs.Common.{◌≡◌, ◌<◌, List, map, length, ap, sym, subst, ◌∙◌}
 use Rattle.xd_syntax.specs.FunctionRow.{FunctionRow}
 use Rattle.xd_syntax.specs.Kept.{ProgramTable, parameter, program_tree}
@@ -39,34 +41,73 @@ in_expression-requires c =
       known = c.requires.known;
     }
 
-pub see_result-requires-clause-body : goal.see_result-requires-clause-body
-see_result-requires-clause-body c = subst (λ (id : ExprId). id.at < length c.args.self.now.sound.exprs) (sym c.body-body.ensures) c.requires.body.there
+pub see_result-requires : goal.see_result-requires
+see_result-requires c =
+    record {
+      body = subst (λ (id : ExprId). id.at < length c.args.self.now.sound.exprs) (sym c.body-body.ensures) c.requires.body.there;
+      state = c.in_ok-state.ensures.belongs;
+      wanted = c.in_ok-state.ensures.grows.extends.states c.args.signature.now.declared c.requires.signature.result.belongs;
+      known = c.in_ok-state.ensures.known;
+    }
 
-pub see_result-requires-clause-known : goal.see_result-requires-clause-known
-see_result-requires-clause-known c = c.in_ok-state.ensures.known
+pub returns : goal.returns
+returns c =
+    record {
+      lines =
+          let p : ProgramTable = c.args.self.now.sound in
+          let P : ProgramTree = program_tree p in
+          let f : FunctionRow = c.args.function.now in
+          let g : Signature = c.args.signature.now in
+          let scope : c.in_ok-variables.variables ≡ parameters_in_scope f.params g.parameters.items = c.in_ok-variables.ensures
+          ∙ ap (λ (qs : List Param). parameters_in_scope qs c.deref.result.now) c.params.ensures.params ∙ ap (λ ss. parameters_in_scope f.params ss) c.deref.ensures.value in
+          let S : Scope = parameters_scope (map (parameter p.types) f.params) in
+          let x : Expression = expr_at p f.body.at in
+          let grows = c.in_ok-state.ensures.grows in
+          let inside : ScopeStands P S c.args.auto.now c.in_ok-variables.variables = subst (ScopeStands P S c.args.auto.now) (sym scope) (parameters_stand P p c.args.auto.now f.params g.parameters.items c.requires.signature.parameters) in
+          let w0 = c.in_ok-state.ensures.walked S inside in
+          let w : IsWalked P S x c.in_expression.new.auto c.in_expression.new.store c.args.lines.now.items c.in_expression.new.lines.items c.in_ok-state.state
+          = subst (λ (id : ExprId). IsWalked P S (expr_at p id.at) c.in_expression.new.auto c.in_expression.new.store c.args.lines.now.items c.in_expression.new.lines.items c.in_ok-state.state) c.body-body.ensures w0 in
+          let line : AddsLines c.see_result.new.store (LineWhere (place_of_expression x) wrong_result (IsMisfit c.in_expression.new.auto c.in_ok-state.state g.declared)) c.in_expression.new.lines.items c.see_result.new.lines.items
+          = subst (λ (id : ExprId). AddsLines c.see_result.new.store (LineWhere (place_of_expression (expr_at p id.at)) wrong_result (IsMisfit c.in_expression.new.auto c.in_ok-state.state g.declared)) c.in_expression.new.lines.items c.see_result.new.lines.items) c.body-body.ensures c.in_ok-see_result.ensures.lines in
+          let wanted = state_kept (names_of P) c.args.auto.now c.in_expression.new.auto grows (placed_at p.types f.declared.at) g.declared c.requires.signature.result in
+          adds_both c.in_expression.new.store c.see_result.new.store c.in_ok-see_result.ensures.keeps (LinesOf P S x) (LineWhere (place_of_expression x) wrong_result (Misfits P S x (placed_at p.types f.declared.at)))
+          c.args.lines.now.items c.in_expression.new.lines.items c.see_result.new.lines.items w.lines
+          (adds_as c.see_result.new.store (LineWhere (place_of_expression x) wrong_result (IsMisfit c.in_expression.new.auto c.in_ok-state.state g.declared)) (LineWhere (place_of_expression x) wrong_result (Misfits P S x (placed_at p.types f.declared.at)))
+          (misfit_lines P S x (placed_at p.types f.declared.at) (place_of_expression x) wrong_result c.in_expression.new.auto c.in_ok-state.state g.declared w.may wanted.exact) c.in_expression.new.lines.items c.see_result.new.lines.items line);
+      grows = c.in_ok-state.ensures.grows;
+      known = c.in_ok-see_result.ensures.known;
+      keeps = keeps_then c.args.store.now c.in_expression.new.store c.see_result.new.store c.in_ok-state.ensures.keeps c.in_ok-see_result.ensures.keeps;
+    }
 
-pub see_result-requires-clause-wanted : goal.see_result-requires-clause-wanted
-see_result-requires-clause-wanted c = c.in_ok-state.ensures.grows.extends.states c.args.signature.now.declared c.requires.signature.result.belongs
+pub returns-in_err-variables : goal.returns-in_err-variables
+returns-in_err-variables c =
+    let e = c.from_residual.ensures.0 in
+    let r = c.from_residual.result in
+    record {
+      lines = IfOk-from_err r _ e;
+      grows = IfOk-from_err r _ e;
+      known = IfOk-from_err r _ e;
+      keeps = keeps_same c.args.store.now;
+    }
 
-pub returns-clause-lines : goal.returns-clause-lines
-returns-clause-lines c =
-    let p : ProgramTable = c.args.self.now.sound in
-    let P : ProgramTree = program_tree p in
-    let f : FunctionRow = c.args.function.now in
-    let g : Signature = c.args.signature.now in
-    let scope : c.in_ok-variables.variables ≡ parameters_in_scope f.params g.parameters.items = c.in_ok-variables.ensures
-    ∙ ap (λ (qs : List Param). parameters_in_scope qs c.deref.result.now) c.params.ensures.params ∙ ap (λ ss. parameters_in_scope f.params ss) c.deref.ensures.value in
-    let S : Scope = parameters_scope (map (parameter p.types) f.params) in
-    let x : Expression = expr_at p f.body.at in
-    let grows = c.in_ok-state.ensures.grows in
-    let inside : ScopeStands P S c.args.auto.now c.in_ok-variables.variables = subst (ScopeStands P S c.args.auto.now) (sym scope) (parameters_stand P p c.args.auto.now f.params g.parameters.items c.requires.signature.parameters) in
-    let w0 = c.in_ok-state.ensures.walked S inside in
-    let w : IsWalked P S x c.in_expression.new.auto c.in_expression.new.store c.args.lines.now.items c.in_expression.new.lines.items c.in_ok-state.state
-    = subst (λ (id : ExprId). IsWalked P S (expr_at p id.at) c.in_expression.new.auto c.in_expression.new.store c.args.lines.now.items c.in_expression.new.lines.items c.in_ok-state.state) c.body-body.ensures w0 in
-    let line : AddsLines c.see_result.new.store (LineWhere (place_of_expression x) wrong_result (IsMisfit c.in_expression.new.auto c.in_ok-state.state g.declared)) c.in_expression.new.lines.items c.see_result.new.lines.items
-    = subst (λ (id : ExprId). AddsLines c.see_result.new.store (LineWhere (place_of_expression (expr_at p id.at)) wrong_result (IsMisfit c.in_expression.new.auto c.in_ok-state.state g.declared)) c.in_expression.new.lines.items c.see_result.new.lines.items) c.body-body.ensures c.in_ok-see_result.ensures.lines in
-    let wanted = state_kept (names_of P) c.args.auto.now c.in_expression.new.auto grows (placed_at p.types f.declared.at) g.declared c.requires.signature.result in
-    adds_both c.in_expression.new.store c.see_result.new.store c.in_ok-see_result.ensures.keeps (LinesOf P S x) (LineWhere (place_of_expression x) wrong_result (Misfits P S x (placed_at p.types f.declared.at)))
-    c.args.lines.now.items c.in_expression.new.lines.items c.see_result.new.lines.items w.lines
-    (adds_as c.see_result.new.store (LineWhere (place_of_expression x) wrong_result (IsMisfit c.in_expression.new.auto c.in_ok-state.state g.declared)) (LineWhere (place_of_expression x) wrong_result (Misfits P S x (placed_at p.types f.declared.at)))
-    (misfit_lines P S x (placed_at p.types f.declared.at) (place_of_expression x) wrong_result c.in_expression.new.auto c.in_ok-state.state g.declared w.may wanted.exact) c.in_expression.new.lines.items c.see_result.new.lines.items line)
+pub returns-in_err-state : goal.returns-in_err-state
+returns-in_err-state c =
+    let e = c.from_residual-in_err-state.ensures.0 in
+    let r = c.from_residual-in_err-state.result in
+    record {
+      lines = IfOk-from_err r _ e;
+      grows = IfOk-from_err r _ e;
+      known = IfOk-from_err r _ e;
+      keeps = c.in_expression.ensures.keeps;
+    }
+
+pub returns-in_err-see_result : goal.returns-in_err-see_result
+returns-in_err-see_result c =
+    let e = c.from_residual-in_err-see_result.ensures.0 in
+    let r = c.from_residual-in_err-see_result.result in
+    record {
+      lines = IfOk-from_err r _ e;
+      grows = IfOk-from_err r _ e;
+      known = IfOk-from_err r _ e;
+      keeps = keeps_then c.args.store.now c.in_expression.new.store c.see_result.new.store c.in_ok-state.ensures.keeps c.see_result.ensures.keeps;
+    }

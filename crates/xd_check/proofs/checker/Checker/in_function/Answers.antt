@@ -1,3 +1,4 @@
+use Rattle.std.proofs.lemmas.Result.{IfOk-from_err}
 use Rattle.std.proofs.Common.{◌≡◌, ◌<◌, List, [], get_or, length, ap, sym, subst, ◌∙◌}
 use Rattle.std.proofs.lemmas.List.{get_or_default}
 use Rattle.xd_syntax.specs.FunctionRow.{FunctionRow}
@@ -35,14 +36,20 @@ in_body-requires c =
       known = c.requires.known;
     }
 
-pub returns-clause-lines : goal.returns-clause-lines
-returns-clause-lines c h k =
-    let p : ProgramTable = c.args.self.now.sound in
-    let f : FunctionRow = c.index-functions-number.result in
-    let same : c.functions.result.now ≡ p.functions = c.functions.ensures.functions ∙ ap (λ (q : ProgramTable). q.functions) c.program.ensures.program in
-    let at : f ≡ get_or p.functions c.args.number f = c.index-functions-number.is ∙ ap (λ fs. get_or fs c.args.number f) same in
-    let twin : h ≡ f = k ∙ sym (get_or_default p.functions c.args.number f h c.requires.number) ∙ sym at in
-    subst (λ (y : FunctionRow). AddsLines c.in_body.new.store (LinesOfFunction (program_tree p) (function_definition p y)) c.args.lines.now.items c.in_body.new.lines.items) (sym twin) c.in_ok-in_body.ensures.lines
+pub returns : goal.returns
+returns c =
+    record {
+      lines = λ h k.
+          let p : ProgramTable = c.args.self.now.sound in
+          let f : FunctionRow = c.index-functions-number.result in
+          let same : c.functions.result.now ≡ p.functions = c.functions.ensures.functions ∙ ap (λ (q : ProgramTable). q.functions) c.program.ensures.program in
+          let at : f ≡ get_or p.functions c.args.number f = c.index-functions-number.is ∙ ap (λ fs. get_or fs c.args.number f) same in
+          let twin : h ≡ f = k ∙ sym (get_or_default p.functions c.args.number f h c.requires.number) ∙ sym at in
+          subst (λ (y : FunctionRow). AddsLines c.in_body.new.store (LinesOfFunction (program_tree p) (function_definition p y)) c.args.lines.now.items c.in_body.new.lines.items) (sym twin) c.in_ok-in_body.ensures.lines;
+      grows = c.in_ok-in_body.ensures.grows;
+      known = c.in_ok-in_body.ensures.known;
+      keeps = c.in_ok-in_body.ensures.keeps;
+    }
 
 pub bounds-rows-number : goal.bounds-rows-number
 bounds-rows-number c =
@@ -50,3 +57,14 @@ bounds-rows-number c =
     let count = rows_count p c.args.auto.now p.functions c.args.self.now.signatures.rows.items c.requires.ready.signatures.each in
     let within : c.args.number < length c.args.self.now.signatures.rows.items = subst (λ n. c.args.number < n) count c.requires.number in
     subst (λ (gs : List Signature). c.args.number < length gs) (sym c.rows.ensures) within
+
+pub returns-in_err-in_body : goal.returns-in_err-in_body
+returns-in_err-in_body c =
+    let e = c.from_residual.ensures.0 in
+    let r = c.from_residual.result in
+    record {
+      lines = IfOk-from_err r _ e;
+      grows = IfOk-from_err r _ e;
+      known = IfOk-from_err r _ e;
+      keeps = c.in_body.ensures.keeps;
+    }

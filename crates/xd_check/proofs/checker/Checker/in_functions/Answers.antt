@@ -1,3 +1,4 @@
+use Rattle.std.proofs.lemmas.Result.{IfOk-from_err}
 use Rattle.std.proofs.Common.{◌≡◌, ℕ, ◌<◌, ◌≤◌, List, length, ap, subst, ◌∙◌}
 use Rattle.std.proofs.lemmas.List.{drop_all}
 use Rattle.xd_syntax.specs.FunctionRow.{FunctionRow}
@@ -34,15 +35,22 @@ loop-number-preserved c =
       known = e.known;
     }
 
-pub returns-clause-lines : goal.returns-clause-lines
-returns-clause-lines c =
-    let p : ProgramTable = c.args.self.now.sound in
-    let same : c.functions-functions.result.now ≡ p.functions = c.functions-functions.ensures.functions ∙ ap (λ (q : ProgramTable). q.functions) c.program.ensures.program in
-    let all : length p.functions ≤ c.loop-number.number = subst (λ (fs : List FunctionRow). length fs ≤ c.loop-number.number) same c.loop-number-test.false in
-    functions_end p c.args.auto.now c.loop-number.auto' c.args.store.now c.loop-number.store c.args.lines.now.items c.loop-number.lines.items c.loop-number.number (drop_all c.loop-number.number p.functions all) c.loop-number.invariant.walk
+pub returns : goal.returns
+returns c =
+    record {
+      lines =
+          let p : ProgramTable = c.args.self.now.sound in
+          let same : c.functions-functions.result.now ≡ p.functions = c.functions-functions.ensures.functions ∙ ap (λ (q : ProgramTable). q.functions) c.program.ensures.program in
+          let all : length p.functions ≤ c.loop-number.number = subst (λ (fs : List FunctionRow). length fs ≤ c.loop-number.number) same c.loop-number-test.false in
+          functions_end p c.args.auto.now c.loop-number.auto' c.args.store.now c.loop-number.store c.args.lines.now.items c.loop-number.lines.items c.loop-number.number (drop_all c.loop-number.number p.functions all) c.loop-number.invariant.walk;
+      keeps = c.loop-number.invariant.walk.keeps;
+    }
 
-pub returns-clause-keeps : goal.returns-clause-keeps
-returns-clause-keeps c = c.loop-number.invariant.walk.keeps
-
-pub returns-in_err-in_function-clause-keeps : goal.returns-in_err-in_function-clause-keeps
-returns-in_err-in_function-clause-keeps c = keeps_then c.args.store.now c.loop-number.store c.in_function.new.store c.loop-number.invariant.walk.keeps c.in_function.ensures.keeps
+pub returns-in_err-in_function : goal.returns-in_err-in_function
+returns-in_err-in_function c =
+    let e = c.from_residual.ensures.0 in
+    let r = c.from_residual.result in
+    record {
+      lines = IfOk-from_err r _ e;
+      keeps = keeps_then c.args.store.now c.loop-number.store c.in_function.new.store c.loop-number.invariant.walk.keeps c.in_function.ensures.keeps;
+    }

@@ -1,11 +1,12 @@
-use Rattle.std.proofs.Common.{inr}
+use Rattle.std.proofs.Common.{inr, inl}
 use Rattle.xd_base.specs.Outside.{HasRisen}
-use Rattle.xd_syntax.specs.Kept.{program_tree}
+use Rattle.xd_syntax.specs.Kept.{program_tree, ProgramTable}
 use Rattle.xd_command.specs.Answer.{Answers}
 use Rattle.xd_command.specs.Fits.{AnswersFits}
 use Rattle.xd_steps.specs.Output.{Output}
 use Rattle.xd_command.specs.declared.command.Command.TheVariants.{Fits}
-use Rattle.xd_command.proofs.Steps.{does-map, fits_later}
+use Rattle.xd_command.proofs.Steps.{does-map, fits_later, ends-returned}
+use Rattle.xd_steps.specs.Programs.{EndsAtProgram, IsProgram}
 use Rattle.xd_command.proofs.command.fits.fits.Goals as goal
 
 pub returns : goal.returns
@@ -17,3 +18,12 @@ returns g c =
     let answers = Answers (Fits c.args.file.now c.args.name.now c.args.document.now) (g.H.Shelf.holds c.args.shelf.now) (HasRisen from till) in
     let step : (o : Output) → later o → answers o = λ o a. inr (P, c.in_ok-sound.ensures.step, fits_later from (g.H.Shelf.faults c.load_program.new.shelf) till c.args.name.now c.args.document.now P o c.load_program.ensures.never_falls c.load_program.ensures.same a) in
     does-map later answers later answers c.fits_program.result step step c.fits_program.ensures
+
+pub returns-in_err-sound : goal.returns-in_err-sound
+returns-in_err-sound g c =
+    let holds = g.H.Shelf.holds c.args.shelf.now in
+    let rose = HasRisen (g.H.Shelf.faults c.args.shelf.now) (g.H.Shelf.faults c.load_program.new.shelf) in
+    let ends = EndsAtProgram holds rose c.args.file.now in
+    let answers = Answers (Fits c.args.file.now c.args.name.now c.args.document.now) holds rose in
+    let finds : ProgramTable → Type 0 = λ p. IsProgram holds c.args.file.now (program_tree p) in
+    ends-returned ends answers finds answers c.in_err-sound.field-0.0 c.from_residual.result c.from_residual.ensures.1 (λ o e. inl e) c.in_err-sound.ensures.step

@@ -17,3 +17,6 @@ returns c =
     let h = subst (IsOutcome c.args.sound c.check.new.store) c.in-Refused.is c.in_ok-checked.ensures.outcome in
     let m = subst (λ fs. IsMerged c.check.new.store fs [] c.in_ok-text-in-Refused.text.items) c.deref.ensures.value c.in_ok-text-in-Refused.ensures in
     ends_at_lines (program_tree c.args.sound) c.check.new.store h.0 c.in-Refused.faults.items c.in_ok-text-in-Refused.text.items _ h.1 h.2 h.3 m c.refused.ensures
+
+pub returns-in-Accepted : goal.returns-in-Accepted
+returns-in-Accepted c = (subst (IsOutcome c.args.sound c.check.new.store) c.in-Accepted.is c.in_ok-checked.ensures.outcome).5

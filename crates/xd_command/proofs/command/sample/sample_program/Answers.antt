@@ -1,4 +1,4 @@
-use Rattle.std.proofs.Common.{◌≡◌, Option, subst}
+use Rattle.std.proofs.Common.{◌≡◌, Option, subst, sym, ◌∙◌}
 use Rattle.xd_auto.specs.Automaton.{Automaton}
 use Rattle.xd_auto.specs.declared.auto.State.{State}
 use Rattle.xd_syntax.specs.CheckFaults.{IsAccepted}
@@ -23,3 +23,11 @@ unreachable-requires c =
     let P = program_tree c.args.sound in
     let h = c.in_ok-test.ensures in
     some_input P c.requires.program (subst (IsInputTest P) c.in-None.is h.2)
+
+pub sample_on-requires-clause-program : goal.sample_on-requires-clause-program
+sample_on-requires-clause-program c = c.in_ok-test.ensures.0 ∙ c.requires.program
+
+pub sample_on-requires-clause-test : goal.sample_on-requires-clause-test
+sample_on-requires-clause-test c =
+    let h = c.in_ok-test.ensures in
+    subst (IsInputTest (program_tree c.in_ok-test.checked)) c.in-Some.is (subst (λ Q. IsInputTest Q c.in_ok-test.test) (sym h.0) h.2)

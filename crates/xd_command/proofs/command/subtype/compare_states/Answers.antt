@@ -1,5 +1,8 @@
-use Rattle.std.proofs.Common.{◌≡◌, [], ◌∷◌, subst}
+use Rattle.std.proofs.Common.{◌≡◌, [], ◌∷◌, inl, inr, refl, sym, subst}
+use Rattle.std.proofs.lemmas.Result.{IfOk-weaker}
+use Rattle.xd_doc.specs.Stored.{document_at}
 use Rattle.xd_goals.specs.Rows.{row_at}
+use Rattle.xd_goals.specs.Standing.{StandsOn}
 use Rattle.xd_goals.specs.Verdicts.{IsVerdict}
 use Rattle.xd_heads.specs.Mirrors.{continuation_of}
 use Rattle.xd_parse.proofs.Adding.{if_ok_both}
@@ -9,6 +12,9 @@ use Rattle.xd_syntax.specs.Kept.{program_tree}
 use Rattle.xd_command.specs.Subtype.{AnswersInclusion}
 use Rattle.xd_command.proofs.Inclusions.{answers_proof, inclusion_proved, row_known, row_typed}
 use Rattle.xd_command.proofs.command.subtype.compare_states.Goals as goal
+
+pub decide-requires-clause-stands : goal.decide-requires-clause-stands
+decide-requires-clause-stands c = subst (StandsOn c.args.auto.now c.new-store.result) (sym c.new-table.ensures) c.new_tables_stand.ensures
 
 pub prove_goal-requires-clause-stands : goal.prove_goal-requires-clause-stands
 prove_goal-requires-clause-stands c = c.decide.ensures.stands.facts
@@ -43,3 +49,12 @@ returns-in-Included c L R left right =
     if_ok_both c.prove_goal.result (λ (o : Output). o.status ≡ 0) (λ (o : Output). ProvesRow (program_tree p) (continuation_of p.types cells) (row_at table.rows goal) o.text) (AnswersInclusion (program_tree p) L R)
     (λ o status text. answers_proof p cells auto L R c.args.left c.args.right left right v.0 o status (inclusion_proved p cells auto L R c.args.left c.args.right left right table goal v.1 o.text text))
     c.prove_goal.ensures.status c.prove_goal.ensures.text
+
+pub returns : goal.returns
+returns c L R left right =
+    let ds = c.decide.new.store in
+    let v = subst (IsVerdict c.args.auto.now ds c.decide.new.table c.args.left (c.args.right ∷ [])) c.in-Separated.is c.in_ok-goal.ensures.verdict in
+    let d = document_at ds c.in-Separated.document in
+    let alone = v.separates.refused c.args.right (inl refl) in
+    IfOk-weaker c.separated.result _ (AnswersInclusion (program_tree c.args.sound.now) L R)
+    (λ o e. inr (d, v.belongs.proper, (left.acceptor.1 d).0 v.separates.accepted, (λ f. alone ((right.acceptor.1 d).1 f)), e)) c.separated.ensures

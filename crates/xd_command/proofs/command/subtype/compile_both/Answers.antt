@@ -31,3 +31,17 @@ returns-clause-right c =
       acceptor = subst (λ E. IsAcceptor E (tree mid.types c.args.right) c.compile_type-2.new.auto c.in_ok-other.other) (sym (ap names_of e.same)) (e.state, e.accepts);
       continuation = e.continuation;
     })
+
+pub compile_type-requires-2-clause-belongs : goal.compile_type-requires-2-clause-belongs
+compile_type-requires-2-clause-belongs c =
+    let types = c.args.sound.now.types in
+    (type_kept types c.compile_type.new.sound.types (tree types c.args.right) c.args.right c.in_ok-one.ensures.adds.types (record { belongs = c.requires.right; same = refl })).belongs
+
+pub returns-clause-same : goal.returns-clause-same
+returns-clause-same c = c.in_ok-other.ensures.same ∙ c.in_ok-one.ensures.same
+
+pub returns-clause-shallow : goal.returns-clause-shallow
+returns-clause-shallow c = λ h. c.in_ok-other.ensures.shallow (c.in_ok-one.ensures.shallow h)
+
+pub returns-in_err-other-clause-shallow : goal.returns-in_err-other-clause-shallow
+returns-in_err-other-clause-shallow c = λ h. c.in_err-other.ensures.shallow (c.in_ok-one.ensures.shallow h)

@@ -1,12 +1,13 @@
-use Rattle.std.proofs.Common.{inr}
+use Rattle.std.proofs.Common.{inr, inl}
 use Rattle.xd_base.specs.Outside.{HasRisen}
-use Rattle.xd_syntax.specs.Kept.{program_tree}
+use Rattle.xd_syntax.specs.Kept.{program_tree, ProgramTable}
 use Rattle.xd_command.specs.Answer.{Answers}
 use Rattle.xd_command.specs.Verify.{AnswersUpgrade}
 use Rattle.xd_steps.specs.Output.{Output}
 use Rattle.xd_command.specs.declared.command.Command.TheVariants.{Upgrade}
 use Rattle.xd_command.proofs.Judging.{upgrade_later}
-use Rattle.xd_command.proofs.Steps.{does-map}
+use Rattle.xd_command.proofs.Steps.{does-map, ends-returned}
+use Rattle.xd_steps.specs.Programs.{EndsAtProgram, IsProgram}
 use Rattle.xd_command.proofs.command.upgrade.upgrade.Goals as goal
 
 pub returns : goal.returns
@@ -18,3 +19,12 @@ returns g c =
     let answers = Answers (Upgrade c.args.file.now c.args.proof.now) (g.H.Shelf.holds c.args.shelf.now) (HasRisen from till) in
     let step : (o : Output) → later o → answers o = λ o a. inr (P, c.in_ok-sound.ensures.step, upgrade_later from (g.H.Shelf.faults c.load_program.new.shelf) till c.args.proof.now P o c.load_program.ensures.never_falls c.load_program.ensures.same a) in
     does-map later answers later answers c.upgrade_in.result step step c.upgrade_in.ensures
+
+pub returns-in_err-sound : goal.returns-in_err-sound
+returns-in_err-sound g c =
+    let holds = g.H.Shelf.holds c.args.shelf.now in
+    let rose = HasRisen (g.H.Shelf.faults c.args.shelf.now) (g.H.Shelf.faults c.load_program.new.shelf) in
+    let ends = EndsAtProgram holds rose c.args.file.now in
+    let answers = Answers (Upgrade c.args.file.now c.args.proof.now) holds rose in
+    let finds : ProgramTable → Type 0 = λ p. IsProgram holds c.args.file.now (program_tree p) in
+    ends-returned ends answers finds answers c.in_err-sound.field-0.0 c.from_residual.result c.from_residual.ensures.1 (λ o e. inl e) c.in_err-sound.ensures.step
