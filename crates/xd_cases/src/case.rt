@@ -54,7 +54,9 @@ impl<'a> Case<'a> {
 
     /// Adds a line to the newest text. A line feed goes before it, unless it is the first.
     pub fn add_line(&mut self, line: &str) -> Result<(), CaseError> {
-        let file = self.files.last_mut().ok_or(CaseError::NoFile)?;
+        let Some(file) = self.files.last_mut() else {
+            return Err(CaseError::NoFile);
+        };
         if !file.text.is_empty() {
             file.text.push(b'\n')?;
         }
@@ -64,7 +66,9 @@ impl<'a> Case<'a> {
 
     /// Adds bytes to the newest text, so many times.
     pub fn add(&mut self, times: usize, bytes: &[u8]) -> Result<(), CaseError> {
-        let file = self.files.last_mut().ok_or(CaseError::NoFile)?;
+        let Some(file) = self.files.last_mut() else {
+            return Err(CaseError::NoFile);
+        };
         for _ in 0..times {
             file.text.extend_from_slice(bytes)?;
         }

@@ -28,10 +28,17 @@ pub enum Directive<'a> {
     Piece(usize),
     /// The command runs on these words.
     Run(&'a str),
-    /// The command runs on these words, once for each variation; the statuses are shown.
-    Each(Variation<'a>, &'a str),
-    /// The same; what is written is shown too.
-    Every(Variation<'a>, &'a str),
+    /// The command runs on these words, once for each variation.
+    Vary(Variation<'a>, Shown, &'a str),
+}
+
+/// What is shown of a variation's runs.
+#[derive(Clone, Copy)]
+pub enum Shown {
+    /// The statuses.
+    Statuses,
+    /// The statuses and what is written.
+    Outputs,
 }
 
 /// What is different from one run to the next.
@@ -59,22 +66,26 @@ fn numbers(alloc: Global, list: &str) -> Result<Vec<u64>, CaseError> {
 }
 
 /// The bytes of a list, each of two hexadecimal digits.
-fn bytes(alloc: Global, list: &str) -> Result<Vec<u8>, CaseError> {
+fn bytes(alloc: Global, list: &str) -> Result<Directive<'_>, CaseError> {
     let mut bytes = Vec::new(alloc);
     for byte in list.split_whitespace() {
         let byte = hex::decode(alloc, byte)?;
         bytes.extend_from_slice(&byte)?;
     }
-    Ok(bytes)
+    Ok(Directive::Bytes(bytes))
 }
 
 /// A piece of a text: `"TEXT"`, `NUMBER "TEXT"` or `hex BYTES`.
 fn piece(alloc: Global, line: &str) -> Result<Directive<'_>, CaseError> {
     if let Some(list) = line.strip_prefix("hex ") {
-        return Ok(Directive::Bytes(bytes(alloc, list)?));
+        return bytes(alloc, list);
     }
-    let (times, quoted) = line.split_once('"').ok_or(CaseError::Quotes)?;
-    let text = quoted.strip_suffix('"').ok_or(CaseError::Quotes)?;
+    let Some((times, quoted)) = line.split_once('"') else {
+        return Err(CaseError::Quotes);
+    };
+    let Some(text) = quoted.strip_suffix('"') else {
+        return Err(CaseError::Quotes);
+    };
     let times = match times.trim() {
         "" => 1,
         number => number.parse::<usize>()?,
@@ -98,32 +109,24 @@ fn text_variation(line: &str) -> Result<Variation<'_>, CaseError> {
     if let Some(name) = line.strip_prefix("prefix of ") {
         return Ok(Variation::Prefix(name));
     }
-    let name = line.strip_prefix("number of ").ok_or(CaseError::Directive)?;
-    Ok(Variation::Number(name))
+    match line.strip_prefix("number of ") {
+        Some(name) => Ok(Variation::Number(name)),
+        None => Err(CaseError::Directive),
+    }
 }
 
 /// A variation, ` $ `, and the words of its runs.
-fn varied(line: &str) -> Result<(Variation<'_>, &str), CaseError> {
-    let (variation, words) = line.split_once(" $ ").ok_or(CaseError::Directive)?;
+fn varied(line: &str, shown: Shown) -> Result<Directive<'_>, CaseError> {
+    let Some((variation, words)) = line.split_once(" $ ") else {
+        return Err(CaseError::Directive);
+    };
     let variation = match variation {
         "fetch" => Variation::Fetch,
         "put" => Variation::Put,
         "room" => Variation::Room,
         other => text_variation(other)?,
     };
-    Ok((variation, words))
-}
-
-/// Runs whose statuses are shown.
-fn each(line: &str) -> Result<Directive<'_>, CaseError> {
-    let (variation, words) = varied(line)?;
-    Ok(Directive::Each(variation, words))
-}
-
-/// Runs of which what is written is shown too.
-fn every(line: &str) -> Result<Directive<'_>, CaseError> {
-    let (variation, words) = varied(line)?;
-    Ok(Directive::Every(variation, words))
+    Ok(Directive::Vary(variation, shown, words))
 }
 
 /// A text's name, with the first line behind it where one is given.
@@ -136,8 +139,10 @@ fn file(line: &str) -> Directive<'_> {
 
 /// What is said of the shelf: `fails NUMBERS`.
 fn shelf(alloc: Global, line: &str) -> Result<Directive<'_>, CaseError> {
-    let list = line.strip_prefix("fails").ok_or(CaseError::Directive)?;
-    Ok(Directive::ShelfFails(numbers(alloc, list)?))
+    match line.strip_prefix("fails") {
+        Some(list) => Ok(Directive::ShelfFails(numbers(alloc, list)?)),
+        None => Err(CaseError::Directive),
+    }
 }
 
 /// What a line says.
@@ -152,8 +157,8 @@ pub fn parse(alloc: Global, line: &str) -> Result<Directive<'_>, CaseError> {
         "shelf" => shelf(alloc, rest),
         "sink" => sink(alloc, rest),
         "$" => Ok(Directive::Run(rest)),
-        "each" => each(rest),
-        "every" => every(rest),
+        "each" => varied(rest, Shown::Statuses),
+        "every" => varied(rest, Shown::Outputs),
         _ => Err(CaseError::Directive),
     }
 }

@@ -10,7 +10,7 @@ mod report;
 mod run;
 
 use crate::case::Case;
-use crate::directive::{Directive, Variation};
+use crate::directive::{Directive, Shown, Variation};
 use crate::error::CaseError;
 use anyhow::{Context, Result};
 use std::alloc::Global;
@@ -28,28 +28,17 @@ fn show_run(
     report::show_run(out, status, sink.written())
 }
 
-/// Appends the statuses of a run's variations.
-fn show_each(
+/// Appends what is shown of a run's variations.
+fn show_runs(
     alloc: Global,
     case: &Case<'_>,
     variation: Variation<'_>,
+    shown: Shown,
     words: &str,
     out: &mut Vec<u8>,
 ) -> Result<(), CaseError> {
     let ended = run::run_each(alloc, case, variation, words)?;
-    report::show_statuses(out, &ended)
-}
-
-/// The same, with what is written.
-fn show_every(
-    alloc: Global,
-    case: &Case<'_>,
-    variation: Variation<'_>,
-    words: &str,
-    out: &mut Vec<u8>,
-) -> Result<(), CaseError> {
-    let ended = run::run_each(alloc, case, variation, words)?;
-    report::show_outputs(out, &ended)
+    report::show_runs(out, &ended, shown)
 }
 
 /// Does what a line says, and appends its answer.
@@ -86,8 +75,9 @@ fn obey<'a>(
             Ok(())
         }
         Directive::Run(words) => show_run(alloc, case, words, out),
-        Directive::Each(variation, words) => show_each(alloc, case, variation, words, out),
-        Directive::Every(variation, words) => show_every(alloc, case, variation, words, out),
+        Directive::Vary(variation, shown, words) => {
+            show_runs(alloc, case, variation, shown, words, out)
+        }
     }
 }
 

@@ -1,5 +1,6 @@
 //! What is written of a run.
 
+use crate::directive::Shown;
 use crate::error::CaseError;
 use crate::run::Ended;
 use std::io::Write;
@@ -34,21 +35,18 @@ pub fn show_run(out: &mut Vec<u8>, status: u8, output: &[u8]) -> Result<(), Case
 }
 
 /// Appends a line for each status and how often it comes in a row: `status 4 x 10`, then `status 0 x 1`.
-pub fn show_statuses(out: &mut Vec<u8>, runs: &[Ended]) -> Result<(), CaseError> {
-    for row in runs.chunk_by(|one, next| one.status == next.status) {
+///
+/// Where outputs are shown, runs in a row have to write the same too, and what they write stands behind the line.
+pub fn show_runs(out: &mut Vec<u8>, runs: &[Ended], shown: Shown) -> Result<(), CaseError> {
+    let has_outputs = matches!(shown, Shown::Outputs);
+    for row in runs.chunk_by(|one, next| {
+        one.status == next.status && (!has_outputs || one.output == next.output)
+    }) {
         if let Some(run) = row.first() {
             writeln!(out, "status {} x {}", run.status, row.len())?;
-        }
-    }
-    Ok(())
-}
-
-/// The same, but runs in a row have to write the same too, and what they write stands behind the line.
-pub fn show_outputs(out: &mut Vec<u8>, runs: &[Ended]) -> Result<(), CaseError> {
-    for row in runs.chunk_by(|one, next| one.status == next.status && one.output == next.output) {
-        if let Some(run) = row.first() {
-            writeln!(out, "status {} x {}", run.status, row.len())?;
-            show_output(out, &run.output)?;
+            if has_outputs {
+                show_output(out, &run.output)?;
+            }
         }
     }
     Ok(())
