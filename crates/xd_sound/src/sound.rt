@@ -28,7 +28,6 @@ use crate::type_names::TypeNames;
 use std::alloc::Global;
 use std::collections::BTreeMap;
 use std::marker::Model;
-use xd_base::Place;
 use xd_doc::{Label, NoMemory};
 use xd_syntax::{Function, Param, Program, TypeForm, TypeId, Types};
 
@@ -296,7 +295,7 @@ impl SoundProgram {
         ensures one { AddsOne (form_tree (tree_at self.old.types) (form_of form)) self.old.types self.new.types }
         ensures shallow { depth (form_tree (tree_at self.old.types) (form_of form)) ≤ nesting_limit → IsShallow self.old.types → IsShallow self.new.types }
     {
-        self.program.add_type(Place { line: 1, column: 1 }, form)
+        self.program.add_type(form)
     }
 
     /// What is known of its types: found at the first call, and then only for the types that were added since it was given back.

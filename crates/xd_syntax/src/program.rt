@@ -238,8 +238,8 @@ impl Program {
         self.functions.as_slice()
     }
 
-    /// One more node of a type.
-    pub fn add_type(&mut self, place: Place, form: TypeForm) -> Result<TypeId, NoMemory>
+    /// One more node of a type. No text has it, so its place is the first of one.
+    pub fn add_type(&mut self, form: TypeForm) -> Result<TypeId, NoMemory>
         requires { CanFollow false self.old.types (form_of form) }
         ensures ok { IfOk result (IsTypeAt self.new.types (form_tree (tree_at self.old.types) (form_of form))) }
         ensures last { IfOk result (λ id. id.at ≡ length self.old.types) }
@@ -248,7 +248,7 @@ impl Program {
         ensures one { AddsOne (form_tree (tree_at self.old.types) (form_of form)) self.old.types self.new.types }
         ensures err { OnErr result (self.new ≡ self.old) }
     {
-        let added = self.types.add(place, form);
+        let added = self.types.add(Place { line: 1, column: 1 }, form);
         self.types.see_table();
         added
     }

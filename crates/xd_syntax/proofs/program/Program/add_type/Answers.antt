@@ -1,5 +1,6 @@
 use Rattle.std.proofs.Common.{◌≡◌, List, sym, subst}
 use Rattle.xd_syntax.specs.Table.{Row}
+use Rattle.xd_syntax.specs.Placed.{the_start}
 use Rattle.xd_syntax.specs.Kept.{ProgramTable, program_tree}
 use Rattle.xd_syntax.specs.Types.{form_of}
 use Rattle.xd_syntax.proofs.ShallowTables.{adds_one}
@@ -16,4 +17,4 @@ returns-clause-same c =
 pub returns-clause-one : goal.returns-clause-one
 returns-clause-one c =
     rw (← c.self.view_is)
-    (adds_one c.self.inside.types c.add-added.new.self c.args.place (form_of c.args.form) c.add-added.result c.add-added.ensures.grown c.add-added.ensures.err)
+    (adds_one c.self.inside.types c.add-added.new.self the_start (form_of c.args.form) c.add-added.result c.add-added.ensures.grown c.add-added.ensures.err)
