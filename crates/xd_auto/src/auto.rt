@@ -320,6 +320,7 @@ impl Auto {
 
 impl Auto {
     /// A new state with no moves, which accepts the empty document or nothing.
+    /// After `NoMemory` the automaton is as it was.
     pub fn add_state(&mut self, last: bool) -> Result<State, NoMemory>
         ensures ok { IfOk result (λ state. (state_number state ≡ length self.old) × (self.new ≡ self.old ++ no_moves last ∷ [])) }
         ensures belongs { IfOk result (IsState self.new) }
@@ -370,6 +371,7 @@ impl Auto {
     }
 
     /// One more move of the state on an element.
+    /// After `NoMemory` the automaton is as it was.
     pub fn add_label_move(
         &mut self,
         from: State,
@@ -394,6 +396,7 @@ impl Auto {
     }
 
     /// One more move of the state on a text.
+    /// After `NoMemory` the automaton is as it was.
     pub fn add_text_move(&mut self, from: State, words: Words, rest: State) -> Result<(), NoMemory>
         requires from { IsState self.old from }
         requires rest { IsState self.old rest }

@@ -34,7 +34,8 @@ impl Model for MemorySink {
 }
 
 impl MemorySink {
-    /// An empty sink with room for so many bytes, which takes at most `piece` bytes in a call.
+    /// An empty sink with room for so many bytes, which takes at most `piece` bytes in a call, one at least. `NoRoom` where there is no
+    /// memory for the room.
     pub fn new(alloc: Global, room: usize, piece: usize) -> Result<MemorySink, NoRoom>
         requires { 1 ≤ piece }
         ensures { IfOk result (λ sink. sink ≡ record { written = []; room = room; piece = piece; failing = []; calls = 0; faults = 0 }) }
@@ -53,6 +54,7 @@ impl MemorySink {
     }
 
     /// Makes the call of `put` with this number fail, counted from 1 since the sink was made.
+    /// After `NoRoom` the sink is as it was.
     pub fn fail_at(&mut self, call: u64) -> Result<(), NoRoom>
         ensures ok { OnOk result (self.new ≡ record self.old { failing = self.old.failing ++ call ∷ [] }) }
         ensures err { OnErr result (self.new ≡ self.old) }

@@ -32,6 +32,7 @@ impl Class {
     ///
     /// The names may come in any order and may repeat. A class that is to have no label at all
     /// can't be made.
+    /// `NoMemory` where there is no room to sort them.
     pub fn new(_alloc: Global, names: Vec<Label>, except: bool) -> Result<Self, NoMemory>
         requires { (0 < vec_len names) ⊎ (except ≡ true) }
         ensures labels { IfOk result (λ class. (l : List ℕ) → is_named class.names l ≡ is_named names.items l) }
@@ -64,7 +65,7 @@ impl Class {
         self.labels.names.as_slice()
     }
 
-    /// An equal class over the same list of names. It takes no memory, however many names there are.
+    /// An equal class, which shares the list of names. `NoMemory` is an answer of its type; the names are not copied.
     pub fn share(&self) -> Result<Self, NoMemory>
         ensures same { IfOk result (λ class. class ≡ self.now) }
         ensures valid { IsClass self.now }
@@ -74,6 +75,7 @@ impl Class {
     }
 
     /// The labels that both classes have, or `None` where there are none.
+    /// `NoMemory` where there is no room for its names.
     pub fn meet(&self, other: &Self) -> Result<Option<Self>, NoMemory>
         ensures part { IfOk result (IsPart true self.now other.now) }
         ensures valid { IfOk result (λ part. IfSome part IsClass) }
@@ -85,6 +87,7 @@ impl Class {
     }
 
     /// The labels of this class that the other one hasn't, or `None` where there are none.
+    /// `NoMemory` where there is no room for its names.
     pub fn without(&self, other: &Self) -> Result<Option<Self>, NoMemory>
         ensures part { IfOk result (IsPart false self.now other.now) }
         ensures valid { IfOk result (λ part. IfSome part IsClass) }

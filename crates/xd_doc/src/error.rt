@@ -1,9 +1,11 @@
 //! The want of memory.
 
 use std::alloc::{AllocError, AllocFailed};
+use thiserror::Error;
 
 /// There was not enough memory.
-#[derive(Clone, Copy, Debug, PartialEq, Eq)]
+#[derive(Clone, Copy, Debug, PartialEq, Eq, Error)]
+#[error("out of memory")]
 pub struct NoMemory;
 
 impl From<AllocError> for NoMemory {

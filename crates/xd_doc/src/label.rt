@@ -32,6 +32,7 @@ impl Model for Label {
 
 impl Label {
     /// The label that this word spells.
+    /// `NoMemory` where there is no room for its letters.
     pub fn new(alloc: Global, word: &str) -> Result<Self, NoMemory>
         requires { is_word word.now ≡ true }
         ensures { IfOk result (λ label. label ≡ word.now) }
@@ -56,7 +57,7 @@ impl Label {
         self.word.as_str()
     }
 
-    /// An equal label.
+    /// An equal label, which shares the letters. `NoMemory` is an answer of its type; the letters are not copied.
     pub fn share(&self) -> Result<Self, NoMemory>
         ensures { IfOk result (λ label. label ≡ self.now) }
     {

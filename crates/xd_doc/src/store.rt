@@ -22,14 +22,17 @@ use std::marker::Model;
 /// An element's content is no part of it: [`Store::content`] gives that.
 #[derive(Debug, Drop)]
 pub enum Item {
+    /// A text.
     Text(Text),
+    /// An element with this label.
     Elem(Label),
 }
 
 /// A document of a store: the empty one, or the one that begins at a node.
 ///
-/// It means something only beside the store that it came from.
-#[derive(Clone, Copy, Debug)]
+/// It means something only beside the store that it came from. Two are equal where both are empty or
+/// begin at the same node; equal documents may well begin at different nodes.
+#[derive(Clone, Copy, Debug, PartialEq, Eq)]
 pub struct Seq {
     node: Option<usize>,
 }
@@ -143,6 +146,7 @@ impl Store {
 
 impl Store {
     /// The text followed by `next`.
+    /// After `NoMemory` the store is as it was.
     pub fn text_node(&mut self, text: Text, next: Seq) -> Result<Seq, NoMemory>
         requires { BelongsTo self.old next }
         ensures ok { IfOk result (λ seq. document_at self.new seq ≡ text_before text (document_at self.old next)) }
@@ -161,6 +165,7 @@ impl Store {
     }
 
     /// The element followed by `next`.
+    /// After `NoMemory` the store is as it was.
     pub fn elem_node(&mut self, label: Label, content: Seq, next: Seq) -> Result<Seq, NoMemory>
         requires content { BelongsTo self.old content }
         requires next { BelongsTo self.old next }
@@ -260,6 +265,7 @@ impl Item {
 impl Store {
     /// The first document, and behind it the second, whose nodes it shares. It makes at most as many
     /// nodes as the first one has items of its own.
+    /// After `NoMemory` all documents of the store are as they were.
     pub fn append(&mut self, front: Seq, back: Seq) -> Result<Seq, NoMemory>
         requires front { BelongsTo self.old front }
         requires back { BelongsTo self.old back }
@@ -278,6 +284,7 @@ impl Store {
 
     /// The documents, one after the other. It shares the nodes of the last, and makes at most as many
     /// as the others have items of their own.
+    /// After `NoMemory` all documents of the store are as they were.
     pub fn join(&mut self, parts: &[Seq]) -> Result<Seq, NoMemory>
         requires { AllByRecursion (BelongsTo self.old) parts.now }
         ensures ok { IfOk result (λ seq. document_at self.new seq ≡ joined_at self.old parts.now) }
@@ -314,6 +321,7 @@ impl Store {
 
     /// The first item of `seq`, followed by `next`. Where `next` is what follows that item anyway, this
     /// is `seq` itself.
+    /// After `NoMemory` the store is as it was.
     pub fn first_before(&mut self, seq: Seq, next: Seq) -> Result<Seq, NoMemory>
         requires seq { BelongsTo self.old seq }
         requires next { BelongsTo self.old next }
@@ -340,8 +348,8 @@ impl Store {
     /// The same document in another store.
     ///
     /// It copies the n nodes that the document reaches, each once, so contents and rests that are
-    /// shared stay shared. It takes time in proportion to n log n, as far as hashing spreads their
-    /// numbers, and while it works memory in proportion to n, however many nodes the store has.
+    /// shared stay shared; while it works it keeps a number for each of them. After `NoMemory` the other
+    /// store's documents are as they were.
     pub fn copy_out(&self, alloc: Global, seq: Seq, into: &mut Store) -> Result<Seq, NoMemory>
         requires { BelongsTo self.now seq }
         ensures ok { IfOk result (λ copy. document_at into.new copy ≡ document_at self.now seq) }

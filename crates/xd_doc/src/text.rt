@@ -42,6 +42,7 @@ impl Model for Text {
 
 impl Text {
     /// A text of these characters.
+    /// `NoMemory` where there is no room for them.
     pub fn new(alloc: Global, text: &str) -> Result<Self, NoMemory>
         ensures { IfOk result (λ made. made ≡ text.now) }
     {
@@ -76,7 +77,7 @@ impl Text {
         &self.block.as_str()[self.start..self.end]
     }
 
-    /// An equal text.
+    /// An equal text, which shares the characters. `NoMemory` is an answer of its type; the characters are not copied.
     pub fn share(&self) -> Result<Self, NoMemory>
         ensures { IfOk result (λ text. text ≡ self.now) }
     {

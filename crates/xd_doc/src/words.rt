@@ -32,6 +32,7 @@ impl Words {
     ///
     /// The texts may come in any order and may repeat. A class that is to have no text at all
     /// can't be made.
+    /// `NoMemory` where there is no room to sort them.
     pub fn new(_alloc: Global, texts: Vec<Text>, except: bool) -> Result<Self, NoMemory>
         requires { (0 < vec_len texts) ⊎ (except ≡ true) }
         ensures texts { IfOk result (λ words. (t : List ℕ) → is_named words.names t ≡ is_named texts.items t) }
@@ -64,7 +65,7 @@ impl Words {
         self.texts.names.as_slice()
     }
 
-    /// An equal class over the same list of names. It takes no memory, however many names there are.
+    /// An equal class, which shares the list of texts. `NoMemory` is an answer of its type; the texts are not copied.
     pub fn share(&self) -> Result<Self, NoMemory>
         ensures same { IfOk result (λ words. words ≡ self.now) }
         ensures valid { IsTextClass self.now }
@@ -74,6 +75,7 @@ impl Words {
     }
 
     /// The texts that both classes have, or `None` where there are none.
+    /// `NoMemory` where there is no room for its texts.
     pub fn meet(&self, other: &Self) -> Result<Option<Self>, NoMemory>
         ensures part { IfOk result (IsPart true self.now other.now) }
         ensures valid { IfOk result (λ part. IfSome part IsTextClass) }
@@ -85,6 +87,7 @@ impl Words {
     }
 
     /// The texts of this class that the other one hasn't, or `None` where there are none.
+    /// `NoMemory` where there is no room for its texts.
     pub fn without(&self, other: &Self) -> Result<Option<Self>, NoMemory>
         ensures part { IfOk result (IsPart false self.now other.now) }
         ensures valid { IfOk result (λ part. IfSome part IsTextClass) }

@@ -6,7 +6,7 @@ use Rattle.xd_doc.specs.Document.{Document}
 use Rattle.xd_doc.specs.Stored.{document_at}
 use Rattle.xd_doc.specs.declared.store.Seq.{Seq}
 use Rattle.xd_auto.specs.declared.auto.State.{State}
-use Rattle.xd_auto.specs.Automaton.{Automaton, IsClosed, KeepsAccepting, LeadsBelow, accepts, moves_at, no_moves, state_number}
+use Rattle.xd_auto.specs.Automaton.{Automaton, Extends, IsClosed, KeepsAccepting, LeadsBelow, accepts, moves_at, no_moves, state_number}
 use Rattle.xd_auto.proofs.Closed.{moves_at-closed}
 use Rattle.xd_auto.proofs.Extending.{keeps}
 use Rattle.xd_empty.specs.Inhabited.{AreInhabitants, IsFound, Starts}
@@ -39,6 +39,16 @@ found_below fs s seq f = elim (cases_lt (state_number s) (length fs)) [
   | inr past ↦ (let none : None ≡ Some seq = sym (get_or_past fs (state_number s) None past) ∙ f in absurd (cc))
 ]
 
+-- the first states accept the same in an automaton that extends theirs
+pub first_same : (old new : Automaton) (n : ℕ) → n ≤ length old → ((s : State) → state_number s < n → LeadsBelow n (moves_at old s)) → Extends old new → (d : Document) (s : State) → state_number s < n → accepts new d s ≡ accepts old d s
+first_same old new n within closed more d s lt =
+    let in_first : state_number s < length (take n old) = omega (arith, first_count old n within closed) in
+    first_accepts old n within closed new (λ t l. more.states t (below t l)) (λ t l. more.moves t (below t l)) d s in_first
+    ∙ sym (first_accepts old n within closed old below (λ t l. refl) d s in_first)
+  where
+    below : (t : State) → state_number t < n → state_number t < length old
+    below t lt = omega arith
+
 pub stays_known : (known : List (Option Seq)) → StaysKnown known
 stays_known known old new ds es more kept k = record {
   within = within new (λ s lt. more.states s (below s lt));
@@ -56,10 +66,7 @@ stays_known known old new ds es more kept k = record {
     within b h = elim (cases_lt (length b) (length known)) [ inl lt ↦ absurd (omega (arith, h (record { number = length b }) lt)) | inr le ↦ le ]
 
     same : (d : Document) (s : State) → state_number s < length known → accepts new d s ≡ accepts old d s
-    same d s lt =
-        let in_first : state_number s < length (take (length known) old) = omega (arith, first_count old (length known) k.within k.closed) in
-        first_accepts old (length known) k.within k.closed new (λ t l. more.states t (below t l)) (λ t l. more.moves t (below t l)) d s in_first
-        ∙ sym (first_accepts old (length known) k.within k.closed old below (λ t l. refl) d s in_first)
+    same d s lt = first_same old new (length known) k.within k.closed more d s lt
 
 -- what is known when the search for documents of new states begins
 pub starts_with : (a : Automaton) (ds : List Document) (known fs : List (Option Seq)) → Knows a ds known → fs ≡ take (length a) known ++ replicate (length a - length known) None → Starts a ds (length known) fs

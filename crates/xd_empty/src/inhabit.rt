@@ -14,8 +14,8 @@ use xd_doc::{NoMemory, Seq, Store};
 /// For each state, by its number, a document that it accepts, in this store; `None` exactly where it
 /// accepts none.
 ///
-/// It is what [`Inhabitants::learn`] learns from nothing: the time is linear in the states and moves,
-/// and documents are shallow and shared.
+/// It is what [`Inhabitants::learn`] learns from nothing. Documents are shallow and shared. After
+/// `NoMemory` the store has more documents at most.
 pub fn inhabitants(
     alloc: Global,
     auto: &Auto,
@@ -31,7 +31,8 @@ pub fn inhabitants(
 
 /// A document that the state accepts, in this store; `None` exactly where it accepts none.
 ///
-/// It asks [`inhabitants`] about the states that the state leads to, and no others.
+/// It asks [`inhabitants`] about the states that the state leads to, and no others. After `NoMemory`
+/// the store has more documents at most.
 pub fn inhabitant(
     alloc: Global,
     auto: &Auto,

@@ -41,10 +41,11 @@ impl Inhabitants {
         }
     }
 
-    /// Learns of the states of the automaton that were added since. After want of memory no less is
-    /// known than before.
+    /// Learns of the states of the automaton that were added since. After `NoMemory` no less is known
+    /// than before.
     ///
-    /// The time and the memory are linear in these states and their moves.
+    /// The automaton and the store are those of which it knows, which may have grown. It looks at the
+    /// moves of the new states alone.
     pub fn learn(&mut self, alloc: Global, auto: &Auto, store: &mut Store) -> Result<(), NoMemory>
         requires { Knows auto.now store.old self.old }
         ensures knows { Knows auto.now store.new self.new }

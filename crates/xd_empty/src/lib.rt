@@ -11,4 +11,5 @@ mod uses;
 pub use inhabit::{inhabitant, inhabitants};
 pub use known::Inhabitants;
 pub use names::{label_of, text_of};
-pub use part::{inhabited, inhabited_part};
+pub use part::{inhabited, inhabited_part, kept_part};
+pub use uses::{Use, Uses};

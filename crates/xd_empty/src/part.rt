@@ -24,9 +24,8 @@ pub fn inhabited(alloc: Global, auto: &Auto) -> Result<Vec<bool>, NoMemory>
 }
 
 /// The part of an automaton that a state leads to through states that accept something: an automaton
-/// with no other states, but for the answer's own, which accepts the same.
-///
-/// The time is linear in the states and moves that the state leads to.
+/// with no other states, but for the answer's own, which accepts the same. `NoMemory` where there is
+/// no room for it; the automaton that is given stays as it is.
 pub fn inhabited_part(alloc: Global, auto: &Auto, state: State) -> Result<(Auto, State), NoMemory>
     requires { IsState auto.now state }
     ensures exact { IfOk result (λ made. (d : Document) → accepts made.0 d made.1 ≡ accepts auto.now d state) }
@@ -41,7 +40,7 @@ pub fn inhabited_part(alloc: Global, auto: &Auto, state: State) -> Result<(Auto,
 }
 
 /// The same states, with those of their moves that lead to marked states.
-fn kept_part(alloc: Global, auto: &Auto, marks: &[bool]) -> Result<Auto, NoMemory>
+pub fn kept_part(alloc: Global, auto: &Auto, marks: &[bool]) -> Result<Auto, NoMemory>
     requires { length marks.now ≡ length auto.now }
     ensures { IfOk result (IsKeptPart auto.now marks.now) }
 {

@@ -10,7 +10,7 @@ use xd_auto::{Auto, State};
 use xd_doc::NoMemory;
 
 /// A move of a state, on an element or on a text, by its number.
-#[derive(Clone, Copy, Debug)]
+#[derive(Clone, Copy, Debug, PartialEq, Eq, PartialOrd, Ord)]
 pub enum Use {
     Element(State, usize),
     Text(State, usize),
@@ -139,6 +139,17 @@ impl Uses {
         let place = under.number() - self.first;
         self.lists[place].push(step)?;
         Ok(())
+    }
+
+    /// The moves that are listed under one of these states.
+    pub fn under(&self, state: State) -> &[Use]
+        requires from { self.now.first ≤ state_number state }
+        requires below { state_number state < self.now.first + length self.now.lists.items }
+        ensures { result.now ≡ uses_at (lists_by_state self.now) state }
+    {
+        let place = state.number() - self.first;
+        let list = &self.lists[place];
+        list.as_slice()
     }
 
     /// The moves that lead to the state, which was found, wait from now on.

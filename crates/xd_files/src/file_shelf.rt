@@ -21,6 +21,7 @@ pub struct FileShelf<'a, R: Files> {
 }
 
 impl<'a, R: Files> FileShelf<'a, R> {
+    /// A shelf that reads the files of this runtime. It has had no fault yet.
     pub fn new(rt: &'a R) -> Self
         ensures { result.faults ≡ 0 }
     {

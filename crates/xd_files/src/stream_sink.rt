@@ -13,6 +13,7 @@ pub struct StreamSink<W: Write> {
 }
 
 impl<W: Write> StreamSink<W> {
+    /// A sink that writes to this stream, and flushes it. It has had no fault yet.
     pub fn new(stream: W) -> Self
         ensures { result.faults ≡ 0 }
     {

@@ -85,6 +85,7 @@ pub fn is_plain(text: &str) -> bool
 
 /// The text that a token of the kind `Text` stands for: without its quotes, and with each escape replaced by
 /// its character.
+/// `NoMemory` where there is no room for it.
 pub fn unescape(alloc: Global, text: &str) -> Result<Text, NoMemory>
     requires { IsSpelling kinds.Text text.now }
     ensures { IfOk result (λ made. made ≡ unescaped text.now) }

@@ -8,10 +8,12 @@ ghost use Rattle.xd_lex.specs.Tokens.{is_last, IsNotUtf8At};
 use crate::place::past;
 use crate::scan::front;
 use crate::{Front, Kind};
+use thiserror::Error;
 use xd_base::Place;
 
 /// The bytes aren't UTF-8. The place is the one after their longest front that is.
-#[derive(Clone, Copy, Debug, PartialEq, Eq)]
+#[derive(Clone, Copy, Debug, PartialEq, Eq, Error)]
+#[error("not UTF-8 at line {}, column {}", .place.line, .place.column)]
 pub struct NotUtf8 {
     pub place: Place,
 }

@@ -11,6 +11,7 @@ use crate::first::{NotUtf8, cut_token, text_of};
 use crate::place::past;
 use std::alloc::{AllocFailed, Global};
 use std::marker::Model;
+use thiserror::Error;
 use xd_base::Place;
 
 /// A token, the slice that spells it, and the place of its first character.
@@ -22,9 +23,13 @@ pub struct Token<'a> {
 }
 
 /// Why there are no tokens.
-#[derive(Clone, Copy, Debug, PartialEq, Eq)]
+#[derive(Clone, Copy, Debug, PartialEq, Eq, Error)]
 pub enum LexError {
+    /// The bytes aren't UTF-8. The place is that of the first byte that begins no character.
+    #[error("not UTF-8 at line {}, column {}", .0.line, .0.column)]
     NotUtf8(Place),
+    /// There was not enough memory for the list of the tokens.
+    #[error("out of memory")]
     NoMemory,
 }
 
@@ -145,6 +150,7 @@ impl<'a> Lexer<'a> {
 }
 
 /// The tokens of a text, in order. The last is `End` or `Broken`.
+/// `LexError::NotUtf8` comes exactly where the bytes aren't UTF-8, with the place after their longest front that is.
 pub fn tokens<'a>(alloc: Global, bytes: &'a [u8]) -> Result<Vec<Token<'a>>, LexError>
     ensures utf8 { IfOk result (λ _. IsUtf8 bytes.now) }
     ensures ok { IfOk result (λ v. map lexeme_of v.items ≡ tokens_of bytes.now) }

@@ -13,7 +13,7 @@ use xd_doc::NoMemory;
 /// Each state has a row of its own, with two bits a node. A row is as long as its newest node needs, so
 /// a state that was never asked costs no more than an empty vector.
 #[derive(Debug, Drop)]
-pub struct Known {
+pub struct KnownAnswers {
     rows: Vec<Vec<u64>>,
 }
 
@@ -64,7 +64,7 @@ fn put_in(row: &mut Vec<u64>, node: usize, answer: bool) -> Result<(), NoMemory>
     Ok(())
 }
 
-impl Known {
+impl KnownAnswers {
     /// No answer. It takes no memory.
     pub fn new(alloc: Global) -> Self
         ensures { result.rows.items ≡ [] }

@@ -8,7 +8,7 @@ ghost use Rattle.xd_auto.specs.Automaton.{Automaton, IsState, IsClosed, accepts,
 ghost use Rattle.xd_member.specs.Kept.{AreRight, HasRoom, KeepsAnswers, StayRightForAutomaton, StayRightForStore, kept_at, words_of};
 ghost use Rattle.xd_member.specs.Membership.{AnswersFor, MayWait, ProgressAt, ProgressOver, FailsBefore, from_node};
 
-use crate::known::{Known, words_for};
+use crate::known::{KnownAnswers, words_for};
 use std::alloc::Global;
 use std::marker::Model;
 use xd_auto::{Auto, LabelMove, State};
@@ -37,7 +37,7 @@ enum Progress {
 }
 
 /// Whether the state accepts the document, as far as that is known.
-fn ask(auto: &Auto, store: &Store, known: &Known, seq: Seq, state: State) -> Answer
+fn ask(auto: &Auto, store: &Store, known: &KnownAnswers, seq: Seq, state: State) -> Answer
     requires state { IsState auto.now state }
     requires seq { BelongsTo store.now seq }
     requires known { AreRight auto.now store.now (words_of known.now.rows.items) }
@@ -54,7 +54,7 @@ fn ask(auto: &Auto, store: &Store, known: &Known, seq: Seq, state: State) -> Ans
 }
 
 /// The same for what follows the first item.
-fn ask_rest(auto: &Auto, store: &Store, known: &Known, seq: Seq, state: State) -> Answer
+fn ask_rest(auto: &Auto, store: &Store, known: &KnownAnswers, seq: Seq, state: State) -> Answer
     requires state { IsState auto.now state }
     requires seq { BelongsTo store.now seq }
     requires known { AreRight auto.now store.now (words_of known.now.rows.items) }
@@ -65,7 +65,7 @@ fn ask_rest(auto: &Auto, store: &Store, known: &Known, seq: Seq, state: State) -
 }
 
 /// The same for the content of the first item.
-fn ask_content(auto: &Auto, store: &Store, known: &Known, seq: Seq, state: State) -> Answer
+fn ask_content(auto: &Auto, store: &Store, known: &KnownAnswers, seq: Seq, state: State) -> Answer
     requires state { IsState auto.now state }
     requires seq { BelongsTo store.now seq }
     requires known { AreRight auto.now store.now (words_of known.now.rows.items) }
@@ -76,7 +76,7 @@ fn ask_content(auto: &Auto, store: &Store, known: &Known, seq: Seq, state: State
 }
 
 /// Whether the move leads over the first item, an element with a label of its class.
-fn try_move(auto: &Auto, store: &Store, known: &Known, seq: Seq, step: &LabelMove) -> Answer
+fn try_move(auto: &Auto, store: &Store, known: &KnownAnswers, seq: Seq, step: &LabelMove) -> Answer
     requires content { IsState auto.now step.now.content }
     requires rest { IsState auto.now step.now.rest }
     requires seq { BelongsTo store.now seq }
@@ -94,7 +94,7 @@ fn try_move(auto: &Auto, store: &Store, known: &Known, seq: Seq, step: &LabelMov
 fn try_texts(
     auto: &Auto,
     store: &Store,
-    known: &Known,
+    known: &KnownAnswers,
     seq: Seq,
     text: &Text,
     state: State,
@@ -125,7 +125,7 @@ fn try_texts(
 fn try_labels(
     auto: &Auto,
     store: &Store,
-    known: &Known,
+    known: &KnownAnswers,
     seq: Seq,
     label: &Label,
     state: State,
@@ -152,7 +152,7 @@ fn try_labels(
 }
 
 /// Goes on with a pair, until it is settled or waits for another.
-fn advance(auto: &Auto, store: &Store, known: &Known, frame: Frame) -> Progress
+fn advance(auto: &Auto, store: &Store, known: &KnownAnswers, frame: Frame) -> Progress
     requires node { frame.node < length store.now }
     requires state { IsState auto.now frame.state }
     requires known { AreRight auto.now store.now (words_of known.now.rows.items) }
@@ -192,7 +192,7 @@ fn advance(auto: &Auto, store: &Store, known: &Known, frame: Frame) -> Progress
 fn walk(
     auto: &Auto,
     store: &Store,
-    known: &mut Known,
+    known: &mut KnownAnswers,
     stack: &mut Vec<Frame>,
     node: usize,
     state: State,
@@ -247,7 +247,7 @@ fn walk(
 pub struct Scratch {
     states: usize,
     nodes: usize,
-    known: Known,
+    known: KnownAnswers,
     stack: Vec<Frame>,
 }
 
@@ -267,11 +267,12 @@ impl Scratch {
     /// A scratch with room for at least so many states and nodes.
     ///
     /// It reserves a bit more than a quarter of a byte for each pair of them, and some words a node and
-    /// a state. Of that [`member`] touches the rows of the states that it asks for, as far as their nodes need.
+    /// a state. Of that [`member`] touches the rows of the states that it asks for, as far as their nodes need. `NoMemory` where there
+    /// is no room for all of it.
     pub fn reserve(alloc: Global, states: usize, nodes: usize) -> Result<Self, NoMemory>
         ensures { IfOk result (λ scratch. (states ≤ scratch.states) × (nodes ≤ scratch.nodes)) }
     {
-        let known = Known::with_room(alloc, states, nodes)?;
+        let known = KnownAnswers::with_room(alloc, states, nodes)?;
         let stack = Vec::with_capacity(alloc, nodes)?;
         Ok(Self {
             states,
@@ -289,7 +290,7 @@ impl Scratch {
     }
 }
 
-/// Whether the state accepts the document.
+/// Whether the state accepts the document. The scratch has room for the automaton's states and the store's nodes.
 ///
 /// It takes no memory beyond the scratch, which keeps its room. It does no recursion. Its work is
 /// that of the pairs of a node and a state that are asked for, starting from the document and the
@@ -322,7 +323,7 @@ pub fn member(auto: &Auto, state: State, store: &Store, seq: Seq, scratch: &mut 
 /// bits for each node up to the newest that it was asked at.
 #[derive(Debug, Drop)]
 pub struct Answers {
-    known: Known,
+    known: KnownAnswers,
     stack: Vec<Frame>,
 }
 
@@ -342,7 +343,7 @@ impl Answers {
         ensures right { (auto : Automaton) (documents : List Document) → AreRight auto documents result }
     {
         Self {
-            known: Known::new(alloc),
+            known: KnownAnswers::new(alloc),
             stack: Vec::new(alloc),
         }
     }

@@ -10,7 +10,7 @@ use Rattle.xd_doc.specs.Document.{Document, empty, text, element, is_proper, esc
 use Rattle.xd_lex.specs.Tokens.{start, tokens_from, tokens_of, past}
 use Rattle.xd_lex.proofs.Escapes.{unescaped-escaped}
 use Rattle.xd_lex.proofs.Canonical.{tokens-quoted, tokens-label, tokens-comma, tokens-bracket_r, tokens-parens}
-use Rattle.xd_read.specs.Grammar.{Terminal, Text, Label, BracketR, Comma, Standing, Content, Behind, Items, Spells}
+use Rattle.xd_read.specs.Grammar.{Terminal, Text, Label, BracketR, Comma, Context, Content, Behind, Items, Spells}
 use Rattle.xd_read.specs.Reading.{terminals_of, word_of, BytesSpell}
 use Rattle.xd_read.proofs.CanonicalLemmas.{canonical_text_utf8}
 use Rattle.std.proofs.lemmas.Bool.{and_parts}
@@ -47,7 +47,7 @@ element_parts : (l : List ℕ) (c r : Document) (rest : List ℕ) → items_text
 element_parts l c r rest = simp append_assoc
 
 -- the items are spelled as a content, and then the terminals of what is left follow from some place on
-record ReadAt (s : Standing) (d : Document) (ts : List Terminal) (rest : List ℕ) : Type 0 where
+record ReadAt (s : Context) (d : Document) (ts : List Terminal) (rest : List ℕ) : Type 0 where
   next : Place
   items : Items s d ts (terminals_at next rest)
 

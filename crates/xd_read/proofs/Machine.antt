@@ -2,7 +2,7 @@
 use Rattle.std.proofs.Common.{◌≡◌, ℕ, List, [], ◌∷◌, ◌++◌, Option, Some, None, refl, sym, ap, subst, ◌∙◌, inl, inr}
 use Rattle.std.proofs.lemmas.List.{append-nil}
 use Rattle.xd_doc.specs.Document.{Document, empty, text, element, join}
-use Rattle.xd_read.specs.Grammar.{Terminal, Text, Label, ParenL, ParenR, BracketR, Comma, End, Other, Standing, Whole, Content, Behind, Lead, Items, Spells}
+use Rattle.xd_read.specs.Grammar.{Terminal, Text, Label, ParenL, ParenR, BracketR, Comma, End, Other, Context, Whole, Content, Behind, Lead, Items, Spells}
 use Rattle.xd_read.specs.Completes.{Frame, Rest, Up, Completes}
 use Rattle.xd_read.specs.declared.moves.Expect.{Expect}
 use Rattle.xd_read.specs.declared.moves.Expect.TheVariants as expects
@@ -120,10 +120,10 @@ forward (At expects.Closed front fs) t ts d (element l c r, us, rest, up) = absu
 forward (Done e) t ts d (nothing, is) = absurd (cc nothing)
 
 -- and what completes after it completes with it
-text_backward : (m : Standing) (front : Document) (fs : List Frame) (s : List ℕ) (ts : List Terminal) (d : Document) → Lead m (Text s ∷ ts) (Text s ∷ ts) → CompletesFrom (At expects.More (join front (text s empty)) fs) ts d → (r : Document) × (us : List Terminal) × Items m r (Text s ∷ ts) us × Up fs (join front r) us d
+text_backward : (m : Context) (front : Document) (fs : List Frame) (s : List ℕ) (ts : List Terminal) (d : Document) → Lead m (Text s ∷ ts) (Text s ∷ ts) → CompletesFrom (At expects.More (join front (text s empty)) fs) ts d → (r : Document) × (us : List Terminal) × Items m r (Text s ∷ ts) us × Up fs (join front r) us d
 text_backward m front fs s ts d lead (r, us, rest, up) = (text s r, us, (ts, lead, rest), subst (λ (x : Document). Up fs x us d) (sym (pushed_text front s r)) up)
 
-elem_backward : (m : Standing) (front : Document) (fs : List Frame) (l : List ℕ) (ts : List Terminal) (d : Document) → Lead m (Label l ∷ ts) (Label l ∷ ts) → CompletesFrom (At expects.Content empty (record { label = l; before = front } ∷ fs)) ts d → (r : Document) × (us : List Terminal) × Items m r (Label l ∷ ts) us × Up fs (join front r) us d
+elem_backward : (m : Context) (front : Document) (fs : List Frame) (l : List ℕ) (ts : List Terminal) (d : Document) → Lead m (Label l ∷ ts) (Label l ∷ ts) → CompletesFrom (At expects.Content empty (record { label = l; before = front } ∷ fs)) ts d → (r : Document) × (us : List Terminal) × Items m r (Label l ∷ ts) us × Up fs (join front r) us d
 elem_backward m front fs l ts d lead (c, us, inner, (vs, r, ws, e, rest, up)) =
     (element l c r, ws, (ts, vs, lead, subst (Items Content c ts) e inner, rest), subst (λ (x : Document). Up fs x ws d) (sym (pushed_elem front l c r)) up)
 

@@ -18,25 +18,25 @@ pub data Terminal : Type 0 where
   Other : Terminal
 
 -- where items stand: as a whole document, as the content of an element, or behind another item
-pub data Standing : Type 0 where
-  Whole : Standing
-  Content : Standing
-  Behind : Standing
+pub data Context : Type 0 where
+  Whole : Context
+  Content : Context
+  Behind : Context
 
 -- how no items are spelled there, before the terminals that follow
-abbrev pub Nothing : Standing → List Terminal → List Terminal → Type 0
+abbrev pub Nothing : Context → List Terminal → List Terminal → Type 0
 Nothing Whole ts rest = ts ≡ ParenL ∷ ParenR ∷ rest
 Nothing Content ts rest = (ts ≡ rest) ⊎ (ts ≡ ParenL ∷ ParenR ∷ rest)
 Nothing Behind ts rest = ts ≡ rest
 
 -- an item behind another has a comma before it
-abbrev pub Lead : Standing → List Terminal → List Terminal → Type 0
+abbrev pub Lead : Context → List Terminal → List Terminal → Type 0
 Lead Whole ts item = ts ≡ item
 Lead Content ts item = ts ≡ item
 Lead Behind ts item = ts ≡ Comma ∷ item
 
 -- the terminals ts spell these items there, and then the terminals that follow
-abbrev pub Items : Standing → Document → List Terminal → List Terminal → Type 0
+abbrev pub Items : Context → Document → List Terminal → List Terminal → Type 0
 Items p empty ts rest = Nothing p ts rest
 Items p (text s r) ts rest = (us : List Terminal) × Lead p ts (Text s ∷ us) × Items Behind r us rest
 Items p (element l c r) ts rest = (us : List Terminal) × (vs : List Terminal) × Lead p ts (Label l ∷ us) × Items Content c us (BracketR ∷ vs) × Items Behind r vs rest

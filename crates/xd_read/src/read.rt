@@ -21,6 +21,8 @@ use xd_lex::{cut_token, past, text_of};
 /// ```
 ///
 /// `()` is read where a whole document or a whole content is expected, and nowhere else.
+///
+/// `ReadError::Malformed` comes exactly where the bytes spell no document. After a refusal the store has more documents at most.
 pub fn read_document(alloc: Global, store: &mut Store, bytes: &[u8]) -> Result<Seq, ReadError>
     ensures ok { IfOk result (λ seq. BytesSpell bytes.now (document_at store.new seq)) }
     ensures belongs { IfOk result (BelongsTo store.new) }

@@ -82,6 +82,8 @@ fn expand_all(
 ///
 /// Moves that name few labels or texts are found by name, so two states with many moves each on names
 /// of their own cost about what they share.
+///
+/// Fails only where memory is refused. The second automaton keeps its states, and may have more.
 pub fn pair_up(
     alloc: Global,
     one: &Auto,

@@ -11,6 +11,8 @@ use xd_doc::{Class, NoMemory, Words};
 
 /// Adds a state that accepts every document, by one move on an element and one on a text, each back
 /// to itself.
+///
+/// Fails only where memory is refused. The automaton keeps its states, and may have one more.
 pub fn add_universal(alloc: Global, auto: &mut Auto) -> Result<State, NoMemory>
     ensures universal { IfOk result (IsUniversal auto.new) }
     ensures accepted { IfOk result (λ state. (d : Document) → accepts auto.new d state ≡ true) }

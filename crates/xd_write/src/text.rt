@@ -7,6 +7,8 @@ ghost use Rattle.xd_write.specs.Written.{AppendsPrefix};
 use xd_doc::NoMemory;
 
 /// Appends the text between quotes. The bytes between two escapes are copied as one slice.
+///
+/// Fails only where memory is refused. Then `out` holds what it held, and a front of the text.
 pub fn write_text(text: &str, out: &mut Vec<u8>) -> Result<(), NoMemory>
     ensures ok { OnOk result (out.new.items ≡ out.old.items ++ (34 ∷ escaped_all text.now ++ 34 ∷ [])) }
     ensures err { OnErr result (AppendsPrefix (34 ∷ escaped_all text.now ++ 34 ∷ []) out.old.items out.new.items) }

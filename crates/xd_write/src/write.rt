@@ -11,8 +11,8 @@ use xd_doc::{Item, NoMemory, Seq, Store};
 
 /// Appends the canonical text of the document, without a line end.
 ///
-/// The time is linear in the text. Contents that are open stand on a stack of their own, so a
-/// document may nest to any depth.
+/// Contents that are open stand on a stack of their own, so a document may nest to any depth. After
+/// `NoMemory` `out` holds what it held and a front of the text.
 pub fn write_document(
     alloc: Global,
     store: &Store,

@@ -15,6 +15,7 @@ impl Auto {
     /// A state that accepts what either of two states accepts.
     ///
     /// It adds one state, which has copies of their moves.
+    /// After `NoMemory` old states accept what they did; the automaton may have more states.
     pub fn union(&mut self, one: State, two: State) -> Result<State, NoMemory>
         requires one { IsState self.old one }
         requires two { IsState self.old two }
@@ -31,6 +32,7 @@ impl Auto {
     /// A state that accepts what some of these states accept.
     ///
     /// It adds one state, which has copies of their moves.
+    /// After `NoMemory` old states accept what they did; the automaton may have more states.
     pub fn unite(&mut self, states: &[State]) -> Result<State, NoMemory>
         requires { All (IsState self.old) states.now }
         ensures ok { IfOk result (λ made. (d : Document) → accepts self.new d made ≡ list_any (accepts self.old d) states.now) }
@@ -52,6 +54,7 @@ impl Auto {
     ///
     /// It adds copies of the states that the first leads to for what follows. Where a copied state
     /// accepts the empty document, its copy has the moves of the second state too.
+    /// After `NoMemory` old states accept what they did; the automaton may have more states.
     pub fn concat(&mut self, one: State, two: State) -> Result<State, NoMemory>
         requires one { IsState self.old one }
         requires two { IsState self.old two }
@@ -80,6 +83,7 @@ impl Auto {
     /// A state that accepts one element with this label, whose content the given state accepts.
     ///
     /// It adds two states.
+    /// After `NoMemory` old states accept what they did; the automaton may have more states.
     pub fn wrap(&mut self, label: &Label, content: State) -> Result<State, NoMemory>
         requires { IsState self.old content }
         ensures ok { IfOk result (λ made. (d : Document) → (accepts self.new d made ≡ true) ↔ IsWrapped self.old label.now content d) }
@@ -102,6 +106,7 @@ impl Auto {
     /// Copies a state of another automaton, which accepts the same.
     ///
     /// Only the states that it leads to are copied with it.
+    /// After `NoMemory` old states accept what they did; the automaton may have more states.
     pub fn absorb(&mut self, other: &Auto, state: State) -> Result<State, NoMemory>
         requires { IsState other.now state }
         ensures ok { IfOk result (λ made. (d : Document) → accepts self.new d made ≡ accepts other.now d state) }
@@ -161,6 +166,7 @@ fn around(alloc: Global, label: &Label, content: State, rest: State) -> Result<M
 
 /// The part of an automaton that a state leads to: an automaton with the states that are reached
 /// from the answer's state alone, which accepts the same.
+/// `NoMemory` where there is no room for it; the automaton that is given stays as it is.
 pub fn trim(alloc: Global, auto: &Auto, state: State) -> Result<(Auto, State), NoMemory>
     requires { IsState auto.now state }
     ensures ok { IfOk result (λ made. (d : Document) → accepts made.0 d made.1 ≡ accepts auto.now d state) }

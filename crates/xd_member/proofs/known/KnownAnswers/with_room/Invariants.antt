@@ -1,6 +1,6 @@
 use Rattle.std.proofs.Common.{◌≡◌, ◌≤◌, length, vec_capacity}
 use Rattle.xd_member.specs.Kept.{HasRoom}
-use Rattle.xd_member.proofs.known.Known.with_room.Given as goal
+use Rattle.xd_member.proofs.known.KnownAnswers.with_room.Given as goal
 
 abbrev pub invariant-loop : goal.invariant-loop
 invariant-loop l = record {

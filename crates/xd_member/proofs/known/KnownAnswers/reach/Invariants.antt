@@ -1,6 +1,6 @@
 use Rattle.std.proofs.Common.{ℕ, ◌+◌, ◌-◌, ◌≤◌, length}
 use Rattle.xd_member.specs.Kept.{HasRoom, SameAnswers, words_of}
-use Rattle.xd_member.proofs.known.Known.reach.Given as goal
+use Rattle.xd_member.proofs.known.KnownAnswers.reach.Given as goal
 
 abbrev pub invariant-loop-self : goal.invariant-loop-self
 invariant-loop-self l = record {

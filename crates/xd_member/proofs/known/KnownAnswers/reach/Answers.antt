@@ -1,6 +1,6 @@
 use Rattle.std.proofs.Common.{◌∙◌, rules}
 use Rattle.xd_member.proofs.Keeping.{same_more, room_more}
-use Rattle.xd_member.proofs.known.Known.reach.Goals as goal
+use Rattle.xd_member.proofs.known.KnownAnswers.reach.Goals as goal
 
 pub loop-self-preserved : goal.loop-self-preserved
 loop-self-preserved c = record {

@@ -1,6 +1,6 @@
 use Rattle.std.proofs.Common.{ℕ, ◌≡◌, ◌<◌, [], length, get_or}
 use Rattle.xd_member.specs.Kept.{HasRoom}
-use Rattle.xd_member.proofs.known.Known.clear.Given as goal
+use Rattle.xd_member.proofs.known.KnownAnswers.clear.Given as goal
 
 abbrev pub invariant-loop-state : goal.invariant-loop-state
 invariant-loop-state l = record {

@@ -1,7 +1,7 @@
 use Rattle.std.proofs.Common.{◌≡◌, ◌<◌, arith, length, ◌∙◌, get_or}
 use Rattle.std.proofs.lemmas.List.{length-set, get_or_read}
 use Rattle.xd_member.proofs.Keeping.{bare_set, none_kept, room_set}
-use Rattle.xd_member.proofs.known.Known.clear.Goals as goal
+use Rattle.xd_member.proofs.known.KnownAnswers.clear.Goals as goal
 
 pub loop-state-preserved : goal.loop-state-preserved
 loop-state-preserved c =

@@ -2,7 +2,7 @@ use Rattle.std.proofs.Common.{◌≤◌, ◌∙◌, arith, get_or, vec_capacity}
 use Rattle.std.proofs.lemmas.List.{get_or_read}
 use Rattle.xd_member.specs.Kept.{HasRoom, words_of}
 use Rattle.xd_member.proofs.Keeping.{answer_from_same, keep_row, on_err, room_set, same_rows}
-use Rattle.xd_member.proofs.known.Known.keep.Goals as goal
+use Rattle.xd_member.proofs.known.KnownAnswers.keep.Goals as goal
 
 pub returns-clause-ok : goal.returns-clause-ok
 returns-clause-ok c =
