@@ -1,11 +1,11 @@
 -- How a group is divided by a move.
 use Rattle.std.proofs.Common.{◌≡◌, ℕ, zero, suc, ◌+◌, ◌<◌, length, take, get_or, Bool, true, false, not, ◌&&◌, ◌||◌, List, [], ◌∷◌, ◌++◌, Option, Some, None, refl, sym, ap, ◌∙◌, subst, arith}
-use Rattle.std.specs.List.{list_any}
-use Rattle.std.proofs.lemmas.List.Folds.{list_any-append, list_any_more}
+use Rattle.std.specs.List.{Contains, list_any}
+use Rattle.std.proofs.lemmas.List.Folds.{list_any-append, list_any_at, list_any_more}
 use Rattle.xd_boole.specs.declared.groups.Group.{Group}
-use Rattle.xd_boole.specs.Groups.{AddsInside, AddsOutside, AllPass, AllSides, Divides, IsPartAdded, IsPartBy, any_group, group_refuses, passes_at}
+use Rattle.xd_boole.specs.Groups.{AddsInside, AddsOutside, AllPass, AllSides, Divides, HasSide, IsPartAdded, IsPartBy, any_group, group_refuses, passes_at}
 use Rattle.xd_boole.proofs.Lists.{all_push, all_front, all_last}
-use Rattle.xd_boole.proofs.Bools.{and_more, divided_inside, divided_both, next_one, or_join, or_nothing}
+use Rattle.xd_boole.proofs.Bools.{and_more, divided_inside, divided_both, implied_by, next_one, or_join, or_nothing}
 
 or_false : (x y : Bool) → (x || (y || false)) ≡ (x || y)
 or_false true y = refl
@@ -18,20 +18,49 @@ none_matches true true a s e = absurd (cc)
 none_matches true false true s e = refl
 none_matches true false false s e = refl
 
+-- a side was added, or is there already
+pub side_added : {S : Type 0} (sides made : List S) (side : S) → made ≡ sides ++ side ∷ [] → HasSide sides side made
+side_added sides made side is = record {
+  taken = λ p. ap (list_any p) is ∙ list_any-append p sides (side ∷ []) ∙ ap (λ w. list_any p sides || w) (or_nothing (p side));
+  all = λ p h s. subst (AllPass p) (sym is) (all_push (λ w. p w ≡ true) sides side h s);
+}
+
+pub side_there : {S : Type 0} (sides made : List S) (side : S) → made ≡ sides → Contains sides side → HasSide sides side made
+side_there sides made side is among = record {
+  taken = λ p. ap (list_any p) is ∙ implied_by (list_any p sides) (p side) (λ e. list_any_at p sides among.0 side among.1 (ap p among.2 ∙ e));
+  all = λ p h s. subst (AllPass p) (sym is) h;
+}
+
+said_already : (h a c s : Bool) → (s ≡ true → a ≡ true) → ((h && not a) || false) ≡ ((h && not a) && not (c && s))
+said_already false a c s e = refl
+said_already true true c s e = refl
+said_already true false true true e = let no : false ≡ true = e refl in absurd (cc)
+said_already true false true false e = refl
+said_already true false false s e = refl
+
 module _ {C S : Type 0} (has : C → List ℕ → Bool) (class : C) (side : S) where
+  -- another move said the same of all names of the group
+  pub divides_there : (g : Group C S) (old new : List (Group C S)) → new ≡ old ++ g ∷ [] → Contains g.sides.items side → Divides has class side g old new
+  divides_there g old new is among = record {
+    taken = λ p x.
+        ap (any_group has p x) is ∙ list_any-append (group_refuses has p x) old (g ∷ [])
+        ∙ ap (λ w. any_group has p x old || w) (said_already (has g.class x) (list_any p g.sides.items) (has class x) (p side) (λ e. list_any_at p g.sides.items among.0 side among.1 (ap p among.2 ∙ e)));
+    sides = λ p h k s. subst (AllSides p) (sym is) (all_push (λ (w : Group C S). AllPass p w.sides.items) old g h k);
+  }
+
   -- the group of the names that the move matches
   pub record IsInside (g i : Group C S) : Type 0 where
     pub class_is : IsPartBy has true g.class class (Some i.class)
-    pub sides_are : i.sides.items ≡ g.sides.items ++ side ∷ []
+    pub sides_are : HasSide g.sides.items side i.sides.items
 
   inside_refuses : (g i : Group C S) → IsInside g i → (p : S → Bool) (x : List ℕ) → group_refuses has p x i ≡ ((has g.class x && has class x) && not (list_any p g.sides.items || p side))
   inside_refuses g i is p x =
       ap (λ w. w && not (list_any p i.sides.items)) (is.class_is x)
       ∙ ap (λ w. (has g.class x && has class x) && not w)
-      (ap (list_any p) is.sides_are ∙ list_any-append p g.sides.items (side ∷ []) ∙ ap (λ w. list_any p g.sides.items || w) (or_nothing (p side)))
+      (is.sides_are.taken p)
 
   inside_sides : (g i : Group C S) → IsInside g i → (p : S → Bool) → AllPass p g.sides.items → p side ≡ true → AllPass p i.sides.items
-  inside_sides g i is p h s = subst (AllPass p) (sym is.sides_are) (all_push (λ w. p w ≡ true) g.sides.items side h s)
+  inside_sides g i is p h s = is.sides_are.all p h s
 
   -- it matches none of them
   pub divides_none : (g : Group C S) (old new : List (Group C S)) → new ≡ old ++ g ∷ [] → IsPartBy has true g.class class None → Divides has class side g old new

@@ -1,7 +1,8 @@
 -- Which moves match names of a class.
-use Rattle.std.proofs.Common.{◌≡◌, ℕ, zero, suc, ◌<◌, Bool, true, false, ◌&&◌, ◌||◌, List, [], ◌∷◌, length, get_or, refl, ap, ◌∙◌, arith}
+use Rattle.std.proofs.Common.{◌≡◌, ℕ, zero, suc, ◌<◌, Bool, true, false, ◌&&◌, ◌||◌, List, [], ◌∷◌, length, get_or, take, filter, nat_lt, cond, refl, sym, ap, ◌∙◌, arith}
 use Rattle.std.specs.Cmp.{both_ways}
 use Rattle.std.specs.List.{list_any}
+use Rattle.std.proofs.lemmas.Bool.Decides.{nat_tests}
 use Rattle.std.proofs.lemmas.List.Folds.{list_any_at}
 use Rattle.xd_auto.specs.Matching.{AreMatching}
 use Rattle.xd_boole.specs.Groups.{passes_at}
@@ -46,6 +47,69 @@ matching_tells {M} has t step moves numbers are x takes =
     let d = first moves p.within in
     let among = are.cover p.number d x p.within takes (and_left (has (get_or moves p.number d) x) (t (get_or moves p.number d)) (p.here d)) in
     list_any_at (passes_at (λ m. has m x && t m) moves) numbers among.0 p.number among.1 (ap (passes_at (λ m. has m x && t m) moves) among.2 ∙ p.passes))
+  where
+    first : {n : ℕ} (ms : List M) → n < length ms → M
+    first [] lt = absurd (omega arith)
+    first (m ∷ ms) lt = m
+
+-- ---- moves before a place
+
+-- a test of a number that passes only before the place
+passes_before : {M : Type 0} (t : M → Bool) (ms : List M) (n k : ℕ) → (nat_lt k n && passes_at t ms k) ≡ passes_at t (take n ms) k
+passes_before t ms zero k = go (nat_lt k zero) refl
+  where
+    go : (b : Bool) → nat_lt k zero ≡ b → (b && passes_at t ms k) ≡ false
+    go true e = absurd (grind (arith, nat_tests))
+    go false e = refl
+passes_before t [] (suc n) k = and_false (nat_lt k (suc n))
+  where
+    and_false : (b : Bool) → (b && false) ≡ false
+    and_false true = refl
+    and_false false = refl
+passes_before t (m ∷ ms) (suc n) zero = ap (λ w. w && t m) (let e : nat_lt zero (suc n) ≡ true = grind (arith, nat_tests) in e)
+passes_before t (m ∷ ms) (suc n) (suc k) = ap (λ w. w && passes_at t ms k) (lowered k n) ∙ passes_before t ms n k
+  where
+    lowered : (k n : ℕ) → nat_lt (suc k) (suc n) ≡ nat_lt k n
+    lowered k n = both_ways (nat_lt (suc k) (suc n)) (nat_lt k n) (λ e. grind (arith, nat_tests)) (λ e. grind (arith, nat_tests))
+
+any_filtered : (f p : ℕ → Bool) (ks : List ℕ) → list_any p (filter f ks) ≡ list_any (λ k. f k && p k) ks
+any_filtered f p [] = refl
+any_filtered f p (k ∷ ks) = go (f k) (any_filtered f p ks)
+  where
+    go : (b : Bool) → list_any p (filter f ks) ≡ list_any (λ k. f k && p k) ks → list_any p (cond b (k ∷ filter f ks) (filter f ks)) ≡ ((b && p k) || list_any (λ k. f k && p k) ks)
+    go true h = ap (λ w. p k || w) h
+    go false h = h
+
+any_same : (f g : ℕ → Bool) (ks : List ℕ) → ((k : ℕ) → f k ≡ g k) → list_any f ks ≡ list_any g ks
+any_same f g [] h = refl
+any_same f g (k ∷ ks) h = ap (λ w. w || list_any f ks) (h k) ∙ ap (λ w. g k || w) (any_same f g ks h)
+
+-- where a move stands before the place
+record Before {M : Type 0} (ms : List M) (n k : ℕ) : Type 0 where
+  within : k < length ms
+  same : (d : M) → get_or (take n ms) k d ≡ get_or ms k d
+
+before : {M : Type 0} (ms : List M) (n k : ℕ) → k < length (take n ms) → Before ms n k
+before ms zero k lt = absurd (omega arith)
+before [] (suc n) k lt = absurd (omega arith)
+before (m ∷ ms) (suc n) zero lt = record { within = omega arith; same = λ d. refl }
+before (m ∷ ms) (suc n) (suc k) lt = let b = before ms n k (omega arith) in record { within = omega (arith, b.within); same = b.same }
+
+-- of the moves that may share a name with a move those before a place tell what all moves before it do
+pub matching_before : {M : Type 0} (has : M → List ℕ → Bool) (t : M → Bool) (step : M) (moves : List M) (numbers : List ℕ) (n : ℕ) → AreMatching has step moves numbers
+    → (x : List ℕ) → has step x ≡ true → list_any (passes_at (λ m. has m x && t m) moves) (filter (λ k. nat_lt k n) numbers) ≡ list_any (λ m. has m x && t m) (take n moves)
+matching_before {M} has t step moves numbers n are x takes =
+    let p : M → Bool = λ m. has m x && t m in
+    any_filtered (λ k. nat_lt k n) (passes_at p moves) numbers
+    ∙ any_same (λ k. nat_lt k n && passes_at p moves k) (passes_at p (take n moves)) numbers (passes_before p moves n)
+    ∙ both_ways (list_any (passes_at p (take n moves)) numbers) (list_any p (take n moves))
+    (some_number p (take n moves) numbers)
+    (λ e.
+    let f = any_place p (take n moves) e in
+    let d = first (take n moves) f.within in
+    let b = before moves n f.number f.within in
+    let among = are.cover f.number d x b.within takes (ap (λ m. has m x) (sym (b.same d)) ∙ and_left (has (get_or (take n moves) f.number d) x) (t (get_or (take n moves) f.number d)) (f.here d)) in
+    list_any_at (passes_at p (take n moves)) numbers among.0 f.number among.1 (ap (passes_at p (take n moves)) among.2 ∙ f.passes))
   where
     first : {n : ℕ} (ms : List M) → n < length ms → M
     first [] lt = absurd (omega arith)

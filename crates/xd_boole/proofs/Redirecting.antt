@@ -10,12 +10,17 @@ use Rattle.xd_auto.specs.declared.auto.LabelMove.{LabelMove}
 use Rattle.xd_auto.specs.declared.auto.TextMove.{TextMove}
 use Rattle.xd_auto.specs.Automaton.{Automaton, ChangesOnly, IsState, StateMoves, accepts, moves_at, no_moves, state_number, with_label_move, with_text_move}
 use Rattle.xd_boole.specs.Merging.{AreStandIns, IsRedirected, RedirectsFirst, RedirectsLabels, RedirectsTexts, redirected, text_redirected, stand_in}
+use Rattle.xd_boole.specs.Meaning.{TellSame, move_takes, text_takes}
 use Rattle.xd_boole.proofs.Expanding.{given_moves}
 use Rattle.xd_boole.proofs.MergeLemmas.{stand_in_there}
 
 any_map : {X : Type 0} (h : X → X) (f g : X → Bool) (xs : List X) → ((x : X) → f (h x) ≡ g x) → list_any f (map h xs) ≡ list_any g xs
 any_map h f g [] same = refl
 any_map h f g (x ∷ xs) same = ap (λ w. w || list_any f (map h xs)) (same x) ∙ ap (λ w. g x || w) (any_map h f g xs same)
+
+map_over : {X : Type 0} (h : X → X) (f g : X → Bool) (xs : List X) → ((x : X) → f (h x) ≡ g x) → map f (map h xs) ≡ map g xs
+map_over h f g [] same = refl
+map_over h f g (x ∷ xs) same = ap (λ w. w ∷ map f (map h xs)) (same x) ∙ ap (λ w. g x ∷ w) (map_over h f g xs same)
 
 -- all states have their moves, so they accept what they did
 module _ (a : Automaton) (same : List State) (made : Automaton) (n : ℕ) (stand : AreStandIns a same) (all : length a ≤ n) (h : RedirectsFirst a same made n) where
@@ -43,6 +48,20 @@ module _ (a : Automaton) (same : List State) (made : Automaton) (n : ℕ) (stand
       ∙ any_map (redirected same) (λ m. class_has m.class l && (accepts made c m.content && accepts made r m.rest)) (λ m. class_has m.class l && (accepts a c m.content && accepts a r m.rest)) (moves_at a s).labels
       (λ m. ap (λ w. class_has m.class l && (w && accepts made r (stand_in same m.rest))) (redirected_accepts c (stand_in same m.content) ∙ stand.accept c m.content)
       ∙ ap (λ w. class_has m.class l && (accepts a c m.content && w)) (redirected_accepts r (stand_in same m.rest) ∙ stand.accept r m.rest))
+
+  -- and their moves tell what they did
+  pub redirected_tells : TellSame a made
+  redirected_tells = record {
+    labels = λ q s.
+        ap (map (move_takes made q)) (state s).labels
+        ∙ map_over (redirected same) (move_takes made q) (move_takes a q) (moves_at a s).labels
+        (λ m. ap (λ w. class_has m.class q.label && (w && accepts made q.rest (stand_in same m.rest))) (redirected_accepts q.content (stand_in same m.content) ∙ stand.accept q.content m.content)
+        ∙ ap (λ w. class_has m.class q.label && (accepts a q.content m.content && w)) (redirected_accepts q.rest (stand_in same m.rest) ∙ stand.accept q.rest m.rest));
+    texts = λ q s.
+        ap (map (text_takes made q)) (state s).texts
+        ∙ map_over (text_redirected same) (text_takes made q) (text_takes a q) (moves_at a s).texts
+        (λ m. ap (λ w. class_has m.words q.characters && w) (redirected_accepts q.rest (stand_in same m.rest) ∙ stand.accept q.rest m.rest));
+  }
 
 -- ---- one more move
 

@@ -1,14 +1,14 @@
 -- Names in groups that the same moves match. Of this only private contracts speak.
-use Rattle.std.specs.Prelude.{◌≡◌, ℕ, zero, suc, Bool, true, false, not, cond, ◌&&◌, ◌||◌, List, [], ◌∷◌, ◌++◌, Option, Some, None}
+use Rattle.std.specs.Prelude.{◌≡◌, ℕ, zero, suc, Bool, true, false, not, cond, ◌&&◌, ◌||◌, List, [], ◌∷◌, ◌++◌, take, Option, Some, None}
 use Rattle.std.specs.List.{AllByRecursion, list_any}
 use Rattle.xd_doc.specs.Document.{Document}
 use Rattle.xd_doc.specs.Classes.{LabelClass, TextClass, class_has}
 use Rattle.xd_auto.specs.declared.auto.State.{State}
 use Rattle.xd_auto.specs.declared.auto.LabelMove.{LabelMove}
-use Rattle.xd_auto.specs.Automaton.{Automaton, accepts}
+use Rattle.xd_auto.specs.Automaton.{Automaton, accepts, moves_at}
 use Rattle.xd_boole.specs.declared.groups.Side.{Side}
 use Rattle.xd_boole.specs.declared.groups.Group.{Group}
-use Rattle.xd_boole.specs.Meaning.{ElementFirst, TextFirst, any_accepts, element_of, text_of, is_state}
+use Rattle.xd_boole.specs.Meaning.{ElementFirst, TextFirst, any_accepts, element_of, move_takes, text_of, text_takes, is_state}
 
 -- what the first class has that is in the second, or outside of it; no class where that is nothing
 abbrev pub IsPartBy : {C : Type 0} → (C → List ℕ → Bool) → Bool → C → C → Option C → Type 0
@@ -29,12 +29,17 @@ AllPass {S = S} p sides = AllByRecursion (λ s. p s ≡ true) sides
 abbrev pub AllSides : {C S : Type 0} → (S → Bool) → List (Group C S) → Type 0
 AllSides {C = C} {S = S} p groups = AllByRecursion (λ (g : Group C S). AllPass p g.sides.items) groups
 
+-- these sides with one more, as far as tests of them tell
+pub record HasSide {S : Type 0} (sides : List S) (side : S) (made : List S) : Type 0 where
+  pub taken : (p : S → Bool) → list_any p made ≡ (list_any p sides || p side)
+  pub all : (p : S → Bool) → AllPass p sides → p side ≡ true → AllPass p made
+
 -- the names that a move matches were put behind the groups, with the move's side
 pub record AddsInside {C S : Type 0} (inside : C) (sides : List S) (side : S) (old new : List (Group C S)) : Type 0 where
   pub group : Group C S
   pub items : new ≡ old ++ group ∷ []
   pub class_is : group.class ≡ inside
-  pub sides_are : group.sides.items ≡ sides ++ side ∷ []
+  pub sides_are : HasSide sides side group.sides.items
 
 -- the names of the group that make up this part were put behind the groups, if there is one
 abbrev pub IsPartAdded : {C S : Type 0} → Group C S → List (Group C S) → List (Group C S) → Option C → Type 0
@@ -86,4 +91,15 @@ pub record AreLabelGroups (a : Automaton) (class : LabelClass) (states : List St
 -- the texts of the class in groups, by the moves of these states
 pub record AreTextGroups (a : Automaton) (class : TextClass) (states : List State) (groups : List (Group TextClass State)) : Type 0 where
   pub taken : (q : TextFirst) → any_group class_has (λ s. accepts a q.rest s) q.characters groups ≡ (class_has class q.characters && not (any_accepts a states (text_of q)))
+  pub sides : AllSides (is_state a) groups
+
+-- the same, by the moves of these states and by the first moves of one more
+pub record AreLabelGroupsBefore (a : Automaton) (class : LabelClass) (states : List State) (own : State) (place : ℕ) (groups : List (Group LabelClass Side)) : Type 0 where
+  pub taken : (q : ElementFirst) → any_group class_has (side_accepts a q.content q.rest) q.label groups
+      ≡ (class_has class q.label && not (any_accepts a states (element_of q) || list_any (move_takes a q) (take place (moves_at a own).labels)))
+  pub sides : AllSides (is_side a) groups
+
+pub record AreTextGroupsBefore (a : Automaton) (class : TextClass) (states : List State) (own : State) (place : ℕ) (groups : List (Group TextClass State)) : Type 0 where
+  pub taken : (q : TextFirst) → any_group class_has (λ s. accepts a q.rest s) q.characters groups
+      ≡ (class_has class q.characters && not (any_accepts a states (text_of q) || list_any (text_takes a q) (take place (moves_at a own).texts)))
   pub sides : AllSides (is_state a) groups

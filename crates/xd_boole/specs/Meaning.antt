@@ -1,5 +1,5 @@
 -- What a state of a difference stands for: a state of one automaton, the left, and states of another that are taken away from it, the rights. Of this only private contracts speak.
-use Rattle.std.specs.Prelude.{ℕ, Bool, true, not, cond, ◌&&◌, ◌==◌, List, [], ◌∷◌, nat_lt, nat_eq, length}
+use Rattle.std.specs.Prelude.{◌≡◌, ℕ, Bool, true, not, cond, ◌&&◌, ◌==◌, List, [], ◌∷◌, map, nat_lt, nat_eq, length}
 use Rattle.std.specs.List.{list_any}
 use Rattle.xd_doc.specs.Document.{Document, text, element}
 use Rattle.xd_doc.specs.Classes.{class_has}
@@ -53,6 +53,11 @@ move_takes a q m = class_has m.class q.label && (accepts a q.content m.content &
 
 abbrev pub text_takes : Automaton → TextFirst → TextMove → Bool
 text_takes a q m = class_has m.words q.characters && accepts a q.rest m.rest
+
+-- the moves of a state take, one by one, what those of the other automaton do
+pub record TellSame (a b : Automaton) : Type 0 where
+  pub labels : (q : ElementFirst) (s : State) → map (move_takes b q) (moves_at b s).labels ≡ map (move_takes a q) (moves_at a s).labels
+  pub texts : (q : TextFirst) (s : State) → map (text_takes b q) (moves_at b s).texts ≡ map (text_takes a q) (moves_at a s).texts
 
 -- the states with one more, each once, in the order of their numbers
 abbrev pub with_state : State → List State → List State

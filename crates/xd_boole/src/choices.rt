@@ -13,9 +13,9 @@ use xd_doc::NoMemory;
 
 /// States that are to refuse the content, and states that are to refuse what follows.
 #[derive(Drop)]
-pub(crate) struct Choice {
-    pub(crate) contents: Vec<State>,
-    pub(crate) rests: Vec<State>,
+pub struct Choice {
+    pub contents: Vec<State>,
+    pub rests: Vec<State>,
 }
 
 /// Whether the choice refuses what a matching move accepts.
@@ -139,7 +139,7 @@ fn extend_all(
 
 /// The choices by which an element is refused by all matching moves, without those that would have a
 /// state refuse that is known to accept everything.
-pub(crate) fn choices_of(
+pub fn choices_of(
     alloc: Global,
     sides: &[Side],
     universal: &[bool],

@@ -7,7 +7,7 @@ ghost use Rattle.xd_doc.specs.Classes.{class_has};
 ghost use Rattle.xd_auto.specs.declared.auto.State.{State};
 ghost use Rattle.xd_auto.specs.Automaton.{Extends, IsState, accepts};
 ghost use Rattle.xd_empty.specs.Parts.{IsInhabitedPart};
-ghost use Rattle.xd_boole.specs.Meaning.{any_accepts, element_of, is_state, less, means, move_takes, text_of, text_takes};
+ghost use Rattle.xd_boole.specs.Meaning.{TellSame, any_accepts, element_of, is_state, less, means, move_takes, text_of, text_takes};
 ghost use Rattle.xd_boole.specs.Groups.{AllPass, group_refuses, is_side, side_accepts};
 ghost use Rattle.xd_boole.specs.Universal.{MarkUniversal};
 ghost use Rattle.xd_boole.specs.Choices.{IsChoiceOf, choice_refuses};
@@ -27,9 +27,9 @@ use xd_empty::{inhabited, inhabited_part};
 
 /// What is taken away: states of an automaton, and of each whether it is known to accept everything.
 #[derive(Drop)]
-struct Taken {
-    auto: Auto,
-    universal: Vec<bool>,
+pub struct Taken {
+    pub auto: Auto,
+    pub universal: Vec<bool>,
 }
 
 /// The move on these labels by which the part goes on as the choice says.
@@ -273,9 +273,10 @@ fn difference(
 }
 
 /// The states of an automaton as what is taken away: those that are like each other are made one.
-fn taken_from(alloc: Global, part: &Auto) -> Result<Taken, NoMemory>
+pub fn taken_from(alloc: Global, part: &Auto) -> Result<Taken, NoMemory>
     ensures count { IfOk result (λ taken. length taken.auto ≡ length part.now) }
     ensures same { IfOk result (λ taken. (d : Document) (s : State) → accepts taken.auto d s ≡ accepts part.now d s) }
+    ensures moves { IfOk result (λ taken. TellSame part.now taken.auto) }
     ensures universal { IfOk result (λ taken. MarkUniversal taken.auto taken.universal.items) }
 {
     let auto = merged(alloc, part)?;
@@ -315,6 +316,8 @@ fn subtract_taken(
 /// The number of states may be exponential in that of the other automaton; it is about the product of
 /// both where few moves of a state match the same label. (Hosoya, Vouillon and Pierce, *Regular
 /// expression types for XML*, 2005, section 4, whose subtyping divides goals by the same choices.)
+///
+/// Fails only where memory is refused. The automaton keeps its states, and may have more.
 pub fn subtract(
     alloc: Global,
     auto: &mut Auto,
@@ -338,6 +341,8 @@ pub fn subtract(
 ///
 /// States that are like each other are made one before. States that accept nothing are left out, but
 /// for the first.
+///
+/// Fails only where memory is refused.
 pub fn minus(
     alloc: Global,
     one: &Auto,

@@ -1,10 +1,10 @@
 //! The names of a class, labels or texts, in groups that the same moves match.
 
-ghost use Rattle.std.specs.Prelude.{◌≡◌, ◌<◌, ◌&&◌, ◌++◌, ◌∷◌, [], List, ℕ, Bool, true, false, length, IfOk, OnOk};
+ghost use Rattle.std.specs.Prelude.{◌≡◌, ◌<◌, ◌&&◌, ◌++◌, ◌∷◌, [], List, ℕ, Bool, true, false, filter, length, nat_lt, Contains, IfOk, IsTrue, OnOk};
 ghost use Rattle.std.specs.List.{All, AllByRecursion};
 ghost use Rattle.xd_doc.specs.Classes.{class_has};
 ghost use Rattle.xd_auto.specs.Automaton.{IsState, has_label, has_text};
-ghost use Rattle.xd_boole.specs.Groups.{AddsInside, AddsOutside, AreLabelGroups, AreTextGroups, Divides, DividesAll, DividesBy, IsPartBy, label_side};
+ghost use Rattle.xd_boole.specs.Groups.{AddsInside, AddsOutside, AreLabelGroups, AreLabelGroupsBefore, AreTextGroups, AreTextGroupsBefore, Divides, DividesAll, DividesBy, HasSide, IsPartBy, label_side};
 
 use std::alloc::Global;
 use xd_auto::{Auto, LabelMove, Move, State, TextMove};
@@ -64,9 +64,9 @@ pub(crate) trait Step<C, S> {
 
 /// What a move on an element says of the content and of what follows the element.
 #[derive(Clone, Copy)]
-pub(crate) struct Side {
-    pub(crate) content: State,
-    pub(crate) rest: State,
+pub struct Side {
+    pub content: State,
+    pub rest: State,
 }
 
 impl Step<Class, Side> for LabelMove {
@@ -102,25 +102,67 @@ impl Step<Words, State> for TextMove {
 
 /// Names that the same moves match, and what these moves say.
 #[derive(Drop)]
-pub(crate) struct Group<C, S> {
-    pub(crate) class: C,
-    pub(crate) sides: Vec<S>,
+pub struct Group<C, S> {
+    pub class: C,
+    pub sides: Vec<S>,
 }
 
-/// The sides with one more.
-fn with_side<S: Copy>(alloc: Global, sides: &[S], side: S) -> Result<Vec<S>, NoMemory>
-    ensures { IfOk result (λ made. made.items ≡ sides.now ++ side ∷ []) }
+/// What a move says, which can be told from what others say.
+pub(crate) trait Told: Copy {
+    /// Whether both are the same.
+    fn is_same(self, other: Self) -> bool
+        ensures { IsTrue result → self ≡ other };
+}
+
+impl Told for State {
+    fn is_same(self, other: Self) -> bool {
+        self == other
+    }
+}
+
+impl Told for Side {
+    fn is_same(self, other: Self) -> bool {
+        self.content == other.content && self.rest == other.rest
+    }
+}
+
+/// Whether the side is among these.
+fn has_side<S: Told>(sides: &[S], side: S) -> bool
+    ensures { IsTrue result → Contains sides.now side }
+{
+    for other in sides {
+        if other.is_same(side) {
+            return true;
+        }
+    }
+    false
+}
+
+/// The same sides.
+fn copy_sides<S: Copy>(alloc: Global, sides: &[S]) -> Result<Vec<S>, NoMemory>
+    ensures { IfOk result (λ made. made.items ≡ sides.now) }
 {
     let mut made = Vec::new(alloc);
     for other in sides {
         made.push(*other)?;
+    }
+    Ok(made)
+}
+
+/// The sides with one more, where it isn't there already.
+fn with_side<S: Told>(alloc: Global, sides: &[S], side: S) -> Result<Vec<S>, NoMemory>
+    ensures { IfOk result (λ made. HasSide sides.now side made.items) }
+{
+    let mut made = copy_sides(alloc, sides)?;
+    if has_side(sides, side) {
+        return Ok(made);
     }
     made.push(side)?;
     Ok(made)
 }
 
 /// Puts the names of a group that a move matches behind the groups, with the move's side.
-fn add_inside<C: Drop, S: Copy>(
+fn add_inside<C: Drop, S: Told>(
     alloc: Global,
     groups: &mut Vec<Group<C, S>>,
     inside: C,
@@ -155,7 +197,7 @@ fn add_outside<C: Divisible, S: Copy>(
 }
 
 /// Divides a group into the names that a move matches and those that it doesn't.
-fn divide<C: Divisible, S: Copy>(
+fn divide_apart<C: Divisible, S: Told>(
     alloc: Global,
     groups: &mut Vec<Group<C, S>>,
     group: Group<C, S>,
@@ -172,8 +214,25 @@ fn divide<C: Divisible, S: Copy>(
     add_outside(groups, group, class)
 }
 
+/// Divides a group by a move. Where another move said the same of all its names it stays one.
+fn divide<C: Divisible, S: Told>(
+    alloc: Global,
+    groups: &mut Vec<Group<C, S>>,
+    group: Group<C, S>,
+    class: &C,
+    side: S,
+) -> Result<(), NoMemory>
+    ensures { OnOk result (Divides C.has class.now side group groups.old.items groups.new.items) }
+{
+    if has_side(&group.sides, side) {
+        groups.push(group)?;
+        return Ok(());
+    }
+    divide_apart(alloc, groups, group, class, side)
+}
+
 /// Divides each group by a move.
-fn divide_all<C: Divisible, S: Copy>(
+fn divide_all<C: Divisible, S: Told>(
     alloc: Global,
     groups: Vec<Group<C, S>>,
     class: &C,
@@ -190,7 +249,7 @@ fn divide_all<C: Divisible, S: Copy>(
 }
 
 /// Divides the groups by the moves of these numbers.
-fn divide_by<C: Divisible, S: Copy, M: Step<C, S>>(
+fn divide_by<C: Divisible, S: Told, M: Step<C, S>>(
     alloc: Global,
     groups: Vec<Group<C, S>>,
     moves: &[M],
@@ -248,5 +307,66 @@ pub(crate) fn text_groups(
         let numbers = step.matching(alloc, auto, *state)?;
         groups = divide_by(alloc, groups, auto.text_moves(*state), &numbers)?;
     }
+    Ok(groups)
+}
+
+/// What a move says of the content and of what follows the element.
+pub fn side_of(step: &LabelMove) -> Side
+    ensures { result ≡ label_side step.now }
+{
+    step.side()
+}
+
+/// Those of the numbers that are below a bound.
+fn below(alloc: Global, numbers: &[usize], bound: usize) -> Result<Vec<usize>, NoMemory>
+    ensures { IfOk result (λ made. made.items ≡ filter (λ k. nat_lt k bound) numbers.now) }
+{
+    let mut made = Vec::new(alloc);
+    for number in numbers {
+        if *number < bound {
+            made.push(*number)?;
+        }
+    }
+    Ok(made)
+}
+
+/// The labels of a move's class in groups, by the moves of these states that match them, and by those of one more state that
+/// stand before a place.
+pub fn label_groups_before(
+    alloc: Global,
+    auto: &Auto,
+    step: &LabelMove,
+    states: &[State],
+    own: State,
+    place: usize,
+) -> Result<Vec<Group<Class, Side>>, NoMemory>
+    requires states { AllByRecursion (IsState auto.now) states.now }
+    requires own { IsState auto.now own }
+    ensures { IfOk result (λ made. AreLabelGroupsBefore auto.now step.now.class states.now own place made.items) }
+{
+    let groups = label_groups(alloc, auto, step, states)?;
+    let numbers = step.matching(alloc, auto, own)?;
+    let earlier = below(alloc, &numbers, place)?;
+    let groups = divide_by(alloc, groups, auto.label_moves(own), &earlier)?;
+    Ok(groups)
+}
+
+/// The texts of a move's class in groups, in the same way.
+pub fn text_groups_before(
+    alloc: Global,
+    auto: &Auto,
+    step: &TextMove,
+    states: &[State],
+    own: State,
+    place: usize,
+) -> Result<Vec<Group<Words, State>>, NoMemory>
+    requires states { AllByRecursion (IsState auto.now) states.now }
+    requires own { IsState auto.now own }
+    ensures { IfOk result (λ made. AreTextGroupsBefore auto.now step.now.words states.now own place made.items) }
+{
+    let groups = text_groups(alloc, auto, step, states)?;
+    let numbers = step.matching(alloc, auto, own)?;
+    let earlier = below(alloc, &numbers, place)?;
+    let groups = divide_by(alloc, groups, auto.text_moves(own), &earlier)?;
     Ok(groups)
 }

@@ -11,5 +11,10 @@ mod products;
 mod states;
 mod universal;
 
-pub use difference::{minus, subtract};
+pub use choices::{Choice, choices_of};
+pub use difference::{Taken, minus, subtract, taken_from};
+pub use groups::{Group, Side, label_groups_before, side_of, text_groups_before};
+pub use merging::{merged, merged_at};
 pub use products::product;
+pub use states::{any_last, set_of};
+pub use universal::{any_marked, is_marked, universal_states};

@@ -5,6 +5,7 @@ ghost use Rattle.std.specs.List.{All, AllByRecursion, AllZip};
 ghost use Rattle.xd_doc.specs.Document.{Document};
 ghost use Rattle.xd_auto.specs.declared.auto.State.{State};
 ghost use Rattle.xd_auto.specs.Automaton.{IsState, accepts, moves_at, state_number};
+ghost use Rattle.xd_boole.specs.Meaning.{TellSame};
 ghost use Rattle.xd_boole.specs.Merging.{AreLike, AreStandIns, IsLike, IsLikeLabel, IsLikeText, KeepStates, RedirectsFirst, RedirectsLabels, RedirectsTexts, found_at, stand_in};
 
 use std::alloc::Global;
@@ -344,10 +345,11 @@ fn redirect_state(
 /// The same states, with their moves to one state where many accept the same.
 ///
 /// A state is like another where they have the same moves in the same order, but for states that are like each other or
-/// lead back to these two. All others stay as they are. The time is linear in the moves.
-pub(crate) fn merged(alloc: Global, auto: &Auto) -> Result<Auto, NoMemory>
+/// lead back to these two. All others stay as they are. `NoMemory` where there is no room for the copy.
+pub fn merged(alloc: Global, auto: &Auto) -> Result<Auto, NoMemory>
     ensures count { IfOk result (λ made. length made ≡ length auto.now) }
     ensures same { IfOk result (λ made. (d : Document) (s : State) → accepts made d s ≡ accepts auto.now d s) }
+    ensures moves { IfOk result (TellSame auto.now) }
 {
     let same = stand_ins(alloc, auto)?;
     let mut made = bare_states(alloc, auto, &same)?;
@@ -355,4 +357,18 @@ pub(crate) fn merged(alloc: Global, auto: &Auto) -> Result<Auto, NoMemory>
         redirect_state(&mut made, auto, &same, number)?;
     }
     Ok(made)
+}
+
+/// The same, and the state that stands in for a state.
+pub fn merged_at(alloc: Global, auto: &Auto, state: State) -> Result<(Auto, State), NoMemory>
+    requires { IsState auto.now state }
+    ensures same { IfOk result (λ made. (d : Document) → accepts made.0 d made.1 ≡ accepts auto.now d state) }
+    ensures belongs { IfOk result (λ made. IsState made.0 made.1) }
+{
+    let same = stand_ins(alloc, auto)?;
+    let mut made = bare_states(alloc, auto, &same)?;
+    for number in 0..auto.len() {
+        redirect_state(&mut made, auto, &same, number)?;
+    }
+    Ok((made, stand_in(&same, state)))
 }

@@ -15,6 +15,9 @@ use xd_traces::{add_universal, pair_up};
 ///
 /// A state of the answer stands for a pair of states. Only pairs that the first pair leads to are
 /// made, at most as many as there are pairs; states that accept nothing are left out, but for the first.
+///
+/// Fails only where memory is refused. (Comon et al., *Tree Automata Techniques and
+/// Applications*, section 1.3.)
 pub fn product(
     alloc: Global,
     one: &Auto,

@@ -29,7 +29,7 @@ pub(crate) fn with_state(
 }
 
 /// The set of these states.
-pub(crate) fn set_of(alloc: Global, states: &[State]) -> Result<Vec<State>, NoMemory>
+pub fn set_of(alloc: Global, states: &[State]) -> Result<Vec<State>, NoMemory>
     ensures { IfOk result (λ made. made.items ≡ with_states states.now []) }
 {
     let mut made = Vec::new(alloc);
@@ -64,7 +64,7 @@ pub(crate) fn is_within(states: &[State], others: &[State]) -> bool
 }
 
 /// Whether some state accepts the empty document.
-pub(crate) fn any_last(auto: &Auto, states: &[State]) -> bool
+pub fn any_last(auto: &Auto, states: &[State]) -> bool
     requires { AllByRecursion (IsState auto.now) states.now }
     ensures { result ≡ list_any (is_last_in auto.now) states.now }
 {

@@ -137,7 +137,7 @@ fn is_universal(auto: &Auto, state: State) -> bool
 }
 
 /// For each state whether it accepts every document in a plain way.
-pub(crate) fn universal_states(alloc: Global, auto: &Auto) -> Result<Vec<bool>, NoMemory>
+pub fn universal_states(alloc: Global, auto: &Auto) -> Result<Vec<bool>, NoMemory>
     ensures { IfOk result (λ marks. MarkUniversal auto.now marks.items) }
 {
     let mut marks = Vec::with_capacity(alloc, auto.len())?;
@@ -148,7 +148,7 @@ pub(crate) fn universal_states(alloc: Global, auto: &Auto) -> Result<Vec<bool>, 
 }
 
 /// Whether the state is marked.
-pub(crate) fn is_marked(marks: &[bool], state: State) -> bool
+pub fn is_marked(marks: &[bool], state: State) -> bool
     ensures { result ≡ is_marked marks.now state }
 {
     if state.number() < marks.len() {
@@ -159,7 +159,7 @@ pub(crate) fn is_marked(marks: &[bool], state: State) -> bool
 }
 
 /// Whether one of the states is.
-pub(crate) fn any_marked(marks: &[bool], states: &[State]) -> bool
+pub fn any_marked(marks: &[bool], states: &[State]) -> bool
     ensures { result ≡ list_any (is_marked marks.now) states.now }
 {
     for state in states {

@@ -1,14 +1,9 @@
-use Rattle.std.proofs.Common.{◌∷◌, ◌++◌, [], take, ap, sym, ◌∙◌}
-use Rattle.std.proofs.lemmas.List.{take_all, take_more}
+use Rattle.std.proofs.Common.{List, ◌++◌, ◌∷◌, [], ap, ◌∙◌}
+use Rattle.xd_boole.proofs.Dividing.{side_added, side_there}
 use Rattle.xd_boole.proofs.groups.with_side.Goals as goal
 
-pub loop-other-preserved : goal.loop-other-preserved
-loop-other-preserved g c =
-    let sides = c.args.sides.now in
-    let i = c.loop-other.other-index in
-    let x = c.other-item.result in
-    c.in_ok-push.ensures.items ∙ ap (λ xs. xs ++ x ∷ []) c.loop-other.invariant ∙ ap (λ y. take i sides ++ y ∷ []) c.other-item.is ∙ sym (take_more sides i x c.loop-other-test.true)
+pub returns-then-has_side : goal.returns-then-has_side
+returns-then-has_side g c = side_there c.args.sides.now c.in_ok-made.made.items c.args.side c.in_ok-made.ensures (c.has_side.ensures c.if-has_side.true)
 
 pub returns : goal.returns
-returns g c =
-    c.in_ok-push-2.ensures.items ∙ ap (λ xs. xs ++ c.args.side ∷ []) (c.loop-other.invariant ∙ take_all c.loop-other.other-index c.args.sides.now c.loop-other-test.false)
+returns g c = side_added c.args.sides.now c.push.new.self.items c.args.side (c.in_ok-push.ensures.items ∙ ap (λ xs. xs ++ c.args.side ∷ []) c.in_ok-made.ensures)
