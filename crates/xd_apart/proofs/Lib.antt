@@ -1,0 +1,5 @@
+pub mod ApartLemmas
+pub mod LooseLemmas
+pub mod DivideLemmas
+pub mod StepLemmas
+pub mod SearchLemmas

@@ -1,0 +1,5 @@
+use Rattle.xd_member.specs.Kept.{AreRight}
+use Rattle.xd_apart.proofs.search.step_over.Given as goal
+
+abbrev pub invariant-loop-right : goal.invariant-loop-right
+invariant-loop-right l = AreRight l.auto' l.store l.answers

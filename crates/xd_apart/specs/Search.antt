@@ -1,0 +1,59 @@
+-- What is known in the search for a least document that separates two states. Of these only private
+-- contracts speak.
+use Rattle.std.specs.Prelude.{◌≡◌, ℕ, ◌<◌, ◌≤◌, List, [], ◌∷◌, Option, length, take, Contains}
+use Rattle.xd_doc.specs.Document.{Document, size}
+use Rattle.xd_doc.specs.Stored.{BelongsTo, document_at}
+use Rattle.xd_auto.specs.declared.auto.State.{State}
+use Rattle.xd_auto.specs.Automaton.{Automaton, IsState, accepts, moves_at, state_number}
+use Rattle.xd_boole.specs.Meaning.{less}
+use Rattle.xd_boole.specs.Points.{point_at}
+use Rattle.xd_least.specs.declared.document.LeastDocument.{LeastDocument}
+use Rattle.xd_doc.specs.Least.{IsLeastUpTo}
+use Rattle.xd_least.specs.Least.{Knows, size_limit}
+use Rattle.xd_apart.specs.declared.loose.Loose.{Loose}
+use Rattle.xd_apart.specs.declared.search.Clash.{Clash}
+use Rattle.xd_apart.specs.declared.search.Found.{Found}
+use Rattle.xd_apart.specs.declared.search.Found.TheVariants.{Least, NoneBelow, Nothing}
+use Rattle.xd_apart.specs.declared.search.Step.{Step}
+use Rattle.xd_apart.specs.declared.search.Step.TheVariants.{Down, Label, Lost, Text}
+use Rattle.xd_apart.specs.declared.search.Taken.{Taken}
+use Rattle.xd_apart.specs.Apart.{IsApart}
+use Rattle.xd_apart.specs.Loose.{IsLooseOver, StandsFor, left_states}
+
+-- what a search found out: none is smaller than the bound, or the document is a least one
+abbrev pub IsFound : Automaton → State → State → (bound : ℕ) → List Document → Found → Type 0
+IsFound a left right bound ds NoneBelow = (d : Document) → IsApart a left right d → bound ≤ size d
+IsFound a left right bound ds (Least seq) = BelongsTo ds seq × IsLeastUpTo size_limit (IsApart a left right) (document_at ds seq)
+IsFound a left right bound ds Nothing = Unit {0}
+
+-- of each left state it is known what it accepts
+pub record KnowsLefts (l : Loose) (ds : List Document) (known : List (Option LeastDocument)) : Type 0 where
+  pub count : l.lefts ≤ length known
+  pub knows : Knows (left_states l) ds (take l.lefts known)
+
+-- the state and the document belong to the automaton and the store
+pub record IsTakenAt (a : Automaton) (ds : List Document) (t : Taken) : Type 0 where
+  pub state : IsState a t.state
+  pub seq : BelongsTo ds t.seq
+
+-- the state's point has the right, and both moves are there
+pub record IsClash (l : Loose) (moves_of : State → ℕ) (rights_of : State → ℕ) (c : Clash) : Type 0 where
+  pub state : state_number c.state < length l.points.items
+  pub number : c.number < moves_of c.state
+  pub right : Contains (point_at l.points.items (state_number c.state)).rights c.right
+  pub taken : c.taken < rights_of c.right
+
+abbrev pub IsStep : Automaton → Loose → List Document → Step → Type 0
+IsStep b l ds (Label c) = IsClash l (λ s. length (moves_at l.over s).labels) (λ s. length (moves_at b s).labels) c
+IsStep b l ds (Text c) = IsClash l (λ s. length (moves_at l.over s).texts) (λ s. length (moves_at b s).texts) c
+IsStep b l ds (Down t) = IsTakenAt l.over ds t
+IsStep b l ds Lost = Unit {0}
+
+-- what holds in each round: the automaton is loose over the part that the left leads to and the
+-- whole, and its root stands for the left without the right
+pub record Searches (a : Automaton) (left right root : State) (l : Loose) (ds : List Document) (known : List (Option LeastDocument)) : Type 0 where
+  pub start : State
+  pub loose : IsLooseOver a l
+  pub same : (d : Document) → accepts (left_states l) d start ≡ accepts a d left
+  pub stands : StandsFor l.points.items (less start (right ∷ [])) root
+  pub knows : KnowsLefts l ds known

@@ -1,0 +1,8 @@
+//! A least document of those that one state accepts and another doesn't.
+#![tactic(auto)]
+
+mod apart;
+mod loose;
+mod search;
+
+pub use apart::least_apart;
