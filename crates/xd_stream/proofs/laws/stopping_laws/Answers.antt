@@ -1,0 +1,5 @@
+use Rattle.xd_stream.proofs.Stopping.{accepted_never_stops, one_stop}
+use Rattle.xd_stream.proofs.laws.stopping_laws.Goals as goal
+
+pub returns : goal.returns
+returns c = record { once = one_stop; never = accepted_never_stops }

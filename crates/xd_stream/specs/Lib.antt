@@ -1,0 +1,12 @@
+pub mod Stop
+pub mod Fed
+pub mod Positions
+pub mod Pairs
+pub mod Expecting
+pub mod Standing
+pub mod Validating
+pub mod Characters
+pub mod Pending
+pub mod Errors
+pub mod Streams
+pub mod Laws
