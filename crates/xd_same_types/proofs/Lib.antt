@@ -1,0 +1,13 @@
+pub mod Ids
+pub mod Facts
+pub mod Tops
+pub mod Splits
+pub mod Tables
+pub mod Laws
+pub mod ClassLaws
+pub mod SeqLaws
+pub mod AltLaws
+pub mod AltSteps
+pub mod StarLaws
+pub mod TextLaws
+pub mod Naming

@@ -1,0 +1,5 @@
+use Rattle.xd_same_types.proofs.Naming.{names_settle}
+use Rattle.xd_same_types.proofs.law.names_settle.Goals as goal
+
+pub returns : goal.returns
+returns c = names_settle

@@ -1,0 +1,12 @@
+use Rattle.std.proofs.Common.{rules, ◌≡◌, true, nat_eq, sym, ◌∙◌, subst}
+use Rattle.std.specs.Cmp.Lexicographic.{pointwise}
+use Rattle.xd_same_types.proofs.ClassLaws.{same_class}
+use Rattle.xd_same_types.proofs.same.are_same_words.Goals as goal
+
+pub returns : goal.returns
+returns c = λ e.
+    let excepts : c.takes_others.result ≡ c.takes_others-2.result = search rules in
+    let named : pointwise (pointwise nat_eq) c.texts.result.now c.texts-2.result.now ≡ true = sym c.eq.ensures ∙ e in
+    same_class c.args.one.now c.args.other.now (sym c.takes_others.ensures ∙ excepts ∙ c.takes_others-2.ensures)
+    (subst (λ ns. pointwise (pointwise nat_eq) c.args.one.now.names ns ≡ true) c.texts-2.ensures.names
+    (subst (λ ns. pointwise (pointwise nat_eq) ns c.texts-2.result.now ≡ true) c.texts.ensures.names named))

@@ -1,0 +1,4 @@
+pub mod Grown
+pub mod Same
+pub mod Names
+pub mod Joints

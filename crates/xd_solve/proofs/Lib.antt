@@ -1,0 +1,14 @@
+pub mod Arden
+pub mod SumLaws
+pub mod SideLaws
+pub mod SumSteps
+pub mod BundleLaws
+pub mod SolveLaws
+pub mod SystemLaws
+pub mod LevelLaws
+pub mod PlaceLaws
+pub mod ShortLaws
+pub mod ReduceLaws
+pub mod TextMoves
+pub mod StateSides
+pub mod StateTypes

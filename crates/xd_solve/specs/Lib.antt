@@ -1,0 +1,4 @@
+pub mod Equations
+pub mod Bundles
+pub mod Systems
+pub mod Levels

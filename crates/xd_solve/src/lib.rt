@@ -1,0 +1,13 @@
+//! The type of a state of an automaton, where types for the contents are known.
+#![tactic(auto)]
+
+mod bundles;
+mod places;
+mod reduce;
+mod rows;
+mod solve;
+mod states;
+mod sums;
+
+pub use places::{Level, level_of};
+pub use states::state_type;
