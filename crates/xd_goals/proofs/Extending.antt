@@ -1,5 +1,5 @@
 -- A table that stands goes on to stand while the automaton and the store grow.
-use Rattle.std.proofs.Common.{ℕ, zero, suc, ◌<◌, ◌≤◌, ◌≡◌, Bool, true, false, List, [], ◌∷◌, ◌++◌, map, length, ⊎_elim, refl, sym, ap, subst, ◌∙◌, arith}
+use Rattle.std.proofs.Common.{ℕ, zero, suc, ◌<◌, ◌≤◌, ◌≡◌, Bool, true, false, List, [], ◌∷◌, ◌++◌, map, length, inl, inr, ⊎_elim, refl, sym, ap, subst, ◌∙◌, arith}
 use Rattle.std.specs.List.{flat_map, list_any}
 use Rattle.std.proofs.lemmas.Bool.{cases_lt}
 use Rattle.xd_doc.specs.Document.{Document}
@@ -11,10 +11,11 @@ use Rattle.xd_rules.specs.Heads.{Head, AreNames, is_text_atom}
 use Rattle.xd_rules.specs.Rules.{Claim, ChoiceTree, ContentLeaf, RestLeaf, SplitOn, head_number, right_heads, wanted_cases}
 use Rattle.xd_rules.proofs.Members.{one_of-all}
 use Rattle.xd_state_heads.specs.Moves.{AreBelow, heads_of, is_last_in, label_head, text_head}
-use Rattle.xd_goals.specs.Rows.{GoalRow, TableView, row_at, claim_of, goal_case}
+use Rattle.xd_goals.specs.Rows.{GoalRow, RowsBelow, TableView, row_at, claim_of, goal_case}
 use Rattle.xd_goals.specs.Trees.{IsGrown, IsTextTree, IsTreeBySort}
 use Rattle.xd_state_heads.specs.Wants.{matching_sides}
-use Rattle.xd_goals.specs.Standing.{ChoiceStands, IsBegun, IsCaseTree, IsSeparatedBy, StandsOn, claim_sides, task_for}
+use Rattle.xd_goals.specs.Standing.{AreSeparated, HasChoices, IsBegun, IsCaseTree, IsChoiceOf, IsSeparatedBy, StandsOn, claim_sides, task_for}
+use Rattle.xd_goals.specs.Facts.{ChoiceStands, FactsOn}
 use Rattle.xd_state_heads.specs.declared.heads.Side.{Side}
 use Rattle.xd_goals.specs.declared.grow.Task.{Task}
 use Rattle.xd_goals.specs.declared.table.Choice.{Choice}
@@ -38,6 +39,11 @@ IsTextTree-task : (rows : List GoalRow) (one two : Task) (sides : List Side) →
 IsTextTree-task rows one two sides f (ContentLeaf g) h = h
 IsTextTree-task rows one two sides f (RestLeaf g) h = rw (← f) h
 IsTextTree-task rows one two sides f (SplitOn j a b) h = h
+
+-- a goal past the end has no choices
+not_begun : (i : ℕ) (rows : List GoalRow) → length rows ≤ i → HasChoices (row_at rows i) → ⊥
+not_begun i rows ge (inl e) = let w = (past_is_new rows i ge).standing in cc
+not_begun i rows ge (inr n) = n (past_is_new rows i ge).choices
 
 -- an automaton that extends another has no fewer states
 pub longer : (a b : Automaton) → Extends a b → length a ≤ length b
@@ -99,6 +105,16 @@ module _ (a b : Automaton) (more : Extends a b) (keep : KeepsAccepting a b) wher
       };
     }
 
+    choice_of-extends : (t : TableView) (owner : GoalCase) (k : Choice) → IsChoiceOf a t owner c k → IsChoiceOf b t owner c k
+    choice_of-extends t owner k h = record {
+      head = h.head;
+      found = ap (λ (hs : List (Head State)). head_number hs k.head) left_heads-same ∙ h.found;
+      matched = h.matched;
+      tree = h.tree;
+      stands = h.stands;
+      kind = case_tree-extends t.rows owner h.head k.atom h.tree h.kind;
+    }
+
     begun-extends : (choices : List Choice) → IsBegun a c choices → IsBegun b c choices
     begun-extends choices h = record {
       last = λ e. any_last-same c.rights rights ∙ h.last (sym (last-same c.left left) ∙ e);
@@ -108,10 +124,19 @@ module _ (a b : Automaton) (more : Extends a b) (keep : KeepsAccepting a b) wher
       complete = h.complete ∙ ap (wanted_cases h.named 1) (sym left_heads-same);
     }
 
-  pub stands-extends : length a ≤ length b → (ds : List Document) (t : TableView) → StandsOn a ds t → StandsOn b ds t
+  states-extend : length a ≤ length b → (rows : List GoalRow) → RowsBelow (length a) rows → RowsBelow (length b) rows
+  states-extend longer rows h = record { each = λ i lt. let r = h.each i lt in record { left = let l = r.left in omega (arith, longer, l); rights = below_more (length a) (length b) longer _ r.rights } }
+
+  refuted-extends : (ds : List Document) (rows : List GoalRow) → RowsBelow (length a) rows → AreSeparated a ds rows → AreSeparated b ds rows
+  refuted-extends ds rows h s i seq e = ⊎_elim
+      (λ lt. let r = h.each i lt in separated-extends (claim_of (row_at rows i)) r.left r.rights ds seq (s i seq e))
+      (λ ge. let w = (past_is_new rows i ge).standing in absurd (cc))
+      (cases_lt i (length rows))
+
+  pub stands-extends : length a ≤ length b → (ds : List Document) (t : TableView) → FactsOn a ds t → FactsOn b ds t
   stands-extends longer ds t h = record {
     facts = record {
-      states = record { each = λ i lt. let r = h.facts.states.each i lt in record { left = let l = r.left in omega (arith, longer, l); rights = below_more (length a) (length b) longer _ r.rights } };
+      states = states-extend longer t.rows h.facts.states;
       unlike = h.facts.unlike;
       choices = λ i place k e. ⊎_elim
           (λ lt. let r = h.facts.states.each i lt in choice-extends (claim_of (row_at t.rows i)) r.left r.rights t (goal_case i place) k (h.facts.choices i place k e))
@@ -131,8 +156,22 @@ module _ (a b : Automaton) (more : Extends a b) (keep : KeepsAccepting a b) wher
           (λ ge. let w = (past_is_new t.rows i ge).standing in absurd (cc))
           (cases_lt i (length t.rows));
     };
-    refuted = λ i seq e. ⊎_elim
-        (λ lt. let r = h.facts.states.each i lt in separated-extends (claim_of (row_at t.rows i)) r.left r.rights ds seq (h.refuted i seq e))
-        (λ ge. let w = (past_is_new t.rows i ge).standing in absurd (cc))
-        (cases_lt i (length t.rows));
+    refuted = refuted-extends ds t.rows h.facts.states h.refuted;
+  }
+
+  -- so it is with what a table says of an automaton, whatever it keeps by itself
+  pub stands_on-extends : length a ≤ length b → (ds : List Document) (t : TableView) → StandsOn a ds t → StandsOn b ds t
+  stands_on-extends longer ds t h = record {
+    facts = record {
+      states = states-extend longer t.rows h.facts.states;
+      begun = λ i w. ⊎_elim
+          (λ lt. let r = h.facts.states.each i lt in begun-extends (claim_of (row_at t.rows i)) r.left r.rights (row_at t.rows i).choices (h.facts.begun i w))
+          (λ ge. absurd (not_begun i t.rows ge w))
+          (cases_lt i (length t.rows));
+      choices = λ i place k e. ⊎_elim
+          (λ lt. let r = h.facts.states.each i lt in choice_of-extends (claim_of (row_at t.rows i)) r.left r.rights t (goal_case i place) k (h.facts.choices i place k e))
+          (λ ge. absurd (none_at (row_at t.rows i).choices place k (past_is_new t.rows i ge).choices e))
+          (cases_lt i (length t.rows));
+    };
+    refuted = refuted-extends ds t.rows h.facts.states h.refuted;
   }

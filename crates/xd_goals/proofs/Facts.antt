@@ -15,7 +15,8 @@ use Rattle.xd_state_heads.specs.Moves.{Accepts, claim_with}
 use Rattle.xd_goals.specs.Rows.{GoalRow, TableView, row_at, claim_of, claim_key, goal_case, no_view, IsRefuted, IsUnbroken, RowsBelow}
 use Rattle.xd_goals.specs.Kept.{GrowsBy, IsIndexed, found_at}
 use Rattle.xd_goals.specs.Trees.{IsTreeBySort}
-use Rattle.xd_goals.specs.Standing.{AreSeparated, ChoiceStands, IsBegun, IsCaseTree, IsOpen, IsSeparatedBy, RowHolds, StandsOn, StandsOnAutomaton, KeepsGoals, task_for, claim_sides}
+use Rattle.xd_goals.specs.Standing.{AreSeparated, IsBegun, IsCaseTree, IsOpen, IsSeparatedBy, KeepsGoals, StandsOn, task_for, claim_sides}
+use Rattle.xd_goals.specs.Facts.{ChoiceStands, RowHolds, FactsOn, FactsOnAutomaton}
 use Rattle.xd_goals.specs.declared.table.Choice.{Choice}
 use Rattle.xd_goals.specs.declared.table.GoalCase.{GoalCase}
 use Rattle.xd_goals.specs.declared.table.Standing.TheVariants.{Holds}
@@ -55,7 +56,7 @@ all_both P Q R (x ∷ xs) f h k = (f x h.0 k.0, all_both P Q R xs f h.1 k.1)
 abbrev pub StandsSomewhere : Automaton → TableView → Claim State → Choice → Type 0
 StandsSomewhere a t c k = (owner : GoalCase) × ChoiceStands a t owner c k
 
-pub choices_stand : (a : Automaton) (t : TableView) → StandsOnAutomaton a t → (i : ℕ) → AllByRecursion (StandsSomewhere a t (claim_of (row_at t.rows i))) (row_at t.rows i).choices
+pub choices_stand : (a : Automaton) (t : TableView) → FactsOnAutomaton a t → (i : ℕ) → AllByRecursion (StandsSomewhere a t (claim_of (row_at t.rows i))) (row_at t.rows i).choices
 choices_stand a t h i = all_places (StandsSomewhere a t (claim_of (row_at t.rows i))) (row_at t.rows i).choices (λ place k e. (goal_case i place, h.choices i place k e))
 
 -- no two goals are alike, since the map tells them apart
@@ -87,27 +88,27 @@ module _ {A : List State → Type 0} (a : Automaton) (t u : TableView) (g : Grow
   was_choice : (i place : ℕ) (k : Choice) → slice_get (row_at u.rows i).choices place ≡ Some k → slice_get (row_at t.rows i).choices place ≡ Some k
   was_choice i place k e = subst (λ (ks : List Choice). slice_get ks place ≡ Some k) (choices-grows t u g i) e
 
-  choices_at : StandsOnAutomaton a t → (i place : ℕ) (k : Choice) → slice_get (row_at u.rows i).choices place ≡ Some k → ChoiceStands a u (goal_case i place) (claim_of (row_at u.rows i)) k
+  choices_at : FactsOnAutomaton a t → (i place : ℕ) (k : Choice) → slice_get (row_at u.rows i).choices place ≡ Some k → ChoiceStands a u (goal_case i place) (claim_of (row_at u.rows i)) k
   choices_at h i place k e = ⊎_elim
       (λ lt. subst (λ (c : Claim State). ChoiceStands a u (goal_case i place) c k) (sym (claim-grows t u g i lt))
       (choice-grows a t u g (goal_case i place) (claim_of (row_at t.rows i)) k (h.choices i place k (was_choice i place k e))))
       (λ ge. absurd (none_at (row_at u.rows i).choices place k (g.added i ge).choices e))
       (cases_lt i (length t.rows))
 
-  unbroken_at : StandsOnAutomaton a t → (i place : ℕ) (k : Choice) → slice_get (row_at u.rows i).choices place ≡ Some k → IsUnbroken (row_at u.rows i) place → IsOpen u k
+  unbroken_at : FactsOnAutomaton a t → (i place : ℕ) (k : Choice) → slice_get (row_at u.rows i).choices place ≡ Some k → IsUnbroken (row_at u.rows i) place → IsOpen u k
   unbroken_at h i place k e b =
       let was = was_choice i place k e in
       open_choice-grows a t u g (goal_case i place) (claim_of (row_at t.rows i)) k (h.choices i place k was)
       (h.unbroken i place k was (subst (λ (flags : List Bool). slice_get flags place ≡ Some false) (broken-grows t u g i) b))
 
-  row_holds : StandsOnAutomaton a t → (i : ℕ) → (row_at t.rows i).standing ≡ Holds → RowHolds a u (claim_of (row_at t.rows i)) (row_at t.rows i).choices
+  row_holds : FactsOnAutomaton a t → (i : ℕ) → (row_at t.rows i).standing ≡ Holds → RowHolds a u (claim_of (row_at t.rows i)) (row_at t.rows i).choices
   row_holds h i e = let r = h.holds i e in record {
     begun = r.begun;
     opens = all_places (IsOpen u) (row_at t.rows i).choices
         (λ place k e. open_choice-grows a t u g (goal_case i place) (claim_of (row_at t.rows i)) k (h.choices i place k e) (all_at (IsOpen t) (row_at t.rows i).choices place k r.opens e));
   }
 
-  begun_at : StandsOnAutomaton a t → (i : ℕ) → ¬ ((row_at u.rows i).choices ≡ []) → IsBegun a (claim_of (row_at u.rows i)) (row_at u.rows i).choices
+  begun_at : FactsOnAutomaton a t → (i : ℕ) → ¬ ((row_at u.rows i).choices ≡ []) → IsBegun a (claim_of (row_at u.rows i)) (row_at u.rows i).choices
   begun_at h i n = ⊎_elim
       (λ lt. subst (λ (ks : List Choice). IsBegun a (claim_of (row_at u.rows i)) ks) (sym (choices-grows t u g i))
       (subst (λ (c : Claim State). IsBegun a c (row_at t.rows i).choices) (sym (claim-grows t u g i lt)) (h.begun i (λ e. n (choices-grows t u g i ∙ e)))))
@@ -115,7 +116,7 @@ module _ {A : List State → Type 0} (a : Automaton) (t u : TableView) (g : Grow
       (cases_lt i (length t.rows))
 
   pub facts-grows : RowsBelow (length a) u.rows → ((i j : ℕ) → i < length u.rows → j < length u.rows → claim_of (row_at u.rows i) ≡ claim_of (row_at u.rows j) → i ≡ j)
-      → StandsOnAutomaton a t → StandsOnAutomaton a u
+      → FactsOnAutomaton a t → FactsOnAutomaton a u
   facts-grows states unlike h = record {
     states = states;
     unlike = unlike;
@@ -147,17 +148,20 @@ keeps_goals-then t u w h k = record {
 pub keeps-then : (ds es fs : List Document) → Keeps ds es → Keeps es fs → Keeps ds fs
 keeps-then ds es fs h k = record { belongs = λ s b. k.belongs s (h.belongs s b); same = λ s b. k.same s (h.belongs s b) ∙ h.same s b }
 
-pub stands-keeps : (a : Automaton) (ds es : List Document) (t : TableView) → Keeps ds es → StandsOn a ds t → StandsOn a es t
-stands-keeps a ds es t k h = record {
-  facts = h.facts;
-  refuted = λ i seq e. let s = h.refuted i seq e in record {
-    belongs = k.belongs seq s.belongs;
-    separates = subst (λ (d : Document). Separates (Accepts a) (claim_of (row_at t.rows i)) d) (sym (k.same seq s.belongs)) s.separates;
-  };
+refuted-keep : (a : Automaton) (ds es : List Document) (rows : List GoalRow) → Keeps ds es → AreSeparated a ds rows → AreSeparated a es rows
+refuted-keep a ds es rows k h i seq e = let s = h i seq e in record {
+  belongs = k.belongs seq s.belongs;
+  separates = subst (λ (d : Document). Separates (Accepts a) (claim_of (row_at rows i)) d) (sym (k.same seq s.belongs)) s.separates;
 }
 
+pub stands-keeps : (a : Automaton) (ds es : List Document) (t : TableView) → Keeps ds es → FactsOn a ds t → FactsOn a es t
+stands-keeps a ds es t k h = record { facts = h.facts; refuted = refuted-keep a ds es t.rows k h.refuted }
+
+pub stands_on-keeps : (a : Automaton) (ds es : List Document) (t : TableView) → Keeps ds es → StandsOn a ds t → StandsOn a es t
+stands_on-keeps a ds es t k h = record { facts = h.facts; refuted = refuted-keep a ds es t.rows k h.refuted }
+
 -- a table with no goal
-pub stands-none : (a : Automaton) (ds : List Document) → StandsOn a ds no_view
+pub stands-none : (a : Automaton) (ds : List Document) → FactsOn a ds no_view
 stands-none a ds = record {
   facts = record {
     states = record { each = λ i lt. absurd (omega arith) };

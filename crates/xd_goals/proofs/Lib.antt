@@ -8,6 +8,7 @@ pub mod Meaning
 pub mod Splitting
 pub mod Keeping
 pub mod Facts
+pub mod Itself
 pub mod Extending
 pub mod Reaching
 pub mod Claims

@@ -9,9 +9,10 @@ use Rattle.xd_auto.specs.declared.auto.State.{State}
 use Rattle.xd_auto.specs.Automaton.{Automaton}
 use Rattle.xd_rules.specs.Rules.{Claim}
 use Rattle.xd_goals.specs.Rows.{GoalRow, TableView, choice_key, claim_of, goal_case, no_row, row_at, IsUnbroken}
-use Rattle.xd_goals.specs.Kept.{AreLinked, Grows, IsConsistent, IsIndexed, view_of, with_choice, with_standing}
+use Rattle.xd_goals.specs.Kept.{AreLinked, AreNodes, Grows, IsConsistent, IsIndexed, view_of, with_choice, with_standing}
 use Rattle.xd_goals.specs.declared.goals.Goals.{Goals}
-use Rattle.xd_goals.specs.Standing.{ChoiceStands, IsBegun, IsOpen, StandsOn, StandsOnAutomaton}
+use Rattle.xd_goals.specs.Standing.{IsBegun, IsOpen}
+use Rattle.xd_goals.specs.Facts.{ChoiceStands, FactsOn, FactsOnAutomaton}
 use Rattle.xd_goals.specs.Cases.{IsMended, IsMending, IsOpenChoice}
 use Rattle.xd_goals.specs.declared.work.Failure.{Failure}
 use Rattle.xd_goals.specs.Measure.{Lowers}
@@ -59,7 +60,7 @@ mending-grows goal s t g = record {
 
 -- a case gets an open tree
 module _ (a : Automaton) (ds : List Document) (rows : List GoalRow) (nodes : List ChoiceNode) (links : List Link) (goal place : ℕ) (k : Choice) (root : ℕ) (lt : goal < length rows) (waits : (row_at rows goal).standing ≡ Waiting)
-    (found : slice_get (row_at rows goal).choices place ≡ Some k) (stands : StandsOn a ds (record { rows = rows; nodes = nodes; links = links })) where
+    (found : slice_get (row_at rows goal).choices place ≡ Some k) (stands : FactsOn a ds (record { rows = rows; nodes = nodes; links = links })) where
   abbrev before : TableView
   before = record { rows = rows; nodes = nodes; links = links }
 
@@ -90,7 +91,7 @@ module _ (a : Automaton) (ds : List Document) (rows : List GoalRow) (nodes : Lis
       record { last = b.last; named = b.named; names = b.names; complete = keys_same ∙ b.complete }
 
   module _ (opens : IsOpenChoice a (record { rows = rows; nodes = nodes; links = links }) (goal_case goal place) (claim_of (row_at rows goal)) (record k { root = root })) where
-    pub stands-mended : StandsOn a ds (record { rows = set rows goal (with_choice place (record k { root = root }) (row_at rows goal)); nodes = nodes; links = links })
+    pub stands-mended : FactsOn a ds (record { rows = set rows goal (with_choice place (record k { root = root }) (row_at rows goal)); nodes = nodes; links = links })
     stands-mended =
         stands-changed a ds rows nodes links goal row lt refl refl unrefuted
         (λ p x e. ⊎_elim
@@ -146,7 +147,7 @@ module _ (a : Automaton) (ds : List Document) (rows : List GoalRow) (nodes : Lis
   unbroken_now within = subst (λ (r : GoalRow). IsUnbroken r place) (sym row_is) (set_at (row_at rows goal).broken place false within)
 
 -- a goal that waits, of which no flag is set, comes to hold
-module _ (a : Automaton) (ds : List Document) (t : TableView) (goal : ℕ) (lt : goal < length t.rows) (waits : (row_at t.rows goal).standing ≡ Waiting) (stands : StandsOn a ds t) where
+module _ (a : Automaton) (ds : List Document) (t : TableView) (goal : ℕ) (lt : goal < length t.rows) (waits : (row_at t.rows goal).standing ≡ Waiting) (stands : FactsOn a ds t) where
   pub same_again : SameGoals t.rows (set t.rows goal (with_standing Holds (row_at t.rows goal)))
   same_again = same_held a ds t.rows t.nodes t.links goal (with_standing Holds (row_at t.rows goal)) lt waits refl refl refl
 
@@ -177,7 +178,7 @@ step_mended a ds goal s t u h k = record {
 -- a case was repaired, in a table that grew
 module _ (a : Automaton) (ds : List Document) (g h : Goals) (grows : Grows (view_of g) (view_of h)) (consistent : IsConsistent (length a) h) (owner : GoalCase) (c : Claim State) (k : Choice) (root : ℕ) (rows : List GoalRow)
     (lt : owner.goal.number < length g.rows.items) (waits : (row_at g.rows.items owner.goal.number).standing ≡ Waiting) (claim : claim_of (row_at g.rows.items owner.goal.number) ≡ c)
-    (found : slice_get (row_at g.rows.items owner.goal.number).choices owner.place ≡ Some k) (stands : StandsOn a ds (view_of g)) (opens : IsOpenChoice a (view_of h) owner c (record k { root = root }))
+    (found : slice_get (row_at g.rows.items owner.goal.number).choices owner.place ≡ Some k) (stands : FactsOn a ds (view_of g)) (opens : IsOpenChoice a (view_of h) owner c (record k { root = root }))
     (changes : (x : Choice) → slice_get (row_at h.rows.items owner.goal.number).choices owner.place ≡ Some x → rows ≡ set h.rows.items owner.goal.number (with_choice owner.place (record x { root = root }) (row_at h.rows.items owner.goal.number))) where
   there : owner.goal.number < length h.rows.items
   there = omega (arith, grows.longer, lt)
@@ -188,7 +189,7 @@ module _ (a : Automaton) (ds : List Document) (g h : Goals) (grows : Grows (view
   found_still : slice_get (row_at h.rows.items owner.goal.number).choices owner.place ≡ Some k
   found_still = subst (λ (ks : List Choice). slice_get ks owner.place ≡ Some k) (sym (choices-grows (view_of g) (view_of h) grows owner.goal.number)) found
 
-  stands_still : StandsOn a ds (view_of h)
+  stands_still : FactsOn a ds (view_of h)
   stands_still = stands_grown a ds g h grows consistent stands
 
   opens_here : IsOpenChoice a (view_of h) owner (claim_of (row_at h.rows.items owner.goal.number)) (record k { root = root })
@@ -197,14 +198,14 @@ module _ (a : Automaton) (ds : List Document) (g h : Goals) (grows : Grows (view
   is : rows ≡ set h.rows.items owner.goal.number (with_choice owner.place (record k { root = root }) (row_at h.rows.items owner.goal.number))
   is = changes k found_still
 
-  pub repaired_stands : StandsOn a ds (record { rows = rows; nodes = h.nodes.items; links = h.links.items })
-  repaired_stands = subst (λ (rs : List GoalRow). StandsOn a ds (record { rows = rs; nodes = h.nodes.items; links = h.links.items })) (sym is)
+  pub repaired_stands : FactsOn a ds (record { rows = rows; nodes = h.nodes.items; links = h.links.items })
+  repaired_stands = subst (λ (rs : List GoalRow). FactsOn a ds (record { rows = rs; nodes = h.nodes.items; links = h.links.items })) (sym is)
       (stands-mended a ds h.rows.items h.nodes.items h.links.items owner.goal.number owner.place k root there waits_still found_still stands_still opens_here)
 
-  pub repaired_whole : IsIndexed h.found rows × AreLinked rows h.links.items
-  repaired_whole = subst (λ (rs : List GoalRow). IsIndexed h.found rs × AreLinked rs h.links.items) (sym is)
-      (whole_same h.rows.items (set h.rows.items owner.goal.number (with_choice owner.place (record k { root = root }) (row_at h.rows.items owner.goal.number))) h.links.items h.found
-      (same_mended a ds h.rows.items h.nodes.items h.links.items owner.goal.number owner.place k root there waits_still found_still stands_still) consistent.index consistent.links)
+  pub repaired_whole : IsIndexed h.found rows × AreLinked rows h.links.items × AreNodes rows h.nodes.items
+  repaired_whole = subst (λ (rs : List GoalRow). IsIndexed h.found rs × AreLinked rs h.links.items × AreNodes rs h.nodes.items) (sym is)
+      (whole_same h.rows.items (set h.rows.items owner.goal.number (with_choice owner.place (record k { root = root }) (row_at h.rows.items owner.goal.number))) h.nodes.items h.links.items h.found
+      (same_mended a ds h.rows.items h.nodes.items h.links.items owner.goal.number owner.place k root there waits_still found_still stands_still) consistent.index consistent.links consistent.nodes)
 
   pub repaired_mending : IsMending owner.goal.number (view_of g) (record { rows = rows; nodes = h.nodes.items; links = h.links.items })
   repaired_mending = mending-then owner.goal.number (view_of g) (view_of h) (record { rows = rows; nodes = h.nodes.items; links = h.links.items })
@@ -223,14 +224,14 @@ mended_none a ds t owner None n h = h
 mended_none a ds t owner (Some f) n h = absurd (n f refl)
 
 -- a goal that was begun has its choices still
-pub begun_still : (a : Automaton) (goal : ℕ) (s t : TableView) → StandsOnAutomaton a s → StandsOnAutomaton a t → IsMending goal s t → ¬ ((row_at s.rows goal).choices ≡ []) → ¬ ((row_at t.rows goal).choices ≡ [])
+pub begun_still : (a : Automaton) (goal : ℕ) (s t : TableView) → FactsOnAutomaton a s → FactsOnAutomaton a t → IsMending goal s t → ¬ ((row_at s.rows goal).choices ≡ []) → ¬ ((row_at t.rows goal).choices ≡ [])
 begun_still a goal s t hs ht m begun e =
     let n = ap length e in let f = hs.flags goal in let g = ht.flags goal in let k = m.flags in
     begun (no_length (row_at s.rows goal).choices (omega arith))
 
 -- all cases were repaired
 module _ (a : Automaton) (ds : List Document) (goal : ℕ) (s t : TableView) (lt : goal < length s.rows) (waits : (row_at s.rows goal).standing ≡ Waiting) (begun : ¬ ((row_at s.rows goal).choices ≡ []))
-    (was : StandsOnAutomaton a s) (stands : StandsOn a ds t) (m : IsMending goal s t) (unbroken : (place : ℕ) → place < length (row_at t.rows goal).broken → IsUnbroken (row_at t.rows goal) place) where
+    (was : FactsOnAutomaton a s) (stands : FactsOn a ds t) (m : IsMending goal s t) (unbroken : (place : ℕ) → place < length (row_at t.rows goal).broken → IsUnbroken (row_at t.rows goal) place) where
   pub repaired_same : SameGoals t.rows (set t.rows goal (with_standing Holds (row_at t.rows goal)))
   repaired_same = same_again a ds t goal (omega (arith, m.kept.longer, lt)) (m.standing ∙ waits) stands
 

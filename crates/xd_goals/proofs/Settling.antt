@@ -12,7 +12,8 @@ use Rattle.xd_rules.specs.Rules.{Claim, ChoiceTree, ContentLeaf, RestLeaf, Split
 use Rattle.xd_state_heads.specs.Moves.{AreBelow, claim_with}
 use Rattle.xd_goals.specs.Rows.{GoalRow, TableView, no_row, row_at, claim_of, claim_at, goal_case, IsListed, IsRefuted, IsUnbroken, Leads, RowsBelow}
 use Rattle.xd_goals.specs.Kept.{Refutes}
-use Rattle.xd_goals.specs.Standing.{ChoiceStands, IsBegun, IsOpen, IsSeparatedBy, RowHolds, StandsOn}
+use Rattle.xd_goals.specs.Standing.{IsBegun, IsOpen, IsSeparatedBy}
+use Rattle.xd_goals.specs.Facts.{ChoiceStands, RowHolds, FactsOn}
 use Rattle.xd_goals.specs.declared.table.Choice.{Choice}
 use Rattle.xd_goals.specs.declared.table.ChoiceNode.{ChoiceNode}
 use Rattle.xd_goals.specs.declared.table.GoalCase.{GoalCase}
@@ -72,14 +73,14 @@ module _ (a : Automaton) (old new : List GoalRow) (nodes : List ChoiceNode) (lin
   unlike_same h i j li lj e = h i j (omega (arith, same.count)) (omega (arith, same.count)) (sym (same.claims i) ∙ e ∙ same.claims j)
 
   -- the facts stay, where the choices of each goal are known, and what is newly refuted, in doubt, and what still holds
-  pub stands_same : (ds : List Document) → StandsOn a ds before
+  pub stands_same : (ds : List Document) → FactsOn a ds before
       → ((i place : ℕ) (k : Choice) → slice_get (row_at new i).choices place ≡ Some k → ChoiceStands a before (goal_case i place) (claim_of (row_at old i)) k)
       → ((i : ℕ) (seq : Seq) → (row_at new i).standing ≡ Refuted seq → IsSeparatedBy a ds (claim_of (row_at old i)) seq)
       → ((i : ℕ) → ¬ ((row_at new i).choices ≡ []) → IsBegun a (claim_of (row_at old i)) (row_at new i).choices)
       → ((i : ℕ) → length (row_at new i).broken ≡ length (row_at new i).choices)
       → ((i place : ℕ) (k : Choice) → slice_get (row_at new i).choices place ≡ Some k → IsUnbroken (row_at new i) place → IsOpen after k)
       → ((i : ℕ) → (row_at new i).standing ≡ Holds → RowHolds a after (claim_of (row_at old i)) (row_at new i).choices)
-      → StandsOn a ds after
+      → FactsOn a ds after
   stands_same ds h choices refuted begun flags unbroken holds = record {
     facts = record {
       states = states_same (length a) h.facts.states;
@@ -131,7 +132,7 @@ module _ (a : Automaton) (ds : List Document) (old new : List GoalRow) (nodes : 
       (λ ne. (ne, ⊎_elim (λ k. sym k ∙ e) (λ w. w.0) (r.others i ne)))
       (cases_eq i goal)
 
-  pub stands-refuted : IsSeparatedBy a ds (claim_of (row_at old goal)) seq → StandsOn a ds (record { rows = old; nodes = nodes; links = links }) → StandsOn a ds (record { rows = new; nodes = nodes; links = links })
+  pub stands-refuted : IsSeparatedBy a ds (claim_of (row_at old goal)) seq → FactsOn a ds (record { rows = old; nodes = nodes; links = links }) → FactsOn a ds (record { rows = new; nodes = nodes; links = links })
   stands-refuted doc h =
       stands_same a old new nodes links refutes_same ds h
       (λ i place k e. h.facts.choices i place k (was_choice i place k e))
@@ -193,7 +194,7 @@ module _ (a : Automaton) (ds : List Document) (old : List GoalRow) (nodes : List
       → length row.broken ≡ length row.choices
       → ((place : ℕ) (k : Choice) → slice_get row.choices place ≡ Some k → IsUnbroken row place → IsOpen (record { rows = old; nodes = nodes; links = links }) k)
       → (row.standing ≡ Holds → RowHolds a (record { rows = old; nodes = nodes; links = links }) (claim_of (row_at old goal)) row.choices)
-      → StandsOn a ds (record { rows = old; nodes = nodes; links = links }) → StandsOn a ds (record { rows = new_rows; nodes = nodes; links = links })
+      → FactsOn a ds (record { rows = old; nodes = nodes; links = links }) → FactsOn a ds (record { rows = new_rows; nodes = nodes; links = links })
   stands-changed stand begun flags unbroken holds h =
       stands_same a old new_rows nodes links changed_same ds h
       (by_row (λ i r. (place : ℕ) (k : Choice) → slice_get r.choices place ≡ Some k → ChoiceStands a (record { rows = old; nodes = nodes; links = links }) (goal_case i place) (claim_of (row_at old i)) k)

@@ -11,8 +11,9 @@ use Rattle.xd_auto.specs.Automaton.{Automaton}
 use Rattle.xd_rules.specs.Rules.{Claim}
 use Rattle.xd_state_heads.specs.Moves.{claim_with, is_last_in}
 use Rattle.xd_goals.specs.Rows.{GoalRow, TableView, no_row, claim_at, claim_of, claim_key, goal_case, row_at}
-use Rattle.xd_goals.specs.Kept.{AreLinked, Grows, GrowsBy, IsConsistent, IsIndexed, IsWhole, Refutes, found_at, view_of}
-use Rattle.xd_goals.specs.Standing.{ChoiceStands, IsOpen, IsSeparatedBy, KeepsGoals, RowHolds, StandsOn, StandsOnAutomaton}
+use Rattle.xd_goals.specs.Kept.{AreLinked, AreNodes, Grows, GrowsBy, IsConsistent, IsIndexed, IsWhole, Refutes, found_at, view_of}
+use Rattle.xd_goals.specs.Standing.{IsOpen, IsSeparatedBy, KeepsGoals}
+use Rattle.xd_goals.specs.Facts.{ChoiceStands, RowHolds, FactsOn, FactsOnAutomaton}
 use Rattle.xd_goals.specs.Cases.{AreSettled}
 use Rattle.xd_goals.specs.Measure.{AreMadeFrom, Lowers, possible}
 use Rattle.xd_goals.specs.Reached.{HasTreeWithin, HaveTreesWithin, IsSettled, IsWaitingIn}
@@ -25,6 +26,7 @@ use Rattle.xd_goals.specs.declared.table.ChoiceNode.{ChoiceNode}
 use Rattle.xd_goals.specs.declared.table.Link.{Link}
 use Rattle.xd_goals.specs.declared.table.Standing.TheVariants.{Holds, Refuted, Waiting}
 use Rattle.xd_goals.proofs.Facts.{facts-grows, keeps_goals-grows, keeps_goals-then, claim-grows, separated-grows, unlike_index}
+use Rattle.xd_goals.proofs.Itself.{nodes_longer}
 use Rattle.xd_goals.proofs.Settling.{SameGoals, changed_same, refutes_same, stands-changed, stands-refuted}
 use Rattle.xd_goals.proofs.Measuring.{rows_bound, lowers-grown, lowers-held, lowers-refuted, made-grows, made-then}
 use Rattle.xd_goals.proofs.Working.{leaves_there, settled_holds}
@@ -34,7 +36,7 @@ use Rattle.xd_goals.proofs.Verdicts.{settled_is_included}
 
 -- a goal was settled, and the facts stay
 pub record IsStep (a : Automaton) (es : List Document) (old new : TableView) : Type 0 where
-  pub stands : StandsOn a es new
+  pub stands : FactsOn a es new
   pub kept : KeepsGoals old new
   pub made : AreMadeFrom (length old.rows) new.rows
   pub lowers : Lowers old.rows new.rows
@@ -48,9 +50,10 @@ step_grown a es s t u g h = record {
   lowers = lowers-grown s t u.rows g h.lowers;
 }
 
--- goals that are the same have the same index and the same lists
-pub whole_same : (old new : List GoalRow) (links : List Link) (found : BTreeMap (List ℕ) ℕ) → SameGoals old new → IsIndexed found old → AreLinked old links → IsIndexed found new × AreLinked new links
-whole_same old new links found same index linked = (
+-- goals that are the same have the same index, the same lists and the same nodes
+pub whole_same : (old new : List GoalRow) (nodes : List ChoiceNode) (links : List Link) (found : BTreeMap (List ℕ) ℕ) → SameGoals old new → IsIndexed found old → AreLinked old links → AreNodes old nodes
+    → IsIndexed found new × AreLinked new links × AreNodes new nodes
+whole_same old new nodes links found same index linked stand = (
   record {
     all = λ i lt. ap (λ (c : Claim State). found_at found (claim_key c)) (same.claims i) ∙ index.all i (omega (arith, same.count));
     only = λ q i f. let o = index.only q i f in (omega (arith, same.count, o.0), ap claim_key (same.claims i) ∙ o.1);
@@ -60,6 +63,7 @@ whole_same old new links found same index linked = (
     next = linked.next;
     goals = λ k l at. omega (arith, same.count, linked.goals k l at);
   },
+  nodes_longer old new nodes (omega (arith, same.count)) stand,
 )
 
 pub none_made : (old new : List GoalRow) → SameGoals old new → AreMadeFrom (length old) new
@@ -71,7 +75,7 @@ module _ (a : Automaton) (ds : List Document) (old new : List GoalRow) (nodes : 
   pub same_refuted : SameGoals old new
   same_refuted = refutes_same a ds old new nodes links goal seq r
 
-  pub step_refuted : IsSeparatedBy a ds (claim_of (row_at old goal)) seq → StandsOn a ds (record { rows = old; nodes = nodes; links = links })
+  pub step_refuted : IsSeparatedBy a ds (claim_of (row_at old goal)) seq → FactsOn a ds (record { rows = old; nodes = nodes; links = links })
       → IsStep a ds (record { rows = old; nodes = nodes; links = links }) (record { rows = new; nodes = nodes; links = links })
   step_refuted doc h = record {
     stands = stands-refuted a ds old new nodes links goal seq r doc h;
@@ -102,7 +106,7 @@ module _ (a : Automaton) (ds : List Document) (old : List GoalRow) (nodes : List
   pub step_held : ((place : ℕ) (k : Choice) → slice_get row.choices place ≡ Some k → ChoiceStands a (record { rows = old; nodes = nodes; links = links }) (goal_case goal place) (claim_of (row_at old goal)) k)
       → length row.broken ≡ length row.choices
       → RowHolds a (record { rows = old; nodes = nodes; links = links }) (claim_of (row_at old goal)) row.choices
-      → StandsOn a ds (record { rows = old; nodes = nodes; links = links })
+      → FactsOn a ds (record { rows = old; nodes = nodes; links = links })
       → IsStep a ds (record { rows = old; nodes = nodes; links = links }) (record { rows = set old goal row; nodes = nodes; links = links })
   step_held stand flags k h = record {
     stands = stands-changed a ds old nodes links goal row lt claim dependents unrefuted stand (λ n. k.begun) flags
@@ -123,7 +127,7 @@ module _ (a : Automaton) (ds : List Document) (old : List GoalRow) (nodes : List
           (cases_eq i goal)
 
 -- the facts while the table grew
-pub stands_grown : {A : List State → Type 0} (a : Automaton) (ds : List Document) (g h : Goals) → GrowsBy A (view_of g) (view_of h) → IsConsistent (length a) h → StandsOn a ds (view_of g) → StandsOn a ds (view_of h)
+pub stands_grown : {A : List State → Type 0} (a : Automaton) (ds : List Document) (g h : Goals) → GrowsBy A (view_of g) (view_of h) → IsConsistent (length a) h → FactsOn a ds (view_of g) → FactsOn a ds (view_of h)
 stands_grown a ds g h grows k s = record {
   facts = facts-grows a (view_of g) (view_of h) grows k.states (unlike_index h.found h.rows.items k.index) s.facts;
   refuted = separated-grows a ds (view_of g) (view_of h) grows s.refuted;
@@ -136,7 +140,7 @@ owner_claim s t g i c lt e = claim-grows s t g i lt ∙ e
 -- the goal that a step worked on, by what settled it
 pub held_by : (a : Automaton) (ds : List Document) (t : TableView) (goal : ℕ) (c : Claim State) (made : List Choice) (broken : List Bool) → length broken ≡ length made
     → goal < length t.rows → (row_at t.rows goal).standing ≡ Waiting → claim_of (row_at t.rows goal) ≡ c
-    → (is_last_in a c.left ≡ true → list_any (is_last_in a) c.rights ≡ true) → AreSettled a t goal c made → StandsOn a ds t
+    → (is_last_in a c.left ≡ true → list_any (is_last_in a) c.rights ≡ true) → AreSettled a t goal c made → FactsOn a ds t
     → IsStep a ds t (record { rows = set t.rows goal (record (row_at t.rows goal) { standing = Holds; choices = made; broken = broken }); nodes = t.nodes; links = t.links })
 held_by a ds t goal c made broken flags lt waits e last h stands =
     step_held a ds t.rows t.nodes t.links goal (record (row_at t.rows goal) { standing = Holds; choices = made; broken = broken }) lt waits refl refl refl
@@ -151,19 +155,19 @@ same_held_by a ds t goal made broken lt waits =
     same_held a ds t.rows t.nodes t.links goal (record (row_at t.rows goal) { standing = Holds; choices = made; broken = broken }) lt waits refl refl refl
 
 -- a table has no more goals than its first ones and the possible ones
-pub bounded : (a : Automaton) (first : ℕ) (t : TableView) → StandsOnAutomaton a t → AreMadeFrom first t.rows → first ≤ length t.rows → length t.rows ≤ first + length (possible (length a))
+pub bounded : (a : Automaton) (first : ℕ) (t : TableView) → FactsOnAutomaton a t → AreMadeFrom first t.rows → first ≤ length t.rows → length t.rows ≤ first + length (possible (length a))
 bounded a first t h made le = rows_bound (length a) first t.rows h.states h.unlike made le
 
 -- the asked goal was found or added
-module _ {A : List State → Type 0} (a : Automaton) (ds : List Document) (g h : Goals) (grows : GrowsBy A (view_of g) (view_of h)) (consistent : IsConsistent (length a) h) (stands : StandsOn a ds (view_of g)) where
-  pub asked_stands : StandsOn a ds (view_of h)
+module _ {A : List State → Type 0} (a : Automaton) (ds : List Document) (g h : Goals) (grows : GrowsBy A (view_of g) (view_of h)) (consistent : IsConsistent (length a) h) (stands : FactsOn a ds (view_of g)) where
+  pub asked_stands : FactsOn a ds (view_of h)
   asked_stands = stands_grown a ds g h grows consistent stands
 
   pub asked_kept : KeepsGoals (view_of g) (view_of h)
   asked_kept = keeps_goals-grows (view_of g) (view_of h) grows
 
 pub whole_of : (n : ℕ) (g : Goals) → IsConsistent n g → IsWhole g
-whole_of n g h = record { index = h.index; links = h.links }
+whole_of n g h = record { index = h.index; links = h.links; nodes = h.nodes }
 
 pub none_added : (rows : List GoalRow) → AreMadeFrom (length rows) rows
 none_added rows i le lt = absurd (omega arith)
@@ -172,16 +176,16 @@ pub keeps-same : (ds : List Document) → Keeps ds ds
 keeps-same ds = record { belongs = λ s b. b; same = λ s b. refl }
 
 -- trees of a table that stands name goals that are there
-pub trees_there : (a : Automaton) (t : TableView) → StandsOnAutomaton a t → (i : ℕ) → HaveTreesWithin t.nodes (length t.rows) (row_at t.rows i).choices
+pub trees_there : (a : Automaton) (t : TableView) → FactsOnAutomaton a t → (i : ℕ) → HaveTreesWithin t.nodes (length t.rows) (row_at t.rows i).choices
 trees_there a t h i =
     all_places (λ (k : Choice). HasTreeWithin t.nodes (length t.rows) k.root) (row_at t.rows i).choices
     (λ place k e. leaves_there a t (goal_case i place) (claim_of (row_at t.rows i)) k (h.choices i place k e))
 
 -- what the asked goal's standing says
-pub asked_separated : (a : Automaton) (ds : List Document) (t : TableView) (goal : ℕ) (c : Claim State) (seq : Seq) → StandsOn a ds t → claim_at t.rows goal ≡ Some c → (row_at t.rows goal).standing ≡ Refuted seq → IsSeparatedBy a ds c seq
+pub asked_separated : (a : Automaton) (ds : List Document) (t : TableView) (goal : ℕ) (c : Claim State) (seq : Seq) → FactsOn a ds t → claim_at t.rows goal ≡ Some c → (row_at t.rows goal).standing ≡ Refuted seq → IsSeparatedBy a ds c seq
 asked_separated a ds t goal c seq h e r = subst (λ (x : Claim State). IsSeparatedBy a ds x seq) (claim_within t.rows goal c e).1 (h.refuted goal seq r)
 
-pub asked_included : (a : Automaton) (t : TableView) (goal : ℕ) (left : State) (rights : List State) → StandsOnAutomaton a t → claim_at t.rows goal ≡ Some (claim_with left rights) → IsSettled t goal
+pub asked_included : (a : Automaton) (t : TableView) (goal : ℕ) (left : State) (rights : List State) → FactsOnAutomaton a t → claim_at t.rows goal ≡ Some (claim_with left rights) → IsSettled t goal
     → IsIncluded a left rights × IsProved t left rights goal
 asked_included a t goal left rights h e s =
     (settled_is_included a t h goal s left rights e, record { there = (claim_within t.rows goal (claim_with left rights) e).0; claim = e; holds = s.holds goal s.start; settled = s })

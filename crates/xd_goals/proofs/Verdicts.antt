@@ -22,7 +22,8 @@ use Rattle.xd_state_heads.specs.Moves.{Accepts, claim_with, heads_of, is_last_in
 use Rattle.xd_goals.specs.Rows.{TableView, row_at, claim_of, claim_at, choice_key}
 use Rattle.xd_goals.specs.Trees.{IsFailure, IsFailureBySort, IsTextFailure, IsRefutedBy, gathered, takes}
 use Rattle.xd_state_heads.specs.declared.heads.Side.{Side}
-use Rattle.xd_goals.specs.Standing.{IsSeparatedBy, StandsOn, StandsOnAutomaton, claim_sides, task_for}
+use Rattle.xd_goals.specs.Standing.{IsSeparatedBy, claim_sides, task_for}
+use Rattle.xd_goals.specs.Facts.{FactsOn, FactsOnAutomaton}
 use Rattle.xd_goals.specs.Reached.{is_marked, LeadsToMarked, IsSettled}
 use Rattle.xd_goals.specs.Truth.{IsIncluded, KeepsRules}
 use Rattle.xd_goals.specs.Cases.{BeginsAs, FailsAt}
@@ -36,7 +37,7 @@ use Rattle.xd_goals.proofs.Facts.{StandsSomewhere, choices_stand}
 use Rattle.xd_goals.proofs.Keeping.{case_keeps, side_of_head, gathered-has}
 use Rattle.xd_goals.proofs.Meaning.{automaton_meaning}
 
-module _ (a : Automaton) (t : TableView) (stands : StandsOnAutomaton a t) where
+module _ (a : Automaton) (t : TableView) (stands : FactsOnAutomaton a t) where
   cases_of : (c : Claim State) (ks : List Choice) → AllByRecursion (StandsSomewhere a t c) ks → List Case
   cases_of c [] h = []
   cases_of c (k ∷ ks) h = record { head = k.head; atom = k.atom; tree = h.0.1.has.tree } ∷ cases_of c ks h.1
@@ -88,7 +89,7 @@ module _ (a : Automaton) (t : TableView) (stands : StandsOnAutomaton a t) where
       holds (Accepts a) (heads_of a) (is_last_in a) (automaton_meaning a) (claim_at t.rows) (λ k. is_marked s.marks k ≡ true) (λ g m. row_is goal s g m) d goal s.start (claim_with left rights) e
 
 -- the document of a refuted goal
-pub refuted_by : (a : Automaton) (ds : List Document) (t : TableView) → StandsOn a ds t → (c : Claim State) (seq : Seq) → IsRefutedBy t.rows c seq → IsSeparatedBy a ds c seq
+pub refuted_by : (a : Automaton) (ds : List Document) (t : TableView) → FactsOn a ds t → (c : Claim State) (seq : Seq) → IsRefutedBy t.rows c seq → IsSeparatedBy a ds c seq
 refuted_by a ds t stands c seq h =
     let w = claim_within t.rows h.goal c h.claim in
     subst (λ (x : Claim State). IsSeparatedBy a ds x seq) w.1 (stands.refuted h.goal seq h.refuted)
@@ -107,7 +108,7 @@ not_named c x e h = go c.except (is_named c.names x) e h
     go false m p q = absurd (cc)
 
 -- the document that is made where a case fails separates the goal
-module _ (a : Automaton) (ds : List Document) (t : TableView) (stands : StandsOn a ds t) (owner : GoalCase) (c : Claim State)
+module _ (a : Automaton) (ds : List Document) (t : TableView) (stands : FactsOn a ds t) (owner : GoalCase) (c : Claim State)
     (labels texts : NameClass) (names : AreNames (heads_of a c.left ++ right_heads (heads_of a) c) (names_in labels texts)) (labels_except : labels.except ≡ true) (texts_except : texts.except ≡ true)
     (h : Head State) (m : IsOneOf h (heads_of a c.left)) (atom : Atom) (matched : matches h.kind atom ≡ true) (inside behind : Seq) where
   element_separates : IsFailure a ds (task_for a owner h) (claim_sides a c atom) inside behind → (l : List ℕ)
@@ -142,7 +143,7 @@ module _ (a : Automaton) (ds : List Document) (t : TableView) (stands : StandsOn
       (document_at ds behind) no_rest.accepted (none_accepts a (claim_with h.rest rests) (document_at ds behind) no_rest rests (λ s y. y))
 
 -- by the atom
-pub failure_separates : (a : Automaton) (ds : List Document) (t : TableView) → StandsOn a ds t → (c : Claim State) (labels texts : NameClass)
+pub failure_separates : (a : Automaton) (ds : List Document) (t : TableView) → FactsOn a ds t → (c : Claim State) (labels texts : NameClass)
     → AreNames (heads_of a c.left ++ right_heads (heads_of a) c) (names_in labels texts) → labels.except ≡ true → texts.except ≡ true
     → (atom : Atom) (inside behind : Seq) → FailsAt a ds t c atom inside behind → (d : Document) → BeginsAs labels texts atom (document_at ds inside) (document_at ds behind) d → Separates (Accepts a) c d
 failure_separates a ds t stands c labels texts names le te (Label l) inside behind f d b =
@@ -161,12 +162,12 @@ failure_separates a ds t stands c labels texts names le te OtherText inside behi
     (matches-other_text (heads_of a c.left ++ right_heads (heads_of a) c) (names_in labels texts) names b.0 (not_named texts b.0 te b.1)))
 
 -- the documents of a case that fails are those of goals
-pub content_belongs : (a : Automaton) (ds : List Document) (t : TableView) → StandsOn a ds t → (c : Claim State) (atom : Atom) (inside behind : Seq) → FailsAt a ds t c atom inside behind → is_text_atom atom ≡ false → BelongsTo ds inside
+pub content_belongs : (a : Automaton) (ds : List Document) (t : TableView) → FactsOn a ds t → (c : Claim State) (atom : Atom) (inside behind : Seq) → FailsAt a ds t c atom inside behind → is_text_atom atom ≡ false → BelongsTo ds inside
 content_belongs a ds t stands c atom inside behind f e =
     let g : IsFailure a ds (task_for a f.owner f.of_head) (claim_sides a c atom) inside behind =
     subst (λ (b : Bool). IsFailureBySort b a ds t.rows (task_for a f.owner f.of_head) (claim_sides a c atom) inside behind) e f.fails in g.content_belongs
 
-pub rest_belongs : (a : Automaton) (ds : List Document) (t : TableView) → StandsOn a ds t → (c : Claim State) (atom : Atom) (inside behind : Seq) → FailsAt a ds t c atom inside behind → BelongsTo ds behind
+pub rest_belongs : (a : Automaton) (ds : List Document) (t : TableView) → FactsOn a ds t → (c : Claim State) (atom : Atom) (inside behind : Seq) → FailsAt a ds t c atom inside behind → BelongsTo ds behind
 rest_belongs a ds t stands c atom inside behind f = go (is_text_atom atom) f.fails
   where
     go : (b : Bool) → IsFailureBySort b a ds t.rows (task_for a f.owner f.of_head) (claim_sides a c atom) inside behind → BelongsTo ds behind
@@ -174,7 +175,7 @@ rest_belongs a ds t stands c atom inside behind f = go (is_text_atom atom) f.fai
     go false g = g.rest_belongs
 
 -- in the store that holds the new document
-pub separated_by : {E : Type 0} (a : Automaton) (ds es : List Document) (t : TableView) → StandsOn a ds t → (c : Claim State) (labels texts : NameClass)
+pub separated_by : {E : Type 0} (a : Automaton) (ds es : List Document) (t : TableView) → FactsOn a ds t → (c : Claim State) (labels texts : NameClass)
     → AreNames (heads_of a c.left ++ right_heads (heads_of a) c) (names_in labels texts) → labels.except ≡ true → texts.except ≡ true
     → (atom : Atom) (inside behind : Seq) → FailsAt a ds t c atom inside behind → (r : Result Seq E) → IfOk r (BelongsTo es)
     → IfOk r (λ seq. BeginsAs labels texts atom (document_at ds inside) (document_at ds behind) (document_at es seq)) → IfOk r (IsSeparatedBy a es c)
@@ -195,7 +196,7 @@ empty_separates a c left rights =
         go false q p rec = (q, rec p)
 
 -- the choice trees of a table that stands keep the rules
-pub choices_keep : (a : Automaton) (t : TableView) → StandsOnAutomaton a t → (i : ℕ) → AllByRecursion (KeepsRules a t (claim_of (row_at t.rows i))) (row_at t.rows i).choices
+pub choices_keep : (a : Automaton) (t : TableView) → FactsOnAutomaton a t → (i : ℕ) → AllByRecursion (KeepsRules a t (claim_of (row_at t.rows i))) (row_at t.rows i).choices
 choices_keep a t h i =
     all_map (StandsSomewhere a t (claim_of (row_at t.rows i))) (KeepsRules a t (claim_of (row_at t.rows i))) (row_at t.rows i).choices
     (λ k s. let x = s.1 in record {

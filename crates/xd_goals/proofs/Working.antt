@@ -20,7 +20,8 @@ use Rattle.xd_goals.specs.Rows.{GoalRow, TableView, IsRefuted, choice_key, goal_
 use Rattle.xd_goals.specs.Kept.{Grows}
 use Rattle.xd_goals.specs.Trees.{HasTree, HasOpenTree, IsGrown, IsTextTree, gathered, IsTreeBySort, IsFailureBySort, IsPathBelow, GrownAs}
 use Rattle.xd_state_heads.specs.Wants.{matching_sides, side_at, HasHead}
-use Rattle.xd_goals.specs.Standing.{ChoiceStands, IsOpen, IsCaseTree, RowHolds, claim_sides, task_for}
+use Rattle.xd_goals.specs.Standing.{IsOpen, IsCaseTree, claim_sides, task_for}
+use Rattle.xd_goals.specs.Facts.{ChoiceStands, RowHolds}
 use Rattle.xd_goals.specs.Reached.{HasTreeWithin}
 use Rattle.xd_goals.specs.Cases.{AreBegun, AreSettled, FailsAt, IsCaseGrown, IsOpenChoice, case_end_of}
 use Rattle.xd_state_heads.specs.declared.heads.Side.{Side}

@@ -15,7 +15,8 @@ use Rattle.xd_state_heads.specs.Moves.{heads_of, is_last_in}
 use Rattle.xd_goals.specs.Rows.{TableView, choice_key, claim_of, goal_case, row_at, IsUnbroken}
 use Rattle.xd_goals.specs.Measure.{AreMadeFrom, potential}
 use Rattle.xd_goals.specs.Trees.{IsFailureBySort}
-use Rattle.xd_goals.specs.Standing.{ChoiceStands, IsOpen, KeepsGoals, claim_sides, task_for}
+use Rattle.xd_goals.specs.Standing.{IsOpen, KeepsGoals, claim_sides, task_for}
+use Rattle.xd_goals.specs.Facts.{ChoiceStands}
 use Rattle.xd_goals.specs.declared.grow.Grown.{Grown}
 use Rattle.xd_goals.specs.declared.grow.Grown.TheVariants.{Stands, Fails}
 use Rattle.xd_goals.specs.declared.table.Choice.{Choice}

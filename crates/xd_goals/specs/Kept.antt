@@ -6,7 +6,7 @@ use Rattle.std.specs.BTreeMap.{BTreeMap, get}
 use Rattle.xd_doc.specs.Stored.{IsBelow}
 use Rattle.xd_auto.specs.declared.auto.State.{State}
 use Rattle.xd_state_heads.specs.Moves.{IsInOrder}
-use Rattle.xd_goals.specs.Rows.{GoalRow, TableView, row_at, claim_of, claim_key, IsListed, IsUnbroken, Leads, RowsBelow}
+use Rattle.xd_goals.specs.Rows.{GoalRow, TableView, row_at, claim_of, claim_key, IsListed, IsUnbroken, Leads, NodeStands, RowsBelow}
 use Rattle.xd_goals.specs.declared.table.Choice.{Choice}
 use Rattle.xd_goals.specs.declared.table.ChoiceNode.{ChoiceNode}
 use Rattle.xd_doc.specs.declared.store.Seq.{Seq}
@@ -34,15 +34,21 @@ pub record AreLinked (rows : List GoalRow) (links : List Link) : Type 0 where
   pub next : (k : ℕ) (l : Link) → slice_get links k ≡ Some l → IsBelow k l.next
   pub goals : (k : ℕ) (l : Link) → slice_get links k ≡ Some l → l.case.goal.number < length rows
 
+-- nodes of choice trees lead to older ones, and their leaves to goals that are there
+pub record AreNodes (rows : List GoalRow) (nodes : List ChoiceNode) : Type 0 where
+  pub each : (n : ℕ) (node : ChoiceNode) → slice_get nodes n ≡ Some node → NodeStands (length rows) n node
+
 pub record IsWhole (g : Goals) : Type 0 where
   pub index : IsIndexed g.found g.rows.items
   pub links : AreLinked g.rows.items g.links.items
+  pub nodes : AreNodes g.rows.items g.nodes.items
 
 -- all this, and the goals' states belong to an automaton with so many states
 pub record IsConsistent (n : ℕ) (g : Goals) : Type 0 where
   pub states : RowsBelow n g.rows.items
   pub index : IsIndexed g.found g.rows.items
   pub links : AreLinked g.rows.items g.links.items
+  pub nodes : AreNodes g.rows.items g.nodes.items
 
 -- the same but for the list of dependents
 pub record IsSameGoal (old new : GoalRow) : Type 0 where

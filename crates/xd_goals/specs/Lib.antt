@@ -2,6 +2,7 @@ pub mod Rows
 pub mod Kept
 pub mod Trees
 pub mod Standing
+pub mod Facts
 pub mod Cases
 pub mod Reached
 pub mod Truth

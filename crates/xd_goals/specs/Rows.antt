@@ -6,6 +6,7 @@ use Rattle.xd_rules.specs.Rules.{Claim, CaseKey, keyed}
 use Rattle.xd_state_heads.specs.Moves.{AreBelow}
 use Rattle.xd_goals.specs.declared.table.Choice.{Choice}
 use Rattle.xd_goals.specs.declared.table.ChoiceNode.{ChoiceNode}
+use Rattle.xd_goals.specs.declared.table.ChoiceNode.TheVariants.{Split, Content, Rest}
 use Rattle.xd_goals.specs.declared.table.GoalCase.{GoalCase}
 use Rattle.xd_goals.specs.declared.table.Standing.{Standing}
 use Rattle.xd_goals.specs.declared.table.Standing.TheVariants.{Refuted, Waiting}
@@ -75,6 +76,16 @@ pub data Leads (links : List Link) (owner : GoalCase) : Option ℕ → Type 0 wh
 -- the case is in the list of dependents of the goal
 abbrev pub IsListed : TableView → ℕ → GoalCase → Type 0
 IsListed t on owner = Leads t.links owner (row_at t.rows on).dependents
+
+-- a node of a choice tree: a split leads to older nodes, and a leaf names one of so many goals
+abbrev pub NodeStands : ℕ → ℕ → ChoiceNode → Type 0
+NodeStands goals n (Split right content rest) = (content < n) × (rest < n)
+NodeStands goals n (Content goal) = goal.number < goals
+NodeStands goals n (Rest goal) = goal.number < goals
+
+-- the choice begins at a node that is there
+abbrev pub HasRoot : List ChoiceNode → Choice → Type 0
+HasRoot nodes k = k.root < length nodes
 
 -- the goal's states belong to an automaton with so many states
 pub record IsRowBelow (n : ℕ) (row : GoalRow) : Type 0 where

@@ -1,6 +1,6 @@
 -- A table stands on an automaton and a store: what its goals say of them.
-use Rattle.std.specs.Prelude.{◌≡◌, ℕ, ◌<◌, ◌≤◌, true, List, [], ◌++◌, map, length, Some, slice_get}
-use Rattle.std.specs.List.{AllByRecursion, list_any}
+use Rattle.std.specs.Prelude.{◌≡◌, ℕ, ◌<◌, ◌≤◌, ◌⊎◌, true, List, [], ◌++◌, map, length, Some, slice_get}
+use Rattle.std.specs.List.{list_any}
 use Rattle.xd_doc.specs.Document.{Document}
 use Rattle.xd_doc.specs.Stored.{BelongsTo, document_at}
 use Rattle.xd_doc.specs.declared.store.Seq.{Seq}
@@ -11,8 +11,8 @@ use Rattle.xd_rules.specs.Heads.{Head, Named, AreNames, matches, is_text_atom}
 use Rattle.xd_rules.specs.Rules.{Claim, ChoiceTree, AllLeaves, head_number, right_heads, wanted_cases}
 use Rattle.xd_rules.specs.Meaning.{Separates}
 use Rattle.xd_state_heads.specs.Moves.{heads_of, is_last_in, Accepts}
-use Rattle.xd_goals.specs.Rows.{GoalRow, TableView, row_at, claim_of, choice_key, goal_case, IsRefuted, IsUnbroken, RowsBelow}
-use Rattle.xd_goals.specs.Trees.{StandsAt, IsTreeBySort, HasTree}
+use Rattle.xd_goals.specs.Rows.{GoalRow, TableView, row_at, claim_of, choice_key, goal_case, IsRefuted, RowsBelow}
+use Rattle.xd_goals.specs.Trees.{StandsAt, IsTreeBySort}
 use Rattle.xd_state_heads.specs.Wants.{matching_sides}
 use Rattle.xd_goals.specs.declared.table.Choice.{Choice}
 use Rattle.xd_goals.specs.declared.table.GoalCase.{GoalCase}
@@ -41,11 +41,13 @@ abbrev pub IsCaseTree : Automaton → List GoalRow → GoalCase → Claim State 
 IsCaseTree a rows owner c h atom tree = IsTreeBySort (is_text_atom atom) rows (task_for a owner h) (claim_sides a c atom) tree
 
 -- a choice of a goal, for this case of it: a head of its left at an atom of it, with a tree
-pub record ChoiceStands (a : Automaton) (t : TableView) (owner : GoalCase) (c : Claim State) (k : Choice) : Type 0 where
+pub record IsChoiceOf (a : Automaton) (t : TableView) (owner : GoalCase) (c : Claim State) (k : Choice) : Type 0 where
   pub head : Head State
   pub found : head_number (heads_of a c.left) k.head ≡ Some head
   pub matched : matches head.kind k.atom ≡ true
-  pub has : HasTree t (IsCaseTree a t.rows owner c head k.atom) owner k.root
+  pub tree : ChoiceTree
+  pub stands : StandsAt t.nodes k.root tree
+  pub kind : IsCaseTree a t.rows owner c head k.atom tree
 
 -- no leaf names a refuted goal
 abbrev pub IsOpen : TableView → Choice → Type 0
@@ -58,20 +60,16 @@ pub record IsBegun (a : Automaton) (c : Claim State) (choices : List Choice) : T
   pub names : AreNames (heads_of a c.left ++ right_heads (heads_of a) c) named
   pub complete : map choice_key choices ≡ wanted_cases named 1 (heads_of a c.left)
 
--- a goal that holds: it has its choices, and all their trees are open
-pub record RowHolds (a : Automaton) (t : TableView) (c : Claim State) (choices : List Choice) : Type 0 where
-  pub begun : IsBegun a c choices
-  pub opens : AllByRecursion (IsOpen t) choices
+-- a goal that was worked on: it holds, or has choices from when it held
+abbrev pub HasChoices : GoalRow → Type 0
+HasChoices row = (row.standing ≡ Holds) ⊎ (¬ (row.choices ≡ []))
 
--- the table stands on the automaton: the facts that name no document
+-- What the table's goals say of the automaton, documents aside. A goal that waits again keeps its choices, so that work on it looks at those
+-- alone that a refuted goal has broken; so they are asked to be right, too.
 pub record StandsOnAutomaton (a : Automaton) (t : TableView) : Type 0 where
   pub states : RowsBelow (length a) t.rows
-  pub unlike : (i j : ℕ) → i < length t.rows → j < length t.rows → claim_of (row_at t.rows i) ≡ claim_of (row_at t.rows j) → i ≡ j
-  pub choices : (i place : ℕ) (k : Choice) → slice_get (row_at t.rows i).choices place ≡ Some k → ChoiceStands a t (goal_case i place) (claim_of (row_at t.rows i)) k
-  pub begun : (i : ℕ) → ¬ ((row_at t.rows i).choices ≡ []) → IsBegun a (claim_of (row_at t.rows i)) (row_at t.rows i).choices
-  pub flags : (i : ℕ) → length (row_at t.rows i).broken ≡ length (row_at t.rows i).choices
-  pub unbroken : (i place : ℕ) (k : Choice) → slice_get (row_at t.rows i).choices place ≡ Some k → IsUnbroken (row_at t.rows i) place → IsOpen t k
-  pub holds : (i : ℕ) → (row_at t.rows i).standing ≡ Holds → RowHolds a t (claim_of (row_at t.rows i)) (row_at t.rows i).choices
+  pub begun : (i : ℕ) → HasChoices (row_at t.rows i) → IsBegun a (claim_of (row_at t.rows i)) (row_at t.rows i).choices
+  pub choices : (i place : ℕ) (k : Choice) → slice_get (row_at t.rows i).choices place ≡ Some k → IsChoiceOf a t (goal_case i place) (claim_of (row_at t.rows i)) k
 
 -- the table stands on the automaton and the store
 pub record StandsOn (a : Automaton) (ds : List Document) (t : TableView) : Type 0 where

@@ -5,7 +5,7 @@ ghost use Rattle.std.specs.Cmp.Lexicographic.{pointwise};
 ghost use Rattle.xd_auto.specs.Automaton.{state_number};
 ghost use Rattle.xd_doc.specs.Stored.{IsBelow};
 ghost use Rattle.xd_state_heads.specs.Moves.{AreBelow, claim_with};
-ghost use Rattle.xd_goals.specs.Rows.{IsListed, IsRefuted, claim_at, claim_key, new_row, row_at};
+ghost use Rattle.xd_goals.specs.Rows.{IsListed, IsRefuted, NodeStands, claim_at, claim_key, new_row, row_at};
 ghost use Rattle.xd_goals.specs.Kept.{AreLinked, AreThese, BeginsWith, Grows, GrowsBy, IsConsistent, IsWoken, Refutes, found_at, view_of, with_choice, with_flag, with_standing};
 ghost use Rattle.xd_goals.specs.Rows.{Leads};
 
@@ -184,7 +184,8 @@ pub(crate) fn add_node(
     states: usize,
     node: ChoiceNode,
 ) -> Result<usize, NoMemory>
-    requires { IsConsistent states goals.old }
+    requires consistent { IsConsistent states goals.old }
+    requires node { NodeStands (length goals.old.rows.items) (length goals.old.nodes.items) node }
     ensures consistent { IsConsistent states goals.new }
     ensures rows { goals.new.rows.items ≡ goals.old.rows.items }
     ensures grows { Grows (view_of goals.old) (view_of goals.new) }

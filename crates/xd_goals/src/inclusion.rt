@@ -11,6 +11,7 @@ ghost use Rattle.xd_state_heads.specs.Moves.{claim_with};
 ghost use Rattle.xd_goals.specs.Rows.{claim_at};
 ghost use Rattle.xd_goals.specs.Kept.{IsWhole, view_of};
 ghost use Rattle.xd_goals.specs.Standing.{KeepsGoals, StandsOn};
+ghost use Rattle.xd_goals.specs.Facts.{FactsOn};
 ghost use Rattle.xd_goals.specs.Reached.{IsWaitingIn};
 ghost use Rattle.xd_goals.specs.Measure.{AreMadeFrom, Lowers};
 ghost use Rattle.xd_goals.specs.Verdicts.{IsGoalBelow, IsVerdict};
@@ -28,15 +29,23 @@ use xd_member::Answers;
 /// the left alone.
 #[derive(Clone, Copy, Debug)]
 pub enum Verdict {
+    /// The goal's left and rights are those that were asked. It holds, and so do all goals that it leads to through leaves.
     Included(GoalId),
+    /// A document of the store that the left accepts and none of the rights does.
     Separated(Seq),
 }
 
 /// Whether every document that `left` accepts is accepted by one of `rights`.
 ///
+/// The table stands on this automaton and this store, as a new one does ([`new_tables_stand`]), as one does that earlier calls have
+/// left, and as one goes on to do while both grow ([`tables_stay_standing`]).
+///
 /// Goals and documents that earlier calls left in the table and the store are used again. There is
 /// no bound on time: a table may have a goal for each state with each set of states, beside those that were asked.
-/// After want of memory the table may be used again.
+/// After `NoMemory`, which also stands for the number of a head that fits no usize, the table may be used again.
+///
+/// [`new_tables_stand`]: crate::new_tables_stand
+/// [`tables_stay_standing`]: crate::tables_stay_standing
 ///
 /// (The rules are those of Hosoya, Vouillon and Pierce, TOPLAS 2005, tried on demand.)
 pub fn decide(
@@ -69,12 +78,12 @@ fn decide_in(
     store: &mut Store,
 ) -> Result<Verdict, NoMemory>
     requires whole { IsWhole goals.old }
-    requires stands { StandsOn auto.now store.old (view_of goals.old) }
+    requires stands { FactsOn auto.now store.old (view_of goals.old) }
     requires left { IsState auto.now left }
     requires rights { AllByRecursion (IsState auto.now) rights.now }
     ensures whole { IsWhole goals.new }
     ensures verdict { IfOk result (IsVerdict auto.now store.new (view_of goals.new) left rights.now) }
-    ensures stands { StandsOn auto.now store.new (view_of goals.new) }
+    ensures stands { FactsOn auto.now store.new (view_of goals.new) }
     ensures goals { KeepsGoals (view_of goals.old) (view_of goals.new) }
     ensures keeps { Keeps store.old store.new }
 {
@@ -94,11 +103,11 @@ fn settle(
 ) -> Result<Verdict, NoMemory>
     requires whole { IsWhole goals.old }
     requires asked { asked.number < length goals.old.rows.items }
-    requires stands { StandsOn auto.now store.old (view_of goals.old) }
+    requires stands { FactsOn auto.now store.old (view_of goals.old) }
     requires right { AreRight auto.now store.old answers.old }
     ensures whole { IsWhole goals.new }
     ensures verdict { (left : State) (rights : List State) → claim_at goals.old.rows.items asked.number ≡ Some (claim_with left rights) → IfOk result (IsVerdict auto.now store.new (view_of goals.new) left rights) }
-    ensures stands { StandsOn auto.now store.new (view_of goals.new) }
+    ensures stands { FactsOn auto.now store.new (view_of goals.new) }
     ensures goals { KeepsGoals (view_of goals.old) (view_of goals.new) }
     ensures keeps { Keeps store.old store.new }
 {
@@ -130,10 +139,10 @@ fn run(
     requires asked { asked.number < length goals.old.rows.items }
     requires goal { IsWaitingIn goals.old.rows.items goal }
     requires agenda { AllByRecursion (IsGoalBelow (length goals.old.rows.items)) agenda.old.items }
-    requires stands { StandsOn auto.now store.old (view_of goals.old) }
+    requires stands { FactsOn auto.now store.old (view_of goals.old) }
     requires right { AreRight auto.now store.old answers.old }
     ensures whole { IsWhole goals.new }
-    ensures stands { StandsOn auto.now store.new (view_of goals.new) }
+    ensures stands { FactsOn auto.now store.new (view_of goals.new) }
     ensures goals { KeepsGoals (view_of goals.old) (view_of goals.new) }
     ensures keeps { Keeps store.old store.new }
     ensures made { AreMadeFrom (length goals.old.rows.items) goals.new.rows.items }
@@ -163,10 +172,10 @@ fn step(
     requires whole { IsWhole goals.old }
     requires goal { IsWaitingIn goals.old.rows.items goal }
     requires agenda { AllByRecursion (IsGoalBelow (length goals.old.rows.items)) agenda.old.items }
-    requires stands { StandsOn auto.now store.old (view_of goals.old) }
+    requires stands { FactsOn auto.now store.old (view_of goals.old) }
     requires right { AreRight auto.now store.old answers.old }
     ensures whole { IsWhole goals.new }
-    ensures stands { StandsOn auto.now store.new (view_of goals.new) }
+    ensures stands { FactsOn auto.now store.new (view_of goals.new) }
     ensures goals { KeepsGoals (view_of goals.old) (view_of goals.new) }
     ensures keeps { Keeps store.old store.new }
     ensures made { AreMadeFrom (length goals.old.rows.items) goals.new.rows.items }

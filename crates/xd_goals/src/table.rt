@@ -1,9 +1,10 @@
 //! The table of goals, as its readers see it.
 
 ghost use Rattle.std.specs.Prelude.{◌≡◌, ◌<◌, [], length, Some, slice_get};
+ghost use Rattle.std.specs.List.{AllByRecursion};
 ghost use Rattle.std.specs.Option.{IfSome};
 ghost use Rattle.xd_doc.specs.Stored.{IsBelow};
-ghost use Rattle.xd_goals.specs.Rows.{no_view, row_at};
+ghost use Rattle.xd_goals.specs.Rows.{HasRoot, NodeStands, no_view, row_at};
 
 use crate::goals::Goals;
 use std::alloc::Global;
@@ -29,8 +30,11 @@ pub(crate) struct GoalCase {
 /// How far a goal is settled. A goal that holds may rest on goals that wait.
 #[derive(Clone, Copy, Debug)]
 pub enum Standing {
+    /// Its choice trees say why it is true, as far as the goals are that their leaves name.
     Holds,
+    /// The document, of the table's store, is one that the left accepts and none of the rights does.
     Refuted(Seq),
+    /// Work on it is still to be done.
     Waiting,
 }
 
@@ -46,12 +50,15 @@ pub struct Choice {
 /// branch and on the rest's in the other; or a goal settles the content, or the rest.
 #[derive(Clone, Copy, Debug)]
 pub enum ChoiceNode {
+    /// The head, and the nodes at which the two branches begin.
     Split {
         right: usize,
         content: usize,
         rest: usize,
     },
+    /// The goal settles the content.
     Content(GoalId),
+    /// The goal settles the rest.
     Rest(GoalId),
 }
 
@@ -93,11 +100,12 @@ impl Model for Table {
 
     ghost Value = { TableView };
 
-    ghost use Rattle.xd_goals.specs.Kept.{IsWhole, view_of};
+    ghost use Rattle.xd_goals.specs.Kept.{view_of};
+    ghost use Rattle.xd_goals.specs.Facts.{IsKept};
 
     ghost view = { λ t. view_of t.goals };
 
-    ghost invariant = { λ t. IsWhole t.goals };
+    ghost invariant = { λ t. IsKept t.goals };
 }
 
 impl GoalId {
@@ -110,6 +118,8 @@ impl GoalId {
 }
 
 impl Table {
+    ghost use Rattle.xd_goals.specs.Facts.{KeepsLists};
+
     /// A table with no goal. It takes no memory.
     pub fn new(alloc: Global) -> Self
         ensures { result ≡ no_view }
@@ -117,6 +127,15 @@ impl Table {
         Self {
             goals: Goals::new(alloc),
         }
+    }
+
+    /// What is so of every table, whatever automaton its goals speak of: no two goals are alike, a tree stands at the root of each
+    /// choice, its case is among the dependents of each goal that a leaf names, and no leaf of a goal that holds names a
+    /// refuted one. The call does nothing; its contract is the law.
+    pub fn see_lists(&self)
+        ensures { KeepsLists self.now }
+    {
+        let _goals = &self.goals;
     }
 
     /// The number of goals.
@@ -144,7 +163,7 @@ impl Table {
         row.left
     }
 
-    /// Its rights: of a goal that was asked, in the order in which they were; of any other, each once, in order of number.
+    /// Its rights: of a goal that was asked, in the order in which they were.
     pub fn rights(&self, goal: GoalId) -> &[State]
         requires { goal.number < length self.now.rows }
         ensures { result.now ≡ (row_at self.now.rows goal.number).rights }
@@ -162,19 +181,22 @@ impl Table {
         row.standing
     }
 
-    /// Its choice trees, in order of head number, then of atom.
+    /// Its choice trees, in order of head number, then of atom. A goal that waits again has those that it had when it held.
     pub fn choices(&self, goal: GoalId) -> &[Choice]
         requires { goal.number < length self.now.rows }
-        ensures { result.now ≡ (row_at self.now.rows goal.number).choices }
+        ensures choices { result.now ≡ (row_at self.now.rows goal.number).choices }
+        ensures roots { AllByRecursion (HasRoot self.now.nodes) result.now }
     {
         let row = &self.goals.rows[goal.number];
         row.choices.as_slice()
     }
 
-    /// A node of a choice tree, by its number: the root of a choice, or a branch of one of its splits.
+    /// A node of a choice tree, by its number: the root of a choice ([`Self::choices`]), or a branch of a split that this call
+    /// gave. The branches of a split have lower numbers, and the goal of a leaf is one of the table.
     pub fn choice_node(&self, number: usize) -> ChoiceNode
         requires { number < length self.now.nodes }
-        ensures { slice_get self.now.nodes number ≡ Some result }
+        ensures node { slice_get self.now.nodes number ≡ Some result }
+        ensures stands { NodeStands (length self.now.rows) number result }
     {
         self.goals.nodes[number]
     }

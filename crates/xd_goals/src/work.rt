@@ -11,7 +11,8 @@ ghost use Rattle.xd_goals.specs.Rows.{IsRefuted, IsUnbroken, claim_of, row_at};
 ghost use Rattle.xd_goals.specs.Kept.{Grows, IsConsistent, IsWhole, view_of};
 ghost use Rattle.xd_goals.specs.Cases.{BeginsAs, FailsAt, IsCaseGrown, IsMended, IsMending, IsSettling, IsUncovered, case_end_of};
 ghost use Rattle.xd_state_heads.specs.Wants.{IsCaseOf};
-ghost use Rattle.xd_goals.specs.Standing.{AreSeparated, ChoiceStands, IsSeparatedBy, KeepsGoals, StandsOn};
+ghost use Rattle.xd_goals.specs.Standing.{AreSeparated, IsSeparatedBy, KeepsGoals};
+ghost use Rattle.xd_goals.specs.Facts.{ChoiceStands, FactsOn};
 ghost use Rattle.xd_goals.specs.Reached.{HasTreeWithin, IsOpenAt};
 ghost use Rattle.xd_goals.specs.Measure.{AreMadeFrom, Lowers};
 ghost use Rattle.xd_goals.specs.declared.table.Standing.TheVariants.{Waiting};
@@ -76,7 +77,7 @@ fn separate(
     behind: Seq,
 ) -> Result<Seq, NoMemory>
     requires owner { owner.number < length goals.now.rows.items }
-    requires stands { StandsOn auto.now store.old (view_of goals.now) }
+    requires stands { FactsOn auto.now store.old (view_of goals.now) }
     requires fails { FailsAt auto.now store.old (view_of goals.now) (claim_of (row_at goals.now.rows.items owner.number)) atom.now inside behind }
     ensures keeps { Keeps store.old store.new }
     ensures separated { IfOk result (IsSeparatedBy auto.now store.new (claim_of (row_at goals.now.rows.items owner.number))) }
@@ -328,11 +329,11 @@ fn mend_case(
     requires owner { owner.goal.number < length goals.old.rows.items }
     requires waits { (row_at goals.old.rows.items owner.goal.number).standing ≡ Waiting }
     requires place { owner.place < length (row_at goals.old.rows.items owner.goal.number).choices }
-    requires stands { StandsOn auto.now store.now (view_of goals.old) }
+    requires stands { FactsOn auto.now store.now (view_of goals.old) }
     requires claim { claim_of (row_at goals.old.rows.items owner.goal.number) ≡ claim_with left rights.now }
     requires right { AreRight auto.now store.now answers.old }
     ensures whole { IsWhole goals.new }
-    ensures stands { StandsOn auto.now store.now (view_of goals.new) }
+    ensures stands { FactsOn auto.now store.now (view_of goals.new) }
     ensures mending { IsMending owner.goal.number (view_of goals.old) (view_of goals.new) }
     ensures mended { IfOk result (IsMended auto.now store.now (view_of goals.new) owner) }
     ensures right { AreRight auto.now store.now answers.new }
@@ -369,11 +370,11 @@ fn refute_at(
     requires whole { IsWhole goals.old }
     requires owner { owner.number < length goals.old.rows.items }
     requires waits { (row_at goals.old.rows.items owner.number).standing ≡ Waiting }
-    requires stands { StandsOn auto.now store.old (view_of goals.old) }
+    requires stands { FactsOn auto.now store.old (view_of goals.old) }
     requires fails { FailsAt auto.now store.old (view_of goals.old) (claim_of (row_at goals.old.rows.items owner.number)) failure.now.atom failure.now.inside failure.now.behind }
     requires right { AreRight auto.now store.old answers.now }
     ensures whole { IsWhole goals.new }
-    ensures stands { StandsOn auto.now store.new (view_of goals.new) }
+    ensures stands { FactsOn auto.now store.new (view_of goals.new) }
     ensures goals { KeepsGoals (view_of goals.old) (view_of goals.new) }
     ensures keeps { Keeps store.old store.new }
     ensures made { AreMadeFrom (length goals.old.rows.items) goals.new.rows.items }
@@ -409,12 +410,12 @@ fn begin_goal(
     requires whole { IsWhole goals.old }
     requires owner { owner.number < length goals.old.rows.items }
     requires waits { (row_at goals.old.rows.items owner.number).standing ≡ Waiting }
-    requires stands { StandsOn auto.now store.old (view_of goals.old) }
+    requires stands { FactsOn auto.now store.old (view_of goals.old) }
     requires claim { claim_of (row_at goals.old.rows.items owner.number) ≡ claim_with left rights.now }
     requires last { is_last_in auto.now left ≡ true → list_any (is_last_in auto.now) rights.now ≡ true }
     requires right { AreRight auto.now store.old answers.old }
     ensures whole { IsWhole goals.new }
-    ensures stands { StandsOn auto.now store.new (view_of goals.new) }
+    ensures stands { FactsOn auto.now store.new (view_of goals.new) }
     ensures goals { KeepsGoals (view_of goals.old) (view_of goals.new) }
     ensures keeps { Keeps store.old store.new }
     ensures made { AreMadeFrom (length goals.old.rows.items) goals.new.rows.items }
@@ -449,11 +450,11 @@ fn mend_goal(
     requires owner { owner.number < length goals.old.rows.items }
     requires waits { (row_at goals.old.rows.items owner.number).standing ≡ Waiting }
     requires begun { ¬ ((row_at goals.old.rows.items owner.number).choices ≡ []) }
-    requires stands { StandsOn auto.now store.old (view_of goals.old) }
+    requires stands { FactsOn auto.now store.old (view_of goals.old) }
     requires claim { claim_of (row_at goals.old.rows.items owner.number) ≡ claim_with left rights.now }
     requires right { AreRight auto.now store.old answers.old }
     ensures whole { IsWhole goals.new }
-    ensures stands { StandsOn auto.now store.new (view_of goals.new) }
+    ensures stands { FactsOn auto.now store.new (view_of goals.new) }
     ensures goals { KeepsGoals (view_of goals.old) (view_of goals.new) }
     ensures keeps { Keeps store.old store.new }
     ensures made { AreMadeFrom (length goals.old.rows.items) goals.new.rows.items }
@@ -488,12 +489,12 @@ fn work_on_cases(
     requires whole { IsWhole goals.old }
     requires owner { owner.number < length goals.old.rows.items }
     requires waits { (row_at goals.old.rows.items owner.number).standing ≡ Waiting }
-    requires stands { StandsOn auto.now store.old (view_of goals.old) }
+    requires stands { FactsOn auto.now store.old (view_of goals.old) }
     requires claim { claim_of (row_at goals.old.rows.items owner.number) ≡ claim_with left rights.now }
     requires last { is_last_in auto.now left ≡ true → list_any (is_last_in auto.now) rights.now ≡ true }
     requires right { AreRight auto.now store.old answers.old }
     ensures whole { IsWhole goals.new }
-    ensures stands { StandsOn auto.now store.new (view_of goals.new) }
+    ensures stands { FactsOn auto.now store.new (view_of goals.new) }
     ensures goals { KeepsGoals (view_of goals.old) (view_of goals.new) }
     ensures keeps { Keeps store.old store.new }
     ensures made { AreMadeFrom (length goals.old.rows.items) goals.new.rows.items }
@@ -520,10 +521,10 @@ pub(crate) fn work(
     requires whole { IsWhole goals.old }
     requires owner { owner.number < length goals.old.rows.items }
     requires waits { (row_at goals.old.rows.items owner.number).standing ≡ Waiting }
-    requires stands { StandsOn auto.now store.old (view_of goals.old) }
+    requires stands { FactsOn auto.now store.old (view_of goals.old) }
     requires right { AreRight auto.now store.old answers.old }
     ensures whole { IsWhole goals.new }
-    ensures stands { StandsOn auto.now store.new (view_of goals.new) }
+    ensures stands { FactsOn auto.now store.new (view_of goals.new) }
     ensures goals { KeepsGoals (view_of goals.old) (view_of goals.new) }
     ensures keeps { Keeps store.old store.new }
     ensures made { AreMadeFrom (length goals.old.rows.items) goals.new.rows.items }

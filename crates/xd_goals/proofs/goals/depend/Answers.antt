@@ -4,6 +4,7 @@ use Rattle.xd_state_heads.specs.Moves.{IsInOrder}
 use Rattle.xd_goals.specs.Rows.{GoalRow, Leads}
 use Rattle.xd_goals.proofs.Growing.{Grows-same, Leads-begins}
 use Rattle.xd_goals.proofs.Linking.{linked_now, row_read, IsLinkedNow}
+use Rattle.xd_goals.proofs.Itself.{nodes_longer}
 use Rattle.xd_goals.proofs.goals.depend.Goals as goal
 
 pub returns-then-begins_with-clause-listed : goal.returns-then-begins_with-clause-listed
@@ -20,7 +21,7 @@ linked c =
     c.set_dependents.ensures c.in_ok-push.ensures.items
 
 pub returns-clause-consistent : goal.returns-clause-consistent
-returns-clause-consistent c = record { states = (linked c).states c.args.states c.requires.consistent.states; index = (linked c).index c.args.goals.now.found c.requires.consistent.index; links = (linked c).linked c.requires.owner c.requires.consistent.links }
+returns-clause-consistent c = record { states = (linked c).states c.args.states c.requires.consistent.states; index = (linked c).index c.args.goals.now.found c.requires.consistent.index; links = (linked c).linked c.requires.owner c.requires.consistent.links; nodes = nodes_longer c.args.goals.now.rows.items c.set_dependents.new.rows.items c.args.goals.now.nodes.items (linked c).grows.longer c.requires.consistent.nodes }
 
 pub returns-clause-grows : goal.returns-clause-grows
 returns-clause-grows c = (linked c).grows

@@ -6,6 +6,7 @@ use Rattle.xd_goals.specs.Rows.{claim_key}
 use Rattle.xd_goals.specs.Kept.{found_at}
 use Rattle.xd_goals.proofs.Linking.{added_grows, added_states, added_linked, added_index, added_claim, added_there}
 use Rattle.xd_goals.proofs.Growing.{found_claim, claim_within}
+use Rattle.xd_goals.proofs.Itself.{nodes_longer}
 use Rattle.xd_goals.proofs.goals.find_or_add.Goals as goal
 
 pub returns-in-Some-clause-found : goal.returns-in-Some-clause-found
@@ -28,6 +29,9 @@ returns-in-None-clause-consistent c = record {
       c.args.left c.args.rights.now c.add_row.ensures.ok c.add_row.ensures.err (rw c.in_ok-key.ensures at c.add_row.ensures.found) c.add_row.ensures.lost (absent c) c.requires.consistent.index;
   links = added_linked c.add_row.result c.args.goals.now.rows.items c.add_row.new.rows.items c.args.goals.now.found c.add_row.new.found c.args.goals.now.nodes.items c.args.goals.now.links.items
       c.args.left c.args.rights.now c.add_row.ensures.ok c.add_row.ensures.err c.requires.consistent.links;
+  nodes = nodes_longer c.args.goals.now.rows.items c.add_row.new.rows.items c.args.goals.now.nodes.items
+      (added_grows c.add_row.result c.args.goals.now.rows.items c.add_row.new.rows.items c.args.goals.now.found c.add_row.new.found c.args.goals.now.nodes.items c.args.goals.now.links.items
+      c.args.left c.args.rights.now c.add_row.ensures.ok c.add_row.ensures.err).longer c.requires.consistent.nodes;
 }
 
 pub returns-in-None-clause-grows : goal.returns-in-None-clause-grows

@@ -4,7 +4,7 @@ use Rattle.xd_goals.proofs.Stepping.{asked_kept, asked_stands, keeps-same, whole
 use Rattle.xd_goals.proofs.inclusion.decide_in.Goals as goal
 
 pub find_or_add-requires-clause-consistent : goal.find_or_add-requires-clause-consistent
-find_or_add-requires-clause-consistent c = record { states = rw c.len.ensures.value c.requires.stands.facts.states; index = c.requires.whole.index; links = c.requires.whole.links }
+find_or_add-requires-clause-consistent c = record { states = rw c.len.ensures.value c.requires.stands.facts.states; index = c.requires.whole.index; links = c.requires.whole.links; nodes = c.requires.whole.nodes }
 
 pub find_or_add-requires-clause-rights : goal.find_or_add-requires-clause-rights
 find_or_add-requires-clause-rights c = rw c.len.ensures.value c.requires.rights

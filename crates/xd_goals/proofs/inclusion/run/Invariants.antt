@@ -4,14 +4,15 @@ use Rattle.xd_doc.specs.Stored.{Keeps}
 use Rattle.xd_member.specs.Kept.{AreRight}
 use Rattle.xd_goals.specs.Kept.{IsWhole, view_of}
 use Rattle.xd_goals.specs.Measure.{AreMadeFrom, Lowers, possible, potential}
-use Rattle.xd_goals.specs.Standing.{KeepsGoals, StandsOn}
+use Rattle.xd_goals.specs.Standing.{KeepsGoals}
+use Rattle.xd_goals.specs.Facts.{FactsOn}
 use Rattle.xd_goals.specs.Verdicts.{IsGoalBelow}
 use Rattle.xd_goals.proofs.inclusion.run.Given as goal
 
 abbrev pub invariant-loop-goal : goal.invariant-loop-goal
 invariant-loop-goal l = record {
   whole : IsWhole l.goals;
-  stands : StandsOn l.auto' l.store (view_of l.goals);
+  stands : FactsOn l.auto' l.store (view_of l.goals);
   kept : KeepsGoals (view_of l.fn.goals) (view_of l.goals);
   keeps : Keeps l.fn.store l.store;
   right : AreRight l.auto' l.store l.answers;

@@ -13,7 +13,7 @@ use Rattle.xd_goals.proofs.Stepping.{IsStep, held_by, keeps-same, owner_claim, s
 use Rattle.xd_goals.proofs.work.begin_goal.Goals as goal
 
 pub begin-requires-clause-consistent : goal.begin-requires-clause-consistent
-begin-requires-clause-consistent c = record { states = c.requires.stands.facts.states; index = c.requires.whole.index; links = c.requires.whole.links }
+begin-requires-clause-consistent c = record { states = c.requires.stands.facts.states; index = c.requires.whole.index; links = c.requires.whole.links; nodes = c.requires.whole.nodes }
 
 pub begin-requires-clause-left : goal.begin-requires-clause-left
 begin-requires-clause-left c = subst (λ (x : Claim State). x.left.number < length c.args.auto.now) c.requires.claim (c.requires.stands.facts.states.each c.args.owner.number c.requires.owner).left
@@ -49,8 +49,8 @@ refute_at-requires-clause-fails c =
 pub returns-in_ok-broken-in-Holds-clause-whole : goal.returns-in_ok-broken-in-Holds-clause-whole
 returns-in_ok-broken-in-Holds-clause-whole c =
     let same = same_held_by c.args.auto.now c.args.store.now (view_of c.begin.new.goals) c.args.owner.number c.in-Holds.made.items c.in_ok-broken-in-Holds.broken.items (omega (arith, c.begin.ensures.grows.longer, c.requires.owner)) (standing-grows (view_of c.args.goals.now) (view_of c.begin.new.goals) c.begin.ensures.grows c.args.owner.number ∙ c.requires.waits) in
-    let w = whole_same c.begin.new.goals.rows.items _ c.begin.new.goals.links.items c.begin.new.goals.found same c.begin.ensures.consistent.index c.begin.ensures.consistent.links in
-    record { index = rw c.hold.ensures w.0; links = rw c.hold.ensures w.1 }
+    let w = whole_same c.begin.new.goals.rows.items _ c.begin.new.goals.nodes.items c.begin.new.goals.links.items c.begin.new.goals.found same c.begin.ensures.consistent.index c.begin.ensures.consistent.links c.begin.ensures.consistent.nodes in
+    record { index = rw c.hold.ensures w.0; links = rw c.hold.ensures w.1; nodes = rw c.hold.ensures w.2 }
 
 -- what settles the goal, and the goals that are the same then
 held : (c : goal.After-hold) → IsStep c.args.auto.now c.args.store.now (view_of c.args.goals.now) (record { rows = c.hold.new.rows.items; nodes = c.begin.new.goals.nodes.items; links = c.begin.new.goals.links.items })

@@ -6,7 +6,7 @@ use Rattle.xd_rules.specs.Rules.{Claim}
 use Rattle.xd_state_heads.specs.Moves.{claim_with}
 use Rattle.xd_goals.specs.Cases.{FailsAt}
 use Rattle.xd_goals.specs.Kept.{view_of}
-use Rattle.xd_goals.specs.Standing.{ChoiceStands}
+use Rattle.xd_goals.specs.Facts.{ChoiceStands}
 use Rattle.xd_goals.proofs.Trees.{broken-grows, choices-grows}
 use Rattle.xd_goals.proofs.Stepping.{owner_claim, stands_grown, whole_of}
 use Rattle.xd_goals.proofs.Mending.{mending-grows, mending-same, repaired_mending, repaired_stands, repaired_unbroken, repaired_whole}
@@ -33,7 +33,7 @@ pub returns-in-Stands-clause-whole : goal.returns-in-Stands-clause-whole
 returns-in-Stands-clause-whole c =
     let w = repaired_whole c.args.auto.now c.args.store.now c.args.goals.now c.mend_choice.new.goals c.mend_choice.ensures.grows c.mend_choice.ensures.consistent c.args.owner (claim_with c.args.left c.args.rights.now) c.in_ok-choice.choice c.in-Stands.root c.set_root.new.rows.items
     c.requires.owner c.requires.waits c.requires.claim (rw c.deref.ensures.value at c.in_ok-choice.ensures) c.requires.stands (rw c.in-Stands.is at c.in_ok-root.ensures.grown) c.set_root.ensures in
-    record { index = w.0; links = w.1 }
+    record { index = w.0; links = w.1; nodes = w.2 }
 
 pub returns-in-Stands-clause-stands : goal.returns-in-Stands-clause-stands
 returns-in-Stands-clause-stands c =
@@ -73,7 +73,7 @@ pub choice_of-requires-clause-choice : goal.choice_of-requires-clause-choice
 choice_of-requires-clause-choice c = rw c.deref.ensures.value c.requires.place
 
 pub mend_choice-requires-clause-consistent : goal.mend_choice-requires-clause-consistent
-mend_choice-requires-clause-consistent c = record { states = c.requires.stands.facts.states; index = c.requires.whole.index; links = c.requires.whole.links }
+mend_choice-requires-clause-consistent c = record { states = c.requires.stands.facts.states; index = c.requires.whole.index; links = c.requires.whole.links; nodes = c.requires.whole.nodes }
 
 pub mend_choice-requires-clause-left : goal.mend_choice-requires-clause-left
 mend_choice-requires-clause-left c = subst (λ (x : Claim State). x.left.number < length c.args.auto.now) c.requires.claim (c.requires.stands.facts.states.each c.args.owner.goal.number c.requires.owner).left

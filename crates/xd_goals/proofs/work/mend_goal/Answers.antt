@@ -81,8 +81,8 @@ pub returns-clause-whole : goal.returns-clause-whole
 returns-clause-whole c =
     let same = repaired_same c.args.auto.now c.loop-place.store c.args.owner.number (view_of c.args.goals.now) (view_of c.loop-place.goals) c.requires.owner c.requires.waits c.requires.begun c.requires.stands.facts c.loop-place.invariant.stands
     c.loop-place.invariant.mending (λ k lt. c.loop-place.invariant.unbroken k (omega (arith, c.loop-place-test.false, c.loop-place.invariant.end_is, lt))) in
-    let w = whole_same c.loop-place.goals.rows.items _ c.loop-place.goals.links.items c.loop-place.goals.found same c.loop-place.invariant.whole.index c.loop-place.invariant.whole.links in
-    record { index = rw c.set_standing.ensures w.0; links = rw c.set_standing.ensures w.1 }
+    let w = whole_same c.loop-place.goals.rows.items _ c.loop-place.goals.nodes.items c.loop-place.goals.links.items c.loop-place.goals.found same c.loop-place.invariant.whole.index c.loop-place.invariant.whole.links c.loop-place.invariant.whole.nodes in
+    record { index = rw c.set_standing.ensures w.0; links = rw c.set_standing.ensures w.1; nodes = rw c.set_standing.ensures w.2 }
 
 -- all cases were repaired
 held : (c : goal.After-set_standing) → IsStep c.args.auto.now c.loop-place.store (view_of c.args.goals.now) (record { rows = c.set_standing.new.rows.items; nodes = c.loop-place.goals.nodes.items; links = c.loop-place.goals.links.items })

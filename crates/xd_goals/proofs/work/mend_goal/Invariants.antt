@@ -3,14 +3,14 @@ use Rattle.xd_doc.specs.Stored.{Keeps}
 use Rattle.xd_member.specs.Kept.{AreRight}
 use Rattle.xd_goals.specs.Rows.{row_at, IsUnbroken}
 use Rattle.xd_goals.specs.Kept.{IsWhole, view_of}
-use Rattle.xd_goals.specs.Standing.{StandsOn}
+use Rattle.xd_goals.specs.Facts.{FactsOn}
 use Rattle.xd_goals.specs.Cases.{IsMending}
 use Rattle.xd_goals.proofs.work.mend_goal.Given as goal
 
 abbrev pub invariant-loop-place : goal.invariant-loop-place
 invariant-loop-place l = record {
   whole : IsWhole l.goals;
-  stands : StandsOn l.auto' l.store (view_of l.goals);
+  stands : FactsOn l.auto' l.store (view_of l.goals);
   mending : IsMending l.owner.number (view_of l.initial.goals) (view_of l.goals);
   keeps : Keeps l.initial.store l.store;
   right : AreRight l.auto' l.store l.answers;

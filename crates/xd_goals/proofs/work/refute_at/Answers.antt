@@ -12,8 +12,8 @@ pub returns-clause-whole : goal.returns-clause-whole
 returns-clause-whole c =
     let same = same_refuted c.args.auto.now c.separate.new.store c.args.goals.now.rows.items c.refute.new.rows.items c.args.goals.now.nodes.items c.args.goals.now.links.items c.args.owner.number c.in_ok-document.document c.requires.owner c.requires.waits
     (rw c.deref.ensures.value at c.refute.ensures) in
-    let w = whole_same c.args.goals.now.rows.items c.refute.new.rows.items c.args.goals.now.links.items c.args.goals.now.found same c.requires.whole.index c.requires.whole.links in
-    record { index = w.0; links = w.1 }
+    let w = whole_same c.args.goals.now.rows.items c.refute.new.rows.items c.args.goals.now.nodes.items c.args.goals.now.links.items c.args.goals.now.found same c.requires.whole.index c.requires.whole.links c.requires.whole.nodes in
+    record { index = w.0; links = w.1; nodes = w.2 }
 
 pub returns-clause-stands : goal.returns-clause-stands
 returns-clause-stands c = (refuted c).stands

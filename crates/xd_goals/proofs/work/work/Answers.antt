@@ -28,8 +28,8 @@ pub returns-then-is_uncovered-clause-whole : goal.returns-then-is_uncovered-clau
 returns-then-is_uncovered-clause-whole c =
     let same = same_refuted c.args.auto.now c.args.store.now c.args.goals.now.rows.items c.refute.new.rows.items c.args.goals.now.nodes.items c.args.goals.now.links.items c.args.owner.number c.empty.result c.requires.owner c.requires.waits
     (rw c.deref-then-is_uncovered.ensures.value at c.refute.ensures) in
-    let w = whole_same c.args.goals.now.rows.items c.refute.new.rows.items c.args.goals.now.links.items c.args.goals.now.found same c.requires.whole.index c.requires.whole.links in
-    record { index = w.0; links = w.1 }
+    let w = whole_same c.args.goals.now.rows.items c.refute.new.rows.items c.args.goals.now.nodes.items c.args.goals.now.links.items c.args.goals.now.found same c.requires.whole.index c.requires.whole.links c.requires.whole.nodes in
+    record { index = w.0; links = w.1; nodes = w.2 }
 
 pub returns-then-is_uncovered-clause-stands : goal.returns-then-is_uncovered-clause-stands
 returns-then-is_uncovered-clause-stands c = (refuted c).stands
