@@ -1,7 +1,7 @@
 -- Programs whose faults of matches, arguments and results, and whose warnings, are what they should be, and no others.
 use Rattle.std.proofs.Common.{◌≡◌, ℕ, true, false, ◌&&◌, inl, inr, List, [], ◌∷◌, ◌++◌, refl, ap, subst, ◌∙◌}
 use Rattle.std.specs.Prelude.{codes}
-use Rattle.xd_doc.specs.Document.{Document, empty, text, element, join, is_proper}
+use Rattle.xd_doc.specs.Document.{Document, empty, text, element, join, is_proper, size}
 use Rattle.xd_doc.specs.Word.{is_word}
 use Rattle.xd_doc.specs.Classes.{LabelClass}
 use Rattle.xd_syntax.specs.Words.{any_word}
@@ -14,7 +14,7 @@ use Rattle.xd_syntax.specs.May.{Scope, parameters_scope}
 use Rattle.xd_syntax.specs.CheckFaults.{Line, wrong_result, not_exhaustive, LineWhere, Misfits, IsLiveIn, Comes, LinesOfFunctions, LinesOfClauses, lines_in_order, AreLines, IsAccepted}
 use Rattle.xd_laws.specs.Meaning.{Done, meaning}
 use Rattle.xd_laws.specs.LineSamples.{at_place, one, leaf_at, x_variable as x, fault_line, warning_line, some_from_any, endless_type, SampleLines}
-use Rattle.xd_laws.proofs.OneLines.{first_alone, no_such_line}
+use Rattle.xd_laws.proofs.OneLines.{empty_least, first_alone, no_such_line}
 use Rattle.xd_laws.proofs.TelephoneSamples.{whole_has_lines, without_last_has_lines, exchanged_has_lines}
 use Rattle.xd_laws.proofs.WordLists.{both}
 use Rattle.xd_laws.proofs.FitsLaws.{element_only, plus_only, star_only, defined_name}
@@ -45,21 +45,22 @@ only_empty_misfits d f n =
 some_from_any_lines : AreLines some_from_any (fault_line (at_place 1 35) wrong_result empty ∷ [])
 some_from_any_lines = record {
   found = fault_line (at_place 1 35) wrong_result empty ∷ [];
-  all = (fault_line (at_place 1 35) wrong_result empty ∷ [], [], ([], fault_line (at_place 1 35) wrong_result empty ∷ [], refl, inl (empty, refl, empty_misfits, refl), refl), refl, refl);
+  all = (fault_line (at_place 1 35) wrong_result empty ∷ [], [], ([], fault_line (at_place 1 35) wrong_result empty ∷ [], refl, inl (empty, empty_least _ empty_misfits, refl), refl), refl, refl);
   ordered = refl;
 }
 
 some_from_any_no_others : (ls : List Line) → AreLines some_from_any ls → ls ≡ fault_line (at_place 1 35) wrong_result empty ∷ []
 some_from_any_no_others ls m = m.ordered ∙ ap lines_in_order (only m.found m.all)
   where
-    result_line : (ls : List Line) → LineWhere (at_place 1 35) wrong_result
+    result_line : (ls : List Line) → LineWhere size (at_place 1 35) wrong_result
         (Misfits some_from_any (parameters_scope (record { name = x; place = at_place 1 15; declared = Star_at (at_place 1 20) (leaf_at (at_place 1 20) (codes "a")) } ∷ []))
         (Variable (at_place 1 35) x) (Plus_at (at_place 1 28) (leaf_at (at_place 1 28) (codes "a")))) ls →
         ls ≡ fault_line (at_place 1 35) wrong_result empty ∷ []
-    result_line ls (inl h) = h.3 ∙ ap (λ d. fault_line (at_place 1 35) wrong_result d ∷ []) (only_empty_misfits h.0 (h.2).0 (h.2).1)
+    result_line ls (inl h) =
+        let w = ((h.1).within).meets in h.2 ∙ ap (λ d. fault_line (at_place 1 35) wrong_result d ∷ []) (only_empty_misfits h.0 w.0 w.1)
     result_line ls (inr h) = absurd (h.0 empty refl empty_misfits)
 
-    only : (found : List Line) → LinesOfFunctions some_from_any some_from_any.functions found → found ≡ fault_line (at_place 1 35) wrong_result empty ∷ []
+    only : (found : List Line) → LinesOfFunctions size some_from_any some_from_any.functions found → found ≡ fault_line (at_place 1 35) wrong_result empty ∷ []
     only found m =
         first_alone found m.0 m.1 m.4 m.3 ∙ (m.2).4 ∙ ap (λ r. r ++ (m.2).1) (m.2).2 ∙ result_line (m.2).1 (m.2).3
 
@@ -117,13 +118,13 @@ endless_type_accepted = (warning_line (at_place 2 41) ∷ [], endless_type_lines
 endless_type_no_others : (ls : List Line) → AreLines endless_type ls → ls ≡ warning_line (at_place 2 41) ∷ []
 endless_type_no_others ls m = m.ordered ∙ ap lines_in_order (only m.found m.all)
   where
-    warned : (ls : List Line) → LinesOfClauses endless_type endless_scope (at_place 2 28) (Variable (at_place 2 34) x) []
+    warned : (ls : List Line) → LinesOfClauses size endless_type endless_scope (at_place 2 28) (Variable (at_place 2 34) x) []
         (clause (Empty_at (at_place 2 41)) (Tagged (at_place 2 47) (codes "b") (Nothing (at_place 2 49))) no_clause) ls → ls ≡ warning_line (at_place 2 41) ∷ []
     warned ls m =
         first_alone ls m.0 m.1 m.4 (no_such_line (at_place 2 28) not_exhaustive (Comes endless_type endless_scope (Variable (at_place 2 34) x) (Empty_at (at_place 2 41) ∷ [])) m.1 nothing_comes m.3)
         ∙ elim m.2 [ inl l ↦ absurd (not_live l.0) | inr l ↦ l.1 ]
 
-    only : (found : List Line) → LinesOfFunctions endless_type endless_type.functions found → found ≡ warning_line (at_place 2 41) ∷ []
+    only : (found : List Line) → LinesOfFunctions size endless_type endless_type.functions found → found ≡ warning_line (at_place 2 41) ∷ []
     only found m =
         first_alone found m.0 m.1 m.4 m.3
         ∙ first_alone m.0 (m.2).0 (m.2).1 (m.2).4 (no_such_line (at_place 2 28) wrong_result _ (m.2).1 nothing_misfits (m.2).3)

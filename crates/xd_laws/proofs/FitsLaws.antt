@@ -2,13 +2,10 @@
 use Rattle.std.proofs.Common.{◌≡◌, ℕ, true, ◌⊎◌, inl, inr, List, Some, None, refl, sym, ◌∙◌, subst}
 use Rattle.xd_doc.specs.Document.{Document, empty, text, element, join, has_item}
 use Rattle.xd_doc.specs.Classes.{LabelClass}
-use Rattle.xd_syntax.specs.Tree.{Tree, Empty, Text, Name, Elem, Seq, Alt, Star, Plus, Opt, Definitions, body, environment, any_type}
+use Rattle.xd_syntax.specs.Tree.{Tree, Text, Name, Elem, Seq, Star, Plus, Opt, Definitions, body, environment, any_type}
 use Rattle.xd_syntax.specs.Words.{any_word}
-use Rattle.xd_syntax.specs.Fits.{Fits, fits_empty, fits_text, fits_elem, fits_seq, fits_left, fits_right, fits_no_turn, fits_turn, fits_plus, fits_absent, fits_present, fits_name, Split}
+use Rattle.xd_syntax.specs.Fits.{Fits, fits_text, fits_elem, fits_seq, fits_left, fits_right, fits_no_turn, fits_turn, fits_plus, fits_absent, fits_present, fits_name, Split}
 use Rattle.xd_laws.specs.FitsWithin.{IsOneText, IsOneElement}
-
-pub empty_only : (E : Definitions) (d : Document) → Fits E Empty d → d ≡ empty
-empty_only E _ fits_empty = refl
 
 pub text_only : (E : Definitions) (d : Document) → Fits E Text d → IsOneText d
 text_only E _ fits_text = refl
@@ -21,17 +18,8 @@ text_fits E (element l c r) h = absurd h
 pub element_only : (E : Definitions) (k : LabelClass) (T : Tree) (d : Document) → Fits E (Elem k T) d → IsOneElement k (Fits E T) d
 element_only E k T _ (fits_elem h f) = (refl, h, f)
 
-pub element_fits : (E : Definitions) (k : LabelClass) (T : Tree) (d : Document) → IsOneElement k (Fits E T) d → Fits E (Elem k T) d
-element_fits E k T empty h = absurd h
-element_fits E k T (text s r) h = absurd h
-element_fits E k T (element l c r) h = subst (λ q. Fits E (Elem k T) (element l c q)) (sym h.0) (fits_elem h.1 h.2)
-
 pub seq_only : (E : Definitions) (T U : Tree) (d : Document) → Fits E (Seq T U) d → Split (Fits E T) (Fits E U) d
 seq_only E T U d (fits_seq a b e f g) = (a, b, e, f, g)
-
-pub alt_only : (E : Definitions) (T U : Tree) (d : Document) → Fits E (Alt T U) d → Fits E T d ⊎ Fits E U d
-alt_only E T U d (fits_left f) = inl f
-alt_only E T U d (fits_right f) = inr f
 
 pub plus_only : (E : Definitions) (T : Tree) (d : Document) → Fits E (Plus T) d → Split (Fits E T) (Fits E (Star T)) d
 plus_only E T d (fits_plus a b e f g) = (a, b, e, f, g)

@@ -16,7 +16,6 @@ pub mod Samples
 mod CheckSamples
 mod TelephoneSamples
 mod ConsistentSamples
-pub mod IdentityAccepted
 pub mod FirstWrong
 pub mod SameTrees
 pub mod BreachLaw
@@ -35,3 +34,4 @@ pub mod SafeValues
 pub mod SafePrograms
 pub mod SameScopes
 pub mod OneLines
+pub mod LeastLines

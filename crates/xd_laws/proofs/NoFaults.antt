@@ -2,7 +2,7 @@
 use Rattle.std.proofs.Common.{◌≡◌, ℕ, Bool, true, false, cond, inl, inr, List, [], ◌∷◌, ◌++◌, map, flat_map, Some, refl, ap, sym, subst, ◌∙◌}
 use Rattle.std.specs.Str.{bytes_eq}
 use Rattle.xd_base.specs.declared.Place.{Place}
-use Rattle.xd_doc.specs.Document.{Document, is_proper}
+use Rattle.xd_doc.specs.Document.{Document, is_proper, size}
 use Rattle.xd_syntax.specs.Ways.{Among}
 use Rattle.xd_syntax.specs.Program.{TypeDefinition, Parameter, FunctionDefinition, ProgramTree, function_of}
 use Rattle.xd_syntax.specs.NameFaults.{duplicate_names, unknown_types, known_types, expression_faults, function_faults, name_faults}
@@ -53,11 +53,11 @@ no_faults_of ls xs ys e q =
     let r = warnings_both xs ys (warnings_alone (xs ++ ys) (ap faults_among (sym e) ∙ q)) in (no_fault_among xs r.0, no_fault_among ys r.1)
 
 -- where a fault would stand there is no such document
-pub no_line : (p : Place) (k : LineKind) (A : Document → Type 0) (ls : List Line) → is_warning k ≡ false → LineWhere p k A ls → faults_among ls ≡ [] →
+pub no_line : (p : Place) (k : LineKind) (A : Document → Type 0) (ls : List Line) → is_warning k ≡ false → LineWhere size p k A ls → faults_among ls ≡ [] →
     (d : Document) → is_proper d ≡ true → A d → ⊥
 no_line p k A ls w (inl h) q d i j =
     let l : Line = record { place = p; kind = k; document = Some h.0 } in
-    let a : AreWarnings (l ∷ []) = warnings_alone (l ∷ []) (ap faults_among (sym h.3) ∙ q) in
+    let a : AreWarnings (l ∷ []) = warnings_alone (l ∷ []) (ap faults_among (sym h.2) ∙ q) in
     let f : true ≡ false = sym a.0 ∙ w in absurd (cc)
 no_line p k A ls w (inr h) q d i j = h.0 d i j
 
@@ -71,15 +71,15 @@ function_among (g ∷ gs) x f e = go (bytes_eq g.name x) e (λ k. function_among
     go true k rec = inl (cc)
     go false k rec = inr (rec k)
 
-lines_of_one : (P : ProgramTree) (fs : List FunctionDefinition) (ls : List Line) → LinesOfFunctions P fs ls → faults_among ls ≡ [] →
-    (f : FunctionDefinition) → Among f fs → (ms : List Line) × LinesOfFunction P f ms × (faults_among ms ≡ [])
+lines_of_one : (P : ProgramTree) (fs : List FunctionDefinition) (ls : List Line) → LinesOfFunctions size P fs ls → faults_among ls ≡ [] →
+    (f : FunctionDefinition) → Among f fs → (ms : List Line) × LinesOfFunction size P f ms × (faults_among ms ≡ [])
 lines_of_one P [] ls l q f m = absurd m
 lines_of_one P (g ∷ gs) ls l q f (inl e) =
-    let r = no_faults_of ls l.0 l.1 l.4 q in (l.0, subst (λ h. LinesOfFunction P h l.0) e l.2, r.0)
+    let r = no_faults_of ls l.0 l.1 l.4 q in (l.0, subst (λ h. LinesOfFunction size P h l.0) e l.2, r.0)
 lines_of_one P (g ∷ gs) ls l q f (inr m) =
     let r = no_faults_of ls l.0 l.1 l.4 q in lines_of_one P gs l.1 l.3 r.1 f m
 
-pub function_lines : (P : ProgramTree) → IsAccepted P → (f : FunctionDefinition) → Among f P.functions → (ms : List Line) × LinesOfFunction P f ms × (faults_among ms ≡ [])
+pub function_lines : (P : ProgramTree) → IsAccepted P → (f : FunctionDefinition) → Among f P.functions → (ms : List Line) × LinesOfFunction size P f ms × (faults_among ms ≡ [])
 function_lines P a f m =
     let found = (a.1).found in
     let q : faults_among (ordered_after line_precedes [] found) ≡ [] = ap faults_among (sym (a.1).ordered) ∙ a.2 in

@@ -1,14 +1,15 @@
--- A program has one list of lines, but for the documents that they carry.
-use Rattle.std.proofs.Common.{◌≡◌, Bool, true, false, cond, inl, inr, List, [], ◌∷◌, ◌++◌, None, refl, ap, sym, subst, ◌∙◌, append-nil}
+-- A program has one list of lines, but for the documents that they carry, and these have the same sizes.
+use Rattle.std.proofs.Common.{◌≡◌, ℕ, ◌≤◌, Bool, true, false, cond, inl, inr, List, [], ◌∷◌, ◌++◌, None, Some, refl, ap, sym, subst, ◌∙◌, append-nil, arith}
 use Rattle.xd_base.specs.declared.Place.{Place}
-use Rattle.xd_doc.specs.Document.{Document, is_proper}
+use Rattle.xd_doc.specs.Document.{Document, empty, is_proper, size}
+use Rattle.xd_doc.specs.Least.{IsLeast}
 use Rattle.xd_syntax.specs.Placed.{PlacedTree, place_of}
 use Rattle.xd_syntax.specs.Expression.{Expression, Nothing, Quoted, Variable, Tagged, Joined, Called, Matched, Arguments, no_argument, argument, Clauses, no_clause, clause, place_of_expression}
 use Rattle.xd_syntax.specs.Program.{Parameter, FunctionDefinition, ProgramTree, function_of}
 use Rattle.xd_syntax.specs.May.{Scope, clause_entry, parameters_scope}
 use Rattle.xd_syntax.specs.Order.{put_in, ordered_after}
 use Rattle.xd_laws.specs.KeptLines.{AllPaired}
-use Rattle.xd_syntax.specs.CheckFaults.{Line, LineKind, line_precedes, lines_in_order, LineWhere, Both, Misfits, dead_clause, wrong_argument, wrong_result, not_exhaustive, parameters_of, Comes, LinesOf, LinesOfArguments, LinesOfClauses, LinesOfFunction, LinesOfFunctions, AreLines, IsLiveIn}
+use Rattle.xd_syntax.specs.CheckFaults.{Line, LineKind, line_precedes, lines_in_order, LineWhere, IsProperWith, Both, Misfits, dead_clause, wrong_argument, wrong_result, not_exhaustive, parameters_of, Comes, LinesOf, LinesOfArguments, LinesOfClauses, LinesOfFunction, LinesOfFunctions, AreLines, IsLiveIn}
 use Rattle.xd_laws.specs.SameLines.{IsSameLine, LinesAreOne}
 
 abbrev Same : List Line → List Line → Type 0
@@ -36,37 +37,41 @@ both_same : (A B : List Line → Type 0) → ((ls ms : List Line) → A ls → A
 both_same A B f g ls ms a b =
     along ls ms (a.0 ++ a.1) (b.0 ++ b.1) a.4 b.4 (same_joined a.0 b.0 a.1 b.1 (f a.0 b.0 a.2 b.2) (g a.1 b.1 a.3 b.3))
 
-line_same : (p : Place) (k : LineKind) (A : Document → Type 0) (ls ms : List Line) → LineWhere p k A ls → LineWhere p k A ms → Same ls ms
-line_same p k A ls ms (inl a) (inl b) = along ls ms _ _ a.3 b.3 (record { place = refl; kind = refl; carries = refl }, tt)
-line_same p k A ls ms (inl a) (inr b) = absurd (b.0 a.0 a.1 a.2)
-line_same p k A ls ms (inr a) (inl b) = absurd (a.0 b.0 b.1 b.2)
+neither_smaller : (m n : ℕ) → m ≤ n → n ≤ m → m ≡ n
+neither_smaller m n a b = omega arith
+
+line_same : (p : Place) (k : LineKind) (A : Document → Type 0) (ls ms : List Line) → LineWhere size p k A ls → LineWhere size p k A ms → Same ls ms
+line_same p k A ls ms (inl a) (inl b) =
+    along ls ms _ _ a.2 b.2 (record { place = refl; kind = refl; carries = ap Some (neither_smaller (size a.0) (size b.0) ((a.1).least b.0 (b.1).within) ((b.1).least a.0 (a.1).within)) }, tt)
+line_same p k A ls ms (inl a) (inr b) = let w = (a.1).within in absurd (b.0 a.0 w.proper w.meets)
+line_same p k A ls ms (inr a) (inl b) = let w = (b.1).within in absurd (a.0 b.0 w.proper w.meets)
 line_same p k A ls ms (inr a) (inr b) = nothing_same ls ms a.1 b.1
 
 mutual
-  expression_same : (P : ProgramTree) (S : Scope) (e : Expression) (ls ms : List Line) → LinesOf P S e ls → LinesOf P S e ms → Same ls ms
+  expression_same : (P : ProgramTree) (S : Scope) (e : Expression) (ls ms : List Line) → LinesOf size P S e ls → LinesOf size P S e ms → Same ls ms
   expression_same P S (Nothing p) ls ms a b = nothing_same ls ms a b
   expression_same P S (Quoted p s) ls ms a b = nothing_same ls ms a b
   expression_same P S (Variable p x) ls ms a b = nothing_same ls ms a b
   expression_same P S (Tagged p l e) ls ms a b = expression_same P S e ls ms a b
   expression_same P S (Joined p e f) ls ms a b =
-      both_same (LinesOf P S e) (LinesOf P S f) (λ ks js c d. expression_same P S e ks js c d) (λ ks js c d. expression_same P S f ks js c d) ls ms a b
+      both_same (LinesOf size P S e) (LinesOf size P S f) (λ ks js c d. expression_same P S e ks js c d) (λ ks js c d. expression_same P S f ks js c d) ls ms a b
   expression_same P S (Called p f es) ls ms a b = arguments_same P S (parameters_of (function_of P.functions f)) es ls ms a b
   expression_same P S (Matched p e cs) ls ms a b =
-      both_same (LinesOf P S e) (LinesOfClauses P S p e [] cs) (λ ks js c d. expression_same P S e ks js c d) (λ ks js c d. clauses_same P S p e [] cs ks js c d) ls ms a b
+      both_same (LinesOf size P S e) (LinesOfClauses size P S p e [] cs) (λ ks js c d. expression_same P S e ks js c d) (λ ks js c d. clauses_same P S p e [] cs ks js c d) ls ms a b
 
-  arguments_same : (P : ProgramTree) (S : Scope) (qs : List Parameter) (es : Arguments) (ls ms : List Line) → LinesOfArguments P S qs es ls → LinesOfArguments P S qs es ms → Same ls ms
+  arguments_same : (P : ProgramTree) (S : Scope) (qs : List Parameter) (es : Arguments) (ls ms : List Line) → LinesOfArguments size P S qs es ls → LinesOfArguments size P S qs es ms → Same ls ms
   arguments_same P S [] no_argument ls ms a b = nothing_same ls ms a b
   arguments_same P S (q ∷ qs) no_argument ls ms a b = nothing_same ls ms a b
   arguments_same P S [] (argument e es) ls ms a b =
-      both_same (LinesOf P S e) (LinesOfArguments P S [] es) (λ ks js c d. expression_same P S e ks js c d) (λ ks js c d. arguments_same P S [] es ks js c d) ls ms a b
+      both_same (LinesOf size P S e) (LinesOfArguments size P S [] es) (λ ks js c d. expression_same P S e ks js c d) (λ ks js c d. arguments_same P S [] es ks js c d) ls ms a b
   arguments_same P S (q ∷ qs) (argument e es) ls ms a b =
-      both_same (LinesOf P S e) (Both (LineWhere (place_of_expression e) wrong_argument (Misfits P S e q.declared)) (LinesOfArguments P S qs es))
+      both_same (LinesOf size P S e) (Both (LineWhere size (place_of_expression e) wrong_argument (Misfits P S e q.declared)) (LinesOfArguments size P S qs es))
       (λ ks js c d. expression_same P S e ks js c d)
-      (λ ks js c d. both_same (LineWhere (place_of_expression e) wrong_argument (Misfits P S e q.declared)) (LinesOfArguments P S qs es)
+      (λ ks js c d. both_same (LineWhere size (place_of_expression e) wrong_argument (Misfits P S e q.declared)) (LinesOfArguments size P S qs es)
       (λ hs is c' d'. line_same (place_of_expression e) wrong_argument (Misfits P S e q.declared) hs is c' d') (λ hs is c' d'. arguments_same P S qs es hs is c' d') ks js c d) ls ms a b
 
   clauses_same : (P : ProgramTree) (S : Scope) (p : Place) (e : Expression) (earlier : List PlacedTree) (cs : Clauses) (ls ms : List Line) →
-      LinesOfClauses P S p e earlier cs ls → LinesOfClauses P S p e earlier cs ms → Same ls ms
+      LinesOfClauses size P S p e earlier cs ls → LinesOfClauses size P S p e earlier cs ms → Same ls ms
   clauses_same P S p e earlier no_clause ls ms a b = line_same p not_exhaustive (Comes P S e earlier) ls ms a b
   clauses_same P S p e earlier (clause Q f cs) ls ms a b =
       let dead : List Line = record { place = place_of Q; kind = dead_clause; document = None } ∷ [] in
@@ -78,16 +83,16 @@ mutual
       ])
       (clauses_same P S p e (Q ∷ earlier) cs a.1 b.1 a.3 b.3))
 
-function_same : (P : ProgramTree) (f : FunctionDefinition) (ls ms : List Line) → LinesOfFunction P f ls → LinesOfFunction P f ms → Same ls ms
+function_same : (P : ProgramTree) (f : FunctionDefinition) (ls ms : List Line) → LinesOfFunction size P f ls → LinesOfFunction size P f ms → Same ls ms
 function_same P f ls ms a b =
-    both_same (LinesOf P (parameters_scope f.parameters) f.body) (LineWhere (place_of_expression f.body) wrong_result (Misfits P (parameters_scope f.parameters) f.body f.declared))
+    both_same (LinesOf size P (parameters_scope f.parameters) f.body) (LineWhere size (place_of_expression f.body) wrong_result (Misfits P (parameters_scope f.parameters) f.body f.declared))
     (λ ks js c d. expression_same P (parameters_scope f.parameters) f.body ks js c d)
     (λ ks js c d. line_same (place_of_expression f.body) wrong_result (Misfits P (parameters_scope f.parameters) f.body f.declared) ks js c d) ls ms a b
 
-functions_same : (P : ProgramTree) (fs : List FunctionDefinition) (ls ms : List Line) → LinesOfFunctions P fs ls → LinesOfFunctions P fs ms → Same ls ms
+functions_same : (P : ProgramTree) (fs : List FunctionDefinition) (ls ms : List Line) → LinesOfFunctions size P fs ls → LinesOfFunctions size P fs ms → Same ls ms
 functions_same P [] ls ms a b = nothing_same ls ms a b
 functions_same P (f ∷ fs) ls ms a b =
-    both_same (LinesOfFunction P f) (LinesOfFunctions P fs) (λ ks js c d. function_same P f ks js c d) (λ ks js c d. functions_same P fs ks js c d) ls ms a b
+    both_same (LinesOfFunction size P f) (LinesOfFunctions size P fs) (λ ks js c d. function_same P f ks js c d) (λ ks js c d. functions_same P fs ks js c d) ls ms a b
 
 -- lines that say the same are put in the same order
 same_precedes : (l m l' m' : Line) → IsSameLine l l' → IsSameLine m m' → line_precedes l m ≡ line_precedes l' m'
@@ -129,31 +134,38 @@ first_alone ls first rest e f = e ∙ ap (λ r. first ++ r) f ∙ append-nil fir
 pub rest_alone : (ls first rest : List Line) → ls ≡ first ++ rest → first ≡ [] → ls ≡ rest
 rest_alone ls first rest e f = e ∙ ap (λ r. r ++ rest) f
 
-pub no_such_line : (p : Place) (k : LineKind) (A : Document → Type 0) (ls : List Line) → ((d : Document) → is_proper d ≡ true → A d → ⊥) → LineWhere p k A ls → ls ≡ []
-no_such_line p k A ls n (inl h) = absurd (n h.0 h.1 h.2)
+-- the empty document is a least one of each set that it is in
+pub empty_least : (A : Document → Type 0) → A empty → IsLeast (IsProperWith A) empty
+empty_least A h = record { within = record { proper = refl; meets = h }; least = λ e among. nothing_smaller (size e) }
+  where
+    nothing_smaller : (n : ℕ) → 0 ≤ n
+    nothing_smaller n = omega arith
+
+pub no_such_line : (p : Place) (k : LineKind) (A : Document → Type 0) (ls : List Line) → ((d : Document) → is_proper d ≡ true → A d → ⊥) → LineWhere size p k A ls → ls ≡ []
+no_such_line p k A ls n (inl h) = let w = (h.1).within in absurd (n h.0 w.proper w.meets)
 no_such_line p k A ls n (inr h) = h.1
 
 -- the lines of a live clause whose body has none are those of the others
 pub clause_alone : (P : ProgramTree) (S : Scope) (p : Place) (e : Expression) (earlier : List PlacedTree) (Q : PlacedTree) (f : Expression) (cs : Clauses) (ls : List Line) →
-    IsLiveIn P S e earlier Q → LinesOf P (clause_entry e earlier Q ∷ S) f [] → LinesOfClauses P S p e earlier (clause Q f cs) ls → LinesOfClauses P S p e (Q ∷ earlier) cs ls
+    IsLiveIn P S e earlier Q → LinesOf size P (clause_entry e earlier Q ∷ S) f [] → LinesOfClauses size P S p e earlier (clause Q f cs) ls → LinesOfClauses size P S p e (Q ∷ earlier) cs ls
 clause_alone P S p e earlier Q f cs ls live none m =
     elim m.2 [
       | inl l ↦
           (let i : m.0 ≡ [] = nothing_left m.0 (expression_same P (clause_entry e earlier Q ∷ S) f m.0 [] l.1 none) in
-          subst (LinesOfClauses P S p e (Q ∷ earlier) cs) (sym (rest_alone ls m.0 m.1 m.4 i)) m.3)
+          subst (LinesOfClauses size P S p e (Q ∷ earlier) cs) (sym (rest_alone ls m.0 m.1 m.4 i)) m.3)
       | inr l ↦ absurd (l.0 live)
     ]
 
 -- the lines of a program with one function, whose body is a match and always fits
 pub match_alone : (P : ProgramTree) (f : FunctionDefinition) (p : Place) (e : Expression) (cs : Clauses) → P.functions ≡ f ∷ [] → f.body ≡ Matched p e cs →
-    LinesOf P (parameters_scope f.parameters) e [] →
+    LinesOf size P (parameters_scope f.parameters) e [] →
     ((d : Document) → is_proper d ≡ true → Misfits P (parameters_scope f.parameters) (Matched p e cs) f.declared d → ⊥) → (ls : List Line) → AreLines P ls →
-    (ms : List Line) × LinesOfClauses P (parameters_scope f.parameters) p e [] cs ms × (ls ≡ lines_in_order ms)
+    (ms : List Line) × LinesOfClauses size P (parameters_scope f.parameters) p e [] cs ms × (ls ≡ lines_in_order ms)
 match_alone P f p e cs only same none fits ls a =
     let S : Scope = parameters_scope f.parameters in
-    let m : LinesOfFunctions P (f ∷ []) a.found = subst (λ fs. LinesOfFunctions P fs a.found) only a.all in
-    let b : Both (LinesOf P S (Matched p e cs)) (LineWhere (place_of_expression (Matched p e cs)) wrong_result (Misfits P S (Matched p e cs) f.declared)) m.0 =
-    subst (λ g. Both (LinesOf P S g) (LineWhere (place_of_expression g) wrong_result (Misfits P S g f.declared)) m.0) same m.2 in
+    let m : LinesOfFunctions size P (f ∷ []) a.found = subst (λ fs. LinesOfFunctions size P fs a.found) only a.all in
+    let b : Both (LinesOf size P S (Matched p e cs)) (LineWhere size (place_of_expression (Matched p e cs)) wrong_result (Misfits P S (Matched p e cs) f.declared)) m.0 =
+    subst (λ g. Both (LinesOf size P S g) (LineWhere size (place_of_expression g) wrong_result (Misfits P S g f.declared)) m.0) same m.2 in
     let i = no_such_line p wrong_result (Misfits P S (Matched p e cs) f.declared) b.1 fits b.3 in
     let j : (b.2).0 ≡ [] = nothing_left (b.2).0 (expression_same P S e (b.2).0 [] (b.2).2 none) in
     let found : a.found ≡ (b.2).1 = first_alone a.found m.0 m.1 m.4 m.3 ∙ first_alone m.0 b.0 b.1 b.4 i ∙ rest_alone b.0 (b.2).0 (b.2).1 (b.2).4 j in

@@ -1,7 +1,7 @@
 -- The value of an expression is what the expression may be, where calls are safe.
 use Rattle.std.proofs.Common.{◌≡◌, ℕ, arith, Bool, true, false, not, nat_eq, inl, inr, List, [], ◌∷◌, ◌++◌, length, Option, Some, None, refl, sym, subst}
 use Rattle.xd_base.specs.declared.Place.{Place}
-use Rattle.xd_doc.specs.Document.{Document, empty, element, join, is_proper}
+use Rattle.xd_doc.specs.Document.{Document, empty, element, join, is_proper, size}
 use Rattle.xd_syntax.specs.Words.{has_word}
 use Rattle.xd_syntax.specs.Placed.{PlacedTree, unplaced, variables}
 use Rattle.xd_laws.specs.FirstMatch.{first}
@@ -57,10 +57,10 @@ module _ (P : ProgramTree) (proper : IsProperProgram P) (sound : IsSound P) (C :
   -- the first clause that takes the document, or one of the others
   clause_meets : (S : Scope) (known : List (List ℕ)) (env : Environment) → Suits P S known env → (n : ℕ) (p : Place) (e : Expression) (earlier : List PlacedTree)
       (Q : PlacedTree) (f : Expression) (cs : Clauses) → pattern_faults (known_types P) Q ≡ [] → (d : Document) → Comes P S e earlier d →
-      (ls : List Line) → LinesOfClauses P S p e earlier (clause Q f cs) ls → faults_among ls ≡ [] →
-      ((env' : Environment) → Suits P (clause_entry e earlier Q ∷ S) (variables Q ++ known) env' → (ms : List Line) → LinesOf P (clause_entry e earlier Q ∷ S) f ms → faults_among ms ≡ [] →
+      (ls : List Line) → LinesOfClauses size P S p e earlier (clause Q f cs) ls → faults_among ls ≡ [] →
+      ((env' : Environment) → Suits P (clause_entry e earlier Q ∷ S) (variables Q ++ known) env' → (ms : List Line) → LinesOf size P (clause_entry e earlier Q ∷ S) f ms → faults_among ms ≡ [] →
       Meets (IsAllowed P (clause_entry e earlier Q ∷ S) f) (value_by (first (names_of P)) C n env' f)) →
-      (Comes P S e (Q ∷ earlier) d → (ms : List Line) → LinesOfClauses P S p e (Q ∷ earlier) cs ms → faults_among ms ≡ [] →
+      (Comes P S e (Q ∷ earlier) d → (ms : List Line) → LinesOfClauses size P S p e (Q ∷ earlier) cs ms → faults_among ms ≡ [] →
       Meets (λ v. (is_proper v ≡ true) × MayClauses P S e (Q ∷ earlier) cs v) (chosen_by (first (names_of P)) C n env d cs)) →
       (o : Option Environment) → first (names_of P) (unplaced Q) d ≡ o →
       Meets (λ v. (is_proper v ≡ true) × MayClauses P S e earlier (clause Q f cs) v)
@@ -83,7 +83,7 @@ module _ (P : ProgramTree) (proper : IsProperProgram P) (sound : IsSound P) (C :
 
   mutual
     pub value_meets : (S : Scope) (known : List (List ℕ)) (env : Environment) → Suits P S known env → (n : ℕ) (e : Expression) → IsProperExpression e →
-        expression_faults P known e ≡ [] → (ls : List Line) → LinesOf P S e ls → faults_among ls ≡ [] → Meets (IsAllowed P S e) (value_by (first (names_of P)) C n env e)
+        expression_faults P known e ≡ [] → (ls : List Line) → LinesOf size P S e ls → faults_among ls ≡ [] → Meets (IsAllowed P S e) (value_by (first (names_of P)) C n env e)
     value_meets S known env s n (Nothing p) pe fe ls l q = (refl, refl)
     value_meets S known env s n (Quoted p t) pe fe ls l q = (rw pe refl, refl)
     value_meets S known env s n (Variable p x) pe fe ls l q =
@@ -103,7 +103,7 @@ module _ (P : ProgramTree) (proper : IsProperProgram P) (sound : IsSound P) (C :
     value_meets S known env s n (Called p x es) pe fe ls l q =
         let k = nothing_both (call_faults (function_of P.functions x) p x (argument_count es)) (argument_faults P known es) fe in
         let g = called (function_of P.functions x) p x (argument_count es) k.0 in
-        let lines : LinesOfArguments P S (g.0).parameters es ls = subst (λ o. LinesOfArguments P S (parameters_of o) es ls) g.1 l in
+        let lines : LinesOfArguments size P S (g.0).parameters es ls = subst (λ o. LinesOfArguments size P S (parameters_of o) es ls) g.1 l in
         meets_then (AreValuesOf (names_of P) (g.0).parameters) (IsAllowed P S (Called p x es)) (values_by (first (names_of P)) C n env es) (λ ds m. C m x ds)
         (values_meets S known env s n (g.0).parameters es pe.1 k.1 g.2 ls lines q)
         (λ ds m h. meets_more (IsValueOf (names_of P) (g.0).declared) (IsAllowed P S (Called p x es)) (C m x ds) (calls.safe m x g.0 ds g.1 h)
@@ -117,7 +117,7 @@ module _ (P : ProgramTree) (proper : IsProperProgram P) (sound : IsSound P) (C :
 
     -- arguments have values of their parameters' types
     values_meets : (S : Scope) (known : List (List ℕ)) (env : Environment) → Suits P S known env → (n : ℕ) (qs : List Parameter) (es : Arguments) → AreProperArguments es →
-        argument_faults P known es ≡ [] → argument_count es ≡ length qs → (ls : List Line) → LinesOfArguments P S qs es ls → faults_among ls ≡ [] →
+        argument_faults P known es ≡ [] → argument_count es ≡ length qs → (ls : List Line) → LinesOfArguments size P S qs es ls → faults_among ls ≡ [] →
         Meets (AreValuesOf (names_of P) qs) (values_by (first (names_of P)) C n env es)
     values_meets S known env s n [] no_argument pe fe c ls l q = tt
     values_meets S known env s n (w ∷ ws) no_argument pe fe c ls l q = absurd (omega arith)
@@ -144,7 +144,7 @@ module _ (P : ProgramTree) (proper : IsProperProgram P) (sound : IsSound P) (C :
     -- the first clause that takes the document decides, and some clause takes it
     chosen_meets : (S : Scope) (known : List (List ℕ)) (env : Environment) → Suits P S known env → (n : ℕ) (p : Place) (e : Expression) (earlier : List PlacedTree) (cs : Clauses) →
         AreProperClauses cs → clause_faults P known cs ≡ [] → (d : Document) → Comes P S e earlier d →
-        (ls : List Line) → LinesOfClauses P S p e earlier cs ls → faults_among ls ≡ [] →
+        (ls : List Line) → LinesOfClauses size P S p e earlier cs ls → faults_among ls ≡ [] →
         Meets (λ v. (is_proper v ≡ true) × MayClauses P S e earlier cs v) (chosen_by (first (names_of P)) C n env d cs)
     chosen_meets S known env s n p e earlier no_clause pe fe d comes ls l q = absurd (no_line p not_exhaustive (Comes P S e earlier) ls refl l q d comes.0 comes)
     chosen_meets S known env s n p e earlier (clause Q f cs) pe fe d comes ls l q =

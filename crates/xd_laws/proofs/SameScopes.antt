@@ -3,6 +3,7 @@ use Rattle.std.proofs.Common.{◌≡◌, ℕ, Bool, true, false, ◌&&◌, inl, 
 use Rattle.xd_base.specs.declared.Place.{Place}
 use Rattle.xd_doc.specs.Word.{is_word}
 use Rattle.xd_doc.specs.Document.{Document, empty, text, element, is_proper}
+use Rattle.xd_doc.proofs.LeastLemmas.{least_of_part}
 use Rattle.xd_syntax.specs.Words.{has_word}
 use Rattle.xd_syntax.specs.Tree.{Definitions}
 use Rattle.xd_syntax.specs.Placed.{PlacedTree, variables}
@@ -10,7 +11,7 @@ use Rattle.xd_syntax.specs.Fits.{Split}
 use Rattle.xd_syntax.specs.Expression.{Expression, Nothing, Quoted, Variable, Tagged, Joined, Called, Matched, Arguments, no_argument, argument, Clauses, no_clause, clause, place_of_expression}
 use Rattle.xd_syntax.specs.Program.{Parameter, ProgramTree, names_of, function_of}
 use Rattle.xd_syntax.specs.May.{Scope, clause_entry, Allowance, IsTagged, IsLive, MayBind, WhereTrue, in_clause, MayBy, MayByClauses, Allows, May}
-use Rattle.xd_syntax.specs.CheckFaults.{Line, LineKind, LineWhere, Both, Misfits, wrong_argument, not_exhaustive, parameters_of, Comes, IsLiveIn, LinesOf, LinesOfArguments, LinesOfClauses}
+use Rattle.xd_syntax.specs.CheckFaults.{Line, LineKind, LineWhere, IsProperWith, Both, Misfits, wrong_argument, not_exhaustive, parameters_of, Comes, IsLiveIn, LinesOf, LinesOfArguments, LinesOfClauses}
 use Rattle.xd_laws.specs.Scopes.{AllowTheSame, MoreIsAllowed, ScopesDecideMay, ScopesDecideLines}
 use Rattle.xd_laws.proofs.WordLists.{both}
 use Rattle.xd_laws.proofs.BoundVariables.{proper_joined}
@@ -85,9 +86,13 @@ same_in_clause P S Z h e earlier Q x d p = (
   clause_within (names_of P) (May P Z e) (May P S e) (first_way P Z S (turned P S Z h) e) (Allows P Z) (Allows P S) (λ y c q n. (h y c q).1 n) earlier Q x d p,
 )
 
-line_within : (p : Place) (k : LineKind) (A B : Document → Type 0) → Implies A B → Implies B A → (ls : List Line) → LineWhere p k A ls → LineWhere p k B ls
-line_within p k A B h i ls (inl m) = inl (m.0, m.1, h m.0 m.1 m.2, m.3)
-line_within p k A B h i ls (inr m) = inr ((λ d q b. m.0 d q (i d q b)), m.1)
+proper_within : (A B : Document → Type 0) → Implies A B → (d : Document) → IsProperWith A d → IsProperWith B d
+proper_within A B h d w = record { proper = w.proper; meets = h d w.proper w.meets }
+
+-- the lines where one fact would be met are those where the other would be
+pub line_within : (measure : Document → ℕ) (p : Place) (k : LineKind) (A B : Document → Type 0) → Implies A B → Implies B A → (ls : List Line) → LineWhere measure p k A ls → LineWhere measure p k B ls
+line_within measure p k A B h i ls (inl y) = inl (y.0, least_of_part measure (IsProperWith A) (IsProperWith B) y.0 (proper_within A B h y.0 (y.1).within) (proper_within B A i) y.1, y.2)
+line_within measure p k A B h i ls (inr y) = inr ((λ d q b. y.0 d q (i d q b)), y.1)
 
 misfits_within : (P : ProgramTree) (S Z : Scope) → AllowTheSame P S Z → (e : Expression) (T : PlacedTree) → Implies (Misfits P S e T) (Misfits P Z e T)
 misfits_within P S Z h e T d p m = (first_way P S Z h e d p m.0, m.1)
@@ -102,47 +107,47 @@ both_within : (A B F G : List Line → Type 0) → ((ls : List Line) → A ls �
 both_within A B F G h k ls m = (m.0, m.1, h m.0 m.2, k m.1 m.3, m.4)
 
 mutual
-  lines_within : (P : ProgramTree) (S Z : Scope) → AllowTheSame P S Z → (e : Expression) (ls : List Line) → LinesOf P S e ls → LinesOf P Z e ls
-  lines_within P S Z h (Nothing p) ls m = m
-  lines_within P S Z h (Quoted p s) ls m = m
-  lines_within P S Z h (Variable p x) ls m = m
-  lines_within P S Z h (Tagged p l e) ls m = lines_within P S Z h e ls m
-  lines_within P S Z h (Joined p e f) ls m =
-      both_within (LinesOf P S e) (LinesOf P Z e) (LinesOf P S f) (LinesOf P Z f) (λ ms n. lines_within P S Z h e ms n) (λ ms n. lines_within P S Z h f ms n) ls m
-  lines_within P S Z h (Called p f es) ls m = arguments_within P S Z h (parameters_of (function_of P.functions f)) es ls m
-  lines_within P S Z h (Matched p e cs) ls m =
-      both_within (LinesOf P S e) (LinesOf P Z e) (LinesOfClauses P S p e [] cs) (LinesOfClauses P Z p e [] cs)
-      (λ ms n. lines_within P S Z h e ms n) (λ ms n. clause_lines_within P S Z h p e [] cs ms n) ls m
+  lines_within : (measure : Document → ℕ) (P : ProgramTree) (S Z : Scope) → AllowTheSame P S Z → (e : Expression) (ls : List Line) → LinesOf measure P S e ls → LinesOf measure P Z e ls
+  lines_within measure P S Z h (Nothing p) ls m = m
+  lines_within measure P S Z h (Quoted p s) ls m = m
+  lines_within measure P S Z h (Variable p x) ls m = m
+  lines_within measure P S Z h (Tagged p l e) ls m = lines_within measure P S Z h e ls m
+  lines_within measure P S Z h (Joined p e f) ls m =
+      both_within (LinesOf measure P S e) (LinesOf measure P Z e) (LinesOf measure P S f) (LinesOf measure P Z f) (λ ms n. lines_within measure P S Z h e ms n) (λ ms n. lines_within measure P S Z h f ms n) ls m
+  lines_within measure P S Z h (Called p f es) ls m = arguments_within measure P S Z h (parameters_of (function_of P.functions f)) es ls m
+  lines_within measure P S Z h (Matched p e cs) ls m =
+      both_within (LinesOf measure P S e) (LinesOf measure P Z e) (LinesOfClauses measure P S p e [] cs) (LinesOfClauses measure P Z p e [] cs)
+      (λ ms n. lines_within measure P S Z h e ms n) (λ ms n. clause_lines_within measure P S Z h p e [] cs ms n) ls m
 
-  arguments_within : (P : ProgramTree) (S Z : Scope) → AllowTheSame P S Z → (qs : List Parameter) (es : Arguments) (ls : List Line) → LinesOfArguments P S qs es ls →
-      LinesOfArguments P Z qs es ls
-  arguments_within P S Z h [] no_argument ls m = m
-  arguments_within P S Z h (q ∷ qs) no_argument ls m = m
-  arguments_within P S Z h [] (argument e es) ls m =
-      both_within (LinesOf P S e) (LinesOf P Z e) (LinesOfArguments P S [] es) (LinesOfArguments P Z [] es)
-      (λ ms n. lines_within P S Z h e ms n) (λ ms n. arguments_within P S Z h [] es ms n) ls m
-  arguments_within P S Z h (q ∷ qs) (argument e es) ls m =
-      both_within (LinesOf P S e) (LinesOf P Z e) _ _ (λ ms n. lines_within P S Z h e ms n)
-      (λ ms n. both_within (LineWhere (place_of_expression e) wrong_argument (Misfits P S e q.declared)) (LineWhere (place_of_expression e) wrong_argument (Misfits P Z e q.declared))
-      (LinesOfArguments P S qs es) (LinesOfArguments P Z qs es)
-      (λ ks l. line_within (place_of_expression e) wrong_argument (Misfits P S e q.declared) (Misfits P Z e q.declared)
+  arguments_within : (measure : Document → ℕ) (P : ProgramTree) (S Z : Scope) → AllowTheSame P S Z → (qs : List Parameter) (es : Arguments) (ls : List Line) → LinesOfArguments measure P S qs es ls →
+      LinesOfArguments measure P Z qs es ls
+  arguments_within measure P S Z h [] no_argument ls m = m
+  arguments_within measure P S Z h (q ∷ qs) no_argument ls m = m
+  arguments_within measure P S Z h [] (argument e es) ls m =
+      both_within (LinesOf measure P S e) (LinesOf measure P Z e) (LinesOfArguments measure P S [] es) (LinesOfArguments measure P Z [] es)
+      (λ ms n. lines_within measure P S Z h e ms n) (λ ms n. arguments_within measure P S Z h [] es ms n) ls m
+  arguments_within measure P S Z h (q ∷ qs) (argument e es) ls m =
+      both_within (LinesOf measure P S e) (LinesOf measure P Z e) _ _ (λ ms n. lines_within measure P S Z h e ms n)
+      (λ ms n. both_within (LineWhere measure (place_of_expression e) wrong_argument (Misfits P S e q.declared)) (LineWhere measure (place_of_expression e) wrong_argument (Misfits P Z e q.declared))
+      (LinesOfArguments measure P S qs es) (LinesOfArguments measure P Z qs es)
+      (λ ks l. line_within measure (place_of_expression e) wrong_argument (Misfits P S e q.declared) (Misfits P Z e q.declared)
       (misfits_within P S Z h e q.declared) (misfits_within P Z S (turned P S Z h) e q.declared) ks l)
-      (λ ks l. arguments_within P S Z h qs es ks l) ms n) ls m
+      (λ ks l. arguments_within measure P S Z h qs es ks l) ms n) ls m
 
-  clause_lines_within : (P : ProgramTree) (S Z : Scope) → AllowTheSame P S Z → (p : Place) (e : Expression) (earlier : List PlacedTree) (cs : Clauses) (ls : List Line) →
-      LinesOfClauses P S p e earlier cs ls → LinesOfClauses P Z p e earlier cs ls
-  clause_lines_within P S Z h p e earlier no_clause ls m =
-      line_within p not_exhaustive (Comes P S e earlier) (Comes P Z e earlier) (comes_within P S Z h e earlier) (comes_within P Z S (turned P S Z h) e earlier) ls m
-  clause_lines_within P S Z h p e earlier (clause Q f cs) ls m = (
+  clause_lines_within : (measure : Document → ℕ) (P : ProgramTree) (S Z : Scope) → AllowTheSame P S Z → (p : Place) (e : Expression) (earlier : List PlacedTree) (cs : Clauses) (ls : List Line) →
+      LinesOfClauses measure P S p e earlier cs ls → LinesOfClauses measure P Z p e earlier cs ls
+  clause_lines_within measure P S Z h p e earlier no_clause ls m =
+      line_within measure p not_exhaustive (Comes P S e earlier) (Comes P Z e earlier) (comes_within P S Z h e earlier) (comes_within P Z S (turned P S Z h) e earlier) ls m
+  clause_lines_within measure P S Z h p e earlier (clause Q f cs) ls m = (
     m.0,
     m.1,
     elim m.2 [
-      | inl l ↦ inl (same_live P S Z h e earlier Q l.0, lines_within P (clause_entry e earlier Q ∷ S) (clause_entry e earlier Q ∷ Z) (same_in_clause P S Z h e earlier Q) f m.0 l.1)
+      | inl l ↦ inl (same_live P S Z h e earlier Q l.0, lines_within measure P (clause_entry e earlier Q ∷ S) (clause_entry e earlier Q ∷ Z) (same_in_clause P S Z h e earlier Q) f m.0 l.1)
       | inr l ↦ inr ((λ z. l.0 (same_live P Z S (turned P S Z h) e earlier Q z)), l.1)
     ],
-    clause_lines_within P S Z h p e (Q ∷ earlier) cs m.1 m.3,
+    clause_lines_within measure P S Z h p e (Q ∷ earlier) cs m.1 m.3,
     m.4,
   )
 
 pub scopes_decide_lines : ScopesDecideLines
-scopes_decide_lines P S Z h e ls = (lines_within P S Z h e ls, lines_within P Z S (turned P S Z h) e ls)
+scopes_decide_lines measure P S Z h e ls = (lines_within measure P S Z h e ls, lines_within measure P Z S (turned P S Z h) e ls)

@@ -1,9 +1,10 @@
 -- The telephone program, without a clause, and with two clauses exchanged: their lines.
-use Rattle.std.proofs.Common.{◌≡◌, ℕ, ◌+◌, ◌||◌, arith, Bool, true, false, ◌⊎◌, inl, inr, List, [], ◌∷◌, ◌++◌, Some, refl, ap, sym, subst, ◌∙◌}
+use Rattle.std.proofs.Common.{◌≡◌, ℕ, ◌+◌, ◌≤◌, ◌||◌, arith, Bool, true, false, ◌⊎◌, inl, inr, List, [], ◌∷◌, ◌++◌, Some, refl, ap, sym, subst, ◌∙◌}
 use Rattle.std.specs.Prelude.{codes}
 use Rattle.std.specs.Str.{bytes_eq, is_utf8}
 use Rattle.std.proofs.lemmas.Str.{IsUtf8-nil, is_utf8-from_IsUtf8}
-use Rattle.xd_doc.specs.Document.{Document, empty, text, element, join, is_proper}
+use Rattle.xd_doc.specs.Document.{Document, empty, text, element, join, is_proper, size}
+use Rattle.xd_doc.specs.Least.{IsLeast}
 use Rattle.std.specs.List.Sorted.{IsStrictlySortedBy}
 use Rattle.xd_doc.specs.Word.{is_word}
 use Rattle.xd_doc.specs.Classes.{class_has, IsClass}
@@ -18,14 +19,14 @@ use Rattle.xd_syntax.specs.Ways.{Way, Among, unfoldings, IsWholeWay, Takes}
 use Rattle.xd_laws.specs.Guarded.{Guarded}
 use Rattle.xd_syntax.specs.RecursionFaults.{all_seen, IsSound}
 use Rattle.xd_syntax.specs.May.{Scope, clause_entry, Arrives, MayBind, May, parameters_scope}
-use Rattle.xd_syntax.specs.CheckFaults.{Line, wrong_argument, not_exhaustive, Misfits, IsLiveIn, LinesOf, LinesOfClauses, lines_in_order, AreLines, IsAccepted, LineWhere}
+use Rattle.xd_syntax.specs.CheckFaults.{Line, wrong_argument, not_exhaustive, Misfits, IsLiveIn, LinesOf, LinesOfClauses, lines_in_order, AreLines, IsAccepted, IsProperWith, LineWhere}
 use Rattle.xd_laws.proofs.Unfoldings.{same_word_eq, fits_takes}
 use Rattle.xd_laws.proofs.SoundGuarded.{guarded}
 use Rattle.xd_laws.proofs.Documents.{join_empty-right}
 use Rattle.xd_laws.proofs.FitsLaws.{any_fits, element_only, text_only, seq_only, opt_only, star_only, defined_name}
 use Rattle.xd_laws.proofs.WaysFit.{whole_none}
 use Rattle.xd_laws.proofs.WayShapes.{IsWay, way_text, way_name, way_elem, way_seq, way_val, way_shape, way_join}
-use Rattle.xd_laws.proofs.OneLines.{no_lines, first_alone, rest_alone, no_such_line, clause_alone, match_alone}
+use Rattle.xd_laws.proofs.OneLines.{empty_least, no_lines, first_alone, rest_alone, no_such_line, clause_alone, match_alone}
 use Rattle.xd_laws.proofs.BoundVariables.{none_bound}
 use Rattle.xd_laws.proofs.Suiting.{bind_nothing}
 use Rattle.xd_laws.specs.LineSamples.{at_place, one, fault_line, warning_line, HasLines, name_label as name, addr_label as addr, tel_label as tel, n_variable as n, t_variable as t, rest_variable as rest, with_tel_at, without_tel_at, again, listed, with_tel, without_tel, at_end, scrutinee, persons_at, listed_at, input, main_with, telephones, all_clauses, without_last, exchanged, IsNumberThenDead}
@@ -374,7 +375,7 @@ number_proper = rw empty_utf8 refl
 
 -- a call on what fits has no line
 again_lines : (cs : Clauses) (S : Scope) (l c : ℕ) → ((d : Document) → May (telephones cs) S (Variable (at_place l (c + 5)) rest) d → Fits names persons d) →
-    LinesOf (telephones cs) S (again l c) []
+    LinesOf size (telephones cs) S (again l c) []
 again_lines cs S l c h = ([], [], refl, ([], [], inr ((λ d p m. m.1 (h d m.0)), refl), refl, refl), refl)
 
 abbrev in_with_tel : ℕ → List PlacedTree → Scope
@@ -383,7 +384,7 @@ in_with_tel l earlier = clause_entry scrutinee earlier (with_tel_at l) ∷ scope
 abbrev in_without_tel : ℕ → List PlacedTree → Scope
 in_without_tel l earlier = clause_entry scrutinee earlier (without_tel_at l) ∷ scope
 
-listed_lines : (cs : Clauses) (l : ℕ) (earlier : List PlacedTree) → LinesOf (telephones cs) (in_with_tel l earlier) (listed l) []
+listed_lines : (cs : Clauses) (l : ℕ) (earlier : List PlacedTree) → LinesOf size (telephones cs) (in_with_tel l earlier) (listed l) []
 listed_lines cs l earlier = ([], [], refl, ([], [], refl, again_lines cs (in_with_tel l earlier) l 58 (λ d m. with_tel_rest earlier l d m), refl), refl)
 
 -- the telephone program, with what follows its first two clauses
@@ -405,8 +406,8 @@ with_tel_live =
 without_tel_live : IsLiveIn (telephones no_clause) scope scrutinee (with_tel_at 6 ∷ []) (without_tel_at 7)
 without_tel_live = (person [] [] empty, (person_proper empty refl, person_fits [] [] empty fits_no_turn, (no_number, tt)), without_tel_takes [] [] empty)
 
-first_two_lines : (cs tail : Clauses) (ls : List Line) → LinesOfClauses (telephones cs) scope (at_place 5 3) scrutinee first_two tail ls →
-    LinesOfClauses (telephones cs) scope (at_place 5 3) scrutinee [] (with_tel 6 (without_tel 7 tail)) ls
+first_two_lines : (cs tail : Clauses) (ls : List Line) → LinesOfClauses size (telephones cs) scope (at_place 5 3) scrutinee first_two tail ls →
+    LinesOfClauses size (telephones cs) scope (at_place 5 3) scrutinee [] (with_tel 6 (without_tel 7 tail)) ls
 first_two_lines cs tail ls h = (
   [],
   ls,
@@ -458,7 +459,7 @@ without_last_lines = record {
         [],
         fault_line (at_place 5 3) not_exhaustive empty ∷ [],
         refl,
-        first_two_lines without_last no_clause (fault_line (at_place 5 3) not_exhaustive empty ∷ []) (inl (empty, refl, empty_comes, refl)),
+        first_two_lines without_last no_clause (fault_line (at_place 5 3) not_exhaustive empty ∷ []) (inl (empty, empty_least _ empty_comes, refl)),
         refl,
       ),
       inr (without_last_fits, refl),
@@ -472,7 +473,7 @@ without_last_lines = record {
 
 -- The whole program has no fault and no warning.
 
-end_lines : (cs : Clauses) → LinesOfClauses (telephones cs) scope (at_place 5 3) scrutinee first_two at_end []
+end_lines : (cs : Clauses) → LinesOfClauses size (telephones cs) scope (at_place 5 3) scrutinee first_two at_end []
 end_lines cs = (
   [],
   [],
@@ -530,6 +531,33 @@ misfit_begins : (d : Document) → Misfits (telephones exchanged) (in_without_te
     (v : List ℕ) × (r : Document) × (d ≡ with_number v r)
 misfit_begins d m = elim (without_tel_rest [] 6 d m.0) [ inl f ↦ absurd (m.1 f) | inr k ↦ (k.2, k.3, k.4) ]
 
+-- so no such document is smaller than a telephone number, and one that is no larger is a telephone number alone
+number_least : IsLeast (IsProperWith (Misfits (telephones exchanged) (in_without_tel 6 []) (Variable (at_place 6 34) rest) persons_at)) (with_number [] empty)
+number_least = record {
+  within = record { proper = number_proper; meets = number_misfits };
+  least = λ e among. let b = misfit_begins e among.meets in subst (λ d. size (with_number [] empty) ≤ size d) (sym b.2) (smallest (size b.1));
+}
+  where
+    smallest : (k : ℕ) → 2 ≤ 1 + k + 1
+    smallest k = omega arith
+
+no_item : (d : Document) → size d ≤ 0 → d ≡ empty
+no_item empty le = refl
+no_item (text s r) le = absurd (none (size r) le)
+  where
+    none : (k : ℕ) → k + 1 ≤ 0 → ⊥
+    none k le = omega arith
+no_item (element l c r) le = absurd (none (size c) (size r) le)
+  where
+    none : (j k : ℕ) → j + k + 1 ≤ 0 → ⊥
+    none j k le = omega arith
+
+number_alone : (v : List ℕ) (r : Document) → size (with_number v r) ≤ size (with_number [] empty) → r ≡ empty
+number_alone v r le = no_item r (left (size r) le)
+  where
+    left : (k : ℕ) → 1 + k + 1 ≤ 2 → k ≤ 0
+    left k le = omega arith
+
 never_reached : IsLiveIn (telephones exchanged) scope scrutinee (without_tel_at 6 ∷ []) (with_tel_at 7) → ⊥
 never_reached l =
     let w = with_tel_whole l.0 (l.2).0 (l.2).1 in
@@ -573,7 +601,7 @@ exchanged_lines = record {
           dead_line ∷ [],
           inl (
             without_tel_first,
-            ([], number_line ∷ [], refl, (number_line ∷ [], [], inl (with_number [] empty, number_proper, number_misfits, refl), refl, refl), refl),
+            ([], number_line ∷ [], refl, (number_line ∷ [], [], inl (with_number [] empty, number_least, refl), refl, refl), refl),
           ),
           (
             dead_line ∷ [],
@@ -604,7 +632,7 @@ exchanged_lines = record {
 -- No other lists of lines.
 
 abbrev other_than : Clauses → List Line → Type 0
-other_than cs ls = (ms : List Line) × LinesOfClauses (telephones cs) scope (at_place 5 3) scrutinee [] cs ms × (ls ≡ lines_in_order ms)
+other_than cs ls = (ms : List Line) × LinesOfClauses size (telephones cs) scope (at_place 5 3) scrutinee [] cs ms × (ls ≡ lines_in_order ms)
 
 without_last_only : (ls : List Line) → AreLines (telephones without_last) ls → ls ≡ fault_line (at_place 5 3) not_exhaustive empty ∷ []
 without_last_only ls a =
@@ -616,50 +644,52 @@ without_last_only ls a =
     without_tel_live (again_lines without_last (in_without_tel 7 (with_tel_at 6 ∷ [])) 7 29 behind_first) k in
     m.2 ∙ ap lines_in_order (the_line m.0 h)
   where
-    the_line : (ms : List Line) → LineWhere (at_place 5 3) not_exhaustive (Arrives names Persons first_two) ms → ms ≡ fault_line (at_place 5 3) not_exhaustive empty ∷ []
-    the_line ms (inl h) = h.3 ∙ ap (λ d. fault_line (at_place 5 3) not_exhaustive d ∷ []) (only_empty_comes h.0 h.2)
+    the_line : (ms : List Line) → LineWhere size (at_place 5 3) not_exhaustive (Arrives names Persons first_two) ms → ms ≡ fault_line (at_place 5 3) not_exhaustive empty ∷ []
+    the_line ms (inl h) = h.2 ∙ ap (λ d. fault_line (at_place 5 3) not_exhaustive d ∷ []) (only_empty_comes h.0 ((h.1).within).meets)
     the_line ms (inr h) = absurd (h.0 empty refl empty_comes)
 
 -- the lines of `main(rest)` in the first clause
-number_lines : (ls : List Line) → LinesOf (telephones exchanged) (in_without_tel 6 []) (again 6 29) ls →
-    (v : List ℕ) × (r : Document) × (ls ≡ fault_line (at_place 6 34) wrong_argument (with_number v r) ∷ [])
+number_lines : (ls : List Line) → LinesOf size (telephones exchanged) (in_without_tel 6 []) (again 6 29) ls →
+    (v : List ℕ) × (ls ≡ fault_line (at_place 6 34) wrong_argument (with_number v empty) ∷ [])
 number_lines ls m = the_line ((m.3).0) (m.3).2 (rest_alone ls m.0 m.1 m.4 m.2 ∙ first_alone m.1 (m.3).0 (m.3).1 (m.3).4 (m.3).3)
   where
-    the_line : (ms : List Line) → LineWhere (at_place 6 34) wrong_argument (Misfits (telephones exchanged) (in_without_tel 6 []) (Variable (at_place 6 34) rest) persons_at) ms →
-        ls ≡ ms → (v : List ℕ) × (r : Document) × (ls ≡ fault_line (at_place 6 34) wrong_argument (with_number v r) ∷ [])
+    the_line : (ms : List Line) → LineWhere size (at_place 6 34) wrong_argument (Misfits (telephones exchanged) (in_without_tel 6 []) (Variable (at_place 6 34) rest) persons_at) ms →
+        ls ≡ ms → (v : List ℕ) × (ls ≡ fault_line (at_place 6 34) wrong_argument (with_number v empty) ∷ [])
     the_line ms (inl h) e =
-        let b = misfit_begins h.0 h.2 in (b.0, b.1, e ∙ h.3 ∙ ap (λ d. fault_line (at_place 6 34) wrong_argument d ∷ []) b.2)
+        let b = misfit_begins h.0 ((h.1).within).meets in
+        let none = number_alone b.0 b.1 (subst (λ d. size d ≤ size (with_number [] empty)) b.2 ((h.1).least (with_number [] empty) number_least.within)) in
+        (b.0, e ∙ h.2 ∙ ap (λ d. fault_line (at_place 6 34) wrong_argument d ∷ []) (b.2 ∙ ap (with_number b.0) none))
     the_line ms (inr h) e = absurd (h.0 (with_number [] empty) number_proper number_misfits)
 
-exchanged_end : (ls : List Line) → LinesOfClauses (telephones exchanged) scope (at_place 5 3) scrutinee exchanged_two at_end ls → ls ≡ []
+exchanged_end : (ls : List Line) → LinesOfClauses size (telephones exchanged) scope (at_place 5 3) scrutinee exchanged_two at_end ls → ls ≡ []
 exchanged_end ls m =
     no_such_line (at_place 5 3) not_exhaustive (Arrives names Persons (Empty_at (at_place 8 5) ∷ exchanged_two)) ls
     (λ d p c. (c.2).0 (subst (Takes names Empty) (sym (exchanged_empty d (c.0, c.1, (c.2).1))) empty_taken))
     (clause_alone (telephones exchanged) scope (at_place 5 3) scrutinee exchanged_two (Empty_at (at_place 8 5)) (Nothing (at_place 8 11)) no_clause ls end_live refl m)
 
-exchanged_two_lines : (ls : List Line) → LinesOfClauses (telephones exchanged) scope (at_place 5 3) scrutinee [] exchanged ls →
-    (v : List ℕ) × (r : Document) × (ls ≡ fault_line (at_place 6 34) wrong_argument (with_number v r) ∷ dead_line ∷ [])
+exchanged_two_lines : (ls : List Line) → LinesOfClauses size (telephones exchanged) scope (at_place 5 3) scrutinee [] exchanged ls →
+    (v : List ℕ) × (ls ≡ fault_line (at_place 6 34) wrong_argument (with_number v empty) ∷ dead_line ∷ [])
 exchanged_two_lines ls m = go (first_lines m.2)
   where
-    first_lines : (IsLiveIn (telephones exchanged) scope scrutinee [] (without_tel_at 6) × LinesOf (telephones exchanged) (in_without_tel 6 []) (again 6 29) m.0)
+    first_lines : (IsLiveIn (telephones exchanged) scope scrutinee [] (without_tel_at 6) × LinesOf size (telephones exchanged) (in_without_tel 6 []) (again 6 29) m.0)
         ⊎ ((IsLiveIn (telephones exchanged) scope scrutinee [] (without_tel_at 6) → ⊥) × (m.0 ≡ warning_line (at_place 6 5) ∷ [])) →
-        (v : List ℕ) × (r : Document) × (m.0 ≡ fault_line (at_place 6 34) wrong_argument (with_number v r) ∷ [])
+        (v : List ℕ) × (m.0 ≡ fault_line (at_place 6 34) wrong_argument (with_number v empty) ∷ [])
     first_lines (inl l) = number_lines m.0 l.1
     first_lines (inr l) = absurd (l.0 without_tel_first)
 
-    second_lines : LinesOfClauses (telephones exchanged) scope (at_place 5 3) scrutinee (without_tel_at 6 ∷ []) (with_tel 7 at_end) m.1 → m.1 ≡ dead_line ∷ []
+    second_lines : LinesOfClauses size (telephones exchanged) scope (at_place 5 3) scrutinee (without_tel_at 6 ∷ []) (with_tel 7 at_end) m.1 → m.1 ≡ dead_line ∷ []
     second_lines k =
         first_alone m.1 k.0 k.1 k.4 (exchanged_end k.1 k.3) ∙ elim k.2 [ inl l ↦ absurd (never_reached l.0) | inr l ↦ l.1 ]
 
-    go : (v : List ℕ) × (r : Document) × (m.0 ≡ fault_line (at_place 6 34) wrong_argument (with_number v r) ∷ []) →
-        (v : List ℕ) × (r : Document) × (ls ≡ fault_line (at_place 6 34) wrong_argument (with_number v r) ∷ dead_line ∷ [])
-    go f = (f.0, f.1, m.4 ∙ ap (λ z. z ++ m.1) f.2 ∙ ap (λ z. fault_line (at_place 6 34) wrong_argument (with_number f.0 f.1) ∷ z) (second_lines m.3))
+    go : (v : List ℕ) × (m.0 ≡ fault_line (at_place 6 34) wrong_argument (with_number v empty) ∷ []) →
+        (v : List ℕ) × (ls ≡ fault_line (at_place 6 34) wrong_argument (with_number v empty) ∷ dead_line ∷ [])
+    go f = (f.0, m.4 ∙ ap (λ z. z ++ m.1) f.1 ∙ ap (λ z. fault_line (at_place 6 34) wrong_argument (with_number f.0 empty) ∷ z) (second_lines m.3))
 
 exchanged_only : (ls : List Line) → AreLines (telephones exchanged) ls → IsNumberThenDead ls
 exchanged_only ls a =
     let m : other_than exchanged ls = match_alone (telephones exchanged) (main_with exchanged) (at_place 5 3) scrutinee exchanged refl refl refl exchanged_fits ls a in
     let r = exchanged_two_lines m.0 m.1 in
-    (text r.0 empty, r.1, m.2 ∙ ap lines_in_order r.2)
+    (r.0, m.2 ∙ ap lines_in_order r.1)
 
 pub whole_has_lines : HasLines (telephones all_clauses) (λ ls. ls ≡ [])
 whole_has_lines = record { lines = []; are_lines = whole_lines; only = λ ls a. no_lines (telephones all_clauses) whole_lines ls a }

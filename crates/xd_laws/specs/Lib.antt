@@ -14,5 +14,5 @@ pub mod Safety
 pub mod Scopes
 pub mod SameLines
 pub mod LineSamples
-pub mod Identity
 pub mod SameTree
+pub mod LeastLines

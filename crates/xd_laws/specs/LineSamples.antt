@@ -1,7 +1,7 @@
 -- Programs with all their faults of matches, arguments and results, and all their warnings.
 use Rattle.std.specs.Prelude.{◌≡◌, ℕ, ◌+◌, false, List, [], ◌∷◌, Some, None, codes}
 use Rattle.xd_base.specs.declared.Place.{Place}
-use Rattle.xd_doc.specs.Document.{Document, empty, element}
+use Rattle.xd_doc.specs.Document.{Document, empty, text, element}
 use Rattle.xd_doc.specs.Classes.{LabelClass}
 use Rattle.xd_syntax.specs.Words.{any_word, main_word}
 use Rattle.xd_syntax.specs.Placed.{PlacedTree, Empty_at, Text_at, Name_at, Elem_at, Seq_at, Opt_at, Star_at, Plus_at, Val_at}
@@ -166,10 +166,10 @@ without_last = with_tel 6 (without_tel 7 no_clause)
 abbrev pub exchanged : Clauses
 exchanged = without_tel 6 (with_tel 7 at_end)
 
--- a fault that carries a document that begins with a telephone number, and a warning
+-- a fault that carries a telephone number alone, and a warning
 abbrev pub IsNumberThenDead : List Line → Type 0
 IsNumberThenDead ls =
-    (c : Document) × (r : Document) × (ls ≡ fault_line (at_place 6 34) wrong_argument (element tel_label c r) ∷ warning_line (at_place 7 5) ∷ [])
+    (number : List ℕ) × (ls ≡ fault_line (at_place 6 34) wrong_argument (element tel_label (text number empty) empty) ∷ warning_line (at_place 7 5) ∷ [])
 
 pub record SampleLines : Type 0 where
   pub result : HasLines some_from_any (λ ls. ls ≡ fault_line (at_place 1 35) wrong_result empty ∷ [])

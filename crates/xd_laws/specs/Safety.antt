@@ -1,6 +1,6 @@
 -- An accepted program never gets stuck, and its values are what its types and matches let them be.
 use Rattle.std.specs.Prelude.{◌≡◌, ℕ, true, List, [], ◌∷◌, Some}
-use Rattle.xd_doc.specs.Document.{Document, is_proper}
+use Rattle.xd_doc.specs.Document.{Document, is_proper, size}
 use Rattle.xd_syntax.specs.Words.{has_word, main_word}
 use Rattle.xd_syntax.specs.Tree.{Definitions}
 use Rattle.xd_syntax.specs.Placed.{PlacedTree, unplaced}
@@ -45,7 +45,7 @@ IsAllowed P S e d = (is_proper d ≡ true) × May P S e d
 abbrev pub ValuesAreAllowed : Type 0
 ValuesAreAllowed = (P : ProgramTree) → IsProperProgram P → IsSound P → IsAccepted P →
     (S : Scope) (known : List (List ℕ)) (env : Environment) → Suits P S known env →
-    (e : Expression) → IsProperExpression e → expression_faults P known e ≡ [] → (ls : List Line) → LinesOf P S e ls → faults_among ls ≡ [] →
+    (e : Expression) → IsProperExpression e → expression_faults P known e ≡ [] → (ls : List Line) → LinesOf size P S e ls → faults_among ls ≡ [] →
     (n : ℕ) → Meets (IsAllowed P S e) (value P n env e)
 
 -- A call of a function on values of its parameters' types is a value of its declared result type.

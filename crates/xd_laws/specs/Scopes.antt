@@ -29,4 +29,4 @@ ScopesDecideMay = (P : ProgramTree) (S Z : Scope) → AllowTheSame P S Z → (e 
 
 -- and it has the same lists of lines
 abbrev pub ScopesDecideLines : Type 0
-ScopesDecideLines = (P : ProgramTree) (S Z : Scope) → AllowTheSame P S Z → (e : Expression) (ls : List Line) → LinesOf P S e ls ↔ LinesOf P Z e ls
+ScopesDecideLines = (measure : Document → ℕ) (P : ProgramTree) (S Z : Scope) → AllowTheSame P S Z → (e : Expression) (ls : List Line) → LinesOf measure P S e ls ↔ LinesOf measure P Z e ls

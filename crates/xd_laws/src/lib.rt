@@ -5,6 +5,7 @@ ghost use Rattle.xd_laws.specs.Laws.{PatternsAreTypes, WaysSettle, FitsSettles, 
 ghost use Rattle.xd_laws.specs.Safety.{ValuesAreAllowed, CallsAreSafe, AcceptedProgramsAreSafe};
 ghost use Rattle.xd_laws.specs.LineSamples.{SampleLines};
 ghost use Rattle.xd_laws.specs.SameLines.{LinesAreOne};
+ghost use Rattle.xd_laws.specs.LeastLines.{SmallLinesAreLeast};
 ghost use Rattle.xd_laws.specs.Scopes.{MoreIsAllowed, ScopesDecideMay, ScopesDecideLines};
 
 /// In a sound program a pattern takes exactly the documents that fit it as a type.
@@ -64,9 +65,15 @@ pub fn scopes_decide()
     ensures lines { ScopesDecideLines }
 {}
 
-/// A program has one list of faults of matches, arguments and results and of warnings, but for the documents that they carry.
+/// A program has one list of faults of matches, arguments and results and of warnings, but for the documents that they carry, and
+/// these have the same sizes.
 pub fn lines_are_one()
     ensures { LinesAreOne }
+{}
+
+/// Whoever tells sizes apart below a limit alone knows the faults all the same, where the documents that they carry are smaller.
+pub fn small_lines_are_least()
+    ensures { SmallLinesAreLeast }
 {}
 
 /// Sample programs have the faults of matches, arguments and results, and the warnings, that they should have, and no others.

@@ -13,7 +13,7 @@ use Rattle.xd_plain.specs.PlainDocuments.{document_of}
 use Rattle.xd_plain.specs.PlainWays.{bindings_of}
 use Rattle.xd_plain.specs.PlainPrograms.{program_of}
 use Rattle.xd_plain.specs.declared.document.PlainDocument.{PlainDocument}
-use Rattle.xd_plain.specs.declared.ways.Binding.{Binding}
+use Rattle.xd_plain.specs.declared.ways.PlainBinding.{PlainBinding}
 use Rattle.xd_plain.specs.declared.program.PlainProgram.{PlainProgram}
 use Rattle.xd_plain.specs.declared.evaluate.Valued.{Valued}
 use Rattle.xd_plain.specs.declared.evaluate.AllValued.{AllValued}
@@ -66,11 +66,11 @@ abbrev pub matches_of : PlainProgram → (u : ℕ) → Matcher
 matches_of p u = first_within (names_of (program_of p)) u
 
 -- with n calls left, where calls stand within one another at most k deep
-abbrev pub value_of : PlainProgram → (u k n : ℕ) → List Binding → Expression → Outcome Document
+abbrev pub value_of : PlainProgram → (u k n : ℕ) → List PlainBinding → Expression → Outcome Document
 value_of p u k n vs e = value_by (matches_of p u) (call_within (matches_of p u) (program_of p) k) n (bindings_of vs) e
 
-abbrev pub values_of : PlainProgram → (u k n : ℕ) → List Binding → Arguments → Outcome (List Document)
+abbrev pub values_of : PlainProgram → (u k n : ℕ) → List PlainBinding → Arguments → Outcome (List Document)
 values_of p u k n vs es = values_by (matches_of p u) (call_within (matches_of p u) (program_of p) k) n (bindings_of vs) es
 
-abbrev pub chosen_of : PlainProgram → (u k n : ℕ) → List Binding → Document → Clauses → Outcome Document
+abbrev pub chosen_of : PlainProgram → (u k n : ℕ) → List PlainBinding → Document → Clauses → Outcome Document
 chosen_of p u k n vs d cs = chosen_by (matches_of p u) (call_within (matches_of p u) (program_of p) k) n (bindings_of vs) d cs

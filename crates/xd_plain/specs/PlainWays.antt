@@ -4,9 +4,9 @@ use Rattle.xd_doc.specs.Document.{Document, empty, element}
 use Rattle.xd_syntax.specs.Ways.{Way, is_whole}
 use Rattle.xd_plain.specs.PlainDocuments.{document_of}
 use Rattle.xd_plain.specs.declared.ways.PlainWay.{PlainWay}
-use Rattle.xd_plain.specs.declared.ways.Binding.{Binding}
+use Rattle.xd_plain.specs.declared.ways.PlainBinding.{PlainBinding}
 
-abbrev pub bindings_of : List Binding → List (List ℕ × Document)
+abbrev pub bindings_of : List PlainBinding → List (List ℕ × Document)
 bindings_of bs = map (λ b. (b.variable, document_of b.document)) bs
 
 abbrev pub way_of : PlainWay → Way

@@ -44,6 +44,7 @@ impl PlainDocument {
         Ok(PlainDocument::Elem(label.share()?, content, rest))
     }
 
+    /// Whether it has no item.
     pub fn is_empty(&self) -> bool
         ensures { result ≡ not (has_item (document_of self.now)) }
     {

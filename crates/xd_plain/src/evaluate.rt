@@ -20,7 +20,7 @@ use crate::document::PlainDocument;
 use crate::program::{
     PlainArguments, PlainClauses, PlainExpression, PlainParameter, PlainProgram, function_named,
 };
-use crate::ways::{Binding, first_within, push_binding, push_bindings};
+use crate::ways::{PlainBinding, first_within, push_binding, push_bindings};
 use std::alloc::Global;
 use xd_doc::{Label, NoMemory};
 
@@ -66,7 +66,7 @@ pub fn value(
     program: &PlainProgram,
     unfoldings: u64,
     calls: u64,
-    variables: &[Binding],
+    variables: &[PlainBinding],
     expression: &PlainExpression,
 ) -> Result<Valued, NoValue>
     requires { AnyIsFirst program.now }
@@ -106,7 +106,7 @@ fn value_within(
     unfoldings: u64,
     deep: u64,
     calls: u64,
-    variables: &[Binding],
+    variables: &[PlainBinding],
     expression: &PlainExpression,
 ) -> Result<Valued, NoValue>
     requires { AnyIsFirst program.now }
@@ -157,7 +157,7 @@ fn tagged_within(
     unfoldings: u64,
     deep: u64,
     calls: u64,
-    variables: &[Binding],
+    variables: &[PlainBinding],
     label: &Label,
     content: &PlainExpression,
 ) -> Result<Valued, NoValue>
@@ -185,7 +185,7 @@ fn joined_within(
     unfoldings: u64,
     deep: u64,
     calls: u64,
-    variables: &[Binding],
+    variables: &[PlainBinding],
     first: &PlainExpression,
     rest: &PlainExpression,
 ) -> Result<Valued, NoValue>
@@ -218,7 +218,7 @@ fn called_within(
     unfoldings: u64,
     deep: u64,
     calls: u64,
-    variables: &[Binding],
+    variables: &[PlainBinding],
     function: &Label,
     arguments: &PlainArguments,
 ) -> Result<Valued, NoValue>
@@ -242,7 +242,7 @@ fn matched_within(
     unfoldings: u64,
     deep: u64,
     calls: u64,
-    variables: &[Binding],
+    variables: &[PlainBinding],
     scrutinee: &PlainExpression,
     clauses: &PlainClauses,
 ) -> Result<Valued, NoValue>
@@ -273,7 +273,7 @@ fn values_within(
     unfoldings: u64,
     deep: u64,
     calls: u64,
-    variables: &[Binding],
+    variables: &[PlainBinding],
     arguments: &PlainArguments,
 ) -> Result<AllValued, NoValue>
     requires { AnyIsFirst program.now }
@@ -306,7 +306,7 @@ fn chosen_within(
     unfoldings: u64,
     deep: u64,
     calls: u64,
-    variables: &[Binding],
+    variables: &[PlainBinding],
     document: &PlainDocument,
     clauses: &PlainClauses,
 ) -> Result<Valued, NoValue>
@@ -365,7 +365,7 @@ fn call_within(
 }
 
 /// What the newest variable of this name has.
-fn document_bound<'a>(variables: &'a [Binding], name: &Label) -> Option<&'a PlainDocument>
+fn document_bound<'a>(variables: &'a [PlainBinding], name: &Label) -> Option<&'a PlainDocument>
     ensures { map_option document_of (option_copied result) ≡ on_fuel.looked_up (bindings_of variables.now) name.now }
 {
     for binding in variables {
@@ -381,7 +381,7 @@ fn parameters_bound(
     alloc: Global,
     parameters: &[PlainParameter],
     documents: &[PlainDocument],
-) -> Result<Vec<Binding>, NoMemory>
+) -> Result<Vec<PlainBinding>, NoMemory>
     ensures { IfOk result (λ made. bindings_of made.items ≡ on_fuel.bound (map parameter_of parameters.now) (documents_of documents.now)) }
 {
     let mut made = Vec::new(alloc);
@@ -399,9 +399,9 @@ fn parameters_bound(
 /// The bindings, and the outer ones behind them.
 fn with_outer(
     alloc: Global,
-    bindings: Vec<Binding>,
-    outer: &[Binding],
-) -> Result<Vec<Binding>, NoMemory>
+    bindings: Vec<PlainBinding>,
+    outer: &[PlainBinding],
+) -> Result<Vec<PlainBinding>, NoMemory>
     ensures { IfOk result (λ made. bindings_of made.items ≡ bindings_of bindings.items ++ bindings_of outer.now) }
 {
     let mut made = bindings;

@@ -15,4 +15,4 @@ pub use program::{
     PlainArguments, PlainClauses, PlainExpression, PlainFunction, PlainParameter, PlainProgram,
 };
 pub use tree::{PlainDefinition, PlainTree};
-pub use ways::{Binding, PlainWay, first_within, ways_within};
+pub use ways::{PlainBinding, PlainWay, first_within, ways_within};

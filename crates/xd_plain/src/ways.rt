@@ -17,7 +17,7 @@ use xd_doc::{Class, Label, NoMemory, Words};
 
 /// A variable and its document.
 #[derive(Drop)]
-pub struct Binding {
+pub struct PlainBinding {
     pub variable: Label,
     pub document: PlainDocument,
 }
@@ -25,7 +25,7 @@ pub struct Binding {
 /// What a way binds, the prefix that it takes, and the rest.
 #[derive(Drop)]
 pub struct PlainWay {
-    pub bindings: Vec<Binding>,
+    pub bindings: Vec<PlainBinding>,
     pub taken: PlainDocument,
     pub rest: PlainDocument,
 }
@@ -201,7 +201,7 @@ pub fn first_within(
     unfoldings: u64,
     pattern: &PlainTree,
     document: &PlainDocument,
-) -> Result<Option<Vec<Binding>>, NoMemory>
+) -> Result<Option<Vec<PlainBinding>>, NoMemory>
     ensures within { IfOk result (λ found. map_option (λ bindings. bindings_of bindings.items) found ≡ the_first_within (definitions_of definitions.now) unfoldings (tree_of pattern.now) (document_of document.now)) }
     ensures enough { (P : ProgramTree) → IsSound P → definitions_of definitions.now ≡ names_of P → needed (names_of P) (document_of document.now) ≤ unfoldings → IfOk result (λ found. map_option (λ bindings. bindings_of bindings.items) found ≡ first (names_of P) (tree_of pattern.now) (document_of document.now)) }
 {
@@ -209,7 +209,7 @@ pub fn first_within(
     first_of_whole(alloc, &ways)
 }
 
-fn first_of_whole(alloc: Global, ways: &[PlainWay]) -> Result<Option<Vec<Binding>>, NoMemory>
+fn first_of_whole(alloc: Global, ways: &[PlainWay]) -> Result<Option<Vec<PlainBinding>>, NoMemory>
     ensures { IfOk result (λ found. map_option (λ bindings. bindings_of bindings.items) found ≡ first_whole (ways_of ways.now)) }
 {
     for way in ways {
@@ -375,7 +375,7 @@ fn no_item(alloc: Global, document: &PlainDocument) -> Result<Vec<PlainWay>, NoM
 /// The way that binds these, takes this document and leaves a copy of the rest.
 fn leaving(
     alloc: Global,
-    bindings: Vec<Binding>,
+    bindings: Vec<PlainBinding>,
     taken: PlainDocument,
     rest: &PlainDocument,
 ) -> Result<PlainWay, NoMemory>
@@ -483,7 +483,11 @@ fn one_bound(alloc: Global, variable: &Label, way: &PlainWay) -> Result<PlainWay
 }
 
 /// The variable bound to what the way takes, and the way's bindings behind it.
-fn with_variable(alloc: Global, variable: &Label, way: &PlainWay) -> Result<Vec<Binding>, NoMemory>
+fn with_variable(
+    alloc: Global,
+    variable: &Label,
+    way: &PlainWay,
+) -> Result<Vec<PlainBinding>, NoMemory>
     ensures { IfOk result (λ made. bindings_of made.items ≡ (variable.now, document_of way.now.taken) ∷ bindings_of way.now.bindings.items) }
 {
     let mut made = Vec::new(alloc);
@@ -495,7 +499,7 @@ fn with_variable(alloc: Global, variable: &Label, way: &PlainWay) -> Result<Vec<
 /// Appends a copy of the variable and of its document.
 pub(super) fn push_binding(
     alloc: Global,
-    made: &mut Vec<Binding>,
+    made: &mut Vec<PlainBinding>,
     variable: &Label,
     document: &PlainDocument,
 ) -> Result<(), NoMemory>
@@ -503,14 +507,14 @@ pub(super) fn push_binding(
 {
     let variable = variable.share()?;
     let document = document.copy(alloc)?;
-    made.push(Binding { variable, document })?;
+    made.push(PlainBinding { variable, document })?;
     Ok(())
 }
 
 pub(super) fn push_bindings(
     alloc: Global,
-    made: &mut Vec<Binding>,
-    bindings: &[Binding],
+    made: &mut Vec<PlainBinding>,
+    bindings: &[PlainBinding],
 ) -> Result<(), NoMemory>
     ensures { OnOk result (bindings_of made.new.items ≡ bindings_of made.old.items ++ bindings_of bindings.now) }
 {
@@ -521,7 +525,7 @@ pub(super) fn push_bindings(
 }
 
 /// A copy of the bindings.
-fn copied(alloc: Global, bindings: &[Binding]) -> Result<Vec<Binding>, NoMemory>
+fn copied(alloc: Global, bindings: &[PlainBinding]) -> Result<Vec<PlainBinding>, NoMemory>
     ensures { IfOk result (λ made. bindings_of made.items ≡ bindings_of bindings.now) }
 {
     let mut made = Vec::new(alloc);
@@ -564,7 +568,11 @@ fn one_joined(alloc: Global, first: &PlainWay, second: &PlainWay) -> Result<Plai
 }
 
 /// A copy of these bindings, followed by one of those.
-fn joined(alloc: Global, firsts: &[Binding], seconds: &[Binding]) -> Result<Vec<Binding>, NoMemory>
+fn joined(
+    alloc: Global,
+    firsts: &[PlainBinding],
+    seconds: &[PlainBinding],
+) -> Result<Vec<PlainBinding>, NoMemory>
     ensures { IfOk result (λ made. bindings_of made.items ≡ bindings_of firsts.now ++ bindings_of seconds.now) }
 {
     let mut made = copied(alloc, firsts)?;

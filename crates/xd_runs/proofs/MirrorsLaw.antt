@@ -8,7 +8,7 @@ use Rattle.xd_doc.specs.Classes.{class_has}
 use Rattle.xd_syntax.specs.Tree.{Tree, Definitions}
 use Rattle.xd_laws.specs.Guarded.{Guarded}
 use Rattle.xd_runs.specs.Runs.{Continuation, start, TextMove, ElementMove, Moves, choices, texts_of, elements_of, ended, over_text, over_element, text_runs, element_runs, runs_by, runs, Choice, stop, take_text, take_element, has_stop}
-use Rattle.xd_runs.specs.Mirrors.{Standing, SameText, SameElement, Mirrors, AreRunsOf, MirrorsRun}
+use Rattle.xd_runs.specs.Mirrors.{Ahead, SameText, SameElement, Mirrors, AreRunsOf, MirrorsRun}
 use Rattle.xd_runs.specs.Linear.{BindNothing, IsLinear}
 use Rattle.xd_runs.specs.Alike.{Alike}
 use Rattle.xd_runs.proofs.Alike.{alike_refl, alike_same, alike_trans, alike_append, alike_flat, alike_each, alike_map}
@@ -41,7 +41,7 @@ same_stops cs ds a = go (has_stop cs) (has_stop ds) refl refl
     go true false e f = sym (stop_has ds (a.into stop (stop_there cs e))) ∙ f
     go false true e f = sym e ∙ stop_has cs (a.back stop (stop_there ds f))
 
-module _ {S : Type 0} (E : Definitions) (M : S → Moves S) (A : Standing S) (mirrors : Mirrors E M A) where
+module _ {S : Type 0} (E : Definitions) (M : S → Moves S) (A : Ahead S) (mirrors : Mirrors E M A) where
   text_alike : (t : List ℕ) (d : Document) → ((s : S) (K : Continuation) → A s ≡ Some K → Alike (runs_by M d s) (runs E d K)) → (m : TextMove S) (n : TextMove Continuation) → SameText A m n →
       Alike (text_runs (runs_by M d) t m) (text_runs (runs E d) t n)
   text_alike t d h m n q =
@@ -91,7 +91,7 @@ module _ {S : Type 0} (E : Definitions) (M : S → Moves S) (A : Standing S) (mi
       (alike_trans (alike_flat (by_element (element_runs (runs E k) (runs E d) l)) f.1) (alike_same (sym (elements_flat (element_runs (runs E k) (runs E d) l) (choices E K))))))
 
 -- with states of any kind
-pub mirrors_run_of : {S : Type 0} (E : Definitions) → Guarded E → BindNothing E → (P : Tree) → IsLinear P → (M : S → Moves S) (A : Standing S) → Mirrors E M A →
+pub mirrors_run_of : {S : Type 0} (E : Definitions) → Guarded E → BindNothing E → (P : Tree) → IsLinear P → (M : S → Moves S) (A : Ahead S) → Mirrors E M A →
     (s : S) → A s ≡ Some (start P) → AreRunsOf E P M s
 mirrors_run_of E guarded none P l M A mirrors s e =
     let h : (d : Document) → HoldWays E P d (runs_by M d s) =

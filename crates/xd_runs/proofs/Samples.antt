@@ -6,7 +6,7 @@ use Rattle.xd_doc.specs.Document.{Document, empty, element}
 use Rattle.xd_doc.specs.Classes.{LabelClass}
 use Rattle.xd_syntax.specs.Tree.{Tree, Empty, Elem, Seq, Alt, Star, Plus, Opt, Val, Definitions, environment}
 use Rattle.xd_runs.specs.Runs.{Piece, Continuation, stop, take_element, start, choices, ElementMove, Moves, runs, held, Choice}
-use Rattle.xd_runs.specs.Mirrors.{AreMovesOf, Standing, SameElement, Mirrors}
+use Rattle.xd_runs.specs.Mirrors.{AreMovesOf, Ahead, SameElement, Mirrors}
 
 -- the class of `a`
 abbrev a_class : LabelClass
@@ -55,7 +55,7 @@ repeated = Val (120 ∷ []) (Star a_tree)
 abbrev inside : Piece
 inside = record { marks = (120 ∷ []) ∷ []; part = Star a_tree }
 
-abbrev standing : Standing ℕ
+abbrev standing : Ahead ℕ
 standing zero = Some (start repeated)
 standing (suc zero) = Some (inside ∷ [])
 standing (suc (suc zero)) = Some (start Empty)

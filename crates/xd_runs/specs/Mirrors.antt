@@ -15,28 +15,28 @@ use Rattle.xd_runs.specs.Laws.{Agree, run_bindings, first_of}
 use Rattle.xd_runs.specs.Together.{AreTogether}
 
 -- what stands ahead of a state, for the states of a pattern
-abbrev pub Standing : Type 0 → Type 0
-Standing S = S → Option Continuation
+abbrev pub Ahead : Type 0 → Type 0
+Ahead S = S → Option Continuation
 
-pub record SameText {S : Type 0} (A : Standing S) (m : TextMove S) (n : TextMove Continuation) : Type 0 where
+pub record SameText {S : Type 0} (A : Ahead S) (m : TextMove S) (n : TextMove Continuation) : Type 0 where
   pub words : m.words ≡ n.words
   pub marks : m.marks ≡ n.marks
   pub rest : A m.rest ≡ Some n.rest
 
-pub record SameElement {S : Type 0} (A : Standing S) (m : ElementMove S) (n : ElementMove Continuation) : Type 0 where
+pub record SameElement {S : Type 0} (A : Ahead S) (m : ElementMove S) (n : ElementMove Continuation) : Type 0 where
   pub class : m.class ≡ n.class
   pub content : A m.content ≡ Some n.content
   pub marks : m.marks ≡ n.marks
   pub rest : A m.rest ≡ Some n.rest
 
 -- the moves are those of these choices, in their order
-pub record AreMovesOf {S : Type 0} (A : Standing S) (moves : Moves S) (cs : List Choice) : Type 0 where
+pub record AreMovesOf {S : Type 0} (A : Ahead S) (moves : Moves S) (cs : List Choice) : Type 0 where
   pub last : moves.last ≡ has_stop cs
   pub texts : AllZip (SameText A) moves.texts (texts_of cs)
   pub elements : AllZip (SameElement A) moves.elements (elements_of cs)
 
 -- each state of a pattern has the moves of what stands ahead of it, where repeats of a choice may be left out
-pub record Mirrors {S : Type 0} (E : Definitions) (M : S → Moves S) (A : Standing S) : Type 0 where
+pub record Mirrors {S : Type 0} (E : Definitions) (M : S → Moves S) (A : Ahead S) : Type 0 where
   pub found : (s : S) (K : Continuation) → A s ≡ Some K → (cs : List Choice) × Alike cs (choices E K) × AreMovesOf A (M s) cs
 
 -- the runs from a state are those of a pattern
@@ -49,5 +49,5 @@ pub record AreRunsOf {S : Type 0} (E : Definitions) (P : Tree) (M : S → Moves 
 
 -- a state that mirrors a linear pattern has its runs
 abbrev pub MirrorsRun : Type 0
-MirrorsRun = (E : Definitions) → Guarded E → BindNothing E → (P : Tree) → IsLinear P → (M : ℕ → Moves ℕ) (A : Standing ℕ) → Mirrors E M A →
+MirrorsRun = (E : Definitions) → Guarded E → BindNothing E → (P : Tree) → IsLinear P → (M : ℕ → Moves ℕ) (A : Ahead ℕ) → Mirrors E M A →
     (s : ℕ) → A s ≡ Some (start P) → AreRunsOf E P M s

@@ -16,7 +16,7 @@ use Rattle.xd_sound.specs.Emptiness.{is_marked, name_marked, form_marked, IsRead
 use Rattle.xd_syntax.specs.Nodes.{form_at}
 use Rattle.xd_sound.specs.Known.{AreKnownSoFar, IsSoundAndKnown}
 use Rattle.xd_syntax.specs.declared.types.TypeDef.{TypeDef}
-use Rattle.xd_sound.specs.declared.known.Known.{Known}
+use Rattle.xd_sound.specs.declared.known.KnownTypes.{KnownTypes}
 use Rattle.xd_syntax.proofs.Trees.{tree_kept}
 use Rattle.xd_sound.proofs.EmptyLemmas.{bodies_below, decides, form_decided, same_tests}
 
@@ -64,7 +64,7 @@ marks_kept old new ds marks k e m =
     }
 
 -- types are added
-pub known_kept : (old new : ProgramTable) (k : Known) → AddsTypes old new → program_tree new ≡ program_tree old → AreKnownSoFar old.types old.type_defs k → AreKnownSoFar new.types new.type_defs k
+pub known_kept : (old new : ProgramTable) (k : KnownTypes) → AddsTypes old new → program_tree new ≡ program_tree old → AreKnownSoFar old.types old.type_defs k → AreKnownSoFar new.types new.type_defs k
 known_kept old new k a e m =
     subst (λ ds. AreKnownSoFar new.types ds k) (sym a.type_defs)
     (record {
@@ -72,10 +72,10 @@ known_kept old new k a e m =
       marked = marks_kept old.types new.types old.type_defs k.empty_marks.items a.types (ap (meanings new.types) (sym a.type_defs) ∙ ap names_of e) m.marked;
     })
 
-pub maybe_kept : (old new : ProgramTable) (k : Option Known) → AddsTypes old new → program_tree new ≡ program_tree old → IsSoundAndKnown old k → IsSoundAndKnown new k
+pub maybe_kept : (old new : ProgramTable) (k : Option KnownTypes) → AddsTypes old new → program_tree new ≡ program_tree old → IsSoundAndKnown old k → IsSoundAndKnown new k
 maybe_kept old new k a e m = record { sound = subst IsSound (sym e) m.sound; known = go k m.known }
   where
-    go : (k : Option Known) → IfSome k (AreKnownSoFar old.types old.type_defs) → IfSome k (AreKnownSoFar new.types new.type_defs)
+    go : (k : Option KnownTypes) → IfSome k (AreKnownSoFar old.types old.type_defs) → IfSome k (AreKnownSoFar new.types new.type_defs)
     go None i = tt
     go (Some x) i = known_kept old new x a e i
 

@@ -13,12 +13,12 @@ use xd_syntax::{TypeDef, Types};
 
 /// The number of each name's first definition, and for each node of a type whether the empty document fits it.
 #[derive(Drop)]
-pub struct Known {
+pub struct KnownTypes {
     pub names: TypeNames,
     pub empty_marks: Vec<bool>,
 }
 
-impl Known {
+impl KnownTypes {
     /// What is known of the types of these definitions.
     pub fn new(alloc: Global, types: &Types, defs: &[TypeDef]) -> Result<Self, NoMemory>
         requires { AllByRecursion (TypeDefStands types.now) defs.now }

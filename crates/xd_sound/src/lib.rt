@@ -10,6 +10,6 @@ mod type_names;
 mod waiting;
 
 pub use graph::Graph;
-pub use known::Known;
+pub use known::KnownTypes;
 pub use sound::{Checked, SoundProgram, parameter_of_main};
 pub use type_names::TypeNames;

@@ -23,7 +23,7 @@ ghost use Rattle.xd_sound.specs.TypeNames.{AreNumbered};
 ghost use Rattle.xd_sound.specs.Known.{AreKnown, AreKnownSoFar};
 
 use crate::adopt::{copy_form, copy_of, reached_from};
-use crate::known::Known;
+use crate::known::KnownTypes;
 use crate::type_names::TypeNames;
 use std::alloc::Global;
 use std::collections::BTreeMap;
@@ -36,7 +36,7 @@ use xd_syntax::{Function, Param, Program, TypeForm, TypeId, Types};
 pub struct SoundProgram {
     program: Program,
     /// Made when it is first needed. Types that were added since have no mark yet.
-    known: Option<Known>,
+    known: Option<KnownTypes>,
     alloc: Global,
 }
 
@@ -92,6 +92,7 @@ impl SoundProgram {
     }
 
     /// An equal program, with the same ids. What is known of its types is found anew when it is first needed.
+    /// `NoMemory` where there is no room for the copy.
     pub fn copy(&self, alloc: Global) -> Result<Self, NoMemory>
         ensures { IfOk result (λ made. made ≡ self.now) }
     {
@@ -103,7 +104,8 @@ impl SoundProgram {
         })
     }
 
-    /// The type that is this name, `String` and `Any` included; `None` where it is not defined.
+    /// The type that is this name, `String` and `Any` included; `None` exactly where it is not defined. After `NoMemory` the program has
+    /// more types at most.
     pub fn find_type(&mut self, word: &str) -> Result<Option<TypeId>, NoMemory>
         ensures defined { IfOk result (λ found. is_some found ≡ is_defined (program_tree self.old) word.now) }
         ensures found { IfOk result (λ found. IfSome found (IsTypeAt self.new.types (type_named word.now))) }
@@ -154,8 +156,8 @@ impl SoundProgram {
     /// A type of another table, taken into the program; `None` exactly where it uses a name that is not defined, and then
     /// nothing is added.
     ///
-    /// It copies the nodes that the type reaches, each once, and each name once, in n log n steps for n parts of these nodes,
-    /// whatever else the other table holds. Each name among them is looked up in the order of names.
+    /// It copies the nodes that the type reaches, each once, and each name once, whatever else the other table holds. After `NoMemory`
+    /// the program has more types at most.
     pub fn adopt(&mut self, types: &Types, id: TypeId) -> Result<Option<TypeId>, NoMemory>
         requires { BelongsTo types.now id }
         ensures defined { IfOk result (λ adopted. is_some adopted ≡ uses_only (known_types (program_tree self.old)) (tree types.now id)) }
@@ -285,7 +287,7 @@ impl SoundProgram {
         Ok(id)
     }
 
-    /// One more type, of parts that the program has.
+    /// One more type, of parts that the program has. After `NoMemory` the program has the types that it had.
     pub fn add_type(&mut self, form: TypeForm) -> Result<TypeId, NoMemory>
         requires { CanFollow false self.old.types (form_of form) }
         ensures ok { IfOk result (IsTypeAt self.new.types (form_tree (tree_at self.old.types) (form_of form))) }
@@ -298,8 +300,9 @@ impl SoundProgram {
         self.program.add_type(form)
     }
 
-    /// What is known of its types: found at the first call, and then only for the types that were added since it was given back.
-    pub fn take_known(&mut self) -> Result<Known, NoMemory>
+    /// What is known of its types: found at the first call, and then only for the types that were added since it was given back
+    /// ([`Self::give_back`]). After `NoMemory` the program is as it was, and all is found anew at the next call.
+    pub fn take_known(&mut self) -> Result<KnownTypes, NoMemory>
         ensures known { IfOk result (AreKnown self.old) }
         ensures same { self.new ≡ self.old }
     {
@@ -308,7 +311,7 @@ impl SoundProgram {
     }
 
     /// Keeps what was taken.
-    pub fn give_back(&mut self, known: Known)
+    pub fn give_back(&mut self, known: KnownTypes)
         requires { AreKnown self.old known }
         ensures { self.new ≡ self.old }
     {
@@ -317,7 +320,7 @@ impl SoundProgram {
     }
 
     /// What is known so far.
-    fn learned(&mut self) -> Result<Known, NoMemory>
+    fn learned(&mut self) -> Result<KnownTypes, NoMemory>
         ensures known { IfOk result (AreKnownSoFar self.old.types self.old.type_defs) }
         ensures same { self.new ≡ self.old }
     {
@@ -325,12 +328,12 @@ impl SoundProgram {
             Some(known) => Ok(known),
             None => {
                 let types = self.program.types();
-                Ok(Known::new(self.alloc, types, self.program.type_defs())?)
+                Ok(KnownTypes::new(self.alloc, types, self.program.type_defs())?)
             }
         }
     }
 
-    fn keep(&mut self, known: Known)
+    fn keep(&mut self, known: KnownTypes)
         requires { AreKnownSoFar self.old.types self.old.type_defs known }
         ensures { self.new ≡ self.old }
     {

@@ -16,6 +16,7 @@ pub struct TypeNames {
 }
 
 impl TypeNames {
+    /// The first definition of each name. `NoMemory` where there is no room for them.
     pub fn new(alloc: Global, defs: &[TypeDef]) -> Result<Self, NoMemory>
         ensures { IfOk result (λ names. AreNumbered names defs.now) }
     {

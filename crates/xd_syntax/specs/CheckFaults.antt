@@ -1,7 +1,8 @@
 -- Faults of matches, arguments and results, and warnings. (This project's own rule.)
 use Rattle.std.specs.Prelude.{◌≡◌, ℕ, Bool, true, false, cond, ◌||◌, ◌&&◌, nat_lt, ◌⊎◌, List, [], ◌∷◌, ◌++◌, Option, Some, None}
 use Rattle.xd_base.specs.declared.Place.{Place}
-use Rattle.xd_doc.specs.Document.{Document, is_proper}
+use Rattle.xd_doc.specs.Document.{Document, is_proper, size}
+use Rattle.xd_doc.specs.Least.{IsLeastBy}
 use Rattle.xd_syntax.specs.Placed.{PlacedTree, unplaced, place_of}
 use Rattle.xd_syntax.specs.Fits.{Fits}
 use Rattle.xd_syntax.specs.Order.{is_earlier, is_same_place, ordered}
@@ -34,12 +35,6 @@ line_precedes l m = is_earlier l.place m.place || (is_same_place l.place m.place
 abbrev pub lines_in_order : List Line → List Line
 lines_in_order ls = ordered line_precedes ls
 
--- one line with a document that meets the fact, or no line where none does
-abbrev pub LineWhere : Place → LineKind → (Document → Type 0) → List Line → Type 0
-LineWhere p k A ls =
-    ((d : Document) × (is_proper d ≡ true) × A d × (ls ≡ record { place = p; kind = k; document = Some d } ∷ []))
-    ⊎ (((d : Document) → is_proper d ≡ true → A d → ⊥) × (ls ≡ []))
-
 -- the lines of two parts, the first part's first
 abbrev pub Both : (List Line → Type 0) → (List Line → Type 0) → List Line → Type 0
 Both A B ls = (as_first : List Line) × (as_second : List Line) × A as_first × B as_second × (ls ≡ as_first ++ as_second)
@@ -60,49 +55,68 @@ Comes P S e earlier d = Arrives (names_of P) (May P S e) earlier d
 abbrev pub IsLiveIn : ProgramTree → Scope → Expression → List PlacedTree → PlacedTree → Type 0
 IsLiveIn P S e earlier Q = IsLive (names_of P) (May P S e) earlier Q
 
--- the lines inside an expression
-abbrev mutual
-  pub LinesOf : ProgramTree → Scope → Expression → List Line → Type 0
-  LinesOf P S (Tagged p l e) ls = LinesOf P S e ls
-  LinesOf P S (Joined p e f) ls = Both (LinesOf P S e) (LinesOf P S f) ls
-  LinesOf P S (Called p f es) ls = LinesOfArguments P S (parameters_of (function_of P.functions f)) es ls
-  LinesOf P S (Matched p e cs) ls = Both (LinesOf P S e) (LinesOfClauses P S p e [] cs) ls
-  LinesOf P S _ ls = ls ≡ []
+-- a proper document that meets the fact
+pub record IsProperWith (A : Document → Type 0) (d : Document) : Type 0 where
+  pub proper : is_proper d ≡ true
+  pub meets : A d
 
-  -- an argument that may be a document that does not fit its parameter's type has a line
-  pub LinesOfArguments : ProgramTree → Scope → List Parameter → Arguments → List Line → Type 0
-  LinesOfArguments P S ps no_argument ls = ls ≡ []
-  LinesOfArguments P S [] (argument e es) ls = Both (LinesOf P S e) (LinesOfArguments P S [] es) ls
-  LinesOfArguments P S (q ∷ qs) (argument e es) ls =
-      Both (LinesOf P S e)
-      (Both (LineWhere (place_of_expression e) wrong_argument (Misfits P S e q.declared)) (LinesOfArguments P S qs es)) ls
+-- Of the documents that it may carry, a fault carries a least one by this measure. That of the faults is the size of documents;
+-- another tells less of them apart, as sizes up to a limit do.
+module _ (measure : Document → ℕ) where
+  -- one line with a least document of those that meet the fact, or no line where none does
+  abbrev pub LineWhere : Place → LineKind → (Document → Type 0) → List Line → Type 0
+  LineWhere p k A ls =
+      ((d : Document) × IsLeastBy measure (IsProperWith A) d × (ls ≡ record { place = p; kind = k; document = Some d } ∷ []))
+      ⊎ (((d : Document) → is_proper d ≡ true → A d → ⊥) × (ls ≡ []))
 
-  -- Clauses of a match at a place of a scrutinee, behind these patterns. A clause that is live has the lines of its body;
-  -- one that is not has a warning and nothing else. Behind the last a document that comes there has a line at the match.
-  pub LinesOfClauses : ProgramTree → Scope → Place → Expression → List PlacedTree → Clauses → List Line → Type 0
-  LinesOfClauses P S p e earlier no_clause ls = LineWhere p not_exhaustive (Comes P S e earlier) ls
-  LinesOfClauses P S p e earlier (clause Q f cs) ls =
-      Both
-      (λ ms.
-      (IsLiveIn P S e earlier Q × LinesOf P (clause_entry e earlier Q ∷ S) f ms)
-      ⊎ ((IsLiveIn P S e earlier Q → ⊥) × (ms ≡ record { place = place_of Q; kind = dead_clause; document = None } ∷ [])))
-      (LinesOfClauses P S p e (Q ∷ earlier) cs) ls
+  -- the lines inside an expression
+  abbrev mutual
+    pub LinesOf : ProgramTree → Scope → Expression → List Line → Type 0
+    LinesOf P S (Tagged p l e) ls = LinesOf P S e ls
+    LinesOf P S (Joined p e f) ls = Both (LinesOf P S e) (LinesOf P S f) ls
+    LinesOf P S (Called p f es) ls = LinesOfArguments P S (parameters_of (function_of P.functions f)) es ls
+    LinesOf P S (Matched p e cs) ls = Both (LinesOf P S e) (LinesOfClauses P S p e [] cs) ls
+    LinesOf P S _ ls = ls ≡ []
 
--- the lines of a function are those of its body, where its parameters are in scope
-abbrev pub LinesOfFunction : ProgramTree → FunctionDefinition → List Line → Type 0
-LinesOfFunction P f ls =
-    let S : Scope = parameters_scope f.parameters in
-    Both (LinesOf P S f.body) (LineWhere (place_of_expression f.body) wrong_result (Misfits P S f.body f.declared)) ls
+    -- an argument that may be a document that does not fit its parameter's type has a line
+    pub LinesOfArguments : ProgramTree → Scope → List Parameter → Arguments → List Line → Type 0
+    LinesOfArguments P S ps no_argument ls = ls ≡ []
+    LinesOfArguments P S [] (argument e es) ls = Both (LinesOf P S e) (LinesOfArguments P S [] es) ls
+    LinesOfArguments P S (q ∷ qs) (argument e es) ls =
+        Both (LinesOf P S e)
+        (Both (LineWhere (place_of_expression e) wrong_argument (Misfits P S e q.declared)) (LinesOfArguments P S qs es)) ls
 
-abbrev pub LinesOfFunctions : ProgramTree → List FunctionDefinition → List Line → Type 0
-LinesOfFunctions P [] ls = ls ≡ []
-LinesOfFunctions P (f ∷ fs) ls = Both (LinesOfFunction P f) (LinesOfFunctions P fs) ls
+    -- Clauses of a match at a place of a scrutinee, behind these patterns. A clause that is live has the lines of its body;
+    -- one that is not has a warning and nothing else. Behind the last a document that comes there has a line at the match.
+    pub LinesOfClauses : ProgramTree → Scope → Place → Expression → List PlacedTree → Clauses → List Line → Type 0
+    LinesOfClauses P S p e earlier no_clause ls = LineWhere p not_exhaustive (Comes P S e earlier) ls
+    LinesOfClauses P S p e earlier (clause Q f cs) ls =
+        Both
+        (λ ms.
+        (IsLiveIn P S e earlier Q × LinesOf P (clause_entry e earlier Q ∷ S) f ms)
+        ⊎ ((IsLiveIn P S e earlier Q → ⊥) × (ms ≡ record { place = place_of Q; kind = dead_clause; document = None } ∷ [])))
+        (LinesOfClauses P S p e (Q ∷ earlier) cs) ls
 
--- these are all the faults of matches, arguments and results, and all warnings, in order
-pub record AreLines (P : ProgramTree) (ls : List Line) : Type 0 where
-  pub found : List Line
-  pub all : LinesOfFunctions P P.functions found
-  pub ordered : ls ≡ lines_in_order found
+  -- the lines of a function are those of its body, where its parameters are in scope
+  abbrev pub LinesOfFunction : ProgramTree → FunctionDefinition → List Line → Type 0
+  LinesOfFunction P f ls =
+      let S : Scope = parameters_scope f.parameters in
+      Both (LinesOf P S f.body) (LineWhere (place_of_expression f.body) wrong_result (Misfits P S f.body f.declared)) ls
+
+  abbrev pub LinesOfFunctions : ProgramTree → List FunctionDefinition → List Line → Type 0
+  LinesOfFunctions P [] ls = ls ≡ []
+  LinesOfFunctions P (f ∷ fs) ls = Both (LinesOfFunction P f) (LinesOfFunctions P fs) ls
+
+  -- all the faults of matches, arguments and results, and all warnings, in order
+  pub record AreLinesBy (P : ProgramTree) (ls : List Line) : Type 0 where
+    pub found : List Line
+    pub all : LinesOfFunctions P P.functions found
+    pub ordered : ls ≡ lines_in_order found
+
+-- These are all the faults of matches, arguments and results, and all warnings, in order. Each fault carries a least document of
+-- those that it may carry.
+abbrev pub AreLines : ProgramTree → List Line → Type 0
+AreLines = AreLinesBy size
 
 abbrev pub is_warning : LineKind → Bool
 is_warning dead_clause = true

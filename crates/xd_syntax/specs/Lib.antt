@@ -16,6 +16,7 @@ pub mod NameFaults
 pub mod RecursionFaults
 pub mod May
 pub mod CheckFaults
+pub mod Matches
 pub mod Patterns
 pub mod Nodes
 pub mod Exprs

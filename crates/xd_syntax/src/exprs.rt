@@ -15,13 +15,13 @@ use xd_base::Place;
 use xd_doc::{Label, NoMemory, Text};
 
 /// The number of an expression's node.
-#[derive(Clone, Copy)]
+#[derive(Clone, Copy, Debug, PartialEq, Eq)]
 pub struct ExprId {
     at: usize,
 }
 
 /// A clause of a match.
-#[derive(Clone, Copy)]
+#[derive(Clone, Copy, Debug, PartialEq, Eq)]
 pub struct Clause {
     pub pattern: PatternId,
     pub body: ExprId,
@@ -30,12 +30,19 @@ pub struct Clause {
 /// What a node is. Its parts are older nodes.
 #[derive(Drop)]
 pub enum ExprForm {
+    /// `()`: the empty document.
     Empty,
+    /// A text.
     Text(Text),
+    /// A variable.
     Var(Label),
+    /// An element: its label and its content.
     Elem(Label, ExprId),
+    /// The parts, one after the other.
     Seq(Vec<ExprId>),
+    /// A call: the function's name, and the arguments in order.
     Call(Label, Vec<ExprId>),
+    /// A match: what is matched, and the clauses in the order in which they are tried.
     Match(ExprId, Vec<Clause>),
 }
 
@@ -99,12 +106,14 @@ impl ExprForm {
 }
 
 impl ExprNode {
+    /// The place of its first token.
     pub fn place(&self) -> Place
         ensures { result ≡ self.now.place }
     {
         self.place
     }
 
+    /// What the node is.
     pub fn form(&self) -> &ExprForm
         ensures { shape_of result.now ≡ self.now.form }
     {

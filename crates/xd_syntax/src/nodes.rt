@@ -13,15 +13,25 @@ use xd_doc::{Class, Label, Words};
 /// What a node of a type or of a pattern is, borrowed from its table.
 #[derive(Drop)]
 pub enum FormView<'a, I: Copy> {
+    /// `()`: the empty document.
     Empty,
+    /// `String`: one text.
     Text,
+    /// One text of these, or one text but these.
     Words(&'a Words),
+    /// The type that this name stands for.
     Name(&'a Label),
+    /// One element: the class of its label, and what its content fits.
     Elem(&'a Class, I),
+    /// Its parts, one after the other.
     Seq(&'a [I]),
+    /// One of its branches.
     Alt(&'a [I]),
+    /// Any number of pieces in a row.
     Star(I),
+    /// One piece or more in a row.
     Plus(I),
+    /// The part, or nothing.
     Opt(I),
     /// The variable, the place of its word, and what it stands for; in patterns alone.
     Val(&'a Label, Place, I),
@@ -40,15 +50,19 @@ pub struct NodeView<'a, I: Copy> {
 /// A walker that treats both alike is written once, over this trait: it takes `nodes: &N` and an `id: N::Id`, looks at
 /// `nodes.view(id)`, and goes on with the `parts`, which are older nodes.
 pub trait Nodes {
+    /// The number of a node.
     type Id: Copy;
 
     /// Whether binders may stand in it.
     ghost binders: { Bool };
 
+    /// The nodes.
     ghost rows: { Self → List Row };
 
+    /// The number itself.
     ghost at: { Self.Id → ℕ };
 
+    /// The node with this number.
     fn view(&self, id: Self::Id) -> NodeView<'_, Self::Id>
         requires { at id < length (rows self.now) }
         ensures node { IsNode binders (rows self.now) (at id) result.place (view_form at result.form) }

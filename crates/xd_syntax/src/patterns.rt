@@ -13,7 +13,7 @@ use xd_base::Place;
 use xd_doc::{Class, Label, NoMemory, Words};
 
 /// The number of a pattern's node.
-#[derive(Clone, Copy)]
+#[derive(Clone, Copy, Debug, PartialEq, Eq)]
 pub struct PatternId {
     at: usize,
 }
@@ -21,15 +21,25 @@ pub struct PatternId {
 /// What a node is. Its parts are older nodes.
 #[derive(Drop)]
 pub enum PatternForm {
+    /// `()`: the empty document.
     Empty,
+    /// `String`: one text.
     Text,
+    /// One text of these, or one text but these.
     Words(Words),
+    /// The type that this name stands for.
     Name(Label),
+    /// One element: the class of its label, and what its content fits.
     Elem(Class, PatternId),
+    /// `T,U`: its parts, one after the other. There are at least two, and none is a sequence or `()`.
     Seq(Vec<PatternId>),
+    /// `T|U`: one of its branches. There are at least two, and none is an alternative.
     Alt(Vec<PatternId>),
+    /// `T*`: any number of pieces in a row.
     Star(PatternId),
+    /// `T+`: one piece or more in a row.
     Plus(PatternId),
+    /// `T?`: the part, or nothing.
     Opt(PatternId),
     /// The variable, the place of its word, and what it stands for.
     Val(Label, Place, PatternId),
@@ -115,12 +125,14 @@ impl PatternForm {
 }
 
 impl PatternNode {
+    /// The place of its first token.
     pub fn place(&self) -> Place
         ensures { result ≡ self.now.place }
     {
         self.place
     }
 
+    /// What the node is.
     pub fn form(&self) -> &PatternForm
         ensures { form_of_pattern result.now ≡ self.now.form }
     {

@@ -70,6 +70,7 @@ impl Model for Program {
 }
 
 impl Function {
+    /// A function of these parts. It has a parameter at least.
     pub fn new(
         name: Label,
         place: Place,
@@ -98,6 +99,7 @@ impl Function {
         let _name = &self.name;
     }
 
+    /// The name.
     pub fn name(&self) -> &Label
         ensures { result.now ≡ self.now.name }
     {
@@ -111,6 +113,7 @@ impl Function {
         self.place
     }
 
+    /// The parameters in order. There is one at least.
     pub fn params(&self) -> &[Param]
         ensures params { result.now ≡ self.now.params }
         ensures some { 1 ≤ length self.now.params }
@@ -125,6 +128,7 @@ impl Function {
         self.result
     }
 
+    /// The body, an expression of the function's program.
     pub fn body(&self) -> ExprId
         ensures { result ≡ self.now.body }
     {
@@ -158,6 +162,8 @@ impl Copied for Function {
 }
 
 impl Program {
+    /// A program of these tables. Each number in a definition, a function or an expression is that of a
+    /// node there, and no definition's name is a keyword.
     pub fn new(
         types: Types,
         patterns: Patterns,
@@ -203,6 +209,7 @@ impl Program {
         })
     }
 
+    /// The nodes of types.
     pub fn types(&self) -> &Types
         ensures types { result.now ≡ self.now.types }
         ensures stands { ProgramStands self.now }
@@ -210,6 +217,7 @@ impl Program {
         &self.types
     }
 
+    /// The nodes of patterns.
     pub fn patterns(&self) -> &Patterns
         ensures patterns { result.now ≡ self.now.patterns }
         ensures stands { ProgramStands self.now }
@@ -217,6 +225,7 @@ impl Program {
         &self.patterns
     }
 
+    /// The nodes of expressions.
     pub fn exprs(&self) -> &Exprs
         ensures exprs { result.now ≡ self.now.exprs }
         ensures stands { ProgramStands self.now }
@@ -224,6 +233,7 @@ impl Program {
         &self.exprs
     }
 
+    /// The definitions of types, in the order of the text.
     pub fn type_defs(&self) -> &[TypeDef]
         ensures type_defs { result.now ≡ self.now.type_defs }
         ensures stands { ProgramStands self.now }
@@ -231,6 +241,7 @@ impl Program {
         self.type_defs.as_slice()
     }
 
+    /// The functions, in the order of the text.
     pub fn functions(&self) -> &[Function]
         ensures functions { result.now ≡ self.now.functions }
         ensures stands { ProgramStands self.now }

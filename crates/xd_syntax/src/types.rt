@@ -13,7 +13,7 @@ use xd_base::Place;
 use xd_doc::{Class, Label, NoMemory, Words};
 
 /// The number of a type's node.
-#[derive(Clone, Copy)]
+#[derive(Clone, Copy, Debug, PartialEq, Eq)]
 pub struct TypeId {
     at: usize,
 }
@@ -21,15 +21,25 @@ pub struct TypeId {
 /// What a node is. Its parts are older nodes.
 #[derive(Drop)]
 pub enum TypeForm {
+    /// `()`: the empty document.
     Empty,
+    /// `String`: one text.
     Text,
+    /// One text of these, or one text but these.
     Words(Words),
+    /// The type that this name stands for.
     Name(Label),
+    /// One element: the class of its label, and what its content fits.
     Elem(Class, TypeId),
+    /// `T,U`: its parts, one after the other. There are at least two, and none is a sequence or `()`.
     Seq(Vec<TypeId>),
+    /// `T|U`: one of its branches. There are at least two, and none is an alternative.
     Alt(Vec<TypeId>),
+    /// `T*`: any number of pieces in a row.
     Star(TypeId),
+    /// `T+`: one piece or more in a row.
     Plus(TypeId),
+    /// `T?`: the part, or nothing.
     Opt(TypeId),
 }
 
@@ -118,12 +128,14 @@ impl TypeForm {
 }
 
 impl TypeNode {
+    /// The place of its first token.
     pub fn place(&self) -> Place
         ensures { result ≡ self.now.place }
     {
         self.place
     }
 
+    /// What the node is.
     pub fn form(&self) -> &TypeForm
         ensures { form_of result.now ≡ self.now.form }
     {

@@ -44,15 +44,15 @@ utf8 : IsUtf8 telephone_text
 utf8 = IsUtf8-from_ascii telephone_text (is_ascii telephone_text refl)
 
 spelled : IsProgramText telephone_text telephone_program
-spelled = record { spells = record { utf8 = utf8; spells = read.derives [] (end tt) }; means = read.means }
+spelled = record { spelled = record { utf8 = utf8; means = read.means }; within = record { utf8 = utf8; spells = read.derives [] (end tt) } }
 
 no_fault : (f : Fault) → IsFirstTextFault n.Definitions telephone_text f → ⊥
-no_fault f h = (refused_text n.Definitions telephone_text h.0 h.1).1 spelled.spells
+no_fault f h = (refused_text n.Definitions telephone_text h.0 h.1).1 spelled.within
 
 pub text_is_read : TextIsRead
 text_is_read = record {
   spelled = spelled;
-  only = λ P h. texts_mean_one_thing.programs telephone_text P telephone_program h spelled;
+  only = λ P h. texts_mean_one_thing.programs telephone_text P telephone_program h.spelled spelled.spelled;
   no_fault = no_fault;
   sound = telephones_sound;
   no_recursion_fault = no_recursion_fault;
