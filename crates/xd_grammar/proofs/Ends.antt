@@ -147,8 +147,8 @@ ended (closed g) us last e q s = closed (ended g us last e q s)
 ended (unless ne g) us last e q s = unless ne (ended g us last e q s)
 ended (by {part = part} made {row = row} one g) us last e q s = by made one (ended g us last e q (sealed_made part made row one s))
 
--- a whole text begins with each of its fronts
-pub front_of : {l d : ℕ} {row : Row} {ts : List Terminal} → Derives Whole l d row ts → (us vs : List Terminal) → ts ≡ us ++ vs → Derives Front l d row us
+-- a text, or a front of one, begins with each of its fronts
+pub front_of : {extent : Extent} {l d : ℕ} {row : Row} {ts : List Terminal} → Derives extent l d row ts → (us vs : List Terminal) → ts ≡ us ++ vs → Derives Front l d row us
 front_of g [] vs e = end tt
 front_of (end h) (u ∷ us) vs e = cc
 front_of {l = l} (token {depth = d} {k = k} {row = row} {ts = ts} g) (u ∷ us) vs e = subst (λ (x : Terminal). Derives Front l d (Token k ∷ row) (x ∷ us)) (same_first k u ts (us ++ vs) e) (token (front_of g us vs (same_rest k u ts (us ++ vs) e)))

@@ -25,6 +25,7 @@ pub enum TextFault {
 pub enum TextError {
     /// The text is none.
     Fault(TextFault),
+    /// There was not enough memory.
     NoMemory,
 }
 

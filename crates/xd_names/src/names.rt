@@ -20,6 +20,7 @@ pub(crate) struct Names {
 impl Names {
     ghost use Rattle.xd_names.specs.Knows.{Knows, whole};
 
+    /// Those of a program: the names of its types, and of each function how many parameters it has.
     pub fn new(alloc: Global, program: &Program) -> Result<Self, NoMemory>
         ensures { IfOk result (λ names. Knows names (whole program.now)) }
     {

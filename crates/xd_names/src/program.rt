@@ -22,8 +22,7 @@ use xd_syntax::{Fault, Function, Param, Program, TypeDef, Types, sort_faults};
 
 /// All faults of names, of numbers of arguments and of linearity, in order of place, then of number.
 ///
-/// It takes n log n steps in the program's size, except for patterns, which take as many steps more for each level of
-/// alternatives that stand in one another.
+/// `NoMemory` where there is no room for the names in scope or for the list.
 pub fn resolve(alloc: Global, program: &Program) -> Result<Vec<Fault>, NoMemory>
     ensures { IfOk result (λ faults. faults.items ≡ name_faults (program_tree program.now)) }
 {

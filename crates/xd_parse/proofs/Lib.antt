@@ -4,6 +4,7 @@ pub mod Nesting
 pub mod Turned
 pub mod ShallowTexts
 pub mod Sure
+pub mod FirstFaults
 pub mod ExprRows
 pub mod JoinLemmas
 pub mod Readers

@@ -20,7 +20,7 @@ tokens_meant : (part : Nonterminal) (bytes : List ℕ) (ls to : List Lexeme) (v 
 tokens_meant part bytes ls to v s e r = read_all nesting_limit part (tokens_of bytes) to v s.spells (subst (λ (xs : List Lexeme). Reads part xs to v) e r)
 
 pub program_meant : (bytes : List ℕ) (ls to : List Lexeme) (P : ProgramTree) → SpellsText n.Definitions bytes → ls ≡ tokens_of bytes → Reads n.Definitions ls to (definitions P) → IsProgramText bytes P
-program_meant bytes ls to P s e r = record { spells = s; means = tokens_meant n.Definitions bytes ls to (definitions P) s e r }
+program_meant bytes ls to P s e r = record { spelled = record { utf8 = s.utf8; means = tokens_meant n.Definitions bytes ls to (definitions P) s e r }; within = s }
 
 -- a type up to the end of its text
 pub type_text_reads : (from to : List Lexeme) (T : PlacedTree) → Reads (n.Alternative sorts.Type) from to (a_tree T) → Reads n.TypeText from (behind to) (a_tree T)
@@ -30,4 +30,4 @@ type_text_reads from to T r =
     (row_token t.End [] to (behind to) [] (row_end (behind to))))
 
 pub type_meant : (bytes : List ℕ) (ls to : List Lexeme) (T : PlacedTree) → SpellsText n.TypeText bytes → ls ≡ tokens_of bytes → Reads (n.Alternative sorts.Type) ls to (a_tree T) → IsTypeText bytes T
-type_meant bytes ls to T s e r = record { spells = s; means = tokens_meant n.TypeText bytes ls (behind to) (a_tree T) s e (type_text_reads ls to T r) }
+type_meant bytes ls to T s e r = record { spelled = record { utf8 = s.utf8; means = tokens_meant n.TypeText bytes ls (behind to) (a_tree T) s e (type_text_reads ls to T r) }; within = s }

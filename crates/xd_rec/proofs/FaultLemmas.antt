@@ -33,9 +33,6 @@ graph_more ds us u front g h i a = record {
 some_same : {A : Type 0} (x y : A) → Some x ≡ Some y → x ≡ y
 some_same x y e = cc
 
-pub use_left_out : (ds : List TypeDef) (u : TopUse) (front : Bool) (g : List (List ℕ)) → ((w : ℕ) → first_of ds u.name ≡ Some w → (front ≡ true → u.is_front ≡ true) → ⊥) → AddsUse ds u front g g
-use_left_out ds u front g n = record { count = refl; kept = λ v w e. e; only = λ v w e. inr e; added = λ w e k. absurd (n w e k) }
-
 pub use_added : (ds : List TypeDef) (u : TopUse) (front : Bool) (g : List (List ℕ)) (t : ℕ) → u.owner < length g → first_of ds u.name ≡ Some t → (front ≡ true → u.is_front ≡ true) →
     AddsUse ds u front g (with_edge g u.owner t)
 use_added ds u front g t l e k = record {

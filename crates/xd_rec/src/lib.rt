@@ -21,26 +21,30 @@ use crate::faults::{Recursion, add_faults, use_graph};
 use crate::uses::top_uses;
 use std::alloc::Global;
 use xd_doc::NoMemory;
-use xd_sound::{Known, SoundProgram};
+use xd_sound::{KnownTypes, SoundProgram};
 use xd_syntax::{Fault, Program, TypeDef, Types, sort_faults};
 
 /// A program without faults of recursion, or the list of these faults.
 #[derive(Drop)]
 pub enum Soundness {
+    /// The program that was given.
     Sound(SoundProgram),
+    /// All faults 10 and 11, in order of place, then of number.
     Faults(Vec<Fault>),
 }
 
 /// The program, where no type recurs outside tail position or unguarded; else the whole list of the uses that do,
 /// in order of place, then of number.
 ///
-/// Its time is linear in the program's size, but for the sorting of faults, the look-up of names in their order, and
-/// sequences of which part after part is found to be able to be empty.
+/// The program has no faults of names, of numbers of arguments and of linearity: `resolve` of `xd_names` found none. It is given up
+/// with the faults, and with `NoMemory`.
+///
+/// (Uses that reach each other are found by strongly connected components, after Gabow 2000.)
 pub fn well_formed(alloc: Global, program: Program) -> Result<Soundness, NoMemory>
     requires { name_faults (program_tree program) ≡ [] }
     ensures { IfOk result (IsSoundness program) }
 {
-    let known = Known::new(alloc, program.types(), program.type_defs())?;
+    let known = KnownTypes::new(alloc, program.types(), program.type_defs())?;
     let faults = program_faults(alloc, &program, &known)?;
     if faults.is_empty() {
         let mut sound = SoundProgram::new(alloc, program);
@@ -50,7 +54,11 @@ pub fn well_formed(alloc: Global, program: Program) -> Result<Soundness, NoMemor
     Ok(Soundness::Faults(faults))
 }
 
-fn program_faults(alloc: Global, program: &Program, known: &Known) -> Result<Vec<Fault>, NoMemory>
+fn program_faults(
+    alloc: Global,
+    program: &Program,
+    known: &KnownTypes,
+) -> Result<Vec<Fault>, NoMemory>
     requires named { name_faults (program_tree program.now) ≡ [] }
     requires known { AreKnown program.now known.now }
     ensures { IfOk result (λ faults. AreRecursionFaults (program_tree program.now) faults.items) }
@@ -63,7 +71,7 @@ fn recursion_faults(
     alloc: Global,
     types: &Types,
     defs: &[TypeDef],
-    known: &Known,
+    known: &KnownTypes,
 ) -> Result<Vec<Fault>, NoMemory>
     requires stand { AllByRecursion (TypeDefStands types.now) defs.now }
     requires unique { AreUnique defs.now }

@@ -14,7 +14,7 @@ use xd_syntax::{Fault, Warning};
 
 /// Appends the line of a fault, its line feed included.
 ///
-/// The time is linear in the line. After want of memory `out` holds what it held.
+/// The documents that the fault carries are documents of the store. After `NoMemory` `out` holds what it held.
 pub fn fault_line(
     alloc: Global,
     store: &Store,

@@ -1,5 +1,5 @@
 -- The syntax tree of a text.
-use Rattle.std.specs.Prelude.{◌≢◌, List, [], ◌∷◌, ℕ}
+use Rattle.std.specs.Prelude.{◌≢◌, List, [], ◌∷◌, ℕ, IsUtf8}
 use Rattle.xd_lex.specs.Tokens.{Lexeme, tokens_of}
 use Rattle.xd_syntax.specs.Placed.{PlacedTree}
 use Rattle.xd_syntax.specs.Program.{ProgramTree}
@@ -25,12 +25,22 @@ pub data Means : Row → (from to : List Lexeme) → List Value → Type 0 where
 abbrev pub MeansAll : Nonterminal → List Lexeme → Value → Type 0
 MeansAll part ls v = Means (Part part ∷ []) ls [] (v ∷ [])
 
--- the bytes are the text of this program, within 256 levels of nesting
-pub record IsProgramText (bytes : List ℕ) (P : ProgramTree) : Type 0 where
-  pub spells : SpellsText n.Definitions bytes
+-- the bytes spell this program, however deep it nests
+pub record BytesSpellProgram (bytes : List ℕ) (P : ProgramTree) : Type 0 where
+  pub utf8 : IsUtf8 bytes
   pub means : MeansAll n.Definitions (tokens_of bytes) (definitions P)
 
--- the bytes are the text of this type, within 256 levels of nesting
-pub record IsTypeText (bytes : List ℕ) (T : PlacedTree) : Type 0 where
-  pub spells : SpellsText n.TypeText bytes
+-- the bytes spell this type, however deep it nests
+pub record BytesSpellType (bytes : List ℕ) (T : PlacedTree) : Type 0 where
+  pub utf8 : IsUtf8 bytes
   pub means : MeansAll n.TypeText (tokens_of bytes) (a_tree T)
+
+-- the bytes spell this program, and do so within 256 levels of nesting
+pub record IsProgramText (bytes : List ℕ) (P : ProgramTree) : Type 0 where
+  pub spelled : BytesSpellProgram bytes P
+  pub within : SpellsText n.Definitions bytes
+
+-- the bytes spell this type, and do so within 256 levels of nesting
+pub record IsTypeText (bytes : List ℕ) (T : PlacedTree) : Type 0 where
+  pub spelled : BytesSpellType bytes T
+  pub within : SpellsText n.TypeText bytes

@@ -42,7 +42,7 @@ or_parts : (a b : Bool) → (a || b) ≡ false → (a ≡ false) × (b ≡ false
 or_parts true b e = cc
 or_parts false b e = (refl, e)
 
-plain_word : (w : List ℕ) → has_word keywords w ≡ false → word_terminal w ≡ t.Word
+pub plain_word : (w : List ℕ) → has_word keywords w ≡ false → word_terminal w ≡ t.Word
 plain_word w h =
     let a = or_parts (bytes_eq (codes "type") w) _ h in
     let b = or_parts (bytes_eq (codes "fun") w) _ a.1 in

@@ -27,6 +27,7 @@ use Rattle.xd_type_laws.proofs.Building.{Reads, read_end, read_token, read_openi
 abbrev pub closes : Terminal → Bool
 closes t.ParenR = true
 closes t.BracketR = true
+closes t.Type = true
 closes t.End = true
 closes k = false
 

@@ -95,4 +95,4 @@ one_node rows t i j h k e =
     (merged_node rows t j k) (proper_node rows t j k) e
 
 pub nodes_read_back : NodesReadBack
-nodes_read_back rows i t h d = types_read_back (tree_at rows i) (merged_node rows t i h) (proper_node rows t i h) d
+nodes_read_back rows i t h = types_read_back (tree_at rows i) (merged_node rows t i h) (proper_node rows t i h)

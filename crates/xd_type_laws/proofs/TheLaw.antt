@@ -1,5 +1,5 @@
 -- The canonical text of a type reads back, by induction on the type at all levels at once.
-use Rattle.std.proofs.Common.{◌≡◌, ℕ, ◌+◌, true, false, cond, List, [], ◌∷◌, ◌++◌, refl, ap, sym, subst, ◌∙◌, inl, arith, append_assoc, append-nil}
+use Rattle.std.proofs.Common.{◌≡◌, ℕ, ◌+◌, ◌≤◌, true, false, cond, List, [], ◌∷◌, ◌++◌, refl, ap, sym, subst, ◌∙◌, inl, arith, append_assoc, append-nil}
 use Rattle.std.specs.Prelude.{codes}
 use Rattle.std.specs.List.{AllByRecursion}
 use Rattle.xd_lex.specs.declared.Kind.TheVariants as kinds
@@ -7,12 +7,14 @@ use Rattle.xd_lex.specs.Tokens.{Lexeme, start, past, tokens_from, tokens_of}
 use Rattle.xd_syntax.specs.Tree.{Tree, Empty, Text, Words, Name, Elem, Seq, Alt, Star, Plus, Opt, Val, seq_of, alt_of, is_empty}
 use Rattle.xd_syntax.specs.Proper.{IsProperTree}
 use Rattle.xd_syntax.specs.Placed.{PlacedTree, unplaced}
-use Rattle.xd_syntax.specs.TypeText.{any_type_level, sequence_level, postfix_level, primary_level, text_at_level, depth_at_level, type_text}
+use Rattle.xd_syntax.specs.TypeText.{any_type_level, sequence_level, postfix_level, primary_level, text_at_level, depth_at_level, type_text, depth}
+use Rattle.xd_syntax.specs.Shallow.{nesting_limit}
 use Rattle.xd_grammar.specs.declared.grammar.Nonterminal.TheVariants as n
 use Rattle.xd_grammar.specs.declared.grammar.Sort.TheVariants as sorts
 use Rattle.xd_grammar.specs.declared.grammar.Symbol.TheVariants.{Token, Part}
 use Rattle.xd_grammar.specs.declared.grammar.Terminal.TheVariants as t
 use Rattle.xd_grammar.specs.Grammar.{end}
+use Rattle.xd_grammar.specs.Text.{SpellsText}
 use Rattle.xd_trees.specs.Means.{MeansAll}
 use Rattle.xd_trees.specs.Values.{mark, a_tree}
 use Rattle.xd_parse.proofs.Sure.{type_sure}
@@ -37,11 +39,11 @@ AreParts = SpellsList post (n.MoreParts sorts.Type) behind_sequence
 abbrev AreBranches : List ℕ → List Tree → ℕ → Type 0
 AreBranches = SpellsList seq (n.MoreBranches sorts.Type) behind_any
 
-record Written (T : Tree) : Type 0 where
+pub record Written (T : Tree) : Type 0 where
   as_prim : Spells prim behind_prim (text_at_level primary_level T) T (depth_at_level primary_level T)
   as_post : Spells post behind_post (text_at_level postfix_level T) T (depth_at_level postfix_level T)
   as_seq : Spells seq behind_sequence (text_at_level sequence_level T) T (depth_at_level sequence_level T)
-  as_any : Spells alt behind_any (text_at_level any_type_level T) T (depth_at_level any_type_level T)
+  pub as_any : Spells alt behind_any (text_at_level any_type_level T) T (depth_at_level any_type_level T)
   parts : AreParts (text_at_level sequence_level T) (seq_parts T) (depth_at_level sequence_level T)
   branches : AreBranches (text_at_level any_type_level T) (alt_parts T) (depth_at_level any_type_level T)
 
@@ -96,7 +98,7 @@ comma_split s r Ts k a = subst (λ x. AreParts x Ts k) (sym (append_assoc s (44 
 bar_split : (s r : List ℕ) (Ts : List Tree) (k : ℕ) → AreBranches (s ++ 124 ∷ r) Ts k → AreBranches (s ++ codes "|" ++ r) Ts k
 bar_split s r Ts k a = subst (λ x. AreBranches x Ts k) (sym (append_assoc s (124 ∷ []) r)) a
 
-written : (T : Tree) → IsMerged T → IsProperTree false T → Written T
+pub written : (T : Tree) → IsMerged T → IsProperTree false T → Written T
 written Empty m p = let f = from_prim _ Empty 1 nothing in record { as_prim = nothing; as_post = no_operator _ Empty 1 nothing; as_seq = f.as_seq; as_any = f.as_any; parts = f.parts; branches = f.branches }
 written Text m p = let f = from_prim _ Text 0 all_texts_read in record { as_prim = all_texts_read; as_post = no_operator _ Text 0 all_texts_read; as_seq = f.as_seq; as_any = f.as_any; parts = f.parts; branches = f.branches }
 written (Words w) m p =
@@ -155,18 +157,23 @@ whole l s U m =
     let a = subst (λ x. MeansAt l 0 (Part alt ∷ []) (tokens_from 0 start x) (the_end s ∷ []) 0 (a_tree U ∷ [])) (append-nil s) m in
     part_at (Part alt ∷ Token t.End ∷ []) (inl refl) (rows_joined a e) ends_at
 
-pub types_read_back : TypesReadBack
-types_read_back T m p h =
-    let r = (written T m p).as_any.read 256 0 start [] (omega (arith, h)) at_end in
-    let w = whole 256 (type_text T) r.0 r.2 in
-    (r.0, record { spells = record { utf8 = text_utf8 any_type_level T p; spells = derived w [] (end tt) }; means = levels_aside w }, r.1)
-
 -- the tokens of the text stand for the type, however deep it nests
 pub text_means : (T : Tree) → IsMerged T → IsProperTree false T → (U : PlacedTree) × MeansAll n.TypeText (tokens_of (type_text T)) (a_tree U) × (unplaced U ≡ T)
 text_means T m p =
     let l = depth_at_level any_type_level T in
     let r = (written T m p).as_any.read l 0 start [] (omega arith) at_end in
     (r.0, levels_aside (whole l (type_text T) r.0 r.2), r.1)
+
+-- no deeper than a text may be nested, it spells a type within the limit
+within : (T : Tree) → IsMerged T → IsProperTree false T → depth T ≤ nesting_limit → SpellsText n.TypeText (type_text T)
+within T m p h =
+    let r = (written T m p).as_any.read nesting_limit 0 start [] (omega (arith, h)) at_end in
+    record { utf8 = text_utf8 any_type_level T p; spells = derived (whole nesting_limit (type_text T) r.0 r.2) [] (end tt) }
+
+pub types_read_back : TypesReadBack
+types_read_back T m p =
+    let r = text_means T m p in
+    record { placed = r.0; spelled = record { utf8 = text_utf8 any_type_level T p; means = r.1 }; same = r.2; within = within T m p }
 
 -- types of one text are equal
 pub one_type : (T U : Tree) → IsMerged T → IsProperTree false T → IsMerged U → IsProperTree false U → type_text T ≡ type_text U → T ≡ U

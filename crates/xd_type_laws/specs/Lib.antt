@@ -1,1 +1,2 @@
+pub mod DefinitionsText
 pub mod ReadsBack
