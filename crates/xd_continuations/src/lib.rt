@@ -7,7 +7,7 @@ mod any;
 mod links;
 
 pub use any::meaning_of_any;
-pub use links::{Interned, Item, Link};
+pub use links::{Internable, Interned, Link};
 
 /// A continuation is the list of the pieces of the type that it means.
 pub fn continuations_are_types()

@@ -35,21 +35,21 @@ impl<T: Hash> Hash for Link<T> {
 }
 
 /// What interned lists are of: equal items are the same.
-pub trait Item: Copy + Eq + Hash {
+pub trait Internable: Copy + Eq + Hash {
     ghost exact: { (a b : Self) → Self.eq a b ≡ true → a ≡ b };
 }
 
-impl Item for usize {
+impl Internable for usize {
     ghost exact = { λ a b. (unsigned_Decides a b).0 };
 }
 
 /// Lists by their numbers: 0 is the empty one, and each other one is an item before an older one.
 #[derive(Drop)]
-pub struct Interned<T: Item> {
+pub struct Interned<T: Internable> {
     links: IndexSet<Link<T>>,
 }
 
-impl<T: Item> Model for Interned<T> {
+impl<T: Internable> Model for Interned<T> {
     ghost use Rattle.std.specs.Prelude.{List};
     ghost use Rattle.xd_continuations.specs.declared.links.Link.{Link};
     ghost use Rattle.xd_continuations.specs.Chains.{AreLinks};
@@ -61,7 +61,7 @@ impl<T: Item> Model for Interned<T> {
     ghost invariant = { λ s. AreLinks s.links.keys };
 }
 
-impl<T: Item> Interned<T> {
+impl<T: Internable> Interned<T> {
     /// The empty list alone.
     pub fn new(alloc: Global) -> Self
         ensures { result ≡ [] }

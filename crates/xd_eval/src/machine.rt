@@ -72,6 +72,7 @@ fn advance<M: Matching>(
     ensures serves { M.serves matching.new sound.now store.new }
     ensures keeps { Keeps store.old store.new }
 {
+    matching.stays_serving();
     match control {
         Control::Evaluate(id, scope) => {
             let step = enter(alloc, sound, store, frames, id, scope)?;

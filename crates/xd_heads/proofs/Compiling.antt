@@ -27,9 +27,7 @@ use Rattle.xd_continuations.proofs.MoveLemmas.{all_append}
 use Rattle.xd_continuations.proofs.Reaching.{all_same}
 use Rattle.xd_continuations.proofs.ChainLemmas.{kept_length, list_none}
 use Rattle.xd_moves.proofs.Putting.{continuation_kept}
-use Rattle.xd_heads.specs.States.{IsOfCell, number_of, number_at}
-use Rattle.xd_heads.specs.declared.states.Owner.{Owner}
-use Rattle.xd_heads.specs.declared.states.Owner.TheVariants.{Continuation, Pattern}
+use Rattle.xd_heads.specs.States.{IsOfCell, number_at}
 use Rattle.xd_heads.proofs.StateLemmas.{number_below, number_within, number_front, number_pushed, one_number}
 
 -- ---- mirrored moves
@@ -58,34 +56,33 @@ known_kept : (types : List Row) (a b : List Cell) → KeepsLinks a b → (o : Op
 known_kept types a b k None h K e = cc
 known_kept types a b k (Some n) h K e = ap Some (continuation_kept types a b k n (h n refl)) ∙ e
 
-cells_more : (types : List Row) (a b : List Cell) (states : List Owner) → KeepsLinks a b → AllByRecursion (IsOfCell (length a)) states → (s : State) (K : List Tree) →
+cells_more : (types : List Row) (a b : List Cell) (states : List ℕ) → KeepsLinks a b → AllByRecursion (IsOfCell (length a)) states → (s : State) (K : List Tree) →
     continuations_of types a states s ≡ Some K → continuations_of types b states s ≡ Some K
 cells_more types a b states k n s K e = known_kept types a b k (number_at states (state_number s)) (λ m i. number_below (length a) states (state_number s) m n i) K e
 
-pushed_known : (types : List Row) (cells : List Cell) (states : List Owner) (o : Owner) (i : ℕ) (K : List Tree) (n : Option ℕ) → number_at states i ≡ n → numbered types cells n ≡ Some K →
+pushed_known : (types : List Row) (cells : List Cell) (states : List ℕ) (o : ℕ) (i : ℕ) (K : List Tree) (n : Option ℕ) → number_at states i ≡ n → numbered types cells n ≡ Some K →
     numbered types cells (number_at (states ++ o ∷ []) i) ≡ Some K
 pushed_known types cells states o i K None q e = cc
 pushed_known types cells states o i K (Some n) q e = ap (numbered types cells) (number_front states (o ∷ []) i n q) ∙ e
 
-states_more : (types : List Row) (cells : List Cell) (states : List Owner) (o : Owner) (s : State) (K : List Tree) → continuations_of types cells states s ≡ Some K →
+states_more : (types : List Row) (cells : List Cell) (states : List ℕ) (o : ℕ) (s : State) (K : List Tree) → continuations_of types cells states s ≡ Some K →
     continuations_of types cells (states ++ o ∷ []) s ≡ Some K
 states_more types cells states o s K e = pushed_known types cells states o (state_number s) K (number_at states (state_number s)) refl e
 
 -- ---- one more cell, one more state
 
 module _ (types : List Row) (ds : List TypeDef) where
-  owner_kept : (a b : List Cell) → KeepsLinks a b → (o : Owner) → IsOfCell (length a) o → IsOfCell (length b) o
-  owner_kept a b k (Continuation n) h = let l = kept_length a b k in omega arith
-  owner_kept a b k (Pattern n) h = tt
+  number_kept : (a b : List Cell) → KeepsLinks a b → (n : ℕ) → IsOfCell (length a) n → IsOfCell (length b) n
+  number_kept a b k n h = let l = kept_length a b k in omega arith
 
-  pub compiled_cells : (a b : List Cell) (states : List Owner) (auto : Automaton) (done : ℕ) (known : List Move) → KeepsLinks a b →
+  pub compiled_cells : (a b : List Cell) (states : List ℕ) (auto : Automaton) (done : ℕ) (known : List Move) → KeepsLinks a b →
       AreCompiled types ds a states auto done known → AreCompiled types ds b states auto done known
   compiled_cells a b states auto done known k c =
       let C = cells_more types a b states k c.numbers in
       let same = λ (n i : ℕ) (e : number_at states n ≡ Some i). continuation_kept types a b k i (number_below (length a) states n i c.numbers e) in
       record {
         aligned = c.aligned;
-        numbers = all_same (IsOfCell (length a)) (IsOfCell (length b)) states (owner_kept a b k) c.numbers;
+        numbers = all_same (IsOfCell (length a)) (IsOfCell (length b)) states (number_kept a b k) c.numbers;
         continuations = λ n i e. subst (IsOfState types) (sym (same n i e)) (c.continuations n i e);
         flags = λ n i e. c.flags n i e ∙ ap (λ K. can_be_empty (meanings types ds) (seq_of K)) (sym (same n i e));
         complete = λ n i h e.
@@ -111,27 +108,24 @@ module _ (types : List Row) (ds : List TypeDef) where
   same_lists : (C : Continuations) (ms : List Move) (ls ls' : List LabelMove) (ts ts' : List TextMove) → ls' ≡ ls → ts' ≡ ts → AreMirrored C ms ls ts → AreMirrored C ms ls' ts'
   same_lists C ms ls ls' ts ts' e f a = subst (λ xs. AreMirrored C ms xs ts') (sym e) (subst (AreMirrored C ms ls) (sym f) a)
 
-  numbers_same : (number k : ℕ) → number_of (Some (Continuation number)) ≡ Some k → number ≡ k
-  numbers_same number k e = cc
-
-  compiled_push : (cells : List Cell) (states : List Owner) (auto : Automaton) (done : ℕ) (known : List Move) (number : ℕ) → number ≤ length cells → IsOfState types (continuation types cells number) →
+  compiled_push : (cells : List Cell) (states : List ℕ) (auto : Automaton) (done : ℕ) (known : List Move) (number : ℕ) → number ≤ length cells → IsOfState types (continuation types cells number) →
       done ≤ length states → AreCompiled types ds cells states auto done known →
-      AreCompiled types ds cells (states ++ Continuation number ∷ []) (auto ++ fresh_state types ds cells number ∷ []) done known
+      AreCompiled types ds cells (states ++ number ∷ []) (auto ++ fresh_state types ds cells number ∷ []) done known
   compiled_push cells states auto done known number h k d c =
       let E = meanings types ds in
       let z = can_be_empty E (seq_of (continuation types cells number)) in
-      let A = states_more types cells states (Continuation number) in
+      let A = states_more types cells states number in
       let al = c.aligned in
       record {
-        aligned = omega (arith, length-append auto (fresh_state types ds cells number ∷ []), length-append states (Continuation number ∷ []));
-        numbers = all_append (IsOfCell (length cells)) states (Continuation number ∷ []) c.numbers (h, tt);
+        aligned = omega (arith, length-append auto (fresh_state types ds cells number ∷ []), length-append states (number ∷ []));
+        numbers = all_append (IsOfCell (length cells)) states (number ∷ []) c.numbers (h, tt);
         continuations = λ n i e.
-            elim (number_pushed states (Continuation number) n i e) [
+            elim (number_pushed states number n i e) [
               | inl old ↦ c.continuations n i old
-              | inr new ↦ subst (λ m. IsOfState types (continuation types cells m)) (numbers_same number i new.1) k
+              | inr new ↦ subst (λ m. IsOfState types (continuation types cells m)) new.1 k
             ];
         flags = λ n i e.
-            elim (number_pushed states (Continuation number) n i e) [
+            elim (number_pushed states number n i e) [
               | inl old ↦
                   let w = number_within states n i old in
                   let j : n < length auto = omega arith in
@@ -141,37 +135,37 @@ module _ (types : List Row) (ds : List TypeDef) where
                   let q : n ≡ length auto = omega arith in
                   ap (λ j. (state_at (auto ++ fresh_state types ds cells number ∷ []) j).last) q
                   ∙ ap (λ (m : StateMoves). m.last) (get_or-append_seam auto (fresh_state types ds cells number) [] (no_moves false))
-                  ∙ ap (λ m. can_be_empty E (seq_of (continuation types cells m))) (numbers_same number i new.1)
+                  ∙ ap (λ m. can_be_empty E (seq_of (continuation types cells m))) new.1
             ];
         complete = λ n i l e.
-            let old = elim (number_pushed states (Continuation number) n i e) as (λ x. number_at states n ≡ Some i) [
+            let old = elim (number_pushed states number n i e) as (λ x. number_at states n ≡ Some i) [
               | inl o ↦ o
               | inr new ↦ absurd (let at = new.0 in let y : ⊥ = omega arith in y)
             ] in
-            same_lists (continuations_of types cells (states ++ Continuation number ∷ [])) (moves E (continuation types cells i))
+            same_lists (continuations_of types cells (states ++ number ∷ [])) (moves E (continuation types cells i))
             (state_at auto n).labels (state_at (auto ++ no_moves z ∷ []) n).labels (state_at auto n).texts (state_at (auto ++ no_moves z ∷ []) n).texts (at_push auto z n).0 (at_push auto z n).1
-            (mirrored_more (continuations_of types cells states) (continuations_of types cells (states ++ Continuation number ∷ [])) A (c.complete n i l old));
+            (mirrored_more (continuations_of types cells states) (continuations_of types cells (states ++ number ∷ [])) A (c.complete n i l old));
         current =
-            same_lists (continuations_of types cells (states ++ Continuation number ∷ [])) known
+            same_lists (continuations_of types cells (states ++ number ∷ [])) known
             (state_at auto done).labels (state_at (auto ++ no_moves z ∷ []) done).labels (state_at auto done).texts (state_at (auto ++ no_moves z ∷ []) done).texts (at_push auto z done).0 (at_push auto z done).1
-            (mirrored_more (continuations_of types cells states) (continuations_of types cells (states ++ Continuation number ∷ [])) A c.current);
+            (mirrored_more (continuations_of types cells states) (continuations_of types cells (states ++ number ∷ [])) A c.current);
         fresh = λ n l. ((at_push auto z n).0 ∙ (c.fresh n l).0, (at_push auto z n).1 ∙ (c.fresh n l).1);
       }
 
-  pub compiled_state : (cells : List Cell) (states new : List Owner) (auto new_auto : Automaton) (done : ℕ) (known : List Move) (number : ℕ) (s : State) → number ≤ length cells →
+  pub compiled_state : (cells : List Cell) (states new : List ℕ) (auto new_auto : Automaton) (done : ℕ) (known : List Move) (number : ℕ) (s : State) → number ≤ length cells →
       IsOfState types (continuation types cells number) → done ≤ length states → GetsState types ds cells states new auto new_auto number s → AreCompiled types ds cells states auto done known →
       AreCompiled types ds cells new new_auto done known
   compiled_state cells states new auto new_auto done known number s h k d g c = go g.added
     where
-      go : ((new ≡ states) × (new_auto ≡ auto)) ⊎ ((new ≡ states ++ Continuation number ∷ []) × (new_auto ≡ auto ++ fresh_state types ds cells number ∷ [])) → AreCompiled types ds cells new new_auto done known
+      go : ((new ≡ states) × (new_auto ≡ auto)) ⊎ ((new ≡ states ++ number ∷ []) × (new_auto ≡ auto ++ fresh_state types ds cells number ∷ [])) → AreCompiled types ds cells new new_auto done known
       go (inl e) = subst (λ xs. AreCompiled types ds cells xs new_auto done known) (sym e.0) (subst (λ a. AreCompiled types ds cells states a done known) (sym e.1) c)
       go (inr e) =
           subst (λ xs. AreCompiled types ds cells xs new_auto done known) (sym e.0)
-          (subst (λ a. AreCompiled types ds cells (states ++ Continuation number ∷ []) a done known) (sym e.1) (compiled_push cells states auto done known number h k d c))
+          (subst (λ a. AreCompiled types ds cells (states ++ number ∷ []) a done known) (sym e.1) (compiled_push cells states auto done known number h k d c))
 
   -- ---- one more move
 
-  set_moves : (cells : List Cell) (states : List Owner) (auto : Automaton) (done : ℕ) (known known' : List Move) (m : StateMoves) → done < length states → AreCompiled types ds cells states auto done known →
+  set_moves : (cells : List Cell) (states : List ℕ) (auto : Automaton) (done : ℕ) (known known' : List Move) (m : StateMoves) → done < length states → AreCompiled types ds cells states auto done known →
       m.last ≡ (state_at auto done).last → AreMirrored (continuations_of types cells states) known' m.labels m.texts → AreCompiled types ds cells states (set auto done m) done known'
   set_moves cells states auto done known known' m d c e a =
       let al = c.aligned in
@@ -205,14 +199,14 @@ module _ (types : List Row) (ds : List TypeDef) where
           ∙ ap (λ j. (state_at auto j).last) (sym q) ∙ c.flags n i l
       flag n i l (inr q) = ap (λ (x : StateMoves). x.last) (get_or-set_other auto done n m (no_moves false) q) ∙ c.flags n i l
 
-  pub compiled_label : (cells : List Cell) (states : List Owner) (auto : Automaton) (s : State) (known : List Move) (v : Move) (l : LabelMove) → state_number s < length states →
+  pub compiled_label : (cells : List Cell) (states : List ℕ) (auto : Automaton) (s : State) (known : List Move) (v : Move) (l : LabelMove) → state_number s < length states →
       v.kind ≡ element_in l.class → continuations_of types cells states l.content ≡ Some v.content → continuations_of types cells states l.rest ≡ Some v.rest →
       AreCompiled types ds cells states auto (state_number s) known → AreCompiled types ds cells states (with_label_move auto s l) (state_number s) (known ++ v ∷ [])
   compiled_label cells states auto s known v l d k x r c =
       set_moves cells states auto (state_number s) known (known ++ v ∷ []) (record (state_at auto (state_number s)) { labels = (state_at auto (state_number s)).labels ++ l ∷ [] }) d c refl
       (mirrored_label (continuations_of types cells states) c.current v l k x r)
 
-  pub compiled_text : (cells : List Cell) (states : List Owner) (auto : Automaton) (s : State) (t : TextMove) (known : List Move) (v : Move) → state_number s < length states →
+  pub compiled_text : (cells : List Cell) (states : List ℕ) (auto : Automaton) (s : State) (t : TextMove) (known : List Move) (v : Move) → state_number s < length states →
       v.kind ≡ text_in t.words → continuations_of types cells states t.rest ≡ Some v.rest →
       AreCompiled types ds cells states auto (state_number s) known → AreCompiled types ds cells states (with_text_move auto s t) (state_number s) (known ++ v ∷ [])
   compiled_text cells states auto s t known v d k r c =
@@ -220,7 +214,7 @@ module _ (types : List Row) (ds : List TypeDef) where
       (mirrored_text (continuations_of types cells states) c.current v t k r)
 
   -- the state has all its moves
-  pub compiled_next : (cells : List Cell) (states : List Owner) (auto : Automaton) (done number : ℕ) → number_at states done ≡ Some number →
+  pub compiled_next : (cells : List Cell) (states : List ℕ) (auto : Automaton) (done number : ℕ) → number_at states done ≡ Some number →
       AreCompiled types ds cells states auto done (moves (meanings types ds) (continuation types cells number)) → AreCompiled types ds cells states auto (done + 1) []
   compiled_next cells states auto done number at c = record {
     aligned = c.aligned;
@@ -248,7 +242,7 @@ module _ (types : List Row) (ds : List TypeDef) where
   numbered_is cells (Some n) K e = (n, refl, cc)
 
   -- where all states have their moves, those of continuations mirror them
-  pub compiled_mirrors : (cells : List Cell) (states : List Owner) (auto : Automaton) (done : ℕ) → length states ≤ done → AreCompiled types ds cells states auto done [] →
+  pub compiled_mirrors : (cells : List Cell) (states : List ℕ) (auto : Automaton) (done : ℕ) → length states ≤ done → AreCompiled types ds cells states auto done [] →
       AreMirrors (meanings types ds) (continuations_of types cells states) auto
   compiled_mirrors cells states auto done h c s K e =
       let r = numbered_is cells (number_at states (state_number s)) K e in

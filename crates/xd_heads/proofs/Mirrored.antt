@@ -1,6 +1,6 @@
 -- Cells that mirror an automaton, by heads and by moves.
-use Rattle.std.proofs.Common.{◌≡◌, ℕ, zero, suc, ◌+◌, ◌-◌, ◌<◌, ◌≤◌, arith, cond, false, List, [], ◌∷◌, ◌++◌, map, length, length-append, get_or, Option, Some, None, refl, ap, sym, subst, ◌∙◌, inl, inr}
-use Rattle.std.specs.List.{AllByRecursion, slice_get}
+use Rattle.std.proofs.Common.{◌≡◌, ℕ, zero, suc, ◌+◌, ◌-◌, ◌<◌, ◌≤◌, arith, cond, false, List, [], ◌∷◌, ◌++◌, map, length, get_or, Option, Some, None, refl, ap, sym, subst, ◌∙◌}
+use Rattle.std.specs.List.{AllByRecursion}
 use Rattle.xd_syntax.specs.Tree.{Tree, Definitions, seq_of}
 use Rattle.xd_syntax.specs.Table.{Row, KeepsRows, tree_at}
 use Rattle.xd_syntax.specs.TypeText.{depth}
@@ -9,7 +9,7 @@ use Rattle.xd_laws.specs.CanBeEmpty.{can_be_empty}
 use Rattle.xd_syntax.specs.Program.{names_of}
 use Rattle.xd_syntax.specs.Kept.{ProgramTable, program_tree}
 use Rattle.xd_continuations.proofs.GrownTables.{tree_stays, more_rows}
-use Rattle.xd_auto.specs.Automaton.{Automaton, Extends, IsState, moves_at, no_moves, state_number}
+use Rattle.xd_auto.specs.Automaton.{Automaton, moves_at, no_moves, state_number}
 use Rattle.xd_auto.specs.declared.auto.State.{State}
 use Rattle.xd_auto.specs.declared.auto.LabelMove.{LabelMove}
 use Rattle.xd_auto.specs.declared.auto.TextMove.{TextMove}
@@ -23,15 +23,13 @@ use Rattle.xd_continuations.proofs.Reaching.{all_same}
 use Rattle.xd_continuations.specs.Chains.{lists_after, lists_in, list_at}
 use Rattle.xd_pieces.specs.Pieces.{piece_tree, turns_of}
 use Rattle.xd_moves.specs.Found.{continuation, AreOfTypes, AreBounded}
-use Rattle.xd_heads.specs.States.{IsOfCell, AddsPatterns, number_at, nodes_from, nodes_in}
+use Rattle.xd_heads.specs.States.{number_at, nodes_from, nodes_in}
 use Rattle.xd_heads.specs.Compiled.{numbered, continuations_of, state_at, AreCompiled}
 use Rattle.xd_heads.specs.CellsView.{CellsView, no_cells}
-use Rattle.xd_heads.specs.Mirrors.{as_type, continuation_of, IsPatternState, KeepsStates, AreHeadMoves, no_head, element_head, text_head, Mirrors, MirrorsStay}
+use Rattle.xd_heads.specs.Mirrors.{as_type, continuation_of, AreHeadMoves, no_head, element_head, text_head, Mirrors, MirrorsStay}
 use Rattle.xd_pieces.specs.declared.piece.Piece.{Piece}
 use Rattle.xd_moves.specs.Cells.{Cell}
-use Rattle.xd_heads.specs.declared.states.Owner.{Owner}
-use Rattle.xd_heads.specs.declared.states.Owner.TheVariants.{Pattern}
-use Rattle.xd_heads.proofs.StateLemmas.{number_within, number_front}
+use Rattle.xd_heads.proofs.StateLemmas.{number_within}
 use Rattle.xd_heads.proofs.Compiling.{numbered_is, bounded_no_cells}
 
 -- ---- heads and moves
@@ -82,15 +80,15 @@ beyond (m ∷ a) (suc n) h = beyond a n (omega arith)
 -- ---- what is compiled
 
 pub type_is : (types : List Row) (c : CellsView) (s : State) (T : Tree) → continuation_of types c s ≡ Some T →
-    (k : ℕ) × (number_at c.owners (state_number s) ≡ Some k) × (seq_of (continuation types c.cells k) ≡ T)
-type_is types c s T e = go (number_at c.owners (state_number s)) refl e
+    (k : ℕ) × (number_at c.states (state_number s) ≡ Some k) × (seq_of (continuation types c.cells k) ≡ T)
+type_is types c s T e = go (number_at c.states (state_number s)) refl e
   where
-    go : (o : Option ℕ) → number_at c.owners (state_number s) ≡ o → as_type (numbered types c.cells o) ≡ Some T →
-        (k : ℕ) × (number_at c.owners (state_number s) ≡ Some k) × (seq_of (continuation types c.cells k) ≡ T)
+    go : (o : Option ℕ) → number_at c.states (state_number s) ≡ o → as_type (numbered types c.cells o) ≡ Some T →
+        (k : ℕ) × (number_at c.states (state_number s) ≡ Some k) × (seq_of (continuation types c.cells k) ≡ T)
     go None q h = cc
     go (Some k) q h = (k, q, cc)
 
-pub type_of_number : (types : List Row) (c : CellsView) (s : State) (k : ℕ) → number_at c.owners (state_number s) ≡ Some k → continuation_of types c s ≡ Some (seq_of (continuation types c.cells k))
+pub type_of_number : (types : List Row) (c : CellsView) (s : State) (k : ℕ) → number_at c.states (state_number s) ≡ Some k → continuation_of types c s ≡ Some (seq_of (continuation types c.cells k))
 type_of_number types c s k e = ap (λ o. as_type (numbered types c.cells o)) e
 
 state_of_number : ℕ → State
@@ -101,12 +99,12 @@ module _ (p : ProgramTable) (c : CellsView) (a : Automaton) (merged : AreMerged 
   E = names_of (program_tree p)
 
   abbrev C : Continuations
-  C = continuations_of p.types c.cells c.owners
+  C = continuations_of p.types c.cells c.states
 
-  pub to_compiled : Mirrors p c a → AreCompiled p.types p.type_defs c.cells c.owners a (length c.owners) []
+  pub to_compiled : Mirrors p c a → AreCompiled p.types p.type_defs c.cells c.states a (length c.states) []
   unfolding state_of_number
   to_compiled m = record {
-    aligned = m.owned;
+    aligned = m.states;
     numbers = m.kept.numbers;
     continuations = λ n k e. (m.kept.pieces n k e, λ s. m.shallow s (state_of_number n) (seq_of (continuation p.types c.cells k)) (type_of_number p.types c (state_of_number n) k e));
     flags = λ n k e. m.flags (state_of_number n) (seq_of (continuation p.types c.cells k)) (type_of_number p.types c (state_of_number n) k e);
@@ -115,24 +113,24 @@ module _ (p : ProgramTable) (c : CellsView) (a : Automaton) (merged : AreMerged 
         let good = m.kept.pieces n k e in
         from_heads C listed (moves E K) (moves_continue E merged K good) (moves_are_heads E merged K good)
         (m.moves (state_of_number n) (seq_of K) (type_of_number p.types c (state_of_number n) k e));
-    current = subst (λ x. AreMirrored C [] x.labels x.texts) (sym (beyond a (length c.owners) (let o = m.owned in omega arith))) no_move;
+    current = subst (λ x. AreMirrored C [] x.labels x.texts) (sym (beyond a (length c.states) (let o = m.states in omega arith))) no_move;
     fresh = λ n h.
-        let b = beyond a n (let o = m.owned in omega arith) in
+        let b = beyond a n (let o = m.states in omega arith) in
         (ap (λ x. x.labels) b, ap (λ x. x.texts) b);
   }
     where
       listed : (s : State) (K : List Tree) → C s ≡ Some K → IsContinuation K
-      listed s K e = let r = numbered_is p.types p.type_defs c.cells (number_at c.owners (state_number s)) K e in subst IsContinuation r.2 (m.kept.pieces (state_number s) r.0 r.1)
+      listed s K e = let r = numbered_is p.types p.type_defs c.cells (number_at c.states (state_number s)) K e in subst IsContinuation r.2 (m.kept.pieces (state_number s) r.0 r.1)
 
-  pub to_mirrors : AreCompiled p.types p.type_defs c.cells c.owners a (length c.owners) [] → AreOfTypes p.types c.cells → AreBounded E (nodes_in p.types) p.types c.cells → Mirrors p c a
+  pub to_mirrors : AreCompiled p.types p.type_defs c.cells c.states a (length c.states) [] → AreOfTypes p.types c.cells → AreBounded E (nodes_in p.types) p.types c.cells → Mirrors p c a
   to_mirrors m nodes bounded = record {
-    owned = m.aligned;
+    states = m.aligned;
     shallow = λ s t T e. let r = type_is p.types c t T e in subst (λ U. depth U ≤ nesting_limit) r.2 ((m.continuations (state_number t) r.0 r.1).1 s);
     flags = λ t T e. let r = type_is p.types c t T e in subst (λ U. (moves_at a t).last ≡ can_be_empty E U) r.2 (m.flags (state_number t) r.0 r.1);
     moves = λ t T e.
         let r = type_is p.types c t T e in
         let K = continuation p.types c.cells r.0 in
-        let w = number_within c.owners (state_number t) r.0 r.1 in
+        let w = number_within c.states (state_number t) r.0 r.1 in
         subst (λ U. AreHeadMoves (continuation_of p.types c) (heads E U) (moves_at a t).labels (moves_at a t).texts) r.2
         (subst (λ hs. AreHeadMoves (continuation_of p.types c) hs (moves_at a t).labels (moves_at a t).texts) (sym (moves_are_heads E merged K (m.continuations (state_number t) r.0 r.1).0))
         (to_heads C (m.complete (state_number t) r.0 w r.1)));
@@ -170,7 +168,7 @@ module _ (old new : List Row) (k : KeepsRows old new) where
       map_pieces (piece_tree new) (piece_tree old) (λ x. x.node < length old) piece_stays (list_at cells n) (pieces_there (λ x. x.node < length old) cells a n)
 
   pub types_stay : (c : CellsView) → AreOfTypes old c.cells → (s : State) → continuation_of new c s ≡ continuation_of old c s
-  types_stay c a s = go (number_at c.owners (state_number s))
+  types_stay c a s = go (number_at c.states (state_number s))
     where
       go : (o : Option ℕ) → as_type (numbered new c.cells o) ≡ as_type (numbered old c.cells o)
       go None = refl
@@ -204,7 +202,7 @@ mirrors_stay p q c a m adds e =
     let back = λ (s : State) (T : Tree) (h : continuation_of q.types c s ≡ Some T). sym (same s) ∙ h in
     let names = ap names_of e in
     record {
-      owned = m.owned;
+      states = m.states;
       shallow = λ z s T h. m.shallow (shallow_before p.types q.types adds.types z) s T (back s T h);
       flags = λ s T h. m.flags s T (back s T h) ∙ ap (λ E. can_be_empty E T) (sym names);
       moves = λ s T h.
@@ -225,94 +223,13 @@ mirrors_stay p q c a m adds e =
       };
     }
 
--- ---- no cells, and patterns
-
-grown_longer : (a b : Automaton) → Extends a b → length a ≤ length b
-unfolding state_of_number
-grown_longer a b x = go (length a) refl
-  where
-    go : (n : ℕ) → length a ≡ n → length a ≤ length b
-    go zero e = omega arith
-    go (suc n) e = let h = x.states (state_of_number n) (omega arith) in omega arith
+-- ---- no cells
 
 pub mirrors_none : (p : ProgramTable) → Mirrors p no_cells []
 mirrors_none p = record {
-  owned = refl;
+  states = refl;
   shallow = λ z s T h. cc;
   flags = λ s T h. cc;
   moves = λ s T h. cc;
   kept = record { numbers = tt; nodes = tt; pieces = λ n k h. cc; bounded = bounded_no_cells p.types p.type_defs (names_of (program_tree p)) (nodes_in p.types) };
 }
-
-module _ (count : ℕ) (old new : CellsView) (cells : new.cells ≡ old.cells) (adds : AddsPatterns count old.owners new.owners) where
-  no_number : (ns : List ℕ) (i k : ℕ) → number_at (map Pattern ns) i ≡ Some k → ⊥
-  no_number [] i k e = cc
-  no_number (n ∷ ns) zero k e = cc
-  no_number (n ∷ ns) (suc i) k e = no_number ns i k e
-
-  old_number : (os : List Owner) (ns : List ℕ) (i k : ℕ) → number_at (os ++ map Pattern ns) i ≡ Some k → number_at os i ≡ Some k
-  old_number [] ns i k e = absurd (no_number ns i k e)
-  old_number (o ∷ os) ns zero k e = e
-  old_number (o ∷ os) ns (suc i) k e = old_number os ns i k e
-
-  front_owner : (os qs : List Owner) (i : ℕ) (o : Owner) → slice_get os i ≡ Some o → slice_get (os ++ qs) i ≡ Some o
-  front_owner [] qs i o e = cc
-  front_owner (x ∷ os) qs zero o e = e
-  front_owner (x ∷ os) qs (suc i) o e = front_owner os qs i o e
-
-  a_pattern : (os : List Owner) (ns : List ℕ) (i : ℕ) → length os ≤ i → i < length (os ++ map Pattern ns) → (n : ℕ) × (slice_get (os ++ map Pattern ns) i ≡ Some (Pattern n))
-  a_pattern [] [] i h l = absurd (omega arith)
-  a_pattern [] (n ∷ ns) zero h l = (n, refl)
-  a_pattern [] (n ∷ ns) (suc i) h l = a_pattern [] ns i (omega arith) (omega arith)
-  a_pattern (o ∷ os) ns zero h l = absurd (omega arith)
-  a_pattern (o ∷ os) ns (suc i) h l = a_pattern os ns i (omega arith) (omega arith)
-
-  same_type : (types : List Row) (s : State) (T : Tree) → continuation_of types old s ≡ Some T → continuation_of types new s ≡ Some T
-  same_type types s T e =
-      let r = type_is types old s T e in
-      let n : number_at new.owners (state_number s) ≡ Some r.0 = ap (λ os. number_at os (state_number s)) adds.grown ∙ number_front old.owners (map Pattern adds.more) (state_number s) r.0 r.1 in
-      type_of_number types new s r.0 n ∙ ap (λ cs. Some (seq_of (continuation types cs r.0))) cells ∙ ap Some r.2
-
-  type_before : (types : List Row) (s : State) (T : Tree) → continuation_of types new s ≡ Some T → continuation_of types old s ≡ Some T
-  type_before types s T e =
-      let r = type_is types new s T e in
-      let n : number_at old.owners (state_number s) ≡ Some r.0 = old_number old.owners adds.more (state_number s) r.0 (ap (λ os. number_at os (state_number s)) (sym adds.grown) ∙ r.1) in
-      type_of_number types old s r.0 n ∙ ap (λ cs. Some (seq_of (continuation types cs r.0))) (sym cells) ∙ ap Some r.2
-
-  pub patterns_keep : (types : List Row) → KeepsStates types types old new
-  patterns_keep types = record {
-    types = same_type types;
-    patterns = λ s h. (h.0, ap (λ os. slice_get os (state_number s)) adds.grown ∙ front_owner old.owners (map Pattern adds.more) (state_number s) (Pattern h.0) h.1);
-  }
-
-  pub patterns_own : count ≤ length new.owners → (s : State) → length old.owners ≤ state_number s → state_number s < count → IsPatternState new s
-  patterns_own full s h l =
-      let r = a_pattern old.owners adds.more (state_number s) h (let e = ap length adds.grown in omega arith) in
-      (r.0, ap (λ os. slice_get os (state_number s)) adds.grown ∙ r.1)
-
-  no_cell : (n : ℕ) (ns : List ℕ) → AllByRecursion (IsOfCell n) (map Pattern ns)
-  no_cell n [] = tt
-  no_cell n (k ∷ ns) = (tt, no_cell n ns)
-
-  pub patterns_mirror : count ≤ length new.owners → (p : ProgramTable) (a b : Automaton) → length b ≡ count → Mirrors p old a → Extends a b → Mirrors p new b
-  patterns_mirror full p a b same m x = record {
-    owned = (let w = m.owned in let l = grown_longer a b x in
-        elim adds.few as (λ _. length b ≡ length new.owners) [ inl h ↦ (let e = ap length (adds.grown ∙ ap (λ ns. old.owners ++ map Pattern ns) h) in let f = length-append old.owners [] in omega arith) | inr h ↦ omega arith ]);
-    shallow = λ z s T h. m.shallow z s T (type_before p.types s T h);
-    flags = λ s T h. ap (λ v. v.last) (x.moves s (state_of_type s T h)) ∙ m.flags s T (type_before p.types s T h);
-    moves = λ s T h.
-        subst (λ v. AreHeadMoves (continuation_of p.types new) (heads (names_of (program_tree p)) T) v.labels v.texts) (sym (x.moves s (state_of_type s T h)))
-        (head_moves_more (continuation_of p.types old) (continuation_of p.types new) (same_type p.types) (m.moves s T (type_before p.types s T h)));
-    kept = record {
-      numbers = subst (λ cs. AllByRecursion (IsOfCell (length cs)) new.owners) (sym cells)
-          (subst (AllByRecursion (IsOfCell (length old.cells))) (sym adds.grown) (all_append (IsOfCell (length old.cells)) old.owners (map Pattern adds.more) m.kept.numbers (no_cell (length old.cells) adds.more)));
-      nodes = subst (AreOfTypes p.types) (sym cells) m.kept.nodes;
-      pieces = λ n k h. subst (λ cs. IsContinuation (continuation p.types cs k)) (sym cells) (m.kept.pieces n k (old_number old.owners adds.more n k (ap (λ os. number_at os n) (sym adds.grown) ∙ h)));
-      bounded = subst (AreBounded (names_of (program_tree p)) (nodes_in p.types) p.types) (sym cells) m.kept.bounded;
-    };
-  }
-    where
-      state_of_type : (s : State) (T : Tree) → continuation_of p.types new s ≡ Some T → IsState a s
-      state_of_type s T h =
-          let r = type_is p.types old s T (type_before p.types s T h) in
-          let w = number_within old.owners (state_number s) r.0 r.1 in let o = m.owned in omega arith

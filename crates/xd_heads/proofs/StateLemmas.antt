@@ -1,5 +1,5 @@
 -- States, and what they lead to.
-use Rattle.std.proofs.Common.{◌≡◌, ℕ, zero, suc, ◌+◌, ◌<◌, ◌≤◌, ◌⊎◌, arith, Bool, true, false, ◌||◌, List, [], ◌∷◌, ◌++◌, map, length, length-append, append_assoc, append-nil, refl, ap, sym, subst, ◌∙◌, inl, inr, nat_eq, nat_lt, not, ◌&&◌, cond, Option, None, Some}
+use Rattle.std.proofs.Common.{◌≡◌, ℕ, zero, suc, ◌+◌, ◌<◌, ◌≤◌, ◌⊎◌, arith, Bool, true, false, ◌||◌, List, [], ◌∷◌, ◌++◌, map, length, append_assoc, append-nil, refl, ap, sym, subst, ◌∙◌, inl, inr, nat_eq, nat_lt, not, ◌&&◌, cond, Option, None, Some}
 use Rattle.std.specs.Prelude.{if◌then◌else◌}
 use Rattle.std.specs.List.{AllByRecursion, list_any, slice_get, position, position_or_len}
 use Rattle.std.specs.Option.{IfSome, IfNone}
@@ -20,7 +20,7 @@ use Rattle.xd_laws.specs.Heads.{text_in, all_texts}
 use Rattle.xd_laws.specs.CanBeEmpty.{can_be_empty, empty_name}
 use Rattle.xd_syntax.specs.Fits.{empty_by}
 use Rattle.xd_syntax.specs.declared.types.TypeDef.{TypeDef}
-use Rattle.xd_syntax.proofs.Members.{mem_append, map_mem}
+use Rattle.xd_syntax.proofs.Members.{mem_append}
 use Rattle.xd_laws.proofs.Pigeon.{NoRepeat, pigeon}
 use Rattle.xd_syntax.proofs.PlacedTrees.{unplaced_at}
 use Rattle.xd_continuations.specs.Bounds.{node_count, NoneLarger, longest}
@@ -29,12 +29,8 @@ use Rattle.xd_moves.specs.Cells.{room}
 use Rattle.xd_sound.specs.TypeNames.{meanings}
 use Rattle.xd_pieces.specs.Pieces.{piece_tree}
 use Rattle.xd_moves.specs.Found.{continuation, move_of, AreOfTypes, AreBounded}
-use Rattle.xd_heads.specs.States.{EachOnce, IsBelow, AreOwners, number_of, number_at, AddsOwner, IsOfCell, AddsStates, AreContinuationsFrom, nodes_from, nodes_in}
-use Rattle.xd_heads.specs.declared.states.Owner.{Owner}
-use Rattle.xd_heads.specs.declared.states.Owner.TheVariants.{Continuation, Pattern}
-use Rattle.xd_heads.specs.contracts.states.OwnerPartialEq.TheImpl as Eq
+use Rattle.xd_heads.specs.States.{EachOnce, number_at, AddsNumber, IsOfCell, AddsStates, nodes_from, nodes_in}
 use Rattle.xd_moves.specs.Cells.{Cell}
-use Rattle.xd_continuations.proofs.MoveLemmas.{all_append}
 use Rattle.xd_continuations.proofs.Reaching.{all_same}
 use Rattle.xd_continuations.proofs.Bounding.{bounded_length}
 use Rattle.xd_continuations.proofs.ChainLemmas.{kept_length, lists_within_are}
@@ -113,76 +109,39 @@ module _ {A : Type 0} (test : A → Bool) (x : A) (whole : test x ≡ true) (rig
           subst (λ (p : Option ℕ). IfNone p (Among x xs → ⊥)) (sym i)
           (λ m. less_false (position_or_len test xs) (length xs) q (has_place xs m))
 
--- ---- owners
+-- ---- numbers
 
 same_number : (m n : ℕ) → nat_eq m n ≡ true → n ≡ m
 same_number m n h = grind (arith, nat_tests)
 
-pub same_owner : (a b : Owner) → (Eq.eq-value).it a b ≡ true → b ≡ a
-same_owner (Continuation m) (Continuation n) h = ap Continuation (same_number m n h)
-same_owner (Continuation m) (Pattern n) h = cc
-same_owner (Pattern m) (Continuation n) h = cc
-same_owner (Pattern m) (Pattern n) h = ap Pattern (same_number m n h)
+number_same : (m : ℕ) → nat_eq m m ≡ true
+number_same m = grind (arith, nat_tests)
 
-pub owner_same : (a : Owner) → (Eq.eq-value).it a a ≡ true
-owner_same (Continuation m) = grind (arith, nat_tests)
-owner_same (Pattern m) = grind (arith, nat_tests)
+-- what an insertion of a number leaves
+pub number_added : (keys old new : List ℕ) (k : ℕ) → keys ≡ old → new ≡ if list_any (nat_eq k) keys then keys else keys ++ k ∷ [] → AddsNumber old k new
+number_added keys old new k v e = added (nat_eq k) k (number_same k) (same_number k) old new (subst (λ ks. new ≡ if list_any (nat_eq k) ks then ks else ks ++ k ∷ []) v e)
 
--- what an insertion of an owner leaves
-pub owner_added : (keys old new : List Owner) (o : Owner) → keys ≡ old → new ≡ if list_any ((Eq.eq-value).it o) keys then keys else keys ++ o ∷ [] → AddsOwner old o new
-owner_added keys old new o v e =
-    added ((Eq.eq-value).it o) o (owner_same o) (same_owner o) old new (subst (λ ks. new ≡ if list_any ((Eq.eq-value).it o) ks then ks else ks ++ o ∷ []) v e)
+-- where a number is found, and that it is nowhere where none is found
+pub number_found : (xs : List ℕ) (k : ℕ) (o : Option ℕ) → o ≡ position (nat_eq k) xs → IfSome o (λ i. slice_get xs i ≡ Some k)
+number_found xs k = found_at_place (nat_eq k) k (number_same k) (same_number k) xs
 
-once_push : (os : List Owner) (o : Owner) → EachOnce os → (Among o os → ⊥) → EachOnce (os ++ o ∷ [])
-once_push [] o e h = ((λ m. m), tt)
-once_push (k ∷ os) o e h =
-    ((λ m. elim (mem_append k os (o ∷ []) m) [ inl a ↦ e.0 a | inr (inl q) ↦ h (inl (sym q)) | inr (inr b) ↦ b ]), once_push os o e.1 (λ m. h (inr m)))
+pub number_nowhere : (xs : List ℕ) (k : ℕ) (o : Option ℕ) → o ≡ position (nat_eq k) xs → IfNone o (Among k xs → ⊥)
+number_nowhere xs k = none_at_place (nat_eq k) k (number_same k) (same_number k) xs
 
-below_more : (m n : ℕ) → m ≤ n → (o : Owner) → IsBelow m o → IsBelow n o
-below_more m n h (Continuation k) b = tt
-below_more m n h (Pattern k) b = omega arith
+once_push : (ks : List ℕ) (k : ℕ) → EachOnce ks → (Among k ks → ⊥) → EachOnce (ks ++ k ∷ [])
+once_push [] k e h = ((λ m. m), tt)
+once_push (j ∷ ks) k e h =
+    ((λ m. elim (mem_append j ks (k ∷ []) m) [ inl a ↦ e.0 a | inr (inl q) ↦ h (inl (sym q)) | inr (inr b) ↦ b ]), once_push ks k e.1 (λ m. h (inr m)))
 
-owners_push : (os : List Owner) (o : Owner) → AreOwners os → (Among o os → ⊥) → IsBelow (length os + 1) o → AreOwners (os ++ o ∷ [])
-owners_push os o a h b =
-    let e : length (os ++ o ∷ []) ≡ length os + 1 = length-append os (o ∷ []) in
-    record {
-      once = once_push os o a.once h;
-      below = subst (λ n. AllByRecursion (IsBelow n) (os ++ o ∷ [])) (sym e)
-          (all_append (IsBelow (length os + 1)) os (o ∷ [])
-          (all_same (IsBelow (length os)) (IsBelow (length os + 1)) os (below_more (length os) (length os + 1) (omega arith)) a.below) (b, tt));
-    }
-
-pub owners_added : (old new : List Owner) (n : ℕ) → AreOwners old → AddsOwner old (Continuation n) new → AreOwners new
-owners_added old new n a (inl h) = subst AreOwners (sym h.1) a
-owners_added old new n a (inr h) = subst AreOwners (sym h.1) (owners_push old (Continuation n) a h.0 tt)
-
-none_below : (n k : ℕ) → n ≤ k → (os : List Owner) → AllByRecursion (IsBelow n) os → Among (Pattern k) os → ⊥
-none_below n k h [] b m = m
-none_below n k h (o ∷ os) b (inl e) = let c : IsBelow n (Pattern k) = subst (IsBelow n) e b.0 in omega arith
-none_below n k h (o ∷ os) b (inr m) = none_below n k h os b.1 m
-
--- a pattern's state is never there before
-pub pattern_added : (old new : List Owner) → AreOwners old → AddsOwner old (Pattern (length old)) new → (new ≡ old ++ Pattern (length old) ∷ []) × AreOwners new
-pattern_added old new a (inl h) = absurd (none_below (length old) (length old) (omega arith) old a.below h.0)
-pattern_added old new a (inr h) = (h.1, subst AreOwners (sym h.1) (owners_push old (Pattern (length old)) a h.0 (omega arith)))
+pub once_added : (old new : List ℕ) (k : ℕ) → EachOnce old → AddsNumber old k new → EachOnce new
+once_added old new k e (inl h) = subst EachOnce (sym h.1) e
+once_added old new k e (inr h) = subst EachOnce (sym h.1) (once_push old k e h.0)
 
 -- ---- how many states there are
 
-numbers_once : (ns : List ℕ) → EachOnce (map Continuation ns) → NoRepeat ns
+numbers_once : (ns : List ℕ) → EachOnce ns → NoRepeat ns
 numbers_once [] o = tt
-numbers_once (n ∷ ns) o = ((λ m. o.0 (map_mem Continuation n ns m)), numbers_once ns o.1)
-
-once_behind : (front back : List Owner) → EachOnce (front ++ back) → EachOnce back
-once_behind [] back o = o
-once_behind (f ∷ front) back o = once_behind front back o.1
-
-within_behind : (n : ℕ) (front back : List Owner) → AllByRecursion (IsOfCell n) (front ++ back) → AllByRecursion (IsOfCell n) back
-within_behind n [] back a = a
-within_behind n (f ∷ front) back a = within_behind n front back a.1
-
-numbers_within : (n : ℕ) (ns : List ℕ) → AllByRecursion (IsOfCell n) (map Continuation ns) → AllByRecursion (λ k. k ≤ n) ns
-numbers_within n [] a = tt
-numbers_within n (k ∷ ns) a = (a.0, numbers_within n ns a.1)
+numbers_once (n ∷ ns) o = (o.0, numbers_once ns o.1)
 
 up_to : ℕ → List ℕ
 up_to zero = 0 ∷ []
@@ -219,72 +178,36 @@ few_numbers ns n o a =
     let h = pigeon ns (up_to n) o (λ m i. up_to_has n m (below (λ k. k ≤ n) ns a m i)) in
     let e = up_to-length n in omega arith
 
--- behind the first ones, no more states than there are short continuations
-pub states_few : (E : Definitions) (m : ℕ) (types : List Row) (cells : List Cell) (first : ℕ) (states : List Owner) → AreLinks cells → AreOfTypes types cells → AreBounded E m types cells → AreOwners states →
-    AllByRecursion (IsOfCell (length cells)) states → AreContinuationsFrom first states → length states ≤ first + room (length types) (longest E m)
-states_few E m types cells first states a nodes b o s c =
+-- no more states than there are short continuations
+pub states_few : (E : Definitions) (m : ℕ) (types : List Row) (cells : List Cell) (states : List ℕ) → AreLinks cells → AreOfTypes types cells → AreBounded E m types cells → EachOnce states →
+    AllByRecursion (IsOfCell (length cells)) states → length states ≤ room (length types) (longest E m)
+states_few E m types cells states a nodes b o s =
     let short = lists_within_are (longest E m) cells
     (λ n h. (let k = bounded_length E m (continuation types cells n) (b n h) in let l = length-map (list_at cells n) (piece_tree types) in omega (arith, k, l))) in
     let f = few_cells (length types) (longest E m) cells a nodes short in
-    let once = numbers_once c.more (once_behind c.front (map Continuation c.more) (subst EachOnce c.split o.once)) in
-    let within = numbers_within (length cells) c.more (within_behind (length cells) c.front (map Continuation c.more) (subst (AllByRecursion (IsOfCell (length cells))) c.split s)) in
-    let g = few_numbers c.more (length cells) once within in
-    let l : length states ≡ length c.front + length c.more = ap length c.split ∙ length-append c.front (map Continuation c.more) ∙ ap (λ n. length c.front + n) (length-map c.more Continuation) in
-    let q = c.count in
+    let g = few_numbers states (length cells) (numbers_once states o) s in
     omega arith
 
 -- ---- states that are added
 
-numbers_kept : (old new : List Cell) → KeepsLinks old new → (os : List Owner) → AllByRecursion (IsOfCell (length old)) os → AllByRecursion (IsOfCell (length new)) os
-numbers_kept old new k os a = let l = kept_length old new k in all_same (IsOfCell (length old)) (IsOfCell (length new)) os (more l) a
-  where
-    more : length old ≤ length new → (o : Owner) → IsOfCell (length old) o → IsOfCell (length new) o
-    more l (Continuation n) h = omega arith
-    more l (Pattern n) h = tt
+numbers_kept : (old new : List Cell) → KeepsLinks old new → (os : List ℕ) → AllByRecursion (IsOfCell (length old)) os → AllByRecursion (IsOfCell (length new)) os
+numbers_kept old new k os a = let l = kept_length old new k in all_same (IsOfCell (length old)) (IsOfCell (length new)) os (λ n h. omega arith) a
 
-pub states_none : (old new : List Cell) → KeepsLinks old new → (states : List Owner) → AddsStates old new states states
+pub states_none : (old new : List Cell) → KeepsLinks old new → (states : List ℕ) → AddsStates old new states states
 states_none old new k states = record { more = []; grown = sym (append-nil states); numbers = numbers_kept old new k states }
 
-map_both : (ms ns : List ℕ) → map Continuation ms ++ map Continuation ns ≡ map Continuation (ms ++ ns)
-map_both [] ns = refl
-map_both (m ∷ ms) ns = ap (λ os. Continuation m ∷ os) (map_both ms ns)
-
-pub states_then : (a b c : List Cell) (x y z : List Owner) → AddsStates a b x y → AddsStates b c y z → AddsStates a c x z
+pub states_then : (a b c : List Cell) (x y z : List ℕ) → AddsStates a b x y → AddsStates b c y z → AddsStates a c x z
 states_then a b c x y z s t = record {
   more = s.more ++ t.more;
-  grown = t.grown ∙ ap (λ os. os ++ map Continuation t.more) s.grown ∙ append_assoc x (map Continuation s.more) (map Continuation t.more)
-      ∙ ap (λ os. x ++ os) (map_both s.more t.more);
+  grown = t.grown ∙ ap (λ os. os ++ t.more) s.grown ∙ append_assoc x s.more t.more;
   numbers = λ n. t.numbers (s.numbers n);
 }
 
--- the states behind the first ones stay those of continuations
-pub from_more : (a b : List Cell) (first : ℕ) (x y : List Owner) → AreContinuationsFrom first x → AddsStates a b x y → AreContinuationsFrom first y
-from_more a b first x y c s = record {
-  front = c.front;
-  more = c.more ++ s.more;
-  split = s.grown ∙ ap (λ os. os ++ map Continuation s.more) c.split ∙ append_assoc c.front (map Continuation c.more) (map Continuation s.more)
-      ∙ ap (λ os. c.front ++ os) (map_both c.more s.more);
-  count = c.count;
-}
-
-pub from_all : (a b : List Cell) (x y : List Owner) → AddsStates a b x y → AreContinuationsFrom (length x) y
-from_all a b x y s = record { front = x; more = s.more; split = s.grown; count = refl }
-
--- so each of them has a number
-pub number_from : (first : ℕ) (states : List Owner) → AreContinuationsFrom first states → (n : ℕ) → first ≤ n → number_at states n ≡ None → length states ≤ n
-number_from first states c n h e = let q = c.count in
-    let r = behind c.front c.more n (omega arith) (subst (λ os. number_at os n ≡ None) c.split e) in
-    let l = ap length c.split in omega arith
-  where
-    numbered_all : (ms : List ℕ) (n : ℕ) → number_at (map Continuation ms) n ≡ None → length (map Continuation ms) ≤ n
-    numbered_all [] n e = omega arith
-    numbered_all (m ∷ ms) zero e = cc
-    numbered_all (m ∷ ms) (suc n) e = let i = numbered_all ms n e in omega arith
-
-    behind : (front : List Owner) (ms : List ℕ) (n : ℕ) → length front ≤ n → number_at (front ++ map Continuation ms) n ≡ None → length (front ++ map Continuation ms) ≤ n
-    behind [] ms n h e = numbered_all ms n e
-    behind (f ∷ front) ms zero h e = absurd (omega arith)
-    behind (f ∷ front) ms (suc n) h e = let i = behind front ms n (omega arith) e in omega arith
+-- each state has a number
+pub number_none : (states : List ℕ) (n : ℕ) → number_at states n ≡ None → length states ≤ n
+number_none [] n e = omega arith
+number_none (m ∷ ms) zero e = cc
+number_none (m ∷ ms) (suc n) e = let i = number_none ms n e in omega arith
 
 -- ---- how large types are
 
@@ -362,34 +285,30 @@ words_of_form (V.Opt t) w e = cc
 
 -- ---- numbers
 
-pub number_below : (n : ℕ) (states : List Owner) (i k : ℕ) → AllByRecursion (IsOfCell n) states → number_at states i ≡ Some k → k ≤ n
+pub number_below : (n : ℕ) (states : List ℕ) (i k : ℕ) → AllByRecursion (IsOfCell n) states → number_at states i ≡ Some k → k ≤ n
 number_below n [] i k a e = cc
-number_below n (Continuation m ∷ os) zero k a e = let q : m ≡ k = cc in subst (λ j. j ≤ n) q a.0
-number_below n (Pattern m ∷ os) zero k a e = cc
+number_below n (m ∷ os) zero k a e = let q : m ≡ k = cc in subst (λ j. j ≤ n) q a.0
 number_below n (o ∷ os) (suc i) k a e = number_below n os i k a.1 e
 
-pub number_within : (states : List Owner) (i k : ℕ) → number_at states i ≡ Some k → i < length states
+pub number_within : (states : List ℕ) (i k : ℕ) → number_at states i ≡ Some k → i < length states
 number_within [] i k e = cc
 number_within (o ∷ os) zero k e = omega arith
 number_within (o ∷ os) (suc i) k e = let h = number_within os i k e in omega arith
 
-pub number_front : (states more : List Owner) (i k : ℕ) → number_at states i ≡ Some k → number_at (states ++ more) i ≡ Some k
+pub number_front : (states more : List ℕ) (i k : ℕ) → number_at states i ≡ Some k → number_at (states ++ more) i ≡ Some k
 number_front [] more i k e = cc
 number_front (o ∷ os) more zero k e = e
 number_front (o ∷ os) more (suc i) k e = number_front os more i k e
 
--- a number behind one more owner is an old one's, or its own
-pub number_pushed : (states : List Owner) (o : Owner) (i k : ℕ) → number_at (states ++ o ∷ []) i ≡ Some k → (number_at states i ≡ Some k) ⊎ ((i ≡ length states) × (number_of (Some o) ≡ Some k))
-number_pushed [] o zero k e = inr (refl, e)
+-- a number behind one more state is an old one's, or its own
+pub number_pushed : (states : List ℕ) (o : ℕ) (i k : ℕ) → number_at (states ++ o ∷ []) i ≡ Some k → (number_at states i ≡ Some k) ⊎ ((i ≡ length states) × (o ≡ k))
+number_pushed [] o zero k e = inr (refl, cc)
 number_pushed [] o (suc i) k e = cc
 number_pushed (x ∷ os) o zero k e = inl e
 number_pushed (x ∷ os) o (suc i) k e = elim (number_pushed os o i k e) [ inl h ↦ inl h | inr h ↦ inr (ap suc h.0, h.1) ]
 
-pub one_number : (states : List Owner) (i j k : ℕ) → number_at states i ≡ Some j → number_at states i ≡ Some k → k ≡ j
+pub one_number : (states : List ℕ) (i j k : ℕ) → number_at states i ≡ Some j → number_at states i ≡ Some k → k ≡ j
 one_number states i j k a b = let e : Some j ≡ Some k = sym a ∙ b in cc
-
-pub number_got : (states : List Owner) (i k : ℕ) → slice_get states i ≡ Some (Continuation k) → number_at states i ≡ Some k
-number_got states i k e = ap number_of e
 
 -- ---- continuations that can be empty
 

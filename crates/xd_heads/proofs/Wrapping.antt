@@ -1,6 +1,6 @@
 -- A sound program meets what the core asks for, and the core gives what the calls on it promise.
-use Rattle.std.proofs.Common.{◌≡◌, ℕ, zero, suc, ◌<◌, Bool, true, false, List, [], ◌∷◌, ◌++◌, map, length, get_or, Some, arith, refl, ap, sym, subst, ◌∙◌}
-use Rattle.std.specs.List.{AllByRecursion, slice_get}
+use Rattle.std.proofs.Common.{◌≡◌, ◌<◌, Bool, true, false, List, length, get_or, Some, arith, refl, ap, sym, subst, ◌∙◌}
+use Rattle.std.specs.List.{AllByRecursion}
 use Rattle.xd_syntax.specs.Tree.{Tree, seq_of}
 use Rattle.xd_syntax.specs.Table.{Row, AreBuilt, KeepsRows, tree_at}
 use Rattle.xd_syntax.specs.Kept.{ProgramTable, TypeDefStands, ProgramStands, program_tree}
@@ -24,8 +24,6 @@ use Rattle.xd_heads.specs.States.{number_at}
 use Rattle.xd_heads.specs.Compiled.{AreAllCompiled}
 use Rattle.xd_heads.specs.CellsView.{CellsView}
 use Rattle.xd_heads.specs.Mirrors.{continuation_of, KeepsStates, Mirrors}
-use Rattle.xd_heads.specs.declared.states.Owner.{Owner}
-use Rattle.xd_heads.specs.declared.states.Owner.TheVariants.{Continuation, Pattern}
 use Rattle.xd_moves.proofs.Putting.{continuation_kept}
 use Rattle.xd_heads.proofs.StateLemmas.{number_below, number_front, number_within}
 use Rattle.xd_heads.proofs.Mirrored.{type_is, type_of_number, types_stay, to_mirrors}
@@ -58,29 +56,19 @@ marks_decide types ds guarded marks m = record {
       (λ e. (m.exact i h).1 (empty_right (meanings types ds) (tree_at types i) e));
 }
 
-slice_front : (os more : List Owner) (i : ℕ) (o : Owner) → slice_get os i ≡ Some o → slice_get (os ++ more) i ≡ Some o
-slice_front [] more i o e = cc
-slice_front (x ∷ os) more zero o e = e
-slice_front (x ∷ os) more (suc i) o e = slice_front os more i o e
-
 -- ---- what is compiled
 
 module _ (p : ProgramTable) (old new : CellsView) (a b : Automaton) (stands : ProgramStands p) (built : AreBuilt false p.types) (sound : IsSound (program_tree p)) (m : Mirrors p old a)
-    (all : AreAllCompiled p.types p.type_defs old.cells new.cells old.owners new.owners b) where
+    (all : AreAllCompiled p.types p.type_defs old.cells new.cells old.states new.states b) where
   pub compiled_keeps : KeepsStates p.types p.types old new
   compiled_keeps = record {
     types = λ s T e.
         let r = type_is p.types old s T e in
-        let n : number_at new.owners (state_number s) ≡ Some r.0 = ap (λ os. number_at os (state_number s)) all.states_added.grown
-        ∙ number_front old.owners (map Continuation all.states_added.more) (state_number s) r.0 r.1 in
+        let n : number_at new.states (state_number s) ≡ Some r.0 = ap (λ os. number_at os (state_number s)) all.states_added.grown
+        ∙ number_front old.states all.states_added.more (state_number s) r.0 r.1 in
         type_of_number p.types new s r.0 n
-        ∙ ap (λ K. Some (seq_of K)) (continuation_kept p.types old.cells new.cells all.cells_added.kept r.0 (number_below (length old.cells) old.owners (state_number s) r.0 m.kept.numbers r.1))
+        ∙ ap (λ K. Some (seq_of K)) (continuation_kept p.types old.cells new.cells all.cells_added.kept r.0 (number_below (length old.cells) old.states (state_number s) r.0 m.kept.numbers r.1))
         ∙ ap Some r.2;
-    patterns = λ s h. (
-      h.0,
-      ap (λ os. slice_get os (state_number s)) all.states_added.grown
-          ∙ slice_front old.owners (map Continuation all.states_added.more) (state_number s) (Pattern h.0) h.1,
-    );
   }
 
   pub compiled_mirrors_again : Mirrors p new b
@@ -90,8 +78,8 @@ module _ (p : ProgramTable) (old new : CellsView) (a b : Automaton) (stands : Pr
 
 -- what is kept while types are added, and then too
 pub keeps_from : (old types : List Row) → KeepsRows old types → (c d : CellsView) → AreOfTypes old c.cells → KeepsStates types types c d → KeepsStates old types c d
-keeps_from old types k c d a s = record { types = λ t T e. s.types t T (types_stay old types k c a t ∙ e); patterns = s.patterns }
+keeps_from old types k c d a s = record { types = λ t T e. s.types t T (types_stay old types k c a t ∙ e) }
 
 -- a state with a continuation is there
-pub type_state : (types : List Row) (c : CellsView) (a : Automaton) (s : State) (T : Tree) → length a ≡ length c.owners → continuation_of types c s ≡ Some T → state_number s < length a
-type_state types c a s T o e = let r = type_is types c s T e in let w = number_within c.owners (state_number s) r.0 r.1 in omega arith
+pub type_state : (types : List Row) (c : CellsView) (a : Automaton) (s : State) (T : Tree) → length a ≡ length c.states → continuation_of types c s ≡ Some T → state_number s < length a
+type_state types c a s T o e = let r = type_is types c s T e in let w = number_within c.states (state_number s) r.0 r.1 in omega arith

@@ -15,15 +15,13 @@ use Rattle.xd_sound.specs.TypeNames.{meanings}
 use Rattle.xd_moves.specs.Found.{continuation, AddsCells}
 use Rattle.xd_heads.specs.States.{AddsStates, StaysBounded, IsOfCell, number_at}
 use Rattle.xd_moves.specs.Cells.{Cell}
-use Rattle.xd_heads.specs.declared.states.Owner.{Owner}
-use Rattle.xd_heads.specs.declared.states.Owner.TheVariants.{Continuation}
 
 abbrev pub numbered : List Row → List Cell → Option ℕ → Option (List Tree)
 numbered types cells None = None
 numbered types cells (Some n) = Some (continuation types cells n)
 
--- the continuation of a state, where it is one of a type
-abbrev pub continuations_of : List Row → List Cell → List Owner → Continuations
+-- the continuation of a state
+abbrev pub continuations_of : List Row → List Cell → List ℕ → Continuations
 continuations_of types cells states s = numbered types cells (number_at states (state_number s))
 
 -- a state without moves
@@ -31,8 +29,8 @@ abbrev pub fresh_state : List Row → List TypeDef → List Cell → ℕ → Sta
 fresh_state types ds cells n = no_moves (can_be_empty (meanings types ds) (seq_of (continuation types cells n)))
 
 -- the state has the continuation with this number; where none had, it is new
-pub record GetsState (types : List Row) (ds : List TypeDef) (cells : List Cell) (old new : List Owner) (old_auto new_auto : Automaton) (number : ℕ) (s : State) : Type 0 where
-  pub added : ((new ≡ old) × (new_auto ≡ old_auto)) ⊎ ((new ≡ old ++ Continuation number ∷ []) × (new_auto ≡ old_auto ++ fresh_state types ds cells number ∷ []))
+pub record GetsState (types : List Row) (ds : List TypeDef) (cells : List Cell) (old new : List ℕ) (old_auto new_auto : Automaton) (number : ℕ) (s : State) : Type 0 where
+  pub added : ((new ≡ old) × (new_auto ≡ old_auto)) ⊎ ((new ≡ old ++ number ∷ []) × (new_auto ≡ old_auto ++ fresh_state types ds cells number ∷ []))
   pub there : number_at new (state_number s) ≡ Some number
 
 -- the continuation may be that of a state: it is no deeper than a text may be nested, where the types are not
@@ -52,8 +50,8 @@ pub record SparesOthers (from : State) (old new : Automaton) : Type 0 where
   pub longer : length old ≤ length new
   pub stay : (n : ℕ) → n < length old → (n ≡ state_number from → ⊥) → state_at new n ≡ state_at old n
 
--- Those of the states below this one that are of continuations have their flags and their moves, this one has these moves, and the others have none yet.
-pub record AreCompiled (types : List Row) (ds : List TypeDef) (cells : List Cell) (states : List Owner) (auto : Automaton) (done : ℕ) (known : List Move) : Type 0 where
+-- All states have their flags, those below this one have their moves, this one has these moves, and the others have none yet.
+pub record AreCompiled (types : List Row) (ds : List TypeDef) (cells : List Cell) (states : List ℕ) (auto : Automaton) (done : ℕ) (known : List Move) : Type 0 where
   pub aligned : length auto ≡ length states
   pub numbers : AllByRecursion (IsOfCell (length cells)) states
   pub continuations : (n k : ℕ) → number_at states n ≡ Some k → IsOfState types (continuation types cells k)
@@ -64,7 +62,7 @@ pub record AreCompiled (types : List Row) (ds : List TypeDef) (cells : List Cell
   pub fresh : (n : ℕ) → done < n → ((state_at auto n).labels ≡ []) × ((state_at auto n).texts ≡ [])
 
 -- these moves are added to a state, behind those that it has; states that they lead to are made
-pub record AddsMoves (types : List Row) (ds : List TypeDef) (old_cells new_cells : List Cell) (old new : List Owner) (old_auto new_auto : Automaton) (from : State) (ms : List Move) : Type 0 where
+pub record AddsMoves (types : List Row) (ds : List TypeDef) (old_cells new_cells : List Cell) (old new : List ℕ) (old_auto new_auto : Automaton) (from : State) (ms : List Move) : Type 0 where
   pub cells_added : AddsCells types old_cells new_cells
   pub states_added : AddsStates old_cells new_cells old new
   pub aligned : length new_auto ≡ length new
@@ -72,8 +70,8 @@ pub record AddsMoves (types : List Row) (ds : List TypeDef) (old_cells new_cells
   pub compiled : AllByRecursion (λ (m : Move). IsOfState types m.content × IsOfState types m.rest) ms → (known : List Move) →
       AreCompiled types ds old_cells old old_auto (state_number from) known → AreCompiled types ds new_cells new new_auto (state_number from) (known ++ ms)
 
--- all states of continuations have their moves
-pub record AreAllCompiled (types : List Row) (ds : List TypeDef) (old_cells new_cells : List Cell) (old new : List Owner) (auto : Automaton) : Type 0 where
+-- all states have their moves
+pub record AreAllCompiled (types : List Row) (ds : List TypeDef) (old_cells new_cells : List Cell) (old new : List ℕ) (auto : Automaton) : Type 0 where
   pub cells_added : AddsCells types old_cells new_cells
   pub states_added : AddsStates old_cells new_cells old new
   pub bounded : StaysBounded types ds old_cells new_cells

@@ -1,6 +1,6 @@
 -- The continuations of an automaton's states, and what their flags and their moves are.
 use Rattle.std.specs.Prelude.{◌≡◌, ℕ, ◌≤◌, List, [], ◌∷◌, length, Option, Some, None}
-use Rattle.std.specs.List.{AllByRecursion, slice_get}
+use Rattle.std.specs.List.{AllByRecursion}
 use Rattle.xd_syntax.specs.Tree.{Tree, seq_of}
 use Rattle.xd_syntax.specs.Table.{Row}
 use Rattle.xd_syntax.specs.TypeText.{depth}
@@ -18,30 +18,25 @@ use Rattle.xd_moves.specs.Found.{continuation, AreBounded, AreOfTypes}
 use Rattle.xd_heads.specs.States.{IsOfCell, number_at, nodes_in}
 use Rattle.xd_heads.specs.Compiled.{continuations_of}
 use Rattle.xd_heads.specs.CellsView.{CellsView}
-use Rattle.xd_heads.specs.declared.states.Owner.TheVariants.{Pattern}
 
 abbrev pub as_type : Option (List Tree) → Option Tree
 as_type None = None
 as_type (Some K) = Some (seq_of K)
 
--- the continuation of a state of a type, as a type
+-- the continuation of a state, as a type
 abbrev pub continuation_of : List Row → CellsView → State → Option Tree
-continuation_of types c s = as_type (continuations_of types c.cells c.owners s)
+continuation_of types c s = as_type (continuations_of types c.cells c.states s)
 
--- the state is one of a type, or one of a pattern
+-- the state has a continuation
 abbrev pub IsTypeState : CellsView → State → Type 0
-IsTypeState c s = (n : ℕ) × (number_at c.owners (state_number s) ≡ Some n)
+IsTypeState c s = (n : ℕ) × (number_at c.states (state_number s) ≡ Some n)
 
-abbrev pub IsPatternState : CellsView → State → Type 0
-IsPatternState c s = (n : ℕ) × (slice_get c.owners (state_number s) ≡ Some (Pattern n))
-
--- each state of a type stays one, with the same continuation, and each one of a pattern stays one
+-- each state keeps its continuation
 pub record KeepsStates (old_types new_types : List Row) (old new : CellsView) : Type 0 where
   pub types : (s : State) (T : Tree) → continuation_of old_types old s ≡ Some T → continuation_of new_types new s ≡ Some T
-  pub patterns : (s : State) → IsPatternState old s → IsPatternState new s
 
 -- The moves on an element are, in order, the heads that are elements, and those on a text the heads that are texts: each has the head's
--- class, and leads to states of types whose continuations are the head's content and the head's rest.
+-- class, and leads to states whose continuations are the head's content and the head's rest.
 pub data AreHeadMoves (C : State → Option Tree) : List Head → List LabelMove → List TextMove → Type 0 where
   no_head : AreHeadMoves C [] [] []
   element_head : {h : Head} {hs : List Head} {l : LabelMove} {ls : List LabelMove} {ts : List TextMove} →
@@ -51,16 +46,15 @@ pub data AreHeadMoves (C : State → Option Tree) : List Head → List LabelMove
 
 -- the continuations that are kept are lists of pieces of the program's types, and short enough for the next compilation to end
 pub record AreKeptCells (p : ProgramTable) (c : CellsView) : Type 0 where
-  pub numbers : AllByRecursion (IsOfCell (length c.cells)) c.owners
+  pub numbers : AllByRecursion (IsOfCell (length c.cells)) c.states
   pub nodes : AreOfTypes p.types c.cells
-  pub pieces : (n k : ℕ) → number_at c.owners n ≡ Some k → IsContinuation (continuation p.types c.cells k)
+  pub pieces : (n k : ℕ) → number_at c.states n ≡ Some k → IsContinuation (continuation p.types c.cells k)
   pub bounded : AreBounded (names_of (program_tree p)) (nodes_in p.types) p.types c.cells
 
--- Cells mirror an automaton on a program: each state belongs to the cells, as one of a type or one of a pattern; the
--- continuation of a state of a type is no deeper than a text may be nested, where the program's types are not; its flag says
--- whether the continuation can be empty; and its moves are the continuation's heads.
+-- Cells mirror an automaton on a program: each state has a continuation, which is no deeper than a text may be nested, where the
+-- program's types are not; the state's flag says whether the continuation can be empty; and its moves are the continuation's heads.
 pub record Mirrors (p : ProgramTable) (c : CellsView) (a : Automaton) : Type 0 where
-  pub owned : length a ≡ length c.owners
+  pub states : length a ≡ length c.states
   pub shallow : IsShallow p.types → (s : State) (T : Tree) → continuation_of p.types c s ≡ Some T → depth T ≤ nesting_limit
   pub flags : (s : State) (T : Tree) → continuation_of p.types c s ≡ Some T → (moves_at a s).last ≡ can_be_empty (names_of (program_tree p)) T
   pub moves : (s : State) (T : Tree) → continuation_of p.types c s ≡ Some T →

@@ -15,14 +15,14 @@ ghost use Rattle.xd_continuations.specs.Continuation.{AreMerged, IsMerged, moves
 ghost use Rattle.xd_syntax.specs.Table.{tree_at};
 ghost use Rattle.xd_sound.specs.TypeNames.{meanings};
 ghost use Rattle.xd_moves.specs.Found.{AreBodies, AreBounded, AreDecidingMarks, AreOfTypes, IsFound, continuation, move_at};
-ghost use Rattle.xd_heads.specs.States.{AreContinuationsFrom, nodes_in};
+ghost use Rattle.xd_heads.specs.States.{nodes_in};
 ghost use Rattle.xd_continuations.specs.TailUses.{RecursOnlyInTail};
 
 use crate::states::States;
 use std::alloc::Global;
 use xd_auto::{Auto, State};
 use xd_doc::{Class, NoMemory, Words};
-use xd_moves::{Bodies, Continuations, FirstUses, Found, content, expand, is_empty};
+use xd_moves::{Continuations, FirstUses, Found, TypeBodies, content, expand, is_empty};
 use xd_syntax::{TypeDef, TypeForm, TypeId, Types};
 
 /// Whether a continuation can be empty.
@@ -186,7 +186,7 @@ fn add_moves(
     alloc: Global,
     types: &Types,
     defs: &[TypeDef],
-    bodies: &Bodies,
+    bodies: &TypeBodies,
     marks: &[bool],
     number: usize,
     from: State,
@@ -221,7 +221,7 @@ pub(crate) fn compile(
     alloc: Global,
     types: &Types,
     defs: &[TypeDef],
-    bodies: &Bodies,
+    bodies: &TypeBodies,
     marks: &[bool],
     first: usize,
     cells: &mut Continuations,
@@ -237,7 +237,6 @@ pub(crate) fn compile(
     requires marks { AreDecidingMarks types.now defs.now marks.now }
     requires nodes { AreOfTypes types.now cells.old }
     requires first { first ≤ length states.old }
-    requires behind { AreContinuationsFrom first states.old }
     requires compiled { AreCompiled types.now defs.now cells.old states.old auto.old first [] }
     requires bounded { AreBounded (meanings types.now defs.now) (nodes_in types.now) types.now cells.old }
     ensures compiled { OnOk result (AreAllCompiled types.now defs.now cells.old cells.new states.old states.new auto.new) }
@@ -263,7 +262,7 @@ pub(crate) fn compile_node(
     alloc: Global,
     types: &Types,
     defs: &[TypeDef],
-    bodies: &Bodies,
+    bodies: &TypeBodies,
     marks: &[bool],
     part: TypeId,
     cells: &mut Continuations,

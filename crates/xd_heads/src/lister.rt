@@ -18,9 +18,9 @@ use crate::listing::{HeadKind, find_moves, kind_of};
 use std::alloc::Global;
 use xd_continuations::meaning_of_any;
 use xd_doc::NoMemory;
-use xd_moves::{Bodies, Continuations, Found, content};
+use xd_moves::{Continuations, Found, TypeBodies, content};
 use xd_pieces::FirstPieces;
-use xd_sound::{Known, SoundProgram};
+use xd_sound::{KnownTypes, SoundProgram};
 use xd_syntax::{Program, TypeId, Types};
 
 /// How documents that fit a type begin: what the first item is, what stands in it, and what follows it. Content and rest are
@@ -40,7 +40,7 @@ pub struct NumberedHead {
 #[derive(Drop)]
 pub struct HeadLister {
     alloc: Global,
-    bodies: Bodies,
+    bodies: TypeBodies,
     empty_marks: Vec<bool>,
     firsts: FirstPieces,
     cells: Continuations,
@@ -71,8 +71,7 @@ fn number_nodes(
 }
 
 impl HeadLister {
-    /// One for the types that the program has now. What `Any` stands for is added to it. Takes time linear in the table of its
-    /// types.
+    /// One for the types that the program has now. What `Any` stands for is added to it, and stays there after `NoMemory`, too.
     pub fn new(alloc: Global, sound: &mut SoundProgram) -> Result<Self, NoMemory>
         ensures serves { IfOk result (Serves sound.new) }
         ensures adds { AddsTypes sound.old sound.new }
@@ -84,10 +83,10 @@ impl HeadLister {
         let firsts = FirstPieces::new(alloc, types)?;
         let mut cells = Continuations::new(alloc);
         let numbers = number_nodes(alloc, types, &firsts, &mut cells)?;
-        let Known { names, empty_marks } = sound.take_known()?;
+        let KnownTypes { names, empty_marks } = sound.take_known()?;
         Ok(Self {
             alloc,
-            bodies: Bodies {
+            bodies: TypeBodies {
                 names,
                 any: any.at(),
             },
@@ -121,7 +120,8 @@ impl HeadLister {
 
     /// The heads of a type, in order, repetitions kept (after Hosoya, Vouillon and Pierce, TOPLAS 2005).
     ///
-    /// It does no recursion, over names or over the parts of a sequence.
+    /// The program is the one that the lister was made of, with the types that it had then. The lister does no recursion, over names
+    /// or over the parts of a sequence. After `NoMemory` nothing is known of it any more.
     pub fn heads(&mut self, program: &Program, id: TypeId) -> Result<Vec<NumberedHead>, NoMemory>
         requires belongs { BelongsTo program.now.types id }
         requires serves { Serves program.now self.old }
@@ -191,8 +191,8 @@ impl HeadLister {
         requires { Serves sound.old self }
         ensures { sound.new ≡ sound.old }
     {
-        let Bodies { names, any: _ } = self.bodies;
-        sound.give_back(Known {
+        let TypeBodies { names, any: _ } = self.bodies;
+        sound.give_back(KnownTypes {
             names,
             empty_marks: self.empty_marks,
         });

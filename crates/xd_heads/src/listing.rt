@@ -26,14 +26,16 @@ use std::alloc::Global;
 use std::collections::HashMap;
 use xd_continuations::meaning_of_any;
 use xd_doc::{Class, NoMemory, Words};
-use xd_moves::{Bodies, Continuations, Found, StandIns, Themselves, content, expand};
-use xd_sound::{Known, SoundProgram};
+use xd_moves::{Continuations, Found, StandIns, Themselves, TypeBodies, content, expand};
+use xd_sound::{KnownTypes, SoundProgram};
 use xd_syntax::{Program, TypeForm, TypeId, Types};
 
 /// What the first item of a document is: an element whose label is in the class, or a text that is in the class.
 #[derive(Drop)]
 pub enum HeadKind {
+    /// An element, whose label is in this class.
     Label(Class),
+    /// A text, which is in this class.
     Text(Words),
 }
 
@@ -50,6 +52,7 @@ pub struct Head {
 ///
 /// Contents and rests are types of the program; types are added to it for them, one for each rest. It does no recursion, over
 /// names or over the parts of a sequence. Which types can be empty is found once for a program, and not anew in each call.
+/// After `NoMemory` the program has more types at most.
 pub fn heads(alloc: Global, sound: &mut SoundProgram, id: TypeId) -> Result<Vec<Head>, NoMemory>
     requires { BelongsTo sound.old.types id }
     ensures heads { IfOk result (λ found. map (head_at sound.new.types) found.items ≡ heads (names_of (program_tree sound.old)) (tree sound.old.types id)) }
@@ -59,14 +62,14 @@ pub fn heads(alloc: Global, sound: &mut SoundProgram, id: TypeId) -> Result<Vec<
     ensures shallow { IsShallow sound.old.types → IsShallow sound.new.types }
 {
     let any = meaning_of_any(alloc, sound)?;
-    let Known { names, empty_marks } = sound.take_known()?;
-    let bodies = Bodies {
+    let KnownTypes { names, empty_marks } = sound.take_known()?;
+    let bodies = TypeBodies {
         names,
         any: any.at(),
     };
     let (cells, found) = find_heads(alloc, sound.program(), &bodies, &empty_marks, id)?;
-    let Bodies { names, any: _ } = bodies;
-    sound.give_back(Known { names, empty_marks });
+    let TypeBodies { names, any: _ } = bodies;
+    sound.give_back(KnownTypes { names, empty_marks });
     let mut rests = HashMap::new(alloc);
     let made = list_heads(alloc, sound, &cells, &mut rests, &found)?;
     Ok(made)
@@ -76,7 +79,7 @@ pub fn heads(alloc: Global, sound: &mut SoundProgram, id: TypeId) -> Result<Vec<
 fn find_heads(
     alloc: Global,
     program: &Program,
-    bodies: &Bodies,
+    bodies: &TypeBodies,
     marks: &[bool],
     id: TypeId,
 ) -> Result<(Continuations, Vec<Found>), NoMemory>
@@ -109,7 +112,7 @@ fn find_heads(
 pub(crate) fn find_moves<S: StandIns>(
     alloc: Global,
     program: &Program,
-    bodies: &Bodies,
+    bodies: &TypeBodies,
     marks: &[bool],
     id: TypeId,
     number: usize,

@@ -16,7 +16,7 @@ ghost use Rattle.xd_sound.specs.Emptiness.{AreEmptyMarks};
 ghost use Rattle.xd_syntax.specs.Types.{BelongsTo, tree};
 ghost use Rattle.xd_heads.specs.Compiled.{Spares};
 ghost use Rattle.xd_heads.specs.CellsView.{CellsView, no_cells};
-ghost use Rattle.xd_heads.specs.Mirrors.{IsPatternState, IsTypeState, KeepsStates, Mirrors, MirrorsStay, continuation_of};
+ghost use Rattle.xd_heads.specs.Mirrors.{IsTypeState, KeepsStates, Mirrors, MirrorsStay, continuation_of};
 
 use crate::compile::compile_node;
 use crate::states::States;
@@ -26,11 +26,11 @@ use std::marker::Model;
 use xd_auto::{Auto, State};
 use xd_continuations::meaning_of_any;
 use xd_doc::NoMemory;
-use xd_moves::{Bodies, Continuations, FirstUses};
-use xd_sound::{Known, SoundProgram};
+use xd_moves::{Continuations, FirstUses, TypeBodies};
+use xd_sound::{KnownTypes, SoundProgram};
 use xd_syntax::{Program, TypeId};
 
-/// What the states of an automaton belong to: continuations of types, or patterns.
+/// The continuations of an automaton's states.
 ///
 /// A continuation is what is still to come of a type: a list of its pieces. Each is kept once, as a piece and an older
 /// continuation, so that recursive types share states.
@@ -47,7 +47,7 @@ impl Model for Cells {
 
     ghost Value = { CellsView };
 
-    ghost view = { λ c. record { cells = c.continuations; owners = c.states } };
+    ghost view = { λ c. record { cells = c.continuations; states = c.states } };
 }
 
 impl Cells {
@@ -64,17 +64,9 @@ impl Cells {
         }
     }
 
-    /// Takes the states that the automaton has beyond those of the cells as states of a pattern.
-    pub fn own_pattern_states(&mut self, auto: &Auto) -> Result<(), NoMemory>
-        ensures mirrors { OnOk result ((p : ProgramTable) (old : Automaton) → Mirrors p self.old old → Extends old auto.now → Mirrors p self.new auto.now) }
-        ensures patterns { OnOk result ((s : State) → length self.old.owners ≤ state_number s → IsState auto.now s → IsPatternState self.new s) }
-        ensures keeps { (types : List Row) → KeepsStates types types self.old self.new }
-    {
-        self.states.fill(auto.len())?;
-        Ok(())
-    }
-
-    /// The continuation of a state of a type, as a type of the program; types are added to it for that.
+    /// The continuation of a state, as a type of the program; types are added to it for that, and stay after `NoMemory`, too.
+    ///
+    /// The cells mirror an automaton on this program, and the state is one of that automaton.
     pub fn state_type(&self, sound: &mut SoundProgram, state: State) -> Result<TypeId, NoMemory>
         requires mirrors { (a : Automaton) × Mirrors sound.old self.now a }
         requires state { IsTypeState self.now state }
@@ -96,9 +88,12 @@ impl Cells {
 
 /// A state that accepts exactly what fits a type, with all states that it leads to.
 ///
-/// States are shared: a continuation that has a state gets no other. It does no recursion, over names or over the parts of a
+/// The cells mirror the automaton on this program (`Mirrors`), as new cells mirror a new automaton, and as they do after each call
+/// that was answered with a state. States are shared: a continuation that has a state gets no other. It does no recursion, over names or over the parts of a
 /// sequence. Old states keep their flags, their moves in order and what they accept, after want of memory too; then nothing
 /// is known of the cells any more.
+///
+/// (Types as automata are those of Hosoya, Vouillon and Pierce, TOPLAS 2005; states for lists of pieces are this project's own.)
 pub fn compile_type(
     alloc: Global,
     sound: &mut SoundProgram,
@@ -124,8 +119,8 @@ pub fn compile_type(
 {
     let _states = auto.len();
     let any = meaning_of_any(alloc, sound)?;
-    let Known { names, empty_marks } = sound.take_known()?;
-    let bodies = Bodies {
+    let KnownTypes { names, empty_marks } = sound.take_known()?;
+    let bodies = TypeBodies {
         names,
         any: any.at(),
     };
@@ -138,8 +133,8 @@ pub fn compile_type(
         cells,
         auto,
     )?;
-    let Bodies { names, any: _ } = bodies;
-    sound.give_back(Known { names, empty_marks });
+    let TypeBodies { names, any: _ } = bodies;
+    sound.give_back(KnownTypes { names, empty_marks });
     Ok(state)
 }
 
@@ -147,7 +142,7 @@ pub fn compile_type(
 fn compile_in(
     alloc: Global,
     program: &Program,
-    bodies: &Bodies,
+    bodies: &TypeBodies,
     marks: &[bool],
     id: TypeId,
     cells: &mut Cells,

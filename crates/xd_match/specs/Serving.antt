@@ -2,6 +2,7 @@
 use Rattle.std.specs.Prelude.{◌≡◌, ℕ, nat_eq, List, Some}
 use Rattle.std.specs.HashMap.{get}
 use Rattle.xd_doc.specs.Document.{Document}
+use Rattle.xd_doc.specs.Stored.{Keeps}
 use Rattle.xd_syntax.specs.Table.{tree_at}
 use Rattle.xd_syntax.specs.Program.{names_of}
 use Rattle.xd_syntax.specs.Kept.{ProgramTable, program_tree}
@@ -18,3 +19,7 @@ pub record Serves (p : ProgramTable) (ds : List Document) (m : Matchers) : Type 
   pub meanings : Means p m.meanings
   pub stand : AllStand ds m.matchers.items
   pub numbered : AreNumbered p m
+
+-- what serves a program on a store serves it while the store grows
+abbrev pub StaysServing : Matchers → Type 0
+StaysServing m = (p : ProgramTable) (old new : List Document) → Serves p old m → Keeps old new → Serves p new m

@@ -32,9 +32,10 @@ pub struct Matchers {
 }
 
 impl Matchers {
-    ghost use Rattle.xd_match.specs.Serving.{AreNumbered, Serves};
+    ghost use Rattle.xd_match.specs.Serving.{AreNumbered, Serves, StaysServing};
 
-    /// Those of a program. It copies the program's types, for what `Any` stands for is put among them.
+    /// Those of a program, which serve it on every store. The program's types are copied, for what `Any` stands for is put among them;
+    /// `NoMemory` where there is no room for the copy.
     pub fn new(alloc: Global, sound: &SoundProgram) -> Result<Self, NoMemory>
         ensures { IfOk result (λ matchers. (documents : List Document) → Serves sound.now documents matchers) }
     {
@@ -46,10 +47,14 @@ impl Matchers {
         })
     }
 
-    /// The bindings of the first match, one for each variable, in order of first occurrence; `None` where the pattern doesn't
-    /// take the document. The patterns of clauses, and parts of them, are linear.
+    /// The bindings of the first match, one for each variable, in order of first occurrence; `None` exactly where the pattern
+    /// doesn't take the document.
     ///
-    /// A binding that runs to the end of its level is the store's own node.
+    /// The program and the store are those that the matchers serve: the program that they were made of, and one store, which may
+    /// grow in between ([`Self::stays_serving`]). The pattern is linear, as the patterns of clauses and their parts are.
+    /// A binding that runs to the end of its level is the store's own node. After `NoMemory` the matchers serve as before.
+    ///
+    /// (First matches are those of Hosoya and Pierce, JFP 2003.)
     pub fn first_way(
         &mut self,
         alloc: Global,
@@ -68,6 +73,13 @@ impl Matchers {
     {
         let number = self.number_of(alloc, sound, pattern)?;
         first_way_of(&mut self.matchers, number, alloc, store, seq)
+    }
+
+    /// The law of growth: what serves a store goes on to serve it while it grows. The call does nothing; its contract is the law.
+    pub fn stays_serving(&self)
+        ensures { StaysServing self.now }
+    {
+        let _count = self.matchers.len();
     }
 
     /// The number of the pattern's matcher, which is made where there is none yet.
@@ -118,7 +130,7 @@ fn first_way_of(
     matcher.first_way(alloc, store, seq)
 }
 
-/// The bindings of the first match of one pattern, once: see [`Matchers`].
+/// The bindings of the first match of one pattern, once: see [`Matchers::first_way`]. After `NoMemory` the store has more documents at most.
 pub fn first_way(
     alloc: Global,
     sound: &SoundProgram,

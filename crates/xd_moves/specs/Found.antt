@@ -14,7 +14,7 @@ use Rattle.xd_continuations.specs.Bounds.{NoneLarger, IsBounded}
 use Rattle.xd_continuations.specs.Chains.{list_at, KeepsLinks}
 use Rattle.xd_pieces.specs.Pieces.{piece_tree}
 use Rattle.xd_moves.specs.Bodies.{node_of}
-use Rattle.xd_moves.specs.declared.bodies.Bodies.{Bodies}
+use Rattle.xd_moves.specs.declared.bodies.TypeBodies.{TypeBodies}
 use Rattle.xd_moves.specs.Cells.{Cell}
 use Rattle.xd_moves.specs.declared.expansion.Found.{Found}
 
@@ -94,7 +94,7 @@ tree_of_body types None = None
 tree_of_body types (Some i) = Some (tree_at types i)
 
 -- the node that a name stands for
-pub record AreBodies (types : List Row) (ds : List TypeDef) (bodies : Bodies) : Type 0 where
+pub record AreBodies (types : List Row) (ds : List TypeDef) (bodies : TypeBodies) : Type 0 where
   pub numbered : AreNumbered bodies.names ds
   pub right : (w : List ℕ) → tree_of_body types (node_of ds bodies.any w) ≡ body (meanings types ds) w
   pub within : (w : List ℕ) (i : ℕ) → node_of ds bodies.any w ≡ Some i → i < length types

@@ -10,12 +10,12 @@ use xd_syntax::TypeDef;
 
 /// The definitions by name, and the node that `Any` stands for.
 #[derive(Drop)]
-pub struct Bodies {
+pub struct TypeBodies {
     pub names: TypeNames,
     pub any: usize,
 }
 
-impl Bodies {
+impl TypeBodies {
     /// The node that a name stands for.
     pub fn find(&self, defs: &[TypeDef], name: &Label) -> Option<usize>
         requires { AreNumbered self.now.names defs.now }

@@ -13,7 +13,7 @@ ghost use Rattle.xd_moves.specs.Cells.{StayChosen};
 ghost use Rattle.xd_pieces.specs.Pieces.{piece_tree};
 ghost use Rattle.xd_moves.specs.Found.{AddsCells, AreBodies, AreDecidingMarks, AreMovesOf, AreOfTypes, Finds, IsTask, IsWorkedOff, PutsSequence, PutsTasks, StayBounded, continuation, form_moves, form_put, form_tasks, is_plus, move_of, waiting_at};
 
-use crate::bodies::Bodies;
+use crate::bodies::TypeBodies;
 use crate::cells::{Cell, Continuations};
 use crate::stand_ins::StandIns;
 use std::alloc::Global;
@@ -130,7 +130,7 @@ fn push_options(
 fn push_body(
     types: &Types,
     defs: &[TypeDef],
-    bodies: &Bodies,
+    bodies: &TypeBodies,
     name: &Label,
     behind: usize,
     cells: &Continuations,
@@ -202,7 +202,7 @@ fn turns(node: usize) -> Piece
 fn work_form<S: StandIns>(
     types: &Types,
     defs: &[TypeDef],
-    bodies: &Bodies,
+    bodies: &TypeBodies,
     marks: &[bool],
     form: &TypeForm,
     task: Cell,
@@ -267,7 +267,7 @@ fn work_form<S: StandIns>(
 fn work_off<S: StandIns>(
     types: &Types,
     defs: &[TypeDef],
-    bodies: &Bodies,
+    bodies: &TypeBodies,
     marks: &[bool],
     task: Cell,
     cells: &mut Continuations,
@@ -349,7 +349,7 @@ pub fn expand<S: StandIns>(
     alloc: Global,
     types: &Types,
     defs: &[TypeDef],
-    bodies: &Bodies,
+    bodies: &TypeBodies,
     marks: &[bool],
     cells: &mut Continuations,
     stand_ins: &S,

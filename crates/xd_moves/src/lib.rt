@@ -8,7 +8,7 @@ mod expansion;
 mod first_uses;
 mod stand_ins;
 
-pub use bodies::Bodies;
+pub use bodies::TypeBodies;
 pub use cells::{Cell, Continuations};
 pub use contents::content;
 pub use expansion::{Found, expand, is_empty};

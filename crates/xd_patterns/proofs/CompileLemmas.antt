@@ -13,7 +13,7 @@ use Rattle.xd_runs.specs.Alike.{Alike}
 use Rattle.xd_runs.specs.Runs as Runs
 use Rattle.xd_runs.specs.Runs.{Continuation, Choice, choices, start, texts_of, elements_of}
 use Rattle.xd_runs.specs.Steps.{marked}
-use Rattle.xd_runs.specs.Mirrors.{Standing, SameText, SameElement, AreMovesOf, Mirrors}
+use Rattle.xd_runs.specs.Mirrors.{Ahead, SameText, SameElement, AreMovesOf, Mirrors}
 use Rattle.xd_continuations.specs.Chains.{list_at}
 use Rattle.xd_patterns.specs.Marked.{marked_text, marked_label, with_each, marked_moves}
 use Rattle.xd_patterns.specs.Tasks.{Tables, words_at, piece_part, pieces_at, continuation, ArePieces, Adds}
@@ -111,7 +111,7 @@ compiling_more E t m0 m m' c0 c c' base number states0 states states' auto0 auto
 
 -- at the end the automaton mirrors the lists
 
-texts_zip : (t : Tables) (m : List (Link ℕ)) (A : Standing State) (is : List ℕ) (vs : List TextMove) (ns : List (Runs.TextMove Continuation)) → TextsAre t m A is vs ns → AllZip (SameText A) (with_each marked_text (map (words_at t m) is) vs) ns
+texts_zip : (t : Tables) (m : List (Link ℕ)) (A : Ahead State) (is : List ℕ) (vs : List TextMove) (ns : List (Runs.TextMove Continuation)) → TextsAre t m A is vs ns → AllZip (SameText A) (with_each marked_text (map (words_at t m) is) vs) ns
 texts_zip t m A [] [] [] x = tt
 texts_zip t m A (i ∷ is) (v ∷ vs) (n ∷ ns) x = (record { words = x.1; marks = x.2; rest = x.3 }, texts_zip t m A is vs ns x.4)
 texts_zip t m A [] [] (n ∷ ns) x = absurd x
@@ -119,7 +119,7 @@ texts_zip t m A [] (v ∷ vs) ns x = absurd x
 texts_zip t m A (i ∷ is) [] ns x = absurd x
 texts_zip t m A (i ∷ is) (v ∷ vs) [] x = absurd x
 
-labels_zip : (t : Tables) (m : List (Link ℕ)) (A : Standing State) (is : List ℕ) (vs : List LabelMove) (ns : List (Runs.ElementMove Continuation)) → LabelsAre t m A is vs ns → AllZip (SameElement A) (with_each marked_label (map (words_at t m) is) vs) ns
+labels_zip : (t : Tables) (m : List (Link ℕ)) (A : Ahead State) (is : List ℕ) (vs : List LabelMove) (ns : List (Runs.ElementMove Continuation)) → LabelsAre t m A is vs ns → AllZip (SameElement A) (with_each marked_label (map (words_at t m) is) vs) ns
 labels_zip t m A [] [] [] x = tt
 labels_zip t m A (i ∷ is) (v ∷ vs) (n ∷ ns) x = (record { class = x.1; content = x.2; marks = x.3; rest = x.4 }, labels_zip t m A is vs ns x.5)
 labels_zip t m A [] [] (n ∷ ns) x = absurd x

@@ -19,7 +19,7 @@ use Rattle.xd_laws.specs.Guarded.{Guarded}
 use Rattle.xd_runs.specs.Runs.{Run, ended, over_text, over_element, text_runs, element_runs, runs_by, start}
 use Rattle.xd_runs.specs.Linear.{BindNothing, IsLinear}
 use Rattle.xd_runs.specs.Laws.{Agree, run_bindings, first_of}
-use Rattle.xd_runs.specs.Mirrors.{AreRunsOf, Mirrors, Standing}
+use Rattle.xd_runs.specs.Mirrors.{AreRunsOf, Mirrors, Ahead}
 use Rattle.xd_runs.proofs.Alike.{flat_of_map, map_append_of, map_of_flat, map_of_map}
 use Rattle.xd_runs.proofs.MirrorsLaw.{mirrors_run_of}
 use Rattle.xd_patterns.specs.Marked.{Marking, marked_text, marked_label, with_each, marked_moves, no_text_move, no_label_move, with_marks, IsCompiled}
@@ -118,7 +118,7 @@ module _ (a : Automaton) (k : Marking) where
       (q.0, (runs_are_accepting a s d q.0).0 (among_contains (Numbered.runs a d s) q.0 q.1), q.2)
 
 -- a state whose marked moves mirror a linear pattern is that pattern's
-pub mirrored_is_compiled : (E : Definitions) → Guarded E → BindNothing E → (P : Tree) → IsLinear P → (a : Automaton) (k : Marking) (A : Standing State) →
+pub mirrored_is_compiled : (E : Definitions) → Guarded E → BindNothing E → (P : Tree) → IsLinear P → (a : Automaton) (k : Marking) (A : Ahead State) →
     Mirrors E (marked_moves a k) A → (s : State) → A s ≡ Some (start P) → IsCompiled E P a k s
 mirrored_is_compiled E guarded none P l a k A mirrors s e = compiled (mirrors_run_of E guarded none P l (marked_moves a k) A mirrors s e)
   where

@@ -12,7 +12,7 @@ use Rattle.xd_auto.specs.declared.auto.TextMove.{TextMove}
 use Rattle.xd_auto.specs.Automaton.{Automaton, StateMoves, moves_at, no_moves, state_number, with_moves, with_last}
 use Rattle.xd_runs.specs.Runs as Runs
 use Rattle.xd_runs.specs.Runs.{Continuation, Choice, stop, take_text, take_element, has_stop, texts_of, elements_of}
-use Rattle.xd_runs.specs.Mirrors.{Standing}
+use Rattle.xd_runs.specs.Mirrors.{Ahead}
 use Rattle.xd_continuations.specs.Chains.{list_at, KeepsLinks}
 use Rattle.xd_patterns.specs.Tasks.{Tables, words_at, pieces_at, continuation, ArePieces, Adds}
 use Rattle.xd_patterns.specs.Compiling.{stands, standing, FindsState, AddsStates, AddsText, AddsElement, TextsAre, LabelsAre, HasMoves, AddsMove}
@@ -101,7 +101,7 @@ get_all P (x ∷ xs) a (suc n) k e = get_all P xs a.1 n k e
 pub continuation_kept : (t : Tables) (m m' : List (Link ℕ)) (c c' : List (Link Piece)) → Adds t m m' c c' → ArePieces t m c → (n : ℕ) → n ≤ length c → continuation t m' c' n ≡ continuation t m c n
 continuation_kept t m m' c c' a p n h = ap (pieces_at t m') (kept_list c c' a.cells n h) ∙ same_pieces t m m' a.marks (list_at c n) (list_pieces t m c p n)
 
-abbrev pub StaysAhead : Standing State → Standing State → Type 0
+abbrev pub StaysAhead : Ahead State → Ahead State → Type 0
 StaysAhead A B = (s : State) (K : Continuation) → A s ≡ Some K → B s ≡ Some K
 
 pub standing_kept : (t : Tables) (m m' : List (Link ℕ)) (c c' : List (Link Piece)) (base : ℕ) (states states' more : List ℕ) → Adds t m m' c c' → ArePieces t m c → AllByRecursion (λ n. n ≤ length c) states →
@@ -123,7 +123,7 @@ pub standing_at : (t : Tables) (m : List (Link ℕ)) (c : List (Link Piece)) (ba
     standing t m c base states s ≡ Some (continuation t m c n)
 standing_at t m c base states s n h e = ap (λ b. cond b None (stands t m c (slice_get states (state_number s - base)))) (not_below (state_number s) base h) ∙ ap (stands t m c) e
 
-pub texts_kept : (t : Tables) (m m' : List (Link ℕ)) (A B : Standing State) → KeepsLinks m m' → StaysAhead A B → (is : List ℕ) (vs : List TextMove) (ns : List (Runs.TextMove Continuation)) → TextsAre t m A is vs ns → TextsAre t m' B is vs ns
+pub texts_kept : (t : Tables) (m m' : List (Link ℕ)) (A B : Ahead State) → KeepsLinks m m' → StaysAhead A B → (is : List ℕ) (vs : List TextMove) (ns : List (Runs.TextMove Continuation)) → TextsAre t m A is vs ns → TextsAre t m' B is vs ns
 texts_kept t m m' A B k h [] [] [] x = tt
 texts_kept t m m' A B k h (i ∷ is) (v ∷ vs) (n ∷ ns) x =
     ((let l = kept_length m m' k in let j = x.0 in omega arith), x.1, same_words t m m' k i x.0 ∙ x.2, h v.rest n.rest x.3, texts_kept t m m' A B k h is vs ns x.4)
@@ -132,7 +132,7 @@ texts_kept t m m' A B k h [] (v ∷ vs) ns x = absurd x
 texts_kept t m m' A B k h (i ∷ is) [] ns x = absurd x
 texts_kept t m m' A B k h (i ∷ is) (v ∷ vs) [] x = absurd x
 
-pub labels_kept : (t : Tables) (m m' : List (Link ℕ)) (A B : Standing State) → KeepsLinks m m' → StaysAhead A B → (is : List ℕ) (vs : List LabelMove) (ns : List (Runs.ElementMove Continuation)) → LabelsAre t m A is vs ns → LabelsAre t m' B is vs ns
+pub labels_kept : (t : Tables) (m m' : List (Link ℕ)) (A B : Ahead State) → KeepsLinks m m' → StaysAhead A B → (is : List ℕ) (vs : List LabelMove) (ns : List (Runs.ElementMove Continuation)) → LabelsAre t m A is vs ns → LabelsAre t m' B is vs ns
 labels_kept t m m' A B k h [] [] [] x = tt
 labels_kept t m m' A B k h (i ∷ is) (v ∷ vs) (n ∷ ns) x =
     ((let l = kept_length m m' k in let j = x.0 in omega arith), x.1, h v.content n.content x.2, same_words t m m' k i x.0 ∙ x.3, h v.rest n.rest x.4, labels_kept t m m' A B k h is vs ns x.5)
@@ -141,7 +141,7 @@ labels_kept t m m' A B k h [] (v ∷ vs) ns x = absurd x
 labels_kept t m m' A B k h (i ∷ is) [] ns x = absurd x
 labels_kept t m m' A B k h (i ∷ is) (v ∷ vs) [] x = absurd x
 
-pub moves_kept : (t : Tables) (m m' : List (Link ℕ)) (A B : Standing State) (v : StateMoves) (ts ls : List ℕ) (cs : List Choice) → KeepsLinks m m' → StaysAhead A B → HasMoves t m A v ts ls cs → HasMoves t m' B v ts ls cs
+pub moves_kept : (t : Tables) (m m' : List (Link ℕ)) (A B : Ahead State) (v : StateMoves) (ts ls : List ℕ) (cs : List Choice) → KeepsLinks m m' → StaysAhead A B → HasMoves t m A v ts ls cs → HasMoves t m' B v ts ls cs
 moves_kept t m m' A B v ts ls cs k h x = record {
   last = x.last;
   text_moves = texts_kept t m m' A B k h ts v.texts (texts_of cs) x.text_moves;
@@ -150,7 +150,7 @@ moves_kept t m m' A B v ts ls cs k h x = record {
 
 -- one more move
 
-texts_push : (t : Tables) (m : List (Link ℕ)) (A : Standing State) (is : List ℕ) (vs : List TextMove) (ns : List (Runs.TextMove Continuation)) (i : ℕ) (v : TextMove) (n : Runs.TextMove Continuation) → TextsAre t m A is vs ns →
+texts_push : (t : Tables) (m : List (Link ℕ)) (A : Ahead State) (is : List ℕ) (vs : List TextMove) (ns : List (Runs.TextMove Continuation)) (i : ℕ) (v : TextMove) (n : Runs.TextMove Continuation) → TextsAre t m A is vs ns →
     i ≤ length m → v.words ≡ n.words → words_at t m i ≡ n.marks → A v.rest ≡ Some n.rest → TextsAre t m A (is ++ i ∷ []) (vs ++ v ∷ []) (ns ++ n ∷ [])
 texts_push t m A [] [] [] i v n x a b c d = (a, b, c, d, tt)
 texts_push t m A (j ∷ is) (w ∷ vs) (o ∷ ns) i v n x a b c d = (x.0, x.1, x.2, x.3, texts_push t m A is vs ns i v n x.4 a b c d)
@@ -159,7 +159,7 @@ texts_push t m A [] (w ∷ vs) ns i v n x a b c d = absurd x
 texts_push t m A (j ∷ is) [] ns i v n x a b c d = absurd x
 texts_push t m A (j ∷ is) (w ∷ vs) [] i v n x a b c d = absurd x
 
-labels_push : (t : Tables) (m : List (Link ℕ)) (A : Standing State) (is : List ℕ) (vs : List LabelMove) (ns : List (Runs.ElementMove Continuation)) (i : ℕ) (v : LabelMove) (n : Runs.ElementMove Continuation) → LabelsAre t m A is vs ns →
+labels_push : (t : Tables) (m : List (Link ℕ)) (A : Ahead State) (is : List ℕ) (vs : List LabelMove) (ns : List (Runs.ElementMove Continuation)) (i : ℕ) (v : LabelMove) (n : Runs.ElementMove Continuation) → LabelsAre t m A is vs ns →
     i ≤ length m → v.class ≡ n.class → A v.content ≡ Some n.content → words_at t m i ≡ n.marks → A v.rest ≡ Some n.rest → LabelsAre t m A (is ++ i ∷ []) (vs ++ v ∷ []) (ns ++ n ∷ [])
 labels_push t m A [] [] [] i v n x a b e c d = (a, b, e, c, d, tt)
 labels_push t m A (j ∷ is) (w ∷ vs) (o ∷ ns) i v n x a b e c d = (x.0, x.1, x.2, x.3, x.4, labels_push t m A is vs ns i v n x.5 a b e c d)
@@ -194,14 +194,14 @@ or_true : (b : Bool) → (b || true) ≡ true
 or_true true = refl
 or_true false = refl
 
-pub has_stop_more : (t : Tables) (m : List (Link ℕ)) (A : Standing State) (v : StateMoves) (ts ls : List ℕ) (cs : List Choice) → HasMoves t m A v ts ls cs → HasMoves t m A (record v { last = true }) ts ls (cs ++ stop ∷ [])
+pub has_stop_more : (t : Tables) (m : List (Link ℕ)) (A : Ahead State) (v : StateMoves) (ts ls : List ℕ) (cs : List Choice) → HasMoves t m A v ts ls cs → HasMoves t m A (record v { last = true }) ts ls (cs ++ stop ∷ [])
 has_stop_more t m A v ts ls cs x = record {
   last = sym (or_true (has_stop cs)) ∙ sym (stop_more cs stop);
   text_moves = subst (TextsAre t m A ts v.texts) (sym (texts_more cs stop ∙ append-nil (texts_of cs))) x.text_moves;
   label_moves = subst (LabelsAre t m A ls v.labels) (sym (elements_more cs stop ∙ append-nil (elements_of cs))) x.label_moves;
 }
 
-pub has_text_more : (t : Tables) (m : List (Link ℕ)) (A : Standing State) (v : StateMoves) (ts ls : List ℕ) (cs : List Choice) (i : ℕ) (w : TextMove) (R : Continuation) → HasMoves t m A v ts ls cs → i ≤ length m → A w.rest ≡ Some R →
+pub has_text_more : (t : Tables) (m : List (Link ℕ)) (A : Ahead State) (v : StateMoves) (ts ls : List ℕ) (cs : List Choice) (i : ℕ) (w : TextMove) (R : Continuation) → HasMoves t m A v ts ls cs → i ≤ length m → A w.rest ≡ Some R →
     HasMoves t m A (record v { texts = v.texts ++ w ∷ [] }) (ts ++ i ∷ []) ls (cs ++ take_text w.words (words_at t m i) R ∷ [])
 has_text_more t m A v ts ls cs i w R x h r =
     let y : Choice = take_text w.words (words_at t m i) R in record {
@@ -210,7 +210,7 @@ has_text_more t m A v ts ls cs i w R x h r =
       label_moves = subst (LabelsAre t m A ls v.labels) (sym (elements_more cs y ∙ append-nil (elements_of cs))) x.label_moves;
     }
 
-pub has_label_more : (t : Tables) (m : List (Link ℕ)) (A : Standing State) (v : StateMoves) (ts ls : List ℕ) (cs : List Choice) (i : ℕ) (w : LabelMove) (C R : Continuation) → HasMoves t m A v ts ls cs → i ≤ length m → A w.content ≡ Some C →
+pub has_label_more : (t : Tables) (m : List (Link ℕ)) (A : Ahead State) (v : StateMoves) (ts ls : List ℕ) (cs : List Choice) (i : ℕ) (w : LabelMove) (C R : Continuation) → HasMoves t m A v ts ls cs → i ≤ length m → A w.content ≡ Some C →
     A w.rest ≡ Some R → HasMoves t m A (record v { labels = v.labels ++ w ∷ [] }) ts (ls ++ i ∷ []) (cs ++ take_element w.class C (words_at t m i) R ∷ [])
 has_label_more t m A v ts ls cs i w C R x h q r =
     let y : Choice = take_element w.class C (words_at t m i) R in record {
@@ -271,7 +271,7 @@ module _ (t : Tables) (m : List (Link ℕ)) (c : List (Link Piece)) (base : ℕ)
           moves = λ q k. ap (λ b. moves_at b q) e ∙ at_others made from q u k ∙ s.moves q;
         };
         has = λ cs y.
-            let A : Standing State = standing t m c' base states' in
+            let A : Ahead State = standing t m c' base states' in
             let z = moves_kept t m m (standing t m c base states) A (moves_at auto from) ts ls cs (kept_same m) (standing_kept t m m c c' base states states' s.more a p ns s.grown) y in
             subst (λ b. HasMoves t m A b ts' ls' (cs ++ choice ∷ [])) (sym (ap (λ b. moves_at b from) e ∙ at_changed made from u here'))
             (more cs (subst (λ b. HasMoves t m A b ts ls cs) (sym (s.moves from)) z));
@@ -280,7 +280,7 @@ module _ (t : Tables) (m : List (Link ℕ)) (c : List (Link Piece)) (base : ℕ)
   pub adds_text : (c' : List (Link Piece)) → Adds t m m c c' → (states' : List ℕ) → AllByRecursion (λ n. n ≤ length c') states' → (auto' : Automaton) (ts ts' ls ls' : List ℕ) (i n : ℕ) (w : TextClass) → i ≤ length m →
       AddsText i n w from base states states' auto auto' ts ts' ls ls' → AddsMove t m c c' base states states' auto auto' from ts ts' ls ls' (take_text w (words_at t m i) (continuation t m c' n))
   adds_text c' a states' ns' auto' ts ts' ls ls' i n w h x =
-      let A : Standing State = standing t m c' base states' in
+      let A : Ahead State = standing t m c' base states' in
       let v : TextMove = record { words = w; rest = x.rest } in
       let u : StateMoves = record (moves_at x.made from) { texts = (moves_at x.made from).texts ++ v ∷ [] } in
       let y : Choice = take_text w (words_at t m i) (continuation t m c' n) in
@@ -293,7 +293,7 @@ module _ (t : Tables) (m : List (Link ℕ)) (c : List (Link Piece)) (base : ℕ)
       AddsElement i n w k from base states states' auto auto' ts ts' ls ls' →
       AddsMove t m c c' base states states' auto auto' from ts ts' ls ls' (take_element w (continuation t m c' k) (words_at t m i) (continuation t m c' n))
   adds_element c' a states' ns' auto' ts ts' ls ls' i n k w h x =
-      let A : Standing State = standing t m c' base states' in
+      let A : Ahead State = standing t m c' base states' in
       let v : LabelMove = record { class = w; content = x.content; rest = x.rest } in
       let u : StateMoves = record (moves_at x.made from) { labels = (moves_at x.made from).labels ++ v ∷ [] } in
       let y : Choice = take_element w (continuation t m c' k) (words_at t m i) (continuation t m c' n) in

@@ -10,7 +10,7 @@ use Rattle.xd_auto.specs.Automaton.{Automaton, StateMoves, IsState, moves_at, no
 use Rattle.xd_runs.specs.Alike.{Alike}
 use Rattle.xd_runs.specs.Runs as Runs
 use Rattle.xd_runs.specs.Runs.{Continuation, Choice, choices, has_stop, texts_of, elements_of}
-use Rattle.xd_runs.specs.Mirrors.{Standing}
+use Rattle.xd_runs.specs.Mirrors.{Ahead}
 use Rattle.xd_patterns.specs.Tasks.{Tables, words_at, continuation, ArePieces, choice_at, Adds}
 use Rattle.xd_patterns.specs.Marked.{Marking}
 use Rattle.xd_continuations.specs.declared.links.Link.{Link}
@@ -23,7 +23,7 @@ abbrev pub stands : Tables → List (Link ℕ) → List (Link Piece) → Option 
 stands t m c None = None
 stands t m c (Some n) = Some (continuation t m c n)
 
-abbrev pub standing : Tables → List (Link ℕ) → List (Link Piece) → ℕ → List ℕ → Standing State
+abbrev pub standing : Tables → List (Link ℕ) → List (Link Piece) → ℕ → List ℕ → Ahead State
 standing t m c base states s = cond (nat_lt (state_number s) base) None (stands t m c (slice_get states (state_number s - base)))
 
 -- the state is that of the list with this number; if there was none, it is new
@@ -75,20 +75,20 @@ pub record AddsElement (marks number : ℕ) (class : LabelClass) (inside : ℕ) 
   pub bounded : (k : ℕ) → number ≤ k → inside ≤ k → AllByRecursion (λ n. n ≤ k) old → AllByRecursion (λ n. n ≤ k) new
 
 -- the moves on texts are those that were found, each with its marks and to a state of its rest
-abbrev pub TextsAre : Tables → List (Link ℕ) → Standing State → List ℕ → List TextMove → List (Runs.TextMove Continuation) → Type 0
+abbrev pub TextsAre : Tables → List (Link ℕ) → Ahead State → List ℕ → List TextMove → List (Runs.TextMove Continuation) → Type 0
 TextsAre t m A [] [] [] = Unit {0}
 TextsAre t m A (i ∷ ids) (v ∷ vs) (n ∷ ns) =
     (i ≤ length m) × (v.words ≡ n.words) × (words_at t m i ≡ n.marks) × (A v.rest ≡ Some n.rest) × TextsAre t m A ids vs ns
 TextsAre t m A _ _ _ = ⊥
 
-abbrev pub LabelsAre : Tables → List (Link ℕ) → Standing State → List ℕ → List LabelMove → List (Runs.ElementMove Continuation) → Type 0
+abbrev pub LabelsAre : Tables → List (Link ℕ) → Ahead State → List ℕ → List LabelMove → List (Runs.ElementMove Continuation) → Type 0
 LabelsAre t m A [] [] [] = Unit {0}
 LabelsAre t m A (i ∷ ids) (v ∷ vs) (n ∷ ns) =
     (i ≤ length m) × (v.class ≡ n.class) × (A v.content ≡ Some n.content) × (words_at t m i ≡ n.marks) × (A v.rest ≡ Some n.rest) × LabelsAre t m A ids vs ns
 LabelsAre t m A _ _ _ = ⊥
 
 -- what a state has is what was found
-pub record HasMoves (t : Tables) (m : List (Link ℕ)) (A : Standing State) (moves : StateMoves) (texts labels : List ℕ) (cs : List Choice) : Type 0 where
+pub record HasMoves (t : Tables) (m : List (Link ℕ)) (A : Ahead State) (moves : StateMoves) (texts labels : List ℕ) (cs : List Choice) : Type 0 where
   pub last : moves.last ≡ has_stop cs
   pub text_moves : TextsAre t m A texts moves.texts (texts_of cs)
   pub label_moves : LabelsAre t m A labels moves.labels (elements_of cs)

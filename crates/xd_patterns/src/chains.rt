@@ -3,7 +3,7 @@
 ghost use Rattle.std.proofs.Common.{arith};
 ghost use Rattle.std.proofs.lemmas.Bool.Decides.{nat_tests};
 
-use xd_continuations::{Interned, Item};
+use xd_continuations::{Internable, Interned};
 
 /// A part of a pattern or of a type, in the binders of some variables.
 ///
@@ -19,7 +19,7 @@ pub(crate) struct Piece {
     pub marks: usize,
 }
 
-impl Item for Piece {
+impl Internable for Piece {
     ghost exact = { λ p q h. Prim.grind (arith, nat_tests) };
 }
 

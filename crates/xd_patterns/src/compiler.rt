@@ -32,7 +32,7 @@ pub struct PatternCompiler {
 }
 
 impl PatternCompiler {
-    /// That of a program. What `Any` stands for is added to its types.
+    /// That of a program. What `Any` stands for is added to its types, and stays there after `NoMemory`, too.
     pub fn new(alloc: Global, sound: &mut SoundProgram) -> Result<Self, NoMemory>
         ensures serves { IfOk result (Serves sound.new) }
         ensures adds { AddsTypes sound.old sound.new }
@@ -45,7 +45,10 @@ impl PatternCompiler {
         Ok(Self { bodies })
     }
 
-    /// Adds the states of a pattern, whose moves stand in order of preference.
+    /// Adds the states of a pattern, whose moves stand in order of preference (after Hosoya and Pierce, JFP 2003).
+    ///
+    /// The program is the one that the compiler was made of, to which types alone may have been added ([`compilers_stay`]). The
+    /// pattern is linear, as those of clauses and their parts are. After `NoMemory` old states accept what they did.
     pub fn compile(
         &self,
         alloc: Global,
@@ -78,7 +81,7 @@ impl PatternCompiler {
     /// Adds a state that accepts exactly what fits a type of the program.
     ///
     /// It is for tests of membership: where a type has the same part twice, the state has the moves of one, and not one for
-    /// each head of the type.
+    /// each head of the type. The program is the one that the compiler was made of. After `NoMemory` old states accept what they did.
     pub fn compile_plain_type(
         &self,
         alloc: Global,

@@ -141,7 +141,11 @@ fn compile_marked(
     })
 }
 
-/// Adds the states of a pattern, whose moves stand in order of preference.
+/// Adds the states of a pattern, whose moves stand in order of preference (after Hosoya and Pierce, JFP 2003).
+///
+/// Definitions of types are guarded and bind nothing, and `bodies` are those of the definitions, as in every sound program
+/// ([`PatternCompiler`](crate::PatternCompiler) sees to that); the pattern is linear. After `NoMemory` old states accept what they
+/// did.
 pub fn compile_pattern(
     alloc: Global,
     types: &Types,

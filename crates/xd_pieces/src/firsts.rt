@@ -77,7 +77,7 @@ fn number_turns(
 }
 
 impl FirstPieces {
-    /// Those of a table. Takes time linear in it.
+    /// Those of a table. `NoMemory` where there is no room for them.
     pub fn new(alloc: Global, types: &Types) -> Result<Self, NoMemory>
         ensures { IfOk result (AreFirst types.now) }
     {

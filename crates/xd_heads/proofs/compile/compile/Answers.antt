@@ -3,7 +3,7 @@ use Rattle.xd_continuations.specs.Bounds.{longest}
 use Rattle.xd_moves.specs.Cells.{room}
 use Rattle.xd_sound.specs.TypeNames.{meanings}
 use Rattle.xd_heads.specs.States.{nodes_in, number_at}
-use Rattle.xd_heads.proofs.StateLemmas.{states_few, number_below, number_within, number_from}
+use Rattle.xd_heads.proofs.StateLemmas.{states_few, number_below, number_within, number_none}
 use Rattle.xd_heads.proofs.AddingMoves.{compiling_none, compiling_more, all_compiled}
 use Rattle.xd_heads.proofs.Sparing.{spares_then}
 use Rattle.xd_heads.proofs.compile.compile.Goals as goal
@@ -20,10 +20,10 @@ loop-number-smaller c =
     let types = c.args.types.now in
     let E = meanings types c.args.defs.now in
     let i = c.loop-number.invariant in
-    let few = states_few E (nodes_in types) types c.loop-number.cells c.args.first c.loop-number.states c.len-count.ensures.links (i.cells_added.nodes c.requires.nodes)
-    (i.bounded c.requires.tail c.requires.stand c.requires.bounded) c.len-states.ensures.owners i.compiled.numbers i.behind in
+    let few = states_few E (nodes_in types) types c.loop-number.cells c.loop-number.states c.len-count.ensures.links (i.cells_added.nodes c.requires.nodes)
+    (i.bounded c.requires.tail c.requires.stand c.requires.bounded) c.len-states.ensures.once i.compiled.numbers in
     let h = number_within c.loop-number.states c.loop-number.done c.in-Some.number (sym c.continuation.ensures ∙ c.in-Some.is) in
-    less_left c.loop-number.done (c.args.first + room (length types) (longest E (nodes_in types))) (omega arith)
+    less_left c.loop-number.done (room (length types) (longest E (nodes_in types))) (omega arith)
 
 pub loop-number-preserved : goal.loop-number-preserved
 loop-number-preserved c =
@@ -37,11 +37,11 @@ pub returns-clause-compiled : goal.returns-clause-compiled
 returns-clause-compiled c =
     let e = sym c.continuation.ensures ∙ nothing c.continuation.result c.in_default.not-Some in
     all_compiled c.args.types.now c.args.defs.now c.args.cells.now c.loop-number.cells c.args.states.now c.loop-number.states c.args.first c.args.auto.now c.loop-number.auto' c.loop-number.done
-    (number_from c.args.first c.loop-number.states c.loop-number.invariant.behind c.loop-number.done c.loop-number.invariant.later e) c.loop-number.invariant
+    (number_none c.loop-number.states c.loop-number.done e) c.loop-number.invariant
 
 pub loop-number-init : goal.loop-number-init
 loop-number-init c =
-    compiling_none c.args.types.now c.args.defs.now c.args.cells.now c.args.states.now c.args.auto.now c.args.first c.requires.first c.requires.behind c.requires.compiled
+    compiling_none c.args.types.now c.args.defs.now c.args.cells.now c.args.states.now c.args.auto.now c.args.first c.requires.first c.requires.compiled
 
 pub returns-in_err-add_moves-clause-spares : goal.returns-in_err-add_moves-clause-spares
 returns-in_err-add_moves-clause-spares c =

@@ -1,4 +1,4 @@
-use Rattle.std.proofs.Common.{◌+◌, ◌-◌, length}
+use Rattle.std.proofs.Common.{◌-◌, length}
 use Rattle.xd_continuations.specs.Bounds.{longest}
 use Rattle.xd_moves.specs.Cells.{room}
 use Rattle.xd_sound.specs.TypeNames.{meanings}
@@ -10,4 +10,4 @@ abbrev pub invariant-loop-number : goal.invariant-loop-number
 invariant-loop-number l = IsCompiling l.types l.defs l.fn.cells l.cells l.fn.states l.states l.fn.first l.fn.auto l.auto' l.done
 
 abbrev pub decreases-loop-number : goal.decreases-loop-number
-decreases-loop-number l = l.fn.first + room (length l.types) (longest (meanings l.types l.defs) (nodes_in l.types)) - l.done
+decreases-loop-number l = room (length l.types) (longest (meanings l.types l.defs) (nodes_in l.types)) - l.done

@@ -4,9 +4,8 @@ use Rattle.xd_syntax.specs.Table.{tree_at}
 use Rattle.xd_syntax.specs.TypeText.{depth}
 use Rattle.xd_syntax.specs.Shallow.{nesting_limit}
 use Rattle.xd_heads.specs.Compiled.{IsOfState, AreCompiled}
-use Rattle.xd_heads.specs.States.{AreContinuationsFrom}
 use Rattle.xd_continuations.proofs.MoveLemmas.{pieces_stand, seq_of-pieces}
-use Rattle.xd_heads.proofs.AddingMoves.{type_started, type_behind, type_bounded, type_compiled, type_continues, type_accepts}
+use Rattle.xd_heads.proofs.AddingMoves.{type_started, type_bounded, type_compiled, type_continues, type_accepts}
 use Rattle.xd_heads.proofs.Sparing.{spares_both}
 use Rattle.xd_heads.proofs.compile.compile_node.Goals as goal
 
@@ -18,12 +17,6 @@ compile-requires-clause-compiled c =
     subst (λ n. AreCompiled types c.args.defs.now c.content.new.cells c.state_of.new.states c.state_of.new.auto n []) (sym c.len-first.ensures.count)
     (type_started types c.args.defs.now c.args.cells.now c.content.new.cells c.args.states.now c.state_of.new.states c.args.auto.now c.state_of.new.auto (pieces (tree_at types c.args.part.at))
     c.in_ok-inside.inside c.in_ok-state.state good c.in_ok-inside.ensures.content c.in_ok-state.ensures.got c.requires.compiled)
-
-pub compile-requires-clause-behind : goal.compile-requires-clause-behind
-compile-requires-clause-behind c =
-    subst (λ n. AreContinuationsFrom n c.state_of.new.states) (sym c.len-first.ensures.count)
-    (type_behind c.args.types.now c.args.defs.now c.content.new.cells c.args.states.now c.state_of.new.states c.args.auto.now c.state_of.new.auto
-    c.in_ok-inside.inside c.in_ok-state.state c.in_ok-inside.ensures.content.within c.in_ok-state.ensures.got).0
 
 pub compile-requires-clause-bounded : goal.compile-requires-clause-bounded
 compile-requires-clause-bounded c =

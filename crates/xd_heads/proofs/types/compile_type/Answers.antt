@@ -29,7 +29,7 @@ returns-clause-keeps c =
 
 pub returns-clause-state : goal.returns-clause-state
 returns-clause-state c =
-    type_state c.program.result.now.types c.compile_in.new.cells c.compile_in.new.auto c.in_ok-state.state (tree_at c.program.result.now.types c.args.id.at) c.in_ok-state.ensures.mirrors.owned c.in_ok-state.ensures.continuation
+    type_state c.program.result.now.types c.compile_in.new.cells c.compile_in.new.auto c.in_ok-state.state (tree_at c.program.result.now.types c.args.id.at) c.in_ok-state.ensures.mirrors.states c.in_ok-state.ensures.continuation
 
 pub returns-clause-accepts : goal.returns-clause-accepts
 returns-clause-accepts c d =
