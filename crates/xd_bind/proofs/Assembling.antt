@@ -7,11 +7,11 @@ use Rattle.std.proofs.lemmas.List.Elements.{All-head, All-tail}
 use Rattle.std.proofs.lemmas.Option.{slice_get-get_or}
 use Rattle.xd_doc.specs.Document.{Document}
 use Rattle.xd_doc.specs.Stored.{document_at}
-use Rattle.xd_doc.specs.declared.store.Seq.{Seq}
 use Rattle.xd_auto.specs.declared.auto.State.{State}
 use Rattle.xd_auto.specs.Automaton.{Automaton, StateMoves, IsState, IsClosed, Extends, LeadsBelow, accepts, moves_at, no_moves}
 use Rattle.xd_auto.proofs.Extending.{Extends-append, keeps}
-use Rattle.xd_empty.specs.Known.{Knows, document_of}
+use Rattle.xd_least.specs.Least.{Knows, known_of}
+use Rattle.xd_least.specs.declared.document.LeastDocument.{LeastDocument}
 use Rattle.xd_traces.specs.Traces.{AcceptsGiven, Owned}
 use Rattle.xd_bind.specs.declared.shift.Layer.{Layer}
 use Rattle.xd_bind.specs.declared.shift.Shift.{Shift}
@@ -172,7 +172,7 @@ module _ (a : Automaton) (layer : Layer) (is : IsLayer a layer) (b : Owned) wher
       let grown = layer_stays a one layer more is in
       layer_lands one layer grown aside onto (length one) s (state_there s (all_states (take layer.end a) ahead searched.states i d lt)) grown.within first second
 
-  pub assembled : (aside : Shift) (known : List (Option Seq)) (ds : List Document) (one two : Automaton) (first : State) → OwnsNoneBelow b layer.base → IsClosed one → Extends a one → Extends one two
+  pub assembled : (aside : Shift) (known : List (Option LeastDocument)) (ds : List Document) (one two : Automaton) (first : State) → OwnsNoneBelow b layer.base → IsClosed one → Extends a one → Extends one two
       → IsAside layer b a one aside → Knows one ds known → length known ≡ length one → (v : IsAlone layer b aside (free_by known aside) one two first)
       → IsProjection (take layer.end a) b layer.base (shifted aside) (shifted v.onto) layer.start (free_by known aside) v.ahead two first
   assembled aside known ds one two first none_below closed before after w k all v = record {
@@ -184,12 +184,12 @@ module _ (a : Automaton) (layer : Layer) (is : IsLayer a layer) (b : Owned) wher
     filled_texts = found.filled_texts;
     without = λ s from here. after.moves (shifted aside s) (inner_state s here) ∙ w.copies s from here;
     some = λ s here e.
-        let there = known_some (document_of known (shifted aside s)) e in
-        let h = k.witnesses (shifted aside s) there.0 there.1 in
-        record { document = document_at ds there.0; proper = h.belongs.proper; accepted = same s here (document_at ds there.0) ∙ h.accepted };
+        let there = known_some (known_of known (shifted aside s)) e in
+        let h = k.least (shifted aside s) there.0 there.1 in
+        record { document = document_at ds (there.0).seq; proper = h.belongs.proper; accepted = same s here (document_at ds (there.0).seq) ∙ h.accepted };
     none = λ s here e d.
         let inside : (shifted aside s).number < length known = omega (arith, all, inner_state s here) in
-        same s here d ∙ k.none (shifted aside s) inside (known_none (document_of known (shifted aside s)) e) d;
+        same s here d ∙ k.none (shifted aside s) inside (known_none (known_of known (shifted aside s)) e) d;
     lists = found.lists;
     blocks = subst (λ (c : Automaton). HasSide c b true layer.base (shifted aside) (shifted v.onto) (free_by known aside) two) fronts v.blocks;
     opens = v.opens ∙ ap (λ (c : Automaton). first_moves c b (shifted aside) (shifted v.onto) v.ahead (free_by known aside layer.start)) fronts;

@@ -8,7 +8,8 @@ use Rattle.xd_auto.specs.declared.auto.State.{State}
 use Rattle.xd_auto.specs.Automaton.{Automaton, Extends, IsClosed, LeadsBelow, accepts, moves_at}
 use Rattle.xd_auto.proofs.Anys.{and_left, and_right}
 use Rattle.xd_auto.proofs.Closed.{moves_at-closed}
-use Rattle.xd_empty.specs.Inhabited.{IsWitness}
+use Rattle.xd_least.specs.Least.{IsLeastOf}
+use Rattle.xd_least.specs.declared.document.LeastDocument.{LeastDocument}
 use Rattle.xd_traces.specs.declared.pairs.Pairs.{Pairs}
 use Rattle.xd_traces.specs.Traces.{AcceptsGiven, KeepsTogether, Owned}
 use Rattle.xd_traces.specs.Pairing.{IsGivenWhere, Origins, PairsRuns, carried}
@@ -82,12 +83,13 @@ module _ (p q made : Automaton) (one two all : State) (pairs : Pairs) (w : ArePa
   }
 
   -- a document that the start accepts is one of both
-  pub pairs_share : (ds : List Document) (seq : Seq) → ((d : Document) → accepts made d pairs.start ≡ (accepts p d one && accepts q d two)) → IsWitness made ds pairs.start seq → IsShared p one q two
-  pairs_share ds seq accepted witness =
-      let both = sym (accepted (document_at ds seq)) ∙ witness.accepted in
+  pub pairs_share : (ds : List Document) (f : LeastDocument) → ((d : Document) → accepts made d pairs.start ≡ (accepts p d one && accepts q d two)) → IsLeastOf made ds pairs.start f → IsShared p one q two
+  pairs_share ds f accepted least =
+      let d : Document = document_at ds f.seq in
+      let both = sym (accepted d) ∙ least.accepted in
       record {
-        document = document_at ds seq;
-        proper = witness.belongs.proper;
-        in_one = and_left (accepts p (document_at ds seq) one) _ both;
-        in_two = and_right (accepts p (document_at ds seq) one) _ both;
+        document = d;
+        proper = least.belongs.proper;
+        in_one = and_left (accepts p d one) _ both;
+        in_two = and_right (accepts p d one) _ both;
       }

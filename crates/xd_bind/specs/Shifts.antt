@@ -1,12 +1,12 @@
 -- Where the copies of states stand, and of which states there are copies. Of it only private contracts speak.
 use Rattle.std.specs.Prelude.{◌≡◌, ℕ, ◌+◌, ◌<◌, ◌≤◌, Bool, cond, nat_lt, is_some, List, Option, length, slice_get, Some, take}
 use Rattle.std.specs.List.{All}
-use Rattle.xd_doc.specs.declared.store.Seq.{Seq}
 use Rattle.xd_auto.specs.declared.auto.State.{State}
 use Rattle.xd_auto.specs.declared.auto.LabelMove.{LabelMove}
 use Rattle.xd_auto.specs.declared.auto.TextMove.{TextMove}
 use Rattle.xd_auto.specs.Automaton.{Automaton, StateMoves, IsClosed, IsState, LeadsBelow, moves_at, state_number}
-use Rattle.xd_empty.specs.Known.{document_of}
+use Rattle.xd_least.specs.Least.{known_of}
+use Rattle.xd_least.specs.declared.document.LeastDocument.{LeastDocument}
 use Rattle.xd_traces.specs.Traces.{Owned}
 use Rattle.xd_bind.specs.declared.shift.Layer.{Layer}
 use Rattle.xd_bind.specs.declared.shift.Shift.{Shift}
@@ -21,8 +21,8 @@ abbrev pub shifted : Shift → State → State
 shifted shift s = cond (nat_lt s.number shift.base) s (onward shift.by s)
 
 -- whether a document is known of the copy
-abbrev pub free_by : List (Option Seq) → Shift → State → Bool
-free_by known shift s = is_some (document_of known (shifted shift s))
+abbrev pub free_by : List (Option LeastDocument) → Shift → State → Bool
+free_by known shift s = is_some (known_of known (shifted shift s))
 
 -- of an automaton, what lies below the base leads to states below it, and moves of the others are followed by states that lie at or above it
 pub record IsLayered (base : ℕ) (a : Automaton) : Type 0 where

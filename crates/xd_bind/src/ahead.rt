@@ -12,7 +12,7 @@ use crate::shift::{Layer, Shift};
 use std::alloc::Global;
 use xd_auto::{Auto, LabelMove, State, TextMove};
 use xd_doc::NoMemory;
-use xd_empty::Inhabitants;
+use xd_least::LeastInhabitants;
 use xd_traces::MoveKind;
 
 /// States in the order in which they were found, and for each state of a layer, from its base on,
@@ -69,7 +69,7 @@ impl Search {
         owner: &H,
         variable: usize,
         aside: Shift,
-        known: &Inhabitants,
+        known: &LeastInhabitants,
         state: State,
     ) -> Result<(), NoMemory>
         requires state { IsState auto.now state }
@@ -91,7 +91,7 @@ impl Search {
         &mut self,
         auto: &Auto,
         aside: Shift,
-        known: &Inhabitants,
+        known: &LeastInhabitants,
         step: &LabelMove,
     ) -> Result<(), NoMemory>
         requires content_copy { IsState auto.now (shifted aside step.now.content) }
@@ -118,7 +118,7 @@ impl Search {
         owner: &H,
         variable: usize,
         aside: Shift,
-        known: &Inhabitants,
+        known: &LeastInhabitants,
         state: State,
     ) -> Result<(), NoMemory>
         requires state { IsState auto.now state }
@@ -147,7 +147,7 @@ pub fn states_ahead<H: Holds>(
     owner: &H,
     variable: usize,
     aside: Shift,
-    known: &Inhabitants,
+    known: &LeastInhabitants,
 ) -> Result<Vec<State>, NoMemory>
     requires layer { IsLayer auto.now layer }
     requires base { aside.base ≡ layer.base }

@@ -4,7 +4,7 @@ ghost use Rattle.std.specs.Prelude.{◌≡◌, ℕ, ◌+◌, ◌<◌, ◌≤◌,
 ghost use Rattle.std.specs.List.{All};
 ghost use Rattle.xd_doc.specs.Stored.{Keeps};
 ghost use Rattle.xd_auto.specs.Automaton.{Extends, IsState, moves_at, state_number};
-ghost use Rattle.xd_empty.specs.Known.{Knows};
+ghost use Rattle.xd_least.specs.Least.{Knows};
 ghost use Rattle.xd_auto.specs.declared.auto.State.{State};
 ghost use Rattle.xd_traces.specs.declared.kind.MoveKind.{MoveKind};
 ghost use Rattle.xd_bind.specs.Buckets.{bucket_at};
@@ -25,7 +25,8 @@ use crate::tracks::{Binding, Given, Tracks};
 use std::alloc::Global;
 use xd_auto::{Auto, State};
 use xd_doc::{Label, NoMemory, Store};
-use xd_empty::{Inhabitants, inhabited_part};
+use xd_empty::inhabited_part;
+use xd_least::LeastInhabitants;
 
 /// For each state of a layer whether it can be completed without the variable, where `aside` has the
 /// copies without the variable's moves.
@@ -34,7 +35,7 @@ fn free_of(
     auto: &Auto,
     layer: Layer,
     aside: Shift,
-    known: &Inhabitants,
+    known: &LeastInhabitants,
 ) -> Result<Vec<bool>, NoMemory>
     requires base { aside.base ≡ layer.base }
     requires range { layer.base ≤ layer.end }
@@ -80,7 +81,7 @@ fn add_without<H: Holds>(
     layer: Layer,
     owner: &H,
     variable: usize,
-    known: &mut Inhabitants,
+    known: &mut LeastInhabitants,
     store: &mut Store,
 ) -> Result<Shift, NoMemory>
     requires layer { IsLayer auto.old layer }
@@ -117,7 +118,7 @@ fn add_alone<H: Holds>(
     owner: &H,
     variable: usize,
     aside: Shift,
-    known: &Inhabitants,
+    known: &LeastInhabitants,
 ) -> Result<State, NoMemory>
     requires layer { IsLayer auto.old layer }
     requires base { aside.base ≡ layer.base }
@@ -153,7 +154,7 @@ fn add_given<H: Holds>(
     layer: Layer,
     owner: &H,
     variable: usize,
-    known: &mut Inhabitants,
+    known: &mut LeastInhabitants,
     store: &mut Store,
 ) -> Result<State, NoMemory>
     requires layer { IsLayer auto.old layer }
@@ -179,7 +180,7 @@ pub fn add_givens<H: Holds>(
     layer: Layer,
     owner: &H,
     variables: &[Label],
-    known: &mut Inhabitants,
+    known: &mut LeastInhabitants,
     store: &mut Store,
 ) -> Result<Vec<Given>, NoMemory>
     requires layer { IsLayer auto.old layer }
@@ -243,7 +244,7 @@ fn project_marked(
         end: made.len(),
         start: tracks.start,
     };
-    let mut known = Inhabitants::new(alloc);
+    let mut known = LeastInhabitants::new(alloc);
     let mut store = Store::new(alloc);
     let givens = add_givens(
         alloc,
@@ -259,6 +260,11 @@ fn project_marked(
 
 /// For each variable, in their order, an automaton and a state that accepts exactly the documents
 /// that an accepting run gives it: the items that its moves take, in order and with their contents.
+///
+/// In no accepting run do items of a variable stand apart: each variable's items are one block of one level (`CanProject`), as
+/// linear patterns have them. `NoMemory` where there is no room for the automata; the one that is given stays as it is.
+///
+/// (What a variable may be is found as by Hosoya and Pierce, JFP 2003; this project's own is that items belong to moves.)
 pub fn project(alloc: Global, tracks: &Tracks) -> Result<Vec<Binding>, NoMemory>
     requires { CanProject tracks.now }
     ensures { IfOk result (λ bindings. AreBindings tracks.now bindings.items) }

@@ -4,7 +4,7 @@ ghost use Rattle.std.specs.Prelude.{◌≡◌, ◌-◌, ◌&&◌, ℕ, ◌<◌, 
 ghost use Rattle.xd_doc.specs.Document.{Document};
 ghost use Rattle.xd_doc.specs.Stored.{Keeps};
 ghost use Rattle.xd_auto.specs.Automaton.{Extends, IsState, accepts, state_number};
-ghost use Rattle.xd_empty.specs.Known.{Knows};
+ghost use Rattle.xd_least.specs.Least.{Knows};
 ghost use Rattle.xd_traces.specs.Traces.{KeepsTogether};
 ghost use Rattle.xd_traces.specs.Universal.{IsUniversal};
 ghost use Rattle.xd_traces.specs.Pairing.{both_at, boths_in};
@@ -19,7 +19,7 @@ use crate::tracks::Given;
 use std::alloc::Global;
 use xd_auto::{Auto, State};
 use xd_doc::{Label, NoMemory, Store};
-use xd_empty::Inhabitants;
+use xd_least::LeastInhabitants;
 use xd_traces::{Both, MoveKind, Pairs, pair_up};
 
 /// Of a pairing, the moves that stand for moves of a variable of the first automaton.
@@ -99,6 +99,8 @@ impl<H: Holds> Holds for Carried<'_, H> {
 /// The two are run side by side ([`pair_up`]), and what belongs to a variable is carried along. The
 /// states are added to `auto`, about as many as the pattern looks at, and what they accept becomes
 /// known.
+///
+/// Fails only where memory is refused. The automaton and the store keep what they have, and may have more.
 pub fn cases<H: Holds>(
     alloc: Global,
     pattern: &Auto,
@@ -108,7 +110,7 @@ pub fn cases<H: Holds>(
     owner: &H,
     auto: &mut Auto,
     state: State,
-    known: &mut Inhabitants,
+    known: &mut LeastInhabitants,
     store: &mut Store,
 ) -> Result<Option<Vec<Given>>, NoMemory>
     requires start { IsState pattern.now start }

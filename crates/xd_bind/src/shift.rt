@@ -5,7 +5,7 @@ ghost use Rattle.xd_auto.specs.Automaton.{IsState};
 ghost use Rattle.xd_bind.specs.Shifts.{free_by, shifted};
 
 use xd_auto::{Auto, State};
-use xd_empty::Inhabitants;
+use xd_least::LeastInhabitants;
 
 /// The states of an automaton from `base` on and below `end`, and one of them. What follows their
 /// moves is among them too; contents may be older states, below `base`, in which nothing belongs to a
@@ -40,7 +40,7 @@ impl Shift {
     }
 
     /// Whether the copy of a state is known to accept some document.
-    pub fn is_free(self, auto: &Auto, known: &Inhabitants, state: State) -> bool
+    pub fn is_free(self, auto: &Auto, known: &LeastInhabitants, state: State) -> bool
         requires { IsState auto.now (shifted self state) }
         ensures { result ≡ free_by known.now self state }
     {

@@ -1,5 +1,5 @@
 -- Calls: their arguments, and what they give.
-use Rattle.std.proofs.Common.{◌≡◌, ◌↔◌, ℕ, true, List, [], ◌∷◌, ◌++◌, inl, inr, refl, ap, ◌∙◌, append_assoc}
+use Rattle.std.proofs.Common.{◌≡◌, ◌↔◌, ℕ, true, List, [], ◌∷◌, ◌++◌, refl, ap, ◌∙◌, append_assoc}
 use Rattle.xd_base.specs.declared.Place.{Place}
 use Rattle.xd_doc.specs.Document.{Document}
 use Rattle.xd_auto.specs.declared.auto.State.{State}
@@ -11,33 +11,34 @@ use Rattle.xd_syntax.specs.Program.{Parameter, ProgramTree, names_of, function_o
 use Rattle.xd_syntax.specs.May.{Scope, May, FitsResult}
 use Rattle.xd_syntax.specs.CheckFaults.{Line, LineKind, LineWhere, Both, Misfits, LinesOf, LinesOfArguments, parameters_of, wrong_argument}
 use Rattle.xd_check.specs.declared.lines.FoundLine.{FoundLine}
-use Rattle.xd_check.specs.FoundLines.{AddsLines}
-use Rattle.xd_check.specs.Walked.{AcceptsJust, IsWalked}
+use Rattle.xd_check.specs.FoundLines.{AddsLines, told_size}
+use Rattle.xd_check.specs.Walked.{AcceptsJust, IsMisfit, IsWalked}
+use Rattle.xd_laws.proofs.SameScopes.{line_within}
 
 -- The lines of a misfit, where the states accept what the expression may be and what the type says.
 pub misfit_lines : (P : ProgramTree) (S : Scope) (e : Expression) (T : PlacedTree) (p : Place) (k : LineKind) (a : Automaton) (s t : State) → AcceptsJust a s (May P S e) →
     ((d : Document) → (accepts a d t ≡ true) ↔ Fits (names_of P) (unplaced T) d) → (ls : List Line) →
-    LineWhere p k (λ d. (accepts a d s ≡ true) × (accepts a d t ≡ true → ⊥)) ls → LineWhere p k (Misfits P S e T) ls
-misfit_lines P S e T p k a s t m f ls (inl x) = inl (x.0, x.1, ((m x.0 x.1).0 (x.2).0, λ y. (x.2).1 ((f x.0).1 y)), x.3)
-misfit_lines P S e T p k a s t m f ls (inr x) = inr ((λ d q y. x.0 d q ((m d q).1 y.0, λ z. y.1 ((f d).0 z))), x.1)
+    LineWhere told_size p k (IsMisfit a s t) ls → LineWhere told_size p k (Misfits P S e T) ls
+misfit_lines P S e T p k a s t m f ls h =
+    line_within told_size p k (IsMisfit a s t) (Misfits P S e T) (λ d q x. ((m d q).0 x.0, λ y. x.1 ((f d).1 y))) (λ d q y. ((m d q).1 y.0, λ z. y.1 ((f d).0 z))) ls h
 
 -- an argument that has a parameter
 pub argument_step : (P : ProgramTree) (S : Scope) (e : Expression) (es : List Expression) (q : Parameter) (qs : List Parameter) (xs ms : List Line) →
-    Both (LinesOf P S e) (LineWhere (place_of_expression e) wrong_argument (Misfits P S e q.declared)) xs → LinesOfArguments P S qs (arguments_of es) ms →
-    LinesOfArguments P S (q ∷ qs) (arguments_of (e ∷ es)) (xs ++ ms)
+    Both (LinesOf told_size P S e) (LineWhere told_size (place_of_expression e) wrong_argument (Misfits P S e q.declared)) xs → LinesOfArguments told_size P S qs (arguments_of es) ms →
+    LinesOfArguments told_size P S (q ∷ qs) (arguments_of (e ∷ es)) (xs ++ ms)
 argument_step P S e es q qs xs ms h r = (h.0, h.1 ++ ms, h.2, (h.1, ms, h.3, r, refl), ap (λ ys. ys ++ ms) h.4 ∙ append_assoc h.0 h.1 ms)
 
 -- and one too many
 pub argument_more : (P : ProgramTree) (S : Scope) (e : Expression) (es : List Expression) (xs ms : List Line) →
-    LinesOf P S e xs → LinesOfArguments P S [] (arguments_of es) ms → LinesOfArguments P S [] (arguments_of (e ∷ es)) (xs ++ ms)
+    LinesOf told_size P S e xs → LinesOfArguments told_size P S [] (arguments_of es) ms → LinesOfArguments told_size P S [] (arguments_of (e ∷ es)) (xs ++ ms)
 argument_more P S e es xs ms h r = (xs, ms, h, r, refl)
 
-pub no_arguments : (P : ProgramTree) (S : Scope) (qs : List Parameter) → LinesOfArguments P S qs no_argument []
+pub no_arguments : (P : ProgramTree) (S : Scope) (qs : List Parameter) → LinesOfArguments told_size P S qs no_argument []
 no_arguments P S [] = refl
 no_arguments P S (q ∷ qs) = refl
 
 -- a call, from its arguments' lines and a state for its result
 pub walked_called : (P : ProgramTree) (S : Scope) (q : Place) (f : List ℕ) (es : List Expression) (a : Automaton) (ds : List Document) (old new : List FoundLine) (s : State) →
-    AddsLines ds (LinesOfArguments P S (parameters_of (function_of P.functions f)) (arguments_of es)) old new → ((d : Document) → (accepts a d s ≡ true) ↔ FitsResult (names_of P) (function_of P.functions f) d) →
+    AddsLines ds (LinesOfArguments told_size P S (parameters_of (function_of P.functions f)) (arguments_of es)) old new → ((d : Document) → (accepts a d s ≡ true) ↔ FitsResult (names_of P) (function_of P.functions f) d) →
     IsWalked P S (Called q f (arguments_of es)) a ds old new s
 walked_called P S q f es a ds old new s h r = record { may = λ d p. r d; lines = h }

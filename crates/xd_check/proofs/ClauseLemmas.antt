@@ -25,7 +25,8 @@ use Rattle.xd_laws.proofs.LinearPatterns.{left_without}
 use Rattle.xd_laws.proofs.WordLists.{either, or_left, or_right}
 use Rattle.xd_check.specs.declared.lines.FoundLine.{FoundLine}
 use Rattle.xd_check.specs.declared.variables.Variable.{Variable}
-use Rattle.xd_check.specs.FoundLines.{AddsLines}
+use Rattle.xd_laws.proofs.SameScopes.{line_within}
+use Rattle.xd_check.specs.FoundLines.{AddsLines, told_size}
 use Rattle.xd_check.specs.InScope.{AcceptedBy, ScopeStands, state_of}
 use Rattle.xd_check.specs.Walked.{AcceptedBySome, AcceptsJust, AreClausesWalked, ComesBehind, Grows, IsClauseWalked, IsWalked, LinesOfClause, with_found}
 use Rattle.xd_check.proofs.LineLists.{adds_as, adds_both}
@@ -136,7 +137,7 @@ pub clause_live : (P : ProgramTree) (S : Scope) (e : Expression) (earlier : List
     IsLiveIn P S e earlier Q → IsWalked P (clause_entry e earlier Q ∷ S) f a ds old new s → IsClauseWalked P S e earlier Q f a ds old new (Some s)
 clause_live P S e earlier Q f a ds old new s l w = record {
   may = λ d p. ((λ m. (l, (w.may d p).0 m)), (λ m. (w.may d p).1 m.1));
-  lines = adds_as ds (LinesOf P (clause_entry e earlier Q ∷ S) f) (LinesOfClause P S e earlier Q f) (λ ms m. inl (l, m)) old new w.lines;
+  lines = adds_as ds (LinesOf told_size P (clause_entry e earlier Q ∷ S) f) (LinesOfClause P S e earlier Q f) (λ ms m. inl (l, m)) old new w.lines;
   dead = λ r. absurd (cc);
 }
 
@@ -157,7 +158,7 @@ pub record AreClausesGoing (P : ProgramTree) (S : Scope) (p : Place) (e : Expres
   pub earlier : List PlacedTree
   pub comes : ComesBehind P S e earlier C
   pub may : (d : Document) → is_proper d ≡ true → MayClauses P S e [] all d ↔ (AcceptedBySome a ss d ⊎ MayClauses P S e earlier left d)
-  pub lines : AddsLines ds (Goes (LinesOfClauses P S p e earlier left) (LinesOfClauses P S p e [] all)) old new
+  pub lines : AddsLines ds (Goes (LinesOfClauses told_size P S p e earlier left) (LinesOfClauses told_size P S p e [] all)) old new
 
 pub clauses_begin : (P : ProgramTree) (S : Scope) (p : Place) (e : Expression) (cs : Clauses) (C : Document → Type 0) (a : Automaton) (ds : List Document) (ls : List FoundLine) → ComesBehind P S e [] C →
     AreClausesGoing P S p e cs cs C a ds ls ls []
@@ -165,7 +166,7 @@ clauses_begin P S p e cs C a ds ls h = record {
   earlier = [];
   comes = h;
   may = λ d q. ((λ m. inr m), (λ m. elim m [ inl x ↦ absurd x | inr x ↦ x ]));
-  lines = goes_begin ds (LinesOfClauses P S p e [] cs) ls ls refl;
+  lines = goes_begin ds (LinesOfClauses told_size P S p e [] cs) ls ls refl;
 }
 
 some_kept : (a b : Automaton) → Grows a b → (ss : List State) → AllByRecursion (IsState a) ss → (d : Document) → AcceptedBySome b ss d ↔ AcceptedBySome a ss d
@@ -208,27 +209,25 @@ clauses_more P S p e all left Q f C D a b ds es old mid new ss us o grows keeps 
           | inr y ↦ x.1 (inr (inr y))
         ]),
       ));
-  lines = goes_more ds es keeps (LinesOfClauses P S p e g.earlier (clause Q f left)) (LinesOfClause P S e g.earlier Q f) (LinesOfClauses P S p e (Q ∷ g.earlier) left) (LinesOfClauses P S p e [] all) old mid new
+  lines = goes_more ds es keeps (LinesOfClauses told_size P S p e g.earlier (clause Q f left)) (LinesOfClause P S e g.earlier Q f) (LinesOfClauses told_size P S p e (Q ∷ g.earlier) left) (LinesOfClauses told_size P S p e [] all) old mid new
       g.lines w.lines (λ xs ms x m. (xs, ms, x, m, refl));
 }
 
 -- behind the last clause stands the line of what no clause takes
 pub clauses_end : (P : ProgramTree) (S : Scope) (p : Place) (e : Expression) (all left : Clauses) (C : Document → Type 0) (a b : Automaton) (ds es : List Document) (old mid new : List FoundLine) (ss : List State) (made : State) →
-    left ≡ no_clause → Keeps ds es → (g : AreClausesGoing P S p e all left C a ds old mid ss) → AddsLines es (LineWhere p not_exhaustive C) mid new →
+    left ≡ no_clause → Keeps ds es → (g : AreClausesGoing P S p e all left C a ds old mid ss) → AddsLines es (LineWhere told_size p not_exhaustive C) mid new →
     ((d : Document) → (accepts b d made ≡ true) ↔ AcceptedBySome a ss d) → AreClausesWalked P S p e all b es old new made
 clauses_end P S p e all left C a b ds es old mid new ss made none keeps g h united =
-    let cl : (ls : List Line) → LineWhere p not_exhaustive C ls → LinesOfClauses P S p e g.earlier left ls
-    = λ ls m. subst (λ cs. LinesOfClauses P S p e g.earlier cs ls) (sym none) (elim m [
-      | inl x ↦ inl (x.0, x.1, comes_from P S e g.earlier C g.comes x.0 x.1 x.2, x.3)
-      | inr x ↦ inr ((λ d q n. x.0 d q (comes_to P S e g.earlier C g.comes d q n)), x.1)
-    ]) in
+    let cl : (ls : List Line) → LineWhere told_size p not_exhaustive C ls → LinesOfClauses told_size P S p e g.earlier left ls
+    = λ ls m. subst (λ cs. LinesOfClauses told_size P S p e g.earlier cs ls) (sym none)
+    (line_within told_size p not_exhaustive C (Comes P S e g.earlier) (comes_from P S e g.earlier C g.comes) (comes_to P S e g.earlier C g.comes) ls m) in
     record {
       may = λ d q.
           (let x = g.may d q in
           let gone : MayClauses P S e g.earlier left d → ⊥ = λ m. (let n : MayClauses P S e g.earlier no_clause d = subst (λ cs. MayClauses P S e g.earlier cs d) none m in n) in
           ((λ m. x.1 (inl ((united d).0 m))), (λ m. elim (x.0 m) [ inl y ↦ (united d).1 y | inr y ↦ absurd (gone y) ])));
-      lines = goes_end ds es keeps (LinesOfClauses P S p e g.earlier left) (LinesOfClauses P S p e [] all) old mid new g.lines
-          (adds_as es (LineWhere p not_exhaustive C) (LinesOfClauses P S p e g.earlier left) cl mid new h);
+      lines = goes_end ds es keeps (LinesOfClauses told_size P S p e g.earlier left) (LinesOfClauses told_size P S p e [] all) old mid new g.lines
+          (adds_as es (LineWhere told_size p not_exhaustive C) (LinesOfClauses told_size P S p e g.earlier left) cl mid new h);
     }
 
 -- a match, from its scrutinee and its clauses
@@ -236,7 +235,7 @@ pub walked_matched : (P : ProgramTree) (S : Scope) (p : Place) (e : Expression) 
     IsWalked P S e a ds old mid s → AreClausesWalked P S p e cs b es mid new t → IsWalked P S (Matched p e cs) b es old new t
 walked_matched P S p e cs a b ds es old mid new s t k w c = record {
   may = c.may;
-  lines = adds_both ds es k (LinesOf P S e) (LinesOfClauses P S p e [] cs) old mid new w.lines c.lines;
+  lines = adds_both ds es k (LinesOf told_size P S e) (LinesOfClauses told_size P S p e [] cs) old mid new w.lines c.lines;
 }
 
 -- what a scrutinee may be comes to the first clause

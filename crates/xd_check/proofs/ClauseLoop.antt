@@ -20,7 +20,7 @@ use Rattle.xd_syntax.specs.declared.exprs.Clause.{Clause}
 use Rattle.xd_clauses.specs.Clauses.{Accepted}
 use Rattle.xd_check.specs.declared.lines.FoundLine.{FoundLine}
 use Rattle.xd_check.specs.declared.variables.Variable.{Variable}
-use Rattle.xd_check.specs.FoundLines.{AddsLines}
+use Rattle.xd_check.specs.FoundLines.{AddsLines, told_size}
 use Rattle.xd_check.specs.InScope.{AreStates, ScopeStands}
 use Rattle.xd_check.specs.Ready.{ClauseCanBeWalked, expr_at}
 use Rattle.xd_check.specs.Walked.{AcceptedBySome, AreClausesWalked, ComesBehind, Grows, IsClauseWalked, with_found}
@@ -103,7 +103,7 @@ clauses_loop_more p place a b m c vs ws xs ds es fs old mid new cs n ss us first
     }
 
 pub clauses_loop_end : (p : ProgramTable) (place : Place) (a b c : Automaton) (vs ws : List Variable) (ds es fs : List Document) (old mid new : List FoundLine) (cs : List Clause) (n : ℕ) (ss : List State) (first v : State) (made : State) → drop n cs ≡ [] →
-    ClausesLoop p place a b vs ws ds es old mid cs n ss first v → Keeps es fs → AddsLines fs (LineWhere place not_exhaustive (Accepted b v)) mid new → ((d : Document) → (accepts c d made ≡ true) ↔ AcceptedBySome b ss d) →
+    ClausesLoop p place a b vs ws ds es old mid cs n ss first v → Keeps es fs → AddsLines fs (LineWhere told_size place not_exhaustive (Accepted b v)) mid new → ((d : Document) → (accepts c d made ≡ true) ↔ AcceptedBySome b ss d) →
     (S : Scope) (e : Expression) → ScopeStands (program_tree p) S a vs → ComesBehind (program_tree p) S e [] (Accepted a first) → AreClausesWalked (program_tree p) S place e (clauses_in p cs) c fs old new made
 clauses_loop_end p place a b c vs ws ds es fs old mid new cs n ss first v made d h k m u S e stands comes =
     clauses_end (program_tree p) S place e (clauses_in p cs) (clauses_in p (drop n cs)) (Accepted b v) b c es fs old mid new ss made (ap (clauses_in p) d) k (h.walked S e stands comes) m u

@@ -8,7 +8,7 @@ use Rattle.xd_syntax.specs.Kept.{ProgramTable, function_definition, program_tree
 use Rattle.xd_syntax.specs.FunctionRow.{FunctionRow}
 use Rattle.xd_syntax.specs.CheckFaults.{Line, LinesOfFunction, LinesOfFunctions}
 use Rattle.xd_check.specs.declared.lines.FoundLine.{FoundLine}
-use Rattle.xd_check.specs.FoundLines.{AddsLines}
+use Rattle.xd_check.specs.FoundLines.{AddsLines, told_size}
 use Rattle.xd_syntax.specs.Program.{names_of}
 use Rattle.xd_laws.specs.KeptLines.{AllPaired}
 use Rattle.xd_check.specs.declared.signatures.Signature.{Signature}
@@ -23,32 +23,32 @@ use Rattle.xd_check.proofs.LineLists.{adds_none}
 pub record FunctionsLoop (p : ProgramTable) (a b : Automaton) (ds es : List Document) (old new : List FoundLine) (n : ℕ) : Type 0 where
   pub grows : Grows a b
   pub keeps : Keeps ds es
-  pub lines : AddsLines es (Goes (LinesOfFunctions (program_tree p) (map (function_definition p) (drop n p.functions))) (LinesOfFunctions (program_tree p) (map (function_definition p) p.functions))) old new
+  pub lines : AddsLines es (Goes (LinesOfFunctions told_size (program_tree p) (map (function_definition p) (drop n p.functions))) (LinesOfFunctions told_size (program_tree p) (map (function_definition p) p.functions))) old new
 
 pub functions_begin : (p : ProgramTable) (a : Automaton) (ds : List Document) (ls : List FoundLine) → FunctionsLoop p a a ds ds ls ls 0
-functions_begin p a ds ls = record { grows = grows_none a; keeps = keeps_same ds; lines = goes_begin ds (LinesOfFunctions (program_tree p) (map (function_definition p) p.functions)) ls ls refl }
+functions_begin p a ds ls = record { grows = grows_none a; keeps = keeps_same ds; lines = goes_begin ds (LinesOfFunctions told_size (program_tree p) (map (function_definition p) p.functions)) ls ls refl }
 
 pub functions_more : (p : ProgramTable) (a b c : Automaton) (ds es fs : List Document) (old mid new : List FoundLine) (n : ℕ) (f : FunctionRow) → FunctionsLoop p a b ds es old mid n → n < length p.functions → f ≡ get_or p.functions n f →
     AddsLinesOfFunction p n fs mid new → Grows b c → Keeps es fs → FunctionsLoop p a c ds fs old new (n + 1)
 functions_more p a b c ds es fs old mid new n f h l e x g k =
     let d : drop n p.functions ≡ f ∷ drop (n + 1) p.functions = drop_more p.functions n f l ∙ ap (λ y. y ∷ drop (n + 1) p.functions) (sym e) in
-    let whole : List Line → Type 0 = LinesOfFunctions (program_tree p) (map (function_definition p) p.functions) in
-    let y : AddsLines es (Goes (LinesOfFunctions (program_tree p) (map (function_definition p) (f ∷ drop (n + 1) p.functions))) whole) old mid
-    = subst (λ (rs : List FunctionRow). AddsLines es (Goes (LinesOfFunctions (program_tree p) (map (function_definition p) rs)) whole) old mid) d h.lines in
+    let whole : List Line → Type 0 = LinesOfFunctions told_size (program_tree p) (map (function_definition p) p.functions) in
+    let y : AddsLines es (Goes (LinesOfFunctions told_size (program_tree p) (map (function_definition p) (f ∷ drop (n + 1) p.functions))) whole) old mid
+    = subst (λ (rs : List FunctionRow). AddsLines es (Goes (LinesOfFunctions told_size (program_tree p) (map (function_definition p) rs)) whole) old mid) d h.lines in
     record {
       grows = grows_then a b c h.grows g;
       keeps = keeps_then ds es fs h.keeps k;
-      lines = goes_more es fs k (LinesOfFunctions (program_tree p) (map (function_definition p) (f ∷ drop (n + 1) p.functions))) (LinesOfFunction (program_tree p) (function_definition p f))
-          (LinesOfFunctions (program_tree p) (map (function_definition p) (drop (n + 1) p.functions))) whole old mid new y (x f e) (λ ls ms u v. (ls, ms, u, v, refl));
+      lines = goes_more es fs k (LinesOfFunctions told_size (program_tree p) (map (function_definition p) (f ∷ drop (n + 1) p.functions))) (LinesOfFunction told_size (program_tree p) (function_definition p f))
+          (LinesOfFunctions told_size (program_tree p) (map (function_definition p) (drop (n + 1) p.functions))) whole old mid new y (x f e) (λ ls ms u v. (ls, ms, u, v, refl));
     }
 
 pub functions_end : (p : ProgramTable) (a b : Automaton) (ds es : List Document) (old new : List FoundLine) (n : ℕ) → drop n p.functions ≡ [] → FunctionsLoop p a b ds es old new n →
-    AddsLines es (LinesOfFunctions (program_tree p) (map (function_definition p) p.functions)) old new
+    AddsLines es (LinesOfFunctions told_size (program_tree p) (map (function_definition p) p.functions)) old new
 functions_end p a b ds es old new n d h =
-    let whole : List Line → Type 0 = LinesOfFunctions (program_tree p) (map (function_definition p) p.functions) in
-    let y : AddsLines es (Goes (LinesOfFunctions (program_tree p) []) whole) old new
-    = subst (λ (rs : List FunctionRow). AddsLines es (Goes (LinesOfFunctions (program_tree p) (map (function_definition p) rs)) whole) old new) d h.lines in
-    goes_end es es (keeps_same es) (LinesOfFunctions (program_tree p) []) whole old new new y (adds_none es (λ ls. ls ≡ []) refl new)
+    let whole : List Line → Type 0 = LinesOfFunctions told_size (program_tree p) (map (function_definition p) p.functions) in
+    let y : AddsLines es (Goes (LinesOfFunctions told_size (program_tree p) []) whole) old new
+    = subst (λ (rs : List FunctionRow). AddsLines es (Goes (LinesOfFunctions told_size (program_tree p) (map (function_definition p) rs)) whole) old new) d h.lines in
+    goes_end es es (keeps_same es) (LinesOfFunctions told_size (program_tree p) []) whole old new new y (adds_none es (λ ls. ls ≡ []) refl new)
 
 pub function_at : (fs : List FunctionRow) (n : ℕ) → n < length fs → FunctionRow
 function_at [] n l = absurd (omega arith)

@@ -2,21 +2,21 @@
 use Rattle.std.proofs.Common.{List, Option}
 use Rattle.xd_doc.specs.Document.{Document}
 use Rattle.xd_doc.specs.Stored.{Keeps}
-use Rattle.xd_doc.specs.declared.store.Seq.{Seq}
 use Rattle.xd_auto.specs.Automaton.{Automaton}
-use Rattle.xd_empty.specs.Known.{Knows}
-use Rattle.xd_empty.proofs.KnownLemmas.{stays_known}
+use Rattle.xd_least.specs.Least.{Knows}
+use Rattle.xd_least.proofs.KnownLemmas.{stays_known}
+use Rattle.xd_least.specs.declared.document.LeastDocument.{LeastDocument}
 use Rattle.xd_goals.specs.Rows.{TableView}
 use Rattle.xd_goals.specs.Standing.{StandsOn}
-use Rattle.xd_goals.proofs.Facts.{stands-keeps}
-use Rattle.xd_goals.proofs.Extending.{longer, stands-extends}
+use Rattle.xd_goals.proofs.Facts.{stands_on-keeps}
+use Rattle.xd_goals.proofs.Extending.{longer, stands_on-extends}
 use Rattle.xd_check.specs.Known.{IsKnown}
 use Rattle.xd_check.specs.declared.known.Known.{Known}
 use Rattle.xd_check.specs.Walked.{Grows}
 use Rattle.xd_check.proofs.Keeping.{grows_none}
 
 table_kept : (a b : Automaton) (ds es : List Document) (t : TableView) → Grows a b → Keeps ds es → StandsOn a ds t → StandsOn b es t
-table_kept a b ds es t g q h = stands-keeps b ds es t q (stands-extends a b g.extends g.keeps (longer a b g.extends) ds t h)
+table_kept a b ds es t g q h = stands_on-keeps b ds es t q (stands_on-extends a b g.extends g.keeps (longer a b g.extends) ds t h)
 
 pub known_kept : (a b : Automaton) (ds es : List Document) (k : Known) → Grows a b → Keeps ds es → IsKnown a ds k → IsKnown b es k
 known_kept a b ds es k g q h = record {
@@ -25,7 +25,7 @@ known_kept a b ds es k g q h = record {
 }
 
 -- more is known of the states
-pub known_learnt : (a b : Automaton) (ds es : List Document) (k : Known) (m : List (Option Seq)) → Grows a b → Keeps ds es → IsKnown a ds k → Knows b es m → IsKnown b es (record { inhabitants = m; table = k.table })
+pub known_learnt : (a b : Automaton) (ds es : List Document) (k : Known) (m : List (Option LeastDocument)) → Grows a b → Keeps ds es → IsKnown a ds k → Knows b es m → IsKnown b es (record { inhabitants = m; table = k.table })
 known_learnt a b ds es k m g q h n = record { inhabitants = n; table = table_kept a b ds es k.table g q h.table }
 
 -- more goals are known

@@ -21,3 +21,6 @@ pub mod Walkable
 pub mod Outcomes
 pub mod Readying
 pub mod FunctionLoop
+pub mod MetMatches
+pub mod MetClauses
+pub mod MetOrder

@@ -16,7 +16,7 @@ use Rattle.xd_syntax.specs.CheckFaults.{Line, LineWhere, Both, LinesOf, LinesOfA
 use Rattle.xd_syntax.specs.declared.exprs.ExprId.{ExprId}
 use Rattle.xd_check.specs.declared.lines.FoundLine.{FoundLine}
 use Rattle.xd_check.specs.declared.variables.Variable.{Variable}
-use Rattle.xd_check.specs.FoundLines.{AddsLines}
+use Rattle.xd_check.specs.FoundLines.{AddsLines, told_size}
 use Rattle.xd_check.specs.InScope.{AreStates, ScopeStands}
 use Rattle.xd_check.specs.Ready.{CanBeWalked, expr_at}
 use Rattle.xd_check.specs.Signed.{AreParameters, IsTypeState}
@@ -123,7 +123,7 @@ parts_more p a b c vs ws xs ds es fs old mid new parts n ss us id s av h l e i w
             split = y.split ∙ sym (append_assoc y.done (expr_at p id.at ∷ []) left);
             may = subst (AllPaired (λ (m : Expression) (t : State). AcceptsJust c t (May P S m)) (y.done ++ expr_at p id.at ∷ [])) (sym u)
                 (pairs_push P S c y.done ss (expr_at p id.at) s (pairs_kept P S b c g y.done ss h.there y.may) z.may);
-            lines = goes_more es fs k (LinesOfParts P S (expr_at p id.at ∷ left)) (LinesOf P S (expr_at p id.at)) (LinesOfParts P S left) (LinesOfParts P S all) old mid new y.lines z.lines
+            lines = goes_more es fs k (LinesOfParts P S (expr_at p id.at ∷ left)) (LinesOf told_size P S (expr_at p id.at)) (LinesOfParts P S left) (LinesOfParts P S all) old mid new y.lines z.lines
                 (λ ls ms m t. (ls, ms, m, t, refl));
           });
     }
@@ -145,7 +145,7 @@ pub record ArgumentsLoop (p : ProgramTable) (a b : Automaton) (vs ws : List Vari
   pub rest : AllByRecursion (CanBeWalked p) (expr_numbers (drop n parts))
   pub below : ceiling (expr_numbers (drop n parts)) ≤ ceiling (expr_numbers parts)
   pub walked : (S : Scope) (qs : List Parameter) → ScopeStands (program_tree p) S a vs → AreParameters (names_of (program_tree p)) a qs ts →
-      AddsLines es (Goes (LinesOfArguments (program_tree p) S (drop n qs) (arguments_of (map (expr_at p) (expr_numbers (drop n parts))))) (LinesOfArguments (program_tree p) S qs (arguments_of (map (expr_at p) (expr_numbers parts))))) old new
+      AddsLines es (Goes (LinesOfArguments told_size (program_tree p) S (drop n qs) (arguments_of (map (expr_at p) (expr_numbers (drop n parts))))) (LinesOfArguments told_size (program_tree p) S qs (arguments_of (map (expr_at p) (expr_numbers parts))))) old new
 
 pub arguments_begin : (p : ProgramTable) (a : Automaton) (vs : List Variable) (ds : List Document) (ls : List FoundLine) (ts : List State) (parts : List ExprId) → AllByRecursion (CanBeWalked p) (expr_numbers parts) →
     ArgumentsLoop p a a vs vs ds ds ls ls ts parts 0
@@ -153,7 +153,7 @@ arguments_begin p a vs ds ls ts parts h = record {
   stays = stays_begin a vs ds;
   rest = h;
   below = omega arith;
-  walked = λ S qs s t. goes_begin ds (LinesOfArguments (program_tree p) S qs (arguments_of (map (expr_at p) (expr_numbers parts)))) ls ls refl;
+  walked = λ S qs s t. goes_begin ds (LinesOfArguments told_size (program_tree p) S qs (arguments_of (map (expr_at p) (expr_numbers parts)))) ls ls refl;
 }
 
 pub argument_here : (p : ProgramTable) (a b : Automaton) (vs ws : List Variable) (ds es : List Document) (old new : List FoundLine) (ts : List State) (parts : List ExprId) (n : ℕ) (id : ExprId) →
@@ -184,17 +184,17 @@ parameter_at E a (q ∷ qs) (t ∷ ts) (suc n) h = next E a q t qs ts n (paramet
 -- the lines of an argument and of what is not of its parameter's type are those of the arguments that are left
 module _ (P : ProgramTree) (S : Scope) (e : Expression) (es : List Expression) (a : Automaton) (s : State) (may : AcceptsJust a s (May P S e)) where
   argument_lines : (qs : List Parameter) (ts : List State) (n : ℕ) → HasParameter (names_of P) a qs ts n → (xs ms : List Line) →
-      Both (LinesOf P S e) (LinesOfArgument a (place_of_expression e) s (slice_get ts n)) xs → LinesOfArguments P S (drop (n + 1) qs) (arguments_of es) ms →
-      LinesOfArguments P S (drop n qs) (arguments_of (e ∷ es)) (xs ++ ms)
+      Both (LinesOf told_size P S e) (LinesOfArgument a (place_of_expression e) s (slice_get ts n)) xs → LinesOfArguments told_size P S (drop (n + 1) qs) (arguments_of es) ms →
+      LinesOfArguments told_size P S (drop n qs) (arguments_of (e ∷ es)) (xs ++ ms)
   argument_lines qs ts n (has_one q t d f i) xs ms b r =
-      let c : LineWhere (place_of_expression e) wrong_argument (IsMisfit a s t) b.1 = subst (λ o. LinesOfArgument a (place_of_expression e) s o b.1) f b.3 in
-      subst (λ rs. LinesOfArguments P S rs (arguments_of (e ∷ es)) (xs ++ ms)) (sym d)
+      let c : LineWhere told_size (place_of_expression e) wrong_argument (IsMisfit a s t) b.1 = subst (λ o. LinesOfArgument a (place_of_expression e) s o b.1) f b.3 in
+      subst (λ rs. LinesOfArguments told_size P S rs (arguments_of (e ∷ es)) (xs ++ ms)) (sym d)
       (argument_step P S e es q (drop (n + 1) qs) xs ms (b.0, b.1, b.2, misfit_lines P S e q.declared (place_of_expression e) wrong_argument a s t may i.exact b.1 c, b.4) r)
   argument_lines qs ts n (has_none d z f) xs ms b r =
       let c : b.1 ≡ [] = subst (λ o. LinesOfArgument a (place_of_expression e) s o b.1) f b.3 in
       let same : xs ≡ b.0 = b.4 ∙ ap (λ ys. b.0 ++ ys) c ∙ append-nil b.0 in
-      subst (λ rs. LinesOfArguments P S rs (arguments_of (e ∷ es)) (xs ++ ms)) (sym d)
-      (argument_more P S e es xs ms (subst (LinesOf P S e) (sym same) b.2) (subst (λ rs. LinesOfArguments P S rs (arguments_of es) ms) z r))
+      subst (λ rs. LinesOfArguments told_size P S rs (arguments_of (e ∷ es)) (xs ++ ms)) (sym d)
+      (argument_more P S e es xs ms (subst (LinesOf told_size P S e) (sym same) b.2) (subst (λ rs. LinesOfArguments told_size P S rs (arguments_of es) ms) z r))
 
 pub arguments_more : (p : ProgramTable) (a b c : Automaton) (vs ws xs : List Variable) (ds es fs gs : List Document) (old mid mor new : List FoundLine) (ts : List State) (parts : List ExprId) (n : ℕ) (id : ExprId) (s : State) → AreStates a vs →
     ArgumentsLoop p a b vs ws ds es old mid ts parts n → n < length parts → id ≡ get_or parts n id →
@@ -215,22 +215,22 @@ arguments_more p a b c vs ws xs ds es fs gs old mid mor new ts parts n id s av h
       rest = r.1;
       below = omega arith;
       walked = λ S qs stands ps.
-          (let whole : List Line → Type 0 = LinesOfArguments P S qs (arguments_of (map (expr_at p) (expr_numbers parts))) in
-          let y : AddsLines es (Goes (LinesOfArguments P S (drop n qs) (arguments_of (x ∷ left))) whole) old mid
-          = subst (λ (ys : List ExprId). AddsLines es (Goes (LinesOfArguments P S (drop n qs) (arguments_of (map (expr_at p) (expr_numbers ys)))) whole) old mid) f (h.walked S qs stands ps) in
+          (let whole : List Line → Type 0 = LinesOfArguments told_size P S qs (arguments_of (map (expr_at p) (expr_numbers parts))) in
+          let y : AddsLines es (Goes (LinesOfArguments told_size P S (drop n qs) (arguments_of (x ∷ left))) whole) old mid
+          = subst (λ (ys : List ExprId). AddsLines es (Goes (LinesOfArguments told_size P S (drop n qs) (arguments_of (map (expr_at p) (expr_numbers ys)))) whole) old mid) f (h.walked S qs stands ps) in
           let z = w S (subst (ScopeStands P S b) (sym st.variables) (scope_kept P S a b st.grows vs av stands)) in
-          let both = adds_both fs gs j (LinesOf P S x) (LinesOfArgument c (place_of_expression x) s (slice_get ts n)) mid mor new z.lines m in
+          let both = adds_both fs gs j (LinesOf told_size P S x) (LinesOfArgument c (place_of_expression x) s (slice_get ts n)) mid mor new z.lines m in
           let there = parameter_at (names_of P) c qs ts n (parameters_kept (names_of P) a c (grows_then a b c st.grows g) qs ts ps) in
-          goes_more es gs kept (LinesOfArguments P S (drop n qs) (arguments_of (x ∷ left))) (Both (LinesOf P S x) (LinesOfArgument c (place_of_expression x) s (slice_get ts n)))
-          (LinesOfArguments P S (drop (n + 1) qs) (arguments_of left)) whole old mid new y both (argument_lines P S x left c s z.may qs ts n there));
+          goes_more es gs kept (LinesOfArguments told_size P S (drop n qs) (arguments_of (x ∷ left))) (Both (LinesOf told_size P S x) (LinesOfArgument c (place_of_expression x) s (slice_get ts n)))
+          (LinesOfArguments told_size P S (drop (n + 1) qs) (arguments_of left)) whole old mid new y both (argument_lines P S x left c s z.may qs ts n there));
     }
 
 pub arguments_end : (p : ProgramTable) (a b : Automaton) (vs ws : List Variable) (ds es : List Document) (old new : List FoundLine) (ts : List State) (parts : List ExprId) (n : ℕ) → drop n parts ≡ [] →
     ArgumentsLoop p a b vs ws ds es old new ts parts n → (S : Scope) (qs : List Parameter) → ScopeStands (program_tree p) S a vs → AreParameters (names_of (program_tree p)) a qs ts →
-    AddsLines es (LinesOfArguments (program_tree p) S qs (arguments_of (map (expr_at p) (expr_numbers parts)))) old new
+    AddsLines es (LinesOfArguments told_size (program_tree p) S qs (arguments_of (map (expr_at p) (expr_numbers parts)))) old new
 arguments_end p a b vs ws ds es old new ts parts n d h S qs stands ps =
     let P : ProgramTree = program_tree p in
-    let whole : List Line → Type 0 = LinesOfArguments P S qs (arguments_of (map (expr_at p) (expr_numbers parts))) in
-    let y : AddsLines es (Goes (LinesOfArguments P S (drop n qs) (arguments_of [])) whole) old new
-    = subst (λ (ys : List ExprId). AddsLines es (Goes (LinesOfArguments P S (drop n qs) (arguments_of (map (expr_at p) (expr_numbers ys)))) whole) old new) d (h.walked S qs stands ps) in
-    goes_end es es (keeps_same es) (LinesOfArguments P S (drop n qs) (arguments_of [])) whole old new new y (adds_none es (LinesOfArguments P S (drop n qs) (arguments_of [])) (no_arguments P S (drop n qs)) new)
+    let whole : List Line → Type 0 = LinesOfArguments told_size P S qs (arguments_of (map (expr_at p) (expr_numbers parts))) in
+    let y : AddsLines es (Goes (LinesOfArguments told_size P S (drop n qs) (arguments_of [])) whole) old new
+    = subst (λ (ys : List ExprId). AddsLines es (Goes (LinesOfArguments told_size P S (drop n qs) (arguments_of (map (expr_at p) (expr_numbers ys)))) whole) old new) d (h.walked S qs stands ps) in
+    goes_end es es (keeps_same es) (LinesOfArguments told_size P S (drop n qs) (arguments_of [])) whole old new new y (adds_none es (LinesOfArguments told_size P S (drop n qs) (arguments_of [])) (no_arguments P S (drop n qs)) new)

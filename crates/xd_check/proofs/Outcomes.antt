@@ -2,12 +2,12 @@
 use Rattle.std.proofs.Common.{◌≡◌, Bool, true, false, cond, List, [], ◌∷◌, ◌++◌, refl, ap, sym, subst, ◌∙◌}
 use Rattle.xd_doc.specs.Document.{Document}
 use Rattle.xd_syntax.specs.Order.{ordered, ordered_after, put_in}
-use Rattle.xd_syntax.specs.CheckFaults.{AreLines, Line, LinesOfFunctions, faults_among}
+use Rattle.xd_syntax.specs.CheckFaults.{AreLinesBy, Line, LinesOfFunctions, faults_among}
 use Rattle.xd_syntax.specs.Program.{ProgramTree}
 use Rattle.xd_syntax.specs.declared.fault.Fault.{Fault}
 use Rattle.xd_laws.specs.KeptLines.{AllPaired, AreFaultsOf, IsFaultOf}
 use Rattle.xd_check.specs.declared.lines.FoundLine.{FoundLine}
-use Rattle.xd_check.specs.FoundLines.{AddsLines, FindingBelongs, LinesBelong, found_precedes, lines_of}
+use Rattle.xd_check.specs.FoundLines.{AddsLines, FindingBelongs, LinesBelong, found_precedes, lines_of, told_size}
 use Rattle.xd_check.proofs.Ranks.{found_in_order}
 
 put_belongs : (ds : List Document) (l : FoundLine) (ms : List FoundLine) → FindingBelongs ds l.finding → LinesBelong ds ms → LinesBelong ds (put_in found_precedes l ms)
@@ -24,10 +24,10 @@ ordered_belongs ds done (l ∷ ls) d h = ordered_belongs ds (put_in found_preced
 
 -- the lines of a program, sorted
 pub record AreSorted (P : ProgramTree) (ds : List Document) (sorted : List FoundLine) : Type 0 where
-  pub lines : AreLines P (lines_of ds sorted)
+  pub lines : AreLinesBy told_size P (lines_of ds sorted)
   pub belong : LinesBelong ds sorted
 
-pub lines_sorted : (P : ProgramTree) (ds : List Document) (none found sorted : List FoundLine) → none ≡ [] → AddsLines ds (LinesOfFunctions P P.functions) none found → sorted ≡ ordered found_precedes found → AreSorted P ds sorted
+pub lines_sorted : (P : ProgramTree) (ds : List Document) (none found sorted : List FoundLine) → none ≡ [] → AddsLines ds (LinesOfFunctions told_size P P.functions) none found → sorted ≡ ordered found_precedes found → AreSorted P ds sorted
 lines_sorted P ds none found sorted z h e =
     let f : found ≡ h.more = h.grown ∙ ap (λ ls. ls ++ h.more) z in
     let s : sorted ≡ ordered found_precedes h.more = e ∙ ap (ordered found_precedes) f in

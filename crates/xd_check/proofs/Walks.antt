@@ -10,6 +10,7 @@ use Rattle.xd_syntax.specs.Expression.{Expression, Nothing, Quoted, Variable, Ta
 use Rattle.xd_syntax.specs.Program.{ProgramTree}
 use Rattle.xd_syntax.specs.May.{Scope, May, IsTagged}
 use Rattle.xd_syntax.specs.CheckFaults.{Line, LinesOf}
+use Rattle.xd_check.specs.FoundLines.{told_size}
 use Rattle.xd_laws.specs.KeptLines.{AllPaired}
 use Rattle.xd_laws.proofs.WordLists.{both}
 use Rattle.xd_laws.proofs.BoundVariables.{proper_joined}
@@ -88,16 +89,16 @@ turn_to P S q a (e ∷ (f ∷ fs)) (s ∷ ss) h d p m =
     let k = proper_joined m.0 m.1 (ap is_proper m.2 ∙ p) in
     (m.0, m.1, m.2, (h.0 m.0 k.0).1 m.3, turn_to P S (place_of_expression f) a (f ∷ fs) ss h.1 m.1 k.1 m.4)
 
-lines_joined : (P : ProgramTree) (S : Scope) (q : Place) (es : List Expression) (ls : List Line) → LinesOfParts P S es ls → LinesOf P S (joined q es) ls
+lines_joined : (P : ProgramTree) (S : Scope) (q : Place) (es : List Expression) (ls : List Line) → LinesOfParts P S es ls → LinesOf told_size P S (joined q es) ls
 lines_joined P S q [] ls h = h
-lines_joined P S q (e ∷ []) ls h = subst (LinesOf P S e) (sym (h.4 ∙ ap (λ ms. h.0 ++ ms) h.3 ∙ append-nil h.0)) h.2
+lines_joined P S q (e ∷ []) ls h = subst (LinesOf told_size P S e) (sym (h.4 ∙ ap (λ ms. h.0 ++ ms) h.3 ∙ append-nil h.0)) h.2
 lines_joined P S q (e ∷ (f ∷ fs)) ls h = (h.0, h.1, h.2, lines_joined P S (place_of_expression f) (f ∷ fs) h.1 h.3, h.4)
 
 pub walked_joined : (P : ProgramTree) (S : Scope) (q : Place) (es : List Expression) (a b : Automaton) (ds : List Document) (old new : List FoundLine) (ss : List State) (t : State) →
     ArePartsWalked P S es a ds old new ss → ((d : Document) → (accepts b d t ≡ true) ↔ AcceptedInTurn a ss d) → IsWalked P S (joined q es) b ds old new t
 walked_joined P S q es a b ds old new ss t w h = record {
   may = λ d p. ((λ m. turn_from P S q a es ss w.may d p ((h d).0 m)), (λ m. (h d).1 (turn_to P S q a es ss w.may d p m)));
-  lines = adds_as ds (LinesOfParts P S es) (LinesOf P S (joined q es)) (lines_joined P S q es) old new w.lines;
+  lines = adds_as ds (LinesOfParts P S es) (LinesOf told_size P S (joined q es)) (lines_joined P S q es) old new w.lines;
 }
 
 pub pairs_kept : (P : ProgramTree) (S : Scope) (a b : Automaton) → Grows a b → (es : List Expression) (ss : List State) → AllByRecursion (IsState a) ss → PairsMay P S a es ss → PairsMay P S b es ss

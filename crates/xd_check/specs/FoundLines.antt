@@ -1,7 +1,8 @@
 -- Lines as they are found, with the document in a store.
-use Rattle.std.specs.Prelude.{◌≡◌, Bool, ◌&&◌, ◌||◌, nat_lt, List, ◌++◌, map, Option, Some, None}
+use Rattle.std.specs.Prelude.{◌≡◌, ℕ, ◌^◌, Bool, ◌&&◌, ◌||◌, nat_lt, List, ◌++◌, map, Option, Some, None}
 use Rattle.std.specs.List.{AllByRecursion}
 use Rattle.xd_doc.specs.Document.{Document}
+use Rattle.xd_doc.specs.Least.{size_up_to}
 use Rattle.xd_doc.specs.Stored.{BelongsTo, document_at}
 use Rattle.xd_syntax.specs.CheckFaults.{LineKind, not_exhaustive, wrong_argument, wrong_result, dead_clause, Line, rank}
 use Rattle.xd_syntax.specs.Order.{is_earlier, is_same_place}
@@ -10,6 +11,10 @@ use Rattle.xd_syntax.specs.declared.fault.FaultKind.TheVariants as K
 use Rattle.xd_check.specs.declared.lines.Finding.{Finding}
 use Rattle.xd_check.specs.declared.lines.Finding.TheVariants.{NotExhaustive, Argument, Result, DeadClause}
 use Rattle.xd_check.specs.declared.lines.FoundLine.{FoundLine}
+
+-- sizes of documents are told apart below this limit alone
+abbrev pub told_size : Document → ℕ
+told_size = size_up_to (2 ^ 63)
 
 abbrev pub kind_of : Finding → LineKind
 kind_of (NotExhaustive seq) = not_exhaustive

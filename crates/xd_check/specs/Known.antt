@@ -2,7 +2,7 @@
 use Rattle.std.specs.Prelude.{List}
 use Rattle.xd_doc.specs.Document.{Document}
 use Rattle.xd_auto.specs.Automaton.{Automaton}
-use Rattle.xd_empty.specs.Known.{Knows}
+use Rattle.xd_least.specs.Least.{Knows}
 use Rattle.xd_goals.specs.Standing.{StandsOn}
 use Rattle.xd_check.specs.declared.known.Known.{Known}
 

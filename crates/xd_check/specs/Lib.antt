@@ -1,6 +1,7 @@
 pub mod FoundLines
 pub mod InScope
 pub mod Walked
+pub mod Scrutinees
 pub mod Signed
 pub mod Ready
 pub mod Known

@@ -12,7 +12,7 @@ use Rattle.xd_syntax.specs.CheckFaults.{LinesOfFunction}
 use Rattle.xd_runs.specs.Linear.{IsLinear}
 use Rattle.xd_runs.specs.Clauses.{patterns_in}
 use Rattle.xd_patterns.specs.Compiler.{Serves}
-use Rattle.xd_check.specs.FoundLines.{AddsLines}
+use Rattle.xd_check.specs.FoundLines.{AddsLines, told_size}
 use Rattle.xd_check.specs.declared.lines.FoundLine.{FoundLine}
 use Rattle.xd_check.specs.Signed.{AreSignatures}
 use Rattle.xd_check.specs.declared.checker.Checker.{Checker}
@@ -38,4 +38,4 @@ pub record ClauseCanBeWalked (p : ProgramTable) (c : ℕ × ℕ) : Type 0 where
 
 -- the lines of the function of this number were added
 abbrev pub AddsLinesOfFunction : ProgramTable → ℕ → List Document → List FoundLine → List FoundLine → Type 0
-AddsLinesOfFunction p n ds old new = (f : FunctionRow) → f ≡ get_or p.functions n f → AddsLines ds (LinesOfFunction (program_tree p) (function_definition p f)) old new
+AddsLinesOfFunction p n ds old new = (f : FunctionRow) → f ≡ get_or p.functions n f → AddsLines ds (LinesOfFunction told_size (program_tree p) (function_definition p f)) old new

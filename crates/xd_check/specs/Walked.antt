@@ -12,7 +12,7 @@ use Rattle.xd_syntax.specs.May.{Scope, May, NoneTakes, clause_entry}
 use Rattle.xd_laws.specs.Scopes.{MayClauses}
 use Rattle.xd_syntax.specs.CheckFaults.{Line, Both, LineWhere, LinesOf, LinesOfClauses, IsLiveIn, dead_clause, wrong_argument}
 use Rattle.xd_laws.specs.KeptLines.{AllPaired}
-use Rattle.xd_check.specs.FoundLines.{AddsLines}
+use Rattle.xd_check.specs.FoundLines.{AddsLines, told_size}
 use Rattle.xd_check.specs.InScope.{AcceptedBy}
 use Rattle.xd_check.specs.declared.lines.FoundLine.{FoundLine}
 
@@ -27,7 +27,7 @@ AcceptsJust a s A = (d : Document) → is_proper d ≡ true → (accepts a d s �
 
 pub record IsWalked (P : ProgramTree) (S : Scope) (e : Expression) (a : Automaton) (ds : List Document) (old new : List FoundLine) (s : State) : Type 0 where
   pub may : AcceptsJust a s (May P S e)
-  pub lines : AddsLines ds (LinesOf P S e) old new
+  pub lines : AddsLines ds (LinesOf told_size P S e) old new
 
 -- a document that the first state accepts, then one that the next accepts, and so on
 abbrev pub AcceptedInTurn : Automaton → List State → Document → Type 0
@@ -42,7 +42,7 @@ AcceptedBySome a (s ∷ ss) d = (accepts a d s ≡ true) ⊎ AcceptedBySome a ss
 -- the lines of expressions, one after the other
 abbrev pub LinesOfParts : ProgramTree → Scope → List Expression → List Line → Type 0
 LinesOfParts P S [] ls = ls ≡ []
-LinesOfParts P S (e ∷ es) ls = Both (LinesOf P S e) (LinesOfParts P S es) ls
+LinesOfParts P S (e ∷ es) ls = Both (LinesOf told_size P S e) (LinesOfParts P S es) ls
 
 -- the same of expressions one after the other, with a state for each
 pub record ArePartsWalked (P : ProgramTree) (S : Scope) (es : List Expression) (a : Automaton) (ds : List Document) (old new : List FoundLine) (ss : List State) : Type 0 where
@@ -56,7 +56,7 @@ ComesBehind P S e earlier C = (d : Document) → is_proper d ≡ true → C d �
 -- the lines of a clause, its body's where it is live, else its warning
 abbrev pub LinesOfClause : ProgramTree → Scope → Expression → List PlacedTree → PlacedTree → Expression → List Line → Type 0
 LinesOfClause P S e earlier Q f ms =
-    (IsLiveIn P S e earlier Q × LinesOf P (clause_entry e earlier Q ∷ S) f ms)
+    (IsLiveIn P S e earlier Q × LinesOf told_size P (clause_entry e earlier Q ∷ S) f ms)
     ⊎ ((IsLiveIn P S e earlier Q → ⊥) × (ms ≡ record { place = place_of Q; kind = dead_clause; document = None } ∷ []))
 
 -- The same of a clause of a match: there is a state where the clause is live.
@@ -68,7 +68,7 @@ pub record IsClauseWalked (P : ProgramTree) (S : Scope) (e : Expression) (earlie
 -- the same of all clauses of a match at a place
 pub record AreClausesWalked (P : ProgramTree) (S : Scope) (p : Place) (e : Expression) (cs : Clauses) (a : Automaton) (ds : List Document) (old new : List FoundLine) (s : State) : Type 0 where
   pub may : AcceptsJust a s (MayClauses P S e [] cs)
-  pub lines : AddsLines ds (LinesOfClauses P S p e [] cs) old new
+  pub lines : AddsLines ds (LinesOfClauses told_size P S p e [] cs) old new
 
 -- the first state accepts the document, and the second doesn't
 abbrev pub IsMisfit : Automaton → State → State → Document → Type 0
@@ -77,7 +77,7 @@ IsMisfit a s t d = (accepts a d s ≡ true) × (accepts a d t ≡ true → ⊥)
 -- the line of an argument at a place, where its parameter has a state and it may be a misfit
 abbrev pub LinesOfArgument : Automaton → Place → State → Option State → List Line → Type 0
 LinesOfArgument a p s None ls = ls ≡ []
-LinesOfArgument a p s (Some t) ls = LineWhere p wrong_argument (IsMisfit a s t) ls
+LinesOfArgument a p s (Some t) ls = LineWhere told_size p wrong_argument (IsMisfit a s t) ls
 
 -- the states with the one that was found, if there is one
 abbrev pub with_found : List State → Option State → List State

@@ -9,7 +9,7 @@ ghost use Rattle.xd_syntax.specs.Patterns.{IsPattern};
 ghost use Rattle.xd_syntax.specs.Exprs.{IsExpr};
 ghost use Rattle.xd_syntax.specs.Expression.{place_of_expression};
 ghost use Rattle.xd_syntax.specs.CheckFaults.{LineWhere, LinesOfFunction, LinesOfFunctions, wrong_result};
-ghost use Rattle.xd_check.specs.FoundLines.{AddsLines};
+ghost use Rattle.xd_check.specs.FoundLines.{AddsLines, told_size};
 ghost use Rattle.xd_check.specs.InScope.{parameters_in_scope};
 ghost use Rattle.xd_check.specs.Known.{IsKnown};
 
@@ -92,7 +92,7 @@ impl Checker {
     ) -> Result<(), NoMemory>
         requires ready { IsReady self.now auto.old }
         requires known { IsKnown auto.old store.old known.old }
-        ensures lines { OnOk result (AddsLines store.new (LinesOfFunctions (program_tree self.now.sound) (program_tree self.now.sound).functions) lines.old.items lines.new.items) }
+        ensures lines { OnOk result (AddsLines store.new (LinesOfFunctions told_size (program_tree self.now.sound) (program_tree self.now.sound).functions) lines.old.items lines.new.items) }
         ensures keeps { Keeps store.old store.new }
     {
         let functions = self.sound.program().functions();
@@ -140,7 +140,7 @@ impl Checker {
         requires body { CanBeWalked self.now.sound function.now.body.at }
         requires signature { IsSignatureOfRow self.now.sound auto.old function.now signature.now }
         requires known { IsKnown auto.old store.old known.old }
-        ensures lines { OnOk result (AddsLines store.new (LinesOfFunction (program_tree self.now.sound) (function_definition self.now.sound function.now)) lines.old.items lines.new.items) }
+        ensures lines { OnOk result (AddsLines store.new (LinesOfFunction told_size (program_tree self.now.sound) (function_definition self.now.sound function.now)) lines.old.items lines.new.items) }
         ensures grows { OnOk result (Grows auto.old auto.new) }
         ensures known { OnOk result (IsKnown auto.new store.new known.new) }
         ensures keeps { Keeps store.old store.new }
@@ -167,7 +167,7 @@ impl Checker {
         requires state { IsState auto.now state }
         requires wanted { IsState auto.now wanted }
         requires known { IsKnown auto.now store.old known.old }
-        ensures lines { OnOk result (AddsLines store.new (LineWhere (place_of_expression (expr_at self.now.sound body.at)) wrong_result (IsMisfit auto.now state wanted)) lines.old.items lines.new.items) }
+        ensures lines { OnOk result (AddsLines store.new (LineWhere told_size (place_of_expression (expr_at self.now.sound body.at)) wrong_result (IsMisfit auto.now state wanted)) lines.old.items lines.new.items) }
         ensures known { OnOk result (IsKnown auto.now store.new known.new) }
         ensures keeps { Keeps store.old store.new }
     {
@@ -182,7 +182,11 @@ impl Checker {
 }
 
 /// The parameters of a function in scope, the first one as the newest.
-fn parameters(alloc: Global, params: &[Param], states: &[State]) -> Result<Variables, NoMemory>
+pub(crate) fn parameters(
+    alloc: Global,
+    params: &[Param],
+    states: &[State],
+) -> Result<Variables, NoMemory>
     requires { length params.now ≡ length states.now }
     ensures { IfOk result (λ variables. variables ≡ parameters_in_scope params.now states.now) }
 {

@@ -9,7 +9,7 @@ ghost use Rattle.xd_syntax.specs.Placed.{PlacedTree, unplaced};
 ghost use Rattle.xd_syntax.specs.Tree.{Definitions};
 ghost use Rattle.xd_syntax.specs.Ways.{Takes};
 ghost use Rattle.xd_clauses.specs.Clauses.{Accepted, IsPatternOf};
-ghost use Rattle.xd_check.specs.FoundLines.{AddsLines};
+ghost use Rattle.xd_check.specs.FoundLines.{AddsLines, told_size};
 ghost use Rattle.xd_check.specs.InScope.{given_variables};
 ghost use Rattle.xd_check.specs.Known.{IsKnown};
 ghost use Rattle.xd_check.specs.Walked.{Grows, with_found};
@@ -77,7 +77,7 @@ pub(crate) fn see_uncovered(
 ) -> Result<(), NoMemory>
     requires arriving { IsState auto.now arriving }
     requires known { IsKnown auto.now store.old known.old }
-    ensures lines { OnOk result (AddsLines store.new (LineWhere place not_exhaustive (Accepted auto.now arriving)) lines.old.items lines.new.items) }
+    ensures lines { OnOk result (AddsLines store.new (LineWhere told_size place not_exhaustive (Accepted auto.now arriving)) lines.old.items lines.new.items) }
     ensures known { OnOk result (IsKnown auto.now store.new known.new) }
     ensures keeps { Keeps store.old store.new }
 {

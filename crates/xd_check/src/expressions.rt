@@ -17,7 +17,7 @@ ghost use Rattle.xd_syntax.specs.CheckFaults.{LinesOfArguments, parameters_of};
 ghost use Rattle.xd_syntax.specs.Expression.{Expression, arguments_of, clauses_of, place_of_expression};
 ghost use Rattle.xd_syntax.specs.Exprs.{IsExpr, clause_numbers, expr_numbers};
 ghost use Rattle.xd_clauses.specs.Clauses.{Accepted, IsPatternOf};
-ghost use Rattle.xd_check.specs.FoundLines.{AddsLines};
+ghost use Rattle.xd_check.specs.FoundLines.{AddsLines, told_size};
 ghost use Rattle.xd_check.specs.InScope.{AreStates, ScopeStands};
 ghost use Rattle.xd_check.specs.Known.{IsKnown};
 ghost use Rattle.xd_check.specs.Signed.{AreParameters};
@@ -132,7 +132,7 @@ impl Checker {
         requires known { IsKnown auto.old store.old known.old }
         ensures belongs { IfOk result (IsState auto.new) }
         ensures result { IfOk result (λ state. (d : Document) → (accepts auto.new d state ≡ true) ↔ FitsResult (names_of (program_tree self.now.sound)) (function_of (program_tree self.now.sound).functions word.now) d) }
-        ensures lines { OnOk result ((S : Scope) → ScopeStands (program_tree self.now.sound) S auto.old variables.old → AddsLines store.new (LinesOfArguments (program_tree self.now.sound) S (parameters_of (function_of (program_tree self.now.sound).functions word.now)) (arguments_of (map (expr_at self.now.sound) (expr_numbers arguments.now)))) lines.old.items lines.new.items) }
+        ensures lines { OnOk result ((S : Scope) → ScopeStands (program_tree self.now.sound) S auto.old variables.old → AddsLines store.new (LinesOfArguments told_size (program_tree self.now.sound) S (parameters_of (function_of (program_tree self.now.sound).functions word.now)) (arguments_of (map (expr_at self.now.sound) (expr_numbers arguments.now)))) lines.old.items lines.new.items) }
         ensures variables { OnOk result (variables.new ≡ variables.old) }
         ensures grows { OnOk result (Grows auto.old auto.new) }
         ensures known { OnOk result (IsKnown auto.new store.new known.new) }
@@ -168,7 +168,7 @@ impl Checker {
         requires parameters { AllByRecursion (IsState auto.old) parameters.now }
         requires variables { AreStates auto.old variables.old }
         requires known { IsKnown auto.old store.old known.old }
-        ensures lines { OnOk result ((S : Scope) (qs : List Parameter) → ScopeStands (program_tree self.now.sound) S auto.old variables.old → AreParameters (names_of (program_tree self.now.sound)) auto.old qs parameters.now → AddsLines store.new (LinesOfArguments (program_tree self.now.sound) S qs (arguments_of (map (expr_at self.now.sound) (expr_numbers arguments.now)))) lines.old.items lines.new.items) }
+        ensures lines { OnOk result ((S : Scope) (qs : List Parameter) → ScopeStands (program_tree self.now.sound) S auto.old variables.old → AreParameters (names_of (program_tree self.now.sound)) auto.old qs parameters.now → AddsLines store.new (LinesOfArguments told_size (program_tree self.now.sound) S qs (arguments_of (map (expr_at self.now.sound) (expr_numbers arguments.now)))) lines.old.items lines.new.items) }
         ensures variables { OnOk result (variables.new ≡ variables.old) }
         ensures grows { OnOk result (Grows auto.old auto.new) }
         ensures known { OnOk result (IsKnown auto.new store.new known.new) }

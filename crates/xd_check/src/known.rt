@@ -5,14 +5,14 @@ ghost use Rattle.xd_check.specs.Known.{IsKnown};
 use std::alloc::Global;
 use xd_auto::Auto;
 use xd_doc::Store;
-use xd_empty::Inhabitants;
 use xd_goals::{Table, new_tables_stand};
+use xd_least::LeastInhabitants;
 
-/// What is known of the states: documents that they accept, and which of them accept no more than others. The automaton only grows,
-/// so what is known stays known.
+/// What is known of the states: least documents that they accept, and which of them accept no more than others. The automaton only
+/// grows, so what is known stays known.
 #[derive(Drop)]
 pub(crate) struct Known {
-    pub inhabitants: Inhabitants,
+    pub inhabitants: LeastInhabitants,
     pub table: Table,
 }
 
@@ -24,7 +24,7 @@ impl Known {
         let table = Table::new(alloc);
         new_tables_stand(auto, store);
         Self {
-            inhabitants: Inhabitants::new(alloc),
+            inhabitants: LeastInhabitants::new(alloc),
             table,
         }
     }

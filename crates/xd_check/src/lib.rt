@@ -6,9 +6,11 @@ mod clauses;
 mod expressions;
 mod known;
 mod lines;
+mod matches;
 mod outcome;
 mod signatures;
 mod states;
 mod variables;
 
+pub use matches::{Scrutinee, scrutinees};
 pub use outcome::{CheckOutcome, check};

@@ -1,20 +1,22 @@
 //! States for what expressions may be.
 
-ghost use Rattle.std.specs.Prelude.{◌≡◌, ◌↔◌, ℕ, List, nat_eq, None, Ok, true, IfOk, OnOk};
+ghost use Rattle.std.specs.Prelude.{◌≡◌, ◌↔◌, ◌^◌, ℕ, List, nat_eq, None, Ok, true, IfOk, OnOk};
 ghost use Rattle.std.specs.Cmp.Lexicographic.{pointwise};
 ghost use Rattle.std.specs.List.{AllByRecursion};
 ghost use Rattle.std.specs.Option.{IfSome};
 ghost use Rattle.xd_doc.specs.Classes.{class_has};
 ghost use Rattle.xd_doc.specs.Document.{Document, empty, text};
+ghost use Rattle.xd_doc.specs.Least.{IsLeastUpTo};
 ghost use Rattle.xd_doc.specs.Stored.{BelongsTo, Keeps, document_at};
 ghost use Rattle.xd_auto.specs.Automaton.{IsState, accepts};
-ghost use Rattle.xd_check.specs.Walked.{AcceptedBySome, AcceptedInTurn, Grows};
+ghost use Rattle.xd_check.specs.Walked.{AcceptedBySome, AcceptedInTurn, Grows, IsMisfit};
 ghost use Rattle.xd_check.specs.InScope.{AcceptedBy, AreStates, state_of};
 ghost use Rattle.xd_check.specs.Known.{IsKnown};
 
 use crate::known::Known;
 use crate::variables::Variables;
 use std::alloc::Global;
+use xd_apart::least_apart;
 use xd_auto::{Auto, State};
 use xd_doc::{Label, NoMemory, Seq, Store, Text, Words};
 use xd_goals::{Verdict, decide};
@@ -92,7 +94,9 @@ pub(crate) fn unite_states(states: Vec<State>, auto: &mut Auto) -> Result<State,
     Ok(auto.unite(&states)?)
 }
 
-/// A document that the first state accepts and the second doesn't, where there is one.
+/// A document that the first state accepts and the second doesn't, a least one, where there is one.
+///
+/// Where each such document has 2^63 items or more, it is one of these.
 pub(crate) fn misfit(
     alloc: Global,
     auto: &Auto,
@@ -104,8 +108,7 @@ pub(crate) fn misfit(
     requires state { IsState auto.now state }
     requires wanted { IsState auto.now wanted }
     requires known { IsKnown auto.now store.old known.old }
-    ensures accepted { IfOk result (λ found. IfSome found (λ seq. accepts auto.now (document_at store.new seq) state ≡ true)) }
-    ensures refused { IfOk result (λ found. IfSome found (λ seq. accepts auto.now (document_at store.new seq) wanted ≡ true → ⊥)) }
+    ensures least { IfOk result (λ found. IfSome found (λ seq. IsLeastUpTo (2 ^ 63) (IsMisfit auto.now state wanted) (document_at store.new seq))) }
     ensures belongs { IfOk result (λ found. IfSome found (BelongsTo store.new)) }
     ensures none { result ≡ Ok None → (d : Document) → accepts auto.now d state ≡ true → accepts auto.now d wanted ≡ true }
     ensures known { IsKnown auto.now store.new known.new }
@@ -113,6 +116,9 @@ pub(crate) fn misfit(
 {
     match decide(alloc, auto, &mut known.table, state, &[wanted], store)? {
         Verdict::Included(_) => Ok(None),
-        Verdict::Separated(document) => Ok(Some(document)),
+        Verdict::Separated(found) => {
+            let document = least_apart(alloc, auto, state, wanted, found, store)?;
+            Ok(Some(document))
+        }
     }
 }

@@ -6,4 +6,4 @@ pub mod Turning
 pub mod Owning
 pub mod Coming
 pub mod Passing
-pub mod Apart
+pub mod Givens

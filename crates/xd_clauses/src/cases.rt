@@ -1,11 +1,12 @@
 //! What a state accepts, at the clauses of a match.
 
-ghost use Rattle.std.specs.Prelude.{◌≡◌, ◌↔◌, List, true, false, [], Ok, None, IfOk, IfSome, map};
+ghost use Rattle.std.specs.Prelude.{◌≡◌, ◌↔◌, ◌^◌, List, true, false, [], Ok, None, IfOk, IfSome, map};
 ghost use Rattle.std.specs.List.{All, AllByRecursion};
 ghost use Rattle.xd_doc.specs.Document.{Document};
+ghost use Rattle.xd_doc.specs.Least.{IsLeastUpTo};
 ghost use Rattle.xd_doc.specs.Stored.{BelongsTo, Keeps, document_at};
 ghost use Rattle.xd_auto.specs.Automaton.{Automaton, IsState};
-ghost use Rattle.xd_empty.specs.Known.{Knows};
+ghost use Rattle.xd_least.specs.Least.{Knows};
 ghost use Rattle.xd_syntax.specs.Kept.{AddsTypes, program_tree};
 ghost use Rattle.xd_syntax.specs.May.{IsLive, NoneTakes};
 ghost use Rattle.xd_syntax.specs.Placed.{PlacedTree, unplaced};
@@ -22,22 +23,25 @@ use std::alloc::Global;
 use xd_auto::{Auto, State};
 use xd_bind::{Binding, Given};
 use xd_doc::{Label, NoMemory, Seq, Store};
-use xd_empty::Inhabitants;
+use xd_least::LeastInhabitants;
 use xd_patterns::PatternCompiler;
 use xd_sound::SoundProgram;
 use xd_syntax::PatternId;
 
-/// A document that the state accepts, where there is one. What is found of other states on the way is known from then on.
+/// A document that the state accepts, a least one, where there is one. What is found of other states on the way is known from then
+/// on.
+///
+/// Where each document that the state accepts has 2^63 items or more, it is one of these.
 pub fn accepted_document(
     alloc: Global,
     auto: &Auto,
     state: State,
-    known: &mut Inhabitants,
+    known: &mut LeastInhabitants,
     store: &mut Store,
 ) -> Result<Option<Seq>, NoMemory>
     requires state { IsState auto.now state }
     requires known { Knows auto.now store.old known.old }
-    ensures accepted { IfOk result (λ found. IfSome found (λ seq. Accepted auto.now state (document_at store.new seq))) }
+    ensures least { IfOk result (λ found. IfSome found (λ seq. IsLeastUpTo (2 ^ 63) (Accepted auto.now state) (document_at store.new seq))) }
     ensures none { result ≡ Ok None → (d : Document) → Accepted auto.now state d → ⊥ }
     ensures belongs { IfOk result (λ found. IfSome found (BelongsTo store.new)) }
     ensures known { Knows auto.now store.new known.new }
@@ -45,7 +49,10 @@ pub fn accepted_document(
 {
     let _states = auto.len();
     known.learn(alloc, auto, store)?;
-    Ok(known.document(state))
+    match known.document(state) {
+        Some(least) => Ok(Some(least.seq)),
+        None => Ok(None),
+    }
 }
 
 /// Adds a state that accepts what the state accepts and none of the patterns takes.
@@ -93,7 +100,7 @@ fn left_behind(
 }
 
 /// For each variable a state that accepts nothing.
-fn given_nothing(
+pub fn given_nothing(
     alloc: Global,
     variables: &[Label],
     auto: &mut Auto,
@@ -121,7 +128,7 @@ fn givens_of(
     requires { IsState auto.old arriving }
     ensures { IfOk result (λ givens. (E : Definitions) (P : PlacedTree) → IsPatternOf E (unplaced P) clause.now → AreMayGivens E (Accepted auto.old arriving) [] P auto.new givens.items) }
 {
-    let mut known = Inhabitants::new(alloc);
+    let mut known = LeastInhabitants::new(alloc);
     let mut store = Store::new(alloc);
     match clause.bindings(alloc, auto, arriving, &mut known, &mut store)? {
         Some(givens) => Ok(givens),
@@ -133,7 +140,7 @@ fn givens_of(
 }
 
 /// The same states, each in an automaton of its own.
-fn apart(alloc: Global, auto: &Auto, givens: &[Given]) -> Result<Vec<Binding>, NoMemory>
+pub fn apart(alloc: Global, auto: &Auto, givens: &[Given]) -> Result<Vec<Binding>, NoMemory>
     requires { AllByRecursion (λ g. IsState auto.now g.state) givens.now }
     ensures { IfOk result (λ bindings. AllPaired (IsApart auto.now) givens.now bindings.items) }
 {
@@ -152,10 +159,10 @@ fn apart(alloc: Global, auto: &Auto, givens: &[Given]) -> Result<Vec<Binding>, N
 
 /// What comes to a clause: a state of an automaton of its own for the documents that no earlier pattern takes, and the clause's pattern.
 #[derive(Drop)]
-struct Arrival {
-    auto: Auto,
-    state: State,
-    clause: ClausePattern,
+pub struct Arrival {
+    pub auto: Auto,
+    pub state: State,
+    pub clause: ClausePattern,
 }
 
 impl Arrival {
@@ -176,7 +183,7 @@ impl Arrival {
         ensures live { (E : Definitions) (b : Automaton) (s : State) (Ps : List PlacedTree) (P : PlacedTree) → IsPatternOf E (unplaced P) self.old.clause → ((d : Document) → Accepted self.old.auto self.old.state d ↔ (Accepted b s d × NoneTakes E Ps d)) → result ≡ Ok true → IsLive E (Accepted b s) Ps P }
         ensures dead { (E : Definitions) (b : Automaton) (s : State) (Ps : List PlacedTree) (P : PlacedTree) → IsPatternOf E (unplaced P) self.old.clause → ((d : Document) → Accepted self.old.auto self.old.state d ↔ (Accepted b s d × NoneTakes E Ps d)) → result ≡ Ok false → IsLive E (Accepted b s) Ps P → ⊥ }
     {
-        let mut known = Inhabitants::new(alloc);
+        let mut known = LeastInhabitants::new(alloc);
         let mut store = Store::new(alloc);
         let clause = &self.clause;
         let found = clause.bindings(alloc, &mut self.auto, self.state, &mut known, &mut store)?;
@@ -185,7 +192,7 @@ impl Arrival {
 }
 
 /// What the state accepts, at a clause with this pattern behind the earlier ones.
-fn arriving(
+pub fn arriving(
     alloc: Global,
     sound: &mut SoundProgram,
     auto: &Auto,
@@ -235,7 +242,9 @@ pub fn case_types(
     arrival.bindings(alloc)
 }
 
-/// A document that the state accepts and no pattern takes, where there is one.
+/// A document that the state accepts and no pattern takes, a least one, where there is one.
+///
+/// Where each such document has 2^63 items or more, it is one of these.
 pub fn uncovered(
     alloc: Global,
     sound: &mut SoundProgram,
@@ -246,8 +255,7 @@ pub fn uncovered(
 ) -> Result<Option<Seq>, NoMemory>
     requires state { IsState auto.now state }
     requires patterns { All (IsLinearPattern sound.old.patterns) patterns.now }
-    ensures accepted { IfOk result (λ found. IfSome found (λ seq. Accepted auto.now state (document_at store.new seq))) }
-    ensures not_taken { IfOk result (λ found. IfSome found (λ seq. NoneTakes (names_of (program_tree sound.old)) (placed_patterns sound.old.patterns patterns.now) (document_at store.new seq))) }
+    ensures least { IfOk result (λ found. IfSome found (λ seq. IsLeastUpTo (2 ^ 63) (λ d. Accepted auto.now state d × NoneTakes (names_of (program_tree sound.old)) (placed_patterns sound.old.patterns patterns.now) d) (document_at store.new seq))) }
     ensures none { result ≡ Ok None → (d : Document) → Accepted auto.now state d → NoneTakes (names_of (program_tree sound.old)) (placed_patterns sound.old.patterns patterns.now) d → ⊥ }
     ensures belongs { IfOk result (λ found. IfSome found (BelongsTo store.new)) }
     ensures keeps { Keeps store.old store.new }
@@ -257,7 +265,7 @@ pub fn uncovered(
 {
     let compiler = PatternCompiler::new(alloc, sound)?;
     let (own, left) = left_behind(alloc, &compiler, sound, patterns, auto, state)?;
-    let mut known = Inhabitants::new(alloc);
+    let mut known = LeastInhabitants::new(alloc);
     let found = accepted_document(alloc, &own, left, &mut known, store)?;
     Ok(found)
 }

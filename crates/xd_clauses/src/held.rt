@@ -5,7 +5,7 @@ use xd_bind::{Holds, MoveKind};
 use xd_patterns::Marked;
 
 /// The marks of a pattern, as those that tell what its variables may be look at them. Those of the universal state don't count.
-pub(crate) struct Held<'a> {
+pub struct Held<'a> {
     pub marked: &'a Marked,
     pub all: State,
 }

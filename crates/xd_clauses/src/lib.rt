@@ -7,6 +7,9 @@ mod laws;
 mod pattern;
 mod whole;
 
-pub use cases::{accepted_document, case_types, live, uncovered};
+pub use cases::{
+    Arrival, accepted_document, apart, arriving, case_types, given_nothing, live, uncovered,
+};
+pub use held::Held;
 pub use laws::patterns_tell_variables;
 pub use pattern::ClausePattern;

@@ -9,7 +9,7 @@ use xd_auto::{Auto, State};
 use xd_bind::{Given, cases};
 use xd_boole::subtract;
 use xd_doc::{NoMemory, Store};
-use xd_empty::Inhabitants;
+use xd_least::LeastInhabitants;
 use xd_patterns::{Marked, PatternCompiler};
 use xd_sound::SoundProgram;
 use xd_syntax::PatternId;
@@ -17,10 +17,10 @@ use xd_syntax::PatternId;
 /// A clause's pattern as an automaton of its own.
 #[derive(Drop)]
 pub struct ClausePattern {
-    pub(crate) auto: Auto,
+    pub auto: Auto,
     /// The state that contents lead to that the pattern takes whole.
-    pub(crate) all: State,
-    pub(crate) marked: Marked,
+    pub all: State,
+    pub marked: Marked,
     ghost of_pattern: { ∥ IsOfSomePattern auto all marked ∥₁ },
 }
 
@@ -29,7 +29,7 @@ impl ClausePattern {
     ghost use Rattle.xd_doc.specs.Document.{Document};
     ghost use Rattle.xd_doc.specs.Stored.{Keeps};
     ghost use Rattle.xd_auto.specs.Automaton.{Extends, IsState, KeepsAccepting};
-    ghost use Rattle.xd_empty.specs.Known.{Knows};
+    ghost use Rattle.xd_least.specs.Least.{Knows};
     ghost use Rattle.xd_syntax.specs.Kept.{program_tree};
     ghost use Rattle.xd_syntax.specs.May.{IsLive};
     ghost use Rattle.xd_syntax.specs.Patterns.{IsPattern, pattern_tree};
@@ -67,7 +67,7 @@ impl ClausePattern {
         alloc: Global,
         auto: &mut Auto,
         arriving: State,
-        known: &mut Inhabitants,
+        known: &mut LeastInhabitants,
         store: &mut Store,
     ) -> Result<Option<Vec<Given>>, NoMemory>
         requires arriving { IsState auto.old arriving }

@@ -1,6 +1,6 @@
 use Rattle.std.proofs.Common.{take}
 use Rattle.xd_doc.proofs.StoredLemmas.{Keeps-same}
-use Rattle.xd_empty.proofs.KnownLemmas.{stays_known}
+use Rattle.xd_least.proofs.KnownLemmas.{stays_known}
 use Rattle.xd_bind.specs.Shifts.{free_by, shifted}
 use Rattle.xd_bind.proofs.BlockLaw.{projection}
 use Rattle.xd_bind.proofs.Assembling.{assembled}

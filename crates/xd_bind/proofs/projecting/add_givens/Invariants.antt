@@ -1,7 +1,7 @@
 use Rattle.std.proofs.Common.{◌≡◌, ◌<◌, ℕ, get_or, length, take}
 use Rattle.xd_auto.specs.Automaton.{Extends}
 use Rattle.xd_doc.specs.Stored.{Keeps}
-use Rattle.xd_empty.specs.Known.{Knows}
+use Rattle.xd_least.specs.Least.{Knows}
 use Rattle.xd_bind.specs.declared.tracks.Given.{Given}
 use Rattle.xd_bind.specs.Projection.{IsGivenOf}
 use Rattle.xd_bind.proofs.projecting.add_givens.Given as goal

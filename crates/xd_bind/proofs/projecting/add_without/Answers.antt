@@ -1,6 +1,6 @@
 use Rattle.std.proofs.Common.{◌+◌, ◌-◌, refl, arith}
 use Rattle.xd_doc.proofs.StoredLemmas.{Keeps-same}
-use Rattle.xd_empty.proofs.KnownLemmas.{stays_known}
+use Rattle.xd_least.proofs.KnownLemmas.{stays_known}
 use Rattle.xd_bind.specs.declared.shift.Shift.{Shift}
 use Rattle.xd_bind.proofs.Assembling.{aside_of}
 use Rattle.xd_bind.proofs.Shifting.{layer_lands}

@@ -1,6 +1,6 @@
 use Rattle.std.proofs.Common.{sym, subst, take}
 use Rattle.xd_doc.proofs.StoredLemmas.{Keeps-same}
-use Rattle.xd_empty.proofs.KnownLemmas.{stays_known}
+use Rattle.xd_least.proofs.KnownLemmas.{stays_known}
 use Rattle.xd_bind.proofs.CaseLaw.{pairs_cases, pairs_layer, pairs_own_none, pairs_share, pairs_together}
 use Rattle.xd_traces.specs.Traces.{KeepsTogether}
 use Rattle.xd_traces.specs.Pairing.{carried}
@@ -48,4 +48,4 @@ returns-clause-cases g c =
 pub returns-clause-shared : goal.returns-clause-shared
 returns-clause-shared g c =
     pairs_share c.args.pattern.now c.args.auto.now c.pair_up.new.two c.args.start c.args.state c.args.all c.in_ok-pairs.pairs c.in_ok-pairs.ensures.pairs c.learn.new.store c.in-Some._document
-    c.in_ok-pairs.ensures.accepted (c.in_ok-learn.ensures.knows.witnesses c.in_ok-pairs.pairs.start c.in-Some._document (sym c.in-Some.ensures))
+    c.in_ok-pairs.ensures.accepted (c.in_ok-learn.ensures.knows.least c.in_ok-pairs.pairs.start c.in-Some._document (sym c.in-Some.ensures))

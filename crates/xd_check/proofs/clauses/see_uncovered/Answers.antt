@@ -4,7 +4,8 @@ use Rattle.xd_doc.specs.Stored.{BelongsTo, document_at}
 use Rattle.xd_doc.specs.Document.{Document}
 use Rattle.xd_check.proofs.Lists.{if_some}
 use Rattle.std.proofs.lemmas.Result.{IfOk-from_err}
-use Rattle.std.proofs.Common.{Ok, ap, refl, List}
+use Rattle.std.proofs.Common.{◌^◌, Ok, ap, refl, List}
+use Rattle.xd_doc.specs.Least.{IsLeastUpTo}
 use Rattle.xd_syntax.specs.CheckFaults.{not_exhaustive}
 use Rattle.xd_clauses.specs.Clauses.{Accepted}
 use Rattle.xd_check.proofs.Keeping.{grows_none}
@@ -20,7 +21,7 @@ returns-in_ok-push c =
           let seq : Seq = c.in-Some.document in
           let f = c.in_ok-found.ensures in
           let there : BelongsTo ds seq = if_some (BelongsTo ds) c.in_ok-found.found seq c.in-Some.is f.belongs in
-          let taken = if_some (λ q. Accepted c.args.auto.now c.args.arriving (document_at ds q)) c.in_ok-found.found seq c.in-Some.is f.accepted in
+          let taken = if_some (λ q. IsLeastUpTo (2 ^ 63) (Accepted c.args.auto.now c.args.arriving) (document_at ds q)) c.in_ok-found.found seq c.in-Some.is f.least in
           adds_where ds c.args.place (Accepted c.args.auto.now c.args.arriving) c.args.lines.now.items c.push.new.self.items (NotExhaustive seq) seq c.in_ok-push.ensures.items there refl there taken;
       known =
           let e = c.in_ok-found.ensures in

@@ -1,11 +1,18 @@
-use Rattle.xd_auto.specs.Automaton.{accepts}
+use Rattle.xd_doc.specs.Document.{Document}
+use Rattle.xd_doc.specs.Least.{IsLeastUpTo}
+use Rattle.xd_doc.specs.Stored.{document_at}
+use Rattle.xd_auto.specs.Automaton.{Automaton, accepts}
 use Rattle.xd_auto.specs.declared.auto.State.{State}
 use Rattle.std.specs.Result.{IsErr}
 use Rattle.xd_rules.specs.Members.{SomeOf}
 use Rattle.xd_goals.specs.Verdicts.{IsVerdict}
-use Rattle.std.proofs.Common.{[], ◌∷◌, inl, inr, refl, subst, ◌≡◌, Ok, Err, Some, None, Option, Result, true, sym}
+use Rattle.std.proofs.Common.{[], ◌∷◌, inl, inr, refl, subst, ◌≡◌, ◌^◌, ◌∙◌, Bool, Ok, Err, Some, None, Option, Result, true, false, sym}
 use Rattle.std.proofs.lemmas.Result.{IfOk-from_err}
-use Rattle.xd_check.proofs.Knowing.{known_decided}
+use Rattle.xd_apart.specs.Apart.{IsApart}
+use Rattle.xd_apart.proofs.ApartLemmas.{up_to_equal}
+use Rattle.xd_check.specs.Walked.{IsMisfit}
+use Rattle.xd_check.proofs.Keeping.{grows_none, keeps_then}
+use Rattle.xd_check.proofs.Knowing.{known_decided, known_kept}
 use Rattle.xd_check.proofs.states.misfit.Goals as goal
 
 not_err : {A E : Type 0} (r : Result A E) (x : A) → IsErr r → r ≡ Ok x → ⊥
@@ -18,13 +25,16 @@ not_some r x p q = absurd (cc)
 one_only : (P : State → Type 0) (s : State) → SomeOf P (s ∷ []) → P s
 one_only P s m = elim m.1 [ inl y ↦ subst P (sym y) m.2 | inr y ↦ absurd y ]
 
+false_if : (b : Bool) → (b ≡ true → ⊥) → b ≡ false
+false_if true n = absurd (n refl)
+false_if false n = refl
+
 pub returns-in_err-decide : goal.returns-in_err-decide
 returns-in_err-decide c =
     let e = c.from_residual.ensures.0 in
     let r = c.from_residual.result in
     record {
-      accepted = IfOk-from_err r _ e;
-      refused = IfOk-from_err r _ e;
+      least = IfOk-from_err r _ e;
       belongs = IfOk-from_err r _ e;
       none = λ q d h. absurd (not_err r _ e q);
       known = known_decided c.args.auto.now c.args.store.now c.decide.new.store c.args.known.now c.decide.new.table c.decide.ensures.keeps c.requires.known c.decide.ensures.stands;
@@ -35,24 +45,60 @@ pub returns-in-Included : goal.returns-in-Included
 returns-in-Included c =
     let v = subst (IsVerdict c.args.auto.now c.decide.new.store c.decide.new.table c.args.state (c.args.wanted ∷ [])) c.in-Included.is c.in_ok-decide.ensures.verdict in
     record {
-      accepted = tt;
-      refused = tt;
+      least = tt;
       belongs = tt;
       none = λ q d h. one_only (λ s. accepts c.args.auto.now d s ≡ true) c.args.wanted (v.0 d h);
       known = known_decided c.args.auto.now c.args.store.now c.decide.new.store c.args.known.now c.decide.new.table c.decide.ensures.keeps c.requires.known c.decide.ensures.stands;
       keeps = c.decide.ensures.keeps;
     }
 
-pub returns-in-Separated : goal.returns-in-Separated
-returns-in-Separated c =
+-- what separates the states, as the checker says it
+misfit_least : (a : Automaton) (s t : State) (d : Document) → IsLeastUpTo (2 ^ 63) (IsApart a s t) d → IsLeastUpTo (2 ^ 63) (IsMisfit a s t) d
+misfit_least a s t d h = up_to_equal (2 ^ 63) (IsApart a s t) (IsMisfit a s t) d (λ e k. (k.accepted, λ y. not_both (accepts a e t) y k.refused)) (λ e m. record { accepted = m.0; refused = false_if (accepts a e t) m.1 }) h
+  where
+    not_both : (b : Bool) → b ≡ true → b ≡ false → ⊥
+    not_both b x y = (let no : true ≡ false = sym x ∙ y in cc)
+
+pub least_apart-requires : goal.least_apart-requires
+least_apart-requires c =
     let v = subst (IsVerdict c.args.auto.now c.decide.new.store c.decide.new.table c.args.state (c.args.wanted ∷ [])) c.in-Separated.is c.in_ok-decide.ensures.verdict in
     record {
-      accepted = v.separates.accepted;
-      refused = v.separates.refused c.args.wanted (inl refl);
+      left = c.requires.state;
+      right = c.requires.wanted;
       belongs = v.belongs;
+      apart = record {
+        accepted = v.separates.accepted;
+        refused = false_if (accepts c.args.auto.now (document_at c.decide.new.store c.in-Separated.found) c.args.wanted) (v.separates.refused c.args.wanted (inl refl));
+      };
+    }
+
+pub returns-in_ok-document-in-Separated : goal.returns-in_ok-document-in-Separated
+returns-in_ok-document-in-Separated c =
+    let a : Automaton = c.args.auto.now in
+    let k = c.in_ok-document-in-Separated.ensures in
+    record {
+      least = misfit_least a c.args.state c.args.wanted (document_at c.least_apart.new.store c.in_ok-document-in-Separated.document) k.least;
+      belongs = k.belongs;
       none = λ q d h. absurd (not_some _ _ refl q);
-      known = known_decided c.args.auto.now c.args.store.now c.decide.new.store c.args.known.now c.decide.new.table c.decide.ensures.keeps c.requires.known c.decide.ensures.stands;
-      keeps = c.decide.ensures.keeps;
+      known =
+          known_kept a a c.decide.new.store c.least_apart.new.store (record c.args.known.now { table = c.decide.new.table }) (grows_none a) k.keeps
+          (known_decided a c.args.store.now c.decide.new.store c.args.known.now c.decide.new.table c.decide.ensures.keeps c.requires.known c.decide.ensures.stands);
+      keeps = keeps_then c.args.store.now c.decide.new.store c.least_apart.new.store c.decide.ensures.keeps k.keeps;
+    }
+
+pub returns-in_err-document-in-Separated : goal.returns-in_err-document-in-Separated
+returns-in_err-document-in-Separated c =
+    let a : Automaton = c.args.auto.now in
+    let e = c.from_residual-in_err-document-in-Separated.ensures.0 in
+    let r = c.from_residual-in_err-document-in-Separated.result in
+    record {
+      least = IfOk-from_err r _ e;
+      belongs = IfOk-from_err r _ e;
+      none = λ q d h. absurd (not_err r _ e q);
+      known =
+          known_kept a a c.decide.new.store c.least_apart.new.store (record c.args.known.now { table = c.decide.new.table }) (grows_none a) c.least_apart.ensures.keeps
+          (known_decided a c.args.store.now c.decide.new.store c.args.known.now c.decide.new.table c.decide.ensures.keeps c.requires.known c.decide.ensures.stands);
+      keeps = keeps_then c.args.store.now c.decide.new.store c.least_apart.new.store c.decide.ensures.keeps c.least_apart.ensures.keeps;
     }
 
 pub decide-requires : goal.decide-requires

@@ -2,7 +2,7 @@ use Rattle.std.proofs.Common.{List, ◌+◌, take, sym, subst}
 use Rattle.xd_laws.specs.KeptLines.{AllPaired}
 use Rattle.xd_bind.specs.declared.tracks.Binding.{Binding}
 use Rattle.xd_clauses.specs.Cases.{IsApart}
-use Rattle.xd_clauses.proofs.Apart.{apart_more}
+use Rattle.xd_clauses.proofs.Givens.{apart_more}
 use Rattle.xd_clauses.proofs.cases.apart.Goals as goal
 
 pub loop-given-preserved : goal.loop-given-preserved

@@ -2,7 +2,7 @@ use Rattle.std.proofs.Common.{List, ◌≡◌, ◌+◌, ◌++◌, ◌∷◌, [],
 use Rattle.xd_laws.specs.KeptLines.{AllPaired}
 use Rattle.xd_bind.specs.declared.tracks.Given.{Given}
 use Rattle.xd_clauses.specs.Cases.{IsGivenNothing}
-use Rattle.xd_clauses.proofs.Apart.{nothing_more}
+use Rattle.xd_clauses.proofs.Givens.{nothing_more}
 use Rattle.xd_clauses.proofs.cases.given_nothing.Goals as goal
 
 pub loop-variable-preserved : goal.loop-variable-preserved

@@ -1,6 +1,6 @@
 use Rattle.std.proofs.Common.{Ok, ap, ◌∙◌}
 use Rattle.xd_clauses.specs.Clauses.{Accepted}
-use Rattle.xd_clauses.proofs.Apart.{all_nothing}
+use Rattle.xd_clauses.proofs.Givens.{all_nothing}
 use Rattle.xd_clauses.proofs.cases.givens_of.Goals as goal
 
 pub bindings-requires-clause-known : goal.bindings-requires-clause-known

@@ -1,11 +1,11 @@
 use Rattle.std.proofs.lemmas.Result.{IfOk-from_err}
-use Rattle.std.proofs.Common.{◌≡◌, true, List, [], ◌∷◌, ◌++◌, Ok, refl, ap, subst, ◌∙◌}
+use Rattle.std.proofs.Common.{◌^◌, List, [], ◌∷◌, ◌++◌, Ok, refl, ap, subst, ◌∙◌}
 use Rattle.std.specs.Option.{IfSome}
 use Rattle.xd_base.specs.declared.Place.{Place}
 use Rattle.xd_doc.specs.Document.{Document}
+use Rattle.xd_doc.specs.Least.{IsLeastUpTo}
 use Rattle.xd_doc.specs.Stored.{BelongsTo, document_at}
 use Rattle.xd_doc.specs.declared.store.Seq.{Seq}
-use Rattle.xd_auto.specs.Automaton.{accepts}
 use Rattle.xd_syntax.specs.Expression.{place_of_expression}
 use Rattle.xd_syntax.specs.CheckFaults.{wrong_result}
 use Rattle.xd_check.specs.declared.lines.Finding.TheVariants.{Result}
@@ -23,11 +23,10 @@ returns-in_ok-push c =
           let seq : Seq = c.in-Some.document in
           let old : List FoundLine = c.args.lines.now.items in
           let e = c.in_ok-document.ensures in
-          let taken : accepts c.args.auto.now (document_at ds seq) c.args.state ≡ true = subst (λ o. IfSome o (λ q. accepts c.args.auto.now (document_at ds q) c.args.state ≡ true)) c.in-Some.is e.accepted in
-          let refused : accepts c.args.auto.now (document_at ds seq) c.args.wanted ≡ true → ⊥ = subst (λ o. IfSome o (λ q. accepts c.args.auto.now (document_at ds q) c.args.wanted ≡ true → ⊥)) c.in-Some.is e.refused in
+          let taken : IsLeastUpTo (2 ^ 63) (IsMisfit c.args.auto.now c.args.state c.args.wanted) (document_at ds seq) = subst (λ o. IfSome o (λ q. IsLeastUpTo (2 ^ 63) (IsMisfit c.args.auto.now c.args.state c.args.wanted) (document_at ds q))) c.in-Some.is e.least in
           let there : BelongsTo ds seq = subst (λ o. IfSome o (BelongsTo ds)) c.in-Some.is e.belongs in
           adds_where ds (place_of_expression (expr_at c.args.self.now.sound c.args.body.at)) (IsMisfit c.args.auto.now c.args.state c.args.wanted) old c.push.new.self.items (Result seq) seq
-          (c.in_ok-push.ensures.items ∙ ap (λ (q : Place). old ++ record { place = q; finding = Result seq } ∷ []) c.place_of.ensures) there refl there (taken, refused);
+          (c.in_ok-push.ensures.items ∙ ap (λ (q : Place). old ++ record { place = q; finding = Result seq } ∷ []) c.place_of.ensures) there refl there taken;
       known = c.in_ok-document.ensures.known;
       keeps = c.in_ok-document.ensures.keeps;
     }

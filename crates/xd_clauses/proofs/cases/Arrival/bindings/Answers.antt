@@ -5,7 +5,7 @@ use Rattle.xd_laws.specs.KeptLines.{AllPaired}
 use Rattle.xd_bind.specs.declared.tracks.Given.{Given}
 use Rattle.xd_clauses.specs.Cases.{IsApart}
 use Rattle.xd_clauses.specs.Clauses.{Accepted, AreMayGivens}
-use Rattle.xd_clauses.proofs.Apart.{bindings_apart, givens_there}
+use Rattle.xd_clauses.proofs.Givens.{bindings_apart, givens_there}
 use Rattle.xd_clauses.proofs.Passing.{givens_on}
 use Rattle.xd_clauses.proofs.cases.Arrival.bindings.Goals as goal
 

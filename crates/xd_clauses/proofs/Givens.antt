@@ -1,17 +1,13 @@
 -- What variables are given, and states in automata of their own.
 use Rattle.std.proofs.Common.{◌≡◌, ℕ, zero, suc, ◌<◌, ◌+◌, Bool, false, ◌&&◌, List, [], ◌∷◌, ◌++◌, map, length, take, get_or, Option, Some, None, refl, sym, ap, ◌∙◌, subst, arith}
 use Rattle.std.specs.List.{All, AllByRecursion, list_any}
-use Rattle.std.specs.Option.{IfSome}
 use Rattle.std.proofs.lemmas.List.{take_more}
 use Rattle.xd_doc.specs.Document.{Document, empty, text, element}
 use Rattle.xd_doc.specs.Classes.{class_has}
-use Rattle.xd_doc.specs.Stored.{BelongsTo, document_at}
-use Rattle.xd_doc.specs.declared.store.Seq.{Seq}
 use Rattle.xd_auto.specs.declared.auto.State.{State}
 use Rattle.xd_auto.specs.declared.auto.LabelMove.{LabelMove}
 use Rattle.xd_auto.specs.declared.auto.TextMove.{TextMove}
 use Rattle.xd_auto.specs.Automaton.{Automaton, IsState, StateMoves, accepts, moves_at, no_moves}
-use Rattle.xd_empty.specs.Known.{Knows, document_of}
 use Rattle.xd_laws.specs.Bindings.{variables_of}
 use Rattle.xd_syntax.specs.Tree.{Definitions}
 use Rattle.xd_syntax.specs.Placed.{PlacedTree, unplaced}
@@ -22,24 +18,6 @@ use Rattle.xd_bind.specs.declared.tracks.Given.{Given}
 use Rattle.xd_clauses.specs.Cases.{IsApart, IsGivenNothing}
 use Rattle.xd_clauses.specs.Clauses.{Accepted, IsMayState, IsMayGiven, IsMayBinding, AreMayGivens, AreMayBindings}
 use Rattle.xd_clauses.proofs.Turning.{paired_end}
-
--- ---- what is known
-
-pub record IsKnownOf (a : Automaton) (ds : List Document) (s : State) (o : Option Seq) : Type 0 where
-  pub accepted : IfSome o (λ seq. Accepted a s (document_at ds seq))
-  pub belongs : IfSome o (BelongsTo ds)
-  pub none : o ≡ None → (d : Document) → Accepted a s d → ⊥
-
-pub known_of : (a : Automaton) (ds : List Document) (known : List (Option Seq)) (s : State) (o : Option Seq) → Knows a ds known → length known ≡ length a → IsState a s → o ≡ document_of known s →
-    IsKnownOf a ds s o
-known_of a ds known s None k count there e = record {
-  accepted = tt;
-  belongs = tt;
-  none = λ n d acc. (let no : accepts a d s ≡ false = k.none s (omega arith) (sym e) d in cc);
-}
-known_of a ds known s (Some seq) k count there e =
-    let w = k.witnesses s seq (sym e) in
-    record { accepted = w.accepted; belongs = w.belongs; none = λ n d acc. cc }
 
 -- ---- a state without moves
 

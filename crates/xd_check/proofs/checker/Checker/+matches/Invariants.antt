@@ -1,0 +1,31 @@
+use Rattle.std.proofs.Common.{◌+◌, ◌*◌}
+use Rattle.xd_syntax.specs.Exprs.{clause_numbers, expr_numbers}
+use Rattle.xd_check.specs.Known.{IsKnown}
+use Rattle.xd_check.proofs.Loops.{bodies, ceiling}
+use Rattle.xd_check.proofs.MetMatches.{PartsMet}
+use Rattle.xd_check.proofs.MetClauses.{ClausesMet}
+use Rattle.xd_check.proofs.checker.Checker.+matches.Given as goal
+
+abbrev pub decreases-meet : goal.decreases-meet
+decreases-meet l = 4 * l.id.at + 3
+
+abbrev pub decreases-meet_each : goal.decreases-meet_each
+decreases-meet_each l = 4 * ceiling (expr_numbers l.parts.now) + 1
+
+abbrev pub decreases-meet_clauses : goal.decreases-meet_clauses
+decreases-meet_clauses l = 4 * ceiling (bodies (clause_numbers l.clauses.now)) + 1
+
+abbrev pub decreases-meet_clause : goal.decreases-meet_clause
+decreases-meet_clause l = 4 * l.clause.body.at + 4
+
+abbrev pub invariant-meet_each-loop-part : goal.invariant-meet_each-loop-part
+invariant-meet_each-loop-part l = record {
+  walk : PartsMet l.self.sound l.initial.auto' l.auto' l.initial.variables l.variables l.initial.meeting.met.items l.meeting.met.items l.parts l.part-index;
+  known : IsKnown l.auto' l.meeting.store l.meeting.known;
+}
+
+abbrev pub invariant-meet_clauses-loop-clause : goal.invariant-meet_clauses-loop-clause
+invariant-meet_clauses-loop-clause l = record {
+  walk : ClausesMet l.self.sound l.initial.auto' l.auto' l.initial.variables l.variables l.initial.meeting.met.items l.meeting.met.items l.clauses l.clause-index l.initial.arriving l.arriving;
+  known : IsKnown l.auto' l.meeting.store l.meeting.known;
+}

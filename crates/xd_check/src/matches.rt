@@ -1,0 +1,343 @@
+//! What the scrutinees of matches may be.
+//!
+//! The matches are walked by recursion, no deeper than expressions stand in one another. The state of a
+//! scrutinee is the one that the check has for it.
+
+ghost use Rattle.std.specs.Prelude.{◌≡◌, ◌<◌, ◌↔◌, true, List, [], length, map, IfOk, OnOk};
+ghost use Rattle.xd_doc.specs.Document.{Document};
+ghost use Rattle.xd_syntax.specs.Tree.{Definitions};
+ghost use Rattle.xd_syntax.specs.Ways.{Takes};
+ghost use Rattle.std.specs.List.{AllByRecursion, AllZip};
+ghost use Rattle.xd_auto.specs.Automaton.{IsState};
+ghost use Rattle.xd_syntax.specs.Expression.{Expression, arguments_of, clauses_of};
+ghost use Rattle.xd_syntax.specs.Exprs.{clause_numbers, expr_numbers};
+ghost use Rattle.xd_syntax.specs.Kept.{function_definition, program_tree};
+ghost use Rattle.xd_syntax.specs.Order.{ordered};
+ghost use Rattle.xd_check.specs.Signed.{IsSignatureOfRow};
+ghost use Rattle.xd_syntax.specs.Matches.{MatchesOf, MatchesOfArguments, MatchesOfClauses, MatchesOfFunction, MatchesOfFunctions};
+ghost use Rattle.xd_syntax.specs.May.{Scope};
+ghost use Rattle.xd_syntax.specs.Placed.{PlacedTree, placed_at, unplaced};
+ghost use Rattle.xd_syntax.specs.Program.{names_of};
+ghost use Rattle.xd_syntax.specs.Table.{tree_at};
+ghost use Rattle.xd_clauses.specs.Clauses.{Accepted, IsPatternOf};
+ghost use Rattle.xd_check.specs.InScope.{AreStates, ScopeStands};
+ghost use Rattle.xd_check.specs.Known.{IsKnown};
+ghost use Rattle.xd_check.specs.Ready.{CanBeWalked, ClauseCanBeWalked, IsReady, expr_at};
+ghost use Rattle.xd_check.specs.Scrutinees.{AddsMatches, AddsMatchesOfFunction, AreScrutinees, IsApart, IsClauseMet, met_precedes};
+ghost use Rattle.xd_check.specs.declared.matches.MetMatch.{MetMatch};
+ghost use Rattle.xd_check.specs.Walked.{ComesBehind, Grows};
+
+use crate::checker::{Checker, parameters};
+use crate::clauses::{bring_in, pass_on};
+use crate::known::Known;
+use crate::signatures::Signature;
+use crate::variables::Variables;
+use std::alloc::Global;
+use xd_auto::{Auto, State, trim};
+use xd_base::Place;
+use xd_clauses::ClausePattern;
+use xd_doc::{NoMemory, Store};
+use xd_runs::laws::programs_are_linear;
+use xd_sound::Checked;
+use xd_syntax::{Clause, ExprForm, ExprId, Function};
+
+/// A match of a program, and what its scrutinee may be.
+#[derive(Drop)]
+pub struct Scrutinee {
+    /// The match.
+    pub expr: ExprId,
+    /// An automaton of its own.
+    pub auto: Auto,
+    /// The state that accepts what the scrutinee may be where the match stands.
+    pub state: State,
+}
+
+/// A match that was met, and a state of the walk's automaton for its scrutinee.
+#[derive(Clone, Copy)]
+pub(crate) struct MetMatch {
+    pub expr: ExprId,
+    pub place: Place,
+    pub state: State,
+}
+
+/// For each match that doesn't stand inside the body of a clause that is never reached, in order of
+/// place, an automaton with a state that accepts exactly what its scrutinee may be.
+///
+/// The program is copied for that, since the check adds types to it.
+pub fn scrutinees(alloc: Global, checked: &Checked) -> Result<Vec<Scrutinee>, NoMemory>
+    ensures { IfOk result (λ found. AreScrutinees checked.now found.items) }
+{
+    let sound = checked.sound().copy(alloc)?;
+    let mut auto = Auto::new(alloc);
+    let checker = Checker::new(alloc, sound, &mut auto)?;
+    let mut met = checker.met_matches(&mut auto)?;
+    sort_matches(&mut met)?;
+    apart(alloc, &auto, &met)
+}
+
+/// Sorts matches by place; those of one place stay in their order.
+fn sort_matches(met: &mut Vec<MetMatch>) -> Result<(), NoMemory>
+    ensures { OnOk result (met.new.items ≡ ordered met_precedes met.old.items) }
+{
+    met.sort_by_key(|found| found.place)?;
+    Ok(())
+}
+
+/// The same in automata of their own.
+fn apart(alloc: Global, auto: &Auto, met: &[MetMatch]) -> Result<Vec<Scrutinee>, NoMemory>
+    requires { AllByRecursion (λ (x : MetMatch). IsState auto.now x.state) met.now }
+    ensures { IfOk result (λ made. AllZip (IsApart auto.now) met.now made.items) }
+{
+    let mut made = Vec::with_capacity(alloc, met.len())?;
+    for found in met {
+        let (auto, state) = trim(alloc, auto, found.state)?;
+        made.push(Scrutinee {
+            expr: found.expr,
+            auto,
+            state,
+        })?;
+    }
+    Ok(made)
+}
+
+/// A state for what goes on to the next clause: what the pattern doesn't take, or all that came, as
+/// the state that it was, where the clause isn't live.
+fn left_behind(
+    alloc: Global,
+    pattern: &ClausePattern,
+    is_live: bool,
+    auto: &mut Auto,
+    arriving: State,
+) -> Result<State, NoMemory>
+    requires { IsState auto.old arriving }
+    ensures belongs { IfOk result (IsState auto.new) }
+    ensures exact { IfOk result (λ left. (E : Definitions) (P : PlacedTree) → IsPatternOf E (unplaced P) pattern.now → (d : Document) → Accepted auto.new left d ↔ (Accepted auto.old arriving d × (is_live ≡ true → Takes E (unplaced P) d → ⊥))) }
+    ensures grows { OnOk result (Grows auto.old auto.new) }
+{
+    if is_live {
+        Ok(pattern.pass(alloc, auto, arriving)?)
+    } else {
+        Ok(arriving)
+    }
+}
+
+/// What a walk over matches has met, and what it knows of the states.
+#[derive(Drop)]
+pub(crate) struct Meeting {
+    pub known: Known,
+    pub store: Store,
+    pub met: Vec<MetMatch>,
+}
+
+impl Checker {
+    /// The matches of all functions, in the order in which they are walked.
+    fn met_matches(&self, auto: &mut Auto) -> Result<Vec<MetMatch>, NoMemory>
+        requires { IsReady self.now auto.old }
+        ensures { IfOk result (λ met. AddsMatches self.now.sound auto.new (MatchesOfFunctions (program_tree self.now.sound) (program_tree self.now.sound).functions) [] met.items) }
+    {
+        let store = Store::new(self.alloc);
+        let mut meeting = Meeting {
+            known: Known::new(self.alloc, auto, &store),
+            store,
+            met: Vec::new(self.alloc),
+        };
+        self.meet_functions(auto, &mut meeting)?;
+        let Meeting { met, .. } = meeting;
+        Ok(met)
+    }
+
+    /// The matches of all functions.
+    fn meet_functions(&self, auto: &mut Auto, meeting: &mut Meeting) -> Result<(), NoMemory>
+        requires ready { IsReady self.now auto.old }
+        requires known { IsKnown auto.old meeting.old.store meeting.old.known }
+        ensures { OnOk result (AddsMatches self.now.sound auto.new (MatchesOfFunctions (program_tree self.now.sound) (program_tree self.now.sound).functions) meeting.old.met.items meeting.new.met.items) }
+    {
+        let functions = self.sound.program().functions();
+        for number in 0..functions.len() {
+            self.meet_function(number, auto, meeting)?;
+        }
+        Ok(())
+    }
+
+    /// The matches of the function of this number.
+    fn meet_function(
+        &self,
+        number: usize,
+        auto: &mut Auto,
+        meeting: &mut Meeting,
+    ) -> Result<(), NoMemory>
+        requires ready { IsReady self.now auto.old }
+        requires number { number < length self.now.sound.functions }
+        requires known { IsKnown auto.old meeting.old.store meeting.old.known }
+        ensures met { OnOk result (AddsMatchesOfFunction self.now.sound number auto.new meeting.old.met.items meeting.new.met.items) }
+        ensures grows { OnOk result (Grows auto.old auto.new) }
+        ensures known { OnOk result (IsKnown auto.new meeting.new.store meeting.new.known) }
+    {
+        programs_are_linear();
+        let function = &self.sound.program().functions()[number];
+        let signature = &self.signatures.rows()[number];
+        self.meet_body(function, signature, auto, meeting)?;
+        Ok(())
+    }
+
+    /// The same of a function whose declared types have these states.
+    fn meet_body(
+        &self,
+        function: &Function,
+        signature: &Signature,
+        auto: &mut Auto,
+        meeting: &mut Meeting,
+    ) -> Result<(), NoMemory>
+        requires ready { IsReady self.now auto.old }
+        requires body { CanBeWalked self.now.sound function.now.body.at }
+        requires signature { IsSignatureOfRow self.now.sound auto.old function.now signature.now }
+        requires known { IsKnown auto.old meeting.old.store meeting.old.known }
+        ensures met { OnOk result (AddsMatches self.now.sound auto.new (MatchesOfFunction (program_tree self.now.sound) (function_definition self.now.sound function.now)) meeting.old.met.items meeting.new.met.items) }
+        ensures grows { OnOk result (Grows auto.old auto.new) }
+        ensures known { OnOk result (IsKnown auto.new meeting.new.store meeting.new.known) }
+    {
+        let mut variables = parameters(self.alloc, function.params(), &signature.parameters)?;
+        let body = function.body();
+        self.meet(body, &mut variables, auto, meeting)?;
+        Ok(())
+    }
+
+    /// The matches in an expression.
+    #[cycle(matches)]
+    fn meet(
+        &self,
+        id: ExprId,
+        variables: &mut Variables,
+        auto: &mut Auto,
+        meeting: &mut Meeting,
+    ) -> Result<(), NoMemory>
+        requires ready { IsReady self.now auto.old }
+        requires expression { CanBeWalked self.now.sound id.at }
+        requires variables { AreStates auto.old variables.old }
+        requires known { IsKnown auto.old meeting.old.store meeting.old.known }
+        ensures met { OnOk result ((S : Scope) → ScopeStands (program_tree self.now.sound) S auto.old variables.old → AddsMatches self.now.sound auto.new (MatchesOf (program_tree self.now.sound) S (expr_at self.now.sound id.at)) meeting.old.met.items meeting.new.met.items) }
+        ensures variables { OnOk result (variables.new ≡ variables.old) }
+        ensures grows { OnOk result (Grows auto.old auto.new) }
+        ensures known { OnOk result (IsKnown auto.new meeting.new.store meeting.new.known) }
+    {
+        let node = self.sound.program().exprs().node(id);
+        match node.form() {
+            ExprForm::Empty | ExprForm::Text(_) | ExprForm::Var(_) => Ok(()),
+            ExprForm::Elem(_, content) => self.meet(*content, variables, auto, meeting),
+            ExprForm::Seq(parts) => self.meet_each(parts, variables, auto, meeting),
+            ExprForm::Call(_, arguments) => self.meet_each(arguments, variables, auto, meeting),
+            ExprForm::Match(scrutinee, clauses) => {
+                let mut lines = Vec::new(self.alloc);
+                let state = self.in_expression(
+                    *scrutinee,
+                    variables,
+                    auto,
+                    &mut meeting.known,
+                    &mut lines,
+                    &mut meeting.store,
+                )?;
+                meeting.met.push(MetMatch {
+                    expr: id,
+                    place: node.place(),
+                    state,
+                })?;
+                self.meet(*scrutinee, variables, auto, meeting)?;
+                self.meet_clauses(clauses, state, variables, auto, meeting)
+            }
+        }
+    }
+
+    /// Those in each of these expressions.
+    #[cycle(matches)]
+    fn meet_each(
+        &self,
+        parts: &[ExprId],
+        variables: &mut Variables,
+        auto: &mut Auto,
+        meeting: &mut Meeting,
+    ) -> Result<(), NoMemory>
+        requires ready { IsReady self.now auto.old }
+        requires parts { AllByRecursion (CanBeWalked self.now.sound) (expr_numbers parts.now) }
+        requires variables { AreStates auto.old variables.old }
+        requires known { IsKnown auto.old meeting.old.store meeting.old.known }
+        ensures met { OnOk result ((S : Scope) → ScopeStands (program_tree self.now.sound) S auto.old variables.old → AddsMatches self.now.sound auto.new (MatchesOfArguments (program_tree self.now.sound) S (arguments_of (map (expr_at self.now.sound) (expr_numbers parts.now)))) meeting.old.met.items meeting.new.met.items) }
+        ensures variables { OnOk result (variables.new ≡ variables.old) }
+        ensures grows { OnOk result (Grows auto.old auto.new) }
+        ensures known { OnOk result (IsKnown auto.new meeting.new.store meeting.new.known) }
+    {
+        for part in parts {
+            self.meet(*part, variables, auto, meeting)?;
+        }
+        Ok(())
+    }
+
+    /// Those in the bodies of a match's clauses.
+    #[cycle(matches)]
+    fn meet_clauses(
+        &self,
+        clauses: &[Clause],
+        arriving: State,
+        variables: &mut Variables,
+        auto: &mut Auto,
+        meeting: &mut Meeting,
+    ) -> Result<(), NoMemory>
+        requires ready { IsReady self.now auto.old }
+        requires clauses { AllByRecursion (ClauseCanBeWalked self.now.sound) (clause_numbers clauses.now) }
+        requires arriving { IsState auto.old arriving }
+        requires variables { AreStates auto.old variables.old }
+        requires known { IsKnown auto.old meeting.old.store meeting.old.known }
+        ensures met { OnOk result ((S : Scope) (e : Expression) → ScopeStands (program_tree self.now.sound) S auto.old variables.old → ComesBehind (program_tree self.now.sound) S e [] (Accepted auto.old arriving) → AddsMatches self.now.sound auto.new (MatchesOfClauses (program_tree self.now.sound) S e [] (clauses_of (placed_at self.now.sound.patterns) (expr_at self.now.sound) (clause_numbers clauses.now))) meeting.old.met.items meeting.new.met.items) }
+        ensures variables { OnOk result (variables.new ≡ variables.old) }
+        ensures grows { OnOk result (Grows auto.old auto.new) }
+        ensures known { OnOk result (IsKnown auto.new meeting.new.store meeting.new.known) }
+    {
+        let mut arriving = arriving;
+        for clause in clauses {
+            let pattern = ClausePattern::new(
+                self.alloc,
+                &self.compiler,
+                &self.sound,
+                clause.pattern,
+            )?;
+            let is_live = self.meet_clause(*clause, &pattern, arriving, variables, auto, meeting)?;
+            let left = left_behind(self.alloc, &pattern, is_live, auto, arriving)?;
+            arriving = left;
+        }
+        Ok(())
+    }
+
+    /// Those in the body of a clause that is live, and whether it is.
+    #[cycle(matches)]
+    fn meet_clause(
+        &self,
+        clause: Clause,
+        pattern: &ClausePattern,
+        arriving: State,
+        variables: &mut Variables,
+        auto: &mut Auto,
+        meeting: &mut Meeting,
+    ) -> Result<bool, NoMemory>
+        requires ready { IsReady self.now auto.old }
+        requires clause { ClauseCanBeWalked self.now.sound (clause.pattern.at, clause.body.at) }
+        requires pattern { IsPatternOf (names_of (program_tree self.now.sound)) (tree_at self.now.sound.patterns clause.pattern.at) pattern.now }
+        requires arriving { IsState auto.old arriving }
+        requires variables { AreStates auto.old variables.old }
+        requires known { IsKnown auto.old meeting.old.store meeting.old.known }
+        ensures met { IfOk result (λ live. (S : Scope) (e : Expression) (earlier : List PlacedTree) → ScopeStands (program_tree self.now.sound) S auto.old variables.old → ComesBehind (program_tree self.now.sound) S e earlier (Accepted auto.old arriving) → IsClauseMet self.now.sound S e earlier (placed_at self.now.sound.patterns clause.pattern.at) (expr_at self.now.sound clause.body.at) auto.new meeting.old.met.items meeting.new.met.items live) }
+        ensures variables { OnOk result (variables.new ≡ variables.old) }
+        ensures grows { OnOk result (Grows auto.old auto.new) }
+        ensures known { OnOk result (IsKnown auto.new meeting.new.store meeting.new.known) }
+    {
+        let inhabitants = &mut meeting.known.inhabitants;
+        let store = &mut meeting.store;
+        let found = pattern.bindings(self.alloc, auto, arriving, inhabitants, store)?;
+        let Some(givens) = found else {
+            return Ok(false);
+        };
+        let before = variables.len();
+        bring_in(givens, variables)?;
+        self.meet(clause.body, variables, auto, meeting)?;
+        variables.truncate(before);
+        Ok(true)
+    }
+}
