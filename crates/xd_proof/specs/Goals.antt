@@ -1,12 +1,21 @@
 -- The goals of a proof, as a program that has their types keeps them.
 use Rattle.std.specs.Prelude.{◌≡◌, List}
-use Rattle.std.specs.List.{AllZip}
+use Rattle.std.specs.List.{AllByRecursion, AllZip}
 use Rattle.xd_syntax.specs.Table.{Row}
 use Rattle.xd_syntax.specs.Sound.{IsTypeAt}
+use Rattle.xd_syntax.specs.Types.{BelongsTo}
 use Rattle.xd_laws.specs.Consistent.{Goal}
 use Rattle.xd_laws.specs.Breach.{Lined}
 use Rattle.xd_proof_lines.specs.Cases.{IsCase}
 use Rattle.xd_proof.specs.declared.proof.ProofGoal.{ProofGoal}
+
+-- the types of the goal are types of the table
+pub record GoalBelongs (types : List Row) (g : ProofGoal) : Type 0 where
+  pub left : BelongsTo types g.left
+  pub rights : AllByRecursion (BelongsTo types) g.rights.items
+
+abbrev pub GoalsBelong : List Row → List ProofGoal → Type 0
+GoalsBelong types goals = AllByRecursion (GoalBelongs types) goals
 
 -- it is this goal
 pub record IsGoalAt (types : List Row) (made : ProofGoal) (goal : Goal) : Type 0 where

@@ -1,2 +1,3 @@
 pub mod Goals
 pub mod Lines
+pub mod Kept

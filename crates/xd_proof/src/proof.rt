@@ -2,6 +2,10 @@
 
 ghost use Rattle.std.specs.Prelude.{◌≡◌, ◌<◌, ◌∷◌, List, length};
 ghost use Rattle.std.specs.List.{AllByRecursion};
+ghost use Rattle.xd_laws.specs.Breach.{Lined};
+ghost use Rattle.xd_syntax.specs.Table.{Row};
+ghost use Rattle.xd_proof.specs.Goals.{AreGoalsAt, GoalsBelong};
+ghost use Rattle.xd_proof.specs.Kept.{AreTrees};
 ghost use Rattle.xd_proof.specs.Lines.{LinesFit};
 ghost use Rattle.xd_proof.specs.declared.proof.ProofGoal.{ProofGoal};
 
@@ -24,30 +28,31 @@ pub struct ProofGoal {
 }
 
 /// The goals of a proof, one at least. The first is its claim; others are named by their numbers, from 1. Each of their lines, and
-/// the line behind a goal, has a number below 2^64.
+/// the line behind a goal, has a number below 2^64; and the steps of each case are those of a choice tree.
 #[derive(Drop)]
 pub struct Proof {
     goals: Vec<ProofGoal>,
 }
 
 impl Model for Proof {
-    ghost use Rattle.std.specs.Prelude.{List, ◌<◌, length};
-    ghost use Rattle.std.specs.List.{AllByRecursion};
-    ghost use Rattle.xd_proof.specs.Lines.{LinesFit};
+    ghost use Rattle.std.specs.Prelude.{List};
+    ghost use Rattle.xd_proof.specs.Kept.{IsProof};
     ghost use Rattle.xd_proof.specs.declared.proof.ProofGoal.{ProofGoal};
 
     ghost Value = { List ProofGoal };
 
     ghost view = { λ p. p.goals.items };
 
-    ghost invariant = { λ p. (0 < length p.goals.items) × AllByRecursion LinesFit p.goals.items };
+    ghost invariant = { λ p. IsProof p.goals.items };
 }
 
 impl Proof {
-    /// One of these goals. Their lines must have numbers, since a checker tells the line at which a rule is broken.
+    /// One of these goals, of which there is one at least. Their lines must have numbers, since a checker tells the line at which a
+    /// rule is broken, and the steps of each case must be those of a choice tree.
     pub fn new(goals: Vec<ProofGoal>) -> Self
         requires some { 0 < length goals.items }
         requires lines { AllByRecursion LinesFit goals.items }
+        requires trees { AllByRecursion AreTrees goals.items }
         ensures { result ≡ goals.items }
     {
         Self { goals }
@@ -58,6 +63,9 @@ impl Proof {
         ensures same { result.now ≡ self.now }
         ensures some { 0 < length self.now }
         ensures lines { AllByRecursion LinesFit self.now }
+        ensures trees { AllByRecursion AreTrees self.now }
+        // So in a program that has their types they are goals of a proof, one for one.
+        ensures goals { (types : List Row) → GoalsBelong types self.now → (goals : List Lined) × AreGoalsAt types self.now goals }
     {
         self.goals.as_slice()
     }

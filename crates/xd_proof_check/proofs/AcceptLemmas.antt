@@ -11,7 +11,7 @@ use Rattle.xd_syntax.specs.Program.{ProgramTree, names_of}
 use Rattle.xd_syntax.specs.RecursionFaults.{IsSound}
 use Rattle.xd_syntax.specs.declared.types.TypeId.{TypeId}
 use Rattle.xd_laws.specs.Breach.{Lined, goals_of}
-use Rattle.xd_laws.specs.Consistent.{Case, Claim, Goal, IsConsistent}
+use Rattle.xd_laws.specs.Consistent.{Claim, Goal, IsConsistent}
 use Rattle.xd_laws.proofs.FirstWrong.{first_wrong}
 use Rattle.xd_laws.proofs.BreachLaw.{first_is, none_is, rules_are_tested}
 use Rattle.xd_laws.proofs.TheLaws.{consistent_proofs_hold_in, empty_decides}
@@ -19,11 +19,8 @@ use Rattle.xd_heads.specs.Numbered.{Serves}
 use Rattle.xd_heads.specs.declared.lister.HeadLister.{HeadLister}
 use Rattle.xd_proof.specs.Goals.{AreGoalsAt}
 use Rattle.xd_proof.specs.declared.proof.ProofGoal.{ProofGoal}
-use Rattle.xd_proof_lines.specs.Cases.{IsCase}
-use Rattle.xd_proof_lines.specs.declared.cases.ReadCase.{ReadCase}
-use Rattle.xd_proof_check.specs.CaseWalk.{IsTree}
 use Rattle.xd_proof_check.specs.Corresponds.{IsClaimAt}
-use Rattle.xd_proof_check.specs.GoalWalk.{AreTrees, MarksDecide, Stands, verdict_of}
+use Rattle.xd_proof_check.specs.GoalWalk.{MarksDecide, Stands, verdict_of}
 use Rattle.xd_proof_check.specs.Leaves.{GoalsBelong}
 use Rattle.xd_proof_check.specs.Reasons.{IsVerdict, reason_of}
 use Rattle.xd_proof_check.specs.declared.verdict.ProofVerdict.{ProofVerdict}
@@ -46,16 +43,6 @@ belong_of types (m ∷ ms) (l ∷ ls) z =
     let g = k.goal in
     let i = g.left in
     (record { left = i.belongs; rights = ids_of types m.rights.items (l.goal).rights g.rights }, belong_of types ms ls z.1)
-
-cases_trees : (made : List ReadCase) (cs : List Case) → AllZip IsCase made cs → AllByRecursion IsTree made
-cases_trees [] cs z = tt
-cases_trees (m ∷ ms) [] z = absurd z
-cases_trees (m ∷ ms) (c ∷ cs) z = ((c.choice, (let i = z.0 in i.steps)), cases_trees ms cs z.1)
-
-pub trees_of : (types : List Row) (made : List ProofGoal) (ls : List Lined) → AreGoalsAt types made ls → AllByRecursion AreTrees made
-trees_of types [] ls z = tt
-trees_of types (m ∷ ms) [] z = absurd z
-trees_of types (m ∷ ms) (l ∷ ls) z = (let k = z.0 in let g = k.goal in cases_trees m.cases.items (l.goal).cases g.cases, trees_of types ms ls z.1)
 
 pub claims_of : (types : List Row) (made : List ProofGoal) (ls : List Lined) → AreGoalsAt types made ls → AllZip (IsClaimAt types) made (goals_of ls)
 claims_of types [] [] z = tt

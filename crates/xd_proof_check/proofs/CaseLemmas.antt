@@ -20,11 +20,12 @@ use Rattle.xd_heads.specs.declared.lister.NumberedHead.{NumberedHead}
 use Rattle.xd_proof_lines.specs.Cases.{IsCase, atom_of}
 use Rattle.xd_proof_lines.specs.Steps.{steps_of}
 use Rattle.xd_proof_lines.specs.declared.steps.Step.{Step}
-use Rattle.xd_proof_lines.specs.declared.atoms.Atom as read
+use Rattle.xd_proof_lines.specs.declared.atoms.ProofAtom as read
 use Rattle.xd_proof_lines.specs.declared.cases.ReadCase.{ReadCase}
 use Rattle.xd_proof_check.specs.Atoms.{AreNamed, AreNamedFor, kinds_of}
 use Rattle.xd_proof_check.specs.Names.{Names}
-use Rattle.xd_proof_check.specs.CaseWalk.{CasesView, CasesFit, IsTree, Meets, wrong_after}
+use Rattle.xd_proof_lines.specs.Cases.{IsTree}
+use Rattle.xd_proof_check.specs.CaseWalk.{CasesView, CasesFit, Meets, wrong_after}
 use Rattle.xd_proof_check.specs.Corresponds.{Corresponds}
 use Rattle.xd_proof_check.specs.Reasons.{reason_of}
 use Rattle.xd_proof_check.specs.Walk.{IsSetting, SettingView}
@@ -235,14 +236,14 @@ module _ (types : List Row) (cells : List Cell) (E : Definitions) (gs : List Goa
       same_named ls ts p q = ap (λ xs. named_lists xs ts) p ∙ ap (λ xs. named_lists (named E g).labels xs) q
 
 -- atoms that were read, as those wanted of the head with this number
-abbrev pub wanted_of : ℕ → List read.Atom → List HeadAtom
-wanted_of n atoms = map (λ (a : read.Atom). (n, atom_of a)) atoms
+abbrev pub wanted_of : ℕ → List read.ProofAtom → List HeadAtom
+wanted_of n atoms = map (λ (a : read.ProofAtom). (n, atom_of a)) atoms
 
-wanted_mapped : (n : ℕ) (atoms : List read.Atom) → wanted_of n atoms ≡ map (λ a. (n, a)) (map atom_of atoms)
+wanted_mapped : (n : ℕ) (atoms : List read.ProofAtom) → wanted_of n atoms ≡ map (λ a. (n, a)) (map atom_of atoms)
 wanted_mapped n [] = refl
 wanted_mapped n (a ∷ atoms) = ap (λ ws. (n, atom_of a) ∷ ws) (wanted_mapped n atoms)
 
-pub wanted_are : (n : ℕ) (atoms : List read.Atom) (as' : List Atom) → map atom_of atoms ≡ as' → wanted_of n atoms ≡ map (λ a. (n, a)) as'
+pub wanted_are : (n : ℕ) (atoms : List read.ProofAtom) (as' : List Atom) → map atom_of atoms ≡ as' → wanted_of n atoms ≡ map (λ a. (n, a)) as'
 wanted_are n atoms as' e = wanted_mapped n atoms ∙ ap (map (λ a. (n, a))) e
 
 -- ---- answers
@@ -309,14 +310,14 @@ named_for left rights n a i d l = record {
     e : kinds_of left ++ kinds_of rights ≡ kinds_of (take i left) ++ k ∷ behind
     e = ap (λ ks. ks ++ kinds_of rights) (kinds_split left i d l) ∙ append_assoc (kinds_of (take i left)) (k ∷ kinds_of (drop (suc i) left)) (kinds_of rights)
 
-pub wanted_next : (n : ℕ) (items : List read.Atom) (i : ℕ) (a : read.Atom) (ws : List HeadAtom) → i < length items → a ≡ get_or items i a →
+pub wanted_next : (n : ℕ) (items : List read.ProofAtom) (i : ℕ) (a : read.ProofAtom) (ws : List HeadAtom) → i < length items → a ≡ get_or items i a →
     wanted_of n (drop i items) ++ ws ≡ (n, atom_of a) ∷ (wanted_of n (drop (suc i) items) ++ ws)
 wanted_next n items i a ws l e =
-    ap (λ xs. wanted_of n xs ++ ws) (drop-cons items i a l) ∙ ap (λ (x : read.Atom). (n, atom_of x) ∷ (wanted_of n (drop (suc i) items) ++ ws)) (sym e)
+    ap (λ xs. wanted_of n xs ++ ws) (drop-cons items i a l) ∙ ap (λ (x : read.ProofAtom). (n, atom_of x) ∷ (wanted_of n (drop (suc i) items) ++ ws)) (sym e)
 
 module _ (types : List Row) (cells : List Cell) (E : Definitions) (gs : List Goal) (g : Goal) (v : CasesView) (p : Path) (f : CasesFit v p) (m : Meets types cells E gs g v) where
   -- the cases that a head wants, and those behind them
-  pub head_start : (n : Named) → AreNamed (kinds_of v.left ++ kinds_of v.rights) n → (left : ℕ) (d : NumberedHead) → left < length v.left → (atoms items : List read.Atom) →
+  pub head_start : (n : Named) → AreNamed (kinds_of v.left ++ kinds_of v.rights) n → (left : ℕ) (d : NumberedHead) → left < length v.left → (atoms items : List read.ProofAtom) →
       map atom_of atoms ≡ atoms_of (record { labels = n.labels.names; texts = n.texts.names }) (kind_at (get_or v.left left d).kind) → items ≡ atoms →
       atoms_from (named E g) (left + 1) (drop left (laws.heads E g.left)) ≡ wanted_of (left + 1) items ++ atoms_from (named E g) (left + 1 + 1) (drop (left + 1) (laws.heads E g.left))
   head_start n a left d l atoms items e q =

@@ -16,7 +16,8 @@ use Rattle.xd_heads.specs.declared.lister.HeadLister.{HeadLister}
 use Rattle.xd_heads.specs.declared.lister.NumberedHead.{NumberedHead}
 use Rattle.xd_heads.proofs.Numbering.{number_kept, numbers_tell}
 use Rattle.xd_pieces.specs.Codes.{number_at}
-use Rattle.xd_proof_check.specs.CaseWalk.{CasesFit, IsTree}
+use Rattle.xd_proof_lines.specs.Cases.{IsTree}
+use Rattle.xd_proof_check.specs.CaseWalk.{CasesFit}
 use Rattle.xd_proof_check.specs.GoalWalk.{GoalFits, PartsFit, SheetView}
 use Rattle.xd_proof_check.specs.Corresponds.{Knows}
 use Rattle.xd_proof_check.specs.GoalHeads.{AreGoalHeads, AreHeadsOf}

@@ -4,14 +4,13 @@ use Rattle.std.specs.List.{AllByRecursion, AllZip}
 use Rattle.xd_syntax.specs.Tree.{Definitions}
 use Rattle.xd_syntax.specs.Table.{Row}
 use Rattle.xd_laws.specs.Heads.{heads}
-use Rattle.xd_laws.specs.Consistent.{ChoiceTree, Goal, HeadAtom, right_heads}
+use Rattle.xd_laws.specs.Consistent.{Goal, HeadAtom, right_heads}
 use Rattle.xd_laws.proofs.FirstWrong.{Refusal, wrong_cases}
 use Rattle.xd_moves.specs.Cells.{Cell}
 use Rattle.xd_heads.specs.Numbered.{IsHeadIn}
 use Rattle.xd_heads.specs.declared.lister.NumberedHead.{NumberedHead}
 use Rattle.xd_proof.specs.declared.proof.ProofGoal.{ProofGoal}
-use Rattle.xd_proof_lines.specs.Cases.{IsCase}
-use Rattle.xd_proof_lines.specs.Steps.{steps_of}
+use Rattle.xd_proof_lines.specs.Cases.{IsCase, IsTree}
 use Rattle.xd_proof_lines.specs.declared.cases.ReadCase.{ReadCase}
 use Rattle.xd_proof_check.specs.Corresponds.{IsClaimAt, Knows}
 use Rattle.xd_proof_check.specs.Leaves.{GoalsBelong}
@@ -50,10 +49,6 @@ pub record Meets (types : List Row) (cells : List Cell) (E : Definitions) (gs : 
   pub cases : AllZip IsCase v.cases g.cases
   pub left : AllZip (IsHeadIn types cells) v.left (heads E g.left)
   pub rights : AllZip (IsHeadIn types cells) v.rights (right_heads E g)
-
--- its steps are those of one tree
-abbrev pub IsTree : ReadCase → Type 0
-IsTree made = (t : ChoiceTree) × ((made.steps).items ≡ steps_of t)
 
 -- All types and right heads have their places in the marks of a path, the steps are those of trees, and contents and rests are the right heads' numbers.
 pub record CasesFit (v : CasesView) (p : Path) : Type 0 where

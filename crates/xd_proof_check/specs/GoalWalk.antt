@@ -11,7 +11,7 @@ use Rattle.xd_laws.proofs.FirstWrong.{Refusal}
 use Rattle.xd_heads.specs.declared.lister.NumberedHead.{NumberedHead}
 use Rattle.xd_proof.specs.declared.proof.ProofGoal.{ProofGoal}
 use Rattle.xd_moves.specs.Cells.{Cell}
-use Rattle.xd_proof_check.specs.CaseWalk.{IsTree}
+use Rattle.xd_proof.specs.Kept.{AreTrees}
 use Rattle.xd_proof_check.specs.Corresponds.{IsClaimAt, Knows}
 use Rattle.xd_proof_check.specs.Leaves.{GoalsBelong}
 use Rattle.xd_pieces.specs.Codes.{number_at}
@@ -53,10 +53,6 @@ empty_marked_by marks g (Some n) = is_marked marks g.left.at && right_marked mar
 -- the rule on the empty document holds, by marks
 abbrev pub empty_marked : List Bool → ProofGoal → Bool
 empty_marked marks g = empty_marked_by marks g g.empty_right
-
--- the steps of each case are those of a tree
-abbrev pub AreTrees : ProofGoal → Type 0
-AreTrees g = AllByRecursion IsTree g.cases.items
 
 -- content and rest have their places in the marks of a path
 abbrev pub PartsFit : Path → NumberedHead → Type 0

@@ -16,7 +16,7 @@ use std::alloc::Global;
 use std::collections::BTreeSet;
 use xd_doc::{Class, Label, NoMemory, Text, Words};
 use xd_heads::{HeadKind, NumberedHead};
-use xd_proof_lines::Atom;
+use xd_proof_lines::ProofAtom;
 
 /// The labels and the texts that heads name, as classes that have all others.
 #[derive(Drop)]
@@ -26,37 +26,37 @@ pub(crate) struct Named {
 }
 
 /// Whether the atom is in the class of a head.
-pub(crate) fn matches(atom: &Atom, kind: &HeadKind) -> bool
+pub(crate) fn matches(atom: &ProofAtom, kind: &HeadKind) -> bool
     ensures { result ≡ matches_atom (atom_of atom.now) (kind_at kind.now) }
 {
     match kind {
         HeadKind::Label(class) => match atom {
-            Atom::Label(label) => class.has(label),
-            Atom::OtherLabel => class.takes_others(),
+            ProofAtom::Label(label) => class.has(label),
+            ProofAtom::OtherLabel => class.takes_others(),
             _ => false,
         },
         HeadKind::Text(words) => match atom {
-            Atom::Text(text) => words.has(text),
-            Atom::OtherText => words.takes_others(),
+            ProofAtom::Text(text) => words.has(text),
+            ProofAtom::OtherText => words.takes_others(),
             _ => false,
         },
     }
 }
 
-pub(crate) fn are_same(one: &Atom, other: &Atom) -> bool
+pub(crate) fn are_same(one: &ProofAtom, other: &ProofAtom) -> bool
     ensures { result ≡ same_atom (atom_of one.now) (atom_of other.now) }
 {
     match one {
-        Atom::Label(label) => match other {
-            Atom::Label(same) => label == same,
+        ProofAtom::Label(label) => match other {
+            ProofAtom::Label(same) => label == same,
             _ => false,
         },
-        Atom::OtherLabel => matches!(other, Atom::OtherLabel),
-        Atom::Text(text) => match other {
-            Atom::Text(same) => text == same,
+        ProofAtom::OtherLabel => matches!(other, ProofAtom::OtherLabel),
+        ProofAtom::Text(text) => match other {
+            ProofAtom::Text(same) => text == same,
             _ => false,
         },
-        Atom::OtherText => matches!(other, Atom::OtherText),
+        ProofAtom::OtherText => matches!(other, ProofAtom::OtherText),
     }
 }
 
@@ -163,7 +163,11 @@ fn put_text(texts: &mut BTreeSet<Text>, text: &Text) -> Result<(), NoMemory>
 
 /// The atoms of a head among what is named, in order. Takes time linear in the head's own names and its atoms, but for the
 /// search of each name in its class.
-pub(crate) fn atoms_of(alloc: Global, kind: &HeadKind, named: &Named) -> Result<Vec<Atom>, NoMemory>
+pub(crate) fn atoms_of(
+    alloc: Global,
+    kind: &HeadKind,
+    named: &Named,
+) -> Result<Vec<ProofAtom>, NoMemory>
     requires { AreNamedFor (kind_at kind.now) named.now }
     ensures { IfOk result (λ atoms. map atom_of atoms.items ≡ laws.atoms_of (record { labels = named.now.labels.names; texts = named.now.texts.names }) (kind_at kind.now)) }
 {
@@ -173,14 +177,14 @@ pub(crate) fn atoms_of(alloc: Global, kind: &HeadKind, named: &Named) -> Result<
     }
 }
 
-fn label_atoms(alloc: Global, class: &Class, named: &Class) -> Result<Vec<Atom>, NoMemory>
+fn label_atoms(alloc: Global, class: &Class, named: &Class) -> Result<Vec<ProofAtom>, NoMemory>
     requires { Names named.now.names class.now.names }
     ensures { IfOk result (λ atoms. (texts : List (List ℕ)) → map atom_of atoms.items ≡ laws.atoms_of (record { labels = named.now.names; texts = texts }) (element_in class.now)) }
 {
     let mut atoms = Vec::new(alloc);
     if class.takes_others() {
         push_labels_in(&mut atoms, class, named.names())?;
-        atoms.push(Atom::OtherLabel)?;
+        atoms.push(ProofAtom::OtherLabel)?;
         return Ok(atoms);
     }
     let _named = named.names();
@@ -189,25 +193,29 @@ fn label_atoms(alloc: Global, class: &Class, named: &Class) -> Result<Vec<Atom>,
 }
 
 /// Those of these labels that are in the class.
-fn push_labels_in(atoms: &mut Vec<Atom>, class: &Class, labels: &[Label]) -> Result<(), NoMemory>
+fn push_labels_in(
+    atoms: &mut Vec<ProofAtom>,
+    class: &Class,
+    labels: &[Label],
+) -> Result<(), NoMemory>
     ensures { OnOk result (map atom_of atoms.new.items ≡ map atom_of atoms.old.items ++ map this_label (filter (class_has class.now) labels.now)) }
 {
     for label in labels {
         if class.has(label) {
-            atoms.push(Atom::Label(label.share()?))?;
+            atoms.push(ProofAtom::Label(label.share()?))?;
         }
     }
     Ok(())
 }
 
-fn text_atoms(alloc: Global, words: &Words, named: &Words) -> Result<Vec<Atom>, NoMemory>
+fn text_atoms(alloc: Global, words: &Words, named: &Words) -> Result<Vec<ProofAtom>, NoMemory>
     requires { Names named.now.names words.now.names }
     ensures { IfOk result (λ atoms. (labels : List (List ℕ)) → map atom_of atoms.items ≡ laws.atoms_of (record { labels = labels; texts = named.now.names }) (text_in words.now)) }
 {
     let mut atoms = Vec::new(alloc);
     if words.takes_others() {
         push_texts_in(&mut atoms, words, named.texts())?;
-        atoms.push(Atom::OtherText)?;
+        atoms.push(ProofAtom::OtherText)?;
         return Ok(atoms);
     }
     let _named = named.texts();
@@ -216,12 +224,12 @@ fn text_atoms(alloc: Global, words: &Words, named: &Words) -> Result<Vec<Atom>, 
 }
 
 /// Those of these texts that are in the class.
-fn push_texts_in(atoms: &mut Vec<Atom>, words: &Words, texts: &[Text]) -> Result<(), NoMemory>
+fn push_texts_in(atoms: &mut Vec<ProofAtom>, words: &Words, texts: &[Text]) -> Result<(), NoMemory>
     ensures { OnOk result (map atom_of atoms.new.items ≡ map atom_of atoms.old.items ++ map this_text (filter (class_has words.now) texts.now)) }
 {
     for text in texts {
         if words.has(text) {
-            atoms.push(Atom::Text(text.share()?))?;
+            atoms.push(ProofAtom::Text(text.share()?))?;
         }
     }
     Ok(())

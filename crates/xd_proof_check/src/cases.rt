@@ -23,7 +23,7 @@ use std::alloc::Global;
 use xd_doc::NoMemory;
 use xd_heads::NumberedHead;
 use xd_proof::ProofGoal;
-use xd_proof_lines::{Atom, ReadCase};
+use xd_proof_lines::{ProofAtom, ReadCase};
 
 /// The cases of a goal, and what they are looked at in.
 #[derive(Clone, Copy)]
@@ -110,7 +110,7 @@ fn check_case(
     cases: &Cases,
     at: usize,
     left: usize,
-    atom: &Atom,
+    atom: &ProofAtom,
     path: &mut Path,
 ) -> Result<Option<Reason>, NoMemory>
     requires fit { CasesFit (cases_of cases.now) path.old }
@@ -142,7 +142,7 @@ fn check_case(
 }
 
 /// Whether the case is that of this left head, by its position, and this atom.
-fn is_wanted(case: &ReadCase, left: usize, atom: &Atom) -> bool
+fn is_wanted(case: &ReadCase, left: usize, atom: &ProofAtom) -> bool
     requires { left + 1 < 2 ^ 64 }
     ensures { result ≡ (nat_eq case.now.head (left + 1) && same_atom (atom_of case.now.atom) (atom_of atom.now)) }
 {

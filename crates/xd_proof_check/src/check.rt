@@ -18,7 +18,8 @@ ghost use Rattle.xd_proof.specs.Goals.{AreGoalsAt, IsGoalAt, IsLinedAt};
 ghost use Rattle.xd_proof.specs.Lines.{LinesFit};
 ghost use Rattle.xd_proof_check.specs.Corresponds.{IsClaimAt};
 ghost use Rattle.xd_proof_check.specs.GoalHeads.{AreGoalHeads};
-ghost use Rattle.xd_proof_check.specs.GoalWalk.{AreTrees, GoalFits, Stands, breach_of, empty_marked, right_marked, sheet_of};
+ghost use Rattle.xd_proof.specs.Kept.{AreTrees};
+ghost use Rattle.xd_proof_check.specs.GoalWalk.{GoalFits, Stands, breach_of, empty_marked, right_marked, sheet_of};
 ghost use Rattle.xd_proof_check.specs.Leaves.{GoalBelongs, GoalsBelong};
 ghost use Rattle.xd_proof_check.specs.Paths.{IsClear};
 

@@ -8,7 +8,7 @@ ghost use Rattle.xd_syntax.specs.Program.{names_of};
 ghost use Rattle.xd_syntax.specs.Shallow.{IsShallow};
 ghost use Rattle.xd_laws.specs.Breach.{Lined, goals_of};
 ghost use Rattle.xd_laws.specs.Consistent.{Claim, IsConsistent};
-ghost use Rattle.xd_proof.specs.Goals.{AreGoalsAt};
+ghost use Rattle.xd_proof.specs.Goals.{AreGoalsAt, GoalsBelong};
 ghost use Rattle.xd_proof_check.specs.GoalWalk.{breach_of, verdict_of};
 ghost use Rattle.xd_proof_check.specs.Reasons.{IsVerdict};
 ghost use Rattle.xd_proof_check.specs.declared.verdict.ProofVerdict.TheVariants as verdicts;
@@ -21,15 +21,19 @@ use xd_heads::HeadLister;
 use xd_proof::Proof;
 use xd_sound::SoundProgram;
 
-/// Whether a proof is consistent; if not, its first bad line and the reason.
+/// Whether a proof, whose types are types of the program, is consistent; if not, its first bad line and the reason.
 ///
-/// It uses types and their heads, and neither automata nor a table of goals. What `Any` stands for is added to the program.
+/// It uses types and their heads, and neither automata nor a table of goals. What `Any` stands for is added to the program, and
+/// stays there after `NoMemory`, too.
+///
+/// (The rules are those of Hosoya, Vouillon and Pierce, TOPLAS 2005, by which inclusion is decided; proofs as texts, and the order in
+/// which their lines are looked at, are this project's own.)
 pub fn accepts(
     alloc: Global,
     sound: &mut SoundProgram,
     proof: &Proof,
 ) -> Result<ProofVerdict, NoMemory>
-    requires { (goals : List Lined) × AreGoalsAt sound.old.types proof.now goals }
+    requires { GoalsBelong sound.old.types proof.now }
 
     ensures accepted { IfOk result (λ verdict. (goals : List Lined) → AreGoalsAt sound.old.types proof.now goals → (verdict ≡ verdicts.Accepted) ↔ IsConsistent (names_of (program_tree sound.old)) (goals_of goals)) }
     ensures verdict { IfOk result (λ verdict. (goals : List Lined) → AreGoalsAt sound.old.types proof.now goals → IsVerdict (names_of (program_tree sound.old)) goals verdict) }

@@ -18,6 +18,8 @@ pub enum Reason {
 /// Whether a proof is consistent; if not, its first bad line and what is wrong there.
 #[derive(Clone, Copy, Debug, PartialEq, Eq)]
 pub enum ProofVerdict {
+    /// Each goal keeps the rules.
     Accepted,
+    /// The number of the first bad line, from 1, and the reason.
     Refused(u64, Reason),
 }

@@ -24,7 +24,7 @@ use crate::verdict::Reason;
 use xd_doc::NoMemory;
 use xd_heads::NumberedHead;
 use xd_proof::ProofGoal;
-use xd_proof_lines::{Atom, Step};
+use xd_proof_lines::{ProofAtom, Step};
 
 /// What the steps of a case are looked at in.
 #[derive(Clone, Copy)]
@@ -32,7 +32,7 @@ pub(crate) struct Setting<'a> {
     pub goals: &'a [ProofGoal],
     /// The number of each type of the program.
     pub numbers: &'a [usize],
-    pub atom: &'a Atom,
+    pub atom: &'a ProofAtom,
     pub rights: &'a [NumberedHead],
     /// The numbers of the contents and of the rests of these heads.
     pub contents: &'a [usize],
@@ -58,10 +58,10 @@ pub(crate) fn check_tree(
     ensures keeps { IfOk result (λ found. IfNone found (KeepsRoom path.old path.new)) }
 {
     match setting.atom {
-        Atom::Label(_) => walk(setting, steps, path),
-        Atom::OtherLabel => walk(setting, steps, path),
-        Atom::Text(_) => text_leaf(setting, steps, path),
-        Atom::OtherText => text_leaf(setting, steps, path),
+        ProofAtom::Label(_) => walk(setting, steps, path),
+        ProofAtom::OtherLabel => walk(setting, steps, path),
+        ProofAtom::Text(_) => text_leaf(setting, steps, path),
+        ProofAtom::OtherText => text_leaf(setting, steps, path),
     }
 }
 

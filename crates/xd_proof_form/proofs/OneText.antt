@@ -15,7 +15,7 @@ use Rattle.xd_proof_form.proofs.LineLemmas.{same_cut}
 use Rattle.xd_proof_form.proofs.Unique.{number_one, parts_one}
 
 pub type_one : (known : List (List ℕ)) (b : List ℕ) (T U : Tree) → SpellsType known b T → SpellsType known b U → T ≡ U
-type_one known b T U s t = sym s.same ∙ ap unplaced (texts_mean_one_thing.types b s.placed t.placed s.text t.text) ∙ t.same
+type_one known b T U s t = sym s.same ∙ ap unplaced (texts_mean_one_thing.types b s.placed t.placed (s.text).spelled (t.text).spelled) ∙ t.same
 
 module _ {A : Type 0} where
   lists_one : (bs cs : List (Block A)) → goal_list bs ≡ goal_list cs → bs ≡ cs

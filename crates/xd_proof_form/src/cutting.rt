@@ -26,7 +26,7 @@ pub fn before_mark(mark: u8, bytes: &[u8]) -> Option<(&[u8], &[u8])>
     None
 }
 
-/// Cuts a text into its lines. Takes time linear in the text.
+/// Cuts a text into its lines. `NoMemory` where there is no room for the list.
 pub fn cut_lines(alloc: Global, bytes: &[u8]) -> Result<Lines<'_>, NoMemory>
     ensures { IfOk result (λ made. IsCut bytes.now (map (λ line. line.now) made.lines.items) made.left.now) }
 {
@@ -39,7 +39,7 @@ pub fn cut_lines(alloc: Global, bytes: &[u8]) -> Result<Lines<'_>, NoMemory>
     Ok(Lines { lines, left })
 }
 
-/// The words of a line, with single spaces between them. Takes time linear in the line.
+/// The words of a line, with single spaces between them. `NoMemory` where there is no room for the list.
 pub fn split_words(alloc: Global, line: &[u8]) -> Result<Vec<&[u8]>, NoMemory>
     ensures { IfOk result (λ made. AreWords line.now (map (λ word. word.now) made.items)) }
 {

@@ -15,10 +15,14 @@ use xd_proof_form::before_mark;
 
 /// A label or a text; or the labels, or the texts, that a goal does not name.
 #[derive(Drop)]
-pub enum Atom {
+pub enum ProofAtom {
+    /// This label.
     Label(Label),
+    /// The labels that the goal doesn't name.
     OtherLabel,
+    /// This text.
     Text(Text),
+    /// The texts that the goal doesn't name.
     OtherText,
 }
 
@@ -51,14 +55,14 @@ fn is_word(bytes: &[u8]) -> bool
 }
 
 /// The atom that a word is: one without quotes.
-fn plain_atom(alloc: Global, word: &[u8]) -> Result<Option<Atom>, NoMemory>
+fn plain_atom(alloc: Global, word: &[u8]) -> Result<Option<ProofAtom>, NoMemory>
     ensures { IfOk result (λ made. MatchOption made ((a : proof.Atom) → IsAtom a → is_plain a → word.now ≡ atom_word a → ⊥) (λ m. IsAtom (atom_of m) × (word.now ≡ atom_word (atom_of m)))) }
 {
     if word == b"~".as_slice() {
-        return Ok(Some(Atom::OtherLabel));
+        return Ok(Some(ProofAtom::OtherLabel));
     }
     if word == b"$".as_slice() {
-        return Ok(Some(Atom::OtherText));
+        return Ok(Some(ProofAtom::OtherText));
     }
     if !is_word(word) {
         return Ok(None);
@@ -66,7 +70,7 @@ fn plain_atom(alloc: Global, word: &[u8]) -> Result<Option<Atom>, NoMemory>
     let Ok(text) = str::from_utf8(word) else {
         return Ok(None);
     };
-    Ok(Some(Atom::Label(Label::new(alloc, text)?)))
+    Ok(Some(ProofAtom::Label(Label::new(alloc, text)?)))
 }
 
 /// What stands behind a space at the front.
@@ -80,7 +84,10 @@ fn behind_space(bytes: &[u8]) -> Option<&[u8]>
 }
 
 /// The atom in quotes whose inside stands at the front, and what stands behind the space behind it.
-fn quoted_atom<'a>(alloc: Global, inside: &'a [u8]) -> Result<Option<(Atom, &'a [u8])>, NoMemory>
+fn quoted_atom<'a>(
+    alloc: Global,
+    inside: &'a [u8],
+) -> Result<Option<(ProofAtom, &'a [u8])>, NoMemory>
     ensures { IfOk result (λ made. MatchOption made ((s r : List ℕ) → IsAtom (proof.this_text s) → 34 ∷ inside.now ≡ atom_word (proof.this_text s) ++ space ∷ r → ⊥) (λ m. IsAtom (atom_of m.0) × (34 ∷ inside.now ≡ atom_word (atom_of m.0) ++ space ∷ m.1.now))) }
 {
     match read_quoted(alloc, inside) {
@@ -88,13 +95,16 @@ fn quoted_atom<'a>(alloc: Global, inside: &'a [u8]) -> Result<Option<(Atom, &'a 
         Ok(None) => Ok(None),
         Ok(Some((text, behind))) => match behind_space(behind) {
             None => Ok(None),
-            Some(rest) => Ok(Some((Atom::Text(text), rest))),
+            Some(rest) => Ok(Some((ProofAtom::Text(text), rest))),
         },
     }
 }
 
 /// The atom at the front, and what stands behind the space behind it. Takes time linear in its spelling.
-pub fn read_atom<'a>(alloc: Global, bytes: &'a [u8]) -> Result<Option<(Atom, &'a [u8])>, NoMemory>
+pub fn read_atom<'a>(
+    alloc: Global,
+    bytes: &'a [u8],
+) -> Result<Option<(ProofAtom, &'a [u8])>, NoMemory>
     ensures { IfOk result (λ made. MatchOption made ((a : proof.Atom) (r : List ℕ) → IsAtom a → bytes.now ≡ atom_word a ++ space ∷ r → ⊥) (λ m. IsAtom (atom_of m.0) × (bytes.now ≡ atom_word (atom_of m.0) ++ space ∷ m.1.now))) }
 {
     if let Some(inside) = behind_quote(bytes) {

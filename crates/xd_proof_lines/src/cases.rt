@@ -6,7 +6,7 @@ ghost use Rattle.xd_proof_form.specs.Parts.{SpellsCase, HasNumbers, tree_words};
 ghost use Rattle.xd_proof_form.specs.Lines.{spaced};
 ghost use Rattle.xd_proof_lines.specs.Cases.{IsCase, SpellsChoice, atom_of};
 
-use crate::atoms::{Atom, read_atom};
+use crate::atoms::{ProofAtom, read_atom};
 use crate::keywords::behind_word;
 use crate::steps::{Step, read_steps};
 use std::alloc::Global;
@@ -17,11 +17,11 @@ use xd_proof_form::{before_mark, read_number, split_words};
 #[derive(Drop)]
 pub struct ReadCase {
     pub head: u64,
-    pub atom: Atom,
+    pub atom: ProofAtom,
     pub steps: Vec<Step>,
 }
 
-/// The case that a line says, if it says one. Takes time linear in the line.
+/// The case that a line says, if it says one. `NoMemory` where its text or its steps find no room.
 pub fn read_case(alloc: Global, line: &[u8]) -> Result<Option<ReadCase>, NoMemory>
     ensures { IfOk result (λ made. MatchOption made ((c : Case) → SpellsCase line.now c → ⊥) (λ m. (c : Case) × SpellsCase line.now c × IsCase m c)) }
 {
@@ -52,7 +52,7 @@ fn read_choice(alloc: Global, head: u64, bytes: &[u8]) -> Result<Option<ReadCase
 fn read_tree(
     alloc: Global,
     head: u64,
-    atom: Atom,
+    atom: ProofAtom,
     bytes: &[u8],
 ) -> Result<Option<ReadCase>, NoMemory>
     ensures { IfOk result (λ made. MatchOption made ((t : ChoiceTree) → HasNumbers t → bytes.now ≡ spaced (tree_words t) → ⊥) (λ m. (t : ChoiceTree) × HasNumbers t × (bytes.now ≡ spaced (tree_words t)) × IsCase m (record { head = head; atom = atom_of atom; choice = t }))) }

@@ -7,7 +7,7 @@ mod keywords;
 mod quotes;
 mod steps;
 
-pub use atoms::Atom;
+pub use atoms::ProofAtom;
 pub use cases::{ReadCase, read_case};
 pub use keywords::{behind_word, read_numbered};
 pub use steps::Step;

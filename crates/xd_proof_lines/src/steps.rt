@@ -12,8 +12,11 @@ use xd_proof_form::read_number;
 /// its two trees follow.
 #[derive(Clone, Copy)]
 pub enum Step {
+    /// The goal of this number settles the content.
     Content(u64),
+    /// The goal of this number settles the rest.
     Rest(u64),
+    /// The right head of this number is split on.
     Split(u64),
 }
 

@@ -13,7 +13,7 @@ use Rattle.xd_auto.specs.Automaton.{Automaton}
 use Rattle.xd_laws.specs.Consistent.{Goal}
 use Rattle.xd_continuations.proofs.MoveLemmas.{all_append}
 use Rattle.xd_goals.specs.Rows.{GoalRow, TableView, row_at}
-use Rattle.xd_goals.specs.Standing.{StandsOnAutomaton}
+use Rattle.xd_goals.specs.Facts.{FactsOnAutomaton}
 use Rattle.xd_state_heads.proofs.Lists.{all_map}
 use Rattle.xd_goals.proofs.Verdicts.{choices_keep}
 use Rattle.xd_heads.specs.CellsView.{CellsView}
@@ -67,7 +67,7 @@ zip_passing C test [] (T ∷ Ts) z h = absurd z
 zip_passing C test (s ∷ ss) [] z h = absurd z
 zip_passing C test (s ∷ ss) (T ∷ Ts) z h = ((T, z.0, h.0), zip_passing C test ss Ts z.1 h.1)
 
-module _ (p : ProgramTable) (c : CellsView) (a : Automaton) (t : TableView) (m : Mirrors p c a) (sound : IsSound (program_tree p)) (stands : StandsOnAutomaton a t) (start : ℕ) (order numbers : List ℕ) (reached : AreReached t start order numbers) where
+module _ (p : ProgramTable) (c : CellsView) (a : Automaton) (t : TableView) (m : Mirrors p c a) (sound : IsSound (program_tree p)) (stands : FactsOnAutomaton a t) (start : ℕ) (order numbers : List ℕ) (reached : AreReached t start order numbers) where
   abbrev C : State → Option Tree
   C = continuation_of p.types c
 

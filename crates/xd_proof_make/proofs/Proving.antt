@@ -18,7 +18,8 @@ use Rattle.xd_rules.specs.Members.{IsOneOf}
 use Rattle.xd_rules.proofs.Members.{one_of-all, one_of-get, get-one_of}
 use Rattle.xd_state_heads.specs.Moves.{heads_of}
 use Rattle.xd_goals.specs.Rows.{GoalRow, TableView, row_at, claim_of, IsRowBelow}
-use Rattle.xd_goals.specs.Standing.{IsBegun, StandsOnAutomaton}
+use Rattle.xd_goals.specs.Standing.{IsBegun}
+use Rattle.xd_goals.specs.Facts.{FactsOnAutomaton}
 use Rattle.xd_goals.specs.Reached.{IsSettled, is_marked, LeadsToMarked}
 use Rattle.xd_goals.specs.Trees.{StandsAt}
 use Rattle.xd_goals.specs.declared.table.Choice.{Choice}
@@ -32,6 +33,8 @@ use Rattle.xd_heads.specs.CellsView.{CellsView}
 use Rattle.xd_heads.specs.Mirrors.{Mirrors, continuation_of}
 use Rattle.xd_proof.specs.Goals.{AreGoalsAt, IsLinedAt}
 use Rattle.xd_proof.specs.Lines.{LinesFit}
+use Rattle.xd_proof.specs.Kept.{AreTrees}
+use Rattle.xd_proof.proofs.GoalLemmas.{cases_have_trees}
 use Rattle.xd_proof.specs.declared.proof.ProofGoal.{ProofGoal}
 use Rattle.xd_proof_write.specs.SecondText.{distinct_types}
 use Rattle.xd_proof_make.specs.Written.{IsWritten}
@@ -86,7 +89,7 @@ pub record IsFit (a : Automaton) (t : TableView) (c : CellsView) (g : ℕ) : Typ
   pub below : IsRowBelow (length a) (row_at t.rows g)
   pub types : IsOfTypes c (row_at t.rows g)
 
-module _ (p : ProgramTable) (c : CellsView) (a : Automaton) (t : TableView) (stands : StandsOnAutomaton a t) (start : ℕ) (order numbers : List ℕ) (reached : AreReached t start order numbers)
+module _ (p : ProgramTable) (c : CellsView) (a : Automaton) (t : TableView) (stands : FactsOnAutomaton a t) (start : ℕ) (order numbers : List ℕ) (reached : AreReached t start order numbers)
     (made : List ProofGoal) (z : AllZip (λ g m. IsGoalMade p c a t.nodes numbers (row_at t.rows g) m) order made) (m : Mirrors p c a) (sound : IsSound (program_tree p))
     (few_goals : AreFew made) (states : List (Option Known)) (few_states : AreFew states) (sized : length states ≡ length a) (fit : AllByRecursion (IsFit a t c) order) where
   abbrev E : Definitions
@@ -186,7 +189,7 @@ all_leaves P Q R f (rules.ContentLeaf g) h k = f g h k
 all_leaves P Q R f (rules.RestLeaf g) h k = f g h k
 all_leaves P Q R f (rules.SplitOn j t u) h k = (all_leaves P Q R f t h.0 k.0, all_leaves P Q R f u h.1 k.1)
 
-pub all_fit : (p : ProgramTable) (c : CellsView) (a : Automaton) (t : TableView) (start : ℕ) (order numbers : List ℕ) → Mirrors p c a → StandsOnAutomaton a t → IsSettled t start → IsOfTypes c (row_at t.rows start)
+pub all_fit : (p : ProgramTable) (c : CellsView) (a : Automaton) (t : TableView) (start : ℕ) (order numbers : List ℕ) → Mirrors p c a → FactsOnAutomaton a t → IsSettled t start → IsOfTypes c (row_at t.rows start)
     → AreReached t start order numbers → AllByRecursion (IsFit a t c) order
 all_fit p c a t start order numbers m stands s types reached =
     all_map (λ g. passes g ≡ true) (IsFit a t c) order fit
@@ -221,7 +224,7 @@ all_typed_rows a t c order n e h =
       rights_there = subst (λ (k : ℕ). AllByRecursion (λ (s : State). s.number < k) (row_at t.rows g).rights) (sym e) (x.below).rights;
     }) h
 
-pub all_can : (p : ProgramTable) (c : CellsView) (a : Automaton) (t : TableView) (states : List (Option Known)) (numbers order : List ℕ) → StandsOnAutomaton a t → length numbers ≡ length t.rows → Mirrors p c a → AreKnown p c states
+pub all_can : (p : ProgramTable) (c : CellsView) (a : Automaton) (t : TableView) (states : List (Option Known)) (numbers order : List ℕ) → FactsOnAutomaton a t → length numbers ≡ length t.rows → Mirrors p c a → AreKnown p c states
     → AllByRecursion (IsFit a t c) order → AllByRecursion (λ g. HasTypes states (row_at t.rows g)) order → AllByRecursion (CanWrite a t states numbers) order
 all_can p c a t states numbers order stands sized m k fit types =
     all_both (IsFit a t c) (λ g. HasTypes states (row_at t.rows g)) (CanWrite a t states numbers) order
@@ -252,6 +255,13 @@ all_fit_lines p c a nodes numbers rows [] [] z = tt
 all_fit_lines p c a nodes numbers rows [] (m ∷ made) z = absurd z
 all_fit_lines p c a nodes numbers rows (g ∷ order) [] z = absurd z
 all_fit_lines p c a nodes numbers rows (g ∷ order) (m ∷ made) z = ((z.0).fit, all_fit_lines p c a nodes numbers rows order made z.1)
+
+pub all_trees : (p : ProgramTable) (c : CellsView) (a : Automaton) (nodes : List ChoiceNode) (numbers : List ℕ) (rows : List GoalRow) (order : List ℕ) (made : List ProofGoal) → AllZip (λ g m. IsGoalMade p c a nodes numbers (row_at rows g) m) order made
+    → AllByRecursion AreTrees made
+all_trees p c a nodes numbers rows [] [] z = tt
+all_trees p c a nodes numbers rows [] (m ∷ made) z = absurd z
+all_trees p c a nodes numbers rows (g ∷ order) [] z = absurd z
+all_trees p c a nodes numbers rows (g ∷ order) (m ∷ made) z = (let i = (z.0).is in cases_have_trees m.cases.items ((z.0).goal).cases i.cases, all_trees p c a nodes numbers rows order made z.1)
 
 pub some_made : {B : Type 0} (R : ℕ → B → Type 0) (order : List ℕ) (made : List B) (start : ℕ) → AllZip R order made → slice_get order 0 ≡ Some start → 0 < length made
 some_made R order made start z e = let y = zip_get R order made 0 start z e in slice_get_within made 0 y.0 y.1

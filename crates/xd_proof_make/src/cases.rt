@@ -15,7 +15,7 @@ use crate::steps::table_steps;
 use std::alloc::Global;
 use xd_doc::NoMemory;
 use xd_goals::{Choice, Table};
-use xd_proof_lines::{Atom, ReadCase, Step};
+use xd_proof_lines::{ProofAtom, ReadCase, Step};
 
 /// The choices before the first whose head has at least this number, and the others.
 fn cut_choices(choices: &[Choice], bound: usize) -> (&[Choice], &[Choice])
@@ -30,21 +30,21 @@ fn cut_choices(choices: &[Choice], bound: usize) -> (&[Choice], &[Choice])
 }
 
 /// The atom, as proofs have it.
-fn write_atom(atom: &xd_goals::Atom) -> Result<Atom, NoMemory>
+fn write_atom(atom: &xd_goals::Atom) -> Result<ProofAtom, NoMemory>
     ensures same { IfOk result (λ made. atom_of made ≡ written_atom atom.now) }
     ensures spelled { IsAtom (written_atom atom.now) }
 {
     match atom {
         xd_goals::Atom::Label(label) => {
             let _word = label.as_str();
-            Ok(Atom::Label(label.share()?))
+            Ok(ProofAtom::Label(label.share()?))
         }
-        xd_goals::Atom::OtherLabel => Ok(Atom::OtherLabel),
+        xd_goals::Atom::OtherLabel => Ok(ProofAtom::OtherLabel),
         xd_goals::Atom::Text(text) => {
             let _characters = text.as_str();
-            Ok(Atom::Text(text.share()?))
+            Ok(ProofAtom::Text(text.share()?))
         }
-        xd_goals::Atom::OtherText => Ok(Atom::OtherText),
+        xd_goals::Atom::OtherText => Ok(ProofAtom::OtherText),
     }
 }
 

@@ -22,9 +22,9 @@ use xd_proof::Proof;
 use xd_sound::SoundProgram;
 
 /// A proof of what a goal claims: its goals are those that the goal leads to through leaves, itself first, each once, between the
-/// types of their states. Types are added to the program for them; each goal begins on line 1.
+/// types of their states. Types are added to the program for them, and stay after `NoMemory`, too; each goal begins on line 1.
 ///
-/// It takes time linear in the rows and the nodes of choice trees that are reached, and in the heads of their states.
+/// The goal holds and leads through leaves to goals alone that hold, the table stands on the automaton, and the cells mirror it.
 pub fn proof_of(
     alloc: Global,
     sound: &mut SoundProgram,
@@ -44,6 +44,7 @@ pub fn proof_of(
     ensures same { program_tree sound.new ≡ program_tree sound.old }
     ensures shallow { IsShallow sound.old.types → IsShallow sound.new.types }
 {
+    table.see_lists();
     let reached = reach(alloc, table, goal)?;
     let mut states = nothing_known(alloc, auto.len())?;
     learn_goals(alloc, sound, cells, table, &mut states, &reached.order)?;

@@ -35,8 +35,8 @@ same_value v w e = cc
 -- ---- the text of a type
 pub text_shallow : (known : List (List ℕ)) (bytes : List ℕ) (T : Tree) → SpellsType known bytes T → Shallow T
 text_shallow known bytes T s =
-    let r : Reads nonterminals.TypeText (tokens_of bytes) [] (a_tree s.placed) = λ rest w m. (let q = sure (s.text).means rest (w ∷ []) m in (q.0, same_value w (a_tree s.placed) q.1)) in
-    let h : AnyWithin nesting_limit 0 s.placed = all_within nesting_limit nonterminals.TypeText (tokens_of bytes) (a_tree s.placed) (read_within nesting_limit nonterminals.TypeText (tokens_of bytes) [] (a_tree s.placed) ((s.text).spells).spells r) in
+    let r : Reads nonterminals.TypeText (tokens_of bytes) [] (a_tree s.placed) = λ rest w m. (let q = sure ((s.text).spelled).means rest (w ∷ []) m in (q.0, same_value w (a_tree s.placed) q.1)) in
+    let h : AnyWithin nesting_limit 0 s.placed = all_within nesting_limit nonterminals.TypeText (tokens_of bytes) (a_tree s.placed) (read_within nesting_limit nonterminals.TypeText (tokens_of bytes) [] (a_tree s.placed) ((s.text).within).spells r) in
     subst Shallow s.same (let a = h.1 in omega arith)
 
 -- ---- the types of goals

@@ -55,7 +55,7 @@ spelled_is : (p : ProgramTable) (new types : List Row) (bytes : List ℕ) (id : 
     is_some made ≡ uses_only (known_types (program_tree p)) (tree types id) → IfSome made (IsTypeAt new (tree types id)) → IsTypeRead (SpellsTypeOf p) bytes new made
 spelled_is p new types bytes id None t u f = λ T s.
     let mine : SpellsType (known_types (program_tree p)) bytes T = s in
-    let e : unplaced (placed_at types id.at) ≡ unplaced mine.placed = ap unplaced (texts_mean_one_thing.types bytes (placed_at types id.at) mine.placed t mine.text) in
+    let e : unplaced (placed_at types id.at) ≡ unplaced mine.placed = ap unplaced (texts_mean_one_thing.types bytes (placed_at types id.at) mine.placed t.spelled (mine.text).spelled) in
     let g : tree types id ≡ T = sym (unplaced_at types id.at) ∙ e ∙ mine.same in
     let z : false ≡ true = u ∙ ap (uses_only (known_types (program_tree p))) g ∙ mine.known_names in
     cc
@@ -153,7 +153,7 @@ pub record CanName (R S : List ℕ → Tree → Type 0) : Type 0 where
 
 -- the empty type has a text
 pub empty_spelled : (known : List (List ℕ)) → SpellsType known (type_text Empty) Empty
-empty_spelled known = let r = types_read_back Empty tt tt (omega arith) in record { placed = r.0; text = r.1; same = r.2; known_names = refl }
+empty_spelled known = let r = types_read_back Empty tt tt in record { placed = r.placed; text = record { spelled = r.spelled; within = r.within (omega arith) }; same = r.same; known_names = refl }
 
 pub spelled_names : (p : ProgramTable) → CanName (SpellsTypeOf p) (SpellsTypeOf p)
 spelled_names p = record {

@@ -19,7 +19,10 @@ use xd_proof::Proof;
 use xd_proof_form::cut_lines;
 use xd_sound::SoundProgram;
 
-/// Reads a proof text of either format; its types become types of the program. Takes n log n steps for n bytes.
+/// Reads a proof text of either format; its types become types of the program.
+///
+/// `ProofError::Form` comes exactly where the bytes are no proof text, with the first line with which none goes on. After a refusal
+/// the program has more types at most.
 pub fn read_proof(
     alloc: Global,
     sound: &mut SoundProgram,

@@ -9,7 +9,6 @@ use Rattle.xd_syntax.specs.Tree.{Tree}
 use Rattle.xd_syntax.specs.TypeText.{type_text}
 use Rattle.xd_syntax.specs.Table.{Row}
 use Rattle.xd_syntax.specs.ProperTables.{IsTable}
-use Rattle.xd_syntax.specs.Types.{BelongsTo}
 use Rattle.xd_syntax.specs.Sound.{IsTypeAt}
 use Rattle.xd_syntax.specs.declared.types.TypeId.{TypeId}
 use Rattle.xd_laws.specs.Breach.{Lined, goals_of}
@@ -22,7 +21,7 @@ use Rattle.xd_proof.specs.Goals.{AreGoalsAt}
 use Rattle.xd_proof.specs.declared.proof.ProofGoal.{ProofGoal}
 use Rattle.xd_proof_write.specs.SecondText.{each_once, number_among, types_of, distinct_types, numbered_block, second_text_of}
 use Rattle.xd_proof_write.specs.Laws.{IsTableType}
-use Rattle.xd_proof_write.specs.Written.{number_line, type_lines, text_at, goal_texts, with_texts, goals_lines, GoalBelongs, proof_lines}
+use Rattle.xd_proof_write.specs.Written.{number_line, type_lines, text_at, goal_texts, with_texts, goals_lines, proof_lines}
 use Rattle.xd_proof_write.proofs.OnceLemmas.{same_bool, once_folded, once_mapped, all_once, number_mapped}
 use Rattle.xd_proof_write.proofs.NumberLemmas.{same_bytes, bytes_same}
 use Rattle.xd_proof_write.proofs.FreeLemmas.{joined}
@@ -65,16 +64,6 @@ module _ (rows : List Row) where
             ∙ sym (map-append type_text ((l.goal).left ∷ (l.goal).rights) (types_of (goals_of ls))),
         joined Stands ((l.goal).left ∷ (l.goal).rights) (types_of (goals_of ls)) (((m.left, i.left), r.1)) q.1,
       )
-
-  pub goals_belong : (ms : List ProofGoal) (ls : List Lined) → AreGoalsAt rows ms ls → AllByRecursion (GoalBelongs rows) ms
-  goals_belong [] ls a = tt
-  goals_belong (m ∷ ms) [] a = absurd a
-  goals_belong (m ∷ ms) (l ∷ ls) a = (record { left = ((a.0).goal).left.belongs; rights = ids (m.rights).items (l.goal).rights ((a.0).goal).rights }, goals_belong ms ls a.1)
-    where
-      ids : (is : List TypeId) (Ts : List Tree) → AllZip (λ id T. IsTypeAt rows T id) is Ts → AllByRecursion (BelongsTo rows) is
-      ids [] Ts z = tt
-      ids (id ∷ is) [] z = absurd z
-      ids (id ∷ is) (T ∷ Ts) z = ((z.0).belongs, ids is Ts z.1)
 
   module _ (t : IsTable false rows) where
     all_good : (Ts : List Tree) → AllByRecursion Stands Ts → AllByRecursion IsTableType Ts

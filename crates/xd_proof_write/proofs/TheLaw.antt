@@ -54,8 +54,8 @@ module _ (known : List (List ℕ)) where
 
   type_spelled : (T : Tree) → IsGood T → SpellsType known (type_text T) T
   type_spelled T (w, t) =
-      let r = types_read_back T t.merged t.proper w.shallow in
-      record { placed = r.0; text = r.1; same = r.2; known_names = w.names }
+      let r = types_read_back T t.merged t.proper in
+      record { placed = r.placed; text = record { spelled = r.spelled; within = r.within w.shallow }; same = r.same; known_names = w.names }
 
   type_written : (k : ℕ) (T : Tree) → IsNumber k → IsGood T → IsWritten (type_part k T)
   type_written k T h w = record {

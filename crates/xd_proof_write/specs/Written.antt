@@ -1,11 +1,11 @@
 -- What is written of a proof as it is kept, where the texts of the types are known. Only private contracts speak of it.
 use Rattle.std.specs.Prelude.{◌≡◌, ℕ, ◌+◌, true, cond, nat_eq, codes, List, [], ◌∷◌, ◌++◌, map, flat_map, length, Option, Some, None}
-use Rattle.std.specs.List.{AllByRecursion, list_any, fold}
+use Rattle.std.specs.List.{list_any, fold}
 use Rattle.std.specs.Fmt.{decimal}
 use Rattle.std.specs.Str.{bytes_eq}
 use Rattle.std.specs.HashMap.{get}
 use Rattle.xd_syntax.specs.Table.{Row, tree_at}
-use Rattle.xd_syntax.specs.Types.{BelongsTo, tree}
+use Rattle.xd_syntax.specs.Types.{tree}
 use Rattle.xd_syntax.specs.TypeText.{type_text}
 use Rattle.xd_syntax.specs.declared.types.TypeId.{TypeId}
 use Rattle.xd_proof_form.specs.Lines.{line_feed, space}
@@ -58,11 +58,6 @@ goal_lines rows number k g =
 abbrev pub goals_lines : List Row → (List ℕ → ℕ) → ℕ → List ProofGoal → List ℕ
 goals_lines rows number k [] = []
 goals_lines rows number k (g ∷ gs) = goal_lines rows number k g ++ goals_lines rows number (k + 1) gs
-
--- the types of the goal are there
-pub record GoalBelongs (rows : List Row) (g : ProofGoal) : Type 0 where
-  pub left : BelongsTo rows g.left
-  pub rights : AllByRecursion (BelongsTo rows) (g.rights).items
 
 -- a text more, if it is new
 abbrev pub with_text : List (List ℕ) → List ℕ → List (List ℕ)

@@ -5,7 +5,7 @@ ghost use Rattle.std.specs.List.{AllByRecursion};
 ghost use Rattle.xd_syntax.specs.Types.{BelongsTo, tree};
 ghost use Rattle.xd_syntax.specs.TypeText.{type_text};
 ghost use Rattle.xd_laws.specs.Breach.{Lined};
-ghost use Rattle.xd_proof.specs.Goals.{AreGoalsAt};
+ghost use Rattle.xd_proof.specs.Goals.{AreGoalsAt, GoalsBelong};
 ghost use Rattle.xd_proof_write.specs.ClaimText.{claim_text, rights_text};
 
 use std::alloc::Global;
@@ -15,16 +15,17 @@ use xd_sound::SoundProgram;
 use xd_syntax::{TypeId, Types};
 use xd_type_text::type_text;
 
-/// Appends the line by which a verifier says that it accepted the claim of a proof, without the line end.
+/// Appends the line by which a verifier says that it accepted the claim of a proof, whose types are types of the program, without the
+/// line end.
 ///
-/// The time is linear in the line. After want of memory `out` is as it was.
+/// After `NoMemory` `out` is as it was.
 pub fn claim_line(
     alloc: Global,
     sound: &SoundProgram,
     proof: &Proof,
     out: &mut Vec<u8>,
 ) -> Result<(), NoMemory>
-    requires { (lined : List Lined) × AreGoalsAt sound.now.types proof.now lined }
+    requires { GoalsBelong sound.now.types proof.now }
     ensures text { (claim : Lined) (others : List Lined) → AreGoalsAt sound.now.types proof.now (claim ∷ others) → OnOk result (out.new.items ≡ out.old.items ++ claim_text claim.goal) }
     ensures err { OnErr result (out.new.items ≡ out.old.items) }
 {

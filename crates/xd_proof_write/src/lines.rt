@@ -8,7 +8,7 @@ ghost use Rattle.xd_proof_write.specs.Written.{number_line, step_text, case_line
 
 use itoa::Buffer;
 use xd_doc::NoMemory;
-use xd_proof_lines::{Atom, ReadCase, Step};
+use xd_proof_lines::{ProofAtom, ReadCase, Step};
 use xd_write::write_text;
 
 /// Appends a line of a word and a number.
@@ -56,14 +56,14 @@ fn write_case(case: &ReadCase, out: &mut Vec<u8>) -> Result<(), NoMemory>
     Ok(())
 }
 
-fn write_atom(atom: &Atom, out: &mut Vec<u8>) -> Result<(), NoMemory>
+fn write_atom(atom: &ProofAtom, out: &mut Vec<u8>) -> Result<(), NoMemory>
     ensures { OnOk result (out.new.items ≡ out.old.items ++ atom_word (atom_of atom.now)) }
 {
     match atom {
-        Atom::Label(label) => out.extend_from_slice(label.as_str().as_bytes())?,
-        Atom::OtherLabel => out.push(b'~')?,
-        Atom::Text(text) => write_text(text.as_str(), out)?,
-        Atom::OtherText => out.push(b'$')?,
+        ProofAtom::Label(label) => out.extend_from_slice(label.as_str().as_bytes())?,
+        ProofAtom::OtherLabel => out.push(b'~')?,
+        ProofAtom::Text(text) => write_text(text.as_str(), out)?,
+        ProofAtom::OtherText => out.push(b'$')?,
     }
     Ok(())
 }

@@ -5,10 +5,10 @@ ghost use Rattle.std.specs.List.{AllByRecursion};
 ghost use Rattle.std.specs.Str.{bytes_eq};
 ghost use Rattle.xd_syntax.specs.Types.{BelongsTo};
 ghost use Rattle.xd_laws.specs.Breach.{Lined, goals_of};
-ghost use Rattle.xd_proof.specs.Goals.{AreGoalsAt};
+ghost use Rattle.xd_proof.specs.Goals.{AreGoalsAt, GoalBelongs, GoalsBelong};
 ghost use Rattle.xd_proof_write.specs.SecondText.{number_among, second_text_of};
 ghost use Rattle.xd_proof_write.specs.Laws.{AreWritable, SpellsGoals};
-ghost use Rattle.xd_proof_write.specs.Written.{texts_in, with_texts, text_at, goal_texts, KnowsNumbers, GoalBelongs, right_lines, goal_lines, goals_lines, proof_lines};
+ghost use Rattle.xd_proof_write.specs.Written.{texts_in, with_texts, text_at, goal_texts, KnowsNumbers, right_lines, goal_lines, goals_lines, proof_lines};
 
 use crate::lines::{write_cases, write_empty_line, write_number_line};
 use crate::numbers::Numbers;
@@ -18,18 +18,17 @@ use xd_proof::{Proof, ProofGoal};
 use xd_sound::SoundProgram;
 use xd_syntax::{TypeId, Types};
 
-/// Appends the goals of a proof in the second format, where each type is listed once, as it first comes up, and goals name it by
-/// its number.
+/// Appends the goals of a proof, whose types are types of the program, in the second format, where each type is listed once, as it
+/// first comes up, and goals name it by its number.
 ///
-/// Besides look-ups of texts and nodes, the time is linear in what is appended and in the texts of the nodes that the goals name,
-/// each once. After want of memory `out` is as it was.
+/// After `NoMemory` `out` is as it was.
 pub fn second_text(
     alloc: Global,
     sound: &SoundProgram,
     proof: &Proof,
     out: &mut Vec<u8>,
 ) -> Result<(), NoMemory>
-    requires { (lined : List Lined) × AreGoalsAt sound.now.types proof.now lined }
+    requires { GoalsBelong sound.now.types proof.now }
     ensures text { (lined : List Lined) → AreGoalsAt sound.now.types proof.now lined → OnOk result (out.new.items ≡ out.old.items ++ second_text_of (goals_of lined)) }
     ensures err { OnErr result (out.new.items ≡ out.old.items) }
 
@@ -44,7 +43,7 @@ pub fn second_text(
 }
 
 fn text_of(alloc: Global, types: &Types, goals: &[ProofGoal]) -> Result<Vec<u8>, NoMemory>
-    requires { AllByRecursion (GoalBelongs types.now) goals.now }
+    requires { GoalsBelong types.now goals.now }
     ensures { IfOk result (λ made. made.items ≡ proof_lines types.now goals.now) }
 {
     let mut numbers = Numbers::new(alloc);
@@ -66,7 +65,7 @@ fn write_goals(
     numbers: &mut Numbers,
     out: &mut Vec<u8>,
 ) -> Result<(), NoMemory>
-    requires belong { AllByRecursion (GoalBelongs types.now) goals.now }
+    requires belong { GoalsBelong types.now goals.now }
     requires knows { KnowsNumbers types.now numbers.old }
     ensures texts { OnOk result (texts_in numbers.new ≡ with_texts (texts_in numbers.old) (flat_map (goal_texts types.now) goals.now)) }
     ensures lines { OnOk result ((more : List (List ℕ)) → out.new.items ≡ out.old.items ++ goals_lines types.now (number_among bytes_eq (texts_in numbers.new ++ more)) 1 goals.now) }

@@ -5,7 +5,8 @@ use Rattle.xd_proof_check.specs.Leaves.{GoalBelongs}
 use Rattle.xd_syntax.specs.Kept.{program_tree}
 use Rattle.xd_syntax.specs.Program.{names_of}
 use Rattle.xd_laws.specs.Breach.{goals_of}
-use Rattle.xd_proof_check.specs.GoalWalk.{breach_of, AreTrees}
+use Rattle.xd_proof.specs.Kept.{AreTrees}
+use Rattle.xd_proof_check.specs.GoalWalk.{breach_of}
 use Rattle.xd_proof_check.specs.Paths.{IsClear}
 use Rattle.xd_proof_check.proofs.HeadLemmas.{all_get}
 use Rattle.xd_laws.proofs.FirstWrong.{or_next, wrong_goals}

@@ -7,22 +7,23 @@ use Rattle.xd_syntax.specs.RecursionFaults.{IsSound}
 use Rattle.xd_laws.proofs.FirstWrong.{first_wrong}
 use Rattle.xd_proof.specs.Goals.{AreGoalsAt}
 use Rattle.xd_proof.specs.declared.proof.ProofGoal.{ProofGoal}
-use Rattle.xd_proof_check.specs.GoalWalk.{AreTrees, breach_of}
+use Rattle.xd_proof.specs.Kept.{AreTrees}
+use Rattle.xd_proof_check.specs.GoalWalk.{breach_of}
 use Rattle.xd_proof_check.specs.Leaves.{GoalsBelong}
-use Rattle.xd_proof_check.proofs.AcceptLemmas.{accepted_is, belong_of, claims_hold, goals_stay, says_verdict, trees_of}
+use Rattle.xd_proof_check.proofs.AcceptLemmas.{accepted_is, belong_of, claims_hold, goals_stay, says_verdict}
 use Rattle.xd_proof_check.proofs.checker.accepts.Goals as goal
 
 pub check_goals-requires-clause-belong : goal.check_goals-requires-clause-belong
 check_goals-requires-clause-belong c =
     let q = c.new.new.sound in
     let F = c.args.proof.now in
+    let g = c.goals.ensures.goals c.args.sound.now.types c.requires in
     subst (λ (x : ProgramTable). GoalsBelong (length x.types) c.goals.result.now) (sym c.program.ensures.program)
     (subst (GoalsBelong (length q.types)) (sym c.goals.ensures.same)
-    (belong_of q.types F c.requires.0 (goals_stay c.args.sound.now.types q.types c.new.ensures.adds.types F c.requires.0 c.requires.1)))
+    (belong_of q.types F g.0 (goals_stay c.args.sound.now.types q.types c.new.ensures.adds.types F g.0 g.1)))
 
 pub check_goals-requires-clause-trees : goal.check_goals-requires-clause-trees
-check_goals-requires-clause-trees c =
-    subst (AllByRecursion AreTrees) (sym c.goals.ensures.same) (trees_of c.args.sound.now.types c.args.proof.now c.requires.0 c.requires.1)
+check_goals-requires-clause-trees c = subst (AllByRecursion AreTrees) (sym c.goals.ensures.same) c.goals.ensures.trees
 
 pub returns-clause-verdict : goal.returns-clause-verdict
 returns-clause-verdict c =

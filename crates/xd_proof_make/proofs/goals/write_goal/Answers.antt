@@ -17,7 +17,7 @@ pub write_cases-requires-clause-writable : goal.write_cases-requires-clause-writ
 write_cases-requires-clause-writable c =
     can_writable c.args.auto.now c.args.table.now c.args.states.now c.args.numbers.now c.args.goal.number c.rights-rights.result.now c.in_ok-places.places.items c.deref-2.result.now c.choices.result.now c.requires.can
     c.rights-rights.ensures (places_kept c.args.states.now c.rights-rights.result.now c.in_ok-sorts.sorts.items c.deref.result.now c.deref.ensures.value c.in_ok-sorts.ensures (new_numbers c.in_ok-places.places.items) c.in_ok-places.ensures.places)
-    c.deref-2.ensures.value c.choices.ensures
+    c.deref-2.ensures.value c.choices.ensures.choices
 
 pub returns : goal.returns
 returns c =
@@ -33,7 +33,7 @@ returns c =
     (subst (λ (s : State). known_at c.args.states.now s ≡ Some (Some c.known_of-known.result.now)) c.left-left.ensures c.known_of-known.ensures) c.requires.can.types.rights c.requires.can.begun
     (ap new_numbers c.deref-2.ensures.value ∙ (kept ∙ ap (λ (ss : List State). all_places 1 (map (sorts_at c.args.states.now) ss)) c.rights-rights.ensures))
     (ap length c.label_moves.ensures.value ∙ ap (λ (s : State). length (moves_at c.args.auto.now s).labels) c.left-left.ensures)
-    (subst (λ (ks : List Choice). AreWrittenCases nodes places c.args.numbers.now c.known_of-known.result.now.sorts.items elements ks c.in_ok-cases.cases.items) c.choices.ensures
+    (subst (λ (ks : List Choice). AreWrittenCases nodes places c.args.numbers.now c.known_of-known.result.now.sorts.items elements ks c.in_ok-cases.cases.items) c.choices.ensures.choices
     (subst (λ (ss : List Bool). AreWrittenCases nodes places c.args.numbers.now ss elements c.choices.result.now c.in_ok-cases.cases.items) c.deref-3.ensures.value c.in_ok-cases.ensures.cases))
     refl
     (subst (AllZip (IsIdOf c.args.states.now) c.in_ok-type_ids.field-0.items) c.rights-rights.ensures c.in_ok-type_ids.ensures)

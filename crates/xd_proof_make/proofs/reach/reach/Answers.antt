@@ -27,7 +27,7 @@ choices-requires c =
 pub loop-next-preserved : goal.loop-next-preserved
 loop-next-preserved c =
     let lt : c.loop-next.next < length c.loop-next.met.order.items = search rules in
-    let e : c.choices.result.now ≡ (row_at c.args.table.now.rows c.index.result.now).choices = c.choices.ensures ∙ ap (λ (n : ℕ). (row_at c.args.table.now.rows n).choices) c.goal-goal.ensures in
+    let e : c.choices.result.now ≡ (row_at c.args.table.now.rows c.index.result.now).choices = c.choices.ensures.choices ∙ ap (λ (n : ℕ). (row_at c.args.table.now.rows n).choices) c.goal-goal.ensures in
     way_next c.args.table.now c.args.start.number c.loop-next.met.order.items c.loop-next.met.numbers.items c.loop-next.next c.index.result.now c.meet_choices.new.met.order.items c.meet_choices.new.met.numbers.items c.loop-next.invariant lt c.index.ensures
     c.meet_choices.ensures.more
     (subst (λ (ks : List Choice). AllByRecursion (LeadsTo c.args.table.now.nodes (IsMet c.meet_choices.new.met.numbers.items)) ks) e c.in_ok-meet_choices.ensures.ok)

@@ -1,6 +1,7 @@
 use Rattle.std.proofs.Common.{◌+◌, arith, sym, subst}
 use Rattle.xd_proof_form.specs.Form.{goals_from}
 use Rattle.xd_proof.specs.Goals.{AreGoalsAt}
+use Rattle.xd_proof.proofs.GoalLemmas.{goals_have_trees}
 use Rattle.xd_proof_read.proofs.NamingFacts.{grows_none, grows_then, naming_stands, can_name}
 use Rattle.xd_proof_read.proofs.GoalFacts.{way_begins, length-texts, loop_on, loop_stops, loop_short, loop_ends}
 use Rattle.xd_proof_read.proofs.goals.read_goals.Goals as goal
@@ -47,6 +48,13 @@ new-requires-clause-lines c =
     let h = c.requires.fits in
     (loop_ends _ _ (can_name c.args.sound.now c.args.naming.now c.requires.stands) c.loop-line.sound.types c.args.before c.loop-line.number c.loop-line.line-index c.args.lines.now c.loop-line.stage c.loop-line-test.false
     c.loop-line.auto.line-index-end i.number i.way c.in-AtEnd.goals c.in-AtEnd.is).fit (omega (arith, l, h))
+
+pub new-requires-clause-trees : goal.new-requires-clause-trees
+new-requires-clause-trees c =
+    let i = c.loop-line.invariant in
+    let r = loop_ends _ _ (can_name c.args.sound.now c.args.naming.now c.requires.stands) c.loop-line.sound.types c.args.before c.loop-line.number c.loop-line.line-index c.args.lines.now c.loop-line.stage c.loop-line-test.false
+    c.loop-line.auto.line-index-end i.number i.way c.in-AtEnd.goals c.in-AtEnd.is in
+    goals_have_trees c.loop-line.sound.types c.in-AtEnd.goals.items (goals_from (c.args.before + 2) r.blocks) r.goals
 
 pub returns-in-AtEnd-clause-ok : goal.returns-in-AtEnd-clause-ok
 returns-in-AtEnd-clause-ok c =

@@ -1,11 +1,12 @@
 use Rattle.std.proofs.lemmas.Result.{on_ok_weaker}
 use Rattle.xd_syntax.specs.Kept.{program_tree}
 use Rattle.xd_syntax.specs.NameFaults.{known_types}
+use Rattle.xd_proof.proofs.GoalLemmas.{goals_belong}
 use Rattle.xd_proof_text.proofs.TextLemmas.{goals_writable, text_proves}
 use Rattle.xd_proof_text.proofs.text.proof_text.Goals as goal
 
 pub second_text-requires : goal.second_text-requires
-second_text-requires c = let p = c.in_ok-proof.ensures.proof in (p.lined, p.goals)
+second_text-requires c = let p = c.in_ok-proof.ensures.proof in goals_belong c.proof_of.new.sound.types c.in_ok-proof.proof p.lined p.goals
 
 pub returns-clause-text : goal.returns-clause-text
 returns-clause-text c =

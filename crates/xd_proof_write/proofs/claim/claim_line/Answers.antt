@@ -9,13 +9,15 @@ use Rattle.xd_proof_write.proofs.claim.claim_line.Goals as goal
 pub claim_of-requires-clause-left : goal.claim_of-requires-clause-left
 claim_of-requires-clause-left c =
     let e = c.types-types.ensures.types ∙ ap (λ p. p.types) c.program.ensures.program in
-    let b = claim_belongs c.args.sound.now.types c.args.proof.now c.left.result c.rights.result.now c.left.ensures c.rights.ensures c.requires.0 c.requires.1 c.goals-some.ensures.some in
+    let g = c.goals-some.ensures.goals c.args.sound.now.types c.requires in
+    let b = claim_belongs c.args.sound.now.types c.args.proof.now c.left.result c.rights.result.now c.left.ensures c.rights.ensures g.0 g.1 c.goals-some.ensures.some in
     subst (λ rows. BelongsTo rows c.left.result) (sym e) b.0
 
 pub claim_of-requires-clause-rights : goal.claim_of-requires-clause-rights
 claim_of-requires-clause-rights c =
     let e = c.types-types.ensures.types ∙ ap (λ p. p.types) c.program.ensures.program in
-    let b = claim_belongs c.args.sound.now.types c.args.proof.now c.left.result c.rights.result.now c.left.ensures c.rights.ensures c.requires.0 c.requires.1 c.goals-some.ensures.some in
+    let g = c.goals-some.ensures.goals c.args.sound.now.types c.requires in
+    let b = claim_belongs c.args.sound.now.types c.args.proof.now c.left.result c.rights.result.now c.left.ensures c.rights.ensures g.0 g.1 c.goals-some.ensures.some in
     subst (λ rows. AllByRecursion (BelongsTo rows) c.rights.result.now) (sym e) b.1
 
 pub returns-clause-text : goal.returns-clause-text

@@ -1,18 +1,17 @@
 use Rattle.std.proofs.Common.{◌++◌, false, ap, sym, subst, ◌∙◌}
-use Rattle.std.specs.List.{AllByRecursion}
+use Rattle.xd_proof.specs.Goals.{GoalsBelong}
 use Rattle.xd_laws.specs.Breach.{goals_of}
 use Rattle.xd_syntax.specs.ProperTables.{IsTable}
 use Rattle.xd_proof_write.specs.SecondText.{second_text_of}
-use Rattle.xd_proof_write.specs.Written.{GoalBelongs, proof_lines}
-use Rattle.xd_proof_write.proofs.TextLemmas.{goals_belong, second_written, table_types}
+use Rattle.xd_proof_write.specs.Written.{proof_lines}
+use Rattle.xd_proof_write.proofs.TextLemmas.{second_written, table_types}
 use Rattle.xd_proof_write.proofs.TheLaw.{second_texts_read_back}
 use Rattle.xd_proof_write.proofs.second.second_text.Goals as goal
 
 pub text_of-requires : goal.text_of-requires
 text_of-requires c =
     let e = c.types-types.ensures.types ∙ ap (λ p. p.types) c.program.ensures.program in
-    subst (λ rows. AllByRecursion (GoalBelongs rows) c.goals.result.now) (sym e)
-    (subst (λ gs. AllByRecursion (GoalBelongs c.args.sound.now.types) gs) (sym c.goals.ensures.same) (goals_belong c.args.sound.now.types c.args.proof.now c.requires.0 c.requires.1))
+    subst (λ rows. GoalsBelong rows c.goals.result.now) (sym e) (subst (λ gs. GoalsBelong c.args.sound.now.types gs) (sym c.goals.ensures.same) c.requires)
 
 pub returns-clause-text : goal.returns-clause-text
 returns-clause-text c = λ lined a.
