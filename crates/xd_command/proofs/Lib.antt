@@ -8,3 +8,8 @@ pub mod Inputs
 pub mod Running
 pub mod Telephones
 pub mod Judging
+pub mod LeastDocuments
+pub mod OneRow
+pub mod OneAnswer
+pub mod Streams
+pub mod SmallFaults

@@ -2,23 +2,27 @@
 -- order, and the first that ends it gives the output.
 use Rattle.std.specs.Prelude.{◌≡◌, Option, Some, None}
 use Rattle.xd_command.specs.declared.command.Command.{Command}
-use Rattle.xd_command.specs.declared.command.Command.TheVariants.{Fits, Subtype, Verify, Upgrade, Check, Run, Sample}
+use Rattle.xd_command.specs.declared.command.Command.TheVariants.{Fits, Stream, Subtype, Verify, Upgrade, Least, Check, Run, Sample}
 use Rattle.xd_steps.specs.Output.{Output, usage}
 use Rattle.xd_steps.specs.Step.{Step}
 use Rattle.xd_steps.specs.Texts.{Holding}
 use Rattle.xd_steps.specs.Programs.{EndsAtProgram, IsProgram}
 use Rattle.xd_command.specs.Fits.{AnswersFits}
+use Rattle.xd_command.specs.Stream.{AnswersStream}
 use Rattle.xd_command.specs.Subtype.{AnswersSubtype}
 use Rattle.xd_command.specs.Verify.{AnswersVerify, AnswersUpgrade}
+use Rattle.xd_command.specs.Least.{AnswersLeast}
 use Rattle.xd_command.specs.Check.{AnswersCheck}
 use Rattle.xd_command.specs.Run.{AnswersRun}
 use Rattle.xd_command.specs.Sample.{AnswersSample}
 
 abbrev pub Answers : Command → Holding → (rose : Type 0) → Output → Type 0
 Answers (Fits file name document) holds rose = Step (EndsAtProgram holds rose file) (IsProgram holds file) (AnswersFits holds rose name document)
+Answers (Stream file name document piece) holds rose = Step (EndsAtProgram holds rose file) (IsProgram holds file) (AnswersStream holds rose name document)
 Answers (Subtype file left right) holds rose = Step (EndsAtProgram holds rose file) (IsProgram holds file) (AnswersSubtype left right)
 Answers (Verify file proof) holds rose = Step (EndsAtProgram holds rose file) (IsProgram holds file) (AnswersVerify holds rose proof)
 Answers (Upgrade file proof) holds rose = Step (EndsAtProgram holds rose file) (IsProgram holds file) (AnswersUpgrade holds rose proof)
+Answers (Least file name) holds rose = Step (EndsAtProgram holds rose file) (IsProgram holds file) (AnswersLeast name)
 Answers (Check file) holds rose = Step (EndsAtProgram holds rose file) (IsProgram holds file) AnswersCheck
 Answers (Run file document fuel) holds rose = Step (EndsAtProgram holds rose file) (IsProgram holds file) (AnswersRun holds rose document fuel)
 Answers (Sample persons) holds rose = AnswersSample persons

@@ -4,7 +4,7 @@ use Rattle.std.specs.Str.{bytes_eq}
 use Rattle.std.specs.Str.Parse.{digits_value}
 use Rattle.std.specs.Fmt.{decimal}
 use Rattle.xd_command.specs.declared.command.Command.{Command}
-use Rattle.xd_command.specs.declared.command.Command.TheVariants.{Fits, Subtype, Verify, Upgrade, Check, Run, Sample}
+use Rattle.xd_command.specs.declared.command.Command.TheVariants.{Fits, Stream, Subtype, Verify, Upgrade, Least, Check, Run, Sample}
 
 -- how many calls a run may make
 abbrev pub fuel_limit : ℕ
@@ -12,6 +12,10 @@ fuel_limit = 10000000
 
 abbrev pub default_fuel : ℕ
 default_fuel = 1000000
+
+-- how many bytes a piece of a stream may have
+abbrev pub piece_limit : ℕ
+piece_limit = 65536
 
 -- how many persons a sample may have
 abbrev pub sample_limit : ℕ
@@ -23,7 +27,7 @@ number_within limit word =
     let n : ℕ = digits_value 10 word in
     cond (bytes_eq (decimal n) word && (nat_lt 0 n && nat_lt n (limit + 1))) (Some n) None
 
--- the commands of one word behind their name, of two and of three
+-- the commands of one word behind their name, of two, of three and of four
 abbrev pub of_one : (command first : List ℕ) → Option Command
 of_one command first =
     if bytes_eq command (codes "check") then Some (Check first)
@@ -33,7 +37,8 @@ abbrev pub of_two : (command file second : List ℕ) → Option Command
 of_two command file second =
     if bytes_eq command (codes "verify") then Some (Verify file second)
     else (if bytes_eq command (codes "upgrade") then Some (Upgrade file second)
-    else (if bytes_eq command (codes "run") then Some (Run file second default_fuel) else None))
+    else (if bytes_eq command (codes "least") then Some (Least file second)
+    else (if bytes_eq command (codes "run") then Some (Run file second default_fuel) else None)))
 
 abbrev pub of_three : (command file second third : List ℕ) → Option Command
 of_three command file second third =
@@ -41,15 +46,21 @@ of_three command file second third =
     else (if bytes_eq command (codes "subtype") then Some (Subtype file second third)
     else (if bytes_eq command (codes "run") then option_map (Run file second) (number_within fuel_limit third) else None))
 
+abbrev pub of_four : (command file second third fourth : List ℕ) → Option Command
+of_four command file second third fourth =
+    if bytes_eq command (codes "stream") then option_map (Stream file second third) (number_within piece_limit fourth) else None
+
 -- the command that the words give; other words are none
 abbrev pub command_of : List (List ℕ) → Option Command
 command_of (command ∷ file ∷ []) = of_one command file
 command_of (command ∷ file ∷ second ∷ []) = of_two command file second
 command_of (command ∷ file ∷ second ∷ third ∷ []) = of_three command file second third
+command_of (command ∷ file ∷ second ∷ third ∷ fourth ∷ []) = of_four command file second third fourth
 command_of words = None
 
--- some call may be made, where the command is a run; and a sample is within its limit
+-- some call may be made, where the command is a run; the pieces of a stream have some byte; and a sample is within its limit
 abbrev pub CanRun : Command → Type 0
 CanRun (Run file document fuel) = 1 ≤ fuel
+CanRun (Stream file name document piece) = (1 ≤ piece) × (piece ≤ piece_limit)
 CanRun (Sample persons) = persons ≤ sample_limit
 CanRun command = Unit {0}

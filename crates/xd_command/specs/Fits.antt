@@ -2,7 +2,7 @@
 use Rattle.std.specs.Prelude.{◌≡◌, ◌⊎◌, ◌↔◌, ℕ, cond, true, false, List, [], ◌∷◌, None}
 use Rattle.xd_auto.specs.Automaton.{Automaton, accepts, IsState}
 use Rattle.xd_auto.specs.declared.auto.State.{State}
-use Rattle.xd_doc.specs.Document.{Document}
+use Rattle.xd_doc.specs.Document.{Document, is_proper}
 use Rattle.xd_syntax.specs.Tree.{Tree, Definitions}
 use Rattle.xd_syntax.specs.Fits as types
 use Rattle.xd_syntax.specs.Program.{ProgramTree, names_of}
@@ -12,6 +12,11 @@ use Rattle.xd_steps.specs.Output.{Output, yes, no, fault_lines}
 use Rattle.xd_steps.specs.Step.{Step}
 use Rattle.xd_steps.specs.Texts.{Holding}
 use Rattle.xd_steps.specs.Documents.{EndsAtDocument, IsDocument}
+
+-- a proper document that fits the type
+pub record FitsType (E : Definitions) (T : Tree) (d : Document) : Type 0 where
+  pub proper : is_proper d ≡ true
+  pub fits : types.Fits E T d
 
 -- no type has this name
 abbrev pub EndsAtName : ProgramTree → (name : List ℕ) → Output → Type 0

@@ -1,6 +1,8 @@
 pub mod Command
 pub mod Fits
+pub mod Stream
 pub mod Subtype
+pub mod Least
 pub mod Verify
 pub mod Report
 pub mod Check
@@ -9,3 +11,4 @@ pub mod Running
 pub mod Sample
 pub mod Answer
 pub mod Outcome
+pub mod OneAnswer

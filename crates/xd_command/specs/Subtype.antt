@@ -1,9 +1,11 @@
 -- What `subtype` answers, behind the faults of the program.
 use Rattle.std.specs.Prelude.{◌≡◌, ◌≢◌, ◌⊎◌, ℕ, cond, true, List, [], ◌∷◌, ◌++◌, None, Some}
+use Rattle.xd_apart.specs.Apart.{IsApart}
 use Rattle.xd_auto.specs.Automaton.{Automaton}
 use Rattle.xd_auto.specs.declared.auto.State.{State}
 use Rattle.xd_doc.specs.Document.{Document, is_proper}
-use Rattle.xd_syntax.specs.Tree.{Tree}
+use Rattle.xd_doc.specs.Least.{IsLeast}
+use Rattle.xd_syntax.specs.Tree.{Definitions, Tree}
 use Rattle.xd_syntax.specs.Fits.{Fits}
 use Rattle.xd_laws.specs.Included.{Included}
 use Rattle.xd_syntax.specs.Kept.{ProgramTable, program_tree}
@@ -44,11 +46,17 @@ pub record ProvesInclusion (P : ProgramTree) (L R : Tree) (text : List ℕ) : Ty
   pub left : claim.left ≡ L
   pub rights : claim.rights ≡ R ∷ []
 
--- Every document of the first type is one of the second, and a proof of that is written; or a document of the first type alone is.
+-- a proper document that fits the first type and not the second
+pub record FitsAlone (E : Definitions) (L R : Tree) (d : Document) : Type 0 where
+  pub proper : is_proper d ≡ true
+  pub left : Fits E L d
+  pub right : Fits E R d → ⊥
+
+-- Every document of the first type is one of the second, and a proof of that is written; or a least document of the first type alone is.
 abbrev pub AnswersInclusion : ProgramTree → (left right : Tree) → Output → Type 0
 AnswersInclusion P L R o =
     (Included (names_of P) L (R ∷ []) × (o.status ≡ 0) × ProvesInclusion P L R o.text)
-    ⊎ ((d : Document) × (is_proper d ≡ true) × Fits (names_of P) L d × (Fits (names_of P) R d → ⊥) × (o ≡ separated d))
+    ⊎ ((d : Document) × IsLeast (FitsAlone (names_of P) L R) d × (o ≡ separated d))
 
 abbrev pub AnswersSubtype : (left right : List ℕ) → ProgramTree → Output → Type 0
 AnswersSubtype left right P o =
@@ -56,6 +64,10 @@ AnswersSubtype left right P o =
     ⊎ ((undefined_names P left right ≡ []) × AnswersInclusion P (type_named left) (type_named right) o)
 
 -- ---- of what follows only private contracts speak
+
+-- a least document of those that the first state accepts and the second doesn't is written
+abbrev pub TellsApart : Automaton → State → State → Output → Type 0
+TellsApart a s t o = (d : Document) × (is_proper d ≡ true) × IsLeast (IsApart a s t) d × (o ≡ separated d)
 
 -- the state accepts exactly what fits the type, which its cells know
 pub record IsStateOf (p : ProgramTable) (c : CellsView) (a : Automaton) (T : Tree) (s : State) : Type 0 where

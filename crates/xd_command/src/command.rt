@@ -4,7 +4,7 @@ ghost use Rattle.std.specs.Prelude.{◌≡◌, ◌<◌, ◌^◌, map, option_map
 ghost use Rattle.std.specs.String.{string_bytes};
 ghost use Rattle.xd_base.specs.Outside.{HasRisen};
 ghost use Rattle.xd_command.specs.Answer.{Answers};
-ghost use Rattle.xd_command.specs.Command.{CanRun, command_of, fuel_limit, number_within, of_one, of_three, of_two, sample_limit};
+ghost use Rattle.xd_command.specs.Command.{CanRun, command_of, fuel_limit, number_within, of_four, of_one, of_three, of_two, piece_limit, sample_limit};
 ghost use Rattle.xd_command.specs.declared.command.Command.TheVariants as commands;
 ghost use Rattle.xd_steps.specs.Step.{DoesAll};
 
@@ -16,8 +16,10 @@ use xd_steps::{Output, Stop};
 
 mod check;
 mod fits;
+mod least;
 mod run;
 mod sample;
+mod stream;
 mod subtype;
 mod upgrade;
 mod verify;
@@ -45,6 +47,7 @@ impl<'a> Word<'a> {
         Word { text }
     }
 
+    /// The word's characters.
     pub fn as_str(&self) -> &'a str
         ensures { result.now ≡ self.now }
     {
@@ -61,6 +64,13 @@ pub enum Command<'a> {
         name: Word<'a>,
         document: Word<'a>,
     },
+    /// The same of the document's bytes, as they come in pieces of this length, and else where they stop.
+    Stream {
+        file: Word<'a>,
+        name: Word<'a>,
+        document: Word<'a>,
+        piece: u64,
+    },
     /// Whether every document of the first type is one of the second.
     Subtype {
         file: Word<'a>,
@@ -76,6 +86,11 @@ pub enum Command<'a> {
     Upgrade {
         file: Word<'a>,
         proof: Word<'a>,
+    },
+    /// A least document of the type of this name.
+    Least {
+        file: Word<'a>,
+        name: Word<'a>,
     },
     /// Whether the program is accepted, and else its faults.
     Check {
@@ -98,6 +113,9 @@ pub const FUEL_LIMIT: u64 = 10_000_000;
 
 /// How many calls a run may make where its words don't say.
 pub const DEFAULT_FUEL: u64 = 1_000_000;
+
+/// How many bytes a piece of a stream may have.
+pub const PIECE_LIMIT: u64 = 65_536;
 
 /// How many persons a sample may have.
 pub const SAMPLE_LIMIT: u64 = 2_000;
@@ -131,6 +149,13 @@ impl<'a> Command<'a> {
                 file.as_str(),
                 second.as_str(),
                 third.as_str(),
+            ),
+            [command, file, second, third, fourth] => Command::of_four(
+                command.as_str(),
+                file.as_str(),
+                second.as_str(),
+                third.as_str(),
+                fourth.as_str(),
             ),
             _ => None,
         }
@@ -175,6 +200,12 @@ impl<'a> Command<'a> {
                 proof: Word::new(second),
             });
         }
+        if command == "least" {
+            return Some(Command::Least {
+                file: Word::new(file),
+                name: Word::new(second),
+            });
+        }
         if command == "run" {
             return Some(Command::Run {
                 file: Word::new(file),
@@ -214,6 +245,35 @@ impl<'a> Command<'a> {
         None
     }
 
+    /// A command on a text and three more words.
+    fn of_four(
+        command: &str,
+        file: &'a str,
+        second: &'a str,
+        third: &'a str,
+        fourth: &'a str,
+    ) -> Option<Command<'a>>
+        ensures { result ≡ of_four command.now file.now second.now third.now fourth.now }
+    {
+        if command == "stream" {
+            return Command::stream(file, second, third, fourth);
+        }
+        None
+    }
+
+    /// A stream of pieces of this length, where the word spells one.
+    fn stream(file: &'a str, name: &'a str, document: &'a str, piece: &str) -> Option<Command<'a>>
+        ensures { result ≡ option_map (commands.Stream file.now name.now document.now) (number_within piece_limit piece.now) }
+    {
+        let piece = number_within(PIECE_LIMIT, piece)?;
+        Some(Command::Stream {
+            file: Word::new(file),
+            name: Word::new(name),
+            document: Word::new(document),
+            piece,
+        })
+    }
+
     /// A run with this fuel, where the word spells one.
     fn run(file: &'a str, document: &'a str, fuel: &str) -> Option<Command<'a>>
         ensures { result ≡ option_map (commands.Run file.now document.now) (number_within fuel_limit fuel.now) }
@@ -243,6 +303,19 @@ impl<'a> Command<'a> {
                 document.as_str(),
                 shelf,
             ),
+            Command::Stream {
+                file,
+                name,
+                document,
+                piece,
+            } => stream::stream(
+                alloc,
+                file.as_str(),
+                name.as_str(),
+                document.as_str(),
+                *piece,
+                shelf,
+            ),
             Command::Subtype { file, left, right } => subtype::subtype(
                 alloc,
                 file.as_str(),
@@ -255,6 +328,9 @@ impl<'a> Command<'a> {
             }
             Command::Upgrade { file, proof } => {
                 upgrade::upgrade(alloc, file.as_str(), proof.as_str(), shelf)
+            }
+            Command::Least { file, name } => {
+                least::least(alloc, file.as_str(), name.as_str(), shelf)
             }
             Command::Check { file } => check::check(alloc, file.as_str(), shelf),
             Command::Run {

@@ -15,6 +15,7 @@ use xd_base::{Shelf, Sink};
 use xd_steps::{Output, Stop};
 
 mod command;
+pub mod laws;
 mod membership;
 
 pub use command::sample_document;

@@ -6,3 +6,4 @@ pub mod Documents
 pub mod Proofs
 pub mod Reading
 pub mod Merging
+pub mod Laws

@@ -45,6 +45,10 @@ separated d = record { status = 6; text = codes "no: " ++ canonical_text d ++ co
 abbrev pub malformed_document : Place → Output
 malformed_document p = record { status = 7; text = place_front p ++ codes "malformed document\n" }
 
+-- up to the token at this place a document goes on, but none of the type
+abbrev pub outside_type : Place → Output
+outside_type p = record { status = 6; text = place_front p ++ codes "outside the type\n" }
+
 abbrev pub outside_input : Output
 outside_input = record { status = 8; text = codes "outside the input type\n" }
 

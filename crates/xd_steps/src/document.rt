@@ -5,6 +5,7 @@ ghost use Rattle.xd_base.specs.Outside.{HasRisen};
 ghost use Rattle.xd_doc.specs.Stored.{BelongsTo, Keeps, document_at};
 ghost use Rattle.xd_steps.specs.Documents.{EndsAtDocument, EndsAtMalformed, IsDocument};
 ghost use Rattle.xd_steps.specs.Step.{DoesStep};
+ghost use Rattle.xd_steps.specs.Texts.{EndsAtText, IsText, document_limit};
 ghost use Rattle.xd_read.specs.Reading.{BytesSpell};
 
 use crate::output::{Output, Stop};
@@ -29,6 +30,15 @@ fn well_formed_document(alloc: Global, store: &mut Store, bytes: &[u8]) -> Resul
     }
 }
 
+/// The bytes of a document's file, whatever they spell.
+pub fn load_bytes<H: Shelf>(alloc: Global, file: &str, shelf: &mut H) -> Result<Vec<u8>, Stop>
+    ensures step { DoesStep result (EndsAtText (H.holds shelf.old) (HasRisen (H.faults shelf.old) (H.faults shelf.new)) file.now document_limit) (λ text. IsText (H.holds shelf.old) file.now document_limit text.items) }
+    ensures same { H.holds shelf.new ≡ H.holds shelf.old }
+    ensures never_falls { H.faults shelf.old ≤ H.faults shelf.new }
+{
+    fetch(alloc, shelf, file, DOCUMENT_LIMIT)
+}
+
 /// The document of a file, which is added to the store.
 pub fn load_document<H: Shelf>(
     alloc: Global,
@@ -42,6 +52,6 @@ pub fn load_document<H: Shelf>(
     ensures same { H.holds shelf.new ≡ H.holds shelf.old }
     ensures never_falls { H.faults shelf.old ≤ H.faults shelf.new }
 {
-    let bytes = fetch(alloc, shelf, file, DOCUMENT_LIMIT)?;
+    let bytes = load_bytes(alloc, file, shelf)?;
     well_formed_document(alloc, store, &bytes)
 }

@@ -3,6 +3,7 @@
 #![tactic(auto)]
 
 mod document;
+pub mod laws;
 mod output;
 mod program;
 mod proof;
@@ -10,7 +11,7 @@ mod report;
 mod status;
 mod text;
 
-pub use document::load_document;
+pub use document::{load_bytes, load_document};
 pub use output::{Output, Stop};
 pub use program::{load_program, sound_program};
 pub use proof::load_proof;

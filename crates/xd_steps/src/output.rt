@@ -5,10 +5,10 @@ ghost use Rattle.std.specs.Bool.{OnTrue, OnFalse};
 ghost use Rattle.std.specs.List.{AllByRecursion};
 ghost use Rattle.xd_base.specs.Outside.{HasRisen, HasGrown};
 ghost use Rattle.xd_doc.specs.Stored.{BelongsTo, document_at};
-ghost use Rattle.xd_report.specs.Report.{CarriesFrom};
+ghost use Rattle.xd_report.specs.Report.{CarriesFrom, place_front};
 ghost use Rattle.xd_syntax.specs.declared.fault.FaultKind.TheVariants.{NoMain, NoSuchName};
 ghost use Rattle.xd_laws.specs.Breach.{Lined, goals_of};
-ghost use Rattle.xd_proof.specs.Goals.{AreGoalsAt};
+ghost use Rattle.xd_proof.specs.Goals.{AreGoalsAt, GoalsBelong};
 ghost use Rattle.xd_proof_check.specs.Reasons.{reason_of};
 ghost use Rattle.xd_proof_write.specs.ClaimText.{claim_text};
 ghost use Rattle.xd_proof_write.specs.SecondText.{second_text_of};
@@ -196,9 +196,14 @@ impl Output {
         Output::named(alloc, Status::TOO_LONG, "too long: ", name)
     }
 
-    /// That a text spells no document, and where.
-    pub fn malformed_document(alloc: Global, place: Place) -> Result<Output, NoMemory>
-        ensures { IfOk result (λ o. o ≡ outputs.malformed_document place) }
+    /// The output of a line that begins with a place.
+    fn placed(
+        alloc: Global,
+        status: Status,
+        place: Place,
+        line_end: &str,
+    ) -> Result<Output, NoMemory>
+        ensures { IfOk result (λ o. o ≡ record { status = status.code; text = place_front place ++ line_end.now }) }
     {
         let mut line = Buffer::new();
         let mut column = Buffer::new();
@@ -206,11 +211,22 @@ impl Output {
         text.extend_from_slice(b":")?;
         text.extend_from_slice(column.format(place.column).as_bytes())?;
         text.extend_from_slice(b": ")?;
-        text.extend_from_slice(b"malformed document\n")?;
-        Ok(Output {
-            status: Status::MALFORMED,
-            text,
-        })
+        text.extend_from_slice(line_end.as_bytes())?;
+        Ok(Output { status, text })
+    }
+
+    /// That a text spells no document, and where.
+    pub fn malformed_document(alloc: Global, place: Place) -> Result<Output, NoMemory>
+        ensures { IfOk result (λ o. o ≡ outputs.malformed_document place) }
+    {
+        Output::placed(alloc, Status::MALFORMED, place, "malformed document\n")
+    }
+
+    /// That no document of the type goes on with the token at this place.
+    pub fn outside_type(alloc: Global, place: Place) -> Result<Output, NoMemory>
+        ensures { IfOk result (λ o. o ≡ outputs.outside_type place) }
+    {
+        Output::placed(alloc, Status::NO, place, "outside the type\n")
     }
 
     /// That the answer is no, for this document.
@@ -245,7 +261,7 @@ impl Output {
 
     /// The claim of a proof that is accepted.
     pub fn claim(alloc: Global, sound: &SoundProgram, proof: &Proof) -> Result<Output, NoMemory>
-        requires { (goals : List Lined) × AreGoalsAt sound.now.types proof.now goals }
+        requires { GoalsBelong sound.now.types proof.now }
         ensures { (claim : Lined) (others : List Lined) → AreGoalsAt sound.now.types proof.now (claim ∷ others) → IfOk result (λ o. o ≡ record { status = 0; text = claim_text claim.goal ++ codes "\n" }) }
     {
         let mut text = Vec::new(alloc);
@@ -269,7 +285,7 @@ impl Output {
 
     /// A proof in the second format.
     pub fn proof(alloc: Global, sound: &SoundProgram, proof: &Proof) -> Result<Output, NoMemory>
-        requires { (goals : List Lined) × AreGoalsAt sound.now.types proof.now goals }
+        requires { GoalsBelong sound.now.types proof.now }
         ensures { (goals : List Lined) → AreGoalsAt sound.now.types proof.now goals → IfOk result (λ o. o ≡ record { status = 0; text = second_text_of (goals_of goals) }) }
     {
         let mut text = Vec::new(alloc);
@@ -307,6 +323,13 @@ impl Output {
         let first = undefined_name(alloc, one)?;
         let second = undefined_name(alloc, other)?;
         Output::faults(alloc, &[first, second])
+    }
+
+    /// The text. As a vector holds it, it has fewer than 2^63 bytes.
+    pub fn text(&self) -> &[u8]
+        ensures { result.now ≡ self.now.text }
+    {
+        self.text.as_slice()
     }
 
     /// Puts the text into the sink, and gives its status, or that of a sink which didn't take it.

@@ -16,8 +16,11 @@ fn words(rt: &(impl Env + AllocGlobal)) -> io::Result<Vec<String>> {
 }
 
 fn main(rt: HostRuntime) -> ExitCode {
-    let Ok(words) = words(&rt) else {
-        return ExitCode::from(5);
+    let words = match words(&rt) {
+        Ok(words) => words,
+        // A word that isn't UTF-8 is no word of any form, and neither are no words at all.
+        Err(error) if error.kind() == io::ErrorKind::InvalidData => Vec::new(rt.alloc()),
+        Err(_) => return ExitCode::from(5),
     };
     let mut shelf = FileShelf::new(&rt);
     let mut sink = StreamSink::new(io::writer(&rt));

@@ -26,6 +26,8 @@ fn report(alloc: Global, sound: SoundProgram) -> Result<Output, NoMemory>
 }
 
 /// The lines of what a check gave, and whether the program is accepted.
+///
+/// What is written has fewer than 2^63 bytes, since it stands in a vector; so the documents that faults carry are least ones.
 fn verdict(alloc: Global, store: &Store, outcome: &CheckOutcome) -> Result<Output, NoMemory>
     requires { (p : ProgramTable) × IsOutcome p store.now outcome.now }
     ensures { (p : ProgramTable) → IsOutcome p store.now outcome.now → IfOk result (AnswersCheck (program_tree p)) }
@@ -37,7 +39,9 @@ fn verdict(alloc: Global, store: &Store, outcome: &CheckOutcome) -> Result<Outpu
         }
         CheckOutcome::Refused { faults, warnings } => {
             let text = report_lines(alloc, store, faults, warnings)?;
-            Ok(Output::refused(text))
+            let output = Output::refused(text);
+            let _text = output.text();
+            Ok(output)
         }
     }
 }

@@ -49,6 +49,8 @@ pub fn accept(alloc: Global, sound: SoundProgram) -> Result<(Option<(Auto, State
 }
 
 /// The program, where it is accepted; else its faults.
+///
+/// What is written has fewer than 2^63 bytes, since it stands in a vector; so the documents that faults carry are least ones.
 fn accepted(alloc: Global, sound: SoundProgram) -> Result<Checked, Stop>
     ensures { DoesStep result (EndsAtLines (program_tree sound)) (λ checked. program_tree checked ≡ program_tree sound) }
 {
@@ -57,7 +59,9 @@ fn accepted(alloc: Global, sound: SoundProgram) -> Result<Checked, Stop>
         CheckOutcome::Accepted { checked, .. } => Ok(checked),
         CheckOutcome::Refused { faults, .. } => {
             let text = report_lines(alloc, &store, &faults, &[])?;
-            Err(Stop::Refused(Output::refused(text)))
+            let output = Output::refused(text);
+            let _text = output.text();
+            Err(Stop::Refused(output))
         }
     }
 }

@@ -1,7 +1,9 @@
 //! The command `subtype`.
 
 ghost use Rattle.std.specs.Prelude.{◌≡◌, IfOk, OnOk};
+ghost use Rattle.xd_auto.specs.Automaton.{IsState};
 ghost use Rattle.xd_base.specs.Outside.{HasRisen};
+ghost use Rattle.xd_doc.specs.Stored.{BelongsTo, document_at};
 ghost use Rattle.xd_goals.specs.Reached.{IsSettled};
 ghost use Rattle.xd_goals.specs.Rows.{row_at};
 ghost use Rattle.xd_goals.specs.Standing.{StandsOnAutomaton};
@@ -13,14 +15,16 @@ ghost use Rattle.xd_syntax.specs.Types as types;
 ghost use Rattle.xd_proof_make.specs.Made.{IsOfTypes, UsesDefined};
 ghost use Rattle.xd_proof_text.specs.ProofText.{ProvesRow, UsesKnownNames};
 ghost use Rattle.xd_command.specs.Answer.{Answers};
-ghost use Rattle.xd_command.specs.Subtype.{AnswersInclusion, AnswersSubtype, AreNamed, EndsAtNames, IsKnownState, IsStateOf};
+ghost use Rattle.xd_apart.specs.Apart.{IsApart};
+ghost use Rattle.xd_command.specs.Subtype.{AnswersInclusion, AnswersSubtype, AreNamed, EndsAtNames, IsKnownState, IsStateOf, TellsApart};
 ghost use Rattle.xd_steps.specs.Step.{DoesAll, DoesStep};
 ghost use Rattle.xd_command.specs.declared.command.Command.TheVariants as commands;
 
 use std::alloc::Global;
+use xd_apart::least_apart;
 use xd_auto::{Auto, State};
 use xd_base::Shelf;
-use xd_doc::{NoMemory, Store};
+use xd_doc::{NoMemory, Seq, Store};
 use xd_goals::{GoalId, Table, Verdict, decide, new_tables_stand};
 use xd_heads::{Cells, compile_type};
 use xd_proof_text::proof_text;
@@ -95,7 +99,31 @@ fn prove_goal(
     Ok(Output::proved(text))
 }
 
-/// Whether every document that the one state accepts is accepted by the other: a proof, or a document that the one alone accepts.
+/// A least document of those that the one state accepts and the other doesn't, where one of these is
+/// known.
+///
+/// What is written has fewer than 2^63 items, since it stands in a vector; so it is a least document.
+fn separate(
+    alloc: Global,
+    auto: &Auto,
+    left: State,
+    right: State,
+    store: &mut Store,
+    known: Seq,
+) -> Result<Output, NoMemory>
+    requires left { IsState auto.now left }
+    requires right { IsState auto.now right }
+    requires belongs { BelongsTo store.old known }
+    requires apart { IsApart auto.now left right (document_at store.old known) }
+    ensures { IfOk result (TellsApart auto.now left right) }
+{
+    let document = least_apart(alloc, auto, left, right, known, store)?;
+    let output = Output::separated(alloc, store, document)?;
+    let _text = output.text();
+    Ok(output)
+}
+
+/// Whether every document that the one state accepts is accepted by the other: a proof, or a least document that the one alone accepts.
 fn compare_states(
     alloc: Global,
     sound: &mut SoundProgram,
@@ -115,7 +143,7 @@ fn compare_states(
     new_tables_stand(auto, &store);
     match decide(alloc, auto, &mut table, left, &[right], &mut store)? {
         Verdict::Included(goal) => prove_goal(alloc, sound, cells, auto, &table, goal),
-        Verdict::Separated(document) => Output::separated(alloc, &store, document),
+        Verdict::Separated(document) => separate(alloc, auto, left, right, &mut store, document),
     }
 }
 

@@ -3,7 +3,7 @@
 ghost use Rattle.std.specs.Prelude.{◌≡◌, List, IfOk};
 ghost use Rattle.xd_base.specs.Outside.{HasRisen};
 ghost use Rattle.xd_laws.specs.Breach.{Lined};
-ghost use Rattle.xd_proof.specs.Goals.{AreGoalsAt};
+ghost use Rattle.xd_proof.specs.Goals.{AreGoalsAt, GoalsBelong};
 ghost use Rattle.xd_syntax.specs.Kept.{program_tree};
 ghost use Rattle.xd_command.specs.Answer.{Answers};
 ghost use Rattle.xd_command.specs.Verify.{AnswersVerify, Judges};
@@ -20,7 +20,7 @@ use xd_steps::{Output, Stop, load_program, load_proof};
 
 /// Whether the proof is consistent.
 fn judge(alloc: Global, sound: &mut SoundProgram, proof: &Proof) -> Result<Output, NoMemory>
-    requires { (goals : List Lined) × AreGoalsAt sound.old.types proof.now goals }
+    requires { GoalsBelong sound.old.types proof.now }
     ensures { IfOk result (λ o. (goals : List Lined) → AreGoalsAt sound.old.types proof.now goals → Judges (program_tree sound.old) goals o) }
 {
     let _some = proof.goals();

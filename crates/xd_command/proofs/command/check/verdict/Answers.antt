@@ -1,9 +1,11 @@
-use Rattle.std.proofs.Common.{[], subst, sym}
+use Rattle.std.proofs.Common.{◌≡◌, ◌^◌, ◌<◌, [], length, ap, subst, sym, ◌∙◌, arith}
 use Rattle.xd_syntax.specs.CheckFaults.{faults_among}
 use Rattle.xd_syntax.specs.Kept.{program_tree}
 use Rattle.xd_check.specs.Outcome.{IsOutcome}
 use Rattle.xd_steps.specs.Merging.{IsMerged}
+use Rattle.xd_steps.specs.Output.{Output}
 use Rattle.xd_steps.proofs.Reporting.{Carry}
+use Rattle.xd_command.proofs.SmallFaults.{written_lines}
 use Rattle.xd_command.proofs.Verdicts.{all_carry, answers_accepted, answers_refused}
 use Rattle.xd_command.proofs.command.check.verdict.Goals as goal
 
@@ -26,4 +28,7 @@ returns-in_ok-text-in-Refused c p is =
     let h = subst (IsOutcome p ds) c.in-Refused.is is in
     let m = subst (λ fs. IsMerged ds fs c.in-Refused.warnings.items c.in_ok-text-in-Refused.text.items) c.deref-in-Refused.ensures.value
     (subst (λ ws. IsMerged ds c.deref-in-Refused.result.now ws c.in_ok-text-in-Refused.text.items) c.deref-in-Refused-2.ensures.value c.in_ok-text-in-Refused.ensures) in
-    answers_refused (program_tree p) ds h.0 h.1 c.in-Refused.warnings.items h.4 c.in_ok-text-in-Refused.text.items _ c.in-Refused.faults.items h.2 h.3 m c.refused.ensures
+    let t = c.in_ok-text-in-Refused.text.items in
+    let fits : length t < 2 ^ 63 = subst (λ w. length w < 2 ^ 63) (c.text-text.ensures ∙ ap (λ (o : Output). o.text) c.refused-output.ensures) (omega (arith, c.text-text.type_inv)) in
+    let lines = written_lines ds (2 ^ 63) (program_tree p) h.0 c.in-Refused.faults.items c.in-Refused.warnings.items t h.1 h.3 m fits in
+    answers_refused (program_tree p) ds h.0 lines c.in-Refused.warnings.items h.4 t _ c.in-Refused.faults.items h.2 h.3 m c.refused-output.ensures

@@ -9,7 +9,10 @@ use Rattle.xd_parse.proofs.Adding.{if_ok_both}
 use Rattle.xd_proof_text.specs.ProofText.{ProvesRow}
 use Rattle.xd_steps.specs.Output.{Output}
 use Rattle.xd_syntax.specs.Kept.{program_tree}
+use Rattle.xd_auto.specs.Automaton.{accepts}
+use Rattle.xd_syntax.specs.Program.{names_of}
 use Rattle.xd_command.specs.Subtype.{AnswersInclusion}
+use Rattle.xd_command.proofs.LeastDocuments.{alone_by_states, false_if}
 use Rattle.xd_command.proofs.Inclusions.{answers_proof, inclusion_proved, row_known, row_typed}
 use Rattle.xd_command.proofs.command.subtype.compare_states.Goals as goal
 
@@ -50,11 +53,20 @@ returns-in-Included c L R left right =
     (λ o status text. answers_proof p cells auto L R c.args.left c.args.right left right v.0 o status (inclusion_proved p cells auto L R c.args.left c.args.right left right table goal v.1 o.text text))
     c.prove_goal.ensures.status c.prove_goal.ensures.text
 
-pub returns : goal.returns
-returns c L R left right =
+pub separate-requires-clause-belongs : goal.separate-requires-clause-belongs
+separate-requires-clause-belongs c =
+    let v = subst (IsVerdict c.args.auto.now c.decide.new.store c.decide.new.table c.args.left (c.args.right ∷ [])) c.in-Separated.is c.in_ok-goal.ensures.verdict in
+    v.belongs
+
+pub separate-requires-clause-apart : goal.separate-requires-clause-apart
+separate-requires-clause-apart c =
     let ds = c.decide.new.store in
     let v = subst (IsVerdict c.args.auto.now ds c.decide.new.table c.args.left (c.args.right ∷ [])) c.in-Separated.is c.in_ok-goal.ensures.verdict in
     let d = document_at ds c.in-Separated.document in
-    let alone = v.separates.refused c.args.right (inl refl) in
-    IfOk-weaker c.separated.result _ (AnswersInclusion (program_tree c.args.sound.now) L R)
-    (λ o e. inr (d, v.belongs.proper, (left.acceptor.1 d).0 v.separates.accepted, (λ f. alone ((right.acceptor.1 d).1 f)), e)) c.separated.ensures
+    record { accepted = v.separates.accepted; refused = false_if (accepts c.args.auto.now d c.args.right) (v.separates.refused c.args.right (inl refl)) }
+
+pub returns : goal.returns
+returns c L R left right =
+    let E = names_of (program_tree c.args.sound.now) in
+    IfOk-weaker c.separate.result _ (AnswersInclusion (program_tree c.args.sound.now) L R)
+    (λ o t. inr (alone_by_states E L R c.args.auto.now c.args.left c.args.right o left.acceptor right.acceptor t)) c.separate.ensures

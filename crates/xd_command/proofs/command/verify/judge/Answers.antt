@@ -2,6 +2,7 @@ use Rattle.std.proofs.Common.{subst}
 use Rattle.xd_syntax.specs.Kept.{program_tree}
 use Rattle.xd_syntax.specs.Program.{names_of}
 use Rattle.xd_proof.specs.Goals.{AreGoalsAt}
+use Rattle.xd_proof.proofs.GoalLemmas.{goals_belong}
 use Rattle.xd_proof_check.specs.Reasons.{IsVerdict}
 use Rattle.xd_proof_check.proofs.AcceptLemmas.{goals_stay}
 use Rattle.xd_command.proofs.Judging.{judges_accepted}
@@ -9,8 +10,10 @@ use Rattle.xd_command.proofs.command.verify.judge.Goals as goal
 
 pub claim-requires : goal.claim-requires
 claim-requires c =
-    let g = c.requires in
-    (g.0, goals_stay c.args.sound.now.types c.accepts.new.sound.types c.in_ok-accepts.ensures.adds.types c.args.proof.now g.0 g.1)
+    let old = c.args.sound.now.types in
+    let new = c.accepts.new.sound.types in
+    let g = c.goals-some.ensures.goals old c.requires in
+    goals_belong new c.args.proof.now g.0 (goals_stay old new c.in_ok-accepts.ensures.adds.types c.args.proof.now g.0 g.1)
 
 pub returns-in_ok-claim-in-Accepted : goal.returns-in_ok-claim-in-Accepted
 returns-in_ok-claim-in-Accepted c = λ goals are.

@@ -1,6 +1,7 @@
 use Rattle.std.proofs.Common.{inl, inr, subst}
 use Rattle.xd_base.specs.Outside.{HasRisen}
 use Rattle.xd_syntax.specs.Kept.{program_tree}
+use Rattle.xd_proof.proofs.GoalLemmas.{goals_belong}
 use Rattle.xd_steps.specs.Proofs.{EndsAtProof}
 use Rattle.xd_steps.specs.Reading.{IsReadFrom}
 use Rattle.xd_command.specs.Verify.{AnswersVerify, Judges}
@@ -15,6 +16,9 @@ returns-in_err-proof g c =
     let ends = EndsAtProof holds rose c.args.proof.now P in
     let answers = AnswersVerify holds rose c.args.proof.now P in
     ends-returned ends answers (IsReadFrom holds c.args.proof.now P c.load_proof.new.sound.types) answers c.in_err-proof.field-0.0 c.from_residual.result c.from_residual.ensures.1 (λ o e. inl e) c.in_err-proof.ensures.step
+
+pub judge-requires : goal.judge-requires
+judge-requires g c = let h = c.in_ok-proof.ensures.step in goals_belong c.load_proof.new.sound.types c.in_ok-proof.proof h.2.0 h.2.2
 
 pub returns : goal.returns
 returns g c =
