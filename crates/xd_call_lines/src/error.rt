@@ -24,48 +24,22 @@ pub enum CallError {
     Label,
     #[error("the words don't suit the call")]
     Words,
-    #[error("a document or a program that can't be read")]
+    #[error("a program that can't be read")]
     Malformed,
     #[error("not a number: {0}")]
     Number(#[from] ParseIntError),
     #[error("cannot write: {0}")]
     Output(#[from] io::Error),
+    #[error(transparent)]
+    Document(#[from] ReadError),
+    #[error(transparent)]
+    Tokens(#[from] LexError),
+    #[error(transparent)]
+    Shelf(#[from] FetchError),
+    #[error(transparent)]
+    Room(#[from] NoRoom),
+    #[error(transparent)]
+    Memory(#[from] NoMemory),
     #[error("out of memory")]
-    Memory(#[from(alloc)] AllocError),
-}
-
-impl From<NoRoom> for CallError {
-    fn from(_error: NoRoom) -> Self {
-        Self::Memory(AllocError)
-    }
-}
-
-impl From<NoMemory> for CallError {
-    fn from(_error: NoMemory) -> Self {
-        Self::Memory(AllocError)
-    }
-}
-
-impl From<ReadError> for CallError {
-    fn from(error: ReadError) -> Self {
-        match error {
-            ReadError::Malformed(_) => Self::Malformed,
-            ReadError::NoMemory => Self::Memory(AllocError),
-        }
-    }
-}
-
-impl From<LexError> for CallError {
-    fn from(error: LexError) -> Self {
-        match error {
-            LexError::NotUtf8(_) => Self::Malformed,
-            LexError::NoMemory => Self::Memory(AllocError),
-        }
-    }
-}
-
-impl From<FetchError> for CallError {
-    fn from(_error: FetchError) -> Self {
-        Self::Memory(AllocError)
-    }
+    Allocation(#[from(alloc)] AllocError),
 }

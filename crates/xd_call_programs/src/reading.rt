@@ -1,9 +1,10 @@
 //! Programs and types as calls read them.
 
 use crate::trees::{show_program, show_type};
-use std::alloc::{AllocError, Global};
+use std::alloc::Global;
 use std::io::Write;
 use xd_call_lines::{CallError, show_place};
+use xd_doc::NoMemory;
 use xd_names::resolve;
 use xd_parse::{ParseError, parse_program, parse_type};
 use xd_rec::{Soundness, well_formed};
@@ -53,7 +54,7 @@ fn show_faults(faults: &[Fault], out: &mut Vec<u8>) -> Result<(), CallError> {
 fn show_refusal(error: ParseError, out: &mut Vec<u8>) -> Result<(), CallError> {
     match error {
         ParseError::Fault(fault) => show_fault(&fault, out),
-        ParseError::NoMemory => Err(CallError::Memory(AllocError)),
+        ParseError::NoMemory => Err(CallError::Memory(NoMemory)),
     }
 }
 

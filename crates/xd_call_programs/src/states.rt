@@ -5,9 +5,10 @@ ghost use Rattle.xd_auto.specs.Automaton.{IsState};
 ghost use Rattle.xd_syntax.specs.Kept.{AddsTypes, program_tree};
 ghost use Rattle.xd_syntax.specs.Types.{BelongsTo};
 
-use std::alloc::{AllocError, Global};
+use std::alloc::Global;
 use xd_auto::{Auto, State};
 use xd_call_lines::{Call, CallError};
+use xd_doc::NoMemory;
 use xd_heads::{Cells, compile_type};
 use xd_names::resolve;
 use xd_parse::{ParseError, parse_program};
@@ -20,7 +21,7 @@ fn sound_program(alloc: Global, text: &str) -> Result<SoundProgram, CallError> {
     let program = match parse_program(alloc, text.as_bytes()) {
         Ok(program) => program,
         Err(ParseError::Fault(_)) => return Err(CallError::Malformed),
-        Err(ParseError::NoMemory) => return Err(CallError::Memory(AllocError)),
+        Err(ParseError::NoMemory) => return Err(CallError::Memory(NoMemory)),
     };
     if !resolve(alloc, &program)?.is_empty() {
         return Err(CallError::Malformed);

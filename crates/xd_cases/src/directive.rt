@@ -26,6 +26,8 @@ pub enum Directive<'a> {
     Room(usize),
     /// The sink takes so many bytes in a call.
     Piece(usize),
+    /// The document of so many persons is written, which the sample is run on.
+    Persons(u64),
     /// The command runs on these words.
     Run(&'a str),
     /// The command runs on these words, once for each variation.
@@ -156,6 +158,7 @@ pub fn parse(alloc: Global, line: &str) -> Result<Directive<'_>, CaseError> {
         "+" => piece(alloc, rest),
         "shelf" => shelf(alloc, rest),
         "sink" => sink(alloc, rest),
+        "persons" => Ok(Directive::Persons(rest.parse::<u64>()?)),
         "$" => Ok(Directive::Run(rest)),
         "each" => varied(rest, Shown::Statuses),
         "every" => varied(rest, Shown::Outputs),

@@ -6,6 +6,7 @@ use std::io;
 use std::num::ParseIntError;
 use thiserror::Error;
 use xd_base::NoRoom;
+use xd_doc::NoMemory;
 
 /// Why a line of the cases is refused.
 #[derive(Debug, Drop, Error)]
@@ -28,6 +29,12 @@ pub enum CaseError {
     Output(#[from] io::Error),
     #[error("out of memory")]
     Memory(#[from(alloc)] AllocError),
+}
+
+impl From<NoMemory> for CaseError {
+    fn from(_error: NoMemory) -> Self {
+        Self::Memory(AllocError)
+    }
 }
 
 impl From<NoRoom> for CaseError {

@@ -16,6 +16,9 @@ use anyhow::{Context, Result};
 use std::alloc::Global;
 use std::io;
 use std::io::Write;
+use xd_command::sample_document;
+use xd_doc::Store;
+use xd_write::write_document;
 
 /// Appends the status and the output of a run.
 fn show_run(
@@ -39,6 +42,16 @@ fn show_runs(
 ) -> Result<(), CaseError> {
     let ended = run::run_each(alloc, case, variation, words)?;
     report::show_runs(out, &ended, shown)
+}
+
+/// Appends the document of so many persons, which the sample is run on.
+fn show_persons(alloc: Global, persons: u64, out: &mut Vec<u8>) -> Result<(), CaseError> {
+    let mut store = Store::new(alloc);
+    let document = sample_document(alloc, &mut store, persons)?;
+    let mut text = Vec::new(alloc);
+    write_document(alloc, &store, document, &mut text)?;
+    text.push(b'\n')?;
+    report::show_output(out, &text)
 }
 
 /// Does what a line says, and appends its answer.
@@ -74,6 +87,7 @@ fn obey<'a>(
             case.piece = piece;
             Ok(())
         }
+        Directive::Persons(persons) => show_persons(alloc, persons, out),
         Directive::Run(words) => show_run(alloc, case, words, out),
         Directive::Vary(variation, shown, words) => {
             show_runs(alloc, case, variation, shown, words, out)

@@ -18,6 +18,7 @@ use xd_call_programs::{program_of, show_both_ways, show_members, state_at, state
 use xd_clauses::{case_types, live, uncovered};
 use xd_doc::{Label, Seq, Store};
 use xd_match::first_way;
+use xd_prefer::preferred_types;
 use xd_read::read_document;
 use xd_runs::laws::programs_are_linear;
 use xd_sound::SoundProgram;
@@ -153,33 +154,52 @@ fn is_live(alloc: Global, question: &mut Question, number: usize) -> Result<bool
     Ok(is_live)
 }
 
-/// What the variables of the clause that the call's second word numbers may be, on what fits the type that its first word names.
-fn bindings_of(call: &Call<'_>) -> Result<Vec<Binding>, CallError>
+/// Which ways of a pattern count: all that take the whole document, or the first of them.
+#[derive(Clone, Copy)]
+pub enum Ways {
+    Whole,
+    First,
+}
+
+/// What these ways give the variables of the clause that the call's second word numbers, on what fits the type that its first word names.
+fn bindings_of(call: &Call<'_>, ways: Ways) -> Result<Vec<Binding>, CallError>
     ensures { IfOk result (λ bindings. All (λ (b : Binding). IsState b.auto b.state) bindings.items) }
 {
     let number = call.size(1)?;
     let mut question = question_of(call)?;
-    bindings_at(call.alloc, &mut question, number)
+    bindings_at(call.alloc, &mut question, ways, number)
 }
 
-/// What the variables of the clause of this number may be.
+/// What these ways give the variables of the clause of this number.
 fn bindings_at(
     alloc: Global,
     question: &mut Question,
+    ways: Ways,
     number: usize,
 ) -> Result<Vec<Binding>, CallError>
     requires { IsPosed question.old }
     ensures { IfOk result (λ bindings. All (λ (b : Binding). IsState b.auto b.state) bindings.items) }
 {
     let (earlier, pattern) = at_clause(&question.patterns, number)?;
-    let bindings = case_types(
-        alloc,
-        &mut question.sound,
-        &question.auto,
-        question.state,
-        earlier,
-        pattern,
-    )?;
+    let sound = &mut question.sound;
+    let bindings = match ways {
+        Ways::Whole => case_types(
+            alloc,
+            sound,
+            &question.auto,
+            question.state,
+            earlier,
+            pattern,
+        )?,
+        Ways::First => preferred_types(
+            alloc,
+            sound,
+            &question.auto,
+            question.state,
+            earlier,
+            pattern,
+        )?,
+    };
     Ok(bindings)
 }
 
@@ -196,17 +216,19 @@ pub fn binding_of(bindings: Vec<Binding>, name: &str) -> Result<(Auto, State), C
     Err(CallError::Unknown)
 }
 
-/// `case_types TYPE CLAUSE VARIABLE DOCUMENTS`: which of the documents the variable may be.
-pub fn show_case_types(call: &Call<'_>, out: &mut Vec<u8>) -> Result<(), CallError> {
+/// `case_types TYPE CLAUSE VARIABLE DOCUMENTS`: which of the documents the variable may be. `preferred_types` with the same words: which
+/// of them the first match gives it.
+pub fn show_given(call: &Call<'_>, ways: Ways, out: &mut Vec<u8>) -> Result<(), CallError> {
     let variable = call.word(2)?;
-    let (auto, state) = binding_of(bindings_of(call)?, variable)?;
+    let (auto, state) = binding_of(bindings_of(call, ways)?, variable)?;
     show_members(call, 3, &auto, state, out)
 }
 
-/// `bound TYPE CLAUSE VARIABLE OTHER`: whether all that the variable may be is of the other type, and the other way round.
-pub fn show_bound(call: &Call<'_>, out: &mut Vec<u8>) -> Result<(), CallError> {
+/// `bound TYPE CLAUSE VARIABLE OTHER`: whether all that the variable may be is of the other type, and the other way round. `preferred`
+/// with the same words: the same of what the first match gives it.
+pub fn show_bound(call: &Call<'_>, ways: Ways, out: &mut Vec<u8>) -> Result<(), CallError> {
     let variable = call.word(2)?;
-    let bound = binding_of(bindings_of(call)?, variable)?;
+    let bound = binding_of(bindings_of(call, ways)?, variable)?;
     let other = state_of(call, 3)?;
     let mut both = Auto::new(call.alloc);
     show_compared(call.alloc, &bound, &other, &mut both, out)

@@ -1,5 +1,6 @@
 //! The program that the calls are about, and where each is made.
 
+use crate::clauses::Ways;
 use crate::{clauses, tracks};
 use std::alloc::Global;
 use xd_call_lines::{Call, CallError, Desk};
@@ -31,8 +32,10 @@ fn answer(call: &Call<'_>, out: &mut Vec<u8>) -> Result<(), CallError> {
     match call.name {
         "uncovered" => clauses::show_uncovered(call, out),
         "live" => clauses::show_live(call, out),
-        "case_types" => clauses::show_case_types(call, out),
-        "bound" => clauses::show_bound(call, out),
+        "case_types" => clauses::show_given(call, Ways::Whole, out),
+        "preferred_types" => clauses::show_given(call, Ways::First, out),
+        "bound" => clauses::show_bound(call, Ways::Whole, out),
+        "preferred" => clauses::show_bound(call, Ways::First, out),
         "first_way" => clauses::show_first_way(call, out),
         "project" => tracks::show_projected(call, out),
         _ => Err(CallError::Call),

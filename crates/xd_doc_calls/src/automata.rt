@@ -10,7 +10,7 @@ use std::io::Write;
 use xd_auto::{Auto, State, trim};
 use xd_call_lines::{Call, CallError, class, label, show_answer, show_answer_on, words};
 use xd_doc::{Seq, Store};
-use xd_empty::{inhabitant, inhabitants};
+use xd_empty::{Inhabitants, inhabitant, inhabitants, inhabited, inhabited_part};
 use xd_member::{Answers, Scratch, accepts_kept, member};
 use xd_read::read_document;
 
@@ -18,7 +18,8 @@ use xd_read::read_document;
 /// `add_text_move FROM CLASS REST`, `union NAME ONE TWO`, `concat NAME ONE TWO`, `wrap NAME LABEL STATE`,
 /// `absorb NAME STATE` (of a trimmed copy), `trim NAME STATE` (in place of the automaton). What asks: `member STATE` about
 /// the document on each line of its text, `accepts_kept STATE DOCUMENTS` about those of the store, `inhabitant NAME STATE`,
-/// which gives the document that was found a name, `inhabitants`.
+/// which gives the document that was found a name, `inhabitants`, `inhabited`, `learn`. Further, `unite NAME STATES`, and
+/// `inhabited_part NAME STATE` (in place of the automaton).
 pub fn auto(desk: &mut DocumentDesk, call: &Call<'_>, out: &mut Vec<u8>) -> Result<(), CallError> {
     match call.name {
         "add_state" => add_state(desk, call, out),
@@ -33,6 +34,10 @@ pub fn auto(desk: &mut DocumentDesk, call: &Call<'_>, out: &mut Vec<u8>) -> Resu
         "accepts_kept" => show_kept(desk, call, out),
         "inhabitant" => show_inhabitant(desk, call, out),
         "inhabitants" => show_inhabitants(desk, call, out),
+        "inhabited" => show_inhabited(desk, call, out),
+        "learn" => show_learnt(desk, call, out),
+        "unite" => unite(desk, call, out),
+        "inhabited_part" => keep_inhabited(desk, call, out),
         _ => Err(CallError::Call),
     }
 }
@@ -204,4 +209,55 @@ fn show_found(
     let state = desk.auto.state(number);
     let accepts = accepts_kept(&mut answers, &desk.auto, state, &desk.store, seq)?;
     show_answer(accepts, out)
+}
+
+/// Of each state whether it accepts anything.
+fn show_inhabited(
+    desk: &DocumentDesk,
+    call: &Call<'_>,
+    out: &mut Vec<u8>,
+) -> Result<(), CallError> {
+    for is in inhabited(call.alloc, &desk.auto)?.iter() {
+        show_answer(*is, out)?;
+    }
+    Ok(())
+}
+
+/// For how many states a document is known once all are learnt.
+fn show_learnt(
+    desk: &mut DocumentDesk,
+    call: &Call<'_>,
+    out: &mut Vec<u8>,
+) -> Result<(), CallError> {
+    let mut known = Inhabitants::new(call.alloc);
+    known.learn(call.alloc, &desk.auto, &mut desk.store)?;
+    let mut count = 0_usize;
+    for number in 0..desk.auto.len() {
+        if known.document(desk.auto.state(number)).is_some() {
+            count = count.saturating_add(1);
+        }
+    }
+    writeln!(out, "{count} of {} states", desk.auto.len())?;
+    Ok(())
+}
+
+/// One state for those that the call's words from the second on name.
+fn unite(desk: &mut DocumentDesk, call: &Call<'_>, out: &mut Vec<u8>) -> Result<(), CallError> {
+    let mut states = Vec::new(call.alloc);
+    for name in call.behind.split_whitespace().skip(1) {
+        states.push(state(&desk.auto, &desk.states, name)?)?;
+    }
+    let made = desk.auto.unite(&states)?;
+    give(desk, call, made, out)
+}
+
+fn keep_inhabited(
+    desk: &mut DocumentDesk,
+    call: &Call<'_>,
+    out: &mut Vec<u8>,
+) -> Result<(), CallError> {
+    let start = state_of(desk, call, 1)?;
+    let (part, start) = inhabited_part(call.alloc, &desk.auto, start)?;
+    desk.auto = part;
+    give(desk, call, start, out)
 }

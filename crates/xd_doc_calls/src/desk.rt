@@ -1,6 +1,7 @@
 //! What the calls work on.
 
 use crate::automata::auto;
+use crate::classes::{labels, texts};
 use crate::documents::store;
 use crate::named::Names;
 use crate::reports::report;
@@ -35,6 +36,8 @@ impl Desk for DocumentDesk {
             "store" => store(self, &call.of_subject(), out),
             "auto" => auto(self, &call.of_subject(), out),
             "report" => report(self, &call.of_subject(), out),
+            "class" => labels(&call.of_subject(), out),
+            "texts" => texts(&call.of_subject(), out),
             _ => Err(CallError::Call),
         }
     }

@@ -10,11 +10,11 @@ use std::io::Write;
 use xd_call_lines::{Call, CallError, label, show_place};
 use xd_doc::{Seq, Store, Text};
 use xd_read::{ReadError, read_document};
-use xd_write::write_document;
+use xd_write::{write_document, write_text};
 
 /// `read NAME : DOCUMENT`, `write DOC`, and what makes a document of others and gives it a name: `text_node NAME NEXT : TEXT`,
 /// `elem_node NAME LABEL CONTENT NEXT`, `append NAME FRONT BACK`, `join NAME ONE TWO THREE`, `first_before NAME DOC NEXT`,
-/// `copy_out NAME DOC`, which copies into a new store in place of the old one.
+/// `copy_out NAME DOC`, which copies into a new store in place of the old one. `part START END : TEXT` writes a part of a text.
 pub fn store(desk: &mut DocumentDesk, call: &Call<'_>, out: &mut Vec<u8>) -> Result<(), CallError> {
     match call.name {
         "read" => read(desk, call, out),
@@ -28,6 +28,7 @@ pub fn store(desk: &mut DocumentDesk, call: &Call<'_>, out: &mut Vec<u8>) -> Res
         "join" => join(desk, call, out),
         "first_before" => first_before(desk, call, out),
         "copy_out" => copy_out(desk, call, out),
+        "part" => show_part(call, out),
         _ => Err(CallError::Call),
     }
 }
@@ -130,4 +131,19 @@ fn copy_out(desk: &mut DocumentDesk, call: &Call<'_>, out: &mut Vec<u8>) -> Resu
     let copy = desk.store.copy_out(call.alloc, seq, &mut store)?;
     desk.store = store;
     give(desk, call, copy, out)
+}
+
+/// The part of the call's text between two bytes.
+fn show_part(call: &Call<'_>, out: &mut Vec<u8>) -> Result<(), CallError> {
+    let start = call.size(0)?;
+    let end = call.size(1)?;
+    let text = Text::new(call.alloc, call.text)?;
+    let whole = text.as_str();
+    if start > end || !whole.is_char_boundary(start) || !whole.is_char_boundary(end) {
+        return Err(CallError::Words);
+    }
+    let part = text.part(start, end)?;
+    write_text(part.as_str(), out)?;
+    out.push(b'\n')?;
+    Ok(())
 }

@@ -2,6 +2,7 @@
 #![tactic(auto)]
 
 mod automata;
+mod classes;
 mod desk;
 mod documents;
 mod named;

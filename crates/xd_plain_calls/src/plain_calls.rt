@@ -4,14 +4,14 @@ ghost use Rattle.std.specs.Prelude.{◌<◌, length, IfOk};
 ghost use Rattle.xd_plain.specs.PlainPrograms.{AnyIsFirst};
 
 use crate::plain::{plain_program, plain_tree};
-use std::alloc::{AllocError, Global};
+use std::alloc::Global;
 use std::io::Write;
 use xd_call_lines::{Call, CallError, show_answer_on};
 use xd_call_programs::Programs;
-use xd_doc::{Item, Store};
+use xd_doc::{Item, NoMemory, Store};
 use xd_plain::{
-    Binding, NoValue, PlainClauses, PlainDocument, PlainExpression, PlainFunction, PlainProgram,
-    PlainTree, Valued, first_within, fits_within, meaning, value, ways_within,
+    NoValue, PlainBinding, PlainClauses, PlainDocument, PlainExpression, PlainFunction,
+    PlainProgram, PlainTree, Valued, first_within, fits_within, meaning, value, ways_within,
 };
 use xd_read::read_document;
 
@@ -196,7 +196,7 @@ fn show_first(
     }
 }
 
-fn show_bindings(bindings: &[Binding], out: &mut Vec<u8>) -> Result<(), CallError> {
+fn show_bindings(bindings: &[PlainBinding], out: &mut Vec<u8>) -> Result<(), CallError> {
     out.extend_from_slice(b"match")?;
     for binding in bindings {
         write!(out, " {} = ", binding.variable.as_str())?;
@@ -224,7 +224,7 @@ fn show_reason(why: NoValue, out: &mut Vec<u8>) -> Result<(), CallError> {
     match why {
         NoValue::Spent => out.extend_from_slice(b"spent\n")?,
         NoValue::Stuck => out.extend_from_slice(b"stuck\n")?,
-        NoValue::NoMemory => return Err(CallError::Memory(AllocError)),
+        NoValue::NoMemory => return Err(CallError::Memory(NoMemory)),
     }
     Ok(())
 }

@@ -18,7 +18,7 @@ some_number types c (Some n) T e = (n, refl)
 
 -- a state with a continuation is one of a type
 pub is_type_state : (types : List Row) (c : CellsView) (s : State) {T : Tree} → continuation_of types c s ≡ Some T → IsTypeState c s
-is_type_state types c s {T} e = some_number types c (number_at c.owners (state_number s)) T e
+is_type_state types c s {T} e = some_number types c (number_at c.states (state_number s)) T e
 
 -- names stay those of states as the automaton grows, and one more is put behind them
 pub named_more : (old new : Automaton) (xs ys : List Named) (n : Named) → Extends old new → AllByRecursion (λ (m : Named). IsState old m.state) xs → IsState new n.state → ys ≡ xs ++ n ∷ []

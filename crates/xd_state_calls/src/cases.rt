@@ -2,7 +2,8 @@
 
 use std::io::Write;
 use xd_call_lines::{Call, CallError};
-use xd_proof_lines::{Atom, ReadCase, Step, read_case};
+use xd_proof_form::{cut_lines, split_words};
+use xd_proof_lines::{ProofAtom, ReadCase, Step, read_case};
 
 /// `read_case LINE`: the number of the head, the atom, and the steps of the choice tree; or `none`.
 pub fn show_case(call: &Call<'_>, out: &mut Vec<u8>) -> Result<(), CallError> {
@@ -21,12 +22,12 @@ fn show_read(read: &ReadCase, out: &mut Vec<u8>) -> Result<(), CallError> {
     Ok(())
 }
 
-fn show_atom(atom: &Atom, out: &mut Vec<u8>) -> Result<(), CallError> {
+fn show_atom(atom: &ProofAtom, out: &mut Vec<u8>) -> Result<(), CallError> {
     match atom {
-        Atom::Label(label) => show_named("label ", label.as_str(), out),
-        Atom::OtherLabel => show_named("another label", "", out),
-        Atom::Text(text) => show_named("text ", text.as_str(), out),
-        Atom::OtherText => show_named("another text", "", out),
+        ProofAtom::Label(label) => show_named("label ", label.as_str(), out),
+        ProofAtom::OtherLabel => show_named("another label", "", out),
+        ProofAtom::Text(text) => show_named("text ", text.as_str(), out),
+        ProofAtom::OtherText => show_named("another text", "", out),
     }
 }
 
@@ -41,6 +42,26 @@ fn show_step(step: Step, out: &mut Vec<u8>) -> Result<(), CallError> {
         Step::Content(goal) => write!(out, ", content by goal {goal}")?,
         Step::Rest(goal) => write!(out, ", rest by goal {goal}")?,
         Step::Split(right) => write!(out, ", split at head {right}")?,
+    }
+    Ok(())
+}
+
+/// `cut_lines`: how many bytes each line of the text has, and how many stand after the last line feed.
+pub fn show_lines(call: &Call<'_>, out: &mut Vec<u8>) -> Result<(), CallError> {
+    let cut = cut_lines(call.alloc, call.text.as_bytes())?;
+    for line in &cut.lines {
+        writeln!(out, "{} bytes", line.len())?;
+    }
+    writeln!(out, "{} after the last line feed", cut.left.len())?;
+    Ok(())
+}
+
+/// `split_words LINE`: the words, which single spaces separate, one a line in brackets.
+pub fn show_words(call: &Call<'_>, out: &mut Vec<u8>) -> Result<(), CallError> {
+    for word in split_words(call.alloc, call.behind.as_bytes())?.iter() {
+        out.push(b'[')?;
+        out.extend_from_slice(word)?;
+        out.extend_from_slice(b"]\n")?;
     }
     Ok(())
 }

@@ -1,7 +1,9 @@
 //! The program that the calls are about, and where each is made.
 
-use crate::cases::show_case;
+use crate::cases::{show_case, show_lines, show_words};
+use crate::least::{show_apart, show_learned, show_least, show_sizes};
 use crate::states::{Operation, PairShown, show_made, show_paired};
+use crate::streams::show_stream;
 use crate::tables::{show_decided, show_moved, show_questions};
 use crate::types::{TypeShown, show_inhabitant, show_type};
 use std::alloc::Global;
@@ -35,6 +37,10 @@ fn answer(call: &Call<'_>, out: &mut Vec<u8>) -> Result<(), CallError> {
         "heads" => show_type(call, TypeShown::Heads, out),
         "state_type" => show_type(call, TypeShown::State, out),
         "inhabitant" => show_inhabitant(call, out),
+        "least" => show_least(call, out),
+        "sizes" => show_sizes(call, out),
+        "learned" => show_learned(call, out),
+        "apart" => show_apart(call, out),
         "decide" => show_decided(call, out),
         "moved" => show_moved(call, out),
         "questions" => show_questions(call, out),
@@ -42,7 +48,10 @@ fn answer(call: &Call<'_>, out: &mut Vec<u8>) -> Result<(), CallError> {
         "minus" => show_made(call, Operation::Minus, out),
         "pair_up" => show_paired(call, PairShown::Pairs, out),
         "shares" => show_paired(call, PairShown::Shared, out),
+        "stream" => show_stream(call, out),
         "read_case" => show_case(call, out),
+        "cut_lines" => show_lines(call, out),
+        "split_words" => show_words(call, out),
         _ => Err(CallError::Call),
     }
 }

@@ -3,8 +3,10 @@
 
 mod cases;
 mod desk;
+mod least;
 mod named;
 mod states;
+mod streams;
 mod tables;
 mod types;
 

@@ -12,7 +12,7 @@ use xd_boole::{minus, product};
 use xd_call_lines::{Call, CallError, show_answer};
 use xd_call_programs::{show_members, state_of};
 use xd_doc::{NoMemory, Store};
-use xd_empty::Inhabitants;
+use xd_least::LeastInhabitants;
 use xd_traces::{add_universal, pair_up};
 
 /// What is made of two states.
@@ -178,7 +178,7 @@ fn has_shared(
     requires all { IsUniversal pattern.now.auto pattern.now.all }
     requires state { IsState auto.old state }
 {
-    let mut known = Inhabitants::new(alloc);
+    let mut known = LeastInhabitants::new(alloc);
     let mut store = Store::new(alloc);
     let found = cases(
         alloc,

@@ -1,10 +1,9 @@
 //! Calls about tables of goals.
 
-ghost use Rattle.std.specs.Prelude.{◌<◌, ℕ, length, OnOk};
+ghost use Rattle.std.specs.Prelude.{◌<◌, length, OnOk};
 ghost use Rattle.std.specs.List.{AllByRecursion};
 ghost use Rattle.xd_auto.specs.Automaton.{IsState};
-ghost use Rattle.xd_goals.specs.Reached.{HasTreeWithin, HaveTreesWithin};
-ghost use Rattle.xd_goals.specs.Rows.{row_at};
+ghost use Rattle.xd_goals.specs.Rows.{HasRoot};
 ghost use Rattle.xd_goals.specs.Standing.{StandsOn};
 ghost use Rattle.xd_state_calls.specs.declared.named.Named.{Named};
 
@@ -120,19 +119,10 @@ fn show_moved_in(
     requires two { IsState auto.now two }
 {
     show_verdict(alloc, auto, table, one, two, store, out)?;
-    show_all_refuted(auto, store, table, out)
+    show_all_refuted(table, out)
 }
 
-fn show_all_refuted(
-    auto: &Auto,
-    store: &Store,
-    table: &Table,
-    out: &mut Vec<u8>,
-) -> Result<(), CallError>
-    requires { StandsOn auto.now store.now table.now }
-{
-    let _states = auto.len();
-    let _nodes = store.len();
+fn show_all_refuted(table: &Table, out: &mut Vec<u8>) -> Result<(), CallError> {
     for number in 0..table.rows() {
         let goal = table.goal(number);
         if let Standing::Refuted(_) = table.standing(goal) {
@@ -143,8 +133,7 @@ fn show_all_refuted(
 }
 
 fn show_refuted(table: &Table, goal: GoalId, out: &mut Vec<u8>) -> Result<(), CallError>
-    requires goal { goal.number < length table.now.rows }
-    requires trees { (i : ℕ) → HaveTreesWithin table.now.nodes (length table.now.rows) (row_at table.now.rows i).choices }
+    requires { goal.number < length table.now.rows }
 {
     let depends = if has_holding_dependent(table, goal) {
         "depends"
@@ -178,9 +167,7 @@ fn has_holding_dependent(table: &Table, goal: GoalId) -> bool
 }
 
 /// Whether a leaf of a goal that holds names the goal.
-fn is_named(table: &Table, goal: GoalId) -> bool
-    requires { (i : ℕ) → HaveTreesWithin table.now.nodes (length table.now.rows) (row_at table.now.rows i).choices }
-{
+fn is_named(table: &Table, goal: GoalId) -> bool {
     for number in 0..table.rows() {
         let owner = table.goal(number);
         if let Standing::Holds = table.standing(owner) {
@@ -194,7 +181,7 @@ fn is_named(table: &Table, goal: GoalId) -> bool
 
 /// Whether a leaf of the choices names the goal.
 fn is_named_by(table: &Table, choices: &[Choice], goal: GoalId) -> bool
-    requires { HaveTreesWithin table.now.nodes (length table.now.rows) choices.now }
+    requires { AllByRecursion (HasRoot table.now.nodes) choices.now }
 {
     for choice in choices {
         if is_named_in(table, choice.root, goal) {
@@ -206,7 +193,7 @@ fn is_named_by(table: &Table, choices: &[Choice], goal: GoalId) -> bool
 
 /// Whether a leaf of the tree at this node names the goal.
 fn is_named_in(table: &Table, node: usize, goal: GoalId) -> bool
-    requires { HasTreeWithin table.now.nodes (length table.now.rows) node }
+    requires { node < length table.now.nodes }
 {
     match table.choice_node(node) {
         ChoiceNode::Content(leaf) => leaf.number() == goal.number(),

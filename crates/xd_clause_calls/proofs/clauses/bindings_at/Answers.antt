@@ -7,3 +7,8 @@ pub case_types-requires-clause-earlier : goal.case_types-requires-clause-earlier
 case_types-requires-clause-earlier c =
     let rows = c.args.question.now.sound.patterns in
     c.in_ok-earlier.ensures.earlier rows (subst (All (IsLinearPattern rows)) (sym c.deref.ensures.value) c.requires.patterns)
+
+pub preferred_types-requires-clause-earlier : goal.preferred_types-requires-clause-earlier
+preferred_types-requires-clause-earlier c =
+    let rows = c.args.question.now.sound.patterns in
+    c.in_ok-earlier.ensures.earlier rows (subst (All (IsLinearPattern rows)) (sym c.deref.ensures.value) c.requires.patterns)
