@@ -1,0 +1,4 @@
+pub mod Shown
+pub mod FreeNames
+pub mod Bodies
+pub mod ReadBack

@@ -1,0 +1,8 @@
+//! Definitions of types that show a set of documents, and their names.
+#![tactic(auto)]
+
+mod definitions;
+mod names;
+
+pub use definitions::Shown;
+pub use names::free_names;
