@@ -20,7 +20,7 @@ use Rattle.xd_stream.specs.Stop.{IsAccepted, StopsMalformed, StopsOutside, told,
 use Rattle.xd_stream.specs.Characters.{IsPartial, none}
 use Rattle.xd_stream.specs.Validating.{IsSameFor, Passes, Refuses}
 use Rattle.xd_stream.specs.Errors.{error_at}
-use Rattle.xd_stream.specs.Pending.{AreRefused, HasBegun, HasShape, IsNextColumn, IsPlaceAfter, IsRefusal, IsStanding, RefusesByte, RefusesNext, StandsBefore, StandsBehind, Takes, TakesNext}
+use Rattle.xd_stream.specs.Pending.{AreRefused, HasBegun, HasShape, IsNextColumn, IsPlaceAfter, IsRefusal, IsStanding, RefusesByte, RefusesNext, StandsBefore, StandsBehind, Takes, TakesAll, TakesNext}
 use Rattle.xd_stream.specs.declared.machine.Mode.{Mode}
 use Rattle.xd_stream.specs.declared.machine.Mode.TheVariants as modes
 use Rattle.xd_stream.specs.declared.machine.Machine.{Machine}
@@ -28,16 +28,17 @@ use Rattle.xd_stream.specs.declared.error.StreamError.{StreamError}
 use Rattle.xd_stream.specs.declared.error.StreamError.TheVariants as errors
 use Rattle.xd_stream.specs.declared.validator.Refusal.{Refusal}
 use Rattle.xd_stream.specs.declared.validator.Refusal.TheVariants as refusals
-use Rattle.xd_stream.proofs.Behind.{before_refused, behind_refused, next_gap, next_pending, next_token, none_left, stands_before, stands_more, stands_token}
+use Rattle.xd_stream.proofs.Behind.{before_refused, behind_refused, next_gap, next_pending, next_token, none_left, stands_before, stands_more, stands_on, stands_token}
 use Rattle.xd_stream.proofs.Going.{refuses_other}
+use Rattle.xd_stream.proofs.PlainBytes.{parts_join}
 use Rattle.xd_stream.proofs.InFront.{IsOtherFirst, IsStrange, IsTokenAt, ascii_utf8, blank_at, label_at, paren_l_at, strange_at, word_at}
 
 -- ---- places
 
-blank_ascii : (b : ℕ) → is_blank b ≡ true → b < 128
+pub blank_ascii : (b : ℕ) → is_blank b ≡ true → b < 128
 blank_ascii b h = grind (arith, nat_tests)
 
-column_after : (p : Place) (b : ℕ) → b ≢ 10 → b < 128 → after p b ≡ record { line = p.line; column = p.column + 1 }
+pub column_after : (p : Place) (b : ℕ) → b ≢ 10 → b < 128 → after p b ≡ record { line = p.line; column = p.column + 1 }
 column_after p b n lt = rw (ne_eqb b 10 n, low) refl
   where
     low : (nat_le 128 b && nat_lt b 192) ≡ false
@@ -152,18 +153,14 @@ refused_same m n bytes errors.NoMemory s r = λ more. tt
 
 -- ---- words and labels
 
-word_more : (w : List ℕ) (b : ℕ) → is_word w ≡ true → is_word_part b ≡ true → is_word (w ++ b ∷ []) ≡ true
-word_more [] b h k = absurd (cc)
-word_more (c ∷ cs) b h k = let p = and_parts (is_word_start c) (are_word_parts cs) h in and_from (is_word_start c) (are_word_parts (cs ++ b ∷ [])) p.0 (parts_more cs p.1)
-  where
-    parts_more : (xs : List ℕ) → are_word_parts xs ≡ true → are_word_parts (xs ++ b ∷ []) ≡ true
-    parts_more [] e = and_from (is_word_part b) true k refl
-    parts_more (x ∷ xs) e = let p = and_parts (is_word_part x) (are_word_parts xs) e in and_from (is_word_part x) (are_word_parts (xs ++ b ∷ [])) p.0 (parts_more xs p.1)
+word_more : (w xs : List ℕ) → is_word w ≡ true → are_word_parts xs ≡ true → is_word (w ++ xs) ≡ true
+word_more [] xs h k = absurd (cc)
+word_more (c ∷ cs) xs h k = let p = and_parts (is_word_start c) (are_word_parts cs) h in and_from (is_word_start c) (are_word_parts (cs ++ xs)) p.0 (parts_join cs xs p.1 k)
 
-part_line : (b : ℕ) → is_word_part b ≡ true → b ≢ 10
+pub part_line : (b : ℕ) → is_word_part b ≡ true → b ≢ 10
 part_line b h e = let t : is_word_part 10 ≡ true = subst (λ n. is_word_part n ≡ true) e h in cc
 
-word_of-label : (w : List ℕ) → word_of (w ++ 91 ∷ []) ≡ w
+pub word_of-label : (w : List ℕ) → word_of (w ++ 91 ∷ []) ≡ w
 word_of-label w = let e : length (w ++ 91 ∷ []) - 1 ≡ length w = omega (arith, length-append w (91 ∷ [])) in ap (λ n. take n (w ++ 91 ∷ [])) e ∙ take-append_seam w (91 ∷ [])
 
 module _ (m : Machine) (mode : m.mode ≡ modes.Word) where
@@ -185,19 +182,25 @@ module _ (m : Machine) (mode : m.mode ≡ modes.Word) where
   word_utf8 : (bytes : List ℕ) (h : StandsBehind m bytes) → IsUtf8 m.held.items
   word_utf8 bytes h = (held_word (bytes, h)).1
 
-  pub word_takes : (n : Machine) (b : ℕ) → is_word_part b ≡ true → n.validator ≡ m.validator → n.mode ≡ m.mode → n.awaited ≡ m.awaited → n.begun ≡ m.begun → n.held.items ≡ m.held.items ++ b ∷ [] → IsNextColumn m.place n.place → Takes m b n
-  word_takes n b part v is w begun held place bytes h =
+  pub word_goes_on : (n : Machine) (xs : List ℕ) → are_word_parts xs ≡ true → IsUtf8 xs → n.validator ≡ m.validator → n.mode ≡ m.mode → n.awaited ≡ m.awaited → n.begun ≡ m.begun → n.held.items ≡ m.held.items ++ xs
+      → ((p : Place) → m.place ≡ told p → n.place ≡ told (past p xs)) → TakesAll m xs n
+  word_goes_on n xs parts utf8 v is w begun held place bytes h =
       let s = word_shape bytes h in
-      stands_more m n bytes b h v (record {
-        front = m.held.items ++ b ∷ [];
+      stands_on m n bytes xs h v (record {
+        front = m.held.items ++ xs;
         partial = [];
-        parts = ap (λ (xs : List ℕ). xs ++ b ∷ []) (word_pending bytes h) ∙ sym (append-nil (m.held.items ++ b ∷ []));
-        utf8 = IsUtf8-append m.held.items (b ∷ []) (word_utf8 bytes h) (ascii_utf8 b (word_ascii b part));
+        parts = ap (λ (ys : List ℕ). ys ++ xs) (word_pending bytes h) ∙ sym (append-nil (m.held.items ++ xs));
+        utf8 = IsUtf8-append m.held.items xs (word_utf8 bytes h) utf8;
         awaits = rw w (subst (IsPartial m.awaited) s.2 h.pends.awaits);
-        shape = rw (is, mode) (word_more m.held.items b (ap is_word s.1 ∙ s.0) part, held, refl);
+        shape = rw (is, mode) (word_more m.held.items xs (ap is_word s.1 ∙ s.0) parts, held, refl);
         begun = rw (is, mode) (begun ∙ word_begun bytes h);
-        place = column_more b m.place n.place h.from m.held.items (part_line b part) (word_ascii b part) place (word_place bytes h);
+        place = place (past h.from m.held.items) (word_place bytes h) ∙ ap told (sym (past-append h.from m.held.items xs));
       })
+
+  pub word_takes : (n : Machine) (b : ℕ) → is_word_part b ≡ true → n.validator ≡ m.validator → n.mode ≡ m.mode → n.awaited ≡ m.awaited → n.begun ≡ m.begun → n.held.items ≡ m.held.items ++ b ∷ [] → IsNextColumn m.place n.place → Takes m b n
+  word_takes n b part v is w begun held place =
+      word_goes_on n (b ∷ []) (and_from (is_word_part b) true part refl) (ascii_utf8 b (word_ascii b part)) v is w begun held
+      (λ p e. place p e ∙ ap told (sym (column_after p b (part_line b part) (word_ascii b part))))
 
   pub word_refused : (b : ℕ) → is_word_part b ≡ false → (b == 91) ≡ false → RefusesByte m b (errors.Malformed m.begun)
   word_refused b part bracket bytes h =

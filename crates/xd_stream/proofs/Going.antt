@@ -318,6 +318,17 @@ pub test_passes : {X : Type 0} (v w : Validator) (t : Terminal) (r : Result X Re
 test_passes v w t (Ok x) g alive = passes_alive v w t g alive
 test_passes v w t (Err e) g alive = tt
 
+-- the same of every text
+pub test_passes_all : {X : Type 0} (v w : Validator) (r : Result X Refusal) → ((t : List ℕ) → is_utf8 t ≡ true → Goes v (Text t) w) → OnOk r ((ts : List Terminal) → StandsAfter w ts → BeginsAccepted w.automaton w.start ts)
+    → OnOk r ((t : List ℕ) → is_utf8 t ≡ true → Passes v (Text t) w)
+test_passes_all v w (Ok x) g alive = λ t u. passes_alive v w (Text t) (g t u) alive
+test_passes_all v w (Err e) g alive = tt
+
+pub test_refuses_all : {X : Type 0} (v w : Validator) (r : Result X Refusal) → ((t : List ℕ) → is_utf8 t ≡ true → Goes v (Text t) w) → IfErr r (λ e. (ts : List Terminal) → StandsAfter w ts → BeginsAccepted w.automaton w.start ts → ⊥)
+    → IfErr r (λ e. e ≡ refusals.Outside) → IfErr r (λ e. (t : List ℕ) → is_utf8 t ≡ true → Refuses v (Text t) e)
+test_refuses_all v w (Ok x) g dead is = tt
+test_refuses_all v w (Err e) g dead is = λ t u. subst (Refuses v (Text t)) (sym is) (refuses_dead v w (Text t) (g t u) dead)
+
 -- ---- commas and parentheses
 
 comma_step : (e : Position) → e ≡ positions.More → (front : Document) (fs : List Frame) → step (At (expected e) front fs) Comma ≡ Some (At expects.Item front fs)

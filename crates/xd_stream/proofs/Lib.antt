@@ -14,8 +14,11 @@ pub mod Stepping
 pub mod ItemDocuments
 pub mod Going
 pub mod InFront
+pub mod PlainBytes
 pub mod Bytes
+pub mod QuotedTexts
 pub mod Inside
+pub mod Rows
 pub mod Ending
 pub mod Outcomes
 pub mod Finishing
@@ -23,3 +26,4 @@ pub mod Latest
 pub mod Continuing
 pub mod Streaming
 pub mod Stopping
+pub mod Proper

@@ -1,17 +1,18 @@
 -- One more move of a pair.
-use Rattle.std.proofs.Common.{ℕ, ◌+◌, ◌<◌, ◌≡◌, Bool, true, false, ◌||◌, ◌&&◌, List, [], ◌∷◌, ◌++◌, length, take, get_or, ap, refl, sym, ◌∙◌, append_assoc}
+use Rattle.std.proofs.Common.{ℕ, ◌+◌, ◌<◌, ◌≡◌, Bool, true, false, not, ◌||◌, ◌&&◌, List, [], ◌∷◌, ◌++◌, length, take, get_or, ap, refl, sym, ◌∙◌, append_assoc}
 use Rattle.std.specs.List.{list_any}
 use Rattle.std.proofs.lemmas.List.Folds.{list_any-append, list_any_more}
 use Rattle.xd_doc.specs.Classes.{class_has}
 use Rattle.xd_auto.specs.declared.auto.State.{State}
 use Rattle.xd_auto.specs.declared.auto.LabelMove.{LabelMove}
 use Rattle.xd_auto.specs.declared.auto.TextMove.{TextMove}
-use Rattle.xd_auto.specs.Automaton.{Automaton, IsNext, has_label, has_text}
+use Rattle.xd_auto.specs.Automaton.{Automaton, IsNext, has_label, has_text, moves_at}
 use Rattle.xd_empty.specs.Parts.{is_marked}
-use Rattle.xd_stream.specs.Pairs.{leads_behind, leads_text, leads_label}
+use Rattle.xd_stream.specs.Pairs.{TakesEveryText, leads_behind, leads_label, leads_on_text, leads_over_every_text, leads_over_text, leads_text}
 use Rattle.xd_stream.specs.declared.pairs.Pair.{Pair}
 use Rattle.xd_stream.specs.declared.pairs.Waiting.{Waiting}
 use Rattle.xd_stream.proofs.Next.{any_one, any_all}
+use Rattle.xd_stream.proofs.Testing.{pass_same}
 
 and_false : (x y : Bool) → x ≡ false → (x && y) ≡ false
 and_false x y e = rw e refl
@@ -119,3 +120,26 @@ module _ (marks : List Bool) (l : List ℕ) (first : State) (moves : List LabelM
 
   pub wait_all : (now : List Waiting) (from : ℕ) → IsNext has_label moves l from (length moves) → (h : Waits marks l first moves base now from) → (f : Waiting → Bool) → list_any f h.added ≡ list_any (leads_label marks l f first) moves
   wait_all now from next h f = h.same f ∙ sym (any_all has_label (leads_label marks l f first) l moves (needs_label f) from next)
+
+-- no move fails, one more among them
+pub none_next : {X : Type 0} (g : X → Bool) (xs : List X) (i : ℕ) (d : X) → i < length xs → list_any g (take i xs) ≡ false → g (get_or xs i d) ≡ false → list_any g (take (i + 1) xs) ≡ false
+none_next g xs i d lt h e = list_any_more g xs i d lt ∙ ap (λ b. b || g (get_or xs i d)) h ∙ e
+
+-- where every move takes every text, it is the same which one comes
+each_alike : (marks : List Bool) (t : List ℕ) (f : Pair → Bool) (first : State) (moves : List TextMove) → list_any (λ m. not (class_has m.words t)) moves ≡ false → list_any (leads_on_text marks f first) moves ≡ list_any (leads_text marks t f first) moves
+each_alike marks t f first moves h =
+    pass_same (λ m. class_has m.words t) (leads_on_text marks f first) (leads_text marks t f first) moves h
+    (λ m e. sym (ap (λ b. b && (is_marked marks m.rest && f (record { first = first; present = m.rest }))) e))
+
+neither : (x y : Bool) → (x || y) ≡ false → (x ≡ false) × (y ≡ false)
+neither true y h = absurd (cc)
+neither false y h = (refl, h)
+
+pub every_alike : (a : Automaton) (marks : List Bool) (t : List ℕ) (f : Pair → Bool) (now : List Pair) → TakesEveryText a now → leads_over_every_text a marks f now ≡ leads_over_text a marks t f now
+every_alike a marks t f now h = go now (h t)
+  where
+    go : (ps : List Pair) → list_any (λ p. list_any (λ m. not (class_has m.words t)) (moves_at a p.present).texts) ps ≡ false → leads_over_every_text a marks f ps ≡ leads_over_text a marks t f ps
+    go [] e = refl
+    go (p ∷ ps) e =
+        let parts = neither (list_any (λ m. not (class_has m.words t)) (moves_at a p.present).texts) (list_any (λ q. list_any (λ m. not (class_has m.words t)) (moves_at a q.present).texts) ps) e in
+        ap (λ b. b || leads_over_every_text a marks f ps) (each_alike marks t f p.first (moves_at a p.present).texts parts.0) ∙ ap (λ b. list_any (leads_text marks t f p.first) (moves_at a p.present).texts || b) (go ps parts.1)

@@ -7,6 +7,7 @@ pub mod Standing
 pub mod Validating
 pub mod Characters
 pub mod Pending
+pub mod Runs
 pub mod Errors
 pub mod Streams
 pub mod Laws

@@ -1,5 +1,5 @@
 -- Pairs of states and what they lead to, as tests. Only private contracts speak of them.
-use Rattle.std.specs.Prelude.{◌≡◌, ℕ, ◌<◌, Bool, ◌&&◌, ◌==◌, List, ◌++◌, length, slice_index_or}
+use Rattle.std.specs.Prelude.{◌≡◌, ℕ, ◌<◌, Bool, false, not, ◌&&◌, ◌==◌, List, ◌++◌, length, slice_index_or}
 use Rattle.std.specs.List.{list_any}
 use Rattle.xd_doc.specs.Classes.{class_has}
 use Rattle.xd_auto.specs.declared.auto.State.{State}
@@ -31,6 +31,17 @@ leads_over_text a marks t f = list_any (λ p. list_any (leads_text marks t f p.f
 
 abbrev pub leads_over_label : Automaton → List Bool → List ℕ → (Waiting → Bool) → List Pair → Bool
 leads_over_label a marks l f = list_any (λ p. list_any (leads_label marks l f p.first) (moves_at a p.present).labels)
+
+-- every move of a pair on a text takes every text
+abbrev pub TakesEveryText : Automaton → List Pair → Type 0
+TakesEveryText a now = (t : List ℕ) → list_any (λ p. list_any (λ m. not (class_has m.words t)) (moves_at a p.present).texts) now ≡ false
+
+-- the same of leading over a text, whichever it is
+abbrev pub leads_on_text : List Bool → (Pair → Bool) → State → TextMove → Bool
+leads_on_text marks f first m = is_marked marks m.rest && f (record { first = first; present = m.rest })
+
+abbrev pub leads_over_every_text : Automaton → List Bool → (Pair → Bool) → List Pair → Bool
+leads_over_every_text a marks f = list_any (λ p. list_any (leads_on_text marks f p.first) (moves_at a p.present).texts)
 
 -- an element's content began and may begin with these
 abbrev pub begins_content : (Pair → Bool) → Waiting → Bool

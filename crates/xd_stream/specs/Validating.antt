@@ -11,6 +11,7 @@ use Rattle.xd_stream.specs.Positions.{takes_close, takes_comma, takes_item, take
 use Rattle.xd_stream.specs.Expecting.{pair_goes_by_label, pair_goes_by_text}
 use Rattle.xd_stream.specs.Fed.{open_elements}
 use Rattle.xd_stream.specs.Standing.{ArePlaces, AreItemMarks, Keeps, groups}
+use Rattle.xd_stream.specs.declared.pairs.Pair.{Pair}
 use Rattle.xd_stream.specs.declared.position.Position.{Position}
 use Rattle.xd_stream.specs.declared.validator.Validator.{Validator}
 use Rattle.xd_stream.specs.declared.validator.Refusal.{Refusal}
@@ -29,6 +30,9 @@ depth_of v = length v.places.items
 
 abbrev pub position_of : Validator → Position
 position_of v = v.position
+
+abbrev pub pairs_of : Validator → List Pair
+pairs_of v = v.pairs.items
 
 -- the present state of some pair accepts the empty document
 abbrev pub some_last : Validator → Bool

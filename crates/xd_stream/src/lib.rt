@@ -4,11 +4,13 @@
 mod characters;
 mod error;
 mod expected;
+mod labels;
 mod laws;
 mod machine;
 mod marks;
 mod pairs;
 mod position;
+mod runs;
 mod stream;
 mod validator;
 

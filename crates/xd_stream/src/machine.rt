@@ -1,8 +1,7 @@
 //! Bytes as they come, one after the other.
 
-ghost use Rattle.std.specs.Prelude.{◌≡◌, ◌≢◌, ◌<◌, ◌≤◌, ◌++◌, ◌==◌, ◌&&◌, ◌⊎◌, ◌∷◌, [], ℕ, true, false, not, Some, List, IfErr, IfOk, OnOk};
+ghost use Rattle.std.specs.Prelude.{◌≡◌, ◌≢◌, ◌<◌, ◌≤◌, ◌++◌, ◌==◌, ◌&&◌, ◌⊎◌, ◌∷◌, [], ℕ, true, false, not, length, take, Some, List, IfErr, IfOk, OnOk};
 ghost use Rattle.xd_auto.specs.Automaton.{IsState};
-ghost use Rattle.xd_doc.specs.Word.{is_word_part, is_word_start};
 ghost use Rattle.xd_lex.specs.Scan.{is_blank, is_escape};
 ghost use Rattle.xd_lex.specs.Tokens.{Lexeme};
 ghost use Rattle.xd_read.specs.Grammar.{ParenL, Other};
@@ -11,18 +10,22 @@ ghost use Rattle.xd_stream.specs.Stop.{SpellsAccepted};
 ghost use Rattle.xd_stream.specs.Fed.{AreWhole};
 ghost use Rattle.xd_stream.specs.Expecting.{IsExpected};
 ghost use Rattle.xd_stream.specs.Errors.{error_at};
-ghost use Rattle.xd_stream.specs.Validating.{IsSameFor, Passes, position_of, tested, tested_from};
+ghost use Rattle.xd_stream.specs.Pairs.{TakesEveryText};
+ghost use Rattle.xd_stream.specs.Runs.{IsColumnsOn, IsRun, held_text};
+ghost use Rattle.xd_stream.specs.Validating.{IsSameFor, Passes, pairs_of, position_of, tested, tested_from};
 ghost use Rattle.xd_stream.specs.Pending.{HasShape, IsNextColumn, IsOpenMode, IsPlaceAfter, IsRare, IsRefusal, IsStanding, IsStandingBefore, RefusesAll, RefusesByte, RefusesNext, StandsBehind, Stops, Takes, TakesAll, TakesNext, scan_text};
 
 use crate::characters::{Awaited, Wide};
 use crate::error::StreamError;
 use crate::expected::Expected;
+use crate::labels::Labels;
 use crate::position::Position;
+use crate::runs::{is_word_part, is_word_start, text_run, word_run};
 use crate::validator::{Refusal, Validator};
 use std::alloc::Global;
 use xd_auto::{Auto, State};
 use xd_base::Place;
-use xd_doc::{Label, NoMemory};
+use xd_doc::NoMemory;
 use xd_lex::unescape;
 
 /// What the bytes behind the last token begin.
@@ -54,6 +57,8 @@ pub struct Machine {
     pub held: Vec<u8>,
     /// What is to come of a character that isn't complete.
     awaited: Awaited,
+    /// Labels that came before.
+    labels: Labels,
 }
 
 /// The place after an ASCII byte.
@@ -81,22 +86,20 @@ fn next_column(place: Place) -> Place
     }
 }
 
+/// The place after so many characters of one line.
+fn further(place: Place, count: usize) -> Place
+    ensures { IsColumnsOn count place result }
+{
+    Place {
+        line: place.line,
+        column: place.column.saturating_add(count as u64),
+    }
+}
+
 fn is_blank(b: u8) -> bool
     ensures { result ≡ is_blank b }
 {
     b == b' ' || b == b'\t' || b == b'\n' || b == b'\r'
-}
-
-fn is_word_start(b: u8) -> bool
-    ensures { result ≡ is_word_start b }
-{
-    b.is_ascii_lowercase() || b.is_ascii_uppercase() || b == b'_'
-}
-
-fn is_word_part(b: u8) -> bool
-    ensures { result ≡ is_word_part b }
-{
-    is_word_start(b) || b.is_ascii_digit()
 }
 
 fn is_escape(b: u8) -> bool
@@ -141,6 +144,7 @@ impl Machine {
             place,
             held: Vec::new(alloc),
             awaited: Awaited::none(),
+            labels: Labels::new(alloc)?,
         })
     }
 
@@ -159,11 +163,53 @@ impl Machine {
         ensures err { IfErr result (RefusesAll self.old piece.now) }
         ensures same { IsSameFor self.old.validator self.new.validator }
     {
-        for b in piece {
-            if let Err(error) = self.take_byte(*b) {
-                return Err(error);
-            }
+        let mut at = 0;
+        while at < piece.len() {
+            at += self.take_front(&piece[at..])?;
         }
+        Ok(())
+    }
+
+    /// Takes some bytes at the front, and says how many.
+    fn take_front(&mut self, bytes: &[u8]) -> Result<usize, StreamError>
+        requires stands { IsStanding self.old }
+        requires some { 0 < length bytes.now }
+        ensures some { IfOk result (λ n. (0 < n) × (n ≤ length bytes.now)) }
+        ensures ok { IfOk result (λ n. TakesAll self.old (take n bytes.now) self.new) }
+        ensures err { IfErr result (RefusesAll self.old bytes.now) }
+        ensures same { IsSameFor self.old.validator self.new.validator }
+    {
+        let run = self.run_len(bytes);
+        if 0 < run {
+            self.hold_run(&bytes[..run])?;
+            return Ok(run);
+        }
+        self.take_byte(bytes[0])?;
+        Ok(1)
+    }
+
+    /// How many bytes at the front go on with the word or the text that is begun, each as a character of its line that stands
+    /// for itself.
+    fn run_len(&self, bytes: &[u8]) -> usize
+        ensures within { result ≤ length bytes.now }
+        ensures run { 0 < result → IsRun self.now (take result bytes.now) }
+    {
+        match self.mode {
+            Mode::Word => word_run(bytes),
+            Mode::Text(false) if self.awaited.left == 0 => text_run(bytes),
+            _ => 0,
+        }
+    }
+
+    /// Takes such bytes.
+    fn hold_run(&mut self, run: &[u8]) -> Result<(), NoMemory>
+        requires stands { IsStanding self.old }
+        requires run { IsRun self.old run.now }
+        ensures ok { OnOk result (TakesAll self.old run.now self.new) }
+        ensures same { IsSameFor self.old.validator self.new.validator }
+    {
+        self.held.extend_from_slice(run)?;
+        self.place = further(self.place, run.len());
         Ok(())
     }
 
@@ -356,10 +402,7 @@ impl Machine {
         ensures err { IfErr result (RefusesByte self.old 91) }
         ensures same { IsSameFor self.old.validator self.new.validator }
     {
-        let Ok(word) = std::str::from_utf8(&self.held) else {
-            unreachable!()
-        };
-        let label = Label::new(self.alloc, word)?;
+        let label = self.labels.label(&self.held)?;
         if let Err(refusal) = self.validator.open(&label) {
             return Err(error_at(refusal, self.begun));
         }
@@ -412,6 +455,57 @@ impl Machine {
         ensures err { IfErr result (RefusesByte self.old 34) }
         ensures same { IsSameFor self.old.validator self.new.validator }
     {
+        self.take_held_text()?;
+        self.mode = Mode::Between;
+        self.held.clear();
+        self.place = next_column(self.place);
+        Ok(())
+    }
+
+    /// Takes the text that is held.
+    fn take_held_text(&mut self) -> Result<(), StreamError>
+        requires stands { IsStanding self.old }
+        requires mode { self.old.mode ≡ Mode.Text false }
+        requires none { self.old.awaited.left ≡ 0 }
+        ensures ok { OnOk result (Passes self.old.validator (held_text self.old) self.new.validator) }
+        ensures rest { self.new ≡ record self.old { validator = self.new.validator; held = self.new.held } }
+        ensures err { IfErr result (RefusesByte self.old 34) }
+        ensures same { IsSameFor self.old.validator self.new.validator }
+    {
+        if self.validator.takes_every_text() {
+            self.take_every_text()
+        } else {
+            self.take_spelled_text()
+        }
+    }
+
+    /// Takes the text that is held, where all texts lead to the same.
+    fn take_every_text(&mut self) -> Result<(), StreamError>
+        requires stands { IsStanding self.old }
+        requires mode { self.old.mode ≡ Mode.Text false }
+        requires none { self.old.awaited.left ≡ 0 }
+        requires every { TakesEveryText (tested self.old.validator) (pairs_of self.old.validator) }
+        ensures ok { OnOk result (Passes self.old.validator (held_text self.old) self.new.validator) }
+        ensures rest { self.new ≡ record self.old { validator = self.new.validator } }
+        ensures err { IfErr result (RefusesByte self.old 34) }
+        ensures same { IsSameFor self.old.validator self.new.validator }
+    {
+        if let Err(refusal) = self.validator.take_every_text() {
+            return Err(error_at(refusal, self.begun));
+        }
+        Ok(())
+    }
+
+    /// Takes the text that is held, by what it spells.
+    fn take_spelled_text(&mut self) -> Result<(), StreamError>
+        requires stands { IsStanding self.old }
+        requires mode { self.old.mode ≡ Mode.Text false }
+        requires none { self.old.awaited.left ≡ 0 }
+        ensures ok { OnOk result (Passes self.old.validator (held_text self.old) self.new.validator) }
+        ensures rest { self.new ≡ record self.old { validator = self.new.validator; held = self.new.held } }
+        ensures err { IfErr result (RefusesByte self.old 34) }
+        ensures same { IsSameFor self.old.validator self.new.validator }
+    {
         hold(&mut self.held, b'"')?;
         let Ok(spelled) = std::str::from_utf8(&self.held) else {
             unreachable!()
@@ -420,9 +514,6 @@ impl Machine {
         if let Err(refusal) = self.validator.take_text(&text) {
             return Err(error_at(refusal, self.begun));
         }
-        self.mode = Mode::Between;
-        self.held.clear();
-        self.place = next_column(self.place);
         Ok(())
     }
 

@@ -1,13 +1,14 @@
 //! Pairs of states, and what they lead to.
 
-ghost use Rattle.std.specs.Prelude.{◌≡◌, ◌||◌, ◌&&◌, Bool, true, false, length, OnOk};
+ghost use Rattle.std.specs.Prelude.{◌≡◌, ◌||◌, ◌&&◌, Bool, true, false, not, length, List, ℕ, OnOk};
 ghost use Rattle.std.specs.List.{list_any};
 ghost use Rattle.std.specs.List.Sorted.{IsNonDecreasing};
 ghost use Rattle.xd_auto.specs.Automaton.{IsState, moves_at};
-ghost use Rattle.xd_stream.specs.Pairs.{AddsMoves, AddsWaiting, AreStates, HasEnded, begins_content, leads_behind, leads_label, leads_over_label, leads_over_text, leads_text};
+ghost use Rattle.xd_doc.specs.Classes.{class_has};
+ghost use Rattle.xd_stream.specs.Pairs.{AddsMoves, AddsWaiting, AreStates, HasEnded, TakesEveryText, begins_content, leads_behind, leads_label, leads_on_text, leads_over_every_text, leads_over_label, leads_over_text, leads_text};
 
 use xd_auto::{Auto, State};
-use xd_doc::{Label, NoMemory, Text};
+use xd_doc::{Label, NoMemory, Text, Words};
 
 /// A state that a content or the document began with, and one that its items so far lead to.
 #[derive(Clone, Copy, Debug, PartialEq, Eq, PartialOrd, Ord)]
@@ -29,8 +30,10 @@ pub struct Waiting {
 fn sort_pairs(pairs: &mut Vec<Pair>)
     ensures { (f : Pair → Bool) → list_any f pairs.new.items ≡ list_any f pairs.old.items }
 {
-    pairs.sort_unstable();
-    pairs.dedup();
+    if 1 < pairs.len() {
+        pairs.sort_unstable();
+        pairs.dedup();
+    }
 }
 
 /// Adds the pairs that this pair leads to over a text.
@@ -121,6 +124,80 @@ pub fn text_pairs(
 {
     for pair in now {
         add_text_pairs(auto, marks, *pair, text, into)?;
+    }
+    sort_pairs(into);
+    Ok(())
+}
+
+/// Whether the class has every text.
+fn has_every_text(words: &Words) -> bool
+    ensures { result ≡ true → (t : List ℕ) → class_has words.now t ≡ true }
+{
+    words.takes_others() && words.texts().is_empty()
+}
+
+/// Whether every move of the state on a text takes every text.
+fn state_takes_every_text(auto: &Auto, state: State) -> bool
+    requires { IsState auto.now state }
+    ensures { result ≡ true → (t : List ℕ) → list_any (λ m. not (class_has m.words t)) (moves_at auto.now state).texts ≡ false }
+{
+    for step in auto.text_moves(state) {
+        if !has_every_text(&step.words) {
+            return false;
+        }
+    }
+    true
+}
+
+/// Whether every move of these pairs on a text takes every text.
+pub fn takes_every_text(auto: &Auto, now: &[Pair]) -> bool
+    requires { AreStates auto.now now.now }
+    ensures { result ≡ true → TakesEveryText auto.now now.now }
+{
+    for pair in now {
+        if !state_takes_every_text(auto, pair.present) {
+            return false;
+        }
+    }
+    true
+}
+
+/// Adds the pairs that this pair leads to over a text, whichever it is.
+fn add_every_text(
+    auto: &Auto,
+    marks: &[bool],
+    pair: Pair,
+    into: &mut Vec<Pair>,
+) -> Result<(), NoMemory>
+    requires state { IsState auto.now pair.present }
+    requires marks { length marks.now ≡ length auto.now }
+    ensures { OnOk result ((f : Pair → Bool) → list_any f into.new.items ≡ (list_any f into.old.items || list_any (leads_on_text marks.now f pair.first) (moves_at auto.now pair.present).texts)) }
+{
+    for step in auto.text_moves(pair.present) {
+        if marks[step.rest.number()] {
+            let next = Pair {
+                first: pair.first,
+                present: step.rest,
+            };
+            into.push(next)?;
+        }
+    }
+    Ok(())
+}
+
+/// Adds the pairs that these lead to over a text, whichever it is.
+pub fn every_text_pairs(
+    auto: &Auto,
+    marks: &[bool],
+    now: &[Pair],
+    into: &mut Vec<Pair>,
+) -> Result<(), NoMemory>
+    requires states { AreStates auto.now now.now }
+    requires marks { length marks.now ≡ length auto.now }
+    ensures { OnOk result ((f : Pair → Bool) → list_any f into.new.items ≡ (list_any f into.old.items || leads_over_every_text auto.now marks.now f now.now)) }
+{
+    for pair in now {
+        add_every_text(auto, marks, *pair, into)?;
     }
     sort_pairs(into);
     Ok(())

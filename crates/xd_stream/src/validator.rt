@@ -8,14 +8,18 @@ ghost use Rattle.xd_read.specs.Grammar.{Terminal, Text as text_terminal, Label a
 ghost use Rattle.xd_stream.specs.Stop.{BeginsAccepted};
 ghost use Rattle.xd_stream.specs.Positions.{takes_item, takes_close};
 ghost use Rattle.xd_stream.specs.Expecting.{IsExpected, some_has};
-ghost use Rattle.xd_stream.specs.Pairs.{AreStates};
+ghost use Rattle.std.specs.Str.{is_utf8};
+ghost use Rattle.xd_stream.specs.Pairs.{AreStates, TakesEveryText};
 ghost use Rattle.xd_stream.specs.Standing.{is_alive_at};
 ghost use Rattle.xd_stream.specs.declared.validator.Refusal.TheVariants.{NoMemory as OutOfMemory};
-ghost use Rattle.xd_stream.specs.Validating.{Ends, Goes, IsReady, IsSameFor, Passes, Refuses, StandsAfter, depth_of, may_be_empty, may_close, may_close_parens, may_end, may_finish, may_go_on, may_open, may_take_text, position_of, tested, tested_from};
+ghost use Rattle.xd_stream.specs.Validating.{Ends, Goes, IsReady, IsSameFor, Passes, Refuses, StandsAfter, depth_of, may_be_empty, may_close, may_close_parens, may_end, may_finish, may_go_on, may_open, may_take_text, pairs_of, position_of, tested, tested_from};
 
 use crate::expected::{Expected, add_pair_labels, add_pair_texts};
 use crate::marks::item_marks;
-use crate::pairs::{Pair, Waiting, begin_pairs, pairs_behind, text_pairs, waiting_pairs};
+use crate::pairs::{
+    Pair, Waiting, begin_pairs, every_text_pairs, pairs_behind, takes_every_text, text_pairs,
+    waiting_pairs,
+};
 use crate::position::Position;
 use std::alloc::Global;
 use std::mem::swap;
@@ -252,6 +256,43 @@ impl Validator {
             text,
             &mut self.spare,
         )?;
+        swap(&mut self.pairs, &mut self.spare);
+        self.position = Position::More;
+        Ok(())
+    }
+
+    /// Whether all texts lead to the same.
+    pub fn takes_every_text(&self) -> bool
+        requires { IsReady self.now }
+        ensures { result ≡ true → TakesEveryText (tested self.now) (pairs_of self.now) }
+    {
+        takes_every_text(&self.automaton, &self.pairs)
+    }
+
+    /// Takes a text where all lead to the same, whichever it is.
+    pub fn take_every_text(&mut self) -> Result<(), Refusal>
+        requires ready { IsReady self.old }
+        requires every { TakesEveryText (tested self.old) (pairs_of self.old) }
+        ensures ok { OnOk result ((t : List ℕ) → is_utf8 t ≡ true → Passes self.old (text_terminal t) self.new) }
+        ensures err { IfErr result (λ e. (t : List ℕ) → is_utf8 t ≡ true → Refuses self.old (text_terminal t) e) }
+        ensures same { IsSameFor self.old self.new }
+    {
+        if !self.position.takes_item() {
+            return Err(Refusal::Malformed);
+        }
+        self.go_over_every_text()?;
+        self.test()
+    }
+
+    fn go_over_every_text(&mut self) -> Result<(), NoMemory>
+        requires ready { IsReady self.old }
+        requires every { TakesEveryText (tested self.old) (pairs_of self.old) }
+        requires takes { takes_item self.old.position ≡ true }
+        ensures goes { OnOk result ((t : List ℕ) → is_utf8 t ≡ true → Goes self.old (text_terminal t) self.new) }
+        ensures same { IsSameFor self.old self.new }
+    {
+        self.spare.clear();
+        every_text_pairs(&self.automaton, &self.marks, &self.pairs, &mut self.spare)?;
         swap(&mut self.pairs, &mut self.spare);
         self.position = Position::More;
         Ok(())

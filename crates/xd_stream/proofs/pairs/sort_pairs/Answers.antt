@@ -5,8 +5,8 @@ use Rattle.std.proofs.lemmas.List.Sorted.{list_any-IsPermutation}
 use Rattle.xd_stream.proofs.Sorting.{any_once}
 use Rattle.xd_stream.proofs.pairs.sort_pairs.Goals as goal
 
-pub returns : goal.returns
-returns c = λ f.
+pub returns-then-len-gt1 : goal.returns-then-len-gt1
+returns-then-len-gt1 c = λ f.
     ap (list_any f) (dedup_is _ _ _ c.dedup.ensures.filtered)
     ∙ any_once f c.sort_unstable.new.self.items
     ∙ sym (list_any-IsPermutation f _ _ c.sort_unstable.ensures.permutation)
