@@ -9,6 +9,9 @@ use xd_doc::{Label, NoMemory};
 /// How many labels are kept.
 const KEPT: usize = 256;
 
+/// How long a word may be whose label is kept.
+const LONGEST: usize = 64;
+
 /// Labels that came before, so that most are made once: the newest one of each slot.
 #[derive(Drop)]
 pub struct Labels {
@@ -41,6 +44,9 @@ impl Labels {
         requires { is_word word.now ≡ true }
         ensures { IfOk result (λ label. label ≡ word.now) }
     {
+        if LONGEST < word.len() {
+            return label_of(self.alloc, word);
+        }
         let slot = slot_of(word);
         if let Some(Some(label)) = self.newest.get(slot) {
             if label.as_str().as_bytes() == word {

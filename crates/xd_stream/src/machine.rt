@@ -230,6 +230,7 @@ impl Machine {
     }
 
     /// Takes a byte between tokens.
+    #[inline(always)]
     fn begin(&mut self, b: u8) -> Result<(), StreamError>
         requires { IsStandingBefore self.old b }
         ensures ok { OnOk result (TakesNext self.old b self.new) }
@@ -280,6 +281,7 @@ impl Machine {
     }
 
     /// Takes a symbol, which no document has but for three.
+    #[inline(always)]
     fn symbol(&mut self, b: u8) -> Result<(), StreamError>
         requires stands { IsStandingBefore self.old b }
         requires rare { IsRare b }
@@ -295,6 +297,7 @@ impl Machine {
         }
     }
 
+    #[inline(never)]
     fn paren_r(&mut self) -> Result<(), StreamError>
         requires { IsStandingBefore self.old 41 }
         ensures ok { OnOk result (TakesNext self.old 41 self.new) }
@@ -308,6 +311,7 @@ impl Machine {
         Ok(())
     }
 
+    #[inline(always)]
     fn bracket_r(&mut self) -> Result<(), StreamError>
         requires { IsStandingBefore self.old 93 }
         ensures ok { OnOk result (TakesNext self.old 93 self.new) }
@@ -321,6 +325,7 @@ impl Machine {
         Ok(())
     }
 
+    #[inline(always)]
     fn comma(&mut self) -> Result<(), StreamError>
         requires { IsStandingBefore self.old 44 }
         ensures ok { OnOk result (TakesNext self.old 44 self.new) }
@@ -335,6 +340,7 @@ impl Machine {
     }
 
     /// Takes a byte behind a `(`.
+    #[inline(never)]
     fn behind_paren(&mut self, b: u8) -> Result<(), StreamError>
         requires stands { IsStanding self.old }
         requires mode { self.old.mode ≡ Mode.Paren }
@@ -497,6 +503,7 @@ impl Machine {
     }
 
     /// Takes the text that is held, by what it spells.
+    #[inline(never)]
     fn take_spelled_text(&mut self) -> Result<(), StreamError>
         requires stands { IsStanding self.old }
         requires mode { self.old.mode ≡ Mode.Text false }
@@ -517,6 +524,7 @@ impl Machine {
         Ok(())
     }
 
+    #[inline(never)]
     fn in_wide_text(&mut self, escaped: bool, b: u8) -> Result<(), StreamError>
         requires stands { IsStanding self.old }
         requires mode { self.old.mode ≡ Mode.Text escaped }
@@ -545,6 +553,7 @@ impl Machine {
     }
 
     /// Takes a byte within a comment.
+    #[inline(never)]
     fn in_comment(&mut self, starred: bool, b: u8) -> Result<(), StreamError>
         requires stands { IsStanding self.old }
         requires mode { self.old.mode ≡ Mode.Comment starred }
@@ -565,6 +574,7 @@ impl Machine {
         }
     }
 
+    #[inline(never)]
     fn in_wide_comment(&mut self, starred: bool, b: u8) -> Result<(), StreamError>
         requires stands { IsStanding self.old }
         requires mode { self.old.mode ≡ Mode.Comment starred }
