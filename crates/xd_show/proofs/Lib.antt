@@ -1,0 +1,4 @@
+pub mod PlanLaws
+pub mod ContentLaws
+pub mod ShowLaws
+pub mod SettledLaws
