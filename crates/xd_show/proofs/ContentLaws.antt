@@ -13,8 +13,8 @@ use Rattle.xd_syntax.specs.Tree.{Tree, Elem, Name}
 use Rattle.xd_syntax.specs.Table.{Row, KeepsRows, tree_at}
 use Rattle.xd_syntax.specs.Types.{BelongsTo}
 use Rattle.xd_syntax.specs.declared.types.TypeId.{TypeId}
-use Rattle.xd_same_types.specs.Grown.{GrowsTypes, NamesAmong}
-use Rattle.xd_same_types.specs.Same.{Meaning, FitsAs, HasTops, tops_only}
+use Rattle.xd_same_types.specs.Grown.{GrowsTypes}
+use Rattle.xd_same_types.specs.Same.{Meaning, FitsAs, tops_only}
 use Rattle.std.specs.Option.{IfSome}
 use Rattle.std.specs.Result.{IfOk}
 use Rattle.xd_doc.specs.Classes.{LabelClass}

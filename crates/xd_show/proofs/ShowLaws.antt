@@ -1,11 +1,9 @@
 -- Names that stand for states, and what is shown.
 use Rattle.std.proofs.Common.{◌≡◌, ◌↔◌, ℕ, zero, suc, ◌<◌, Bool, true, false, cond, arith, refl, sym, ap, ◌∙◌, subst, List, [], ◌∷◌, length, get_or}
-use Rattle.std.specs.Prelude.{◌||◌}
-use Rattle.std.specs.List.{AllByRecursion}
 use Rattle.std.specs.Str.{bytes_eq}
 use Rattle.std.specs.Prelude.{Option, Some, slice_get}
 use Rattle.std.proofs.lemmas.Slice.Eq.{bytes_eq-Decides}
-use Rattle.xd_doc.specs.Document.{Document, is_proper}
+use Rattle.xd_doc.specs.Document.{Document}
 use Rattle.xd_auto.specs.declared.auto.State.{State}
 use Rattle.xd_auto.specs.Automaton.{Automaton, accepts}
 use Rattle.xd_syntax.specs.Words.{any_word, has_word}
@@ -20,9 +18,9 @@ use Rattle.xd_shown.specs.Bodies.{AreBodies, AreMeant, ShowsMeanings}
 use Rattle.xd_shown.specs.FreeNames.{AreDistinct, AreNewNames}
 use Rattle.xd_shown.specs.Shown.{AreNamedFrom, IsShown}
 use Rattle.xd_empty.specs.Parts.{HasDocument}
-use Rattle.xd_solve.specs.Levels.{AreContents, MeansAny}
+use Rattle.xd_solve.specs.Levels.{MeansAny}
 use Rattle.xd_show.proofs.ContentLaws.{all_of_each, has_there, same_word}
-use Rattle.xd_show.specs.Contents.{AreBodiesBy, AreContentsBy, IsTypeOf, MeansAnyAnd, MeansAnyAndStates, MeansState, MeansStates}
+use Rattle.xd_show.specs.Contents.{AreBodiesBy, AreContentsBy, IsTypeOf, MeansAnyAnd, MeansAnyAndStates, MeansStates}
 
 -- the state of the first of the words that is this one
 abbrev pub stands_for : Automaton → List (List ℕ) → List State → Meaning

@@ -1,6 +1,5 @@
-use Rattle.std.proofs.Common.{refl, sym, ◌∙◌, subst, get_or, zero, length, ◌<◌, arith, rules}
+use Rattle.std.proofs.Common.{refl, subst, get_or, length, ◌<◌, arith, rules}
 use Rattle.std.specs.List.{AllByRecursion}
-use Rattle.xd_auto.specs.Automaton.{moves_at}
 use Rattle.xd_auto.specs.declared.auto.LabelMove.{LabelMove}
 use Rattle.xd_auto.specs.declared.auto.State.{State}
 use Rattle.xd_solve.specs.Levels.{IsWritten}

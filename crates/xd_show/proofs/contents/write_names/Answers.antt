@@ -1,4 +1,4 @@
-use Rattle.std.proofs.Common.{refl, sym, ◌∙◌, subst, get_or, [], ◌∷◌, length, ◌<◌, arith}
+use Rattle.std.proofs.Common.{sym, subst, get_or, [], ◌∷◌, length, ◌<◌, arith}
 use Rattle.xd_auto.specs.Automaton.{state_number}
 use Rattle.xd_auto.specs.declared.auto.State.{State}
 use Rattle.xd_same_types.proofs.Ids.{got}
