@@ -3,6 +3,8 @@
 
 mod definitions;
 mod names;
+#[cfg(test)]
+mod tests;
 
 pub use definitions::Shown;
 pub use names::free_names;
