@@ -49,17 +49,17 @@ module _ (a : Automaton) (all : State) (m : Marked) (o : ∥ IsOfSomePattern a a
 
 -- ---- what the variables of a clause may be
 
-got_among : (vs : List (List ℕ)) (x : ℕ) (w : List ℕ) → slice_get vs x ≡ Some w → Among w vs
+pub got_among : (vs : List (List ℕ)) (x : ℕ) (w : List ℕ) → slice_get vs x ≡ Some w → Among w vs
 got_among [] x w e = cc
 got_among (v ∷ vs) zero w e = inl (let q : v ≡ w = cc in q)
 got_among (v ∷ vs) (suc x) w e = inr (got_among vs x w e)
 
-got_word : (vs : List (List ℕ)) (x : ℕ) (w : List ℕ) → slice_get vs x ≡ Some w → get_or vs x [] ≡ w
+pub got_word : (vs : List (List ℕ)) (x : ℕ) (w : List ℕ) → slice_get vs x ≡ Some w → get_or vs x [] ≡ w
 got_word [] x w e = cc
 got_word (v ∷ vs) zero w e = cc
 got_word (v ∷ vs) (suc x) w e = got_word vs x w e
 
-same_words : (bs : List Given) (vs : List (List ℕ)) → length bs ≡ length vs → ((x : ℕ) (d : Given) → x < length bs → slice_get vs x ≡ Some (get_or bs x d).variable) → map (λ (b : Given). b.variable) bs ≡ vs
+pub same_words : (bs : List Given) (vs : List (List ℕ)) → length bs ≡ length vs → ((x : ℕ) (d : Given) → x < length bs → slice_get vs x ≡ Some (get_or bs x d).variable) → map (λ (b : Given). b.variable) bs ≡ vs
 same_words [] [] n h = refl
 same_words [] (v ∷ vs) n h = absurd (omega arith)
 same_words (b ∷ bs) [] n h = absurd (omega arith)

@@ -1,22 +1,21 @@
 -- What variables are given, and states in automata of their own.
-use Rattle.std.proofs.Common.{◌≡◌, ℕ, zero, suc, ◌<◌, ◌+◌, Bool, false, ◌&&◌, List, [], ◌∷◌, ◌++◌, map, length, take, get_or, Option, Some, None, refl, sym, ap, ◌∙◌, subst, arith}
+use Rattle.std.proofs.Common.{◌≡◌, ◌↔◌, ℕ, zero, suc, ◌<◌, ◌+◌, Bool, true, false, ◌&&◌, List, [], ◌∷◌, ◌++◌, map, length, take, get_or, Option, Some, None, refl, sym, ap, ◌∙◌, subst, arith}
 use Rattle.std.specs.List.{All, AllByRecursion, list_any}
 use Rattle.std.proofs.lemmas.List.{take_more}
-use Rattle.xd_doc.specs.Document.{Document, empty, text, element}
+use Rattle.xd_doc.specs.Document.{Document, empty, text, element, is_proper}
 use Rattle.xd_doc.specs.Classes.{class_has}
 use Rattle.xd_auto.specs.declared.auto.State.{State}
 use Rattle.xd_auto.specs.declared.auto.LabelMove.{LabelMove}
 use Rattle.xd_auto.specs.declared.auto.TextMove.{TextMove}
 use Rattle.xd_auto.specs.Automaton.{Automaton, IsState, StateMoves, accepts, moves_at, no_moves}
 use Rattle.xd_laws.specs.Bindings.{variables_of}
-use Rattle.xd_syntax.specs.Tree.{Definitions}
 use Rattle.xd_syntax.specs.Placed.{PlacedTree, unplaced}
-use Rattle.xd_syntax.specs.May.{IsLive, MayBind}
+use Rattle.xd_syntax.specs.May.{Allowance}
 use Rattle.xd_laws.specs.KeptLines.{AllPaired}
 use Rattle.xd_bind.specs.declared.tracks.Binding.{Binding}
 use Rattle.xd_bind.specs.declared.tracks.Given.{Given}
 use Rattle.xd_clauses.specs.Cases.{IsApart, IsGivenNothing}
-use Rattle.xd_clauses.specs.Clauses.{Accepted, IsMayState, IsMayGiven, IsMayBinding, AreMayGivens, AreMayBindings}
+use Rattle.xd_clauses.specs.Clauses.{AreBindingsOf, AreGivensOf, IsBindingOf, IsGivenOf, IsStateOf}
 use Rattle.xd_clauses.proofs.Turning.{paired_end}
 
 -- ---- a state without moves
@@ -49,14 +48,11 @@ all_front Q x xs p h (suc i) d lt = h i d (omega arith)
 
 -- ---- variables that are given nothing
 
-module _ (E : Definitions) (A : Document → Type 0) (P : PlacedTree) (dead : IsLive E A [] P → ⊥) (a : Automaton) where
-  nothing_bound : (x : List ℕ) (d : Document) → MayBind E A [] P x d → ⊥
-  nothing_bound x d m = dead (m.0, m.2, (m.1, m.3))
-
-  nothing_given : (x : List ℕ) (g : Given) → IsGivenNothing a x g → IsMayGiven E A [] P a g
+module _ (V : Allowance) (nothing : (x : List ℕ) (d : Document) → V x d → ⊥) (a : Automaton) where
+  nothing_given : (x : List ℕ) (g : Given) → IsGivenNothing a x g → IsGivenOf V a g
   nothing_given x g n = record {
     belongs = n.belongs;
-    exact = λ e proper. (λ y. absurd (let no : accepts a e g.state ≡ false = n.nothing e in cc), λ m. absurd (nothing_bound g.variable e m));
+    exact = λ e proper. (λ y. absurd (let no : accepts a e g.state ≡ false = n.nothing e in cc), λ m. absurd (nothing g.variable e m));
   }
 
   words_nothing : (vs : List (List ℕ)) (gs : List Given) → AllPaired (IsGivenNothing a) vs gs → map (λ (g : Given). g.variable) gs ≡ vs
@@ -65,14 +61,26 @@ module _ (E : Definitions) (A : Document → Type 0) (P : PlacedTree) (dead : Is
   words_nothing (v ∷ vs) [] h = absurd h
   words_nothing (v ∷ vs) (g ∷ gs) h = ap (λ w. w ∷ map (λ (k : Given). k.variable) gs) (h.0).variable ∙ ap (λ ws. v ∷ ws) (words_nothing vs gs h.1)
 
-  each_nothing : (vs : List (List ℕ)) (gs : List Given) → AllPaired (IsGivenNothing a) vs gs → All (IsMayGiven E A [] P a) gs
+  each_nothing : (vs : List (List ℕ)) (gs : List Given) → AllPaired (IsGivenNothing a) vs gs → All (IsGivenOf V a) gs
   each_nothing [] [] h = λ i d lt. absurd (omega arith)
   each_nothing [] (g ∷ gs) h = absurd h
   each_nothing (v ∷ vs) [] h = absurd h
-  each_nothing (v ∷ vs) (g ∷ gs) h = all_front (IsMayGiven E A [] P a) g gs (nothing_given v g h.0) (each_nothing vs gs h.1)
+  each_nothing (v ∷ vs) (g ∷ gs) h = all_front (IsGivenOf V a) g gs (nothing_given v g h.0) (each_nothing vs gs h.1)
 
-  pub all_nothing : (vs : List (List ℕ)) (gs : List Given) → vs ≡ variables_of (unplaced P) → AllPaired (IsGivenNothing a) vs gs → AreMayGivens E A [] P a gs
-  all_nothing vs gs e h = record { variables = words_nothing vs gs h ∙ e; each = each_nothing vs gs h }
+  pub all_nothing : (P : PlacedTree) (vs : List (List ℕ)) (gs : List Given) → vs ≡ variables_of (unplaced P) → AllPaired (IsGivenNothing a) vs gs → AreGivensOf V P a gs
+  all_nothing P vs gs e h = record { variables = words_nothing vs gs h ∙ e; each = each_nothing vs gs h }
+
+-- ---- what a variable may be, said in another way
+
+module _ (V W : Allowance) (same : (x : List ℕ) (d : Document) → is_proper d ≡ true → V x d ↔ W x d) where
+  given_as : (a : Automaton) (g : Given) → IsGivenOf V a g → IsGivenOf W a g
+  given_as a g m = record {
+    belongs = m.belongs;
+    exact = λ e proper. (λ y. (same g.variable e proper).0 ((m.exact e proper).0 y), λ y. (m.exact e proper).1 ((same g.variable e proper).1 y));
+  }
+
+  pub givens_as : (P : PlacedTree) (a : Automaton) (gs : List Given) → AreGivensOf V P a gs → AreGivensOf W P a gs
+  givens_as P a gs m = record { variables = m.variables; each = λ k d l. given_as a (get_or gs k d) (m.each k d l) }
 
 -- ---- states in automata of their own
 
@@ -82,13 +90,13 @@ apart_more a gs bs i g b lt e p h =
     subst (λ hs. AllPaired (IsApart a) hs (bs ++ b ∷ [])) (sym (take_more gs i g lt))
     (paired_end (IsApart a) (take i gs) bs (get_or gs i g) b h (subst (λ (k : Given). IsApart a k b) e p))
 
-module _ (E : Definitions) (A : Document → Type 0) (earlier : List PlacedTree) (P : PlacedTree) (a : Automaton) where
-  pub givens_there : (gs : List Given) → All (IsMayGiven E A earlier P a) gs → AllByRecursion (λ (g : Given). IsState a g.state) gs
+module _ (V : Allowance) (a : Automaton) where
+  pub givens_there : (gs : List Given) → All (IsGivenOf V a) gs → AllByRecursion (λ (g : Given). IsState a g.state) gs
   givens_there [] h = tt
   givens_there (g ∷ gs) h = ((h zero g (omega arith)).belongs, givens_there gs (λ i d lt. h (suc i) d (omega arith)))
 
-  one_apart : (g : Given) (b : Binding) → IsApart a g b → IsMayGiven E A earlier P a g → IsMayBinding E A earlier P b
-  one_apart g b p m = subst (λ x. IsMayState E A earlier P b.auto x b.state) (sym p.variable) (record {
+  one_apart : (g : Given) (b : Binding) → IsApart a g b → IsGivenOf V a g → IsBindingOf V b
+  one_apart g b p m = subst (λ x. IsStateOf V b.auto x b.state) (sym p.variable) (record {
     belongs = p.belongs;
     exact = λ e proper. (λ y. (m.exact e proper).0 (sym (p.same e) ∙ y), λ w. p.same e ∙ (m.exact e proper).1 w);
   })
@@ -100,12 +108,12 @@ module _ (E : Definitions) (A : Document → Type 0) (earlier : List PlacedTree)
   words_apart (g ∷ gs) (b ∷ bs) h =
       ap (λ w. w ∷ map (λ (c : Binding). c.variable) bs) (h.0).variable ∙ ap (λ ws. g.variable ∷ ws) (words_apart gs bs h.1)
 
-  each_apart : (gs : List Given) (bs : List Binding) → AllPaired (IsApart a) gs bs → All (IsMayGiven E A earlier P a) gs → All (IsMayBinding E A earlier P) bs
+  each_apart : (gs : List Given) (bs : List Binding) → AllPaired (IsApart a) gs bs → All (IsGivenOf V a) gs → All (IsBindingOf V) bs
   each_apart [] [] h m = λ i d lt. absurd (omega arith)
   each_apart [] (b ∷ bs) h m = absurd h
   each_apart (g ∷ gs) [] h m = absurd h
   each_apart (g ∷ gs) (b ∷ bs) h m =
-      all_front (IsMayBinding E A earlier P) b bs (one_apart g b h.0 (m zero g (omega arith))) (each_apart gs bs h.1 (λ j k l. m (suc j) k (omega arith)))
+      all_front (IsBindingOf V) b bs (one_apart g b h.0 (m zero g (omega arith))) (each_apart gs bs h.1 (λ j k l. m (suc j) k (omega arith)))
 
-  pub bindings_apart : (gs : List Given) (bs : List Binding) → AllPaired (IsApart a) gs bs → AreMayGivens E A earlier P a gs → AreMayBindings E A earlier P bs
-  bindings_apart gs bs h m = record { variables = words_apart gs bs h ∙ m.variables; each = each_apart gs bs h m.each }
+  pub bindings_apart : (P : PlacedTree) (gs : List Given) (bs : List Binding) → AllPaired (IsApart a) gs bs → AreGivensOf V P a gs → AreBindingsOf V P bs
+  bindings_apart P gs bs h m = record { variables = words_apart gs bs h ∙ m.variables; each = each_apart gs bs h m.each }

@@ -1,8 +1,6 @@
 -- What is left behind patterns.
-use Rattle.std.proofs.Common.{◌≡◌, ◌↔◌, ℕ, List, [], ◌∷◌, ◌++◌, get_or, refl, ap, sym, subst}
-use Rattle.xd_doc.specs.Document.{Document}
-use Rattle.xd_auto.specs.declared.auto.State.{State}
-use Rattle.xd_auto.specs.Automaton.{Automaton}
+use Rattle.std.proofs.Common.{◌≡◌, ◌↔◌, ℕ, true, List, [], ◌∷◌, ◌++◌, refl, ap, sym, subst}
+use Rattle.xd_doc.specs.Document.{Document, is_proper}
 use Rattle.xd_syntax.specs.Tree.{Tree, Definitions}
 use Rattle.xd_syntax.specs.Table.{Row}
 use Rattle.xd_syntax.specs.Placed.{PlacedTree, unplaced}
@@ -13,9 +11,8 @@ use Rattle.xd_syntax.specs.declared.patterns.PatternId.{PatternId}
 use Rattle.xd_syntax.specs.May.{Arrives, IsLive, MayBind, NoneTakes}
 use Rattle.xd_syntax.specs.Ways.{Takes}
 use Rattle.xd_syntax.proofs.PlacedTrees.{unplaced_at}
-use Rattle.xd_bind.specs.declared.tracks.Given.{Given}
 use Rattle.xd_clauses.specs.Cases.{placed_pattern, placed_patterns}
-use Rattle.xd_clauses.specs.Clauses.{IsPatternOf, IsMayState, AreMayGivens}
+use Rattle.xd_clauses.specs.Clauses.{IsPatternOf}
 use Rattle.xd_clauses.specs.declared.pattern.ClausePattern.{ClausePattern}
 
 none_end : (E : Definitions) (Ps : List PlacedTree) (P : PlacedTree) (d : Document) → NoneTakes E (Ps ++ P ∷ []) d ↔ (NoneTakes E Ps d × (Takes E (unplaced P) d → ⊥))
@@ -63,14 +60,8 @@ module _ (E : Definitions) (A B : Document → Type 0) (earlier : List PlacedTre
   bind_back : (x : List ℕ) (e : Document) → MayBind E A earlier P x e → MayBind E B [] P x e
   bind_back x e m = (m.0, m.1, arrives_back m.0 m.2, m.3, m.4)
 
-  pub state_on : (a : Automaton) (x : List ℕ) (s : State) → IsMayState E B [] P a x s → IsMayState E A earlier P a x s
-  state_on a x s m = record {
-    belongs = m.belongs;
-    exact = λ e proper. (λ y. bind_on x e ((m.exact e proper).0 y), λ y. (m.exact e proper).1 (bind_back x e y));
-  }
-
-  pub givens_on : (a : Automaton) (gs : List Given) → AreMayGivens E B [] P a gs → AreMayGivens E A earlier P a gs
-  givens_on a gs m = record { variables = m.variables; each = λ k d l. let g = get_or gs k d in state_on a g.variable g.state (m.each k d l) }
+  pub bind_same : (x : List ℕ) (e : Document) → is_proper e ≡ true → MayBind E B [] P x e ↔ MayBind E A earlier P x e
+  bind_same x e proper = (λ m. bind_on x e m, λ m. bind_back x e m)
 
 -- ---- a program to which types were added
 

@@ -5,7 +5,7 @@ ghost use Rattle.std.specs.List.{All, AllByRecursion};
 ghost use Rattle.xd_doc.specs.Document.{Document};
 ghost use Rattle.xd_doc.specs.Least.{IsLeastUpTo};
 ghost use Rattle.xd_doc.specs.Stored.{BelongsTo, Keeps, document_at};
-ghost use Rattle.xd_auto.specs.Automaton.{Automaton, IsState};
+ghost use Rattle.xd_auto.specs.Automaton.{Automaton, Extends, IsState, KeepsAccepting};
 ghost use Rattle.xd_least.specs.Least.{Knows};
 ghost use Rattle.xd_syntax.specs.Kept.{AddsTypes, program_tree};
 ghost use Rattle.xd_syntax.specs.May.{IsLive, NoneTakes};
@@ -105,7 +105,9 @@ pub fn given_nothing(
     variables: &[Label],
     auto: &mut Auto,
 ) -> Result<Vec<Given>, NoMemory>
-    ensures { IfOk result (λ givens. AllPaired (IsGivenNothing auto.new) variables.now givens.items) }
+    ensures givens { IfOk result (λ givens. AllPaired (IsGivenNothing auto.new) variables.now givens.items) }
+    ensures extends { Extends auto.old auto.new }
+    ensures accepting { KeepsAccepting auto.old auto.new }
 {
     let nothing = auto.add_state(false)?;
     let mut givens = Vec::new(alloc);

@@ -12,8 +12,8 @@ ghost use Rattle.xd_syntax.specs.Program.{names_of};
 ghost use Rattle.xd_syntax.specs.Shallow.{IsShallow};
 ghost use Rattle.xd_syntax.specs.Tree.{Definitions};
 ghost use Rattle.xd_clauses.specs.Cases.{IsLinearPattern, placed_pattern, placed_patterns};
-ghost use Rattle.xd_clauses.specs.Clauses.{Accepted, IsPatternOf};
-ghost use Rattle.xd_prefer.specs.Preferred.{ArePreferredBindings, ArePreferredGivens};
+ghost use Rattle.xd_clauses.specs.Clauses.{Accepted, AreBindingsOf, AreGivensOf, IsPatternOf};
+ghost use Rattle.xd_prefer.specs.Preferred.{Prefers};
 
 use crate::cases::first_cases;
 use std::alloc::Global;
@@ -41,7 +41,7 @@ pub fn first_bindings(
     requires known { Knows auto.old store.old known.old }
     ensures dead { result ≡ Ok None → (E : Definitions) (P : PlacedTree) → IsPatternOf E (unplaced P) clause.now → IsLive E (Accepted auto.old coming) [] P → ⊥ }
     ensures live { IfOk result (λ found. IfSome found (λ givens. (E : Definitions) (P : PlacedTree) → IsPatternOf E (unplaced P) clause.now → IsLive E (Accepted auto.old coming) [] P)) }
-    ensures bindings { IfOk result (λ found. IfSome found (λ givens. (E : Definitions) (P : PlacedTree) → IsPatternOf E (unplaced P) clause.now → ArePreferredGivens E (Accepted auto.old coming) [] P auto.new givens.items)) }
+    ensures bindings { IfOk result (λ found. IfSome found (λ givens. (E : Definitions) (P : PlacedTree) → IsPatternOf E (unplaced P) clause.now → AreGivensOf (Prefers E (Accepted auto.old coming) [] P) P auto.new givens.items)) }
     ensures extends { Extends auto.old auto.new }
     ensures accepting { OnOk result (KeepsAccepting auto.old auto.new) }
     ensures known { Knows auto.new store.new known.new }
@@ -78,7 +78,7 @@ fn first_givens(
     coming: State,
 ) -> Result<Vec<Given>, NoMemory>
     requires { IsState auto.old coming }
-    ensures { IfOk result (λ givens. (E : Definitions) (P : PlacedTree) → IsPatternOf E (unplaced P) clause.now → ArePreferredGivens E (Accepted auto.old coming) [] P auto.new givens.items) }
+    ensures { IfOk result (λ givens. (E : Definitions) (P : PlacedTree) → IsPatternOf E (unplaced P) clause.now → AreGivensOf (Prefers E (Accepted auto.old coming) [] P) P auto.new givens.items) }
 {
     let mut known = LeastInhabitants::new(alloc);
     let mut store = Store::new(alloc);
@@ -106,7 +106,7 @@ pub fn preferred_types(
     requires state { IsState auto.now state }
     requires earlier { All (IsLinearPattern sound.old.patterns) earlier.now }
     requires pattern { IsLinearPattern sound.old.patterns pattern }
-    ensures bindings { IfOk result (λ bindings. ArePreferredBindings (names_of (program_tree sound.old)) (Accepted auto.now state) (placed_patterns sound.old.patterns earlier.now) (placed_pattern sound.old.patterns pattern) bindings.items) }
+    ensures bindings { IfOk result (λ bindings. AreBindingsOf (Prefers (names_of (program_tree sound.old)) (Accepted auto.now state) (placed_patterns sound.old.patterns earlier.now) (placed_pattern sound.old.patterns pattern)) (placed_pattern sound.old.patterns pattern) bindings.items) }
     ensures adds { AddsTypes sound.old sound.new }
     ensures same { program_tree sound.new ≡ program_tree sound.old }
     ensures shallow { IsShallow sound.old.types → IsShallow sound.new.types }

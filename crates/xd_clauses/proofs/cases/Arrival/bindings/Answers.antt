@@ -1,12 +1,13 @@
 use Rattle.std.proofs.Common.{List, [], sym, subst}
 use Rattle.std.specs.List.{AllByRecursion}
 use Rattle.xd_auto.specs.Automaton.{IsState}
+use Rattle.xd_syntax.specs.May.{MayBind}
 use Rattle.xd_laws.specs.KeptLines.{AllPaired}
 use Rattle.xd_bind.specs.declared.tracks.Given.{Given}
 use Rattle.xd_clauses.specs.Cases.{IsApart}
 use Rattle.xd_clauses.specs.Clauses.{Accepted, AreMayGivens}
-use Rattle.xd_clauses.proofs.Givens.{bindings_apart, givens_there}
-use Rattle.xd_clauses.proofs.Passing.{givens_on}
+use Rattle.xd_clauses.proofs.Givens.{bindings_apart, givens_as, givens_there}
+use Rattle.xd_clauses.proofs.Passing.{bind_same}
 use Rattle.xd_clauses.proofs.cases.Arrival.bindings.Goals as goal
 
 pub apart-requires : goal.apart-requires
@@ -15,7 +16,7 @@ apart-requires c =
     let a = c.givens_of.new.auto in
     let B = Accepted c.args.self.now.auto c.args.self.now.state in
     let m : AreMayGivens k.0 B [] k.1 a c.in_ok-givens.givens.items = c.in_ok-givens.ensures k.0 k.1 k.2 in
-    subst (λ (gs : List Given). AllByRecursion (λ (g : Given). IsState a g.state) gs) (sym c.deref.ensures.value) (givens_there k.0 B [] k.1 a c.in_ok-givens.givens.items m.each)
+    subst (λ (gs : List Given). AllByRecursion (λ (g : Given). IsState a g.state) gs) (sym c.deref.ensures.value) (givens_there (MayBind k.0 B [] k.1) a c.in_ok-givens.givens.items m.each)
 
 pub returns : goal.returns
 returns c E b s Ps P is left =
@@ -25,4 +26,4 @@ returns c E b s Ps P is left =
     let gs = c.in_ok-givens.givens.items in
     let bs = c.in_ok-bindings.bindings.items in
     let pairs : AllPaired (IsApart a) gs bs = subst (λ (gs : List Given). AllPaired (IsApart a) gs bs) c.deref.ensures.value c.in_ok-bindings.ensures in
-    bindings_apart E A Ps P a gs bs pairs (givens_on E A B Ps P left a gs (c.in_ok-givens.ensures E P is))
+    bindings_apart (MayBind E A Ps P) a P gs bs pairs (givens_as (MayBind E B [] P) (MayBind E A Ps P) (bind_same E A B Ps P left) P a gs (c.in_ok-givens.ensures E P is))
