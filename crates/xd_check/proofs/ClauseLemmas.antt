@@ -59,10 +59,10 @@ module _ (P : ProgramTree) (S : Scope) (e : Expression) (earlier : List PlacedTr
   pub live_to : (Q : PlacedTree) → IsLiveIn P S e earlier Q → IsLive E C [] Q
   live_to Q h = (h.0, arrives_to h.0 h.1, h.2)
 
-  bind_from : (Q : PlacedTree) (x : List ℕ) (d : Document) → MayBind E C [] Q x d → MayBind E (May P S e) earlier Q x d
+  pub bind_from : (Q : PlacedTree) (x : List ℕ) (d : Document) → MayBind E C [] Q x d → MayBind E (May P S e) earlier Q x d
   bind_from Q x d h = (h.0, h.1, arrives_from h.0 h.2, h.3, h.4)
 
-  bind_to : (Q : PlacedTree) (x : List ℕ) (d : Document) → MayBind E (May P S e) earlier Q x d → MayBind E C [] Q x d
+  pub bind_to : (Q : PlacedTree) (x : List ℕ) (d : Document) → MayBind E (May P S e) earlier Q x d → MayBind E C [] Q x d
   bind_to Q x d h = (h.0, h.1, arrives_to h.0 h.2, h.3, h.4)
 
   -- what is left comes behind the pattern too, where nothing was taken away for a dead clause

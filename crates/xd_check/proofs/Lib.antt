@@ -21,6 +21,7 @@ pub mod Walkable
 pub mod Outcomes
 pub mod Readying
 pub mod FunctionLoop
+pub mod ByPlace
 pub mod MetMatches
 pub mod MetClauses
 pub mod MetOrder

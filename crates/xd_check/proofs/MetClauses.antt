@@ -63,7 +63,7 @@ clauses_begin p a vs xs cs v h i = record {
   met = λ S e s c. record { earlier = []; comes = c; matches = goes_begin p a (MatchesOfClauses (program_tree p) S e [] (clauses_in p cs)) xs };
 }
 
-clause_front : (cs : List Clause) (n : ℕ) (k : Clause) → n < length cs → k ≡ get_or cs n k → drop n cs ≡ k ∷ drop (n + 1) cs
+pub clause_front : (cs : List Clause) (n : ℕ) (k : Clause) → n < length cs → k ≡ get_or cs n k → drop n cs ≡ k ∷ drop (n + 1) cs
 clause_front cs n k l e = drop_more cs n k l ∙ ap (λ x. x ∷ drop (n + 1) cs) (sym e)
 
 pub clause_here : (p : ProgramTable) (a b : Automaton) (vs ws : List Variable) (old new : List MetMatch) (cs : List Clause) (n : ℕ) (first v : State) (k : Clause) →
@@ -75,7 +75,7 @@ clause_here p a b vs ws old new cs n first v k h l e =
     (r.0, omega arith)
 
 -- what comes to a clause is the same while the automaton grows
-came : (P : ProgramTree) (S : Scope) (e : Expression) (earlier : List PlacedTree) (b m : Automaton) (v : State) → Grows b m → IsState b v → ComesBehind P S e earlier (Accepted b v) → ComesBehind P S e earlier (Accepted m v)
+pub came : (P : ProgramTree) (S : Scope) (e : Expression) (earlier : List PlacedTree) (b m : Automaton) (v : State) → Grows b m → IsState b v → ComesBehind P S e earlier (Accepted b v) → ComesBehind P S e earlier (Accepted m v)
 came P S e earlier b m v g i h d p =
     let same : accepts m d v ≡ accepts b d v = g.keeps d v i in
     ((λ x. (h d p).0 (sym same ∙ x)), (λ x. same ∙ (h d p).1 x))

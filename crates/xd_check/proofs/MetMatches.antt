@@ -28,13 +28,14 @@ use Rattle.xd_check.specs.declared.variables.Variable.{Variable}
 use Rattle.xd_check.proofs.Keeping.{grows_none, grows_then, just_kept, scope_kept}
 use Rattle.xd_check.proofs.Loops.{bodies, ceiling}
 
-met_kept : (p : ProgramTable) (a b : Automaton) → Grows a b → (ms : List SeenMatch) (xs : List MetMatch) → AllZip (IsMet p a) ms xs → AllZip (IsMet p b) ms xs
+pub met_kept : (p : ProgramTable) (a b : Automaton) → Grows a b → (ms : List SeenMatch) (xs : List MetMatch) → AllZip (IsMet p a) ms xs → AllZip (IsMet p b) ms xs
 met_kept p a b g [] [] h = h
 met_kept p a b g [] (x ∷ xs) h = absurd h
 met_kept p a b g (m ∷ ms) [] h = absurd h
 met_kept p a b g (m ∷ ms) (x ∷ xs) h = (
   record {
     match = (h.0).match;
+    walkable = (h.0).walkable;
     place = (h.0).place;
     belongs = (g.extends).states x.state (h.0).belongs;
     exact = just_kept a b g x.state (May (program_tree p) m.scope m.scrutinee) (h.0).belongs (h.0).exact;

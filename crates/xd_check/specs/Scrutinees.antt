@@ -5,16 +5,19 @@ use Rattle.xd_auto.specs.Automaton.{Automaton, IsState, accepts}
 use Rattle.xd_doc.specs.Document.{Document}
 use Rattle.xd_syntax.specs.CheckFaults.{IsLiveIn}
 use Rattle.xd_syntax.specs.Expression.{Expression, Matched}
-use Rattle.xd_syntax.specs.Kept.{ProgramTable, function_definition, program_tree}
+use Rattle.xd_syntax.specs.Kept.{AddsTypes, ProgramTable, function_definition, program_tree}
 use Rattle.xd_syntax.specs.Program.{ProgramTree}
 use Rattle.xd_syntax.specs.FunctionRow.{FunctionRow}
 use Rattle.xd_syntax.specs.Matches.{AreMatches, MatchesOf, MatchesOfFunction, SeenMatch}
 use Rattle.xd_syntax.specs.Order.{is_earlier}
 use Rattle.xd_syntax.specs.May.{May, Scope, clause_entry}
 use Rattle.xd_syntax.specs.Placed.{PlacedTree}
-use Rattle.xd_check.specs.Ready.{expr_at}
+use Rattle.xd_least.specs.Least.{Knows}
+use Rattle.xd_patterns.specs.Compiler.{Serves}
+use Rattle.xd_check.specs.Ready.{CanBeWalked, expr_at}
 use Rattle.xd_check.specs.Walked.{AcceptsJust}
 use Rattle.xd_check.specs.declared.matches.MetMatch.{MetMatch}
+use Rattle.xd_check.specs.declared.matches.MatchStates.{MatchStates}
 use Rattle.xd_check.specs.declared.matches.Scrutinee.{Scrutinee}
 
 -- the match itself, and a state that accepts exactly the proper documents that its scrutinee may be in its scope
@@ -29,14 +32,25 @@ pub record AreScrutinees (p : ProgramTable) (xs : List Scrutinee) : Type 0 where
   pub seen : AreMatches (program_tree p) matches
   pub each : AllZip (IsScrutineeOf p) matches xs
 
--- ---- of what follows only private contracts speak
-
--- the same of a match that was met, in the automaton of the walk
+-- the same of a match that was met, in the automaton of the walk; the parts of the match can be walked
 pub record IsMet (p : ProgramTable) (a : Automaton) (m : SeenMatch) (x : MetMatch) : Type 0 where
   pub match : expr_at p x.expr.at ≡ Matched m.place m.scrutinee m.clauses
+  pub walkable : CanBeWalked p x.expr.at
   pub place : x.place ≡ m.place
   pub belongs : IsState a x.state
   pub exact : AcceptsJust a x.state (May (program_tree p) m.scope m.scrutinee)
+
+-- The same matches, in an automaton of which something is known; the compiler serves the program, to which types were added.
+pub record AreMatchStates (p : ProgramTable) (a : Automaton) (met : MatchStates) : Type 0 where
+  pub adds : AddsTypes p met.sound
+  pub same : program_tree met.sound ≡ program_tree p
+  pub serves : Serves met.sound met.compiler
+  pub known : Knows a met.store met.inhabitants
+  pub found : List SeenMatch
+  pub seen : AreMatches (program_tree p) found
+  pub each : AllZip (IsMet met.sound a) found met.matches.items
+
+-- ---- of what follows only private contracts speak
 
 -- matches that meet the fact were added
 pub record AddsMatches (p : ProgramTable) (a : Automaton) (A : List SeenMatch → Type 0) (old new : List MetMatch) : Type 0 where

@@ -12,5 +12,5 @@ mod signatures;
 mod states;
 mod variables;
 
-pub use matches::{Scrutinee, scrutinees};
+pub use matches::{MatchStates, MetMatch, Scrutinee, left_behind, met_matches, scrutinees};
 pub use outcome::{CheckOutcome, check};

@@ -23,7 +23,7 @@ ghost use Rattle.xd_clauses.specs.Clauses.{Accepted, IsPatternOf};
 ghost use Rattle.xd_check.specs.InScope.{AreStates, ScopeStands};
 ghost use Rattle.xd_check.specs.Known.{IsKnown};
 ghost use Rattle.xd_check.specs.Ready.{CanBeWalked, ClauseCanBeWalked, IsReady, expr_at};
-ghost use Rattle.xd_check.specs.Scrutinees.{AddsMatches, AddsMatchesOfFunction, AreScrutinees, IsApart, IsClauseMet, met_precedes};
+ghost use Rattle.xd_check.specs.Scrutinees.{AddsMatches, AddsMatchesOfFunction, AreMatchStates, AreScrutinees, IsApart, IsClauseMet, met_precedes};
 ghost use Rattle.xd_check.specs.declared.matches.MetMatch.{MetMatch};
 ghost use Rattle.xd_check.specs.Walked.{ComesBehind, Grows};
 
@@ -37,8 +37,10 @@ use xd_auto::{Auto, State, trim};
 use xd_base::Place;
 use xd_clauses::ClausePattern;
 use xd_doc::{NoMemory, Store};
+use xd_least::LeastInhabitants;
+use xd_patterns::PatternCompiler;
 use xd_runs::laws::programs_are_linear;
-use xd_sound::Checked;
+use xd_sound::{Checked, SoundProgram};
 use xd_syntax::{Clause, ExprForm, ExprId, Function};
 
 /// A match of a program, and what its scrutinee may be.
@@ -54,10 +56,28 @@ pub struct Scrutinee {
 
 /// A match that was met, and a state of the walk's automaton for its scrutinee.
 #[derive(Clone, Copy)]
-pub(crate) struct MetMatch {
+pub struct MetMatch {
+    /// The match.
     pub expr: ExprId,
+    /// The place of the match.
     pub place: Place,
+    /// The state that accepts what the scrutinee may be where the match stands.
     pub state: State,
+}
+
+/// The matches of a program, whose scrutinees are states of one automaton, and what it takes to go on
+/// with that automaton.
+#[derive(Drop)]
+pub struct MatchStates {
+    /// The program, to which the walk has added types.
+    pub sound: SoundProgram,
+    /// What compiles the program's patterns.
+    pub compiler: PatternCompiler,
+    /// What is known of the automaton's states, with documents of the store.
+    pub inhabitants: LeastInhabitants,
+    pub store: Store,
+    /// In order of place.
+    pub matches: Vec<MetMatch>,
 }
 
 /// For each match that doesn't stand inside the body of a clause that is never reached, in order of
@@ -67,12 +87,42 @@ pub(crate) struct MetMatch {
 pub fn scrutinees(alloc: Global, checked: &Checked) -> Result<Vec<Scrutinee>, NoMemory>
     ensures { IfOk result (λ found. AreScrutinees checked.now found.items) }
 {
-    let sound = checked.sound().copy(alloc)?;
     let mut auto = Auto::new(alloc);
-    let checker = Checker::new(alloc, sound, &mut auto)?;
-    let mut met = checker.met_matches(&mut auto)?;
+    let met = met_matches(alloc, checked, &mut auto)?;
+    apart(alloc, &auto, &met.matches)
+}
+
+/// The same with all states in one automaton, which had none yet.
+pub fn met_matches(
+    alloc: Global,
+    checked: &Checked,
+    auto: &mut Auto,
+) -> Result<MatchStates, NoMemory>
+    requires { auto.old ≡ [] }
+    ensures { IfOk result (AreMatchStates checked.now auto.new) }
+{
+    let sound = checked.sound().copy(alloc)?;
+    let checker = Checker::new(alloc, sound, auto)?;
+    let meeting = checker.meet_all(auto)?;
+    let Meeting {
+        known,
+        store,
+        mut met,
+    } = meeting;
     sort_matches(&mut met)?;
-    apart(alloc, &auto, &met)
+    let Known { inhabitants, .. } = known;
+    let Checker {
+        sound,
+        compiler,
+        ..
+    } = checker;
+    Ok(MatchStates {
+        sound,
+        compiler,
+        inhabitants,
+        store,
+        matches: met,
+    })
 }
 
 /// Sorts matches by place; those of one place stay in their order.
@@ -102,7 +152,7 @@ fn apart(alloc: Global, auto: &Auto, met: &[MetMatch]) -> Result<Vec<Scrutinee>,
 
 /// A state for what goes on to the next clause: what the pattern doesn't take, or all that came, as
 /// the state that it was, where the clause isn't live.
-fn left_behind(
+pub fn left_behind(
     alloc: Global,
     pattern: &ClausePattern,
     is_live: bool,
@@ -131,9 +181,10 @@ pub(crate) struct Meeting {
 
 impl Checker {
     /// The matches of all functions, in the order in which they are walked.
-    fn met_matches(&self, auto: &mut Auto) -> Result<Vec<MetMatch>, NoMemory>
+    fn meet_all(&self, auto: &mut Auto) -> Result<Meeting, NoMemory>
         requires { IsReady self.now auto.old }
-        ensures { IfOk result (λ met. AddsMatches self.now.sound auto.new (MatchesOfFunctions (program_tree self.now.sound) (program_tree self.now.sound).functions) [] met.items) }
+        ensures met { IfOk result (λ meeting. AddsMatches self.now.sound auto.new (MatchesOfFunctions (program_tree self.now.sound) (program_tree self.now.sound).functions) [] meeting.met.items) }
+        ensures known { IfOk result (λ meeting. IsKnown auto.new meeting.store meeting.known) }
     {
         let store = Store::new(self.alloc);
         let mut meeting = Meeting {
@@ -142,15 +193,15 @@ impl Checker {
             met: Vec::new(self.alloc),
         };
         self.meet_functions(auto, &mut meeting)?;
-        let Meeting { met, .. } = meeting;
-        Ok(met)
+        Ok(meeting)
     }
 
     /// The matches of all functions.
     fn meet_functions(&self, auto: &mut Auto, meeting: &mut Meeting) -> Result<(), NoMemory>
         requires ready { IsReady self.now auto.old }
         requires known { IsKnown auto.old meeting.old.store meeting.old.known }
-        ensures { OnOk result (AddsMatches self.now.sound auto.new (MatchesOfFunctions (program_tree self.now.sound) (program_tree self.now.sound).functions) meeting.old.met.items meeting.new.met.items) }
+        ensures met { OnOk result (AddsMatches self.now.sound auto.new (MatchesOfFunctions (program_tree self.now.sound) (program_tree self.now.sound).functions) meeting.old.met.items meeting.new.met.items) }
+        ensures known { OnOk result (IsKnown auto.new meeting.new.store meeting.new.known) }
     {
         let functions = self.sound.program().functions();
         for number in 0..functions.len() {

@@ -194,7 +194,7 @@ meet-returns-in_ok-meet-in-Match-clause-met t c =
     let after : ScopeStands P S a2 c.meet-in-Match.new.variables = subst (ScopeStands P S a2) (sym (w.variables ∙ v.variables)) (scope_kept P S c.args.auto.now a2 (grows_then c.args.auto.now a1 a2 v.grows w.grows) c.args.variables.now c.requires.variables stands) in
     let may = just_kept a1 a2 w.grows s (May P S x) v.belongs k.may in
     let comes = comes_first P S x a2 s (Accepted a2 s) may (λ d. ((λ y. y), (λ y. y))) in
-    let own = adds_one p a1 m found (record { match = tree; place = refl; belongs = v.belongs; exact = k.may }) first second c.in_ok-push-in-Match.ensures.items in
+    let own = adds_one p a1 m found (record { match = tree; walkable = c.requires.expression; place = refl; belongs = v.belongs; exact = k.may }) first second c.in_ok-push-in-Match.ensures.items in
     let rest = adds_both p a2 a3 g (MatchesOf P S x) (MatchesOfClauses P S x [] ks) second third last (w.met S there) (h S x after comes) in
     subst (λ y. AddsMatches p a3 (MatchesOf P S y) first last) (sym tree)
     (adds_both p a1 a3 (grows_then a1 a2 a3 w.grows g) (λ ms. ms ≡ m ∷ []) (InTurn (MatchesOf P S x) (MatchesOfClauses P S x [] ks)) first second last own rest)) (on_ok_both _ _ c.meet_clauses.result c.meet_clauses.ensures.met c.meet_clauses.ensures.grows)

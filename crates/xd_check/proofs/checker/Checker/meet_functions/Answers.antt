@@ -34,8 +34,8 @@ loop-number-preserved c =
       known = e.known;
     }
 
-pub returns : goal.returns
-returns c =
+pub returns-clause-met : goal.returns-clause-met
+returns-clause-met c =
     let p : ProgramTable = c.args.self.now.sound in
     let same : c.functions-functions.result.now ≡ p.functions = c.functions-functions.ensures.functions ∙ ap (λ (q : ProgramTable). q.functions) c.program.ensures.program in
     let all : length p.functions ≤ c.loop-number.number = subst (λ (fs : List FunctionRow). length fs ≤ c.loop-number.number) same c.loop-number-test.false in
