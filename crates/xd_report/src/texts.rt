@@ -9,7 +9,7 @@ use itoa::Buffer;
 use xd_base::Place;
 use xd_doc::NoMemory;
 
-/// Appends these texts, one after the other.
+/// Appends these texts, one after the other. After `NoMemory` some of them may stand in `out`.
 pub fn write_texts(texts: &[&str], out: &mut Vec<u8>) -> Result<(), NoMemory>
     ensures ok { OnOk result (out.new.items ≡ out.old.items ++ concat (map (λ text. text.now) texts.now)) }
     ensures kept { IsKept out.old.items out.new.items }
@@ -20,7 +20,7 @@ pub fn write_texts(texts: &[&str], out: &mut Vec<u8>) -> Result<(), NoMemory>
     Ok(())
 }
 
-/// Appends the front of a line with this place.
+/// Appends the front of a line with this place, as `1:12: `. After `NoMemory` a part of it may stand in `out`.
 pub fn write_place_front(place: Place, out: &mut Vec<u8>) -> Result<(), NoMemory>
     ensures ok { OnOk result (out.new.items ≡ out.old.items ++ place_front place) }
     ensures kept { IsKept out.old.items out.new.items }

@@ -26,7 +26,7 @@ use xd_doc::{NoMemory, Seq, Store, Text};
 use xd_proof::Proof;
 use xd_proof_check::Reason;
 use xd_proof_write::{claim_line, second_text};
-use xd_report::fault_line;
+use xd_report::{fault_line, write_place_front};
 use xd_sound::SoundProgram;
 use xd_syntax::{Fault, FaultKind};
 use xd_write::write_document;
@@ -205,12 +205,8 @@ impl Output {
     ) -> Result<Output, NoMemory>
         ensures { IfOk result (λ o. o ≡ record { status = status.code; text = place_front place ++ line_end.now }) }
     {
-        let mut line = Buffer::new();
-        let mut column = Buffer::new();
-        let mut text = Vec::from_slice(alloc, line.format(place.line).as_bytes())?;
-        text.extend_from_slice(b":")?;
-        text.extend_from_slice(column.format(place.column).as_bytes())?;
-        text.extend_from_slice(b": ")?;
+        let mut text = Vec::new(alloc);
+        write_place_front(place, &mut text)?;
         text.extend_from_slice(line_end.as_bytes())?;
         Ok(Output { status, text })
     }
@@ -273,8 +269,8 @@ impl Output {
         })
     }
 
-    /// A proof text.
-    pub fn proved(text: Vec<u8>) -> Output
+    /// The text that was asked for, as a proof text or definitions of types.
+    pub fn success(text: Vec<u8>) -> Output
         ensures { result ≡ record { status = 0; text = text.items } }
     {
         Output {
@@ -290,7 +286,7 @@ impl Output {
     {
         let mut text = Vec::new(alloc);
         second_text(alloc, sound, proof, &mut text)?;
-        Ok(Output::proved(text))
+        Ok(Output::success(text))
     }
 
     /// The lines of faults that carry no documents.
