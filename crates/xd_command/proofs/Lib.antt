@@ -9,7 +9,10 @@ pub mod Running
 pub mod Telephones
 pub mod Judging
 pub mod LeastDocuments
+pub mod Differences
+pub mod SameFaults
 pub mod OneRow
 pub mod OneAnswer
+pub mod ReadingBack
 pub mod Streams
 pub mod SmallFaults

@@ -1,9 +1,11 @@
 -- The same words and the same texts have one answer, but where the definitions leave a choice.
 use Rattle.std.proofs.Common.{◌≡◌, ◌⊎◌, ℕ, inl, inr, List, Option, Some, None, sym, ap, ◌∙◌, append-nil}
 use Rattle.xd_base.specs.Outside.{HasRisen}
+use Rattle.xd_prefer.specs.Preferred.{Prefers}
+use Rattle.xd_syntax.specs.May.{MayBind}
 use Rattle.xd_syntax.specs.Program.{ProgramTree}
 use Rattle.xd_command.specs.declared.command.Command.{Command}
-use Rattle.xd_command.specs.declared.command.Command.TheVariants.{Fits, Stream, Subtype, Verify, Upgrade, Least, Check, Run, Sample}
+use Rattle.xd_command.specs.declared.command.Command.TheVariants.{Fits, Stream, Subtype, Minus, Verify, Upgrade, Least, Check, Types, Precise, Run, Sample}
 use Rattle.xd_steps.specs.Output.{Output, canonical, separated, IsSent}
 use Rattle.xd_steps.specs.Laws.{Texts, IsRead}
 use Rattle.xd_steps.specs.Programs.{EndsAtProgram, IsProgram}
@@ -12,13 +14,15 @@ use Rattle.xd_steps.proofs.OneStep.{steps_are_one, counts_tell_nothing}
 use Rattle.xd_command.specs.Fits.{AnswersFits}
 use Rattle.xd_command.specs.Stream.{AnswersStream}
 use Rattle.xd_command.specs.Subtype.{AnswersSubtype}
+use Rattle.xd_command.specs.Minus.{AnswersMinus}
 use Rattle.xd_command.specs.Verify.{AnswersVerify, AnswersUpgrade}
 use Rattle.xd_command.specs.Least.{AnswersLeast}
 use Rattle.xd_command.specs.Check.{AnswersCheck}
+use Rattle.xd_command.specs.Types.{AnswersTypes}
 use Rattle.xd_command.specs.Run.{AnswersRun}
 use Rattle.xd_command.specs.Answer.{Answers, IsAnswer}
-use Rattle.xd_command.specs.OneAnswer.{ProveAlike, CarryAlike, FaultsAlike, MayDiffer, AreOneAnswer, AnswersAreOne, CountsHideAnswers, IsPlainOutcome, WritesNothing, WritesWhole, OutcomesAreOne}
-use Rattle.xd_command.proofs.OneRow.{IsOneRow, Never, step_alike, step_settled, fits_alike, fits_settled, stream_alike, stream_settled, subtype_alike, least_alike, verify_alike, verify_settled, upgrade_alike, upgrade_settled, check_alike, run_alike, run_settled}
+use Rattle.xd_command.specs.OneAnswer.{ProveAlike, CarryAlike, FaultsAlike, ShowAlike, BlocksAlike, MayDiffer, AreOneAnswer, AnswersAreOne, CountsHideAnswers, IsPlainOutcome, WritesNothing, WritesWhole, OutcomesAreOne}
+use Rattle.xd_command.proofs.OneRow.{IsOneRow, Never, step_alike, step_settled, fits_alike, fits_settled, stream_alike, stream_settled, subtype_alike, minus_alike, least_alike, verify_alike, verify_settled, upgrade_alike, upgrade_settled, check_alike, types_alike, run_alike, run_settled}
 
 -- ---- a row behind the step that reads the program
 module _ (texts : Texts) (file : List ℕ) (row : ProgramTree → Output → Type 0) where
@@ -35,10 +39,13 @@ answers_alike : (command : Command) (texts : Texts) → IsOneRow (MayDiffer comm
 answers_alike (Fits file name document) texts o p a b = behind_program texts file (AnswersFits (Some texts) ⊥ name document) Never (fits_alike texts name document) o p a b
 answers_alike (Stream file name document piece) texts o p a b = behind_program texts file (AnswersStream (Some texts) ⊥ name document) Never (stream_alike texts name document) o p a b
 answers_alike (Subtype file left right) texts o p a b = behind_program texts file (AnswersSubtype left right) (λ q r. ProveAlike q r ⊎ CarryAlike separated q r) (subtype_alike left right) o p a b
+answers_alike (Minus file left right) texts o p a b = behind_program texts file (AnswersMinus left right) ShowAlike (minus_alike left right) o p a b
 answers_alike (Verify file proof) texts o p a b = behind_program texts file (AnswersVerify (Some texts) ⊥ proof) Never (verify_alike texts proof) o p a b
 answers_alike (Upgrade file proof) texts o p a b = behind_program texts file (AnswersUpgrade (Some texts) ⊥ proof) Never (upgrade_alike texts proof) o p a b
 answers_alike (Least file name) texts o p a b = behind_program texts file (AnswersLeast name) (CarryAlike canonical) (least_alike name) o p a b
 answers_alike (Check file) texts o p a b = behind_program texts file AnswersCheck FaultsAlike check_alike o p a b
+answers_alike (Types file) texts o p a b = behind_program texts file (AnswersTypes MayBind) (λ q r. FaultsAlike q r ⊎ BlocksAlike q r) (types_alike MayBind) o p a b
+answers_alike (Precise file) texts o p a b = behind_program texts file (AnswersTypes Prefers) (λ q r. FaultsAlike q r ⊎ BlocksAlike q r) (types_alike Prefers) o p a b
 answers_alike (Run file document fuel) texts o p a b = behind_program texts file (AnswersRun (Some texts) ⊥ document fuel) FaultsAlike (run_alike texts document fuel) o p a b
 answers_alike (Sample persons) texts o p a b = inl (a ∙ sym b)
 
@@ -46,10 +53,13 @@ answers_settled : (command : Command) (texts : Texts) (rose : Type 0) (o : Outpu
 answers_settled (Fits file name document) texts rose o h a = settled_behind texts file (AnswersFits (Some texts) ⊥ name document) rose (AnswersFits (Some texts) rose name document) o h (λ P b. fits_settled texts rose name document P o h b) a
 answers_settled (Stream file name document piece) texts rose o h a = settled_behind texts file (AnswersStream (Some texts) ⊥ name document) rose (AnswersStream (Some texts) rose name document) o h (λ P b. stream_settled texts rose name document P o h b) a
 answers_settled (Subtype file left right) texts rose o h a = settled_behind texts file (AnswersSubtype left right) rose (AnswersSubtype left right) o h (λ P b. b) a
+answers_settled (Minus file left right) texts rose o h a = settled_behind texts file (AnswersMinus left right) rose (AnswersMinus left right) o h (λ P b. b) a
 answers_settled (Verify file proof) texts rose o h a = settled_behind texts file (AnswersVerify (Some texts) ⊥ proof) rose (AnswersVerify (Some texts) rose proof) o h (λ P b. verify_settled texts rose proof P o h b) a
 answers_settled (Upgrade file proof) texts rose o h a = settled_behind texts file (AnswersUpgrade (Some texts) ⊥ proof) rose (AnswersUpgrade (Some texts) rose proof) o h (λ P b. upgrade_settled texts rose proof P o h b) a
 answers_settled (Least file name) texts rose o h a = settled_behind texts file (AnswersLeast name) rose (AnswersLeast name) o h (λ P b. b) a
 answers_settled (Check file) texts rose o h a = settled_behind texts file AnswersCheck rose AnswersCheck o h (λ P b. b) a
+answers_settled (Types file) texts rose o h a = settled_behind texts file (AnswersTypes MayBind) rose (AnswersTypes MayBind) o h (λ P b. b) a
+answers_settled (Precise file) texts rose o h a = settled_behind texts file (AnswersTypes Prefers) rose (AnswersTypes Prefers) o h (λ P b. b) a
 answers_settled (Run file document fuel) texts rose o h a = settled_behind texts file (AnswersRun (Some texts) ⊥ document fuel) rose (AnswersRun (Some texts) rose document fuel) o h (λ P b. run_settled texts rose document fuel P o h b) a
 answers_settled (Sample persons) texts rose o h a = a
 
@@ -60,8 +70,13 @@ status o = o.status
 one_status : (command : Command) (o p : Output) → MayDiffer command o p → status o ≡ status p
 one_status (Subtype file left right) o p (inl m) = m.0 ∙ sym m.1
 one_status (Subtype file left right) o p (inr m) = ap status m.3 ∙ sym (ap status m.4)
+one_status (Minus file left right) o p m = m.status ∙ sym m.other_status
 one_status (Least file name) o p m = ap status m.3 ∙ sym (ap status m.4)
 one_status (Check file) o p m = m.refused ∙ sym m.other_refused
+one_status (Types file) o p (inl m) = m.refused ∙ sym m.other_refused
+one_status (Types file) o p (inr m) = m.status ∙ sym m.other_status
+one_status (Precise file) o p (inl m) = m.refused ∙ sym m.other_refused
+one_status (Precise file) o p (inr m) = m.status ∙ sym m.other_status
 one_status (Run file document fuel) o p m = m.refused ∙ sym m.other_refused
 one_status command o p m = absurd m
 

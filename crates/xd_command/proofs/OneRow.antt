@@ -1,6 +1,10 @@
 -- The rows of the answers, behind the program: outputs of the same program and the same texts are alike.
 use Rattle.std.proofs.Common.{◌≡◌, ◌≤◌, ◌⊎◌, ◌-◌, ℕ, Bool, true, false, cond, inl, inr, List, [], ◌∷◌, ◌++◌, Option, Some, None, refl, sym, ap, subst, ◌∙◌, arith}
 use Rattle.std.specs.Prelude.{codes}
+use Rattle.std.specs.List.{AllZip}
+use Rattle.xd_blocks.specs.Blocks.{AreBlocks, Block, IsBlockOf, Shows}
+use Rattle.xd_shown.specs.Shown.{defined_names}
+use Rattle.xd_variables.specs.Seen.{Gives, Reading, SeenVariable}
 use Rattle.xd_doc.specs.Document.{Document, size}
 use Rattle.xd_syntax.specs.Tree.{Tree}
 use Rattle.xd_syntax.specs.Program.{ProgramTree, names_of}
@@ -24,13 +28,17 @@ use Rattle.xd_steps.specs.Step.{Step}
 use Rattle.xd_steps.proofs.OneStep.{steps_are_one, counts_tell_nothing}
 use Rattle.xd_command.specs.Fits.{EndsAtName, AnswersMembership, AnswersFits, FitsType}
 use Rattle.xd_command.specs.Stream.{TellsStop, AnswersBytes, AnswersStream}
-use Rattle.xd_command.specs.Subtype.{AnswersInclusion, AnswersSubtype}
+use Rattle.xd_command.specs.Subtype.{AnswersInclusion, AnswersSubtype, FitsAlone}
 use Rattle.xd_command.specs.Least.{AnswersLeastOf, AnswersLeast}
 use Rattle.xd_command.specs.Verify.{Judges, AnswersVerify, AnswersUpgrade, Upgrades}
 use Rattle.xd_command.specs.Check.{with_verdict, AnswersCheck}
 use Rattle.xd_command.specs.Run.{EndsAtLines, EndsAtValue, IsValue, AnswersInput, AnswersMain, AnswersRun, input_type}
 use Rattle.xd_command.specs.Report.{IsLineText, of_fault, of_warning, AreLineTexts, no_line, next_line}
-use Rattle.xd_command.specs.OneAnswer.{ProveAlike, CarryAlike, FaultsAlike}
+use Rattle.xd_command.specs.Minus.{AnswersDifference, AnswersMinus}
+use Rattle.xd_command.specs.Types.{AnswersTypes}
+use Rattle.xd_command.specs.OneAnswer.{ProveAlike, CarryAlike, FaultsAlike, ShowTheSame, ShowAlike, IsSameBlock, BlocksAlike}
+use Rattle.xd_variables.proofs.SeenOnce.{variables_once}
+use Rattle.xd_command.proofs.SameFaults.{Same, faults_same, not_accepted}
 
 -- ---- what every row has
 -- any two outputs of a row are the same, or differ as they may
@@ -160,31 +168,6 @@ pub upgrade_settled : (texts : Texts) (rose : Type 0) (proof : List ℕ) (P : Pr
 upgrade_settled texts rose proof P o h a = step_settled (List Lined) (EndsAtProof (Some texts) rose proof P) (EndsAtProof (Some texts) ⊥ proof P) (IsProof (Some texts) proof P) Upgrades Upgrades o ((counts_tell_nothing rose).proofs texts proof P o h) (λ gs m. m) a
 
 -- ---- lines of faults and warnings
-abbrev Same : List Line → List Line → Type 0
-Same ls ms = AllPaired IsSameLine ls ms
-
-chosen_same : (b : Bool) (l m : Line) (ls ms : List Line) → IsSameLine l m → Same ls ms → Same (cond b ls (l ∷ ls)) (cond b ms (m ∷ ms))
-chosen_same true l m ls ms s r = r
-chosen_same false l m ls ms s r = (s, r)
-
-faults_same : (ls ms : List Line) → Same ls ms → Same (faults_among ls) (faults_among ms)
-faults_same [] [] s = tt
-faults_same [] (m ∷ ms) s = absurd s
-faults_same (l ∷ ls) [] s = absurd s
-faults_same (l ∷ ls) (m ∷ ms) s =
-    subst (λ k. Same (faults_among (l ∷ ls)) (cond (is_warning k) (faults_among ms) (m ∷ faults_among ms))) (s.0).kind
-    (chosen_same (is_warning l.kind) l m (faults_among ls) (faults_among ms) s.0 (faults_same ls ms s.1))
-
-none_same : (ls ms : List Line) → Same ls ms → ls ≡ [] → ms ≡ []
-none_same [] [] s e = refl
-none_same [] (m ∷ ms) s e = absurd s
-none_same (l ∷ ls) ms s e = absurd (cc)
-
-same_none : (ls ms : List Line) → Same ls ms → ms ≡ [] → ls ≡ []
-same_none [] ms s e = refl
-same_none (l ∷ ls) [] s e = absurd s
-same_none (l ∷ ls) (m ∷ ms) s e = absurd (cc)
-
 -- no fault among the lines: the first is a warning, and so are the others
 is_dead : (k : LineKind) → is_warning k ≡ true → k ≡ dead_clause
 is_dead not_exhaustive e = cc
@@ -234,9 +217,80 @@ check_alike P o p a b =
     let s = lines_are_one P a.lines b.lines a.all b.all in
     verdicts_alike a.lines b.lines (faults_among a.lines) (faults_among b.lines) a.text b.text o p s a.written b.written refl refl (faults_same a.lines b.lines s) a.output b.output
 
+-- ---- `types` and `precise`
+-- programs that show one set
+module _ (D : Document → Type 0) (taken : List (List ℕ)) where
+  show_the_same : (P Q : ProgramTree) (s t : List ℕ) → Shows D taken P s → Shows D taken Q t → ShowTheSame P s Q t
+  show_the_same P Q s t a b =
+      let one = a.shown in
+      let other = b.shown in
+      record {
+        reads_back = a.reads_back;
+        other_reads_back = b.reads_back;
+        first = one.first;
+        other_first = other.first;
+        same = λ d p. ((λ f. (other.exact d p).1 ((one.exact d p).0 f)), (λ f. (one.exact d p).1 ((other.exact d p).0 f)));
+      }
+
+module _ (B : Reading) (P : ProgramTree) where
+  block_same : (v : SeenVariable) (b c : Block) → IsBlockOf B P v b → IsBlockOf B P v c → IsSameBlock b c
+  block_same v b c h k = record {
+    place = h.place ∙ sym k.place;
+    variable = h.variable ∙ sym k.variable;
+    same = show_the_same (Gives B P v) (defined_names P) b.program c.program b.start c.start h.shows k.shows;
+  }
+
+  blocks_same : (vs : List SeenVariable) (bs cs : List Block) → AllZip (IsBlockOf B P) vs bs → AllZip (IsBlockOf B P) vs cs → AllPaired IsSameBlock bs cs
+  blocks_same [] [] [] z w = tt
+  blocks_same [] [] (c ∷ cs) z w = absurd w
+  blocks_same [] (b ∷ bs) cs z w = absurd z
+  blocks_same (v ∷ vs) [] cs z w = absurd z
+  blocks_same (v ∷ vs) (b ∷ bs) [] z w = absurd w
+  blocks_same (v ∷ vs) (b ∷ bs) (c ∷ cs) z w = (block_same v b c z.0 w.0, blocks_same vs bs cs z.1 w.1)
+
+  blocks_alike : (o p : Output) → o.status ≡ 0 → p.status ≡ 0 → AreBlocks B P o.text → AreBlocks B P p.text → BlocksAlike o p
+  blocks_alike o p e f a b = record {
+    status = e;
+    other_status = f;
+    blocks = a.blocks;
+    others = b.blocks;
+    same = blocks_same a.variables a.blocks b.blocks a.each (subst (λ vs. AllZip (IsBlockOf B P) vs b.blocks) (variables_once P b.variables a.variables b.all a.all) b.each);
+    text = a.written;
+    other = b.written;
+  }
+
+  pub types_alike : IsOneRow (λ o p. FaultsAlike o p ⊎ BlocksAlike o p) (AnswersTypes B P)
+  types_alike o p (inl a) (inl b) = elim (check_alike P o p a.1 b.1) [ inl e ↦ inl e | inr f ↦ inr (inl f) ]
+  types_alike o p (inl a) (inr b) = absurd (a.0 b.0)
+  types_alike o p (inr a) (inl b) = absurd (b.0 a.0)
+  types_alike o p (inr a) (inr b) = inr (inr (blocks_alike o p a.1 b.1 a.2 b.2))
+
+-- ---- `minus`
+difference_alike : (P : ProgramTree) (L R : Tree) (o p : Output) → AnswersDifference P L R o → AnswersDifference P L R p → ShowAlike o p
+difference_alike P L R o p a b =
+    let one = a.1 in
+    let other = b.1 in
+    record {
+      status = a.0;
+      other_status = b.0;
+      program = one.program;
+      start = one.start;
+      other_program = other.program;
+      other_start = other.start;
+      same = show_the_same (FitsAlone (names_of P) L R) (defined_names P) one.program other.program one.start other.start one.shows other.shows;
+      text = one.written;
+      other = other.written;
+    }
+
+pub minus_alike : (left right : List ℕ) (P : ProgramTree) → IsOneRow ShowAlike (AnswersMinus left right P)
+minus_alike left right P o p (inl a) (inl b) = inl (a.1 ∙ sym b.1)
+minus_alike left right P o p (inl a) (inr b) = absurd (a.0 b.0)
+minus_alike left right P o p (inr a) (inl b) = absurd (b.0 a.0)
+minus_alike left right P o p (inr a) (inr b) = inr (difference_alike P (type_named left) (type_named right) o p a.1 b.1)
+
 -- ---- `run`
 not_both : (P : ProgramTree) (o : Output) → EndsAtLines P o → IsAccepted P → ⊥
-not_both P o a b = a.some (same_none (faults_among a.lines) (faults_among b.0) (faults_same a.lines b.0 (lines_are_one P a.lines b.0 a.all b.1)) b.2)
+not_both P o a b = not_accepted P a.lines a.all a.some b
 
 lines_alike : (P : ProgramTree) → IsOneRow FaultsAlike (EndsAtLines P)
 lines_alike P o p a b =

@@ -2,7 +2,9 @@
 -- order, and the first that ends it gives the output.
 use Rattle.std.specs.Prelude.{◌≡◌, Option, Some, None}
 use Rattle.xd_command.specs.declared.command.Command.{Command}
-use Rattle.xd_command.specs.declared.command.Command.TheVariants.{Fits, Stream, Subtype, Verify, Upgrade, Least, Check, Run, Sample}
+use Rattle.xd_command.specs.declared.command.Command.TheVariants.{Fits, Stream, Subtype, Minus, Verify, Upgrade, Least, Check, Types, Precise, Run, Sample}
+use Rattle.xd_prefer.specs.Preferred.{Prefers}
+use Rattle.xd_syntax.specs.May.{MayBind}
 use Rattle.xd_steps.specs.Output.{Output, usage}
 use Rattle.xd_steps.specs.Step.{Step}
 use Rattle.xd_steps.specs.Texts.{Holding}
@@ -10,9 +12,11 @@ use Rattle.xd_steps.specs.Programs.{EndsAtProgram, IsProgram}
 use Rattle.xd_command.specs.Fits.{AnswersFits}
 use Rattle.xd_command.specs.Stream.{AnswersStream}
 use Rattle.xd_command.specs.Subtype.{AnswersSubtype}
+use Rattle.xd_command.specs.Minus.{AnswersMinus}
 use Rattle.xd_command.specs.Verify.{AnswersVerify, AnswersUpgrade}
 use Rattle.xd_command.specs.Least.{AnswersLeast}
 use Rattle.xd_command.specs.Check.{AnswersCheck}
+use Rattle.xd_command.specs.Types.{AnswersTypes}
 use Rattle.xd_command.specs.Run.{AnswersRun}
 use Rattle.xd_command.specs.Sample.{AnswersSample}
 
@@ -20,10 +24,13 @@ abbrev pub Answers : Command → Holding → (rose : Type 0) → Output → Type
 Answers (Fits file name document) holds rose = Step (EndsAtProgram holds rose file) (IsProgram holds file) (AnswersFits holds rose name document)
 Answers (Stream file name document piece) holds rose = Step (EndsAtProgram holds rose file) (IsProgram holds file) (AnswersStream holds rose name document)
 Answers (Subtype file left right) holds rose = Step (EndsAtProgram holds rose file) (IsProgram holds file) (AnswersSubtype left right)
+Answers (Minus file left right) holds rose = Step (EndsAtProgram holds rose file) (IsProgram holds file) (AnswersMinus left right)
 Answers (Verify file proof) holds rose = Step (EndsAtProgram holds rose file) (IsProgram holds file) (AnswersVerify holds rose proof)
 Answers (Upgrade file proof) holds rose = Step (EndsAtProgram holds rose file) (IsProgram holds file) (AnswersUpgrade holds rose proof)
 Answers (Least file name) holds rose = Step (EndsAtProgram holds rose file) (IsProgram holds file) (AnswersLeast name)
 Answers (Check file) holds rose = Step (EndsAtProgram holds rose file) (IsProgram holds file) AnswersCheck
+Answers (Types file) holds rose = Step (EndsAtProgram holds rose file) (IsProgram holds file) (AnswersTypes MayBind)
+Answers (Precise file) holds rose = Step (EndsAtProgram holds rose file) (IsProgram holds file) (AnswersTypes Prefers)
 Answers (Run file document fuel) holds rose = Step (EndsAtProgram holds rose file) (IsProgram holds file) (AnswersRun holds rose document fuel)
 Answers (Sample persons) holds rose = AnswersSample persons
 

@@ -4,7 +4,7 @@ use Rattle.std.specs.Str.{bytes_eq}
 use Rattle.std.specs.Str.Parse.{digits_value}
 use Rattle.std.specs.Fmt.{decimal}
 use Rattle.xd_command.specs.declared.command.Command.{Command}
-use Rattle.xd_command.specs.declared.command.Command.TheVariants.{Fits, Stream, Subtype, Verify, Upgrade, Least, Check, Run, Sample}
+use Rattle.xd_command.specs.declared.command.Command.TheVariants.{Fits, Stream, Subtype, Minus, Verify, Upgrade, Least, Check, Types, Precise, Run, Sample}
 
 -- how many calls a run may make
 abbrev pub fuel_limit : ℕ
@@ -31,7 +31,9 @@ number_within limit word =
 abbrev pub of_one : (command first : List ℕ) → Option Command
 of_one command first =
     if bytes_eq command (codes "check") then Some (Check first)
-    else (if bytes_eq command (codes "sample") then option_map (λ n. Sample n) (number_within sample_limit first) else None)
+    else (if bytes_eq command (codes "types") then Some (Types first)
+    else (if bytes_eq command (codes "precise") then Some (Precise first)
+    else (if bytes_eq command (codes "sample") then option_map (λ n. Sample n) (number_within sample_limit first) else None)))
 
 abbrev pub of_two : (command file second : List ℕ) → Option Command
 of_two command file second =
@@ -44,7 +46,8 @@ abbrev pub of_three : (command file second third : List ℕ) → Option Command
 of_three command file second third =
     if bytes_eq command (codes "fits") then Some (Fits file second third)
     else (if bytes_eq command (codes "subtype") then Some (Subtype file second third)
-    else (if bytes_eq command (codes "run") then option_map (Run file second) (number_within fuel_limit third) else None))
+    else (if bytes_eq command (codes "minus") then Some (Minus file second third)
+    else (if bytes_eq command (codes "run") then option_map (Run file second) (number_within fuel_limit third) else None)))
 
 abbrev pub of_four : (command file second third fourth : List ℕ) → Option Command
 of_four command file second third fourth =

@@ -6,9 +6,12 @@ pub mod Least
 pub mod Verify
 pub mod Report
 pub mod Check
+pub mod Types
+pub mod Minus
 pub mod Run
 pub mod Running
 pub mod Sample
 pub mod Answer
 pub mod Outcome
 pub mod OneAnswer
+pub mod ReadBack

@@ -1,12 +1,18 @@
 -- That the same words and the same texts have one answer, but where the definitions leave a choice.
-use Rattle.std.specs.Prelude.{◌≡◌, ◌⊎◌, ℕ, List, ◌++◌, Option, Some, None}
+use Rattle.std.specs.Prelude.{◌≡◌, ◌⊎◌, ◌↔◌, ℕ, true, List, ◌++◌, Option, Some, None, slice_get}
 use Rattle.xd_base.specs.Outside.{HasRisen}
-use Rattle.xd_doc.specs.Document.{Document, size}
+use Rattle.xd_blocks.specs.Blocks.{Block, blocks_text, shown_text}
+use Rattle.xd_doc.specs.Document.{Document, is_proper, size}
+use Rattle.xd_shown.specs.ReadBack.{ReadsBack}
+use Rattle.xd_shown.specs.Shown.{defined_names}
 use Rattle.xd_syntax.specs.CheckFaults.{Line}
+use Rattle.xd_syntax.specs.Fits.{Fits as FitsIn}
+use Rattle.xd_syntax.specs.Program.{ProgramTree, names_of}
+use Rattle.xd_syntax.specs.Tree.{Name}
 use Rattle.xd_laws.specs.KeptLines.{AllPaired}
 use Rattle.xd_laws.specs.SameLines.{IsSameLine}
 use Rattle.xd_command.specs.declared.command.Command.{Command}
-use Rattle.xd_command.specs.declared.command.Command.TheVariants.{Subtype, Least, Check, Run}
+use Rattle.xd_command.specs.declared.command.Command.TheVariants.{Subtype, Minus, Least, Check, Types, Precise, Run}
 use Rattle.xd_command.specs.Answer.{IsAnswer}
 use Rattle.xd_command.specs.Outcome.{IsOutcome}
 use Rattle.xd_command.specs.Report.{AreLineTexts}
@@ -33,12 +39,51 @@ pub record FaultsAlike (o p : Output) : Type 0 where
   pub text : AreLineTexts lines o.text
   pub other : AreLineTexts others p.text
 
--- Outputs of one command that are the same, or differ in a proof text, in the document of a separation, in a least document, or in
--- the documents that faults carry.
+-- The texts of both programs read back, and of proper documents the same ones fit the first names of both.
+pub record ShowTheSame (P : ProgramTree) (start : List ℕ) (Q : ProgramTree) (other_start : List ℕ) : Type 0 where
+  pub reads_back : ReadsBack P
+  pub other_reads_back : ReadsBack Q
+  pub first : slice_get (defined_names P) 0 ≡ Some start
+  pub other_first : slice_get (defined_names Q) 0 ≡ Some other_start
+  pub same : (d : Document) → is_proper d ≡ true → FitsIn (names_of P) (Name start) d ↔ FitsIn (names_of Q) (Name other_start) d
+
+-- both write definitions of types that show the same documents
+pub record ShowAlike (o p : Output) : Type 0 where
+  pub status : o.status ≡ 0
+  pub other_status : p.status ≡ 0
+  pub program : ProgramTree
+  pub start : List ℕ
+  pub other_program : ProgramTree
+  pub other_start : List ℕ
+  pub same : ShowTheSame program start other_program other_start
+  pub text : o.text ≡ shown_text program
+  pub other : p.text ≡ shown_text other_program
+
+-- blocks of one variable that show the same documents
+pub record IsSameBlock (b c : Block) : Type 0 where
+  pub place : b.place ≡ c.place
+  pub variable : b.variable ≡ c.variable
+  pub same : ShowTheSame b.program b.start c.program c.start
+
+-- both write blocks, one for one of the same variables, that show the same documents
+pub record BlocksAlike (o p : Output) : Type 0 where
+  pub status : o.status ≡ 0
+  pub other_status : p.status ≡ 0
+  pub blocks : List Block
+  pub others : List Block
+  pub same : AllPaired IsSameBlock blocks others
+  pub text : o.text ≡ blocks_text blocks
+  pub other : p.text ≡ blocks_text others
+
+-- Outputs of one command that are the same, or differ in a proof text, in the document of a separation, in a least document, in the
+-- documents that faults carry, or in how definitions of types show documents.
 abbrev pub MayDiffer : Command → Output → Output → Type 0
 MayDiffer (Subtype file left right) o p = ProveAlike o p ⊎ CarryAlike separated o p
+MayDiffer (Minus file left right) o p = ShowAlike o p
 MayDiffer (Least file name) o p = CarryAlike canonical o p
 MayDiffer (Check file) o p = FaultsAlike o p
+MayDiffer (Types file) o p = FaultsAlike o p ⊎ BlocksAlike o p
+MayDiffer (Precise file) o p = FaultsAlike o p ⊎ BlocksAlike o p
 MayDiffer (Run file document fuel) o p = FaultsAlike o p
 MayDiffer command o p = ⊥
 

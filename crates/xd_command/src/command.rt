@@ -13,14 +13,17 @@ use std::marker::Model;
 use xd_base::Shelf;
 use xd_proof_form::read_number;
 use xd_steps::{Output, Stop};
+use xd_variables::Ways;
 
 mod check;
 mod fits;
 mod least;
+mod minus;
 mod run;
 mod sample;
 mod stream;
 mod subtype;
+mod types;
 mod upgrade;
 mod verify;
 
@@ -77,6 +80,12 @@ pub enum Command<'a> {
         left: Word<'a>,
         right: Word<'a>,
     },
+    /// Definitions of types that show the documents of the first type alone.
+    Minus {
+        file: Word<'a>,
+        left: Word<'a>,
+        right: Word<'a>,
+    },
     /// Whether the proof is consistent over the types of the program.
     Verify {
         file: Word<'a>,
@@ -94,6 +103,14 @@ pub enum Command<'a> {
     },
     /// Whether the program is accepted, and else its faults.
     Check {
+        file: Word<'a>,
+    },
+    /// What the variables of the program's clauses may be, by all whole ways of patterns.
+    Types {
+        file: Word<'a>,
+    },
+    /// The same by first matches.
+    Precise {
         file: Word<'a>,
     },
     /// The value of the program on the document, within so many calls.
@@ -170,6 +187,16 @@ impl<'a> Command<'a> {
                 file: Word::new(first),
             });
         }
+        if command == "types" {
+            return Some(Command::Types {
+                file: Word::new(first),
+            });
+        }
+        if command == "precise" {
+            return Some(Command::Precise {
+                file: Word::new(first),
+            });
+        }
         if command == "sample" {
             return Command::sample(first);
         }
@@ -234,6 +261,13 @@ impl<'a> Command<'a> {
         }
         if command == "subtype" {
             return Some(Command::Subtype {
+                file: Word::new(file),
+                left: Word::new(second),
+                right: Word::new(third),
+            });
+        }
+        if command == "minus" {
+            return Some(Command::Minus {
                 file: Word::new(file),
                 left: Word::new(second),
                 right: Word::new(third),
@@ -323,6 +357,13 @@ impl<'a> Command<'a> {
                 right.as_str(),
                 shelf,
             ),
+            Command::Minus { file, left, right } => minus::minus(
+                alloc,
+                file.as_str(),
+                left.as_str(),
+                right.as_str(),
+                shelf,
+            ),
             Command::Verify { file, proof } => {
                 verify::verify(alloc, file.as_str(), proof.as_str(), shelf)
             }
@@ -333,6 +374,8 @@ impl<'a> Command<'a> {
                 least::least(alloc, file.as_str(), name.as_str(), shelf)
             }
             Command::Check { file } => check::check(alloc, file.as_str(), shelf),
+            Command::Types { file } => types::types(alloc, file.as_str(), Ways::Whole, shelf),
+            Command::Precise { file } => types::types(alloc, file.as_str(), Ways::First, shelf),
             Command::Run {
                 file,
                 document,

@@ -1,11 +1,14 @@
 //! The command `check`.
 
 ghost use Rattle.std.specs.Prelude.{IfOk};
+ghost use Rattle.std.specs.List.{AllByRecursion};
 ghost use Rattle.xd_base.specs.Outside.{HasRisen};
 ghost use Rattle.xd_check.specs.Outcome.{IsOutcome};
+ghost use Rattle.xd_report.specs.Report.{CarriesFrom};
 ghost use Rattle.xd_syntax.specs.Kept.{ProgramTable, program_tree};
+ghost use Rattle.xd_syntax.specs.Program.{ProgramTree};
 ghost use Rattle.xd_command.specs.Answer.{Answers};
-ghost use Rattle.xd_command.specs.Check.{AnswersCheck};
+ghost use Rattle.xd_command.specs.Check.{AnswersCheck, AreRefused, EndsAtCheck};
 ghost use Rattle.xd_steps.specs.Step.{DoesAll};
 ghost use Rattle.xd_command.specs.declared.command.Command.TheVariants as commands;
 
@@ -15,6 +18,7 @@ use xd_check::CheckOutcome;
 use xd_doc::{NoMemory, Store};
 use xd_sound::SoundProgram;
 use xd_steps::{Output, Stop, load_program, report_lines};
+use xd_syntax::{Fault, Warning};
 
 /// The lines of the sound program, and whether it is accepted.
 fn report(alloc: Global, sound: SoundProgram) -> Result<Output, NoMemory>
@@ -26,8 +30,6 @@ fn report(alloc: Global, sound: SoundProgram) -> Result<Output, NoMemory>
 }
 
 /// The lines of what a check gave, and whether the program is accepted.
-///
-/// What is written has fewer than 2^63 bytes, since it stands in a vector; so the documents that faults carry are least ones.
 fn verdict(alloc: Global, store: &Store, outcome: &CheckOutcome) -> Result<Output, NoMemory>
     requires { (p : ProgramTable) × IsOutcome p store.now outcome.now }
     ensures { (p : ProgramTable) → IsOutcome p store.now outcome.now → IfOk result (AnswersCheck (program_tree p)) }
@@ -37,13 +39,26 @@ fn verdict(alloc: Global, store: &Store, outcome: &CheckOutcome) -> Result<Outpu
             let text = report_lines(alloc, store, &[], warnings)?;
             Ok(Output::accepted(text)?)
         }
-        CheckOutcome::Refused { faults, warnings } => {
-            let text = report_lines(alloc, store, faults, warnings)?;
-            let output = Output::refused(text);
-            let _text = output.text();
-            Ok(output)
-        }
+        CheckOutcome::Refused { faults, warnings } => refusal(alloc, store, faults, warnings),
     }
+}
+
+/// The faults and warnings of a program that isn't accepted, in order.
+///
+/// What is written has fewer than 2^63 bytes, since it stands in a vector; so the documents that faults carry are least ones.
+pub fn refusal(
+    alloc: Global,
+    store: &Store,
+    faults: &[Fault],
+    warnings: &[Warning],
+) -> Result<Output, NoMemory>
+    requires { AllByRecursion (λ f. CarriesFrom store.now f.kind) faults.now }
+    ensures { (P : ProgramTree) → AreRefused P store.now faults.now warnings.now → IfOk result (EndsAtCheck P) }
+{
+    let text = report_lines(alloc, store, faults, warnings)?;
+    let output = Output::refused(text);
+    let _text = output.text();
+    Ok(output)
 }
 
 /// All faults and warnings of the program of this file, or that it is accepted.

@@ -33,7 +33,7 @@ use xd_steps::{Output, Stop, load_program};
 use xd_syntax::TypeId;
 
 /// The types of both names; the command ends where one isn't defined.
-fn named_types(
+pub fn named_types(
     alloc: Global,
     sound: &mut SoundProgram,
     left: &str,
@@ -96,7 +96,7 @@ fn prove_goal(
 {
     let mut text = Vec::new(alloc);
     proof_text(alloc, sound, cells, auto, table, goal, &mut text)?;
-    Ok(Output::proved(text))
+    Ok(Output::success(text))
 }
 
 /// A least document of those that the one state accepts and the other doesn't, where one of these is

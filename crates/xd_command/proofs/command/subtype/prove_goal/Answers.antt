@@ -11,4 +11,4 @@ returns-clause-text c =
     let p = c.args.sound.now in
     let t = c.in_ok-proof_text.ensures.text in
     subst (ProvesRow (program_tree p) (continuation_of p.types c.args.cells.now) (row_at c.args.table.now.rows c.args.goal.number))
-    (sym (ap (λ (o : Output). o.text) c.proved.ensures ∙ (t.1 ∙ ap (λ (xs : List ℕ). xs ++ t.0) c.new-text.ensures.items))) t.2
+    (sym (ap (λ (o : Output). o.text) c.success.ensures ∙ (t.1 ∙ ap (λ (xs : List ℕ). xs ++ t.0) c.new-text.ensures.items))) t.2
