@@ -22,7 +22,7 @@ _xduce() {
     local word=${COMP_WORDS[COMP_CWORD]} command=${COMP_WORDS[1]-} file=${COMP_WORDS[2]-} name
     COMPREPLY=()
     if ((COMP_CWORD == 1)); then
-        name='check fits least run sample stream subtype upgrade verify'
+        name='check fits least minus precise run sample stream subtype types upgrade verify'
         # The script of the sources has words of its own.
         [[ ${COMP_WORDS[0]} == */* ]] && name="$name help version install uninstall"
         while IFS= read -r name; do
@@ -31,10 +31,10 @@ _xduce() {
         return 0
     fi
     case $command:$COMP_CWORD in
-    check:2 | fits:2 | least:2 | run:2 | stream:2 | subtype:2 | upgrade:2 | verify:2 | fits:4 | run:3 | stream:4 | upgrade:3 | verify:3)
+    check:2 | fits:2 | least:2 | minus:2 | precise:2 | run:2 | stream:2 | subtype:2 | types:2 | upgrade:2 | verify:2 | fits:4 | run:3 | stream:4 | upgrade:3 | verify:3)
         _xduce_files "$word"
         ;;
-    fits:3 | least:3 | stream:3 | subtype:3 | subtype:4)
+    fits:3 | least:3 | minus:3 | minus:4 | stream:3 | subtype:3 | subtype:4)
         # A file's word is as it was typed: quotes, `\ ` and `~` still stand in it.
         file=${file/#\~\//"$HOME/"}
         file=${file//\\/}
