@@ -16,3 +16,4 @@ pub mod OneAnswer
 pub mod ReadingBack
 pub mod Streams
 pub mod SmallFaults
+pub mod SayingYes

@@ -15,3 +15,4 @@ pub mod Answer
 pub mod Outcome
 pub mod OneAnswer
 pub mod ReadBack
+pub mod SayingYes

@@ -14,6 +14,7 @@ use std::alloc::Global;
 use xd_base::{Shelf, Sink};
 use xd_steps::{Output, Stop};
 
+pub mod agreement;
 mod command;
 pub mod laws;
 mod membership;
