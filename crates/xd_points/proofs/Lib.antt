@@ -1,0 +1,11 @@
+mod Adding
+mod Differing
+mod Expanding
+mod Growing
+mod PlaceLemmas
+mod Simulating
+mod Staying
+mod Stepping
+mod TableLemmas
+mod Taking
+mod Tracking

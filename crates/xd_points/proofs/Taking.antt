@@ -1,0 +1,70 @@
+-- Moves of states with like ones made one tell what those of the states as they are do.
+use Rattle.std.proofs.Common.{◌≡◌, ℕ, zero, suc, ◌<◌, Bool, true, false, not, ◌&&◌, ◌||◌, List, [], ◌∷◌, map, length, take, get_or, Some, refl, sym, ap, ◌∙◌, arith}
+use Rattle.std.specs.List.{list_any, slice_get}
+use Rattle.xd_auto.specs.declared.auto.State.{State}
+use Rattle.xd_auto.specs.Automaton.{Automaton, moves_at}
+use Rattle.xd_auto.specs.Matching.{AreMatching}
+use Rattle.xd_points.specs.Meaning.{ServePoints}
+use Rattle.xd_points.specs.declared.patterns.Patterns.{Patterns}
+use Rattle.xd_boole.specs.Groups.{passes_at}
+use Rattle.xd_boole.specs.Meaning.{ElementFirst, TextFirst, move_takes, text_takes}
+use Rattle.xd_boole.proofs.MatchLemmas.{matching_tells}
+use Rattle.xd_points.specs.Points.{any_before, any_text_before}
+
+any_take : {X Y : Type 0} (f : X → Bool) (g : Y → Bool) (xs : List X) (ys : List Y) (n : ℕ) → map f xs ≡ map g ys → list_any f (take n xs) ≡ list_any g (take n ys)
+any_take f g xs ys zero e = refl
+any_take f g [] [] (suc n) e = refl
+any_take f g [] (y ∷ ys) (suc n) e = absurd (cc)
+any_take f g (x ∷ xs) [] (suc n) e = absurd (cc)
+any_take f g (x ∷ xs) (y ∷ ys) (suc n) e =
+    let first : f x ≡ g y = cc in
+    let others : map f xs ≡ map g ys = cc in
+    ap (λ w. w || list_any f (take n xs)) first ∙ ap (λ w. g y || w) (any_take f g xs ys n others)
+
+module _ (a : Automaton) (b : Patterns) (is : ServePoints a b) (s : State) (n : ℕ) where
+  pub before_same : (q : ElementFirst) → list_any (move_takes b.taken.auto q) (take n (moves_at b.taken.auto s).labels) ≡ any_before b.auto s n q
+  before_same q = any_take (move_takes b.taken.auto q) (move_takes b.auto q) (moves_at b.taken.auto s).labels (moves_at b.auto s).labels n (is.moves.labels q s)
+
+  pub text_before_same : (q : TextFirst) → list_any (text_takes b.taken.auto q) (take n (moves_at b.taken.auto s).texts) ≡ any_text_before b.auto s n q
+  text_before_same q = any_take (text_takes b.taken.auto q) (text_takes b.auto q) (moves_at b.taken.auto s).texts (moves_at b.auto s).texts n (is.moves.texts q s)
+
+-- what stands at one place is one
+pub one_at : {X : Type 0} (xs : List X) (i : ℕ) (x y : X) → i < length xs → x ≡ get_or xs i x → y ≡ get_or xs i y → x ≡ y
+one_at [] i x y lt e f = absurd (omega arith)
+one_at (z ∷ xs) zero x y lt e f = e ∙ sym f
+one_at (z ∷ xs) (suc i) x y lt e f = one_at xs i x y (omega arith) e f
+
+-- what stands at a place
+pub record PlaceOf {X : Type 0} (xs : List X) (i : ℕ) : Type 0 where
+  pub item : X
+  pub at : item ≡ get_or xs i item
+  pub there : slice_get xs i ≡ Some item
+
+pub place_of : {X : Type 0} (xs : List X) (i : ℕ) → i < length xs → PlaceOf xs i
+place_of [] i lt = absurd (omega arith)
+place_of (x ∷ xs) zero lt = record { item = x; at = refl; there = refl }
+place_of (x ∷ xs) (suc i) lt = let p = place_of xs i (omega arith) in record { item = p.item; at = p.at; there = p.there }
+
+pub passes_item : {X : Type 0} (t : X → Bool) (xs : List X) (k : ℕ) (x : X) → k < length xs → x ≡ get_or xs k x → passes_at t xs k ≡ t x
+passes_item t [] k x lt at = absurd (omega arith)
+passes_item t (y ∷ xs) zero x lt at = ap t (sym at)
+passes_item t (y ∷ xs) (suc k) x lt at = passes_item t xs k x (omega arith) at
+
+-- a move of a pattern's state, and the moves of the left that may share a name with it: these tell what all moves of the left do
+pub met_tell : {M : Type 0} (has : M → List ℕ → Bool) (t : M → Bool) (step : M) (moves : List M) (numbers : List ℕ) (x : List ℕ) (k r : Bool) → AreMatching has step moves numbers
+    → (list_any (passes_at (λ m. has m x && t m) moves) numbers && ((has step x && k) && not r)) ≡ (list_any (λ m. has m x && t m) moves && ((has step x && k) && not r))
+met_tell {M} has t step moves numbers x k r are = go (has step x) refl
+  where
+    some : Bool
+    some = list_any (passes_at (λ m. has m x && t m) moves) numbers
+
+    all : Bool
+    all = list_any (λ m. has m x && t m) moves
+
+    and_false : (w : Bool) → (w && false) ≡ false
+    and_false true = refl
+    and_false false = refl
+
+    go : (b : Bool) → has step x ≡ b → (some && ((b && k) && not r)) ≡ (all && ((b && k) && not r))
+    go true e = ap (λ w. w && ((true && k) && not r)) (matching_tells has t step moves numbers are x e)
+    go false e = and_false some ∙ sym (and_false all)

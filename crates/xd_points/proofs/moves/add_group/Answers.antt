@@ -1,0 +1,61 @@
+use Rattle.std.proofs.Common.{◌&&◌, not, ap, ◌∙◌, subst, sym}
+use Rattle.std.specs.List.{list_any}
+use Rattle.xd_doc.specs.Classes.{class_has}
+use Rattle.xd_boole.specs.Groups.{AllPass, is_side, side_accepts}
+use Rattle.xd_boole.specs.Choices.{AllChoices, IsChoiceOf, any_choice, choice_refuses}
+use Rattle.xd_boole.specs.Universal.{MarkUniversal}
+use Rattle.xd_points.specs.Points.{LabelLeads, label_means, parts_accept}
+use Rattle.xd_points.proofs.Adding.{grows_same}
+use Rattle.xd_boole.proofs.Differing.{and_nothing, both_more}
+use Rattle.xd_points.proofs.Growing.{adds_like, adds_none, adds_then, label_stays, labels_more}
+use Rattle.xd_boole.proofs.Bools.{part_group}
+use Rattle.xd_boole.proofs.Lists.{all_step, any_walked}
+use Rattle.xd_points.proofs.moves.add_group.Goals as goal
+
+pub loop-choice-init : goal.loop-choice-init
+loop-choice-init c =
+    let a = c.args.auto.now in let b = c.args.patterns.now in
+    record {
+      adds = adds_none (LabelLeads c.args.parts.pattern) (label_means a b) a b (label_stays a b c.args.parts.pattern) (labels_more c.args.parts.pattern) c.args.points.now c.args.labels.now.items _ c.requires.whole c.requires.leads (grows_same c.args.points.now)
+          (λ q. and_nothing (class_has c.args.group.now.class q.label) (parts_accept a b q.content q.rest c.args.parts));
+      left = subst (AllChoices b.taken.auto) (sym c.deref-choice-items.ensures.value) (c.in_ok-choices.ensures.states b.taken.auto (subst (AllPass (is_side b.taken.auto)) (sym c.deref.ensures.value) c.requires.group));
+    }
+
+pub loop-choice-preserved : goal.loop-choice-preserved
+loop-choice-preserved c =
+    let a = c.args.auto.now in let b = c.args.patterns.now in
+    let items = c.deref-choice-items.result.now in
+    let i = c.loop-choice.choice-index in
+    let x = c.choice-item.result in
+    let next = all_step (IsChoiceOf b.taken.auto) items i x c.loop-choice-test.true c.choice-item.is c.loop-choice.invariant.left in
+    record {
+      adds = adds_then (LabelLeads c.args.parts.pattern) (label_means a b) a b (label_stays a b c.args.parts.pattern) (labels_more c.args.parts.pattern) _ _ _ _ _ _ _ _ _ c.loop-choice.invariant.adds c.in_ok-add_move.ensures
+          (λ q. both_more (choice_refuses b.taken.auto q.content q.rest) items i x (class_has c.args.group.now.class q.label) (parts_accept a b q.content q.rest c.args.parts) c.loop-choice-test.true c.choice-item.is);
+      left = next.1;
+    }
+
+pub returns : goal.returns
+returns c =
+    let a = c.args.auto.now in
+    let b = c.args.patterns.now in
+    let group = c.args.group.now in
+    let items = c.deref-choice-items.result.now in
+    let universal : MarkUniversal b.taken.auto c.deref-2.result.now = subst (MarkUniversal b.taken.auto) (sym c.deref-2.ensures.value) c.requires.patterns.universal in
+    adds_like (LabelLeads c.args.parts.pattern) (label_means a b) a b (label_stays a b c.args.parts.pattern) (labels_more c.args.parts.pattern) c.args.points.now c.loop-choice.points c.args.labels.now.items c.loop-choice.labels.items _ _ c.loop-choice.invariant.adds
+    (λ q.
+    ap (λ w. class_has group.class q.label && (parts_accept a b q.content q.rest c.args.parts && w))
+    (any_walked (choice_refuses b.taken.auto q.content q.rest) items c.loop-choice.choice-index c.loop-choice-test.false ∙ ap (any_choice b.taken.auto q.content q.rest) c.deref-choice-items.ensures.value
+    ∙ c.in_ok-choices.ensures.refused b.taken.auto universal q.content q.rest ∙ ap (λ ss. not (list_any (side_accepts b.taken.auto q.content q.rest) ss)) c.deref.ensures.value)
+    ∙ part_group (parts_accept a b q.content q.rest c.args.parts) (class_has group.class q.label) (not (list_any (side_accepts b.taken.auto q.content q.rest) group.sides.items)))
+
+pub add_move-requires : goal.add_move-requires
+add_move-requires c =
+    let b = c.args.patterns.now in
+    let next = all_step (IsChoiceOf b.taken.auto) c.deref-choice-items.result.now c.loop-choice.choice-index c.choice-item.result c.loop-choice-test.true c.choice-item.is c.loop-choice.invariant.left in
+    record {
+      whole = c.loop-choice.invariant.adds.whole;
+      leads = c.loop-choice.invariant.adds.leads;
+      patterns = c.requires.patterns;
+      parts = c.requires.parts;
+      choice = next.0;
+    }

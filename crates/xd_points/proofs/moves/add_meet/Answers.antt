@@ -1,0 +1,70 @@
+use Rattle.std.proofs.Common.{◌≡◌, ◌&&◌, ◌||◌, not, true, take, List, Option, Some, ap, arith, subst, sym, ◌∙◌}
+use Rattle.std.specs.List.{list_any}
+use Rattle.xd_doc.specs.Classes.{IsPart, LabelClass, class_has}
+use Rattle.xd_auto.specs.declared.auto.State.{State}
+use Rattle.xd_auto.specs.Automaton.{IsState, moves_at}
+use Rattle.xd_boole.specs.Meaning.{any_accepts, element_of, move_takes}
+use Rattle.xd_boole.specs.declared.groups.Side.{Side}
+use Rattle.xd_boole.specs.declared.groups.Group.{Group}
+use Rattle.xd_boole.specs.Groups.{AllPass, any_group, group_refuses, is_side, label_side, side_accepts}
+use Rattle.xd_boole.proofs.Differing.{right_more}
+use Rattle.xd_boole.proofs.Lists.{all_step, any_walked}
+use Rattle.xd_points.specs.declared.moves.Parts.{Parts}
+use Rattle.xd_points.specs.Meaning.{PointView}
+use Rattle.xd_points.specs.Points.{AddsLabels, LabelLeads, any_before, label_means, parts_accept}
+use Rattle.xd_points.proofs.Differing.{met}
+use Rattle.xd_points.proofs.Growing.{adds_like, adds_then, label_stays, labels_more}
+use Rattle.xd_points.proofs.Taking.{before_same}
+use Rattle.xd_points.proofs.moves.add_meet.Goals as goal
+
+pub loop-group-preserved : goal.loop-group-preserved
+loop-group-preserved c =
+    let a = c.args.auto.now in
+    let b = c.args.patterns.now in
+    let one = label_side c.args.one.now in
+    let two = label_side c.args.two.now in
+    let parts : Parts = record { left = one; pattern = two } in
+    let made : Parts = record { left = c.side_of.result; pattern = c.side_of-2.result } in
+    let same : made ≡ parts = ap (λ (l : Side). let k : Parts = record { left = l; pattern = c.side_of-2.result } in k) c.side_of.ensures ∙ ap (λ (r : Side). let k : Parts = record { left = one; pattern = r } in k) c.side_of-2.ensures in
+    let items = c.deref-group-items.result.now in
+    let i = c.loop-group.group-index in
+    let x = c.group-item.result in
+    let next = all_step (λ (g : Group LabelClass Side). AllPass (is_side b.taken.auto) g.sides.items) items i x c.loop-group-test.true c.group-item.is c.loop-group.invariant.left in
+    record {
+      adds = adds_then (LabelLeads two) (label_means a b) a b (label_stays a b two) (labels_more two) _ _ _ _ _ _ _ _ _ c.loop-group.invariant.adds
+          (subst (λ (k : Parts). AddsLabels k.pattern a b c.loop-group.points c.add_group.new.points c.loop-group.labels.items c.add_group.new.labels.items
+          (λ q. parts_accept a b q.content q.rest k && group_refuses class_has (side_accepts b.taken.auto q.content q.rest) q.label x)) same c.in_ok-add_group.ensures)
+          (λ q. right_more (group_refuses class_has (side_accepts b.taken.auto q.content q.rest) q.label) items i x (parts_accept a b q.content q.rest parts) c.loop-group-test.true c.group-item.is);
+      left = next.1;
+    }
+
+pub returns : goal.returns
+returns c =
+    let a = c.args.auto.now in
+    let b = c.args.patterns.now in
+    let one = label_side c.args.one.now in
+    let two = label_side c.args.two.now in
+    let parts : Parts = record { left = one; pattern = two } in
+    let items = c.deref-group-items.result.now in
+    let rights : List State = c.args.of.now.rights in
+    let pattern : State = c.args.of.now.pattern in
+    let rights_are : c.deref.result.now ≡ rights = c.deref.ensures.value ∙ ap (λ (p : PointView). p.rights) c.of.view_is in
+    let pattern_is : c.of.inside.pattern ≡ pattern = ap (λ (p : PointView). p.pattern) c.of.view_is in
+    let class : LabelClass = c.in-Some.class in
+    let part : IsPart true c.args.one.now.class c.args.two.now.class (Some class) = subst (λ (o : Option LabelClass). IsPart true c.args.one.now.class c.args.two.now.class o) c.in-Some.is c.in_ok-class.ensures.part in
+    adds_like (LabelLeads two) (label_means a b) a b (label_stays a b two) (labels_more two) c.args.points.now c.loop-group.points c.args.labels.now.items c.loop-group.labels.items _ _ c.loop-group.invariant.adds
+    (λ q.
+    ap (λ w. parts_accept a b q.content q.rest parts && w)
+    (any_walked (group_refuses class_has (side_accepts b.taken.auto q.content q.rest) q.label) items c.loop-group.group-index c.loop-group-test.false ∙ ap (any_group class_has (side_accepts b.taken.auto q.content q.rest) q.label) c.deref-group-items.ensures.value
+    ∙ c.in_ok-groups.ensures.taken q
+    ∙ ap (λ (rs : List State). class_has class q.label && not (any_accepts b.taken.auto rs (element_of q) || list_any (move_takes b.taken.auto q) (take c.args.place (moves_at b.taken.auto c.of.inside.pattern).labels))) rights_are
+    ∙ ap (λ (s : State). class_has class q.label && not (any_accepts b.taken.auto rights (element_of q) || list_any (move_takes b.taken.auto q) (take c.args.place (moves_at b.taken.auto s).labels))) pattern_is
+    ∙ ap (λ w. class_has class q.label && not (any_accepts b.taken.auto rights (element_of q) || w)) (before_same a b c.requires.patterns pattern c.args.place q)
+    ∙ ap (λ w. w && not (any_accepts b.taken.auto rights (element_of q) || any_before b.auto pattern c.args.place q)) (part q.label))
+    ∙ met (class_has c.args.one.now.class q.label) (class_has c.args.two.now.class q.label) (side_accepts a q.content q.rest one) (side_accepts b.auto q.content q.rest two) (not (any_accepts b.taken.auto rights (element_of q) || any_before b.auto pattern c.args.place q)))
+
+pub label_groups_before-requires-clause-own : goal.label_groups_before-requires-clause-own
+label_groups_before-requires-clause-own c =
+    let b = c.args.patterns.now in
+    let here : IsState b.auto c.of.inside.pattern = subst (λ (p : PointView). IsState b.auto p.pattern) (sym c.of.view_is) c.requires.of.pattern in
+    omega (arith, here, c.requires.patterns.count)

@@ -1,0 +1,61 @@
+use Rattle.std.proofs.Common.{◌≡◌, ◌++◌, ◌∷◌, [], List, ap, sym, ◌∙◌, subst}
+use Rattle.std.specs.List.{AllByRecursion}
+use Rattle.xd_auto.specs.Automaton.{IsState, accepts}
+use Rattle.xd_boole.specs.Meaning.{any_accepts, has_state, is_state}
+use Rattle.xd_boole.proofs.Bools.{and_left, and_right}
+use Rattle.xd_boole.proofs.Refusing.{state_is, states_are}
+use Rattle.xd_doc.specs.Classes.{LabelClass, class_has}
+use Rattle.xd_auto.specs.declared.auto.LabelMove.{LabelMove}
+use Rattle.xd_auto.specs.declared.auto.State.{State}
+use Rattle.xd_points.specs.Points.{IsStateFor, LabelLeads, label_means}
+use Rattle.xd_points.proofs.Adding.{grows_same}
+use Rattle.xd_points.proofs.Differing.{move_added, nothing_left, part_none}
+use Rattle.xd_points.proofs.Growing.{adds_none, label_stays, labels_more}
+use Rattle.xd_points.proofs.moves.add_move.Goals as goal
+
+pub returns : goal.returns
+returns c =
+    let content = c.in_ok-content.content in
+    let rest = c.in_ok-rest.rest in
+    let parts = c.args.parts in
+    let items : c.push.new.self.items ≡ c.args.labels.now.items ++ record { class = c.args.class.now; content = content; rest = rest } ∷ [] =
+    c.in_ok-push.ensures.items ∙ ap (λ (k : LabelClass). let m : LabelMove = record { class = k; content = content; rest = rest } in c.args.labels.now.items ++ m ∷ []) c.in_ok-share.ensures.same in
+    move_added c.args.auto.now c.args.patterns.now c.args.points.now c.find_or_add.new.points c.find_or_add-2.new.points c.args.labels.now.items c.push.new.self.items parts c.args.choice.now c.args.class.now content rest
+    items c.requires.leads c.in_ok-content.ensures.grows c.in_ok-rest.ensures.grows c.in_ok-rest.ensures.whole
+    (subst (λ (rs : List State). IsStateFor c.find_or_add.new.points parts.left.content parts.pattern.content rs content) c.deref.ensures.value c.in_ok-content.ensures.state)
+    (subst (λ (rs : List State). IsStateFor c.find_or_add-2.new.points parts.left.rest parts.pattern.rest rs rest) c.deref-2.ensures.value c.in_ok-rest.ensures.state)
+
+pub find_or_add-requires-clause-states : goal.find_or_add-requires-clause-states
+find_or_add-requires-clause-states c =
+    let a = c.args.auto.now in
+    let b = c.args.patterns.now in
+    let parts = c.args.parts in
+    record {
+      left = state_is a parts.left.content (and_left (is_state a parts.left.content) (is_state a parts.left.rest) c.requires.parts.left);
+      pattern = state_is b.auto parts.pattern.content (and_left (is_state b.auto parts.pattern.content) (is_state b.auto parts.pattern.rest) c.requires.parts.pattern);
+      rights = subst (AllByRecursion (IsState b.taken.auto)) (sym c.deref.ensures.value) (states_are b.taken.auto c.args.choice.now.contents.items c.requires.choice.0);
+    }
+
+pub find_or_add-requires-2-clause-states : goal.find_or_add-requires-2-clause-states
+find_or_add-requires-2-clause-states c =
+    let a = c.args.auto.now in
+    let b = c.args.patterns.now in
+    let parts = c.args.parts in
+    record {
+      left = state_is a parts.left.rest (and_right (is_state a parts.left.content) (is_state a parts.left.rest) c.requires.parts.left);
+      pattern = state_is b.auto parts.pattern.rest (and_right (is_state b.auto parts.pattern.content) (is_state b.auto parts.pattern.rest) c.requires.parts.pattern);
+      rights = subst (AllByRecursion (IsState b.taken.auto)) (sym c.deref-2.ensures.value) (states_are b.taken.auto c.args.choice.now.rests.items c.requires.choice.1);
+    }
+
+pub returns-then-leads_nowhere : goal.returns-then-leads_nowhere
+returns-then-leads_nowhere c =
+    let a = c.args.auto.now in
+    let b = c.args.patterns.now in
+    let parts = c.args.parts in
+    let choice = c.args.choice.now in
+    adds_none (LabelLeads parts.pattern) (label_means a b) a b (label_stays a b parts.pattern) (labels_more parts.pattern) c.args.points.now c.args.labels.now.items _ c.requires.whole c.requires.leads (grows_same c.args.points.now)
+    (λ q.
+    part_none (class_has c.args.class.now q.label) (accepts a q.content parts.left.content) (accepts a q.rest parts.left.rest) (accepts b.auto q.content parts.pattern.content) (accepts b.auto q.rest parts.pattern.rest)
+    (any_accepts b.taken.auto choice.contents.items q.content) (any_accepts b.taken.auto choice.rests.items q.rest) (has_state parts.pattern.content choice.contents.items) (has_state parts.pattern.rest choice.rests.items)
+    (nothing_left a b c.requires.patterns parts.pattern.content choice.contents.items q.content) (nothing_left a b c.requires.patterns parts.pattern.rest choice.rests.items q.rest)
+    (sym c.leads_nowhere.ensures ∙ c.if-leads_nowhere.true))

@@ -1,0 +1,64 @@
+use Rattle.std.proofs.Common.{◌≡◌, ◌&&◌, ◌||◌, not, true, take, List, Option, Some, ap, arith, subst, sym, ◌∙◌}
+use Rattle.std.specs.List.{list_any}
+use Rattle.xd_doc.specs.Classes.{IsPart, TextClass, class_has}
+use Rattle.xd_auto.specs.declared.auto.State.{State}
+use Rattle.xd_auto.specs.Automaton.{IsState, accepts, moves_at}
+use Rattle.xd_boole.specs.Meaning.{any_accepts, is_state, text_of, text_takes}
+use Rattle.xd_boole.specs.declared.groups.Group.{Group}
+use Rattle.xd_boole.specs.Groups.{AllPass, any_group, group_refuses}
+use Rattle.xd_boole.proofs.Differing.{right_more}
+use Rattle.xd_boole.proofs.Lists.{all_step, any_walked}
+use Rattle.xd_points.specs.declared.moves.Rests.{Rests}
+use Rattle.xd_points.specs.Meaning.{PointView}
+use Rattle.xd_points.specs.Points.{TextLeads, any_text_before, rests_accept, text_means}
+use Rattle.xd_points.proofs.Differing.{met}
+use Rattle.xd_points.proofs.Growing.{adds_like, adds_then, text_stays, texts_more}
+use Rattle.xd_points.proofs.Taking.{text_before_same}
+use Rattle.xd_points.proofs.moves.add_text_meet.Goals as goal
+
+pub loop-group-preserved : goal.loop-group-preserved
+loop-group-preserved c =
+    let a = c.args.auto.now in
+    let b = c.args.patterns.now in
+    let two : State = c.args.two.now.rest in
+    let rests : Rests = record { left = c.args.one.now.rest; pattern = two } in
+    let items = c.deref-group-items.result.now in
+    let i = c.loop-group.group-index in
+    let x = c.group-item.result in
+    let next = all_step (λ (g : Group TextClass State). AllPass (is_state b.taken.auto) g.sides.items) items i x c.loop-group-test.true c.group-item.is c.loop-group.invariant.left in
+    record {
+      adds = adds_then (TextLeads two) (text_means a b) a b (text_stays a b two) (texts_more two) _ _ _ _ _ _ _ _ _ c.loop-group.invariant.adds c.in_ok-add_text_group.ensures
+          (λ q. right_more (group_refuses class_has (λ (s : State). accepts b.taken.auto q.rest s) q.characters) items i x (rests_accept a b q.rest rests) c.loop-group-test.true c.group-item.is);
+      left = next.1;
+    }
+
+pub returns : goal.returns
+returns c =
+    let a = c.args.auto.now in
+    let b = c.args.patterns.now in
+    let one : State = c.args.one.now.rest in
+    let two : State = c.args.two.now.rest in
+    let parts : Rests = record { left = one; pattern = two } in
+    let items = c.deref-group-items.result.now in
+    let rights : List State = c.args.of.now.rights in
+    let pattern : State = c.args.of.now.pattern in
+    let rights_are : c.deref.result.now ≡ rights = c.deref.ensures.value ∙ ap (λ (p : PointView). p.rights) c.of.view_is in
+    let pattern_is : c.of.inside.pattern ≡ pattern = ap (λ (p : PointView). p.pattern) c.of.view_is in
+    let class : TextClass = c.in-Some.words in
+    let part : IsPart true c.args.one.now.words c.args.two.now.words (Some class) = subst (λ (o : Option TextClass). IsPart true c.args.one.now.words c.args.two.now.words o) c.in-Some.is c.in_ok-words.ensures.part in
+    adds_like (TextLeads two) (text_means a b) a b (text_stays a b two) (texts_more two) c.args.points.now c.loop-group.points c.args.texts.now.items c.loop-group.texts.items _ _ c.loop-group.invariant.adds
+    (λ q.
+    ap (λ w. rests_accept a b q.rest parts && w)
+    (any_walked (group_refuses class_has (λ (s : State). accepts b.taken.auto q.rest s) q.characters) items c.loop-group.group-index c.loop-group-test.false ∙ ap (any_group class_has (λ (s : State). accepts b.taken.auto q.rest s) q.characters) c.deref-group-items.ensures.value
+    ∙ c.in_ok-groups.ensures.taken q
+    ∙ ap (λ (rs : List State). class_has class q.characters && not (any_accepts b.taken.auto rs (text_of q) || list_any (text_takes b.taken.auto q) (take c.args.place (moves_at b.taken.auto c.of.inside.pattern).texts))) rights_are
+    ∙ ap (λ (s : State). class_has class q.characters && not (any_accepts b.taken.auto rights (text_of q) || list_any (text_takes b.taken.auto q) (take c.args.place (moves_at b.taken.auto s).texts))) pattern_is
+    ∙ ap (λ w. class_has class q.characters && not (any_accepts b.taken.auto rights (text_of q) || w)) (text_before_same a b c.requires.patterns pattern c.args.place q)
+    ∙ ap (λ w. w && not (any_accepts b.taken.auto rights (text_of q) || any_text_before b.auto pattern c.args.place q)) (part q.characters))
+    ∙ met (class_has c.args.one.now.words q.characters) (class_has c.args.two.now.words q.characters) (accepts a q.rest one) (accepts b.auto q.rest two) (not (any_accepts b.taken.auto rights (text_of q) || any_text_before b.auto pattern c.args.place q)))
+
+pub text_groups_before-requires-clause-own : goal.text_groups_before-requires-clause-own
+text_groups_before-requires-clause-own c =
+    let b = c.args.patterns.now in
+    let here : IsState b.auto c.of.inside.pattern = subst (λ (p : PointView). IsState b.auto p.pattern) (sym c.of.view_is) c.requires.of.pattern in
+    omega (arith, here, c.requires.patterns.count)

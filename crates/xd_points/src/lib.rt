@@ -1,0 +1,13 @@
+//! Points: what a state of an automaton and a state of a pattern accept together, and earlier states refuse.
+#![tactic(auto)]
+
+pub mod laws;
+mod moves;
+mod patterns;
+mod placing;
+mod points;
+mod steps;
+mod table;
+
+pub use patterns::Patterns;
+pub use table::Table;

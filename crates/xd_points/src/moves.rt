@@ -1,0 +1,323 @@
+//! The moves that stand for one move of a pattern's state.
+
+ghost use Rattle.std.specs.Prelude.{◌≡◌, ◌<◌, ◌&&◌, ◌||◌, [], not, true, length, get_or, IfOk, OnOk};
+ghost use Rattle.std.specs.List.{AllByRecursion};
+ghost use Rattle.xd_doc.specs.Classes.{class_has};
+ghost use Rattle.xd_auto.specs.declared.auto.LabelMove.{LabelMove};
+ghost use Rattle.xd_auto.specs.declared.auto.TextMove.{TextMove};
+ghost use Rattle.xd_auto.specs.Automaton.{IsState, accepts, moves_at};
+ghost use Rattle.xd_boole.specs.Meaning.{any_accepts, element_of, has_state, is_state, move_takes, text_of, text_takes};
+ghost use Rattle.xd_boole.specs.Groups.{AllPass, group_refuses, is_side, label_side, side_accepts};
+ghost use Rattle.xd_boole.specs.Choices.{IsChoiceOf, choice_refuses};
+ghost use Rattle.xd_boole.specs.Points.{MoveBelow, TextBelow};
+ghost use Rattle.xd_points.specs.Meaning.{IsPointOf, ServePoints};
+ghost use Rattle.xd_points.specs.Points.{AddsLabels, AddsTexts, ArePoints, ArePartsOf, AreRestsOf, LabelLeads, TextLeads, any_before, any_text_before, parts_accept, rests_accept};
+
+use crate::patterns::Patterns;
+use crate::points::{Point, Points, find_or_add, is_refused};
+use std::alloc::Global;
+use xd_auto::{Auto, LabelMove, Move, State, TextMove};
+use xd_boole::{
+    Choice, Group, Side, any_marked, choices_of, label_groups_before, set_of, side_of,
+    text_groups_before,
+};
+use xd_doc::{Class, NoMemory, Words};
+
+/// Where a move of a left and one of a pattern's state lead on an element.
+#[derive(Clone, Copy)]
+pub(crate) struct Parts {
+    pub(crate) left: Side,
+    pub(crate) pattern: Side,
+}
+
+/// Where they lead on a text.
+#[derive(Clone, Copy)]
+pub(crate) struct Rests {
+    pub(crate) left: State,
+    pub(crate) pattern: State,
+}
+
+/// Whether a part of the pattern is one of those that must refuse.
+fn leads_nowhere(pattern: Side, choice: &Choice) -> bool
+    ensures { result ≡ (has_state pattern.content choice.now.contents.items || has_state pattern.rest choice.now.rests.items) }
+{
+    is_refused(pattern.content, &choice.contents) || is_refused(pattern.rest, &choice.rests)
+}
+
+/// The move on these labels by which the parts go on as the choice says; none where nothing is left of a part.
+fn add_move(
+    alloc: Global,
+    auto: &Auto,
+    patterns: &Patterns,
+    points: &mut Points,
+    labels: &mut Vec<LabelMove>,
+    parts: Parts,
+    class: &Class,
+    choice: &Choice,
+) -> Result<(), NoMemory>
+    requires patterns { ServePoints auto.now patterns.now }
+    requires whole { ArePoints auto.now patterns.now points.old }
+    requires leads { AllByRecursion (LabelLeads parts.pattern points.old) labels.old.items }
+    requires parts { ArePartsOf auto.now patterns.now parts }
+    requires choice { IsChoiceOf patterns.now.taken.auto choice.now }
+    ensures { OnOk result (AddsLabels parts.pattern auto.now patterns.now points.old points.new labels.old.items labels.new.items (λ q. class_has class.now q.label && (parts_accept auto.now patterns.now q.content q.rest parts && choice_refuses patterns.now.taken.auto q.content q.rest choice.now))) }
+{
+    if leads_nowhere(parts.pattern, choice) {
+        return Ok(());
+    }
+    let content = find_or_add(
+        alloc,
+        auto,
+        patterns,
+        points,
+        parts.left.content,
+        parts.pattern.content,
+        &choice.contents,
+    )?;
+    let rest = find_or_add(
+        alloc,
+        auto,
+        patterns,
+        points,
+        parts.left.rest,
+        parts.pattern.rest,
+        &choice.rests,
+    )?;
+    labels.push(LabelMove {
+        class: class.share()?,
+        content,
+        rest,
+    })?;
+    Ok(())
+}
+
+/// The moves for the labels of a group: one for each choice.
+fn add_group(
+    alloc: Global,
+    auto: &Auto,
+    patterns: &Patterns,
+    points: &mut Points,
+    labels: &mut Vec<LabelMove>,
+    parts: Parts,
+    group: &Group<Class, Side>,
+) -> Result<(), NoMemory>
+    requires patterns { ServePoints auto.now patterns.now }
+    requires whole { ArePoints auto.now patterns.now points.old }
+    requires leads { AllByRecursion (LabelLeads parts.pattern points.old) labels.old.items }
+    requires parts { ArePartsOf auto.now patterns.now parts }
+    requires group { AllPass (is_side patterns.now.taken.auto) group.now.sides.items }
+    ensures { OnOk result (AddsLabels parts.pattern auto.now patterns.now points.old points.new labels.old.items labels.new.items (λ q. parts_accept auto.now patterns.now q.content q.rest parts && group_refuses class_has (side_accepts patterns.now.taken.auto q.content q.rest) q.label group.now)) }
+{
+    let choices = choices_of(alloc, &group.sides, &patterns.taken.universal)?;
+    for choice in &choices {
+        add_move(
+            alloc,
+            auto,
+            patterns,
+            points,
+            labels,
+            parts,
+            &group.class,
+            choice,
+        )?;
+    }
+    Ok(())
+}
+
+/// The moves for the labels that two moves share, one of the left and one of the pattern's state, on what no state of the point's
+/// rights takes, and none of the first moves of the pattern's state.
+fn add_meet(
+    alloc: Global,
+    auto: &Auto,
+    patterns: &Patterns,
+    points: &mut Points,
+    labels: &mut Vec<LabelMove>,
+    of: &Point,
+    one: &LabelMove,
+    two: &LabelMove,
+    place: usize,
+) -> Result<(), NoMemory>
+    requires patterns { ServePoints auto.now patterns.now }
+    requires whole { ArePoints auto.now patterns.now points.old }
+    requires leads { AllByRecursion (LabelLeads (label_side two.now) points.old) labels.old.items }
+    requires of { IsPointOf auto.now patterns.now of.now }
+    requires one { MoveBelow (length auto.now) one.now }
+    requires two { MoveBelow (length patterns.now.auto) two.now }
+    ensures { OnOk result (AddsLabels (label_side two.now) auto.now patterns.now points.old points.new labels.old.items labels.new.items (λ q. (move_takes auto.now q one.now && move_takes patterns.now.auto q two.now) && not (any_accepts patterns.now.taken.auto of.now.rights (element_of q) || any_before patterns.now.auto of.now.pattern place q))) }
+{
+    let Some(class) = one.class.meet(&two.class)? else {
+        return Ok(());
+    };
+    let step = LabelMove {
+        class,
+        content: two.content,
+        rest: two.rest,
+    };
+    let parts = Parts {
+        left: side_of(one),
+        pattern: side_of(two),
+    };
+    let groups = label_groups_before(
+        alloc,
+        &patterns.taken.auto,
+        &step,
+        &of.rights,
+        of.pattern,
+        place,
+    )?;
+    for group in &groups {
+        add_group(alloc, auto, patterns, points, labels, parts, group)?;
+    }
+    Ok(())
+}
+
+/// The moves on an element that stand for the move of this number of the pattern's state.
+pub(crate) fn label_steps(
+    alloc: Global,
+    auto: &Auto,
+    patterns: &Patterns,
+    points: &mut Points,
+    of: &Point,
+    number: usize,
+    place: usize,
+) -> Result<Vec<LabelMove>, NoMemory>
+    requires patterns { ServePoints auto.now patterns.now }
+    requires whole { ArePoints auto.now patterns.now points.old }
+    requires of { IsPointOf auto.now patterns.now of.now }
+    requires number { number < length (moves_at patterns.now.auto of.now.pattern).labels }
+    ensures { IfOk result (λ labels. (m : LabelMove) → m ≡ get_or (moves_at patterns.now.auto of.now.pattern).labels number m → AddsLabels (label_side m) auto.now patterns.now points.old points.new [] labels.items (λ q. accepts auto.now (element_of q) of.now.left && (move_takes patterns.now.auto q m && not (any_accepts patterns.now.taken.auto of.now.rights (element_of q) || any_before patterns.now.auto of.now.pattern place q)))) }
+{
+    let two = &patterns.auto.label_moves(of.pattern)[number];
+    let numbers = two.matching(alloc, auto, of.left)?;
+    let ones = auto.label_moves(of.left);
+    let mut labels = Vec::new(alloc);
+    for number in &numbers {
+        let one = &ones[*number];
+        add_meet(
+            alloc,
+            auto,
+            patterns,
+            points,
+            &mut labels,
+            of,
+            one,
+            two,
+            place,
+        )?;
+    }
+    Ok(labels)
+}
+
+/// The move for the texts of a group; none where one of its states is known to accept everything, or is the pattern's.
+fn add_text_group(
+    alloc: Global,
+    auto: &Auto,
+    patterns: &Patterns,
+    points: &mut Points,
+    texts: &mut Vec<TextMove>,
+    rests: Rests,
+    group: &Group<Words, State>,
+) -> Result<(), NoMemory>
+    requires patterns { ServePoints auto.now patterns.now }
+    requires whole { ArePoints auto.now patterns.now points.old }
+    requires leads { AllByRecursion (TextLeads rests.pattern points.old) texts.old.items }
+    requires rests { AreRestsOf auto.now patterns.now rests }
+    requires group { AllPass (is_state patterns.now.taken.auto) group.now.sides.items }
+    ensures { OnOk result (AddsTexts rests.pattern auto.now patterns.now points.old points.new texts.old.items texts.new.items (λ q. rests_accept auto.now patterns.now q.rest rests && group_refuses class_has (λ s. accepts patterns.now.taken.auto q.rest s) q.characters group.now)) }
+{
+    if any_marked(&patterns.taken.universal, &group.sides) {
+        return Ok(());
+    }
+    let rights = set_of(alloc, &group.sides)?;
+    if is_refused(rests.pattern, &rights) {
+        return Ok(());
+    }
+    let rest = find_or_add(
+        alloc,
+        auto,
+        patterns,
+        points,
+        rests.left,
+        rests.pattern,
+        &rights,
+    )?;
+    texts.push(TextMove {
+        words: group.class.share()?,
+        rest,
+    })?;
+    Ok(())
+}
+
+/// The moves for the texts that two moves share.
+fn add_text_meet(
+    alloc: Global,
+    auto: &Auto,
+    patterns: &Patterns,
+    points: &mut Points,
+    texts: &mut Vec<TextMove>,
+    of: &Point,
+    one: &TextMove,
+    two: &TextMove,
+    place: usize,
+) -> Result<(), NoMemory>
+    requires patterns { ServePoints auto.now patterns.now }
+    requires whole { ArePoints auto.now patterns.now points.old }
+    requires leads { AllByRecursion (TextLeads two.now.rest points.old) texts.old.items }
+    requires of { IsPointOf auto.now patterns.now of.now }
+    requires one { TextBelow (length auto.now) one.now }
+    requires two { TextBelow (length patterns.now.auto) two.now }
+    ensures { OnOk result (AddsTexts two.now.rest auto.now patterns.now points.old points.new texts.old.items texts.new.items (λ q. (text_takes auto.now q one.now && text_takes patterns.now.auto q two.now) && not (any_accepts patterns.now.taken.auto of.now.rights (text_of q) || any_text_before patterns.now.auto of.now.pattern place q))) }
+{
+    let Some(words) = one.words.meet(&two.words)? else {
+        return Ok(());
+    };
+    let step = TextMove {
+        words,
+        rest: two.rest,
+    };
+    let rests = Rests {
+        left: one.rest,
+        pattern: two.rest,
+    };
+    let groups = text_groups_before(
+        alloc,
+        &patterns.taken.auto,
+        &step,
+        &of.rights,
+        of.pattern,
+        place,
+    )?;
+    for group in &groups {
+        add_text_group(alloc, auto, patterns, points, texts, rests, group)?;
+    }
+    Ok(())
+}
+
+/// The moves on a text that stand for the move of this number of the pattern's state.
+pub(crate) fn text_steps(
+    alloc: Global,
+    auto: &Auto,
+    patterns: &Patterns,
+    points: &mut Points,
+    of: &Point,
+    number: usize,
+    place: usize,
+) -> Result<Vec<TextMove>, NoMemory>
+    requires patterns { ServePoints auto.now patterns.now }
+    requires whole { ArePoints auto.now patterns.now points.old }
+    requires of { IsPointOf auto.now patterns.now of.now }
+    requires number { number < length (moves_at patterns.now.auto of.now.pattern).texts }
+    ensures { IfOk result (λ texts. (m : TextMove) → m ≡ get_or (moves_at patterns.now.auto of.now.pattern).texts number m → AddsTexts m.rest auto.now patterns.now points.old points.new [] texts.items (λ q. accepts auto.now (text_of q) of.now.left && (text_takes patterns.now.auto q m && not (any_accepts patterns.now.taken.auto of.now.rights (text_of q) || any_text_before patterns.now.auto of.now.pattern place q)))) }
+{
+    let two = &patterns.auto.text_moves(of.pattern)[number];
+    let numbers = two.matching(alloc, auto, of.left)?;
+    let ones = auto.text_moves(of.left);
+    let mut texts = Vec::new(alloc);
+    for number in &numbers {
+        let one = &ones[*number];
+        add_text_meet(
+            alloc, auto, patterns, points, &mut texts, of, one, two, place,
+        )?;
+    }
+    Ok(texts)
+}

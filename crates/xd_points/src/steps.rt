@@ -1,0 +1,167 @@
+//! The moves of the states of points.
+
+ghost use Rattle.std.specs.Prelude.{◌≡◌, ◌<◌, ◌+◌, ◌++◌, ◌∷◌, [], length, map, IfOk, OnOk};
+ghost use Rattle.xd_auto.specs.declared.auto.LabelMove.{LabelMove};
+ghost use Rattle.xd_auto.specs.declared.auto.TextMove.{TextMove};
+ghost use Rattle.xd_points.specs.Meaning.{IsPointOf, ServePoints};
+ghost use Rattle.xd_points.specs.Points.{AreExpanded, ArePoints, KeepMoves, KeepsPoints, MakesLabels, MakesTexts, RowView, label_takes, no_row, place_before, text_takes_by};
+
+use crate::moves::{label_steps, text_steps};
+use crate::patterns::Patterns;
+use crate::points::{Point, Points, copy_point, is_old};
+use std::alloc::Global;
+use std::marker::Model;
+use xd_auto::{Auto, LabelMove, TextMove};
+use xd_doc::NoMemory;
+
+/// For each move of a state, by its kind and number, the number of the pattern's move that it stands for.
+#[derive(Drop)]
+pub(crate) struct Row {
+    pub(crate) labels: Vec<usize>,
+    pub(crate) texts: Vec<usize>,
+}
+
+impl Model for Row {
+    ghost use Rattle.xd_points.specs.Points.{RowView};
+
+    ghost Value = { RowView };
+
+    ghost view = { λ r. record { labels = r.labels.items; texts = r.texts.items } };
+}
+
+/// Puts moves behind others, and for each the number of the move that it stands for.
+fn append_labels(
+    moves: &mut Vec<LabelMove>,
+    numbers: &mut Vec<usize>,
+    steps: Vec<LabelMove>,
+    number: usize,
+) -> Result<(), NoMemory>
+    ensures moves { OnOk result (moves.new.items ≡ moves.old.items ++ steps.items) }
+    ensures numbers { OnOk result (numbers.new.items ≡ numbers.old.items ++ map (λ (m : LabelMove). number) steps.items) }
+{
+    for step in steps {
+        moves.push(step)?;
+        numbers.push(number)?;
+    }
+    Ok(())
+}
+
+/// The same of moves on a text.
+fn append_texts(
+    moves: &mut Vec<TextMove>,
+    numbers: &mut Vec<usize>,
+    steps: Vec<TextMove>,
+    number: usize,
+) -> Result<(), NoMemory>
+    ensures moves { OnOk result (moves.new.items ≡ moves.old.items ++ steps.items) }
+    ensures numbers { OnOk result (numbers.new.items ≡ numbers.old.items ++ map (λ (m : TextMove). number) steps.items) }
+{
+    for step in steps {
+        moves.push(step)?;
+        numbers.push(number)?;
+    }
+    Ok(())
+}
+
+/// Before which number the pattern's moves must fail.
+fn place_of(first: bool, number: usize) -> usize
+    ensures { result ≡ place_before first number }
+{
+    if first { number } else { 0 }
+}
+
+/// The moves of a point's state on an element, with the numbers of the pattern's moves that they stand for. With `first`, where the
+/// pattern's state goes by a move each more preferred one must fail.
+fn label_moves(
+    alloc: Global,
+    auto: &Auto,
+    patterns: &Patterns,
+    points: &mut Points,
+    of: &Point,
+    first: bool,
+) -> Result<(Vec<LabelMove>, Vec<usize>), NoMemory>
+    requires patterns { ServePoints auto.now patterns.now }
+    requires whole { ArePoints auto.now patterns.now points.old }
+    requires of { IsPointOf auto.now patterns.now of.now }
+    ensures { IfOk result (λ made. MakesLabels of.now.pattern auto.now patterns.now points.old points.new made.0.items made.1.items (label_takes first auto.now patterns.now of.now)) }
+{
+    let mut labels = Vec::new(alloc);
+    let mut numbers = Vec::new(alloc);
+    for number in 0..patterns.auto.label_moves(of.pattern).len() {
+        let place = place_of(first, number);
+        let steps = label_steps(alloc, auto, patterns, points, of, number, place)?;
+        append_labels(&mut labels, &mut numbers, steps, number)?;
+    }
+    Ok((labels, numbers))
+}
+
+/// The same on a text.
+fn text_moves(
+    alloc: Global,
+    auto: &Auto,
+    patterns: &Patterns,
+    points: &mut Points,
+    of: &Point,
+    first: bool,
+) -> Result<(Vec<TextMove>, Vec<usize>), NoMemory>
+    requires patterns { ServePoints auto.now patterns.now }
+    requires whole { ArePoints auto.now patterns.now points.old }
+    requires of { IsPointOf auto.now patterns.now of.now }
+    ensures { IfOk result (λ made. MakesTexts of.now.pattern auto.now patterns.now points.old points.new made.0.items made.1.items (text_takes_by first auto.now patterns.now of.now)) }
+{
+    let mut texts = Vec::new(alloc);
+    let mut numbers = Vec::new(alloc);
+    for number in 0..patterns.auto.text_moves(of.pattern).len() {
+        let place = place_of(first, number);
+        let steps = text_steps(alloc, auto, patterns, points, of, number, place)?;
+        append_texts(&mut texts, &mut numbers, steps, number)?;
+    }
+    Ok((texts, numbers))
+}
+
+/// Puts a row without moves behind the others.
+fn add_bare(alloc: Global, rows: &mut Vec<Row>) -> Result<(), NoMemory>
+    ensures { OnOk result (rows.new.items ≡ rows.old.items ++ no_row ∷ []) }
+{
+    rows.push(Row {
+        labels: Vec::new(alloc),
+        texts: Vec::new(alloc),
+    })?;
+    Ok(())
+}
+
+/// Gives the state of a point its moves, and the row of those of the pattern that they stand for; none where the point means what an
+/// old state accepts.
+pub(crate) fn expand(
+    alloc: Global,
+    auto: &Auto,
+    patterns: &Patterns,
+    points: &mut Points,
+    rows: &mut Vec<Row>,
+    first: bool,
+) -> Result<(), NoMemory>
+    requires patterns { ServePoints auto.now patterns.now }
+    requires expanded { AreExpanded first auto.now patterns.now points.old rows.old.items }
+    requires more { length rows.old.items < length points.old.points.items }
+    ensures expanded { OnOk result (AreExpanded first auto.now patterns.now points.new rows.new.items) }
+    ensures grows { OnOk result (KeepsPoints points.old points.new) }
+    ensures moves { OnOk result (KeepMoves (length rows.old.items) points.old points.new) }
+    ensures count { OnOk result (length rows.new.items ≡ length rows.old.items + 1) }
+{
+    let _states = points.made.len();
+    let number = rows.len();
+    let of = copy_point(alloc, points, number)?;
+    if is_old(patterns, of.left, of.pattern, &of.rights) {
+        add_bare(alloc, rows)?;
+        return Ok(());
+    }
+    let (labels, label_numbers) = label_moves(alloc, auto, patterns, points, &of, first)?;
+    let (texts, text_numbers) = text_moves(alloc, auto, patterns, points, &of, first)?;
+    let state = points.made.state(number);
+    points.made.set_moves(state, labels, texts);
+    rows.push(Row {
+        labels: label_numbers,
+        texts: text_numbers,
+    })?;
+    Ok(())
+}

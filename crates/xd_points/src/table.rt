@@ -1,0 +1,120 @@
+//! Points that are kept from call to call, and states that accept what they mean.
+
+ghost use Rattle.std.specs.Prelude.{◌≡◌, false, length, IfOk, IfSome, OnOk};
+ghost use Rattle.std.specs.List.{AllByRecursion};
+ghost use Rattle.xd_doc.specs.Document.{Document};
+ghost use Rattle.xd_auto.specs.Automaton.{Automaton, Extends, IsState};
+ghost use Rattle.xd_points.specs.Meaning.{ServePoints};
+ghost use Rattle.xd_points.specs.Points.{AreExpanded, KeepMoves, KeepsPoints};
+
+use crate::patterns::Patterns;
+use crate::placing::{Place, place_points, state_there};
+use crate::points::{Points, find_or_add};
+use crate::steps::{Row, expand};
+use std::alloc::Global;
+use xd_auto::{Auto, State};
+use xd_doc::{NoMemory, Store};
+use xd_empty::Inhabitants;
+
+/// Points, their moves, and where they stand in the automaton that has their lefts.
+///
+/// It serves one automaton that only grows, and the same patterns at each call: a point that was met before is not made again.
+#[derive(Drop)]
+pub struct Table {
+    points: Points,
+    rows: Vec<Row>,
+    places: Vec<Place>,
+    /// Of each point a document that its state accepts, where there is one.
+    known: Inhabitants,
+    store: Store,
+}
+
+/// Gives the states of points that have none yet their moves. New points that are met on the way wait in the order of their numbers.
+fn expand_all(
+    alloc: Global,
+    auto: &Auto,
+    patterns: &Patterns,
+    points: &mut Points,
+    rows: &mut Vec<Row>,
+) -> Result<(), NoMemory>
+    requires patterns { ServePoints auto.now patterns.now }
+    requires expanded { AreExpanded false auto.now patterns.now points.old rows.old.items }
+    ensures expanded { OnOk result (AreExpanded false auto.now patterns.now points.new rows.new.items) }
+    ensures every { OnOk result (length rows.new.items ≡ length points.new.points.items) }
+    ensures keeps { OnOk result (KeepsPoints points.old points.new) }
+    ensures moves { OnOk result (KeepMoves (length rows.old.items) points.old points.new) }
+{
+    let mut number = rows.len();
+    while number < points.points.len() {
+        expand(alloc, auto, patterns, points, rows, false)?;
+        number += 1;
+    }
+    Ok(())
+}
+
+impl Table {
+    ghost use Rattle.xd_points.specs.declared.patterns.Patterns.{Patterns as PatternsView};
+    ghost use Rattle.xd_points.specs.Placing.{accepts_at};
+    ghost use Rattle.xd_points.specs.Tables.{IsTableOf, takes_alone};
+
+    /// No points.
+    pub fn new(alloc: Global) -> Self
+        ensures { (a : Automaton) (b : PatternsView) → IsTableOf a b result }
+    {
+        let points = Points::new(alloc);
+        let rows = Vec::new(alloc);
+        let places = Vec::new(alloc);
+        let known = Inhabitants::new(alloc);
+        let store = Store::new(alloc);
+        Self {
+            points,
+            rows,
+            places,
+            known,
+            store,
+        }
+    }
+
+    /// A state that accepts what a state of the automaton and a state of the patterns accept, and no one of some further states of the
+    /// patterns does. `None` only where that is nothing; a state that is answered may accept nothing, too, where the automaton had
+    /// states that do.
+    ///
+    /// States are added for points that were not met before, and mean something; none where the point means what the left accepts, since
+    /// the pattern's state takes everything and nothing must refuse. After `NoMemory` the table serves no further calls; the automaton
+    /// keeps its states, and may have more.
+    pub fn accept(
+        &mut self,
+        alloc: Global,
+        auto: &mut Auto,
+        patterns: &Patterns,
+        left: State,
+        pattern: State,
+        rights: &[State],
+    ) -> Result<Option<State>, NoMemory>
+        requires patterns { ServePoints auto.old patterns.now }
+        requires table { IsTableOf auto.old patterns.now self.old }
+        requires left { IsState auto.old left }
+        requires pattern { IsState patterns.now.auto pattern }
+        requires rights { AllByRecursion (IsState patterns.now.auto) rights.now }
+        ensures table { OnOk result (IsTableOf auto.new patterns.now self.new) }
+        ensures belongs { IfOk result (λ found. IfSome found (IsState auto.new)) }
+        ensures exact { IfOk result (λ found. (d : Document) → accepts_at auto.new d found ≡ takes_alone auto.old patterns.now left pattern rights.now d) }
+        ensures extends { Extends auto.old auto.new }
+    {
+        let _states = auto.len();
+        self.known.stays_known();
+        let start = find_or_add(
+            alloc,
+            auto,
+            patterns,
+            &mut self.points,
+            left,
+            pattern,
+            rights,
+        )?;
+        expand_all(alloc, auto, patterns, &mut self.points, &mut self.rows)?;
+        self.known.learn(alloc, &self.points.made, &mut self.store)?;
+        place_points(auto, patterns, &self.points, &self.known, &mut self.places)?;
+        Ok(state_there(&self.places, start))
+    }
+}
