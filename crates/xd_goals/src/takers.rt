@@ -83,7 +83,8 @@ fn looks_covered(auto: &Auto, left: State, states: &[State], more: State) -> boo
 }
 
 /// A right head that takes the element: the first one with which the two sides look as if they could do
-/// without another head, and where there is none such, the first of all.
+/// without another head, and where there is none such, the first of all. Where only the last one takes
+/// it, there is no choice, and nothing is looked at.
 ///
 /// A head that takes the element may be too small for what the left head has. The goals that it leads to
 /// are refuted in the end, and until then they lead to others, which stay. So a head that lacks a label right at
@@ -114,6 +115,9 @@ pub(crate) fn taker(
         let side = side_of(setting.sides, place);
         if !is_taker(setting.auto, setting.store, answers, side, inside, behind)? {
             continue;
+        }
+        if first.is_none() && place + 1 == setting.sides.len() {
+            return Ok(Some(side));
         }
         if looks_covered(setting.auto, setting.task.content, contents, side.content)
             && looks_covered(setting.auto, setting.task.rest, rests, side.rest)
