@@ -20,8 +20,9 @@ use xd_least::{document_size, least_inhabitant};
 /// If some of these has a size below 2^63, it is a least one. If none has, its own size is at least
 /// 2^63 too. The one that is known is handed back where none is smaller.
 ///
-/// The difference is made lazily, along documents that were wrongly taken (`search.rt`). Where that takes
-/// too many rounds, the whole difference is made, which may be exponentially large.
+/// The difference is made lazily, along documents that were wrongly taken (`search.rt`). Where that
+/// takes too many rounds, the whole difference is made, which may be exponentially large. Fails
+/// only where memory is refused; the store may have more documents then, and keeps its old ones.
 pub fn least_apart(
     alloc: Global,
     auto: &Auto,

@@ -137,8 +137,8 @@ fn extend_all(
     Ok(extended)
 }
 
-/// The choices by which an element is refused by all matching moves, without those that would have a
-/// state refuse that is known to accept everything.
+/// The choices by which an element is refused by all matching moves, without those that would have
+/// a state refuse that is known to accept everything. Fails only where memory is refused.
 pub fn choices_of(
     alloc: Global,
     sides: &[Side],

@@ -273,6 +273,7 @@ fn difference(
 }
 
 /// The states of an automaton as what is taken away: those that are like each other are made one.
+/// Fails only where memory is refused.
 pub fn taken_from(alloc: Global, part: &Auto) -> Result<Taken, NoMemory>
     ensures count { IfOk result (λ taken. length taken.auto ≡ length part.now) }
     ensures same { IfOk result (λ taken. (d : Document) (s : State) → accepts taken.auto d s ≡ accepts part.now d s) }

@@ -330,8 +330,8 @@ fn below(alloc: Global, numbers: &[usize], bound: usize) -> Result<Vec<usize>, N
     Ok(made)
 }
 
-/// The labels of a move's class in groups, by the moves of these states that match them, and by those of one more state that
-/// stand before a place.
+/// The labels of a move's class in groups, by the moves of these states that match them, and by
+/// those of one more state that stand before a place. Fails only where memory is refused.
 pub fn label_groups_before(
     alloc: Global,
     auto: &Auto,
@@ -351,7 +351,7 @@ pub fn label_groups_before(
     Ok(groups)
 }
 
-/// The texts of a move's class in groups, in the same way.
+/// The texts of a move's class in groups, in the same way. Fails only where memory is refused.
 pub fn text_groups_before(
     alloc: Global,
     auto: &Auto,

@@ -359,7 +359,7 @@ pub fn merged(alloc: Global, auto: &Auto) -> Result<Auto, NoMemory>
     Ok(made)
 }
 
-/// The same, and the state that stands in for a state.
+/// The same, and the state that stands in for a state. Fails only where memory is refused.
 pub fn merged_at(alloc: Global, auto: &Auto, state: State) -> Result<(Auto, State), NoMemory>
     requires { IsState auto.now state }
     ensures same { IfOk result (λ made. (d : Document) → accepts made.0 d made.1 ≡ accepts auto.now d state) }

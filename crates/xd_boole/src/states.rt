@@ -28,7 +28,7 @@ pub(crate) fn with_state(
     Ok(made)
 }
 
-/// The set of these states.
+/// The set of these states. Fails only where memory is refused.
 pub fn set_of(alloc: Global, states: &[State]) -> Result<Vec<State>, NoMemory>
     ensures { IfOk result (λ made. made.items ≡ with_states states.now []) }
 {

@@ -136,7 +136,8 @@ fn is_universal(auto: &Auto, state: State) -> bool
     all_take_all(auto, &states)
 }
 
-/// For each state whether it accepts every document in a plain way.
+/// For each state whether it accepts every document in a plain way. Fails only where memory is
+/// refused.
 pub fn universal_states(alloc: Global, auto: &Auto) -> Result<Vec<bool>, NoMemory>
     ensures { IfOk result (λ marks. MarkUniversal auto.now marks.items) }
 {

@@ -83,7 +83,8 @@ pub struct MatchStates {
 /// For each match that doesn't stand inside the body of a clause that is never reached, in order of
 /// place, an automaton with a state that accepts exactly what its scrutinee may be.
 ///
-/// The program is copied for that, since the check adds types to it.
+/// The program is copied for that, since the check adds types to it. Fails only where memory is
+/// refused.
 pub fn scrutinees(alloc: Global, checked: &Checked) -> Result<Vec<Scrutinee>, NoMemory>
     ensures { IfOk result (λ found. AreScrutinees checked.now found.items) }
 {

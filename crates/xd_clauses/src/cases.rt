@@ -31,7 +31,8 @@ use xd_syntax::PatternId;
 /// A document that the state accepts, a least one, where there is one. What is found of other states on the way is known from then
 /// on.
 ///
-/// Where each document that the state accepts has 2^63 items or more, it is one of these.
+/// Where each document that the state accepts has 2^63 items or more, it is one of these. What is
+/// known stays true after want of memory, and the store keeps its documents.
 pub fn accepted_document(
     alloc: Global,
     auto: &Auto,
@@ -99,7 +100,7 @@ fn left_behind(
     Ok((own, left))
 }
 
-/// For each variable a state that accepts nothing.
+/// For each variable a state that accepts nothing. Fails only where memory is refused.
 pub fn given_nothing(
     alloc: Global,
     variables: &[Label],
@@ -141,7 +142,7 @@ fn givens_of(
     }
 }
 
-/// The same states, each in an automaton of its own.
+/// The same states, each in an automaton of its own. Fails only where memory is refused.
 pub fn apart(alloc: Global, auto: &Auto, givens: &[Given]) -> Result<Vec<Binding>, NoMemory>
     requires { AllByRecursion (λ g. IsState auto.now g.state) givens.now }
     ensures { IfOk result (λ bindings. AllPaired (IsApart auto.now) givens.now bindings.items) }
@@ -193,7 +194,9 @@ impl Arrival {
     }
 }
 
-/// What the state accepts, at a clause with this pattern behind the earlier ones.
+/// What the state accepts, at a clause with this pattern behind the earlier ones. The patterns are
+/// linear, as those of clauses are, and belong to the program. Fails only where memory is refused;
+/// the program may have more types then, and nothing else in it changes.
 pub fn arriving(
     alloc: Global,
     sound: &mut SoundProgram,
@@ -222,8 +225,11 @@ pub fn arriving(
     })
 }
 
-/// For each variable of a pattern, in order of first occurrence and once, what it may be: an automaton that accepts exactly what
-/// some whole way gives it, on a document that the state accepts and no earlier pattern takes.
+/// For each variable of a pattern, in order of first occurrence and once, what it may be: an
+/// automaton that accepts exactly what some whole way gives it, on a document that the state
+/// accepts and no earlier pattern takes. The patterns are linear, as those of clauses are, and
+/// belong to the program. Fails only where memory is refused; the program may have more types then,
+/// and nothing else in it changes.
 pub fn case_types(
     alloc: Global,
     sound: &mut SoundProgram,
@@ -246,7 +252,9 @@ pub fn case_types(
 
 /// A document that the state accepts and no pattern takes, a least one, where there is one.
 ///
-/// Where each such document has 2^63 items or more, it is one of these.
+/// Where each such document has 2^63 items or more, it is one of these. The patterns are linear, as
+/// those of clauses are, and belong to the program. Fails only where memory is refused; the program
+/// may have more types then, and the store more documents.
 pub fn uncovered(
     alloc: Global,
     sound: &mut SoundProgram,
@@ -272,7 +280,9 @@ pub fn uncovered(
     Ok(found)
 }
 
-/// Whether the state accepts a document that the pattern takes and no earlier one.
+/// Whether the state accepts a document that the pattern takes and no earlier one. The patterns are
+/// linear, as those of clauses are, and belong to the program. Fails only where memory is refused;
+/// the program may have more types then, and nothing else in it changes.
 pub fn live(
     alloc: Global,
     sound: &mut SoundProgram,

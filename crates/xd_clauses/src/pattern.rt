@@ -41,7 +41,7 @@ impl ClausePattern {
     ghost use Rattle.xd_patterns.specs.Compiler.{Serves};
     ghost use Rattle.xd_clauses.specs.Clauses.{Accepted, AreMayGivens, IsPatternOf};
 
-    /// That of a pattern of the program.
+    /// That of a pattern of the program. Fails only where memory is refused.
     pub fn new(
         alloc: Global,
         compiler: &PatternCompiler,
@@ -60,8 +60,10 @@ impl ClausePattern {
         Ok(Self { auto, all, marked })
     }
 
-    /// For each variable of the pattern, in order of first occurrence, a state that accepts exactly what some whole way gives it on
-    /// a document that comes to the clause, one that the state accepts; `None` where the pattern takes none of these.
+    /// For each variable of the pattern, in order of first occurrence, a state that accepts exactly
+    /// what some whole way gives it on a document that comes to the clause, one that the state
+    /// accepts; `None` where the pattern takes none of these. After want of memory old states keep
+    /// their moves, the store its documents, and what is known stays true.
     pub fn bindings(
         &self,
         alloc: Global,
@@ -93,8 +95,9 @@ impl ClausePattern {
         Ok(found)
     }
 
-    /// A state that accepts those of the documents that come to the clause that the pattern doesn't take: they come to the next
-    /// clause.
+    /// A state that accepts those of the documents that come to the clause that the pattern doesn't
+    /// take: they come to the next clause. Fails only where memory is refused; old states keep
+    /// their moves then, and there may be new ones.
     pub fn pass(&self, alloc: Global, auto: &mut Auto, arriving: State) -> Result<State, NoMemory>
         requires { IsState auto.old arriving }
         ensures belongs { IfOk result (IsState auto.new) }

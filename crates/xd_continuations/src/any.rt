@@ -29,7 +29,8 @@ fn any_nodes(alloc: Global) -> Result<(Types, TypeId), NoMemory>
     Ok((types, any))
 }
 
-/// The type that `Any` stands for, as a type of the program.
+/// The type that `Any` stands for, as a type of the program. Fails only where memory is refused;
+/// the program may have more types then, and nothing else in it changes.
 pub fn meaning_of_any(alloc: Global, sound: &mut SoundProgram) -> Result<TypeId, NoMemory>
     ensures found { IfOk result (IsTypeAt sound.new.types any_type) }
     ensures adds { AddsTypes sound.old sound.new }

@@ -87,7 +87,8 @@ impl<T: Internable> Interned<T> {
         Ok(())
     }
 
-    /// The number of the list of an item before another list.
+    /// The number of the list of an item before another list. Fails only where memory is refused;
+    /// the lists are as they were then.
     pub fn put(&mut self, item: T, behind: usize) -> Result<usize, NoMemory>
         requires { behind ≤ length self.old }
         ensures within { IfOk result (λ number. (0 < number) × (number ≤ length self.new)) }

@@ -10,7 +10,8 @@ use std::alloc::Global;
 use xd_auto::{Auto, LabelMove, State, trim};
 use xd_doc::{NoMemory, Store};
 
-/// For each state, by its number, whether it accepts any document. It costs what [`inhabitants`] does.
+/// For each state, by its number, whether it accepts any document. It costs what [`inhabitants`]
+/// does. Fails only where memory is refused.
 pub fn inhabited(alloc: Global, auto: &Auto) -> Result<Vec<bool>, NoMemory>
     ensures { IfOk result (λ marks. AreMarks auto.now marks.items) }
 {
@@ -39,7 +40,8 @@ pub fn inhabited_part(alloc: Global, auto: &Auto, state: State) -> Result<(Auto,
     Ok((made, start))
 }
 
-/// The same states, with those of their moves that lead to marked states.
+/// The same states, with those of their moves that lead to marked states. There is a mark for each
+/// state. Fails only where memory is refused.
 pub fn kept_part(alloc: Global, auto: &Auto, marks: &[bool]) -> Result<Auto, NoMemory>
     requires { length marks.now ≡ length auto.now }
     ensures { IfOk result (IsKeptPart auto.now marks.now) }

@@ -39,7 +39,7 @@ pub struct Uses {
 }
 
 impl Uses {
-    /// The moves of the automaton's states from this number on.
+    /// The moves of the automaton's states from this number on. Fails only where memory is refused.
     pub fn new(alloc: Global, auto: &Auto, first: usize) -> Result<Self, NoMemory>
         requires { first ≤ length auto.now }
         ensures first { IfOk result (λ uses. uses.first ≡ first) }
@@ -152,7 +152,8 @@ impl Uses {
         list.as_slice()
     }
 
-    /// The moves that lead to the state, which was found, wait from now on.
+    /// The moves that lead to the state, which was found, wait from now on. Fails only where memory
+    /// is refused; nothing is known of what waits then.
     pub fn wake(&mut self, found: State) -> Result<(), NoMemory>
         requires from { self.old.first ≤ state_number found }
         requires below { state_number found < self.old.first + length self.old.lists.items }

@@ -49,7 +49,8 @@ fn first_fault(
     }
 }
 
-/// The tokens of a text, where they spell the nonterminal; else the text's first fault. Goes over the tokens once.
+/// The tokens of a text, where they spell the nonterminal; else the text's first fault. Goes over
+/// the tokens once. `TextError::NoMemory` comes where memory is refused.
 pub fn spelled_tokens<'a>(
     alloc: Global,
     part: Nonterminal,

@@ -16,7 +16,8 @@ use xd_doc::{NoMemory, Seq, Store};
 /// For each state, by its number, a least document with its size, in this store; `None` exactly where
 /// the state accepts none.
 ///
-/// It is what [`LeastInhabitants::learn`] learns from nothing.
+/// It is what [`LeastInhabitants::learn`] learns from nothing. Fails only where memory is refused;
+/// the store may have more documents then, and keeps its old ones.
 pub fn least_inhabitants(
     alloc: Global,
     auto: &Auto,
@@ -32,9 +33,10 @@ pub fn least_inhabitants(
 
 /// A document that the state accepts, in this store; `None` exactly where it accepts none.
 ///
-/// It is a least one, if some document that the state accepts has a size below 2^63. If none has, its
-/// own size is at least 2^63 too. [`least_inhabitants`] is asked about the states that the state leads
-/// to, and no others.
+/// It is a least one, if some document that the state accepts has a size below 2^63. If none has,
+/// its own size is at least 2^63 too. [`least_inhabitants`] is asked about the states that the
+/// state leads to, and no others. Fails only where memory is refused; the store may have more
+/// documents then, and keeps its old ones.
 pub fn least_inhabitant(
     alloc: Global,
     auto: &Auto,

@@ -18,7 +18,7 @@ pub struct NotUtf8 {
     pub place: Place,
 }
 
-/// The text of these bytes.
+/// The text of these bytes. It takes no memory: it fails only where the bytes aren't UTF-8.
 pub fn text_of(bytes: &[u8]) -> Result<&str, NotUtf8>
     ensures text { IfOk result (λ text. text.now ≡ bytes.now) }
     ensures utf8 { IfOk result (λ _. IsUtf8 bytes.now) }

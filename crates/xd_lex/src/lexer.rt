@@ -105,7 +105,7 @@ impl<'a> Model for Lexer<'a> {
 }
 
 impl<'a> Lexer<'a> {
-    /// All tokens of a text.
+    /// All tokens of a text. It takes no memory: it fails only where the bytes aren't UTF-8.
     pub fn new(bytes: &'a [u8]) -> Result<Lexer<'a>, NotUtf8>
         ensures utf8 { IfOk result (λ _. IsUtf8 bytes.now) }
         ensures ok { IfOk result (λ lexer. lexer ≡ tokens_of bytes.now) }
@@ -149,8 +149,9 @@ impl<'a> Lexer<'a> {
     }
 }
 
-/// The tokens of a text, in order. The last is `End` or `Broken`.
-/// `LexError::NotUtf8` comes exactly where the bytes aren't UTF-8, with the place after their longest front that is.
+/// The tokens of a text, in order. The last is `End` or `Broken`. `LexError::NotUtf8` comes exactly
+/// where the bytes aren't UTF-8, with the place after their longest front that is.
+/// `LexError::NoMemory` comes where memory is refused.
 pub fn tokens<'a>(alloc: Global, bytes: &'a [u8]) -> Result<Vec<Token<'a>>, LexError>
     ensures utf8 { IfOk result (λ _. IsUtf8 bytes.now) }
     ensures ok { IfOk result (λ v. map lexeme_of v.items ≡ tokens_of bytes.now) }

@@ -14,7 +14,7 @@ use xd_doc::NoMemory;
 use xd_pieces::Piece;
 use xd_syntax::{TypeForm, TypeId, Types};
 
-/// The number of the continuation that is the pieces of a type.
+/// The number of the continuation that is the pieces of a type. Fails only where memory is refused.
 pub fn content<S: StandIns>(
     types: &Types,
     part: TypeId,

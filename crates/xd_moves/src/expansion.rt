@@ -344,7 +344,7 @@ fn first_tasks(
     Ok(tasks)
 }
 
-/// The moves of a continuation, in order, repetitions kept.
+/// The moves of a continuation, in order, repetitions kept. Fails only where memory is refused.
 pub fn expand<S: StandIns>(
     alloc: Global,
     types: &Types,

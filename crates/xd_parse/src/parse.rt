@@ -77,8 +77,9 @@ fn cursor_over<'a>(
 
 /// Reads the text of a program.
 ///
-/// `ParseError::Fault` comes exactly where the bytes spell no program within the nesting limit: fault 1 where they aren't UTF-8, else
-/// fault 2 or 3 at the first token with which no program goes on.
+/// `ParseError::Fault` comes exactly where the bytes spell no program within the nesting limit:
+/// fault 1 where they aren't UTF-8, else fault 2 or 3 at the first token with which no program goes
+/// on. `ParseError::NoMemory` comes where memory is refused.
 pub fn parse_program(alloc: Global, bytes: &[u8]) -> Result<Program, ParseError>
     ensures program { IfOk result (λ p. IsProgramText bytes.now (program_tree p)) }
     ensures shallow { IfOk result (λ p. IsShallow p.types) }

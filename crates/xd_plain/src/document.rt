@@ -55,7 +55,7 @@ impl PlainDocument {
         }
     }
 
-    /// A copy.
+    /// A copy. Fails only where memory is refused.
     pub fn copy(&self, alloc: Global) -> Result<PlainDocument, NoMemory>
         ensures { IfOk result (λ made. document_of made ≡ document_of self.now) }
     {
@@ -72,7 +72,7 @@ impl PlainDocument {
         }
     }
 
-    /// A copy of this, followed by the other.
+    /// A copy of this, followed by the other. Fails only where memory is refused.
     pub fn followed_by(
         &self,
         alloc: Global,

@@ -59,8 +59,9 @@ impl From<NoMemory> for NoValue {
 /// The value of an expression with so many calls left, where variables have these documents, the newest first, and a
 /// match may unfold names so many times.
 ///
-/// In a sound program a match needs no more unfoldings than its document's size plus one times the number of
-/// definitions plus one, `Any` among them.
+/// In a sound program a match needs no more unfoldings than its document's size plus one times the
+/// number of definitions plus one, `Any` among them. Besides `Spent` and `Stuck` it fails only
+/// where memory is refused.
 pub fn value(
     alloc: Global,
     program: &PlainProgram,
@@ -79,8 +80,8 @@ pub fn value(
     )
 }
 
-/// The value of the call of `main` on a document, with so many calls left and so many unfoldings in a match, as for
-/// `value`.
+/// The value of the call of `main` on a document, with so many calls left and so many unfoldings in
+/// a match, as for `value`. Besides `Spent` and `Stuck` it fails only where memory is refused.
 pub fn meaning(
     alloc: Global,
     program: &PlainProgram,

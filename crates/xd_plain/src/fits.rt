@@ -25,8 +25,8 @@ struct Split {
 
 /// Whether the document fits the type, where names may be unfolded so many times.
 ///
-/// In a sound program no more unfoldings are needed than the document's size plus one times the number of
-/// definitions plus one, `Any` among them.
+/// In a sound program no more unfoldings are needed than the document's size plus one times the
+/// number of definitions plus one, `Any` among them. Fails only where memory is refused.
 pub fn fits_within(
     alloc: Global,
     definitions: &[PlainDefinition],

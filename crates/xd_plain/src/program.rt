@@ -67,7 +67,7 @@ pub struct PlainProgram {
 }
 
 impl PlainProgram {
-    /// The program of these definitions and functions.
+    /// The program of these definitions and functions. Fails only where memory is refused.
     pub fn new(
         alloc: Global,
         definitions: Vec<PlainDefinition>,

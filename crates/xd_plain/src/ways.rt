@@ -30,7 +30,8 @@ pub struct PlainWay {
     pub rest: PlainDocument,
 }
 
-/// All ways of a pattern on a document in order of preference, where names may be unfolded so many times.
+/// All ways of a pattern on a document in order of preference, where names may be unfolded so many
+/// times. Fails only where memory is refused.
 #[cycle(ways)]
 pub fn ways_within(
     alloc: Global,
@@ -193,8 +194,8 @@ fn one_element(
 
 /// The bindings of the first way that takes the whole document, where names may be unfolded so many times.
 ///
-/// In a sound program the first match needs no more unfoldings than the document's size plus one times the number of
-/// definitions plus one, `Any` among them.
+/// In a sound program the first match needs no more unfoldings than the document's size plus one
+/// times the number of definitions plus one, `Any` among them. Fails only where memory is refused.
 pub fn first_within(
     alloc: Global,
     definitions: &[PlainDefinition],

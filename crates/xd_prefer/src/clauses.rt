@@ -28,7 +28,8 @@ use xd_syntax::PatternId;
 /// For each variable of the pattern, in order of first occurrence, a state that accepts exactly what the first match gives it on a
 /// document that comes to the clause, one that the state accepts; `None` where the pattern takes none of these.
 ///
-/// It is to first matches what [`ClausePattern::bindings`] is to all whole ways.
+/// It is to first matches what [`ClausePattern::bindings`] is to all whole ways. After want of
+/// memory old states keep their moves, the store its documents, and what is known stays true.
 pub fn first_bindings(
     alloc: Global,
     clause: &ClausePattern,

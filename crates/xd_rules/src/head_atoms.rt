@@ -13,7 +13,8 @@ use xd_doc::{Class, Label, NoMemory, Text, Words};
 
 /// The atoms of a class of labels, in order. The other class has all labels but those that the claim names.
 ///
-/// Only of a class that excepts labels are all these names tried.
+/// Only of a class that excepts labels are all these names tried. Fails only where memory is
+/// refused.
 pub fn label_atoms(alloc: Global, class: &Class, unnamed: &Class) -> Result<Vec<Atom>, NoMemory>
     requires { AreAmong class.now.names unnamed.now.names }
     ensures { IfOk result (λ atoms. (texts : List (List ℕ)) → atoms.items ≡ filter (matches (element_in class.now)) (all_atoms (record { labels = unnamed.now.names; texts = texts }))) }
@@ -41,7 +42,7 @@ fn add_labels(atoms: &mut Vec<Atom>, class: &Class, labels: &[Label]) -> Result<
     Ok(())
 }
 
-/// The atoms of a class of texts, in the same way.
+/// The atoms of a class of texts, in the same way. Fails only where memory is refused.
 pub fn text_atoms(alloc: Global, words: &Words, unnamed: &Words) -> Result<Vec<Atom>, NoMemory>
     requires { AreAmong words.now.names unnamed.now.names }
     ensures { IfOk result (λ atoms. (labels : List (List ℕ)) → atoms.items ≡ filter (matches (text_in words.now)) (all_atoms (record { labels = labels; texts = unnamed.now.names }))) }

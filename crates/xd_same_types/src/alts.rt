@@ -445,8 +445,10 @@ fn choice_type(pool: &mut Pool, parts: Vec<TypeId>, empty: bool) -> Result<TypeI
 
 /// The type of what fits one of several types, written short; the order stays.
 ///
-/// An alternative that another takes in is left out, elements with one content become one, and of several ways to be
-/// empty one is kept. The time is linear in the alternatives, but for the classes of labels that are put together.
+/// An alternative that another takes in is left out, elements with one content become one, and of
+/// several ways to be empty one is kept. The time is linear in the alternatives, but for the
+/// classes of labels that are put together. Fails only where memory is refused; the table may have
+/// more types then, and keeps its old ones.
 pub fn alt_of_all(
     alloc: Global,
     pool: &mut Pool,
@@ -470,7 +472,8 @@ pub fn alt_of_all(
     choice_type(pool, some.parts, empty)
 }
 
-/// The type of what fits one of two types, written short as by `alt_of_all`.
+/// The type of what fits one of two types, written short as by `alt_of_all`. Fails only where
+/// memory is refused; the table may have more types then, and keeps its old ones.
 pub fn alt(alloc: Global, pool: &mut Pool, one: TypeId, two: TypeId) -> Result<TypeId, NoMemory>
     requires one { BelongsTo pool.old.types one }
     requires two { BelongsTo pool.old.types two }

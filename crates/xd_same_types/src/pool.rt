@@ -168,7 +168,8 @@ fn any_node(pool: &mut Pool, form: TypeForm) -> Result<TypeId, NoMemory>
 
 /// A type of this form, which is no name; the one that the table has, if it has one.
 ///
-/// The form is kept as it is: `seq`, `alt` and `star` write types short.
+/// The form is kept as it is: `seq`, `alt` and `star` write types short. Fails only where memory is
+/// refused; the table may have more types then, and keeps its old ones.
 pub fn node(pool: &mut Pool, form: TypeForm) -> Result<TypeId, NoMemory>
     requires { CanFollow false pool.old.types (form_of form) × (form_named [] (form_of form) ≡ true) }
     ensures tree { IfOk result (λ id. tree pool.new.types id ≡ form_tree (tree_at pool.old.types) (form_of form)) }
@@ -178,7 +179,8 @@ pub fn node(pool: &mut Pool, form: TypeForm) -> Result<TypeId, NoMemory>
     any_node(pool, form)
 }
 
-/// The type that is this name; the one that the table has, if it has one.
+/// The type that is this name; the one that the table has, if it has one. Fails only where memory
+/// is refused; the table may have more types then, and keeps its old ones.
 pub fn name_type(pool: &mut Pool, word: Label) -> Result<TypeId, NoMemory>
     requires { is_type_name word ≡ true }
     ensures tree { IfOk result (λ id. tree pool.new.types id ≡ Name word) }

@@ -291,7 +291,9 @@ fn push_part(
 
 /// The type of what fits the first type, followed by what fits the second, written short.
 ///
-/// `x,x*` and `x*,x` become `x+`; `x,y,(x,y)*` and `(x,y)*,x,y` become `(x,y)+`; `x?,x*` and `x*,x*` become `x*`.
+/// `x,x*` and `x*,x` become `x+`; `x,y,(x,y)*` and `(x,y)*,x,y` become `(x,y)+`; `x?,x*` and
+/// `x*,x*` become `x*`. Fails only where memory is refused; the table may have more types then, and
+/// keeps its old ones.
 pub fn seq(alloc: Global, pool: &mut Pool, one: TypeId, two: TypeId) -> Result<TypeId, NoMemory>
     requires one { BelongsTo pool.old.types one }
     requires two { BelongsTo pool.old.types two }

@@ -61,7 +61,8 @@ fn repeated_parts(alloc: Global, pool: &mut Pool, id: TypeId) -> Result<Vec<Type
     Ok(made.parts)
 }
 
-/// The type that is the name `Any`.
+/// The type that is the name `Any`. Fails only where memory is refused; the table may have more
+/// types then, and keeps its old ones.
 pub fn any_type(alloc: Global, pool: &mut Pool) -> Result<TypeId, NoMemory>
     ensures tree { IfOk result (λ id. tree pool.new.types id ≡ Name any_word) }
     ensures belongs { IfOk result (BelongsTo pool.new.types) }
@@ -72,7 +73,8 @@ pub fn any_type(alloc: Global, pool: &mut Pool) -> Result<TypeId, NoMemory>
 
 /// The type of what fits the type again and again, or not at all, written short.
 ///
-/// Within a repetition `x*`, `x+` and `x?` are written `x`.
+/// Within a repetition `x*`, `x+` and `x?` are written `x`. Fails only where memory is refused; the
+/// table may have more types then, and keeps its old ones.
 pub fn star(alloc: Global, pool: &mut Pool, id: TypeId) -> Result<TypeId, NoMemory>
     requires { BelongsTo pool.old.types id }
     ensures same { IfOk result (λ made. MeansSame (tree pool.new.types made) (Star (tree pool.old.types id))) }

@@ -52,7 +52,9 @@ fn others_type(pool: &mut Pool, words: &Words) -> Result<TypeId, NoMemory>
     node(pool, TypeForm::Words(words.share()?))
 }
 
-/// The type of one text of a class: a text alone, several as alternatives, all texts but some, or `String`.
+/// The type of one text of a class: a text alone, several as alternatives, all texts but some, or
+/// `String`. Fails only where memory is refused; the table may have more types then, and keeps its
+/// old ones.
 pub fn words_type(alloc: Global, pool: &mut Pool, words: &Words) -> Result<TypeId, NoMemory>
     ensures texts { IfOk result (λ id. IsTextsType (class_has words.now) (tree pool.new.types id)) }
     ensures belongs { IfOk result (BelongsTo pool.new.types) }

@@ -110,7 +110,8 @@ fn see_number(auto: &Auto, level: &mut Level, number: usize) -> Result<(), NoMem
 
 /// The level of a state: the state, and all that it leads to behind items, in the order in which they are met.
 ///
-/// The time is linear in the moves of the level and in the states of the automaton.
+/// The time is linear in the moves of the level and in the states of the automaton. Fails only
+/// where memory is refused.
 pub fn level_of(alloc: Global, auto: &Auto, start: State) -> Result<Level, NoMemory>
     requires { IsState auto.now start }
     ensures whole { IfOk result (λ made. IsWholeLevel auto.now made.states.items made.places.items) }

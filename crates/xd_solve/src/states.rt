@@ -52,11 +52,13 @@ fn level_sums(
 /// was made before. `universal` marks states that accept every document, as `universal_states` of `xd_boole` does; these
 /// are written as `Any`. What is in the table stays, and no name is added but `Any`.
 ///
-/// The states of the level are unknowns of equations, which are solved for one after the other (J. A. Brzozowski and
-/// E. J. McCluskey, Signal flow graph techniques for sequential circuit state diagrams, 1963) by the rule of D. N. Arden
-/// (Delayed logic and finite-state machines, 1961), in the order of M. Delgado and J. Morais (Approximation to the smallest
-/// regular expression for a given regular language, 2004). The type may be exponentially long in the states of the level,
-/// as regular expressions for automata may be.
+/// The states of the level are unknowns of equations, which are solved for one after the other (J.
+/// A. Brzozowski and E. J. McCluskey, Signal flow graph techniques for sequential circuit state
+/// diagrams, 1963) by the rule of D. N. Arden (Delayed logic and finite-state machines, 1961), in
+/// the order of M. Delgado and J. Morais (Approximation to the smallest regular expression for a
+/// given regular language, 2004). The type may be exponentially long in the states of the level, as
+/// regular expressions for automata may be. Fails only where memory is refused; the table may have
+/// more types then, and keeps its old ones.
 pub fn state_type(
     alloc: Global,
     pool: &mut Pool,

@@ -25,7 +25,7 @@ impl Model for Graph {
 }
 
 impl Graph {
-    /// With so many nodes and no edge.
+    /// With so many nodes and no edge. Fails only where memory is refused.
     pub fn new(alloc: Global, count: usize) -> Result<Self, NoMemory>
         ensures count { IfOk result (λ graph. length graph ≡ count) }
         ensures bare { IfOk result (λ graph. (v w : ℕ) → HasEdge graph v w → ⊥) }
@@ -45,7 +45,7 @@ impl Graph {
         self.targets.len()
     }
 
-    /// One more edge.
+    /// One more edge. Both are nodes of the graph. Fails only where memory is refused.
     pub fn add(&mut self, from: usize, to: usize) -> Result<(), NoMemory>
         requires from { from < length self.old }
         requires to { to < length self.old }

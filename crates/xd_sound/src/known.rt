@@ -19,7 +19,7 @@ pub struct KnownTypes {
 }
 
 impl KnownTypes {
-    /// What is known of the types of these definitions.
+    /// What is known of the types of these definitions. Fails only where memory is refused.
     pub fn new(alloc: Global, types: &Types, defs: &[TypeDef]) -> Result<Self, NoMemory>
         requires { AllByRecursion (TypeDefStands types.now) defs.now }
         ensures { IfOk result (AreKnownTypes types.now defs.now) }

@@ -53,7 +53,7 @@ pub fn is_text(atom: &Atom) -> bool
     }
 }
 
-/// An equal atom.
+/// An equal atom. Fails only where memory is refused.
 pub fn share(atom: &Atom) -> Result<Atom, NoMemory>
     ensures { IfOk result (λ shared. shared ≡ atom.now) }
 {
@@ -248,7 +248,8 @@ fn state_at(states: &[State], place: usize) -> State
     states[place]
 }
 
-/// The right heads that match an atom, in order. Their numbers count over the rights in order.
+/// The right heads that match an atom, in order. Their numbers count over the rights in order. A
+/// number that fits no `usize` is answered as want of memory.
 pub fn sides_of(
     alloc: Global,
     auto: &Auto,
@@ -353,7 +354,8 @@ fn unnamed_texts(
     Words::new(alloc, names, true)
 }
 
-/// All labels and all texts but those that the heads of these states name.
+/// All labels and all texts but those that the heads of these states name. Fails only where memory
+/// is refused.
 pub fn unnamed_of(
     alloc: Global,
     auto: &Auto,
@@ -498,7 +500,8 @@ fn cases_of(
     Ok(cases)
 }
 
-/// The cases of a claim: each head of the left at each of its atoms.
+/// The cases of a claim: each head of the left at each of its atoms. A number that fits no `usize`
+/// is answered as want of memory.
 pub fn goal_cases(
     alloc: Global,
     auto: &Auto,

@@ -30,7 +30,8 @@ fn well_formed_document(alloc: Global, store: &mut Store, bytes: &[u8]) -> Resul
     }
 }
 
-/// The bytes of a document's file, whatever they spell.
+/// The bytes of a document's file, whatever they spell. `Stop::Refused` has the output that ends
+/// the command, `Stop::NoMemory` comes where memory is refused.
 pub fn load_bytes<H: Shelf>(alloc: Global, file: &str, shelf: &mut H) -> Result<Vec<u8>, Stop>
     ensures step { DoesStep result (EndsAtText (H.holds shelf.old) (HasRisen (H.faults shelf.old) (H.faults shelf.new)) file.now document_limit) (λ text. IsText (H.holds shelf.old) file.now document_limit text.items) }
     ensures same { H.holds shelf.new ≡ H.holds shelf.old }
@@ -39,7 +40,8 @@ pub fn load_bytes<H: Shelf>(alloc: Global, file: &str, shelf: &mut H) -> Result<
     fetch(alloc, shelf, file, DOCUMENT_LIMIT)
 }
 
-/// The document of a file, which is added to the store.
+/// The document of a file, which is added to the store. `Stop::Refused` has the output that ends
+/// the command; after `Stop::NoMemory` the store has more documents at most.
 pub fn load_document<H: Shelf>(
     alloc: Global,
     file: &str,

@@ -18,7 +18,8 @@ use xd_parse::{ParseError, parse_program};
 use xd_rec::{Soundness, well_formed};
 use xd_sound::SoundProgram;
 
-/// The program of a text, where it has no faults.
+/// The program of a text, where it has no faults. `Stop::Refused` has the lines of its faults,
+/// `Stop::NoMemory` comes where memory is refused.
 pub fn sound_program(alloc: Global, bytes: &[u8]) -> Result<SoundProgram, Stop>
     ensures step { DoesStep result (EndsAtFaults bytes.now) (λ sound. IsSoundText bytes.now (program_tree sound)) }
     ensures shallow { IfOk result (λ sound. IsShallow sound.types) }
@@ -40,7 +41,8 @@ pub fn sound_program(alloc: Global, bytes: &[u8]) -> Result<SoundProgram, Stop>
     }
 }
 
-/// The program of a file, where it has no faults.
+/// The program of a file, where it has no faults. `Stop::Refused` has the output that ends the
+/// command, `Stop::NoMemory` comes where memory is refused.
 pub fn load_program<H: Shelf>(
     alloc: Global,
     file: &str,

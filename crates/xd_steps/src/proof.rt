@@ -30,7 +30,8 @@ fn well_formed_proof(alloc: Global, sound: &mut SoundProgram, bytes: &[u8]) -> R
     }
 }
 
-/// The proof of a file. Its types are added to the program.
+/// The proof of a file. Its types are added to the program. `Stop::Refused` has the output that
+/// ends the command; after `Stop::NoMemory` the program has more types at most.
 pub fn load_proof<H: Shelf>(
     alloc: Global,
     sound: &mut SoundProgram,

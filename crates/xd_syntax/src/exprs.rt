@@ -163,7 +163,8 @@ impl Exprs {
         let _nodes = &self.nodes;
     }
 
-    /// One more node.
+    /// One more node. Its parts stand before it. Fails only where memory is refused; the table is
+    /// as it was then.
     pub fn add(&mut self, place: Place, form: ExprForm) -> Result<ExprId, NoMemory>
         requires { ExprCanFollow self.old (shape_of form) }
         ensures expression { IfOk result (λ id. (patterns : List Row) → expression patterns self.new id ≡ shape_expression (placed_at patterns) (expression_at patterns self.old) place (shape_of form)) }

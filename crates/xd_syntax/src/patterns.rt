@@ -182,7 +182,8 @@ impl Patterns {
         let _nodes = &self.nodes;
     }
 
-    /// One more node.
+    /// One more node. Its parts stand before it. Fails only where memory is refused; the table is
+    /// as it was then.
     pub fn add(&mut self, place: Place, form: PatternForm) -> Result<PatternId, NoMemory>
         requires { CanFollow true self.old (form_of_pattern form) }
         ensures tree { IfOk result (λ id. pattern_tree self.new id ≡ form_tree (tree_at self.old) (form_of_pattern form)) }

@@ -249,7 +249,8 @@ impl Program {
         self.functions.as_slice()
     }
 
-    /// One more node of a type. No text has it, so its place is the first of one.
+    /// One more node of a type. No text has it, so its place is the first of one. Its parts stand
+    /// before it. Fails only where memory is refused; the program is as it was then.
     pub fn add_type(&mut self, form: TypeForm) -> Result<TypeId, NoMemory>
         requires { CanFollow false self.old.types (form_of form) }
         ensures ok { IfOk result (IsTypeAt self.new.types (form_tree (tree_at self.old.types) (form_of form))) }

@@ -174,7 +174,7 @@ impl Types {
         }
     }
 
-    /// The same types, under the same numbers.
+    /// The same types, under the same numbers. Fails only where memory is refused.
     pub fn copy(&self, alloc: Global) -> Result<Self, NoMemory>
         ensures { IfOk result (λ made. made ≡ self.now) }
     {
@@ -203,7 +203,8 @@ impl Types {
         let _nodes = &self.nodes;
     }
 
-    /// One more node.
+    /// One more node. Its parts stand before it. Fails only where memory is refused; the table is
+    /// as it was then.
     pub fn add(&mut self, place: Place, form: TypeForm) -> Result<TypeId, NoMemory>
         requires { CanFollow false self.old (form_of form) }
         ensures tree { IfOk result (λ id. tree self.new id ≡ form_tree (tree_at self.old) (form_of form)) }

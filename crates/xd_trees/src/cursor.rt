@@ -132,8 +132,8 @@ impl<'a> Cursor<'a> {
         }
     }
 
-    /// Takes the next token as a word that is no keyword. Any other token, which no text has there that spells, is
-    /// taken as `_`.
+    /// Takes the next token as a word that is no keyword. Any other token, which no text has there
+    /// that spells, is taken as `_`. Fails only where memory is refused.
     pub fn word(&mut self, alloc: Global) -> Result<Word, NoMemory>
         ensures word { IfOk result (λ w. front_terminal self.old ≡ terminals.Word → w.word ≡ front_text self.old) }
         ensures place { IfOk result (λ w. w.place ≡ front_place self.old) }
@@ -145,7 +145,8 @@ impl<'a> Cursor<'a> {
         Ok(Word { word, place })
     }
 
-    /// A label of this word. Shares the last one that was made where that has the same word.
+    /// A label of this word. Shares the last one that was made where that has the same word. Fails
+    /// only where memory is refused.
     pub fn shared_label(&mut self, alloc: Global, word: &str) -> Result<Label, NoMemory>
         requires { is_word word.now ≡ true }
         ensures word { IfOk result (λ label. label ≡ word.now) }
@@ -204,8 +205,8 @@ impl<'a> Cursor<'a> {
         }
     }
 
-    /// Takes the next token as a label, without its bracket. Any other token, which no text has there that spells, is
-    /// taken as `_`.
+    /// Takes the next token as a label, without its bracket. Any other token, which no text has
+    /// there that spells, is taken as `_`. Fails only where memory is refused.
     pub fn label(&mut self, alloc: Global) -> Result<Word, NoMemory>
         ensures word { IfOk result (λ w. front_terminal self.old ≡ terminals.Label → w.word ≡ take (length (front_text self.old) - 1) (front_text self.old)) }
         ensures place { IfOk result (λ w. w.place ≡ front_place self.old) }
@@ -230,8 +231,8 @@ impl<'a> Cursor<'a> {
         }
     }
 
-    /// Takes the next token as a quoted text. Any other token, which no text has there that spells, is taken as an
-    /// empty text.
+    /// Takes the next token as a quoted text. Any other token, which no text has there that spells,
+    /// is taken as an empty text. Fails only where memory is refused.
     pub fn quoted(&mut self, alloc: Global) -> Result<Quoted, NoMemory>
         ensures text { IfOk result (λ q. front_terminal self.old ≡ terminals.Text → q.text ≡ unescaped (front_text self.old)) }
         ensures place { IfOk result (λ q. q.place ≡ front_place self.old) }

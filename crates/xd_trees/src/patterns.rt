@@ -16,7 +16,7 @@ use std::alloc::Global;
 use xd_doc::NoMemory;
 use xd_syntax::{PatternId, Patterns};
 
-/// Reads a pattern without alternatives.
+/// Reads a pattern without alternatives. Fails only where memory is refused; old nodes stay.
 pub fn read_pattern_seq(
     alloc: Global,
     cursor: &mut Cursor<'_>,

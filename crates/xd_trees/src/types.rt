@@ -17,7 +17,7 @@ use std::alloc::Global;
 use xd_doc::NoMemory;
 use xd_syntax::{TypeId, Types};
 
-/// Reads a type.
+/// Reads a type. Fails only where memory is refused; old nodes stay.
 pub fn read_type(
     alloc: Global,
     cursor: &mut Cursor<'_>,

@@ -68,7 +68,9 @@ fn person(alloc: Global, store: &mut Store, number: u64, next: Seq) -> Result<Se
     field(alloc, store, "name", "p", number, made)
 }
 
-/// The persons from 1 to this number in a row: each a name, an address and, unless 3 divides its number, a telephone.
+/// The persons from 1 to this number in a row: each a name, an address and, unless 3 divides its
+/// number, a telephone. Fails only where memory is refused; the store may have more documents then,
+/// and keeps its old ones.
 pub fn sample_document(alloc: Global, store: &mut Store, persons: u64) -> Result<Seq, NoMemory>
     ensures made { IfOk result (λ seq. document_at store.new seq ≡ persons_to persons empty) }
     ensures belongs { IfOk result (BelongsTo store.new) }
