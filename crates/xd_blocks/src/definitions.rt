@@ -15,6 +15,8 @@ use xd_syntax::{TypeDef, Types};
 use xd_type_text::type_text;
 
 /// The names of the types that the program defines, in the order of its text.
+///
+/// Fails only where memory is refused.
 pub fn type_names(alloc: Global, sound: &SoundProgram) -> Result<Vec<Label>, NoMemory>
     ensures { IfOk result (λ names. names.items ≡ defined_names (program_tree sound.now)) }
 {

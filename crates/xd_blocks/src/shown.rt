@@ -15,6 +15,7 @@ use xd_show::show;
 /// which the first is that of the set.
 ///
 /// States that the given one doesn't lead to cost time and change nothing.
+/// Fails only where memory is refused.
 pub fn shown_text(
     alloc: Global,
     auto: &Auto,

@@ -4,8 +4,8 @@ use Rattle.std.specs.List.{list_any}
 use Rattle.std.proofs.lemmas.List.Folds.{list_any_at, list_any-append, list_any_more}
 use Rattle.xd_doc.specs.Document.{Document}
 use Rattle.xd_auto.specs.Automaton.{Automaton, accepts}
-use Rattle.xd_boole.specs.declared.groups.Side.{Side}
-use Rattle.xd_boole.specs.declared.choices.Choice.{Choice}
+use Rattle.xd_boole.specs.declared.groups.MoveSide.{MoveSide}
+use Rattle.xd_boole.specs.declared.choices.SideChoice.{SideChoice}
 use Rattle.xd_boole.specs.Meaning.{any_accepts, has_state, is_state, is_within, with_state}
 use Rattle.xd_empty.specs.Parts.{is_marked}
 use Rattle.xd_boole.specs.Groups.{AllPass, is_side, side_accepts}
@@ -20,31 +20,31 @@ not_true true e = absurd (cc)
 not_true false e = refl
 
 -- the sets of a choice contain those of another
-abbrev pub contains : Choice → Choice → Bool
+abbrev pub contains : SideChoice → SideChoice → Bool
 contains k other = is_within k.contents.items other.contents.items && is_within k.rests.items other.rests.items
 
 module _ (a : Automaton) (c d : Document) where
-  refuses_content : (k : Choice) → choice_refuses a c d k ≡ true → any_accepts a k.contents.items c ≡ false
+  refuses_content : (k : SideChoice) → choice_refuses a c d k ≡ true → any_accepts a k.contents.items c ≡ false
   refuses_content k e = not_true (any_accepts a k.contents.items c) (and_left (not (any_accepts a k.contents.items c)) (not (any_accepts a k.rests.items d)) e)
 
-  refuses_rest : (k : Choice) → choice_refuses a c d k ≡ true → any_accepts a k.rests.items d ≡ false
+  refuses_rest : (k : SideChoice) → choice_refuses a c d k ≡ true → any_accepts a k.rests.items d ≡ false
   refuses_rest k e = not_true (any_accepts a k.rests.items d) (and_right (not (any_accepts a k.contents.items c)) (not (any_accepts a k.rests.items d)) e)
 
   -- then it refuses no more
-  contains_implies : (k other : Choice) → contains k other ≡ true → choice_refuses a c d k ≡ true → choice_refuses a c d other ≡ true
+  contains_implies : (k other : SideChoice) → contains k other ≡ true → choice_refuses a c d k ≡ true → choice_refuses a c d other ≡ true
   contains_implies k other within e =
       ap (λ w. not w && not (any_accepts a other.rests.items d))
       (within_refuses a other.contents.items k.contents.items c (and_left (is_within k.contents.items other.contents.items) (is_within k.rests.items other.rests.items) within) (refuses_content k e))
       ∙ ap not (within_refuses a other.rests.items k.rests.items d (and_right (is_within k.contents.items other.contents.items) (is_within k.rests.items other.rests.items) within) (refuses_rest k e))
 
-pub choice_dropped : (k other : Choice) (old : List Choice) → contains other k ≡ true → KeepsChoice k other old old
+pub choice_dropped : (k other : SideChoice) (old : List SideChoice) → contains other k ≡ true → KeepsChoice k other old old
 choice_dropped k other old within = record {
   refused = λ a c d. drop_implied (any_choice a c d old) (choice_refuses a c d other) (choice_refuses a c d k) (contains_implies a c d other k within);
   states = λ a h e. h;
 }
 
 -- another choice refuses all that it does
-pub choice_there : (k other : Choice) (choices : List Choice) (i : ℕ) → i < length choices → other ≡ get_or choices i other → contains k other ≡ true → AddsChoice k choices choices
+pub choice_there : (k other : SideChoice) (choices : List SideChoice) (i : ℕ) → i < length choices → other ≡ get_or choices i other → contains k other ≡ true → AddsChoice k choices choices
 choice_there k other choices i lt at within = record {
   refused = λ a c d. implied_by (any_choice a c d choices) (choice_refuses a c d k)
       (λ e. list_any_at (choice_refuses a c d) choices i other lt (ap (choice_refuses a c d) (sym at) ∙ contains_implies a c d k other within e));
@@ -52,7 +52,7 @@ choice_there k other choices i lt at within = record {
 }
 
 -- of the choices some were looked at, and others are left
-pub record DropsFirst (k : Choice) (initial kept left : List Choice) : Type 0 where
+pub record DropsFirst (k : SideChoice) (initial kept left : List SideChoice) : Type 0 where
   pub refused : (a : Automaton) (c d : Document) → (any_choice a c d kept || (any_choice a c d left || choice_refuses a c d k)) ≡ (any_choice a c d initial || choice_refuses a c d k)
   pub left_states : (a : Automaton) → AllChoices a initial → AllChoices a left
   pub states : (a : Automaton) → AllChoices a initial → AllChoices a kept
@@ -70,7 +70,7 @@ or_swap true false z = refl
 or_swap false true z = refl
 or_swap false false z = refl
 
-pub drops_more : (k other : Choice) (initial kept new left rest : List Choice) → KeepsChoice k other kept new → left ≡ rest ++ other ∷ [] → DropsFirst k initial kept left → DropsFirst k initial new rest
+pub drops_more : (k other : SideChoice) (initial kept new left rest : List SideChoice) → KeepsChoice k other kept new → left ≡ rest ++ other ∷ [] → DropsFirst k initial kept left → DropsFirst k initial new rest
 drops_more k other initial kept new left rest keeps is before = record {
   refused = λ a c d.
       or_swap (any_choice a c d new) (any_choice a c d rest) (choice_refuses a c d k)
@@ -82,7 +82,7 @@ drops_more k other initial kept new left rest keeps is before = record {
   states = λ a h. keeps.states a (before.states a h) (all_last (IsChoiceOf a) rest other (subst (AllChoices a) is (before.left_states a h)));
 }
 
-pub drops_all : (k : Choice) (initial kept left new : List Choice) → left ≡ [] → new ≡ kept ++ k ∷ [] → DropsFirst k initial kept left → AddsChoice k initial new
+pub drops_all : (k : SideChoice) (initial kept left new : List SideChoice) → left ≡ [] → new ≡ kept ++ k ∷ [] → DropsFirst k initial kept left → AddsChoice k initial new
 drops_all k initial kept left new none is before = record {
   refused = λ a c d.
       ap (any_choice a c d) is ∙ list_any-append (choice_refuses a c d) kept (k ∷ []) ∙ ap (λ w. any_choice a c d kept || w) (or_nothing (choice_refuses a c d k))
@@ -95,7 +95,7 @@ and_absorbed true s h = ap not (sym (h refl))
 and_absorbed false s h = refl
 
 -- the choice refuses what the move accepts already
-pub side_refused : (universal : List Bool) (side : Side) (k : Choice) (old new : List Choice) → (has_state side.content k.contents.items || has_state side.rest k.rests.items) ≡ true → AddsChoice k old new → AddsSide universal side k old new
+pub side_refused : (universal : List Bool) (side : MoveSide) (k : SideChoice) (old new : List SideChoice) → (has_state side.content k.contents.items || has_state side.rest k.rests.items) ≡ true → AddsChoice k old new → AddsSide universal side k old new
 side_refused universal side k old new has adds = record {
   refused = λ a u c d. adds.refused a c d ∙ ap (λ w. any_choice a c d old || w) (and_absorbed (choice_refuses a c d k) (side_accepts a c d side) (refused a c d (has_state side.content k.contents.items) refl has));
   states = λ a h e s. adds.states a h e;
@@ -108,7 +108,7 @@ side_refused universal side k old new has adds = record {
         ap (λ w. accepts a c side.content && w) (has_refuses a side.rest k.rests.items d (sym (ap (λ w. w || has_state side.rest k.rests.items) is) ∙ h) (refuses_rest a c d k e)) ∙ and_false (accepts a c side.content)
 
 -- the choice was extended in one way
-module _ (universal : List Bool) (side : Side) (k one : Choice) (old new : List Choice) (adds : AddsChoice one old new) where
+module _ (universal : List Bool) (side : MoveSide) (k one : SideChoice) (old new : List SideChoice) (adds : AddsChoice one old new) where
   pub content_added : one.contents.items ≡ with_state side.content k.contents.items → one.rests.items ≡ k.rests.items → AddsContent universal side k old new
   content_added contents rests = record {
     refused = λ a u c d. adds.refused a c d ∙ ap (λ w. any_choice a c d old || w)
@@ -133,20 +133,20 @@ module _ (universal : List Bool) (side : Side) (k one : Choice) (old new : List 
 nothing_refused : (o k x : Bool) → x ≡ true → o ≡ (o || (k && not x))
 nothing_refused o k x e = sym (or_nothing o) ∙ ap (λ w. o || w) (sym (ap (λ w. k && not w) e ∙ and_false k))
 
-pub content_marked : (universal : List Bool) (side : Side) (k : Choice) (old : List Choice) → is_marked universal side.content ≡ true → AddsContent universal side k old old
+pub content_marked : (universal : List Bool) (side : MoveSide) (k : SideChoice) (old : List SideChoice) → is_marked universal side.content ≡ true → AddsContent universal side k old old
 content_marked universal side k old marked = record {
   refused = λ a u c d. nothing_refused (any_choice a c d old) (choice_refuses a c d k) (accepts a c side.content) (u side.content marked c);
   states = λ a h e s. h;
 }
 
-pub rest_marked : (universal : List Bool) (side : Side) (k : Choice) (old : List Choice) → is_marked universal side.rest ≡ true → AddsRest universal side k old old
+pub rest_marked : (universal : List Bool) (side : MoveSide) (k : SideChoice) (old : List SideChoice) → is_marked universal side.rest ≡ true → AddsRest universal side k old old
 rest_marked universal side k old marked = record {
   refused = λ a u c d. nothing_refused (any_choice a c d old) (choice_refuses a c d k) (accepts a d side.rest) (u side.rest marked d);
   states = λ a h e s. h;
 }
 
 -- the choice was extended in both ways
-pub side_added : (universal : List Bool) (side : Side) (k : Choice) (old mid new : List Choice) → AddsContent universal side k old mid → AddsRest universal side k mid new → AddsSide universal side k old new
+pub side_added : (universal : List Bool) (side : MoveSide) (k : SideChoice) (old mid new : List SideChoice) → AddsContent universal side k old mid → AddsRest universal side k mid new → AddsSide universal side k old new
 side_added universal side k old mid new first second = record {
   refused = λ a u c d.
       second.refused a u c d ∙ ap (λ w. w || (choice_refuses a c d k && not (accepts a d side.rest))) (first.refused a u c d)
@@ -156,12 +156,12 @@ side_added universal side k old mid new first second = record {
 }
 
 -- some choices were extended, and others are left
-pub record ExtendsFirst (universal : List Bool) (side : Side) (initial extended left : List Choice) : Type 0 where
+pub record ExtendsFirst (universal : List Bool) (side : MoveSide) (initial extended left : List SideChoice) : Type 0 where
   pub refused : (a : Automaton) → MarkUniversal a universal → (c d : Document) → (any_choice a c d extended || (any_choice a c d left && not (side_accepts a c d side))) ≡ (any_choice a c d initial && not (side_accepts a c d side))
   pub left_states : (a : Automaton) → AllChoices a initial → AllChoices a left
   pub states : (a : Automaton) → AllChoices a initial → is_side a side ≡ true → AllChoices a extended
 
-pub extends_more : (universal : List Bool) (side : Side) (k : Choice) (initial extended new left rest : List Choice) → AddsSide universal side k extended new → left ≡ rest ++ k ∷ [] → ExtendsFirst universal side initial extended left → ExtendsFirst universal side initial new rest
+pub extends_more : (universal : List Bool) (side : MoveSide) (k : SideChoice) (initial extended new left rest : List SideChoice) → AddsSide universal side k extended new → left ≡ rest ++ k ∷ [] → ExtendsFirst universal side initial extended left → ExtendsFirst universal side initial new rest
 extends_more universal side k initial extended new left rest adds is before = record {
   refused = λ a u c d.
       ap (λ w. w || (any_choice a c d rest && not (side_accepts a c d side))) (adds.refused a u c d)
@@ -173,7 +173,7 @@ extends_more universal side k initial extended new left rest adds is before = re
 }
 
 -- the choices for the first of these moves
-pub record AreFirstChoices (universal : List Bool) (sides : List Side) (i : ℕ) (choices : List Choice) : Type 0 where
+pub record AreFirstChoices (universal : List Bool) (sides : List MoveSide) (i : ℕ) (choices : List SideChoice) : Type 0 where
   pub refused : (a : Automaton) → MarkUniversal a universal → (c d : Document) → any_choice a c d choices ≡ not (list_any (side_accepts a c d) (take i sides))
   pub states : (a : Automaton) → AllPass (is_side a) sides → AllChoices a choices
 
@@ -181,7 +181,7 @@ not_or : (t s : Bool) → (not t && not s) ≡ not (t || s)
 not_or true s = refl
 not_or false s = refl
 
-pub choices_more : (universal : List Bool) (sides : List Side) (i : ℕ) (side : Side) (old new : List Choice) → i < length sides → side ≡ get_or sides i side → ExtendsAll universal side old new → AreFirstChoices universal sides i old → AreFirstChoices universal sides (i + 1) new
+pub choices_more : (universal : List Bool) (sides : List MoveSide) (i : ℕ) (side : MoveSide) (old new : List SideChoice) → i < length sides → side ≡ get_or sides i side → ExtendsAll universal side old new → AreFirstChoices universal sides i old → AreFirstChoices universal sides (i + 1) new
 choices_more universal sides i side old new lt at extends before = record {
   refused = λ a u c d.
       extends.refused a u c d ∙ ap (λ w. w && not (side_accepts a c d side)) (before.refused a u c d)

@@ -7,9 +7,9 @@ use Rattle.xd_auto.specs.declared.auto.State.{State}
 use Rattle.xd_auto.specs.declared.auto.LabelMove.{LabelMove}
 use Rattle.xd_auto.specs.declared.auto.TextMove.{TextMove}
 use Rattle.xd_auto.specs.Automaton.{Automaton, accepts}
-use Rattle.xd_boole.specs.declared.groups.Side.{Side}
+use Rattle.xd_boole.specs.declared.groups.MoveSide.{MoveSide}
 use Rattle.xd_boole.specs.declared.groups.Group.{Group}
-use Rattle.xd_boole.specs.declared.choices.Choice.{Choice}
+use Rattle.xd_boole.specs.declared.choices.SideChoice.{SideChoice}
 use Rattle.xd_boole.specs.declared.points.Points.{Points}
 use Rattle.xd_boole.specs.Meaning.{TextFirst, any_accepts, less, means}
 use Rattle.xd_boole.specs.Groups.{group_refuses, side_accepts}
@@ -20,7 +20,7 @@ use Rattle.xd_boole.proofs.Bools.{and_over_left, and_over_right, part_chosen, pa
 use Rattle.xd_boole.proofs.Growing.{adds_push, grows_trans, label_below_more, label_stays, state_means, text_below_more, text_stays}
 
 -- the move by which a part goes on as a choice says
-pub move_added : (a b : Automaton) (p q r : Points) (ms after : List LabelMove) (part : Side) (choice : Choice) (class : LabelClass) (content rest : State)
+pub move_added : (a b : Automaton) (p q r : Points) (ms after : List LabelMove) (part : MoveSide) (choice : SideChoice) (class : LabelClass) (content rest : State)
     → after ≡ ms ++ record { class = class; content = content; rest = rest } ∷ [] → AllByRecursion (MoveBelow (length p.points.items)) ms → Grows p q → Grows q r → ArePoints a b r
     → IsStateFor q part.content choice.contents.items content → IsStateFor r part.rest choice.rests.items rest
     → AddsLabels a b p r ms after (λ w. class_has class w.label && (side_accepts a w.content w.rest part && choice_refuses b w.content w.rest choice))

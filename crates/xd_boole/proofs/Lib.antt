@@ -15,3 +15,4 @@ pub mod Differing
 pub mod PlaceLemmas
 pub mod MergeLemmas
 pub mod Redirecting
+pub mod TwinLemmas

@@ -13,7 +13,7 @@ use Rattle.xd_auto.specs.Automaton.{Automaton, IsState, accepts, moves_at, state
 use Rattle.xd_boole.specs.declared.merging.Compared.{Compared}
 use Rattle.xd_boole.specs.Merging.{AreLike, AreStandIns, IsLike, IsLikeLabel, IsLikeText, KeepStates, found_at, stand_in}
 
-any_zip : {M : Type 0} (R : M → M → Type 0) (f g : M → Bool) (xs ys : List M) → AllZip R xs ys → ((x y : M) → R x y → f x ≡ g y) → list_any f xs ≡ list_any g ys
+pub any_zip : {M : Type 0} (R : M → M → Type 0) (f g : M → Bool) (xs ys : List M) → AllZip R xs ys → ((x y : M) → R x y → f x ≡ g y) → list_any f xs ≡ list_any g ys
 any_zip R f g [] [] h same = refl
 any_zip R f g [] (y ∷ ys) h same = absurd h
 any_zip R f g (x ∷ xs) [] h same = absurd h

@@ -3,57 +3,57 @@ use Rattle.std.specs.Prelude.{◌≡◌, Bool, true, not, ◌&&◌, ◌||◌, Li
 use Rattle.std.specs.List.{AllByRecursion, list_any}
 use Rattle.xd_doc.specs.Document.{Document}
 use Rattle.xd_auto.specs.Automaton.{Automaton, accepts}
-use Rattle.xd_boole.specs.declared.groups.Side.{Side}
-use Rattle.xd_boole.specs.declared.choices.Choice.{Choice}
+use Rattle.xd_boole.specs.declared.groups.MoveSide.{MoveSide}
+use Rattle.xd_boole.specs.declared.choices.SideChoice.{SideChoice}
 use Rattle.xd_boole.specs.Meaning.{any_accepts, is_state}
 use Rattle.xd_boole.specs.Groups.{AllPass, is_side, side_accepts}
 use Rattle.xd_boole.specs.Universal.{MarkUniversal}
 
 -- the content and what follows are refused as the choice says
-abbrev pub choice_refuses : Automaton → Document → Document → Choice → Bool
+abbrev pub choice_refuses : Automaton → Document → Document → SideChoice → Bool
 choice_refuses a c d k = not (any_accepts a k.contents.items c) && not (any_accepts a k.rests.items d)
 
-abbrev pub any_choice : Automaton → Document → Document → List Choice → Bool
+abbrev pub any_choice : Automaton → Document → Document → List SideChoice → Bool
 any_choice a c d choices = list_any (choice_refuses a c d) choices
 
 -- the states of the choice belong to the automaton
-abbrev pub IsChoiceOf : Automaton → Choice → Type 0
+abbrev pub IsChoiceOf : Automaton → SideChoice → Type 0
 IsChoiceOf a k = AllPass (is_state a) k.contents.items × AllPass (is_state a) k.rests.items
 
-abbrev pub AllChoices : Automaton → List Choice → Type 0
+abbrev pub AllChoices : Automaton → List SideChoice → Type 0
 AllChoices a choices = AllByRecursion (IsChoiceOf a) choices
 
 -- a choice was put behind the others, or what it refuses the new one refuses
-pub record KeepsChoice (k other : Choice) (old new : List Choice) : Type 0 where
+pub record KeepsChoice (k other : SideChoice) (old new : List SideChoice) : Type 0 where
   pub refused : (a : Automaton) (c d : Document) → (any_choice a c d new || choice_refuses a c d k) ≡ ((any_choice a c d old || choice_refuses a c d other) || choice_refuses a c d k)
   pub states : (a : Automaton) → AllChoices a old → IsChoiceOf a other → AllChoices a new
 
 -- the choice stands among the others, or what it refuses another choice refuses
-pub record AddsChoice (k : Choice) (old new : List Choice) : Type 0 where
+pub record AddsChoice (k : SideChoice) (old new : List SideChoice) : Type 0 where
   pub refused : (a : Automaton) (c d : Document) → any_choice a c d new ≡ (any_choice a c d old || choice_refuses a c d k)
   pub states : (a : Automaton) → AllChoices a old → IsChoiceOf a k → AllChoices a new
 
 -- a choice was added, extended by the content of one more move; or, where the content is marked, since it accepts every document, none was
-pub record AddsContent (universal : List Bool) (side : Side) (k : Choice) (old new : List Choice) : Type 0 where
+pub record AddsContent (universal : List Bool) (side : MoveSide) (k : SideChoice) (old new : List SideChoice) : Type 0 where
   pub refused : (a : Automaton) → MarkUniversal a universal → (c d : Document) → any_choice a c d new ≡ (any_choice a c d old || (choice_refuses a c d k && not (accepts a c side.content)))
   pub states : (a : Automaton) → AllChoices a old → IsChoiceOf a k → is_state a side.content ≡ true → AllChoices a new
 
 -- the same by what follows
-pub record AddsRest (universal : List Bool) (side : Side) (k : Choice) (old new : List Choice) : Type 0 where
+pub record AddsRest (universal : List Bool) (side : MoveSide) (k : SideChoice) (old new : List SideChoice) : Type 0 where
   pub refused : (a : Automaton) → MarkUniversal a universal → (c d : Document) → any_choice a c d new ≡ (any_choice a c d old || (choice_refuses a c d k && not (accepts a d side.rest)))
   pub states : (a : Automaton) → AllChoices a old → IsChoiceOf a k → is_state a side.rest ≡ true → AllChoices a new
 
 -- a choice was added, extended by a side for one more move
-pub record AddsSide (universal : List Bool) (side : Side) (k : Choice) (old new : List Choice) : Type 0 where
+pub record AddsSide (universal : List Bool) (side : MoveSide) (k : SideChoice) (old new : List SideChoice) : Type 0 where
   pub refused : (a : Automaton) → MarkUniversal a universal → (c d : Document) → any_choice a c d new ≡ (any_choice a c d old || (choice_refuses a c d k && not (side_accepts a c d side)))
   pub states : (a : Automaton) → AllChoices a old → IsChoiceOf a k → is_side a side ≡ true → AllChoices a new
 
 -- each choice was extended by a side for one more move
-pub record ExtendsAll (universal : List Bool) (side : Side) (old new : List Choice) : Type 0 where
+pub record ExtendsAll (universal : List Bool) (side : MoveSide) (old new : List SideChoice) : Type 0 where
   pub refused : (a : Automaton) → MarkUniversal a universal → (c d : Document) → any_choice a c d new ≡ (any_choice a c d old && not (side_accepts a c d side))
   pub states : (a : Automaton) → AllChoices a old → is_side a side ≡ true → AllChoices a new
 
 -- the choices for these moves
-pub record AreChoices (universal : List Bool) (sides : List Side) (choices : List Choice) : Type 0 where
+pub record AreChoices (universal : List Bool) (sides : List MoveSide) (choices : List SideChoice) : Type 0 where
   pub refused : (a : Automaton) → MarkUniversal a universal → (c d : Document) → any_choice a c d choices ≡ not (list_any (side_accepts a c d) sides)
   pub states : (a : Automaton) → AllPass (is_side a) sides → AllChoices a choices

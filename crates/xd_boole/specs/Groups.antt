@@ -6,7 +6,7 @@ use Rattle.xd_doc.specs.Classes.{LabelClass, TextClass, class_has}
 use Rattle.xd_auto.specs.declared.auto.State.{State}
 use Rattle.xd_auto.specs.declared.auto.LabelMove.{LabelMove}
 use Rattle.xd_auto.specs.Automaton.{Automaton, accepts, moves_at}
-use Rattle.xd_boole.specs.declared.groups.Side.{Side}
+use Rattle.xd_boole.specs.declared.groups.MoveSide.{MoveSide}
 use Rattle.xd_boole.specs.declared.groups.Group.{Group}
 use Rattle.xd_boole.specs.Meaning.{ElementFirst, TextFirst, any_accepts, element_of, move_takes, text_of, text_takes, is_state}
 
@@ -73,18 +73,18 @@ pub record DividesBy {C S M : Type 0} (has : C → List ℕ → Bool) (class_of 
   pub taken : (p : S → Bool) (x : List ℕ) → any_group has p x new ≡ (any_group has p x old && not (list_any (passes_at (λ m. has (class_of m) x && p (side_of m)) moves) numbers))
   pub sides : (p : S → Bool) → AllSides p old → AllByRecursion (λ m. p (side_of m) ≡ true) moves → AllSides p new
 
-abbrev pub label_side : LabelMove → Side
+abbrev pub label_side : LabelMove → MoveSide
 label_side m = record { content = m.content; rest = m.rest }
 
-abbrev pub side_accepts : Automaton → Document → Document → Side → Bool
+abbrev pub side_accepts : Automaton → Document → Document → MoveSide → Bool
 side_accepts a c d s = accepts a c s.content && accepts a d s.rest
 
 -- both states of the side belong to the automaton
-abbrev pub is_side : Automaton → Side → Bool
+abbrev pub is_side : Automaton → MoveSide → Bool
 is_side a s = is_state a s.content && is_state a s.rest
 
 -- the labels of the class in groups, by the moves of these states
-pub record AreLabelGroups (a : Automaton) (class : LabelClass) (states : List State) (groups : List (Group LabelClass Side)) : Type 0 where
+pub record AreLabelGroups (a : Automaton) (class : LabelClass) (states : List State) (groups : List (Group LabelClass MoveSide)) : Type 0 where
   pub taken : (q : ElementFirst) → any_group class_has (side_accepts a q.content q.rest) q.label groups ≡ (class_has class q.label && not (any_accepts a states (element_of q)))
   pub sides : AllSides (is_side a) groups
 
@@ -94,7 +94,7 @@ pub record AreTextGroups (a : Automaton) (class : TextClass) (states : List Stat
   pub sides : AllSides (is_state a) groups
 
 -- the same, by the moves of these states and by the first moves of one more
-pub record AreLabelGroupsBefore (a : Automaton) (class : LabelClass) (states : List State) (own : State) (place : ℕ) (groups : List (Group LabelClass Side)) : Type 0 where
+pub record AreLabelGroupsBefore (a : Automaton) (class : LabelClass) (states : List State) (own : State) (place : ℕ) (groups : List (Group LabelClass MoveSide)) : Type 0 where
   pub taken : (q : ElementFirst) → any_group class_has (side_accepts a q.content q.rest) q.label groups
       ≡ (class_has class q.label && not (any_accepts a states (element_of q) || list_any (move_takes a q) (take place (moves_at a own).labels)))
   pub sides : AllSides (is_side a) groups

@@ -4,7 +4,7 @@ ghost use Rattle.std.specs.Prelude.{◌≡◌, ◌||◌, ◌&&◌, IfOk, OnOk};
 ghost use Rattle.xd_boole.specs.Meaning.{has_state, is_within};
 ghost use Rattle.xd_boole.specs.Choices.{AddsChoice, AddsContent, AddsRest, AddsSide, AreChoices, ExtendsAll, KeepsChoice};
 
-use crate::groups::Side;
+use crate::groups::MoveSide;
 use crate::states::{has_state, is_within, with_state};
 use crate::universal::is_marked;
 use std::alloc::Global;
@@ -13,27 +13,31 @@ use xd_doc::NoMemory;
 
 /// States that are to refuse the content, and states that are to refuse what follows.
 #[derive(Drop)]
-pub struct Choice {
+pub struct SideChoice {
     pub contents: Vec<State>,
     pub rests: Vec<State>,
 }
 
 /// Whether the choice refuses what a matching move accepts.
-fn refuses(choice: &Choice, side: Side) -> bool
+fn refuses(choice: &SideChoice, side: MoveSide) -> bool
     ensures { result ≡ (has_state side.content choice.now.contents.items || has_state side.rest choice.now.rests.items) }
 {
     has_state(&choice.contents, side.content) || has_state(&choice.rests, side.rest)
 }
 
 /// Whether the sets of a choice contain those of another.
-fn contains(choice: &Choice, other: &Choice) -> bool
+fn contains(choice: &SideChoice, other: &SideChoice) -> bool
     ensures { result ≡ (is_within choice.now.contents.items other.now.contents.items && is_within choice.now.rests.items other.now.rests.items) }
 {
     is_within(&other.contents, &choice.contents) && is_within(&other.rests, &choice.rests)
 }
 
 /// Puts a choice behind the others, unless its sets contain those of a new one.
-fn keep_choice(kept: &mut Vec<Choice>, other: Choice, choice: &Choice) -> Result<(), NoMemory>
+fn keep_choice(
+    kept: &mut Vec<SideChoice>,
+    other: SideChoice,
+    choice: &SideChoice,
+) -> Result<(), NoMemory>
     ensures { OnOk result (KeepsChoice choice.now other kept.old.items kept.new.items) }
 {
     if !contains(&other, choice) {
@@ -44,7 +48,11 @@ fn keep_choice(kept: &mut Vec<Choice>, other: Choice, choice: &Choice) -> Result
 
 /// Puts a choice among the others, unless its sets contain those of one of them. Those whose sets
 /// contain its own are dropped: what they refuse it refuses too.
-fn add_choice(alloc: Global, choices: Vec<Choice>, choice: Choice) -> Result<Vec<Choice>, NoMemory>
+fn add_choice(
+    alloc: Global,
+    choices: Vec<SideChoice>,
+    choice: SideChoice,
+) -> Result<Vec<SideChoice>, NoMemory>
     ensures { IfOk result (λ made. AddsChoice choice choices.items made.items) }
 {
     for other in &choices {
@@ -65,11 +73,11 @@ fn add_choice(alloc: Global, choices: Vec<Choice>, choice: Choice) -> Result<Vec
 /// everything.
 fn add_with_content(
     alloc: Global,
-    choices: Vec<Choice>,
-    choice: &Choice,
-    side: Side,
+    choices: Vec<SideChoice>,
+    choice: &SideChoice,
+    side: MoveSide,
     universal: &[bool],
-) -> Result<Vec<Choice>, NoMemory>
+) -> Result<Vec<SideChoice>, NoMemory>
     ensures { IfOk result (λ made. AddsContent universal.now side choice.now choices.items made.items) }
 {
     if is_marked(universal, side.content) {
@@ -77,18 +85,18 @@ fn add_with_content(
     }
     let contents = with_state(alloc, &choice.contents, side.content)?;
     let rests = choice.rests.to_vec(alloc)?;
-    let choices = add_choice(alloc, choices, Choice { contents, rests })?;
+    let choices = add_choice(alloc, choices, SideChoice { contents, rests })?;
     Ok(choices)
 }
 
 /// The same by what follows.
 fn add_with_rest(
     alloc: Global,
-    choices: Vec<Choice>,
-    choice: &Choice,
-    side: Side,
+    choices: Vec<SideChoice>,
+    choice: &SideChoice,
+    side: MoveSide,
     universal: &[bool],
-) -> Result<Vec<Choice>, NoMemory>
+) -> Result<Vec<SideChoice>, NoMemory>
     ensures { IfOk result (λ made. AddsRest universal.now side choice.now choices.items made.items) }
 {
     if is_marked(universal, side.rest) {
@@ -96,7 +104,7 @@ fn add_with_rest(
     }
     let contents = choice.contents.to_vec(alloc)?;
     let rests = with_state(alloc, &choice.rests, side.rest)?;
-    let choices = add_choice(alloc, choices, Choice { contents, rests })?;
+    let choices = add_choice(alloc, choices, SideChoice { contents, rests })?;
     Ok(choices)
 }
 
@@ -104,11 +112,11 @@ fn add_with_rest(
 /// already, as it is.
 fn add_extended(
     alloc: Global,
-    choices: Vec<Choice>,
-    choice: Choice,
-    side: Side,
+    choices: Vec<SideChoice>,
+    choice: SideChoice,
+    side: MoveSide,
     universal: &[bool],
-) -> Result<Vec<Choice>, NoMemory>
+) -> Result<Vec<SideChoice>, NoMemory>
     ensures { IfOk result (λ made. AddsSide universal.now side choice choices.items made.items) }
 {
     if refuses(&choice, side) {
@@ -123,10 +131,10 @@ fn add_extended(
 /// Extends each choice by a side for one more matching move.
 fn extend_all(
     alloc: Global,
-    choices: Vec<Choice>,
-    side: Side,
+    choices: Vec<SideChoice>,
+    side: MoveSide,
     universal: &[bool],
-) -> Result<Vec<Choice>, NoMemory>
+) -> Result<Vec<SideChoice>, NoMemory>
     ensures { IfOk result (λ made. ExtendsAll universal.now side choices.items made.items) }
 {
     let mut choices = choices;
@@ -141,13 +149,13 @@ fn extend_all(
 /// a state refuse that is known to accept everything. Fails only where memory is refused.
 pub fn choices_of(
     alloc: Global,
-    sides: &[Side],
+    sides: &[MoveSide],
     universal: &[bool],
-) -> Result<Vec<Choice>, NoMemory>
+) -> Result<Vec<SideChoice>, NoMemory>
     ensures { IfOk result (λ made. AreChoices universal.now sides.now made.items) }
 {
     let mut choices = Vec::new(alloc);
-    choices.push(Choice {
+    choices.push(SideChoice {
         contents: Vec::new(alloc),
         rests: Vec::new(alloc),
     })?;

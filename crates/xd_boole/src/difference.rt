@@ -13,8 +13,8 @@ ghost use Rattle.xd_boole.specs.Universal.{MarkUniversal};
 ghost use Rattle.xd_boole.specs.Choices.{IsChoiceOf, choice_refuses};
 ghost use Rattle.xd_boole.specs.Points.{AddsLabels, AddsTexts, AreExpanded, ArePoints, IsStateFor, KeepsPoints, MoveBelow, TextBelow};
 
-use crate::choices::{Choice, choices_of};
-use crate::groups::{Group, Side, Step, label_groups, text_groups};
+use crate::choices::{SideChoice, choices_of};
+use crate::groups::{Group, MoveSide, Step, label_groups, text_groups};
 use crate::merging::merged;
 use crate::placing::place_points;
 use crate::points::{Points, copy_point, find_or_add};
@@ -39,9 +39,9 @@ fn add_move(
     taken: &Taken,
     points: &mut Points,
     labels: &mut Vec<LabelMove>,
-    part: Side,
+    part: MoveSide,
     class: &Class,
-    choice: &Choice,
+    choice: &SideChoice,
 ) -> Result<(), NoMemory>
     requires whole { ArePoints auto.now taken.now.auto points.old }
     requires below { AllByRecursion (MoveBelow (length points.old.points.items)) labels.old.items }
@@ -73,8 +73,8 @@ fn add_group(
     taken: &Taken,
     points: &mut Points,
     labels: &mut Vec<LabelMove>,
-    part: Side,
-    group: &Group<Class, Side>,
+    part: MoveSide,
+    group: &Group<Class, MoveSide>,
 ) -> Result<(), NoMemory>
     requires whole { ArePoints auto.now taken.now.auto points.old }
     requires below { AllByRecursion (MoveBelow (length points.old.points.items)) labels.old.items }

@@ -64,12 +64,12 @@ pub(crate) trait Step<C, S> {
 
 /// What a move on an element says of the content and of what follows the element.
 #[derive(Clone, Copy)]
-pub struct Side {
+pub struct MoveSide {
     pub content: State,
     pub rest: State,
 }
 
-impl Step<Class, Side> for LabelMove {
+impl Step<Class, MoveSide> for LabelMove {
     ghost class_of = { λ m. m.class };
 
     ghost side_of = { label_side };
@@ -78,8 +78,8 @@ impl Step<Class, Side> for LabelMove {
         &self.class
     }
 
-    fn side(&self) -> Side {
-        Side {
+    fn side(&self) -> MoveSide {
+        MoveSide {
             content: self.content,
             rest: self.rest,
         }
@@ -120,7 +120,7 @@ impl Told for State {
     }
 }
 
-impl Told for Side {
+impl Told for MoveSide {
     fn is_same(self, other: Self) -> bool {
         self.content == other.content && self.rest == other.rest
     }
@@ -272,7 +272,7 @@ pub(crate) fn label_groups(
     auto: &Auto,
     step: &LabelMove,
     states: &[State],
-) -> Result<Vec<Group<Class, Side>>, NoMemory>
+) -> Result<Vec<Group<Class, MoveSide>>, NoMemory>
     requires { AllByRecursion (IsState auto.now) states.now }
     ensures { IfOk result (λ made. AreLabelGroups auto.now step.now.class states.now made.items) }
 {
@@ -311,7 +311,7 @@ pub(crate) fn text_groups(
 }
 
 /// What a move says of the content and of what follows the element.
-pub fn side_of(step: &LabelMove) -> Side
+pub fn side_of(step: &LabelMove) -> MoveSide
     ensures { result ≡ label_side step.now }
 {
     step.side()
@@ -339,7 +339,7 @@ pub fn label_groups_before(
     states: &[State],
     own: State,
     place: usize,
-) -> Result<Vec<Group<Class, Side>>, NoMemory>
+) -> Result<Vec<Group<Class, MoveSide>>, NoMemory>
     requires states { AllByRecursion (IsState auto.now) states.now }
     requires own { IsState auto.now own }
     ensures { IfOk result (λ made. AreLabelGroupsBefore auto.now step.now.class states.now own place made.items) }

@@ -9,12 +9,14 @@ mod placing;
 mod points;
 mod products;
 mod states;
+mod twins;
 mod universal;
 
-pub use choices::{Choice, choices_of};
+pub use choices::{SideChoice, choices_of};
 pub use difference::{Taken, minus, subtract, taken_from};
-pub use groups::{Group, Side, label_groups_before, side_of, text_groups_before};
-pub use merging::{merged, merged_at};
+pub use groups::{Group, MoveSide, label_groups_before, side_of, text_groups_before};
+pub use merging::merged;
 pub use products::product;
 pub use states::{any_last, set_of};
+pub use twins::merged_at;
 pub use universal::{any_marked, is_marked, universal_states};

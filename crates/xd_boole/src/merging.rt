@@ -21,7 +21,7 @@ pub(crate) struct Compared {
 }
 
 /// The state that stands in for a state.
-fn stand_in(same: &[State], state: State) -> State
+pub(crate) fn stand_in(same: &[State], state: State) -> State
     ensures { result ≡ stand_in same.now state }
 {
     if state.number() < same.len() {
@@ -125,7 +125,7 @@ fn are_like_texts(
 }
 
 /// Whether two states have moves on the same names, in the same order, to states that are like each other.
-fn are_like(auto: &Auto, same: &[State], compared: Compared) -> bool
+pub(crate) fn are_like(auto: &Auto, same: &[State], compared: Compared) -> bool
     requires one { IsState auto.now compared.one }
     requires other { IsState auto.now compared.other }
     ensures { result ≡ true → AreLike auto.now same.now compared }
@@ -150,13 +150,13 @@ fn are_like(auto: &Auto, same: &[State], compared: Compared) -> bool
 }
 
 /// A number with one more part mixed in.
-fn mixed(key: u64, part: usize) -> u64 {
+pub(crate) fn mixed(key: u64, part: usize) -> u64 {
     key.wrapping_mul(0x9E37_79B9_7F4A_7C15)
         .wrapping_add(part as u64)
 }
 
 /// A number that equal names share.
-fn mixed_name(key: u64, name: &str) -> u64 {
+pub(crate) fn mixed_name(key: u64, name: &str) -> u64 {
     let mut key = mixed(key, name.len());
     for byte in name.as_bytes() {
         key = mixed(key, *byte as usize);
@@ -263,7 +263,7 @@ fn each_itself(alloc: Global, auto: &Auto) -> Result<Vec<State>, NoMemory>
 /// For each state one that accepts the same.
 ///
 /// The second look finds what the first one made equal in states that lead to older ones.
-fn stand_ins(alloc: Global, auto: &Auto) -> Result<Vec<State>, NoMemory>
+pub(crate) fn stand_ins(alloc: Global, auto: &Auto) -> Result<Vec<State>, NoMemory>
     ensures { IfOk result (λ same. AreStandIns auto.now same.items) }
 {
     let mut same = each_itself(alloc, auto)?;
@@ -314,7 +314,7 @@ fn redirect_texts(
 }
 
 /// The states without their moves.
-fn bare_states(alloc: Global, auto: &Auto, same: &[State]) -> Result<Auto, NoMemory>
+pub(crate) fn bare_states(alloc: Global, auto: &Auto, same: &[State]) -> Result<Auto, NoMemory>
     ensures { IfOk result (λ made. RedirectsFirst auto.now same.now made 0) }
 {
     let mut made = Auto::new(alloc);
@@ -325,7 +325,7 @@ fn bare_states(alloc: Global, auto: &Auto, same: &[State]) -> Result<Auto, NoMem
 }
 
 /// Gives the state of this number its moves, redirected.
-fn redirect_state(
+pub(crate) fn redirect_state(
     made: &mut Auto,
     auto: &Auto,
     same: &[State],
@@ -357,18 +357,4 @@ pub fn merged(alloc: Global, auto: &Auto) -> Result<Auto, NoMemory>
         redirect_state(&mut made, auto, &same, number)?;
     }
     Ok(made)
-}
-
-/// The same, and the state that stands in for a state. Fails only where memory is refused.
-pub fn merged_at(alloc: Global, auto: &Auto, state: State) -> Result<(Auto, State), NoMemory>
-    requires { IsState auto.now state }
-    ensures same { IfOk result (λ made. (d : Document) → accepts made.0 d made.1 ≡ accepts auto.now d state) }
-    ensures belongs { IfOk result (λ made. IsState made.0 made.1) }
-{
-    let same = stand_ins(alloc, auto)?;
-    let mut made = bare_states(alloc, auto, &same)?;
-    for number in 0..auto.len() {
-        redirect_state(&mut made, auto, &same, number)?;
-    }
-    Ok((made, stand_in(&same, state)))
 }

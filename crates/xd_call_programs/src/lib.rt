@@ -11,7 +11,7 @@ mod verdicts;
 pub use crate::case::Case;
 pub use crate::members::show_members;
 pub use crate::reading::{
-    Programs, read_type, show_read_program, show_read_type, show_resolved, show_soundness,
+    Programs, read_type_into, show_read_program, show_read_type, show_resolved, show_soundness,
     show_type_line,
 };
 pub use crate::states::{find_type, program_of, state_at, state_of, type_of};

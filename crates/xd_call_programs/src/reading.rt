@@ -85,7 +85,7 @@ pub fn show_read_program(
 }
 
 /// Reads a type into the table, or shows where it is refused.
-pub fn read_type(
+pub fn read_type_into(
     desk: &mut Programs,
     text: &str,
     out: &mut Vec<u8>,
@@ -104,7 +104,7 @@ pub fn read_type(
 
 /// Reads a type into the table, and shows it or where it is refused.
 pub fn show_read_type(desk: &mut Programs, text: &str, out: &mut Vec<u8>) -> Result<(), CallError> {
-    match read_type(desk, text, out)? {
+    match read_type_into(desk, text, out)? {
         Some(id) => show_type_line(&desk.types, id, out),
         None => Ok(()),
     }

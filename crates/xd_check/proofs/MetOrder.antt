@@ -16,7 +16,7 @@ use Rattle.xd_least.specs.Least.{Knows}
 use Rattle.xd_patterns.specs.Compiler.{Serves}
 use Rattle.xd_check.specs.Ready.{expr_at}
 use Rattle.xd_syntax.specs.Order.{is_earlier, ordered}
-use Rattle.xd_check.specs.Scrutinees.{AddsMatches, AddsMatchesOfFunction, AreMatchStates, AreScrutinees, IsApart, IsMet, IsScrutineeOf, met_precedes}
+use Rattle.xd_check.specs.Scrutinees.{AddsMatches, AddsMatchesOfFunction, AreMatchStates, AreScrutinees, StandsAlone, IsMet, IsScrutineeOf, met_precedes}
 use Rattle.xd_check.specs.Walked.{Grows}
 use Rattle.xd_check.specs.declared.matches.MetMatch.{MetMatch}
 use Rattle.xd_check.specs.declared.matches.MatchStates.{MatchStates}
@@ -39,7 +39,7 @@ module _ (p : ProgramTable) (a : Automaton) where
   met_states (m ∷ ms) [] h = absurd h
   met_states (m ∷ ms) (x ∷ xs) h = ((h.0).belongs, met_states ms xs h.1)
 
-  apart_each : (ms : List SeenMatch) (xs : List MetMatch) (ys : List Scrutinee) → AllZip (IsMet p a) ms xs → AllZip (IsApart a) xs ys → AllZip (IsScrutineeOf p) ms ys
+  apart_each : (ms : List SeenMatch) (xs : List MetMatch) (ys : List Scrutinee) → AllZip (IsMet p a) ms xs → AllZip (StandsAlone a) xs ys → AllZip (IsScrutineeOf p) ms ys
   apart_each [] [] [] h k = tt
   apart_each [] [] (y ∷ ys) h k = absurd k
   apart_each [] (x ∷ xs) ys h k = absurd h
@@ -117,7 +117,7 @@ module _ (p q : ProgramTable) (adds : AddsTypes p q) (same : program_tree q ≡ 
     back_each ms ys h.1,
   )
 
-pub scrutinees_met : (p : ProgramTable) (a : Automaton) (met : MatchStates) (ys : List Scrutinee) → AreMatchStates p a met → AllZip (IsApart a) met.matches.items ys → AreScrutinees p ys
+pub scrutinees_met : (p : ProgramTable) (a : Automaton) (met : MatchStates) (ys : List Scrutinee) → AreMatchStates p a met → AllZip (StandsAlone a) met.matches.items ys → AreScrutinees p ys
 scrutinees_met p a met ys h k =
     record { matches = h.found; seen = h.seen; each = back_each p met.sound h.adds h.same h.found ys (apart_each met.sound a h.found met.matches.items ys h.each k) }
 

@@ -76,7 +76,7 @@ pub record IsClauseMet (p : ProgramTable) (S : Scope) (e : Expression) (earlier 
   pub matches : AddsMatches p a (MatchesOfBody (program_tree p) S e earlier Q f) old new
 
 -- the same match, with a state of an automaton of its own that accepts the same
-pub record IsApart (a : Automaton) (x : MetMatch) (y : Scrutinee) : Type 0 where
+pub record StandsAlone (a : Automaton) (x : MetMatch) (y : Scrutinee) : Type 0 where
   pub match : y.expr ≡ x.expr
   pub belongs : IsState y.auto y.state
   pub same : (d : Document) → accepts y.auto d y.state ≡ accepts a d x.state

@@ -23,7 +23,7 @@ ghost use Rattle.xd_clauses.specs.Clauses.{Accepted, IsPatternOf};
 ghost use Rattle.xd_check.specs.InScope.{AreStates, ScopeStands};
 ghost use Rattle.xd_check.specs.Known.{IsKnown};
 ghost use Rattle.xd_check.specs.Ready.{CanBeWalked, ClauseCanBeWalked, IsReady, expr_at};
-ghost use Rattle.xd_check.specs.Scrutinees.{AddsMatches, AddsMatchesOfFunction, AreMatchStates, AreScrutinees, IsApart, IsClauseMet, met_precedes};
+ghost use Rattle.xd_check.specs.Scrutinees.{AddsMatches, AddsMatchesOfFunction, AreMatchStates, AreScrutinees, StandsAlone, IsClauseMet, met_precedes};
 ghost use Rattle.xd_check.specs.declared.matches.MetMatch.{MetMatch};
 ghost use Rattle.xd_check.specs.Walked.{ComesBehind, Grows};
 
@@ -94,6 +94,8 @@ pub fn scrutinees(alloc: Global, checked: &Checked) -> Result<Vec<Scrutinee>, No
 }
 
 /// The same with all states in one automaton, which had none yet.
+///
+/// Fails only where memory is refused.
 pub fn met_matches(
     alloc: Global,
     checked: &Checked,
@@ -137,7 +139,7 @@ fn sort_matches(met: &mut Vec<MetMatch>) -> Result<(), NoMemory>
 /// The same in automata of their own.
 fn apart(alloc: Global, auto: &Auto, met: &[MetMatch]) -> Result<Vec<Scrutinee>, NoMemory>
     requires { AllByRecursion (λ (x : MetMatch). IsState auto.now x.state) met.now }
-    ensures { IfOk result (λ made. AllZip (IsApart auto.now) met.now made.items) }
+    ensures { IfOk result (λ made. AllZip (StandsAlone auto.now) met.now made.items) }
 {
     let mut made = Vec::with_capacity(alloc, met.len())?;
     for found in met {
@@ -153,6 +155,8 @@ fn apart(alloc: Global, auto: &Auto, met: &[MetMatch]) -> Result<Vec<Scrutinee>,
 
 /// A state for what goes on to the next clause: what the pattern doesn't take, or all that came, as
 /// the state that it was, where the clause isn't live.
+///
+/// Fails only where memory is refused: then old states are what they were.
 pub fn left_behind(
     alloc: Global,
     pattern: &ClausePattern,

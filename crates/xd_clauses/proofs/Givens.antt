@@ -14,7 +14,7 @@ use Rattle.xd_syntax.specs.May.{Allowance}
 use Rattle.xd_laws.specs.KeptLines.{AllPaired}
 use Rattle.xd_bind.specs.declared.tracks.Binding.{Binding}
 use Rattle.xd_bind.specs.declared.tracks.Given.{Given}
-use Rattle.xd_clauses.specs.Cases.{IsApart, IsGivenNothing}
+use Rattle.xd_clauses.specs.Cases.{HasOwnAutomaton, IsGivenNothing}
 use Rattle.xd_clauses.specs.Clauses.{AreBindingsOf, AreGivensOf, IsBindingOf, IsGivenOf, IsStateOf}
 use Rattle.xd_clauses.proofs.Turning.{paired_end}
 
@@ -84,36 +84,36 @@ module _ (V W : Allowance) (same : (x : List ℕ) (d : Document) → is_proper d
 
 -- ---- states in automata of their own
 
-pub apart_more : (a : Automaton) (gs : List Given) (bs : List Binding) (i : ℕ) (g : Given) (b : Binding) → i < length gs → g ≡ get_or gs i g → IsApart a g b →
-    AllPaired (IsApart a) (take i gs) bs → AllPaired (IsApart a) (take (i + 1) gs) (bs ++ b ∷ [])
+pub apart_more : (a : Automaton) (gs : List Given) (bs : List Binding) (i : ℕ) (g : Given) (b : Binding) → i < length gs → g ≡ get_or gs i g → HasOwnAutomaton a g b →
+    AllPaired (HasOwnAutomaton a) (take i gs) bs → AllPaired (HasOwnAutomaton a) (take (i + 1) gs) (bs ++ b ∷ [])
 apart_more a gs bs i g b lt e p h =
-    subst (λ hs. AllPaired (IsApart a) hs (bs ++ b ∷ [])) (sym (take_more gs i g lt))
-    (paired_end (IsApart a) (take i gs) bs (get_or gs i g) b h (subst (λ (k : Given). IsApart a k b) e p))
+    subst (λ hs. AllPaired (HasOwnAutomaton a) hs (bs ++ b ∷ [])) (sym (take_more gs i g lt))
+    (paired_end (HasOwnAutomaton a) (take i gs) bs (get_or gs i g) b h (subst (λ (k : Given). HasOwnAutomaton a k b) e p))
 
 module _ (V : Allowance) (a : Automaton) where
   pub givens_there : (gs : List Given) → All (IsGivenOf V a) gs → AllByRecursion (λ (g : Given). IsState a g.state) gs
   givens_there [] h = tt
   givens_there (g ∷ gs) h = ((h zero g (omega arith)).belongs, givens_there gs (λ i d lt. h (suc i) d (omega arith)))
 
-  one_apart : (g : Given) (b : Binding) → IsApart a g b → IsGivenOf V a g → IsBindingOf V b
+  one_apart : (g : Given) (b : Binding) → HasOwnAutomaton a g b → IsGivenOf V a g → IsBindingOf V b
   one_apart g b p m = subst (λ x. IsStateOf V b.auto x b.state) (sym p.variable) (record {
     belongs = p.belongs;
     exact = λ e proper. (λ y. (m.exact e proper).0 (sym (p.same e) ∙ y), λ w. p.same e ∙ (m.exact e proper).1 w);
   })
 
-  words_apart : (gs : List Given) (bs : List Binding) → AllPaired (IsApart a) gs bs → map (λ (b : Binding). b.variable) bs ≡ map (λ (g : Given). g.variable) gs
+  words_apart : (gs : List Given) (bs : List Binding) → AllPaired (HasOwnAutomaton a) gs bs → map (λ (b : Binding). b.variable) bs ≡ map (λ (g : Given). g.variable) gs
   words_apart [] [] h = refl
   words_apart [] (b ∷ bs) h = absurd h
   words_apart (g ∷ gs) [] h = absurd h
   words_apart (g ∷ gs) (b ∷ bs) h =
       ap (λ w. w ∷ map (λ (c : Binding). c.variable) bs) (h.0).variable ∙ ap (λ ws. g.variable ∷ ws) (words_apart gs bs h.1)
 
-  each_apart : (gs : List Given) (bs : List Binding) → AllPaired (IsApart a) gs bs → All (IsGivenOf V a) gs → All (IsBindingOf V) bs
+  each_apart : (gs : List Given) (bs : List Binding) → AllPaired (HasOwnAutomaton a) gs bs → All (IsGivenOf V a) gs → All (IsBindingOf V) bs
   each_apart [] [] h m = λ i d lt. absurd (omega arith)
   each_apart [] (b ∷ bs) h m = absurd h
   each_apart (g ∷ gs) [] h m = absurd h
   each_apart (g ∷ gs) (b ∷ bs) h m =
       all_front (IsBindingOf V) b bs (one_apart g b h.0 (m zero g (omega arith))) (each_apart gs bs h.1 (λ j k l. m (suc j) k (omega arith)))
 
-  pub bindings_apart : (P : PlacedTree) (gs : List Given) (bs : List Binding) → AllPaired (IsApart a) gs bs → AreGivensOf V P a gs → AreBindingsOf V P bs
+  pub bindings_apart : (P : PlacedTree) (gs : List Given) (bs : List Binding) → AllPaired (HasOwnAutomaton a) gs bs → AreGivensOf V P a gs → AreBindingsOf V P bs
   bindings_apart P gs bs h m = record { variables = words_apart gs bs h ∙ m.variables; each = each_apart gs bs h m.each }

@@ -28,7 +28,7 @@ pub record IsGivenNothing (a : Automaton) (x : List ℕ) (g : Given) : Type 0 wh
   pub nothing : (d : Document) → accepts a d g.state ≡ false
 
 -- a state of an automaton of its own for the variable, which accepts the same
-pub record IsApart (a : Automaton) (g : Given) (b : Binding) : Type 0 where
+pub record HasOwnAutomaton (a : Automaton) (g : Given) (b : Binding) : Type 0 where
   pub variable : b.variable ≡ g.variable
   pub belongs : IsState b.auto b.state
   pub same : (d : Document) → accepts b.auto d b.state ≡ accepts a d g.state

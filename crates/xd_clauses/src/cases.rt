@@ -15,7 +15,7 @@ ghost use Rattle.xd_syntax.specs.Shallow.{IsShallow};
 ghost use Rattle.xd_syntax.specs.Tree.{Definitions};
 ghost use Rattle.xd_laws.specs.KeptLines.{AllPaired};
 ghost use Rattle.xd_patterns.specs.Compiler.{Serves};
-ghost use Rattle.xd_clauses.specs.Cases.{IsApart, IsGivenNothing, IsLinearPattern, placed_pattern, placed_patterns};
+ghost use Rattle.xd_clauses.specs.Cases.{HasOwnAutomaton, IsGivenNothing, IsLinearPattern, placed_pattern, placed_patterns};
 ghost use Rattle.xd_clauses.specs.Clauses.{Accepted, AreMayBindings, AreMayGivens, IsPatternOf};
 
 use crate::pattern::ClausePattern;
@@ -145,7 +145,7 @@ fn givens_of(
 /// The same states, each in an automaton of its own. Fails only where memory is refused.
 pub fn apart(alloc: Global, auto: &Auto, givens: &[Given]) -> Result<Vec<Binding>, NoMemory>
     requires { AllByRecursion (λ g. IsState auto.now g.state) givens.now }
-    ensures { IfOk result (λ bindings. AllPaired (IsApart auto.now) givens.now bindings.items) }
+    ensures { IfOk result (λ bindings. AllPaired (HasOwnAutomaton auto.now) givens.now bindings.items) }
 {
     let mut bindings = Vec::new(alloc);
     for given in givens {

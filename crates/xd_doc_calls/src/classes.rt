@@ -2,28 +2,28 @@
 
 use xd_call_lines::{Call, CallError, class, show_answer, show_class, show_words, words};
 use xd_doc::{Class, Words};
-use xd_empty::{label_of, text_of};
+use xd_empty::{some_label, some_text};
 
 /// `meet ONE TWO`, `without ONE TWO`: the class that two classes of labels come to, or `none`;
-/// `shared ONE`; `label_of ONE`, whether the class has the label that is given.
+/// `shared ONE`; `some_label ONE`, whether the class has the label that is given.
 pub fn labels(call: &Call<'_>, out: &mut Vec<u8>) -> Result<(), CallError> {
     let one = class(call.alloc, call.word(0)?)?;
     match call.name {
         "meet" => show_part(one.meet(&other(call)?)?, out),
         "without" => show_part(one.without(&other(call)?)?, out),
         "shared" => show_part(Some(one.share()?), out),
-        "label_of" => show_answer(one.has(&label_of(call.alloc, &one)?), out),
+        "some_label" => show_answer(one.has(&some_label(call.alloc, &one)?), out),
         _ => Err(CallError::Call),
     }
 }
 
-/// The same of classes of texts: `meet`, `without`, `text_of`.
+/// The same of classes of texts: `meet`, `without`, `some_text`.
 pub fn texts(call: &Call<'_>, out: &mut Vec<u8>) -> Result<(), CallError> {
     let one = words(call.alloc, call.word(0)?)?;
     match call.name {
         "meet" => show_texts(one.meet(&others(call)?)?, out),
         "without" => show_texts(one.without(&others(call)?)?, out),
-        "text_of" => show_answer(one.has(&text_of(call.alloc, &one)?), out),
+        "some_text" => show_answer(one.has(&some_text(call.alloc, &one)?), out),
         _ => Err(CallError::Call),
     }
 }

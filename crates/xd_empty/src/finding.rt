@@ -8,7 +8,7 @@ ghost use Rattle.xd_empty.specs.Inhabited.{AreInhabitants, AreWitnesses, IsFound
 ghost use Rattle.xd_empty.specs.Known.{Knows};
 ghost use Rattle.xd_empty.specs.Uses.{IsUse, lists_by_state, parts_of, user, uses_at};
 
-use crate::names::{label_of, text_of};
+use crate::names::{some_label, some_text};
 use crate::uses::{Use, Uses};
 use std::alloc::Global;
 use xd_auto::{Auto, LabelMove, State};
@@ -151,7 +151,7 @@ fn document_by(
             let Some((content, rest)) = parts(taken, found) else {
                 return Ok(None);
             };
-            let label = label_of(alloc, &taken.class)?;
+            let label = some_label(alloc, &taken.class)?;
             Ok(Some(store.elem_node(label, content, rest)?))
         }
         Use::Text(state, number) => {
@@ -160,7 +160,7 @@ fn document_by(
             let Some(rest) = found[taken.rest.number()] else {
                 return Ok(None);
             };
-            let text = text_of(alloc, &taken.words)?;
+            let text = some_text(alloc, &taken.words)?;
             Ok(Some(store.text_node(text, rest)?))
         }
     }

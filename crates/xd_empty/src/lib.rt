@@ -10,6 +10,6 @@ mod uses;
 
 pub use inhabit::{inhabitant, inhabitants};
 pub use known::Inhabitants;
-pub use names::{label_of, text_of};
+pub use names::{some_label, some_text};
 pub use part::{inhabited, inhabited_part, kept_part};
 pub use uses::{Use, Uses};

@@ -8,7 +8,9 @@ use xd_doc::{Class, Label, NoMemory, Text, Words};
 
 /// A label that the class has: the first that it names, or, of a class that excepts names, the
 /// first of `x`, `xx`, `xxx` and so on that isn't excepted.
-pub fn label_of(alloc: Global, class: &Class) -> Result<Label, NoMemory>
+///
+/// Fails only where memory is refused.
+pub fn some_label(alloc: Global, class: &Class) -> Result<Label, NoMemory>
     ensures { IfOk result (λ label. class_has class.now label ≡ true) }
 {
     let names = class.names();
@@ -35,7 +37,9 @@ fn other_label(alloc: Global, class: &Class) -> Result<Label, NoMemory>
 
 /// A text that the class has: the first that it names, or, of a class that excepts texts, the first
 /// of the empty text, `x`, `xx` and so on that isn't excepted.
-pub fn text_of(alloc: Global, words: &Words) -> Result<Text, NoMemory>
+///
+/// Fails only where memory is refused.
+pub fn some_text(alloc: Global, words: &Words) -> Result<Text, NoMemory>
     ensures { IfOk result (λ text. class_has words.now text ≡ true) }
 {
     let texts = words.texts();

@@ -24,7 +24,7 @@ use crate::table::{Choice, ChoiceNode, GoalCase, GoalId, Row, Standing};
 use std::alloc::Global;
 use xd_auto::{Auto, State};
 use xd_doc::{NoMemory, Seq, Store};
-use xd_empty::{label_of, text_of};
+use xd_empty::{some_label, some_text};
 use xd_member::Answers;
 use xd_rules::Atom;
 use xd_state_heads::{Unnamed, Want, goal_cases, head_of, is_text, share, sides_of, unnamed_of};
@@ -59,9 +59,9 @@ fn begin_with(
 {
     match atom {
         Atom::Label(label) => store.elem_node(label.share()?, inside, behind),
-        Atom::OtherLabel => store.elem_node(label_of(alloc, &unnamed.labels)?, inside, behind),
+        Atom::OtherLabel => store.elem_node(some_label(alloc, &unnamed.labels)?, inside, behind),
         Atom::Text(text) => store.text_node(text.share()?, behind),
-        Atom::OtherText => store.text_node(text_of(alloc, &unnamed.texts)?, behind),
+        Atom::OtherText => store.text_node(some_text(alloc, &unnamed.texts)?, behind),
     }
 }
 

@@ -23,6 +23,7 @@ pub(crate) fn one_more(size: u64) -> u64
 /// where it is greater.
 ///
 /// The time is linear in the nodes of the store, however many items the document has.
+/// Fails only where memory is refused.
 pub fn document_size(alloc: Global, store: &Store, seq: Seq) -> Result<u64, NoMemory>
     requires { BelongsTo store.now seq }
     ensures { IfOk result (λ number. number ≡ capped (size (document_at store.now seq))) }

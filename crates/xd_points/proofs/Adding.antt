@@ -4,13 +4,13 @@ use Rattle.std.specs.Cmp.Lexicographic.{pointwise}
 use Rattle.std.proofs.lemmas.Slice.Eq.{bytes_eq-Decides}
 use Rattle.xd_auto.specs.declared.auto.State.{State}
 use Rattle.xd_auto.specs.Automaton.{Automaton, StateMoves, no_moves, moves_at}
-use Rattle.xd_points.specs.declared.patterns.Patterns.{Patterns}
+use Rattle.xd_points.specs.declared.patterns.PatternStates.{PatternStates}
 use Rattle.xd_points.specs.Meaning.{IsPointOf, PointView, point}
 use Rattle.xd_boole.proofs.Adding.{at_end, at_front, place_cases}
 use Rattle.xd_points.specs.declared.points.Points.{Points}
 use Rattle.xd_points.specs.Points.{ArePoints, Grows, IsStateFor, found_at, no_point, point_at, point_key, state_at, point_last}
 
-module _ (a : Automaton) (b : Patterns) (old new : Points) (left pattern : State) (rights : List State) (last : Bool)
+module _ (a : Automaton) (b : PatternStates) (old new : Points) (left pattern : State) (rights : List State) (last : Bool)
     (made : new.made ≡ old.made ++ no_moves last ∷ []) (points : new.points.items ≡ old.points.items ++ point left pattern rights ∷ [])
     (count : length old.made ≡ length old.points.items) where
   sizes : (length new.points.items ≡ length old.points.items + 1) × (length new.made ≡ length old.made + 1)
@@ -91,7 +91,7 @@ same_point p q e =
 pub grows_same : (p : Points) → Grows p p
 grows_same p = record { longer = omega arith; points = λ i lt. refl; moves = λ i lt. refl; fresh = λ i le lt. absurd (omega arith) }
 
-pub found_state : (a : Automaton) (b : Patterns) (p : Points) (left pattern : State) (rights : List State) (s : State) → ArePoints a b p → found_at p.found (point_key (point left pattern rights)) ≡ Some s.number → IsStateFor p left pattern rights s
+pub found_state : (a : Automaton) (b : PatternStates) (p : Points) (left pattern : State) (rights : List State) (s : State) → ArePoints a b p → found_at p.found (point_key (point left pattern rights)) ≡ Some s.number → IsStateFor p left pattern rights s
 found_state a b p left pattern rights s whole at =
     let o = whole.only (point_key (point left pattern rights)) s.number at in
     record { within = o.0; is = same_point (point_at p.points.items s.number) (point left pattern rights) o.1 }

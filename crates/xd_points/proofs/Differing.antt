@@ -6,9 +6,9 @@ use Rattle.xd_auto.specs.declared.auto.State.{State}
 use Rattle.xd_auto.specs.declared.auto.LabelMove.{LabelMove}
 use Rattle.xd_auto.specs.declared.auto.TextMove.{TextMove}
 use Rattle.xd_auto.specs.Automaton.{Automaton, accepts}
-use Rattle.xd_points.specs.declared.patterns.Patterns.{Patterns}
+use Rattle.xd_points.specs.declared.patterns.PatternStates.{PatternStates}
 use Rattle.xd_boole.specs.declared.groups.Group.{Group}
-use Rattle.xd_boole.specs.declared.choices.Choice.{Choice}
+use Rattle.xd_boole.specs.declared.choices.SideChoice.{SideChoice}
 use Rattle.xd_doc.specs.Document.{Document}
 use Rattle.xd_boole.specs.Meaning.{TextFirst, any_accepts, has_state}
 use Rattle.xd_boole.specs.Groups.{group_refuses}
@@ -33,7 +33,7 @@ and_join true y z = refl
 and_join false y z = refl
 
 -- the move by which two parts go on as a choice says
-pub move_added : (a : Automaton) (b : Patterns) (p q r : Points) (ms after : List LabelMove) (parts : Parts) (choice : Choice) (class : LabelClass) (content rest : State)
+pub move_added : (a : Automaton) (b : PatternStates) (p q r : Points) (ms after : List LabelMove) (parts : Parts) (choice : SideChoice) (class : LabelClass) (content rest : State)
     → after ≡ ms ++ record { class = class; content = content; rest = rest } ∷ [] → AllByRecursion (LabelLeads parts.pattern p) ms → Grows p q → Grows q r → ArePoints a b r
     → IsStateFor q parts.left.content parts.pattern.content choice.contents.items content → IsStateFor r parts.left.rest parts.pattern.rest choice.rests.items rest
     → AddsLabels parts.pattern a b p r ms after (λ w. class_has class w.label && (parts_accept a b w.content w.rest parts && choice_refuses b.taken.auto w.content w.rest choice))
@@ -47,7 +47,7 @@ move_added a b p q r ms after parts choice class content rest is below one two w
     (any_accepts b.taken.auto choice.contents.items w.content) (any_accepts b.taken.auto choice.rests.items w.rest))
 
 -- the move for the texts of a group
-pub text_added : (a : Automaton) (b : Patterns) (p r : Points) (ms after : List TextMove) (rests : Rests) (rest : State) (group : Group TextClass State) (rights : List State)
+pub text_added : (a : Automaton) (b : PatternStates) (p r : Points) (ms after : List TextMove) (rests : Rests) (rest : State) (group : Group TextClass State) (rights : List State)
     → after ≡ ms ++ record { words = group.class; rest = rest } ∷ [] → AllByRecursion (TextLeads rests.pattern p) ms → Grows p r → ArePoints a b r → IsStateFor r rests.left rests.pattern rights rest
     → ((w : TextFirst) → any_accepts b.taken.auto rights w.rest ≡ any_accepts b.taken.auto group.sides.items w.rest)
     → AddsTexts rests.pattern a b p r ms after (λ w. rests_accept a b w.rest rests && group_refuses class_has (λ s. accepts b.taken.auto w.rest s) w.characters group)
@@ -67,7 +67,7 @@ met true false false p n = refl
 met false k s p n = and_false (s && p)
 
 -- nothing is left of a state that must refuse
-pub nothing_left : (a : Automaton) (b : Patterns) → ServePoints a b → (s : State) (rights : List State) (d : Document) → has_state s rights ≡ true → (accepts b.auto d s && not (any_accepts b.taken.auto rights d)) ≡ false
+pub nothing_left : (a : Automaton) (b : PatternStates) → ServePoints a b → (s : State) (rights : List State) (d : Document) → has_state s rights ≡ true → (accepts b.auto d s && not (any_accepts b.taken.auto rights d)) ≡ false
 nothing_left a b serve s rights d has = go (any_accepts b.taken.auto rights d) refl
   where
     go : (v : Bool) → any_accepts b.taken.auto rights d ≡ v → (accepts b.auto d s && not v) ≡ false

@@ -6,7 +6,7 @@ use Rattle.xd_auto.specs.declared.auto.State.{State}
 use Rattle.xd_auto.specs.declared.auto.LabelMove.{LabelMove}
 use Rattle.xd_auto.specs.declared.auto.TextMove.{TextMove}
 use Rattle.xd_auto.specs.Automaton.{Automaton, ChangesOnly, StateMoves, moves_at}
-use Rattle.xd_points.specs.declared.patterns.Patterns.{Patterns}
+use Rattle.xd_points.specs.declared.patterns.PatternStates.{PatternStates}
 use Rattle.xd_boole.specs.Meaning.{ElementFirst, TextFirst}
 use Rattle.xd_points.specs.Meaning.{PointView, is_old_point}
 use Rattle.xd_boole.proofs.Adding.{at_end, at_front, place_cases}
@@ -19,7 +19,7 @@ use Rattle.xd_points.proofs.Stepping.{label_step_more, label_step_stays, steps_s
 abbrev pub with_made : Points → Automaton → Points
 with_made p made = record { made = made; points = p.points; found = p.found }
 
-module _ (a : Automaton) (b : Patterns) where
+module _ (a : Automaton) (b : PatternStates) where
   labels_stay : (s : State) (p q : Points) → KeepsPoints p q → (ms : List LabelMove) (ns : List ℕ) → AllZip (IsLabelStep b.auto s p) ms ns → (n : ℕ) (w : ElementFirst) → any_for (label_means a b q w) n ms ns ≡ any_for (label_means a b p w) n ms ns
   labels_stay s = steps_stay (IsLabelStep b.auto s) (label_means a b) a b (label_step_stays a b s) (label_step_more b.auto s)
 
@@ -58,7 +58,7 @@ module _ (a : Automaton) (b : Patterns) where
   texts_lead s p q ms ns h stay whole =
       zip_all (IsTextStep b.auto s p) (λ m. m.rest.number < length q.made) ms ns (λ m n step. omega (arith, step.leads.leads.within, stay.longer, whole.count)) h
 
-module _ (first : Bool) (a : Automaton) (b : Patterns) (old mid new : Points) (made : Automaton) (rows : List RowView) (row : RowView) (of : PointView) (labels : List LabelMove) (texts : List TextMove)
+module _ (first : Bool) (a : Automaton) (b : PatternStates) (old mid new : Points) (made : Automaton) (rows : List RowView) (row : RowView) (of : PointView) (labels : List LabelMove) (texts : List TextMove)
     (expanded : AreExpanded first a b old rows) (within : length rows < length old.points.items)
     (of_is : point_at old.points.items (length rows) ≡ of)
     (makes : MakesLabels of.pattern a b old mid labels row.labels (label_takes first a b of)) (makes_texts : MakesTexts of.pattern a b mid new texts row.texts (text_takes_by first a b of))
@@ -150,7 +150,7 @@ module _ (first : Bool) (a : Automaton) (b : Patterns) (old mid new : Points) (m
   expanded_more = record { whole = whole; within = omega (arith, count, grows.longer); has = all_have; bare = bare_else }
 
 -- a point that means what an old state accepts gets no moves
-module _ (first : Bool) (a : Automaton) (b : Patterns) (p : Points) (rows : List RowView) (expanded : AreExpanded first a b p rows) (within : length rows < length p.points.items) (old : is_old b p (length rows) ≡ true) where
+module _ (first : Bool) (a : Automaton) (b : PatternStates) (p : Points) (rows : List RowView) (expanded : AreExpanded first a b p rows) (within : length rows < length p.points.items) (old : is_old b p (length rows) ≡ true) where
   count_bare : length (rows ++ no_row ∷ []) ≡ length rows + 1
   count_bare = length-append rows (no_row ∷ [])
 
@@ -167,7 +167,7 @@ module _ (first : Bool) (a : Automaton) (b : Patterns) (p : Points) (rows : List
   expanded_bare = record { whole = expanded.whole; within = omega (arith, count_bare); has = have_bare; bare = λ i le lt. expanded.bare i (omega (arith, count_bare)) lt }
 
 -- new points have no moves yet
-pub expanded_grown : (first : Bool) (a : Automaton) (b : Patterns) (old new : Points) (rows : List RowView) → AreExpanded first a b old rows → Grows old new → ArePoints a b new → AreExpanded first a b new rows
+pub expanded_grown : (first : Bool) (a : Automaton) (b : PatternStates) (old new : Points) (rows : List RowView) → AreExpanded first a b old rows → Grows old new → ArePoints a b new → AreExpanded first a b new rows
 expanded_grown first a b old new rows expanded grows whole = record {
   whole = whole;
   within = omega (arith, expanded.within, grows.longer);

@@ -10,10 +10,10 @@ use Rattle.xd_auto.specs.declared.auto.LabelMove.{LabelMove}
 use Rattle.xd_auto.specs.declared.auto.TextMove.{TextMove}
 use Rattle.xd_auto.specs.Automaton.{Automaton}
 use Rattle.xd_points.specs.declared.points.Points.{Points}
-use Rattle.xd_points.specs.declared.patterns.Patterns.{Patterns}
+use Rattle.xd_points.specs.declared.patterns.PatternStates.{PatternStates}
 use Rattle.xd_boole.specs.Meaning.{ElementFirst, TextFirst}
 use Rattle.xd_points.specs.Meaning.{PointView, means, point}
-use Rattle.xd_boole.specs.declared.groups.Side.{Side}
+use Rattle.xd_boole.specs.declared.groups.MoveSide.{MoveSide}
 use Rattle.xd_boole.proofs.Growing.{any_agree}
 use Rattle.xd_points.specs.Points.{AddsMoves, ArePoints, Grows, IsBare, IsStateFor, KeepsPoints, LabelLeads, LeadsTo, TextLeads, meaning, label_means, text_means}
 use Rattle.xd_boole.proofs.Lists.{all_push, all_map}
@@ -40,7 +40,7 @@ keeps_same p = record { longer = omega arith; points = λ i lt. refl }
 pub leads_more : (p q : Points) (pattern s : State) → KeepsPoints p q → LeadsTo p pattern s → LeadsTo q pattern s
 leads_more p q pattern s grows l = record { within = omega (arith, l.within, grows.longer); pattern_is = ap (λ (w : PointView). w.pattern) (grows.points s.number l.within) ∙ l.pattern_is }
 
-pub labels_more : (part : Side) (p q : Points) → KeepsPoints p q → (m : LabelMove) → LabelLeads part p m → LabelLeads part q m
+pub labels_more : (part : MoveSide) (p q : Points) → KeepsPoints p q → (m : LabelMove) → LabelLeads part p m → LabelLeads part q m
 labels_more part p q grows m l = record { content = leads_more p q part.content m.content grows l.content; rest = leads_more p q part.rest m.rest grows l.rest }
 
 pub texts_more : (rest : State) (p q : Points) → KeepsPoints p q → (m : TextMove) → TextLeads rest p m → TextLeads rest q m
@@ -50,11 +50,11 @@ texts_more rest p q grows m l = record { leads = leads_more p q rest m.rest grow
 pub leads_here : (p q : Points) (left pattern : State) (rights : List State) (s : State) → IsStateFor p left pattern rights s → KeepsPoints p q → LeadsTo q pattern s
 leads_here p q left pattern rights s is grows = leads_more p q pattern s grows (record { within = is.within; pattern_is = ap (λ (w : PointView). w.pattern) is.is })
 
-module _ (a : Automaton) (b : Patterns) where
+module _ (a : Automaton) (b : PatternStates) where
   pub meaning_stays : (old new : Points) → KeepsPoints old new → (i : ℕ) → i < length old.points.items → (d : Document) → meaning a b new i d ≡ meaning a b old i d
   meaning_stays old new grows i lt d = ap (λ p. means a b p d) (grows.points i lt)
 
-  pub label_stays : (part : Side) (old new : Points) → KeepsPoints old new → (q : ElementFirst) (m : LabelMove) → LabelLeads part old m → label_means a b new q m ≡ label_means a b old q m
+  pub label_stays : (part : MoveSide) (old new : Points) → KeepsPoints old new → (q : ElementFirst) (m : LabelMove) → LabelLeads part old m → label_means a b new q m ≡ label_means a b old q m
   label_stays part old new grows q m leads =
       ap (λ w. class_has m.class q.label && (w && meaning a b new m.rest.number q.rest)) (meaning_stays old new grows m.content.number leads.content.within q.content)
       ∙ ap (λ w. class_has m.class q.label && (meaning a b old m.content.number q.content && w)) (meaning_stays old new grows m.rest.number leads.rest.within q.rest)
@@ -67,7 +67,7 @@ module _ (a : Automaton) (b : Patterns) where
   state_means p q left pattern rights s is grows d = meaning_stays p q grows s.number is.within d ∙ ap (λ w. means a b w d) is.is
 
 -- moves on elements and moves on texts alike
-module _ {M Q : Type 0} (Leads : Points → M → Type 0) (by_move : Points → Q → M → Bool) (a : Automaton) (b : Patterns)
+module _ {M Q : Type 0} (Leads : Points → M → Type 0) (by_move : Points → Q → M → Bool) (a : Automaton) (b : PatternStates)
     (stays : (old new : Points) → KeepsPoints old new → (q : Q) (m : M) → Leads old m → by_move new q m ≡ by_move old q m)
     (more : (p q : Points) → KeepsPoints p q → (m : M) → Leads p m → Leads q m) where
   pub all_stay : (old new : Points) → KeepsPoints old new → (ms : List M) → AllByRecursion (Leads old) ms → (q : Q) → list_any (by_move new q) ms ≡ list_any (by_move old q) ms

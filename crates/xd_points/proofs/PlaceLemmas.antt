@@ -9,7 +9,7 @@ use Rattle.xd_auto.specs.declared.auto.State.{State}
 use Rattle.xd_auto.specs.Automaton.{Automaton, ChangesOnly, Extends, IsClosed, IsState, StateMoves, moves_at}
 use Rattle.xd_auto.proofs.Extending.{keeps}
 use Rattle.xd_points.specs.Meaning.{IsPointOf}
-use Rattle.xd_points.specs.declared.patterns.Patterns.{Patterns}
+use Rattle.xd_points.specs.declared.patterns.PatternStates.{PatternStates}
 use Rattle.xd_points.specs.declared.points.Points.{Points}
 use Rattle.xd_points.specs.declared.placing.Place.{Place}
 use Rattle.xd_points.specs.declared.placing.Place.TheVariants.{Old, New, Nowhere}
@@ -37,7 +37,7 @@ extends_longer a b extends = go (length a) refl
     go zero e = omega arith
     go (suc n) e = let last = extends.states (state_at n) (omega (arith, e)) in omega (arith, last)
 
-module _ (tk : Patterns) (old mid new : Automaton) (p : Points) (known : List (Option Seq)) (one : Extends old mid) (two : Extends mid new) where
+module _ (tk : PatternStates) (old mid new : Automaton) (p : Points) (known : List (Option Seq)) (one : Extends old mid) (two : Extends mid new) where
   place_stays : (i : ℕ) (w : Place) → IsPlaceOf tk old mid p known i w → IsPlaceOf tk old new p known i w
   place_stays i (Old s) is = is
   place_stays i (New s) is = (is.0, is.1, two.states s is.2)
@@ -77,7 +77,7 @@ module _ (tk : Patterns) (old mid new : Automaton) (p : Points) (known : List (O
       ];
     }
 
-pub places_none : (tk : Patterns) (a : Automaton) (p : Points) (known : List (Option Seq)) (places : List Place) → ArePlaces tk a a p known (length places) places
+pub places_none : (tk : PatternStates) (a : Automaton) (p : Points) (known : List (Option Seq)) (places : List Place) → ArePlaces tk a a p known (length places) places
 places_none tk a p known places = record { each = λ i from lt. absurd (omega arith); rises = λ i k s t from less lt at_i at_k. absurd (omega arith) }
 
 pub keeps_none : (places : List Place) → KeepsPlaces places places
@@ -91,7 +91,7 @@ keeps_more start places after w is kept = record {
 }
 
 -- the states at the places belong to the automaton
-pub places_in : (a : Automaton) (tk : Patterns) (new : Automaton) (p : Points) (known : List (Option Seq)) (base : ℕ) (places : List Place) → ((i : ℕ) → i < length places → IsPointOf a tk (point_at p.points.items i)) → Extends a new
+pub places_in : (a : Automaton) (tk : PatternStates) (new : Automaton) (p : Points) (known : List (Option Seq)) (base : ℕ) (places : List Place) → ((i : ℕ) → i < length places → IsPointOf a tk (point_at p.points.items i)) → Extends a new
     → ((i : ℕ) → i < base → IfSome (state_of (place_at places i)) (IsState new)) → ((i : ℕ) → base ≤ i → i < length places → IsPlaceOf tk a new p known i (place_at places i)) → AreIn new places
 places_in a tk new p known base places points extends first each i = elim (cases_lt i (length places)) [
   | inl lt ↦ elim (cases_lt i base) [
@@ -116,7 +116,7 @@ pub first_in : (a new : Automaton) (start places : List Place) → KeepsPlaces s
 first_in a new start places kept extends are i lt = subst (λ (w : Place). IfSome (state_of w) (IsState new)) (sym (kept.same i lt)) (there_still a new (state_of (place_at start i)) extends (are i))
 
 -- the next point has its place
-module _ (tk : Patterns) (old start a b : Automaton) (p : Points) (known : List (Option Seq)) (base : ℕ) (places : List Place) (n : ℕ) (are : ArePlaces tk old start p known base places) (first : PlacesFirst p places a base n) (from : base ≤ n) (within : n < length places) where
+module _ (tk : PatternStates) (old start a b : Automaton) (p : Points) (known : List (Option Seq)) (base : ℕ) (places : List Place) (n : ℕ) (are : ArePlaces tk old start p known base places) (first : PlacesFirst p places a base n) (from : base ≤ n) (within : n < length places) where
   still : (i : ℕ) (s : State) → IsPlaced p places a i s → moves_at b s ≡ moves_at a s → IsPlaced p places b i s
   still i s is e = record {
     last = ap (λ (m : StateMoves). m.last) e ∙ is.last;
@@ -161,7 +161,7 @@ pub record PlacesSoFar (old start now : Automaton) (p : Points) (base : ℕ) (pl
   pub count : length now ≡ length start
   pub extends : Extends old now
 
-module _ (tk : Patterns) (old start now : Automaton) (p : Points) (known : List (Option Seq)) (base : ℕ) (places : List Place) (n : ℕ) (are : ArePlaces tk old start p known base places) (so_far : PlacesSoFar old start now p base places n) where
+module _ (tk : PatternStates) (old start now : Automaton) (p : Points) (known : List (Option Seq)) (base : ℕ) (places : List Place) (n : ℕ) (are : ArePlaces tk old start p known base places) (so_far : PlacesSoFar old start now p base places n) where
   pub each_there : (i : ℕ) → base ≤ i → i < length places → IsPlaceOf tk old now p known i (place_at places i)
   each_there i from lt = go (place_at places i) (are.each i from lt)
     where

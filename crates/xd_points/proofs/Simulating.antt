@@ -17,7 +17,7 @@ use Rattle.xd_points.specs.declared.placing.Place.{Place}
 use Rattle.xd_points.specs.declared.placing.Place.TheVariants.{Old, New, Nowhere}
 use Rattle.xd_boole.specs.Meaning.{ElementFirst, TextFirst, any_accepts, element_of, move_takes, text_of, text_takes}
 use Rattle.xd_points.specs.Meaning.{PointView, ServePoints, is_old_point, means, point}
-use Rattle.xd_points.specs.declared.patterns.Patterns.{Patterns}
+use Rattle.xd_points.specs.declared.patterns.PatternStates.{PatternStates}
 use Rattle.xd_empty.specs.Parts.{is_marked}
 use Rattle.xd_points.specs.Placing.{IsPlaceOf, IsPlaced, accepts_at, passes_there, passes_to, place_at, state_of, text_passes_there, text_passes_to}
 use Rattle.xd_boole.specs.Points.{MoveBelow, TextBelow}
@@ -48,7 +48,7 @@ record Accepted (a : Automaton) (s : State) : Type 0 where
   document : Document
   accepted : accepts a document s ≡ true
 
-module _ (a : Automaton) (b : Patterns) (p : Points) (all : AllExpanded a b p) (closed : IsClosed p.made) where
+module _ (a : Automaton) (b : PatternStates) (p : Points) (all : AllExpanded a b p) (closed : IsClosed p.made) where
   labels_within : (i : ℕ) → i < length p.points.items → AllByRecursion (MoveBelow (length p.points.items)) (moves_at p.made (state_at i)).labels
   labels_within i lt = labels_below p.made (length p.points.items) i closed all.are.whole.count lt
 

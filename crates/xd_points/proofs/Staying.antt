@@ -9,7 +9,7 @@ use Rattle.xd_auto.specs.Automaton.{Automaton, Extends, IsClosed, accepts, moves
 use Rattle.xd_auto.proofs.Extending.{keeps}
 use Rattle.xd_boole.specs.Groups.{passes_at}
 use Rattle.xd_boole.specs.Meaning.{ElementFirst, TextFirst, any_accepts, element_of, move_takes, text_of, text_takes}
-use Rattle.xd_points.specs.declared.patterns.Patterns.{Patterns}
+use Rattle.xd_points.specs.declared.patterns.PatternStates.{PatternStates}
 use Rattle.xd_points.specs.declared.points.Points.{Points}
 use Rattle.xd_points.specs.Laws.{ExpandedStays, MeaningsStay, ServingStays}
 use Rattle.xd_points.specs.Points.{AreExpanded, HasMoves, IsLabelStep, IsTextStep, RowView, any_before, any_text_before, is_old, label_means, label_takes, meaning, place_before, point_at, row_at, state_at, text_means, text_takes_by}
@@ -29,7 +29,7 @@ serving_stays a n t closed extends is = record {
 pub meanings_stay : MeaningsStay
 meanings_stay a n t p d closed extends of = ap (λ w. w && (accepts t.auto d p.pattern && not (any_accepts t.taken.auto p.rights d))) (keeps a n closed extends d p.left of.left)
 
-module _ (a n : Automaton) (t : Patterns) (closed : IsClosed a) (extends : Extends a n) (p : Points) (first : Bool) (rows : List RowView) (expanded : AreExpanded first a t p rows) where
+module _ (a n : Automaton) (t : PatternStates) (closed : IsClosed a) (extends : Extends a n) (p : Points) (first : Bool) (rows : List RowView) (expanded : AreExpanded first a t p rows) where
   same_meaning : (i : ℕ) → i < length p.points.items → (d : Document) → meaning a t p i d ≡ meaning n t p i d
   same_meaning i lt d = sym (meanings_stay a n t (point_at p.points.items i) d closed extends (expanded.whole.points i lt))
 

@@ -8,7 +8,7 @@ use Rattle.xd_auto.specs.declared.auto.State.{State}
 use Rattle.xd_auto.specs.declared.auto.LabelMove.{LabelMove}
 use Rattle.xd_auto.specs.declared.auto.TextMove.{TextMove}
 use Rattle.xd_auto.specs.Automaton.{Automaton, moves_at}
-use Rattle.xd_points.specs.declared.patterns.Patterns.{Patterns}
+use Rattle.xd_points.specs.declared.patterns.PatternStates.{PatternStates}
 use Rattle.xd_boole.specs.Groups.{label_side, passes_at}
 use Rattle.xd_boole.specs.Meaning.{ElementFirst, TextFirst}
 use Rattle.xd_boole.proofs.Bools.{and_false, and_left, and_over_right, and_right, or_join, or_nothing, or_true}
@@ -66,15 +66,15 @@ label_step_more a s p q stay m n h = record { origin = h.origin; there = h.there
 pub text_step_more : (a : Automaton) (s : State) (p q : Points) → KeepsPoints p q → (m : TextMove) (n : ℕ) → IsTextStep a s p m n → IsTextStep a s q m n
 text_step_more a s p q stay m n h = record { origin = h.origin; there = h.there; leads = texts_more h.origin.rest p q stay m h.leads }
 
-pub label_step_stays : (a : Automaton) (b : Patterns) (s : State) (p q : Points) → KeepsPoints p q → (w : ElementFirst) (m : LabelMove) (n : ℕ) → IsLabelStep b.auto s p m n → label_means a b q w m ≡ label_means a b p w m
+pub label_step_stays : (a : Automaton) (b : PatternStates) (s : State) (p q : Points) → KeepsPoints p q → (w : ElementFirst) (m : LabelMove) (n : ℕ) → IsLabelStep b.auto s p m n → label_means a b q w m ≡ label_means a b p w m
 label_step_stays a b s p q stay w m n h = label_stays a b (label_side h.origin) p q stay w m h.leads
 
-pub text_step_stays : (a : Automaton) (b : Patterns) (s : State) (p q : Points) → KeepsPoints p q → (w : TextFirst) (m : TextMove) (n : ℕ) → IsTextStep b.auto s p m n → text_means a b q w m ≡ text_means a b p w m
+pub text_step_stays : (a : Automaton) (b : PatternStates) (s : State) (p q : Points) → KeepsPoints p q → (w : TextFirst) (m : TextMove) (n : ℕ) → IsTextStep b.auto s p m n → text_means a b q w m ≡ text_means a b p w m
 text_step_stays a b s p q stay w m n h = text_stays a b h.origin.rest p q stay w m h.leads
 
 -- ---- moves on elements and moves on texts alike
 
-module _ {M Q : Type 0} (IsStep : Points → M → ℕ → Type 0) (by_move : Points → Q → M → Bool) (a : Automaton) (b : Patterns)
+module _ {M Q : Type 0} (IsStep : Points → M → ℕ → Type 0) (by_move : Points → Q → M → Bool) (a : Automaton) (b : PatternStates)
     (stays : (p q : Points) → KeepsPoints p q → (w : Q) (m : M) (n : ℕ) → IsStep p m n → by_move q w m ≡ by_move p w m)
     (more : (p q : Points) → KeepsPoints p q → (m : M) (n : ℕ) → IsStep p m n → IsStep q m n) where
   pub steps_stay : (p q : Points) → KeepsPoints p q → (ms : List M) (ns : List ℕ) → AllZip (IsStep p) ms ns → (n : ℕ) (w : Q) → any_for (by_move q w) n ms ns ≡ any_for (by_move p w) n ms ns
@@ -102,7 +102,7 @@ module _ {M Q : Type 0} (IsStep : Points → M → ℕ → Type 0) (by_move : Po
 
 -- ---- the moves for one move
 
-module _ (a : Automaton) (b : Patterns) (s : State) (old new : Points) (n : ℕ) where
+module _ (a : Automaton) (b : PatternStates) (s : State) (old new : Points) (n : ℕ) where
   pub labels_for : (m : LabelMove) (after : List LabelMove) (takes : ElementFirst → Bool) → slice_get (moves_at b.auto s).labels n ≡ Some m
       → AddsLabels (label_side m) a b old new [] after takes → MakesLabels s a b old new after (map (λ (w : LabelMove). n) after) (λ k q. nat_eq n k && takes q)
   labels_for m after takes there adds = record {

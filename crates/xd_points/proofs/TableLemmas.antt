@@ -7,7 +7,7 @@ use Rattle.xd_auto.specs.declared.auto.State.{State}
 use Rattle.xd_auto.specs.Automaton.{Automaton, Extends, IsClosed, IsState, accepts}
 use Rattle.xd_auto.proofs.Extending.{keeps}
 use Rattle.xd_boole.specs.Meaning.{any_accepts}
-use Rattle.xd_points.specs.declared.patterns.Patterns.{Patterns}
+use Rattle.xd_points.specs.declared.patterns.PatternStates.{PatternStates}
 use Rattle.xd_points.specs.declared.points.Points.{Points}
 use Rattle.xd_points.specs.Meaning.{ServePoints, means, point}
 use Rattle.xd_points.specs.Placing.{AreIn, accepts_at, place_at, state_of}
@@ -21,7 +21,7 @@ pub documents_stay : (ds : List Document) → Keeps ds ds
 documents_stay ds = record { belongs = λ seq h. h; same = λ seq h. refl }
 
 -- the automaton of points extends the old one
-pub made_extends : (a : Automaton) (b : Patterns) (old mid new : Points) → length old.made ≡ length old.points.items → ArePoints a b new → Grows old mid → length mid.points.items ≤ length new.points.items
+pub made_extends : (a : Automaton) (b : PatternStates) (old mid new : Points) → length old.made ≡ length old.points.items → ArePoints a b new → Grows old mid → length mid.points.items ≤ length new.points.items
     → KeepMoves (length old.points.items) mid new → Extends old.made new.made
 made_extends a b old mid new count whole grows longer moves = record {
   states = λ s here. omega (arith, here, count, whole.count, grows.longer, longer);
@@ -29,14 +29,14 @@ made_extends a b old mid new count whole grows longer moves = record {
 }
 
 -- like states that are made one refuse what the states do
-pub rights_same : (a : Automaton) (b : Patterns) → ServePoints a b → (rights : List State) (d : Document) → any_accepts b.taken.auto rights d ≡ any_accepts b.auto rights d
+pub rights_same : (a : Automaton) (b : PatternStates) → ServePoints a b → (rights : List State) (d : Document) → any_accepts b.taken.auto rights d ≡ any_accepts b.auto rights d
 rights_same a b serve [] d = refl
 rights_same a b serve (s ∷ ss) d = ap (λ w. w || any_accepts b.taken.auto ss d) (serve.same d s) ∙ ap (λ w. accepts b.auto d s || w) (rights_same a b serve ss d)
 
-pub means_alone : (a : Automaton) (b : Patterns) → ServePoints a b → (left pattern : State) (rights : List State) (d : Document) → means a b (point left pattern rights) d ≡ takes_alone a b left pattern rights d
+pub means_alone : (a : Automaton) (b : PatternStates) → ServePoints a b → (left pattern : State) (rights : List State) (d : Document) → means a b (point left pattern rights) d ≡ takes_alone a b left pattern rights d
 means_alone a b serve left pattern rights d = ap (λ w. accepts a d left && (accepts b.auto d pattern && not w)) (rights_same a b serve rights d)
 
-pub rights_belong : (a : Automaton) (b : Patterns) → ServePoints a b → (rights : List State) → AllByRecursion (IsState b.auto) rights → AllByRecursion (IsState b.taken.auto) rights
+pub rights_belong : (a : Automaton) (b : PatternStates) → ServePoints a b → (rights : List State) → AllByRecursion (IsState b.auto) rights → AllByRecursion (IsState b.taken.auto) rights
 rights_belong a b serve [] all = tt
 rights_belong a b serve (s ∷ ss) all = (omega (arith, all.0, serve.count), rights_belong a b serve ss all.1)
 
@@ -58,7 +58,7 @@ tables_stay old new b t closed extends is = record {
 
 -- ---- no points
 
-pub no_rows : (a : Automaton) (b : Patterns) (p : Points) (rows : List RowView) → ArePoints a b p → p.points.items ≡ [] → rows ≡ [] → AreExpanded false a b p rows
+pub no_rows : (a : Automaton) (b : PatternStates) (p : Points) (rows : List RowView) → ArePoints a b p → p.points.items ≡ [] → rows ≡ [] → AreExpanded false a b p rows
 no_rows a b p rows whole none is =
     let points = ap length none in
     let count = ap length is in
@@ -69,7 +69,7 @@ no_states a i = tt
 
 -- ---- a call
 
-module _ (a : Automaton) (b : Patterns) (serve : ServePoints a b) (old mid new : Points) (left pattern : State) (rights : List State) (start : State)
+module _ (a : Automaton) (b : PatternStates) (serve : ServePoints a b) (old mid new : Points) (left pattern : State) (rights : List State) (start : State)
     (grows : Grows old mid) (is : IsStateFor mid left pattern rights start) (stay : KeepsPoints mid new) where
   all_stay : KeepsPoints old new
   all_stay = record {
@@ -92,7 +92,7 @@ module _ (a : Automaton) (b : Patterns) (serve : ServePoints a b) (old mid new :
   start_means d = meaning_stays a b mid new stay start.number is.within d ∙ ap (λ w. means a b w d) is.is ∙ means_alone a b serve left pattern rights d
 
 -- the points in an automaton that extends the one of their lefts
-module _ (a n : Automaton) (b : Patterns) (closed : IsClosed a) (extends : Extends a n) (new : Points) (rows : List RowView) (expanded : AreExpanded false a b new rows) where
+module _ (a n : Automaton) (b : PatternStates) (closed : IsClosed a) (extends : Extends a n) (new : Points) (rows : List RowView) (expanded : AreExpanded false a b new rows) where
   pub expanded_after : AreExpanded false n b new rows
   expanded_after = expanded_stays a n b new false rows closed extends expanded
 

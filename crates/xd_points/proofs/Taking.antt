@@ -5,7 +5,7 @@ use Rattle.xd_auto.specs.declared.auto.State.{State}
 use Rattle.xd_auto.specs.Automaton.{Automaton, moves_at}
 use Rattle.xd_auto.specs.Matching.{AreMatching}
 use Rattle.xd_points.specs.Meaning.{ServePoints}
-use Rattle.xd_points.specs.declared.patterns.Patterns.{Patterns}
+use Rattle.xd_points.specs.declared.patterns.PatternStates.{PatternStates}
 use Rattle.xd_boole.specs.Groups.{passes_at}
 use Rattle.xd_boole.specs.Meaning.{ElementFirst, TextFirst, move_takes, text_takes}
 use Rattle.xd_boole.proofs.MatchLemmas.{matching_tells}
@@ -21,7 +21,7 @@ any_take f g (x ∷ xs) (y ∷ ys) (suc n) e =
     let others : map f xs ≡ map g ys = cc in
     ap (λ w. w || list_any f (take n xs)) first ∙ ap (λ w. g y || w) (any_take f g xs ys n others)
 
-module _ (a : Automaton) (b : Patterns) (is : ServePoints a b) (s : State) (n : ℕ) where
+module _ (a : Automaton) (b : PatternStates) (is : ServePoints a b) (s : State) (n : ℕ) where
   pub before_same : (q : ElementFirst) → list_any (move_takes b.taken.auto q) (take n (moves_at b.taken.auto s).labels) ≡ any_before b.auto s n q
   before_same q = any_take (move_takes b.taken.auto q) (move_takes b.auto q) (moves_at b.taken.auto s).labels (moves_at b.auto s).labels n (is.moves.labels q s)
 

@@ -11,7 +11,7 @@ use Rattle.xd_auto.specs.declared.auto.TextMove.{TextMove}
 use Rattle.xd_auto.specs.Automaton.{Automaton, accepts, moves_at}
 use Rattle.xd_auto.specs.Runs.{Run, ends, takes_text, takes_element, IsAcceptingRun}
 use Rattle.xd_auto.proofs.RunLaw.{runs_law}
-use Rattle.xd_points.specs.declared.patterns.Patterns.{Patterns}
+use Rattle.xd_points.specs.declared.patterns.PatternStates.{PatternStates}
 use Rattle.xd_boole.specs.Groups.{passes_at}
 use Rattle.xd_boole.specs.Meaning.{ElementFirst, TextFirst, any_accepts, element_of, move_takes, text_of, text_takes}
 use Rattle.xd_boole.proofs.Bools.{and_both, and_left, and_right, or_true}
@@ -74,7 +74,7 @@ origin (Some x) P h = record { item = x; is = refl; holds = h }
 some_same : {X : Type 0} (o : Option X) (x y : X) → o ≡ Some x → o ≡ Some y → x ≡ y
 some_same o x y e f = cc
 
-module _ (a : Automaton) (t : Patterns) (p : Points) (rows : List RowView) (expanded : AreExpanded false a t p rows) (every : length rows ≡ length p.points.items) where
+module _ (a : Automaton) (t : PatternStates) (p : Points) (rows : List RowView) (expanded : AreExpanded false a t p rows) (every : length rows ≡ length p.points.items) where
   has : (i : ℕ) → i < length p.points.items → is_old t p i ≡ false → HasMoves false a t p i (row_at rows i)
   has i lt yet = expanded.has i (omega (arith, every)) yet
 

@@ -6,16 +6,16 @@ use Rattle.xd_auto.specs.declared.auto.LabelMove.{LabelMove}
 use Rattle.xd_auto.specs.declared.auto.TextMove.{TextMove}
 use Rattle.xd_auto.specs.Automaton.{Automaton, moves_at}
 use Rattle.xd_auto.specs.Runs.{Run, ends, takes_text, takes_element, IsAcceptingRun}
-use Rattle.xd_points.specs.declared.patterns.Patterns.{Patterns}
+use Rattle.xd_points.specs.declared.patterns.PatternStates.{PatternStates}
 use Rattle.xd_points.specs.declared.points.Points.{Points}
 use Rattle.xd_points.specs.Points.{AreExpanded, RowView, is_old, meaning, point_at, row_at, state_at}
 
 -- the point means the document, and the run leads its pattern's state over it
-abbrev pub IsRunAt : Automaton → Patterns → Points → ℕ → Document → Run → Type 0
+abbrev pub IsRunAt : Automaton → PatternStates → Points → ℕ → Document → Run → Type 0
 IsRunAt a t p i d run = (meaning a t p i d ≡ true) × IsAcceptingRun t.auto d (point_at p.points.items i).pattern run
 
 -- at each item the point's state has a move on its name that stands for the run's, up to points that mean what old states accept
-abbrev pub Follows : Automaton → Patterns → Points → List RowView → Document → ℕ → Run → Type 0
+abbrev pub Follows : Automaton → PatternStates → Points → List RowView → Document → ℕ → Run → Type 0
 Follows a t p rows empty i run = IsRunAt a t p i empty run
 Follows a t p rows (text c d) i ends = ⊥
 Follows a t p rows (text c d) i (takes_text n r) =
@@ -32,5 +32,5 @@ Follows a t p rows (element l c d) i (takes_element n h r) =
 
 -- these are just the runs of the pattern on documents that the point means
 abbrev pub FollowsAllRuns : Type 0
-FollowsAllRuns = (a : Automaton) (t : Patterns) (p : Points) (rows : List RowView) → AreExpanded false a t p rows → length rows ≡ length p.points.items
+FollowsAllRuns = (a : Automaton) (t : PatternStates) (p : Points) (rows : List RowView) → AreExpanded false a t p rows → length rows ≡ length p.points.items
     → (d : Document) (i : ℕ) (run : Run) → i < length p.points.items → Follows a t p rows d i run ↔ IsRunAt a t p i d run

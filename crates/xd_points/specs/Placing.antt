@@ -9,7 +9,7 @@ use Rattle.xd_auto.specs.declared.auto.TextMove.{TextMove}
 use Rattle.xd_auto.specs.Automaton.{Automaton, IsState, accepts, moves_at, no_moves}
 use Rattle.xd_doc.specs.declared.store.Seq.{Seq}
 use Rattle.xd_empty.specs.Inhabited.{IsUnknown}
-use Rattle.xd_points.specs.declared.patterns.Patterns.{Patterns}
+use Rattle.xd_points.specs.declared.patterns.PatternStates.{PatternStates}
 use Rattle.xd_points.specs.declared.points.Points.{Points}
 use Rattle.xd_points.specs.declared.placing.Place.{Place}
 use Rattle.xd_points.specs.declared.placing.Place.TheVariants.{Old, New, Nowhere}
@@ -26,7 +26,7 @@ abbrev pub place_at : List Place → ℕ → Place
 place_at places i = slice_index_or places i Nowhere
 
 -- the left where the point means what it accepts, a state that came since, or nowhere, where no document of the point's state is known
-abbrev pub IsPlaceOf : Patterns → Automaton → Automaton → Points → List (Option Seq) → ℕ → Place → Type 0
+abbrev pub IsPlaceOf : PatternStates → Automaton → Automaton → Points → List (Option Seq) → ℕ → Place → Type 0
 IsPlaceOf b old new p known i (Old s) = (is_old b p i ≡ true) × (s ≡ (point_at p.points.items i).left)
 IsPlaceOf b old new p known i (New s) = (is_old b p i ≡ false) × (length old ≤ s.number) × IsState new s
 IsPlaceOf b old new p known i Nowhere = IsUnknown known (state_at i)
@@ -38,7 +38,7 @@ IsBareAt new p i (New s) = moves_at new s ≡ no_moves (moves_at p.made (state_a
 IsBareAt new p i Nowhere = Unit {0}
 
 -- the places of points from a number on; the new states stand in the order of their numbers
-pub record ArePlaces (b : Patterns) (old new : Automaton) (p : Points) (known : List (Option Seq)) (base : ℕ) (places : List Place) : Type 0 where
+pub record ArePlaces (b : PatternStates) (old new : Automaton) (p : Points) (known : List (Option Seq)) (base : ℕ) (places : List Place) : Type 0 where
   pub each : (i : ℕ) → base ≤ i → i < length places → IsPlaceOf b old new p known i (place_at places i)
   pub rises : (i k : ℕ) (s t : State) → base ≤ i → i < k → k < length places → place_at places i ≡ New s → place_at places k ≡ New t → s.number < t.number
 

@@ -10,8 +10,8 @@ use Rattle.xd_auto.specs.declared.auto.State.{State}
 use Rattle.xd_auto.specs.declared.auto.LabelMove.{LabelMove}
 use Rattle.xd_auto.specs.declared.auto.TextMove.{TextMove}
 use Rattle.xd_auto.specs.Automaton.{Automaton, IsState, StateMoves, accepts, moves_at}
-use Rattle.xd_boole.specs.declared.groups.Side.{Side}
-use Rattle.xd_points.specs.declared.patterns.Patterns.{Patterns}
+use Rattle.xd_boole.specs.declared.groups.MoveSide.{MoveSide}
+use Rattle.xd_points.specs.declared.patterns.PatternStates.{PatternStates}
 use Rattle.xd_boole.specs.Meaning.{ElementFirst, TextFirst, any_accepts, element_of, text_of, move_takes, text_takes}
 use Rattle.xd_points.specs.Meaning.{IsPointOf, PointView, point, is_old_point, means}
 use Rattle.xd_boole.specs.Groups.{is_side, label_side, passes_at, side_accepts}
@@ -36,19 +36,19 @@ abbrev pub found_at : BTreeMap (List ℕ) ℕ → List ℕ → Option ℕ
 found_at found key = get (slice_cmp nat_cmp) found key
 
 -- the documents that the state of this number is to accept
-abbrev pub meaning : Automaton → Patterns → Points → ℕ → Document → Bool
+abbrev pub meaning : Automaton → PatternStates → Points → ℕ → Document → Bool
 meaning a b p i d = means a b (point_at p.points.items i) d
 
 -- whether the point has this number that means what an old state accepts
-abbrev pub is_old : Patterns → Points → ℕ → Bool
+abbrev pub is_old : PatternStates → Points → ℕ → Bool
 is_old b p i = is_old_point b (point_at p.points.items i)
 
 -- a point that means what an old state accepts is taken to accept the empty document
-abbrev pub point_last : Automaton → Patterns → PointView → Bool
+abbrev pub point_last : Automaton → PatternStates → PointView → Bool
 point_last a b p = is_old_point b p || means a b p empty
 
 -- one state for each point, which accepts the empty document where the point says so; and numbers that lead to their points
-pub record ArePoints (a : Automaton) (b : Patterns) (p : Points) : Type 0 where
+pub record ArePoints (a : Automaton) (b : PatternStates) (p : Points) : Type 0 where
   pub count : length p.made ≡ length p.points.items
   pub points : (i : ℕ) → i < length p.points.items → IsPointOf a b (point_at p.points.items i)
   pub last : (i : ℕ) → i < length p.points.items → (moves_at p.made (state_at i)).last ≡ point_last a b (point_at p.points.items i)
@@ -77,7 +77,7 @@ pub record LeadsTo (p : Points) (pattern : State) (s : State) : Type 0 where
   pub pattern_is : (point_at p.points.items s.number).pattern ≡ pattern
 
 -- where new moves lead
-pub record LabelLeads (part : Side) (p : Points) (m : LabelMove) : Type 0 where
+pub record LabelLeads (part : MoveSide) (p : Points) (m : LabelMove) : Type 0 where
   pub content : LeadsTo p part.content m.content
   pub rest : LeadsTo p part.rest m.rest
 
@@ -85,38 +85,38 @@ pub record TextLeads (rest : State) (p : Points) (m : TextMove) : Type 0 where
   pub leads : LeadsTo p rest m.rest
 
 -- where two moves lead, one of a left and one of a pattern's state: states of the automaton, and of the patterns
-pub record ArePartsOf (a : Automaton) (b : Patterns) (parts : Parts) : Type 0 where
+pub record ArePartsOf (a : Automaton) (b : PatternStates) (parts : Parts) : Type 0 where
   pub left : is_side a parts.left ≡ true
   pub pattern : is_side b.auto parts.pattern ≡ true
 
-pub record AreRestsOf (a : Automaton) (b : Patterns) (rests : Rests) : Type 0 where
+pub record AreRestsOf (a : Automaton) (b : PatternStates) (rests : Rests) : Type 0 where
   pub left : IsState a rests.left
   pub pattern : IsState b.auto rests.pattern
 
-abbrev pub parts_accept : Automaton → Patterns → Document → Document → Parts → Bool
+abbrev pub parts_accept : Automaton → PatternStates → Document → Document → Parts → Bool
 parts_accept a b c d parts = side_accepts a c d parts.left && side_accepts b.auto c d parts.pattern
 
-abbrev pub rests_accept : Automaton → Patterns → Document → Rests → Bool
+abbrev pub rests_accept : Automaton → PatternStates → Document → Rests → Bool
 rests_accept a b d rests = accepts a d rests.left && accepts b.auto d rests.pattern
 
 -- what a new move is to take
-abbrev pub label_means : Automaton → Patterns → Points → ElementFirst → LabelMove → Bool
+abbrev pub label_means : Automaton → PatternStates → Points → ElementFirst → LabelMove → Bool
 label_means a b p q m = class_has m.class q.label && (meaning a b p m.content.number q.content && meaning a b p m.rest.number q.rest)
 
-abbrev pub text_means : Automaton → Patterns → Points → TextFirst → TextMove → Bool
+abbrev pub text_means : Automaton → PatternStates → Points → TextFirst → TextMove → Bool
 text_means a b p q m = class_has m.words q.characters && meaning a b p m.rest.number q.rest
 
 -- points were added, and moves between their states, which take what `takes` says
-pub record AddsMoves {M Q : Type 0} (Leads : Points → M → Type 0) (by_move : Points → Q → M → Bool) (a : Automaton) (b : Patterns) (old new : Points) (before after : List M) (takes : Q → Bool) : Type 0 where
+pub record AddsMoves {M Q : Type 0} (Leads : Points → M → Type 0) (by_move : Points → Q → M → Bool) (a : Automaton) (b : PatternStates) (old new : Points) (before after : List M) (takes : Q → Bool) : Type 0 where
   pub whole : ArePoints a b new
   pub grows : Grows old new
   pub leads : AllByRecursion (Leads new) after
   pub taken : (q : Q) → list_any (by_move new q) after ≡ (list_any (by_move old q) before || takes q)
 
-abbrev pub AddsLabels : Side → Automaton → Patterns → Points → Points → List LabelMove → List LabelMove → (ElementFirst → Bool) → Type 0
+abbrev pub AddsLabels : MoveSide → Automaton → PatternStates → Points → Points → List LabelMove → List LabelMove → (ElementFirst → Bool) → Type 0
 AddsLabels part a b = AddsMoves (LabelLeads part) (label_means a b) a b
 
-abbrev pub AddsTexts : State → Automaton → Patterns → Points → Points → List TextMove → List TextMove → (TextFirst → Bool) → Type 0
+abbrev pub AddsTexts : State → Automaton → PatternStates → Points → Points → List TextMove → List TextMove → (TextFirst → Bool) → Type 0
 AddsTexts rest a b = AddsMoves (TextLeads rest) (text_means a b) a b
 
 -- some move of the state before the one of this number takes the element, or the text
@@ -148,25 +148,25 @@ abbrev pub place_before : Bool → ℕ → ℕ
 place_before first n = cond first n 0
 
 -- what is to be taken by the move of this number of the pattern's state
-abbrev pub label_takes : Bool → Automaton → Patterns → PointView → ℕ → ElementFirst → Bool
+abbrev pub label_takes : Bool → Automaton → PatternStates → PointView → ℕ → ElementFirst → Bool
 label_takes first a b p n q = accepts a (element_of q) p.left
     && (passes_at (move_takes b.auto q) (moves_at b.auto p.pattern).labels n && not (any_accepts b.taken.auto p.rights (element_of q) || any_before b.auto p.pattern (place_before first n) q))
 
-abbrev pub text_takes_by : Bool → Automaton → Patterns → PointView → ℕ → TextFirst → Bool
+abbrev pub text_takes_by : Bool → Automaton → PatternStates → PointView → ℕ → TextFirst → Bool
 text_takes_by first a b p n q = accepts a (text_of q) p.left
     && (passes_at (text_takes b.auto q) (moves_at b.auto p.pattern).texts n && not (any_accepts b.taken.auto p.rights (text_of q) || any_text_before b.auto p.pattern (place_before first n) q))
 
 -- points were found, and the moves of a state made, with the numbers of the moves that they stand for; of each number they take what `takes` says
-pub record MakesMoves {M Q : Type 0} (IsStep : Points → M → ℕ → Type 0) (by_move : Points → Q → M → Bool) (a : Automaton) (b : Patterns) (old new : Points) (moves : List M) (numbers : List ℕ) (takes : ℕ → Q → Bool) : Type 0 where
+pub record MakesMoves {M Q : Type 0} (IsStep : Points → M → ℕ → Type 0) (by_move : Points → Q → M → Bool) (a : Automaton) (b : PatternStates) (old new : Points) (moves : List M) (numbers : List ℕ) (takes : ℕ → Q → Bool) : Type 0 where
   pub whole : ArePoints a b new
   pub grows : Grows old new
   pub steps : AllZip (IsStep new) moves numbers
   pub taken : (n : ℕ) (q : Q) → any_for (by_move new q) n moves numbers ≡ takes n q
 
-abbrev pub MakesLabels : State → Automaton → Patterns → Points → Points → List LabelMove → List ℕ → (ℕ → ElementFirst → Bool) → Type 0
+abbrev pub MakesLabels : State → Automaton → PatternStates → Points → Points → List LabelMove → List ℕ → (ℕ → ElementFirst → Bool) → Type 0
 MakesLabels s a b = MakesMoves (IsLabelStep b.auto s) (label_means a b) a b
 
-abbrev pub MakesTexts : State → Automaton → Patterns → Points → Points → List TextMove → List ℕ → (ℕ → TextFirst → Bool) → Type 0
+abbrev pub MakesTexts : State → Automaton → PatternStates → Points → Points → List TextMove → List ℕ → (ℕ → TextFirst → Bool) → Type 0
 MakesTexts s a b = MakesMoves (IsTextStep b.auto s) (text_means a b) a b
 
 -- the numbers of the moves that a state's moves stand for
@@ -181,21 +181,21 @@ abbrev pub row_at : List RowView → ℕ → RowView
 row_at rows i = slice_index_or rows i no_row
 
 -- the state of this number has its moves: for each move of the pattern's state those that take, with it, what the point means
-pub record HasMoves (first : Bool) (a : Automaton) (b : Patterns) (p : Points) (i : ℕ) (row : RowView) : Type 0 where
+pub record HasMoves (first : Bool) (a : Automaton) (b : PatternStates) (p : Points) (i : ℕ) (row : RowView) : Type 0 where
   pub labels : (n : ℕ) (q : ElementFirst) → any_for (label_means a b p q) n (moves_at p.made (state_at i)).labels row.labels ≡ label_takes first a b (point_at p.points.items i) n q
   pub texts : (n : ℕ) (q : TextFirst) → any_for (text_means a b p q) n (moves_at p.made (state_at i)).texts row.texts ≡ text_takes_by first a b (point_at p.points.items i) n q
   pub label_steps : AllZip (IsLabelStep b.auto (point_at p.points.items i).pattern p) (moves_at p.made (state_at i)).labels row.labels
   pub text_steps : AllZip (IsTextStep b.auto (point_at p.points.items i).pattern p) (moves_at p.made (state_at i)).texts row.texts
 
 -- the states that there are rows for have their moves, but for those that are old ones, and the others have none
-pub record AreExpanded (first : Bool) (a : Automaton) (b : Patterns) (p : Points) (rows : List RowView) : Type 0 where
+pub record AreExpanded (first : Bool) (a : Automaton) (b : PatternStates) (p : Points) (rows : List RowView) : Type 0 where
   pub whole : ArePoints a b p
   pub within : length rows ≤ length p.points.items
   pub has : (i : ℕ) → i < length rows → is_old b p i ≡ false → HasMoves first a b p i (row_at rows i)
   pub bare : (i : ℕ) → length rows ≤ i → i < length p.points.items → IsBare (moves_at p.made (state_at i))
 
 -- all states have their moves
-pub record AllExpanded (a : Automaton) (b : Patterns) (p : Points) : Type 0 where
+pub record AllExpanded (a : Automaton) (b : PatternStates) (p : Points) : Type 0 where
   pub first : Bool
   pub rows : List RowView
   pub are : AreExpanded first a b p rows

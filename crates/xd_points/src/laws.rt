@@ -4,7 +4,7 @@ ghost use Rattle.xd_points.specs.Following.{FollowsAllRuns};
 ghost use Rattle.xd_points.specs.Laws.{ExpandedStays, MeaningsStay, ServingStays};
 ghost use Rattle.xd_points.specs.Tables.{TablesStay};
 
-/// Patterns go on to serve points while the automaton of the lefts extends.
+/// PatternStates go on to serve points while the automaton of the lefts extends.
 pub fn serving_stays()
     ensures { ServingStays }
 {}

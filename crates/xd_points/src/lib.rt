@@ -9,5 +9,5 @@ mod points;
 mod steps;
 mod table;
 
-pub use patterns::Patterns;
-pub use table::Table;
+pub use patterns::PatternStates;
+pub use table::PointTable;

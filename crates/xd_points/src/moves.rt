@@ -13,12 +13,12 @@ ghost use Rattle.xd_boole.specs.Points.{MoveBelow, TextBelow};
 ghost use Rattle.xd_points.specs.Meaning.{IsPointOf, ServePoints};
 ghost use Rattle.xd_points.specs.Points.{AddsLabels, AddsTexts, ArePoints, ArePartsOf, AreRestsOf, LabelLeads, TextLeads, any_before, any_text_before, parts_accept, rests_accept};
 
-use crate::patterns::Patterns;
+use crate::patterns::PatternStates;
 use crate::points::{Point, Points, find_or_add, is_refused};
 use std::alloc::Global;
 use xd_auto::{Auto, LabelMove, Move, State, TextMove};
 use xd_boole::{
-    Choice, Group, Side, any_marked, choices_of, label_groups_before, set_of, side_of,
+    Group, MoveSide, SideChoice, any_marked, choices_of, label_groups_before, set_of, side_of,
     text_groups_before,
 };
 use xd_doc::{Class, NoMemory, Words};
@@ -26,8 +26,8 @@ use xd_doc::{Class, NoMemory, Words};
 /// Where a move of a left and one of a pattern's state lead on an element.
 #[derive(Clone, Copy)]
 pub(crate) struct Parts {
-    pub(crate) left: Side,
-    pub(crate) pattern: Side,
+    pub(crate) left: MoveSide,
+    pub(crate) pattern: MoveSide,
 }
 
 /// Where they lead on a text.
@@ -38,7 +38,7 @@ pub(crate) struct Rests {
 }
 
 /// Whether a part of the pattern is one of those that must refuse.
-fn leads_nowhere(pattern: Side, choice: &Choice) -> bool
+fn leads_nowhere(pattern: MoveSide, choice: &SideChoice) -> bool
     ensures { result ≡ (has_state pattern.content choice.now.contents.items || has_state pattern.rest choice.now.rests.items) }
 {
     is_refused(pattern.content, &choice.contents) || is_refused(pattern.rest, &choice.rests)
@@ -48,12 +48,12 @@ fn leads_nowhere(pattern: Side, choice: &Choice) -> bool
 fn add_move(
     alloc: Global,
     auto: &Auto,
-    patterns: &Patterns,
+    patterns: &PatternStates,
     points: &mut Points,
     labels: &mut Vec<LabelMove>,
     parts: Parts,
     class: &Class,
-    choice: &Choice,
+    choice: &SideChoice,
 ) -> Result<(), NoMemory>
     requires patterns { ServePoints auto.now patterns.now }
     requires whole { ArePoints auto.now patterns.now points.old }
@@ -95,11 +95,11 @@ fn add_move(
 fn add_group(
     alloc: Global,
     auto: &Auto,
-    patterns: &Patterns,
+    patterns: &PatternStates,
     points: &mut Points,
     labels: &mut Vec<LabelMove>,
     parts: Parts,
-    group: &Group<Class, Side>,
+    group: &Group<Class, MoveSide>,
 ) -> Result<(), NoMemory>
     requires patterns { ServePoints auto.now patterns.now }
     requires whole { ArePoints auto.now patterns.now points.old }
@@ -129,7 +129,7 @@ fn add_group(
 fn add_meet(
     alloc: Global,
     auto: &Auto,
-    patterns: &Patterns,
+    patterns: &PatternStates,
     points: &mut Points,
     labels: &mut Vec<LabelMove>,
     of: &Point,
@@ -175,7 +175,7 @@ fn add_meet(
 pub(crate) fn label_steps(
     alloc: Global,
     auto: &Auto,
-    patterns: &Patterns,
+    patterns: &PatternStates,
     points: &mut Points,
     of: &Point,
     number: usize,
@@ -212,7 +212,7 @@ pub(crate) fn label_steps(
 fn add_text_group(
     alloc: Global,
     auto: &Auto,
-    patterns: &Patterns,
+    patterns: &PatternStates,
     points: &mut Points,
     texts: &mut Vec<TextMove>,
     rests: Rests,
@@ -252,7 +252,7 @@ fn add_text_group(
 fn add_text_meet(
     alloc: Global,
     auto: &Auto,
-    patterns: &Patterns,
+    patterns: &PatternStates,
     points: &mut Points,
     texts: &mut Vec<TextMove>,
     of: &Point,
@@ -297,7 +297,7 @@ fn add_text_meet(
 pub(crate) fn text_steps(
     alloc: Global,
     auto: &Auto,
-    patterns: &Patterns,
+    patterns: &PatternStates,
     points: &mut Points,
     of: &Point,
     number: usize,

@@ -11,7 +11,7 @@ use xd_doc::NoMemory;
 
 /// An automaton with the states of patterns, and the same with like states made one, for those that must refuse.
 #[derive(Drop)]
-pub struct Patterns {
+pub struct PatternStates {
     /// The states as they are: by their moves it is known what belongs to variables.
     pub auto: Auto,
     pub(crate) taken: Taken,
@@ -19,8 +19,10 @@ pub struct Patterns {
     pub(crate) shared: usize,
 }
 
-impl Patterns {
+impl PatternStates {
     /// States of patterns that no automaton of lefts has.
+    ///
+    /// Fails only where memory is refused.
     pub fn new(alloc: Global, auto: Auto) -> Result<Self, NoMemory>
         ensures auto { IfOk result (λ made. made.auto ≡ auto) }
         ensures serve { IfOk result (λ made. (a : Automaton) → ServePoints a made) }
@@ -34,6 +36,8 @@ impl Patterns {
     }
 
     /// States of patterns that are the first states of the automaton of the lefts, which has the same moves for them.
+    ///
+    /// Fails only where memory is refused.
     pub fn shared(alloc: Global, auto: Auto) -> Result<Self, NoMemory>
         ensures auto { IfOk result (λ made. made.auto ≡ auto) }
         ensures serve { IfOk result (λ made. (a : Automaton) → Extends auto a → ServePoints a made) }

@@ -9,7 +9,7 @@ ghost use Rattle.xd_points.specs.Meaning.{ServePoints};
 ghost use Rattle.xd_points.specs.Points.{AllExpanded, meaning, state_at};
 ghost use Rattle.xd_points.specs.Placing.{AreIn, ArePlaces, GivesLabels, GivesTexts, IsBareAt, IsPlaceOf, IsPlaced, KeepsPlaces, PlacesFirst, accepts_at, place_at, state_of};
 
-use crate::patterns::Patterns;
+use crate::patterns::PatternStates;
 use crate::points::{Points, is_old};
 use std::alloc::Global;
 use xd_auto::{Auto, LabelMove, State, TextMove};
@@ -40,7 +40,7 @@ pub(crate) fn state_there(places: &[Place], point: State) -> Option<State>
 /// The place of a point. A new state has no moves yet.
 fn place_of(
     auto: &mut Auto,
-    patterns: &Patterns,
+    patterns: &PatternStates,
     points: &Points,
     known: &Inhabitants,
     number: usize,
@@ -67,7 +67,7 @@ fn place_of(
 /// Puts the places of further points behind those that there are.
 fn add_places(
     auto: &mut Auto,
-    patterns: &Patterns,
+    patterns: &PatternStates,
     points: &Points,
     known: &Inhabitants,
     places: &mut Vec<Place>,
@@ -159,7 +159,7 @@ fn give_moves(
 /// Puts the points that have no place yet into the automaton that has their lefts.
 pub(crate) fn place_points(
     auto: &mut Auto,
-    patterns: &Patterns,
+    patterns: &PatternStates,
     points: &Points,
     known: &Inhabitants,
     places: &mut Vec<Place>,

@@ -4,12 +4,12 @@ ghost use Rattle.std.specs.Prelude.{◌≡◌, ◌<◌, ◌∷◌, ℕ, cond, Li
 ghost use Rattle.std.specs.List.{AllByRecursion};
 ghost use Rattle.std.specs.Cmp.Lexicographic.{pointwise};
 ghost use Rattle.xd_auto.specs.Automaton.{Automaton, IsState};
-ghost use Rattle.xd_points.specs.declared.patterns.Patterns.{Patterns as PatternsView};
+ghost use Rattle.xd_points.specs.declared.patterns.PatternStates.{PatternStates as PatternsView};
 ghost use Rattle.xd_boole.specs.Meaning.{has_state};
 ghost use Rattle.xd_points.specs.Meaning.{IsPointOf, ServePoints, is_old_point, point};
 ghost use Rattle.xd_points.specs.Points.{ArePoints, Grows, IsStateFor, found_at, point_at, point_key, point_last};
 
-use crate::patterns::Patterns;
+use crate::patterns::PatternStates;
 use std::alloc::Global;
 use std::collections::BTreeMap;
 use std::marker::Model;
@@ -81,7 +81,12 @@ fn key_of(
 
 /// Whether a point means what its left accepts: nothing must refuse, and the state of the pattern is known to take everything, or is
 /// the left itself, a state that both automata share.
-pub(crate) fn is_old(patterns: &Patterns, left: State, pattern: State, rights: &[State]) -> bool
+pub(crate) fn is_old(
+    patterns: &PatternStates,
+    left: State,
+    pattern: State,
+    rights: &[State],
+) -> bool
     ensures { result ≡ is_old_point patterns.now (point left pattern rights.now) }
 {
     rights.is_empty()
@@ -102,7 +107,13 @@ pub(crate) fn is_refused(pattern: State, rights: &[State]) -> bool
 }
 
 /// Whether the state of a point accepts the empty document. One that means what an old state accepts is taken to.
-fn is_last(auto: &Auto, patterns: &Patterns, left: State, pattern: State, rights: &[State]) -> bool
+fn is_last(
+    auto: &Auto,
+    patterns: &PatternStates,
+    left: State,
+    pattern: State,
+    rights: &[State],
+) -> bool
     requires patterns { ServePoints auto.now patterns.now }
     requires states { IsPointOf auto.now patterns.now (point left pattern rights.now) }
     ensures { result ≡ point_last auto.now patterns.now (point left pattern rights.now) }
@@ -118,7 +129,7 @@ fn is_last(auto: &Auto, patterns: &Patterns, left: State, pattern: State, rights
 fn add_point(
     alloc: Global,
     auto: &Auto,
-    patterns: &Patterns,
+    patterns: &PatternStates,
     points: &mut Points,
     key: StateKey,
     left: State,
@@ -150,7 +161,7 @@ fn add_point(
 pub(crate) fn find_or_add(
     alloc: Global,
     auto: &Auto,
-    patterns: &Patterns,
+    patterns: &PatternStates,
     points: &mut Points,
     left: State,
     pattern: State,

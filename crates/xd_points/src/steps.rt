@@ -7,7 +7,7 @@ ghost use Rattle.xd_points.specs.Meaning.{IsPointOf, ServePoints};
 ghost use Rattle.xd_points.specs.Points.{AreExpanded, ArePoints, KeepMoves, KeepsPoints, MakesLabels, MakesTexts, RowView, label_takes, no_row, place_before, text_takes_by};
 
 use crate::moves::{label_steps, text_steps};
-use crate::patterns::Patterns;
+use crate::patterns::PatternStates;
 use crate::points::{Point, Points, copy_point, is_old};
 use std::alloc::Global;
 use std::marker::Model;
@@ -75,7 +75,7 @@ fn place_of(first: bool, number: usize) -> usize
 fn label_moves(
     alloc: Global,
     auto: &Auto,
-    patterns: &Patterns,
+    patterns: &PatternStates,
     points: &mut Points,
     of: &Point,
     first: bool,
@@ -99,7 +99,7 @@ fn label_moves(
 fn text_moves(
     alloc: Global,
     auto: &Auto,
-    patterns: &Patterns,
+    patterns: &PatternStates,
     points: &mut Points,
     of: &Point,
     first: bool,
@@ -135,7 +135,7 @@ fn add_bare(alloc: Global, rows: &mut Vec<Row>) -> Result<(), NoMemory>
 pub(crate) fn expand(
     alloc: Global,
     auto: &Auto,
-    patterns: &Patterns,
+    patterns: &PatternStates,
     points: &mut Points,
     rows: &mut Vec<Row>,
     first: bool,

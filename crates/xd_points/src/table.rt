@@ -7,7 +7,7 @@ ghost use Rattle.xd_auto.specs.Automaton.{Automaton, Extends, IsState};
 ghost use Rattle.xd_points.specs.Meaning.{ServePoints};
 ghost use Rattle.xd_points.specs.Points.{AreExpanded, KeepMoves, KeepsPoints};
 
-use crate::patterns::Patterns;
+use crate::patterns::PatternStates;
 use crate::placing::{Place, place_points, state_there};
 use crate::points::{Points, find_or_add};
 use crate::steps::{Row, expand};
@@ -20,7 +20,7 @@ use xd_empty::Inhabitants;
 ///
 /// It serves one automaton that only grows, and the same patterns at each call: a point that was met before is not made again.
 #[derive(Drop)]
-pub struct Table {
+pub struct PointTable {
     points: Points,
     rows: Vec<Row>,
     places: Vec<Place>,
@@ -33,7 +33,7 @@ pub struct Table {
 fn expand_all(
     alloc: Global,
     auto: &Auto,
-    patterns: &Patterns,
+    patterns: &PatternStates,
     points: &mut Points,
     rows: &mut Vec<Row>,
 ) -> Result<(), NoMemory>
@@ -52,8 +52,8 @@ fn expand_all(
     Ok(())
 }
 
-impl Table {
-    ghost use Rattle.xd_points.specs.declared.patterns.Patterns.{Patterns as PatternsView};
+impl PointTable {
+    ghost use Rattle.xd_points.specs.declared.patterns.PatternStates.{PatternStates as PatternsView};
     ghost use Rattle.xd_points.specs.Placing.{accepts_at};
     ghost use Rattle.xd_points.specs.Tables.{IsTableOf, takes_alone};
 
@@ -86,7 +86,7 @@ impl Table {
         &mut self,
         alloc: Global,
         auto: &mut Auto,
-        patterns: &Patterns,
+        patterns: &PatternStates,
         left: State,
         pattern: State,
         rights: &[State],

@@ -3,7 +3,7 @@
 use std::io::Write;
 use xd_call_lines::{Call, CallError};
 use xd_call_programs::{
-    Programs, read_type, show_read_program, show_read_type, show_resolved, show_soundness,
+    Programs, read_type_into, show_read_program, show_read_type, show_resolved, show_soundness,
     show_type_line,
 };
 use xd_sound::SoundProgram;
@@ -32,7 +32,7 @@ pub fn types(desk: &mut Programs, call: &Call<'_>, out: &mut Vec<u8>) -> Result<
 }
 
 fn count_nodes(desk: &mut Programs, text: &str, out: &mut Vec<u8>) -> Result<(), CallError> {
-    if read_type(desk, text, out)?.is_some() {
+    if read_type_into(desk, text, out)?.is_some() {
         writeln!(out, "{} nodes", desk.types.len())?;
     }
     Ok(())

@@ -85,6 +85,7 @@ impl Shown {
     ///
     /// Whatever meanings of the names are those of their types, the first name's meaning is shown. A set of no document is shown by
     /// [`Self::nothing`].
+    /// Fails only where memory is refused.
     pub fn new(
         alloc: Global,
         types: Types,
@@ -103,6 +104,8 @@ impl Shown {
     }
 
     /// No document, as `type S1 = none[S1]`, where `S1` is not taken.
+    ///
+    /// Fails only where memory is refused.
     pub fn nothing(alloc: Global, taken: &[Label]) -> Result<Self, NoMemory>
         ensures { IfOk result (λ shown. IsShown (λ d. ⊥) taken.now (program_tree shown.sound) shown.start) }
     {

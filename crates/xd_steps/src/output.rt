@@ -82,6 +82,8 @@ impl Output {
     }
 
     /// That the answer is yes.
+    ///
+    /// Fails only where memory is refused.
     pub fn yes(alloc: Global) -> Result<Output, NoMemory>
         ensures { IfOk result (λ o. o ≡ outputs.yes) }
     {
@@ -89,6 +91,8 @@ impl Output {
     }
 
     /// That the answer is no.
+    ///
+    /// Fails only where memory is refused.
     pub fn no(alloc: Global) -> Result<Output, NoMemory>
         ensures { IfOk result (λ o. o ≡ outputs.no) }
     {
@@ -96,6 +100,8 @@ impl Output {
     }
 
     /// That the program is accepted, behind these lines.
+    ///
+    /// Fails only where memory is refused.
     pub fn accepted(lines: Vec<u8>) -> Result<Output, NoMemory>
         ensures { IfOk result (λ o. o ≡ record { status = 0; text = lines.items ++ codes "accepted\n" }) }
     {
@@ -118,6 +124,8 @@ impl Output {
     }
 
     /// That the document is outside the input type.
+    ///
+    /// Fails only where memory is refused.
     pub fn outside_input(alloc: Global) -> Result<Output, NoMemory>
         ensures { IfOk result (λ o. o ≡ outputs.outside_input) }
     {
@@ -125,6 +133,8 @@ impl Output {
     }
 
     /// That the calls that were allowed are spent.
+    ///
+    /// Fails only where memory is refused.
     pub fn fuel_spent(alloc: Global) -> Result<Output, NoMemory>
         ensures { IfOk result (λ o. o ≡ outputs.fuel_spent) }
     {
@@ -132,6 +142,8 @@ impl Output {
     }
 
     /// The report that the program has no input type.
+    ///
+    /// Fails only where memory is refused.
     pub fn no_main(alloc: Global) -> Result<Output, NoMemory>
         ensures { IfOk result (λ o. o ≡ outputs.fault_lines (record { place = None; kind = NoMain } ∷ [])) }
     {
@@ -143,6 +155,8 @@ impl Output {
     }
 
     /// The canonical text of a document.
+    ///
+    /// Fails only where memory is refused.
     pub fn canonical(alloc: Global, store: &Store, document: Seq) -> Result<Output, NoMemory>
         requires { BelongsTo store.now document }
         ensures { IfOk result (λ o. o ≡ outputs.canonical (document_at store.now document)) }
@@ -157,6 +171,8 @@ impl Output {
     }
 
     /// How many persons a sample has, how many bytes its document and its value, and how many calls were made.
+    ///
+    /// Fails only where memory is refused.
     pub fn summary(
         alloc: Global,
         persons: u64,
@@ -176,6 +192,8 @@ impl Output {
     }
 
     /// How the words of a command begin.
+    ///
+    /// Fails only where memory is refused.
     pub fn usage(alloc: Global) -> Result<Output, NoMemory>
         ensures { IfOk result (λ o. o ≡ outputs.usage) }
     {
@@ -183,6 +201,8 @@ impl Output {
     }
 
     /// That the text of this name can't be read.
+    ///
+    /// Fails only where memory is refused.
     pub fn cannot_read(alloc: Global, name: &str) -> Result<Output, NoMemory>
         ensures { IfOk result (λ o. o ≡ outputs.cannot_read name.now) }
     {
@@ -190,6 +210,8 @@ impl Output {
     }
 
     /// That the text of this name is longer than its limit.
+    ///
+    /// Fails only where memory is refused.
     pub fn too_long(alloc: Global, name: &str) -> Result<Output, NoMemory>
         ensures { IfOk result (λ o. o ≡ outputs.too_long name.now) }
     {
@@ -212,6 +234,8 @@ impl Output {
     }
 
     /// That a text spells no document, and where.
+    ///
+    /// Fails only where memory is refused.
     pub fn malformed_document(alloc: Global, place: Place) -> Result<Output, NoMemory>
         ensures { IfOk result (λ o. o ≡ outputs.malformed_document place) }
     {
@@ -219,6 +243,8 @@ impl Output {
     }
 
     /// That no document of the type goes on with the token at this place.
+    ///
+    /// Fails only where memory is refused.
     pub fn outside_type(alloc: Global, place: Place) -> Result<Output, NoMemory>
         ensures { IfOk result (λ o. o ≡ outputs.outside_type place) }
     {
@@ -226,6 +252,8 @@ impl Output {
     }
 
     /// That the answer is no, for this document.
+    ///
+    /// Fails only where memory is refused.
     pub fn separated(alloc: Global, store: &Store, document: Seq) -> Result<Output, NoMemory>
         requires { BelongsTo store.now document }
         ensures { IfOk result (λ o. o ≡ outputs.separated (document_at store.now document)) }
@@ -240,6 +268,8 @@ impl Output {
     }
 
     /// The first bad line of a proof, and why it is bad.
+    ///
+    /// Fails only where memory is refused.
     pub fn bad_line(alloc: Global, line: u64, reason: Reason) -> Result<Output, NoMemory>
         ensures { IfOk result (λ o. o ≡ bad_line line (reason_of reason)) }
     {
@@ -256,6 +286,8 @@ impl Output {
     }
 
     /// The claim of a proof that is accepted.
+    ///
+    /// Fails only where memory is refused.
     pub fn claim(alloc: Global, sound: &SoundProgram, proof: &Proof) -> Result<Output, NoMemory>
         requires { GoalsBelong sound.now.types proof.now }
         ensures { (claim : Lined) (others : List Lined) → AreGoalsAt sound.now.types proof.now (claim ∷ others) → IfOk result (λ o. o ≡ record { status = 0; text = claim_text claim.goal ++ codes "\n" }) }
@@ -280,6 +312,8 @@ impl Output {
     }
 
     /// A proof in the second format.
+    ///
+    /// Fails only where memory is refused.
     pub fn proof(alloc: Global, sound: &SoundProgram, proof: &Proof) -> Result<Output, NoMemory>
         requires { GoalsBelong sound.now.types proof.now }
         ensures { (goals : List Lined) → AreGoalsAt sound.now.types proof.now goals → IfOk result (λ o. o ≡ record { status = 0; text = second_text_of (goals_of goals) }) }
@@ -290,6 +324,8 @@ impl Output {
     }
 
     /// The lines of faults that carry no documents.
+    ///
+    /// Fails only where memory is refused.
     pub fn faults(alloc: Global, faults: &[Fault]) -> Result<Output, NoMemory>
         requires { AllByRecursion (λ f. CarriesFrom [] f.kind) faults.now }
         ensures { IfOk result (λ o. o ≡ outputs.fault_lines faults.now) }
@@ -306,6 +342,8 @@ impl Output {
     }
 
     /// The report that no type has this name.
+    ///
+    /// Fails only where memory is refused.
     pub fn undefined_type(alloc: Global, name: &str) -> Result<Output, NoMemory>
         ensures { IfOk result (λ o. o ≡ outputs.fault_lines (record { place = None; kind = NoSuchName name.now } ∷ [])) }
     {
@@ -313,6 +351,8 @@ impl Output {
     }
 
     /// The report that no type has the one name, and none the other.
+    ///
+    /// Fails only where memory is refused.
     pub fn undefined_types(alloc: Global, one: &str, other: &str) -> Result<Output, NoMemory>
         ensures { IfOk result (λ o. o ≡ outputs.fault_lines (record { place = None; kind = NoSuchName one.now } ∷ (record { place = None; kind = NoSuchName other.now } ∷ []))) }
     {

@@ -53,6 +53,8 @@ fn next_line<'a>(faults: &'a [Fault], warnings: &'a [Warning]) -> Option<NextLin
 }
 
 /// The lines of faults and of warnings, each of which stand in order, in order of place.
+///
+/// Fails only where memory is refused.
 pub fn report_lines(
     alloc: Global,
     store: &Store,

@@ -38,6 +38,8 @@ impl Model for Stream {
 
 impl Stream {
     /// Before the first byte.
+    ///
+    /// Fails only where memory is refused.
     pub fn new(alloc: Global, auto: Auto, state: State) -> Result<Self, NoMemory>
         requires { IsState auto state }
         ensures stands { IfOk result (λ made. StandsFor made []) }
@@ -74,6 +76,9 @@ impl Stream {
     }
 
     /// Ends the bytes.
+    ///
+    /// `Malformed` where the bytes spell no document, `Outside` where they spell one that the state doesn't
+    /// accept, each with its place; `OutOfMemory` where memory is refused.
     pub fn finish(self) -> Result<(), StreamError>
         ensures ok { OnOk result ((bytes : List ℕ) → StandsFor self bytes → SpellsAccepted (automaton_of self) (start_of self) bytes) }
         ensures err { IfErr result (λ e. (bytes : List ℕ) → StandsFor self bytes → StopsAs (automaton_of self) (start_of self) bytes e) }
@@ -98,6 +103,7 @@ impl Stream {
     ///
     /// At a stop: feed a stream the bytes before its place and a blank, which ends a `(`. What may
     /// come then is what could have stood there.
+    /// After a refusal that refusal is given again. Else it fails only where memory is refused.
     pub fn expected(&self) -> Result<Expected, StreamError>
         ensures ok { IfOk result (λ e. (bytes : List ℕ) → StandsFor self.now bytes → (tokens : List Lexeme) → AreWhole bytes tokens → IsExpected (automaton_of self.now) (start_of self.now) (terminals_of tokens) e) }
         ensures again { (e : StreamError) → self.now.refusal ≡ Some e → result ≡ Err e }

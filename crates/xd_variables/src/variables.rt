@@ -45,6 +45,8 @@ pub struct Bound {
 /// the clause's pattern gives it, on documents that the scrutinee may be and no earlier clause
 /// takes. Matches inside the bodies of clauses that are never reached are left out; the variables
 /// of such a clause itself are there, and their states accept nothing.
+///
+/// Fails only where memory is refused.
 pub fn bound_variables(alloc: Global, checked: &Checked, ways: Ways) -> Result<Bound, NoMemory>
     ensures { IfOk result (AreBound (reading_of ways) (program_tree checked.now)) }
 {

@@ -1,13 +1,13 @@
 use Rattle.std.proofs.Common.{◌≡◌, ◌∙◌, sym, subst, List, [], arith}
 use Rattle.std.proofs.lemmas.Grind.{common_steps}
-use Rattle.xd_boole.specs.declared.choices.Choice.{Choice}
+use Rattle.xd_boole.specs.declared.choices.SideChoice.{SideChoice}
 use Rattle.xd_boole.specs.Choices.{AddsChoice}
 use Rattle.xd_boole.proofs.ChoiceLemmas.{choice_there, drops_more, drops_all}
 use Rattle.xd_boole.proofs.choices.add_choice.Goals as goal
 
 pub returns-then-contains : goal.returns-then-contains
 returns-then-contains c =
-    subst (λ (ks : List Choice). AddsChoice c.args.choice ks ks) c.deref-other-items.ensures.value
+    subst (λ (ks : List SideChoice). AddsChoice c.args.choice ks ks) c.deref-other-items.ensures.value
     (choice_there c.args.choice c.other-item.result c.deref-other-items.result.now c.loop-other.other-index c.loop-other-test.true c.other-item.is (sym c.contains.ensures ∙ c.if-contains.true))
 
 pub loop-other-2-preserved : goal.loop-other-2-preserved

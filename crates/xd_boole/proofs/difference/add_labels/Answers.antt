@@ -1,7 +1,7 @@
 use Rattle.std.proofs.Common.{◌&&◌, ◌||◌, not, take, List, ap, sym, subst, ◌∙◌}
 use Rattle.xd_doc.specs.Classes.{LabelClass, class_has}
 use Rattle.xd_boole.specs.Meaning.{any_accepts, element_of}
-use Rattle.xd_boole.specs.declared.groups.Side.{Side}
+use Rattle.xd_boole.specs.declared.groups.MoveSide.{MoveSide}
 use Rattle.xd_boole.specs.declared.groups.Group.{Group}
 use Rattle.xd_boole.specs.Groups.{AllPass, AllSides, any_group, group_refuses, is_side, label_side, side_accepts}
 use Rattle.xd_boole.specs.Points.{MoveBelow, label_means}
@@ -20,14 +20,14 @@ loop-group-init c =
     record {
       adds = adds_none MoveBelow (label_means a b) a b (label_stays a b) label_below_more c.args.points.now c.args.labels.now.items _ c.requires.whole c.requires.below (grows_same c.args.points.now)
           (λ q. and_false (side_accepts a q.content q.rest (label_side c.args.step.now)));
-      left = subst (λ (gs : List (Group LabelClass Side)). AllSides (is_side b) gs) (sym c.deref-group-items.ensures.value) c.in_ok-groups.ensures.sides;
+      left = subst (λ (gs : List (Group LabelClass MoveSide)). AllSides (is_side b) gs) (sym c.deref-group-items.ensures.value) c.in_ok-groups.ensures.sides;
     }
 
 pub add_group-requires : goal.add_group-requires
 add_group-requires c =
     let a = c.args.auto.now in
     let b = c.args.taken.now.auto in
-    let next = all_step (λ (g : Group LabelClass Side). AllPass (is_side b) g.sides.items) c.deref-group-items.result.now c.loop-group.group-index c.group-item.result c.loop-group-test.true c.group-item.is c.loop-group.invariant.left in
+    let next = all_step (λ (g : Group LabelClass MoveSide). AllPass (is_side b) g.sides.items) c.deref-group-items.result.now c.loop-group.group-index c.group-item.result c.loop-group-test.true c.group-item.is c.loop-group.invariant.left in
     record {
       whole = c.loop-group.invariant.adds.whole;
       below = c.loop-group.invariant.adds.below;
@@ -43,11 +43,11 @@ loop-group-preserved c =
     let items = c.deref-group-items.result.now in
     let i = c.loop-group.group-index in
     let x = c.group-item.result in
-    let next = all_step (λ (g : Group LabelClass Side). AllPass (is_side b) g.sides.items) items i x c.loop-group-test.true c.group-item.is c.loop-group.invariant.left in
+    let next = all_step (λ (g : Group LabelClass MoveSide). AllPass (is_side b) g.sides.items) items i x c.loop-group-test.true c.group-item.is c.loop-group.invariant.left in
     record {
       adds = adds_then MoveBelow (label_means a b) a b (label_stays a b) label_below_more _ _ _ _ _ _ _ _ _ c.loop-group.invariant.adds c.in_ok-add_group.ensures
           (λ q.
-          ap (λ (p : Side). ((side_accepts a q.content q.rest (label_side c.args.step.now) && any_group class_has (side_accepts b q.content q.rest) q.label (take i items)) || (side_accepts a q.content q.rest p && group_refuses class_has (side_accepts b q.content q.rest) q.label x))) c.side.ensures
+          ap (λ (p : MoveSide). ((side_accepts a q.content q.rest (label_side c.args.step.now) && any_group class_has (side_accepts b q.content q.rest) q.label (take i items)) || (side_accepts a q.content q.rest p && group_refuses class_has (side_accepts b q.content q.rest) q.label x))) c.side.ensures
           ∙ right_more (group_refuses class_has (side_accepts b q.content q.rest) q.label) items i x (side_accepts a q.content q.rest (label_side c.args.step.now)) c.loop-group-test.true c.group-item.is);
       left = next.1;
     }

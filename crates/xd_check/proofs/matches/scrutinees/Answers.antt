@@ -2,7 +2,7 @@ use Rattle.std.proofs.Common.{List, sym, subst}
 use Rattle.std.specs.List.{AllByRecursion, AllZip}
 use Rattle.std.proofs.lemmas.Result.{IfOk-weaker}
 use Rattle.xd_auto.specs.Automaton.{IsState}
-use Rattle.xd_check.specs.Scrutinees.{AreScrutinees, IsApart}
+use Rattle.xd_check.specs.Scrutinees.{AreScrutinees, StandsAlone}
 use Rattle.xd_check.specs.declared.matches.MetMatch.{MetMatch}
 use Rattle.xd_check.proofs.MetOrder.{met_states, scrutinees_met}
 use Rattle.xd_check.proofs.matches.scrutinees.Goals as goal
@@ -18,4 +18,4 @@ pub returns : goal.returns
 returns c =
     let a = c.met_matches.new.auto in
     IfOk-weaker c.apart.result _ (λ found. AreScrutinees c.args.checked.now found.items)
-    (λ found h. scrutinees_met c.args.checked.now a c.in_ok-met.met found.items c.in_ok-met.ensures (subst (λ xs. AllZip (IsApart a) xs found.items) c.deref.ensures.value h)) c.apart.ensures
+    (λ found h. scrutinees_met c.args.checked.now a c.in_ok-met.met found.items c.in_ok-met.ensures (subst (λ xs. AllZip (StandsAlone a) xs found.items) c.deref.ensures.value h)) c.apart.ensures

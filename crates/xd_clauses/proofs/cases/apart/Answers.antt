@@ -1,7 +1,7 @@
 use Rattle.std.proofs.Common.{List, ◌+◌, take, sym, subst}
 use Rattle.xd_laws.specs.KeptLines.{AllPaired}
 use Rattle.xd_bind.specs.declared.tracks.Binding.{Binding}
-use Rattle.xd_clauses.specs.Cases.{IsApart}
+use Rattle.xd_clauses.specs.Cases.{HasOwnAutomaton}
 use Rattle.xd_clauses.proofs.Givens.{apart_more}
 use Rattle.xd_clauses.proofs.cases.apart.Goals as goal
 
@@ -12,6 +12,6 @@ loop-given-preserved c =
     let i = c.loop-given.given-index in
     let bs = c.loop-given.bindings.items in
     let b : Binding = record { variable = c.in_ok-share.field-0; auto = c.absorb.new.self; state = c.in_ok-state.state } in
-    let p : IsApart a c.given-item.result b = record { variable = c.in_ok-share.ensures; belongs = c.in_ok-state.ensures.belongs; same = c.in_ok-state.ensures.ok } in
-    subst (λ (cs : List Binding). AllPaired (IsApart a) (take (i + 1) gs) cs) (sym c.in_ok-push.ensures.items)
+    let p : HasOwnAutomaton a c.given-item.result b = record { variable = c.in_ok-share.ensures; belongs = c.in_ok-state.ensures.belongs; same = c.in_ok-state.ensures.ok } in
+    subst (λ (cs : List Binding). AllPaired (HasOwnAutomaton a) (take (i + 1) gs) cs) (sym c.in_ok-push.ensures.items)
     (apart_more a gs bs i c.given-item.result b c.loop-given-test.true c.given-item.is p c.loop-given.invariant)

@@ -1,7 +1,7 @@
 use Rattle.std.proofs.Common.{take}
 use Rattle.xd_laws.specs.KeptLines.{AllPaired}
-use Rattle.xd_clauses.specs.Cases.{IsApart}
+use Rattle.xd_clauses.specs.Cases.{HasOwnAutomaton}
 use Rattle.xd_clauses.proofs.cases.apart.Given as goal
 
 abbrev pub invariant-loop-given : goal.invariant-loop-given
-invariant-loop-given l = AllPaired (IsApart l.auto') (take l.given-index l.givens) l.bindings.items
+invariant-loop-given l = AllPaired (HasOwnAutomaton l.auto') (take l.given-index l.givens) l.bindings.items

@@ -4,7 +4,7 @@ use Rattle.xd_doc.specs.Classes.{IsPart, LabelClass, class_has}
 use Rattle.xd_auto.specs.declared.auto.State.{State}
 use Rattle.xd_auto.specs.Automaton.{IsState, moves_at}
 use Rattle.xd_boole.specs.Meaning.{any_accepts, element_of, move_takes}
-use Rattle.xd_boole.specs.declared.groups.Side.{Side}
+use Rattle.xd_boole.specs.declared.groups.MoveSide.{MoveSide}
 use Rattle.xd_boole.specs.declared.groups.Group.{Group}
 use Rattle.xd_boole.specs.Groups.{AllPass, any_group, group_refuses, is_side, label_side, side_accepts}
 use Rattle.xd_boole.proofs.Differing.{right_more}
@@ -25,11 +25,11 @@ loop-group-preserved c =
     let two = label_side c.args.two.now in
     let parts : Parts = record { left = one; pattern = two } in
     let made : Parts = record { left = c.side_of.result; pattern = c.side_of-2.result } in
-    let same : made ≡ parts = ap (λ (l : Side). let k : Parts = record { left = l; pattern = c.side_of-2.result } in k) c.side_of.ensures ∙ ap (λ (r : Side). let k : Parts = record { left = one; pattern = r } in k) c.side_of-2.ensures in
+    let same : made ≡ parts = ap (λ (l : MoveSide). let k : Parts = record { left = l; pattern = c.side_of-2.result } in k) c.side_of.ensures ∙ ap (λ (r : MoveSide). let k : Parts = record { left = one; pattern = r } in k) c.side_of-2.ensures in
     let items = c.deref-group-items.result.now in
     let i = c.loop-group.group-index in
     let x = c.group-item.result in
-    let next = all_step (λ (g : Group LabelClass Side). AllPass (is_side b.taken.auto) g.sides.items) items i x c.loop-group-test.true c.group-item.is c.loop-group.invariant.left in
+    let next = all_step (λ (g : Group LabelClass MoveSide). AllPass (is_side b.taken.auto) g.sides.items) items i x c.loop-group-test.true c.group-item.is c.loop-group.invariant.left in
     record {
       adds = adds_then (LabelLeads two) (label_means a b) a b (label_stays a b two) (labels_more two) _ _ _ _ _ _ _ _ _ c.loop-group.invariant.adds
           (subst (λ (k : Parts). AddsLabels k.pattern a b c.loop-group.points c.add_group.new.points c.loop-group.labels.items c.add_group.new.labels.items

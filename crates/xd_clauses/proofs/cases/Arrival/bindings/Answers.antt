@@ -4,7 +4,7 @@ use Rattle.xd_auto.specs.Automaton.{IsState}
 use Rattle.xd_syntax.specs.May.{MayBind}
 use Rattle.xd_laws.specs.KeptLines.{AllPaired}
 use Rattle.xd_bind.specs.declared.tracks.Given.{Given}
-use Rattle.xd_clauses.specs.Cases.{IsApart}
+use Rattle.xd_clauses.specs.Cases.{HasOwnAutomaton}
 use Rattle.xd_clauses.specs.Clauses.{Accepted, AreMayGivens}
 use Rattle.xd_clauses.proofs.Givens.{bindings_apart, givens_as, givens_there}
 use Rattle.xd_clauses.proofs.Passing.{bind_same}
@@ -25,5 +25,5 @@ returns c E b s Ps P is left =
     let B = Accepted c.args.self.now.auto c.args.self.now.state in
     let gs = c.in_ok-givens.givens.items in
     let bs = c.in_ok-bindings.bindings.items in
-    let pairs : AllPaired (IsApart a) gs bs = subst (λ (gs : List Given). AllPaired (IsApart a) gs bs) c.deref.ensures.value c.in_ok-bindings.ensures in
+    let pairs : AllPaired (HasOwnAutomaton a) gs bs = subst (λ (gs : List Given). AllPaired (HasOwnAutomaton a) gs bs) c.deref.ensures.value c.in_ok-bindings.ensures in
     bindings_apart (MayBind E A Ps P) a P gs bs pairs (givens_as (MayBind E B [] P) (MayBind E A Ps P) (bind_same E A B Ps P left) P a gs (c.in_ok-givens.ensures E P is))

@@ -1,5 +1,5 @@
 use Rattle.std.proofs.Common.{arith}
-use Rattle.xd_points.proofs.patterns.Patterns.new.Goals as goal
+use Rattle.xd_points.proofs.patterns.PatternStates.new.Goals as goal
 
 pub returns-clause-serve : goal.returns-clause-serve
 returns-clause-serve c a =

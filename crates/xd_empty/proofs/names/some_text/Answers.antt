@@ -2,7 +2,7 @@ use Rattle.std.proofs.Common.{◌≡◌, ◌∙◌, true, sym}
 use Rattle.std.proofs.lemmas.Result.{IfOk-weaker}
 use Rattle.xd_doc.specs.Classes.{class_has}
 use Rattle.xd_doc.proofs.ClassLemmas.{some_name, first_named}
-use Rattle.xd_empty.proofs.names.text_of.Goals as goal
+use Rattle.xd_empty.proofs.names.some_text.Goals as goal
 
 pub returns-else-takes_others : goal.returns-else-takes_others
 returns-else-takes_others c =

@@ -1,7 +1,7 @@
 use Rattle.std.proofs.Common.{arith}
 use Rattle.xd_auto.proofs.Extending.{keeps}
 use Rattle.xd_points.proofs.PlaceLemmas.{extends_longer}
-use Rattle.xd_points.proofs.patterns.Patterns.shared.Goals as goal
+use Rattle.xd_points.proofs.patterns.PatternStates.shared.Goals as goal
 
 pub returns-clause-serve : goal.returns-clause-serve
 returns-clause-serve c a extends =

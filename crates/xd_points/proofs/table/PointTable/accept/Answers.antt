@@ -6,7 +6,7 @@ use Rattle.xd_points.specs.Placing.{accepts_at, place_at, state_of}
 use Rattle.xd_points.specs.Points.{state_at}
 use Rattle.xd_points.proofs.Expanding.{expanded_grown}
 use Rattle.xd_points.proofs.TableLemmas.{documents_stay, expanded_after, first_mean, made_extends, mean_after, rights_belong, start_means, within}
-use Rattle.xd_points.proofs.table.Table.accept.Goals as goal
+use Rattle.xd_points.proofs.table.PointTable.accept.Goals as goal
 
 pub find_or_add-requires-clause-states : goal.find_or_add-requires-clause-states
 find_or_add-requires-clause-states c = record {

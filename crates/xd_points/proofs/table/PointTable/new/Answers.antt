@@ -1,7 +1,7 @@
 use Rattle.std.proofs.Common.{length, arith, ap, sym, subst, ◌∙◌}
 use Rattle.xd_points.specs.Placing.{AreIn}
 use Rattle.xd_points.proofs.TableLemmas.{no_rows, no_states}
-use Rattle.xd_points.proofs.table.Table.new.Goals as goal
+use Rattle.xd_points.proofs.table.PointTable.new.Goals as goal
 
 pub returns : goal.returns
 returns c a b =

@@ -1,7 +1,6 @@
-use Rattle.std.proofs.Common.{◌≡◌, ◌≤◌, length, arith, ap, ◌∙◌}
-use Rattle.xd_auto.specs.Automaton.{accepts}
+use Rattle.std.proofs.Common.{◌≤◌, length, arith, ◌∙◌}
 use Rattle.xd_boole.proofs.Redirecting.{redirected_accepts}
-use Rattle.xd_boole.proofs.merging.merged_at.Goals as goal
+use Rattle.xd_boole.proofs.twins.merged_at.Goals as goal
 
 pub returns-clause-same : goal.returns-clause-same
 returns-clause-same c =
