@@ -1,4 +1,4 @@
--- States that accept every document in a plain way. Of this only private contracts speak.
+-- States that accept every document in a plain way.
 use Rattle.std.specs.Prelude.{◌≡◌, Bool, true, ◌&&◌, ◌==◌, List, length}
 use Rattle.std.specs.List.{list_any}
 use Rattle.xd_doc.specs.Document.{Document}

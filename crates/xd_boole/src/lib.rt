@@ -19,4 +19,4 @@ pub use merging::merged;
 pub use products::product;
 pub use states::{any_last, set_of};
 pub use twins::merged_at;
-pub use universal::{any_marked, is_marked, universal_states};
+pub use universal::{any_marked, is_marked, is_universal, universal_states};

@@ -118,7 +118,7 @@ fn all_texts(moves: &[TextMove]) -> Option<usize>
 /// Whether a state accepts every document in a plain way: it, and the states that its first moves for
 /// all names lead to, accept the empty document and have such moves among themselves. Other states that
 /// accept everything aren't found.
-fn is_universal(auto: &Auto, state: State) -> bool
+pub fn is_universal(auto: &Auto, state: State) -> bool
     requires { IsState auto.now state }
     ensures { result ≡ true → AcceptsAll auto.now state }
 {

@@ -18,6 +18,7 @@ use crate::variables::Variables;
 use std::alloc::Global;
 use xd_apart::least_apart;
 use xd_auto::{Auto, State};
+use xd_boole::is_universal;
 use xd_doc::{Label, NoMemory, Seq, Store, Text, Words};
 use xd_goals::{Verdict, decide};
 
@@ -94,6 +95,18 @@ pub(crate) fn unite_states(states: Vec<State>, auto: &mut Auto) -> Result<State,
     Ok(auto.unite(&states)?)
 }
 
+/// Whether it is seen at once that the second state accepts what the first does: they are the same, or
+/// the second accepts every document in a plain way.
+fn is_plainly_within(auto: &Auto, state: State, wanted: State) -> bool
+    requires { IsState auto.now wanted }
+    ensures { result ≡ true → (d : Document) → accepts auto.now d state ≡ true → accepts auto.now d wanted ≡ true }
+{
+    if state.number() == wanted.number() {
+        return true;
+    }
+    is_universal(auto, wanted)
+}
+
 /// A document that the first state accepts and the second doesn't, a least one, where there is one.
 ///
 /// Where each such document has 2^63 items or more, it is one of these.
@@ -114,6 +127,9 @@ pub(crate) fn misfit(
     ensures known { IsKnown auto.now store.new known.new }
     ensures keeps { Keeps store.old store.new }
 {
+    if is_plainly_within(auto, state, wanted) {
+        return Ok(None);
+    }
     match decide(alloc, auto, &mut known.table, state, &[wanted], store)? {
         Verdict::Included(_) => Ok(None),
         Verdict::Separated(found) => {

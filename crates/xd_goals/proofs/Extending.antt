@@ -155,6 +155,7 @@ module _ (a b : Automaton) (more : Extends a b) (keep : KeepsAccepting a b) wher
           })
           (λ ge. let w = (past_is_new t.rows i ge).standing in absurd (cc))
           (cases_lt i (length t.rows));
+      settled = h.facts.settled;
     };
     refuted = refuted-extends ds t.rows h.facts.states h.refuted;
   }

@@ -16,13 +16,13 @@ use Rattle.xd_goals.specs.Rows.{GoalRow, TableView, row_at, claim_of, claim_key,
 use Rattle.xd_goals.specs.Kept.{GrowsBy, IsIndexed, found_at}
 use Rattle.xd_goals.specs.Trees.{IsTreeBySort}
 use Rattle.xd_goals.specs.Standing.{AreSeparated, IsBegun, IsCaseTree, IsOpen, IsSeparatedBy, KeepsGoals, StandsOn, task_for, claim_sides}
-use Rattle.xd_goals.specs.Facts.{ChoiceStands, RowHolds, FactsOn, FactsOnAutomaton}
+use Rattle.xd_goals.specs.Facts.{ChoiceStands, RowHolds, FactsOn, FactsOnAutomaton, LeadsToSettled, StaySettled}
 use Rattle.xd_goals.specs.declared.table.Choice.{Choice}
 use Rattle.xd_goals.specs.declared.table.GoalCase.{GoalCase}
 use Rattle.xd_goals.specs.declared.table.Standing.TheVariants.{Holds}
 use Rattle.xd_state_heads.proofs.Lists.{all_at, all_places, none_at}
 use Rattle.xd_goals.proofs.Growing.{past_is_new}
-use Rattle.xd_goals.proofs.Trees.{AllLeaves-map, StandsAt-more, StandsAt-one, HasTree-grows, IsGrown-grows, IsTextTree-grows, standing-grows, broken-grows, choices-grows, open-grows}
+use Rattle.xd_goals.proofs.Trees.{AllLeaves-map, StandsAt-more, StandsAt-one, HasTree-grows, IsGrown-grows, IsTextTree-grows, standing-grows, broken-grows, choices-grows, open-grows, settled-grows, settled_leads}
 
 pub case_tree-grows : {A : List State → Type 0} (a : Automaton) (t u : TableView) → GrowsBy A t u → (owner : GoalCase) (c : Claim State) (h : Head State) (atom : Atom) (tree : ChoiceTree)
     → IsCaseTree a t.rows owner c h atom tree → IsCaseTree a u.rows owner c h atom tree
@@ -108,6 +108,18 @@ module _ {A : List State → Type 0} (a : Automaton) (t u : TableView) (g : Grow
         (λ place k e. open_choice-grows a t u g (goal_case i place) (claim_of (row_at t.rows i)) k (h.choices i place k e) (all_at (IsOpen t) (row_at t.rows i).choices place k r.opens e));
   }
 
+  settled_at : FactsOnAutomaton a t → StaySettled u
+  settled_at h i e =
+      let was = h.settled i (sym (settled-grows t u g i) ∙ e) in
+      record {
+        holds = standing-grows t u g i ∙ was.holds;
+        leads = subst (λ (ks : List Choice). AllByRecursion (LeadsToSettled u) ks) (sym (choices-grows t u g i))
+            (all_places (LeadsToSettled u) (row_at t.rows i).choices
+            (λ place k at.
+            let o = (h.choices i place k at).has in
+            settled_leads t u g.nodes (λ n x. settled-grows t u g n ∙ x) k o.tree o.stands (all_at (LeadsToSettled t) (row_at t.rows i).choices place k was.leads at)));
+      }
+
   begun_at : FactsOnAutomaton a t → (i : ℕ) → ¬ ((row_at u.rows i).choices ≡ []) → IsBegun a (claim_of (row_at u.rows i)) (row_at u.rows i).choices
   begun_at h i n = ⊎_elim
       (λ lt. subst (λ (ks : List Choice). IsBegun a (claim_of (row_at u.rows i)) ks) (sym (choices-grows t u g i))
@@ -128,6 +140,7 @@ module _ {A : List State → Type 0} (a : Automaton) (t u : TableView) (g : Grow
         let was = sym (standing-grows t u g i) ∙ e in
         subst (λ (ks : List Choice). RowHolds a u (claim_of (row_at u.rows i)) ks) (sym (choices-grows t u g i))
         (subst (λ (c : Claim State). RowHolds a u c (row_at t.rows i).choices) (sym (claim-grows t u g i (holds_there i was))) (row_holds h i was));
+    settled = settled_at h;
   }
 
 pub keeps_goals-grows : {A : List State → Type 0} (t u : TableView) → GrowsBy A t u → KeepsGoals t u
@@ -171,6 +184,7 @@ stands-none a ds = record {
     flags = λ i. ap length (past_is_new [] i (omega arith)).broken ∙ sym (ap length (past_is_new [] i (omega arith)).choices);
     unbroken = λ i place k e b. absurd (none_at (row_at [] i).choices place k (past_is_new [] i (omega arith)).choices e);
     holds = λ i e. let w = (past_is_new [] i (omega arith)).standing in absurd (cc);
+    settled = λ i e. let w = (past_is_new [] i (omega arith)).settled in absurd (cc);
   };
   refuted = λ i seq e. let w = (past_is_new [] i (omega arith)).standing in absurd (cc);
 }

@@ -14,20 +14,23 @@ use Rattle.xd_auto.specs.declared.auto.State.{State}
 use Rattle.xd_rules.specs.Rules.{Claim}
 use Rattle.xd_state_heads.specs.Moves.{AreBelow, claim_with}
 use Rattle.xd_goals.specs.Rows.{GoalRow, TableView, new_row, no_row, row_at, claim_of, claim_at, claim_key, state_numbers, IsListed, Leads, here, behind, IsRowBelow, RowsBelow}
-use Rattle.xd_goals.specs.Kept.{AreLinked, AreThese, BeginsWith, GrowsBy, IsIndexed, IsNew, IsSameGoal, found_at}
+use Rattle.xd_goals.specs.Kept.{AreLinked, AreThese, BeginsWith, GrowsBy, IsIndexed, IsNew, IsSameButMarks, IsSameGoal, found_at}
 use Rattle.xd_goals.specs.declared.table.ChoiceNode.{ChoiceNode}
 use Rattle.xd_goals.specs.declared.table.GoalCase.{GoalCase}
 use Rattle.xd_goals.specs.declared.table.Link.{Link}
 use Rattle.xd_state_heads.proofs.Lists.{slice_get-append, slice_get-seam, slice_get-push_cases}
 
 pub same_goal : (row : GoalRow) → IsSameGoal row row
-same_goal row = record { left = refl; rights = refl; standing = refl; choices = refl; broken = refl }
+same_goal row = record { left = refl; rights = refl; standing = refl; choices = refl; broken = refl; settled = refl }
+
+pub same_but_marks : (rows : List GoalRow) → IsSameButMarks rows rows
+same_but_marks rows = record { count = refl; same = λ i. refl }
 
 -- a goal that isn't there is new
 pub past_is_new : (rows : List GoalRow) (i : ℕ) → length rows ≤ i → IsNew (row_at rows i)
 past_is_new rows i le =
     let e : row_at rows i ≡ no_row = get_or_past rows i no_row le in
-    record { standing = ap (λ (r : GoalRow). r.standing) e; choices = ap (λ (r : GoalRow). r.choices) e; broken = ap (λ (r : GoalRow). r.broken) e }
+    record { standing = ap (λ (r : GoalRow). r.standing) e; choices = ap (λ (r : GoalRow). r.choices) e; broken = ap (λ (r : GoalRow). r.broken) e; settled = ap (λ (r : GoalRow). r.settled) e }
 
 pub Leads-append : (links more : List Link) (goal : GoalCase) (first : Option ℕ) → Leads links goal first → Leads (links ++ more) goal first
 Leads-append links more goal first (here k l at is) = here k l (slice_get-append links more k l at) is
@@ -47,9 +50,9 @@ pub Grows-then : {A : List State → Type 0} (s t u : TableView) → GrowsBy A s
 Grows-then {A} s t u h k = record {
   longer = omega (arith, h.longer, k.longer);
   kept = λ i lt. let a = h.kept i lt in let b = k.kept i (omega (arith, h.longer)) in
-      record { left = b.left ∙ a.left; rights = b.rights ∙ a.rights; standing = b.standing ∙ a.standing; choices = b.choices ∙ a.choices; broken = b.broken ∙ a.broken };
+      record { left = b.left ∙ a.left; rights = b.rights ∙ a.rights; standing = b.standing ∙ a.standing; choices = b.choices ∙ a.choices; broken = b.broken ∙ a.broken; settled = b.settled ∙ a.settled };
   added = λ i le. ⊎_elim
-      (λ lt. let b = k.kept i lt in let n = h.added i le in record { standing = b.standing ∙ n.standing; choices = b.choices ∙ n.choices; broken = b.broken ∙ n.broken })
+      (λ lt. let b = k.kept i lt in let n = h.added i le in record { standing = b.standing ∙ n.standing; choices = b.choices ∙ n.choices; broken = b.broken ∙ n.broken; settled = b.settled ∙ n.settled })
       (λ ge. k.added i ge) (cases_lt i (length t.rows));
   allowed = λ i le lt. ⊎_elim
       (λ old. subst A (sym (k.kept i old).rights) (h.allowed i le old))
@@ -97,7 +100,7 @@ module _ (rows : List GoalRow) (nodes : List ChoiceNode) (links : List Link) whe
     where
       new_at : (i : ℕ) → length rows ≤ i → IsNew (row_at (with_row left rights) i)
       new_at i le = ⊎_elim
-          (λ q. subst (λ (k : ℕ). IsNew (row_at (with_row left rights) k)) (sym q) (subst IsNew (sym (row_at-new (new_row left rights))) (record { standing = refl; choices = refl; broken = refl })))
+          (λ q. subst (λ (k : ℕ). IsNew (row_at (with_row left rights) k)) (sym q) (subst IsNew (sym (row_at-new (new_row left rights))) (record { standing = refl; choices = refl; broken = refl; settled = refl })))
           (λ ne. past_is_new (with_row left rights) i (omega (arith, length_more (new_row left rights), ne)))
           (cases_eq i (length rows))
 
@@ -236,7 +239,7 @@ module _ (rows : List GoalRow) (nodes : List ChoiceNode) (links : List Link) whe
     pub Grows-link : {A : List State → Type 0} → GrowsBy A table linked_table
     Grows-link = record {
       longer = omega (arith, length-set rows on linked_row);
-      kept = λ i l. by_row (λ k r. IsSameGoal (row_at rows k) r) (record { left = refl; rights = refl; standing = refl; choices = refl; broken = refl }) (λ k ne. same_goal (row_at rows k)) i;
+      kept = λ i l. by_row (λ k r. IsSameGoal (row_at rows k) r) (record { left = refl; rights = refl; standing = refl; choices = refl; broken = refl; settled = refl }) (λ k ne. same_goal (row_at rows k)) i;
       added = λ i le. by_row (λ k r. length rows ≤ k → IsNew r) (λ past. absurd (omega arith)) (λ k ne past. past_is_new rows k past) i le;
       allowed = λ i le lt. absurd (omega (arith, length-set rows on linked_row));
       nodes = λ n x at. at;

@@ -26,6 +26,7 @@ lists_kept a t h = record {
   flags = h.flags;
   unbroken = h.unbroken;
   opens = λ i e. (h.holds i e).opens;
+  settled = h.settled;
 }
 
 pub facts_apart : (a : Automaton) (t : TableView) → FactsOnAutomaton a t → StandsOnAutomaton a t
@@ -59,6 +60,7 @@ facts_together a t l s = record {
   flags = l.flags;
   unbroken = l.unbroken;
   holds = λ i e. record { begun = s.begun i (inl e); opens = l.opens i e };
+  settled = l.settled;
 }
 
 pub stands_apart : (a : Automaton) (ds : List Document) (t : TableView) → FactsOn a ds t → StandsOn a ds t

@@ -10,7 +10,7 @@ use Rattle.xd_rules.specs.Rules.{Claim}
 use Rattle.xd_rules.proofs.Members.{one_of-append_left, one_of-append_right, one_of-map, one_of-to_flat_map, get-one_of}
 use Rattle.xd_state_heads.specs.Moves.{AreBelow, IsInOrder, RiseFrom, claim_with}
 use Rattle.xd_goals.specs.Rows.{GoalRow, TableView, no_row, row_at, claim_of, RowsBelow}
-use Rattle.xd_goals.specs.Kept.{Grows, GrowsBy, IsWokenRow, Refutes}
+use Rattle.xd_goals.specs.Kept.{Grows, GrowsBy, IsSameButMarks, IsWokenRow, Refutes}
 use Rattle.xd_goals.specs.Standing.{KeepsGoals}
 use Rattle.xd_goals.specs.Measure.{AreMadeFrom, Lowers, possible, potential, rising, standing_weight, states_below, total, weight}
 use Rattle.xd_goals.specs.declared.table.Link.{Link}
@@ -64,6 +64,16 @@ grown_weight n s t g i = ⊎_elim
 
 pub potential-grows : {A : List State → Type 0} (s t : TableView) → GrowsBy A s t → (n : ℕ) → potential n t.rows ≤ potential n s.rows
 potential-grows s t g n = total-le (λ i. weight n (slice_get t.rows i)) (λ i. weight n (slice_get s.rows i)) (λ i. grown_weight n s t g i) n
+
+-- where at most marks have changed
+pub potential-marked : (old new : List GoalRow) → IsSameButMarks old new → (n : ℕ) → potential n new ≤ potential n old
+potential-marked old new m n = total-le (λ i. weight n (slice_get new i)) (λ i. weight n (slice_get old i)) each n
+  where
+    each : (i : ℕ) → weight n (slice_get new i) ≤ weight n (slice_get old i)
+    each i = ⊎_elim
+        (λ lt. let a = weight_at n old i lt in let b = weight_at n new i (let c = m.count in omega arith) in let q = ap (λ (r : GoalRow). standing_weight n r.standing) (m.same i) in omega arith)
+        (λ past. let a = weight_past n old i past in let b = weight_past n new i (let c = m.count in omega arith) in omega arith)
+        (cases_lt i (length old))
 
 -- the row of a goal is changed
 module _ (rows : List GoalRow) (goal : ℕ) (row : GoalRow) (lt : goal < length rows) (n : ℕ) where

@@ -106,6 +106,7 @@ module _ (a : Automaton) (ds : List Document) (rows : List GoalRow) (nodes : Lis
         (λ ne. stands.facts.unbroken goal p x (set_there (row_at rows goal).choices place p changed x ne e) (set_there (row_at rows goal).broken place p false false ne u))
         (cases_eq p place))
         (λ e. absurd (held e))
+        waits refl
         stands
       where
         at_place : (p : ℕ) (x : Choice) → p ≡ place → slice_get (set (row_at rows goal).choices place changed) p ≡ Some x → (P : Choice → Type 0) → P changed → P x
@@ -149,12 +150,12 @@ module _ (a : Automaton) (ds : List Document) (rows : List GoalRow) (nodes : Lis
 -- a goal that waits, of which no flag is set, comes to hold
 module _ (a : Automaton) (ds : List Document) (t : TableView) (goal : ℕ) (lt : goal < length t.rows) (waits : (row_at t.rows goal).standing ≡ Waiting) (stands : FactsOn a ds t) where
   pub same_again : SameGoals t.rows (set t.rows goal (with_standing Holds (row_at t.rows goal)))
-  same_again = same_held a ds t.rows t.nodes t.links goal (with_standing Holds (row_at t.rows goal)) lt waits refl refl refl
+  same_again = same_held a ds t.rows t.nodes t.links goal (with_standing Holds (row_at t.rows goal)) lt waits refl refl refl refl
 
   pub holds_again : ¬ ((row_at t.rows goal).choices ≡ []) → ((place : ℕ) → place < length (row_at t.rows goal).broken → IsUnbroken (row_at t.rows goal) place)
       → IsStep a ds t (record { rows = set t.rows goal (with_standing Holds (row_at t.rows goal)); nodes = t.nodes; links = t.links })
   holds_again begun unbroken =
-      step_held a ds t.rows t.nodes t.links goal (with_standing Holds (row_at t.rows goal)) lt waits refl refl refl
+      step_held a ds t.rows t.nodes t.links goal (with_standing Holds (row_at t.rows goal)) lt waits refl refl refl refl
       (stands.facts.choices goal) (stands.facts.flags goal)
       (record {
         begun = stands.facts.begun goal begun;

@@ -1,22 +1,27 @@
 -- Goals that are reached through leaves.
-use Rattle.std.proofs.Common.{ℕ, zero, suc, ◌+◌, ◌<◌, ◌≡◌, Bool, true, false, Some, List, [], ◌∷◌, ◌++◌, length, get_or, set, get_or-set_same, get_or-set_other, ◌⊎◌, inl, inr, ⊎_elim, refl, sym, ap, ◌∙◌, subst, arith, length-append, length-set, take}
+use Rattle.std.proofs.Common.{ℕ, zero, suc, ◌+◌, ◌<◌, ◌≤◌, ◌≡◌, Bool, true, false, Some, List, [], ◌∷◌, ◌++◌, length, get_or, set, get_or-set_same, get_or-set_other, ◌⊎◌, inl, inr, ⊎_elim, refl, sym, ap, ◌∙◌, subst, arith, length-append, length-set, take}
 use Rattle.std.specs.List.{slice_get, AllByRecursion}
 use Rattle.std.proofs.lemmas.Bool.{cases_lt, cases_eq}
 use Rattle.std.proofs.lemmas.List.{get_or_past, get_or_append_left, get_or_default, take_more}
+use Rattle.std.proofs.lemmas.Option.{slice_get_within, get_or_from_slice_get}
 use Rattle.std.proofs.Math.Seq.{get_or-append_seam}
 use Rattle.xd_rules.specs.Rules.{ChoiceTree, ContentLeaf, RestLeaf, SplitOn, AllLeaves}
-use Rattle.xd_goals.specs.Rows.{GoalRow, TableView, IsRefuted, row_at}
+use Rattle.xd_goals.specs.Rows.{GoalRow, TableView, IsRefuted, no_row, row_at}
 use Rattle.xd_goals.specs.Trees.{StandsAt}
-use Rattle.xd_goals.specs.Reached.{is_marked, HasLeaf, IsLeafAt, IsWaitingIn, LeadsToMarked, HasTreeWithin, unmarked, ReachesMore, IsWalked}
+use Rattle.xd_goals.specs.Reached.{is_marked, HasLeaf, IsLeafAt, IsWaitingIn, LeadsToMarked, HasTreeWithin, unmarked, AreClosed, IsPassed, IsSettled, IsWalk, MarksThese, ReachesMore, IsWalked, marks_of}
+use Rattle.xd_goals.specs.Kept.{with_mark}
+use Rattle.xd_goals.specs.Facts.{IsSettledRow, LeadsToSettled, StaySettled}
 use Rattle.xd_goals.specs.Standing.{IsOpen}
 use Rattle.xd_rules.specs.Members.{IsOneOf, SomeOf}
-use Rattle.xd_rules.proofs.Members.{one_of-all}
+use Rattle.xd_rules.proofs.Members.{get-one_of, one_of-all, one_of-append_cases, one_of-append_left, one_of-append_right}
 use Rattle.xd_goals.specs.declared.table.Choice.{Choice}
 use Rattle.xd_goals.specs.declared.table.ChoiceNode.{ChoiceNode}
 use Rattle.xd_goals.specs.declared.table.ChoiceNode.TheVariants.{Split, Content, Rest}
 use Rattle.xd_goals.specs.declared.table.GoalId.{GoalId}
+use Rattle.xd_goals.specs.declared.table.Link.{Link}
 use Rattle.xd_goals.specs.declared.table.Standing.TheVariants.{Holds}
-use Rattle.xd_state_heads.proofs.Lists.{all_map, all_push, one_of-get}
+use Rattle.xd_state_heads.proofs.Lists.{all_map, all_places, all_push, one_of-get}
+use Rattle.xd_goals.proofs.Growing.{same_but_marks}
 use Rattle.xd_goals.proofs.Trees.{AllLeaves-map}
 use Rattle.xd_goals.proofs.Linking.{row_read}
 use Rattle.xd_goals.proofs.Repairing.{number_in, content_in, rest_in}
@@ -146,6 +151,10 @@ pub leads-more : (nodes : List ChoiceNode) (m m2 : List Bool) (ks : List Choice)
     → AllByRecursion (LeadsToMarked nodes m) ks → AllByRecursion (LeadsToMarked nodes m2) ks
 leads-more nodes m m2 ks f h = all_map (LeadsToMarked nodes m) (LeadsToMarked nodes m2) ks (λ k x tree s. AllLeaves-map (λ g. is_marked m g ≡ true) (λ g. is_marked m2 g ≡ true) f tree (x tree s)) h
 
+pub passed-more : (t : TableView) (m m2 : List Bool) (g : ℕ) → ((n : ℕ) → is_marked m n ≡ true → is_marked m2 n ≡ true) → IsPassed t m g → IsPassed t m2 g
+passed-more t m m2 g f (inl e) = inl e
+passed-more t m m2 g f (inr h) = inr (h.0, leads-more t.nodes m m2 (row_at t.rows g).choices f h.1)
+
 -- a leaf of a tree has what all leaves have
 pub leaf_has : (P : ℕ → Type 0) (tree : ChoiceTree) (g : ℕ) → AllLeaves P tree → HasLeaf g tree → P g
 leaf_has P (ContentLeaf k) g h e = subst P e h
@@ -189,8 +198,8 @@ only_more nodes ks i k m m2 m3 lt e one two g is = ⊎_elim (λ a. one g a) (λ 
 module _ (t : TableView) (start : ℕ) where
   pub walk_step : (waiting : List GoalId) (marks marks2 : List Bool) (order order2 : List ℕ) (next : ℕ) → IsWalked t start waiting marks order next → next < length order → ReachesMore marks order marks2 order2
       → MarksOnly marks marks2 (λ g. ¬ (IsRefuted t.rows g))
-      → (row_at t.rows (get_or order next 0)).standing ≡ Holds → AllByRecursion (LeadsToMarked t.nodes marks2) (row_at t.rows (get_or order next 0)).choices → IsWalked t start waiting marks2 order2 (next + 1)
-  walk_step waiting marks marks2 order order2 next w lt h only holds leads = record {
+      → IsPassed t marks2 (get_or order next 0) → IsWalked t start waiting marks2 order2 (next + 1)
+  walk_step waiting marks marks2 order order2 next w lt h only passed = record {
     sized = h.sized ∙ w.sized;
     started = h.kept start w.started;
     marked = h.marked w.marked;
@@ -198,15 +207,54 @@ module _ (t : TableView) (start : ℕ) where
     within = omega (arith, h.longer);
     open_ = λ g m. ⊎_elim (λ old. w.open_ g old) (λ new. new) (only g m);
     waits = w.waits;
-    holds = λ z k l. ⊎_elim
-        (λ a. subst (λ (g : ℕ). (row_at t.rows g).standing ≡ Holds) (sym (h.front k (omega arith))) (w.holds z k a))
-        (λ b. let q : k ≡ next = omega arith in subst (λ (g : ℕ). (row_at t.rows g).standing ≡ Holds) (sym (ap (λ (n : ℕ). get_or order2 n 0) q ∙ h.front next lt)) holds)
+    passed = λ z k l. ⊎_elim
+        (λ a. subst (λ (g : ℕ). IsPassed t marks2 g) (sym (h.front k (omega arith))) (passed-more t marks marks2 (get_or order k 0) h.kept (w.passed z k a)))
+        (λ b. let q : k ≡ next = omega arith in subst (λ (g : ℕ). IsPassed t marks2 g) (sym (ap (λ (n : ℕ). get_or order2 n 0) q ∙ h.front next lt)) passed)
         (cases_lt k next);
-    leads = λ z k l. ⊎_elim
-        (λ a. subst (λ (g : ℕ). AllByRecursion (LeadsToMarked t.nodes marks2) (row_at t.rows g).choices) (sym (h.front k (omega (arith, w.within))))
-        (leads-more t.nodes marks marks2 (row_at t.rows (get_or order k 0)).choices h.kept (w.leads z k a)))
-        (λ b. let q : k ≡ next = omega arith in subst (λ (g : ℕ). AllByRecursion (LeadsToMarked t.nodes marks2) (row_at t.rows g).choices) (sym (ap (λ (n : ℕ). get_or order2 n 0) q ∙ h.front next lt)) leads)
+  }
+
+  -- a settled goal is passed over
+  pub walk_over : (waiting : List GoalId) (marks : List Bool) (order : List ℕ) (next n : ℕ) → IsWalked t start waiting marks order next → next < length order → n ≡ get_or order next n → (row_at t.rows n).settled ≡ true
+      → IsWalked t start waiting marks order (next + 1)
+  walk_over waiting marks order next n w lt e settled = record {
+    sized = w.sized;
+    started = w.started;
+    marked = w.marked;
+    ordered = w.ordered;
+    within = omega arith;
+    open_ = w.open_;
+    waits = w.waits;
+    passed = λ z k l. ⊎_elim
+        (λ a. w.passed z k a)
+        (λ b. let q : k ≡ next = omega arith in
+        let same : n ≡ get_or order next 0 = e ∙ get_or_default order next n 0 lt in
+        subst (λ (g : ℕ). IsPassed t marks g) (same ∙ sym (ap (λ (i : ℕ). get_or order i 0) q)) (inl settled))
         (cases_lt k next);
+  }
+
+  -- the walk begins at the start alone
+  pub walk_start : (marks marks2 : List Bool) (order order2 : List ℕ) → length marks ≡ length t.rows → ((g : ℕ) → is_marked marks g ≡ false) → order ≡ [] → ReachesMore marks order marks2 order2
+      → is_marked marks2 start ≡ true → MarksOnly marks marks2 (λ g. start ≡ g) → ¬ (IsRefuted t.rows start) → IsWalked t start [] marks2 order2 0
+  walk_start marks marks2 order order2 count none empty h started only opens = record {
+    sized = h.sized ∙ count;
+    started = started;
+    marked = h.marked (λ k lt. let z = ap length empty in absurd (omega arith));
+    ordered = h.ordered (λ g m. let f = none g in absurd (cc));
+    within = omega arith;
+    open_ = λ g m. ⊎_elim (λ old. let f = none g in absurd (cc)) (λ e. subst (λ (k : ℕ). ¬ (IsRefuted t.rows k)) e opens) (only g m);
+    waits = tt;
+    passed = λ z k l. absurd (omega arith);
+  }
+
+  -- it ends when all that was reached was passed
+  pub walk_ends : (waiting : List GoalId) (marks : List Bool) (order : List ℕ) (next : ℕ) → IsWalked t start waiting marks order next → length order ≤ next → waiting ≡ [] → AreClosed t start order
+  walk_ends waiting marks order next w le z = record {
+    marks = marks;
+    started = w.started;
+    among = λ g m. let o = w.ordered g m in one_of-get order o.0 g o.1 (sym (get_or_default order o.0 g 0 o.1 ∙ o.2));
+    marked = λ g m. let at = get-one_of g order m in
+        subst (λ (n : ℕ). is_marked marks n ≡ true) (get_or_from_slice_get order at.0 g 0 at.1) (w.marked at.0 (slice_get_within order at.0 g at.1));
+    passed = λ g m. let o = w.ordered g m in subst (λ (n : ℕ). IsPassed t marks n) o.2 (w.passed z o.0 (omega (arith, o.1)));
   }
 
   pub walk_number : (waiting : List GoalId) (marks : List Bool) (order : List ℕ) (next n : ℕ) → IsWalked t start waiting marks order next → next < length order → n ≡ get_or order next n → n < length t.rows
@@ -233,10 +281,12 @@ module _ (t : TableView) (start : ℕ) where
       walk_step waiting marks marks2 order order2 next w lt more
       (λ g m. ⊎_elim (λ old. inl old)
       (λ some. inr (not_refuted g n held own some)) (only g m))
-      (subst (λ (g : ℕ). (row_at t.rows g).standing ≡ Holds) same held)
-      (subst (λ (g : ℕ). AllByRecursion (LeadsToMarked t.nodes marks2) (row_at t.rows g).choices) same
-      (subst (λ (xs : List Choice). AllByRecursion (LeadsToMarked t.nodes marks2) xs) own
-      (subst (λ (ns : List ChoiceNode). AllByRecursion (LeadsToMarked ns marks2) ks) same_nodes leads)))
+      (inr (
+        subst (λ (g : ℕ). (row_at t.rows g).standing ≡ Holds) same held,
+        subst (λ (g : ℕ). AllByRecursion (LeadsToMarked t.nodes marks2) (row_at t.rows g).choices) same
+            (subst (λ (xs : List Choice). AllByRecursion (LeadsToMarked t.nodes marks2) xs) own
+            (subst (λ (ns : List ChoiceNode). AllByRecursion (LeadsToMarked ns marks2) ks) same_nodes leads)),
+      ))
     where
       not_refuted : (g m : ℕ) → (row_at t.rows m).standing ≡ Holds → ks ≡ (row_at t.rows m).choices → SomeOf (λ (x : Choice). IsLeafAt nodes x.root g) ks → ¬ (IsRefuted t.rows g)
       not_refuted g m held own some =
@@ -257,8 +307,7 @@ module _ (t : TableView) (start : ℕ) where
     within = omega arith;
     open_ = w.open_;
     waits = rw e (all_push (IsWaitingIn t.rows) waiting goal w.waits g);
-    holds = λ z. absurd (filled (z));
-    leads = λ z. absurd (filled (z));
+    passed = λ z. absurd (filled (z));
   }
     where
       filled : waiting2 ≡ [] → ⊥
@@ -280,3 +329,106 @@ unmarked_push [] h zero = refl
 unmarked_push [] h (suc g) = refl
 unmarked_push (m ∷ ms) h zero = h zero
 unmarked_push (m ∷ ms) h (suc g) = unmarked_push ms (λ k. h (suc k)) g
+
+-- ---- goals that are marked as settled
+
+pub walk_found : (t : TableView) (start : ℕ) (waiting : List GoalId) (marks : List Bool) (order : List ℕ) (next : ℕ) → IsWalked t start waiting marks order next → length order ≤ next → IsWalk t start order waiting
+walk_found t start waiting marks order next w le = record {
+  there = all_places (λ (n : ℕ). n < length t.rows) order
+      (λ place n at.
+      let m : is_marked marks n ≡ true = subst (λ (k : ℕ). is_marked marks k ≡ true) (get_or_from_slice_get order place n 0 at) (w.marked place (slice_get_within order place n at)) in
+      let lt = marked_within marks n m in
+      omega (arith, w.sized));
+  waits = w.waits;
+  closed = λ z. walk_ends t start waiting marks order next w le z;
+}
+
+mark_is : (rows : List GoalRow) (g : ℕ) → is_marked (marks_of rows) g ≡ (row_at rows g).settled
+mark_is [] g = refl
+mark_is (r ∷ rows) zero = refl
+mark_is (r ∷ rows) (suc g) = mark_is rows g
+
+-- a goal that is marked as settled is so
+pub settled_is : (t : TableView) (goal : ℕ) → StaySettled t → (row_at t.rows goal).settled ≡ true → IsSettled t goal
+settled_is t goal h e = record {
+  marks = marks_of t.rows;
+  start = mark_is t.rows goal ∙ e;
+  holds = λ g m. (h g (sym (mark_is t.rows g) ∙ m)).holds;
+  leads = λ g m. all_map (LeadsToSettled t) (LeadsToMarked t.nodes (marks_of t.rows)) (row_at t.rows g).choices
+      (λ k x tree s. AllLeaves-map (λ n. (row_at t.rows n).settled ≡ true) (λ n. is_marked (marks_of t.rows) n ≡ true) (λ n y. mark_is t.rows n ∙ y) tree (x tree s))
+      (h g (sym (mark_is t.rows g) ∙ m)).leads;
+}
+
+pub marks_none : (rows : List GoalRow) → MarksThese [] rows rows
+marks_none rows = record { rows = same_but_marks rows; marked = λ g m. absurd m; kept = λ g e. e; only = λ g e. inl e }
+
+-- one more goal is marked
+pub marks_more : (order : List ℕ) (i n : ℕ) (old mid new : List GoalRow) → i < length order → n ≡ get_or order i n → n < length old → MarksThese (take i order) old mid → new ≡ set mid n (with_mark true (row_at mid n)) → MarksThese (take (i + 1) order) old new
+marks_more order i n old mid new lt e there h is =
+    subst (λ (xs : List ℕ). MarksThese xs old new) (sym (take_more order i n lt)) (subst (λ (k : ℕ). MarksThese (take i order ++ k ∷ []) old new) e (subst (λ (rs : List GoalRow). MarksThese (take i order ++ n ∷ []) old rs) (sym is) more))
+  where
+    there_now : n < length mid
+    there_now = let c = h.rows.count in omega arith
+
+    changed : List GoalRow
+    changed = set mid n (with_mark true (row_at mid n))
+
+    here_is : row_at changed n ≡ with_mark true (row_at mid n)
+    here_is = get_or-set_same mid n (with_mark true (row_at mid n)) no_row there_now
+
+    other_is : (g : ℕ) → ¬ (g ≡ n) → row_at changed g ≡ row_at mid g
+    other_is g ne = get_or-set_other mid n g (with_mark true (row_at mid n)) no_row ne
+
+    marked_here : (row_at changed n).settled ≡ true
+    marked_here = ap (λ (r : GoalRow). r.settled) here_is
+
+    still : (g : ℕ) → (row_at mid g).settled ≡ true → (row_at changed g).settled ≡ true
+    still g m = ⊎_elim
+        (λ q. subst (λ (k : ℕ). (row_at changed k).settled ≡ true) (sym q) marked_here)
+        (λ ne. ap (λ (r : GoalRow). r.settled) (other_is g ne) ∙ m)
+        (cases_eq g n)
+
+    more : MarksThese (take i order ++ n ∷ []) old changed
+    more = record {
+      rows = record {
+        count = length-set mid n (with_mark true (row_at mid n)) ∙ h.rows.count;
+        same = λ g. ⊎_elim
+            (λ q. subst (λ (k : ℕ). row_at changed k ≡ with_mark (row_at changed k).settled (row_at old k)) (sym q)
+            (here_is ∙ ap (with_mark true) (h.rows.same n) ∙ sym (ap (λ (b : Bool). with_mark b (row_at old n)) marked_here)))
+            (λ ne. other_is g ne ∙ h.rows.same g ∙ ap (λ (r : GoalRow). with_mark r.settled (row_at old g)) (sym (other_is g ne)))
+            (cases_eq g n);
+      };
+      marked = λ g m. ⊎_elim (λ a. still g (h.marked g a)) (λ b. ⊎_elim (λ q. subst (λ (k : ℕ). (row_at changed k).settled ≡ true) q marked_here) (λ no. absurd no) b) (one_of-append_cases g (take i order) (n ∷ []) m);
+      kept = λ g m. still g (h.kept g m);
+      only = λ g m. ⊎_elim
+          (λ q. inr (one_of-append_right g (take i order) (n ∷ []) (inl (sym q))))
+          (λ ne. ⊎_elim (λ a. inl a) (λ b. inr (one_of-append_left g (take i order) (n ∷ []) b)) (h.only g (sym (ap (λ (r : GoalRow). r.settled) (other_is g ne)) ∙ m)))
+          (cases_eq g n);
+    }
+
+-- the goals that a walk reached are settled
+module _ (nodes : List ChoiceNode) (links : List Link) (old new : List GoalRow) (start : ℕ) (order : List ℕ) (closed : AreClosed (record { rows = old; nodes = nodes; links = links }) start order) (marks : MarksThese order old new)
+    (was : StaySettled (record { rows = old; nodes = nodes; links = links })) where
+  abbrev after : TableView
+  after = record { rows = new; nodes = nodes; links = links }
+
+  leads_still : (g : ℕ) → IsSettledRow (record { rows = old; nodes = nodes; links = links }) (row_at old g) → IsSettledRow after (row_at new g)
+  leads_still g h = rw (marks.rows.same g) (record {
+    holds = h.holds;
+    leads = all_map (LeadsToSettled (record { rows = old; nodes = nodes; links = links })) (LeadsToSettled after) (row_at old g).choices
+        (λ k x tree s. AllLeaves-map (λ n. (row_at old n).settled ≡ true) (λ n. (row_at new n).settled ≡ true) marks.kept tree (x tree s)) h.leads;
+  })
+
+  passed_now : (g : ℕ) → IsPassed (record { rows = old; nodes = nodes; links = links }) closed.marks g → IsSettledRow after (row_at new g)
+  passed_now g (inl e) = leads_still g (was g e)
+  passed_now g (inr h) = rw (marks.rows.same g) (record {
+    holds = h.0;
+    leads = all_map (LeadsToMarked nodes closed.marks) (LeadsToSettled after) (row_at old g).choices
+        (λ k x tree s. AllLeaves-map (λ n. is_marked closed.marks n ≡ true) (λ n. (row_at new n).settled ≡ true) (λ n y. marks.marked n (closed.among n y)) tree (x tree s)) h.1;
+  })
+
+  pub closed_stay : StaySettled (record { rows = new; nodes = nodes; links = links })
+  closed_stay g e = ⊎_elim (λ a. leads_still g (was g a)) (λ b. passed_now g (closed.passed g (closed.marked g b))) (marks.only g e)
+
+  pub start_settled : IsSettled (record { rows = new; nodes = nodes; links = links }) start
+  start_settled = settled_is after start closed_stay (marks.marked start (closed.among start closed.started))

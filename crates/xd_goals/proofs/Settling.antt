@@ -1,6 +1,6 @@
 -- The facts of a table when the row of a goal changes, and when one is refuted.
-use Rattle.std.proofs.Common.{ℕ, ◌<◌, ◌≡◌, List, [], length, set, get_or-set_same, get_or-set_other, length-set, Option, Some, ⊎_elim, sym, refl, ap, subst, ◌∙◌, arith}
-use Rattle.std.specs.List.{slice_get}
+use Rattle.std.proofs.Common.{ℕ, ◌<◌, ◌≡◌, ◌⊎◌, Bool, true, false, inl, inr, List, [], length, set, get_or-set_same, get_or-set_other, length-set, Option, Some, ⊎_elim, sym, refl, ap, subst, ◌∙◌, arith}
+use Rattle.std.specs.List.{slice_get, AllByRecursion}
 use Rattle.std.specs.Option.{option_map}
 use Rattle.std.proofs.lemmas.Bool.{cases_lt, cases_eq}
 use Rattle.std.proofs.lemmas.Option.{slice_get_past}
@@ -11,16 +11,16 @@ use Rattle.xd_auto.specs.Automaton.{Automaton}
 use Rattle.xd_rules.specs.Rules.{Claim, ChoiceTree, ContentLeaf, RestLeaf, SplitOn, AllLeaves}
 use Rattle.xd_state_heads.specs.Moves.{AreBelow, claim_with}
 use Rattle.xd_goals.specs.Rows.{GoalRow, TableView, no_row, row_at, claim_of, claim_at, goal_case, IsListed, IsRefuted, IsUnbroken, Leads, RowsBelow}
-use Rattle.xd_goals.specs.Kept.{Refutes}
+use Rattle.xd_goals.specs.Kept.{IsInDoubt, IsSeenTo, Refutes}
 use Rattle.xd_goals.specs.Standing.{IsBegun, IsOpen, IsSeparatedBy}
-use Rattle.xd_goals.specs.Facts.{ChoiceStands, RowHolds, FactsOn}
+use Rattle.xd_goals.specs.Facts.{ChoiceStands, RowHolds, FactsOn, IsSettledRow, LeadsToSettled, StaySettled}
 use Rattle.xd_goals.specs.declared.table.Choice.{Choice}
 use Rattle.xd_goals.specs.declared.table.ChoiceNode.{ChoiceNode}
 use Rattle.xd_goals.specs.declared.table.GoalCase.{GoalCase}
 use Rattle.xd_goals.specs.declared.table.Link.{Link}
 use Rattle.xd_goals.specs.declared.table.Standing.{Standing}
-use Rattle.xd_goals.specs.declared.table.Standing.TheVariants.{Holds, Refuted}
-use Rattle.xd_state_heads.proofs.Lists.{all_at, all_places}
+use Rattle.xd_goals.specs.declared.table.Standing.TheVariants.{Holds, Refuted, Waiting}
+use Rattle.xd_state_heads.proofs.Lists.{all_at, all_map, all_places}
 use Rattle.xd_goals.proofs.Growing.{claim_at-is}
 use Rattle.xd_goals.proofs.Trees.{AllLeaves-map, StandsAt-one}
 use Rattle.xd_goals.proofs.Claims.{same_kinds}
@@ -80,8 +80,9 @@ module _ (a : Automaton) (old new : List GoalRow) (nodes : List ChoiceNode) (lin
       → ((i : ℕ) → length (row_at new i).broken ≡ length (row_at new i).choices)
       → ((i place : ℕ) (k : Choice) → slice_get (row_at new i).choices place ≡ Some k → IsUnbroken (row_at new i) place → IsOpen after k)
       → ((i : ℕ) → (row_at new i).standing ≡ Holds → RowHolds a after (claim_of (row_at old i)) (row_at new i).choices)
+      → StaySettled after
       → FactsOn a ds after
-  stands_same ds h choices refuted begun flags unbroken holds = record {
+  stands_same ds h choices refuted begun flags unbroken holds settled = record {
     facts = record {
       states = states_same (length a) h.facts.states;
       unlike = unlike_same h.facts.unlike;
@@ -91,9 +92,15 @@ module _ (a : Automaton) (old new : List GoalRow) (nodes : List ChoiceNode) (lin
       flags = flags;
       unbroken = unbroken;
       holds = λ i e. subst (λ (c : Claim State). RowHolds a after c (row_at new i).choices) (sym (same.claims i)) (holds i e);
+      settled = settled;
     };
     refuted = λ i seq e. subst (λ (c : Claim State). IsSeparatedBy a ds c seq) (sym (same.claims i)) (refuted i seq e);
   }
+
+  -- choices that lead to settled goals alone do so still, where marks stay
+  pub leads_same : ((g : ℕ) → (row_at old g).settled ≡ true → (row_at new g).settled ≡ true) → (ks : List Choice) → AllByRecursion (LeadsToSettled before) ks → AllByRecursion (LeadsToSettled after) ks
+  leads_same keep ks h =
+      all_map (LeadsToSettled before) (LeadsToSettled after) ks (λ k x tree is. AllLeaves-map (λ g. (row_at old g).settled ≡ true) (λ g. (row_at new g).settled ≡ true) keep tree (x tree is)) h
 
   -- trees whose leaves are neither refuted before nor the goal that is refuted now
   pub open_same : (owner : GoalCase) (c : Claim State) (k : Choice) → ((g : ℕ) → IsListed before g owner → ¬ (IsRefuted old g) → ¬ (IsRefuted new g)) → ChoiceStands a before owner c k → IsOpen before k → IsOpen after k
@@ -132,8 +139,21 @@ module _ (a : Automaton) (ds : List Document) (old new : List GoalRow) (nodes : 
       (λ ne. (ne, ⊎_elim (λ k. sym k ∙ e) (λ w. w.0) (r.others i ne)))
       (cases_eq i goal)
 
-  pub stands-refuted : IsSeparatedBy a ds (claim_of (row_at old goal)) seq → FactsOn a ds (record { rows = old; nodes = nodes; links = links }) → FactsOn a ds (record { rows = new; nodes = nodes; links = links })
-  stands-refuted doc h =
+  -- settled goals stay so
+  settled_still : StaySettled (record { rows = old; nodes = nodes; links = links }) → (row_at old goal).standing ≡ Waiting → StaySettled (record { rows = new; nodes = nodes; links = links })
+  settled_still h waits i e =
+      let was = h i (sym (r.same i).settled ∙ e) in
+      record {
+        holds = ⊎_elim
+            (λ q. let x = ap (λ (k : ℕ). (row_at old k).standing) q in let y = was.holds in absurd (cc))
+            (λ ne. ⊎_elim (λ k. k ∙ was.holds) (λ w. let x = w.2 in let y = (r.same i).settled in absurd (cc)) (r.others i ne))
+            (cases_eq i goal);
+        leads = subst (λ (ks : List Choice). AllByRecursion (LeadsToSettled (record { rows = new; nodes = nodes; links = links })) ks) (sym (r.same i).choices)
+            (leads_same a old new nodes links refutes_same (λ g x. (r.same g).settled ∙ x) (row_at old i).choices was.leads);
+      }
+
+  pub stands-refuted : (row_at old goal).standing ≡ Waiting → IsSeparatedBy a ds (claim_of (row_at old goal)) seq → FactsOn a ds (record { rows = old; nodes = nodes; links = links }) → FactsOn a ds (record { rows = new; nodes = nodes; links = links })
+  stands-refuted waits doc h =
       stands_same a old new nodes links refutes_same ds h
       (λ i place k e. h.facts.choices i place k (was_choice i place k e))
       (λ i s e. ⊎_elim
@@ -147,16 +167,46 @@ module _ (a : Automaton) (ds : List Document) (old new : List GoalRow) (nodes : 
       (λ i. (r.same i).flags ∙ h.facts.flags i ∙ sym (ap length (r.same i).choices))
       (λ i place k e u.
       let was = was_choice i place k e in
+      ⊎_elim
+      (λ mark. settled_open i place k mark e)
+      (λ unmarked.
       open_same a old new nodes links refutes_same (goal_case i place) (claim_of (row_at old i)) k
-      (λ g l n x. still_open g n x (λ q. (r.dependents (goal_case i place) (subst (λ (m : ℕ). Leads links (goal_case i place) (row_at old m).dependents) q l)).broken u))
+      (λ g l n x. still_open g n x (λ q. (in_doubt i place unmarked (r.dependents (goal_case i place) (subst (λ (m : ℕ). Leads links (goal_case i place) (row_at old m).dependents) q l))).broken u))
       (h.facts.choices i place k was) (h.facts.unbroken i place k was ((r.same i).unbroken place u)))
+      (cases_bool (row_at new i).settled))
       (λ i e.
       let w = held i e in
       subst (λ (ks : List Choice). RowHolds a (record { rows = new; nodes = nodes; links = links }) (claim_of (row_at old i)) ks) (sym (r.same i).choices)
-      (holds_same a old new nodes links refutes_same i (claim_of (row_at old i)) (row_at old i).choices
-      (λ place g l n x. still_open g n x (λ q. (r.dependents (goal_case i place) (subst (λ (m : ℕ). Leads links (goal_case i place) (row_at old m).dependents) q l)).settled e))
-      (λ place k x. h.facts.choices i place k x) (h.facts.holds i w.1)))
+      (⊎_elim
+      (λ mark. record {
+        begun = (h.facts.holds i w.1).begun;
+        opens = all_places (IsOpen after_) (row_at old i).choices (λ place k x. settled_open i place k mark (subst (λ (ks : List Choice). slice_get ks place ≡ Some k) (sym (r.same i).choices) x));
+      })
+      (λ unmarked.
+      holds_same a old new nodes links refutes_same i (claim_of (row_at old i)) (row_at old i).choices
+      (λ place g l n x. still_open g n x (λ q. (in_doubt i place unmarked (r.dependents (goal_case i place) (subst (λ (m : ℕ). Leads links (goal_case i place) (row_at old m).dependents) q l))).settled e))
+      (λ place k x. h.facts.choices i place k x) (h.facts.holds i w.1))
+      (cases_bool (row_at new i).settled)))
+      (settled_still h.facts.settled waits)
     where
+      after_ : TableView
+      after_ = record { rows = new; nodes = nodes; links = links }
+
+      cases_bool : (b : Bool) → (b ≡ true) ⊎ (b ≡ false)
+      cases_bool true = inl refl
+      cases_bool false = inr refl
+
+      in_doubt : (i place : ℕ) → (row_at new i).settled ≡ false → IsSeenTo (row_at new i) place → IsInDoubt (row_at new i) place
+      in_doubt i place unmarked (inl mark) = absurd (cc)
+      in_doubt i place unmarked (inr d) = d
+
+      -- no leaf of a settled goal names a refuted one
+      settled_open : (i place : ℕ) (k : Choice) → (row_at new i).settled ≡ true → slice_get (row_at new i).choices place ≡ Some k → IsOpen after_ k
+      settled_open i place k mark e tree is =
+          let stay = settled_still h.facts.settled waits in
+          AllLeaves-map (λ g. (row_at new g).settled ≡ true) (λ g. ¬ (IsRefuted new g)) (λ g m x. let held = (stay g m).holds in let w = x.1 in absurd (cc)) tree
+          (all_at (LeadsToSettled after_) (row_at new i).choices place k (stay i mark).leads e tree is)
+
       refuted_one : (s : Standing) (x y : Seq) → s ≡ Refuted x → s ≡ Refuted y → x ≡ y
       refuted_one s x y e f = cc
 
@@ -194,8 +244,9 @@ module _ (a : Automaton) (ds : List Document) (old : List GoalRow) (nodes : List
       → length row.broken ≡ length row.choices
       → ((place : ℕ) (k : Choice) → slice_get row.choices place ≡ Some k → IsUnbroken row place → IsOpen (record { rows = old; nodes = nodes; links = links }) k)
       → (row.standing ≡ Holds → RowHolds a (record { rows = old; nodes = nodes; links = links }) (claim_of (row_at old goal)) row.choices)
+      → (row_at old goal).standing ≡ Waiting → row.settled ≡ (row_at old goal).settled
       → FactsOn a ds (record { rows = old; nodes = nodes; links = links }) → FactsOn a ds (record { rows = new_rows; nodes = nodes; links = links })
-  stands-changed stand begun flags unbroken holds h =
+  stands-changed stand begun flags unbroken holds waits mark h =
       stands_same a old new_rows nodes links changed_same ds h
       (by_row (λ i r. (place : ℕ) (k : Choice) → slice_get r.choices place ≡ Some k → ChoiceStands a (record { rows = old; nodes = nodes; links = links }) (goal_case i place) (claim_of (row_at old i)) k)
       stand (λ i ne. h.facts.choices i))
@@ -208,7 +259,13 @@ module _ (a : Automaton) (ds : List Document) (old : List GoalRow) (nodes : List
       (by_row (λ i r. r.standing ≡ Holds → RowHolds a (record { rows = new_rows; nodes = nodes; links = links }) (claim_of (row_at old i)) r.choices)
       (λ e. holds_same a old new_rows nodes links changed_same goal (claim_of (row_at old goal)) row.choices (λ place g l n. still_open g n) stand (holds e))
       (λ i ne e. holds_same a old new_rows nodes links changed_same i (claim_of (row_at old i)) (row_at old i).choices (λ place g l n. still_open g n) (h.facts.choices i) (h.facts.holds i e)))
+      (by_row (λ i r. r.settled ≡ true → IsSettledRow (record { rows = new_rows; nodes = nodes; links = links }) r)
+      (λ e. let was = (h.facts.settled goal (sym mark ∙ e)).holds in absurd (cc))
+      (λ i ne e. let was = h.facts.settled i e in record { holds = was.holds; leads = leads_same a old new_rows nodes links changed_same keep_mark (row_at old i).choices was.leads }))
     where
+      keep_mark : (g : ℕ) → (row_at old g).settled ≡ true → (row_at new_rows g).settled ≡ true
+      keep_mark g = by_row (λ k r. (row_at old k).settled ≡ true → r.settled ≡ true) (λ e. mark ∙ e) (λ k ne e. e) g
+
       open_now : (i place : ℕ) (k : Choice) → ChoiceStands a (record { rows = old; nodes = nodes; links = links }) (goal_case i place) (claim_of (row_at old i)) k
           → IsOpen (record { rows = old; nodes = nodes; links = links }) k → IsOpen (record { rows = new_rows; nodes = nodes; links = links }) k
       open_now i place k x o = open_same a old new_rows nodes links changed_same (goal_case i place) (claim_of (row_at old i)) k (λ g l n. still_open g n) x o

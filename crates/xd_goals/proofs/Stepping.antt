@@ -1,5 +1,5 @@
 -- What a step of work does to a table.
-use Rattle.std.proofs.Common.{ℕ, ◌+◌, ◌<◌, ◌≤◌, ◌≡◌, Bool, true, List, [], ◌∷◌, ◌++◌, length, set, length-set, Option, Some, get_or-set_other, ⊎_elim, sym, refl, ap, subst, ◌∙◌, arith}
+use Rattle.std.proofs.Common.{ℕ, ◌+◌, ◌<◌, ◌≤◌, ◌≡◌, Bool, true, false, List, [], ◌∷◌, ◌++◌, length, set, length-set, Option, Some, get_or-set_other, ⊎_elim, sym, refl, ap, subst, ◌∙◌, arith}
 use Rattle.std.specs.List.{AllByRecursion, list_any, slice_get}
 use Rattle.std.specs.BTreeMap.{BTreeMap}
 use Rattle.std.proofs.lemmas.Bool.{cases_eq}
@@ -9,11 +9,11 @@ use Rattle.xd_doc.specs.declared.store.Seq.{Seq}
 use Rattle.xd_auto.specs.declared.auto.State.{State}
 use Rattle.xd_auto.specs.Automaton.{Automaton}
 use Rattle.xd_rules.specs.Rules.{Claim}
-use Rattle.xd_state_heads.specs.Moves.{claim_with, is_last_in}
-use Rattle.xd_goals.specs.Rows.{GoalRow, TableView, no_row, claim_at, claim_of, claim_key, goal_case, row_at}
-use Rattle.xd_goals.specs.Kept.{AreLinked, AreNodes, Grows, GrowsBy, IsConsistent, IsIndexed, IsWhole, Refutes, found_at, view_of}
-use Rattle.xd_goals.specs.Standing.{IsOpen, IsSeparatedBy, KeepsGoals}
-use Rattle.xd_goals.specs.Facts.{ChoiceStands, RowHolds, FactsOn, FactsOnAutomaton}
+use Rattle.xd_state_heads.specs.Moves.{IsInOrder, claim_with, is_last_in}
+use Rattle.xd_goals.specs.Rows.{GoalRow, TableView, no_row, claim_at, claim_of, claim_key, goal_case, row_at, IsRefuted}
+use Rattle.xd_goals.specs.Kept.{AreLinked, AreNodes, Grows, GrowsBy, IsConsistent, IsIndexed, IsMarking, IsWhole, Refutes, found_at, view_of, with_mark}
+use Rattle.xd_goals.specs.Standing.{IsBegun, IsOpen, IsSeparatedBy, KeepsGoals}
+use Rattle.xd_goals.specs.Facts.{ChoiceStands, RowHolds, FactsOn, FactsOnAutomaton, StaySettled}
 use Rattle.xd_goals.specs.Cases.{AreSettled}
 use Rattle.xd_goals.specs.Measure.{AreMadeFrom, Lowers, possible}
 use Rattle.xd_goals.specs.Reached.{HasTreeWithin, HaveTreesWithin, IsSettled, IsWaitingIn}
@@ -27,7 +27,7 @@ use Rattle.xd_goals.specs.declared.table.Link.{Link}
 use Rattle.xd_goals.specs.declared.table.Standing.TheVariants.{Holds, Refuted, Waiting}
 use Rattle.xd_goals.proofs.Facts.{facts-grows, keeps_goals-grows, keeps_goals-then, claim-grows, separated-grows, unlike_index}
 use Rattle.xd_goals.proofs.Itself.{nodes_longer}
-use Rattle.xd_goals.proofs.Settling.{SameGoals, changed_same, refutes_same, stands-changed, stands-refuted}
+use Rattle.xd_goals.proofs.Settling.{SameGoals, changed_same, holds_same, open_same, refutes_same, stands-changed, stands-refuted, stands_same}
 use Rattle.xd_goals.proofs.Measuring.{rows_bound, lowers-grown, lowers-held, lowers-refuted, made-grows, made-then}
 use Rattle.xd_goals.proofs.Working.{leaves_there, settled_holds}
 use Rattle.xd_goals.proofs.Growing.{claim_at-is, claim_within}
@@ -78,7 +78,7 @@ module _ (a : Automaton) (ds : List Document) (old new : List GoalRow) (nodes : 
   pub step_refuted : IsSeparatedBy a ds (claim_of (row_at old goal)) seq → FactsOn a ds (record { rows = old; nodes = nodes; links = links })
       → IsStep a ds (record { rows = old; nodes = nodes; links = links }) (record { rows = new; nodes = nodes; links = links })
   step_refuted doc h = record {
-    stands = stands-refuted a ds old new nodes links goal seq r doc h;
+    stands = stands-refuted a ds old new nodes links goal seq r waits doc h;
     kept = record {
       longer = omega (arith, r.count);
       claims = λ i l. (refutes_same a ds old new nodes links goal seq r).claims i;
@@ -96,7 +96,7 @@ module _ (a : Automaton) (ds : List Document) (old new : List GoalRow) (nodes : 
 
 -- a goal comes to hold
 module _ (a : Automaton) (ds : List Document) (old : List GoalRow) (nodes : List ChoiceNode) (links : List Link) (goal : ℕ) (row : GoalRow) (lt : goal < length old) (waits : (row_at old goal).standing ≡ Waiting)
-    (claim : claim_of row ≡ claim_of (row_at old goal)) (dependents : row.dependents ≡ (row_at old goal).dependents) (holds : row.standing ≡ Holds) where
+    (claim : claim_of row ≡ claim_of (row_at old goal)) (dependents : row.dependents ≡ (row_at old goal).dependents) (holds : row.standing ≡ Holds) (mark : row.settled ≡ (row_at old goal).settled) where
   unrefuted : (seq : Seq) → ¬ (row.standing ≡ Refuted seq)
   unrefuted seq e = cc
 
@@ -110,7 +110,7 @@ module _ (a : Automaton) (ds : List Document) (old : List GoalRow) (nodes : List
       → IsStep a ds (record { rows = old; nodes = nodes; links = links }) (record { rows = set old goal row; nodes = nodes; links = links })
   step_held stand flags k h = record {
     stands = stands-changed a ds old nodes links goal row lt claim dependents unrefuted stand (λ n. k.begun) flags
-        (λ place x e u. all_at (IsOpen (record { rows = old; nodes = nodes; links = links })) row.choices place x k.opens e) (λ e. k) h;
+        (λ place x e u. all_at (IsOpen (record { rows = old; nodes = nodes; links = links })) row.choices place x k.opens e) (λ e. k) waits mark h;
     kept = record {
       longer = omega (arith, length-set old goal row);
       claims = λ i l. same_held.claims i;
@@ -143,7 +143,7 @@ pub held_by : (a : Automaton) (ds : List Document) (t : TableView) (goal : ℕ) 
     → (is_last_in a c.left ≡ true → list_any (is_last_in a) c.rights ≡ true) → AreSettled a t goal c made → FactsOn a ds t
     → IsStep a ds t (record { rows = set t.rows goal (record (row_at t.rows goal) { standing = Holds; choices = made; broken = broken }); nodes = t.nodes; links = t.links })
 held_by a ds t goal c made broken flags lt waits e last h stands =
-    step_held a ds t.rows t.nodes t.links goal (record (row_at t.rows goal) { standing = Holds; choices = made; broken = broken }) lt waits refl refl refl
+    step_held a ds t.rows t.nodes t.links goal (record (row_at t.rows goal) { standing = Holds; choices = made; broken = broken }) lt waits refl refl refl refl
     (λ place k at. subst (λ (x : Claim State). ChoiceStands a t (goal_case goal place) x k) (sym e) (h.open_choices place k at).stands)
     flags
     (subst (λ (x : Claim State). RowHolds a t x made) (sym e) (settled_holds a t goal c made last h))
@@ -152,7 +152,7 @@ held_by a ds t goal c made broken flags lt waits e last h stands =
 pub same_held_by : (a : Automaton) (ds : List Document) (t : TableView) (goal : ℕ) (made : List Choice) (broken : List Bool) → goal < length t.rows → (row_at t.rows goal).standing ≡ Waiting
     → SameGoals t.rows (set t.rows goal (record (row_at t.rows goal) { standing = Holds; choices = made; broken = broken }))
 same_held_by a ds t goal made broken lt waits =
-    same_held a ds t.rows t.nodes t.links goal (record (row_at t.rows goal) { standing = Holds; choices = made; broken = broken }) lt waits refl refl refl
+    same_held a ds t.rows t.nodes t.links goal (record (row_at t.rows goal) { standing = Holds; choices = made; broken = broken }) lt waits refl refl refl refl
 
 -- a table has no more goals than its first ones and the possible ones
 pub bounded : (a : Automaton) (first : ℕ) (t : TableView) → FactsOnAutomaton a t → AreMadeFrom first t.rows → first ≤ length t.rows → length t.rows ≤ first + length (possible (length a))
@@ -217,3 +217,90 @@ keeps_goals-same t = record { longer = omega arith; claims = λ i lt. refl; refu
 pub no_length : {X : Type 0} (xs : List X) → length xs ≡ 0 → xs ≡ []
 no_length [] e = refl
 no_length (x ∷ xs) e = absurd (omega arith)
+
+-- at most marks have changed
+module _ (g h : Goals) (m : IsMarking g h) where
+  row_same : (P : GoalRow → Type 0) (i : ℕ) → ((b : Bool) → P (with_mark b (row_at g.rows.items i))) → P (row_at h.rows.items i)
+  row_same P i f = subst P (sym (m.rows.same i)) (f (row_at h.rows.items i).settled)
+
+  pub marking_same : SameGoals g.rows.items h.rows.items
+  marking_same = record {
+    count = m.rows.count;
+    claims = λ i. ap claim_of (m.rows.same i);
+    dependents = λ i. ap (λ (r : GoalRow). r.dependents) (m.rows.same i);
+  }
+
+  standing_is : (i : ℕ) → (row_at h.rows.items i).standing ≡ (row_at g.rows.items i).standing
+  standing_is i = ap (λ (r : GoalRow). r.standing) (m.rows.same i)
+
+  choices_are : (i : ℕ) → (row_at h.rows.items i).choices ≡ (row_at g.rows.items i).choices
+  choices_are i = ap (λ (r : GoalRow). r.choices) (m.rows.same i)
+
+  broken_is : (i : ℕ) → (row_at h.rows.items i).broken ≡ (row_at g.rows.items i).broken
+  broken_is i = ap (λ (r : GoalRow). r.broken) (m.rows.same i)
+
+  pub marking_kept : KeepsGoals (view_of g) (view_of h)
+  marking_kept = record {
+    longer = let c = m.rows.count in omega arith;
+    claims = λ i lt. ap claim_of (m.rows.same i);
+    refuted = λ i seq e. standing_is i ∙ e;
+  }
+
+  pub marking_made : (first : ℕ) → AreMadeFrom first g.rows.items → AreMadeFrom first h.rows.items
+  marking_made first made i le lt = subst IsInOrder (sym (ap (λ (r : GoalRow). r.rights) (m.rows.same i))) (made i le (let c = m.rows.count in omega arith))
+
+  view_is : record { rows = h.rows.items; nodes = g.nodes.items; links = g.links.items } ≡ view_of h
+  view_is =
+      ap (λ (ns : List ChoiceNode). record { rows = h.rows.items; nodes = ns; links = g.links.items }) (sym m.nodes)
+      ∙ ap (λ (ls : List Link). record { rows = h.rows.items; nodes = h.nodes.items; links = ls }) (sym m.links)
+
+  pub marking_whole : IsWhole g → IsWhole h
+  marking_whole w =
+      let k = whole_same g.rows.items h.rows.items g.nodes.items g.links.items g.found marking_same w.index w.links w.nodes in
+      record {
+        index = subst (λ (f : BTreeMap (List ℕ) ℕ). IsIndexed f h.rows.items) (sym m.found) k.0;
+        links = subst (AreLinked h.rows.items) (sym m.links) k.1;
+        nodes = subst (AreNodes h.rows.items) (sym m.nodes) k.2;
+      }
+
+  module _ (a : Automaton) (ds : List Document) where
+    abbrev marked : TableView
+    marked = record { rows = h.rows.items; nodes = g.nodes.items; links = g.links.items }
+
+    still_open : (n : ℕ) → ¬ (IsRefuted g.rows.items n) → ¬ (IsRefuted h.rows.items n)
+    still_open n not x = not (x.0, sym (standing_is n) ∙ x.1)
+
+    pub marking_stands : StaySettled (view_of h) → FactsOn a ds (view_of g) → FactsOn a ds (view_of h)
+    marking_stands settled s = subst (FactsOn a ds) view_is
+        (stands_same a g.rows.items h.rows.items g.nodes.items g.links.items marking_same ds s
+        (λ i place k e. s.facts.choices i place k (was i place k e))
+        (λ i seq e. s.refuted i seq (sym (standing_is i) ∙ e))
+        (λ i n. subst (λ (ks : List Choice). IsBegun a (claim_of (row_at g.rows.items i)) ks) (sym (choices_are i)) (s.facts.begun i (λ e. n (choices_are i ∙ e))))
+        (λ i. ap length (broken_is i) ∙ s.facts.flags i ∙ sym (ap length (choices_are i)))
+        (λ i place k e u.
+        open_same a g.rows.items h.rows.items g.nodes.items g.links.items marking_same (goal_case i place) (claim_of (row_at g.rows.items i)) k (λ n l x. still_open n x)
+        (s.facts.choices i place k (was i place k e)) (s.facts.unbroken i place k (was i place k e) (subst (λ (flags : List Bool). slice_get flags place ≡ Some false) (broken_is i) u)))
+        (λ i e.
+        subst (λ (ks : List Choice). RowHolds a marked (claim_of (row_at g.rows.items i)) ks) (sym (choices_are i))
+        (holds_same a g.rows.items h.rows.items g.nodes.items g.links.items marking_same i (claim_of (row_at g.rows.items i)) (row_at g.rows.items i).choices (λ place n l x. still_open n x)
+        (s.facts.choices i) (s.facts.holds i (sym (standing_is i) ∙ e))))
+        (subst StaySettled (sym view_is) settled))
+      where
+        was : (i place : ℕ) (k : Choice) → slice_get (row_at h.rows.items i).choices place ≡ Some k → slice_get (row_at g.rows.items i).choices place ≡ Some k
+        was i place k e = subst (λ (ks : List Choice). slice_get ks place ≡ Some k) (choices_are i) e
+
+-- what stands after at most marks have changed, in a table that came from a first one
+pub record StandsMarked (a : Automaton) (ds : List Document) (first : TableView) (h : Goals) : Type 0 where
+  pub whole : IsWhole h
+  pub stands : FactsOn a ds (view_of h)
+  pub kept : KeepsGoals first (view_of h)
+  pub made : AreMadeFrom (length first.rows) h.rows.items
+
+pub after_marks : (a : Automaton) (ds : List Document) (first : TableView) (g h : Goals) → IsWhole g → FactsOn a ds (view_of g) → KeepsGoals first (view_of g) → AreMadeFrom (length first.rows) g.rows.items → IsMarking g h → StaySettled (view_of h)
+    → StandsMarked a ds first h
+after_marks a ds first g h whole stands kept made m settled = record {
+  whole = marking_whole g h m whole;
+  stands = marking_stands g h m a ds settled stands;
+  kept = keeps_goals-then first (view_of g) (view_of h) kept (marking_kept g h m);
+  made = marking_made g h m (length first.rows) made;
+}

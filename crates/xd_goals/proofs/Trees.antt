@@ -11,6 +11,8 @@ use Rattle.xd_state_heads.specs.Moves.{AreBelow, IsInOrder, RiseFrom, claim_with
 use Rattle.xd_goals.specs.Rows.{GoalRow, TableView, row_at, claim_at, IsListed, IsRefuted}
 use Rattle.xd_goals.specs.Kept.{Grows, GrowsBy}
 use Rattle.xd_goals.specs.Trees.{StandsAt, IsGrown, IsTextTree, HasTree, HasOpenTree, IsFree, IsLeafFor, IsPathBelow, IsSplitAt, gathered}
+use Rattle.xd_goals.specs.Facts.{LeadsToSettled}
+use Rattle.xd_goals.specs.declared.table.Choice.{Choice}
 use Rattle.xd_goals.specs.declared.table.ChoiceNode.{ChoiceNode}
 use Rattle.xd_goals.specs.declared.table.ChoiceNode.TheVariants.{Split, Content, Rest}
 use Rattle.xd_goals.specs.declared.table.Standing.{Standing}
@@ -86,6 +88,20 @@ broken-grows s t h g = ⊎_elim
     (λ lt. (h.kept g lt).broken)
     (λ ge. (h.added g ge).broken ∙ sym (past_is_new s.rows g ge).broken)
     (cases_lt g (length s.rows))
+
+pub settled-grows : {A : List State → Type 0} (s t : TableView) → GrowsBy A s t → (g : ℕ) → ((row_at t.rows g).settled ≡ (row_at s.rows g).settled)
+settled-grows s t h g = ⊎_elim
+    (λ lt. (h.kept g lt).settled)
+    (λ ge. (h.added g ge).settled ∙ sym (past_is_new s.rows g ge).settled)
+    (cases_lt g (length s.rows))
+
+-- a choice that leads to settled goals alone does so still, where nodes and marks stay
+pub settled_leads : (s t : TableView) → ((n : ℕ) (x : ChoiceNode) → slice_get s.nodes n ≡ Some x → slice_get t.nodes n ≡ Some x) → ((g : ℕ) → (row_at s.rows g).settled ≡ true → (row_at t.rows g).settled ≡ true)
+    → (k : Choice) (w : ChoiceTree) → StandsAt s.nodes k.root w → LeadsToSettled s k → LeadsToSettled t k
+settled_leads s t more keep k w stands h tree is =
+    let same : w ≡ tree = StandsAt-one t.nodes w tree k.root (StandsAt-more s.nodes t.nodes more w k.root stands) is in
+    subst (λ (x : ChoiceTree). AllLeaves (λ g. (row_at t.rows g).settled ≡ true) x) same
+    (AllLeaves-map (λ g. (row_at s.rows g).settled ≡ true) (λ g. (row_at t.rows g).settled ≡ true) keep w (h w stands))
 
 pub open-grows : {A : List State → Type 0} (s t : TableView) → GrowsBy A s t → (g : ℕ) → ¬ (IsRefuted s.rows g) → ¬ (IsRefuted t.rows g)
 open-grows s t h g n r = n (r.0, sym (standing-grows s t h g) ∙ r.1)

@@ -1,28 +1,81 @@
 -- How goals that held come to wait.
-use Rattle.std.proofs.Common.{ℕ, suc, ◌<◌, ◌≡◌, ◌⊎◌, List, length, set, get_or-set_same, get_or-set_other, Option, Some, None, inl, inr, ⊎_elim, refl, sym, ap, ◌∙◌, subst, arith, length-set}
+use Rattle.std.proofs.Common.{ℕ, suc, ◌<◌, ◌≡◌, ◌⊎◌, true, false, List, length, set, get_or-set_same, get_or-set_other, Option, Some, None, inl, inr, ⊎_elim, refl, sym, ap, ◌∙◌, subst, arith, length-set}
+use Rattle.std.specs.List.{slice_get}
 use Rattle.std.proofs.lemmas.Bool.{cases_eq}
 use Rattle.xd_doc.specs.Stored.{IsBelow}
 use Rattle.xd_doc.specs.declared.store.Seq.{Seq}
 use Rattle.xd_goals.specs.Rows.{GoalRow, no_row, row_at, Leads}
-use Rattle.xd_goals.specs.Kept.{IsInDoubt, IsSameClaim, IsWoken, IsWokenRow, Refutes, with_standing}
+use Rattle.xd_goals.specs.Kept.{IsSameClaim, IsSeenTo, IsWoken, IsWokenRow, Refutes, with_flag, with_standing}
 use Rattle.xd_goals.specs.declared.table.Standing.TheVariants.{Holds, Refuted}
 use Rattle.xd_goals.specs.declared.table.GoalCase.{GoalCase}
 use Rattle.xd_goals.specs.declared.table.Link.{Link}
+use Rattle.xd_state_heads.proofs.Lists.{set_here, set_there}
 
 pub same_claim_row : (row : GoalRow) → IsSameClaim row row
-same_claim_row row = record { left = refl; rights = refl; choices = refl; dependents = refl; flags = refl; unbroken = λ place u. u }
+same_claim_row row = record { left = refl; rights = refl; choices = refl; dependents = refl; flags = refl; unbroken = λ place u. u; settled = refl }
+
+-- the flag of a case is set, and its goal doesn't hold
+module _ (old new : List GoalRow) (case : GoalCase) (lt : case.goal.number < length old) (is : new ≡ set old case.goal.number (with_flag case.place (row_at old case.goal.number)))
+    (open_ : ¬ ((row_at new case.goal.number).standing ≡ Holds)) where
+  flagged : GoalRow
+  flagged = with_flag case.place (row_at old case.goal.number)
+
+  flag_here : row_at new case.goal.number ≡ with_flag case.place (row_at old case.goal.number)
+  flag_here = ap (λ (rs : List GoalRow). row_at rs case.goal.number) is ∙ get_or-set_same old case.goal.number (with_flag case.place (row_at old case.goal.number)) no_row lt
+
+  flag_other : (i : ℕ) → ¬ (i ≡ case.goal.number) → row_at new i ≡ row_at old i
+  flag_other i ne = ap (λ (rs : List GoalRow). row_at rs i) is ∙ get_or-set_other old case.goal.number i (with_flag case.place (row_at old case.goal.number)) no_row ne
+
+  flag_same : (row : GoalRow) → IsSameClaim row (with_flag case.place row)
+  flag_same row = record {
+    left = refl;
+    rights = refl;
+    choices = refl;
+    dependents = refl;
+    flags = length-set row.broken case.place true;
+    unbroken = λ p u. ⊎_elim
+        (λ q. absurd (let e = set_here row.broken case.place true false (subst (λ (n : ℕ). slice_get (set row.broken case.place true) n ≡ Some false) q u) in cc))
+        (λ ne. set_there row.broken case.place p true false ne u)
+        (cases_eq p case.place);
+    settled = refl;
+  }
+
+  pub woken_flag : IsWoken (λ k. k ≡ case) old new
+  woken_flag = record {
+    count = ap length is ∙ length-set old case.goal.number (with_flag case.place (row_at old case.goal.number));
+    same = λ i. ⊎_elim
+        (λ q. subst (λ (n : ℕ). IsSameClaim (row_at old n) (row_at new n)) (sym q)
+        (subst (λ (r : GoalRow). IsSameClaim (row_at old case.goal.number) r) (sym flag_here) (flag_same (row_at old case.goal.number))))
+        (λ ne. subst (λ (r : GoalRow). IsSameClaim (row_at old i) r) (sym (flag_other i ne)) (same_claim_row (row_at old i)))
+        (cases_eq i case.goal.number);
+    others = λ i. ⊎_elim
+        (λ q. inl (subst (λ (n : ℕ). (row_at new n).standing ≡ (row_at old n).standing) (sym q) (ap (λ (r : GoalRow). r.standing) flag_here)))
+        (λ ne. inl (ap (λ (r : GoalRow). r.standing) (flag_other i ne)))
+        (cases_eq i case.goal.number);
+    these = λ owner q. subst (λ (k : GoalCase). IsSeenTo (row_at new k.goal.number) k.place) (sym q) (inr (record {
+      settled = open_;
+      broken = λ u. absurd (let e = set_here (row_at old case.goal.number).broken case.place true false (subst (λ (r : GoalRow). slice_get r.broken case.place ≡ Some false) flag_here u) in cc);
+    }));
+  }
+
+-- goals come to wait one after the other
+pub woken_row_then : (a b c : GoalRow) → IsSameClaim a b → IsWokenRow a b → IsWokenRow b c → IsWokenRow a c
+woken_row_then a b c s (inl e) (inl f) = inl (f ∙ e)
+woken_row_then a b c s (inl e) (inr w) = inr (sym e ∙ w.0, w.1, sym s.settled ∙ w.2)
+woken_row_then a b c s (inr w) (inl f) = inr (w.0, f ∙ w.1, w.2)
+woken_row_then a b c s (inr w) (inr v) = inr (w.0, v.1, w.2)
 
 -- a number that falls along a list
 abbrev pub steps_left : Option ℕ → ℕ
 steps_left None = 0
 steps_left (Some k) = suc k
 
--- so far, up to a place of the list, goals that held wait, and the cases that the list led to before it are in doubt
+-- so far, up to a place of the list, goals that held wait, and the cases that the list led to before it are in doubt, unless their goals are settled
 pub record WakesTo (links : List Link) (first at : Option ℕ) (old new : List GoalRow) : Type 0 where
   pub count : length new ≡ length old
   pub same : (i : ℕ) → IsSameClaim (row_at old i) (row_at new i)
   pub others : (i : ℕ) → IsWokenRow (row_at old i) (row_at new i)
-  pub done : (owner : GoalCase) → Leads links owner first → IsInDoubt (row_at new owner.goal.number) owner.place ⊎ Leads links owner at
+  pub done : (owner : GoalCase) → Leads links owner first → IsSeenTo (row_at new owner.goal.number) owner.place ⊎ Leads links owner at
   pub place : IsBelow (length links) at
 
 pub WakesTo-start : (links : List Link) (first : Option ℕ) (rows : List GoalRow) → IsBelow (length links) first → WakesTo links first first rows rows
@@ -34,7 +87,7 @@ WakesTo-start links first rows b = record {
   place = b;
 }
 
-same_claim_then : (a b c : GoalRow) → IsSameClaim a b → IsSameClaim b c → IsSameClaim a c
+pub same_claim_then : (a b c : GoalRow) → IsSameClaim a b → IsSameClaim b c → IsSameClaim a c
 same_claim_then a b c h k = record {
   left = k.left ∙ h.left;
   rights = k.rights ∙ h.rights;
@@ -42,6 +95,7 @@ same_claim_then a b c h k = record {
   dependents = k.dependents ∙ h.dependents;
   flags = k.flags ∙ h.flags;
   unbroken = λ place u. h.unbroken place (k.unbroken place u);
+  settled = k.settled ∙ h.settled;
 }
 
 -- the goal's standing is set, and then its dependents wait
@@ -66,7 +120,7 @@ Refutes-steps links goal seq old mid new lt e k = record {
 
     first_same : (i : ℕ) → IsSameClaim (row_at old i) (row_at mid i)
     first_same i = ⊎_elim
-        (λ q. subst (λ (n : ℕ). IsSameClaim (row_at old n) (row_at mid n)) (sym q) (subst (λ (r : GoalRow). IsSameClaim (row_at old goal) r) (sym here_is) (record { left = refl; rights = refl; choices = refl; dependents = refl; flags = refl; unbroken = λ place u. u })))
+        (λ q. subst (λ (n : ℕ). IsSameClaim (row_at old n) (row_at mid n)) (sym q) (subst (λ (r : GoalRow). IsSameClaim (row_at old goal) r) (sym here_is) (record { left = refl; rights = refl; choices = refl; dependents = refl; flags = refl; unbroken = λ place u. u; settled = refl })))
         (λ ne. subst (λ (r : GoalRow). IsSameClaim (row_at old i) r) (sym (other_is i ne)) (same_claim_row (row_at old i)))
         (cases_eq i goal)
 

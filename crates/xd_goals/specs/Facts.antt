@@ -5,10 +5,10 @@ use Rattle.xd_doc.specs.Document.{Document}
 use Rattle.xd_auto.specs.declared.auto.State.{State}
 use Rattle.xd_auto.specs.Automaton.{Automaton}
 use Rattle.xd_rules.specs.Heads.{Head, matches}
-use Rattle.xd_rules.specs.Rules.{Claim, head_number}
+use Rattle.xd_rules.specs.Rules.{AllLeaves, ChoiceTree, Claim, head_number}
 use Rattle.xd_state_heads.specs.Moves.{heads_of}
-use Rattle.xd_goals.specs.Rows.{TableView, row_at, claim_of, goal_case, IsUnbroken, RowsBelow}
-use Rattle.xd_goals.specs.Trees.{HasTree}
+use Rattle.xd_goals.specs.Rows.{GoalRow, TableView, row_at, claim_of, goal_case, IsUnbroken, RowsBelow}
+use Rattle.xd_goals.specs.Trees.{HasTree, StandsAt}
 use Rattle.xd_goals.specs.Kept.{IsWhole, view_of}
 use Rattle.xd_goals.specs.declared.goals.Goals.{Goals}
 use Rattle.xd_goals.specs.Standing.{AreSeparated, IsBegun, IsCaseTree, IsOpen}
@@ -16,15 +16,30 @@ use Rattle.xd_goals.specs.declared.table.Choice.{Choice}
 use Rattle.xd_goals.specs.declared.table.GoalCase.{GoalCase}
 use Rattle.xd_goals.specs.declared.table.Standing.TheVariants.{Holds}
 
+-- each goal that a leaf of the choice names is marked as settled
+abbrev pub LeadsToSettled : TableView → Choice → Type 0
+LeadsToSettled t k = (tree : ChoiceTree) → StandsAt t.nodes k.root tree → AllLeaves (λ g. (row_at t.rows g).settled ≡ true) tree
+
+-- it holds, and leads to goals alone that are marked as settled
+pub record IsSettledRow (t : TableView) (row : GoalRow) : Type 0 where
+  pub holds : row.standing ≡ Holds
+  pub leads : AllByRecursion (LeadsToSettled t) row.choices
+
+-- so does each goal that is marked so
+abbrev pub StaySettled : TableView → Type 0
+StaySettled t = (i : ℕ) → (row_at t.rows i).settled ≡ true → IsSettledRow t (row_at t.rows i)
+
 -- What is so of every table, whatever automaton its goals speak of: no two goals have the same left and the same rights in the same order;
 -- a tree stands at each choice's root, and the case is among the dependents of each goal that a leaf names; each choice has a
--- flag, and where the flag isn't set no leaf names a refuted goal; and no leaf of a goal that holds does.
+-- flag, and where the flag isn't set no leaf names a refuted goal; no leaf of a goal that holds does; and goals that are marked as settled hold, and lead
+-- through leaves to such goals alone.
 pub record KeepsLists (t : TableView) : Type 0 where
   pub unlike : (i j : ℕ) → i < length t.rows → j < length t.rows → claim_of (row_at t.rows i) ≡ claim_of (row_at t.rows j) → i ≡ j
   pub trees : (i place : ℕ) (k : Choice) → slice_get (row_at t.rows i).choices place ≡ Some k → HasTree t (λ _. Unit {0}) (goal_case i place) k.root
   pub flags : (i : ℕ) → length (row_at t.rows i).broken ≡ length (row_at t.rows i).choices
   pub unbroken : (i place : ℕ) (k : Choice) → slice_get (row_at t.rows i).choices place ≡ Some k → IsUnbroken (row_at t.rows i) place → IsOpen t k
   pub opens : (i : ℕ) → (row_at t.rows i).standing ≡ Holds → AllByRecursion (IsOpen t) (row_at t.rows i).choices
+  pub settled : StaySettled t
 
 -- what is so of every table, as it is kept
 pub record IsKept (g : Goals) : Type 0 where
@@ -54,6 +69,7 @@ pub record FactsOnAutomaton (a : Automaton) (t : TableView) : Type 0 where
   pub flags : (i : ℕ) → length (row_at t.rows i).broken ≡ length (row_at t.rows i).choices
   pub unbroken : (i place : ℕ) (k : Choice) → slice_get (row_at t.rows i).choices place ≡ Some k → IsUnbroken (row_at t.rows i) place → IsOpen t k
   pub holds : (i : ℕ) → (row_at t.rows i).standing ≡ Holds → RowHolds a t (claim_of (row_at t.rows i)) (row_at t.rows i).choices
+  pub settled : StaySettled t
 
 pub record FactsOn (a : Automaton) (ds : List Document) (t : TableView) : Type 0 where
   pub facts : FactsOnAutomaton a t

@@ -1,5 +1,5 @@
 -- What a table keeps about itself, and how it grows. Of what follows only private contracts speak.
-use Rattle.std.specs.Prelude.{◌≡◌, ℕ, ◌<◌, ◌≤◌, ◌⊎◌, true, false, List, [], length, Option, Some, slice_get, slice_set}
+use Rattle.std.specs.Prelude.{◌≡◌, ℕ, ◌<◌, ◌≤◌, ◌⊎◌, Bool, true, false, List, [], length, Option, Some, slice_get, slice_set}
 use Rattle.std.specs.Ordering.{nat_cmp}
 use Rattle.std.specs.Cmp.Lexicographic.{slice_cmp}
 use Rattle.std.specs.BTreeMap.{BTreeMap, get}
@@ -57,12 +57,14 @@ pub record IsSameGoal (old new : GoalRow) : Type 0 where
   pub standing : new.standing ≡ old.standing
   pub choices : new.choices ≡ old.choices
   pub broken : new.broken ≡ old.broken
+  pub settled : new.settled ≡ old.settled
 
 -- nothing is known of it yet
 pub record IsNew (row : GoalRow) : Type 0 where
   pub standing : row.standing ≡ Waiting
   pub choices : row.choices ≡ []
   pub broken : row.broken ≡ []
+  pub settled : row.settled ≡ false
 
 -- goals with such rights, nodes and dependents were added, and nothing else has changed
 pub record GrowsBy (Allows : List State → Type 0) (old new : TableView) : Type 0 where
@@ -108,27 +110,47 @@ pub record IsSameClaim (old new : GoalRow) : Type 0 where
   pub dependents : new.dependents ≡ old.dependents
   pub flags : length new.broken ≡ length old.broken
   pub unbroken : (place : ℕ) → IsUnbroken new place → IsUnbroken old place
+  pub settled : new.settled ≡ old.settled
 
--- it stands as it did, or held and waits
+-- it stands as it did, or held, wasn't settled, and waits
 abbrev pub IsWokenRow : GoalRow → GoalRow → Type 0
-IsWokenRow old new = (new.standing ≡ old.standing) ⊎ ((old.standing ≡ Holds) × (new.standing ≡ Waiting))
+IsWokenRow old new = (new.standing ≡ old.standing) ⊎ ((old.standing ≡ Holds) × (new.standing ≡ Waiting) × (old.settled ≡ false))
 
 -- the goal doesn't hold, and work on it looks at the case
 pub record IsInDoubt (row : GoalRow) (place : ℕ) : Type 0 where
   pub settled : ¬ (row.standing ≡ Holds)
   pub broken : ¬ (IsUnbroken row place)
 
--- goals that held wait; of these cases, each is in doubt
+-- the goal is settled, or the case is in doubt
+abbrev pub IsSeenTo : GoalRow → ℕ → Type 0
+IsSeenTo row place = (row.settled ≡ true) ⊎ IsInDoubt row place
+
+-- goals that held wait; of these cases, each is in doubt, unless its goal is settled
 pub record IsWoken (These : GoalCase → Type 0) (old new : List GoalRow) : Type 0 where
   pub count : length new ≡ length old
   pub same : (i : ℕ) → IsSameClaim (row_at old i) (row_at new i)
   pub others : (i : ℕ) → IsWokenRow (row_at old i) (row_at new i)
-  pub these : (owner : GoalCase) → These owner → IsInDoubt (row_at new owner.goal.number) owner.place
+  pub these : (owner : GoalCase) → These owner → IsSeenTo (row_at new owner.goal.number) owner.place
 
--- the goal is refuted by the document, and each case that depends on it is in doubt
+-- the goal is refuted by the document, and each case that depends on it is in doubt, unless its goal is settled
 pub record Refutes (links : List Link) (goal : ℕ) (seq : Seq) (old new : List GoalRow) : Type 0 where
   pub count : length new ≡ length old
   pub same : (i : ℕ) → IsSameClaim (row_at old i) (row_at new i)
   pub goal_is : (row_at new goal).standing ≡ Refuted seq
   pub others : (i : ℕ) → ¬ (i ≡ goal) → IsWokenRow (row_at old i) (row_at new i)
-  pub dependents : (owner : GoalCase) → Leads links owner (row_at old goal).dependents → IsInDoubt (row_at new owner.goal.number) owner.place
+  pub dependents : (owner : GoalCase) → Leads links owner (row_at old goal).dependents → IsSeenTo (row_at new owner.goal.number) owner.place
+
+abbrev pub with_mark : Bool → GoalRow → GoalRow
+with_mark settled row = record row { settled = settled }
+
+-- the same goals, but for which are marked as settled
+pub record IsSameButMarks (old new : List GoalRow) : Type 0 where
+  pub count : length new ≡ length old
+  pub same : (i : ℕ) → row_at new i ≡ with_mark (row_at new i).settled (row_at old i)
+
+-- at most the goals' marks have changed
+pub record IsMarking (old new : Goals) : Type 0 where
+  pub rows : IsSameButMarks old.rows.items new.rows.items
+  pub nodes : new.nodes.items ≡ old.nodes.items
+  pub links : new.links.items ≡ old.links.items
+  pub found : new.found ≡ old.found

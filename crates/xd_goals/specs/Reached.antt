@@ -1,8 +1,10 @@
 -- Goals that are reached from a goal through leaves.
-use Rattle.std.specs.Prelude.{◌≡◌, ℕ, ◌+◌, ◌<◌, ◌≤◌, ◌⊎◌, Bool, true, false, suc, List, [], ◌∷◌, length, slice_index_or}
+use Rattle.std.specs.Prelude.{◌≡◌, ℕ, ◌+◌, ◌<◌, ◌≤◌, ◌⊎◌, Bool, true, false, suc, List, [], ◌∷◌, map, length, slice_index_or}
 use Rattle.std.specs.List.{AllByRecursion}
 use Rattle.xd_rules.specs.Rules.{ChoiceTree, ContentLeaf, RestLeaf, SplitOn, AllLeaves}
 use Rattle.xd_goals.specs.Rows.{GoalRow, TableView, IsRefuted, row_at}
+use Rattle.xd_rules.specs.Members.{IsOneOf}
+use Rattle.xd_goals.specs.Kept.{IsSameButMarks}
 use Rattle.xd_goals.specs.Trees.{StandsAt}
 use Rattle.xd_goals.specs.declared.table.Choice.{Choice}
 use Rattle.xd_goals.specs.declared.table.ChoiceNode.{ChoiceNode}
@@ -11,6 +13,9 @@ use Rattle.xd_goals.specs.declared.table.Standing.TheVariants.{Holds, Waiting}
 
 abbrev pub is_marked : List Bool → ℕ → Bool
 is_marked marks g = slice_index_or marks g false
+
+abbrev pub marks_of : List GoalRow → List Bool
+marks_of rows = map (λ (r : GoalRow). r.settled) rows
 
 -- each goal that a leaf of the choice names is marked
 abbrev pub LeadsToMarked : List ChoiceNode → List Bool → Choice → Type 0
@@ -70,7 +75,32 @@ pub record ReachesMore (marks : List Bool) (order : List ℕ) (marks2 : List Boo
   pub ordered : ((g : ℕ) → is_marked marks g ≡ true → (k : ℕ) × (k < length order) × (slice_index_or order k 0 ≡ g)) → (g : ℕ) → is_marked marks2 g ≡ true
       → (k : ℕ) × (k < length order2) × (slice_index_or order2 k 0 ≡ g)
 
--- the walk so far: of the goals that were reached, in order, the first hold and lead to marked ones alone, unless some wait
+-- the goal is settled, or holds and leads to marked ones alone
+abbrev pub IsPassed : TableView → List Bool → ℕ → Type 0
+IsPassed t marks g = ((row_at t.rows g).settled ≡ true) ⊎ (((row_at t.rows g).standing ≡ Holds) × AllByRecursion (LeadsToMarked t.nodes marks) (row_at t.rows g).choices)
+
+-- the start is among these goals, and each of them is settled, or holds and leads to these alone
+pub record AreClosed (t : TableView) (start : ℕ) (order : List ℕ) : Type 0 where
+  pub marks : List Bool
+  pub started : is_marked marks start ≡ true
+  pub among : (g : ℕ) → is_marked marks g ≡ true → IsOneOf g order
+  pub marked : (g : ℕ) → IsOneOf g order → is_marked marks g ≡ true
+  pub passed : (g : ℕ) → is_marked marks g ≡ true → IsPassed t marks g
+
+-- what a walk finds: goals that are there, those of them that wait, and where none does, all that it leads to
+pub record IsWalk (t : TableView) (start : ℕ) (order : List ℕ) (waiting : List GoalId) : Type 0 where
+  pub there : AllByRecursion (λ (n : ℕ). n < length t.rows) order
+  pub waits : AllByRecursion (IsWaitingIn t.rows) waiting
+  pub closed : waiting ≡ [] → AreClosed t start order
+
+-- these goals, and no others, were marked as settled
+pub record MarksThese (order : List ℕ) (old new : List GoalRow) : Type 0 where
+  pub rows : IsSameButMarks old new
+  pub marked : (g : ℕ) → IsOneOf g order → (row_at new g).settled ≡ true
+  pub kept : (g : ℕ) → (row_at old g).settled ≡ true → (row_at new g).settled ≡ true
+  pub only : (g : ℕ) → (row_at new g).settled ≡ true → ((row_at old g).settled ≡ true) ⊎ IsOneOf g order
+
+-- the walk so far: of the goals that were reached, in order, the first are settled, or hold and lead to marked ones alone, unless some wait
 pub record IsWalked (t : TableView) (start : ℕ) (waiting : List GoalId) (marks : List Bool) (order : List ℕ) (next : ℕ) : Type 0 where
   pub sized : length marks ≡ length t.rows
   pub started : is_marked marks start ≡ true
@@ -79,5 +109,4 @@ pub record IsWalked (t : TableView) (start : ℕ) (waiting : List GoalId) (marks
   pub within : next ≤ length order
   pub open_ : (g : ℕ) → is_marked marks g ≡ true → ¬ (IsRefuted t.rows g)
   pub waits : AllByRecursion (IsWaitingIn t.rows) waiting
-  pub holds : waiting ≡ [] → (k : ℕ) → k < next → (row_at t.rows (slice_index_or order k 0)).standing ≡ Holds
-  pub leads : waiting ≡ [] → (k : ℕ) → k < next → AllByRecursion (LeadsToMarked t.nodes marks) (row_at t.rows (slice_index_or order k 0)).choices
+  pub passed : waiting ≡ [] → (k : ℕ) → k < next → IsPassed t marks (slice_index_or order k 0)

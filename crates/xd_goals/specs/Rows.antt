@@ -12,7 +12,7 @@ use Rattle.xd_goals.specs.declared.table.Standing.{Standing}
 use Rattle.xd_goals.specs.declared.table.Standing.TheVariants.{Refuted, Waiting}
 use Rattle.xd_goals.specs.declared.table.Link.{Link}
 
--- a goal, its choice trees with a flag for each, and where its list of dependents begins
+-- a goal, its choice trees with a flag for each, where its list of dependents begins, and whether it is marked as settled
 pub record GoalRow : Type 0 where
   pub left : State
   pub rights : List State
@@ -20,6 +20,7 @@ pub record GoalRow : Type 0 where
   pub choices : List Choice
   pub broken : List Bool
   pub dependents : Option ℕ
+  pub settled : Bool
 
 pub record TableView : Type 0 where
   pub rows : List GoalRow
@@ -31,7 +32,7 @@ no_view = record { rows = []; nodes = []; links = [] }
 
 -- a goal that waits, and has nothing yet
 abbrev pub new_row : State → List State → GoalRow
-new_row left rights = record { left = left; rights = rights; standing = Waiting; choices = []; broken = []; dependents = None }
+new_row left rights = record { left = left; rights = rights; standing = Waiting; choices = []; broken = []; dependents = None; settled = false }
 
 abbrev pub no_row : GoalRow
 no_row = new_row (record { number = 0 }) []

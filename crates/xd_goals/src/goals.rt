@@ -6,7 +6,7 @@ ghost use Rattle.xd_auto.specs.Automaton.{state_number};
 ghost use Rattle.xd_doc.specs.Stored.{IsBelow};
 ghost use Rattle.xd_state_heads.specs.Moves.{AreBelow, claim_with};
 ghost use Rattle.xd_goals.specs.Rows.{IsListed, IsRefuted, NodeStands, claim_at, claim_key, new_row, row_at};
-ghost use Rattle.xd_goals.specs.Kept.{AreLinked, AreThese, BeginsWith, Grows, GrowsBy, IsConsistent, IsWoken, Refutes, found_at, view_of, with_choice, with_flag, with_standing};
+ghost use Rattle.xd_goals.specs.Kept.{AreLinked, AreThese, BeginsWith, Grows, GrowsBy, IsConsistent, IsWoken, Refutes, found_at, view_of, with_choice, with_flag, with_mark, with_standing};
 ghost use Rattle.xd_goals.specs.Rows.{Leads};
 
 use crate::table::{Choice, ChoiceNode, GoalCase, GoalId, Link, Row, Standing};
@@ -94,6 +94,7 @@ fn add_row(
         choices: Vec::new(alloc),
         broken: Vec::new(alloc),
         dependents: None,
+        settled: false,
     })?;
     match put(found, key, number) {
         Ok(()) => Ok(GoalId { number }),
@@ -252,16 +253,30 @@ fn set_flag(rows: &mut Vec<Row>, case: GoalCase)
     }
 }
 
-/// Sets the flag of a case, and lets its goal wait where it holds.
+/// Sets the flag of a case, and lets its goal wait where it holds. A goal that is settled stays as it
+/// is: no leaf of it names a refuted goal.
 fn wake(rows: &mut Vec<Row>, case: GoalCase)
     requires { case.goal.number < length rows.old.items }
     ensures { IsWoken (λ k. k ≡ case) rows.old.items rows.new.items }
 {
+    let row = &rows[case.goal.number];
+    if row.settled {
+        return;
+    }
     set_flag(rows, case);
     let row = &rows[case.goal.number];
     if let Standing::Holds = row.standing {
         set_standing(rows, case.goal, Standing::Waiting);
     }
+}
+
+/// Marks a goal as settled, or takes the mark away.
+pub(crate) fn set_settled(rows: &mut Vec<Row>, goal: usize, settled: bool)
+    requires { goal < length rows.old.items }
+    ensures { rows.new.items ≡ slice_set rows.old.items goal (with_mark settled (row_at rows.old.items goal)) }
+{
+    let row = &mut rows[goal];
+    row.settled = settled;
 }
 
 /// Sets the flags of the cases that depend on a goal, and lets those of their goals wait that hold.

@@ -5,15 +5,16 @@ ghost use Rattle.std.specs.List.{AllByRecursion};
 ghost use Rattle.xd_rules.specs.Rules.{ChoiceTree, AllLeaves};
 ghost use Rattle.xd_rules.specs.Members.{SomeOf};
 ghost use Rattle.xd_goals.specs.Rows.{IsRefuted, row_at};
-ghost use Rattle.xd_goals.specs.Kept.{view_of};
+ghost use Rattle.xd_goals.specs.Kept.{IsMarking, view_of};
 ghost use Rattle.xd_goals.specs.Trees.{StandsAt};
-ghost use Rattle.xd_goals.specs.Reached.{HasTreeWithin, HaveTreesWithin, IsLeafAt, IsSettled, IsWaitingIn, LeadsToMarked, ReachesMore, is_marked};
+ghost use Rattle.xd_goals.specs.Reached.{HasTreeWithin, HaveTreesWithin, IsLeafAt, IsSettled, IsWaitingIn, IsWalk, LeadsToMarked, MarksThese, ReachesMore, is_marked};
 ghost use Rattle.xd_goals.specs.Standing.{IsOpen};
+ghost use Rattle.xd_goals.specs.Facts.{StaySettled};
 ghost use Rattle.xd_goals.specs.declared.table.Standing.TheVariants.{Holds};
 
-use crate::goals::Goals;
+use crate::goals::{Goals, set_settled};
 use crate::grow::node_at;
-use crate::table::{Choice, ChoiceNode, GoalId, Standing};
+use crate::table::{Choice, ChoiceNode, GoalId, Row, Standing};
 use std::alloc::Global;
 use xd_doc::NoMemory;
 
@@ -84,18 +85,21 @@ pub(crate) fn no_marks(alloc: Global, count: usize) -> Result<Vec<bool>, NoMemor
     Ok(marks)
 }
 
-/// The goals that wait among those that a goal leads to through leaves, as far as they are known.
-pub(crate) fn unsettled(
-    alloc: Global,
-    goals: &Goals,
-    start: GoalId,
-) -> Result<Vec<GoalId>, NoMemory>
+/// What a walk found: the goals that it reached, in the order in which it did, and those of them that
+/// wait.
+#[derive(Drop)]
+struct Walked {
+    order: Vec<usize>,
+    waiting: Vec<GoalId>,
+}
+
+/// Walks from a goal through leaves, and goes on behind goals that hold and aren't settled yet.
+fn walk(alloc: Global, goals: &Goals, start: GoalId) -> Result<Walked, NoMemory>
     requires start { start.number < length goals.now.rows.items }
     requires open_start { ¬ (IsRefuted goals.now.rows.items start.number) }
     requires trees { (i : ℕ) → HaveTreesWithin goals.now.nodes.items (length goals.now.rows.items) (row_at goals.now.rows.items i).choices }
     requires opens { (i : ℕ) → (row_at goals.now.rows.items i).standing ≡ Holds → AllByRecursion (IsOpen (view_of goals.now)) (row_at goals.now.rows.items i).choices }
-    ensures waiting { IfOk result (λ waiting. AllByRecursion (IsWaitingIn goals.now.rows.items) waiting.items) }
-    ensures none { IfOk result (λ waiting. waiting.items ≡ [] → IsSettled (view_of goals.now) start.number) }
+    ensures { IfOk result (λ walked. IsWalk (view_of goals.now) start.number walked.order.items walked.waiting.items) }
 {
     let mut found = Reached {
         marks: no_marks(alloc, goals.rows.len())?,
@@ -107,12 +111,64 @@ pub(crate) fn unsettled(
     while next < found.order.len() {
         let number = found.order[next];
         let row = &goals.rows[number];
-        match row.standing {
-            Standing::Holds => mark_choices(&goals.nodes, &mut found, &row.choices)?,
-            Standing::Waiting => waiting.push(GoalId { number })?,
-            Standing::Refuted(_) => unreachable!(),
+        if !is_settled(&goals.rows, GoalId { number }) {
+            match row.standing {
+                Standing::Holds => mark_choices(&goals.nodes, &mut found, &row.choices)?,
+                Standing::Waiting => waiting.push(GoalId { number })?,
+                Standing::Refuted(_) => unreachable!(),
+            }
         }
         next += 1;
     }
+    let Reached { order, .. } = found;
+    Ok(Walked { order, waiting })
+}
+
+/// Marks goals as settled.
+fn mark_settled(rows: &mut Vec<Row>, order: &[usize])
+    requires { AllByRecursion (λ n. n < length rows.old.items) order.now }
+    ensures { MarksThese order.now rows.old.items rows.new.items }
+{
+    for number in order {
+        set_settled(rows, *number, true);
+    }
+}
+
+/// Whether a goal is settled.
+fn is_settled(rows: &[Row], goal: GoalId) -> bool
+    requires { goal.number < length rows.now }
+    ensures { result ≡ (row_at rows.now goal.number).settled }
+{
+    let row = &rows[goal.number];
+    row.settled
+}
+
+/// The goals that wait among those that a goal leads to through leaves, as far as they are known. Where
+/// none does, the goal and those that it leads to are settled from now on, and no later walk goes on
+/// behind them.
+pub(crate) fn unsettled(
+    alloc: Global,
+    goals: &mut Goals,
+    start: GoalId,
+) -> Result<Vec<GoalId>, NoMemory>
+    requires start { start.number < length goals.old.rows.items }
+    requires open_start { ¬ (IsRefuted goals.old.rows.items start.number) }
+    requires trees { (i : ℕ) → HaveTreesWithin goals.old.nodes.items (length goals.old.rows.items) (row_at goals.old.rows.items i).choices }
+    requires opens { (i : ℕ) → (row_at goals.old.rows.items i).standing ≡ Holds → AllByRecursion (IsOpen (view_of goals.old)) (row_at goals.old.rows.items i).choices }
+    requires settled { StaySettled (view_of goals.old) }
+    ensures marking { IsMarking goals.old goals.new }
+    ensures settled { StaySettled (view_of goals.new) }
+    ensures waiting { IfOk result (λ waiting. AllByRecursion (IsWaitingIn goals.new.rows.items) waiting.items) }
+    ensures none { IfOk result (λ waiting. waiting.items ≡ [] → IsSettled (view_of goals.new) start.number) }
+{
+    if is_settled(&goals.rows, start) {
+        return Ok(Vec::new(alloc));
+    }
+    let walked = walk(alloc, goals, start)?;
+    if walked.waiting.is_empty() {
+        mark_settled(&mut goals.rows, &walked.order);
+        return Ok(Vec::new(alloc));
+    }
+    let Walked { waiting, .. } = walked;
     Ok(waiting)
 }

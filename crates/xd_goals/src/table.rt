@@ -63,7 +63,8 @@ pub enum ChoiceNode {
 }
 
 /// A goal, its choice trees, for each of these a flag that is set where a leaf may name a refuted goal,
-/// and where the list of the goal's dependents begins.
+/// where the list of the goal's dependents begins, and a mark that is set where it holds and leads
+/// through leaves to goals alone that are marked, so that it holds for good.
 #[derive(Drop)]
 pub(crate) struct Row {
     pub(crate) left: State,
@@ -72,6 +73,7 @@ pub(crate) struct Row {
     pub(crate) choices: Vec<Choice>,
     pub(crate) broken: Vec<bool>,
     pub(crate) dependents: Option<usize>,
+    pub(crate) settled: bool,
 }
 
 impl Model for Row {
@@ -79,7 +81,7 @@ impl Model for Row {
 
     ghost Value = { GoalRow };
 
-    ghost view = { λ r. record { left = r.left; rights = r.rights.items; standing = r.standing; choices = r.choices.items; broken = r.broken.items; dependents = r.dependents } };
+    ghost view = { λ r. record { left = r.left; rights = r.rights.items; standing = r.standing; choices = r.choices.items; broken = r.broken.items; dependents = r.dependents; settled = r.settled } };
 }
 
 /// A case that depends on a goal, and where the list goes on.
@@ -130,8 +132,8 @@ impl Table {
     }
 
     /// What is so of every table, whatever automaton its goals speak of: no two goals are alike, a tree stands at the root of each
-    /// choice, its case is among the dependents of each goal that a leaf names, and no leaf of a goal that holds names a
-    /// refuted one. The call does nothing; its contract is the law.
+    /// choice, its case is among the dependents of each goal that a leaf names, no leaf of a goal that holds names a
+    /// refuted one, and goals that are kept as settled hold and lead through leaves to such goals alone. The call does nothing; its contract is the law.
     pub fn see_lists(&self)
         ensures { KeepsLists self.now }
     {

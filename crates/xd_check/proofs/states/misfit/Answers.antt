@@ -108,3 +108,12 @@ decide-requires c =
       left = c.requires.state;
       rights = (c.requires.wanted, tt);
     }
+
+pub returns-then-is_plainly_within : goal.returns-then-is_plainly_within
+returns-then-is_plainly_within c = record {
+  least = tt;
+  belongs = tt;
+  none = λ q d h. c.if-is_plainly_within.ensures refl d h;
+  known = c.requires.known;
+  keeps = record { belongs = λ s b. b; same = λ s b. refl };
+}

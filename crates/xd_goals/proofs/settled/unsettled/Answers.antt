@@ -1,48 +1,29 @@
-use Rattle.std.proofs.Common.{◌≡◌, ◌<◌, ◌∙◌, length, sym, ap, subst, rules}
-use Rattle.xd_goals.specs.declared.table.Standing.TheVariants.{Refuted}
-use Rattle.xd_goals.specs.Rows.{GoalRow, row_at}
+use Rattle.std.proofs.Common.{◌≡◌, length, vec_len, sym, subst, rules, List, ℕ}
+use Rattle.std.proofs.lemmas.Bool.{eqb-true}
+use Rattle.std.proofs.lemmas.List.{nil_from_length}
 use Rattle.xd_goals.specs.Kept.{view_of}
-use Rattle.xd_goals.specs.Reached.{HaveTreesWithin}
-use Rattle.xd_goals.proofs.Linking.{row_read}
-use Rattle.xd_goals.proofs.Reaching.{walk_number, walk_open, walk_on, walk_waits}
+use Rattle.xd_goals.specs.Reached.{MarksThese}
+use Rattle.xd_goals.proofs.Reaching.{closed_stay, settled_is, start_settled}
 use Rattle.xd_goals.proofs.settled.unsettled.Goals as goal
-use Rattle.xd_goals.proofs.settled.unsettled.Goals.{in-Holds+in_ok-mark_choices-in-Holds, in-Waiting+in_ok-push-in-Waiting}
 
-pub index-row-requires : goal.index-row-requires
-index-row-requires c =
-    let lt : c.loop-next.next < length c.loop-next.found.order.items = search rules in
-    let h = walk_number (view_of c.args.goals.now) c.args.start.number c.loop-next.waiting.items c.loop-next.found.marks.items c.loop-next.found.order.items c.loop-next.next c.index-number.result.now c.loop-next.invariant lt c.index-number.ensures in
-    search rules
+pub returns-then-is_settled-clause-none : goal.returns-then-is_settled-clause-none
+returns-then-is_settled-clause-none c z = settled_is (view_of c.args.goals.now) c.args.start.number c.requires.settled (sym (rw c.deref.ensures.value at c.if-is_settled.ensures))
 
-pub mark_choices-requires : goal.mark_choices-requires
-mark_choices-requires c =
-    let lt : c.loop-next.next < length c.loop-next.found.order.items = search rules in
-    let n = walk_number (view_of c.args.goals.now) c.args.start.number c.loop-next.waiting.items c.loop-next.found.marks.items c.loop-next.found.order.items c.loop-next.next c.index-number.result.now c.loop-next.invariant lt c.index-number.ensures in
-    rw (c.deref.ensures.value, c.deref-in-Holds.ensures.value, c.loop-next.invariant.sized)
-    (subst (λ (r : GoalRow). HaveTreesWithin c.args.goals.now.nodes.items (length c.args.goals.now.rows.items) r.choices)
-    (sym (c.row.view_is ∙ row_read c.args.goals.now.rows.items c.index-number.result.now c.index-row.result.now n c.index-row.ensures)) (c.requires.trees c.index-number.result.now))
+pub mark_settled-requires : goal.mark_settled-requires
+mark_settled-requires c = rw c.deref-then-is_empty.ensures.value c.in_ok-walked.ensures.there
 
-pub loop-next-preserved : goal.loop-next-preserved
-loop-next-preserved c =
-    let lt : c.loop-next.next < length c.loop-next.found.order.items = search rules in
-    elim c.match-row.branch [
-      | in-Holds+in_ok-mark_choices-in-Holds w ↦
-          rw (w.found-is, w.waiting-is) (walk_on (view_of c.args.goals.now) c.args.start.number c.loop-next.waiting.items c.loop-next.found.marks.items w.mark_choices.new.found.marks.items c.loop-next.found.order.items w.mark_choices.new.found.order.items c.loop-next.next
-          c.index-number.result.now c.index-row.result.now w.deref.result.now w.deref-in-Holds.result.now c.loop-next.invariant lt c.index-number.ensures c.index-row.ensures
-          (ap (λ (r : GoalRow). r.standing) (sym c.row.view_is) ∙ w.in-Holds.is) w.deref.ensures.value
-          (w.deref-in-Holds.ensures.value ∙ ap (λ (r : GoalRow). r.choices) c.row.view_is)
-          c.requires.opens w.mark_choices.ensures.only w.in_ok-mark_choices-in-Holds.ensures.more w.in_ok-mark_choices-in-Holds.ensures.ok)
-      | in-Waiting+in_ok-push-in-Waiting w ↦
-          let n = walk_number (view_of c.args.goals.now) c.args.start.number c.loop-next.waiting.items c.loop-next.found.marks.items c.loop-next.found.order.items c.loop-next.next c.index-number.result.now c.loop-next.invariant lt c.index-number.ensures in
-          rw (w.found-is, w.waiting-is) (walk_waits (view_of c.args.goals.now) c.args.start.number c.loop-next.waiting.items w.push.new.self.items c.loop-next.found.marks.items c.loop-next.found.order.items c.loop-next.next
-          (record { number = c.index-number.result.now }) c.loop-next.invariant lt (record { there = n; waits = ap (λ (r : GoalRow). r.standing) (sym (c.row.view_is ∙ row_read c.args.goals.now.rows.items c.index-number.result.now c.index-row.result.now n c.index-row.ensures)) ∙ w.in-Waiting.is }) w.in_ok-push-in-Waiting.ensures.items)
-    ]
+pub returns-then-is_empty-clause-settled : goal.returns-then-is_empty-clause-settled
+returns-then-is_empty-clause-settled c =
+    let none : vec_len c.in_ok-walked.walked.waiting ≡ 0 = eqb-true (vec_len c.in_ok-walked.walked.waiting) 0 (sym c.if-is_empty.ensures) in
+    let empty : length c.in_ok-walked.walked.waiting.items ≡ 0 = search rules in
+    closed_stay c.args.goals.now.nodes.items c.args.goals.now.links.items c.args.goals.now.rows.items c.mark_settled.new.rows.items c.args.start.number c.in_ok-walked.walked.order.items
+    (c.in_ok-walked.ensures.closed (nil_from_length c.in_ok-walked.walked.waiting.items empty))
+    (subst (λ (order : List ℕ). MarksThese order c.args.goals.now.rows.items c.mark_settled.new.rows.items) c.deref-then-is_empty.ensures.value c.mark_settled.ensures) c.requires.settled
 
-pub unreachable-requires : goal.unreachable-requires
-unreachable-requires c =
-    let lt : c.loop-next.next < length c.loop-next.found.order.items = search rules in
-    let n = walk_number (view_of c.args.goals.now) c.args.start.number c.loop-next.waiting.items c.loop-next.found.marks.items c.loop-next.found.order.items c.loop-next.next c.index-number.result.now c.loop-next.invariant lt c.index-number.ensures in
-    let e : (row_at c.args.goals.now.rows.items c.index-number.result.now).standing ≡ Refuted c.in-Refuted.field-0 =
-    ap (λ (r : GoalRow). r.standing) (sym (c.row.view_is ∙ row_read c.args.goals.now.rows.items c.index-number.result.now c.index-row.result.now n c.index-row.ensures)) ∙ c.in-Refuted.is in
-    walk_open (view_of c.args.goals.now) c.args.start.number c.loop-next.waiting.items c.loop-next.found.marks.items c.loop-next.found.order.items c.loop-next.next c.index-number.result.now c.loop-next.invariant lt c.index-number.ensures
-    (c.in-Refuted.field-0, e)
+pub returns-then-is_empty-clause-none : goal.returns-then-is_empty-clause-none
+returns-then-is_empty-clause-none c z =
+    let none : vec_len c.in_ok-walked.walked.waiting ≡ 0 = eqb-true (vec_len c.in_ok-walked.walked.waiting) 0 (sym c.if-is_empty.ensures) in
+    let empty : length c.in_ok-walked.walked.waiting.items ≡ 0 = search rules in
+    start_settled c.args.goals.now.nodes.items c.args.goals.now.links.items c.args.goals.now.rows.items c.mark_settled.new.rows.items c.args.start.number c.in_ok-walked.walked.order.items
+    (c.in_ok-walked.ensures.closed (nil_from_length c.in_ok-walked.walked.waiting.items empty))
+    (subst (λ (order : List ℕ). MarksThese order c.args.goals.now.rows.items c.mark_settled.new.rows.items) c.deref-then-is_empty.ensures.value c.mark_settled.ensures) c.requires.settled
