@@ -5,30 +5,17 @@ ghost use Rattle.std.specs.List.{AllByRecursion};
 ghost use Rattle.xd_auto.specs.Automaton.{IsState};
 ghost use Rattle.xd_boole.specs.Universal.{MarkUniversal};
 ghost use Rattle.xd_solve.specs.Levels.{WrittenBelong};
-ghost use Rattle.xd_syntax.specs.Types.{BelongsTo, tree};
+ghost use Rattle.xd_syntax.specs.Types.{BelongsTo};
 ghost use Rattle.xd_syntax.specs.Words.{any_word, is_type_name};
-ghost use Rattle.xd_show.specs.Contents.{AreAllWritten, AreBodiesBy, GrowsNames, IsTypeOf, IsUnderLabel, MeansAnyAnd};
+ghost use Rattle.xd_show.specs.Contents.{AreAllWritten, AreBodiesBy, GrowsNames, IsTypeOf, MeansAnyAnd};
 
 use std::alloc::Global;
 use xd_auto::{Auto, State};
-use xd_doc::{Class, Label, NoMemory};
-use xd_same_types::{Pool, name_type, node};
+use xd_doc::{Label, NoMemory};
+use xd_same_types::Pool;
+use xd_shown::none_around;
 use xd_solve::{level_of, state_type};
-use xd_syntax::{TypeForm, TypeId};
-
-/// The label `none` around a name.
-fn none_around(alloc: Global, pool: &mut Pool, name: &Label) -> Result<TypeId, NoMemory>
-    requires { is_type_name name.now ≡ true }
-    ensures tree { IfOk result (λ id. IsUnderLabel name.now (tree pool.new.types id)) }
-    ensures belongs { IfOk result (BelongsTo pool.new.types) }
-    ensures grows { GrowsNames (any_word ∷ name.now ∷ []) pool.old.types pool.new.types }
-{
-    let inner = name_type(pool, name.share()?)?;
-    let mut labels = Vec::new(alloc);
-    labels.push(Label::new(alloc, "none")?)?;
-    let class = Class::new(alloc, labels, false)?;
-    node(pool, TypeForm::Elem(class, inner))
-}
+use xd_syntax::TypeId;
 
 /// What the name of a state stands for; where the state accepts nothing, the label `none` around the name.
 fn body_of(

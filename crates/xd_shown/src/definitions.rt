@@ -2,6 +2,7 @@
 
 ghost use Rattle.std.specs.Prelude.{◌≡◌, ℕ, List, Some, true, length, IfOk, slice_get};
 ghost use Rattle.xd_syntax.specs.Words.{any_word, has_word, is_type_name};
+ghost use Rattle.xd_syntax.specs.Table.{KeepsRows};
 ghost use Rattle.xd_syntax.specs.Types.{BelongsTo, tree};
 ghost use Rattle.xd_syntax.specs.Kept.{program_tree};
 ghost use Rattle.xd_same_types.specs.Grown.{NamesAmong};
@@ -66,11 +67,14 @@ fn sound_program(
     Ok(SoundProgram::new(alloc, program))
 }
 
-/// The class of the label `none`, around the type of the name.
-fn none_around(alloc: Global, pool: &mut Pool, word: &Label) -> Result<TypeId, NoMemory>
+/// The label `none` around a name: as the name's definition, it is fitted by no document.
+///
+/// Fails only where memory is refused; the table may have more types then, and keeps its old ones.
+pub fn none_around(alloc: Global, pool: &mut Pool, word: &Label) -> Result<TypeId, NoMemory>
     requires { is_type_name word.now ≡ true }
     ensures tree { IfOk result (λ id. tree pool.new.types id ≡ none_type word.now) }
     ensures belongs { IfOk result (BelongsTo pool.new.types) }
+    ensures rows { KeepsRows pool.old.types pool.new.types }
     ensures names { (known : List (List ℕ)) → has_word known any_word ≡ true → has_word known word.now ≡ true → NamesAmong known pool.old.types → NamesAmong known pool.new.types }
 {
     let name = name_type(pool, word.share()?)?;

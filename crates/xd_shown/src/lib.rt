@@ -6,5 +6,5 @@ mod names;
 #[cfg(test)]
 mod tests;
 
-pub use definitions::Shown;
+pub use definitions::{Shown, none_around};
 pub use names::free_names;

@@ -3,8 +3,10 @@ pub mod SumLaws
 pub mod SideLaws
 pub mod SumSteps
 pub mod BundleLaws
+pub mod SummandLaws
 pub mod SolveLaws
 pub mod SystemLaws
+pub mod RoundLaws
 pub mod LevelLaws
 pub mod PlaceLaws
 pub mod ShortLaws

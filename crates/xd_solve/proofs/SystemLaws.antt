@@ -31,19 +31,19 @@ lacking_stays a i by s l = record {
   tops = λ known g f. f;
 }
 
-set_other : {A : Type 0} (xs : List A) (k i : ℕ) (y d : A) → (i ≡ k → ⊥) → get_or (set xs k y) i d ≡ get_or xs i d
+pub set_other : {A : Type 0} (xs : List A) (k i : ℕ) (y d : A) → (i ≡ k → ⊥) → get_or (set xs k y) i d ≡ get_or xs i d
 set_other [] k i y d n = refl
 set_other (x ∷ xs) zero zero y d n = absurd (n refl)
 set_other (x ∷ xs) zero (suc i) y d n = refl
 set_other (x ∷ xs) (suc k) zero y d n = refl
 set_other (x ∷ xs) (suc k) (suc i) y d n = set_other xs k i y d (λ e. n (ap suc e))
 
-set_here : {A : Type 0} (xs : List A) (k : ℕ) (y d : A) → k < length xs → get_or (set xs k y) k d ≡ y
+pub set_here : {A : Type 0} (xs : List A) (k : ℕ) (y d : A) → k < length xs → get_or (set xs k y) k d ≡ y
 set_here [] k y d l = absurd (omega arith)
 set_here (x ∷ xs) zero y d l = refl
 set_here (x ∷ xs) (suc k) y d l = let m : k < length xs = omega arith in set_here xs k y d m
 
-set_count : {A : Type 0} (xs : List A) (k : ℕ) (y : A) → length (set xs k y) ≡ length xs
+pub set_count : {A : Type 0} (xs : List A) (k : ℕ) (y : A) → length (set xs k y) ≡ length xs
 set_count [] k y = refl
 set_count (x ∷ xs) zero y = refl
 set_count (x ∷ xs) (suc k) y = ap suc (set_count xs k y)

@@ -10,7 +10,7 @@ use Rattle.xd_solve.specs.Equations.{Covers, SameSide, Shortens, Side, Unknowns,
 use Rattle.xd_syntax.specs.declared.types.TypeId.{TypeId}
 use Rattle.xd_solve.specs.declared.sums.Term.{Term}
 use Rattle.xd_solve.specs.declared.sums.Sum.{Sum}
-use Rattle.xd_solve.specs.declared.solve.Candidate.{Candidate}
+use Rattle.xd_solve.specs.declared.weights.Candidate.{Candidate}
 
 abbrev pub is_alive : List Bool → ℕ → Bool
 is_alive alive i = get_or alive i false

@@ -64,12 +64,32 @@ fn covers(one: &Sum, two: &Sum) -> bool
     has_terms(&one.terms, &two.terms)
 }
 
-/// Of the sums that have fewer terms, all of which this one has too, the one with most.
+/// Whether the terms lead to several unknowns, or to one that leads on. Others are put together by alternatives alone.
+fn lead_on(sums: &[Sum], terms: &[Term]) -> bool {
+    let Some(first) = terms.first() else {
+        return false;
+    };
+    for term in terms {
+        if term.to != first.to {
+            return true;
+        }
+    }
+    match sums.get(first.to) {
+        Some(target) => !target.terms.is_empty(),
+        None => false,
+    }
+}
+
+/// Of the sums that have fewer terms, all of which this one has too, the one with most; none where this one leads to the
+/// end alone.
 fn covered(sums: &[Sum], number: usize) -> Option<usize>
     requires { number < length sums.now }
     ensures { IfSome result (IsCovered sums.now number) }
 {
     let sum = &sums[number];
+    if !lead_on(sums, &sum.terms) {
+        return None;
+    }
     let mut best = None;
     let mut most = 0;
     for other in 0..sums.len() {

@@ -5,12 +5,14 @@ ghost use Rattle.std.specs.Option.{IfSome};
 ghost use Rattle.xd_same_types.specs.Grown.{GrowsTypes};
 ghost use Rattle.xd_syntax.specs.Types.{BelongsTo, tree};
 ghost use Rattle.xd_solve.specs.Equations.{AddsReplaced, IsAgainBefore, IsParted, IsReplaced, IsSolved, OwnMore, PartsMore, SumStands, own_in, product_in, side_in};
-ghost use Rattle.xd_solve.specs.Systems.{AllStand, IsLeft, IsSolution, LacksUnknown, ReplacesAt, TakesOut, all_alive, is_alive};
+ghost use Rattle.xd_solve.specs.Systems.{AllStand, IsSolution, LacksUnknown, ReplacesAt, TakesOut, all_alive, is_alive};
 
+use crate::rounds::take_cheap;
 use crate::sums::{Sum, Term, add_multiple, add_term};
+use crate::weights::least;
 use std::alloc::Global;
 use xd_doc::NoMemory;
-use xd_same_types::{Pool, alt, size_of, star};
+use xd_same_types::{Pool, alt, star};
 use xd_syntax::TypeId;
 
 /// What stands in front of an unknown in a sum, and the rest of the sum.
@@ -84,7 +86,7 @@ fn part_by(alloc: Global, pool: &mut Pool, sum: &Sum, of: usize) -> Result<Parte
 }
 
 /// The right side of an unknown's equation without the unknown itself: of `X = L,X | R` it is `L*,R`.
-fn solved(alloc: Global, pool: &mut Pool, sum: &Sum, of: usize) -> Result<Sum, NoMemory>
+pub(crate) fn solved(alloc: Global, pool: &mut Pool, sum: &Sum, of: usize) -> Result<Sum, NoMemory>
     requires { SumStands pool.old.types sum.now }
     ensures solved { IfOk result (λ made. IsSolved of (side_in pool.old.types sum.now) (side_in pool.new.types made)) }
     ensures stands { IfOk result (SumStands pool.new.types) }
@@ -214,113 +216,6 @@ fn eliminate(
     Ok(())
 }
 
-/// How many terms the sum has for other unknowns and alone, how long these are, and what stands in front of this one.
-fn weight_of(pool: &Pool, sum: &Sum, of: usize) -> (u64, u64, u64) {
-    let mut count = 0u64;
-    let mut size = 0u64;
-    let mut own = 0u64;
-    for term in &sum.terms {
-        if term.to == of {
-            own = own.saturating_add(size_of(pool, term.by));
-        } else {
-            count = count.saturating_add(1);
-            size = size.saturating_add(size_of(pool, term.by));
-        }
-    }
-    if let Some(constant) = sum.constant {
-        count = count.saturating_add(1);
-        size = size.saturating_add(size_of(pool, constant));
-    }
-    (count, size, own)
-}
-
-/// For each unknown how many other sums have it, and how long the types in front of it are.
-fn weights_in_others(
-    alloc: Global,
-    pool: &Pool,
-    sums: &[Sum],
-    alive: &[bool],
-) -> Result<Vec<(u64, u64)>, NoMemory> {
-    let mut weights = vec![in alloc; (0u64, 0u64); sums.len()]?;
-    for number in 0..sums.len() {
-        if alive.get(number).copied().unwrap_or(false) {
-            add_weights(pool, &sums[number], number, &mut weights);
-        }
-    }
-    Ok(weights)
-}
-
-fn add_weights(pool: &Pool, sum: &Sum, number: usize, weights: &mut [(u64, u64)]) {
-    for term in &sum.terms {
-        if term.to != number {
-            if let Some(weight) = weights.get_mut(term.to) {
-                weight.0 = weight.0.saturating_add(1);
-                weight.1 = weight.1.saturating_add(size_of(pool, term.by));
-            }
-        }
-    }
-}
-
-/// What is written more often than before, where an unknown is taken out (M. Delgado and J. Morais, Approximation to the
-/// smallest regular expression for a given regular language, 2004).
-fn growth(count: u64, size: u64, own: u64, sources: u64, ahead: u64) -> u64 {
-    let out = size.saturating_mul(sources.saturating_sub(1));
-    let inner = ahead.saturating_mul(count.saturating_sub(1));
-    let again = own.saturating_mul(sources.saturating_mul(count).saturating_sub(1));
-    out.saturating_add(inner).saturating_add(again)
-}
-
-/// An unknown, and how much the types grow where it is taken out.
-#[derive(Clone, Copy)]
-struct Candidate {
-    number: usize,
-    grown: u64,
-}
-
-/// The one that makes the types grow less.
-fn better(best: Option<Candidate>, other: Candidate) -> Candidate
-    ensures { (result ≡ other) ⊎ (best ≡ Some result) }
-{
-    match best {
-        None => other,
-        Some(old) => { if other.grown < old.grown { other } else { old } }
-    }
-}
-
-/// How much the types grow where an unknown is taken out.
-fn weighed(pool: &Pool, sums: &[Sum], others: &[(u64, u64)], number: usize) -> Candidate
-    requires { number < length sums.now }
-    ensures { result.number ≡ number }
-{
-    let (count, size, own) = weight_of(pool, &sums[number], number);
-    let (sources, ahead) = others.get(number).copied().unwrap_or((0, 0));
-    Candidate {
-        number,
-        grown: growth(count, size, own, sources, ahead),
-    }
-}
-
-/// Of the unknowns that are left, but for the first, the one that makes the types grow least.
-fn least(
-    alloc: Global,
-    pool: &Pool,
-    sums: &[Sum],
-    alive: &[bool],
-) -> Result<Option<Candidate>, NoMemory>
-    requires { length alive.now ≡ length sums.now }
-    ensures found { IfOk result (λ found. IfSome found (IsLeft sums.now alive.now)) }
-    ensures none { IfOk result (λ found. found ≡ None → (i : ℕ) → 0 < i → i < length sums.now → is_alive alive.now i ≡ false) }
-{
-    let others = weights_in_others(alloc, pool, sums, alive)?;
-    let mut best = None;
-    for number in 1..sums.len() {
-        if alive[number] {
-            best = Some(better(best, weighed(pool, sums, &others, number)));
-        }
-    }
-    Ok(best)
-}
-
 /// As many times yes as there are sums.
 fn all_true(alloc: Global, sums: &[Sum]) -> Result<Vec<bool>, NoMemory>
     ensures { IfOk result (λ made. made.items ≡ all_alive sums.now) }
@@ -346,6 +241,7 @@ pub(crate) fn solution(
 {
     let mut alive = all_true(alloc, &sums)?;
     loop {
+        take_cheap(alloc, pool, &mut sums, &mut alive)?;
         match least(alloc, pool, &sums, &alive)? {
             None => break,
             Some(left) => eliminate(alloc, pool, &mut sums, &mut alive, left.number)?,

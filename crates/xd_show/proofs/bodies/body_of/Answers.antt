@@ -1,5 +1,6 @@
-use Rattle.std.proofs.Common.{subst}
+use Rattle.std.proofs.Common.{[], ◌∷◌, codes, false, subst}
 use Rattle.xd_syntax.specs.Types.{BelongsTo}
+use Rattle.xd_same_types.proofs.Ids.{ok_map}
 use Rattle.xd_solve.specs.Levels.{IsStateType, MeansAny}
 use Rattle.xd_show.specs.Contents.{MeansAnyAnd}
 use Rattle.xd_show.proofs.ContentLaws.{nones_found, some_holds, type_by, type_of_state}
@@ -25,4 +26,4 @@ returns-clause-body c =
     let mid = c.state_type.new.pool.types in
     let written = c.args.written.now in
     let found = subst (IsStateType a old written s mid) c.in-None.is c.in_ok-id.ensures.exact in
-    nones_found a c.args.name.now old written s mid c.none_around.new.pool.types c.none_around.result found c.none_around.ensures.tree c.none_around.ensures.belongs
+    nones_found a c.args.name.now old written s mid c.none_around.new.pool.types c.none_around.result found (ok_map c.none_around.result _ _ (λ id e. (record { names = codes "none" ∷ []; except = false }, e)) c.none_around.ensures.tree) c.none_around.ensures.belongs
