@@ -1,5 +1,5 @@
 mod PlainCost
-mod PlainFitting
+pub mod PlainFitting
 mod PlainMeaning
 mod MeaningSamples
 mod PlainLoops

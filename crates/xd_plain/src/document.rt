@@ -18,8 +18,8 @@ pub enum PlainDocument {
 }
 
 impl PlainDocument {
-    /// The text, and the rest behind it.
-    pub(crate) fn with_text(
+    /// The text, and the rest behind it. Fails only where memory is refused.
+    pub fn with_text(
         alloc: Global,
         characters: &Text,
         rest: PlainDocument,
@@ -30,8 +30,8 @@ impl PlainDocument {
         Ok(PlainDocument::Text(characters.share()?, rest))
     }
 
-    /// The element, and the rest behind it.
-    pub(crate) fn with_element(
+    /// The element, and the rest behind it. Fails only where memory is refused.
+    pub fn with_element(
         alloc: Global,
         label: &Label,
         content: PlainDocument,

@@ -18,9 +18,9 @@ use xd_doc::{Class, Label, NoMemory, Text, Words};
 
 /// Two documents that are one, joined.
 #[derive(Drop)]
-struct Split {
-    front: PlainDocument,
-    back: PlainDocument,
+pub struct Split {
+    pub front: PlainDocument,
+    pub back: PlainDocument,
 }
 
 /// Whether the document fits the type, where names may be unfolded so many times.
@@ -228,9 +228,9 @@ fn is_one_of(texts: &Words, document: &PlainDocument) -> bool
     }
 }
 
-/// All splits of the document, the shortest front first.
+/// All splits of the document, the shortest front first. Fails only where memory is refused.
 #[cycle(splits)]
-fn all_splits(alloc: Global, document: &PlainDocument) -> Result<Vec<Split>, NoMemory>
+pub fn all_splits(alloc: Global, document: &PlainDocument) -> Result<Vec<Split>, NoMemory>
     ensures { IfOk result (λ made. splits_of made.items ≡ splits (document_of document.now)) }
 {
     let mut made = Vec::new(alloc);

@@ -6,3 +6,4 @@ mod plain;
 mod plain_calls;
 
 pub use crate::desk::PlainDesk;
+pub use crate::plain::plain_program;

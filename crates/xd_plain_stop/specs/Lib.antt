@@ -1,0 +1,3 @@
+pub mod Tails
+pub mod Readings
+pub mod Answers
