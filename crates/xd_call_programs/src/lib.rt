@@ -15,4 +15,5 @@ pub use crate::reading::{
     show_type_line,
 };
 pub use crate::states::{find_type, program_of, state_at, state_of, type_of};
+pub use crate::trees::{show_pattern, show_program};
 pub use crate::verdicts::{show_both_ways, show_verdict};

@@ -5,12 +5,13 @@ ghost use Rattle.xd_syntax.specs.Types.{BelongsTo};
 ghost use Rattle.xd_syntax.specs.Expression.{PatternsBelong};
 ghost use Rattle.xd_syntax.specs.Exprs.{IsExpr};
 ghost use Rattle.xd_syntax.specs.Kept.{FunctionStands};
+ghost use Rattle.xd_syntax.specs.Patterns.{IsPattern};
 
 use std::io::Write;
 use xd_base::Place;
 use xd_call_lines::{CallError, show_class, show_place, show_words};
 use xd_syntax::{
-    ExprForm, ExprId, Exprs, FormView, Function, Nodes, Patterns, Program, TypeId, Types,
+    ExprForm, ExprId, Exprs, FormView, Function, Nodes, PatternId, Patterns, Program, TypeId, Types,
 };
 
 fn show(out: &mut Vec<u8>, word: &str, place: Place) -> Result<(), CallError> {
@@ -69,6 +70,13 @@ pub fn show_type(out: &mut Vec<u8>, types: &Types, id: TypeId) -> Result<(), Cal
     requires { BelongsTo types.now id }
 {
     show_node(out, types, id)
+}
+
+/// A pattern, with the place of each node.
+pub fn show_pattern(out: &mut Vec<u8>, patterns: &Patterns, id: PatternId) -> Result<(), CallError>
+    requires { IsPattern patterns.now id }
+{
+    show_node(out, patterns, id)
 }
 
 fn show_expr(

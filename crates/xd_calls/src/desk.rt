@@ -4,9 +4,11 @@ use std::alloc::Global;
 use xd_call_lines::{Call, CallError, Desk, NamedDesk};
 use xd_clause_calls::ClauseDesk;
 use xd_doc_calls::DocumentDesk;
+use xd_part_calls::PartDesk;
 use xd_plain_calls::PlainDesk;
 use xd_program_calls::ProgramDesk;
 use xd_state_calls::StateDesk;
+use xd_step_calls::StepDesk;
 
 /// The desk that a line of the input chose.
 #[derive(Drop)]
@@ -16,6 +18,8 @@ pub enum AnyDesk {
     Plain(PlainDesk),
     Clauses(ClauseDesk),
     States(StateDesk),
+    Parts(PartDesk),
+    Steps(StepDesk),
 }
 
 impl Desk for AnyDesk {
@@ -26,6 +30,8 @@ impl Desk for AnyDesk {
             Self::Plain(desk) => desk.answer(call, out),
             Self::Clauses(desk) => desk.answer(call, out),
             Self::States(desk) => desk.answer(call, out),
+            Self::Parts(desk) => desk.answer(call, out),
+            Self::Steps(desk) => desk.answer(call, out),
         }
     }
 }
@@ -38,6 +44,8 @@ impl NamedDesk for AnyDesk {
             "plain" => Ok(Self::Plain(PlainDesk::new(alloc))),
             "clauses" => Ok(Self::Clauses(ClauseDesk::new(alloc))),
             "states" => Ok(Self::States(StateDesk::new(alloc))),
+            "parts" => Ok(Self::Parts(PartDesk::new(alloc))),
+            "steps" => Ok(Self::Steps(StepDesk::new(alloc))),
             _ => Err(CallError::Unknown),
         }
     }

@@ -252,7 +252,7 @@ fn show_compared(
 }
 
 /// What the variables are bound to, a line each, or `none`.
-fn show_bindings(
+pub fn show_bindings(
     alloc: Global,
     store: &Store,
     bindings: Option<Vec<(Label, Seq)>>,

@@ -1,7 +1,7 @@
 //! The program that the calls are about, and where each is made.
 
 use crate::clauses::Ways;
-use crate::{clauses, tracks};
+use crate::{clauses, patterns, tracks};
 use std::alloc::Global;
 use xd_call_lines::{Call, CallError, Desk};
 use xd_call_programs::Case;
@@ -37,6 +37,9 @@ fn answer(call: &Call<'_>, out: &mut Vec<u8>) -> Result<(), CallError> {
         "bound" => clauses::show_bound(call, Ways::Whole, out),
         "preferred" => clauses::show_bound(call, Ways::First, out),
         "first_way" => clauses::show_first_way(call, out),
+        "first_ways" => patterns::show_first_ways(call, out),
+        "compiled" => patterns::show_compiled(call, out),
+        "plain" => patterns::show_plain(call, out),
         "project" => tracks::show_projected(call, out),
         _ => Err(CallError::Call),
     }

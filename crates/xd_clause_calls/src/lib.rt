@@ -3,6 +3,7 @@
 
 mod clauses;
 mod desk;
+mod patterns;
 mod tracks;
 
 pub use crate::desk::ClauseDesk;

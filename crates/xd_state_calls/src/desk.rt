@@ -2,7 +2,9 @@
 
 use crate::cases::{show_case, show_lines, show_words};
 use crate::least::{show_apart, show_learned, show_least, show_sizes};
-use crate::states::{Operation, PairShown, show_made, show_paired};
+use crate::states::{
+    Operation, PairShown, show_made, show_merged, show_paired, show_subtracted, show_universal,
+};
 use crate::streams::show_stream;
 use crate::tables::{show_decided, show_moved, show_questions};
 use crate::types::{TypeShown, show_inhabitant, show_type};
@@ -46,6 +48,9 @@ fn answer(call: &Call<'_>, out: &mut Vec<u8>) -> Result<(), CallError> {
         "questions" => show_questions(call, out),
         "product" => show_made(call, Operation::Product, out),
         "minus" => show_made(call, Operation::Minus, out),
+        "subtract" => show_subtracted(call, out),
+        "merged" => show_merged(call, out),
+        "universal" => show_universal(call, out),
         "pair_up" => show_paired(call, PairShown::Pairs, out),
         "shares" => show_paired(call, PairShown::Shared, out),
         "stream" => show_stream(call, out),

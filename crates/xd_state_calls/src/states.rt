@@ -4,12 +4,13 @@ ghost use Rattle.std.specs.Prelude.{IfOk, false};
 ghost use Rattle.xd_auto.specs.Automaton.{IsState};
 ghost use Rattle.xd_traces.specs.Universal.{IsUniversal};
 
+use crate::named::named_states;
 use std::alloc::Global;
 use std::io::Write;
 use xd_auto::{Auto, State};
 use xd_bind::{Holds, MoveKind, cases};
-use xd_boole::{minus, product};
-use xd_call_lines::{Call, CallError, show_answer};
+use xd_boole::{is_marked, merged_at, minus, product, subtract, universal_states};
+use xd_call_lines::{Call, CallError, show_answer, show_answer_on};
 use xd_call_programs::{show_members, state_of};
 use xd_doc::{NoMemory, Store};
 use xd_least::LeastInhabitants;
@@ -22,7 +23,8 @@ pub enum Operation {
     Minus,
 }
 
-/// `product ONE TWO DOCUMENTS`, `minus ONE TWO DOCUMENTS`: which of the documents the product, or the difference, accepts.
+/// `product ONE TWO DOCUMENTS`, `minus ONE TWO DOCUMENTS`: which of the documents the product, or
+/// the difference, accepts.
 pub fn show_made(
     call: &Call<'_>,
     operation: Operation,
@@ -65,6 +67,47 @@ fn make(
         Operation::Product => product(alloc, one, first, two, second),
         Operation::Minus => minus(alloc, one, first, two, second),
     }
+}
+
+/// `subtract ONE TWO DOCUMENTS`: which of the documents the difference accepts, as a state of the
+/// first one's automaton.
+pub fn show_subtracted(call: &Call<'_>, out: &mut Vec<u8>) -> Result<(), CallError> {
+    let (mut one, first) = state_of(call, 0)?;
+    let (two, second) = state_of(call, 1)?;
+    show_left(call, &mut one, first, &two, second, out)
+}
+
+fn show_left(
+    call: &Call<'_>,
+    one: &mut Auto,
+    first: State,
+    two: &Auto,
+    second: State,
+    out: &mut Vec<u8>,
+) -> Result<(), CallError>
+    requires one { IsState one.old first }
+    requires two { IsState two.now second }
+{
+    let left = subtract(call.alloc, one, first, two, second)?;
+    show_members(call, 2, one, left, out)
+}
+
+/// `merged TYPE DOCUMENTS`: which of the documents the type's state accepts where states that are
+/// like each other are made one.
+pub fn show_merged(call: &Call<'_>, out: &mut Vec<u8>) -> Result<(), CallError> {
+    let (auto, state) = state_of(call, 0)?;
+    let (merged, at) = merged_at(call.alloc, &auto, state)?;
+    show_members(call, 1, &merged, at, out)
+}
+
+/// `universal TYPES`: which of the types have a state that plainly accepts every document.
+pub fn show_universal(call: &Call<'_>, out: &mut Vec<u8>) -> Result<(), CallError> {
+    let (auto, states) = named_states(call)?;
+    let marks = universal_states(call.alloc, &auto)?;
+    for named in &states {
+        show_answer_on(is_marked(&marks, named.state), named.name, out)?;
+    }
+    Ok(())
 }
 
 /// A state for a type, beside one that accepts all, in an automaton of its own.

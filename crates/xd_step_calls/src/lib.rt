@@ -1,0 +1,9 @@
+//! Calls of the steps that commands share: what they read from a shelf, and the outputs that end
+//! them.
+#![tactic(auto)]
+
+mod desk;
+mod loads;
+mod outputs;
+
+pub use crate::desk::StepDesk;
