@@ -79,7 +79,8 @@ impl<T: Internable> Interned<T> {
         self.links.len()
     }
 
-    /// Makes room for so many more lists at once.
+    /// Makes room for so many more lists at once. Fails only where memory is refused; the lists are
+    /// the same either way.
     pub fn reserve(&mut self, additional: usize) -> Result<(), NoMemory>
         ensures { self.new ≡ self.old }
     {

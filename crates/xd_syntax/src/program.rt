@@ -196,7 +196,8 @@ impl Program {
         let _types = &self.types;
     }
 
-    /// An equal program, with the same numbers of nodes.
+    /// An equal program, with the same numbers of nodes. Fails only where memory is refused; this
+    /// program is only read, so it stays as it is.
     pub fn copy(&self, alloc: Global) -> Result<Self, NoMemory>
         ensures { IfOk result (λ made. made ≡ self.now) }
     {
