@@ -127,7 +127,7 @@ labels_zip t m A [] (v ∷ vs) ns x = absurd x
 labels_zip t m A (i ∷ is) [] ns x = absurd x
 labels_zip t m A (i ∷ is) (v ∷ vs) [] x = absurd x
 
-get_within : (xs : List ℕ) (n k : ℕ) → slice_get xs n ≡ Some k → n < length xs
+pub get_within : (xs : List ℕ) (n k : ℕ) → slice_get xs n ≡ Some k → n < length xs
 get_within [] n k e = cc
 get_within (x ∷ xs) zero k e = omega arith
 get_within (x ∷ xs) (suc n) k e = let h = get_within xs n k e in omega arith

@@ -1,4 +1,5 @@
 pub mod VariableLemmas
+pub mod WordLemmas
 pub mod MarkedLaw
 pub mod MarksLaw
 pub mod Viewing
@@ -12,5 +13,9 @@ pub mod Sparing
 pub mod StateLemmas
 pub mod MoveLemmas
 pub mod CompileLemmas
+pub mod Pairing
+pub mod Starting
+pub mod Staying
 pub mod Serving
 pub mod PlainTypes
+pub mod Together

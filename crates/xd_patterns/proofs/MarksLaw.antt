@@ -13,6 +13,7 @@ use Rattle.xd_runs.specs.Runs.{held}
 use Rattle.xd_runs.specs.Laws.{Agree, run_bindings, first_of}
 use Rattle.xd_runs.specs.Together as T
 use Rattle.xd_runs.specs.Together.{IsFree, IsBlock, AreTogether}
+use Rattle.xd_patterns.specs.CompiledProgram.{AreWithin}
 use Rattle.xd_patterns.specs.Marked.{Marking, no_text_move, no_label_move, with_marks, IsCompiled}
 use Rattle.xd_patterns.proofs.VariableLemmas.{variables_have, among_word}
 
@@ -68,26 +69,27 @@ abbrev pub Keeps : List (List ℕ) → Marking → Marking → Type 0
 Keeps vs k k' = (q : State) (n : ℕ) (x : List ℕ) →
     (has_word (get_or (k' q).texts n []) x ≡ (has_word vs x && has_word (get_or (k q).texts n []) x)) × (has_word (get_or (k' q).labels n []) x ≡ (has_word vs x && has_word (get_or (k q).labels n []) x))
 
-pub kept_is_compiled : (E : Definitions) (P : Tree) (a : Automaton) (k k' : Marking) (s : State) → Keeps (variables_of P) k k' → IsCompiled E P a k s → IsCompiled E P a k' s
-kept_is_compiled E P a k k' s h c = record {
+-- of these there are all variables of the pattern
+pub kept_is_compiled : (E : Definitions) (P : Tree) (a : Automaton) (k k' : Marking) (s : State) (vs : List (List ℕ)) → AreWithin vs (variables_of P) → Keeps vs k k' → IsCompiled E P a k s → IsCompiled E P a k' s
+kept_is_compiled E P a k k' s vs within h c = record {
   accepts = c.accepts;
   ways = λ d run i. let w = c.ways d run i in (w.0, w.1, agrees d run w.0 w.2);
   runs = λ d w i. let r = c.runs d w i in (r.0, r.1, agrees d r.0 w r.2);
-  together = λ d run i x. together run x (c.together d run i x) (has_word (variables_of P) x) refl;
+  together = λ d run i x. together run x (c.together d run i x) (has_word vs x) refl;
   first_match = λ d. firsts d (Numbered.runs a d s) ∙ c.first_match d;
 }
   where
-    same : (x : List ℕ) → has_word (variables_of P) x ≡ true → (q : State) (n : ℕ) → (has_word (get_or (k' q).texts n []) x ≡ has_word (get_or (k q).texts n []) x) × (has_word (get_or (k' q).labels n []) x ≡ has_word (get_or (k q).labels n []) x)
+    same : (x : List ℕ) → has_word vs x ≡ true → (q : State) (n : ℕ) → (has_word (get_or (k' q).texts n []) x ≡ has_word (get_or (k q).texts n []) x) × (has_word (get_or (k' q).labels n []) x ≡ has_word (get_or (k q).labels n []) x)
     same x e q n = ((h q n x).0 ∙ ap (λ b. b && has_word (get_or (k q).texts n []) x) e, (h q n x).1 ∙ ap (λ b. b && has_word (get_or (k q).labels n []) x) e)
 
     agrees : (d : Document) (run : Numbered.Run) (w : Way) → Agree (occurrences P) d (with_marks a k s run) w.bindings → Agree (occurrences P) d (with_marks a k' s run) w.bindings
     agrees d run w g x = g x ∙ go (has_word (occurrences P) x) (variables_have P x)
       where
         go : (b : Bool) → has_word (variables_of P) x ≡ b → cond b (held x d (with_marks a k s run) ∷ []) [] ≡ cond b (held x d (with_marks a k' s run) ∷ []) []
-        go true e = ap (λ z. z ∷ []) (sym (held_same a k k' x (same x e) d run s))
+        go true e = ap (λ z. z ∷ []) (sym (held_same a k k' x (same x (within x e)) d run s))
         go false e = refl
 
-    together : (run : Numbered.Run) (x : List ℕ) → AreTogether x (with_marks a k s run) → (b : Bool) → has_word (variables_of P) x ≡ b → AreTogether x (with_marks a k' s run)
+    together : (run : Numbered.Run) (x : List ℕ) → AreTogether x (with_marks a k s run) → (b : Bool) → has_word vs x ≡ b → AreTogether x (with_marks a k' s run)
     together run x t true e = together_same a k k' x (same x e) run s t
     together run x t false e =
         T.from_here (T.block_end (none_free a k k' x
@@ -96,7 +98,7 @@ kept_is_compiled E P a k k' s h c = record {
     bindings : (d : Document) (run : Numbered.Run) (zs : List (List ℕ)) → ((x : List ℕ) → Among x zs → has_word (variables_of P) x ≡ true) → run_bindings zs d (with_marks a k' s run) ≡ run_bindings zs d (with_marks a k s run)
     bindings d run [] m = refl
     bindings d run (z ∷ zs) m =
-        ap (λ e. (z, e) ∷ run_bindings zs d (with_marks a k' s run)) (held_same a k k' z (same z (m z (inl refl))) d run s)
+        ap (λ e. (z, e) ∷ run_bindings zs d (with_marks a k' s run)) (held_same a k k' z (same z (within z (m z (inl refl)))) d run s)
         ∙ ap (λ bs. (z, held z d (with_marks a k s run)) ∷ bs) (bindings d run zs (λ x i. m x (inr i)))
 
     firsts : (d : Document) (rs : List Numbered.Run) → option_map (run_bindings (variables_of P) d) (first_of (map (with_marks a k' s) rs)) ≡ option_map (run_bindings (variables_of P) d) (first_of (map (with_marks a k s) rs))

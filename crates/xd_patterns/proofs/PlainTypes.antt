@@ -52,3 +52,6 @@ module _ (types : List Row) (table : IsTable false types) (i : ℕ) (h : i < len
 
   pub type_bare : bare (tree_at types i) ≡ tree_at types i
   type_bare = bare_in (tree_at types i) proper
+
+  pub type_binds_nothing : occurrences (tree_at types i) ≡ []
+  type_binds_nothing = none_in (tree_at types i) proper

@@ -8,3 +8,6 @@ pub mod Variables
 pub mod Compiling
 pub mod Held
 pub mod Compiler
+pub mod CompiledState
+pub mod Starting
+pub mod CompiledProgram

@@ -1,21 +1,25 @@
 //! What compiles the patterns of a program.
 
 ghost use Rattle.std.specs.Prelude.{◌≡◌, true, ◌↔◌, IfOk};
+ghost use Rattle.std.specs.List.{AllByRecursion};
 ghost use Rattle.xd_auto.specs.Automaton.{accepts, Extends, IsState, KeepsAccepting};
 ghost use Rattle.xd_doc.specs.Document.{Document};
 ghost use Rattle.xd_syntax.specs.Fits.{Fits};
 ghost use Rattle.xd_syntax.specs.Types.{BelongsTo, tree};
 ghost use Rattle.xd_runs.specs.Linear.{IsLinear};
 ghost use Rattle.xd_laws.specs.Bindings.{variables_of};
+ghost use Rattle.xd_laws.specs.KeptLines.{AllPaired};
 ghost use Rattle.xd_syntax.specs.Kept.{AddsTypes, program_tree};
 ghost use Rattle.xd_syntax.specs.Patterns.{IsPattern, pattern_tree};
 ghost use Rattle.xd_syntax.specs.Program.{names_of};
 ghost use Rattle.xd_syntax.specs.Shallow.{IsShallow};
+ghost use Rattle.xd_patterns.specs.CompiledProgram.{AcceptsType, IsLinearPattern, IsPatternState, marking_of_program, pattern_states, pattern_variables, type_states, variables_of_patterns};
 ghost use Rattle.xd_patterns.specs.Compiler.{Serves, ServesStays};
 ghost use Rattle.xd_patterns.specs.Held.{marking_of, variables_in};
 ghost use Rattle.xd_patterns.specs.Marked.{IsCompiled};
 
 use crate::bodies::Bodies;
+use crate::compiled::{CompiledProgram, compile_together};
 use crate::marked::{Marked, compile_pattern};
 use crate::plain::compile_plain;
 use std::alloc::Global;
@@ -76,6 +80,45 @@ impl PatternCompiler {
             auto,
         )?;
         Ok(marked)
+    }
+
+    /// Adds the states of types and patterns of the program together: a state for each type, which accepts exactly what fits it, and one
+    /// for each pattern, whose moves stand in order of preference, as those of [`compile`](PatternCompiler::compile) do.
+    ///
+    /// What stands ahead has one state, however many of them lead to it. So an element's content is the same state in each type and
+    /// pattern that comes to it by the element's type, and the cost is that of what differs. The program is the one that the compiler
+    /// was made of, and the patterns are linear. After `NoMemory` old states accept what they did.
+    pub fn compile_all(
+        &self,
+        alloc: Global,
+        sound: &SoundProgram,
+        types: &[TypeId],
+        patterns: &[PatternId],
+        auto: &mut Auto,
+    ) -> Result<CompiledProgram, NoMemory>
+        requires serves { Serves sound.now self.now }
+        requires types { AllByRecursion (BelongsTo sound.now.types) types.now }
+        requires patterns { AllByRecursion (IsLinearPattern sound.now.patterns) patterns.now }
+        ensures extends { Extends auto.old auto.new }
+        ensures keeps { KeepsAccepting auto.old auto.new }
+        ensures types { IfOk result (λ made. AllPaired (AcceptsType (names_of (program_tree sound.now)) sound.now.types auto.new) types.now (type_states made)) }
+        ensures patterns { IfOk result (λ made. AllPaired (IsPatternState (names_of (program_tree sound.now)) sound.now.patterns auto.new (marking_of_program made)) patterns.now (pattern_states made)) }
+        ensures variables { IfOk result (λ made. pattern_variables made ≡ variables_of_patterns sound.now.patterns patterns.now) }
+    {
+        let program = sound.program();
+        let table = program.types();
+        table.see_table();
+        let compiled = compile_together(
+            alloc,
+            table,
+            program.patterns(),
+            program.type_defs(),
+            &self.bodies,
+            types,
+            patterns,
+            auto,
+        )?;
+        Ok(compiled)
     }
 
     /// Adds a state that accepts exactly what fits a type of the program.

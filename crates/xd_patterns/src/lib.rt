@@ -4,8 +4,11 @@
 mod bodies;
 mod chains;
 mod compile;
+mod compiled;
 mod compiler;
 mod expand;
+mod laws;
+mod mark_table;
 mod marked;
 mod pieces;
 mod plain;
@@ -13,5 +16,7 @@ mod start;
 mod variables;
 
 pub use bodies::Bodies;
+pub use compiled::CompiledProgram;
 pub use compiler::{PatternCompiler, compilers_stay};
+pub use laws::compiled_states_stay;
 pub use marked::{Marked, compile_pattern};

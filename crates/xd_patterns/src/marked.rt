@@ -1,6 +1,6 @@
 //! Patterns as states with marked moves.
 
-ghost use Rattle.std.specs.Prelude.{◌≡◌, ◌<◌, ◌≤◌, [], IfOk, get_or, length};
+ghost use Rattle.std.specs.Prelude.{◌≡◌, ◌<◌, [], IfOk, get_or, length};
 ghost use Rattle.xd_auto.specs.Automaton.{Extends, IsState, KeepsAccepting};
 ghost use Rattle.xd_laws.specs.Guarded.{Guarded};
 ghost use Rattle.xd_runs.specs.Linear.{BindNothing, IsLinear};
@@ -8,17 +8,16 @@ ghost use Rattle.xd_laws.specs.Bindings.{variables_of};
 ghost use Rattle.xd_syntax.specs.Words.{has_word};
 ghost use Rattle.xd_syntax.specs.Patterns.{IsPattern, pattern_tree};
 ghost use Rattle.xd_patterns.specs.Bodies.{node_of};
-ghost use Rattle.xd_patterns.specs.Held.{lists_at, marking_of, marks_at, variables_in};
+ghost use Rattle.xd_patterns.specs.Held.{marking_of, marks_at, variables_in};
 ghost use Rattle.xd_patterns.specs.Marked.{IsCompiled};
 ghost use Rattle.xd_patterns.specs.Tasks.{AreBodies, meanings};
 ghost use Rattle.xd_patterns.specs.Variables.{words_of};
 
 use crate::bodies::Bodies;
-use crate::chains::{Marks, Piece};
-use crate::compile::StateMarks;
-use crate::start::compile_piece;
-use crate::variables::{Numbers, variables_and_lists};
-use indexmap::IndexSet;
+use crate::chains::Marks;
+use crate::mark_table::MarkTable;
+use crate::start::{compile_pieces, piece_of_pattern};
+use crate::variables::{number_lists, variables};
 use std::alloc::Global;
 use xd_auto::{Auto, State};
 use xd_doc::{Label, NoMemory};
@@ -29,12 +28,7 @@ use xd_traces::MoveKind;
 #[derive(Drop)]
 pub struct Marked {
     start: State,
-    variables: IndexSet<Label>,
-    /// The number of the first state.
-    base: usize,
-    /// The lists of variables of the moves, state by state.
-    table: Vec<StateMarks>,
-    lists: Vec<Numbers>,
+    moves: MarkTable,
 }
 
 impl Marked {
@@ -49,26 +43,7 @@ impl Marked {
     pub fn variables(&self) -> &[Label]
         ensures { result.now ≡ variables_in self.now }
     {
-        self.variables.as_slice()
-    }
-
-    /// The lists of variables of a state's moves of a kind.
-    fn lists_of(&self, state: State, kind: MoveKind) -> &[usize]
-        ensures { result.now ≡ lists_at self.now state kind }
-    {
-        let number = state.number();
-        if number < self.base {
-            return &[];
-        }
-        let at = number - self.base;
-        if at >= self.table.len() {
-            return &[];
-        }
-        let row = &self.table[at];
-        match kind {
-            MoveKind::Label => row.labels.as_slice(),
-            MoveKind::Text => row.texts.as_slice(),
-        }
+        self.moves.words.as_slice()
     }
 
     /// The numbers of the variables that the item taken by a move belongs to.
@@ -78,15 +53,7 @@ impl Marked {
     pub fn marks(&self, state: State, kind: MoveKind, number: usize) -> &[usize]
         ensures { words_of (variables_in self.now) result.now ≡ marks_at (marking_of self.now state) kind number }
     {
-        let lists = self.lists_of(state, kind);
-        if number >= lists.len() {
-            return &[];
-        }
-        let list = lists[number];
-        if list >= self.lists.len() {
-            return &[];
-        }
-        self.lists[list].list.as_slice()
+        self.moves.marks(state, kind, number)
     }
 
     /// Whether the item taken by that move belongs to the variable of this number.
@@ -94,7 +61,7 @@ impl Marked {
         requires { variable < length (variables_in self.now) }
         ensures { result ≡ has_word (marks_at (marking_of self.now state) kind number) (get_or (variables_in self.now) variable []) }
     {
-        let _count = self.variables.len();
+        let _count = self.moves.words.len();
         self.marks(state, kind, number).contains(&variable)
     }
 }
@@ -123,21 +90,28 @@ fn compile_marked(
     ensures compiled { IfOk result (λ marked. IsCompiled (meanings types.now defs.now) (pattern_tree patterns.now pattern) auto.new (marking_of marked) marked.start) }
 {
     let base = auto.len();
-    let piece = Piece {
-        of_pattern: true,
-        node: pattern.at(),
-        from: 0,
-        is_turns: false,
-        marks: 0,
-    };
-    let (start, table) = compile_piece(alloc, types, patterns, defs, bodies, piece, marks, auto)?;
-    let (variables, lists) = variables_and_lists(alloc, patterns, pattern, marks)?;
-    Ok(Marked {
-        start,
-        variables,
+    let piece = piece_of_pattern(pattern);
+    let (starts, rows) = compile_pieces(
+        alloc,
+        types,
+        patterns,
+        defs,
+        bodies,
+        &[piece],
+        marks,
+        auto,
+    )?;
+    let words = variables(alloc, patterns, pattern)?;
+    let lists = number_lists(alloc, patterns, marks, &words)?;
+    let moves = MarkTable {
+        words,
         base,
-        table,
+        rows,
         lists,
+    };
+    Ok(Marked {
+        start: starts[0],
+        moves,
     })
 }
 

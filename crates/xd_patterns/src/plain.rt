@@ -11,8 +11,8 @@ ghost use Rattle.xd_patterns.specs.Bodies.{node_of};
 ghost use Rattle.xd_patterns.specs.Tasks.{AreBodies, meanings};
 
 use crate::bodies::Bodies;
-use crate::chains::{Marks, Piece};
-use crate::start::compile_piece;
+use crate::chains::Marks;
+use crate::start::{compile_pieces, piece_of_type};
 use std::alloc::Global;
 use xd_auto::{Auto, State};
 use xd_doc::NoMemory;
@@ -39,15 +39,16 @@ pub(crate) fn compile_plain(
 {
     types.see_table();
     let mut marks = Marks::new(alloc);
-    let piece = Piece {
-        of_pattern: false,
-        node: id.at(),
-        from: 0,
-        is_turns: false,
-        marks: 0,
-    };
-    let (start, _table) = compile_piece(
-        alloc, types, patterns, defs, bodies, piece, &mut marks, auto,
+    let piece = piece_of_type(id);
+    let (starts, _rows) = compile_pieces(
+        alloc,
+        types,
+        patterns,
+        defs,
+        bodies,
+        &[piece],
+        &mut marks,
+        auto,
     )?;
-    Ok(start)
+    Ok(starts[0])
 }

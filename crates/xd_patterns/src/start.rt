@@ -1,14 +1,15 @@
-//! A piece as a state, with all states that it leads to.
+//! Pieces as states, with all states that they lead to.
 
 ghost use Rattle.std.specs.Prelude.{◌≡◌, [], length, IfOk, OnOk};
-ghost use Rattle.xd_auto.specs.Automaton.{Extends, IsState, KeepsAccepting};
+ghost use Rattle.std.specs.List.{AllByRecursion};
+ghost use Rattle.xd_auto.specs.Automaton.{Extends, KeepsAccepting};
 ghost use Rattle.xd_laws.specs.Guarded.{Guarded};
-ghost use Rattle.xd_runs.specs.Linear.{BindNothing, IsLinear};
+ghost use Rattle.xd_laws.specs.KeptLines.{AllPaired};
+ghost use Rattle.xd_runs.specs.Linear.{BindNothing};
 ghost use Rattle.xd_patterns.specs.Bodies.{node_of};
-ghost use Rattle.xd_patterns.specs.Compiling.{marking, rows_in};
-ghost use Rattle.xd_patterns.specs.Marked.{IsCompiled};
-ghost use Rattle.xd_patterns.specs.Pieces.{IsPieceOf};
-ghost use Rattle.xd_patterns.specs.Tasks.{AreBinders, AreBodies, meanings, piece_part, rows_of};
+ghost use Rattle.xd_patterns.specs.Compiling.{Spares, marking, rows_in};
+ghost use Rattle.xd_patterns.specs.Starting.{AddsStarts, CanStart, IsPieceState, pattern_piece, type_piece};
+ghost use Rattle.xd_patterns.specs.Tasks.{AreBinders, AreBodies, meanings};
 
 use crate::bodies::Bodies;
 use crate::chains::{Cells, Marks, Piece};
@@ -17,7 +18,58 @@ use indexmap::IndexSet;
 use std::alloc::Global;
 use xd_auto::{Auto, State};
 use xd_doc::NoMemory;
-use xd_syntax::{Patterns, TypeDef, Types};
+use xd_syntax::{PatternId, Patterns, TypeDef, TypeId, Types};
+
+/// A type outside of all binders.
+pub(crate) fn piece_of_type(id: TypeId) -> Piece
+    ensures { result ≡ type_piece id }
+{
+    Piece {
+        of_pattern: false,
+        node: id.at(),
+        from: 0,
+        is_turns: false,
+        marks: 0,
+    }
+}
+
+/// A pattern outside of all binders.
+pub(crate) fn piece_of_pattern(id: PatternId) -> Piece
+    ensures { result ≡ pattern_piece id }
+{
+    Piece {
+        of_pattern: true,
+        node: id.at(),
+        from: 0,
+        is_turns: false,
+        marks: 0,
+    }
+}
+
+/// A state for each piece alone, in their order; none of them has moves yet. Pieces that are the same have one state.
+#[tactic(auto, using(crate::proofs::Sparing::spares_none, crate::proofs::Sparing::spares_then))]
+fn add_starts(
+    alloc: Global,
+    pieces: &[Piece],
+    base: usize,
+    cells: &mut Cells,
+    states: &mut IndexSet<usize>,
+    auto: &mut Auto,
+) -> Result<Vec<State>, NoMemory>
+    requires base { length auto.old ≡ base }
+    requires cells { cells.old ≡ [] }
+    requires states { states.old.keys ≡ [] }
+    ensures spares { Spares base auto.old auto.new }
+    ensures starts { IfOk result (λ starts. AddsStarts base pieces.now cells.new states.new.keys auto.old auto.new starts.items) }
+{
+    let mut starts = Vec::new(alloc);
+    for piece in pieces {
+        let number = cells.put(*piece, 0)?;
+        let start = state_of(number, base, states, auto)?;
+        starts.push(start)?;
+    }
+    Ok(starts)
+}
 
 /// The same with these lists of pieces and lists that have states, none of them at first.
 fn compile_from(
@@ -26,61 +78,57 @@ fn compile_from(
     patterns: &Patterns,
     defs: &[TypeDef],
     bodies: &Bodies,
-    piece: Piece,
+    pieces: &[Piece],
     cells: &mut Cells,
     marks: &mut Marks,
     states: &mut IndexSet<usize>,
     auto: &mut Auto,
-) -> Result<(State, Vec<StateMarks>), NoMemory>
+) -> Result<(Vec<State>, Vec<StateMarks>), NoMemory>
     requires guarded { Guarded (meanings types.now defs.now) }
     requires none { BindNothing (meanings types.now defs.now) }
     requires bodies { AreBodies types.now (meanings types.now defs.now) (node_of bodies.now) }
     requires fresh { marks.old ≡ [] }
     requires cells { cells.old ≡ [] }
     requires states { states.old.keys ≡ [] }
-    requires piece { IsPieceOf (rows_of (record { types = types.now; patterns = patterns.now }) piece.of_pattern) piece }
-    requires outside { piece.marks ≡ 0 }
-    requires linear { IsLinear (piece_part (record { types = types.now; patterns = patterns.now }) piece) }
+    requires pieces { AllByRecursion (CanStart (record { types = types.now; patterns = patterns.now })) pieces.now }
     ensures extends { Extends auto.old auto.new }
     ensures keeps { KeepsAccepting auto.old auto.new }
-    ensures start { IfOk result (λ made. IsState auto.new made.0) }
     ensures binders { OnOk result (AreBinders (record { types = types.now; patterns = patterns.now }) marks.new) }
-    ensures compiled { IfOk result (λ made. IsCompiled (meanings types.now defs.now) (piece_part (record { types = types.now; patterns = patterns.now }) piece) auto.new
-        (marking (record { types = types.now; patterns = patterns.now }) marks.new (length auto.old) (rows_in made.1.items)) made.0) }
+    ensures states { IfOk result (λ made. AllPaired (IsPieceState (meanings types.now defs.now) (record { types = types.now; patterns = patterns.now }) auto.new
+        (marking (record { types = types.now; patterns = patterns.now }) marks.new (length auto.old) (rows_in made.1.items))) pieces.now made.0.items) }
 {
     let base = auto.len();
-    let first = cells.put(piece, 0)?;
-    let start = state_of(first, base, states, auto)?;
+    let starts = add_starts(alloc, pieces, base, cells, states, auto)?;
     let table = compile(
         alloc, types, patterns, defs, bodies, base, cells, marks, states, auto,
     )?;
-    Ok((start, table))
+    Ok((starts, table))
 }
 
-/// Adds the states of a piece outside of all binders: its state, and state by state the lists of the variables of their moves.
-pub(crate) fn compile_piece(
+/// Adds a state for each of these pieces, which stand outside of all binders, with all states that they lead to: the states in the
+/// order of the pieces, and for each state that was added the lists of the variables of its moves.
+///
+/// What stands ahead has one state, however many of the pieces lead to it.
+pub(crate) fn compile_pieces(
     alloc: Global,
     types: &Types,
     patterns: &Patterns,
     defs: &[TypeDef],
     bodies: &Bodies,
-    piece: Piece,
+    pieces: &[Piece],
     marks: &mut Marks,
     auto: &mut Auto,
-) -> Result<(State, Vec<StateMarks>), NoMemory>
+) -> Result<(Vec<State>, Vec<StateMarks>), NoMemory>
     requires guarded { Guarded (meanings types.now defs.now) }
     requires none { BindNothing (meanings types.now defs.now) }
     requires bodies { AreBodies types.now (meanings types.now defs.now) (node_of bodies.now) }
     requires fresh { marks.old ≡ [] }
-    requires piece { IsPieceOf (rows_of (record { types = types.now; patterns = patterns.now }) piece.of_pattern) piece }
-    requires outside { piece.marks ≡ 0 }
-    requires linear { IsLinear (piece_part (record { types = types.now; patterns = patterns.now }) piece) }
+    requires pieces { AllByRecursion (CanStart (record { types = types.now; patterns = patterns.now })) pieces.now }
     ensures extends { Extends auto.old auto.new }
     ensures keeps { KeepsAccepting auto.old auto.new }
-    ensures start { IfOk result (λ made. IsState auto.new made.0) }
     ensures binders { OnOk result (AreBinders (record { types = types.now; patterns = patterns.now }) marks.new) }
-    ensures compiled { IfOk result (λ made. IsCompiled (meanings types.now defs.now) (piece_part (record { types = types.now; patterns = patterns.now }) piece) auto.new
-        (marking (record { types = types.now; patterns = patterns.now }) marks.new (length auto.old) (rows_in made.1.items)) made.0) }
+    ensures states { IfOk result (λ made. AllPaired (IsPieceState (meanings types.now defs.now) (record { types = types.now; patterns = patterns.now }) auto.new
+        (marking (record { types = types.now; patterns = patterns.now }) marks.new (length auto.old) (rows_in made.1.items))) pieces.now made.0.items) }
 {
     let mut cells = Cells::new(alloc);
     let mut states = IndexSet::new(alloc);
@@ -90,7 +138,7 @@ pub(crate) fn compile_piece(
         patterns,
         defs,
         bodies,
-        piece,
+        pieces,
         &mut cells,
         marks,
         &mut states,

@@ -46,7 +46,7 @@ fn push_variables(
 }
 
 /// The variables of the pattern in order of first occurrence.
-fn variables(
+pub(crate) fn variables(
     alloc: Global,
     patterns: &Patterns,
     pattern: PatternId,
@@ -114,7 +114,7 @@ fn with_variable(
 }
 
 /// For each list of binders the numbers of their variables, each once.
-fn number_lists(
+pub(crate) fn number_lists(
     alloc: Global,
     patterns: &Patterns,
     marks: &Marks,
@@ -134,21 +134,4 @@ fn number_lists(
         lists.push(Numbers { list })?;
     }
     Ok(lists)
-}
-
-/// The variables of the pattern in order of first occurrence, and for each list of binders the numbers of its variables.
-pub(crate) fn variables_and_lists(
-    alloc: Global,
-    patterns: &Patterns,
-    pattern: PatternId,
-    marks: &Marks,
-) -> Result<(IndexSet<Label>, Vec<Numbers>), NoMemory>
-    requires pattern { IsPattern patterns.now pattern }
-    requires binders { AllByRecursion (λ l. IsBinder patterns.now l.item) marks.now }
-    ensures variables { IfOk result (λ made. made.0.keys ≡ variables_of (pattern_tree patterns.now pattern)) }
-    ensures lists { IfOk result (λ made. AreNumbered patterns.now made.0.keys marks.now (length marks.now + 1) (numbers_in made.1.items)) }
-{
-    let found = variables(alloc, patterns, pattern)?;
-    let lists = number_lists(alloc, patterns, marks, &found)?;
-    Ok((found, lists))
 }

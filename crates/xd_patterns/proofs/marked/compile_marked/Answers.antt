@@ -1,42 +1,53 @@
-use Rattle.std.proofs.Common.{◌≡◌, ◌<◌, ℕ, length, sym, subst}
+use Rattle.std.proofs.Common.{ℕ, [], ◌∷◌, ap, sym, subst, ◌∙◌}
+use Rattle.std.specs.List.{AllByRecursion}
+use Rattle.xd_auto.specs.declared.auto.State.{State}
 use Rattle.xd_laws.specs.Bindings.{variables_of}
+use Rattle.xd_laws.specs.KeptLines.{AllPaired}
 use Rattle.xd_syntax.specs.Patterns.{pattern_tree}
-use Rattle.xd_syntax.specs.Table.{tree_at}
-use Rattle.xd_runs.specs.Linear.{IsLinear}
+use Rattle.xd_syntax.specs.Words.{has_word}
 use Rattle.xd_patterns.specs.Compiling.{labels_from, marking, rows_in, texts_from}
-use Rattle.xd_patterns.specs.Held.{marking_of}
-use Rattle.xd_patterns.specs.Marked.{IsCompiled}
+use Rattle.xd_patterns.specs.Held.{marking_in}
+use Rattle.xd_patterns.specs.Marked.{Marking, IsCompiled}
+use Rattle.xd_patterns.specs.Starting.{CanStart, IsPieceState, pattern_piece}
 use Rattle.xd_patterns.specs.Tasks.{Tables, meanings}
 use Rattle.xd_patterns.specs.Variables.{numbers_in}
-use Rattle.xd_patterns.specs.declared.marked.Marked.{Marked}
+use Rattle.xd_patterns.specs.CompiledProgram.{AreWithin}
+use Rattle.xd_patterns.specs.declared.mark_table.MarkTable.{MarkTable}
 use Rattle.xd_patterns.proofs.MarksLaw.{Keeps, kept_is_compiled}
+use Rattle.xd_patterns.proofs.Pairing.{paired_one}
+use Rattle.xd_patterns.proofs.Starting.{can_start_pattern}
 use Rattle.xd_patterns.proofs.VariableLemmas.{marks_kept}
 use Rattle.xd_patterns.proofs.marked.compile_marked.Goals as goal
 
-pub compile_piece-requires-clause-piece : goal.compile_piece-requires-clause-piece
-compile_piece-requires-clause-piece c = record { there = subst (λ n. n < length c.args.patterns.now) (sym c.at.ensures) c.requires.pattern; part = tt }
-
-pub compile_piece-requires-clause-linear : goal.compile_piece-requires-clause-linear
-compile_piece-requires-clause-linear c = subst (λ n. IsLinear (tree_at c.args.patterns.now n)) (sym c.at.ensures) c.requires.linear
+pub compile_pieces-requires-clause-pieces : goal.compile_pieces-requires-clause-pieces
+compile_pieces-requires-clause-pieces c =
+    let t : Tables = record { types = c.args.types.now; patterns = c.args.patterns.now } in
+    subst (λ q. AllByRecursion (CanStart t) (q ∷ [])) (sym c.piece_of_pattern-piece.ensures)
+    (can_start_pattern t c.args.pattern (record { there = c.requires.pattern; linear = c.requires.linear }), tt)
 
 pub returns-clause-compiled : goal.returns-clause-compiled
 returns-clause-compiled c =
     let t : Tables = record { types = c.args.types.now; patterns = c.args.patterns.now } in
     let E = meanings c.args.types.now c.args.defs.now in
     let P = pattern_tree c.args.patterns.now c.args.pattern in
+    let a = c.compile_pieces.new.auto in
+    let m = c.compile_pieces.new.marks in
     let base = c.len-base.result in
-    let rows = rows_in c.in_ok-start.table.items in
-    let m = c.compile_piece.new.marks in
-    let vs = c.in_ok-variables.variables.keys in
-    let same : vs ≡ variables_of P = c.in_ok-variables.ensures.variables in
-    let ls = numbers_in c.in_ok-variables.lists.items in
-    let start = c.in_ok-start.start in
-    let marked : Marked = record { start = start; variables = c.in_ok-variables.variables; base = base; table = c.in_ok-start.table; lists = c.in_ok-variables.lists } in
-    let kept : Keeps vs (marking t m base rows) (marking_of marked) = λ q n x. (
-      marks_kept t.patterns vs m ls c.in_ok-variables.ensures.lists (texts_from base rows q) n x,
-      marks_kept t.patterns vs m ls c.in_ok-variables.ensures.lists (labels_from base rows q) n x,
+    let rows = rows_in c.in_ok-starts.rows.items in
+    let vs = c.in_ok-words.words.keys in
+    let ls = numbers_in c.in_ok-lists.lists.items in
+    let start : State = c.index.result.now in
+    let starts = c.in_ok-starts.starts.items in
+    let q = pattern_piece c.args.pattern in
+    let moves : MarkTable = record { words = c.in_ok-words.words; base = base; rows = c.in_ok-starts.rows; lists = c.in_ok-lists.lists } in
+    let k : Marking = marking t m base rows in
+    let kept : Keeps vs k (marking_in moves) = λ x n w. (
+      marks_kept t.patterns vs m ls c.in_ok-lists.ensures (texts_from base rows x) n w,
+      marks_kept t.patterns vs m ls c.in_ok-lists.ensures (labels_from base rows x) n w,
     ) in
-    let made : IsCompiled E P c.compile_piece.new.auto (marking t m base rows) start =
-    subst (λ (b : ℕ). IsCompiled E P c.compile_piece.new.auto (marking t m b rows) start) (sym c.len-base.ensures.value)
-    (subst (λ (n : ℕ). IsCompiled E (tree_at c.args.patterns.now n) c.compile_piece.new.auto (marking t m (length c.args.auto.now) rows) start) c.at.ensures c.in_ok-start.ensures.compiled) in
-    kept_is_compiled E P c.compile_piece.new.auto (marking t m base rows) (marking_of marked) start (subst (λ ws. Keeps ws (marking t m base rows) (marking_of marked)) same kept) made
+    let within : AreWithin vs (variables_of P) = λ x h. ap (λ ws. has_word ws x) c.in_ok-words.ensures ∙ h in
+    let states : AllPaired (IsPieceState E t a k) (q ∷ []) starts =
+    subst (λ p. AllPaired (IsPieceState E t a k) (p ∷ []) starts) c.piece_of_pattern-piece.ensures
+    (subst (λ (b : ℕ). AllPaired (IsPieceState E t a (marking t m b rows)) (c.piece_of_pattern-piece.result ∷ []) starts) (sym c.len-base.ensures.value) c.in_ok-starts.ensures.states) in
+    let one = paired_one (IsPieceState E t a k) q starts start states in
+    kept_is_compiled E P a k (marking_in moves) start vs within kept (subst (λ s. IsCompiled E P a k s) (sym c.index.ensures) one.compiled)

@@ -1,0 +1,20 @@
+use Rattle.xd_patterns.proofs.compiled.compile_together.Goals as goal
+
+pub compile_marked_together-requires : goal.compile_marked_together-requires
+compile_marked_together-requires c = record {
+  guarded = c.requires.guarded;
+  none = c.requires.none;
+  bodies = c.requires.bodies;
+  types = c.requires.types;
+  patterns = c.requires.patterns;
+  fresh = c.new-marks.ensures;
+}
+
+pub returns : goal.returns
+returns c = record {
+  extends = c.compile_marked_together.ensures.extends;
+  keeps = c.compile_marked_together.ensures.keeps;
+  types = c.compile_marked_together.ensures.types;
+  patterns = c.compile_marked_together.ensures.patterns;
+  variables = c.compile_marked_together.ensures.variables;
+}
