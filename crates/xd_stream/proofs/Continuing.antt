@@ -44,15 +44,6 @@ told_by {P} b there not_there = (there, λ p. back b refl p)
 not_begun : (v : Validator) (ts : List Terminal) (t : Terminal) → StandsAfter v ts → Refuses v t refusals.Malformed → GoesOnWith v.automaton v.start ts t → ⊥
 not_begun v ts t h r b = r ts h (b.more, b.document, b.spells)
 
--- both tests, or the first fails, or the second does
-and_told : {P : Type 0} (x y : Bool) → (x ≡ true → y ≡ true → P) → (x ≡ false → P → ⊥) → (x ≡ true → y ≡ false → P → ⊥) → ((x && y) ≡ true) ↔ P
-and_told {P} x y both first second = go x y refl refl
-  where
-    go : (b c : Bool) → x ≡ b → y ≡ c → ((b && c) ≡ true) ↔ P
-    go true true e f = told_by true (λ h. both e f) (λ h p. absurd (cc))
-    go true false e f = told_by false (λ h. absurd (cc)) (λ h p. second e f p)
-    go false c e f = told_by false (λ h. absurd (cc)) (λ h p. first e p)
-
 module _ {X Y : Type 0} where
   -- a test of what each of a list gives
   pub any-flat_map : (f : Y → Bool) (g : X → List Y) (xs : List X) → list_any f (flat_map g xs) ≡ list_any (λ x. list_any f (g x)) xs

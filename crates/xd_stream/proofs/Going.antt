@@ -1,15 +1,14 @@
 -- What a validator stands for, from token to token.
-use Rattle.std.proofs.Common.{◌≡◌, ℕ, suc, ◌+◌, ◌-◌, length-drop, ◌<◌, ◌≤◌, ◌⊎◌, inl, inr, ◌↔◌, Bool, true, false, not, ◌&&◌, ◌||◌, ◌==◌, List, [], ◌∷◌, ◌++◌, length, take, drop, get_or, reverse, Some, None, refl, sym, ap, subst, ◌∙◌, arith, length-append}
+use Rattle.std.proofs.Common.{◌≡◌, ℕ, suc, ◌+◌, ◌-◌, length-drop, ◌<◌, ◌↔◌, Bool, true, false, not, ◌&&◌, ◌||◌, ◌==◌, List, [], ◌∷◌, ◌++◌, length, take, drop, reverse, Some, None, refl, sym, ap, subst, ◌∙◌, arith, length-append}
 use Rattle.std.specs.List.{list_any}
 use Rattle.std.specs.Str.{is_utf8}
-use Rattle.std.proofs.lemmas.Bool.{and_parts, cases_lt, ne_eqb}
-use Rattle.std.proofs.lemmas.List.{take_all, append-nil, length-reverse, reverse-append, get_or_past, length-take-le}
-use Rattle.std.proofs.lemmas.List.Folds.{list_any_at}
+use Rattle.std.proofs.lemmas.Bool.{ne_eqb}
+use Rattle.std.proofs.lemmas.List.{take_all, append-nil, length-reverse, reverse-append, length-take-le}
 use Rattle.std.proofs.Math.Seq.{take-append_seam, drop-append_seam}
 use Rattle.xd_doc.specs.Document.{Document, empty, text, element, join, is_proper}
 use Rattle.xd_doc.specs.Word.{is_word}
 use Rattle.xd_auto.specs.declared.auto.State.{State}
-use Rattle.xd_auto.specs.Automaton.{Automaton, accepts, moves_at, state_number}
+use Rattle.xd_auto.specs.Automaton.{Automaton, accepts, moves_at}
 use Rattle.xd_empty.specs.Parts.{AreMarks, is_marked}
 use Rattle.xd_read.specs.Grammar.{Terminal, Text, Label, ParenL, ParenR, BracketR, Comma, End, Other, Spells, Begins}
 use Rattle.xd_read.specs.Completes.{Frame, Completes}
@@ -18,8 +17,8 @@ use Rattle.xd_read.proofs.Machine.{At, Done, step, spelled_completes, completes_
 use Rattle.xd_stream.specs.Stop.{BeginsAccepted}
 use Rattle.xd_stream.specs.Fed.{open_behind, open_elements}
 use Rattle.xd_stream.specs.Positions.{expected, takes_item, takes_close, takes_parens}
-use Rattle.xd_stream.specs.Pairs.{AreStates, begins_content, leads_behind, leads_over_text, leads_over_label}
-use Rattle.xd_stream.specs.Standing.{AllPass, ArePlaces, AreItemMarks, AreProper, Keeps, completes_by, groups, is_alive_at, is_first, is_sound, whole}
+use Rattle.xd_stream.specs.Pairs.{begins_content, leads_behind, leads_over_text, leads_over_label}
+use Rattle.xd_stream.specs.Standing.{ArePlaces, AreItemMarks, AreProper, Keeps, completes_by, groups, is_alive_at, is_sound, whole}
 use Rattle.xd_stream.specs.Validating.{Ends, Goes, IsSameFor, Passes, Refuses, StandsAfter}
 use Rattle.xd_stream.specs.declared.pairs.Pair.{Pair}
 use Rattle.xd_stream.specs.declared.pairs.Waiting.{Waiting}
@@ -34,31 +33,6 @@ use Rattle.xd_stream.proofs.Testing.{any_same}
 use Rattle.xd_stream.proofs.Grammar.{text_step, label_step, paren_step, close_step, end_step, paren_none, none_open, some_open, comma_none, paren_r_none, other_none, IsMore, IsClosing, went, begins_none, begins_some}
 use Rattle.xd_stream.proofs.Alive.{alive_begins, dead_begins_none}
 use Rattle.xd_stream.proofs.Taking.{text_taken, label_taken, close_taken}
-
-marked_below : (marks : List Bool) (n : ℕ) → get_or marks n false ≡ true → n < length marks
-marked_below marks n h = go (cases_lt n (length marks))
-  where
-    go : (n < length marks) ⊎ (length marks ≤ n) → n < length marks
-    go (inl lt) = lt
-    go (inr le) = absurd (let t : false ≡ true = sym (get_or_past marks n false le) ∙ h in cc)
-
-pass_index : {X : Type 0} (g : X → Bool) (xs : List X) (k : ℕ) (d : X) → AllPass g xs → k < length xs → g (get_or xs k d) ≡ true
-pass_index g xs k d all lt = go (g (get_or xs k d)) refl
-  where
-    go : (b : Bool) → g (get_or xs k d) ≡ b → b ≡ true
-    go true e = refl
-    go false e = absurd (let t : true ≡ false = sym (list_any_at (λ x. not (g x)) xs k d lt (ap not e)) ∙ all in cc)
-
--- the present state of each pair belongs to the automaton
-pub are_states : (v : Validator) (ts : List Terminal) → StandsAfter v ts → AreStates v.automaton v.pairs.items
-are_states v ts h k d lt =
-    let wss = groups v.waiting.items (reverse v.places.items) in
-    let p : Pair = get_or v.pairs.items k d in
-    let m = (and_parts (is_marked v.marks.items p.present) (is_first wss p.first) (pass_index (is_sound v.marks.items wss) v.pairs.items k d h.keeps.sound lt)).0 in
-    subst (λ n. state_number p.present < n) h.marks.count (marked_below v.marks.items (state_number p.present) m)
-
-pub are_within : (v : Validator) (ts : List Terminal) → StandsAfter v ts → (k : ℕ) (d : Pair) → k < length v.pairs.items → state_number (get_or v.pairs.items k d).present < length v.with_items.items
-are_within v ts h k d lt = subst (λ n. state_number (get_or v.pairs.items k d).present < n) (sym h.items.count) (are_states v ts h k d lt)
 
 -- the validators are for the same, with the same marks
 pub record SameMarks (v w : Validator) : Type 0 where

@@ -1,5 +1,5 @@
 -- A document that bytes spell has words as labels and UTF-8 texts.
-use Rattle.std.proofs.Common.{◌≡◌, ◌⊎◌, inl, inr, ℕ, ◌+◌, ◌<◌, true, List, [], ◌∷◌, ◌++◌, length, get_or, refl, sym, ap, subst, ◌∙◌, arith, IsUtf8, append_assoc, length-append}
+use Rattle.std.proofs.Common.{◌≡◌, inl, inr, ℕ, ◌+◌, ◌<◌, true, List, [], ◌∷◌, ◌++◌, length, get_or, refl, sym, ap, subst, ◌∙◌, arith, IsUtf8, append_assoc, length-append}
 use Rattle.std.specs.Prelude.{◌&&◌}
 use Rattle.std.specs.List.{AllByRecursion}
 use Rattle.std.specs.Str.{IsCharBoundary, is_utf8}
@@ -16,8 +16,8 @@ use Rattle.xd_lex.specs.Reading.{IsGap, Reads, blank, broken, comment, end, gap,
 use Rattle.xd_lex.specs.Tokens.{Lexeme, past, start, tokens_of}
 use Rattle.xd_lex.proofs.Fronts.{begins_ascii, word_ascii}
 use Rattle.xd_lex.proofs.ReadLemmas.{tokens_are_read}
-use Rattle.xd_read.specs.Grammar.{Context, Whole, Content, Behind, Items, Lead, Nothing, Terminal, Text, Label, ParenL, ParenR, BracketR, Comma, End, Other}
-use Rattle.xd_read.specs.Reading.{BytesSpell, terminal, terminals_of, word_of}
+use Rattle.xd_read.specs.Grammar.{Context, Whole, Content, Behind, Items, Lead, Nothing, Terminal, Text, Label, BracketR, End}
+use Rattle.xd_read.specs.Reading.{terminal, terminals_of, word_of}
 use Rattle.xd_stream.specs.Laws.{SpelledIsProper}
 use Rattle.xd_stream.proofs.Bytes.{blank_ascii, word_of-label}
 use Rattle.xd_stream.proofs.QuotedTexts.{unescaped_utf8}

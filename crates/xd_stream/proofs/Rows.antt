@@ -1,6 +1,6 @@
 -- What a machine does at bytes in a row that go on with a word or a quoted text.
-use Rattle.std.proofs.Common.{◌≡◌, ◌≢◌, ℕ, ◌+◌, ◌<◌, Bool, true, false, not, List, [], ◌∷◌, ◌++◌, length, take, drop, get_or, Some, refl, sym, ap, subst, ◌∙◌, arith, IsUtf8, append_assoc}
-use Rattle.std.specs.Prelude.{◌==◌, ◌&&◌}
+use Rattle.std.proofs.Common.{◌≡◌, ◌≢◌, ℕ, ◌+◌, ◌<◌, true, false, List, [], ◌∷◌, ◌++◌, length, take, drop, get_or, Some, refl, sym, ap, subst, ◌∙◌, arith, IsUtf8, append_assoc}
+use Rattle.std.specs.Prelude.{◌==◌}
 use Rattle.std.specs.List.{AllByRecursion}
 use Rattle.std.proofs.lemmas.Bool.{and_parts}
 use Rattle.std.proofs.lemmas.Bool.Decides.{nat_tests}
@@ -15,7 +15,6 @@ use Rattle.xd_stream.specs.Stop.{told}
 use Rattle.xd_stream.specs.Pending.{AreRefused, RefusesAll, RefusesByte, StandsBehind, Stops, Takes, TakesAll, scan_text}
 use Rattle.xd_stream.specs.Runs.{GoesOnBy, IsColumnsOn, IsRun, are_plain, is_plain}
 use Rattle.xd_stream.specs.Validating.{IsSameFor}
-use Rattle.xd_stream.specs.declared.characters.Awaited.{Awaited}
 use Rattle.xd_stream.specs.declared.machine.Mode.{Mode}
 use Rattle.xd_stream.specs.declared.machine.Mode.TheVariants as modes
 use Rattle.xd_stream.specs.declared.machine.Machine.{Machine}

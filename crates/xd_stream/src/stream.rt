@@ -94,7 +94,8 @@ impl Stream {
 
     /// One more than the number of elements that the whole tokens leave open.
     pub fn frames(&self) -> usize
-        ensures { self.now.refusal ≡ None → (bytes : List ℕ) → StandsFor self.now bytes → (tokens : List Lexeme) → AreWhole bytes tokens → result ≡ open_elements 0 (terminals_of tokens) + 1 }
+        ensures whole { self.now.refusal ≡ None → (bytes : List ℕ) → StandsFor self.now bytes → (tokens : List Lexeme) × AreWhole bytes tokens }
+        ensures count { self.now.refusal ≡ None → (bytes : List ℕ) → StandsFor self.now bytes → (tokens : List Lexeme) → AreWhole bytes tokens → result ≡ open_elements 0 (terminals_of tokens) + 1 }
     {
         self.machine.validator.open_elements() + 1
     }
@@ -117,7 +118,8 @@ impl Stream {
 
     /// How many bytes are held of a token that isn't complete.
     pub fn carried(&self) -> usize
-        ensures { self.now.refusal ≡ None → (bytes : List ℕ) → StandsFor self.now bytes → (tokens : List Lexeme) → AreWhole bytes tokens → (rest : List ℕ) × AreBehindWhole bytes rest tokens × (result ≤ length rest) }
+        ensures held { result ≡ length self.now.machine.held.items }
+        ensures bounded { self.now.refusal ≡ None → (bytes : List ℕ) → StandsFor self.now bytes → (tokens : List Lexeme) → AreWhole bytes tokens → (rest : List ℕ) × AreBehindWhole bytes rest tokens × (result ≤ length rest) }
     {
         self.machine.held.len()
     }

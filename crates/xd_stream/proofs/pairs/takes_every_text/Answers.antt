@@ -1,4 +1,4 @@
-use Rattle.std.proofs.Common.{ap, sym, ◌∙◌, ◌≡◌, List, ℕ, not, get_or}
+use Rattle.std.proofs.Common.{ap, sym, ◌∙◌, not}
 use Rattle.std.specs.List.{list_any}
 use Rattle.xd_doc.specs.Classes.{class_has}
 use Rattle.xd_auto.specs.Automaton.{moves_at}
