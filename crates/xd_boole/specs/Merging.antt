@@ -7,6 +7,7 @@ use Rattle.xd_auto.specs.declared.auto.State.{State}
 use Rattle.xd_auto.specs.declared.auto.LabelMove.{LabelMove}
 use Rattle.xd_auto.specs.declared.auto.TextMove.{TextMove}
 use Rattle.xd_auto.specs.Automaton.{Automaton, ChangesOnly, IsState, accepts, moves_at, no_moves, state_number}
+use Rattle.xd_boole.specs.Universal.{AcceptsAll}
 use Rattle.xd_boole.specs.declared.merging.Compared.{Compared}
 
 -- the state that stands in for a state
@@ -37,6 +38,10 @@ pub record AreLike (a : Automaton) (same : List State) (c : Compared) : Type 0 w
   pub last : (moves_at a c.one).last ≡ (moves_at a c.other).last
   pub labels : AllZip (IsLikeLabel same c) (moves_at a c.one).labels (moves_at a c.other).labels
   pub texts : AllZip (IsLikeText same c) (moves_at a c.one).texts (moves_at a c.other).texts
+
+-- they are like each other, or both accept everything
+abbrev pub AreTwins : Automaton → List State → Compared → Type 0
+AreTwins a same c = AreLike a same c ⊎ (AcceptsAll a c.one × AcceptsAll a c.other)
 
 -- a move that leads to the states that stand in for its own
 abbrev pub redirected : List State → LabelMove → LabelMove

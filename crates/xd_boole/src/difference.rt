@@ -340,8 +340,8 @@ pub fn subtract(
 /// A state that accepts exactly what the first accepts and the second doesn't, by [`subtract`] from a
 /// copy of the first.
 ///
-/// States that are like each other are made one before. States that accept nothing are left out, but
-/// for the first.
+/// States that are like each other are made one before. States that accept nothing are left out
+/// before and after, but for the first.
 ///
 /// Fails only where memory is refused.
 pub fn minus(
@@ -358,8 +358,9 @@ pub fn minus(
     ensures inhabited { IfOk result (λ made. IsInhabitedPart made.0 made.1) }
 {
     let (left, first) = trim(alloc, one, first)?;
+    let (right, second) = inhabited_part(alloc, two, second)?;
     let mut made = merged(alloc, &left)?;
-    let start = subtract(alloc, &mut made, first, two, second)?;
+    let start = subtract(alloc, &mut made, first, &right, second)?;
     let (part, start) = inhabited_part(alloc, &made, start)?;
     Ok((part, start))
 }

@@ -4,25 +4,32 @@ ghost use Rattle.std.specs.Prelude.{◌≡◌, ◌<◌, true, length, IfOk};
 ghost use Rattle.std.specs.List.{AllByRecursion};
 ghost use Rattle.xd_doc.specs.Document.{Document};
 ghost use Rattle.xd_auto.specs.Automaton.{IsState, accepts};
-ghost use Rattle.xd_boole.specs.Merging.{AreStandIns};
+ghost use Rattle.xd_boole.specs.Merging.{AreStandIns, AreTwins};
+ghost use Rattle.xd_boole.specs.Universal.{MarkUniversal};
 
 use crate::merging::{
     Compared, are_like, bare_states, mixed, mixed_name, redirect_state, stand_in, stand_ins,
 };
+use crate::universal::{is_marked, universal_states};
 use std::alloc::Global;
 use std::collections::HashMap;
-use xd_auto::{Auto, State};
+use xd_auto::{Auto, State, trim};
 use xd_doc::NoMemory;
+use xd_traces::add_universal;
 
 /// The group of a state, by its number.
 fn group_of(groups: &[usize], state: State) -> usize {
     groups.get(state.number()).copied().unwrap_or(0)
 }
 
-/// A number that states share which are in one group, and whose moves lead to the same groups.
-fn grouping(auto: &Auto, groups: &[usize], state: State) -> u64
+/// A number that states share which are in one group, and whose moves lead to the same groups; and
+/// one that all share which are known to accept everything.
+fn grouping(auto: &Auto, universal: &[bool], groups: &[usize], state: State) -> u64
     requires { IsState auto.now state }
 {
+    if is_marked(universal, state) {
+        return 0;
+    }
     let mut key = mixed(0, group_of(groups, state));
     for step in auto.label_moves(state) {
         key = mixed(key, usize::from(step.class.takes_others()));
@@ -65,12 +72,17 @@ fn first_groups(alloc: Global, auto: &Auto) -> Result<Groups, NoMemory> {
 }
 
 /// Groups parted by where moves lead.
-fn parted(alloc: Global, auto: &Auto, old: &[usize]) -> Result<Groups, NoMemory> {
+fn parted(
+    alloc: Global,
+    auto: &Auto,
+    universal: &[bool],
+    old: &[usize],
+) -> Result<Groups, NoMemory> {
     let mut found = HashMap::new(alloc);
     let mut of = Vec::new(alloc);
     let mut count = 0usize;
     for number in 0..auto.len() {
-        let key = grouping(auto, old, auto.state(number));
+        let key = grouping(auto, universal, old, auto.state(number));
         match found.get(&key).copied() {
             Some(group) => of.push(group)?,
             None => {
@@ -84,10 +96,10 @@ fn parted(alloc: Global, auto: &Auto, old: &[usize]) -> Result<Groups, NoMemory>
 }
 
 /// Groups that are parted no more.
-fn last_groups(alloc: Global, auto: &Auto) -> Result<Groups, NoMemory> {
+fn last_groups(alloc: Global, auto: &Auto, universal: &[bool]) -> Result<Groups, NoMemory> {
     let mut groups = first_groups(alloc, auto)?;
     for _round in 0..auto.len() {
-        let next = parted(alloc, auto, &groups.of)?;
+        let next = parted(alloc, auto, universal, &groups.of)?;
         let is_same = next.count == groups.count;
         groups = next;
         if is_same {
@@ -97,13 +109,18 @@ fn last_groups(alloc: Global, auto: &Auto) -> Result<Groups, NoMemory> {
     Ok(groups)
 }
 
-/// The first state of the group of each state: a guess at which states accept the same.
-fn guessed(alloc: Global, auto: &Auto) -> Result<Vec<State>, NoMemory>
+/// One state of the group of each state: a guess at which states accept the same. Of the newest
+/// state's group it is that one, of others the first.
+fn guessed(alloc: Global, auto: &Auto, universal: &[bool]) -> Result<Vec<State>, NoMemory>
     ensures count { IfOk result (λ same. length same.items ≡ length auto.now) }
     ensures states { IfOk result (λ same. AllByRecursion (IsState auto.now) same.items) }
 {
-    let groups = last_groups(alloc, auto)?;
+    let groups = last_groups(alloc, auto, universal)?;
     let mut firsts = HashMap::new(alloc);
+    let newest = auto.len().saturating_sub(1);
+    if let Some(group) = groups.of.get(newest).copied() {
+        firsts.insert(group, newest)?;
+    }
     let mut same = Vec::new(alloc);
     for number in 0..auto.len() {
         let group = group_of(&groups.of, auto.state(number));
@@ -131,16 +148,31 @@ fn known_state(auto: &Auto, first: usize, number: usize) -> State
     }
 }
 
-/// Whether each state has moves like those of the state that is to stand in for it.
-fn are_all_like(auto: &Auto, same: &[State]) -> bool
+/// Whether two states have like moves, or are known to accept everything.
+fn are_twins(auto: &Auto, same: &[State], universal: &[bool], both: Compared) -> bool
+    requires one { IsState auto.now both.one }
+    requires other { IsState auto.now both.other }
+    requires universal { MarkUniversal auto.now universal.now }
+    ensures { result ≡ true → AreTwins auto.now same.now both }
+{
+    if is_marked(universal, both.one) && is_marked(universal, both.other) {
+        return true;
+    }
+    are_like(auto, same, both)
+}
+
+/// Whether each state has moves like those of the state that is to stand in for it, or both are known
+/// to accept everything.
+fn are_all_twins(auto: &Auto, same: &[State], universal: &[bool]) -> bool
     requires count { length same.now ≡ length auto.now }
     requires states { AllByRecursion (IsState auto.now) same.now }
+    requires universal { MarkUniversal auto.now universal.now }
     ensures { result ≡ true → AreStandIns auto.now same.now }
 {
     for number in 0..auto.len() {
         let one = auto.state(number);
         let other = stand_in(same, one);
-        if !are_like(auto, same, Compared { one, other }) {
+        if !are_twins(auto, same, universal, Compared { one, other }) {
             return false;
         }
     }
@@ -149,24 +181,24 @@ fn are_all_like(auto: &Auto, same: &[State]) -> bool
 
 /// For each state one that accepts the same.
 ///
-/// At first all states are taken to be the same that agree on the empty document; groups are parted by where moves lead until none
-/// is (E. F. Moore, Gedanken-experiments on sequential machines, 1956). Moves are compared in their order. What comes of it is
-/// tested at its end; where the test fails, `stand_ins` answers.
+/// At first all states are taken to be the same that agree on the empty document; groups are parted by
+/// where moves lead until none is (E. F. Moore, Gedanken-experiments on sequential machines, 1956).
+/// Moves are compared in their order. States that plainly accept everything are one. What comes of it
+/// is tested at its end; where the test fails, `stand_ins` answers.
 fn twins(alloc: Global, auto: &Auto) -> Result<Vec<State>, NoMemory>
     ensures { IfOk result (λ same. AreStandIns auto.now same.items) }
 {
-    let same = guessed(alloc, auto)?;
-    if are_all_like(auto, &same) {
+    let universal = universal_states(alloc, auto)?;
+    let same = guessed(alloc, auto, &universal)?;
+    if are_all_twins(auto, &same, &universal) {
         return Ok(same);
     }
     stand_ins(alloc, auto)
 }
 
-/// The same states, with their moves to one state where many accept the same, and the state that stands in for a state.
-///
-/// States are found like each other also where they lead back to themselves, or to one another. `NoMemory` where there is no
-/// room for the copy.
-pub fn merged_at(alloc: Global, auto: &Auto, state: State) -> Result<(Auto, State), NoMemory>
+/// The same states, with their moves to one state where many accept the same, and the state that
+/// stands in for a state.
+fn merged_from(alloc: Global, auto: &Auto, state: State) -> Result<(Auto, State), NoMemory>
     requires { IsState auto.now state }
     ensures same { IfOk result (λ made. (d : Document) → accepts made.0 d made.1 ≡ accepts auto.now d state) }
     ensures belongs { IfOk result (λ made. IsState made.0 made.1) }
@@ -177,4 +209,31 @@ pub fn merged_at(alloc: Global, auto: &Auto, state: State) -> Result<(Auto, Stat
         redirect_state(&mut made, auto, &same, number)?;
     }
     Ok((made, stand_in(&same, state)))
+}
+
+/// The part that a state leads to and the state in it, and behind it a state that accepts everything.
+fn with_universal(alloc: Global, auto: &Auto, state: State) -> Result<(Auto, State), NoMemory>
+    requires { IsState auto.now state }
+    ensures same { IfOk result (λ made. (d : Document) → accepts made.0 d made.1 ≡ accepts auto.now d state) }
+    ensures belongs { IfOk result (λ made. IsState made.0 made.1) }
+{
+    let (mut part, start) = trim(alloc, auto, state)?;
+    let _states = part.len();
+    let _all = add_universal(alloc, &mut part)?;
+    Ok((part, start))
+}
+
+/// A state that accepts the same, in an automaton in which moves lead to one state where many accept
+/// the same.
+///
+/// States are found like each other also where they lead back to themselves, or to one another.
+/// Those that plainly accept every document become one that leads to itself alone. `NoMemory` where
+/// there is no room for the automaton.
+pub fn merged_at(alloc: Global, auto: &Auto, state: State) -> Result<(Auto, State), NoMemory>
+    requires { IsState auto.now state }
+    ensures same { IfOk result (λ made. (d : Document) → accepts made.0 d made.1 ≡ accepts auto.now d state) }
+    ensures belongs { IfOk result (λ made. IsState made.0 made.1) }
+{
+    let (part, start) = with_universal(alloc, auto, state)?;
+    merged_from(alloc, &part, start)
 }

@@ -8,6 +8,7 @@ pub mod ClassLaws
 pub mod SeqLaws
 pub mod AltLaws
 pub mod AltSteps
+pub mod EndLaws
 pub mod StarLaws
 pub mod TextLaws
 pub mod Naming

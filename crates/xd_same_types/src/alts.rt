@@ -11,6 +11,7 @@ ghost use Rattle.xd_same_types.specs.Joints.{IsJoint};
 ghost use Rattle.xd_same_types.specs.Same.{AddsFit, AddsFits, AreAltParts, CanBeEmpty, IsChoice, MeansSame, TakesIn, trees};
 
 use crate::classes::united;
+use crate::ends::join_ends;
 use crate::pool::{Pool, node};
 use crate::seqs::{is_plus, is_star, one_part, star_of};
 use std::alloc::Global;
@@ -330,8 +331,8 @@ fn near_place(pool: &Pool, some: &Alternatives, next: TypeId) -> Option<usize>
 /// A type for the alternative at a place and one more.
 #[derive(Clone, Copy)]
 pub(crate) struct Joint {
-    place: usize,
-    one: TypeId,
+    pub(crate) place: usize,
+    pub(crate) one: TypeId,
 }
 
 /// One type for an alternative and one more, where there is one.
@@ -443,12 +444,58 @@ fn choice_type(pool: &mut Pool, parts: Vec<TypeId>, empty: bool) -> Result<TypeI
     opt(pool, id)
 }
 
+/// The alternatives of several types, each once.
+fn choice_of_all(
+    alloc: Global,
+    pool: &mut Pool,
+    first: TypeId,
+    more: &[TypeId],
+) -> Result<Choice, NoMemory>
+    requires first { BelongsTo pool.old.types first }
+    requires more { AllByRecursion (BelongsTo pool.old.types) more.now }
+    ensures fits { IfOk result (λ choice. IsChoice (alt_of (tree pool.old.types first ∷ trees pool.old.types more.now)) (trees pool.new.types choice.parts.items) choice.empty) }
+    ensures parts { IfOk result (λ choice. AreAltParts pool.new.types choice.parts.items) }
+    ensures some { IfOk result (λ choice. (0 < length choice.parts.items) ⊎ (choice.empty ≡ true)) }
+    ensures keeps { GrowsTypes pool.old.types pool.new.types }
+{
+    let choice = choice_of(alloc, pool, first)?;
+    let mut some = no_alternatives(alloc);
+    add_alternatives(alloc, pool, &mut some, &choice.parts)?;
+    let mut empty = choice.empty;
+    for id in more {
+        let also = add_choice(alloc, pool, &mut some, *id)?;
+        empty = empty | also;
+    }
+    Ok(Choice {
+        parts: some.parts,
+        empty,
+    })
+}
+
+/// The type of what fits one of two types. Alternatives that end in the same parts stay as they are.
+pub(crate) fn plain_alt(
+    alloc: Global,
+    pool: &mut Pool,
+    one: TypeId,
+    two: TypeId,
+) -> Result<TypeId, NoMemory>
+    requires one { BelongsTo pool.old.types one }
+    requires two { BelongsTo pool.old.types two }
+    ensures same { IfOk result (λ id. MeansSame (tree pool.new.types id) (Alt (tree pool.old.types one) (tree pool.old.types two))) }
+    ensures belongs { IfOk result (BelongsTo pool.new.types) }
+    ensures keeps { GrowsTypes pool.old.types pool.new.types }
+{
+    let Choice { parts, empty } = choice_of_all(alloc, pool, one, &[two])?;
+    choice_type(pool, parts, empty)
+}
+
 /// The type of what fits one of several types, written short; the order stays.
 ///
-/// An alternative that another takes in is left out, elements with one content become one, and of
-/// several ways to be empty one is kept. The time is linear in the alternatives, but for the
-/// classes of labels that are put together. Fails only where memory is refused; the table may have
-/// more types then, and keeps its old ones.
+/// An alternative that another takes in is left out, elements with one content become one,
+/// alternatives that end in the same parts are put together, and of several ways to be empty one is
+/// kept. The time is linear in the alternatives, but for the classes of labels and the sequences
+/// that are put together. Fails only where memory is refused; the table may have more types then,
+/// and keeps its old ones.
 pub fn alt_of_all(
     alloc: Global,
     pool: &mut Pool,
@@ -461,15 +508,9 @@ pub fn alt_of_all(
     ensures belongs { IfOk result (BelongsTo pool.new.types) }
     ensures keeps { GrowsTypes pool.old.types pool.new.types }
 {
-    let choice = choice_of(alloc, pool, first)?;
-    let mut some = no_alternatives(alloc);
-    add_alternatives(alloc, pool, &mut some, &choice.parts)?;
-    let mut empty = choice.empty;
-    for id in more {
-        let also = add_choice(alloc, pool, &mut some, *id)?;
-        empty = empty | also;
-    }
-    choice_type(pool, some.parts, empty)
+    let choice = choice_of_all(alloc, pool, first, more)?;
+    let parts = join_ends(alloc, pool, &choice.parts)?;
+    choice_type(pool, parts, choice.empty)
 }
 
 /// The type of what fits one of two types, written short as by `alt_of_all`. Fails only where

@@ -3,6 +3,7 @@
 
 mod alts;
 mod classes;
+mod ends;
 mod law;
 mod pool;
 mod same;

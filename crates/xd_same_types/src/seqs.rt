@@ -37,7 +37,7 @@ pub(crate) fn seq_parts(alloc: Global, pool: &Pool, id: TypeId) -> Result<Vec<Ty
 }
 
 /// The sequence of these parts.
-fn seq_of(pool: &mut Pool, parts: Vec<TypeId>) -> Result<TypeId, NoMemory>
+pub(crate) fn seq_of(pool: &mut Pool, parts: Vec<TypeId>) -> Result<TypeId, NoMemory>
     requires { AreSeqParts pool.old.types parts.items }
     ensures tree { IfOk result (λ id. tree pool.new.types id ≡ seq_of (trees pool.old.types parts.items)) }
     ensures belongs { IfOk result (BelongsTo pool.new.types) }

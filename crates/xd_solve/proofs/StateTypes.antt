@@ -10,7 +10,7 @@ use Rattle.xd_syntax.specs.declared.types.TypeId.{TypeId}
 use Rattle.xd_syntax.specs.Words.{any_word}
 use Rattle.xd_same_types.specs.Same.{Meaning, TakesItem}
 use Rattle.xd_solve.specs.Equations.{Product, Side, Unknowns, IsFine, ConstantTakes, SumStands, own_in, side_in}
-use Rattle.xd_solve.specs.Systems.{AllStand, AreEquations, AreFineSums, IsSolution, Reduces, SumsTops, is_alive, all_alive, ranks_of}
+use Rattle.xd_solve.specs.Systems.{AllStand, AreEquations, AreFineSums, IsSolution, Reduces, SumsTops, is_alive, all_alive}
 use Rattle.xd_solve.specs.Levels.{AreContents, MeansAny, ArePlaced, ArePlaces, AreStateSums, HasPlace, IsLevel, IsReady, IsStateSide, IsStateType, IsWritten, WrittenBelong}
 use Rattle.xd_solve.specs.declared.sums.Sum.{Sum}
 use Rattle.xd_same_types.proofs.Ids.{default_free, got}
@@ -64,7 +64,8 @@ state_type_law a old mid low new written places states start sums few o level co
   exact = λ N any contents d.
       let eqs = level_equations a old mid written places states start sums level count sides N any contents in
       let fine = level_fine a old mid written places states start sums level count sides in
-      let it = s.exact N (unknowns_of a states start) (ranks_of sums) (r.fine fine) (r.equations N (unknowns_of a states start) eqs) d in
+      let few_fine = r.fine fine in
+      let it = s.exact N (unknowns_of a states start) few_fine.0 few_fine.1 (r.equations N (unknowns_of a states start) eqs) d in
       subst (λ x. (accepts a d x ≡ true) ↔ ConstantTakes N d (own_in new o)) (sym first) it;
   tops = s.tops (any_word ∷ []) (r.tops (any_word ∷ []) (level_tops a old mid written places states start sums level count sides));
 }

@@ -1,5 +1,5 @@
 -- Equations for several unknowns.
-use Rattle.std.specs.Prelude.{◌≡◌, ◌⊎◌, ◌↔◌, ◌<◌, ℕ, nat_eq, Bool, true, false, List, [], map, length, get_or, Option}
+use Rattle.std.specs.Prelude.{◌≡◌, ◌⊎◌, ◌↔◌, ◌+◌, ◌<◌, ℕ, nat_eq, Bool, true, false, is_some, if◌then◌else◌, List, [], map, length, get_or, Option}
 use Rattle.std.specs.Prelude.{slice_set as set}
 use Rattle.std.specs.List.{AllByRecursion}
 use Rattle.std.specs.Option.{IfSome}
@@ -64,29 +64,38 @@ pub record IsLeft (sums : List Sum) (alive : List Bool) (c : Candidate) : Type 0
   pub later : 0 < c.number
   pub alive_there : is_alive alive c.number ≡ true
 
--- another sum that has fewer terms, all of which are terms of the one
+-- how many terms a sum has, and one more for the type alone
+abbrev pub summand_count : Sum → ℕ
+summand_count s = length s.terms.items + (if is_some s.constant then 1 else 0)
+
+-- a sum at a place has fewer summands than another one, or as many and stands before it
+abbrev pub ComesBefore : Sum → ℕ → Sum → ℕ → Type 0
+ComesBefore t other s at = (summand_count t < summand_count s) ⊎ ((summand_count t ≡ summand_count s) × (other < at))
+
+-- the same of the sums at two places
+abbrev pub IsBefore : List Sum → ℕ → ℕ → Type 0
+IsBefore sums other at = (s t : Sum) → s ≡ get_or sums at s → t ≡ get_or sums other t → ComesBefore t other s at
+
+-- another sum that comes before the one, all of whose summands the one has
 pub record IsCovered (sums : List Sum) (at other : ℕ) : Type 0 where
   pub within : other < length sums
   pub covers : (s t : Sum) → s ≡ get_or sums at s → t ≡ get_or sums other t → Covers s t
-  pub fewer : (s t : Sum) → s ≡ get_or sums at s → t ≡ get_or sums other t → length t.terms.items < length s.terms.items
+  pub before : IsBefore sums other at
 
--- the new side is the sum's with the unknown of a sum with fewer terms
-pub record UsesLess (types : List Row) (sums : List Sum) (s : Sum) (new : Side) : Type 0 where
+-- the new side is the sum's with the unknown of a sum that comes before it
+pub record UsesEarlier (types : List Row) (sums : List Sum) (at : ℕ) (s : Sum) (new : Side) : Type 0 where
   pub other : ℕ
   pub within : other < length sums
   pub shortens : (t : Sum) → t ≡ get_or sums other t → Shortens other (side_in types t) (side_in types s) new
-  pub fewer : (t : Sum) → t ≡ get_or sums other t → length t.terms.items < length s.terms.items
+  pub before : (t : Sum) → t ≡ get_or sums other t → ComesBefore t other s at
 
 -- the new side says what the sum at a place says, where the equations hold
 abbrev pub Rewrites : List Row → List Sum → ℕ → Side → Type 0
-Rewrites types sums at new = (s : Sum) → s ≡ get_or sums at s → SameSide (side_in types s) new ⊎ UsesLess types sums s new
+Rewrites types sums at new = (s : Sum) → s ≡ get_or sums at s → SameSide (side_in types s) new ⊎ UsesEarlier types sums at s new
 
-abbrev pub ranks_of : List Sum → List ℕ
-ranks_of sums = map (λ s. length s.terms.items) sums
-
--- the equations were written anew: where they held they hold, and where each term took an item they are fine
+-- the equations were written anew: where they held they hold, and where each term took an item they are fine by some ranks
 pub record Reduces (old new : List Row) (before after : List Sum) : Type 0 where
   pub count : length after ≡ length before
   pub equations : (N : Meaning) (X : Unknowns) → AreEquations N X old (all_alive before) before → AreEquations N X new (all_alive after) after
-  pub fine : AreFineSums old (all_alive before) [] before → AreFineSums new (all_alive after) (ranks_of before) after
+  pub fine : AreFineSums old (all_alive before) [] before → (ranks : List ℕ) × AreFineSums new (all_alive after) ranks after
   pub tops : (known : List (List ℕ)) → SumsTops known old before → SumsTops known new after

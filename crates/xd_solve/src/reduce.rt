@@ -8,7 +8,7 @@ ghost use Rattle.xd_same_types.specs.Grown.{GrowsTypes};
 ghost use Rattle.xd_syntax.specs.Types.{BelongsTo};
 ghost use Rattle.xd_syntax.specs.Ways.{Among};
 ghost use Rattle.xd_solve.specs.Equations.{AddsProduct, AddsUnless, Covers, IsShort, SameSide, Shortens, SumStands, kept_constant, product_in, side_in};
-ghost use Rattle.xd_solve.specs.Systems.{AllStand, IsCovered, Reduces, Rewrites};
+ghost use Rattle.xd_solve.specs.Systems.{AllStand, IsBefore, IsCovered, Reduces, Rewrites, summand_count};
 
 use crate::bundles::{bundled, terms_of};
 use crate::sums::{Sum, Term};
@@ -80,8 +80,29 @@ fn lead_on(sums: &[Sum], terms: &[Term]) -> bool {
     }
 }
 
-/// Of the sums that have fewer terms, all of which this one has too, the one with most; none where this one leads to the
-/// end alone.
+/// How many summands a sum has.
+fn summand_count(sum: &Sum) -> usize
+    ensures { result ≡ summand_count sum.now }
+{
+    match sum.constant {
+        None => sum.terms.len(),
+        Some(_) => sum.terms.len() + 1,
+    }
+}
+
+/// Whether the sum at one place has fewer summands than that at the other place, or as many and stands before it.
+fn comes_before(sums: &[Sum], other: usize, number: usize) -> bool
+    requires other { other < length sums.now }
+    requires number { number < length sums.now }
+    ensures { result ≡ true → IsBefore sums.now other number }
+{
+    let count = summand_count(&sums[other]);
+    let most = summand_count(&sums[number]);
+    count < most || (count == most && other < number)
+}
+
+/// Of the sums that come before, all of whose summands this one has too, the one with most; none where this one leads to
+/// the end alone.
 fn covered(sums: &[Sum], number: usize) -> Option<usize>
     requires { number < length sums.now }
     ensures { IfSome result (IsCovered sums.now number) }
@@ -94,7 +115,7 @@ fn covered(sums: &[Sum], number: usize) -> Option<usize>
     let mut most = 0;
     for other in 0..sums.len() {
         let count = sums[other].terms.len();
-        if count > most && count < sum.terms.len() && covers(sum, &sums[other]) {
+        if count > most && comes_before(sums, other, number) && covers(sum, &sums[other]) {
             best = Some(other);
             most = count;
         }

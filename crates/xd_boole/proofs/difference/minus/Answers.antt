@@ -8,6 +8,13 @@ returns-in_err-left c = record {
   inhabited = IfOk-from_err c.from_residual.result _ c.from_residual.ensures.0;
 }
 
+pub returns-in_err-right : goal.returns-in_err-right
+returns-in_err-right c = record {
+  exact = IfOk-from_err c.from_residual-in_err-right.result _ c.from_residual-in_err-right.ensures.0;
+  start = IfOk-from_err c.from_residual-in_err-right.result _ c.from_residual-in_err-right.ensures.0;
+  inhabited = IfOk-from_err c.from_residual-in_err-right.result _ c.from_residual-in_err-right.ensures.0;
+}
+
 pub returns-in_err-made : goal.returns-in_err-made
 returns-in_err-made c = record {
   exact = IfOk-from_err c.from_residual-in_err-made.result _ c.from_residual-in_err-made.ensures.0;

@@ -3,7 +3,7 @@ use Rattle.xd_same_types.specs.Grown.{GrowsTypes}
 use Rattle.xd_syntax.specs.Tree.{alt_of}
 use Rattle.xd_syntax.specs.Types.{tree}
 use Rattle.xd_same_types.specs.Same.{AreAltParts, IsChoice, trees}
-use Rattle.xd_same_types.proofs.alts.alt_of_all.Given as goal
+use Rattle.xd_same_types.proofs.alts.choice_of_all.Given as goal
 
 abbrev pub invariant-loop-id : goal.invariant-loop-id
 invariant-loop-id l = record {

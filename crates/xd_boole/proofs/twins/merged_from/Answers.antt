@@ -1,6 +1,6 @@
 use Rattle.std.proofs.Common.{◌≤◌, length, arith, ◌∙◌}
 use Rattle.xd_boole.proofs.Redirecting.{redirected_accepts}
-use Rattle.xd_boole.proofs.twins.merged_at.Goals as goal
+use Rattle.xd_boole.proofs.twins.merged_from.Goals as goal
 
 pub returns-clause-same : goal.returns-clause-same
 returns-clause-same c =

@@ -1,16 +1,16 @@
 use Rattle.std.proofs.Common.{◌<◌, subst, sym, arith, rules}
 use Rattle.xd_auto.specs.Automaton.{IsState, state_number}
 use Rattle.xd_boole.proofs.MergeLemmas.{stand_in_there}
-use Rattle.xd_boole.proofs.TwinLemmas.{like_more, twins_stand}
-use Rattle.xd_boole.proofs.twins.are_all_like.Goals as goal
+use Rattle.xd_boole.proofs.TwinLemmas.{twins_more, twins_stand}
+use Rattle.xd_boole.proofs.twins.are_all_twins.Goals as goal
 
-pub are_like-requires-clause-other : goal.are_like-requires-clause-other
-are_like-requires-clause-other c =
+pub are_twins-requires-clause-other : goal.are_twins-requires-clause-other
+are_twins-requires-clause-other c =
     subst (IsState c.args.auto.now) (sym c.stand_in-other.ensures) (stand_in_there c.args.auto.now c.args.same.now c.state-one.result c.requires.states c.state-one.ensures.belongs)
 
 pub loop-number-preserved : goal.loop-number-preserved
 loop-number-preserved c =
-    like_more c.args.auto.now c.args.same.now c.loop-number.number c.state-one.result c.stand_in-other.result c.state-one.ensures.number c.stand_in-other.ensures c.loop-number.invariant (c.are_like.ensures (search rules))
+    twins_more c.args.auto.now c.args.same.now c.loop-number.number c.state-one.result c.stand_in-other.result c.state-one.ensures.number c.stand_in-other.ensures c.loop-number.invariant (c.are_twins.ensures (search rules))
 
 pub returns : goal.returns
 returns c = λ e.
