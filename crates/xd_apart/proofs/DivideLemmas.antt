@@ -10,7 +10,7 @@ use Rattle.xd_auto.specs.declared.auto.State.{State}
 use Rattle.xd_auto.specs.declared.auto.LabelMove.{LabelMove}
 use Rattle.xd_auto.specs.declared.auto.TextMove.{TextMove}
 use Rattle.xd_auto.specs.Automaton.{Automaton, StateMoves, moves_at, no_moves, state_number, with_moves}
-use Rattle.xd_boole.proofs.Adding.{at_end}
+use Rattle.xd_boole.proofs.ArePointsLemmas.{at_end}
 use Rattle.xd_apart.specs.Loose.{AddsInside, AddsOutside, AddsTextInside, AddsTextOutside, DividesLabels, DividesTexts, HasMove, HasTextMove, copied}
 
 first_or_later : {X : Type 0} (x v : X) (xs : List X) → Contains (x ∷ xs) v → Contains xs v ⊎ (v ≡ x)

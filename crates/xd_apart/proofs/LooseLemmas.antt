@@ -16,7 +16,7 @@ use Rattle.xd_auto.specs.Automaton.{Automaton, IsState, LeadsBelow, StateMoves, 
 use Rattle.xd_auto.proofs.Closed.{same_state}
 use Rattle.xd_boole.specs.Meaning.{ElementFirst, PointView, TextFirst, any_accepts, element_of, is_last_in, less, means, move_takes, text_of, text_takes}
 use Rattle.xd_boole.specs.Points.{IsPointOf, no_point, point_at, state_at}
-use Rattle.xd_boole.proofs.Adding.{at_end, at_front, place_cases}
+use Rattle.xd_boole.proofs.ArePointsLemmas.{at_end, at_front, place_cases}
 use Rattle.xd_apart.specs.Loose.{AreLoose, DividesLabels, DividesTexts, HasMove, HasTextMove, IsLoose, KeepsPoints, Loosens, Narrows, TakesElement, TakesText, copied}
 use Rattle.xd_apart.proofs.ApartLemmas.{both_true}
 

@@ -17,8 +17,8 @@ use Rattle.xd_auto.specs.Automaton.{Automaton, IsClosed, IsState, StateMoves, ac
 use Rattle.xd_auto.proofs.Closed.{moves_at-closed, same_state}
 use Rattle.xd_boole.specs.Meaning.{PointView, any_accepts, is_last_in, less, means, with_states}
 use Rattle.xd_boole.specs.Points.{IsPointOf, MoveBelow, found_at, no_point, point_at, point_key, state_at}
-use Rattle.xd_boole.proofs.Adding.{at_end, same_point}
-use Rattle.xd_boole.proofs.Refusing.{set_accepts, with_states_all}
+use Rattle.xd_boole.proofs.ArePointsLemmas.{at_end, same_point}
+use Rattle.xd_boole.proofs.AnyAcceptsLemmas.{set_accepts, with_states_all}
 use Rattle.xd_apart.specs.declared.loose.Loose.{Loose}
 use Rattle.xd_apart.specs.Loose.{Grows, IsLoose, IsLooseOver, IsRightMove, IsRightText, KeepsPoints, Loosens, Narrows, ReplacesLabel, ReplacesText, StandsFor, copied, left_states}
 use Rattle.xd_apart.proofs.LooseLemmas.{added_loosens, added_points, copied_loose, divided_loose, divided_loose_text, exchanged_at, exchanged_loosens, kept_narrows}

@@ -8,7 +8,7 @@ use Rattle.xd_auto.specs.Automaton.{Automaton, IsState, accepts, moves_at, state
 use Rattle.xd_boole.specs.Meaning.{less}
 use Rattle.xd_boole.specs.Points.{point_at}
 use Rattle.xd_least.specs.declared.document.LeastDocument.{LeastDocument}
-use Rattle.xd_doc.specs.Least.{IsLeastUpTo}
+use Rattle.xd_doc.specs.LeastUpTo.{IsLeastUpTo}
 use Rattle.xd_least.specs.Least.{Knows, size_limit}
 use Rattle.xd_apart.specs.declared.loose.Loose.{Loose}
 use Rattle.xd_apart.specs.declared.search.Clash.{Clash}

@@ -2,8 +2,9 @@
 
 ghost use Rattle.std.specs.Prelude.{◌^◌, IfOk};
 ghost use Rattle.xd_doc.specs.Document.{Document};
-ghost use Rattle.xd_doc.specs.Least.{IsLeastUpTo};
-ghost use Rattle.xd_doc.specs.Stored.{BelongsTo, Keeps, document_at};
+ghost use Rattle.xd_doc.specs.LeastUpTo.{IsLeastUpTo};
+ghost use Rattle.xd_doc.specs.Stored.{BelongsTo, document_at};
+ghost use Rattle.xd_doc.specs.StoreNodes.{Keeps};
 ghost use Rattle.xd_auto.specs.Automaton.{IsState};
 ghost use Rattle.xd_apart.specs.Apart.{IsApart};
 

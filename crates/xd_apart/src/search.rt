@@ -3,21 +3,21 @@
 ghost use Rattle.std.specs.Prelude.{◌≡◌, ◌<◌, ◌≤◌, true, false, None, Ok, length, Contains, IfOk, OnOk};
 ghost use Rattle.std.specs.Option.{IfSome};
 ghost use Rattle.xd_doc.specs.Document.{Document};
-ghost use Rattle.xd_doc.specs.Stored.{BelongsTo, Keeps, document_at};
+ghost use Rattle.xd_doc.specs.Stored.{BelongsTo, document_at};
+ghost use Rattle.xd_doc.specs.StoreNodes.{Keeps};
 ghost use Rattle.xd_auto.specs.Automaton.{IsState, accepts, moves_at, state_number};
 ghost use Rattle.xd_boole.specs.Points.{point_at};
 ghost use Rattle.xd_least.specs.Least.{IsLeastOf};
-ghost use Rattle.xd_member.specs.Kept.{AreRight};
+ghost use Rattle.xd_auto.specs.Kept.{AreRight};
 ghost use Rattle.xd_apart.specs.Apart.{IsApart};
 ghost use Rattle.xd_apart.specs.Loose.{IsLooseOver, KeepsPoints, left_states};
 ghost use Rattle.xd_apart.specs.Search.{IsFound, IsStep, IsTakenAt, KnowsLefts};
 
 use crate::loose::Loose;
 use std::alloc::Global;
-use xd_auto::{Auto, State, trim};
+use xd_auto::{Answers, Auto, State, accepts_kept, trim};
 use xd_doc::{Item, Label, NoMemory, Seq, Store, Text};
 use xd_least::{LeastDocument, LeastInhabitants};
-use xd_member::{Answers, accepts_kept};
 
 /// How often a loose automaton is made closer at most.
 const ROUNDS: usize = 1000;

@@ -1,3 +1,6 @@
+pub mod Marks
+pub mod Kept
+pub mod Membership
 pub mod Automaton
 pub mod Index
 pub mod Matching

@@ -2,7 +2,7 @@
 use Rattle.std.specs.Prelude.{ℕ, List, [], ◌∷◌, Option, Some, None, Result, Ok, Err, if◌then◌else◌, String, Vec}
 use Rattle.std.specs.Str.{bytes_eq}
 use Rattle.std.specs.String.{string_bytes}
-use Rattle.xd_base.specs.Outside.{next_count}
+use Rattle.xd_base.specs.Transfers.{next_count}
 use Rattle.xd_base.specs.declared.error.FetchError.{FetchError}
 use Rattle.xd_base.specs.declared.error.FetchError.TheVariants.{Failed, Missing, NoMemory}
 

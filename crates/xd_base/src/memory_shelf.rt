@@ -3,7 +3,8 @@
 ghost use Rattle.std.specs.Prelude.{◌≡◌, ℕ, ◌<◌, ◌≤◌, ◌^◌, List, Some, None, Contains, length, IfOk, OnErr, OnOk, IsErrOf, ◌↔◌, [], ◌∷◌, ◌++◌, if◌then◌else◌, map};
 ghost use Rattle.std.specs.Option.{option_copied};
 ghost use Rattle.std.specs.Str.{bytes_eq};
-ghost use Rattle.xd_base.specs.Outside.{HasRisen, GivesFront, IsLacking, next_count};
+ghost use Rattle.xd_base.specs.Outside.{HasRisen, IsLacking};
+ghost use Rattle.xd_base.specs.Transfers.{GivesFront, next_count};
 ghost use Rattle.xd_base.specs.MemoryShelf.{text_of, held_of, fetched};
 
 use crate::count::next_count;

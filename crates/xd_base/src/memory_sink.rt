@@ -1,7 +1,8 @@
 //! A sink in memory.
 
 ghost use Rattle.std.specs.Prelude.{◌≡◌, ◌<◌, ◌≤◌, ◌^◌, ◌-◌, Some, Contains, length, take, IfOk, OnErr, OnOk, IsErr, ◌↔◌, ◌⊎◌, min, [], ◌∷◌, ◌++◌};
-ghost use Rattle.xd_base.specs.Outside.{HasRisen, HasTaken, next_count};
+ghost use Rattle.xd_base.specs.Outside.{HasRisen};
+ghost use Rattle.xd_base.specs.Transfers.{HasTaken, next_count};
 
 use crate::count::next_count;
 use crate::error::{NoRoom, PutError};

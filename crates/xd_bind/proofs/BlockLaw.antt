@@ -8,7 +8,7 @@ use Rattle.xd_doc.specs.Classes.{class_has}
 use Rattle.xd_auto.specs.declared.auto.State.{State}
 use Rattle.xd_auto.specs.Automaton.{Automaton, StateMoves, IsState, accepts, moves_at}
 use Rattle.xd_auto.proofs.Anys.{and_left, and_right, and_both}
-use Rattle.xd_traces.specs.Traces.{AcceptsGiven, KeepsTogether, Owned, Trace, at_end, at_text, at_element, trace_of, held, IsFree, IsBlock, IsTogether}
+use Rattle.xd_auto_pairs.specs.Traces.{AcceptsGiven, KeepsTogether, Owned, Trace, at_end, at_text, at_element, trace_of, held, IsFree, IsBlock, IsTogether}
 use Rattle.xd_bind.specs.Traced.{Traced}
 use Rattle.xd_bind.specs.Blocks.{label_onto, text_onto, is_side, labels_of_side, texts_of_side, IsAhead, is_start, past_text, past_element, in_content, IsProjection}
 use Rattle.xd_bind.proofs.Choices.{choice, any_choice}
@@ -16,7 +16,7 @@ use Rattle.xd_bind.proofs.Traced.{traced, run_of_trace, held_free, free_held, jo
 use Rattle.xd_bind.proofs.FreePart.{leads_over, leads_past, free_trace, accepts_free}
 use Rattle.xd_auto.specs.declared.auto.TextMove.{TextMove}
 use Rattle.xd_auto.specs.Copying.{LabelBelow}
-use Rattle.xd_traces.proofs.Steps.{All-there, closed_text, closed_element}
+use Rattle.xd_auto_pairs.proofs.Steps.{All-there, closed_text, closed_element}
 
 -- an element whose list has one that passes the test
 pub record Among {X Y : Type 0} (f : X → List Y) (test : Y → Bool) (xs : List X) : Type 0 where

@@ -5,7 +5,7 @@ use Rattle.std.specs.List.{slice_get}
 use Rattle.std.proofs.lemmas.List.{take_more}
 use Rattle.std.proofs.lemmas.List.Folds.{list_any-append}
 use Rattle.xd_auto.specs.declared.auto.State.{State}
-use Rattle.xd_traces.specs.declared.kind.MoveKind.{MoveKind}
+use Rattle.xd_auto_pairs.specs.declared.kind.MoveKind.{MoveKind}
 use Rattle.xd_bind.specs.declared.tracks.Track.{Track}
 use Rattle.xd_bind.specs.Buckets.{bucket_at, tracks_in}
 use Rattle.xd_bind.specs.Projection.{has_track, is_kind, is_track}

@@ -10,11 +10,11 @@ use Rattle.xd_auto.proofs.Anys.{and_left, and_right}
 use Rattle.xd_auto.proofs.Closed.{moves_at-closed}
 use Rattle.xd_least.specs.Least.{IsLeastOf}
 use Rattle.xd_least.specs.declared.document.LeastDocument.{LeastDocument}
-use Rattle.xd_traces.specs.declared.pairs.Pairs.{Pairs}
-use Rattle.xd_traces.specs.Traces.{AcceptsGiven, KeepsTogether, Owned}
-use Rattle.xd_traces.specs.Pairing.{IsGivenWhere, Origins, PairsRuns, carried}
-use Rattle.xd_traces.specs.Paired.{ArePairs, origins_in}
-use Rattle.xd_traces.proofs.PairingLaw.{pairs_runs}
+use Rattle.xd_auto_pairs.specs.declared.pairs.Pairs.{Pairs}
+use Rattle.xd_auto_pairs.specs.Traces.{AcceptsGiven, KeepsTogether, Owned}
+use Rattle.xd_auto_pairs.specs.Pairing.{IsGivenWhere, Origins, PairsRuns, carried}
+use Rattle.xd_auto_pairs.specs.Paired.{ArePairs, origins_in}
+use Rattle.xd_auto_pairs.proofs.PairingLaw.{pairs_runs}
 use Rattle.xd_bind.specs.declared.tracks.Given.{Given}
 use Rattle.xd_bind.specs.Cases.{AcceptsCases, AreCases, IsShared, OwnsNone}
 use Rattle.xd_bind.specs.Projection.{AreGivens}

@@ -10,12 +10,12 @@ use Rattle.std.proofs.lemmas.Bool.{cases_eq}
 use Rattle.std.proofs.lemmas.List.Elements.{All-cons, All-head, All-tail}
 use Rattle.std.proofs.lemmas.List.{get_or_append_left, get_or-append_right}
 use Rattle.xd_doc.specs.Classes.{LabelClass, TextClass}
-use Rattle.xd_traces.specs.Traces.{Owned}
+use Rattle.xd_auto_pairs.specs.Traces.{Owned}
 use Rattle.xd_bind.specs.declared.parts.Part.{Part}
 use Rattle.xd_bind.specs.Marks.{mark_of}
 use Rattle.xd_bind.specs.Shifts.{onward, shifted}
 use Rattle.xd_bind.specs.Blocks.{IsChange, IsFilledTo, IsPart, StaysBelow, chosen, is_side, label_onto, text_onto, with_labels, with_side, with_texts}
-use Rattle.xd_bind.proofs.Shifting.{shifted_above}
+use Rattle.xd_bind.proofs.ShiftLemmas.{shifted_above}
 
 append_none : {X : Type 0} (xs : List X) → xs ++ [] ≡ xs
 append_none [] = refl

@@ -6,15 +6,15 @@ use Rattle.xd_auto.specs.declared.auto.LabelMove.{LabelMove}
 use Rattle.xd_auto.specs.declared.auto.TextMove.{TextMove}
 use Rattle.xd_auto.specs.Automaton.{Automaton, IsClosed, moves_at, no_moves}
 use Rattle.xd_auto.proofs.Closed.{moves_at-closed}
-use Rattle.xd_traces.specs.Traces.{Owned}
+use Rattle.xd_auto_pairs.specs.Traces.{Owned}
 use Rattle.xd_bind.specs.declared.shift.Shift.{Shift}
 use Rattle.xd_bind.specs.Cases.{OwnsNone}
 use Rattle.xd_bind.specs.Marks.{mark_of}
 use Rattle.xd_bind.specs.Shifts.{LandsBelow, shifted}
 use Rattle.xd_bind.specs.Blocks.{IsChange, labels_of_side, texts_of_side, with_labels, with_texts}
-use Rattle.xd_bind.proofs.Assembling.{unmoved}
+use Rattle.xd_bind.proofs.IsProjectionLemmas.{unmoved}
 use Rattle.xd_bind.proofs.Changes.{no_moves_read}
-use Rattle.xd_bind.proofs.Shifting.{lands_below, shifted_below}
+use Rattle.xd_bind.proofs.ShiftLemmas.{lands_below, shifted_below}
 
 -- nothing belongs to a variable
 abbrev pub nobody : Owned

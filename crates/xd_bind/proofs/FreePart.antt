@@ -8,8 +8,8 @@ use Rattle.xd_auto.specs.declared.auto.LabelMove.{LabelMove}
 use Rattle.xd_auto.specs.declared.auto.TextMove.{TextMove}
 use Rattle.xd_auto.specs.Automaton.{Automaton, StateMoves, IsState, IsClosed, accepts, moves_at}
 use Rattle.xd_auto.proofs.Anys.{and_left, and_right, and_both}
-use Rattle.xd_traces.proofs.Steps.{closed_text, closed_element}
-use Rattle.xd_traces.specs.Traces.{Owned, Trace, at_end, at_text, at_element, IsFree}
+use Rattle.xd_auto_pairs.proofs.Steps.{closed_text, closed_element}
+use Rattle.xd_auto_pairs.specs.Traces.{Owned, Trace, at_end, at_text, at_element, IsFree}
 use Rattle.xd_bind.specs.Traced.{Traced}
 use Rattle.xd_bind.specs.Blocks.{label_onto, text_onto, is_side, side_moves, HasSide}
 use Rattle.xd_bind.proofs.Choices.{choice, any_choice}

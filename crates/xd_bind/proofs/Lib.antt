@@ -1,12 +1,12 @@
 pub mod MarkLemmas
-pub mod Shifting
+pub mod ShiftLemmas
 pub mod Choices
 pub mod Traced
 pub mod FreePart
 pub mod BlockLaw
 pub mod Changes
-pub mod Searching
-pub mod Assembling
+pub mod IsSearchLemmas
+pub mod IsProjectionLemmas
 pub mod Copied
 pub mod SameOwned
 pub mod CaseLaw

@@ -4,7 +4,7 @@ use Rattle.xd_doc.specs.Document.{Document}
 use Rattle.xd_auto.specs.declared.auto.State.{State}
 use Rattle.xd_auto.specs.Automaton.{Automaton}
 use Rattle.xd_auto.specs.Runs.{Run, ends, takes_text, takes_element}
-use Rattle.xd_traces.specs.Traces.{AcceptsGiven, IsGiven, IsTogether, KeepsTogether, Owned, after_element, after_text, at_element, at_text, held, in_element, trace_of}
+use Rattle.xd_auto_pairs.specs.Traces.{AcceptsGiven, IsGiven, IsTogether, KeepsTogether, Owned, after_element, after_text, at_element, at_text, held, in_element, trace_of}
 
 pub record SameOwned (b c : Owned) : Type 0 where
   pub text : (s : State) (n : ℕ) → b.text s n ≡ c.text s n

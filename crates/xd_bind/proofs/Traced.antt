@@ -9,7 +9,7 @@ use Rattle.xd_auto.specs.declared.auto.TextMove.{TextMove}
 use Rattle.xd_auto.specs.Automaton.{Automaton, moves_at}
 use Rattle.xd_auto.specs.Runs.{Run, ends, takes_text, takes_element, IsAcceptingRun}
 use Rattle.xd_auto.proofs.Anys.{IsSomeAnd-at, IsSomeAnd-parts}
-use Rattle.xd_traces.specs.Traces.{Owned, Trace, at_end, at_text, at_element, trace_of, held, text_rest_or, content_or, rest_or, IsFree, IsBlock}
+use Rattle.xd_auto_pairs.specs.Traces.{Owned, Trace, at_end, at_text, at_element, trace_of, held, text_rest_or, content_or, rest_or, IsFree, IsBlock}
 use Rattle.xd_bind.specs.Traced.{Traced}
 
 -- an accepting run has its trace

@@ -1,13 +1,13 @@
 -- The automaton of what one variable may be. Of it only private contracts speak.
 use Rattle.std.specs.Prelude.{◌≡◌, ℕ, suc, ◌+◌, ◌<◌, ◌≤◌, ◌≢◌, Bool, true, false, not, cond, List, [], ◌∷◌, ◌++◌, map, flat_map, length, slice_get, Some}
 use Rattle.xd_doc.specs.Document.{Document}
-use Rattle.xd_doc.specs.Classes.{HasLabel, HasText}
+use Rattle.xd_doc.specs.ClassForms.{HasLabel, HasText}
 use Rattle.xd_auto.specs.declared.auto.State.{State}
 use Rattle.xd_auto.specs.declared.auto.LabelMove.{LabelMove}
 use Rattle.xd_auto.specs.declared.auto.TextMove.{TextMove}
 use Rattle.xd_auto.specs.Automaton.{Automaton, StateMoves, Extends, IsState, accepts, moves_at}
 use Rattle.xd_empty.specs.Parts.{HasDocument}
-use Rattle.xd_traces.specs.Traces.{Owned}
+use Rattle.xd_auto_pairs.specs.Traces.{Owned}
 use Rattle.xd_bind.specs.declared.parts.Part.{Part}
 use Rattle.xd_bind.specs.Marks.{mark_of}
 use Rattle.xd_bind.specs.Shifts.{IsLayered, OwnsNoneBelow, onward, shifted}

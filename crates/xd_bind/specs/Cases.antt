@@ -3,8 +3,8 @@ use Rattle.std.specs.Prelude.{◌≡◌, ℕ, ◌<◌, ◌↔◌, true, false, L
 use Rattle.xd_doc.specs.Document.{Document, is_proper}
 use Rattle.xd_auto.specs.declared.auto.State.{State}
 use Rattle.xd_auto.specs.Automaton.{Automaton, IsState, accepts}
-use Rattle.xd_traces.specs.Traces.{Owned}
-use Rattle.xd_traces.specs.Pairing.{IsGivenWhere}
+use Rattle.xd_auto_pairs.specs.Traces.{Owned}
+use Rattle.xd_auto_pairs.specs.Pairing.{IsGivenWhere}
 use Rattle.xd_bind.specs.declared.tracks.Given.{Given}
 
 -- no move of the state belongs to the variable

@@ -1,12 +1,12 @@
 -- How the states ahead of the start are found. Of this only private contracts speak.
 use Rattle.std.specs.Prelude.{◌≡◌, ◌⊎◌, ℕ, ◌+◌, ◌<◌, ◌≤◌, Bool, true, false, List, length, slice_get, Some}
-use Rattle.xd_doc.specs.Classes.{HasLabel, HasText}
+use Rattle.xd_doc.specs.ClassForms.{HasLabel, HasText}
 use Rattle.xd_auto.specs.declared.auto.State.{State}
 use Rattle.xd_auto.specs.declared.auto.LabelMove.{LabelMove}
 use Rattle.xd_auto.specs.declared.auto.TextMove.{TextMove}
 use Rattle.xd_auto.specs.Automaton.{Automaton, IsState, StateMoves, moves_at}
 use Rattle.xd_bind.specs.Marks.{mark_of, unmarked}
-use Rattle.xd_traces.specs.Traces.{Owned}
+use Rattle.xd_auto_pairs.specs.Traces.{Owned}
 use Rattle.xd_bind.specs.Blocks.{IsAhead, ListsAhead}
 
 abbrev pub IsListed : List State → State → Type 0

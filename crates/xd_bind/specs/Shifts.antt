@@ -7,7 +7,7 @@ use Rattle.xd_auto.specs.declared.auto.TextMove.{TextMove}
 use Rattle.xd_auto.specs.Automaton.{Automaton, StateMoves, IsClosed, IsState, LeadsBelow, moves_at, state_number}
 use Rattle.xd_least.specs.Least.{known_of}
 use Rattle.xd_least.specs.declared.document.LeastDocument.{LeastDocument}
-use Rattle.xd_traces.specs.Traces.{Owned}
+use Rattle.xd_auto_pairs.specs.Traces.{Owned}
 use Rattle.xd_bind.specs.declared.shift.Layer.{Layer}
 use Rattle.xd_bind.specs.declared.shift.Shift.{Shift}
 use Rattle.xd_bind.specs.Cases.{OwnsNone}

@@ -6,7 +6,7 @@ use Rattle.xd_auto.specs.declared.auto.State.{State}
 use Rattle.xd_auto.specs.declared.auto.LabelMove.{LabelMove}
 use Rattle.xd_auto.specs.declared.auto.TextMove.{TextMove}
 use Rattle.xd_auto.specs.Automaton.{Automaton, moves_at}
-use Rattle.xd_traces.specs.Traces.{Owned, Trace, at_end, at_text, at_element}
+use Rattle.xd_auto_pairs.specs.Traces.{Owned, Trace, at_end, at_text, at_element}
 
 pub record TextStep (a : Automaton) (b : Owned) (s : State) (own : Bool) (t : List ℕ) (Rest : State → Type 0) : Type 0 where
   pub number : ℕ

@@ -11,9 +11,9 @@ use crate::holds::Holds;
 use crate::shift::{Layer, Shift};
 use std::alloc::Global;
 use xd_auto::{Auto, LabelMove, State, TextMove};
+use xd_auto_pairs::MoveKind;
 use xd_doc::NoMemory;
 use xd_least::LeastInhabitants;
-use xd_traces::MoveKind;
 
 /// States in the order in which they were found, and for each state of a layer, from its base on,
 /// whether it was found.

@@ -7,8 +7,8 @@ use crate::parts::{Part, add_states, lasts_of, put_side, side_of};
 use crate::shift::Shift;
 use std::alloc::Global;
 use xd_auto::{Auto, State};
+use xd_auto_pairs::MoveKind;
 use xd_doc::NoMemory;
-use xd_traces::MoveKind;
 
 /// No move belongs to a variable.
 #[derive(Drop)]

@@ -15,4 +15,4 @@ pub use holds::Holds;
 pub use projecting::project;
 pub use restricted::cases;
 pub use tracks::{Binding, Given, Track, Tracks};
-pub use xd_traces::MoveKind;
+pub use xd_auto_pairs::MoveKind;

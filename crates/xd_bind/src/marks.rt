@@ -4,7 +4,7 @@ ghost use Rattle.std.specs.Prelude.{◌≡◌, ℕ, ◌<◌, ◌++◌, ◌∷◌
 ghost use Rattle.std.specs.List.{All};
 ghost use Rattle.xd_auto.specs.declared.auto.State.{State};
 ghost use Rattle.xd_auto.specs.Automaton.{IsState, state_number};
-ghost use Rattle.xd_traces.specs.declared.kind.MoveKind.{MoveKind};
+ghost use Rattle.xd_auto_pairs.specs.declared.kind.MoveKind.{MoveKind};
 ghost use Rattle.xd_bind.specs.Owning.{is_owned};
 ghost use Rattle.xd_bind.specs.Projection.{has_track, is_track};
 ghost use Rattle.xd_bind.specs.Buckets.{bucket_at, tracks_at};
@@ -14,8 +14,8 @@ use crate::tracks::Track;
 use std::alloc::Global;
 use std::collections::HashMap;
 use xd_auto::{Auto, State};
+use xd_auto_pairs::MoveKind;
 use xd_doc::NoMemory;
-use xd_traces::MoveKind;
 
 /// The marks of each state, by the number of the move.
 #[derive(Debug, Drop)]

@@ -11,8 +11,8 @@ use crate::holds::Holds;
 use crate::shift::Shift;
 use std::alloc::Global;
 use xd_auto::{Auto, LabelMove, State, TextMove};
+use xd_auto_pairs::MoveKind;
 use xd_doc::NoMemory;
-use xd_traces::MoveKind;
 
 /// Moves of one side: those that belong to the variable where `own` is true, or else the others; onto
 /// copies of the contents, and of what follows.

@@ -2,14 +2,14 @@
 
 ghost use Rattle.std.specs.Prelude.{◌≡◌, ℕ, ◌+◌, ◌<◌, ◌≤◌, true, [], IfOk, OnOk, length, take, slice_index_or};
 ghost use Rattle.std.specs.List.{All};
-ghost use Rattle.xd_doc.specs.Stored.{Keeps};
+ghost use Rattle.xd_doc.specs.StoreNodes.{Keeps};
 ghost use Rattle.xd_auto.specs.Automaton.{Extends, IsState, moves_at, state_number};
 ghost use Rattle.xd_least.specs.Least.{Knows};
 ghost use Rattle.xd_auto.specs.declared.auto.State.{State};
-ghost use Rattle.xd_traces.specs.declared.kind.MoveKind.{MoveKind};
+ghost use Rattle.xd_auto_pairs.specs.declared.kind.MoveKind.{MoveKind};
 ghost use Rattle.xd_bind.specs.Buckets.{bucket_at};
 ghost use Rattle.xd_bind.specs.Projection.{AreBindings, AreGivens, CanProject, has_track, owned_by};
-ghost use Rattle.xd_traces.specs.Traces.{AcceptsGiven, KeepsTogether};
+ghost use Rattle.xd_auto_pairs.specs.Traces.{AcceptsGiven, KeepsTogether};
 ghost use Rattle.xd_bind.specs.Adding.{IsAlone, IsAside};
 ghost use Rattle.xd_bind.specs.Blocks.{HasFirst};
 ghost use Rattle.xd_bind.specs.Marks.{mark_of};

@@ -2,13 +2,13 @@
 
 ghost use Rattle.std.specs.Prelude.{◌≡◌, ◌-◌, ◌&&◌, ℕ, ◌<◌, false, cond, nat_lt, Ok, None, IfOk, IfSome, length, slice_get};
 ghost use Rattle.xd_doc.specs.Document.{Document};
-ghost use Rattle.xd_doc.specs.Stored.{Keeps};
+ghost use Rattle.xd_doc.specs.StoreNodes.{Keeps};
 ghost use Rattle.xd_auto.specs.Automaton.{Extends, IsState, accepts, state_number};
 ghost use Rattle.xd_least.specs.Least.{Knows};
-ghost use Rattle.xd_traces.specs.Traces.{KeepsTogether};
-ghost use Rattle.xd_traces.specs.Universal.{IsUniversal};
-ghost use Rattle.xd_traces.specs.Pairing.{both_at, boths_in};
-ghost use Rattle.xd_traces.specs.Paired.{origins_in};
+ghost use Rattle.xd_auto_pairs.specs.Traces.{KeepsTogether};
+ghost use Rattle.xd_auto_pairs.specs.Universal.{IsUniversal};
+ghost use Rattle.xd_auto_pairs.specs.Pairing.{both_at, boths_in};
+ghost use Rattle.xd_auto_pairs.specs.Paired.{origins_in};
 ghost use Rattle.xd_bind.specs.Owning.{is_owned};
 ghost use Rattle.xd_bind.specs.Cases.{AreCases, IsShared, OwnsNone};
 
@@ -18,9 +18,9 @@ use crate::shift::Layer;
 use crate::tracks::Given;
 use std::alloc::Global;
 use xd_auto::{Auto, State};
+use xd_auto_pairs::{Both, MoveKind, Pairs, pair_up};
 use xd_doc::{Label, NoMemory, Store};
 use xd_least::LeastInhabitants;
-use xd_traces::{Both, MoveKind, Pairs, pair_up};
 
 /// Of a pairing, the moves that stand for moves of a variable of the first automaton.
 struct Carried<'a, H: Holds> {
@@ -76,8 +76,8 @@ fn left_move(pairs: &Pairs, rows: &[Vec<Both>], state: State, number: usize) -> 
 }
 
 impl<H: Holds> Holds for Carried<'_, H> {
-    ghost use Rattle.xd_traces.specs.Pairing.{carried};
-    ghost use Rattle.xd_traces.specs.Paired.{origins_in};
+    ghost use Rattle.xd_auto_pairs.specs.Pairing.{carried};
+    ghost use Rattle.xd_auto_pairs.specs.Paired.{origins_in};
 
     ghost owned = { λ c x. carried (origins_in c.all c.pairs.now) (H.owned c.owner.now x) };
 

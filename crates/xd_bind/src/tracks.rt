@@ -1,8 +1,8 @@
 //! Automata whose moves belong to variables.
 
 use xd_auto::{Auto, State};
+use xd_auto_pairs::MoveKind;
 use xd_doc::Label;
-use xd_traces::MoveKind;
 
 /// The move of this kind and number of the state belongs to the variable: the item that it takes is
 /// an item of the variable. Moves of a kind are numbered from 0, and variables too.

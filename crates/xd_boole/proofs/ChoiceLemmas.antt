@@ -13,7 +13,7 @@ use Rattle.xd_boole.specs.Universal.{MarkUniversal}
 use Rattle.xd_boole.specs.Choices.{AddsChoice, AddsContent, AddsRest, AddsSide, AllChoices, ExtendsAll, IsChoiceOf, KeepsChoice, any_choice, choice_refuses}
 use Rattle.xd_boole.proofs.Lists.{all_at, all_front, all_last, all_push}
 use Rattle.xd_boole.proofs.Bools.{and_false, and_left, and_right, drop_implied, either_side, implied_by, next_one, or_nothing, other_content, other_rest}
-use Rattle.xd_boole.proofs.Refusing.{has_refuses, with_state_accepts, with_state_all, within_refuses}
+use Rattle.xd_boole.proofs.AnyAcceptsLemmas.{has_refuses, with_state_accepts, with_state_all, within_refuses}
 
 not_true : (b : Bool) → not b ≡ true → b ≡ false
 not_true true e = absurd (cc)

@@ -14,7 +14,7 @@ use Rattle.xd_boole.specs.declared.placing.Place.{Place}
 use Rattle.xd_boole.specs.declared.placing.Place.TheVariants.{Old, New, Nowhere}
 use Rattle.xd_boole.specs.Placing.{AreIn, ArePlaces, IsBareAt, IsPlaceOf, IsPlaced, PlacesFirst, place_at, state_of}
 use Rattle.xd_boole.specs.Points.{IsPointOf, point_at, state_at}
-use Rattle.xd_boole.proofs.Adding.{at_end, at_front, place_cases}
+use Rattle.xd_boole.proofs.ArePointsLemmas.{at_end, at_front, place_cases}
 
 pub extends_trans : (a b c : Automaton) → Extends a b → Extends b c → Extends a c
 extends_trans a b c one two = record {

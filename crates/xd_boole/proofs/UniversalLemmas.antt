@@ -12,9 +12,9 @@ use Rattle.xd_auto.specs.Automaton.{Automaton, accepts, moves_at, state_number}
 use Rattle.xd_empty.specs.Parts.{is_marked}
 use Rattle.xd_boole.specs.Meaning.{any_accepts, has_state}
 use Rattle.xd_boole.specs.Universal.{AcceptsAll, MarkUniversal, TakesAll, has_all, leads_all, text_leads_all}
-use Rattle.xd_boole.proofs.Adding.{at_end, at_front, place_cases}
+use Rattle.xd_boole.proofs.ArePointsLemmas.{at_end, at_front, place_cases}
 use Rattle.xd_boole.proofs.Bools.{and_both, and_left, and_right, or_true}
-use Rattle.xd_boole.proofs.Refusing.{same_number}
+use Rattle.xd_boole.proofs.AnyAcceptsLemmas.{same_number}
 
 all_has : (c : NameClass) (x : List ℕ) → has_all c ≡ true → class_has c x ≡ true
 all_has c x e = go c.except c.names e

@@ -7,9 +7,9 @@ ghost use Rattle.xd_empty.specs.Parts.{IsInhabitedPart};
 
 use std::alloc::Global;
 use xd_auto::{Auto, State};
+use xd_auto_pairs::{add_universal, pair_up};
 use xd_doc::NoMemory;
 use xd_empty::inhabited_part;
-use xd_traces::{add_universal, pair_up};
 
 /// A state that accepts exactly what both accept.
 ///

@@ -14,8 +14,8 @@ use crate::universal::{is_marked, universal_states};
 use std::alloc::Global;
 use std::collections::HashMap;
 use xd_auto::{Auto, State, trim};
+use xd_auto_pairs::add_universal;
 use xd_doc::NoMemory;
-use xd_traces::add_universal;
 
 /// The group of a state, by its number.
 fn group_of(groups: &[usize], state: State) -> usize {

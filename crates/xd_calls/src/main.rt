@@ -5,7 +5,7 @@ mod desk;
 
 use crate::desk::AnyDesk;
 use anyhow::Result;
-use xd_call_lines::run;
+use xd_calls_lines::run;
 
 fn main(rt: HostRuntime) -> Result<()> {
     run::<AnyDesk>(&rt)

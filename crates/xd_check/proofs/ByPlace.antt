@@ -8,7 +8,7 @@ use Rattle.std.proofs.lemmas.List.Sorted.{ranks_by}
 use Rattle.std.proofs.lemmas.Bool.Decides.{nat_tests}
 use Rattle.xd_base.specs.declared.Place.{Place}
 use Rattle.xd_syntax.specs.Order.{is_earlier, ordered, ordered_after, put_in}
-use Rattle.xd_syntax.proofs.Sorting.{put_all_sorted}
+use Rattle.xd_syntax.proofs.OrderedLemmas.{put_all_sorted}
 use Rattle.xd_check.proofs.Ranks.{place_cmp}
 
 places_total : IsTotalOrder place_cmp

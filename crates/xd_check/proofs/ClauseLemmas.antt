@@ -5,13 +5,13 @@ use Rattle.std.specs.Option.{IfSome}
 use Rattle.std.specs.Str.{bytes_eq}
 use Rattle.xd_base.specs.declared.Place.{Place}
 use Rattle.xd_doc.specs.Document.{Document, is_proper}
-use Rattle.xd_doc.specs.Stored.{Keeps}
+use Rattle.xd_doc.specs.StoreNodes.{Keeps}
 use Rattle.xd_auto.specs.declared.auto.State.{State}
 use Rattle.xd_auto.specs.Automaton.{Automaton, IsState, accepts}
 use Rattle.xd_syntax.specs.Words.{has_word}
 use Rattle.xd_syntax.specs.Tree.{Definitions, occurrences}
 use Rattle.xd_syntax.specs.Placed.{PlacedTree, unplaced, variables, place_of}
-use Rattle.xd_laws.specs.Bindings.{each_once, variables_of}
+use Rattle.xd_meaning.specs.Bindings.{each_once, variables_of}
 use Rattle.xd_syntax.specs.Ways.{Takes}
 use Rattle.xd_syntax.specs.NameFaults.{without}
 use Rattle.xd_syntax.specs.Expression.{Expression, Matched, Clauses, no_clause, clause}
@@ -30,7 +30,7 @@ use Rattle.xd_check.specs.FoundLines.{AddsLines, told_size}
 use Rattle.xd_check.specs.InScope.{AcceptedBy, ScopeStands, state_of}
 use Rattle.xd_check.specs.Walked.{AcceptedBySome, AcceptsJust, AreClausesWalked, ComesBehind, Grows, IsClauseWalked, IsWalked, LinesOfClause, with_found}
 use Rattle.xd_check.proofs.LineLists.{adds_as, adds_both}
-use Rattle.xd_check.proofs.Going.{Goes, goes_begin, goes_end, goes_more}
+use Rattle.xd_check.proofs.AddsLinesLemmas.{Goes, goes_begin, goes_end, goes_more}
 
 -- a word of the list stands among its words, each once
 once_has : (xs : List (List ℕ)) (x : List ℕ) → has_word xs x ≡ true → has_word (each_once xs) x ≡ true

@@ -5,12 +5,14 @@ use Rattle.std.specs.Option.{IfSome}
 use Rattle.std.proofs.lemmas.List.{drop_more}
 use Rattle.xd_base.specs.declared.Place.{Place}
 use Rattle.xd_doc.specs.Document.{Document}
-use Rattle.xd_doc.specs.Stored.{Keeps}
+use Rattle.xd_doc.specs.StoreNodes.{Keeps}
 use Rattle.xd_auto.specs.declared.auto.State.{State}
 use Rattle.xd_auto.specs.Automaton.{Automaton, IsState, accepts}
-use Rattle.xd_syntax.specs.Placed.{PlacedTree, placed_at, unplaced}
+use Rattle.xd_syntax.specs.Placed.{PlacedTree, unplaced}
+use Rattle.xd_syntax.specs.PlacedTable.{placed_at}
 use Rattle.xd_syntax.specs.Ways.{Takes}
-use Rattle.xd_syntax.specs.Expression.{Expression, Clauses, clauses_of}
+use Rattle.xd_syntax.specs.Expression.{Expression, Clauses}
+use Rattle.xd_syntax.specs.ExpressionTable.{clauses_of}
 use Rattle.xd_syntax.specs.Exprs.{clause_numbers}
 use Rattle.xd_syntax.specs.Program.{ProgramTree, names_of}
 use Rattle.xd_syntax.specs.Kept.{ProgramTable, program_tree}
@@ -25,9 +27,9 @@ use Rattle.xd_check.specs.InScope.{AreStates, ScopeStands}
 use Rattle.xd_check.specs.Ready.{ClauseCanBeWalked, expr_at}
 use Rattle.xd_check.specs.Walked.{AcceptedBySome, AreClausesWalked, ComesBehind, Grows, IsClauseWalked, with_found}
 use Rattle.xd_check.proofs.ClauseLemmas.{AreClausesGoing, clause_kept, clauses_begin, clauses_end, clauses_more, passed}
-use Rattle.xd_check.proofs.Keeping.{grows_then, scope_kept}
+use Rattle.xd_check.proofs.GrowsLemmas.{grows_then, scope_kept}
 use Rattle.xd_check.proofs.Lists.{all_as}
-use Rattle.xd_check.proofs.Readying.{found_there}
+use Rattle.xd_check.proofs.IsReadyLemmas.{found_there}
 use Rattle.xd_check.proofs.Loops.{Stays, bodies, ceiling, stays_begin, stays_more}
 
 -- the clauses of these

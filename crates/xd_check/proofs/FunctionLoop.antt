@@ -2,7 +2,7 @@
 use Rattle.std.proofs.Common.{◌≡◌, ℕ, zero, suc, ◌+◌, ◌<◌, List, [], ◌∷◌, map, length, get_or, drop, arith, refl, ap, sym, subst, ◌∙◌}
 use Rattle.std.proofs.lemmas.List.{drop_more, get_or_default}
 use Rattle.xd_doc.specs.Document.{Document}
-use Rattle.xd_doc.specs.Stored.{Keeps}
+use Rattle.xd_doc.specs.StoreNodes.{Keeps}
 use Rattle.xd_auto.specs.Automaton.{Automaton}
 use Rattle.xd_syntax.specs.Kept.{ProgramTable, function_definition, program_tree}
 use Rattle.xd_syntax.specs.FunctionRow.{FunctionRow}
@@ -10,13 +10,13 @@ use Rattle.xd_syntax.specs.CheckFaults.{Line, LinesOfFunction, LinesOfFunctions}
 use Rattle.xd_check.specs.declared.lines.FoundLine.{FoundLine}
 use Rattle.xd_check.specs.FoundLines.{AddsLines, told_size}
 use Rattle.xd_syntax.specs.Program.{names_of}
-use Rattle.xd_laws.specs.KeptLines.{AllPaired}
+use Rattle.xd_meaning.specs.KeptFaults.{AllPaired}
 use Rattle.xd_check.specs.declared.signatures.Signature.{Signature}
 use Rattle.xd_check.specs.Signed.{IsSignature}
 use Rattle.xd_check.specs.Ready.{AddsLinesOfFunction}
 use Rattle.xd_check.specs.Walked.{Grows}
-use Rattle.xd_check.proofs.Going.{Goes, goes_begin, goes_end, goes_more}
-use Rattle.xd_check.proofs.Keeping.{grows_none, grows_then, keeps_same, keeps_then}
+use Rattle.xd_check.proofs.AddsLinesLemmas.{Goes, goes_begin, goes_end, goes_more}
+use Rattle.xd_check.proofs.GrowsLemmas.{grows_none, grows_then, keeps_same, keeps_then}
 use Rattle.xd_check.proofs.LineLists.{adds_none}
 
 -- the functions from the n-th on are still to be walked

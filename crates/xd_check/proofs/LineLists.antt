@@ -3,8 +3,10 @@ use Rattle.std.proofs.Common.{◌≡◌, ◌^◌, true, List, [], ◌∷◌, ◌
 use Rattle.std.proofs.lemmas.List.{map-append}
 use Rattle.xd_base.specs.declared.Place.{Place}
 use Rattle.xd_doc.specs.Document.{Document, is_proper}
-use Rattle.xd_doc.specs.Least.{IsLeastBy, IsLeastUpTo}
-use Rattle.xd_doc.specs.Stored.{BelongsTo, Keeps, document_at}
+use Rattle.xd_doc.specs.Least.{IsLeastBy}
+use Rattle.xd_doc.specs.LeastUpTo.{IsLeastUpTo}
+use Rattle.xd_doc.specs.Stored.{BelongsTo, document_at}
+use Rattle.xd_doc.specs.StoreNodes.{Keeps}
 use Rattle.xd_doc.specs.declared.store.Seq.{Seq}
 use Rattle.xd_doc.proofs.LeastLemmas.{least_of_part, least_told}
 use Rattle.xd_syntax.specs.CheckFaults.{Line, LineKind, Both, IsProperWith, LineWhere}

@@ -3,7 +3,7 @@ use Rattle.std.proofs.Common.{◌≡◌, ℕ, suc, zero, ◌+◌, ◌<◌, ◌�
 use Rattle.std.specs.List.{AllByRecursion, slice_get}
 use Rattle.std.proofs.lemmas.List.{drop_more}
 use Rattle.xd_doc.specs.Document.{Document}
-use Rattle.xd_doc.specs.Stored.{Keeps}
+use Rattle.xd_doc.specs.StoreNodes.{Keeps}
 use Rattle.xd_auto.specs.declared.auto.State.{State}
 use Rattle.xd_auto.specs.Automaton.{Automaton, IsState}
 use Rattle.xd_syntax.specs.Tree.{Definitions}
@@ -22,13 +22,13 @@ use Rattle.xd_check.specs.Ready.{CanBeWalked, expr_at}
 use Rattle.xd_check.specs.Signed.{AreParameters, IsTypeState}
 use Rattle.xd_check.specs.Walked.{AcceptsJust, ArePartsWalked, Grows, IsMisfit, IsWalked, LinesOfArgument, LinesOfParts}
 use Rattle.xd_check.proofs.Arguments.{argument_more, argument_step, misfit_lines, no_arguments}
-use Rattle.xd_check.proofs.Going.{Goes, goes_begin, goes_end, goes_more}
-use Rattle.xd_check.proofs.Keeping.{grows_none, grows_then, keeps_same, keeps_then, scope_kept}
+use Rattle.xd_check.proofs.AddsLinesLemmas.{Goes, goes_begin, goes_end, goes_more}
+use Rattle.xd_check.proofs.GrowsLemmas.{grows_none, grows_then, keeps_same, keeps_then, scope_kept}
 use Rattle.xd_check.proofs.LineLists.{adds_both, adds_none}
 use Rattle.xd_check.proofs.Lists.{all_as, all_push}
-use Rattle.xd_check.proofs.Signing.{parameters_kept}
+use Rattle.xd_check.proofs.IsSignatureLemmas.{parameters_kept}
 use Rattle.xd_check.proofs.Walks.{pairs_kept, pairs_push}
-use Rattle.xd_laws.specs.KeptLines.{AllPaired}
+use Rattle.xd_meaning.specs.KeptFaults.{AllPaired}
 
 -- one more than the greatest number
 abbrev pub ceiling : List ℕ → ℕ

@@ -6,12 +6,14 @@ use Rattle.xd_doc.specs.Document.{Document, is_proper}
 use Rattle.xd_auto.specs.declared.auto.State.{State}
 use Rattle.xd_auto.specs.Automaton.{Automaton, IsState, accepts}
 use Rattle.xd_syntax.specs.CheckFaults.{IsLiveIn}
-use Rattle.xd_syntax.specs.Expression.{Clauses, Expression, clause, clauses_of, no_clause}
+use Rattle.xd_syntax.specs.Expression.{Clauses, Expression, clause, no_clause}
+use Rattle.xd_syntax.specs.ExpressionTable.{clauses_of}
 use Rattle.xd_syntax.specs.Exprs.{clause_numbers}
 use Rattle.xd_syntax.specs.Kept.{ProgramTable, program_tree}
 use Rattle.xd_syntax.specs.Matches.{MatchesOfClauses, SeenMatch}
 use Rattle.xd_syntax.specs.May.{Scope}
-use Rattle.xd_syntax.specs.Placed.{PlacedTree, placed_at, unplaced}
+use Rattle.xd_syntax.specs.Placed.{PlacedTree, unplaced}
+use Rattle.xd_syntax.specs.PlacedTable.{placed_at}
 use Rattle.xd_syntax.specs.Program.{ProgramTree, names_of}
 use Rattle.xd_syntax.specs.Ways.{Takes}
 use Rattle.xd_syntax.specs.declared.exprs.Clause.{Clause}
@@ -23,7 +25,7 @@ use Rattle.xd_check.specs.Walked.{ComesBehind, Grows}
 use Rattle.xd_check.specs.declared.matches.MetMatch.{MetMatch}
 use Rattle.xd_check.specs.declared.variables.Variable.{Variable}
 use Rattle.xd_check.proofs.ClauseLoop.{clauses_in}
-use Rattle.xd_check.proofs.Keeping.{grows_then, scope_kept}
+use Rattle.xd_check.proofs.GrowsLemmas.{grows_then, scope_kept}
 use Rattle.xd_check.proofs.Loops.{bodies, ceiling}
 use Rattle.xd_check.proofs.MetMatches.{Goes, Rests, adds_kept, goes_begin, goes_end, goes_more, rests_begin, rests_more}
 

@@ -8,12 +8,14 @@ use Rattle.xd_doc.specs.Document.{Document, is_proper}
 use Rattle.xd_auto.specs.declared.auto.State.{State}
 use Rattle.xd_auto.specs.Automaton.{Automaton, IsState, accepts}
 use Rattle.xd_syntax.specs.CheckFaults.{IsLiveIn}
-use Rattle.xd_syntax.specs.Expression.{Arguments, Clauses, Expression, Matched, arguments_of, clauses_of, joined, place_of_expression}
+use Rattle.xd_syntax.specs.Expression.{Arguments, Clauses, Expression, Matched, arguments_of, joined, place_of_expression}
+use Rattle.xd_syntax.specs.ExpressionTable.{clauses_of}
 use Rattle.xd_syntax.specs.Exprs.{clause_numbers, expr_numbers}
 use Rattle.xd_syntax.specs.Kept.{ProgramTable, program_tree}
 use Rattle.xd_syntax.specs.Matches.{InTurn, MatchesOf, MatchesOfArguments, MatchesOfClauses, SeenMatch}
 use Rattle.xd_syntax.specs.May.{May, Scope, clause_entry}
-use Rattle.xd_syntax.specs.Placed.{PlacedTree, placed_at, unplaced}
+use Rattle.xd_syntax.specs.Placed.{PlacedTree, unplaced}
+use Rattle.xd_syntax.specs.PlacedTable.{placed_at}
 use Rattle.xd_syntax.specs.Program.{ProgramTree, names_of}
 use Rattle.xd_syntax.specs.Ways.{Takes}
 use Rattle.xd_syntax.specs.declared.exprs.Clause.{Clause}
@@ -25,7 +27,7 @@ use Rattle.xd_check.specs.Scrutinees.{AddsMatches, IsClauseMet, IsMet, MatchesOf
 use Rattle.xd_check.specs.Walked.{AcceptsJust, ComesBehind, Grows}
 use Rattle.xd_check.specs.declared.matches.MetMatch.{MetMatch}
 use Rattle.xd_check.specs.declared.variables.Variable.{Variable}
-use Rattle.xd_check.proofs.Keeping.{grows_none, grows_then, just_kept, scope_kept}
+use Rattle.xd_check.proofs.GrowsLemmas.{grows_none, grows_then, just_kept, scope_kept}
 use Rattle.xd_check.proofs.Loops.{bodies, ceiling}
 
 pub met_kept : (p : ProgramTable) (a b : Automaton) → Grows a b → (ms : List SeenMatch) (xs : List MetMatch) → AllZip (IsMet p a) ms xs → AllZip (IsMet p b) ms xs

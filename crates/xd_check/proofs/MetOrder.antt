@@ -6,7 +6,8 @@ use Rattle.xd_base.specs.declared.Place.{Place}
 use Rattle.xd_auto.specs.Automaton.{Automaton, IsState}
 use Rattle.xd_syntax.specs.FunctionRow.{FunctionRow}
 use Rattle.xd_syntax.specs.Kept.{AddsTypes, ProgramTable, function_definition, program_tree}
-use Rattle.xd_syntax.specs.Expression.{Expression, Matched, expression_at}
+use Rattle.xd_syntax.specs.Expression.{Expression, Matched}
+use Rattle.xd_syntax.specs.ExpressionTable.{expression_at}
 use Rattle.xd_syntax.specs.Program.{ProgramTree}
 use Rattle.xd_syntax.specs.May.{May}
 use Rattle.xd_check.specs.Walked.{AcceptsJust}
@@ -21,7 +22,7 @@ use Rattle.xd_check.specs.Walked.{Grows}
 use Rattle.xd_check.specs.declared.matches.MetMatch.{MetMatch}
 use Rattle.xd_check.specs.declared.matches.MatchStates.{MatchStates}
 use Rattle.xd_check.specs.declared.matches.Scrutinee.{Scrutinee}
-use Rattle.xd_check.proofs.Keeping.{grows_none, grows_then}
+use Rattle.xd_check.proofs.GrowsLemmas.{grows_none, grows_then}
 use Rattle.xd_check.proofs.MetMatches.{Goes, goes_begin, goes_end, goes_more}
 use Rattle.xd_check.proofs.ByPlace.{ordered_both}
 

@@ -5,7 +5,8 @@ use Rattle.xd_syntax.specs.Order.{ordered, ordered_after, put_in}
 use Rattle.xd_syntax.specs.CheckFaults.{AreLinesBy, Line, LinesOfFunctions, faults_among}
 use Rattle.xd_syntax.specs.Program.{ProgramTree}
 use Rattle.xd_syntax.specs.declared.fault.Fault.{Fault}
-use Rattle.xd_laws.specs.KeptLines.{AllPaired, AreFaultsOf, IsFaultOf}
+use Rattle.xd_meaning.specs.KeptFaults.{AllPaired, AreFaultsOf}
+use Rattle.xd_meaning.specs.KeptLines.{IsFaultOf}
 use Rattle.xd_check.specs.declared.lines.FoundLine.{FoundLine}
 use Rattle.xd_check.specs.FoundLines.{AddsLines, FindingBelongs, LinesBelong, found_precedes, lines_of, told_size}
 use Rattle.xd_check.proofs.Ranks.{found_in_order}

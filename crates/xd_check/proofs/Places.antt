@@ -2,8 +2,10 @@
 use Rattle.std.proofs.Common.{◌≡◌, ℕ, ◌≤◌, arith, Bool, List, [], ◌∷◌, refl}
 use Rattle.xd_base.specs.declared.Place.{Place}
 use Rattle.xd_syntax.specs.Table.{Form, Row, CanFollow, empty_form, text_form, words_form, name_form, elem_form, seq_form, alt_form, star_form, plus_form, opt_form, val_form}
-use Rattle.xd_syntax.specs.Placed.{PlacedTree, place_of, placed_form}
-use Rattle.xd_syntax.specs.Expression.{Expression, ExprCanFollow, ExprRow, ExprShape, empty_shape, text_shape, var_shape, elem_shape, seq_shape, call_shape, match_shape, place_of_expression, shape_expression}
+use Rattle.xd_syntax.specs.Placed.{PlacedTree, place_of}
+use Rattle.xd_syntax.specs.PlacedTable.{placed_form}
+use Rattle.xd_syntax.specs.Expression.{Expression, place_of_expression}
+use Rattle.xd_syntax.specs.ExpressionTable.{ExprCanFollow, ExprRow, ExprShape, empty_shape, text_shape, var_shape, elem_shape, seq_shape, call_shape, match_shape, shape_expression}
 
 pub shape_place : (P : ℕ → PlacedTree) (t : ℕ → Expression) (p : Place) (rs : List ExprRow) (f : ExprShape) → ExprCanFollow rs f → place_of_expression (shape_expression P t p f) ≡ p
 shape_place P t p rs empty_shape h = refl

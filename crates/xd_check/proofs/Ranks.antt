@@ -9,7 +9,7 @@ use Rattle.xd_base.specs.declared.Place.{Place}
 use Rattle.xd_doc.specs.Document.{Document}
 use Rattle.xd_syntax.specs.Order.{put_in, ordered_after, ordered}
 use Rattle.xd_syntax.specs.CheckFaults.{line_precedes, lines_in_order, rank}
-use Rattle.xd_syntax.proofs.Sorting.{put_all_sorted}
+use Rattle.xd_syntax.proofs.OrderedLemmas.{put_all_sorted}
 use Rattle.xd_check.specs.declared.lines.FoundLine.{FoundLine}
 use Rattle.xd_check.specs.FoundLines.{found_precedes, kind_of, line_of, lines_of}
 

@@ -2,16 +2,18 @@
 use Rattle.std.proofs.Common.{◌≡◌, ℕ, ◌<◌, ◌≤◌, arith, inl, inr, List, [], ◌∷◌, map, length, refl, ap, sym, subst, ◌∙◌}
 use Rattle.std.specs.List.{AllByRecursion}
 use Rattle.xd_base.specs.declared.Place.{Place}
-use Rattle.xd_syntax.specs.Placed.{PlacedTree, placed_at, unplaced}
+use Rattle.xd_syntax.specs.Placed.{PlacedTree, unplaced}
+use Rattle.xd_syntax.specs.PlacedTable.{placed_at}
 use Rattle.xd_syntax.specs.Ways.{Among}
-use Rattle.xd_syntax.specs.Expression.{Expression, Tagged, Called, Matched, ExprRow, ExprShape, arguments_of, clauses_of, expression_at, joined, place_of_expression, shape_expression}
+use Rattle.xd_syntax.specs.Expression.{Expression, Tagged, Called, Matched, arguments_of, joined, place_of_expression}
+use Rattle.xd_syntax.specs.ExpressionTable.{ExprRow, ExprShape, clauses_of, expression_at, shape_expression}
 use Rattle.xd_syntax.specs.Exprs.{expression}
 use Rattle.xd_syntax.specs.Kept.{ProgramTable}
 use Rattle.xd_syntax.specs.declared.exprs.ExprId.{ExprId}
 use Rattle.xd_syntax.proofs.Members.{append_left, append_right}
 use Rattle.xd_syntax.proofs.PlacedTrees.{unplaced_at}
-use Rattle.xd_runs.specs.Linear.{IsLinear}
-use Rattle.xd_runs.specs.Clauses.{patterns_in, patterns_in_arguments, patterns_in_clauses}
+use Rattle.xd_pattern_runs.specs.Linear.{IsLinear}
+use Rattle.xd_pattern_runs.specs.Clauses.{patterns_in, patterns_in_arguments, patterns_in_clauses}
 use Rattle.xd_check.specs.Ready.{CanBeWalked, ClauseCanBeWalked, expr_at}
 
 -- what a node stands for, by its form

@@ -2,7 +2,7 @@
 use Rattle.std.specs.Prelude.{◌≡◌, ℕ, ◌^◌, Bool, ◌&&◌, ◌||◌, nat_lt, List, ◌++◌, map, Option, Some, None}
 use Rattle.std.specs.List.{AllByRecursion}
 use Rattle.xd_doc.specs.Document.{Document}
-use Rattle.xd_doc.specs.Least.{size_up_to}
+use Rattle.xd_doc.specs.LeastUpTo.{size_up_to}
 use Rattle.xd_doc.specs.Stored.{BelongsTo, document_at}
 use Rattle.xd_syntax.specs.CheckFaults.{LineKind, not_exhaustive, wrong_argument, wrong_result, dead_clause, Line, rank}
 use Rattle.xd_syntax.specs.Order.{is_earlier, is_same_place}

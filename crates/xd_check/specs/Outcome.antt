@@ -1,10 +1,10 @@
 -- What a check gives.
 use Rattle.std.specs.Prelude.{◌≡◌, ◌^◌, List, []}
 use Rattle.xd_doc.specs.Document.{Document}
-use Rattle.xd_doc.specs.Least.{size_up_to}
+use Rattle.xd_doc.specs.LeastUpTo.{size_up_to}
 use Rattle.xd_syntax.specs.CheckFaults.{Line, AreLines, AreLinesBy, faults_among}
 use Rattle.xd_syntax.specs.Kept.{ProgramTable, AddsTypes, program_tree}
-use Rattle.xd_laws.specs.KeptLines.{AreFaultsOf, AreWarningsOf}
+use Rattle.xd_meaning.specs.KeptFaults.{AreFaultsOf, AreWarningsOf}
 use Rattle.xd_syntax.specs.Program.{ProgramTree}
 use Rattle.xd_check.specs.declared.lines.Told.{Told}
 use Rattle.xd_check.specs.declared.outcome.CheckOutcome.{CheckOutcome}

@@ -5,12 +5,13 @@ use Rattle.xd_auto.specs.Automaton.{Automaton}
 use Rattle.xd_syntax.specs.Table.{tree_at}
 use Rattle.xd_syntax.specs.Placed.{PlacedTree, unplaced}
 use Rattle.xd_syntax.specs.Ways.{Among}
-use Rattle.xd_syntax.specs.Expression.{Expression, expression_at}
+use Rattle.xd_syntax.specs.Expression.{Expression}
+use Rattle.xd_syntax.specs.ExpressionTable.{expression_at}
 use Rattle.xd_syntax.specs.Kept.{ProgramTable, function_definition, program_tree}
 use Rattle.xd_syntax.specs.FunctionRow.{FunctionRow}
 use Rattle.xd_syntax.specs.CheckFaults.{LinesOfFunction}
-use Rattle.xd_runs.specs.Linear.{IsLinear}
-use Rattle.xd_runs.specs.Clauses.{patterns_in}
+use Rattle.xd_pattern_runs.specs.Linear.{IsLinear}
+use Rattle.xd_pattern_runs.specs.Clauses.{patterns_in}
 use Rattle.xd_patterns.specs.Compiler.{Serves}
 use Rattle.xd_check.specs.FoundLines.{AddsLines, told_size}
 use Rattle.xd_check.specs.declared.lines.FoundLine.{FoundLine}

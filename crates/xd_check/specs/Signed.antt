@@ -9,7 +9,8 @@ use Rattle.xd_doc.specs.Document.{Document}
 use Rattle.xd_auto.specs.declared.auto.State.{State}
 use Rattle.xd_auto.specs.Automaton.{Automaton, IsState, accepts}
 use Rattle.xd_syntax.specs.Tree.{Definitions}
-use Rattle.xd_syntax.specs.Placed.{PlacedTree, placed_at, unplaced}
+use Rattle.xd_syntax.specs.Placed.{PlacedTree, unplaced}
+use Rattle.xd_syntax.specs.PlacedTable.{placed_at}
 use Rattle.xd_syntax.specs.Fits.{Fits}
 use Rattle.xd_syntax.specs.Program.{Parameter, FunctionDefinition, ProgramTree, names_of, function_of}
 use Rattle.xd_syntax.specs.Kept.{ProgramTable, function_definition, program_tree}
@@ -18,7 +19,7 @@ use Rattle.xd_syntax.specs.Types.{BelongsTo}
 use Rattle.xd_syntax.specs.declared.program.Param.{Param}
 use Rattle.xd_syntax.specs.declared.types.TypeId.{TypeId}
 use Rattle.xd_check.specs.declared.signatures.Declared.{Declared}
-use Rattle.xd_laws.specs.KeptLines.{AllPaired}
+use Rattle.xd_meaning.specs.KeptFaults.{AllPaired}
 use Rattle.xd_check.specs.declared.signatures.Signature.{Signature}
 use Rattle.xd_check.specs.declared.signatures.Signatures.{Signatures}
 

@@ -11,7 +11,7 @@ use Rattle.xd_syntax.specs.Program.{ProgramTree, names_of}
 use Rattle.xd_syntax.specs.May.{Scope, May, NoneTakes, clause_entry}
 use Rattle.xd_laws.specs.Scopes.{MayClauses}
 use Rattle.xd_syntax.specs.CheckFaults.{Line, Both, LineWhere, LinesOf, LinesOfClauses, IsLiveIn, dead_clause, wrong_argument}
-use Rattle.xd_laws.specs.KeptLines.{AllPaired}
+use Rattle.xd_meaning.specs.KeptFaults.{AllPaired}
 use Rattle.xd_check.specs.FoundLines.{AddsLines, told_size}
 use Rattle.xd_check.specs.InScope.{AcceptedBy}
 use Rattle.xd_check.specs.declared.lines.FoundLine.{FoundLine}

@@ -1,10 +1,11 @@
 //! What the walk over a program's functions knows, and the walk over functions.
 
 ghost use Rattle.std.specs.Prelude.{◌≡◌, ◌<◌, [], length, IfOk, OnOk};
-ghost use Rattle.xd_doc.specs.Stored.{Keeps};
+ghost use Rattle.xd_doc.specs.StoreNodes.{Keeps};
 ghost use Rattle.xd_syntax.specs.Kept.{AddsTypes, function_definition, program_tree};
 ghost use Rattle.xd_auto.specs.Automaton.{IsState};
-ghost use Rattle.xd_syntax.specs.Placed.{place_of, placed_at};
+ghost use Rattle.xd_syntax.specs.Placed.{place_of};
+ghost use Rattle.xd_syntax.specs.PlacedTable.{placed_at};
 ghost use Rattle.xd_syntax.specs.Patterns.{IsPattern};
 ghost use Rattle.xd_syntax.specs.Exprs.{IsExpr};
 ghost use Rattle.xd_syntax.specs.Expression.{place_of_expression};
@@ -22,8 +23,8 @@ use std::alloc::Global;
 use xd_auto::{Auto, State};
 use xd_base::Place;
 use xd_doc::{NoMemory, Store};
+use xd_pattern_runs::laws::programs_are_linear;
 use xd_patterns::PatternCompiler;
-use xd_runs::laws::programs_are_linear;
 use xd_sound::SoundProgram;
 use xd_syntax::{ExprId, Function, Param, PatternId};
 

@@ -2,7 +2,7 @@
 
 ghost use Rattle.std.specs.Prelude.{◌≡◌, ◌≢◌, ◌↔◌, ◌++◌, None, IfOk, OnOk};
 ghost use Rattle.xd_doc.specs.Document.{Document};
-ghost use Rattle.xd_doc.specs.Stored.{Keeps};
+ghost use Rattle.xd_doc.specs.StoreNodes.{Keeps};
 ghost use Rattle.xd_auto.specs.Automaton.{IsState};
 ghost use Rattle.xd_syntax.specs.CheckFaults.{LineWhere, not_exhaustive};
 ghost use Rattle.xd_syntax.specs.Placed.{PlacedTree, unplaced};

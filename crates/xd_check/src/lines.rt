@@ -4,7 +4,7 @@ ghost use Rattle.std.specs.Prelude.{◌≡◌, List, IfOk, OnOk};
 ghost use Rattle.xd_doc.specs.Document.{Document};
 ghost use Rattle.xd_syntax.specs.CheckFaults.{rank};
 ghost use Rattle.xd_syntax.specs.Order.{ordered};
-ghost use Rattle.xd_laws.specs.KeptLines.{AreFaultsOf, AreWarningsOf};
+ghost use Rattle.xd_meaning.specs.KeptFaults.{AreFaultsOf, AreWarningsOf};
 ghost use Rattle.xd_check.specs.FoundLines.{LinesBelong, fault_kind_of, found_precedes, kind_of, lines_of};
 
 use std::alloc::Global;

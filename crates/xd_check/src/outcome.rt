@@ -2,7 +2,7 @@
 
 ghost use Rattle.std.specs.Prelude.{◌≡◌, [], IfOk, List};
 ghost use Rattle.xd_doc.specs.Document.{Document};
-ghost use Rattle.xd_doc.specs.Stored.{Keeps};
+ghost use Rattle.xd_doc.specs.StoreNodes.{Keeps};
 ghost use Rattle.xd_syntax.specs.Kept.{AddsTypes, ProgramTable, program_tree};
 ghost use Rattle.xd_check.specs.Known.{IsKnown};
 ghost use Rattle.xd_check.specs.Outcome.{AreTold, IsOutcome};

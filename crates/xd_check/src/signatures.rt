@@ -7,12 +7,12 @@ ghost use Rattle.std.specs.Ordering.{nat_cmp};
 ghost use Rattle.std.specs.Cmp.Lexicographic.{slice_cmp};
 ghost use Rattle.std.specs.BTreeMap.{get};
 ghost use Rattle.xd_syntax.specs.Kept.{program_tree};
-ghost use Rattle.xd_syntax.specs.Placed.{placed_at};
+ghost use Rattle.xd_syntax.specs.PlacedTable.{placed_at};
 ghost use Rattle.xd_syntax.specs.Program.{names_of};
 ghost use Rattle.xd_syntax.specs.Types.{BelongsTo};
 ghost use Rattle.xd_heads.specs.Growing.{GrowsTypes};
 ghost use Rattle.xd_heads.specs.Mirrors.{Mirrors};
-ghost use Rattle.xd_laws.specs.KeptLines.{AllPaired};
+ghost use Rattle.xd_meaning.specs.KeptFaults.{AllPaired};
 ghost use Rattle.xd_check.specs.Walked.{Grows};
 ghost use Rattle.xd_check.specs.Signed.{AreSignatures, AreTypeStates, IsDeclaredAt, IsSignatureOfRow, IsTypeState, number_from, signature_of};
 

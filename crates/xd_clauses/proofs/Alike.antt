@@ -13,12 +13,12 @@ use Rattle.xd_auto.specs.Runs.{ends, takes_text, takes_element, from_each, runs,
 use Rattle.xd_auto.proofs.Anys.{IsSomeAnd-parts}
 use Rattle.xd_auto.proofs.Members.{first_in}
 use Rattle.xd_auto.proofs.RunLaw.{runs_are_accepting, runs_law}
-use Rattle.xd_laws.specs.Bindings.{variables_of}
+use Rattle.xd_meaning.specs.Bindings.{variables_of}
 use Rattle.xd_syntax.specs.Tree.{Tree, Definitions, occurrences}
-use Rattle.xd_laws.specs.KeptLines.{AllPaired}
-use Rattle.xd_runs.specs.Runs.{over_text, over_element}
-use Rattle.xd_runs.specs.Laws.{Agree, run_bindings, first_of}
-use Rattle.xd_runs.specs.Together.{AreTogether}
+use Rattle.xd_meaning.specs.KeptFaults.{AllPaired}
+use Rattle.xd_pattern_runs.specs.Runs.{over_text, over_element}
+use Rattle.xd_pattern_runs.specs.Laws.{Agree, run_bindings, first_of}
+use Rattle.xd_pattern_runs.specs.Together.{AreTogether}
 use Rattle.xd_patterns.specs.Marked.{Marking, IsCompiled, with_marks, no_text_move, no_label_move}
 
 -- the moves are on the same texts, or labels, and lead to states of a pair

@@ -9,11 +9,11 @@ use Rattle.xd_auto.specs.Automaton.{Automaton, moves_at}
 use Rattle.xd_auto.specs.Runs as Numbered
 use Rattle.xd_auto.specs.Runs.{ends, takes_text, takes_element}
 use Rattle.xd_syntax.specs.Words.{has_word}
-use Rattle.xd_runs.specs.Runs.{Run, ended, over_text, over_element, if_marked}
-use Rattle.xd_runs.specs.Runs as runs
-use Rattle.xd_runs.specs.Together.{IsFree, free_end, free_text, free_element, IsBlock, block_end, block_text, block_element, AreTogether, from_here, past_text, past_element, in_content}
-use Rattle.xd_traces.specs.Traces.{Trace, at_end, at_text, at_element, held, IsTogether, trace_of, text_rest_or, content_or, rest_or, after_text, in_element, after_element}
-use Rattle.xd_traces.specs.Traces as traces
+use Rattle.xd_pattern_runs.specs.Runs.{Run, ended, over_text, over_element, if_marked}
+use Rattle.xd_pattern_runs.specs.Runs as runs
+use Rattle.xd_pattern_runs.specs.Together.{IsFree, free_end, free_text, free_element, IsBlock, block_end, block_text, block_element, AreTogether, from_here, past_text, past_element, in_content}
+use Rattle.xd_auto_pairs.specs.Traces.{Trace, at_end, at_text, at_element, held, IsTogether, trace_of, text_rest_or, content_or, rest_or, after_text, in_element, after_element}
+use Rattle.xd_auto_pairs.specs.Traces as traces
 use Rattle.xd_patterns.specs.Marked.{Marking, with_marks, no_text_move, no_label_move}
 use Rattle.xd_clauses.specs.Owning.{moves_of}
 

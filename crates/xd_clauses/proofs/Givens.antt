@@ -8,15 +8,15 @@ use Rattle.xd_auto.specs.declared.auto.State.{State}
 use Rattle.xd_auto.specs.declared.auto.LabelMove.{LabelMove}
 use Rattle.xd_auto.specs.declared.auto.TextMove.{TextMove}
 use Rattle.xd_auto.specs.Automaton.{Automaton, IsState, StateMoves, accepts, moves_at, no_moves}
-use Rattle.xd_laws.specs.Bindings.{variables_of}
+use Rattle.xd_meaning.specs.Bindings.{variables_of}
 use Rattle.xd_syntax.specs.Placed.{PlacedTree, unplaced}
 use Rattle.xd_syntax.specs.May.{Allowance}
-use Rattle.xd_laws.specs.KeptLines.{AllPaired}
+use Rattle.xd_meaning.specs.KeptFaults.{AllPaired}
 use Rattle.xd_bind.specs.declared.tracks.Binding.{Binding}
 use Rattle.xd_bind.specs.declared.tracks.Given.{Given}
 use Rattle.xd_clauses.specs.Cases.{HasOwnAutomaton, IsGivenNothing}
 use Rattle.xd_clauses.specs.Clauses.{AreBindingsOf, AreGivensOf, IsBindingOf, IsGivenOf, IsStateOf}
-use Rattle.xd_clauses.proofs.Turning.{paired_end}
+use Rattle.xd_clauses.proofs.HasUniversalLemmas.{paired_end}
 
 -- ---- a state without moves
 

@@ -1,9 +1,9 @@
 pub mod Forms
-pub mod Telling
-pub mod Deciding
+pub mod CompiledTellLaw
+pub mod StableLemmas
 pub mod Alike
-pub mod Turning
-pub mod Owning
-pub mod Coming
-pub mod Passing
+pub mod HasUniversalLemmas
+pub mod OwnedLemmas
+pub mod AreMayGivensLemmas
+pub mod NoneTakesLemmas
 pub mod Givens

@@ -6,7 +6,7 @@ use Rattle.xd_auto.specs.declared.auto.State.{State}
 use Rattle.xd_auto.specs.Automaton.{Automaton, IsState, accepts}
 use Rattle.xd_syntax.specs.Tree.{Tree, Definitions}
 use Rattle.xd_syntax.specs.Placed.{PlacedTree, unplaced}
-use Rattle.xd_laws.specs.Bindings.{variables_of}
+use Rattle.xd_meaning.specs.Bindings.{variables_of}
 use Rattle.xd_syntax.specs.May.{Allowance, MayBind}
 use Rattle.xd_bind.specs.declared.tracks.Binding.{Binding}
 use Rattle.xd_bind.specs.declared.tracks.Given.{Given}

@@ -7,8 +7,8 @@ use Rattle.xd_syntax.specs.Words.{has_word}
 use Rattle.xd_syntax.specs.Tree.{Definitions, occurrences}
 use Rattle.xd_syntax.specs.Placed.{PlacedTree, unplaced}
 use Rattle.xd_syntax.specs.May.{MayBind}
-use Rattle.xd_traces.specs.Traces.{KeepsTogether}
-use Rattle.xd_traces.specs.Pairing.{IsGivenWhere}
+use Rattle.xd_auto_pairs.specs.Traces.{KeepsTogether}
+use Rattle.xd_auto_pairs.specs.Pairing.{IsGivenWhere}
 use Rattle.xd_patterns.specs.Marked.{Marking, IsCompiled}
 use Rattle.xd_clauses.specs.Owning.{moves_of}
 

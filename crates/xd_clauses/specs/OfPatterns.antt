@@ -3,8 +3,8 @@ use Rattle.std.specs.Prelude.{◌≡◌}
 use Rattle.xd_auto.specs.declared.auto.State.{State}
 use Rattle.xd_auto.specs.Automaton.{Automaton, IsState}
 use Rattle.xd_syntax.specs.Tree.{Tree, Definitions}
-use Rattle.xd_laws.specs.Bindings.{variables_of}
-use Rattle.xd_traces.specs.Universal.{IsUniversal}
+use Rattle.xd_meaning.specs.Bindings.{variables_of}
+use Rattle.xd_auto_pairs.specs.Universal.{IsUniversal}
 use Rattle.xd_patterns.specs.Held.{marking_of, variables_in}
 use Rattle.xd_patterns.specs.Marked.{IsCompiled}
 use Rattle.xd_patterns.specs.declared.marked.Marked.{Marked}

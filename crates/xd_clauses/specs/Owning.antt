@@ -2,8 +2,8 @@
 use Rattle.std.specs.Prelude.{ℕ, nat_lt, ◌&&◌, List, [], length, get_or}
 use Rattle.xd_auto.specs.declared.auto.State.{State}
 use Rattle.xd_syntax.specs.Words.{has_word}
-use Rattle.xd_traces.specs.declared.kind.MoveKind.TheVariants.{Label, Text}
-use Rattle.xd_traces.specs.Traces.{Owned}
+use Rattle.xd_auto_pairs.specs.declared.kind.MoveKind.TheVariants.{Label, Text}
+use Rattle.xd_auto_pairs.specs.Traces.{Owned}
 use Rattle.xd_patterns.specs.Held.{marking_of, marks_at, variables_in}
 use Rattle.xd_patterns.specs.Marked.{Marking}
 use Rattle.xd_patterns.specs.declared.marked.Marked.{Marked}

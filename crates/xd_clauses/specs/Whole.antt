@@ -3,8 +3,8 @@ use Rattle.std.specs.Prelude.{◌≡◌, ◌⊎◌, ℕ, ◌<◌, ◌≤◌, con
 use Rattle.xd_auto.specs.declared.auto.State.{State}
 use Rattle.xd_auto.specs.declared.auto.LabelMove.{LabelMove}
 use Rattle.xd_auto.specs.Automaton.{Automaton, ChangesOnly, IsState, StateMoves, moves_at, no_moves}
-use Rattle.xd_laws.specs.KeptLines.{AllPaired}
-use Rattle.xd_traces.specs.Universal.{IsUniversal, every_name}
+use Rattle.xd_meaning.specs.KeptFaults.{AllPaired}
+use Rattle.xd_auto_pairs.specs.Universal.{IsUniversal, every_name}
 use Rattle.xd_patterns.specs.Marked.{Marking}
 
 -- The state accepts the empty document and takes each element and each text by one move, which belongs to no variable; these

@@ -27,7 +27,7 @@ pub struct ClausePattern {
 impl ClausePattern {
     ghost use Rattle.std.specs.Prelude.{◌≡◌, ◌↔◌, [], Ok, None, IfOk, IfSome, OnOk};
     ghost use Rattle.xd_doc.specs.Document.{Document};
-    ghost use Rattle.xd_doc.specs.Stored.{Keeps};
+    ghost use Rattle.xd_doc.specs.StoreNodes.{Keeps};
     ghost use Rattle.xd_auto.specs.Automaton.{Extends, IsState, KeepsAccepting};
     ghost use Rattle.xd_least.specs.Least.{Knows};
     ghost use Rattle.xd_syntax.specs.Kept.{program_tree};
@@ -37,7 +37,7 @@ impl ClausePattern {
     ghost use Rattle.xd_syntax.specs.Program.{names_of};
     ghost use Rattle.xd_syntax.specs.Tree.{Definitions};
     ghost use Rattle.xd_syntax.specs.Ways.{Takes};
-    ghost use Rattle.xd_runs.specs.Linear.{IsLinear};
+    ghost use Rattle.xd_pattern_runs.specs.Linear.{IsLinear};
     ghost use Rattle.xd_patterns.specs.Compiler.{Serves};
     ghost use Rattle.xd_clauses.specs.Clauses.{Accepted, AreMayGivens, IsPatternOf};
 

@@ -3,16 +3,16 @@
 ghost use Rattle.std.specs.Prelude.{◌≡◌, ◌⊎◌, ◌≤◌, [], length, IfOk, IsTrue, OnOk};
 ghost use Rattle.xd_auto.specs.declared.auto.State.{State};
 ghost use Rattle.xd_auto.specs.Automaton.{ChangesOnly, IsState, moves_at, no_moves};
-ghost use Rattle.xd_traces.specs.Universal.{every_name};
+ghost use Rattle.xd_auto_pairs.specs.Universal.{every_name};
 ghost use Rattle.xd_patterns.specs.Held.{marking_of};
 ghost use Rattle.xd_clauses.specs.Whole.{AddsTurned, AreTurnedTo, HasUniversal, IsWhole, TakesAll, bare};
 
 use std::alloc::Global;
 use xd_auto::{Auto, LabelMove, State, TextMove};
+use xd_auto_pairs::add_universal;
 use xd_bind::MoveKind;
 use xd_doc::NoMemory;
 use xd_patterns::Marked;
-use xd_traces::add_universal;
 
 /// Whether the state takes everything by one move on an element and one on a text, which belong to no variable and lead to these
 /// states.

@@ -5,8 +5,8 @@ use Rattle.xd_auto.specs.Automaton.{Automaton, accepts}
 use Rattle.xd_auto.specs.declared.auto.State.{State}
 use Rattle.xd_doc.specs.Document.{Document, is_proper}
 use Rattle.xd_syntax.specs.Tree.{Tree, Definitions}
-use Rattle.xd_command.specs.Fits.{IsAcceptor}
-use Rattle.xd_command.specs.Minus.{IsAlone}
+use Rattle.xd_command.specs.FitsByState.{IsAcceptor}
+use Rattle.xd_command.specs.MinusAlone.{IsAlone}
 use Rattle.xd_command.specs.Subtype.{FitsAlone}
 use Rattle.xd_command.proofs.Steps.{not_both}
 

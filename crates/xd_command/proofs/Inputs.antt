@@ -11,8 +11,8 @@ use Rattle.xd_syntax.specs.Fits.{Fits}
 use Rattle.xd_syntax.specs.Program.{function_of, names_of}
 use Rattle.xd_syntax.specs.Kept.{ProgramTable, FunctionStands, function_definition, parameter, program_tree}
 use Rattle.xd_syntax.specs.FunctionRow.{FunctionRow}
-use Rattle.xd_syntax.specs.Expression.{ExprRow}
-use Rattle.xd_syntax.specs.Sound.{main_parameter, only_parameter}
+use Rattle.xd_syntax.specs.ExpressionTable.{ExprRow}
+use Rattle.xd_syntax.specs.SoundTables.{main_parameter, only_parameter}
 use Rattle.xd_syntax.specs.declared.program.Param.{Param}
 use Rattle.xd_syntax.specs.declared.types.TypeId.{TypeId}
 use Rattle.xd_syntax.proofs.PlacedTrees.{unplaced_at}

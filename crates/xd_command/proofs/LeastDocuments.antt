@@ -4,14 +4,17 @@ use Rattle.std.specs.Prelude.{codes}
 use Rattle.xd_auto.specs.Automaton.{Automaton, accepts}
 use Rattle.xd_auto.specs.declared.auto.State.{State}
 use Rattle.xd_doc.specs.Document.{Document, canonical_text}
-use Rattle.xd_doc.specs.Least.{IsLeast, IsLeastUpTo}
+use Rattle.xd_doc.specs.Least.{IsLeast}
+use Rattle.xd_doc.specs.LeastUpTo.{IsLeastUpTo}
 use Rattle.xd_least.specs.Least.{size_limit}
 use Rattle.xd_least.proofs.SizeLemmas.{least_written}
 use Rattle.xd_syntax.specs.Tree.{Tree, Definitions}
-use Rattle.xd_steps.specs.Output.{Output, canonical, separated}
-use Rattle.xd_command.specs.Fits.{IsAcceptor}
-use Rattle.xd_command.specs.Least.{AnswersLeastOf, TellsLeast}
-use Rattle.xd_command.specs.Subtype.{FitsAlone, TellsApart}
+use Rattle.xd_command_steps.specs.Output.{Output, canonical, separated}
+use Rattle.xd_command.specs.FitsByState.{IsAcceptor}
+use Rattle.xd_command.specs.Least.{AnswersLeastOf}
+use Rattle.xd_command.specs.LeastByState.{TellsLeast}
+use Rattle.xd_command.specs.Subtype.{FitsAlone}
+use Rattle.xd_command.specs.SubtypeByState.{TellsApart}
 use Rattle.xd_command.proofs.Steps.{not_both}
 
 pub false_if : (b : Bool) → (b ≡ true → ⊥) → b ≡ false

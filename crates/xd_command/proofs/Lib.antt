@@ -5,9 +5,9 @@ pub mod Merged
 pub mod Numbers
 pub mod Verdicts
 pub mod Inputs
-pub mod Running
+pub mod RunLemmas
 pub mod Telephones
-pub mod Judging
+pub mod VerifyLemmas
 pub mod LeastDocuments
 pub mod Differences
 pub mod SameFaults

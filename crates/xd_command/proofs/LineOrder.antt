@@ -3,7 +3,7 @@ use Rattle.std.proofs.Common.{◌≡◌, ℕ, Bool, true, false, ◌&&◌, ◌||
 use Rattle.std.specs.Cmp.{IsStrictWeakOrder}
 use Rattle.std.proofs.lemmas.Bool.Decides.{nat_tests}
 use Rattle.xd_syntax.specs.CheckFaults.{Line, rank, line_precedes, lines_in_order}
-use Rattle.xd_syntax.proofs.Sorting.{IsUp, put_all_up}
+use Rattle.xd_syntax.proofs.OrderedLemmas.{IsUp, put_all_up}
 
 abbrev before : ℕ → ℕ → ℕ → ℕ → ℕ → ℕ → Bool
 before a b m c d n = (nat_lt a c || (nat_eq a c && nat_lt b d)) || ((nat_eq a c && nat_eq b d) && nat_lt m n)

@@ -6,10 +6,11 @@ use Rattle.xd_syntax.specs.Order.{is_earlier, is_same_place}
 use Rattle.xd_syntax.specs.CheckFaults.{Line, LineKind, not_exhaustive, wrong_argument, wrong_result, dead_clause, rank, line_precedes, is_warning, faults_among}
 use Rattle.xd_syntax.specs.declared.fault.Fault.{Fault}
 use Rattle.xd_syntax.specs.declared.fault.Warning.{Warning}
-use Rattle.xd_syntax.proofs.Sorting.{IsLeast, IsUp}
-use Rattle.xd_laws.specs.KeptLines.{AllPaired, IsFaultOf, IsWarningOf, warnings_among}
+use Rattle.xd_syntax.proofs.OrderedLemmas.{IsLeast, IsUp}
+use Rattle.xd_meaning.specs.KeptFaults.{AllPaired, warnings_among}
+use Rattle.xd_meaning.specs.KeptLines.{IsFaultOf, IsWarningOf}
 use Rattle.xd_command.specs.Report.{of_fault, of_warning, AreLineTexts, no_line, next_line}
-use Rattle.xd_steps.specs.Merging.{IsMerged, no_more, a_fault, a_warning, stands_behind, is_placed_behind}
+use Rattle.xd_command_steps.specs.Merging.{IsMerged, no_more, a_fault, a_warning, stands_behind, is_placed_behind}
 
 is_dead : (k : LineKind) → is_warning k ≡ true → k ≡ dead_clause
 is_dead dead_clause e = refl

@@ -7,7 +7,7 @@ use Rattle.std.proofs.lemmas.Bool.Decides.{nat_tests}
 use Rattle.std.proofs.lemmas.Str.Parse.{IsNumeralModel, numerals_by_value, tells_digits}
 use Rattle.std.proofs.lemmas.Fmt.{digits_value-decimal}
 use Rattle.std.proofs.lemmas.Slice.Eq.{bytes_eq-Decides}
-use Rattle.xd_proof_form.specs.Lines.{SpellsNumber}
+use Rattle.xd_proof.specs.Lines.{SpellsNumber}
 use Rattle.xd_command.specs.Command.{number_within}
 
 own : IsNumeralModel (AllDigits 10) (digits_value 10)

@@ -6,11 +6,11 @@ use Rattle.xd_syntax.specs.May.{MayBind}
 use Rattle.xd_syntax.specs.Program.{ProgramTree}
 use Rattle.xd_command.specs.declared.command.Command.{Command}
 use Rattle.xd_command.specs.declared.command.Command.TheVariants.{Fits, Stream, Subtype, Minus, Verify, Upgrade, Least, Check, Types, Precise, Run, Sample}
-use Rattle.xd_steps.specs.Output.{Output, canonical, separated, IsSent}
-use Rattle.xd_steps.specs.Laws.{Texts, IsRead}
-use Rattle.xd_steps.specs.Programs.{EndsAtProgram, IsProgram}
-use Rattle.xd_steps.specs.Step.{Step}
-use Rattle.xd_steps.proofs.OneStep.{steps_are_one, counts_tell_nothing}
+use Rattle.xd_command_steps.specs.Output.{Output, canonical, separated, IsSent}
+use Rattle.xd_command_steps.specs.Laws.{Texts, IsRead}
+use Rattle.xd_command_steps.specs.Programs.{EndsAtProgram, IsProgram}
+use Rattle.xd_command_steps.specs.Step.{Step}
+use Rattle.xd_command_steps.proofs.OneStep.{steps_are_one, counts_tell_nothing}
 use Rattle.xd_command.specs.Fits.{AnswersFits}
 use Rattle.xd_command.specs.Stream.{AnswersStream}
 use Rattle.xd_command.specs.Subtype.{AnswersSubtype}

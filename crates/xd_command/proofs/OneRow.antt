@@ -2,7 +2,7 @@
 use Rattle.std.proofs.Common.{◌≡◌, ◌≤◌, ◌⊎◌, ◌-◌, ℕ, Bool, true, false, cond, inl, inr, List, [], ◌∷◌, ◌++◌, Option, Some, None, refl, sym, ap, subst, ◌∙◌, arith}
 use Rattle.std.specs.Prelude.{codes}
 use Rattle.std.specs.List.{AllZip}
-use Rattle.xd_blocks.specs.Blocks.{AreBlocks, Block, IsBlockOf, Shows}
+use Rattle.xd_show_blocks.specs.Blocks.{AreBlocks, Block, IsBlockOf, Shows}
 use Rattle.xd_shown.specs.Shown.{defined_names}
 use Rattle.xd_variables.specs.Seen.{Gives, Reading, SeenVariable}
 use Rattle.xd_doc.specs.Document.{Document, size}
@@ -10,22 +10,23 @@ use Rattle.xd_syntax.specs.Tree.{Tree}
 use Rattle.xd_syntax.specs.Program.{ProgramTree, names_of}
 use Rattle.xd_syntax.specs.Sound.{is_defined, type_named}
 use Rattle.xd_syntax.specs.CheckFaults.{Line, LineKind, not_exhaustive, wrong_argument, wrong_result, dead_clause, is_warning, faults_among, IsAccepted}
-use Rattle.xd_laws.specs.Breach.{Lined}
-use Rattle.xd_laws.specs.KeptLines.{kind_with, AllPaired}
-use Rattle.xd_laws.specs.Meaning.{Done, Spent}
+use Rattle.xd_meaning.specs.Breach.{Lined}
+use Rattle.xd_meaning.specs.KeptLines.{kind_with}
+use Rattle.xd_meaning.specs.KeptFaults.{AllPaired}
+use Rattle.xd_meaning.specs.Meaning.{Done, Spent}
 use Rattle.xd_laws.specs.SameLines.{IsSameLine}
 use Rattle.xd_laws.proofs.BreachLaw.{rules_are_tested, breach_is_one}
 use Rattle.xd_laws.proofs.OneLines.{lines_are_one}
 use Rattle.xd_report.specs.Report.{place_front}
 use Rattle.xd_proof_write.specs.ClaimText.{claim_text}
-use Rattle.xd_stream.proofs.Stopping.{one_malformed, one_outside, one_reason, never_malformed, never_outside}
-use Rattle.xd_steps.specs.Output.{Output, canonical, malformed_document, outside_type, separated}
-use Rattle.xd_steps.specs.Texts.{EndsAtText, IsText, document_limit}
-use Rattle.xd_steps.specs.Laws.{Texts, IsOneStep, IsRead}
-use Rattle.xd_steps.specs.Documents.{EndsAtDocument, IsDocument}
-use Rattle.xd_steps.specs.Proofs.{EndsAtProof, IsProof, bad_line}
-use Rattle.xd_steps.specs.Step.{Step}
-use Rattle.xd_steps.proofs.OneStep.{steps_are_one, counts_tell_nothing}
+use Rattle.xd_stream.proofs.IsFirstStopLemmas.{one_malformed, one_outside, one_reason, never_malformed, never_outside}
+use Rattle.xd_command_steps.specs.Output.{Output, canonical, malformed_document, outside_type, separated}
+use Rattle.xd_command_steps.specs.Texts.{EndsAtText, IsText, document_limit}
+use Rattle.xd_command_steps.specs.Laws.{Texts, IsOneStep, IsRead}
+use Rattle.xd_command_steps.specs.Documents.{EndsAtDocument, IsDocument}
+use Rattle.xd_command_steps.specs.Proofs.{EndsAtProof, IsProof, bad_line}
+use Rattle.xd_command_steps.specs.Step.{Step}
+use Rattle.xd_command_steps.proofs.OneStep.{steps_are_one, counts_tell_nothing}
 use Rattle.xd_command.specs.Fits.{EndsAtName, AnswersMembership, AnswersFits, FitsType}
 use Rattle.xd_command.specs.Stream.{TellsStop, AnswersBytes, AnswersStream}
 use Rattle.xd_command.specs.Subtype.{AnswersInclusion, AnswersSubtype, FitsAlone}

@@ -1,7 +1,7 @@
 -- What shown definitions of types spell.
 use Rattle.std.proofs.Common.{◌≡◌, ℕ, List, [], ◌∷◌, Some, refl, sym, ap, subst, ◌∙◌}
 use Rattle.std.specs.Prelude.{map, slice_get}
-use Rattle.xd_blocks.specs.Blocks.{Shows, shown_text}
+use Rattle.xd_show_blocks.specs.Blocks.{Shows, shown_text}
 use Rattle.xd_doc.specs.Document.{Document}
 use Rattle.xd_prefer.specs.Preferred.{Prefers}
 use Rattle.xd_shown.specs.Shown.{defined_names}

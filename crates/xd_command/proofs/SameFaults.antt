@@ -2,7 +2,7 @@
 use Rattle.std.proofs.Common.{◌≡◌, Bool, true, false, cond, List, [], ◌∷◌, refl, subst}
 use Rattle.xd_syntax.specs.CheckFaults.{Line, is_warning, faults_among, AreLines, IsAccepted}
 use Rattle.xd_syntax.specs.Program.{ProgramTree}
-use Rattle.xd_laws.specs.KeptLines.{AllPaired}
+use Rattle.xd_meaning.specs.KeptFaults.{AllPaired}
 use Rattle.xd_laws.specs.SameLines.{IsSameLine}
 use Rattle.xd_laws.proofs.OneLines.{lines_are_one}
 

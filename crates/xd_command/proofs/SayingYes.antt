@@ -6,17 +6,17 @@ use Rattle.xd_read.specs.Reading.{BytesSpell}
 use Rattle.xd_read.proofs.Machine.{one_document}
 use Rattle.xd_stream.specs.Stop.{SpellsOneOf, StopsMalformed, StopsOutside}
 use Rattle.xd_stream.proofs.Proper.{spelled_is_proper}
-use Rattle.xd_stream.proofs.Stopping.{never_malformed, never_outside}
+use Rattle.xd_stream.proofs.IsFirstStopLemmas.{never_malformed, never_outside}
 use Rattle.xd_syntax.specs.Fits as types
 use Rattle.xd_syntax.specs.Program.{ProgramTree, names_of}
 use Rattle.xd_syntax.specs.Sound.{is_defined, type_named}
-use Rattle.xd_steps.specs.Output.{Output, yes, no, malformed_document, outside_type}
-use Rattle.xd_steps.specs.Step.{Step}
-use Rattle.xd_steps.specs.Texts.{EndsAtText, IsText, document_limit}
-use Rattle.xd_steps.specs.Documents.{EndsAtDocument, EndsAtMalformed, IsDocument}
-use Rattle.xd_steps.specs.Programs.{EndsAtProgram, IsProgram}
-use Rattle.xd_steps.specs.Laws.{IsOneStep, Texts}
-use Rattle.xd_steps.proofs.OneStep.{steps_are_one}
+use Rattle.xd_command_steps.specs.Output.{Output, yes, no, malformed_document, outside_type}
+use Rattle.xd_command_steps.specs.Step.{Step}
+use Rattle.xd_command_steps.specs.Texts.{EndsAtText, IsText, document_limit}
+use Rattle.xd_command_steps.specs.Documents.{EndsAtDocument, EndsAtMalformed, IsDocument}
+use Rattle.xd_command_steps.specs.Programs.{EndsAtProgram, IsProgram}
+use Rattle.xd_command_steps.specs.Laws.{IsOneStep, Texts}
+use Rattle.xd_command_steps.proofs.OneStep.{steps_are_one}
 use Rattle.xd_command.specs.Fits.{AnswersFits, AnswersMembership, EndsAtName, FitsType}
 use Rattle.xd_command.specs.Stream.{AnswersBytes, AnswersStream, TellsStop}
 use Rattle.xd_command.specs.SayingYes.{SayYesAlike}

@@ -3,7 +3,7 @@ use Rattle.std.proofs.Common.{◌≡◌, ℕ, ◌<◌, ◌≤◌, List, [], ◌�
 use Rattle.std.specs.Prelude.{codes, decimal}
 use Rattle.std.specs.List.{AllByRecursion}
 use Rattle.xd_doc.specs.Document.{Document, canonical_text, size}
-use Rattle.xd_doc.specs.Least.{size_up_to}
+use Rattle.xd_doc.specs.LeastUpTo.{size_up_to}
 use Rattle.xd_doc.specs.Stored.{document_at}
 use Rattle.xd_doc.specs.declared.store.Seq.{Seq}
 use Rattle.xd_least.proofs.SizeLemmas.{size_written}
@@ -13,11 +13,12 @@ use Rattle.xd_syntax.specs.CheckFaults.{Line, LineKind, not_exhaustive, wrong_ar
 use Rattle.xd_syntax.specs.declared.fault.Fault.{Fault}
 use Rattle.xd_syntax.specs.declared.fault.FaultKind.{FaultKind}
 use Rattle.xd_syntax.specs.declared.fault.Warning.{Warning}
-use Rattle.xd_laws.specs.KeptLines.{AllPaired, kind_with, IsFaultOf, AreFaultsOf}
+use Rattle.xd_meaning.specs.KeptFaults.{AllPaired, AreFaultsOf}
+use Rattle.xd_meaning.specs.KeptLines.{kind_with, IsFaultOf}
 use Rattle.xd_laws.specs.LeastLines.{IsSmall}
 use Rattle.xd_laws.proofs.LeastLines.{small_lines_are_least}
 use Rattle.xd_report.specs.Report.{fault_front, fault_text, kind_text, warning_text}
-use Rattle.xd_steps.specs.Merging.{IsMerged, no_more, a_fault, a_warning}
+use Rattle.xd_command_steps.specs.Merging.{IsMerged, no_more, a_fault, a_warning}
 
 behind : (x y : List ℕ) → length y ≤ length (x ++ y)
 behind x y = omega (arith, length-append x y)

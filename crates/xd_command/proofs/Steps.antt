@@ -4,17 +4,18 @@ use Rattle.std.proofs.lemmas.Result.{err_from_is_err_and}
 use Rattle.std.specs.Result.{IsErrAnd}
 use Rattle.xd_base.specs.Outside.{HasRisen, IsLacking}
 use Rattle.xd_doc.specs.Document.{Document}
-use Rattle.xd_steps.specs.declared.output.Stop.{Stop}
-use Rattle.xd_steps.specs.declared.output.Stop.TheVariants.{Refused, NoMemory}
-use Rattle.xd_steps.specs.Output.{Output, yes, no}
-use Rattle.xd_steps.specs.Step.{DoesStep}
-use Rattle.xd_steps.specs.Texts.{Holding, IsHeld, EndsAtText, document_limit}
-use Rattle.xd_steps.specs.Documents.{EndsAtDocument, IsDocument}
+use Rattle.xd_command_steps.specs.declared.output.Stop.{Stop}
+use Rattle.xd_command_steps.specs.declared.output.Stop.TheVariants.{Refused, NoMemory}
+use Rattle.xd_command_steps.specs.Output.{Output, yes, no}
+use Rattle.xd_command_steps.specs.DoneSteps.{DoesStep}
+use Rattle.xd_command_steps.specs.Texts.{Holding, IsHeld, EndsAtText, document_limit}
+use Rattle.xd_command_steps.specs.Documents.{EndsAtDocument, IsDocument}
 use Rattle.xd_auto.specs.Automaton.{Automaton, accepts}
 use Rattle.xd_auto.specs.declared.auto.State.{State}
 use Rattle.xd_syntax.specs.Program.{ProgramTree, names_of}
 use Rattle.xd_syntax.specs.Sound.{is_defined, type_named}
-use Rattle.xd_command.specs.Fits.{AnswersByState, AnswersFits, AnswersMembership, IsAcceptor}
+use Rattle.xd_command.specs.FitsByState.{AnswersByState, IsAcceptor}
+use Rattle.xd_command.specs.Fits.{AnswersFits, AnswersMembership}
 
 -- a step ends where another does
 pub ends-map : {A B : Type 0} (ends ends' : Output → Type 0) (finds : A → Type 0) (finds' : B → Type 0) (s : Stop) → ((o : Output) → ends o → ends' o) → DoesStep (Err s) ends finds → DoesStep (Err s) ends' finds'

@@ -9,14 +9,17 @@ use Rattle.xd_read.specs.Grammar.{Terminal}
 use Rattle.xd_auto.specs.Automaton.{Automaton}
 use Rattle.xd_auto.specs.declared.auto.State.{State}
 use Rattle.xd_stream.specs.Fed.{StopsAs}
-use Rattle.xd_stream.specs.Stop.{BeginsOneOf, IsAccepted, IsFirstStop, SpellsAccepted, SpellsOneOf}
+use Rattle.xd_stream.specs.Stop.{BeginsOneOf, IsFirstStop, SpellsOneOf}
+use Rattle.xd_stream.specs.StopByState.{IsAccepted, SpellsAccepted}
 use Rattle.xd_stream.specs.declared.error.StreamError.{StreamError}
 use Rattle.xd_syntax.specs.Program.{ProgramTree, names_of}
 use Rattle.xd_syntax.specs.Sound.{is_defined, type_named}
-use Rattle.xd_steps.specs.Output.{Output}
-use Rattle.xd_steps.specs.Texts.{Holding, IsHeld, document_limit}
-use Rattle.xd_command.specs.Fits.{FitsType, IsAcceptor}
-use Rattle.xd_command.specs.Stream.{AnswersStream, StreamsByState, TellsStop}
+use Rattle.xd_command_steps.specs.Output.{Output}
+use Rattle.xd_command_steps.specs.Texts.{Holding, IsHeld, document_limit}
+use Rattle.xd_command.specs.Fits.{FitsType}
+use Rattle.xd_command.specs.FitsByState.{IsAcceptor}
+use Rattle.xd_command.specs.Stream.{AnswersStream, TellsStop}
+use Rattle.xd_command.specs.StreamByState.{StreamsByState}
 use Rattle.xd_command.proofs.Steps.{text_later}
 
 -- ---- two sets with the same documents

@@ -7,14 +7,14 @@ use Rattle.xd_syntax.specs.Program.{ProgramTree, names_of}
 use Rattle.xd_syntax.specs.NameFaults.{name_faults}
 use Rattle.xd_syntax.specs.RecursionFaults.{AreRecursionFaults}
 use Rattle.xd_syntax.specs.CheckFaults.{AreLines, faults_among}
-use Rattle.xd_laws.specs.Meaning.{Outcome, Done, Spent}
+use Rattle.xd_meaning.specs.Meaning.{Outcome, Done, Spent}
 use Rattle.xd_syntax.specs.declared.fault.Fault.{Fault}
 use Rattle.xd_laws.specs.LineSamples.{persons_at}
-use Rattle.xd_telephones.specs.Telephones.{telephone_text, telephone_program}
-use Rattle.xd_telephones.specs.Laws.{TextIsRead, NothingIsReported, TelephonesAreListed}
-use Rattle.xd_telephones.specs.Persons.{sample_of, telephones_to}
-use Rattle.xd_steps.specs.Output.{Output}
-use Rattle.xd_steps.specs.Programs.{AreTextFaults, EndsAtFaults}
+use Rattle.xd_command_sample.specs.Telephones.{telephone_text, telephone_program}
+use Rattle.xd_command_sample.specs.Laws.{TextIsRead, NothingIsReported, TelephonesAreListed}
+use Rattle.xd_command_sample.specs.Persons.{sample_of, telephones_to}
+use Rattle.xd_command_steps.specs.Output.{Output}
+use Rattle.xd_command_steps.specs.Programs.{AreTextFaults, EndsAtFaults}
 use Rattle.xd_command.specs.Run.{EndsAtLines, EndsAtValue, IsValue, input_type}
 use Rattle.xd_command.specs.Running.{AcceptsInput, IsInputTest}
 

@@ -8,16 +8,17 @@ use Rattle.xd_syntax.specs.CheckFaults.{Line, LineKind, not_exhaustive, wrong_ar
 use Rattle.xd_syntax.specs.declared.fault.Fault.{Fault}
 use Rattle.xd_syntax.specs.declared.fault.FaultKind.{FaultKind}
 use Rattle.xd_syntax.specs.declared.fault.Warning.{Warning}
-use Rattle.xd_syntax.proofs.Sorting.{IsUp}
-use Rattle.xd_laws.specs.KeptLines.{AllPaired, kind_with, IsFaultOf, AreFaultsOf, AreWarningsOf}
-use Rattle.xd_report.specs.Report.{CarriesFrom}
-use Rattle.xd_steps.specs.Output.{Output}
+use Rattle.xd_syntax.proofs.OrderedLemmas.{IsUp}
+use Rattle.xd_meaning.specs.KeptFaults.{AllPaired, AreFaultsOf, AreWarningsOf}
+use Rattle.xd_meaning.specs.KeptLines.{kind_with, IsFaultOf}
+use Rattle.xd_report.specs.Carries.{CarriesFrom}
+use Rattle.xd_command_steps.specs.Output.{Output}
 use Rattle.xd_command.specs.Check.{AnswersCheck, with_verdict}
 use Rattle.xd_command.specs.Run.{EndsAtLines}
-use Rattle.xd_steps.specs.Merging.{IsMerged}
+use Rattle.xd_command_steps.specs.Merging.{IsMerged}
 use Rattle.xd_command.proofs.LineOrder.{lines_up}
 use Rattle.xd_command.proofs.Merged.{merged_texts, fault_texts}
-use Rattle.xd_steps.proofs.Reporting.{Carry}
+use Rattle.xd_command_steps.proofs.NextLineLemmas.{Carry}
 
 -- a fault carries the document that its line names
 carries : (ds : List Document) (k : LineKind) (s : Seq) (f : FaultKind) → BelongsTo ds s → kind_with k s f → CarriesFrom ds f

@@ -5,10 +5,10 @@ use Rattle.xd_command.specs.declared.command.Command.{Command}
 use Rattle.xd_command.specs.declared.command.Command.TheVariants.{Fits, Stream, Subtype, Minus, Verify, Upgrade, Least, Check, Types, Precise, Run, Sample}
 use Rattle.xd_prefer.specs.Preferred.{Prefers}
 use Rattle.xd_syntax.specs.May.{MayBind}
-use Rattle.xd_steps.specs.Output.{Output, usage}
-use Rattle.xd_steps.specs.Step.{Step}
-use Rattle.xd_steps.specs.Texts.{Holding}
-use Rattle.xd_steps.specs.Programs.{EndsAtProgram, IsProgram}
+use Rattle.xd_command_steps.specs.Output.{Output, usage}
+use Rattle.xd_command_steps.specs.Step.{Step}
+use Rattle.xd_command_steps.specs.Texts.{Holding}
+use Rattle.xd_command_steps.specs.Programs.{EndsAtProgram, IsProgram}
 use Rattle.xd_command.specs.Fits.{AnswersFits}
 use Rattle.xd_command.specs.Stream.{AnswersStream}
 use Rattle.xd_command.specs.Subtype.{AnswersSubtype}

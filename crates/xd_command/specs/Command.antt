@@ -1,25 +1,26 @@
 -- The forms of the command's words.
-use Rattle.std.specs.Prelude.{ℕ, ◌+◌, ◌≤◌, List, [], ◌∷◌, Option, Some, None, codes, if◌then◌else◌, cond, ◌&&◌, nat_lt, option_map}
+use Rattle.std.specs.Prelude.{ℕ, ◌+◌, List, [], ◌∷◌, Option, Some, None, codes, if◌then◌else◌, cond, ◌&&◌, nat_lt, option_map}
 use Rattle.std.specs.Str.{bytes_eq}
 use Rattle.std.specs.Str.Parse.{digits_value}
 use Rattle.std.specs.Fmt.{decimal}
+use Rattle.xd_command.specs.declared.command.TheConstants.{DEFAULT_FUEL, FUEL_LIMIT, PIECE_LIMIT, SAMPLE_LIMIT}
 use Rattle.xd_command.specs.declared.command.Command.{Command}
 use Rattle.xd_command.specs.declared.command.Command.TheVariants.{Fits, Stream, Subtype, Minus, Verify, Upgrade, Least, Check, Types, Precise, Run, Sample}
 
 -- how many calls a run may make
 abbrev pub fuel_limit : ℕ
-fuel_limit = 10000000
+fuel_limit = FUEL_LIMIT
 
 abbrev pub default_fuel : ℕ
-default_fuel = 1000000
+default_fuel = DEFAULT_FUEL
 
 -- how many bytes a piece of a stream may have
 abbrev pub piece_limit : ℕ
-piece_limit = 65536
+piece_limit = PIECE_LIMIT
 
 -- how many persons a sample may have
 abbrev pub sample_limit : ℕ
-sample_limit = 2000
+sample_limit = SAMPLE_LIMIT
 
 -- the number, from 1 to the limit, whose decimal digits the word is, without a sign or a leading zero
 abbrev pub number_within : (limit : ℕ) → List ℕ → Option ℕ
@@ -60,10 +61,3 @@ command_of (command ∷ file ∷ second ∷ []) = of_two command file second
 command_of (command ∷ file ∷ second ∷ third ∷ []) = of_three command file second third
 command_of (command ∷ file ∷ second ∷ third ∷ fourth ∷ []) = of_four command file second third fourth
 command_of words = None
-
--- some call may be made, where the command is a run; the pieces of a stream have some byte; and a sample is within its limit
-abbrev pub CanRun : Command → Type 0
-CanRun (Run file document fuel) = 1 ≤ fuel
-CanRun (Stream file name document piece) = (1 ≤ piece) × (piece ≤ piece_limit)
-CanRun (Sample persons) = persons ≤ sample_limit
-CanRun command = Unit {0}

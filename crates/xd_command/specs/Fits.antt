@@ -1,17 +1,15 @@
 -- What `fits` answers, behind the faults of the program.
-use Rattle.std.specs.Prelude.{◌≡◌, ◌⊎◌, ◌↔◌, ℕ, cond, true, false, List, [], ◌∷◌, None}
-use Rattle.xd_auto.specs.Automaton.{Automaton, accepts, IsState}
-use Rattle.xd_auto.specs.declared.auto.State.{State}
+use Rattle.std.specs.Prelude.{◌≡◌, ◌⊎◌, ℕ, true, false, List, [], ◌∷◌, None}
 use Rattle.xd_doc.specs.Document.{Document, is_proper}
 use Rattle.xd_syntax.specs.Tree.{Tree, Definitions}
 use Rattle.xd_syntax.specs.Fits as types
 use Rattle.xd_syntax.specs.Program.{ProgramTree, names_of}
 use Rattle.xd_syntax.specs.Sound.{is_defined, type_named}
 use Rattle.xd_syntax.specs.declared.fault.FaultKind.TheVariants.{NoSuchName}
-use Rattle.xd_steps.specs.Output.{Output, yes, no, fault_lines}
-use Rattle.xd_steps.specs.Step.{Step}
-use Rattle.xd_steps.specs.Texts.{Holding}
-use Rattle.xd_steps.specs.Documents.{EndsAtDocument, IsDocument}
+use Rattle.xd_command_steps.specs.Output.{Output, yes, no, fault_lines}
+use Rattle.xd_command_steps.specs.Step.{Step}
+use Rattle.xd_command_steps.specs.Texts.{Holding}
+use Rattle.xd_command_steps.specs.Documents.{EndsAtDocument, IsDocument}
 
 -- a proper document that fits the type
 pub record FitsType (E : Definitions) (T : Tree) (d : Document) : Type 0 where
@@ -32,17 +30,3 @@ abbrev pub AnswersFits : Holding → (rose : Type 0) → (name document : List �
 AnswersFits holds rose name document P o =
     EndsAtName P name o
     ⊎ ((is_defined P name ≡ true) × Step (EndsAtDocument holds rose document) (IsDocument holds document) (AnswersMembership P name) o)
-
--- the state accepts exactly what fits the type
-abbrev pub IsAcceptor : Definitions → Tree → Automaton → State → Type 0
-IsAcceptor E T a s = IsState a s × ((d : Document) → (accepts a d s ≡ true) ↔ types.Fits E T d)
-
--- ---- of what follows only private contracts speak
-
--- whether the state accepts the document
-abbrev pub TellsMembership : Automaton → State → Document → Output → Type 0
-TellsMembership a s d o = o ≡ cond (accepts a d s) yes no
-
--- whether the state accepts the document of this file
-abbrev pub AnswersByState : Automaton → State → Holding → (rose : Type 0) → (document : List ℕ) → Output → Type 0
-AnswersByState a s holds rose document o = Step (EndsAtDocument holds rose document) (IsDocument holds document) (TellsMembership a s) o

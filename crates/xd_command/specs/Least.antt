@@ -1,14 +1,11 @@
 -- What `least` answers, behind the faults of the program.
-use Rattle.std.specs.Prelude.{◌≡◌, ◌⊎◌, ℕ, true, false, List}
-use Rattle.xd_auto.specs.Automaton.{Automaton, accepts}
-use Rattle.xd_auto.specs.declared.auto.State.{State}
-use Rattle.xd_doc.specs.Document.{Document, is_proper}
+use Rattle.std.specs.Prelude.{◌≡◌, ◌⊎◌, ℕ, true, List}
+use Rattle.xd_doc.specs.Document.{Document}
 use Rattle.xd_doc.specs.Least.{IsLeast}
-use Rattle.xd_least.specs.Least.{Accepts}
 use Rattle.xd_syntax.specs.Tree.{Tree, Definitions}
 use Rattle.xd_syntax.specs.Program.{ProgramTree, names_of}
 use Rattle.xd_syntax.specs.Sound.{is_defined, type_named}
-use Rattle.xd_steps.specs.Output.{Output, canonical, no}
+use Rattle.xd_command_steps.specs.Output.{Output, canonical, no}
 use Rattle.xd_command.specs.Fits.{EndsAtName, FitsType}
 
 -- A least document of those that fit the type is written; or no document fits it.
@@ -21,11 +18,3 @@ abbrev pub AnswersLeast : (name : List ℕ) → ProgramTree → Output → Type 
 AnswersLeast name P o =
     EndsAtName P name o
     ⊎ ((is_defined P name ≡ true) × AnswersLeastOf (names_of P) (type_named name) o)
-
--- ---- of what follows only private contracts speak
-
--- a least document of the state is written; or it accepts none
-abbrev pub TellsLeast : Automaton → State → Output → Type 0
-TellsLeast a s o =
-    ((d : Document) × (is_proper d ≡ true) × IsLeast (Accepts a s) d × (o ≡ canonical d))
-    ⊎ (((d : Document) → accepts a d s ≡ false) × (o ≡ no))

@@ -1,13 +1,11 @@
 -- What `minus` answers, behind the faults of the program.
 use Rattle.std.specs.Prelude.{◌≡◌, ◌⊎◌, ℕ, List, []}
-use Rattle.xd_blocks.specs.Blocks.{IsShownText}
-use Rattle.xd_doc.specs.Document.{Document}
+use Rattle.xd_show_blocks.specs.Blocks.{IsShownText}
 use Rattle.xd_shown.specs.Shown.{defined_names}
-use Rattle.xd_syntax.specs.Fits.{Fits}
 use Rattle.xd_syntax.specs.Program.{ProgramTree, names_of}
 use Rattle.xd_syntax.specs.Sound.{type_named}
-use Rattle.xd_syntax.specs.Tree.{Definitions, Tree}
-use Rattle.xd_steps.specs.Output.{Output}
+use Rattle.xd_syntax.specs.Tree.{Tree}
+use Rattle.xd_command_steps.specs.Output.{Output}
 use Rattle.xd_command.specs.Subtype.{EndsAtNames, FitsAlone, undefined_names}
 
 -- the text of definitions that show the documents of the first type alone, by names that no type of the program has
@@ -18,9 +16,3 @@ abbrev pub AnswersMinus : (left right : List ℕ) → ProgramTree → Output →
 AnswersMinus left right P o =
     EndsAtNames P left right o
     ⊎ ((undefined_names P left right ≡ []) × AnswersDifference P (type_named left) (type_named right) o)
-
--- ---- of what follows only private contracts speak
-
--- the document fits the first type and not the second
-abbrev pub IsAlone : Definitions → (L R : Tree) → Document → Type 0
-IsAlone E L R d = Fits E L d × (Fits E R d → ⊥)

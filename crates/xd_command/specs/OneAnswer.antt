@@ -1,7 +1,7 @@
 -- That the same words and the same texts have one answer, but where the definitions leave a choice.
 use Rattle.std.specs.Prelude.{◌≡◌, ◌⊎◌, ◌↔◌, ℕ, true, List, ◌++◌, Option, Some, None, slice_get}
 use Rattle.xd_base.specs.Outside.{HasRisen}
-use Rattle.xd_blocks.specs.Blocks.{Block, blocks_text, shown_text}
+use Rattle.xd_show_blocks.specs.Blocks.{Block, blocks_text, shown_text}
 use Rattle.xd_doc.specs.Document.{Document, is_proper, size}
 use Rattle.xd_shown.specs.ReadBack.{ReadsBack}
 use Rattle.xd_shown.specs.Shown.{defined_names}
@@ -9,15 +9,15 @@ use Rattle.xd_syntax.specs.CheckFaults.{Line}
 use Rattle.xd_syntax.specs.Fits.{Fits as FitsIn}
 use Rattle.xd_syntax.specs.Program.{ProgramTree, names_of}
 use Rattle.xd_syntax.specs.Tree.{Name}
-use Rattle.xd_laws.specs.KeptLines.{AllPaired}
+use Rattle.xd_meaning.specs.KeptFaults.{AllPaired}
 use Rattle.xd_laws.specs.SameLines.{IsSameLine}
 use Rattle.xd_command.specs.declared.command.Command.{Command}
 use Rattle.xd_command.specs.declared.command.Command.TheVariants.{Subtype, Minus, Least, Check, Types, Precise, Run}
 use Rattle.xd_command.specs.Answer.{IsAnswer}
 use Rattle.xd_command.specs.Outcome.{IsOutcome}
 use Rattle.xd_command.specs.Report.{AreLineTexts}
-use Rattle.xd_steps.specs.Output.{Output, canonical, separated}
-use Rattle.xd_steps.specs.Laws.{Texts, IsRead}
+use Rattle.xd_command_steps.specs.Output.{Output, canonical, separated}
+use Rattle.xd_command_steps.specs.Laws.{Texts, IsRead}
 
 -- ---- what may differ
 

@@ -3,8 +3,8 @@ use Rattle.std.specs.Prelude.{◌≡◌, ℕ, ◌⊎◌, List, [], Option}
 use Rattle.xd_base.specs.Outside.{HasGrown}
 use Rattle.xd_command.specs.declared.command.Command.{Command}
 use Rattle.xd_command.specs.Answer.{IsAnswer}
-use Rattle.xd_steps.specs.Output.{Output, IsSent}
-use Rattle.xd_steps.specs.Texts.{Holding}
+use Rattle.xd_command_steps.specs.Output.{Output, IsSent}
+use Rattle.xd_command_steps.specs.Texts.{Holding}
 
 -- Nothing is written for want of memory; or an output that the words have is sent.
 abbrev pub IsOutcome : Option Command → Holding → (shelf_rose sink_rose : Type 0) → (before after : Option (List ℕ)) → ℕ → Type 0

@@ -1,7 +1,7 @@
 -- That the definitions of types that `minus`, `types` and `precise` write read back to types that just the documents fit which they
 -- are to show.
 use Rattle.std.specs.Prelude.{◌≡◌, ◌↔◌, ℕ, true, List, [], Some, slice_get}
-use Rattle.xd_blocks.specs.Blocks.{Block, IsBlockOf, shown_text}
+use Rattle.xd_show_blocks.specs.Blocks.{Block, IsBlockOf, shown_text}
 use Rattle.xd_doc.specs.Document.{Document, is_proper}
 use Rattle.xd_prefer.specs.Preferred.{Prefers}
 use Rattle.xd_shown.specs.Shown.{defined_names}
@@ -9,9 +9,9 @@ use Rattle.xd_syntax.specs.Fits.{Fits}
 use Rattle.xd_syntax.specs.May.{MayBind}
 use Rattle.xd_syntax.specs.Program.{ProgramTree, names_of}
 use Rattle.xd_syntax.specs.Tree.{Tree, Name}
-use Rattle.xd_trees.specs.Means.{BytesSpellProgram}
+use Rattle.xd_parse_trees.specs.Means.{BytesSpellProgram}
 use Rattle.xd_variables.specs.Seen.{Gives, Reading, SeenVariable}
-use Rattle.xd_steps.specs.Output.{Output}
+use Rattle.xd_command_steps.specs.Output.{Output}
 use Rattle.xd_command.specs.Minus.{AnswersDifference}
 use Rattle.xd_command.specs.Subtype.{FitsAlone}
 

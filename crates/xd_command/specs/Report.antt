@@ -4,7 +4,7 @@ use Rattle.xd_doc.specs.Document.{Document}
 use Rattle.xd_syntax.specs.CheckFaults.{Line, dead_clause}
 use Rattle.xd_syntax.specs.declared.fault.Fault.{Fault}
 use Rattle.xd_syntax.specs.declared.fault.Warning.{Warning}
-use Rattle.xd_laws.specs.KeptLines.{IsFaultOf, IsWarningOf}
+use Rattle.xd_meaning.specs.KeptLines.{IsFaultOf, IsWarningOf}
 use Rattle.xd_report.specs.Report.{fault_text, warning_text}
 
 -- the text of a line: that of a fault with its document, or that of a warning

@@ -8,13 +8,13 @@ use Rattle.xd_syntax.specs.Fits.{Fits}
 use Rattle.xd_syntax.specs.May.{FitsResult}
 use Rattle.xd_syntax.specs.Program.{Parameter, FunctionDefinition, ProgramTree, names_of, function_of}
 use Rattle.xd_syntax.specs.CheckFaults.{Line, AreLines, faults_among, IsAccepted}
-use Rattle.xd_laws.specs.Meaning.{Done, Spent, meaning}
+use Rattle.xd_meaning.specs.Meaning.{Done, Spent, meaning}
 use Rattle.xd_syntax.specs.declared.fault.FaultKind.TheVariants.{NoMain}
-use Rattle.xd_steps.specs.Output.{Output, fault_lines, outside_input, fuel_spent, canonical}
+use Rattle.xd_command_steps.specs.Output.{Output, fault_lines, outside_input, fuel_spent, canonical}
 use Rattle.xd_command.specs.Report.{AreLineTexts}
-use Rattle.xd_steps.specs.Step.{Step}
-use Rattle.xd_steps.specs.Texts.{Holding}
-use Rattle.xd_steps.specs.Documents.{EndsAtDocument, IsDocument}
+use Rattle.xd_command_steps.specs.Step.{Step}
+use Rattle.xd_command_steps.specs.Texts.{Holding}
+use Rattle.xd_command_steps.specs.Documents.{EndsAtDocument, IsDocument}
 
 abbrev pub only_declared : List Parameter → Option Tree
 only_declared [] = None

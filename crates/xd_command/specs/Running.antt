@@ -4,7 +4,7 @@ use Rattle.xd_auto.specs.Automaton.{Automaton}
 use Rattle.xd_auto.specs.declared.auto.State.{State}
 use Rattle.xd_syntax.specs.Tree.{Tree, Definitions}
 use Rattle.xd_syntax.specs.Program.{ProgramTree, names_of}
-use Rattle.xd_command.specs.Fits.{IsAcceptor}
+use Rattle.xd_command.specs.FitsByState.{IsAcceptor}
 use Rattle.xd_command.specs.Run.{input_type}
 
 abbrev pub AcceptsInput : Definitions → Option Tree → Option (Automaton × State) → Type 0

@@ -1,7 +1,7 @@
 -- That `stream` and `fits` say yes of the same documents.
 use Rattle.std.specs.Prelude.{◌≡◌, ◌↔◌, ℕ, List, Some}
-use Rattle.xd_steps.specs.Output.{Output, yes}
-use Rattle.xd_steps.specs.Laws.{Texts}
+use Rattle.xd_command_steps.specs.Output.{Output, yes}
+use Rattle.xd_command_steps.specs.Laws.{Texts}
 use Rattle.xd_command.specs.declared.command.Command.TheVariants.{Fits, Stream}
 use Rattle.xd_command.specs.Answer.{Answers}
 

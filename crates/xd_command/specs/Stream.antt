@@ -2,14 +2,12 @@
 use Rattle.std.specs.Prelude.{◌≡◌, ◌⊎◌, ℕ, true, List}
 use Rattle.xd_base.specs.declared.Place.{Place}
 use Rattle.xd_doc.specs.Document.{Document}
-use Rattle.xd_auto.specs.Automaton.{Automaton}
-use Rattle.xd_auto.specs.declared.auto.State.{State}
-use Rattle.xd_stream.specs.Stop.{IsAccepted, SpellsOneOf, StopsMalformed, StopsOutside}
+use Rattle.xd_stream.specs.Stop.{SpellsOneOf, StopsMalformed, StopsOutside}
 use Rattle.xd_syntax.specs.Program.{ProgramTree, names_of}
 use Rattle.xd_syntax.specs.Sound.{is_defined, type_named}
-use Rattle.xd_steps.specs.Output.{Output, yes, malformed_document, outside_type}
-use Rattle.xd_steps.specs.Step.{Step}
-use Rattle.xd_steps.specs.Texts.{Holding, EndsAtText, IsText, document_limit}
+use Rattle.xd_command_steps.specs.Output.{Output, yes, malformed_document, outside_type}
+use Rattle.xd_command_steps.specs.Step.{Step}
+use Rattle.xd_command_steps.specs.Texts.{Holding, EndsAtText, IsText, document_limit}
 use Rattle.xd_command.specs.Fits.{EndsAtName, FitsType}
 
 -- The bytes spell a document of the set; or up to their first stop no document goes on, or none of the set.
@@ -25,9 +23,3 @@ abbrev pub AnswersStream : Holding → (rose : Type 0) → (name document : List
 AnswersStream holds rose name document P o =
     EndsAtName P name o
     ⊎ ((is_defined P name ≡ true) × Step (EndsAtText holds rose document document_limit) (IsText holds document document_limit) (AnswersBytes P name) o)
-
--- ---- of what follows only private contracts speak
-
--- the same by what the state accepts
-abbrev pub StreamsByState : Automaton → State → Holding → (rose : Type 0) → (document : List ℕ) → Output → Type 0
-StreamsByState a s holds rose document o = Step (EndsAtText holds rose document document_limit) (IsText holds document document_limit) (TellsStop (IsAccepted a s)) o

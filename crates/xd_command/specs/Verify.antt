@@ -1,14 +1,14 @@
 -- What `verify` and `upgrade` answer, behind the faults of the program.
 use Rattle.std.specs.Prelude.{◌≡◌, ◌⊎◌, ℕ, List, ◌∷◌, ◌++◌, codes}
 use Rattle.xd_syntax.specs.Program.{ProgramTree, names_of}
-use Rattle.xd_laws.specs.Consistent.{Claim, IsConsistent}
-use Rattle.xd_laws.specs.Breach.{Lined, Reason, goals_of, IsFirstBreach}
+use Rattle.xd_meaning.specs.Consistent.{Claim, IsConsistent}
+use Rattle.xd_meaning.specs.Breach.{Lined, Reason, goals_of, IsFirstBreach}
 use Rattle.xd_proof_write.specs.ClaimText.{claim_text}
 use Rattle.xd_proof_write.specs.SecondText.{second_text_of}
-use Rattle.xd_steps.specs.Output.{Output}
-use Rattle.xd_steps.specs.Proofs.{EndsAtProof, IsProof, bad_line}
-use Rattle.xd_steps.specs.Step.{Step}
-use Rattle.xd_steps.specs.Texts.{Holding}
+use Rattle.xd_command_steps.specs.Output.{Output}
+use Rattle.xd_command_steps.specs.Proofs.{EndsAtProof, IsProof, bad_line}
+use Rattle.xd_command_steps.specs.Step.{Step}
+use Rattle.xd_command_steps.specs.Texts.{Holding}
 
 -- the claim of a consistent proof, which holds
 pub record IsProved (P : ProgramTree) (goals : List Lined) (o : Output) : Type 0 where

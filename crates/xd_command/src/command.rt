@@ -4,15 +4,16 @@ ghost use Rattle.std.specs.Prelude.{◌≡◌, ◌<◌, ◌^◌, map, option_map
 ghost use Rattle.std.specs.String.{string_bytes};
 ghost use Rattle.xd_base.specs.Outside.{HasRisen};
 ghost use Rattle.xd_command.specs.Answer.{Answers};
-ghost use Rattle.xd_command.specs.Command.{CanRun, command_of, fuel_limit, number_within, of_four, of_one, of_three, of_two, piece_limit, sample_limit};
+ghost use Rattle.xd_command.specs.CanRun.{CanRun};
+ghost use Rattle.xd_command.specs.Command.{command_of, fuel_limit, number_within, of_four, of_one, of_three, of_two, piece_limit, sample_limit};
 ghost use Rattle.xd_command.specs.declared.command.Command.TheVariants as commands;
-ghost use Rattle.xd_steps.specs.Step.{DoesAll};
+ghost use Rattle.xd_command_steps.specs.DoneSteps.{DoesAll};
 
 use std::alloc::Global;
 use std::marker::Model;
 use xd_base::Shelf;
-use xd_proof_form::read_number;
-use xd_steps::{Output, Stop};
+use xd_command_steps::{Output, Stop};
+use xd_proof::read_number;
 use xd_variables::Ways;
 
 mod check;

@@ -7,12 +7,12 @@ ghost use Rattle.xd_base.specs.Outside.{HasRisen};
 ghost use Rattle.xd_command.specs.Answer.{IsAnswer};
 ghost use Rattle.xd_command.specs.Command.{command_of};
 ghost use Rattle.xd_command.specs.Outcome.{IsOutcome};
-ghost use Rattle.xd_steps.specs.Step.{DoesAll};
+ghost use Rattle.xd_command_steps.specs.DoneSteps.{DoesAll};
 
 use crate::command::Command;
 use std::alloc::Global;
 use xd_base::{Shelf, Sink};
-use xd_steps::{Output, Stop};
+use xd_command_steps::{Output, Stop};
 
 pub mod agreement;
 mod command;
@@ -20,7 +20,7 @@ pub mod laws;
 mod membership;
 
 pub use command::sample_document;
-pub use xd_steps::Status;
+pub use xd_command_steps::Status;
 
 /// What the words ask for, made in memory.
 fn answer<H: Shelf>(alloc: Global, words: &[String], shelf: &mut H) -> Result<Output, Stop>

@@ -6,12 +6,11 @@ ghost use Rattle.xd_doc.specs.Stored.{BelongsTo, document_at};
 ghost use Rattle.xd_syntax.specs.Kept.{AddsTypes, program_tree};
 ghost use Rattle.xd_syntax.specs.Program.{names_of};
 ghost use Rattle.xd_syntax.specs.Types as types;
-ghost use Rattle.xd_command.specs.Fits.{IsAcceptor};
+ghost use Rattle.xd_command.specs.FitsByState.{IsAcceptor};
 
 use std::alloc::Global;
-use xd_auto::{Auto, State};
+use xd_auto::{Auto, Scratch, State, member};
 use xd_doc::{NoMemory, Seq, Store};
-use xd_member::{Scratch, member};
 use xd_patterns::PatternCompiler;
 use xd_sound::SoundProgram;
 use xd_syntax::TypeId;

@@ -2,7 +2,7 @@ use Rattle.std.proofs.Common.{◌≡◌, ℕ, Bool, true, false, ◌||◌, List,
 use Rattle.std.specs.Str.{bytes_eq}
 use Rattle.std.proofs.lemmas.Slice.Eq.{bytes_eq-Decides}
 use Rattle.xd_doc.specs.Classes.{TextClass, is_named}
-use Rattle.xd_laws.specs.Heads.{all_texts}
+use Rattle.xd_meaning.specs.Heads.{all_texts}
 
 -- a class that excepts no text has all
 pub names_none : (c : TextClass) → ((t : List ℕ) → is_named c.names t ≡ is_named [] t) → c.except ≡ true → c ≡ all_texts

@@ -11,7 +11,7 @@ use Rattle.xd_continuations.specs.Bounds.{lists_within}
 use Rattle.xd_continuations.specs.Chains.{lists_after, lists_in, list_at, AreLinksAfter, AreLinks, HasLink, KeepsLinks, room}
 use Rattle.xd_continuations.specs.declared.links.Link.{Link}
 use Rattle.xd_continuations.proofs.MoveLemmas.{all_append}
-use Rattle.xd_continuations.proofs.Reaching.{all_among, among_lists}
+use Rattle.xd_continuations.proofs.FiniteLemmas.{all_among, among_lists}
 
 pub get_among : {A : Type 0} (d : A) (xs : List A) (i : ℕ) → i < length xs → Among (get_or xs i d) xs
 get_among d [] i h = absurd (omega arith)

@@ -3,8 +3,8 @@ use Rattle.std.proofs.Common.{◌≡◌, ℕ, zero, suc, Bool, true, false, cond
 use Rattle.std.specs.Str.{bytes_eq}
 use Rattle.std.specs.List.{AllByRecursion}
 use Rattle.xd_syntax.specs.Tree.{Tree, Empty, Text, Words, Name, Elem, Seq, Alt, Star, Plus, Opt, Val, Definitions, body, seq_of, is_empty}
-use Rattle.xd_laws.specs.Heads.{Head, element_in, pieces, with_behind, heads_by, heads_of_name, heads_of_definition, heads}
-use Rattle.xd_laws.specs.CanBeEmpty.{can_be_empty}
+use Rattle.xd_meaning.specs.Heads.{Head, element_in, pieces, with_behind, heads_by, heads_of_name, heads_of_definition, heads}
+use Rattle.xd_meaning.specs.CanBeEmpty.{can_be_empty}
 use Rattle.xd_continuations.specs.Continuation.{Move, followed, moves_by, definition_within, name_within, moves_within, moves_along, moves, head_of, is_piece, IsMerged, AreMerged, IsPiece, IsContinuation}
 
 -- ---- lists

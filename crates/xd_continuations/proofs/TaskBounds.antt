@@ -2,14 +2,14 @@
 use Rattle.std.proofs.Common.{◌≡◌, ℕ, Bool, List, [], ◌∷◌, map, Option, Some, None, refl, sym, subst, append-nil}
 use Rattle.std.specs.List.{AllByRecursion}
 use Rattle.xd_syntax.specs.Tree.{Tree, Empty, Text, Words, Name, Elem, Seq, Alt, Star, Plus, Opt, Val, Definitions, body}
-use Rattle.xd_laws.specs.Heads.{pieces}
-use Rattle.xd_laws.specs.CanBeEmpty.{can_be_empty}
+use Rattle.xd_meaning.specs.Heads.{pieces}
+use Rattle.xd_meaning.specs.CanBeEmpty.{can_be_empty}
 use Rattle.xd_continuations.specs.TailUses.{RecursOnlyInTail}
 use Rattle.xd_continuations.specs.Bounds.{NoneLarger, IsBounded}
 use Rattle.xd_continuations.specs.Expansion.{task, in_front, options, definition_task, tasks_left, tasks_of}
 use Rattle.xd_continuations.specs.Laws.{IsBoundedTask}
 use Rattle.xd_continuations.proofs.MoveLemmas.{all_cond}
-use Rattle.xd_continuations.proofs.Bounding.{bounded_rest, bounded_seq, bounded_seq_rest, bounded_alt, bounded_alt_rest, bounded_star, bounded_plus, bounded_opt, bounded_val, bounded_name}
+use Rattle.xd_continuations.proofs.IsBoundedLemmas.{bounded_rest, bounded_seq, bounded_seq_rest, bounded_alt, bounded_alt_rest, bounded_star, bounded_plus, bounded_opt, bounded_val, bounded_name}
 
 module _ (E : Definitions) (m : ℕ) where
   front_bounded : (Z : Tree → Bool) (T : Tree) (K : List Tree) → IsBounded E m (T ∷ K) → AllByRecursion (IsBoundedTask E m) (in_front Z (pieces T) K)

@@ -3,7 +3,8 @@ use Rattle.std.proofs.Common.{[], sym, subst, ◌∙◌, append-nil}
 use Rattle.xd_syntax.specs.Tree.{seq_of}
 use Rattle.xd_syntax.specs.Fits.{Fits}
 use Rattle.xd_syntax.specs.Ways.{Among}
-use Rattle.xd_laws.specs.Heads.{pieces, Begins}
+use Rattle.xd_meaning.specs.Heads.{pieces}
+use Rattle.xd_meaning.specs.HeadBegins.{Begins}
 use Rattle.xd_syntax.specs.Program.{names_of}
 use Rattle.xd_laws.proofs.Documents.{filled}
 use Rattle.xd_syntax.proofs.Members.{map_mem, mem_map}
@@ -13,14 +14,14 @@ use Rattle.xd_continuations.specs.Continuation.{Move, moves, head_of, IsContinua
 use Rattle.xd_continuations.specs.Bounds.{IsBounded}
 use Rattle.xd_continuations.specs.Expansion.{tasks_of, Gives}
 use Rattle.xd_continuations.specs.Laws.{PiecesMean, MeaningsAreOne, MovesAreHeads, MovesContinue, MovesDecide, SoundRecursInTail, FinitelyMany, BoundsStayInSound, BoundsGrow, TasksStand, TasksStep, TasksGive, StatesAccept, ProgramsAreMerged}
-use Rattle.xd_continuations.proofs.Mirroring.{mirrors_accept}
-use Rattle.xd_continuations.proofs.Merging.{program_merged}
+use Rattle.xd_continuations.proofs.AreMirroredLemmas.{mirrors_accept}
+use Rattle.xd_continuations.proofs.IsMergedLemmas.{program_merged}
 use Rattle.xd_continuations.proofs.MoveLemmas.{pieces_stand, pieces-seq_of, seq_of-pieces, IsMove, moves_are_heads, moves_continue}
-use Rattle.xd_continuations.proofs.Bounding.{bounded_larger, bounded_length, bounded_rest, bounded_pieces, bounded_start}
-use Rattle.xd_continuations.proofs.Reaching.{all_same, finitely_many}
+use Rattle.xd_continuations.proofs.IsBoundedLemmas.{bounded_larger, bounded_length, bounded_rest, bounded_pieces, bounded_start}
+use Rattle.xd_continuations.proofs.FiniteLemmas.{all_same, finitely_many}
 use Rattle.xd_continuations.proofs.SoundTail.{recurs_only_in_tail}
 use Rattle.xd_continuations.proofs.TaskBounds.{along_bounded, left_bounded}
-use Rattle.xd_continuations.proofs.Expanding.{tasks_stand, step_gives, step_falls, gives_moves, all_worked}
+use Rattle.xd_continuations.proofs.TaskLemmas.{tasks_stand, step_gives, step_falls, gives_moves, all_worked}
 
 pub pieces_mean : PiecesMean
 pieces_mean T m = (pieces_stand T m, seq_of-pieces T m)

@@ -4,7 +4,7 @@ use Rattle.std.specs.List.{AllByRecursion}
 use Rattle.xd_syntax.specs.Words.{has_word}
 use Rattle.xd_syntax.specs.Tree.{Tree, Empty, Text, Words, Name, Elem, Seq, Alt, Star, Plus, Opt, Val, Definitions, body}
 use Rattle.xd_syntax.specs.Ways.{Among}
-use Rattle.xd_laws.specs.Heads.{pieces}
+use Rattle.xd_meaning.specs.Heads.{pieces}
 use Rattle.xd_continuations.specs.Continuation.{Move, moves}
 use Rattle.xd_continuations.specs.TailUses.{top_names}
 

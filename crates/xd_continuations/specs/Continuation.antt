@@ -3,8 +3,8 @@ use Rattle.std.specs.Prelude.{◌≡◌, ℕ, zero, suc, Bool, true, false, cond
 use Rattle.std.specs.List.{AllByRecursion}
 use Rattle.xd_doc.specs.Classes.{LabelClass, TextClass}
 use Rattle.xd_syntax.specs.Tree.{Tree, Empty, Text, Words, Name, Elem, Seq, Alt, Star, Plus, Opt, Val, Definitions, body, seq_of, is_empty}
-use Rattle.xd_laws.specs.Heads.{Head, HeadKind, element_in, text_in, pieces, all_texts}
-use Rattle.xd_laws.specs.CanBeEmpty.{can_be_empty}
+use Rattle.xd_meaning.specs.Heads.{Head, HeadKind, element_in, text_in, pieces, all_texts}
+use Rattle.xd_meaning.specs.CanBeEmpty.{can_be_empty}
 
 -- a head, with its content and its rest as continuations; the content of a text is empty
 pub record Move : Type 0 where

@@ -1,8 +1,8 @@
 -- The moves of a continuation by a stack of tasks: in each a type, and the continuation behind it.
 use Rattle.std.specs.Prelude.{ℕ, ◌+◌, Bool, cond, List, [], ◌∷◌, ◌++◌, map, flat_map, length, Option, Some, None}
 use Rattle.xd_syntax.specs.Tree.{Tree, Empty, Text, Words, Name, Elem, Seq, Alt, Star, Plus, Opt, Val, Definitions, body}
-use Rattle.xd_laws.specs.Heads.{pieces, all_texts}
-use Rattle.xd_laws.specs.CanBeEmpty.{can_be_empty}
+use Rattle.xd_meaning.specs.Heads.{pieces, all_texts}
+use Rattle.xd_meaning.specs.CanBeEmpty.{can_be_empty}
 use Rattle.xd_continuations.specs.Continuation.{Move, followed, text_move, label_move, name_within, moves_within}
 
 pub record Task : Type 0 where

@@ -5,7 +5,8 @@ use Rattle.xd_doc.specs.Document.{Document, has_item}
 use Rattle.xd_syntax.specs.Tree.{Tree, Definitions, seq_of}
 use Rattle.xd_syntax.specs.Fits.{Fits}
 use Rattle.xd_syntax.specs.Ways.{Among}
-use Rattle.xd_laws.specs.Heads.{pieces, heads, Begins}
+use Rattle.xd_meaning.specs.Heads.{pieces, heads}
+use Rattle.xd_meaning.specs.HeadBegins.{Begins}
 use Rattle.xd_syntax.specs.Program.{ProgramTree, names_of}
 use Rattle.xd_syntax.specs.RecursionFaults.{IsSound}
 use Rattle.xd_syntax.specs.Table.{AreBuilt}

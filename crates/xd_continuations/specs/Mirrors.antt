@@ -1,12 +1,12 @@
 -- Automata whose states have continuations, and the moves of these.
 use Rattle.std.specs.Prelude.{◌≡◌, List, [], ◌∷◌, Option, Some}
 use Rattle.xd_syntax.specs.Tree.{Tree, Definitions, seq_of}
-use Rattle.xd_laws.specs.CanBeEmpty.{can_be_empty}
+use Rattle.xd_meaning.specs.CanBeEmpty.{can_be_empty}
 use Rattle.xd_auto.specs.Automaton.{Automaton, IsState, moves_at}
 use Rattle.xd_auto.specs.declared.auto.State.{State}
 use Rattle.xd_auto.specs.declared.auto.LabelMove.{LabelMove}
 use Rattle.xd_auto.specs.declared.auto.TextMove.{TextMove}
-use Rattle.xd_laws.specs.Heads.{element_in, text_in}
+use Rattle.xd_meaning.specs.Heads.{element_in, text_in}
 use Rattle.xd_continuations.specs.Continuation.{Move, moves, IsContinuation}
 
 -- the continuation of a state, where it has one

@@ -2,8 +2,8 @@
 
 ghost use Rattle.std.specs.Prelude.{◌≡◌, IfOk};
 ghost use Rattle.xd_syntax.specs.Kept.{AddsTypes, program_tree};
-ghost use Rattle.xd_syntax.specs.Shallow.{IsShallow};
-ghost use Rattle.xd_syntax.specs.Sound.{IsTypeAt};
+ghost use Rattle.xd_syntax.specs.ShallowTables.{IsShallow};
+ghost use Rattle.xd_syntax.specs.SoundTables.{IsTypeAt};
 ghost use Rattle.xd_syntax.specs.Tree.{any_type};
 ghost use Rattle.xd_syntax.specs.Types.{BelongsTo, tree};
 

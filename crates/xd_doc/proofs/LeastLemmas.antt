@@ -2,7 +2,8 @@
 use Rattle.std.proofs.Common.{ℕ, ◌<◌, ◌≤◌, min, inl, inr, arith}
 use Rattle.std.proofs.lemmas.Bool.{cases_lt}
 use Rattle.xd_doc.specs.Document.{Document, size}
-use Rattle.xd_doc.specs.Least.{IsLeast, IsLeastBy, IsLeastUpTo, size_up_to}
+use Rattle.xd_doc.specs.Least.{IsLeast, IsLeastBy}
+use Rattle.xd_doc.specs.LeastUpTo.{IsLeastUpTo, size_up_to}
 
 min_below : (n m l : ℕ) → n ≤ m → min n l ≤ min m l
 min_below n m l le = omega arith

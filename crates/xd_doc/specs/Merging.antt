@@ -4,7 +4,7 @@ use Rattle.std.specs.declared.cmp.Ordering.{Ordering}
 use Rattle.std.specs.declared.cmp.Ordering.TheVariants.{Less, Equal}
 use Rattle.std.specs.List.Sorted.{IsStrictlySortedBy}
 use Rattle.std.specs.List.{list_any, AllByRecursion}
-use Rattle.xd_doc.specs.Classes.{AreClassNames}
+use Rattle.xd_doc.specs.ClassForms.{AreClassNames}
 use Rattle.xd_doc.specs.declared.names.Names.{Names}
 
 -- the names of a list are all above this one

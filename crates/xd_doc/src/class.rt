@@ -1,7 +1,8 @@
 //! Classes of labels.
 
 ghost use Rattle.std.specs.Prelude.{◌≡◌, ◌<◌, ◌⊎◌, List, ℕ, true, false, IfOk, IfSome, vec_len};
-ghost use Rattle.xd_doc.specs.Classes.{HasLabel, IsClass, IsPart, class_has, is_named};
+ghost use Rattle.xd_doc.specs.ClassForms.{HasLabel, IsClass, IsPart};
+ghost use Rattle.xd_doc.specs.Classes.{class_has, is_named};
 
 use crate::error::NoMemory;
 use crate::label::Label;
@@ -18,7 +19,8 @@ pub struct Class {
 }
 
 impl Model for Class {
-    ghost use Rattle.xd_doc.specs.Classes.{LabelClass, IsClass};
+    ghost use Rattle.xd_doc.specs.Classes.{LabelClass};
+    ghost use Rattle.xd_doc.specs.ClassForms.{IsClass};
 
     ghost Value = { LabelClass };
 

@@ -1,7 +1,8 @@
 //! Links between nodes.
 
 ghost use Rattle.std.specs.Prelude.{◌≡◌, ◌-◌, ◌^◌};
-ghost use Rattle.xd_doc.specs.Stored.{IsBelow, no_items};
+ghost use Rattle.xd_doc.specs.Stored.{IsBelow};
+ghost use Rattle.xd_doc.specs.StoreNodes.{no_items};
 
 use crate::store::Seq;
 use std::marker::Model;

@@ -3,7 +3,7 @@
 ghost use Rattle.std.specs.Prelude.{◌≡◌, ◌<◌, ◌⊎◌, [], Bool, true, not, cond, drop, length, None, IfOk, IfSome, vec_len};
 ghost use Rattle.std.specs.List.{list_any};
 ghost use Rattle.std.specs.List.Sorted.{IsStrictlySortedBy};
-ghost use Rattle.xd_doc.specs.Classes.{AreClassNames};
+ghost use Rattle.xd_doc.specs.ClassForms.{AreClassNames};
 ghost use Rattle.xd_doc.specs.Merging.{IsCommon, IsMerged, IsNext, is_kept};
 
 use crate::error::NoMemory;

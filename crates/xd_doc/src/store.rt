@@ -5,8 +5,10 @@ ghost use Rattle.std.specs.BinaryHeap.{KeepsHeap, heap_items};
 ghost use Rattle.std.specs.List.Sorted.{IsPermutation};
 ghost use Rattle.std.specs.Option.{option_copied, option_to_list};
 ghost use Rattle.std.specs.Ordering.{nat_cmp};
-ghost use Rattle.xd_doc.specs.Document.{Document, empty, text as text_before, element, rest_of, content_of, is_proper, has_item, first_then, join, size, breadth};
-ghost use Rattle.xd_doc.specs.Stored.{IsLinked, IsBare, at_node, documents, AreLinked, IsBelow, IsMet, AreClosed, item_before, copy_at, IsSpine, node_document, no_items, place_in_store, is_proper_item, document_at, BelongsTo, Keeps, IsOlder, first_of_document, joined_at, breadth_before_last};
+ghost use Rattle.xd_doc.specs.Document.{Document, empty, text as text_before, element, is_proper, has_item, join, size};
+ghost use Rattle.xd_doc.specs.DocumentCode.{rest_of, content_of, first_then, breadth};
+ghost use Rattle.xd_doc.specs.StoreNodes.{IsLinked, IsBare, documents, AreLinked, IsMet, AreClosed, item_before, copy_at, IsSpine, node_document, no_items, place_in_store, is_proper_item, Keeps, IsOlder, first_of_document, joined_at, breadth_before_last};
+ghost use Rattle.xd_doc.specs.Stored.{at_node, IsBelow, document_at, BelongsTo};
 ghost use Rattle.std.specs.List.{AllByRecursion};
 
 use crate::error::NoMemory;
@@ -57,7 +59,8 @@ pub struct Store {
 
 impl Model for Store {
     ghost use Rattle.std.specs.Prelude.{List, []};
-    ghost use Rattle.xd_doc.specs.Document.{Document, document_code};
+    ghost use Rattle.xd_doc.specs.Document.{Document};
+    ghost use Rattle.xd_doc.specs.DocumentCode.{document_code};
 
     ghost Value = { List Document };
 
@@ -65,7 +68,7 @@ impl Model for Store {
 
     ghost coded = { coded_list document_code };
 
-    ghost use Rattle.xd_doc.specs.Stored.{documents, AreLinked};
+    ghost use Rattle.xd_doc.specs.StoreNodes.{documents, AreLinked};
 
     ghost view = { λ s. documents s.nodes.items };
 

@@ -1,7 +1,8 @@
 //! Classes of texts.
 
 ghost use Rattle.std.specs.Prelude.{◌≡◌, ◌<◌, ◌⊎◌, List, ℕ, true, false, IfOk, IfSome, vec_len};
-ghost use Rattle.xd_doc.specs.Classes.{HasText, IsPart, IsTextClass, class_has, is_named};
+ghost use Rattle.xd_doc.specs.ClassForms.{HasText, IsPart, IsTextClass};
+ghost use Rattle.xd_doc.specs.Classes.{class_has, is_named};
 
 use crate::error::NoMemory;
 use crate::names::Names;
@@ -18,7 +19,8 @@ pub struct Words {
 }
 
 impl Model for Words {
-    ghost use Rattle.xd_doc.specs.Classes.{TextClass, IsTextClass};
+    ghost use Rattle.xd_doc.specs.Classes.{TextClass};
+    ghost use Rattle.xd_doc.specs.ClassForms.{IsTextClass};
 
     ghost Value = { TextClass };
 

@@ -8,7 +8,7 @@ use Rattle.xd_doc.specs.declared.store.Seq.{Seq}
 use Rattle.xd_auto.specs.declared.auto.State.{State}
 use Rattle.xd_auto.specs.Automaton.{Automaton, Extends, IsClosed, KeepsAccepting, LeadsBelow, accepts, moves_at, no_moves, state_number}
 use Rattle.xd_auto.proofs.Closed.{moves_at-closed}
-use Rattle.xd_auto.proofs.Extending.{keeps}
+use Rattle.xd_auto.proofs.ExtendsLemmas.{keeps}
 use Rattle.xd_empty.specs.Inhabited.{AreInhabitants, IsFound, Starts}
 use Rattle.xd_empty.specs.Known.{Knows, StaysKnown}
 use Rattle.xd_empty.proofs.SearchLemmas.{outside_accepts, witness_keeps}

@@ -9,7 +9,8 @@ use Rattle.std.proofs.lemmas.List.Folds.{list_any_none, list_any_at}
 use Rattle.std.proofs.lemmas.List.Sums.{sum_by-set}
 use Rattle.std.proofs.lemmas.Option.{slice_get-get_or}
 use Rattle.xd_doc.specs.Document.{Document, empty, text, element}
-use Rattle.xd_doc.specs.Stored.{BelongsTo, Keeps, document_at, no_items}
+use Rattle.xd_doc.specs.Stored.{BelongsTo, document_at}
+use Rattle.xd_doc.specs.StoreNodes.{Keeps, no_items}
 use Rattle.xd_doc.specs.Classes.{class_has}
 use Rattle.xd_doc.specs.declared.store.Seq.{Seq}
 use Rattle.xd_auto.specs.declared.auto.State.{State}

@@ -1,7 +1,7 @@
 -- What is known of the states of an automaton that only grows.
 use Rattle.std.specs.Prelude.{◌≡◌, ◌<◌, ◌≤◌, false, Option, None, List, length, slice_index_or}
 use Rattle.xd_doc.specs.Document.{Document}
-use Rattle.xd_doc.specs.Stored.{Keeps}
+use Rattle.xd_doc.specs.StoreNodes.{Keeps}
 use Rattle.xd_doc.specs.declared.store.Seq.{Seq}
 use Rattle.xd_auto.specs.declared.auto.State.{State}
 use Rattle.xd_auto.specs.Automaton.{Automaton, Extends, LeadsBelow, accepts, moves_at, state_number}

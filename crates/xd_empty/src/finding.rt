@@ -2,7 +2,7 @@
 
 ghost use Rattle.std.specs.Prelude.{◌≡◌, ◌<◌, ◌≤◌, ◌+◌, ◌++◌, ◌∷◌, None, Some, Ok, List, IfOk, IfSome, OnOk, [], length, slice_set, take};
 ghost use Rattle.xd_doc.specs.Document.{Document};
-ghost use Rattle.xd_doc.specs.Stored.{Keeps};
+ghost use Rattle.xd_doc.specs.StoreNodes.{Keeps};
 ghost use Rattle.xd_auto.specs.Automaton.{state_number};
 ghost use Rattle.xd_empty.specs.Inhabited.{AreInhabitants, AreWitnesses, IsFound, IsWitness, LacksOne, Searching, Starts, steps_in};
 ghost use Rattle.xd_empty.specs.Known.{Knows};

@@ -2,7 +2,8 @@
 
 ghost use Rattle.std.specs.Prelude.{◌≡◌, true, false, None, Ok, IfOk, IfSome};
 ghost use Rattle.xd_doc.specs.Document.{Document};
-ghost use Rattle.xd_doc.specs.Stored.{document_at, BelongsTo, Keeps};
+ghost use Rattle.xd_doc.specs.Stored.{document_at, BelongsTo};
+ghost use Rattle.xd_doc.specs.StoreNodes.{Keeps};
 ghost use Rattle.xd_auto.specs.Automaton.{accepts, IsState};
 ghost use Rattle.xd_empty.specs.Inhabited.{AreInhabitants};
 

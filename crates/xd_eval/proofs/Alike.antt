@@ -6,7 +6,7 @@ use Rattle.xd_syntax.specs.Tree.{Tree}
 use Rattle.xd_syntax.specs.Placed.{unplaced}
 use Rattle.xd_syntax.specs.Expression.{Expression, Nothing, Quoted, Variable, Tagged, Joined, Called, Matched, Arguments, no_argument, argument, Clauses, no_clause, clause}
 use Rattle.xd_syntax.specs.Program.{FunctionDefinition, ProgramTree, function_of}
-use Rattle.xd_laws.specs.Meaning.{Outcome, Done, Environment, Matcher, looked_up, and_then, done_or_stuck, or_else, bound, value_by, values_by, chosen_by, body_by, call_within}
+use Rattle.xd_meaning.specs.Meaning.{Outcome, Done, Environment, Matcher, looked_up, and_then, done_or_stuck, or_else, bound, value_by, values_by, chosen_by, body_by, call_within}
 use Rattle.xd_eval.specs.Waiting.{Caller}
 use Rattle.xd_eval.proofs.Outcomes.{then_same}
 

@@ -6,11 +6,11 @@ use Rattle.std.specs.List.{AllByRecursion}
 use Rattle.xd_doc.specs.Document.{Document}
 use Rattle.xd_doc.specs.Stored.{BelongsTo, document_at}
 use Rattle.xd_doc.specs.declared.store.Seq.{Seq}
-use Rattle.xd_syntax.specs.Expression.{shape_at}
+use Rattle.xd_syntax.specs.ExpressionTable.{shape_at}
 use Rattle.xd_syntax.specs.FunctionRow.{FunctionRow}
 use Rattle.xd_syntax.specs.Program.{function_of}
 use Rattle.xd_syntax.specs.Kept.{ProgramTable, program_tree, function_definition}
-use Rattle.xd_laws.specs.Meaning.{Stuck, and_then, value_by, body_by}
+use Rattle.xd_meaning.specs.Meaning.{Stuck, and_then, value_by, body_by}
 use Rattle.xd_eval.specs.Waiting.{resumed}
 use Rattle.xd_eval.specs.Functions.{row_of}
 use Rattle.xd_eval.specs.Machine.{IsRunnable, environment_in, function_named, expression_in, all_waiting, ScopeStands, HasOneMore, HasNoneLeft, FramesStand, matcher, caller, outcome, most_steps, Leads, bound_seqs}
@@ -20,7 +20,7 @@ use Rattle.xd_eval.specs.declared.frame.Frame.{Frame}
 use Rattle.xd_eval.specs.declared.frame.Frame.TheVariants.{Call}
 use Rattle.xd_eval.specs.declared.frame.Control.TheVariants.{Evaluate, Give}
 use Rattle.xd_eval.proofs.Calls.{call_body}
-use Rattle.xd_eval.proofs.Naming.{named}
+use Rattle.xd_eval.proofs.FunctionRowLemmas.{named}
 use Rattle.xd_eval.proofs.Resumed.{ends_call, call_steps, bound_environment, bound_stands, body_steps}
 
 -- a call, by its function's row

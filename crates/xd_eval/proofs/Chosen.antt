@@ -1,11 +1,12 @@
 -- An element whose content has its value, and a match whose scrutinee has.
 use Rattle.std.proofs.Common.{◌≡◌, ℕ, ◌+◌, ◌*◌, arith, List, [], ◌∷◌, ◌++◌, ap, sym, ◌∙◌}
 use Rattle.xd_doc.specs.Document.{Document, element, empty}
-use Rattle.xd_doc.specs.Stored.{BelongsTo, Keeps, document_at}
+use Rattle.xd_doc.specs.Stored.{BelongsTo, document_at}
+use Rattle.xd_doc.specs.StoreNodes.{Keeps}
 use Rattle.xd_doc.specs.declared.store.Seq.{Seq}
-use Rattle.xd_syntax.specs.Expression.{shape_at}
+use Rattle.xd_syntax.specs.ExpressionTable.{shape_at}
 use Rattle.xd_syntax.specs.Kept.{ProgramTable, program_tree}
-use Rattle.xd_laws.specs.Meaning.{and_then, value_by}
+use Rattle.xd_meaning.specs.Meaning.{and_then, value_by}
 use Rattle.xd_syntax.specs.declared.exprs.ExprId.{ExprId}
 use Rattle.xd_eval.specs.Waiting.{resumed, all_steps}
 use Rattle.xd_eval.specs.Machine.{environment_in, expression_in, all_waiting, clause_numbers_of, FramesStand, matcher, caller, most_steps, Leads, IsStep, IsChosen}

@@ -4,12 +4,14 @@ use Rattle.std.specs.List.{AllByRecursion}
 use Rattle.std.specs.Str.{bytes_eq}
 use Rattle.xd_base.specs.declared.Place.{Place}
 use Rattle.xd_doc.specs.Document.{Document, empty, text}
-use Rattle.xd_doc.specs.Stored.{BelongsTo, Keeps, document_at}
+use Rattle.xd_doc.specs.Stored.{BelongsTo, document_at}
+use Rattle.xd_doc.specs.StoreNodes.{Keeps}
 use Rattle.xd_doc.specs.declared.store.Seq.{Seq}
 use Rattle.xd_doc.proofs.Lists.{all_append}
-use Rattle.xd_syntax.specs.Expression.{Expression, Quoted, Variable, Called, Matched, ExprShape, seq_shape, call_shape, match_shape, joined, arguments_of, place_of_expression, shape_at}
+use Rattle.xd_syntax.specs.Expression.{Expression, Quoted, Variable, Called, Matched, joined, arguments_of, place_of_expression}
+use Rattle.xd_syntax.specs.ExpressionTable.{ExprShape, seq_shape, call_shape, match_shape, shape_at}
 use Rattle.xd_syntax.specs.Kept.{ProgramTable, program_tree}
-use Rattle.xd_laws.specs.Meaning.{Outcome, looked_up, done_or_stuck, and_then, value_by}
+use Rattle.xd_meaning.specs.Meaning.{Outcome, looked_up, done_or_stuck, and_then, value_by}
 use Rattle.xd_syntax.specs.declared.exprs.ExprId.{ExprId}
 use Rattle.xd_eval.specs.Waiting.{Waiting, in_sequence, in_call, in_match, resumed, steps, argument_steps, waiting_steps, all_steps}
 use Rattle.xd_eval.specs.Machine.{IsRunnable, environment_in, parts_of, function_named, clause_numbers_of, expression_in, clauses_in, before, after, waiting_of, all_waiting, ScopeStands, IsSequence, IsCall, PartsStand, FrameStands, FramesStand, matcher, caller, most_steps, IsStep, found_in, given, IsFound}
@@ -17,7 +19,7 @@ use Rattle.xd_eval.specs.declared.frame.Parts.{Parts}
 use Rattle.xd_eval.specs.declared.frame.Frame.{Frame}
 use Rattle.xd_eval.specs.declared.frame.Frame.TheVariants.{Sequence, Call, Match}
 use Rattle.xd_eval.specs.declared.frame.Control.TheVariants.{Evaluate}
-use Rattle.xd_eval.proofs.Stepping.{sequence_step, call_step, match_step}
+use Rattle.xd_eval.proofs.OutcomeLemmas.{sequence_step, call_step, match_step}
 use Rattle.xd_eval.proofs.Waits.{all_kept, waiting_more}
 use Rattle.xd_eval.specs.declared.frame.Scope.{Scope}
 

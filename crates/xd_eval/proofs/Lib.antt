@@ -1,13 +1,13 @@
 pub mod Outcomes
-pub mod Stepping
+pub mod OutcomeLemmas
 pub mod Calls
 pub mod Alike
-pub mod Naming
+pub mod FunctionRowLemmas
 pub mod Shapes
 pub mod Waits
 pub mod Entered
 pub mod Resumed
 pub mod Called
 pub mod Chosen
-pub mod Choosing
-pub mod Running
+pub mod ClausesStandLemmas
+pub mod AcceptedLemmas

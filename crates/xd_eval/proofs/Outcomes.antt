@@ -1,6 +1,6 @@
 -- On outcomes in a row.
 use Rattle.std.proofs.Common.{◌≡◌, ℕ, refl}
-use Rattle.xd_laws.specs.Meaning.{Outcome, Done, Spent, Stuck, and_then}
+use Rattle.xd_meaning.specs.Meaning.{Outcome, Done, Spent, Stuck, and_then}
 
 pub then_then : {A B C : Type 0} (o : Outcome A) (f : A → ℕ → Outcome B) (g : B → ℕ → Outcome C) →
     and_then (and_then o f) g ≡ and_then o (λ a m. and_then (f a m) g)

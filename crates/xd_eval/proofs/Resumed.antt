@@ -5,10 +5,11 @@ use Rattle.std.specs.Option.{IfSome}
 use Rattle.std.specs.Str.{bytes_eq}
 use Rattle.std.proofs.lemmas.List.{drop_more, drop_all, map-append}
 use Rattle.xd_doc.specs.Document.{Document, join}
-use Rattle.xd_doc.specs.Stored.{BelongsTo, Keeps, document_at, joined_at}
+use Rattle.xd_doc.specs.Stored.{BelongsTo, document_at}
+use Rattle.xd_doc.specs.StoreNodes.{Keeps, joined_at}
 use Rattle.xd_doc.specs.declared.store.Seq.{Seq}
 use Rattle.xd_doc.proofs.Lists.{all_append, all_at}
-use Rattle.xd_syntax.specs.Expression.{ExprRow, shape_at}
+use Rattle.xd_syntax.specs.ExpressionTable.{ExprRow, shape_at}
 use Rattle.xd_syntax.specs.FunctionRow.{FunctionRow}
 use Rattle.xd_syntax.specs.Table.{Row}
 use Rattle.xd_syntax.specs.Program.{FunctionDefinition, function_of}
@@ -16,8 +17,8 @@ use Rattle.xd_syntax.specs.Kept.{ProgramTable, ProgramStands, FunctionStands, pr
 use Rattle.xd_syntax.specs.Ways.{Among}
 use Rattle.xd_syntax.specs.RecursionFaults.{IsSound}
 use Rattle.xd_syntax.proofs.Members.{map_mem}
-use Rattle.xd_runs.proofs.ClausesLaw.{clauses_are_linear}
-use Rattle.xd_laws.specs.Meaning.{Environment, and_then, value_by, bound}
+use Rattle.xd_pattern_runs.proofs.ClausesLaw.{clauses_are_linear}
+use Rattle.xd_meaning.specs.Meaning.{Environment, and_then, value_by, bound}
 use Rattle.xd_syntax.specs.Exprs.{expr_numbers}
 use Rattle.xd_syntax.specs.declared.exprs.ExprId.{ExprId}
 use Rattle.xd_syntax.specs.declared.program.Param.{Param}
@@ -29,7 +30,7 @@ use Rattle.xd_eval.specs.declared.frame.Scope.{Scope}
 use Rattle.xd_eval.specs.declared.frame.Frame.{Frame}
 use Rattle.xd_eval.specs.declared.frame.Frame.TheVariants.{Sequence, Call}
 use Rattle.xd_eval.specs.declared.frame.Control.TheVariants.{Evaluate, Give}
-use Rattle.xd_eval.proofs.Stepping.{next_part, next_argument}
+use Rattle.xd_eval.proofs.OutcomeLemmas.{next_part, next_argument}
 use Rattle.xd_eval.proofs.Waits.{all_kept, frames_kept, waiting_more}
 
 pub joined_values : (ds : List Document) (seqs : List Seq) → joined_at ds seqs ≡ joined_all (map (document_at ds) seqs)

@@ -3,11 +3,12 @@ use Rattle.std.proofs.Common.{◌≡◌, ℕ, ◌<◌, ◌≤◌, arith, List, [
 use Rattle.std.specs.List.{AllByRecursion}
 use Rattle.xd_base.specs.declared.Place.{Place}
 use Rattle.xd_syntax.specs.Table.{Row}
-use Rattle.xd_syntax.specs.Placed.{placed_at}
-use Rattle.xd_syntax.specs.Expression.{Expression, Arguments, Clauses, ExprRow, ExprShape, empty_shape, text_shape, var_shape, elem_shape, seq_shape, call_shape, match_shape, shape_expression, expression_at, shape_at, joined, arguments_of, place_of_expression, ExprPartsBelow, ExprCanFollow, PatternsBelong, ShapePatternsBelong}
+use Rattle.xd_syntax.specs.PlacedTable.{placed_at}
+use Rattle.xd_syntax.specs.Expression.{Expression, Arguments, Clauses, joined, arguments_of, place_of_expression}
+use Rattle.xd_syntax.specs.ExpressionTable.{ExprRow, ExprShape, empty_shape, text_shape, var_shape, elem_shape, seq_shape, call_shape, match_shape, shape_expression, expression_at, shape_at, ExprPartsBelow, ExprCanFollow, PatternsBelong, ShapePatternsBelong}
 use Rattle.xd_syntax.specs.Kept.{ProgramTable}
 use Rattle.xd_syntax.proofs.Members.{append_left, append_right}
-use Rattle.xd_runs.specs.Clauses.{patterns_in, patterns_in_arguments, patterns_in_clauses}
+use Rattle.xd_pattern_runs.specs.Clauses.{patterns_in, patterns_in_arguments, patterns_in_clauses}
 use Rattle.xd_eval.specs.Machine.{AreLinear, IsOfClause, IsRunnable, IsShapeAt, PartsAreRunnable, clauses_in, expression_in}
 
 -- what is so of an expression's parts, where the patterns in it are linear

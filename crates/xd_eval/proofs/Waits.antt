@@ -3,10 +3,11 @@ use Rattle.std.proofs.Common.{◌≡◌, ℕ, List, [], ◌∷◌, ◌++◌, map
 use Rattle.std.specs.List.{AllByRecursion}
 use Rattle.std.proofs.lemmas.List.{reverse-append, map-append}
 use Rattle.xd_doc.specs.Document.{Document}
-use Rattle.xd_doc.specs.Stored.{BelongsTo, Keeps, document_at}
+use Rattle.xd_doc.specs.Stored.{BelongsTo, document_at}
+use Rattle.xd_doc.specs.StoreNodes.{Keeps}
 use Rattle.xd_doc.specs.declared.store.Seq.{Seq}
 use Rattle.xd_doc.proofs.Lists.{all_more}
-use Rattle.xd_syntax.specs.Expression.{shape_at}
+use Rattle.xd_syntax.specs.ExpressionTable.{shape_at}
 use Rattle.xd_syntax.specs.Kept.{ProgramTable}
 use Rattle.xd_eval.specs.Waiting.{in_sequence, in_call, in_match}
 use Rattle.xd_eval.specs.Machine.{environment_in, function_named, clauses_in, clause_numbers_of, before, after, waiting_of, all_waiting, ScopeStands, FrameStands, FramesStand}

@@ -7,8 +7,8 @@ use Rattle.xd_syntax.specs.Fits.{Fits}
 use Rattle.xd_syntax.specs.Types.{tree}
 use Rattle.xd_syntax.specs.Program.{ProgramTree, FunctionDefinition, names_of, function_of}
 use Rattle.xd_syntax.specs.Kept.{ProgramTable, program_tree}
-use Rattle.xd_syntax.specs.Sound.{main_parameter}
-use Rattle.xd_laws.specs.Meaning.{meaning, Done, Spent}
+use Rattle.xd_syntax.specs.SoundTables.{main_parameter}
+use Rattle.xd_meaning.specs.Meaning.{meaning, Done, Spent}
 use Rattle.xd_syntax.specs.declared.types.TypeId.{TypeId}
 use Rattle.xd_laws.specs.Safety.{IsValueOf}
 use Rattle.xd_eval.specs.declared.evaluation.Outcome.{Outcome}

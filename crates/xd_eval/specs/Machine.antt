@@ -6,14 +6,16 @@ use Rattle.xd_base.specs.declared.Place.{Place}
 use Rattle.xd_doc.specs.Document.{Document}
 use Rattle.xd_doc.specs.Stored.{BelongsTo, document_at}
 use Rattle.xd_doc.specs.declared.store.Seq.{Seq}
-use Rattle.xd_syntax.specs.Placed.{PlacedTree, placed_at, unplaced}
+use Rattle.xd_syntax.specs.Placed.{PlacedTree, unplaced}
+use Rattle.xd_syntax.specs.PlacedTable.{placed_at}
 use Rattle.xd_syntax.specs.Ways.{Among}
-use Rattle.xd_runs.specs.Linear.{IsLinear}
-use Rattle.xd_runs.specs.Clauses.{patterns_in}
-use Rattle.xd_syntax.specs.Expression.{Expression, Clauses, ExprShape, elem_shape, seq_shape, call_shape, match_shape, shape_expression, expression_at, shape_at, ExprCanFollow, ShapePatternsBelong, clauses_of}
+use Rattle.xd_pattern_runs.specs.Linear.{IsLinear}
+use Rattle.xd_pattern_runs.specs.Clauses.{patterns_in}
+use Rattle.xd_syntax.specs.Expression.{Expression, Clauses}
+use Rattle.xd_syntax.specs.ExpressionTable.{ExprShape, elem_shape, seq_shape, call_shape, match_shape, shape_expression, expression_at, shape_at, ExprCanFollow, ShapePatternsBelong, clauses_of}
 use Rattle.xd_syntax.specs.Program.{FunctionDefinition}
 use Rattle.xd_syntax.specs.Kept.{ProgramTable, program_tree}
-use Rattle.xd_laws.specs.Meaning.{Outcome, Done, Spent, Stuck, and_then, value_by, chosen_by, call_within}
+use Rattle.xd_meaning.specs.Meaning.{Outcome, Done, Spent, Stuck, and_then, value_by, chosen_by, call_within}
 use Rattle.xd_syntax.specs.declared.exprs.Clause.{Clause}
 use Rattle.xd_syntax.specs.declared.exprs.ExprId.{ExprId}
 use Rattle.xd_syntax.specs.declared.program.Param.{Param}

@@ -2,7 +2,7 @@
 use Rattle.std.specs.Prelude.{ℕ, ◌+◌, List, [], ◌∷◌, ◌++◌}
 use Rattle.xd_doc.specs.Document.{Document, empty, element, join}
 use Rattle.xd_syntax.specs.Expression.{Expression, Nothing, Quoted, Variable, Tagged, Joined, Called, Matched, Arguments, no_argument, argument, Clauses, no_clause, clause, arguments_of}
-use Rattle.xd_laws.specs.Meaning.{Outcome, Done, Environment, Matcher, and_then, values_by, chosen_by}
+use Rattle.xd_meaning.specs.Meaning.{Outcome, Done, Environment, Matcher, and_then, values_by, chosen_by}
 
 -- the value of a call, with so many calls left
 abbrev pub Caller : Type 0

@@ -2,8 +2,9 @@
 
 ghost use Rattle.std.specs.Prelude.{◌≡◌, ◌<◌, ◌≤◌, ℕ, [], length, slice_index_or, IfOk};
 ghost use Rattle.std.specs.Option.{option_copied};
-ghost use Rattle.xd_doc.specs.Stored.{BelongsTo, Keeps, document_at};
-ghost use Rattle.xd_syntax.specs.Expression.{shape_at, empty_shape, text_shape, var_shape, elem_shape, match_shape};
+ghost use Rattle.xd_doc.specs.Stored.{BelongsTo, document_at};
+ghost use Rattle.xd_doc.specs.StoreNodes.{Keeps};
+ghost use Rattle.xd_syntax.specs.ExpressionTable.{shape_at, empty_shape, text_shape, var_shape, elem_shape, match_shape};
 ghost use Rattle.xd_syntax.specs.Exprs.{expr_numbers, shape_of};
 ghost use Rattle.xd_eval.specs.Machine.{FramesStand, IsRunnable, IsStep, IsSequence, IsCall, ScopeStands, environment_in, function_named, parts_of, found_in, given, IsShapeAt};
 

@@ -1,7 +1,8 @@
 //! The evaluation of an accepted program.
 
 ghost use Rattle.std.specs.Prelude.{◌≤◌, IfOk};
-ghost use Rattle.xd_doc.specs.Stored.{BelongsTo, Keeps, document_at};
+ghost use Rattle.xd_doc.specs.Stored.{BelongsTo, document_at};
+ghost use Rattle.xd_doc.specs.StoreNodes.{Keeps};
 ghost use Rattle.xd_syntax.specs.Kept.{program_tree};
 ghost use Rattle.xd_eval.specs.Evaluation.{IsEvaluated, IsInput, IsOfDeclared};
 ghost use Rattle.xd_eval.specs.Machine.{IsStart};

@@ -1,7 +1,7 @@
 //! The evaluation of an expression, step by step.
 
 ghost use Rattle.std.specs.Prelude.{[], IfOk};
-ghost use Rattle.xd_doc.specs.Stored.{Keeps};
+ghost use Rattle.xd_doc.specs.StoreNodes.{Keeps};
 ghost use Rattle.xd_eval.specs.Functions.{AreFunctionNames};
 ghost use Rattle.xd_eval.specs.Machine.{ControlStands, FramesStand, IsEnding, IsStep, outcome};
 

@@ -2,10 +2,12 @@
 
 ghost use Rattle.std.specs.Prelude.{◌≡◌, ◌<◌, List, length, option_map, IfOk};
 ghost use Rattle.xd_doc.specs.Document.{Document};
-ghost use Rattle.xd_doc.specs.Stored.{BelongsTo, Keeps, document_at};
+ghost use Rattle.xd_doc.specs.Stored.{BelongsTo, document_at};
+ghost use Rattle.xd_doc.specs.StoreNodes.{Keeps};
 ghost use Rattle.xd_syntax.specs.Kept.{ProgramTable};
-ghost use Rattle.xd_syntax.specs.Placed.{placed_at, unplaced};
-ghost use Rattle.xd_runs.specs.Linear.{IsLinear};
+ghost use Rattle.xd_syntax.specs.PlacedTable.{placed_at};
+ghost use Rattle.xd_syntax.specs.Placed.{unplaced};
+ghost use Rattle.xd_pattern_runs.specs.Linear.{IsLinear};
 ghost use Rattle.xd_eval.specs.Matches.{AreBindings, matcher};
 
 use std::alloc::Global;

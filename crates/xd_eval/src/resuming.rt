@@ -3,8 +3,9 @@
 ghost use Rattle.std.specs.Prelude.{◌≡◌, ◌<◌, ◌≤◌, ◌∷◌, ◌++◌, [], ℕ, map, length, IfOk, MatchOption, OnOk};
 ghost use Rattle.std.specs.List.{AllByRecursion};
 ghost use Rattle.std.specs.Option.{IfSome, option_copied};
-ghost use Rattle.xd_doc.specs.Stored.{BelongsTo, Keeps, document_at};
-ghost use Rattle.xd_syntax.specs.Expression.{shape_at};
+ghost use Rattle.xd_doc.specs.Stored.{BelongsTo, document_at};
+ghost use Rattle.xd_doc.specs.StoreNodes.{Keeps};
+ghost use Rattle.xd_syntax.specs.ExpressionTable.{shape_at};
 ghost use Rattle.xd_syntax.specs.Exprs.{expr_numbers, clause_numbers};
 ghost use Rattle.xd_eval.specs.Functions.{AreFunctionNames, row_of};
 ghost use Rattle.xd_eval.specs.Machine.{ClausesStand, FrameStands, FramesStand, HasNoneLeft, HasOneMore, IsCall, IsChosen, IsNextPart, IsRunnable, IsSequence, IsStep, PartsStand, ScopeStands, bound_seqs, clause_numbers_of, function_named, parts_of};

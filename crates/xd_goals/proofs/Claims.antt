@@ -5,11 +5,11 @@ use Rattle.xd_auto.specs.Automaton.{Automaton}
 use Rattle.xd_rules.specs.declared.atom.Atom.{Atom}
 use Rattle.xd_rules.specs.Heads.{Head, is_text_atom}
 use Rattle.xd_rules.specs.Rules.{Claim, ChoiceTree, ContentLeaf, RestLeaf, SplitOn}
-use Rattle.xd_state_heads.specs.Moves.{with_state}
+use Rattle.xd_rules.specs.Moves.{with_state}
 use Rattle.xd_goals.specs.Rows.{GoalRow, claim_at}
 use Rattle.xd_goals.specs.Trees.{IsGrown, IsTextTree, IsTreeBySort}
 use Rattle.xd_goals.specs.Standing.{IsCaseTree, claim_sides, task_for}
-use Rattle.xd_state_heads.specs.declared.heads.Side.{Side}
+use Rattle.xd_rules.specs.declared.heads.Side.{Side}
 use Rattle.xd_goals.specs.declared.table.GoalCase.{GoalCase}
 use Rattle.xd_goals.specs.declared.grow.Task.{Task}
 

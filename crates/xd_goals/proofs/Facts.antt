@@ -4,14 +4,14 @@ use Rattle.std.specs.List.{AllByRecursion, slice_get}
 use Rattle.std.specs.BTreeMap.{BTreeMap}
 use Rattle.std.proofs.lemmas.Bool.{cases_lt}
 use Rattle.xd_doc.specs.Document.{Document}
-use Rattle.xd_doc.specs.Stored.{Keeps}
+use Rattle.xd_doc.specs.StoreNodes.{Keeps}
 use Rattle.xd_auto.specs.declared.auto.State.{State}
 use Rattle.xd_auto.specs.Automaton.{Automaton}
 use Rattle.xd_rules.specs.declared.atom.Atom.{Atom}
 use Rattle.xd_rules.specs.Heads.{Head, is_text_atom}
 use Rattle.xd_rules.specs.Meaning.{Separates}
 use Rattle.xd_rules.specs.Rules.{Claim, ChoiceTree, AllLeaves}
-use Rattle.xd_state_heads.specs.Moves.{Accepts, claim_with}
+use Rattle.xd_rules.specs.Moves.{Accepts, claim_with}
 use Rattle.xd_goals.specs.Rows.{GoalRow, TableView, row_at, claim_of, claim_key, goal_case, no_view, IsRefuted, IsUnbroken, RowsBelow}
 use Rattle.xd_goals.specs.Kept.{GrowsBy, IsIndexed, found_at}
 use Rattle.xd_goals.specs.Trees.{IsTreeBySort}
@@ -20,8 +20,8 @@ use Rattle.xd_goals.specs.Facts.{ChoiceStands, RowHolds, FactsOn, FactsOnAutomat
 use Rattle.xd_goals.specs.declared.table.Choice.{Choice}
 use Rattle.xd_goals.specs.declared.table.GoalCase.{GoalCase}
 use Rattle.xd_goals.specs.declared.table.Standing.TheVariants.{Holds}
-use Rattle.xd_state_heads.proofs.Lists.{all_at, all_places, none_at}
-use Rattle.xd_goals.proofs.Growing.{past_is_new}
+use Rattle.xd_rules.proofs.Lists.{all_at, all_places, none_at}
+use Rattle.xd_goals.proofs.GrowsByLemmas.{past_is_new}
 use Rattle.xd_goals.proofs.Trees.{AllLeaves-map, StandsAt-more, StandsAt-one, HasTree-grows, IsGrown-grows, IsTextTree-grows, standing-grows, broken-grows, choices-grows, open-grows, settled-grows, settled_leads}
 
 pub case_tree-grows : {A : List State → Type 0} (a : Automaton) (t u : TableView) → GrowsBy A t u → (owner : GoalCase) (c : Claim State) (h : Head State) (atom : Atom) (tree : ChoiceTree)

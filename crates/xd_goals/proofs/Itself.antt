@@ -15,7 +15,7 @@ use Rattle.xd_goals.specs.declared.table.ChoiceNode.{ChoiceNode}
 use Rattle.xd_goals.specs.declared.table.ChoiceNode.TheVariants.{Split, Content, Rest}
 use Rattle.xd_goals.specs.declared.table.GoalCase.{GoalCase}
 use Rattle.xd_goals.specs.declared.table.Link.{Link}
-use Rattle.xd_state_heads.proofs.Lists.{all_places, slice_get-push_cases}
+use Rattle.xd_rules.proofs.Lists.{all_places, slice_get-push_cases}
 use Rattle.xd_goals.proofs.Facts.{stands-none}
 use Rattle.xd_goals.proofs.Trees.{AllLeaves-map, StandsAt-one, StandsAt-within}
 

@@ -7,7 +7,7 @@ use Rattle.xd_doc.specs.declared.store.Seq.{Seq}
 use Rattle.xd_auto.specs.declared.auto.State.{State}
 use Rattle.xd_rules.specs.Members.{IsOneOf}
 use Rattle.xd_rules.specs.Rules.{ChoiceTree, ContentLeaf, RestLeaf, SplitOn, AllLeaves}
-use Rattle.xd_state_heads.specs.Moves.{AreBelow, IsInOrder, RiseFrom, claim_with, with_state}
+use Rattle.xd_rules.specs.Moves.{AreBelow, IsInOrder, RiseFrom, claim_with, with_state}
 use Rattle.xd_goals.specs.Rows.{GoalRow, TableView, row_at, claim_at, IsListed, IsRefuted}
 use Rattle.xd_goals.specs.Kept.{Grows, GrowsBy}
 use Rattle.xd_goals.specs.Trees.{StandsAt, IsGrown, IsTextTree, HasTree, HasOpenTree, IsFree, IsLeafFor, IsPathBelow, IsSplitAt, gathered}
@@ -19,11 +19,11 @@ use Rattle.xd_goals.specs.declared.table.Standing.{Standing}
 use Rattle.xd_goals.specs.declared.table.Standing.TheVariants.{Holds, Refuted, Waiting}
 use Rattle.xd_goals.specs.declared.table.GoalCase.{GoalCase}
 use Rattle.xd_goals.specs.declared.table.GoalId.{GoalId}
-use Rattle.xd_state_heads.specs.declared.heads.Side.{Side}
+use Rattle.xd_rules.specs.declared.heads.Side.{Side}
 use Rattle.xd_goals.specs.declared.grow.Task.{Task}
 use Rattle.std.proofs.lemmas.Bool.Decides.{Decides-eqb, Decides-ltb}
-use Rattle.xd_state_heads.proofs.Lists.{all_at}
-use Rattle.xd_goals.proofs.Growing.{claim_at-grows, past_is_new}
+use Rattle.xd_rules.proofs.Lists.{all_at}
+use Rattle.xd_goals.proofs.GrowsByLemmas.{claim_at-grows, past_is_new}
 
 pub AllLeaves-map : (P Q : ℕ → Type 0) → ((g : ℕ) → P g → Q g) → (tree : ChoiceTree) → AllLeaves P tree → AllLeaves Q tree
 AllLeaves-map P Q f (ContentLeaf g) h = f g h

@@ -4,7 +4,8 @@ use Rattle.std.specs.List.{AllByRecursion, list_any}
 use Rattle.std.proofs.lemmas.Bool.{cases_lt}
 use Rattle.xd_doc.specs.Document.{Document, empty, text, element}
 use Rattle.xd_doc.specs.Classes.{NameClass, class_has, is_named}
-use Rattle.xd_doc.specs.Stored.{BelongsTo, document_at, no_items}
+use Rattle.xd_doc.specs.Stored.{BelongsTo, document_at}
+use Rattle.xd_doc.specs.StoreNodes.{no_items}
 use Rattle.xd_doc.specs.declared.store.Seq.{Seq}
 use Rattle.xd_auto.specs.declared.auto.State.{State}
 use Rattle.xd_auto.specs.Automaton.{Automaton}
@@ -18,24 +19,24 @@ use Rattle.xd_rules.proofs.Atoms.{matches-label, matches-text, matches-other_lab
 use Rattle.xd_rules.proofs.Soundness.{IsSettled as HasRow, holds}
 use Rattle.xd_rules.proofs.Members.{one_of-append_left, one_of-append_right, one_of-to_flat_map}
 use Rattle.xd_rules.proofs.Separation.{separates-text, separates-empty}
-use Rattle.xd_state_heads.specs.Moves.{Accepts, claim_with, heads_of, is_last_in}
+use Rattle.xd_rules.specs.Moves.{Accepts, claim_with, heads_of, is_last_in}
 use Rattle.xd_goals.specs.Rows.{TableView, row_at, claim_of, claim_at, choice_key}
 use Rattle.xd_goals.specs.Trees.{IsFailure, IsFailureBySort, IsTextFailure, IsRefutedBy, gathered, takes}
-use Rattle.xd_state_heads.specs.declared.heads.Side.{Side}
+use Rattle.xd_rules.specs.declared.heads.Side.{Side}
 use Rattle.xd_goals.specs.Standing.{IsSeparatedBy, claim_sides, task_for}
 use Rattle.xd_goals.specs.Facts.{FactsOn, FactsOnAutomaton}
 use Rattle.xd_goals.specs.Reached.{is_marked, LeadsToMarked, IsSettled}
 use Rattle.xd_goals.specs.Truth.{IsIncluded, KeepsRules}
 use Rattle.xd_goals.specs.Cases.{BeginsAs, FailsAt}
-use Rattle.xd_state_heads.specs.Wants.{names_in}
+use Rattle.xd_rules.specs.Wants.{names_in}
 use Rattle.xd_goals.specs.declared.table.Choice.{Choice}
 use Rattle.xd_goals.specs.declared.table.GoalCase.{GoalCase}
 use Rattle.xd_goals.specs.declared.table.Standing.TheVariants.{Holds}
-use Rattle.xd_goals.proofs.Growing.{claim_at-is, claim_within, past_is_new}
-use Rattle.xd_state_heads.proofs.Lists.{all_at, all_map}
+use Rattle.xd_goals.proofs.GrowsByLemmas.{claim_at-is, claim_within, past_is_new}
+use Rattle.xd_rules.proofs.Lists.{all_at, all_map}
 use Rattle.xd_goals.proofs.Facts.{StandsSomewhere, choices_stand}
-use Rattle.xd_goals.proofs.Keeping.{case_keeps, side_of_head, gathered-has}
-use Rattle.xd_goals.proofs.Meaning.{automaton_meaning}
+use Rattle.xd_goals.proofs.KeepsRulesLemmas.{case_keeps, side_of_head, gathered-has}
+use Rattle.xd_goals.proofs.MeaningLemmas.{automaton_meaning}
 
 module _ (a : Automaton) (t : TableView) (stands : FactsOnAutomaton a t) where
   cases_of : (c : Claim State) (ks : List Choice) → AllByRecursion (StandsSomewhere a t c) ks → List Case

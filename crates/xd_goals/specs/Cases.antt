@@ -11,7 +11,7 @@ use Rattle.xd_rules.specs.declared.atom.Atom.TheVariants.{Label, OtherLabel, Tex
 use Rattle.xd_rules.specs.Members.{IsOneOf}
 use Rattle.xd_rules.specs.Heads.{Head, Named, AreNames, matches, is_text_atom}
 use Rattle.xd_rules.specs.Rules.{CaseKey, Claim, right_heads, wanted_cases}
-use Rattle.xd_state_heads.specs.Moves.{heads_of, is_last_in}
+use Rattle.xd_rules.specs.Moves.{heads_of, is_last_in}
 use Rattle.xd_goals.specs.Rows.{TableView, choice_key, claim_of, goal_case, row_at, IsUnbroken}
 use Rattle.xd_goals.specs.Measure.{AreMadeFrom, potential}
 use Rattle.xd_goals.specs.Trees.{IsFailureBySort}

@@ -6,7 +6,7 @@ use Rattle.xd_auto.specs.declared.auto.State.{State}
 use Rattle.xd_auto.specs.Automaton.{Automaton}
 use Rattle.xd_rules.specs.Heads.{Head, matches}
 use Rattle.xd_rules.specs.Rules.{AllLeaves, ChoiceTree, Claim, head_number}
-use Rattle.xd_state_heads.specs.Moves.{heads_of}
+use Rattle.xd_rules.specs.Moves.{heads_of}
 use Rattle.xd_goals.specs.Rows.{GoalRow, TableView, row_at, claim_of, goal_case, IsUnbroken, RowsBelow}
 use Rattle.xd_goals.specs.Trees.{HasTree, StandsAt}
 use Rattle.xd_goals.specs.Kept.{IsWhole, view_of}

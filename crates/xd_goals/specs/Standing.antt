@@ -10,15 +10,15 @@ use Rattle.xd_rules.specs.declared.atom.Atom.{Atom}
 use Rattle.xd_rules.specs.Heads.{Head, Named, AreNames, matches, is_text_atom}
 use Rattle.xd_rules.specs.Rules.{Claim, ChoiceTree, AllLeaves, head_number, right_heads, wanted_cases}
 use Rattle.xd_rules.specs.Meaning.{Separates}
-use Rattle.xd_state_heads.specs.Moves.{heads_of, is_last_in, Accepts}
+use Rattle.xd_rules.specs.Moves.{heads_of, is_last_in, Accepts}
 use Rattle.xd_goals.specs.Rows.{GoalRow, TableView, row_at, claim_of, choice_key, goal_case, IsRefuted, RowsBelow}
 use Rattle.xd_goals.specs.Trees.{StandsAt, IsTreeBySort}
-use Rattle.xd_state_heads.specs.Wants.{matching_sides}
+use Rattle.xd_rules.specs.Wants.{matching_sides}
 use Rattle.xd_goals.specs.declared.table.Choice.{Choice}
 use Rattle.xd_goals.specs.declared.table.GoalCase.{GoalCase}
 use Rattle.xd_goals.specs.declared.table.Standing.TheVariants.{Holds, Refuted}
 use Rattle.xd_goals.specs.declared.grow.Task.{Task}
-use Rattle.xd_state_heads.specs.declared.heads.Side.{Side}
+use Rattle.xd_rules.specs.declared.heads.Side.{Side}
 
 -- the document of the store is one that the goal's left accepts and none of its rights does
 pub record IsSeparatedBy (a : Automaton) (ds : List Document) (c : Claim State) (seq : Seq) : Type 0 where

@@ -8,13 +8,13 @@ use Rattle.xd_auto.specs.Automaton.{Automaton, accepts}
 use Rattle.xd_rules.specs.Members.{IsOneOf}
 use Rattle.xd_rules.specs.Rules.{Claim, ChoiceTree, ContentLeaf, RestLeaf, SplitOn, AllLeaves}
 use Rattle.std.specs.List.{AllByRecursion}
-use Rattle.xd_state_heads.specs.Moves.{AreBelow, IsInOrder, claim_with, with_state}
+use Rattle.xd_rules.specs.Moves.{AreBelow, IsInOrder, claim_with, with_state}
 use Rattle.xd_goals.specs.Rows.{GoalRow, TableView, row_at, claim_at, IsRefuted, IsListed}
 use Rattle.xd_goals.specs.declared.table.ChoiceNode.{ChoiceNode}
 use Rattle.xd_goals.specs.declared.table.GoalCase.{GoalCase}
 use Rattle.xd_goals.specs.declared.table.ChoiceNode.TheVariants.{Split, Content, Rest}
 use Rattle.xd_goals.specs.declared.table.Standing.TheVariants.{Refuted}
-use Rattle.xd_state_heads.specs.declared.heads.Side.{Side}
+use Rattle.xd_rules.specs.declared.heads.Side.{Side}
 use Rattle.xd_goals.specs.declared.grow.Task.{Task}
 use Rattle.xd_goals.specs.declared.grow.Grown.{Grown}
 use Rattle.xd_goals.specs.declared.grow.Grown.TheVariants.{Stands, Fails}

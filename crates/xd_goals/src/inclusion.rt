@@ -3,11 +3,11 @@
 ghost use Rattle.std.specs.Prelude.{◌≡◌, ◌<◌, List, length, slice_get, IfOk, OnOk, Some};
 ghost use Rattle.std.specs.Option.{IfSome};
 ghost use Rattle.std.specs.List.{AllByRecursion};
-ghost use Rattle.xd_doc.specs.Stored.{Keeps};
+ghost use Rattle.xd_doc.specs.StoreNodes.{Keeps};
 ghost use Rattle.xd_auto.specs.declared.auto.State.{State};
 ghost use Rattle.xd_auto.specs.Automaton.{IsState};
-ghost use Rattle.xd_member.specs.Kept.{AreRight};
-ghost use Rattle.xd_state_heads.specs.Moves.{claim_with};
+ghost use Rattle.xd_auto.specs.Kept.{AreRight};
+ghost use Rattle.xd_rules.specs.Moves.{claim_with};
 ghost use Rattle.xd_goals.specs.Rows.{claim_at};
 ghost use Rattle.xd_goals.specs.Kept.{IsWhole, view_of};
 ghost use Rattle.xd_goals.specs.Standing.{KeepsGoals, StandsOn};
@@ -21,9 +21,8 @@ use crate::settled::unsettled;
 use crate::table::{GoalId, Link, Row, Standing, Table};
 use crate::work::work;
 use std::alloc::Global;
-use xd_auto::{Auto, State};
+use xd_auto::{Answers, Auto, State};
 use xd_doc::{NoMemory, Seq, Store};
-use xd_member::Answers;
 
 /// Whether every document of the left is one of some right: the goal that says so, or a document of
 /// the left alone.

@@ -2,15 +2,16 @@
 
 ghost use Rattle.std.specs.Prelude.{◌≡◌, ◌<◌, [], false, true, length, IfOk, OnOk, Some, slice_get};
 ghost use Rattle.std.specs.List.{AllByRecursion, list_any};
-ghost use Rattle.xd_doc.specs.Stored.{BelongsTo, Keeps, document_at};
+ghost use Rattle.xd_doc.specs.Stored.{BelongsTo, document_at};
+ghost use Rattle.xd_doc.specs.StoreNodes.{Keeps};
 ghost use Rattle.xd_auto.specs.Automaton.{IsState};
-ghost use Rattle.xd_member.specs.Kept.{AreRight};
+ghost use Rattle.xd_auto.specs.Kept.{AreRight};
 ghost use Rattle.xd_rules.specs.Heads.{is_text_atom};
-ghost use Rattle.xd_state_heads.specs.Moves.{claim_with, is_last_in};
+ghost use Rattle.xd_rules.specs.Moves.{claim_with, is_last_in};
 ghost use Rattle.xd_goals.specs.Rows.{IsRefuted, IsUnbroken, claim_of, row_at};
 ghost use Rattle.xd_goals.specs.Kept.{Grows, IsConsistent, IsWhole, view_of};
 ghost use Rattle.xd_goals.specs.Cases.{BeginsAs, FailsAt, IsCaseGrown, IsMended, IsMending, IsSettling, IsUncovered, case_end_of};
-ghost use Rattle.xd_state_heads.specs.Wants.{IsCaseOf};
+ghost use Rattle.xd_rules.specs.Wants.{IsCaseOf};
 ghost use Rattle.xd_goals.specs.Standing.{AreSeparated, IsSeparatedBy, KeepsGoals};
 ghost use Rattle.xd_goals.specs.Facts.{ChoiceStands, FactsOn};
 ghost use Rattle.xd_goals.specs.Reached.{HasTreeWithin, IsOpenAt};
@@ -22,12 +23,10 @@ use crate::grow::{Grown, Setting, Task, grow, grow_text, node_at, repair};
 use crate::settled::no_marks;
 use crate::table::{Choice, ChoiceNode, GoalCase, GoalId, Row, Standing};
 use std::alloc::Global;
-use xd_auto::{Auto, State};
+use xd_auto::{Answers, Auto, State};
 use xd_doc::{NoMemory, Seq, Store};
 use xd_empty::{some_label, some_text};
-use xd_member::Answers;
-use xd_rules::Atom;
-use xd_state_heads::{Unnamed, Want, goal_cases, head_of, is_text, share, sides_of, unnamed_of};
+use xd_rules::{Atom, Unnamed, Want, goal_cases, head_of, is_text, share, sides_of, unnamed_of};
 
 /// Whether some state accepts the empty document.
 fn any_last(auto: &Auto, states: &[State]) -> bool

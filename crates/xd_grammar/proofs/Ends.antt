@@ -9,7 +9,7 @@ use Rattle.xd_grammar.specs.declared.grammar.Symbol.TheVariants.{Token, Opening,
 use Rattle.xd_grammar.specs.declared.grammar.Terminal.{Terminal}
 use Rattle.xd_grammar.specs.declared.grammar.Terminal.TheVariants as t
 use Rattle.xd_grammar.specs.Grammar.{Row, rules, IsOneOf, Extent, Whole, Front, MayEnd, Derives, end, token, opening, closed, unless, by}
-use Rattle.xd_grammar.specs.Text.{ends_text}
+use Rattle.xd_grammar.specs.TextErrors.{ends_text}
 use Rattle.xd_grammar.proofs.Derive.{view, all_rows, all_of, left_true, right_true}
 
 abbrev is_nil : Row → Bool

@@ -5,4 +5,4 @@ pub mod Courses
 pub mod Stands
 pub mod Ends
 pub mod TextLemmas
-pub mod Erasing
+pub mod ErasedLemmas

@@ -10,7 +10,8 @@ use Rattle.xd_grammar.specs.declared.grammar.Terminal.{Terminal}
 use Rattle.xd_grammar.specs.declared.machine.Reading.{Reading}
 use Rattle.xd_grammar.specs.declared.machine.Reading.TheVariants.{Plain, Opened, Named, Barred, AfterVal, Shut}
 use Rattle.xd_grammar.specs.Grammar.{Row, Extent, Front, Derives, end, token, opening, closed, unless, by, Begins}
-use Rattle.xd_grammar.specs.FirstFault.{Refusal, no_text, too_deep, IsFirstFault, IsStart}
+use Rattle.xd_grammar.specs.FirstFault.{Refusal, no_text, too_deep, IsFirstFault}
+use Rattle.xd_grammar.specs.Started.{IsStart}
 use Rattle.xd_grammar.specs.Machine.{Reads, Passes, Stops, Sinks}
 use Rattle.xd_grammar.specs.Text.{IsFaultAt, IsPlaceAt, terminals_of, terminal_at}
 use Rattle.xd_syntax.specs.Shallow.{nesting_limit}

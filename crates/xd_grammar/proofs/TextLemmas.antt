@@ -5,7 +5,8 @@ use Rattle.std.proofs.lemmas.List.{take-append-drop}
 use Rattle.std.specs.Prelude.{IsUtf8, MatchOption}
 use Rattle.xd_lex.specs.declared.Kind.{Kind}
 use Rattle.xd_lex.specs.declared.Kind.TheVariants as kinds
-use Rattle.xd_lex.specs.Tokens.{Lexeme, is_last, tokens_of}
+use Rattle.xd_lex.specs.Tokens.{Lexeme, tokens_of}
+use Rattle.xd_lex.specs.LexedTokens.{is_last}
 use Rattle.xd_lex.specs.Reading.{HasOneLast}
 use Rattle.xd_lex.proofs.ReadLemmas.{one_last}
 use Rattle.xd_grammar.specs.declared.grammar.Nonterminal.{Nonterminal}
@@ -17,7 +18,8 @@ use Rattle.xd_grammar.specs.declared.text.TextFault.TheVariants as faults
 use Rattle.xd_grammar.specs.declared.text.TextError.TheVariants.{Fault}
 use Rattle.xd_grammar.specs.Grammar.{Begins, Spells}
 use Rattle.xd_grammar.specs.FirstFault.{Refusal, no_text, too_deep, IsFirstFault}
-use Rattle.xd_grammar.specs.Text.{terminal_of, terminals_of, ends_text, is_text, SpellsText, IsLexemeFault, IsTextFault, IsTextError}
+use Rattle.xd_grammar.specs.Text.{terminal_of, terminals_of, SpellsText, IsLexemeFault, IsTextFault}
+use Rattle.xd_grammar.specs.TextErrors.{ends_text, is_text, IsTextError}
 use Rattle.xd_grammar.proofs.Ends.{sealed, ended, front_of}
 use Rattle.xd_syntax.specs.Shallow.{nesting_limit}
 

@@ -1,11 +1,7 @@
 -- The first token that no text goes on with.
-use Rattle.std.specs.Prelude.{◌≡◌, ◌<◌, ◌+◌, ℕ, List, [], ◌∷◌, length, take}
+use Rattle.std.specs.Prelude.{◌<◌, ◌+◌, ℕ, List, length, take}
 use Rattle.xd_grammar.specs.declared.grammar.Nonterminal.{Nonterminal}
-use Rattle.xd_grammar.specs.declared.grammar.Symbol.{Symbol}
-use Rattle.xd_grammar.specs.declared.grammar.Symbol.TheVariants.{Part}
 use Rattle.xd_grammar.specs.declared.grammar.Terminal.{Terminal}
-use Rattle.xd_grammar.specs.declared.machine.Reading.{Reading}
-use Rattle.xd_grammar.specs.declared.machine.Reading.TheVariants.{Plain}
 use Rattle.xd_grammar.specs.Grammar.{Begins}
 use Rattle.xd_syntax.specs.Shallow.{nesting_limit}
 
@@ -24,8 +20,3 @@ pub record IsFirstFault (part : Nonterminal) (ts : List Terminal) (n : ℕ) (ref
   pub within : n < length ts
   pub before : Begins nesting_limit part (take n ts)
   pub there : IsRefusedAt part ts n refusal
-
-pub record IsStart (part : Nonterminal) (reading : Reading) (depth : ℕ) (stack : List Symbol) : Type 0 where
-  pub plain : reading ≡ Plain
-  pub flat : depth ≡ 0
-  pub one : stack ≡ Part part ∷ []

@@ -4,5 +4,7 @@ pub mod Fits
 pub mod Machine
 pub mod Tests
 pub mod FirstFault
+pub mod Started
 pub mod Text
+pub mod TextErrors
 pub mod Erasing

@@ -1,18 +1,15 @@
 -- Texts and their faults.
-use Rattle.std.specs.Prelude.{◌≡◌, ℕ, Bool, true, false, cond, List, [], ◌∷◌, Option, Some, None, map, zero, suc, IsUtf8, codes}
+use Rattle.std.specs.Prelude.{◌≡◌, ℕ, cond, List, [], ◌∷◌, Option, Some, None, map, zero, suc, IsUtf8, codes}
 use Rattle.std.specs.Str.{bytes_eq}
 use Rattle.xd_base.specs.declared.Place.{Place}
 use Rattle.xd_lex.specs.declared.Kind.{Kind}
 use Rattle.xd_lex.specs.declared.Kind.TheVariants as kinds
 use Rattle.xd_lex.specs.Tokens.{Lexeme, tokens_of, IsNotUtf8At}
 use Rattle.xd_grammar.specs.declared.grammar.Nonterminal.{Nonterminal}
-use Rattle.xd_grammar.specs.declared.grammar.Nonterminal.TheVariants as n
 use Rattle.xd_grammar.specs.declared.grammar.Terminal.{Terminal}
 use Rattle.xd_grammar.specs.declared.grammar.Terminal.TheVariants as t
 use Rattle.xd_grammar.specs.declared.text.TextFault.{TextFault}
 use Rattle.xd_grammar.specs.declared.text.TextFault.TheVariants as faults
-use Rattle.xd_grammar.specs.declared.text.TextError.{TextError}
-use Rattle.xd_grammar.specs.declared.text.TextError.TheVariants.{Fault, NoMemory}
 use Rattle.xd_grammar.specs.Grammar.{Spells}
 use Rattle.xd_grammar.specs.FirstFault.{Refusal, no_text, too_deep, IsFirstFault}
 use Rattle.xd_syntax.specs.Shallow.{nesting_limit}
@@ -54,18 +51,6 @@ terminal_at l = terminal_of l.kind l.text
 abbrev pub terminals_of : List Lexeme → List Terminal
 terminals_of lexemes = map terminal_at lexemes
 
--- the terminals that only the last token of a text has
-abbrev pub ends_text : Terminal → Bool
-ends_text t.End = true
-ends_text t.Broken = true
-ends_text k = false
-
--- the nonterminals of whole texts
-abbrev pub is_text : Nonterminal → Bool
-is_text n.Definitions = true
-is_text n.TypeText = true
-is_text part = false
-
 -- a text of this nonterminal, within 256 levels of nesting
 pub record SpellsText (part : Nonterminal) (bytes : List ℕ) : Type 0 where
   pub utf8 : IsUtf8 bytes
@@ -96,8 +81,3 @@ IsLexemeFault part ls (faults.TooDeep place) = IsFaultAt part ls too_deep place
 abbrev pub IsTextFault : Nonterminal → List ℕ → TextFault → Type 0
 IsTextFault part bytes (faults.NotUtf8 place) = IsNotUtf8At bytes place
 IsTextFault part bytes fault = IsUtf8 bytes × IsLexemeFault part (tokens_of bytes) fault
-
--- Why a text was refused: this is its first fault, and it is no text of the nonterminal; nothing is said of memory.
-abbrev pub IsTextError : Nonterminal → List ℕ → TextError → Type 0
-IsTextError part bytes (Fault fault) = IsTextFault part bytes fault × ¬ (SpellsText part bytes)
-IsTextError part bytes NoMemory = Unit {0}

@@ -3,8 +3,9 @@
 ghost use Rattle.std.specs.Prelude.{◌≡◌, ◌<◌, length, true, IfOk, IfErr, MatchOption};
 ghost use Rattle.xd_lex.specs.Tokens.{tokens_of};
 ghost use Rattle.xd_grammar.specs.Grammar.{Begins};
-ghost use Rattle.xd_grammar.specs.FirstFault.{IsStart};
-ghost use Rattle.xd_grammar.specs.Text.{IsLexemeFault, IsTextError, SpellsText, is_text, terminals_of};
+ghost use Rattle.xd_grammar.specs.Started.{IsStart};
+ghost use Rattle.xd_grammar.specs.Text.{IsLexemeFault, SpellsText, terminals_of};
+ghost use Rattle.xd_grammar.specs.TextErrors.{IsTextError, is_text};
 ghost use Rattle.xd_syntax.specs.Shallow.{nesting_limit};
 
 use crate::grammar::{Nonterminal, Symbol};

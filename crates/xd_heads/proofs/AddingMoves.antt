@@ -5,21 +5,22 @@ use Rattle.std.proofs.Math.ListN.{length-set}
 use Rattle.xd_doc.specs.Classes.{LabelClass, TextClass}
 use Rattle.xd_syntax.specs.Tree.{Tree}
 use Rattle.xd_syntax.specs.Table.{Row, tree_at}
-use Rattle.xd_laws.specs.Heads.{pieces}
+use Rattle.xd_meaning.specs.Heads.{pieces}
 use Rattle.xd_syntax.specs.Placed.{unplaced}
 use Rattle.xd_syntax.specs.Program.{TypeDefinition}
 use Rattle.xd_syntax.specs.Kept.{type_definition}
 use Rattle.xd_syntax.specs.TypeText.{depth}
-use Rattle.xd_syntax.specs.Shallow.{IsShallow, nesting_limit}
+use Rattle.xd_syntax.specs.ShallowTables.{IsShallow}
+use Rattle.xd_syntax.specs.Shallow.{nesting_limit}
 use Rattle.xd_syntax.proofs.PlacedTrees.{unplaced_at}
 use Rattle.xd_continuations.specs.Depths.{NoneDeeper, IsNoDeeper}
-use Rattle.xd_continuations.proofs.Deepening.{moves_no_deeper}
+use Rattle.xd_continuations.proofs.NoneDeeperLemmas.{moves_no_deeper}
 use Rattle.xd_syntax.specs.declared.types.TypeDef.{TypeDef}
 use Rattle.xd_auto.specs.Automaton.{accepts, Automaton, state_number, with_label_move, with_text_move}
 use Rattle.xd_auto.specs.declared.auto.State.{State}
 use Rattle.xd_auto.specs.declared.auto.LabelMove.{LabelMove}
 use Rattle.xd_auto.specs.declared.auto.TextMove.{TextMove}
-use Rattle.xd_laws.specs.Heads.{element_in, text_in}
+use Rattle.xd_meaning.specs.Heads.{element_in, text_in}
 use Rattle.xd_continuations.specs.Continuation.{Move, moves, IsMerged, AreMerged}
 use Rattle.xd_sound.specs.TypeNames.{meanings}
 use Rattle.xd_moves.specs.Found.{continuation, AddsCells, IsContent, AreMovesOf, IsFound, move_at}
@@ -30,16 +31,16 @@ use Rattle.xd_moves.specs.declared.expansion.Found.{Found}
 use Rattle.xd_doc.specs.Document.{Document}
 use Rattle.xd_syntax.specs.Fits.{Fits}
 use Rattle.xd_laws.specs.Guarded.{Guarded}
-use Rattle.xd_continuations.proofs.Mirroring.{mirrors_accept}
+use Rattle.xd_continuations.proofs.AreMirroredLemmas.{mirrors_accept}
 use Rattle.xd_continuations.proofs.MoveLemmas.{all_append, seq_of-pieces, IsMove, moves_continue}
 use Rattle.xd_continuations.proofs.ChainLemmas.{kept_length, kept_same}
-use Rattle.xd_continuations.proofs.Bounding.{bounded_pieces, bounded_start}
+use Rattle.xd_continuations.proofs.IsBoundedLemmas.{bounded_pieces, bounded_start}
 use Rattle.xd_continuations.specs.Bounds.{IsBounded}
-use Rattle.xd_moves.proofs.Putting.{adds_none, adds_then, continuation_kept}
-use Rattle.xd_moves.proofs.Working.{moves_kept}
-use Rattle.xd_heads.proofs.Sparing.{spares_none, spares_then}
+use Rattle.xd_moves.proofs.PutsTasksLemmas.{adds_none, adds_then, continuation_kept}
+use Rattle.xd_moves.proofs.WorkedTaskLemmas.{moves_kept}
+use Rattle.xd_heads.proofs.SparesLemmas.{spares_none, spares_then}
 use Rattle.xd_heads.proofs.StateLemmas.{states_none, states_then, number_within, number_front, nodes_below, none_larger_in}
-use Rattle.xd_heads.proofs.Compiling.{compiled_cells, compiled_state, compiled_label, compiled_text, compiled_next, compiled_mirrors}
+use Rattle.xd_heads.proofs.AreMirroredLemmas.{compiled_cells, compiled_state, compiled_label, compiled_text, compiled_next, compiled_mirrors}
 
 pub states_longer : (a b : List Cell) (old new : List ℕ) → AddsStates a b old new → length old ≤ length new
 states_longer a b old new s = let e = ap length s.grown in omega (arith, length-append old s.more)

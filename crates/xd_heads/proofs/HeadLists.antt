@@ -5,26 +5,27 @@ use Rattle.std.specs.HashMap.{HashMap, get}
 use Rattle.std.specs.List.{AllByRecursion}
 use Rattle.xd_syntax.specs.Tree.{Tree, Empty, Text, Words, Name, Elem, Seq, Alt, Star, Plus, Opt, Val, Definitions, seq_of}
 use Rattle.xd_syntax.specs.TypeText.{depth}
-use Rattle.xd_syntax.specs.Shallow.{IsShallow, nesting_limit}
+use Rattle.xd_syntax.specs.ShallowTables.{IsShallow}
+use Rattle.xd_syntax.specs.Shallow.{nesting_limit}
 use Rattle.xd_syntax.specs.Table.{Row, AreBuilt, KeepsRows, tree_at}
 use Rattle.xd_syntax.specs.Types.{BelongsTo, tree}
 use Rattle.xd_syntax.specs.Program.{names_of}
 use Rattle.xd_syntax.specs.Kept.{ProgramTable, ProgramStands, program_tree}
 use Rattle.xd_syntax.specs.declared.types.TypeId.{TypeId}
 use Rattle.xd_doc.specs.Classes.{LabelClass, TextClass}
-use Rattle.xd_syntax.specs.Sound.{IsTypeAt}
+use Rattle.xd_syntax.specs.SoundTables.{IsTypeAt}
 use Rattle.xd_sound.proofs.AdoptLaws.{type_kept}
-use Rattle.xd_laws.specs.Heads.{HeadKind, element_in, text_in, heads, pieces, all_texts}
-use Rattle.xd_laws.specs.Heads as laws
+use Rattle.xd_meaning.specs.Heads.{HeadKind, element_in, text_in, heads, pieces, all_texts}
+use Rattle.xd_meaning.specs.Heads as laws
 use Rattle.xd_continuations.specs.Continuation.{Move, moves, head_of, IsMerged, IsContinuation}
 use Rattle.xd_continuations.specs.Depths.{IsNoDeeper}
-use Rattle.xd_continuations.proofs.Merging.{tree_merged}
+use Rattle.xd_continuations.proofs.IsMergedLemmas.{tree_merged}
 use Rattle.xd_continuations.proofs.MoveLemmas.{all_append, map_append, IsMove, pieces_stand, seq_of-pieces, moves_are_heads, moves_continue}
-use Rattle.xd_continuations.proofs.Deepening.{moves_no_deeper}
-use Rattle.xd_continuations.proofs.Reaching.{all_same}
+use Rattle.xd_continuations.proofs.NoneDeeperLemmas.{moves_no_deeper}
+use Rattle.xd_continuations.proofs.FiniteLemmas.{all_same}
 use Rattle.xd_continuations.specs.Chains.{KeepsLinks}
 use Rattle.xd_continuations.proofs.ChainLemmas.{kept_then, list_none}
-use Rattle.xd_pieces.specs.Pieces.{piece_tree}
+use Rattle.xd_moves.specs.Pieces.{piece_tree}
 use Rattle.xd_moves.specs.Found.{continuation, move_of, move_at, AreOfTypes, AreMovesOf, IsFound}
 use Rattle.xd_heads.specs.Growing.{GrowsTypes}
 use Rattle.xd_heads.specs.HeadList.{kind_at, head_at, content_at, AreRestTypes, ContentBelongs, HeadBelongs, IsHeadAt, IsKindOf, IsHeadFound, AreHeadsFound}
@@ -34,10 +35,10 @@ use Rattle.xd_moves.specs.Cells.{Cell}
 use Rattle.xd_moves.specs.declared.expansion.Found.{Found}
 use Rattle.xd_heads.specs.declared.listing.Head.{Head}
 use Rattle.xd_heads.proofs.AddingMoves.{none_deeper}
-use Rattle.xd_heads.proofs.Growing.{grows_then}
+use Rattle.xd_heads.proofs.GrowsTypesLemmas.{grows_then}
 use Rattle.xd_continuations.proofs.GrownTables.{tree_stays, more_rows}
 use Rattle.xd_heads.proofs.Mirrored.{continuation_stays, shallow_before}
-use Rattle.xd_heads.proofs.Wrapping.{bodies_stand, are_merged}
+use Rattle.xd_heads.proofs.KeepsStatesLemmas.{bodies_stand, are_merged}
 
 -- ---- one head
 

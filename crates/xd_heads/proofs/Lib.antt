@@ -1,10 +1,10 @@
 pub mod StateLemmas
-pub mod Sparing
-pub mod Compiling
+pub mod SparesLemmas
+pub mod AreMirroredLemmas
 pub mod AddingMoves
 pub mod Mirrored
-pub mod Wrapping
-pub mod Growing
-pub mod Typing
+pub mod KeepsStatesLemmas
+pub mod GrowsTypesLemmas
+pub mod TypeNumbersLemmas
 pub mod HeadLists
-pub mod Numbering
+pub mod HeadListerLemmas

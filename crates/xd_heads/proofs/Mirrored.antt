@@ -4,8 +4,9 @@ use Rattle.std.specs.List.{AllByRecursion}
 use Rattle.xd_syntax.specs.Tree.{Tree, Definitions, seq_of}
 use Rattle.xd_syntax.specs.Table.{Row, KeepsRows, tree_at}
 use Rattle.xd_syntax.specs.TypeText.{depth}
-use Rattle.xd_syntax.specs.Shallow.{IsShallow, nesting_limit}
-use Rattle.xd_laws.specs.CanBeEmpty.{can_be_empty}
+use Rattle.xd_syntax.specs.ShallowTables.{IsShallow}
+use Rattle.xd_syntax.specs.Shallow.{nesting_limit}
+use Rattle.xd_meaning.specs.CanBeEmpty.{can_be_empty}
 use Rattle.xd_syntax.specs.Program.{names_of}
 use Rattle.xd_syntax.specs.Kept.{ProgramTable, program_tree}
 use Rattle.xd_continuations.proofs.GrownTables.{tree_stays, more_rows}
@@ -13,24 +14,24 @@ use Rattle.xd_auto.specs.Automaton.{Automaton, moves_at, no_moves, state_number}
 use Rattle.xd_auto.specs.declared.auto.State.{State}
 use Rattle.xd_auto.specs.declared.auto.LabelMove.{LabelMove}
 use Rattle.xd_auto.specs.declared.auto.TextMove.{TextMove}
-use Rattle.xd_laws.specs.Heads.{Head, heads, pieces}
+use Rattle.xd_meaning.specs.Heads.{Head, heads, pieces}
 use Rattle.xd_continuations.specs.Continuation.{Move, moves, head_of, AreMerged, IsContinuation}
 use Rattle.xd_continuations.specs.Mirrors.{Continuations, AreMirrored, no_move, on_label, on_text}
 use Rattle.xd_continuations.specs.Bounds.{node_count, IsBounded}
 use Rattle.xd_continuations.proofs.MoveLemmas.{all_append, IsMove, pieces-seq_of, moves_are_heads, moves_continue}
-use Rattle.xd_continuations.proofs.Bounding.{bounded_larger}
-use Rattle.xd_continuations.proofs.Reaching.{all_same}
+use Rattle.xd_continuations.proofs.IsBoundedLemmas.{bounded_larger}
+use Rattle.xd_continuations.proofs.FiniteLemmas.{all_same}
 use Rattle.xd_continuations.specs.Chains.{lists_after, lists_in, list_at}
-use Rattle.xd_pieces.specs.Pieces.{piece_tree, turns_of}
+use Rattle.xd_moves.specs.Pieces.{piece_tree, turns_of}
 use Rattle.xd_moves.specs.Found.{continuation, AreOfTypes, AreBounded}
 use Rattle.xd_heads.specs.States.{number_at, nodes_from, nodes_in}
 use Rattle.xd_heads.specs.Compiled.{numbered, continuations_of, state_at, AreCompiled}
 use Rattle.xd_heads.specs.CellsView.{CellsView, no_cells}
 use Rattle.xd_heads.specs.Mirrors.{as_type, continuation_of, AreHeadMoves, no_head, element_head, text_head, Mirrors, MirrorsStay}
-use Rattle.xd_pieces.specs.declared.piece.Piece.{Piece}
+use Rattle.xd_moves.specs.declared.piece.Piece.{Piece}
 use Rattle.xd_moves.specs.Cells.{Cell}
 use Rattle.xd_heads.proofs.StateLemmas.{number_within}
-use Rattle.xd_heads.proofs.Compiling.{numbered_is, bounded_no_cells}
+use Rattle.xd_heads.proofs.AreMirroredLemmas.{numbered_is, bounded_no_cells}
 
 -- ---- heads and moves
 

@@ -3,9 +3,10 @@ use Rattle.std.specs.Prelude.{◌≡◌, ℕ, ◌<◌, ◌≤◌, ◌⊎◌, fal
 use Rattle.std.specs.List.{AllByRecursion}
 use Rattle.xd_syntax.specs.Tree.{Tree, seq_of}
 use Rattle.xd_syntax.specs.Table.{Row}
-use Rattle.xd_laws.specs.CanBeEmpty.{can_be_empty}
+use Rattle.xd_meaning.specs.CanBeEmpty.{can_be_empty}
 use Rattle.xd_syntax.specs.TypeText.{depth}
-use Rattle.xd_syntax.specs.Shallow.{IsShallow, nesting_limit}
+use Rattle.xd_syntax.specs.ShallowTables.{IsShallow}
+use Rattle.xd_syntax.specs.Shallow.{nesting_limit}
 use Rattle.xd_syntax.specs.declared.types.TypeDef.{TypeDef}
 use Rattle.xd_auto.specs.Automaton.{Automaton, StateMoves, no_moves, state_number}
 use Rattle.xd_auto.specs.declared.auto.State.{State}

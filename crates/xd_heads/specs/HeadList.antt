@@ -4,15 +4,16 @@ use Rattle.std.specs.HashMap.{HashMap, get}
 use Rattle.std.specs.List.{AllByRecursion}
 use Rattle.xd_syntax.specs.Table.{Row, tree_at}
 use Rattle.xd_syntax.specs.Types.{BelongsTo, tree}
-use Rattle.xd_syntax.specs.Sound.{IsTypeAt}
+use Rattle.xd_syntax.specs.SoundTables.{IsTypeAt}
 use Rattle.xd_syntax.specs.Tree.{Tree, Empty, seq_of}
 use Rattle.xd_syntax.specs.TypeText.{depth}
-use Rattle.xd_syntax.specs.Shallow.{IsShallow, nesting_limit}
+use Rattle.xd_syntax.specs.ShallowTables.{IsShallow}
+use Rattle.xd_syntax.specs.Shallow.{nesting_limit}
 use Rattle.xd_syntax.specs.Program.{names_of}
 use Rattle.xd_syntax.specs.Kept.{ProgramTable, program_tree}
 use Rattle.xd_syntax.specs.declared.types.TypeId.{TypeId}
-use Rattle.xd_laws.specs.Heads.{element_in, text_in}
-use Rattle.xd_laws.specs.Heads as laws
+use Rattle.xd_meaning.specs.Heads.{element_in, text_in}
+use Rattle.xd_meaning.specs.Heads as laws
 use Rattle.xd_continuations.specs.Chains.{KeepsLinks}
 use Rattle.xd_continuations.specs.Continuation.{Move, head_of, IsMerged, IsContinuation}
 use Rattle.xd_moves.specs.Found.{continuation, move_of, move_at, AreOfTypes, IsFound}

@@ -4,15 +4,16 @@ use Rattle.std.specs.List.{AllByRecursion}
 use Rattle.xd_syntax.specs.Tree.{Tree, seq_of}
 use Rattle.xd_syntax.specs.Table.{Row}
 use Rattle.xd_syntax.specs.TypeText.{depth}
-use Rattle.xd_syntax.specs.Shallow.{IsShallow, nesting_limit}
-use Rattle.xd_laws.specs.CanBeEmpty.{can_be_empty}
+use Rattle.xd_syntax.specs.ShallowTables.{IsShallow}
+use Rattle.xd_syntax.specs.Shallow.{nesting_limit}
+use Rattle.xd_meaning.specs.CanBeEmpty.{can_be_empty}
 use Rattle.xd_syntax.specs.Program.{names_of}
 use Rattle.xd_syntax.specs.Kept.{ProgramTable, AddsTypes, program_tree}
 use Rattle.xd_auto.specs.Automaton.{Automaton, moves_at, state_number}
 use Rattle.xd_auto.specs.declared.auto.State.{State}
 use Rattle.xd_auto.specs.declared.auto.LabelMove.{LabelMove}
 use Rattle.xd_auto.specs.declared.auto.TextMove.{TextMove}
-use Rattle.xd_laws.specs.Heads.{Head, element_in, text_in, heads}
+use Rattle.xd_meaning.specs.Heads.{Head, element_in, text_in, heads}
 use Rattle.xd_continuations.specs.Continuation.{IsContinuation}
 use Rattle.xd_moves.specs.Found.{continuation, AreBounded, AreOfTypes}
 use Rattle.xd_heads.specs.States.{IsOfCell, number_at, nodes_in}

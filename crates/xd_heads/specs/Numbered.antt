@@ -5,11 +5,11 @@ use Rattle.xd_sound.specs.Known.{AreKnownTypes}
 use Rattle.xd_syntax.specs.RecursionFaults.{IsSound}
 use Rattle.xd_syntax.specs.Table.{Row, tree_at}
 use Rattle.xd_syntax.specs.Tree.{Tree, any_type, seq_of}
-use Rattle.xd_laws.specs.Heads.{pieces}
-use Rattle.xd_laws.specs.Heads as laws
+use Rattle.xd_meaning.specs.Heads.{pieces}
+use Rattle.xd_meaning.specs.Heads as laws
 use Rattle.xd_continuations.specs.Chains.{AreLinks, KeepsLinks}
-use Rattle.xd_pieces.specs.Codes.{number_at}
-use Rattle.xd_pieces.specs.Pieces.{AreFirst, IsFirst}
+use Rattle.xd_moves.specs.Codes.{number_at}
+use Rattle.xd_moves.specs.Pieces.{AreFirst, IsFirst}
 use Rattle.xd_moves.specs.Cells.{AreChosen, Cell}
 use Rattle.xd_moves.specs.Found.{AreOfTypes, continuation}
 use Rattle.xd_heads.specs.HeadList.{kind_at}

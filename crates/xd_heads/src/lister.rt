@@ -3,11 +3,11 @@
 ghost use Rattle.std.specs.Prelude.{◌≡◌, ◌<◌, [], length, map, IfOk, OnOk};
 ghost use Rattle.std.specs.List.{AllByRecursion, AllZip};
 ghost use Rattle.xd_continuations.specs.Continuation.{head_of as head_of_move};
-ghost use Rattle.xd_laws.specs.Heads.{heads};
-ghost use Rattle.xd_pieces.specs.Pieces.{AreFirst, IsFirst};
+ghost use Rattle.xd_meaning.specs.Heads.{heads};
+ghost use Rattle.xd_moves.specs.Pieces.{AreFirst, IsFirst};
 ghost use Rattle.xd_syntax.specs.Kept.{AddsTypes, ProgramTable, program_tree};
 ghost use Rattle.xd_syntax.specs.Program.{names_of};
-ghost use Rattle.xd_syntax.specs.Shallow.{IsShallow};
+ghost use Rattle.xd_syntax.specs.ShallowTables.{IsShallow};
 ghost use Rattle.xd_syntax.specs.Types.{BelongsTo, tree};
 ghost use Rattle.xd_moves.specs.Cells.{AreChosen};
 ghost use Rattle.xd_moves.specs.Found.{AreOfTypes, move_at};
@@ -18,8 +18,7 @@ use crate::listing::{HeadKind, find_moves, kind_of};
 use std::alloc::Global;
 use xd_continuations::meaning_of_any;
 use xd_doc::NoMemory;
-use xd_moves::{Continuations, Found, TypeBodies, content};
-use xd_pieces::FirstPieces;
+use xd_moves::{Continuations, FirstPieces, Found, TypeBodies, content};
 use xd_sound::{KnownTypes, SoundProgram};
 use xd_syntax::{Program, TypeId, Types};
 

@@ -2,14 +2,15 @@
 
 ghost use Rattle.std.specs.Prelude.{◌≡◌, ◌<◌, ◌≤◌, [], length, map, IfOk, OnOk};
 ghost use Rattle.std.specs.List.{AllByRecursion};
-ghost use Rattle.xd_laws.specs.Heads.{heads, pieces};
+ghost use Rattle.xd_meaning.specs.Heads.{heads, pieces};
 ghost use Rattle.xd_continuations.specs.Continuation.{IsContinuation, head_of as head_of_move};
 ghost use Rattle.xd_sound.specs.Emptiness.{AreEmptyMarks};
 ghost use Rattle.xd_syntax.specs.Kept.{AddsTypes, program_tree};
 ghost use Rattle.xd_syntax.specs.Program.{names_of};
 ghost use Rattle.xd_syntax.specs.RecursionFaults.{IsSound};
-ghost use Rattle.xd_syntax.specs.Shallow.{IsShallow, nesting_limit};
-ghost use Rattle.xd_syntax.specs.Sound.{IsTypeAt};
+ghost use Rattle.xd_syntax.specs.ShallowTables.{IsShallow};
+ghost use Rattle.xd_syntax.specs.Shallow.{nesting_limit};
+ghost use Rattle.xd_syntax.specs.SoundTables.{IsTypeAt};
 ghost use Rattle.xd_syntax.specs.Table.{tree_at};
 ghost use Rattle.xd_syntax.specs.Tree.{any_type, seq_of};
 ghost use Rattle.xd_sound.specs.TypeNames.{AreNumbered};

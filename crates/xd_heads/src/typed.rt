@@ -4,20 +4,20 @@ ghost use Rattle.std.specs.Prelude.{◌≡◌, ◌<◌, ◌≤◌, false, length
 ghost use Rattle.std.specs.List.{AllByRecursion};
 ghost use Rattle.std.specs.Option.{IfNone, IfSome};
 ghost use Rattle.xd_continuations.specs.Continuation.{IsContinuation};
-ghost use Rattle.xd_syntax.specs.Shallow.{IsShallow, nesting_limit};
-ghost use Rattle.xd_syntax.specs.Sound.{IsTypeAt};
+ghost use Rattle.xd_syntax.specs.ShallowTables.{IsShallow};
+ghost use Rattle.xd_syntax.specs.Shallow.{nesting_limit};
+ghost use Rattle.xd_syntax.specs.SoundTables.{IsTypeAt};
 ghost use Rattle.xd_syntax.specs.Table.{tree_at};
 ghost use Rattle.xd_syntax.specs.Tree.{Plus, seq_of};
 ghost use Rattle.xd_syntax.specs.TypeText.{depth};
 ghost use Rattle.xd_syntax.specs.Types.{BelongsTo, tree, type_numbers};
 ghost use Rattle.xd_moves.specs.Found.{AreOfTypes, continuation, is_plus};
-ghost use Rattle.xd_pieces.specs.Pieces.{piece_tree};
+ghost use Rattle.xd_moves.specs.Pieces.{piece_tree};
 ghost use Rattle.xd_heads.specs.Growing.{GrowsTypes};
 
 use std::alloc::Global;
 use xd_doc::NoMemory;
-use xd_moves::Continuations;
-use xd_pieces::Piece;
+use xd_moves::{Continuations, Piece};
 use xd_sound::SoundProgram;
 use xd_syntax::{TypeForm, TypeId, Types};
 

@@ -8,7 +8,7 @@ ghost use Rattle.xd_syntax.specs.Fits.{Fits};
 ghost use Rattle.xd_syntax.specs.Kept.{AddsTypes, ProgramTable, program_tree};
 ghost use Rattle.xd_syntax.specs.Program.{names_of};
 ghost use Rattle.xd_syntax.specs.RecursionFaults.{IsSound};
-ghost use Rattle.xd_syntax.specs.Shallow.{IsShallow};
+ghost use Rattle.xd_syntax.specs.ShallowTables.{IsShallow};
 ghost use Rattle.xd_syntax.specs.Table.{Row, tree_at};
 ghost use Rattle.xd_syntax.specs.Tree.{any_type};
 ghost use Rattle.xd_sound.specs.TypeNames.{AreNumbered};

@@ -5,22 +5,22 @@ use Rattle.xd_doc.specs.Document.{Document, is_proper}
 use Rattle.xd_auto.specs.Automaton.{Automaton, accepts}
 use Rattle.xd_auto.specs.declared.auto.State.{State}
 use Rattle.xd_rules.specs.Members.{IsOneOf}
-use Rattle.xd_state_heads.specs.Moves.{Accepts, claim_with}
+use Rattle.xd_rules.specs.Moves.{Accepts, claim_with}
 use Rattle.xd_goals.specs.Rows.{TableView, claim_of, row_at}
 use Rattle.xd_goals.specs.Truth.{IsIncluded}
 use Rattle.xd_goals.specs.Verdicts.{IsProved}
-use Rattle.xd_goals.proofs.Growing.{claim_within}
+use Rattle.xd_goals.proofs.GrowsByLemmas.{claim_within}
 use Rattle.xd_heads.specs.CellsView.{CellsView}
 use Rattle.xd_heads.specs.Mirrors.{IsTypeState, continuation_of}
 use Rattle.xd_heads.proofs.Mirrored.{type_is}
-use Rattle.xd_laws.specs.Consistent.{IsConsistent, numbered}
-use Rattle.xd_doc.specs.Least.{IsLeastUpTo}
+use Rattle.xd_meaning.specs.Consistent.{IsConsistent, numbered}
+use Rattle.xd_doc.specs.LeastUpTo.{IsLeastUpTo}
 use Rattle.xd_least.specs.Least.{size_limit}
 use Rattle.xd_apart.specs.Apart.{IsApart}
 use Rattle.xd_proof_make.specs.Made.{IsOfTypes, UsesDefined}
 use Rattle.xd_proof_make.specs.Written.{AreTypes}
-use Rattle.xd_proof_text.specs.ProofText.{IsOfKnownNames, ProvesRow, UsesKnownNames}
-use Rattle.xd_laws.specs.Included.{Included}
+use Rattle.xd_proof_make.specs.ProofText.{IsOfKnownNames, ProvesRow, UsesKnownNames}
+use Rattle.xd_meaning.specs.Included.{Included}
 use Rattle.xd_syntax.specs.Kept.{ProgramTable, program_tree}
 use Rattle.xd_syntax.specs.Program.{ProgramTree, names_of}
 use Rattle.xd_syntax.specs.Tree.{Tree}

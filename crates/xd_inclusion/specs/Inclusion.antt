@@ -2,17 +2,17 @@
 use Rattle.std.specs.Prelude.{◌≡◌, ℕ, true, List, [], ◌∷◌, Some}
 use Rattle.xd_doc.specs.Document.{Document, is_proper}
 use Rattle.xd_doc.specs.Stored.{BelongsTo, document_at}
-use Rattle.xd_doc.specs.Least.{IsLeastUpTo}
+use Rattle.xd_doc.specs.LeastUpTo.{IsLeastUpTo}
 use Rattle.xd_least.specs.Least.{size_limit}
 use Rattle.xd_syntax.specs.Tree.{Definitions, Tree}
 use Rattle.xd_syntax.specs.Fits.{Fits}
 use Rattle.xd_syntax.specs.NameFaults.{known_types}
 use Rattle.xd_syntax.specs.Program.{ProgramTree, names_of}
-use Rattle.xd_laws.specs.Breach.{Lined, goals_of}
-use Rattle.xd_laws.specs.Consistent.{Goal, IsConsistent, numbered}
-use Rattle.xd_laws.specs.Included.{Included}
-use Rattle.xd_proof_form.specs.Form.{IsProofText}
-use Rattle.xd_proof_form.specs.TypeTexts.{SpellsType}
+use Rattle.xd_meaning.specs.Breach.{Lined, goals_of}
+use Rattle.xd_meaning.specs.Consistent.{Goal, IsConsistent, numbered}
+use Rattle.xd_meaning.specs.Included.{Included}
+use Rattle.xd_proof.specs.Form.{IsProofText}
+use Rattle.xd_proof.specs.TypeTexts.{SpellsType}
 use Rattle.xd_inclusion.specs.declared.compare.Inclusion.{Inclusion}
 use Rattle.xd_inclusion.specs.declared.compare.Inclusion.TheVariants.{Proved, Separated}
 

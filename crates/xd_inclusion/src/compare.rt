@@ -1,10 +1,10 @@
 //! The comparison of two types.
 
 ghost use Rattle.std.specs.Prelude.{◌≡◌, IfOk};
-ghost use Rattle.xd_doc.specs.Stored.{Keeps};
+ghost use Rattle.xd_doc.specs.StoreNodes.{Keeps};
 ghost use Rattle.xd_heads.specs.Mirrors.{Mirrors};
 ghost use Rattle.xd_syntax.specs.Kept.{AddsTypes, program_tree};
-ghost use Rattle.xd_syntax.specs.Shallow.{IsShallow};
+ghost use Rattle.xd_syntax.specs.ShallowTables.{IsShallow};
 ghost use Rattle.xd_syntax.specs.Tree.{Tree};
 ghost use Rattle.xd_syntax.specs.Types as types;
 ghost use Rattle.xd_proof_make.specs.Made.{UsesDefined};

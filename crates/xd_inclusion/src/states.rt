@@ -6,10 +6,10 @@ ghost use Rattle.xd_goals.specs.Rows.{row_at};
 ghost use Rattle.xd_goals.specs.Standing.{StandsOnAutomaton};
 ghost use Rattle.xd_heads.specs.Mirrors.{Mirrors, continuation_of};
 ghost use Rattle.xd_syntax.specs.Kept.{AddsTypes, program_tree};
-ghost use Rattle.xd_syntax.specs.Shallow.{IsShallow};
+ghost use Rattle.xd_syntax.specs.ShallowTables.{IsShallow};
 ghost use Rattle.xd_syntax.specs.Types as types;
 ghost use Rattle.xd_proof_make.specs.Made.{IsOfTypes};
-ghost use Rattle.xd_proof_text.specs.ProofText.{ProvesRow, UsesKnownNames};
+ghost use Rattle.xd_proof_make.specs.ProofText.{ProvesRow, UsesKnownNames};
 ghost use Rattle.xd_inclusion.specs.States.{IsStateOf};
 
 use std::alloc::Global;
@@ -17,7 +17,7 @@ use xd_auto::{Auto, State};
 use xd_doc::NoMemory;
 use xd_goals::{GoalId, Table};
 use xd_heads::{Cells, compile_type};
-use xd_proof_text::proof_text;
+use xd_proof_make::proof_text;
 use xd_sound::SoundProgram;
 use xd_syntax::TypeId;
 

@@ -8,7 +8,7 @@ use Rattle.xd_syntax.specs.Words.{has_word}
 use Rattle.xd_syntax.specs.Tree.{Tree, Definitions, body, occurrences}
 use Rattle.xd_syntax.specs.Placed.{PlacedTree, unplaced, variables}
 use Rattle.xd_syntax.specs.Ways.{Way, Among, then_way}
-use Rattle.xd_laws.specs.Meaning.{Environment, looked_up}
+use Rattle.xd_meaning.specs.Meaning.{Environment, looked_up}
 use Rattle.xd_syntax.specs.Proper.{IsProperTree}
 use Rattle.xd_laws.proofs.Unfoldings.{same_word_eq}
 use Rattle.xd_laws.proofs.WordLists.{both, either, or_left, or_right, has_word_left, has_word_right}

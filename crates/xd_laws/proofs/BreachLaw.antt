@@ -4,11 +4,11 @@ use Rattle.std.specs.List.{AllByRecursion}
 use Rattle.std.proofs.lemmas.Bool.{eq-eqb, eqb-true}
 use Rattle.std.proofs.lemmas.Slice.Eq.{bytes_eq-Decides}
 use Rattle.xd_syntax.specs.Tree.{Tree, Definitions}
-use Rattle.xd_laws.specs.CanBeEmpty.{can_be_empty}
-use Rattle.xd_laws.specs.Heads.{Head, heads}
+use Rattle.xd_meaning.specs.CanBeEmpty.{can_be_empty}
+use Rattle.xd_meaning.specs.Heads.{Head, heads}
 use Rattle.xd_syntax.specs.Ways.{Among}
-use Rattle.xd_laws.specs.Consistent.{Atom, this_label, other_label, this_text, other_text, ChoiceTree, settles_content, settles_rest, split_on, Case, Goal, HeadAtom, head_atom, atoms_of, atoms_from, Named, named, wanted, numbered, right_heads, matches_atom, matching, Sides, no_sides, on_content, on_rest, HasPart, LeafRule, SplitRule, LabelTree, TextTree, TreeRule, CaseRule, EmptyRule, KeepsRules}
-use Rattle.xd_laws.specs.Breach.{Reason, bad_empty, bad_case, bad_split, bad_leaf, Lined, line_behind, empty_lines, goals_of, TreeBreach, content_leaf, rest_leaf, at_split, in_content, in_rest, TextBreach, text_leaf, text_content, text_split, ChoiceBreach, CasesBreach, too_many, too_few, other_case, in_tree, later_case, GoalBreach, on_empty, in_cases, GoalsBreach, this_goal, later_goal, IsFirstBreach}
+use Rattle.xd_meaning.specs.Consistent.{Atom, this_label, other_label, this_text, other_text, ChoiceTree, settles_content, settles_rest, split_on, Case, Goal, HeadAtom, head_atom, atoms_of, atoms_from, Named, named, wanted, numbered, right_heads, matches_atom, matching, Sides, no_sides, on_content, on_rest, HasPart, LeafRule, SplitRule, LabelTree, TextTree, TreeRule, CaseRule, EmptyRule, KeepsRules}
+use Rattle.xd_meaning.specs.Breach.{Reason, bad_empty, bad_case, bad_split, bad_leaf, Lined, line_behind, empty_lines, goals_of, TreeBreach, content_leaf, rest_leaf, at_split, in_content, in_rest, TextBreach, text_leaf, text_content, text_split, ChoiceBreach, CasesBreach, too_many, too_few, other_case, in_tree, later_case, GoalBreach, on_empty, in_cases, GoalsBreach, this_goal, later_goal, IsFirstBreach}
 use Rattle.xd_syntax.proofs.Members.{mem_append, mem_map}
 use Rattle.xd_laws.specs.Laws.{BreachesAreFound, RulesAreTested, BreachIsOne}
 use Rattle.xd_laws.proofs.WordLists.{both, or_left, or_right}

@@ -12,7 +12,7 @@ use Rattle.xd_syntax.specs.Program.{ProgramTree, names_of}
 use Rattle.xd_syntax.specs.Fits.{Fits, fits_no_turn, fits_plus}
 use Rattle.xd_syntax.specs.May.{Scope, parameters_scope}
 use Rattle.xd_syntax.specs.CheckFaults.{Line, wrong_result, not_exhaustive, LineWhere, Misfits, IsLiveIn, Comes, LinesOfFunctions, LinesOfClauses, lines_in_order, AreLines, IsAccepted}
-use Rattle.xd_laws.specs.Meaning.{Done, meaning}
+use Rattle.xd_meaning.specs.Meaning.{Done, meaning}
 use Rattle.xd_laws.specs.LineSamples.{at_place, one, leaf_at, x_variable as x, fault_line, warning_line, some_from_any, endless_type, SampleLines}
 use Rattle.xd_laws.proofs.OneLines.{empty_least, first_alone, no_such_line}
 use Rattle.xd_laws.proofs.TelephoneSamples.{whole_has_lines, without_last_has_lines, exchanged_has_lines}

@@ -4,10 +4,10 @@ use Rattle.std.specs.List.{AllByRecursion}
 use Rattle.xd_doc.specs.Document.{Document}
 use Rattle.xd_syntax.specs.Tree.{Tree, Definitions}
 use Rattle.xd_syntax.specs.Fits.{Fits}
-use Rattle.xd_laws.specs.Included.{FitsSome}
-use Rattle.xd_laws.specs.Heads.{Head}
+use Rattle.xd_meaning.specs.Included.{FitsSome}
+use Rattle.xd_meaning.specs.Heads.{Head}
 use Rattle.xd_syntax.specs.Ways.{Among}
-use Rattle.xd_laws.specs.Consistent.{Atom, Goal, ChoiceTree, settles_content, settles_rest, split_on, Sides, on_content, on_rest, numbered, matches_atom, HasPart, LeafRule, LabelTree}
+use Rattle.xd_meaning.specs.Consistent.{Atom, Goal, ChoiceTree, settles_content, settles_rest, split_on, Sides, on_content, on_rest, numbered, matches_atom, HasPart, LeafRule, LabelTree}
 
 pub numbered-among : {A : Type 0} (x : A) (xs : List A) (n : ℕ) → numbered xs n ≡ Some x → Among x xs
 numbered-among x xs zero e = absurd (cc)

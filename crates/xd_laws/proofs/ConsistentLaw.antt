@@ -2,15 +2,16 @@
 use Rattle.std.proofs.Common.{◌≡◌, ℕ, suc, ◌+◌, arith, Bool, true, false, cond, List, [], ◌∷◌, ◌++◌, map, Option, Some, None, refl, ap, sym, subst, ◌∙◌, inl, inr}
 use Rattle.std.specs.List.{AllByRecursion}
 use Rattle.xd_doc.specs.Document.{Document, empty, text, element}
-use Rattle.xd_doc.specs.Classes.{names_label}
+use Rattle.xd_doc.specs.ClassForms.{names_label}
 use Rattle.xd_syntax.specs.Tree.{Tree, Definitions}
 use Rattle.xd_syntax.specs.Fits.{Fits}
-use Rattle.xd_laws.specs.Included.{FitsSome}
+use Rattle.xd_meaning.specs.Included.{FitsSome}
 use Rattle.xd_laws.specs.Guarded.{Guarded}
 use Rattle.xd_syntax.specs.Ways.{Among}
-use Rattle.xd_laws.specs.CanBeEmpty.{can_be_empty}
-use Rattle.xd_laws.specs.Heads.{Head, heads, Begins}
-use Rattle.xd_laws.specs.Consistent.{Atom, Goal, Case, HeadAtom, head_atom, ChoiceTree, settles_content, settles_rest, split_on, Named, named, labels_of, texts_of, numbered, matches_atom, no_sides, matching, atoms_of, atoms_from, right_heads, LabelTree, TextTree, TreeRule, CaseRule, EmptyRule, KeepsRules, IsConsistent, Claim}
+use Rattle.xd_meaning.specs.CanBeEmpty.{can_be_empty}
+use Rattle.xd_meaning.specs.Heads.{Head, heads}
+use Rattle.xd_meaning.specs.HeadBegins.{Begins}
+use Rattle.xd_meaning.specs.Consistent.{Atom, Goal, Case, HeadAtom, head_atom, ChoiceTree, settles_content, settles_rest, split_on, Named, named, labels_of, texts_of, numbered, matches_atom, no_sides, matching, atoms_of, atoms_from, right_heads, LabelTree, TextTree, TreeRule, CaseRule, EmptyRule, KeepsRules, IsConsistent, Claim}
 use Rattle.xd_syntax.proofs.Members.{append_left, append_right, mem_map, map_mem, mem_flat}
 use Rattle.xd_laws.proofs.Documents.{filled}
 use Rattle.xd_laws.proofs.HeadsLaw.{head_fits, fits_head, empty_right, empty_exact}

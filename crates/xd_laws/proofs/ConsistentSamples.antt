@@ -2,10 +2,10 @@
 use Rattle.std.proofs.Common.{ℕ, true, false, List, [], ◌∷◌, Some, None, refl}
 use Rattle.std.specs.Prelude.{codes}
 use Rattle.xd_syntax.specs.Tree.{Tree, Empty, Text, Words, Name, Elem, Alt, Definitions, environment, all_labels}
-use Rattle.xd_laws.specs.CanBeEmpty.{can_be_empty}
-use Rattle.xd_laws.specs.Heads.{heads}
-use Rattle.xd_laws.specs.Consistent.{this_label, other_label, this_text, other_text, ChoiceTree, settles_content, settles_rest, split_on, Case, IsConsistent}
-use Rattle.xd_laws.specs.Breach.{bad_empty, bad_case, bad_split, bad_leaf, Lined, goals_of, IsFirstBreach}
+use Rattle.xd_meaning.specs.CanBeEmpty.{can_be_empty}
+use Rattle.xd_meaning.specs.Heads.{heads}
+use Rattle.xd_meaning.specs.Consistent.{this_label, other_label, this_text, other_text, ChoiceTree, settles_content, settles_rest, split_on, Case, IsConsistent}
+use Rattle.xd_meaning.specs.Breach.{bad_empty, bad_case, bad_split, bad_leaf, Lined, goals_of, IsFirstBreach}
 use Rattle.xd_laws.proofs.BreachLaw.{first_is, none_is}
 
 abbrev a : List ℕ

@@ -2,11 +2,11 @@
 use Rattle.std.proofs.Common.{ℕ, ◌+◌, Bool, true, false, not, cond, ◌||◌, ◌&&◌, nat_eq, List, [], ◌∷◌, Option, Some, None}
 use Rattle.std.specs.Str.{bytes_eq}
 use Rattle.xd_syntax.specs.Tree.{Tree, Definitions}
-use Rattle.xd_laws.specs.CanBeEmpty.{can_be_empty}
-use Rattle.xd_laws.specs.Heads.{Head, heads}
-use Rattle.xd_laws.specs.Consistent.{Atom, this_label, other_label, this_text, other_text, ChoiceTree, settles_content, settles_rest, split_on, Case, Goal, HeadAtom, wanted, numbered, right_heads, matches_atom, matching, Sides, no_sides, on_content, on_rest}
+use Rattle.xd_meaning.specs.CanBeEmpty.{can_be_empty}
+use Rattle.xd_meaning.specs.Heads.{Head, heads}
+use Rattle.xd_meaning.specs.Consistent.{Atom, this_label, other_label, this_text, other_text, ChoiceTree, settles_content, settles_rest, split_on, Case, Goal, HeadAtom, wanted, numbered, right_heads, matches_atom, matching, Sides, no_sides, on_content, on_rest}
 pub use Rattle.xd_laws.specs.SameTree.{same_class, same_tree}
-use Rattle.xd_laws.specs.Breach.{Reason, bad_empty, bad_case, bad_split, bad_leaf, Lined, line_behind, empty_lines, goals_of}
+use Rattle.xd_meaning.specs.Breach.{Reason, bad_empty, bad_case, bad_split, bad_leaf, Lined, line_behind, empty_lines, goals_of}
 
 abbrev pub same_atom : Atom → Atom → Bool
 same_atom (this_label l) (this_label m) = bytes_eq l m

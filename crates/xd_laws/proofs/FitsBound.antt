@@ -3,7 +3,7 @@ use Rattle.std.proofs.Common.{◌≡◌, ℕ, suc, zero, ◌+◌, ◌*◌, ◌�
 use Rattle.xd_doc.specs.Document.{Document, empty, text, element, join, size}
 use Rattle.xd_syntax.specs.Tree.{Tree, Star, Definitions, body}
 use Rattle.xd_syntax.specs.Fits.{Fits}
-use Rattle.xd_laws.specs.FitsWithin.{no_turn, one_turn, fits_by, fits_definition, fits_name_within, FitsWithin}
+use Rattle.xd_meaning.specs.FitsWithin.{no_turn, one_turn, fits_by, fits_definition, fits_name_within, FitsWithin}
 use Rattle.xd_syntax.specs.Fits as F
 use Rattle.xd_laws.specs.Guarded.{Front, Step, Guarded, Defined}
 use Rattle.xd_laws.specs.Guarded as R

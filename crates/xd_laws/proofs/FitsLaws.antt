@@ -5,7 +5,7 @@ use Rattle.xd_doc.specs.Classes.{LabelClass}
 use Rattle.xd_syntax.specs.Tree.{Tree, Text, Name, Elem, Seq, Star, Plus, Opt, Definitions, body, environment, any_type}
 use Rattle.xd_syntax.specs.Words.{any_word}
 use Rattle.xd_syntax.specs.Fits.{Fits, fits_text, fits_elem, fits_seq, fits_left, fits_right, fits_no_turn, fits_turn, fits_plus, fits_absent, fits_present, fits_name, Split}
-use Rattle.xd_laws.specs.FitsWithin.{IsOneText, IsOneElement}
+use Rattle.xd_meaning.specs.FitsWithin.{IsOneText, IsOneElement}
 
 pub text_only : (E : Definitions) (d : Document) → Fits E Text d → IsOneText d
 text_only E _ fits_text = refl

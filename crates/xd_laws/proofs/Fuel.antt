@@ -3,10 +3,10 @@ use Rattle.std.proofs.Common.{◌≡◌, ℕ, suc, zero, ◌+◌, add-one, List,
 use Rattle.xd_doc.specs.Document.{Document, empty, element, join}
 use Rattle.xd_syntax.specs.Words.{main_word}
 use Rattle.xd_syntax.specs.Placed.{unplaced}
-use Rattle.xd_laws.specs.FirstMatch.{first}
+use Rattle.xd_meaning.specs.FirstMatch.{first}
 use Rattle.xd_syntax.specs.Expression.{Expression, Nothing, Quoted, Variable, Tagged, Joined, Called, Matched, Arguments, no_argument, argument, Clauses, no_clause, clause}
 use Rattle.xd_syntax.specs.Program.{FunctionDefinition, ProgramTree, names_of, function_of}
-use Rattle.xd_laws.specs.Meaning.{Outcome, Done, Spent, Stuck, Environment, Matcher, looked_up, and_then, done_or_stuck, or_else, bound, value_by, values_by, chosen_by, body_by, call_within, meaning}
+use Rattle.xd_meaning.specs.Meaning.{Outcome, Done, Spent, Stuck, Environment, Matcher, looked_up, and_then, done_or_stuck, or_else, bound, value_by, values_by, chosen_by, body_by, call_within, meaning}
 
 bind_up : {A B : Type 0} (o p : Outcome A) (f g : A → ℕ → Outcome B) (v : B) (k : ℕ) → ((a : A) (m : ℕ) → o ≡ Done a m → p ≡ Done a (suc m)) →
     ((a : A) (m : ℕ) → f a m ≡ Done v k → g a (suc m) ≡ Done v (suc k)) → and_then o f ≡ Done v k → and_then p g ≡ Done v (suc k)

@@ -6,8 +6,9 @@ use Rattle.xd_syntax.specs.Tree.{Tree, Empty, Text, Words, Name, Elem, Seq, Alt,
 use Rattle.xd_syntax.specs.Fits.{Fits, Split, empty_by}
 use Rattle.xd_syntax.specs.Ways.{Among}
 use Rattle.xd_laws.specs.Guarded.{Front, one, Guarded, Defined}
-use Rattle.xd_laws.specs.CanBeEmpty.{empty_definition, empty_name, can_be_empty}
-use Rattle.xd_laws.specs.Heads.{Head, element_in, text_in, pieces, followed_by, with_behind, heads_by, heads_of_definition, heads_of_name, heads, Begins, all_texts}
+use Rattle.xd_meaning.specs.CanBeEmpty.{empty_definition, empty_name, can_be_empty}
+use Rattle.xd_meaning.specs.Heads.{Head, element_in, text_in, pieces, followed_by, with_behind, heads_by, heads_of_definition, heads_of_name, heads, all_texts}
+use Rattle.xd_meaning.specs.HeadBegins.{Begins}
 use Rattle.xd_laws.proofs.Documents.{HasItem, filled, has, join_assoc, join_empty-right}
 use Rattle.xd_syntax.specs.Fits as F
 use Rattle.xd_laws.specs.Guarded as R

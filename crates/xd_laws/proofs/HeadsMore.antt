@@ -5,8 +5,8 @@ use Rattle.xd_syntax.specs.Tree.{Tree, Empty, Text, Words, Name, Elem, Seq, Alt,
 use Rattle.xd_syntax.specs.Fits.{Fits}
 use Rattle.xd_laws.specs.Guarded.{Front, Step, Guarded, Defined}
 use Rattle.xd_laws.specs.Guarded as R
-use Rattle.xd_laws.specs.CanBeEmpty.{can_be_empty}
-use Rattle.xd_laws.specs.Heads.{Head, with_behind, heads_by, heads_of_definition, heads_of_name, heads_within, heads}
+use Rattle.xd_meaning.specs.CanBeEmpty.{can_be_empty}
+use Rattle.xd_meaning.specs.Heads.{Head, with_behind, heads_by, heads_of_definition, heads_of_name, heads_within, heads}
 use Rattle.xd_laws.proofs.FitsWays.{cond_same}
 use Rattle.xd_laws.proofs.HeadsLaw.{empty_right}
 use Rattle.xd_laws.proofs.Unfoldings.{Trail, trail_short}

@@ -26,9 +26,9 @@ pub mod WordLists
 pub mod WayShapes
 pub mod BoundVariables
 pub mod LinearPatterns
-pub mod Deciding
+pub mod DecisionLemmas
 pub mod NoFaults
-pub mod Suiting
+pub mod SuitsLemmas
 pub mod OrderedBindings
 pub mod SafeValues
 pub mod SafePrograms

@@ -6,10 +6,11 @@ use Rattle.std.specs.Cmp.Lexicographic.{slice_cmp, pointwise, texts_ties}
 use Rattle.std.proofs.lemmas.Slice.Eq.{bytes_eq-Decides}
 use Rattle.std.specs.declared.cmp.Ordering.{Ordering}
 use Rattle.std.specs.declared.cmp.Ordering.TheVariants.{Less, Equal, Greater}
-use Rattle.xd_doc.specs.Classes.{NameClass, LabelClass, TextClass, class_has, names_label}
-use Rattle.xd_laws.specs.Heads.{Head, HeadKind, element_in, text_in}
+use Rattle.xd_doc.specs.Classes.{NameClass, LabelClass, TextClass, class_has}
+use Rattle.xd_doc.specs.ClassForms.{names_label}
+use Rattle.xd_meaning.specs.Heads.{Head, HeadKind, element_in, text_in}
 use Rattle.xd_syntax.specs.Ways.{Among}
-use Rattle.xd_laws.specs.Consistent.{Atom, this_label, other_label, this_text, other_text, matches_atom, all_atoms, atoms_of, labels_of, texts_of, Named, put_word, in_byte_order}
+use Rattle.xd_meaning.specs.Consistent.{Atom, this_label, other_label, this_text, other_text, matches_atom, all_atoms, atoms_of, labels_of, texts_of, Named, put_word, in_byte_order}
 use Rattle.xd_syntax.proofs.Members.{append_left, append_right, map_mem, flat_mem}
 
 named-among : (ls : List (List ℕ)) (l : List ℕ) → names_label ls l ≡ true → Among l ls

@@ -8,7 +8,7 @@ use Rattle.xd_syntax.specs.Expression.{Expression, Nothing, Quoted, Variable, Ta
 use Rattle.xd_syntax.specs.Program.{Parameter, FunctionDefinition, ProgramTree, function_of}
 use Rattle.xd_syntax.specs.May.{Scope, clause_entry, parameters_scope}
 use Rattle.xd_syntax.specs.Order.{put_in, ordered_after}
-use Rattle.xd_laws.specs.KeptLines.{AllPaired}
+use Rattle.xd_meaning.specs.KeptFaults.{AllPaired}
 use Rattle.xd_syntax.specs.CheckFaults.{Line, LineKind, line_precedes, lines_in_order, LineWhere, IsProperWith, Both, Misfits, dead_clause, wrong_argument, wrong_result, not_exhaustive, parameters_of, Comes, LinesOf, LinesOfArguments, LinesOfClauses, LinesOfFunction, LinesOfFunctions, AreLines, IsLiveIn}
 use Rattle.xd_laws.specs.SameLines.{IsSameLine, LinesAreOne}
 

@@ -9,10 +9,10 @@ use Rattle.xd_syntax.specs.Words.{has_word}
 use Rattle.xd_syntax.specs.Tree.{occurrences}
 use Rattle.xd_syntax.specs.Placed.{unplaced}
 use Rattle.xd_syntax.specs.Ways.{unfoldings, Way}
-use Rattle.xd_laws.specs.FirstMatch.{first}
+use Rattle.xd_meaning.specs.FirstMatch.{first}
 use Rattle.xd_syntax.specs.NameFaults.{without}
-use Rattle.xd_laws.specs.Meaning.{Environment, looked_up}
-use Rattle.xd_laws.specs.Bindings.{each_once, variables_of, bound_to, bindings_in}
+use Rattle.xd_meaning.specs.Meaning.{Environment, looked_up}
+use Rattle.xd_meaning.specs.Bindings.{each_once, variables_of, bound_to, bindings_in}
 use Rattle.xd_syntax.specs.Program.{names_of}
 use Rattle.xd_laws.specs.Laws.{BindingsAgree, BindingsAreInOrder}
 use Rattle.xd_laws.proofs.Unfoldings.{same_word_eq}
@@ -20,8 +20,8 @@ use Rattle.xd_laws.proofs.WordLists.{either, or_left, or_right}
 use Rattle.xd_laws.proofs.WayShapes.{IsWay, way_shape}
 use Rattle.xd_laws.proofs.BoundVariables.{binds, binds_some, looked_up-binds, bound_in}
 use Rattle.xd_laws.proofs.LinearPatterns.{left_without, binds_variables}
-use Rattle.xd_laws.proofs.Suiting.{bind_nothing}
-use Rattle.xd_laws.proofs.Deciding.{first_way}
+use Rattle.xd_laws.proofs.SuitsLemmas.{bind_nothing}
+use Rattle.xd_laws.proofs.DecisionLemmas.{first_way}
 
 -- a word is in the list of each once exactly where it is in the list
 once_has : (xs : List (List ℕ)) (x : List ℕ) → has_word xs x ≡ true → has_word (each_once xs) x ≡ true

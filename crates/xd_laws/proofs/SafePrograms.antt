@@ -5,19 +5,19 @@ use Rattle.xd_doc.specs.Document.{Document}
 use Rattle.xd_syntax.specs.Words.{main_word}
 use Rattle.xd_syntax.specs.Placed.{unplaced}
 use Rattle.xd_syntax.specs.Ways.{Among}
-use Rattle.xd_laws.specs.FirstMatch.{first}
+use Rattle.xd_meaning.specs.FirstMatch.{first}
 use Rattle.xd_syntax.specs.Expression.{place_of_expression}
 use Rattle.xd_syntax.specs.Program.{Parameter, FunctionDefinition, ProgramTree, names_of, function_of}
 use Rattle.xd_syntax.specs.Proper.{IsProperFunction, IsProperProgram}
 use Rattle.xd_syntax.specs.RecursionFaults.{IsSound}
 use Rattle.xd_syntax.specs.May.{parameters_scope}
 use Rattle.xd_syntax.specs.CheckFaults.{wrong_result, Misfits, IsAccepted}
-use Rattle.xd_laws.specs.Meaning.{Outcome, bound, value_by, body_by, call_within}
+use Rattle.xd_meaning.specs.Meaning.{Outcome, bound, value_by, body_by, call_within}
 use Rattle.xd_laws.specs.Safety.{Meets, IsValueOf, AreValuesOf, IsAllowed, ValuesAreAllowed, CallsAreSafe, AcceptedProgramsAreSafe}
 use Rattle.xd_laws.proofs.SoundGuarded.{guarded}
-use Rattle.xd_laws.proofs.Deciding.{fits_not_not}
+use Rattle.xd_laws.proofs.DecisionLemmas.{fits_not_not}
 use Rattle.xd_laws.proofs.NoFaults.{no_faults_of, no_line, function_among, function_lines, body_names}
-use Rattle.xd_laws.proofs.Suiting.{parameters_suit}
+use Rattle.xd_laws.proofs.SuitsLemmas.{parameters_suit}
 use Rattle.xd_laws.proofs.SafeValues.{CallsMeet, meets_more, value_meets}
 
 proper_among : (fs : List FunctionDefinition) → AllByRecursion IsProperFunction fs → (f : FunctionDefinition) → Among f fs → IsProperFunction f

@@ -4,7 +4,7 @@ use Rattle.xd_base.specs.declared.Place.{Place}
 use Rattle.xd_doc.specs.Document.{Document, empty, element, join, is_proper, size}
 use Rattle.xd_syntax.specs.Words.{has_word}
 use Rattle.xd_syntax.specs.Placed.{PlacedTree, unplaced, variables}
-use Rattle.xd_laws.specs.FirstMatch.{first}
+use Rattle.xd_meaning.specs.FirstMatch.{first}
 use Rattle.xd_syntax.specs.Expression.{Expression, Nothing, Quoted, Variable, Tagged, Joined, Called, Matched, Arguments, no_argument, argument, Clauses, no_clause, clause, place_of_expression}
 use Rattle.xd_syntax.specs.Program.{Parameter, FunctionDefinition, ProgramTree, names_of, function_of}
 use Rattle.xd_syntax.specs.Proper.{IsProperExpression, AreProperArguments, AreProperClauses, IsProperProgram}
@@ -13,15 +13,15 @@ use Rattle.xd_syntax.specs.RecursionFaults.{IsSound}
 use Rattle.xd_syntax.specs.May.{Scope, clause_entry, FitsResult}
 use Rattle.xd_laws.specs.Scopes.{MayClauses}
 use Rattle.xd_syntax.specs.CheckFaults.{Line, wrong_argument, not_exhaustive, parameters_of, Comes, IsLiveIn, Misfits, LinesOf, LinesOfArguments, LinesOfClauses, faults_among}
-use Rattle.xd_laws.specs.Meaning.{Outcome, Done, Spent, Stuck, Environment, looked_up, and_then, done_or_stuck, or_else, value_by, values_by, chosen_by}
+use Rattle.xd_meaning.specs.Meaning.{Outcome, Done, Spent, Stuck, Environment, looked_up, and_then, done_or_stuck, or_else, value_by, values_by, chosen_by}
 use Rattle.xd_laws.specs.Safety.{Meets, IsValueOf, AreValuesOf, Suits, IsAllowed}
 use Rattle.xd_syntax.specs.declared.fault.FaultKind.{FaultKind}
 use Rattle.xd_laws.proofs.WordLists.{nothing_both}
 use Rattle.xd_laws.proofs.BoundVariables.{proper_element, join_proper}
 use Rattle.xd_laws.proofs.SoundGuarded.{guarded}
-use Rattle.xd_laws.proofs.Deciding.{first_way, takes_not, fits_not_not}
+use Rattle.xd_laws.proofs.DecisionLemmas.{first_way, takes_not, fits_not_not}
 use Rattle.xd_laws.proofs.NoFaults.{no_faults_of, no_line}
-use Rattle.xd_laws.proofs.Suiting.{clause_suits}
+use Rattle.xd_laws.proofs.SuitsLemmas.{clause_suits}
 
 pub meets_then : {A B : Type 0} (R : A → Type 0) (Q : B → Type 0) (o : Outcome A) (k : A → ℕ → Outcome B) → Meets R o → ((a : A) (m : ℕ) → R a → Meets Q (k a m)) → Meets Q (and_then o k)
 meets_then R Q (Done a m) k h f = f a m h

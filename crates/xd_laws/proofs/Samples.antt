@@ -11,12 +11,12 @@ use Rattle.xd_syntax.specs.Expression.{Expression, Nothing, Variable, Tagged, Jo
 use Rattle.xd_syntax.specs.Program.{TypeDefinition, Parameter, FunctionDefinition, ProgramTree, names_of}
 use Rattle.xd_syntax.specs.Fits as F
 use Rattle.xd_syntax.specs.Fits.{Fits}
-use Rattle.xd_laws.specs.FirstMatch.{first}
-use Rattle.xd_laws.specs.Bindings.{first_bindings}
-use Rattle.xd_laws.specs.CanBeEmpty.{can_be_empty}
-use Rattle.xd_laws.specs.Heads.{Head, element_in, text_in, heads, all_texts}
+use Rattle.xd_meaning.specs.FirstMatch.{first}
+use Rattle.xd_meaning.specs.Bindings.{first_bindings}
+use Rattle.xd_meaning.specs.CanBeEmpty.{can_be_empty}
+use Rattle.xd_meaning.specs.Heads.{Head, element_in, text_in, heads, all_texts}
 use Rattle.xd_syntax.specs.TypeText.{type_text, depth}
-use Rattle.xd_laws.specs.Meaning.{Done, Spent, Stuck, meaning}
+use Rattle.xd_meaning.specs.Meaning.{Done, Spent, Stuck, meaning}
 use Rattle.xd_syntax.specs.NameFaults.{fault_at, name_faults, not_linear}
 use Rattle.xd_syntax.specs.RecursionFaults.{arrived, kept, left_out, all_seen, AreRecursionFaults, IsSound}
 use Rattle.xd_syntax.specs.CheckFaults.{IsAccepted}

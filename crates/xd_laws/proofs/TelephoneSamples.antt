@@ -7,7 +7,8 @@ use Rattle.xd_doc.specs.Document.{Document, empty, text, element, join, is_prope
 use Rattle.xd_doc.specs.Least.{IsLeast}
 use Rattle.std.specs.List.Sorted.{IsStrictlySortedBy}
 use Rattle.xd_doc.specs.Word.{is_word}
-use Rattle.xd_doc.specs.Classes.{class_has, IsClass}
+use Rattle.xd_doc.specs.Classes.{class_has}
+use Rattle.xd_doc.specs.ClassForms.{IsClass}
 use Rattle.xd_syntax.specs.Words.{any_word}
 use Rattle.xd_syntax.specs.Tree.{Tree, Empty, Text, Name, Elem, Seq, Opt, Val, Definitions, body}
 use Rattle.xd_syntax.specs.Placed.{PlacedTree, Empty_at, unplaced}
@@ -28,7 +29,7 @@ use Rattle.xd_laws.proofs.WaysFit.{whole_none}
 use Rattle.xd_laws.proofs.WayShapes.{IsWay, way_text, way_name, way_elem, way_seq, way_val, way_shape, way_join}
 use Rattle.xd_laws.proofs.OneLines.{empty_least, no_lines, first_alone, rest_alone, no_such_line, clause_alone, match_alone}
 use Rattle.xd_laws.proofs.BoundVariables.{none_bound}
-use Rattle.xd_laws.proofs.Suiting.{bind_nothing}
+use Rattle.xd_laws.proofs.SuitsLemmas.{bind_nothing}
 use Rattle.xd_laws.specs.LineSamples.{at_place, one, fault_line, warning_line, HasLines, name_label as name, addr_label as addr, tel_label as tel, n_variable as n, t_variable as t, rest_variable as rest, with_tel_at, without_tel_at, again, listed, with_tel, without_tel, at_end, scrutinee, persons_at, listed_at, input, main_with, telephones, all_clauses, without_last, exchanged, IsNumberThenDead}
 
 abbrev names : Definitions

@@ -4,7 +4,7 @@ use Rattle.xd_doc.specs.Document.{Document, empty, text, element}
 use Rattle.xd_doc.specs.Classes.{LabelClass, TextClass}
 use Rattle.xd_syntax.specs.Tree.{Tree, Empty, Text, Words, Name, Elem, Seq, Alt, Star, Plus, Opt, Val, Definitions, body}
 use Rattle.xd_syntax.specs.Fits.{Fits}
-use Rattle.xd_laws.specs.FitsWithin.{IsOneText, IsOneOf, Repeats, no_turn, one_turn, IsOneElement, fits_by, fits_definition, fits_name_within, FitsWithin}
+use Rattle.xd_meaning.specs.FitsWithin.{IsOneText, IsOneOf, Repeats, no_turn, one_turn, IsOneElement, fits_by, fits_definition, fits_name_within, FitsWithin}
 use Rattle.xd_syntax.specs.Fits as F
 
 Meaning : Type 1

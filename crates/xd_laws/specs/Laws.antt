@@ -4,20 +4,21 @@ use Rattle.std.specs.List.{AllByRecursion}
 use Rattle.xd_doc.specs.Document.{Document, empty, has_item}
 use Rattle.xd_syntax.specs.Tree.{Tree, Elem, Seq, Alt, Star, Plus, Opt, Val, Definitions}
 use Rattle.xd_syntax.specs.Fits.{Fits}
-use Rattle.xd_laws.specs.FitsWithin.{FitsWithin}
+use Rattle.xd_meaning.specs.FitsWithin.{FitsWithin}
 use Rattle.xd_syntax.specs.Placed.{PlacedTree, unplaced}
 use Rattle.xd_syntax.specs.Ways.{Among, ways, ways_within, unfoldings, Takes}
-use Rattle.xd_laws.specs.FirstMatch.{first}
+use Rattle.xd_meaning.specs.FirstMatch.{first}
 use Rattle.xd_syntax.specs.NameFaults.{not_linear}
-use Rattle.xd_laws.specs.Bindings.{variables_of, first_bindings}
+use Rattle.xd_meaning.specs.Bindings.{variables_of, first_bindings}
 use Rattle.xd_syntax.specs.Proper.{IsProperProgram}
-use Rattle.xd_laws.specs.CanBeEmpty.{can_be_empty}
-use Rattle.xd_laws.specs.Heads.{Head, heads, heads_within, Begins}
+use Rattle.xd_meaning.specs.CanBeEmpty.{can_be_empty}
+use Rattle.xd_meaning.specs.Heads.{Head, heads, heads_within}
+use Rattle.xd_meaning.specs.HeadBegins.{Begins}
 use Rattle.xd_syntax.specs.Program.{ProgramTree, names_of}
 use Rattle.xd_syntax.specs.RecursionFaults.{IsSound}
-use Rattle.xd_laws.specs.Meaning.{Done, Environment, looked_up, meaning}
-use Rattle.xd_laws.specs.Consistent.{Goal, IsConsistent, Claim}
-use Rattle.xd_laws.specs.Breach.{Reason, Lined, goals_of, IsFirstBreach}
+use Rattle.xd_meaning.specs.Meaning.{Done, Environment, looked_up, meaning}
+use Rattle.xd_meaning.specs.Consistent.{Goal, IsConsistent, Claim}
+use Rattle.xd_meaning.specs.Breach.{Reason, Lined, goals_of, IsFirstBreach}
 
 -- the binders dropped
 abbrev pub bare : Tree → Tree

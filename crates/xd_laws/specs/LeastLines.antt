@@ -2,7 +2,7 @@
 use Rattle.std.specs.Prelude.{◌≡◌, ℕ, ◌<◌, List, Some}
 use Rattle.std.specs.List.{AllByRecursion}
 use Rattle.xd_doc.specs.Document.{Document, size}
-use Rattle.xd_doc.specs.Least.{size_up_to}
+use Rattle.xd_doc.specs.LeastUpTo.{size_up_to}
 use Rattle.xd_syntax.specs.Program.{ProgramTree}
 use Rattle.xd_syntax.specs.CheckFaults.{Line, AreLines, AreLinesBy, faults_among}
 

@@ -1,15 +1,5 @@
-pub mod FirstMatch
-pub mod Meaning
-pub mod Bindings
-pub mod CanBeEmpty
-pub mod Included
-pub mod FitsWithin
 pub mod Guarded
-pub mod Heads
-pub mod Consistent
-pub mod Breach
 pub mod Laws
-pub mod KeptLines
 pub mod Safety
 pub mod Scopes
 pub mod SameLines

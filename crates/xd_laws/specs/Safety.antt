@@ -12,7 +12,7 @@ use Rattle.xd_syntax.specs.NameFaults.{expression_faults}
 use Rattle.xd_syntax.specs.RecursionFaults.{IsSound}
 use Rattle.xd_syntax.specs.May.{Scope, Allows, May}
 use Rattle.xd_syntax.specs.CheckFaults.{Line, LinesOf, faults_among, IsAccepted}
-use Rattle.xd_laws.specs.Meaning.{Outcome, Done, Spent, Stuck, Environment, looked_up, call, value, meaning}
+use Rattle.xd_meaning.specs.Meaning.{Outcome, Done, Spent, Stuck, Environment, looked_up, call, value, meaning}
 
 -- It is not stuck; and where it is done, the value meets the fact.
 abbrev pub Meets : {A : Type 0} → (A → Type 0) → Outcome A → Type 0

@@ -5,8 +5,10 @@ use Rattle.std.proofs.lemmas.Bool.{cases_lt}
 use Rattle.std.proofs.lemmas.Bool.Decides.{nat_tests}
 use Rattle.std.proofs.lemmas.List.{get_or-append_right, get_or_append_left}
 use Rattle.xd_doc.specs.declared.store.Seq.{Seq}
-use Rattle.xd_doc.specs.Document.{Document, empty, text, element, size, content_of, rest_of, has_item, escaped_all, comma_before, items_text, canonical_text}
-use Rattle.xd_doc.specs.Least.{IsLeast, IsLeastUpTo}
+use Rattle.xd_doc.specs.Document.{Document, empty, text, element, size, has_item, escaped_all, comma_before, items_text, canonical_text}
+use Rattle.xd_doc.specs.DocumentCode.{content_of, rest_of}
+use Rattle.xd_doc.specs.Least.{IsLeast}
+use Rattle.xd_doc.specs.LeastUpTo.{IsLeastUpTo}
 use Rattle.xd_doc.specs.Stored.{document_at}
 use Rattle.xd_auto.specs.declared.auto.State.{State}
 use Rattle.xd_auto.specs.Automaton.{Automaton, accepts}

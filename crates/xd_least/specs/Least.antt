@@ -1,7 +1,8 @@
 -- Least documents of the states of an automaton.
 use Rattle.std.specs.Prelude.{◌≡◌, ℕ, ◌^◌, ◌<◌, ◌≤◌, min, true, false, Option, Some, None, List, length, slice_index_or}
 use Rattle.xd_doc.specs.Document.{Document, size}
-use Rattle.xd_doc.specs.Stored.{BelongsTo, Keeps, document_at}
+use Rattle.xd_doc.specs.Stored.{BelongsTo, document_at}
+use Rattle.xd_doc.specs.StoreNodes.{Keeps}
 use Rattle.xd_auto.specs.declared.auto.State.{State}
 use Rattle.xd_auto.specs.Automaton.{Automaton, Extends, LeadsBelow, accepts, moves_at, state_number}
 use Rattle.xd_least.specs.declared.document.LeastDocument.{LeastDocument}

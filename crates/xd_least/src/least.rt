@@ -2,8 +2,9 @@
 
 ghost use Rattle.std.specs.Prelude.{◌≡◌, ◌^◌, false, None, Ok, IfOk, IfSome};
 ghost use Rattle.xd_doc.specs.Document.{Document};
-ghost use Rattle.xd_doc.specs.Least.{IsLeastUpTo};
-ghost use Rattle.xd_doc.specs.Stored.{document_at, BelongsTo, Keeps};
+ghost use Rattle.xd_doc.specs.LeastUpTo.{IsLeastUpTo};
+ghost use Rattle.xd_doc.specs.Stored.{document_at, BelongsTo};
+ghost use Rattle.xd_doc.specs.StoreNodes.{Keeps};
 ghost use Rattle.xd_auto.specs.Automaton.{accepts, IsState};
 ghost use Rattle.xd_least.specs.Least.{Accepts, AreAllLeast};
 

@@ -2,7 +2,8 @@
 
 ghost use Rattle.std.specs.Prelude.{◌≡◌, ◌+◌, ◌<◌, IfOk, length, slice_index_or};
 ghost use Rattle.xd_doc.specs.Document.{empty, size};
-ghost use Rattle.xd_doc.specs.Stored.{BelongsTo, IsBelow, document_at, place_in_store};
+ghost use Rattle.xd_doc.specs.Stored.{BelongsTo, IsBelow, document_at};
+ghost use Rattle.xd_doc.specs.StoreNodes.{place_in_store};
 ghost use Rattle.xd_least.specs.Least.{capped};
 ghost use Rattle.xd_least.specs.Sizes.{AreSizes, known_size};
 

@@ -15,8 +15,8 @@ use Rattle.xd_lex.specs.declared.LexFault.{LexFault}
 use Rattle.xd_lex.specs.declared.LexFault.TheVariants.{BadCharacter}
 use Rattle.xd_lex.specs.declared.Front.{Front}
 use Rattle.xd_lex.specs.declared.Front.TheVariants as fronts
-use Rattle.xd_lex.specs.Tokens.{is_last}
-use Rattle.xd_lex.specs.Spelled.{IsSpelling, are_pieces}
+use Rattle.xd_lex.specs.LexedTokens.{is_last}
+use Rattle.xd_lex.specs.Spellings.{IsSpelling, are_pieces}
 use Rattle.xd_lex.specs.Scan.{quoted, commented, is_escape, is_blank, symbol, one_more, option_more, of_text, of_comment, of_symbol, front_of}
 use Rattle.std.proofs.lemmas.Bool.{and_parts, and_from, not_from_false, eqb-true, cond_both}
 

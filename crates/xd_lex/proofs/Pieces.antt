@@ -9,7 +9,8 @@ use Rattle.std.proofs.lemmas.List.{take_all, drop_all, append-nil, get_or-drop}
 use Rattle.std.proofs.lemmas.List.Edits.{length-between, get_or-between}
 use Rattle.std.proofs.lemmas.Bool.Decides.{nat_tests}
 use Rattle.xd_lex.specs.Scan.{is_escape}
-use Rattle.xd_lex.specs.Spelled.{are_pieces, characters, escape_meaning, unescaped}
+use Rattle.xd_lex.specs.Spellings.{are_pieces}
+use Rattle.xd_lex.specs.Spelled.{characters, escape_meaning, unescaped}
 use Rattle.std.proofs.lemmas.Bool.{and_parts, not-true, ne_eqb}
 
 -- pieces may be cut behind their first n bytes, and the first n stand for themselves

@@ -14,9 +14,10 @@ use Rattle.xd_lex.specs.declared.LexFault.TheVariants.{BadCharacter, OpenText, O
 use Rattle.xd_lex.specs.declared.Front.{Front}
 use Rattle.xd_lex.specs.declared.Front.TheVariants as fronts
 use Rattle.xd_lex.specs.Scan.{is_blank, quoted, commented, option_more, one_more, is_escape, symbol, of_text, of_comment, of_word, of_symbol, front_of}
-use Rattle.xd_lex.specs.Tokens.{Lexeme, is_last, start, past, tokens_from}
+use Rattle.xd_lex.specs.Tokens.{Lexeme, start, past, tokens_from}
+use Rattle.xd_lex.specs.LexedTokens.{is_last}
 use Rattle.xd_lex.specs.Reading.{HasNoEnd, IsComment, IsGap, blank, comment, EndsBefore, Reads, end, gap, token, broken, IsFault, BeginsNothing, TokensAreRead, HasOneLast, OneLast}
-use Rattle.xd_lex.specs.Spelled.{IsSpelling, are_pieces}
+use Rattle.xd_lex.specs.Spellings.{IsSpelling, are_pieces}
 use Rattle.xd_lex.proofs.Fronts.{Fits, fits}
 use Rattle.xd_lex.proofs.Froms.{first, at_gap, at_token, at_fault}
 use Rattle.std.proofs.lemmas.Bool.{and_parts, and_from, not_from_false, eqb-true, eqb-false, cond_both}

@@ -9,7 +9,8 @@ use Rattle.xd_lex.specs.declared.LexFault.{LexFault}
 use Rattle.xd_lex.specs.declared.Front.{Front}
 use Rattle.xd_lex.specs.declared.Front.TheVariants as fronts
 use Rattle.xd_lex.specs.Scan.{front_of}
-use Rattle.xd_lex.specs.Tokens.{Lexeme, past, after, tokens_from, is_last}
+use Rattle.xd_lex.specs.Tokens.{Lexeme, past, after, tokens_from}
+use Rattle.xd_lex.specs.LexedTokens.{is_last}
 use Rattle.xd_lex.specs.Left.{IsPlaced, tokens_left}
 use Rattle.xd_lex.specs.Cut.{IsFirstToken}
 use Rattle.xd_lex.proofs.Fronts.{Reaches, Fits, fits, boundary}

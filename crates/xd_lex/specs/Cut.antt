@@ -2,7 +2,8 @@
 use Rattle.std.specs.Prelude.{◌≡◌, ℕ, List, ◌∷◌, ◌++◌}
 use Rattle.xd_base.specs.declared.Place.{Place}
 use Rattle.xd_lex.specs.declared.Kind.{Kind}
-use Rattle.xd_lex.specs.Tokens.{is_last, past, tokens_from}
+use Rattle.xd_lex.specs.LexedTokens.{is_last}
+use Rattle.xd_lex.specs.Tokens.{past, tokens_from}
 use Rattle.xd_lex.specs.Left.{tokens_left}
 
 -- A text is a gap, a token, and a rest: wherever it begins, its tokens are this one, which stands behind the gap, and

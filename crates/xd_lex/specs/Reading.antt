@@ -7,8 +7,9 @@ use Rattle.xd_lex.specs.declared.Kind.TheVariants as kinds
 use Rattle.xd_lex.specs.declared.LexFault.{LexFault}
 use Rattle.xd_lex.specs.declared.LexFault.TheVariants.{BadCharacter, OpenText, OpenComment}
 use Rattle.xd_lex.specs.Scan.{is_blank, is_escape}
-use Rattle.xd_lex.specs.Spelled.{IsSpelling, are_pieces}
-use Rattle.xd_lex.specs.Tokens.{Lexeme, is_last, start, past, tokens_of}
+use Rattle.xd_lex.specs.Spellings.{IsSpelling, are_pieces}
+use Rattle.xd_lex.specs.Tokens.{Lexeme, start, past, tokens_of}
+use Rattle.xd_lex.specs.LexedTokens.{is_last}
 
 -- no `*)` stands in these bytes
 abbrev pub HasNoEnd : List ℕ → Type 0

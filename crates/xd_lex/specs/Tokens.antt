@@ -1,13 +1,11 @@
 -- The tokens of a text, each with its place.
-use Rattle.std.specs.Prelude.{◌≡◌, ℕ, zero, suc, ◌+◌, ◌-◌, ◌==◌, ◌&&◌, Bool, true, false, List, [], ◌∷◌, take, nat_le, nat_lt, if◌then◌else◌, IsUtf8}
+use Rattle.std.specs.Prelude.{◌≡◌, ℕ, zero, suc, ◌+◌, ◌-◌, ◌==◌, ◌&&◌, List, [], ◌∷◌, take, nat_le, nat_lt, if◌then◌else◌, IsUtf8}
 use Rattle.std.specs.Str.Lossy.{utf8_valid_len}
 use Rattle.xd_base.specs.declared.Place.{Place}
 use Rattle.xd_lex.specs.declared.Kind.{Kind}
 use Rattle.xd_lex.specs.declared.Kind.TheVariants as kinds
 use Rattle.xd_lex.specs.declared.Front.TheVariants as fronts
 use Rattle.xd_lex.specs.declared.lexer.Token.{Token}
-use Rattle.xd_lex.specs.declared.lexer.LexError.{LexError}
-use Rattle.xd_lex.specs.declared.lexer.LexError.TheVariants as errors
 use Rattle.xd_lex.specs.Scan.{front_of}
 
 -- a token without where it lies in memory
@@ -15,15 +13,6 @@ pub record Lexeme : Type 0 where
   pub kind : Kind
   pub text : List ℕ
   pub place : Place
-
-abbrev pub lexeme_of : Token → Lexeme
-lexeme_of t = record { kind = t.kind; text = t.text.now; place = t.place }
-
--- the kinds that end a list of tokens
-abbrev pub is_last : Kind → Bool
-is_last kinds.End = true
-is_last (kinds.Broken f) = true
-is_last k = false
 
 -- the first place of a text
 abbrev pub start : Place
@@ -58,8 +47,3 @@ tokens_of bytes = tokens_from 0 start bytes
 pub record IsNotUtf8At (bytes : List ℕ) (p : Place) : Type 0 where
   pub refused : ¬ (IsUtf8 bytes)
   pub place : p ≡ past start (take (utf8_valid_len bytes) bytes)
-
--- why there are no tokens
-abbrev pub IsRefused : LexError → List ℕ → Type 0
-IsRefused errors.NoMemory bytes = Unit {0}
-IsRefused (errors.NotUtf8 p) bytes = IsNotUtf8At bytes p

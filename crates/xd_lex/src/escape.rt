@@ -4,7 +4,8 @@ ghost use Rattle.std.specs.Prelude.{◌≡◌, ◌≢◌, ◌-◌, ◌<◌, ◌�
 ghost use Rattle.std.specs.String.{string_bytes};
 ghost use Rattle.xd_lex.specs.declared.Kind.TheVariants as kinds;
 ghost use Rattle.xd_lex.specs.Scan.{is_escape};
-ghost use Rattle.xd_lex.specs.Spelled.{IsSpelling, are_pieces, characters, escape_meaning, unescaped};
+ghost use Rattle.xd_lex.specs.Spellings.{IsSpelling, are_pieces};
+ghost use Rattle.xd_lex.specs.Spelled.{characters, escape_meaning, unescaped};
 
 use std::alloc::Global;
 use xd_doc::{NoMemory, Text};

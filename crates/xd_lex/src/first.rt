@@ -2,8 +2,9 @@
 
 ghost use Rattle.std.specs.Prelude.{◌≡◌, ◌<◌, false, length, IfErr, IfOk, IsUtf8};
 ghost use Rattle.xd_lex.specs.Cut.{IsFirstToken};
-ghost use Rattle.xd_lex.specs.Spelled.{IsSpelling};
-ghost use Rattle.xd_lex.specs.Tokens.{is_last, IsNotUtf8At};
+ghost use Rattle.xd_lex.specs.Spellings.{IsSpelling};
+ghost use Rattle.xd_lex.specs.LexedTokens.{is_last};
+ghost use Rattle.xd_lex.specs.Tokens.{IsNotUtf8At};
 
 use crate::place::past;
 use crate::scan::front;

@@ -2,9 +2,10 @@
 
 ghost use Rattle.std.specs.Prelude.{All, ◌≡◌, ◌↔◌, ◌+◌, ◌<◌, ◌∷◌, [], length, true, false, map, IfOk, IfErr, IsUtf8};
 ghost use Rattle.xd_lex.specs.declared.lexer.LexError.TheVariants.{NoMemory};
-ghost use Rattle.xd_lex.specs.Tokens.{lexeme_of, tokens_from, tokens_of, is_last, IsNotUtf8At, IsRefused};
+ghost use Rattle.xd_lex.specs.LexedTokens.{lexeme_of, is_last, IsRefused};
+ghost use Rattle.xd_lex.specs.Tokens.{tokens_from, tokens_of, IsNotUtf8At};
 ghost use Rattle.xd_lex.specs.Left.{tokens_left, IsPlaced};
-ghost use Rattle.xd_lex.specs.Spelled.{IsSpelling};
+ghost use Rattle.xd_lex.specs.Spellings.{IsSpelling};
 
 use crate::Kind;
 use crate::first::{NotUtf8, cut_token, text_of};

@@ -10,8 +10,8 @@ use Rattle.xd_auto.specs.Automaton.{Automaton, accepts, moves_at, takes_element 
 use Rattle.xd_auto.specs.Runs as Numbered
 use Rattle.xd_auto.specs.Runs.{takes_text, takes_element, from_each}
 use Rattle.xd_auto.proofs.RunLaw.{runs_law, runs_are_accepting}
-use Rattle.xd_runs.specs.Runs.{Run, if_marked}
-use Rattle.xd_runs.specs.Laws.{first_of}
+use Rattle.xd_pattern_runs.specs.Runs.{Run, if_marked}
+use Rattle.xd_pattern_runs.specs.Laws.{first_of}
 use Rattle.xd_patterns.specs.Marked.{Marking, no_text_move, no_label_move, with_marks}
 use Rattle.xd_match.specs.First.{first_held, first_run, held_in}
 use Rattle.xd_match.specs.Taking.{IsFirst}

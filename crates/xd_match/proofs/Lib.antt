@@ -1,9 +1,9 @@
 pub mod Firsts
 pub mod TailLaw
-pub mod Spreading
+pub mod IsSpreadLemmas
 pub mod Pieces
 pub mod Taken
-pub mod Staying
+pub mod MatchersStay
 pub mod Variables
 pub mod MeaningLaws
 pub mod PatternLaws

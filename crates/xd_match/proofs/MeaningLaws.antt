@@ -5,7 +5,8 @@ use Rattle.xd_doc.specs.Classes.{LabelClass}
 use Rattle.xd_syntax.specs.Words.{any_word}
 use Rattle.xd_syntax.specs.Tree.{Tree, Name, Elem, Text, Definitions, all_labels, any_type}
 use Rattle.xd_syntax.specs.Table.{Row, KeepsRows, tree_at}
-use Rattle.xd_syntax.specs.Placed.{PlacedTree, placed_at, unplaced}
+use Rattle.xd_syntax.specs.Placed.{PlacedTree, unplaced}
+use Rattle.xd_syntax.specs.PlacedTable.{placed_at}
 use Rattle.xd_syntax.specs.Program.{TypeDefinition}
 use Rattle.xd_syntax.specs.Kept.{ProgramTable, ProgramStands, TypeDefStands, type_definition}
 use Rattle.xd_syntax.specs.declared.types.TypeDef.{TypeDef}

@@ -4,18 +4,18 @@ use Rattle.std.proofs.lemmas.Bool.{cases_eq}
 use Rattle.std.proofs.lemmas.List.{length_push, length-set}
 use Rattle.std.proofs.lemmas.Grind.{common_steps}
 use Rattle.xd_doc.specs.Document.{Document}
-use Rattle.xd_doc.specs.Stored.{Keeps}
+use Rattle.xd_doc.specs.StoreNodes.{Keeps}
 use Rattle.xd_auto.specs.declared.auto.State.{State}
 use Rattle.xd_auto.specs.Automaton.{Automaton}
-use Rattle.xd_member.proofs.Walks.{places_push}
+use Rattle.xd_auto.proofs.Walks.{places_push}
 use Rattle.xd_syntax.specs.Tree.{Definitions, Tree}
-use Rattle.xd_laws.specs.Bindings.{variables_of, first_bindings}
-use Rattle.xd_runs.specs.Laws.{run_bindings}
+use Rattle.xd_meaning.specs.Bindings.{variables_of, first_bindings}
+use Rattle.xd_pattern_runs.specs.Laws.{run_bindings}
 use Rattle.xd_patterns.specs.Marked.{IsCompiled, Marking}
 use Rattle.xd_match.specs.First.{first_run}
 use Rattle.xd_match.specs.Matcher.{AllStand, HasMatcher, IsOfPattern, Stands}
 use Rattle.xd_match.specs.declared.matcher.Matcher.{Matcher}
-use Rattle.xd_match.proofs.Staying.{stands_stay}
+use Rattle.xd_match.proofs.MatchersStay.{stands_stay}
 
 -- the first run of a compiled pattern is its first match
 pub compiled_matches : (E F : Definitions) (P Q : Tree) (a : Automaton) (k : Marking) (s : State) → E ≡ F → P ≡ Q → IsCompiled E P a k s →

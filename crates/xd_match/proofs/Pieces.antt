@@ -1,8 +1,10 @@
 -- Documents of pieces.
 use Rattle.std.proofs.Common.{ℕ, zero, suc, ◌≡◌, ◌<◌, true, not, List, [], ◌∷◌, ◌++◌, length, drop, get_or, arith, refl, ap, ◌∙◌}
 use Rattle.std.specs.List.{AllByRecursion}
-use Rattle.xd_doc.specs.Document.{Document, empty, text, element, first_then, join, has_item}
-use Rattle.xd_doc.specs.Stored.{BelongsTo, Keeps, document_at, no_items}
+use Rattle.xd_doc.specs.Document.{Document, empty, text, element, join, has_item}
+use Rattle.xd_doc.specs.DocumentCode.{first_then}
+use Rattle.xd_doc.specs.Stored.{BelongsTo, document_at}
+use Rattle.xd_doc.specs.StoreNodes.{Keeps, no_items}
 use Rattle.xd_match.specs.declared.binding.Piece.{Piece}
 use Rattle.xd_match.specs.declared.binding.Piece.TheVariants.{First, Whole}
 use Rattle.xd_match.specs.Taking.{PieceBelongs, pieces_then, seq_of}

@@ -1,8 +1,10 @@
 -- What is taken so far, and what waits.
 use Rattle.std.proofs.Common.{ℕ, ◌≡◌, ◌+◌, ◌<◌, Bool, true, false, cond, nat_eq, List, [], ◌∷◌, ◌++◌, length, get_or, Some, None, Vec, arith, refl, sym, ap, ◌∙◌}
 use Rattle.std.specs.List.{AllByRecursion, list_any}
-use Rattle.xd_doc.specs.Document.{Document, empty, text, element, join, rest_of, content_of, first_then}
-use Rattle.xd_doc.specs.Stored.{BelongsTo, document_at, first_of_document}
+use Rattle.xd_doc.specs.Document.{Document, empty, text, element, join}
+use Rattle.xd_doc.specs.DocumentCode.{rest_of, content_of, first_then}
+use Rattle.xd_doc.specs.Stored.{BelongsTo, document_at}
+use Rattle.xd_doc.specs.StoreNodes.{first_of_document}
 use Rattle.xd_doc.specs.declared.store.Seq.{Seq}
 use Rattle.xd_doc.specs.declared.store.Item.TheVariants.{Text, Elem}
 use Rattle.xd_auto.specs.declared.auto.State.{State}
@@ -11,7 +13,7 @@ use Rattle.xd_auto.specs.declared.auto.TextMove.{TextMove}
 use Rattle.xd_auto.specs.Automaton.{Automaton, moves_at, takes_element, takes_word}
 use Rattle.xd_syntax.specs.Words.{has_word}
 use Rattle.xd_laws.proofs.Documents.{join_assoc, join_empty-right}
-use Rattle.xd_runs.specs.Runs.{if_marked}
+use Rattle.xd_pattern_runs.specs.Runs.{if_marked}
 use Rattle.xd_patterns.specs.Marked.{Marking}
 use Rattle.xd_match.specs.declared.binding.Piece.{Piece}
 use Rattle.xd_match.specs.declared.binding.Piece.TheVariants.{First, Whole}

@@ -8,11 +8,11 @@ use Rattle.xd_doc.specs.declared.store.Seq.{Seq}
 use Rattle.xd_auto.specs.declared.auto.State.{State}
 use Rattle.xd_auto.specs.Automaton.{Automaton}
 use Rattle.xd_syntax.specs.Words.{has_word}
-use Rattle.xd_laws.specs.Bindings.{each_once}
+use Rattle.xd_meaning.specs.Bindings.{each_once}
 use Rattle.xd_syntax.specs.NameFaults.{without}
-use Rattle.xd_laws.specs.Meaning.{Environment}
-use Rattle.xd_runs.specs.Runs.{Run, held}
-use Rattle.xd_runs.specs.Laws.{run_bindings}
+use Rattle.xd_meaning.specs.Meaning.{Environment}
+use Rattle.xd_pattern_runs.specs.Runs.{Run, held}
+use Rattle.xd_pattern_runs.specs.Laws.{run_bindings}
 use Rattle.xd_patterns.specs.Marked.{Marking}
 use Rattle.xd_patterns.specs.Variables.{words_of}
 use Rattle.xd_patterns.proofs.VariableLemmas.{number_held}

@@ -6,8 +6,8 @@ use Rattle.xd_doc.specs.declared.store.Seq.{Seq}
 use Rattle.xd_auto.specs.declared.auto.State.{State}
 use Rattle.xd_auto.specs.Automaton.{Automaton}
 use Rattle.xd_auto.specs.Runs as Numbered
-use Rattle.xd_runs.specs.Runs.{Run, held}
-use Rattle.xd_runs.specs.Laws.{first_of}
+use Rattle.xd_pattern_runs.specs.Runs.{Run, held}
+use Rattle.xd_pattern_runs.specs.Laws.{first_of}
 use Rattle.xd_patterns.specs.Marked.{Marking, with_marks}
 
 -- the first run of the state over the document, with the variables of its moves

@@ -4,10 +4,10 @@ use Rattle.std.specs.List.{IsDistinct}
 use Rattle.std.specs.Str.{bytes_eq}
 use Rattle.xd_doc.specs.Document.{Document}
 use Rattle.xd_auto.specs.Automaton.{IsState}
-use Rattle.xd_member.specs.Kept.{AreRight}
+use Rattle.xd_auto.specs.Kept.{AreRight}
 use Rattle.xd_syntax.specs.Tree.{Tree, Definitions}
-use Rattle.xd_laws.specs.Bindings.{variables_of, first_bindings}
-use Rattle.xd_runs.specs.Laws.{run_bindings}
+use Rattle.xd_meaning.specs.Bindings.{variables_of, first_bindings}
+use Rattle.xd_pattern_runs.specs.Laws.{run_bindings}
 use Rattle.xd_patterns.specs.Held.{marking_of, variables_in}
 use Rattle.xd_match.specs.First.{first_run}
 use Rattle.xd_match.specs.Tails.{AreTails}

@@ -4,7 +4,7 @@ use Rattle.std.specs.List.{AllByRecursion}
 use Rattle.xd_doc.specs.Document.{Document}
 use Rattle.xd_doc.specs.Stored.{BelongsTo, document_at}
 use Rattle.xd_doc.specs.declared.store.Seq.{Seq}
-use Rattle.xd_laws.specs.Meaning.{Environment}
+use Rattle.xd_meaning.specs.Meaning.{Environment}
 
 -- what names have in a store, where this is what they are bound to
 abbrev pub environment_in : List Document → List (List ℕ × Seq) → Environment

@@ -1,7 +1,8 @@
 -- How the first run is followed: the first move that can succeed, and the items that wait. Only private contracts speak of it.
 use Rattle.std.specs.Prelude.{◌≡◌, ℕ, nat_eq, ◌+◌, ◌*◌, ◌<◌, Bool, true, false, cond, List, [], ◌∷◌, ◌++◌, length, slice_index_or, get_or, Vec}
 use Rattle.std.specs.List.{AllByRecursion, list_any}
-use Rattle.xd_doc.specs.Document.{Document, empty, join, size, first_then}
+use Rattle.xd_doc.specs.Document.{Document, empty, join, size}
+use Rattle.xd_doc.specs.DocumentCode.{first_then}
 use Rattle.xd_doc.specs.Stored.{BelongsTo, document_at}
 use Rattle.xd_doc.specs.declared.store.Seq.{Seq}
 use Rattle.xd_auto.specs.Automaton.{Automaton, IsState, accepts}

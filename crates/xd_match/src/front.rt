@@ -3,10 +3,11 @@
 ghost use Rattle.std.specs.Prelude.{◌≡◌, ◌&&◌, ℕ, ◌+◌, ◌<◌, ◌≤◌, ◌++◌, ◌∷◌, [], true, length, slice_index_or, List, Some, IfOk, OnOk, MatchOption, None, Vec};
 ghost use Rattle.std.specs.List.{IsDistinct, list_any};
 ghost use Rattle.std.specs.Str.{bytes_eq};
-ghost use Rattle.xd_doc.specs.Document.{content_of, rest_of};
-ghost use Rattle.xd_doc.specs.Stored.{BelongsTo, Keeps, document_at, first_of_document};
+ghost use Rattle.xd_doc.specs.DocumentCode.{content_of, rest_of};
+ghost use Rattle.xd_doc.specs.Stored.{BelongsTo, document_at};
+ghost use Rattle.xd_doc.specs.StoreNodes.{Keeps, first_of_document};
 ghost use Rattle.xd_auto.specs.Automaton.{IsState, accepts, moves_at, takes_element, takes_word};
-ghost use Rattle.xd_member.specs.Kept.{AreRight};
+ghost use Rattle.xd_auto.specs.Kept.{AreRight};
 ghost use Rattle.xd_patterns.specs.Held.{marking_of, variables_in};
 ghost use Rattle.xd_match.specs.First.{AreHeld, first_run};
 ghost use Rattle.xd_match.specs.Tails.{AreTails};
@@ -15,11 +16,10 @@ ghost use Rattle.xd_match.specs.Taking.{AddsPiece, AreTaken, IsFirst, IsReady, T
 use crate::binding::{Piece, bind_each};
 use crate::tails::tail_of;
 use std::alloc::Global;
-use xd_auto::{Auto, LabelMove, State};
+use xd_auto::{Answers, Auto, LabelMove, State, accepts_kept};
+use xd_auto_pairs::MoveKind;
 use xd_doc::{Item, Label, NoMemory, Seq, Store, Text};
-use xd_member::{Answers, accepts_kept};
 use xd_patterns::Marked;
-use xd_traces::MoveKind;
 
 /// A document that a state accepts, over which its first run is still to be followed.
 #[derive(Clone, Copy)]

@@ -2,13 +2,14 @@
 
 ghost use Rattle.std.specs.Prelude.{◌≡◌, List, length, IfOk, option_map};
 ghost use Rattle.xd_doc.specs.Document.{Document};
-ghost use Rattle.xd_doc.specs.Stored.{BelongsTo, Keeps, document_at};
+ghost use Rattle.xd_doc.specs.Stored.{BelongsTo, document_at};
+ghost use Rattle.xd_doc.specs.StoreNodes.{Keeps};
 ghost use Rattle.xd_syntax.specs.Kept.{program_tree};
 ghost use Rattle.xd_syntax.specs.Patterns.{IsPattern, pattern_tree};
 ghost use Rattle.xd_syntax.specs.Program.{names_of};
 ghost use Rattle.xd_syntax.specs.Tree.{Definitions, Tree};
-ghost use Rattle.xd_runs.specs.Laws.{run_bindings};
-ghost use Rattle.xd_runs.specs.Linear.{IsLinear};
+ghost use Rattle.xd_pattern_runs.specs.Laws.{run_bindings};
+ghost use Rattle.xd_pattern_runs.specs.Linear.{IsLinear};
 ghost use Rattle.xd_patterns.specs.Held.{marking_of, variables_in};
 ghost use Rattle.xd_match.specs.First.{first_run};
 ghost use Rattle.xd_match.specs.Matches.{AreBindings, named};
@@ -18,9 +19,8 @@ use crate::front::first_items;
 use crate::meanings::Meanings;
 use crate::tails::mixed_states;
 use std::alloc::Global;
-use xd_auto::Auto;
+use xd_auto::{Answers, Auto};
 use xd_doc::{Label, NoMemory, Seq, Store};
-use xd_member::Answers;
 use xd_patterns::{Marked, compile_pattern};
 use xd_sound::SoundProgram;
 use xd_syntax::PatternId;

@@ -2,13 +2,14 @@
 
 ghost use Rattle.std.specs.Prelude.{◌<◌, ℕ, List, IfOk, length};
 ghost use Rattle.xd_doc.specs.Document.{Document};
-ghost use Rattle.xd_doc.specs.Stored.{BelongsTo, Keeps, document_at};
-ghost use Rattle.xd_laws.specs.Bindings.{first_bindings};
+ghost use Rattle.xd_doc.specs.Stored.{BelongsTo, document_at};
+ghost use Rattle.xd_doc.specs.StoreNodes.{Keeps};
+ghost use Rattle.xd_meaning.specs.Bindings.{first_bindings};
 ghost use Rattle.xd_syntax.specs.Kept.{program_tree};
 ghost use Rattle.xd_syntax.specs.Patterns.{IsPattern, pattern_tree};
 ghost use Rattle.xd_syntax.specs.Program.{names_of};
 ghost use Rattle.xd_syntax.specs.Tree.{Definitions, Tree};
-ghost use Rattle.xd_runs.specs.Linear.{IsLinear};
+ghost use Rattle.xd_pattern_runs.specs.Linear.{IsLinear};
 ghost use Rattle.xd_match.specs.Matcher.{AllStand, HasMatcher};
 ghost use Rattle.xd_match.specs.Matches.{AreBindings};
 ghost use Rattle.xd_match.specs.Meanings.{Means};

@@ -12,10 +12,10 @@ ghost use Rattle.xd_match.specs.Tails.{AreBehind, AreTails, GoesOnWith, HasEvenL
 
 use std::alloc::Global;
 use xd_auto::{Auto, State};
+use xd_auto_pairs::MoveKind;
 use xd_doc::NoMemory;
 use xd_patterns::Marked;
 use xd_sound::Graph;
-use xd_traces::MoveKind;
 
 /// The variables of the state's first move. Where the state isn't mixed, all items that are left of a level from it on
 /// belong to these.

@@ -4,9 +4,9 @@ use Rattle.std.specs.List.{AllByRecursion}
 use Rattle.xd_syntax.specs.Ways.{Among}
 use Rattle.xd_continuations.specs.Chains.{lists_in, AreLinks}
 use Rattle.xd_continuations.proofs.ChainLemmas.{few_links}
-use Rattle.xd_continuations.proofs.Reaching.{all_same}
+use Rattle.xd_continuations.proofs.FiniteLemmas.{all_same}
 use Rattle.xd_moves.specs.Cells.{Cell, pieces_below, room}
-use Rattle.xd_pieces.specs.declared.piece.Piece.{Piece}
+use Rattle.xd_moves.specs.declared.piece.Piece.{Piece}
 
 below_among : (n : ℕ) (p : Piece) → p.node < n → Among p (pieces_below n)
 below_among zero p h = absurd (omega arith)

@@ -1,5 +1,8 @@
+pub mod ListLemmas
+pub mod CodeLemmas
+pub mod HasNumberLemmas
 pub mod CellLemmas
-pub mod Putting
-pub mod Forming
-pub mod Working
+pub mod PutsTasksLemmas
+pub mod FindsLemmas
+pub mod WorkedTaskLemmas
 pub mod Bodied

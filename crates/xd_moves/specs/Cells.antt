@@ -3,7 +3,7 @@ use Rattle.std.specs.Prelude.{ℕ, zero, suc, true, false, List, [], ◌∷◌}
 use Rattle.std.specs.List.{AllByRecursion}
 use Rattle.xd_continuations.specs.Chains as chains
 use Rattle.xd_continuations.specs.declared.links.Link.{Link}
-use Rattle.xd_pieces.specs.declared.piece.Piece.{Piece}
+use Rattle.xd_moves.specs.declared.piece.Piece.{Piece}
 
 abbrev pub Cell : Type 0
 Cell = Link Piece

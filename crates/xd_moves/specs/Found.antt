@@ -4,15 +4,15 @@ use Rattle.std.specs.List.{AllByRecursion}
 use Rattle.xd_syntax.specs.Tree.{Tree, Words, Elem, Star, Plus, Definitions, body}
 use Rattle.xd_syntax.specs.Table.{Row, Form, empty_form, text_form, words_form, name_form, elem_form, seq_form, alt_form, star_form, plus_form, opt_form, val_form, tree_at}
 use Rattle.xd_sound.specs.TypeNames.{AreNumbered, meanings}
-use Rattle.xd_laws.specs.Heads.{element_in, text_in, pieces, all_texts}
-use Rattle.xd_laws.specs.CanBeEmpty.{can_be_empty}
+use Rattle.xd_meaning.specs.Heads.{element_in, text_in, pieces, all_texts}
+use Rattle.xd_meaning.specs.CanBeEmpty.{can_be_empty}
 use Rattle.xd_syntax.specs.declared.types.TypeDef.{TypeDef}
 use Rattle.xd_continuations.specs.Continuation.{Move, moves}
 use Rattle.xd_continuations.specs.Expansion.{Task, task, definition_task, own_moves, tasks_left}
 use Rattle.xd_continuations.specs.TailUses.{RecursOnlyInTail}
 use Rattle.xd_continuations.specs.Bounds.{NoneLarger, IsBounded}
 use Rattle.xd_continuations.specs.Chains.{list_at, KeepsLinks}
-use Rattle.xd_pieces.specs.Pieces.{piece_tree}
+use Rattle.xd_moves.specs.Pieces.{piece_tree}
 use Rattle.xd_moves.specs.Bodies.{node_of}
 use Rattle.xd_moves.specs.declared.bodies.TypeBodies.{TypeBodies}
 use Rattle.xd_moves.specs.Cells.{Cell}

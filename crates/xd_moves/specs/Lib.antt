@@ -1,3 +1,7 @@
+pub mod Lists
+pub mod Codes
+pub mod Pieces
+pub mod Numbered
 pub mod Cells
 pub mod Found
 pub mod Bodies

@@ -1,7 +1,7 @@
 //! Interned continuations.
 
+use crate::piece::Piece;
 use xd_continuations::{Interned, Link};
-use xd_pieces::Piece;
 
 /// A piece, and the number of the continuation behind it.
 pub type Cell = Link<Piece>;

@@ -2,16 +2,16 @@
 
 ghost use Rattle.std.specs.Prelude.{◌≡◌, ◌<◌, ◌≤◌, ◌++◌, ◌∷◌, [], length, map, IfOk, OnOk};
 ghost use Rattle.std.specs.List.{AllByRecursion};
-ghost use Rattle.xd_laws.specs.Heads.{pieces};
+ghost use Rattle.xd_meaning.specs.Heads.{pieces};
 ghost use Rattle.xd_syntax.specs.Table.{PartsBelow, form_tree, tree_at};
 ghost use Rattle.xd_syntax.specs.Types.{form_of, type_numbers};
 ghost use Rattle.xd_moves.specs.Cells.{StayChosen};
 ghost use Rattle.xd_moves.specs.Found.{AddsCells, IsContent, StayBounded, continuation};
 
 use crate::cells::Continuations;
+use crate::piece::Piece;
 use crate::stand_ins::StandIns;
 use xd_doc::NoMemory;
-use xd_pieces::Piece;
 use xd_syntax::{TypeForm, TypeId, Types};
 
 /// The number of the continuation that is the pieces of a type. Fails only where memory is refused.

@@ -6,20 +6,20 @@ ghost use Rattle.xd_laws.specs.Guarded.{Guarded};
 ghost use Rattle.xd_syntax.specs.Table.{PartsBelow, form_tree, tree_at};
 ghost use Rattle.xd_syntax.specs.Tree.{Star, body};
 ghost use Rattle.xd_syntax.specs.Types.{form_of, type_numbers};
-ghost use Rattle.xd_laws.specs.CanBeEmpty.{can_be_empty};
+ghost use Rattle.xd_meaning.specs.CanBeEmpty.{can_be_empty};
 ghost use Rattle.xd_continuations.specs.Expansion.{definition_task, task, tasks_of};
 ghost use Rattle.xd_sound.specs.TypeNames.{meanings};
 ghost use Rattle.xd_moves.specs.Cells.{StayChosen};
-ghost use Rattle.xd_pieces.specs.Pieces.{piece_tree};
+ghost use Rattle.xd_moves.specs.Pieces.{piece_tree};
 ghost use Rattle.xd_moves.specs.Found.{AddsCells, AreBodies, AreDecidingMarks, AreMovesOf, AreOfTypes, Finds, IsTask, IsWorkedOff, PutsSequence, PutsTasks, StayBounded, continuation, form_moves, form_put, form_tasks, is_plus, move_of, waiting_at};
 
 use crate::bodies::TypeBodies;
 use crate::cells::{Cell, Continuations};
+use crate::piece::Piece;
 use crate::stand_ins::StandIns;
 use std::alloc::Global;
 use xd_continuations::Link;
 use xd_doc::{Label, NoMemory};
-use xd_pieces::Piece;
 use xd_syntax::{TypeDef, TypeForm, TypeId, Types};
 
 /// An element or a text that a document can begin with, and the number of the continuation behind it.

@@ -2,13 +2,14 @@
 
 ghost use Rattle.std.specs.Prelude.{◌≡◌, ◌<◌, List, length};
 ghost use Rattle.xd_syntax.specs.Table.{Row};
-ghost use Rattle.xd_pieces.specs.Pieces.{AreFirst, IsFirst, piece_tree};
-ghost use Rattle.xd_pieces.specs.declared.firsts.FirstPieces.{FirstPieces};
-ghost use Rattle.xd_pieces.specs.declared.piece.Piece.{Piece};
+ghost use Rattle.xd_moves.specs.Pieces.{AreFirst, IsFirst, piece_tree};
+ghost use Rattle.xd_moves.specs.declared.firsts.FirstPieces.{FirstPieces};
+ghost use Rattle.xd_moves.specs.declared.piece.Piece.{Piece};
 ghost use Rattle.xd_moves.specs.declared.first_uses.FirstUses.{FirstUses};
 
 use crate::first_uses::FirstUses;
-use xd_pieces::{FirstPieces, Piece};
+use crate::firsts::FirstPieces;
+use crate::piece::Piece;
 use xd_syntax::Types;
 
 /// Which piece stands for a piece in continuations: one of the same type, so that more continuations are one.

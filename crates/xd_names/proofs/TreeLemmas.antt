@@ -3,7 +3,8 @@ use Rattle.std.proofs.Common.{◌≡◌, ℕ, zero, suc, ◌+◌, ◌<◌, ◌�
 use Rattle.std.proofs.lemmas.List.Folds.{flat_map-map}
 use Rattle.std.specs.List.{AllByRecursion}
 use Rattle.xd_base.specs.declared.Place.{Place}
-use Rattle.xd_syntax.specs.Placed.{PlacedTree, place_of, placed_seq, placed_alt, placed_form, placed_at, variables}
+use Rattle.xd_syntax.specs.Placed.{PlacedTree, place_of, placed_seq, placed_alt, variables}
+use Rattle.xd_syntax.specs.PlacedTable.{placed_form, placed_at}
 use Rattle.xd_syntax.specs.Table.{Row}
 use Rattle.xd_syntax.specs.declared.fault.Fault.{Fault}
 use Rattle.xd_syntax.specs.Nodes.{IsNode, form_parts, view_form}

@@ -3,8 +3,9 @@
 ghost use Rattle.std.specs.Prelude.{◌≡◌, ◌<◌, ◌++◌, length, flat_map, OnOk};
 ghost use Rattle.std.specs.List.{AllByRecursion};
 ghost use Rattle.xd_syntax.specs.Patterns.{IsPattern};
-ghost use Rattle.xd_syntax.specs.Placed.{placed_at, variables};
-ghost use Rattle.xd_syntax.specs.Expression.{expression_at, clauses_of};
+ghost use Rattle.xd_syntax.specs.PlacedTable.{placed_at};
+ghost use Rattle.xd_syntax.specs.Placed.{variables};
+ghost use Rattle.xd_syntax.specs.ExpressionTable.{expression_at, clauses_of};
 ghost use Rattle.xd_syntax.specs.Exprs.{IsExpr, expr_numbers, clause_numbers, expression};
 ghost use Rattle.xd_syntax.specs.NameFaults.{known_types, pattern_faults, expression_faults, clause_faults};
 ghost use Rattle.xd_names.specs.Knows.{Knows, whole};

@@ -5,7 +5,8 @@ ghost use Rattle.std.specs.List.{list_all, AllByRecursion};
 ghost use Rattle.std.specs.Str.{bytes_eq};
 ghost use Rattle.xd_syntax.specs.Words.{has_word};
 ghost use Rattle.xd_syntax.specs.Patterns.{IsPattern, pattern_numbers};
-ghost use Rattle.xd_syntax.specs.Placed.{placed_at, variables};
+ghost use Rattle.xd_syntax.specs.PlacedTable.{placed_at};
+ghost use Rattle.xd_syntax.specs.Placed.{variables};
 ghost use Rattle.xd_syntax.specs.NameFaults.{fault_if, not_linear};
 ghost use Rattle.xd_syntax.specs.declared.fault.FaultKind.TheVariants.{NotLinear};
 

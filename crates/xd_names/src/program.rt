@@ -4,7 +4,7 @@ ghost use Rattle.std.specs.Prelude.{◌≡◌, ℕ, List, [], ◌∷◌, ◌++�
 ghost use Rattle.std.specs.List.{AllByRecursion};
 ghost use Rattle.xd_syntax.specs.Types.{BelongsTo};
 ghost use Rattle.xd_syntax.specs.Words.{has_word, any_word, string_word};
-ghost use Rattle.xd_syntax.specs.Placed.{placed_at};
+ghost use Rattle.xd_syntax.specs.PlacedTable.{placed_at};
 ghost use Rattle.xd_syntax.specs.Kept.{FunctionStands, TypeDefStands, function_definition, program_tree};
 ghost use Rattle.xd_syntax.specs.NameFaults.{duplicates, duplicate_names, unknown_types, function_faults, name_faults};
 ghost use Rattle.xd_names.specs.Knows.{Knows, whole, unordered};

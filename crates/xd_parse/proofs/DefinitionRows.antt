@@ -7,7 +7,8 @@ use Rattle.xd_lex.specs.Tokens.{Lexeme}
 use Rattle.xd_syntax.specs.Placed.{PlacedTree}
 use Rattle.xd_syntax.specs.Table.{Row as NodeRow, KeepsRows}
 use Rattle.xd_syntax.specs.Types.{BelongsTo}
-use Rattle.xd_syntax.specs.Expression.{Expression, ExprRow}
+use Rattle.xd_syntax.specs.Expression.{Expression}
+use Rattle.xd_syntax.specs.ExpressionTable.{ExprRow}
 use Rattle.xd_syntax.specs.Program.{TypeDefinition, Parameter, FunctionDefinition, ProgramTree}
 use Rattle.xd_syntax.specs.FunctionRow.{FunctionRow}
 use Rattle.xd_syntax.specs.Kept.{ProgramTable, TypeDefStands, FunctionStands, ProgramStands, type_definition, parameter, function_definition, program_tree}
@@ -20,16 +21,16 @@ use Rattle.xd_grammar.specs.declared.grammar.Terminal.{Terminal}
 use Rattle.xd_grammar.specs.declared.grammar.Terminal.TheVariants as t
 use Rattle.xd_grammar.specs.Grammar.{Row, rules}
 use Rattle.xd_grammar.specs.Fits.{same, first_fit}
-use Rattle.xd_trees.specs.Values.{Value, word, a_tree, an_expression, a_parameter, parameters, definitions, token_of}
-use Rattle.xd_trees.specs.Reading.{Reads, front_terminal, front_place, front_text, behind}
+use Rattle.xd_parse_trees.specs.Values.{Value, word, a_tree, an_expression, a_parameter, parameters, definitions, token_of}
+use Rattle.xd_parse_trees.specs.Reading.{Reads, front_terminal, front_place, front_text, behind}
 use Rattle.xd_parse.specs.Definitions.{in_front, one_type, one_function, ReadsInFront, ReadsParameters}
 use Rattle.xd_parse.specs.Grows.{Grows}
-use Rattle.xd_trees.specs.Shallow.{NoDeeper, TreeWithin, ParametersWithin, DefinitionsWithin}
+use Rattle.xd_parse_trees.specs.Shallow.{NoDeeper, TreeWithin, ParametersWithin, DefinitionsWithin}
 use Rattle.xd_grammar.proofs.Derive.{same-true}
-use Rattle.xd_trees.proofs.Kept.{IsPattern-more}
+use Rattle.xd_parse_trees.proofs.Kept.{IsPattern-more}
 use Rattle.xd_parse.proofs.Grown.{IsExpr-more, same_pattern, same_expression, Grows-refl}
-use Rattle.xd_trees.proofs.AddedDepth.{deeper_both}
-use Rattle.xd_trees.proofs.Rows.{MeansView, means_view, ReadsRow, row_end, row_token, row_opening, row_closed, row_unless, row_part, part_one, part_fit, part_none}
+use Rattle.xd_parse_trees.proofs.AddedDepth.{deeper_both}
+use Rattle.xd_parse_trees.proofs.Rows.{MeansView, means_view, ReadsRow, row_end, row_token, row_opening, row_closed, row_unless, row_part, part_one, part_fit, part_none}
 
 -- ---- what is left behind a token
 pub behind_less : (from next : List Lexeme) → next ≡ behind from → length next ≤ length from

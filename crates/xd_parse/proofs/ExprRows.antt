@@ -12,10 +12,10 @@ use Rattle.xd_grammar.specs.declared.grammar.Terminal.{Terminal}
 use Rattle.xd_grammar.specs.declared.grammar.Terminal.TheVariants as t
 use Rattle.xd_grammar.specs.Grammar.{Row, rules}
 use Rattle.xd_grammar.specs.Fits.{same, first_fit}
-use Rattle.xd_trees.specs.Merged.{sequence_of_expressions}
-use Rattle.xd_trees.specs.Values.{Value, token_of, absent, a_tree, an_expression, expressions, a_clause, clauses, word_expression, value_of}
-use Rattle.xd_trees.specs.Reading.{Reads, front_terminal, front_place, front_text, behind}
-use Rattle.xd_trees.proofs.Rows.{front_same, ReadsRow, row_end, row_token, row_opening, row_closed, row_unless, row_part, part_one, part_fit, part_none}
+use Rattle.xd_parse_trees.specs.Merged.{sequence_of_expressions}
+use Rattle.xd_parse_trees.specs.Values.{Value, token_of, absent, a_tree, an_expression, expressions, a_clause, clauses, word_expression, value_of}
+use Rattle.xd_parse_trees.specs.Reading.{Reads, front_terminal, front_place, front_text, behind}
+use Rattle.xd_parse_trees.proofs.Rows.{front_same, ReadsRow, row_end, row_token, row_opening, row_closed, row_unless, row_part, part_one, part_fit, part_none}
 
 -- the value of the next token as this terminal
 abbrev as_token : Terminal → List Lexeme → Value

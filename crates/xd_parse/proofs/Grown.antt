@@ -2,12 +2,14 @@
 use Rattle.std.proofs.Common.{◌≡◌, ℕ, ◌<◌, arith, List, [], ◌∷◌, ◌++◌, length, map, refl, sym, ap, subst, ◌∙◌, length-append, append_assoc, append-nil}
 use Rattle.std.specs.List.{AllByRecursion}
 use Rattle.xd_base.specs.declared.Place.{Place}
-use Rattle.xd_syntax.specs.Placed.{PlacedTree, placed_at}
+use Rattle.xd_syntax.specs.Placed.{PlacedTree}
+use Rattle.xd_syntax.specs.PlacedTable.{placed_at}
 use Rattle.xd_syntax.specs.Table.{Row, KeepsRows}
-use Rattle.xd_syntax.specs.Expression.{Expression, ExprRow, ExprShape, empty_shape, text_shape, var_shape, elem_shape, seq_shape, call_shape, match_shape, clauses_of, shape_expression, expression_in, expressions_after, expression_at, KeepsExprs, ShapePatternsBelong, PatternsBelong}
+use Rattle.xd_syntax.specs.Expression.{Expression}
+use Rattle.xd_syntax.specs.ExpressionTable.{ExprRow, ExprShape, empty_shape, text_shape, var_shape, elem_shape, seq_shape, call_shape, match_shape, clauses_of, shape_expression, expression_in, expressions_after, expression_at, KeepsExprs, ShapePatternsBelong, PatternsBelong}
 use Rattle.xd_syntax.proofs.PlacedTrees.{placed_kept}
 use Rattle.xd_syntax.proofs.ExprTrees.{expression_kept}
-use Rattle.xd_trees.proofs.Kept.{KeepsRows-refl, KeepsRows-trans}
+use Rattle.xd_parse_trees.proofs.Kept.{KeepsRows-refl, KeepsRows-trans}
 use Rattle.xd_parse.specs.Grows.{Grows}
 
 -- ---- more patterns

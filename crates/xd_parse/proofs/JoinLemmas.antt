@@ -4,13 +4,15 @@ use Rattle.std.specs.Prelude.{◌==◌}
 use Rattle.std.specs.List.{AllByRecursion, flat_map}
 use Rattle.std.proofs.Math.ListN.{get_or-append}
 use Rattle.xd_base.specs.declared.Place.{Place}
-use Rattle.xd_syntax.specs.Placed.{PlacedTree, placed_at, the_start}
+use Rattle.xd_syntax.specs.Placed.{PlacedTree}
+use Rattle.xd_syntax.specs.PlacedTable.{placed_at, the_start}
 use Rattle.xd_syntax.specs.Table.{Row}
-use Rattle.xd_syntax.specs.Expression.{Expression, Nothing, Joined, place_of_expression, ExprRow, KeepsExprs, ExprShape, empty_shape, text_shape, var_shape, elem_shape, seq_shape, call_shape, match_shape, joined, shape_expression, expression_at, is_joined_shape, shape_at, IsJoinedPart, ExprCanFollow}
+use Rattle.xd_syntax.specs.Expression.{Expression, Nothing, Joined, place_of_expression, joined}
+use Rattle.xd_syntax.specs.ExpressionTable.{ExprRow, KeepsExprs, ExprShape, empty_shape, text_shape, var_shape, elem_shape, seq_shape, call_shape, match_shape, shape_expression, expression_at, is_joined_shape, shape_at, IsJoinedPart, ExprCanFollow}
 use Rattle.xd_syntax.specs.Exprs.{expression, expr_numbers}
 use Rattle.xd_syntax.specs.declared.exprs.ExprId.{ExprId}
 use Rattle.xd_syntax.proofs.ExprTrees.{expression_kept, expression_new}
-use Rattle.xd_trees.specs.Merged.{parts_of_expression, merged_expression, sequence_of_expressions}
+use Rattle.xd_parse_trees.specs.Merged.{parts_of_expression, merged_expression, sequence_of_expressions}
 
 -- ---- a node's expression, by its row
 pub record IsShaped (patterns : List Row) (e : Expression) (r : ExprRow) : Type 0 where

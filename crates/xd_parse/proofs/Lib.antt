@@ -1,6 +1,6 @@
 pub mod Grown
 pub mod Spelled
-pub mod Nesting
+pub mod ValueDepthLemmas
 pub mod Turned
 pub mod ShallowTexts
 pub mod Sure
@@ -8,5 +8,5 @@ pub mod FirstFaults
 pub mod ExprRows
 pub mod JoinLemmas
 pub mod Readers
-pub mod Adding
+pub mod ReadsLemmas
 pub mod DefinitionRows

@@ -4,23 +4,25 @@ use Rattle.std.specs.List.{AllByRecursion}
 use Rattle.std.proofs.lemmas.List.{map-append}
 use Rattle.xd_base.specs.declared.Place.{Place}
 use Rattle.xd_lex.specs.Tokens.{Lexeme}
-use Rattle.xd_syntax.specs.Placed.{PlacedTree, placed_at}
+use Rattle.xd_syntax.specs.Placed.{PlacedTree}
+use Rattle.xd_syntax.specs.PlacedTable.{placed_at}
 use Rattle.xd_syntax.specs.Table.{Row, KeepsRows}
-use Rattle.xd_syntax.specs.Expression.{Expression, Matched, Clauses, no_clause, clause, clauses_of, ExprRow, expression_at, IsJoinedPart, KeepsExprs, PatternsBelong}
+use Rattle.xd_syntax.specs.Expression.{Expression, Matched, Clauses, no_clause, clause}
+use Rattle.xd_syntax.specs.ExpressionTable.{clauses_of, ExprRow, expression_at, IsJoinedPart, KeepsExprs, PatternsBelong}
 use Rattle.xd_syntax.specs.Exprs.{expr_numbers}
 use Rattle.xd_grammar.specs.declared.grammar.Nonterminal.TheVariants as n
 use Rattle.xd_parse.specs.declared.joining.Items.{Items}
 use Rattle.xd_grammar.specs.declared.grammar.Terminal.TheVariants as t
 use Rattle.xd_grammar.specs.Fits.{same}
-use Rattle.xd_trees.specs.Merged.{merged_expression, sequence_of_expressions}
+use Rattle.xd_parse_trees.specs.Merged.{merged_expression, sequence_of_expressions}
 use Rattle.xd_parse.specs.Items.{AreItems, expression_of}
-use Rattle.xd_trees.specs.Values.{an_expression, expressions, a_clause, clauses, word_expression}
-use Rattle.xd_trees.specs.Reading.{Reads, front_terminal, front_place, front_text, behind}
+use Rattle.xd_parse_trees.specs.Values.{an_expression, expressions, a_clause, clauses, word_expression}
+use Rattle.xd_parse_trees.specs.Reading.{Reads, front_terminal, front_place, front_text, behind}
 use Rattle.xd_parse.specs.Grows.{Grows}
-use Rattle.xd_trees.proofs.Kept.{IsPattern-more}
+use Rattle.xd_parse_trees.proofs.Kept.{IsPattern-more}
 use Rattle.xd_parse.proofs.Grown.{Grows-trans, IsExpr-more, IsExprPart-more, same_expression, same_expressions, same_pattern, push_part}
 use Rattle.xd_parse.proofs.JoinLemmas.{all_alone, all_joined_append, joined_stays, joined_there, numbers_append, sequence_merged}
-use Rattle.xd_trees.proofs.Rows.{behind_le, next_lt}
+use Rattle.xd_parse_trees.proofs.Rows.{behind_le, next_lt}
 use Rattle.xd_parse.proofs.ExprRows.{expr_reads, items_end, items_more, item_word, parens_end, parens_more, item_match, clauses_end, clauses_more}
 
 -- one more at the end of what was collected

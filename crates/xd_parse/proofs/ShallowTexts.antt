@@ -11,14 +11,15 @@ use Rattle.xd_grammar.specs.declared.grammar.Nonterminal.{Nonterminal}
 use Rattle.xd_grammar.specs.declared.grammar.Nonterminal.TheVariants as n
 use Rattle.xd_grammar.specs.declared.grammar.Sort.TheVariants as sorts
 use Rattle.xd_grammar.specs.Text.{SpellsText}
-use Rattle.xd_trees.specs.Values.{Value, a_tree, definitions}
-use Rattle.xd_trees.specs.Reading.{Reads, behind}
-use Rattle.xd_syntax.specs.Shallow.{AddsWithin, IsShallow, nesting_limit}
-use Rattle.xd_trees.specs.Shallow.{NoDeeper, TreeWithin, ParametersWithin, DefinitionsWithin}
+use Rattle.xd_parse_trees.specs.Values.{Value, a_tree, definitions}
+use Rattle.xd_parse_trees.specs.Reading.{Reads, behind}
+use Rattle.xd_syntax.specs.ShallowTables.{AddsWithin, IsShallow}
+use Rattle.xd_syntax.specs.Shallow.{nesting_limit}
+use Rattle.xd_parse_trees.specs.Shallow.{NoDeeper, TreeWithin, ParametersWithin, DefinitionsWithin}
 use Rattle.xd_syntax.proofs.ShallowTables.{none_within}
-use Rattle.xd_trees.proofs.Depth.{AnyWithin}
-use Rattle.xd_trees.proofs.Kept.{KeepsRows-refl}
-use Rattle.xd_parse.proofs.Nesting.{Within, ProgramWithin, TypeDefWithin, ParamWithin, FunctionWithin, all_within}
+use Rattle.xd_parse_trees.proofs.Depth.{AnyWithin}
+use Rattle.xd_parse_trees.proofs.Kept.{KeepsRows-refl}
+use Rattle.xd_parse.proofs.ValueDepthLemmas.{Within, ProgramWithin, TypeDefWithin, ParamWithin, FunctionWithin, all_within}
 use Rattle.xd_parse.proofs.Spelled.{read_within}
 use Rattle.xd_parse.proofs.Turned.{type_text_reads}
 

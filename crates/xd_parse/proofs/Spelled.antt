@@ -7,9 +7,9 @@ use Rattle.xd_grammar.specs.declared.grammar.Symbol.TheVariants.{Token, Opening,
 use Rattle.xd_grammar.specs.declared.grammar.Terminal.{Terminal}
 use Rattle.xd_grammar.specs.Grammar.{Row, rules, IsOneOf, Whole, MayEnd, Derives, end, token, opening, closed, unless, by, Spells}
 use Rattle.xd_grammar.specs.Text.{terminals_of, terminal_at}
-use Rattle.xd_trees.specs.Values.{Value, token_value, value_of}
-use Rattle.xd_trees.specs.Means.{Means, MeansAll, ends, a_token, an_opening, a_closing, a_bar, a_part}
-use Rattle.xd_trees.specs.Reading.{Reads}
+use Rattle.xd_parse_trees.specs.Values.{Value, token_value, value_of}
+use Rattle.xd_parse_trees.specs.Means.{Means, MeansAll, ends, a_token, an_opening, a_closing, a_bar, a_part}
+use Rattle.xd_parse_trees.specs.Reading.{Reads}
 
 -- what a row stands for, where so many levels are open before it and so many behind it, and no more than the limit ever
 pub data MeansAt (limit : ℕ) : (before : ℕ) → Row → (from to : List Lexeme) → (after : ℕ) → List Value → Type 0 where

@@ -16,14 +16,14 @@ use Rattle.xd_grammar.specs.declared.machine.Course.TheVariants.{Both, Main, Lis
 use Rattle.xd_grammar.specs.Grammar.{Row, rules, IsOneOf}
 use Rattle.xd_grammar.specs.Fits.{same, fits, first_fit}
 use Rattle.xd_grammar.specs.Machine.{course}
-use Rattle.xd_trees.specs.Values.{Value, a_tree, definitions, value_of}
-use Rattle.xd_trees.specs.Means.{Means, MeansAll, ends, a_token, an_opening, a_closing, a_bar, a_part}
+use Rattle.xd_parse_trees.specs.Values.{Value, a_tree, definitions, value_of}
+use Rattle.xd_parse_trees.specs.Means.{Means, MeansAll, ends, a_token, an_opening, a_closing, a_bar, a_part}
 use Rattle.xd_parse.specs.Laws.{TextsMeanOneThing}
-use Rattle.xd_trees.specs.Reading.{Reads, front_terminal, group_row, element_row, SpellNo}
+use Rattle.xd_parse_trees.specs.Reading.{Reads, front_terminal, group_row, element_row, SpellNo}
 use Rattle.xd_grammar.proofs.Derive.{same-true, is_group, rules_decided, chosen_none, chosen_only}
 use Rattle.xd_grammar.specs.Text.{terminal_at}
-use Rattle.xd_trees.proofs.Ahead.{both_at_end, BothReadings, readings_begin, readings_go, main_alone, listed_alone}
-use Rattle.xd_trees.proofs.Rows.{ReadsRow, row_end, row_token, row_opening, row_closed, row_unless, row_part, by_row, means_fits, means_may, empty_means}
+use Rattle.xd_parse_trees.proofs.Ahead.{both_at_end, BothReadings, readings_begin, readings_go, main_alone, listed_alone}
+use Rattle.xd_parse_trees.proofs.Rows.{ReadsRow, row_end, row_token, row_opening, row_closed, row_unless, row_part, by_row, means_fits, means_may, empty_means}
 
 -- ---- at a parenthesis one of the two rows spells nothing
 both_or_one : (sort : Sort) (reading : Reading) (from now : List Lexeme) → BothReadings sort reading from now → SpellNo (element_row sort) from ⊎ SpellNo (group_row sort) from

@@ -9,11 +9,11 @@ use Rattle.xd_grammar.specs.declared.grammar.Sort.TheVariants as sorts
 use Rattle.xd_grammar.specs.declared.grammar.Symbol.TheVariants.{Token, Part}
 use Rattle.xd_grammar.specs.declared.grammar.Terminal.TheVariants as t
 use Rattle.xd_grammar.specs.Text.{SpellsText}
-use Rattle.xd_trees.specs.Values.{Value, a_tree, definitions}
-use Rattle.xd_trees.specs.Means.{MeansAll, IsProgramText, IsTypeText}
-use Rattle.xd_trees.specs.Reading.{Reads, behind}
+use Rattle.xd_parse_trees.specs.Values.{Value, a_tree, definitions}
+use Rattle.xd_parse_trees.specs.Means.{MeansAll, IsProgramText, IsTypeText}
+use Rattle.xd_parse_trees.specs.Reading.{Reads, behind}
 use Rattle.xd_parse.proofs.Spelled.{read_all}
-use Rattle.xd_trees.proofs.Rows.{row_part, row_token, row_end, part_one}
+use Rattle.xd_parse_trees.proofs.Rows.{row_part, row_token, row_end, part_one}
 use Rattle.xd_syntax.specs.Shallow.{nesting_limit}
 
 tokens_meant : (part : Nonterminal) (bytes : List ℕ) (ls to : List Lexeme) (v : Value) → SpellsText part bytes → ls ≡ tokens_of bytes → Reads part ls to v → MeansAll part (tokens_of bytes) v

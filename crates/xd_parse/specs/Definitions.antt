@@ -3,8 +3,8 @@ use Rattle.std.specs.Prelude.{List, [], ◌∷◌, ◌++◌}
 use Rattle.xd_lex.specs.Tokens.{Lexeme}
 use Rattle.xd_syntax.specs.Program.{TypeDefinition, Parameter, FunctionDefinition, ProgramTree}
 use Rattle.xd_grammar.specs.declared.grammar.Nonterminal.TheVariants as n
-use Rattle.xd_trees.specs.Values.{a_parameter, parameters, definitions}
-use Rattle.xd_trees.specs.Reading.{Reads}
+use Rattle.xd_parse_trees.specs.Values.{a_parameter, parameters, definitions}
+use Rattle.xd_parse_trees.specs.Reading.{Reads}
 
 -- the definitions of two programs, those of the first in front
 abbrev pub in_front : ProgramTree → ProgramTree → ProgramTree

@@ -1,7 +1,7 @@
 -- The tables of patterns and expressions as they grow.
 use Rattle.std.specs.Prelude.{List, length}
 use Rattle.xd_syntax.specs.Table.{Row, KeepsRows}
-use Rattle.xd_syntax.specs.Expression.{ExprRow, KeepsExprs, PatternsBelong}
+use Rattle.xd_syntax.specs.ExpressionTable.{ExprRow, KeepsExprs, PatternsBelong}
 
 -- each old node stands where it stood, and the pattern of each clause is there
 pub record Grows (old_patterns : List Row) (old_exprs : List ExprRow) (new_patterns : List Row) (new_exprs : List ExprRow) : Type 0 where

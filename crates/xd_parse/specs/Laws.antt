@@ -6,7 +6,7 @@ use Rattle.xd_parse.specs.Faults.{IsFirstTextFault}
 use Rattle.xd_syntax.specs.declared.fault.Fault.{Fault}
 use Rattle.xd_syntax.specs.Placed.{PlacedTree}
 use Rattle.xd_syntax.specs.Program.{ProgramTree}
-use Rattle.xd_trees.specs.Means.{BytesSpellProgram, BytesSpellType}
+use Rattle.xd_parse_trees.specs.Means.{BytesSpellProgram, BytesSpellType}
 
 -- bytes spell one program at most, and one type at most
 pub record TextsMeanOneThing : Type 0 where

@@ -6,22 +6,22 @@ ghost use Rattle.std.specs.Prelude.{◌≡◌, ◌∷◌, [], ◌<◌, ◌≤◌
 ghost use Rattle.std.specs.List.{AllByRecursion};
 ghost use Rattle.xd_syntax.specs.Table.{KeepsRows};
 ghost use Rattle.xd_syntax.specs.Types.{BelongsTo};
-ghost use Rattle.xd_syntax.specs.Expression.{PatternsBelong};
+ghost use Rattle.xd_syntax.specs.ExpressionTable.{PatternsBelong};
 ghost use Rattle.xd_syntax.specs.Kept.{TypeDefStands, FunctionStands, parameter, type_definition, function_definition, program_tree};
 ghost use Rattle.xd_grammar.specs.declared.grammar.Nonterminal.TheVariants as nonterminals;
 ghost use Rattle.xd_grammar.specs.declared.grammar.Terminal.TheVariants as terminals;
-ghost use Rattle.xd_trees.specs.Values.{a_parameter, definitions};
-ghost use Rattle.xd_trees.specs.Reading.{Reads, front_terminal, behind};
+ghost use Rattle.xd_parse_trees.specs.Values.{a_parameter, definitions};
+ghost use Rattle.xd_parse_trees.specs.Reading.{Reads, front_terminal, behind};
 ghost use Rattle.xd_parse.specs.Definitions.{ReadsInFront, ReadsParameters, one_type, one_function};
 ghost use Rattle.xd_parse.specs.Grows.{Grows};
-ghost use Rattle.xd_trees.specs.Shallow.{NoDeeper, TreeWithin, ParametersWithin, DefinitionsWithin};
+ghost use Rattle.xd_parse_trees.specs.Shallow.{NoDeeper, TreeWithin, ParametersWithin, DefinitionsWithin};
 
 use crate::expressions::read_expr;
 use std::alloc::Global;
 use xd_doc::NoMemory;
 use xd_grammar::Terminal;
+use xd_parse_trees::{Cursor, read_type};
 use xd_syntax::{Exprs, Function, Param, Patterns, Program, TypeDef, Types};
-use xd_trees::{Cursor, read_type};
 
 /// Reads `(val x as T)`.
 fn read_param(alloc: Global, cursor: &mut Cursor<'_>, types: &mut Types) -> Result<Param, NoMemory>

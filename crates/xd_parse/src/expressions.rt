@@ -4,14 +4,14 @@
 //! A match takes each clause that stands behind it, and a name all parentheses, so the innermost match has a `|`.
 
 ghost use Rattle.std.specs.Prelude.{◌≡◌, ◌<◌, ◌≤◌, length, IfOk};
-ghost use Rattle.xd_syntax.specs.Placed.{placed_at};
+ghost use Rattle.xd_syntax.specs.PlacedTable.{placed_at};
 ghost use Rattle.xd_syntax.specs.Patterns.{IsPattern};
-ghost use Rattle.xd_syntax.specs.Expression.{PatternsBelong};
+ghost use Rattle.xd_syntax.specs.ExpressionTable.{PatternsBelong};
 ghost use Rattle.xd_syntax.specs.Exprs.{IsExpr, expression};
 ghost use Rattle.xd_grammar.specs.declared.grammar.Nonterminal.TheVariants as nonterminals;
 ghost use Rattle.xd_grammar.specs.declared.grammar.Terminal.TheVariants as terminals;
-ghost use Rattle.xd_trees.specs.Values.{an_expression, a_clause};
-ghost use Rattle.xd_trees.specs.Reading.{Reads, front_terminal};
+ghost use Rattle.xd_parse_trees.specs.Values.{an_expression, a_clause};
+ghost use Rattle.xd_parse_trees.specs.Reading.{Reads, front_terminal};
 ghost use Rattle.xd_parse.specs.Grows.{Grows};
 ghost use Rattle.xd_parse.specs.Items.{AreItems, expression_of};
 
@@ -19,8 +19,8 @@ use crate::joining::{Items, add_item, in_row, nothing_at, to_expr};
 use std::alloc::Global;
 use xd_doc::NoMemory;
 use xd_grammar::Terminal;
+use xd_parse_trees::{Cursor, read_pattern_seq};
 use xd_syntax::{Clause, ExprForm, ExprId, Exprs, Patterns};
-use xd_trees::{Cursor, read_pattern_seq};
 
 /// Reads an expression: items with commas between them.
 #[cycle(expressions)]

@@ -3,18 +3,18 @@
 ghost use Rattle.std.specs.Prelude.{◌≡◌, ◌++◌, ◌∷◌, [], ℕ, List, false, map, IfOk};
 ghost use Rattle.std.specs.List.{AllByRecursion};
 ghost use Rattle.xd_syntax.specs.Table.{Row};
-ghost use Rattle.xd_syntax.specs.Placed.{placed_at};
-ghost use Rattle.xd_syntax.specs.Expression.{ExprCanFollow, KeepsExprs, IsJoinedPart, PatternsBelong, expression_at, is_joined_shape, shape_expression};
+ghost use Rattle.xd_syntax.specs.PlacedTable.{placed_at};
+ghost use Rattle.xd_syntax.specs.ExpressionTable.{ExprCanFollow, KeepsExprs, IsJoinedPart, PatternsBelong, expression_at, is_joined_shape, shape_expression};
 ghost use Rattle.xd_syntax.specs.Exprs.{IsExpr, expr_numbers, expression, shape_of};
-ghost use Rattle.xd_trees.specs.Merged.{merged_expression};
+ghost use Rattle.xd_parse_trees.specs.Merged.{merged_expression};
 ghost use Rattle.xd_parse.specs.Items.{AreItems, expression_of};
 
 use std::alloc::Global;
 use std::collections::VecDeque;
 use xd_base::Place;
 use xd_doc::NoMemory;
+use xd_parse_trees::{join, queue_of};
 use xd_syntax::{ExprForm, ExprId, Exprs};
-use xd_trees::{join, queue_of};
 
 /// What was read, before a node is made of it: the parts of a sequence, so that what stands around it merges with them.
 /// Of no part it is empty, at the place; one part is itself.

@@ -2,16 +2,18 @@
 
 ghost use Rattle.std.specs.Prelude.{◌≡◌, Some, true, IfOk, IfErr, OnErr};
 ghost use Rattle.xd_lex.specs.Tokens.{tokens_of};
-ghost use Rattle.xd_syntax.specs.Placed.{placed_at};
+ghost use Rattle.xd_syntax.specs.PlacedTable.{placed_at};
 ghost use Rattle.xd_syntax.specs.Table.{KeepsRows};
 ghost use Rattle.xd_syntax.specs.Types.{BelongsTo};
 ghost use Rattle.xd_syntax.specs.Kept.{program_tree};
 ghost use Rattle.xd_grammar.specs.declared.grammar.Nonterminal.TheVariants as nonterminals;
 ghost use Rattle.xd_parse.specs.declared.parse.ParseError.TheVariants as errors;
-ghost use Rattle.xd_grammar.specs.Text.{is_text, SpellsText};
-ghost use Rattle.xd_trees.specs.Means.{IsProgramText, IsTypeText};
+ghost use Rattle.xd_grammar.specs.TextErrors.{is_text};
+ghost use Rattle.xd_grammar.specs.Text.{SpellsText};
+ghost use Rattle.xd_parse_trees.specs.Means.{IsProgramText, IsTypeText};
 ghost use Rattle.xd_parse.specs.Faults.{reported};
-ghost use Rattle.xd_syntax.specs.Shallow.{IsShallow, AddsWithin, nesting_limit};
+ghost use Rattle.xd_syntax.specs.ShallowTables.{IsShallow, AddsWithin};
+ghost use Rattle.xd_syntax.specs.Shallow.{nesting_limit};
 ghost use Rattle.xd_parse.specs.ParseErrors.{IsParseError, IsFault};
 
 use crate::definitions::read_definitions;
@@ -19,8 +21,8 @@ use std::alloc::Global;
 use thiserror::Error;
 use xd_doc::NoMemory;
 use xd_grammar::{Nonterminal, TextError, TextFault, spelled_tokens};
+use xd_parse_trees::{Cursor, read_type};
 use xd_syntax::{Fault, FaultKind, Program, TypeId, Types};
-use xd_trees::{Cursor, read_type};
 
 /// Why no program, or no type, was read.
 #[derive(Debug, Drop, Error)]

@@ -9,11 +9,11 @@ use Rattle.xd_auto.specs.declared.auto.State.{State}
 use Rattle.xd_auto.specs.declared.auto.LabelMove.{LabelMove}
 use Rattle.xd_auto.specs.declared.auto.TextMove.{TextMove}
 use Rattle.xd_auto.specs.Automaton.{Automaton, StateMoves, moves_at, no_moves, state_number}
-use Rattle.xd_runs.specs.Alike.{Alike}
-use Rattle.xd_runs.specs.Runs as Runs
-use Rattle.xd_runs.specs.Runs.{Continuation, Choice, choices, start, texts_of, elements_of}
-use Rattle.xd_runs.specs.Steps.{marked}
-use Rattle.xd_runs.specs.Mirrors.{Ahead, SameText, SameElement, AreMovesOf, Mirrors}
+use Rattle.xd_pattern_runs.specs.Alike.{Alike}
+use Rattle.xd_pattern_runs.specs.Runs as Runs
+use Rattle.xd_pattern_runs.specs.Runs.{Continuation, Choice, choices, start, texts_of, elements_of}
+use Rattle.xd_pattern_runs.specs.Steps.{marked}
+use Rattle.xd_pattern_runs.specs.Mirrors.{Ahead, SameText, SameElement, AreMovesOf, Mirrors}
 use Rattle.xd_continuations.specs.Chains.{list_at}
 use Rattle.xd_patterns.specs.Marked.{marked_text, marked_label, with_each, marked_moves}
 use Rattle.xd_patterns.specs.Tasks.{Tables, words_at, piece_part, pieces_at, continuation, ArePieces, Adds}
@@ -23,7 +23,7 @@ use Rattle.xd_continuations.specs.declared.links.Link.{Link}
 use Rattle.xd_patterns.specs.declared.chains.Piece.{Piece}
 use Rattle.xd_patterns.specs.declared.compile.StateMarks.{StateMarks}
 use Rattle.xd_continuations.proofs.ChainLemmas.{list_none}
-use Rattle.xd_patterns.proofs.Tasking.{adds_none, adds_then}
+use Rattle.xd_patterns.proofs.TablesLemmas.{adds_none, adds_then}
 use Rattle.xd_patterns.proofs.StateLemmas.{get_all, get_kept, continuation_kept, standing_kept, moves_kept, standing_at}
 
 rows_push : (rs : List StateMarks) (r : StateMarks) → rows_in (rs ++ r ∷ []) ≡ rows_in rs ++ (r.texts.items, r.labels.items) ∷ []

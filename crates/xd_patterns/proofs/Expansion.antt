@@ -7,11 +7,11 @@ use Rattle.xd_syntax.specs.Tree.{Definitions}
 use Rattle.xd_syntax.specs.Ways.{Among}
 use Rattle.xd_syntax.proofs.Members.{append_left, append_right, flat_mem, mem_append, mem_flat}
 use Rattle.xd_laws.specs.Guarded.{Guarded}
-use Rattle.xd_runs.specs.Alike.{Alike}
-use Rattle.xd_runs.specs.Runs.{Choice, Continuation, stop, choices}
-use Rattle.xd_runs.specs.Steps.{Ahead, ahead, choices_ahead, part_choice, part_steps}
-use Rattle.xd_runs.proofs.Alike.{alike_refl, alike_same, alike_sym, alike_trans, alike_append, alike_known, append_none, append_then, flat_append}
-use Rattle.xd_runs.proofs.Stepping.{steps_find}
+use Rattle.xd_pattern_runs.specs.Alike.{Alike}
+use Rattle.xd_pattern_runs.specs.Runs.{Choice, Continuation, stop, choices}
+use Rattle.xd_pattern_runs.specs.Steps.{Ahead, ahead, choices_ahead, part_choice, part_steps}
+use Rattle.xd_pattern_runs.proofs.Alike.{alike_refl, alike_same, alike_sym, alike_trans, alike_append, alike_known, append_none, append_then, flat_append}
+use Rattle.xd_pattern_runs.proofs.ChoicesLemmas.{steps_find}
 use Rattle.xd_continuations.specs.Chains.{list_at, AreLinks}
 use Rattle.xd_patterns.specs.Tasks.{Tables, AreBodies, words_at, piece_part, pieces_at, continuation, ArePieces, or_none, IsTurn, StandsFor, item_choice, choice_at, IsFound, StandFound, Collects, Adds, HasFound, IsStep}
 use Rattle.xd_patterns.specs.Work.{steps_of, work_left}
@@ -21,8 +21,8 @@ use Rattle.xd_patterns.specs.declared.chains.Piece.{Piece}
 use Rattle.xd_patterns.specs.declared.expand.Task.{Task}
 use Rattle.xd_patterns.specs.declared.expand.Found.{Found}
 use Rattle.xd_continuations.proofs.ChainLemmas.{list_none, one_number, kept_list, kept_length}
-use Rattle.xd_patterns.proofs.Tasking.{adds_none, adds_then, all_stand, stands_kept, same_words, same_pieces, list_pieces, puts_none, collects_none, collects_one}
-use Rattle.xd_patterns.proofs.Working.{step_less, some_cost}
+use Rattle.xd_patterns.proofs.TablesLemmas.{adds_none, adds_then, all_stand, stands_kept, same_words, same_pieces, list_pieces, puts_none, collects_none, collects_one}
+use Rattle.xd_patterns.proofs.CostLemmas.{step_less, some_cost}
 
 -- one step of a task
 

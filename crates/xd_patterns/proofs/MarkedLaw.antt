@@ -11,17 +11,17 @@ use Rattle.xd_auto.specs.Automaton.{Automaton, moves_at}
 use Rattle.xd_auto.specs.Runs as Numbered
 use Rattle.xd_auto.specs.Runs.{ends, takes_text, takes_element, IsAcceptingRun, from_each}
 use Rattle.xd_auto.proofs.RunLaw.{runs_law, runs_are_accepting}
-use Rattle.xd_laws.specs.Bindings.{variables_of}
+use Rattle.xd_meaning.specs.Bindings.{variables_of}
 use Rattle.xd_syntax.specs.Tree.{Tree, Definitions, occurrences}
 use Rattle.xd_syntax.specs.Ways.{Way, Among, IsWholeWay}
 use Rattle.xd_syntax.proofs.Members.{map_mem, mem_map, flat_same}
 use Rattle.xd_laws.specs.Guarded.{Guarded}
-use Rattle.xd_runs.specs.Runs.{Run, ended, over_text, over_element, text_runs, element_runs, runs_by, start}
-use Rattle.xd_runs.specs.Linear.{BindNothing, IsLinear}
-use Rattle.xd_runs.specs.Laws.{Agree, run_bindings, first_of}
-use Rattle.xd_runs.specs.Mirrors.{AreRunsOf, Mirrors, Ahead}
-use Rattle.xd_runs.proofs.Alike.{flat_of_map, map_append_of, map_of_flat, map_of_map}
-use Rattle.xd_runs.proofs.MirrorsLaw.{mirrors_run_of}
+use Rattle.xd_pattern_runs.specs.Runs.{Run, ended, over_text, over_element, text_runs, element_runs, runs_by, start}
+use Rattle.xd_pattern_runs.specs.Linear.{BindNothing, IsLinear}
+use Rattle.xd_pattern_runs.specs.Laws.{Agree, run_bindings, first_of}
+use Rattle.xd_pattern_runs.specs.Mirrors.{AreRunsOf, Mirrors, Ahead}
+use Rattle.xd_pattern_runs.proofs.Alike.{flat_of_map, map_append_of, map_of_flat, map_of_map}
+use Rattle.xd_pattern_runs.proofs.MirrorsLaw.{mirrors_run_of}
 use Rattle.xd_patterns.specs.Marked.{Marking, marked_text, marked_label, with_each, marked_moves, no_text_move, no_label_move, with_marks, IsCompiled}
 
 -- members by number, and members

@@ -6,13 +6,13 @@ use Rattle.xd_auto.specs.Automaton.{Automaton, moves_at}
 use Rattle.xd_auto.specs.Runs as Numbered
 use Rattle.xd_auto.specs.Runs.{ends, takes_text, takes_element, IsAcceptingRun}
 use Rattle.xd_syntax.specs.Words.{has_word}
-use Rattle.xd_laws.specs.Bindings.{variables_of}
+use Rattle.xd_meaning.specs.Bindings.{variables_of}
 use Rattle.xd_syntax.specs.Tree.{Tree, Definitions, occurrences}
 use Rattle.xd_syntax.specs.Ways.{Way, Among}
-use Rattle.xd_runs.specs.Runs.{held}
-use Rattle.xd_runs.specs.Laws.{Agree, run_bindings, first_of}
-use Rattle.xd_runs.specs.Together as T
-use Rattle.xd_runs.specs.Together.{IsFree, IsBlock, AreTogether}
+use Rattle.xd_pattern_runs.specs.Runs.{held}
+use Rattle.xd_pattern_runs.specs.Laws.{Agree, run_bindings, first_of}
+use Rattle.xd_pattern_runs.specs.Together as T
+use Rattle.xd_pattern_runs.specs.Together.{IsFree, IsBlock, AreTogether}
 use Rattle.xd_patterns.specs.CompiledProgram.{AreWithin}
 use Rattle.xd_patterns.specs.Marked.{Marking, no_text_move, no_label_move, with_marks, IsCompiled}
 use Rattle.xd_patterns.proofs.VariableLemmas.{variables_have, among_word}

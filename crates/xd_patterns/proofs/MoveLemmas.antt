@@ -5,10 +5,10 @@ use Rattle.xd_doc.specs.Classes.{LabelClass, TextClass}
 use Rattle.xd_syntax.specs.Tree.{Tree, Elem, Definitions}
 use Rattle.xd_auto.specs.declared.auto.State.{State}
 use Rattle.xd_auto.specs.Automaton.{Automaton, moves_at, no_moves, state_number}
-use Rattle.xd_runs.specs.Runs as Runs
-use Rattle.xd_runs.specs.Runs.{Continuation, Choice, take_text, take_element, start, choices}
-use Rattle.xd_runs.specs.Steps.{marked}
-use Rattle.xd_runs.proofs.Alike.{map_append_of}
+use Rattle.xd_pattern_runs.specs.Runs as Runs
+use Rattle.xd_pattern_runs.specs.Runs.{Continuation, Choice, take_text, take_element, start, choices}
+use Rattle.xd_pattern_runs.specs.Steps.{marked}
+use Rattle.xd_pattern_runs.proofs.Alike.{map_append_of}
 use Rattle.xd_continuations.specs.Chains.{list_at, KeepsLinks, HasLink}
 use Rattle.xd_patterns.specs.Pieces.{part_of, IsLike, form_at, variable_of}
 use Rattle.xd_patterns.specs.Tasks.{Tables, rows_of, words_at, piece_part, piece_at, continuation, ArePieces, item_choice, choice_at, IsFound, StandFound, Adds}
@@ -18,8 +18,8 @@ use Rattle.xd_continuations.specs.declared.links.Link.{Link}
 use Rattle.xd_patterns.specs.declared.chains.Piece.{Piece}
 use Rattle.xd_patterns.specs.declared.expand.Found.{Found}
 use Rattle.xd_continuations.proofs.ChainLemmas.{list_none, kept_length}
-use Rattle.xd_continuations.proofs.Reaching.{all_same}
-use Rattle.xd_patterns.proofs.Tasking.{adds_none, adds_then, adds_link}
+use Rattle.xd_continuations.proofs.FiniteLemmas.{all_same}
+use Rattle.xd_patterns.proofs.TablesLemmas.{adds_none, adds_then, adds_link}
 use Rattle.xd_patterns.proofs.StepArms.{like_piece, like_part}
 use Rattle.xd_patterns.proofs.Expansion.{found_choice}
 use Rattle.xd_patterns.proofs.StateLemmas.{adds_text, adds_element, continuation_kept}

@@ -1,7 +1,7 @@
 -- Lists that go together one for one.
 use Rattle.std.proofs.Common.{ℕ, zero, suc, ◌<◌, ◌≤◌, arith, List, [], ◌∷◌, ◌++◌, map, length, get_or, take, drop}
 use Rattle.std.specs.List.{AllByRecursion}
-use Rattle.xd_laws.specs.KeptLines.{AllPaired}
+use Rattle.xd_meaning.specs.KeptFaults.{AllPaired}
 
 pub paired_end : {A B : Type 0} (R : A → B → Type 0) (xs : List A) (ys : List B) (x : A) (y : B) → AllPaired R xs ys → R x y → AllPaired R (xs ++ x ∷ []) (ys ++ y ∷ [])
 paired_end R [] [] x y h r = (r, tt)

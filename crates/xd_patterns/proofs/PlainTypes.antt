@@ -8,8 +8,8 @@ use Rattle.xd_syntax.specs.ProperTables.{IsTable}
 use Rattle.xd_syntax.specs.Proper.{IsProperTree}
 use Rattle.xd_syntax.proofs.PlacedTrees.{unplaced_at}
 use Rattle.xd_syntax.proofs.ProperTrees.{tree_proper}
-use Rattle.xd_runs.specs.Linear.{AreDisjoint, IsLinear, SameWords}
-use Rattle.xd_runs.proofs.NamesBindNothing.{none_in}
+use Rattle.xd_pattern_runs.specs.Linear.{AreDisjoint, IsLinear, SameWords}
+use Rattle.xd_pattern_runs.proofs.NamesBindNothing.{none_in}
 
 disjoint : (xs ys : List (List ℕ)) → xs ≡ [] → AreDisjoint xs ys
 disjoint xs ys e x h = let z : has_word [] x ≡ true = sym (ap (λ ws. has_word ws x) e) ∙ h in cc

@@ -4,23 +4,23 @@ use Rattle.std.specs.List.{AllByRecursion, slice_get}
 use Rattle.xd_auto.specs.declared.auto.State.{State}
 use Rattle.xd_auto.specs.Automaton.{Automaton, moves_at, no_moves, state_number}
 use Rattle.xd_laws.specs.Guarded.{Guarded}
-use Rattle.xd_laws.specs.KeptLines.{AllPaired}
+use Rattle.xd_meaning.specs.KeptFaults.{AllPaired}
 use Rattle.xd_syntax.specs.Tree.{Definitions}
 use Rattle.xd_syntax.specs.ProperTables.{IsTable}
 use Rattle.xd_syntax.specs.Types.{BelongsTo}
 use Rattle.xd_syntax.specs.declared.types.TypeId.{TypeId}
 use Rattle.xd_syntax.specs.declared.patterns.PatternId.{PatternId}
-use Rattle.xd_runs.specs.Linear.{BindNothing}
+use Rattle.xd_pattern_runs.specs.Linear.{BindNothing}
 use Rattle.xd_continuations.specs.Chains.{list_at, HasLink, KeepsLinks}
 use Rattle.xd_continuations.specs.declared.links.Link.{Link}
 use Rattle.xd_continuations.proofs.ChainLemmas.{has_kept, kept_list, kept_length, list_none}
-use Rattle.xd_continuations.proofs.Reaching.{all_same}
+use Rattle.xd_continuations.proofs.FiniteLemmas.{all_same}
 use Rattle.xd_patterns.specs.declared.chains.Piece.{Piece}
 use Rattle.xd_patterns.specs.CompiledProgram.{IsLinearPattern}
 use Rattle.xd_patterns.specs.Starting.{type_piece, pattern_piece, CanStart, StandsAlone, AddsStarts, IsPieceState}
 use Rattle.xd_patterns.specs.Tasks.{Tables, IsPiece, ArePieces, piece_part}
 use Rattle.xd_patterns.specs.Compiling.{AddsStates, FindsState, IsCompiling, marking, standing}
-use Rattle.xd_patterns.proofs.Tasking.{adds_link, all_left, all_right}
+use Rattle.xd_patterns.proofs.TablesLemmas.{adds_link, all_left, all_right}
 use Rattle.xd_patterns.proofs.StateLemmas.{finds_adds, finds_bounded, adds_states_then, there_kept, get_kept}
 use Rattle.xd_patterns.proofs.CompileLemmas.{compiled_mirrors, start_stands, get_within}
 use Rattle.xd_patterns.proofs.MarkedLaw.{mirrored_is_compiled}

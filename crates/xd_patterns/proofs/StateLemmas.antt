@@ -5,23 +5,23 @@ use Rattle.std.proofs.lemmas.Bool.Decides.{nat_tests}
 use Rattle.std.specs.List.{AllByRecursion, slice_get}
 use Rattle.std.proofs.lemmas.Slice.Eq.{bytes_eq-Decides}
 use Rattle.xd_doc.specs.Classes.{NameClass, LabelClass, TextClass, is_named}
-use Rattle.xd_laws.specs.Heads.{all_texts}
+use Rattle.xd_meaning.specs.Heads.{all_texts}
 use Rattle.xd_auto.specs.declared.auto.State.{State}
 use Rattle.xd_auto.specs.declared.auto.LabelMove.{LabelMove}
 use Rattle.xd_auto.specs.declared.auto.TextMove.{TextMove}
 use Rattle.xd_auto.specs.Automaton.{Automaton, StateMoves, moves_at, no_moves, state_number, with_moves, with_last}
-use Rattle.xd_runs.specs.Runs as Runs
-use Rattle.xd_runs.specs.Runs.{Continuation, Choice, stop, take_text, take_element, has_stop, texts_of, elements_of}
-use Rattle.xd_runs.specs.Mirrors.{Ahead}
+use Rattle.xd_pattern_runs.specs.Runs as Runs
+use Rattle.xd_pattern_runs.specs.Runs.{Continuation, Choice, stop, take_text, take_element, has_stop, texts_of, elements_of}
+use Rattle.xd_pattern_runs.specs.Mirrors.{Ahead}
 use Rattle.xd_continuations.specs.Chains.{list_at, KeepsLinks}
 use Rattle.xd_patterns.specs.Tasks.{Tables, words_at, pieces_at, continuation, ArePieces, Adds}
 use Rattle.xd_patterns.specs.Compiling.{stands, standing, FindsState, AddsStates, AddsText, AddsElement, TextsAre, LabelsAre, HasMoves, AddsMove}
 use Rattle.xd_continuations.specs.declared.links.Link.{Link}
 use Rattle.xd_patterns.specs.declared.chains.Piece.{Piece}
 use Rattle.xd_continuations.proofs.ChainLemmas.{kept_list, kept_length, kept_same}
-use Rattle.xd_continuations.proofs.Reaching.{all_same}
+use Rattle.xd_continuations.proofs.FiniteLemmas.{all_same}
 use Rattle.xd_continuations.proofs.MoveLemmas.{all_append}
-use Rattle.xd_patterns.proofs.Tasking.{list_pieces, same_words, same_pieces, adds_none}
+use Rattle.xd_patterns.proofs.TablesLemmas.{list_pieces, same_words, same_pieces, adds_none}
 
 -- a class that names nothing, but is excepted, is that of all texts
 

@@ -12,14 +12,14 @@ use Rattle.xd_auto.specs.Automaton.{Automaton, StateMoves, IsState, IsClosed, Ex
 use Rattle.xd_auto.specs.Runs as Numbered
 use Rattle.xd_auto.specs.Runs.{ends, takes_text, takes_element, IsAcceptingRun, from_each}
 use Rattle.xd_auto.proofs.Closed.{moves_at-closed}
-use Rattle.xd_auto.proofs.Extending.{keeps}
+use Rattle.xd_auto.proofs.ExtendsLemmas.{keeps}
 use Rattle.xd_auto.proofs.RunLaw.{runs_are_accepting}
-use Rattle.xd_laws.specs.Bindings.{variables_of}
+use Rattle.xd_meaning.specs.Bindings.{variables_of}
 use Rattle.xd_syntax.specs.Tree.{Tree, Definitions, occurrences}
 use Rattle.xd_syntax.specs.Ways.{Takes}
-use Rattle.xd_runs.specs.Runs.{Run, over_text, over_element}
-use Rattle.xd_runs.specs.Laws.{Agree, run_bindings, first_of}
-use Rattle.xd_runs.specs.Together.{AreTogether}
+use Rattle.xd_pattern_runs.specs.Runs.{Run, over_text, over_element}
+use Rattle.xd_pattern_runs.specs.Laws.{Agree, run_bindings, first_of}
+use Rattle.xd_pattern_runs.specs.Together.{AreTogether}
 use Rattle.xd_patterns.specs.Marked.{Marking, no_text_move, no_label_move, with_marks}
 use Rattle.xd_patterns.specs.CompiledState.{IsCompiledState, CompiledStatesStay}
 

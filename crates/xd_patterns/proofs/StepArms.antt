@@ -4,9 +4,9 @@ use Rattle.std.specs.List.{AllByRecursion}
 use Rattle.xd_doc.specs.Classes.{LabelClass, TextClass}
 use Rattle.xd_syntax.specs.Tree.{Tree, Empty, Text, Words, Name, Elem, Seq, Alt, Star, Plus, Opt, Val, Definitions, body}
 use Rattle.xd_syntax.specs.Table.{tree_at}
-use Rattle.xd_runs.specs.Runs.{Continuation}
-use Rattle.xd_runs.specs.Steps.{ahead, marked, behind_turn, part_choice, part_steps, body_steps}
-use Rattle.xd_runs.proofs.Alike.{map_append_of}
+use Rattle.xd_pattern_runs.specs.Runs.{Continuation}
+use Rattle.xd_pattern_runs.specs.Steps.{ahead, marked, behind_turn, part_choice, part_steps, body_steps}
+use Rattle.xd_pattern_runs.proofs.Alike.{map_append_of}
 use Rattle.xd_continuations.specs.Chains.{list_at, KeepsLinks}
 use Rattle.xd_patterns.specs.Pieces.{Sees, form_at, part_of, variable_of, IsLike, IsPieceOf, IsBinder}
 use Rattle.xd_patterns.specs.Tasks.{Tables, rows_of, tree_of_body, AreBodies, words_at, piece_part, piece_at, pieces_at, continuation, IsPiece, ArePieces, or_none, IsTurn, StandsFor, PutsTasks, item_choice, is_item, Collects, Adds, PushesPart, PushesRow, PushesBody, IsBound, HasFound, IsStep}
@@ -16,7 +16,7 @@ use Rattle.xd_patterns.specs.declared.pieces.View.TheVariants as V
 use Rattle.xd_patterns.specs.declared.expand.Task.{Task}
 use Rattle.xd_patterns.specs.declared.expand.Found.{Found}
 use Rattle.xd_continuations.proofs.ChainLemmas.{kept_list, kept_length}
-use Rattle.xd_patterns.proofs.Tasking.{list_pieces, same_pieces, same_turn, all_left, all_right, turn_kept, adds_none, adds_then, adds_link, adds_mark, stands_kept, stands_behind, puts_none, puts_one, puts_two, collects_none, collects_one}
+use Rattle.xd_patterns.proofs.TablesLemmas.{list_pieces, same_pieces, same_turn, all_left, all_right, turn_kept, adds_none, adds_then, adds_link, adds_mark, stands_kept, stands_behind, puts_none, puts_one, puts_two, collects_none, collects_one}
 
 pub like_piece : (t : Tables) (m : List (Link ℕ)) (b : Bool) (k : ℕ) (q : Piece) → k ≤ length m → IsLike (rows_of t b) b k q → IsPiece t m q
 like_piece t m b k q h l =

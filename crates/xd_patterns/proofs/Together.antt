@@ -4,8 +4,8 @@ use Rattle.std.specs.List.{AllByRecursion}
 use Rattle.xd_doc.specs.Document.{Document}
 use Rattle.xd_auto.specs.declared.auto.State.{State}
 use Rattle.xd_auto.specs.Automaton.{Automaton, accepts}
-use Rattle.xd_laws.specs.KeptLines.{AllPaired}
-use Rattle.xd_laws.specs.Bindings.{variables_of}
+use Rattle.xd_meaning.specs.KeptFaults.{AllPaired}
+use Rattle.xd_meaning.specs.Bindings.{variables_of}
 use Rattle.xd_laws.proofs.TheLaws.{patterns_are_types}
 use Rattle.xd_syntax.specs.Words.{has_word}
 use Rattle.xd_syntax.specs.Tree.{Tree, Definitions, occurrences}

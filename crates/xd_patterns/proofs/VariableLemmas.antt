@@ -7,11 +7,12 @@ use Rattle.std.proofs.lemmas.Bool.Decides.{nat_tests}
 use Rattle.std.proofs.lemmas.List.Folds.{flat_map-map}
 use Rattle.xd_base.specs.declared.Place.{Place}
 use Rattle.xd_syntax.specs.Words.{has_word}
-use Rattle.xd_laws.specs.Bindings.{each_once, variables_of}
+use Rattle.xd_meaning.specs.Bindings.{each_once, variables_of}
 use Rattle.xd_syntax.specs.Tree.{Tree, occurrences}
 use Rattle.xd_syntax.specs.Ways.{Among}
 use Rattle.xd_syntax.specs.NameFaults.{without}
-use Rattle.xd_syntax.specs.Placed.{PlacedTree, place_of, placed_seq, placed_alt, placed_form, placed_at, variables}
+use Rattle.xd_syntax.specs.Placed.{PlacedTree, place_of, placed_seq, placed_alt, variables}
+use Rattle.xd_syntax.specs.PlacedTable.{placed_form, placed_at}
 use Rattle.xd_syntax.specs.Table.{Row}
 use Rattle.xd_syntax.specs.Nodes.{IsNode, form_parts, view_form}
 use Rattle.xd_syntax.specs.declared.nodes.FormView.{FormView}

@@ -11,8 +11,8 @@ use Rattle.xd_syntax.specs.Types.{tree}
 use Rattle.xd_syntax.specs.Patterns.{IsPattern, pattern_tree}
 use Rattle.xd_syntax.specs.declared.types.TypeId.{TypeId}
 use Rattle.xd_syntax.specs.declared.patterns.PatternId.{PatternId}
-use Rattle.xd_laws.specs.Bindings.{variables_of}
-use Rattle.xd_runs.specs.Linear.{IsLinear}
+use Rattle.xd_meaning.specs.Bindings.{variables_of}
+use Rattle.xd_pattern_runs.specs.Linear.{IsLinear}
 use Rattle.xd_patterns.specs.Marked.{Marking}
 use Rattle.xd_patterns.specs.CompiledState.{IsCompiledState}
 use Rattle.xd_patterns.specs.Held.{words_in, list_words, marking_in}

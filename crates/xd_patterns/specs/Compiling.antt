@@ -7,10 +7,10 @@ use Rattle.xd_auto.specs.declared.auto.State.{State}
 use Rattle.xd_auto.specs.declared.auto.LabelMove.{LabelMove}
 use Rattle.xd_auto.specs.declared.auto.TextMove.{TextMove}
 use Rattle.xd_auto.specs.Automaton.{Automaton, StateMoves, IsState, moves_at, no_moves, state_number, with_text_move, with_label_move}
-use Rattle.xd_runs.specs.Alike.{Alike}
-use Rattle.xd_runs.specs.Runs as Runs
-use Rattle.xd_runs.specs.Runs.{Continuation, Choice, choices, has_stop, texts_of, elements_of}
-use Rattle.xd_runs.specs.Mirrors.{Ahead}
+use Rattle.xd_pattern_runs.specs.Alike.{Alike}
+use Rattle.xd_pattern_runs.specs.Runs as Runs
+use Rattle.xd_pattern_runs.specs.Runs.{Continuation, Choice, choices, has_stop, texts_of, elements_of}
+use Rattle.xd_pattern_runs.specs.Mirrors.{Ahead}
 use Rattle.xd_patterns.specs.Tasks.{Tables, words_at, continuation, ArePieces, choice_at, Adds}
 use Rattle.xd_patterns.specs.Marked.{Marking}
 use Rattle.xd_continuations.specs.declared.links.Link.{Link}

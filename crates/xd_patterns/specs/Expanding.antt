@@ -3,9 +3,9 @@ use Rattle.std.specs.Prelude.{◌≡◌, ◌⊎◌, ℕ, ◌+◌, ◌-◌, ◌�
 use Rattle.std.specs.List.{AllZip}
 use Rattle.xd_syntax.specs.Tree.{Definitions}
 use Rattle.xd_syntax.specs.Ways.{Among}
-use Rattle.xd_runs.specs.Alike.{Alike}
-use Rattle.xd_runs.specs.Runs.{Choice, choices}
-use Rattle.xd_runs.specs.Steps.{Ahead, choices_ahead}
+use Rattle.xd_pattern_runs.specs.Alike.{Alike}
+use Rattle.xd_pattern_runs.specs.Runs.{Choice, choices}
+use Rattle.xd_pattern_runs.specs.Steps.{Ahead, choices_ahead}
 use Rattle.xd_continuations.specs.Chains.{list_at}
 use Rattle.xd_patterns.specs.Tasks.{Tables, pieces_at, continuation, ArePieces, StandsFor, PutsTasks, choice_at, StandFound, Collects, Adds}
 use Rattle.xd_patterns.specs.Work.{steps_of, work_left}

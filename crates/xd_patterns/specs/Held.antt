@@ -1,8 +1,8 @@
 -- Variables by their numbers, and the marks of the moves of what was compiled.
 use Rattle.std.specs.Prelude.{ℕ, List, [], map, get_or}
 use Rattle.xd_auto.specs.declared.auto.State.{State}
-use Rattle.xd_traces.specs.declared.kind.MoveKind.{MoveKind}
-use Rattle.xd_traces.specs.declared.kind.MoveKind.TheVariants as M
+use Rattle.xd_auto_pairs.specs.declared.kind.MoveKind.{MoveKind}
+use Rattle.xd_auto_pairs.specs.declared.kind.MoveKind.TheVariants as M
 use Rattle.xd_patterns.specs.Marked.{Marking, MoveMarks}
 use Rattle.xd_patterns.specs.Variables.{words_of, numbers_in}
 use Rattle.xd_patterns.specs.Compiling.{texts_from, labels_from, rows_in}

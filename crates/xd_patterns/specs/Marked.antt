@@ -7,13 +7,13 @@ use Rattle.xd_auto.specs.declared.auto.TextMove.{TextMove}
 use Rattle.xd_auto.specs.Automaton.{Automaton, accepts, moves_at}
 use Rattle.xd_auto.specs.Runs as Numbered
 use Rattle.xd_auto.specs.Runs.{ends, takes_text, takes_element, IsAcceptingRun}
-use Rattle.xd_laws.specs.Bindings.{variables_of, first_bindings}
+use Rattle.xd_meaning.specs.Bindings.{variables_of, first_bindings}
 use Rattle.xd_syntax.specs.Tree.{Tree, Definitions, occurrences}
 use Rattle.xd_syntax.specs.Ways.{Way, IsWholeWay, Takes}
-use Rattle.xd_runs.specs.Runs as Marked
-use Rattle.xd_runs.specs.Runs.{ElementMove, Moves, Run, ended, over_text, over_element}
-use Rattle.xd_runs.specs.Laws.{Agree, run_bindings, first_of}
-use Rattle.xd_runs.specs.Together.{AreTogether}
+use Rattle.xd_pattern_runs.specs.Runs as Marked
+use Rattle.xd_pattern_runs.specs.Runs.{ElementMove, Moves, Run, ended, over_text, over_element}
+use Rattle.xd_pattern_runs.specs.Laws.{Agree, run_bindings, first_of}
+use Rattle.xd_pattern_runs.specs.Together.{AreTogether}
 
 -- the variables that the items of each move of a state belong to, by the number of the move
 pub record MoveMarks : Type 0 where

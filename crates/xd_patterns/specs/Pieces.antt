@@ -1,6 +1,7 @@
 -- What a piece of a table of nodes stands for.
 use Rattle.std.specs.Prelude.{◌≡◌, ℕ, zero, suc, ◌+◌, ◌<◌, ◌≤◌, nat_eq, cond, Bool, true, false, List, [], length, get_or, drop, map}
-use Rattle.xd_syntax.specs.Tree.{Tree, Empty, Text, Words, Name, Elem, Seq, Alt, Star, Plus, Opt, Val, seq_of, alt_of}
+use Rattle.xd_syntax.specs.Tree.{Tree, Empty, Text, Words, Name, Elem, Seq, Alt, Star, Plus, Opt, Val, seq_of}
+use Rattle.xd_syntax.specs.TreeForms.{alt_of}
 use Rattle.xd_syntax.specs.Table.{Row, Form, empty_form, seq_form, alt_form, plus_form, val_form, tree_at}
 use Rattle.xd_patterns.specs.declared.chains.Piece.{Piece}
 use Rattle.xd_patterns.specs.declared.pieces.View.{View}

@@ -6,8 +6,8 @@ use Rattle.xd_syntax.specs.declared.types.TypeId.{TypeId}
 use Rattle.xd_syntax.specs.declared.patterns.PatternId.{PatternId}
 use Rattle.xd_auto.specs.declared.auto.State.{State}
 use Rattle.xd_auto.specs.Automaton.{Automaton, state_number}
-use Rattle.xd_laws.specs.KeptLines.{AllPaired}
-use Rattle.xd_runs.specs.Linear.{IsLinear}
+use Rattle.xd_meaning.specs.KeptFaults.{AllPaired}
+use Rattle.xd_pattern_runs.specs.Linear.{IsLinear}
 use Rattle.xd_continuations.specs.Chains.{list_at}
 use Rattle.xd_continuations.specs.declared.links.Link.{Link}
 use Rattle.xd_patterns.specs.declared.chains.Piece.{Piece}

@@ -2,14 +2,14 @@
 use Rattle.std.specs.Prelude.{◌≡◌, ℕ, ◌<◌, ◌≤◌, ◌⊎◌, Bool, true, false, cond, List, [], ◌∷◌, ◌++◌, map, reverse, length, Option, Some, None, option_map}
 use Rattle.std.specs.List.{AllByRecursion, AllZip}
 use Rattle.xd_syntax.specs.Tree.{Tree, Text, Words, Elem, Definitions, body}
-use Rattle.xd_laws.specs.Heads.{all_texts}
+use Rattle.xd_meaning.specs.Heads.{all_texts}
 use Rattle.xd_syntax.specs.Table.{Row, tree_at}
 pub use Rattle.xd_sound.specs.TypeNames.{meanings}
 use Rattle.xd_syntax.specs.Ways.{Among}
-use Rattle.xd_runs.specs.Alike.{Alike}
-use Rattle.xd_runs.specs.Runs as Runs
-use Rattle.xd_runs.specs.Runs.{Continuation, Choice, stop, take_text, take_element, start}
-use Rattle.xd_runs.specs.Steps.{Ahead, ahead, part_choice, part_steps}
+use Rattle.xd_pattern_runs.specs.Alike.{Alike}
+use Rattle.xd_pattern_runs.specs.Runs as Runs
+use Rattle.xd_pattern_runs.specs.Runs.{Continuation, Choice, stop, take_text, take_element, start}
+use Rattle.xd_pattern_runs.specs.Steps.{Ahead, ahead, part_choice, part_steps}
 use Rattle.xd_continuations.specs.Chains.{list_at, HasLink, KeepsLinks}
 use Rattle.xd_patterns.specs.Pieces.{form_at, part_of, variable_of, IsBinder, IsPieceOf}
 use Rattle.xd_continuations.specs.declared.links.Link.{Link}

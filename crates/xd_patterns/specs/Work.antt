@@ -1,8 +1,8 @@
 -- How many steps a list of pieces takes at most until all that can come next is found.
 use Rattle.std.specs.Prelude.{ℕ, zero, suc, ◌+◌, List, [], ◌∷◌, length, Option, Some, None}
 use Rattle.xd_syntax.specs.Tree.{Tree, Empty, Text, Words, Name, Elem, Seq, Alt, Star, Plus, Opt, Val, Definitions, body}
-use Rattle.xd_runs.specs.Runs.{Continuation}
-use Rattle.xd_runs.specs.Steps.{Ahead}
+use Rattle.xd_pattern_runs.specs.Runs.{Continuation}
+use Rattle.xd_pattern_runs.specs.Steps.{Ahead}
 
 -- the steps of a part itself, and how often what stands behind it is come to
 pub record Cost : Type 0 where

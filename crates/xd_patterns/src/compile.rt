@@ -5,7 +5,7 @@ ghost use Rattle.std.specs.List.{AllByRecursion};
 ghost use Rattle.xd_auto.specs.Automaton.{IsState, moves_at, no_moves, state_number};
 ghost use Rattle.xd_auto.specs.declared.auto.State.{State};
 ghost use Rattle.xd_laws.specs.Guarded.{Guarded};
-ghost use Rattle.xd_laws.specs.Heads.{all_texts};
+ghost use Rattle.xd_meaning.specs.Heads.{all_texts};
 ghost use Rattle.xd_patterns.specs.Bodies.{node_of};
 ghost use Rattle.xd_patterns.specs.Tasks.{AreBodies, ArePieces, IsFound, choice_at, meanings};
 ghost use Rattle.xd_patterns.specs.Compiling.{AddsElement, AddsMove, AddsText, FindsState, IsCompiling, Makes, Spares, rows_in};
@@ -36,7 +36,7 @@ fn every_text(alloc: Global) -> Result<Words, NoMemory>
 }
 
 /// The state of the list with this number, which is made if there is none.
-#[tactic(auto, using(crate::proofs::Sparing::spares_none, crate::proofs::Sparing::spares_grown))]
+#[tactic(auto, using(crate::proofs::SparesLemmas::spares_none, crate::proofs::SparesLemmas::spares_grown))]
 pub(crate) fn state_of(
     number: usize,
     base: usize,
@@ -59,7 +59,7 @@ pub(crate) fn state_of(
 }
 
 /// A move on a text that was found.
-#[tactic(auto, using(crate::proofs::Sparing::spares_none, crate::proofs::Sparing::spares_then, crate::proofs::Sparing::spares_changed))]
+#[tactic(auto, using(crate::proofs::SparesLemmas::spares_none, crate::proofs::SparesLemmas::spares_then, crate::proofs::SparesLemmas::spares_changed))]
 fn add_text(
     one: Found,
     words: Words,
@@ -82,7 +82,7 @@ fn add_text(
 }
 
 /// A move on an element that was found, whose content begins with the list of this number.
-#[tactic(auto, using(crate::proofs::Sparing::spares_none, crate::proofs::Sparing::spares_then, crate::proofs::Sparing::spares_changed))]
+#[tactic(auto, using(crate::proofs::SparesLemmas::spares_none, crate::proofs::SparesLemmas::spares_then, crate::proofs::SparesLemmas::spares_changed))]
 fn add_element(
     one: Found,
     class: Class,
@@ -107,7 +107,7 @@ fn add_element(
 }
 
 /// What was found is added to a state.
-#[tactic(auto, using(crate::proofs::Sparing::spares_none, crate::proofs::Sparing::spares_then, crate::proofs::Sparing::spares_changed))]
+#[tactic(auto, using(crate::proofs::SparesLemmas::spares_none, crate::proofs::SparesLemmas::spares_then, crate::proofs::SparesLemmas::spares_changed))]
 fn add_move(
     alloc: Global,
     types: &Types,

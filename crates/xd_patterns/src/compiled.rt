@@ -4,8 +4,8 @@ ghost use Rattle.std.specs.Prelude.{◌≡◌, ◌<◌, ◌++◌, [], IfOk, OnOk
 ghost use Rattle.std.specs.List.{AllByRecursion};
 ghost use Rattle.xd_auto.specs.Automaton.{Extends, KeepsAccepting};
 ghost use Rattle.xd_laws.specs.Guarded.{Guarded};
-ghost use Rattle.xd_laws.specs.KeptLines.{AllPaired};
-ghost use Rattle.xd_runs.specs.Linear.{BindNothing};
+ghost use Rattle.xd_meaning.specs.KeptFaults.{AllPaired};
+ghost use Rattle.xd_pattern_runs.specs.Linear.{BindNothing};
 ghost use Rattle.xd_syntax.specs.Types.{BelongsTo};
 ghost use Rattle.xd_syntax.specs.Words.{has_word};
 ghost use Rattle.xd_patterns.specs.Bodies.{node_of};
@@ -23,9 +23,9 @@ use crate::variables::{number_lists, variables};
 use indexmap::IndexSet;
 use std::alloc::Global;
 use xd_auto::{Auto, State};
+use xd_auto_pairs::MoveKind;
 use xd_doc::{Label, NoMemory};
 use xd_syntax::{PatternId, Patterns, TypeDef, TypeId, Types};
-use xd_traces::MoveKind;
 
 /// The variables of a pattern in order of first occurrence.
 #[derive(Drop)]

@@ -6,13 +6,13 @@ ghost use Rattle.xd_auto.specs.Automaton.{accepts, Extends, IsState, KeepsAccept
 ghost use Rattle.xd_doc.specs.Document.{Document};
 ghost use Rattle.xd_syntax.specs.Fits.{Fits};
 ghost use Rattle.xd_syntax.specs.Types.{BelongsTo, tree};
-ghost use Rattle.xd_runs.specs.Linear.{IsLinear};
-ghost use Rattle.xd_laws.specs.Bindings.{variables_of};
-ghost use Rattle.xd_laws.specs.KeptLines.{AllPaired};
+ghost use Rattle.xd_pattern_runs.specs.Linear.{IsLinear};
+ghost use Rattle.xd_meaning.specs.Bindings.{variables_of};
+ghost use Rattle.xd_meaning.specs.KeptFaults.{AllPaired};
 ghost use Rattle.xd_syntax.specs.Kept.{AddsTypes, program_tree};
 ghost use Rattle.xd_syntax.specs.Patterns.{IsPattern, pattern_tree};
 ghost use Rattle.xd_syntax.specs.Program.{names_of};
-ghost use Rattle.xd_syntax.specs.Shallow.{IsShallow};
+ghost use Rattle.xd_syntax.specs.ShallowTables.{IsShallow};
 ghost use Rattle.xd_patterns.specs.CompiledProgram.{AcceptsType, IsLinearPattern, IsPatternState, marking_of_program, pattern_states, pattern_variables, type_states, variables_of_patterns};
 ghost use Rattle.xd_patterns.specs.Compiler.{Serves, ServesStays};
 ghost use Rattle.xd_patterns.specs.Held.{marking_of, variables_in};

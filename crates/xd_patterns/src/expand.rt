@@ -5,7 +5,7 @@ ghost use Rattle.xd_syntax.specs.Tree.{Definitions};
 ghost use Rattle.xd_patterns.specs.Bodies.{node_of};
 ghost use Rattle.xd_continuations.specs.Chains.{list_at};
 ghost use Rattle.xd_laws.specs.Guarded.{Guarded};
-ghost use Rattle.xd_runs.specs.Steps.{Ahead};
+ghost use Rattle.xd_pattern_runs.specs.Steps.{Ahead};
 ghost use Rattle.xd_patterns.specs.Pieces.{IsPieceOf, Sees};
 ghost use Rattle.xd_patterns.specs.Tasks.{rows_of, AreBodies, IsPiece, PushesPart, PushesRow, PushesBody, IsBound, HasFound, IsStep, meanings, ArePieces, StandsFor};
 ghost use Rattle.xd_patterns.specs.Expanding.{ends_turn, Enters, IsExpanded, IsVisited, AreFound};

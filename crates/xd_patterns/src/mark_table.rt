@@ -9,8 +9,8 @@ use crate::compile::StateMarks;
 use crate::variables::Numbers;
 use indexmap::IndexSet;
 use xd_auto::State;
+use xd_auto_pairs::MoveKind;
 use xd_doc::Label;
-use xd_traces::MoveKind;
 
 /// Variables by their numbers, and for each move of the states that were made the list of those that its item belongs to.
 #[derive(Drop)]

@@ -3,8 +3,8 @@
 ghost use Rattle.std.specs.Prelude.{◌≡◌, ◌<◌, [], IfOk, get_or, length};
 ghost use Rattle.xd_auto.specs.Automaton.{Extends, IsState, KeepsAccepting};
 ghost use Rattle.xd_laws.specs.Guarded.{Guarded};
-ghost use Rattle.xd_runs.specs.Linear.{BindNothing, IsLinear};
-ghost use Rattle.xd_laws.specs.Bindings.{variables_of};
+ghost use Rattle.xd_pattern_runs.specs.Linear.{BindNothing, IsLinear};
+ghost use Rattle.xd_meaning.specs.Bindings.{variables_of};
 ghost use Rattle.xd_syntax.specs.Words.{has_word};
 ghost use Rattle.xd_syntax.specs.Patterns.{IsPattern, pattern_tree};
 ghost use Rattle.xd_patterns.specs.Bodies.{node_of};
@@ -20,9 +20,9 @@ use crate::start::{compile_pieces, piece_of_pattern};
 use crate::variables::{number_lists, variables};
 use std::alloc::Global;
 use xd_auto::{Auto, State};
+use xd_auto_pairs::MoveKind;
 use xd_doc::{Label, NoMemory};
 use xd_syntax::{PatternId, Patterns, TypeDef, Types};
-use xd_traces::MoveKind;
 
 /// The state of a pattern, its variables, and those of them that the items of each move belong to.
 #[derive(Drop)]

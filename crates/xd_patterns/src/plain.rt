@@ -4,7 +4,7 @@ ghost use Rattle.std.specs.Prelude.{◌≡◌, true, ◌↔◌, IfOk};
 ghost use Rattle.xd_auto.specs.Automaton.{accepts, Extends, IsState, KeepsAccepting};
 ghost use Rattle.xd_doc.specs.Document.{Document};
 ghost use Rattle.xd_laws.specs.Guarded.{Guarded};
-ghost use Rattle.xd_runs.specs.Linear.{BindNothing};
+ghost use Rattle.xd_pattern_runs.specs.Linear.{BindNothing};
 ghost use Rattle.xd_syntax.specs.Types.{BelongsTo, tree};
 ghost use Rattle.xd_syntax.specs.Ways.{Takes};
 ghost use Rattle.xd_patterns.specs.Bodies.{node_of};

@@ -4,8 +4,8 @@ ghost use Rattle.std.specs.Prelude.{◌≡◌, [], length, IfOk, OnOk};
 ghost use Rattle.std.specs.List.{AllByRecursion};
 ghost use Rattle.xd_auto.specs.Automaton.{Extends, KeepsAccepting};
 ghost use Rattle.xd_laws.specs.Guarded.{Guarded};
-ghost use Rattle.xd_laws.specs.KeptLines.{AllPaired};
-ghost use Rattle.xd_runs.specs.Linear.{BindNothing};
+ghost use Rattle.xd_meaning.specs.KeptFaults.{AllPaired};
+ghost use Rattle.xd_pattern_runs.specs.Linear.{BindNothing};
 ghost use Rattle.xd_patterns.specs.Bodies.{node_of};
 ghost use Rattle.xd_patterns.specs.Compiling.{Spares, marking, rows_in};
 ghost use Rattle.xd_patterns.specs.Starting.{AddsStarts, CanStart, IsPieceState, pattern_piece, type_piece};
@@ -47,7 +47,7 @@ pub(crate) fn piece_of_pattern(id: PatternId) -> Piece
 }
 
 /// A state for each piece alone, in their order; none of them has moves yet. Pieces that are the same have one state.
-#[tactic(auto, using(crate::proofs::Sparing::spares_none, crate::proofs::Sparing::spares_then))]
+#[tactic(auto, using(crate::proofs::SparesLemmas::spares_none, crate::proofs::SparesLemmas::spares_then))]
 fn add_starts(
     alloc: Global,
     pieces: &[Piece],

@@ -3,9 +3,10 @@
 ghost use Rattle.std.specs.Prelude.{◌≡◌, ◌<◌, ◌≤◌, ◌+◌, ◌++◌, ℕ, Some, length, position, IfOk, OnOk};
 ghost use Rattle.std.specs.List.{AllByRecursion};
 ghost use Rattle.std.specs.Str.{bytes_eq};
-ghost use Rattle.xd_laws.specs.Bindings.{variables_of};
+ghost use Rattle.xd_meaning.specs.Bindings.{variables_of};
 ghost use Rattle.xd_syntax.specs.Patterns.{IsPattern, pattern_tree};
-ghost use Rattle.xd_syntax.specs.Placed.{placed_at, variables};
+ghost use Rattle.xd_syntax.specs.PlacedTable.{placed_at};
+ghost use Rattle.xd_syntax.specs.Placed.{variables};
 ghost use Rattle.xd_patterns.specs.Pieces.{IsBinder, form_at, variable_of};
 ghost use Rattle.xd_patterns.specs.Variables.{AreNumbered, numbers_in, with_number, with_position};
 

@@ -1,5 +1,5 @@
 mod PlainCost
-pub mod PlainFitting
-mod PlainMeaning
+pub mod SplitsLemmas
+mod PlainMeaningLemmas
 mod MeaningSamples
 mod PlainLoops

@@ -5,7 +5,7 @@ use Rattle.xd_doc.specs.Document.{Document, empty, element}
 use Rattle.xd_syntax.specs.Words.{any_word}
 use Rattle.xd_syntax.specs.Tree.{Name, Elem, Val}
 use Rattle.xd_syntax.specs.Program.{names_of}
-use Rattle.xd_laws.specs.Meaning.{Stuck, looked_up, done_or_stuck, or_else}
+use Rattle.xd_meaning.specs.Meaning.{Stuck, looked_up, done_or_stuck, or_else}
 use Rattle.xd_plain.specs.PlainMeaning.{meaning_with}
 use Rattle.xd_laws.proofs.Samples.{hiding}
 use Rattle.xd_plain.specs.PlainMeaning.{IsSettledWithin}

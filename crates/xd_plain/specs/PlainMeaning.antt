@@ -1,11 +1,12 @@
 -- What a plain evaluation tells.
 use Rattle.std.specs.Prelude.{◌≡◌, ℕ, ◌≤◌, List, [], ◌∷◌, map, Result, MatchResult}
 use Rattle.xd_doc.specs.Document.{Document}
-use Rattle.xd_laws.specs.Meaning as M
-use Rattle.xd_laws.specs.Meaning.{Outcome, Environment, Matcher, value_by, values_by, chosen_by, call_within}
+use Rattle.xd_meaning.specs.Meaning as M
+use Rattle.xd_meaning.specs.Meaning.{Outcome, Environment, Matcher, value_by, values_by, chosen_by, call_within}
 use Rattle.xd_syntax.specs.Tree.{Tree, Definitions}
 use Rattle.xd_syntax.specs.Ways.{unfoldings}
-use Rattle.xd_laws.specs.FirstMatch.{first, first_within}
+use Rattle.xd_meaning.specs.FirstMatch.{first}
+use Rattle.xd_meaning.specs.FirstWithin.{first_within}
 use Rattle.xd_syntax.specs.Words.{main_word}
 use Rattle.xd_syntax.specs.Expression.{Expression, Arguments, Clauses}
 use Rattle.xd_syntax.specs.Program.{ProgramTree, names_of}

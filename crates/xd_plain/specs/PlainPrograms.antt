@@ -1,6 +1,7 @@
 -- What plain expressions and programs stand for. Each node stands at the start.
 use Rattle.std.specs.Prelude.{◌≡◌, List, [], ◌∷◌, map}
-use Rattle.xd_syntax.specs.Placed.{PlacedTree, Empty_at, Text_at, Words_at, Name_at, Elem_at, Seq_at, Alt_at, Star_at, Plus_at, Opt_at, Val_at, the_start}
+use Rattle.xd_syntax.specs.Placed.{PlacedTree, Empty_at, Text_at, Words_at, Name_at, Elem_at, Seq_at, Alt_at, Star_at, Plus_at, Opt_at, Val_at}
+use Rattle.xd_syntax.specs.PlacedTable.{the_start}
 use Rattle.xd_syntax.specs.Expression as E
 use Rattle.xd_syntax.specs.Expression.{Expression, Arguments, Clauses}
 use Rattle.xd_syntax.specs.Program.{TypeDefinition, Parameter, FunctionDefinition, ProgramTree, names_of}

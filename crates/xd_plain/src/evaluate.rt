@@ -4,11 +4,11 @@ ghost use Rattle.std.specs.Prelude.{◌≡◌, ◌∷◌, [], ◌++◌, map, IfO
 ghost use Rattle.std.specs.Option.{option_copied};
 ghost use Rattle.xd_doc.specs.Document.{join};
 ghost use Rattle.xd_syntax.specs.Words.{main_word};
-ghost use Rattle.xd_syntax.specs.Placed.{the_start};
+ghost use Rattle.xd_syntax.specs.PlacedTable.{the_start};
 ghost use Rattle.xd_syntax.specs.Expression.{Tagged, Joined, Called, Matched};
 ghost use Rattle.xd_syntax.specs.Program.{names_of};
 ghost use Rattle.xd_syntax.specs.RecursionFaults.{IsSound};
-ghost use Rattle.xd_laws.specs.Meaning as on_fuel;
+ghost use Rattle.xd_meaning.specs.Meaning as on_fuel;
 ghost use Rattle.xd_plain.specs.PlainDocuments.{document_of};
 ghost use Rattle.xd_plain.specs.PlainTrees.{map_option};
 ghost use Rattle.xd_plain.specs.PlainWays.{bindings_of};

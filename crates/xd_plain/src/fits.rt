@@ -3,7 +3,7 @@
 ghost use Rattle.std.specs.Prelude.{◌≡◌, ◌≤◌, ◌↔◌, ◌++◌, ◌∷◌, [], IsTrue, IfOk, OnOk};
 ghost use Rattle.xd_syntax.specs.Tree.{Name};
 ghost use Rattle.xd_syntax.specs.Fits as types;
-ghost use Rattle.xd_laws.specs.FitsWithin as unfolded;
+ghost use Rattle.xd_meaning.specs.FitsWithin as unfolded;
 ghost use Rattle.xd_syntax.specs.Ways.{unfoldings as needed};
 ghost use Rattle.xd_plain.specs.PlainDocuments.{document_of};
 ghost use Rattle.xd_plain.specs.PlainTrees.{tree_of, definitions_of};

@@ -3,7 +3,8 @@
 ghost use Rattle.std.specs.Prelude.{◌≡◌, ◌≤◌, ◌++◌, ◌∷◌, [], suc, nat_lt, cond, map, flat_map, IfOk, OnOk};
 ghost use Rattle.xd_syntax.specs.Tree.{Name, Elem, Seq, Alt, Plus, Opt, Val};
 ghost use Rattle.xd_syntax.specs.Ways.{no_item_way, then_way, text_ways, words_ways, binding, turns, repetition, ways_within as the_ways_within, unfoldings as needed, item_count};
-ghost use Rattle.xd_laws.specs.FirstMatch.{first, first_whole, first_within as the_first_within};
+ghost use Rattle.xd_meaning.specs.FirstMatch.{first, first_whole};
+ghost use Rattle.xd_meaning.specs.FirstWithin.{first_within as the_first_within};
 ghost use Rattle.xd_plain.specs.PlainDocuments.{document_of};
 ghost use Rattle.xd_plain.specs.PlainTrees.{tree_of, definitions_of, map_option};
 ghost use Rattle.xd_syntax.specs.Program.{ProgramTree, names_of};

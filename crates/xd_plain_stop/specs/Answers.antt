@@ -2,7 +2,7 @@
 use Rattle.std.specs.Prelude.{Option, Some, None}
 use Rattle.xd_base.specs.declared.Place.{Place}
 use Rattle.xd_doc.specs.Document.{Document}
-use Rattle.xd_laws.specs.FitsWithin.{FitsWithin}
+use Rattle.xd_meaning.specs.FitsWithin.{FitsWithin}
 use Rattle.xd_lex.specs.Tokens.{Lexeme}
 use Rattle.xd_stream.specs.Stop.{cut_off}
 use Rattle.xd_plain.specs.PlainTrees.{tree_of, definitions_of}

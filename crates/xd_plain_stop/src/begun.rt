@@ -4,7 +4,7 @@ ghost use Rattle.std.specs.Prelude.{◌≡◌, ◌↔◌, IsTrue, IfOk};
 ghost use Rattle.xd_doc.specs.Document.{empty};
 ghost use Rattle.xd_syntax.specs.Fits as types;
 ghost use Rattle.xd_syntax.specs.Tree.{Name};
-ghost use Rattle.xd_laws.specs.FitsWithin as unfolded;
+ghost use Rattle.xd_meaning.specs.FitsWithin as unfolded;
 ghost use Rattle.xd_plain.specs.PlainDocuments.{document_of};
 ghost use Rattle.xd_plain.specs.PlainTrees.{tree_of, definitions_of};
 ghost use Rattle.xd_plain_stop.specs.Tails.{GoesByFirst, HasCompletion, HasSome};

@@ -2,7 +2,7 @@
 
 ghost use Rattle.std.specs.Prelude.{◌≡◌, ◌∷◌, IfOk, Option, Some, None};
 ghost use Rattle.xd_doc.specs.Document.{empty, join, text as text_item};
-ghost use Rattle.xd_lex.specs.Spelled.{IsSpelling};
+ghost use Rattle.xd_lex.specs.Spellings.{IsSpelling};
 ghost use Rattle.xd_lex.specs.declared.Kind.TheVariants as kinds;
 ghost use Rattle.xd_read.specs.Grammar.{BracketR, End};
 ghost use Rattle.xd_read.specs.Reading.{terminal, word_of};

@@ -2,8 +2,8 @@
 
 ghost use Rattle.std.specs.Prelude.{◌≡◌, ◌↔◌, ◌<◌, length, IsTrue, IfOk};
 ghost use Rattle.std.specs.Str.Lossy.{utf8_valid_len};
-ghost use Rattle.xd_lex.specs.Spelled.{IsSpelling};
-ghost use Rattle.xd_lex.specs.Tokens.{lexeme_of};
+ghost use Rattle.xd_lex.specs.Spellings.{IsSpelling};
+ghost use Rattle.xd_lex.specs.LexedTokens.{lexeme_of};
 ghost use Rattle.xd_stream.specs.Stop.{is_open};
 ghost use Rattle.xd_plain.specs.PlainDocuments.{document_of};
 ghost use Rattle.xd_plain_stop.specs.Answers.{Fitting, cut_by};

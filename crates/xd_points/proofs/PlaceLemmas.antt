@@ -7,7 +7,7 @@ use Rattle.xd_doc.specs.Document.{Document}
 use Rattle.xd_doc.specs.declared.store.Seq.{Seq}
 use Rattle.xd_auto.specs.declared.auto.State.{State}
 use Rattle.xd_auto.specs.Automaton.{Automaton, ChangesOnly, Extends, IsClosed, IsState, StateMoves, moves_at}
-use Rattle.xd_auto.proofs.Extending.{keeps}
+use Rattle.xd_auto.proofs.ExtendsLemmas.{keeps}
 use Rattle.xd_points.specs.Meaning.{IsPointOf}
 use Rattle.xd_points.specs.declared.patterns.PatternStates.{PatternStates}
 use Rattle.xd_points.specs.declared.points.Points.{Points}
@@ -15,7 +15,7 @@ use Rattle.xd_points.specs.declared.placing.Place.{Place}
 use Rattle.xd_points.specs.declared.placing.Place.TheVariants.{Old, New, Nowhere}
 use Rattle.xd_points.specs.Placing.{AreIn, ArePlaces, IsBareAt, IsPlaceOf, IsPlaced, KeepsPlaces, PlacesFirst, accepts_at, place_at, state_of}
 use Rattle.xd_points.specs.Points.{point_at, state_at}
-use Rattle.xd_boole.proofs.Adding.{at_end, at_front, place_cases}
+use Rattle.xd_boole.proofs.ArePointsLemmas.{at_end, at_front, place_cases}
 
 pub extends_trans : (a b c : Automaton) → Extends a b → Extends b c → Extends a c
 extends_trans a b c one two = record {

@@ -2,10 +2,10 @@
 use Rattle.std.proofs.Common.{ℕ, ◌<◌, ◌≤◌, ◌≡◌, not, ◌&&◌, ◌||◌, false, List, [], ◌∷◌, length, Option, Some, None, IfSome, refl, sym, ap, ◌∙◌, arith}
 use Rattle.std.specs.List.{AllByRecursion}
 use Rattle.xd_doc.specs.Document.{Document}
-use Rattle.xd_doc.specs.Stored.{Keeps}
+use Rattle.xd_doc.specs.StoreNodes.{Keeps}
 use Rattle.xd_auto.specs.declared.auto.State.{State}
 use Rattle.xd_auto.specs.Automaton.{Automaton, Extends, IsClosed, IsState, accepts}
-use Rattle.xd_auto.proofs.Extending.{keeps}
+use Rattle.xd_auto.proofs.ExtendsLemmas.{keeps}
 use Rattle.xd_boole.specs.Meaning.{any_accepts}
 use Rattle.xd_points.specs.declared.patterns.PatternStates.{PatternStates}
 use Rattle.xd_points.specs.declared.points.Points.{Points}
@@ -13,9 +13,9 @@ use Rattle.xd_points.specs.Meaning.{ServePoints, means, point}
 use Rattle.xd_points.specs.Placing.{AreIn, accepts_at, place_at, state_of}
 use Rattle.xd_points.specs.Points.{AreExpanded, ArePoints, Grows, IsStateFor, KeepMoves, KeepsPoints, RowView, meaning, point_at}
 use Rattle.xd_points.specs.Tables.{TablesStay, takes_alone}
-use Rattle.xd_points.proofs.Growing.{meaning_stays}
+use Rattle.xd_points.proofs.GrowsLemmas.{meaning_stays}
 use Rattle.xd_points.proofs.PlaceLemmas.{there_still}
-use Rattle.xd_points.proofs.Staying.{expanded_stays, meanings_stay}
+use Rattle.xd_points.proofs.StayLaws.{expanded_stays, meanings_stay}
 
 pub documents_stay : (ds : List Document) → Keeps ds ds
 documents_stay ds = record { belongs = λ seq h. h; same = λ seq h. refl }

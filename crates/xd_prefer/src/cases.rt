@@ -2,11 +2,11 @@
 
 ghost use Rattle.std.specs.Prelude.{◌≡◌, ◌<◌, ◌&&◌, ℕ, false, Ok, None, IfOk, IfSome, length, slice_index_or};
 ghost use Rattle.xd_doc.specs.Document.{Document};
-ghost use Rattle.xd_doc.specs.Stored.{Keeps};
+ghost use Rattle.xd_doc.specs.StoreNodes.{Keeps};
 ghost use Rattle.xd_auto.specs.Automaton.{Extends, IsState, accepts};
 ghost use Rattle.xd_least.specs.Least.{Knows};
-ghost use Rattle.xd_traces.specs.Traces.{KeepsTogether};
-ghost use Rattle.xd_traces.specs.Universal.{IsUniversal};
+ghost use Rattle.xd_auto_pairs.specs.Traces.{KeepsTogether};
+ghost use Rattle.xd_auto_pairs.specs.Universal.{IsUniversal};
 ghost use Rattle.xd_bind.specs.Cases.{IsShared, OwnsNone};
 ghost use Rattle.xd_prefer.specs.FirstCases.{AreFirstCases};
 ghost use Rattle.xd_prefer.specs.Made.{origins_of};

@@ -2,14 +2,14 @@
 
 ghost use Rattle.std.specs.Prelude.{◌≡◌, [], Ok, None, IfOk, IfSome, OnOk};
 ghost use Rattle.std.specs.List.{All};
-ghost use Rattle.xd_doc.specs.Stored.{Keeps};
+ghost use Rattle.xd_doc.specs.StoreNodes.{Keeps};
 ghost use Rattle.xd_auto.specs.Automaton.{Extends, IsState, KeepsAccepting};
 ghost use Rattle.xd_least.specs.Least.{Knows};
 ghost use Rattle.xd_syntax.specs.Kept.{AddsTypes, program_tree};
 ghost use Rattle.xd_syntax.specs.May.{IsLive};
 ghost use Rattle.xd_syntax.specs.Placed.{PlacedTree, unplaced};
 ghost use Rattle.xd_syntax.specs.Program.{names_of};
-ghost use Rattle.xd_syntax.specs.Shallow.{IsShallow};
+ghost use Rattle.xd_syntax.specs.ShallowTables.{IsShallow};
 ghost use Rattle.xd_syntax.specs.Tree.{Definitions};
 ghost use Rattle.xd_clauses.specs.Cases.{IsLinearPattern, placed_pattern, placed_patterns};
 ghost use Rattle.xd_clauses.specs.Clauses.{Accepted, AreBindingsOf, AreGivensOf, IsPatternOf};

@@ -2,7 +2,7 @@
 
 ghost use Rattle.std.specs.Prelude.{◌≡◌, ◌∷◌, [], IfOk, slice_index_or};
 ghost use Rattle.xd_auto.specs.Automaton.{IsState};
-ghost use Rattle.xd_traces.specs.Universal.{IsUniversal};
+ghost use Rattle.xd_auto_pairs.specs.Universal.{IsUniversal};
 ghost use Rattle.xd_prefer.specs.Points.{AreExpanded, BeginsWith};
 ghost use Rattle.xd_prefer.specs.Made.{AreFirstRuns, origins_of};
 

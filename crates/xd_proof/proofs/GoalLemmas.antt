@@ -3,13 +3,13 @@ use Rattle.std.proofs.Common.{List, [], ◌∷◌, refl}
 use Rattle.std.specs.List.{AllByRecursion, AllZip}
 use Rattle.xd_syntax.specs.Tree.{Tree}
 use Rattle.xd_syntax.specs.Table.{Row}
-use Rattle.xd_syntax.specs.Sound.{IsTypeAt}
+use Rattle.xd_syntax.specs.SoundTables.{IsTypeAt}
 use Rattle.xd_syntax.specs.Types.{BelongsTo, tree}
 use Rattle.xd_syntax.specs.declared.types.TypeId.{TypeId}
-use Rattle.xd_laws.specs.Breach.{Lined}
-use Rattle.xd_laws.specs.Consistent.{Case}
-use Rattle.xd_proof_lines.specs.Cases.{IsCase, IsTree, atom_of}
-use Rattle.xd_proof_lines.specs.declared.cases.ReadCase.{ReadCase}
+use Rattle.xd_meaning.specs.Breach.{Lined}
+use Rattle.xd_meaning.specs.Consistent.{Case}
+use Rattle.xd_proof.specs.Cases.{IsCase, IsTree, atom_of}
+use Rattle.xd_proof.specs.declared.cases.ReadCase.{ReadCase}
 use Rattle.xd_proof.specs.Goals.{AreGoalsAt, GoalBelongs, GoalsBelong, IsLinedAt}
 use Rattle.xd_proof.specs.Kept.{AreTrees}
 use Rattle.xd_proof.specs.declared.proof.ProofGoal.{ProofGoal}

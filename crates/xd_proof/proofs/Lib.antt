@@ -1,1 +1,14 @@
+mod StepLemmas
+mod QuoteLemmas
+mod AtomLemmas
+mod CaseLemmas
+mod KeywordLemmas
+pub mod CourseLemmas
+pub mod LineLemmas
+mod NumberLemmas
+pub mod BeginLemmas
+pub mod Unique
+pub mod OneText
+pub mod SpellsTreesLemmas
+pub mod TheLaws
 pub mod GoalLemmas

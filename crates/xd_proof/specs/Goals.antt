@@ -2,11 +2,11 @@
 use Rattle.std.specs.Prelude.{◌≡◌, List}
 use Rattle.std.specs.List.{AllByRecursion, AllZip}
 use Rattle.xd_syntax.specs.Table.{Row}
-use Rattle.xd_syntax.specs.Sound.{IsTypeAt}
+use Rattle.xd_syntax.specs.SoundTables.{IsTypeAt}
 use Rattle.xd_syntax.specs.Types.{BelongsTo}
-use Rattle.xd_laws.specs.Consistent.{Goal}
-use Rattle.xd_laws.specs.Breach.{Lined}
-use Rattle.xd_proof_lines.specs.Cases.{IsCase}
+use Rattle.xd_meaning.specs.Consistent.{Goal}
+use Rattle.xd_meaning.specs.Breach.{Lined}
+use Rattle.xd_proof.specs.Cases.{IsCase}
 use Rattle.xd_proof.specs.declared.proof.ProofGoal.{ProofGoal}
 
 -- the types of the goal are types of the table

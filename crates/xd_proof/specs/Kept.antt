@@ -1,8 +1,8 @@
 -- What is so of every proof.
 use Rattle.std.specs.Prelude.{◌<◌, List, length}
 use Rattle.std.specs.List.{AllByRecursion}
-use Rattle.xd_proof_lines.specs.Cases.{IsTree}
-use Rattle.xd_proof.specs.Lines.{LinesFit}
+use Rattle.xd_proof.specs.Cases.{IsTree}
+use Rattle.xd_proof.specs.LinesFit.{LinesFit}
 use Rattle.xd_proof.specs.declared.proof.ProofGoal.{ProofGoal}
 
 -- the steps of each case are those of a choice tree

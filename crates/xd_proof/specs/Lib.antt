@@ -1,3 +1,13 @@
-pub mod Goals
+pub mod Steps
+pub mod Cases
 pub mod Lines
+pub mod LineWords
+pub mod Parts
+pub mod Form
+pub mod Course
+pub mod Forest
+pub mod TypeTexts
+pub mod Laws
+pub mod Goals
+pub mod LinesFit
 pub mod Kept

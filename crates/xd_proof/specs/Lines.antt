@@ -1,7 +1,41 @@
--- The lines of a goal.
-use Rattle.std.specs.Prelude.{◌+◌, ◌^◌, ◌<◌, length}
-use Rattle.xd_proof.specs.declared.proof.ProofGoal.{ProofGoal}
+-- Lines of a text, words of a line, and numbers.
+use Rattle.std.specs.Prelude.{◌≡◌, ℕ, ◌<◌, ◌^◌, List, [], ◌∷◌, ◌++◌}
+use Rattle.std.specs.List.{AllByRecursion}
+use Rattle.std.specs.Fmt.{decimal}
 
--- the numbers of its lines, and of the line behind the last one, are numbers of lines
-pub record LinesFit (g : ProofGoal) : Type 0 where
-  pub fits : g.line + 3 + length g.rights.items + length g.cases.items < 2 ^ 64
+abbrev pub line_feed : ℕ
+line_feed = 10
+
+abbrev pub space : ℕ
+space = 32
+
+-- the byte doesn't stand in the text
+abbrev pub IsFreeOf : ℕ → List ℕ → Type 0
+IsFreeOf c bytes = AllByRecursion (λ b. b ≡ c → ⊥) bytes
+
+-- these, each with the mark behind it
+abbrev pub each_ended : ℕ → List (List ℕ) → List ℕ
+each_ended c [] = []
+each_ended c (l ∷ ls) = l ++ c ∷ each_ended c ls
+
+-- The text is these lines, each ended by a line feed, and then a last one without, which is empty where nothing follows the
+-- last line feed.
+pub record IsCut (bytes : List ℕ) (lines : List (List ℕ)) (left : List ℕ) : Type 0 where
+  pub whole : bytes ≡ each_ended line_feed lines ++ left
+  pub free : AllByRecursion (IsFreeOf line_feed) lines
+  pub left_free : IsFreeOf line_feed left
+
+-- words with single spaces between them
+abbrev pub spaced : List (List ℕ) → List ℕ
+spaced [] = []
+spaced (w ∷ []) = w
+spaced (w ∷ (v ∷ vs)) = w ++ space ∷ spaced (v ∷ vs)
+
+-- a number, from 1, of at most 18 digits: its decimal digits without a zero before them
+pub record IsNumber (n : ℕ) : Type 0 where
+  pub least : 0 < n
+  pub most : n < 10 ^ 18
+
+pub record SpellsNumber (bytes : List ℕ) (n : ℕ) : Type 0 where
+  pub digits : bytes ≡ decimal n
+  pub number : IsNumber n

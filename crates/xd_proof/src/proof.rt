@@ -2,15 +2,15 @@
 
 ghost use Rattle.std.specs.Prelude.{◌≡◌, ◌<◌, ◌∷◌, List, length};
 ghost use Rattle.std.specs.List.{AllByRecursion};
-ghost use Rattle.xd_laws.specs.Breach.{Lined};
+ghost use Rattle.xd_meaning.specs.Breach.{Lined};
 ghost use Rattle.xd_syntax.specs.Table.{Row};
 ghost use Rattle.xd_proof.specs.Goals.{AreGoalsAt, GoalsBelong};
 ghost use Rattle.xd_proof.specs.Kept.{AreTrees};
-ghost use Rattle.xd_proof.specs.Lines.{LinesFit};
+ghost use Rattle.xd_proof.specs.LinesFit.{LinesFit};
 ghost use Rattle.xd_proof.specs.declared.proof.ProofGoal.{ProofGoal};
 
+use crate::cases::ReadCase;
 use std::marker::Model;
-use xd_proof_lines::ReadCase;
 use xd_syntax::TypeId;
 
 /// A goal: every document that fits the left fits one of the rights, which are types of the program that the proof was read

@@ -3,15 +3,15 @@ use Rattle.std.proofs.Common.{◌≡◌, ◌<◌, ◌↔◌, arith, Bool, true, 
 use Rattle.std.specs.List.{AllByRecursion, AllZip}
 use Rattle.xd_syntax.specs.Tree.{Tree, Definitions}
 use Rattle.xd_syntax.specs.Table.{Row, KeepsRows, tree_at}
-use Rattle.xd_syntax.specs.Sound.{IsTypeAt}
-use Rattle.xd_laws.specs.CanBeEmpty.{can_be_empty}
+use Rattle.xd_syntax.specs.SoundTables.{IsTypeAt}
+use Rattle.xd_meaning.specs.CanBeEmpty.{can_be_empty}
 use Rattle.xd_sound.specs.Emptiness.{AreEmptyMarks, is_marked}
 use Rattle.xd_syntax.specs.Kept.{ProgramTable, program_tree}
 use Rattle.xd_syntax.specs.Program.{ProgramTree, names_of}
 use Rattle.xd_syntax.specs.RecursionFaults.{IsSound}
 use Rattle.xd_syntax.specs.declared.types.TypeId.{TypeId}
-use Rattle.xd_laws.specs.Breach.{Lined, goals_of}
-use Rattle.xd_laws.specs.Consistent.{Claim, Goal, IsConsistent}
+use Rattle.xd_meaning.specs.Breach.{Lined, goals_of}
+use Rattle.xd_meaning.specs.Consistent.{Claim, Goal, IsConsistent}
 use Rattle.xd_laws.proofs.FirstWrong.{first_wrong}
 use Rattle.xd_laws.proofs.BreachLaw.{first_is, none_is, rules_are_tested}
 use Rattle.xd_laws.proofs.TheLaws.{consistent_proofs_hold_in, empty_decides}

@@ -11,8 +11,8 @@ use Rattle.std.specs.declared.cmp.Ordering.{Ordering}
 use Rattle.std.specs.declared.cmp.Ordering.TheVariants.{Less, Equal, Greater}
 use Rattle.xd_doc.specs.Classes.{NameClass, LabelClass, TextClass, is_named, class_has}
 use Rattle.xd_doc.proofs.SortedNames.{same_words}
-use Rattle.xd_laws.specs.Heads.{HeadKind, element_in, text_in}
-use Rattle.xd_laws.specs.Consistent.{Atom, this_label, other_label, this_text, other_text, put_word, in_byte_order, matches_atom, atoms_of}
+use Rattle.xd_meaning.specs.Heads.{HeadKind, element_in, text_in}
+use Rattle.xd_meaning.specs.Consistent.{Atom, this_label, other_label, this_text, other_text, put_word, in_byte_order, matches_atom, atoms_of}
 use Rattle.xd_proof_check.specs.Names.{Names}
 
 abbrev R : List ℕ → List ℕ → Ordering

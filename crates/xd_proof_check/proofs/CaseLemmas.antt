@@ -8,23 +8,23 @@ use Rattle.std.proofs.Math.Seq.{drop-cons}
 use Rattle.xd_syntax.specs.Tree.{Definitions}
 use Rattle.xd_syntax.specs.Table.{Row}
 use Rattle.xd_syntax.proofs.TableRows.{all_at}
-use Rattle.xd_laws.specs.Heads as laws
-use Rattle.xd_laws.specs.Consistent.{Atom, Case, ChoiceTree, Goal, HeadAtom, atoms_from, atoms_of, named, in_byte_order, labels_of, texts_of, right_heads, numbered}
-use Rattle.xd_laws.specs.Consistent as proof
-use Rattle.xd_laws.specs.Breach.{bad_case}
+use Rattle.xd_meaning.specs.Heads as laws
+use Rattle.xd_meaning.specs.Consistent.{Atom, Case, ChoiceTree, Goal, HeadAtom, atoms_from, atoms_of, named, in_byte_order, labels_of, texts_of, right_heads, numbered}
+use Rattle.xd_meaning.specs.Consistent as proof
+use Rattle.xd_meaning.specs.Breach.{bad_case}
 use Rattle.xd_laws.proofs.FirstWrong.{Refusal, at_line, or_next, reason_unless, same_atom, same_head_atom, wrong_case, wrong_cases, wrong_tree}
 use Rattle.xd_moves.specs.Cells.{Cell}
 use Rattle.xd_heads.specs.HeadList.{kind_at}
 use Rattle.xd_heads.specs.Numbered.{IsNumberIn, IsHeadIn}
 use Rattle.xd_heads.specs.declared.lister.NumberedHead.{NumberedHead}
-use Rattle.xd_proof_lines.specs.Cases.{IsCase, atom_of}
-use Rattle.xd_proof_lines.specs.Steps.{steps_of}
-use Rattle.xd_proof_lines.specs.declared.steps.Step.{Step}
-use Rattle.xd_proof_lines.specs.declared.atoms.ProofAtom as read
-use Rattle.xd_proof_lines.specs.declared.cases.ReadCase.{ReadCase}
+use Rattle.xd_proof.specs.Cases.{IsCase, atom_of}
+use Rattle.xd_proof.specs.Steps.{steps_of}
+use Rattle.xd_proof.specs.declared.steps.Step.{Step}
+use Rattle.xd_proof.specs.declared.atoms.ProofAtom as read
+use Rattle.xd_proof.specs.declared.cases.ReadCase.{ReadCase}
 use Rattle.xd_proof_check.specs.Atoms.{AreNamed, AreNamedFor, kinds_of}
 use Rattle.xd_proof_check.specs.Names.{Names}
-use Rattle.xd_proof_lines.specs.Cases.{IsTree}
+use Rattle.xd_proof.specs.Cases.{IsTree}
 use Rattle.xd_proof_check.specs.CaseWalk.{CasesView, CasesFit, Meets, wrong_after}
 use Rattle.xd_proof_check.specs.Corresponds.{Corresponds}
 use Rattle.xd_proof_check.specs.Reasons.{reason_of}

@@ -6,19 +6,19 @@ use Rattle.std.proofs.lemmas.List.{drop_all}
 use Rattle.xd_syntax.specs.Tree.{Tree, Definitions}
 use Rattle.xd_syntax.specs.Table.{Row}
 use Rattle.xd_syntax.specs.Types.{tree}
-use Rattle.xd_syntax.specs.Sound.{IsTypeAt}
-use Rattle.xd_laws.specs.CanBeEmpty.{can_be_empty}
+use Rattle.xd_syntax.specs.SoundTables.{IsTypeAt}
+use Rattle.xd_meaning.specs.CanBeEmpty.{can_be_empty}
 use Rattle.xd_sound.specs.Emptiness.{is_marked}
 use Rattle.xd_syntax.specs.declared.types.TypeId.{TypeId}
-use Rattle.xd_laws.specs.Heads as laws
-use Rattle.xd_laws.specs.Consistent.{Goal, numbered, wanted}
-use Rattle.xd_laws.specs.Breach.{Lined, bad_empty, empty_lines, line_behind}
+use Rattle.xd_meaning.specs.Heads as laws
+use Rattle.xd_meaning.specs.Consistent.{Goal, numbered, wanted}
+use Rattle.xd_meaning.specs.Breach.{Lined, bad_empty, empty_lines, line_behind}
 use Rattle.xd_laws.proofs.FirstWrong.{at_line, empty_stands, or_next, reason_unless, right_is_empty, wrong_cases, wrong_goal, wrong_goals}
 use Rattle.xd_moves.specs.Cells.{Cell}
 use Rattle.xd_heads.specs.Numbered.{IsHeadIn}
 use Rattle.xd_heads.specs.declared.lister.NumberedHead.{NumberedHead}
 use Rattle.xd_proof.specs.Goals.{IsGoalAt, IsLinedAt}
-use Rattle.xd_proof_lines.specs.declared.cases.ReadCase.{ReadCase}
+use Rattle.xd_proof.specs.declared.cases.ReadCase.{ReadCase}
 use Rattle.xd_proof.specs.declared.proof.ProofGoal.{ProofGoal}
 use Rattle.xd_proof_check.specs.CaseWalk.{Meets}
 use Rattle.xd_proof_check.specs.Corresponds.{IsClaimAt}

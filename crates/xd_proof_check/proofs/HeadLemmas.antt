@@ -8,21 +8,21 @@ use Rattle.xd_syntax.specs.Table.{Row}
 use Rattle.xd_syntax.specs.Tree.{Definitions}
 use Rattle.xd_syntax.specs.Types.{tree}
 use Rattle.xd_syntax.specs.declared.types.TypeId.{TypeId}
-use Rattle.xd_laws.specs.Heads as laws
+use Rattle.xd_meaning.specs.Heads as laws
 use Rattle.xd_continuations.specs.Chains.{KeepsLinks}
 use Rattle.xd_moves.specs.Cells.{Cell}
 use Rattle.xd_heads.specs.Numbered.{IsHeadIn, Serves}
 use Rattle.xd_heads.specs.declared.lister.HeadLister.{HeadLister}
 use Rattle.xd_heads.specs.declared.lister.NumberedHead.{NumberedHead}
-use Rattle.xd_heads.proofs.Numbering.{number_kept, numbers_tell}
-use Rattle.xd_pieces.specs.Codes.{number_at}
-use Rattle.xd_proof_lines.specs.Cases.{IsTree}
+use Rattle.xd_heads.proofs.HeadListerLemmas.{number_kept, numbers_tell}
+use Rattle.xd_moves.specs.Codes.{number_at}
+use Rattle.xd_proof.specs.Cases.{IsTree}
 use Rattle.xd_proof_check.specs.CaseWalk.{CasesFit}
 use Rattle.xd_proof_check.specs.GoalWalk.{GoalFits, PartsFit, SheetView}
 use Rattle.xd_proof_check.specs.Corresponds.{Knows}
 use Rattle.xd_proof_check.specs.GoalHeads.{AreGoalHeads, AreHeadsOf}
 use Rattle.xd_proof.specs.declared.proof.ProofGoal.{ProofGoal}
-use Rattle.xd_proof_lines.specs.declared.cases.ReadCase.{ReadCase}
+use Rattle.xd_proof.specs.declared.cases.ReadCase.{ReadCase}
 use Rattle.xd_proof_check.specs.declared.heads.GoalHeads.{GoalHeads}
 use Rattle.xd_proof_check.specs.declared.path.Path.{Path}
 

@@ -9,8 +9,8 @@ use Rattle.std.proofs.lemmas.List.{take_more}
 use Rattle.std.proofs.lemmas.List.Folds.{list_any-append}
 use Rattle.std.proofs.lemmas.Map.Text.{is_eq-slice_cmp}
 use Rattle.xd_doc.specs.Classes.{is_named}
-use Rattle.xd_laws.specs.Heads.{HeadKind}
-use Rattle.xd_laws.specs.Consistent.{in_byte_order}
+use Rattle.xd_meaning.specs.Heads.{HeadKind}
+use Rattle.xd_meaning.specs.Consistent.{in_byte_order}
 use Rattle.xd_heads.specs.HeadList.{kind_at}
 use Rattle.xd_heads.specs.declared.lister.NumberedHead.{NumberedHead}
 use Rattle.xd_proof_check.specs.Atoms.{kinds_of}

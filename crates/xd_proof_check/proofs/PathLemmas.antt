@@ -3,7 +3,7 @@ use Rattle.std.proofs.Common.{◌≡◌, ◌≢◌, ℕ, zero, suc, ◌+◌, ◌
 use Rattle.std.proofs.lemmas.List.{reverse-append, length-reverse}
 use Rattle.std.proofs.lemmas.Bool.{eq-eqb, eqb-true}
 use Rattle.std.proofs.Math.ListN.{set}
-use Rattle.xd_pieces.specs.Codes.{number_at}
+use Rattle.xd_moves.specs.Codes.{number_at}
 use Rattle.xd_proof_check.specs.Paths.{count_of, AreCounts, AreMarks, HasRoom, IsClear, IsPath, KeepsRoom, content_side, rest_side, heads_split, turns_of}
 use Rattle.xd_proof_check.specs.declared.path.Path.{Path}
 use Rattle.xd_proof_check.specs.declared.path.Turn.{Turn}

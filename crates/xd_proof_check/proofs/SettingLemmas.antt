@@ -2,16 +2,16 @@
 use Rattle.std.proofs.Common.{◌≡◌, ℕ, zero, suc, ◌-◌, ◌<◌, ◌≤◌, arith, Bool, true, false, not, cond, ◌&&◌, Option, Some, None, Result, Ok, Err, IfOk, List, [], ◌∷◌, length, drop, get_or, refl, ap, sym, ◌∙◌}
 use Rattle.std.proofs.Math.Seq.{drop-cons}
 use Rattle.std.specs.Option.{IfNone, option_map}
-use Rattle.xd_laws.specs.Heads as laws
-use Rattle.xd_laws.specs.Consistent.{Atom, this_label, other_label, this_text, other_text, ChoiceTree, Goal, numbered, matches_atom, no_sides}
+use Rattle.xd_meaning.specs.Heads as laws
+use Rattle.xd_meaning.specs.Consistent.{Atom, this_label, other_label, this_text, other_text, ChoiceTree, Goal, numbered, matches_atom, no_sides}
 use Rattle.xd_syntax.specs.Table.{Row}
-use Rattle.xd_laws.specs.Breach.{Reason}
+use Rattle.xd_meaning.specs.Breach.{Reason}
 use Rattle.xd_laws.proofs.FirstWrong.{wrong_choice, wrong_text, wrong_tree}
 use Rattle.xd_moves.specs.Cells.{Cell}
 use Rattle.xd_heads.specs.HeadList.{kind_at}
 use Rattle.xd_heads.specs.declared.lister.NumberedHead.{NumberedHead}
-use Rattle.xd_proof_lines.specs.Steps.{steps_of}
-use Rattle.xd_proof_lines.specs.declared.steps.Step.{Step}
+use Rattle.xd_proof.specs.Steps.{steps_of}
+use Rattle.xd_proof.specs.declared.steps.Step.{Step}
 use Rattle.xd_proof_check.specs.Atoms.{kinds_of}
 use Rattle.xd_proof_check.specs.Leaves.{is_among}
 use Rattle.xd_proof_check.specs.Corresponds.{Corresponds}

@@ -4,17 +4,17 @@ use Rattle.std.specs.List.{AllByRecursion, AllZip, list_all}
 use Rattle.std.proofs.lemmas.Bool.{eq-eqb, eqb-true}
 use Rattle.xd_syntax.specs.Tree.{Tree}
 use Rattle.xd_syntax.specs.Table.{Row}
-use Rattle.xd_syntax.specs.Sound.{IsTypeAt}
+use Rattle.xd_syntax.specs.SoundTables.{IsTypeAt}
 use Rattle.xd_syntax.specs.declared.types.TypeId.{TypeId}
-use Rattle.xd_laws.specs.Heads.{Head, HeadKind}
-use Rattle.xd_laws.specs.Consistent.{Atom, ChoiceTree, settles_content, settles_rest, split_on, Goal, numbered, matches_atom, matching, Sides, no_sides, on_content, on_rest}
-use Rattle.xd_laws.specs.Breach.{Reason, bad_split, bad_leaf}
+use Rattle.xd_meaning.specs.Heads.{Head, HeadKind}
+use Rattle.xd_meaning.specs.Consistent.{Atom, ChoiceTree, settles_content, settles_rest, split_on, Goal, numbered, matches_atom, matching, Sides, no_sides, on_content, on_rest}
+use Rattle.xd_meaning.specs.Breach.{Reason, bad_split, bad_leaf}
 use Rattle.xd_laws.proofs.FirstWrong.{same_tree, head_matches, has_number, has_part, some_head, each_some_head, leaf_stands, split_allowed, reason_unless, or_next, wrong_choice, wrong_text}
 use Rattle.xd_laws.proofs.SameTrees.{same_tree-is, tree_same}
 use Rattle.xd_proof.specs.declared.proof.ProofGoal.{ProofGoal}
-use Rattle.xd_proof_lines.specs.Steps.{steps_of}
-use Rattle.xd_proof_lines.specs.declared.steps.Step.{Step}
-use Rattle.xd_pieces.specs.Codes.{number_at}
+use Rattle.xd_proof.specs.Steps.{steps_of}
+use Rattle.xd_proof.specs.declared.steps.Step.{Step}
+use Rattle.xd_moves.specs.Codes.{number_at}
 use Rattle.xd_proof_check.specs.Paths.{content_side, rest_side, heads_split, turned}
 use Rattle.xd_proof_check.specs.Leaves.{is_among, leaf_numbered}
 use Rattle.xd_proof_check.specs.Walk.{SettingView, kind_matches, split_fits, wrong_steps, turns_after, rest_turns, wrong_text_step}

@@ -1,7 +1,7 @@
 -- What heads name.
 use Rattle.std.specs.Prelude.{◌≡◌, List, map, flat_map}
-use Rattle.xd_laws.specs.Heads as laws
-use Rattle.xd_laws.specs.Consistent.{in_byte_order, labels_of, texts_of}
+use Rattle.xd_meaning.specs.Heads as laws
+use Rattle.xd_meaning.specs.Consistent.{in_byte_order, labels_of, texts_of}
 use Rattle.xd_heads.specs.HeadList.{kind_at}
 use Rattle.xd_heads.specs.declared.lister.NumberedHead.{NumberedHead}
 use Rattle.xd_proof_check.specs.Names.{Names}

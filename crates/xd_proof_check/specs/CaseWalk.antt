@@ -3,18 +3,18 @@ use Rattle.std.specs.Prelude.{◌≡◌, ℕ, ◌+◌, ◌<◌, ◌≤◌, List,
 use Rattle.std.specs.List.{AllByRecursion, AllZip}
 use Rattle.xd_syntax.specs.Tree.{Definitions}
 use Rattle.xd_syntax.specs.Table.{Row}
-use Rattle.xd_laws.specs.Heads.{heads}
-use Rattle.xd_laws.specs.Consistent.{Goal, HeadAtom, right_heads}
+use Rattle.xd_meaning.specs.Heads.{heads}
+use Rattle.xd_meaning.specs.Consistent.{Goal, HeadAtom, right_heads}
 use Rattle.xd_laws.proofs.FirstWrong.{Refusal, wrong_cases}
 use Rattle.xd_moves.specs.Cells.{Cell}
 use Rattle.xd_heads.specs.Numbered.{IsHeadIn}
 use Rattle.xd_heads.specs.declared.lister.NumberedHead.{NumberedHead}
 use Rattle.xd_proof.specs.declared.proof.ProofGoal.{ProofGoal}
-use Rattle.xd_proof_lines.specs.Cases.{IsCase, IsTree}
-use Rattle.xd_proof_lines.specs.declared.cases.ReadCase.{ReadCase}
+use Rattle.xd_proof.specs.Cases.{IsCase, IsTree}
+use Rattle.xd_proof.specs.declared.cases.ReadCase.{ReadCase}
 use Rattle.xd_proof_check.specs.Corresponds.{IsClaimAt, Knows}
 use Rattle.xd_proof_check.specs.Leaves.{GoalsBelong}
-use Rattle.xd_pieces.specs.Codes.{number_at}
+use Rattle.xd_moves.specs.Codes.{number_at}
 use Rattle.xd_proof_check.specs.Reasons.{reason_of}
 use Rattle.xd_proof_check.specs.declared.cases.Cases.{Cases}
 use Rattle.xd_proof_check.specs.declared.cases.Progress.{Progress}

@@ -2,10 +2,10 @@
 use Rattle.std.specs.Prelude.{◌≡◌, ℕ, ◌<◌, List, map, length}
 use Rattle.std.specs.List.{AllZip}
 use Rattle.xd_syntax.specs.Table.{Row, tree_at}
-use Rattle.xd_syntax.specs.Sound.{IsTypeAt}
-use Rattle.xd_laws.specs.Heads.{Head}
-use Rattle.xd_laws.specs.Consistent.{Goal}
-use Rattle.xd_pieces.specs.Codes.{number_at}
+use Rattle.xd_syntax.specs.SoundTables.{IsTypeAt}
+use Rattle.xd_meaning.specs.Heads.{Head}
+use Rattle.xd_meaning.specs.Consistent.{Goal}
+use Rattle.xd_moves.specs.Codes.{number_at}
 use Rattle.xd_moves.specs.Cells.{Cell}
 use Rattle.xd_heads.specs.Numbered.{IsNumberIn, Tell}
 use Rattle.xd_proof.specs.declared.proof.ProofGoal.{ProofGoal}

@@ -5,7 +5,7 @@ use Rattle.xd_syntax.specs.Table.{Row}
 use Rattle.xd_syntax.specs.Tree.{Definitions}
 use Rattle.xd_syntax.specs.Types.{tree}
 use Rattle.xd_syntax.specs.declared.types.TypeId.{TypeId}
-use Rattle.xd_laws.specs.Heads.{heads}
+use Rattle.xd_meaning.specs.Heads.{heads}
 use Rattle.xd_moves.specs.Cells.{Cell}
 use Rattle.xd_heads.specs.Numbered.{IsHeadIn}
 use Rattle.xd_heads.specs.declared.lister.NumberedHead.{NumberedHead}

@@ -3,7 +3,7 @@ use Rattle.std.specs.Prelude.{ℕ, ◌<◌, Bool, false, ◌&&◌, nat_eq, List,
 use Rattle.std.specs.List.{AllByRecursion, list_all, list_any}
 use Rattle.xd_syntax.specs.declared.types.TypeId.{TypeId}
 use Rattle.xd_proof.specs.declared.proof.ProofGoal.{ProofGoal}
-use Rattle.xd_pieces.specs.Codes.{number_at}
+use Rattle.xd_moves.specs.Codes.{number_at}
 
 abbrev pub is_among : List ℕ → ℕ → Bool
 is_among ns m = list_any (λ n. nat_eq n m) ns

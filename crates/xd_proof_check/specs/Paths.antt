@@ -1,7 +1,7 @@
 -- The path of splits above a place of a choice tree, and its marks.
 use Rattle.std.specs.Prelude.{◌≡◌, ℕ, ◌+◌, ◌<◌, ◌≤◌, true, cond, nat_eq, List, [], ◌∷◌, map, reverse, length}
 use Rattle.std.specs.List.{AllByRecursion}
-use Rattle.xd_pieces.specs.Codes.{number_at}
+use Rattle.xd_moves.specs.Codes.{number_at}
 use Rattle.xd_proof_check.specs.declared.path.Turn.{Turn}
 use Rattle.xd_proof_check.specs.declared.path.Path.{Path}
 

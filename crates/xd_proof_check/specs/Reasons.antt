@@ -1,9 +1,9 @@
 -- Answers of the checker.
 use Rattle.std.specs.Prelude.{List}
 use Rattle.xd_syntax.specs.Tree.{Definitions}
-use Rattle.xd_laws.specs.Consistent.{IsConsistent}
-use Rattle.xd_laws.specs.Breach as laws
-use Rattle.xd_laws.specs.Breach.{Lined, goals_of, IsFirstBreach, bad_form, bad_empty, bad_case, bad_split, bad_leaf}
+use Rattle.xd_meaning.specs.Consistent.{IsConsistent}
+use Rattle.xd_meaning.specs.Breach as laws
+use Rattle.xd_meaning.specs.Breach.{Lined, goals_of, IsFirstBreach, bad_form, bad_empty, bad_case, bad_split, bad_leaf}
 use Rattle.xd_proof_check.specs.declared.verdict.Reason.{Reason}
 use Rattle.xd_proof_check.specs.declared.verdict.Reason.TheVariants.{Form, Empty, Case, Split, Leaf}
 use Rattle.xd_proof_check.specs.declared.verdict.ProofVerdict.{ProofVerdict}

@@ -1,15 +1,15 @@
 -- A walk over the steps of a choice tree, along a path of splits.
 use Rattle.std.specs.Prelude.{◌≡◌, ℕ, suc, ◌-◌, ◌<◌, Bool, true, false, not, cond, ◌&&◌, List, [], ◌∷◌, length, Option, Some, None}
-use Rattle.xd_laws.specs.Heads.{HeadKind}
-use Rattle.xd_laws.specs.Consistent.{Atom, ChoiceTree, settles_content, settles_rest, split_on, numbered, matches_atom}
-use Rattle.xd_laws.specs.Breach.{Reason, bad_split, bad_leaf}
+use Rattle.xd_meaning.specs.Heads.{HeadKind}
+use Rattle.xd_meaning.specs.Consistent.{Atom, ChoiceTree, settles_content, settles_rest, split_on, numbered, matches_atom}
+use Rattle.xd_meaning.specs.Breach.{Reason, bad_split, bad_leaf}
 use Rattle.xd_laws.proofs.FirstWrong.{reason_unless, or_next}
 use Rattle.xd_proof.specs.declared.proof.ProofGoal.{ProofGoal}
-use Rattle.xd_proof_lines.specs.declared.steps.Step.{Step}
-use Rattle.xd_proof_lines.specs.declared.steps.Step.TheVariants.{Content, Rest, Split}
-use Rattle.xd_proof_lines.specs.Cases.{atom_of}
+use Rattle.xd_proof.specs.declared.steps.Step.{Step}
+use Rattle.xd_proof.specs.declared.steps.Step.TheVariants.{Content, Rest, Split}
+use Rattle.xd_proof.specs.Cases.{atom_of}
 use Rattle.xd_proof_check.specs.Atoms.{kinds_of}
-use Rattle.xd_pieces.specs.Codes.{number_at}
+use Rattle.xd_moves.specs.Codes.{number_at}
 use Rattle.xd_proof_check.specs.Leaves.{GoalsBelong, is_among, leaf_numbered}
 use Rattle.xd_proof_check.specs.Paths.{HasRoom, content_side, rest_side, heads_split, turned}
 use Rattle.xd_proof_check.specs.declared.path.Turn.{Turn}

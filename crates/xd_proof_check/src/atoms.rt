@@ -2,13 +2,14 @@
 
 ghost use Rattle.std.specs.Prelude.{◌≡◌, ◌++◌, ◌∷◌, [], ℕ, List, true, cond, map, flat_map, IfOk, OnOk};
 ghost use Rattle.std.specs.List.{filter};
-ghost use Rattle.xd_doc.specs.Classes.{IsClass, IsTextClass, class_has};
-ghost use Rattle.xd_laws.specs.Consistent as laws;
-ghost use Rattle.xd_laws.specs.Consistent.{atoms_of, labels_of, matches_atom, texts_of, this_label, this_text};
-ghost use Rattle.xd_laws.specs.Heads.{element_in, text_in};
+ghost use Rattle.xd_doc.specs.ClassForms.{IsClass, IsTextClass};
+ghost use Rattle.xd_doc.specs.Classes.{class_has};
+ghost use Rattle.xd_meaning.specs.Consistent as laws;
+ghost use Rattle.xd_meaning.specs.Consistent.{atoms_of, labels_of, matches_atom, texts_of, this_label, this_text};
+ghost use Rattle.xd_meaning.specs.Heads.{element_in, text_in};
 ghost use Rattle.xd_laws.proofs.FirstWrong.{same_atom};
 ghost use Rattle.xd_heads.specs.HeadList.{kind_at};
-ghost use Rattle.xd_proof_lines.specs.Cases.{atom_of};
+ghost use Rattle.xd_proof.specs.Cases.{atom_of};
 ghost use Rattle.xd_proof_check.specs.Atoms.{AreNamed, AreNamedFor, kinds_of};
 ghost use Rattle.xd_proof_check.specs.Names.{AddsNames, Names};
 
@@ -16,7 +17,7 @@ use std::alloc::Global;
 use std::collections::BTreeSet;
 use xd_doc::{Class, Label, NoMemory, Text, Words};
 use xd_heads::{HeadKind, NumberedHead};
-use xd_proof_lines::ProofAtom;
+use xd_proof::ProofAtom;
 
 /// The labels and the texts that heads name, as classes that have all others.
 #[derive(Drop)]

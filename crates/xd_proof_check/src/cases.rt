@@ -2,11 +2,11 @@
 
 ghost use Rattle.std.specs.Prelude.{◌≡◌, ◌+◌, ◌<◌, ◌≤◌, ◌^◌, ◌∷◌, ◌++◌, ◌&&◌, ℕ, List, nat_eq, length, drop, IfOk};
 ghost use Rattle.std.specs.Option.{IfNone, IfSome, option_map};
-ghost use Rattle.xd_laws.specs.Consistent as laws;
-ghost use Rattle.xd_laws.specs.Consistent.{Goal, HeadAtom, atoms_from, wanted};
-ghost use Rattle.xd_laws.specs.Heads.{heads};
+ghost use Rattle.xd_meaning.specs.Consistent as laws;
+ghost use Rattle.xd_meaning.specs.Consistent.{Goal, HeadAtom, atoms_from, wanted};
+ghost use Rattle.xd_meaning.specs.Heads.{heads};
 ghost use Rattle.xd_laws.proofs.FirstWrong.{same_atom, wrong_cases};
-ghost use Rattle.xd_proof_lines.specs.Cases.{atom_of};
+ghost use Rattle.xd_proof.specs.Cases.{atom_of};
 ghost use Rattle.xd_syntax.specs.Table.{Row};
 ghost use Rattle.xd_syntax.specs.Tree.{Definitions};
 ghost use Rattle.xd_moves.specs.Cells.{Cell};
@@ -22,8 +22,7 @@ use crate::walk::{Setting, check_tree};
 use std::alloc::Global;
 use xd_doc::NoMemory;
 use xd_heads::NumberedHead;
-use xd_proof::ProofGoal;
-use xd_proof_lines::{ProofAtom, ReadCase};
+use xd_proof::{ProofAtom, ProofGoal, ReadCase};
 
 /// The cases of a goal, and what they are looked at in.
 #[derive(Clone, Copy)]

@@ -3,12 +3,12 @@
 ghost use Rattle.std.specs.Prelude.{◌≡◌, ◌+◌, ◌-◌, ◌<◌, ◌≤◌, ◌∷◌, ◌++◌, [], ℕ, List, true, false, length, drop, IfOk, OnOk, MatchOption};
 ghost use Rattle.std.specs.List.{AllByRecursion};
 ghost use Rattle.std.specs.Option.{IfNone, option_map};
-ghost use Rattle.xd_laws.specs.Consistent.{ChoiceTree, Goal};
-ghost use Rattle.xd_laws.specs.Heads as laws;
+ghost use Rattle.xd_meaning.specs.Consistent.{ChoiceTree, Goal};
+ghost use Rattle.xd_meaning.specs.Heads as laws;
 ghost use Rattle.xd_laws.proofs.FirstWrong.{wrong_tree};
-ghost use Rattle.xd_proof_lines.specs.Steps.{steps_of};
-ghost use Rattle.xd_proof_lines.specs.declared.steps.Step.TheVariants as steps;
-ghost use Rattle.xd_proof_lines.specs.Cases.{atom_of};
+ghost use Rattle.xd_proof.specs.Steps.{steps_of};
+ghost use Rattle.xd_proof.specs.declared.steps.Step.TheVariants as steps;
+ghost use Rattle.xd_proof.specs.Cases.{atom_of};
 ghost use Rattle.xd_syntax.specs.Table.{Row};
 ghost use Rattle.xd_moves.specs.Cells.{Cell};
 ghost use Rattle.xd_proof_check.specs.Atoms.{kinds_of};
@@ -23,8 +23,7 @@ use crate::path::{Path, Turn};
 use crate::verdict::Reason;
 use xd_doc::NoMemory;
 use xd_heads::NumberedHead;
-use xd_proof::ProofGoal;
-use xd_proof_lines::{ProofAtom, Step};
+use xd_proof::{ProofAtom, ProofGoal, Step};
 
 /// What the steps of a case are looked at in.
 #[derive(Clone, Copy)]

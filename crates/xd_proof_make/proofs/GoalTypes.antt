@@ -3,18 +3,19 @@ use Rattle.std.proofs.Common.{◌≡◌, ℕ, ◌≤◌, Bool, true, List, [], �
 use Rattle.std.specs.List.{AllByRecursion, AllZip}
 use Rattle.xd_syntax.specs.Tree.{Tree, uses_only}
 use Rattle.xd_syntax.specs.TypeText.{depth}
-use Rattle.xd_syntax.specs.Shallow.{IsShallow, nesting_limit}
+use Rattle.xd_syntax.specs.ShallowTables.{IsShallow}
+use Rattle.xd_syntax.specs.Shallow.{nesting_limit}
 use Rattle.xd_syntax.specs.NameFaults.{known_types}
 use Rattle.xd_syntax.specs.Program.{names_of}
 use Rattle.xd_syntax.specs.RecursionFaults.{IsSound}
 use Rattle.xd_syntax.specs.Kept.{ProgramTable, program_tree}
 use Rattle.xd_auto.specs.declared.auto.State.{State}
 use Rattle.xd_auto.specs.Automaton.{Automaton}
-use Rattle.xd_laws.specs.Consistent.{Goal}
+use Rattle.xd_meaning.specs.Consistent.{Goal}
 use Rattle.xd_continuations.proofs.MoveLemmas.{all_append}
 use Rattle.xd_goals.specs.Rows.{GoalRow, TableView, row_at}
 use Rattle.xd_goals.specs.Facts.{FactsOnAutomaton}
-use Rattle.xd_state_heads.proofs.Lists.{all_map}
+use Rattle.xd_rules.proofs.Lists.{all_map}
 use Rattle.xd_goals.proofs.Verdicts.{choices_keep}
 use Rattle.xd_heads.specs.CellsView.{CellsView}
 use Rattle.xd_heads.specs.Mirrors.{Mirrors, continuation_of}
@@ -23,7 +24,7 @@ use Rattle.xd_proof_make.specs.Written.{AreTypes}
 use Rattle.xd_proof_make.specs.Met.{AreReached}
 use Rattle.xd_proof_make.specs.Made.{IsBetween, UsesDefined}
 use Rattle.xd_proof_make.proofs.NamedTypes.{program_heads_named}
-use Rattle.xd_proof_make.proofs.Spreading.{HasPassing, IsPassing, row_passes, row_passes-is, row_passes-from, passing_leads}
+use Rattle.xd_proof_make.proofs.UsesDefinedLemmas.{HasPassing, IsPassing, row_passes, row_passes-is, row_passes-from, passing_leads}
 
 all_types : (P : Tree → Type 0) (gs : List Goal) → AllByRecursion (λ (g : Goal). AllByRecursion P (g.left ∷ g.rights)) gs → AllByRecursion P (types_of gs)
 all_types P [] h = tt

@@ -5,14 +5,14 @@ use Rattle.std.specs.List.{AllByRecursion}
 use Rattle.std.proofs.lemmas.Bool.{and_parts, and_from}
 use Rattle.xd_syntax.specs.Words.{has_word}
 use Rattle.xd_syntax.specs.Tree.{Tree, Empty, Text, Words, Name, Elem, Seq, Alt, Star, Plus, Opt, Val, Definitions, body, seq_of, uses_only}
-use Rattle.xd_laws.specs.CanBeEmpty.{can_be_empty}
+use Rattle.xd_meaning.specs.CanBeEmpty.{can_be_empty}
 use Rattle.xd_syntax.specs.Placed.{PlacedTree, Empty_at, Text_at, Words_at, Name_at, Elem_at, Seq_at, Alt_at, Star_at, Plus_at, Opt_at, Val_at, unplaced}
 use Rattle.xd_syntax.specs.Program.{TypeDefinition, ProgramTree, names_of}
 use Rattle.xd_syntax.specs.NameFaults.{duplicate_names, fault_if, function_faults, known_types, unknown_types}
 use Rattle.xd_syntax.specs.RecursionFaults.{IsSound}
 use Rattle.xd_syntax.specs.declared.fault.Fault.{Fault}
 use Rattle.xd_syntax.specs.declared.fault.FaultKind.TheVariants.{UnknownType}
-use Rattle.xd_laws.specs.Heads.{Head, pieces, followed_by, with_behind, heads_by, heads_of_definition, heads_of_name, heads}
+use Rattle.xd_meaning.specs.Heads.{Head, pieces, followed_by, with_behind, heads_by, heads_of_definition, heads_of_name, heads}
 use Rattle.xd_laws.proofs.SoundGuarded.{in_order_none}
 use Rattle.xd_laws.proofs.WordLists.{nothing_both}
 use Rattle.xd_continuations.proofs.MoveLemmas.{all_append, all_cond, all_map}

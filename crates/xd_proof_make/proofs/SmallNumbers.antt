@@ -5,14 +5,14 @@ use Rattle.std.proofs.lemmas.Bool.{cases_lt}
 use Rattle.xd_syntax.specs.Tree.{Tree, Definitions}
 use Rattle.xd_syntax.specs.Ways.{Among}
 use Rattle.xd_auto.specs.declared.auto.State.{State}
-use Rattle.xd_laws.specs.Heads.{Head, heads}
+use Rattle.xd_meaning.specs.Heads.{Head, heads}
 use Rattle.xd_laws.specs.SameTree.{same_tree}
-use Rattle.xd_laws.specs.Consistent.{Atom, this_label, other_label, this_text, other_text, ChoiceTree, settles_content, settles_rest, split_on, Case, Goal, numbered, right_heads, Sides, no_sides, on_content, on_rest, LabelTree, TextTree, TreeRule, CaseRule, EmptyRule, KeepsRules}
+use Rattle.xd_meaning.specs.Consistent.{Atom, this_label, other_label, this_text, other_text, ChoiceTree, settles_content, settles_rest, split_on, Case, Goal, numbered, right_heads, Sides, no_sides, on_content, on_rest, LabelTree, TextTree, TreeRule, CaseRule, EmptyRule, KeepsRules}
 use Rattle.xd_laws.proofs.Pigeon.{NoRepeat, pigeon}
 use Rattle.xd_laws.proofs.SameTrees.{tree_same}
 use Rattle.xd_goals.specs.Rows.{GoalRow, IsRowBelow, row_at}
-use Rattle.xd_proof_form.specs.Lines.{IsNumber}
-use Rattle.xd_proof_form.specs.Parts.{IsAtom, HasNumbers}
+use Rattle.xd_proof.specs.Lines.{IsNumber}
+use Rattle.xd_proof.specs.Parts.{IsAtom, HasNumbers}
 use Rattle.xd_proof_write.specs.SecondText.{each_once, types_of, distinct_types}
 use Rattle.xd_proof_write.specs.Laws.{IsWritableCase, IsWritableNumber, IsWritableGoal}
 use Rattle.xd_proof_make.specs.Written.{AreTypes}

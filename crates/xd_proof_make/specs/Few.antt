@@ -2,9 +2,9 @@
 use Rattle.std.specs.Prelude.{◌<◌, ◌^◌, List, length}
 use Rattle.std.specs.List.{AllByRecursion}
 use Rattle.xd_syntax.specs.Tree.{Definitions}
-use Rattle.xd_laws.specs.Heads.{heads}
-use Rattle.xd_laws.specs.Consistent.{Case, Goal, right_heads}
-use Rattle.xd_proof_form.specs.Parts.{IsAtom}
+use Rattle.xd_meaning.specs.Heads.{heads}
+use Rattle.xd_meaning.specs.Consistent.{Case, Goal, right_heads}
+use Rattle.xd_proof.specs.Parts.{IsAtom}
 
 -- So few that each can have a number of at most 18 digits. A slice with elements of 10 bytes or more has no more, since it takes less
 -- than 2^63 bytes.

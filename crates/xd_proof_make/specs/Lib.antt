@@ -1,3 +1,4 @@
+pub mod ProofText
 pub mod Written
 pub mod Places
 pub mod Steps

@@ -3,24 +3,25 @@ use Rattle.std.specs.Prelude.{◌≡◌, ℕ, ◌<◌, ◌≤◌, true, false, L
 use Rattle.std.specs.List.{AllByRecursion, AllZip}
 use Rattle.xd_syntax.specs.Tree.{Tree, uses_only}
 use Rattle.xd_syntax.specs.TypeText.{depth}
-use Rattle.xd_syntax.specs.Shallow.{IsShallow, nesting_limit}
+use Rattle.xd_syntax.specs.ShallowTables.{IsShallow}
+use Rattle.xd_syntax.specs.Shallow.{nesting_limit}
 use Rattle.xd_syntax.specs.NameFaults.{known_types}
 use Rattle.xd_syntax.specs.Program.{ProgramTree, names_of}
 use Rattle.xd_syntax.specs.Kept.{ProgramTable, program_tree}
 use Rattle.xd_auto.specs.declared.auto.State.{State}
 use Rattle.xd_auto.specs.Automaton.{Automaton}
-use Rattle.xd_laws.specs.Consistent.{Goal, IsConsistent, numbered}
-use Rattle.xd_laws.specs.Breach.{Lined, goals_of}
+use Rattle.xd_meaning.specs.Consistent.{Goal, IsConsistent, numbered}
+use Rattle.xd_meaning.specs.Breach.{Lined, goals_of}
 use Rattle.xd_rules.specs.Rules.{right_heads}
-use Rattle.xd_state_heads.specs.Moves.{AreBelow, heads_of, is_last_in}
+use Rattle.xd_rules.specs.Moves.{AreBelow, heads_of, is_last_in}
 use Rattle.xd_goals.specs.Rows.{GoalRow, TableView, claim_of, row_at}
 use Rattle.xd_goals.specs.Standing.{IsBegun}
 use Rattle.xd_goals.specs.declared.table.ChoiceNode.{ChoiceNode}
 use Rattle.xd_heads.specs.CellsView.{CellsView}
 use Rattle.xd_heads.specs.Mirrors.{IsTypeState, Mirrors, continuation_of}
-use Rattle.xd_proof_form.specs.Lines.{IsNumber}
+use Rattle.xd_proof.specs.Lines.{IsNumber}
 use Rattle.xd_proof.specs.Goals.{IsGoalAt, AreGoalsAt}
-use Rattle.xd_proof.specs.Lines.{LinesFit}
+use Rattle.xd_proof.specs.LinesFit.{LinesFit}
 use Rattle.xd_proof.specs.declared.proof.ProofGoal.{ProofGoal}
 use Rattle.xd_proof_write.specs.SecondText.{distinct_types, types_of}
 use Rattle.xd_proof_write.specs.Laws.{IsWritableGoal}

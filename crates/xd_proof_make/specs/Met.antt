@@ -7,8 +7,8 @@ use Rattle.xd_goals.specs.Rows.{TableView, row_at}
 use Rattle.xd_goals.specs.Trees.{StandsAt}
 use Rattle.xd_goals.specs.declared.table.Choice.{Choice}
 use Rattle.xd_goals.specs.declared.table.ChoiceNode.{ChoiceNode}
-use Rattle.xd_proof_lines.specs.declared.steps.Step.{Step}
-use Rattle.xd_proof_lines.specs.declared.steps.Step.TheVariants.{Content, Rest, Split}
+use Rattle.xd_proof.specs.declared.steps.Step.{Step}
+use Rattle.xd_proof.specs.declared.steps.Step.TheVariants.{Content, Rest, Split}
 
 -- the goal's number; 0 is none
 abbrev pub number_in : List ℕ → ℕ → ℕ

@@ -1,16 +1,16 @@
 -- Cases in the order of the heads of a type. Only private contracts speak of them.
 use Rattle.std.specs.Prelude.{◌≡◌, ℕ, ◌+◌, ◌<◌, ◌≤◌, Bool, true, false, List, [], ◌∷◌, ◌++◌}
 use Rattle.std.specs.List.{AllByRecursion, AllZip}
-use Rattle.xd_laws.specs.Consistent.{Case}
+use Rattle.xd_meaning.specs.Consistent.{Case}
 use Rattle.xd_rules.specs.Rules.{ChoiceTree, ContentLeaf, RestLeaf, SplitOn, AllLeaves}
 use Rattle.xd_goals.specs.Trees.{StandsAt}
 use Rattle.xd_goals.specs.declared.table.Choice.{Choice}
 use Rattle.xd_goals.specs.declared.table.ChoiceNode.{ChoiceNode}
-use Rattle.xd_proof_form.specs.Parts.{IsAtom}
-use Rattle.xd_proof_lines.specs.Cases.{IsCase}
-use Rattle.xd_proof_lines.specs.declared.cases.ReadCase.{ReadCase}
-use Rattle.xd_proof_lines.specs.declared.steps.Step.{Step}
-use Rattle.xd_proof_lines.specs.declared.steps.Step.TheVariants.{Content, Rest, Split}
+use Rattle.xd_proof.specs.Parts.{IsAtom}
+use Rattle.xd_proof.specs.Cases.{IsCase}
+use Rattle.xd_proof.specs.declared.cases.ReadCase.{ReadCase}
+use Rattle.xd_proof.specs.declared.steps.Step.{Step}
+use Rattle.xd_proof.specs.declared.steps.Step.TheVariants.{Content, Rest, Split}
 use Rattle.xd_proof_make.specs.Written.{written_atom, written_tree}
 use Rattle.xd_proof_make.specs.Places.{place_in}
 use Rattle.xd_proof_make.specs.Met.{number_in}

@@ -4,8 +4,8 @@ use Rattle.xd_rules.specs.Rules.{ChoiceTree, ContentLeaf, RestLeaf, SplitOn}
 use Rattle.xd_goals.specs.Trees.{StandsAt}
 use Rattle.xd_goals.specs.declared.table.ChoiceNode.{ChoiceNode}
 use Rattle.xd_goals.specs.declared.table.ChoiceNode.TheVariants as nodes
-use Rattle.xd_proof_lines.specs.declared.steps.Step.{Step}
-use Rattle.xd_proof_lines.specs.declared.steps.Step.TheVariants.{Content, Rest, Split}
+use Rattle.xd_proof.specs.declared.steps.Step.{Step}
+use Rattle.xd_proof.specs.declared.steps.Step.TheVariants.{Content, Rest, Split}
 
 abbrev pub table_steps : ChoiceTree → List Step
 table_steps (ContentLeaf g) = Content g ∷ []

@@ -5,14 +5,14 @@ use Rattle.xd_doc.specs.Classes.{LabelClass}
 use Rattle.xd_syntax.specs.Tree.{Tree, Definitions}
 use Rattle.xd_auto.specs.declared.auto.State.{State}
 use Rattle.xd_auto.specs.Automaton.{Automaton}
-use Rattle.xd_laws.specs.Heads.{Head, HeadKind, element_in, text_in, heads}
-use Rattle.xd_laws.specs.Consistent.{Atom, this_label, other_label, this_text, other_text, ChoiceTree, settles_content, settles_rest, split_on, Case, Goal, Named, numbered, right_heads, wanted, head_atom, EmptyRule}
+use Rattle.xd_meaning.specs.Heads.{Head, HeadKind, element_in, text_in, heads}
+use Rattle.xd_meaning.specs.Consistent.{Atom, this_label, other_label, this_text, other_text, ChoiceTree, settles_content, settles_rest, split_on, Case, Goal, Named, numbered, right_heads, wanted, head_atom, EmptyRule}
 use Rattle.xd_rules.specs.Heads as table
 use Rattle.xd_rules.specs.Rules as rules
 use Rattle.xd_rules.specs.Members.{SomeOf}
 use Rattle.xd_rules.specs.declared.atom.Atom.{Atom as TableAtom}
 use Rattle.xd_rules.specs.declared.atom.Atom.TheVariants.{Label, OtherLabel, Text, OtherText}
-use Rattle.xd_state_heads.specs.Moves.{heads_of}
+use Rattle.xd_rules.specs.Moves.{heads_of}
 use Rattle.xd_goals.specs.Rows.{GoalRow, claim_of}
 use Rattle.xd_goals.specs.Trees.{StandsAt}
 use Rattle.xd_goals.specs.declared.table.Choice.{Choice}

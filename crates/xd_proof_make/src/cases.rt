@@ -1,10 +1,10 @@
 //! The choices of a goal of a table as cases of a goal of a proof.
 
 ghost use Rattle.std.specs.Prelude.{◌≡◌, ◌<◌, ◌+◌, ◌++◌, ◌^◌, List, map, length, IfOk, OnOk};
-ghost use Rattle.xd_proof_lines.specs.declared.cases.ReadCase.{ReadCase};
+ghost use Rattle.xd_proof.specs.declared.cases.ReadCase.{ReadCase};
 ghost use Rattle.std.specs.List.{AllByRecursion, AllZip};
-ghost use Rattle.xd_proof_form.specs.Parts.{IsAtom};
-ghost use Rattle.xd_proof_lines.specs.Cases.{atom_of};
+ghost use Rattle.xd_proof.specs.Parts.{IsAtom};
+ghost use Rattle.xd_proof.specs.Cases.{atom_of};
 ghost use Rattle.xd_proof_make.specs.Written.{written_atom};
 ghost use Rattle.xd_proof_make.specs.Few.{AreFew};
 ghost use Rattle.xd_proof_make.specs.Places.{new_numbers};
@@ -15,7 +15,7 @@ use crate::steps::table_steps;
 use std::alloc::Global;
 use xd_doc::NoMemory;
 use xd_goals::{Choice, Table};
-use xd_proof_lines::{ProofAtom, ReadCase, Step};
+use xd_proof::{ProofAtom, ReadCase, Step};
 
 /// The choices before the first whose head has at least this number, and the others.
 fn cut_choices(choices: &[Choice], bound: usize) -> (&[Choice], &[Choice])

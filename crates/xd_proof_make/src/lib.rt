@@ -8,5 +8,7 @@ mod places;
 mod reach;
 mod states;
 mod steps;
+mod text;
 
 pub use make::proof_of;
+pub use text::proof_text;

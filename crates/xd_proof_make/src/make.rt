@@ -7,7 +7,7 @@ ghost use Rattle.xd_goals.specs.Standing.{StandsOnAutomaton};
 ghost use Rattle.xd_heads.specs.Growing.{GrowsTypes};
 ghost use Rattle.xd_heads.specs.Mirrors.{Mirrors};
 ghost use Rattle.xd_syntax.specs.Kept.{AddsTypes, program_tree};
-ghost use Rattle.xd_syntax.specs.Shallow.{IsShallow};
+ghost use Rattle.xd_syntax.specs.ShallowTables.{IsShallow};
 ghost use Rattle.xd_proof_make.specs.Made.{IsOfTypes, IsProofOf};
 
 use crate::goals::{learn_goals, write_goals};

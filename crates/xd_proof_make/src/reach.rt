@@ -10,7 +10,7 @@ use crate::steps::table_steps;
 use std::alloc::Global;
 use xd_doc::NoMemory;
 use xd_goals::{Choice, GoalId, Table};
-use xd_proof_lines::Step;
+use xd_proof::Step;
 
 /// Goals in the order in which they were met, by their numbers in the table, and for each goal of the table its place among
 /// them, from 1, or 0.

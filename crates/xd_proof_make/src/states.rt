@@ -6,7 +6,7 @@ ghost use Rattle.xd_auto.specs.Automaton.{Automaton};
 ghost use Rattle.xd_syntax.specs.Kept.{program_tree};
 ghost use Rattle.xd_syntax.specs.Program.{names_of};
 ghost use Rattle.xd_syntax.specs.Types.{tree};
-ghost use Rattle.xd_laws.specs.Heads.{heads as type_heads};
+ghost use Rattle.xd_meaning.specs.Heads.{heads as type_heads};
 ghost use Rattle.xd_heads.specs.Growing.{GrowsTypes};
 ghost use Rattle.xd_heads.specs.HeadList.{head_at, kind_at};
 ghost use Rattle.xd_heads.specs.CellsView.{CellsView};

@@ -8,7 +8,7 @@ ghost use Rattle.xd_proof_make.specs.Steps.{HasTree, IsOpened, table_steps};
 use std::alloc::Global;
 use xd_doc::NoMemory;
 use xd_goals::{ChoiceNode, Table};
-use xd_proof_lines::Step;
+use xd_proof::Step;
 
 /// The step that a node is. The parts of a split are put on the stack, the first of them on top.
 fn open_node(table: &Table, number: usize, stack: &mut Vec<usize>) -> Result<Step, NoMemory>

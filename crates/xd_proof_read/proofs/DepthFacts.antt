@@ -6,22 +6,22 @@ use Rattle.xd_syntax.specs.Tree.{Tree}
 use Rattle.xd_syntax.specs.TypeText.{depth}
 use Rattle.xd_syntax.specs.Table.{Row}
 use Rattle.xd_syntax.specs.Types.{tree}
-use Rattle.xd_syntax.specs.Sound.{IsTypeAt}
+use Rattle.xd_syntax.specs.SoundTables.{IsTypeAt}
 use Rattle.xd_syntax.specs.Shallow.{nesting_limit}
 use Rattle.xd_syntax.specs.declared.types.TypeId.{TypeId}
 use Rattle.xd_grammar.specs.declared.grammar.Nonterminal.TheVariants as nonterminals
-use Rattle.xd_trees.specs.Values.{Value, a_tree}
-use Rattle.xd_trees.specs.Reading.{Reads}
+use Rattle.xd_parse_trees.specs.Values.{Value, a_tree}
+use Rattle.xd_parse_trees.specs.Reading.{Reads}
 use Rattle.xd_parse.proofs.Sure.{sure}
 use Rattle.xd_parse.proofs.Spelled.{read_within}
-use Rattle.xd_parse.proofs.Nesting.{all_within}
-use Rattle.xd_trees.proofs.Depth.{AnyWithin}
-use Rattle.xd_laws.specs.Consistent.{numbered}
-use Rattle.xd_laws.specs.Breach.{Lined}
-use Rattle.xd_proof_form.specs.Lines.{SpellsNumber}
-use Rattle.xd_proof_form.specs.Parts.{Part, type_part, left_part, right_part, SpellsPart, SpellParts}
-use Rattle.xd_proof_form.specs.Form.{Block, block_parts, blocks_from, types_from, goals_from, block_length, AreNamed, NameTypes, AreProof, IsProofText}
-use Rattle.xd_proof_form.specs.TypeTexts.{SpellsType}
+use Rattle.xd_parse.proofs.ValueDepthLemmas.{all_within}
+use Rattle.xd_parse_trees.proofs.Depth.{AnyWithin}
+use Rattle.xd_meaning.specs.Consistent.{numbered}
+use Rattle.xd_meaning.specs.Breach.{Lined}
+use Rattle.xd_proof.specs.Lines.{SpellsNumber}
+use Rattle.xd_proof.specs.Parts.{Part, type_part, left_part, right_part, SpellsPart, SpellParts}
+use Rattle.xd_proof.specs.Form.{Block, block_parts, blocks_from, types_from, goals_from, block_length, AreNamed, NameTypes, AreProof, IsProofText}
+use Rattle.xd_proof.specs.TypeTexts.{SpellsType}
 use Rattle.xd_proof.specs.declared.proof.ProofGoal.{ProofGoal}
 use Rattle.xd_proof.specs.Goals.{AreGoalsAt}
 use Rattle.xd_proof_read.specs.Depths.{IsShallowGoal}

@@ -7,15 +7,15 @@ use Rattle.std.proofs.lemmas.List.{take-append-drop, map-append, length-take-le}
 use Rattle.xd_syntax.specs.Tree.{Tree, Empty}
 use Rattle.xd_syntax.specs.TypeText.{type_text}
 use Rattle.xd_syntax.specs.Table.{Row}
-use Rattle.xd_syntax.specs.Sound.{IsTypeAt}
+use Rattle.xd_syntax.specs.SoundTables.{IsTypeAt}
 use Rattle.xd_syntax.specs.Kept.{ProgramTable, program_tree}
 use Rattle.xd_syntax.specs.NameFaults.{known_types}
 use Rattle.xd_syntax.specs.declared.types.TypeId.{TypeId}
-use Rattle.xd_laws.specs.Breach.{Lined}
-use Rattle.xd_proof_form.specs.Lines.{SpellsNumber, IsCut}
-use Rattle.xd_proof_form.specs.Parts.{Follows, SpellParts}
-use Rattle.xd_proof_form.specs.Form.{Block, goal_list, types_from, goals_from, AreProof, IsProofText, IsFirstBadLine}
-use Rattle.xd_proof_form.proofs.OneText.{type_one}
+use Rattle.xd_meaning.specs.Breach.{Lined}
+use Rattle.xd_proof.specs.Lines.{SpellsNumber, IsCut}
+use Rattle.xd_proof.specs.Parts.{Follows, SpellParts}
+use Rattle.xd_proof.specs.Form.{Block, goal_list, types_from, goals_from, AreProof, IsProofText, IsFirstBadLine}
+use Rattle.xd_proof.proofs.OneText.{type_one}
 use Rattle.xd_proof.specs.declared.proof.ProofGoal.{ProofGoal}
 use Rattle.xd_proof.specs.Goals.{AreGoalsAt}
 use Rattle.xd_proof_read.specs.declared.error.ProofError.{ProofError}

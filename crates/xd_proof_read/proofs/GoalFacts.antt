@@ -7,17 +7,17 @@ use Rattle.std.proofs.Math.Seq.{take-append-add}
 use Rattle.xd_syntax.specs.Tree.{Tree}
 use Rattle.xd_syntax.specs.Table.{Row}
 use Rattle.xd_syntax.specs.Kept.{ProgramTable}
-use Rattle.xd_syntax.specs.Sound.{IsTypeAt}
-use Rattle.xd_proof_form.specs.Parts.{Part, SpellsPart, SpellParts}
-use Rattle.xd_proof_form.specs.Form.{Block, block_length, goal_list, goals_from}
-use Rattle.xd_proof_form.specs.Course.{Course, at_count, at_end, next, and_on, along}
-use Rattle.xd_proof_form.proofs.CourseLemmas.{along_joined, course_reads, list_follows}
-use Rattle.xd_proof_form.proofs.BeginLemmas.{spell_joined, front_course, course_list}
-use Rattle.xd_proof_form.proofs.Unique.{parts_one}
-use Rattle.xd_proof_lines.specs.Cases.{IsCase}
+use Rattle.xd_syntax.specs.SoundTables.{IsTypeAt}
+use Rattle.xd_proof.specs.Parts.{Part, SpellsPart, SpellParts}
+use Rattle.xd_proof.specs.Form.{Block, block_length, goal_list, goals_from}
+use Rattle.xd_proof.specs.Course.{Course, at_count, at_end, next, and_on, along}
+use Rattle.xd_proof.proofs.CourseLemmas.{along_joined, course_reads, list_follows}
+use Rattle.xd_proof.proofs.BeginLemmas.{spell_joined, front_course, course_list}
+use Rattle.xd_proof.proofs.Unique.{parts_one}
+use Rattle.xd_proof.specs.Cases.{IsCase}
 use Rattle.xd_proof.specs.declared.proof.ProofGoal.{ProofGoal}
 use Rattle.xd_proof.specs.Goals.{AreGoalsAt}
-use Rattle.xd_proof.specs.Lines.{LinesFit}
+use Rattle.xd_proof.specs.LinesFit.{LinesFit}
 use Rattle.xd_proof_read.specs.declared.naming.Naming.{Naming}
 use Rattle.xd_proof_read.specs.declared.stages.Stage.{Stage}
 use Rattle.xd_proof_read.specs.declared.stages.Stage.TheVariants as stages

@@ -4,16 +4,16 @@ use Rattle.std.specs.Prelude.{codes}
 use Rattle.std.proofs.lemmas.List.{append_cancel_left}
 use Rattle.xd_syntax.specs.Tree.{Tree}
 use Rattle.xd_syntax.specs.Table.{Row}
-use Rattle.xd_syntax.specs.Sound.{IsTypeAt}
+use Rattle.xd_syntax.specs.SoundTables.{IsTypeAt}
 use Rattle.xd_syntax.specs.Kept.{ProgramTable}
 use Rattle.xd_syntax.specs.declared.types.TypeId.{TypeId}
-use Rattle.xd_laws.specs.Consistent.{Case}
-use Rattle.xd_proof_lines.specs.declared.cases.ReadCase.{ReadCase}
-use Rattle.xd_proof_lines.specs.Cases.{IsCase}
-use Rattle.xd_proof_form.specs.Lines.{space, IsFreeOf, SpellsNumber}
-use Rattle.xd_proof_form.specs.Parts.{Part, first_title, second_title, type_count, type_part, goal_count, goal_part, left_part, right_part, empty_part, case_part, end_part, Follows, SpellsCase, SpellsPart}
-use Rattle.xd_proof_form.proofs.LineLemmas.{same_front, no_mark}
-use Rattle.xd_proof_form.proofs.Unique.{case_line}
+use Rattle.xd_meaning.specs.Consistent.{Case}
+use Rattle.xd_proof.specs.declared.cases.ReadCase.{ReadCase}
+use Rattle.xd_proof.specs.Cases.{IsCase}
+use Rattle.xd_proof.specs.Lines.{space, IsFreeOf, SpellsNumber}
+use Rattle.xd_proof.specs.Parts.{Part, first_title, second_title, type_count, type_part, goal_count, goal_part, left_part, right_part, empty_part, case_part, end_part, Follows, SpellsCase, SpellsPart}
+use Rattle.xd_proof.proofs.LineLemmas.{same_front, no_mark}
+use Rattle.xd_proof.proofs.Unique.{case_line}
 use Rattle.xd_proof_read.specs.declared.naming.Naming.{Naming}
 use Rattle.xd_proof_read.specs.declared.said.Said.TheVariants as said
 use Rattle.xd_proof_read.specs.declared.said.Keyword.{Keyword}

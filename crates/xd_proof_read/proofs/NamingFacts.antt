@@ -8,8 +8,9 @@ use Rattle.xd_doc.specs.declared.NoMemory.{NoMemory}
 use Rattle.xd_syntax.specs.Tree.{Tree, Empty, uses_only}
 use Rattle.xd_syntax.specs.Table.{Row, KeepsRows, tree_at}
 use Rattle.xd_syntax.specs.Types.{BelongsTo, tree}
-use Rattle.xd_syntax.specs.Sound.{IsTypeAt}
-use Rattle.xd_syntax.specs.Placed.{placed_at, unplaced}
+use Rattle.xd_syntax.specs.SoundTables.{IsTypeAt}
+use Rattle.xd_syntax.specs.PlacedTable.{placed_at}
+use Rattle.xd_syntax.specs.Placed.{unplaced}
 use Rattle.xd_syntax.specs.Kept.{ProgramTable, program_tree}
 use Rattle.xd_syntax.specs.Shallow.{nesting_limit}
 use Rattle.xd_syntax.specs.TypeText.{type_text}
@@ -19,15 +20,15 @@ use Rattle.xd_syntax.proofs.Trees.{tree_kept}
 use Rattle.xd_syntax.proofs.PlacedTrees.{unplaced_at}
 use Rattle.xd_syntax.proofs.ShallowTables.{none_within, within_both}
 use Rattle.xd_sound.proofs.AdoptLaws.{AddsTypes-trans}
-use Rattle.xd_trees.specs.Means.{IsTypeText}
-use Rattle.xd_trees.proofs.Kept.{KeepsRows-refl}
+use Rattle.xd_parse_trees.specs.Means.{IsTypeText}
+use Rattle.xd_parse_trees.proofs.Kept.{KeepsRows-refl}
 use Rattle.xd_parse.proofs.Sure.{texts_mean_one_thing}
 use Rattle.xd_type_laws.proofs.TheLaw.{types_read_back}
-use Rattle.xd_laws.specs.Consistent.{numbered}
-use Rattle.xd_proof_form.specs.Lines.{SpellsNumber}
-use Rattle.xd_proof_form.specs.TypeTexts.{SpellsType}
-use Rattle.xd_proof_form.proofs.OneText.{type_one}
-use Rattle.xd_proof_form.proofs.Unique.{number_one}
+use Rattle.xd_meaning.specs.Consistent.{numbered}
+use Rattle.xd_proof.specs.Lines.{SpellsNumber}
+use Rattle.xd_proof.specs.TypeTexts.{SpellsType}
+use Rattle.xd_proof.proofs.OneText.{type_one}
+use Rattle.xd_proof.proofs.Unique.{number_one}
 use Rattle.xd_proof_read.specs.declared.naming.Naming.{Naming}
 use Rattle.xd_proof_read.specs.declared.naming.Naming.TheVariants.{Spelled, Numbered}
 use Rattle.xd_proof_read.specs.Naming.{NamesType, SpellsTypeOf, Names, NamingStands, IsTypeRead, GrowsTypes}

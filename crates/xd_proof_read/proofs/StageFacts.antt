@@ -7,19 +7,19 @@ use Rattle.std.proofs.lemmas.Slice.Zip.{all_zipped_more}
 use Rattle.xd_doc.specs.declared.NoMemory.{NoMemory}
 use Rattle.xd_syntax.specs.Tree.{Tree}
 use Rattle.xd_syntax.specs.Table.{Row, KeepsRows}
-use Rattle.xd_syntax.specs.Sound.{IsTypeAt}
+use Rattle.xd_syntax.specs.SoundTables.{IsTypeAt}
 use Rattle.xd_syntax.specs.Kept.{ProgramTable}
 use Rattle.xd_syntax.specs.declared.types.TypeId.{TypeId}
 use Rattle.xd_sound.proofs.AdoptLaws.{type_kept}
-use Rattle.xd_laws.specs.Consistent.{Case}
-use Rattle.xd_laws.specs.Breach.{Lined}
-use Rattle.xd_proof_form.specs.Parts.{Part, first_title, second_title, type_count, type_part, goal_count, goal_part, left_part, right_part, empty_part, case_part, end_part}
-use Rattle.xd_proof_form.specs.Form.{Block, block_length, goals_from}
-use Rattle.xd_proof_form.specs.Course.{Course, at_count, at_first_goal, at_left, in_rights, in_cases, at_end, only_if, plain_block, with_empty, with_case, after_goal, next}
-use Rattle.xd_proof_form.proofs.CourseLemmas.{only, only_true}
-use Rattle.xd_proof_form.proofs.Unique.{part_one}
-use Rattle.xd_proof_lines.specs.declared.cases.ReadCase.{ReadCase}
-use Rattle.xd_proof_lines.specs.Cases.{IsCase}
+use Rattle.xd_meaning.specs.Consistent.{Case}
+use Rattle.xd_meaning.specs.Breach.{Lined}
+use Rattle.xd_proof.specs.Parts.{Part, first_title, second_title, type_count, type_part, goal_count, goal_part, left_part, right_part, empty_part, case_part, end_part}
+use Rattle.xd_proof.specs.Form.{Block, block_length, goals_from}
+use Rattle.xd_proof.specs.Course.{Course, at_count, at_first_goal, at_left, in_rights, in_cases, at_end, only_if, plain_block, with_empty, with_case, after_goal, next}
+use Rattle.xd_proof.proofs.CourseLemmas.{only, only_true}
+use Rattle.xd_proof.proofs.Unique.{part_one}
+use Rattle.xd_proof.specs.declared.cases.ReadCase.{ReadCase}
+use Rattle.xd_proof.specs.Cases.{IsCase}
 use Rattle.xd_proof.specs.declared.proof.ProofGoal.{ProofGoal}
 use Rattle.xd_proof.specs.Goals.{IsLinedAt, AreGoalsAt}
 use Rattle.xd_proof_read.specs.declared.naming.Naming.{Naming}

@@ -10,16 +10,16 @@ use Rattle.xd_syntax.specs.Tree.{Tree, Empty}
 use Rattle.xd_syntax.specs.TypeText.{type_text}
 use Rattle.xd_syntax.specs.Table.{Row, KeepsRows}
 use Rattle.xd_syntax.specs.Types.{BelongsTo, tree}
-use Rattle.xd_syntax.specs.Sound.{IsTypeAt}
+use Rattle.xd_syntax.specs.SoundTables.{IsTypeAt}
 use Rattle.xd_syntax.specs.Kept.{ProgramTable}
 use Rattle.xd_syntax.specs.declared.types.TypeId.{TypeId}
 use Rattle.xd_sound.proofs.AdoptLaws.{type_kept}
-use Rattle.xd_proof_form.specs.Lines.{space, IsFreeOf, SpellsNumber, IsNumber}
-use Rattle.xd_proof_form.specs.Parts.{Part, type_part, SpellsTypePart, SpellParts}
-use Rattle.xd_proof_form.specs.Form.{types_from}
-use Rattle.xd_proof_form.proofs.BeginLemmas.{spell_joined}
-use Rattle.xd_proof_form.proofs.LineLemmas.{same_front, no_mark}
-use Rattle.xd_proof_form.proofs.Unique.{decimal_free, number_one}
+use Rattle.xd_proof.specs.Lines.{space, IsFreeOf, SpellsNumber, IsNumber}
+use Rattle.xd_proof.specs.Parts.{Part, type_part, SpellsTypePart, SpellParts}
+use Rattle.xd_proof.specs.Form.{types_from}
+use Rattle.xd_proof.proofs.BeginLemmas.{spell_joined}
+use Rattle.xd_proof.proofs.LineLemmas.{same_front, no_mark}
+use Rattle.xd_proof.proofs.Unique.{decimal_free, number_one}
 use Rattle.xd_proof_read.specs.Naming.{IsTypeRead, SpellsTypeOf, GrowsTypes}
 use Rattle.xd_proof_read.specs.BadLines.{IsTypeLine, IsBadTypeLine}
 use Rattle.xd_proof_read.proofs.NamingFacts.{spelled_kept}

@@ -6,13 +6,13 @@ use Rattle.std.proofs.lemmas.List.{length-take-le, take-append-le}
 use Rattle.std.proofs.Math.Seq.{take-length}
 use Rattle.xd_syntax.specs.Tree.{Tree, Empty}
 use Rattle.xd_syntax.specs.TypeText.{type_text}
-use Rattle.xd_laws.specs.Breach.{Lined}
-use Rattle.xd_proof_form.specs.Lines.{space, SpellsNumber, IsCut}
-use Rattle.xd_proof_form.specs.Parts.{Follows, SpellParts}
-use Rattle.xd_proof_form.specs.Form.{Block, goal_list, types_from, goals_from, AreSecond, AreProof, IsProofText, CanBegin, IsFirstBadLine}
-use Rattle.xd_proof_form.proofs.BeginLemmas.{spell_joined}
-use Rattle.xd_proof_form.proofs.LineLemmas.{same_cut}
-use Rattle.xd_proof_form.proofs.Unique.{number_one, parts_one, follows_one}
+use Rattle.xd_meaning.specs.Breach.{Lined}
+use Rattle.xd_proof.specs.Lines.{space, SpellsNumber, IsCut}
+use Rattle.xd_proof.specs.Parts.{Follows, SpellParts}
+use Rattle.xd_proof.specs.Form.{Block, goal_list, types_from, goals_from, AreSecond, AreProof, IsProofText, CanBegin, IsFirstBadLine}
+use Rattle.xd_proof.proofs.BeginLemmas.{spell_joined}
+use Rattle.xd_proof.proofs.LineLemmas.{same_cut}
+use Rattle.xd_proof.proofs.Unique.{number_one, parts_one, follows_one}
 use Rattle.xd_proof_read.specs.declared.formats.Format.{Format}
 use Rattle.xd_proof_read.specs.declared.formats.Format.TheVariants as formats
 use Rattle.xd_proof_read.specs.Naming.{NamesType}

@@ -1,10 +1,10 @@
 -- The first line with which no text of some kind goes on.
 use Rattle.std.specs.Prelude.{◌≡◌, ◌⊎◌, ℕ, ◌+◌, ◌-◌, ◌<◌, ◌≤◌, codes, List, [], ◌++◌, length, take, get_or}
 use Rattle.xd_syntax.specs.Tree.{Tree}
-use Rattle.xd_laws.specs.Breach.{Lined}
-use Rattle.xd_proof_form.specs.Lines.{SpellsNumber}
-use Rattle.xd_proof_form.specs.Parts.{Follows, SpellsTypePart, SpellParts}
-use Rattle.xd_proof_form.specs.Form.{Block, goal_list, types_from, AreProof}
+use Rattle.xd_meaning.specs.Breach.{Lined}
+use Rattle.xd_proof.specs.Lines.{SpellsNumber}
+use Rattle.xd_proof.specs.Parts.{Follows, SpellsTypePart, SpellParts}
+use Rattle.xd_proof.specs.Form.{Block, goal_list, types_from, AreProof}
 use Rattle.xd_proof_read.specs.declared.formats.Format.{Format}
 use Rattle.xd_proof_read.specs.declared.formats.Format.TheVariants.{First, Second}
 use Rattle.xd_proof_read.specs.declared.error.ProofError.{ProofError}

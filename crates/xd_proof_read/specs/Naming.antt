@@ -4,14 +4,15 @@ use Rattle.std.specs.List.{AllByRecursion}
 use Rattle.xd_syntax.specs.Tree.{Tree}
 use Rattle.xd_syntax.specs.Table.{Row}
 use Rattle.xd_syntax.specs.Types.{BelongsTo, tree}
-use Rattle.xd_syntax.specs.Sound.{IsTypeAt}
+use Rattle.xd_syntax.specs.SoundTables.{IsTypeAt}
 use Rattle.xd_syntax.specs.NameFaults.{known_types}
 use Rattle.xd_syntax.specs.declared.types.TypeId.{TypeId}
 use Rattle.xd_syntax.specs.Kept.{ProgramTable, AddsTypes, program_tree}
-use Rattle.xd_syntax.specs.Shallow.{AddsWithin, nesting_limit}
-use Rattle.xd_laws.specs.Consistent.{numbered}
-use Rattle.xd_proof_form.specs.Lines.{SpellsNumber}
-use Rattle.xd_proof_form.specs.TypeTexts.{SpellsType}
+use Rattle.xd_syntax.specs.ShallowTables.{AddsWithin}
+use Rattle.xd_syntax.specs.Shallow.{nesting_limit}
+use Rattle.xd_meaning.specs.Consistent.{numbered}
+use Rattle.xd_proof.specs.Lines.{SpellsNumber}
+use Rattle.xd_proof.specs.TypeTexts.{SpellsType}
 use Rattle.xd_proof_read.specs.declared.naming.Naming.{Naming}
 use Rattle.xd_proof_read.specs.declared.naming.Naming.TheVariants.{Spelled, Numbered}
 

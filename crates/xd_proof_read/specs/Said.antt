@@ -2,10 +2,10 @@
 use Rattle.std.specs.Prelude.{◌≡◌, ◌<◌, ℕ, codes, List, Option, MatchOption}
 use Rattle.xd_syntax.specs.Tree.{Tree}
 use Rattle.xd_syntax.specs.Table.{Row}
-use Rattle.xd_syntax.specs.Sound.{IsTypeAt}
+use Rattle.xd_syntax.specs.SoundTables.{IsTypeAt}
 use Rattle.xd_syntax.specs.Kept.{ProgramTable}
-use Rattle.xd_proof_form.specs.Parts.{Part, first_title, second_title, type_count, type_part, goal_count, goal_part, left_part, right_part, empty_part, case_part, end_part, SpellsPart}
-use Rattle.xd_proof_lines.specs.Cases.{IsCase}
+use Rattle.xd_proof.specs.Parts.{Part, first_title, second_title, type_count, type_part, goal_count, goal_part, left_part, right_part, empty_part, case_part, end_part, SpellsPart}
+use Rattle.xd_proof.specs.Cases.{IsCase}
 use Rattle.xd_proof_read.specs.declared.naming.Naming.{Naming}
 use Rattle.xd_proof_read.specs.declared.said.Said.{Said}
 use Rattle.xd_proof_read.specs.declared.said.Said.TheVariants as said

@@ -3,10 +3,10 @@ use Rattle.std.specs.Prelude.{◌≡◌, ℕ, ◌+◌, List, [], ◌∷◌, Opti
 use Rattle.xd_syntax.specs.Tree.{Tree}
 use Rattle.xd_syntax.specs.Table.{Row}
 use Rattle.xd_syntax.specs.Kept.{ProgramTable}
-use Rattle.xd_laws.specs.Breach.{Lined}
-use Rattle.xd_proof_form.specs.Parts.{Part}
-use Rattle.xd_proof_form.specs.Form.{Block, block_length, goals_from}
-use Rattle.xd_proof_form.specs.Course.{Course, at_count, at_first_goal, at_left, in_rights, in_cases, at_end, plain_block, next}
+use Rattle.xd_meaning.specs.Breach.{Lined}
+use Rattle.xd_proof.specs.Parts.{Part}
+use Rattle.xd_proof.specs.Form.{Block, block_length, goals_from}
+use Rattle.xd_proof.specs.Course.{Course, at_count, at_first_goal, at_left, in_rights, in_cases, at_end, plain_block, next}
 use Rattle.xd_proof.specs.Goals.{IsLinedAt, AreGoalsAt}
 use Rattle.xd_proof_read.specs.declared.naming.Naming.{Naming}
 use Rattle.xd_proof_read.specs.declared.said.Said.{Said}

@@ -3,11 +3,11 @@
 ghost use Rattle.std.specs.Prelude.{◌≡◌, ◌≢◌, ◌+◌, ◌<◌, ◌^◌, ◌∷◌, List, codes, map, length, IfOk, IfErr, MatchOption};
 ghost use Rattle.std.specs.List.{AllZip};
 ghost use Rattle.xd_syntax.specs.Tree.{Tree};
-ghost use Rattle.xd_syntax.specs.Sound.{IsTypeAt};
-ghost use Rattle.xd_laws.specs.Breach.{Lined};
-ghost use Rattle.xd_proof_form.specs.Lines.{SpellsNumber};
-ghost use Rattle.xd_proof_form.specs.Form.{AreProof, types_from};
-ghost use Rattle.xd_proof_form.specs.Parts.{SpellParts};
+ghost use Rattle.xd_syntax.specs.SoundTables.{IsTypeAt};
+ghost use Rattle.xd_meaning.specs.Breach.{Lined};
+ghost use Rattle.xd_proof.specs.Lines.{SpellsNumber};
+ghost use Rattle.xd_proof.specs.Form.{AreProof, types_from};
+ghost use Rattle.xd_proof.specs.Parts.{SpellParts};
 ghost use Rattle.xd_proof.specs.Goals.{AreGoalsAt};
 ghost use Rattle.xd_proof_read.specs.Naming.{GrowsTypes, IsTypeRead, SpellsTypeOf};
 ghost use Rattle.xd_proof_read.specs.BadLines.{IsBadTypeLine, IsBehind, IsFirstBad, IsTypeLine, ProofLines, TellsLine, title_of};
@@ -17,9 +17,7 @@ use crate::goals::read_goals;
 use crate::naming::{Naming, read_spelled};
 use std::alloc::Global;
 use xd_doc::NoMemory;
-use xd_proof::Proof;
-use xd_proof_form::{before_mark, read_number};
-use xd_proof_lines::{behind_word, read_numbered};
+use xd_proof::{Proof, before_mark, behind_word, read_number, read_numbered};
 use xd_sound::SoundProgram;
 use xd_syntax::TypeId;
 

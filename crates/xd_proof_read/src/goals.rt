@@ -1,8 +1,8 @@
 //! Lists of goals.
 
 ghost use Rattle.std.specs.Prelude.{◌+◌, ◌<◌, ◌^◌, List, map, length, IfOk, IfErr};
-ghost use Rattle.xd_proof_form.specs.Form.{Block, goal_list, goals_from};
-ghost use Rattle.xd_proof_form.specs.Parts.{SpellParts};
+ghost use Rattle.xd_proof.specs.Form.{Block, goal_list, goals_from};
+ghost use Rattle.xd_proof.specs.Parts.{SpellParts};
 ghost use Rattle.xd_proof.specs.Goals.{AreGoalsAt};
 ghost use Rattle.xd_syntax.specs.Tree.{Tree};
 ghost use Rattle.xd_proof_read.specs.Naming.{GrowsTypes, Names, NamingStands, SpellsTypeOf};

@@ -9,7 +9,7 @@ ghost use Rattle.xd_proof_read.specs.Naming.{GrowsTypes, IsTypeRead, Names, Name
 use std::alloc::Global;
 use xd_doc::NoMemory;
 use xd_parse::{ParseError, parse_type};
-use xd_proof_form::read_number;
+use xd_proof::read_number;
 use xd_sound::SoundProgram;
 use xd_syntax::{TypeId, Types};
 

@@ -4,10 +4,11 @@ ghost use Rattle.std.specs.Prelude.{◌≡◌, List, IfOk, IfErr};
 ghost use Rattle.std.specs.List.{AllByRecursion};
 ghost use Rattle.xd_syntax.specs.Kept.{AddsTypes, program_tree};
 ghost use Rattle.xd_syntax.specs.NameFaults.{known_types};
-ghost use Rattle.xd_syntax.specs.Shallow.{AddsWithin, IsShallow, nesting_limit};
-ghost use Rattle.xd_laws.specs.Breach.{Lined};
-ghost use Rattle.xd_proof_form.specs.Form.{IsFirstBadLine, IsProofText};
-ghost use Rattle.xd_proof_form.specs.TypeTexts.{SpellsType};
+ghost use Rattle.xd_syntax.specs.ShallowTables.{AddsWithin, IsShallow};
+ghost use Rattle.xd_syntax.specs.Shallow.{nesting_limit};
+ghost use Rattle.xd_meaning.specs.Breach.{Lined};
+ghost use Rattle.xd_proof.specs.Form.{IsFirstBadLine, IsProofText};
+ghost use Rattle.xd_proof.specs.TypeTexts.{SpellsType};
 ghost use Rattle.xd_proof.specs.Goals.{AreGoalsAt};
 ghost use Rattle.xd_proof_read.specs.BadLines.{TellsLine};
 ghost use Rattle.xd_proof_read.specs.Depths.{IsShallowGoal};
@@ -15,8 +16,7 @@ ghost use Rattle.xd_proof_read.specs.Depths.{IsShallowGoal};
 use crate::error::ProofError;
 use crate::formats::read_lines;
 use std::alloc::Global;
-use xd_proof::Proof;
-use xd_proof_form::cut_lines;
+use xd_proof::{Proof, cut_lines};
 use xd_sound::SoundProgram;
 
 /// Reads a proof text of either format; its types become types of the program.

@@ -1,15 +1,14 @@
 //! Lines of goals.
 
 ghost use Rattle.std.specs.Prelude.{◌≡◌, ◌≢◌, ◌++◌, ◌∷◌, codes, IfOk, MatchOption};
-ghost use Rattle.xd_proof_form.specs.Lines.{space};
+ghost use Rattle.xd_proof.specs.Lines.{space};
 ghost use Rattle.xd_proof_read.specs.Naming.{GrowsTypes, NamingStands};
 ghost use Rattle.xd_proof_read.specs.Said.{IsLineRead, keyword_text};
 
 use crate::naming::Naming;
 use std::alloc::Global;
 use xd_doc::NoMemory;
-use xd_proof_form::{before_mark, read_number};
-use xd_proof_lines::{ReadCase, read_case};
+use xd_proof::{ReadCase, before_mark, read_case, read_number};
 use xd_sound::SoundProgram;
 use xd_syntax::TypeId;
 

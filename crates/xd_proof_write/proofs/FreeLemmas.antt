@@ -12,10 +12,10 @@ use Rattle.xd_doc.specs.Document.{escaped, escaped_all}
 use Rattle.xd_syntax.specs.Tree.{Tree, Empty, Text, Words, Name, Elem, Seq, Alt, Star, Plus, Opt, Val, is_empty}
 use Rattle.xd_syntax.specs.Proper.{IsProperTree}
 use Rattle.xd_syntax.specs.TypeText.{Level, any_type_level, sequence_level, postfix_level, primary_level, parted, sequence_wants, alternative_wants, postfix_wants, in_parentheses, barred, labels_text, excepted_text, class_text, quoted, text_at_level}
-use Rattle.xd_laws.specs.Consistent.{Atom, this_label, other_label, this_text, other_text, ChoiceTree, settles_content, settles_rest, split_on, Case}
+use Rattle.xd_meaning.specs.Consistent.{Atom, this_label, other_label, this_text, other_text, ChoiceTree, settles_content, settles_rest, split_on, Case}
 use Rattle.xd_laws.proofs.WordLists.{both}
-use Rattle.xd_proof_form.specs.Lines.{line_feed, space, spaced, IsFreeOf, IsNumber}
-use Rattle.xd_proof_form.specs.Parts.{atom_word, IsAtom, tree_words, HasNumbers, case_words}
+use Rattle.xd_proof.specs.Lines.{line_feed, space, spaced, IsFreeOf, IsNumber}
+use Rattle.xd_proof.specs.Parts.{atom_word, IsAtom, tree_words, HasNumbers, case_words}
 use Rattle.xd_proof_write.specs.Laws.{IsWritableCase}
 
 abbrev pub IsLine : List ℕ → Type 0

@@ -7,16 +7,16 @@ use Rattle.std.proofs.lemmas.Grind.{flat_map-append}
 use Rattle.xd_syntax.specs.Tree.{Tree}
 use Rattle.xd_syntax.specs.TypeText.{type_text}
 use Rattle.xd_syntax.specs.Table.{Row}
-use Rattle.xd_syntax.specs.Sound.{IsTypeAt}
+use Rattle.xd_syntax.specs.SoundTables.{IsTypeAt}
 use Rattle.xd_syntax.specs.declared.types.TypeId.{TypeId}
-use Rattle.xd_laws.specs.Consistent.{ChoiceTree, settles_content, settles_rest, split_on, Case, Goal}
-use Rattle.xd_laws.specs.Breach.{Lined, goals_of}
-use Rattle.xd_proof_form.specs.Lines.{line_feed, space, each_ended, spaced}
-use Rattle.xd_proof_form.specs.Parts.{Part, left_part, right_part, case_part, atom_word, tree_words}
-use Rattle.xd_proof_form.specs.Form.{Block, empty_parts, block_parts, blocks_from, types_from}
-use Rattle.xd_proof_lines.specs.Steps.{steps_of}
-use Rattle.xd_proof_lines.specs.Cases.{IsCase, atom_of}
-use Rattle.xd_proof_lines.specs.declared.cases.ReadCase.{ReadCase}
+use Rattle.xd_meaning.specs.Consistent.{ChoiceTree, settles_content, settles_rest, split_on, Case, Goal}
+use Rattle.xd_meaning.specs.Breach.{Lined, goals_of}
+use Rattle.xd_proof.specs.Lines.{line_feed, space, each_ended, spaced}
+use Rattle.xd_proof.specs.Parts.{Part, left_part, right_part, case_part, atom_word, tree_words}
+use Rattle.xd_proof.specs.Form.{Block, empty_parts, block_parts, blocks_from, types_from}
+use Rattle.xd_proof.specs.Steps.{steps_of}
+use Rattle.xd_proof.specs.Cases.{IsCase, atom_of}
+use Rattle.xd_proof.specs.declared.cases.ReadCase.{ReadCase}
 use Rattle.xd_proof.specs.Goals.{IsGoalAt, AreGoalsAt}
 use Rattle.xd_proof.specs.declared.proof.ProofGoal.{ProofGoal}
 use Rattle.xd_proof_write.specs.SecondText.{line_of}

@@ -2,7 +2,7 @@
 use Rattle.std.proofs.Common.{◌≡◌, ℕ, suc, ◌+◌, Bool, true, false, not, cond, ◌||◌, filter, List, [], ◌∷◌, ◌++◌, map, Some, refl, ap, sym, subst, ◌∙◌, arith, add-one, append-nil, append_assoc}
 use Rattle.std.specs.List.{AllByRecursion, list_any, position_or_len, fold}
 use Rattle.std.proofs.lemmas.List.Elements.{filter-append}
-use Rattle.xd_laws.specs.Consistent.{numbered}
+use Rattle.xd_meaning.specs.Consistent.{numbered}
 use Rattle.xd_proof_write.specs.SecondText.{each_once, number_among}
 
 pub same_bool : (a b : Bool) → (a ≡ true → b ≡ true) → (b ≡ true → a ≡ true) → a ≡ b

@@ -9,14 +9,14 @@ use Rattle.xd_syntax.specs.Tree.{Tree}
 use Rattle.xd_syntax.specs.TypeText.{type_text}
 use Rattle.xd_syntax.specs.Table.{Row}
 use Rattle.xd_syntax.specs.ProperTables.{IsTable}
-use Rattle.xd_syntax.specs.Sound.{IsTypeAt}
+use Rattle.xd_syntax.specs.SoundTables.{IsTypeAt}
 use Rattle.xd_syntax.specs.declared.types.TypeId.{TypeId}
-use Rattle.xd_laws.specs.Breach.{Lined, goals_of}
+use Rattle.xd_meaning.specs.Breach.{Lined, goals_of}
 use Rattle.xd_laws.specs.SameTree.{same_tree}
 use Rattle.xd_laws.proofs.SameTrees.{same_tree-is, tree_same}
 use Rattle.xd_type_laws.proofs.Tables.{merged_node, proper_node, one_node}
-use Rattle.xd_proof_form.specs.Parts.{end_part}
-use Rattle.xd_proof_form.specs.Form.{types_from, blocks_from, goal_list}
+use Rattle.xd_proof.specs.Parts.{end_part}
+use Rattle.xd_proof.specs.Form.{types_from, blocks_from, goal_list}
 use Rattle.xd_proof.specs.Goals.{AreGoalsAt}
 use Rattle.xd_proof.specs.declared.proof.ProofGoal.{ProofGoal}
 use Rattle.xd_proof_write.specs.SecondText.{each_once, number_among, types_of, distinct_types, numbered_block, second_text_of}

@@ -6,15 +6,15 @@ use Rattle.std.specs.List.{AllByRecursion, list_any, position_or_len}
 use Rattle.std.proofs.lemmas.List.{length-map}
 use Rattle.xd_syntax.specs.Tree.{Tree}
 use Rattle.xd_syntax.specs.TypeText.{type_text}
-use Rattle.xd_laws.specs.Consistent.{Case, Goal}
-use Rattle.xd_laws.specs.Breach.{goals_of}
+use Rattle.xd_meaning.specs.Consistent.{Case, Goal}
+use Rattle.xd_meaning.specs.Breach.{goals_of}
 use Rattle.xd_laws.specs.SameTree.{same_tree}
 use Rattle.xd_laws.proofs.SameTrees.{same_tree-is, tree_same}
 use Rattle.xd_type_laws.proofs.TheLaw.{types_read_back}
-use Rattle.xd_proof_form.specs.Lines.{line_feed, space, each_ended, IsNumber, SpellsNumber}
-use Rattle.xd_proof_form.specs.Parts.{Part, type_part, goal_part, left_part, right_part, case_part, end_part, Follows, SpellsPart, SpellParts}
-use Rattle.xd_proof_form.specs.TypeTexts.{SpellsType}
-use Rattle.xd_proof_form.specs.Form.{Block, empty_parts, block_parts, blocks_from, types_from, goal_list, block_length, goals_from, AreNamed, NameTypes}
+use Rattle.xd_proof.specs.Lines.{line_feed, space, each_ended, IsNumber, SpellsNumber}
+use Rattle.xd_proof.specs.Parts.{Part, type_part, goal_part, left_part, right_part, case_part, end_part, Follows, SpellsPart, SpellParts}
+use Rattle.xd_proof.specs.TypeTexts.{SpellsType}
+use Rattle.xd_proof.specs.Form.{Block, empty_parts, block_parts, blocks_from, types_from, goal_list, block_length, goals_from, AreNamed, NameTypes}
 use Rattle.xd_proof_write.specs.SecondText.{each_once, number_among, types_of, distinct_types, numbered_block, second_parts, line_of, second_text_of}
 use Rattle.xd_proof_write.specs.Laws.{IsWritable, IsTableType, IsWritableCase, IsWritableNumber, IsWritableGoal, SecondTextsReadBack, SameTypesAreEqual}
 use Rattle.xd_proof_write.proofs.OnceLemmas.{all_there, once_has, number_stands, all_once}

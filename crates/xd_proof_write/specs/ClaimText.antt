@@ -2,7 +2,7 @@
 use Rattle.std.specs.Prelude.{ℕ, codes, List, [], ◌∷◌, ◌++◌}
 use Rattle.xd_syntax.specs.Tree.{Tree}
 use Rattle.xd_syntax.specs.TypeText.{type_text}
-use Rattle.xd_laws.specs.Consistent.{Goal}
+use Rattle.xd_meaning.specs.Consistent.{Goal}
 
 -- the rights with `or` between them
 abbrev pub rights_text : List Tree → List ℕ

@@ -5,14 +5,14 @@ use Rattle.xd_syntax.specs.Tree.{Tree, uses_only}
 use Rattle.xd_syntax.specs.Proper.{IsProperTree}
 use Rattle.xd_syntax.specs.Shallow.{nesting_limit}
 use Rattle.xd_syntax.specs.TypeText.{depth}
-use Rattle.xd_laws.specs.Consistent.{Case, Goal}
-use Rattle.xd_laws.specs.Breach.{Lined, goals_of}
+use Rattle.xd_meaning.specs.Consistent.{Case, Goal}
+use Rattle.xd_meaning.specs.Breach.{Lined, goals_of}
 use Rattle.xd_laws.specs.SameTree.{same_tree}
-use Rattle.xd_type_laws.specs.ReadsBack.{IsMerged}
-use Rattle.xd_proof_form.specs.Lines.{IsNumber}
-use Rattle.xd_proof_form.specs.Parts.{IsAtom, HasNumbers}
-use Rattle.xd_proof_form.specs.TypeTexts.{SpellsType}
-use Rattle.xd_proof_form.specs.Form.{IsProofText}
+use Rattle.xd_type_laws.specs.ReadBackLaws.{IsMerged}
+use Rattle.xd_proof.specs.Lines.{IsNumber}
+use Rattle.xd_proof.specs.Parts.{IsAtom, HasNumbers}
+use Rattle.xd_proof.specs.TypeTexts.{SpellsType}
+use Rattle.xd_proof.specs.Form.{IsProofText}
 use Rattle.xd_proof_write.specs.SecondText.{types_of, distinct_types, second_text_of}
 
 -- a type over these names, no deeper than texts may be nested

@@ -5,11 +5,11 @@ use Rattle.std.specs.List.{position_or_len}
 use Rattle.std.specs.Fmt.{decimal}
 use Rattle.xd_syntax.specs.Tree.{Tree}
 use Rattle.xd_syntax.specs.TypeText.{type_text}
-use Rattle.xd_laws.specs.Consistent.{Goal}
+use Rattle.xd_meaning.specs.Consistent.{Goal}
 use Rattle.xd_laws.specs.SameTree.{same_tree}
-use Rattle.xd_proof_form.specs.Lines.{line_feed, each_ended, spaced}
-use Rattle.xd_proof_form.specs.Parts.{Part, first_title, second_title, type_count, type_part, goal_count, goal_part, left_part, right_part, empty_part, case_part, end_part, case_words}
-use Rattle.xd_proof_form.specs.Form.{Block, second_format}
+use Rattle.xd_proof.specs.Lines.{line_feed, each_ended, spaced}
+use Rattle.xd_proof.specs.Parts.{Part, first_title, second_title, type_count, type_part, goal_count, goal_part, left_part, right_part, empty_part, case_part, end_part, case_words}
+use Rattle.xd_proof.specs.Form.{Block, second_format}
 
 module _ {A : Type 0} (same : A → A → Bool) where
   -- each item once, in order of first occurrence

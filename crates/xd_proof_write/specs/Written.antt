@@ -8,12 +8,12 @@ use Rattle.xd_syntax.specs.Table.{Row, tree_at}
 use Rattle.xd_syntax.specs.Types.{tree}
 use Rattle.xd_syntax.specs.TypeText.{type_text}
 use Rattle.xd_syntax.specs.declared.types.TypeId.{TypeId}
-use Rattle.xd_proof_form.specs.Lines.{line_feed, space}
-use Rattle.xd_proof_form.specs.Parts.{atom_word}
-use Rattle.xd_proof_lines.specs.Cases.{atom_of}
-use Rattle.xd_proof_lines.specs.Steps.{step_letter, step_number}
-use Rattle.xd_proof_lines.specs.declared.cases.ReadCase.{ReadCase}
-use Rattle.xd_proof_lines.specs.declared.steps.Step.{Step}
+use Rattle.xd_proof.specs.Lines.{line_feed, space}
+use Rattle.xd_proof.specs.Parts.{atom_word}
+use Rattle.xd_proof.specs.Cases.{atom_of}
+use Rattle.xd_proof.specs.Steps.{step_letter, step_number}
+use Rattle.xd_proof.specs.declared.cases.ReadCase.{ReadCase}
+use Rattle.xd_proof.specs.declared.steps.Step.{Step}
 use Rattle.xd_proof.specs.declared.proof.ProofGoal.{ProofGoal}
 use Rattle.xd_proof_write.specs.SecondText.{number_among}
 use Rattle.xd_proof_write.specs.declared.numbers.Numbers.{Numbers}

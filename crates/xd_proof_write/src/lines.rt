@@ -1,14 +1,14 @@
 //! The lines of a goal that name no type.
 
 ghost use Rattle.std.specs.Prelude.{◌≡◌, ◌∷◌, [], ◌++◌, OnOk, flat_map};
-ghost use Rattle.xd_proof_form.specs.Parts.{atom_word};
-ghost use Rattle.xd_proof_lines.specs.Cases.{atom_of};
-ghost use Rattle.xd_proof_lines.specs.Steps.{step_letter, step_number};
+ghost use Rattle.xd_proof.specs.Parts.{atom_word};
+ghost use Rattle.xd_proof.specs.Cases.{atom_of};
+ghost use Rattle.xd_proof.specs.Steps.{step_letter, step_number};
 ghost use Rattle.xd_proof_write.specs.Written.{number_line, step_text, case_line, empty_line};
 
 use itoa::Buffer;
 use xd_doc::NoMemory;
-use xd_proof_lines::{ProofAtom, ReadCase, Step};
+use xd_proof::{ProofAtom, ReadCase, Step};
 use xd_write::write_text;
 
 /// Appends a line of a word and a number.

@@ -7,7 +7,7 @@ use Rattle.std.proofs.lemmas.Str.{IsCharBoundary-after_ascii, IsCharBoundary-bef
 use Rattle.std.proofs.lemmas.Bool.{and_parts}
 use Rattle.xd_doc.specs.Word.{is_word, is_word_start, are_word_parts}
 use Rattle.xd_lex.specs.declared.Kind.TheVariants as kinds
-use Rattle.xd_lex.specs.Spelled.{IsSpelling}
+use Rattle.xd_lex.specs.Spellings.{IsSpelling}
 use Rattle.xd_lex.proofs.Fronts.{begins_ascii}
 use Rattle.xd_read.specs.Pending.{StandsAt}
 use Rattle.xd_read.specs.Reading.{word_of}

@@ -3,12 +3,13 @@ use Rattle.std.proofs.Common.{◌≡◌, ◌-◌, ◌^◌, ◌<◌, ℕ, Bool, f
 use Rattle.std.proofs.lemmas.List.{map-append}
 use Rattle.xd_base.specs.declared.Place.{Place}
 use Rattle.xd_doc.specs.Document.{Document}
-use Rattle.xd_doc.specs.Stored.{Keeps}
+use Rattle.xd_doc.specs.StoreNodes.{Keeps}
 use Rattle.xd_doc.proofs.StoredLemmas.{Keeps-same, Keeps-trans}
 use Rattle.xd_lex.specs.declared.Kind.{Kind}
 use Rattle.xd_lex.specs.Cut.{IsFirstToken}
 use Rattle.xd_lex.specs.Left.{tokens_left}
-use Rattle.xd_lex.specs.Tokens.{Lexeme, is_last, past, start, tokens_from, tokens_of}
+use Rattle.xd_lex.specs.Tokens.{Lexeme, past, start, tokens_from, tokens_of}
+use Rattle.xd_lex.specs.LexedTokens.{is_last}
 use Rattle.xd_lex.proofs.Skipped.{past-append, some_token, take_gap}
 use Rattle.xd_read.specs.Grammar.{Terminal, Spells, Begins}
 use Rattle.xd_read.specs.Reading.{terminal, terminal_of, terminals_of, IsFirstFault, IsMalformedAt, SpellsNothing}

@@ -4,11 +4,12 @@ use Rattle.std.specs.List.{AllByRecursion}
 use Rattle.std.proofs.Math.Seq.{take-length}
 use Rattle.std.proofs.lemmas.List.{take-append-le, take-append-drop, drop-append-le, reverse-append, length-take-le}
 use Rattle.xd_doc.specs.Document.{Document, empty, text, element, join}
-use Rattle.xd_doc.specs.Stored.{document_at, BelongsTo, Keeps}
+use Rattle.xd_doc.specs.Stored.{document_at, BelongsTo}
+use Rattle.xd_doc.specs.StoreNodes.{Keeps}
 use Rattle.xd_doc.specs.declared.store.Seq.{Seq}
 use Rattle.xd_lex.specs.declared.Kind.{Kind}
 use Rattle.xd_lex.specs.declared.Kind.TheVariants as kinds
-use Rattle.xd_lex.specs.Tokens.{is_last}
+use Rattle.xd_lex.specs.LexedTokens.{is_last}
 use Rattle.xd_lex.specs.Spelled.{unescaped}
 use Rattle.xd_read.specs.Reading.{terminal, word_of}
 use Rattle.xd_read.specs.Completes.{Frame}

@@ -6,8 +6,6 @@ use Rattle.xd_lex.specs.declared.Kind.{Kind}
 use Rattle.xd_lex.specs.declared.Kind.TheVariants as kinds
 use Rattle.xd_lex.specs.Tokens.{Lexeme, tokens_of, IsNotUtf8At}
 use Rattle.xd_lex.specs.Spelled.{unescaped}
-use Rattle.xd_read.specs.declared.error.ReadError.{ReadError}
-use Rattle.xd_read.specs.declared.error.ReadError.TheVariants.{Malformed, NoMemory}
 use Rattle.xd_read.specs.Grammar.{Terminal, Text, Label, ParenL, ParenR, BracketR, Comma, End, Other, Spells, Begins}
 
 -- the word of a label, which ends with its bracket
@@ -53,8 +51,3 @@ IsMalformedAt bytes place = IsNotUtf8At bytes place ⊎ (IsUtf8 bytes × IsFirst
 -- the bytes spell no document
 abbrev pub SpellsNothing : List ℕ → Type 0
 SpellsNothing bytes = (d : Document) → ¬ (BytesSpell bytes d)
-
--- a fact of the place, where the error has one
-abbrev pub IfMalformed : ReadError → (Place → Type 0) → Type 0
-IfMalformed (Malformed place) P = P place
-IfMalformed NoMemory P = Unit {0}

@@ -1,7 +1,8 @@
 //! Texts and labels as parts of the text that is read.
 
 ghost use Rattle.std.specs.Prelude.{◌≡◌, IfOk};
-ghost use Rattle.xd_lex.specs.Spelled.{IsSpelling, unescaped};
+ghost use Rattle.xd_lex.specs.Spellings.{IsSpelling};
+ghost use Rattle.xd_lex.specs.Spelled.{unescaped};
 ghost use Rattle.xd_lex.specs.declared.Kind.TheVariants as kinds;
 ghost use Rattle.xd_read.specs.Pending.{StandsAt};
 ghost use Rattle.xd_read.specs.Reading.{word_of};

@@ -1,9 +1,11 @@
 //! Reading of documents.
 
 ghost use Rattle.std.specs.Prelude.{◌≡◌, ◌≤◌, length, take, IfOk, IfErr};
-ghost use Rattle.xd_doc.specs.Stored.{document_at, BelongsTo, Keeps};
+ghost use Rattle.xd_doc.specs.Stored.{document_at, BelongsTo};
+ghost use Rattle.xd_doc.specs.StoreNodes.{Keeps};
 ghost use Rattle.xd_lex.specs.Tokens.{past, start};
-ghost use Rattle.xd_read.specs.Reading.{BytesSpell, SpellsNothing, IsMalformedAt, IfMalformed};
+ghost use Rattle.xd_read.specs.Reading.{BytesSpell, SpellsNothing, IsMalformedAt};
+ghost use Rattle.xd_read.specs.Malformed.{IfMalformed};
 
 use crate::error::ReadError;
 use crate::reader::{Reader, Stop};

@@ -2,9 +2,10 @@
 
 ghost use Rattle.std.specs.Prelude.{◌≡◌, ◌≤◌, ◌∷◌, ◌++◌, [], length, take, drop, true, false, Err, IfOk, IfNone, IfSome, OnOk};
 ghost use Rattle.std.specs.List.{AllByRecursion};
-ghost use Rattle.xd_doc.specs.Stored.{document_at, BelongsTo, Keeps};
-ghost use Rattle.xd_lex.specs.Tokens.{is_last};
-ghost use Rattle.xd_lex.specs.Spelled.{IsSpelling};
+ghost use Rattle.xd_doc.specs.Stored.{document_at, BelongsTo};
+ghost use Rattle.xd_doc.specs.StoreNodes.{Keeps};
+ghost use Rattle.xd_lex.specs.LexedTokens.{is_last};
+ghost use Rattle.xd_lex.specs.Spellings.{IsSpelling};
 ghost use Rattle.xd_read.specs.Reading.{terminal};
 ghost use Rattle.xd_read.specs.Pending.{items_of, IsInStore, IsClosed, IsReaderReady, StandsAt};
 ghost use Rattle.xd_read.specs.Pending.{PassesToken, EndsDocument, StopsAt};

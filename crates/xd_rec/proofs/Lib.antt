@@ -1,8 +1,8 @@
-pub mod Searching
-pub mod Stepping
-pub mod Opening
-pub mod Closing
-pub mod Finishing
+pub mod IsSearchedLemmas
+pub mod SearchStepLemmas
+pub mod OpenLemmas
+pub mod ComponentLemmas
+pub mod DoneLemmas
 pub mod UseLemmas
 pub mod FaultLemmas
 pub mod Recursion

@@ -6,12 +6,13 @@ use Rattle.std.proofs.lemmas.Slice.Eq.{bytes_eq-Decides}
 use Rattle.xd_doc.specs.Document.{empty}
 use Rattle.xd_syntax.specs.Tree.{Tree, Definitions}
 use Rattle.xd_syntax.specs.Table.{Row}
-use Rattle.xd_syntax.specs.Placed.{PlacedTree, placed_at, the_start}
+use Rattle.xd_syntax.specs.Placed.{PlacedTree}
+use Rattle.xd_syntax.specs.PlacedTable.{placed_at, the_start}
 use Rattle.xd_syntax.specs.Fits.{Fits}
 use Rattle.xd_syntax.specs.Order.{in_order}
 use Rattle.xd_syntax.specs.Program.{TypeDefinition, FunctionDefinition, ProgramTree}
 use Rattle.xd_syntax.specs.Kept.{type_definition}
-use Rattle.xd_syntax.specs.Sound.{definition_of}
+use Rattle.xd_syntax.specs.SoundTables.{definition_of}
 use Rattle.xd_syntax.specs.RecursionFaults.{Use, top_uses, AllCanBeEmpty, IsFrontUse, placed_body, Leads, arrived, use_then, AnyUse, IsOutsideTail, IsUnguarded, Keeps, all_seen, kept, left_out, UseIn, all_top_uses, not_tail_fault, unguarded_fault, AreRecursionFaults}
 use Rattle.xd_syntax.specs.declared.types.TypeDef.{TypeDef}
 use Rattle.xd_syntax.specs.declared.fault.Fault.{Fault}

@@ -5,7 +5,8 @@ use Rattle.std.proofs.lemmas.List.{append-nil, append_assoc, map-append, reverse
 use Rattle.xd_base.specs.declared.Place.{Place}
 use Rattle.xd_syntax.specs.Tree.{Tree}
 use Rattle.xd_syntax.specs.Table.{Row, Form, empty_form, text_form, words_form, name_form, elem_form, seq_form, alt_form, star_form, plus_form, opt_form, val_form, tree_at, PartsBelow, CanFollow}
-use Rattle.xd_syntax.specs.Placed.{PlacedTree, Empty_at, placed_at, placed_form, placed_seq, placed_alt, place_of, unplaced}
+use Rattle.xd_syntax.specs.Placed.{PlacedTree, Empty_at, placed_seq, placed_alt, place_of, unplaced}
+use Rattle.xd_syntax.specs.PlacedTable.{placed_at, placed_form}
 use Rattle.xd_syntax.specs.Kept.{type_definition, TypeDefStands}
 use Rattle.xd_syntax.specs.RecursionFaults.{Use, top_uses, not_tail, behind_type}
 use Rattle.xd_syntax.specs.declared.types.TypeDef.{TypeDef}

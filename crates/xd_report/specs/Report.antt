@@ -2,7 +2,7 @@
 use Rattle.std.specs.Prelude.{ℕ, List, [], ◌++◌, Option, Some, None, codes, decimal}
 use Rattle.xd_base.specs.declared.Place.{Place}
 use Rattle.xd_doc.specs.Document.{Document, canonical_text}
-use Rattle.xd_doc.specs.Stored.{document_at, BelongsTo}
+use Rattle.xd_doc.specs.Stored.{document_at}
 use Rattle.xd_syntax.specs.Order.{number_of}
 use Rattle.xd_syntax.specs.declared.fault.Fault.{Fault}
 use Rattle.xd_syntax.specs.declared.fault.FaultKind.{FaultKind}
@@ -44,10 +44,3 @@ fault_text ds f = fault_front f.place ++ codes "fault " ++ decimal (number_of f.
 -- the line of a warning; there is one kind
 abbrev pub warning_text : Warning → List ℕ
 warning_text w = place_front w.place ++ codes "warning 1: clause is never reached\n"
-
--- the document that the fault carries, if it carries one, belongs to the store
-abbrev pub CarriesFrom : List Document → FaultKind → Type 0
-CarriesFrom ds (NotExhaustive d) = BelongsTo ds d
-CarriesFrom ds (Argument d) = BelongsTo ds d
-CarriesFrom ds (Result d) = BelongsTo ds d
-CarriesFrom ds k = Unit {0}

@@ -3,7 +3,8 @@
 ghost use Rattle.std.specs.Prelude.{◌≡◌, ◌++◌, OnOk, codes, decimal};
 ghost use Rattle.xd_doc.specs.Document.{canonical_text};
 ghost use Rattle.xd_doc.specs.Stored.{document_at, BelongsTo};
-ghost use Rattle.xd_report.specs.Report.{kind_text, CarriesFrom};
+ghost use Rattle.xd_report.specs.Report.{kind_text};
+ghost use Rattle.xd_report.specs.Carries.{CarriesFrom};
 ghost use Rattle.xd_report.specs.Kept.{IsKept};
 
 use crate::texts::write_texts;

@@ -1,7 +1,8 @@
 //! The lines of faults and warnings.
 
 ghost use Rattle.std.specs.Prelude.{◌≡◌, ◌++◌, OnOk, OnErr};
-ghost use Rattle.xd_report.specs.Report.{fault_front, fault_text, warning_text, CarriesFrom};
+ghost use Rattle.xd_report.specs.Report.{fault_front, fault_text, warning_text};
+ghost use Rattle.xd_report.specs.Carries.{CarriesFrom};
 ghost use Rattle.xd_report.specs.Kept.{IsKept};
 
 use crate::kind::write_kind;

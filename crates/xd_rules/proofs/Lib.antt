@@ -1,7 +1,11 @@
+pub mod Lists
+pub mod IsHeadNamedLemmas
+pub mod Results
+pub mod Sides
 pub mod Names
 pub mod Members
 pub mod Walk
 pub mod Atoms
 pub mod Soundness
 pub mod Separation
-pub mod Listing
+pub mod AllAtomsLemmas

@@ -3,11 +3,12 @@ use Rattle.std.proofs.Common.{◌≡◌, ◌⊎◌, ◌↔◌, inl, inr, ℕ, ze
 use Rattle.std.specs.List.{AllByRecursion}
 use Rattle.xd_doc.specs.Document.{Document, empty, text, element, join}
 use Rattle.xd_doc.specs.Classes.{LabelClass, TextClass, class_has}
-use Rattle.xd_syntax.specs.Tree.{Tree, Empty, Text, Words, Elem, Alt, Star, Plus, Opt, seq_of, alt_of}
+use Rattle.xd_syntax.specs.Tree.{Tree, Empty, Text, Words, Elem, Alt, Star, Plus, Opt, seq_of}
+use Rattle.xd_syntax.specs.TreeForms.{alt_of}
 use Rattle.xd_syntax.specs.Table.{Row}
 use Rattle.xd_syntax.specs.Types.{tree}
 use Rattle.xd_syntax.specs.declared.types.TypeId.{TypeId}
-use Rattle.xd_laws.specs.FitsWithin.{no_turn}
+use Rattle.xd_meaning.specs.FitsWithin.{no_turn}
 use Rattle.xd_same_types.specs.Same.{Meaning, FitsAs, MeansSame, SomeFits, CanBeEmpty, TakesIn, AddsFit, AddsFits, IsChoice, trees, tops_only, all_tops_only}
 use Rattle.xd_same_types.proofs.Tops.{and_same, and_assoc, and_true, and_itself, and_swap, tops_alt, tops_push, tops_set}
 use Rattle.xd_same_types.proofs.Splits.{rep_one, plus_star, star_cases}

@@ -2,8 +2,9 @@
 use Rattle.std.proofs.Common.{◌≡◌, ◌⊎◌, ◌↔◌, inl, inr, true, refl, sym, ◌∙◌, subst, List, [], ◌∷◌, ◌++◌}
 use Rattle.xd_doc.specs.Document.{Document, empty, text, element, has_item}
 use Rattle.xd_doc.specs.Classes.{LabelClass}
-use Rattle.xd_syntax.specs.Tree.{Tree, Empty, Elem, Seq, Alt, Star, Plus, Opt, seq_of, alt_of}
-use Rattle.xd_laws.specs.FitsWithin.{Repeats, no_turn}
+use Rattle.xd_syntax.specs.Tree.{Tree, Empty, Elem, Seq, Alt, Star, Plus, Opt, seq_of}
+use Rattle.xd_syntax.specs.TreeForms.{alt_of}
+use Rattle.xd_meaning.specs.FitsWithin.{Repeats, no_turn}
 use Rattle.xd_same_types.specs.Same.{Meaning, FitsAs, MeansSame, TakesItem, SomeFits, tops_only}
 use Rattle.xd_same_types.proofs.Tops.{and_same, and_assoc, and_true, and_itself}
 use Rattle.xd_same_types.proofs.Splits.{split_map, split_left, split_right, none_then, then_only, then_none, first_only, item_first, item_second, rep_one, rep_map, front_plus, back_plus, twice, once_more}

@@ -11,4 +11,4 @@ pub mod AltSteps
 pub mod EndLaws
 pub mod StarLaws
 pub mod TextLaws
-pub mod Naming
+pub mod IsMeaningLemmas

@@ -2,7 +2,8 @@
 use Rattle.std.proofs.Common.{◌≡◌, ℕ, ◌+◌, ◌<◌, get_or, sym, ap, ◌∙◌, List, [], ◌∷◌, ◌++◌, take, drop, length, append_assoc}
 use Rattle.std.proofs.lemmas.List.{take-append-drop}
 use Rattle.std.specs.Prelude.{◌||◌}
-use Rattle.xd_syntax.specs.Tree.{Tree, Empty, Seq, Star, Plus, seq_of, is_seq, is_empty}
+use Rattle.xd_syntax.specs.Tree.{Tree, Empty, Seq, Star, Plus, seq_of, is_empty}
+use Rattle.xd_syntax.specs.TreeForms.{is_seq}
 use Rattle.xd_syntax.specs.Table.{Row, IsSeqPart}
 use Rattle.xd_same_types.specs.Grown.{GrowsTypes}
 use Rattle.xd_syntax.specs.Types.{BelongsTo, tree}

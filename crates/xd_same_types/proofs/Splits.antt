@@ -1,9 +1,10 @@
 -- Laws of documents of two parts, and of repetition.
 use Rattle.std.proofs.Common.{◌≡◌, ◌⊎◌, inl, inr, true, refl, sym, ap, ◌∙◌, subst, ◌<◌, ◌≤◌, arith}
-use Rattle.xd_doc.specs.Document.{Document, empty, text, element, join, has_item, breadth}
+use Rattle.xd_doc.specs.Document.{Document, empty, text, element, join, has_item}
+use Rattle.xd_doc.specs.DocumentCode.{breadth}
 use Rattle.xd_doc.proofs.Joins.{join_empty-right, join_assoc}
 use Rattle.xd_syntax.specs.Fits.{Split}
-use Rattle.xd_laws.specs.FitsWithin.{Repeats, no_turn, one_turn}
+use Rattle.xd_meaning.specs.FitsWithin.{Repeats, no_turn, one_turn}
 
 -- it is the empty document
 abbrev pub IsNone : Document → Type 0

@@ -1,8 +1,9 @@
 -- Laws of what is repeated.
 use Rattle.std.proofs.Common.{◌≡◌, ◌⊎◌, inl, inr, ℕ, ◌<◌, ◌&&◌, refl, sym, ap, ◌∙◌, subst, List, [], ◌∷◌, ◌++◌, length, take, get_or, ◌+◌, arith}
 use Rattle.xd_doc.specs.Document.{Document, empty}
-use Rattle.xd_syntax.specs.Tree.{Tree, Star, Plus, Opt, alt_of}
-use Rattle.xd_laws.specs.FitsWithin.{Repeats, no_turn, one_turn}
+use Rattle.xd_syntax.specs.Tree.{Tree, Star, Plus, Opt}
+use Rattle.xd_syntax.specs.TreeForms.{alt_of}
+use Rattle.xd_meaning.specs.FitsWithin.{Repeats, no_turn, one_turn}
 use Rattle.xd_same_types.specs.Same.{Meaning, FitsAs, MeansSame, SomeFits, RepeatSame, AddsFits, AddsStripped, AreStripped, tops_only, all_tops_only}
 use Rattle.xd_same_types.proofs.Tops.{tops_alt, tops_push}
 use Rattle.xd_same_types.proofs.Splits.{rep_one, rep_bind, rep_map, plus_star}

@@ -3,7 +3,8 @@ use Rattle.std.proofs.Common.{◌≡◌, ℕ, suc, zero, ◌<◌, ◌≤◌, ari
 use Rattle.std.proofs.lemmas.List.{take-append-drop}
 use Rattle.std.specs.Prelude.{◌||◌}
 use Rattle.std.specs.List.{AllByRecursion}
-use Rattle.xd_syntax.specs.Tree.{Tree, is_seq, is_empty, is_alt, seq_of, alt_of}
+use Rattle.xd_syntax.specs.Tree.{Tree, is_empty, seq_of}
+use Rattle.xd_syntax.specs.TreeForms.{is_seq, is_alt, alt_of}
 use Rattle.xd_syntax.specs.Table.{Row, tree_at, form_tree, seq_form, alt_form, CanFollow, KeepsRows, IsSeqPart, IsAltPart}
 use Rattle.xd_syntax.specs.Types.{BelongsTo, tree, type_numbers, form_of}
 use Rattle.xd_syntax.specs.declared.types.TypeId.{TypeId}

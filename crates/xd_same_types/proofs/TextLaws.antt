@@ -5,7 +5,8 @@ use Rattle.std.specs.Cmp.Lexicographic.{slice_cmp, pointwise}
 use Rattle.std.specs.List.Sorted.{IsStrictlySortedBy}
 use Rattle.std.specs.Ordering.{nat_cmp}
 use Rattle.xd_doc.specs.Document.{Document, empty, text, element}
-use Rattle.xd_doc.specs.Classes.{TextClass, IsTextClass, class_has, is_named}
+use Rattle.xd_doc.specs.Classes.{TextClass, class_has, is_named}
+use Rattle.xd_doc.specs.ClassForms.{IsTextClass}
 use Rattle.xd_doc.proofs.SortedNames.{same_words}
 use Rattle.xd_syntax.specs.Table.{IsWordsNode}
 use Rattle.xd_syntax.specs.Tree.{Tree, Text, Words, Alt}

@@ -1,6 +1,7 @@
 -- Laws of the names that types use outside of labels.
 use Rattle.std.proofs.Common.{◌≡◌, ℕ, zero, suc, ◌<◌, Bool, true, false, ◌&&◌, refl, sym, ap, ◌∙◌, subst, List, [], ◌∷◌, ◌++◌, length, get_or, set, arith}
-use Rattle.xd_syntax.specs.Tree.{Tree, seq_of, alt_of}
+use Rattle.xd_syntax.specs.Tree.{Tree, seq_of}
+use Rattle.xd_syntax.specs.TreeForms.{alt_of}
 use Rattle.xd_same_types.specs.Same.{tops_only, all_tops_only}
 
 pub and_same : {a b c d : Bool} → a ≡ c → b ≡ d → (a && b) ≡ (c && d)

@@ -6,7 +6,7 @@ use Rattle.xd_syntax.specs.Words.{has_word}
 use Rattle.xd_syntax.specs.Tree.{Tree, Name, Seq, Alt, Star, Plus, Opt, Val, seq_of}
 use Rattle.xd_syntax.specs.Table.{Row, tree_at, IsSeqPart, IsAltPart}
 use Rattle.xd_syntax.specs.declared.types.TypeId.{TypeId}
-use Rattle.xd_laws.specs.FitsWithin.{fits_by, Repeats}
+use Rattle.xd_meaning.specs.FitsWithin.{fits_by, Repeats}
 
 -- which documents a name stands for
 abbrev pub Meaning : Type 0

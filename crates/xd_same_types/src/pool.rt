@@ -4,7 +4,7 @@ ghost use Rattle.std.specs.Prelude.{◌≡◌, [], IfOk, false, true};
 ghost use Rattle.std.specs.Option.{IfSome};
 ghost use Rattle.xd_syntax.specs.Table.{CanFollow, form_tree, name_form, tree_at};
 ghost use Rattle.xd_syntax.specs.Tree.{Name};
-ghost use Rattle.xd_syntax.specs.Words.{is_type_name};
+ghost use Rattle.xd_syntax.specs.Keywords.{is_type_name};
 ghost use Rattle.xd_same_types.specs.Grown.{GrowsBy, GrowsTypes, form_named};
 ghost use Rattle.xd_syntax.specs.Types.{BelongsTo, form_of, tree};
 

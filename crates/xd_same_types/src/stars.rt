@@ -2,7 +2,8 @@
 
 ghost use Rattle.std.specs.Prelude.{◌≡◌, IfOk, OnOk};
 ghost use Rattle.xd_same_types.specs.Grown.{GrowsTypes};
-ghost use Rattle.xd_syntax.specs.Tree.{Name, Star, alt_of};
+ghost use Rattle.xd_syntax.specs.Tree.{Name, Star};
+ghost use Rattle.xd_syntax.specs.TreeForms.{alt_of};
 ghost use Rattle.xd_syntax.specs.Words.{any_word};
 ghost use Rattle.xd_syntax.specs.Types.{BelongsTo, tree};
 ghost use Rattle.xd_same_types.specs.Same.{AddsStripped, AreAltParts, MeansSame, RepeatSame, trees};

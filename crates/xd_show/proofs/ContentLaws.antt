@@ -22,7 +22,7 @@ use Rattle.xd_empty.specs.Parts.{is_marked}
 use Rattle.xd_boole.specs.Universal.{MarkUniversal}
 use Rattle.xd_syntax.proofs.Trees.{tree_kept}
 use Rattle.xd_same_types.proofs.Ids.{default_free, take_read}
-use Rattle.xd_solve.specs.Levels.{AreContents, AreWritten, IsStateType, IsWritten, MeansAny, WrittenBelong, known_of}
+use Rattle.xd_show_solve.specs.Levels.{AreContents, AreWritten, IsStateType, IsWritten, MeansAny, WrittenBelong, known_of}
 use Rattle.xd_show.specs.Plans.{AllAreNamed}
 use Rattle.xd_show.specs.Contents.{AreAllWritten, AreContentsBy, AreFirst, AreKnown, GrowsContents, GrowsNames, IsTypeOf, IsUnderLabel, MeansAnyAnd, MeansState, MeansStates}
 

@@ -18,7 +18,7 @@ use Rattle.xd_shown.specs.Bodies.{AreBodies, AreMeant, ShowsMeanings}
 use Rattle.xd_shown.specs.FreeNames.{AreDistinct, AreNewNames}
 use Rattle.xd_shown.specs.Shown.{AreNamedFrom, IsShown}
 use Rattle.xd_empty.specs.Parts.{HasDocument}
-use Rattle.xd_solve.specs.Levels.{MeansAny}
+use Rattle.xd_show_solve.specs.Levels.{MeansAny}
 use Rattle.xd_show.proofs.ContentLaws.{all_of_each, has_there, same_word}
 use Rattle.xd_show.specs.Contents.{AreBodiesBy, AreContentsBy, IsTypeOf, MeansAnyAnd, MeansAnyAndStates, MeansStates}
 

@@ -13,7 +13,7 @@ use Rattle.xd_syntax.specs.Types.{BelongsTo}
 use Rattle.xd_syntax.specs.declared.types.TypeId.{TypeId}
 use Rattle.xd_same_types.specs.Grown.{NamesAmong}
 use Rattle.xd_same_types.specs.Same.{Meaning, FitsAs, HasTops}
-use Rattle.xd_solve.specs.Levels.{AreContents, IsWritten, MeansAny, WrittenBelong}
+use Rattle.xd_show_solve.specs.Levels.{AreContents, IsWritten, MeansAny, WrittenBelong}
 
 -- each of the words stands for what the state at its place accepts
 abbrev pub MeansStates : Automaton → List (List ℕ) → List State → Meaning → Type 0

@@ -4,17 +4,18 @@ ghost use Rattle.std.specs.Prelude.{◌≡◌, ◌∷◌, [], true, IfOk, length
 ghost use Rattle.std.specs.List.{AllByRecursion};
 ghost use Rattle.xd_auto.specs.Automaton.{IsState};
 ghost use Rattle.xd_boole.specs.Universal.{MarkUniversal};
-ghost use Rattle.xd_solve.specs.Levels.{WrittenBelong};
+ghost use Rattle.xd_show_solve.specs.Levels.{WrittenBelong};
 ghost use Rattle.xd_syntax.specs.Types.{BelongsTo};
-ghost use Rattle.xd_syntax.specs.Words.{any_word, is_type_name};
+ghost use Rattle.xd_syntax.specs.Words.{any_word};
+ghost use Rattle.xd_syntax.specs.Keywords.{is_type_name};
 ghost use Rattle.xd_show.specs.Contents.{AreAllWritten, AreBodiesBy, GrowsNames, IsTypeOf, MeansAnyAnd};
 
 use std::alloc::Global;
 use xd_auto::{Auto, State};
 use xd_doc::{Label, NoMemory};
 use xd_same_types::Pool;
+use xd_show_solve::{level_of, state_type};
 use xd_shown::none_around;
-use xd_solve::{level_of, state_type};
 use xd_syntax::TypeId;
 
 /// What the name of a state stands for; where the state accepts nothing, the label `none` around the name.

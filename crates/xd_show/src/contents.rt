@@ -9,8 +9,8 @@ ghost use Rattle.xd_auto.specs.declared.auto.State.{State};
 ghost use Rattle.xd_boole.specs.Universal.{MarkUniversal};
 ghost use Rattle.xd_empty.specs.Parts.{is_marked};
 ghost use Rattle.xd_same_types.specs.Grown.{GrowsTypes};
-ghost use Rattle.xd_solve.specs.Levels.{AreWritten, IsWritten, MeansAny, WrittenBelong};
-ghost use Rattle.xd_syntax.specs.Words.{is_type_name};
+ghost use Rattle.xd_show_solve.specs.Levels.{AreWritten, IsWritten, MeansAny, WrittenBelong};
+ghost use Rattle.xd_syntax.specs.Keywords.{is_type_name};
 ghost use Rattle.xd_show.specs.Contents.{AreAllWritten, AreContentsBy, AreFirst, GrowsContents, GrowsNames, IsTypeOf, MeansState, MeansStates};
 
 use crate::plan::Plan;
@@ -19,7 +19,7 @@ use xd_auto::{Auto, LabelMove, State};
 use xd_boole::is_marked;
 use xd_doc::{Label, NoMemory};
 use xd_same_types::{Pool, any_type, name_type};
-use xd_solve::{level_of, state_type};
+use xd_show_solve::{level_of, state_type};
 use xd_syntax::TypeId;
 
 /// Whether anything is written for the state as a content.

@@ -1,8 +1,8 @@
 pub mod NameLaws
 pub mod NamingSteps
-pub mod Defining
+pub mod DefiningLemmas
 pub mod Soundness
 pub mod Meanings
-pub mod Showing
-pub mod Reading
+pub mod AreMeantLemmas
+pub mod IsTableLemmas
 mod Samples

@@ -8,11 +8,11 @@ use Rattle.xd_doc.specs.Document.{Document, empty, text, element}
 use Rattle.xd_syntax.specs.Words.{any_word, has_word}
 use Rattle.xd_syntax.specs.Tree.{Tree, Empty, Text, Words, Name, Elem, Seq, Alt, Star, Plus, Opt, Val, Definitions, body, any_type, environment, uses_only}
 use Rattle.xd_syntax.specs.Fits.{Fits}
-use Rattle.xd_laws.specs.FitsWithin.{Repeats, no_turn, one_turn}
+use Rattle.xd_meaning.specs.FitsWithin.{Repeats, no_turn, one_turn}
 use Rattle.xd_same_types.specs.Names.{IsMeaning, AreGuarded, AreClosed}
 use Rattle.xd_same_types.specs.Same.{Meaning, FitsAs, tops_only}
-use Rattle.xd_same_types.proofs.Naming.{names_settle}
-use Rattle.xd_shown.proofs.Defining.{or_right}
+use Rattle.xd_same_types.proofs.IsMeaningLemmas.{names_settle}
+use Rattle.xd_shown.proofs.DefiningLemmas.{or_right}
 
 -- ---- every document is one of `Any`
 any_fits : (N : Meaning) → ((d : Document) → N any_word d ≡ true) → (d : Document) → FitsAs N any_type d

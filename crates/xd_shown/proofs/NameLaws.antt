@@ -6,7 +6,8 @@ use Rattle.std.proofs.lemmas.Bool.Decides.{nat_tests}
 use Rattle.std.proofs.lemmas.Fmt.{decimal_by_steps, decimal_injective}
 use Rattle.std.proofs.lemmas.Slice.Eq.{bytes_eq-Decides}
 use Rattle.xd_doc.specs.Word.{is_word_start, is_word_part, are_word_parts, is_word}
-use Rattle.xd_syntax.specs.Words.{any_word, is_type_name}
+use Rattle.xd_syntax.specs.Words.{any_word}
+use Rattle.xd_syntax.specs.Keywords.{is_type_name}
 use Rattle.xd_shown.specs.Shown.{shown_name}
 
 -- ---- digits

@@ -7,7 +7,8 @@ use Rattle.std.specs.Cmp.Lexicographic.{slice_cmp}
 use Rattle.std.specs.Str.{bytes_eq}
 use Rattle.std.proofs.lemmas.Bool.{or_from}
 use Rattle.std.proofs.lemmas.Map.Text.{is_eq-slice_cmp}
-use Rattle.xd_syntax.specs.Words.{any_word, has_word, is_type_name}
+use Rattle.xd_syntax.specs.Words.{any_word, has_word}
+use Rattle.xd_syntax.specs.Keywords.{is_type_name}
 use Rattle.xd_shown.specs.FreeNames.{AreDistinct, AreNewNames}
 use Rattle.xd_shown.specs.Shown.{shown_name, AreNamedFrom, no_more, skipped, named}
 use Rattle.xd_shown.proofs.NameLaws.{name_proper, name_other, other_names}

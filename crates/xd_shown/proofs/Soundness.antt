@@ -4,7 +4,8 @@ use Rattle.std.specs.List.{AllByRecursion}
 use Rattle.std.specs.Str.{bytes_eq}
 use Rattle.std.proofs.lemmas.Bool.{and_parts, or_parts, or_from}
 use Rattle.std.proofs.lemmas.Slice.Eq.{bytes_eq-Decides}
-use Rattle.xd_syntax.specs.Words.{any_word, string_word, keywords, has_word, is_type_name}
+use Rattle.xd_syntax.specs.Words.{any_word, string_word, has_word}
+use Rattle.xd_syntax.specs.Keywords.{keywords, is_type_name}
 use Rattle.xd_syntax.specs.Tree.{uses_only}
 use Rattle.xd_syntax.specs.Table.{Row}
 use Rattle.xd_syntax.specs.Placed.{PlacedTree, Empty_at, Text_at, Words_at, Name_at, Elem_at, Seq_at, Alt_at, Star_at, Plus_at, Opt_at, Val_at, unplaced}
@@ -23,7 +24,7 @@ use Rattle.xd_same_types.specs.Same.{tops_only}
 use Rattle.xd_shown.specs.Bodies.{AreBodies, definitions_of, defining}
 use Rattle.xd_shown.specs.FreeNames.{AreDistinct, AreNewNames}
 use Rattle.xd_shown.specs.Shown.{defined_names, UsesUnderLabels}
-use Rattle.xd_shown.proofs.Defining.{or_right, names_are, each_definition, bodies_use}
+use Rattle.xd_shown.proofs.DefiningLemmas.{or_right, names_are, each_definition, bodies_use}
 
 -- ---- no name twice
 abbrev spots_of : List TypeDefinition → List Spot

@@ -1,7 +1,8 @@
 -- Names that may be given to types.
 use Rattle.std.specs.Prelude.{◌≡◌, ℕ, true, false, List, [], ◌∷◌}
 use Rattle.std.specs.List.{AllByRecursion}
-use Rattle.xd_syntax.specs.Words.{any_word, has_word, is_type_name}
+use Rattle.xd_syntax.specs.Words.{any_word, has_word}
+use Rattle.xd_syntax.specs.Keywords.{is_type_name}
 
 -- no word stands twice
 abbrev pub AreDistinct : List (List ℕ) → Type 0

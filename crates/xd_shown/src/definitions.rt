@@ -1,7 +1,8 @@
 //! Definitions of types that show a set of documents.
 
 ghost use Rattle.std.specs.Prelude.{◌≡◌, ℕ, List, Some, true, length, IfOk, slice_get};
-ghost use Rattle.xd_syntax.specs.Words.{any_word, has_word, is_type_name};
+ghost use Rattle.xd_syntax.specs.Words.{any_word, has_word};
+ghost use Rattle.xd_syntax.specs.Keywords.{is_type_name};
 ghost use Rattle.xd_syntax.specs.Table.{KeepsRows};
 ghost use Rattle.xd_syntax.specs.Types.{BelongsTo, tree};
 ghost use Rattle.xd_syntax.specs.Kept.{program_tree};

@@ -7,14 +7,15 @@ use Rattle.std.proofs.lemmas.Grind.{get_or_default_zero}
 use Rattle.std.proofs.Math.ListN.{get_or-append}
 use Rattle.std.proofs.lemmas.List.{get_or-take, get_or_push, length_push, length-take-le}
 use Rattle.std.proofs.lemmas.List.Elements.{Contains-get_or}
-use Rattle.xd_syntax.specs.Tree.{Tree, Elem, Star, Plus, Opt, Val, seq_of, alt_of, is_seq, is_alt, is_empty}
+use Rattle.xd_syntax.specs.Tree.{Tree, Elem, Star, Plus, Opt, Val, seq_of, is_empty}
+use Rattle.xd_syntax.specs.TreeForms.{alt_of, is_seq, is_alt}
 use Rattle.xd_syntax.specs.TypeText.{depth}
-use Rattle.xd_syntax.specs.Shallow.{AddsOne, AddsWithin}
+use Rattle.xd_syntax.specs.ShallowTables.{AddsOne, AddsWithin}
 use Rattle.xd_syntax.specs.Table.{Row, Form, empty_form, text_form, words_form, name_form, elem_form, seq_form, alt_form, star_form, plus_form, opt_form, val_form, form_tree, tree_at, AreBuilt, IsSeqPart, IsAltPart, CanFollow, KeepsRows}
 use Rattle.xd_syntax.specs.Kept.{ProgramTable, AddsTypes}
 use Rattle.xd_syntax.specs.Types.{type_numbers}
 use Rattle.xd_syntax.specs.Nodes.{form_parts, parts_of}
-use Rattle.xd_syntax.specs.Sound.{IsTypeAt}
+use Rattle.xd_syntax.specs.SoundTables.{IsTypeAt}
 use Rattle.xd_sound.specs.Adopt.{Reaches, itself, part, AreRising, AreReached, place_among, copy_from, copied_form}
 use Rattle.xd_syntax.specs.declared.types.TypeId.{TypeId}
 use Rattle.xd_syntax.proofs.Trees.{tree_kept}

@@ -8,12 +8,13 @@ use Rattle.std.proofs.lemmas.Bool.{cases_lt, cases_eq}
 use Rattle.std.proofs.lemmas.Slice.Eq.{bytes_eq-Decides}
 use Rattle.xd_doc.specs.Document.{Document, empty, text, element, join}
 use Rattle.xd_syntax.specs.Words.{any_word}
-use Rattle.xd_syntax.specs.Tree.{Tree, Empty, Text, Words, Name, Elem, Seq, Alt, Star, Plus, Opt, Val, Definitions, body, any_type, seq_of, alt_of}
+use Rattle.xd_syntax.specs.Tree.{Tree, Empty, Text, Words, Name, Elem, Seq, Alt, Star, Plus, Opt, Val, Definitions, body, any_type, seq_of}
+use Rattle.xd_syntax.specs.TreeForms.{alt_of}
 use Rattle.xd_syntax.specs.Table.{Row, Form, empty_form, text_form, words_form, name_form, elem_form, seq_form, alt_form, star_form, plus_form, opt_form, val_form, form_tree, tree_at, PartsBelow, CanFollow}
 use Rattle.xd_syntax.specs.Fits.{Fits, empty_by}
 use Rattle.xd_syntax.specs.Fits as F
 use Rattle.xd_syntax.specs.Kept.{TypeDefStands}
-use Rattle.xd_syntax.specs.Sound.{definition_of}
+use Rattle.xd_syntax.specs.SoundTables.{definition_of}
 use Rattle.xd_syntax.specs.declared.types.TypeDef.{TypeDef}
 use Rattle.xd_syntax.specs.declared.types.TypeId.{TypeId}
 use Rattle.xd_syntax.specs.Types.{type_numbers}

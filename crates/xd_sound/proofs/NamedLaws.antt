@@ -5,13 +5,14 @@ use Rattle.std.specs.List.{AllByRecursion}
 use Rattle.std.proofs.lemmas.Slice.Eq.{bytes_eq-Decides}
 use Rattle.xd_doc.specs.Word.{is_word}
 use Rattle.xd_syntax.proofs.Words.{bytes_eq-turned}
-use Rattle.xd_syntax.specs.Words.{has_word, any_word, string_word, keywords, is_type_name}
+use Rattle.xd_syntax.specs.Words.{has_word, any_word, string_word}
+use Rattle.xd_syntax.specs.Keywords.{keywords, is_type_name}
 use Rattle.xd_syntax.specs.Table.{Row}
 use Rattle.xd_syntax.specs.Program.{TypeDefinition}
 use Rattle.xd_syntax.specs.Kept.{TypeDefStands, type_definition}
 use Rattle.xd_syntax.specs.Proper.{IsProperDefinition}
 use Rattle.xd_sound.specs.TypeNames.{first_from}
-use Rattle.xd_syntax.specs.Sound.{definition_of}
+use Rattle.xd_syntax.specs.SoundTables.{definition_of}
 use Rattle.xd_syntax.specs.declared.types.TypeDef.{TypeDef}
 
 abbrev names_in : List Row → List TypeDef → List (List ℕ)

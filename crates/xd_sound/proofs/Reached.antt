@@ -9,7 +9,8 @@ use Rattle.std.proofs.lemmas.List.{get_or-reverse, length-reverse}
 use Rattle.std.proofs.lemmas.List.Sorted.{Contains-permutation, IsPermutation-reverse, IsPermutation-sym, sum_by_popped, sum_by-IsPermutation}
 use Rattle.std.proofs.lemmas.List.Sums.{sum_by-append, sum_by-cons}
 use Rattle.xd_doc.proofs.CopyLemmas.{none_contained, front_or_rest}
-use Rattle.xd_syntax.specs.Tree.{Tree, Empty, Text, Words, Name, Elem, Seq, Alt, Star, Plus, Opt, Val, seq_of, alt_of, is_empty, uses_only, size}
+use Rattle.xd_syntax.specs.Tree.{Tree, Empty, Text, Words, Name, Elem, Seq, Alt, Star, Plus, Opt, Val, seq_of, is_empty, uses_only}
+use Rattle.xd_syntax.specs.TreeForms.{alt_of, size}
 use Rattle.xd_syntax.specs.TypeText.{depth, depth_at_level, sequence_level, postfix_level, primary_level}
 use Rattle.xd_syntax.specs.Table.{Row, Form, empty_form, text_form, words_form, name_form, elem_form, seq_form, alt_form, star_form, plus_form, opt_form, val_form, form_tree, tree_at, AreBuilt, CanFollow}
 use Rattle.xd_syntax.specs.Nodes.{form_parts, form_at, no_row, parts_of}

@@ -2,7 +2,7 @@
 use Rattle.std.specs.Prelude.{◌↔◌, ℕ, suc, ◌<◌, ◌≤◌, Bool, true, cond, nat_lt, List, [], ◌∷◌, map, length, get_or}
 use Rattle.std.specs.List.{Contains}
 use Rattle.xd_syntax.specs.Words.{has_word}
-use Rattle.xd_syntax.specs.Tree.{size}
+use Rattle.xd_syntax.specs.TreeForms.{size}
 use Rattle.xd_syntax.specs.Table.{Row, tree_at, Form, name_form, elem_form, seq_form, alt_form, star_form, plus_form, opt_form, val_form}
 use Rattle.xd_syntax.specs.Types.{type_numbers}
 use Rattle.xd_syntax.specs.Nodes.{parts_of}

@@ -7,7 +7,7 @@ use Rattle.xd_syntax.specs.Words.{any_word}
 use Rattle.xd_syntax.specs.Table.{Row, Form, empty_form, name_form, seq_form, alt_form, star_form, plus_form, opt_form, val_form, form_tree, tree_at, PartsBelow, CanFollow}
 use Rattle.xd_syntax.specs.Fits.{Fits}
 use Rattle.xd_syntax.specs.Ways.{Among}
-use Rattle.xd_syntax.specs.Sound.{definition_of}
+use Rattle.xd_syntax.specs.SoundTables.{definition_of}
 use Rattle.xd_syntax.specs.declared.types.TypeDef.{TypeDef}
 use Rattle.xd_sound.specs.Graph.{HasEdge}
 use Rattle.xd_sound.specs.TypeNames.{meanings}

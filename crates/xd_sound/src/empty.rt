@@ -5,7 +5,7 @@ ghost use Rattle.std.specs.List.{AllByRecursion};
 ghost use Rattle.xd_syntax.specs.Table.{PartsBelow};
 ghost use Rattle.xd_syntax.specs.Types.{form_of, type_numbers};
 ghost use Rattle.xd_syntax.specs.Kept.{TypeDefStands};
-ghost use Rattle.xd_syntax.specs.Sound.{definition_of};
+ghost use Rattle.xd_syntax.specs.SoundTables.{definition_of};
 ghost use Rattle.xd_sound.specs.TypeNames.{AreNumbered};
 ghost use Rattle.xd_sound.specs.Emptiness.{AddsEdges, AreDependents, AreEmptyMarks, AreEmptySoFar, AreRead, IsMarking, all_marked, body_number, depends_on, form_marked, name_marked, some_marked};
 ghost use Rattle.xd_syntax.specs.declared.types.TypeDef.{TypeDef};

@@ -1,7 +1,7 @@
 //! Definitions of types by name.
 
 ghost use Rattle.std.specs.Prelude.{◌≡◌, ℕ, List, IfOk};
-ghost use Rattle.xd_syntax.specs.Sound.{definition_of};
+ghost use Rattle.xd_syntax.specs.SoundTables.{definition_of};
 ghost use Rattle.xd_sound.specs.TypeNames.{AreNumbered, body_at, number_of};
 
 use std::alloc::Global;

@@ -9,14 +9,14 @@ use Rattle.xd_auto.specs.Automaton.{Automaton, accepts, moves_at}
 use Rattle.xd_auto.proofs.Anys.{Found, found, any_at}
 use Rattle.xd_empty.specs.Parts.{AreMarks, HasDocument, is_marked}
 use Rattle.xd_stream.specs.Pairs.{same_state}
-use Rattle.xd_stream.specs.Stop.{BeginsAccepted}
+use Rattle.xd_stream.specs.StopByState.{BeginsAccepted}
 use Rattle.xd_stream.specs.Standing.{whole, finishes, completes_by, is_first, is_sound, is_sound_wait, AreWaiting, AreItemMarks, HasItemDocument, AreProper, may_be_left, is_alive_at, Keeps}
 use Rattle.xd_stream.specs.declared.pairs.Pair.{Pair}
 use Rattle.xd_stream.specs.declared.pairs.Waiting.{Waiting}
 use Rattle.xd_stream.specs.declared.position.Position.{Position}
 use Rattle.xd_stream.specs.declared.position.Position.TheVariants as positions
-use Rattle.xd_stream.proofs.Testing.{pass_at}
-use Rattle.xd_stream.proofs.Completing.{spell_rest, left_may, up_of, AreRests, rests_of}
+use Rattle.xd_stream.proofs.AllPassLemmas.{pass_at}
+use Rattle.xd_stream.proofs.WholeLemmas.{spell_rest, left_may, up_of, AreRests, rests_of}
 
 -- documents for what follows the open elements, where the innermost content began with this state
 pub record HasRests (a : Automaton) (wss : List (List Waiting)) (c : State) : Type 0 where

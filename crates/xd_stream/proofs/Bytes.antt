@@ -16,7 +16,8 @@ use Rattle.xd_lex.specs.Tokens.{after, past}
 use Rattle.xd_lex.proofs.Skipped.{past-append}
 use Rattle.xd_read.specs.Grammar.{Label, ParenL}
 use Rattle.xd_read.specs.Reading.{terminal, word_of}
-use Rattle.xd_stream.specs.Stop.{IsAccepted, StopsMalformed, StopsOutside, told, tokens_at}
+use Rattle.xd_stream.specs.StopByState.{IsAccepted}
+use Rattle.xd_stream.specs.Stop.{StopsMalformed, StopsOutside, told, tokens_at}
 use Rattle.xd_stream.specs.Characters.{IsPartial, none}
 use Rattle.xd_stream.specs.Validating.{IsSameFor, Passes, Refuses}
 use Rattle.xd_stream.specs.Errors.{error_at}
@@ -29,7 +30,7 @@ use Rattle.xd_stream.specs.declared.error.StreamError.TheVariants as errors
 use Rattle.xd_stream.specs.declared.validator.Refusal.{Refusal}
 use Rattle.xd_stream.specs.declared.validator.Refusal.TheVariants as refusals
 use Rattle.xd_stream.proofs.Behind.{before_refused, behind_refused, next_gap, next_pending, next_token, none_left, stands_before, stands_more, stands_on, stands_token}
-use Rattle.xd_stream.proofs.Going.{refuses_other}
+use Rattle.xd_stream.proofs.StandsAfterLemmas.{refuses_other}
 use Rattle.xd_stream.proofs.PlainBytes.{parts_join}
 use Rattle.xd_stream.proofs.InFront.{IsOtherFirst, IsStrange, IsTokenAt, ascii_utf8, blank_at, label_at, paren_l_at, strange_at, word_at}
 

@@ -15,18 +15,19 @@ use Rattle.xd_lex.specs.Tokens.{Lexeme, after, past, tokens_from}
 use Rattle.xd_lex.proofs.Symbols.{a_word, paren_l}
 use Rattle.xd_read.specs.Grammar.{Terminal, Spells}
 use Rattle.xd_read.specs.Reading.{terminal_of, terminals_of}
-use Rattle.xd_stream.specs.Stop.{BeginsAccepted, tokens_at}
+use Rattle.xd_stream.specs.StopByState.{BeginsAccepted}
+use Rattle.xd_stream.specs.Stop.{tokens_at}
 use Rattle.xd_stream.specs.Fed.{AreSettled, AreWhole}
 use Rattle.xd_stream.specs.Pending.{HasShape, StandsBehind, scan_text, scan_comment}
 use Rattle.xd_stream.specs.declared.machine.Mode.{Mode}
 use Rattle.xd_stream.specs.declared.machine.Mode.TheVariants as modes
 use Rattle.xd_stream.specs.declared.machine.Machine.{Machine}
-use Rattle.xd_stream.proofs.Ending.{nothing_left, some_partial}
-use Rattle.xd_stream.proofs.Finishing.{IsFinish, finish}
+use Rattle.xd_stream.proofs.StopsLemmas.{nothing_left, some_partial}
+use Rattle.xd_stream.proofs.IsPartialLemmas.{IsFinish, finish}
 use Rattle.xd_stream.proofs.InFront.{ascii_utf8, bad_text_at, broken_comment_at, broken_text_at, comma_at, comment_at, label_at, text_at}
 use Rattle.xd_stream.proofs.Inside.{scan_text-wide, scan_comment-wide, wide_no_escape}
-use Rattle.xd_stream.proofs.Lexing.{at_end}
-use Rattle.xd_stream.proofs.Scanning.{tokens-open_text, tokens-open_comment, scan_text-append, scan_comment-append}
+use Rattle.xd_stream.proofs.TokensAtLemmas.{at_end}
+use Rattle.xd_stream.proofs.TextFrontLemmas.{tokens-open_text, tokens-open_comment, scan_text-append, scan_comment-append}
 use Rattle.xd_stream.proofs.WideBytes.{nothing_partial, partial_none}
 
 -- ---- places grow

@@ -11,7 +11,8 @@ use Rattle.xd_doc.specs.Document.{Document, empty, text, element, is_proper}
 use Rattle.xd_doc.specs.Word.{are_word_parts, is_word, is_word_part, is_word_start}
 use Rattle.xd_lex.specs.declared.Kind.{Kind}
 use Rattle.xd_lex.specs.declared.Kind.TheVariants as kinds
-use Rattle.xd_lex.specs.Spelled.{IsSpelling, unescaped}
+use Rattle.xd_lex.specs.Spellings.{IsSpelling}
+use Rattle.xd_lex.specs.Spelled.{unescaped}
 use Rattle.xd_lex.specs.Reading.{IsGap, Reads, blank, broken, comment, end, gap, token}
 use Rattle.xd_lex.specs.Tokens.{Lexeme, past, start, tokens_of}
 use Rattle.xd_lex.proofs.Fronts.{begins_ascii, word_ascii}

@@ -8,7 +8,7 @@ use Rattle.xd_read.specs.Grammar.{Terminal, Text, Label, ParenL, ParenR, Bracket
 use Rattle.xd_auto.specs.declared.auto.State.{State}
 use Rattle.xd_auto.specs.Automaton.{Automaton, moves_at}
 use Rattle.xd_empty.specs.Parts.{leads_on, text_leads_on}
-use Rattle.xd_stream.specs.Stop.{BeginsAccepted}
+use Rattle.xd_stream.specs.StopByState.{BeginsAccepted}
 use Rattle.xd_stream.specs.declared.expected.Expected.{Expected}
 use Rattle.xd_stream.specs.declared.pairs.Pair.{Pair}
 

@@ -6,7 +6,8 @@ use Rattle.xd_read.specs.Grammar.{Terminal, Label, BracketR}
 use Rattle.xd_auto.specs.declared.auto.State.{State}
 use Rattle.xd_auto.specs.Automaton.{Automaton}
 use Rattle.xd_read.specs.Reading.{terminals_of}
-use Rattle.xd_stream.specs.Stop.{BeginsAccepted, IsAccepted, StopsMalformed, StopsOutside, stream_tokens, tokens_at}
+use Rattle.xd_stream.specs.StopByState.{BeginsAccepted, IsAccepted}
+use Rattle.xd_stream.specs.Stop.{StopsMalformed, StopsOutside, stream_tokens, tokens_at}
 use Rattle.xd_stream.specs.declared.error.StreamError.{StreamError}
 use Rattle.xd_stream.specs.declared.error.StreamError.TheVariants.{Malformed, Outside, NoMemory}
 

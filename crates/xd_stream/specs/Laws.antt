@@ -4,7 +4,7 @@ use Rattle.xd_doc.specs.Document.{Document, is_proper}
 use Rattle.xd_read.specs.Reading.{BytesSpell}
 use Rattle.xd_auto.specs.declared.auto.State.{State}
 use Rattle.xd_auto.specs.Automaton.{Automaton}
-use Rattle.xd_stream.specs.Stop.{SpellsAccepted}
+use Rattle.xd_stream.specs.StopByState.{SpellsAccepted}
 use Rattle.xd_stream.specs.Fed.{IsStop, StopsAs}
 use Rattle.xd_stream.specs.declared.error.StreamError.{StreamError}
 

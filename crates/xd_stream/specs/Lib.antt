@@ -1,4 +1,5 @@
 pub mod Stop
+pub mod StopByState
 pub mod Fed
 pub mod Positions
 pub mod Pairs

@@ -2,15 +2,13 @@
 use Rattle.std.specs.Prelude.{◌≡◌, ◌⊎◌, ℕ, ◌-◌, ◌^◌, ◌==◌, min, Bool, true, false, cond, List, [], ◌∷◌, ◌++◌, length, take, map}
 use Rattle.std.specs.Str.Lossy.{utf8_valid_len}
 use Rattle.xd_base.specs.declared.Place.{Place}
-use Rattle.xd_doc.specs.Document.{Document, is_proper}
+use Rattle.xd_doc.specs.Document.{Document}
 use Rattle.xd_lex.specs.declared.Kind.{Kind}
 use Rattle.xd_lex.specs.declared.Kind.TheVariants as kinds
 use Rattle.xd_lex.specs.declared.LexFault.TheVariants.{BadCharacter, OpenText, OpenComment}
 use Rattle.xd_lex.specs.Tokens.{Lexeme, past, start, tokens_from}
 use Rattle.xd_read.specs.Grammar.{Terminal, Spells, Begins}
 use Rattle.xd_read.specs.Reading.{BytesSpell, terminals_of}
-use Rattle.xd_auto.specs.declared.auto.State.{State}
-use Rattle.xd_auto.specs.Automaton.{Automaton, accepts}
 
 -- the longest front of the bytes that is UTF-8
 abbrev pub text_front : List ℕ → List ℕ
@@ -78,13 +76,3 @@ pub record SpellsOneOf (In : Document → Type 0) (bytes : List ℕ) : Type 0 wh
   pub within : In document
 
 -- ---- the documents that a state accepts
-
-pub record IsAccepted (a : Automaton) (s : State) (d : Document) : Type 0 where
-  pub proper : is_proper d ≡ true
-  pub accepted : accepts a d s ≡ true
-
-abbrev pub BeginsAccepted : Automaton → State → List Terminal → Type 0
-BeginsAccepted a s ts = BeginsOneOf (IsAccepted a s) ts
-
-abbrev pub SpellsAccepted : Automaton → State → List ℕ → Type 0
-SpellsAccepted a s bytes = SpellsOneOf (IsAccepted a s) bytes

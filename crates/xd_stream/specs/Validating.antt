@@ -6,7 +6,7 @@ use Rattle.xd_empty.specs.Parts.{AreMarks, is_marked}
 use Rattle.xd_doc.specs.Document.{Document, is_proper}
 use Rattle.xd_read.specs.Grammar.{Terminal, End, Spells, Begins}
 use Rattle.std.specs.List.{list_any}
-use Rattle.xd_stream.specs.Stop.{BeginsAccepted}
+use Rattle.xd_stream.specs.StopByState.{BeginsAccepted}
 use Rattle.xd_stream.specs.Positions.{takes_close, takes_comma, takes_item, takes_paren_r, takes_parens}
 use Rattle.xd_stream.specs.Expecting.{pair_goes_by_label, pair_goes_by_text}
 use Rattle.xd_stream.specs.Fed.{open_elements}

@@ -6,7 +6,7 @@ ghost use Rattle.xd_lex.specs.Scan.{is_blank, is_escape};
 ghost use Rattle.xd_lex.specs.Tokens.{Lexeme};
 ghost use Rattle.xd_read.specs.Grammar.{ParenL, Other};
 ghost use Rattle.xd_read.specs.Reading.{terminals_of};
-ghost use Rattle.xd_stream.specs.Stop.{SpellsAccepted};
+ghost use Rattle.xd_stream.specs.StopByState.{SpellsAccepted};
 ghost use Rattle.xd_stream.specs.Fed.{AreWhole};
 ghost use Rattle.xd_stream.specs.Expecting.{IsExpected};
 ghost use Rattle.xd_stream.specs.Errors.{error_at};

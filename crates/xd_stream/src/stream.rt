@@ -4,7 +4,7 @@ ghost use Rattle.std.specs.Prelude.{◌≡◌, ◌++◌, ◌⊎◌, ◌+◌, ◌
 ghost use Rattle.xd_auto.specs.Automaton.{IsState};
 ghost use Rattle.xd_lex.specs.Tokens.{Lexeme};
 ghost use Rattle.xd_read.specs.Reading.{terminals_of};
-ghost use Rattle.xd_stream.specs.Stop.{SpellsAccepted};
+ghost use Rattle.xd_stream.specs.StopByState.{SpellsAccepted};
 ghost use Rattle.xd_stream.specs.Fed.{AreBehindWhole, AreStopped, AreWhole, GoesSettled, StopsAs, open_elements};
 ghost use Rattle.xd_stream.specs.Expecting.{IsExpected};
 ghost use Rattle.xd_stream.specs.Streams.{StandsFor, automaton_of, err_of, start_of};

@@ -5,8 +5,10 @@ use Rattle.std.proofs.Math.ListN.{get_or-append}
 use Rattle.std.proofs.Math.Seq.{get_or-append_seam}
 use Rattle.xd_base.specs.declared.Place.{Place}
 use Rattle.xd_syntax.specs.Table.{Row}
-use Rattle.xd_syntax.specs.Placed.{PlacedTree, placed_at, the_start}
-use Rattle.xd_syntax.specs.Expression.{Expression, Nothing, Tagged, Called, ExprRow, ExprShape, empty_shape, text_shape, var_shape, elem_shape, seq_shape, call_shape, match_shape, joined, arguments_of, clauses_of, shape_expression, expression_in, expressions_after, expression_at, IsJoinedPart, ExprCanFollow, ExprsAreBuiltAfter, ExprsAreBuilt, ExprPartsBelow, ShapePatternsBelong, PatternsBelong}
+use Rattle.xd_syntax.specs.Placed.{PlacedTree}
+use Rattle.xd_syntax.specs.PlacedTable.{placed_at, the_start}
+use Rattle.xd_syntax.specs.Expression.{Expression, Nothing, Tagged, Called, joined, arguments_of}
+use Rattle.xd_syntax.specs.ExpressionTable.{ExprRow, ExprShape, empty_shape, text_shape, var_shape, elem_shape, seq_shape, call_shape, match_shape, clauses_of, shape_expression, expression_in, expressions_after, expression_at, IsJoinedPart, ExprCanFollow, ExprsAreBuiltAfter, ExprsAreBuilt, ExprPartsBelow, ShapePatternsBelong, PatternsBelong}
 
 joined_parts_below : (rs : List ExprRow) (is : List ℕ) → AllByRecursion (IsJoinedPart rs) is → AllByRecursion (λ i. i < length rs) is
 joined_parts_below rs [] a = tt

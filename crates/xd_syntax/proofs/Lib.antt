@@ -10,5 +10,5 @@ pub mod Members
 pub mod NodeParts
 pub mod SameClass
 pub mod Words
-pub mod Sorting
+pub mod OrderedLemmas
 pub mod Ranks

@@ -4,7 +4,7 @@ use Rattle.std.specs.List.{AllByRecursion}
 use Rattle.std.proofs.lemmas.List.{get_or_default}
 use Rattle.xd_base.specs.declared.Place.{Place}
 use Rattle.xd_syntax.specs.Table.{Row, Form, empty_form, text_form, words_form, name_form, elem_form, seq_form, alt_form, star_form, plus_form, opt_form, val_form, PartsBelow}
-use Rattle.xd_syntax.specs.Placed.{the_start, placed_at, placed_form}
+use Rattle.xd_syntax.specs.PlacedTable.{the_start, placed_at, placed_form}
 use Rattle.xd_syntax.specs.Nodes.{form_parts, view_form, IsNode, parts_of}
 use Rattle.xd_syntax.specs.declared.nodes.FormView.{FormView}
 

@@ -4,8 +4,10 @@ use Rattle.std.specs.List.{AllByRecursion}
 use Rattle.std.proofs.Math.ListN.{get_or-append}
 use Rattle.std.proofs.Math.Seq.{get_or-append_seam}
 use Rattle.xd_base.specs.declared.Place.{Place}
-use Rattle.xd_syntax.specs.Tree.{Tree, Seq, Alt, Elem, Star, Plus, Opt, Val, seq_of, alt_of}
-use Rattle.xd_syntax.specs.Placed.{PlacedTree, Empty_at, Elem_at, Star_at, Plus_at, Opt_at, Val_at, placed_seq, placed_alt, placed_form, placed_in, placed_after, placed_at, the_start, unplaced, place_of}
+use Rattle.xd_syntax.specs.Tree.{Tree, Seq, Alt, Elem, Star, Plus, Opt, Val, seq_of}
+use Rattle.xd_syntax.specs.TreeForms.{alt_of}
+use Rattle.xd_syntax.specs.Placed.{PlacedTree, Empty_at, Elem_at, Star_at, Plus_at, Opt_at, Val_at, placed_seq, placed_alt, unplaced, place_of}
+use Rattle.xd_syntax.specs.PlacedTable.{placed_form, placed_in, placed_after, placed_at, the_start}
 use Rattle.xd_syntax.specs.Table.{Row, Form, empty_form, text_form, words_form, name_form, elem_form, seq_form, alt_form, star_form, plus_form, opt_form, val_form, form_tree, tree_in, trees_after, tree_at, AreBuiltAfter, AreBuilt, PartsBelow}
 use Rattle.xd_syntax.proofs.Trees.{parts_below}
 

@@ -3,12 +3,15 @@ use Rattle.std.proofs.Common.{◌≡◌, ℕ, zero, suc, ◌<◌, arith, Bool, t
 use Rattle.std.specs.List.{AllByRecursion}
 use Rattle.xd_base.specs.declared.Place.{Place}
 use Rattle.xd_doc.specs.Word.{is_word}
-use Rattle.xd_syntax.specs.Tree.{Tree, seq_of, alt_of}
+use Rattle.xd_syntax.specs.Tree.{Tree, seq_of}
+use Rattle.xd_syntax.specs.TreeForms.{alt_of}
 use Rattle.xd_syntax.specs.Table.{Form, empty_form, text_form, words_form, name_form, elem_form, seq_form, alt_form, star_form, plus_form, opt_form, val_form, Row, form_tree, tree_at, CanFollow, PartsBelow}
 use Rattle.xd_syntax.specs.Types.{BelongsTo}
 use Rattle.xd_syntax.specs.Nodes.{no_row}
-use Rattle.xd_syntax.specs.Placed.{PlacedTree, unplaced, placed_at, the_start}
-use Rattle.xd_syntax.specs.Expression.{Expression, ExprShape, empty_shape, text_shape, var_shape, elem_shape, seq_shape, call_shape, match_shape, ExprRow, place_of_expression, joined, arguments_of, clauses_of, shape_expression, expression_at, ExprPartsBelow, ShapePatternsBelong, PatternsBelong}
+use Rattle.xd_syntax.specs.Placed.{PlacedTree, unplaced}
+use Rattle.xd_syntax.specs.PlacedTable.{placed_at, the_start}
+use Rattle.xd_syntax.specs.Expression.{Expression, place_of_expression, joined, arguments_of}
+use Rattle.xd_syntax.specs.ExpressionTable.{ExprShape, empty_shape, text_shape, var_shape, elem_shape, seq_shape, call_shape, match_shape, ExprRow, clauses_of, shape_expression, expression_at, ExprPartsBelow, ShapePatternsBelong, PatternsBelong}
 use Rattle.xd_syntax.specs.FunctionRow.{FunctionRow, HasProperNames}
 use Rattle.xd_syntax.specs.Proper.{IsProperTree, IsProperPattern, IsProperExpression, AreProperArguments, AreProperClauses, IsProperDefinition, IsProperParameter, IsProperFunction, IsProperProgram}
 use Rattle.xd_syntax.specs.ProperTables.{IsProperForm, IsProperShape, IsTable, IsExprTable}

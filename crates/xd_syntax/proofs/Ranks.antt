@@ -10,7 +10,7 @@ use Rattle.std.proofs.lemmas.Bool.Decides.{nat_tests}
 use Rattle.xd_base.specs.declared.Place.{Place}
 use Rattle.xd_syntax.specs.Order.{number_of, precedes, comes_before, put_in, ordered_after, in_order}
 use Rattle.xd_syntax.specs.declared.fault.Fault.{Fault}
-use Rattle.xd_syntax.proofs.Sorting.{put_all_sorted}
+use Rattle.xd_syntax.proofs.OrderedLemmas.{put_all_sorted}
 
 abbrev pub place_cmp : Place → Place → Ordering
 place_cmp p q = ordering_then (nat_cmp p.line q.line) (nat_cmp p.column q.column)

@@ -4,7 +4,8 @@ use Rattle.xd_base.specs.declared.Place.{Place}
 use Rattle.xd_syntax.specs.Tree.{Tree}
 use Rattle.xd_syntax.specs.TypeText.{depth}
 use Rattle.xd_syntax.specs.Table.{Row, Form, KeepsRows, tree_at, form_tree}
-use Rattle.xd_syntax.specs.Shallow.{AddsWithin, AddsOne, nesting_limit, IsShallow}
+use Rattle.xd_syntax.specs.ShallowTables.{AddsWithin, AddsOne, IsShallow}
+use Rattle.xd_syntax.specs.Shallow.{nesting_limit}
 use Rattle.xd_syntax.specs.declared.types.TypeId.{TypeId}
 use Rattle.xd_syntax.proofs.Trees.{tree_kept, tree_new}
 

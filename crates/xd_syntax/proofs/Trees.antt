@@ -3,7 +3,8 @@ use Rattle.std.proofs.Common.{◌≡◌, ℕ, zero, suc, ◌+◌, ◌<◌, arith
 use Rattle.std.specs.List.{AllByRecursion}
 use Rattle.std.proofs.Math.ListN.{get_or-append}
 use Rattle.std.proofs.Math.Seq.{get_or-append_seam}
-use Rattle.xd_syntax.specs.Tree.{Tree, Empty, Elem, Star, Plus, Opt, Val, seq_of, alt_of}
+use Rattle.xd_syntax.specs.Tree.{Tree, Empty, Elem, Star, Plus, Opt, Val, seq_of}
+use Rattle.xd_syntax.specs.TreeForms.{alt_of}
 use Rattle.xd_syntax.specs.Table.{Row, Form, empty_form, text_form, words_form, name_form, elem_form, seq_form, alt_form, star_form, plus_form, opt_form, val_form, form_tree, tree_in, trees_after, tree_at, IsSeqPart, IsAltPart, CanFollow, AreBuiltAfter, AreBuilt, PartsBelow}
 
 after_append : (ts : List Tree) (rs qs : List Row) → trees_after ts (rs ++ qs) ≡ trees_after (trees_after ts rs) qs

@@ -1,7 +1,8 @@
 -- Expressions as the program keeps them.
 use Rattle.std.specs.Prelude.{ℕ, ◌<◌, List, map, length}
 use Rattle.xd_syntax.specs.Table.{Row}
-use Rattle.xd_syntax.specs.Expression.{Expression, ExprRow, ExprShape, empty_shape, text_shape, var_shape, elem_shape, seq_shape, call_shape, match_shape, expression_at}
+use Rattle.xd_syntax.specs.Expression.{Expression}
+use Rattle.xd_syntax.specs.ExpressionTable.{ExprRow, ExprShape, empty_shape, text_shape, var_shape, elem_shape, seq_shape, call_shape, match_shape, expression_at}
 use Rattle.xd_syntax.specs.declared.exprs.ExprId.{ExprId}
 use Rattle.xd_syntax.specs.declared.exprs.Clause.{Clause}
 use Rattle.xd_syntax.specs.declared.exprs.ExprForm.{ExprForm}

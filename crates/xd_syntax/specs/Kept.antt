@@ -2,11 +2,12 @@
 use Rattle.std.specs.Prelude.{◌≡◌, true, false, List, map, length}
 use Rattle.std.specs.List.{AllByRecursion}
 use Rattle.xd_doc.specs.Word.{is_word}
-use Rattle.xd_syntax.specs.Words.{has_word, keywords}
+use Rattle.xd_syntax.specs.Words.{has_word}
+use Rattle.xd_syntax.specs.Keywords.{keywords}
 use Rattle.xd_syntax.specs.Table.{Row, KeepsRows}
 use Rattle.xd_syntax.specs.Types.{BelongsTo}
-use Rattle.xd_syntax.specs.Placed.{placed_at}
-use Rattle.xd_syntax.specs.Expression.{ExprRow, PatternsBelong}
+use Rattle.xd_syntax.specs.PlacedTable.{placed_at}
+use Rattle.xd_syntax.specs.ExpressionTable.{ExprRow, PatternsBelong}
 use Rattle.xd_syntax.specs.Exprs.{IsExpr, expression}
 use Rattle.xd_syntax.specs.Program.{TypeDefinition, Parameter, FunctionDefinition, ProgramTree}
 use Rattle.xd_syntax.specs.ProperTables.{IsTable, IsExprTable}

@@ -1,16 +1,21 @@
 pub mod Words
+pub mod Keywords
 pub mod Tree
+pub mod TreeForms
 pub mod Fits
 pub mod Table
 pub mod Types
 pub mod Placed
+pub mod PlacedTable
 pub mod Expression
+pub mod ExpressionTable
 pub mod Program
 pub mod Proper
 pub mod ProperTables
 pub mod Ways
 pub mod TypeText
 pub mod Shallow
+pub mod ShallowTables
 pub mod Order
 pub mod NameFaults
 pub mod RecursionFaults
@@ -23,3 +28,4 @@ pub mod Exprs
 pub mod FunctionRow
 pub mod Kept
 pub mod Sound
+pub mod SoundTables

@@ -2,7 +2,7 @@
 use Rattle.std.specs.Prelude.{◌≡◌, ℕ, Bool, List, [], ◌∷◌, map, get_or, take}
 use Rattle.xd_base.specs.declared.Place.{Place}
 use Rattle.xd_syntax.specs.Table.{Row, Form, empty_form, text_form, words_form, name_form, elem_form, seq_form, alt_form, star_form, plus_form, opt_form, val_form, form_tree, tree_at, PartsBelow, CanFollow}
-use Rattle.xd_syntax.specs.Placed.{placed_at, placed_form, the_start}
+use Rattle.xd_syntax.specs.PlacedTable.{placed_at, placed_form, the_start}
 use Rattle.xd_syntax.specs.declared.nodes.FormView.{FormView}
 use Rattle.xd_syntax.specs.declared.nodes.FormView.TheVariants.{Empty, Text, Words, Name, Elem, Seq, Alt, Star, Plus, Opt, Val}
 

@@ -4,7 +4,7 @@ use Rattle.std.specs.Prelude.{◌≡◌, Bool, true, false}
 use Rattle.std.specs.Str.{is_utf8}
 use Rattle.std.specs.List.{AllByRecursion}
 use Rattle.xd_doc.specs.Word.{is_word}
-use Rattle.xd_doc.specs.Classes.{IsClass, IsTextClass}
+use Rattle.xd_doc.specs.ClassForms.{IsClass, IsTextClass}
 use Rattle.xd_syntax.specs.Tree.{Tree, Words, Name, Elem, Seq, Alt, Star, Plus, Opt, Val}
 use Rattle.xd_syntax.specs.Placed.{PlacedTree, unplaced}
 use Rattle.xd_syntax.specs.Expression.{Expression, Nothing, Quoted, Variable, Tagged, Joined, Called, Matched, Arguments, no_argument, argument, Clauses, no_clause, clause}

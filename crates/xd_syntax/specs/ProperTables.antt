@@ -4,9 +4,9 @@ use Rattle.std.specs.Prelude.{◌≡◌, Bool, true, List}
 use Rattle.std.specs.Str.{is_utf8}
 use Rattle.std.specs.List.{AllByRecursion}
 use Rattle.xd_doc.specs.Word.{is_word}
-use Rattle.xd_doc.specs.Classes.{IsClass, IsTextClass}
+use Rattle.xd_doc.specs.ClassForms.{IsClass, IsTextClass}
 use Rattle.xd_syntax.specs.Table.{Form, words_form, name_form, elem_form, val_form, Row, AreBuilt}
-use Rattle.xd_syntax.specs.Expression.{ExprShape, text_shape, var_shape, elem_shape, call_shape, ExprRow, ExprsAreBuilt}
+use Rattle.xd_syntax.specs.ExpressionTable.{ExprShape, text_shape, var_shape, elem_shape, call_shape, ExprRow, ExprsAreBuilt}
 
 abbrev pub IsProperForm : Form → Type 0
 IsProperForm (name_form w) = is_word w ≡ true

@@ -3,8 +3,9 @@ use Rattle.std.specs.Prelude.{◌≡◌, ℕ, ◌<◌, ◌≤◌, Bool, true, fa
 use Rattle.std.specs.List.{AllByRecursion}
 use Rattle.xd_base.specs.declared.Place.{Place}
 use Rattle.xd_doc.specs.Classes.{LabelClass, TextClass}
-use Rattle.xd_syntax.specs.Words.{is_type_name}
-use Rattle.xd_syntax.specs.Tree.{Tree, Empty, Text, Words, Name, Elem, Star, Plus, Opt, Val, seq_of, alt_of, is_empty, is_seq, is_alt}
+use Rattle.xd_syntax.specs.Keywords.{is_type_name}
+use Rattle.xd_syntax.specs.Tree.{Tree, Empty, Text, Words, Name, Elem, Star, Plus, Opt, Val, seq_of, is_empty}
+use Rattle.xd_syntax.specs.TreeForms.{alt_of, is_seq, is_alt}
 
 -- what a node of a type or a pattern is; its parts are numbers of nodes
 pub data Form : Type 0 where

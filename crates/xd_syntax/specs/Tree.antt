@@ -61,36 +61,12 @@ uses_only known (Opt T) = uses_only known T
 uses_only known (Val x T) = uses_only known T
 uses_only known _ = true
 
--- how many nodes the tree has
-abbrev pub size : Tree → ℕ
-size (Elem c T) = size T + 1
-size (Seq T U) = size T + size U + 1
-size (Alt T U) = size T + size U + 1
-size (Star T) = size T + 1
-size (Plus T) = size T + 1
-size (Opt T) = size T + 1
-size (Val x T) = size T + 1
-size _ = 1
-
 -- the sequence and the alternative of a list of parts
 abbrev pub seq_of : List Tree → Tree
 seq_of [] = Empty
 seq_of (t ∷ []) = t
 seq_of (t ∷ (u ∷ us)) = Seq t (seq_of (u ∷ us))
 
-abbrev pub alt_of : List Tree → Tree
-alt_of [] = Empty
-alt_of (t ∷ []) = t
-alt_of (t ∷ (u ∷ us)) = Alt t (alt_of (u ∷ us))
-
 abbrev pub is_empty : Tree → Bool
 is_empty Empty = true
 is_empty _ = false
-
-abbrev pub is_seq : Tree → Bool
-is_seq (Seq T U) = true
-is_seq _ = false
-
-abbrev pub is_alt : Tree → Bool
-is_alt (Alt T U) = true
-is_alt _ = false

@@ -1,5 +1,5 @@
 -- Words with a meaning of their own.
-use Rattle.std.specs.Prelude.{ℕ, Bool, false, ◌&&◌, ◌||◌, not, List, [], ◌∷◌, codes}
+use Rattle.std.specs.Prelude.{ℕ, Bool, false, ◌||◌, List, [], ◌∷◌, codes}
 use Rattle.std.specs.Str.{bytes_eq}
 
 -- a word is one of these
@@ -15,10 +15,3 @@ string_word = codes "String"
 
 abbrev pub main_word : List ℕ
 main_word = codes "main"
-
-abbrev pub keywords : List (List ℕ)
-keywords = codes "type" ∷ codes "fun" ∷ codes "val" ∷ codes "as" ∷ codes "match" ∷ codes "with" ∷ []
-
--- a word that may name a type: no keyword, and not `String`
-abbrev pub is_type_name : List ℕ → Bool
-is_type_name w = not (has_word keywords w) && not (bytes_eq string_word w)

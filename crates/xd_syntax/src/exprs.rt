@@ -2,8 +2,8 @@
 
 ghost use Rattle.std.specs.Prelude.{◌≡◌, ◌++◌, ◌∷◌, [], ℕ, List, length, take, IfOk, OnErr};
 ghost use Rattle.xd_syntax.specs.Table.{Row};
-ghost use Rattle.xd_syntax.specs.Placed.{placed_at};
-ghost use Rattle.xd_syntax.specs.Expression.{KeepsExprs, ExprCanFollow, ExprPartsBelow, PatternsBelong, ShapePatternsBelong, expression_at, shape_at, shape_expression};
+ghost use Rattle.xd_syntax.specs.PlacedTable.{placed_at};
+ghost use Rattle.xd_syntax.specs.ExpressionTable.{KeepsExprs, ExprCanFollow, ExprPartsBelow, PatternsBelong, ShapePatternsBelong, expression_at, shape_at, shape_expression};
 ghost use Rattle.xd_syntax.specs.ProperTables.{IsProperShape, IsExprTable};
 ghost use Rattle.xd_syntax.specs.Exprs.{IsExpr, shape_of, expression};
 
@@ -54,7 +54,7 @@ pub struct ExprNode {
 }
 
 impl Model for ExprNode {
-    ghost use Rattle.xd_syntax.specs.Expression.{ExprRow};
+    ghost use Rattle.xd_syntax.specs.ExpressionTable.{ExprRow};
     ghost use Rattle.xd_syntax.specs.Exprs.{shape_of};
 
     ghost Value = { ExprRow };
@@ -70,7 +70,7 @@ pub struct Exprs {
 
 impl Model for Exprs {
     ghost use Rattle.std.specs.Prelude.{List};
-    ghost use Rattle.xd_syntax.specs.Expression.{ExprRow};
+    ghost use Rattle.xd_syntax.specs.ExpressionTable.{ExprRow};
     ghost use Rattle.xd_syntax.specs.ProperTables.{IsExprTable};
 
     ghost Value = { List ExprRow };

@@ -1,7 +1,7 @@
 //! Patterns: nodes in a table.
 
 ghost use Rattle.std.specs.Prelude.{◌≡◌, ◌+◌, ◌++◌, ◌∷◌, [], true, length, take, slice_index_or, IfOk, OnErr};
-ghost use Rattle.xd_syntax.specs.Placed.{placed_at, placed_form};
+ghost use Rattle.xd_syntax.specs.PlacedTable.{placed_at, placed_form};
 ghost use Rattle.xd_syntax.specs.Table.{KeepsRows, CanFollow, PartsBelow, form_tree, tree_at};
 ghost use Rattle.xd_syntax.specs.ProperTables.{IsProperForm, IsTable};
 ghost use Rattle.xd_syntax.specs.Patterns.{IsPattern, form_of_pattern, pattern_tree};

@@ -8,8 +8,8 @@ ghost use Rattle.xd_syntax.specs.Types.{form_of};
 ghost use Rattle.xd_syntax.specs.Kept.{ProgramTable, ProgramStands, AddsTypes, program_tree};
 ghost use Rattle.xd_syntax.specs.FunctionRow.{HasProperNames};
 ghost use Rattle.xd_syntax.specs.Proper.{IsProperProgram};
-ghost use Rattle.xd_syntax.specs.Sound.{IsTypeAt};
-ghost use Rattle.xd_syntax.specs.Shallow.{AddsOne};
+ghost use Rattle.xd_syntax.specs.SoundTables.{IsTypeAt};
+ghost use Rattle.xd_syntax.specs.ShallowTables.{AddsOne};
 
 use crate::copies::{Copied, copied_rows};
 use crate::exprs::{ExprId, Exprs};

@@ -1,7 +1,7 @@
 //! Types: nodes in a table.
 
 ghost use Rattle.std.specs.Prelude.{◌≡◌, ◌+◌, ◌^◌, ◌<◌, ◌++◌, ◌∷◌, [], false, length, take, slice_index_or, IfOk, OnOk, OnErr};
-ghost use Rattle.xd_syntax.specs.Placed.{placed_at, placed_form};
+ghost use Rattle.xd_syntax.specs.PlacedTable.{placed_at, placed_form};
 ghost use Rattle.xd_syntax.specs.Table.{KeepsRows, CanFollow, PartsBelow, form_tree, tree_at};
 ghost use Rattle.xd_syntax.specs.ProperTables.{IsProperForm, IsTable};
 ghost use Rattle.xd_syntax.specs.Types.{BelongsTo, form_of, tree};

@@ -9,13 +9,15 @@ use Rattle.std.proofs.lemmas.Bool.Decides.{nat_tests}
 use Rattle.std.proofs.lemmas.Slice.Eq.{bytes_eq-Decides}
 use Rattle.xd_base.specs.declared.Place.{Place}
 use Rattle.xd_doc.specs.Word.{is_word, is_word_start, are_word_parts}
-use Rattle.xd_doc.specs.Classes.{NameClass, IsClass, IsTextClass}
+use Rattle.xd_doc.specs.Classes.{NameClass}
+use Rattle.xd_doc.specs.ClassForms.{IsClass, IsTextClass}
 use Rattle.xd_lex.specs.declared.Kind.TheVariants as kinds
 use Rattle.xd_lex.specs.Tokens.{past}
 use Rattle.xd_lex.proofs.Canonical.{tokens-quoted, tokens-label}
 use Rattle.xd_lex.proofs.Escapes.{unescaped-escaped}
 use Rattle.xd_lex.proofs.Symbols.{EndsWord, a_word, paren_l, paren_r, bracket_l, bracket_r, bar, tilde, caret}
-use Rattle.xd_syntax.specs.Words.{has_word, keywords, string_word, is_type_name}
+use Rattle.xd_syntax.specs.Words.{has_word, string_word}
+use Rattle.xd_syntax.specs.Keywords.{keywords, is_type_name}
 use Rattle.xd_syntax.specs.Tree.{Tree, Empty, Text, Words, Name, Elem}
 use Rattle.xd_syntax.specs.TypeText.{quoted, barred, labels_text, excepted_text, list_depth}
 use Rattle.xd_syntax.specs.Placed.{PlacedTree, unplaced, Text_at, Words_at, Name_at, Elem_at, Empty_at}
@@ -27,10 +29,10 @@ use Rattle.xd_grammar.specs.declared.grammar.Terminal.{Terminal}
 use Rattle.xd_grammar.specs.declared.grammar.Terminal.TheVariants as t
 use Rattle.xd_grammar.specs.Grammar.{rules, IsOneOf}
 use Rattle.xd_grammar.specs.Text.{word_terminal}
-use Rattle.xd_trees.specs.Merged.{class_of}
-use Rattle.xd_trees.specs.Values.{quoted as a_quoted, mark, a_tree, names, texts, labels, class, labelled, token_of, any_word_value, named}
-use Rattle.xd_trees.proofs.ByteOrder.{class_made}
-use Rattle.xd_type_laws.proofs.Building.{Reads, read_end, read_token, read_opening, read_closed, read_alone, read_then, read_unless, same_bytes, starts_token}
+use Rattle.xd_parse_trees.specs.Merged.{class_of}
+use Rattle.xd_parse_trees.specs.Values.{quoted as a_quoted, mark, a_tree, names, texts, labels, class, labelled, token_of, any_word_value, named}
+use Rattle.xd_parse_trees.proofs.ByteOrder.{class_made}
+use Rattle.xd_type_laws.proofs.RowsReadLemmas.{Reads, read_end, read_token, read_opening, read_closed, read_alone, read_then, read_unless, same_bytes, starts_token}
 use Rattle.xd_type_laws.proofs.Levels.{Spells, prim, alt, behind_prim, behind_any}
 
 -- ---- names

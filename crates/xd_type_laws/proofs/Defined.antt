@@ -11,13 +11,15 @@ use Rattle.xd_lex.proofs.Canonical.{token_front}
 use Rattle.xd_lex.proofs.Symbols.{IsToken, EndsWord, a_word}
 use Rattle.xd_read.proofs.CanonicalLemmas.{cons_ascii, word_utf8}
 use Rattle.xd_doc.specs.Word.{is_word}
-use Rattle.xd_syntax.specs.Words.{has_word, keywords}
+use Rattle.xd_syntax.specs.Words.{has_word}
+use Rattle.xd_syntax.specs.Keywords.{keywords}
 use Rattle.xd_syntax.specs.Tree.{Tree, Definitions}
 use Rattle.xd_syntax.specs.Table.{Row as TreeRow}
 use Rattle.xd_syntax.specs.declared.types.TypeDef.{TypeDef}
 use Rattle.xd_syntax.specs.Proper.{IsProperTree}
 use Rattle.xd_syntax.proofs.PlacedTrees.{unplaced_at}
-use Rattle.xd_syntax.specs.Placed.{PlacedTree, unplaced, placed_at}
+use Rattle.xd_syntax.specs.Placed.{PlacedTree, unplaced}
+use Rattle.xd_syntax.specs.PlacedTable.{placed_at}
 use Rattle.xd_syntax.specs.Program.{TypeDefinition, ProgramTree}
 use Rattle.xd_syntax.specs.Kept.{TypeDefStands, type_definition, program_tree}
 use Rattle.xd_syntax.specs.ProperTables.{IsTable}
@@ -28,10 +30,10 @@ use Rattle.xd_grammar.specs.declared.grammar.Nonterminal.TheVariants as n
 use Rattle.xd_grammar.specs.declared.grammar.Symbol.TheVariants.{Token, Part}
 use Rattle.xd_grammar.specs.declared.grammar.Terminal.TheVariants as t
 use Rattle.xd_grammar.specs.Grammar.{Row, end}
-use Rattle.xd_trees.specs.Values.{Value, mark, word, a_tree, definitions, with_type}
+use Rattle.xd_parse_trees.specs.Values.{Value, mark, word, a_tree, definitions, with_type}
 use Rattle.xd_parse.proofs.Spelled.{MeansAt, ends_at, token_at, part_at, levels_aside}
-use Rattle.xd_type_laws.specs.ReadsBack.{IsMerged, IsDefinition, DefinitionsReadBack, KeptDefinitionsReadBack}
-use Rattle.xd_type_laws.proofs.Building.{Reads, rows_joined, read_token, derived, Starts}
+use Rattle.xd_type_laws.specs.ReadBackLaws.{IsMerged, IsDefinition, DefinitionsReadBack, KeptDefinitionsReadBack}
+use Rattle.xd_type_laws.proofs.RowsReadLemmas.{Reads, rows_joined, read_token, derived, Starts}
 use Rattle.xd_type_laws.proofs.Levels.{alt, behind_any, Follows}
 use Rattle.xd_type_laws.proofs.Classes.{plain_word}
 use Rattle.xd_type_laws.proofs.Utf8.{text_utf8}

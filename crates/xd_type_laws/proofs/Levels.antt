@@ -7,7 +7,8 @@ use Rattle.xd_lex.specs.declared.Kind.{Kind}
 use Rattle.xd_lex.specs.declared.Kind.TheVariants as kinds
 use Rattle.xd_lex.specs.Tokens.{past}
 use Rattle.xd_lex.proofs.Symbols.{IsToken, EndsWord, paren_l, paren_r, comma, bar, star, plus, query}
-use Rattle.xd_syntax.specs.Tree.{Tree, Empty, Seq, Alt, Star, Plus, Opt, seq_of, alt_of, is_empty, is_seq, is_alt}
+use Rattle.xd_syntax.specs.Tree.{Tree, Empty, Seq, Alt, Star, Plus, Opt, seq_of, is_empty}
+use Rattle.xd_syntax.specs.TreeForms.{alt_of, is_seq, is_alt}
 use Rattle.xd_syntax.specs.Placed.{PlacedTree, unplaced, place_of, placed_seq, placed_alt}
 use Rattle.xd_syntax.specs.Placed as placed
 use Rattle.xd_grammar.specs.declared.grammar.Nonterminal.{Nonterminal}
@@ -17,11 +18,11 @@ use Rattle.xd_grammar.specs.declared.grammar.Symbol.TheVariants.{Token, Opening,
 use Rattle.xd_grammar.specs.declared.grammar.Terminal.{Terminal}
 use Rattle.xd_grammar.specs.declared.grammar.Terminal.TheVariants as t
 use Rattle.xd_grammar.specs.Fits.{same}
-use Rattle.xd_trees.specs.Merged.{parts_of_seq, parts_of_alt, merged_seq, sequence, alternative}
+use Rattle.xd_parse_trees.specs.Merged.{parts_of_seq, parts_of_alt, merged_seq, sequence, alternative}
 use Rattle.xd_grammar.specs.Grammar.{rules, IsOneOf}
 use Rattle.xd_grammar.specs.Text.{terminal_of}
-use Rattle.xd_trees.specs.Values.{Value, absent, a_tree, token_of, trees, value_of}
-use Rattle.xd_type_laws.proofs.Building.{Reads, read_end, read_token, read_opening, read_closed, read_alone, read_then, read_unless, same_bytes, Starts, starts_token}
+use Rattle.xd_parse_trees.specs.Values.{Value, absent, a_tree, token_of, trees, value_of}
+use Rattle.xd_type_laws.proofs.RowsReadLemmas.{Reads, read_end, read_token, read_opening, read_closed, read_alone, read_then, read_unless, same_bytes, Starts, starts_token}
 
 -- ---- what may stand behind
 abbrev pub closes : Terminal → Bool

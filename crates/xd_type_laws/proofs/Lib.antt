@@ -1,4 +1,4 @@
-mod Building
+mod RowsReadLemmas
 mod Levels
 mod Classes
 mod Utf8

@@ -3,8 +3,9 @@ use Rattle.std.proofs.Common.{◌≡◌, ℕ, zero, suc, ◌+◌, ◌<◌, arith
 use Rattle.std.specs.Prelude.{◌||◌}
 use Rattle.std.specs.List.{AllByRecursion}
 use Rattle.std.proofs.lemmas.List.{take-append-drop}
-use Rattle.xd_syntax.specs.Tree.{Tree, seq_of, alt_of, is_empty, is_seq, is_alt}
-use Rattle.xd_syntax.specs.Placed.{the_start}
+use Rattle.xd_syntax.specs.Tree.{Tree, seq_of, is_empty}
+use Rattle.xd_syntax.specs.TreeForms.{alt_of, is_seq, is_alt}
+use Rattle.xd_syntax.specs.PlacedTable.{the_start}
 use Rattle.xd_syntax.specs.Table.{Row, Form, empty_form, text_form, words_form, name_form, elem_form, seq_form, alt_form, star_form, plus_form, opt_form, val_form, form_tree, tree_at, IsSeqPart, IsAltPart, CanFollow, PartsBelow, AreBuilt}
 use Rattle.xd_syntax.proofs.Trees.{tree_kept, tree_is, parts_at, follows_at}
 use Rattle.xd_syntax.proofs.ProperTrees.{tree_proper}
@@ -12,7 +13,7 @@ use Rattle.xd_syntax.proofs.PlacedTrees.{unplaced_at}
 use Rattle.xd_syntax.specs.Proper.{IsProperTree}
 use Rattle.xd_syntax.specs.ProperTables.{IsTable}
 use Rattle.xd_syntax.specs.TypeText.{type_text}
-use Rattle.xd_type_laws.specs.ReadsBack.{IsMerged, NodesReadBack}
+use Rattle.xd_type_laws.specs.ReadBackLaws.{IsMerged, NodesReadBack}
 use Rattle.xd_type_laws.proofs.TheLaw.{types_read_back, one_type}
 
 or_parts : (a b : Bool) → (a || b) ≡ false → (a ≡ false) × (b ≡ false)

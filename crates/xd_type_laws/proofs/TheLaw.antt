@@ -4,7 +4,8 @@ use Rattle.std.specs.Prelude.{codes}
 use Rattle.std.specs.List.{AllByRecursion}
 use Rattle.xd_lex.specs.declared.Kind.TheVariants as kinds
 use Rattle.xd_lex.specs.Tokens.{Lexeme, start, past, tokens_from, tokens_of}
-use Rattle.xd_syntax.specs.Tree.{Tree, Empty, Text, Words, Name, Elem, Seq, Alt, Star, Plus, Opt, Val, seq_of, alt_of, is_empty}
+use Rattle.xd_syntax.specs.Tree.{Tree, Empty, Text, Words, Name, Elem, Seq, Alt, Star, Plus, Opt, Val, seq_of, is_empty}
+use Rattle.xd_syntax.specs.TreeForms.{alt_of}
 use Rattle.xd_syntax.specs.Proper.{IsProperTree}
 use Rattle.xd_syntax.specs.Placed.{PlacedTree, unplaced}
 use Rattle.xd_syntax.specs.TypeText.{any_type_level, sequence_level, postfix_level, primary_level, text_at_level, depth_at_level, type_text, depth}
@@ -15,12 +16,12 @@ use Rattle.xd_grammar.specs.declared.grammar.Symbol.TheVariants.{Token, Part}
 use Rattle.xd_grammar.specs.declared.grammar.Terminal.TheVariants as t
 use Rattle.xd_grammar.specs.Grammar.{end}
 use Rattle.xd_grammar.specs.Text.{SpellsText}
-use Rattle.xd_trees.specs.Means.{MeansAll}
-use Rattle.xd_trees.specs.Values.{mark, a_tree}
+use Rattle.xd_parse_trees.specs.Means.{MeansAll}
+use Rattle.xd_parse_trees.specs.Values.{mark, a_tree}
 use Rattle.xd_parse.proofs.Sure.{type_sure}
 use Rattle.xd_parse.proofs.Spelled.{MeansAt, ends_at, token_at, part_at, levels_aside}
-use Rattle.xd_type_laws.specs.ReadsBack.{IsMerged, TypesReadBack}
-use Rattle.xd_type_laws.proofs.Building.{rows_joined, derived}
+use Rattle.xd_type_laws.specs.ReadBackLaws.{IsMerged, TypesReadBack}
+use Rattle.xd_type_laws.proofs.RowsReadLemmas.{rows_joined, derived}
 use Rattle.xd_type_laws.proofs.Levels.{Spells, SpellsList, Follows, prim, post, seq, alt, behind_prim, behind_post, behind_sequence, behind_any, IsSeqPart, IsAltPart, in_parentheses, nothing, no_operator, with_star, with_plus, with_query, one_part, more_part, one_branch, more_branch, as_sequence, as_alternative, one_sequence, one_alternative}
 use Rattle.xd_type_laws.proofs.Classes.{a_name, all_texts_read, words_spelled, same_class, same_labels, SpellsContent, no_content, a_content, element}
 use Rattle.xd_type_laws.proofs.Utf8.{text_utf8}

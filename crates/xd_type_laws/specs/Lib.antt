@@ -1,2 +1,3 @@
 pub mod DefinitionsText
 pub mod ReadsBack
+pub mod ReadBackLaws

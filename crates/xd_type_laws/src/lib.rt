@@ -1,7 +1,7 @@
 //! That the canonical text of a type reads back, and the text of definitions, as contracts of functions that do nothing.
 #![tactic(auto)]
 
-ghost use Rattle.xd_type_laws.specs.ReadsBack.{TypesReadBack, NodesReadBack, DefinitionsReadBack, KeptDefinitionsReadBack};
+ghost use Rattle.xd_type_laws.specs.ReadBackLaws.{TypesReadBack, NodesReadBack, DefinitionsReadBack, KeptDefinitionsReadBack};
 
 /// The canonical text of a type spells an equal type, however deep it nests; so it is for the nodes of a table.
 pub fn types_read_back()

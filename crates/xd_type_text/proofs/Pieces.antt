@@ -4,7 +4,8 @@ use Rattle.std.specs.List.{AllByRecursion}
 use Rattle.std.specs.Prelude.{codes, ◌==◌}
 use Rattle.std.proofs.lemmas.List.{length-map}
 use Rattle.std.proofs.lemmas.Bool.{eqb-true}
-use Rattle.xd_syntax.specs.Tree.{Tree, Elem, Seq, Alt, Star, Plus, Opt, Val, seq_of, alt_of, is_empty, size}
+use Rattle.xd_syntax.specs.Tree.{Tree, Elem, Seq, Alt, Star, Plus, Opt, Val, seq_of, is_empty}
+use Rattle.xd_syntax.specs.TreeForms.{alt_of, size}
 use Rattle.xd_doc.specs.Classes.{LabelClass}
 use Rattle.xd_syntax.specs.Table.{Row, Form, tree_at, form_tree, CanFollow, PartsBelow}
 use Rattle.xd_syntax.specs.Types.{BelongsTo, tree, type_numbers, form_of}

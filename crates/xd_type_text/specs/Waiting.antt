@@ -1,7 +1,8 @@
 -- What of a type's text is still to be written.
 use Rattle.std.specs.Prelude.{◌≡◌, ℕ, ◌+◌, ◌*◌, ◌<◌, List, [], ◌∷◌, ◌++◌, map}
 use Rattle.std.specs.List.{AllByRecursion}
-use Rattle.xd_syntax.specs.Tree.{Tree, size}
+use Rattle.xd_syntax.specs.Tree.{Tree}
+use Rattle.xd_syntax.specs.TreeForms.{size}
 use Rattle.xd_syntax.specs.Table.{Row}
 use Rattle.xd_syntax.specs.Types.{BelongsTo, tree}
 use Rattle.xd_syntax.specs.TypeText as text

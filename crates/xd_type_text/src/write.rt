@@ -3,7 +3,8 @@
 ghost use Rattle.std.specs.Prelude.{◌≡◌, ◌+◌, ◌*◌, ◌<◌, ◌++◌, ◌∷◌, [], cond, OnOk, OnErr, IfOk};
 ghost use Rattle.std.specs.List.{AllByRecursion};
 ghost use Rattle.xd_syntax.specs.Types.{BelongsTo, tree};
-ghost use Rattle.xd_syntax.specs.Tree.{is_empty, size};
+ghost use Rattle.xd_syntax.specs.Tree.{is_empty};
+ghost use Rattle.xd_syntax.specs.TreeForms.{size};
 ghost use Rattle.xd_syntax.specs.TypeText.{text_at_level, type_text, postfix_wants};
 ghost use Rattle.xd_type_text.specs.declared.level.Level.TheVariants as levels;
 ghost use Rattle.xd_type_text.specs.declared.waiting.Waiting.TheVariants as waits;

@@ -3,11 +3,12 @@
 use anyhow::Result;
 use std::alloc::Global;
 use std::io::Write;
-use xd_chain_documents::fits;
-use xd_chain_proofs::{proved_claim, upgraded};
-use xd_chain_types::compare_texts;
 use xd_doc::Store;
 use xd_inclusion::Inclusion;
+use xd_uses_documents::fits;
+use xd_uses_proofs::{proved_claim, upgraded};
+use xd_uses_types::compare_texts;
+use xd_uses_values::value_of;
 use xd_write::write_document;
 
 /// Notes and tasks.
@@ -33,6 +34,20 @@ right ()
 empty 1
 end
 ";
+
+/// Of persons in a row, the names and telephone numbers of those that have one.
+const TELEPHONES: &str = "type Name = name[String]
+type Addr = addr[String]
+type Tel = tel[String]
+fun main (val x as (Name,Addr,Tel?)*) : (Name,Tel)* =
+  match x with
+    val n as Name, Addr, val t as Tel, val rest -> n, t, main(rest)
+  | Name, Addr, val rest -> main(rest)
+  | () -> ()
+";
+
+/// Two persons, of whom the first has a telephone.
+const PERSONS: &str = "name[\"A\"],addr[\"B\"],tel[\"1\"],name[\"C\"],addr[\"D\"]";
 
 /// Compares types both ways, and says what came.
 pub fn show_comparisons(alloc: Global, out: &mut Vec<u8>) -> Result<()> {
@@ -74,5 +89,13 @@ pub fn show_documents(alloc: Global, out: &mut Vec<u8>) -> Result<()> {
         };
         writeln!(out, "Note on {document}: {answer}")?;
     }
+    Ok(())
+}
+
+/// Says what a program makes of a document.
+pub fn show_values(alloc: Global, out: &mut Vec<u8>) -> Result<()> {
+    let made = value_of(alloc, TELEPHONES, PERSONS, 1000)?;
+    out.write_all(&made.text)?;
+    writeln!(out, " in {} calls", made.calls)?;
     Ok(())
 }

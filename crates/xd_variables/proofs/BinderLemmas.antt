@@ -7,13 +7,14 @@ use Rattle.xd_base.specs.declared.Place.{Place}
 use Rattle.xd_syntax.specs.Words.{has_word}
 use Rattle.xd_syntax.specs.Tree.{occurrences}
 use Rattle.xd_syntax.specs.NameFaults.{without}
-use Rattle.xd_syntax.specs.Placed.{PlacedTree, Empty_at, Text_at, Words_at, Name_at, Elem_at, Seq_at, Alt_at, Star_at, Plus_at, Opt_at, Val_at, place_of, placed_alt, placed_at, placed_form, placed_seq, unplaced}
+use Rattle.xd_syntax.specs.Placed.{PlacedTree, Empty_at, Text_at, Words_at, Name_at, Elem_at, Seq_at, Alt_at, Star_at, Plus_at, Opt_at, Val_at, place_of, placed_alt, placed_seq, unplaced}
+use Rattle.xd_syntax.specs.PlacedTable.{placed_at, placed_form}
 use Rattle.xd_syntax.specs.Matches.{Occurrence, first_occurrences, occurrences_in}
 use Rattle.xd_syntax.specs.Table.{Row}
 use Rattle.xd_syntax.specs.Nodes.{IsNode, form_parts, view_form}
 use Rattle.xd_syntax.specs.declared.nodes.FormView.{FormView}
 use Rattle.xd_syntax.specs.declared.nodes.FormView.TheVariants.{Empty, Text, Words, Name, Elem, Seq, Alt, Star, Plus, Opt, Val}
-use Rattle.xd_laws.specs.Bindings.{each_once, variables_of}
+use Rattle.xd_meaning.specs.Bindings.{each_once, variables_of}
 use Rattle.xd_laws.proofs.Unfoldings.{same_word_eq}
 
 occurrences_in_seq : (p : Place) (ts : List PlacedTree) → occurrences_in (placed_seq p ts) ≡ flat_map occurrences_in ts

@@ -8,7 +8,8 @@ use Rattle.xd_syntax.specs.Expression.{Clauses, Expression}
 use Rattle.xd_syntax.specs.Exprs.{clause_numbers}
 use Rattle.xd_syntax.specs.Kept.{ProgramTable, program_tree}
 use Rattle.xd_syntax.specs.May.{Scope}
-use Rattle.xd_syntax.specs.Placed.{PlacedTree, placed_at, unplaced}
+use Rattle.xd_syntax.specs.Placed.{PlacedTree, unplaced}
+use Rattle.xd_syntax.specs.PlacedTable.{placed_at}
 use Rattle.xd_syntax.specs.Program.{ProgramTree, names_of}
 use Rattle.xd_syntax.specs.Ways.{Takes}
 use Rattle.xd_syntax.specs.declared.exprs.Clause.{Clause}
@@ -16,7 +17,7 @@ use Rattle.xd_clauses.specs.Clauses.{Accepted}
 use Rattle.xd_check.specs.Ready.{ClauseCanBeWalked}
 use Rattle.xd_check.specs.Walked.{ComesBehind, Grows}
 use Rattle.xd_check.proofs.ClauseLoop.{clauses_in}
-use Rattle.xd_check.proofs.Keeping.{grows_none, grows_then}
+use Rattle.xd_check.proofs.GrowsLemmas.{grows_none, grows_then}
 use Rattle.xd_check.proofs.MetClauses.{came, clause_front, passed_live}
 use Rattle.xd_variables.specs.Read.{AddsVariables, IsClauseRead}
 use Rattle.xd_variables.specs.Seen.{Reading, SeenVariable, variables_of_clause, variables_of_clauses}

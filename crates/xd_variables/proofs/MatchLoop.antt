@@ -5,7 +5,8 @@ use Rattle.std.proofs.lemmas.Grind.{flat_map-append}
 use Rattle.std.proofs.lemmas.List.{drop_more}
 use Rattle.xd_base.specs.declared.Place.{Place}
 use Rattle.xd_auto.specs.Automaton.{Automaton}
-use Rattle.xd_syntax.specs.Expression.{Clauses, ExprCanFollow, ExprRow, Expression, Matched, joined, shape_expression}
+use Rattle.xd_syntax.specs.Expression.{Clauses, Expression, Matched, joined}
+use Rattle.xd_syntax.specs.ExpressionTable.{ExprCanFollow, ExprRow, shape_expression}
 use Rattle.xd_syntax.specs.Exprs.{expr_numbers, shape_of}
 use Rattle.xd_syntax.specs.Kept.{ProgramTable, program_tree}
 use Rattle.xd_syntax.specs.Matches.{SeenMatch}
@@ -20,7 +21,7 @@ use Rattle.xd_check.specs.Scrutinees.{IsMet}
 use Rattle.xd_check.specs.Walked.{ComesBehind, Grows}
 use Rattle.xd_check.specs.declared.matches.MetMatch.{MetMatch}
 use Rattle.xd_check.proofs.ClauseLemmas.{comes_first}
-use Rattle.xd_check.proofs.Keeping.{grows_none, grows_then}
+use Rattle.xd_check.proofs.GrowsLemmas.{grows_none, grows_then}
 use Rattle.xd_check.proofs.MetMatches.{met_kept}
 use Rattle.xd_variables.specs.Read.{AddsVariables, CanBeRead}
 use Rattle.xd_variables.specs.Seen.{Reading, variables_of_clauses, variables_of_match}

@@ -16,7 +16,7 @@ use Rattle.xd_clauses.specs.Clauses.{AreGivensOf, IsGivenOf}
 use Rattle.xd_check.specs.Scrutinees.{TellsLive}
 use Rattle.xd_check.specs.Walked.{ComesBehind, Grows}
 use Rattle.xd_check.proofs.ClauseLemmas.{bind_from, bind_to, live_from, live_to}
-use Rattle.xd_prefer.proofs.Preferring.{nothing_preferred, prefers_same}
+use Rattle.xd_prefer.proofs.PrefersLemmas.{nothing_preferred, prefers_same}
 use Rattle.xd_variables.specs.Binders.{place_of_occurrence}
 use Rattle.xd_variables.specs.Bound.{IsBound, reading_of}
 use Rattle.xd_variables.specs.Read.{AddsVariables, IsClauseRead, placed_givens}

@@ -3,7 +3,7 @@
 ghost use Rattle.std.specs.Prelude.{◌≡◌, ◌++◌, map, IfOk, OnOk};
 ghost use Rattle.xd_syntax.specs.Matches.{first_occurrences, occurrences_in};
 ghost use Rattle.xd_syntax.specs.Patterns.{IsPattern};
-ghost use Rattle.xd_syntax.specs.Placed.{placed_at};
+ghost use Rattle.xd_syntax.specs.PlacedTable.{placed_at};
 ghost use Rattle.xd_variables.specs.Binders.{occurrences_of, place_of_occurrence};
 
 use indexmap::IndexSet;

@@ -4,13 +4,15 @@ ghost use Rattle.std.specs.Prelude.{◌≡◌, ◌↔◌, ◌++◌, true, [], Li
 ghost use Rattle.std.specs.List.{AllByRecursion, AllZip};
 ghost use Rattle.xd_auto.specs.Automaton.{IsState};
 ghost use Rattle.xd_least.specs.Least.{Knows};
-ghost use Rattle.xd_syntax.specs.Expression.{Expression, clauses_of};
+ghost use Rattle.xd_syntax.specs.Expression.{Expression};
+ghost use Rattle.xd_syntax.specs.ExpressionTable.{clauses_of};
 ghost use Rattle.xd_syntax.specs.Exprs.{clause_numbers};
 ghost use Rattle.xd_syntax.specs.Kept.{program_tree};
 ghost use Rattle.xd_syntax.specs.Matches.{SeenMatch};
 ghost use Rattle.xd_syntax.specs.May.{IsLive, Scope};
 ghost use Rattle.xd_syntax.specs.Patterns.{IsPattern};
-ghost use Rattle.xd_syntax.specs.Placed.{PlacedTree, placed_at, unplaced};
+ghost use Rattle.xd_syntax.specs.Placed.{PlacedTree, unplaced};
+ghost use Rattle.xd_syntax.specs.PlacedTable.{placed_at};
 ghost use Rattle.xd_syntax.specs.Program.{names_of};
 ghost use Rattle.xd_syntax.specs.Table.{tree_at};
 ghost use Rattle.xd_syntax.specs.Tree.{Definitions};

@@ -3,8 +3,10 @@ use Rattle.std.proofs.Common.{◌≡◌, ℕ, ◌+◌, ◌-◌, ◌<◌, ◌≤�
 use Rattle.std.proofs.lemmas.List.{append-nil, take_more, get_or-drop}
 use Rattle.std.specs.List.{slice_range}
 use Rattle.std.specs.Result.{OnErr}
-use Rattle.xd_doc.specs.Document.{Document, empty, text, element, size, comma_before, items_text, rest_of, content_of, escaped, escaped_all}
-use Rattle.xd_doc.specs.Stored.{document_at, first_of_document}
+use Rattle.xd_doc.specs.Document.{Document, empty, text, element, size, comma_before, items_text, escaped, escaped_all}
+use Rattle.xd_doc.specs.DocumentCode.{rest_of, content_of}
+use Rattle.xd_doc.specs.Stored.{document_at}
+use Rattle.xd_doc.specs.StoreNodes.{first_of_document}
 use Rattle.xd_doc.specs.declared.store.Seq.{Seq}
 use Rattle.xd_doc.specs.declared.store.Item.{Item}
 use Rattle.xd_doc.specs.declared.store.Item.TheVariants.{Text, Elem}

@@ -4,20 +4,21 @@ ghost use Rattle.std.specs.Prelude.{IfOk};
 ghost use Rattle.std.specs.List.{AllByRecursion};
 ghost use Rattle.xd_base.specs.Outside.{HasRisen};
 ghost use Rattle.xd_check.specs.Outcome.{IsOutcome};
-ghost use Rattle.xd_report.specs.Report.{CarriesFrom};
+ghost use Rattle.xd_report.specs.Carries.{CarriesFrom};
 ghost use Rattle.xd_syntax.specs.Kept.{ProgramTable, program_tree};
 ghost use Rattle.xd_syntax.specs.Program.{ProgramTree};
 ghost use Rattle.xd_command.specs.Answer.{Answers};
-ghost use Rattle.xd_command.specs.Check.{AnswersCheck, AreRefused, EndsAtCheck};
-ghost use Rattle.xd_steps.specs.Step.{DoesAll};
+ghost use Rattle.xd_command.specs.Check.{AnswersCheck, EndsAtCheck};
+ghost use Rattle.xd_command.specs.CheckRefused.{AreRefused};
+ghost use Rattle.xd_command_steps.specs.DoneSteps.{DoesAll};
 ghost use Rattle.xd_command.specs.declared.command.Command.TheVariants as commands;
 
 use std::alloc::Global;
 use xd_base::Shelf;
 use xd_check::CheckOutcome;
+use xd_command_steps::{Output, Stop, load_program, report_lines};
 use xd_doc::{NoMemory, Store};
 use xd_sound::SoundProgram;
-use xd_steps::{Output, Stop, load_program, report_lines};
 use xd_syntax::{Fault, Warning};
 
 /// The lines of the sound program, and whether it is accepted.

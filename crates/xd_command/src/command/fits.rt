@@ -6,17 +6,18 @@ ghost use Rattle.xd_base.specs.Outside.{HasRisen};
 ghost use Rattle.xd_doc.specs.Stored.{BelongsTo, document_at};
 ghost use Rattle.xd_syntax.specs.Kept.{program_tree};
 ghost use Rattle.xd_command.specs.Answer.{Answers};
-ghost use Rattle.xd_command.specs.Fits.{AnswersByState, AnswersFits, TellsMembership};
-ghost use Rattle.xd_steps.specs.Step.{DoesAll};
+ghost use Rattle.xd_command.specs.FitsByState.{AnswersByState, TellsMembership};
+ghost use Rattle.xd_command.specs.Fits.{AnswersFits};
+ghost use Rattle.xd_command_steps.specs.DoneSteps.{DoesAll};
 ghost use Rattle.xd_command.specs.declared.command.Command.TheVariants as commands;
 
 use crate::membership::{acceptor, accepts};
 use std::alloc::Global;
 use xd_auto::{Auto, State};
 use xd_base::Shelf;
+use xd_command_steps::{Output, Stop, load_document, load_program};
 use xd_doc::{NoMemory, Seq, Store};
 use xd_sound::SoundProgram;
-use xd_steps::{Output, Stop, load_document, load_program};
 
 /// Whether the state accepts the document.
 fn membership(

@@ -5,18 +5,19 @@ ghost use Rattle.xd_auto.specs.Automaton.{IsState};
 ghost use Rattle.xd_base.specs.Outside.{HasRisen};
 ghost use Rattle.xd_syntax.specs.Kept.{program_tree};
 ghost use Rattle.xd_command.specs.Answer.{Answers};
-ghost use Rattle.xd_command.specs.Least.{AnswersLeast, TellsLeast};
-ghost use Rattle.xd_steps.specs.Step.{DoesAll};
+ghost use Rattle.xd_command.specs.Least.{AnswersLeast};
+ghost use Rattle.xd_command.specs.LeastByState.{TellsLeast};
+ghost use Rattle.xd_command_steps.specs.DoneSteps.{DoesAll};
 ghost use Rattle.xd_command.specs.declared.command.Command.TheVariants as commands;
 
 use crate::membership::acceptor;
 use std::alloc::Global;
 use xd_auto::{Auto, State};
 use xd_base::Shelf;
+use xd_command_steps::{Output, Stop, load_program};
 use xd_doc::{NoMemory, Store};
 use xd_least::least_inhabitant;
 use xd_sound::SoundProgram;
-use xd_steps::{Output, Stop, load_program};
 
 /// A least document of the state, or that it accepts none.
 ///

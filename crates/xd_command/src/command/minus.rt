@@ -8,8 +8,9 @@ ghost use Rattle.xd_syntax.specs.Kept.{program_tree};
 ghost use Rattle.xd_syntax.specs.Program.{names_of};
 ghost use Rattle.xd_syntax.specs.Types as types;
 ghost use Rattle.xd_command.specs.Answer.{Answers};
-ghost use Rattle.xd_command.specs.Minus.{AnswersDifference, AnswersMinus, IsAlone};
-ghost use Rattle.xd_steps.specs.Step.{DoesAll};
+ghost use Rattle.xd_command.specs.Minus.{AnswersDifference, AnswersMinus};
+ghost use Rattle.xd_command.specs.MinusAlone.{IsAlone};
+ghost use Rattle.xd_command_steps.specs.DoneSteps.{DoesAll};
 ghost use Rattle.xd_command.specs.declared.command.Command.TheVariants as commands;
 
 use crate::command::subtype::named_types;
@@ -17,10 +18,10 @@ use crate::membership::acceptor;
 use std::alloc::Global;
 use xd_auto::{Auto, State};
 use xd_base::Shelf;
-use xd_blocks::{shown_text, type_names};
+use xd_command_steps::{Output, Stop, load_program};
 use xd_doc::NoMemory;
+use xd_show_blocks::{shown_text, type_names};
 use xd_sound::SoundProgram;
-use xd_steps::{Output, Stop, load_program};
 use xd_syntax::TypeId;
 
 /// A state that accepts exactly the documents that fit the first type and not the second.

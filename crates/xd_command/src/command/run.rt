@@ -2,14 +2,15 @@
 
 ghost use Rattle.std.specs.Prelude.{◌≡◌, ◌≤◌, Some, IfOk};
 ghost use Rattle.xd_base.specs.Outside.{HasRisen};
-ghost use Rattle.xd_doc.specs.Stored.{BelongsTo, Keeps, document_at};
+ghost use Rattle.xd_doc.specs.Stored.{BelongsTo, document_at};
+ghost use Rattle.xd_doc.specs.StoreNodes.{Keeps};
 ghost use Rattle.xd_syntax.specs.Kept.{AddsTypes, program_tree};
 ghost use Rattle.xd_syntax.specs.CheckFaults.{IsAccepted};
 ghost use Rattle.xd_syntax.specs.Tree.{Tree};
 ghost use Rattle.xd_command.specs.Answer.{Answers};
 ghost use Rattle.xd_command.specs.Run.{AnswersInput, AnswersMain, AnswersRun, EndsAtLines, EndsAtValue, IsValue, input_type};
 ghost use Rattle.xd_command.specs.Running.{IsInputTest};
-ghost use Rattle.xd_steps.specs.Step.{DoesAll, DoesStep};
+ghost use Rattle.xd_command_steps.specs.DoneSteps.{DoesAll, DoesStep};
 ghost use Rattle.xd_command.specs.declared.command.Command.TheVariants as commands;
 
 use crate::membership::{acceptor, accepts};
@@ -17,10 +18,10 @@ use std::alloc::Global;
 use xd_auto::{Auto, State};
 use xd_base::Shelf;
 use xd_check::{CheckOutcome, check};
+use xd_command_steps::{Output, Stop, load_document, load_program, report_lines};
 use xd_doc::{NoMemory, Seq, Store};
 use xd_eval::{Outcome, evaluate};
 use xd_sound::{Checked, SoundProgram, parameter_of_main};
-use xd_steps::{Output, Stop, load_document, load_program, report_lines};
 
 /// A state that accepts exactly what fits the input type, where `main` has one parameter.
 fn input_test(alloc: Global, sound: &mut SoundProgram) -> Result<Option<(Auto, State)>, NoMemory>

@@ -2,23 +2,24 @@
 
 ghost use Rattle.std.specs.Prelude.{◌≡◌, ◌≤◌, ◌++◌, true, length, Some, IfOk, decimal};
 ghost use Rattle.xd_doc.specs.Document.{canonical_text, empty};
-ghost use Rattle.xd_doc.specs.Stored.{BelongsTo, Keeps, document_at};
+ghost use Rattle.xd_doc.specs.Stored.{BelongsTo, document_at};
+ghost use Rattle.xd_doc.specs.StoreNodes.{Keeps};
 ghost use Rattle.xd_doc.specs.Word.{is_word};
 ghost use Rattle.xd_syntax.specs.Kept.{program_tree};
-ghost use Rattle.xd_telephones.specs.Telephones.{telephone_program};
-ghost use Rattle.xd_telephones.specs.Persons.{field, person, persons_to};
+ghost use Rattle.xd_command_sample.specs.Telephones.{telephone_program};
+ghost use Rattle.xd_command_sample.specs.Persons.{field, person, persons_to};
 ghost use Rattle.xd_command.specs.Command.{sample_limit};
 ghost use Rattle.xd_command.specs.Running.{IsInputTest};
 ghost use Rattle.xd_command.specs.Sample.{AnswersSample};
-ghost use Rattle.xd_steps.specs.Step.{DoesAll};
+ghost use Rattle.xd_command_steps.specs.DoneSteps.{DoesAll};
 
 use crate::command::run::{accept, value_on};
 use std::alloc::Global;
 use xd_auto::{Auto, State};
+use xd_command_sample::{nothing_is_reported, telephones_are_listed, text_is_read};
+use xd_command_steps::{Output, Stop, sound_program};
 use xd_doc::{Label, NoMemory, Seq, Store, Text};
 use xd_sound::{Checked, SoundProgram};
-use xd_steps::{Output, Stop, sound_program};
-use xd_telephones::{nothing_is_reported, telephones_are_listed, text_is_read};
 use xd_write::write_document;
 
 /// Of persons in a row, the names and telephone numbers of those that have one.

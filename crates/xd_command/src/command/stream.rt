@@ -5,20 +5,21 @@ ghost use Rattle.xd_auto.specs.Automaton.{IsState};
 ghost use Rattle.xd_base.specs.Outside.{HasRisen};
 ghost use Rattle.xd_command.specs.Answer.{Answers};
 ghost use Rattle.xd_command.specs.Command.{piece_limit};
-ghost use Rattle.xd_command.specs.Stream.{AnswersStream, StreamsByState, TellsStop};
+ghost use Rattle.xd_command.specs.Stream.{AnswersStream, TellsStop};
+ghost use Rattle.xd_command.specs.StreamByState.{StreamsByState};
 ghost use Rattle.xd_command.specs.declared.command.Command.TheVariants as commands;
-ghost use Rattle.xd_steps.specs.Step.{DoesAll};
+ghost use Rattle.xd_command_steps.specs.DoneSteps.{DoesAll};
 ghost use Rattle.xd_stream.specs.Fed.{StopsAs};
-ghost use Rattle.xd_stream.specs.Stop.{IsAccepted, SpellsAccepted};
+ghost use Rattle.xd_stream.specs.StopByState.{IsAccepted, SpellsAccepted};
 ghost use Rattle.xd_syntax.specs.Kept.{program_tree};
 
 use crate::membership::acceptor;
 use std::alloc::Global;
 use xd_auto::{Auto, State};
 use xd_base::Shelf;
+use xd_command_steps::{Output, Stop, load_bytes, load_program};
 use xd_doc::NoMemory;
 use xd_sound::SoundProgram;
-use xd_steps::{Output, Stop, load_bytes, load_program};
 use xd_stream::{Stream, StreamError};
 
 /// Whether the bytes spell a document that the state accepts, fed in pieces of this length; else where they stop.

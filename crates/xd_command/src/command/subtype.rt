@@ -9,27 +9,28 @@ ghost use Rattle.xd_goals.specs.Rows.{row_at};
 ghost use Rattle.xd_goals.specs.Standing.{StandsOnAutomaton};
 ghost use Rattle.xd_heads.specs.Mirrors.{Mirrors, continuation_of};
 ghost use Rattle.xd_syntax.specs.Kept.{program_tree};
-ghost use Rattle.xd_syntax.specs.Shallow.{IsShallow};
+ghost use Rattle.xd_syntax.specs.ShallowTables.{IsShallow};
 ghost use Rattle.xd_syntax.specs.Tree.{Tree};
 ghost use Rattle.xd_syntax.specs.Types as types;
 ghost use Rattle.xd_proof_make.specs.Made.{IsOfTypes, UsesDefined};
-ghost use Rattle.xd_proof_text.specs.ProofText.{ProvesRow, UsesKnownNames};
+ghost use Rattle.xd_proof_make.specs.ProofText.{ProvesRow, UsesKnownNames};
 ghost use Rattle.xd_command.specs.Answer.{Answers};
 ghost use Rattle.xd_apart.specs.Apart.{IsApart};
-ghost use Rattle.xd_command.specs.Subtype.{AnswersInclusion, AnswersSubtype, AreNamed, EndsAtNames, IsKnownState, IsStateOf, TellsApart};
-ghost use Rattle.xd_steps.specs.Step.{DoesAll, DoesStep};
+ghost use Rattle.xd_command.specs.Subtype.{AnswersInclusion, AnswersSubtype, EndsAtNames};
+ghost use Rattle.xd_command.specs.SubtypeByState.{AreNamed, IsKnownState, IsStateOf, TellsApart};
+ghost use Rattle.xd_command_steps.specs.DoneSteps.{DoesAll, DoesStep};
 ghost use Rattle.xd_command.specs.declared.command.Command.TheVariants as commands;
 
 use std::alloc::Global;
 use xd_apart::least_apart;
 use xd_auto::{Auto, State};
 use xd_base::Shelf;
+use xd_command_steps::{Output, Stop, load_program};
 use xd_doc::{NoMemory, Seq, Store};
 use xd_goals::{GoalId, Table, Verdict, decide, new_tables_stand};
 use xd_heads::{Cells, compile_type};
-use xd_proof_text::proof_text;
+use xd_proof_make::proof_text;
 use xd_sound::SoundProgram;
-use xd_steps::{Output, Stop, load_program};
 use xd_syntax::TypeId;
 
 /// The types of both names; the command ends where one isn't defined.

@@ -6,17 +6,18 @@ ghost use Rattle.xd_syntax.specs.Kept.{program_tree};
 ghost use Rattle.xd_variables.specs.Bound.{reading_of};
 ghost use Rattle.xd_command.specs.Check.{EndsAtCheck};
 ghost use Rattle.xd_command.specs.Types.{AnswersTypes};
-ghost use Rattle.xd_steps.specs.Programs.{EndsAtProgram, IsProgram};
-ghost use Rattle.xd_steps.specs.Step.{DoesAll, DoesStep, Step};
+ghost use Rattle.xd_command_steps.specs.Programs.{EndsAtProgram, IsProgram};
+ghost use Rattle.xd_command_steps.specs.DoneSteps.{DoesAll, DoesStep};
+ghost use Rattle.xd_command_steps.specs.Step.{Step};
 
 use crate::command::check::refusal;
 use std::alloc::Global;
 use xd_base::Shelf;
-use xd_blocks::variable_blocks;
 use xd_check::{CheckOutcome, check};
+use xd_command_steps::{Output, Stop, load_program};
 use xd_doc::Store;
+use xd_show_blocks::variable_blocks;
 use xd_sound::{Checked, SoundProgram};
-use xd_steps::{Output, Stop, load_program};
 use xd_variables::Ways;
 
 /// The program, where it is accepted; else its faults and warnings.

@@ -4,13 +4,13 @@ ghost use Rattle.xd_base.specs.Outside.{HasRisen};
 ghost use Rattle.xd_syntax.specs.Kept.{program_tree};
 ghost use Rattle.xd_command.specs.Answer.{Answers};
 ghost use Rattle.xd_command.specs.Verify.{AnswersUpgrade};
-ghost use Rattle.xd_steps.specs.Step.{DoesAll};
+ghost use Rattle.xd_command_steps.specs.DoneSteps.{DoesAll};
 ghost use Rattle.xd_command.specs.declared.command.Command.TheVariants as commands;
 
 use std::alloc::Global;
 use xd_base::Shelf;
+use xd_command_steps::{Output, Stop, load_program, load_proof};
 use xd_sound::SoundProgram;
-use xd_steps::{Output, Stop, load_program, load_proof};
 
 /// The proof of this file over the types of the sound program, in the second format.
 fn upgrade_in<H: Shelf>(

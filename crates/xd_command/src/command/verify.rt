@@ -2,21 +2,21 @@
 
 ghost use Rattle.std.specs.Prelude.{◌≡◌, List, IfOk};
 ghost use Rattle.xd_base.specs.Outside.{HasRisen};
-ghost use Rattle.xd_laws.specs.Breach.{Lined};
+ghost use Rattle.xd_meaning.specs.Breach.{Lined};
 ghost use Rattle.xd_proof.specs.Goals.{AreGoalsAt, GoalsBelong};
 ghost use Rattle.xd_syntax.specs.Kept.{program_tree};
 ghost use Rattle.xd_command.specs.Answer.{Answers};
 ghost use Rattle.xd_command.specs.Verify.{AnswersVerify, Judges};
-ghost use Rattle.xd_steps.specs.Step.{DoesAll};
+ghost use Rattle.xd_command_steps.specs.DoneSteps.{DoesAll};
 ghost use Rattle.xd_command.specs.declared.command.Command.TheVariants as commands;
 
 use std::alloc::Global;
 use xd_base::Shelf;
+use xd_command_steps::{Output, Stop, load_program, load_proof};
 use xd_doc::NoMemory;
 use xd_proof::Proof;
 use xd_proof_check::{ProofVerdict, accepts};
 use xd_sound::SoundProgram;
-use xd_steps::{Output, Stop, load_program, load_proof};
 
 /// Whether the proof is consistent.
 fn judge(alloc: Global, sound: &mut SoundProgram, proof: &Proof) -> Result<Output, NoMemory>

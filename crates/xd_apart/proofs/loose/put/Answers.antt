@@ -1,4 +1,4 @@
-use Rattle.xd_boole.proofs.Finding.{found_put}
+use Rattle.xd_boole.proofs.FoundAtLemmas.{found_put}
 use Rattle.xd_apart.proofs.loose.put.Goals as goal
 
 pub returns : goal.returns

@@ -1,4 +1,4 @@
-use Rattle.xd_member.specs.Kept.{AreRight}
+use Rattle.xd_auto.specs.Kept.{AreRight}
 use Rattle.xd_apart.specs.Search.{IsTakenAt}
 use Rattle.xd_apart.proofs.search.clash_below.Given as goal
 

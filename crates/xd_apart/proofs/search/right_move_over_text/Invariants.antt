@@ -1,6 +1,6 @@
 use Rattle.std.proofs.Common.{◌≤◌, ◌-◌, length}
 use Rattle.xd_auto.specs.Automaton.{moves_at}
-use Rattle.xd_member.specs.Kept.{AreRight}
+use Rattle.xd_auto.specs.Kept.{AreRight}
 use Rattle.xd_apart.proofs.search.right_move_over_text.Given as goal
 
 abbrev pub invariant-loop-number : goal.invariant-loop-number

@@ -1,4 +1,4 @@
-use Rattle.xd_member.specs.Kept.{AreRight}
+use Rattle.xd_auto.specs.Kept.{AreRight}
 use Rattle.xd_apart.proofs.search.step_over_text.Given as goal
 
 abbrev pub invariant-loop-right : goal.invariant-loop-right

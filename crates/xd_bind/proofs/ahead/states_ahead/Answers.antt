@@ -4,8 +4,8 @@ use Rattle.xd_auto.specs.Automaton.{IsState, moves_at}
 use Rattle.xd_bind.specs.Marks.{mark_of}
 use Rattle.xd_bind.specs.Shifts.{IsLayered, free_by}
 use Rattle.xd_bind.specs.Search.{AreFollowed, Grows, HasMark, IsSearched, LeadsAhead}
-use Rattle.xd_bind.proofs.Shifting.{front_moves, layer_count, layer_lands, layer_leads}
-use Rattle.xd_bind.proofs.Searching.{Grows-trans, contents_marked, length-replicate, listed_within, none_marked, rests_marked, search_begun, search_more, searched, text_rests_marked, texts_kept}
+use Rattle.xd_bind.proofs.ShiftLemmas.{front_moves, layer_count, layer_lands, layer_leads}
+use Rattle.xd_bind.proofs.IsSearchLemmas.{Grows-trans, contents_marked, length-replicate, listed_within, none_marked, rests_marked, search_begun, search_more, searched, text_rests_marked, texts_kept}
 use Rattle.xd_bind.proofs.ahead.states_ahead.Goals as goal
 
 pub visit-requires : goal.visit-requires

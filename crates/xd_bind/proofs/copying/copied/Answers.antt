@@ -4,7 +4,7 @@ use Rattle.xd_bind.specs.Shifts.{LandsBelow, shifted}
 use Rattle.xd_bind.specs.Blocks.{labels_of_side, texts_of_side}
 use Rattle.xd_bind.proofs.Changes.{length-map'}
 use Rattle.xd_bind.proofs.Copied.{begun, copied_more, lands_themselves, nobody, themselves}
-use Rattle.xd_bind.proofs.Shifting.{same_automata}
+use Rattle.xd_bind.proofs.ShiftLemmas.{same_automata}
 use Rattle.xd_bind.proofs.copying.copied.Goals as goal
 
 pub side_of-requires-clause-lands : goal.side_of-requires-clause-lands

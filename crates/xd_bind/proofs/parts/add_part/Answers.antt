@@ -2,7 +2,7 @@ use Rattle.std.proofs.Common.{◌≡◌, ◌+◌, ap, sym, subst, arith, length,
 use Rattle.xd_auto.specs.Automaton.{Automaton, IsState, StateMoves, moves_at, no_moves}
 use Rattle.xd_bind.specs.Shifts.{LandsBelow, shifted}
 use Rattle.xd_bind.proofs.Changes.{extends_stays, length-map', part_of}
-use Rattle.xd_bind.proofs.Shifting.{extends_longer}
+use Rattle.xd_bind.proofs.ShiftLemmas.{extends_longer}
 use Rattle.xd_bind.proofs.parts.add_part.Goals as goal
 
 pub fill_states-requires-clause-lands : goal.fill_states-requires-clause-lands

@@ -1,8 +1,8 @@
 use Rattle.std.proofs.Common.{◌+◌, ◌-◌, refl, arith, length}
 use Rattle.xd_bind.specs.declared.shift.Shift.{Shift}
 use Rattle.xd_bind.specs.Shifts.{free_by}
-use Rattle.xd_bind.proofs.Assembling.{ahead_lands, ahead_states, alone_of}
-use Rattle.xd_bind.proofs.Shifting.{extends_longer, extends_trans, layer_lands, shifted_lands}
+use Rattle.xd_bind.proofs.IsProjectionLemmas.{ahead_lands, ahead_states, alone_of}
+use Rattle.xd_bind.proofs.ShiftLemmas.{extends_longer, extends_trans, layer_lands, shifted_lands}
 use Rattle.xd_bind.proofs.projecting.add_alone.Goals as goal
 
 pub add_part-requires-clause-lands : goal.add_part-requires-clause-lands

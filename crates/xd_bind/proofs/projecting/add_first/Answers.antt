@@ -4,9 +4,9 @@ use Rattle.xd_auto.specs.declared.auto.State.{State}
 use Rattle.xd_auto.specs.Automaton.{StateMoves, moves_at}
 use Rattle.xd_bind.specs.Shifts.{LandsBelow, shifted}
 use Rattle.xd_bind.specs.Blocks.{HasFirst, IsChange, with_side}
-use Rattle.xd_bind.proofs.Assembling.{first_begun, first_more}
+use Rattle.xd_bind.proofs.IsProjectionLemmas.{first_begun, first_more}
 use Rattle.xd_bind.proofs.Changes.{extends_changed}
-use Rattle.xd_bind.proofs.Shifting.{extends_longer, lands_more}
+use Rattle.xd_bind.proofs.ShiftLemmas.{extends_longer, lands_more}
 use Rattle.xd_bind.proofs.projecting.add_first.Goals as goal
 
 -- any state

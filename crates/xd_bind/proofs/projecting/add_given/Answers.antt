@@ -3,8 +3,8 @@ use Rattle.xd_doc.proofs.StoredLemmas.{Keeps-same}
 use Rattle.xd_least.proofs.KnownLemmas.{stays_known}
 use Rattle.xd_bind.specs.Shifts.{free_by, shifted}
 use Rattle.xd_bind.proofs.BlockLaw.{projection}
-use Rattle.xd_bind.proofs.Assembling.{assembled}
-use Rattle.xd_bind.proofs.Shifting.{extends_trans, layer_stays}
+use Rattle.xd_bind.proofs.IsProjectionLemmas.{assembled}
+use Rattle.xd_bind.proofs.ShiftLemmas.{extends_trans, layer_stays}
 use Rattle.xd_bind.proofs.projecting.add_given.Goals as goal
 
 pub returns-clause-given : goal.returns-clause-given

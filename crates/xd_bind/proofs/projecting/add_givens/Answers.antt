@@ -2,11 +2,11 @@ use Rattle.std.proofs.Common.{◌<◌, ◌∙◌, ap, sym, subst, refl, Some, []
 use Rattle.std.proofs.lemmas.Option.{slice_get_read}
 use Rattle.xd_doc.proofs.StoredLemmas.{Keeps-trans}
 use Rattle.xd_auto.specs.Automaton.{Automaton}
-use Rattle.xd_traces.specs.Traces.{AcceptsGiven, KeepsTogether}
+use Rattle.xd_auto_pairs.specs.Traces.{AcceptsGiven, KeepsTogether}
 use Rattle.xd_bind.specs.declared.tracks.Given.{Given}
 use Rattle.xd_bind.specs.Projection.{IsGivenOf}
-use Rattle.xd_bind.proofs.Assembling.{elements_more, given_stays}
-use Rattle.xd_bind.proofs.Shifting.{extends_trans, front_extends, layer_stays}
+use Rattle.xd_bind.proofs.IsProjectionLemmas.{elements_more, given_stays}
+use Rattle.xd_bind.proofs.ShiftLemmas.{extends_trans, front_extends, layer_stays}
 use Rattle.xd_bind.proofs.projecting.add_givens.Goals as goal
 
 pub loop-number-preserved : goal.loop-number-preserved

@@ -2,8 +2,8 @@ use Rattle.std.proofs.Common.{◌+◌, ◌-◌, refl, arith}
 use Rattle.xd_doc.proofs.StoredLemmas.{Keeps-same}
 use Rattle.xd_least.proofs.KnownLemmas.{stays_known}
 use Rattle.xd_bind.specs.declared.shift.Shift.{Shift}
-use Rattle.xd_bind.proofs.Assembling.{aside_of}
-use Rattle.xd_bind.proofs.Shifting.{layer_lands}
+use Rattle.xd_bind.proofs.IsProjectionLemmas.{aside_of}
+use Rattle.xd_bind.proofs.ShiftLemmas.{layer_lands}
 use Rattle.xd_bind.proofs.projecting.add_without.Goals as goal
 
 pub add_part-requires-clause-lands : goal.add_part-requires-clause-lands

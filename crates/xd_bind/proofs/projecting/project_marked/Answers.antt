@@ -1,12 +1,12 @@
 use Rattle.std.proofs.Common.{◌<◌, ◌∙◌, ap, sym, subst, arith, length, take, take_all}
 use Rattle.xd_auto.specs.Automaton.{Automaton}
-use Rattle.xd_traces.specs.Traces.{KeepsTogether}
-use Rattle.xd_traces.specs.declared.kind.MoveKind.TheVariants.{Label, Text}
+use Rattle.xd_auto_pairs.specs.Traces.{KeepsTogether}
+use Rattle.xd_auto_pairs.specs.declared.kind.MoveKind.TheVariants.{Label, Text}
 use Rattle.xd_bind.specs.Projection.{owned_by}
 use Rattle.xd_bind.specs.Buckets.{owned_in}
 use Rattle.xd_bind.proofs.SameOwned.{together_same}
-use Rattle.xd_bind.proofs.Assembling.{givens_same}
-use Rattle.xd_bind.proofs.Shifting.{whole_layer}
+use Rattle.xd_bind.proofs.IsProjectionLemmas.{givens_same}
+use Rattle.xd_bind.proofs.ShiftLemmas.{whole_layer}
 use Rattle.xd_bind.proofs.projecting.project_marked.Goals as goal
 
 pub add_givens-requires-clause-layer : goal.add_givens-requires-clause-layer

@@ -2,11 +2,11 @@ use Rattle.std.proofs.Common.{sym, subst, take}
 use Rattle.xd_doc.proofs.StoredLemmas.{Keeps-same}
 use Rattle.xd_least.proofs.KnownLemmas.{stays_known}
 use Rattle.xd_bind.proofs.CaseLaw.{pairs_cases, pairs_layer, pairs_own_none, pairs_share, pairs_together}
-use Rattle.xd_traces.specs.Traces.{KeepsTogether}
-use Rattle.xd_traces.specs.Pairing.{carried}
-use Rattle.xd_traces.specs.Paired.{origins_in}
+use Rattle.xd_auto_pairs.specs.Traces.{KeepsTogether}
+use Rattle.xd_auto_pairs.specs.Pairing.{carried}
+use Rattle.xd_auto_pairs.specs.Paired.{origins_in}
 use Rattle.xd_bind.specs.Shifts.{IsLayer}
-use Rattle.xd_bind.proofs.Shifting.{extends_trans}
+use Rattle.xd_bind.proofs.ShiftLemmas.{extends_trans}
 use Rattle.xd_bind.proofs.restricted.cases.Goals as goal
 
 pub learn-requires : goal.learn-requires

@@ -5,12 +5,12 @@ use Rattle.xd_boole.specs.declared.groups.MoveSide.{MoveSide}
 use Rattle.xd_boole.specs.declared.groups.Group.{Group}
 use Rattle.xd_boole.specs.Groups.{AllPass, AllSides, any_group, group_refuses, is_side, label_side, side_accepts}
 use Rattle.xd_boole.specs.Points.{MoveBelow, label_means}
-use Rattle.xd_boole.proofs.Adding.{grows_same}
+use Rattle.xd_boole.proofs.ArePointsLemmas.{grows_same}
 use Rattle.xd_boole.proofs.Bools.{and_false, part_class}
-use Rattle.xd_boole.proofs.Differing.{right_more}
-use Rattle.xd_boole.proofs.Growing.{adds_like, adds_none, adds_then, label_below_more, label_stays}
+use Rattle.xd_boole.proofs.DifferenceLemmas.{right_more}
+use Rattle.xd_boole.proofs.GrowsLemmas.{adds_like, adds_none, adds_then, label_below_more, label_stays}
 use Rattle.xd_boole.proofs.Lists.{all_step, any_walked}
-use Rattle.xd_boole.proofs.Refusing.{side_is}
+use Rattle.xd_boole.proofs.AnyAcceptsLemmas.{side_is}
 use Rattle.xd_boole.proofs.difference.add_labels.Goals as goal
 
 pub loop-group-init : goal.loop-group-init

@@ -3,12 +3,12 @@ use Rattle.std.specs.List.{AllByRecursion}
 use Rattle.xd_auto.specs.Automaton.{IsState}
 use Rattle.xd_boole.specs.Meaning.{is_state}
 use Rattle.xd_boole.proofs.Bools.{and_left, and_right}
-use Rattle.xd_boole.proofs.Refusing.{state_is, states_are}
+use Rattle.xd_boole.proofs.AnyAcceptsLemmas.{state_is, states_are}
 use Rattle.xd_doc.specs.Classes.{LabelClass}
 use Rattle.xd_auto.specs.declared.auto.LabelMove.{LabelMove}
 use Rattle.xd_auto.specs.declared.auto.State.{State}
 use Rattle.xd_boole.specs.Points.{IsStateFor}
-use Rattle.xd_boole.proofs.Differing.{move_added}
+use Rattle.xd_boole.proofs.DifferenceLemmas.{move_added}
 use Rattle.xd_boole.proofs.difference.add_move.Goals as goal
 
 pub returns : goal.returns

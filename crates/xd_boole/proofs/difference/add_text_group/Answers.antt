@@ -8,11 +8,11 @@ use Rattle.xd_auto.specs.Automaton.{IsState, accepts}
 use Rattle.xd_empty.specs.Parts.{is_marked}
 use Rattle.xd_boole.specs.Points.{TextBelow, text_means}
 use Rattle.xd_boole.specs.Meaning.{any_accepts, with_states}
-use Rattle.xd_boole.proofs.Adding.{grows_same}
-use Rattle.xd_boole.proofs.Differing.{none_taken, text_added}
-use Rattle.xd_boole.proofs.Growing.{adds_none, text_below_more, text_stays}
+use Rattle.xd_boole.proofs.ArePointsLemmas.{grows_same}
+use Rattle.xd_boole.proofs.DifferenceLemmas.{none_taken, text_added}
+use Rattle.xd_boole.proofs.GrowsLemmas.{adds_none, text_below_more, text_stays}
 use Rattle.xd_boole.proofs.UniversalLemmas.{marked_accepts}
-use Rattle.xd_boole.proofs.Refusing.{set_accepts, states_are, with_states_all}
+use Rattle.xd_boole.proofs.AnyAcceptsLemmas.{set_accepts, states_are, with_states_all}
 use Rattle.xd_boole.proofs.difference.add_text_group.Goals as goal
 
 pub find_or_add-requires-clause-rights : goal.find_or_add-requires-clause-rights

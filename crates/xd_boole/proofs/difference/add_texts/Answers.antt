@@ -6,10 +6,10 @@ use Rattle.xd_boole.specs.Meaning.{any_accepts, is_state, text_of}
 use Rattle.xd_boole.specs.declared.groups.Group.{Group}
 use Rattle.xd_boole.specs.Groups.{AllPass, AllSides, any_group, group_refuses}
 use Rattle.xd_boole.specs.Points.{TextBelow, text_means}
-use Rattle.xd_boole.proofs.Adding.{grows_same}
+use Rattle.xd_boole.proofs.ArePointsLemmas.{grows_same}
 use Rattle.xd_boole.proofs.Bools.{and_false, part_class}
-use Rattle.xd_boole.proofs.Differing.{right_more}
-use Rattle.xd_boole.proofs.Growing.{adds_like, adds_none, adds_then, text_below_more, text_stays}
+use Rattle.xd_boole.proofs.DifferenceLemmas.{right_more}
+use Rattle.xd_boole.proofs.GrowsLemmas.{adds_like, adds_none, adds_then, text_below_more, text_stays}
 use Rattle.xd_boole.proofs.Lists.{all_step, any_walked}
 use Rattle.xd_boole.proofs.difference.add_texts.Goals as goal
 

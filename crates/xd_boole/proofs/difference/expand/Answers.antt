@@ -3,8 +3,8 @@ use Rattle.std.proofs.Common.{◌≡◌, ◌==◌, ℕ, length, vec_len, ap, sym
 use Rattle.xd_auto.specs.Automaton.{ChangesOnly, moves_at}
 use Rattle.xd_boole.specs.Meaning.{PointView, element_of, is_whole, text_of, less, means}
 use Rattle.xd_boole.specs.Points.{state_at}
-use Rattle.xd_boole.proofs.Expanding.{expanded_more, given_moves, labels_lead, one_skipped, points_same, texts_lead}
-use Rattle.xd_boole.proofs.Refusing.{same_number}
+use Rattle.xd_boole.proofs.HasMovesLemmas.{expanded_more, given_moves, labels_lead, one_skipped, points_same, texts_lead}
+use Rattle.xd_boole.proofs.AnyAcceptsLemmas.{same_number}
 use Rattle.xd_boole.proofs.difference.expand.Goals as goal
 
 pub set_moves-requires : goal.set_moves-requires

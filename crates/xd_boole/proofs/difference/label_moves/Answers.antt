@@ -3,10 +3,10 @@ use Rattle.std.specs.List.{list_any}
 use Rattle.xd_auto.specs.declared.auto.LabelMove.{LabelMove}
 use Rattle.xd_boole.specs.Meaning.{any_accepts, element_of, move_takes}
 use Rattle.xd_boole.specs.Points.{AddsLabels, MoveBelow, label_means}
-use Rattle.xd_boole.proofs.Adding.{grows_same}
-use Rattle.xd_boole.proofs.Closing.{labels_are}
-use Rattle.xd_boole.proofs.Differing.{left_more}
-use Rattle.xd_boole.proofs.Growing.{adds_like, adds_none, adds_then, label_below_more, label_stays}
+use Rattle.xd_boole.proofs.ArePointsLemmas.{grows_same}
+use Rattle.xd_boole.proofs.MoveBelowLemmas.{labels_are}
+use Rattle.xd_boole.proofs.DifferenceLemmas.{left_more}
+use Rattle.xd_boole.proofs.GrowsLemmas.{adds_like, adds_none, adds_then, label_below_more, label_stays}
 use Rattle.xd_boole.proofs.Lists.{all_step, any_walked}
 use Rattle.xd_boole.proofs.difference.label_moves.Goals as goal
 

@@ -1,7 +1,7 @@
 use Rattle.std.proofs.Common.{◌&&◌, not, ap, refl, ◌∙◌}
 use Rattle.std.proofs.lemmas.Result.{IfOk-weaker}
 use Rattle.xd_auto.specs.Automaton.{accepts}
-use Rattle.xd_auto.proofs.Extending.{Extends-same}
+use Rattle.xd_auto.proofs.ExtendsLemmas.{Extends-same}
 use Rattle.xd_boole.proofs.difference.subtract.Goals as goal
 
 pub returns-clause-exact : goal.returns-clause-exact

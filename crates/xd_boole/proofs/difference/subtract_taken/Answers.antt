@@ -1,6 +1,6 @@
 use Rattle.std.proofs.Common.{◌&&◌, not, ap, refl, ◌∙◌}
 use Rattle.xd_auto.specs.Automaton.{accepts}
-use Rattle.xd_auto.proofs.Extending.{Extends-same}
+use Rattle.xd_auto.proofs.ExtendsLemmas.{Extends-same}
 use Rattle.xd_boole.specs.Meaning.{PointView, means}
 use Rattle.xd_boole.proofs.Bools.{or_nothing}
 use Rattle.xd_boole.proofs.difference.subtract_taken.Goals as goal

@@ -1,5 +1,5 @@
 use Rattle.std.proofs.Common.{List, Contains, subst}
-use Rattle.xd_boole.proofs.Dividing.{divides_there}
+use Rattle.xd_boole.proofs.DividesLemmas.{divides_there}
 use Rattle.xd_boole.proofs.groups.divide.Goals as goal
 
 pub returns-then-has_side : goal.returns-then-has_side

@@ -1,4 +1,4 @@
-use Rattle.xd_boole.proofs.Dividing.{divided_more}
+use Rattle.xd_boole.proofs.DividesLemmas.{divided_more}
 use Rattle.xd_boole.proofs.groups.divide_all.Goals as goal
 
 pub loop-group-preserved : goal.loop-group-preserved

@@ -1,5 +1,5 @@
 use Rattle.std.proofs.Common.{vec_len}
-use Rattle.xd_boole.proofs.Dividing.{DividesFirst}
+use Rattle.xd_boole.proofs.DividesLemmas.{DividesFirst}
 use Rattle.xd_boole.proofs.groups.divide_all.Given as goal
 
 abbrev pub invariant-loop-group : goal.invariant-loop-group

@@ -1,5 +1,5 @@
 use Rattle.std.proofs.lemmas.Result.{on_ok_weaker}
-use Rattle.xd_boole.proofs.Dividing.{divides, divides_none}
+use Rattle.xd_boole.proofs.DividesLemmas.{divides, divides_none}
 use Rattle.xd_boole.proofs.groups.divide_apart.Goals as goal
 
 pub returns : goal.returns

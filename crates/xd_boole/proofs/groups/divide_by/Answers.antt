@@ -1,7 +1,7 @@
 use Rattle.std.proofs.Common.{◌≡◌, ◌&&◌, not, true, ◌<◌, length, get_or, ap, sym, ◌∙◌}
 use Rattle.xd_boole.specs.Groups.{any_group, passes_at}
 use Rattle.xd_boole.proofs.Lists.{all_at, at_itself}
-use Rattle.xd_boole.proofs.Dividing.{divided_by_more, passes_there}
+use Rattle.xd_boole.proofs.DividesLemmas.{divided_by_more, passes_there}
 use Rattle.xd_boole.proofs.groups.divide_by.Goals as goal
 
 pub loop-number-preserved : goal.loop-number-preserved

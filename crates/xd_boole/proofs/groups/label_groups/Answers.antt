@@ -8,10 +8,10 @@ use Rattle.xd_boole.specs.Meaning.{any_accepts, element_of}
 use Rattle.xd_boole.specs.Groups.{any_group, is_side, label_side, passes_at, side_accepts}
 use Rattle.xd_boole.specs.Points.{MoveBelow, state_at}
 use Rattle.xd_boole.proofs.Bools.{divided_state}
-use Rattle.xd_boole.proofs.Closing.{labels_are}
+use Rattle.xd_boole.proofs.MoveBelowLemmas.{labels_are}
 use Rattle.xd_boole.proofs.Lists.{all_map, all_step, any_walked, at_itself}
 use Rattle.xd_boole.proofs.MatchLemmas.{matching_tells}
-use Rattle.xd_boole.proofs.Refusing.{side_is}
+use Rattle.xd_boole.proofs.AnyAcceptsLemmas.{side_is}
 use Rattle.xd_boole.proofs.groups.label_groups.Goals as goal
 
 pub divide_by-requires : goal.divide_by-requires

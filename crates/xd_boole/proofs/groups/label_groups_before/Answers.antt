@@ -8,10 +8,10 @@ use Rattle.xd_boole.specs.Meaning.{any_accepts, element_of, move_takes}
 use Rattle.xd_boole.specs.Groups.{any_group, is_side, label_side, passes_at, side_accepts}
 use Rattle.xd_boole.specs.Points.{MoveBelow}
 use Rattle.xd_boole.proofs.Bools.{divided_state}
-use Rattle.xd_boole.proofs.Closing.{labels_are}
+use Rattle.xd_boole.proofs.MoveBelowLemmas.{labels_are}
 use Rattle.xd_boole.proofs.Lists.{all_map}
 use Rattle.xd_boole.proofs.MatchLemmas.{matching_before}
-use Rattle.xd_boole.proofs.Refusing.{side_is}
+use Rattle.xd_boole.proofs.AnyAcceptsLemmas.{side_is}
 use Rattle.xd_boole.proofs.groups.label_groups_before.Goals as goal
 
 -- the numbers that are left

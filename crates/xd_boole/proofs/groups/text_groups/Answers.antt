@@ -9,10 +9,10 @@ use Rattle.xd_boole.specs.Meaning.{any_accepts, is_state, text_of}
 use Rattle.xd_boole.specs.Groups.{any_group, passes_at}
 use Rattle.xd_boole.specs.Points.{TextBelow, state_at}
 use Rattle.xd_boole.proofs.Bools.{divided_state}
-use Rattle.xd_boole.proofs.Closing.{texts_are}
+use Rattle.xd_boole.proofs.MoveBelowLemmas.{texts_are}
 use Rattle.xd_boole.proofs.Lists.{all_map, all_step, any_walked, at_itself}
 use Rattle.xd_boole.proofs.MatchLemmas.{matching_tells}
-use Rattle.xd_boole.proofs.Refusing.{is_state_of}
+use Rattle.xd_boole.proofs.AnyAcceptsLemmas.{is_state_of}
 use Rattle.xd_boole.proofs.groups.text_groups.Goals as goal
 
 pub divide_by-requires : goal.divide_by-requires

@@ -9,10 +9,10 @@ use Rattle.xd_boole.specs.Meaning.{any_accepts, is_state, text_of, text_takes}
 use Rattle.xd_boole.specs.Groups.{any_group, passes_at}
 use Rattle.xd_boole.specs.Points.{TextBelow}
 use Rattle.xd_boole.proofs.Bools.{divided_state}
-use Rattle.xd_boole.proofs.Closing.{texts_are}
+use Rattle.xd_boole.proofs.MoveBelowLemmas.{texts_are}
 use Rattle.xd_boole.proofs.Lists.{all_map}
 use Rattle.xd_boole.proofs.MatchLemmas.{matching_before}
-use Rattle.xd_boole.proofs.Refusing.{is_state_of}
+use Rattle.xd_boole.proofs.AnyAcceptsLemmas.{is_state_of}
 use Rattle.xd_boole.proofs.groups.text_groups_before.Goals as goal
 
 -- the numbers that are left

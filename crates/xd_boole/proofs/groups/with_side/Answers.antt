@@ -1,5 +1,5 @@
 use Rattle.std.proofs.Common.{List, ◌++◌, ◌∷◌, [], ap, ◌∙◌}
-use Rattle.xd_boole.proofs.Dividing.{side_added, side_there}
+use Rattle.xd_boole.proofs.DividesLemmas.{side_added, side_there}
 use Rattle.xd_boole.proofs.groups.with_side.Goals as goal
 
 pub returns-then-has_side : goal.returns-then-has_side

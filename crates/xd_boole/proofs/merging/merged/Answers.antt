@@ -1,5 +1,5 @@
 use Rattle.std.proofs.Common.{◌≤◌, length, arith}
-use Rattle.xd_boole.proofs.Redirecting.{redirected_accepts, redirected_tells}
+use Rattle.xd_boole.proofs.IsRedirectedLemmas.{redirected_accepts, redirected_tells}
 use Rattle.xd_boole.proofs.merging.merged.Goals as goal
 
 pub returns-clause-same : goal.returns-clause-same

@@ -3,7 +3,7 @@ use Rattle.std.proofs.lemmas.List.{take_all}
 use Rattle.xd_boole.specs.Merging.{RedirectsLabels}
 use Rattle.xd_auto.specs.declared.auto.LabelMove.{LabelMove}
 use Rattle.xd_auto.specs.Automaton.{state_number}
-use Rattle.xd_boole.proofs.Redirecting.{label_given, stands_within}
+use Rattle.xd_boole.proofs.IsRedirectedLemmas.{label_given, stands_within}
 use Rattle.xd_boole.proofs.merging.redirect_labels.Goals as goal
 
 pub loop-step-preserved : goal.loop-step-preserved

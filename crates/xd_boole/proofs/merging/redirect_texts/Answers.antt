@@ -3,7 +3,7 @@ use Rattle.std.proofs.lemmas.List.{take_all}
 use Rattle.xd_boole.specs.Merging.{RedirectsTexts}
 use Rattle.xd_auto.specs.declared.auto.TextMove.{TextMove}
 use Rattle.xd_auto.specs.Automaton.{state_number}
-use Rattle.xd_boole.proofs.Redirecting.{stands_within, text_given}
+use Rattle.xd_boole.proofs.IsRedirectedLemmas.{stands_within, text_given}
 use Rattle.xd_boole.proofs.merging.redirect_texts.Goals as goal
 
 pub loop-step-preserved : goal.loop-step-preserved

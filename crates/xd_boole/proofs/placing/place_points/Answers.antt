@@ -4,7 +4,7 @@ use Rattle.xd_auto.specs.Automaton.{Automaton, IsState}
 use Rattle.xd_boole.specs.declared.placing.Place.{Place}
 use Rattle.xd_boole.specs.Placing.{AreIn, IsPlaced, accepts_at, place_at, state_of}
 use Rattle.xd_boole.proofs.PlaceLemmas.{PlacesSoFar, bare_accepts, each_there, extends_trans, next_so_far, none_so_far, place_read, places_in}
-use Rattle.xd_boole.proofs.Simulating.{stands}
+use Rattle.xd_boole.proofs.MeaningLaw.{stands}
 use Rattle.xd_boole.proofs.placing.place_points.Goals as goal
 use Rattle.xd_boole.proofs.placing.place_points.Goals.{in-New+in_ok-give_moves, in_default}
 

@@ -1,5 +1,5 @@
 use Rattle.std.proofs.Common.{◌∙◌}
-use Rattle.xd_auto.proofs.Extending.{keeps}
+use Rattle.xd_auto.proofs.ExtendsLemmas.{keeps}
 use Rattle.xd_boole.proofs.twins.with_universal.Goals as goal
 
 pub returns-clause-same : goal.returns-clause-same

@@ -4,7 +4,7 @@ use Rattle.xd_auto.specs.declared.auto.State.{State}
 use Rattle.xd_syntax.specs.declared.program.Param.{Param}
 use Rattle.xd_check.specs.declared.variables.Variable.{Variable}
 use Rattle.xd_check.specs.InScope.{parameters_in_scope}
-use Rattle.xd_check.proofs.Scoping.{parameter_front}
+use Rattle.xd_check.proofs.AreStatesLemmas.{parameter_front}
 use Rattle.xd_check.proofs.checker.parameters.Goals as goal
 
 pub loop-number-init : goal.loop-number-init

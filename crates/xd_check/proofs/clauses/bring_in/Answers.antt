@@ -3,7 +3,7 @@ use Rattle.std.proofs.lemmas.List.{nil_from_length}
 use Rattle.xd_bind.specs.declared.tracks.Given.{Given}
 use Rattle.xd_check.specs.InScope.{given_variables}
 use Rattle.xd_check.specs.declared.variables.Variable.{Variable}
-use Rattle.xd_check.proofs.Scoping.{given_more}
+use Rattle.xd_check.proofs.AreStatesLemmas.{given_more}
 use Rattle.xd_check.proofs.clauses.bring_in.Goals as goal
 
 pub loop-given-preserved : goal.loop-given-preserved

@@ -1,6 +1,6 @@
 use Rattle.xd_auto.specs.declared.auto.State.{State}
 use Rattle.xd_check.specs.Walked.{with_found}
-use Rattle.xd_check.proofs.Keeping.{grows_none}
+use Rattle.xd_check.proofs.GrowsLemmas.{grows_none}
 use Rattle.std.proofs.lemmas.Result.{IfOk-from_err}
 use Rattle.std.proofs.Common.{ap, sym, ◌∙◌, ◌≡◌, Option, Some, None}
 use Rattle.xd_check.proofs.clauses.pass_on.Goals as goal

@@ -5,11 +5,11 @@ use Rattle.xd_doc.specs.Document.{Document}
 use Rattle.xd_check.proofs.Lists.{if_some}
 use Rattle.std.proofs.lemmas.Result.{IfOk-from_err}
 use Rattle.std.proofs.Common.{◌^◌, Ok, ap, refl, List}
-use Rattle.xd_doc.specs.Least.{IsLeastUpTo}
+use Rattle.xd_doc.specs.LeastUpTo.{IsLeastUpTo}
 use Rattle.xd_syntax.specs.CheckFaults.{not_exhaustive}
 use Rattle.xd_clauses.specs.Clauses.{Accepted}
-use Rattle.xd_check.proofs.Keeping.{grows_none}
-use Rattle.xd_check.proofs.Knowing.{known_learnt}
+use Rattle.xd_check.proofs.GrowsLemmas.{grows_none}
+use Rattle.xd_check.proofs.IsKnownLemmas.{known_learnt}
 use Rattle.xd_check.proofs.LineLists.{adds_nowhere, adds_where}
 use Rattle.xd_check.proofs.clauses.see_uncovered.Goals as goal
 

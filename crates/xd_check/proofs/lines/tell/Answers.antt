@@ -1,10 +1,10 @@
 use Rattle.std.proofs.lemmas.Result.{IfOk-from_err}
 use Rattle.std.proofs.Common.{◌≡◌, ℕ, ◌+◌, List, [], get_or, drop, ap, sym, subst, ◌∙◌, append-nil}
 use Rattle.std.proofs.lemmas.List.{drop_all, get_or_default}
-use Rattle.xd_doc.specs.Stored.{no_items}
+use Rattle.xd_doc.specs.StoreNodes.{no_items}
 use Rattle.xd_check.specs.declared.lines.Finding.TheVariants.{NotExhaustive}
 use Rattle.xd_check.specs.declared.lines.FoundLine.{FoundLine}
-use Rattle.xd_check.proofs.Telling.{AreTold, FaultsTell, WarningsTell, fault_more, none_told, warning_more}
+use Rattle.xd_check.proofs.FoundLineLemmas.{AreTold, FaultsTell, WarningsTell, fault_more, none_told, warning_more}
 use Rattle.xd_check.proofs.lines.tell.Goals as goal
 use Rattle.xd_check.proofs.lines.tell.Goals.{in-Some+in_ok-push-in-Some, in-None+in_ok-push-in-None}
 

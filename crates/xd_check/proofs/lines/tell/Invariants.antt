@@ -1,4 +1,4 @@
-use Rattle.xd_check.proofs.Telling.{AreTold}
+use Rattle.xd_check.proofs.FoundLineLemmas.{AreTold}
 use Rattle.xd_check.proofs.lines.tell.Given as goal
 
 abbrev pub invariant-loop-line : goal.invariant-loop-line

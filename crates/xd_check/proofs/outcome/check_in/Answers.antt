@@ -1,4 +1,4 @@
-use Rattle.xd_check.proofs.Keeping.{keeps_same}
+use Rattle.xd_check.proofs.GrowsLemmas.{keeps_same}
 use Rattle.std.proofs.lemmas.Result.{IfOk-from_err}
 use Rattle.std.proofs.Common.{sym, subst}
 use Rattle.xd_syntax.specs.Kept.{ProgramTable, program_tree}

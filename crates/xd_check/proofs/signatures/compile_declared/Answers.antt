@@ -2,12 +2,12 @@ use Rattle.xd_syntax.specs.Types.{BelongsTo}
 use Rattle.std.specs.List.{AllByRecursion}
 use Rattle.std.proofs.lemmas.Result.{IfOk-from_err}
 use Rattle.std.proofs.Common.{List, subst, sym}
-use Rattle.xd_heads.proofs.Growing as G
+use Rattle.xd_heads.proofs.GrowsTypesLemmas as G
 use Rattle.xd_syntax.specs.declared.types.TypeId.{TypeId}
 use Rattle.xd_check.specs.Signed.{AreTypeStates}
 use Rattle.xd_check.specs.Walked.{Grows}
-use Rattle.xd_check.proofs.Declaring.{belongs_kept, type_first, types_kept}
-use Rattle.xd_check.proofs.Keeping.{grows_then}
+use Rattle.xd_check.proofs.AreTypeStatesLemmas.{belongs_kept, type_first, types_kept}
+use Rattle.xd_check.proofs.GrowsLemmas.{grows_then}
 use Rattle.xd_check.proofs.signatures.compile_declared.Goals as goal
 
 pub compile_type-requires : goal.compile_type-requires

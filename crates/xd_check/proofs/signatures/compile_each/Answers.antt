@@ -1,11 +1,11 @@
 use Rattle.std.proofs.lemmas.Result.{IfOk-from_err}
 use Rattle.std.proofs.Common.{◌≡◌, ◌<◌, ◌≤◌, List, length, ap, sym, subst, ◌∙◌}
 use Rattle.std.proofs.lemmas.List.{take_all}
-use Rattle.xd_laws.specs.KeptLines.{AllPaired}
+use Rattle.xd_meaning.specs.KeptFaults.{AllPaired}
 use Rattle.xd_syntax.specs.FunctionRow.{FunctionRow}
 use Rattle.xd_syntax.specs.Kept.{ProgramStands, ProgramTable}
 use Rattle.xd_check.specs.Signed.{IsSignatureOfRow}
-use Rattle.xd_check.proofs.Declaring.{AreFunctionsCompiled, functions_begin, functions_more}
+use Rattle.xd_check.proofs.AreTypeStatesLemmas.{AreFunctionsCompiled, functions_begin, functions_more}
 use Rattle.xd_check.proofs.signatures.compile_each.Goals as goal
 
 pub loop-number-init : goal.loop-number-init

@@ -1,4 +1,4 @@
-use Rattle.xd_check.proofs.Declaring.{AreFunctionsCompiled}
+use Rattle.xd_check.proofs.AreTypeStatesLemmas.{AreFunctionsCompiled}
 use Rattle.xd_check.proofs.signatures.compile_each.Given as goal
 
 abbrev pub invariant-loop-number : goal.invariant-loop-number

@@ -5,7 +5,7 @@ use Rattle.std.proofs.lemmas.List.{take_more, take_all}
 use Rattle.xd_syntax.specs.Types.{BelongsTo}
 use Rattle.xd_syntax.specs.declared.types.TypeId.{TypeId}
 use Rattle.xd_check.proofs.Lists.{all_at}
-use Rattle.xd_check.proofs.Declaring.{AreCompiled, belongs_kept, compiled_begin, compiled_more}
+use Rattle.xd_check.proofs.AreTypeStatesLemmas.{AreCompiled, belongs_kept, compiled_begin, compiled_more}
 use Rattle.xd_check.proofs.signatures.compile_types.Goals as goal
 
 pub loop-id-init : goal.loop-id-init

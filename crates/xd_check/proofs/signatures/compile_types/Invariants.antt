@@ -1,5 +1,5 @@
 use Rattle.std.proofs.Common.{take}
-use Rattle.xd_check.proofs.Declaring.{AreCompiled}
+use Rattle.xd_check.proofs.AreTypeStatesLemmas.{AreCompiled}
 use Rattle.xd_check.proofs.signatures.compile_types.Given as goal
 
 abbrev pub invariant-loop-id : goal.invariant-loop-id

@@ -8,7 +8,7 @@ use Rattle.std.proofs.lemmas.List.{drop_all}
 use Rattle.std.proofs.lemmas.Map.Text.{is_eq-slice_cmp}
 use Rattle.xd_syntax.specs.FunctionRow.{FunctionRow}
 use Rattle.xd_check.specs.Signed.{number_from}
-use Rattle.xd_check.proofs.Naming.{first_front}
+use Rattle.xd_check.proofs.FunctionRowLemmas.{first_front}
 use Rattle.xd_check.proofs.signatures.numbers.Goals as goal
 
 pub loop-number-init : goal.loop-number-init

@@ -1,7 +1,7 @@
 use Rattle.std.proofs.lemmas.Result.{IfOk-from_err}
 use Rattle.std.proofs.Common.{rules, ◌≡◌, vec_len, []}
 use Rattle.std.proofs.lemmas.List.{nil_from_length}
-use Rattle.xd_check.proofs.Making.{joined_begin, joined_end, joined_next, last_there}
+use Rattle.xd_check.proofs.AcceptedInTurnLemmas.{joined_begin, joined_end, joined_next, last_there}
 use Rattle.xd_check.proofs.states.join_states.Goals as goal
 
 pub loop-state-init : goal.loop-state-init

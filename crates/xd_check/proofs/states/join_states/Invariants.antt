@@ -1,5 +1,5 @@
 use Rattle.std.proofs.Common.{vec_len}
-use Rattle.xd_check.proofs.Making.{AreJoined}
+use Rattle.xd_check.proofs.AcceptedInTurnLemmas.{AreJoined}
 use Rattle.xd_check.proofs.states.join_states.Given as goal
 
 abbrev pub invariant-loop-state : goal.invariant-loop-state

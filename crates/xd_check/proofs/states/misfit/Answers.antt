@@ -1,5 +1,5 @@
 use Rattle.xd_doc.specs.Document.{Document}
-use Rattle.xd_doc.specs.Least.{IsLeastUpTo}
+use Rattle.xd_doc.specs.LeastUpTo.{IsLeastUpTo}
 use Rattle.xd_doc.specs.Stored.{document_at}
 use Rattle.xd_auto.specs.Automaton.{Automaton, accepts}
 use Rattle.xd_auto.specs.declared.auto.State.{State}
@@ -11,8 +11,8 @@ use Rattle.std.proofs.lemmas.Result.{IfOk-from_err}
 use Rattle.xd_apart.specs.Apart.{IsApart}
 use Rattle.xd_apart.proofs.ApartLemmas.{up_to_equal}
 use Rattle.xd_check.specs.Walked.{IsMisfit}
-use Rattle.xd_check.proofs.Keeping.{grows_none, keeps_then}
-use Rattle.xd_check.proofs.Knowing.{known_decided, known_kept}
+use Rattle.xd_check.proofs.GrowsLemmas.{grows_none, keeps_then}
+use Rattle.xd_check.proofs.IsKnownLemmas.{known_decided, known_kept}
 use Rattle.xd_check.proofs.states.misfit.Goals as goal
 
 not_err : {A E : Type 0} (r : Result A E) (x : A) → IsErr r → r ≡ Ok x → ⊥

@@ -1,5 +1,5 @@
 use Rattle.std.proofs.Common.{◌≡◌, [], ◌∷◌, ◌++◌, ap, ◌∙◌}
-use Rattle.xd_check.proofs.Making.{one_class}
+use Rattle.xd_check.proofs.AcceptedInTurnLemmas.{one_class}
 use Rattle.xd_check.proofs.states.one_text.Goals as goal
 
 pub returns : goal.returns

@@ -1,7 +1,7 @@
 use Rattle.xd_auto.specs.Automaton.{state_number}
 use Rattle.std.proofs.lemmas.Result.{IfOk-from_err}
 use Rattle.std.proofs.Common.{◌<◌, sym, subst}
-use Rattle.xd_check.proofs.Making.{IsTextMade, made_grows, made_law}
+use Rattle.xd_check.proofs.AcceptedInTurnLemmas.{IsTextMade, made_grows, made_law}
 use Rattle.xd_check.proofs.states.text_state.Goals as goal
 use Rattle.xd_check.proofs.states.text_state.Goals.{In_ok-add_text_move}
 

@@ -2,8 +2,8 @@ use Rattle.xd_auto.specs.Automaton.{accepts}
 use Rattle.std.proofs.lemmas.Result.{IfOk-from_err}
 use Rattle.std.proofs.Common.{◌≡◌, false, None, sym, ◌∙◌, subst, ◌↔◌, true}
 use Rattle.xd_check.specs.InScope.{AcceptedBy, state_of}
-use Rattle.xd_check.proofs.Keeping.{state_there, grows_none}
-use Rattle.xd_check.proofs.Making.{never, new_moves}
+use Rattle.xd_check.proofs.GrowsLemmas.{state_there, grows_none}
+use Rattle.xd_check.proofs.AcceptedInTurnLemmas.{never, new_moves}
 use Rattle.xd_check.proofs.states.variable_state.Goals as goal
 
 pub returns-in-Some : goal.returns-in-Some

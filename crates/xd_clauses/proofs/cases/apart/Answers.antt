@@ -1,5 +1,5 @@
 use Rattle.std.proofs.Common.{List, ◌+◌, take, sym, subst}
-use Rattle.xd_laws.specs.KeptLines.{AllPaired}
+use Rattle.xd_meaning.specs.KeptFaults.{AllPaired}
 use Rattle.xd_bind.specs.declared.tracks.Binding.{Binding}
 use Rattle.xd_clauses.specs.Cases.{HasOwnAutomaton}
 use Rattle.xd_clauses.proofs.Givens.{apart_more}

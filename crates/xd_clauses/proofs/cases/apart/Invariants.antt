@@ -1,5 +1,5 @@
 use Rattle.std.proofs.Common.{take}
-use Rattle.xd_laws.specs.KeptLines.{AllPaired}
+use Rattle.xd_meaning.specs.KeptFaults.{AllPaired}
 use Rattle.xd_clauses.specs.Cases.{HasOwnAutomaton}
 use Rattle.xd_clauses.proofs.cases.apart.Given as goal
 

@@ -9,7 +9,7 @@ use Rattle.xd_syntax.specs.Placed.{unplaced}
 use Rattle.xd_syntax.specs.Program.{names_of}
 use Rattle.xd_clauses.specs.Cases.{IsLinearPattern, placed_pattern, placed_patterns}
 use Rattle.xd_clauses.specs.Clauses.{Accepted, IsPatternOf}
-use Rattle.xd_clauses.proofs.Passing.{of_placed, to_old}
+use Rattle.xd_clauses.proofs.NoneTakesLemmas.{of_placed, to_old}
 use Rattle.xd_clauses.proofs.cases.arriving.Goals as goal
 
 pub left_behind-requires-clause-patterns : goal.left_behind-requires-clause-patterns

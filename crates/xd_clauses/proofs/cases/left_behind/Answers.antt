@@ -4,7 +4,7 @@ use Rattle.xd_syntax.specs.Kept.{program_tree}
 use Rattle.xd_syntax.specs.Program.{names_of}
 use Rattle.xd_clauses.specs.Cases.{placed_patterns}
 use Rattle.xd_clauses.specs.Clauses.{Accepted}
-use Rattle.xd_clauses.proofs.Passing.{left_of}
+use Rattle.xd_clauses.proofs.NoneTakesLemmas.{left_of}
 use Rattle.xd_clauses.proofs.cases.left_behind.Goals as goal
 
 pub returns-clause-exact : goal.returns-clause-exact

@@ -7,7 +7,7 @@ use Rattle.xd_syntax.specs.Program.{names_of}
 use Rattle.xd_syntax.specs.declared.patterns.PatternId.{PatternId}
 use Rattle.xd_clauses.specs.Cases.{placed_pattern, placed_patterns}
 use Rattle.xd_clauses.specs.Clauses.{Accepted}
-use Rattle.xd_clauses.proofs.Passing.{of_placed, passed_more}
+use Rattle.xd_clauses.proofs.NoneTakesLemmas.{of_placed, passed_more}
 use Rattle.xd_clauses.proofs.cases.left_over.Goals as goal
 
 pub loop-id-init : goal.loop-id-init

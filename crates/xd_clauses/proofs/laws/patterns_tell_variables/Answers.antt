@@ -1,4 +1,4 @@
-use Rattle.xd_clauses.proofs.Telling.{keep_together, tells}
+use Rattle.xd_clauses.proofs.CompiledTellLaw.{keep_together, tells}
 use Rattle.xd_clauses.proofs.laws.patterns_tell_variables.Goals as goal
 
 pub returns-clause-together : goal.returns-clause-together

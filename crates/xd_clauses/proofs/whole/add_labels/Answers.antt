@@ -3,7 +3,7 @@ use Rattle.xd_auto.specs.declared.auto.LabelMove.{LabelMove}
 use Rattle.xd_auto.specs.Automaton.{IsState}
 use Rattle.xd_patterns.specs.Held.{marking_of}
 use Rattle.xd_clauses.specs.Whole.{IsTurned}
-use Rattle.xd_clauses.proofs.Turning.{turned_more}
+use Rattle.xd_clauses.proofs.HasUniversalLemmas.{turned_more}
 use Rattle.xd_clauses.proofs.whole.add_labels.Goals as goal
 
 pub loop-step-preserved : goal.loop-step-preserved

@@ -1,5 +1,5 @@
 use Rattle.xd_patterns.specs.Held.{marking_of}
-use Rattle.xd_clauses.proofs.Turning.{bare_room, has_universal}
+use Rattle.xd_clauses.proofs.HasUniversalLemmas.{bare_room, has_universal}
 use Rattle.xd_clauses.proofs.whole.with_universal.Goals as goal
 
 pub add_moves-requires-clause-room : goal.add_moves-requires-clause-room

@@ -1,5 +1,5 @@
 use Rattle.std.proofs.Common.{subst, sym}
-use Rattle.xd_proof_form.specs.Lines.{SpellsNumber}
+use Rattle.xd_proof.specs.Lines.{SpellsNumber}
 use Rattle.xd_command.proofs.Numbers.{number_found, number_too_great}
 use Rattle.xd_command.proofs.command.number_within.Goals as goal
 

@@ -3,7 +3,7 @@ use Rattle.xd_syntax.specs.Kept.{ProgramTable, program_tree}
 use Rattle.xd_syntax.specs.Program.{names_of}
 use Rattle.xd_syntax.specs.Types as types
 use Rattle.xd_sound.proofs.AdoptLaws.{type_kept}
-use Rattle.xd_command.specs.Fits.{IsAcceptor}
+use Rattle.xd_command.specs.FitsByState.{IsAcceptor}
 use Rattle.xd_command.proofs.membership.acceptor.Goals as goal
 
 pub compile_plain_type-requires-clause-belongs : goal.compile_plain_type-requires-clause-belongs

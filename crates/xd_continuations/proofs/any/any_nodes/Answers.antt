@@ -2,7 +2,8 @@ use Rattle.std.proofs.Common.{◌≡◌, ◌<◌, ◌≤◌, ℕ, List, map, len
 use Rattle.std.specs.List.{AllByRecursion}
 use Rattle.xd_doc.specs.Classes.{LabelClass, is_named}
 use Rattle.xd_syntax.specs.Words.{any_word}
-use Rattle.xd_syntax.specs.Tree.{Tree, Name, Elem, Alt, Star, Text, all_labels, is_alt, alt_of}
+use Rattle.xd_syntax.specs.Tree.{Tree, Name, Elem, Alt, Star, Text, all_labels}
+use Rattle.xd_syntax.specs.TreeForms.{is_alt, alt_of}
 use Rattle.xd_syntax.specs.Table.{Row, IsAltPart, KeepsRows, tree_at}
 use Rattle.xd_syntax.specs.Types.{type_numbers}
 use Rattle.xd_syntax.specs.declared.types.TypeId.{TypeId}

@@ -3,7 +3,8 @@ use Rattle.std.specs.BinaryHeap.{IsHeap, heap_items}
 use Rattle.std.specs.List.{Contains}
 use Rattle.std.specs.Ordering.{nat_cmp}
 use Rattle.xd_doc.specs.Document.{size}
-use Rattle.xd_doc.specs.Stored.{AreClosed, IsMet, at_node, documents}
+use Rattle.xd_doc.specs.StoreNodes.{AreClosed, IsMet, documents}
+use Rattle.xd_doc.specs.Stored.{at_node}
 use Rattle.xd_doc.proofs.CopyLemmas.{IsLast, sizes}
 use Rattle.xd_doc.proofs.store.reached_from.Given as goal
 

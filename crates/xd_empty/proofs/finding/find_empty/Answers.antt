@@ -1,6 +1,6 @@
 use Rattle.std.proofs.Common.{arith, ◌≡◌, ◌≤◌, ◌∙◌, false, length, sym, subst, take, ap}
 use Rattle.std.proofs.lemmas.List.{length-set}
-use Rattle.xd_doc.specs.Stored.{no_items}
+use Rattle.xd_doc.specs.StoreNodes.{no_items}
 use Rattle.xd_auto.specs.Automaton.{moves_at, state_number}
 use Rattle.xd_auto.proofs.Closed.{same_state}
 use Rattle.xd_empty.specs.Uses.{lists_by_state}

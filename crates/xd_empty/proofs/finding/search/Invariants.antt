@@ -1,5 +1,5 @@
 use Rattle.std.proofs.Common.{◌≡◌, ◌-◌, length, take}
-use Rattle.xd_doc.specs.Stored.{Keeps}
+use Rattle.xd_doc.specs.StoreNodes.{Keeps}
 use Rattle.xd_empty.specs.Inhabited.{Searching, steps_in}
 use Rattle.xd_empty.specs.Uses.{lists_by_state}
 use Rattle.xd_empty.proofs.finding.search.Given as goal

@@ -2,10 +2,11 @@ use Rattle.std.proofs.Common.{◌≡◌, ℕ, ◌+◌, ◌*◌, arith, List, get
 use Rattle.xd_doc.specs.Stored.{document_at}
 use Rattle.xd_doc.specs.Document.{text, empty}
 use Rattle.xd_doc.specs.declared.store.Seq.{Seq}
-use Rattle.xd_syntax.specs.Expression.{Quoted, Variable, Called, Matched, joined, arguments_of, shape_expression, seq_shape, call_shape, match_shape, ExprCanFollow}
+use Rattle.xd_syntax.specs.Expression.{Quoted, Variable, Called, Matched, joined, arguments_of}
+use Rattle.xd_syntax.specs.ExpressionTable.{shape_expression, seq_shape, call_shape, match_shape, ExprCanFollow}
 use Rattle.xd_syntax.specs.Exprs.{expr_numbers, clause_numbers, shape_of}
 use Rattle.xd_syntax.specs.Kept.{program_tree}
-use Rattle.xd_syntax.specs.Placed.{placed_at}
+use Rattle.xd_syntax.specs.PlacedTable.{placed_at}
 use Rattle.xd_eval.specs.Waiting.{steps, all_steps}
 use Rattle.xd_eval.specs.Machine.{PartsAreRunnable, expression_in, clauses_in, most_steps, ScopeStands, IsStep, IsMatch, found_in}
 use Rattle.xd_eval.specs.declared.frame.Frame.TheVariants.{Match}

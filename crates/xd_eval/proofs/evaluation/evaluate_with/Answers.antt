@@ -3,11 +3,11 @@ use Rattle.xd_doc.specs.Stored.{document_at}
 use Rattle.xd_syntax.specs.Kept.{ProgramTable, program_tree}
 use Rattle.xd_syntax.specs.Words.{main_word}
 use Rattle.xd_syntax.specs.RecursionFaults.{IsSound}
-use Rattle.xd_laws.specs.Meaning.{Done}
+use Rattle.xd_meaning.specs.Meaning.{Done}
 use Rattle.xd_eval.specs.Functions.{row_of}
 use Rattle.xd_eval.specs.Machine.{IsStart}
 use Rattle.xd_eval.specs.Machine.{IsEnding}
-use Rattle.xd_eval.proofs.Running.{ran, left_within, stuck_never, main_missing, value_declared}
+use Rattle.xd_eval.proofs.AcceptedLemmas.{ran, left_within, stuck_never, main_missing, value_declared}
 use Rattle.xd_eval.proofs.evaluation.evaluate_with.Goals as goal
 
 pub overflow_sub-result : goal.overflow_sub-result

@@ -3,7 +3,7 @@ use Rattle.std.specs.Option.{option_copied}
 use Rattle.xd_syntax.specs.Kept.{ProgramTable, ProgramStands}
 use Rattle.xd_eval.specs.Functions.{row_of}
 use Rattle.xd_eval.specs.Machine.{bound_seqs}
-use Rattle.xd_eval.proofs.Running.{started}
+use Rattle.xd_eval.proofs.AcceptedLemmas.{started}
 use Rattle.xd_eval.proofs.evaluation.start_of.Goals as goal
 
 pub returns : goal.returns

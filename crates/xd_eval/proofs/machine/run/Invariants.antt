@@ -1,5 +1,5 @@
 use Rattle.std.proofs.Common.{◌≡◌, []}
-use Rattle.xd_doc.specs.Stored.{Keeps}
+use Rattle.xd_doc.specs.StoreNodes.{Keeps}
 use Rattle.xd_eval.specs.Machine.{ControlStands, FramesStand, outcome, steps_left}
 use Rattle.xd_eval.proofs.machine.run.Given as goal
 

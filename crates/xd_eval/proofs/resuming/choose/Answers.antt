@@ -1,10 +1,11 @@
 use Rattle.std.proofs.Common.{get_or, ap, sym, ◌∙◌}
 use Rattle.xd_doc.specs.Stored.{document_at}
-use Rattle.xd_syntax.specs.Placed.{placed_at, unplaced}
+use Rattle.xd_syntax.specs.PlacedTable.{placed_at}
+use Rattle.xd_syntax.specs.Placed.{unplaced}
 use Rattle.xd_doc.proofs.Lists.{all_at}
 use Rattle.xd_syntax.specs.declared.exprs.Clause.{Clause}
 use Rattle.xd_eval.specs.Machine.{IsOfClause, IsRunnable, matcher}
-use Rattle.xd_eval.proofs.Choosing.{bound_are, is_body, same_at}
+use Rattle.xd_eval.proofs.ClausesStandLemmas.{bound_are, is_body, same_at}
 use Rattle.xd_eval.proofs.Waits.{keeps_then}
 use Rattle.xd_eval.proofs.resuming.choose.Goals as goal
 

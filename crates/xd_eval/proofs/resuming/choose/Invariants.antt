@@ -1,7 +1,8 @@
 use Rattle.std.proofs.Common.{◌≡◌, ℕ, ◌≤◌, drop}
-use Rattle.xd_doc.specs.Stored.{Keeps, document_at}
+use Rattle.xd_doc.specs.StoreNodes.{Keeps}
+use Rattle.xd_doc.specs.Stored.{document_at}
 use Rattle.xd_syntax.specs.Exprs.{clause_numbers}
-use Rattle.xd_laws.specs.Meaning.{chosen_by}
+use Rattle.xd_meaning.specs.Meaning.{chosen_by}
 use Rattle.xd_eval.specs.Waiting.{clause_steps}
 use Rattle.xd_eval.specs.Machine.{matcher, caller, environment_in, clauses_in}
 use Rattle.xd_eval.proofs.resuming.choose.Given as goal

@@ -1,7 +1,7 @@
 use Rattle.std.proofs.Common.{◌≡◌, ◌+◌, ◌-◌, [], ◌∷◌, ◌++◌, ap, sym, subst, ◌∙◌}
 use Rattle.std.specs.List.{AllByRecursion}
 use Rattle.xd_doc.specs.Stored.{BelongsTo}
-use Rattle.xd_syntax.specs.Expression.{shape_at}
+use Rattle.xd_syntax.specs.ExpressionTable.{shape_at}
 use Rattle.xd_syntax.specs.Kept.{ProgramTable}
 use Rattle.xd_eval.specs.Functions.{row_of}
 use Rattle.xd_syntax.specs.declared.exprs.ExprId.{ExprId}

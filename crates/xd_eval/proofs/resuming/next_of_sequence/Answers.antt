@@ -1,5 +1,5 @@
 use Rattle.std.proofs.Common.{ap, ◌∙◌}
-use Rattle.xd_doc.specs.Stored.{joined_at}
+use Rattle.xd_doc.specs.StoreNodes.{joined_at}
 use Rattle.xd_eval.proofs.Resumed.{next_in_sequence, ends_sequence}
 use Rattle.xd_eval.proofs.resuming.next_of_sequence.Goals as goal
 

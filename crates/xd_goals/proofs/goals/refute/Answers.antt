@@ -1,8 +1,8 @@
 use Rattle.std.proofs.Common.{ℕ, Option, ap, ◌∙◌, subst}
 use Rattle.xd_goals.specs.Rows.{GoalRow, Leads}
 use Rattle.xd_goals.specs.Kept.{IsWoken}
-use Rattle.xd_goals.proofs.Linking.{row_read}
-use Rattle.xd_goals.proofs.Waking.{Refutes-steps}
+use Rattle.xd_goals.proofs.AreLinkedLemmas.{row_read}
+use Rattle.xd_goals.proofs.IsWokenRowLemmas.{Refutes-steps}
 use Rattle.xd_goals.proofs.goals.refute.Goals as goal
 
 pub returns : goal.returns

@@ -1,8 +1,8 @@
 use Rattle.std.proofs.Common.{ap, ◌∙◌, arith, length, length-set}
 use Rattle.xd_goals.specs.Rows.{GoalRow, row_at}
 use Rattle.xd_goals.specs.Kept.{with_flag}
-use Rattle.xd_goals.proofs.Linking.{row_read}
-use Rattle.xd_goals.proofs.Waking.{woken_flag}
+use Rattle.xd_goals.proofs.AreLinkedLemmas.{row_read}
+use Rattle.xd_goals.proofs.IsWokenRowLemmas.{woken_flag}
 use Rattle.xd_goals.proofs.goals.wake.Goals as goal
 
 pub returns-in_default : goal.returns-in_default

@@ -1,4 +1,4 @@
-use Rattle.xd_goals.proofs.Waking.{WakesTo-start}
+use Rattle.xd_goals.proofs.IsWokenRowLemmas.{WakesTo-start}
 use Rattle.xd_goals.proofs.goals.wake_all.Goals as goal
 
 pub loop-at-init : goal.loop-at-init

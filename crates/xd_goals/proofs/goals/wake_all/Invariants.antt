@@ -1,4 +1,4 @@
-use Rattle.xd_goals.proofs.Waking.{WakesTo, steps_left}
+use Rattle.xd_goals.proofs.IsWokenRowLemmas.{WakesTo, steps_left}
 use Rattle.xd_goals.proofs.goals.wake_all.Given as goal
 
 abbrev pub invariant-loop-at : goal.invariant-loop-at

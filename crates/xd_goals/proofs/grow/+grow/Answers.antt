@@ -1,11 +1,11 @@
 use Rattle.std.proofs.lemmas.Result.{IfOk-from_err}
 use Rattle.std.proofs.Common.{◌≡◌, ◌∙◌, arith}
 use Rattle.xd_goals.specs.Kept.{view_of}
-use Rattle.xd_state_heads.specs.Moves.{with_state}
+use Rattle.xd_rules.specs.Moves.{with_state}
 use Rattle.xd_goals.specs.Trees.{IsGrown}
-use Rattle.xd_goals.proofs.Growing.{Grows-then}
+use Rattle.xd_goals.proofs.GrowsByLemmas.{Grows-then}
 use Rattle.xd_goals.proofs.Trees.{HasOpenTree-within, content_path, open_within-grows, rest_path, split_tree}
-use Rattle.xd_goals.proofs.Splitting.{falls_content, falls_rest}
+use Rattle.xd_goals.proofs.IsSeparatedByLemmas.{falls_content, falls_rest}
 use Rattle.xd_goals.proofs.Facts.{separated-grows}
 use Rattle.xd_goals.proofs.grow.+grow.Goals as goal
 

@@ -2,18 +2,18 @@ use Rattle.std.proofs.lemmas.Result.{IfOk-from_err}
 use Rattle.std.proofs.Common.{ℕ, ◌≡◌, List, Some, sym, ap, subst, ◌∙◌, arith}
 use Rattle.std.specs.List.{slice_get}
 use Rattle.xd_auto.specs.declared.auto.State.{State}
-use Rattle.xd_state_heads.specs.declared.heads.Side.{Side}
+use Rattle.xd_rules.specs.declared.heads.Side.{Side}
 use Rattle.xd_goals.specs.declared.goals.Goals.{Goals}
 use Rattle.xd_goals.specs.declared.grow.Task.{Task}
 use Rattle.xd_goals.specs.declared.table.ChoiceNode.{ChoiceNode}
 use Rattle.xd_goals.specs.declared.table.ChoiceNode.TheVariants.{Split}
 use Rattle.xd_goals.specs.Kept.{view_of}
-use Rattle.xd_state_heads.specs.Moves.{with_state}
+use Rattle.xd_rules.specs.Moves.{with_state}
 use Rattle.xd_goals.specs.Trees.{HasTree, IsGrown, IsSplitAt}
-use Rattle.xd_goals.proofs.Growing.{Grows-same, Grows-then}
+use Rattle.xd_goals.proofs.GrowsByLemmas.{Grows-same, Grows-then}
 use Rattle.xd_goals.proofs.Facts.{separated-grows}
 use Rattle.xd_goals.proofs.Trees.{IsGrown-grows, HasTree-grows, content_path, rest_path, split_tree, open_within-grows, HasOpenTree-within}
-use Rattle.xd_goals.proofs.Repairing.{HasTree-within, HasParts, tree_parts, content_there, rest_there, content_open, rest_open, same_side, split_stays}
+use Rattle.xd_goals.proofs.HasTreeLemmas.{HasTree-within, HasParts, tree_parts, content_there, rest_there, content_open, rest_open, same_side, split_stays}
 use Rattle.xd_goals.proofs.grow.+repair.Goals as goal
 
 -- the parts of the tree that is there

@@ -1,10 +1,10 @@
 use Rattle.std.proofs.lemmas.Result.{IfOk-from_err}
 use Rattle.std.proofs.Common.{◌≡◌, List, [], Some, subst, sym, ◌∙◌}
 use Rattle.xd_auto.specs.declared.auto.State.{State}
-use Rattle.xd_state_heads.specs.Moves.{claim_with}
+use Rattle.xd_rules.specs.Moves.{claim_with}
 use Rattle.xd_goals.specs.Rows.{claim_at}
 use Rattle.xd_goals.specs.Kept.{view_of}
-use Rattle.xd_goals.proofs.Growing.{Grows-same, Grows-then}
+use Rattle.xd_goals.proofs.GrowsByLemmas.{Grows-same, Grows-then}
 use Rattle.xd_goals.proofs.Trees.{gathered-below, gathered-order, text_leaf, read_open}
 use Rattle.xd_goals.proofs.grow.grow_text.Goals as goal
 

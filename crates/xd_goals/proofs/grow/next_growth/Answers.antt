@@ -1,10 +1,10 @@
 use Rattle.std.proofs.lemmas.Result.{IfOk-from_err}
 use Rattle.std.proofs.Common.{arith}
 use Rattle.xd_goals.specs.Kept.{view_of}
-use Rattle.xd_state_heads.specs.Moves.{claim_with}
+use Rattle.xd_rules.specs.Moves.{claim_with}
 use Rattle.xd_goals.specs.Standing.{IsSeparatedBy}
-use Rattle.xd_goals.proofs.Growing.{Grows-then}
-use Rattle.xd_goals.proofs.Splitting.{leaf_separated, taker_free}
+use Rattle.xd_goals.proofs.GrowsByLemmas.{Grows-then}
+use Rattle.xd_goals.proofs.IsSeparatedByLemmas.{leaf_separated, taker_free}
 use Rattle.xd_goals.proofs.Trees.{content_leaf, read_open, rest_leaf}
 use Rattle.xd_goals.proofs.grow.next_growth.Goals as goal
 use Rattle.xd_goals.proofs.grow.next_growth.Goals.{In-Refuted-standing}

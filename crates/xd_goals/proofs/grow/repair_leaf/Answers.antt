@@ -1,5 +1,5 @@
 use Rattle.xd_goals.specs.Kept.{view_of}
-use Rattle.xd_goals.proofs.Growing.{Grows-same}
+use Rattle.xd_goals.proofs.GrowsByLemmas.{Grows-same}
 use Rattle.xd_goals.proofs.grow.repair_leaf.Goals as goal
 
 pub returns-else-is_refuted : goal.returns-else-is_refuted

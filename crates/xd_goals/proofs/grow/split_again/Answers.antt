@@ -1,7 +1,7 @@
 use Rattle.std.proofs.Common.{ℕ, subst, sym}
 use Rattle.xd_goals.specs.Kept.{view_of}
 use Rattle.xd_goals.specs.Trees.{IsSplitAt}
-use Rattle.xd_goals.proofs.Growing.{Grows-same}
+use Rattle.xd_goals.proofs.GrowsByLemmas.{Grows-same}
 use Rattle.xd_goals.proofs.grow.split_again.Goals as goal
 
 pub returns-then-two-rest-clause-grows : goal.returns-then-two-rest-clause-grows

@@ -1,6 +1,6 @@
 use Rattle.xd_goals.specs.Kept.{view_of}
 use Rattle.xd_goals.proofs.Facts.{keeps_goals-then}
-use Rattle.xd_goals.proofs.Stepping.{asked_kept, asked_stands, keeps-same, whole_of}
+use Rattle.xd_goals.proofs.FactsOnLemmas.{asked_kept, asked_stands, keeps-same, whole_of}
 use Rattle.xd_goals.proofs.inclusion.decide_in.Goals as goal
 
 pub find_or_add-requires-clause-consistent : goal.find_or_add-requires-clause-consistent

@@ -1,8 +1,8 @@
 use Rattle.std.proofs.Common.{length}
 use Rattle.std.proofs.lemmas.Option.{slice_get_within}
 use Rattle.xd_goals.specs.Verdicts.{IsGoalBelow}
-use Rattle.xd_state_heads.proofs.Lists.{all_push}
-use Rattle.xd_goals.proofs.Waking.{next_smaller, next_below}
+use Rattle.xd_rules.proofs.Lists.{all_push}
+use Rattle.xd_goals.proofs.IsWokenRowLemmas.{next_smaller, next_below}
 use Rattle.xd_goals.proofs.inclusion.list_woken.Goals as goal
 
 pub loop-at-smaller : goal.loop-at-smaller

@@ -1,4 +1,4 @@
-use Rattle.xd_goals.proofs.Stepping.{all_before}
+use Rattle.xd_goals.proofs.FactsOnLemmas.{all_before}
 use Rattle.xd_goals.specs.Verdicts.{IsGoalBelow}
 use Rattle.std.proofs.Common.{length, sym, ◌∙◌}
 use Rattle.xd_goals.proofs.inclusion.next_waiting.Goals as goal

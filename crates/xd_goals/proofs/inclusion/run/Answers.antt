@@ -1,10 +1,10 @@
-use Rattle.xd_state_heads.proofs.Results.{OnOk-from_err}
+use Rattle.xd_rules.proofs.Results.{OnOk-from_err}
 use Rattle.std.proofs.Common.{◌+◌, arith, length, rules}
 use Rattle.xd_goals.specs.Kept.{view_of}
 use Rattle.xd_goals.specs.Measure.{possible}
 use Rattle.xd_goals.proofs.Facts.{keeps_goals-then, keeps-then}
-use Rattle.xd_goals.proofs.Measuring.{lowers-then, made-then}
-use Rattle.xd_goals.proofs.Stepping.{bounded}
+use Rattle.xd_goals.proofs.PotentialLemmas.{lowers-then, made-then}
+use Rattle.xd_goals.proofs.FactsOnLemmas.{bounded}
 use Rattle.xd_goals.proofs.inclusion.run.Goals as goal
 
 pub loop-goal-smaller : goal.loop-goal-smaller

@@ -1,7 +1,7 @@
 use Rattle.std.proofs.Common.{◌+◌, length}
 use Rattle.std.specs.List.{AllByRecursion}
-use Rattle.xd_doc.specs.Stored.{Keeps}
-use Rattle.xd_member.specs.Kept.{AreRight}
+use Rattle.xd_doc.specs.StoreNodes.{Keeps}
+use Rattle.xd_auto.specs.Kept.{AreRight}
 use Rattle.xd_goals.specs.Kept.{IsWhole, view_of}
 use Rattle.xd_goals.specs.Measure.{AreMadeFrom, Lowers, possible, potential}
 use Rattle.xd_goals.specs.Standing.{KeepsGoals}

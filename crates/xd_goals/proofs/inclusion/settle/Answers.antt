@@ -1,13 +1,13 @@
 use Rattle.std.proofs.lemmas.Result.{IfOk-from_err}
 use Rattle.std.proofs.Common.{◌+◌, ◌∙◌, arith, length, sym, rules}
 use Rattle.xd_goals.specs.Kept.{view_of}
-use Rattle.xd_state_heads.specs.Moves.{claim_with}
+use Rattle.xd_rules.specs.Moves.{claim_with}
 use Rattle.xd_goals.specs.Measure.{possible}
 use Rattle.xd_goals.specs.Reached.{IsWaitingIn}
 use Rattle.xd_goals.proofs.Facts.{keeps_goals-then, keeps-then}
-use Rattle.xd_goals.proofs.Measuring.{made-then, potential-marked}
+use Rattle.xd_goals.proofs.PotentialLemmas.{made-then, potential-marked}
 use Rattle.xd_goals.proofs.Trees.{read_open}
-use Rattle.xd_goals.proofs.Stepping.{asked_included, asked_separated, bounded, claim_stays, keeps-same, none_added, trees_there, waiting_below, keeps_goals-same, after_marks, all_before, no_length}
+use Rattle.xd_goals.proofs.FactsOnLemmas.{asked_included, asked_separated, bounded, claim_stays, keeps-same, none_added, trees_there, waiting_below, keeps_goals-same, after_marks, all_before, no_length}
 use Rattle.xd_goals.proofs.inclusion.settle.Goals as goal
 
 pub loop-document-init : goal.loop-document-init

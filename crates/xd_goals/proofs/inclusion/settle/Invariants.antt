@@ -1,6 +1,6 @@
 use Rattle.std.proofs.Common.{◌+◌, length}
-use Rattle.xd_doc.specs.Stored.{Keeps}
-use Rattle.xd_member.specs.Kept.{AreRight}
+use Rattle.xd_doc.specs.StoreNodes.{Keeps}
+use Rattle.xd_auto.specs.Kept.{AreRight}
 use Rattle.xd_goals.specs.Kept.{IsWhole, view_of}
 use Rattle.xd_goals.specs.Measure.{AreMadeFrom, possible, potential}
 use Rattle.xd_goals.specs.Standing.{KeepsGoals}

@@ -1,8 +1,8 @@
-use Rattle.xd_state_heads.proofs.Results.{OnOk-from_err}
+use Rattle.xd_rules.proofs.Results.{OnOk-from_err}
 use Rattle.std.proofs.Common.{length, arith}
 use Rattle.xd_goals.specs.Verdicts.{IsGoalBelow}
 use Rattle.xd_goals.specs.declared.table.GoalId.{GoalId}
-use Rattle.xd_state_heads.proofs.Lists.{all_map}
+use Rattle.xd_rules.proofs.Lists.{all_map}
 use Rattle.xd_goals.proofs.inclusion.step.Goals as goal
 
 pub list_woken-requires-clause-agenda : goal.list_woken-requires-clause-agenda

@@ -1,5 +1,5 @@
 use Rattle.xd_goals.proofs.Facts.{stands-keeps}
-use Rattle.xd_goals.proofs.Extending.{longer, stands-extends}
+use Rattle.xd_goals.proofs.StandsOnLemmas.{longer, stands-extends}
 use Rattle.xd_goals.proofs.Itself.{stands_apart, stands_together}
 use Rattle.xd_goals.proofs.laws.tables_stay_standing.Goals as goal
 

@@ -1,4 +1,4 @@
-use Rattle.xd_goals.proofs.Reaching.{reaches-then, leads_push, only_more}
+use Rattle.xd_goals.proofs.IsWalkedLemmas.{reaches-then, leads_push, only_more}
 use Rattle.xd_goals.proofs.settled.mark_choices.Goals as goal
 
 pub loop-choice-preserved : goal.loop-choice-preserved

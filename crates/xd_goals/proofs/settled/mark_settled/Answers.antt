@@ -1,7 +1,7 @@
 use Rattle.std.proofs.Common.{ℕ, ◌<◌, length}
 use Rattle.std.proofs.lemmas.List.{get_or_default}
-use Rattle.xd_state_heads.proofs.Lists.{all_get}
-use Rattle.xd_goals.proofs.Reaching.{marks_none, marks_more}
+use Rattle.xd_rules.proofs.Lists.{all_get}
+use Rattle.xd_goals.proofs.IsWalkedLemmas.{marks_none, marks_more}
 use Rattle.xd_goals.proofs.settled.mark_settled.Goals as goal
 
 pub loop-number-init : goal.loop-number-init

@@ -1,4 +1,4 @@
-use Rattle.xd_goals.proofs.Reaching.{unmarked_push}
+use Rattle.xd_goals.proofs.IsWalkedLemmas.{unmarked_push}
 use Rattle.std.proofs.Common.{arith}
 use Rattle.xd_goals.proofs.settled.no_marks.Goals as goal
 

@@ -3,7 +3,7 @@ use Rattle.std.proofs.lemmas.Bool.{eqb-true}
 use Rattle.std.proofs.lemmas.List.{nil_from_length}
 use Rattle.xd_goals.specs.Kept.{view_of}
 use Rattle.xd_goals.specs.Reached.{MarksThese}
-use Rattle.xd_goals.proofs.Reaching.{closed_stay, settled_is, start_settled}
+use Rattle.xd_goals.proofs.IsWalkedLemmas.{closed_stay, settled_is, start_settled}
 use Rattle.xd_goals.proofs.settled.unsettled.Goals as goal
 
 pub returns-then-is_settled-clause-none : goal.returns-then-is_settled-clause-none

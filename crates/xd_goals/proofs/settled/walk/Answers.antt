@@ -3,8 +3,8 @@ use Rattle.xd_goals.specs.declared.table.Standing.TheVariants.{Refuted}
 use Rattle.xd_goals.specs.Rows.{GoalRow, row_at}
 use Rattle.xd_goals.specs.Kept.{view_of}
 use Rattle.xd_goals.specs.Reached.{HaveTreesWithin}
-use Rattle.xd_goals.proofs.Linking.{row_read}
-use Rattle.xd_goals.proofs.Reaching.{walk_found, walk_number, walk_on, walk_open, walk_over, walk_waits}
+use Rattle.xd_goals.proofs.AreLinkedLemmas.{row_read}
+use Rattle.xd_goals.proofs.IsWalkedLemmas.{walk_found, walk_number, walk_on, walk_open, walk_over, walk_waits}
 use Rattle.xd_goals.proofs.settled.walk.Goals as goal
 use Rattle.xd_goals.proofs.settled.walk.Goals.{then-not-is_settled+in-Holds+in_ok-mark_choices-in-Holds, then-not-is_settled+in-Waiting+in_ok-push-in-Waiting, else-not-is_settled}
 

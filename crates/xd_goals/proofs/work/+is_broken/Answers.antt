@@ -1,7 +1,7 @@
 use Rattle.std.proofs.Common.{length, arith}
 use Rattle.xd_goals.specs.Rows.{IsRefuted}
 use Rattle.xd_goals.proofs.Trees.{StandsAt-within}
-use Rattle.xd_goals.proofs.Reaching.{content_within, rest_within, parts_within, leaves_content, leaves_rest, leaves_split}
+use Rattle.xd_goals.proofs.IsWalkedLemmas.{content_within, rest_within, parts_within, leaves_content, leaves_rest, leaves_split}
 use Rattle.xd_goals.proofs.work.+is_broken.Goals as goal
 
 pub node_at-requires : goal.node_at-requires

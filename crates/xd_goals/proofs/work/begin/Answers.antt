@@ -1,14 +1,14 @@
 use Rattle.std.proofs.lemmas.Result.{IfOk-from_err}
 use Rattle.std.proofs.Common.{List, map, sym, ap, subst, refl, ◌∙◌, arith, rules}
-use Rattle.xd_state_heads.specs.Moves.{claim_with}
+use Rattle.xd_rules.specs.Moves.{claim_with}
 use Rattle.xd_goals.specs.Kept.{view_of}
-use Rattle.xd_state_heads.specs.Wants.{IsCaseOf, want_key}
-use Rattle.xd_state_heads.specs.declared.heads.Want.{Want}
-use Rattle.xd_state_heads.proofs.Lists.{all_get}
-use Rattle.xd_goals.proofs.Growing.{Grows-same, Grows-then}
-use Rattle.xd_state_heads.proofs.Naming.{take_all}
+use Rattle.xd_rules.specs.Wants.{IsCaseOf, want_key}
+use Rattle.xd_rules.specs.declared.heads.Want.{Want}
+use Rattle.xd_rules.proofs.Lists.{all_get}
+use Rattle.xd_goals.proofs.GrowsByLemmas.{Grows-same, Grows-then}
+use Rattle.xd_rules.proofs.IsHeadNamedLemmas.{take_all}
 use Rattle.xd_goals.proofs.Facts.{separated-grows}
-use Rattle.xd_goals.proofs.Working.{begun_more, end_chosen, end_failed}
+use Rattle.xd_goals.proofs.IsTreeBySortLemmas.{begun_more, end_chosen, end_failed}
 use Rattle.xd_goals.proofs.work.begin.Goals as goal
 
 pub loop-number-init : goal.loop-number-init

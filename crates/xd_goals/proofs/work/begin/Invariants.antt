@@ -1,9 +1,9 @@
 use Rattle.std.proofs.Common.{◌≡◌, length, map, take}
-use Rattle.xd_member.specs.Kept.{AreRight}
-use Rattle.xd_state_heads.specs.Moves.{claim_with}
+use Rattle.xd_auto.specs.Kept.{AreRight}
+use Rattle.xd_rules.specs.Moves.{claim_with}
 use Rattle.xd_goals.specs.Kept.{Grows, IsConsistent, view_of}
 use Rattle.xd_goals.specs.Cases.{AreBegun}
-use Rattle.xd_state_heads.specs.Wants.{want_key}
+use Rattle.xd_rules.specs.Wants.{want_key}
 use Rattle.xd_goals.proofs.work.begin.Given as goal
 
 abbrev pub invariant-loop-number : goal.invariant-loop-number

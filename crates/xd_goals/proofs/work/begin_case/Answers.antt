@@ -1,9 +1,9 @@
 use Rattle.std.proofs.lemmas.Result.{IfOk-from_err}
 use Rattle.std.proofs.Common.{sym, true, false, ◌∙◌}
-use Rattle.xd_state_heads.specs.Moves.{claim_with}
+use Rattle.xd_rules.specs.Moves.{claim_with}
 use Rattle.xd_goals.specs.Kept.{view_of}
-use Rattle.xd_goals.proofs.Growing.{Grows-same}
-use Rattle.xd_goals.proofs.Working.{case_path, case_grown}
+use Rattle.xd_goals.proofs.GrowsByLemmas.{Grows-same}
+use Rattle.xd_goals.proofs.IsTreeBySortLemmas.{case_path, case_grown}
 use Rattle.xd_goals.proofs.work.begin_case.Goals as goal
 
 pub grow_text-requires-clause-path : goal.grow_text-requires-clause-path

@@ -2,14 +2,14 @@ use Rattle.std.proofs.Common.{◌<◌, ◌≡◌, length, sym, subst, ◌∙◌,
 use Rattle.std.specs.List.{AllByRecursion}
 use Rattle.xd_rules.specs.Rules.{Claim}
 use Rattle.xd_auto.specs.declared.auto.State.{State}
-use Rattle.xd_state_heads.specs.Moves.{claim_with}
+use Rattle.xd_rules.specs.Moves.{claim_with}
 use Rattle.xd_goals.specs.Kept.{view_of}
 use Rattle.xd_goals.specs.Cases.{FailsAt}
 use Rattle.xd_goals.proofs.Facts.{keeps_goals-grows, keeps_goals-then}
 use Rattle.xd_goals.proofs.Trees.{standing-grows}
-use Rattle.xd_goals.proofs.Measuring.{lowers-grown, made-grows, made-then}
-use Rattle.xd_state_heads.proofs.Results.{OnOk-map, OnOk-from_err}
-use Rattle.xd_goals.proofs.Stepping.{IsStep, held_by, keeps-same, owner_claim, same_held_by, stands_grown, step_grown, whole_of, whole_same}
+use Rattle.xd_goals.proofs.PotentialLemmas.{lowers-grown, made-grows, made-then}
+use Rattle.xd_rules.proofs.Results.{OnOk-map, OnOk-from_err}
+use Rattle.xd_goals.proofs.FactsOnLemmas.{IsStep, held_by, keeps-same, owner_claim, same_held_by, stands_grown, step_grown, whole_of, whole_same}
 use Rattle.xd_goals.proofs.work.begin_goal.Goals as goal
 
 pub begin-requires-clause-consistent : goal.begin-requires-clause-consistent

@@ -3,13 +3,13 @@ use Rattle.std.proofs.Common.{◌<◌, arith, length, subst, sym}
 use Rattle.std.specs.List.{AllByRecursion}
 use Rattle.xd_auto.specs.declared.auto.State.{State}
 use Rattle.xd_rules.specs.Rules.{Claim}
-use Rattle.xd_state_heads.specs.Moves.{claim_with}
+use Rattle.xd_rules.specs.Moves.{claim_with}
 use Rattle.xd_goals.specs.Cases.{FailsAt}
 use Rattle.xd_goals.specs.Kept.{view_of}
 use Rattle.xd_goals.specs.Facts.{ChoiceStands}
 use Rattle.xd_goals.proofs.Trees.{broken-grows, choices-grows}
-use Rattle.xd_goals.proofs.Stepping.{owner_claim, stands_grown, whole_of}
-use Rattle.xd_goals.proofs.Mending.{mending-grows, mending-same, repaired_mending, repaired_stands, repaired_unbroken, repaired_whole}
+use Rattle.xd_goals.proofs.FactsOnLemmas.{owner_claim, stands_grown, whole_of}
+use Rattle.xd_goals.proofs.IsMendingLemmas.{mending-grows, mending-same, repaired_mending, repaired_stands, repaired_unbroken, repaired_whole}
 use Rattle.xd_goals.proofs.work.mend_case.Goals as goal
 
 pub mend_choice-requires-clause-choice : goal.mend_choice-requires-clause-choice

@@ -2,12 +2,12 @@ use Rattle.std.proofs.Common.{ℕ, ◌≡◌, length, ⊎_elim, sym, subst, ◌�
 use Rattle.std.proofs.lemmas.Bool.{cases_lt}
 use Rattle.xd_goals.specs.Kept.{view_of}
 use Rattle.xd_goals.specs.Rows.{GoalRow, row_at, IsUnbroken}
-use Rattle.xd_goals.proofs.Linking.{row_read}
+use Rattle.xd_goals.proofs.AreLinkedLemmas.{row_read}
 use Rattle.xd_goals.proofs.Facts.{keeps_goals-then, keeps-then}
-use Rattle.xd_state_heads.proofs.Results.{OnOk-map, OnOk-from_err}
-use Rattle.xd_goals.proofs.Measuring.{made-then}
-use Rattle.xd_goals.proofs.Stepping.{IsStep, keeps-same, whole_same}
-use Rattle.xd_goals.proofs.Mending.{lowers-mended, mended_none, mending-same, mending-then, repaired_same, repaired_step}
+use Rattle.xd_rules.proofs.Results.{OnOk-map, OnOk-from_err}
+use Rattle.xd_goals.proofs.PotentialLemmas.{made-then}
+use Rattle.xd_goals.proofs.FactsOnLemmas.{IsStep, keeps-same, whole_same}
+use Rattle.xd_goals.proofs.IsMendingLemmas.{lowers-mended, mended_none, mending-same, mending-then, repaired_same, repaired_step}
 use Rattle.xd_goals.proofs.work.mend_goal.Goals as goal
 use Rattle.xd_goals.proofs.work.mend_goal.Goals.{then-is_flagged+in_ok-failure+in_default, else-is_flagged}
 

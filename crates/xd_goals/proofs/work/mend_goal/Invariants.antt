@@ -1,6 +1,6 @@
 use Rattle.std.proofs.Common.{ℕ, ◌≡◌, ◌<◌, length}
-use Rattle.xd_doc.specs.Stored.{Keeps}
-use Rattle.xd_member.specs.Kept.{AreRight}
+use Rattle.xd_doc.specs.StoreNodes.{Keeps}
+use Rattle.xd_auto.specs.Kept.{AreRight}
 use Rattle.xd_goals.specs.Rows.{row_at, IsUnbroken}
 use Rattle.xd_goals.specs.Kept.{IsWhole, view_of}
 use Rattle.xd_goals.specs.Facts.{FactsOn}

@@ -1,6 +1,6 @@
 use Rattle.xd_goals.specs.Kept.{view_of}
 use Rattle.xd_goals.proofs.Facts.{stands-keeps}
-use Rattle.xd_goals.proofs.Stepping.{IsStep, keeps_goals-same, none_added, step_refuted, same_refuted, whole_same}
+use Rattle.xd_goals.proofs.FactsOnLemmas.{IsStep, keeps_goals-same, none_added, step_refuted, same_refuted, whole_same}
 use Rattle.xd_goals.proofs.work.refute_at.Goals as goal
 
 refuted : (c : goal.After-refute) → IsStep c.args.auto.now c.separate.new.store (view_of c.args.goals.now) (record { rows = c.refute.new.rows.items; nodes = c.args.goals.now.nodes.items; links = c.args.goals.now.links.items })

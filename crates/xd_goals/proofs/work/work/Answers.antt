@@ -1,13 +1,13 @@
-use Rattle.xd_state_heads.proofs.Results.{OnOk-from_err}
+use Rattle.xd_rules.proofs.Results.{OnOk-from_err}
 use Rattle.std.proofs.Common.{◌≡◌, true, false, refl, ap, subst, sym, ◌∙◌, rules}
 use Rattle.std.specs.List.{AllByRecursion, list_any}
 use Rattle.xd_auto.specs.Automaton.{IsState}
-use Rattle.xd_state_heads.specs.Moves.{is_last_in}
+use Rattle.xd_rules.specs.Moves.{is_last_in}
 use Rattle.xd_goals.specs.Rows.{GoalRow, claim_of, row_at}
 use Rattle.xd_goals.specs.Kept.{view_of}
-use Rattle.xd_goals.proofs.Linking.{row_read}
+use Rattle.xd_goals.proofs.AreLinkedLemmas.{row_read}
 use Rattle.xd_goals.proofs.Verdicts.{empty_separated}
-use Rattle.xd_goals.proofs.Stepping.{IsStep, keeps-same, keeps_goals-same, none_added, same_refuted, step_refuted, whole_same}
+use Rattle.xd_goals.proofs.FactsOnLemmas.{IsStep, keeps-same, keeps_goals-same, none_added, same_refuted, step_refuted, whole_same}
 use Rattle.xd_goals.proofs.work.work.Goals as goal
 
 refuted : (c : goal.After-drop-rights) → IsStep c.args.auto.now c.args.store.now (view_of c.args.goals.now) (record { rows = c.refute.new.rows.items; nodes = c.args.goals.now.nodes.items; links = c.args.goals.now.links.items })

@@ -7,7 +7,7 @@ use Rattle.xd_continuations.specs.Chains.{KeepsLinks}
 use Rattle.xd_moves.specs.Cells.{Cell}
 use Rattle.xd_moves.specs.declared.expansion.Found.{Found}
 use Rattle.xd_continuations.proofs.ChainLemmas.{kept_length}
-use Rattle.xd_heads.proofs.Sparing.{others_same, others_then}
+use Rattle.xd_heads.proofs.SparesLemmas.{others_same, others_then}
 use Rattle.xd_heads.proofs.AddingMoves.{IsAdding, adding_none, adding_more, moves_added}
 use Rattle.xd_heads.proofs.compile.add_moves.Goals as goal
 

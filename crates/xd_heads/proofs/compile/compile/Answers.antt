@@ -5,7 +5,7 @@ use Rattle.xd_sound.specs.TypeNames.{meanings}
 use Rattle.xd_heads.specs.States.{nodes_in, number_at}
 use Rattle.xd_heads.proofs.StateLemmas.{states_few, number_below, number_within, number_none}
 use Rattle.xd_heads.proofs.AddingMoves.{compiling_none, compiling_more, all_compiled}
-use Rattle.xd_heads.proofs.Sparing.{spares_then}
+use Rattle.xd_heads.proofs.SparesLemmas.{spares_then}
 use Rattle.xd_heads.proofs.compile.compile.Goals as goal
 
 less_left : (n room : ℕ) → n < room → room - (n + 1) < room - n

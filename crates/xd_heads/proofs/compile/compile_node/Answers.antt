@@ -1,12 +1,12 @@
 use Rattle.std.proofs.Common.{[], ◌≤◌, arith, length, sym, subst}
-use Rattle.xd_laws.specs.Heads.{pieces}
+use Rattle.xd_meaning.specs.Heads.{pieces}
 use Rattle.xd_syntax.specs.Table.{tree_at}
 use Rattle.xd_syntax.specs.TypeText.{depth}
 use Rattle.xd_syntax.specs.Shallow.{nesting_limit}
 use Rattle.xd_heads.specs.Compiled.{IsOfState, AreCompiled}
 use Rattle.xd_continuations.proofs.MoveLemmas.{pieces_stand, seq_of-pieces}
 use Rattle.xd_heads.proofs.AddingMoves.{type_started, type_bounded, type_compiled, type_continues, type_accepts}
-use Rattle.xd_heads.proofs.Sparing.{spares_both}
+use Rattle.xd_heads.proofs.SparesLemmas.{spares_both}
 use Rattle.xd_heads.proofs.compile.compile_node.Goals as goal
 
 pub compile-requires-clause-compiled : goal.compile-requires-clause-compiled

@@ -1,14 +1,14 @@
 use Rattle.std.proofs.Common.{◌≡◌, ◌<◌, ◌&&◌, ◌∷◌, ℕ, List, length, map, arith, ap, sym, ◌∙◌}
-use Rattle.xd_laws.specs.CanBeEmpty.{can_be_empty}
+use Rattle.xd_meaning.specs.CanBeEmpty.{can_be_empty}
 use Rattle.xd_syntax.specs.Tree.{Definitions, seq_of}
 use Rattle.xd_syntax.specs.Table.{Row}
 use Rattle.xd_continuations.specs.Chains.{list_at}
 use Rattle.xd_sound.specs.TypeNames.{meanings}
-use Rattle.xd_pieces.specs.Pieces.{piece_tree}
+use Rattle.xd_moves.specs.Pieces.{piece_tree}
 use Rattle.xd_moves.specs.Found.{continuation}
 use Rattle.xd_moves.specs.Cells.{Cell}
 use Rattle.xd_continuations.proofs.ChainLemmas.{list_none}
-use Rattle.xd_continuations.proofs.Reaching.{all_among}
+use Rattle.xd_continuations.proofs.FiniteLemmas.{all_among}
 use Rattle.xd_heads.proofs.StateLemmas.{empty_first, none_empty}
 use Rattle.xd_heads.proofs.compile.is_last.Goals as goal
 

@@ -1,5 +1,5 @@
 use Rattle.std.proofs.Common.{◌≡◌, ◌≤◌, length}
-use Rattle.xd_laws.specs.CanBeEmpty.{can_be_empty}
+use Rattle.xd_meaning.specs.CanBeEmpty.{can_be_empty}
 use Rattle.xd_syntax.specs.Tree.{seq_of}
 use Rattle.xd_sound.specs.TypeNames.{meanings}
 use Rattle.xd_moves.specs.Found.{continuation}

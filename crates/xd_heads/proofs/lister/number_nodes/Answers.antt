@@ -1,10 +1,10 @@
 use Rattle.std.proofs.Common.{◌≡◌, arith, ◌∷◌, ◌+◌, [], length, length-append, sym, subst, ap, ◌∙◌}
 use Rattle.xd_syntax.specs.Table.{tree_at}
 use Rattle.xd_syntax.specs.declared.types.TypeId.{TypeId}
-use Rattle.xd_laws.specs.Heads.{pieces}
+use Rattle.xd_meaning.specs.Heads.{pieces}
 use Rattle.xd_moves.specs.Found.{IsContent}
 use Rattle.xd_heads.specs.Numbered.{AreNodeNumbers}
-use Rattle.xd_heads.proofs.Numbering.{numbers_more}
+use Rattle.xd_heads.proofs.HeadListerLemmas.{numbers_more}
 use Rattle.xd_heads.proofs.lister.number_nodes.Goals as goal
 
 pub loop-at-preserved : goal.loop-at-preserved

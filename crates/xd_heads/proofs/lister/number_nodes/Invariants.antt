@@ -1,5 +1,5 @@
 use Rattle.std.proofs.Common.{◌≡◌, length}
-use Rattle.xd_pieces.specs.Pieces.{IsFirst}
+use Rattle.xd_moves.specs.Pieces.{IsFirst}
 use Rattle.xd_moves.specs.Cells.{AreChosen}
 use Rattle.xd_moves.specs.Found.{AreOfTypes}
 use Rattle.xd_heads.specs.Numbered.{AreNodeNumbers}

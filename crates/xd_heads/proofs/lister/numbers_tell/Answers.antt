@@ -1,4 +1,4 @@
-use Rattle.xd_heads.proofs.Numbering.{number_kept, numbers_tell}
+use Rattle.xd_heads.proofs.HeadListerLemmas.{number_kept, numbers_tell}
 use Rattle.xd_heads.proofs.lister.numbers_tell.Goals as goal
 
 pub returns-clause-tell : goal.returns-clause-tell

@@ -1,6 +1,6 @@
 use Rattle.std.proofs.Common.{◌≤◌, List, Option, arith, sym, subst}
 use Rattle.xd_syntax.specs.Tree.{Tree, seq_of}
-use Rattle.xd_syntax.specs.Sound.{IsTypeAt}
+use Rattle.xd_syntax.specs.SoundTables.{IsTypeAt}
 use Rattle.xd_syntax.specs.Shallow.{nesting_limit}
 use Rattle.xd_syntax.specs.TypeText.{depth}
 use Rattle.xd_syntax.specs.declared.types.TypeId.{TypeId}

@@ -1,6 +1,6 @@
 use Rattle.std.proofs.Common.{◌≡◌, [], List, sym, subst}
 use Rattle.xd_syntax.specs.Table.{Row, tree_at}
-use Rattle.xd_laws.specs.Heads.{pieces}
+use Rattle.xd_meaning.specs.Heads.{pieces}
 use Rattle.xd_continuations.proofs.ChainLemmas.{kept_then}
 use Rattle.xd_continuations.specs.Chains.{KeepsLinks}
 use Rattle.xd_moves.specs.Cells.{Cell}

@@ -4,13 +4,13 @@ use Rattle.xd_syntax.specs.Kept.{program_tree}
 use Rattle.xd_sound.specs.TypeNames.{meanings}
 use Rattle.xd_laws.specs.Guarded.{Guarded}
 use Rattle.xd_laws.proofs.SoundGuarded.{guarded}
-use Rattle.xd_continuations.proofs.Merging.{tree_merged}
+use Rattle.xd_continuations.proofs.IsMergedLemmas.{tree_merged}
 use Rattle.xd_continuations.proofs.ChainLemmas.{kept_same}
 use Rattle.xd_moves.specs.Cells.{StayChosen}
 use Rattle.xd_moves.specs.Found.{AreBodies, AreDecidingMarks, AreMovesOf, AreOfTypes}
 use Rattle.xd_moves.proofs.Bodied.{are_bodies}
 use Rattle.xd_heads.proofs.HeadLists.{heads_found}
-use Rattle.xd_heads.proofs.Wrapping.{along, back_along, bodies_stand, marks_decide}
+use Rattle.xd_heads.proofs.KeepsStatesLemmas.{along, back_along, bodies_stand, marks_decide}
 use Rattle.xd_heads.proofs.listing.find_moves.Goals as goal
 
 pub expand-requires-clause-guarded : goal.expand-requires-clause-guarded

@@ -2,7 +2,7 @@ use Rattle.std.proofs.Common.{List, ap, subst, ◌∙◌}
 use Rattle.xd_syntax.specs.Table.{Row, tree_at}
 use Rattle.xd_syntax.specs.Kept.{ProgramTable}
 use Rattle.xd_heads.specs.HeadList.{ContentBelongs, IsKindOf}
-use Rattle.xd_heads.proofs.Growing.{grows_none, grows_then}
+use Rattle.xd_heads.proofs.GrowsTypesLemmas.{grows_none, grows_then}
 use Rattle.xd_heads.proofs.HeadLists.{content_belongs, head_made, nodes_stay}
 use Rattle.xd_heads.proofs.listing.head_of.Goals as goal
 

@@ -4,13 +4,13 @@ use Rattle.xd_syntax.specs.Tree.{Tree}
 use Rattle.xd_syntax.specs.Table.{tree_at}
 use Rattle.xd_syntax.specs.Program.{ProgramTree, names_of}
 use Rattle.xd_syntax.specs.Kept.{ProgramTable, program_tree}
-use Rattle.xd_laws.specs.Heads.{heads}
+use Rattle.xd_meaning.specs.Heads.{heads}
 use Rattle.xd_continuations.specs.Continuation.{head_of}
 use Rattle.xd_continuations.proofs.GrownTables.{tree_stays}
 use Rattle.xd_moves.specs.Found.{AreOfTypes, move_at}
 use Rattle.xd_heads.specs.HeadList.{IsHeadFound}
 use Rattle.xd_moves.specs.declared.expansion.Found.{Found}
-use Rattle.xd_heads.proofs.Growing.{grows_along, grows_then}
+use Rattle.xd_heads.proofs.GrowsTypesLemmas.{grows_along, grows_then}
 use Rattle.xd_heads.proofs.listing.heads.Goals as goal
 
 pub returns-clause-heads : goal.returns-clause-heads

@@ -2,7 +2,7 @@ use Rattle.std.proofs.Common.{◌∷◌, ◌++◌, [], get_or, take, sym, subst}
 use Rattle.std.proofs.lemmas.List.{take_more}
 use Rattle.xd_heads.specs.HeadList.{IsHeadFound}
 use Rattle.xd_moves.specs.declared.expansion.Found.{Found}
-use Rattle.xd_heads.proofs.Growing.{grows_then}
+use Rattle.xd_heads.proofs.GrowsTypesLemmas.{grows_then}
 use Rattle.xd_heads.proofs.HeadLists.{IsListing, listing_more, found_stays, each_found}
 use Rattle.xd_heads.proofs.listing.list_heads.Goals as goal
 

@@ -1,6 +1,6 @@
 use Rattle.std.proofs.Common.{List, sym, subst}
 use Rattle.xd_syntax.specs.Tree.{Tree, seq_of}
-use Rattle.xd_syntax.specs.Sound.{IsTypeAt}
+use Rattle.xd_syntax.specs.SoundTables.{IsTypeAt}
 use Rattle.xd_heads.proofs.HeadLists.{rests_put, rests_stay}
 use Rattle.xd_heads.proofs.Mirrored.{continuation_stays}
 use Rattle.xd_heads.proofs.listing.rest_type.Goals as goal

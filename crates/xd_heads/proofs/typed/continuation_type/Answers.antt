@@ -6,8 +6,8 @@ use Rattle.xd_syntax.specs.Table.{tree_at}
 use Rattle.xd_syntax.specs.Types.{type_numbers}
 use Rattle.xd_syntax.specs.Shallow.{nesting_limit}
 use Rattle.xd_syntax.specs.declared.types.TypeId.{TypeId}
-use Rattle.xd_heads.proofs.Growing.{grows_one}
-use Rattle.xd_heads.proofs.Typing.{seq_parts_of}
+use Rattle.xd_heads.proofs.GrowsTypesLemmas.{grows_one}
+use Rattle.xd_heads.proofs.TypeNumbersLemmas.{seq_parts_of}
 use Rattle.xd_moves.specs.Found.{continuation}
 use Rattle.xd_heads.proofs.typed.continuation_type.Goals as goal
 

@@ -1,9 +1,9 @@
 use Rattle.std.proofs.Common.{◌<◌, length, arith, sym, subst}
 use Rattle.xd_moves.specs.Cells.{Cell}
-use Rattle.xd_continuations.proofs.Reaching.{all_among}
-use Rattle.xd_heads.proofs.Growing.{grows_then}
+use Rattle.xd_continuations.proofs.FiniteLemmas.{all_among}
+use Rattle.xd_heads.proofs.GrowsTypesLemmas.{grows_then}
 use Rattle.xd_continuations.proofs.GrownTables.{more_rows}
-use Rattle.xd_heads.proofs.Typing.{IsTyping, typing_more, typing_all}
+use Rattle.xd_heads.proofs.TypeNumbersLemmas.{IsTyping, typing_more, typing_all}
 use Rattle.xd_heads.proofs.typed.piece_types.Goals as goal
 
 pub piece_type-requires : goal.piece_type-requires

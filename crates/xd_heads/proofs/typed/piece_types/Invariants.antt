@@ -1,4 +1,4 @@
-use Rattle.xd_heads.proofs.Typing.{IsTyping}
+use Rattle.xd_heads.proofs.TypeNumbersLemmas.{IsTyping}
 use Rattle.xd_heads.proofs.typed.piece_types.Given as goal
 
 abbrev pub invariant-loop-at : goal.invariant-loop-at

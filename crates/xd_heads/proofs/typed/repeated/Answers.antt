@@ -1,7 +1,7 @@
 use Rattle.std.proofs.Common.{◌≡◌, ℕ, take, ap, ◌∙◌}
 use Rattle.xd_syntax.specs.Table.{Form, plus_form, tree_at}
 use Rattle.xd_moves.specs.Found.{is_plus}
-use Rattle.xd_moves.proofs.Working.{plus_form_only, plus_of}
+use Rattle.xd_moves.proofs.WorkedTaskLemmas.{plus_form_only, plus_of}
 use Rattle.xd_heads.proofs.typed.repeated.Goals as goal
 
 pub returns-in_default : goal.returns-in_default

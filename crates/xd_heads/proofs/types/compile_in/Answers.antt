@@ -8,7 +8,7 @@ use Rattle.xd_laws.specs.Guarded.{Guarded}
 use Rattle.xd_laws.proofs.SoundGuarded.{guarded}
 use Rattle.xd_continuations.specs.Continuation.{AreMerged}
 use Rattle.xd_continuations.specs.TailUses.{RecursOnlyInTail}
-use Rattle.xd_continuations.proofs.Merging.{tree_merged}
+use Rattle.xd_continuations.proofs.IsMergedLemmas.{tree_merged}
 use Rattle.xd_continuations.proofs.MoveLemmas.{seq_of-pieces}
 use Rattle.xd_continuations.proofs.SoundTail.{recurs_only_in_tail}
 use Rattle.xd_heads.specs.CellsView.{CellsView}
@@ -17,7 +17,7 @@ use Rattle.xd_moves.specs.Found.{AreBodies, AreDecidingMarks}
 use Rattle.xd_heads.specs.Mirrors.{as_type, continuation_of, KeepsStates, Mirrors}
 use Rattle.xd_moves.proofs.Bodied.{are_bodies}
 use Rattle.xd_heads.proofs.Mirrored.{to_compiled}
-use Rattle.xd_heads.proofs.Wrapping.{along, back_along, bodies_stand, are_merged, marks_decide, compiled_keeps, compiled_mirrors_again}
+use Rattle.xd_heads.proofs.KeepsStatesLemmas.{along, back_along, bodies_stand, are_merged, marks_decide, compiled_keeps, compiled_mirrors_again}
 use Rattle.xd_heads.proofs.types.compile_in.Goals as goal
 
 pub compile_node-requires-clause-guarded : goal.compile_node-requires-clause-guarded

@@ -1,17 +1,17 @@
 use Rattle.std.proofs.Common.{◌≡◌, ◌↔◌, true, Some, refl, ap, sym, subst, ◌∙◌}
 use Rattle.xd_auto.specs.Automaton.{accepts}
-use Rattle.xd_auto.proofs.Extending.{Extends-same, keeps}
+use Rattle.xd_auto.proofs.ExtendsLemmas.{Extends-same, keeps}
 use Rattle.xd_syntax.specs.Tree.{Tree}
 use Rattle.xd_syntax.specs.Table.{tree_at}
 use Rattle.xd_syntax.specs.Fits.{Fits}
 use Rattle.xd_syntax.specs.Kept.{ProgramTable, program_tree}
 use Rattle.xd_syntax.specs.Program.{ProgramTree, names_of}
 use Rattle.xd_heads.specs.Mirrors.{continuation_of, KeepsStates, Mirrors}
-use Rattle.xd_heads.proofs.Growing.{grows_along}
-use Rattle.xd_heads.proofs.Sparing.{spares_extends}
+use Rattle.xd_heads.proofs.GrowsTypesLemmas.{grows_along}
+use Rattle.xd_heads.proofs.SparesLemmas.{spares_extends}
 use Rattle.xd_continuations.proofs.GrownTables.{tree_stays}
 use Rattle.xd_heads.proofs.Mirrored.{mirrors_stay}
-use Rattle.xd_heads.proofs.Wrapping.{keeps_from, type_state}
+use Rattle.xd_heads.proofs.KeepsStatesLemmas.{keeps_from, type_state}
 use Rattle.xd_heads.proofs.types.compile_type.Goals as goal
 
 pub compile_in-requires-clause-mirrors : goal.compile_in-requires-clause-mirrors

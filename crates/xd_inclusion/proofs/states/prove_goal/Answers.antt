@@ -2,7 +2,7 @@ use Rattle.std.proofs.Common.{List, ℕ, ◌++◌, ap, subst, sym, ◌∙◌}
 use Rattle.xd_goals.specs.Rows.{row_at}
 use Rattle.xd_heads.specs.Mirrors.{continuation_of}
 use Rattle.xd_syntax.specs.Kept.{program_tree}
-use Rattle.xd_proof_text.specs.ProofText.{ProvesRow}
+use Rattle.xd_proof_make.specs.ProofText.{ProvesRow}
 use Rattle.xd_inclusion.proofs.states.prove_goal.Goals as goal
 
 pub returns-clause-text : goal.returns-clause-text

@@ -2,7 +2,8 @@ use Rattle.std.proofs.Common.{◌≡◌, ◌∷◌, ◌++◌, [], true, false, l
 use denote.Text.{Utf8}
 use denote.Shadow.{shadow}
 use Rattle.std.specs.String.{string_bytes}
-use Rattle.xd_lex.specs.Spelled.{are_pieces, characters}
+use Rattle.xd_lex.specs.Spellings.{are_pieces}
+use Rattle.xd_lex.specs.Spelled.{characters}
 use Rattle.xd_lex.proofs.escape.characters.Given as goal
 
 abbrev pub invariant-escapes : goal.invariant-escapes

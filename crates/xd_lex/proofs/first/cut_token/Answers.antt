@@ -1,7 +1,7 @@
 use Rattle.std.proofs.Common.{◌≡◌, ◌<◌, ℕ, List, subst, length, sym, ap, ◌∙◌, arith, false-eqb, eqb-true}
 use Rattle.std.proofs.lemmas.Str.{IsUtf8-drop}
 use Rattle.xd_lex.specs.declared.Front.TheVariants as fronts
-use Rattle.xd_lex.specs.Spelled.{IsSpelling}
+use Rattle.xd_lex.specs.Spellings.{IsSpelling}
 use Rattle.xd_lex.proofs.Fronts.{Reaches, boundary}
 use Rattle.xd_lex.proofs.Froms.{first}
 use Rattle.xd_lex.proofs.Skipped.{reached, skipped_none, skipped_more, token_found, fault_found, end_found}

@@ -2,8 +2,9 @@ use Rattle.std.proofs.Common.{◌≡◌, ◌∷◌, ◌++◌, [], List, map, ap,
 use Rattle.std.proofs.lemmas.List.{map_push}
 use Rattle.std.proofs.lemmas.List.Elements.{All-push}
 use Rattle.xd_lex.specs.declared.lexer.Token.{Token}
-use Rattle.xd_lex.specs.Spelled.{IsSpelling}
-use Rattle.xd_lex.specs.Tokens.{Lexeme, lexeme_of}
+use Rattle.xd_lex.specs.Spellings.{IsSpelling}
+use Rattle.xd_lex.specs.Tokens.{Lexeme}
+use Rattle.xd_lex.specs.LexedTokens.{lexeme_of}
 use Rattle.xd_lex.proofs.lexer.tokens.Goals as goal
 
 told : (ts : List Token) (t : Token) (left old all : List Lexeme) → map lexeme_of ts ++ old ≡ all → old ≡ lexeme_of t ∷ left → map lexeme_of (ts ++ t ∷ []) ++ left ≡ all

@@ -1,6 +1,7 @@
 use Rattle.std.proofs.Common.{All, ◌≡◌, ◌<◌, ◌++◌, length, map}
-use Rattle.xd_lex.specs.Tokens.{lexeme_of, tokens_of}
-use Rattle.xd_lex.specs.Spelled.{IsSpelling}
+use Rattle.xd_lex.specs.LexedTokens.{lexeme_of}
+use Rattle.xd_lex.specs.Tokens.{tokens_of}
+use Rattle.xd_lex.specs.Spellings.{IsSpelling}
 use Rattle.xd_lex.proofs.lexer.tokens.Given as goal
 
 abbrev pub invariant-tokens : goal.invariant-tokens

@@ -1,6 +1,7 @@
 use Rattle.std.proofs.Common.{◌≡◌, ◌-◌, ◌<◌, ℕ, suc, [], ◌∷◌, drop, length, arith, sym, ap, ◌∙◌, subst, get_or}
 use Rattle.xd_doc.specs.Document.{empty}
-use Rattle.xd_doc.specs.Stored.{document_at, no_items}
+use Rattle.xd_doc.specs.Stored.{document_at}
+use Rattle.xd_doc.specs.StoreNodes.{no_items}
 use Rattle.xd_doc.proofs.StoredLemmas.{Keeps-same, Keeps-trans}
 use Rattle.xd_match.specs.declared.binding.Piece.{Piece}
 use Rattle.xd_match.specs.declared.binding.Piece.TheVariants.{First}

@@ -5,7 +5,7 @@ use Rattle.xd_doc.specs.Document.{empty}
 use Rattle.xd_doc.specs.Stored.{BelongsTo, document_at}
 use Rattle.xd_doc.specs.declared.store.Seq.{Seq}
 use Rattle.xd_doc.proofs.StoredLemmas.{Keeps-trans}
-use Rattle.xd_member.proofs.Walks.{places_push}
+use Rattle.xd_auto.proofs.Walks.{places_push}
 use Rattle.xd_match.specs.declared.binding.Piece.{Piece}
 use Rattle.xd_match.specs.Taking.{PieceBelongs, pieces_then}
 use Rattle.xd_match.proofs.Pieces.{pieces_belong, pieces_kept}

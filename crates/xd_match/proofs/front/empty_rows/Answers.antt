@@ -1,6 +1,6 @@
 use Rattle.std.proofs.Common.{◌≡◌, ℕ, [], Vec, Global, arith}
 use Rattle.std.proofs.lemmas.List.{length_push}
-use Rattle.xd_member.proofs.Walks.{places_push}
+use Rattle.xd_auto.proofs.Walks.{places_push}
 use Rattle.xd_match.specs.declared.binding.Piece.{Piece}
 use Rattle.xd_match.proofs.front.empty_rows.Goals as goal
 

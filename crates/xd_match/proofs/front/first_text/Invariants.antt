@@ -2,7 +2,7 @@ use Rattle.std.proofs.Common.{ℕ, ◌≡◌, ◌<◌, ◌≤◌, ◌-◌, false
 use Rattle.xd_doc.specs.Stored.{document_at}
 use Rattle.xd_auto.specs.declared.auto.TextMove.{TextMove}
 use Rattle.xd_auto.specs.Automaton.{moves_at, takes_word}
-use Rattle.xd_member.specs.Kept.{AreRight}
+use Rattle.xd_auto.specs.Kept.{AreRight}
 use Rattle.xd_match.proofs.front.first_text.Given as goal
 
 abbrev pub invariant-loop-number : goal.invariant-loop-number

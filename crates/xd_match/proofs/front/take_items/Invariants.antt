@@ -1,4 +1,4 @@
-use Rattle.xd_member.specs.Kept.{AreRight}
+use Rattle.xd_auto.specs.Kept.{AreRight}
 use Rattle.xd_patterns.specs.Held.{marking_of, variables_in}
 use Rattle.xd_match.specs.Taking.{AreTaken, work}
 use Rattle.xd_match.proofs.front.take_items.Given as goal

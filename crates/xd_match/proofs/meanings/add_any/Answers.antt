@@ -1,7 +1,8 @@
 use Rattle.std.proofs.Common.{◌≤◌, List, map, length, arith, ap, sym, subst, ◌∙◌}
 use Rattle.std.specs.List.{AllByRecursion}
 use Rattle.xd_syntax.specs.Words.{any_word}
-use Rattle.xd_syntax.specs.Tree.{Tree, Name, Elem, Alt, Star, all_labels, is_alt, alt_of}
+use Rattle.xd_syntax.specs.Tree.{Tree, Name, Elem, Alt, Star, all_labels}
+use Rattle.xd_syntax.specs.TreeForms.{is_alt, alt_of}
 use Rattle.xd_syntax.specs.Table.{IsAltPart, tree_at}
 use Rattle.xd_syntax.specs.Types.{type_numbers}
 use Rattle.xd_syntax.specs.declared.types.TypeId.{TypeId}

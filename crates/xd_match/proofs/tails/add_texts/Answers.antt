@@ -4,7 +4,7 @@ use Rattle.xd_auto.specs.declared.auto.TextMove.{TextMove}
 use Rattle.xd_auto.specs.Automaton.{moves_at, state_number}
 use Rattle.xd_sound.specs.Graph.{HasEdge}
 use Rattle.xd_sound.proofs.Graphs.{with_edge}
-use Rattle.xd_match.proofs.Spreading.{each_more, edge_kept, edge_there}
+use Rattle.xd_match.proofs.IsSpreadLemmas.{each_more, edge_kept, edge_there}
 use Rattle.xd_match.proofs.tails.add_texts.Goals as goal
 
 pub loop-step-preserved : goal.loop-step-preserved

@@ -4,7 +4,7 @@ use Rattle.xd_auto.specs.Automaton.{moves_at}
 use Rattle.xd_patterns.specs.Held.{marking_of, variables_in}
 use Rattle.xd_patterns.specs.Variables.{words_of}
 use Rattle.xd_match.specs.Tails.{GoesOnWith}
-use Rattle.xd_match.proofs.Spreading.{each_more}
+use Rattle.xd_match.proofs.IsSpreadLemmas.{each_more}
 use Rattle.xd_match.proofs.tails.has_even_texts.Goals as goal
 
 pub loop-number-preserved : goal.loop-number-preserved

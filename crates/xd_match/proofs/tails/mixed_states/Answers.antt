@@ -1,6 +1,6 @@
 use Rattle.std.proofs.Common.{ℕ, ◌≡◌, ◌+◌, Bool, false, List, [], ◌∷◌, ◌++◌, Vec, Global, arith, length, ap, sym, subst, ◌∙◌}
 use Rattle.xd_patterns.specs.Held.{marking_of}
-use Rattle.xd_match.proofs.Spreading.{AreSeeded, are_tails, seeded_even, seeded_spread, seeded_waits}
+use Rattle.xd_match.proofs.IsSpreadLemmas.{AreSeeded, are_tails, seeded_even, seeded_spread, seeded_waits}
 use Rattle.xd_match.proofs.tails.mixed_states.Goals as goal
 use Rattle.xd_match.proofs.tails.mixed_states.Goals.{then-not-is_even+in_ok-push-2, else-not-is_even}
 

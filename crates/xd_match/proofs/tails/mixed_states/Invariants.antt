@@ -1,6 +1,6 @@
 use Rattle.std.proofs.Common.{◌≡◌, length}
 use Rattle.xd_patterns.specs.Held.{marking_of}
-use Rattle.xd_match.proofs.Spreading.{AreSeeded}
+use Rattle.xd_match.proofs.IsSpreadLemmas.{AreSeeded}
 use Rattle.xd_match.proofs.tails.mixed_states.Given as goal
 
 abbrev pub invariant-loop-number : goal.invariant-loop-number

@@ -2,7 +2,7 @@ use Rattle.std.proofs.Common.{◌≡◌, ◌<◌, arith, rules, true, false, [],
 use Rattle.std.proofs.lemmas.List.{length-append, length-set, get_or_read}
 use Rattle.xd_sound.proofs.EmptyLemmas.{unmarked_less}
 use Rattle.xd_match.specs.Tails.{IsSpread}
-use Rattle.xd_match.proofs.Spreading.{spread_marked, spread_more, spread_one}
+use Rattle.xd_match.proofs.IsSpreadLemmas.{spread_marked, spread_more, spread_one}
 use Rattle.xd_match.proofs.tails.spread.Goals as goal
 
 pub index-requires : goal.index-requires

@@ -4,7 +4,7 @@ use Rattle.xd_auto.specs.declared.auto.State.{State}
 use Rattle.xd_auto.specs.Automaton.{state_number}
 use Rattle.xd_sound.specs.Graph.{HasEdge}
 use Rattle.xd_match.specs.Tails.{LeadsFrom}
-use Rattle.xd_match.proofs.Spreading.{leads_kept, state_of_number}
+use Rattle.xd_match.proofs.IsSpreadLemmas.{leads_kept, state_of_number}
 use Rattle.xd_match.proofs.tails.states_behind.Goals as goal
 
 pub loop-number-preserved : goal.loop-number-preserved

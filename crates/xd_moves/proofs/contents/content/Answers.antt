@@ -1,9 +1,9 @@
 use Rattle.std.proofs.Common.{◌≡◌, [], ◌∷◌, map, take, ap, sym, subst, ◌∙◌}
-use Rattle.xd_laws.specs.Heads.{pieces}
+use Rattle.xd_meaning.specs.Heads.{pieces}
 use Rattle.xd_syntax.specs.Table.{Form, empty_form, seq_form, form_tree, tree_at}
 use Rattle.xd_syntax.specs.Types.{form_of, type_numbers}
 use Rattle.xd_moves.specs.Found.{IsContent}
-use Rattle.xd_moves.proofs.Working.{ArePartsOf, parts_there, content_none, pieces_of_seq, pieces_of_one, empty_of, seq_of_form}
+use Rattle.xd_moves.proofs.WorkedTaskLemmas.{ArePartsOf, parts_there, content_none, pieces_of_seq, pieces_of_one, empty_of, seq_of_form}
 use Rattle.xd_moves.proofs.contents.content.Goals as goal
 
 pub returns-in-Empty-clause-content : goal.returns-in-Empty-clause-content

@@ -1,7 +1,7 @@
 use Rattle.std.proofs.Common.{[], ◌∷◌, refl, ap, ◌∙◌}
 use Rattle.xd_syntax.specs.Table.{tree_at}
-use Rattle.xd_moves.proofs.Putting.{chosen_cell, piece_cell}
-use Rattle.xd_moves.proofs.Working.{content_none, content_put}
+use Rattle.xd_moves.proofs.PutsTasksLemmas.{chosen_cell, piece_cell}
+use Rattle.xd_moves.proofs.WorkedTaskLemmas.{content_none, content_put}
 use Rattle.xd_moves.proofs.contents.one_piece.Goals as goal
 
 pub returns-clause-content : goal.returns-clause-content

@@ -5,8 +5,8 @@ use Rattle.xd_syntax.specs.Types.{type_numbers}
 use Rattle.xd_syntax.specs.declared.types.TypeId.{TypeId}
 use Rattle.xd_moves.specs.Cells.{AreChosen}
 use Rattle.xd_moves.specs.Found.{IsContent}
-use Rattle.xd_moves.proofs.Putting.{chosen_cell, numbers_drop, numbers_below, piece_cell}
-use Rattle.xd_moves.proofs.Working.{content_none, content_put}
+use Rattle.xd_moves.proofs.PutsTasksLemmas.{chosen_cell, numbers_drop, numbers_below, piece_cell}
+use Rattle.xd_moves.proofs.WorkedTaskLemmas.{content_none, content_put}
 use Rattle.xd_moves.proofs.contents.sequence.Goals as goal
 
 no_type : TypeId

@@ -4,7 +4,7 @@ use Rattle.xd_continuations.specs.Expansion.{work_left}
 use Rattle.xd_sound.specs.TypeNames.{meanings}
 use Rattle.xd_moves.specs.Found.{IsTask, waiting_at}
 use Rattle.xd_moves.specs.Cells.{Cell}
-use Rattle.xd_moves.proofs.Working.{IsExpanding, all_last, expanding_first, expanding_on, expanding_less, all_found}
+use Rattle.xd_moves.proofs.WorkedTaskLemmas.{IsExpanding, all_last, expanding_first, expanding_on, expanding_less, all_found}
 use Rattle.xd_moves.proofs.expansion.expand.Goals as goal
 
 pub loop-task-init : goal.loop-task-init

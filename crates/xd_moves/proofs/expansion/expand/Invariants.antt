@@ -2,7 +2,7 @@ use Rattle.xd_continuations.specs.Expansion.{work_left}
 use Rattle.xd_sound.specs.TypeNames.{meanings}
 use Rattle.xd_moves.specs.Cells.{StayChosen}
 use Rattle.xd_moves.specs.Found.{waiting_at}
-use Rattle.xd_moves.proofs.Working.{IsExpanding}
+use Rattle.xd_moves.proofs.WorkedTaskLemmas.{IsExpanding}
 use Rattle.xd_moves.proofs.expansion.expand.Given as goal
 
 abbrev pub invariant-loop-task : goal.invariant-loop-task

@@ -1,12 +1,12 @@
 use Rattle.std.proofs.Common.{◌≡◌, ◌<◌, true, false, cond, length, arith, ap, sym, subst, ◌∙◌}
 use Rattle.std.specs.List.{AllByRecursion}
-use Rattle.xd_laws.specs.CanBeEmpty.{can_be_empty}
+use Rattle.xd_meaning.specs.CanBeEmpty.{can_be_empty}
 use Rattle.xd_sound.specs.TypeNames.{meanings}
-use Rattle.xd_pieces.specs.Pieces.{piece_tree}
+use Rattle.xd_moves.specs.Pieces.{piece_tree}
 use Rattle.xd_moves.specs.Found.{IsTask, waiting_at}
 use Rattle.xd_moves.specs.Cells.{Cell}
-use Rattle.xd_continuations.proofs.Reaching.{all_among}
-use Rattle.xd_moves.proofs.Working.{AreFirstTasks, first_more, first_all, all_reversed}
+use Rattle.xd_continuations.proofs.FiniteLemmas.{all_among}
+use Rattle.xd_moves.proofs.WorkedTaskLemmas.{AreFirstTasks, first_more, first_all, all_reversed}
 use Rattle.xd_moves.proofs.expansion.first_tasks.Goals as goal
 
 pub is_empty-requires-clause-piece : goal.is_empty-requires-clause-piece

@@ -1,4 +1,4 @@
-use Rattle.xd_moves.proofs.Working.{AreFirstTasks}
+use Rattle.xd_moves.proofs.WorkedTaskLemmas.{AreFirstTasks}
 use Rattle.xd_sound.specs.TypeNames.{meanings}
 use Rattle.xd_moves.proofs.expansion.first_tasks.Given as goal
 

@@ -1,9 +1,9 @@
 use Rattle.std.proofs.Common.{cond, ap, sym, ◌∙◌}
-use Rattle.xd_laws.specs.CanBeEmpty.{can_be_empty}
+use Rattle.xd_meaning.specs.CanBeEmpty.{can_be_empty}
 use Rattle.xd_syntax.specs.Table.{tree_at}
 use Rattle.xd_sound.specs.TypeNames.{meanings}
-use Rattle.xd_pieces.specs.Pieces.{turns_of}
-use Rattle.xd_moves.proofs.Working.{plus_empty}
+use Rattle.xd_moves.specs.Pieces.{turns_of}
+use Rattle.xd_moves.proofs.WorkedTaskLemmas.{plus_empty}
 use Rattle.xd_moves.proofs.expansion.is_empty.Goals as goal
 
 pub returns-then-is_plus : goal.returns-then-is_plus

@@ -2,7 +2,7 @@ use Rattle.std.proofs.Common.{◌≡◌, ℕ, take, ap, sym, ◌∙◌}
 use Rattle.xd_syntax.specs.Table.{Form, plus_form, form_tree, tree_at}
 use Rattle.xd_syntax.specs.declared.types.TypeId.{TypeId}
 use Rattle.xd_moves.specs.Found.{is_plus}
-use Rattle.xd_moves.proofs.Working.{plus_form_only, plus_of}
+use Rattle.xd_moves.proofs.WorkedTaskLemmas.{plus_form_only, plus_of}
 use Rattle.xd_moves.proofs.expansion.is_plus.Goals as goal
 
 pub returns-in_default : goal.returns-in_default

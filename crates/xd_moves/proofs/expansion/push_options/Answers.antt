@@ -4,7 +4,7 @@ use Rattle.xd_syntax.specs.Types.{type_numbers}
 use Rattle.xd_syntax.specs.declared.types.TypeId.{TypeId}
 use Rattle.xd_continuations.specs.Expansion.{task}
 use Rattle.xd_moves.specs.Found.{PutsTasks, continuation}
-use Rattle.xd_moves.proofs.Putting.{numbers_drop, numbers_below, puts_part}
+use Rattle.xd_moves.proofs.PutsTasksLemmas.{numbers_drop, numbers_below, puts_part}
 use Rattle.xd_moves.proofs.expansion.push_options.Goals as goal
 
 no_type : TypeId

@@ -2,10 +2,10 @@ use Rattle.std.proofs.Common.{◌≡◌, ◌-◌, ◌<◌, ◌++◌, map, true, 
 use Rattle.xd_syntax.specs.Table.{tree_at}
 use Rattle.xd_syntax.specs.Types.{type_numbers}
 use Rattle.xd_syntax.specs.declared.types.TypeId.{TypeId}
-use Rattle.xd_pieces.specs.Pieces.{piece_tree}
-use Rattle.xd_pieces.specs.declared.piece.Piece.{Piece}
+use Rattle.xd_moves.specs.Pieces.{piece_tree}
+use Rattle.xd_moves.specs.declared.piece.Piece.{Piece}
 use Rattle.xd_moves.specs.Found.{PutsSequence, StayBounded, continuation}
-use Rattle.xd_moves.proofs.Putting.{chosen_cell, pushed_next, kept_all, kept_none, node_piece, numbers_drop, numbers_below, piece_cell}
+use Rattle.xd_moves.proofs.PutsTasksLemmas.{chosen_cell, pushed_next, kept_all, kept_none, node_piece, numbers_drop, numbers_below, piece_cell}
 use Rattle.xd_moves.proofs.expansion.push_sequence.Goals as goal
 use Rattle.xd_moves.proofs.expansion.push_sequence.Goals.{then-not-marks-part, else-not-marks-part}
 

@@ -1,7 +1,7 @@
 use Rattle.std.proofs.Common.{drop}
 use Rattle.xd_syntax.specs.Types.{type_numbers}
 use Rattle.xd_moves.specs.Cells.{StayChosen}
-use Rattle.xd_moves.proofs.Putting.{IsPushed}
+use Rattle.xd_moves.proofs.PutsTasksLemmas.{IsPushed}
 use Rattle.xd_moves.proofs.expansion.push_sequence.Given as goal
 
 abbrev pub invariant-loop-at : goal.invariant-loop-at

@@ -2,7 +2,7 @@ use Rattle.std.proofs.Common.{◌∷◌, List, ap, ◌∙◌}
 use Rattle.xd_syntax.specs.Tree.{Tree, Star}
 use Rattle.xd_syntax.specs.Table.{tree_at}
 use Rattle.xd_moves.specs.Found.{continuation}
-use Rattle.xd_moves.proofs.Putting.{bounded_cell, chosen_cell, piece_cell}
+use Rattle.xd_moves.proofs.PutsTasksLemmas.{bounded_cell, chosen_cell, piece_cell}
 use Rattle.xd_moves.proofs.expansion.push_turn.Goals as goal
 
 pub returns-clause-bounded : goal.returns-clause-bounded

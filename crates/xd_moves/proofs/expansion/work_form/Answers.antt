@@ -3,8 +3,8 @@ use Rattle.xd_syntax.specs.Table.{text_form, words_form, name_form, elem_form, s
 use Rattle.xd_syntax.specs.Types.{form_of, type_numbers}
 use Rattle.xd_syntax.specs.declared.types.TypeId.{TypeId}
 use Rattle.xd_moves.specs.Found.{continuation}
-use Rattle.xd_moves.proofs.Putting.{adds_none, bounded_same, puts_none}
-use Rattle.xd_moves.proofs.Forming.{finds_none, form_done, on_ok}
+use Rattle.xd_moves.proofs.PutsTasksLemmas.{adds_none, bounded_same, puts_none}
+use Rattle.xd_moves.proofs.FindsLemmas.{finds_none, form_done, on_ok}
 use Rattle.xd_moves.proofs.expansion.work_form.Goals as goal
 
 pub returns-in-Text : goal.returns-in-Text

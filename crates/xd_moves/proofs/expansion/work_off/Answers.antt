@@ -2,7 +2,7 @@ use Rattle.std.proofs.Common.{◌≡◌, false, take, ap, sym, subst, ◌∙◌}
 use Rattle.xd_syntax.specs.Table.{Form, PartsBelow, CanFollow, form_tree, tree_at}
 use Rattle.xd_syntax.specs.Types.{form_of}
 use Rattle.xd_syntax.specs.declared.types.TypeId.{TypeId}
-use Rattle.xd_moves.proofs.Working.{parts_there, form_worked}
+use Rattle.xd_moves.proofs.WorkedTaskLemmas.{parts_there, form_worked}
 use Rattle.xd_moves.proofs.expansion.work_off.Goals as goal
 
 pub returns-clause-worked : goal.returns-clause-worked

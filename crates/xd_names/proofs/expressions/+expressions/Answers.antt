@@ -2,8 +2,10 @@ use Rattle.std.proofs.Common.{◌≡◌, ℕ, ◌<◌, ◌≤◌, ◌+◌, ◌*�
 use Rattle.std.specs.List.{AllByRecursion}
 use Rattle.std.proofs.lemmas.List.{length-map}
 use Rattle.xd_base.specs.declared.Place.{Place}
-use Rattle.xd_syntax.specs.Placed.{PlacedTree, placed_at, variables}
-use Rattle.xd_syntax.specs.Expression.{Expression, ExprPartsBelow, PatternsBelong, ShapePatternsBelong, expression_at, shape_expression, arguments_of, clauses_of}
+use Rattle.xd_syntax.specs.Placed.{PlacedTree, variables}
+use Rattle.xd_syntax.specs.PlacedTable.{placed_at}
+use Rattle.xd_syntax.specs.Expression.{Expression, arguments_of}
+use Rattle.xd_syntax.specs.ExpressionTable.{ExprPartsBelow, PatternsBelong, ShapePatternsBelong, expression_at, shape_expression, clauses_of}
 use Rattle.xd_syntax.specs.Exprs.{expr_numbers, clause_numbers, shape_of, expression}
 use Rattle.xd_syntax.specs.Program.{ProgramTree, function_of}
 use Rattle.xd_syntax.specs.NameFaults.{known_types, argument_count, call_faults, pattern_faults, expression_faults, clause_faults}

@@ -1,7 +1,7 @@
 use Rattle.std.proofs.Common.{◌≡◌, ◌++◌, ◌+◌, ◌*◌, ◌<◌, ◌≤◌, ℕ, drop, length, flat_map}
 use Rattle.std.specs.List.{AllByRecursion}
-use Rattle.xd_syntax.specs.Placed.{placed_at}
-use Rattle.xd_syntax.specs.Expression.{expression_at, clauses_of}
+use Rattle.xd_syntax.specs.PlacedTable.{placed_at}
+use Rattle.xd_syntax.specs.ExpressionTable.{expression_at, clauses_of}
 use Rattle.xd_syntax.specs.Exprs.{expr_numbers, clause_numbers}
 use Rattle.xd_syntax.specs.NameFaults.{expression_faults, clause_faults}
 use Rattle.xd_names.specs.Knows.{whole}

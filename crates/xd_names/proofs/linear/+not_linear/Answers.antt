@@ -4,7 +4,8 @@ use Rattle.xd_syntax.specs.Words.{has_word}
 use Rattle.xd_syntax.specs.Table.{CanFollow}
 use Rattle.xd_syntax.specs.Patterns.{pattern_numbers}
 use Rattle.xd_syntax.specs.Nodes.{view_form}
-use Rattle.xd_syntax.specs.Placed.{PlacedTree, placed_at, variables}
+use Rattle.xd_syntax.specs.Placed.{PlacedTree, variables}
+use Rattle.xd_syntax.specs.PlacedTable.{placed_at}
 use Rattle.xd_syntax.specs.NameFaults.{fault_if, not_linear}
 use Rattle.xd_syntax.specs.declared.patterns.PatternId.{PatternId}
 use Rattle.xd_syntax.specs.declared.fault.Fault.{Fault}

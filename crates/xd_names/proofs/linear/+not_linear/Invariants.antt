@@ -2,7 +2,8 @@ use Rattle.std.proofs.Common.{◌≡◌, not, ◌&&◌, ◌++◌, ◌<◌, ℕ, 
 use Rattle.std.specs.List.{AllByRecursion}
 use Rattle.xd_syntax.specs.Words.{has_word}
 use Rattle.xd_syntax.specs.Patterns.{pattern_numbers}
-use Rattle.xd_syntax.specs.Placed.{placed_at, variables}
+use Rattle.xd_syntax.specs.PlacedTable.{placed_at}
+use Rattle.xd_syntax.specs.Placed.{variables}
 use Rattle.xd_names.proofs.LinearLemmas.{seq_faults, alt_faults}
 use Rattle.xd_names.proofs.linear.+not_linear.Given as goal
 

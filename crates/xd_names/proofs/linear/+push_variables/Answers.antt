@@ -1,6 +1,7 @@
 use Rattle.std.proofs.Common.{ℕ, ◌+◌, ◌<◌, arith, List, ◌++◌, flat_map, drop, get_or, ap, ◌∙◌}
 use Rattle.xd_syntax.specs.Patterns.{pattern_numbers}
-use Rattle.xd_syntax.specs.Placed.{placed_at, variables}
+use Rattle.xd_syntax.specs.PlacedTable.{placed_at}
+use Rattle.xd_syntax.specs.Placed.{variables}
 use Rattle.xd_syntax.specs.declared.patterns.PatternId.{PatternId}
 use Rattle.xd_names.proofs.TreeLemmas.{part_step, parts_step, variables_done}
 use Rattle.xd_names.proofs.linear.+push_variables.Goals as goal

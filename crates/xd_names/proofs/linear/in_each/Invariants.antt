@@ -2,7 +2,8 @@ use Rattle.std.proofs.Common.{◌≡◌, ◌<◌, ◌&&◌, ℕ, List, drop, len
 use Rattle.std.specs.List.{AllByRecursion, list_all}
 use Rattle.xd_syntax.specs.Words.{has_word}
 use Rattle.xd_syntax.specs.Patterns.{pattern_numbers}
-use Rattle.xd_syntax.specs.Placed.{placed_at, variables}
+use Rattle.xd_syntax.specs.PlacedTable.{placed_at}
+use Rattle.xd_syntax.specs.Placed.{variables}
 use Rattle.xd_names.proofs.linear.in_each.Given as goal
 
 abbrev pub invariant-loop-branch : goal.invariant-loop-branch

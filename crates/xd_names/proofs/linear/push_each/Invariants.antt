@@ -1,7 +1,8 @@
 use Rattle.std.proofs.Common.{◌≡◌, ◌++◌, ◌<◌, drop, flat_map, length}
 use Rattle.std.specs.List.{AllByRecursion}
 use Rattle.xd_syntax.specs.Patterns.{pattern_numbers}
-use Rattle.xd_syntax.specs.Placed.{placed_at, variables}
+use Rattle.xd_syntax.specs.PlacedTable.{placed_at}
+use Rattle.xd_syntax.specs.Placed.{variables}
 use Rattle.xd_names.proofs.linear.push_each.Given as goal
 
 abbrev pub invariant-loop-part : goal.invariant-loop-part

@@ -1,7 +1,7 @@
 use Rattle.std.proofs.Common.{◌≡◌, ◌++◌, flat_map, drop}
 use Rattle.std.specs.List.{AllByRecursion}
 use Rattle.xd_syntax.specs.Types.{BelongsTo}
-use Rattle.xd_syntax.specs.Placed.{placed_at}
+use Rattle.xd_syntax.specs.PlacedTable.{placed_at}
 use Rattle.xd_syntax.specs.NameFaults.{unknown_types}
 use Rattle.xd_syntax.specs.declared.program.Param.{Param}
 use Rattle.xd_names.proofs.program.in_declared.Given as goal

@@ -1,6 +1,6 @@
 use Rattle.std.proofs.Common.{ℕ, ◌+◌, List, ◌++◌, flat_map, drop, ap, ◌∙◌}
 use Rattle.xd_syntax.specs.Kept.{TypeDefStands}
-use Rattle.xd_syntax.specs.Placed.{placed_at}
+use Rattle.xd_syntax.specs.PlacedTable.{placed_at}
 use Rattle.xd_syntax.specs.NameFaults.{unknown_types}
 use Rattle.xd_syntax.specs.declared.types.TypeDef.{TypeDef}
 use Rattle.xd_syntax.specs.declared.fault.Fault.{Fault}

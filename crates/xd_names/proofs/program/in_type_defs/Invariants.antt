@@ -1,6 +1,6 @@
 use Rattle.std.proofs.Common.{◌≡◌, ◌++◌, flat_map, drop}
 use Rattle.std.specs.List.{AllByRecursion}
-use Rattle.xd_syntax.specs.Placed.{placed_at}
+use Rattle.xd_syntax.specs.PlacedTable.{placed_at}
 use Rattle.xd_syntax.specs.Kept.{TypeDefStands}
 use Rattle.xd_syntax.specs.NameFaults.{unknown_types}
 use Rattle.xd_syntax.specs.declared.types.TypeDef.{TypeDef}

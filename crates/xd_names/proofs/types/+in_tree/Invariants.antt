@@ -1,6 +1,6 @@
 use Rattle.std.proofs.Common.{◌≡◌, ◌++◌, ◌<◌, drop, flat_map, map}
 use Rattle.std.specs.List.{AllByRecursion}
-use Rattle.xd_syntax.specs.Placed.{placed_at}
+use Rattle.xd_syntax.specs.PlacedTable.{placed_at}
 use Rattle.xd_syntax.specs.NameFaults.{unknown_types}
 use Rattle.xd_names.proofs.types.+in_tree.Given as goal
 

@@ -1,12 +1,12 @@
 use Rattle.std.proofs.Common.{[], sym, subst}
 use Rattle.xd_syntax.specs.Kept.{ProgramTable, program_tree}
 use Rattle.xd_grammar.specs.declared.grammar.Nonterminal.TheVariants as n
-use Rattle.xd_trees.specs.Values.{definitions}
-use Rattle.xd_trees.specs.Reading.{Reads}
-use Rattle.xd_trees.specs.Shallow.{NoDeeper, DefinitionsWithin}
+use Rattle.xd_parse_trees.specs.Values.{definitions}
+use Rattle.xd_parse_trees.specs.Reading.{Reads}
+use Rattle.xd_parse_trees.specs.Shallow.{NoDeeper, DefinitionsWithin}
 use Rattle.xd_parse.proofs.DefinitionRows.{table, type_def_collected, function_collected, all_collected}
 use Rattle.xd_grammar.specs.declared.grammar.Terminal.TheVariants as t
-use Rattle.xd_trees.proofs.Rows.{front_same}
+use Rattle.xd_parse_trees.proofs.Rows.{front_same}
 use Rattle.xd_parse.proofs.definitions.read_definitions.Goals as goal
 
 pub definitions-preserved-in_ok-push : goal.definitions-preserved-in_ok-push

@@ -1,12 +1,12 @@
 use Rattle.std.proofs.Common.{[], arith, sym, subst}
-use Rattle.xd_syntax.specs.Placed.{placed_at}
+use Rattle.xd_syntax.specs.PlacedTable.{placed_at}
 use Rattle.xd_syntax.specs.FunctionRow.{FunctionRow}
 use Rattle.xd_syntax.specs.Kept.{FunctionStands, function_definition}
 use Rattle.xd_grammar.specs.declared.grammar.Terminal.TheVariants as t
 use Rattle.xd_parse.specs.Definitions.{ReadsInFront, one_function}
-use Rattle.xd_trees.specs.Shallow.{NoDeeper, DefinitionsWithin}
+use Rattle.xd_parse_trees.specs.Shallow.{NoDeeper, DefinitionsWithin}
 use Rattle.xd_parse.proofs.DefinitionRows.{table, function_reads, function_deeper, params_kept, params_more, behind_less, behind_fewer}
-use Rattle.xd_trees.proofs.Kept.{KeepsRows-refl, KeepsRows-trans}
+use Rattle.xd_parse_trees.proofs.Kept.{KeepsRows-refl, KeepsRows-trans}
 use Rattle.xd_parse.proofs.definitions.read_function.Goals as goal
 
 pub returns-clause-reads : goal.returns-clause-reads

@@ -1,6 +1,6 @@
 use Rattle.std.proofs.Common.{arith, ap, length}
 use Rattle.xd_parse.proofs.DefinitionRows.{param_reads, behind_less}
-use Rattle.xd_trees.proofs.Kept.{KeepsRows-refl}
+use Rattle.xd_parse_trees.proofs.Kept.{KeepsRows-refl}
 use Rattle.xd_parse.proofs.definitions.read_param.Goals as goal
 
 pub returns-clause-reads : goal.returns-clause-reads

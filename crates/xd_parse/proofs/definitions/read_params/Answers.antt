@@ -1,8 +1,8 @@
 use Rattle.std.proofs.Common.{arith, sym, refl}
-use Rattle.xd_trees.specs.Reading.{behind}
-use Rattle.xd_trees.proofs.Kept.{KeepsRows-trans}
+use Rattle.xd_parse_trees.specs.Reading.{behind}
+use Rattle.xd_parse_trees.proofs.Kept.{KeepsRows-trans}
 use Rattle.xd_parse.proofs.DefinitionRows.{first_param, next_param, next_deeper, last_param, behind_less}
-use Rattle.xd_trees.proofs.Rows.{next_lt_at}
+use Rattle.xd_parse_trees.proofs.Rows.{next_lt_at}
 use Rattle.xd_grammar.specs.declared.grammar.Terminal.TheVariants as t
 use Rattle.xd_parse.proofs.definitions.read_params.Goals as goal
 

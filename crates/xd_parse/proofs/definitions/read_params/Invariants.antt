@@ -1,7 +1,7 @@
 use Rattle.std.proofs.Common.{◌≤◌, length, map}
 use Rattle.xd_syntax.specs.Table.{KeepsRows}
 use Rattle.xd_syntax.specs.Kept.{parameter}
-use Rattle.xd_trees.specs.Shallow.{NoDeeper, ParametersWithin}
+use Rattle.xd_parse_trees.specs.Shallow.{NoDeeper, ParametersWithin}
 use Rattle.xd_parse.proofs.DefinitionRows.{Params}
 use Rattle.xd_parse.proofs.definitions.read_params.Given as goal
 

@@ -1,7 +1,7 @@
 use Rattle.std.proofs.Common.{arith}
 use Rattle.xd_grammar.specs.declared.grammar.Terminal.TheVariants as t
 use Rattle.xd_parse.proofs.DefinitionRows.{type_def_reads, behind_less, behind_fewer}
-use Rattle.xd_trees.proofs.Kept.{KeepsRows-refl}
+use Rattle.xd_parse_trees.proofs.Kept.{KeepsRows-refl}
 use Rattle.xd_parse.proofs.definitions.read_type_def.Goals as goal
 
 pub returns-clause-reads : goal.returns-clause-reads

@@ -2,25 +2,27 @@ use Rattle.std.proofs.Common.{◌≡◌, ◌++◌, ◌<◌, ◌≤◌, ℕ, List
 use Rattle.std.proofs.lemmas.Result.{IfOk-from_err, IfOk-weaker}
 use Rattle.xd_base.specs.declared.Place.{Place}
 use Rattle.xd_lex.specs.Tokens.{Lexeme}
-use Rattle.xd_syntax.specs.Placed.{PlacedTree, placed_at}
+use Rattle.xd_syntax.specs.Placed.{PlacedTree}
+use Rattle.xd_syntax.specs.PlacedTable.{placed_at}
 use Rattle.xd_syntax.specs.Table.{Row}
-use Rattle.xd_syntax.specs.Expression.{Expression, Nothing, Quoted, ExprRow, empty_shape, text_shape, var_shape, elem_shape, call_shape, match_shape, expression_at}
+use Rattle.xd_syntax.specs.Expression.{Expression, Nothing, Quoted}
+use Rattle.xd_syntax.specs.ExpressionTable.{ExprRow, empty_shape, text_shape, var_shape, elem_shape, call_shape, match_shape, expression_at}
 use Rattle.xd_syntax.specs.Exprs.{expression, expr_numbers, clause_numbers}
 use Rattle.xd_syntax.specs.declared.exprs.ExprId.{ExprId}
 use Rattle.xd_syntax.specs.declared.exprs.Clause.{Clause}
 use Rattle.xd_grammar.specs.declared.grammar.Nonterminal.TheVariants as n
 use Rattle.xd_grammar.specs.declared.grammar.Terminal.TheVariants as t
 use Rattle.xd_grammar.specs.Fits.{same}
-use Rattle.xd_trees.specs.Values.{an_expression, a_clause, word_expression}
-use Rattle.xd_trees.specs.Reading.{Reads, front_terminal, front_place, behind}
+use Rattle.xd_parse_trees.specs.Values.{an_expression, a_clause, word_expression}
+use Rattle.xd_parse_trees.specs.Reading.{Reads, front_terminal, front_place, behind}
 use Rattle.xd_parse.specs.Items.{expression_of}
-use Rattle.xd_trees.proofs.Kept.{IsPattern-more, KeepsRows-trans}
+use Rattle.xd_parse_trees.proofs.Kept.{IsPattern-more, KeepsRows-trans}
 use Rattle.xd_parse.proofs.Grown.{Grows-refl, same_pattern}
 use Rattle.xd_parse.proofs.JoinLemmas.{numbers_push, positive}
-use Rattle.xd_trees.proofs.Rows.{behind_le, next_lt, next_lt_at, front_same}
+use Rattle.xd_parse_trees.proofs.Rows.{behind_le, next_lt, next_lt_at, front_same}
 use Rattle.xd_parse.proofs.ExprRows.{item_text, item_label, item_paren, content_empty, content_full, paren_empty, paren_full, clause_reads}
 use Rattle.xd_parse.proofs.Readers.{items_start, items_step, items_done, ReadArguments, arguments_start, arguments_step, arguments_done, ReadClauses, clauses_start, clauses_step, clauses_done}
-use Rattle.xd_parse.proofs.Adding.{if_ok, from_there, to_there, add_reads, item_reads, nothing_reads, nothing_stands, node_reads, node_grows, add_grows, at_place, quoted_at, tagged_at, no_ids, call_is, length-numbers, clause_numbers_push, first_pushed, nothing_begins}
+use Rattle.xd_parse.proofs.ReadsLemmas.{if_ok, from_there, to_there, add_reads, item_reads, nothing_reads, nothing_stands, node_reads, node_grows, add_grows, at_place, quoted_at, tagged_at, no_ids, call_is, length-numbers, clause_numbers_push, first_pushed, nothing_begins}
 use Rattle.xd_parse.proofs.expressions.+expressions.Goals as goal
 
 pub read_clause-returns-clause-reads : goal.read_clause-returns-clause-reads

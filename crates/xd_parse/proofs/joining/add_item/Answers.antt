@@ -1,8 +1,8 @@
 use Rattle.std.proofs.Common.{ap, map, sym, ◌∙◌, subst}
 use Rattle.std.specs.List.{AllByRecursion}
-use Rattle.xd_syntax.specs.Expression.{expression_at, IsJoinedPart}
+use Rattle.xd_syntax.specs.ExpressionTable.{expression_at, IsJoinedPart}
 use Rattle.xd_syntax.specs.Exprs.{expr_numbers}
-use Rattle.xd_trees.specs.Merged.{merged_expression}
+use Rattle.xd_parse_trees.specs.Merged.{merged_expression}
 use Rattle.xd_parse.proofs.JoinLemmas.{part_added}
 use Rattle.xd_parse.proofs.joining.add_item.Goals as goal
 

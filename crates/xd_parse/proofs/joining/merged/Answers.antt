@@ -1,11 +1,12 @@
 use Rattle.std.proofs.Common.{◌≡◌, ◌≤◌, List, length, map, get_or, sym, ap, subst, ◌∙◌}
 use Rattle.std.proofs.lemmas.Result.{IfOk-weaker}
-use Rattle.xd_syntax.specs.Placed.{placed_at}
+use Rattle.xd_syntax.specs.PlacedTable.{placed_at}
 use Rattle.xd_syntax.specs.Table.{Row}
-use Rattle.xd_syntax.specs.Expression.{ExprRow, expression_at, joined, place_of_expression}
+use Rattle.xd_syntax.specs.ExpressionTable.{ExprRow, expression_at}
+use Rattle.xd_syntax.specs.Expression.{joined, place_of_expression}
 use Rattle.xd_syntax.specs.Exprs.{expr_numbers, expression}
 use Rattle.xd_syntax.specs.declared.exprs.ExprId.{ExprId}
-use Rattle.xd_trees.specs.Merged.{merged_expression}
+use Rattle.xd_parse_trees.specs.Merged.{merged_expression}
 use Rattle.xd_parse.proofs.JoinLemmas.{merged_is, place_of_shape}
 use Rattle.xd_parse.proofs.joining.merged.Goals as goal
 

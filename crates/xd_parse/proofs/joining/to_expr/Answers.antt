@@ -1,8 +1,8 @@
 use Rattle.std.proofs.Common.{ap, map, sym, ◌∙◌}
 use Rattle.std.proofs.lemmas.Result.{IfOk-weaker}
-use Rattle.xd_syntax.specs.Expression.{expression_at}
+use Rattle.xd_syntax.specs.ExpressionTable.{expression_at}
 use Rattle.xd_syntax.specs.Exprs.{expression}
-use Rattle.xd_trees.specs.Merged.{merged_expression}
+use Rattle.xd_parse_trees.specs.Merged.{merged_expression}
 use Rattle.xd_parse.proofs.JoinLemmas.{numbers_map}
 use Rattle.xd_parse.proofs.joining.to_expr.Goals as goal
 

@@ -1,7 +1,7 @@
 use Rattle.std.proofs.Common.{refl, ap, sym, subst, cond}
 use Rattle.xd_syntax.specs.Tree.{Text, Words}
-use Rattle.xd_laws.specs.Heads.{all_texts}
-use Rattle.xd_runs.specs.Runs.{stop}
+use Rattle.xd_meaning.specs.Heads.{all_texts}
+use Rattle.xd_pattern_runs.specs.Runs.{stop}
 use Rattle.xd_patterns.specs.Pieces.{Sees}
 use Rattle.xd_patterns.specs.Tasks.{Tables, rows_of, words_at, piece_part, continuation, item_choice}
 use Rattle.xd_patterns.specs.Compiling.{AddsMove}

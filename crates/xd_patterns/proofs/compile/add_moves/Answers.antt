@@ -4,7 +4,7 @@ use Rattle.xd_patterns.specs.Tasks.{Tables, StandFound, meanings}
 use Rattle.xd_patterns.specs.Compiling.{IsAdding}
 use Rattle.xd_patterns.specs.declared.expand.Found.{Found}
 use Rattle.xd_patterns.proofs.MoveLemmas.{adding_none, adding_more, makes, numbers_grow, found_at, still_found}
-use Rattle.xd_patterns.proofs.Sparing.{spares_none, spares_then}
+use Rattle.xd_patterns.proofs.SparesLemmas.{spares_none, spares_then}
 use Rattle.xd_patterns.proofs.compile.add_moves.Goals as goal
 
 no_found : Found

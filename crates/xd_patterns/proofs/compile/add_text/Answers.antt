@@ -1,6 +1,6 @@
 use Rattle.std.proofs.Common.{refl}
 use Rattle.xd_patterns.proofs.StateLemmas.{finds_adds, finds_bounded}
-use Rattle.xd_patterns.proofs.Sparing.{spares_then, spares_changed}
+use Rattle.xd_patterns.proofs.SparesLemmas.{spares_then, spares_changed}
 use Rattle.xd_patterns.proofs.compile.add_text.Goals as goal
 
 pub returns-clause-made : goal.returns-clause-made

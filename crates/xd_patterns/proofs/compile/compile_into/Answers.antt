@@ -4,7 +4,7 @@ use Rattle.xd_patterns.specs.Tasks.{Tables, meanings}
 use Rattle.xd_patterns.specs.Compiling.{IsCompiling, rows_in}
 use Rattle.xd_patterns.specs.declared.compile.StateMarks.{StateMarks}
 use Rattle.xd_patterns.proofs.CompileLemmas.{compiling_none, compiling_more, numbered}
-use Rattle.xd_patterns.proofs.Sparing.{spares_none, spares_then}
+use Rattle.xd_patterns.proofs.SparesLemmas.{spares_none, spares_then}
 use Rattle.xd_patterns.proofs.compile.compile_into.Goals as goal
 
 pub loop-done-init : goal.loop-done-init

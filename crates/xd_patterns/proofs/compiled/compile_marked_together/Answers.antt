@@ -1,7 +1,7 @@
 use Rattle.std.proofs.Common.{ℕ, arith, map, length, sym, subst, ◌∙◌}
 use Rattle.std.specs.List.{AllByRecursion}
 use Rattle.xd_auto.specs.declared.auto.State.{State}
-use Rattle.xd_laws.specs.KeptLines.{AllPaired}
+use Rattle.xd_meaning.specs.KeptFaults.{AllPaired}
 use Rattle.xd_patterns.specs.declared.chains.Piece.{Piece}
 use Rattle.xd_patterns.specs.declared.mark_table.MarkTable.{MarkTable}
 use Rattle.xd_patterns.specs.CompiledProgram.{IsPatternState, IsTypeState}

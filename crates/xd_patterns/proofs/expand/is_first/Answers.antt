@@ -1,4 +1,4 @@
-use Rattle.xd_patterns.proofs.Keeping.{enters}
+use Rattle.xd_patterns.proofs.HasFoundLemmas.{enters}
 use Rattle.xd_patterns.proofs.expand.is_first.Goals as goal
 
 pub returns : goal.returns

@@ -1,4 +1,4 @@
-use Rattle.xd_patterns.proofs.Keeping.{has_found}
+use Rattle.xd_patterns.proofs.HasFoundLemmas.{has_found}
 use Rattle.xd_patterns.proofs.expand.keep.Goals as goal
 
 pub returns : goal.returns

@@ -4,7 +4,7 @@ use Rattle.xd_patterns.specs.Bodies.{node_of}
 use Rattle.xd_continuations.specs.declared.links.Link.{Link}
 use Rattle.xd_patterns.specs.declared.chains.Piece.{Piece}
 use Rattle.xd_patterns.specs.declared.expand.Found.{Found}
-use Rattle.xd_continuations.proofs.Reaching.{all_among}
+use Rattle.xd_continuations.proofs.FiniteLemmas.{all_among}
 use Rattle.xd_patterns.proofs.Expansion.{end_expanded, stop_expanded, step_expanded}
 use Rattle.xd_patterns.proofs.expand.step.Goals as goal
 

@@ -1,8 +1,8 @@
 use Rattle.std.proofs.Common.{ℕ, [], ◌∷◌, ap, sym, subst, ◌∙◌}
 use Rattle.std.specs.List.{AllByRecursion}
 use Rattle.xd_auto.specs.declared.auto.State.{State}
-use Rattle.xd_laws.specs.Bindings.{variables_of}
-use Rattle.xd_laws.specs.KeptLines.{AllPaired}
+use Rattle.xd_meaning.specs.Bindings.{variables_of}
+use Rattle.xd_meaning.specs.KeptFaults.{AllPaired}
 use Rattle.xd_syntax.specs.Patterns.{pattern_tree}
 use Rattle.xd_syntax.specs.Words.{has_word}
 use Rattle.xd_patterns.specs.Compiling.{labels_from, marking, rows_in, texts_from}

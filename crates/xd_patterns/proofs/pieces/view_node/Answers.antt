@@ -1,10 +1,11 @@
 use Rattle.std.proofs.Common.{refl, ◌≡◌, ◌-◌, ℕ, List, map, get_or, ap, sym, subst, ◌∙◌}
 use Rattle.std.proofs.lemmas.List.{length-map}
-use Rattle.xd_syntax.specs.Tree.{Elem, Seq, Alt, Star, Opt, seq_of, alt_of}
+use Rattle.xd_syntax.specs.Tree.{Elem, Seq, Alt, Star, Opt, seq_of}
+use Rattle.xd_syntax.specs.TreeForms.{alt_of}
 use Rattle.xd_syntax.specs.Table.{empty_form, text_form, words_form, name_form, elem_form, seq_form, alt_form, star_form, opt_form}
 use Rattle.xd_syntax.specs.Nodes.{view_form}
 use Rattle.xd_patterns.specs.Pieces.{node_piece, rest_piece}
-use Rattle.xd_patterns.proofs.Viewing.{IsRow, seq_row, alt_row, part_seen, row_seen, whole_seen}
+use Rattle.xd_patterns.proofs.ViewLemmas.{IsRow, seq_row, alt_row, part_seen, row_seen, whole_seen}
 use Rattle.xd_patterns.proofs.pieces.view_node.Goals as goal
 
 pub returns-in-Seq : goal.returns-in-Seq

@@ -2,7 +2,7 @@ use Rattle.std.proofs.Common.{◌++◌, ◌∷◌, [], false, take, get_or, sym,
 use Rattle.std.proofs.lemmas.List.{take_more, take_all}
 use Rattle.xd_patterns.specs.declared.chains.Piece.{Piece}
 use Rattle.xd_patterns.specs.Starting.{AddsStarts}
-use Rattle.xd_patterns.proofs.Sparing.{spares_none, spares_then}
+use Rattle.xd_patterns.proofs.SparesLemmas.{spares_none, spares_then}
 use Rattle.xd_patterns.proofs.Starting.{starts_none, starts_more}
 use Rattle.xd_patterns.proofs.start.add_starts.Goals as goal
 

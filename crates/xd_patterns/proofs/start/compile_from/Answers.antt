@@ -1,9 +1,9 @@
 use Rattle.std.proofs.Common.{ℕ, sym, subst}
-use Rattle.xd_laws.specs.KeptLines.{AllPaired}
+use Rattle.xd_meaning.specs.KeptFaults.{AllPaired}
 use Rattle.xd_patterns.specs.Compiling.{marking, rows_in}
 use Rattle.xd_patterns.specs.Starting.{IsPieceState}
 use Rattle.xd_patterns.specs.Tasks.{Tables, AreBinders, meanings}
-use Rattle.xd_patterns.proofs.Sparing.{spares_then, extends_from, keeps_from}
+use Rattle.xd_patterns.proofs.SparesLemmas.{spares_then, extends_from, keeps_from}
 use Rattle.xd_patterns.proofs.Starting.{are_pieces, fresh_from, starts_compiled}
 use Rattle.xd_patterns.proofs.start.compile_from.Goals as goal
 

@@ -4,7 +4,7 @@ use Rattle.xd_patterns.specs.Variables.{AreNumbered, numbers_in, with_number}
 use Rattle.xd_continuations.specs.declared.links.Link.{Link}
 use Rattle.xd_patterns.specs.declared.variables.Numbers.{Numbers}
 use Rattle.std.proofs.Common.{ℕ, List}
-use Rattle.xd_continuations.proofs.Reaching.{all_among}
+use Rattle.xd_continuations.proofs.FiniteLemmas.{all_among}
 use Rattle.xd_patterns.proofs.VariableLemmas.{numbered_none, numbered_next, numbers_push, number_got}
 use Rattle.xd_patterns.proofs.variables.number_lists.Goals as goal
 

@@ -7,7 +7,7 @@ use Rattle.std.specs.Prelude.{position}
 use Rattle.xd_syntax.specs.Patterns.{form_of_pattern}
 use Rattle.xd_syntax.specs.declared.patterns.PatternId.{PatternId}
 use Rattle.xd_patterns.specs.Pieces.{variable_of, IsBinderForm}
-use Rattle.xd_patterns.proofs.Viewing.{same_row}
+use Rattle.xd_patterns.proofs.ViewLemmas.{same_row}
 use Rattle.xd_patterns.proofs.variables.number_of.Goals as goal
 
 pub returns-in-Val : goal.returns-in-Val

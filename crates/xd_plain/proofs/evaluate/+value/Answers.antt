@@ -1,15 +1,15 @@
 use Rattle.std.proofs.Common.{◌≡◌, ◌∷◌, ◌++◌, ◌-◌, Some, None, refl, ap, sym, ◌∙◌, subst, arith, map}
 use Rattle.xd_doc.specs.Document.{Document, join}
-use Rattle.xd_syntax.specs.Placed.{the_start}
+use Rattle.xd_syntax.specs.PlacedTable.{the_start}
 use Rattle.xd_syntax.specs.Expression.{Tagged, Joined, Called, Matched, argument, clause}
-use Rattle.xd_laws.specs.Meaning as on_fuel
-use Rattle.xd_laws.specs.Meaning.{value_by}
+use Rattle.xd_meaning.specs.Meaning as on_fuel
+use Rattle.xd_meaning.specs.Meaning.{value_by}
 use Rattle.xd_plain.specs.PlainDocuments.{document_of}
 use Rattle.xd_plain.specs.PlainTrees.{map_option}
 use Rattle.xd_plain.specs.PlainWays.{bindings_of}
 use Rattle.xd_plain.specs.PlainPrograms.{placed_of, expression_of, arguments_of, clauses_of, parameter_of, function_definition_of, program_of}
 use Rattle.xd_plain.specs.PlainMeaning.{AreAnswers, all_done, chosen_of, done, documents_of, matches_of, value_of, values_of}
-use Rattle.xd_plain.proofs.PlainMeaning.{ended, goes_on, same_answer, clause_passed, clause_taken, first_match, call_taken}
+use Rattle.xd_plain.proofs.PlainMeaningLemmas.{ended, goes_on, same_answer, clause_passed, clause_taken, first_match, call_taken}
 use Rattle.xd_plain.proofs.evaluate.+value.Goals as goal
 
 pub value_within-returns-in-Elem : goal.value_within-returns-in-Elem

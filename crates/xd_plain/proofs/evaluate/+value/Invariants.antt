@@ -1,6 +1,6 @@
 use Rattle.std.proofs.Common.{◌+◌}
 use Rattle.xd_plain.specs.PlainPrograms.{expression_of, arguments_of, clauses_of, program_of}
-use Rattle.xd_plain.proofs.PlainMeaning.{expression_weight, arguments_weight, clauses_weight, call_weight}
+use Rattle.xd_plain.proofs.PlainMeaningLemmas.{expression_weight, arguments_weight, clauses_weight, call_weight}
 use Rattle.xd_plain.proofs.evaluate.+value.Given as goal
 
 abbrev pub decreases-value_within : goal.decreases-value_within

@@ -1,5 +1,5 @@
 use Rattle.std.proofs.Common.{◌≡◌, drop}
-use Rattle.xd_laws.specs.Meaning.{looked_up}
+use Rattle.xd_meaning.specs.Meaning.{looked_up}
 use Rattle.xd_plain.specs.PlainWays.{bindings_of}
 use Rattle.xd_plain.proofs.evaluate.document_bound.Given as goal
 

@@ -1,5 +1,5 @@
 use Rattle.std.proofs.Common.{ap, sym}
-use Rattle.xd_laws.specs.Meaning as on_fuel
+use Rattle.xd_meaning.specs.Meaning as on_fuel
 use Rattle.xd_plain.proofs.evaluate.joined.Goals as goal
 
 pub returns : goal.returns

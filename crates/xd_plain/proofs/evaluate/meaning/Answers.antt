@@ -3,7 +3,7 @@ use Rattle.xd_syntax.specs.Words.{main_word}
 use Rattle.xd_plain.specs.PlainDocuments.{document_of}
 use Rattle.xd_plain.specs.PlainPrograms.{program_of}
 use Rattle.xd_plain.specs.PlainMeaning.{IsAnswer, call_with, documents_of, matches_of, meaning_with}
-use Rattle.xd_plain.proofs.PlainMeaning.{settled, same_answer, if_done, if_ended}
+use Rattle.xd_plain.proofs.PlainMeaningLemmas.{settled, same_answer, if_done, if_ended}
 use Rattle.xd_plain.proofs.evaluate.meaning.Goals as goal
 
 pub returns : goal.returns

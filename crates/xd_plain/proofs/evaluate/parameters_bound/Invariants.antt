@@ -1,5 +1,5 @@
 use Rattle.std.proofs.Common.{◌≡◌, ◌++◌, map, drop}
-use Rattle.xd_laws.specs.Meaning.{bound}
+use Rattle.xd_meaning.specs.Meaning.{bound}
 use Rattle.xd_plain.specs.PlainWays.{bindings_of}
 use Rattle.xd_plain.specs.PlainPrograms.{parameter_of}
 use Rattle.xd_plain.specs.PlainMeaning.{documents_of}

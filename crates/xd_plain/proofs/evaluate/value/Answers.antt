@@ -1,8 +1,8 @@
-use Rattle.xd_laws.specs.Meaning.{Matcher}
+use Rattle.xd_meaning.specs.Meaning.{Matcher}
 use Rattle.xd_plain.specs.PlainMeaning.{value_with}
 use Rattle.xd_plain.specs.PlainWays.{bindings_of}
 use Rattle.xd_plain.specs.PlainPrograms.{expression_of, program_of}
-use Rattle.xd_plain.proofs.PlainMeaning.{settled, same_answer, if_done, if_ended}
+use Rattle.xd_plain.proofs.PlainMeaningLemmas.{settled, same_answer, if_done, if_ended}
 use Rattle.xd_plain.proofs.evaluate.value.Goals as goal
 
 pub returns : goal.returns

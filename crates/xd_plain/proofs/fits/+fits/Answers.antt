@@ -1,11 +1,11 @@
 use Rattle.std.proofs.Common.{◌≡◌, ◌≤◌, true, refl, ap, sym, ◌∙◌, arith}
 use Rattle.xd_doc.specs.Document.{Document, size, has_item}
 use Rattle.xd_syntax.specs.Tree.{Elem, Seq, Star, Plus}
-use Rattle.xd_laws.specs.FitsWithin as unfolded
+use Rattle.xd_meaning.specs.FitsWithin as unfolded
 use Rattle.xd_plain.specs.PlainDocuments.{document_of}
 use Rattle.xd_plain.specs.PlainTrees.{tree_of, definitions_of}
 use Rattle.xd_plain.specs.PlainFits.{splits_of}
-use Rattle.xd_plain.proofs.PlainFitting.{Turn, found, some_later, none_found, refused, sizes, size_some, empty_repeats, repeats_split, split_repeats, filled_by, same_type, told, denied}
+use Rattle.xd_plain.proofs.SplitsLemmas.{Turn, found, some_later, none_found, refused, sizes, size_some, empty_repeats, repeats_split, split_repeats, filled_by, same_type, told, denied}
 use Rattle.xd_plain.proofs.fits.+fits.Goals as goal
 
 pub is_fitting-returns-in-Elem : goal.is_fitting-returns-in-Elem

@@ -1,10 +1,10 @@
 use Rattle.std.proofs.Common.{◌+◌, ◌*◌, drop}
 use Rattle.xd_doc.specs.Document.{size}
-use Rattle.xd_laws.specs.FitsWithin as unfolded
+use Rattle.xd_meaning.specs.FitsWithin as unfolded
 use Rattle.xd_plain.specs.PlainDocuments.{document_of}
 use Rattle.xd_plain.specs.PlainTrees.{tree_of, definitions_of}
 use Rattle.xd_plain.specs.PlainFits.{splits_of}
-use Rattle.xd_plain.proofs.PlainFitting.{SomeSplit, Turn, weight, weight_of_name}
+use Rattle.xd_plain.proofs.SplitsLemmas.{SomeSplit, Turn, weight, weight_of_name}
 use Rattle.xd_plain.proofs.fits.+fits.Given as goal
 
 abbrev pub decreases-is_fitting : goal.decreases-is_fitting

@@ -2,11 +2,11 @@ use Rattle.std.proofs.Common.{◌↔◌, IsTrue, subst}
 use Rattle.xd_doc.specs.Document.{Document}
 use Rattle.xd_syntax.specs.Tree.{Tree}
 use Rattle.xd_syntax.specs.Fits as types
-use Rattle.xd_laws.specs.FitsWithin as unfolded
+use Rattle.xd_meaning.specs.FitsWithin as unfolded
 use Rattle.xd_plain.specs.PlainDocuments.{document_of}
 use Rattle.xd_plain.specs.PlainTrees.{tree_of, definitions_of}
 use Rattle.xd_syntax.specs.Program.{names_of}
-use Rattle.xd_plain.proofs.PlainFitting.{if_ok}
+use Rattle.xd_plain.proofs.SplitsLemmas.{if_ok}
 use Rattle.xd_laws.proofs.TheLaws.{fits_settles}
 use Rattle.xd_plain.proofs.fits.fits_within.Goals as goal
 

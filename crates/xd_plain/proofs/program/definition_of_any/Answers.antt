@@ -1,6 +1,6 @@
 use Rattle.std.proofs.Common.{◌≡◌, inr, refl, ap, ◌∙◌}
 use Rattle.std.specs.List.Sorted.{IsStrictlySortedBy}
-use Rattle.xd_doc.specs.Classes.{IsClass, names_label}
+use Rattle.xd_doc.specs.ClassForms.{IsClass, names_label}
 use Rattle.xd_syntax.specs.Words.{any_word}
 use Rattle.xd_syntax.specs.Tree.{Name, Elem, Alt, Star, Text, all_labels}
 use Rattle.xd_plain.specs.PlainTrees.{tree_of}

@@ -7,7 +7,7 @@ use Rattle.xd_syntax.specs.Ways.{ways_within as the_ways_within}
 use Rattle.xd_plain.specs.PlainDocuments.{document_of}
 use Rattle.xd_plain.specs.PlainTrees.{tree_of, definitions_of}
 use Rattle.xd_plain.specs.PlainWays.{way_of, ways_of}
-use Rattle.xd_plain.proofs.PlainFitting.{if_ok}
+use Rattle.xd_plain.proofs.SplitsLemmas.{if_ok}
 use Rattle.xd_plain.proofs.PlainCost.{cost, then_ways, then_turns, turn_ways, then_cost, then_turns_cost, repetition_cost, ways_step, cost_step, cost_here, ways_done}
 use Rattle.xd_plain.proofs.ways.+ways.Goals as goal
 use Rattle.xd_plain.proofs.ways.+ways.Goals.{each_turned-then-is_shorter+in_ok-push_turns, each_turned-else-is_shorter}

@@ -1,5 +1,5 @@
 use Rattle.std.proofs.Common.{◌≡◌, drop}
-use Rattle.xd_laws.specs.FirstMatch.{first_whole}
+use Rattle.xd_meaning.specs.FirstMatch.{first_whole}
 use Rattle.xd_plain.specs.PlainWays.{ways_of}
 use Rattle.xd_plain.proofs.ways.first_of_whole.Given as goal
 

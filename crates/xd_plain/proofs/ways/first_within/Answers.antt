@@ -2,7 +2,7 @@ use Rattle.std.proofs.Common.{◌≡◌, IfOk, ap, ◌∙◌, subst}
 use Rattle.xd_doc.specs.Document.{Document}
 use Rattle.xd_syntax.specs.Tree.{Tree}
 use Rattle.xd_syntax.specs.Ways.{ways}
-use Rattle.xd_laws.specs.FirstMatch.{first_whole}
+use Rattle.xd_meaning.specs.FirstMatch.{first_whole}
 use Rattle.xd_syntax.specs.Ways.{ways_within as the_ways_within}
 use Rattle.xd_plain.specs.PlainDocuments.{document_of}
 use Rattle.xd_plain.specs.PlainTrees.{tree_of, map_option}

@@ -1,11 +1,11 @@
 use Rattle.std.proofs.Common.{◌≡◌, ◌↔◌, ◌≤◌, ⊎_elim, Bool, true, IsTrue, refl, ap, sym, ◌∙◌, arith}
 use Rattle.xd_doc.specs.Document.{Document, empty, size, has_item}
 use Rattle.xd_syntax.specs.Tree.{Star, Plus}
-use Rattle.xd_laws.specs.FitsWithin as unfolded
+use Rattle.xd_meaning.specs.FitsWithin as unfolded
 use Rattle.xd_plain.specs.PlainDocuments.{document_of}
 use Rattle.xd_plain.specs.PlainTrees.{tree_of, definitions_of}
 use Rattle.xd_plain.specs.PlainFits.{splits_of}
-use Rattle.xd_plain.proofs.PlainFitting.{Turn, found, some_later, none_found, refused, sizes, size_some, filled_by, told, denied, if_ok}
+use Rattle.xd_plain.proofs.SplitsLemmas.{Turn, found, some_later, none_found, refused, sizes, size_some, filled_by, told, denied, if_ok}
 use Rattle.xd_plain_stop.specs.Tails.{GoesByFirst, HasCompletion, HasSome}
 use Rattle.xd_plain_stop.proofs.Completions.{an_element, emptied, from_first, from_second, into_turns, into_two, its_content, more_turns, no_turns, one_turn_only, open_comes, part_only, same_completion}
 use Rattle.xd_plain_stop.proofs.begun.+begun.Goals as goal

@@ -1,10 +1,10 @@
 use Rattle.std.proofs.Common.{ℕ, ◌+◌, ◌*◌, drop}
 use Rattle.xd_doc.specs.Document.{Document, size}
-use Rattle.xd_laws.specs.FitsWithin as unfolded
+use Rattle.xd_meaning.specs.FitsWithin as unfolded
 use Rattle.xd_plain.specs.PlainDocuments.{document_of}
 use Rattle.xd_plain.specs.PlainTrees.{tree_of, definitions_of}
 use Rattle.xd_plain.specs.PlainFits.{splits_of}
-use Rattle.xd_plain.proofs.PlainFitting.{SomeSplit, Turn, weight, weight_of_name}
+use Rattle.xd_plain.proofs.SplitsLemmas.{SomeSplit, Turn, weight, weight_of_name}
 use Rattle.xd_plain_stop.specs.Tails.{HasCompletion}
 use Rattle.xd_plain_stop.proofs.Completions.{tail_size}
 use Rattle.xd_plain_stop.proofs.begun.+begun.Given as goal

@@ -1,4 +1,4 @@
-use Rattle.xd_points.proofs.Staying.{serving_stays}
+use Rattle.xd_points.proofs.StayLaws.{serving_stays}
 use Rattle.xd_points.proofs.laws.serving_stays.Goals as goal
 
 pub returns : goal.returns

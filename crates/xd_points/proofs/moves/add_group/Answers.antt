@@ -5,9 +5,9 @@ use Rattle.xd_boole.specs.Groups.{AllPass, is_side, side_accepts}
 use Rattle.xd_boole.specs.Choices.{AllChoices, IsChoiceOf, any_choice, choice_refuses}
 use Rattle.xd_boole.specs.Universal.{MarkUniversal}
 use Rattle.xd_points.specs.Points.{LabelLeads, label_means, parts_accept}
-use Rattle.xd_points.proofs.Adding.{grows_same}
-use Rattle.xd_boole.proofs.Differing.{and_nothing, both_more}
-use Rattle.xd_points.proofs.Growing.{adds_like, adds_none, adds_then, label_stays, labels_more}
+use Rattle.xd_points.proofs.ArePointsLemmas.{grows_same}
+use Rattle.xd_boole.proofs.DifferenceLemmas.{and_nothing, both_more}
+use Rattle.xd_points.proofs.GrowsLemmas.{adds_like, adds_none, adds_then, label_stays, labels_more}
 use Rattle.xd_boole.proofs.Bools.{part_group}
 use Rattle.xd_boole.proofs.Lists.{all_step, any_walked}
 use Rattle.xd_points.proofs.moves.add_group.Goals as goal

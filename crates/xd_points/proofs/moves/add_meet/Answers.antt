@@ -1,20 +1,21 @@
 use Rattle.std.proofs.Common.{◌≡◌, ◌&&◌, ◌||◌, not, true, take, List, Option, Some, ap, arith, subst, sym, ◌∙◌}
 use Rattle.std.specs.List.{list_any}
-use Rattle.xd_doc.specs.Classes.{IsPart, LabelClass, class_has}
+use Rattle.xd_doc.specs.ClassForms.{IsPart}
+use Rattle.xd_doc.specs.Classes.{LabelClass, class_has}
 use Rattle.xd_auto.specs.declared.auto.State.{State}
 use Rattle.xd_auto.specs.Automaton.{IsState, moves_at}
 use Rattle.xd_boole.specs.Meaning.{any_accepts, element_of, move_takes}
 use Rattle.xd_boole.specs.declared.groups.MoveSide.{MoveSide}
 use Rattle.xd_boole.specs.declared.groups.Group.{Group}
 use Rattle.xd_boole.specs.Groups.{AllPass, any_group, group_refuses, is_side, label_side, side_accepts}
-use Rattle.xd_boole.proofs.Differing.{right_more}
+use Rattle.xd_boole.proofs.DifferenceLemmas.{right_more}
 use Rattle.xd_boole.proofs.Lists.{all_step, any_walked}
 use Rattle.xd_points.specs.declared.moves.Parts.{Parts}
 use Rattle.xd_points.specs.Meaning.{PointView}
 use Rattle.xd_points.specs.Points.{AddsLabels, LabelLeads, any_before, label_means, parts_accept}
-use Rattle.xd_points.proofs.Differing.{met}
-use Rattle.xd_points.proofs.Growing.{adds_like, adds_then, label_stays, labels_more}
-use Rattle.xd_points.proofs.Taking.{before_same}
+use Rattle.xd_points.proofs.MeetLemmas.{met}
+use Rattle.xd_points.proofs.GrowsLemmas.{adds_like, adds_then, label_stays, labels_more}
+use Rattle.xd_points.proofs.PatternMoveLemmas.{before_same}
 use Rattle.xd_points.proofs.moves.add_meet.Goals as goal
 
 pub loop-group-preserved : goal.loop-group-preserved

@@ -3,14 +3,14 @@ use Rattle.std.specs.List.{AllByRecursion}
 use Rattle.xd_auto.specs.Automaton.{IsState, accepts}
 use Rattle.xd_boole.specs.Meaning.{any_accepts, has_state, is_state}
 use Rattle.xd_boole.proofs.Bools.{and_left, and_right}
-use Rattle.xd_boole.proofs.Refusing.{state_is, states_are}
+use Rattle.xd_boole.proofs.AnyAcceptsLemmas.{state_is, states_are}
 use Rattle.xd_doc.specs.Classes.{LabelClass, class_has}
 use Rattle.xd_auto.specs.declared.auto.LabelMove.{LabelMove}
 use Rattle.xd_auto.specs.declared.auto.State.{State}
 use Rattle.xd_points.specs.Points.{IsStateFor, LabelLeads, label_means}
-use Rattle.xd_points.proofs.Adding.{grows_same}
-use Rattle.xd_points.proofs.Differing.{move_added, nothing_left, part_none}
-use Rattle.xd_points.proofs.Growing.{adds_none, label_stays, labels_more}
+use Rattle.xd_points.proofs.ArePointsLemmas.{grows_same}
+use Rattle.xd_points.proofs.MeetLemmas.{move_added, nothing_left, part_none}
+use Rattle.xd_points.proofs.GrowsLemmas.{adds_none, label_stays, labels_more}
 use Rattle.xd_points.proofs.moves.add_move.Goals as goal
 
 pub returns : goal.returns

@@ -8,12 +8,12 @@ use Rattle.xd_auto.specs.Automaton.{IsState, accepts}
 use Rattle.xd_empty.specs.Parts.{is_marked}
 use Rattle.xd_points.specs.Points.{TextLeads, rests_accept, text_means}
 use Rattle.xd_boole.specs.Meaning.{any_accepts, has_state, with_states}
-use Rattle.xd_points.proofs.Adding.{grows_same}
-use Rattle.xd_boole.proofs.Differing.{none_taken}
-use Rattle.xd_points.proofs.Differing.{nothing_left, text_added, text_none}
-use Rattle.xd_points.proofs.Growing.{adds_none, text_stays, texts_more}
+use Rattle.xd_points.proofs.ArePointsLemmas.{grows_same}
+use Rattle.xd_boole.proofs.DifferenceLemmas.{none_taken}
+use Rattle.xd_points.proofs.MeetLemmas.{nothing_left, text_added, text_none}
+use Rattle.xd_points.proofs.GrowsLemmas.{adds_none, text_stays, texts_more}
 use Rattle.xd_boole.proofs.UniversalLemmas.{marked_accepts}
-use Rattle.xd_boole.proofs.Refusing.{set_accepts, states_are, with_states_all}
+use Rattle.xd_boole.proofs.AnyAcceptsLemmas.{set_accepts, states_are, with_states_all}
 use Rattle.xd_points.proofs.moves.add_text_group.Goals as goal
 
 pub find_or_add-requires-clause-states : goal.find_or_add-requires-clause-states

@@ -1,19 +1,20 @@
 use Rattle.std.proofs.Common.{◌≡◌, ◌&&◌, ◌||◌, not, true, take, List, Option, Some, ap, arith, subst, sym, ◌∙◌}
 use Rattle.std.specs.List.{list_any}
-use Rattle.xd_doc.specs.Classes.{IsPart, TextClass, class_has}
+use Rattle.xd_doc.specs.ClassForms.{IsPart}
+use Rattle.xd_doc.specs.Classes.{TextClass, class_has}
 use Rattle.xd_auto.specs.declared.auto.State.{State}
 use Rattle.xd_auto.specs.Automaton.{IsState, accepts, moves_at}
 use Rattle.xd_boole.specs.Meaning.{any_accepts, is_state, text_of, text_takes}
 use Rattle.xd_boole.specs.declared.groups.Group.{Group}
 use Rattle.xd_boole.specs.Groups.{AllPass, any_group, group_refuses}
-use Rattle.xd_boole.proofs.Differing.{right_more}
+use Rattle.xd_boole.proofs.DifferenceLemmas.{right_more}
 use Rattle.xd_boole.proofs.Lists.{all_step, any_walked}
 use Rattle.xd_points.specs.declared.moves.Rests.{Rests}
 use Rattle.xd_points.specs.Meaning.{PointView}
 use Rattle.xd_points.specs.Points.{TextLeads, any_text_before, rests_accept, text_means}
-use Rattle.xd_points.proofs.Differing.{met}
-use Rattle.xd_points.proofs.Growing.{adds_like, adds_then, text_stays, texts_more}
-use Rattle.xd_points.proofs.Taking.{text_before_same}
+use Rattle.xd_points.proofs.MeetLemmas.{met}
+use Rattle.xd_points.proofs.GrowsLemmas.{adds_like, adds_then, text_stays, texts_more}
+use Rattle.xd_points.proofs.PatternMoveLemmas.{text_before_same}
 use Rattle.xd_points.proofs.moves.add_text_meet.Goals as goal
 
 pub loop-group-preserved : goal.loop-group-preserved

@@ -6,15 +6,15 @@ use Rattle.xd_auto.specs.Automaton.{accepts, has_label, moves_at}
 use Rattle.xd_boole.specs.Meaning.{ElementFirst, any_accepts, element_of, move_takes}
 use Rattle.xd_boole.specs.Groups.{label_side, passes_at, side_accepts}
 use Rattle.xd_boole.specs.Points.{MoveBelow}
-use Rattle.xd_boole.proofs.Closing.{labels_are}
-use Rattle.xd_boole.proofs.Differing.{left_more}
+use Rattle.xd_boole.proofs.MoveBelowLemmas.{labels_are}
+use Rattle.xd_boole.proofs.DifferenceLemmas.{left_more}
 use Rattle.xd_boole.proofs.Lists.{all_at, any_walked, at_itself}
 use Rattle.xd_points.specs.Meaning.{PointView}
 use Rattle.xd_points.specs.Points.{AddsLabels, LabelLeads, any_before, label_means}
-use Rattle.xd_points.proofs.Adding.{grows_same}
-use Rattle.xd_points.proofs.Differing.{and_join}
-use Rattle.xd_points.proofs.Growing.{adds_like, adds_none, adds_then, label_stays, labels_more}
-use Rattle.xd_points.proofs.Taking.{met_tell, one_at, passes_item}
+use Rattle.xd_points.proofs.ArePointsLemmas.{grows_same}
+use Rattle.xd_points.proofs.MeetLemmas.{and_join}
+use Rattle.xd_points.proofs.GrowsLemmas.{adds_like, adds_none, adds_then, label_stays, labels_more}
+use Rattle.xd_points.proofs.PatternMoveLemmas.{met_tell, one_at, passes_item}
 use Rattle.xd_points.proofs.moves.label_steps.Goals as goal
 
 pub loop-number-init : goal.loop-number-init

@@ -6,15 +6,15 @@ use Rattle.xd_auto.specs.Automaton.{accepts, has_text, moves_at}
 use Rattle.xd_boole.specs.Meaning.{TextFirst, any_accepts, text_of, text_takes}
 use Rattle.xd_boole.specs.Groups.{passes_at}
 use Rattle.xd_boole.specs.Points.{TextBelow}
-use Rattle.xd_boole.proofs.Closing.{texts_are}
-use Rattle.xd_boole.proofs.Differing.{left_more}
+use Rattle.xd_boole.proofs.MoveBelowLemmas.{texts_are}
+use Rattle.xd_boole.proofs.DifferenceLemmas.{left_more}
 use Rattle.xd_boole.proofs.Lists.{all_at, any_walked, at_itself}
 use Rattle.xd_points.specs.Meaning.{PointView}
 use Rattle.xd_points.specs.Points.{AddsTexts, TextLeads, any_text_before, text_means}
-use Rattle.xd_points.proofs.Adding.{grows_same}
-use Rattle.xd_points.proofs.Differing.{and_join}
-use Rattle.xd_points.proofs.Growing.{adds_like, adds_none, adds_then, text_stays, texts_more}
-use Rattle.xd_points.proofs.Taking.{met_tell, one_at, passes_item}
+use Rattle.xd_points.proofs.ArePointsLemmas.{grows_same}
+use Rattle.xd_points.proofs.MeetLemmas.{and_join}
+use Rattle.xd_points.proofs.GrowsLemmas.{adds_like, adds_none, adds_then, text_stays, texts_more}
+use Rattle.xd_points.proofs.PatternMoveLemmas.{met_tell, one_at, passes_item}
 use Rattle.xd_points.proofs.moves.text_steps.Goals as goal
 
 pub loop-number-init : goal.loop-number-init

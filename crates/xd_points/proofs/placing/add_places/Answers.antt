@@ -1,5 +1,5 @@
 use Rattle.std.proofs.Common.{◌≡◌, ℕ, ◌++◌, ◌∷◌, [], length, arith, refl, subst, sym, length-append, ap}
-use Rattle.xd_auto.proofs.Extending.{Extends-same}
+use Rattle.xd_auto.proofs.ExtendsLemmas.{Extends-same}
 use Rattle.xd_points.specs.Placing.{IsBareAt, IsPlaceOf}
 use Rattle.xd_points.proofs.PlaceLemmas.{extends_trans, keeps_more, keeps_none, more_bare, more_places, places_none}
 use Rattle.xd_points.proofs.placing.add_places.Goals as goal

@@ -3,7 +3,7 @@ use Rattle.xd_auto.specs.Automaton.{Automaton}
 use Rattle.xd_points.specs.declared.placing.Place.{Place}
 use Rattle.xd_points.specs.Placing.{AreIn, IsPlaced, PlacesFirst, place_at}
 use Rattle.xd_points.proofs.PlaceLemmas.{PlacesSoFar, each_there, first_accept, first_in, next_so_far, none_so_far, place_read, places_in}
-use Rattle.xd_points.proofs.Simulating.{stands}
+use Rattle.xd_points.proofs.MeaningLaw.{stands}
 use Rattle.xd_points.proofs.placing.place_points.Goals as goal
 use Rattle.xd_points.proofs.placing.place_points.Goals.{in-New+in_ok-give_moves, in_default}
 

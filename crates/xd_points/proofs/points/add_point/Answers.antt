@@ -1,7 +1,7 @@
 use Rattle.std.proofs.lemmas.Result.{IfOk-from_err}
 use Rattle.std.proofs.Common.{◌≡◌, ◌++◌, ◌∷◌, [], length, rules}
 use Rattle.xd_points.specs.Meaning.{point}
-use Rattle.xd_points.proofs.Adding.{added_whole}
+use Rattle.xd_points.proofs.ArePointsLemmas.{added_whole}
 use Rattle.xd_points.proofs.points.add_point.Goals as goal
 
 pub returns-clause-whole : goal.returns-clause-whole

@@ -1,10 +1,10 @@
 use Rattle.std.proofs.Common.{◌≡◌, ℕ, length, ap, sym, subst, ◌∙◌, arith}
 use Rattle.xd_auto.specs.Automaton.{ChangesOnly, moves_at}
-use Rattle.xd_boole.proofs.Expanding.{given_moves}
+use Rattle.xd_boole.proofs.HasMovesLemmas.{given_moves}
 use Rattle.xd_points.specs.Meaning.{is_old_point, point}
 use Rattle.xd_points.specs.Points.{AreExpanded, RowView, point_at, state_at}
-use Rattle.xd_points.proofs.Expanding.{earlier_keep, expanded_bare, expanded_more, labels_lead, texts_lead, with_made}
-use Rattle.xd_points.proofs.Growing.{keeps, keeps_same}
+use Rattle.xd_points.proofs.HasMovesLemmas.{earlier_keep, expanded_bare, expanded_more, labels_lead, texts_lead, with_made}
+use Rattle.xd_points.proofs.GrowsLemmas.{keeps, keeps_same}
 use Rattle.xd_points.proofs.steps.expand.Goals as goal
 
 pub set_moves-requires-clause-labels : goal.set_moves-requires-clause-labels

@@ -1,5 +1,5 @@
 use Rattle.std.proofs.Common.{refl, arith, ◌∙◌}
-use Rattle.xd_points.proofs.Growing.{keeps_same}
+use Rattle.xd_points.proofs.GrowsLemmas.{keeps_same}
 use Rattle.xd_points.proofs.table.expand_all.Goals as goal
 
 pub loop-number-init : goal.loop-number-init

@@ -1,7 +1,7 @@
 use Rattle.std.proofs.Common.{◌∙◌, ◌∷◌, [], ap, map, sym}
-use Rattle.xd_laws.specs.Consistent.{this_label, other_label}
-use Rattle.xd_proof_lines.specs.Cases.{atom_of}
-use Rattle.xd_proof_lines.specs.declared.atoms.ProofAtom.TheVariants.{OtherLabel}
+use Rattle.xd_meaning.specs.Consistent.{this_label, other_label}
+use Rattle.xd_proof.specs.Cases.{atom_of}
+use Rattle.xd_proof.specs.declared.atoms.ProofAtom.TheVariants.{OtherLabel}
 use Rattle.xd_proof_check.proofs.AtomLemmas.{label_atoms_are, map_both, with_others, without_others}
 use Rattle.xd_proof_check.proofs.atoms.label_atoms.Goals as goal
 

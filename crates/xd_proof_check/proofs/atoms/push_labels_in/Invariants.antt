@@ -1,8 +1,8 @@
 use Rattle.std.proofs.Common.{◌≡◌, ◌++◌, map, take}
 use Rattle.std.specs.List.{filter}
 use Rattle.xd_doc.specs.Classes.{class_has}
-use Rattle.xd_laws.specs.Consistent.{this_label}
-use Rattle.xd_proof_lines.specs.Cases.{atom_of}
+use Rattle.xd_meaning.specs.Consistent.{this_label}
+use Rattle.xd_proof.specs.Cases.{atom_of}
 use Rattle.xd_proof_check.proofs.atoms.push_labels_in.Given as goal
 
 abbrev pub invariant-loop-label : goal.invariant-loop-label

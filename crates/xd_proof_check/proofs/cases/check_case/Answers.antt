@@ -1,6 +1,6 @@
 use Rattle.std.proofs.Common.{◌∙◌, ◌+◌, get_or, ap, sym}
 use Rattle.xd_heads.specs.declared.lister.NumberedHead.{NumberedHead}
-use Rattle.xd_proof_lines.specs.Cases.{atom_of}
+use Rattle.xd_proof.specs.Cases.{atom_of}
 use Rattle.xd_proof_check.specs.CaseWalk.{cases_of}
 use Rattle.xd_proof_check.specs.Paths.{IsClear}
 use Rattle.xd_proof_check.proofs.CaseLemmas.{case_missing, case_other, case_says, fits_setting, tree_at_case, tree_clears}

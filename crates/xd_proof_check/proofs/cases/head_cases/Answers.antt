@@ -1,8 +1,8 @@
 use Rattle.std.proofs.Common.{◌+◌, ◌∙◌, ◌++◌, suc, drop, ap, arith, ◌≡◌, add-one, sym, ◌<◌, length}
 use Rattle.std.proofs.lemmas.List.{drop_all}
-use Rattle.xd_laws.specs.Heads.{heads}
-use Rattle.xd_laws.specs.Consistent as laws
-use Rattle.xd_laws.specs.Consistent.{atoms_from}
+use Rattle.xd_meaning.specs.Heads.{heads}
+use Rattle.xd_meaning.specs.Consistent as laws
+use Rattle.xd_meaning.specs.Consistent.{atoms_from}
 use Rattle.xd_proof_check.specs.CaseWalk.{cases_of, wrong_after}
 use Rattle.xd_proof_check.proofs.PathLemmas.{keeps_then}
 use Rattle.xd_laws.proofs.FirstWrong.{wrong_cases}

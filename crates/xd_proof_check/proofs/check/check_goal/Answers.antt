@@ -4,7 +4,7 @@ use Rattle.xd_syntax.specs.Program.{names_of}
 use Rattle.xd_syntax.specs.declared.types.TypeId.{TypeId}
 use Rattle.xd_proof_check.specs.GoalWalk.{Stands, empty_marked}
 use Rattle.xd_proof_check.specs.Leaves.{GoalsBelong}
-use Rattle.xd_pieces.specs.Codes.{number_at}
+use Rattle.xd_moves.specs.Codes.{number_at}
 use Rattle.xd_proof_check.proofs.AcceptLemmas.{marks_decide, stands}
 use Rattle.xd_proof_check.proofs.GoalLemmas.{goal_found, goal_refused}
 use Rattle.xd_proof_check.proofs.HeadLemmas.{numbers_within, rights_fit}

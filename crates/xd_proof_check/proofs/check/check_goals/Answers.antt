@@ -1,10 +1,10 @@
 use Rattle.std.proofs.Common.{◌+◌, ◌∙◌, drop, ap, sym, subst, arith, length}
 use Rattle.std.specs.Option.{IfNone, option_map}
-use Rattle.xd_proof.specs.Lines.{LinesFit}
+use Rattle.xd_proof.specs.LinesFit.{LinesFit}
 use Rattle.xd_proof_check.specs.Leaves.{GoalBelongs}
 use Rattle.xd_syntax.specs.Kept.{program_tree}
 use Rattle.xd_syntax.specs.Program.{names_of}
-use Rattle.xd_laws.specs.Breach.{goals_of}
+use Rattle.xd_meaning.specs.Breach.{goals_of}
 use Rattle.xd_proof.specs.Kept.{AreTrees}
 use Rattle.xd_proof_check.specs.GoalWalk.{breach_of}
 use Rattle.xd_proof_check.specs.Paths.{IsClear}

@@ -2,7 +2,7 @@ use Rattle.std.proofs.Common.{subst}
 use Rattle.xd_syntax.specs.Kept.{program_tree}
 use Rattle.xd_syntax.specs.Program.{names_of}
 use Rattle.xd_syntax.specs.Types.{tree}
-use Rattle.xd_laws.specs.Heads.{heads}
+use Rattle.xd_meaning.specs.Heads.{heads}
 use Rattle.xd_proof_check.specs.GoalHeads.{AreHeadsOf}
 use Rattle.xd_proof_check.proofs.HeadLemmas.{heads_alone, heads_kept}
 use Rattle.xd_proof_check.proofs.heads.goal_heads.Goals as goal

@@ -3,7 +3,7 @@ use Rattle.std.proofs.lemmas.List.{take_all}
 use Rattle.std.specs.List.{list_all}
 use Rattle.xd_syntax.specs.declared.types.TypeId.{TypeId}
 use Rattle.xd_proof_check.specs.Leaves.{is_among}
-use Rattle.xd_pieces.specs.Codes.{number_at}
+use Rattle.xd_moves.specs.Codes.{number_at}
 use Rattle.xd_proof_check.proofs.LeafLemmas.{more_is, one_more, some_not, zero_not}
 use Rattle.xd_proof_check.proofs.leaves.rights_stand.Goals as goal
 

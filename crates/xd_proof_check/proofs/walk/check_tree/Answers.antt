@@ -1,7 +1,7 @@
 use Rattle.std.proofs.lemmas.Result.{IfOk-weaker}
 use Rattle.std.proofs.Common.{ap}
-use Rattle.xd_proof_lines.specs.Cases.{atom_of}
-use Rattle.xd_proof_lines.specs.declared.atoms.ProofAtom.{ProofAtom}
+use Rattle.xd_proof.specs.Cases.{atom_of}
+use Rattle.xd_proof.specs.declared.atoms.ProofAtom.{ProofAtom}
 use Rattle.xd_proof_check.specs.Paths.{turns_of}
 use Rattle.xd_proof_check.specs.Walk.{setting_of}
 use Rattle.xd_proof_check.proofs.SettingLemmas.{label_is, other_label_is, other_text_is, text_is, text_says, walk_clears, walk_says}

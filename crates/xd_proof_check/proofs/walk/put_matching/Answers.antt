@@ -1,5 +1,5 @@
 use Rattle.std.proofs.Common.{◌-◌, ◌∷◌, ◌∙◌, ap, arith, false, sym, true}
-use Rattle.xd_proof_lines.specs.Cases.{atom_of}
+use Rattle.xd_proof.specs.Cases.{atom_of}
 use Rattle.xd_proof_check.specs.Walk.{setting_of}
 use Rattle.xd_proof_check.proofs.PathLemmas.{keeps_then}
 use Rattle.xd_proof_check.proofs.SettingLemmas.{length-kinds_of, rest_turn, rest_turns_more, setting_kept}

@@ -1,5 +1,5 @@
 use Rattle.std.proofs.Common.{◌≡◌, drop}
-use Rattle.xd_proof_lines.specs.Cases.{atom_of}
+use Rattle.xd_proof.specs.Cases.{atom_of}
 use Rattle.xd_proof_check.specs.Atoms.{kinds_of}
 use Rattle.xd_proof_check.specs.Paths.{IsPath, KeepsRoom, turns_of}
 use Rattle.xd_proof_check.specs.Walk.{IsSetting, rest_turns, setting_of}

@@ -1,5 +1,5 @@
 use Rattle.xd_proof_make.specs.Places.{new_numbers}
-use Rattle.xd_proof_make.proofs.Writing.{more_made}
+use Rattle.xd_proof_make.proofs.ReadCaseLemmas.{more_made}
 use Rattle.xd_proof_make.proofs.cases.add_cases.Goals as goal
 
 pub loop-choice-preserved : goal.loop-choice-preserved

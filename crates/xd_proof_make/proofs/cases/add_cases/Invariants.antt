@@ -1,6 +1,6 @@
 use Rattle.std.proofs.Common.{◌≡◌, ◌++◌, List, take}
 use Rattle.std.specs.List.{AllZip}
-use Rattle.xd_proof_lines.specs.declared.cases.ReadCase.{ReadCase}
+use Rattle.xd_proof.specs.declared.cases.ReadCase.{ReadCase}
 use Rattle.xd_proof_make.specs.Places.{new_numbers}
 use Rattle.xd_proof_make.specs.Ordered.{IsMadeOf}
 use Rattle.xd_proof_make.proofs.cases.add_cases.Given as goal

@@ -2,7 +2,7 @@ use Rattle.std.proofs.Common.{refl, sym, subst, ap, map, length, ◌∙◌}
 use Rattle.std.specs.List.{AllByRecursion}
 use Rattle.xd_proof_make.specs.Places.{new_numbers}
 use Rattle.xd_proof_make.specs.Ordered.{IsStepWithin, written_step}
-use Rattle.xd_proof_make.proofs.Writing.{made_case, writable_steps}
+use Rattle.xd_proof_make.proofs.ReadCaseLemmas.{made_case, writable_steps}
 use Rattle.xd_proof_make.proofs.cases.write_case.Goals as goal
 
 pub write_steps-requires : goal.write_steps-requires

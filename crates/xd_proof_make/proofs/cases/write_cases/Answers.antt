@@ -1,7 +1,7 @@
 use Rattle.std.proofs.Common.{◌≤◌, length, refl, rules}
 use Rattle.xd_proof_make.specs.Places.{new_numbers}
 use Rattle.xd_proof_make.specs.Ordered.{IsWritable}
-use Rattle.xd_proof_make.proofs.Writing.{writing_none, writing_text, writing_element, writing_all, front_all}
+use Rattle.xd_proof_make.proofs.ReadCaseLemmas.{writing_none, writing_text, writing_element, writing_all, front_all}
 use Rattle.xd_proof_make.proofs.cases.write_cases.Goals as goal
 use Rattle.xd_proof_make.proofs.cases.write_cases.Goals.{then-is_text+in_ok-add_cases, else-is_text+in_ok-add_cases-2}
 

@@ -1,5 +1,5 @@
 use Rattle.xd_proof_make.specs.Places.{new_numbers}
-use Rattle.xd_proof_make.proofs.Writing.{IsWriting}
+use Rattle.xd_proof_make.proofs.ReadCaseLemmas.{IsWriting}
 use Rattle.xd_proof_make.proofs.cases.write_cases.Given as goal
 
 abbrev pub invariant-loop-index : goal.invariant-loop-index

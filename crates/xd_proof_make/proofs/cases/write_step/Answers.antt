@@ -1,8 +1,8 @@
 use Rattle.std.proofs.Common.{length, false, ap, sym, subst, ◌∙◌}
-use Rattle.xd_proof_lines.specs.declared.steps.Step.TheVariants.{Split}
+use Rattle.xd_proof.specs.declared.steps.Step.TheVariants.{Split}
 use Rattle.xd_proof_make.specs.Places.{new_numbers}
 use Rattle.xd_proof_make.specs.Ordered.{IsStepWithin, written_step}
-use Rattle.xd_proof_make.proofs.Placing.{place_written}
+use Rattle.xd_proof_make.proofs.AreHeadMovesLemmas.{place_written}
 use Rattle.xd_proof_make.proofs.cases.write_step.Goals as goal
 
 pub returns-in-Split : goal.returns-in-Split

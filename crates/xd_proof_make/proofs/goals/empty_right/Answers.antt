@@ -1,5 +1,5 @@
 use Rattle.std.proofs.Common.{get_or, sym, ◌∙◌}
-use Rattle.xd_proof_make.proofs.Making.{numbered_next, some_last}
+use Rattle.xd_proof_make.proofs.ProofGoalLemmas.{numbered_next, some_last}
 use Rattle.xd_proof_make.proofs.goals.empty_right.Goals as goal
 
 pub returns-then-is_last : goal.returns-then-is_last

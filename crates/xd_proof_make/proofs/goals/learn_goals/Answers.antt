@@ -3,11 +3,11 @@ use Rattle.std.specs.List.{AllByRecursion}
 use Rattle.xd_auto.specs.declared.auto.State.{State}
 use Rattle.xd_goals.specs.Rows.{row_at}
 use Rattle.xd_heads.specs.Mirrors.{IsTypeState}
-use Rattle.xd_heads.proofs.Growing.{grows_then}
+use Rattle.xd_heads.proofs.GrowsTypesLemmas.{grows_then}
 use Rattle.xd_proof_make.specs.Known.{HasKnown}
 use Rattle.xd_proof_make.specs.Made.{HasTypes, IsTypedRow}
-use Rattle.xd_proof_make.proofs.Meeting.{all_get_by, all_more_by}
-use Rattle.xd_proof_make.proofs.Knowing.{mirrors_grow, keeps-then, has_kept, types_kept, below_kept}
+use Rattle.xd_proof_make.proofs.IsMetLemmas.{all_get_by, all_more_by}
+use Rattle.xd_proof_make.proofs.KeepsKnownLemmas.{mirrors_grow, keeps-then, has_kept, types_kept, below_kept}
 use Rattle.xd_proof_make.proofs.goals.learn_goals.Goals as goal
 
 pub learn-requires-clause-mirrors : goal.learn-requires-clause-mirrors

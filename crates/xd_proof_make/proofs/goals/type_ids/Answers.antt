@@ -1,7 +1,7 @@
 use Rattle.std.proofs.Common.{refl}
 use Rattle.xd_proof_make.specs.Known.{HasKnown}
-use Rattle.xd_proof_make.proofs.Meeting.{all_get_by}
-use Rattle.xd_proof_make.proofs.Knowing.{ids_more}
+use Rattle.xd_proof_make.proofs.IsMetLemmas.{all_get_by}
+use Rattle.xd_proof_make.proofs.KeepsKnownLemmas.{ids_more}
 use Rattle.xd_proof_make.proofs.goals.type_ids.Goals as goal
 
 pub known_of-requires : goal.known_of-requires

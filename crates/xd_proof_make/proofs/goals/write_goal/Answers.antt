@@ -9,8 +9,8 @@ use Rattle.xd_proof_make.specs.Known.{IsIdOf, known_at, sorts_at}
 use Rattle.xd_proof_make.specs.Made.{IsEmptyRight}
 use Rattle.xd_proof_make.specs.Ordered.{AreWrittenCases}
 use Rattle.xd_proof_make.specs.Places.{all_places, new_numbers}
-use Rattle.xd_proof_make.proofs.Placing.{new_numbers-length}
-use Rattle.xd_proof_make.proofs.Making.{can_writable, few_kept, goal_made, places_kept}
+use Rattle.xd_proof_make.proofs.AreHeadMovesLemmas.{new_numbers-length}
+use Rattle.xd_proof_make.proofs.ProofGoalLemmas.{can_writable, few_kept, goal_made, places_kept}
 use Rattle.xd_proof_make.proofs.goals.write_goal.Goals as goal
 
 pub write_cases-requires-clause-writable : goal.write_cases-requires-clause-writable

@@ -2,8 +2,8 @@ use Rattle.std.proofs.Common.{ℕ, ◌<◌, List, length, subst, sym}
 use Rattle.std.specs.List.{AllZip}
 use Rattle.xd_goals.specs.Rows.{row_at}
 use Rattle.xd_proof_make.specs.Made.{CanWrite, IsGoalMade}
-use Rattle.xd_proof_make.proofs.Meeting.{all_get_by}
-use Rattle.xd_proof_make.proofs.Making.{zip_more, take_past}
+use Rattle.xd_proof_make.proofs.IsMetLemmas.{all_get_by}
+use Rattle.xd_proof_make.proofs.ProofGoalLemmas.{zip_more, take_past}
 use Rattle.xd_proof_make.proofs.goals.write_goals.Goals as goal
 
 pub write_goal-requires-clause-can : goal.write_goal-requires-clause-can

@@ -6,7 +6,7 @@ use Rattle.xd_heads.proofs.Mirrored.{mirrors_stay}
 use Rattle.xd_proof_make.specs.Few.{AreFew}
 use Rattle.xd_proof_make.specs.Made.{CanWrite, HasTypes, IsGoalMade, IsProofOf, IsTypedRow}
 use Rattle.xd_proof_make.specs.declared.states.Known.{Known}
-use Rattle.xd_proof_make.proofs.Proving.{all_can, all_fit, all_fit_lines, all_made, all_there, all_trees, all_typed_rows, holds_there, made_proof, some_made}
+use Rattle.xd_proof_make.proofs.ProofLemmas.{all_can, all_fit, all_fit_lines, all_made, all_there, all_trees, all_typed_rows, holds_there, made_proof, some_made}
 use Rattle.xd_proof_make.proofs.make.proof_of.Goals as goal
 
 pub reach-requires-clause-there : goal.reach-requires-clause-there

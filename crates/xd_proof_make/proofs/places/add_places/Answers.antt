@@ -1,6 +1,6 @@
 use Rattle.std.proofs.Common.{sym, ap, ◌∙◌}
 use Rattle.xd_proof_make.specs.Places.{new_numbers}
-use Rattle.xd_proof_make.proofs.Placing.{number_put, number_skipped, new_numbers-push}
+use Rattle.xd_proof_make.proofs.AreHeadMovesLemmas.{number_put, number_skipped, new_numbers-push}
 use Rattle.xd_proof_make.proofs.places.add_places.Goals as goal
 use Rattle.xd_proof_make.proofs.places.add_places.Goals.{then-is_wanted+in_ok-push, else-is_wanted}
 

@@ -1,5 +1,5 @@
 use Rattle.xd_proof_make.specs.Known.{HasKnown}
-use Rattle.xd_proof_make.proofs.Meeting.{all_get_by}
+use Rattle.xd_proof_make.proofs.IsMetLemmas.{all_get_by}
 use Rattle.xd_proof_make.proofs.places.all_sorts.Goals as goal
 
 pub known_of-requires : goal.known_of-requires

@@ -1,6 +1,6 @@
 use Rattle.std.proofs.Common.{◌≡◌, ◌+◌, ◌∙◌, length, refl, rules, ap, sym}
 use Rattle.xd_proof_make.specs.Places.{new_numbers}
-use Rattle.xd_proof_make.proofs.Placing.{placed_more, new_numbers-length}
+use Rattle.xd_proof_make.proofs.AreHeadMovesLemmas.{placed_more, new_numbers-length}
 use Rattle.xd_proof_make.proofs.places.right_places.Goals as goal
 
 pub loop-sorts-preserved : goal.loop-sorts-preserved

@@ -1,5 +1,5 @@
 use Rattle.std.proofs.Common.{◌≡◌, ◌<◌, length, set, ap, refl, rules}
-use Rattle.xd_proof_make.proofs.Meeting.{meets-one, met-set, met-read, unmet-read}
+use Rattle.xd_proof_make.proofs.IsMetLemmas.{meets-one, met-set, met-read, unmet-read}
 use Rattle.xd_proof_make.proofs.reach.meet.Goals as goal
 
 pub returns-in_ok-push-clause-more : goal.returns-in_ok-push-clause-more

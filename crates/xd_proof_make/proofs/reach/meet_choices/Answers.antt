@@ -3,7 +3,7 @@ use Rattle.std.specs.List.{AllByRecursion}
 use Rattle.xd_goals.specs.Reached.{HasTreeWithin}
 use Rattle.xd_goals.specs.declared.table.Choice.{Choice}
 use Rattle.xd_proof_make.specs.Met.{IsMet, IsStepTo, LeadsTo}
-use Rattle.xd_proof_make.proofs.Meeting.{meets-then, met-kept, leads-kept, leads-steps, steps-lead, steps-within, all_more, all_get}
+use Rattle.xd_proof_make.proofs.IsMetLemmas.{meets-then, met-kept, leads-kept, leads-steps, steps-lead, steps-within, all_more, all_get}
 use Rattle.xd_proof_make.proofs.reach.meet_choices.Goals as goal
 
 pub meet_steps-requires : goal.meet_steps-requires

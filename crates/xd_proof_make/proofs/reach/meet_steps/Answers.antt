@@ -1,7 +1,7 @@
 use Rattle.std.proofs.Common.{◌≡◌, true, take}
-use Rattle.xd_proof_lines.specs.declared.steps.Step.TheVariants.{Content}
+use Rattle.xd_proof.specs.declared.steps.Step.TheVariants.{Content}
 use Rattle.xd_proof_make.specs.Met.{IsMet, IsStepTo}
-use Rattle.xd_proof_make.proofs.Meeting.{meets-then, met-kept, steps-kept, all_more_by, all_get_by}
+use Rattle.xd_proof_make.proofs.IsMetLemmas.{meets-then, met-kept, steps-kept, all_more_by, all_get_by}
 use Rattle.xd_proof_make.proofs.reach.meet_steps.Goals as goal
 
 pub loop-step-preserved : goal.loop-step-preserved

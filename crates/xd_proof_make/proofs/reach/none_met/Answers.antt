@@ -1,5 +1,5 @@
 use Rattle.std.proofs.Common.{rules}
-use Rattle.xd_proof_make.proofs.Writing.{none-push}
+use Rattle.xd_proof_make.proofs.ReadCaseLemmas.{none-push}
 use Rattle.xd_proof_make.proofs.reach.none_met.Goals as goal
 
 pub loop-preserved : goal.loop-preserved

@@ -3,7 +3,7 @@ use Rattle.std.specs.List.{AllByRecursion}
 use Rattle.xd_goals.specs.Rows.{row_at}
 use Rattle.xd_goals.specs.declared.table.Choice.{Choice}
 use Rattle.xd_proof_make.specs.Met.{IsMet, LeadsTo}
-use Rattle.xd_proof_make.proofs.Meeting.{way_first, way_there, way_next, way_ends}
+use Rattle.xd_proof_make.proofs.IsMetLemmas.{way_first, way_there, way_next, way_ends}
 use Rattle.xd_proof_make.proofs.reach.reach.Goals as goal
 
 pub loop-next-init : goal.loop-next-init

@@ -1,6 +1,6 @@
 use Rattle.std.proofs.Common.{◌+◌, ◌-◌, length}
 use Rattle.xd_proof_make.specs.Met.{unmet}
-use Rattle.xd_proof_make.proofs.Meeting.{IsOnTheWay}
+use Rattle.xd_proof_make.proofs.IsMetLemmas.{IsOnTheWay}
 use Rattle.xd_proof_make.proofs.reach.reach.Given as goal
 
 abbrev pub invariant-loop-next : goal.invariant-loop-next

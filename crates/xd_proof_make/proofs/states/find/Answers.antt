@@ -1,10 +1,10 @@
 use Rattle.std.proofs.Common.{List, ap, map, subst, ◌∙◌}
 use Rattle.xd_heads.specs.HeadList.{kind_at}
 use Rattle.xd_heads.specs.declared.listing.Head.{Head}
-use Rattle.xd_heads.proofs.Growing.{grows_then}
+use Rattle.xd_heads.proofs.GrowsTypesLemmas.{grows_then}
 use Rattle.xd_proof_make.specs.Few.{AreFew}
 use Rattle.xd_proof_make.specs.Places.{is_text}
-use Rattle.xd_proof_make.proofs.Knowing.{found_known, grows_by}
+use Rattle.xd_proof_make.proofs.KeepsKnownLemmas.{found_known, grows_by}
 use Rattle.xd_proof_make.proofs.states.find.Goals as goal
 
 pub returns-clause-known : goal.returns-clause-known

@@ -1,5 +1,5 @@
 use Rattle.std.proofs.Common.{◌≡◌, ℕ, Some, get_or, set, ap, subst}
-use Rattle.xd_proof_make.proofs.Knowing.{all_grow, set_known, set_has, set_keeps, read_none, read_known}
+use Rattle.xd_proof_make.proofs.KeepsKnownLemmas.{all_grow, set_known, set_has, set_keeps, read_none, read_known}
 use Rattle.xd_proof_make.proofs.states.learn.Goals as goal
 
 pub returns-in_err-known-clause-known : goal.returns-in_err-known-clause-known

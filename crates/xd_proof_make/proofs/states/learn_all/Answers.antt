@@ -1,7 +1,7 @@
 use Rattle.xd_heads.specs.Mirrors.{IsTypeState}
-use Rattle.xd_heads.proofs.Growing.{grows_then}
-use Rattle.xd_proof_make.proofs.Meeting.{all_get_by}
-use Rattle.xd_proof_make.proofs.Knowing.{mirrors_grow, keeps-then, learnt_more}
+use Rattle.xd_heads.proofs.GrowsTypesLemmas.{grows_then}
+use Rattle.xd_proof_make.proofs.IsMetLemmas.{all_get_by}
+use Rattle.xd_proof_make.proofs.KeepsKnownLemmas.{mirrors_grow, keeps-then, learnt_more}
 use Rattle.xd_proof_make.proofs.states.learn_all.Goals as goal
 
 pub learn-requires-clause-mirrors : goal.learn-requires-clause-mirrors

@@ -1,5 +1,5 @@
 use Rattle.std.proofs.Common.{rules}
-use Rattle.xd_proof_make.proofs.Knowing.{none_push}
+use Rattle.xd_proof_make.proofs.KeepsKnownLemmas.{none_push}
 use Rattle.xd_proof_make.proofs.states.nothing_known.Goals as goal
 
 pub loop-preserved : goal.loop-preserved

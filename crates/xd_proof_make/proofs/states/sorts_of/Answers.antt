@@ -2,7 +2,7 @@ use Rattle.std.proofs.Common.{◌∙◌, ap, map, take_all}
 use Rattle.xd_heads.specs.HeadList.{kind_at}
 use Rattle.xd_heads.specs.declared.listing.Head.{Head}
 use Rattle.xd_proof_make.specs.Places.{is_text}
-use Rattle.xd_proof_make.proofs.Making.{map_more}
+use Rattle.xd_proof_make.proofs.ProofGoalLemmas.{map_more}
 use Rattle.xd_proof_make.proofs.states.sorts_of.Goals as goal
 
 pub loop-head-preserved : goal.loop-head-preserved

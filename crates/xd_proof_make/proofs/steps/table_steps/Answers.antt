@@ -1,5 +1,5 @@
 use Rattle.std.proofs.Common.{◌≡◌, ℕ, List, ◌∷◌, [], ◌++◌, ap, ◌∙◌, rules}
-use Rattle.xd_proof_make.proofs.Unfolding.{walked_first, walked_next, walked_fewer, walked_there, walked_all}
+use Rattle.xd_proof_make.proofs.TableStepsLemmas.{walked_first, walked_next, walked_fewer, walked_there, walked_all}
 use Rattle.xd_proof_make.proofs.steps.table_steps.Goals as goal
 
 pub loop-number-init : goal.loop-number-init

@@ -1,4 +1,4 @@
-use Rattle.xd_proof_make.proofs.Unfolding.{IsWalked, count_all}
+use Rattle.xd_proof_make.proofs.TableStepsLemmas.{IsWalked, count_all}
 use Rattle.xd_proof_make.proofs.steps.table_steps.Given as goal
 
 abbrev pub invariant-loop-number : goal.invariant-loop-number

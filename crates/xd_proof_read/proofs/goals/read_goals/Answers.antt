@@ -1,5 +1,5 @@
 use Rattle.std.proofs.Common.{◌+◌, arith, sym, subst}
-use Rattle.xd_proof_form.specs.Form.{goals_from}
+use Rattle.xd_proof.specs.Form.{goals_from}
 use Rattle.xd_proof.specs.Goals.{AreGoalsAt}
 use Rattle.xd_proof.proofs.GoalLemmas.{goals_have_trees}
 use Rattle.xd_proof_read.proofs.NamingFacts.{grows_none, grows_then, naming_stands, can_name}

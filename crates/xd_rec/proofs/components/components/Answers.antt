@@ -2,7 +2,7 @@ use Rattle.std.proofs.Common.{arith, sym, subst}
 use Rattle.std.proofs.Common.{Vec, Global}
 use Rattle.xd_rec.specs.Components.{AreComponents}
 use Rattle.xd_rec.specs.declared.components.Standing.{Standing}
-use Rattle.xd_rec.proofs.Searching.{are_components}
+use Rattle.xd_rec.proofs.IsSearchedLemmas.{are_components}
 use Rattle.xd_rec.proofs.components.components.Goals as goal
 
 pub returns : goal.returns

@@ -1,5 +1,5 @@
 use Rattle.std.proofs.Common.{arith, refl, inl}
-use Rattle.xd_rec.proofs.Finishing.{finish_more}
+use Rattle.xd_rec.proofs.DoneLemmas.{finish_more}
 use Rattle.xd_rec.proofs.components.finish.Goals as goal
 
 pub loop-place-init : goal.loop-place-init

@@ -1,4 +1,4 @@
-use Rattle.xd_rec.proofs.Finishing.{IsFinishing}
+use Rattle.xd_rec.proofs.DoneLemmas.{IsFinishing}
 use Rattle.xd_rec.proofs.components.finish.Given as goal
 
 abbrev pub invariant-loop-place : goal.invariant-loop-place

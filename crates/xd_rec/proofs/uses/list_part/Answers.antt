@@ -1,7 +1,7 @@
 use Rattle.std.proofs.Common.{◌≡◌, ◌++◌, take, ap, subst, ◌∙◌}
 use Rattle.xd_syntax.specs.Table.{PartsBelow}
 use Rattle.xd_syntax.specs.Types.{form_of}
-use Rattle.xd_syntax.specs.Placed.{placed_at, placed_form}
+use Rattle.xd_syntax.specs.PlacedTable.{placed_at, placed_form}
 use Rattle.xd_syntax.specs.declared.types.TypeId.{TypeId}
 use Rattle.xd_rec.specs.Uses.{parts_of, own_use, test_of}
 use Rattle.xd_rec.proofs.uses.list_part.Goals as goal

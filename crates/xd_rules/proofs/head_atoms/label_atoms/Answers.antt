@@ -1,6 +1,6 @@
 use Rattle.std.proofs.Common.{sym, ◌∙◌}
 use Rattle.xd_rules.specs.declared.atom.Atom.TheVariants.{Label, OtherLabel}
-use Rattle.xd_rules.proofs.Listing.{label_atoms_are, other_atoms, own_atoms}
+use Rattle.xd_rules.proofs.AllAtomsLemmas.{label_atoms_are, other_atoms, own_atoms}
 use Rattle.xd_rules.proofs.head_atoms.label_atoms.Goals as goal
 
 pub returns-then-not-takes_others : goal.returns-then-not-takes_others

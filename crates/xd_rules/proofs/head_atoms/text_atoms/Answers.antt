@@ -1,6 +1,6 @@
 use Rattle.std.proofs.Common.{sym, ◌∙◌}
 use Rattle.xd_rules.specs.declared.atom.Atom.TheVariants.{Text, OtherText}
-use Rattle.xd_rules.proofs.Listing.{text_atoms_are, other_atoms, own_atoms}
+use Rattle.xd_rules.proofs.AllAtomsLemmas.{text_atoms_are, other_atoms, own_atoms}
 use Rattle.xd_rules.proofs.head_atoms.text_atoms.Goals as goal
 
 pub returns-then-not-takes_others : goal.returns-then-not-takes_others

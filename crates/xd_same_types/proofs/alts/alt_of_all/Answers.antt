@@ -1,5 +1,5 @@
 use Rattle.std.proofs.Common.{◌∷◌, [], subst}
-use Rattle.xd_syntax.specs.Tree.{alt_of}
+use Rattle.xd_syntax.specs.TreeForms.{alt_of}
 use Rattle.xd_syntax.specs.Types.{tree}
 use Rattle.xd_same_types.specs.Same.{AddsFits, trees}
 use Rattle.xd_same_types.proofs.AltLaws.{choice_again}

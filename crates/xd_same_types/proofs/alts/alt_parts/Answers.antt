@@ -1,6 +1,6 @@
 use Rattle.std.proofs.Common.{◌≡◌, take, length, arith, sym, ap, ◌∙◌, subst}
 use Rattle.xd_syntax.specs.Table.{CanFollow, form_tree, tree_at}
-use Rattle.xd_syntax.specs.Tree.{alt_of}
+use Rattle.xd_syntax.specs.TreeForms.{alt_of}
 use Rattle.xd_syntax.specs.Types.{form_of}
 use Rattle.xd_same_types.specs.Same.{AreAltParts, trees}
 use Rattle.xd_same_types.proofs.Ids.{ok_map}

@@ -1,6 +1,6 @@
 use Rattle.std.proofs.Common.{◌⊎◌, ◌<◌, ◌||◌, ◌∷◌, [], inl, inr, length, take, get_or, sym, ap, ◌∙◌, subst}
 use Rattle.std.proofs.lemmas.List.{take_all}
-use Rattle.xd_syntax.specs.Tree.{alt_of}
+use Rattle.xd_syntax.specs.TreeForms.{alt_of}
 use Rattle.xd_syntax.specs.Types.{BelongsTo, tree}
 use Rattle.xd_same_types.specs.Same.{AddsFits, IsChoice, trees}
 use Rattle.xd_same_types.proofs.AltLaws.{choice_again, choice_more, some_stays}

@@ -1,6 +1,6 @@
 use Rattle.std.proofs.Common.{◌≡◌, ◌<◌, ◌⊎◌, ◌∷◌, true, take, length}
 use Rattle.xd_same_types.specs.Grown.{GrowsTypes}
-use Rattle.xd_syntax.specs.Tree.{alt_of}
+use Rattle.xd_syntax.specs.TreeForms.{alt_of}
 use Rattle.xd_syntax.specs.Types.{tree}
 use Rattle.xd_same_types.specs.Same.{AreAltParts, IsChoice, trees}
 use Rattle.xd_same_types.proofs.alts.choice_of_all.Given as goal

@@ -1,6 +1,6 @@
 use Rattle.std.proofs.Common.{rules, ◌≡◌, true, false, ◌<◌, length, subst, arith}
 use Rattle.std.specs.Vec.{vec_len}
-use Rattle.xd_syntax.specs.Tree.{alt_of}
+use Rattle.xd_syntax.specs.TreeForms.{alt_of}
 use Rattle.xd_same_types.specs.Same.{CanBeEmpty, IsChoice, trees}
 use Rattle.xd_same_types.proofs.Ids.{ok_map, not_zero}
 use Rattle.xd_same_types.proofs.Laws.{same_then, same_of, opt_same}

@@ -1,5 +1,6 @@
 use Rattle.std.proofs.Common.{false, ap, ◌∙◌, subst}
-use Rattle.xd_doc.specs.Classes.{is_named, IsPart}
+use Rattle.xd_doc.specs.Classes.{is_named}
+use Rattle.xd_doc.specs.ClassForms.{IsPart}
 use Rattle.xd_same_types.proofs.ClassLaws.{has_either, no_exception}
 use Rattle.xd_same_types.proofs.classes.united.Goals as goal
 

@@ -1,4 +1,4 @@
-use Rattle.xd_same_types.proofs.Naming.{names_settle}
+use Rattle.xd_same_types.proofs.IsMeaningLemmas.{names_settle}
 use Rattle.xd_same_types.proofs.law.names_settle.Goals as goal
 
 pub returns : goal.returns

@@ -1,6 +1,6 @@
 use Rattle.std.proofs.Common.{◌<◌, length, get_or, sym, ap, ◌∙◌, subst}
 use Rattle.std.proofs.lemmas.List.{take_all}
-use Rattle.xd_syntax.specs.Tree.{alt_of}
+use Rattle.xd_syntax.specs.TreeForms.{alt_of}
 use Rattle.xd_syntax.specs.Types.{BelongsTo}
 use Rattle.xd_same_types.specs.Same.{AreAltParts, AreStripped, trees}
 use Rattle.xd_same_types.proofs.Ids.{got}

@@ -2,7 +2,7 @@ use Rattle.std.proofs.Common.{◌≡◌, ◌+◌, ◌<◌, ◌∷◌, [], length
 use Rattle.xd_auto.specs.declared.auto.State.{State}
 use Rattle.xd_syntax.specs.Words.{any_word}
 use Rattle.xd_same_types.proofs.Ids.{got}
-use Rattle.xd_solve.proofs.PlaceLaws.{pushed_length}
+use Rattle.xd_show_solve.proofs.PlaceLaws.{pushed_length}
 use Rattle.xd_show.proofs.ContentLaws.{AreBodiesBelow, bodies_more, known_at, names_by, names_then}
 use Rattle.xd_show.proofs.bodies.bodies_by.Goals as goal
 

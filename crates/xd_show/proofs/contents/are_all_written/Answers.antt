@@ -1,7 +1,7 @@
 use Rattle.std.proofs.Common.{subst, rules}
 use Rattle.std.specs.List.{AllByRecursion}
 use Rattle.xd_auto.specs.declared.auto.LabelMove.{LabelMove}
-use Rattle.xd_solve.specs.Levels.{IsWritten}
+use Rattle.xd_show_solve.specs.Levels.{IsWritten}
 use Rattle.xd_show.proofs.ContentLaws.{states_more}
 use Rattle.xd_show.proofs.contents.are_all_written.Goals as goal
 

@@ -3,7 +3,7 @@ use Rattle.std.specs.List.{AllByRecursion}
 use Rattle.xd_auto.specs.Automaton.{moves_at, state_number}
 use Rattle.xd_auto.specs.declared.auto.LabelMove.{LabelMove}
 use Rattle.xd_auto.specs.declared.auto.State.{State}
-use Rattle.xd_solve.specs.Levels.{IsWritten}
+use Rattle.xd_show_solve.specs.Levels.{IsWritten}
 use Rattle.xd_show.proofs.contents.are_all_written.Given as goal
 
 abbrev pub invariant-loop-number : goal.invariant-loop-number

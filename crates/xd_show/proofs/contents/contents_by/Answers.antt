@@ -1,6 +1,6 @@
 use Rattle.std.proofs.Common.{[], ◌∙◌, subst}
 use Rattle.std.specs.List.{AllByRecursion}
-use Rattle.xd_solve.specs.Levels.{IsWritten}
+use Rattle.xd_show_solve.specs.Levels.{IsWritten}
 use Rattle.xd_same_types.specs.Grown.{GrowsTypes}
 use Rattle.xd_show.specs.Contents.{GrowsContents, MeansStates}
 use Rattle.xd_show.proofs.ContentLaws.{all_stay_written, contents_law}

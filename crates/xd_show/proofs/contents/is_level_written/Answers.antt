@@ -2,7 +2,7 @@ use Rattle.std.proofs.Common.{refl, subst, get_or, length, ◌<◌, arith, rules
 use Rattle.std.specs.List.{AllByRecursion}
 use Rattle.xd_auto.specs.declared.auto.LabelMove.{LabelMove}
 use Rattle.xd_auto.specs.declared.auto.State.{State}
-use Rattle.xd_solve.specs.Levels.{IsWritten}
+use Rattle.xd_show_solve.specs.Levels.{IsWritten}
 use Rattle.xd_show.proofs.ContentLaws.{level_more}
 use Rattle.xd_show.proofs.contents.is_level_written.Goals as goal
 

@@ -1,7 +1,7 @@
 use Rattle.std.proofs.Common.{sym, ◌∙◌, ap, get_or, None}
 use Rattle.std.specs.Option.{is_some}
-use Rattle.xd_solve.specs.Levels.{known_of}
-use Rattle.xd_solve.proofs.PlaceLaws.{some_of}
+use Rattle.xd_show_solve.specs.Levels.{known_of}
+use Rattle.xd_show_solve.proofs.PlaceLaws.{some_of}
 use Rattle.xd_show.proofs.contents.is_written.Goals as goal
 
 pub returns-then-number-written : goal.returns-then-number-written

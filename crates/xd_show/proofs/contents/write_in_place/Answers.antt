@@ -1,5 +1,5 @@
 use Rattle.std.proofs.Common.{sym, subst, ◌<◌}
-use Rattle.xd_solve.specs.Levels.{MeansAny}
+use Rattle.xd_show_solve.specs.Levels.{MeansAny}
 use Rattle.xd_show.specs.Contents.{IsTypeOf}
 use Rattle.xd_show.proofs.ContentLaws.{contents_grown, contents_set, some_holds}
 use Rattle.xd_show.proofs.contents.write_in_place.Goals as goal

@@ -1,7 +1,7 @@
 use Rattle.std.proofs.Common.{take}
 use Rattle.std.specs.List.{AllByRecursion}
 use Rattle.xd_auto.specs.Automaton.{Automaton}
-use Rattle.xd_solve.specs.Levels.{IsWritten}
+use Rattle.xd_show_solve.specs.Levels.{IsWritten}
 use Rattle.xd_show.specs.Contents.{GrowsContents, GrowsNames, MeansStates}
 use Rattle.xd_show.proofs.contents.write_names.Given as goal
 

@@ -1,5 +1,5 @@
 use Rattle.xd_same_types.proofs.Tables.{keeps_then}
-use Rattle.xd_solve.specs.Levels.{MeansAny}
+use Rattle.xd_show_solve.specs.Levels.{MeansAny}
 use Rattle.xd_show.proofs.ContentLaws.{contents_then}
 use Rattle.xd_show.proofs.contents.write_placed.Goals as goal
 

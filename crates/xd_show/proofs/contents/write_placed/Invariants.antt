@@ -1,5 +1,5 @@
 use Rattle.xd_same_types.specs.Grown.{GrowsTypes}
-use Rattle.xd_solve.specs.Levels.{MeansAny}
+use Rattle.xd_show_solve.specs.Levels.{MeansAny}
 use Rattle.xd_show.specs.Contents.{GrowsContents}
 use Rattle.xd_show.proofs.contents.write_placed.Given as goal
 

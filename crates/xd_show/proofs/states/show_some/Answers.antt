@@ -2,7 +2,7 @@ use Rattle.std.proofs.Common.{◌≡◌, ◌∷◌, sym, subst}
 use Rattle.xd_syntax.specs.Words.{any_word}
 use Rattle.xd_shown.specs.Bodies.{AreBodies, ShowsMeanings}
 use Rattle.xd_syntax.specs.Kept.{program_tree}
-use Rattle.xd_solve.specs.Levels.{WrittenBelong}
+use Rattle.xd_show_solve.specs.Levels.{WrittenBelong}
 use Rattle.std.specs.Prelude.{slice_get, Some}
 use Rattle.xd_show.specs.Contents.{GrowsNames}
 use Rattle.xd_show.proofs.SettledLaws.{bodies_moved, ok_both, settled_bodies, settled_shown}

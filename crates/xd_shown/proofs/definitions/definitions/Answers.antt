@@ -1,9 +1,9 @@
 use Rattle.std.proofs.Common.{◌≡◌, ◌+◌, ◌++◌, ◌∷◌, [], suc, get_or, ap, sym, subst, ◌∙◌, arith}
 use Rattle.std.proofs.lemmas.List.{get_or_default}
-use Rattle.xd_syntax.specs.Placed.{the_start}
+use Rattle.xd_syntax.specs.PlacedTable.{the_start}
 use Rattle.xd_syntax.specs.declared.types.TypeDef.{TypeDef}
 use Rattle.xd_syntax.specs.declared.types.TypeId.{TypeId}
-use Rattle.xd_shown.proofs.Defining.{definitions_push}
+use Rattle.xd_shown.proofs.DefiningLemmas.{definitions_push}
 use Rattle.xd_shown.proofs.definitions.definitions.Goals as goal
 
 pub loop-number-preserved : goal.loop-number-preserved

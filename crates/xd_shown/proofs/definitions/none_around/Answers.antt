@@ -1,6 +1,7 @@
 use Rattle.std.proofs.Common.{◌≡◌, ◌++◌, ◌∷◌, [], false, ℕ, List, codes, inl, refl, ap, ◌∙◌, arith}
 use Rattle.std.specs.List.Sorted.{IsStrictlySortedBy}
-use Rattle.xd_doc.specs.Classes.{LabelClass, IsClass, is_named}
+use Rattle.xd_doc.specs.Classes.{LabelClass, is_named}
+use Rattle.xd_doc.specs.ClassForms.{IsClass}
 use Rattle.xd_syntax.specs.Tree.{Tree, Elem, Name}
 use Rattle.xd_syntax.specs.Types.{tree}
 use Rattle.xd_syntax.proofs.SameClass.{same_class_of}

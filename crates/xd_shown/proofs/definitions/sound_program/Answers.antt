@@ -1,9 +1,9 @@
 use Rattle.std.proofs.Common.{length, sym, ap, subst, ◌∙◌}
 use Rattle.std.specs.List.{AllByRecursion}
-use Rattle.xd_syntax.specs.Expression.{PatternsBelong}
+use Rattle.xd_syntax.specs.ExpressionTable.{PatternsBelong}
 use Rattle.xd_syntax.specs.Kept.{ProgramTable, TypeDefStands, FunctionStands, program_tree}
 use Rattle.xd_syntax.specs.RecursionFaults.{IsSound}
-use Rattle.xd_shown.proofs.Defining.{definitions_stand, program_is}
+use Rattle.xd_shown.proofs.DefiningLemmas.{definitions_stand, program_is}
 use Rattle.xd_shown.proofs.Soundness.{sound}
 use Rattle.xd_shown.proofs.definitions.sound_program.Goals as goal
 

@@ -1,5 +1,5 @@
 use Rattle.std.proofs.Common.{[], length, sym, subst}
-use Rattle.xd_syntax.specs.Sound.{definition_of}
+use Rattle.xd_syntax.specs.SoundTables.{definition_of}
 use Rattle.xd_sound.specs.Emptiness.{AddsEdges}
 use Rattle.xd_sound.proofs.EmptyLemmas.{body_in, number_some, number_none, adds_none, adds_more}
 use Rattle.xd_sound.proofs.empty.add_name.Goals as goal

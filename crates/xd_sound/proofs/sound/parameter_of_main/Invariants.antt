@@ -1,5 +1,5 @@
 use Rattle.std.proofs.Common.{◌≡◌, drop}
-use Rattle.xd_syntax.specs.Sound.{main_parameter}
+use Rattle.xd_syntax.specs.SoundTables.{main_parameter}
 use Rattle.xd_sound.proofs.sound.parameter_of_main.Given as goal
 
 abbrev pub invariant-loop-function : goal.invariant-loop-function

@@ -1,5 +1,5 @@
 use Rattle.xd_stream.proofs.Proper.{spelled_is_proper}
-use Rattle.xd_stream.proofs.Stopping.{accepted_never_stops, one_stop}
+use Rattle.xd_stream.proofs.IsFirstStopLemmas.{accepted_never_stops, one_stop}
 use Rattle.xd_stream.proofs.laws.stopping_laws.Goals as goal
 
 pub returns : goal.returns

@@ -3,8 +3,8 @@ use Rattle.std.specs.List.{list_any}
 use Rattle.xd_auto.specs.Automaton.{moves_at}
 use Rattle.xd_auto.specs.declared.auto.TextMove.{TextMove}
 use Rattle.xd_empty.specs.Parts.{is_marked}
-use Rattle.xd_stream.proofs.Stepping.{text_one, text_all, added_marked, not_marked}
-use Rattle.xd_stream.proofs.Testing.{any_pushed}
+use Rattle.xd_stream.proofs.WaitingPairLemmas.{text_one, text_all, added_marked, not_marked}
+use Rattle.xd_stream.proofs.AllPassLemmas.{any_pushed}
 use Rattle.xd_stream.proofs.pairs.add_text_pairs.Goals as goal
 use Rattle.xd_stream.proofs.pairs.add_text_pairs.Goals.{then-marks-number+in_ok-push, else-marks-number}
 

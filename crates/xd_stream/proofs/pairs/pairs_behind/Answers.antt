@@ -5,9 +5,9 @@ use Rattle.xd_auto.specs.declared.auto.State.{State}
 use Rattle.xd_stream.specs.Pairs.{ends_in}
 use Rattle.xd_stream.specs.declared.pairs.Pair.{Pair}
 use Rattle.xd_stream.specs.declared.pairs.Waiting.{Waiting}
-use Rattle.xd_stream.proofs.Sorting.{any_found}
-use Rattle.xd_stream.proofs.Stepping.{added_marked, behind_one, not_marked}
-use Rattle.xd_stream.proofs.Testing.{any_pushed}
+use Rattle.xd_stream.proofs.PairOrderLemmas.{any_found}
+use Rattle.xd_stream.proofs.WaitingPairLemmas.{added_marked, behind_one, not_marked}
+use Rattle.xd_stream.proofs.AllPassLemmas.{any_pushed}
 use Rattle.xd_stream.proofs.pairs.pairs_behind.Goals as goal
 use Rattle.xd_stream.proofs.pairs.pairs_behind.Goals.{then-is_ok+in_ok-push, else-is_ok}
 

@@ -4,7 +4,7 @@ use Rattle.std.proofs.lemmas.List.{take_all}
 use Rattle.xd_doc.specs.Classes.{class_has}
 use Rattle.xd_auto.specs.Automaton.{moves_at}
 use Rattle.xd_auto.specs.declared.auto.TextMove.{TextMove}
-use Rattle.xd_stream.proofs.Stepping.{none_next}
+use Rattle.xd_stream.proofs.WaitingPairLemmas.{none_next}
 use Rattle.xd_stream.proofs.pairs.state_takes_every_text.Goals as goal
 
 abbrev lacks : List ℕ → TextMove → Bool

@@ -2,7 +2,7 @@ use Rattle.std.proofs.Common.{ap, sym, ◌∙◌, not}
 use Rattle.std.specs.List.{list_any}
 use Rattle.xd_doc.specs.Classes.{class_has}
 use Rattle.xd_auto.specs.Automaton.{moves_at}
-use Rattle.xd_stream.proofs.Stepping.{none_next}
+use Rattle.xd_stream.proofs.WaitingPairLemmas.{none_next}
 use Rattle.std.proofs.lemmas.List.{take_all}
 use Rattle.xd_stream.proofs.pairs.takes_every_text.Goals as goal
 

@@ -1,5 +1,5 @@
 use Rattle.std.proofs.Common.{[], ◌∷◌, ◌++◌, ◌*◌, cond, arith, ap, ◌∙◌}
-use Rattle.xd_syntax.specs.Tree.{size}
+use Rattle.xd_syntax.specs.TreeForms.{size}
 use Rattle.xd_syntax.specs.TypeText.{text_at_level}
 use Rattle.xd_type_text.specs.Waiting.{level_of}
 use Rattle.xd_type_text.specs.declared.waiting.Waiting.TheVariants as waits

@@ -2,7 +2,7 @@ use Rattle.std.proofs.Common.{◌≡◌, ◌++◌, List, [], ◌∷◌, ap, sym,
 use Rattle.std.proofs.lemmas.List.{drop_all, map-append}
 use Rattle.xd_syntax.specs.Matches.{Occurrence, occurrences_in}
 use Rattle.xd_syntax.specs.Nodes.{view_form}
-use Rattle.xd_syntax.specs.Placed.{placed_at, placed_form}
+use Rattle.xd_syntax.specs.PlacedTable.{placed_at, placed_form}
 use Rattle.xd_syntax.specs.declared.nodes.FormView.{FormView}
 use Rattle.xd_syntax.specs.declared.patterns.PatternId.{PatternId}
 use Rattle.xd_variables.specs.Binders.{occurrence_of, occurrences_of}

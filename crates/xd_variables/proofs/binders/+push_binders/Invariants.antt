@@ -2,7 +2,7 @@ use Rattle.std.proofs.Common.{◌≡◌, ◌++◌, ◌<◌, drop, flat_map}
 use Rattle.std.specs.List.{AllByRecursion}
 use Rattle.xd_syntax.specs.Matches.{occurrences_in}
 use Rattle.xd_syntax.specs.Patterns.{pattern_numbers}
-use Rattle.xd_syntax.specs.Placed.{placed_at}
+use Rattle.xd_syntax.specs.PlacedTable.{placed_at}
 use Rattle.xd_variables.specs.Binders.{occurrences_of}
 use Rattle.xd_variables.proofs.binders.+push_binders.Given as goal
 

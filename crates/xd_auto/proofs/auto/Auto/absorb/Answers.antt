@@ -1,7 +1,7 @@
 use Rattle.std.proofs.Common.{true, None, length, length-append, arith}
 use Rattle.xd_auto.specs.Copying.{AreStateCopies, Reached, copies_in}
-use Rattle.xd_auto.proofs.Operating.{copies_below, copy_accepts, copies_have_originals, copies_reached, made_length, start_copy}
-use Rattle.xd_auto.proofs.Placing.{state_at}
+use Rattle.xd_auto.proofs.AddsMovesLemmas.{copies_below, copy_accepts, copies_have_originals, copies_reached, made_length, start_copy}
+use Rattle.xd_auto.proofs.FindsMoreLemmas.{state_at}
 use Rattle.xd_auto.proofs.auto.Auto.absorb.Goals as goal
 
 pub extend-requires : goal.extend-requires

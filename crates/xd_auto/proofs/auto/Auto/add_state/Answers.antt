@@ -1,5 +1,5 @@
 use Rattle.xd_auto.proofs.Closed.{IsClosed-push, no_moves-below}
-use Rattle.xd_auto.proofs.Extending.{keeps, Extends-append}
+use Rattle.xd_auto.proofs.ExtendsLemmas.{keeps, Extends-append}
 use Rattle.xd_auto.proofs.auto.Auto.add_state.Goals as goal
 
 pub invariant_of-self : goal.invariant_of-self

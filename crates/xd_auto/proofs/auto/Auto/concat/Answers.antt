@@ -1,6 +1,6 @@
 use Rattle.std.proofs.Common.{false, Some, length, length-append, arith}
 use Rattle.xd_auto.specs.Copying.{AreStateCopies, Reached, copies_in, no_copies}
-use Rattle.xd_auto.proofs.Joining.{concat_law, joined_below, joined_length}
+use Rattle.xd_auto.proofs.IsJoinedLemmas.{concat_law, joined_below, joined_length}
 use Rattle.xd_auto.proofs.auto.Auto.concat.Goals as goal
 
 pub extend-requires : goal.extend-requires

@@ -4,8 +4,8 @@ use Rattle.std.proofs.lemmas.List.Elements.{All-cons, All-nil}
 use Rattle.xd_auto.specs.Automaton.{LeadsBelow, moves_at, no_moves}
 use Rattle.xd_auto.specs.Copying.{accepts_by}
 use Rattle.xd_auto.proofs.Closed.{LeadsBelow-more}
-use Rattle.xd_auto.proofs.Operating.{accepts_by_moves}
-use Rattle.xd_auto.proofs.Placing.{state_at}
+use Rattle.xd_auto.proofs.AddsMovesLemmas.{accepts_by_moves}
+use Rattle.xd_auto.proofs.FindsMoreLemmas.{state_at}
 use Rattle.xd_auto.proofs.auto.Auto.unite.Goals as goal
 
 pub extend-requires : goal.extend-requires

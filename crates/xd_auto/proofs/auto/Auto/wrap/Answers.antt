@@ -5,9 +5,9 @@ use Rattle.xd_auto.specs.Automaton.{LeadsBelow, StateMoves, moves_at, no_moves}
 use Rattle.xd_auto.specs.Copying.{IsAround, LabelBelow}
 use Rattle.xd_auto.specs.declared.auto.TextMove.{TextMove}
 use Rattle.xd_auto.proofs.Closed.{no_moves-below}
-use Rattle.xd_auto.proofs.Operating.{moves_behind}
-use Rattle.xd_auto.proofs.Placing.{state_at}
-use Rattle.xd_auto.proofs.Wrapping.{wrap_law}
+use Rattle.xd_auto.proofs.AddsMovesLemmas.{moves_behind}
+use Rattle.xd_auto.proofs.FindsMoreLemmas.{state_at}
+use Rattle.xd_auto.proofs.IsWrappedLemmas.{wrap_law}
 use Rattle.xd_auto.proofs.auto.Auto.wrap.Goals as goal
 
 pub returns-clause-ok : goal.returns-clause-ok

@@ -1,4 +1,4 @@
-use Rattle.xd_auto.proofs.Indexing.{class_names}
+use Rattle.xd_auto.proofs.IsIndexLemmas.{class_names}
 use Rattle.xd_auto.proofs.auto.LabelMoveStepLabel.names.Goals as goal
 
 pub returns : goal.returns

@@ -2,7 +2,7 @@ use Rattle.std.proofs.Common.{nat_cmp}
 use Rattle.std.specs.Cmp.Lexicographic.{slice_cmp}
 use Rattle.xd_auto.specs.Automaton.{has_text}
 use Rattle.xd_auto.specs.Index.{numbers_at}
-use Rattle.xd_auto.proofs.Indexing.{IsIndex-push}
+use Rattle.xd_auto.proofs.IsIndexLemmas.{IsIndex-push}
 use Rattle.xd_auto.proofs.auto.Moves.push_text.Goals as goal
 
 pub invariant_of-self-2 : goal.invariant_of-self-2

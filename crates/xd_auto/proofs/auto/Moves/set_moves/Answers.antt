@@ -2,7 +2,7 @@ use Rattle.std.proofs.Common.{nat_cmp}
 use Rattle.std.specs.Cmp.Lexicographic.{slice_cmp}
 use Rattle.xd_auto.specs.Automaton.{has_label, has_text}
 use Rattle.xd_auto.specs.Index.{numbers_at}
-use Rattle.xd_auto.proofs.Indexing.{IsIndex-none}
+use Rattle.xd_auto.proofs.IsIndexLemmas.{IsIndex-none}
 use Rattle.xd_auto.proofs.auto.Moves.set_moves.Goals as goal
 
 pub invariant_of-self : goal.invariant_of-self

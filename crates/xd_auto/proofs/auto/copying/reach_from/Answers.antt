@@ -1,8 +1,8 @@
 use Rattle.std.proofs.Common.{rules, ◌≤◌, ◌≡◌, ◌+◌, ◌∙◌, ap, length, sym, arith}
 use Rattle.std.proofs.lemmas.List.{get_or_read}
 use Rattle.xd_auto.specs.Copying.{copies_in, uncopied}
-use Rattle.xd_auto.proofs.Following.{following_starts, following_step, following_ends}
-use Rattle.xd_auto.proofs.Placing.{placed_none}
+use Rattle.xd_auto.proofs.AreCopiedLemmas.{following_starts, following_step, following_ends}
+use Rattle.xd_auto.proofs.FindsMoreLemmas.{placed_none}
 use Rattle.xd_auto.proofs.auto.copying.reach_from.Goals as goal
 
 pub visit-requires-clause-placed : goal.visit-requires-clause-placed

@@ -1,6 +1,6 @@
 use Rattle.std.proofs.Common.{◌-◌, length}
 use Rattle.xd_auto.specs.Copying.{copies_in}
-use Rattle.xd_auto.proofs.Following.{Following}
+use Rattle.xd_auto.proofs.AreCopiedLemmas.{Following}
 use Rattle.xd_auto.proofs.auto.copying.reach_from.Given as goal
 
 abbrev pub invariant-loop-done : goal.invariant-loop-done

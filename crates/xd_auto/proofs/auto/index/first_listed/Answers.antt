@@ -2,7 +2,7 @@ use Rattle.std.proofs.Common.{◌≡◌, true, false, ltb, arith, rules}
 use Rattle.std.specs.List.Sorted.{IsPartitionPoint}
 use Rattle.std.proofs.lemmas.List.Sorted.{IsPartitionPoint-from_clause, IsPartitionedBy-ltb}
 use Rattle.std.proofs.lemmas.Bool.{ltb-false}
-use Rattle.xd_auto.proofs.Indexing.{lists_lack, stands_before}
+use Rattle.xd_auto.proofs.IsIndexLemmas.{lists_lack, stands_before}
 use Rattle.xd_auto.proofs.auto.index.first_listed.Goals as goal
 
 pub returns-then-takes-clause-after : goal.returns-then-takes-clause-after

@@ -1,6 +1,6 @@
 use Rattle.std.proofs.Common.{arith}
 use Rattle.xd_auto.specs.Index.{numbers_at}
-use Rattle.xd_auto.proofs.Indexing.{AddsTo-if, AddsTo-is, AddsTo-then, stands_more}
+use Rattle.xd_auto.proofs.IsIndexLemmas.{AddsTo-if, AddsTo-is, AddsTo-then, stands_more}
 use Rattle.xd_auto.proofs.auto.index.put_each.Goals as goal
 
 pub returns-in_err-put-clause-adds : goal.returns-in_err-put-clause-adds

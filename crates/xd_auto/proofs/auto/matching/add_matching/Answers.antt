@@ -1,4 +1,4 @@
-use Rattle.xd_auto.proofs.Matching.{adds_all, adds_first, adds_next}
+use Rattle.xd_auto.proofs.AreMatchingLemmas.{adds_all, adds_first, adds_next}
 use Rattle.xd_auto.proofs.auto.matching.add_matching.Goals as goal
 
 pub loop-number-init : goal.loop-number-init

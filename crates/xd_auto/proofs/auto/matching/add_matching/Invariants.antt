@@ -1,5 +1,5 @@
 use Rattle.std.proofs.Common.{◌-◌, length}
-use Rattle.xd_auto.proofs.Matching.{AddsBefore}
+use Rattle.xd_auto.proofs.AreMatchingLemmas.{AddsBefore}
 use Rattle.xd_auto.proofs.auto.matching.add_matching.Given as goal
 
 abbrev pub invariant-loop-number : goal.invariant-loop-number

@@ -5,7 +5,7 @@ use Rattle.std.proofs.lemmas.List.Filters.{dedup_is}
 use Rattle.std.proofs.lemmas.List.Kept.{Contains-dedup_nat, Contains-from_dedup}
 use Rattle.std.proofs.lemmas.List.Sorted.{Contains-permutation, IsPermutation-sym}
 use Rattle.std.proofs.lemmas.Map.Keys.{IsStrictlyIncreasing-dedup}
-use Rattle.xd_auto.proofs.Matching.{MatchNames, match_all, match_each, match_more, match_none}
+use Rattle.xd_auto.proofs.AreMatchingLemmas.{MatchNames, match_all, match_each, match_more, match_none}
 use Rattle.xd_auto.proofs.auto.matching.matching_numbers.Goals as goal
 
 pub returns-then-takes_others : goal.returns-then-takes_others

@@ -1,5 +1,5 @@
 use Rattle.std.proofs.Common.{take}
-use Rattle.xd_auto.proofs.Matching.{MatchNames}
+use Rattle.xd_auto.proofs.AreMatchingLemmas.{MatchNames}
 use Rattle.xd_auto.proofs.auto.matching.matching_numbers.Given as goal
 
 abbrev pub invariant-loop-name : goal.invariant-loop-name

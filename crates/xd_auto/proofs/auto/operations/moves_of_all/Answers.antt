@@ -1,7 +1,7 @@
 use Rattle.std.proofs.Common.{◌≡◌, ◌||◌, get_or, ap, ◌∙◌}
 use Rattle.xd_auto.specs.declared.auto.State.{State}
 use Rattle.xd_auto.specs.Automaton.{StateMoves, moves_at}
-use Rattle.xd_auto.proofs.Operating.{united_none, united_more}
+use Rattle.xd_auto.proofs.AddsMovesLemmas.{united_none, united_more}
 use Rattle.xd_auto.proofs.auto.operations.moves_of_all.Goals as goal
 
 pub loop-state-init : goal.loop-state-init

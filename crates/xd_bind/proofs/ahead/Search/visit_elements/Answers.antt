@@ -5,7 +5,7 @@ use Rattle.xd_auto.specs.declared.auto.LabelMove.{LabelMove}
 use Rattle.xd_auto.specs.Automaton.{IsState, moves_at}
 use Rattle.xd_bind.specs.Shifts.{free_by, shifted}
 use Rattle.xd_bind.specs.Search.{HasMark, IsFollowed, LeadsAhead}
-use Rattle.xd_bind.proofs.Searching.{IsFollowed-kept, mark_kept, of_read, side_leads, visit_more, visit_past}
+use Rattle.xd_bind.proofs.IsSearchLemmas.{IsFollowed-kept, mark_kept, of_read, side_leads, visit_more, visit_past}
 use Rattle.xd_bind.proofs.ahead.Search.visit_elements.Goals as goal
 use Rattle.xd_bind.proofs.ahead.Search.visit_elements.Goals.{then-not-holds+in_ok-visit_move, else-not-holds}
 

@@ -5,7 +5,7 @@ use Rattle.xd_auto.specs.declared.auto.TextMove.{TextMove}
 use Rattle.xd_auto.specs.Automaton.{moves_at}
 use Rattle.xd_bind.specs.Shifts.{free_by}
 use Rattle.xd_bind.specs.Search.{HasMark, IsTextFollowed, LeadsAhead, over_text}
-use Rattle.xd_bind.proofs.Searching.{IsTextFollowed-kept, mark_kept, of_read, visit_more, visit_past}
+use Rattle.xd_bind.proofs.IsSearchLemmas.{IsTextFollowed-kept, mark_kept, of_read, visit_more, visit_past}
 use Rattle.xd_bind.proofs.ahead.Search.visit_texts.Goals as goal
 use Rattle.xd_bind.proofs.ahead.Search.visit_texts.Goals.{then-not-holds+in_ok-visit_text_move, else-not-holds}
 

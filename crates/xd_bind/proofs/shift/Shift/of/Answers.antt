@@ -1,6 +1,6 @@
 use Rattle.std.proofs.Common.{◌≤◌, ap, arith}
 use Rattle.xd_auto.specs.declared.auto.State.{State}
-use Rattle.xd_bind.proofs.Shifting.{shifted_above}
+use Rattle.xd_bind.proofs.ShiftLemmas.{shifted_above}
 use Rattle.xd_bind.proofs.shift.Shift.of.Goals as goal
 
 pub overflow_add-self : goal.overflow_add-self

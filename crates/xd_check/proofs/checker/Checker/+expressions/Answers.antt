@@ -7,9 +7,11 @@ use Rattle.xd_base.specs.declared.Place.{Place}
 use Rattle.xd_auto.specs.declared.auto.State.{State}
 use Rattle.xd_auto.specs.Automaton.{IsState, accepts}
 use Rattle.xd_syntax.specs.Kept.{ProgramTable, program_tree}
-use Rattle.xd_syntax.specs.Placed.{PlacedTree, placed_at, unplaced}
+use Rattle.xd_syntax.specs.Placed.{PlacedTree, unplaced}
+use Rattle.xd_syntax.specs.PlacedTable.{placed_at}
 use Rattle.xd_syntax.specs.Program.{ProgramTree, function_of, names_of}
-use Rattle.xd_syntax.specs.Expression.{Clauses, Expression, Matched, ExprPartsBelow, ExprRow, PatternsBelong, ShapePatternsBelong, empty_shape, text_shape, var_shape, elem_shape, seq_shape, call_shape, match_shape, clauses_of}
+use Rattle.xd_syntax.specs.Expression.{Clauses, Expression, Matched}
+use Rattle.xd_syntax.specs.ExpressionTable.{ExprPartsBelow, ExprRow, PatternsBelong, ShapePatternsBelong, empty_shape, text_shape, var_shape, elem_shape, seq_shape, call_shape, match_shape, clauses_of}
 use Rattle.xd_syntax.specs.Exprs.{clause_numbers, expr_numbers, shape_of}
 use Rattle.xd_syntax.specs.declared.exprs.ExprId.{ExprId}
 use Rattle.xd_syntax.specs.declared.exprs.Clause.{Clause}
@@ -26,14 +28,14 @@ use Rattle.xd_check.specs.Signed.{AreParameters, signature_of}
 use Rattle.xd_check.specs.Walked.{Grows, IsWalked}
 use Rattle.xd_check.proofs.ClauseLemmas.{clause_dead, clause_live, comes_first, live_from, live_to, walked_matched}
 use Rattle.xd_check.proofs.Arguments.{walked_called}
-use Rattle.xd_check.proofs.Keeping.{grows_then, keeps_same, keeps_then, scope_kept}
-use Rattle.xd_check.proofs.Knowing.{known_kept, known_learnt}
+use Rattle.xd_check.proofs.GrowsLemmas.{grows_then, keeps_same, keeps_then, scope_kept}
+use Rattle.xd_check.proofs.IsKnownLemmas.{known_kept, known_learnt}
 use Rattle.xd_check.proofs.ClauseLoop.{ClausesLoop, clause_here, clauses_loop_begin, clauses_loop_end, clauses_loop_more}
-use Rattle.xd_check.proofs.Scoping.{clause_left, clause_scope, clause_states, parameter_states}
+use Rattle.xd_check.proofs.AreStatesLemmas.{clause_left, clause_scope, clause_states, parameter_states}
 use Rattle.xd_check.proofs.Loops.{PartsLoop, argument_here, arguments_begin, arguments_end, arguments_more, bodies, bodies_below, ceiling, ceiling_again, ceiling_within, part_here, parts_begin, parts_end, parts_more}
 use Rattle.xd_check.proofs.Lists.{all_as, if_some}
-use Rattle.xd_check.proofs.Making.{joined_none, never, new_moves}
-use Rattle.xd_check.proofs.Readying.{ready_kept, signed_none, signed_some, states_again}
+use Rattle.xd_check.proofs.AcceptedInTurnLemmas.{joined_none, never, new_moves}
+use Rattle.xd_check.proofs.IsReadyLemmas.{ready_kept, signed_none, signed_some, states_again}
 use Rattle.xd_check.proofs.Walkable.{expr_is, walk_arguments, walk_clauses, walk_content, walk_parts, walk_scrutinee}
 use Rattle.xd_check.proofs.Walks.{walked_joined, walked_nothing, walked_quoted, walked_tagged, walked_variable}
 use Rattle.xd_check.proofs.checker.Checker.+expressions.Goals as goal

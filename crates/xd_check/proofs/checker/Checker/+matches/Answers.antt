@@ -5,12 +5,14 @@ use Rattle.std.proofs.lemmas.Result.{on_ok_weaker}
 use Rattle.xd_doc.specs.Document.{Document}
 use Rattle.xd_auto.specs.Automaton.{IsState}
 use Rattle.xd_syntax.specs.CheckFaults.{IsLiveIn}
-use Rattle.xd_syntax.specs.Expression.{Clauses, Expression, ExprPartsBelow, ExprRow, Matched, PatternsBelong, ShapePatternsBelong, arguments_of, call_shape, clauses_of, elem_shape, empty_shape, joined, match_shape, seq_shape, text_shape, var_shape}
+use Rattle.xd_syntax.specs.Expression.{Clauses, Expression, Matched, arguments_of, joined}
+use Rattle.xd_syntax.specs.ExpressionTable.{ExprPartsBelow, ExprRow, PatternsBelong, ShapePatternsBelong, call_shape, clauses_of, elem_shape, empty_shape, match_shape, seq_shape, text_shape, var_shape}
 use Rattle.xd_syntax.specs.Exprs.{clause_numbers, expr_numbers, shape_of}
 use Rattle.xd_syntax.specs.Kept.{ProgramTable, program_tree}
 use Rattle.xd_syntax.specs.Matches.{InTurn, MatchesOf, MatchesOfArguments, MatchesOfClauses, SeenMatch}
 use Rattle.xd_syntax.specs.May.{IsLive, May, clause_entry}
-use Rattle.xd_syntax.specs.Placed.{PlacedTree, placed_at, unplaced}
+use Rattle.xd_syntax.specs.Placed.{PlacedTree, unplaced}
+use Rattle.xd_syntax.specs.PlacedTable.{placed_at}
 use Rattle.xd_syntax.specs.Program.{ProgramTree, names_of}
 use Rattle.xd_syntax.specs.Tree.{Definitions}
 use Rattle.xd_syntax.specs.declared.exprs.Clause.{Clause}
@@ -23,14 +25,14 @@ use Rattle.xd_check.specs.Scrutinees.{AddsMatches, MatchesOfBody}
 use Rattle.xd_check.specs.Walked.{Grows}
 use Rattle.xd_check.specs.declared.matches.MetMatch.{MetMatch}
 use Rattle.xd_check.proofs.ClauseLemmas.{comes_first, live_from, live_to}
-use Rattle.xd_check.proofs.Keeping.{grows_then, just_kept, keeps_same, scope_kept}
-use Rattle.xd_check.proofs.Knowing.{known_kept, known_learnt}
+use Rattle.xd_check.proofs.GrowsLemmas.{grows_then, just_kept, keeps_same, scope_kept}
+use Rattle.xd_check.proofs.IsKnownLemmas.{known_kept, known_learnt}
 use Rattle.xd_check.proofs.Lists.{if_some}
 use Rattle.xd_check.proofs.Loops.{bodies, bodies_below, ceiling, ceiling_again, ceiling_within}
 use Rattle.xd_check.proofs.MetClauses.{clause_here, clauses_begin, clauses_end, clauses_more}
 use Rattle.xd_check.proofs.MetMatches.{adds_as, adds_both, adds_kept, adds_none, adds_one, matches_joined, on_ok_both, part_here, parts_begin, parts_end, parts_more}
-use Rattle.xd_check.proofs.Readying.{ready_kept, states_again}
-use Rattle.xd_check.proofs.Scoping.{clause_scope, clause_states}
+use Rattle.xd_check.proofs.IsReadyLemmas.{ready_kept, states_again}
+use Rattle.xd_check.proofs.AreStatesLemmas.{clause_scope, clause_states}
 use Rattle.xd_check.proofs.Walkable.{expr_is, walk_arguments, walk_clauses, walk_content, walk_parts, walk_scrutinee}
 use Rattle.xd_check.proofs.checker.Checker.+matches.Goals as goal
 

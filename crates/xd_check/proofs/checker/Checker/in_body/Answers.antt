@@ -1,11 +1,11 @@
-use Rattle.xd_check.proofs.Keeping.{keeps_same, keeps_then}
+use Rattle.xd_check.proofs.GrowsLemmas.{keeps_same, keeps_then}
 use Rattle.std.proofs.lemmas.Result.{IfOk-from_err}
 use Rattle.std.proofs.Common.{◌≡◌, ◌<◌, List, map, length, ap, sym, subst, ◌∙◌}
 use Rattle.xd_syntax.specs.FunctionRow.{FunctionRow}
 use Rattle.xd_syntax.specs.Kept.{ProgramTable, parameter, program_tree}
 use Rattle.xd_syntax.specs.Program.{ProgramTree, names_of}
 use Rattle.xd_syntax.specs.declared.program.Param.{Param}
-use Rattle.xd_syntax.specs.Placed.{placed_at}
+use Rattle.xd_syntax.specs.PlacedTable.{placed_at}
 use Rattle.xd_syntax.specs.Expression.{Expression, place_of_expression}
 use Rattle.xd_syntax.specs.May.{Scope, parameters_scope}
 use Rattle.xd_syntax.specs.CheckFaults.{LineWhere, LinesOf, Misfits, wrong_result}
@@ -17,8 +17,8 @@ use Rattle.xd_check.specs.Ready.{CanBeWalked, expr_at}
 use Rattle.xd_check.specs.Walked.{IsMisfit, IsWalked}
 use Rattle.xd_check.proofs.Arguments.{misfit_lines}
 use Rattle.xd_check.proofs.LineLists.{adds_as, adds_both}
-use Rattle.xd_check.proofs.Signing.{state_kept}
-use Rattle.xd_check.proofs.Scoping.{parameters_count, parameters_stand, parameters_states}
+use Rattle.xd_check.proofs.IsSignatureLemmas.{state_kept}
+use Rattle.xd_check.proofs.AreStatesLemmas.{parameters_count, parameters_stand, parameters_states}
 use Rattle.xd_check.proofs.checker.Checker.in_body.Goals as goal
 
 pub parameters-requires : goal.parameters-requires

@@ -4,8 +4,8 @@ use Rattle.std.proofs.lemmas.List.{drop_all}
 use Rattle.xd_syntax.specs.FunctionRow.{FunctionRow}
 use Rattle.xd_syntax.specs.Kept.{ProgramTable}
 use Rattle.xd_check.proofs.FunctionLoop.{function_at, function_at_is, functions_begin, functions_end, functions_more}
-use Rattle.xd_check.proofs.Keeping.{keeps_then}
-use Rattle.xd_check.proofs.Readying.{ready_kept}
+use Rattle.xd_check.proofs.GrowsLemmas.{keeps_then}
+use Rattle.xd_check.proofs.IsReadyLemmas.{ready_kept}
 use Rattle.xd_check.proofs.checker.Checker.in_functions.Goals as goal
 
 pub loop-number-init : goal.loop-number-init

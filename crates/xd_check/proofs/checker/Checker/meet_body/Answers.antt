@@ -10,7 +10,7 @@ use Rattle.xd_check.specs.declared.signatures.Signature.{Signature}
 use Rattle.xd_check.specs.InScope.{AreStates, ScopeStands, parameters_in_scope}
 use Rattle.xd_check.specs.Ready.{CanBeWalked, expr_at}
 use Rattle.xd_check.specs.Scrutinees.{AddsMatches}
-use Rattle.xd_check.proofs.Scoping.{parameters_count, parameters_stand, parameters_states}
+use Rattle.xd_check.proofs.AreStatesLemmas.{parameters_count, parameters_stand, parameters_states}
 use Rattle.xd_check.proofs.checker.Checker.meet_body.Goals as goal
 
 pub parameters-requires : goal.parameters-requires

@@ -4,7 +4,7 @@ use Rattle.xd_syntax.specs.FunctionRow.{FunctionRow}
 use Rattle.xd_syntax.specs.Kept.{ProgramTable}
 use Rattle.xd_check.proofs.FunctionLoop.{function_at, function_at_is}
 use Rattle.xd_check.proofs.MetOrder.{functions_begin, functions_end, functions_more}
-use Rattle.xd_check.proofs.Readying.{ready_kept}
+use Rattle.xd_check.proofs.IsReadyLemmas.{ready_kept}
 use Rattle.xd_check.proofs.checker.Checker.meet_functions.Goals as goal
 
 pub loop-number-init : goal.loop-number-init

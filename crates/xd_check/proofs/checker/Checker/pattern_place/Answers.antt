@@ -1,7 +1,8 @@
 use Rattle.std.proofs.Common.{◌≡◌, true, ap, sym, subst, ◌∙◌, List, take}
 use Rattle.xd_syntax.specs.Kept.{ProgramTable}
 use Rattle.xd_syntax.specs.Table.{Row}
-use Rattle.xd_syntax.specs.Placed.{place_of, placed_at, placed_form}
+use Rattle.xd_syntax.specs.Placed.{place_of}
+use Rattle.xd_syntax.specs.PlacedTable.{placed_at, placed_form}
 use Rattle.xd_check.proofs.Places.{form_place}
 use Rattle.xd_check.proofs.checker.Checker.pattern_place.Goals as goal
 

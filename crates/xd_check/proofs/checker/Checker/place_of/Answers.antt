@@ -1,7 +1,8 @@
 use Rattle.std.proofs.Common.{◌≡◌, ap, sym, subst, ◌∙◌, List, take}
 use Rattle.xd_syntax.specs.Kept.{ProgramTable}
-use Rattle.xd_syntax.specs.Placed.{placed_at}
-use Rattle.xd_syntax.specs.Expression.{ExprRow, expression_at, place_of_expression, shape_expression}
+use Rattle.xd_syntax.specs.PlacedTable.{placed_at}
+use Rattle.xd_syntax.specs.ExpressionTable.{ExprRow, expression_at, shape_expression}
+use Rattle.xd_syntax.specs.Expression.{place_of_expression}
 use Rattle.xd_syntax.specs.Exprs.{expression}
 use Rattle.xd_check.proofs.Places.{shape_place}
 use Rattle.xd_check.proofs.checker.Checker.place_of.Goals as goal

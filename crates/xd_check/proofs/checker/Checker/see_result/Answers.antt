@@ -3,7 +3,7 @@ use Rattle.std.proofs.Common.{◌^◌, List, [], ◌∷◌, ◌++◌, Ok, refl, 
 use Rattle.std.specs.Option.{IfSome}
 use Rattle.xd_base.specs.declared.Place.{Place}
 use Rattle.xd_doc.specs.Document.{Document}
-use Rattle.xd_doc.specs.Least.{IsLeastUpTo}
+use Rattle.xd_doc.specs.LeastUpTo.{IsLeastUpTo}
 use Rattle.xd_doc.specs.Stored.{BelongsTo, document_at}
 use Rattle.xd_doc.specs.declared.store.Seq.{Seq}
 use Rattle.xd_syntax.specs.Expression.{place_of_expression}

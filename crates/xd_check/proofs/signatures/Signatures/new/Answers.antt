@@ -4,8 +4,8 @@ use Rattle.xd_syntax.specs.FunctionRow.{FunctionRow}
 use Rattle.xd_syntax.specs.Kept.{ProgramTable, program_tree}
 use Rattle.xd_syntax.specs.Program.{function_of, names_of}
 use Rattle.xd_check.specs.Signed.{IsSignatureOf, number_from, signature_at}
-use Rattle.xd_check.proofs.Declaring.{map_signed}
-use Rattle.xd_check.proofs.Naming.{named_first}
+use Rattle.xd_check.proofs.AreTypeStatesLemmas.{map_signed}
+use Rattle.xd_check.proofs.FunctionRowLemmas.{named_first}
 use Rattle.xd_check.proofs.signatures.Signatures.new.Goals as goal
 
 pub returns : goal.returns

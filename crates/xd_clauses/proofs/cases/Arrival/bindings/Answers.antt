@@ -2,12 +2,12 @@ use Rattle.std.proofs.Common.{List, [], sym, subst}
 use Rattle.std.specs.List.{AllByRecursion}
 use Rattle.xd_auto.specs.Automaton.{IsState}
 use Rattle.xd_syntax.specs.May.{MayBind}
-use Rattle.xd_laws.specs.KeptLines.{AllPaired}
+use Rattle.xd_meaning.specs.KeptFaults.{AllPaired}
 use Rattle.xd_bind.specs.declared.tracks.Given.{Given}
 use Rattle.xd_clauses.specs.Cases.{HasOwnAutomaton}
 use Rattle.xd_clauses.specs.Clauses.{Accepted, AreMayGivens}
 use Rattle.xd_clauses.proofs.Givens.{bindings_apart, givens_as, givens_there}
-use Rattle.xd_clauses.proofs.Passing.{bind_same}
+use Rattle.xd_clauses.proofs.NoneTakesLemmas.{bind_same}
 use Rattle.xd_clauses.proofs.cases.Arrival.bindings.Goals as goal
 
 pub apart-requires : goal.apart-requires

@@ -3,8 +3,8 @@ use Rattle.xd_syntax.specs.Tree.{Definitions}
 use Rattle.xd_syntax.specs.May.{IsLive}
 use Rattle.xd_syntax.specs.Placed.{PlacedTree, unplaced}
 use Rattle.xd_clauses.specs.Clauses.{Accepted, IsPatternOf}
-use Rattle.xd_clauses.proofs.Coming.{none_is, some_holds}
-use Rattle.xd_clauses.proofs.Passing.{live_back, live_on}
+use Rattle.xd_clauses.proofs.AreMayGivensLemmas.{none_is, some_holds}
+use Rattle.xd_clauses.proofs.NoneTakesLemmas.{live_back, live_on}
 use Rattle.xd_clauses.proofs.cases.Arrival.is_live.Goals as goal
 
 pub bindings-requires-clause-known : goal.bindings-requires-clause-known

@@ -1,13 +1,13 @@
 use Rattle.std.proofs.Common.{ℕ, List, [], ◌<◌, length, sym, subst}
 use Rattle.xd_auto.specs.declared.auto.State.{State}
-use Rattle.xd_auto.proofs.Extending.{keeps}
+use Rattle.xd_auto.proofs.ExtendsLemmas.{keeps}
 use Rattle.xd_syntax.specs.Tree.{Definitions}
 use Rattle.xd_syntax.specs.Placed.{PlacedTree, unplaced}
-use Rattle.xd_traces.specs.Traces.{KeepsTogether}
+use Rattle.xd_auto_pairs.specs.Traces.{KeepsTogether}
 use Rattle.xd_bind.specs.Cases.{AreCases}
 use Rattle.xd_clauses.specs.Owning.{moves_of_number}
 use Rattle.xd_clauses.specs.Clauses.{Accepted, AreMayGivens, IsPatternOf}
-use Rattle.xd_clauses.proofs.Coming.{all_may_bind, if_some_map, is_universal, numbers_together}
+use Rattle.xd_clauses.proofs.AreMayGivensLemmas.{all_may_bind, if_some_map, is_universal, numbers_together}
 use Rattle.xd_clauses.proofs.pattern.ClausePattern.bindings.Goals as goal
 
 pub cases-requires-clause-all : goal.cases-requires-clause-all

@@ -4,7 +4,7 @@ use Rattle.xd_syntax.specs.Patterns.{pattern_tree}
 use Rattle.xd_syntax.specs.Program.{names_of}
 use Rattle.xd_patterns.specs.Held.{marking_of}
 use Rattle.xd_clauses.specs.OfPatterns.{IsOfPattern, IsOfSomePattern}
-use Rattle.xd_clauses.proofs.Turning.{compiled_turned}
+use Rattle.xd_clauses.proofs.HasUniversalLemmas.{compiled_turned}
 use Rattle.xd_clauses.proofs.pattern.ClausePattern.new.Goals as goal
 
 pub invariant_of-result : goal.invariant_of-result

@@ -1,4 +1,4 @@
-use Rattle.xd_auto.proofs.Extending.{keeps}
+use Rattle.xd_auto.proofs.ExtendsLemmas.{keeps}
 use Rattle.xd_clauses.proofs.pattern.ClausePattern.pass.Goals as goal
 
 pub returns-clause-accepting : goal.returns-clause-accepting

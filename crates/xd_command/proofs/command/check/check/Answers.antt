@@ -1,7 +1,7 @@
 use Rattle.std.proofs.Common.{inl}
 use Rattle.xd_base.specs.Outside.{HasRisen}
 use Rattle.xd_syntax.specs.Kept.{ProgramTable, program_tree}
-use Rattle.xd_steps.specs.Programs.{EndsAtProgram, IsProgram}
+use Rattle.xd_command_steps.specs.Programs.{EndsAtProgram, IsProgram}
 use Rattle.xd_command.specs.Answer.{Answers}
 use Rattle.xd_command.specs.declared.command.Command.TheVariants.{Check}
 use Rattle.xd_command.proofs.Steps.{ends-returned}

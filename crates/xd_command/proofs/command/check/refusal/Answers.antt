@@ -1,5 +1,5 @@
 use Rattle.std.proofs.Common.{◌^◌, ◌<◌, length, ap, subst, ◌∙◌, arith}
-use Rattle.xd_steps.specs.Output.{Output}
+use Rattle.xd_command_steps.specs.Output.{Output}
 use Rattle.xd_command.proofs.SameFaults.{not_accepted}
 use Rattle.xd_command.proofs.SmallFaults.{written_lines}
 use Rattle.xd_command.proofs.Verdicts.{answers_refused}

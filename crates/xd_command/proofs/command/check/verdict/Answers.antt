@@ -3,9 +3,10 @@ use Rattle.std.proofs.lemmas.Result.{IfOk-weaker}
 use Rattle.xd_syntax.specs.CheckFaults.{faults_among}
 use Rattle.xd_syntax.specs.Kept.{program_tree}
 use Rattle.xd_check.specs.Outcome.{IsOutcome}
-use Rattle.xd_steps.specs.Merging.{IsMerged}
-use Rattle.xd_steps.proofs.Reporting.{Carry}
-use Rattle.xd_command.specs.Check.{AnswersCheck, AreRefused, EndsAtCheck}
+use Rattle.xd_command_steps.specs.Merging.{IsMerged}
+use Rattle.xd_command_steps.proofs.NextLineLemmas.{Carry}
+use Rattle.xd_command.specs.Check.{AnswersCheck, EndsAtCheck}
+use Rattle.xd_command.specs.CheckRefused.{AreRefused}
 use Rattle.xd_command.proofs.Verdicts.{all_carry, answers_accepted}
 use Rattle.xd_command.proofs.command.check.verdict.Goals as goal
 

@@ -2,8 +2,8 @@ use Rattle.std.proofs.Common.{inl, inr}
 use Rattle.xd_base.specs.Outside.{HasRisen}
 use Rattle.xd_doc.specs.Stored.{document_at}
 use Rattle.xd_doc.specs.declared.store.Seq.{Seq}
-use Rattle.xd_steps.specs.Documents.{EndsAtDocument, IsDocument}
-use Rattle.xd_command.specs.Fits.{AnswersByState}
+use Rattle.xd_command_steps.specs.Documents.{EndsAtDocument, IsDocument}
+use Rattle.xd_command.specs.FitsByState.{AnswersByState}
 use Rattle.xd_command.proofs.Steps.{ends-returned}
 use Rattle.xd_command.proofs.command.fits.accepts_in.Goals as goal
 

@@ -4,12 +4,14 @@ use Rattle.std.specs.Prelude.{is_some}
 use Rattle.xd_base.specs.Outside.{HasRisen}
 use Rattle.xd_syntax.specs.Kept.{program_tree}
 use Rattle.xd_syntax.specs.Program.{ProgramTree, names_of}
-use Rattle.xd_syntax.specs.Sound.{is_defined, type_named, IsTypeAt}
+use Rattle.xd_syntax.specs.Sound.{is_defined, type_named}
+use Rattle.xd_syntax.specs.SoundTables.{IsTypeAt}
 use Rattle.xd_syntax.specs.Tree.{Tree}
 use Rattle.xd_syntax.specs.Types.{tree}
 use Rattle.xd_syntax.specs.declared.types.TypeId.{TypeId}
-use Rattle.xd_steps.specs.Output.{Output}
-use Rattle.xd_command.specs.Fits.{AnswersByState, AnswersFits, IsAcceptor}
+use Rattle.xd_command_steps.specs.Output.{Output}
+use Rattle.xd_command.specs.FitsByState.{AnswersByState, IsAcceptor}
+use Rattle.xd_command.specs.Fits.{AnswersFits}
 use Rattle.xd_command.proofs.Steps.{does-map, fits_by_state}
 use Rattle.xd_command.proofs.command.fits.fits_program.Goals as goal
 

@@ -1,6 +1,6 @@
 use Rattle.std.proofs.Common.{cond, ap, sym, ◌∙◌}
 use Rattle.std.proofs.lemmas.Result.{IfOk-weaker}
-use Rattle.xd_steps.specs.Output.{yes, no}
+use Rattle.xd_command_steps.specs.Output.{yes, no}
 use Rattle.xd_command.proofs.command.fits.membership.Goals as goal
 
 pub returns-then-branch : goal.returns-then-branch

@@ -3,11 +3,12 @@ use Rattle.std.specs.Option.{IfSome}
 use Rattle.std.specs.Prelude.{is_some}
 use Rattle.xd_syntax.specs.Kept.{program_tree}
 use Rattle.xd_syntax.specs.Program.{ProgramTree, names_of}
-use Rattle.xd_syntax.specs.Sound.{is_defined, type_named, IsTypeAt}
+use Rattle.xd_syntax.specs.Sound.{is_defined, type_named}
+use Rattle.xd_syntax.specs.SoundTables.{IsTypeAt}
 use Rattle.xd_syntax.specs.Tree.{Tree}
 use Rattle.xd_syntax.specs.Types.{tree}
 use Rattle.xd_syntax.specs.declared.types.TypeId.{TypeId}
-use Rattle.xd_command.specs.Fits.{IsAcceptor}
+use Rattle.xd_command.specs.FitsByState.{IsAcceptor}
 use Rattle.xd_command.proofs.LeastDocuments.{least_by_state}
 use Rattle.xd_command.proofs.command.least.least_named.Goals as goal
 

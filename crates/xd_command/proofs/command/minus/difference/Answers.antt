@@ -4,7 +4,7 @@ use Rattle.xd_syntax.specs.Kept.{program_tree}
 use Rattle.xd_syntax.specs.Program.{names_of}
 use Rattle.xd_syntax.specs.Types.{tree}
 use Rattle.xd_sound.proofs.AdoptLaws.{type_kept}
-use Rattle.xd_command.specs.Fits.{IsAcceptor}
+use Rattle.xd_command.specs.FitsByState.{IsAcceptor}
 use Rattle.xd_command.proofs.Differences.{alone_by}
 use Rattle.xd_command.proofs.command.minus.difference.Goals as goal
 

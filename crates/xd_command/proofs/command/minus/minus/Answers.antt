@@ -1,8 +1,8 @@
 use Rattle.std.proofs.Common.{inl, inr}
 use Rattle.xd_base.specs.Outside.{HasRisen}
 use Rattle.xd_syntax.specs.Kept.{ProgramTable, program_tree}
-use Rattle.xd_steps.specs.Output.{Output}
-use Rattle.xd_steps.specs.Programs.{EndsAtProgram, IsProgram}
+use Rattle.xd_command_steps.specs.Output.{Output}
+use Rattle.xd_command_steps.specs.Programs.{EndsAtProgram, IsProgram}
 use Rattle.xd_command.specs.Answer.{Answers}
 use Rattle.xd_command.specs.Minus.{AnswersMinus}
 use Rattle.xd_command.specs.declared.command.Command.TheVariants.{Minus}

@@ -1,9 +1,9 @@
 use Rattle.std.proofs.Common.{◌≡◌, ap, subst, sym, ◌∙◌}
-use Rattle.xd_blocks.specs.AtStates.{Accepted}
-use Rattle.xd_blocks.specs.Blocks.{IsShownText}
-use Rattle.xd_blocks.proofs.Showing.{shown_text_along}
+use Rattle.xd_show_blocks.specs.AtStates.{Accepted}
+use Rattle.xd_show_blocks.specs.Blocks.{IsShownText}
+use Rattle.xd_show_blocks.proofs.BlockLemmas.{shown_text_along}
 use Rattle.xd_shown.specs.Shown.{defined_names}
-use Rattle.xd_steps.specs.Output.{Output}
+use Rattle.xd_command_steps.specs.Output.{Output}
 use Rattle.xd_syntax.specs.Kept.{program_tree}
 use Rattle.xd_syntax.specs.Program.{names_of}
 use Rattle.xd_syntax.specs.Types.{tree}

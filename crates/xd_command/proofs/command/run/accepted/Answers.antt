@@ -2,9 +2,9 @@ use Rattle.std.proofs.Common.{◌≡◌, ◌^◌, ◌<◌, [], length, ap, subst
 use Rattle.xd_syntax.specs.CheckFaults.{faults_among}
 use Rattle.xd_syntax.specs.Kept.{program_tree}
 use Rattle.xd_check.specs.Outcome.{IsOutcome}
-use Rattle.xd_steps.specs.Merging.{IsMerged}
-use Rattle.xd_steps.specs.Output.{Output}
-use Rattle.xd_steps.proofs.Reporting.{Carry}
+use Rattle.xd_command_steps.specs.Merging.{IsMerged}
+use Rattle.xd_command_steps.specs.Output.{Output}
+use Rattle.xd_command_steps.proofs.NextLineLemmas.{Carry}
 use Rattle.xd_command.proofs.SmallFaults.{written_lines}
 use Rattle.xd_command.proofs.Verdicts.{all_carry, ends_at_lines}
 use Rattle.xd_command.proofs.command.run.accepted.Goals as goal

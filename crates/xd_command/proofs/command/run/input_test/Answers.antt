@@ -1,8 +1,8 @@
 use Rattle.std.proofs.Common.{sym, ap, subst, ◌∙◌}
-use Rattle.xd_syntax.specs.Sound.{main_parameter}
+use Rattle.xd_syntax.specs.SoundTables.{main_parameter}
 use Rattle.xd_syntax.specs.Kept.{ProgramTable, ProgramStands}
 use Rattle.xd_command.proofs.Inputs.{input_belongs}
-use Rattle.xd_command.proofs.Running.{no_test, some_test}
+use Rattle.xd_command.proofs.RunLemmas.{no_test, some_test}
 use Rattle.xd_command.proofs.command.run.input_test.Goals as goal
 
 pub acceptor-requires : goal.acceptor-requires

@@ -3,11 +3,11 @@ use Rattle.xd_base.specs.Outside.{HasRisen}
 use Rattle.xd_syntax.specs.Kept.{program_tree, ProgramTable}
 use Rattle.xd_command.specs.Answer.{Answers}
 use Rattle.xd_command.specs.Run.{AnswersRun}
-use Rattle.xd_steps.specs.Output.{Output}
+use Rattle.xd_command_steps.specs.Output.{Output}
 use Rattle.xd_command.specs.declared.command.Command.TheVariants.{Run}
-use Rattle.xd_command.proofs.Running.{run_later}
+use Rattle.xd_command.proofs.RunLemmas.{run_later}
 use Rattle.xd_command.proofs.Steps.{does-map, ends-returned}
-use Rattle.xd_steps.specs.Programs.{EndsAtProgram, IsProgram}
+use Rattle.xd_command_steps.specs.Programs.{EndsAtProgram, IsProgram}
 use Rattle.xd_command.proofs.command.run.run.Goals as goal
 
 pub returns : goal.returns

@@ -3,7 +3,7 @@ use Rattle.xd_base.specs.Outside.{HasRisen}
 use Rattle.xd_syntax.specs.Kept.{program_tree}
 use Rattle.xd_command.specs.Run.{AnswersMain, input_type}
 use Rattle.xd_command.specs.Running.{IsInputTest}
-use Rattle.xd_command.proofs.Running.{without_test}
+use Rattle.xd_command.proofs.RunLemmas.{without_test}
 use Rattle.xd_command.proofs.Steps.{no-memory}
 use Rattle.xd_command.proofs.command.run.run_accepted.Goals as goal
 

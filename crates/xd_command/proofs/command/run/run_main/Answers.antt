@@ -1,10 +1,10 @@
 use Rattle.xd_base.specs.Outside.{HasRisen}
 use Rattle.xd_doc.specs.Stored.{document_at}
 use Rattle.xd_doc.specs.declared.store.Seq.{Seq}
-use Rattle.xd_steps.specs.Documents.{EndsAtDocument, IsDocument}
+use Rattle.xd_command_steps.specs.Documents.{EndsAtDocument, IsDocument}
 use Rattle.xd_syntax.specs.Kept.{program_tree}
 use Rattle.xd_command.specs.Run.{AnswersMain, input_type}
-use Rattle.xd_command.proofs.Running.{ends_at, has_type, main_does}
+use Rattle.xd_command.proofs.RunLemmas.{ends_at, has_type, main_does}
 use Rattle.xd_command.proofs.Steps.{ends-returned}
 use Rattle.xd_command.proofs.command.run.run_main.Goals as goal
 

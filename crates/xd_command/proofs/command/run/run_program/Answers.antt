@@ -2,8 +2,8 @@ use Rattle.std.proofs.Common.{◌≡◌, Option, inl, inr, subst, sym}
 use Rattle.xd_auto.specs.Automaton.{Automaton}
 use Rattle.xd_auto.specs.declared.auto.State.{State}
 use Rattle.xd_base.specs.Outside.{HasRisen}
-use Rattle.xd_steps.specs.Output.{Output}
-use Rattle.xd_steps.specs.Step.{DoesAll}
+use Rattle.xd_command_steps.specs.Output.{Output}
+use Rattle.xd_command_steps.specs.DoneSteps.{DoesAll}
 use Rattle.xd_syntax.specs.CheckFaults.{IsAccepted}
 use Rattle.xd_syntax.specs.Kept.{ProgramTable, program_tree}
 use Rattle.xd_syntax.specs.Program.{ProgramTree}

@@ -3,7 +3,7 @@ use Rattle.xd_doc.specs.Stored.{document_at}
 use Rattle.xd_eval.specs.Evaluation.{IsEvaluated}
 use Rattle.xd_syntax.specs.Kept.{program_tree}
 use Rattle.xd_command.proofs.Inputs.{fits_is_input}
-use Rattle.xd_command.proofs.Running.{has_type, tests}
+use Rattle.xd_command.proofs.RunLemmas.{has_type, tests}
 use Rattle.xd_command.proofs.command.run.value_on.Goals as goal
 
 pub evaluate-requires-clause-input : goal.evaluate-requires-clause-input

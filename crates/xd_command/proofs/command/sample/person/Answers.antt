@@ -1,6 +1,6 @@
 use Rattle.std.proofs.Common.{subst, sym}
-use Rattle.xd_check.proofs.Keeping.{keeps_same, keeps_then}
-use Rattle.xd_doc.specs.Stored.{Keeps}
+use Rattle.xd_check.proofs.GrowsLemmas.{keeps_same, keeps_then}
+use Rattle.xd_doc.specs.StoreNodes.{Keeps}
 use Rattle.xd_command.proofs.command.sample.person.Goals.{then-number-ne0+in_ok-made, else-number-ne0}
 use Rattle.xd_command.proofs.command.sample.person.Goals as goal
 

@@ -1,8 +1,8 @@
 use Rattle.std.proofs.Common.{◌≡◌, subst}
 use Rattle.xd_syntax.specs.Kept.{ProgramTable, program_tree}
-use Rattle.xd_trees.specs.Means.{IsProgramText}
-use Rattle.xd_telephones.specs.Telephones.{telephone_text}
-use Rattle.xd_steps.specs.Programs.{EndsAtFaults, IsSoundText}
+use Rattle.xd_parse_trees.specs.Means.{IsProgramText}
+use Rattle.xd_command_sample.specs.Telephones.{telephone_text}
+use Rattle.xd_command_steps.specs.Programs.{EndsAtFaults, IsSoundText}
 use Rattle.xd_command.specs.Sample.{AnswersSample}
 use Rattle.xd_command.proofs.Steps.{ends-returned}
 use Rattle.xd_command.proofs.Telephones.{no_fault}

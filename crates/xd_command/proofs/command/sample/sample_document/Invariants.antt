@@ -1,7 +1,8 @@
 use Rattle.std.proofs.Common.{◌≡◌}
 use Rattle.xd_doc.specs.Document.{empty}
-use Rattle.xd_doc.specs.Stored.{BelongsTo, Keeps, document_at}
-use Rattle.xd_telephones.specs.Persons.{persons_to}
+use Rattle.xd_doc.specs.Stored.{BelongsTo, document_at}
+use Rattle.xd_doc.specs.StoreNodes.{Keeps}
+use Rattle.xd_command_sample.specs.Persons.{persons_to}
 use Rattle.xd_command.proofs.command.sample.sample_document.Given as goal
 
 abbrev pub invariant-loop-left : goal.invariant-loop-left

@@ -3,8 +3,8 @@ use Rattle.xd_doc.specs.Document.{canonical_text}
 use Rattle.xd_doc.specs.Stored.{document_at}
 use Rattle.xd_doc.specs.declared.store.Seq.{Seq}
 use Rattle.xd_syntax.specs.Kept.{program_tree}
-use Rattle.xd_telephones.specs.Persons.{sample_of, telephones_to}
-use Rattle.xd_steps.specs.Output.{summary}
+use Rattle.xd_command_sample.specs.Persons.{sample_of, telephones_to}
+use Rattle.xd_command_steps.specs.Output.{summary}
 use Rattle.xd_command.specs.Run.{EndsAtValue, IsValue}
 use Rattle.xd_command.specs.Sample.{AnswersSample}
 use Rattle.xd_command.proofs.Steps.{ends-returned}

@@ -1,8 +1,9 @@
 use Rattle.std.proofs.Common.{List, ℕ, Vec, Global, inl, inr, subst}
 use Rattle.xd_base.specs.Outside.{HasRisen}
-use Rattle.xd_steps.specs.Texts.{EndsAtText, IsText, document_limit}
-use Rattle.xd_stream.specs.Stop.{IsAccepted}
-use Rattle.xd_command.specs.Stream.{StreamsByState, TellsStop}
+use Rattle.xd_command_steps.specs.Texts.{EndsAtText, IsText, document_limit}
+use Rattle.xd_stream.specs.StopByState.{IsAccepted}
+use Rattle.xd_command.specs.StreamByState.{StreamsByState}
+use Rattle.xd_command.specs.Stream.{TellsStop}
 use Rattle.xd_command.proofs.Steps.{ends-returned}
 use Rattle.xd_command.proofs.command.stream.stream_file.Goals as goal
 

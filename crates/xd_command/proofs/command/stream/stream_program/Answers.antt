@@ -4,13 +4,15 @@ use Rattle.std.specs.Prelude.{is_some}
 use Rattle.xd_base.specs.Outside.{HasRisen}
 use Rattle.xd_syntax.specs.Kept.{program_tree}
 use Rattle.xd_syntax.specs.Program.{ProgramTree, names_of}
-use Rattle.xd_syntax.specs.Sound.{is_defined, type_named, IsTypeAt}
+use Rattle.xd_syntax.specs.Sound.{is_defined, type_named}
+use Rattle.xd_syntax.specs.SoundTables.{IsTypeAt}
 use Rattle.xd_syntax.specs.Tree.{Tree}
 use Rattle.xd_syntax.specs.Types.{tree}
 use Rattle.xd_syntax.specs.declared.types.TypeId.{TypeId}
-use Rattle.xd_steps.specs.Output.{Output}
-use Rattle.xd_command.specs.Fits.{IsAcceptor}
-use Rattle.xd_command.specs.Stream.{AnswersStream, StreamsByState}
+use Rattle.xd_command_steps.specs.Output.{Output}
+use Rattle.xd_command.specs.FitsByState.{IsAcceptor}
+use Rattle.xd_command.specs.Stream.{AnswersStream}
+use Rattle.xd_command.specs.StreamByState.{StreamsByState}
 use Rattle.xd_command.proofs.Steps.{does-map}
 use Rattle.xd_command.proofs.Streams.{stream_by_state}
 use Rattle.xd_command.proofs.command.stream.stream_program.Goals as goal

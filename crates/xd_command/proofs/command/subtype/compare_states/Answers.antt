@@ -5,9 +5,9 @@ use Rattle.xd_goals.specs.Rows.{row_at}
 use Rattle.xd_goals.specs.Standing.{StandsOn}
 use Rattle.xd_goals.specs.Verdicts.{IsVerdict}
 use Rattle.xd_heads.specs.Mirrors.{continuation_of}
-use Rattle.xd_parse.proofs.Adding.{if_ok_both}
-use Rattle.xd_proof_text.specs.ProofText.{ProvesRow}
-use Rattle.xd_steps.specs.Output.{Output}
+use Rattle.xd_parse.proofs.ReadsLemmas.{if_ok_both}
+use Rattle.xd_proof_make.specs.ProofText.{ProvesRow}
+use Rattle.xd_command_steps.specs.Output.{Output}
 use Rattle.xd_syntax.specs.Kept.{program_tree}
 use Rattle.xd_auto.specs.Automaton.{accepts}
 use Rattle.xd_syntax.specs.Program.{names_of}

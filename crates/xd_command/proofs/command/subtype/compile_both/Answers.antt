@@ -2,8 +2,8 @@ use Rattle.std.proofs.Common.{refl, sym, subst, ap, ◌∙◌}
 use Rattle.xd_syntax.specs.Types.{tree}
 use Rattle.xd_syntax.specs.Program.{names_of}
 use Rattle.xd_sound.proofs.AdoptLaws.{type_kept}
-use Rattle.xd_command.specs.Fits.{IsAcceptor}
-use Rattle.xd_command.specs.Subtype.{IsStateOf}
+use Rattle.xd_command.specs.FitsByState.{IsAcceptor}
+use Rattle.xd_command.specs.SubtypeByState.{IsStateOf}
 use Rattle.xd_command.proofs.command.subtype.compile_both.Goals as goal
 
 pub returns-clause-left : goal.returns-clause-left

@@ -3,13 +3,15 @@ use Rattle.std.specs.Prelude.{is_some, ℕ, None}
 use Rattle.std.specs.Option.{IfSome}
 use Rattle.xd_syntax.specs.Kept.{program_tree}
 use Rattle.xd_syntax.specs.Program.{ProgramTree}
-use Rattle.xd_syntax.specs.Sound.{is_defined, type_named, IsTypeAt}
+use Rattle.xd_syntax.specs.Sound.{is_defined, type_named}
+use Rattle.xd_syntax.specs.SoundTables.{IsTypeAt}
 use Rattle.xd_syntax.specs.declared.fault.Fault.{Fault}
 use Rattle.xd_syntax.specs.declared.types.TypeId.{TypeId}
 use Rattle.xd_syntax.specs.declared.fault.FaultKind.TheVariants.{NoSuchName}
 use Rattle.xd_sound.proofs.AdoptLaws.{type_kept}
-use Rattle.xd_steps.specs.Output.{Output, fault_lines}
-use Rattle.xd_command.specs.Subtype.{undefined, AreNamed, EndsAtNames}
+use Rattle.xd_command_steps.specs.Output.{Output, fault_lines}
+use Rattle.xd_command.specs.Subtype.{undefined, EndsAtNames}
+use Rattle.xd_command.specs.SubtypeByState.{AreNamed}
 use Rattle.xd_command.proofs.Steps.{no-memory}
 use Rattle.xd_command.proofs.command.subtype.named_types.Goals as goal
 

@@ -2,8 +2,8 @@ use Rattle.std.proofs.Common.{subst, sym}
 use Rattle.xd_syntax.specs.CheckFaults.{faults_among}
 use Rattle.xd_syntax.specs.Kept.{program_tree}
 use Rattle.xd_check.specs.Outcome.{IsOutcome}
-use Rattle.xd_steps.proofs.Reporting.{Carry}
-use Rattle.xd_command.specs.Check.{AreRefused}
+use Rattle.xd_command_steps.proofs.NextLineLemmas.{Carry}
+use Rattle.xd_command.specs.CheckRefused.{AreRefused}
 use Rattle.xd_command.proofs.Verdicts.{all_carry}
 use Rattle.xd_command.proofs.command.types.accepted.Goals as goal
 

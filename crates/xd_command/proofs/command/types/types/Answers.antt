@@ -1,9 +1,9 @@
 use Rattle.std.proofs.Common.{inl, inr}
 use Rattle.xd_base.specs.Outside.{HasRisen}
 use Rattle.xd_syntax.specs.Kept.{ProgramTable, program_tree}
-use Rattle.xd_steps.specs.Output.{Output}
-use Rattle.xd_steps.specs.Programs.{EndsAtProgram, IsProgram}
-use Rattle.xd_steps.specs.Step.{Step}
+use Rattle.xd_command_steps.specs.Output.{Output}
+use Rattle.xd_command_steps.specs.Programs.{EndsAtProgram, IsProgram}
+use Rattle.xd_command_steps.specs.Step.{Step}
 use Rattle.xd_variables.specs.Bound.{reading_of}
 use Rattle.xd_command.specs.Types.{AnswersTypes}
 use Rattle.xd_command.proofs.Steps.{does-map, ends-returned}

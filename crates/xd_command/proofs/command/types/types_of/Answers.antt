@@ -1,6 +1,6 @@
 use Rattle.std.proofs.Common.{◌≡◌, ap, inl, inr, subst, sym}
-use Rattle.xd_blocks.specs.Blocks.{AreBlocks}
-use Rattle.xd_steps.specs.Output.{Output}
+use Rattle.xd_show_blocks.specs.Blocks.{AreBlocks}
+use Rattle.xd_command_steps.specs.Output.{Output}
 use Rattle.xd_syntax.specs.CheckFaults.{IsAccepted}
 use Rattle.xd_syntax.specs.Kept.{ProgramTable, program_tree}
 use Rattle.xd_variables.specs.Bound.{reading_of}

@@ -5,7 +5,7 @@ use Rattle.xd_proof.specs.Goals.{AreGoalsAt}
 use Rattle.xd_proof.proofs.GoalLemmas.{goals_belong}
 use Rattle.xd_proof_check.specs.Reasons.{IsVerdict}
 use Rattle.xd_proof_check.proofs.AcceptLemmas.{goals_stay}
-use Rattle.xd_command.proofs.Judging.{judges_accepted}
+use Rattle.xd_command.proofs.VerifyLemmas.{judges_accepted}
 use Rattle.xd_command.proofs.command.verify.judge.Goals as goal
 
 pub claim-requires : goal.claim-requires

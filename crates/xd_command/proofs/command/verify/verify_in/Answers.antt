@@ -2,8 +2,8 @@ use Rattle.std.proofs.Common.{inl, inr, subst}
 use Rattle.xd_base.specs.Outside.{HasRisen}
 use Rattle.xd_syntax.specs.Kept.{program_tree}
 use Rattle.xd_proof.proofs.GoalLemmas.{goals_belong}
-use Rattle.xd_steps.specs.Proofs.{EndsAtProof}
-use Rattle.xd_steps.specs.Reading.{IsReadFrom}
+use Rattle.xd_command_steps.specs.Proofs.{EndsAtProof}
+use Rattle.xd_command_steps.specs.Reading.{IsReadFrom}
 use Rattle.xd_command.specs.Verify.{AnswersVerify, Judges}
 use Rattle.xd_command.proofs.Steps.{ends-returned}
 use Rattle.xd_command.proofs.command.verify.verify_in.Goals as goal

@@ -2,7 +2,7 @@ use Rattle.std.proofs.Common.{subst}
 use Rattle.std.specs.Ordering.{nat_cmp}
 use Rattle.std.specs.Cmp.Lexicographic.{slice_cmp}
 use Rattle.xd_doc.specs.Word.{is_word}
-use Rattle.xd_doc.specs.Classes.{HasName}
+use Rattle.xd_doc.specs.ClassForms.{HasName}
 use Rattle.xd_doc.proofs.ClassLemmas.{has_name, exes_word}
 use Rattle.xd_doc.proofs.class.Class.has_some.Goals as goal
 

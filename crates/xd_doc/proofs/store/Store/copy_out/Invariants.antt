@@ -1,6 +1,7 @@
 use Rattle.std.proofs.Common.{◌+◌, ◌≤◌, length, vec_len}
 use Rattle.xd_doc.specs.Document.{size}
-use Rattle.xd_doc.specs.Stored.{AreClosed, IsMet, Keeps, document_at}
+use Rattle.xd_doc.specs.StoreNodes.{AreClosed, IsMet, Keeps}
+use Rattle.xd_doc.specs.Stored.{document_at}
 use Rattle.xd_doc.proofs.CopyLemmas.{AreCopied, has_copy}
 use Rattle.xd_doc.proofs.store.Store.copy_out.Given as goal
 

@@ -1,7 +1,7 @@
 use Rattle.std.proofs.Common.{[], ◌∙◌}
 use Rattle.std.proofs.Math.Seq.{get_or-append_seam}
 use Rattle.xd_doc.specs.Document.{empty}
-use Rattle.xd_doc.specs.Stored.{node_document}
+use Rattle.xd_doc.specs.StoreNodes.{node_document}
 use Rattle.xd_doc.proofs.StoredLemmas.{length-nodes, documents-push, AreLinked-push, Keeps-append, BelongsTo-new}
 use Rattle.xd_doc.proofs.store.Store.push_node.Goals as goal
 

@@ -2,7 +2,7 @@ use Rattle.std.proofs.Common.{subst}
 use Rattle.std.specs.Ordering.{nat_cmp}
 use Rattle.std.specs.Cmp.Lexicographic.{slice_cmp}
 use Rattle.std.specs.Str.{is_utf8}
-use Rattle.xd_doc.specs.Classes.{HasName}
+use Rattle.xd_doc.specs.ClassForms.{HasName}
 use Rattle.xd_doc.proofs.ClassLemmas.{has_name, exes_text}
 use Rattle.xd_doc.proofs.words.Words.has_some.Goals as goal
 

@@ -1,5 +1,5 @@
 use Rattle.std.proofs.Common.{◌≡◌, ◌∙◌, ap, length, refl, rules, subst, sym, take, vec_len}
-use Rattle.xd_auto.proofs.Extending.{Extends-same}
+use Rattle.xd_auto.proofs.ExtendsLemmas.{Extends-same}
 use Rattle.xd_empty.specs.Known.{Knows}
 use Rattle.xd_empty.proofs.KnownLemmas.{stays_known}
 use Rattle.xd_empty.proofs.known.Inhabitants.learn.Goals as goal

@@ -8,7 +8,7 @@ use Rattle.std.proofs.lemmas.List.{drop_all}
 use Rattle.std.proofs.lemmas.Map.Text.{is_eq-slice_cmp}
 use Rattle.xd_syntax.specs.FunctionRow.{FunctionRow}
 use Rattle.xd_eval.specs.Functions.{numbered, row_of}
-use Rattle.xd_eval.proofs.Naming.{first_front}
+use Rattle.xd_eval.proofs.FunctionRowLemmas.{first_front}
 use Rattle.xd_eval.proofs.functions.FunctionNames.new.Goals as goal
 
 pub loop-number-init : goal.loop-number-init

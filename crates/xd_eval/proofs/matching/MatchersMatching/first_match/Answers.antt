@@ -1,11 +1,11 @@
 use Rattle.std.proofs.Common.{IfOk, sym, subst}
 use Rattle.xd_doc.specs.Stored.{document_at}
 use Rattle.xd_syntax.specs.Tree.{Tree}
-use Rattle.xd_laws.specs.Bindings.{first_bindings}
+use Rattle.xd_meaning.specs.Bindings.{first_bindings}
 use Rattle.xd_syntax.specs.Kept.{program_tree}
 use Rattle.xd_syntax.specs.Program.{names_of}
 use Rattle.xd_syntax.proofs.PlacedTrees.{unplaced_at}
-use Rattle.xd_runs.specs.Linear.{IsLinear}
+use Rattle.xd_pattern_runs.specs.Linear.{IsLinear}
 use Rattle.xd_match.specs.Matches.{AreBindings}
 use Rattle.xd_eval.proofs.matching.MatchersMatching.first_match.Goals as goal
 

@@ -3,7 +3,7 @@ use Rattle.std.specs.List.{AllByRecursion}
 use Rattle.xd_goals.specs.Rows.{GoalRow, TableView, HasRoot, row_at}
 use Rattle.xd_goals.specs.Kept.{view_of}
 use Rattle.xd_goals.specs.declared.table.Choice.{Choice}
-use Rattle.xd_goals.proofs.Linking.{row_read}
+use Rattle.xd_goals.proofs.AreLinkedLemmas.{row_read}
 use Rattle.xd_goals.proofs.Itself.{roots_kept}
 use Rattle.xd_goals.proofs.table.Table.choices.Goals as goal
 

@@ -3,7 +3,7 @@ use Rattle.xd_goals.specs.Rows.{GoalRow, TableView, no_view}
 use Rattle.xd_goals.specs.Facts.{KeepsLists}
 use Rattle.xd_goals.specs.declared.table.ChoiceNode.{ChoiceNode}
 use Rattle.xd_goals.specs.declared.table.Link.{Link}
-use Rattle.xd_goals.proofs.Growing.{consistent_rows, consistent_links}
+use Rattle.xd_goals.proofs.GrowsByLemmas.{consistent_rows, consistent_links}
 use Rattle.xd_goals.proofs.Itself.{lists_none, nodes_none}
 use Rattle.xd_goals.proofs.table.Table.new.Goals as goal
 

@@ -1,6 +1,6 @@
 use Rattle.std.proofs.Common.{get_or}
 use Rattle.xd_syntax.specs.Table.{tree_at}
-use Rattle.xd_heads.proofs.Numbering.{number_kept}
+use Rattle.xd_heads.proofs.HeadListerLemmas.{number_kept}
 use Rattle.xd_heads.proofs.lister.HeadLister.find.Goals as goal
 
 pub returns-clause-serves : goal.returns-clause-serves

@@ -1,6 +1,6 @@
 use Rattle.std.proofs.Common.{◌≡◌, ap}
 use Rattle.xd_syntax.specs.declared.types.TypeId.{TypeId}
-use Rattle.xd_heads.proofs.Numbering.{head_made}
+use Rattle.xd_heads.proofs.HeadListerLemmas.{head_made}
 use Rattle.xd_heads.proofs.lister.HeadLister.head_of.Goals as goal
 use Rattle.xd_heads.proofs.lister.HeadLister.head_of.Goals.{in-Some, in-None}
 

@@ -1,7 +1,7 @@
 use Rattle.std.proofs.Common.{List, map, subst, ap, ◌∙◌}
 use Rattle.std.specs.List.{AllZip}
 use Rattle.xd_syntax.specs.Table.{Row}
-use Rattle.xd_laws.specs.Heads as laws
+use Rattle.xd_meaning.specs.Heads as laws
 use Rattle.xd_continuations.specs.Continuation.{head_of}
 use Rattle.xd_moves.specs.Found.{move_at}
 use Rattle.xd_heads.specs.Numbered.{IsHeadIn}

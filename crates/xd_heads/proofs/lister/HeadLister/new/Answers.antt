@@ -1,4 +1,4 @@
-use Rattle.xd_heads.proofs.Growing.{grows_along}
+use Rattle.xd_heads.proofs.GrowsTypesLemmas.{grows_along}
 use Rattle.xd_heads.proofs.lister.HeadLister.new.Goals as goal
 
 pub returns-in_err-names-clause-adds : goal.returns-in_err-names-clause-adds

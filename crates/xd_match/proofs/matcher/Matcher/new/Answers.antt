@@ -7,11 +7,11 @@ use Rattle.xd_syntax.specs.Kept.{ProgramTable, program_tree}
 use Rattle.xd_syntax.specs.Patterns.{pattern_tree}
 use Rattle.xd_syntax.specs.Program.{names_of}
 use Rattle.xd_syntax.specs.Tree.{occurrences}
-use Rattle.xd_laws.specs.Bindings.{variables_of}
+use Rattle.xd_meaning.specs.Bindings.{variables_of}
 use Rattle.xd_syntax.specs.Table.{Row}
 use Rattle.xd_syntax.specs.declared.types.TypeDef.{TypeDef}
-use Rattle.xd_runs.specs.Linear.{BindNothing}
-use Rattle.xd_runs.proofs.NamesBindNothing.{names_bind_nothing}
+use Rattle.xd_pattern_runs.specs.Linear.{BindNothing}
+use Rattle.xd_pattern_runs.proofs.NamesBindNothing.{names_bind_nothing}
 use Rattle.xd_patterns.specs.Held.{marking_of}
 use Rattle.xd_patterns.specs.Tasks.{meanings}
 use Rattle.xd_match.proofs.Variables.{once_distinct}

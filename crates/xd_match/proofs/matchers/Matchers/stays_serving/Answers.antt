@@ -1,4 +1,4 @@
-use Rattle.xd_match.proofs.Staying.{serves_stays}
+use Rattle.xd_match.proofs.MatchersStay.{serves_stays}
 use Rattle.xd_match.proofs.matchers.Matchers.stays_serving.Goals as goal
 
 pub returns : goal.returns

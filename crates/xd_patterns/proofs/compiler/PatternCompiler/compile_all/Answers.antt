@@ -1,6 +1,6 @@
 use Rattle.std.proofs.Common.{◌≡◌, false, ap, sym, subst, ◌∙◌}
 use Rattle.std.specs.List.{AllByRecursion}
-use Rattle.xd_laws.specs.KeptLines.{AllPaired}
+use Rattle.xd_meaning.specs.KeptFaults.{AllPaired}
 use Rattle.xd_syntax.specs.Kept.{ProgramTable, program_tree}
 use Rattle.xd_syntax.specs.ProperTables.{IsTable}
 use Rattle.xd_syntax.specs.RecursionFaults.{IsSound}
@@ -8,13 +8,13 @@ use Rattle.xd_syntax.specs.Proper.{IsProperProgram}
 use Rattle.xd_syntax.specs.Types.{BelongsTo}
 use Rattle.xd_laws.specs.Guarded.{Guarded}
 use Rattle.xd_laws.proofs.SoundGuarded.{guarded}
-use Rattle.xd_runs.specs.Linear.{BindNothing}
-use Rattle.xd_runs.proofs.NamesBindNothing.{names_bind_nothing}
+use Rattle.xd_pattern_runs.specs.Linear.{BindNothing}
+use Rattle.xd_pattern_runs.proofs.NamesBindNothing.{names_bind_nothing}
 use Rattle.xd_patterns.specs.Bodies.{node_of}
 use Rattle.xd_patterns.specs.CompiledProgram.{IsLinearPattern, IsPatternState, IsTypeState, marking_of_program, pattern_states, type_states, variables_of_patterns}
 use Rattle.xd_patterns.specs.Tasks.{AreBodies, meanings}
 use Rattle.xd_patterns.specs.Compiler.{Serves}
-use Rattle.xd_patterns.proofs.Serving.{along, back_along, serves_bodies}
+use Rattle.xd_patterns.proofs.ServesLemmas.{along, back_along, serves_bodies}
 use Rattle.xd_patterns.proofs.Together.{types_accept}
 use Rattle.xd_patterns.proofs.compiler.PatternCompiler.compile_all.Goals as goal
 

@@ -1,7 +1,7 @@
 use Rattle.std.proofs.Common.{◌≡◌, ℕ, List, ap, subst, ◌∙◌}
 use Rattle.xd_syntax.specs.declared.types.TypeDef.{TypeDef}
 use Rattle.xd_patterns.specs.Bodies.{IsNodeOf, node_of}
-use Rattle.xd_patterns.proofs.Serving.{serves_new}
+use Rattle.xd_patterns.proofs.ServesLemmas.{serves_new}
 use Rattle.xd_patterns.proofs.compiler.PatternCompiler.new.Goals as goal
 
 pub returns-clause-serves : goal.returns-clause-serves

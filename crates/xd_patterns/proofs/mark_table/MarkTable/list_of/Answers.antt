@@ -1,7 +1,7 @@
 use Rattle.std.proofs.Common.{◌≡◌, ℕ, [], map, get_or, length, arith, refl, ap, sym, ◌∙◌}
 use Rattle.xd_auto.specs.declared.auto.State.{State}
-use Rattle.xd_traces.specs.declared.kind.MoveKind.{MoveKind}
-use Rattle.xd_traces.specs.declared.kind.MoveKind.TheVariants as M
+use Rattle.xd_auto_pairs.specs.declared.kind.MoveKind.{MoveKind}
+use Rattle.xd_auto_pairs.specs.declared.kind.MoveKind.TheVariants as M
 use Rattle.xd_patterns.specs.Held.{list_words, lists_at, marking_in, marks_at, words_in}
 use Rattle.xd_patterns.specs.Variables.{words_of}
 use Rattle.xd_patterns.specs.declared.mark_table.MarkTable.{MarkTable}

@@ -2,7 +2,7 @@ use Rattle.std.proofs.Common.{◌≡◌, rules, arith}
 use Rattle.std.proofs.lemmas.Grind.{common_steps}
 use Rattle.xd_syntax.specs.Tree.{environment}
 use Rattle.xd_plain.specs.PlainTrees.{definitions_of}
-use Rattle.xd_plain.proofs.PlainMeaning.{any_first}
+use Rattle.xd_plain.proofs.PlainMeaningLemmas.{any_first}
 use Rattle.xd_plain.proofs.program.PlainProgram.new.Goals as goal
 
 pub returns-clause-any_first : goal.returns-clause-any_first

@@ -1,5 +1,5 @@
 use Rattle.std.proofs.Common.{arith}
-use Rattle.xd_auto.proofs.Extending.{keeps}
+use Rattle.xd_auto.proofs.ExtendsLemmas.{keeps}
 use Rattle.xd_points.proofs.PlaceLemmas.{extends_longer}
 use Rattle.xd_points.proofs.patterns.PatternStates.shared.Goals as goal
 

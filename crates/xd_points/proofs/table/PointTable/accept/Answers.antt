@@ -4,7 +4,7 @@ use Rattle.xd_auto.specs.Automaton.{IsState}
 use Rattle.xd_points.specs.declared.placing.Place.{Place}
 use Rattle.xd_points.specs.Placing.{accepts_at, place_at, state_of}
 use Rattle.xd_points.specs.Points.{state_at}
-use Rattle.xd_points.proofs.Expanding.{expanded_grown}
+use Rattle.xd_points.proofs.HasMovesLemmas.{expanded_grown}
 use Rattle.xd_points.proofs.TableLemmas.{documents_stay, expanded_after, first_mean, made_extends, mean_after, rights_belong, start_means, within}
 use Rattle.xd_points.proofs.table.PointTable.accept.Goals as goal
 

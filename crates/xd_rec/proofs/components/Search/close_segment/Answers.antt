@@ -2,7 +2,7 @@ use Rattle.std.proofs.Common.{◌≡◌, ◌+◌, ◌-◌, ◌<◌, arith, rules
 use Rattle.std.proofs.lemmas.List.{length-take-le, get_or_read}
 use Rattle.xd_rec.specs.Components.{IsDoneFrom, no_segment, node_at}
 use Rattle.xd_rec.specs.declared.components.Segment.{Segment}
-use Rattle.xd_rec.proofs.Closing.{closed_last, closed_seen_last}
+use Rattle.xd_rec.proofs.ComponentLemmas.{closed_last, closed_seen_last}
 use Rattle.xd_rec.proofs.components.Search.close_segment.Goals as goal
 
 pub finish-requires-clause-on_path : goal.finish-requires-clause-on_path

@@ -1,5 +1,5 @@
 use Rattle.std.proofs.Common.{◌+◌, ap, ◌∙◌}
-use Rattle.xd_rec.proofs.Finishing.{unseen_more, all_unseen}
+use Rattle.xd_rec.proofs.DoneLemmas.{unseen_more, all_unseen}
 use Rattle.xd_rec.proofs.components.Search.new.Goals as goal
 
 pub loop-preserved : goal.loop-preserved

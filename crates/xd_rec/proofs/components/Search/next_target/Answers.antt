@@ -1,6 +1,6 @@
 use Rattle.std.proofs.Common.{◌≡◌, arith, rules, length, vec_len, ap, sym, ◌∙◌}
 use Rattle.xd_rec.specs.declared.components.Segment.{Segment}
-use Rattle.xd_rec.proofs.Stepping.{next_target}
+use Rattle.xd_rec.proofs.SearchStepLemmas.{next_target}
 use Rattle.xd_rec.proofs.components.Search.next_target.Goals as goal
 
 pub returns : goal.returns

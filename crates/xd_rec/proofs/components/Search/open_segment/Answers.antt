@@ -2,7 +2,7 @@ use Rattle.std.proofs.Common.{◌≡◌, ◌<◌, arith, rules, ◌++◌, length
 use Rattle.std.proofs.lemmas.List.{length_push, length-append}
 use Rattle.xd_rec.specs.Components.{StaySeen, standing_of}
 use Rattle.xd_rec.specs.declared.components.Standing.TheVariants.{Unseen, Open}
-use Rattle.xd_rec.proofs.Opening.{opened, opened_seen, opened_here, unseen_less}
+use Rattle.xd_rec.proofs.OpenLemmas.{opened, opened_seen, opened_here, unseen_less}
 use Rattle.xd_rec.proofs.components.Search.open_segment.Goals as goal
 
 pub returns-clause-searched : goal.returns-clause-searched

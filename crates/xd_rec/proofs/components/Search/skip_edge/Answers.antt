@@ -1,7 +1,7 @@
 use Rattle.std.proofs.Common.{◌≡◌, ◌+◌, ◌-◌, arith, rules, length, take, vec_len, ap, sym, subst, ◌∙◌}
 use Rattle.std.proofs.lemmas.List.{length-take-le}
 use Rattle.xd_rec.specs.Components.{IsSearched}
-use Rattle.xd_rec.proofs.Searching.{skipped_last}
+use Rattle.xd_rec.proofs.IsSearchedLemmas.{skipped_last}
 use Rattle.xd_rec.proofs.components.Search.skip_edge.Goals as goal
 
 pub returns-clause-searched : goal.returns-clause-searched

@@ -1,7 +1,7 @@
 use Rattle.std.proofs.Common.{sym, subst}
 use Rattle.xd_syntax.specs.Program.{ProgramTree}
 use Rattle.xd_shown.specs.Bodies.{ShowsMeanings}
-use Rattle.xd_shown.proofs.Showing.{first_is, shows_meanings}
+use Rattle.xd_shown.proofs.AreMeantLemmas.{first_is, shows_meanings}
 use Rattle.xd_shown.proofs.definitions.Shown.new.Goals as goal
 
 pub returns-clause-shown : goal.returns-clause-shown

@@ -7,7 +7,7 @@ use Rattle.xd_same_types.specs.Grown.{NamesAmong}
 use Rattle.xd_shown.specs.Bodies.{AreBodies, defining}
 use Rattle.xd_shown.specs.FreeNames.{AreNewNames}
 use Rattle.xd_shown.specs.Shown.{AreNamedFrom, IsShown, none_type}
-use Rattle.xd_shown.proofs.Showing.{none_bodies, one_word, own_known, shows_nothing}
+use Rattle.xd_shown.proofs.AreMeantLemmas.{none_bodies, one_word, own_known, shows_nothing}
 use Rattle.xd_shown.proofs.definitions.Shown.nothing.Goals as goal
 
 pub sound_program-requires-clause-bodies : goal.sound_program-requires-clause-bodies

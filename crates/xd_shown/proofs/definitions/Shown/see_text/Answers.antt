@@ -1,7 +1,7 @@
 use Rattle.std.proofs.Common.{false, ap, subst, ◌∙◌}
 use Rattle.xd_syntax.specs.Kept.{ProgramTable, ProgramStands}
 use Rattle.xd_syntax.specs.ProperTables.{IsTable}
-use Rattle.xd_shown.proofs.Reading.{reads_back}
+use Rattle.xd_shown.proofs.IsTableLemmas.{reads_back}
 use Rattle.xd_shown.proofs.definitions.Shown.see_text.Goals as goal
 
 pub returns : goal.returns

@@ -2,7 +2,8 @@ use Rattle.std.proofs.Common.{◌≤◌, subst}
 use Rattle.xd_syntax.specs.Table.{form_tree, tree_at}
 use Rattle.xd_syntax.specs.Types.{form_of}
 use Rattle.xd_syntax.specs.Kept.{ProgramTable}
-use Rattle.xd_syntax.specs.Shallow.{IsShallow, nesting_limit}
+use Rattle.xd_syntax.specs.ShallowTables.{IsShallow}
+use Rattle.xd_syntax.specs.Shallow.{nesting_limit}
 use Rattle.xd_syntax.specs.TypeText.{depth}
 use Rattle.xd_sound.proofs.KnownLaws.{maybe_kept}
 use Rattle.xd_syntax.proofs.ShallowTables.{shallow_one}

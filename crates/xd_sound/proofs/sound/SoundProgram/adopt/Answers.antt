@@ -2,7 +2,8 @@ use Rattle.std.proofs.Common.{◌<◌, ℕ, Bool, List, length, ◌∙◌, ap, s
 use Rattle.std.specs.List.{list_all}
 use Rattle.xd_syntax.specs.NameFaults.{known_types}
 use Rattle.xd_syntax.specs.Kept.{ProgramTable, program_tree}
-use Rattle.xd_syntax.specs.Shallow.{IsShallow, nesting_limit}
+use Rattle.xd_syntax.specs.ShallowTables.{IsShallow}
+use Rattle.xd_syntax.specs.Shallow.{nesting_limit}
 use Rattle.xd_sound.specs.Adopt.{form_known}
 use Rattle.xd_syntax.specs.Nodes.{form_at}
 use Rattle.xd_syntax.proofs.ShallowTables.{shallow_grown, weaker_within}

@@ -1,6 +1,6 @@
 use Rattle.std.proofs.Common.{◌≡◌, ◌<◌, ◌∙◌, refl, ap, sym, subst, arith, length, get_or}
 use Rattle.std.proofs.lemmas.List.{length_push}
-use Rattle.xd_syntax.specs.Sound.{IsTypeAt}
+use Rattle.xd_syntax.specs.SoundTables.{IsTypeAt}
 use Rattle.xd_syntax.specs.Types.{form_of}
 use Rattle.xd_syntax.specs.declared.types.TypeId.{TypeId}
 use Rattle.xd_sound.proofs.AdoptLaws.{AreCopied, AddsTypes-trans, rising_front, copy_inside, is_ready, within_more, copy_goes_on, copy_ends}

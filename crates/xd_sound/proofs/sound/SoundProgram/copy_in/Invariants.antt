@@ -1,6 +1,6 @@
 use Rattle.std.proofs.Common.{◌≡◌, ◌+◌, ◌≤◌, length}
 use Rattle.xd_syntax.specs.Kept.{program_tree, AddsTypes}
-use Rattle.xd_syntax.specs.Shallow.{AddsWithin}
+use Rattle.xd_syntax.specs.ShallowTables.{AddsWithin}
 use Rattle.xd_syntax.specs.TypeText.{depth}
 use Rattle.xd_syntax.specs.Types.{tree}
 use Rattle.xd_sound.proofs.AdoptLaws.{AreCopied}

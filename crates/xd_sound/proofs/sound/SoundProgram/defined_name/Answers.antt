@@ -1,5 +1,6 @@
 use Rattle.std.proofs.Common.{◌≡◌, true, false, sym, ap, subst, ◌∙◌}
-use Rattle.xd_syntax.specs.Words.{has_word, is_type_name}
+use Rattle.xd_syntax.specs.Words.{has_word}
+use Rattle.xd_syntax.specs.Keywords.{is_type_name}
 use Rattle.xd_syntax.specs.Kept.{ProgramTable, program_tree}
 use Rattle.xd_syntax.specs.NameFaults.{known_types}
 use Rattle.xd_sound.proofs.NamedLaws.{known_is_word, known_is_name}

@@ -1,6 +1,6 @@
 use Rattle.std.proofs.Common.{arith, sym, subst}
 use Rattle.xd_syntax.specs.Kept.{ProgramTable}
-use Rattle.xd_syntax.specs.Shallow.{IsShallow}
+use Rattle.xd_syntax.specs.ShallowTables.{IsShallow}
 use Rattle.xd_syntax.proofs.ShallowTables.{shallow_one}
 use Rattle.xd_sound.proofs.sound.SoundProgram.find_type.Goals as goal
 

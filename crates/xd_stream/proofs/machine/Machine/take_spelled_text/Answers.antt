@@ -1,6 +1,7 @@
 use Rattle.std.proofs.Common.{List, ℕ, sym, subst, ap, ◌∙◌, IsUtf8}
 use Rattle.xd_lex.specs.declared.Kind.TheVariants as kinds
-use Rattle.xd_lex.specs.Spelled.{IsSpelling, unescaped}
+use Rattle.xd_lex.specs.Spellings.{IsSpelling}
+use Rattle.xd_lex.specs.Spelled.{unescaped}
 use Rattle.xd_read.specs.Grammar.{Text}
 use Rattle.xd_stream.specs.Pending.{RefusesByte}
 use Rattle.xd_stream.specs.Validating.{Passes, Refuses}

@@ -4,7 +4,7 @@ use Rattle.xd_read.specs.Reading.{terminals_of}
 use Rattle.xd_stream.specs.Fed.{AreWhole}
 use Rattle.xd_stream.specs.Expecting.{IsExpected}
 use Rattle.xd_stream.specs.Streams.{Held, StandsFor, automaton_of, start_of}
-use Rattle.xd_stream.proofs.Streaming.{stands_open}
+use Rattle.xd_stream.proofs.StandsForLemmas.{stands_open}
 use Rattle.xd_stream.proofs.stream.Stream.expected.Goals as goal
 
 pub returns-clause-ok : goal.returns-clause-ok

@@ -1,7 +1,7 @@
 use Rattle.std.proofs.Common.{List, ℕ, ◌++◌, ap, sym, subst, ◌∙◌}
 use Rattle.xd_stream.specs.Fed.{GoesSettled}
 use Rattle.xd_stream.specs.Streams.{Held, StandsFor, automaton_of, start_of}
-use Rattle.xd_stream.proofs.Streaming.{goes_settled, holds_open, holds_refused, stands_open, still_refused}
+use Rattle.xd_stream.proofs.StandsForLemmas.{goes_settled, holds_open, holds_refused, stands_open, still_refused}
 use Rattle.xd_stream.proofs.stream.Stream.feed.Goals as goal
 
 pub returns-in-Some-clause-err : goal.returns-in-Some-clause-err

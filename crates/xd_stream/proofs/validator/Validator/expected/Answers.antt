@@ -1,5 +1,5 @@
 use Rattle.std.proofs.Common.{◌≡◌, ◌↔◌, Bool, true, sym, subst}
-use Rattle.xd_stream.proofs.Continuing.{close_told, comma_told, end_told, label_told, paren_l_told, paren_r_told, text_told}
+use Rattle.xd_stream.proofs.GoesOnWithLemmas.{close_told, comma_told, end_told, label_told, paren_l_told, paren_r_told, text_told}
 use Rattle.xd_stream.proofs.validator.Validator.expected.Goals as goal
 
 -- the same of an equal test

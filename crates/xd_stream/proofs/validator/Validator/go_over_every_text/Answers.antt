@@ -1,6 +1,6 @@
 use Rattle.std.proofs.Common.{refl, ◌∙◌}
-use Rattle.xd_stream.proofs.Going.{goes_text, fresh}
-use Rattle.xd_stream.proofs.Stepping.{every_alike}
+use Rattle.xd_stream.proofs.StandsAfterLemmas.{goes_text, fresh}
+use Rattle.xd_stream.proofs.WaitingPairLemmas.{every_alike}
 use Rattle.xd_stream.proofs.validator.Validator.go_over_every_text.Goals as goal
 
 pub returns-clause-goes : goal.returns-clause-goes

@@ -3,7 +3,7 @@ use Rattle.std.specs.List.{list_any}
 use Rattle.std.proofs.lemmas.List.{get_or_read}
 use Rattle.xd_auto.specs.Automaton.{state_number}
 use Rattle.xd_stream.specs.declared.pairs.Pair.{Pair}
-use Rattle.xd_stream.proofs.Going.{stands_first}
+use Rattle.xd_stream.proofs.StandsAfterLemmas.{stands_first}
 use Rattle.xd_stream.proofs.validator.Validator.new.Goals as goal
 use Rattle.xd_stream.proofs.validator.Validator.new.Goals.{then-index+in_ok-push, else-index}
 

@@ -1,6 +1,6 @@
 use Rattle.std.proofs.Common.{[], sym}
 use Rattle.std.proofs.lemmas.Str.{IsUtf8-nil, is_utf8-from_IsUtf8}
-use Rattle.xd_stream.proofs.Going.{refuses_none, test_passes_all, test_refuses_all}
+use Rattle.xd_stream.proofs.StandsAfterLemmas.{refuses_none, test_passes_all, test_refuses_all}
 use Rattle.xd_stream.proofs.Grammar.{text_none}
 use Rattle.xd_read.specs.Grammar.{Text}
 use Rattle.xd_stream.proofs.validator.Validator.take_every_text.Goals as goal

@@ -1,5 +1,5 @@
 use Rattle.std.proofs.Common.{sym, subst}
-use Rattle.xd_syntax.specs.Expression.{ExprCanFollow}
+use Rattle.xd_syntax.specs.ExpressionTable.{ExprCanFollow}
 use Rattle.xd_syntax.specs.Exprs.{shape_of}
 use Rattle.xd_syntax.proofs.TableRows.{all-push}
 use Rattle.xd_syntax.proofs.ExprTrees.{ExprsAreBuilt-push, expression_new}

@@ -1,7 +1,7 @@
 use Rattle.std.proofs.Common.{◌≡◌, ◌<◌, length, get_or, sym, subst, ap, ◌∙◌, take}
 use Rattle.std.proofs.lemmas.List.{get_or_default}
-use Rattle.xd_syntax.specs.Expression.{empty_shape, ExprRow, ExprCanFollow, ExprPartsBelow, ShapePatternsBelong, expression_at, shape_expression}
-use Rattle.xd_syntax.specs.Placed.{placed_at, the_start}
+use Rattle.xd_syntax.specs.ExpressionTable.{empty_shape, ExprRow, ExprCanFollow, ExprPartsBelow, ShapePatternsBelong, expression_at, shape_expression}
+use Rattle.xd_syntax.specs.PlacedTable.{placed_at, the_start}
 use Rattle.xd_syntax.proofs.ExprTrees.{expression_is, follows_at, parts_at, patterns_at}
 use Rattle.xd_syntax.proofs.exprs.Exprs.node.Goals as goal
 

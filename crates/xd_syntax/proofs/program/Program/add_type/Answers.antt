@@ -1,6 +1,6 @@
 use Rattle.std.proofs.Common.{◌≡◌, List, sym, subst}
 use Rattle.xd_syntax.specs.Table.{Row}
-use Rattle.xd_syntax.specs.Placed.{the_start}
+use Rattle.xd_syntax.specs.PlacedTable.{the_start}
 use Rattle.xd_syntax.specs.Kept.{ProgramTable, program_tree}
 use Rattle.xd_syntax.specs.Types.{form_of}
 use Rattle.xd_syntax.proofs.ShallowTables.{adds_one}

@@ -1,6 +1,6 @@
 use Rattle.std.proofs.Common.{◌≡◌, ◌<◌, false, length, get_or, sym, subst, ap, ◌∙◌, take}
 use Rattle.xd_syntax.specs.Table.{Row, CanFollow, PartsBelow, tree_at, form_tree}
-use Rattle.xd_syntax.specs.Placed.{placed_at, placed_form}
+use Rattle.xd_syntax.specs.PlacedTable.{placed_at, placed_form}
 use Rattle.xd_syntax.proofs.Trees.{tree_is, follows_at, parts_at}
 use Rattle.xd_syntax.proofs.PlacedTrees.{placed_is}
 use Rattle.xd_syntax.proofs.types.Types.node.Goals as goal

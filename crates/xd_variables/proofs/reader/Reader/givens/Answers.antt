@@ -3,7 +3,7 @@ use Rattle.xd_least.proofs.KnownLemmas.{stays_known}
 use Rattle.xd_syntax.specs.May.{IsLive}
 use Rattle.xd_clauses.specs.Clauses.{Accepted}
 use Rattle.xd_clauses.proofs.Givens.{all_nothing}
-use Rattle.xd_check.proofs.Keeping.{grows_by, grows_then, keeps_same}
+use Rattle.xd_check.proofs.GrowsLemmas.{grows_by, grows_then, keeps_same}
 use Rattle.xd_variables.specs.Bound.{reading_of}
 use Rattle.xd_variables.proofs.ReadingLemmas.{gives_nothing}
 use Rattle.xd_variables.proofs.reader.Reader.givens.Goals as goal

@@ -2,7 +2,8 @@ use Rattle.std.proofs.Common.{◌≡◌, Global, Vec, ◌++◌, List, [], length
 use Rattle.xd_base.specs.declared.Place.{Place}
 use Rattle.xd_syntax.specs.Kept.{ProgramTable, program_tree}
 use Rattle.xd_syntax.specs.Matches.{first_occurrences, occurrences_in}
-use Rattle.xd_syntax.specs.Placed.{PlacedTree, placed_at, unplaced}
+use Rattle.xd_syntax.specs.Placed.{PlacedTree, unplaced}
+use Rattle.xd_syntax.specs.PlacedTable.{placed_at}
 use Rattle.xd_syntax.specs.Program.{ProgramTree, names_of}
 use Rattle.xd_syntax.specs.Table.{Row}
 use Rattle.xd_syntax.proofs.PlacedTrees.{unplaced_at}

@@ -2,12 +2,13 @@ use Rattle.std.proofs.Common.{ℕ, get_or, sym, subst}
 use Rattle.std.proofs.lemmas.List.{drop_all, get_or_default}
 use Rattle.xd_least.proofs.KnownLemmas.{stays_known}
 use Rattle.xd_syntax.specs.Kept.{ProgramTable, program_tree}
-use Rattle.xd_syntax.specs.Placed.{PlacedTree, placed_at, unplaced}
+use Rattle.xd_syntax.specs.Placed.{PlacedTree, unplaced}
+use Rattle.xd_syntax.specs.PlacedTable.{placed_at}
 use Rattle.xd_syntax.specs.Program.{names_of}
 use Rattle.xd_syntax.specs.declared.exprs.Clause.{Clause}
 use Rattle.xd_syntax.proofs.PlacedTrees.{unplaced_at}
 use Rattle.xd_clauses.specs.Clauses.{IsPatternOf}
-use Rattle.xd_check.proofs.Keeping.{keeps_same}
+use Rattle.xd_check.proofs.GrowsLemmas.{keeps_same}
 use Rattle.xd_variables.specs.Bound.{reading_of}
 use Rattle.xd_variables.proofs.ClauseLoop.{clauses_begin, clauses_end, clauses_more}
 use Rattle.xd_variables.proofs.reader.Reader.read_clauses.Goals as goal

@@ -1,13 +1,14 @@
 use Rattle.std.proofs.Common.{◌≡◌, ℕ, ◌<◌, List, length, take, ap, sym, subst, ◌∙◌}
 use Rattle.std.specs.List.{AllByRecursion}
 use Rattle.std.proofs.lemmas.Result.{on_ok_weaker}
-use Rattle.xd_syntax.specs.Expression.{Clauses, ExprCanFollow, ExprPartsBelow, Expression, Matched, PatternsBelong, ShapePatternsBelong, clauses_of, match_shape}
+use Rattle.xd_syntax.specs.Expression.{Clauses, Expression, Matched}
+use Rattle.xd_syntax.specs.ExpressionTable.{ExprCanFollow, ExprPartsBelow, PatternsBelong, ShapePatternsBelong, clauses_of, match_shape}
 use Rattle.xd_syntax.specs.Exprs.{clause_numbers, shape_of}
 use Rattle.xd_syntax.specs.Kept.{ProgramTable}
-use Rattle.xd_syntax.specs.Placed.{placed_at}
+use Rattle.xd_syntax.specs.PlacedTable.{placed_at}
 use Rattle.xd_syntax.specs.declared.exprs.Clause.{Clause}
 use Rattle.xd_check.specs.Ready.{expr_at}
-use Rattle.xd_check.proofs.Keeping.{grows_none}
+use Rattle.xd_check.proofs.GrowsLemmas.{grows_none}
 use Rattle.xd_check.proofs.Walkable.{expr_is, walk_clauses}
 use Rattle.xd_variables.specs.Bound.{reading_of}
 use Rattle.xd_variables.proofs.MatchLoop.{no_match, read_match}

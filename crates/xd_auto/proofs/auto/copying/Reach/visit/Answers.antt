@@ -1,6 +1,6 @@
 use Rattle.std.proofs.Common.{rules, ◌≡◌, ◌∙◌, sym, refl, length, None}
 use Rattle.xd_auto.specs.Copying.{copies_in, copy_of}
-use Rattle.xd_auto.proofs.Placing.{placed_visit, finds_visit, has_visit, steps_visit, none_from, some_from, FindsMore-same}
+use Rattle.xd_auto.proofs.FindsMoreLemmas.{placed_visit, finds_visit, has_visit, steps_visit, none_from, some_from, FindsMore-same}
 use Rattle.xd_auto.proofs.auto.copying.Reach.visit.Goals as goal
 
 pub returns-in_ok-insert : goal.returns-in_ok-insert

@@ -4,7 +4,7 @@ use Rattle.std.proofs.lemmas.List.{take_all}
 use Rattle.std.proofs.lemmas.List.Elements.{All-contains, All-more, All-weaker}
 use Rattle.xd_auto.specs.declared.auto.LabelMove.{LabelMove}
 use Rattle.xd_auto.specs.Copying.{HasCopy, IsTarget, LabelBelow, copies_in, is_content, is_rest}
-use Rattle.xd_auto.proofs.Placing.{FindsMore-trans, FindsMore-weaker}
+use Rattle.xd_auto.proofs.FindsMoreLemmas.{FindsMore-trans, FindsMore-weaker}
 use Rattle.xd_auto.proofs.auto.copying.Reach.visit_labels.Goals as goal
 
 pub loop-step-preserved : goal.loop-step-preserved

@@ -1,6 +1,6 @@
 use Rattle.std.proofs.Common.{arith, rules}
 use Rattle.xd_auto.specs.Index.{numbers_at}
-use Rattle.xd_auto.proofs.Indexing.{IsIndex-kept, index_step}
+use Rattle.xd_auto.proofs.IsIndexLemmas.{IsIndex-kept, index_step}
 use Rattle.xd_auto.proofs.auto.index.Index.extend.Goals as goal
 
 pub returns-in_err-add-clause-index : goal.returns-in_err-add-clause-index

@@ -1,4 +1,0 @@
-use Rattle.xd_call_programs.proofs.trees.+show_expr.Given as goal
-
-abbrev pub decreases-show_expr : goal.decreases-show_expr
-decreases-show_expr l = l.id.at

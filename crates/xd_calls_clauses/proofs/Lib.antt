@@ -1,0 +1,2 @@
+mod ClausePatterns
+mod MoreTracksLemmas

@@ -1,0 +1,42 @@
+//! What the calls work on, and where each is made.
+
+use crate::pool::pool;
+use crate::states::states;
+use crate::tables::tables;
+use crate::tokens::tokens;
+use std::alloc::Global;
+use xd_calls_lines::{Call, CallError, Desk};
+use xd_calls_programs::Case;
+use xd_same_types::Pool;
+
+/// The program of the case, and a table of types in which each form is made once.
+#[derive(Drop)]
+pub struct PartDesk {
+    case: Case,
+    pool: Pool,
+}
+
+impl PartDesk {
+    pub fn new(alloc: Global) -> PartDesk {
+        PartDesk {
+            case: Case::new(alloc),
+            pool: Pool::new(alloc),
+        }
+    }
+}
+
+impl Desk for PartDesk {
+    fn answer(&mut self, call: &Call<'_>, out: &mut Vec<u8>) -> Result<(), CallError> {
+        let about = call.of_subject();
+        match call.name {
+            "tokens" => tokens(&about, out),
+            "tables" => tables(&about, out),
+            "pool" => pool(&mut self.pool, &about, out),
+            "states" => {
+                self.case.take(call.text)?;
+                states(&about.about(self.case.program()), out)
+            }
+            _ => Err(CallError::Call),
+        }
+    }
+}

@@ -1,0 +1,13 @@
+//! The stops of streams beside those of the slow program, for each front of documents and in small pieces.
+#![tactic(auto)]
+
+mod desk;
+mod stops;
+
+use crate::desk::StopDesk;
+use anyhow::Result;
+use xd_calls_lines::run;
+
+fn main(rt: HostRuntime) -> Result<()> {
+    run::<StopDesk>(&rt)
+}

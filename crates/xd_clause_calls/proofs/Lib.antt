@@ -1,2 +1,0 @@
-mod ClausePatterns
-mod Tracking

@@ -1,7 +1,0 @@
-use Rattle.std.proofs.Common.{[], length}
-use Rattle.xd_patterns.specs.Held.{variables_in}
-use Rattle.xd_clause_calls.specs.Tracked.{IsOfStates, MoreTracks}
-use Rattle.xd_clause_calls.proofs.tracks.tracks_in.Given as goal
-
-abbrev pub invariant-loop-number : goal.invariant-loop-number
-invariant-loop-number l = MoreTracks l.auto' l.marked (IsOfStates l.auto' l.number (length (variables_in l.marked))) [] l.tracks.items

@@ -1,0 +1,10 @@
+pub mod Output
+pub mod Step
+pub mod DoneSteps
+pub mod Texts
+pub mod Programs
+pub mod Documents
+pub mod Proofs
+pub mod Reading
+pub mod Merging
+pub mod Laws

@@ -1,4 +1,0 @@
-use Rattle.xd_doc_calls.proofs.automata.show_learnt.Goals as goal
-
-pub learn-requires : goal.learn-requires
-learn-requires c = c.new-known.ensures c.args.desk.now.auto c.args.desk.now.store

@@ -1,6 +1,0 @@
-use Rattle.std.specs.List.{AllByRecursion}
-use Rattle.xd_auto.specs.Automaton.{IsState}
-use Rattle.xd_doc_calls.proofs.automata.unite.Given as goal
-
-abbrev pub invariant-loop-name : goal.invariant-loop-name
-invariant-loop-name l = AllByRecursion (IsState l.desk.auto) l.states.items

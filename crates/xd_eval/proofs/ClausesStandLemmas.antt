@@ -1,0 +1,66 @@
+-- The clause that is chosen.
+use Rattle.std.proofs.Common.{◌≡◌, ℕ, zero, suc, ◌+◌, ◌<◌, ◌≤◌, arith, List, [], ◌∷◌, ◌++◌, drop, length, get_or, Option, Some, None, Vec, refl, ap, sym, subst, ◌∙◌}
+use Rattle.std.proofs.lemmas.List.{drop_more, map-append}
+use Rattle.xd_doc.specs.Document.{Document}
+use Rattle.xd_doc.specs.Stored.{BelongsTo, document_at}
+use Rattle.xd_doc.specs.StoreNodes.{Keeps}
+use Rattle.xd_doc.specs.declared.store.Seq.{Seq}
+use Rattle.xd_doc.proofs.Lists.{all_append, all_at}
+use Rattle.xd_syntax.specs.PlacedTable.{placed_at}
+use Rattle.xd_syntax.specs.Placed.{unplaced}
+use Rattle.xd_syntax.specs.Exprs.{clause_numbers}
+use Rattle.xd_syntax.specs.Kept.{ProgramTable}
+use Rattle.xd_meaning.specs.Meaning.{Environment, value_by, chosen_by, or_else}
+use Rattle.xd_syntax.specs.declared.exprs.Clause.{Clause}
+use Rattle.xd_eval.specs.Waiting.{steps, clause_steps}
+use Rattle.xd_eval.specs.Machine.{IsOfClause, IsRunnable, environment_in, expression_in, clauses_in, matcher, caller, ScopeStands, ClausesStand, AreBindings, IsBody}
+use Rattle.xd_eval.specs.declared.frame.Scope.{Scope}
+use Rattle.xd_eval.proofs.Waits.{environment_kept, scope_kept}
+
+pub bound_are : {S : Type 0} (ds : List Document) (o : Option Environment) (found : Option (Vec (List ℕ × Seq) S)) (bs : Vec (List ℕ × Seq) S) → AreBindings ds o found → found ≡ Some bs →
+    (o ≡ Some (environment_in ds bs.items)) × ScopeStands ds bs.items
+bound_are ds (Some vs) (Some cs) bs a e =
+    let h : cs ≡ bs = same cs bs e in
+    (ap Some (sym a.0) ∙ ap (λ (v : Vec (List ℕ × Seq) _). Some (environment_in ds v.items)) h, subst (λ (v : Vec (List ℕ × Seq) _). ScopeStands ds v.items) h a.1)
+  where
+    same : {A : Type 0} (x y : A) → Some x ≡ Some y → x ≡ y
+    same x y h = cc
+bound_are ds (Some vs) None bs a e = absurd a
+bound_are ds None (Some cs) bs a e = absurd a
+bound_are ds None None bs a e = absurd (cc)
+
+module _ (p : ProgramTable) (env : Environment) (d : Document) (cs : List Clause) (i : ℕ) (c : Clause) (l : i < length cs) (e : c ≡ get_or cs i c) where
+  front : clauses_in p (clause_numbers (drop i cs)) ≡ clauses_in p (clause_numbers (c ∷ drop (i + 1) cs))
+  front = ap (λ xs. clauses_in p (clause_numbers xs)) (drop_more cs i c l ∙ ap (λ x. x ∷ drop (i + 1) cs) (sym e))
+
+  taken : (vs : Environment) → matcher p (unplaced (placed_at p.patterns c.pattern.at)) d ≡ Some vs → (n : ℕ) →
+      chosen_by (matcher p) (caller p) n env d (clauses_in p (clause_numbers (drop i cs))) ≡ value_by (matcher p) (caller p) n (vs ++ env) (expression_in p c.body.at)
+  taken vs h n =
+      ap (chosen_by (matcher p) (caller p) n env d) front
+      ∙ ap (λ o. or_else o (λ vs. value_by (matcher p) (caller p) n (vs ++ env) (expression_in p c.body.at)) (chosen_by (matcher p) (caller p) n env d (clauses_in p (clause_numbers (drop (i + 1) cs))))) h
+
+  taken_steps : steps (expression_in p c.body.at) ≤ clause_steps (clauses_in p (clause_numbers (drop i cs)))
+  taken_steps = let a = ap clause_steps front in omega arith
+
+pub is_body : (p : ProgramTable) (old new : List Document) → Keeps old new → (bs : List (List ℕ × Seq)) → ScopeStands old bs → (d : Document) (cs : List Clause) → ClausesStand p cs →
+    (i : ℕ) (c : Clause) → i < length cs → c ≡ get_or cs i c → (items : List (List ℕ × Seq)) → matcher p (unplaced (placed_at p.patterns c.pattern.at)) d ≡ Some (environment_in new items) → ScopeStands new items →
+    (inner : Scope) → inner.bindings.value.items ≡ items ++ bs →
+    ((n : ℕ) → chosen_by (matcher p) (caller p) n (environment_in old bs) d (clauses_in p (clause_numbers cs)) ≡ chosen_by (matcher p) (caller p) n (environment_in old bs) d (clauses_in p (clause_numbers (drop i cs)))) →
+    clause_steps (clauses_in p (clause_numbers (drop i cs))) ≤ clause_steps (clauses_in p (clause_numbers cs)) →
+    IsBody p old new (clause_numbers cs) bs d c.body inner
+is_body p old new k bs s d cs st i c l e items m si inner h same less =
+    record {
+      same = λ n.
+          ap (λ (xs : List (List ℕ × Seq)). value_by (matcher p) (caller p) n (environment_in new xs) (expression_in p c.body.at)) h
+          ∙ ap (λ env. value_by (matcher p) (caller p) n env (expression_in p c.body.at)) (map-append (λ (b : List ℕ × Seq). (b.0, document_at new b.1)) items bs)
+          ∙ ap (λ env. value_by (matcher p) (caller p) n (environment_in new items ++ env) (expression_in p c.body.at)) (environment_kept old new k bs s)
+          ∙ sym (same n ∙ taken p (environment_in old bs) d cs i c l e (environment_in new items) m n);
+      there = subst (λ (x : Clause). IsRunnable p x.body.at) (sym e) (all_at (λ (x : Clause). IsOfClause p x.pattern.at × IsRunnable p x.body.at) cs st i c l).1;
+      stands = subst (ScopeStands new) (sym h) (all_append (λ (b : List ℕ × Seq). BelongsTo new b.1) items bs si (scope_kept old new k bs s));
+      less = (let a = taken_steps p (environment_in old bs) d cs i c l e in omega arith);
+    }
+
+pub same_at : {X : Type 0} (xs : List X) (i : ℕ) (d e : X) → i < length xs → get_or xs i d ≡ get_or xs i e
+same_at [] i d e l = absurd (omega arith)
+same_at (x ∷ xs) zero d e l = refl
+same_at (x ∷ xs) (suc i) d e l = same_at xs i d e (omega arith)

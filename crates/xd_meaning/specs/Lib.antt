@@ -1,0 +1,13 @@
+pub mod FirstMatch
+pub mod FirstWithin
+pub mod Meaning
+pub mod Bindings
+pub mod CanBeEmpty
+pub mod Included
+pub mod FitsWithin
+pub mod Heads
+pub mod HeadBegins
+pub mod Consistent
+pub mod Breach
+pub mod KeptLines
+pub mod KeptFaults

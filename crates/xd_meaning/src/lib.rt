@@ -1,0 +1,2 @@
+//! What programs mean, and what proofs of inclusions are: definitions alone.
+#![tactic(auto)]

@@ -1,4 +1,0 @@
-pub mod Bits
-pub mod Keeping
-pub mod Walking
-pub mod Walks

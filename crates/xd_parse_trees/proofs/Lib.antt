@@ -1,0 +1,11 @@
+pub mod Kept
+pub mod Rows
+pub mod Depth
+pub mod Deeper
+pub mod AddedDepth
+pub mod StandLemmas
+pub mod NodeRows
+pub mod Ahead
+pub mod ByteOrder
+pub mod ClassRows
+pub mod Keywords

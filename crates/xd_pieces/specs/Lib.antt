@@ -1,4 +1,0 @@
-pub mod Lists
-pub mod Codes
-pub mod Pieces
-pub mod Numbered

@@ -1,9 +1,0 @@
-use Rattle.std.proofs.Common.{◌<◌, drop, map}
-use Rattle.std.specs.List.{AllByRecursion}
-use Rattle.xd_plain_calls.proofs.plain.+plain_tree.Given as goal
-
-abbrev pub decreases-plain_tree : goal.decreases-plain_tree
-decreases-plain_tree g l = g.N.Nodes.at l.id
-
-abbrev pub invariant-loop-part : goal.invariant-loop-part
-invariant-loop-part g l = AllByRecursion (λ i. i < g.N.Nodes.at l.fn.id) (map g.N.Nodes.at (drop l.part-index l.part-items))

@@ -1,5 +1,0 @@
-use Rattle.std.proofs.Common.{vec_len}
-use Rattle.xd_plain_calls.proofs.plain.call_of.Given as goal
-
-abbrev pub decreases-loop-argument : goal.decreases-loop-argument
-decreases-loop-argument l = vec_len l.arguments

@@ -1,5 +1,0 @@
-use Rattle.std.proofs.Common.{vec_len}
-use Rattle.xd_plain_calls.proofs.plain.in_pairs.Given as goal
-
-abbrev pub decreases-loop-part : goal.decreases-loop-part
-decreases-loop-part l = vec_len l.parts

@@ -1,0 +1,121 @@
+-- What first runs of a compiled pattern give its variables is what its first matches bind them to.
+use Rattle.std.proofs.Common.{◌≡◌, ℕ, Bool, true, false, ◌||◌, cond, List, [], ◌∷◌, ◌++◌, map, Option, Some, None, IsSomeAnd, option_map, refl, ap, sym, subst, ◌∙◌}
+use Rattle.std.specs.List.{slice_get}
+use Rattle.std.specs.Str.{bytes_eq}
+use Rattle.std.proofs.lemmas.Slice.Eq.{bytes_eq-Decides}
+use Rattle.xd_doc.specs.Document.{Document, is_proper}
+use Rattle.xd_auto.specs.declared.auto.State.{State}
+use Rattle.xd_auto.specs.Automaton.{Automaton, accepts}
+use Rattle.xd_auto.specs.Runs as Numbered
+use Rattle.xd_syntax.specs.Words.{has_word}
+use Rattle.xd_syntax.specs.Tree.{Definitions}
+use Rattle.xd_syntax.specs.Placed.{PlacedTree, unplaced}
+use Rattle.xd_meaning.specs.Bindings.{variables_of, bound_to, bindings_in}
+use Rattle.xd_meaning.specs.FirstMatch.{first}
+use Rattle.xd_meaning.specs.Meaning.{Environment, looked_up}
+use Rattle.xd_pattern_runs.specs.Runs as runs
+use Rattle.xd_pattern_runs.specs.Runs.{Run}
+use Rattle.xd_pattern_runs.specs.Laws.{first_of, run_bindings}
+use Rattle.xd_auto_pairs.specs.Traces.{held, trace_of}
+use Rattle.xd_patterns.specs.Marked.{Marking, IsCompiled, with_marks}
+use Rattle.xd_clauses.specs.Owning.{moves_of}
+use Rattle.xd_clauses.proofs.Forms.{same_trace, held_same}
+use Rattle.xd_prefer.specs.FirstRuns.{IsGivenFirst}
+use Rattle.xd_prefer.specs.Preferred.{Prefers}
+
+same_word : (x y : List ℕ) → bytes_eq x y ≡ true → x ≡ y
+same_word x y e = (bytes_eq-Decides x y).0 e
+
+-- what is looked up among what a run gives
+looked_up-run : (xs : List (List ℕ)) (d : Document) (r : Run) (x : List ℕ) → has_word xs x ≡ true → looked_up (run_bindings xs d r) x ≡ Some (runs.held x d r)
+looked_up-run [] d r x h = absurd (cc)
+looked_up-run (y ∷ ys) d r x h = go (bytes_eq y x) refl h (λ k. looked_up-run ys d r x k)
+  where
+    go : (b : Bool) → bytes_eq y x ≡ b → (b || has_word ys x) ≡ true → (has_word ys x ≡ true → looked_up (run_bindings ys d r) x ≡ Some (runs.held x d r))
+        → cond b (Some (runs.held y d r)) (looked_up (run_bindings ys d r) x) ≡ Some (runs.held x d r)
+    go true e k more = ap (λ w. Some (runs.held w d r)) (same_word y x e)
+    go false e k more = more k
+
+-- what is looked up among the bindings of these variables
+looked_up-in : (vs : Environment) (xs : List (List ℕ)) (x : List ℕ) → has_word xs x ≡ true → looked_up (bindings_in xs vs) x ≡ looked_up vs x
+looked_up-in vs [] x h = absurd (cc)
+looked_up-in vs (y ∷ ys) x h = go (looked_up vs y) refl (bytes_eq y x) refl h (λ k. looked_up-in vs ys x k)
+  where
+    missing : (zs : List (List ℕ)) → looked_up vs x ≡ None → looked_up (bindings_in zs vs) x ≡ None
+    missing [] n = refl
+    missing (z ∷ zs) n = put (looked_up vs z) refl (bytes_eq z x) refl (missing zs n)
+      where
+        put : (o : Option Document) → looked_up vs z ≡ o → (b : Bool) → bytes_eq z x ≡ b → looked_up (bindings_in zs vs) x ≡ None → looked_up (bound_to z o ++ bindings_in zs vs) x ≡ None
+        put None e b q rec = rec
+        put (Some d) e true q rec = let same : looked_up vs x ≡ Some d = ap (looked_up vs) (sym (same_word z x q)) ∙ e in absurd (cc)
+        put (Some d) e false q rec = ap (λ b. cond b (Some d) (looked_up (bindings_in zs vs) x)) q ∙ rec
+
+    go : (o : Option Document) → looked_up vs y ≡ o → (b : Bool) → bytes_eq y x ≡ b → (b || has_word ys x) ≡ true → (has_word ys x ≡ true → looked_up (bindings_in ys vs) x ≡ looked_up vs x)
+        → looked_up (bound_to y o ++ bindings_in ys vs) x ≡ looked_up vs x
+    go None e true q k rec =
+        let none : looked_up vs x ≡ None = ap (looked_up vs) (sym (same_word y x q)) ∙ e in
+        missing ys none ∙ sym none
+    go None e false q k rec = rec k
+    go (Some d) e true q k rec =
+        ap (λ b. cond b (Some d) (looked_up (bindings_in ys vs) x)) q ∙ sym e ∙ ap (looked_up vs) (same_word y x q)
+    go (Some d) e false q k rec = ap (λ b. cond b (Some d) (looked_up (bindings_in ys vs) x)) q ∙ rec k
+
+-- the first of some runs with their marks
+first_marked : (f : Numbered.Run → Run) (rs : List Numbered.Run) (r : Numbered.Run) → slice_get rs 0 ≡ Some r → first_of (map f rs) ≡ Some (f r)
+first_marked f [] r e = absurd (cc)
+first_marked f (z ∷ rs) r e = let same : z ≡ r = cc in ap (λ w. Some (f w)) same
+
+some_first : (f : Numbered.Run → Run) (rs : List Numbered.Run) (r : Run) → first_of (map f rs) ≡ Some r → (z : Numbered.Run) × (slice_get rs 0 ≡ Some z) × (f z ≡ r)
+some_first f [] r e = absurd (cc)
+some_first f (z ∷ rs) r e = (z, refl, let same : f z ≡ r = cc in same)
+
+mapped_some : {A B : Type 0} (f : A → B) (o : Option A) (b : B) → option_map f o ≡ Some b → (a : A) × (o ≡ Some a) × (f a ≡ b)
+mapped_some f None b e = absurd (cc)
+mapped_some f (Some a) b e = (a, refl, let same : f a ≡ b = cc in same)
+
+module _ (E : Definitions) (P : PlacedTree) (a : Automaton) (k : Marking) (s : State) (c : IsCompiled E (unplaced P) a k s) (x : List ℕ) (there : has_word (variables_of (unplaced P)) x ≡ true) where
+  held_is : (d : Document) (run : Numbered.Run) → runs.held x d (with_marks a k s run) ≡ held d (trace_of a (moves_of k x) s run)
+  held_is d run = held_same x d (with_marks a k s run) ∙ ap (held d) (sym (same_trace a k x s run))
+
+  -- the first run and the first match give the variable the same
+  both_give : (d : Document) (run : Numbered.Run) (bs : Environment) → run_bindings (variables_of (unplaced P)) d (with_marks a k s run) ≡ bindings_in (variables_of (unplaced P)) bs
+      → looked_up bs x ≡ Some (held d (trace_of a (moves_of k x) s run))
+  both_give d run bs same =
+      sym (looked_up-in bs (variables_of (unplaced P)) x there) ∙ ap (λ (vs : Environment). looked_up vs x) (sym same)
+      ∙ looked_up-run (variables_of (unplaced P)) d (with_marks a k s run) x there ∙ ap (λ e. Some e) (held_is d run)
+
+  pub prefers : (other : Automaton) (t : State) (e : Document) → is_proper e ≡ true → IsGivenFirst a other (moves_of k x) s t e → Prefers E (λ d. accepts other d t ≡ true) [] P x e
+  prefers other t e proper g =
+      let d = g.document in
+      let vars = variables_of (unplaced P) in
+      let given : option_map (bindings_in vars) (first E (unplaced P) d) ≡ Some (run_bindings vars d (with_marks a k s g.run)) =
+      sym (c.first_match d) ∙ ap (option_map (run_bindings vars d)) (first_marked (with_marks a k s) (Numbered.runs a d s) g.run g.first) in
+      let m = mapped_some (bindings_in vars) (first E (unplaced P) d) (run_bindings vars d (with_marks a k s g.run)) given in
+      let is : looked_up m.0 x ≡ Some e = both_give d g.run m.0 (sym m.2) ∙ ap (λ w. Some w) g.gives in
+      (d, (g.proper proper, g.accepted, tt), subst (λ (o : Option Environment). IsSomeAnd o (λ bs. looked_up bs x ≡ Some e)) (sym m.1) is)
+
+  pub preferred : (other : Automaton) (t : State) (e : Document) → Prefers E (λ d. accepts other d t ≡ true) [] P x e → IsGivenFirst a other (moves_of k x) s t e
+  preferred other t e p = go (first E (unplaced P) p.0) refl p.2
+    where
+      go : (o : Option Environment) → first E (unplaced P) p.0 ≡ o → IsSomeAnd o (λ bs. looked_up bs x ≡ Some e) → IsGivenFirst a other (moves_of k x) s t e
+      go None f h = absurd h
+      go (Some bs) f h =
+          let d = p.0 in
+          let vars = variables_of (unplaced P) in
+          let given : option_map (run_bindings vars d) (first_of (map (with_marks a k s) (Numbered.runs a d s))) ≡ Some (bindings_in vars bs) =
+          c.first_match d ∙ ap (option_map (bindings_in vars)) f in
+          let m = mapped_some (run_bindings vars d) (first_of (map (with_marks a k s) (Numbered.runs a d s))) (bindings_in vars bs) given in
+          let z = some_first (with_marks a k s) (Numbered.runs a d s) m.0 m.1 in
+          let same : run_bindings vars d (with_marks a k s z.0) ≡ bindings_in vars bs = ap (run_bindings vars d) z.2 ∙ m.2 in
+          let found : Some (held d (trace_of a (moves_of k x) s z.0)) ≡ Some e = sym (both_give d z.0 bs same) ∙ h in
+          record {
+            document = d;
+            proper = λ _. (p.1).0;
+            run = z.0;
+            first = z.1;
+            gives = one_some (held d (trace_of a (moves_of k x) s z.0)) e found;
+            accepted = (p.1).1;
+          }
+        where
+          one_some : (u v : Document) → ◌≡◌ {A = Option Document} (Some u) (Some v) → u ≡ v
+          one_some u v q = cc

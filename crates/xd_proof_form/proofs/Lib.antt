@@ -1,8 +1,0 @@
-pub mod CourseLemmas
-pub mod LineLemmas
-mod NumberLemmas
-pub mod BeginLemmas
-pub mod Unique
-pub mod OneText
-pub mod Counting
-pub mod TheLaws

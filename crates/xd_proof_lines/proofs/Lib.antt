@@ -1,5 +1,0 @@
-mod StepLemmas
-mod QuoteLemmas
-mod AtomLemmas
-mod CaseLemmas
-mod KeywordLemmas

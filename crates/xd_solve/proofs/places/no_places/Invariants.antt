@@ -1,5 +1,0 @@
-use Rattle.xd_solve.specs.Levels.{ArePlacesOfNone}
-use Rattle.xd_solve.proofs.places.no_places.Given as goal
-
-abbrev pub invariant-loop-number : goal.invariant-loop-number
-invariant-loop-number l = ArePlacesOfNone l.made.items l._number

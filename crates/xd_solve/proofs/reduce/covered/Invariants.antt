@@ -1,6 +1,0 @@
-use Rattle.std.specs.Option.{IfSome}
-use Rattle.xd_solve.specs.Systems.{IsCovered}
-use Rattle.xd_solve.proofs.reduce.covered.Given as goal
-
-abbrev pub invariant-loop-other : goal.invariant-loop-other
-invariant-loop-other l = IfSome l.best (IsCovered l.sums l.number)

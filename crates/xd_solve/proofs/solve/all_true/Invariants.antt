@@ -1,6 +1,0 @@
-use Rattle.std.proofs.Common.{◌≡◌, take}
-use Rattle.xd_solve.specs.Systems.{all_alive}
-use Rattle.xd_solve.proofs.solve.all_true.Given as goal
-
-abbrev pub invariant-loop-sum : goal.invariant-loop-sum
-invariant-loop-sum l = l.made.items ≡ all_alive (take l._sum-index l.sums)

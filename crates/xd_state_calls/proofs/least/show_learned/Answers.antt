@@ -1,4 +1,0 @@
-use Rattle.xd_state_calls.proofs.least.show_learned.Goals as goal
-
-pub learn-requires : goal.learn-requires
-learn-requires c = c.new-known.ensures _ _

@@ -1,4 +1,0 @@
-pub mod Lists
-pub mod Naming
-pub mod Results
-pub mod Sides

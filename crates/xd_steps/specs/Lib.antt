@@ -1,9 +1,0 @@
-pub mod Output
-pub mod Step
-pub mod Texts
-pub mod Programs
-pub mod Documents
-pub mod Proofs
-pub mod Reading
-pub mod Merging
-pub mod Laws

@@ -1,6 +1,0 @@
-use Rattle.xd_telephones.proofs.Inputs.{persons_fit}
-use Rattle.xd_telephones.proofs.Runs.{telephones_mean}
-use Rattle.xd_telephones.proofs.telephones_are_listed.Goals as goal
-
-pub returns : goal.returns
-returns c = record { inputs = persons_fit; values = telephones_mean }

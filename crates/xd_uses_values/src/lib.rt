@@ -1,0 +1,6 @@
+//! From a program and a document to a value, as a caller of the libraries goes.
+#![tactic(auto)]
+
+mod values;
+
+pub use crate::values::{Value, value_of};

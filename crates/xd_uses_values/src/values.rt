@@ -1,0 +1,70 @@
+//! From a program and a document to a value.
+
+ghost use Rattle.std.specs.Prelude.{◌≡◌, ◌≤◌, true, IfOk};
+ghost use Rattle.xd_doc.specs.Stored.{BelongsTo, document_at};
+ghost use Rattle.xd_doc.specs.StoreNodes.{Keeps};
+ghost use Rattle.xd_eval.specs.Evaluation.{IsInput};
+ghost use Rattle.xd_syntax.specs.Kept.{program_tree};
+ghost use Rattle.xd_uses_values.specs.Values.{IsValue};
+
+use anyhow::{Context, Result, bail, ensure};
+use std::alloc::Global;
+use xd_check::{CheckOutcome, check};
+use xd_doc::{Seq, Store};
+use xd_eval::{Outcome, evaluate};
+use xd_read::read_document;
+use xd_sound::{Checked, SoundProgram, parameter_of_main};
+use xd_uses_documents::fits_type;
+use xd_uses_programs::sound_program;
+use xd_write::write_document;
+
+/// A value, and how many calls it took.
+#[derive(Drop)]
+pub struct Value {
+    pub text: Vec<u8>,
+    pub calls: u64,
+}
+
+/// The program, where it is accepted.
+fn accepted(alloc: Global, sound: SoundProgram, store: &mut Store) -> Result<Checked>
+    ensures { IfOk result (λ checked. program_tree checked ≡ program_tree sound) }
+{
+    match check(alloc, sound, store)? {
+        CheckOutcome::Accepted { checked, .. } => Ok(checked),
+        CheckOutcome::Refused { faults, .. } => bail!("{} faults", faults.len()),
+    }
+}
+
+/// Whether the document fits the type of the parameter of `main`, which has one parameter.
+fn is_input(alloc: Global, checked: &Checked, store: &Store, document: Seq) -> Result<bool>
+    requires { BelongsTo store.now document }
+    ensures { IfOk result (λ is. is ≡ true → IsInput checked.now (document_at store.now document)) }
+{
+    let program = checked.sound().program();
+    let parameter = parameter_of_main(program.functions());
+    let parameter = parameter.context("no main with one parameter")?;
+    let mut sound = checked.sound().copy(alloc)?;
+    Ok(fits_type(alloc, &mut sound, parameter, store, document)?)
+}
+
+/// The value of the program that a text spells, on the document that another text spells, in at
+/// most so many calls.
+pub fn value_of(alloc: Global, program: &str, document: &str, fuel: u64) -> Result<Value>
+    requires { 1 ≤ fuel }
+    ensures { IfOk result (IsValue program.now document.now fuel) }
+{
+    let sound = sound_program(alloc, program)?;
+    let mut store = Store::new(alloc);
+    let checked = accepted(alloc, sound, &mut store)?;
+    let input = read_document(alloc, &mut store, document.as_bytes())?;
+    let fits = is_input(alloc, &checked, &store, input)?;
+    ensure!(fits, "outside the input type");
+    match evaluate(alloc, &checked, &mut store, input, fuel)? {
+        Outcome::Value(value, calls) => {
+            let mut text = Vec::new(alloc);
+            write_document(alloc, &store, value, &mut text)?;
+            Ok(Value { text, calls })
+        }
+        Outcome::Spent => bail!("fuel spent"),
+    }
+}
