@@ -11,7 +11,6 @@ use Rattle.xd_syntax.specs.Program.{ProgramTree, names_of}
 use Rattle.xd_syntax.specs.Sound.{is_defined, type_named}
 use Rattle.xd_syntax.specs.CheckFaults.{Line, LineKind, not_exhaustive, wrong_argument, wrong_result, dead_clause, is_warning, faults_among, IsAccepted}
 use Rattle.xd_meaning.specs.Breach.{Lined}
-use Rattle.xd_meaning.specs.KeptLines.{kind_with}
 use Rattle.xd_meaning.specs.KeptFaults.{AllPaired}
 use Rattle.xd_meaning.specs.Meaning.{Done, Spent}
 use Rattle.xd_laws.specs.SameLines.{IsSameLine}
@@ -34,7 +33,7 @@ use Rattle.xd_command.specs.Least.{AnswersLeastOf, AnswersLeast}
 use Rattle.xd_command.specs.Verify.{Judges, AnswersVerify, AnswersUpgrade, Upgrades}
 use Rattle.xd_command.specs.Check.{with_verdict, AnswersCheck}
 use Rattle.xd_command.specs.Run.{EndsAtLines, EndsAtValue, IsValue, AnswersInput, AnswersMain, AnswersRun, input_type}
-use Rattle.xd_command.specs.Report.{IsLineText, of_fault, of_warning, AreLineTexts, no_line, next_line}
+use Rattle.xd_command.specs.Report.{line_text, lines_text, said}
 use Rattle.xd_command.specs.Minus.{AnswersDifference, AnswersMinus}
 use Rattle.xd_command.specs.Types.{AnswersTypes}
 use Rattle.xd_command.specs.OneAnswer.{ProveAlike, CarryAlike, FaultsAlike, ShowTheSame, ShowAlike, IsSameBlock, BlocksAlike}
@@ -180,43 +179,42 @@ first_warns : (b : Bool) (l : Line) (ls : List Line) → cond b ls (l ∷ ls) �
 first_warns true l ls e = (refl, e)
 first_warns false l ls e = absurd (cc)
 
-warning_is : (l : Line) (t : List ℕ) → l.kind ≡ dead_clause → IsLineText l t → t ≡ place_front l.place ++ codes "warning 1: clause is never reached\n"
-warning_is l t e (of_fault {f = f} h) = absurd (subst (λ k. kind_with k h.sequence f.kind) e h.kind)
-warning_is l t e (of_warning {w = w} k h) = ap (λ p. place_front p ++ codes "warning 1: clause is never reached\n") h
+warning_is : (l : Line) → l.kind ≡ dead_clause → line_text l ≡ place_front l.place ++ codes "warning 1: clause is never reached\n"
+warning_is l e = ap (λ k. place_front l.place ++ said k l.document) e
 
-warning_same : (l m : Line) (t u : List ℕ) → IsSameLine l m → l.kind ≡ dead_clause → IsLineText l t → IsLineText m u → t ≡ u
-warning_same l m t u s e a b =
-    warning_is l t e a ∙ ap (λ p. place_front p ++ codes "warning 1: clause is never reached\n") s.place ∙ sym (warning_is m u (sym s.kind ∙ e) b)
+warning_same : (l m : Line) → IsSameLine l m → l.kind ≡ dead_clause → line_text l ≡ line_text m
+warning_same l m s e =
+    warning_is l e ∙ ap (λ p. place_front p ++ codes "warning 1: clause is never reached\n") s.place ∙ sym (warning_is m (sym s.kind ∙ e))
 
-warnings_same : {ls ms : List Line} {t u : List ℕ} → AreLineTexts ls t → AreLineTexts ms u → Same ls ms → faults_among ls ≡ [] → t ≡ u
-warnings_same no_line no_line s e = refl
-warnings_same no_line (next_line c d) s e = absurd s
-warnings_same (next_line a b) no_line s e = absurd s
-warnings_same (next_line {l = l} {ls = ls} {t = t} {u = u} a b) (next_line {l = m} {ls = ms} {t = v} {u = w} c d) s e =
+warnings_same : (ls ms : List Line) → Same ls ms → faults_among ls ≡ [] → lines_text ls ≡ lines_text ms
+warnings_same [] [] s e = refl
+warnings_same [] (m ∷ ms) s e = absurd s
+warnings_same (l ∷ ls) [] s e = absurd s
+warnings_same (l ∷ ls) (m ∷ ms) s e =
     let f = first_warns (is_warning l.kind) l (faults_among ls) e in
-    ap (λ z. z ++ u) (warning_same l m t v s.0 (is_dead l.kind f.0) a c) ∙ ap (λ z. v ++ z) (warnings_same b d s.1 f.1)
+    ap (λ z. z ++ lines_text ls) (warning_same l m s.0 (is_dead l.kind f.0)) ∙ ap (λ z. line_text m ++ z) (warnings_same ls ms s.1 f.1)
 
 -- ---- `check`
-verdicts_alike : (ls ms fs gs : List Line) (t u : List ℕ) (o p : Output) → Same ls ms → AreLineTexts ls t → AreLineTexts ms u → faults_among ls ≡ fs → faults_among ms ≡ gs → Same fs gs →
-    o ≡ with_verdict fs t → p ≡ with_verdict gs u → (o ≡ p) ⊎ FaultsAlike o p
-verdicts_alike ls ms [] [] t u o p s a b f g r e h = inl (e ∙ ap (λ z. record { status = 0; text = z ++ codes "accepted\n" }) (warnings_same a b s f) ∙ sym h)
-verdicts_alike ls ms [] (m ∷ gs) t u o p s a b f g r e h = absurd r
-verdicts_alike ls ms (l ∷ fs) [] t u o p s a b f g r e h = absurd r
-verdicts_alike ls ms (l ∷ fs) (m ∷ gs) t u o p s a b f g r e h =
+verdicts_alike : (ls ms fs gs : List Line) (o p : Output) → Same ls ms → faults_among ls ≡ fs → Same fs gs →
+    o ≡ with_verdict fs (lines_text ls) → p ≡ with_verdict gs (lines_text ms) → (o ≡ p) ⊎ FaultsAlike o p
+verdicts_alike ls ms [] [] o p s f r e h = inl (e ∙ ap (λ z. record { status = 0; text = z ++ codes "accepted\n" }) (warnings_same ls ms s f) ∙ sym h)
+verdicts_alike ls ms [] (m ∷ gs) o p s f r e h = absurd r
+verdicts_alike ls ms (l ∷ fs) [] o p s f r e h = absurd r
+verdicts_alike ls ms (l ∷ fs) (m ∷ gs) o p s f r e h =
     inr (record {
       refused = ap (λ (q : Output). q.status) e;
       other_refused = ap (λ (q : Output). q.status) h;
       lines = ls;
       others = ms;
       same = s;
-      text = subst (AreLineTexts ls) (sym (ap (λ (q : Output). q.text) e)) a;
-      other = subst (AreLineTexts ms) (sym (ap (λ (q : Output). q.text) h)) b;
+      text = ap (λ (q : Output). q.text) e;
+      other = ap (λ (q : Output). q.text) h;
     })
 
 pub check_alike : (P : ProgramTree) → IsOneRow FaultsAlike (AnswersCheck P)
 check_alike P o p a b =
     let s = lines_are_one P a.lines b.lines a.all b.all in
-    verdicts_alike a.lines b.lines (faults_among a.lines) (faults_among b.lines) a.text b.text o p s a.written b.written refl refl (faults_same a.lines b.lines s) a.output b.output
+    verdicts_alike a.lines b.lines (faults_among a.lines) (faults_among b.lines) o p s refl (faults_same a.lines b.lines s) a.output b.output
 
 -- ---- `types` and `precise`
 -- programs that show one set
@@ -301,8 +299,8 @@ lines_alike P o p a b =
       lines = faults_among a.lines;
       others = faults_among b.lines;
       same = faults_same a.lines b.lines (lines_are_one P a.lines b.lines a.all b.all);
-      text = subst (AreLineTexts (faults_among a.lines)) (sym (ap (λ (q : Output). q.text) a.output)) a.written;
-      other = subst (AreLineTexts (faults_among b.lines)) (sym (ap (λ (q : Output). q.text) b.output)) b.written;
+      text = ap (λ (q : Output). q.text) a.output;
+      other = ap (λ (q : Output). q.text) b.output;
     })
 
 done_one : (d e : Document) (m n : ℕ) → Done d m ≡ Done e n → (d ≡ e) × (m ≡ n)

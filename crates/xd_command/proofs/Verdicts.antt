@@ -41,18 +41,16 @@ module _ (P : ProgramTree) (ds : List Document) (ls : List Line) (all : AreLines
   answers_accepted none m e = record {
     lines = ls;
     all = all;
-    text = t;
-    written = merged_texts ds ls [] ws t (up P ls all) (subst (λ fs. AllPaired (IsFaultOf ds) fs []) (sym none) tt) warned m;
-    output = e ∙ sym (ap (λ fs. with_verdict fs t) none);
+    output =
+        let written = merged_texts ds ls [] ws t (up P ls all) (subst (λ fs. AllPaired (IsFaultOf ds) fs []) (sym none) tt) warned m in
+        e ∙ sym (ap (λ fs. with_verdict fs t) none) ∙ ap (with_verdict (faults_among ls)) written;
   }
 
   pub answers_refused : (fs : List Fault) → faults_among ls ≢ [] → AreFaultsOf ds ls fs → IsMerged ds fs ws t → o ≡ record { status = 1; text = t } → AnswersCheck P o
   answers_refused fs some are m e = record {
     lines = ls;
     all = all;
-    text = t;
-    written = merged_texts ds ls fs ws t (up P ls all) are warned m;
-    output = e ∙ by (faults_among ls) some;
+    output = e ∙ by (faults_among ls) some ∙ ap (with_verdict (faults_among ls)) (merged_texts ds ls fs ws t (up P ls all) are warned m);
   }
     where
       by : (gs : List Line) → gs ≢ [] → record { status = 1; text = t } ≡ with_verdict gs t
@@ -65,7 +63,5 @@ ends_at_lines P ds ls fs t o all some are m e = record {
   lines = ls;
   all = all;
   some = some;
-  text = t;
-  written = fault_texts ds (faults_among ls) fs t are m;
-  output = e;
+  output = e ∙ ap (λ z. record { status = 1; text = z }) (fault_texts ds (faults_among ls) fs t are m);
 }

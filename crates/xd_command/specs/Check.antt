@@ -3,7 +3,7 @@ use Rattle.std.specs.Prelude.{◌≡◌, ℕ, List, [], ◌∷◌, ◌++◌, cod
 use Rattle.xd_syntax.specs.Program.{ProgramTree}
 use Rattle.xd_syntax.specs.CheckFaults.{Line, AreLines, IsAccepted, faults_among}
 use Rattle.xd_command_steps.specs.Output.{Output}
-use Rattle.xd_command.specs.Report.{AreLineTexts}
+use Rattle.xd_command.specs.Report.{lines_text}
 
 -- the text of the lines, and `accepted` where none of them is a fault
 abbrev pub with_verdict : (faults : List Line) → (text : List ℕ) → Output
@@ -14,9 +14,7 @@ with_verdict (f ∷ fs) text = record { status = 1; text = text }
 pub record AnswersCheck (P : ProgramTree) (o : Output) : Type 0 where
   pub lines : List Line
   pub all : AreLines P lines
-  pub text : List ℕ
-  pub written : AreLineTexts lines text
-  pub output : o ≡ with_verdict (faults_among lines) text
+  pub output : o ≡ with_verdict (faults_among lines) (lines_text lines)
 
 -- the program isn't accepted, and these are its faults and warnings
 abbrev pub EndsAtCheck : ProgramTree → Output → Type 0

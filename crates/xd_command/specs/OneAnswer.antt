@@ -15,7 +15,7 @@ use Rattle.xd_command.specs.declared.command.Command.{Command}
 use Rattle.xd_command.specs.declared.command.Command.TheVariants.{Subtype, Minus, Least, Check, Types, Precise, Run}
 use Rattle.xd_command.specs.Answer.{IsAnswer}
 use Rattle.xd_command.specs.Outcome.{IsOutcome}
-use Rattle.xd_command.specs.Report.{AreLineTexts}
+use Rattle.xd_command.specs.Report.{lines_text}
 use Rattle.xd_command_steps.specs.Output.{Output, canonical, separated}
 use Rattle.xd_command_steps.specs.Laws.{Texts, IsRead}
 
@@ -36,8 +36,8 @@ pub record FaultsAlike (o p : Output) : Type 0 where
   pub lines : List Line
   pub others : List Line
   pub same : AllPaired IsSameLine lines others
-  pub text : AreLineTexts lines o.text
-  pub other : AreLineTexts others p.text
+  pub text : o.text ≡ lines_text lines
+  pub other : p.text ≡ lines_text others
 
 -- The texts of both programs read back, and of proper documents the same ones fit the first names of both.
 pub record ShowTheSame (P : ProgramTree) (start : List ℕ) (Q : ProgramTree) (other_start : List ℕ) : Type 0 where

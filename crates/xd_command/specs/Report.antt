@@ -1,18 +1,28 @@
 -- The texts of faults of matches, arguments and results, and of warnings.
-use Rattle.std.specs.Prelude.{◌≡◌, ℕ, List, [], ◌∷◌, ◌++◌}
-use Rattle.xd_doc.specs.Document.{Document}
-use Rattle.xd_syntax.specs.CheckFaults.{Line, dead_clause}
-use Rattle.xd_syntax.specs.declared.fault.Fault.{Fault}
-use Rattle.xd_syntax.specs.declared.fault.Warning.{Warning}
-use Rattle.xd_meaning.specs.KeptLines.{IsFaultOf, IsWarningOf}
-use Rattle.xd_report.specs.Report.{fault_text, warning_text}
+use Rattle.std.specs.Prelude.{ℕ, List, [], ◌++◌, Option, Some, None, codes, decimal, flat_map}
+use Rattle.xd_doc.specs.Document.{Document, canonical_text}
+use Rattle.xd_syntax.specs.CheckFaults.{LineKind, not_exhaustive, wrong_argument, wrong_result, dead_clause, Line}
+use Rattle.xd_report.specs.Report.{place_front}
 
--- the text of a line: that of a fault with its document, or that of a warning
-pub data IsLineText (l : Line) : List ℕ → Type 0 where
-  of_fault : {ds : List Document} {f : Fault} → IsFaultOf ds l f → IsLineText l (fault_text ds f)
-  of_warning : {w : Warning} → l.kind ≡ dead_clause → IsWarningOf l w → IsLineText l (warning_text w)
+-- the document that a line carries
+abbrev pub carried : Option Document → List ℕ
+carried None = []
+carried (Some d) = canonical_text d
 
--- the texts of these lines, one behind the other
-pub data AreLineTexts : List Line → List ℕ → Type 0 where
-  no_line : AreLineTexts [] []
-  next_line : {l : Line} {ls : List Line} {t u : List ℕ} → IsLineText l t → AreLineTexts ls u → AreLineTexts (l ∷ ls) (t ++ u)
+-- a fault of this number, with its document
+abbrev pub fault_with : ℕ → List ℕ → Option Document → List ℕ
+fault_with n what d = codes "fault " ++ decimal n ++ codes ": " ++ (what ++ carried d) ++ codes "\n"
+
+-- what a line says after its place
+abbrev pub said : LineKind → Option Document → List ℕ
+said not_exhaustive d = fault_with 12 (codes "match is not exhaustive: ") d
+said wrong_argument d = fault_with 13 (codes "argument does not fit: ") d
+said wrong_result d = fault_with 14 (codes "result does not fit: ") d
+said dead_clause d = codes "warning 1: clause is never reached\n"
+
+abbrev pub line_text : Line → List ℕ
+line_text l = place_front l.place ++ said l.kind l.document
+
+-- the lines, one after the other
+abbrev pub lines_text : List Line → List ℕ
+lines_text ls = flat_map line_text ls

@@ -11,7 +11,7 @@ use Rattle.xd_syntax.specs.CheckFaults.{Line, AreLines, faults_among, IsAccepted
 use Rattle.xd_meaning.specs.Meaning.{Done, Spent, meaning}
 use Rattle.xd_syntax.specs.declared.fault.FaultKind.TheVariants.{NoMain}
 use Rattle.xd_command_steps.specs.Output.{Output, fault_lines, outside_input, fuel_spent, canonical}
-use Rattle.xd_command.specs.Report.{AreLineTexts}
+use Rattle.xd_command.specs.Report.{lines_text}
 use Rattle.xd_command_steps.specs.Step.{Step}
 use Rattle.xd_command_steps.specs.Texts.{Holding}
 use Rattle.xd_command_steps.specs.Documents.{EndsAtDocument, IsDocument}
@@ -34,9 +34,7 @@ pub record EndsAtLines (P : ProgramTree) (o : Output) : Type 0 where
   pub lines : List Line
   pub all : AreLines P lines
   pub some : faults_among lines ≢ []
-  pub text : List ℕ
-  pub written : AreLineTexts (faults_among lines) text
-  pub output : o ≡ record { status = 1; text = text }
+  pub output : o ≡ record { status = 1; text = lines_text (faults_among lines) }
 
 abbrev pub no_main : Output
 no_main = fault_lines (record { place = None; kind = NoMain } ∷ [])
