@@ -7,7 +7,7 @@ pub mod BlockLaw
 pub mod Changes
 pub mod IsSearchLemmas
 pub mod IsProjectionLemmas
-pub mod Copied
+pub mod CopiedLemmas
 pub mod SameOwned
 pub mod CaseLaw
 pub mod BucketLaw

@@ -110,7 +110,7 @@ pub fn side_of<H: Holds>(
 }
 
 /// Gives a state more moves on an element.
-fn put_labels(auto: &mut Auto, at: State, labels: Vec<LabelMove>) -> Result<(), NoMemory>
+pub fn put_labels(auto: &mut Auto, at: State, labels: Vec<LabelMove>) -> Result<(), NoMemory>
     requires at { IsState auto.old at }
     requires lead { All (λ m. IsState auto.old m.content × IsState auto.old m.rest) labels.items }
     ensures ok { OnOk result (IsChange auto.old auto.new at (with_labels labels.items (moves_at auto.old at))) }
@@ -123,7 +123,7 @@ fn put_labels(auto: &mut Auto, at: State, labels: Vec<LabelMove>) -> Result<(), 
 }
 
 /// Gives a state more moves on a text.
-fn put_texts(auto: &mut Auto, at: State, texts: Vec<TextMove>) -> Result<(), NoMemory>
+pub fn put_texts(auto: &mut Auto, at: State, texts: Vec<TextMove>) -> Result<(), NoMemory>
     requires at { IsState auto.old at }
     requires lead { All (λ m. IsState auto.old m.rest) texts.items }
     ensures ok { OnOk result (IsChange auto.old auto.new at (with_texts texts.items (moves_at auto.old at))) }

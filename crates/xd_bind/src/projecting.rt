@@ -30,7 +30,7 @@ use xd_least::LeastInhabitants;
 
 /// For each state of a layer whether it can be completed without the variable, where `aside` has the
 /// copies without the variable's moves.
-fn free_of(
+pub fn free_of(
     alloc: Global,
     auto: &Auto,
     layer: Layer,
@@ -75,7 +75,7 @@ fn add_first<H: Holds>(
 
 /// Adds copies of a layer's states without the moves of the variable, and says where they stand. What
 /// they accept becomes known.
-fn add_without<H: Holds>(
+pub fn add_without<H: Holds>(
     alloc: Global,
     auto: &mut Auto,
     layer: Layer,

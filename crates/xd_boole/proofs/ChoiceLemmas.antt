@@ -1,5 +1,5 @@
 -- On choices of sides.
-use Rattle.std.proofs.Common.{◌≡◌, ℕ, ◌+◌, ◌<◌, Bool, true, false, not, ◌&&◌, ◌||◌, List, [], ◌∷◌, ◌++◌, take, length, get_or, refl, ap, sym, ◌∙◌, subst}
+use Rattle.std.proofs.Common.{◌≡◌, ℕ, ◌+◌, ◌<◌, ◌≤◌, Bool, true, false, not, ◌&&◌, ◌||◌, List, [], ◌∷◌, ◌++◌, take, length, get_or, refl, ap, sym, ◌∙◌, subst}
 use Rattle.std.specs.List.{list_any}
 use Rattle.std.proofs.lemmas.List.Folds.{list_any_at, list_any-append, list_any_more}
 use Rattle.xd_doc.specs.Document.{Document}
@@ -10,8 +10,8 @@ use Rattle.xd_boole.specs.Meaning.{any_accepts, has_state, is_state, is_within, 
 use Rattle.xd_empty.specs.Parts.{is_marked}
 use Rattle.xd_boole.specs.Groups.{AllPass, is_side, side_accepts}
 use Rattle.xd_boole.specs.Universal.{MarkUniversal}
-use Rattle.xd_boole.specs.Choices.{AddsChoice, AddsContent, AddsRest, AddsSide, AllChoices, ExtendsAll, IsChoiceOf, KeepsChoice, any_choice, choice_refuses}
-use Rattle.xd_boole.proofs.Lists.{all_at, all_front, all_last, all_push}
+use Rattle.xd_boole.specs.Choices.{AddsChoice, AddsContent, AddsRest, AddsSide, AllChoices, CopiesChoices, ExtendsAll, IsChoiceOf, IsNoChoice, KeepsChoice, any_choice, choice_refuses}
+use Rattle.xd_boole.proofs.Lists.{all_at, all_front, all_last, all_push, any_walked}
 use Rattle.xd_boole.proofs.Bools.{and_false, and_left, and_right, drop_implied, either_side, implied_by, next_one, or_nothing, other_content, other_rest}
 use Rattle.xd_boole.proofs.AnyAcceptsLemmas.{has_refuses, with_state_accepts, with_state_all, within_refuses}
 
@@ -145,6 +145,14 @@ rest_marked universal side k old marked = record {
   states = λ a h e s. h;
 }
 
+-- an equal choice refuses the same
+copy_refuses : (a : Automaton) (c d : Document) (k copy : SideChoice) → copy.contents.items ≡ k.contents.items → copy.rests.items ≡ k.rests.items → choice_refuses a c d copy ≡ choice_refuses a c d k
+copy_refuses a c d k copy contents rests =
+    ap (λ ss. not (any_accepts a ss c) && not (any_accepts a copy.rests.items d)) contents ∙ ap (λ ss. not (any_accepts a k.contents.items c) && not (any_accepts a ss d)) rests
+
+copy_states : (a : Automaton) (k copy : SideChoice) → copy.contents.items ≡ k.contents.items → copy.rests.items ≡ k.rests.items → IsChoiceOf a k → IsChoiceOf a copy
+copy_states a k copy contents rests h = (subst (AllPass (is_state a)) (sym contents) h.0, subst (AllPass (is_state a)) (sym rests) h.1)
+
 -- the choice was extended in both ways
 pub side_added : (universal : List Bool) (side : MoveSide) (k : SideChoice) (old mid new : List SideChoice) → AddsContent universal side k old mid → AddsRest universal side k mid new → AddsSide universal side k old new
 side_added universal side k old mid new first second = record {
@@ -172,6 +180,13 @@ extends_more universal side k initial extended new left rest adds is before = re
   states = λ a h s. adds.states a (before.states a h s) (all_last (IsChoiceOf a) rest k (subst (AllChoices a) is (before.left_states a h))) s;
 }
 
+-- the same choice, copied, was extended by the content
+pub content_copied : (universal : List Bool) (side : MoveSide) (k copy : SideChoice) (old new : List SideChoice) → copy.contents.items ≡ k.contents.items → copy.rests.items ≡ k.rests.items → AddsContent universal side copy old new → AddsContent universal side k old new
+content_copied universal side k copy old new contents rests adds = record {
+  refused = λ a u c d. adds.refused a u c d ∙ ap (λ w. any_choice a c d old || (w && not (accepts a c side.content))) (copy_refuses a c d k copy contents rests);
+  states = λ a h e s. adds.states a h (copy_states a k copy contents rests e) s;
+}
+
 -- the choices for the first of these moves
 pub record AreFirstChoices (universal : List Bool) (sides : List MoveSide) (i : ℕ) (choices : List SideChoice) : Type 0 where
   pub refused : (a : Automaton) → MarkUniversal a universal → (c d : Document) → any_choice a c d choices ≡ not (list_any (side_accepts a c d) (take i sides))
@@ -181,6 +196,9 @@ not_or : (t s : Bool) → (not t && not s) ≡ not (t || s)
 not_or true s = refl
 not_or false s = refl
 
+pub choices_begin : (universal : List Bool) (sides : List MoveSide) (choices : List SideChoice) → IsNoChoice choices → AreFirstChoices universal sides 0 choices
+choices_begin universal sides choices none = record { refused = λ a u c d. none.refused a c d; states = λ a h. none.states a }
+
 pub choices_more : (universal : List Bool) (sides : List MoveSide) (i : ℕ) (side : MoveSide) (old new : List SideChoice) → i < length sides → side ≡ get_or sides i side → ExtendsAll universal side old new → AreFirstChoices universal sides i old → AreFirstChoices universal sides (i + 1) new
 choices_more universal sides i side old new lt at extends before = record {
   refused = λ a u c d.
@@ -188,4 +206,34 @@ choices_more universal sides i side old new lt at extends before = record {
       ∙ not_or (list_any (side_accepts a c d) (take i sides)) (side_accepts a c d side)
       ∙ ap not (ap (λ w. list_any (side_accepts a c d) (take i sides) || side_accepts a c d w) at ∙ sym (list_any_more (side_accepts a c d) sides i side lt));
   states = λ a h. extends.states a (before.states a h) (all_at (λ w. is_side a w ≡ true) sides h i side lt at);
+}
+
+-- no state need refuse
+pub is_no_choice : (k : SideChoice) (choices : List SideChoice) → k.contents.items ≡ [] → k.rests.items ≡ [] → choices ≡ k ∷ [] → IsNoChoice choices
+is_no_choice k choices contents rests is = record {
+  refused = λ a c d.
+      ap (any_choice a c d) is ∙ ap (λ ss. (not (any_accepts a ss c) && not (any_accepts a k.rests.items d)) || false) contents ∙ ap (λ ss. (true && not (any_accepts a ss d)) || false) rests;
+  states = λ a. subst (AllChoices a) (sym is) ((subst (AllPass (is_state a)) (sym contents) tt, subst (AllPass (is_state a)) (sym rests) tt), tt);
+}
+
+-- the first of some choices were copied
+pub record CopiesFirst (choices : List SideChoice) (i : ℕ) (copies : List SideChoice) : Type 0 where
+  pub refused : (a : Automaton) (c d : Document) → any_choice a c d copies ≡ any_choice a c d (take i choices)
+  pub states : (a : Automaton) → AllChoices a choices → AllChoices a copies
+
+pub copies_more : (choices : List SideChoice) (i : ℕ) (k copy : SideChoice) (old new : List SideChoice) → i < length choices → k ≡ get_or choices i k → copy.contents.items ≡ k.contents.items → copy.rests.items ≡ k.rests.items
+    → new ≡ old ++ copy ∷ [] → CopiesFirst choices i old → CopiesFirst choices (i + 1) new
+copies_more choices i k copy old new lt at contents rests is before = record {
+  refused = λ a c d.
+      ap (any_choice a c d) is ∙ list_any-append (choice_refuses a c d) old (copy ∷ [])
+      ∙ ap (λ w. any_choice a c d old || w) (or_nothing (choice_refuses a c d copy) ∙ copy_refuses a c d k copy contents rests)
+      ∙ ap (λ w. w || choice_refuses a c d k) (before.refused a c d)
+      ∙ ap (λ w. any_choice a c d (take i choices) || choice_refuses a c d w) at ∙ sym (list_any_more (choice_refuses a c d) choices i k lt);
+  states = λ a h. subst (AllChoices a) (sym is) (all_push (IsChoiceOf a) old copy (before.states a h) (copy_states a k copy contents rests (all_at (IsChoiceOf a) choices h i k lt at)));
+}
+
+pub copies_all : (choices : List SideChoice) (i : ℕ) (copies : List SideChoice) → length choices ≤ i → CopiesFirst choices i copies → CopiesChoices choices copies
+copies_all choices i copies le h = record {
+  refused = λ a c d. h.refused a c d ∙ any_walked (choice_refuses a c d) choices i le;
+  states = h.states;
 }

@@ -16,3 +16,5 @@ pub mod PlaceLemmas
 pub mod MergeLemmas
 pub mod IsRedirectedLemmas
 pub mod TwinLemmas
+pub mod ClassLemmas
+pub mod RefusalLemmas

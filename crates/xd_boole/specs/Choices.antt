@@ -53,6 +53,16 @@ pub record ExtendsAll (universal : List Bool) (side : MoveSide) (old new : List 
   pub refused : (a : Automaton) → MarkUniversal a universal → (c d : Document) → any_choice a c d new ≡ (any_choice a c d old && not (side_accepts a c d side))
   pub states : (a : Automaton) → AllChoices a old → is_side a side ≡ true → AllChoices a new
 
+-- with no state that need refuse everything is refused
+pub record IsNoChoice (choices : List SideChoice) : Type 0 where
+  pub refused : (a : Automaton) (c d : Document) → any_choice a c d choices ≡ true
+  pub states : (a : Automaton) → AllChoices a choices
+
+-- these choices refuse the same by the same states
+pub record CopiesChoices (choices copies : List SideChoice) : Type 0 where
+  pub refused : (a : Automaton) (c d : Document) → any_choice a c d copies ≡ any_choice a c d choices
+  pub states : (a : Automaton) → AllChoices a choices → AllChoices a copies
+
 -- the choices for these moves
 pub record AreChoices (universal : List Bool) (sides : List MoveSide) (choices : List SideChoice) : Type 0 where
   pub refused : (a : Automaton) → MarkUniversal a universal → (c d : Document) → any_choice a c d choices ≡ not (list_any (side_accepts a c d) sides)

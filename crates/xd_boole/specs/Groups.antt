@@ -73,6 +73,11 @@ pub record DividesBy {C S M : Type 0} (has : C → List ℕ → Bool) (class_of 
   pub taken : (p : S → Bool) (x : List ℕ) → any_group has p x new ≡ (any_group has p x old && not (list_any (passes_at (λ m. has (class_of m) x && p (side_of m)) moves) numbers))
   pub sides : (p : S → Bool) → AllSides p old → AllByRecursion (λ m. p (side_of m) ≡ true) moves → AllSides p new
 
+-- the moves of these numbers were put behind others
+pub record AddsThose {M : Type 0} (moves : List M) (numbers : List ℕ) (old new : List M) : Type 0 where
+  pub taken : (t : M → Bool) → list_any t new ≡ (list_any t old || list_any (passes_at t moves) numbers)
+  pub all : (t : M → Bool) → AllPass t old → AllPass t moves → AllPass t new
+
 abbrev pub label_side : LabelMove → MoveSide
 label_side m = record { content = m.content; rest = m.rest }
 

@@ -5,3 +5,4 @@ pub mod Choices
 pub mod Points
 pub mod Placing
 pub mod Merging
+pub mod Refusals

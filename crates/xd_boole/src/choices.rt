@@ -1,11 +1,11 @@
 //! Choices of a side for each matching move, by which an element is refused.
 
-ghost use Rattle.std.specs.Prelude.{◌≡◌, ◌||◌, ◌&&◌, IfOk, OnOk};
+ghost use Rattle.std.specs.Prelude.{◌≡◌, ◌||◌, ◌&&◌, Bool, List, IfOk, OnOk};
 ghost use Rattle.xd_boole.specs.Meaning.{has_state, is_within};
-ghost use Rattle.xd_boole.specs.Choices.{AddsChoice, AddsContent, AddsRest, AddsSide, AreChoices, ExtendsAll, KeepsChoice};
+ghost use Rattle.xd_boole.specs.Choices.{AddsChoice, AddsContent, AddsRest, AddsSide, AreChoices, CopiesChoices, ExtendsAll, IsNoChoice, KeepsChoice};
 
 use crate::groups::MoveSide;
-use crate::states::{has_state, is_within, with_state};
+use crate::states::{has_state, is_within, put_state};
 use crate::universal::is_marked;
 use std::alloc::Global;
 use xd_auto::State;
@@ -69,47 +69,54 @@ fn add_choice(
     Ok(kept)
 }
 
-/// Adds a choice, extended by the content of one more matching move, unless that is known to accept
-/// everything.
+/// Adds a choice, extended by the content of one more matching move.
 fn add_with_content(
     alloc: Global,
     choices: Vec<SideChoice>,
-    choice: &SideChoice,
+    choice: SideChoice,
     side: MoveSide,
-    universal: &[bool],
 ) -> Result<Vec<SideChoice>, NoMemory>
-    ensures { IfOk result (λ made. AddsContent universal.now side choice.now choices.items made.items) }
+    ensures { IfOk result (λ made. (universal : List Bool) → AddsContent universal side choice choices.items made.items) }
 {
-    if is_marked(universal, side.content) {
-        return Ok(choices);
-    }
-    let contents = with_state(alloc, &choice.contents, side.content)?;
-    let rests = choice.rests.to_vec(alloc)?;
+    let SideChoice { contents, rests } = choice;
+    let mut contents = contents;
+    put_state(&mut contents, side.content)?;
     let choices = add_choice(alloc, choices, SideChoice { contents, rests })?;
     Ok(choices)
 }
 
-/// The same by what follows.
+/// The same by what follows, unless that is known to accept everything.
 fn add_with_rest(
     alloc: Global,
     choices: Vec<SideChoice>,
-    choice: &SideChoice,
+    choice: SideChoice,
     side: MoveSide,
     universal: &[bool],
 ) -> Result<Vec<SideChoice>, NoMemory>
-    ensures { IfOk result (λ made. AddsRest universal.now side choice.now choices.items made.items) }
+    ensures { IfOk result (λ made. AddsRest universal.now side choice choices.items made.items) }
 {
     if is_marked(universal, side.rest) {
         return Ok(choices);
     }
-    let contents = choice.contents.to_vec(alloc)?;
-    let rests = with_state(alloc, &choice.rests, side.rest)?;
+    let SideChoice { contents, rests } = choice;
+    let mut rests = rests;
+    put_state(&mut rests, side.rest)?;
     let choices = add_choice(alloc, choices, SideChoice { contents, rests })?;
     Ok(choices)
 }
 
+/// An equal choice.
+fn copy_choice(alloc: Global, choice: &SideChoice) -> Result<SideChoice, NoMemory>
+    ensures contents { IfOk result (λ copy. copy.contents.items ≡ choice.now.contents.items) }
+    ensures rests { IfOk result (λ copy. copy.rests.items ≡ choice.now.rests.items) }
+{
+    let contents = choice.contents.to_vec(alloc)?;
+    let rests = choice.rests.to_vec(alloc)?;
+    Ok(SideChoice { contents, rests })
+}
+
 /// Adds a choice, extended by a side for one more matching move; where it refuses what that accepts
-/// already, as it is.
+/// already, as it is. It is copied only where both its content and what follows can refuse.
 fn add_extended(
     alloc: Global,
     choices: Vec<SideChoice>,
@@ -123,13 +130,22 @@ fn add_extended(
         let choices = add_choice(alloc, choices, choice)?;
         return Ok(choices);
     }
-    let choices = add_with_content(alloc, choices, &choice, side, universal)?;
-    let choices = add_with_rest(alloc, choices, &choice, side, universal)?;
+    if is_marked(universal, side.content) {
+        let choices = add_with_rest(alloc, choices, choice, side, universal)?;
+        return Ok(choices);
+    }
+    if is_marked(universal, side.rest) {
+        let choices = add_with_content(alloc, choices, choice, side)?;
+        return Ok(choices);
+    }
+    let copy = copy_choice(alloc, &choice)?;
+    let choices = add_with_content(alloc, choices, copy, side)?;
+    let choices = add_with_rest(alloc, choices, choice, side, universal)?;
     Ok(choices)
 }
 
 /// Extends each choice by a side for one more matching move.
-fn extend_all(
+pub(crate) fn extend_all(
     alloc: Global,
     choices: Vec<SideChoice>,
     side: MoveSide,
@@ -145,6 +161,18 @@ fn extend_all(
     Ok(extended)
 }
 
+/// The one choice by which an element is refused where no move matches it: no state need refuse.
+pub(crate) fn no_choice(alloc: Global) -> Result<Vec<SideChoice>, NoMemory>
+    ensures { IfOk result (λ made. IsNoChoice made.items) }
+{
+    let mut choices = Vec::new(alloc);
+    choices.push(SideChoice {
+        contents: Vec::new(alloc),
+        rests: Vec::new(alloc),
+    })?;
+    Ok(choices)
+}
+
 /// The choices by which an element is refused by all matching moves, without those that would have
 /// a state refuse that is known to accept everything. Fails only where memory is refused.
 pub fn choices_of(
@@ -154,13 +182,24 @@ pub fn choices_of(
 ) -> Result<Vec<SideChoice>, NoMemory>
     ensures { IfOk result (λ made. AreChoices universal.now sides.now made.items) }
 {
-    let mut choices = Vec::new(alloc);
-    choices.push(SideChoice {
-        contents: Vec::new(alloc),
-        rests: Vec::new(alloc),
-    })?;
+    let mut choices = no_choice(alloc)?;
     for side in sides {
         choices = extend_all(alloc, choices, *side, universal)?;
     }
     Ok(choices)
+}
+
+/// Equal choices.
+pub(crate) fn copy_choices(
+    alloc: Global,
+    choices: &[SideChoice],
+) -> Result<Vec<SideChoice>, NoMemory>
+    ensures { IfOk result (λ copies. CopiesChoices choices.now copies.items) }
+{
+    let mut copies = Vec::new(alloc);
+    for choice in choices {
+        let copy = copy_choice(alloc, choice)?;
+        copies.push(copy)?;
+    }
+    Ok(copies)
 }

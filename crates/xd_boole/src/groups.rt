@@ -4,7 +4,7 @@ ghost use Rattle.std.specs.Prelude.{◌≡◌, ◌<◌, ◌&&◌, ◌++◌, ◌�
 ghost use Rattle.std.specs.List.{All, AllByRecursion};
 ghost use Rattle.xd_doc.specs.Classes.{class_has};
 ghost use Rattle.xd_auto.specs.Automaton.{IsState, has_label, has_text};
-ghost use Rattle.xd_boole.specs.Groups.{AddsInside, AddsOutside, AreLabelGroups, AreLabelGroupsBefore, AreTextGroups, AreTextGroupsBefore, Divides, DividesAll, DividesBy, HasSide, IsPartBy, label_side};
+ghost use Rattle.xd_boole.specs.Groups.{AddsInside, AreLabelGroups, AreLabelGroupsBefore, AreTextGroups, AreTextGroupsBefore, Divides, DividesAll, DividesBy, HasSide, IsPartBy, label_side};
 
 use std::alloc::Global;
 use xd_auto::{Auto, LabelMove, Move, State, TextMove};
@@ -149,20 +149,18 @@ fn copy_sides<S: Copy>(alloc: Global, sides: &[S]) -> Result<Vec<S>, NoMemory>
     Ok(made)
 }
 
-/// The sides with one more, where it isn't there already.
-fn with_side<S: Told>(alloc: Global, sides: &[S], side: S) -> Result<Vec<S>, NoMemory>
+/// The sides with one more.
+fn with_side<S: Copy>(alloc: Global, sides: &[S], side: S) -> Result<Vec<S>, NoMemory>
     ensures { IfOk result (λ made. HasSide sides.now side made.items) }
 {
     let mut made = copy_sides(alloc, sides)?;
-    if has_side(sides, side) {
-        return Ok(made);
-    }
     made.push(side)?;
     Ok(made)
 }
 
-/// Puts the names of a group that a move matches behind the groups, with the move's side.
-fn add_inside<C: Drop, S: Told>(
+/// Puts the names of a group that a move matches behind the groups, with a copy of the group's sides
+/// and the move's.
+fn add_inside<C: Drop, S: Copy>(
     alloc: Global,
     groups: &mut Vec<Group<C, S>>,
     inside: C,
@@ -179,25 +177,26 @@ fn add_inside<C: Drop, S: Told>(
     Ok(())
 }
 
-/// Puts the names of a group that a move doesn't match behind the groups, if there are any.
-fn add_outside<C: Divisible, S: Copy>(
+/// The same where the move matches all names of the group, whose sides go on without a copy.
+fn add_whole<C: Drop, S: Copy>(
     groups: &mut Vec<Group<C, S>>,
-    group: Group<C, S>,
-    class: &C,
+    inside: C,
+    sides: Vec<S>,
+    side: S,
 ) -> Result<(), NoMemory>
-    ensures { OnOk result (AddsOutside C.has class.now group groups.old.items groups.new.items) }
+    ensures { OnOk result (AddsInside inside sides.items side groups.old.items groups.new.items) }
 {
-    if let Some(outside) = group.class.without(class)? {
-        groups.push(Group {
-            class: outside,
-            sides: group.sides,
-        })?;
-    }
+    let mut sides = sides;
+    sides.push(side)?;
+    groups.push(Group {
+        class: inside,
+        sides,
+    })?;
     Ok(())
 }
 
 /// Divides a group into the names that a move matches and those that it doesn't.
-fn divide_apart<C: Divisible, S: Told>(
+fn divide_apart<C: Divisible, S: Copy>(
     alloc: Global,
     groups: &mut Vec<Group<C, S>>,
     group: Group<C, S>,
@@ -210,8 +209,15 @@ fn divide_apart<C: Divisible, S: Told>(
         groups.push(group)?;
         return Ok(());
     };
+    let Some(outside) = group.class.without(class)? else {
+        return add_whole(groups, inside, group.sides, side);
+    };
     add_inside(alloc, groups, inside, &group.sides, side)?;
-    add_outside(groups, group, class)
+    groups.push(Group {
+        class: outside,
+        sides: group.sides,
+    })?;
+    Ok(())
 }
 
 /// Divides a group by a move. Where another move said the same of all its names it stays one.
@@ -318,7 +324,7 @@ pub fn side_of(step: &LabelMove) -> MoveSide
 }
 
 /// Those of the numbers that are below a bound.
-fn below(alloc: Global, numbers: &[usize], bound: usize) -> Result<Vec<usize>, NoMemory>
+pub(crate) fn below(alloc: Global, numbers: &[usize], bound: usize) -> Result<Vec<usize>, NoMemory>
     ensures { IfOk result (λ made. made.items ≡ filter (λ k. nat_lt k bound) numbers.now) }
 {
     let mut made = Vec::new(alloc);

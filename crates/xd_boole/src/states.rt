@@ -1,6 +1,6 @@
 //! Sets of states: each once, in the order of their numbers.
 
-ghost use Rattle.std.specs.Prelude.{◌≡◌, [], IfOk};
+ghost use Rattle.std.specs.Prelude.{◌≡◌, [], IfOk, OnOk};
 ghost use Rattle.std.specs.List.{AllByRecursion, list_any};
 ghost use Rattle.xd_auto.specs.Automaton.{IsState};
 ghost use Rattle.xd_boole.specs.Meaning.{has_state, is_last_in, is_within, with_state, with_states};
@@ -9,23 +9,18 @@ use std::alloc::Global;
 use xd_auto::{Auto, State};
 use xd_doc::NoMemory;
 
-/// The states with one more.
-pub(crate) fn with_state(
-    alloc: Global,
-    states: &[State],
-    state: State,
-) -> Result<Vec<State>, NoMemory>
-    ensures { IfOk result (λ made. made.items ≡ with_state state states.now) }
+/// Puts a state among the others, where it isn't there already.
+pub(crate) fn put_state(states: &mut Vec<State>, state: State) -> Result<(), NoMemory>
+    ensures { OnOk result (states.new.items ≡ with_state state states.old.items) }
 {
     let mut place = 0;
     while place < states.len() && states[place].number() < state.number() {
         place += 1;
     }
-    let mut made = states.to_vec(alloc)?;
     if place == states.len() || states[place] != state {
-        made.insert(place, state)?;
+        states.insert(place, state)?;
     }
-    Ok(made)
+    Ok(())
 }
 
 /// The set of these states. Fails only where memory is refused.
@@ -34,7 +29,7 @@ pub fn set_of(alloc: Global, states: &[State]) -> Result<Vec<State>, NoMemory>
 {
     let mut made = Vec::new(alloc);
     for state in states {
-        made = with_state(alloc, &made, *state)?;
+        put_state(&mut made, *state)?;
     }
     Ok(made)
 }

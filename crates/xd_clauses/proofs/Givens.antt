@@ -1,5 +1,5 @@
 -- What variables are given, and states in automata of their own.
-use Rattle.std.proofs.Common.{◌≡◌, ◌↔◌, ℕ, zero, suc, ◌<◌, ◌+◌, Bool, true, false, ◌&&◌, List, [], ◌∷◌, ◌++◌, map, length, take, get_or, Option, Some, None, refl, sym, ap, ◌∙◌, subst, arith}
+use Rattle.std.proofs.Common.{◌≡◌, ◌↔◌, ℕ, zero, suc, ◌<◌, ◌+◌, Bool, true, false, ◌&&◌, List, [], ◌∷◌, ◌++◌, map, length, take, get_or, refl, sym, ap, ◌∙◌, subst, arith}
 use Rattle.std.specs.List.{All, AllByRecursion, list_any}
 use Rattle.std.proofs.lemmas.List.{take_more}
 use Rattle.xd_doc.specs.Document.{Document, empty, text, element, is_proper}
@@ -33,6 +33,10 @@ accepts_nothing a s e (element l c r) =
 newest : (a : Automaton) (m : StateMoves) → get_or (a ++ m ∷ []) (length a) (no_moves false) ≡ m
 newest [] m = refl
 newest (x ∷ a) m = newest a m
+
+pub new_accepts_nothing : (a b : Automaton) (s : State) → s.number ≡ length a → b ≡ a ++ no_moves false ∷ [] → (d : Document) → accepts b d s ≡ false
+new_accepts_nothing a b s at is d =
+    accepts_nothing b s (ap (λ (w : Automaton). moves_at w s) is ∙ ap (λ n. get_or (a ++ no_moves false ∷ []) n (no_moves false)) at ∙ newest a (no_moves false)) d
 
 pub nothing_more : (vs : List (List ℕ)) (gs : List Given) (i : ℕ) (v : List ℕ) (a b : Automaton) (s : State) → i < length vs → v ≡ get_or vs i v → s.number ≡ length a → b ≡ a ++ no_moves false ∷ [] →
     IsState b s → AllPaired (IsGivenNothing b) (take i vs) gs → AllPaired (IsGivenNothing b) (take (i + 1) vs) (gs ++ record { variable = v; state = s } ∷ [])

@@ -7,3 +7,5 @@ pub mod OwnedLemmas
 pub mod AreMayGivensLemmas
 pub mod NoneTakesLemmas
 pub mod Givens
+pub mod Leaving
+pub mod Unions

@@ -4,3 +4,4 @@ pub mod OfPatterns
 pub mod Clauses
 pub mod Cases
 pub mod Laws
+pub mod Behind

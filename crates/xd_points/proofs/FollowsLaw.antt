@@ -20,7 +20,7 @@ use Rattle.xd_points.specs.Following.{Follows, FollowsAllRuns, IsRunAt}
 use Rattle.xd_points.specs.Points.{AreExpanded, HasMoves, IsLabelStep, IsTextStep, RowView, any_for, is_old, label_means, meaning, point_at, row_at, state_at, text_means}
 use Rattle.xd_points.proofs.MakesMovesLemmas.{not_true, or_left, some_passes}
 
-zip_there : {A : Type 0} (R : A → ℕ → Type 0) (xs : List A) (ys : List ℕ) (k n : ℕ) (x : A) → AllZip R xs ys → slice_get xs k ≡ Some x → slice_get ys k ≡ Some n → R x n
+pub zip_there : {A : Type 0} (R : A → ℕ → Type 0) (xs : List A) (ys : List ℕ) (k n : ℕ) (x : A) → AllZip R xs ys → slice_get xs k ≡ Some x → slice_get ys k ≡ Some n → R x n
 zip_there R [] ys k n x h e f = absurd (cc)
 zip_there R (z ∷ xs) [] k n x h e f = absurd h
 zip_there {A} R (z ∷ xs) (y ∷ ys) zero n x h e f =

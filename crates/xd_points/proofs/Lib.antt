@@ -3,9 +3,9 @@ mod MeetLemmas
 mod HasMovesLemmas
 mod GrowsLemmas
 mod PlaceLemmas
-mod MeaningLaw
-mod StayLaws
+pub mod MeaningLaw
+pub mod StayLaws
 mod MakesMovesLemmas
-mod TableLemmas
+pub mod TableLemmas
 mod PatternMoveLemmas
-mod FollowsLaw
+pub mod FollowsLaw

@@ -16,7 +16,7 @@ use Rattle.xd_points.specs.declared.points.Points.{Points}
 use Rattle.xd_points.specs.declared.placing.Place.{Place}
 use Rattle.xd_points.specs.declared.placing.Place.TheVariants.{Old, New, Nowhere}
 use Rattle.xd_boole.specs.Meaning.{ElementFirst, TextFirst, any_accepts, element_of, move_takes, text_of, text_takes}
-use Rattle.xd_points.specs.Meaning.{PointView, ServePoints, is_old_point, means, point}
+use Rattle.xd_points.specs.Meaning.{PointView, ServePoints, is_old_point, may_leave_out, means, point}
 use Rattle.xd_points.specs.declared.patterns.PatternStates.{PatternStates}
 use Rattle.xd_empty.specs.Parts.{is_marked}
 use Rattle.xd_points.specs.Placing.{IsPlaceOf, IsPlaced, accepts_at, passes_there, passes_to, place_at, state_of, text_passes_there, text_passes_to}
@@ -27,6 +27,36 @@ use Rattle.xd_boole.proofs.Bools.{and_both, and_false, and_left, and_right, or_t
 use Rattle.xd_boole.proofs.GrowsLemmas.{any_agree}
 use Rattle.xd_boole.proofs.MoveBelowLemmas.{labels_below, texts_below}
 use Rattle.xd_boole.proofs.AnyAcceptsLemmas.{same_number}
+
+-- a point that means what its left accepts
+pub old_means : (a : Automaton) (b : PatternStates) → ServePoints a b → (q : PointView) (d : Document) → is_old_point b q ≡ true → accepts a d q.left ≡ means a b q d
+old_means a b serve q d e = go q.rights e
+  where
+    and_true : (v : Bool) → v ≡ (v && true)
+    and_true true = refl
+    and_true false = refl
+
+    twice : (v : Bool) → v ≡ (v && (v && true))
+    twice true = refl
+    twice false = refl
+
+    marked : (m : Bool) → is_marked b.taken.universal.items q.pattern ≡ m → (m || (nat_lt q.pattern.number b.shared && nat_eq q.left.number q.pattern.number)) ≡ true
+        → accepts a d q.left ≡ (accepts a d q.left && (accepts b.auto d q.pattern && true))
+    marked true is h =
+        let takes : accepts b.auto d q.pattern ≡ true = sym (serve.same d q.pattern) ∙ serve.universal q.pattern is d in
+        and_true (accepts a d q.left) ∙ ap (λ w. accepts a d q.left && (w && true)) (sym takes)
+    marked false is h =
+        let same : q.left ≡ q.pattern = ap state_at (same_number q.left.number q.pattern.number (and_right (nat_lt q.pattern.number b.shared) (nat_eq q.left.number q.pattern.number) h)) in
+        let below : q.pattern.number < b.shared = let t = and_left (nat_lt q.pattern.number b.shared) (nat_eq q.left.number q.pattern.number) h in grind (arith, nat_tests) in
+        let agree : accepts a d q.left ≡ accepts b.auto d q.pattern = ap (accepts a d) same ∙ serve.shared d q.pattern below in
+        twice (accepts a d q.left) ∙ ap (λ w. accepts a d q.left && (w && true)) agree
+
+    go : (rights : List State) → is_old_point b (point q.left q.pattern rights) ≡ true → accepts a d q.left ≡ means a b (point q.left q.pattern rights) d
+    go [] h = marked (is_marked b.taken.universal.items q.pattern) refl
+        (and_right (may_leave_out b q.pattern) (is_marked b.taken.universal.items q.pattern || (nat_lt q.pattern.number b.shared && nat_eq q.left.number q.pattern.number)) h)
+    go (r ∷ rs) h =
+        let rest = may_leave_out b q.pattern && (is_marked b.taken.universal.items q.pattern || (nat_lt q.pattern.number b.shared && nat_eq q.left.number q.pattern.number)) in
+        let empty_set : length (r ∷ rs) ≡ 0 = same_number (length (r ∷ rs)) 0 (and_left (nat_eq (length (r ∷ rs)) 0) rest h) in absurd (omega arith)
 
 -- one of these passes a test, and so each test that it passes is passed by one of them
 record Passes {X : Type 0} (P : X → Type 0) (f : X → Bool) (xs : List X) : Type 0 where
@@ -126,35 +156,6 @@ module _ (a : Automaton) (b : PatternStates) (p : Points) (all : AllExpanded a b
       (first : (d : Document) (i : ℕ) → i < base → accepts_at n d (state_of (place_at places i)) ≡ meaning a b p i d)
       (each : (i : ℕ) → base ≤ i → i < length p.points.items → IsPlaceOf b a n p known i (place_at places i))
       (done : (i : ℕ) (s : State) → base ≤ i → i < length p.points.items → place_at places i ≡ New s → IsPlaced p places n i s) where
-    -- a point that means what its left accepts
-    old_means : (q : PointView) (d : Document) → is_old_point b q ≡ true → accepts a d q.left ≡ means a b q d
-    old_means q d e = go q.rights e
-      where
-        and_true : (v : Bool) → v ≡ (v && true)
-        and_true true = refl
-        and_true false = refl
-
-        twice : (v : Bool) → v ≡ (v && (v && true))
-        twice true = refl
-        twice false = refl
-
-        marked : (m : Bool) → is_marked b.taken.universal.items q.pattern ≡ m → (m || (nat_lt q.pattern.number b.shared && nat_eq q.left.number q.pattern.number)) ≡ true
-            → accepts a d q.left ≡ (accepts a d q.left && (accepts b.auto d q.pattern && true))
-        marked true is h =
-            let takes : accepts b.auto d q.pattern ≡ true = sym (serve.same d q.pattern) ∙ serve.universal q.pattern is d in
-            and_true (accepts a d q.left) ∙ ap (λ w. accepts a d q.left && (w && true)) (sym takes)
-        marked false is h =
-            let same : q.left ≡ q.pattern = ap state_at (same_number q.left.number q.pattern.number (and_right (nat_lt q.pattern.number b.shared) (nat_eq q.left.number q.pattern.number) h)) in
-            let below : q.pattern.number < b.shared = let t = and_left (nat_lt q.pattern.number b.shared) (nat_eq q.left.number q.pattern.number) h in grind (arith, nat_tests) in
-            let agree : accepts a d q.left ≡ accepts b.auto d q.pattern = ap (accepts a d) same ∙ serve.shared d q.pattern below in
-            twice (accepts a d q.left) ∙ ap (λ w. accepts a d q.left && (w && true)) agree
-
-        go : (rights : List State) → is_old_point b (point q.left q.pattern rights) ≡ true → accepts a d q.left ≡ means a b (point q.left q.pattern rights) d
-        go [] h = marked (is_marked b.taken.universal.items q.pattern) refl h
-        go (r ∷ rs) h =
-            let rest = is_marked b.taken.universal.items q.pattern || (nat_lt q.pattern.number b.shared && nat_eq q.left.number q.pattern.number) in
-            let empty_set : length (r ∷ rs) ≡ 0 = same_number (length (r ∷ rs)) 0 (and_left (nat_eq (length (r ∷ rs)) 0) rest h) in absurd (omega arith)
-
     -- a place that is no new state
     at_place : (d : Document) (i : ℕ) → i < length p.points.items → ((s : State) → base ≤ i → place_at places i ≡ New s → is_old b p i ≡ false → accepts n d s ≡ meaning a b p i d)
         → accepts_at n d (state_of (place_at places i)) ≡ meaning a b p i d
@@ -166,7 +167,7 @@ module _ (a : Automaton) (b : PatternStates) (p : Points) (all : AllExpanded a b
         go : base ≤ i → (w : Place) → place_at places i ≡ w → IsPlaceOf b a n p known i w → accepts_at n d (state_of w) ≡ meaning a b p i d
         go from (Old s) e is =
             let left = (point_at p.points.items i).left in
-            ap (accepts n d) is.1 ∙ keeps a n lefts_closed extends d left (all.are.whole.points i lt).left ∙ old_means (point_at p.points.items i) d is.0
+            ap (accepts n d) is.1 ∙ keeps a n lefts_closed extends d left (all.are.whole.points i lt).left ∙ old_means a b serve (point_at p.points.items i) d is.0
         go from (New s) e is = new s from e is.0
         go from Nowhere e is = sym (nothing_there i lt (none i lt is) d)
 

@@ -88,6 +88,9 @@ module _ (a : Automaton) (b : PatternStates) (serve : ServePoints a b) (old mid 
   pub within : start.number < length new.points.items
   within = omega (arith, is.within, stay.longer)
 
+  pub start_is : point_at new.points.items start.number ≡ point left pattern rights
+  start_is = stay.points start.number is.within ∙ is.is
+
   pub start_means : (d : Document) → meaning a b new start.number d ≡ takes_alone a b left pattern rights d
   start_means d = meaning_stays a b mid new stay start.number is.within d ∙ ap (λ w. means a b w d) is.is ∙ means_alone a b serve left pattern rights d
 

@@ -37,6 +37,11 @@ pub record IsPointOf (a : Automaton) (b : PatternStates) (p : PointView) : Type 
   pub pattern : IsState b.auto p.pattern
   pub rights : AllByRecursion (IsState b.taken.auto) p.rights
 
--- nothing must refuse, and the pattern's state takes everything or is the left itself: the point means what its left accepts
+-- whether the state may be left out: where nothing must refuse, nobody asks by which of its moves items are taken
+abbrev pub may_leave_out : PatternStates → State → Bool
+may_leave_out b s = is_marked b.left_out.items s
+
+-- nothing must refuse, and the pattern's state, which may be left out, takes everything or is the left itself: the point means what its left accepts
 abbrev pub is_old_point : PatternStates → PointView → Bool
-is_old_point b p = (length p.rights == 0) && (is_marked b.taken.universal.items p.pattern || (nat_lt p.pattern.number b.shared && nat_eq p.left.number p.pattern.number))
+is_old_point b p = (length p.rights == 0)
+    && (may_leave_out b p.pattern && (is_marked b.taken.universal.items p.pattern || (nat_lt p.pattern.number b.shared && nat_eq p.left.number p.pattern.number)))

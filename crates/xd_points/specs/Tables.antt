@@ -1,5 +1,5 @@
 -- Points that are kept from call to call, with the states that accept what they mean.
-use Rattle.std.specs.Prelude.{◌≡◌, ℕ, ◌<◌, Bool, not, ◌&&◌, false, List, length}
+use Rattle.std.specs.Prelude.{◌≡◌, ℕ, ◌<◌, Bool, not, ◌&&◌, false, List, [], length, Option, Some, None, slice_get}
 use Rattle.xd_doc.specs.Document.{Document}
 use Rattle.xd_auto.specs.declared.auto.State.{State}
 use Rattle.xd_auto.specs.Automaton.{Automaton, Extends, IsClosed, accepts}
@@ -8,11 +8,56 @@ use Rattle.xd_boole.specs.Meaning.{any_accepts}
 use Rattle.xd_points.specs.declared.patterns.PatternStates.{PatternStates}
 use Rattle.xd_points.specs.declared.table.PointTable.{PointTable}
 use Rattle.xd_points.specs.Placing.{AreIn, accepts_at, place_at, state_of}
-use Rattle.xd_points.specs.Points.{AreExpanded, meaning}
+use Rattle.xd_points.specs.Points.{AreExpanded, RowView, is_old, meaning, point_at}
 
 -- the left accepts the document, the pattern's state does, and none of the rights does
 abbrev pub takes_alone : Automaton → PatternStates → State → State → List State → Document → Bool
 takes_alone a b left pattern rights d = accepts a d left && (accepts b.auto d pattern && not (any_accepts b.auto rights d))
+
+-- the automaton of the points: a state for each, with the moves by which its parts go on
+abbrev pub points_of : PointTable → Automaton
+points_of t = t.points.made
+
+abbrev pub point_count : PointTable → ℕ
+point_count t = length t.points.points.items
+
+-- the left of a point, and its pattern's state
+abbrev pub left_of : PointTable → State → State
+left_of t s = (point_at t.points.points.items s.number).left
+
+abbrev pub pattern_of : PointTable → State → State
+pattern_of t s = (point_at t.points.points.items s.number).pattern
+
+-- whether the point means what its left accepts, and has no moves of its own
+abbrev pub is_left : PatternStates → PointTable → State → Bool
+is_left b t s = is_old b t.points s.number
+
+-- whether the point means the document
+abbrev pub point_means : Automaton → PatternStates → PointTable → State → Document → Bool
+point_means a b t s d = meaning a b t.points s.number d
+
+-- the state that accepts what the point means, where it means anything
+abbrev pub place_of : PointTable → State → Option State
+place_of t s = state_of (place_at t.places.items s.number)
+
+-- the number of the pattern's move that a point's move stands for
+abbrev pub number_or : Option ℕ → ℕ
+number_or None = 0
+number_or (Some n) = n
+
+abbrev pub labels_in : Option RowView → List ℕ
+labels_in None = []
+labels_in (Some row) = row.labels
+
+abbrev pub texts_in : Option RowView → List ℕ
+texts_in None = []
+texts_in (Some row) = row.texts
+
+abbrev pub label_origin : PointTable → State → ℕ → ℕ
+label_origin t s n = number_or (slice_get (labels_in (slice_get t.rows.items s.number)) n)
+
+abbrev pub text_origin : PointTable → State → ℕ → ℕ
+text_origin t s n = number_or (slice_get (texts_in (slice_get t.rows.items s.number)) n)
 
 -- Each point of the table has its moves and a place, where it is accepted what the point means; and of which of them any document is
 -- known is known.

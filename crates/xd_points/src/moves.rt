@@ -7,8 +7,9 @@ ghost use Rattle.xd_auto.specs.declared.auto.LabelMove.{LabelMove};
 ghost use Rattle.xd_auto.specs.declared.auto.TextMove.{TextMove};
 ghost use Rattle.xd_auto.specs.Automaton.{IsState, accepts, moves_at};
 ghost use Rattle.xd_boole.specs.Meaning.{any_accepts, element_of, has_state, is_state, move_takes, text_of, text_takes};
-ghost use Rattle.xd_boole.specs.Groups.{AllPass, group_refuses, is_side, label_side, side_accepts};
-ghost use Rattle.xd_boole.specs.Choices.{IsChoiceOf, choice_refuses};
+ghost use Rattle.xd_boole.specs.Groups.{AllPass, group_refuses, label_side};
+ghost use Rattle.xd_boole.specs.Choices.{AllChoices, IsChoiceOf, choice_refuses};
+ghost use Rattle.xd_boole.specs.Refusals.{label_refused};
 ghost use Rattle.xd_boole.specs.Points.{MoveBelow, TextBelow};
 ghost use Rattle.xd_points.specs.Meaning.{IsPointOf, ServePoints};
 ghost use Rattle.xd_points.specs.Points.{AddsLabels, AddsTexts, ArePoints, ArePartsOf, AreRestsOf, LabelLeads, TextLeads, any_before, any_text_before, parts_accept, rests_accept};
@@ -18,7 +19,7 @@ use crate::points::{Point, Points, find_or_add, is_refused};
 use std::alloc::Global;
 use xd_auto::{Auto, LabelMove, Move, State, TextMove};
 use xd_boole::{
-    Group, MoveSide, SideChoice, any_marked, choices_of, label_groups_before, set_of, side_of,
+    Group, LabelRefusal, MoveSide, SideChoice, any_marked, label_refusals, set_of, side_of,
     text_groups_before,
 };
 use xd_doc::{Class, NoMemory, Words};
@@ -99,17 +100,16 @@ fn add_group(
     points: &mut Points,
     labels: &mut Vec<LabelMove>,
     parts: Parts,
-    group: &Group<Class, MoveSide>,
+    group: &LabelRefusal,
 ) -> Result<(), NoMemory>
     requires patterns { ServePoints auto.now patterns.now }
     requires whole { ArePoints auto.now patterns.now points.old }
     requires leads { AllByRecursion (LabelLeads parts.pattern points.old) labels.old.items }
     requires parts { ArePartsOf auto.now patterns.now parts }
-    requires group { AllPass (is_side patterns.now.taken.auto) group.now.sides.items }
-    ensures { OnOk result (AddsLabels parts.pattern auto.now patterns.now points.old points.new labels.old.items labels.new.items (λ q. parts_accept auto.now patterns.now q.content q.rest parts && group_refuses class_has (side_accepts patterns.now.taken.auto q.content q.rest) q.label group.now)) }
+    requires group { AllChoices patterns.now.taken.auto group.now.choices.items }
+    ensures { OnOk result (AddsLabels parts.pattern auto.now patterns.now points.old points.new labels.old.items labels.new.items (λ q. parts_accept auto.now patterns.now q.content q.rest parts && label_refused patterns.now.taken.auto q group.now)) }
 {
-    let choices = choices_of(alloc, &group.sides, &patterns.taken.universal)?;
-    for choice in &choices {
+    for choice in &group.choices {
         add_move(
             alloc,
             auto,
@@ -157,14 +157,7 @@ fn add_meet(
         left: side_of(one),
         pattern: side_of(two),
     };
-    let groups = label_groups_before(
-        alloc,
-        &patterns.taken.auto,
-        &step,
-        &of.rights,
-        of.pattern,
-        place,
-    )?;
+    let groups = label_refusals(alloc, &patterns.taken, &step, &of.rights, of.pattern, place)?;
     for group in &groups {
         add_group(alloc, auto, patterns, points, labels, parts, group)?;
     }

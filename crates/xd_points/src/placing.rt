@@ -25,16 +25,25 @@ pub(crate) enum Place {
     Nowhere,
 }
 
+impl Place {
+    /// The state that stands there.
+    pub(crate) fn state(self) -> Option<State>
+        ensures { result ≡ state_of self }
+    {
+        match self {
+            Place::Old(state) => Some(state),
+            Place::New(state) => Some(state),
+            Place::Nowhere => None,
+        }
+    }
+}
+
 /// The state that stands at the place of a point.
-pub(crate) fn state_there(places: &[Place], point: State) -> Option<State>
+fn state_there(places: &[Place], point: State) -> Option<State>
     requires { point.number < length places.now }
     ensures { result ≡ state_of (place_at places.now point.number) }
 {
-    match places[point.number()] {
-        Place::Old(state) => Some(state),
-        Place::New(state) => Some(state),
-        Place::Nowhere => None,
-    }
+    places[point.number()].state()
 }
 
 /// The place of a point. A new state has no moves yet.

@@ -79,8 +79,8 @@ fn key_of(
     Ok(StateKey::new(alloc, left, &others)?)
 }
 
-/// Whether a point means what its left accepts: nothing must refuse, and the state of the pattern is known to take everything, or is
-/// the left itself, a state that both automata share.
+/// Whether a point means what its left accepts: nothing must refuse, and the state of the pattern, which may be left out, is known to
+/// take everything, or is the left itself, a state that both automata share.
 pub(crate) fn is_old(
     patterns: &PatternStates,
     left: State,
@@ -90,8 +90,9 @@ pub(crate) fn is_old(
     ensures { result ≡ is_old_point patterns.now (point left pattern rights.now) }
 {
     rights.is_empty()
-        && (is_marked(&patterns.taken.universal, pattern)
-            || (pattern.number() < patterns.shared && left.number() == pattern.number()))
+        && (is_marked(&patterns.left_out, pattern)
+            && (is_marked(&patterns.taken.universal, pattern)
+                || (pattern.number() < patterns.shared && left.number() == pattern.number())))
 }
 
 /// Whether the state of a pattern is one of those that must refuse: then nothing is left of it.

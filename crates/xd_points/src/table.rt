@@ -1,15 +1,16 @@
 //! Points that are kept from call to call, and states that accept what they mean.
 
-ghost use Rattle.std.specs.Prelude.{◌≡◌, false, length, IfOk, IfSome, OnOk};
+ghost use Rattle.std.specs.Prelude.{◌≡◌, ◌<◌, false, length, slice_get, IfOk, IfSome, OnOk};
 ghost use Rattle.std.specs.List.{AllByRecursion};
 ghost use Rattle.xd_doc.specs.Document.{Document};
-ghost use Rattle.xd_auto.specs.Automaton.{Automaton, Extends, IsState};
+ghost use Rattle.xd_auto.specs.Automaton.{Automaton, Extends, IsState, state_number};
 ghost use Rattle.xd_points.specs.Meaning.{ServePoints};
 ghost use Rattle.xd_points.specs.Points.{AreExpanded, KeepMoves, KeepsPoints};
+ghost use Rattle.xd_points.specs.Tables.{number_or};
 
 use crate::patterns::PatternStates;
-use crate::placing::{Place, place_points, state_there};
-use crate::points::{Points, find_or_add};
+use crate::placing::{Place, place_points};
+use crate::points::{Points, find_or_add, is_old};
 use crate::steps::{Row, expand};
 use std::alloc::Global;
 use xd_auto::{Auto, State};
@@ -52,10 +53,20 @@ fn expand_all(
     Ok(())
 }
 
+/// The number at a place of a list; 0 past its end.
+fn number_at(numbers: &[usize], place: usize) -> usize
+    ensures { result ≡ number_or (slice_get numbers.now place) }
+{
+    match numbers.get(place) {
+        Some(number) => *number,
+        None => 0,
+    }
+}
+
 impl PointTable {
     ghost use Rattle.xd_points.specs.declared.patterns.PatternStates.{PatternStates as PatternsView};
     ghost use Rattle.xd_points.specs.Placing.{accepts_at};
-    ghost use Rattle.xd_points.specs.Tables.{IsTableOf, takes_alone};
+    ghost use Rattle.xd_points.specs.Tables.{IsTableOf, is_left, label_origin, left_of, pattern_of, point_count, place_of, point_means, points_of, takes_alone, text_origin};
 
     /// No points.
     pub fn new(alloc: Global) -> Self
@@ -101,6 +112,32 @@ impl PointTable {
         ensures exact { IfOk result (λ found. (d : Document) → accepts_at auto.new d found ≡ takes_alone auto.old patterns.now left pattern rights.now d) }
         ensures extends { Extends auto.old auto.new }
     {
+        let point = self.find(alloc, auto, patterns, left, pattern, rights)?;
+        Ok(self.place(point))
+    }
+
+    /// The point of a state of the automaton, a state of the patterns and further ones, with all that it leads to: a state of
+    /// [`points`](Self::points). States are added to the automaton where [`accept`](Self::accept) says.
+    pub fn find(
+        &mut self,
+        alloc: Global,
+        auto: &mut Auto,
+        patterns: &PatternStates,
+        left: State,
+        pattern: State,
+        rights: &[State],
+    ) -> Result<State, NoMemory>
+        requires patterns { ServePoints auto.old patterns.now }
+        requires table { IsTableOf auto.old patterns.now self.old }
+        requires left { IsState auto.old left }
+        requires pattern { IsState patterns.now.auto pattern }
+        requires rights { AllByRecursion (IsState patterns.now.auto) rights.now }
+        ensures table { OnOk result (IsTableOf auto.new patterns.now self.new) }
+        ensures belongs { IfOk result (IsState (points_of self.new)) }
+        ensures pattern { IfOk result (λ point. pattern_of self.new point ≡ pattern) }
+        ensures means { IfOk result (λ point. (d : Document) → point_means auto.new patterns.now self.new point d ≡ takes_alone auto.old patterns.now left pattern rights.now d) }
+        ensures extends { Extends auto.old auto.new }
+    {
         let _states = auto.len();
         self.known.stays_known();
         let start = find_or_add(
@@ -115,6 +152,75 @@ impl PointTable {
         expand_all(alloc, auto, patterns, &mut self.points, &mut self.rows)?;
         self.known.learn(alloc, &self.points.made, &mut self.store)?;
         place_points(auto, patterns, &self.points, &self.known, &mut self.places)?;
-        Ok(state_there(&self.places, start))
+        Ok(start)
+    }
+
+    /// The automaton of the points. Where [`is_left`](Self::is_left) says so, a state's moves there mean nothing.
+    pub fn points(&self) -> &Auto
+        ensures { result.now ≡ points_of self.now }
+    {
+        &self.points.made
+    }
+
+    /// How many points there are.
+    pub fn count(&self) -> usize
+        ensures { result ≡ point_count self.now }
+    {
+        self.points.points.len()
+    }
+
+    /// The left of a point.
+    pub fn left(&self, point: State) -> State
+        requires { state_number point < point_count self.now }
+        ensures { result ≡ left_of self.now point }
+    {
+        self.points.points[point.number()].left
+    }
+
+    /// The pattern's state of a point.
+    pub fn pattern(&self, point: State) -> State
+        requires { state_number point < point_count self.now }
+        ensures { result ≡ pattern_of self.now point }
+    {
+        self.points.points[point.number()].pattern
+    }
+
+    /// Whether a point means what its left accepts, and has no moves of its own.
+    pub fn is_left(&self, patterns: &PatternStates, point: State) -> bool
+        requires { state_number point < point_count self.now }
+        ensures { result ≡ is_left patterns.now self.now point }
+    {
+        let of = &self.points.points[point.number()];
+        is_old(patterns, of.left, of.pattern, &of.rights)
+    }
+
+    /// The number of the pattern's move that a point's move on an element stands for.
+    pub fn label_origin(&self, point: State, number: usize) -> usize
+        ensures { result ≡ label_origin self.now point number }
+    {
+        match self.rows.get(point.number()) {
+            Some(row) => number_at(&row.labels, number),
+            None => 0,
+        }
+    }
+
+    /// The same of a move on a text.
+    pub fn text_origin(&self, point: State, number: usize) -> usize
+        ensures { result ≡ text_origin self.now point number }
+    {
+        match self.rows.get(point.number()) {
+            Some(row) => number_at(&row.texts, number),
+            None => 0,
+        }
+    }
+
+    /// The state that accepts what a point means; none where that is nothing.
+    pub fn place(&self, point: State) -> Option<State>
+        ensures { result ≡ place_of self.now point }
+    {
+        match self.places.get(point.number()) {
+            Some(place) => place.state(),
+            None => None,
+        }
     }
 }

@@ -3,7 +3,7 @@ use Rattle.xd_auto.specs.Automaton.{moves_at, no_moves}
 use Rattle.xd_bind.specs.Shifts.{LandsBelow, shifted}
 use Rattle.xd_bind.specs.Blocks.{labels_of_side, texts_of_side}
 use Rattle.xd_bind.proofs.Changes.{length-map'}
-use Rattle.xd_bind.proofs.Copied.{begun, copied_more, lands_themselves, nobody, themselves}
+use Rattle.xd_bind.proofs.CopiedLemmas.{begun, copied_more, lands_themselves, nobody, themselves}
 use Rattle.xd_bind.proofs.ShiftLemmas.{same_automata}
 use Rattle.xd_bind.proofs.copying.copied.Goals as goal
 

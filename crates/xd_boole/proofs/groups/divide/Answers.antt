@@ -1,4 +1,3 @@
-use Rattle.std.proofs.Common.{List, Contains, subst}
 use Rattle.xd_boole.proofs.DividesLemmas.{divides_there}
 use Rattle.xd_boole.proofs.groups.divide.Goals as goal
 

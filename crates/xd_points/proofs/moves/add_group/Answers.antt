@@ -1,9 +1,6 @@
-use Rattle.std.proofs.Common.{◌&&◌, not, ap, ◌∙◌, subst, sym}
-use Rattle.std.specs.List.{list_any}
+use Rattle.std.proofs.Common.{◌&&◌, ap, subst, sym, ◌∙◌}
 use Rattle.xd_doc.specs.Classes.{class_has}
-use Rattle.xd_boole.specs.Groups.{AllPass, is_side, side_accepts}
 use Rattle.xd_boole.specs.Choices.{AllChoices, IsChoiceOf, any_choice, choice_refuses}
-use Rattle.xd_boole.specs.Universal.{MarkUniversal}
 use Rattle.xd_points.specs.Points.{LabelLeads, label_means, parts_accept}
 use Rattle.xd_points.proofs.ArePointsLemmas.{grows_same}
 use Rattle.xd_boole.proofs.DifferenceLemmas.{and_nothing, both_more}
@@ -18,7 +15,7 @@ loop-choice-init c =
     record {
       adds = adds_none (LabelLeads c.args.parts.pattern) (label_means a b) a b (label_stays a b c.args.parts.pattern) (labels_more c.args.parts.pattern) c.args.points.now c.args.labels.now.items _ c.requires.whole c.requires.leads (grows_same c.args.points.now)
           (λ q. and_nothing (class_has c.args.group.now.class q.label) (parts_accept a b q.content q.rest c.args.parts));
-      left = subst (AllChoices b.taken.auto) (sym c.deref-choice-items.ensures.value) (c.in_ok-choices.ensures.states b.taken.auto (subst (AllPass (is_side b.taken.auto)) (sym c.deref.ensures.value) c.requires.group));
+      left = subst (AllChoices b.taken.auto) (sym c.deref-choice-items.ensures.value) c.requires.group;
     }
 
 pub loop-choice-preserved : goal.loop-choice-preserved
@@ -40,13 +37,10 @@ returns c =
     let b = c.args.patterns.now in
     let group = c.args.group.now in
     let items = c.deref-choice-items.result.now in
-    let universal : MarkUniversal b.taken.auto c.deref-2.result.now = subst (MarkUniversal b.taken.auto) (sym c.deref-2.ensures.value) c.requires.patterns.universal in
     adds_like (LabelLeads c.args.parts.pattern) (label_means a b) a b (label_stays a b c.args.parts.pattern) (labels_more c.args.parts.pattern) c.args.points.now c.loop-choice.points c.args.labels.now.items c.loop-choice.labels.items _ _ c.loop-choice.invariant.adds
     (λ q.
-    ap (λ w. class_has group.class q.label && (parts_accept a b q.content q.rest c.args.parts && w))
-    (any_walked (choice_refuses b.taken.auto q.content q.rest) items c.loop-choice.choice-index c.loop-choice-test.false ∙ ap (any_choice b.taken.auto q.content q.rest) c.deref-choice-items.ensures.value
-    ∙ c.in_ok-choices.ensures.refused b.taken.auto universal q.content q.rest ∙ ap (λ ss. not (list_any (side_accepts b.taken.auto q.content q.rest) ss)) c.deref.ensures.value)
-    ∙ part_group (parts_accept a b q.content q.rest c.args.parts) (class_has group.class q.label) (not (list_any (side_accepts b.taken.auto q.content q.rest) group.sides.items)))
+    ap (λ w. class_has group.class q.label && (parts_accept a b q.content q.rest c.args.parts && w)) (any_walked (choice_refuses b.taken.auto q.content q.rest) items c.loop-choice.choice-index c.loop-choice-test.false ∙ ap (any_choice b.taken.auto q.content q.rest) c.deref-choice-items.ensures.value)
+    ∙ part_group (parts_accept a b q.content q.rest c.args.parts) (class_has group.class q.label) (any_choice b.taken.auto q.content q.rest group.choices.items))
 
 pub add_move-requires : goal.add_move-requires
 add_move-requires c =

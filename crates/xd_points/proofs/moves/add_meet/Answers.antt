@@ -6,8 +6,10 @@ use Rattle.xd_auto.specs.declared.auto.State.{State}
 use Rattle.xd_auto.specs.Automaton.{IsState, moves_at}
 use Rattle.xd_boole.specs.Meaning.{any_accepts, element_of, move_takes}
 use Rattle.xd_boole.specs.declared.groups.MoveSide.{MoveSide}
-use Rattle.xd_boole.specs.declared.groups.Group.{Group}
-use Rattle.xd_boole.specs.Groups.{AllPass, any_group, group_refuses, is_side, label_side, side_accepts}
+use Rattle.xd_boole.specs.declared.refusals.LabelRefusal.{LabelRefusal}
+use Rattle.xd_boole.specs.Groups.{label_side, side_accepts}
+use Rattle.xd_boole.specs.Choices.{AllChoices}
+use Rattle.xd_boole.specs.Refusals.{label_refused}
 use Rattle.xd_boole.proofs.DifferenceLemmas.{right_more}
 use Rattle.xd_boole.proofs.Lists.{all_step, any_walked}
 use Rattle.xd_points.specs.declared.moves.Parts.{Parts}
@@ -30,12 +32,12 @@ loop-group-preserved c =
     let items = c.deref-group-items.result.now in
     let i = c.loop-group.group-index in
     let x = c.group-item.result in
-    let next = all_step (λ (g : Group LabelClass MoveSide). AllPass (is_side b.taken.auto) g.sides.items) items i x c.loop-group-test.true c.group-item.is c.loop-group.invariant.left in
+    let next = all_step (λ (g : LabelRefusal). AllChoices b.taken.auto g.choices.items) items i x c.loop-group-test.true c.group-item.is c.loop-group.invariant.left in
     record {
       adds = adds_then (LabelLeads two) (label_means a b) a b (label_stays a b two) (labels_more two) _ _ _ _ _ _ _ _ _ c.loop-group.invariant.adds
           (subst (λ (k : Parts). AddsLabels k.pattern a b c.loop-group.points c.add_group.new.points c.loop-group.labels.items c.add_group.new.labels.items
-          (λ q. parts_accept a b q.content q.rest k && group_refuses class_has (side_accepts b.taken.auto q.content q.rest) q.label x)) same c.in_ok-add_group.ensures)
-          (λ q. right_more (group_refuses class_has (side_accepts b.taken.auto q.content q.rest) q.label) items i x (parts_accept a b q.content q.rest parts) c.loop-group-test.true c.group-item.is);
+          (λ q. parts_accept a b q.content q.rest k && label_refused b.taken.auto q x)) same c.in_ok-add_group.ensures)
+          (λ q. right_more (label_refused b.taken.auto q) items i x (parts_accept a b q.content q.rest parts) c.loop-group-test.true c.group-item.is);
       left = next.1;
     }
 
@@ -56,7 +58,7 @@ returns c =
     adds_like (LabelLeads two) (label_means a b) a b (label_stays a b two) (labels_more two) c.args.points.now c.loop-group.points c.args.labels.now.items c.loop-group.labels.items _ _ c.loop-group.invariant.adds
     (λ q.
     ap (λ w. parts_accept a b q.content q.rest parts && w)
-    (any_walked (group_refuses class_has (side_accepts b.taken.auto q.content q.rest) q.label) items c.loop-group.group-index c.loop-group-test.false ∙ ap (any_group class_has (side_accepts b.taken.auto q.content q.rest) q.label) c.deref-group-items.ensures.value
+    (any_walked (label_refused b.taken.auto q) items c.loop-group.group-index c.loop-group-test.false ∙ ap (list_any (label_refused b.taken.auto q)) c.deref-group-items.ensures.value
     ∙ c.in_ok-groups.ensures.taken q
     ∙ ap (λ (rs : List State). class_has class q.label && not (any_accepts b.taken.auto rs (element_of q) || list_any (move_takes b.taken.auto q) (take c.args.place (moves_at b.taken.auto c.of.inside.pattern).labels))) rights_are
     ∙ ap (λ (s : State). class_has class q.label && not (any_accepts b.taken.auto rights (element_of q) || list_any (move_takes b.taken.auto q) (take c.args.place (moves_at b.taken.auto s).labels))) pattern_is
@@ -64,8 +66,8 @@ returns c =
     ∙ ap (λ w. w && not (any_accepts b.taken.auto rights (element_of q) || any_before b.auto pattern c.args.place q)) (part q.label))
     ∙ met (class_has c.args.one.now.class q.label) (class_has c.args.two.now.class q.label) (side_accepts a q.content q.rest one) (side_accepts b.auto q.content q.rest two) (not (any_accepts b.taken.auto rights (element_of q) || any_before b.auto pattern c.args.place q)))
 
-pub label_groups_before-requires-clause-own : goal.label_groups_before-requires-clause-own
-label_groups_before-requires-clause-own c =
+pub label_refusals-requires-clause-own : goal.label_refusals-requires-clause-own
+label_refusals-requires-clause-own c =
     let b = c.args.patterns.now in
     let here : IsState b.auto c.of.inside.pattern = subst (λ (p : PointView). IsState b.auto p.pattern) (sym c.of.view_is) c.requires.of.pattern in
     omega (arith, here, c.requires.patterns.count)

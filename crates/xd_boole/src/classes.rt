@@ -1,0 +1,54 @@
+//! Classes of labels that are told apart without a new class.
+
+ghost use Rattle.std.specs.Prelude.{◌≡◌, ◌&&◌, not, true, false, List, ℕ};
+ghost use Rattle.xd_doc.specs.Classes.{class_has, is_named};
+
+use xd_doc::{Class, Label};
+
+/// Whether none of the labels is in the class.
+fn has_none(class: &Class, names: &[Label]) -> bool
+    ensures { result ≡ true → (x : List ℕ) → is_named names.now x ≡ true → class_has class.now x ≡ false }
+{
+    for name in names {
+        if class.has(name) {
+            return false;
+        }
+    }
+    true
+}
+
+/// Whether each of the labels is in the class.
+fn has_each(class: &Class, names: &[Label]) -> bool
+    ensures { result ≡ true → (x : List ℕ) → is_named names.now x ≡ true → class_has class.now x ≡ true }
+{
+    for name in names {
+        if !class.has(name) {
+            return false;
+        }
+    }
+    true
+}
+
+/// Whether it is seen that the classes have no label in common. Where one of them names its labels it
+/// always is.
+pub(crate) fn are_apart(one: &Class, two: &Class) -> bool
+    ensures { result ≡ true → (x : List ℕ) → (class_has one.now x && class_has two.now x) ≡ false }
+{
+    if !two.takes_others() {
+        return has_none(one, two.names());
+    }
+    if !one.takes_others() {
+        return has_none(two, one.names());
+    }
+    false
+}
+
+/// Whether it is seen that the first class has all labels of the second.
+pub(crate) fn has_all_of(one: &Class, two: &Class) -> bool
+    ensures { result ≡ true → (x : List ℕ) → class_has two.now x ≡ true → class_has one.now x ≡ true }
+{
+    if !two.takes_others() {
+        return has_each(one, two.names());
+    }
+    one.takes_others() && has_none(two, one.names())
+}

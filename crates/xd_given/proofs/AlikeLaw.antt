@@ -1,0 +1,164 @@
+-- States of an alike set give each variable nothing, or all that they take.
+use Rattle.std.proofs.Common.{◌≡◌, Bool, true, false, sym, ap, ◌∙◌, ◌&&◌, ◌+◌, ◌<◌, ◌≤◌, zero, suc, List, [], ◌∷◌, get_or, length, ⊎_elim, Some, refl, ℕ, ◌≢◌, set, subst, arith}
+use Rattle.std.specs.List.{slice_get}
+use Rattle.std.proofs.lemmas.Bool.{cases_eq}
+use Rattle.std.proofs.lemmas.List.{get_or-set_other}
+use Rattle.std.proofs.Math.ListN.{get_or-eq_default}
+use Rattle.std.proofs.lemmas.Bool.{cases_lt}
+use Rattle.xd_auto.proofs.Closed.{same_state}
+use Rattle.xd_empty.specs.Parts.{is_marked}
+use Rattle.xd_doc.specs.Document.{Document, empty, text, element}
+use Rattle.xd_doc.specs.Classes.{class_has}
+use Rattle.xd_auto.specs.declared.auto.State.{State}
+use Rattle.xd_auto.specs.declared.auto.LabelMove.{LabelMove}
+use Rattle.xd_auto.specs.declared.auto.TextMove.{TextMove}
+use Rattle.xd_auto.specs.Automaton.{Automaton, moves_at}
+use Rattle.xd_auto.specs.Runs.{Run, ends, takes_text, takes_element, IsAcceptingRun}
+use Rattle.xd_auto.proofs.Anys.{IsSomeAnd-parts}
+use Rattle.xd_auto_pairs.specs.Traces.{Owned, trace_of, content_or, rest_or, text_rest_or, IsFree}
+use Rattle.xd_auto.proofs.Anys.{and_both, and_left, and_right}
+use Rattle.xd_bind.specs.Blocks.{is_side}
+use Rattle.xd_given.specs.Alike.{IsAlike, IsAlikeFor, IsAlikeSet, IsIn, alike_label, alike_text, begins, marked_count}
+use Rattle.xd_given.specs.Owning.{GivesAlike, IsWhole, owns_first}
+
+side_is : (own v : Bool) → is_side own v ≡ true → v ≡ own
+side_is true v e = e
+side_is false true e = absurd (cc)
+side_is false false e = refl
+
+-- what the tests of moves tell
+record LabelTold (b : Owned) (set : State → Bool) (s : State) (n : ℕ) (m : LabelMove) : Type 0 where
+  owned : b.element s n ≡ owns_first b s
+  content : set m.content ≡ true
+  nothing : owns_first b m.content ≡ false
+  rest : set m.rest ≡ true
+  goes_on : owns_first b m.rest ≡ owns_first b s
+
+record TextTold (b : Owned) (set : State → Bool) (s : State) (n : ℕ) (m : TextMove) : Type 0 where
+  owned : b.text s n ≡ owns_first b s
+  rest : set m.rest ≡ true
+  goes_on : owns_first b m.rest ≡ owns_first b s
+
+label_told : (b : Owned) (set : State → Bool) (s : State) (n : ℕ) (m : LabelMove) → alike_label b set s n m ≡ true → LabelTold b set s n m
+label_told b set s n m e =
+    let first = owns_first b s in
+    let both = and_right (is_side first (b.element s n)) (begins b set false m.content && begins b set first m.rest) e in
+    let inner = and_left (begins b set false m.content) (begins b set first m.rest) both in
+    let behind = and_right (begins b set false m.content) (begins b set first m.rest) both in
+    record {
+      owned = side_is first (b.element s n) (and_left (is_side first (b.element s n)) _ e);
+      content = and_left (set m.content) (is_side false (owns_first b m.content)) inner;
+      nothing = side_is false (owns_first b m.content) (and_right (set m.content) (is_side false (owns_first b m.content)) inner);
+      rest = and_left (set m.rest) (is_side first (owns_first b m.rest)) behind;
+      goes_on = side_is first (owns_first b m.rest) (and_right (set m.rest) (is_side first (owns_first b m.rest)) behind);
+    }
+
+text_told : (b : Owned) (set : State → Bool) (s : State) (n : ℕ) (m : TextMove) → alike_text b set s n m ≡ true → TextTold b set s n m
+text_told b set s n m e =
+    let first = owns_first b s in
+    let behind = and_right (is_side first (b.text s n)) (begins b set first m.rest) e in
+    record {
+      owned = side_is first (b.text s n) (and_left (is_side first (b.text s n)) _ e);
+      rest = and_left (set m.rest) (is_side first (owns_first b m.rest)) behind;
+      goes_on = side_is first (owns_first b m.rest) (and_right (set m.rest) (is_side first (owns_first b m.rest)) behind);
+    }
+
+module _ (a : Automaton) (b : Owned) (set : State → Bool) (alike : (s : State) → set s ≡ true → IsAlike a b set s) where
+  free : (d : Document) (s : State) (run : Run) → set s ≡ true → owns_first b s ≡ false → IsAcceptingRun a d s run → IsFree (trace_of a b s run)
+  free empty s ends here none h = tt
+  free empty s (takes_text n r) here none h = absurd h
+  free empty s (takes_element n c r) here none h = absurd h
+  free (text t d) s ends here none h = absurd h
+  free (text t d) s (takes_text n r) here none h =
+      let f = IsSomeAnd-parts (slice_get (moves_at a s).texts n) (λ (m : TextMove). (class_has m.words t ≡ true) × IsAcceptingRun a d m.rest r) h in
+      let k = text_told b set s n f.item ((alike s here).texts n f.item f.is) in
+      (k.owned ∙ none, subst (λ (q : State). IsFree (trace_of a b q r)) (sym (ap (text_rest_or s) f.is)) (free d f.item.rest r k.rest (k.goes_on ∙ none) f.holds.1))
+  free (text t d) s (takes_element n c r) here none h = absurd h
+  free (element l e d) s ends here none h = absurd h
+  free (element l e d) s (takes_text n r) here none h = absurd h
+  free (element l e d) s (takes_element n c r) here none h =
+      let f = IsSomeAnd-parts (slice_get (moves_at a s).labels n) (λ (m : LabelMove). (class_has m.class l ≡ true) × IsAcceptingRun a e m.content c × IsAcceptingRun a d m.rest r) h in
+      let k = label_told b set s n f.item ((alike s here).labels n f.item f.is) in (
+        k.owned ∙ none,
+        subst (λ (q : State). IsFree (trace_of a b q c)) (sym (ap (content_or s) f.is)) (free e f.item.content c k.content k.nothing f.holds.1),
+        subst (λ (q : State). IsFree (trace_of a b q r)) (sym (ap (rest_or s) f.is)) (free d f.item.rest r k.rest (k.goes_on ∙ none) f.holds.2),
+      )
+
+  whole : (d : Document) (s : State) (run : Run) → set s ≡ true → owns_first b s ≡ true → IsAcceptingRun a d s run → IsWhole (trace_of a b s run)
+  whole empty s ends here first h = tt
+  whole empty s (takes_text n r) here first h = absurd h
+  whole empty s (takes_element n c r) here first h = absurd h
+  whole (text t d) s ends here first h = absurd h
+  whole (text t d) s (takes_text n r) here first h =
+      let f = IsSomeAnd-parts (slice_get (moves_at a s).texts n) (λ (m : TextMove). (class_has m.words t ≡ true) × IsAcceptingRun a d m.rest r) h in
+      let k = text_told b set s n f.item ((alike s here).texts n f.item f.is) in
+      (k.owned ∙ first, subst (λ (q : State). IsWhole (trace_of a b q r)) (sym (ap (text_rest_or s) f.is)) (whole d f.item.rest r k.rest (k.goes_on ∙ first) f.holds.1))
+  whole (text t d) s (takes_element n c r) here first h = absurd h
+  whole (element l e d) s ends here first h = absurd h
+  whole (element l e d) s (takes_text n r) here first h = absurd h
+  whole (element l e d) s (takes_element n c r) here first h =
+      let f = IsSomeAnd-parts (slice_get (moves_at a s).labels n) (λ (m : LabelMove). (class_has m.class l ≡ true) × IsAcceptingRun a e m.content c × IsAcceptingRun a d m.rest r) h in
+      let k = label_told b set s n f.item ((alike s here).labels n f.item f.is) in (
+        k.owned ∙ first,
+        subst (λ (q : State). IsFree (trace_of a b q c)) (sym (ap (content_or s) f.is)) (free e f.item.content c k.content k.nothing f.holds.1),
+        subst (λ (q : State). IsWhole (trace_of a b q r)) (sym (ap (rest_or s) f.is)) (whole d f.item.rest r k.rest (k.goes_on ∙ first) f.holds.2),
+      )
+
+  pub gives_alike : (s : State) → set s ≡ true → GivesAlike a b s
+  gives_alike s here = record { all = λ first d run h. whole d s run here first h; none = λ first d run h. free d s run here first h }
+
+-- a larger set has no fewer such states
+begins_more : (b : Owned) (one two : State → Bool) (first : Bool) (s : State) → IsIn one two → begins b one first s ≡ true → begins b two first s ≡ true
+begins_more b one two first s more e =
+    and_both (two s) (is_side first (owns_first b s)) (more s (and_left (one s) (is_side first (owns_first b s)) e)) (and_right (one s) (is_side first (owns_first b s)) e)
+
+pub alike_more : (a : Automaton) (owned : ℕ → Owned) (count : ℕ) (one two : State → Bool) (s : State) → IsIn one two → IsAlikeFor a owned count one s → IsAlikeFor a owned count two s
+alike_more a owned count one two s more h x lt = record {
+  labels = λ n m e.
+      let b = owned x in
+      let first = owns_first b s in
+      let is = (h x lt).labels n m e in
+      let both = and_right (is_side first (b.element s n)) (begins b one false m.content && begins b one first m.rest) is in
+      and_both (is_side first (b.element s n)) (begins b two false m.content && begins b two first m.rest) (and_left (is_side first (b.element s n)) _ is)
+      (and_both (begins b two false m.content) (begins b two first m.rest) (begins_more b one two false m.content more (and_left (begins b one false m.content) _ both))
+      (begins_more b one two first m.rest more (and_right (begins b one false m.content) _ both)));
+  texts = λ n m e.
+      let b = owned x in
+      let first = owns_first b s in
+      let is = (h x lt).texts n m e in
+      and_both (is_side first (b.text s n)) (begins b two first m.rest) (and_left (is_side first (b.text s n)) _ is)
+      (begins_more b one two first m.rest more (and_right (is_side first (b.text s n)) _ is));
+}
+
+-- one mark less
+pub fewer_marks : (marks : List Bool) (k : ℕ) → get_or marks k false ≡ true → marked_count (set marks k false) + 1 ≡ marked_count marks
+fewer_marks [] k e = absurd (cc)
+fewer_marks (m ∷ marks) zero e = rw e (omega arith)
+fewer_marks (m ∷ marks) (suc k) e = let more = fewer_marks marks k e in omega (arith, more)
+
+-- what holds of elements below a number, and of the one there
+pub next_more : {X : Type 0} (P : ℕ → X → Type 0) (xs : List X) (i : ℕ) (x : X) → slice_get xs i ≡ Some x → ((n : ℕ) (m : X) → n < i → slice_get xs n ≡ Some m → P n m) → P i x
+    → (n : ℕ) (m : X) → n < i + 1 → slice_get xs n ≡ Some m → P n m
+next_more {X} P xs i x there below here n m lt e = ⊎_elim
+    (λ (same : n ≡ i).
+    let one : x ≡ m = let both = sym there ∙ ap (slice_get xs) (sym same) ∙ e in cc in
+    subst (λ (y : X). P n y) one (subst (λ k. P k x) (sym same) here))
+    (λ (ne : n ≢ i). below n m (omega arith) e)
+    (cases_eq n i)
+
+-- one mark is taken away from a state that isn't alike, or none
+pub still_in : (a : Automaton) (owned : ℕ → Owned) (count : ℕ) (family : State → Bool) (marks : List Bool) (state : State) → (IsAlikeFor a owned count (is_marked marks) state → ⊥) → IsAlikeSet a owned count family → IsIn family (is_marked marks)
+    → IsIn family (is_marked (set marks state.number false))
+still_in a owned count family marks state not is within s h = ⊎_elim
+    (λ (same : s.number ≡ state.number).
+    let at = same_state s state same in
+    absurd (not (alike_more a owned count family (is_marked marks) state within (is state (ap family (sym at) ∙ h)))))
+    (λ (ne : s.number ≢ state.number). get_or-set_other marks state.number s.number false false ne ∙ within s h)
+    (cases_eq s.number state.number)
+
+-- a marked state has a place in the list of marks
+pub marked_within : (marks : List Bool) (s : State) → is_marked marks s ≡ true → s.number < length marks
+marked_within marks s h = ⊎_elim
+    (λ (lt : s.number < length marks). lt)
+    (λ (le : length marks ≤ s.number). absurd (let none : is_marked marks s ≡ false = get_or-eq_default marks false le in let both : true ≡ false = sym h ∙ none in cc))
+    (cases_lt s.number (length marks))

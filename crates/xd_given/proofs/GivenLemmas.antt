@@ -1,0 +1,149 @@
+-- What one variable is given, from the parts that are made for it.
+use Rattle.std.proofs.Common.{ℕ, zero, suc, IfSome, ◌+◌, ◌<◌, ◌≤◌, ◌≡◌, Bool, true, false, ◌||◌, List, [], ◌∷◌, ◌++◌, Option, Some, None, length, get_or, map, refl, sym, ap, ◌∙◌, subst, arith}
+use Rattle.std.specs.List.{All, list_any}
+use Rattle.std.proofs.lemmas.List.{get_or_default}
+use Rattle.std.proofs.lemmas.List.Elements.{All-map}
+use Rattle.xd_doc.specs.Document.{Document, empty, text, element}
+use Rattle.xd_doc.specs.Stored.{document_at}
+use Rattle.xd_auto.specs.declared.auto.State.{State}
+use Rattle.xd_auto.specs.Automaton.{Automaton, Extends, IsClosed, IsState, LeadsBelow, StateMoves, accepts, moves_at, no_moves, takes_element, takes_word}
+use Rattle.xd_auto.proofs.Closed.{moves_at-closed}
+use Rattle.xd_auto.proofs.ExtendsLemmas.{keeps}
+use Rattle.xd_auto_pairs.specs.Traces.{KeepsTogether, Owned}
+use Rattle.xd_least.specs.Least.{Knows, known_of}
+use Rattle.xd_least.specs.declared.document.LeastDocument.{LeastDocument}
+use Rattle.xd_bind.specs.Blocks.{side_moves}
+use Rattle.xd_bind.specs.Marks.{mark_of}
+use Rattle.xd_bind.proofs.IsProjectionLemmas.{all_states, first_begun}
+use Rattle.xd_points.specs.declared.patterns.PatternStates.{PatternStates}
+use Rattle.xd_points.specs.declared.table.PointTable.{PointTable}
+use Rattle.xd_points.specs.Meaning.{ServePoints}
+use Rattle.xd_points.specs.Placing.{accepts_at}
+use Rattle.xd_points.specs.Tables.{IsTableOf, left_of, pattern_of, place_of, point_count, point_means, points_of, takes_alone}
+use Rattle.xd_given.specs.declared.outline.PointOutline.{PointOutline}
+use Rattle.xd_given.specs.Blocks.{AreBlocks, AreFilled, ArePlaces, is_tail, state_or, there}
+use Rattle.xd_given.specs.Given.{IsSharedAlone}
+use Rattle.xd_given.specs.Known.{KnowsLefts}
+use Rattle.xd_given.specs.Outline.{IsOutline, leaf_free}
+use Rattle.xd_given.specs.Owning.{LeavesOutAlike, point_moves}
+use Rattle.xd_given.specs.Traced.{AcceptsGivenAt}
+use Rattle.xd_given.proofs.BlockLaw.{given_law}
+use Rattle.xd_given.proofs.FreeLaw.{leaf_none, leaf_some}
+use Rattle.xd_given.proofs.StayLemmas.{means_still}
+
+any_of_map : {X Y : Type 0} (h : X → Y) (f : Y → Bool) (xs : List X) → list_any f (map h xs) ≡ list_any (λ x. f (h x)) xs
+any_of_map h f [] = refl
+any_of_map h f (x ∷ xs) = ap (λ w. f (h x) || w) (any_of_map h f xs)
+
+-- the lefts of points are states of the automaton
+pub left_state : (a : Automaton) (p : PatternStates) (t : PointTable) (s : State) → IsTableOf a p t → s.number < point_count t → IsState a (left_of t s)
+left_state a p t s is lt = (is.expanded.whole.points s.number lt).left
+
+-- places, one by one
+pub places_belong : (a : Automaton) (p : PatternStates) (t : PointTable) (places : List State) → ArePlaces a p t places → All (IsState a) places
+places_belong a p t places h i d lt =
+    let s : State = record { number = i } in
+    subst (IsState a) (get_or_default places i (record { number = 0 }) d lt) (h.belong s (omega (arith, lt, h.count)))
+
+pub each_place : (a new : Automaton) (p : PatternStates) (t : PointTable) (places : List State) (nothing : State) → IsTableOf a p t → IsClosed a → Extends a new → IsState new nothing
+    → ((d : Document) → accepts new d nothing ≡ false) → length places ≡ point_count t
+    → ((x : ℕ) (d : State) → x < point_count t → get_or places x d ≡ state_or nothing (place_of t (record { number = x }))) → ArePlaces new p t places
+each_place a new p t places nothing is closed more belongs none count each = record {
+  count = count;
+  belong = λ s lt. subst (IsState new) (sym (each s.number (record { number = 0 }) lt)) (there_is (place_of t s) (is.belong s.number));
+  means = λ s d lt.
+      ap (accepts new d) (each s.number (record { number = 0 }) lt) ∙ same d (place_of t s) (is.belong s.number) ∙ is.stands d s.number lt
+      ∙ sym (means_still a new p t s d closed more is lt);
+}
+  where
+    there_is : (o : Option State) → IfSome o (IsState a) → IsState new (state_or nothing o)
+    there_is None h = belongs
+    there_is (Some q) h = more.states q h
+
+    same : (d : Document) (o : Option State) → IfSome o (IsState a) → accepts new d (state_or nothing o) ≡ accepts_at a d o
+    same d None h = none d
+    same d (Some q) h = keeps a new closed more d q h
+
+pub blocks_belong : (a : Automaton) (p : PatternStates) (t : PointTable) (b : Owned) (base : ℕ) (blocks : List State) → base + point_count t ≤ length a
+    → ((s : State) → s.number < point_count t → IsState a (left_of t s)) → AreBlocks p t b base blocks → All (IsState a) blocks
+blocks_belong a p t b base blocks room lefts h i d lt =
+    let s : State = record { number = i } in
+    let here : i < point_count t = omega (arith, lt, h.count) in
+    subst (IsState a) (get_or_default blocks i (record { number = 0 }) d lt) (go s here (is_tail p t b s) refl)
+  where
+    go : (s : State) → s.number < point_count t → (v : Bool) → is_tail p t b s ≡ v → IsState a (there blocks s)
+    go s here true e = subst (IsState a) (sym (h.tail s here e)) (lefts s here)
+    go s here false e = subst (IsState a) (sym (h.other s here e)) (omega arith)
+
+-- an outline's drawing
+module _ (a : Automaton) (p : PatternStates) (t : PointTable) (b : Owned) (is : IsTableOf a p t) (leaf : State → Bool) (start : State) (o : PointOutline) (w : IsOutline p t b leaf start o) where
+  pub drawn_longer : point_count t ≤ length o.drawing
+  drawn_longer = decide (point_count t) refl
+    where
+      decide : (n : ℕ) → n ≡ point_count t → point_count t ≤ length o.drawing
+      decide zero e = omega arith
+      decide (suc n) e =
+          let s : State = record { number = n } in
+          let last : IsState o.drawing s = w.grows.states s (omega (arith, w.drawn.sized, is.expanded.whole.count)) in
+          omega arith
+
+  pub drawn_leads : (s : State) → s.number < point_count t → LeadsBelow (point_count t) (moves_at o.drawing s)
+  drawn_leads s lt =
+      let here : IsState w.drawing s = omega (arith, lt, w.drawn.sized, is.expanded.whole.count) in
+      let count : length w.drawing ≡ point_count t = omega (arith, w.drawn.sized, is.expanded.whole.count) in
+      subst (λ (m : StateMoves). LeadsBelow (point_count t) m) (sym (w.grows.moves s here)) (subst (λ n. LeadsBelow n (moves_at w.drawing s)) count (moves_at-closed w.drawing s w.closed here))
+
+  pub ahead_points : All (λ s. s.number < point_count t) o.ahead.items
+  ahead_points i d lt =
+      let here = all_states w.drawing o.ahead.items w.searched.states i d lt in
+      omega (arith, here, w.drawn.sized, is.expanded.whole.count)
+
+-- the state that accepts what those of the points ahead do
+pub given_here : (a mid new : Automaton) (p : PatternStates) (t : PointTable) (b : Owned) (known : List (Option LeastDocument)) (start : State) (o : PointOutline) (places blocks states : List State) (first : State)
+    → IsTableOf a p t → ServePoints a p → LeavesOutAlike p b → KnowsLefts a t known → start.number < point_count t → KeepsTogether p.auto b (pattern_of t start)
+    → IsOutline p t b (leaf_free a t b known) start o → ArePlaces a p t places → AreBlocks p t b (length a) blocks → IsClosed a → Extends a mid
+    → AreFilled (point_moves t b) o.drawing places blocks (mark_of 0 o.free.items) (length a) (point_count t) mid → states ≡ map (there blocks) o.ahead.items
+    → ((d : Document) → accepts new d first ≡ list_any (accepts mid d) states) → AcceptsGivenAt a p t b start new first
+given_here a mid new p t b known start o places blocks states first is serve alike knows begins together w at are closed more filled states_are united =
+    given_law a p t b is serve alike (leaf_free a t b known) (leaf_some a p t b is serve alike known knows.documents knows.knows knows.lefts) (leaf_none a p t b is serve alike known knows.documents knows.knows knows.lefts)
+    start begins o w places blocks (length a) mid
+    (λ s d lt. keeps a mid closed more d (there places s) (at.belong s lt) ∙ at.means s d lt)
+    (λ s d lt. keeps a mid closed more d (left_of t s) (left_state a p t s is lt))
+    are
+    (λ s lt.
+    let here : IsState w.drawing s = omega (arith, lt, w.drawn.sized, is.expanded.whole.count) in
+    filled s lt
+    ∙ ap (λ (m : StateMoves). side_moves (point_moves t b) true (there places) (there blocks) s m (mark_of 0 o.free.items s)) (w.grows.moves s here)
+    ∙ ap (λ v. side_moves (point_moves t b) true (there places) (there blocks) s (moves_at w.drawing s) v) (w.marks s lt))
+    together new first
+    (λ d. united d ∙ ap (λ (ss : List State). list_any (accepts mid d) ss) states_are ∙ any_of_map (there blocks) (accepts mid d) o.ahead.items)
+
+-- a state that was added without moves accepts nothing
+pub nothing_accepted : (old new : Automaton) (s : State) → s.number ≡ length old → new ≡ old ++ no_moves false ∷ [] → (d : Document) → accepts new d s ≡ false
+nothing_accepted old new s number is = none
+  where
+    bare : moves_at new s ≡ no_moves false
+    bare = (first_begun (record { text = λ q n. false; element = λ q n. false }) (λ q. q) (λ q. q) false old new s number is).opens
+
+    none : (d : Document) → accepts new d s ≡ false
+    none empty = ap (λ (m : StateMoves). m.last) bare
+    none (text t d) = ap (λ (m : StateMoves). list_any (takes_word new t d) m.texts) bare
+    none (element l c d) = ap (λ (m : StateMoves). list_any (takes_element new l c d) m.labels) bare
+
+-- the blocks' states of points ahead belong to the automaton
+pub states_belong : (a : Automaton) (ahead blocks states : List State) → states ≡ map (there blocks) ahead → All (λ s. s.number < length blocks) ahead → All (IsState a) blocks → All (IsState a) states
+states_belong a ahead blocks states is within belong =
+    subst (λ (xs : List State). All (IsState a) xs) (sym is) (All-map (IsState a) (there blocks) ahead (λ i d lt. belong (get_or ahead i d).number (record { number = 0 }) (within i d lt)))
+
+-- what is known of a place shares a document
+pub shared : (a now : Automaton) (p : PatternStates) (t : PointTable) (start place left pattern : State) (rights : List State) (known : List (Option LeastDocument)) (ds : List Document) (f : LeastDocument)
+    → IsTableOf now p t → IsState (points_of t) start → ((d : Document) → point_means now p t start d ≡ takes_alone a p left pattern rights d) → place_of t start ≡ Some place
+    → Knows now ds known → known_of known place ≡ Some f → IsSharedAlone a p left pattern rights
+shared a now p t start place left pattern rights known ds f is belongs means there_is knows found =
+    let l = knows.least place f found in
+    let d : Document = document_at ds f.seq in
+    record {
+      document = d;
+      proper = l.belongs.proper;
+      alone = sym (means d) ∙ sym (is.stands d start.number (omega (arith, belongs, is.expanded.whole.count))) ∙ ap (accepts_at now d) there_is ∙ l.accepted;
+    }

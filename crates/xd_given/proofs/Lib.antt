@@ -1,0 +1,10 @@
+pub mod TraceLemmas
+pub mod PointTraces
+pub mod FreeLaw
+pub mod BlockLaw
+pub mod OutlineLemmas
+pub mod FillLemmas
+pub mod StayLemmas
+pub mod GivenLemmas
+pub mod AlikeLaw
+pub mod UnionLemmas

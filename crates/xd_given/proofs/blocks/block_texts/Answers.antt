@@ -1,0 +1,43 @@
+use Rattle.std.proofs.Common.{◌≡◌, ◌<◌, true, false, ◌∙◌, sym, ap, length, get_or, [], map, take_all, arith}
+use Rattle.std.proofs.lemmas.List.{get_or_default}
+use Rattle.xd_auto.specs.declared.auto.State.{State}
+use Rattle.xd_auto.specs.declared.auto.TextMove.{TextMove}
+use Rattle.xd_bind.specs.Blocks.{chosen, is_side, text_onto}
+use Rattle.xd_bind.proofs.Changes.{text_onto_is, one_passed, one_taken}
+use Rattle.xd_given.specs.Blocks.{there}
+use Rattle.xd_given.proofs.blocks.block_texts.Goals as goal
+use Rattle.xd_given.proofs.blocks.block_texts.Goals.{then-holds+in_ok-words+in_ok-push, else-holds}
+
+-- any state, and any move
+abbrev some_state : State
+some_state = record { number = 0 }
+
+abbrev some_move : TextMove
+some_move = record { words = record { names = []; except = true }; rest = record { number = 0 } }
+
+pub loop-number-preserved : goal.loop-number-preserved
+loop-number-preserved g c =
+    let b = g.H.Holds.owned c.args.owner.now c.args.variable in
+    let xs = c.text_moves-moves.result.now in
+    let i = c.loop-number.number in
+    let within : i < length xs = c.loop-number-test.true in
+    elim c.if-holds.branch [
+      | then-holds+in_ok-words+in_ok-push w ↦
+          let picked : is_side true (b.text c.args.state i) ≡ true = sym c.holds.ensures ∙ w.if-holds.true in
+          let m = w.index-moves-number.result in
+          let onto = text_onto_is (there c.args.blocks.now) m w.in_ok-words.words _ w.in_ok-words.ensures.same (ap (λ n. get_or c.args.blocks.now n some_state) w.number.ensures) in
+          rw (w.texts-is, w.in_ok-push.ensures.items)
+          (one_taken (text_onto (there c.args.blocks.now)) (λ n. is_side true (b.text c.args.state n)) xs i m c.loop-number.texts.items _ within w.index-moves-number.is picked onto c.loop-number.invariant)
+      | else-holds w ↦
+          let passed : is_side true (b.text c.args.state i) ≡ false = sym c.holds.ensures ∙ w.if-holds.false in
+          let m = get_or xs i some_move in
+          rw w.texts-is
+          (one_passed (text_onto (there c.args.blocks.now)) (λ n. is_side true (b.text c.args.state n)) xs i m c.loop-number.texts.items within (get_or_default xs i some_move m within) passed c.loop-number.invariant)
+    ]
+
+pub returns : goal.returns
+returns g c =
+    let b = g.H.Holds.owned c.args.owner.now c.args.variable in
+    c.loop-number.invariant
+    ∙ ap (λ ms. map (text_onto (there c.args.blocks.now)) (chosen (λ n. is_side true (b.text c.args.state n)) ms))
+    (take_all c.loop-number.number c.text_moves-moves.result.now (omega arith) ∙ c.text_moves-moves.ensures.value)

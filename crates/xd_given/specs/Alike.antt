@@ -1,0 +1,42 @@
+-- States whose moves tell that they give each variable nothing, or all that they take.
+use Rattle.std.specs.Prelude.{◌≡◌, ℕ, ◌+◌, ◌<◌, ◌&&◌, Bool, true, false, cond, List, [], ◌∷◌, slice_get, Some}
+use Rattle.xd_auto.specs.declared.auto.State.{State}
+use Rattle.xd_auto.specs.declared.auto.LabelMove.{LabelMove}
+use Rattle.xd_auto.specs.declared.auto.TextMove.{TextMove}
+use Rattle.xd_auto.specs.Automaton.{Automaton, moves_at}
+use Rattle.xd_auto_pairs.specs.Traces.{Owned}
+use Rattle.xd_bind.specs.Blocks.{is_side}
+use Rattle.xd_given.specs.Owning.{owns_first}
+
+-- whether a state of the set begins with moves of the variable, or with none
+abbrev pub begins : Owned → (State → Bool) → Bool → State → Bool
+begins b set first s = set s && is_side first (owns_first b s)
+
+-- whether the move is the variable's where the state's first one is, what follows begins so, and the content with none; both in the set
+abbrev pub alike_label : Owned → (State → Bool) → State → ℕ → LabelMove → Bool
+alike_label b set s n m = is_side (owns_first b s) (b.element s n) && (begins b set false m.content && begins b set (owns_first b s) m.rest)
+
+abbrev pub alike_text : Owned → (State → Bool) → State → ℕ → TextMove → Bool
+alike_text b set s n m = is_side (owns_first b s) (b.text s n) && begins b set (owns_first b s) m.rest
+
+-- all moves of the state are such
+pub record IsAlike (a : Automaton) (b : Owned) (set : State → Bool) (s : State) : Type 0 where
+  pub labels : (n : ℕ) (m : LabelMove) → slice_get (moves_at a s).labels n ≡ Some m → alike_label b set s n m ≡ true
+  pub texts : (n : ℕ) (m : TextMove) → slice_get (moves_at a s).texts n ≡ Some m → alike_text b set s n m ≡ true
+
+-- for each variable
+abbrev pub IsAlikeFor : Automaton → (ℕ → Owned) → ℕ → (State → Bool) → State → Type 0
+IsAlikeFor a owned count set s = (x : ℕ) → x < count → IsAlike a (owned x) set s
+
+-- of each state of the set
+abbrev pub IsAlikeSet : Automaton → (ℕ → Owned) → ℕ → (State → Bool) → Type 0
+IsAlikeSet a owned count set = (s : State) → set s ≡ true → IsAlikeFor a owned count set s
+
+-- each state of the first set is in the second
+abbrev pub IsIn : (State → Bool) → (State → Bool) → Type 0
+IsIn one two = (s : State) → one s ≡ true → two s ≡ true
+
+-- how many are marked
+abbrev pub marked_count : List Bool → ℕ
+marked_count [] = 0
+marked_count (m ∷ marks) = cond m 1 0 + marked_count marks

@@ -1,0 +1,71 @@
+-- Runs of a pattern through points, by their traces. Of these only private contracts and proofs speak.
+use Rattle.std.specs.Prelude.{◌≡◌, ◌⊎◌, ◌↔◌, ℕ, ◌<◌, true, false, List, length, slice_get, slice_index_or, Some}
+use Rattle.xd_doc.specs.Document.{Document, empty, text, element, is_proper}
+use Rattle.xd_auto.specs.declared.auto.State.{State}
+use Rattle.xd_auto.specs.Automaton.{Automaton, IsState, accepts}
+use Rattle.xd_auto.specs.Runs.{Run}
+use Rattle.xd_auto_pairs.specs.Traces.{Owned, Trace, at_end, at_text, at_element, IsFree, held, trace_of}
+use Rattle.xd_bind.specs.declared.tracks.Given.{Given}
+use Rattle.xd_bind.specs.Traced.{ElementStep, TextStep}
+use Rattle.xd_points.specs.declared.patterns.PatternStates.{PatternStates}
+use Rattle.xd_points.specs.declared.table.PointTable.{PointTable}
+use Rattle.xd_points.specs.Following.{IsRunAt}
+use Rattle.xd_points.specs.Tables.{is_left, pattern_of, point_means, points_of}
+use Rattle.xd_given.specs.Owning.{point_moves}
+
+-- the point means the document, and a run of its pattern's state over it has the trace
+pub record HasRunAt (a : Automaton) (p : PatternStates) (t : PointTable) (b : Owned) (d : Document) (s : State) (trace : Trace) : Type 0 where
+  pub run : Run
+  pub at : IsRunAt a p t.points s.number d run
+  pub is : trace_of p.auto b (pattern_of t s) run ≡ trace
+
+-- a run, where the point means what its left accepts
+pub record AtLeft (a : Automaton) (p : PatternStates) (t : PointTable) (b : Owned) (d : Document) (s : State) (trace : Trace) : Type 0 where
+  pub left : is_left p t s ≡ true
+  pub has : HasRunAt a p t b d s trace
+
+-- the same, move by move of the points
+abbrev pub Traced : Automaton → PatternStates → PointTable → Owned → Document → State → Trace → Type 0
+Traced a p t b empty s at_end = point_means a p t s empty ≡ true
+Traced a p t b empty s (at_text own r) = ⊥
+Traced a p t b empty s (at_element own k r) = ⊥
+Traced a p t b (text c d) s at_end = ⊥
+Traced a p t b (text c d) s (at_text own r) =
+    AtLeft a p t b (text c d) s (at_text own r) ⊎ ((is_left p t s ≡ false) × TextStep (points_of t) (point_moves t b) s own c (λ q. Traced a p t b d q r))
+Traced a p t b (text c d) s (at_element own k r) = ⊥
+Traced a p t b (element l c d) s at_end = ⊥
+Traced a p t b (element l c d) s (at_text own r) = ⊥
+Traced a p t b (element l c d) s (at_element own k r) =
+    AtLeft a p t b (element l c d) s (at_element own k r)
+    ⊎ ((is_left p t s ≡ false) × ElementStep (points_of t) (point_moves t b) s own l (λ q. Traced a p t b c q k) (λ q. Traced a p t b d q r))
+
+-- a run from the point that gives the variable nothing
+pub record FreeFrom (a : Automaton) (p : PatternStates) (t : PointTable) (b : Owned) (s : State) : Type 0 where
+  pub document : Document
+  pub trace : Trace
+  pub proper : is_proper document ≡ true
+  pub traced : Traced a p t b document s trace
+  pub free : IsFree trace
+
+-- a run from the point gives the variable this document, on a document that is proper where this one is
+pub record IsGivenAt (a : Automaton) (p : PatternStates) (t : PointTable) (b : Owned) (s : State) (e : Document) : Type 0 where
+  pub document : Document
+  pub trace : Trace
+  pub proper : is_proper e ≡ true → is_proper document ≡ true
+  pub has : HasRunAt a p t b document s trace
+  pub gives : held document trace ≡ e
+
+-- the state accepts exactly these
+abbrev pub AcceptsGivenAt : Automaton → PatternStates → PointTable → Owned → State → Automaton → State → Type 0
+AcceptsGivenAt a p t b s made state = (e : Document) → (accepts made e state ≡ true) ↔ IsGivenAt a p t b s e
+
+-- the variable of this number, and a state that accepts exactly what it is given
+pub record IsGivenAtOf (a : Automaton) (p : PatternStates) (t : PointTable) (owned : ℕ → Owned) (start : State) (variables : List (List ℕ)) (made : Automaton) (x : ℕ) (one : Given) : Type 0 where
+  pub variable : slice_get variables x ≡ Some one.variable
+  pub belongs : IsState made one.state
+  pub given : AcceptsGivenAt a p t (owned x) start made one.state
+
+-- one for each, in their order
+pub record AreGivensAt (a : Automaton) (p : PatternStates) (t : PointTable) (owned : ℕ → Owned) (start : State) (variables : List (List ℕ)) (made : Automaton) (givens : List Given) : Type 0 where
+  pub count : length givens ≡ length variables
+  pub each : (x : ℕ) (d : Given) → x < length givens → IsGivenAtOf a p t owned start variables made x (slice_index_or givens x d)
