@@ -1,7 +1,6 @@
 //! The desks and their names.
 
 use std::alloc::Global;
-use xd_calls_checked::CheckedDesk;
 use xd_calls_clauses::ClauseDesk;
 use xd_calls_documents::DocumentDesk;
 use xd_calls_lines::{Call, CallError, Desk, NamedDesk};
@@ -19,7 +18,6 @@ pub enum AnyDesk {
     Plain(PlainDesk),
     Clauses(ClauseDesk),
     States(StateDesk),
-    Checked(CheckedDesk),
     Parts(PartDesk),
     Steps(StepDesk),
 }
@@ -32,7 +30,6 @@ impl Desk for AnyDesk {
             Self::Plain(desk) => desk.answer(call, out),
             Self::Clauses(desk) => desk.answer(call, out),
             Self::States(desk) => desk.answer(call, out),
-            Self::Checked(desk) => desk.answer(call, out),
             Self::Parts(desk) => desk.answer(call, out),
             Self::Steps(desk) => desk.answer(call, out),
         }
@@ -47,7 +44,6 @@ impl NamedDesk for AnyDesk {
             "plain" => Ok(Self::Plain(PlainDesk::new(alloc))),
             "clauses" => Ok(Self::Clauses(ClauseDesk::new(alloc))),
             "states" => Ok(Self::States(StateDesk::new(alloc))),
-            "checked" => Ok(Self::Checked(CheckedDesk::new(alloc))),
             "parts" => Ok(Self::Parts(PartDesk::new(alloc))),
             "steps" => Ok(Self::Steps(StepDesk::new(alloc))),
             _ => Err(CallError::Unknown),

@@ -3,6 +3,8 @@
 
 mod desk;
 mod pool;
+mod shown;
+mod solved;
 mod states;
 mod tables;
 mod tokens;

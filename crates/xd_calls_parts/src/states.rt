@@ -3,14 +3,17 @@
 
 ghost use Rattle.xd_auto.specs.Automaton.{IsState};
 
+use crate::solved::show_solved;
 use std::alloc::Global;
 use std::io::Write;
 use xd_auto::{Auto, State, StateKey};
-use xd_boole::{MoveSide, choices_of, merged, set_of, taken_from};
-use xd_calls_lines::{Call, CallError, show_class, show_words};
+use xd_boole::{
+    MoveSide, choices_of, label_groups_before, merged, set_of, taken_from, text_groups_before,
+};
+use xd_calls_lines::{Call, CallError, class, show_answer, show_class, show_words, words};
 use xd_calls_programs::{show_members, state_of};
-use xd_empty::kept_part;
-use xd_rules::{Atom, goal_cases, share, sides_of, unnamed_of};
+use xd_empty::{Uses, kept_part};
+use xd_rules::{Atom, goal_cases, label_atoms, share, sides_of, text_atoms, unnamed_of};
 use xd_show_solve::level_of;
 
 /// `set_of NUMBERS`; `keys ONE TWO`, whether the key of the one before the other comes before that of
@@ -18,12 +21,18 @@ use xd_show_solve::level_of;
 /// move with this content and this rest would take; `level TYPE`, to how many states the type's
 /// state leads behind items, itself included; `cases TYPE`, each head that the type's state begins
 /// with, at each of its atoms, and how many heads match there; `unnamed TYPE`; `kept TYPE MARK
-/// DOCUMENTS`, with `all` states marked or `none`; `merged TYPE DOCUMENTS`; `taken TYPE DOCUMENTS`.
+/// DOCUMENTS`, with `all` states marked or `none`; `merged TYPE DOCUMENTS`; `taken TYPE DOCUMENTS`;
+/// `solved TYPE`, the type of what the type's state accepts, with `Any` for each content; `uses
+/// TYPE`, whether moves wait at first, and whether they do once the type's state is found;
+/// `groups TYPE PLACE`, in how many groups the names of its first moves fall by its moves before this
+/// place; `label_atoms CLASS` and `text_atoms CLASS`, the atoms of a class where it alone is named.
 pub fn states(call: &Call<'_>, out: &mut Vec<u8>) -> Result<(), CallError> {
     match call.name {
         "set_of" => show_set(call, out),
         "keys" => show_keys(call, out),
         "choices" => show_choices(call, out),
+        "label_atoms" => show_label_atoms(call, out),
+        "text_atoms" => show_text_atoms(call, out),
         _ => {
             let (auto, state) = state_of(call, 0)?;
             state_call(call, &auto, state, out)
@@ -47,6 +56,9 @@ fn state_call(
         "kept" => show_kept(call, auto, state, out),
         "merged" => show_merged(call, auto, state, out),
         "taken" => show_taken(call, auto, state, out),
+        "solved" => show_solved(call.alloc, auto, state, out),
+        "uses" => show_uses(call.alloc, auto, state, out),
+        "groups" => show_groups(call, auto, state, out),
         _ => Err(CallError::Call),
     }
 }
@@ -177,4 +189,50 @@ fn show_taken(
 {
     let taken = taken_from(call.alloc, auto)?;
     show_members(call, 1, &taken.auto, state, out)
+}
+
+/// Whether moves wait at first, where all states are new, and whether they do once the state is found.
+fn show_uses(alloc: Global, auto: &Auto, state: State, out: &mut Vec<u8>) -> Result<(), CallError>
+    requires { IsState auto.now state }
+{
+    let mut uses = Uses::new(alloc, auto, 0)?;
+    show_answer(!uses.waiting.is_empty(), out)?;
+    uses.wake(state)?;
+    show_answer(!uses.waiting.is_empty(), out)
+}
+
+fn show_groups(
+    call: &Call<'_>,
+    auto: &Auto,
+    state: State,
+    out: &mut Vec<u8>,
+) -> Result<(), CallError>
+    requires { IsState auto.now state }
+{
+    let place = call.size(1)?;
+    if let Some(step) = auto.label_moves(state).first() {
+        let groups = label_groups_before(call.alloc, auto, step, &[], state, place)?;
+        writeln!(out, "{} groups of labels", groups.len())?;
+    }
+    if let Some(step) = auto.text_moves(state).first() {
+        let groups = text_groups_before(call.alloc, auto, step, &[], state, place)?;
+        writeln!(out, "{} groups of texts", groups.len())?;
+    }
+    Ok(())
+}
+
+fn show_label_atoms(call: &Call<'_>, out: &mut Vec<u8>) -> Result<(), CallError> {
+    let labels = class(call.alloc, call.word(0)?)?;
+    for atom in &label_atoms(call.alloc, &labels, &labels)? {
+        show_atom(atom, out)?;
+    }
+    Ok(())
+}
+
+fn show_text_atoms(call: &Call<'_>, out: &mut Vec<u8>) -> Result<(), CallError> {
+    let texts = words(call.alloc, call.word(0)?)?;
+    for atom in &text_atoms(call.alloc, &texts, &texts)? {
+        show_atom(atom, out)?;
+    }
+    Ok(())
 }

@@ -1,5 +1,6 @@
 //! Calls about tables, graphs and lists.
 
+use crate::shown::show_shown;
 use std::alloc::Global;
 use std::io::Write;
 use xd_base::Place;
@@ -7,9 +8,9 @@ use xd_calls_lines::{Call, CallError, label, show_place};
 use xd_calls_programs::{program_of, show_pattern, show_type_line};
 use xd_continuations::Interned;
 use xd_doc::NoMemory;
-use xd_moves::FirstUses;
+use xd_moves::{Continuations, FirstPieces, FirstUses, content};
 use xd_parse::{ParseError, parse_program};
-use xd_parse_trees::queue_of;
+use xd_parse_trees::{join, queue_of};
 use xd_report::{write_place_front, write_texts};
 use xd_sound::{Graph, KnownTypes, SoundProgram, TypeNames};
 use xd_syntax::{
@@ -18,9 +19,10 @@ use xd_syntax::{
 
 /// A node that is added: `add_type`, `add_pattern`, `add_expression`, and `add_program_type` and
 /// `add_sound_type` to the program of the text; `first_uses`, by which node each of its types'
-/// nodes is known. `sort_faults NUMBERS`, the lines on which the faults stand;
-/// `graph NODES FROM TO`; `interned NUMBERS`, a list that is made from its end; `queue NUMBER`;
-/// `names WORDS : PROGRAM`; `known : PROGRAM`; `place_front LINE COLUMN`, `texts WORDS`.
+/// nodes is known; `contents`, the number of the continuation of each of its definitions, where equal types have one number.
+/// `sort_faults NUMBERS`, the lines on which the faults stand;
+/// `graph NODES FROM TO`; `interned NUMBERS`, a list that is made from its end; `queue NUMBER`; `join ONE TWO`, of queues of one number;
+/// `names WORDS : PROGRAM`; `known : PROGRAM`; `place_front LINE COLUMN`, `texts WORDS`; `shown`.
 pub fn tables(call: &Call<'_>, out: &mut Vec<u8>) -> Result<(), CallError> {
     match call.name {
         "add_type" => add_type(call.alloc, out),
@@ -28,15 +30,18 @@ pub fn tables(call: &Call<'_>, out: &mut Vec<u8>) -> Result<(), CallError> {
         "add_expression" => add_expression(call.alloc, out),
         "add_program_type" => add_program_type(call, out),
         "first_uses" => show_first_uses(call, out),
+        "contents" => show_contents(call, out),
         "add_sound_type" => add_sound_type(&mut program_of(call)?, out),
         "sort_faults" => show_sorted(call, out),
         "graph" => show_graph(call, out),
         "interned" => show_interned(call, out),
         "queue" => show_queue(call, out),
+        "join" => show_joined(call, out),
         "names" => show_names(call, out),
         "known" => show_known(call.alloc, &mut program_of(call)?, out),
         "place_front" => show_front(call, out),
         "texts" => show_texts(call, out),
+        "shown" => show_shown(call.alloc, out),
         _ => Err(CallError::Call),
     }
 }
@@ -89,6 +94,18 @@ fn show_first_uses(call: &Call<'_>, out: &mut Vec<u8>) -> Result<(), CallError> 
     uses.cover(types)?;
     for node in 0..types.len() {
         writeln!(out, "{node} by {}", uses.first(types, node))?;
+    }
+    Ok(())
+}
+
+fn show_contents(call: &Call<'_>, out: &mut Vec<u8>) -> Result<(), CallError> {
+    let program = read_program(call)?;
+    let types = program.types();
+    let firsts = FirstPieces::new(call.alloc, types)?;
+    let mut cells = Continuations::new(call.alloc);
+    for definition in program.type_defs() {
+        let number = content(types, definition.body, &mut cells, &firsts)?;
+        writeln!(out, "{} {number}", definition.name.as_str())?;
     }
     Ok(())
 }
@@ -150,6 +167,15 @@ fn show_interned(call: &Call<'_>, out: &mut Vec<u8>) -> Result<(), CallError> {
 fn show_queue(call: &Call<'_>, out: &mut Vec<u8>) -> Result<(), CallError> {
     let queue = queue_of(call.alloc, call.number(0)?)?;
     for number in &queue {
+        writeln!(out, "{number}")?;
+    }
+    Ok(())
+}
+
+fn show_joined(call: &Call<'_>, out: &mut Vec<u8>) -> Result<(), CallError> {
+    let front = queue_of(call.alloc, call.number(0)?)?;
+    let back = queue_of(call.alloc, call.number(1)?)?;
+    for number in &join(front, back)? {
         writeln!(out, "{number}")?;
     }
     Ok(())

@@ -2,13 +2,13 @@
 
 use std::io::Write;
 use xd_calls_lines::{Call, CallError, label, show_place};
-use xd_calls_programs::show_pattern;
+use xd_calls_programs::{show_pattern, show_type_line};
 use xd_lex::{Lexer, text_of};
-use xd_parse_trees::{Cursor, read_pattern_seq};
-use xd_syntax::Patterns;
+use xd_parse_trees::{Cursor, read_pattern_seq, read_type};
+use xd_syntax::{Patterns, Types};
 
 /// `text_of : TEXT`; `word : TEXT`, `label : TEXT` and `quoted : TEXT`, the place of the first token
-/// and what it is taken as; `shared_label WORD`; `read_pattern_seq : TEXT`.
+/// and what it is taken as; `shared_label WORD`; `read_pattern_seq : TEXT`; `read_type : TEXT`.
 pub fn tokens(call: &Call<'_>, out: &mut Vec<u8>) -> Result<(), CallError> {
     match call.name {
         "text_of" => show_text(call.text.as_bytes(), out),
@@ -17,6 +17,7 @@ pub fn tokens(call: &Call<'_>, out: &mut Vec<u8>) -> Result<(), CallError> {
         "quoted" => show_quoted(call, out),
         "shared_label" => show_shared(call, out),
         "read_pattern_seq" => show_read(call, out),
+        "read_type" => show_type(call, out),
         _ => Err(CallError::Call),
     }
 }
@@ -72,4 +73,10 @@ fn show_read(call: &Call<'_>, out: &mut Vec<u8>) -> Result<(), CallError> {
     show_pattern(out, &patterns, id)?;
     out.push(b'\n')?;
     Ok(())
+}
+
+fn show_type(call: &Call<'_>, out: &mut Vec<u8>) -> Result<(), CallError> {
+    let mut types = Types::new(call.alloc);
+    let id = read_type(call.alloc, &mut cursor_of(call.text)?, &mut types)?;
+    show_type_line(&types, id, out)
 }

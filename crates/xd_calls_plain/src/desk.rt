@@ -1,5 +1,6 @@
 //! What the calls work on.
 
+use crate::documents::documents;
 use crate::plain_calls::plain;
 use std::alloc::Global;
 use xd_calls_lines::{Call, CallError, Desk};
@@ -26,6 +27,7 @@ impl Desk for PlainDesk {
             "program" => program(&mut self.programs, &about, out),
             "types" => show_read_type(&mut self.programs, about.text, out),
             "plain" => plain(&self.programs, &about, out),
+            "documents" => documents(&about, out),
             _ => Err(CallError::Call),
         }
     }

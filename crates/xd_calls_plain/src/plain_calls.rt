@@ -1,19 +1,19 @@
 //! Calls of the slow programs about documents.
 
-ghost use Rattle.std.specs.Prelude.{◌<◌, length, IfOk};
+ghost use Rattle.std.specs.Prelude.{IfOk};
 ghost use Rattle.xd_plain.specs.PlainPrograms.{AnyIsFirst};
 
+use crate::documents::{plain_document, spell};
 use crate::plain::{plain_program, plain_tree};
 use std::alloc::Global;
 use std::io::Write;
 use xd_calls_lines::{Call, CallError, show_answer_on};
 use xd_calls_programs::Programs;
-use xd_doc::{Item, NoMemory, Store};
+use xd_doc::NoMemory;
 use xd_plain::{
     NoValue, PlainBinding, PlainClauses, PlainDocument, PlainExpression, PlainFunction,
     PlainProgram, PlainTree, Valued, first_within, fits_within, meaning, value, ways_within,
 };
-use xd_read::read_document;
 
 /// More unfoldings of names than these small documents need.
 const MANY: u64 = 200;
@@ -227,85 +227,4 @@ fn show_reason(why: NoValue, out: &mut Vec<u8>) -> Result<(), CallError> {
         NoValue::NoMemory => return Err(CallError::Memory(NoMemory)),
     }
     Ok(())
-}
-
-/// The canonical text of a document whose texts need no escapes.
-fn spell(document: &PlainDocument, out: &mut Vec<u8>) -> Result<(), CallError> {
-    match document {
-        PlainDocument::Empty => out.extend_from_slice(b"()")?,
-        _ => spell_items(document, out)?,
-    }
-    Ok(())
-}
-
-fn spell_items(document: &PlainDocument, out: &mut Vec<u8>) -> Result<(), CallError> {
-    match document {
-        PlainDocument::Empty => Ok(()),
-        PlainDocument::Text(text, rest) => {
-            write!(out, "\"{}\"", text.as_str())?;
-            spell_rest(rest.is_empty(), out)?;
-            spell_items(rest, out)
-        }
-        PlainDocument::Elem(label, content, rest) => {
-            write!(out, "{}[", label.as_str())?;
-            spell_items(content, out)?;
-            out.push(b']')?;
-            spell_rest(rest.is_empty(), out)?;
-            spell_items(rest, out)
-        }
-    }
-}
-
-fn spell_rest(is_last: bool, out: &mut Vec<u8>) -> Result<(), CallError> {
-    if !is_last {
-        out.push(b',')?;
-    }
-    Ok(())
-}
-
-/// The document that a line spells.
-fn plain_document(alloc: Global, line: &str) -> Result<PlainDocument, CallError> {
-    let mut store = Store::new(alloc);
-    let seq = read_document(alloc, &mut store, line.as_bytes())?;
-    let place = seq.place();
-    let mut made = Vec::new(alloc);
-    for number in 0..store.len() {
-        let document = plain_node(alloc, &store, number, &made)?;
-        made.push(document)?;
-    }
-    older(alloc, &made, place)
-}
-
-/// The document that begins at this place.
-fn older(
-    alloc: Global,
-    made: &[PlainDocument],
-    place: Option<usize>,
-) -> Result<PlainDocument, CallError> {
-    let Some(number) = place else {
-        return Ok(PlainDocument::Empty);
-    };
-    let document = made.get(number).ok_or(CallError::Unknown)?;
-    Ok(document.copy(alloc)?)
-}
-
-/// The document that begins at this node, made of those of older nodes.
-fn plain_node(
-    alloc: Global,
-    store: &Store,
-    number: usize,
-    made: &[PlainDocument],
-) -> Result<PlainDocument, CallError>
-    requires { number < length store.now }
-{
-    let seq = store.at(number);
-    let rest = Box::new(alloc, older(alloc, made, store.next(seq).place())?)?;
-    match store.first(seq) {
-        None => Err(CallError::Unknown),
-        Some(Item::Text(text)) => Ok(PlainDocument::Text(text.share()?, rest)),
-        Some(Item::Elem(label)) => {
-            let content = Box::new(alloc, older(alloc, made, store.content(seq).place())?)?;
-            Ok(PlainDocument::Elem(label.share()?, content, rest))
-        }
-    }
 }

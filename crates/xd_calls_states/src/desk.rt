@@ -37,6 +37,8 @@ impl Desk for StateDesk {
 fn answer(call: &Call<'_>, out: &mut Vec<u8>) -> Result<(), CallError> {
     match call.name {
         "heads" => show_type(call, TypeShown::Heads, out),
+        "numbered" => show_type(call, TypeShown::Numbered, out),
+        "moves" => show_type(call, TypeShown::Moves, out),
         "state_type" => show_type(call, TypeShown::State, out),
         "inhabitant" => show_inhabitant(call, out),
         "least" => show_least(call, out),

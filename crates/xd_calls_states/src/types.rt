@@ -1,20 +1,29 @@
 //! Calls about one type.
 
+ghost use Rattle.std.specs.Prelude.{◌≡◌, ◌<◌, length};
 ghost use Rattle.xd_auto.specs.Automaton.{IsState};
 ghost use Rattle.xd_heads.specs.HeadList.{HeadBelongs};
 ghost use Rattle.xd_heads.specs.Mirrors.{IsTypeState, Mirrors};
+ghost use Rattle.xd_sound.specs.Emptiness.{AreEmptyMarks};
+ghost use Rattle.xd_sound.specs.TypeNames.{AreNumbered};
+ghost use Rattle.xd_syntax.specs.Kept.{program_tree};
+ghost use Rattle.xd_syntax.specs.RecursionFaults.{IsSound};
+ghost use Rattle.xd_syntax.specs.Table.{tree_at};
+ghost use Rattle.xd_syntax.specs.Tree.{any_type};
 ghost use Rattle.xd_syntax.specs.Types.{BelongsTo};
 
 use std::alloc::Global;
 use std::io::Write;
 use xd_auto::{Auto, State};
-use xd_calls_lines::{Call, CallError, show_class, show_words};
+use xd_calls_lines::{Call, CallError, show_answer, show_class, show_words};
 use xd_calls_programs::{state_of, type_of};
+use xd_continuations::meaning_of_any;
 use xd_doc::Store;
 use xd_empty::inhabitant;
-use xd_heads::{Cells, Head, HeadKind, compile_type, heads};
-use xd_sound::SoundProgram;
-use xd_syntax::{TypeId, Types};
+use xd_heads::{Cells, Head, HeadKind, HeadLister, compile_type, heads};
+use xd_moves::{Continuations, Themselves, TypeBodies, content, expand};
+use xd_sound::{KnownTypes, SoundProgram};
+use xd_syntax::{Program, TypeId, Types};
 use xd_type_text::type_text;
 use xd_write::write_document;
 
@@ -23,11 +32,15 @@ use xd_write::write_document;
 pub enum TypeShown {
     /// A line for each of its heads: its class, its content in brackets, and its rest.
     Heads,
+    /// A line for each of them: its class, and whether its content and its rest are the same type.
+    Numbered,
+    /// How many moves its continuation has.
+    Moves,
     /// What its state stands for.
     State,
 }
 
-/// `heads TYPE`, `state_type TYPE`.
+/// `heads TYPE`, `numbered TYPE`, `moves TYPE`, `state_type TYPE`.
 pub fn show_type(call: &Call<'_>, shown: TypeShown, out: &mut Vec<u8>) -> Result<(), CallError> {
     let (mut sound, id) = type_of(call, 0)?;
     show_type_of(call.alloc, shown, &mut sound, id, out)
@@ -44,6 +57,8 @@ fn show_type_of(
 {
     match shown {
         TypeShown::Heads => show_heads_of(alloc, sound, id, out),
+        TypeShown::Numbered => show_numbered_of(alloc, sound, id, out),
+        TypeShown::Moves => show_moves_of(alloc, sound, id, out),
         TypeShown::State => show_state_of(alloc, sound, id, out),
     }
 }
@@ -62,6 +77,74 @@ fn show_heads_of(
         show_head(alloc, types, head, out)?;
     }
     Ok(())
+}
+
+fn show_numbered_of(
+    alloc: Global,
+    sound: &mut SoundProgram,
+    id: TypeId,
+    out: &mut Vec<u8>,
+) -> Result<(), CallError>
+    requires { BelongsTo sound.old.types id }
+{
+    let mut lister = HeadLister::new(alloc, sound)?;
+    for head in &lister.heads(sound.program(), id)? {
+        show_kind(&head.kind, out)?;
+        out.push(b' ')?;
+        show_answer(head.content == head.rest, out)?;
+    }
+    Ok(())
+}
+
+fn show_moves_of(
+    alloc: Global,
+    sound: &mut SoundProgram,
+    id: TypeId,
+    out: &mut Vec<u8>,
+) -> Result<(), CallError>
+    requires { BelongsTo sound.old.types id }
+{
+    let any = meaning_of_any(alloc, sound)?;
+    let KnownTypes { names, empty_marks } = sound.take_known()?;
+    let bodies = TypeBodies {
+        names,
+        any: any.at(),
+    };
+    let count = count_moves(alloc, sound.program(), &bodies, &empty_marks, id)?;
+    writeln!(out, "{count} moves")?;
+    Ok(())
+}
+
+/// How many moves a type of the program has, whose names stand for these nodes, where the marks say which nodes can be empty.
+fn count_moves(
+    alloc: Global,
+    program: &Program,
+    bodies: &TypeBodies,
+    marks: &[bool],
+    id: TypeId,
+) -> Result<usize, CallError>
+    requires sound { IsSound (program_tree program.now) }
+    requires numbered { AreNumbered bodies.now.names program.now.type_defs }
+    requires any { bodies.now.any < length program.now.types }
+    requires any_type { tree_at program.now.types bodies.now.any ≡ any_type }
+    requires marks { AreEmptyMarks program.now.types program.now.type_defs marks.now }
+    requires belongs { BelongsTo program.now.types id }
+{
+    let types = program.types();
+    types.see_table();
+    let mut cells = Continuations::new(alloc);
+    let number = content(types, id, &mut cells, &Themselves)?;
+    let found = expand(
+        alloc,
+        types,
+        program.type_defs(),
+        bodies,
+        marks,
+        &mut cells,
+        &Themselves,
+        number,
+    )?;
+    Ok(found.len())
 }
 
 fn show_kind(kind: &HeadKind, out: &mut Vec<u8>) -> Result<(), CallError> {

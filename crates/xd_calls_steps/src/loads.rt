@@ -8,7 +8,9 @@ use std::alloc::Global;
 use std::io::Write;
 use xd_base::MemoryShelf;
 use xd_calls_lines::{Call, CallError};
-use xd_command_steps::{Output, Stop, load_bytes, load_document, load_program, load_proof};
+use xd_command_steps::{
+    Output, Stop, load_bytes, load_document, load_program, load_proof, sound_program,
+};
 use xd_doc::{NoMemory, Store};
 use xd_proof::Proof;
 use xd_sound::SoundProgram;
@@ -17,8 +19,12 @@ use xd_write::write_document;
 /// `load add NAME : TEXT` puts a text on the shelf. `bytes NAME` says how many it has, `document
 /// NAME` writes its document, `program NAME` says how many types it defines, and `proof FILE NAME`
 /// how many goals it has over the types of the program in FILE; `claim FILE NAME` and `second FILE
-/// NAME` are the outputs with that proof's claim and with its text in the second format.
+/// NAME` are the outputs with that proof's claim and with its text in the second format. `sound : TEXT` says how many types the
+/// program of its own text defines.
 pub fn load(shelf: &mut MemoryShelf, call: &Call<'_>, out: &mut Vec<u8>) -> Result<(), CallError> {
+    if call.name == "sound" {
+        return show_sound(call, out);
+    }
     let name = call.word(0)?;
     match call.name {
         "add" => Ok(shelf.add(name, call.text.as_bytes())?),
@@ -75,6 +81,14 @@ fn show_program(
     out: &mut Vec<u8>,
 ) -> Result<(), CallError> {
     match load_program(call.alloc, name, shelf) {
+        Ok(sound) => writeln!(out, "{} types", sound.program().type_defs().len())?,
+        Err(stop) => show_stop(call.alloc, stop, out)?,
+    }
+    Ok(())
+}
+
+fn show_sound(call: &Call<'_>, out: &mut Vec<u8>) -> Result<(), CallError> {
+    match sound_program(call.alloc, call.text.as_bytes()) {
         Ok(sound) => writeln!(out, "{} types", sound.program().type_defs().len())?,
         Err(stop) => show_stop(call.alloc, stop, out)?,
     }

@@ -1,6 +1,6 @@
 //! What the calls work on.
 
-use crate::stops::show_stops;
+use crate::stops::{show_begun, show_stops};
 use std::alloc::Global;
 use xd_calls_lines::{Call, CallError, Desk, NamedDesk};
 use xd_calls_programs::program_of;
@@ -16,6 +16,7 @@ impl Desk for StopDesk {
         match call.name {
             "program" => self.keep_program(call),
             "stops" => show_stops(call, self.program.as_str(), call.text.as_bytes(), out),
+            "begins" => show_begun(call, self.program.as_str(), out),
             "stops_of_bytes" => {
                 let bytes = hex_bytes(call)?;
                 show_stops(call, self.program.as_str(), &bytes, out)

@@ -3,12 +3,12 @@
 use std::alloc::Global;
 use std::io::Write;
 use xd_base::Place;
-use xd_calls_lines::{Call, CallError, label, show_place};
-use xd_calls_plain::plain_program;
+use xd_calls_lines::{Call, CallError, label, show_answer_on, show_place};
+use xd_calls_plain::{plain_document, plain_program};
 use xd_calls_programs::{program_of, state_of};
 use xd_doc::NoMemory;
 use xd_plain::PlainTree;
-use xd_plain_stop::{PlainStop, PlainType, plain_stop};
+use xd_plain_stop::{PlainStop, PlainType, Tail, begins_within, plain_stop};
 use xd_stream::{Stream, StreamError};
 
 /// The largest pieces that bytes are fed in.
@@ -40,6 +40,35 @@ pub fn show_stops(
     };
     show_fronts(&about, &of, document, out)?;
     show_stop(plain_stop(call.alloc, &of, document)?, out)
+}
+
+/// `begins TYPE UNFOLDINGS TAIL`: whether some document of the type begins with the items of the call's text, and goes on by
+/// `nothing`, by `anything` or by `something`, which is an item at least.
+pub fn show_begun(call: &Call<'_>, program: &str, out: &mut Vec<u8>) -> Result<(), CallError> {
+    let about = call.about(program);
+    let program = plain_program(call.alloc, program_of(&about)?.program())?;
+    let tree = plain_type(call.alloc, call.word(0)?)?;
+    let unfoldings = call.number(1)?;
+    let tail = tail_of(call.word(2)?)?;
+    let front = plain_document(call.alloc, call.text)?;
+    let is_begun = begins_within(
+        call.alloc,
+        &program.definitions,
+        unfoldings,
+        &tree,
+        &front,
+        &tail,
+    )?;
+    show_answer_on(is_begun, call.text, out)
+}
+
+fn tail_of(word: &str) -> Result<Tail, CallError> {
+    match word {
+        "nothing" => Ok(Tail::Nothing),
+        "anything" => Ok(Tail::Anything),
+        "something" => Ok(Tail::Something),
+        _ => Err(CallError::Words),
+    }
 }
 
 /// The type of a name.

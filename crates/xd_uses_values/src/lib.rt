@@ -3,4 +3,4 @@
 
 mod values;
 
-pub use crate::values::{Value, value_of};
+pub use crate::values::{Value, is_input, value_of};
