@@ -2,7 +2,8 @@
 -- contracts speak.
 use Rattle.std.specs.Prelude.{◌≡◌, ℕ, ◌<◌, ◌≤◌, List, [], ◌∷◌, Option, length, take, Contains}
 use Rattle.xd_doc.specs.Document.{Document, size}
-use Rattle.xd_doc.specs.Stored.{BelongsTo, document_at}
+use Rattle.xd_doc.specs.Stored.{document_at}
+use Rattle.xd_doc.specs.StoredSeq.{BelongsTo}
 use Rattle.xd_auto.specs.declared.auto.State.{State}
 use Rattle.xd_auto.specs.Automaton.{Automaton, IsState, accepts, moves_at, state_number}
 use Rattle.xd_boole.specs.Meaning.{less}

@@ -3,9 +3,11 @@
 ghost use Rattle.std.specs.Prelude.{◌^◌, IfOk};
 ghost use Rattle.xd_doc.specs.Document.{Document};
 ghost use Rattle.xd_doc.specs.LeastUpTo.{IsLeastUpTo};
-ghost use Rattle.xd_doc.specs.Stored.{BelongsTo, document_at};
+ghost use Rattle.xd_doc.specs.Stored.{document_at};
+ghost use Rattle.xd_doc.specs.StoredSeq.{BelongsTo};
 ghost use Rattle.xd_doc.specs.StoreNodes.{Keeps};
 ghost use Rattle.xd_auto.specs.Automaton.{IsState};
+ghost use Rattle.xd_least.specs.Least.{size_limit};
 ghost use Rattle.xd_apart.specs.Apart.{IsApart};
 
 use crate::search::{Found, search};
@@ -36,7 +38,7 @@ pub fn least_apart(
     requires right { IsState auto.now right }
     requires belongs { BelongsTo store.old known }
     requires apart { IsApart auto.now left right (document_at store.old known) }
-    ensures least { IfOk result (λ seq. IsLeastUpTo (2 ^ 63) (IsApart auto.now left right) (document_at store.new seq)) }
+    ensures least { IfOk result (λ seq. IsLeastUpTo size_limit (IsApart auto.now left right) (document_at store.new seq)) }
     ensures belongs { IfOk result (BelongsTo store.new) }
     ensures keeps { Keeps store.old store.new }
 {
@@ -63,7 +65,7 @@ fn least_of_difference(
     requires left { IsState auto.now left }
     requires right { IsState auto.now right }
     requires some { (d : Document) × IsApart auto.now left right d }
-    ensures least { IfOk result (λ seq. IsLeastUpTo (2 ^ 63) (IsApart auto.now left right) (document_at store.new seq)) }
+    ensures least { IfOk result (λ seq. IsLeastUpTo size_limit (IsApart auto.now left right) (document_at store.new seq)) }
     ensures belongs { IfOk result (BelongsTo store.new) }
     ensures keeps { Keeps store.old store.new }
 {

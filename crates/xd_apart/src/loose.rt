@@ -34,10 +34,11 @@ impl Model for Point {
     ghost view = { λ p. record { left = p.left; rights = p.rights.items } };
 }
 
-/// An automaton each of whose states accepts at least what its left accepts and none of its rights does.
+/// An automaton each of whose states accepts at least what its left accepts and none of its rights
+/// does.
 ///
-/// The first states are the lefts themselves, from which nothing is taken away. A later one has the moves
-/// of its left at first.
+/// The first states are the lefts themselves, from which nothing is taken away. A later one has the
+/// moves of its left at first.
 #[derive(Drop)]
 pub(crate) struct Loose {
     pub(crate) lefts: usize,
@@ -117,8 +118,8 @@ fn add_label(
     Ok(())
 }
 
-/// Adds moves that divide a move by one of a right, on the labels of both: one that leads to less for the
-/// content, and one that leads to less for what follows.
+/// Adds moves that divide a move by one of a right, on the labels of both: one that leads to less
+/// for the content, and one that leads to less for what follows.
 fn add_inside(
     made: &mut Vec<LabelMove>,
     divided: &LabelMove,
@@ -202,8 +203,8 @@ fn add_text(made: &mut Vec<TextMove>, words: Words, rest: State) -> Result<(), N
     Ok(())
 }
 
-/// Adds a move that divides a move on a text by one of a right, on the texts of both: it leads to less for
-/// what follows.
+/// Adds a move that divides a move on a text by one of a right, on the texts of both: it leads to
+/// less for what follows.
 fn add_text_inside(
     made: &mut Vec<TextMove>,
     divided: &TextMove,
@@ -449,8 +450,8 @@ impl Loose {
         Ok(made)
     }
 
-    /// Divides a move of a state by a move of one of its rights. An element that the right's move matches
-    /// is refused by the right only where it refuses the content or what follows.
+    /// Divides a move of a state by a move of one of its rights. An element that the right's move
+    /// matches is refused by the right only where it refuses the content or what follows.
     pub(crate) fn divide_label(
         &mut self,
         alloc: Global,
@@ -486,7 +487,8 @@ impl Loose {
         Ok(())
     }
 
-    /// The same of a move on a text, which the right's move refuses only where it refuses what follows.
+    /// The same of a move on a text, which the right's move refuses only where it refuses what
+    /// follows.
     pub(crate) fn divide_text(
         &mut self,
         alloc: Global,

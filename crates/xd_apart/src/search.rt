@@ -3,7 +3,8 @@
 ghost use Rattle.std.specs.Prelude.{◌≡◌, ◌<◌, ◌≤◌, true, false, None, Ok, length, Contains, IfOk, OnOk};
 ghost use Rattle.std.specs.Option.{IfSome};
 ghost use Rattle.xd_doc.specs.Document.{Document};
-ghost use Rattle.xd_doc.specs.Stored.{BelongsTo, document_at};
+ghost use Rattle.xd_doc.specs.Stored.{document_at};
+ghost use Rattle.xd_doc.specs.StoredSeq.{BelongsTo};
 ghost use Rattle.xd_doc.specs.StoreNodes.{Keeps};
 ghost use Rattle.xd_auto.specs.Automaton.{IsState, accepts, moves_at, state_number};
 ghost use Rattle.xd_boole.specs.Points.{point_at};
@@ -40,7 +41,8 @@ pub(crate) struct Taken {
     pub(crate) seq: Seq,
 }
 
-/// A move of a state, by its number, and a move of a right of its point, both of which take the same.
+/// A move of a state, by its number, and a move of a right of its point, both of which take the
+/// same.
 #[derive(Clone, Copy)]
 pub(crate) struct Clash {
     pub(crate) state: State,
@@ -371,8 +373,8 @@ fn step_from(
     }
 }
 
-/// Where a document that a right of the state's point accepts was wrongly taken by a move. Each step
-/// leads to an older node.
+/// Where a document that a right of the state's point accepts was wrongly taken by a move. Each
+/// step leads to an older node.
 fn clash_below(
     alloc: Global,
     auto: &Auto,
@@ -396,7 +398,8 @@ fn clash_below(
     Ok(Step::Lost)
 }
 
-/// Makes the automaton closer where it took the document wrongly; false where no such place was found.
+/// Makes the automaton closer where it took the document wrongly; false where no such place was
+/// found.
 fn close_in(
     alloc: Global,
     auto: &Auto,
@@ -431,10 +434,10 @@ fn close_in(
 /// Searches for a least document of those that the left state accepts and the right one doesn't, of
 /// which there are some.
 ///
-/// A loose automaton accepts all of these, and at first all that the left accepts. If its least document
-/// is one of them, it is a least one. Else it is made closer where it took this document, and asked again.
-/// (The method is that of counterexamples that guide a refinement: Clarke, Grumberg, Jha, Lu and Veith,
-/// *Counterexample-guided abstraction refinement*, CAV 2000.)
+/// A loose automaton accepts all of these, and at first all that the left accepts. If its least
+/// document is one of them, it is a least one. Else it is made closer where it took this document,
+/// and asked again. (The method is that of counterexamples that guide a refinement: Clarke,
+/// Grumberg, Jha, Lu and Veith, *Counterexample-guided abstraction refinement*, CAV 2000.)
 pub(crate) fn search(
     alloc: Global,
     auto: &Auto,

@@ -28,7 +28,8 @@ module _ {M : Type 0} (has : M → List ℕ → Bool) (then : M → Bool) (l : L
   abbrev pub leads : M → Bool
   leads m = has m l && then m
 
-  -- the moves before the next one with the label fail, where those before the place fail from which it is sought
+  -- the moves before the next one with the label fail, where those before the place fail from which
+  -- it is sought
   pub fails_to_next : (from n : ℕ) → IsNext has moves l from n → list_any leads (take from moves) ≡ false
       → list_any leads (take n moves) ≡ false
   fails_to_next from n next fails =

@@ -1,4 +1,5 @@
--- A state accepts a document exactly where it has an accepting run over it, and the list of runs has just these.
+-- A state accepts a document exactly where it has an accepting run over it, and the list of runs
+-- has just these.
 use Rattle.std.proofs.Common.{ℕ, ◌≡◌, true, cond, List, [], ◌∷◌, map, subst}
 use Rattle.std.specs.List.{Contains, flat_map, slice_get}
 use Rattle.xd_doc.specs.Document.{Document, empty, text, element}

@@ -7,7 +7,8 @@ use Rattle.xd_auto.specs.declared.auto.State.{State}
 use Rattle.xd_auto.specs.declared.auto.LabelMove.{LabelMove}
 use Rattle.xd_auto.specs.declared.auto.TextMove.{TextMove}
 
--- what a state has: whether it accepts the empty document, its moves on an element, and its moves on a text
+-- what a state has: whether it accepts the empty document, its moves on an element, and its moves
+-- on a text
 pub record StateMoves : Type 0 where
   pub last : Bool
   pub labels : List LabelMove

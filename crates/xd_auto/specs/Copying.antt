@@ -1,4 +1,5 @@
--- Which states are reached from another; and how states are copied, of which only private contracts speak.
+-- Which states are reached from another; and how states are copied, of which only private contracts
+-- speak.
 use Rattle.std.specs.Prelude.{◌≡◌, ◌≢◌, ℕ, ◌+◌, ◌<◌, ◌≤◌, Bool, true, false, nat_eq, ◌&&◌, is_some, List, [], ◌∷◌, ◌++◌, length, map, slice_index_or, Option, Some, None}
 use Rattle.std.specs.List.{All, AllZip, Contains, list_any}
 use Rattle.std.specs.HashMap.{HashMap, get}
@@ -53,7 +54,8 @@ pub record AddsMoves (contents rests : Copies) (moves old new : StateMoves) : Ty
   pub labels : AddsCopies contents rests moves.labels old.labels new.labels
   pub texts : new.texts ≡ old.texts ++ map (moved_text rests) moves.texts
 
--- the copy of a state; with a tail it goes on there too where the state accepts the empty document, which then is accepted where the tail accepts it
+-- the copy of a state; with a tail it goes on there too where the state accepts the empty document,
+-- which then is accepted where the tail accepts it
 pub record IsFrontCopy (a : Automaton) (contents rests : Copies) (tail s : State) (made : StateMoves) : Type 0 where
   pub front : StateMoves
   pub copied : AddsMoves contents rests (moves_at a s) (no_moves ((moves_at a s).last && (moves_at a tail).last)) front
@@ -74,7 +76,8 @@ accepts_by a moves (text t rest) = list_any (λ m. class_has m.words t && accept
 accepts_by a moves (element l content rest) =
     list_any (λ m. class_has m.class l && (accepts a content m.content && accepts a rest m.rest)) moves.labels
 
--- the moves of some states: what they accept in an automaton that has grown is what one of the states does
+-- the moves of some states: what they accept in an automaton that has grown is what one of the
+-- states does
 pub record AreUnited (a : Automaton) (states : List State) (made : StateMoves) : Type 0 where
   pub below : IsClosed a → LeadsBelow (length a) made
   pub accepted : (b : Automaton) → Extends a b → KeepsAccepting a b → (d : Document) → accepts_by b made d ≡ list_any (accepts a d) states
@@ -88,7 +91,8 @@ pub record IsAround (label : List ℕ) (content rest : State) (made : StateMoves
 abbrev pub HasCopy : Copies → State → Type 0
 HasCopy copies s = (c : State) × (copy_of copies s ≡ Some c)
 
--- each state that the moves lead to for what follows has a copy, and where contents count each for a content too
+-- each state that the moves lead to for what follows has a copy, and where contents count each for
+-- a content too
 pub record AreCopied (contents : Bool) (copies : Copies) (moves : StateMoves) : Type 0 where
   pub content_copies : contents ≡ true → All (λ m. HasCopy copies m.content) moves.labels
   pub rest_copies : All (λ m. HasCopy copies m.rest) moves.labels
@@ -117,7 +121,8 @@ pub data IsReached (a : Automaton) (start : State) : State → Type 0 where
   here : IsReached a start start
   further : (s t : State) → IsReached a start s → LeadsTo a s t → IsReached a start t
 
--- the state accepts what a state does that is reached from the start of another automaton; a move leads there, unless it is the copy of the start
+-- the state accepts what a state does that is reached from the start of another automaton; a move
+-- leads there, unless it is the copy of the start
 pub record IsCopyOf (a : Automaton) (start : State) (new : Automaton) (new_start s : State) : Type 0 where
   pub original : State
   pub reached : IsReached a start original
@@ -129,7 +134,8 @@ pub record ArePlaced (base : ℕ) (order : List State) (copies : Copies) : Type 
   pub placed : (i : ℕ) (e : State) → i < length order → copy_of copies (slice_index_or order i e) ≡ Some (record { number = base + i })
   pub listed : (s c : State) → copy_of copies s ≡ Some c → (i : ℕ) × (i < length order) × (slice_index_or order i s ≡ s) × (c ≡ record { number = base + i })
 
--- more states were found, each of this kind; those that were found before stay, and keep their copies
+-- more states were found, each of this kind; those that were found before stay, and keep their
+-- copies
 pub record FindsMore (Kind : State → Type 0) (order : List State) (copies : Copies) (order2 : List State) (copies2 : Copies) : Type 0 where
   pub longer : length order ≤ length order2
   pub front : (i : ℕ) (e : State) → i < length order → slice_index_or order2 i e ≡ slice_index_or order i e

@@ -1,7 +1,8 @@
 -- Answers that are kept: whether states accept the documents that begin at nodes.
 use Rattle.std.specs.Prelude.{◌≡◌, ◌≢◌, ℕ, ◌+◌, ◌*◌, ◌<◌, ◌≤◌, ◌⊎◌, Bool, cond, List, [], length, map, slice_index_or, Option, Some, None, Vec, vec_capacity}
 use Rattle.xd_doc.specs.Document.{Document}
-use Rattle.xd_doc.specs.Stored.{BelongsTo, document_at}
+use Rattle.xd_doc.specs.Stored.{document_at}
+use Rattle.xd_doc.specs.StoredSeq.{BelongsTo}
 use Rattle.xd_doc.specs.StoreNodes.{Keeps, node_seq}
 use Rattle.xd_auto.specs.declared.auto.State.{State}
 use Rattle.xd_auto.specs.Automaton.{Automaton, Extends, IsState, KeepsAccepting, accepts}
@@ -19,7 +20,8 @@ kept_in words node = cond (bit_of words (2 * node)) (Some (bit_of words (2 * nod
 abbrev pub kept_at : Answers → ℕ → ℕ → Option Bool
 kept_at rows node state = kept_in (slice_index_or rows state []) node
 
--- the node belongs to the store, the state to the automaton, and the answer is whether the state accepts the document at the node
+-- the node belongs to the store, the state to the automaton, and the answer is whether the state
+-- accepts the document at the node
 pub record IsRight (a : Automaton) (ds : List Document) (node : ℕ) (s : State) (answer : Bool) : Type 0 where
   pub belongs : BelongsTo ds (node_seq node)
   pub state : IsState a s

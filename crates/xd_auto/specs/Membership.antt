@@ -1,5 +1,6 @@
--- The room of a scratch; and how it is found out whether a state accepts a document: pairs of a node and a state, the
--- answers that are known, and a stack of pairs that wait. Of all but the room only private contracts speak.
+-- The room of a scratch; and how it is found out whether a state accepts a document: pairs of a
+-- node and a state, the answers that are known, and a stack of pairs that wait. Of all but the room
+-- only private contracts speak.
 use Rattle.std.specs.Prelude.{◌≡◌, ℕ, ◌+◌, ◌-◌, ◌*◌, ◌<◌, ◌≤◌, ◌⊎◌, Bool, false, is_some, List, [], ◌∷◌, length, take, slice_index_or, Option, Some, None}
 use Rattle.std.specs.List.{AllPairs, list_any}
 use Rattle.xd_doc.specs.Document.{Document, empty, text, element}
@@ -28,7 +29,8 @@ abbrev pub AnswersFor : Bool → (ℕ → State → Type 0) → Answer → Type 
 AnswersFor value Wait (Settled answer) = answer ≡ value
 AnswersFor value Wait (Unasked p t) = Wait p t
 
--- whether some move passes the test, or the first move from this one on that waits, when all before it fail
+-- whether some move passes the test, or the first move from this one on that waits, when all before
+-- it fail
 abbrev pub ProgressOver : {X : Type 0} → (X → Bool) → List X → ℕ → (ℕ → State → Type 0) → Progress → Type 0
 ProgressOver test moves tried Wait (Done answer) = answer ≡ list_any test moves
 ProgressOver test moves tried Wait (Waits n p t) = (tried ≤ n) × (n < length moves) × (list_any test (take n moves) ≡ false) × Wait p t
@@ -47,7 +49,8 @@ FailsBefore a (text t rest) s n = (n ≤ length (moves_at a s).texts) × (list_a
 FailsBefore a (element l content rest) s n =
     (n ≤ length (moves_at a s).labels) × (list_any (takes_element a l content rest) (take n (moves_at a s).labels) ≡ false)
 
--- a frame at a place of the stack: its node is so many below the top one, its answer is not known, and the moves that it tried fail
+-- a frame at a place of the stack: its node is so many below the top one, its answer is not known,
+-- and the moves that it tried fail
 pub record IsFrame (a : Automaton) (ds : List Document) (rows : Answers) (top i : ℕ) (f : Frame) : Type 0 where
   pub high : f.node + i ≤ top
   pub state : IsState a f.state
@@ -59,7 +62,8 @@ abbrev pub bottom : List Frame → Option (ℕ × State)
 bottom [] = None
 bottom (f ∷ fs) = Some (f.node, f.state)
 
--- what holds at each step: what is known is right, frames are right, their nodes fall, and the pair that was asked first waits or is known
+-- what holds at each step: what is known is right, frames are right, their nodes fall, and the pair
+-- that was asked first waits or is known
 pub record Walk (a : Automaton) (ds : List Document) (top : ℕ) (s : State) (rows : Answers) (stack : List Frame) : Type 0 where
   pub right : AreRight a ds rows
   pub frames : (i : ℕ) (d : Frame) → i < length stack → IsFrame a ds rows top i (slice_index_or stack i d)

@@ -6,7 +6,8 @@ use Rattle.xd_doc.specs.Classes.{class_has}
 use Rattle.xd_auto.specs.declared.auto.State.{State}
 use Rattle.xd_auto.specs.Automaton.{Automaton, accepts, moves_at}
 
--- a move for each item of a document at every depth: its place among the state's moves on a text or on an element, from 0
+-- a move for each item of a document at every depth: its place among the state's moves on a text or
+-- on an element, from 0
 pub data Run : Type 0 where
   ends : Run
   takes_text : (move : ℕ) (rest : Run) → Run
@@ -32,7 +33,8 @@ abbrev pub from_each : {A B : Type 0} → (ℕ → A → List B) → List A → 
 from_each f [] = []
 from_each f (x ∷ xs) = f 0 x ++ from_each (λ n. f (suc n)) xs
 
--- the runs of a state over a document, in the order of its moves, then of the runs over the content, then of those over the rest
+-- the runs of a state over a document, in the order of its moves, then of the runs over the
+-- content, then of those over the rest
 abbrev pub runs : Automaton → Document → State → List Run
 runs a empty s = cond (moves_at a s).last (ends ∷ []) []
 runs a (text t rest) s = from_each (λ n m. cond (class_has m.words t) (map (takes_text n) (runs a rest m.rest)) []) (moves_at a s).texts

@@ -174,7 +174,8 @@ impl Moves {
         Ok(())
     }
 
-    /// The first move on an element, from this number on, whose class has the label, or their number.
+    /// The first move on an element, from this number on, whose class has the label, or their
+    /// number.
     fn next_label(&self, label: &Label, from: usize) -> usize
         requires { from ≤ length self.now.labels }
         ensures { IsNext has_label self.now.labels label.now from result }
@@ -308,8 +309,8 @@ impl Auto {
 }
 
 impl Auto {
-    /// The laws of runs: a state accepts a document exactly where it has an accepting run over it, and
-    /// the list of its runs has just these. The call does nothing; its contract is the laws.
+    /// The laws of runs: a state accepts a document exactly where it has an accepting run over it,
+    /// and the list of its runs has just these. The call does nothing; its contract is the laws.
     pub fn accepts_by_runs(&self, state: State)
         ensures accepts { AcceptsByRuns self.now state }
         ensures runs { RunsAreAccepting self.now state }
@@ -358,8 +359,8 @@ impl Auto {
 
     /// Gives the state these moves, in place of those that it has.
     ///
-    /// They go into an index with the next move that is added; until then they are found by a walk. So
-    /// this is for automata whose moves aren't sought by name. It takes no memory.
+    /// They go into an index with the next move that is added; until then they are found by a walk.
+    /// So this is for automata whose moves aren't sought by name. It takes no memory.
     pub fn set_moves(&mut self, state: State, labels: Vec<LabelMove>, texts: Vec<TextMove>)
         requires state { IsState self.old state }
         requires labels { All (λ m. (state_number m.content < length self.old) × (state_number m.rest < length self.old)) labels.items }

@@ -10,8 +10,8 @@ use xd_doc::NoMemory;
 
 /// Which answers are known to pairs of a node and a state, and what they are.
 ///
-/// Each state has a row of its own, with two bits a node. A row is as long as its newest node needs, so
-/// a state that was never asked costs no more than an empty vector.
+/// Each state has a row of its own, with two bits a node. A row is as long as its newest node
+/// needs, so a state that was never asked costs no more than an empty vector.
 #[derive(Debug, Drop)]
 pub struct KnownAnswers {
     rows: Vec<Vec<u64>>,

@@ -4,7 +4,8 @@ ghost use Rattle.std.specs.Prelude.{◌≡◌, ℕ, ◌+◌, ◌*◌, ◌/◌, �
 ghost use Rattle.std.specs.List.{list_any};
 ghost use Rattle.xd_doc.specs.Document.{Document};
 ghost use Rattle.xd_doc.specs.DocumentCode.{content_of, rest_of};
-ghost use Rattle.xd_doc.specs.Stored.{BelongsTo, document_at};
+ghost use Rattle.xd_doc.specs.Stored.{document_at};
+ghost use Rattle.xd_doc.specs.StoredSeq.{BelongsTo};
 ghost use Rattle.xd_doc.specs.StoreNodes.{node_seq, place_in_store, place_of};
 ghost use Rattle.xd_auto.specs.Automaton.{Automaton, IsState, IsClosed, accepts, moves_at, state_number, takes_element, takes_word};
 ghost use Rattle.xd_auto.specs.Kept.{AreRight, HasRoom, KeepsAnswers, StayRightForAutomaton, StayRightForStore, kept_at, words_of};
@@ -268,9 +269,9 @@ impl Model for Scratch {
 impl Scratch {
     /// A scratch with room for at least so many states and nodes.
     ///
-    /// It reserves a bit more than a quarter of a byte for each pair of them, and some words a node and
-    /// a state. Of that [`member`] touches the rows of the states that it asks for, as far as their nodes need. `NoMemory` where there
-    /// is no room for all of it.
+    /// It reserves a bit more than a quarter of a byte for each pair of them, and some words a node
+    /// and a state. Of that [`member`] touches the rows of the states that it asks for, as far as
+    /// their nodes need. `NoMemory` where there is no room for all of it.
     pub fn reserve(alloc: Global, states: usize, nodes: usize) -> Result<Self, NoMemory>
         ensures { IfOk result (λ scratch. (states ≤ scratch.states) × (nodes ≤ scratch.nodes)) }
     {
@@ -292,7 +293,8 @@ impl Scratch {
     }
 }
 
-/// Whether the state accepts the document. The scratch has room for the automaton's states and the store's nodes.
+/// Whether the state accepts the document. The scratch has room for the automaton's states and the
+/// store's nodes.
 ///
 /// It takes no memory beyond the scratch, which keeps its room. It does no recursion. Its work is
 /// that of the pairs of a node and a state that are asked for, starting from the document and the
@@ -362,9 +364,9 @@ impl Answers {
 
 /// Whether the state accepts the document, by the answers that are kept and those that it adds.
 ///
-/// Its work is that of the pairs of a node and a state that it needs and that aren't known yet: each
-/// is settled once, by its moves in their order, until one leads on. It does no recursion. After want
-/// of memory the answers that it has found are kept.
+/// Its work is that of the pairs of a node and a state that it needs and that aren't known yet:
+/// each is settled once, by its moves in their order, until one leads on. It does no recursion.
+/// After want of memory the answers that it has found are kept.
 pub fn accepts_kept(
     answers: &mut Answers,
     auto: &Auto,

@@ -7,7 +7,8 @@ use Rattle.xd_auto.specs.Automaton.{Automaton, IsState, moves_at}
 use Rattle.xd_auto_pairs.specs.declared.pairs.Pairs.{Pairs}
 use Rattle.xd_auto_pairs.specs.Pairing.{Origins, IsPairing, StandsFor, boths_in, origins_from}
 
--- what the states and moves stand for, where old states stand for themselves and this state of the first automaton
+-- what the states and moves stand for, where old states stand for themselves and this state of the
+-- first automaton
 abbrev pub origins_in : State → Pairs → Origins
 origins_in all pairs = origins_from pairs.base all pairs.states.items pairs.texts.items pairs.labels.items
 
@@ -15,10 +16,11 @@ origins_in all pairs = origins_from pairs.base all pairs.states.items pairs.text
 abbrev pub IsAdded : ℕ → Automaton → State → Type 0
 IsAdded base a s = (base ≤ s.number) × IsState a s
 
--- A pairing of the first automaton and of the second one as it was, in the second one as it is: old states stand for
--- themselves and the state that accepts all. The start stands for these states. It and what follows moves of added states
--- are added states, one at most for each pair; a content that the first automaton takes whole is an old state. With the
--- pair of each added state, and for each of its moves the numbers of the two.
+-- A pairing of the first automaton and of the second one as it was, in the second one as it is: old
+-- states stand for themselves and the state that accepts all. The start stands for these states. It
+-- and what follows moves of added states are added states, one at most for each pair; a content
+-- that the first automaton takes whole is an old state. With the pair of each added state, and for
+-- each of its moves the numbers of the two.
 pub record ArePairs (p q made : Automaton) (one two all : State) (pairs : Pairs) : Type 0 where
   pub base : pairs.base ≡ length q
   pub pairing : IsPairing p q made (origins_in all pairs)

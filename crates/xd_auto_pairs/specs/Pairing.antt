@@ -11,7 +11,8 @@ use Rattle.xd_auto_pairs.specs.declared.pairs.Both.{Both}
 use Rattle.xd_auto_pairs.specs.declared.pairs.Pair.{Pair}
 use Rattle.xd_auto_pairs.specs.Traces.{Owned, after_text, in_element, after_element, trace_of, IsGiven, KeepsTogether}
 
--- what states and moves of a paired automaton stand for: a state of each automaton, and a move of each
+-- what states and moves of a paired automaton stand for: a state of each automaton, and a move of
+-- each
 pub record Origins : Type 0 where
   pub left : State → State
   pub right : State → State
@@ -34,9 +35,9 @@ boths_in (Some bs) = bs.items
 abbrev pub both_at : List Both → ℕ → Both
 both_at bs n = slice_index_or bs n (record { left = 0; right = 0 })
 
--- The origins that lists say, of states from a base on: the pair of each state, and the numbers of the moves that its moves
--- stand for. A state below the base stands for itself and one state of the first automaton, and each move of it for itself
--- and that state's first one.
+-- The origins that lists say, of states from a base on: the pair of each state, and the numbers of
+-- the moves that its moves stand for. A state below the base stands for itself and one state of the
+-- first automaton, and each move of it for itself and that state's first one.
 abbrev pub origins_from : {A B : Type 0} → ℕ → State → List Pair → List (Vec Both A) → List (Vec Both B) → Origins
 origins_from base all states texts elements = record {
   left = λ s. cond (nat_lt s.number base) all (left_or s (slice_get states (s.number - base)));
@@ -88,8 +89,9 @@ pub record HasElementPair (made : Automaton) (o : Origins) (s : State) (i j : �
   pub is : o.element s number ≡ record { left = i; right = j }
   pub alone : (n : ℕ) (m : LabelMove) → slice_get (moves_at made s).labels n ≡ Some m → o.element s n ≡ record { left = i; right = j } → n ≡ number
 
--- Each state stands for one of each automaton, and each move for one of each, on what both take. Each two moves on a text
--- whose classes share a text have one that stands for them, and each two moves on an element whose classes share a label.
+-- Each state stands for one of each automaton, and each move for one of each, on what both take.
+-- Each two moves on a text whose classes share a text have one that stands for them, and each two
+-- moves on an element whose classes share a label.
 pub record IsPairing (p q made : Automaton) (o : Origins) : Type 0 where
   pub closed : IsClosed made
   pub lefts : (s : State) → IsState made s → IsState p (o.left s)
@@ -130,8 +132,8 @@ pub record IsGivenWhere (p q : Automaton) (b : Owned) (one two : State) (e : Doc
   pub given : IsGiven p b one e
   pub accepted : accepts q given.document two ≡ true
 
--- The accepting runs of the paired automaton are exactly the pairs of accepting runs on one document, and belong to the
--- variable as those of the first automaton.
+-- The accepting runs of the paired automaton are exactly the pairs of accepting runs on one
+-- document, and belong to the variable as those of the first automaton.
 pub record PairsRuns (p q made : Automaton) (o : Origins) (s : State) : Type 0 where
   pub left : (d : Document) (run : Run) → IsAcceptingRun made d s run → IsAcceptingRun p d (o.left s) (left_run made o s run)
   pub right : (d : Document) (run : Run) → IsAcceptingRun made d s run → IsAcceptingRun q d (o.right s) (right_run made o s run)

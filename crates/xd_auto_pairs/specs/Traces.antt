@@ -76,11 +76,13 @@ IsTogether (at_text own r) = ((own ≡ true) × IsBlock r) ⊎ ((own ≡ false) 
 IsTogether (at_element own k r) =
     ((own ≡ true) × IsFree k × IsBlock r) ⊎ ((own ≡ false) × ((IsFree k × IsTogether r) ⊎ (IsTogether k × IsFree r)))
 
--- in each accepting run the items of the variable stand directly one after another, in the document or in one content
+-- in each accepting run the items of the variable stand directly one after another, in the document
+-- or in one content
 abbrev pub KeepsTogether : Automaton → Owned → State → Type 0
 KeepsTogether a b start = (d : Document) (run : Run) → IsAcceptingRun a d start run → IsTogether (trace_of a b start run)
 
--- some accepting run gives the variable this document, on a document that is proper where this one is
+-- some accepting run gives the variable this document, on a document that is proper where this one
+-- is
 pub record IsGiven (a : Automaton) (b : Owned) (start : State) (e : Document) : Type 0 where
   pub document : Document
   pub proper : is_proper e ≡ true → is_proper document ≡ true

@@ -108,7 +108,8 @@ fn add_match<M: Drop, S: Matched<M>>(
     Ok(())
 }
 
-/// Adds the matches of a move with the moves of these numbers, which are all that it shares a name with.
+/// Adds the matches of a move with the moves of these numbers, which are all that it shares a name
+/// with.
 fn add_matches<M: Drop, S: Matched<M>>(
     matches: &mut Vec<M>,
     ones: &[S],

@@ -69,19 +69,19 @@ fn expand_all(
     Ok(())
 }
 
-/// Two automata side by side, in the second one itself, from the pair of two states on: adds a state
-/// for each pair that is reached, which accepts what both of its states accept.
+/// Two automata side by side, in the second one itself, from the pair of two states on: adds a
+/// state for each pair that is reached, which accepts what both of its states accept.
 ///
 /// Each move stands for one move of each state, on the labels or texts of both, and no two for the
-/// same. So the accepting runs are exactly the pairs of accepting runs on one document (the law [`crate::laws::pairings_pair_runs`]). This is
-/// the product of Comon et al., *Tree Automata Techniques and Applications*, section 1.3, with its
-/// moves kept apart.
+/// same. So the accepting runs are exactly the pairs of accepting runs on one document (the law
+/// [`crate::laws::pairings_pair_runs`]). This is the product of Comon et al., *Tree Automata
+/// Techniques and Applications*, section 1.3, with its moves kept apart.
 ///
-/// A content that the first automaton takes whole, by the state `all`, is the second's own state: no
-/// pair is made for it. So what is added is as much as the first automaton looks at.
+/// A content that the first automaton takes whole, by the state `all`, is the second's own state:
+/// no pair is made for it. So what is added is as much as the first automaton looks at.
 ///
-/// Moves that name few labels or texts are found by name, so two states with many moves each on names
-/// of their own cost about what they share.
+/// Moves that name few labels or texts are found by name, so two states with many moves each on
+/// names of their own cost about what they share.
 ///
 /// Fails only where memory is refused. The second automaton keeps its states, and may have more.
 pub fn pair_up(

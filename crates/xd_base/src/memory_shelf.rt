@@ -109,7 +109,8 @@ impl Shelf for MemoryShelf {
         ensures never_falls { self.old.faults ≤ self.new.faults }
         ensures bounded { self.new.faults < 2 ^ 64 }
 
-        // Exactly the listed calls fail, and exactly the others that ask for a text that isn't held miss it.
+        // Exactly the listed calls fail, and exactly the others that ask for a text that isn't held
+        // miss it.
         ensures fails { IsErrOf result FetchError.Failed ↔ Contains self.old.failing (next_count self.old.calls) }
         ensures lacks { ¬ (Contains self.old.failing (next_count self.old.calls)) → text_of self.old.texts name.now ≡ None → IsErrOf result FetchError.Missing }
         ensures after { self.new ≡ fetched self.old result }

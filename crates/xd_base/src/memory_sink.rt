@@ -35,8 +35,8 @@ impl Model for MemorySink {
 }
 
 impl MemorySink {
-    /// An empty sink with room for so many bytes, which takes at most `piece` bytes in a call, one at least. `NoRoom` where there is no
-    /// memory for the room.
+    /// An empty sink with room for so many bytes, which takes at most `piece` bytes in a call, one
+    /// at least. `NoRoom` where there is no memory for the room.
     pub fn new(alloc: Global, room: usize, piece: usize) -> Result<MemorySink, NoRoom>
         requires { 1 ≤ piece }
         ensures { IfOk result (λ sink. sink ≡ record { written = []; room = room; piece = piece; failing = []; calls = 0; faults = 0 }) }

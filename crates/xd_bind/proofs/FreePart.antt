@@ -1,4 +1,5 @@
--- The part of an automaton whose moves don't belong to the variable accepts what free traces run over.
+-- The part of an automaton whose moves don't belong to the variable accepts what free traces run
+-- over.
 use Rattle.std.proofs.Common.{◌≡◌, ℕ, Bool, true, false, not, ◌&&◌, List, refl, sym, ap, ◌∙◌, arith}
 use Rattle.std.specs.List.{list_any}
 use Rattle.xd_doc.specs.Document.{Document, empty, text, element}

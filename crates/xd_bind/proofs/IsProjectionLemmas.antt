@@ -34,7 +34,8 @@ unchanged f p (x ∷ xs) all same =
     let later = unchanged f (λ n. p (suc n)) xs (λ n. all (suc n)) (All-tail (λ y. f y ≡ y) x xs same) in
     rw (all 0, All-head (λ y. f y ≡ y) x xs same, later) refl
 
--- a state in which nothing belongs to the variable, and which leads to states that are their own copies, is its own copy
+-- a state in which nothing belongs to the variable, and which leads to states that are their own
+-- copies, is its own copy
 pub unmoved : (b : Owned) (inner : State → State) (base : ℕ) (s : State) (moves : StateMoves) → OwnsNone b s → ((t : State) → t.number < base → inner t ≡ t) → LeadsBelow base moves
     → side_moves b false inner inner s moves moves.last ≡ moves
 unmoved b inner base s moves none still leads =

@@ -55,8 +55,9 @@ abbrev pub HasSide : Automaton → Owned → Bool → ℕ → (State → State) 
 HasSide a b own from contents rests last made =
     (s : State) → from ≤ s.number → IsState a s → moves_at made (rests s) ≡ side_moves b own contents rests s (moves_at a s) (last s)
 
--- Moves that don't belong to the variable lead from the start to the state, and what they leave aside can be
--- completed without it. Contents below the base, where nothing belongs to it, are not looked into.
+-- Moves that don't belong to the variable lead from the start to the state, and what they leave
+-- aside can be completed without it. Contents below the base, where nothing belongs to it, are not
+-- looked into.
 pub data IsAhead (a : Automaton) (b : Owned) (base : ℕ) (free : State → Bool) (start : State) : State → Type 0 where
   is_start : IsAhead a b base free start start
   past_text : (s : State) (m : TextMove) (n : ℕ) → IsAhead a b base free start s → slice_get (moves_at a s).texts n ≡ Some m → b.text s n ≡ false → IsAhead a b base free start m.rest
@@ -104,8 +105,9 @@ first_moves a b contents rests ahead last = record {
   texts = flat_map (λ s. texts_of_side b true rests s (moves_at a s)) ahead;
 }
 
--- Of each state there is a copy without the moves of the variable, below the base the state itself; of those from the base on
--- also one with these moves alone, to stop where the rest can be completed without the variable; and there is a first state.
+-- Of each state there is a copy without the moves of the variable, below the base the state itself;
+-- of those from the base on also one with these moves alone, to stop where the rest can be
+-- completed without the variable; and there is a first state.
 pub record IsProjection (a : Automaton) (b : Owned) (base : ℕ) (inner outer : State → State) (start : State) (free : State → Bool) (ahead : List State) (made : Automaton) (first : State) : Type 0 where
   pub layered : IsLayered base a
   pub begins : IsState a start

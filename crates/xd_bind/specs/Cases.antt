@@ -12,7 +12,8 @@ pub record OwnsNone (b : Owned) (s : State) : Type 0 where
   pub text : (n : ℕ) → b.text s n ≡ false
   pub element : (n : ℕ) → b.element s n ≡ false
 
--- the state accepts exactly what accepting runs give the variable on documents that the other automaton's state accepts
+-- the state accepts exactly what accepting runs give the variable on documents that the other
+-- automaton's state accepts
 abbrev pub AcceptsCases : Automaton → Owned → State → Automaton → State → Automaton → State → Type 0
 AcceptsCases p b start q other made state = (e : Document) → (accepts made e state ≡ true) ↔ IsGivenWhere p q b start other e
 
@@ -22,7 +23,8 @@ pub record IsCaseOf (p : Automaton) (owned : ℕ → Owned) (start : State) (var
   pub belongs : IsState made given.state
   pub cases : AcceptsCases p (owned x) start q other made given.state
 
--- one for each variable, in their order, where `owned` are the moves that belong to the variable of a number
+-- one for each variable, in their order, where `owned` are the moves that belong to the variable of
+-- a number
 pub record AreCases (p : Automaton) (owned : ℕ → Owned) (start : State) (variables : List (List ℕ)) (q : Automaton) (other : State) (made : Automaton) (givens : List Given) : Type 0 where
   pub count : length givens ≡ length variables
   pub each : (x : ℕ) (d : Given) → x < length givens → IsCaseOf p owned start variables q other made x (slice_index_or givens x d)

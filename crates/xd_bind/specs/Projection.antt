@@ -28,7 +28,8 @@ has_track marks x kind s n = list_any (is_track x kind s n) marks
 abbrev pub owned_by : List Track → ℕ → Owned
 owned_by marks x = record { text = has_track marks x Text; element = has_track marks x Label }
 
--- the start is a state and each mark one of a state's move, and the items of each variable stand together
+-- the start is a state and each mark one of a state's move, and the items of each variable stand
+-- together
 pub record CanProject (tracks : Tracks) : Type 0 where
   pub start : IsState tracks.auto tracks.start
   pub marks : All (λ t. IsState tracks.auto t.state) tracks.marks.items
@@ -47,7 +48,8 @@ pub record AreBindings (tracks : Tracks) (bindings : List Binding) : Type 0 wher
 
 -- Of what follows only private contracts speak.
 
--- the same, where the states are those of one automaton, and `owned` are the moves that belong to the variable of a number
+-- the same, where the states are those of one automaton, and `owned` are the moves that belong to
+-- the variable of a number
 pub record IsGivenOf (a : Automaton) (owned : ℕ → Owned) (start : State) (variables : List (List ℕ)) (made : Automaton) (x : ℕ) (one : Given) : Type 0 where
   pub variable : slice_get variables x ≡ Some one.variable
   pub belongs : IsState made one.state

@@ -30,8 +30,8 @@ pub record HasMark (base : ℕ) (marks : List Bool) (s : State) : Type 0 where
   pub above : base ≤ s.number
   pub below : s.number < base + length marks
 
--- a move of the state that doesn't belong to the variable leads there over an item, or past it or into it where what is
--- left aside is free
+-- a move of the state that doesn't belong to the variable leads there over an item, or past it or
+-- into it where what is left aside is free
 pub data LeadsAhead (b : Owned) (base : ℕ) (free : State → Bool) (s : State) (moves : StateMoves) (t : State) : Type 0 where
   over_text : (n : ℕ) (m : TextMove) → slice_get moves.texts n ≡ Some m → b.text s n ≡ false → m.rest ≡ t → LeadsAhead b base free s moves t
   over_element : (n : ℕ) (m : LabelMove) → slice_get moves.labels n ≡ Some m → b.element s n ≡ false → free m.content ≡ true → m.rest ≡ t → LeadsAhead b base free s moves t
@@ -70,7 +70,8 @@ pub record AreFollowed (b : Owned) (base : ℕ) (free : State → Bool) (s : Sta
   pub texts : TextsMarked b base s moves.texts marks (length moves.texts)
   pub elements : ElementsMarked b base free s moves.labels marks (length moves.labels)
 
--- the states that are listed lie ahead of the start, which is marked, and the first of them, so many, are followed
+-- the states that are listed lie ahead of the start, which is marked, and the first of them, so
+-- many, are followed
 pub record IsSearch (a : Automaton) (b : Owned) (base : ℕ) (start : State) (free : State → Bool) (order : List State) (marks : List Bool) (count : ℕ) : Type 0 where
   pub sized : base + length marks ≡ length a
   pub states : (i : ℕ) (s : State) → slice_get order i ≡ Some s → HasMark base marks s
@@ -84,7 +85,8 @@ pub data IsSideOf (base : ℕ) (free : State → Bool) (m : LabelMove) (t : Stat
   is_rest : free m.content ≡ true → m.rest ≡ t → IsSideOf base free m t
   is_content : free m.rest ≡ true → base ≤ m.content.number → m.content ≡ t → IsSideOf base free m t
 
--- exactly the states ahead of the start are listed, and their moves that don't belong to the variable have labels
+-- exactly the states ahead of the start are listed, and their moves that don't belong to the
+-- variable have labels
 pub record IsSearched (a : Automaton) (b : Owned) (base : ℕ) (start : State) (free : State → Bool) (order : List State) : Type 0 where
   pub states : (i : ℕ) (s : State) → slice_get order i ≡ Some s → IsState a s
   pub lists : ListsAhead a b base free start order

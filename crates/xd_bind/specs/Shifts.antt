@@ -1,4 +1,5 @@
--- Where the copies of states stand, and of which states there are copies. Of it only private contracts speak.
+-- Where the copies of states stand, and of which states there are copies. Of it only private
+-- contracts speak.
 use Rattle.std.specs.Prelude.{◌≡◌, ℕ, ◌+◌, ◌<◌, ◌≤◌, Bool, cond, nat_lt, is_some, List, Option, length, slice_get, Some, take}
 use Rattle.std.specs.List.{All}
 use Rattle.xd_auto.specs.declared.auto.State.{State}
@@ -24,7 +25,8 @@ shifted shift s = cond (nat_lt s.number shift.base) s (onward shift.by s)
 abbrev pub free_by : List (Option LeastDocument) → Shift → State → Bool
 free_by known shift s = is_some (known_of known (shifted shift s))
 
--- of an automaton, what lies below the base leads to states below it, and moves of the others are followed by states that lie at or above it
+-- of an automaton, what lies below the base leads to states below it, and moves of the others are
+-- followed by states that lie at or above it
 pub record IsLayered (base : ℕ) (a : Automaton) : Type 0 where
   pub closed : IsClosed a
   pub below : (s : State) → IsState a s → s.number < base → LeadsBelow base (moves_at a s)

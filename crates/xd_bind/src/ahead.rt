@@ -138,8 +138,8 @@ impl Search {
     }
 }
 
-/// The states of a layer that lie ahead of its start, where `aside` has the copies without the moves
-/// of the variable.
+/// The states of a layer that lie ahead of its start, where `aside` has the copies without the
+/// moves of the variable.
 pub fn states_ahead<H: Holds>(
     alloc: Global,
     auto: &Auto,

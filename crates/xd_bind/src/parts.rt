@@ -14,8 +14,8 @@ use xd_auto::{Auto, LabelMove, State, TextMove};
 use xd_auto_pairs::MoveKind;
 use xd_doc::NoMemory;
 
-/// Moves of one side: those that belong to the variable where `own` is true, or else the others; onto
-/// copies of the contents, and of what follows.
+/// Moves of one side: those that belong to the variable where `own` is true, or else the others;
+/// onto copies of the contents, and of what follows.
 #[derive(Clone, Copy, Debug)]
 pub struct Part {
     pub variable: usize,

@@ -28,8 +28,8 @@ use xd_doc::{Label, NoMemory, Store};
 use xd_empty::inhabited_part;
 use xd_least::LeastInhabitants;
 
-/// For each state of a layer whether it can be completed without the variable, where `aside` has the
-/// copies without the variable's moves.
+/// For each state of a layer whether it can be completed without the variable, where `aside` has
+/// the copies without the variable's moves.
 pub fn free_of(
     alloc: Global,
     auto: &Auto,
@@ -73,8 +73,8 @@ fn add_first<H: Holds>(
     Ok(first)
 }
 
-/// Adds copies of a layer's states without the moves of the variable, and says where they stand. What
-/// they accept becomes known.
+/// Adds copies of a layer's states without the moves of the variable, and says where they stand.
+/// What they accept becomes known.
 pub fn add_without<H: Holds>(
     alloc: Global,
     auto: &mut Auto,
@@ -110,7 +110,8 @@ pub fn add_without<H: Holds>(
     Ok(aside)
 }
 
-/// Adds copies with these moves alone, and the first state, where `aside` has the copies without them.
+/// Adds copies with these moves alone, and the first state, where `aside` has the copies without
+/// them.
 fn add_alone<H: Holds>(
     alloc: Global,
     auto: &mut Auto,
@@ -145,7 +146,8 @@ fn add_alone<H: Holds>(
     Ok(first)
 }
 
-/// Adds a state that accepts exactly what accepting runs from the start of a layer give the variable.
+/// Adds a state that accepts exactly what accepting runs from the start of a layer give the
+/// variable.
 ///
 /// The states of the layer are copied without the moves of the variable, and with these alone.
 fn add_given<H: Holds>(
@@ -202,7 +204,8 @@ pub fn add_givens<H: Holds>(
     Ok(givens)
 }
 
-/// For each of these states of an automaton, in their order, its part that accepts what the state does.
+/// For each of these states of an automaton, in their order, its part that accepts what the state
+/// does.
 fn bindings_of(
     alloc: Global,
     tracks: &Tracks,
@@ -261,10 +264,12 @@ fn project_marked(
 /// For each variable, in their order, an automaton and a state that accepts exactly the documents
 /// that an accepting run gives it: the items that its moves take, in order and with their contents.
 ///
-/// In no accepting run do items of a variable stand apart: each variable's items are one block of one level (`CanProject`), as
-/// linear patterns have them. `NoMemory` where there is no room for the automata; the one that is given stays as it is.
+/// In no accepting run do items of a variable stand apart: each variable's items are one block of
+/// one level (`CanProject`), as linear patterns have them. `NoMemory` where there is no room for
+/// the automata; the one that is given stays as it is.
 ///
-/// (What a variable may be is found as by Hosoya and Pierce, JFP 2003; this project's own is that items belong to moves.)
+/// (What a variable may be is found as by Hosoya and Pierce, JFP 2003; this project's own is that
+/// items belong to moves.)
 pub fn project(alloc: Global, tracks: &Tracks) -> Result<Vec<Binding>, NoMemory>
     requires { CanProject tracks.now }
     ensures { IfOk result (λ bindings. AreBindings tracks.now bindings.items) }

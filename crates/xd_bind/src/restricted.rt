@@ -93,14 +93,15 @@ impl<H: Holds> Holds for Carried<'_, H> {
 }
 
 /// For each variable of a pattern, in their order, a state of `auto` that accepts exactly the
-/// documents that an accepting run gives it, on some document that `state` accepts; `None` where the
-/// pattern and `state` share no document.
+/// documents that an accepting run gives it, on some document that `state` accepts; `None` where
+/// the pattern and `state` share no document.
 ///
 /// The two are run side by side ([`pair_up`]), and what belongs to a variable is carried along. The
 /// states are added to `auto`, about as many as the pattern looks at, and what they accept becomes
 /// known.
 ///
-/// Fails only where memory is refused. The automaton and the store keep what they have, and may have more.
+/// Fails only where memory is refused. The automaton and the store keep what they have, and may
+/// have more.
 pub fn cases<H: Holds>(
     alloc: Global,
     pattern: &Auto,

@@ -31,8 +31,8 @@ pub struct Binding {
     pub state: State,
 }
 
-/// A variable, and what it may be: the documents that the state accepts, of an automaton that is kept
-/// elsewhere.
+/// A variable, and what it may be: the documents that the state accepts, of an automaton that is
+/// kept elsewhere.
 #[derive(Debug, Drop)]
 pub struct Given {
     pub variable: Label,

@@ -95,7 +95,8 @@ before [] (suc n) k lt = absurd (omega arith)
 before (m ∷ ms) (suc n) zero lt = record { within = omega arith; same = λ d. refl }
 before (m ∷ ms) (suc n) (suc k) lt = let b = before ms n k (omega arith) in record { within = omega (arith, b.within); same = b.same }
 
--- of the moves that may share a name with a move those before a place tell what all moves before it do
+-- of the moves that may share a name with a move those before a place tell what all moves before it
+-- do
 pub matching_before : {M : Type 0} (has : M → List ℕ → Bool) (t : M → Bool) (step : M) (moves : List M) (numbers : List ℕ) (n : ℕ) → AreMatching has step moves numbers
     → (x : List ℕ) → has step x ≡ true → list_any (passes_at (λ m. has m x && t m) moves) (filter (λ k. nat_lt k n) numbers) ≡ list_any (λ m. has m x && t m) (take n moves)
 matching_before {M} has t step moves numbers n are x takes =

@@ -1,4 +1,5 @@
--- A new automaton whose points have their moves, and the states at the places of these points, accept what the points say.
+-- A new automaton whose points have their moves, and the states at the places of these points,
+-- accept what the points say.
 use Rattle.std.proofs.Common.{ℕ, ◌<◌, ◌≡◌, Bool, true, false, not, ◌&&◌, ◌||◌, List, [], ◌∷◌, length, Option, Some, None, refl, sym, ap, ◌∙◌, arith}
 use Rattle.std.specs.List.{AllByRecursion, list_any}
 use Rattle.xd_doc.specs.Document.{Document, empty, text, element}

@@ -129,7 +129,8 @@ module _ (old start a b : Automaton) (p : Points) (marks : List Bool) (places : 
     bare = λ i le there. first.bare i (omega arith) there;
   }
 
--- the places of the first points and what they have so far, in an automaton that extends the old one
+-- the places of the first points and what they have so far, in an automaton that extends the old
+-- one
 pub record PlacesSoFar (old start now : Automaton) (p : Points) (places : List Place) (n : ℕ) : Type 0 where
   pub first : PlacesFirst p places now n
   pub count : length now ≡ length start

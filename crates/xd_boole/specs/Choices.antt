@@ -33,7 +33,8 @@ pub record AddsChoice (k : SideChoice) (old new : List SideChoice) : Type 0 wher
   pub refused : (a : Automaton) (c d : Document) → any_choice a c d new ≡ (any_choice a c d old || choice_refuses a c d k)
   pub states : (a : Automaton) → AllChoices a old → IsChoiceOf a k → AllChoices a new
 
--- a choice was added, extended by the content of one more move; or, where the content is marked, since it accepts every document, none was
+-- a choice was added, extended by the content of one more move; or, where the content is marked,
+-- since it accepts every document, none was
 pub record AddsContent (universal : List Bool) (side : MoveSide) (k : SideChoice) (old new : List SideChoice) : Type 0 where
   pub refused : (a : Automaton) → MarkUniversal a universal → (c d : Document) → any_choice a c d new ≡ (any_choice a c d old || (choice_refuses a c d k && not (accepts a c side.content)))
   pub states : (a : Automaton) → AllChoices a old → IsChoiceOf a k → is_state a side.content ≡ true → AllChoices a new

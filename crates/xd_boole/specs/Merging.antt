@@ -33,7 +33,8 @@ pub record IsLikeText (same : List State) (c : Compared) (m n : TextMove) : Type
   pub words : m.words ≡ n.words
   pub rest : IsLike same c m.rest n.rest
 
--- the states that are compared have moves on the same names, in the same order, to states that are like each other
+-- the states that are compared have moves on the same names, in the same order, to states that are
+-- like each other
 pub record AreLike (a : Automaton) (same : List State) (c : Compared) : Type 0 where
   pub last : (moves_at a c.one).last ≡ (moves_at a c.other).last
   pub labels : AllZip (IsLikeLabel same c) (moves_at a c.one).labels (moves_at a c.other).labels

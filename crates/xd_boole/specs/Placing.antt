@@ -1,4 +1,5 @@
--- Where the points of a difference stand in the automaton that has their lefts. Of this only private contracts speak.
+-- Where the points of a difference stand in the automaton that has their lefts. Of this only
+-- private contracts speak.
 use Rattle.std.specs.Prelude.{◌≡◌, ℕ, ◌<◌, ◌≤◌, Bool, true, false, ◌||◌, List, length, Option, Some, None, IfSome, slice_index_or}
 use Rattle.std.specs.List.{list_any}
 use Rattle.xd_doc.specs.Document.{Document}
@@ -23,7 +24,8 @@ state_of Nowhere = None
 abbrev pub place_at : List Place → ℕ → Place
 place_at places i = slice_index_or places i Nowhere
 
--- the old state where nothing is taken away, a state that came since, or nowhere, where the point's state accepts nothing
+-- the old state where nothing is taken away, a state that came since, or nowhere, where the point's
+-- state accepts nothing
 abbrev pub IsPlaceOf : Automaton → Automaton → Points → List Bool → ℕ → Place → Type 0
 IsPlaceOf old new p marks i (Old s) = (is_old p i ≡ true) × (s ≡ (point_at p.points.items i).left)
 IsPlaceOf old new p marks i (New s) = (is_old p i ≡ false) × (length old ≤ s.number) × IsState new s

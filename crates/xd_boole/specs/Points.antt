@@ -46,7 +46,8 @@ is_old p i = is_whole (point_at p.points.items i)
 abbrev pub point_last : Automaton → Automaton → PointView → Bool
 point_last a b p = is_whole p || means a b p empty
 
--- one state for each point, which accepts the empty document where the point says so; and numbers that lead to their points
+-- one state for each point, which accepts the empty document where the point says so; and numbers
+-- that lead to their points
 pub record ArePoints (a b : Automaton) (p : Points) : Type 0 where
   pub count : length p.made ≡ length p.points.items
   pub points : (i : ℕ) → i < length p.points.items → IsPointOf a b (point_at p.points.items i)

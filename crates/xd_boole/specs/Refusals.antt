@@ -1,4 +1,5 @@
--- Labels in groups, with the choices by which what they stand before is refused. Of this only private contracts speak.
+-- Labels in groups, with the choices by which what they stand before is refused. Of this only
+-- private contracts speak.
 use Rattle.std.specs.Prelude.{◌≡◌, ℕ, ◌+◌, ◌<◌, ◌≤◌, Bool, true, false, not, ◌&&◌, ◌||◌, List, length, take}
 use Rattle.std.specs.List.{AllByRecursion, list_any}
 use Rattle.xd_doc.specs.Classes.{LabelClass, class_has}
@@ -23,7 +24,8 @@ pub record AreMovesOf (a : Automaton) (class : LabelClass) (states : List State)
   pub taken : (q : ElementFirst) → class_has class q.label ≡ true → list_any (move_takes a q) moves ≡ any_accepts a states (element_of q)
   pub inside : LeadInside a moves
 
--- moves that on the labels of a class take what the moves of these states do, and the first moves of one more
+-- moves that on the labels of a class take what the moves of these states do, and the first moves
+-- of one more
 pub record AreMovesOn (a : Automaton) (class : LabelClass) (states : List State) (own : State) (place : ℕ) (moves : List LabelMove) : Type 0 where
   pub taken : (q : ElementFirst) → class_has class q.label ≡ true → list_any (move_takes a q) moves ≡ (any_accepts a states (element_of q) || list_any (move_takes a q) (take place (moves_at a own).labels))
   pub inside : LeadInside a moves
@@ -32,7 +34,8 @@ pub record AreMovesOn (a : Automaton) (class : LabelClass) (states : List State)
 abbrev pub is_refused_by : Automaton → ElementFirst → List SideChoice → List LabelMove → Bool
 is_refused_by a q choices moves = any_choice a q.content q.rest choices && not (list_any (move_takes a q) moves)
 
--- on the labels of the class what one move more takes is refused too, by the choices or by the moves
+-- on the labels of the class what one move more takes is refused too, by the choices or by the
+-- moves
 pub record NarrowsMore (universal : List Bool) (class : LabelClass) (m : LabelMove) (old new : Narrowed) : Type 0 where
   pub refused : (a : Automaton) → MarkUniversal a universal → (q : ElementFirst) → class_has class q.label ≡ true
       → is_refused_by a q new.choices.items new.moves.items ≡ (is_refused_by a q old.choices.items old.moves.items && not (move_takes a q m))
@@ -48,7 +51,8 @@ pub record Narrows (universal : List Bool) (class : LabelClass) (choices : List 
   pub inside : (a : Automaton) → LeadInside a moves → LeadInside a n.moves.items
   pub fewer : length n.moves.items ≤ length moves
 
--- the same is refused in a part of the class by the choices for it, and outside of it by those that there were, and by the moves that are left
+-- the same is refused in a part of the class by the choices for it, and outside of it by those that
+-- there were, and by the moves that are left
 pub record Parts (universal : List Bool) (choices : List SideChoice) (moves : List LabelMove) (depth : ℕ) (p : Parted) : Type 0 where
   pub inside : (a : Automaton) → MarkUniversal a universal → (q : ElementFirst) → class_has p.part q.label ≡ true
       → is_refused_by a q p.choices.items p.moves.items ≡ is_refused_by a q choices moves
@@ -74,7 +78,8 @@ pub record AddsRefusals (a : Automaton) (class : LabelClass) (choices : List Sid
   pub taken : (q : ElementFirst) → any_refused a q new ≡ (any_refused a q old || (class_has class q.label && is_refused_by a q choices moves))
   pub states : AllRefusals a old → AllRefusals a new
 
--- the labels of the class in groups, with the choices by which these states refuse, and the first moves of one more
+-- the labels of the class in groups, with the choices by which these states refuse, and the first
+-- moves of one more
 pub record AreLabelRefusals (a : Automaton) (class : LabelClass) (rights : List State) (own : State) (place : ℕ) (groups : List LabelRefusal) : Type 0 where
   pub taken : (q : ElementFirst) → any_refused a q groups
       ≡ (class_has class q.label && not (any_accepts a rights (element_of q) || list_any (move_takes a q) (take place (moves_at a own).labels)))

@@ -29,7 +29,8 @@ leads_all states m = has_all m.class && (has_state m.content states && has_state
 abbrev pub text_leads_all : List State → TextMove → Bool
 text_leads_all states m = has_all m.words && has_state m.rest states
 
--- the state accepts the empty document, and leads over every element and every text to some of these states
+-- the state accepts the empty document, and leads over every element and every text to some of
+-- these states
 pub record TakesAll (a : Automaton) (states : List State) (s : State) : Type 0 where
   pub last : (moves_at a s).last ≡ true
   pub labels : list_any (leads_all states) (moves_at a s).labels ≡ true

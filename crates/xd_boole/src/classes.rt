@@ -29,8 +29,8 @@ fn has_each(class: &Class, names: &[Label]) -> bool
     true
 }
 
-/// Whether it is seen that the classes have no label in common. Where one of them names its labels it
-/// always is.
+/// Whether it is seen that the classes have no label in common. Where one of them names its labels
+/// it always is.
 pub(crate) fn are_apart(one: &Class, two: &Class) -> bool
     ensures { result ≡ true → (x : List ℕ) → (class_has one.now x && class_has two.now x) ≡ false }
 {

@@ -25,7 +25,8 @@ use xd_auto::{Auto, LabelMove, State, TextMove, trim};
 use xd_doc::{Class, NoMemory, Words};
 use xd_empty::{inhabited, inhabited_part};
 
-/// What is taken away: states of an automaton, and of each whether it is known to accept everything.
+/// What is taken away: states of an automaton, and of each whether it is known to accept
+/// everything.
 #[derive(Drop)]
 pub struct Taken {
     pub auto: Auto,
@@ -246,7 +247,8 @@ fn expand(
     Ok(())
 }
 
-/// The points that the left without the right leads to, whose states have their moves, and the state of the first.
+/// The points that the left without the right leads to, whose states have their moves, and the
+/// state of the first.
 ///
 /// A worklist: points that were found wait in the order of their numbers.
 fn difference(
@@ -285,7 +287,8 @@ pub fn taken_from(alloc: Global, part: &Auto) -> Result<Taken, NoMemory>
     Ok(Taken { auto, universal })
 }
 
-/// Adds a state that accepts what `left` accepts and `right`, a state of what is taken away, doesn't.
+/// Adds a state that accepts what `left` accepts and `right`, a state of what is taken away,
+/// doesn't.
 fn subtract_taken(
     alloc: Global,
     auto: &mut Auto,
@@ -306,16 +309,18 @@ fn subtract_taken(
     Ok(state)
 }
 
-/// Adds a state that accepts what `left` accepts and `right`, a state of the other automaton, doesn't.
+/// Adds a state that accepts what `left` accepts and `right`, a state of the other automaton,
+/// doesn't.
 ///
 /// A new state stands for a state of the automaton as it was, and a set of states of the other one,
 /// none of which may accept. Where the set is empty this is the old state itself. An element is
 /// refused by all of the set where, for each of their moves that match it, one state refuses its
 /// content or one refuses what follows: so a move is made for each choice of these, but where one
-/// choice asks for all that another asks for, or asks it of a state that plainly accepts everything, as
-/// that of `Any` does. The labels of a move are divided only where moves tell them apart. Of the new states those are left out that accept nothing, whatever the old ones accept.
-/// The number of states may be exponential in that of the other automaton; it is about the product of
-/// both where few moves of a state match the same label. (Hosoya, Vouillon and Pierce, *Regular
+/// choice asks for all that another asks for, or asks it of a state that plainly accepts
+/// everything, as that of `Any` does. The labels of a move are divided only where moves tell them
+/// apart. Of the new states those are left out that accept nothing, whatever the old ones accept.
+/// The number of states may be exponential in that of the other automaton; it is about the product
+/// of both where few moves of a state match the same label. (Hosoya, Vouillon and Pierce, *Regular
 /// expression types for XML*, 2005, section 4, whose subtyping divides goals by the same choices.)
 ///
 /// Fails only where memory is refused. The automaton keeps its states, and may have more.
@@ -337,8 +342,8 @@ pub fn subtract(
     subtract_taken(alloc, auto, left, &taken, right)
 }
 
-/// A state that accepts exactly what the first accepts and the second doesn't, by [`subtract`] from a
-/// copy of the first.
+/// A state that accepts exactly what the first accepts and the second doesn't, by [`subtract`] from
+/// a copy of the first.
 ///
 /// States that are like each other are made one before. States that accept nothing are left out
 /// before and after, but for the first.

@@ -61,7 +61,8 @@ fn are_same_words(one: &Words, other: &Words) -> bool
     one.texts() == other.texts()
 }
 
-/// Whether two moves on an element are for the same labels, and lead to states that are like each other.
+/// Whether two moves on an element are for the same labels, and lead to states that are like each
+/// other.
 fn is_like_label(same: &[State], compared: Compared, one: &LabelMove, other: &LabelMove) -> bool
     ensures { result ≡ true → IsLikeLabel same.now compared one.now other.now }
 {
@@ -124,7 +125,8 @@ fn are_like_texts(
     true
 }
 
-/// Whether two states have moves on the same names, in the same order, to states that are like each other.
+/// Whether two states have moves on the same names, in the same order, to states that are like each
+/// other.
 pub(crate) fn are_like(auto: &Auto, same: &[State], compared: Compared) -> bool
     requires one { IsState auto.now compared.one }
     requires other { IsState auto.now compared.other }
@@ -164,7 +166,8 @@ pub(crate) fn mixed_name(key: u64, name: &str) -> u64 {
     key
 }
 
-/// A number for where a move of a state leads to: the same for all that lead back to the state itself.
+/// A number for where a move of a state leads to: the same for all that lead back to the state
+/// itself.
 fn mixed_target(key: u64, same: &[State], of: State, target: State) -> u64 {
     if target == of {
         return mixed(key, usize::MAX);
@@ -201,7 +204,8 @@ fn keep(found: &mut HashMap<u64, State>, key: u64, state: State) -> Result<(), N
     Ok(())
 }
 
-/// Lets what stands in for a state that was found stand in for this one, where they are like each other.
+/// Lets what stands in for a state that was found stand in for this one, where they are like each
+/// other.
 fn stand_for(auto: &Auto, same: &mut Vec<State>, state: State, other: State)
     requires stand { AreStandIns auto.now same.old.items }
     requires state { IsState auto.now state }
@@ -215,7 +219,8 @@ fn stand_for(auto: &Auto, same: &mut Vec<State>, state: State, other: State)
     }
 }
 
-/// Looks for a state that is like this one among those that were kept, and keeps it where there is none.
+/// Looks for a state that is like this one among those that were kept, and keeps it where there is
+/// none.
 #[tactic(auto, using(crate::proofs::MergeLemmas::keeps_one))]
 fn see_state(
     auto: &Auto,
@@ -344,8 +349,9 @@ pub(crate) fn redirect_state(
 
 /// The same states, with their moves to one state where many accept the same.
 ///
-/// A state is like another where they have the same moves in the same order, but for states that are like each other or
-/// lead back to these two. All others stay as they are. `NoMemory` where there is no room for the copy.
+/// A state is like another where they have the same moves in the same order, but for states that
+/// are like each other or lead back to these two. All others stay as they are. `NoMemory` where
+/// there is no room for the copy.
 pub fn merged(alloc: Global, auto: &Auto) -> Result<Auto, NoMemory>
     ensures count { IfOk result (λ made. length made ≡ length auto.now) }
     ensures same { IfOk result (λ made. (d : Document) (s : State) → accepts made d s ≡ accepts auto.now d s) }

@@ -12,8 +12,8 @@ use std::alloc::Global;
 use xd_auto::{Auto, LabelMove, State, TextMove};
 use xd_doc::NoMemory;
 
-/// Where a point stands in the automaton: at the old state from which nothing is taken away, at a new
-/// one, or nowhere, since it accepts nothing.
+/// Where a point stands in the automaton: at the old state from which nothing is taken away, at a
+/// new one, or nowhere, since it accepts nothing.
 #[derive(Clone, Copy)]
 pub(crate) enum Place {
     Old(State),
@@ -150,7 +150,8 @@ fn give_moves(
     Ok(())
 }
 
-/// Puts the points into the automaton that has their lefts. The answer is the state of the one from which `right` is taken away.
+/// Puts the points into the automaton that has their lefts. The answer is the state of the one from
+/// which `right` is taken away.
 pub(crate) fn place_points(
     alloc: Global,
     auto: &mut Auto,

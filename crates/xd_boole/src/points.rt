@@ -14,8 +14,8 @@ use std::marker::Model;
 use xd_auto::{Auto, State, StateKey};
 use xd_doc::NoMemory;
 
-/// A state, the left, and states of another automaton that are taken away from it, the rights: what a
-/// state of the new automaton stands for.
+/// A state, the left, and states of another automaton that are taken away from it, the rights: what
+/// a state of the new automaton stands for.
 #[derive(Drop)]
 pub(crate) struct Point {
     pub(crate) left: State,

@@ -14,7 +14,8 @@ use xd_empty::inhabited_part;
 /// A state that accepts exactly what both accept.
 ///
 /// A state of the answer stands for a pair of states. Only pairs that the first pair leads to are
-/// made, at most as many as there are pairs; states that accept nothing are left out, but for the first.
+/// made, at most as many as there are pairs; states that accept nothing are left out, but for the
+/// first.
 ///
 /// Fails only where memory is refused. (Comon et al., *Tree Automata Techniques and
 /// Applications*, section 1.3.)

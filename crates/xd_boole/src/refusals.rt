@@ -16,8 +16,8 @@ use std::alloc::Global;
 use xd_auto::{Auto, LabelMove, Move, State};
 use xd_doc::{Class, NoMemory};
 
-/// How often a class is divided in halves at most, before it is divided by one move after the other.
-/// The halves have half of the names, so this is never needed.
+/// How often a class is divided in halves at most, before it is divided by one move after the
+/// other. The halves have half of the names, so this is never needed.
 const MOST_HALVES: usize = 64;
 
 /// Labels that the same moves match, and the choices by which what they stand before is refused.
@@ -34,7 +34,8 @@ struct Narrowed {
     moves: Vec<LabelMove>,
 }
 
-/// A part of a class, the choices in it, and the moves that are to be refused in it and outside of it.
+/// A part of a class, the choices in it, and the moves that are to be refused in it and outside of
+/// it.
 #[derive(Drop)]
 struct Parted {
     part: Class,
@@ -87,7 +88,8 @@ fn moves_of(
     Ok(made)
 }
 
-/// The moves of these states that match a move, and those of one more state that stand before a place.
+/// The moves of these states that match a move, and those of one more state that stand before a
+/// place.
 fn moves_before(
     alloc: Global,
     auto: &Auto,
@@ -110,8 +112,8 @@ fn moves_before(
     Ok(made)
 }
 
-/// One move more is to be refused: where it matches the whole class the choices are extended by it, and
-/// where it matches none of it nothing is to be done.
+/// One move more is to be refused: where it matches the whole class the choices are extended by it,
+/// and where it matches none of it nothing is to be done.
 fn narrow_more(
     alloc: Global,
     narrowed: Narrowed,
@@ -212,8 +214,8 @@ fn part_of(
     })
 }
 
-/// Puts the labels of a class behind the groups, with the choices by which an element is refused that
-/// some choices are for and some moves.
+/// Puts the labels of a class behind the groups, with the choices by which an element is refused
+/// that some choices are for and some moves.
 fn refuse(
     alloc: Global,
     taken: &Taken,
@@ -267,8 +269,9 @@ fn refuse(
 /// The labels of a move's class in groups, with the choices by which an element is refused by all
 /// moves of these states, and by those of one more state that stand before a place.
 ///
-/// What moves say that match a whole class is the same in all groups of it, so the choices for it are
-/// made once. Labels that no move tells apart stay in one group. Fails only where memory is refused.
+/// What moves say that match a whole class is the same in all groups of it, so the choices for it
+/// are made once. Labels that no move tells apart stay in one group. Fails only where memory is
+/// refused.
 pub fn label_refusals(
     alloc: Global,
     taken: &Taken,

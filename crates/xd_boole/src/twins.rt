@@ -161,8 +161,8 @@ fn are_twins(auto: &Auto, same: &[State], universal: &[bool], both: Compared) ->
     are_like(auto, same, both)
 }
 
-/// Whether each state has moves like those of the state that is to stand in for it, or both are known
-/// to accept everything.
+/// Whether each state has moves like those of the state that is to stand in for it, or both are
+/// known to accept everything.
 fn are_all_twins(auto: &Auto, same: &[State], universal: &[bool]) -> bool
     requires count { length same.now ≡ length auto.now }
     requires states { AllByRecursion (IsState auto.now) same.now }
@@ -181,10 +181,10 @@ fn are_all_twins(auto: &Auto, same: &[State], universal: &[bool]) -> bool
 
 /// For each state one that accepts the same.
 ///
-/// At first all states are taken to be the same that agree on the empty document; groups are parted by
-/// where moves lead until none is (E. F. Moore, Gedanken-experiments on sequential machines, 1956).
-/// Moves are compared in their order. States that plainly accept everything are one. What comes of it
-/// is tested at its end; where the test fails, `stand_ins` answers.
+/// At first all states are taken to be the same that agree on the empty document; groups are parted
+/// by where moves lead until none is (E. F. Moore, Gedanken-experiments on sequential machines,
+/// 1956). Moves are compared in their order. States that plainly accept everything are one. What
+/// comes of it is tested at its end; where the test fails, `stand_ins` answers.
 fn twins(alloc: Global, auto: &Auto) -> Result<Vec<State>, NoMemory>
     ensures { IfOk result (λ same. AreStandIns auto.now same.items) }
 {
@@ -211,7 +211,8 @@ fn merged_from(alloc: Global, auto: &Auto, state: State) -> Result<(Auto, State)
     Ok((made, stand_in(&same, state)))
 }
 
-/// The part that a state leads to and the state in it, and behind it a state that accepts everything.
+/// The part that a state leads to and the state in it, and behind it a state that accepts
+/// everything.
 fn with_universal(alloc: Global, auto: &Auto, state: State) -> Result<(Auto, State), NoMemory>
     requires { IsState auto.now state }
     ensures same { IfOk result (λ made. (d : Document) → accepts made.0 d made.1 ≡ accepts auto.now d state) }
@@ -223,8 +224,8 @@ fn with_universal(alloc: Global, auto: &Auto, state: State) -> Result<(Auto, Sta
     Ok((part, start))
 }
 
-/// A state that accepts the same, in an automaton in which moves lead to one state where many accept
-/// the same.
+/// A state that accepts the same, in an automaton in which moves lead to one state where many
+/// accept the same.
 ///
 /// States are found like each other also where they lead back to themselves, or to one another.
 /// Those that plainly accept every document become one that leads to itself alone. `NoMemory` where

@@ -63,8 +63,8 @@ fn any_text_leads(moves: &[TextMove], states: &[State]) -> bool
     false
 }
 
-/// Whether the state accepts the empty document, and leads over every element and every text to some
-/// of these states.
+/// Whether the state accepts the empty document, and leads over every element and every text to
+/// some of these states.
 fn takes_all(auto: &Auto, states: &[State], state: State) -> bool
     requires { IsState auto.now state }
     ensures { result ≡ true → TakesAll auto.now states.now state }
@@ -115,9 +115,9 @@ fn all_texts(moves: &[TextMove]) -> Option<usize>
     None
 }
 
-/// Whether a state accepts every document in a plain way: it, and the states that its first moves for
-/// all names lead to, accept the empty document and have such moves among themselves. Other states that
-/// accept everything aren't found.
+/// Whether a state accepts every document in a plain way: it, and the states that its first moves
+/// for all names lead to, accept the empty document and have such moves among themselves. Other
+/// states that accept everything aren't found.
 pub fn is_universal(auto: &Auto, state: State) -> bool
     requires { IsState auto.now state }
     ensures { result ≡ true → AcceptsAll auto.now state }

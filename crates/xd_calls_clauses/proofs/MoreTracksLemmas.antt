@@ -1,4 +1,5 @@
--- Tracks are added, and say what the marks say: what stands together by these stands together by the tracks.
+-- Tracks are added, and say what the marks say: what stands together by these stands together by
+-- the tracks.
 use Rattle.std.proofs.Common.{◌≡◌, ◌⊎◌, inl, inr, ℕ, ◌+◌, ◌<◌, ◌≤◌, Bool, true, false, ◌||◌, List, [], ◌∷◌, ◌++◌, length, get_or, arith, refl, sym, ap, subst, ◌∙◌}
 use Rattle.std.specs.List.{All}
 use Rattle.std.proofs.lemmas.Bool.{cases_lt, eqb-true, eq-eqb}

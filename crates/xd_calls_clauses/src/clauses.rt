@@ -1,8 +1,9 @@
-//! Calls about the clauses of a match: the body of the program's first function, on what fits a type.
+//! Calls about the clauses of a match: the body of the program's first function, on what fits a
+//! type.
 
 ghost use Rattle.std.specs.Prelude.{◌≡◌, IfOk, IfSome, List, map};
 ghost use Rattle.std.specs.List.{All};
-ghost use Rattle.xd_doc.specs.Stored.{BelongsTo};
+ghost use Rattle.xd_doc.specs.StoredSeq.{BelongsTo};
 ghost use Rattle.xd_auto.specs.Automaton.{IsState};
 ghost use Rattle.xd_syntax.specs.declared.exprs.Clause.{Clause};
 ghost use Rattle.xd_syntax.specs.Table.{Row};
@@ -51,7 +52,8 @@ fn clause_patterns(alloc: Global, sound: &SoundProgram) -> Result<Vec<PatternId>
     }
 }
 
-/// What a call asks about: the clauses of its program, and a state for the type that its first word names.
+/// What a call asks about: the clauses of its program, and a state for the type that its first word
+/// names.
 #[derive(Drop)]
 struct Question {
     sound: SoundProgram,
@@ -117,7 +119,8 @@ fn at_clause(patterns: &[PatternId], number: usize) -> Result<(&[PatternId], Pat
     Ok((&patterns[..index], patterns[index]))
 }
 
-/// The pattern of the clause of this number, from 1, of the match that is the body of the program's first function.
+/// The pattern of the clause of this number, from 1, of the match that is the body of the program's
+/// first function.
 pub fn pattern_at(
     alloc: Global,
     sound: &SoundProgram,
@@ -130,7 +133,8 @@ pub fn pattern_at(
     Ok(pattern)
 }
 
-/// `live TYPE CLAUSE`: whether some document of the type comes to the clause of this number, from 1, and is taken by it.
+/// `live TYPE CLAUSE`: whether some document of the type comes to the clause of this number, from
+/// 1, and is taken by it.
 pub fn show_live(call: &Call<'_>, out: &mut Vec<u8>) -> Result<(), CallError> {
     let number = call.size(1)?;
     let mut question = question_of(call)?;
@@ -161,7 +165,8 @@ pub enum Ways {
     First,
 }
 
-/// What these ways give the variables of the clause that the call's second word numbers, on what fits the type that its first word names.
+/// What these ways give the variables of the clause that the call's second word numbers, on what
+/// fits the type that its first word names.
 fn bindings_of(call: &Call<'_>, ways: Ways) -> Result<Vec<Binding>, CallError>
     ensures { IfOk result (λ bindings. All (λ (b : Binding). IsState b.auto b.state) bindings.items) }
 {
@@ -216,16 +221,17 @@ pub fn binding_of(bindings: Vec<Binding>, name: &str) -> Result<(Auto, State), C
     Err(CallError::Unknown)
 }
 
-/// `case_types TYPE CLAUSE VARIABLE DOCUMENTS`: which of the documents the variable may be. `preferred_types` with the same words: which
-/// of them the first match gives it.
+/// `case_types TYPE CLAUSE VARIABLE DOCUMENTS`: which of the documents the variable may be.
+/// `preferred_types` with the same words: which of them the first match gives it.
 pub fn show_given(call: &Call<'_>, ways: Ways, out: &mut Vec<u8>) -> Result<(), CallError> {
     let variable = call.word(2)?;
     let (auto, state) = binding_of(bindings_of(call, ways)?, variable)?;
     show_members(call, 3, &auto, state, out)
 }
 
-/// `bound TYPE CLAUSE VARIABLE OTHER`: whether all that the variable may be is of the other type, and the other way round. `preferred`
-/// with the same words: the same of what the first match gives it.
+/// `bound TYPE CLAUSE VARIABLE OTHER`: whether all that the variable may be is of the other type,
+/// and the other way round. `preferred` with the same words: the same of what the first match gives
+/// it.
 pub fn show_bound(call: &Call<'_>, ways: Ways, out: &mut Vec<u8>) -> Result<(), CallError> {
     let variable = call.word(2)?;
     let bound = binding_of(bindings_of(call, ways)?, variable)?;
@@ -234,7 +240,8 @@ pub fn show_bound(call: &Call<'_>, ways: Ways, out: &mut Vec<u8>) -> Result<(), 
     show_compared(call.alloc, &bound, &other, &mut both, out)
 }
 
-/// Whether all that the one state accepts is accepted by the other, and the other way round. Both are brought into a new automaton.
+/// Whether all that the one state accepts is accepted by the other, and the other way round. Both
+/// are brought into a new automaton.
 fn show_compared(
     alloc: Global,
     one: &(Auto, State),
@@ -272,7 +279,8 @@ pub fn show_bindings(
     Ok(())
 }
 
-/// `first_way CLAUSE DOCUMENT`: what the first match of the clause of this number, from 1, binds on the document.
+/// `first_way CLAUSE DOCUMENT`: what the first match of the clause of this number, from 1, binds on
+/// the document.
 pub fn show_first_way(call: &Call<'_>, out: &mut Vec<u8>) -> Result<(), CallError> {
     let number = call.size(0)?;
     let sound = program_of(call)?;

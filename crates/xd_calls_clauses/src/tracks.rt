@@ -1,4 +1,5 @@
-//! Calls about what the variables of a clause's pattern may be by themselves, on whatever the pattern takes.
+//! Calls about what the variables of a clause's pattern may be by themselves, on whatever the
+//! pattern takes.
 
 ghost use Rattle.std.specs.Prelude.{◌<◌, [], IfOk, OnOk, length};
 ghost use Rattle.std.specs.List.{All};
@@ -137,7 +138,8 @@ fn projected(
     Ok(bindings)
 }
 
-/// `project CLAUSE VARIABLE DOCUMENTS`: which of the documents the clause's pattern gives the variable, on whatever it takes.
+/// `project CLAUSE VARIABLE DOCUMENTS`: which of the documents the clause's pattern gives the
+/// variable, on whatever it takes.
 pub fn show_projected(call: &Call<'_>, out: &mut Vec<u8>) -> Result<(), CallError> {
     let number = call.size(0)?;
     let variable = call.word(1)?;

@@ -14,10 +14,11 @@ use xd_empty::{Inhabitants, inhabitant, inhabitants, inhabited, inhabited_part};
 use xd_read::read_document;
 
 /// What builds: `add_state NAME`, `add_state NAME last`, `add_label_move FROM CLASS CONTENT REST`,
-/// `add_text_move FROM CLASS REST`, `union NAME ONE TWO`, `concat NAME ONE TWO`, `wrap NAME LABEL STATE`,
-/// `absorb NAME STATE` (of a trimmed copy), `trim NAME STATE` (in place of the automaton). What asks: `member STATE` about
-/// the document on each line of its text, `accepts_kept STATE DOCUMENTS` about those of the store, `inhabitant NAME STATE`,
-/// which gives the document that was found a name, `inhabitants`, `inhabited`, `learn`. Further, `unite NAME STATES`, and
+/// `add_text_move FROM CLASS REST`, `union NAME ONE TWO`, `concat NAME ONE TWO`, `wrap NAME LABEL
+/// STATE`, `absorb NAME STATE` (of a trimmed copy), `trim NAME STATE` (in place of the automaton).
+/// What asks: `member STATE` about the document on each line of its text, `accepts_kept STATE
+/// DOCUMENTS` about those of the store, `inhabitant NAME STATE`, which gives the document that was
+/// found a name, `inhabitants`, `inhabited`, `learn`. Further, `unite NAME STATES`, and
 /// `inhabited_part NAME STATE` (in place of the automaton).
 pub fn auto(desk: &mut DocumentDesk, call: &Call<'_>, out: &mut Vec<u8>) -> Result<(), CallError> {
     match call.name {

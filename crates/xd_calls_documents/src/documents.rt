@@ -1,7 +1,7 @@
 //! Calls about documents.
 
 ghost use Rattle.std.specs.Prelude.{IfOk};
-ghost use Rattle.xd_doc.specs.Stored.{BelongsTo};
+ghost use Rattle.xd_doc.specs.StoredSeq.{BelongsTo};
 
 use crate::desk::DocumentDesk;
 use crate::named::document;
@@ -12,9 +12,10 @@ use xd_doc::{Seq, Store, Text};
 use xd_read::{ReadError, read_document};
 use xd_write::{write_document, write_text};
 
-/// `read NAME : DOCUMENT`, `write DOC`, and what makes a document of others and gives it a name: `text_node NAME NEXT : TEXT`,
-/// `elem_node NAME LABEL CONTENT NEXT`, `append NAME FRONT BACK`, `join NAME ONE TWO THREE`, `first_before NAME DOC NEXT`,
-/// `copy_out NAME DOC`, which copies into a new store in place of the old one. `part START END : TEXT` writes a part of a text.
+/// `read NAME : DOCUMENT`, `write DOC`, and what makes a document of others and gives it a name:
+/// `text_node NAME NEXT : TEXT`, `elem_node NAME LABEL CONTENT NEXT`, `append NAME FRONT BACK`,
+/// `join NAME ONE TWO THREE`, `first_before NAME DOC NEXT`, `copy_out NAME DOC`, which copies into
+/// a new store in place of the old one. `part START END : TEXT` writes a part of a text.
 pub fn store(desk: &mut DocumentDesk, call: &Call<'_>, out: &mut Vec<u8>) -> Result<(), CallError> {
     match call.name {
         "read" => read(desk, call, out),

@@ -1,4 +1,5 @@
-//! Calls about documents, automata and lines of faults: what the calls work on, and where each is made.
+//! Calls about documents, automata and lines of faults: what the calls work on, and where each is
+//! made.
 #![tactic(auto)]
 
 mod automata;

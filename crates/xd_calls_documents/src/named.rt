@@ -1,7 +1,7 @@
 //! What has a name: documents of a store and states of an automaton, by their numbers.
 
 ghost use Rattle.std.specs.Prelude.{IfOk};
-ghost use Rattle.xd_doc.specs.Stored.{BelongsTo};
+ghost use Rattle.xd_doc.specs.StoredSeq.{BelongsTo};
 ghost use Rattle.xd_auto.specs.Automaton.{IsState};
 
 use std::alloc::Global;

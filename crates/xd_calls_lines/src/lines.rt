@@ -35,7 +35,8 @@ fn show(answer: &[u8], out: &mut Vec<u8>) -> Result<(), CallError> {
     Ok(())
 }
 
-/// Adds the line's piece of the text that the next call takes: `| LINE`, or `* TIMES TEXT` with no line feed between.
+/// Adds the line's piece of the text that the next call takes: `| LINE`, or `* TIMES TEXT` with no
+/// line feed between.
 fn gather(text: &mut String, line: &str) -> Result<(), CallError> {
     match line.strip_prefix("* ") {
         Some(repeated) => add_repeated(text, repeated),
@@ -59,7 +60,8 @@ fn add_line(text: &mut String, line: &str) -> Result<(), CallError> {
     Ok(())
 }
 
-/// What lines have said so far: the desk that was chosen, as it stands in this case, and the text that the next call takes.
+/// What lines have said so far: the desk that was chosen, as it stands in this case, and the text
+/// that the next call takes.
 #[derive(Drop)]
 struct Reading<'a, D> {
     alloc: Global,
@@ -91,7 +93,8 @@ impl<'a, D: NamedDesk> Reading<'a, D> {
         Ok(())
     }
 
-    /// Makes the call of a line, which takes the text that was gathered and what stands behind a colon, and appends what came.
+    /// Makes the call of a line, which takes the text that was gathered and what stands behind a
+    /// colon, and appends what came.
     fn make_call(&mut self, line: &str, out: &mut Vec<u8>) -> Result<(), CallError> {
         let Some(desk) = &mut self.desk else {
             return Err(CallError::Desk);

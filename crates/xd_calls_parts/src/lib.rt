@@ -1,4 +1,5 @@
-//! Calls of the parts that other calls are made of: tokens, tables, graphs, sets and cases of states.
+//! Calls of the parts that other calls are made of: tokens, tables, graphs, sets and cases of
+//! states.
 #![tactic(auto)]
 
 mod desk;

@@ -13,8 +13,8 @@ use xd_syntax::{TypeForm, TypeId};
 use xd_type_text::type_text;
 
 /// `empty`, `text`, `any`, `words CLASS`; `alt ONE TWO`, `alt_of_all ONE TWO`, `seq ONE TWO` and
-/// `star ONE` of types by their numbers, which are from 0 on; `name`, the first name that is free, and `none`, the label `none`
-/// around it. Each shows the text of the type.
+/// `star ONE` of types by their numbers, which are from 0 on; `name`, the first name that is free,
+/// and `none`, the label `none` around it. Each shows the text of the type.
 pub fn pool(pool: &mut Pool, call: &Call<'_>, out: &mut Vec<u8>) -> Result<(), CallError> {
     let id = make(pool, call)?;
     type_text(call.alloc, &pool.types, id, out)?;

@@ -6,7 +6,8 @@ use xd_calls_lines::CallError;
 use xd_same_types::Pool;
 use xd_shown::{Shown, free_names, none_around};
 
-/// The first name that is free, as it stands for the label `none` around it, and how many definitions there are.
+/// The first name that is free, as it stands for the label `none` around it, and how many
+/// definitions there are.
 pub fn show_shown(alloc: Global, out: &mut Vec<u8>) -> Result<(), CallError> {
     let shown = shown_of(alloc)?;
     let count = shown.sound.program().type_defs().len();

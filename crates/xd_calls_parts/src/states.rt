@@ -16,15 +16,15 @@ use xd_empty::{Uses, kept_part};
 use xd_rules::{Atom, goal_cases, label_atoms, share, sides_of, text_atoms, unnamed_of};
 use xd_show_solve::level_of;
 
-/// `set_of NUMBERS`; `keys ONE TWO`, whether the key of the one before the other comes before that of
-/// the other before the one; `choices CONTENT REST`, in how many ways an element is refused that a
-/// move with this content and this rest would take; `level TYPE`, to how many states the type's
+/// `set_of NUMBERS`; `keys ONE TWO`, whether the key of the one before the other comes before that
+/// of the other before the one; `choices CONTENT REST`, in how many ways an element is refused that
+/// a move with this content and this rest would take; `level TYPE`, to how many states the type's
 /// state leads behind items, itself included; `cases TYPE`, each head that the type's state begins
 /// with, at each of its atoms, and how many heads match there; `unnamed TYPE`; `kept TYPE MARK
 /// DOCUMENTS`, with `all` states marked or `none`; `merged TYPE DOCUMENTS`; `taken TYPE DOCUMENTS`;
 /// `solved TYPE`, the type of what the type's state accepts, with `Any` for each content; `uses
-/// TYPE`, whether moves wait at first, and whether they do once the type's state is found;
-/// `groups TYPE PLACE`, in how many groups the names of its first moves fall by its moves before this
+/// TYPE`, whether moves wait at first, and whether they do once the type's state is found; `groups
+/// TYPE PLACE`, in how many groups the names of its first moves fall by its moves before this
 /// place; `label_atoms CLASS` and `text_atoms CLASS`, the atoms of a class where it alone is named.
 pub fn states(call: &Call<'_>, out: &mut Vec<u8>) -> Result<(), CallError> {
     match call.name {
@@ -191,7 +191,8 @@ fn show_taken(
     show_members(call, 1, &taken.auto, state, out)
 }
 
-/// Whether moves wait at first, where all states are new, and whether they do once the state is found.
+/// Whether moves wait at first, where all states are new, and whether they do once the state is
+/// found.
 fn show_uses(alloc: Global, auto: &Auto, state: State, out: &mut Vec<u8>) -> Result<(), CallError>
     requires { IsState auto.now state }
 {

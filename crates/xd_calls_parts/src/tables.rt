@@ -19,10 +19,11 @@ use xd_syntax::{
 
 /// A node that is added: `add_type`, `add_pattern`, `add_expression`, and `add_program_type` and
 /// `add_sound_type` to the program of the text; `first_uses`, by which node each of its types'
-/// nodes is known; `contents`, the number of the continuation of each of its definitions, where equal types have one number.
-/// `sort_faults NUMBERS`, the lines on which the faults stand;
-/// `graph NODES FROM TO`; `interned NUMBERS`, a list that is made from its end; `queue NUMBER`; `join ONE TWO`, of queues of one number;
-/// `names WORDS : PROGRAM`; `known : PROGRAM`; `place_front LINE COLUMN`, `texts WORDS`; `shown`.
+/// nodes is known; `contents`, the number of the continuation of each of its definitions, where
+/// equal types have one number. `sort_faults NUMBERS`, the lines on which the faults stand; `graph
+/// NODES FROM TO`; `interned NUMBERS`, a list that is made from its end; `queue NUMBER`; `join ONE
+/// TWO`, of queues of one number; `names WORDS : PROGRAM`; `known : PROGRAM`; `place_front LINE
+/// COLUMN`, `texts WORDS`; `shown`.
 pub fn tables(call: &Call<'_>, out: &mut Vec<u8>) -> Result<(), CallError> {
     match call.name {
         "add_type" => add_type(call.alloc, out),

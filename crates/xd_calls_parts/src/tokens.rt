@@ -7,8 +7,9 @@ use xd_lex::{Lexer, text_of};
 use xd_parse_trees::{Cursor, read_pattern_seq, read_type};
 use xd_syntax::{Patterns, Types};
 
-/// `text_of : TEXT`; `word : TEXT`, `label : TEXT` and `quoted : TEXT`, the place of the first token
-/// and what it is taken as; `shared_label WORD`; `read_pattern_seq : TEXT`; `read_type : TEXT`.
+/// `text_of : TEXT`; `word : TEXT`, `label : TEXT` and `quoted : TEXT`, the place of the first
+/// token and what it is taken as; `shared_label WORD`; `read_pattern_seq : TEXT`; `read_type :
+/// TEXT`.
 pub fn tokens(call: &Call<'_>, out: &mut Vec<u8>) -> Result<(), CallError> {
     match call.name {
         "text_of" => show_text(call.text.as_bytes(), out),

@@ -39,9 +39,10 @@ impl Question {
     }
 }
 
-/// About each document of its text, by the definitions of the sound program: `fits`, for the type that was read last; `ways` and
-/// `first`, for the pattern of the first clause; `meaning CALLS`, the value of the program. `value CALLS`: that of the first
-/// function's body, where it has no variables.
+/// About each document of its text, by the definitions of the sound program: `fits`, for the type
+/// that was read last; `ways` and `first`, for the pattern of the first clause; `meaning CALLS`,
+/// the value of the program. `value CALLS`: that of the first function's body, where it has no
+/// variables.
 pub fn plain(desk: &Programs, call: &Call<'_>, out: &mut Vec<u8>) -> Result<(), CallError> {
     let program = sound_program(desk)?;
     show_asked(desk, call, &program, out)

@@ -1,4 +1,5 @@
-//! What calls about programs share: programs and types that are read and shown, and states for types and what is asked of these.
+//! What calls about programs share: programs and types that are read and shown, and states for
+//! types and what is asked of these.
 #![tactic(auto)]
 
 mod case;

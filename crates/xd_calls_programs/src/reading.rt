@@ -11,7 +11,8 @@ use xd_rec::{Soundness, well_formed};
 use xd_sound::SoundProgram;
 use xd_syntax::{Fault, Program, TypeId, Types};
 
-/// The program that was read last, the sound one that was made of one last, and a table of types beside them.
+/// The program that was read last, the sound one that was made of one last, and a table of types
+/// beside them.
 #[derive(Drop)]
 pub struct Programs {
     pub alloc: Global,

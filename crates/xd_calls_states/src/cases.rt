@@ -45,7 +45,8 @@ fn show_step(step: Step, out: &mut Vec<u8>) -> Result<(), CallError> {
     Ok(())
 }
 
-/// `cut_lines`: how many bytes each line of the text has, and how many stand after the last line feed.
+/// `cut_lines`: how many bytes each line of the text has, and how many stand after the last line
+/// feed.
 pub fn show_lines(call: &Call<'_>, out: &mut Vec<u8>) -> Result<(), CallError> {
     let cut = cut_lines(call.alloc, call.text.as_bytes())?;
     for line in &cut.lines {

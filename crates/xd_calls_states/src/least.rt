@@ -1,7 +1,7 @@
 //! Calls about least documents.
 
 ghost use Rattle.xd_auto.specs.Automaton.{IsState};
-ghost use Rattle.xd_doc.specs.Stored.{BelongsTo};
+ghost use Rattle.xd_doc.specs.StoredSeq.{BelongsTo};
 ghost use Rattle.xd_goals.specs.Standing.{StandsOn};
 
 use crate::named::{Named, named_states, states_of};
@@ -65,7 +65,8 @@ pub fn show_sizes(call: &Call<'_>, out: &mut Vec<u8>) -> Result<(), CallError> {
     Ok(())
 }
 
-/// `learned TYPES`: the same, as it is learnt of an automaton that grows; it is learnt once more behind that.
+/// `learned TYPES`: the same, as it is learnt of an automaton that grows; it is learnt once more
+/// behind that.
 pub fn show_learned(call: &Call<'_>, out: &mut Vec<u8>) -> Result<(), CallError> {
     let (auto, states) = named_states(call)?;
     let mut store = Store::new(call.alloc);

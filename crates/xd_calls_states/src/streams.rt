@@ -9,7 +9,8 @@ use xd_calls_programs::state_of;
 use xd_doc::NoMemory;
 use xd_stream::{Expected, Stream, StreamError};
 
-/// `stream TYPE PIECES`: what is open behind each piece, then what may come, and whether the bytes may end there.
+/// `stream TYPE PIECES`: what is open behind each piece, then what may come, and whether the bytes
+/// may end there.
 pub fn show_stream(call: &Call<'_>, out: &mut Vec<u8>) -> Result<(), CallError> {
     let (auto, state) = state_of(call, 0)?;
     show_stream_of(call, auto, state, out)

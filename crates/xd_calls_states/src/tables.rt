@@ -19,11 +19,11 @@ use xd_goals::{Choice, ChoiceNode, GoalId, Standing, Table, Verdict, decide, new
 /// What is shown of two states of an automaton.
 #[derive(Clone, Copy)]
 enum StatesShown {
-    /// Whether the one is included in the two, then the other way round, by one table; and whether this has at most so many goals
-    /// then.
+    /// Whether the one is included in the two, then the other way round, by one table; and whether
+    /// this has at most so many goals then.
     Decided(usize),
-    /// Whether the one is included in the two; and for each goal that was refuted for it whether a goal that holds is among its
-    /// dependents, and whether a leaf of one that holds names it.
+    /// Whether the one is included in the two; and for each goal that was refuted for it whether a
+    /// goal that holds is among its dependents, and whether a leaf of one that holds names it.
     Moved,
 }
 
@@ -204,8 +204,9 @@ fn is_named_in(table: &Table, node: usize, goal: GoalId) -> bool
     }
 }
 
-/// `questions TYPES`: for each of the types, in the order of the words, which of them it is included in: each of all these
-/// questions is asked of one table, and then of a new one, which must say the same.
+/// `questions TYPES`: for each of the types, in the order of the words, which of them it is
+/// included in: each of all these questions is asked of one table, and then of a new one, which
+/// must say the same.
 pub fn show_questions(call: &Call<'_>, out: &mut Vec<u8>) -> Result<(), CallError> {
     let (auto, states) = named_states(call)?;
     show_all_questions(call.alloc, &auto, &states, out)

@@ -115,7 +115,8 @@ fn show_moves_of(
     Ok(())
 }
 
-/// How many moves a type of the program has, whose names stand for these nodes, where the marks say which nodes can be empty.
+/// How many moves a type of the program has, whose names stand for these nodes, where the marks say
+/// which nodes can be empty.
 fn count_moves(
     alloc: Global,
     program: &Program,

@@ -19,8 +19,8 @@ use xd_write::write_document;
 /// `load add NAME : TEXT` puts a text on the shelf. `bytes NAME` says how many it has, `document
 /// NAME` writes its document, `program NAME` says how many types it defines, and `proof FILE NAME`
 /// how many goals it has over the types of the program in FILE; `claim FILE NAME` and `second FILE
-/// NAME` are the outputs with that proof's claim and with its text in the second format. `sound : TEXT` says how many types the
-/// program of its own text defines.
+/// NAME` are the outputs with that proof's claim and with its text in the second format. `sound :
+/// TEXT` says how many types the program of its own text defines.
 pub fn load(shelf: &mut MemoryShelf, call: &Call<'_>, out: &mut Vec<u8>) -> Result<(), CallError> {
     if call.name == "sound" {
         return show_sound(call, out);

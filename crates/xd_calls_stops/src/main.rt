@@ -1,4 +1,5 @@
-//! The stops of streams beside those of the slow program, for each front of documents and in small pieces.
+//! The stops of streams beside those of the slow program, for each front of documents and in small
+//! pieces.
 #![tactic(auto)]
 
 mod desk;

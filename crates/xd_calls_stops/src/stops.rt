@@ -22,8 +22,8 @@ struct Counts {
     outside: usize,
 }
 
-/// `stops TYPE UNFOLDINGS`: each front of the document as the slow program tells it, and whether a stream does in pieces of
-/// one to five bytes; then where the whole document stops.
+/// `stops TYPE UNFOLDINGS`: each front of the document as the slow program tells it, and whether a
+/// stream does in pieces of one to five bytes; then where the whole document stops.
 pub fn show_stops(
     call: &Call<'_>,
     program: &str,
@@ -42,8 +42,9 @@ pub fn show_stops(
     show_stop(plain_stop(call.alloc, &of, document)?, out)
 }
 
-/// `begins TYPE UNFOLDINGS TAIL`: whether some document of the type begins with the items of the call's text, and goes on by
-/// `nothing`, by `anything` or by `something`, which is an item at least.
+/// `begins TYPE UNFOLDINGS TAIL`: whether some document of the type begins with the items of the
+/// call's text, and goes on by `nothing`, by `anything` or by `something`, which is an item at
+/// least.
 pub fn show_begun(call: &Call<'_>, program: &str, out: &mut Vec<u8>) -> Result<(), CallError> {
     let about = call.about(program);
     let program = plain_program(call.alloc, program_of(&about)?.program())?;

@@ -4,8 +4,8 @@ use std::io::Write;
 use xd_calls_lines::{Call, CallError, class, label, words};
 use xd_doc::Text;
 
-/// `label : WORD`, `text : TEXT`, `class CLASS LABELS`, `words CLASS TEXTS`: an equal label, text or class that shares what
-/// was made, and of a class which of some labels or texts it has.
+/// `label : WORD`, `text : TEXT`, `class CLASS LABELS`, `words CLASS TEXTS`: an equal label, text
+/// or class that shares what was made, and of a class which of some labels or texts it has.
 pub fn name(call: &Call<'_>, out: &mut Vec<u8>) -> Result<(), CallError> {
     match call.name {
         "label" => {

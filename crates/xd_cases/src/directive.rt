@@ -10,7 +10,8 @@ pub enum Directive<'a> {
     Blank,
     /// A case begins.
     Case,
-    /// A text of this name begins, in place of an earlier one, with its first line where one is given.
+    /// A text of this name begins, in place of an earlier one, with its first line where one is
+    /// given.
     File(&'a str, Option<&'a str>),
     /// A line of the text.
     Line(&'a str),

@@ -10,7 +10,8 @@ const LONGEST: usize = 1000;
 
 /// Appends the lines of an output, each behind a `>`.
 ///
-/// A line `.. N bytes` follows where it is cut to its first bytes, and `no line end` where it lacks one.
+/// A line `.. N bytes` follows where it is cut to its first bytes, and `no line end` where it lacks
+/// one.
 pub fn show_output(out: &mut Vec<u8>, output: &[u8]) -> Result<(), CaseError> {
     let mut begins = true;
     for byte in &output[..output.len().min(LONGEST)] {
@@ -34,9 +35,11 @@ pub fn show_run(out: &mut Vec<u8>, status: u8, output: &[u8]) -> Result<(), Case
     show_output(out, output)
 }
 
-/// Appends a line for each status and how often it comes in a row: `status 4 x 10`, then `status 0 x 1`.
+/// Appends a line for each status and how often it comes in a row: `status 4 x 10`, then `status 0
+/// x 1`.
 ///
-/// Where outputs are shown, runs in a row have to write the same too, and what they write stands behind the line.
+/// Where outputs are shown, runs in a row have to write the same too, and what they write stands
+/// behind the line.
 pub fn show_runs(out: &mut Vec<u8>, runs: &[Ended], shown: Shown) -> Result<(), CaseError> {
     let has_outputs = matches!(shown, Shown::Outputs);
     for row in runs.chunk_by(|one, next| {

@@ -94,7 +94,8 @@ fn put_prefix(
     Ok(())
 }
 
-/// Puts the text into the shelf as the run with this number changes it: each of its numbers one up, then one down.
+/// Puts the text into the shelf as the run with this number changes it: each of its numbers one up,
+/// then one down.
 fn put_changed(
     alloc: Global,
     shelf: &mut MemoryShelf,
@@ -107,7 +108,8 @@ fn put_changed(
     Ok(())
 }
 
-/// The status that each run but the last one has, or `None` where the text says how many runs there are.
+/// The status that each run but the last one has, or `None` where the text says how many runs there
+/// are.
 fn failure(variation: Variation<'_>) -> Option<u8> {
     match variation {
         Variation::Prefix(_) | Variation::Number(_) => None,

@@ -19,7 +19,8 @@ first_front fs n w f l =
     let s : suc n ≡ n + 1 = omega arith in
     ap (λ xs. number_from n xs w) (drop_more fs n f l) ∙ ap (λ m. cond (bytes_eq (get_or fs n f).name w) (Some n) (number_from m (drop (n + 1) fs) w)) s
 
--- the number of a name is that of its first function's signature, where signatures before these stand before it
+-- the number of a name is that of its first function's signature, where signatures before these
+-- stand before it
 module _ (E : Definitions) (a : Automaton) (p : ProgramTable) where
   found : (w : List ℕ) (fs : List FunctionRow) (gs : List Signature) (n : ℕ) (at : Option ℕ → Option Signature) →
       ((k : ℕ) → at (Some (n + k)) ≡ slice_get gs k) → at None ≡ None → AllPaired (IsSignature E a) (map (function_definition p) fs) gs →

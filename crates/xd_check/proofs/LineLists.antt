@@ -1,14 +1,16 @@
 -- Lists of found lines.
-use Rattle.std.proofs.Common.{◌≡◌, ◌^◌, true, List, [], ◌∷◌, ◌++◌, Some, refl, ap, sym, subst, ◌∙◌, append-nil, append_assoc, inl, inr}
+use Rattle.std.proofs.Common.{◌≡◌, true, List, [], ◌∷◌, ◌++◌, Some, refl, ap, sym, subst, ◌∙◌, append-nil, append_assoc, inl, inr}
 use Rattle.std.proofs.lemmas.List.{map-append}
 use Rattle.xd_base.specs.declared.Place.{Place}
 use Rattle.xd_doc.specs.Document.{Document, is_proper}
 use Rattle.xd_doc.specs.Least.{IsLeastBy}
 use Rattle.xd_doc.specs.LeastUpTo.{IsLeastUpTo}
-use Rattle.xd_doc.specs.Stored.{BelongsTo, document_at}
+use Rattle.xd_doc.specs.Stored.{document_at}
+use Rattle.xd_doc.specs.StoredSeq.{BelongsTo}
 use Rattle.xd_doc.specs.StoreNodes.{Keeps}
 use Rattle.xd_doc.specs.declared.store.Seq.{Seq}
 use Rattle.xd_doc.proofs.LeastLemmas.{least_of_part, least_told}
+use Rattle.xd_least.specs.Least.{size_limit}
 use Rattle.xd_syntax.specs.CheckFaults.{Line, LineKind, Both, IsProperWith, LineWhere}
 use Rattle.xd_check.specs.declared.lines.Finding.{Finding}
 use Rattle.xd_check.specs.declared.lines.Finding.TheVariants.{NotExhaustive, Argument, Result, DeadClause}
@@ -65,13 +67,14 @@ adds_both ds es k A B old mid new g h =
       meet = (lines_of es a.more, lines_of es h.more, a.meet, h.meet, map-append (line_of es) a.more h.more);
     }
 
--- a document that is least up to the limit is least as sizes are told apart, among the proper ones too
-least_proper : (A : Document → Type 0) (d : Document) → is_proper d ≡ true → IsLeastUpTo (2 ^ 63) A d → IsLeastBy told_size (IsProperWith A) d
-least_proper A d p h = least_of_part told_size A (IsProperWith A) d (record { proper = p; meets = h.within }) (λ e q. q.meets) (least_told (2 ^ 63) A d h)
+-- a document that is least up to the limit is least as sizes are told apart, among the proper ones
+-- too
+least_proper : (A : Document → Type 0) (d : Document) → is_proper d ≡ true → IsLeastUpTo size_limit A d → IsLeastBy told_size (IsProperWith A) d
+least_proper A d p h = least_of_part told_size A (IsProperWith A) d (record { proper = p; meets = h.within }) (λ e q. q.meets) (least_told size_limit A d h)
 
 -- a line with a least document of the store that meets the fact
 pub line_there : (ds : List Document) (p : Place) (A : Document → Type 0) (l : FoundLine) (seq : Seq) → l.place ≡ p → carried ds l.finding ≡ Some (document_at ds seq) → BelongsTo ds seq →
-    IsLeastUpTo (2 ^ 63) A (document_at ds seq) → LineWhere told_size p (kind_of l.finding) A (line_of ds l ∷ [])
+    IsLeastUpTo size_limit A (document_at ds seq) → LineWhere told_size p (kind_of l.finding) A (line_of ds l ∷ [])
 line_there ds p A l seq e c b h =
     inl (
       document_at ds seq,
@@ -81,7 +84,7 @@ line_there ds p A l seq e c b h =
 
 -- one line, with a least document of the store that meets the fact
 pub adds_where : (ds : List Document) (p : Place) (A : Document → Type 0) (old new : List FoundLine) (f : Finding) (seq : Seq) → new ≡ old ++ record { place = p; finding = f } ∷ [] → FindingBelongs ds f →
-    carried ds f ≡ Some (document_at ds seq) → BelongsTo ds seq → IsLeastUpTo (2 ^ 63) A (document_at ds seq) → AddsLines ds (LineWhere told_size p (kind_of f) A) old new
+    carried ds f ≡ Some (document_at ds seq) → BelongsTo ds seq → IsLeastUpTo size_limit A (document_at ds seq) → AddsLines ds (LineWhere told_size p (kind_of f) A) old new
 adds_where ds p A old new f seq e b c i h =
     subst (AddsLines ds (LineWhere told_size p (kind_of f) A) old) (sym e)
     (adds_one ds (LineWhere told_size p (kind_of f) A) old (record { place = p; finding = f }) b (line_there ds p A (record { place = p; finding = f }) seq refl c i h))

@@ -181,7 +181,8 @@ parameter_at E a (q ∷ qs) [] n h = absurd h
 parameter_at E a (q ∷ qs) (t ∷ ts) zero h = has_one q t refl refl h.0
 parameter_at E a (q ∷ qs) (t ∷ ts) (suc n) h = next E a q t qs ts n (parameter_at E a qs ts n h.1)
 
--- the lines of an argument and of what is not of its parameter's type are those of the arguments that are left
+-- the lines of an argument and of what is not of its parameter's type are those of the arguments
+-- that are left
 module _ (P : ProgramTree) (S : Scope) (e : Expression) (es : List Expression) (a : Automaton) (s : State) (may : AcceptsJust a s (May P S e)) where
   argument_lines : (qs : List Parameter) (ts : List State) (n : ℕ) → HasParameter (names_of P) a qs ts n → (xs ms : List Line) →
       Both (LinesOf told_size P S e) (LinesOfArgument a (place_of_expression e) s (slice_get ts n)) xs → LinesOfArguments told_size P S (drop (n + 1) qs) (arguments_of es) ms →

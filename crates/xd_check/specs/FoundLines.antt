@@ -1,9 +1,11 @@
 -- Lines as they are found, with the document in a store.
-use Rattle.std.specs.Prelude.{◌≡◌, ℕ, ◌^◌, Bool, ◌&&◌, ◌||◌, nat_lt, List, ◌++◌, map, Option, Some, None}
+use Rattle.std.specs.Prelude.{◌≡◌, ℕ, Bool, ◌&&◌, ◌||◌, nat_lt, List, ◌++◌, map, Option, Some, None}
 use Rattle.std.specs.List.{AllByRecursion}
 use Rattle.xd_doc.specs.Document.{Document}
 use Rattle.xd_doc.specs.LeastUpTo.{size_up_to}
-use Rattle.xd_doc.specs.Stored.{BelongsTo, document_at}
+use Rattle.xd_doc.specs.Stored.{document_at}
+use Rattle.xd_doc.specs.StoredSeq.{BelongsTo}
+use Rattle.xd_least.specs.Least.{size_limit}
 use Rattle.xd_syntax.specs.CheckFaults.{LineKind, not_exhaustive, wrong_argument, wrong_result, dead_clause, Line, rank}
 use Rattle.xd_syntax.specs.Order.{is_earlier, is_same_place}
 use Rattle.xd_syntax.specs.declared.fault.FaultKind.{FaultKind}
@@ -14,7 +16,7 @@ use Rattle.xd_check.specs.declared.lines.FoundLine.{FoundLine}
 
 -- sizes of documents are told apart below this limit alone
 abbrev pub told_size : Document → ℕ
-told_size = size_up_to (2 ^ 63)
+told_size = size_up_to size_limit
 
 abbrev pub kind_of : Finding → LineKind
 kind_of (NotExhaustive seq) = not_exhaustive

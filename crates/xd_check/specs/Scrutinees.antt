@@ -20,19 +20,22 @@ use Rattle.xd_check.specs.declared.matches.MetMatch.{MetMatch}
 use Rattle.xd_check.specs.declared.matches.MatchStates.{MatchStates}
 use Rattle.xd_check.specs.declared.matches.Scrutinee.{Scrutinee}
 
--- the match itself, and a state that accepts exactly the proper documents that its scrutinee may be in its scope
+-- the match itself, and a state that accepts exactly the proper documents that its scrutinee may be
+-- in its scope
 pub record IsScrutineeOf (p : ProgramTable) (m : SeenMatch) (x : Scrutinee) : Type 0 where
   pub match : expr_at p x.expr.at ≡ Matched m.place m.scrutinee m.clauses
   pub belongs : IsState x.auto x.state
   pub exact : AcceptsJust x.auto x.state (May (program_tree p) m.scope m.scrutinee)
 
--- one for each match of the program that doesn't stand inside the body of a clause that isn't live, in order of place
+-- one for each match of the program that doesn't stand inside the body of a clause that isn't live,
+-- in order of place
 pub record AreScrutinees (p : ProgramTable) (xs : List Scrutinee) : Type 0 where
   pub matches : List SeenMatch
   pub seen : AreMatches (program_tree p) matches
   pub each : AllZip (IsScrutineeOf p) matches xs
 
--- the same of a match that was met, in the automaton of the walk; the parts of the match can be walked
+-- the same of a match that was met, in the automaton of the walk; the parts of the match can be
+-- walked
 pub record IsMet (p : ProgramTable) (a : Automaton) (m : SeenMatch) (x : MetMatch) : Type 0 where
   pub match : expr_at p x.expr.at ≡ Matched m.place m.scrutinee m.clauses
   pub walkable : CanBeWalked p x.expr.at
@@ -40,7 +43,8 @@ pub record IsMet (p : ProgramTable) (a : Automaton) (m : SeenMatch) (x : MetMatc
   pub belongs : IsState a x.state
   pub exact : AcceptsJust a x.state (May (program_tree p) m.scope m.scrutinee)
 
--- The same matches, in an automaton of which something is known; the compiler serves the program, to which types were added.
+-- The same matches, in an automaton of which something is known; the compiler serves the program,
+-- to which types were added.
 pub record AreMatchStates (p : ProgramTable) (a : Automaton) (met : MatchStates) : Type 0 where
   pub adds : AddsTypes p met.sound
   pub same : program_tree met.sound ≡ program_tree p

@@ -49,7 +49,8 @@ pub record ArePartsWalked (P : ProgramTree) (S : Scope) (es : List Expression) (
   pub may : AllPaired (λ (e : Expression) (s : State). AcceptsJust a s (May P S e)) es ss
   pub lines : AddsLines ds (LinesOfParts P S es) old new
 
--- the proper documents of C are those that the scrutinee may be and that none of these patterns takes
+-- the proper documents of C are those that the scrutinee may be and that none of these patterns
+-- takes
 abbrev pub ComesBehind : ProgramTree → Scope → Expression → List PlacedTree → (Document → Type 0) → Type 0
 ComesBehind P S e earlier C = (d : Document) → is_proper d ≡ true → C d ↔ (May P S e d × NoneTakes (names_of P) earlier d)
 

@@ -28,7 +28,8 @@ use xd_patterns::PatternCompiler;
 use xd_sound::SoundProgram;
 use xd_syntax::{ExprId, Function, Param, PatternId};
 
-/// The program, what compiles its patterns, and its functions' declared types as states of an automaton.
+/// The program, what compiles its patterns, and its functions' declared types as states of an
+/// automaton.
 #[derive(Drop)]
 pub(crate) struct Checker {
     pub alloc: Global,

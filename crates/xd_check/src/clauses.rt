@@ -1,4 +1,5 @@
-//! Clauses of a match: what its variables may be, what goes on to the next one, and what no clause takes.
+//! Clauses of a match: what its variables may be, what goes on to the next one, and what no clause
+//! takes.
 
 ghost use Rattle.std.specs.Prelude.{◌≡◌, ◌≢◌, ◌↔◌, ◌++◌, None, IfOk, OnOk};
 ghost use Rattle.xd_doc.specs.Document.{Document};
@@ -39,9 +40,9 @@ pub(crate) fn bring_in(givens: Vec<Given>, variables: &mut Variables) -> Result<
     Ok(())
 }
 
-/// A state for what goes on to the next clause: what the pattern doesn't take, where a state was found since the clause is live.
-/// A dead clause takes nothing, so all that came to it goes on, as the state that it was. The state that was found is put behind
-/// the others.
+/// A state for what goes on to the next clause: what the pattern doesn't take, where a state was
+/// found since the clause is live. A dead clause takes nothing, so all that came to it goes on, as
+/// the state that it was. The state that was found is put behind the others.
 pub(crate) fn pass_on(
     alloc: Global,
     pattern: &ClausePattern,

@@ -115,8 +115,8 @@ impl Checker {
         Ok(states)
     }
 
-    /// The same of a call: its state is that of the declared result, whatever the body is. Where there is no function of the name,
-    /// the call may be nothing.
+    /// The same of a call: its state is that of the declared result, whatever the body is. Where
+    /// there is no function of the name, the call may be nothing.
     #[cycle(expressions)]
     fn in_call(
         &self,
@@ -185,7 +185,8 @@ impl Checker {
         Ok(())
     }
 
-    /// The line of the argument of this number where it may be what its parameter's type doesn't have.
+    /// The line of the argument of this number where it may be what its parameter's type doesn't
+    /// have.
     fn see_argument(
         &self,
         argument: ExprId,

@@ -8,8 +8,8 @@ use xd_doc::Store;
 use xd_goals::{Table, new_tables_stand};
 use xd_least::LeastInhabitants;
 
-/// What is known of the states: least documents that they accept, and which of them accept no more than others. The automaton only
-/// grows, so what is known stays known.
+/// What is known of the states: least documents that they accept, and which of them accept no more
+/// than others. The automaton only grows, so what is known stays known.
 #[derive(Drop)]
 pub(crate) struct Known {
     pub inhabitants: LeastInhabitants,

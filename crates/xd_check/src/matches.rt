@@ -1,7 +1,7 @@
 //! What the scrutinees of matches may be.
 //!
-//! The matches are walked by recursion, no deeper than expressions stand in one another. The state of a
-//! scrutinee is the one that the check has for it.
+//! The matches are walked by recursion, no deeper than expressions stand in one another. The state
+//! of a scrutinee is the one that the check has for it.
 
 ghost use Rattle.std.specs.Prelude.{◌≡◌, ◌<◌, ◌↔◌, true, List, [], length, map, IfOk, OnOk};
 ghost use Rattle.xd_doc.specs.Document.{Document};
@@ -67,8 +67,8 @@ pub struct MetMatch {
     pub state: State,
 }
 
-/// The matches of a program, whose scrutinees are states of one automaton, and what it takes to go on
-/// with that automaton.
+/// The matches of a program, whose scrutinees are states of one automaton, and what it takes to go
+/// on with that automaton.
 #[derive(Drop)]
 pub struct MatchStates {
     /// The program, to which the walk has added types.

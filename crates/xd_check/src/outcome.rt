@@ -32,10 +32,11 @@ pub enum CheckOutcome {
     },
 }
 
-/// Looks for all faults of matches, arguments and results in a program, and for all clauses that are never reached; the body of
-/// such a clause isn't looked at.
+/// Looks for all faults of matches, arguments and results in a program, and for all clauses that
+/// are never reached; the body of such a clause isn't looked at.
 ///
-/// The documents that faults carry are put into the store. The program is given up where it is refused, and for want of memory.
+/// The documents that faults carry are put into the store. The program is given up where it is
+/// refused, and for want of memory.
 pub fn check(
     alloc: Global,
     sound: SoundProgram,

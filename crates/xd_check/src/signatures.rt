@@ -46,7 +46,8 @@ pub(crate) struct Signatures {
 }
 
 impl Signatures {
-    /// Those of a program's functions. Their states are added to the automaton, and types to the program.
+    /// Those of a program's functions. Their states are added to the automaton, and types to the
+    /// program.
     pub(crate) fn new(
         alloc: Global,
         sound: &mut SoundProgram,

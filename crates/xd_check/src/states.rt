@@ -7,9 +7,11 @@ ghost use Rattle.std.specs.Option.{IfSome};
 ghost use Rattle.xd_doc.specs.Classes.{class_has};
 ghost use Rattle.xd_doc.specs.Document.{Document, empty, text};
 ghost use Rattle.xd_doc.specs.LeastUpTo.{IsLeastUpTo};
-ghost use Rattle.xd_doc.specs.Stored.{BelongsTo, document_at};
+ghost use Rattle.xd_doc.specs.Stored.{document_at};
+ghost use Rattle.xd_doc.specs.StoredSeq.{BelongsTo};
 ghost use Rattle.xd_doc.specs.StoreNodes.{Keeps};
 ghost use Rattle.xd_auto.specs.Automaton.{IsState, accepts};
+ghost use Rattle.xd_least.specs.Least.{size_limit};
 ghost use Rattle.xd_check.specs.Walked.{AcceptedBySome, AcceptedInTurn, Grows, IsMisfit};
 ghost use Rattle.xd_check.specs.InScope.{AcceptedBy, AreStates, state_of};
 ghost use Rattle.xd_check.specs.Known.{IsKnown};
@@ -96,8 +98,8 @@ pub(crate) fn unite_states(states: Vec<State>, auto: &mut Auto) -> Result<State,
     Ok(auto.unite(&states)?)
 }
 
-/// Whether it is seen at once that the second state accepts what the first does: they are the same, or
-/// the second accepts every document in a plain way.
+/// Whether it is seen at once that the second state accepts what the first does: they are the same,
+/// or the second accepts every document in a plain way.
 fn is_plainly_within(auto: &Auto, state: State, wanted: State) -> bool
     requires { IsState auto.now wanted }
     ensures { result ≡ true → (d : Document) → accepts auto.now d state ≡ true → accepts auto.now d wanted ≡ true }
@@ -122,7 +124,7 @@ pub(crate) fn misfit(
     requires state { IsState auto.now state }
     requires wanted { IsState auto.now wanted }
     requires known { IsKnown auto.now store.old known.old }
-    ensures least { IfOk result (λ found. IfSome found (λ seq. IsLeastUpTo (2 ^ 63) (IsMisfit auto.now state wanted) (document_at store.new seq))) }
+    ensures least { IfOk result (λ found. IfSome found (λ seq. IsLeastUpTo size_limit (IsMisfit auto.now state wanted) (document_at store.new seq))) }
     ensures belongs { IfOk result (λ found. IfSome found (BelongsTo store.new)) }
     ensures none { result ≡ Ok None → (d : Document) → accepts auto.now d state ≡ true → accepts auto.now d wanted ≡ true }
     ensures known { IsKnown auto.now store.new known.new }

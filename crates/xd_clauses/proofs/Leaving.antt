@@ -109,7 +109,8 @@ module _ (E : Definitions) (rows : List Row) where
       go true e never rest = absurd (never ((h.0.takes d).0 e))
       go false e never rest = rest
 
-  -- what comes to a clause: what a state and a further one accept, which accepts what the clause's does, and none of the earlier ones
+  -- what comes to a clause: what a state and a further one accept, which accepts what the clause's
+  -- does, and none of the earlier ones
   pub comes_behind : (a b c : Automaton) (ids : List PatternId) (ss us : List State) (n : ℕ) (id : PatternId) (s wide from made : State) → AllPaired (IsStartOf E rows a) ids ss → n < length ss → id ≡ get_or ids n id → s ≡ get_or ss n s →
       ((d : Document) → any_accepts a us d ≡ any_accepts a (take n ss) d) → ((d : Document) → accepts a d s ≡ true → accepts a d wide ≡ true) → ((d : Document) → accepts c d made ≡ (accepts b d from && (accepts a d wide && not (any_accepts a us d)))) →
       ComesToClause E rows (take n ids) id (Accepted b from) (Accepted c made)

@@ -1,4 +1,5 @@
--- Whether items stand together, and whether a state is universal, can be tested, so that it doesn't fail is enough.
+-- Whether items stand together, and whether a state is universal, can be tested, so that it doesn't
+-- fail is enough.
 use Rattle.std.proofs.Common.{◌≡◌, ℕ, zero, suc, ◌<◌, ◌⊎◌, inl, inr, Bool, true, false, List, [], ◌∷◌, refl, ap, ◌∙◌, arith}
 use Rattle.xd_doc.specs.Classes.{NameClass}
 use Rattle.xd_auto.specs.declared.auto.State.{State}

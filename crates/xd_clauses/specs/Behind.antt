@@ -47,7 +47,8 @@ pub record AreUnions (a : Automaton) (ss : List State) (u : Unions) : Type 0 whe
   pub earlier : (n : ℕ) (us : Vec State Global) → n < length ss → us ≡ get_or u.earlier.items n us → IsUnionOf a (take n ss) a us.items
   pub whole : IsUnionOf a ss a u.whole.items
 
--- The patterns' states serve documents that states of this automaton accept, and so does what is kept of them.
+-- The patterns' states serve documents that states of this automaton accept, and so does what is
+-- kept of them.
 pub record ServesClauses (a : Automaton) (m : MatchClauses) : Type 0 where
   pub serve : ServePoints a m.patterns
   pub starts : AllByRecursion (IsState m.patterns.auto) m.starts.items
@@ -69,8 +70,8 @@ pub record KeepsClauses (old new : MatchClauses) : Type 0 where
 abbrev pub ClausesStay : Type 0
 ClausesStay = (old new : Automaton) (m : MatchClauses) → IsClosed old → Extends old new → ServesClauses old m → ServesClauses new m
 
--- Of the documents of C those of D are ones that none of the earlier patterns takes, and they are at least those of these that a
--- further pattern takes.
+-- Of the documents of C those of D are ones that none of the earlier patterns takes, and they are
+-- at least those of these that a further pattern takes.
 pub record ComesToClause (E : Definitions) (rows : List Row) (earlier : List PatternId) (id : PatternId) (C D : Document → Type 0) : Type 0 where
   pub from : (d : Document) → D d → C d × NoneTakes E (placed_patterns rows earlier) d
   pub to : (d : Document) → C d → Takes E (unplaced (placed_pattern rows id)) d → NoneTakes E (placed_patterns rows earlier) d → D d

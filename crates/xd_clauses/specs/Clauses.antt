@@ -43,8 +43,8 @@ pub record AreBindingsOf (V : Allowance) (P : PlacedTree) (bindings : List Bindi
   pub variables : map (λ (b : Binding). b.variable) bindings ≡ variables_of (unplaced P)
   pub each : All (IsBindingOf V) bindings
 
--- The same where a variable may be what some whole way of the pattern gives it, where the scrutinee may be A, on a document that
--- none of the earlier patterns takes.
+-- The same where a variable may be what some whole way of the pattern gives it, where the scrutinee
+-- may be A, on a document that none of the earlier patterns takes.
 abbrev pub IsMayGiven : Definitions → (Document → Type 0) → List PlacedTree → PlacedTree → Automaton → Given → Type 0
 IsMayGiven E A earlier P a given = IsGivenOf (MayBind E A earlier P) a given
 

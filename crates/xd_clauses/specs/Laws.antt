@@ -16,7 +16,8 @@ use Rattle.xd_clauses.specs.Owning.{moves_of}
 abbrev pub CompiledKeepTogether : Type 0
 CompiledKeepTogether = (E : Definitions) (P : PlacedTree) (a : Automaton) (k : Marking) (s : State) → IsCompiled E (unplaced P) a k s → (x : List ℕ) → KeepsTogether a (moves_of k x) s
 
--- on documents that another state accepts, accepting runs give a variable what whole ways bind it to
+-- on documents that another state accepts, accepting runs give a variable what whole ways bind it
+-- to
 abbrev pub CompiledTell : Type 0
 CompiledTell = (E : Definitions) (P : PlacedTree) (a : Automaton) (k : Marking) (s : State) → IsCompiled E (unplaced P) a k s → (x : List ℕ) → has_word (occurrences (unplaced P)) x ≡ true →
     (other : Automaton) (t : State) (e : Document) → is_proper e ≡ true → IsGivenWhere a other (moves_of k x) s t e ↔ MayBind E (λ d. accepts other d t ≡ true) [] P x e

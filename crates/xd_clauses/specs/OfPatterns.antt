@@ -10,7 +10,8 @@ use Rattle.xd_patterns.specs.Marked.{IsCompiled}
 use Rattle.xd_patterns.specs.declared.marked.Marked.{Marked}
 use Rattle.xd_clauses.specs.Whole.{without}
 
--- the automaton and its marks are those of the pattern, with a universal state whose moves belong to no variable
+-- the automaton and its marks are those of the pattern, with a universal state whose moves belong
+-- to no variable
 pub record IsOfPattern (E : Definitions) (P : Tree) (a : Automaton) (all : State) (m : Marked) : Type 0 where
   pub start : IsState a m.start
   pub universal : IsUniversal a all

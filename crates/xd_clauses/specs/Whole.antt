@@ -7,8 +7,8 @@ use Rattle.xd_meaning.specs.KeptFaults.{AllPaired}
 use Rattle.xd_auto_pairs.specs.Universal.{IsUniversal, every_name}
 use Rattle.xd_patterns.specs.Marked.{Marking}
 
--- The state accepts the empty document and takes each element and each text by one move, which belongs to no variable; these
--- lead to two states, for contents and for what follows.
+-- The state accepts the empty document and takes each element and each text by one move, which
+-- belongs to no variable; these lead to two states, for contents and for what follows.
 pub record TakesAll (a : Automaton) (k : Marking) (s content rest : State) : Type 0 where
   pub last : (moves_at a s).last ≡ true
   pub labels : (moves_at a s).labels ≡ record { class = every_name; content = content; rest = rest } ∷ []
@@ -16,7 +16,8 @@ pub record TakesAll (a : Automaton) (k : Marking) (s content rest : State) : Typ
   pub label_marks : get_or (k s).labels 0 [] ≡ []
   pub text_marks : get_or (k s).texts 0 [] ≡ []
 
--- two states that do so, with the first for contents and the second for what follows, as those of `Any` are
+-- two states that do so, with the first for contents and the second for what follows, as those of
+-- `Any` are
 pub record AreWhole (a : Automaton) (k : Marking) (s rest : State) : Type 0 where
   pub first : TakesAll a k s s rest
   pub others : TakesAll a k rest s rest
@@ -37,7 +38,8 @@ pub record AreTurned (a : Automaton) (k : Marking) (all : State) (moves made : S
   pub labels : AllPaired (IsTurned a k all) moves.labels made.labels
   pub texts : made.texts ≡ moves.texts
 
--- each state has its moves, with contents that are taken whole turned to a universal state behind them
+-- each state has its moves, with contents that are taken whole turned to a universal state behind
+-- them
 pub record HasUniversal (a : Automaton) (k : Marking) (made : Automaton) (all : State) : Type 0 where
   pub universal : IsUniversal made all
   pub behind : length a ≤ all.number
@@ -52,7 +54,8 @@ without s k t = cond (nat_eq t.number s.number) (record { texts = []; labels = [
 abbrev pub bare : Automaton → Automaton
 bare a = map (λ m. no_moves m.last) a
 
--- of the states the first ones, so many, have their moves, with such contents turned, and the others none
+-- of the states the first ones, so many, have their moves, with such contents turned, and the
+-- others none
 pub record AreTurnedTo (a : Automaton) (k : Marking) (all : State) (old new : Automaton) (count : ℕ) : Type 0 where
   pub sized : length new ≡ length old
   pub done : (s : State) → s.number < count → AreTurned a k all (moves_at a s) (moves_at new s)

@@ -31,8 +31,8 @@ pub struct MatchClauses {
     table: PointTable,
 }
 
-/// States that together accept what the patterns of some clauses take: no more than the logarithm of
-/// how many clauses there are.
+/// States that together accept what the patterns of some clauses take: no more than the logarithm
+/// of how many clauses there are.
 #[derive(Drop)]
 struct Unions {
     /// For each clause those of the earlier ones.
@@ -75,8 +75,8 @@ fn unite_last(auto: &mut Auto, blocks: &mut Vec<State>) -> Result<(), NoMemory>
     Ok(())
 }
 
-/// Unites the last blocks of states of the first clauses, so many, as long as they have the same size.
-/// The sizes are those of the number in binary.
+/// Unites the last blocks of states of the first clauses, so many, as long as they have the same
+/// size. The sizes are those of the number in binary.
 fn unite_blocks(auto: &mut Auto, blocks: &mut Vec<State>, count: usize) -> Result<(), NoMemory>
     requires { AllByRecursion (IsState auto.old) blocks.old.items }
     ensures block { OnOk result ((a : Automaton) (ss : List StateView) → IsUnionOf a ss auto.old blocks.old.items → IsUnionOf a ss auto.new blocks.new.items) }
@@ -90,8 +90,8 @@ fn unite_blocks(auto: &mut Auto, blocks: &mut Vec<State>, count: usize) -> Resul
     Ok(())
 }
 
-/// Adds states that accept what states of first clauses do: in all as many moves as the states have,
-/// times the logarithm of their number.
+/// Adds states that accept what states of first clauses do: in all as many moves as the states
+/// have, times the logarithm of their number.
 fn unions_of(alloc: Global, auto: &mut Auto, starts: &[State]) -> Result<Unions, NoMemory>
     requires { AllByRecursion (IsState auto.old) starts.now }
     ensures unions { IfOk result (λ made. AreUnions auto.new starts.now made) }
@@ -121,9 +121,9 @@ fn names_labels(auto: &Auto, state: State) -> bool
     true
 }
 
-/// The state by which what comes to a clause is made less: that of its pattern, if it names labels, so
-/// that the other labels are left out. Else it is a state that accepts everything, since what the
-/// pattern looks at is looked at once more when its variables are bound.
+/// The state by which what comes to a clause is made less: that of its pattern, if it names labels,
+/// so that the other labels are left out. Else it is a state that accepts everything, since what
+/// the pattern looks at is looked at once more when its variables are bound.
 fn wider_of(auto: &Auto, start: State, all: State) -> State
     requires start { IsState auto.now start }
     requires all { IsState auto.now all }
@@ -190,7 +190,8 @@ impl MatchClauses {
     /// state accepts ones that no earlier pattern takes, and of these at least those that its own
     /// pattern takes.
     ///
-    /// After `NoMemory` nothing more can be asked; the automaton keeps its states, and may have more.
+    /// After `NoMemory` nothing more can be asked; the automaton keeps its states, and may have
+    /// more.
     pub fn coming_to(
         &mut self,
         alloc: Global,
@@ -226,7 +227,8 @@ impl MatchClauses {
 
     /// Adds a state for those of the documents that a state accepts that no pattern takes.
     ///
-    /// After `NoMemory` nothing more can be asked; the automaton keeps its states, and may have more.
+    /// After `NoMemory` nothing more can be asked; the automaton keeps its states, and may have
+    /// more.
     pub fn left_over(
         &mut self,
         alloc: Global,

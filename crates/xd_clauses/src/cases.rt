@@ -4,10 +4,11 @@ ghost use Rattle.std.specs.Prelude.{◌≡◌, ◌↔◌, ◌^◌, List, true, f
 ghost use Rattle.std.specs.List.{All, AllByRecursion};
 ghost use Rattle.xd_doc.specs.Document.{Document};
 ghost use Rattle.xd_doc.specs.LeastUpTo.{IsLeastUpTo};
-ghost use Rattle.xd_doc.specs.Stored.{BelongsTo, document_at};
+ghost use Rattle.xd_doc.specs.Stored.{document_at};
+ghost use Rattle.xd_doc.specs.StoredSeq.{BelongsTo};
 ghost use Rattle.xd_doc.specs.StoreNodes.{Keeps};
 ghost use Rattle.xd_auto.specs.Automaton.{Automaton, Extends, IsState, KeepsAccepting};
-ghost use Rattle.xd_least.specs.Least.{Knows};
+ghost use Rattle.xd_least.specs.Least.{Knows, size_limit};
 ghost use Rattle.xd_syntax.specs.Kept.{AddsTypes, program_tree};
 ghost use Rattle.xd_syntax.specs.May.{IsLive, NoneTakes};
 ghost use Rattle.xd_syntax.specs.Placed.{PlacedTree, unplaced};
@@ -31,8 +32,8 @@ use xd_patterns::PatternCompiler;
 use xd_sound::SoundProgram;
 use xd_syntax::PatternId;
 
-/// A document that the state accepts, a least one, where there is one. What is found of other states on the way is known from then
-/// on.
+/// A document that the state accepts, a least one, where there is one. What is found of other
+/// states on the way is known from then on.
 ///
 /// Where each document that the state accepts has 2^63 items or more, it is one of these. What is
 /// known stays true after want of memory, and the store keeps its documents.
@@ -45,7 +46,7 @@ pub fn accepted_document(
 ) -> Result<Option<Seq>, NoMemory>
     requires state { IsState auto.now state }
     requires known { Knows auto.now store.old known.old }
-    ensures least { IfOk result (λ found. IfSome found (λ seq. IsLeastUpTo (2 ^ 63) (Accepted auto.now state) (document_at store.new seq))) }
+    ensures least { IfOk result (λ found. IfSome found (λ seq. IsLeastUpTo size_limit (Accepted auto.now state) (document_at store.new seq))) }
     ensures none { result ≡ Ok None → (d : Document) → Accepted auto.now state d → ⊥ }
     ensures belongs { IfOk result (λ found. IfSome found (BelongsTo store.new)) }
     ensures known { Knows auto.now store.new known.new }
@@ -141,7 +142,8 @@ pub fn given_nothing(
     Ok(givens)
 }
 
-/// What the variables of a pattern may be, on documents that the state accepts: nothing where it takes none of these.
+/// What the variables of a pattern may be, on documents that the state accepts: nothing where it
+/// takes none of these.
 fn givens_of(
     alloc: Global,
     clause: &ClausePattern,
@@ -180,7 +182,8 @@ pub fn apart(alloc: Global, auto: &Auto, givens: &[Given]) -> Result<Vec<Binding
     Ok(bindings)
 }
 
-/// What comes to a clause: a state of an automaton of its own for the documents that no earlier pattern takes, and the clause's pattern.
+/// What comes to a clause: a state of an automaton of its own for the documents that no earlier
+/// pattern takes, and the clause's pattern.
 #[derive(Drop)]
 pub struct Arrival {
     pub auto: Auto,
@@ -285,7 +288,7 @@ pub fn uncovered(
 ) -> Result<Option<Seq>, NoMemory>
     requires state { IsState auto.now state }
     requires patterns { All (IsLinearPattern sound.old.patterns) patterns.now }
-    ensures least { IfOk result (λ found. IfSome found (λ seq. IsLeastUpTo (2 ^ 63) (λ d. Accepted auto.now state d × NoneTakes (names_of (program_tree sound.old)) (placed_patterns sound.old.patterns patterns.now) d) (document_at store.new seq))) }
+    ensures least { IfOk result (λ found. IfSome found (λ seq. IsLeastUpTo size_limit (λ d. Accepted auto.now state d × NoneTakes (names_of (program_tree sound.old)) (placed_patterns sound.old.patterns patterns.now) d) (document_at store.new seq))) }
     ensures none { result ≡ Ok None → (d : Document) → Accepted auto.now state d → NoneTakes (names_of (program_tree sound.old)) (placed_patterns sound.old.patterns patterns.now) d → ⊥ }
     ensures belongs { IfOk result (λ found. IfSome found (BelongsTo store.new)) }
     ensures keeps { Keeps store.old store.new }

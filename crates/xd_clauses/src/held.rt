@@ -4,7 +4,8 @@ use xd_auto::State;
 use xd_bind::{Holds, MoveKind};
 use xd_patterns::Marked;
 
-/// The marks of a pattern, as those that tell what its variables may be look at them. Those of the universal state don't count.
+/// The marks of a pattern, as those that tell what its variables may be look at them. Those of the
+/// universal state don't count.
 pub struct Held<'a> {
     pub marked: &'a Marked,
     pub all: State,

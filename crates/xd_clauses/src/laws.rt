@@ -5,7 +5,8 @@ ghost use Rattle.xd_clauses.specs.Laws.{CompiledKeepTogether, CompiledTell};
 
 use xd_points::laws::{serving_stays, tables_stay};
 
-/// In the automaton of a pattern the items of a variable stand together, and runs give it just what whole ways bind it to.
+/// In the automaton of a pattern the items of a variable stand together, and runs give it just what
+/// whole ways bind it to.
 pub fn patterns_tell_variables()
     ensures together { CompiledKeepTogether }
     ensures given { CompiledTell }

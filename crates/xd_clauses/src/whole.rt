@@ -14,8 +14,8 @@ use xd_bind::MoveKind;
 use xd_doc::NoMemory;
 use xd_patterns::Marked;
 
-/// Whether the state takes everything by one move on an element and one on a text, which belong to no variable and lead to these
-/// states.
+/// Whether the state takes everything by one move on an element and one on a text, which belong to
+/// no variable and lead to these states.
 fn takes_all(auto: &Auto, marked: &Marked, state: State, content: State, rest: State) -> bool
     requires { IsState auto.now state }
     ensures { IsTrue result → TakesAll auto.now (marking_of marked.now) state content rest }
@@ -50,7 +50,8 @@ fn takes_texts(text: &TextMove, rest: State) -> bool
     text.words.takes_others() && text.words.texts().is_empty() && text.rest == rest
 }
 
-/// Whether the state takes every content by itself and one other state, as the two states of `Any` do.
+/// Whether the state takes every content by itself and one other state, as the two states of `Any`
+/// do.
 fn is_whole(auto: &Auto, marked: &Marked, state: State) -> bool
     requires { IsState auto.now state }
     ensures { IsTrue result → IsWhole auto.now (marking_of marked.now) state }
@@ -74,7 +75,8 @@ fn turned(auto: &Auto, marked: &Marked, all: State, content: State) -> State
     }
 }
 
-/// Adds the moves of a state on an element, with contents that are taken whole turned to the universal state.
+/// Adds the moves of a state on an element, with contents that are taken whole turned to the
+/// universal state.
 fn add_labels(
     auto: &Auto,
     marked: &Marked,
@@ -137,10 +139,11 @@ fn add_states(auto: &Auto, made: &mut Auto) -> Result<(), NoMemory>
     Ok(())
 }
 
-/// The same automaton, with a universal state behind its states, to which contents that are taken whole are turned.
+/// The same automaton, with a universal state behind its states, to which contents that are taken
+/// whole are turned.
 ///
-/// A content that is taken whole, as that of `Any` is, needs to be followed no further: whoever runs it beside another automaton
-/// knows by this state that all that there is fits.
+/// A content that is taken whole, as that of `Any` is, needs to be followed no further: whoever
+/// runs it beside another automaton knows by this state that all that there is fits.
 pub(crate) fn with_universal(
     alloc: Global,
     auto: &Auto,

@@ -1,4 +1,5 @@
--- Faults and warnings that are written one after the other as they come next are the lines of the report.
+-- Faults and warnings that are written one after the other as they come next are the lines of the
+-- report.
 use Rattle.std.proofs.Common.{◌≡◌, ℕ, Bool, true, false, cond, ◌&&◌, ◌||◌, nat_lt, nat_eq, List, [], ◌∷◌, ◌++◌, Some, codes, decimal, refl, ap, sym, subst, ◌∙◌, append_assoc, arith}
 use Rattle.std.proofs.lemmas.Bool.Decides.{nat_tests}
 use Rattle.xd_doc.specs.Document.{Document}
@@ -12,7 +13,8 @@ use Rattle.xd_syntax.specs.declared.fault.Warning.{Warning}
 use Rattle.xd_syntax.proofs.OrderedLemmas.{IsLeast, IsUp}
 use Rattle.xd_meaning.specs.KeptFaults.{AllPaired, warnings_among}
 use Rattle.xd_meaning.specs.KeptLines.{kind_with, IsFaultOf, IsWarningOf}
-use Rattle.xd_report.specs.Report.{fault_front, fault_text, kind_text, place_front, warning_text}
+use Rattle.xd_report.specs.Report.{fault_front, fault_text, kind_text, place_front}
+use Rattle.xd_report.specs.WarningText.{warning_text}
 use Rattle.xd_command.specs.Report.{line_text, lines_text, said}
 use Rattle.xd_command_steps.specs.Merging.{IsMerged, no_more, a_fault, a_warning, stands_behind, is_placed_behind}
 
@@ -22,7 +24,7 @@ is_dead not_exhaustive e = absurd (cc)
 is_dead wrong_argument e = absurd (cc)
 is_dead wrong_result e = absurd (cc)
 
-lower_rank : (k : LineKind) → is_warning k ≡ false → nat_lt (rank k) 17 ≡ true
+lower_rank : (k : LineKind) → is_warning k ≡ false → nat_lt (rank k) 3 ≡ true
 lower_rank dead_clause e = absurd (cc)
 lower_rank not_exhaustive e = refl
 lower_rank wrong_argument e = refl
@@ -59,7 +61,8 @@ least_warning l m (k ∷ ks) ms u e = by (is_warning k.kind) e (λ f. least_warn
     by true f r = let s : k ≡ m = cc in subst (λ n. line_precedes n l ≡ false) s u.0
     by false f r = r f
 
--- no fault before a warning that stands in front of it, and no warning before a fault that doesn't stand behind it
+-- no fault before a warning that stands in front of it, and no warning before a fault that doesn't
+-- stand behind it
 not_warning : (ds : List Document) (l : Line) (ls : List Line) (f : Fault) (w : Warning) (ws : List Warning) → IsLeast line_precedes l ls → IsFaultOf ds l f →
     AllPaired IsWarningOf (warnings_among ls) (w ∷ ws) → stands_behind f w ≡ true → ⊥
 not_warning ds l ls f w ws u h a b = by (warnings_among ls) refl a

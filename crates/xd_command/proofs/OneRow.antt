@@ -1,4 +1,5 @@
--- The rows of the answers, behind the program: outputs of the same program and the same texts are alike.
+-- The rows of the answers, behind the program: outputs of the same program and the same texts are
+-- alike.
 use Rattle.std.proofs.Common.{◌≡◌, ◌≤◌, ◌⊎◌, ◌-◌, ℕ, Bool, true, false, cond, inl, inr, List, [], ◌∷◌, ◌++◌, Option, Some, None, refl, sym, ap, subst, ◌∙◌, arith}
 use Rattle.std.specs.Prelude.{codes}
 use Rattle.std.specs.List.{AllZip}

@@ -17,7 +17,8 @@ use Rattle.xd_meaning.specs.KeptFaults.{AllPaired, AreFaultsOf}
 use Rattle.xd_meaning.specs.KeptLines.{kind_with, IsFaultOf}
 use Rattle.xd_laws.specs.LeastLines.{IsSmall}
 use Rattle.xd_laws.proofs.LeastLines.{small_lines_are_least}
-use Rattle.xd_report.specs.Report.{fault_front, fault_text, kind_text, warning_text}
+use Rattle.xd_report.specs.Report.{fault_front, fault_text, kind_text}
+use Rattle.xd_report.specs.WarningText.{warning_text}
 use Rattle.xd_command_steps.specs.Merging.{IsMerged, no_more, a_fault, a_warning}
 
 behind : (x y : List ℕ) → length y ≤ length (x ++ y)
@@ -69,7 +70,8 @@ module _ (ds : List Document) where
     )
     small_faults (l ∷ ls) (f ∷ fs) (w ∷ ws) t a (a_warning n m) lt = small_faults (l ∷ ls) (f ∷ fs) ws _ a m (nearer _ _ limit (behind (warning_text w) _) lt)
 
-  -- so lines whose documents are least up to a limit are the lines of the program, where the text has fewer bytes
+  -- so lines whose documents are least up to a limit are the lines of the program, where the text
+  -- has fewer bytes
   pub written_lines : (limit : ℕ) (P : ProgramTree) (ls : List Line) (fs : List Fault) (ws : List Warning) (t : List ℕ) → AreLinesBy (size_up_to limit) P ls → AreFaultsOf ds ls fs → IsMerged ds fs ws t →
       length t < limit → AreLines P ls
   written_lines limit P ls fs ws t all are m lt = small_lines_are_least limit P ls (small_faults limit (faults_among ls) fs ws t are m lt) all

@@ -1,4 +1,5 @@
--- The steps of `check` and `run` on the telephone program, which has no fault, and on persons lead to their telephones alone.
+-- The steps of `check` and `run` on the telephone program, which has no fault, and on persons lead
+-- to their telephones alone.
 use Rattle.std.proofs.Common.{◌≡◌, ℕ, ◌+◌, ◌-◌, inl, inr, arith, List, Option, Some, None, sym, ap, subst, ◌∙◌}
 use Rattle.xd_doc.specs.Document.{Document}
 use Rattle.xd_syntax.specs.Tree.{Tree, Definitions}

@@ -1,4 +1,5 @@
--- What the checker of proofs says, as what `verify` answers; and the steps of `verify` and `upgrade`.
+-- What the checker of proofs says, as what `verify` answers; and the steps of `verify` and
+-- `upgrade`.
 use Rattle.std.proofs.Common.{◌≡◌, ℕ, ◌<◌, ◌≤◌, ◌++◌, codes, inl, inr, List, [], ◌∷◌, length, refl, subst, arith}
 use Rattle.std.specs.List.{AllByRecursion}
 use Rattle.xd_base.specs.Outside.{HasRisen}

@@ -1,5 +1,5 @@
--- What the command answers: the relation between its words, the texts that it reads, and its output. It goes by steps in
--- order, and the first that ends it gives the output.
+-- What the command answers: the relation between its words, the texts that it reads, and its
+-- output. It goes by steps in order, and the first that ends it gives the output.
 use Rattle.std.specs.Prelude.{◌≡◌, Option, Some, None}
 use Rattle.xd_command.specs.declared.command.Command.{Command}
 use Rattle.xd_command.specs.declared.command.Command.TheVariants.{Fits, Stream, Subtype, Minus, Verify, Upgrade, Least, Check, Types, Precise, Run, Sample}

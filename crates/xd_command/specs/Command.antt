@@ -22,7 +22,8 @@ piece_limit = PIECE_LIMIT
 abbrev pub sample_limit : ℕ
 sample_limit = SAMPLE_LIMIT
 
--- the number, from 1 to the limit, whose decimal digits the word is, without a sign or a leading zero
+-- the number, from 1 to the limit, whose decimal digits the word is, without a sign or a leading
+-- zero
 abbrev pub number_within : (limit : ℕ) → List ℕ → Option ℕ
 number_within limit word =
     let n : ℕ = digits_value 10 word in

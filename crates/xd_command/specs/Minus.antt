@@ -8,7 +8,8 @@ use Rattle.xd_syntax.specs.Tree.{Tree}
 use Rattle.xd_command_steps.specs.Output.{Output}
 use Rattle.xd_command.specs.Subtype.{EndsAtNames, FitsAlone, undefined_names}
 
--- the text of definitions that show the documents of the first type alone, by names that no type of the program has
+-- the text of definitions that show the documents of the first type alone, by names that no type of
+-- the program has
 abbrev pub AnswersDifference : ProgramTree → (left right : Tree) → Output → Type 0
 AnswersDifference P L R o = (o.status ≡ 0) × IsShownText (FitsAlone (names_of P) L R) (defined_names P) o.text
 

@@ -39,7 +39,8 @@ pub record FaultsAlike (o p : Output) : Type 0 where
   pub text : o.text ≡ lines_text lines
   pub other : p.text ≡ lines_text others
 
--- The texts of both programs read back, and of proper documents the same ones fit the first names of both.
+-- The texts of both programs read back, and of proper documents the same ones fit the first names
+-- of both.
 pub record ShowTheSame (P : ProgramTree) (start : List ℕ) (Q : ProgramTree) (other_start : List ℕ) : Type 0 where
   pub reads_back : ReadsBack P
   pub other_reads_back : ReadsBack Q
@@ -75,8 +76,9 @@ pub record BlocksAlike (o p : Output) : Type 0 where
   pub text : o.text ≡ blocks_text blocks
   pub other : p.text ≡ blocks_text others
 
--- Outputs of one command that are the same, or differ in a proof text, in the document of a separation, in a least document, in the
--- documents that faults carry, or in how definitions of types show documents.
+-- Outputs of one command that are the same, or differ in a proof text, in the document of a
+-- separation, in a least document, in the documents that faults carry, or in how definitions of
+-- types show documents.
 abbrev pub MayDiffer : Command → Output → Output → Type 0
 MayDiffer (Subtype file left right) o p = ProveAlike o p ⊎ CarryAlike separated o p
 MayDiffer (Minus file left right) o p = ShowAlike o p
@@ -101,7 +103,8 @@ pub record AreOneAnswer (command : Option Command) (o p : Output) : Type 0 where
 abbrev pub AnswersAreOne : Type 0
 AnswersAreOne = (command : Option Command) (texts : Texts) (o p : Output) → IsAnswer command (Some texts) ⊥ o → IsAnswer command (Some texts) ⊥ p → AreOneAnswer command o p
 
--- An output that isn't of status 3 for the reason that a count rose is one that the texts have whatever the count did.
+-- An output that isn't of status 3 for the reason that a count rose is one that the texts have
+-- whatever the count did.
 abbrev pub CountsHideAnswers : Type 0
 CountsHideAnswers = (command : Option Command) (texts : Texts) (before after : ℕ) (o : Output) →
     IsRead (HasRisen before after) o → IsAnswer command (Some texts) (HasRisen before after) o → IsAnswer command (Some texts) ⊥ o
@@ -124,7 +127,8 @@ WritesNothing before after code = (code ≡ 5) × (after ≡ before)
 abbrev pub WritesWhole : Output → (before after : List ℕ) → (code : ℕ) → Type 0
 WritesWhole o before after code = (code ≡ o.status) × (after ≡ before ++ o.text)
 
--- two such calls, of the same words and texts, write outputs that are alike, if none of them wants memory
+-- two such calls, of the same words and texts, write outputs that are alike, if none of them wants
+-- memory
 abbrev pub OutcomesAreOne : Type 0
 OutcomesAreOne = (command : Option Command) (texts : Texts) (before after begun ended : List ℕ) (code other : ℕ) →
     IsPlainOutcome command texts before after code → IsPlainOutcome command texts begun ended other →

@@ -1,5 +1,5 @@
--- That the definitions of types that `minus`, `types` and `precise` write read back to types that just the documents fit which they
--- are to show.
+-- That the definitions of types that `minus`, `types` and `precise` write read back to types that
+-- just the documents fit which they are to show.
 use Rattle.std.specs.Prelude.{◌≡◌, ◌↔◌, ℕ, true, List, [], Some, slice_get}
 use Rattle.xd_show_blocks.specs.Blocks.{Block, IsBlockOf, shown_text}
 use Rattle.xd_doc.specs.Document.{Document, is_proper}
@@ -15,7 +15,8 @@ use Rattle.xd_command_steps.specs.Output.{Output}
 use Rattle.xd_command.specs.Minus.{AnswersDifference}
 use Rattle.xd_command.specs.Subtype.{FitsAlone}
 
--- The text spells a program of definitions of types alone, and of proper documents just those of the set fit the first.
+-- The text spells a program of definitions of types alone, and of proper documents just those of
+-- the set fit the first.
 pub record SpellsTypesOf (D : Document → Type 0) (text : List ℕ) : Type 0 where
   pub program : ProgramTree
   pub start : List ℕ

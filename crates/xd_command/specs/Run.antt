@@ -45,8 +45,9 @@ EndsAtValue P T fuel d o =
     ((Fits (names_of P) T d → ⊥) × (o ≡ outside_input))
     ⊎ (Fits (names_of P) T d × (meaning P fuel d ≡ Spent) × (o ≡ fuel_spent))
 
--- The value that the program means on the document, which is of the declared result type, and the calls that it takes.
--- That a match fails has no answer: it is neither this nor that more calls are needed.
+-- The value that the program means on the document, which is of the declared result type, and the
+-- calls that it takes. That a match fails has no answer: it is neither this nor that more calls are
+-- needed.
 pub record IsValue (P : ProgramTree) (T : Tree) (fuel : ℕ) (d : Document) (made : Document × ℕ) : Type 0 where
   pub input : Fits (names_of P) T d
   pub calls : made.1 ≤ fuel

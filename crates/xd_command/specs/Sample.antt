@@ -1,5 +1,6 @@
--- What `sample` answers: how long a document of so many persons is, and how long the names and telephones of those that have
--- one; and a call of the telephone program for each person, and one for the end.
+-- What `sample` answers: how long a document of so many persons is, and how long the names and
+-- telephones of those that have one; and a call of the telephone program for each person, and one
+-- for the end.
 use Rattle.std.specs.Prelude.{◌≡◌, ℕ, ◌+◌, length}
 use Rattle.xd_doc.specs.Document.{canonical_text}
 use Rattle.xd_command_sample.specs.Persons.{sample_of, telephones_to}

@@ -10,7 +10,8 @@ use Rattle.xd_command_steps.specs.Step.{Step}
 use Rattle.xd_command_steps.specs.Texts.{Holding, EndsAtText, IsText, document_limit}
 use Rattle.xd_command.specs.Fits.{EndsAtName, FitsType}
 
--- The bytes spell a document of the set; or up to their first stop no document goes on, or none of the set.
+-- The bytes spell a document of the set; or up to their first stop no document goes on, or none of
+-- the set.
 abbrev pub TellsStop : (In : Document → Type 0) → List ℕ → Output → Type 0
 TellsStop In bytes o =
     (SpellsOneOf In bytes × (o ≡ yes))

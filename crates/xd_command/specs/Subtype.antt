@@ -25,8 +25,8 @@ undefined_names P left right = undefined P left ++ undefined P right
 abbrev pub EndsAtNames : ProgramTree → (left right : List ℕ) → Output → Type 0
 EndsAtNames P left right o = (undefined_names P left right ≢ []) × (o ≡ fault_lines (undefined_names P left right))
 
--- The text is a proof text over the types of the program, whose goals keep the rules, and whose first goal claims that every document
--- of the one type is one of the other.
+-- The text is a proof text over the types of the program, whose goals keep the rules, and whose
+-- first goal claims that every document of the one type is one of the other.
 pub record ProvesInclusion (P : ProgramTree) (L R : Tree) (text : List ℕ) : Type 0 where
   pub goals : List Lined
   pub spelled : HasGoals P text goals
@@ -42,7 +42,8 @@ pub record FitsAlone (E : Definitions) (L R : Tree) (d : Document) : Type 0 wher
   pub left : Fits E L d
   pub right : Fits E R d → ⊥
 
--- Every document of the first type is one of the second, and a proof of that is written; or a least document of the first type alone is.
+-- Every document of the first type is one of the second, and a proof of that is written; or a least
+-- document of the first type alone is.
 abbrev pub AnswersInclusion : ProgramTree → (left right : Tree) → Output → Type 0
 AnswersInclusion P L R o =
     (Included (names_of P) L (R ∷ []) × (o.status ≡ 0) × ProvesInclusion P L R o.text)

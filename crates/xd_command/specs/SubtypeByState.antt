@@ -28,7 +28,8 @@ pub record IsStateOf (p : ProgramTable) (c : CellsView) (a : Automaton) (T : Tre
   pub acceptor : IsAcceptor (names_of (program_tree p)) T a s
   pub continuation : continuation_of p.types c s ≡ Some T
 
--- the state accepts exactly what fits a type of names that the program defines, which its cells know
+-- the state accepts exactly what fits a type of names that the program defines, which its cells
+-- know
 pub record IsKnownState (p : ProgramTable) (c : CellsView) (a : Automaton) (s : State) : Type 0 where
   pub T : Tree
   pub stands : IsStateOf p c a T s

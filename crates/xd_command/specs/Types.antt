@@ -7,6 +7,7 @@ use Rattle.xd_variables.specs.Seen.{Reading}
 use Rattle.xd_command_steps.specs.Output.{Output}
 use Rattle.xd_command.specs.Check.{EndsAtCheck}
 
--- what each variable of the program's clauses may be by this reading, where the program is accepted; else the answer of `check`
+-- what each variable of the program's clauses may be by this reading, where the program is
+-- accepted; else the answer of `check`
 abbrev pub AnswersTypes : Reading → ProgramTree → Output → Type 0
 AnswersTypes B P o = EndsAtCheck P o ⊎ (IsAccepted P × (o.status ≡ 0) × AreBlocks B P o.text)

@@ -68,7 +68,8 @@ pub enum Command<'a> {
         name: Word<'a>,
         document: Word<'a>,
     },
-    /// The same of the document's bytes, as they come in pieces of this length, and else where they stop.
+    /// The same of the document's bytes, as they come in pieces of this length, and else where they
+    /// stop.
     Stream {
         file: Word<'a>,
         name: Word<'a>,

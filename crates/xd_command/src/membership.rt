@@ -2,7 +2,8 @@
 
 ghost use Rattle.std.specs.Prelude.{◌≡◌, true, ◌↔◌, IfOk};
 ghost use Rattle.xd_auto.specs.Automaton.{accepts, IsState};
-ghost use Rattle.xd_doc.specs.Stored.{BelongsTo, document_at};
+ghost use Rattle.xd_doc.specs.Stored.{document_at};
+ghost use Rattle.xd_doc.specs.StoredSeq.{BelongsTo};
 ghost use Rattle.xd_syntax.specs.Kept.{AddsTypes, program_tree};
 ghost use Rattle.xd_syntax.specs.Program.{names_of};
 ghost use Rattle.xd_syntax.specs.Types as types;
@@ -17,8 +18,8 @@ use xd_syntax::TypeId;
 
 /// A state that accepts exactly the documents that fit the type, in an automaton of its own.
 ///
-/// The type is compiled as a pattern without variables: what it has twice, as by names that stand for one another's
-/// alternatives, is gone through once.
+/// The type is compiled as a pattern without variables: what it has twice, as by names that stand
+/// for one another's alternatives, is gone through once.
 pub fn acceptor(
     alloc: Global,
     sound: &mut SoundProgram,

@@ -71,7 +71,8 @@ a_telephone v d = field tel v d
 more_unfoldings : (d : Document) → (m : ℕ) × (size d ≤ m) × (unfoldings names d ≡ suc m)
 more_unfoldings d = (size d * 5 + 4, omega arith, omega arith)
 
--- what a pattern's first match is within one unfolding or more, for each number of them that the items allow
+-- what a pattern's first match is within one unfolding or more, for each number of them that the
+-- items allow
 first_by : (A : Tree) (d : Document) (o : Option Environment) → ((m : ℕ) → size d ≤ m → first_whole (ways_within names (suc m) A d) ≡ o) → first names A d ≡ o
 first_by A d o f = let u = more_unfoldings d in ap (λ k. first_whole (ways_within names k A d)) u.2 ∙ f u.0 u.1
 

@@ -1,4 +1,5 @@
--- Rows that are read by the first rule that fits the next token: what is read so is what the grammar says.
+-- Rows that are read by the first rule that fits the next token: what is read so is what the
+-- grammar says.
 use Rattle.std.proofs.Common.{◌≡◌, ℕ, zero, suc, ltb, ltb-true, Bool, true, false, cond, List, [], ◌∷◌, ◌++◌, Option, Some, None, refl, sym, subst}
 use Rattle.xd_lex.specs.Tokens.{Lexeme}
 use Rattle.xd_syntax.specs.Shallow.{nesting_limit}
@@ -30,8 +31,8 @@ abbrev by_rule : Option Row → (Row → Option Read) → Option Read
 by_rule None k = None
 by_rule (Some made) k = k made
 
--- A row, with the first rule of each nonterminal that fits the next token, at most so many symbols deep. Where that rule is the wrong one,
--- nothing is read.
+-- A row, with the first rule of each nonterminal that fits the next token, at most so many symbols
+-- deep. Where that rule is the wrong one, nothing is read.
 abbrev pub read_row : (steps level : ℕ) → Row → List Lexeme → Option Read
 read_row zero d row ls = None
 read_row (suc f) d [] ls = Some (record { to = ls; level = d; values = [] })
@@ -46,7 +47,8 @@ read_row (suc f) d (Part part ∷ row) (l ∷ ls) =
     by_rule (first_fit (rules part) (terminal_at l))
     (λ made. and_then (read_row f d made (l ∷ ls)) (λ r. with_value (value_of part r.values) (read_row f r.level row r.to)))
 
--- The row stands for the values, and its tokens are derived, where what is left is of more rows behind it.
+-- The row stands for the values, and its tokens are derived, where what is left is of more rows
+-- behind it.
 pub record IsRead (level : ℕ) (row : Row) (ls : List Lexeme) (r : Read) : Type 0 where
   pub means : Means row ls r.to r.values
   pub derives : (more : Row) → Derives Whole nesting_limit r.level more (terminals_of r.to) → Derives Whole nesting_limit level (row ++ more) (terminals_of ls)

@@ -6,7 +6,8 @@ use Rattle.xd_doc.specs.Document.{Document, empty, text, element}
 abbrev pub field : (label characters : List ℕ) → Document → Document
 field label characters d = element label (text characters empty) d
 
--- The person of this number, and then the document: a name, an address, and a telephone unless 3 divides the number.
+-- The person of this number, and then the document: a name, an address, and a telephone unless 3
+-- divides the number.
 abbrev pub person : ℕ → Document → Document
 person i d =
     field (codes "name") (codes "p" ++ decimal i)

@@ -9,6 +9,8 @@ use Rattle.xd_syntax.specs.Words.{has_word, any_word, string_word}
 use Rattle.xd_syntax.specs.Order.{precedes, put_in, ordered_after}
 use Rattle.xd_syntax.specs.NameFaults as names
 use Rattle.xd_syntax.specs.NameFaults.{Spot, fault_if}
+use Rattle.xd_syntax.specs.NotLinear.{not_linear}
+use Rattle.xd_syntax.proofs.NotLinear.{linearity_same}
 use Rattle.xd_syntax.specs.RecursionFaults.{AreRecursionFaults, not_tail_fault, unguarded_fault}
 use Rattle.xd_syntax.specs.declared.fault.Fault.{Fault}
 use Rattle.xd_syntax.specs.declared.fault.FaultKind.{FaultKind}
@@ -67,9 +69,9 @@ unknown_carry known (Opt_at p T) = unknown_carry known T
 unknown_carry known (Val_at p x q T) = unknown_carry known T
 
 abbrev linear : Bool → List (List ℕ) → List (List ℕ) → Bool → PlacedTree → List Fault
-linear r earlier partial inner T = names.not_linear r earlier partial inner T
+linear r earlier partial inner T = not_linear r earlier partial inner T
 
-linear_carry : (r : Bool) (earlier partial : List (List ℕ)) (inner : Bool) (T : PlacedTree) → CarryNothing (names.not_linear r earlier partial inner T)
+linear_carry : (r : Bool) (earlier partial : List (List ℕ)) (inner : Bool) (T : PlacedTree) → CarryNothing (not_linear r earlier partial inner T)
 linear_carry r earlier partial inner (Empty_at p) = tt
 linear_carry r earlier partial inner (Text_at p) = tt
 linear_carry r earlier partial inner (Words_at p w) = tt
@@ -85,7 +87,7 @@ linear_carry r earlier partial inner (Opt_at p T) = linear_carry true earlier pa
 linear_carry r earlier partial inner (Val_at p x q T) = all_append (fault_if (r || (has_word earlier x || has_word partial x)) q (NotLinear x)) (linear r (x ∷ earlier) (names.without (x ∷ []) partial) false T) (all_if (r || (has_word earlier x || has_word partial x)) q (NotLinear x) tt) (linear_carry r (x ∷ earlier) (names.without (x ∷ []) partial) false T)
 
 pattern_carry : (known : List (List ℕ)) (T : PlacedTree) → CarryNothing (names.pattern_faults known T)
-pattern_carry known T = all_append (names.unknown_types known T) (linear false [] [] false T) (unknown_carry known T) (linear_carry false [] [] false T)
+pattern_carry known T = all_append (names.unknown_types known T) (names.linearity_faults T) (unknown_carry known T) (subst (λ fs. CarryNothing fs) (sym (linearity_same T)) (linear_carry false [] [] false T))
 
 call_carry : (g : Option FunctionDefinition) (p : Place) (f : List ℕ) (n : ℕ) → CarryNothing (names.call_faults g p f n)
 call_carry None p f n = (tt, tt)

@@ -5,7 +5,8 @@ use Rattle.xd_doc.specs.Document.{Document}
 use Rattle.xd_syntax.specs.declared.fault.Fault.{Fault}
 use Rattle.xd_syntax.specs.declared.fault.Warning.{Warning}
 use Rattle.xd_report.specs.Carries.{CarriesFrom}
-use Rattle.xd_report.specs.Report.{fault_text, warning_text}
+use Rattle.xd_report.specs.Report.{fault_text}
+use Rattle.xd_report.specs.WarningText.{warning_text}
 use Rattle.xd_command_steps.specs.Merging.{IsMerged, no_more, a_fault, a_warning, FaultIsNext, WarningIsNext}
 
 abbrev pub Carry : List Document → List Fault → Type 0

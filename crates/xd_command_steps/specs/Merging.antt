@@ -5,7 +5,8 @@ use Rattle.xd_doc.specs.Document.{Document}
 use Rattle.xd_syntax.specs.Order.{is_earlier}
 use Rattle.xd_syntax.specs.declared.fault.Fault.{Fault}
 use Rattle.xd_syntax.specs.declared.fault.Warning.{Warning}
-use Rattle.xd_report.specs.Report.{fault_text, warning_text}
+use Rattle.xd_report.specs.Report.{fault_text}
+use Rattle.xd_report.specs.WarningText.{warning_text}
 use Rattle.xd_command_steps.specs.declared.report.NextLine.{NextLine}
 use Rattle.xd_command_steps.specs.declared.report.NextLine.TheVariants as next
 

@@ -1,5 +1,5 @@
--- The outputs of the command: each is a text that is written whole, with the status that goes with it. Each text ends
--- with a line feed.
+-- The outputs of the command: each is a text that is written whole, with the status that goes with
+-- it. Each text ends with a line feed.
 use Rattle.std.specs.Prelude.{◌≡◌, ℕ, ◌<◌, ◌⊎◌, List, [], ◌++◌, length, Option, codes, decimal, flat_map}
 use Rattle.xd_base.specs.Outside.{HasGrown}
 use Rattle.xd_base.specs.declared.Place.{Place}
@@ -18,7 +18,8 @@ yes = record { status = 0; text = codes "yes\n" }
 abbrev pub canonical : Document → Output
 canonical d = record { status = 0; text = canonical_text d ++ codes "\n" }
 
--- what became of a sample: its persons, how long the texts of its document and of the value are, and how many calls were made
+-- what became of a sample: its persons, how long the texts of its document and of the value are,
+-- and how many calls were made
 abbrev pub summary : (persons document result calls : ℕ) → Output
 summary persons document result calls = record {
   status = 0;
@@ -58,7 +59,8 @@ fuel_spent = record { status = 9; text = codes "fuel spent\n" }
 abbrev pub too_long : List ℕ → Output
 too_long name = record { status = 10; text = codes "too long: " ++ name ++ codes "\n" }
 
--- The output is written whole, with its status; or the count of the sink's faults rose, and a proper prefix of its text is.
+-- The output is written whole, with its status; or the count of the sink's faults rose, and a
+-- proper prefix of its text is.
 abbrev pub IsSent : Output → (rose : Type 0) → (before after : Option (List ℕ)) → ℕ → Type 0
 IsSent o rose before after code =
     ((code ≡ o.status) × HasGrown before after o.text)

@@ -10,8 +10,8 @@ use Rattle.xd_parse_trees.specs.Means.{IsProgramText}
 use Rattle.xd_command_steps.specs.Output.{Output, fault_lines}
 use Rattle.xd_command_steps.specs.Texts.{Holding, EndsAtText, IsText, program_limit}
 
--- The faults of the first level that has any: the first fault of the text; all faults of names, arity and linearity;
--- all faults of recursion.
+-- The faults of the first level that has any: the first fault of the text; all faults of names,
+-- arity and linearity; all faults of recursion.
 abbrev pub AreTextFaults : List ℕ → List Fault → Type 0
 AreTextFaults text fs =
     ((f : Fault) × IsFirstTextFault nonterminals.Definitions text f × (fs ≡ f ∷ []))

@@ -21,8 +21,8 @@ abbrev pub IsHeld : Holding → (name text : List ℕ) → Type 0
 IsHeld (Some texts) name text = texts name ≡ Some text
 IsHeld None name text = Unit {0}
 
--- The text can't be read, as the count of the shelf's faults rose or the shelf tells that it lacks it; or it is longer than
--- the limit.
+-- The text can't be read, as the count of the shelf's faults rose or the shelf tells that it lacks
+-- it; or it is longer than the limit.
 abbrev pub EndsAtText : Holding → (rose : Type 0) → (name : List ℕ) → (limit : ℕ) → Output → Type 0
 EndsAtText holds rose name limit o =
     ((rose ⊎ IsLacking holds name) × (o ≡ cannot_read name))

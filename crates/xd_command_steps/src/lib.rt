@@ -1,5 +1,5 @@
-//! The steps that commands share: each reads a text from the shelf, as a program, a document or a proof, or ends the command with
-//! an output.
+//! The steps that commands share: each reads a text from the shelf, as a program, a document or a
+//! proof, or ends the command with an output.
 #![tactic(auto)]
 
 mod document;

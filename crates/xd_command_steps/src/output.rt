@@ -4,7 +4,8 @@ ghost use Rattle.std.specs.Prelude.{◌≡◌, ◌++◌, ◌<◌, ◌≤◌, ℕ
 ghost use Rattle.std.specs.Bool.{OnTrue, OnFalse};
 ghost use Rattle.std.specs.List.{AllByRecursion};
 ghost use Rattle.xd_base.specs.Outside.{HasRisen, HasGrown};
-ghost use Rattle.xd_doc.specs.Stored.{BelongsTo, document_at};
+ghost use Rattle.xd_doc.specs.Stored.{document_at};
+ghost use Rattle.xd_doc.specs.StoredSeq.{BelongsTo};
 ghost use Rattle.xd_report.specs.Carries.{CarriesFrom};
 ghost use Rattle.xd_report.specs.Report.{place_front};
 ghost use Rattle.xd_syntax.specs.declared.fault.FaultKind.TheVariants.{NoMain, NoSuchName};
@@ -171,7 +172,8 @@ impl Output {
         })
     }
 
-    /// How many persons a sample has, how many bytes its document and its value, and how many calls were made.
+    /// How many persons a sample has, how many bytes its document and its value, and how many calls
+    /// were made.
     ///
     /// Fails only where memory is refused.
     pub fn summary(

@@ -34,7 +34,8 @@ fn stands_behind(fault: &Fault, warning: &Warning) -> bool
     }
 }
 
-/// The line that comes next, where faults and warnings each stand in order: a warning stands behind the faults of its place.
+/// The line that comes next, where faults and warnings each stand in order: a warning stands behind
+/// the faults of its place.
 fn next_line<'a>(faults: &'a [Fault], warnings: &'a [Warning]) -> Option<NextLine<'a>>
     ensures { IsNextLine faults.now warnings.now result }
 {

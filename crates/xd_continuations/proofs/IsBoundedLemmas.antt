@@ -1,4 +1,5 @@
--- A type puts at most so many pieces before what stands behind it, where no use outside tail position leads back.
+-- A type puts at most so many pieces before what stands behind it, where no use outside tail
+-- position leads back.
 use Rattle.std.proofs.Common.{◌≡◌, ℕ, ◌+◌, ◌*◌, ◌-◌, ◌≤◌, max, arith, Bool, true, false, cond, List, [], ◌∷◌, ◌++◌, length, length-append, Some, refl, subst, inl}
 use Rattle.std.proofs.Math.Nat.{mul-le-mul_left}
 use Rattle.std.specs.Str.{bytes_eq}

@@ -1,4 +1,5 @@
--- What is read of names in front alone settles: as many unfoldings as there are definitions suffice.
+-- What is read of names in front alone settles: as many unfoldings as there are definitions
+-- suffice.
 use Rattle.std.proofs.Common.{◌≡◌, ℕ, zero, suc, ◌+◌, ◌≤◌, arith, Bool, true, false, cond, List, [], ◌∷◌, map, length, Option, Some, None, refl, ap, sym, ◌∙◌}
 use Rattle.xd_doc.specs.Document.{empty}
 use Rattle.xd_syntax.specs.Tree.{Tree, Empty, Text, Words, Name, Elem, Seq, Alt, Star, Plus, Opt, Val, Definitions, body}

@@ -106,6 +106,7 @@ abbrev pub height_by : (Tree → ℕ) → List Tree → ℕ
 height_by A [] = 0
 height_by A (T ∷ K) = max (A T + length K + 1) (height_by A K)
 
--- no more pieces than the longest continuation has come to stand at a time, where no type has more than m nodes
+-- no more pieces than the longest continuation has come to stand at a time, where no type has more
+-- than m nodes
 unfoldable pub IsBounded : Definitions → ℕ → List Tree → Type 0
 IsBounded E m K = height_by (above_by (λ x. m * rank E x)) K ≤ longest E m

@@ -1,4 +1,5 @@
--- Continuations of types: lists of pieces, of which each stands behind the one before it, and their heads.
+-- Continuations of types: lists of pieces, of which each stands behind the one before it, and their
+-- heads.
 use Rattle.std.specs.Prelude.{◌≡◌, ℕ, zero, suc, Bool, true, false, cond, List, [], ◌∷◌, ◌++◌, map, length, Option, Some, None}
 use Rattle.std.specs.List.{AllByRecursion}
 use Rattle.xd_doc.specs.Classes.{LabelClass, TextClass}
@@ -49,7 +50,8 @@ name_within none F E (suc n) x = definition_within none (F (name_within none F E
 abbrev pub moves_within : Definitions → ℕ → Tree → List Move
 moves_within E n T = moves_by (can_be_empty E) (name_within [] (moves_by (can_be_empty E)) E n) T
 
--- the moves of a continuation: those of its first piece, and those of the others where that piece can be empty
+-- the moves of a continuation: those of its first piece, and those of the others where that piece
+-- can be empty
 abbrev pub moves_along : (Tree → Bool) → (Tree → List Move) → List Tree → List Move
 moves_along Z M [] = []
 moves_along Z M (T ∷ K) = map (followed K) (M T) ++ cond (Z T) (moves_along Z M K) []
@@ -68,7 +70,8 @@ is_piece Empty = false
 is_piece (Seq T U) = false
 is_piece _ = true
 
--- A type, without binders, in which no sequence has a part that is a sequence or empty, but for the others of its parts.
+-- A type, without binders, in which no sequence has a part that is a sequence or empty, but for the
+-- others of its parts.
 abbrev pub IsMerged : Tree → Type 0
 IsMerged Empty = Unit {0}
 IsMerged Text = Unit {0}

@@ -9,7 +9,8 @@ pub record Task : Type 0 where
   pub part : Tree
   pub behind : List Tree
 
--- the pieces of a list, one after the other, as long as those before can be empty, with a continuation behind them
+-- the pieces of a list, one after the other, as long as those before can be empty, with a
+-- continuation behind them
 abbrev pub in_front : (Tree → Bool) → List Tree → List Tree → List Task
 in_front Z [] K = []
 in_front Z (T ∷ Ts) K = record { part = T; behind = Ts ++ K } ∷ cond (Z T) (in_front Z Ts K) []
@@ -56,7 +57,8 @@ tasks_left E (Plus T) K = task (Star T ∷ K) T ∷ []
 tasks_left E (Opt T) K = task K T ∷ []
 tasks_left E (Val x T) K = task K T ∷ []
 
--- the tasks worked off from the first on, each with what it leaves before the others, and the moves that they give
+-- the tasks worked off from the first on, each with what it leaves before the others, and the moves
+-- that they give
 pub data Gives (E : Definitions) : List Task → List Move → Type 0 where
   all_done : Gives E [] []
   work : {t : Task} {ts : List Task} {ms : List Move} → Gives E (tasks_left E t.part t.behind ++ ts) ms → Gives E (t ∷ ts) (own_moves t.part t.behind ++ ms)

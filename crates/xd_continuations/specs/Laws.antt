@@ -39,7 +39,8 @@ abbrev pub MovesContinue : Type 0
 MovesContinue = (E : Definitions) → AreMerged E → (K : List Tree) → IsContinuation K →
     AllByRecursion (λ (m : Move). IsContinuation m.content × IsContinuation m.rest) (moves E K)
 
--- a document with an item fits what a continuation means exactly where it begins as one of the moves
+-- a document with an item fits what a continuation means exactly where it begins as one of the
+-- moves
 abbrev pub MovesDecide : Type 0
 MovesDecide = (P : ProgramTree) → IsSound P → AreMerged (names_of P) → (K : List Tree) → IsContinuation K → (d : Document) → has_item d ≡ true →
     Fits (names_of P) (seq_of K) d ↔ ((m : Move) × Among m (moves (names_of P) K) × Begins (names_of P) (head_of m) d)
@@ -52,8 +53,9 @@ SoundRecursInTail = (P : ProgramTree) → IsSound P → RecursOnlyInTail (names_
 abbrev pub FinitelyMany : Type 0
 FinitelyMany = (P : ProgramTree) → IsSound P → (T : Tree) (K : List Tree) → Reached (names_of P) T K → Among K (possible (names_of P) T)
 
--- What a loop over continuations keeps, where no definition has more than m nodes: the tasks that a bounded task leaves are bounded,
--- and so are the content and the rest of the moves that it gives, where the contents have no more than m nodes.
+-- What a loop over continuations keeps, where no definition has more than m nodes: the tasks that a
+-- bounded task leaves are bounded, and so are the content and the rest of the moves that it gives,
+-- where the contents have no more than m nodes.
 abbrev pub IsBoundedTask : Definitions → ℕ → Task → Type 0
 IsBoundedTask E m t = IsBounded E m (t.part ∷ t.behind)
 

@@ -13,7 +13,8 @@ use Rattle.xd_continuations.specs.Continuation.{Move, moves, IsContinuation}
 abbrev pub Continuations : Type 0
 Continuations = State → Option (List Tree)
 
--- the label moves are the moves on an element, in order, each with its class, to states of its content and its rest; the text moves are those on a text
+-- the label moves are the moves on an element, in order, each with its class, to states of its
+-- content and its rest; the text moves are those on a text
 pub data AreMirrored (C : Continuations) : List Move → List LabelMove → List TextMove → Type 0 where
   no_move : AreMirrored C [] [] []
   on_label : {m : Move} {ms : List Move} {l : LabelMove} {ls : List LabelMove} {ts : List TextMove} →

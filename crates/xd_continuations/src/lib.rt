@@ -1,4 +1,5 @@
-//! Laws of continuations, each the contract of a function that does nothing; and what `Any` stands for, as a type of a program.
+//! Laws of continuations, each the contract of a function that does nothing; and what `Any` stands
+//! for, as a type of a program.
 #![tactic(auto)]
 
 ghost use Rattle.xd_continuations.specs.Laws.{PiecesMean, MeaningsAreOne, MovesAreHeads, MovesContinue, MovesDecide, SoundRecursInTail, FinitelyMany, BoundsStayInSound, BoundsGrow, TasksStand, TasksStep, TasksGive, StatesAccept, ProgramsAreMerged, MovesAreNoDeeper};
@@ -47,7 +48,8 @@ pub fn tasks_give_moves()
     ensures give { TasksGive }
 {}
 
-/// In a sound program a state that has the flag and the moves of a continuation accepts what the continuation means.
+/// In a sound program a state that has the flag and the moves of a continuation accepts what the
+/// continuation means.
 pub fn states_accept()
     ensures { StatesAccept }
 {}

@@ -26,8 +26,8 @@ impl<T: Hash> Hash for Link<T> {
 
     ghost respects_eq = { Prim.search (hashing, rules) };
 
-    // Four lists that were made one after the other share a hash: a long list, made from its end, then looks at a quarter
-    // of the places of the table.
+    // Four lists that were made one after the other share a hash: a long list, made from its end,
+    // then looks at a quarter of the places of the table.
     fn hash<H: Hasher>(&self, state: &mut H) {
         self.item.hash(state);
         (self.behind / 4).hash(state);

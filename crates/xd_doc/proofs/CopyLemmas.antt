@@ -9,7 +9,8 @@ use Rattle.std.proofs.lemmas.List.Sorted.{Contains-permutation, IsPermutation-sy
 use Rattle.std.proofs.lemmas.Bool.{eqb-true}
 use Rattle.xd_doc.specs.Document.{Document, empty, size}
 use Rattle.xd_doc.specs.StoreNodes.{AreClosed, AreLinked, IsBare, IsMet, Keeps, copy_at, documents, is_proper_item, item_before}
-use Rattle.xd_doc.specs.Stored.{BelongsTo, IsBelow, at_node, document_at}
+use Rattle.xd_doc.specs.Stored.{at_node, document_at}
+use Rattle.xd_doc.specs.StoredSeq.{BelongsTo, IsBelow}
 use Rattle.xd_doc.specs.declared.store.Node.{Node}
 use Rattle.xd_doc.specs.declared.store.Seq.{Seq}
 use Rattle.xd_doc.proofs.StoredLemmas.{StandsAt, size-parts, stands}

@@ -5,7 +5,8 @@ use Rattle.std.proofs.Math.Seq.{get_or-append_seam}
 use Rattle.std.specs.List.{AllByRecursion}
 use Rattle.xd_doc.specs.Document.{Document, empty, text, element, is_proper, has_item, join, size}
 use Rattle.xd_doc.specs.DocumentCode.{rest_of, content_of, first_then, breadth}
-use Rattle.xd_doc.specs.Stored.{at_node, IsBelow, document_at, BelongsTo}
+use Rattle.xd_doc.specs.Stored.{at_node, document_at}
+use Rattle.xd_doc.specs.StoredSeq.{IsBelow, BelongsTo}
 use Rattle.xd_doc.specs.StoreNodes.{item_before, is_proper_item, node_document, documents_after, documents, AreLinked, IsLinked, IsBare, Keeps, IsOlder, first_of_document, firsts_then, joined_at, breadth_before_last}
 use Rattle.xd_doc.specs.declared.store.Seq.{Seq}
 use Rattle.xd_doc.specs.declared.store.Node.{Node}

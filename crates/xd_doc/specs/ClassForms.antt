@@ -13,7 +13,8 @@ use Rattle.xd_doc.specs.Classes.{LabelClass, NameClass, TextClass, class_has, is
 abbrev pub names_label : List (List ℕ) → List ℕ → Bool
 names_label = is_named
 
--- the names of a class: each is a name, they stand in order without repeats, and something is in the class
+-- the names of a class: each is a name, they stand in order without repeats, and something is in
+-- the class
 pub record AreClassNames {N : Type 0} (is_name : N → Bool) (order : N → N → Ordering) (names : List N) (except : Bool) : Type 0 where
   pub words : AllByRecursion (λ n. is_name n ≡ true) names
   pub sorted : IsStrictlySortedBy order names

@@ -1,6 +1,7 @@
--- What a document is: items one after the other, each a text or a labelled element around another document.
-use Rattle.std.specs.Prelude.{ℕ, ◌+◌, Bool, true, false, ◌&&◌, nat_eq, List, [], ◌∷◌, ◌++◌, cond}
-use Rattle.std.specs.Str.{is_utf8}
+-- What a document is: items one after the other, each a text or a labelled element around another
+-- document.
+use Rattle.std.specs.Prelude.{ℕ, ◌+◌, Bool, true, false, ◌&&◌, nat_eq, List, [], ◌∷◌, ◌++◌, codes, cond}
+use Rattle.std.specs.Str.{byte, is_utf8}
 use Rattle.xd_doc.specs.Word.{is_word}
 
 -- a document: no item; a text and what follows it; an element and what follows it
@@ -34,7 +35,12 @@ is_proper (element l c r) = is_word l && (is_proper c && is_proper r)
 
 -- a byte as it stands between quotes
 abbrev pub escaped : ℕ → List ℕ
-escaped c = cond (nat_eq c 34) (92 ∷ 34 ∷ []) (cond (nat_eq c 92) (92 ∷ 92 ∷ []) (cond (nat_eq c 10) (92 ∷ 110 ∷ []) (cond (nat_eq c 9) (92 ∷ 116 ∷ []) (c ∷ []))))
+escaped c =
+    cond (nat_eq c (byte "\"")) (codes "\\\"")
+    (cond (nat_eq c (byte "\\")) (codes "\\\\")
+    (cond (nat_eq c (byte "\n")) (codes "\\n")
+    (cond (nat_eq c (byte "\t")) (codes "\\t")
+    (c ∷ []))))
 
 abbrev pub escaped_all : List ℕ → List ℕ
 escaped_all [] = []
@@ -43,17 +49,17 @@ escaped_all (c ∷ cs) = escaped c ++ escaped_all cs
 -- a comma, where an item follows
 abbrev pub comma_before : Document → List ℕ
 comma_before empty = []
-comma_before (text s r) = 44 ∷ []
-comma_before (element l c r) = 44 ∷ []
+comma_before (text s r) = codes ","
+comma_before (element l c r) = codes ","
 
 -- the items, with commas between them
 abbrev pub items_text : Document → List ℕ
 items_text empty = []
-items_text (text s r) = (34 ∷ escaped_all s ++ 34 ∷ []) ++ (comma_before r ++ items_text r)
-items_text (element l c r) = (l ++ 91 ∷ items_text c ++ 93 ∷ []) ++ (comma_before r ++ items_text r)
+items_text (text s r) = (codes "\"" ++ escaped_all s ++ codes "\"") ++ (comma_before r ++ items_text r)
+items_text (element l c r) = (l ++ (codes "[" ++ items_text c) ++ codes "]") ++ (comma_before r ++ items_text r)
 
 -- the canonical text, in bytes
 abbrev pub canonical_text : Document → List ℕ
-canonical_text empty = 40 ∷ 41 ∷ []
+canonical_text empty = codes "()"
 canonical_text (text s r) = items_text (text s r)
 canonical_text (element l c r) = items_text (element l c r)

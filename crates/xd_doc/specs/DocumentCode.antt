@@ -28,8 +28,9 @@ content_of empty = empty
 content_of (text s r) = empty
 content_of (element l c r) = c
 
--- By what follows the prover tells one document from another, since a model must be data that has a code: a
--- document is written as its items in postfix order, and read back with a stack. No contract cites it.
+-- By what follows the prover tells one document from another, since a model must be data that has a
+-- code: a document is written as its items in postfix order, and read back with a stack. No
+-- contract cites it.
 abbrev pub written : Document → List (ℕ × List ℕ) → List (ℕ × List ℕ)
 written empty ts = (0, []) ∷ ts
 written (text s r) ts = written r ((1, s) ∷ ts)

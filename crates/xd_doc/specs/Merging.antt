@@ -39,7 +39,8 @@ pub record IsMerged {N : Type 0} (is_name : N → Bool) (order : N → N → Ord
   pub above : (name : N) → AllAbove order name one → AllAbove order name two → AllAbove order name made
   pub named : (x : N) → list_any (λ n. same n x) made ≡ is_kept ex ex2 (list_any (λ n. same n x) one) (list_any (λ n. same n x) two)
 
--- what the first class has and is in the second, which has these names or all but these; no class where that is nothing
+-- what the first class has and is in the second, which has these names or all but these; no class
+-- where that is nothing
 abbrev pub common_has : {N : Type 0} → (N → N → Bool) → Names N → List N → Bool → N → Bool
 common_has same c names except x = is_in c.except (list_any (λ n. same n x) c.names.value.items) && is_in except (list_any (λ n. same n x) names)
 

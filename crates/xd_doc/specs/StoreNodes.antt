@@ -10,7 +10,8 @@ use Rattle.xd_doc.specs.declared.store.Seq.{Seq}
 use Rattle.xd_doc.specs.declared.store.Item.{Item}
 use Rattle.xd_doc.specs.declared.store.Item.TheVariants.{Text, Elem}
 use Rattle.xd_doc.specs.declared.store.Node.{Node}
-use Rattle.xd_doc.specs.Stored.{BelongsTo, IsBelow, document_at}
+use Rattle.xd_doc.specs.Stored.{document_at}
+use Rattle.xd_doc.specs.StoredSeq.{BelongsTo, IsBelow}
 
 -- the `Seq` with no item
 abbrev pub no_items : Seq

@@ -67,7 +67,8 @@ impl Class {
         self.labels.names.as_slice()
     }
 
-    /// An equal class, which shares the list of names. `NoMemory` is an answer of its type; the names are not copied.
+    /// An equal class, which shares the list of names. `NoMemory` is an answer of its type; the
+    /// names are not copied.
     pub fn share(&self) -> Result<Self, NoMemory>
         ensures same { IfOk result (λ class. class ≡ self.now) }
         ensures valid { IsClass self.now }

@@ -57,7 +57,8 @@ impl Label {
         self.word.as_str()
     }
 
-    /// An equal label, which shares the letters. `NoMemory` is an answer of its type; the letters are not copied.
+    /// An equal label, which shares the letters. `NoMemory` is an answer of its type; the letters
+    /// are not copied.
     pub fn share(&self) -> Result<Self, NoMemory>
         ensures { IfOk result (λ label. label ≡ self.now) }
     {

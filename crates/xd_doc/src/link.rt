@@ -1,13 +1,14 @@
 //! Links between nodes.
 
 ghost use Rattle.std.specs.Prelude.{◌≡◌, ◌-◌, ◌^◌};
-ghost use Rattle.xd_doc.specs.Stored.{IsBelow};
+ghost use Rattle.xd_doc.specs.StoredSeq.{IsBelow};
 ghost use Rattle.xd_doc.specs.StoreNodes.{no_items};
 
 use crate::store::Seq;
 use std::marker::Model;
 
-/// A document of a store in half the room: 0 for the empty one, else one more than the number of its node.
+/// A document of a store in half the room: 0 for the empty one, else one more than the number of
+/// its node.
 #[derive(Clone, Copy, Debug)]
 pub(crate) struct Link {
     number: usize,

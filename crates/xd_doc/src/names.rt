@@ -24,7 +24,8 @@ pub(crate) trait Name: Ord + Drop {
         ensures { is_name self.now ≡ true };
 }
 
-/// Names in order, each once, and whether they are excepted. Equal classes may have one list of names.
+/// Names in order, each once, and whether they are excepted. Equal classes may have one list of
+/// names.
 #[derive(Debug, Drop)]
 pub(crate) struct Names<N> {
     pub(crate) names: Rc<Vec<N>>,

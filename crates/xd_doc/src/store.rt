@@ -8,7 +8,8 @@ ghost use Rattle.std.specs.Ordering.{nat_cmp};
 ghost use Rattle.xd_doc.specs.Document.{Document, empty, text as text_before, element, is_proper, has_item, join, size};
 ghost use Rattle.xd_doc.specs.DocumentCode.{rest_of, content_of, first_then, breadth};
 ghost use Rattle.xd_doc.specs.StoreNodes.{IsLinked, IsBare, documents, AreLinked, IsMet, AreClosed, item_before, copy_at, IsSpine, node_document, no_items, place_in_store, is_proper_item, Keeps, IsOlder, first_of_document, joined_at, breadth_before_last};
-ghost use Rattle.xd_doc.specs.Stored.{at_node, IsBelow, document_at, BelongsTo};
+ghost use Rattle.xd_doc.specs.Stored.{at_node, document_at};
+ghost use Rattle.xd_doc.specs.StoredSeq.{IsBelow, BelongsTo};
 ghost use Rattle.std.specs.List.{AllByRecursion};
 
 use crate::error::NoMemory;
@@ -32,8 +33,8 @@ pub enum Item {
 
 /// A document of a store: the empty one, or the one that begins at a node.
 ///
-/// It means something only beside the store that it came from. Two are equal where both are empty or
-/// begin at the same node; equal documents may well begin at different nodes.
+/// It means something only beside the store that it came from. Two are equal where both are empty
+/// or begin at the same node; equal documents may well begin at different nodes.
 #[derive(Clone, Copy, Debug, PartialEq, Eq)]
 pub struct Seq {
     node: Option<usize>,
@@ -266,9 +267,9 @@ impl Item {
 }
 
 impl Store {
-    /// The first document, and behind it the second, whose nodes it shares. It makes at most as many
-    /// nodes as the first one has items of its own.
-    /// After `NoMemory` all documents of the store are as they were.
+    /// The first document, and behind it the second, whose nodes it shares. It makes at most as
+    /// many nodes as the first one has items of its own. After `NoMemory` all documents of the
+    /// store are as they were.
     pub fn append(&mut self, front: Seq, back: Seq) -> Result<Seq, NoMemory>
         requires front { BelongsTo self.old front }
         requires back { BelongsTo self.old back }
@@ -285,9 +286,9 @@ impl Store {
         Ok(made)
     }
 
-    /// The documents, one after the other. It shares the nodes of the last, and makes at most as many
-    /// as the others have items of their own.
-    /// After `NoMemory` all documents of the store are as they were.
+    /// The documents, one after the other. It shares the nodes of the last, and makes at most as
+    /// many as the others have items of their own. After `NoMemory` all documents of the store are
+    /// as they were.
     pub fn join(&mut self, parts: &[Seq]) -> Result<Seq, NoMemory>
         requires { AllByRecursion (BelongsTo self.old) parts.now }
         ensures ok { IfOk result (λ seq. document_at self.new seq ≡ joined_at self.old parts.now) }
@@ -322,9 +323,8 @@ impl Store {
         Ok(spine)
     }
 
-    /// The first item of `seq`, followed by `next`. Where `next` is what follows that item anyway, this
-    /// is `seq` itself.
-    /// After `NoMemory` the store is as it was.
+    /// The first item of `seq`, followed by `next`. Where `next` is what follows that item anyway,
+    /// this is `seq` itself. After `NoMemory` the store is as it was.
     pub fn first_before(&mut self, seq: Seq, next: Seq) -> Result<Seq, NoMemory>
         requires seq { BelongsTo self.old seq }
         requires next { BelongsTo self.old next }
@@ -351,8 +351,8 @@ impl Store {
     /// The same document in another store.
     ///
     /// It copies the n nodes that the document reaches, each once, so contents and rests that are
-    /// shared stay shared; while it works it keeps a number for each of them. After `NoMemory` the other
-    /// store's documents are as they were.
+    /// shared stay shared; while it works it keeps a number for each of them. After `NoMemory` the
+    /// other store's documents are as they were.
     pub fn copy_out(&self, alloc: Global, seq: Seq, into: &mut Store) -> Result<Seq, NoMemory>
         requires { BelongsTo self.now seq }
         ensures ok { IfOk result (λ copy. document_at into.new copy ≡ document_at self.now seq) }

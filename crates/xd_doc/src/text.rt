@@ -77,7 +77,8 @@ impl Text {
         &self.block.as_str()[self.start..self.end]
     }
 
-    /// An equal text, which shares the characters. `NoMemory` is an answer of its type; the characters are not copied.
+    /// An equal text, which shares the characters. `NoMemory` is an answer of its type; the
+    /// characters are not copied.
     pub fn share(&self) -> Result<Self, NoMemory>
         ensures { IfOk result (λ text. text ≡ self.now) }
     {

@@ -67,7 +67,8 @@ impl Words {
         self.texts.names.as_slice()
     }
 
-    /// An equal class, which shares the list of texts. `NoMemory` is an answer of its type; the texts are not copied.
+    /// An equal class, which shares the list of texts. `NoMemory` is an answer of its type; the
+    /// texts are not copied.
     pub fn share(&self) -> Result<Self, NoMemory>
         ensures same { IfOk result (λ words. words ≡ self.now) }
         ensures valid { IsTextClass self.now }

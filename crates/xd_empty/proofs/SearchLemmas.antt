@@ -9,7 +9,8 @@ use Rattle.std.proofs.lemmas.List.Folds.{list_any_none, list_any_at}
 use Rattle.std.proofs.lemmas.List.Sums.{sum_by-set}
 use Rattle.std.proofs.lemmas.Option.{slice_get-get_or}
 use Rattle.xd_doc.specs.Document.{Document, empty, text, element}
-use Rattle.xd_doc.specs.Stored.{BelongsTo, document_at}
+use Rattle.xd_doc.specs.Stored.{document_at}
+use Rattle.xd_doc.specs.StoredSeq.{BelongsTo}
 use Rattle.xd_doc.specs.StoreNodes.{Keeps, no_items}
 use Rattle.xd_doc.specs.Classes.{class_has}
 use Rattle.xd_doc.specs.declared.store.Seq.{Seq}
@@ -25,7 +26,8 @@ use Rattle.xd_empty.specs.Uses.{AreUses, IsNewUse, IsUse, element_parts, parts_o
 use Rattle.xd_empty.specs.Inhabited.{AreInhabitants, AreWitnesses, IsUnknown, IsWitness, LacksOne, Searching, Starts, steps_in}
 use Rattle.xd_empty.proofs.UsesLemmas.{uses_here, uses_other}
 
--- the state doesn't accept the empty document, and each of its moves leads to a state for which none was found
+-- the state doesn't accept the empty document, and each of its moves leads to a state for which
+-- none was found
 record IsStuck (a : Automaton) (fs : List (Option Seq)) (s : State) : Type 0 where
   last : (moves_at a s).last ≡ false
   labels : All (λ (m : LabelMove). IsUnknown fs m.content ⊎ IsUnknown fs m.rest) (moves_at a s).labels

@@ -120,7 +120,8 @@ lists_kept P old new waited waiting first states u h l = record {
   waits = elim l.waits [ inl c ↦ inl (h.keeps_waiting u c) | inr some ↦ inr some ];
 }
 
--- the lists while the moves of the states from `first` on are put into them, up to the state of a number
+-- the lists while the moves of the states from `first` on are put into them, up to the state of a
+-- number
 pub record Listing (a : Automaton) (first i : ℕ) (uses : List (List Use)) (waiting : List Use) : Type 0 where
   pub sized : length uses ≡ length a
   pub there : (t : State) (u : Use) → Contains (uses_at uses t) u → IsNewUse a first u

@@ -1,7 +1,8 @@
 -- States that have documents, and how these are found.
 use Rattle.std.specs.Prelude.{◌≡◌, ℕ, ◌<◌, ◌≤◌, ◌⊎◌, true, false, Option, Some, None, List, length, slice_index_or, sum_by, Contains, ◌+◌}
 use Rattle.xd_doc.specs.Document.{Document}
-use Rattle.xd_doc.specs.Stored.{document_at, BelongsTo}
+use Rattle.xd_doc.specs.Stored.{document_at}
+use Rattle.xd_doc.specs.StoredSeq.{BelongsTo}
 use Rattle.xd_doc.specs.declared.store.Seq.{Seq}
 use Rattle.xd_auto.specs.declared.auto.State.{State}
 use Rattle.xd_auto.specs.Automaton.{Automaton, accepts, moves_at, state_number}
@@ -24,7 +25,8 @@ IsUnknown fs s = slice_index_or fs (state_number s) None ≡ None
 abbrev pub AreWitnesses : Automaton → List Document → List (Option Seq) → Type 0
 AreWitnesses a ds fs = (s : State) (seq : Seq) → IsFound fs s seq → IsWitness a ds s seq
 
--- for each state of the automaton a document that it accepts; none was found exactly where it accepts none
+-- for each state of the automaton a document that it accepts; none was found exactly where it
+-- accepts none
 pub record AreInhabitants (a : Automaton) (ds : List Document) (fs : List (Option Seq)) : Type 0 where
   pub count : length fs ≡ length a
   pub witnesses : AreWitnesses a ds fs
@@ -56,7 +58,9 @@ pub record Starts (a : Automaton) (ds : List Document) (first : ℕ) (fs : List 
   pub settled : IsSettledBelow first a fs
   pub unknown : (s : State) → first ≤ state_number s → IsUnknown fs s
 
--- what holds at each step: of the new states below n those that accept the empty document are found, and each move of a new state without a document waits or leads to a state without one; where that is a new state, the move is listed under it
+-- what holds at each step: of the new states below n those that accept the empty document are
+-- found, and each move of a new state without a document waits or leads to a state without one;
+-- where that is a new state, the move is listed under it
 pub record Searching (a : Automaton) (ds : List Document) (first n : ℕ) (fs : List (Option Seq)) (uses : List (List Use)) (waiting : List Use) (done : ℕ) : Type 0 where
   pub count : length fs ≡ length a
   pub sized : length uses ≡ length a

@@ -50,7 +50,8 @@ uses_at uses s = slice_index_or uses (state_number s) []
 abbrev pub HasNew : ℕ → List State → Type 0
 HasNew first states = (t : State) × Contains states t × (first ≤ state_number t)
 
--- the move is listed under those of these states that have this number or a later one; where there is none it waits
+-- the move is listed under those of these states that have this number or a later one; where there
+-- is none it waits
 pub record Lists (first : ℕ) (states : List State) (uses : List (List Use)) (waiting : List Use) (u : Use) : Type 0 where
   pub listed : (t : State) → Contains states t → first ≤ state_number t → Contains (uses_at uses t) u
   pub waits : Contains waiting u ⊎ HasNew first states
@@ -63,7 +64,8 @@ pub record AddsUses (IsAdded : Use → Type 0) (old new : List (List Use)) (wait
   pub keeps_waiting : (u : Use) → Contains waited u → Contains waiting u
   pub adds_waiting : (u : Use) → Contains waiting u → Contains waited u ⊎ IsAdded u
 
--- the moves of the states from this number on, listed under those of these states that they lead to; those that lead to none wait
+-- the moves of the states from this number on, listed under those of these states that they lead
+-- to; those that lead to none wait
 pub record AreUses (a : Automaton) (first : ℕ) (uses : List (List Use)) (waiting : List Use) : Type 0 where
   pub sized : length uses ≡ length a
   pub there : (t : State) (u : Use) → Contains (uses_at uses t) u → IsNewUse a first u

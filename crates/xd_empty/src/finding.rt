@@ -20,11 +20,11 @@ use xd_doc::{NoMemory, Seq, Store};
 /// for the states that it leads to, and is looked at when one of them was found (the linear-time
 /// algorithm of Dowling and Gallier, *Linear-time algorithms for testing the satisfiability of
 /// propositional Horn formulae*, 1984, for rules with at most two premises). A move is looked at
-/// twice at most, so the time is linear in the new states and their moves. Of older states it is known
-/// whether they have a document, so a move that leads to such states alone is looked at once. Moves
-/// wait in line, so documents stay shallow. A state's document is made once, from those of other
-/// states, and shared: it is one node more, though as a tree the document may be exponential in the
-/// number of states.
+/// twice at most, so the time is linear in the new states and their moves. Of older states it is
+/// known whether they have a document, so a move that leads to such states alone is looked at once.
+/// Moves wait in line, so documents stay shallow. A state's document is made once, from those of
+/// other states, and shared: it is one node more, though as a tree the document may be exponential
+/// in the number of states.
 pub fn find_new(
     alloc: Global,
     auto: &Auto,

@@ -2,7 +2,8 @@
 
 ghost use Rattle.std.specs.Prelude.{◌≡◌, true, false, None, Ok, IfOk, IfSome};
 ghost use Rattle.xd_doc.specs.Document.{Document};
-ghost use Rattle.xd_doc.specs.Stored.{document_at, BelongsTo};
+ghost use Rattle.xd_doc.specs.Stored.{document_at};
+ghost use Rattle.xd_doc.specs.StoredSeq.{BelongsTo};
 ghost use Rattle.xd_doc.specs.StoreNodes.{Keeps};
 ghost use Rattle.xd_auto.specs.Automaton.{accepts, IsState};
 ghost use Rattle.xd_empty.specs.Inhabited.{AreInhabitants};
@@ -12,8 +13,8 @@ use std::alloc::Global;
 use xd_auto::{Auto, State, trim};
 use xd_doc::{NoMemory, Seq, Store};
 
-/// For each state, by its number, a document that it accepts, in this store; `None` exactly where it
-/// accepts none.
+/// For each state, by its number, a document that it accepts, in this store; `None` exactly where
+/// it accepts none.
 ///
 /// It is what [`Inhabitants::learn`] learns from nothing. Documents are shallow and shared. After
 /// `NoMemory` the store has more documents at most.
@@ -32,8 +33,8 @@ pub fn inhabitants(
 
 /// A document that the state accepts, in this store; `None` exactly where it accepts none.
 ///
-/// It asks [`inhabitants`] about the states that the state leads to, and no others. After `NoMemory`
-/// the store has more documents at most.
+/// It asks [`inhabitants`] about the states that the state leads to, and no others. After
+/// `NoMemory` the store has more documents at most.
 pub fn inhabitant(
     alloc: Global,
     auto: &Auto,

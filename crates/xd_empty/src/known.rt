@@ -41,11 +41,11 @@ impl Inhabitants {
         }
     }
 
-    /// Learns of the states of the automaton that were added since. After `NoMemory` no less is known
-    /// than before.
+    /// Learns of the states of the automaton that were added since. After `NoMemory` no less is
+    /// known than before.
     ///
-    /// The automaton and the store are those of which it knows, which may have grown. It looks at the
-    /// moves of the new states alone.
+    /// The automaton and the store are those of which it knows, which may have grown. It looks at
+    /// the moves of the new states alone.
     pub fn learn(&mut self, alloc: Global, auto: &Auto, store: &mut Store) -> Result<(), NoMemory>
         requires { Knows auto.now store.old self.old }
         ensures knows { Knows auto.now store.new self.new }
@@ -78,8 +78,8 @@ impl Inhabitants {
         documents
     }
 
-    /// The law of growth: what is known stays known of an automaton that extends the old one, with a
-    /// store that keeps the old documents. The call does nothing; its contract is the law.
+    /// The law of growth: what is known stays known of an automaton that extends the old one, with
+    /// a store that keeps the old documents. The call does nothing; its contract is the law.
     pub fn stays_known(&self)
         ensures { StaysKnown self.now }
     {

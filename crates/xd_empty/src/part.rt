@@ -24,9 +24,9 @@ pub fn inhabited(alloc: Global, auto: &Auto) -> Result<Vec<bool>, NoMemory>
     Ok(marks)
 }
 
-/// The part of an automaton that a state leads to through states that accept something: an automaton
-/// with no other states, but for the answer's own, which accepts the same. `NoMemory` where there is
-/// no room for it; the automaton that is given stays as it is.
+/// The part of an automaton that a state leads to through states that accept something: an
+/// automaton with no other states, but for the answer's own, which accepts the same. `NoMemory`
+/// where there is no room for it; the automaton that is given stays as it is.
 pub fn inhabited_part(alloc: Global, auto: &Auto, state: State) -> Result<(Auto, State), NoMemory>
     requires { IsState auto.now state }
     ensures exact { IfOk result (λ made. (d : Document) → accepts made.0 d made.1 ≡ accepts auto.now d state) }

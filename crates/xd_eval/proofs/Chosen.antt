@@ -1,7 +1,8 @@
 -- An element whose content has its value, and a match whose scrutinee has.
 use Rattle.std.proofs.Common.{◌≡◌, ℕ, ◌+◌, ◌*◌, arith, List, [], ◌∷◌, ◌++◌, ap, sym, ◌∙◌}
 use Rattle.xd_doc.specs.Document.{Document, element, empty}
-use Rattle.xd_doc.specs.Stored.{BelongsTo, document_at}
+use Rattle.xd_doc.specs.Stored.{document_at}
+use Rattle.xd_doc.specs.StoredSeq.{BelongsTo}
 use Rattle.xd_doc.specs.StoreNodes.{Keeps}
 use Rattle.xd_doc.specs.declared.store.Seq.{Seq}
 use Rattle.xd_syntax.specs.ExpressionTable.{shape_at}

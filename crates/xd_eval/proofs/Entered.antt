@@ -4,7 +4,8 @@ use Rattle.std.specs.List.{AllByRecursion}
 use Rattle.std.specs.Str.{bytes_eq}
 use Rattle.xd_base.specs.declared.Place.{Place}
 use Rattle.xd_doc.specs.Document.{Document, empty, text}
-use Rattle.xd_doc.specs.Stored.{BelongsTo, document_at}
+use Rattle.xd_doc.specs.Stored.{document_at}
+use Rattle.xd_doc.specs.StoredSeq.{BelongsTo}
 use Rattle.xd_doc.specs.StoreNodes.{Keeps}
 use Rattle.xd_doc.specs.declared.store.Seq.{Seq}
 use Rattle.xd_doc.proofs.Lists.{all_append}

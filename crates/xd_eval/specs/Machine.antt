@@ -4,7 +4,8 @@ use Rattle.std.specs.List.{AllByRecursion}
 use Rattle.std.specs.Str.{bytes_eq}
 use Rattle.xd_base.specs.declared.Place.{Place}
 use Rattle.xd_doc.specs.Document.{Document}
-use Rattle.xd_doc.specs.Stored.{BelongsTo, document_at}
+use Rattle.xd_doc.specs.Stored.{document_at}
+use Rattle.xd_doc.specs.StoredSeq.{BelongsTo}
 use Rattle.xd_doc.specs.declared.store.Seq.{Seq}
 use Rattle.xd_syntax.specs.Placed.{PlacedTree, unplaced}
 use Rattle.xd_syntax.specs.PlacedTable.{placed_at}
@@ -216,7 +217,8 @@ bound_seqs (q ∷ qs) (seq ∷ seqs) = (q.name, seq) ∷ bound_seqs qs seqs
 abbrev pub ClausesStand : ProgramTable → List Clause → Type 0
 ClausesStand p cs = AllByRecursion (λ (c : Clause). IsOfClause p c.pattern.at × IsRunnable p c.body.at) cs
 
--- The body of the first clause that takes the document is next, where the clauses' scope is outside; or no clause takes it.
+-- The body of the first clause that takes the document is next, where the clauses' scope is
+-- outside; or no clause takes it.
 pub record IsBody (p : ProgramTable) (old new : List Document) (cs : List (ℕ × ℕ)) (bs : List (List ℕ × Seq)) (d : Document) (id : ExprId) (scope : Scope) : Type 0 where
   pub same : (n : ℕ) → value_by (matcher p) (caller p) n (environment_in new scope.bindings.value.items) (expression_in p id.at)
       ≡ chosen_by (matcher p) (caller p) n (environment_in old bs) d (clauses_in p cs)

@@ -13,8 +13,9 @@ abbrev pub joined_all : List Document → Document
 joined_all [] = empty
 joined_all (d ∷ ds) = join d (joined_all ds)
 
--- Where a value goes: into an element; among the parts of a sequence or of a call, between the values of those before it and
--- those after it; or to the clauses of a match. What is left to do there has its environment.
+-- Where a value goes: into an element; among the parts of a sequence or of a call, between the
+-- values of those before it and those after it; or to the clauses of a match. What is left to do
+-- there has its environment.
 pub data Waiting : Type 0 where
   in_element : (label : List ℕ) → Waiting
   in_sequence : (env : Environment) (before : List Document) (after : List Expression) → Waiting

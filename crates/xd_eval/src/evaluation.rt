@@ -1,7 +1,8 @@
 //! The evaluation of an accepted program.
 
 ghost use Rattle.std.specs.Prelude.{◌≤◌, IfOk};
-ghost use Rattle.xd_doc.specs.Stored.{BelongsTo, document_at};
+ghost use Rattle.xd_doc.specs.Stored.{document_at};
+ghost use Rattle.xd_doc.specs.StoredSeq.{BelongsTo};
 ghost use Rattle.xd_doc.specs.StoreNodes.{Keeps};
 ghost use Rattle.xd_syntax.specs.Kept.{program_tree};
 ghost use Rattle.xd_eval.specs.Evaluation.{IsEvaluated, IsInput, IsOfDeclared};
@@ -30,8 +31,9 @@ pub enum Outcome {
 
 /// Calls `main` on a document, where so many calls are allowed, that of `main` included.
 ///
-/// Pending elements, sequences, calls and matches wait on a stack of the machine's own, so neither calls nor documents
-/// nest too deep for it. A call that nothing is left to do behind leaves no frame. After `NoMemory` the store has more documents at most.
+/// Pending elements, sequences, calls and matches wait on a stack of the machine's own, so neither
+/// calls nor documents nest too deep for it. A call that nothing is left to do behind leaves no
+/// frame. After `NoMemory` the store has more documents at most.
 pub fn evaluate_with<M: Matching>(
     alloc: Global,
     checked: &Checked,
@@ -63,12 +65,13 @@ pub fn evaluate_with<M: Matching>(
     }
 }
 
-/// Calls `main`, which has one parameter, on a document that fits the parameter's type, where so many calls are allowed, that of `main`
-/// included: one at least. `Value` with the value that the program means and the calls that were made; `Spent` exactly where the program
-/// needs more calls than the fuel.
+/// Calls `main`, which has one parameter, on a document that fits the parameter's type, where so
+/// many calls are allowed, that of `main` included: one at least. `Value` with the value that the
+/// program means and the calls that were made; `Spent` exactly where the program needs more calls
+/// than the fuel.
 ///
-/// First matches are found by the program's compiled patterns ([`evaluate_with`] takes what finds them from outside). After
-/// `NoMemory` the store has more documents at most.
+/// First matches are found by the program's compiled patterns ([`evaluate_with`] takes what finds
+/// them from outside). After `NoMemory` the store has more documents at most.
 pub fn evaluate(
     alloc: Global,
     checked: &Checked,

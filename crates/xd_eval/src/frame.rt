@@ -13,7 +13,8 @@ pub(crate) struct Scope {
     bindings: Rc<Vec<(Label, Seq)>>,
 }
 
-/// The values of the first parts of a sequence or a call, and the variables for those that are left.
+/// The values of the first parts of a sequence or a call, and the variables for those that are
+/// left.
 #[derive(Drop)]
 pub(crate) struct Parts {
     pub expr: ExprId,

@@ -2,7 +2,8 @@
 
 ghost use Rattle.std.specs.Prelude.{◌≡◌, ◌<◌, List, length, option_map, IfOk};
 ghost use Rattle.xd_doc.specs.Document.{Document};
-ghost use Rattle.xd_doc.specs.Stored.{BelongsTo, document_at};
+ghost use Rattle.xd_doc.specs.Stored.{document_at};
+ghost use Rattle.xd_doc.specs.StoredSeq.{BelongsTo};
 ghost use Rattle.xd_doc.specs.StoreNodes.{Keeps};
 ghost use Rattle.xd_syntax.specs.Kept.{ProgramTable};
 ghost use Rattle.xd_syntax.specs.PlacedTable.{placed_at};
@@ -21,8 +22,8 @@ pub trait Matching {
     /// It serves this program, on a store with these documents.
     ghost serves: { Self → ProgramTable → List Document → Type 0 };
 
-    /// The bindings of the first match of a clause's pattern, one for each variable, in order of first occurrence; `None`
-    /// where the pattern doesn't take the document.
+    /// The bindings of the first match of a clause's pattern, one for each variable, in order of
+    /// first occurrence; `None` where the pattern doesn't take the document.
     fn first_match(
         &mut self,
         alloc: Global,
@@ -39,7 +40,8 @@ pub trait Matching {
         ensures serves { serves self.new sound.now store.new }
         ensures keeps { Keeps store.old store.new };
 
-    /// The law of growth: what serves a store goes on to serve it while it grows. The call does nothing; its contract is the law.
+    /// The law of growth: what serves a store goes on to serve it while it grows. The call does
+    /// nothing; its contract is the law.
     fn stays_serving(&self)
         ensures { (p : ProgramTable) (old new : List Document) → serves self.now p old → Keeps old new → serves self.now p new };
 }

@@ -3,7 +3,8 @@
 ghost use Rattle.std.specs.Prelude.{◌≡◌, ◌<◌, ◌≤◌, ◌∷◌, ◌++◌, [], ℕ, map, length, IfOk, MatchOption, OnOk};
 ghost use Rattle.std.specs.List.{AllByRecursion};
 ghost use Rattle.std.specs.Option.{IfSome, option_copied};
-ghost use Rattle.xd_doc.specs.Stored.{BelongsTo, document_at};
+ghost use Rattle.xd_doc.specs.Stored.{document_at};
+ghost use Rattle.xd_doc.specs.StoredSeq.{BelongsTo};
 ghost use Rattle.xd_doc.specs.StoreNodes.{Keeps};
 ghost use Rattle.xd_syntax.specs.ExpressionTable.{shape_at};
 ghost use Rattle.xd_syntax.specs.Exprs.{expr_numbers, clause_numbers};
@@ -100,8 +101,8 @@ fn take_value(
     Ok(Some((part_at(all, done), scope)))
 }
 
-/// Adds the value of one of so many parts. Millions of frames may wait with a few values each, so the first
-/// takes no more room than they need.
+/// Adds the value of one of so many parts. Millions of frames may wait with a few values each, so
+/// the first takes no more room than they need.
 fn keep_value(values: &mut Vec<Seq>, seq: Seq, parts: usize) -> Result<(), NoMemory>
     ensures { OnOk result (values.new.items ≡ values.old.items ++ seq ∷ []) }
 {
@@ -125,7 +126,8 @@ fn all_parts(sound: &SoundProgram, id: ExprId) -> &[ExprId]
     }
 }
 
-/// One more argument of a call has its value. With the last one the call is counted, and its function's body is next.
+/// One more argument of a call has its value. With the last one the call is counted, and its
+/// function's body is next.
 fn next_of_call(
     alloc: Global,
     sound: &SoundProgram,

@@ -21,7 +21,8 @@ impl<W: Write> StreamSink<W> {
     }
 }
 
-/// How many bytes the stream takes of these and flushes. To take none, though there are some, is a fault.
+/// How many bytes the stream takes of these and flushes. To take none, though there are some, is a
+/// fault.
 fn write_some(stream: &mut impl Write, bytes: &[u8]) -> io::Result<usize>
     ensures { IfOk result (λ n. (n ≤ length bytes.now) × (0 < length bytes.now → 0 < n)) }
 {

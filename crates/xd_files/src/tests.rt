@@ -35,7 +35,8 @@ fn files_are_fetched_up_to_a_length(rt: HostRuntime) -> Result<(), Fail> {
     Ok(())
 }
 
-/// A stream that takes two bytes at a time, is interrupted once its room is full, and flushes so many times.
+/// A stream that takes two bytes at a time, is interrupted once its room is full, and flushes so
+/// many times.
 #[derive(Drop)]
 struct Narrow {
     room: usize,

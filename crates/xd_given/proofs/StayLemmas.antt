@@ -33,7 +33,8 @@ given_as one two p t b s e same g = record {
   gives = g.gives;
 }
 
--- what is given is the same where the points mean the same, and another state accepts it that accepts the same
+-- what is given is the same where the points mean the same, and another state accepts it that
+-- accepts the same
 pub accepts_as : (one two : Automaton) (p : PatternStates) (t : PointTable) (b : Owned) (s : State) (made other : Automaton) (first state : State) → ((d : Document) → point_means one p t s d ≡ point_means two p t s d)
     → ((e : Document) → accepts other e state ≡ accepts made e first) → AcceptsGivenAt one p t b s made first → AcceptsGivenAt two p t b s other state
 accepts_as one two p t b s made other first state same equal h e = (

@@ -12,7 +12,8 @@ use Rattle.xd_given.specs.Owning.{owns_first}
 abbrev pub begins : Owned → (State → Bool) → Bool → State → Bool
 begins b set first s = set s && is_side first (owns_first b s)
 
--- whether the move is the variable's where the state's first one is, what follows begins so, and the content with none; both in the set
+-- whether the move is the variable's where the state's first one is, what follows begins so, and
+-- the content with none; both in the set
 abbrev pub alike_label : Owned → (State → Bool) → State → ℕ → LabelMove → Bool
 alike_label b set s n m = is_side (owns_first b s) (b.element s n) && (begins b set false m.content && begins b set (owns_first b s) m.rest)
 

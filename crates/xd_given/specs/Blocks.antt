@@ -35,20 +35,23 @@ pub record IsBlockFor (p : PatternStates) (t : PointTable) (b : Owned) (base : �
   pub tail : is_tail p t b s ≡ true → v ≡ left_of t s
   pub other : is_tail p t b s ≡ false → v ≡ onward base s
 
--- for each point a state of the variable's block: the left, where all that comes belongs to the variable; and else one from the base on
+-- for each point a state of the variable's block: the left, where all that comes belongs to the
+-- variable; and else one from the base on
 pub record AreBlocks (p : PatternStates) (t : PointTable) (b : Owned) (base : ℕ) (blocks : List State) : Type 0 where
   pub count : length blocks ≡ point_count t
   pub tail : (s : State) → s.number < point_count t → is_tail p t b s ≡ true → there blocks s ≡ left_of t s
   pub other : (s : State) → s.number < point_count t → is_tail p t b s ≡ false → there blocks s ≡ onward base s
 
--- the first states from the base on, so many, have the variable's moves of their points too, to the contents' places and the blocks' states
+-- the first states from the base on, so many, have the variable's moves of their points too, to the
+-- contents' places and the blocks' states
 pub record IsFilledTo (b : Owned) (drawing : Automaton) (places blocks : List State) (base count : ℕ) (old new : Automaton) : Type 0 where
   pub states : length new ≡ length old
   pub below : (s : State) → s.number < base → moves_at new s ≡ moves_at old s
   pub filled : (s : State) → s.number < count → moves_at new (onward base s) ≡ with_side b true (there places) (there blocks) s (moves_at drawing s) (moves_at old (onward base s))
   pub waiting : (s : State) → count ≤ s.number → moves_at new (onward base s) ≡ moves_at old (onward base s)
 
--- they have just these, and accept the empty document where the point can be completed without the variable
+-- they have just these, and accept the empty document where the point can be completed without the
+-- variable
 abbrev pub AreFilled : Owned → Automaton → List State → List State → (State → Bool) → ℕ → ℕ → Automaton → Type 0
 AreFilled b drawing places blocks free base count made =
     (s : State) → s.number < count → moves_at made (onward base s) ≡ side_moves b true (there places) (there blocks) s (moves_at drawing s) (free s)

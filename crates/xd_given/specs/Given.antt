@@ -8,7 +8,8 @@ use Rattle.xd_bind.specs.declared.tracks.Given.{Given}
 use Rattle.xd_points.specs.declared.patterns.PatternStates.{PatternStates}
 use Rattle.xd_points.specs.Tables.{takes_alone}
 
--- an accepting run of the pattern's state gives the variable this document, on one that the left accepts and none of the rights does
+-- an accepting run of the pattern's state gives the variable this document, on one that the left
+-- accepts and none of the rights does
 pub record IsGivenAlone (a : Automaton) (p : PatternStates) (b : Owned) (left pattern : State) (rights : List State) (e : Document) : Type 0 where
   pub given : IsGiven p.auto b pattern e
   pub alone : takes_alone a p left pattern rights given.document ≡ true
@@ -23,7 +24,8 @@ pub record IsGivenAloneOf (a : Automaton) (p : PatternStates) (owned : ℕ → O
   pub belongs : IsState made one.state
   pub given : AcceptsGivenAlone a p (owned x) left pattern rights made one.state
 
--- one for each variable, in their order, where `owned` are the moves that belong to the variable of a number
+-- one for each variable, in their order, where `owned` are the moves that belong to the variable of
+-- a number
 pub record AreGivensAlone (a : Automaton) (p : PatternStates) (owned : ℕ → Owned) (left pattern : State) (rights : List State) (variables : List (List ℕ)) (made : Automaton) (givens : List Given) : Type 0 where
   pub count : length givens ≡ length variables
   pub each : (x : ℕ) (d : Given) → x < length givens → IsGivenAloneOf a p owned left pattern rights variables made x (slice_index_or givens x d)

@@ -1,4 +1,5 @@
--- From which points the items of a variable can begin, and which can be completed without it. Of these only private contracts and proofs speak.
+-- From which points the items of a variable can begin, and which can be completed without it. Of
+-- these only private contracts and proofs speak.
 use Rattle.std.specs.Prelude.{◌≡◌, ℕ, ◌<◌, ◌≤◌, Bool, true, false, cond, is_some, List, Option, length}
 use Rattle.xd_doc.specs.Document.{Document}
 use Rattle.xd_auto.specs.declared.auto.State.{State}
@@ -16,13 +17,14 @@ use Rattle.xd_points.specs.Tables.{is_left, left_of, pattern_of, point_count, po
 use Rattle.xd_given.specs.Owning.{owns_first, point_moves}
 use Rattle.xd_given.specs.declared.outline.PointOutline.{PointOutline}
 
--- Whether the point, which means what its left accepts, can be completed without the variable. Where the variable is given all, that
--- is by the empty document alone; and else by any that is known of the left.
+-- Whether the point, which means what its left accepts, can be completed without the variable.
+-- Where the variable is given all, that is by the empty document alone; and else by any that is
+-- known of the left.
 abbrev pub leaf_free : Automaton → PointTable → Owned → List (Option LeastDocument) → State → Bool
 leaf_free a t b known s = cond (owns_first b (pattern_of t s)) (moves_at a (left_of t s)).last (is_some (known_of known (left_of t s)))
 
--- The points of the first numbers, so many, have their moves; but one that means what its left accepts has none, and only says whether
--- it can be completed without the variable.
+-- The points of the first numbers, so many, have their moves; but one that means what its left
+-- accepts has none, and only says whether it can be completed without the variable.
 pub record IsDrawnTo (p : PatternStates) (t : PointTable) (leaf : State → Bool) (count : ℕ) (made : Automaton) : Type 0 where
   pub sized : length made ≡ length (points_of t)
   pub left : (s : State) → s.number < count → is_left p t s ≡ true → moves_at made s ≡ no_moves (leaf s)
@@ -33,8 +35,8 @@ pub record IsDrawnTo (p : PatternStates) (t : PointTable) (leaf : State → Bool
 abbrev pub IsDrawing : PatternStates → PointTable → (State → Bool) → Automaton → Type 0
 IsDrawing p t leaf made = IsDrawnTo p t leaf (point_count t) made
 
--- A drawing, with copies without the moves of the variable behind it: which points can be completed without the variable, and which lie
--- ahead of the start.
+-- A drawing, with copies without the moves of the variable behind it: which points can be completed
+-- without the variable, and which lie ahead of the start.
 pub record IsOutline (p : PatternStates) (t : PointTable) (b : Owned) (leaf : State → Bool) (start : State) (o : PointOutline) : Type 0 where
   pub drawing : Automaton
   pub inner : State → State

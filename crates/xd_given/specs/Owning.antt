@@ -1,4 +1,5 @@
--- Which moves of points belong to a variable, and states that give a variable nothing, or all that they take.
+-- Which moves of points belong to a variable, and states that give a variable nothing, or all that
+-- they take.
 use Rattle.std.specs.Prelude.{nat_lt, ◌≡◌, ◌&&◌, ◌||◌, Bool, true, false}
 use Rattle.xd_doc.specs.Document.{Document}
 use Rattle.xd_auto.specs.declared.auto.State.{State}
@@ -27,7 +28,8 @@ IsWhole at_end = Unit {0}
 IsWhole (at_text own r) = (own ≡ true) × IsWhole r
 IsWhole (at_element own k r) = (own ≡ true) × IsFree k × IsWhole r
 
--- Runs from the state give the variable all that they take, where a first move belongs to it; and else nothing.
+-- Runs from the state give the variable all that they take, where a first move belongs to it; and
+-- else nothing.
 pub record GivesAlike (a : Automaton) (b : Owned) (s : State) : Type 0 where
   pub all : owns_first b s ≡ true → (d : Document) (run : Run) → IsAcceptingRun a d s run → IsWhole (trace_of a b s run)
   pub none : owns_first b s ≡ false → (d : Document) (run : Run) → IsAcceptingRun a d s run → IsFree (trace_of a b s run)

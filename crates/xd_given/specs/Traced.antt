@@ -1,4 +1,5 @@
--- Runs of a pattern through points, by their traces. Of these only private contracts and proofs speak.
+-- Runs of a pattern through points, by their traces. Of these only private contracts and proofs
+-- speak.
 use Rattle.std.specs.Prelude.{◌≡◌, ◌⊎◌, ◌↔◌, ℕ, ◌<◌, true, false, List, length, slice_get, slice_index_or, Some}
 use Rattle.xd_doc.specs.Document.{Document, empty, text, element, is_proper}
 use Rattle.xd_auto.specs.declared.auto.State.{State}
@@ -47,7 +48,8 @@ pub record FreeFrom (a : Automaton) (p : PatternStates) (t : PointTable) (b : Ow
   pub traced : Traced a p t b document s trace
   pub free : IsFree trace
 
--- a run from the point gives the variable this document, on a document that is proper where this one is
+-- a run from the point gives the variable this document, on a document that is proper where this
+-- one is
 pub record IsGivenAt (a : Automaton) (p : PatternStates) (t : PointTable) (b : Owned) (s : State) (e : Document) : Type 0 where
   pub document : Document
   pub trace : Trace

@@ -29,7 +29,8 @@ fn begins<H: Holds>(owner: &H, variable: usize, marks: &[bool], first: bool, sta
     is_marked(marks, state) && agrees(first, owns_first(owner, variable, state))
 }
 
-/// Whether a move on an element is the variable's where the state's first one is, and the marked states that it leads to go on so.
+/// Whether a move on an element is the variable's where the state's first one is, and the marked
+/// states that it leads to go on so.
 fn is_alike_label<H: Holds>(
     owner: &H,
     variable: usize,
@@ -139,12 +140,14 @@ fn unmark<H: Holds>(auto: &Auto, owner: &H, count: usize, marks: &mut Vec<bool>)
     changed
 }
 
-/// Marks the states of an automaton each of which gives each of so many variables nothing, or all that it takes, by moves that all
-/// belong to the variable or none does, with nothing of it in contents: the largest set of states that go on to one another so.
+/// Marks the states of an automaton each of which gives each of so many variables nothing, or all
+/// that it takes, by moves that all belong to the variable or none does, with nothing of it in
+/// contents: the largest set of states that go on to one another so.
 ///
-/// Where such states accept everything they may be left out of points ([`bindings`](crate::bindings)). Each pass over the marked states takes the
-/// time of their moves for each variable; there are as many passes as states that lead one after another to one that isn't such, and
-/// mostly few.
+/// Where such states accept everything they may be left out of points
+/// ([`bindings`](crate::bindings)). Each pass over the marked states takes the time of their moves
+/// for each variable; there are as many passes as states that lead one after another to one that
+/// isn't such, and mostly few.
 pub fn alike_states<H: Holds>(
     alloc: Global,
     auto: &Auto,

@@ -76,7 +76,8 @@ fn block_texts<H: Holds>(
     Ok(texts)
 }
 
-/// For each point the state of its block: the left, where the variable is given all that comes; and else one from the base on.
+/// For each point the state of its block: the left, where the variable is given all that comes; and
+/// else one from the base on.
 fn blocks_of<H: Holds>(
     alloc: Global,
     auto: &Auto,
@@ -100,7 +101,8 @@ fn blocks_of<H: Holds>(
     Ok(blocks)
 }
 
-/// Gives states from the base on the variable's moves of the points, to the contents' places and the blocks' states.
+/// Gives states from the base on the variable's moves of the points, to the contents' places and
+/// the blocks' states.
 fn fill_blocks<H: Holds>(
     alloc: Global,
     auto: &mut Auto,

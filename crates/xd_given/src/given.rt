@@ -28,7 +28,8 @@ use xd_doc::{Label, NoMemory, Store};
 use xd_least::LeastInhabitants;
 use xd_points::{PatternStates, PointTable};
 
-/// For each point a state that accepts exactly what the point means: its place, or a new state that accepts nothing.
+/// For each point a state that accepts exactly what the point means: its place, or a new state that
+/// accepts nothing.
 fn places_of(alloc: Global, auto: &mut Auto, table: &PointTable) -> Result<Vec<State>, NoMemory>
     requires { (p : PatternsView) × IsTableOf auto.old p table.now }
     ensures places { IfOk result (λ places. (p : PatternsView) → IsTableOf auto.old p table.now → ArePlaces auto.new p table.now places.items) }
@@ -120,15 +121,18 @@ fn add_givens<H: Holds>(
     Ok(givens)
 }
 
-/// For each variable of a pattern, in their order, a state that accepts exactly the documents that an accepting run of the pattern's
-/// state gives it, on some document that the left accepts and none of the rights does; `None` exactly where no such document is
-/// accepted by the pattern's state.
+/// For each variable of a pattern, in their order, a state that accepts exactly the documents that
+/// an accepting run of the pattern's state gives it, on some document that the left accepts and
+/// none of the rights does; `None` exactly where no such document is accepted by the pattern's
+/// state.
 ///
-/// The points of the three are looked at, and what they mean gets states. A variable gets states for its own items alone. Where it takes
-/// all that is left, and nothing must refuse, it is the left that was there. The patterns are asked with states left out only that give
-/// each variable nothing, or all that they take.
+/// The points of the three are looked at, and what they mean gets states. A variable gets states
+/// for its own items alone. Where it takes all that is left, and nothing must refuse, it is the
+/// left that was there. The patterns are asked with states left out only that give each variable
+/// nothing, or all that they take.
 ///
-/// Fails only where memory is refused. The automaton and the store keep what they have, and may have more.
+/// Fails only where memory is refused. The automaton and the store keep what they have, and may
+/// have more.
 pub fn bindings<H: Holds>(
     alloc: Global,
     auto: &mut Auto,

@@ -1,4 +1,5 @@
-//! From which points the items of a variable can begin, and which points can be completed without it.
+//! From which points the items of a variable can begin, and which points can be completed without
+//! it.
 
 ghost use Rattle.std.specs.Prelude.{◌≡◌, ◌<◌, IfOk, length};
 ghost use Rattle.xd_auto.specs.declared.auto.State.{State as StateView};
@@ -13,8 +14,8 @@ use xd_bind::{Holds, Layer, add_without, copied, free_of, states_ahead};
 use xd_doc::{NoMemory, Store};
 use xd_least::LeastInhabitants;
 
-/// The moves of points in an automaton that only serves to find out: which points can be completed without a variable, by their
-/// numbers, and which lie ahead of a start.
+/// The moves of points in an automaton that only serves to find out: which points can be completed
+/// without a variable, by their numbers, and which lie ahead of a start.
 #[derive(Drop)]
 pub(crate) struct PointOutline {
     pub(crate) drawing: Auto,

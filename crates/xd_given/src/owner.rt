@@ -47,8 +47,8 @@ impl<H: Holds> Holds for PointOwner<'_, H> {
     }
 }
 
-/// Whether a first move of a pattern's state belongs to the variable. Where the state may be left out, it then gives the variable all
-/// that it takes.
+/// Whether a first move of a pattern's state belongs to the variable. Where the state may be left
+/// out, it then gives the variable all that it takes.
 pub(crate) fn owns_first<H: Holds>(owner: &H, variable: usize, pattern: State) -> bool
     ensures { result ≡ owns_first (H.owned owner.now variable) pattern }
 {

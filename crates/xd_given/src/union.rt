@@ -16,7 +16,8 @@ fn is_bare(auto: &Auto, state: State) -> bool
     auto.label_moves(state).is_empty() && auto.text_moves(state).is_empty()
 }
 
-/// Whether a state is another one, or has no moves and accepts the empty document only where that does.
+/// Whether a state is another one, or has no moves and accepts the empty document only where that
+/// does.
 fn is_within(auto: &Auto, state: State, other: State) -> bool
     requires state { IsState auto.now state }
     requires other { IsState auto.now other }
@@ -52,8 +53,9 @@ fn first_with_moves(auto: &Auto, states: &[State]) -> Option<State>
     None
 }
 
-/// A state that accepts what some of these states accept. It is one of them, and no state is added, where all others have no moves and
-/// accept no more; so where a variable takes all that is left, it is the state that was there.
+/// A state that accepts what some of these states accept. It is one of them, and no state is added,
+/// where all others have no moves and accept no more; so where a variable takes all that is left,
+/// it is the state that was there.
 pub(crate) fn union_of(auto: &mut Auto, states: &[State]) -> Result<State, NoMemory>
     requires { All (IsState auto.old) states.now }
     ensures ok { IfOk result (λ made. (d : Document) → accepts auto.new d made ≡ list_any (accepts auto.old d) states.now) }

@@ -72,7 +72,8 @@ module _ (a : Automaton) (old new : List GoalRow) (nodes : List ChoiceNode) (lin
       → (i j : ℕ) → i < length new → j < length new → claim_of (row_at new i) ≡ claim_of (row_at new j) → i ≡ j
   unlike_same h i j li lj e = h i j (omega (arith, same.count)) (omega (arith, same.count)) (sym (same.claims i) ∙ e ∙ same.claims j)
 
-  -- the facts stay, where the choices of each goal are known, and what is newly refuted, in doubt, and what still holds
+  -- the facts stay, where the choices of each goal are known, and what is newly refuted, in doubt,
+  -- and what still holds
   pub stands_same : (ds : List Document) → FactsOn a ds before
       → ((i place : ℕ) (k : Choice) → slice_get (row_at new i).choices place ≡ Some k → ChoiceStands a before (goal_case i place) (claim_of (row_at old i)) k)
       → ((i : ℕ) (seq : Seq) → (row_at new i).standing ≡ Refuted seq → IsSeparatedBy a ds (claim_of (row_at old i)) seq)

@@ -148,7 +148,8 @@ pub leaf_separated : {A : List State → Type 0} (a : Automaton) (ds : List Docu
 leaf_separated a ds s t grows h owner c g st seq l e r =
     subst (λ (x : Claim State). IsSeparatedBy a ds x seq) (claim_within t.rows g.number c l.claim).1 (separated-grows a ds s t grows h g.number seq (sym e ∙ r))
 
--- a head that takes the element of two documents is on neither side of the path whose goals they refute
+-- a head that takes the element of two documents is on neither side of the path whose goals they
+-- refute
 pub taker_free : (a : Automaton) (ds : List Document) (content rest : State) (sides : List Side) (contents rests : List State) (inside behind : Seq) (side : Side)
     → IsSeparatedBy a ds (claim_with content contents) inside → IsSeparatedBy a ds (claim_with rest rests) behind → IsTaker a ds sides inside behind side → IsFree sides contents rests side
 taker_free a ds content rest sides contents rests inside behind side x y t =

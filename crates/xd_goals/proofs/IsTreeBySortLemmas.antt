@@ -74,7 +74,8 @@ sides_below a closed rights are atom =
     matching_below (length a) atom 1 (flat_map (heads_of a) rights)
     (λ h m. let r = one_of-from_flat_map (heads_of a) h rights m in heads_below a closed r.0 (one_of-all (IsState a) r.0 rights are r.1) h r.2)
 
--- a case as the code sees it: what its head says of the content and the rest, and the right heads that match
+-- a case as the code sees it: what its head says of the content and the rest, and the right heads
+-- that match
 module _ (a : Automaton) (owner : GoalCase) (c : Claim State) (number : ℕ) (atom : Atom) (content rest : State) (has : HasHead a c.left number content rest) (states : ℕ) (count : states ≡ length a)
     (sides : List Side) (same_sides : sides ≡ claim_sides a c atom) where
   abbrev pub task_of : Task

@@ -2,7 +2,7 @@
 use Rattle.std.proofs.Common.{ℕ, suc, ◌<◌, ◌≡◌, ◌⊎◌, true, false, List, length, set, get_or-set_same, get_or-set_other, Option, Some, None, inl, inr, ⊎_elim, refl, sym, ap, ◌∙◌, subst, arith, length-set}
 use Rattle.std.specs.List.{slice_get}
 use Rattle.std.proofs.lemmas.Bool.{cases_eq}
-use Rattle.xd_doc.specs.Stored.{IsBelow}
+use Rattle.xd_doc.specs.StoredSeq.{IsBelow}
 use Rattle.xd_doc.specs.declared.store.Seq.{Seq}
 use Rattle.xd_goals.specs.Rows.{GoalRow, no_row, row_at, Leads}
 use Rattle.xd_goals.specs.Kept.{IsSameClaim, IsSeenTo, IsWoken, IsWokenRow, Refutes, with_flag, with_standing}
@@ -70,7 +70,8 @@ abbrev pub steps_left : Option ℕ → ℕ
 steps_left None = 0
 steps_left (Some k) = suc k
 
--- so far, up to a place of the list, goals that held wait, and the cases that the list led to before it are in doubt, unless their goals are settled
+-- so far, up to a place of the list, goals that held wait, and the cases that the list led to
+-- before it are in doubt, unless their goals are settled
 pub record WakesTo (links : List Link) (first at : Option ℕ) (old new : List GoalRow) : Type 0 where
   pub count : length new ≡ length old
   pub same : (i : ℕ) → IsSameClaim (row_at old i) (row_at new i)

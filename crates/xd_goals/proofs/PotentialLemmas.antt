@@ -1,4 +1,5 @@
--- Each step of work lowers the potential, and a table has as many goals at most as there are possible claims.
+-- Each step of work lowers the potential, and a table has as many goals at most as there are
+-- possible claims.
 use Rattle.std.proofs.Common.{ℕ, zero, suc, ◌+◌, ◌-◌, ◌<◌, ◌≤◌, ◌≡◌, ◌⊎◌, List, [], ◌∷◌, length, map, set, get_or-set_same, get_or-set_other, length-set, Some, inl, inr, ⊎_elim, refl, sym, ap, ◌∙◌, subst, arith}
 use Rattle.std.specs.List.{slice_get}
 use Rattle.std.proofs.lemmas.Bool.{cases_lt, cases_eq}

@@ -34,7 +34,8 @@ BeginsAs labels texts OtherLabel inside behind d = (l : List ℕ) × (class_has 
 BeginsAs labels texts (Text t) inside behind d = d ≡ text t behind
 BeginsAs labels texts OtherText inside behind d = (t : List ℕ) × (class_has texts t ≡ true) × (d ≡ text t behind)
 
--- an atom of a head of the left, where a content and a rest are those of a document that no right head takes
+-- an atom of a head of the left, where a content and a rest are those of a document that no right
+-- head takes
 pub record FailsAt (a : Automaton) (ds : List Document) (t : TableView) (c : Claim State) (atom : Atom) (inside behind : Seq) : Type 0 where
   pub owner : GoalCase
   pub of_head : Head State
@@ -73,7 +74,8 @@ abbrev pub IsSettling : Automaton → List Document → TableView → ℕ → Cl
 IsSettling a ds t goal c (Holds made) = AreSettled a t goal c made.items
 IsSettling a ds t goal c (Separates f) = FailsAt a ds t c f.atom f.inside f.behind
 
--- cases of a goal were repaired, and perhaps goals were added: it waits as it did, and no case became doubtful
+-- cases of a goal were repaired, and perhaps goals were added: it waits as it did, and no case
+-- became doubtful
 pub record IsMending (goal : ℕ) (old new : TableView) : Type 0 where
   pub kept : KeepsGoals old new
   pub made : AreMadeFrom (length old.rows) new.rows

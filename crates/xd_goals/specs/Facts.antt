@@ -29,10 +29,11 @@ pub record IsSettledRow (t : TableView) (row : GoalRow) : Type 0 where
 abbrev pub StaySettled : TableView → Type 0
 StaySettled t = (i : ℕ) → (row_at t.rows i).settled ≡ true → IsSettledRow t (row_at t.rows i)
 
--- What is so of every table, whatever automaton its goals speak of: no two goals have the same left and the same rights in the same order;
--- a tree stands at each choice's root, and the case is among the dependents of each goal that a leaf names; each choice has a
--- flag, and where the flag isn't set no leaf names a refuted goal; no leaf of a goal that holds does; and goals that are marked as settled hold, and lead
--- through leaves to such goals alone.
+-- What is so of every table, whatever automaton its goals speak of: no two goals have the same left
+-- and the same rights in the same order; a tree stands at each choice's root, and the case is among
+-- the dependents of each goal that a leaf names; each choice has a flag, and where the flag isn't
+-- set no leaf names a refuted goal; no leaf of a goal that holds does; and goals that are marked as
+-- settled hold, and lead through leaves to such goals alone.
 pub record KeepsLists (t : TableView) : Type 0 where
   pub unlike : (i j : ℕ) → i < length t.rows → j < length t.rows → claim_of (row_at t.rows i) ≡ claim_of (row_at t.rows j) → i ≡ j
   pub trees : (i place : ℕ) (k : Choice) → slice_get (row_at t.rows i).choices place ≡ Some k → HasTree t (λ _. Unit {0}) (goal_case i place) k.root
@@ -46,7 +47,8 @@ pub record IsKept (g : Goals) : Type 0 where
   pub whole : IsWhole g
   pub lists : KeepsLists (view_of g)
 
--- Of what follows only private contracts speak: both together, as work on a goal needs and leaves them.
+-- Of what follows only private contracts speak: both together, as work on a goal needs and leaves
+-- them.
 
 -- a choice of a goal, whose tree's leaves name goals with the case among their dependents
 pub record ChoiceStands (a : Automaton) (t : TableView) (owner : GoalCase) (c : Claim State) (k : Choice) : Type 0 where

@@ -3,7 +3,7 @@ use Rattle.std.specs.Prelude.{◌≡◌, ℕ, ◌<◌, ◌≤◌, ◌⊎◌, Boo
 use Rattle.std.specs.Ordering.{nat_cmp}
 use Rattle.std.specs.Cmp.Lexicographic.{slice_cmp}
 use Rattle.std.specs.BTreeMap.{BTreeMap, get}
-use Rattle.xd_doc.specs.Stored.{IsBelow}
+use Rattle.xd_doc.specs.StoredSeq.{IsBelow}
 use Rattle.xd_auto.specs.declared.auto.State.{State}
 use Rattle.xd_rules.specs.Moves.{IsInOrder}
 use Rattle.xd_goals.specs.Rows.{GoalRow, TableView, row_at, claim_of, claim_key, IsListed, IsUnbroken, Leads, NodeStands, RowsBelow}
@@ -132,7 +132,8 @@ pub record IsWoken (These : GoalCase → Type 0) (old new : List GoalRow) : Type
   pub others : (i : ℕ) → IsWokenRow (row_at old i) (row_at new i)
   pub these : (owner : GoalCase) → These owner → IsSeenTo (row_at new owner.goal.number) owner.place
 
--- the goal is refuted by the document, and each case that depends on it is in doubt, unless its goal is settled
+-- the goal is refuted by the document, and each case that depends on it is in doubt, unless its
+-- goal is settled
 pub record Refutes (links : List Link) (goal : ℕ) (seq : Seq) (old new : List GoalRow) : Type 0 where
   pub count : length new ≡ length old
   pub same : (i : ℕ) → IsSameClaim (row_at old i) (row_at new i)

@@ -8,7 +8,8 @@ use Rattle.xd_goals.specs.Rows.{GoalRow, row_at}
 use Rattle.xd_goals.specs.declared.table.Standing.{Standing}
 use Rattle.xd_goals.specs.declared.table.Standing.TheVariants.{Holds, Refuted, Waiting}
 
--- of n goals at most: one that isn't made yet weighs most, then one that waits, then one that holds, and one that is refuted nothing
+-- of n goals at most: one that isn't made yet weighs most, then one that waits, then one that
+-- holds, and one that is refuted nothing
 abbrev pub standing_weight : ℕ → Standing → ℕ
 standing_weight n Holds = n
 standing_weight n (Refuted seq) = 0

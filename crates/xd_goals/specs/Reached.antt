@@ -87,7 +87,8 @@ pub record AreClosed (t : TableView) (start : ℕ) (order : List ℕ) : Type 0 w
   pub marked : (g : ℕ) → IsOneOf g order → is_marked marks g ≡ true
   pub passed : (g : ℕ) → is_marked marks g ≡ true → IsPassed t marks g
 
--- what a walk finds: goals that are there, those of them that wait, and where none does, all that it leads to
+-- what a walk finds: goals that are there, those of them that wait, and where none does, all that
+-- it leads to
 pub record IsWalk (t : TableView) (start : ℕ) (order : List ℕ) (waiting : List GoalId) : Type 0 where
   pub there : AllByRecursion (λ (n : ℕ). n < length t.rows) order
   pub waits : AllByRecursion (IsWaitingIn t.rows) waiting
@@ -100,7 +101,8 @@ pub record MarksThese (order : List ℕ) (old new : List GoalRow) : Type 0 where
   pub kept : (g : ℕ) → (row_at old g).settled ≡ true → (row_at new g).settled ≡ true
   pub only : (g : ℕ) → (row_at new g).settled ≡ true → ((row_at old g).settled ≡ true) ⊎ IsOneOf g order
 
--- the walk so far: of the goals that were reached, in order, the first are settled, or hold and lead to marked ones alone, unless some wait
+-- the walk so far: of the goals that were reached, in order, the first are settled, or hold and
+-- lead to marked ones alone, unless some wait
 pub record IsWalked (t : TableView) (start : ℕ) (waiting : List GoalId) (marks : List Bool) (order : List ℕ) (next : ℕ) : Type 0 where
   pub sized : length marks ≡ length t.rows
   pub started : is_marked marks start ≡ true

@@ -1,4 +1,5 @@
--- What contracts see of a table: its goals, the nodes of its choice trees, and the links of its lists of dependents.
+-- What contracts see of a table: its goals, the nodes of its choice trees, and the links of its
+-- lists of dependents.
 use Rattle.std.specs.Prelude.{◌≡◌, ℕ, ◌<◌, Bool, false, List, [], ◌∷◌, map, length, Option, Some, None, slice_get, slice_index_or, option_map}
 use Rattle.xd_doc.specs.declared.store.Seq.{Seq}
 use Rattle.xd_auto.specs.declared.auto.State.{State}
@@ -12,7 +13,8 @@ use Rattle.xd_goals.specs.declared.table.Standing.{Standing}
 use Rattle.xd_goals.specs.declared.table.Standing.TheVariants.{Refuted, Waiting}
 use Rattle.xd_goals.specs.declared.table.Link.{Link}
 
--- a goal, its choice trees with a flag for each, where its list of dependents begins, and whether it is marked as settled
+-- a goal, its choice trees with a flag for each, where its list of dependents begins, and whether
+-- it is marked as settled
 pub record GoalRow : Type 0 where
   pub left : State
   pub rights : List State

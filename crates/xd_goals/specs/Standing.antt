@@ -2,7 +2,8 @@
 use Rattle.std.specs.Prelude.{◌≡◌, ℕ, ◌<◌, ◌≤◌, ◌⊎◌, true, List, [], ◌++◌, map, length, Some, slice_get}
 use Rattle.std.specs.List.{list_any}
 use Rattle.xd_doc.specs.Document.{Document}
-use Rattle.xd_doc.specs.Stored.{BelongsTo, document_at}
+use Rattle.xd_doc.specs.Stored.{document_at}
+use Rattle.xd_doc.specs.StoredSeq.{BelongsTo}
 use Rattle.xd_doc.specs.declared.store.Seq.{Seq}
 use Rattle.xd_auto.specs.declared.auto.State.{State}
 use Rattle.xd_auto.specs.Automaton.{Automaton}
@@ -53,7 +54,8 @@ pub record IsChoiceOf (a : Automaton) (t : TableView) (owner : GoalCase) (c : Cl
 abbrev pub IsOpen : TableView → Choice → Type 0
 IsOpen t k = (tree : ChoiceTree) → StandsAt t.nodes k.root tree → AllLeaves (λ g. ¬ (IsRefuted t.rows g)) tree
 
--- a goal that has its choices: the empty document is covered, and there is one tree for each head and atom, in order
+-- a goal that has its choices: the empty document is covered, and there is one tree for each head
+-- and atom, in order
 pub record IsBegun (a : Automaton) (c : Claim State) (choices : List Choice) : Type 0 where
   pub last : is_last_in a c.left ≡ true → list_any (is_last_in a) c.rights ≡ true
   pub named : Named
@@ -64,8 +66,9 @@ pub record IsBegun (a : Automaton) (c : Claim State) (choices : List Choice) : T
 abbrev pub HasChoices : GoalRow → Type 0
 HasChoices row = (row.standing ≡ Holds) ⊎ (¬ (row.choices ≡ []))
 
--- What the table's goals say of the automaton, documents aside. A goal that waits again keeps its choices, so that work on it looks at those
--- alone that a refuted goal has broken; so they are asked to be right, too.
+-- What the table's goals say of the automaton, documents aside. A goal that waits again keeps its
+-- choices, so that work on it looks at those alone that a refuted goal has broken; so they are
+-- asked to be right, too.
 pub record StandsOnAutomaton (a : Automaton) (t : TableView) : Type 0 where
   pub states : RowsBelow (length a) t.rows
   pub begun : (i : ℕ) → HasChoices (row_at t.rows i) → IsBegun a (claim_of (row_at t.rows i)) (row_at t.rows i).choices

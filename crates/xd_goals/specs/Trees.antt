@@ -1,7 +1,8 @@
 -- How the choice trees of a table are made.
 use Rattle.std.specs.Prelude.{◌≡◌, ℕ, ◌<◌, Bool, true, false, ◌&&◌, List, [], ◌∷◌, Some, slice_get}
 use Rattle.xd_doc.specs.Document.{Document}
-use Rattle.xd_doc.specs.Stored.{BelongsTo, document_at}
+use Rattle.xd_doc.specs.Stored.{document_at}
+use Rattle.xd_doc.specs.StoredSeq.{BelongsTo}
 use Rattle.xd_doc.specs.declared.store.Seq.{Seq}
 use Rattle.xd_auto.specs.declared.auto.State.{State}
 use Rattle.xd_auto.specs.Automaton.{Automaton, accepts}
@@ -34,7 +35,8 @@ pub record IsFree (sides : List Side) (contents rests : List State) (side : Side
   pub content_free : ¬ (IsOneOf side.content contents)
   pub rest_free : ¬ (IsOneOf side.rest rests)
 
--- a tree over a content and a rest, on a path that put right heads on the two sides: it splits on one that is on neither, and each leaf's rights are its side
+-- a tree over a content and a rest, on a path that put right heads on the two sides: it splits on
+-- one that is on neither, and each leaf's rights are its side
 abbrev pub IsGrown : List GoalRow → Task → List Side → ChoiceTree → List State → List State → Type 0
 IsGrown rows task sides (ContentLeaf g) contents rests = claim_at rows g ≡ Some (claim_with task.content contents)
 IsGrown rows task sides (RestLeaf g) contents rests = claim_at rows g ≡ Some (claim_with task.rest rests)
@@ -58,7 +60,8 @@ abbrev pub IsTreeBySort : Bool → List GoalRow → Task → List Side → Choic
 IsTreeBySort true rows task sides tree = IsTextTree rows task sides tree
 IsTreeBySort false rows task sides tree = IsGrown rows task sides tree [] []
 
--- a tree of a case that stands in the table, each of whose leaves names a goal with the case among its dependents
+-- a tree of a case that stands in the table, each of whose leaves names a goal with the case among
+-- its dependents
 pub record HasTree (t : TableView) (Kind : ChoiceTree → Type 0) (owner : GoalCase) (root : ℕ) : Type 0 where
   pub tree : ChoiceTree
   pub stands : StandsAt t.nodes root tree

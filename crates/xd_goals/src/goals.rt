@@ -3,7 +3,7 @@
 ghost use Rattle.std.specs.Prelude.{◌≡◌, ℕ, ◌<◌, ◌++◌, ◌∷◌, [], cond, List, None, Some, Option, length, nat_eq, slice_set, false, true, slice_get, slice_index_or, IfOk, IfSome, IfNone, OnErr, OnOk, vec_len};
 ghost use Rattle.std.specs.Cmp.Lexicographic.{pointwise};
 ghost use Rattle.xd_auto.specs.Automaton.{state_number};
-ghost use Rattle.xd_doc.specs.Stored.{IsBelow};
+ghost use Rattle.xd_doc.specs.StoredSeq.{IsBelow};
 ghost use Rattle.xd_rules.specs.Moves.{AreBelow, claim_with};
 ghost use Rattle.xd_goals.specs.Rows.{IsListed, IsRefuted, NodeStands, claim_at, claim_key, new_row, row_at};
 ghost use Rattle.xd_goals.specs.Kept.{AreLinked, AreThese, BeginsWith, Grows, GrowsBy, IsConsistent, IsWoken, Refutes, found_at, view_of, with_choice, with_flag, with_mark, with_standing};
@@ -15,8 +15,8 @@ use std::collections::BTreeMap;
 use xd_auto::{State, StateKey};
 use xd_doc::{NoMemory, Seq};
 
-/// The goals, the nodes of their choice trees, the links of their lists of dependents, and the goals'
-/// numbers by their states.
+/// The goals, the nodes of their choice trees, the links of their lists of dependents, and the
+/// goals' numbers by their states.
 ///
 /// Nodes and links never change: a choice tree changes by new nodes, and its root is set last.
 #[derive(Drop)]
@@ -199,8 +199,8 @@ pub(crate) fn add_node(
     Ok(number)
 }
 
-/// Says that the goal holds by these choice trees, with a flag for each, as far as those hold that it
-/// rests on.
+/// Says that the goal holds by these choice trees, with a flag for each, as far as those hold that
+/// it rests on.
 pub(crate) fn hold(rows: &mut Vec<Row>, goal: GoalId, choices: Vec<Choice>, broken: Vec<bool>)
     requires { goal.number < length rows.old.items }
     ensures { rows.new.items ≡ slice_set rows.old.items goal.number (record (row_at rows.old.items goal.number) { standing = Standing.Holds; choices = choices.items; broken = broken.items }) }
@@ -220,7 +220,8 @@ fn set_choice_root(choices: &mut Vec<Choice>, place: usize, root: usize)
     choice.root = root;
 }
 
-/// Gives a case another choice tree, of which no leaf names a refuted goal, and takes its flag away.
+/// Gives a case another choice tree, of which no leaf names a refuted goal, and takes its flag
+/// away.
 pub(crate) fn set_root(rows: &mut Vec<Row>, case: GoalCase, root: usize)
     requires goal { case.goal.number < length rows.old.items }
     requires choice { case.place < length (row_at rows.old.items case.goal.number).choices }
@@ -241,8 +242,8 @@ pub(crate) fn set_standing(rows: &mut Vec<Row>, goal: GoalId, standing: Standing
     row.standing = standing;
 }
 
-/// Sets the flag of a case: a leaf of its tree may name a refuted goal. The case isn't there where work on
-/// a new goal was broken off.
+/// Sets the flag of a case: a leaf of its tree may name a refuted goal. The case isn't there where
+/// work on a new goal was broken off.
 fn set_flag(rows: &mut Vec<Row>, case: GoalCase)
     requires { case.goal.number < length rows.old.items }
     ensures { rows.new.items ≡ slice_set rows.old.items case.goal.number (with_flag case.place (row_at rows.old.items case.goal.number)) }
@@ -253,8 +254,8 @@ fn set_flag(rows: &mut Vec<Row>, case: GoalCase)
     }
 }
 
-/// Sets the flag of a case, and lets its goal wait where it holds. A goal that is settled stays as it
-/// is: no leaf of it names a refuted goal.
+/// Sets the flag of a case, and lets its goal wait where it holds. A goal that is settled stays as
+/// it is: no leaf of it names a refuted goal.
 fn wake(rows: &mut Vec<Row>, case: GoalCase)
     requires { case.goal.number < length rows.old.items }
     ensures { IsWoken (λ k. k ≡ case) rows.old.items rows.new.items }
@@ -293,8 +294,8 @@ fn wake_all(rows: &mut Vec<Row>, links: &[Link], first: Option<usize>)
     }
 }
 
-/// Refutes a goal by a document, sets the flags of the cases that depend on it, and lets those of their
-/// goals wait that hold. It takes no memory.
+/// Refutes a goal by a document, sets the flags of the cases that depend on it, and lets those of
+/// their goals wait that hold. It takes no memory.
 pub(crate) fn refute(rows: &mut Vec<Row>, links: &[Link], goal: GoalId, document: Seq)
     requires goal { goal.number < length rows.old.items }
     requires links { AreLinked rows.old.items links.now }

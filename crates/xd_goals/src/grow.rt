@@ -18,8 +18,8 @@ use xd_auto::{Answers, Auto, State};
 use xd_doc::{NoMemory, Seq, Store};
 use xd_rules::Side;
 
-/// What a choice tree is for: its case, what the left head says of the content and the rest, and the
-/// number of the automaton's states, of which only contracts speak.
+/// What a choice tree is for: its case, what the left head says of the content and the rest, and
+/// the number of the automaton's states, of which only contracts speak.
 #[derive(Clone, Copy)]
 pub(crate) struct Task {
     pub(crate) owner: GoalCase,
@@ -28,8 +28,8 @@ pub(crate) struct Task {
     pub(crate) states: usize,
 }
 
-/// What the choice tree of an element grows in: the automaton, the documents that refute goals, its task, and the right heads
-/// that match.
+/// What the choice tree of an element grows in: the automaton, the documents that refute goals, its
+/// task, and the right heads that match.
 #[derive(Clone, Copy)]
 pub(crate) struct Setting<'a> {
     pub(crate) auto: &'a Auto,
@@ -143,8 +143,8 @@ enum Growth {
 /// How a tree goes on from a path on which some of the matching right heads are on the two sides.
 ///
 /// Where the path's goals are refuted, by a content and a rest, only a head that takes the element
-/// made of these can help: the tree splits on such a one. No head on the path is such a one, and where
-/// there is none, the element separates.
+/// made of these can help: the tree splits on such a one. No head on the path is such a one, and
+/// where there is none, the element separates.
 fn next_growth(
     alloc: Global,
     setting: &Setting,
@@ -183,7 +183,8 @@ fn next_growth(
     }
 }
 
-/// A tree for an element, from a path on which some of the matching right heads are on the two sides.
+/// A tree for an element, from a path on which some of the matching right heads are on the two
+/// sides.
 pub(crate) fn grow(
     alloc: Global,
     setting: &Setting,

@@ -28,7 +28,8 @@ use xd_doc::{NoMemory, Seq, Store};
 /// the left alone.
 #[derive(Clone, Copy, Debug)]
 pub enum Verdict {
-    /// The goal's left and rights are those that were asked. It holds, and so do all goals that it leads to through leaves.
+    /// The goal's left and rights are those that were asked. It holds, and so do all goals that it
+    /// leads to through leaves.
     Included(GoalId),
     /// A document of the store that the left accepts and none of the rights does.
     Separated(Seq),
@@ -36,12 +37,14 @@ pub enum Verdict {
 
 /// Whether every document that `left` accepts is accepted by one of `rights`.
 ///
-/// The table stands on this automaton and this store, as a new one does ([`new_tables_stand`]), as one does that earlier calls have
-/// left, and as one goes on to do while both grow ([`tables_stay_standing`]).
+/// The table stands on this automaton and this store, as a new one does ([`new_tables_stand`]), as
+/// one does that earlier calls have left, and as one goes on to do while both grow
+/// ([`tables_stay_standing`]).
 ///
 /// Goals and documents that earlier calls left in the table and the store are used again. There is
-/// no bound on time: a table may have a goal for each state with each set of states, beside those that were asked.
-/// After `NoMemory`, which also stands for the number of a head that fits no usize, the table may be used again.
+/// no bound on time: a table may have a goal for each state with each set of states, beside those
+/// that were asked. After `NoMemory`, which also stands for the number of a head that fits no
+/// usize, the table may be used again.
 ///
 /// [`new_tables_stand`]: crate::new_tables_stand
 /// [`tables_stay_standing`]: crate::tables_stay_standing
@@ -123,7 +126,8 @@ fn settle(
 }
 
 /// Works on a goal that waits, on those of an agenda, on those that are made for them, and on those
-/// that wait again because of a refutation, until none is left or the goal that was asked is refuted.
+/// that wait again because of a refutation, until none is left or the goal that was asked is
+/// refuted.
 fn run(
     alloc: Global,
     auto: &Auto,
@@ -158,7 +162,8 @@ fn run(
     Ok(())
 }
 
-/// Works on a goal that waits, and puts those that have to be worked on because of it on the agenda.
+/// Works on a goal that waits, and puts those that have to be worked on because of it on the
+/// agenda.
 fn step(
     alloc: Global,
     auto: &Auto,

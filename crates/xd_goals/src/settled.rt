@@ -85,8 +85,8 @@ pub(crate) fn no_marks(alloc: Global, count: usize) -> Result<Vec<bool>, NoMemor
     Ok(marks)
 }
 
-/// What a walk found: the goals that it reached, in the order in which it did, and those of them that
-/// wait.
+/// What a walk found: the goals that it reached, in the order in which it did, and those of them
+/// that wait.
 #[derive(Drop)]
 struct Walked {
     order: Vec<usize>,
@@ -143,9 +143,9 @@ fn is_settled(rows: &[Row], goal: GoalId) -> bool
     row.settled
 }
 
-/// The goals that wait among those that a goal leads to through leaves, as far as they are known. Where
-/// none does, the goal and those that it leads to are settled from now on, and no later walk goes on
-/// behind them.
+/// The goals that wait among those that a goal leads to through leaves, as far as they are known.
+/// Where none does, the goal and those that it leads to are settled from now on, and no later walk
+/// goes on behind them.
 pub(crate) fn unsettled(
     alloc: Global,
     goals: &mut Goals,

@@ -3,7 +3,7 @@
 ghost use Rattle.std.specs.Prelude.{◌≡◌, ◌<◌, [], length, Some, slice_get};
 ghost use Rattle.std.specs.List.{AllByRecursion};
 ghost use Rattle.std.specs.Option.{IfSome};
-ghost use Rattle.xd_doc.specs.Stored.{IsBelow};
+ghost use Rattle.xd_doc.specs.StoredSeq.{IsBelow};
 ghost use Rattle.xd_goals.specs.Rows.{HasRoot, NodeStands, no_view, row_at};
 
 use crate::goals::Goals;
@@ -32,13 +32,15 @@ pub(crate) struct GoalCase {
 pub enum Standing {
     /// Its choice trees say why it is true, as far as the goals are that their leaves name.
     Holds,
-    /// The document, of the table's store, is one that the left accepts and none of the rights does.
+    /// The document, of the table's store, is one that the left accepts and none of the rights
+    /// does.
     Refuted(Seq),
     /// Work on it is still to be done.
     Waiting,
 }
 
-/// The choice tree of a goal for a head of its left, by its number from 1 on, at an atom of the head.
+/// The choice tree of a goal for a head of its left, by its number from 1 on, at an atom of the
+/// head.
 #[derive(Debug, Drop)]
 pub struct Choice {
     pub head: usize,
@@ -46,8 +48,8 @@ pub struct Choice {
     pub root: usize,
 }
 
-/// A node of a choice tree: a right head, by its number from 1 on, is put on the content's side in one
-/// branch and on the rest's in the other; or a goal settles the content, or the rest.
+/// A node of a choice tree: a right head, by its number from 1 on, is put on the content's side in
+/// one branch and on the rest's in the other; or a goal settles the content, or the rest.
 #[derive(Clone, Copy, Debug)]
 pub enum ChoiceNode {
     /// The head, and the nodes at which the two branches begin.
@@ -62,9 +64,9 @@ pub enum ChoiceNode {
     Rest(GoalId),
 }
 
-/// A goal, its choice trees, for each of these a flag that is set where a leaf may name a refuted goal,
-/// where the list of the goal's dependents begins, and a mark that is set where it holds and leads
-/// through leaves to goals alone that are marked, so that it holds for good.
+/// A goal, its choice trees, for each of these a flag that is set where a leaf may name a refuted
+/// goal, where the list of the goal's dependents begins, and a mark that is set where it holds and
+/// leads through leaves to goals alone that are marked, so that it holds for good.
 #[derive(Drop)]
 pub(crate) struct Row {
     pub(crate) left: State,
@@ -131,9 +133,11 @@ impl Table {
         }
     }
 
-    /// What is so of every table, whatever automaton its goals speak of: no two goals are alike, a tree stands at the root of each
-    /// choice, its case is among the dependents of each goal that a leaf names, no leaf of a goal that holds names a
-    /// refuted one, and goals that are kept as settled hold and lead through leaves to such goals alone. The call does nothing; its contract is the law.
+    /// What is so of every table, whatever automaton its goals speak of: no two goals are alike, a
+    /// tree stands at the root of each choice, its case is among the dependents of each goal that a
+    /// leaf names, no leaf of a goal that holds names a refuted one, and goals that are kept as
+    /// settled hold and lead through leaves to such goals alone. The call does nothing; its
+    /// contract is the law.
     pub fn see_lists(&self)
         ensures { KeepsLists self.now }
     {
@@ -183,7 +187,8 @@ impl Table {
         row.standing
     }
 
-    /// Its choice trees, in order of head number, then of atom. A goal that waits again has those that it had when it held.
+    /// Its choice trees, in order of head number, then of atom. A goal that waits again has those
+    /// that it had when it held.
     pub fn choices(&self, goal: GoalId) -> &[Choice]
         requires { goal.number < length self.now.rows }
         ensures choices { result.now ≡ (row_at self.now.rows goal.number).choices }
@@ -193,8 +198,9 @@ impl Table {
         row.choices.as_slice()
     }
 
-    /// A node of a choice tree, by its number: the root of a choice ([`Self::choices`]), or a branch of a split that this call
-    /// gave. The branches of a split have lower numbers, and the goal of a leaf is one of the table.
+    /// A node of a choice tree, by its number: the root of a choice ([`Self::choices`]), or a
+    /// branch of a split that this call gave. The branches of a split have lower numbers, and the
+    /// goal of a leaf is one of the table.
     pub fn choice_node(&self, number: usize) -> ChoiceNode
         requires { number < length self.now.nodes }
         ensures node { slice_get self.now.nodes number ≡ Some result }
@@ -203,8 +209,8 @@ impl Table {
         self.goals.nodes[number]
     }
 
-    /// Where the list of the goals that depend on this one begins; `None` exactly where there are none.
-    /// A goal may come more than once, for one of its cases or for several.
+    /// Where the list of the goals that depend on this one begins; `None` exactly where there are
+    /// none. A goal may come more than once, for one of its cases or for several.
     pub fn first_dependent(&self, goal: GoalId) -> Option<usize>
         requires { goal.number < length self.now.rows }
         ensures value { result ≡ (row_at self.now.rows goal.number).dependents }

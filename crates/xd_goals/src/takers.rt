@@ -2,7 +2,7 @@
 
 ghost use Rattle.std.specs.Prelude.{◌≡◌, false, IfOk, MatchOption};
 ghost use Rattle.std.specs.List.{AllByRecursion};
-ghost use Rattle.xd_doc.specs.Stored.{BelongsTo};
+ghost use Rattle.xd_doc.specs.StoredSeq.{BelongsTo};
 ghost use Rattle.xd_auto.specs.Automaton.{IsState};
 ghost use Rattle.xd_auto.specs.Kept.{AreRight};
 ghost use Rattle.xd_goals.specs.Trees.{IsTaker, takes};
@@ -66,8 +66,8 @@ fn all_taken(auto: &Auto, labels: &[Label], states: &[State], more: State) -> bo
     true
 }
 
-/// Whether some states, with one more, have a move on each label that a move of the left names, as they
-/// must where they accept all that the left does.
+/// Whether some states, with one more, have a move on each label that a move of the left names, as
+/// they must where they accept all that the left does.
 fn looks_covered(auto: &Auto, left: State, states: &[State], more: State) -> bool
     requires left { IsState auto.now left }
     requires states { AllByRecursion (IsState auto.now) states.now }
@@ -81,13 +81,13 @@ fn looks_covered(auto: &Auto, left: State, states: &[State], more: State) -> boo
     true
 }
 
-/// A right head that takes the element: the first one with which the two sides look as if they could do
-/// without another head, and where there is none such, the first of all. Where only the last one takes
-/// it, there is no choice, and nothing is looked at.
+/// A right head that takes the element: the first one with which the two sides look as if they
+/// could do without another head, and where there is none such, the first of all. Where only the
+/// last one takes it, there is no choice, and nothing is looked at.
 ///
-/// A head that takes the element may be too small for what the left head has. The goals that it leads to
-/// are refuted in the end, and until then they lead to others, which stay. So a head that lacks a label right at
-/// the beginning is put off.
+/// A head that takes the element may be too small for what the left head has. The goals that it
+/// leads to are refuted in the end, and until then they lead to others, which stay. So a head that
+/// lacks a label right at the beginning is put off.
 pub(crate) fn taker(
     setting: &Setting,
     answers: &mut Answers,

@@ -2,7 +2,8 @@
 
 ghost use Rattle.std.specs.Prelude.{◌≡◌, ◌<◌, [], false, true, length, IfOk, OnOk, Some, slice_get};
 ghost use Rattle.std.specs.List.{AllByRecursion, list_any};
-ghost use Rattle.xd_doc.specs.Stored.{BelongsTo, document_at};
+ghost use Rattle.xd_doc.specs.Stored.{document_at};
+ghost use Rattle.xd_doc.specs.StoredSeq.{BelongsTo};
 ghost use Rattle.xd_doc.specs.StoreNodes.{Keeps};
 ghost use Rattle.xd_auto.specs.Automaton.{IsState};
 ghost use Rattle.xd_auto.specs.Kept.{AreRight};
@@ -131,8 +132,8 @@ fn begin_case(
     }
 }
 
-/// A case for which there is no tree: an atom of a head, with a content and a rest for a document that
-/// separates.
+/// A case for which there is no tree: an atom of a head, with a content and a rest for a document
+/// that separates.
 #[derive(Drop)]
 struct Failure {
     atom: Atom,
@@ -162,8 +163,8 @@ fn case_end(head: usize, atom: &Atom, grown: Grown) -> Result<CaseEnd, NoMemory>
     }
 }
 
-/// Trees for all cases of a goal, none of whose leaves names a refuted goal; or a case for which there
-/// is none.
+/// Trees for all cases of a goal, none of whose leaves names a refuted goal; or a case for which
+/// there is none.
 #[derive(Drop)]
 enum Settled {
     Holds(Vec<Choice>),
@@ -433,8 +434,8 @@ fn begin_goal(
     }
 }
 
-/// Brings a goal that waits again to hold, or to be refuted where a case of it fails. It looks at the
-/// cases alone whose flags are set.
+/// Brings a goal that waits again to hold, or to be refuted where a case of it fails. It looks at
+/// the cases alone whose flags are set.
 fn mend_goal(
     alloc: Global,
     auto: &Auto,

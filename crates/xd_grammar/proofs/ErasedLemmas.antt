@@ -1,9 +1,11 @@
 -- The rules of longest match leave which tokens begin a symbol as it is.
 --
--- One direction drops conditions. For the other a derivation that minds no next token is followed token by token. A row that
--- forbids a token may be taken where nothing behind it begins with that token, which a test of the grammar tells (`is_right`).
--- Only items and clauses of a match in another's body are left: where the inner repetition was left out before a comma or a bar
--- and an outer one takes it, the inner one can take it too, since all that stands between them can be left out (`Absorbs`).
+-- One direction drops conditions. For the other a derivation that minds no next token is followed
+-- token by token. A row that forbids a token may be taken where nothing behind it begins with that
+-- token, which a test of the grammar tells (`is_right`). Only items and clauses of a match in
+-- another's body are left: where the inner repetition was left out before a comma or a bar and an
+-- outer one takes it, the inner one can take it too, since all that stands between them can be left
+-- out (`Absorbs`).
 use Rattle.std.proofs.Common.{◌≡◌, ◌≢◌, ◌≤◌, ◌==◌, ◌+◌, ◌⊎◌, ℕ, zero, suc, ◌++◌, Bool, true, false, cond, map, length, List, [], ◌∷◌, refl, sym, ap, subst, ◌∙◌, append_assoc, inl, inr, arith}
 use Rattle.std.proofs.lemmas.Bool.{eqb-true, false≢true}
 use Rattle.xd_doc.proofs.Lists.{not_nil, same_first, same_rest}
@@ -66,7 +68,8 @@ abbrev has : Terminal → List Terminal → Bool
 has j [] = false
 has j (k ∷ ks) = cond (same j k) true (has j ks)
 
--- The tokens that do not come directly behind a symbol: by each a text of the symbol goes on, or could not end.
+-- The tokens that do not come directly behind a symbol: by each a text of the symbol goes on, or
+-- could not end.
 abbrev behind_post : List Terminal
 behind_post = t.As ∷ t.Star ∷ t.Plus ∷ t.Query ∷ t.BracketL ∷ []
 
@@ -332,7 +335,8 @@ Deep (Closed ∷ row) d = lower (Bare row) (Deep row) d
 Deep (Unless j ∷ row) d = Deep row d
 Deep (Part part ∷ row) d = turned (turn part) (Bare row) (Deep row) d
 
--- The row leads from so many levels to a number that passes the test. It closes none below, or else that is the end of it.
+-- The row leads from so many levels to a number that passes the test. It closes none below, or else
+-- that is the end of it.
 abbrev is_bare : Row → Bool
 is_bare [] = true
 is_bare (Closed ∷ row) = is_bare row

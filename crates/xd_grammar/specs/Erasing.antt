@@ -1,4 +1,5 @@
--- Which tokens begin a symbol by its productions alone: the rows without the rules of longest match and without levels of nesting.
+-- Which tokens begin a symbol by its productions alone: the rows without the rules of longest match
+-- and without levels of nesting.
 use Rattle.std.specs.Prelude.{◌++◌, ◌↔◌, ℕ, map, List, [], ◌∷◌}
 use Rattle.xd_grammar.specs.declared.grammar.Nonterminal.{Nonterminal}
 use Rattle.xd_grammar.specs.declared.grammar.Symbol.TheVariants.{Token, Opening, Closed, Unless, Part}
@@ -23,12 +24,14 @@ pub data Starts : Row → List Terminal → Type 0 where
   symbol : {k : Terminal} {row : Row} {ts : List Terminal} → Starts row ts → Starts (Token k ∷ row) (k ∷ ts)
   choice : {part : Nonterminal} (made : Row) {row : Row} {ts : List Terminal} → IsOneOf made (productions part) → Starts (made ++ row) ts → Starts (Part part ∷ row) ts
 
--- the levels that are open where a symbol begins: that of its parenthesis, for the rest of a list behind `^(`
+-- the levels that are open where a symbol begins: that of its parenthesis, for the rest of a list
+-- behind `^(`
 abbrev pub opened : Nonterminal → ℕ
 opened (n.ExceptedList s) = 1
 opened part = 0
 
--- The rules of longest match choose between derivations of the same tokens: they leave which tokens begin a symbol as it is.
--- Only where a limit is set do they count, since they say where a match ends and so how many levels are open.
+-- The rules of longest match choose between derivations of the same tokens: they leave which tokens
+-- begin a symbol as it is. Only where a limit is set do they count, since they say where a match
+-- ends and so how many levels are open.
 abbrev pub LongestMatchOnlyChooses : Type 0
 LongestMatchOnlyChooses = (part : Nonterminal) (ts : List Terminal) → ((limit : ℕ) × Derives Front limit (opened part) (Part part ∷ []) ts) ↔ Starts (Part part ∷ []) ts

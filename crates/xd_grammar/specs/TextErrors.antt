@@ -20,7 +20,8 @@ is_text n.Definitions = true
 is_text n.TypeText = true
 is_text part = false
 
--- Why a text was refused: this is its first fault, and it is no text of the nonterminal; nothing is said of memory.
+-- Why a text was refused: this is its first fault, and it is no text of the nonterminal; nothing is
+-- said of memory.
 abbrev pub IsTextError : Nonterminal → List ℕ → TextError → Type 0
 IsTextError part bytes (Fault fault) = IsTextFault part bytes fault × ¬ (SpellsText part bytes)
 IsTextError part bytes NoMemory = Unit {0}

@@ -4,7 +4,8 @@ ghost use Rattle.std.specs.Prelude.{◌≡◌, map};
 ghost use Rattle.xd_grammar.specs.Grammar.{rules};
 ghost use Rattle.xd_grammar.specs.Rows.{rows_now};
 
-/// What a token is to the grammar: each keyword is a terminal of its own, and `Word` is any other word.
+/// What a token is to the grammar: each keyword is a terminal of its own, and `Word` is any other
+/// word.
 #[derive(Clone, Copy, PartialEq, Eq)]
 pub enum Terminal {
     Type,
@@ -105,7 +106,8 @@ macro_rules! rows_at {
     ($sort:path, Content) => { &[&[Token(BracketR), Closed], &[Part(Alternative($sort)), Token(BracketR), Closed]] };
 }
 
-/// The rows of a nonterminal of types or patterns, whichever is read. Rows are constants, so each is there for both.
+/// The rows of a nonterminal of types or patterns, whichever is read. Rows are constants, so each
+/// is there for both.
 macro_rules! rows_of {
     ($sort:expr, $part:ident) => {
         match $sort {

@@ -1,7 +1,9 @@
-//! Reads tokens against the grammar, one after the other, by a stack of the symbols that are still to come.
+//! Reads tokens against the grammar, one after the other, by a stack of the symbols that are still
+//! to come.
 //!
-//! The next token settles which rule a symbol takes, but for a `(` in a type or a pattern: it begins the labels of a
-//! class, or a type in parentheses. As long as the tokens may be both, the reader keeps both in its `Reading`.
+//! The next token settles which rule a symbol takes, but for a `(` in a type or a pattern: it
+//! begins the labels of a class, or a type in parentheses. As long as the tokens may be both, the
+//! reader keeps both in its `Reading`.
 
 ghost use Rattle.std.specs.Prelude.{◌≡◌, ◌++◌, ◌<◌, ◌≤◌, drop, length, reverse, IfOk, OnOk, MatchOption, None, Some};
 ghost use Rattle.xd_grammar.specs.Fits.{same, fits, first_fit, work};
@@ -120,8 +122,8 @@ fn begins_with_token(row: &[Symbol]) -> bool
     }
 }
 
-/// Puts a row on the stack that lets the token come next. Its tests are passed, so they are left out, and if a token is then
-/// its first symbol, it is this one, and is taken.
+/// Puts a row on the stack that lets the token come next. Its tests are passed, so they are left
+/// out, and if a token is then its first symbol, it is this one, and is taken.
 fn push_fit(stack: &mut Vec<Symbol>, row: &[Symbol]) -> Result<Option<Step>, NoMemory>
     ensures step { IfOk result (λ done. done ≡ front_step (without_tests row.now)) }
     ensures stack { OnOk result (reverse stack.new.items ≡ behind_token (without_tests row.now) ++ reverse stack.old.items) }
@@ -160,7 +162,8 @@ fn enter(depth: &mut usize, reading: Reading) -> Step
     }
 }
 
-/// Takes the symbol `top` off the stack: what the token does, or nothing where the symbol was no token.
+/// Takes the symbol `top` off the stack: what the token does, or nothing where the symbol was no
+/// token.
 fn turn(
     stack: &mut Vec<Symbol>,
     depth: &mut usize,
@@ -379,8 +382,8 @@ pub struct Machine {
     pub depth: usize,
 }
 
-/// What the next token does. The reading of the `Step` is not put in its place yet. After `Syntax`, `TooDeep` and
-/// want of memory the machine has no use.
+/// What the next token does. The reading of the `Step` is not put in its place yet. After `Syntax`,
+/// `TooDeep` and want of memory the machine has no use.
 pub fn advance(machine: &mut Machine, kind: Terminal) -> Result<Step, NoMemory>
     ensures { IfOk result (λ step. Advances machine.old.reading machine.old.depth (reverse machine.old.stack.items) kind step machine.new.depth (reverse machine.new.stack.items)) }
 {

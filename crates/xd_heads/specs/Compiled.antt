@@ -34,7 +34,8 @@ pub record GetsState (types : List Row) (ds : List TypeDef) (cells : List Cell) 
   pub added : ((new ≡ old) × (new_auto ≡ old_auto)) ⊎ ((new ≡ old ++ number ∷ []) × (new_auto ≡ old_auto ++ fresh_state types ds cells number ∷ []))
   pub there : number_at new (state_number s) ≡ Some number
 
--- the continuation may be that of a state: it is no deeper than a text may be nested, where the types are not
+-- the continuation may be that of a state: it is no deeper than a text may be nested, where the
+-- types are not
 abbrev pub IsOfState : List Row → List Tree → Type 0
 IsOfState types K = IsContinuation K × (IsShallow types → depth (seq_of K) ≤ nesting_limit)
 
@@ -51,7 +52,8 @@ pub record SparesOthers (from : State) (old new : Automaton) : Type 0 where
   pub longer : length old ≤ length new
   pub stay : (n : ℕ) → n < length old → (n ≡ state_number from → ⊥) → state_at new n ≡ state_at old n
 
--- All states have their flags, those below this one have their moves, this one has these moves, and the others have none yet.
+-- All states have their flags, those below this one have their moves, this one has these moves, and
+-- the others have none yet.
 pub record AreCompiled (types : List Row) (ds : List TypeDef) (cells : List Cell) (states : List ℕ) (auto : Automaton) (done : ℕ) (known : List Move) : Type 0 where
   pub aligned : length auto ≡ length states
   pub numbers : AllByRecursion (IsOfCell (length cells)) states

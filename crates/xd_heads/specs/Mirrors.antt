@@ -36,8 +36,9 @@ IsTypeState c s = (n : ℕ) × (number_at c.states (state_number s) ≡ Some n)
 pub record KeepsStates (old_types new_types : List Row) (old new : CellsView) : Type 0 where
   pub types : (s : State) (T : Tree) → continuation_of old_types old s ≡ Some T → continuation_of new_types new s ≡ Some T
 
--- The moves on an element are, in order, the heads that are elements, and those on a text the heads that are texts: each has the head's
--- class, and leads to states whose continuations are the head's content and the head's rest.
+-- The moves on an element are, in order, the heads that are elements, and those on a text the heads
+-- that are texts: each has the head's class, and leads to states whose continuations are the head's
+-- content and the head's rest.
 pub data AreHeadMoves (C : State → Option Tree) : List Head → List LabelMove → List TextMove → Type 0 where
   no_head : AreHeadMoves C [] [] []
   element_head : {h : Head} {hs : List Head} {l : LabelMove} {ls : List LabelMove} {ts : List TextMove} →
@@ -45,15 +46,17 @@ pub data AreHeadMoves (C : State → Option Tree) : List Head → List LabelMove
   text_head : {h : Head} {hs : List Head} {ls : List LabelMove} {t : TextMove} {ts : List TextMove} →
       h.kind ≡ text_in t.words → C t.rest ≡ Some h.rest → AreHeadMoves C hs ls ts → AreHeadMoves C (h ∷ hs) ls (t ∷ ts)
 
--- the continuations that are kept are lists of pieces of the program's types, and short enough for the next compilation to end
+-- the continuations that are kept are lists of pieces of the program's types, and short enough for
+-- the next compilation to end
 pub record AreKeptCells (p : ProgramTable) (c : CellsView) : Type 0 where
   pub numbers : AllByRecursion (IsOfCell (length c.cells)) c.states
   pub nodes : AreOfTypes p.types c.cells
   pub pieces : (n k : ℕ) → number_at c.states n ≡ Some k → IsContinuation (continuation p.types c.cells k)
   pub bounded : AreBounded (names_of (program_tree p)) (nodes_in p.types) p.types c.cells
 
--- Cells mirror an automaton on a program: each state has a continuation, which is no deeper than a text may be nested, where the
--- program's types are not; the state's flag says whether the continuation can be empty; and its moves are the continuation's heads.
+-- Cells mirror an automaton on a program: each state has a continuation, which is no deeper than a
+-- text may be nested, where the program's types are not; the state's flag says whether the
+-- continuation can be empty; and its moves are the continuation's heads.
 pub record Mirrors (p : ProgramTable) (c : CellsView) (a : Automaton) : Type 0 where
   pub states : length a ≡ length c.states
   pub shallow : IsShallow p.types → (s : State) (T : Tree) → continuation_of p.types c s ≡ Some T → depth T ≤ nesting_limit

@@ -30,8 +30,8 @@ Tell types cells = (m n : ℕ) (T U : Tree) → IsNumberIn types cells m T → I
 abbrev pub AreNodeNumbers : List Row → List Cell → ℕ → List ℕ → Type 0
 AreNodeNumbers types cells n numbers = (i : ℕ) → i < n → IsNumberIn types cells (number_at numbers i) (tree_at types i)
 
--- The program is sound, what the lister knows of it is right, and equal continuations are one: each cell stands once, and its piece is the one
--- that stands for all of its type.
+-- The program is sound, what the lister knows of it is right, and equal continuations are one: each
+-- cell stands once, and its piece is the one that stands for all of its type.
 pub record Serves (p : ProgramTable) (l : HeadLister) : Type 0 where
   pub sound : IsSound (program_tree p)
   pub known : AreKnownTypes p.types p.type_defs (record { names = l.bodies.names; empty_marks = l.empty_marks })

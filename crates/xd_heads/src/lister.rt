@@ -22,8 +22,8 @@ use xd_moves::{Continuations, FirstPieces, Found, TypeBodies, content};
 use xd_sound::{KnownTypes, SoundProgram};
 use xd_syntax::{Program, TypeId, Types};
 
-/// How documents that fit a type begin: what the first item is, what stands in it, and what follows it. Content and rest are
-/// given by the numbers that a `HeadLister` has for them.
+/// How documents that fit a type begin: what the first item is, what stands in it, and what follows
+/// it. Content and rest are given by the numbers that a `HeadLister` has for them.
 #[derive(Drop)]
 pub struct NumberedHead {
     pub kind: HeadKind,
@@ -31,11 +31,12 @@ pub struct NumberedHead {
     pub rest: usize,
 }
 
-/// Lists the heads of types of one program, one type after the other, and numbers types: equal types have one number.
+/// Lists the heads of types of one program, one type after the other, and numbers types: equal
+/// types have one number.
 ///
-/// A number is that of a continuation, a list of pieces that is kept once, as a piece and an older continuation. So the rests of
-/// a long sequence cost no more than the sequence, and no type is added to the program for them. After want of memory a lister has
-/// no use.
+/// A number is that of a continuation, a list of pieces that is kept once, as a piece and an older
+/// continuation. So the rests of a long sequence cost no more than the sequence, and no type is
+/// added to the program for them. After want of memory a lister has no use.
 #[derive(Drop)]
 pub struct HeadLister {
     alloc: Global,
@@ -70,7 +71,8 @@ fn number_nodes(
 }
 
 impl HeadLister {
-    /// One for the types that the program has now. What `Any` stands for is added to it, and stays there after `NoMemory`, too.
+    /// One for the types that the program has now. What `Any` stands for is added to it, and stays
+    /// there after `NoMemory`, too.
     pub fn new(alloc: Global, sound: &mut SoundProgram) -> Result<Self, NoMemory>
         ensures serves { IfOk result (Serves sound.new) }
         ensures adds { AddsTypes sound.old sound.new }
@@ -117,10 +119,12 @@ impl HeadLister {
         self.cells.len()
     }
 
-    /// The heads of a type, in order, repetitions kept (after Hosoya, Vouillon and Pierce, TOPLAS 2005).
+    /// The heads of a type, in order, repetitions kept (after Hosoya, Vouillon and Pierce, TOPLAS
+    /// 2005).
     ///
-    /// The program is the one that the lister was made of, with the types that it had then. The lister does no recursion, over names
-    /// or over the parts of a sequence. After `NoMemory` nothing is known of it any more.
+    /// The program is the one that the lister was made of, with the types that it had then. The
+    /// lister does no recursion, over names or over the parts of a sequence. After `NoMemory`
+    /// nothing is known of it any more.
     pub fn heads(&mut self, program: &Program, id: TypeId) -> Result<Vec<NumberedHead>, NoMemory>
         requires belongs { BelongsTo program.now.types id }
         requires serves { Serves program.now self.old }

@@ -31,7 +31,8 @@ use xd_moves::{Continuations, Found, StandIns, Themselves, TypeBodies, content, 
 use xd_sound::{KnownTypes, SoundProgram};
 use xd_syntax::{Program, TypeForm, TypeId, Types};
 
-/// What the first item of a document is: an element whose label is in the class, or a text that is in the class.
+/// What the first item of a document is: an element whose label is in the class, or a text that is
+/// in the class.
 #[derive(Drop)]
 pub enum HeadKind {
     /// An element, whose label is in this class.
@@ -40,8 +41,8 @@ pub enum HeadKind {
     Text(Words),
 }
 
-/// How documents that fit a type begin: what the first item is, what stands in it, and what follows it. The content of a
-/// text is the empty type.
+/// How documents that fit a type begin: what the first item is, what stands in it, and what follows
+/// it. The content of a text is the empty type.
 #[derive(Drop)]
 pub struct Head {
     pub kind: HeadKind,
@@ -49,11 +50,13 @@ pub struct Head {
     pub rest: TypeId,
 }
 
-/// The heads of a type, in order, repetitions kept (after Hosoya, Vouillon and Pierce, TOPLAS 2005).
+/// The heads of a type, in order, repetitions kept (after Hosoya, Vouillon and Pierce, TOPLAS
+/// 2005).
 ///
-/// Contents and rests are types of the program; types are added to it for them, one for each rest. It does no recursion, over
-/// names or over the parts of a sequence. Which types can be empty is found once for a program, and not anew in each call.
-/// After `NoMemory` the program has more types at most.
+/// Contents and rests are types of the program; types are added to it for them, one for each rest.
+/// It does no recursion, over names or over the parts of a sequence. Which types can be empty is
+/// found once for a program, and not anew in each call. After `NoMemory` the program has more types
+/// at most.
 pub fn heads(alloc: Global, sound: &mut SoundProgram, id: TypeId) -> Result<Vec<Head>, NoMemory>
     requires { BelongsTo sound.old.types id }
     ensures heads { IfOk result (λ found. map (head_at sound.new.types) found.items ≡ heads (names_of (program_tree sound.old)) (tree sound.old.types id)) }

@@ -11,7 +11,8 @@ use std::alloc::Global;
 use std::marker::Model;
 use xd_doc::NoMemory;
 
-/// The number of each state's continuation, in the order of the states. Each continuation has one state at most.
+/// The number of each state's continuation, in the order of the states. Each continuation has one
+/// state at most.
 #[derive(Drop)]
 pub(crate) struct States {
     numbers: IndexSet<usize>,

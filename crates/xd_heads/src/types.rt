@@ -32,8 +32,8 @@ use xd_syntax::{Program, TypeId};
 
 /// The continuations of an automaton's states.
 ///
-/// A continuation is what is still to come of a type: a list of its pieces. Each is kept once, as a piece and an older
-/// continuation, so that recursive types share states.
+/// A continuation is what is still to come of a type: a list of its pieces. Each is kept once, as a
+/// piece and an older continuation, so that recursive types share states.
 #[derive(Drop)]
 pub struct Cells {
     continuations: Continuations,
@@ -64,7 +64,8 @@ impl Cells {
         }
     }
 
-    /// The continuation of a state, as a type of the program; types are added to it for that, and stay after `NoMemory`, too.
+    /// The continuation of a state, as a type of the program; types are added to it for that, and
+    /// stay after `NoMemory`, too.
     ///
     /// The cells mirror an automaton on this program, and the state is one of that automaton.
     pub fn state_type(&self, sound: &mut SoundProgram, state: State) -> Result<TypeId, NoMemory>
@@ -88,12 +89,14 @@ impl Cells {
 
 /// A state that accepts exactly what fits a type, with all states that it leads to.
 ///
-/// The cells mirror the automaton on this program (`Mirrors`), as new cells mirror a new automaton, and as they do after each call
-/// that was answered with a state. States are shared: a continuation that has a state gets no other. It does no recursion, over names or over the parts of a
-/// sequence. Old states keep their flags, their moves in order and what they accept, after want of memory too; then nothing
-/// is known of the cells any more.
+/// The cells mirror the automaton on this program (`Mirrors`), as new cells mirror a new automaton,
+/// and as they do after each call that was answered with a state. States are shared: a continuation
+/// that has a state gets no other. It does no recursion, over names or over the parts of a
+/// sequence. Old states keep their flags, their moves in order and what they accept, after want of
+/// memory too; then nothing is known of the cells any more.
 ///
-/// (Types as automata are those of Hosoya, Vouillon and Pierce, TOPLAS 2005; states for lists of pieces are this project's own.)
+/// (Types as automata are those of Hosoya, Vouillon and Pierce, TOPLAS 2005; states for lists of
+/// pieces are this project's own.)
 pub fn compile_type(
     alloc: Global,
     sound: &mut SoundProgram,

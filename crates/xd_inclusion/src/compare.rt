@@ -24,7 +24,8 @@ use xd_syntax::TypeId;
 /// What the comparison of two types comes to.
 #[derive(Drop)]
 pub enum Inclusion {
-    /// Every document of the left type is one of the right: a proof text of that, in the second format.
+    /// Every document of the left type is one of the right: a proof text of that, in the second
+    /// format.
     Proved(Vec<u8>),
     /// A least document of those of the left type that are none of the right.
     Separated(Seq),

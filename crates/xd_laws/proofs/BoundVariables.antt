@@ -1,5 +1,5 @@
--- What the ways of a pattern bind: proper documents, to the pattern's variables alone, and to each of them where the
--- pattern is linear.
+-- What the ways of a pattern bind: proper documents, to the pattern's variables alone, and to each
+-- of them where the pattern is linear.
 use Rattle.std.proofs.Common.{◌≡◌, ℕ, Bool, true, false, cond, ◌||◌, ◌&&◌, ◌⊎◌, inl, inr, List, [], ◌∷◌, ◌++◌, Some, refl, ap, sym, subst, ◌∙◌}
 use Rattle.std.specs.Str.{bytes_eq, is_utf8}
 use Rattle.xd_doc.specs.Word.{is_word}

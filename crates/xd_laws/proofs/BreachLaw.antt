@@ -1,4 +1,5 @@
--- What is computed is the first breach; and there is a first breach exactly where the rules do not hold.
+-- What is computed is the first breach; and there is a first breach exactly where the rules do not
+-- hold.
 use Rattle.std.proofs.Common.{◌≡◌, ℕ, suc, ◌+◌, arith, Bool, true, false, not, ◌&&◌, ◌||◌, nat_eq, List, [], ◌∷◌, map, Option, Some, None, refl, ap, sym, subst, ◌∙◌, ◌⊎◌, inl, inr}
 use Rattle.std.specs.List.{AllByRecursion}
 use Rattle.std.proofs.lemmas.Bool.{eq-eqb, eqb-true}

@@ -1,4 +1,5 @@
--- Programs whose faults of matches, arguments and results, and whose warnings, are what they should be, and no others.
+-- Programs whose faults of matches, arguments and results, and whose warnings, are what they should
+-- be, and no others.
 use Rattle.std.proofs.Common.{◌≡◌, ℕ, true, false, ◌&&◌, inl, inr, List, [], ◌∷◌, ◌++◌, refl, ap, subst, ◌∙◌}
 use Rattle.std.specs.Prelude.{codes}
 use Rattle.xd_doc.specs.Document.{Document, empty, text, element, join, is_proper, size}
@@ -130,8 +131,8 @@ endless_type_no_others ls m = m.ordered ∙ ap lines_in_order (only m.found m.al
         ∙ first_alone m.0 (m.2).0 (m.2).1 (m.2).4 (no_such_line (at_place 2 28) wrong_result _ (m.2).1 nothing_misfits (m.2).3)
         ∙ ((m.2).2).4 ∙ ap (λ r. r ++ ((m.2).2).1) ((m.2).2).2 ∙ warned ((m.2).2).1 ((m.2).2).3
 
--- A program that is not proper may be accepted, since no proper document is what it makes, and still leave its type:
--- `fun main (val x as Any) : a[] = 1[]`, with a label that is no word.
+-- A program that is not proper may be accepted, since no proper document is what it makes, and
+-- still leave its type: `fun main (val x as Any) : a[] = 1[]`, with a label that is no word.
 
 abbrev digit : List ℕ
 digit = codes "1"

@@ -1,4 +1,5 @@
--- Whether a pattern takes a document, and whether a document fits a type of a sound program: by the first match.
+-- Whether a pattern takes a document, and whether a document fits a type of a sound program: by the
+-- first match.
 use Rattle.std.proofs.Common.{◌≡◌, Bool, true, false, cond, ◌⊎◌, inl, inr, List, [], ◌∷◌, Option, Some, None, refl, sym, subst, ◌∙◌}
 use Rattle.xd_doc.specs.Document.{Document}
 use Rattle.xd_syntax.specs.Tree.{Tree, Definitions}

@@ -212,7 +212,8 @@ pub head_fits : (E : Definitions) (T : Tree) (h : Head) (d : Document) → Among
 unfolding heads
 head_fits E T h d m p = back_by E (can_be_empty E) (empty_right E) (heads_of_name (can_be_empty E) E (length E)) (name_back E (can_be_empty E) (empty_right E) (length E)) T h d m p
 
--- and in a guarded program what fits is found empty, and begins as some head, when the names on the way form a chain
+-- and in a guarded program what fits is found empty, and begins as some head, when the names on the
+-- way form a chain
 join_empty : (a b : Document) → join a b ≡ empty → (a ≡ empty) × (b ≡ empty)
 join_empty empty b e = (refl, e)
 join_empty (text s a) b e = cc

@@ -1,5 +1,5 @@
--- Lines with documents that are least where sizes are told apart below a limit alone are the lines of the program, where the
--- documents that their faults carry have sizes below the limit.
+-- Lines with documents that are least where sizes are told apart below a limit alone are the lines
+-- of the program, where the documents that their faults carry have sizes below the limit.
 use Rattle.std.proofs.Common.{◌≡◌, ℕ, Bool, true, false, cond, inl, inr, List, [], ◌∷◌, ◌++◌, Some, refl, ap, sym, subst, ◌∙◌}
 use Rattle.std.specs.List.{AllByRecursion}
 use Rattle.xd_base.specs.declared.Place.{Place}

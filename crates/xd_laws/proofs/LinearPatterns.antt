@@ -7,7 +7,8 @@ use Rattle.xd_syntax.specs.Words.{has_word}
 use Rattle.xd_syntax.specs.Tree.{Tree, Alt, Definitions}
 use Rattle.xd_syntax.specs.Placed.{PlacedTree, Empty_at, Text_at, Words_at, Name_at, Elem_at, Seq_at, Alt_at, Star_at, Plus_at, Opt_at, Val_at, unplaced, variables}
 use Rattle.xd_syntax.specs.Ways.{Way}
-use Rattle.xd_syntax.specs.NameFaults.{not_linear, fault_if, without, lacking_somewhere, in_each_branch}
+use Rattle.xd_syntax.specs.NameFaults.{fault_if, without, lacking_somewhere, in_each_branch}
+use Rattle.xd_syntax.specs.NotLinear.{not_linear}
 use Rattle.xd_syntax.specs.declared.fault.FaultKind.{FaultKind}
 use Rattle.xd_syntax.specs.declared.fault.FaultKind.TheVariants.{NotLinear}
 use Rattle.xd_laws.proofs.Unfoldings.{same_word_eq}

@@ -1,4 +1,5 @@
--- A program has one list of lines, but for the documents that they carry, and these have the same sizes.
+-- A program has one list of lines, but for the documents that they carry, and these have the same
+-- sizes.
 use Rattle.std.proofs.Common.{◌≡◌, ℕ, ◌≤◌, Bool, true, false, cond, inl, inr, List, [], ◌∷◌, ◌++◌, None, Some, refl, ap, sym, subst, ◌∙◌, append-nil, arith}
 use Rattle.xd_base.specs.declared.Place.{Place}
 use Rattle.xd_doc.specs.Document.{Document, empty, is_proper, size}

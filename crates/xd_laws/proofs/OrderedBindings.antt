@@ -11,6 +11,7 @@ use Rattle.xd_syntax.specs.Placed.{unplaced}
 use Rattle.xd_syntax.specs.Ways.{unfoldings, Way}
 use Rattle.xd_meaning.specs.FirstMatch.{first}
 use Rattle.xd_syntax.specs.NameFaults.{without}
+use Rattle.xd_syntax.proofs.NotLinear.{linearity_same}
 use Rattle.xd_meaning.specs.Meaning.{Environment, looked_up}
 use Rattle.xd_meaning.specs.Bindings.{each_once, variables_of, bound_to, bindings_in}
 use Rattle.xd_syntax.specs.Program.{names_of}
@@ -97,7 +98,7 @@ in_order vs (y ∷ ys) h =
     ap (λ o. map (λ v. v.0) (bound_to y o ++ bindings_in ys vs)) r.1 ∙ ap (λ l. y ∷ l) (in_order vs ys (λ x k. h x (or_right (bytes_eq y x) (has_word ys x) k)))
 
 pub bindings_in_order : BindingsAreInOrder
-bindings_in_order E Q linear d ws k = by_first (first E (unplaced Q) d) refl k
+bindings_in_order E Q no_fault d ws k = by_first (first E (unplaced Q) d) refl k
   where
     by_first : (o : Option Environment) → first E (unplaced Q) d ≡ o → option_map (bindings_in (variables_of (unplaced Q))) o ≡ Some ws →
         map (λ v. v.0) ws ≡ variables_of (unplaced Q)
@@ -108,4 +109,4 @@ bindings_in_order E Q linear d ws k = by_first (first E (unplaced Q) d) refl k
         let same : bindings_in (variables_of (unplaced Q)) vs ≡ ws = cc in
         subst (λ us. map (λ v. v.0) us ≡ variables_of (unplaced Q)) same
         (in_order vs (variables_of (unplaced Q))
-        (λ x h. subst (λ us. binds us x ≡ true) r.2 (binds_variables E Q d r.0 linear w x (has_once (occurrences (unplaced Q)) x h))))
+        (λ x h. subst (λ us. binds us x ≡ true) r.2 (binds_variables E Q d r.0 (sym (linearity_same Q) ∙ no_fault) w x (has_once (occurrences (unplaced Q)) x h))))

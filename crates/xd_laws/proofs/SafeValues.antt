@@ -1,5 +1,5 @@
 -- The value of an expression is what the expression may be, where calls are safe.
-use Rattle.std.proofs.Common.{◌≡◌, ℕ, arith, Bool, true, false, not, nat_eq, inl, inr, List, [], ◌∷◌, ◌++◌, length, Option, Some, None, refl, sym, subst}
+use Rattle.std.proofs.Common.{◌≡◌, ℕ, arith, Bool, true, false, not, nat_eq, inl, inr, List, [], ◌∷◌, ◌++◌, length, Option, Some, None, refl, sym, subst, ◌∙◌}
 use Rattle.xd_base.specs.declared.Place.{Place}
 use Rattle.xd_doc.specs.Document.{Document, empty, element, join, is_proper, size}
 use Rattle.xd_syntax.specs.Words.{has_word}
@@ -8,7 +8,8 @@ use Rattle.xd_meaning.specs.FirstMatch.{first}
 use Rattle.xd_syntax.specs.Expression.{Expression, Nothing, Quoted, Variable, Tagged, Joined, Called, Matched, Arguments, no_argument, argument, Clauses, no_clause, clause, place_of_expression}
 use Rattle.xd_syntax.specs.Program.{Parameter, FunctionDefinition, ProgramTree, names_of, function_of}
 use Rattle.xd_syntax.specs.Proper.{IsProperExpression, AreProperArguments, AreProperClauses, IsProperProgram}
-use Rattle.xd_syntax.specs.NameFaults.{fault_if, known_types, unknown_types, not_linear, pattern_faults, argument_count, call_faults, expression_faults, argument_faults, clause_faults}
+use Rattle.xd_syntax.specs.NameFaults.{fault_if, known_types, unknown_types, linearity_faults, pattern_faults, argument_count, call_faults, expression_faults, argument_faults, clause_faults}
+use Rattle.xd_syntax.proofs.NotLinear.{linearity_same}
 use Rattle.xd_syntax.specs.RecursionFaults.{IsSound}
 use Rattle.xd_syntax.specs.May.{Scope, clause_entry, FitsResult}
 use Rattle.xd_laws.specs.Scopes.{MayClauses}
@@ -73,9 +74,9 @@ module _ (P : ProgramTree) (proper : IsProperProgram P) (sound : IsSound P) (C :
       let r = no_faults_of ls l.0 l.1 l.4 q in
       let w = first_way (names_of P) (unplaced Q) d vs h in
       let live : IsLiveIn P S e earlier Q = (d, comes, (w.0, w.1)) in
-      let t = nothing_both (unknown_types (known_types P) Q) (not_linear false [] [] false Q) linear in
+      let t = nothing_both (unknown_types (known_types P) Q) (linearity_faults Q) linear in
       let suits : Suits P (clause_entry e earlier Q ∷ S) (variables Q ++ known) (vs ++ env) =
-      subst (λ us. Suits P (clause_entry e earlier Q ∷ S) (variables Q ++ known) (us ++ env)) w.2 (clause_suits P proper S known env s e earlier Q d comes t.1 w.0 w.1) in
+      subst (λ us. Suits P (clause_entry e earlier Q ∷ S) (variables Q ++ known) (us ++ env)) w.2 (clause_suits P proper S known env s e earlier Q d comes (sym (linearity_same Q) ∙ t.1) w.0 w.1) in
       elim l.2 [
         | inl b ↦ meets_more _ _ (value_by (first (names_of P)) C n (vs ++ env) f) (inside (vs ++ env) suits l.0 b.1 r.0) (λ v m. (m.0, inl (live, m.1)))
         | inr b ↦ absurd (b.0 live)

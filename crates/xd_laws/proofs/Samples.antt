@@ -17,7 +17,7 @@ use Rattle.xd_meaning.specs.CanBeEmpty.{can_be_empty}
 use Rattle.xd_meaning.specs.Heads.{Head, element_in, text_in, heads, all_texts}
 use Rattle.xd_syntax.specs.TypeText.{type_text, depth}
 use Rattle.xd_meaning.specs.Meaning.{Done, Spent, Stuck, meaning}
-use Rattle.xd_syntax.specs.NameFaults.{fault_at, name_faults, not_linear}
+use Rattle.xd_syntax.specs.NameFaults.{fault_at, name_faults, linearity_faults}
 use Rattle.xd_syntax.specs.RecursionFaults.{arrived, kept, left_out, all_seen, AreRecursionFaults, IsSound}
 use Rattle.xd_syntax.specs.CheckFaults.{IsAccepted}
 use Rattle.xd_syntax.specs.declared.fault.FaultKind.TheVariants.{DuplicateName, UnknownType, UnknownFunction, UnknownVariable, Arity, NotLinear, NotTail, Unguarded}
@@ -256,23 +256,23 @@ twice_bound_found : name_faults twice_bound ≡ fault_at (at_place 1 54) (NotLin
 twice_bound_found = refl
 
 -- a second occurrence in a sequence
-twice_in_a_row : not_linear false [] [] false (Seq_at p (Val_at p y (at_place 1 47) any_at) (Val_at p y (at_place 1 54) any_at))
+twice_in_a_row : linearity_faults (Seq_at p (Val_at p y (at_place 1 47) any_at) (Val_at p y (at_place 1 54) any_at))
     ≡ fault_at (at_place 1 54) (NotLinear y) ∷ []
 twice_in_a_row = refl
 
 -- a variable in each branch is linear, and one that a branch lacks is not, at its first occurrence
-in_both_branches : not_linear false [] [] false (Alt_at p (Val_at p y (at_place 1 1) any_at) (Val_at p y (at_place 1 2) any_at)) ≡ []
+in_both_branches : linearity_faults (Alt_at p (Val_at p y (at_place 1 1) any_at) (Val_at p y (at_place 1 2) any_at)) ≡ []
 in_both_branches = refl
 
-in_two_of_three : not_linear false [] [] false (Alt_at p (Val_at p y (at_place 1 1) any_at) (Alt_at p (Val_at p y (at_place 1 2) any_at) (Empty_at p)))
+in_two_of_three : linearity_faults (Alt_at p (Val_at p y (at_place 1 1) any_at) (Alt_at p (Val_at p y (at_place 1 2) any_at) (Empty_at p)))
     ≡ fault_at (at_place 1 1) (NotLinear y) ∷ []
 in_two_of_three = refl
 
 -- a variable within what it is bound to
-within_itself : not_linear false [] [] false (Val_at p y (at_place 1 1) (Val_at p y (at_place 1 2) any_at)) ≡ fault_at (at_place 1 2) (NotLinear y) ∷ []
+within_itself : linearity_faults (Val_at p y (at_place 1 1) (Val_at p y (at_place 1 2) any_at)) ≡ fault_at (at_place 1 2) (NotLinear y) ∷ []
 within_itself = refl
 
-repeated_variable : not_linear false [] [] false (Star_at p (Val_at p y (at_place 1 1) (Elem_at p (one a) (Empty_at p)))) ≡ fault_at (at_place 1 1) (NotLinear y) ∷ []
+repeated_variable : linearity_faults (Star_at p (Val_at p y (at_place 1 1) (Elem_at p (one a) (Empty_at p)))) ≡ fault_at (at_place 1 1) (NotLinear y) ∷ []
 repeated_variable = refl
 
 -- Faults of recursion.

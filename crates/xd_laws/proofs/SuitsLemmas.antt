@@ -12,7 +12,7 @@ use Rattle.xd_syntax.specs.Ways.{Way, unfoldings, IsWholeWay}
 use Rattle.xd_syntax.specs.Expression.{Expression}
 use Rattle.xd_syntax.specs.Program.{TypeDefinition, Parameter, ProgramTree, names_of}
 use Rattle.xd_syntax.specs.Proper.{IsProperTree, IsProperDefinition, IsProperProgram}
-use Rattle.xd_syntax.specs.NameFaults.{not_linear}
+use Rattle.xd_syntax.specs.NotLinear.{not_linear}
 use Rattle.xd_syntax.specs.May.{Scope, clause_entry, Allows, WhereTrue, parameters_scope}
 use Rattle.xd_syntax.specs.CheckFaults.{Comes}
 use Rattle.xd_meaning.specs.Meaning.{Environment, looked_up, bound}

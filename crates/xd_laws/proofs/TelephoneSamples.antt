@@ -532,7 +532,8 @@ misfit_begins : (d : Document) → Misfits (telephones exchanged) (in_without_te
     (v : List ℕ) × (r : Document) × (d ≡ with_number v r)
 misfit_begins d m = elim (without_tel_rest [] 6 d m.0) [ inl f ↦ absurd (m.1 f) | inr k ↦ (k.2, k.3, k.4) ]
 
--- so no such document is smaller than a telephone number, and one that is no larger is a telephone number alone
+-- so no such document is smaller than a telephone number, and one that is no larger is a telephone
+-- number alone
 number_least : IsLeast (IsProperWith (Misfits (telephones exchanged) (in_without_tel 6 []) (Variable (at_place 6 34) rest) persons_at)) (with_number [] empty)
 number_least = record {
   within = record { proper = number_proper; meets = number_misfits };

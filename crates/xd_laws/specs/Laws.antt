@@ -8,7 +8,7 @@ use Rattle.xd_meaning.specs.FitsWithin.{FitsWithin}
 use Rattle.xd_syntax.specs.Placed.{PlacedTree, unplaced}
 use Rattle.xd_syntax.specs.Ways.{Among, ways, ways_within, unfoldings, Takes}
 use Rattle.xd_meaning.specs.FirstMatch.{first}
-use Rattle.xd_syntax.specs.NameFaults.{not_linear}
+use Rattle.xd_syntax.specs.NameFaults.{linearity_faults}
 use Rattle.xd_meaning.specs.Bindings.{variables_of, first_bindings}
 use Rattle.xd_syntax.specs.Proper.{IsProperProgram}
 use Rattle.xd_meaning.specs.CanBeEmpty.{can_be_empty}
@@ -90,5 +90,5 @@ BindingsAgree = (P : ProgramTree) → IsProperProgram P → (Q : Tree) (d : Docu
 
 -- a first match of a linear pattern binds each variable once, in order of first occurrence
 abbrev pub BindingsAreInOrder : Type 0
-BindingsAreInOrder = (E : Definitions) (Q : PlacedTree) → not_linear false [] [] false Q ≡ [] → (d : Document) (ws : Environment) →
+BindingsAreInOrder = (E : Definitions) (Q : PlacedTree) → linearity_faults Q ≡ [] → (d : Document) (ws : Environment) →
     first_bindings E (unplaced Q) d ≡ Some ws → map (λ v. v.0) ws ≡ variables_of (unplaced Q)

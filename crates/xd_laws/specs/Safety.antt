@@ -31,7 +31,8 @@ AreValuesOf E [] (d ∷ ds) = ⊥
 AreValuesOf E (q ∷ qs) [] = ⊥
 AreValuesOf E (q ∷ qs) (d ∷ ds) = IsValueOf E q.declared d × AreValuesOf E qs ds
 
--- Each of these variables has a document; and what a variable has is proper, and allowed in the scope.
+-- Each of these variables has a document; and what a variable has is proper, and allowed in the
+-- scope.
 pub record Suits (P : ProgramTree) (S : Scope) (known : List (List ℕ)) (env : Environment) : Type 0 where
   pub has : (x : List ℕ) → has_word known x ≡ true → (d : Document) × (looked_up env x ≡ Some d)
   pub allowed : (x : List ℕ) (d : Document) → looked_up env x ≡ Some d → (is_proper d ≡ true) × Allows P S x d
@@ -40,8 +41,8 @@ pub record Suits (P : ProgramTree) (S : Scope) (known : List (List ℕ)) (env : 
 abbrev pub IsAllowed : ProgramTree → Scope → Expression → Document → Type 0
 IsAllowed P S e d = (is_proper d ≡ true) × May P S e d
 
--- In an accepted program the value of an expression without faults is what the expression may be, in a scope that the
--- environment suits.
+-- In an accepted program the value of an expression without faults is what the expression may be,
+-- in a scope that the environment suits.
 abbrev pub ValuesAreAllowed : Type 0
 ValuesAreAllowed = (P : ProgramTree) → IsProperProgram P → IsSound P → IsAccepted P →
     (S : Scope) (known : List (List ℕ)) (env : Environment) → Suits P S known env →
@@ -54,8 +55,8 @@ CallsAreSafe = (P : ProgramTree) → IsProperProgram P → IsSound P → IsAccep
     (x : List ℕ) (f : FunctionDefinition) → function_of P.functions x ≡ Some f → (ds : List Document) → AreValuesOf (names_of P) f.parameters ds →
     (n : ℕ) → Meets (IsValueOf (names_of P) f.declared) (call P n x ds)
 
--- On a value of the declared type of its one parameter, `main` is never stuck, and what it is done with is a value of its
--- declared result type.
+-- On a value of the declared type of its one parameter, `main` is never stuck, and what it is done
+-- with is a value of its declared result type.
 abbrev pub IsSafe : ProgramTree → Type 0
 IsSafe P = (main : FunctionDefinition) (input : Parameter) → function_of P.functions main_word ≡ Some main → main.parameters ≡ input ∷ [] →
     (d : Document) → IsValueOf (names_of P) input.declared d → (n : ℕ) → Meets (IsValueOf (names_of P) main.declared) (meaning P n d)

@@ -1,11 +1,13 @@
--- A program has one list of lines, but for the documents that they carry, and these have the same sizes.
+-- A program has one list of lines, but for the documents that they carry, and these have the same
+-- sizes.
 use Rattle.std.specs.Prelude.{◌≡◌, List, option_map}
 use Rattle.xd_doc.specs.Document.{size}
 use Rattle.xd_syntax.specs.Program.{ProgramTree}
 use Rattle.xd_syntax.specs.CheckFaults.{Line, AreLines}
 use Rattle.xd_meaning.specs.KeptFaults.{AllPaired}
 
--- the place and what is said are the same, and both carry a document, of the same size, or none does
+-- the place and what is said are the same, and both carry a document, of the same size, or none
+-- does
 pub record IsSameLine (l m : Line) : Type 0 where
   pub place : l.place ≡ m.place
   pub kind : l.kind ≡ m.kind

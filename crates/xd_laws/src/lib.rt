@@ -20,8 +20,8 @@ pub fn unfoldings_settle()
     ensures some { FitsIsWithinSome }
 {}
 
-/// The bindings of a first match in the order of its variables are those of its first way: the same document for each
-/// variable, and of a linear pattern each variable once.
+/// The bindings of a first match in the order of its variables are those of its first way: the same
+/// document for each variable, and of a linear pattern each variable once.
 pub fn bindings_are_in_order()
     ensures agree { BindingsAgree }
     ensures order { BindingsAreInOrder }
@@ -39,12 +39,14 @@ pub fn fuel_is_left()
     ensures { FuelIsLeft }
 {}
 
-/// A consistent proof of inclusions, over the types of a sound program, claims nothing that is false.
+/// A consistent proof of inclusions, over the types of a sound program, claims nothing that is
+/// false.
 pub fn consistent_proofs_hold()
     ensures { ConsistentProofsHold }
 {}
 
-/// A proof of inclusions is consistent exactly where it has no first breach of a rule, and it has one at most.
+/// A proof of inclusions is consistent exactly where it has no first breach of a rule, and it has
+/// one at most.
 pub fn breaches_are_first()
     ensures found { BreachesAreFound }
     ensures tested { RulesAreTested }
@@ -58,25 +60,28 @@ pub fn accepted_programs_are_safe()
     ensures programs { AcceptedProgramsAreSafe }
 {}
 
-/// What an expression may be, and its lines, rest on the proper documents that its scope allows, and on nothing else of it.
+/// What an expression may be, and its lines, rest on the proper documents that its scope allows,
+/// and on nothing else of it.
 pub fn scopes_decide()
     ensures more { MoreIsAllowed }
     ensures documents { ScopesDecideMay }
     ensures lines { ScopesDecideLines }
 {}
 
-/// A program has one list of faults of matches, arguments and results and of warnings, but for the documents that they carry, and
-/// these have the same sizes.
+/// A program has one list of faults of matches, arguments and results and of warnings, but for the
+/// documents that they carry, and these have the same sizes.
 pub fn lines_are_one()
     ensures { LinesAreOne }
 {}
 
-/// Whoever tells sizes apart below a limit alone knows the faults all the same, where the documents that they carry are smaller.
+/// Whoever tells sizes apart below a limit alone knows the faults all the same, where the documents
+/// that they carry are smaller.
 pub fn small_lines_are_least()
     ensures { SmallLinesAreLeast }
 {}
 
-/// Sample programs have the faults of matches, arguments and results, and the warnings, that they should have, and no others.
+/// Sample programs have the faults of matches, arguments and results, and the warnings, that they
+/// should have, and no others.
 pub fn samples_have_lines()
     ensures { SampleLines }
 {}

@@ -85,8 +85,8 @@ impl LeastInhabitants {
         documents
     }
 
-    /// The law of growth: what is known stays known of an automaton that extends the old one, with a
-    /// store that keeps the old documents. The call does nothing; its contract is the law.
+    /// The law of growth: what is known stays known of an automaton that extends the old one, with
+    /// a store that keeps the old documents. The call does nothing; its contract is the law.
     pub fn stays_known(&self)
         ensures { StaysKnown self.now }
     {

@@ -3,10 +3,11 @@
 ghost use Rattle.std.specs.Prelude.{◌≡◌, ◌^◌, false, None, Ok, IfOk, IfSome};
 ghost use Rattle.xd_doc.specs.Document.{Document};
 ghost use Rattle.xd_doc.specs.LeastUpTo.{IsLeastUpTo};
-ghost use Rattle.xd_doc.specs.Stored.{document_at, BelongsTo};
+ghost use Rattle.xd_doc.specs.Stored.{document_at};
+ghost use Rattle.xd_doc.specs.StoredSeq.{BelongsTo};
 ghost use Rattle.xd_doc.specs.StoreNodes.{Keeps};
 ghost use Rattle.xd_auto.specs.Automaton.{accepts, IsState};
-ghost use Rattle.xd_least.specs.Least.{Accepts, AreAllLeast};
+ghost use Rattle.xd_least.specs.Least.{Accepts, AreAllLeast, size_limit};
 
 use crate::document::LeastDocument;
 use crate::known::LeastInhabitants;
@@ -14,8 +15,8 @@ use std::alloc::Global;
 use xd_auto::{Auto, State, trim};
 use xd_doc::{NoMemory, Seq, Store};
 
-/// For each state, by its number, a least document with its size, in this store; `None` exactly where
-/// the state accepts none.
+/// For each state, by its number, a least document with its size, in this store; `None` exactly
+/// where the state accepts none.
 ///
 /// It is what [`LeastInhabitants::learn`] learns from nothing. Fails only where memory is refused;
 /// the store may have more documents then, and keeps its old ones.
@@ -45,7 +46,7 @@ pub fn least_inhabitant(
     store: &mut Store,
 ) -> Result<Option<Seq>, NoMemory>
     requires { IsState auto.now state }
-    ensures least { IfOk result (λ found. IfSome found (λ seq. IsLeastUpTo (2 ^ 63) (Accepts auto.now state) (document_at store.new seq))) }
+    ensures least { IfOk result (λ found. IfSome found (λ seq. IsLeastUpTo size_limit (Accepts auto.now state) (document_at store.new seq))) }
     ensures none { result ≡ Ok None → (d : Document) → accepts auto.now d state ≡ false }
     ensures belongs { IfOk result (λ found. IfSome found (BelongsTo store.new)) }
     ensures keeps { Keeps store.old store.new }

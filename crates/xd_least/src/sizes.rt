@@ -2,7 +2,8 @@
 
 ghost use Rattle.std.specs.Prelude.{◌≡◌, ◌+◌, ◌<◌, IfOk, length, slice_index_or};
 ghost use Rattle.xd_doc.specs.Document.{empty, size};
-ghost use Rattle.xd_doc.specs.Stored.{BelongsTo, IsBelow, document_at};
+ghost use Rattle.xd_doc.specs.Stored.{document_at};
+ghost use Rattle.xd_doc.specs.StoredSeq.{BelongsTo, IsBelow};
 ghost use Rattle.xd_doc.specs.StoreNodes.{place_in_store};
 ghost use Rattle.xd_least.specs.Least.{capped};
 ghost use Rattle.xd_least.specs.Sizes.{AreSizes, known_size};
@@ -11,7 +12,7 @@ use std::alloc::Global;
 use xd_doc::{NoMemory, Seq, Store};
 
 /// Sizes are told apart below this number.
-const SIZE_LIMIT: u64 = 1 << 63;
+pub const SIZE_LIMIT: u64 = 1 << 63;
 
 /// The size with one item more, as it is kept.
 pub(crate) fn one_more(size: u64) -> u64

@@ -24,8 +24,8 @@ pub data IsGap : List ℕ → Type 0 where
   blank : {b : ℕ} → is_blank b ≡ true → IsGap (b ∷ [])
   comment : {gap : List ℕ} → IsComment gap → IsGap gap
 
--- what may stand behind a token: a word takes as many characters as there are, and a bracket behind it makes
--- it a label; a `(` before a `*` opens a comment
+-- what may stand behind a token: a word takes as many characters as there are, and a bracket behind
+-- it makes it a label; a `(` before a `*` opens a comment
 abbrev pub EndsBefore : Kind → List ℕ → Type 0
 EndsBefore kinds.Word rest = (is_word_part (slice_index rest 0) ≡ false) × (slice_index rest 0 ≢ 91)
 EndsBefore kinds.ParenL rest = slice_index rest 0 ≢ 42
@@ -42,15 +42,16 @@ pub record BeginsNothing (bytes : List ℕ) : Type 0 where
   pub no_quote : slice_index bytes 0 ≢ 34
   pub no_token : (kind : Kind) (text rest : List ℕ) → IsSpelling kind text → 0 < length text → bytes ≡ text ++ rest → ⊥
 
--- Why a token is broken: a comment has no end; a quoted text has no end, though with more behind it it would be
--- one; a quoted text has a wrong escape, or no token begins.
+-- Why a token is broken: a comment has no end; a quoted text has no end, though with more behind it
+-- it would be one; a quoted text has a wrong escape, or no token begins.
 abbrev pub IsFault : LexFault → List ℕ → Type 0
 IsFault OpenComment bytes = (inside : List ℕ) × HasNoEnd inside × (bytes ≡ 40 ∷ 42 ∷ inside)
 IsFault OpenText bytes = (begun more : List ℕ) × (are_pieces false (begun ++ more) ≡ true) × (bytes ≡ 34 ∷ begun)
 IsFault BadCharacter bytes = HasBadEscape bytes ⊎ BeginsNothing bytes
 
--- A text is read from this place on as these tokens: gaps and tokens stand one behind the other up to the end
--- of the text or to a token that is broken, and each token has the place where it begins.
+-- A text is read from this place on as these tokens: gaps and tokens stand one behind the other up
+-- to the end of the text or to a token that is broken, and each token has the place where it
+-- begins.
 pub data Reads : Place → List ℕ → List Lexeme → Type 0 where
   end : {p : Place} → Reads p [] (record { kind = kinds.End; text = []; place = p } ∷ [])
   gap : {p : Place} {gap rest : List ℕ} {ts : List Lexeme} → IsGap gap → Reads (past p gap) rest ts → Reads p (gap ++ rest) ts

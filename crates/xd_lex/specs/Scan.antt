@@ -1,6 +1,7 @@
 -- What stands at the front of a text: a gap, a token, or neither.
 use Rattle.std.specs.Prelude.{ℕ, ◌+◌, ◌==◌, ◌&&◌, ◌||◌, Bool, true, false, List, [], ◌∷◌, length, drop, slice_index, Option, Some, None, Result, Ok, Err, if◌then◌else◌}
 use Rattle.std.specs.List.{take_while}
+use Rattle.std.specs.Str.{byte}
 use Rattle.xd_doc.specs.Word.{is_word_start, is_word_part}
 use Rattle.xd_lex.specs.declared.Kind.{Kind}
 use Rattle.xd_lex.specs.declared.Kind.TheVariants as kinds
@@ -11,11 +12,11 @@ use Rattle.xd_lex.specs.declared.Front.TheVariants as fronts
 
 -- a space, a tab, a line feed or a carriage return
 abbrev pub is_blank : ℕ → Bool
-is_blank b = ((b == 32) || (b == 9)) || ((b == 10) || (b == 13))
+is_blank b = ((b == byte " ") || (b == byte "\t")) || ((b == byte "\n") || (b == byte "\r"))
 
 -- one of the characters that make an escape behind a `\`
 abbrev pub is_escape : ℕ → Bool
-is_escape b = ((b == 34) || (b == 92)) || ((b == 110) || (b == 116))
+is_escape b = ((b == byte "\"") || (b == byte "\\")) || ((b == byte "n") || (b == byte "t"))
 
 abbrev pub one_more : {E : Type 0} → Result ℕ E → Result ℕ E
 one_more (Ok n) = Ok (n + 1)
@@ -25,35 +26,35 @@ abbrev pub option_more : Option ℕ → Option ℕ
 option_more (Some n) = Some (n + 1)
 option_more None = None
 
--- Behind the opening quote of a text: how many bytes its pieces and its closing quote have. The flag says
--- that a `\` which begins an escape stands directly before.
+-- Behind the opening quote of a text: how many bytes its pieces and its closing quote have. The
+-- flag says that a `\` which begins an escape stands directly before.
 abbrev pub quoted : Bool → List ℕ → Result ℕ LexFault
 quoted escaped [] = Err OpenText
 quoted true (b ∷ bs) = if is_escape b then one_more (quoted false bs) else Err BadCharacter
-quoted false (b ∷ bs) = if b == 34 then Ok 1 else one_more (quoted (b == 92) bs)
+quoted false (b ∷ bs) = if b == byte "\"" then Ok 1 else one_more (quoted (b == byte "\\") bs)
 
--- Behind the `(*` of a comment: how many bytes there are up to the end of the first `*)`. The flag says
--- that a `*` stands directly before, other than that of the `(*`.
+-- Behind the `(*` of a comment: how many bytes there are up to the end of the first `*)`. The flag
+-- says that a `*` stands directly before, other than that of the `(*`.
 abbrev pub commented : Bool → List ℕ → Option ℕ
 commented starred [] = None
-commented starred (b ∷ bs) = if starred && (b == 41) then Some 1 else option_more (commented (b == 42) bs)
+commented starred (b ∷ bs) = if starred && (b == byte ")") then Some 1 else option_more (commented (b == byte "*") bs)
 
 -- the symbols of one character
 unfoldable pub symbol : ℕ → Option Kind
 symbol b =
-    if b == 40 then Some kinds.ParenL
-    else (if b == 41 then Some kinds.ParenR
-    else (if b == 91 then Some kinds.BracketL
-    else (if b == 93 then Some kinds.BracketR
-    else (if b == 44 then Some kinds.Comma
-    else (if b == 124 then Some kinds.Bar
-    else (if b == 42 then Some kinds.Star
-    else (if b == 43 then Some kinds.Plus
-    else (if b == 63 then Some kinds.Query
-    else (if b == 61 then Some kinds.Equals
-    else (if b == 58 then Some kinds.Colon
-    else (if b == 126 then Some kinds.Tilde
-    else (if b == 94 then Some kinds.Caret
+    if b == byte "(" then Some kinds.ParenL
+    else (if b == byte ")" then Some kinds.ParenR
+    else (if b == byte "[" then Some kinds.BracketL
+    else (if b == byte "]" then Some kinds.BracketR
+    else (if b == byte "," then Some kinds.Comma
+    else (if b == byte "|" then Some kinds.Bar
+    else (if b == byte "*" then Some kinds.Star
+    else (if b == byte "+" then Some kinds.Plus
+    else (if b == byte "?" then Some kinds.Query
+    else (if b == byte "=" then Some kinds.Equals
+    else (if b == byte ":" then Some kinds.Colon
+    else (if b == byte "~" then Some kinds.Tilde
+    else (if b == byte "^" then Some kinds.Caret
     else None))))))))))))
 
 abbrev pub of_text : Result ℕ LexFault → Front
@@ -70,14 +71,14 @@ of_symbol None = fronts.Fault BadCharacter
 
 -- a word, with the `[` that stands directly behind it
 abbrev pub of_word : List ℕ → ℕ → Front
-of_word bs n = if slice_index bs n == 91 then fronts.Token kinds.Label (n + 1) else fronts.Token kinds.Word n
+of_word bs n = if slice_index bs n == byte "[" then fronts.Token kinds.Label (n + 1) else fronts.Token kinds.Word n
 
 -- what begins with the byte b, with the bytes bs after it
 unfoldable pub front_of : ℕ → List ℕ → Front
 front_of b bs =
     if is_blank b then fronts.Gap 1
-    else (if (b == 40) && (slice_index bs 0 == 42) then of_comment (commented false (drop 1 bs))
+    else (if (b == byte "(") && (slice_index bs 0 == byte "*") then of_comment (commented false (drop 1 bs))
     else (if is_word_start b then of_word (b ∷ bs) (length (take_while is_word_part bs) + 1)
-    else (if b == 34 then of_text (quoted false bs)
-    else (if (b == 45) && (slice_index bs 0 == 62) then fronts.Token kinds.Arrow 2
+    else (if b == byte "\"" then of_text (quoted false bs)
+    else (if (b == byte "-") && (slice_index bs 0 == byte ">") then fronts.Token kinds.Arrow 2
     else of_symbol (symbol b)))))

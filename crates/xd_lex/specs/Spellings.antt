@@ -5,8 +5,8 @@ use Rattle.xd_lex.specs.declared.Kind.{Kind}
 use Rattle.xd_lex.specs.declared.Kind.TheVariants as kinds
 use Rattle.xd_lex.specs.Scan.{is_escape}
 
--- Pieces of a quoted text: a `\` and a character that makes an escape, or a character other than `"` and `\`.
--- The flag says that a `\` which begins an escape stands directly before.
+-- Pieces of a quoted text: a `\` and a character that makes an escape, or a character other than
+-- `"` and `\`. The flag says that a `\` which begins an escape stands directly before.
 abbrev pub are_pieces : Bool → List ℕ → Bool
 are_pieces escaped [] = not escaped
 are_pieces true (b ∷ bs) = is_escape b && are_pieces false bs

@@ -1,5 +1,6 @@
 -- The tokens of a text, each with its place.
 use Rattle.std.specs.Prelude.{◌≡◌, ℕ, zero, suc, ◌+◌, ◌-◌, ◌==◌, ◌&&◌, List, [], ◌∷◌, take, nat_le, nat_lt, if◌then◌else◌, IsUtf8}
+use Rattle.std.specs.Str.{byte}
 use Rattle.std.specs.Str.Lossy.{utf8_valid_len}
 use Rattle.xd_base.specs.declared.Place.{Place}
 use Rattle.xd_lex.specs.declared.Kind.{Kind}
@@ -21,7 +22,7 @@ start = record { line = 1; column = 1 }
 -- the place after a byte: a byte that continues a character counts nothing
 abbrev pub after : Place → ℕ → Place
 after p b =
-    if b == 10 then record { line = p.line + 1; column = 1 }
+    if b == byte "\n" then record { line = p.line + 1; column = 1 }
     else (if nat_le 128 b && nat_lt b 192 then p
     else record { line = p.line; column = p.column + 1 })
 
@@ -30,7 +31,8 @@ abbrev pub past : Place → List ℕ → Place
 past p [] = p
 past p (b ∷ bs) = past (after p b) bs
 
--- The tokens of the text bs from the place p on, but for the first n bytes, which belong to what was read before.
+-- The tokens of the text bs from the place p on, but for the first n bytes, which belong to what
+-- was read before.
 abbrev pub tokens_from : ℕ → Place → List ℕ → List Lexeme
 tokens_from n p [] = record { kind = kinds.End; text = []; place = p } ∷ []
 tokens_from (suc n) p (b ∷ bs) = tokens_from n (after p b) bs

@@ -74,7 +74,8 @@ fn characters(alloc: Global, pieces: &str) -> Result<String, NoMemory>
     }
 }
 
-/// Whether a token of the kind `Text` stands for what is between its quotes, since nothing there is escaped.
+/// Whether a token of the kind `Text` stands for what is between its quotes, since nothing there is
+/// escaped.
 pub fn is_plain(text: &str) -> bool
     requires { IsSpelling kinds.Text text.now }
     ensures same { result ≡ true → unescaped text.now ≡ slice_range text.now 1 (length text.now - 1) }
@@ -84,9 +85,8 @@ pub fn is_plain(text: &str) -> bool
     plain_len(pieces) == pieces.len()
 }
 
-/// The text that a token of the kind `Text` stands for: without its quotes, and with each escape replaced by
-/// its character.
-/// `NoMemory` where there is no room for it.
+/// The text that a token of the kind `Text` stands for: without its quotes, and with each escape
+/// replaced by its character. `NoMemory` where there is no room for it.
 pub fn unescape(alloc: Global, text: &str) -> Result<Text, NoMemory>
     requires { IsSpelling kinds.Text text.now }
     ensures { IfOk result (λ made. made ≡ unescaped text.now) }

@@ -43,7 +43,8 @@ pub struct Cut<'a> {
     pub rest: &'a str,
 }
 
-/// Cuts off the first token of a text. It doesn't count lines, for readers that seldom need a place.
+/// Cuts off the first token of a text. It doesn't count lines, for readers that seldom need a
+/// place.
 pub fn cut_token<'a>(text: &'a str) -> Cut<'a>
     ensures first { IsFirstToken text.now result.kind result.text.now result.rest.now }
     ensures spelled { IsSpelling result.kind result.text.now }

@@ -1,4 +1,5 @@
-//! The tokens of a text: words, labels, quoted texts and symbols, each with its slice and its place.
+//! The tokens of a text: words, labels, quoted texts and symbols, each with its slice and its
+//! place.
 #![tactic(auto)]
 
 mod escape;

@@ -3,7 +3,8 @@ use Rattle.std.proofs.Common.{ℕ, zero, suc, ◌≡◌, ◌<◌, true, not, Lis
 use Rattle.std.specs.List.{AllByRecursion}
 use Rattle.xd_doc.specs.Document.{Document, empty, text, element, join, has_item}
 use Rattle.xd_doc.specs.DocumentCode.{first_then}
-use Rattle.xd_doc.specs.Stored.{BelongsTo, document_at}
+use Rattle.xd_doc.specs.Stored.{document_at}
+use Rattle.xd_doc.specs.StoredSeq.{BelongsTo}
 use Rattle.xd_doc.specs.StoreNodes.{Keeps, no_items}
 use Rattle.xd_match.specs.declared.binding.Piece.{Piece}
 use Rattle.xd_match.specs.declared.binding.Piece.TheVariants.{First, Whole}

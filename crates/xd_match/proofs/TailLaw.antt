@@ -1,4 +1,5 @@
--- What the first run gives a variable where all that is left of a level belongs to the same variables.
+-- What the first run gives a variable where all that is left of a level belongs to the same
+-- variables.
 use Rattle.std.proofs.Common.{ℕ, ◌≡◌, Bool, true, false, cond, List, [], ◌∷◌, get_or, refl, sym, ap, ◌∙◌, inl, inr}
 use Rattle.std.specs.List.{list_any}
 use Rattle.xd_doc.specs.Document.{Document, empty, text, element, join}

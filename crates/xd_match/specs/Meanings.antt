@@ -6,7 +6,8 @@ use Rattle.xd_patterns.specs.Bodies.{node_of}
 use Rattle.xd_patterns.specs.Tasks.{AreBodies, meanings}
 use Rattle.xd_match.specs.declared.meanings.Meanings.{Meanings}
 
--- over these types the program's definitions mean what they mean in the program, and each name has its node
+-- over these types the program's definitions mean what they mean in the program, and each name has
+-- its node
 pub record Means (p : ProgramTable) (m : Meanings) : Type 0 where
   pub names : meanings m.types p.type_defs ≡ names_of (program_tree p)
   pub bodies : AreBodies m.types (meanings m.types p.type_defs) (node_of m.bodies)

@@ -1,4 +1,5 @@
--- States from which all that is left of a level belongs to the same variables, and nothing in its contents to any.
+-- States from which all that is left of a level belongs to the same variables, and nothing in its
+-- contents to any.
 use Rattle.std.specs.Prelude.{◌≡◌, ◌⊎◌, ℕ, ◌<◌, Bool, true, false, List, [], ◌∷◌, length, get_or}
 use Rattle.xd_auto.specs.declared.auto.State.{State}
 use Rattle.xd_auto.specs.declared.auto.LabelMove.{LabelMove}
@@ -21,7 +22,8 @@ first_marks (l ∷ ls) m = get_or m.labels 0 []
 abbrev pub tail_marks : Automaton → Marking → State → List (List ℕ)
 tail_marks a k s = first_marks (moves_at a s).labels (k s)
 
--- the marks of states, by number, say that the items of what is left of their level may belong to different variables
+-- the marks of states, by number, say that the items of what is left of their level may belong to
+-- different variables
 abbrev pub is_mixed : List Bool → State → Bool
 is_mixed mixed s = is_marked mixed (state_number s)
 

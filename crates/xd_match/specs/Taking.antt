@@ -1,9 +1,11 @@
--- How the first run is followed: the first move that can succeed, and the items that wait. Only private contracts speak of it.
+-- How the first run is followed: the first move that can succeed, and the items that wait. Only
+-- private contracts speak of it.
 use Rattle.std.specs.Prelude.{◌≡◌, ℕ, nat_eq, ◌+◌, ◌*◌, ◌<◌, Bool, true, false, cond, List, [], ◌∷◌, ◌++◌, length, slice_index_or, get_or, Vec}
 use Rattle.std.specs.List.{AllByRecursion, list_any}
 use Rattle.xd_doc.specs.Document.{Document, empty, join, size}
 use Rattle.xd_doc.specs.DocumentCode.{first_then}
-use Rattle.xd_doc.specs.Stored.{BelongsTo, document_at}
+use Rattle.xd_doc.specs.Stored.{document_at}
+use Rattle.xd_doc.specs.StoredSeq.{BelongsTo}
 use Rattle.xd_doc.specs.declared.store.Seq.{Seq}
 use Rattle.xd_auto.specs.Automaton.{Automaton, IsState, accepts}
 use Rattle.xd_patterns.specs.Marked.{Marking}
@@ -56,7 +58,8 @@ abbrev pub work : List Document → List Task → ℕ
 work ds [] = 0
 work ds (t ∷ ts) = work ds ts + (2 * size (document_at ds t.seq) + 1)
 
--- an item was taken: it was added for its variables, these tasks wait in the place of its own, and they are less work
+-- an item was taken: it was added for its variables, these tasks wait in the place of its own, and
+-- they are less work
 pub record TakesItem {A : Type 0} (a : Automaton) (k : Marking) (vs : List (List ℕ)) (ds : List Document) (t : Task) (old new : List (Vec Piece A)) (next : List Task) : Type 0 where
   pub ready : AllByRecursion (IsReady a ds) next
   pub same : length new ≡ length old
@@ -66,7 +69,8 @@ pub record TakesItem {A : Type 0} (a : Automaton) (k : Marking) (vs : List (List
       ≡ pieces_then ds (slice_index_or old x e).items (join (first_held a k (get_or vs x []) (document_at ds t.seq) t.state) w)
   pub less : work ds next < 2 * size (document_at ds t.seq) + 1
 
--- the pieces that each variable has so far belong to the store, and with those that wait they are what the first run gives it
+-- the pieces that each variable has so far belong to the store, and with those that wait they are
+-- what the first run gives it
 pub record AreTaken {A : Type 0} (a : Automaton) (k : Marking) (vs : List (List ℕ)) (ds : List Document) (start : Task) (items : List (Vec Piece A)) (tasks : List Task) : Type 0 where
   pub count : length items ≡ length vs
   pub ready : AllByRecursion (IsReady a ds) tasks

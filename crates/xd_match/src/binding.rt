@@ -3,7 +3,8 @@
 ghost use Rattle.std.specs.Prelude.{◌≡◌, ℕ, ◌<◌, ◌∷◌, [], length, slice_index_or, IfOk, Vec};
 ghost use Rattle.std.specs.List.{AllByRecursion};
 ghost use Rattle.xd_doc.specs.Document.{empty};
-ghost use Rattle.xd_doc.specs.Stored.{BelongsTo, document_at};
+ghost use Rattle.xd_doc.specs.Stored.{document_at};
+ghost use Rattle.xd_doc.specs.StoredSeq.{BelongsTo};
 ghost use Rattle.xd_doc.specs.StoreNodes.{Keeps};
 ghost use Rattle.xd_doc.specs.declared.store.Seq.{Seq};
 ghost use Rattle.xd_match.specs.Taking.{PieceBelongs, pieces_then};
@@ -18,7 +19,8 @@ pub(crate) enum Piece {
     Whole(Seq),
 }
 
-/// The items of the piece before a document. Where that is what follows them anyway, they are shared.
+/// The items of the piece before a document. Where that is what follows them anyway, they are
+/// shared.
 fn put_before(store: &mut Store, piece: Piece, made: Seq) -> Result<Seq, NoMemory>
     requires piece { PieceBelongs store.old piece }
     requires made { BelongsTo store.old made }

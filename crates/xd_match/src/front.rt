@@ -4,7 +4,8 @@ ghost use Rattle.std.specs.Prelude.{◌≡◌, ◌&&◌, ℕ, ◌+◌, ◌<◌, 
 ghost use Rattle.std.specs.List.{IsDistinct, list_any};
 ghost use Rattle.std.specs.Str.{bytes_eq};
 ghost use Rattle.xd_doc.specs.DocumentCode.{content_of, rest_of};
-ghost use Rattle.xd_doc.specs.Stored.{BelongsTo, document_at};
+ghost use Rattle.xd_doc.specs.Stored.{document_at};
+ghost use Rattle.xd_doc.specs.StoredSeq.{BelongsTo};
 ghost use Rattle.xd_doc.specs.StoreNodes.{Keeps, first_of_document};
 ghost use Rattle.xd_auto.specs.Automaton.{IsState, accepts, moves_at, takes_element, takes_word};
 ghost use Rattle.xd_auto.specs.Kept.{AreRight};
@@ -79,7 +80,8 @@ fn leads_on(
     }
 }
 
-/// The number of the first move on an element of the label by which the content and the rest are accepted.
+/// The number of the first move on an element of the label by which the content and the rest are
+/// accepted.
 fn first_label(
     answers: &mut Answers,
     auto: &Auto,
@@ -187,8 +189,8 @@ fn take_element(
     Ok((behind, inside))
 }
 
-/// Takes the first item of a document that was the last to wait, or all of its own where they belong to the same
-/// variables, and adds what waits behind it and in it.
+/// Takes the first item of a document that was the last to wait, or all of its own where they
+/// belong to the same variables, and adds what waits behind it and in it.
 fn take_task(
     answers: &mut Answers,
     auto: &Auto,
@@ -271,11 +273,12 @@ fn empty_rows(alloc: Global, count: usize) -> Result<Vec<Vec<Piece>>, NoMemory>
     Ok(rows)
 }
 
-/// What the first run over the document gives each variable, in order. `None`, where there is no run.
+/// What the first run over the document gives each variable, in order. `None`, where there is no
+/// run.
 ///
-/// It takes at each item the first move that can succeed, by the answers that are kept, and adds those that it needs. It
-/// stops where all that is left of a level belongs to the same variables. Items at the end of a binding that stand so in
-/// the store already are shared.
+/// It takes at each item the first move that can succeed, by the answers that are kept, and adds
+/// those that it needs. It stops where all that is left of a level belongs to the same variables.
+/// Items at the end of a binding that stand so in the store already are shared.
 pub(crate) fn first_items(
     alloc: Global,
     answers: &mut Answers,

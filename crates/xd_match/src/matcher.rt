@@ -2,7 +2,8 @@
 
 ghost use Rattle.std.specs.Prelude.{◌≡◌, List, length, IfOk, option_map};
 ghost use Rattle.xd_doc.specs.Document.{Document};
-ghost use Rattle.xd_doc.specs.Stored.{BelongsTo, document_at};
+ghost use Rattle.xd_doc.specs.Stored.{document_at};
+ghost use Rattle.xd_doc.specs.StoredSeq.{BelongsTo};
 ghost use Rattle.xd_doc.specs.StoreNodes.{Keeps};
 ghost use Rattle.xd_syntax.specs.Kept.{program_tree};
 ghost use Rattle.xd_syntax.specs.Patterns.{IsPattern, pattern_tree};
@@ -25,8 +26,8 @@ use xd_patterns::{Marked, compile_pattern};
 use xd_sound::SoundProgram;
 use xd_syntax::PatternId;
 
-/// A compiled pattern, and the answers that its matches have found so far. Compiled patterns share no states, so each has
-/// an automaton of its own.
+/// A compiled pattern, and the answers that its matches have found so far. Compiled patterns share
+/// no states, so each has an automaton of its own.
 #[derive(Drop)]
 pub(crate) struct Matcher {
     auto: Auto,

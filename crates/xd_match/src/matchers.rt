@@ -2,7 +2,8 @@
 
 ghost use Rattle.std.specs.Prelude.{◌<◌, ℕ, List, IfOk, length};
 ghost use Rattle.xd_doc.specs.Document.{Document};
-ghost use Rattle.xd_doc.specs.Stored.{BelongsTo, document_at};
+ghost use Rattle.xd_doc.specs.Stored.{document_at};
+ghost use Rattle.xd_doc.specs.StoredSeq.{BelongsTo};
 ghost use Rattle.xd_doc.specs.StoreNodes.{Keeps};
 ghost use Rattle.xd_meaning.specs.Bindings.{first_bindings};
 ghost use Rattle.xd_syntax.specs.Kept.{program_tree};
@@ -22,8 +23,9 @@ use xd_doc::{Label, NoMemory, Seq, Store};
 use xd_sound::SoundProgram;
 use xd_syntax::PatternId;
 
-/// The patterns of one program. Each is compiled when it is first asked for, and the answers that its matches find are
-/// kept. So a run in which each match looks at the front of its document is linear.
+/// The patterns of one program. Each is compiled when it is first asked for, and the answers that
+/// its matches find are kept. So a run in which each match looks at the front of its document is
+/// linear.
 #[derive(Drop)]
 pub struct Matchers {
     meanings: Meanings,
@@ -35,8 +37,8 @@ pub struct Matchers {
 impl Matchers {
     ghost use Rattle.xd_match.specs.Serving.{AreNumbered, Serves, StaysServing};
 
-    /// Those of a program, which serve it on every store. The program's types are copied, for what `Any` stands for is put among them;
-    /// `NoMemory` where there is no room for the copy.
+    /// Those of a program, which serve it on every store. The program's types are copied, for what
+    /// `Any` stands for is put among them; `NoMemory` where there is no room for the copy.
     pub fn new(alloc: Global, sound: &SoundProgram) -> Result<Self, NoMemory>
         ensures { IfOk result (λ matchers. (documents : List Document) → Serves sound.now documents matchers) }
     {
@@ -48,12 +50,13 @@ impl Matchers {
         })
     }
 
-    /// The bindings of the first match, one for each variable, in order of first occurrence; `None` exactly where the pattern
-    /// doesn't take the document.
+    /// The bindings of the first match, one for each variable, in order of first occurrence; `None`
+    /// exactly where the pattern doesn't take the document.
     ///
-    /// The program and the store are those that the matchers serve: the program that they were made of, and one store, which may
-    /// grow in between ([`Self::stays_serving`]). The pattern is linear, as the patterns of clauses and their parts are.
-    /// A binding that runs to the end of its level is the store's own node. After `NoMemory` the matchers serve as before.
+    /// The program and the store are those that the matchers serve: the program that they were made
+    /// of, and one store, which may grow in between ([`Self::stays_serving`]). The pattern is
+    /// linear, as the patterns of clauses and their parts are. A binding that runs to the end of
+    /// its level is the store's own node. After `NoMemory` the matchers serve as before.
     ///
     /// (First matches are those of Hosoya and Pierce, JFP 2003.)
     pub fn first_way(
@@ -76,7 +79,8 @@ impl Matchers {
         first_way_of(&mut self.matchers, number, alloc, store, seq)
     }
 
-    /// The law of growth: what serves a store goes on to serve it while it grows. The call does nothing; its contract is the law.
+    /// The law of growth: what serves a store goes on to serve it while it grows. The call does
+    /// nothing; its contract is the law.
     pub fn stays_serving(&self)
         ensures { StaysServing self.now }
     {
@@ -131,7 +135,8 @@ fn first_way_of(
     matcher.first_way(alloc, store, seq)
 }
 
-/// The bindings of the first match of one pattern, once: see [`Matchers::first_way`]. After `NoMemory` the store has more documents at most.
+/// The bindings of the first match of one pattern, once: see [`Matchers::first_way`]. After
+/// `NoMemory` the store has more documents at most.
 pub fn first_way(
     alloc: Global,
     sound: &SoundProgram,

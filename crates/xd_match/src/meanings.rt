@@ -12,7 +12,8 @@ use xd_doc::{Class, Label, NoMemory};
 use xd_patterns::Bodies;
 use xd_syntax::{Program, TypeForm, TypeId, Types};
 
-/// What the names of a program's types stand for: nodes of a copy of its types, to which those of `Any` are added.
+/// What the names of a program's types stand for: nodes of a copy of its types, to which those of
+/// `Any` are added.
 #[derive(Drop)]
 pub(crate) struct Meanings {
     pub types: Types,

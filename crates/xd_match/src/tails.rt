@@ -17,8 +17,8 @@ use xd_doc::NoMemory;
 use xd_patterns::Marked;
 use xd_sound::Graph;
 
-/// The variables of the state's first move. Where the state isn't mixed, all items that are left of a level from it on
-/// belong to these.
+/// The variables of the state's first move. Where the state isn't mixed, all items that are left of
+/// a level from it on belong to these.
 pub(crate) fn tail_of<'a>(auto: &Auto, marked: &'a Marked, state: State) -> &'a [usize]
     requires { IsState auto.now state }
     ensures { words_of (variables_in marked.now) result.now ≡ tail_marks auto.now (marking_of marked.now) state }
@@ -30,8 +30,9 @@ pub(crate) fn tail_of<'a>(auto: &Auto, marked: &'a Marked, state: State) -> &'a 
     }
 }
 
-/// For each state, by its number, whether it is mixed: items that are left of a level from it on may belong to different
-/// variables, or items in them to some. A state that has such a move is mixed, and one whose moves lead to a mixed one.
+/// For each state, by its number, whether it is mixed: items that are left of a level from it on
+/// may belong to different variables, or items in them to some. A state that has such a move is
+/// mixed, and one whose moves lead to a mixed one.
 pub(crate) fn mixed_states(
     alloc: Global,
     auto: &Auto,
@@ -110,8 +111,8 @@ fn add_labels(auto: &Auto, state: State, behind: &mut Graph) -> Result<(), NoMem
     Ok(())
 }
 
-/// Whether the items of all moves belong to the same variables, as do the first items behind them, and the first ones in
-/// them to none.
+/// Whether the items of all moves belong to the same variables, as do the first items behind them,
+/// and the first ones in them to none.
 fn is_even(auto: &Auto, marked: &Marked, state: State) -> bool
     requires { IsState auto.now state }
     ensures { result ≡ true → IsEven auto.now (marking_of marked.now) state }

@@ -1,4 +1,5 @@
--- The bindings of a first match in the order of the pattern's variables. (JFP 2003: first match; the order is this project's own.)
+-- The bindings of a first match in the order of the pattern's variables. (JFP 2003: first match;
+-- the order is this project's own.)
 use Rattle.std.specs.Prelude.{ℕ, List, [], ◌∷◌, flat_map, Option, Some, None, option_map}
 use Rattle.xd_doc.specs.Document.{Document}
 use Rattle.xd_syntax.specs.Tree.{Tree, Definitions, occurrences}

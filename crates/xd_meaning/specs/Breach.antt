@@ -1,4 +1,5 @@
--- The first line of a proof at which a rule is broken, and which rule. (The order is this project's own.)
+-- The first line of a proof at which a rule is broken, and which rule. (The order is this project's
+-- own.)
 use Rattle.std.specs.Prelude.{◌≡◌, ℕ, ◌+◌, List, [], ◌∷◌, map, length, Option, Some, None}
 use Rattle.xd_syntax.specs.Tree.{Definitions}
 use Rattle.xd_meaning.specs.Heads.{Head, heads}
@@ -11,8 +12,8 @@ pub data Reason : Type 0 where
   bad_split : Reason
   bad_leaf : Reason
 
--- A goal and the number of its first line. Its left stands on the next line, then come its rights, the line on being empty if
--- there is one, and the cases.
+-- A goal and the number of its first line. Its left stands on the next line, then come its rights,
+-- the line on being empty if there is one, and the cases.
 pub record Lined : Type 0 where
   pub line : ℕ
   pub goal : Goal
@@ -39,8 +40,9 @@ ChoiceBreach gs other_label left hs t r = TreeBreach gs other_label left hs no_s
 ChoiceBreach gs (this_text s) left hs t r = TextBreach gs (this_text s) left hs t r
 ChoiceBreach gs other_text left hs t r = TextBreach gs other_text left hs t r
 
--- Where the cases from line n on are to be these: one too many is wrong where it stands, one too few at the line behind the
--- last case. A case of another head or atom is looked at before its tree.
+-- Where the cases from line n on are to be these: one too many is wrong where it stands, one too
+-- few at the line behind the last case. A case of another head or atom is looked at before its
+-- tree.
 pub data CasesBreach (E : Definitions) (gs : List Goal) (g : Goal) : (n : ℕ) → List HeadAtom → List Case → (line : ℕ) → Reason → Type 0 where
   too_many : {n : ℕ} {c : Case} {cs : List Case} → CasesBreach E gs g n [] (c ∷ cs) n bad_case
   too_few : {n : ℕ} {w : HeadAtom} {ws : List HeadAtom} → CasesBreach E gs g n (w ∷ ws) [] n bad_case

@@ -1,5 +1,6 @@
 -- Proofs of inclusions: goals that rest on one another, and the rules that they keep.
--- (The rules are those by which TOPLAS 2005 decides inclusion; written down as a text they are this project's own.)
+-- (The rules are those by which TOPLAS 2005 decides inclusion; written down as a text they are this
+-- project's own.)
 use Rattle.std.specs.Prelude.{◌≡◌, ℕ, zero, suc, ◌+◌, Bool, true, false, cond, List, [], ◌∷◌, ◌++◌, map, flat_map, Option, Some, None}
 use Rattle.std.specs.List.{AllByRecursion, filter}
 use Rattle.std.specs.Ordering.{nat_cmp}
@@ -19,8 +20,9 @@ pub data Atom : Type 0 where
   this_text : (characters : List ℕ) → Atom
   other_text : Atom
 
--- The goal of this number settles the content, or the rest; or the right head of this number is split on: in the first
--- tree it is on the content side, in the second on the rest side. Numbers are from 1.
+-- The goal of this number settles the content, or the rest; or the right head of this number is
+-- split on: in the first tree it is on the content side, in the second on the rest side. Numbers
+-- are from 1.
 pub data ChoiceTree : Type 0 where
   settles_content : (goal : ℕ) → ChoiceTree
   settles_rest : (goal : ℕ) → ChoiceTree
@@ -32,7 +34,8 @@ pub record Case : Type 0 where
   pub atom : Atom
   pub choice : ChoiceTree
 
--- It claims that every document that fits the left fits one of the rights. `empty_right` is the number of a right.
+-- It claims that every document that fits the left fits one of the rights. `empty_right` is the
+-- number of a right.
 pub record Goal : Type 0 where
   pub left : Tree
   pub rights : List Tree
@@ -131,8 +134,8 @@ on_rest n s = record s { rest = n ∷ s.rest }
 abbrev pub HasPart : (Head → Tree) → List Head → List ℕ → Tree → Type 0
 HasPart part hs ns T = (n : ℕ) × (h : Head) × Among n ns × (numbered hs n ≡ Some h) × (part h ≡ T)
 
--- A leaf names a goal. That goal's left is the part, content or rest, of the left head, and each of its rights is the part
--- of a right head on this side.
+-- A leaf names a goal. That goal's left is the part, content or rest, of the left head, and each of
+-- its rights is the part of a right head on this side.
 pub record LeafRule (part : Head → Tree) (goals : List Goal) (left : Head) (hs : List Head) (side : List ℕ) (n : ℕ) : Type 0 where
   pub goal : Goal
   pub stands : numbered goals n ≡ Some goal
@@ -153,7 +156,8 @@ LabelTree gs a left hs s (settles_content n) = LeafRule (λ h. h.content) gs lef
 LabelTree gs a left hs s (settles_rest n) = LeafRule (λ h. h.rest) gs left hs s.rest n
 LabelTree gs a left hs s (split_on n t u) = SplitRule a hs s n × LabelTree gs a left hs (on_content n s) t × LabelTree gs a left hs (on_rest n s) u
 
--- the tree of a text: one leaf on the rest, where all right heads that match count as put on the rest side
+-- the tree of a text: one leaf on the rest, where all right heads that match count as put on the
+-- rest side
 abbrev pub TextTree : List Goal → Atom → Head → List Head → ChoiceTree → Type 0
 TextTree gs a left hs (settles_rest n) = LeafRule (λ h. h.rest) gs left hs (matching a 1 hs) n
 TextTree gs a left hs (settles_content n) = ⊥
@@ -171,13 +175,14 @@ pub record CaseRule (E : Definitions) (goals : List Goal) (g : Goal) (c : Case) 
   pub stands : numbered (heads E g.left) c.head ≡ Some left_head
   pub tree : TreeRule goals c.atom left_head (right_heads E g) c.choice
 
--- No right is named only where the left cannot be empty; else the left can be, and so can the right with this number.
+-- No right is named only where the left cannot be empty; else the left can be, and so can the right
+-- with this number.
 abbrev pub EmptyRule : Definitions → Goal → Option ℕ → Type 0
 EmptyRule E g None = can_be_empty E g.left ≡ false
 EmptyRule E g (Some n) = (can_be_empty E g.left ≡ true) × (T : Tree) × (numbered g.rights n ≡ Some T) × (can_be_empty E T ≡ true)
 
--- The rules of a goal: on the empty document; one case for each left head and each of its atoms, in order, and no other; and
--- the trees of the cases.
+-- The rules of a goal: on the empty document; one case for each left head and each of its atoms, in
+-- order, and no other; and the trees of the cases.
 pub record KeepsRules (E : Definitions) (goals : List Goal) (g : Goal) : Type 0 where
   pub empty : EmptyRule E g g.empty_right
   pub cases : map head_atom g.cases ≡ wanted E g

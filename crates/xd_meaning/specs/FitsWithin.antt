@@ -1,4 +1,5 @@
--- Which documents fit a type, by unfoldings: what a name means within n is what its definition means within n - 1.
+-- Which documents fit a type, by unfoldings: what a name means within n is what its definition
+-- means within n - 1.
 use Rattle.std.specs.Prelude.{◌≡◌, ℕ, suc, zero, true, ◌⊎◌, List, Option, Some, None}
 use Rattle.xd_doc.specs.Document.{Document, empty, text, element, join, has_item}
 use Rattle.xd_doc.specs.Classes.{LabelClass, TextClass, class_has}

@@ -1,5 +1,6 @@
 -- Heads of a type: how the documents that fit it begin
--- (after Hosoya, Vouillon and Pierce, TOPLAS 2005; that the list has this order is this project's own).
+-- (after Hosoya, Vouillon and Pierce, TOPLAS 2005; that the list has this order is this project's
+-- own).
 use Rattle.std.specs.Prelude.{ℕ, zero, suc, Bool, true, cond, List, [], ◌∷◌, ◌++◌, map, length, Option, Some, None}
 use Rattle.xd_doc.specs.Classes.{LabelClass, TextClass}
 use Rattle.xd_syntax.specs.Tree.{Tree, Empty, Text, Words, Name, Elem, Seq, Alt, Star, Plus, Opt, Val, Definitions, body, seq_of}
@@ -23,7 +24,8 @@ pub data HeadKind : Type 0 where
   element_in : LabelClass → HeadKind
   text_in : TextClass → HeadKind
 
--- what the first item is, what stands in it, and what follows it; the content of a text is the empty type
+-- what the first item is, what stands in it, and what follows it; the content of a text is the
+-- empty type
 pub record Head : Type 0 where
   pub kind : HeadKind
   pub content : Tree

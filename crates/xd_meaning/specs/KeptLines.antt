@@ -1,7 +1,8 @@
 -- Faults and warnings as the program keeps them, with the document in a store.
 use Rattle.std.specs.Prelude.{◌≡◌, List, Some}
 use Rattle.xd_doc.specs.Document.{Document}
-use Rattle.xd_doc.specs.Stored.{document_at, BelongsTo}
+use Rattle.xd_doc.specs.Stored.{document_at}
+use Rattle.xd_doc.specs.StoredSeq.{BelongsTo}
 use Rattle.xd_doc.specs.declared.store.Seq.{Seq}
 use Rattle.xd_syntax.specs.CheckFaults.{LineKind, not_exhaustive, wrong_argument, wrong_result, dead_clause, Line}
 use Rattle.xd_syntax.specs.declared.fault.Fault.{Fault}

@@ -1,4 +1,5 @@
--- The meaning of an expression on fuel (Hosoya and Pierce, TOIT 2003: evaluation; fuel is this project's own).
+-- The meaning of an expression on fuel (Hosoya and Pierce, TOIT 2003: evaluation; fuel is this
+-- project's own).
 use Rattle.std.specs.Prelude.{ℕ, suc, zero, cond, List, [], ◌∷◌, ◌++◌, Option, Some, None}
 use Rattle.std.specs.Str.{bytes_eq}
 use Rattle.xd_doc.specs.Document.{Document, empty, text, element, join}
@@ -9,7 +10,8 @@ use Rattle.xd_meaning.specs.FirstMatch.{first}
 use Rattle.xd_syntax.specs.Expression.{Expression, Nothing, Quoted, Variable, Tagged, Joined, Called, Matched, Arguments, no_argument, argument, Clauses, no_clause, clause}
 use Rattle.xd_syntax.specs.Program.{Parameter, FunctionDefinition, ProgramTree, names_of, function_of}
 
--- a value, and the calls that are left; more calls are needed; no clause takes the document, or a name is unknown
+-- a value, and the calls that are left; more calls are needed; no clause takes the document, or a
+-- name is unknown
 pub data Outcome (A : Type 0) : Type 0 where
   Done : (value : A) (left : ℕ) → Outcome A
   Spent : Outcome A
@@ -48,7 +50,8 @@ bound (p ∷ ps) (d ∷ ds) = (p.name, d) ∷ bound ps ds
 abbrev pub Matcher : Type 0
 Matcher = Tree → Document → Option Environment
 
--- the value of an expression with n calls left, where M gives first matches and C the value of a call with the calls left
+-- the value of an expression with n calls left, where M gives first matches and C the value of a
+-- call with the calls left
 abbrev mutual
   pub value_by : Matcher → (ℕ → List ℕ → List Document → Outcome Document) → ℕ → Environment → Expression → Outcome Document
   value_by M C n env (Nothing p) = Done empty n
@@ -81,8 +84,8 @@ call_within M P zero n f ds = Spent
 call_within M P (suc k) zero f ds = Spent
 call_within M P (suc k) (suc n) f ds = body_by (value_by M (call_within M P k) n) (function_of P.functions f) ds
 
--- With the first matches of the program's patterns. Each call takes one of the calls left, so calls stand within one another
--- at most as deep as calls are left.
+-- With the first matches of the program's patterns. Each call takes one of the calls left, so calls
+-- stand within one another at most as deep as calls are left.
 
 abbrev pub call : ProgramTree → ℕ → List ℕ → List Document → Outcome Document
 call P n f ds = call_within (first (names_of P)) P n n f ds

@@ -15,7 +15,8 @@ abbrev pub code_except : Bool → ℕ
 code_except false = 0
 code_except true = 1
 
--- A form as a list of numbers, where its parts have these. Where the numbers tell the parts apart, forms of different types have different lists.
+-- A form as a list of numbers, where its parts have these. Where the numbers tell the parts apart,
+-- forms of different types have different lists.
 abbrev pub form_code : (ℕ → ℕ) → Form → List ℕ
 form_code num empty_form = 0 ∷ []
 form_code num text_form = 1 ∷ []

@@ -12,7 +12,8 @@ use Rattle.xd_moves.specs.declared.piece.Piece.{Piece}
 abbrev pub piece_form : List Row → Piece → Form
 piece_form types p = cond p.is_turns (turn_form (row_at types p.node).form) (row_at types p.node).form
 
--- There are as many first pieces as lists: either none came, or this one came behind the others, and its position is its number.
+-- There are as many first pieces as lists: either none came, or this one came behind the others,
+-- and its position is its number.
 pub record AddsFirst (old new : List Piece) (lists : ℕ) (piece : Piece) (number : ℕ) : Type 0 where
   pub added : (new ≡ old) ⊎ ((new ≡ old ++ piece ∷ []) × (number ≡ length old))
   pub count : length new ≡ lists
@@ -21,7 +22,8 @@ pub record AddsFirst (old new : List Piece) (lists : ℕ) (piece : Piece) (numbe
 abbrev pub HaveNumbers : List Row → List ℕ → ℕ → List (List ℕ) → List Piece → Type 0
 HaveNumbers types numbers n lists firsts = (k : ℕ) (p : Piece) → slice_get firsts k ≡ Some p → (p.node < n) × HasNumber lists (form_code (number_at numbers) (piece_form types p)) k
 
--- the first n nodes, and the stars of those that are repetitions, have the numbers of their codes, and each number has its first piece
+-- the first n nodes, and the stars of those that are repetitions, have the numbers of their codes,
+-- and each number has its first piece
 pub record AreNumbered (types : List Row) (n : ℕ) (lists : List (List ℕ)) (numbers turns : List ℕ) (firsts : List Piece) : Type 0 where
   pub each : length numbers ≡ n
   pub turned : length turns ≡ n

@@ -31,7 +31,8 @@ piece_number f p = cond p.is_turns (number_at f.turns.items p.node) (number_at f
 abbrev pub first_piece : FirstPieces → Piece → Piece
 first_piece f p = get_or f.firsts.items (piece_number f p) p
 
--- each piece of the types has one that stands for it: one of the same type, and the same one for all of that type
+-- each piece of the types has one that stands for it: one of the same type, and the same one for
+-- all of that type
 pub record AreFirst (types : List Row) (f : FirstPieces) : Type 0 where
   pub numbers : length f.numbers.items ≡ length types
   pub turns : length f.turns.items ≡ length types

@@ -34,8 +34,8 @@ pub fn content<S: StandIns>(
     }
 }
 
-/// Makes room for so many more cells. Where there are as many already, it is left to the first new one: it may be that all of them
-/// are there.
+/// Makes room for so many more cells. Where there are as many already, it is left to the first new
+/// one: it may be that all of them are there.
 fn make_room(cells: &mut Continuations, additional: usize) -> Result<(), NoMemory>
     ensures { cells.new ≡ cells.old }
 {

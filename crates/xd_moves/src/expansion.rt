@@ -22,7 +22,8 @@ use xd_continuations::Link;
 use xd_doc::{Label, NoMemory};
 use xd_syntax::{TypeDef, TypeForm, TypeId, Types};
 
-/// An element or a text that a document can begin with, and the number of the continuation behind it.
+/// An element or a text that a document can begin with, and the number of the continuation behind
+/// it.
 #[derive(Clone, Copy)]
 pub struct Found {
     pub node: usize,
@@ -67,8 +68,8 @@ fn whole(part: TypeId) -> Piece
     }
 }
 
-/// Puts the tasks of a sequence on the others: each part, with the parts after it behind it, as long as those before it
-/// can be empty.
+/// Puts the tasks of a sequence on the others: each part, with the parts after it behind it, as
+/// long as those before it can be empty.
 fn push_sequence<S: StandIns>(
     types: &Types,
     marks: &[bool],

@@ -46,8 +46,8 @@ impl FirstUses {
         Ok(())
     }
 
-    /// The node that stands for this one in continuations: for a name the first node of that name, so that all uses of a
-    /// name share their continuations; else the node itself.
+    /// The node that stands for this one in continuations: for a name the first node of that name,
+    /// so that all uses of a name share their continuations; else the node itself.
     pub fn first(&self, types: &Types, node: usize) -> usize
         requires { node < length types.now }
         ensures there { result < length types.now }

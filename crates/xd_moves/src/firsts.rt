@@ -15,8 +15,8 @@ use std::alloc::Global;
 use xd_doc::NoMemory;
 use xd_syntax::{TypeForm, TypeId, Types};
 
-/// For each piece of a table of types one of the same type, the first: two pieces are of equal types exactly where these are
-/// the same.
+/// For each piece of a table of types one of the same type, the first: two pieces are of equal
+/// types exactly where these are the same.
 #[derive(Drop)]
 pub struct FirstPieces {
     /// A number for each node, one for equal types.
@@ -27,7 +27,8 @@ pub struct FirstPieces {
     firsts: Vec<Piece>,
 }
 
-/// The number of a piece by its code. Where no piece before it has the code it is the first of that number.
+/// The number of a piece by its code. Where no piece before it has the code it is the first of that
+/// number.
 fn number_piece(
     firsts: &mut Vec<Piece>,
     lists: &mut Lists,

@@ -12,7 +12,8 @@ use crate::firsts::FirstPieces;
 use crate::piece::Piece;
 use xd_syntax::Types;
 
-/// Which piece stands for a piece in continuations: one of the same type, so that more continuations are one.
+/// Which piece stands for a piece in continuations: one of the same type, so that more
+/// continuations are one.
 pub trait StandIns {
     /// They are those of these types.
     ghost serve: { List Row → Self → Type 0 };

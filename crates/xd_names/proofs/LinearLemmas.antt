@@ -9,7 +9,8 @@ use Rattle.xd_syntax.specs.TreeForms.{is_alt}
 use Rattle.xd_syntax.specs.Table.{Row, CanFollow, alt_form, IsAltPart, tree_at}
 use Rattle.xd_syntax.specs.Placed.{PlacedTree, Empty_at, Text_at, Words_at, Name_at, Elem_at, Seq_at, Alt_at, Star_at, Plus_at, Opt_at, Val_at, place_of, placed_seq, placed_alt, unplaced, variables}
 use Rattle.xd_syntax.specs.PlacedTable.{placed_at}
-use Rattle.xd_syntax.specs.NameFaults.{in_each_branch, lacking_somewhere, without, not_linear}
+use Rattle.xd_syntax.specs.NameFaults.{in_each_branch, lacking_somewhere, without}
+use Rattle.xd_syntax.specs.NotLinear.{not_linear}
 use Rattle.xd_syntax.specs.declared.fault.Fault.{Fault}
 use Rattle.xd_syntax.proofs.PlacedTrees.{unplaced_at}
 use Rattle.xd_syntax.proofs.Trees.{tree_kept}

@@ -7,7 +7,8 @@ ghost use Rattle.xd_syntax.specs.Words.{has_word};
 ghost use Rattle.xd_syntax.specs.Patterns.{IsPattern, pattern_numbers};
 ghost use Rattle.xd_syntax.specs.PlacedTable.{placed_at};
 ghost use Rattle.xd_syntax.specs.Placed.{variables};
-ghost use Rattle.xd_syntax.specs.NameFaults.{fault_if, not_linear};
+ghost use Rattle.xd_syntax.specs.NameFaults.{fault_if};
+ghost use Rattle.xd_syntax.specs.NotLinear.{not_linear};
 ghost use Rattle.xd_syntax.specs.declared.fault.FaultKind.TheVariants.{NotLinear};
 
 use crate::scope::Scope;
@@ -191,9 +192,10 @@ fn add_partial(
 
 /// One more fault for each occurrence of a variable that isn't linear.
 ///
-/// `repeated`: a repetition or an option stands around. `earlier`: the variables that occurred before and not in another
-/// branch of an alternative around both; those of the pattern are added. `partial`: the variables that some branch of an
-/// alternative around lacks and that have not occurred in it; those of the pattern are taken out.
+/// `repeated`: a repetition or an option stands around. `earlier`: the variables that occurred
+/// before and not in another branch of an alternative around both; those of the pattern are added.
+/// `partial`: the variables that some branch of an alternative around lacks and that have not
+/// occurred in it; those of the pattern are taken out.
 pub(crate) fn not_linear(
     alloc: Global,
     patterns: &Patterns,

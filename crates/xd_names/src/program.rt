@@ -20,7 +20,8 @@ use std::alloc::Global;
 use xd_doc::NoMemory;
 use xd_syntax::{Fault, Function, Param, Program, TypeDef, Types, sort_faults};
 
-/// All faults of names, of numbers of arguments and of linearity, in order of place, then of number.
+/// All faults of names, of numbers of arguments and of linearity, in order of place, then of
+/// number.
 ///
 /// `NoMemory` where there is no room for the names in scope or for the list.
 pub fn resolve(alloc: Global, program: &Program) -> Result<Vec<Fault>, NoMemory>

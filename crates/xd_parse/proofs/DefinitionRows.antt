@@ -87,7 +87,8 @@ one_more_parameter from middle to q qs h r more =
 pub no_more_parameters : (from : List Lexeme) → same t.ParenL (front_terminal from) ≡ false → Reads n.MoreParams from from (parameters [])
 no_more_parameters from h = part_fit n.MoreParams (Unless t.ParenL ∷ []) from from [] refl (rw h refl) (row_unless t.ParenL [] from from [] (row_end from))
 
--- what the first parameters have read, and those behind them: whatever those there stand for, it stands behind them
+-- what the first parameters have read, and those behind them: whatever those there stand for, it
+-- stands behind them
 abbrev pub ReadsMoreInFront : List Parameter → (here there : List Lexeme) → Type 0
 ReadsMoreInFront qs here there = (to : List Lexeme) (rs : List Parameter) → Reads n.MoreParams there to (parameters rs) → Reads n.MoreParams here to (parameters (qs ++ rs))
 

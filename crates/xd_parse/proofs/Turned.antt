@@ -1,4 +1,5 @@
--- From what was read to what the text stands for: a text that spells has some value, and what was read is that value.
+-- From what was read to what the text stands for: a text that spells has some value, and what was
+-- read is that value.
 use Rattle.std.proofs.Common.{◌≡◌, ℕ, List, [], ◌∷◌, refl, subst}
 use Rattle.xd_lex.specs.Tokens.{Lexeme, tokens_of}
 use Rattle.xd_syntax.specs.Placed.{PlacedTree}

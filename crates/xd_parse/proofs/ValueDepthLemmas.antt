@@ -17,7 +17,7 @@ use Rattle.xd_grammar.specs.Grammar.{Row, rules, IsOneOf}
 use Rattle.xd_grammar.specs.Text.{terminal_at}
 use Rattle.xd_syntax.specs.TypeText.{list_depth}
 use Rattle.xd_parse_trees.specs.Merged.{in_byte_order, class_of}
-use Rattle.xd_parse_trees.specs.Values.{Value, mark, word, label, quoted, absent, a_tree, trees, class, names, texts, labelled, token_of, excepted_value, excepted_list_value, an_expression, a_parameter, parameters, definitions, token_value, value_of, alternative_value, sequence_value, more_trees_value, post_value, prim_value, group_value, content_value, type_text_value, param_value, more_params_value, definitions_value}
+use Rattle.xd_parse_trees.specs.Values.{Value, mark, word, label, quoted, absent, a_tree, trees, class, names, texts, labelled, token_of, an_expression, a_parameter, parameters, definitions, token_value, value_of}
 use Rattle.xd_parse_trees.proofs.Depth.{plain, any_depth, AnyWithin, SeqWithin, PostWithin, PrimWithin, prim_post, any_prim, sequence_within, alternative_within, repeated_within, named_within}
 use Rattle.xd_parse.proofs.Spelled.{MeansAt, ends_at, token_at, opening_at, closing_at, bar_at, part_at, MeansWithin}
 
@@ -193,75 +193,75 @@ element_within true a d l h = omega arith
 element_within false a d l h = omega arith
 
 -- ---- each row
-type_two : (l d : ℕ) (v w : Value) → Within l (n.Sequence sorts.Type) d v → Within l (n.MoreBranches sorts.Type) d w → Within l (n.Alternative sorts.Type) d (alternative_value (v ∷ (w ∷ [])))
+type_two : (l d : ℕ) (v w : Value) → Within l (n.Sequence sorts.Type) d v → Within l (n.MoreBranches sorts.Type) d w → Within l (n.Alternative sorts.Type) d (value_of (n.Alternative sorts.Type) (v ∷ (w ∷ [])))
 type_two l d (a_tree T) (trees Ts) a b = alternative_within l d T Ts a b
 type_two l d v w a b = tt
 
-type_row : (l d : ℕ) (ps : List Value) → RowWithin l (Part (n.Sequence sorts.Type) ∷ Part (n.MoreBranches sorts.Type) ∷ []) d ps → Within l (n.Alternative sorts.Type) d (alternative_value ps)
+type_row : (l d : ℕ) (ps : List Value) → RowWithin l (Part (n.Sequence sorts.Type) ∷ Part (n.MoreBranches sorts.Type) ∷ []) d ps → Within l (n.Alternative sorts.Type) d (value_of (n.Alternative sorts.Type) ps)
 type_row l d ps r =
     let s = r.4 in let q : ps ≡ r.0 ∷ (s.0 ∷ []) = then_values ps r.1 (s.0 ∷ []) r.0 r.2 (one_value r.1 s.1 s.0 s.2 s.4.0) in
-    subst (λ (x : List Value). Within l (n.Alternative sorts.Type) d (alternative_value x)) (sym q) (type_two l d r.0 s.0 r.3 s.3)
+    subst (λ (x : List Value). Within l (n.Alternative sorts.Type) d (value_of (n.Alternative sorts.Type) x)) (sym q) (type_two l d r.0 s.0 r.3 s.3)
 
-seq_two : (l d : ℕ) (v w : Value) → Within l (n.Post sorts.Type) d v → Within l (n.MoreParts sorts.Type) d w → Within l (n.Sequence sorts.Type) d (sequence_value (v ∷ (w ∷ [])))
+seq_two : (l d : ℕ) (v w : Value) → Within l (n.Post sorts.Type) d v → Within l (n.MoreParts sorts.Type) d w → Within l (n.Sequence sorts.Type) d (value_of (n.Sequence sorts.Type) (v ∷ (w ∷ [])))
 seq_two l d (a_tree T) (trees Ts) a b = sequence_within l d T Ts a b
 seq_two l d v w a b = tt
 
-seq_row : (l d : ℕ) (ps : List Value) → RowWithin l (Part (n.Post sorts.Type) ∷ Part (n.MoreParts sorts.Type) ∷ []) d ps → Within l (n.Sequence sorts.Type) d (sequence_value ps)
+seq_row : (l d : ℕ) (ps : List Value) → RowWithin l (Part (n.Post sorts.Type) ∷ Part (n.MoreParts sorts.Type) ∷ []) d ps → Within l (n.Sequence sorts.Type) d (value_of (n.Sequence sorts.Type) ps)
 seq_row l d ps r =
     let s = r.4 in let q : ps ≡ r.0 ∷ (s.0 ∷ []) = then_values ps r.1 (s.0 ∷ []) r.0 r.2 (one_value r.1 s.1 s.0 s.2 s.4.0) in
-    subst (λ (x : List Value). Within l (n.Sequence sorts.Type) d (sequence_value x)) (sym q) (seq_two l d r.0 s.0 r.3 s.3)
+    subst (λ (x : List Value). Within l (n.Sequence sorts.Type) d (value_of (n.Sequence sorts.Type) x)) (sym q) (seq_two l d r.0 s.0 r.3 s.3)
 
-more_two : (l d : ℕ) (u v w : Value) → Within l (n.Sequence sorts.Type) d v → Within l (n.MoreBranches sorts.Type) d w → Within l (n.MoreBranches sorts.Type) d (more_trees_value (u ∷ (v ∷ (w ∷ []))))
+more_two : (l d : ℕ) (u v w : Value) → Within l (n.Sequence sorts.Type) d v → Within l (n.MoreBranches sorts.Type) d w → Within l (n.MoreBranches sorts.Type) d (value_of (n.MoreBranches sorts.Type) (u ∷ (v ∷ (w ∷ []))))
 more_two l d (mark k p) (a_tree T) (trees Ts) a b = (a, b)
 more_two l d u v w a b = tt
 
-more_row : (l d : ℕ) (ps : List Value) → RowWithin l (Token t.Bar ∷ Part (n.Sequence sorts.Type) ∷ Part (n.MoreBranches sorts.Type) ∷ []) d ps → Within l (n.MoreBranches sorts.Type) d (more_trees_value ps)
+more_row : (l d : ℕ) (ps : List Value) → RowWithin l (Token t.Bar ∷ Part (n.Sequence sorts.Type) ∷ Part (n.MoreBranches sorts.Type) ∷ []) d ps → Within l (n.MoreBranches sorts.Type) d (value_of (n.MoreBranches sorts.Type) ps)
 more_row l d ps r =
     let s = r.4 in let m = s.4 in
     let q : ps ≡ r.0 ∷ (s.0 ∷ (m.0 ∷ [])) = then_values ps r.1 (s.0 ∷ (m.0 ∷ [])) r.0 r.2 (then_values r.1 s.1 (m.0 ∷ []) s.0 s.2 (one_value s.1 m.1 m.0 m.2 m.4.0)) in
-    subst (λ (x : List Value). Within l (n.MoreBranches sorts.Type) d (more_trees_value x)) (sym q) (more_two l d r.0 s.0 m.0 s.3 m.3)
+    subst (λ (x : List Value). Within l (n.MoreBranches sorts.Type) d (value_of (n.MoreBranches sorts.Type) x)) (sym q) (more_two l d r.0 s.0 m.0 s.3 m.3)
 
-none_row : (l d : ℕ) (ps : List Value) → ps ≡ [] → Within l (n.MoreBranches sorts.Type) d (more_trees_value ps)
-none_row l d ps e = subst (λ (x : List Value). Within l (n.MoreBranches sorts.Type) d (more_trees_value x)) (sym e) tt
+none_row : (l d : ℕ) (ps : List Value) → ps ≡ [] → Within l (n.MoreBranches sorts.Type) d (value_of (n.MoreBranches sorts.Type) ps)
+none_row l d ps e = subst (λ (x : List Value). Within l (n.MoreBranches sorts.Type) d (value_of (n.MoreBranches sorts.Type) x)) (sym e) tt
 
-parts_two : (l d : ℕ) (u v w : Value) → Within l (n.Post sorts.Type) d v → Within l (n.MoreParts sorts.Type) d w → Within l (n.MoreParts sorts.Type) d (more_trees_value (u ∷ (v ∷ (w ∷ []))))
+parts_two : (l d : ℕ) (u v w : Value) → Within l (n.Post sorts.Type) d v → Within l (n.MoreParts sorts.Type) d w → Within l (n.MoreParts sorts.Type) d (value_of (n.MoreParts sorts.Type) (u ∷ (v ∷ (w ∷ []))))
 parts_two l d (mark k p) (a_tree T) (trees Ts) a b = (a, b)
 parts_two l d u v w a b = tt
 
-parts_row : (l d : ℕ) (ps : List Value) → RowWithin l (Token t.Comma ∷ Part (n.Post sorts.Type) ∷ Part (n.MoreParts sorts.Type) ∷ []) d ps → Within l (n.MoreParts sorts.Type) d (more_trees_value ps)
+parts_row : (l d : ℕ) (ps : List Value) → RowWithin l (Token t.Comma ∷ Part (n.Post sorts.Type) ∷ Part (n.MoreParts sorts.Type) ∷ []) d ps → Within l (n.MoreParts sorts.Type) d (value_of (n.MoreParts sorts.Type) ps)
 parts_row l d ps r =
     let s = r.4 in let m = s.4 in
     let q : ps ≡ r.0 ∷ (s.0 ∷ (m.0 ∷ [])) = then_values ps r.1 (s.0 ∷ (m.0 ∷ [])) r.0 r.2 (then_values r.1 s.1 (m.0 ∷ []) s.0 s.2 (one_value s.1 m.1 m.0 m.2 m.4.0)) in
-    subst (λ (x : List Value). Within l (n.MoreParts sorts.Type) d (more_trees_value x)) (sym q) (parts_two l d r.0 s.0 m.0 s.3 m.3)
+    subst (λ (x : List Value). Within l (n.MoreParts sorts.Type) d (value_of (n.MoreParts sorts.Type) x)) (sym q) (parts_two l d r.0 s.0 m.0 s.3 m.3)
 
-no_parts_row : (l d : ℕ) (ps : List Value) → ps ≡ [] → Within l (n.MoreParts sorts.Type) d (more_trees_value ps)
-no_parts_row l d ps e = subst (λ (x : List Value). Within l (n.MoreParts sorts.Type) d (more_trees_value x)) (sym e) tt
+no_parts_row : (l d : ℕ) (ps : List Value) → ps ≡ [] → Within l (n.MoreParts sorts.Type) d (value_of (n.MoreParts sorts.Type) ps)
+no_parts_row l d ps e = subst (λ (x : List Value). Within l (n.MoreParts sorts.Type) d (value_of (n.MoreParts sorts.Type) x)) (sym e) tt
 
-marked : (l d : ℕ) (k : Terminal) (p : Place) (w : Value) → Within l (n.Post sorts.Type) d (post_value (mark k p ∷ (w ∷ [])))
+marked : (l d : ℕ) (k : Terminal) (p : Place) (w : Value) → Within l (n.Post sorts.Type) d (value_of (n.Post sorts.Type) (mark k p ∷ (w ∷ [])))
 marked l d k p (word x q) = tt
 marked l d k p w = tt
 
-post_two : (l d : ℕ) (v w : Value) → Within l (n.Prim sorts.Type) d v → Within l (n.Post sorts.Type) d (post_value (v ∷ (w ∷ [])))
+post_two : (l d : ℕ) (v w : Value) → Within l (n.Prim sorts.Type) d v → Within l (n.Post sorts.Type) d (value_of (n.Post sorts.Type) (v ∷ (w ∷ [])))
 post_two l d (a_tree T) absent a = prim_post l d T a
 post_two l d (a_tree T) (mark k p) a = repeated_within l d k T a
 post_two l d (mark k p) w a = marked l d k p w
 post_two l d v w a = tt
 
-post_row : (l d : ℕ) (ps : List Value) → RowWithin l (Part (n.Prim sorts.Type) ∷ Part n.Operator ∷ []) d ps → Within l (n.Post sorts.Type) d (post_value ps)
+post_row : (l d : ℕ) (ps : List Value) → RowWithin l (Part (n.Prim sorts.Type) ∷ Part n.Operator ∷ []) d ps → Within l (n.Post sorts.Type) d (value_of (n.Post sorts.Type) ps)
 post_row l d ps r =
     let s = r.4 in let q : ps ≡ r.0 ∷ (s.0 ∷ []) = then_values ps r.1 (s.0 ∷ []) r.0 r.2 (one_value r.1 s.1 s.0 s.2 s.4.0) in
-    subst (λ (x : List Value). Within l (n.Post sorts.Type) d (post_value x)) (sym q) (post_two l d r.0 s.0 r.3)
+    subst (λ (x : List Value). Within l (n.Post sorts.Type) d (value_of (n.Post sorts.Type) x)) (sym q) (post_two l d r.0 s.0 r.3)
 
-prim_one : (l d : ℕ) (v : Value) → d ≤ l → Within l (n.Prim sorts.Type) d (prim_value (v ∷ []))
+prim_one : (l d : ℕ) (v : Value) → d ≤ l → Within l (n.Prim sorts.Type) d (value_of (n.Prim sorts.Type) (v ∷ []))
 prim_one l d (word x p) h = named_within l d x p h
 prim_one l d (quoted s p) h = (tt, omega arith)
 prim_one l d v h = tt
 
-word_row : (l d : ℕ) (ps : List Value) → RowWithin l (Token t.Word ∷ []) d ps → Within l (n.Prim sorts.Type) d (prim_value ps)
-word_row l d ps r = subst (λ (x : List Value). Within l (n.Prim sorts.Type) d (prim_value x)) (sym (one_value ps r.1 r.0 r.2 r.4.0)) (prim_one l d r.0 r.3.0)
+word_row : (l d : ℕ) (ps : List Value) → RowWithin l (Token t.Word ∷ []) d ps → Within l (n.Prim sorts.Type) d (value_of (n.Prim sorts.Type) ps)
+word_row l d ps r = subst (λ (x : List Value). Within l (n.Prim sorts.Type) d (value_of (n.Prim sorts.Type) x)) (sym (one_value ps r.1 r.0 r.2 r.4.0)) (prim_one l d r.0 r.3.0)
 
-quoted_row : (l d : ℕ) (ps : List Value) → RowWithin l (Token t.Text ∷ []) d ps → Within l (n.Prim sorts.Type) d (prim_value ps)
-quoted_row l d ps r = subst (λ (x : List Value). Within l (n.Prim sorts.Type) d (prim_value x)) (sym (one_value ps r.1 r.0 r.2 r.4.0)) (prim_one l d r.0 r.3.0)
+quoted_row : (l d : ℕ) (ps : List Value) → RowWithin l (Token t.Text ∷ []) d ps → Within l (n.Prim sorts.Type) d (value_of (n.Prim sorts.Type) ps)
+quoted_row l d ps r = subst (λ (x : List Value). Within l (n.Prim sorts.Type) d (value_of (n.Prim sorts.Type) x)) (sym (one_value ps r.1 r.0 r.2 r.4.0)) (prim_one l d r.0 r.3.0)
 
 in_parentheses : (l d : ℕ) (T : PlacedTree) → d < l → ContentWithin l (suc d) T → PrimWithin l d T
 in_parentheses l d T h (inl e) = empty_within l d T h e
@@ -276,7 +276,7 @@ listed l d [] h = omega arith
 listed l d (s ∷ []) h = omega arith
 listed l d (s ∷ (t ∷ ts)) h = omega arith
 
-prim_two : (l d : ℕ) (v w : Value) → d < l → Within l (n.Content sorts.Type) (suc d) w → Within l (n.Prim sorts.Type) d (prim_value (v ∷ (w ∷ [])))
+prim_two : (l d : ℕ) (v w : Value) → d < l → Within l (n.Content sorts.Type) (suc d) w → Within l (n.Prim sorts.Type) d (value_of (n.Prim sorts.Type) (v ∷ (w ∷ [])))
 prim_two l d (mark k p) absent h a = (tt, omega arith)
 prim_two l d (mark k p) (a_tree T) h a = in_parentheses l d T h a
 prim_two l d (mark k p) (texts ss) h a = (tt, listed l d (in_byte_order ss) h)
@@ -289,18 +289,18 @@ as_content l d (a_tree T) a = inr a
 as_content l d (labelled ws T) a = a
 as_content l d w a = tt
 
-group_of_row : (l d : ℕ) (ps : List Value) → RowWithin l (Opening t.ParenL ∷ Part (n.Group sorts.Type) ∷ []) d ps → Within l (n.Prim sorts.Type) d (prim_value ps)
+group_of_row : (l d : ℕ) (ps : List Value) → RowWithin l (Opening t.ParenL ∷ Part (n.Group sorts.Type) ∷ []) d ps → Within l (n.Prim sorts.Type) d (value_of (n.Prim sorts.Type) ps)
 group_of_row l d ps r =
     let s = r.4 in let q : ps ≡ r.0 ∷ (s.0 ∷ []) = then_values ps r.1 (s.0 ∷ []) r.0 r.2 (one_value r.1 s.1 s.0 s.2 s.4.0) in
-    subst (λ (x : List Value). Within l (n.Prim sorts.Type) d (prim_value x)) (sym q) (prim_two l d r.0 s.0 r.3 (as_content l (suc d) s.0 s.3))
+    subst (λ (x : List Value). Within l (n.Prim sorts.Type) d (value_of (n.Prim sorts.Type) x)) (sym q) (prim_two l d r.0 s.0 r.3 (as_content l (suc d) s.0 s.3))
 
-element_of_row : (l d : ℕ) (ps : List Value) → RowWithin l (Part n.Class ∷ Part (n.Content sorts.Type) ∷ []) d ps → Within l (n.Prim sorts.Type) d (prim_value ps)
+element_of_row : (l d : ℕ) (ps : List Value) → RowWithin l (Part n.Class ∷ Part (n.Content sorts.Type) ∷ []) d ps → Within l (n.Prim sorts.Type) d (value_of (n.Prim sorts.Type) ps)
 element_of_row l d ps r =
     let s = r.4 in let q : ps ≡ r.0 ∷ (s.0 ∷ []) = then_values ps r.1 (s.0 ∷ []) r.0 r.2 (one_value r.1 s.1 s.0 s.2 s.4.0) in
-    subst (λ (x : List Value). Within l (n.Prim sorts.Type) d (prim_value x)) (sym q) (prim_two l d r.0 s.0 r.3 s.3)
+    subst (λ (x : List Value). Within l (n.Prim sorts.Type) d (value_of (n.Prim sorts.Type) x)) (sym q) (prim_two l d r.0 s.0 r.3 s.3)
 
 -- behind a `^`
-prim_except : (l d : ℕ) (v w : Value) → Within l (n.Excepted sorts.Type) d w → Within l (n.Prim sorts.Type) d (prim_value (v ∷ (w ∷ [])))
+prim_except : (l d : ℕ) (v w : Value) → Within l (n.Excepted sorts.Type) d w → Within l (n.Prim sorts.Type) d (value_of (n.Prim sorts.Type) (v ∷ (w ∷ [])))
 prim_except l d (mark k p) (texts ss) a = (tt, a)
 prim_except l d (mark k p) (labelled ws T) a = in_element l d p (class_of true ws) T a.0 a.1
 prim_except l d (mark k p) absent a = (tt, omega arith)
@@ -308,19 +308,19 @@ prim_except l d (mark k p) (a_tree T) a = absurd a
 prim_except l d (class p c) (a_tree T) a = absurd a
 prim_except l d v w a = tt
 
-except_row : (l d : ℕ) (ps : List Value) → RowWithin l (Token t.Caret ∷ Part (n.Excepted sorts.Type) ∷ []) d ps → Within l (n.Prim sorts.Type) d (prim_value ps)
+except_row : (l d : ℕ) (ps : List Value) → RowWithin l (Token t.Caret ∷ Part (n.Excepted sorts.Type) ∷ []) d ps → Within l (n.Prim sorts.Type) d (value_of (n.Prim sorts.Type) ps)
 except_row l d ps r =
     let s = r.4 in let q : ps ≡ r.0 ∷ (s.0 ∷ []) = then_values ps r.1 (s.0 ∷ []) r.0 r.2 (one_value r.1 s.1 s.0 s.2 s.4.0) in
-    subst (λ (x : List Value). Within l (n.Prim sorts.Type) d (prim_value x)) (sym q) (prim_except l d r.0 s.0 s.3)
+    subst (λ (x : List Value). Within l (n.Prim sorts.Type) d (value_of (n.Prim sorts.Type) x)) (sym q) (prim_except l d r.0 s.0 s.3)
 
-excepted_one : (l d : ℕ) (v : Value) → d ≤ l → IsOf t.Text v → Within l (n.Excepted sorts.Type) d (excepted_value (v ∷ []))
+excepted_one : (l d : ℕ) (v : Value) → d ≤ l → IsOf t.Text v → Within l (n.Excepted sorts.Type) d (value_of (n.Excepted sorts.Type) (v ∷ []))
 excepted_one l d (quoted s p) h i = omega arith
 excepted_one l d v h i = absurd i
 
-excepted_text_row : (l d : ℕ) (ps : List Value) → RowWithin l (Token t.Text ∷ []) d ps → Within l (n.Excepted sorts.Type) d (excepted_value ps)
-excepted_text_row l d ps r = subst (λ (x : List Value). Within l (n.Excepted sorts.Type) d (excepted_value x)) (sym (one_value ps r.1 r.0 r.2 r.4.0)) (excepted_one l d r.0 r.3.0 r.3.1)
+excepted_text_row : (l d : ℕ) (ps : List Value) → RowWithin l (Token t.Text ∷ []) d ps → Within l (n.Excepted sorts.Type) d (value_of (n.Excepted sorts.Type) ps)
+excepted_text_row l d ps r = subst (λ (x : List Value). Within l (n.Excepted sorts.Type) d (value_of (n.Excepted sorts.Type) x)) (sym (one_value ps r.1 r.0 r.2 r.4.0)) (excepted_one l d r.0 r.3.0 r.3.1)
 
-excepted_two : (l d : ℕ) (v w : Value) → d < l → Within l (n.Content sorts.Type) (suc d) w → Within l (n.Excepted sorts.Type) d (excepted_value (v ∷ (w ∷ [])))
+excepted_two : (l d : ℕ) (v w : Value) → d < l → Within l (n.Content sorts.Type) (suc d) w → Within l (n.Excepted sorts.Type) d (value_of (n.Excepted sorts.Type) (v ∷ (w ∷ [])))
 excepted_two l d (label x p) (a_tree T) h a = (h, a)
 excepted_two l d (mark k p) (texts ss) h a = listed l d (in_byte_order ss) h
 excepted_two l d (mark k p) (labelled ws T) h a = (h, a)
@@ -331,144 +331,144 @@ as_listed l d (a_tree T) a = a
 as_listed l d (labelled ws T) a = a
 as_listed l d w a = tt
 
-excepted_label_row : (l d : ℕ) (ps : List Value) → RowWithin l (Opening t.Label ∷ Part (n.Content sorts.Type) ∷ []) d ps → Within l (n.Excepted sorts.Type) d (excepted_value ps)
+excepted_label_row : (l d : ℕ) (ps : List Value) → RowWithin l (Opening t.Label ∷ Part (n.Content sorts.Type) ∷ []) d ps → Within l (n.Excepted sorts.Type) d (value_of (n.Excepted sorts.Type) ps)
 excepted_label_row l d ps r =
     let s = r.4 in let q : ps ≡ r.0 ∷ (s.0 ∷ []) = then_values ps r.1 (s.0 ∷ []) r.0 r.2 (one_value r.1 s.1 s.0 s.2 s.4.0) in
-    subst (λ (x : List Value). Within l (n.Excepted sorts.Type) d (excepted_value x)) (sym q) (excepted_two l d r.0 s.0 r.3 s.3)
+    subst (λ (x : List Value). Within l (n.Excepted sorts.Type) d (value_of (n.Excepted sorts.Type) x)) (sym q) (excepted_two l d r.0 s.0 r.3 s.3)
 
-excepted_list_row : (l d : ℕ) (ps : List Value) → RowWithin l (Opening t.ParenL ∷ Part (n.ExceptedList sorts.Type) ∷ []) d ps → Within l (n.Excepted sorts.Type) d (excepted_value ps)
+excepted_list_row : (l d : ℕ) (ps : List Value) → RowWithin l (Opening t.ParenL ∷ Part (n.ExceptedList sorts.Type) ∷ []) d ps → Within l (n.Excepted sorts.Type) d (value_of (n.Excepted sorts.Type) ps)
 excepted_list_row l d ps r =
     let s = r.4 in let q : ps ≡ r.0 ∷ (s.0 ∷ []) = then_values ps r.1 (s.0 ∷ []) r.0 r.2 (one_value r.1 s.1 s.0 s.2 s.4.0) in
-    subst (λ (x : List Value). Within l (n.Excepted sorts.Type) d (excepted_value x)) (sym q) (excepted_two l d r.0 s.0 r.3 (as_listed l (suc d) s.0 s.3))
+    subst (λ (x : List Value). Within l (n.Excepted sorts.Type) d (value_of (n.Excepted sorts.Type) x)) (sym q) (excepted_two l d r.0 s.0 r.3 (as_listed l (suc d) s.0 s.3))
 
-listed_three : (l d : ℕ) (a b c : Value) → Within l (n.ExceptedList sorts.Type) d (excepted_list_value (a ∷ (b ∷ (c ∷ []))))
+listed_three : (l d : ℕ) (a b c : Value) → Within l (n.ExceptedList sorts.Type) d (value_of (n.ExceptedList sorts.Type) (a ∷ (b ∷ (c ∷ []))))
 listed_three l d (quoted s p) (texts ss) (mark k q) = tt
 listed_three l d (names vs) (names ws) (mark j p) = tt
 listed_three l d a b c = tt
 
-listed_texts_row : (l d : ℕ) (ps : List Value) → RowWithin l (Token t.Text ∷ Part n.MoreTexts ∷ Token t.ParenR ∷ Closed ∷ []) d ps → Within l (n.ExceptedList sorts.Type) d (excepted_list_value ps)
+listed_texts_row : (l d : ℕ) (ps : List Value) → RowWithin l (Token t.Text ∷ Part n.MoreTexts ∷ Token t.ParenR ∷ Closed ∷ []) d ps → Within l (n.ExceptedList sorts.Type) d (value_of (n.ExceptedList sorts.Type) ps)
 listed_texts_row l d ps r =
     let s = r.4 in let m = s.4 in
     let q : ps ≡ r.0 ∷ (s.0 ∷ (m.0 ∷ [])) = then_values ps r.1 (s.0 ∷ (m.0 ∷ [])) r.0 r.2 (then_values r.1 s.1 (m.0 ∷ []) s.0 s.2 (one_value s.1 m.1 m.0 m.2 m.4.0)) in
-    subst (λ (x : List Value). Within l (n.ExceptedList sorts.Type) d (excepted_list_value x)) (sym q) (listed_three l d r.0 s.0 m.0)
+    subst (λ (x : List Value). Within l (n.ExceptedList sorts.Type) d (value_of (n.ExceptedList sorts.Type) x)) (sym q) (listed_three l d r.0 s.0 m.0)
 
-listed_five : (l d : ℕ) (a b c e f : Value) → Within l (n.Content sorts.Type) (suc (before_one d)) f → Within l (n.ExceptedList sorts.Type) d (excepted_list_value (a ∷ (b ∷ (c ∷ (e ∷ (f ∷ []))))))
+listed_five : (l d : ℕ) (a b c e f : Value) → Within l (n.Content sorts.Type) (suc (before_one d)) f → Within l (n.ExceptedList sorts.Type) d (value_of (n.ExceptedList sorts.Type) (a ∷ (b ∷ (c ∷ (e ∷ (f ∷ []))))))
 listed_five l d (names vs) (names ws) (mark j p) (mark k q) (a_tree T) h = h
 listed_five l d (quoted s p) (texts ss) (mark k q) e f h = tt
 listed_five l d a b c e f h = tt
 
-listed_labels_row : (l d : ℕ) (ps : List Value) → RowWithin l (Part n.AnyWord ∷ Part n.MoreNames ∷ Token t.ParenR ∷ Closed ∷ Opening t.BracketL ∷ Part (n.Content sorts.Type) ∷ []) d ps → Within l (n.ExceptedList sorts.Type) d (excepted_list_value ps)
+listed_labels_row : (l d : ℕ) (ps : List Value) → RowWithin l (Part n.AnyWord ∷ Part n.MoreNames ∷ Token t.ParenR ∷ Closed ∷ Opening t.BracketL ∷ Part (n.Content sorts.Type) ∷ []) d ps → Within l (n.ExceptedList sorts.Type) d (value_of (n.ExceptedList sorts.Type) ps)
 listed_labels_row l d ps r =
     let b = r.4 in let c = b.4 in let e = c.4 in let f = e.4 in
     let q : ps ≡ r.0 ∷ (b.0 ∷ (c.0 ∷ (e.0 ∷ (f.0 ∷ [])))) =
     then_values ps r.1 _ r.0 r.2 (then_values r.1 b.1 _ b.0 b.2 (then_values b.1 c.1 _ c.0 c.2 (then_values c.1 e.1 _ e.0 e.2 (one_value e.1 f.1 f.0 f.2 f.4.0)))) in
-    subst (λ (x : List Value). Within l (n.ExceptedList sorts.Type) d (excepted_list_value x)) (sym q) (listed_five l d r.0 b.0 c.0 e.0 f.0 f.3)
+    subst (λ (x : List Value). Within l (n.ExceptedList sorts.Type) d (value_of (n.ExceptedList sorts.Type) x)) (sym q) (listed_five l d r.0 b.0 c.0 e.0 f.0 f.3)
 
-no_group : (l d : ℕ) (v : Value) → Within l (n.Group sorts.Type) d (group_value (v ∷ []))
+no_group : (l d : ℕ) (v : Value) → Within l (n.Group sorts.Type) d (value_of (n.Group sorts.Type) (v ∷ []))
 no_group l d (a_tree T) = tt
 no_group l d v = tt
 
-no_group_row : (l d : ℕ) (ps : List Value) → RowWithin l (Token t.ParenR ∷ Closed ∷ Unless t.BracketL ∷ []) d ps → Within l (n.Group sorts.Type) d (group_value ps)
-no_group_row l d ps r = subst (λ (x : List Value). Within l (n.Group sorts.Type) d (group_value x)) (sym (one_value ps r.1 r.0 r.2 r.4.0)) (no_group l d r.0)
+no_group_row : (l d : ℕ) (ps : List Value) → RowWithin l (Token t.ParenR ∷ Closed ∷ Unless t.BracketL ∷ []) d ps → Within l (n.Group sorts.Type) d (value_of (n.Group sorts.Type) ps)
+no_group_row l d ps r = subst (λ (x : List Value). Within l (n.Group sorts.Type) d (value_of (n.Group sorts.Type) x)) (sym (one_value ps r.1 r.0 r.2 r.4.0)) (no_group l d r.0)
 
-group_two : (l d : ℕ) (v w : Value) → Within l (n.Alternative sorts.Type) d v → Within l (n.Group sorts.Type) d (group_value (v ∷ (w ∷ [])))
+group_two : (l d : ℕ) (v w : Value) → Within l (n.Alternative sorts.Type) d v → Within l (n.Group sorts.Type) d (value_of (n.Group sorts.Type) (v ∷ (w ∷ [])))
 group_two l d (a_tree T) (mark k p) a = a
 group_two l d v w a = tt
 
-group_row : (l d : ℕ) (ps : List Value) → RowWithin l (Part (n.Alternative sorts.Type) ∷ Token t.ParenR ∷ Closed ∷ Unless t.BracketL ∷ []) d ps → Within l (n.Group sorts.Type) d (group_value ps)
+group_row : (l d : ℕ) (ps : List Value) → RowWithin l (Part (n.Alternative sorts.Type) ∷ Token t.ParenR ∷ Closed ∷ Unless t.BracketL ∷ []) d ps → Within l (n.Group sorts.Type) d (value_of (n.Group sorts.Type) ps)
 group_row l d ps r =
     let s = r.4 in let q : ps ≡ r.0 ∷ (s.0 ∷ []) = then_values ps r.1 (s.0 ∷ []) r.0 r.2 (one_value r.1 s.1 s.0 s.2 s.4.0) in
-    subst (λ (x : List Value). Within l (n.Group sorts.Type) d (group_value x)) (sym q) (group_two l d r.0 s.0 r.3)
+    subst (λ (x : List Value). Within l (n.Group sorts.Type) d (value_of (n.Group sorts.Type) x)) (sym q) (group_two l d r.0 s.0 r.3)
 
-no_content : (l d : ℕ) (v : Value) → Within l (n.Content sorts.Type) d (content_value (v ∷ []))
+no_content : (l d : ℕ) (v : Value) → Within l (n.Content sorts.Type) d (value_of (n.Content sorts.Type) (v ∷ []))
 no_content l d (mark k p) = inl refl
 no_content l d v = tt
 
-no_content_row : (l d : ℕ) (ps : List Value) → RowWithin l (Token t.BracketR ∷ Closed ∷ []) d ps → Within l (n.Content sorts.Type) d (content_value ps)
-no_content_row l d ps r = subst (λ (x : List Value). Within l (n.Content sorts.Type) d (content_value x)) (sym (one_value ps r.1 r.0 r.2 r.4.0)) (no_content l d r.0)
+no_content_row : (l d : ℕ) (ps : List Value) → RowWithin l (Token t.BracketR ∷ Closed ∷ []) d ps → Within l (n.Content sorts.Type) d (value_of (n.Content sorts.Type) ps)
+no_content_row l d ps r = subst (λ (x : List Value). Within l (n.Content sorts.Type) d (value_of (n.Content sorts.Type) x)) (sym (one_value ps r.1 r.0 r.2 r.4.0)) (no_content l d r.0)
 
-content_two : (l d : ℕ) (v w : Value) → Within l (n.Alternative sorts.Type) d v → Within l (n.Content sorts.Type) d (content_value (v ∷ (w ∷ [])))
+content_two : (l d : ℕ) (v w : Value) → Within l (n.Alternative sorts.Type) d v → Within l (n.Content sorts.Type) d (value_of (n.Content sorts.Type) (v ∷ (w ∷ [])))
 content_two l d (a_tree T) (mark k p) a = inr a
 content_two l d v w a = tt
 
-content_row : (l d : ℕ) (ps : List Value) → RowWithin l (Part (n.Alternative sorts.Type) ∷ Token t.BracketR ∷ Closed ∷ []) d ps → Within l (n.Content sorts.Type) d (content_value ps)
+content_row : (l d : ℕ) (ps : List Value) → RowWithin l (Part (n.Alternative sorts.Type) ∷ Token t.BracketR ∷ Closed ∷ []) d ps → Within l (n.Content sorts.Type) d (value_of (n.Content sorts.Type) ps)
 content_row l d ps r =
     let s = r.4 in let q : ps ≡ r.0 ∷ (s.0 ∷ []) = then_values ps r.1 (s.0 ∷ []) r.0 r.2 (one_value r.1 s.1 s.0 s.2 s.4.0) in
-    subst (λ (x : List Value). Within l (n.Content sorts.Type) d (content_value x)) (sym q) (content_two l d r.0 s.0 r.3)
+    subst (λ (x : List Value). Within l (n.Content sorts.Type) d (value_of (n.Content sorts.Type) x)) (sym q) (content_two l d r.0 s.0 r.3)
 
-text_two : (l d : ℕ) (v w : Value) → Within l (n.Alternative sorts.Type) d v → Within l n.TypeText d (type_text_value (v ∷ (w ∷ [])))
+text_two : (l d : ℕ) (v w : Value) → Within l (n.Alternative sorts.Type) d v → Within l n.TypeText d (value_of n.TypeText (v ∷ (w ∷ [])))
 text_two l d (a_tree T) (mark k p) a = a
 text_two l d v w a = tt
 
-text_row : (l d : ℕ) (ps : List Value) → RowWithin l (Part (n.Alternative sorts.Type) ∷ Token t.End ∷ []) d ps → Within l n.TypeText d (type_text_value ps)
+text_row : (l d : ℕ) (ps : List Value) → RowWithin l (Part (n.Alternative sorts.Type) ∷ Token t.End ∷ []) d ps → Within l n.TypeText d (value_of n.TypeText ps)
 text_row l d ps r =
     let s = r.4 in let q : ps ≡ r.0 ∷ (s.0 ∷ []) = then_values ps r.1 (s.0 ∷ []) r.0 r.2 (one_value r.1 s.1 s.0 s.2 s.4.0) in
-    subst (λ (x : List Value). Within l n.TypeText d (type_text_value x)) (sym q) (text_two l d r.0 s.0 r.3)
+    subst (λ (x : List Value). Within l n.TypeText d (value_of n.TypeText x)) (sym q) (text_two l d r.0 s.0 r.3)
 
-param_six : (l d : ℕ) (a b c e f g : Value) → Within l (n.Alternative sorts.Type) (suc d) f → Within l n.Param d (param_value (a ∷ (b ∷ (c ∷ (e ∷ (f ∷ (g ∷ [])))))))
+param_six : (l d : ℕ) (a b c e f g : Value) → Within l (n.Alternative sorts.Type) (suc d) f → Within l n.Param d (value_of n.Param (a ∷ (b ∷ (c ∷ (e ∷ (f ∷ (g ∷ [])))))))
 param_six l d (mark i o) (mark j p) (word x q) (mark k r) (a_tree T) (mark m s) h = let u = h.1 in (h.0, omega arith)
 param_six l d a b c e f g h = tt
 
-param_row : (l d : ℕ) (ps : List Value) → RowWithin l (Opening t.ParenL ∷ Token t.Val ∷ Token t.Word ∷ Token t.As ∷ Part (n.Alternative sorts.Type) ∷ Token t.ParenR ∷ Closed ∷ []) d ps → Within l n.Param d (param_value ps)
+param_row : (l d : ℕ) (ps : List Value) → RowWithin l (Opening t.ParenL ∷ Token t.Val ∷ Token t.Word ∷ Token t.As ∷ Part (n.Alternative sorts.Type) ∷ Token t.ParenR ∷ Closed ∷ []) d ps → Within l n.Param d (value_of n.Param ps)
 param_row l d ps r =
     let b = r.4 in let c = b.4 in let e = c.4 in let f = e.4 in let g = f.4 in
     let q : ps ≡ r.0 ∷ (b.0 ∷ (c.0 ∷ (e.0 ∷ (f.0 ∷ (g.0 ∷ []))))) =
     then_values ps r.1 _ r.0 r.2 (then_values r.1 b.1 _ b.0 b.2 (then_values b.1 c.1 _ c.0 c.2 (then_values c.1 e.1 _ e.0 e.2 (then_values e.1 f.1 _ f.0 f.2 (one_value f.1 g.1 g.0 g.2 g.4.0))))) in
-    subst (λ (x : List Value). Within l n.Param d (param_value x)) (sym q) (param_six l d r.0 b.0 c.0 e.0 f.0 g.0 f.3)
+    subst (λ (x : List Value). Within l n.Param d (value_of n.Param x)) (sym q) (param_six l d r.0 b.0 c.0 e.0 f.0 g.0 f.3)
 
-params_two : (l d : ℕ) (v w : Value) → Within l n.Param d v → Within l n.MoreParams d w → Within l n.MoreParams d (more_params_value (v ∷ (w ∷ [])))
+params_two : (l d : ℕ) (v w : Value) → Within l n.Param d v → Within l n.MoreParams d w → Within l n.MoreParams d (value_of n.MoreParams (v ∷ (w ∷ [])))
 params_two l d (a_parameter q) (parameters qs) a b = (a, b)
 params_two l d v w a b = tt
 
-params_row : (l d : ℕ) (ps : List Value) → RowWithin l (Part n.Param ∷ Part n.MoreParams ∷ []) d ps → Within l n.MoreParams d (more_params_value ps)
+params_row : (l d : ℕ) (ps : List Value) → RowWithin l (Part n.Param ∷ Part n.MoreParams ∷ []) d ps → Within l n.MoreParams d (value_of n.MoreParams ps)
 params_row l d ps r =
     let s = r.4 in let q : ps ≡ r.0 ∷ (s.0 ∷ []) = then_values ps r.1 (s.0 ∷ []) r.0 r.2 (one_value r.1 s.1 s.0 s.2 s.4.0) in
-    subst (λ (x : List Value). Within l n.MoreParams d (more_params_value x)) (sym q) (params_two l d r.0 s.0 r.3 s.3)
+    subst (λ (x : List Value). Within l n.MoreParams d (value_of n.MoreParams x)) (sym q) (params_two l d r.0 s.0 r.3 s.3)
 
-no_params_row : (l d : ℕ) (ps : List Value) → ps ≡ [] → Within l n.MoreParams d (more_params_value ps)
-no_params_row l d ps e = subst (λ (x : List Value). Within l n.MoreParams d (more_params_value x)) (sym e) tt
+no_params_row : (l d : ℕ) (ps : List Value) → ps ≡ [] → Within l n.MoreParams d (value_of n.MoreParams ps)
+no_params_row l d ps e = subst (λ (x : List Value). Within l n.MoreParams d (value_of n.MoreParams x)) (sym e) tt
 
 -- too few values for a function, and too many for a type
-five_of_function : (l d : ℕ) (i : Terminal) (p : Place) (x : List ℕ) (q : Place) (y : Parameter) (e f : Value) → Within l n.Definitions d (definitions_value (mark i p ∷ (word x q ∷ (a_parameter y ∷ (e ∷ (f ∷ []))))))
+five_of_function : (l d : ℕ) (i : Terminal) (p : Place) (x : List ℕ) (q : Place) (y : Parameter) (e f : Value) → Within l n.Definitions d (value_of n.Definitions (mark i p ∷ (word x q ∷ (a_parameter y ∷ (e ∷ (f ∷ []))))))
 five_of_function l d i p x q y (parameters ys) (mark j r) = tt
 five_of_function l d i p x q y (parameters ys) f = tt
 five_of_function l d i p x q y e f = tt
 
-nine_of_type : (l d : ℕ) (i : Terminal) (p : Place) (x : List ℕ) (q : Place) (j : Terminal) (r : Place) (e f g h u w : Value) → Within l n.Definitions d (definitions_value (mark i p ∷ (word x q ∷ (mark j r ∷ (e ∷ (f ∷ (g ∷ (h ∷ (u ∷ (w ∷ []))))))))))
+nine_of_type : (l d : ℕ) (i : Terminal) (p : Place) (x : List ℕ) (q : Place) (j : Terminal) (r : Place) (e f g h u w : Value) → Within l n.Definitions d (value_of n.Definitions (mark i p ∷ (word x q ∷ (mark j r ∷ (e ∷ (f ∷ (g ∷ (h ∷ (u ∷ (w ∷ []))))))))))
 nine_of_type l d i p x q j r (a_tree T) (definitions P) g h u w = tt
 nine_of_type l d i p x q j r (a_tree T) f g h u w = tt
 nine_of_type l d i p x q j r e f g h u w = tt
 
-type_five : (l d : ℕ) (a b c e f : Value) → Within l (n.Alternative sorts.Type) d e → Within l n.Definitions d f → Within l n.Definitions d (definitions_value (a ∷ (b ∷ (c ∷ (e ∷ (f ∷ []))))))
+type_five : (l d : ℕ) (a b c e f : Value) → Within l (n.Alternative sorts.Type) d e → Within l n.Definitions d f → Within l n.Definitions d (value_of n.Definitions (a ∷ (b ∷ (c ∷ (e ∷ (f ∷ []))))))
 type_five l d (mark i p) (word x q) (mark j r) (a_tree T) (definitions P) h g = ((h, g.0), g.1)
 type_five l d (mark i p) (word x q) (a_parameter y) e f h g = five_of_function l d i p x q y e f
 type_five l d a b c e f h g = tt
 
-typedef_row : (l d : ℕ) (ps : List Value) → RowWithin l (Token t.Type ∷ Token t.Word ∷ Token t.Equals ∷ Part (n.Alternative sorts.Type) ∷ Part n.Definitions ∷ []) d ps → Within l n.Definitions d (definitions_value ps)
+typedef_row : (l d : ℕ) (ps : List Value) → RowWithin l (Token t.Type ∷ Token t.Word ∷ Token t.Equals ∷ Part (n.Alternative sorts.Type) ∷ Part n.Definitions ∷ []) d ps → Within l n.Definitions d (value_of n.Definitions ps)
 typedef_row l d ps r =
     let b = r.4 in let c = b.4 in let e = c.4 in let f = e.4 in
     let q : ps ≡ r.0 ∷ (b.0 ∷ (c.0 ∷ (e.0 ∷ (f.0 ∷ [])))) =
     then_values ps r.1 _ r.0 r.2 (then_values r.1 b.1 _ b.0 b.2 (then_values b.1 c.1 _ c.0 c.2 (then_values c.1 e.1 _ e.0 e.2 (one_value e.1 f.1 f.0 f.2 f.4.0)))) in
-    subst (λ (x : List Value). Within l n.Definitions d (definitions_value x)) (sym q) (type_five l d r.0 b.0 c.0 e.0 f.0 e.3 f.3)
+    subst (λ (x : List Value). Within l n.Definitions d (value_of n.Definitions x)) (sym q) (type_five l d r.0 b.0 c.0 e.0 f.0 e.3 f.3)
 
-function_nine : (l d : ℕ) (a b c e f g h i j : Value) → Within l n.Param d c → Within l n.MoreParams d e → Within l (n.Alternative sorts.Type) d g → Within l n.Definitions d j → Within l n.Definitions d (definitions_value (a ∷ (b ∷ (c ∷ (e ∷ (f ∷ (g ∷ (h ∷ (i ∷ (j ∷ []))))))))))
+function_nine : (l d : ℕ) (a b c e f g h i j : Value) → Within l n.Param d c → Within l n.MoreParams d e → Within l (n.Alternative sorts.Type) d g → Within l n.Definitions d j → Within l n.Definitions d (value_of n.Definitions (a ∷ (b ∷ (c ∷ (e ∷ (f ∷ (g ∷ (h ∷ (i ∷ (j ∷ []))))))))))
 function_nine l d (mark i p) (word x q) (a_parameter y) (parameters ys) (mark j r) (a_tree T) (mark k s) (an_expression e) (definitions P) u v w z = (z.0, (((u, v), w), z.1))
 function_nine l d (mark i p) (word x q) (mark j r) e f g h k m u v w z = nine_of_type l d i p x q j r e f g h k m
 function_nine l d a b c e f g h i j u v w z = tt
 
-fundef_row : (l d : ℕ) (ps : List Value) → RowWithin l (Token t.Fun ∷ Token t.Word ∷ Part n.Param ∷ Part n.MoreParams ∷ Token t.Colon ∷ Part (n.Alternative sorts.Type) ∷ Token t.Equals ∷ Part n.Expr ∷ Part n.Definitions ∷ []) d ps → Within l n.Definitions d (definitions_value ps)
+fundef_row : (l d : ℕ) (ps : List Value) → RowWithin l (Token t.Fun ∷ Token t.Word ∷ Part n.Param ∷ Part n.MoreParams ∷ Token t.Colon ∷ Part (n.Alternative sorts.Type) ∷ Token t.Equals ∷ Part n.Expr ∷ Part n.Definitions ∷ []) d ps → Within l n.Definitions d (value_of n.Definitions ps)
 fundef_row l d ps r =
     let b = r.4 in let c = b.4 in let e = c.4 in let f = e.4 in let g = f.4 in let h = g.4 in let i = h.4 in let j = i.4 in
     let q : ps ≡ r.0 ∷ (b.0 ∷ (c.0 ∷ (e.0 ∷ (f.0 ∷ (g.0 ∷ (h.0 ∷ (i.0 ∷ (j.0 ∷ [])))))))) =
     then_values ps r.1 _ r.0 r.2 (then_values r.1 b.1 _ b.0 b.2 (then_values b.1 c.1 _ c.0 c.2 (then_values c.1 e.1 _ e.0 e.2 (then_values e.1 f.1 _ f.0 f.2 (then_values f.1 g.1 _ g.0 g.2 (then_values g.1 h.1 _ h.0 h.2 (then_values h.1 i.1 _ i.0 i.2 (one_value i.1 j.1 j.0 j.2 j.4.0)))))))) in
-    subst (λ (x : List Value). Within l n.Definitions d (definitions_value x)) (sym q) (function_nine l d r.0 b.0 c.0 e.0 f.0 g.0 h.0 i.0 j.0 c.3 e.3 g.3 j.3)
+    subst (λ (x : List Value). Within l n.Definitions d (value_of n.Definitions x)) (sym q) (function_nine l d r.0 b.0 c.0 e.0 f.0 g.0 h.0 i.0 j.0 c.3 e.3 g.3 j.3)
 
-no_definitions : (l d : ℕ) (v : Value) → Within l n.Definitions d (definitions_value (v ∷ []))
+no_definitions : (l d : ℕ) (v : Value) → Within l n.Definitions d (value_of n.Definitions (v ∷ []))
 no_definitions l d (mark k p) = (tt, tt)
 no_definitions l d v = tt
 
-end_row : (l d : ℕ) (ps : List Value) → RowWithin l (Token t.End ∷ []) d ps → Within l n.Definitions d (definitions_value ps)
-end_row l d ps r = subst (λ (x : List Value). Within l n.Definitions d (definitions_value x)) (sym (one_value ps r.1 r.0 r.2 r.4.0)) (no_definitions l d r.0)
+end_row : (l d : ℕ) (ps : List Value) → RowWithin l (Token t.End ∷ []) d ps → Within l n.Definitions d (value_of n.Definitions ps)
+end_row l d ps r = subst (λ (x : List Value). Within l n.Definitions d (value_of n.Definitions x)) (sym (one_value ps r.1 r.0 r.2 r.4.0)) (no_definitions l d r.0)
 
 -- ---- each nonterminal
 at_row : (l d : ℕ) (ps : List Value) (made row : Row) → made ≡ row → RowWithin l made d ps → RowWithin l row d ps

@@ -16,7 +16,8 @@ one_type d = record { types = d ∷ []; functions = [] }
 abbrev pub one_function : FunctionDefinition → ProgramTree
 one_function f = record { types = []; functions = f ∷ [] }
 
--- Whatever the definitions from there on stand for, those from here on stand for it with this program in front.
+-- Whatever the definitions from there on stand for, those from here on stand for it with this
+-- program in front.
 abbrev pub ReadsInFront : ProgramTree → (here there : List Lexeme) → Type 0
 ReadsInFront P here there = (to : List Lexeme) (Q : ProgramTree) → Reads n.Definitions there to (definitions Q) → Reads n.Definitions here to (definitions (in_front P Q))
 

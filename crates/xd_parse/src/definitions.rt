@@ -1,6 +1,8 @@
-//! Definitions from tokens: their heads are read here, and types and expressions by recursive descent.
+//! Definitions from tokens: their heads are read here, and types and expressions by recursive
+//! descent.
 //!
-//! The tokens are known to spell what is read. On tokens that spell nothing there, a function answers something.
+//! The tokens are known to spell what is read. On tokens that spell nothing there, a function
+//! answers something.
 
 ghost use Rattle.std.specs.Prelude.{◌≡◌, ◌∷◌, [], ◌<◌, ◌≤◌, length, map, IfOk};
 ghost use Rattle.std.specs.List.{AllByRecursion};

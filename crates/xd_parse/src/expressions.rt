@@ -1,7 +1,8 @@
 //! Expressions from tokens, by recursive descent.
 //!
-//! The tokens are known to spell what is read. Where no item begins with the next token, any node is answered.
-//! A match takes each clause that stands behind it, and a name all parentheses, so the innermost match has a `|`.
+//! The tokens are known to spell what is read. Where no item begins with the next token, any node
+//! is answered. A match takes each clause that stands behind it, and a name all parentheses, so the
+//! innermost match has a `|`.
 
 ghost use Rattle.std.specs.Prelude.{◌≡◌, ◌<◌, ◌≤◌, length, IfOk};
 ghost use Rattle.xd_syntax.specs.PlacedTable.{placed_at};

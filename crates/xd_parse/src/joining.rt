@@ -16,8 +16,8 @@ use xd_doc::NoMemory;
 use xd_parse_trees::{join, queue_of};
 use xd_syntax::{ExprForm, ExprId, Exprs};
 
-/// What was read, before a node is made of it: the parts of a sequence, so that what stands around it merges with them.
-/// Of no part it is empty, at the place; one part is itself.
+/// What was read, before a node is made of it: the parts of a sequence, so that what stands around
+/// it merges with them. Of no part it is empty, at the place; one part is itself.
 #[derive(Drop)]
 pub(crate) struct Items {
     pub place: Place,

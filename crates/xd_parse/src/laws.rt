@@ -7,8 +7,8 @@ pub fn texts_mean_one_thing()
     ensures { TextsMeanOneThing }
 {}
 
-/// A text that isn't UTF-8, that no text goes on as, or that nests too deep has one such fault, its first, and is the text of
-/// no program and of no type.
+/// A text that isn't UTF-8, that no text goes on as, or that nests too deep has one such fault, its
+/// first, and is the text of no program and of no type.
 pub fn first_faults_are_one()
     ensures { FirstFaultsAreOne }
 {}

@@ -93,11 +93,11 @@ pub fn parse_program(alloc: Global, bytes: &[u8]) -> Result<Program, ParseError>
     Ok(program)
 }
 
-/// Reads the text of a type, with the same refusals; its nodes are added to those of the table, which stay. After a refusal the
-/// table is as it was.
+/// Reads the text of a type, with the same refusals; its nodes are added to those of the table,
+/// which stay. After a refusal the table is as it was.
 ///
-/// Fails with `Fault` exactly where the text spells no type within the nesting limit, with the first fault, and
-/// with `NoMemory` where memory is refused.
+/// Fails with `Fault` exactly where the text spells no type within the nesting limit, with the
+/// first fault, and with `NoMemory` where memory is refused.
 pub fn parse_type(alloc: Global, types: &mut Types, bytes: &[u8]) -> Result<TypeId, ParseError>
     ensures type_text { IfOk result (λ id. IsTypeText bytes.now (placed_at types.new id.at)) }
     ensures shallow { AddsWithin nesting_limit types.old types.new }

@@ -35,8 +35,8 @@ any_word_reads k from s e h = part_none n.AnyWord from (behind from) _ (rw e ref
 
 -- ---- lists, with bars between what they name
 
--- What was read of a list, from its first part on: what the nonterminal of its rest reads from here it reads from the
--- start, behind that.
+-- What was read of a list, from its first part on: what the nonterminal of its rest reads from here
+-- it reads from the start, behind that.
 pub record SoFar (rest : Nonterminal) (made : List (List ℕ) → Value) (from now : List Lexeme) (first all : List (List ℕ)) : Type 0 where
   pub more : List (List ℕ)
   pub split : all ≡ first ++ more

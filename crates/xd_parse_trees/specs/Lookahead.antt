@@ -10,7 +10,8 @@ abbrev pub lexemes_left : Option Lookahead → List Lexeme → List Lexeme
 lexemes_left None ls = []
 lexemes_left (Some next) ls = lexeme_of next.token ∷ ls
 
--- it is known what the token is to the grammar, and tokens stand behind it just where it isn't the last
+-- it is known what the token is to the grammar, and tokens stand behind it just where it isn't the
+-- last
 pub record IsAhead (next : Lookahead) (ls : List Lexeme) : Type 0 where
   pub terminal : next.terminal ≡ terminal_of next.token.kind next.token.text.now
   pub spelled : IsSpelling next.token.kind next.token.text.now

@@ -1,4 +1,5 @@
--- How parts become one node: sequences and alternatives are merged, and the names of a class are put in order.
+-- How parts become one node: sequences and alternatives are merged, and the names of a class are
+-- put in order.
 use Rattle.std.specs.Prelude.{ℕ, Bool, List, [], ◌∷◌, flat_map}
 use Rattle.std.specs.Ordering.{nat_cmp}
 use Rattle.std.specs.Cmp.Lexicographic.{slice_cmp}
@@ -20,8 +21,8 @@ abbrev pub parts_of_alt : PlacedTree → List PlacedTree
 parts_of_alt (Alt_at p T U) = T ∷ parts_of_alt U
 parts_of_alt T = T ∷ []
 
--- The sequence of parts that are merged. It has the place of its first part; where nothing is left it is empty, at
--- the place given.
+-- The sequence of parts that are merged. It has the place of its first part; where nothing is left
+-- it is empty, at the place given.
 abbrev pub merged_seq : Place → List PlacedTree → PlacedTree
 merged_seq p [] = Empty_at p
 merged_seq p (T ∷ Ts) = placed_seq (place_of T) (T ∷ Ts)

@@ -76,15 +76,16 @@ repeated_node t.Star i = Star i
 repeated_node t.Plus i = Plus i
 repeated_node k i = Opt i
 
--- the node with this number is there and has this tree, as each new node has, and each old node stands where it stood
+-- the node with this number is there and has this tree, as each new node has, and each old node
+-- stands where it stood
 pub record IsAdded (old new : List Row) (T : PlacedTree) (i : ℕ) : Type 0 where
   pub keeps : KeepsRows old new
   pub belongs : i < length new
   pub placed : placed_at new i ≡ T
   pub only : (j : ℕ) → length old ≤ j → j < length new → placed_at new j ≡ T
 
--- Numbers of nodes are added behind others: of what this tree is in the list. Each old node stands where it stood, and a
--- new one has this tree.
+-- Numbers of nodes are added behind others: of what this tree is in the list. Each old node stands
+-- where it stood, and a new one has this tree.
 pub record Extends (fit : List Row → ℕ → Type 0) (parts_of : PlacedTree → List PlacedTree) (old new : List Row) (T : PlacedTree) (before after : List ℕ) : Type 0 where
   pub more : List ℕ
   pub grown : after ≡ before ++ more
@@ -93,14 +94,16 @@ pub record Extends (fit : List Row → ℕ → Type 0) (parts_of : PlacedTree �
   pub keeps : KeepsRows old new
   pub only : (j : ℕ) → length old ≤ j → j < length new → placed_at new j ≡ T
 
--- Of what was read is made what this tree is. Each old node stands where it stood, and no new one is deeper than this.
+-- Of what was read is made what this tree is. Each old node stands where it stood, and no new one
+-- is deeper than this.
 pub record Merges (old new : List Row) (T : PlacedTree) (made : Pieces) : Type 0 where
   pub is : tree_of new made ≡ T
   pub stand : Stand new made
   pub keeps : KeepsRows old new
   pub no_deeper : NoDeeper (TreeWithin T) old new
 
--- A node for this tree is added, or stands already, and then one around it, of which what was read consists.
+-- A node for this tree is added, or stands already, and then one around it, of which what was read
+-- consists.
 pub record AddsAround (around : PlacedTree → PlacedTree) (old new : List Row) (T : PlacedTree) (made : Pieces) : Type 0 where
   pub middle : List Row
   pub number : ℕ
@@ -112,7 +115,8 @@ pub record BeginsElement (sort : Sort) (from : List Lexeme) : Type 0 where
   pub some : 0 < length from
   pub only : (made : GrammarRow) (rest : List Lexeme) (vs : List Value) → IsOneOf made (rules (n.Prim sort)) → Means made from rest vs → made ≡ element_row sort
 
--- The nonterminal is read, and is these pieces. Each old node stands where it stood, and no new one is deeper than they are.
+-- The nonterminal is read, and is these pieces. Each old node stands where it stood, and no new one
+-- is deeper than they are.
 pub record ReadsNode (part : Nonterminal) (from to : List Lexeme) (old new : List Row) (made : Pieces) : Type 0 where
   pub reads : Reads part from to (a_tree (tree_of new made))
   pub stand : Stand new made
@@ -120,7 +124,8 @@ pub record ReadsNode (part : Nonterminal) (from to : List Lexeme) (old new : Lis
   pub fewer : length to ≤ length from
   pub no_deeper : NoDeeper (TreeWithin (tree_of new made)) old new
 
--- The nonterminal is read; behind what stood before it, it completes the outer nonterminal, which is these pieces.
+-- The nonterminal is read; behind what stood before it, it completes the outer nonterminal, which
+-- is these pieces.
 pub record ReadsInto (outer : Nonterminal) (before : List Value) (part : Nonterminal) (from to : List Lexeme) (old new : List Row) (made : Pieces) : Type 0 where
   pub value : Value
   pub reads : Reads part from to value

@@ -17,7 +17,8 @@ use Rattle.xd_grammar.specs.Text.{terminal_at}
 use Rattle.xd_parse_trees.specs.Values.{Value, a_tree, names, texts, labelled}
 use Rattle.xd_parse_trees.specs.Means.{Means}
 
--- the next token's terminal, place and text; where no token is left it is `Broken`, the start and empty
+-- the next token's terminal, place and text; where no token is left it is `Broken`, the start and
+-- empty
 abbrev pub front_terminal : List Lexeme → Terminal
 front_terminal [] = t.Broken
 front_terminal (l ∷ ls) = terminal_at l
@@ -35,8 +36,8 @@ abbrev pub behind : List Lexeme → List Lexeme
 behind [] = []
 behind (l ∷ ls) = ls
 
--- Whatever tokens spell the nonterminal from here on, and whatever it then stands for: they reach just to there, and it
--- is just this.
+-- Whatever tokens spell the nonterminal from here on, and whatever it then stands for: they reach
+-- just to there, and it is just this.
 abbrev pub Reads : Nonterminal → (from to : List Lexeme) → Value → Type 0
 Reads part from to v = (rest : List Lexeme) (w : Value) → Means (Part part ∷ []) from rest (w ∷ []) → (rest ≡ to) × (w ≡ v)
 

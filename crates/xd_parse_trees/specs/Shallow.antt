@@ -8,7 +8,8 @@ use Rattle.xd_syntax.specs.ShallowTables.{AddsWithin}
 use Rattle.xd_syntax.specs.Program.{Parameter, ProgramTree}
 use Rattle.xd_parse_trees.specs.Merged.{parts_of_seq}
 
--- Within each limit that something keeps, the new nodes keep it too. (An empty sequence that is left out of a longer one has depth 1.)
+-- Within each limit that something keeps, the new nodes keep it too. (An empty sequence that is
+-- left out of a longer one has depth 1.)
 abbrev pub NoDeeper : (within : ℕ → Type 0) → (old new : List Row) → Type 0
 NoDeeper within old new = (limit : ℕ) → 1 ≤ limit → within limit → AddsWithin limit old new
 

@@ -69,7 +69,8 @@ fn take_behind<'a>(kind: Kind, lexer: &mut Lexer<'a>) -> Option<Lookahead<'a>>
 
 /// The tokens that are left of a text: the next one, and a lexer that has those behind it.
 ///
-/// Keeps the last label that it made, so that a word that comes many times in a row is one block of memory.
+/// Keeps the last label that it made, so that a word that comes many times in a row is one block of
+/// memory.
 #[derive(Drop)]
 pub struct Cursor<'a> {
     next: Option<Lookahead<'a>>,
@@ -179,10 +180,11 @@ impl<'a> Cursor<'a> {
         }
     }
 
-    /// Whether the parenthesis that comes next opens the labels of a class, and no type or pattern in parentheses.
+    /// Whether the parenthesis that comes next opens the labels of a class, and no type or pattern
+    /// in parentheses.
     ///
-    /// Looks at the words and bars behind it, up to the first token that tells: so no token is looked at for more than
-    /// one parenthesis.
+    /// Looks at the words and bars behind it, up to the first token that tells: so no token is
+    /// looked at for more than one parenthesis.
     pub fn opens_class(&self, sort: Sort) -> bool
         requires { front_terminal self.now ≡ terminals.ParenL }
         ensures listed { result ≡ true → SpellNo (group_row sort) self.now }

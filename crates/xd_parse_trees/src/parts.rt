@@ -1,5 +1,5 @@
-//! What was read of a type or a pattern, before a node is made of it: no sequence is a part of a sequence, and no
-//! alternative a branch of one.
+//! What was read of a type or a pattern, before a node is made of it: no sequence is a part of a
+//! sequence, and no alternative a branch of one.
 
 ghost use Rattle.std.specs.Prelude.{◌≡◌, ◌∷◌, [], false, map, IfOk};
 ghost use Rattle.xd_syntax.specs.Table.{IsSeqPart, IsAltPart, CanFollow, KeepsRows};
@@ -15,8 +15,8 @@ use std::collections::VecDeque;
 use xd_base::Place;
 use xd_doc::NoMemory;
 
-/// What was read. Its parts are handed up, so that what stands around it merges with them; a node is made of it once,
-/// when something uses it as one part. The place is that of the first part.
+/// What was read. Its parts are handed up, so that what stands around it merges with them; a node
+/// is made of it once, when something uses it as one part. The place is that of the first part.
 #[derive(Drop)]
 pub(crate) enum Parts<I> {
     /// One part, which is no sequence and no alternative.
@@ -148,7 +148,8 @@ fn with_branches<N: Nodes>(
     }
 }
 
-/// What was read in front, and behind it what was read then, as one sequence: what is empty is left out of it.
+/// What was read in front, and behind it what was read then, as one sequence: what is empty is left
+/// out of it.
 pub(crate) fn in_sequence<N: Nodes>(
     alloc: Global,
     nodes: &mut N,

@@ -1,7 +1,8 @@
 //! Reads types and patterns.
 //!
-//! They have one grammar, but for the variables of patterns. Each function reads what its nonterminal stands for; where
-//! no token comes that the nonterminal begins with, it may answer anything.
+//! They have one grammar, but for the variables of patterns. Each function reads what its
+//! nonterminal stands for; where no token comes that the nonterminal begins with, it may answer
+//! anything.
 
 ghost use Rattle.std.specs.Prelude.{◌≡◌, ◌<◌, ◌⊎◌, ◌∷◌, [], false, true, vec_len, IfOk};
 ghost use Rattle.xd_syntax.specs.Table.{KeepsRows};
@@ -255,7 +256,8 @@ fn read_bound<N: Nodes>(
     add_unbound(alloc, nodes, place, variable)
 }
 
-/// A word, a text, a group in parentheses, what stands behind a `^`, or an element: a class of labels and its content.
+/// A word, a text, a group in parentheses, what stands behind a `^`, or an element: a class of
+/// labels and its content.
 #[cycle(trees)]
 fn read_primary<N: Nodes>(
     alloc: Global,

@@ -1,4 +1,5 @@
--- Lists that agree on what stands first and on their members: a later repeat of a member may be missing.
+-- Lists that agree on what stands first and on their members: a later repeat of a member may be
+-- missing.
 use Rattle.std.proofs.Common.{◌≡◌, List, [], ◌∷◌, ◌++◌, map, flat_map, Option, Some, None, refl, ap, sym, subst, ◌∙◌, inl, inr}
 use Rattle.xd_syntax.specs.Ways.{Among}
 use Rattle.xd_pattern_runs.specs.Alike.{Holding, or_then, pick, Alike}

@@ -1,4 +1,5 @@
--- What the ways of a pattern bind: no variable that it lacks, and where it is linear each of its variables once.
+-- What the ways of a pattern bind: no variable that it lacks, and where it is linear each of its
+-- variables once.
 use Rattle.std.proofs.Common.{◌≡◌, ℕ, suc, zero, ltb, Bool, true, false, cond, ◌||◌, List, [], ◌∷◌, ◌++◌, map, Option, Some, None, refl, ap, sym, subst, ◌∙◌, inl, inr}
 use Rattle.std.specs.Str.{bytes_eq}
 use Rattle.std.proofs.lemmas.Slice.Eq.{bytes_eq-Decides}

@@ -1,4 +1,5 @@
--- In a guarded program each kind of pattern has the ways that its row says, with as many unfoldings as each document needs.
+-- In a guarded program each kind of pattern has the ways that its row says, with as many unfoldings
+-- as each document needs.
 use Rattle.std.proofs.Common.{◌≡◌, ℕ, suc, zero, ◌+◌, ◌*◌, ◌≤◌, ltb, ltb-true, mul-le-mul_right, arith, true, false, cond, Bool, List, [], ◌∷◌, ◌++◌, map, flat_map, length, Some, None, refl, ap, sym, ◌∙◌}
 use Rattle.xd_doc.specs.Document.{Document, empty, element, size}
 use Rattle.xd_doc.specs.Classes.{LabelClass, class_has}

@@ -236,7 +236,8 @@ turns_alike E guarded xs T d cs h =
         (λ c m. sym (turn_one E (piece xs (Star T)) d c))
         ∙ sym (flat_flat (fewer_each (piece_means E (piece xs (Star T))) d) (does E d) cs)
 
--- A turn that is made behind the stop of another does what a turn alone does: the choices before the stop come again.
+-- A turn that is made behind the stop of another does what a turn alone does: the choices before
+-- the stop come again.
 
 stopless : (p : Piece) (T cs : List Choice) → has_stop cs ≡ false → then_choices cs (p ∷ []) T ≡ then_choices cs (p ∷ []) []
 stopless p T [] h = refl
@@ -384,7 +385,8 @@ apart_none (Val x T) e = cc
 pub fine_none : (xs : List (List ℕ)) (T : Tree) → occurrences T ≡ [] → IsFine xs T
 fine_none xs T e = (apart_none T e, λ x h. ap (λ z. has_word z x) e)
 
--- the main lemma: by unfoldings, and within each by the part; the names that were unfolded since the last item form a chain
+-- the main lemma: by unfoldings, and within each by the part; the names that were unfolded since
+-- the last item form a chain
 module _ (E : Definitions) (guarded : Guarded E) (none : BindNothing E) (n : ℕ) (N : List (List ℕ) → List ℕ → List Choice)
     (stops : (xs : List (List ℕ)) (y : List ℕ) → Among stop (N xs y) → Fits E (Name y) empty)
     (names : (V : List (List ℕ)) (xs : List (List ℕ)) (y : List ℕ) → (Defined E y → Trail E (y ∷ V)) → length E ≤ n + length V → (d : Document) →

@@ -202,7 +202,8 @@ module _ (E : Definitions) (H : List ℕ → ℕ) (heights : HaveHeights E H) (B
   abbrev IsGood : List (List ℕ) → Tree → Type 0
   IsGood xs T = PiecesIn Q G xs T × LowInside H B T
 
-  -- no more than b pieces, and those that come in the place of one with those behind it no more either
+  -- no more than b pieces, and those that come in the place of one with those behind it no more
+  -- either
   abbrev IsStack : ℕ → Continuation → Type 0
   IsStack b [] = Unit {0}
   IsStack b (p ∷ K) = ((a : ℕ) × IsLow H a p.part × (a + length K ≤ b)) × IsGood p.marks p.part × IsStack b K

@@ -6,7 +6,9 @@ use Rattle.std.proofs.lemmas.Slice.Eq.{bytes_eq-Decides}
 use Rattle.xd_base.specs.declared.Place.{Place}
 use Rattle.xd_syntax.specs.Words.{has_word}
 use Rattle.xd_syntax.specs.Placed.{PlacedTree, Empty_at, Text_at, Words_at, Name_at, Elem_at, Seq_at, Alt_at, Star_at, Plus_at, Opt_at, Val_at, unplaced, variables}
-use Rattle.xd_syntax.specs.NameFaults.{fault_if, in_each_branch, lacking_somewhere, without, not_linear, unknown_types}
+use Rattle.xd_syntax.specs.NameFaults.{fault_if, in_each_branch, lacking_somewhere, without, linearity_faults, unknown_types}
+use Rattle.xd_syntax.specs.NotLinear.{not_linear}
+use Rattle.xd_syntax.proofs.NotLinear.{linearity_same}
 use Rattle.xd_syntax.specs.declared.fault.FaultKind.{FaultKind}
 use Rattle.xd_syntax.specs.declared.fault.FaultKind.TheVariants.{NotLinear}
 use Rattle.xd_syntax.specs.Tree.{occurrences}
@@ -279,4 +281,4 @@ linear_of (Val_at p y q T) r earlier partial inner e f =
 
 pub no_fault_is_linear : NoFaultIsLinear
 no_fault_is_linear known A e =
-    let k = no_faults (unknown_types known A) (not_linear false [] [] false A) e in linear_of A false [] [] false k.1 (λ i. cc)
+    let k = no_faults (unknown_types known A) (linearity_faults A) e in linear_of A false [] [] false (sym (linearity_same A) ∙ k.1) (λ i. cc)

@@ -1,4 +1,5 @@
--- What a continuation and a choice do with a document: for each way, in order, what variables hold and what is left.
+-- What a continuation and a choice do with a document: for each way, in order, what variables hold
+-- and what is left.
 use Rattle.std.proofs.Common.{◌≡◌, ℕ, ◌≤◌, arith, Bool, cond, not, List, [], ◌∷◌, ◌++◌, map, flat_map, refl, ap, sym, subst, ◌∙◌, inl, inr}
 use Rattle.std.proofs.Math.Path.{fun_ext}
 use Rattle.xd_doc.specs.Document.{Document, empty, text, element, join, has_item}

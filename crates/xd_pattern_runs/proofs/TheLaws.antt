@@ -28,7 +28,8 @@ use Rattle.xd_pattern_runs.proofs.Bindings.{bound_once, unbound}
 use Rattle.xd_pattern_runs.proofs.Factor.{piece, apart_none}
 use Rattle.xd_pattern_runs.proofs.RunsMean.{done, outcome, runs_mean, fine_start}
 
--- where variables occur again, though not within their own binders, the run gives all that is bound to them, joined
+-- where variables occur again, though not within their own binders, the run gives all that is bound
+-- to them, joined
 abbrev AgreeJoined : Document → Run → List (List ℕ × Document) → Type 0
 AgreeJoined d r bs = (x : List ℕ) → joined (given x bs) ≡ held x d r
 

@@ -1,4 +1,5 @@
--- A variable is ahead of a continuation, open in it, or clear of it; and so are the runs from there.
+-- A variable is ahead of a continuation, open in it, or clear of it; and so are the runs from
+-- there.
 use Rattle.std.proofs.Common.{◌≡◌, ℕ, suc, zero, Bool, true, false, cond, ◌||◌, ◌⊎◌, List, [], ◌∷◌, ◌++◌, map, flat_map, length, Option, Some, None, refl, ap, subst, ◌∙◌, inl, inr}
 use Rattle.std.specs.Str.{bytes_eq}
 use Rattle.xd_doc.specs.Document.{Document, empty, text, element}
@@ -39,7 +40,8 @@ have_one_stop Q cs f c m = f c (one_stop_in c cs m)
 pub have_then : (Q Q' : Choice → Type 0) (K : Continuation) (cs bs : List Choice) → ((b : Choice) → Q b → AllHave Q' (in_place K cs b)) → AllHave Q bs → AllHave Q' (then_choices bs K cs)
 have_then Q Q' K cs bs f h c m = let r = mem_flat (in_place K cs) c bs m in f r.0 (h r.0 r.1) c r.2
 
--- the variable isn't in the pattern, and is among the words or isn't: inside of a binder of it, or outside
+-- the variable isn't in the pattern, and is among the words or isn't: inside of a binder of it, or
+-- outside
 abbrev IsPlaced : Bool → List ℕ → List (List ℕ) → Tree → Type 0
 IsPlaced inside x xs T = (has_word xs x ≡ inside) × (has_word (occurrences T) x ≡ false)
 

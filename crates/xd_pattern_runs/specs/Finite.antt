@@ -9,8 +9,9 @@ use Rattle.xd_syntax.specs.RecursionFaults.{IsSound}
 use Rattle.xd_pattern_runs.specs.Runs.{Continuation, start, Choice, stop, take_text, take_element, has_stop, choices}
 use Rattle.xd_pattern_runs.specs.Linear.{BindNothing}
 
--- No more than so many pieces come to stand behind one another in the place of the type, where H gives what comes in the
--- place of a name. Behind what is last nothing stands, so that a name may lead back to itself there.
+-- No more than so many pieces come to stand behind one another in the place of the type, where H
+-- gives what comes in the place of a name. Behind what is last nothing stands, so that a name may
+-- lead back to itself there.
 abbrev pub IsLow : (List ℕ → ℕ) → ℕ → Tree → Type 0
 IsLow H b Empty = Unit {0}
 IsLow H b Text = Unit {0}

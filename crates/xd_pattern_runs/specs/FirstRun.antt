@@ -27,7 +27,8 @@ abbrev pub first_over_text : {S : Type 0} → (S → Bool) → (S → Option Run
 first_over_text A F t [] = None
 first_over_text A F t (m ∷ ms) = cond (class_has m.words t && A m.rest) (text_then_run m.marks (F m.rest)) (first_over_text A F t ms)
 
--- by the first of the moves by which the content and the rest are accepted, where C and G do the same for the content
+-- by the first of the moves by which the content and the rest are accepted, where C and G do the
+-- same for the content
 abbrev pub first_over_element : {S : Type 0} → (S → Bool) → (S → Option Run) → (S → Bool) → (S → Option Run) → List ℕ → List (ElementMove S) → Option Run
 first_over_element C G A F l [] = None
 first_over_element C G A F l (m ∷ ms) =

@@ -24,7 +24,8 @@ NamesBindNothing = (P : ProgramTree) → IsProperProgram P → BindNothing (name
 abbrev pub NoFaultIsLinear : Type 0
 NoFaultIsLinear = (known : List (List ℕ)) (P : PlacedTree) → pattern_faults known P ≡ [] → IsLinear (unplaced P)
 
--- each of the variables is bound once, to the items that the run gives it, and nothing else is bound
+-- each of the variables is bound once, to the items that the run gives it, and nothing else is
+-- bound
 abbrev pub Agree : List (List ℕ) → Document → Run → List (List ℕ × Document) → Type 0
 Agree xs d r bs = (x : List ℕ) → given x bs ≡ cond (has_word xs x) (held x d r ∷ []) []
 
@@ -45,7 +46,8 @@ abbrev pub first_of : List Run → Option Run
 first_of [] = None
 first_of (r ∷ rs) = Some r
 
--- the first run over a document is the first match, and there is none exactly where there is no match
+-- the first run over a document is the first match, and there is none exactly where there is no
+-- match
 abbrev pub FirstRunIsFirstMatch : Type 0
 FirstRunIsFirstMatch = (E : Definitions) → Guarded E → BindNothing E → (P : Tree) → IsLinear P → (d : Document) →
     option_map (run_bindings (variables_of P) d) (first_of (runs E d (start P))) ≡ first_bindings E P d
@@ -60,7 +62,8 @@ abbrev pub WaysAreRuns : Type 0
 WaysAreRuns = (E : Definitions) → Guarded E → BindNothing E → (P : Tree) → IsLinear P → (d : Document) (w : Way) →
     IsWholeWay E P d w → (r : Run) × Among r (runs E d (start P)) × Agree (occurrences P) d r w.bindings
 
--- there is a run over the documents that fit the pattern with its binders dropped, and over no others
+-- there is a run over the documents that fit the pattern with its binders dropped, and over no
+-- others
 abbrev pub RunsDecide : Type 0
 RunsDecide = (E : Definitions) → Guarded E → BindNothing E → (P : Tree) → IsLinear P → (d : Document) →
     ((r : Run) × Among r (runs E d (start P))) ↔ Fits E (bare P) d

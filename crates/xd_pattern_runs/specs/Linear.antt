@@ -1,4 +1,5 @@
--- Patterns in which each way binds each variable once, and what the bindings of a way give a variable.
+-- Patterns in which each way binds each variable once, and what the bindings of a way give a
+-- variable.
 use Rattle.std.specs.Prelude.{◌≡◌, ℕ, true, false, cond, List, [], ◌∷◌, Some}
 use Rattle.std.specs.Str.{bytes_eq}
 use Rattle.xd_doc.specs.Document.{Document, empty, join}

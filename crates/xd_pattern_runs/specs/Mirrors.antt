@@ -35,7 +35,8 @@ pub record AreMovesOf {S : Type 0} (A : Ahead S) (moves : Moves S) (cs : List Ch
   pub texts : AllZip (SameText A) moves.texts (texts_of cs)
   pub elements : AllZip (SameElement A) moves.elements (elements_of cs)
 
--- each state of a pattern has the moves of what stands ahead of it, where repeats of a choice may be left out
+-- each state of a pattern has the moves of what stands ahead of it, where repeats of a choice may
+-- be left out
 pub record Mirrors {S : Type 0} (E : Definitions) (M : S → Moves S) (A : Ahead S) : Type 0 where
   pub found : (s : S) (K : Continuation) → A s ≡ Some K → (cs : List Choice) × Alike cs (choices E K) × AreMovesOf A (M s) cs
 

@@ -1,5 +1,6 @@
--- A pattern read from the front: what stands ahead, the ways to go on from there in order of preference, and the runs
--- over a document. The states of the automaton of a pattern are these continuations.
+-- A pattern read from the front: what stands ahead, the ways to go on from there in order of
+-- preference, and the runs over a document. The states of the automaton of a pattern are these
+-- continuations.
 use Rattle.std.specs.Prelude.{ℕ, suc, zero, Bool, true, false, cond, List, [], ◌∷◌, ◌++◌, map, flat_map, length, Option, Some, None}
 use Rattle.xd_doc.specs.Document.{Document, empty, text, element, join}
 use Rattle.xd_doc.specs.Classes.{LabelClass, TextClass, class_has}
@@ -20,8 +21,9 @@ Continuation = List Piece
 abbrev pub start : Tree → Continuation
 start P = record { marks = []; part = P } ∷ []
 
--- A way to go on: no item is taken; or a text of the class is taken, or an element of the class with what stands
--- ahead in its content. The item belongs to the marked variables, and then the rest stands ahead.
+-- A way to go on: no item is taken; or a text of the class is taken, or an element of the class
+-- with what stands ahead in its content. The item belongs to the marked variables, and then the
+-- rest stands ahead.
 pub data Choice : Type 0 where
   stop : Choice
   take_text : (words : TextClass) (marks : List (List ℕ)) (rest : List Piece) → Choice
@@ -63,7 +65,8 @@ turn_choices again cs = then_choices cs (again ∷ []) [] ++ stop ∷ []
 abbrev pub some_turn_choices : Piece → List Choice → List Choice
 some_turn_choices again cs = then_choices cs (again ∷ []) [] ++ cond (has_stop cs) (stop ∷ []) []
 
--- the choices of a part that stands in the binders of the marked variables, where N gives those of names
+-- the choices of a part that stands in the binders of the marked variables, where N gives those of
+-- names
 abbrev pub choices_by : (List (List ℕ) → List ℕ → List Choice) → List (List ℕ) → Tree → List Choice
 choices_by N xs Empty = stop ∷ []
 choices_by N xs Text = take_text all_texts xs [] ∷ []
@@ -81,7 +84,8 @@ abbrev pub choices_of_definition : (Tree → List Choice) → Option Tree → Li
 choices_of_definition F None = []
 choices_of_definition F (Some T) = F T
 
--- those of a name are those of its definition with one unfolding fewer, and none without an unfolding
+-- those of a name are those of its definition with one unfolding fewer, and none without an
+-- unfolding
 abbrev pub choices_of_name : Definitions → ℕ → List (List ℕ) → List ℕ → List Choice
 choices_of_name E zero xs y = []
 choices_of_name E (suc n) xs y = choices_of_definition (choices_by (choices_of_name E n) xs) (body E y)
@@ -94,8 +98,8 @@ choices_within E n (p ∷ K) = then_choices (choices_by (choices_of_name E n) p.
 abbrev pub choices : Definitions → Continuation → List Choice
 choices E K = choices_within E (length E) K
 
--- What a state of an automaton has: whether it takes the empty document, and its moves on a text and on an element, in
--- order of preference, each with the variables that the item belongs to.
+-- What a state of an automaton has: whether it takes the empty document, and its moves on a text
+-- and on an element, in order of preference, each with the variables that the item belongs to.
 pub record TextMove (S : Type 0) : Type 0 where
   pub words : TextClass
   pub marks : List (List ℕ)

@@ -1,4 +1,5 @@
--- How the choices of what stands ahead are found: a step looks at the first piece alone, and leaves parts of it ahead.
+-- How the choices of what stands ahead are found: a step looks at the first piece alone, and leaves
+-- parts of it ahead.
 use Rattle.std.specs.Prelude.{ℕ, List, [], ◌∷◌, ◌++◌, map, flat_map, Option, Some, None}
 use Rattle.xd_syntax.specs.Tree.{Tree, Empty, Text, Words, Name, Elem, Seq, Alt, Star, Plus, Opt, Val, Definitions, body}
 use Rattle.xd_syntax.specs.TreeForms.{alt_of}
@@ -7,8 +8,9 @@ use Rattle.xd_laws.specs.Guarded.{Guarded}
 use Rattle.xd_pattern_runs.specs.Alike.{Alike}
 use Rattle.xd_pattern_runs.specs.Runs.{Piece, Continuation, Choice, take_text, take_element, start, in_place, choices}
 
--- What stands ahead, up to the end of a turn of a repetition where it stands in one. A turn that takes nothing isn't made,
--- so at its end there is nothing to choose; behind it stands the repetition again, with what follows it.
+-- What stands ahead, up to the end of a turn of a repetition where it stands in one. A turn that
+-- takes nothing isn't made, so at its end there is nothing to choose; behind it stands the
+-- repetition again, with what follows it.
 pub record Ahead : Type 0 where
   pub front : Continuation
   pub turn : Option Continuation

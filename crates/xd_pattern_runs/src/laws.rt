@@ -8,7 +8,8 @@ ghost use Rattle.xd_pattern_runs.specs.Laws.{FirstRunIsFirstMatch, GivenNever, G
 ghost use Rattle.xd_pattern_runs.specs.Mirrors.{MirrorsRun};
 ghost use Rattle.xd_pattern_runs.specs.Together.{RunsKeepTogether};
 
-/// Types bind nothing, and a pattern that has no fault of names binds each of its variables once in each way.
+/// Types bind nothing, and a pattern that has no fault of names binds each of its variables once in
+/// each way.
 pub fn programs_are_linear()
     ensures types { NamesBindNothing }
     ensures patterns { NoFaultIsLinear }
@@ -44,7 +45,8 @@ pub fn mirrors_run()
     ensures { MirrorsRun }
 {}
 
-/// In a sound program finitely many continuations are reached from a pattern, since its names have heights.
+/// In a sound program finitely many continuations are reached from a pattern, since its names have
+/// heights.
 pub fn finitely_many_reached()
     ensures heights { HeightsOfSound }
     ensures reached { FinitelyManyReached }
@@ -52,13 +54,15 @@ pub fn finitely_many_reached()
     ensures few { FewReached }
 {}
 
-/// What is reached from a pattern is marked with its variables alone, and choices stop once at most.
+/// What is reached from a pattern is marked with its variables alone, and choices stop once at
+/// most.
 pub fn choices_are_plain()
     ensures marks { MarksAreVariables }
     ensures stops { ChoicesStopOnce }
 {}
 
-/// A state accepts a document where it has a run over it, and the first run takes the first move that can succeed.
+/// A state accepts a document where it has a run over it, and the first run takes the first move
+/// that can succeed.
 pub fn first_moves_first()
     ensures accepts { AcceptsByRuns }
     ensures first { FirstMovesFirst }

@@ -1,4 +1,5 @@
--- What a compiled pattern owes stays where each move keeps the marks that are the pattern's variables.
+-- What a compiled pattern owes stays where each move keeps the marks that are the pattern's
+-- variables.
 use Rattle.std.proofs.Common.{◌≡◌, ℕ, Bool, true, false, ◌&&◌, cond, List, [], ◌∷◌, map, get_or, Some, option_map, refl, ap, sym, ◌∙◌, inl, inr}
 use Rattle.xd_doc.specs.Document.{Document, empty, text, element, join}
 use Rattle.xd_auto.specs.declared.auto.State.{State}

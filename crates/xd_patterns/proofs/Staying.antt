@@ -1,4 +1,5 @@
--- The states of patterns stay that while their automaton extends: old states have the runs that they had.
+-- The states of patterns stay that while their automaton extends: old states have the runs that
+-- they had.
 use Rattle.std.proofs.Common.{◌≡◌, ℕ, zero, suc, ◌↔◌, arith, Bool, true, cond, List, [], ◌∷◌, ◌++◌, map, flat_map, get_or, option_map, Some, refl, ap, sym, subst, ◌∙◌}
 use Rattle.std.specs.List.{All, Contains, slice_get}
 use Rattle.std.proofs.lemmas.Option.{get_or_from_slice_get}

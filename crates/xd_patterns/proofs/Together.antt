@@ -1,4 +1,5 @@
--- The states of types and patterns that were compiled together, with the marks by the numbers of all their variables.
+-- The states of types and patterns that were compiled together, with the marks by the numbers of
+-- all their variables.
 use Rattle.std.proofs.Common.{◌≡◌, ℕ, ◌↔◌, ◌||◌, Bool, true, false, List, [], ◌∷◌, ◌++◌, map, length, take, drop, refl, ap, sym, subst, ◌∙◌}
 use Rattle.std.specs.List.{AllByRecursion}
 use Rattle.xd_doc.specs.Document.{Document}

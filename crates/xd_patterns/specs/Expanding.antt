@@ -64,7 +64,8 @@ abbrev pub IsVisited : Definitions → Tables → List (Link ℕ) → List (Link
 IsVisited E t m m' c c' old new found found' seen seen' x =
     IsSkipped m m' c c' old new found found' seen seen' x ⊎ IsStepped E t m m' c c' old new found found' seen seen' x
 
--- What the task stands for was found, or will be by the last of those that wait, each of which takes fewer steps.
+-- What the task stands for was found, or will be by the last of those that wait, each of which
+-- takes fewer steps.
 pub record IsGoneThrough (E : Definitions) (t : Tables) (m : List (Link ℕ)) (c : List (Link Piece)) (waiting : List Ahead) (found : List Found) (x : Task) : Type 0 where
   pub ahead_of : Ahead
   pub stands : StandsFor t m c x ahead_of

@@ -57,8 +57,9 @@ with_marks a k s (takes_element n c r) =
     over_element (get_or (k s).labels n []) (with_marks a k (get_or (moves_at a s).labels n (no_label_move s)).content c)
     (with_marks a k (get_or (moves_at a s).labels n (no_label_move s)).rest r)
 
--- The state is that of the pattern: it accepts what the pattern takes; its accepting runs are the whole ways, in what they give
--- the variables; in a run the items of one variable stand together; and the first run is the first match.
+-- The state is that of the pattern: it accepts what the pattern takes; its accepting runs are the
+-- whole ways, in what they give the variables; in a run the items of one variable stand together;
+-- and the first run is the first match.
 pub record IsCompiled (E : Definitions) (P : Tree) (a : Automaton) (k : Marking) (s : State) : Type 0 where
   pub accepts : (d : Document) → (accepts a d s ≡ true) ↔ Takes E P d
   pub ways : (d : Document) (run : Numbered.Run) → IsAcceptingRun a d s run → (w : Way) × IsWholeWay E P d w × Agree (occurrences P) d (with_marks a k s run) w.bindings

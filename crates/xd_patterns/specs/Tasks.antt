@@ -113,7 +113,8 @@ pub record IsFound (t : Tables) (marks : List (Link ℕ)) (cells : List (Link Pi
 abbrev pub StandFound : Tables → List (Link ℕ) → List (Link Piece) → List Found → Type 0
 StandFound t marks cells fs = AllByRecursion (λ (f : Found). (f.is_stop ≡ true) ⊎ IsFound t marks cells f) fs
 
--- these choices are found behind the others, where a choice that was found before need not stand again
+-- these choices are found behind the others, where a choice that was found before need not stand
+-- again
 pub record Collects (t : Tables) (marks : List (Link ℕ)) (cells : List (Link Piece)) (old new : List Found) (cs : List Choice) : Type 0 where
   pub stand : StandFound t marks cells old → StandFound t marks cells new
   pub alike : Alike (map (choice_at t marks cells) new) (map (choice_at t marks cells) old ++ cs)

@@ -16,7 +16,8 @@ pub struct Bodies {
 }
 
 impl Bodies {
-    /// Those of these definitions, where `Any` stands for the node with this number. `NoMemory` where there is no room for the names.
+    /// Those of these definitions, where `Any` stands for the node with this number. `NoMemory`
+    /// where there is no room for the names.
     pub fn new(alloc: Global, defs: &[TypeDef], any: usize) -> Result<Self, NoMemory>
         ensures { IfOk result (λ bodies. (w : List ℕ) → IsNodeOf defs.now any w (node_of bodies w)) }
     {

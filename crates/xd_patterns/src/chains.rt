@@ -7,8 +7,8 @@ use xd_continuations::{Internable, Interned};
 
 /// A part of a pattern or of a type, in the binders of some variables.
 ///
-/// It is the node of this number in the table of patterns or in that of types; or of the sequence that the node is the parts
-/// from this number on; or the star of the repetition that the node is.
+/// It is the node of this number in the table of patterns or in that of types; or of the sequence
+/// that the node is the parts from this number on; or the star of the repetition that the node is.
 #[derive(Clone, Copy, PartialEq, Eq, Hash)]
 pub(crate) struct Piece {
     pub of_pattern: bool,

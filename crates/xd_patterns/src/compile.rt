@@ -190,7 +190,8 @@ fn add_moves(
     Ok(made)
 }
 
-/// Adds the moves of all these states, and of those that are made on the way, and puts their marks into a table, state by state.
+/// Adds the moves of all these states, and of those that are made on the way, and puts their marks
+/// into a table, state by state.
 ///
 /// In a sound program the lists that come are finitely many.
 fn compile_into(
@@ -233,7 +234,8 @@ fn compile_into(
     Ok(())
 }
 
-/// The moves of all these states, and of those that are made on the way, state by state with their marks.
+/// The moves of all these states, and of those that are made on the way, state by state with their
+/// marks.
 pub(crate) fn compile(
     alloc: Global,
     types: &Types,

@@ -35,8 +35,8 @@ pub(crate) struct PatternVariables {
 
 /// Types and patterns of a program as states of one automaton.
 ///
-/// What stands ahead has one state, however many of them lead to it. Variables of all patterns are numbered together, so variables
-/// of one name have one number.
+/// What stands ahead has one state, however many of them lead to it. Variables of all patterns are
+/// numbered together, so variables of one name have one number.
 #[derive(Drop)]
 pub struct CompiledProgram {
     types: Vec<State>,
@@ -77,9 +77,9 @@ impl CompiledProgram {
 
     /// The number of the list of variables that the item taken by a move belongs to.
     ///
-    /// The number of the move is its position among the state's moves of that kind. A state or a move that was made for none of the
-    /// types and patterns has a list without variables. Lists of several numbers may have the same variables, as two binders of one
-    /// variable have.
+    /// The number of the move is its position among the state's moves of that kind. A state or a
+    /// move that was made for none of the types and patterns has a list without variables. Lists of
+    /// several numbers may have the same variables, as two binders of one variable have.
     pub fn list_of(&self, state: State, kind: MoveKind, number: usize) -> usize
         ensures { list_variables self.now result ≡ marks_at (marking_of_program self.now state) kind number }
     {
@@ -100,7 +100,8 @@ impl CompiledProgram {
         self.moves.marks(state, kind, number)
     }
 
-    /// Whether the item taken by a move belongs to the variable of this number of a pattern, in order of first occurrence.
+    /// Whether the item taken by a move belongs to the variable of this number of a pattern, in
+    /// order of first occurrence.
     pub fn holds(
         &self,
         state: State,

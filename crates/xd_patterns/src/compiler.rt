@@ -36,7 +36,8 @@ pub struct PatternCompiler {
 }
 
 impl PatternCompiler {
-    /// That of a program. What `Any` stands for is added to its types, and stays there after `NoMemory`, too.
+    /// That of a program. What `Any` stands for is added to its types, and stays there after
+    /// `NoMemory`, too.
     pub fn new(alloc: Global, sound: &mut SoundProgram) -> Result<Self, NoMemory>
         ensures serves { IfOk result (Serves sound.new) }
         ensures adds { AddsTypes sound.old sound.new }
@@ -49,10 +50,12 @@ impl PatternCompiler {
         Ok(Self { bodies })
     }
 
-    /// Adds the states of a pattern, whose moves stand in order of preference (after Hosoya and Pierce, JFP 2003).
+    /// Adds the states of a pattern, whose moves stand in order of preference (after Hosoya and
+    /// Pierce, JFP 2003).
     ///
-    /// The program is the one that the compiler was made of, to which types alone may have been added ([`compilers_stay`]). The
-    /// pattern is linear, as those of clauses and their parts are. After `NoMemory` old states accept what they did.
+    /// The program is the one that the compiler was made of, to which types alone may have been
+    /// added ([`compilers_stay`]). The pattern is linear, as those of clauses and their parts are.
+    /// After `NoMemory` old states accept what they did.
     pub fn compile(
         &self,
         alloc: Global,
@@ -82,12 +85,14 @@ impl PatternCompiler {
         Ok(marked)
     }
 
-    /// Adds the states of types and patterns of the program together: a state for each type, which accepts exactly what fits it, and one
-    /// for each pattern, whose moves stand in order of preference, as those of [`compile`](PatternCompiler::compile) do.
+    /// Adds the states of types and patterns of the program together: a state for each type, which
+    /// accepts exactly what fits it, and one for each pattern, whose moves stand in order of
+    /// preference, as those of [`compile`](PatternCompiler::compile) do.
     ///
-    /// What stands ahead has one state, however many of them lead to it. So an element's content is the same state in each type and
-    /// pattern that comes to it by the element's type, and the cost is that of what differs. The program is the one that the compiler
-    /// was made of, and the patterns are linear. After `NoMemory` old states accept what they did.
+    /// What stands ahead has one state, however many of them lead to it. So an element's content is
+    /// the same state in each type and pattern that comes to it by the element's type, and the cost
+    /// is that of what differs. The program is the one that the compiler was made of, and the
+    /// patterns are linear. After `NoMemory` old states accept what they did.
     pub fn compile_all(
         &self,
         alloc: Global,
@@ -123,8 +128,9 @@ impl PatternCompiler {
 
     /// Adds a state that accepts exactly what fits a type of the program.
     ///
-    /// It is for tests of membership: where a type has the same part twice, the state has the moves of one, and not one for
-    /// each head of the type. The program is the one that the compiler was made of. After `NoMemory` old states accept what they did.
+    /// It is for tests of membership: where a type has the same part twice, the state has the moves
+    /// of one, and not one for each head of the type. The program is the one that the compiler was
+    /// made of. After `NoMemory` old states accept what they did.
     pub fn compile_plain_type(
         &self,
         alloc: Global,

@@ -19,7 +19,8 @@ use xd_continuations::Link;
 use xd_doc::{Label, NoMemory};
 use xd_syntax::{Patterns, TypeDef, Types};
 
-/// A list of pieces that stands ahead; in a turn of a repetition, the list that stands behind the turn.
+/// A list of pieces that stands ahead; in a turn of a repetition, the list that stands behind the
+/// turn.
 #[derive(Clone, Copy, PartialEq, Eq, Hash)]
 pub(crate) struct Task {
     pub cell: usize,
@@ -271,8 +272,8 @@ fn is_first(task: Task, seen: &mut IndexSet<Task>) -> Result<bool, NoMemory>
 
 /// One step of a task, where it comes for the first time.
 ///
-/// When a task comes again, all that it finds was found: it takes more steps than any task that it leads to, so it can't
-/// come among these.
+/// When a task comes again, all that it finds was found: it takes more steps than any task that it
+/// leads to, so it can't come among these.
 fn visit(
     types: &Types,
     patterns: &Patterns,
@@ -337,8 +338,8 @@ fn expand_all(
 
 /// All that can come next in a list of pieces, each once, in order of preference.
 ///
-/// A part of a pattern that comes again in the same place with the same marks, as by a name in two alternatives, is gone
-/// through once.
+/// A part of a pattern that comes again in the same place with the same marks, as by a name in two
+/// alternatives, is gone through once.
 pub(crate) fn expand(
     alloc: Global,
     types: &Types,

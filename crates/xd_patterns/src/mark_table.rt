@@ -12,7 +12,8 @@ use xd_auto::State;
 use xd_auto_pairs::MoveKind;
 use xd_doc::Label;
 
-/// Variables by their numbers, and for each move of the states that were made the list of those that its item belongs to.
+/// Variables by their numbers, and for each move of the states that were made the list of those
+/// that its item belongs to.
 #[derive(Drop)]
 pub(crate) struct MarkTable {
     pub words: IndexSet<Label>,

@@ -39,7 +39,8 @@ impl Marked {
         self.start
     }
 
-    /// The variables of the pattern in order of first occurrence. They are numbered from 0 in this order.
+    /// The variables of the pattern in order of first occurrence. They are numbered from 0 in this
+    /// order.
     pub fn variables(&self) -> &[Label]
         ensures { result.now ≡ variables_in self.now }
     {
@@ -48,8 +49,8 @@ impl Marked {
 
     /// The numbers of the variables that the item taken by a move belongs to.
     ///
-    /// The number of the move is its position among the state's moves of that kind. A state or a move that isn't the
-    /// pattern's has none.
+    /// The number of the move is its position among the state's moves of that kind. A state or a
+    /// move that isn't the pattern's has none.
     pub fn marks(&self, state: State, kind: MoveKind, number: usize) -> &[usize]
         ensures { words_of (variables_in self.now) result.now ≡ marks_at (marking_of self.now state) kind number }
     {
@@ -115,11 +116,12 @@ fn compile_marked(
     })
 }
 
-/// Adds the states of a pattern, whose moves stand in order of preference (after Hosoya and Pierce, JFP 2003).
+/// Adds the states of a pattern, whose moves stand in order of preference (after Hosoya and Pierce,
+/// JFP 2003).
 ///
-/// Definitions of types are guarded and bind nothing, and `bodies` are those of the definitions, as in every sound program
-/// ([`PatternCompiler`](crate::PatternCompiler) sees to that); the pattern is linear. After `NoMemory` old states accept what they
-/// did.
+/// Definitions of types are guarded and bind nothing, and `bodies` are those of the definitions, as
+/// in every sound program ([`PatternCompiler`](crate::PatternCompiler) sees to that); the pattern
+/// is linear. After `NoMemory` old states accept what they did.
 pub fn compile_pattern(
     alloc: Global,
     types: &Types,

@@ -46,7 +46,8 @@ pub(crate) fn piece_of_pattern(id: PatternId) -> Piece
     }
 }
 
-/// A state for each piece alone, in their order; none of them has moves yet. Pieces that are the same have one state.
+/// A state for each piece alone, in their order; none of them has moves yet. Pieces that are the
+/// same have one state.
 #[tactic(auto, using(crate::proofs::SparesLemmas::spares_none, crate::proofs::SparesLemmas::spares_then))]
 fn add_starts(
     alloc: Global,
@@ -105,8 +106,9 @@ fn compile_from(
     Ok((starts, table))
 }
 
-/// Adds a state for each of these pieces, which stand outside of all binders, with all states that they lead to: the states in the
-/// order of the pieces, and for each state that was added the lists of the variables of its moves.
+/// Adds a state for each of these pieces, which stand outside of all binders, with all states that
+/// they lead to: the states in the order of the pieces, and for each state that was added the lists
+/// of the variables of its moves.
 ///
 /// What stands ahead has one state, however many of the pieces lead to it.
 pub(crate) fn compile_pieces(

@@ -101,7 +101,8 @@ call_taken W P (suc k) (suc n) f ds g h i e =
     ∙ ap (λ j. value_by W (call_within W P k) j (M.bound g.parameters ds) g.body) b
     ∙ sym (ap (λ o. body_by (value_by W (call_within W P k) n) o ds) e)
 
--- Where matches of documents that need more unfoldings play no part, matches within so many give the same.
+-- Where matches of documents that need more unfoldings play no part, matches within so many give
+-- the same.
 
 pub settled : (P : ProgramTree) → IsSound P → (n : ℕ) (outcome : Matcher → Outcome Document) → IsSettledWithin (names_of P) n outcome →
     outcome (first_within (names_of P) n) ≡ outcome (first (names_of P))

@@ -27,7 +27,8 @@ IsWithout Spent o = o ≡ M.Spent
 IsWithout Stuck o = o ≡ M.Stuck
 IsWithout NoMemory o = Unit {0}
 
--- the answer is the outcome, where what is found stands for this one; a want of memory tells nothing
+-- the answer is the outcome, where what is found stands for this one; a want of memory tells
+-- nothing
 abbrev pub Tells : {T A : Type 0} → (T → Outcome A) → Result T NoValue → Outcome A → Type 0
 Tells stands_for r o = MatchResult r (λ found. o ≡ stands_for found) (λ why. IsWithout why o)
 

@@ -56,8 +56,8 @@ impl From<NoMemory> for NoValue {
     }
 }
 
-/// The value of an expression with so many calls left, where variables have these documents, the newest first, and a
-/// match may unfold names so many times.
+/// The value of an expression with so many calls left, where variables have these documents, the
+/// newest first, and a match may unfold names so many times.
 ///
 /// In a sound program a match needs no more unfoldings than its document's size plus one times the
 /// number of definitions plus one, `Any` among them. Besides `Spent` and `Stuck` it fails only

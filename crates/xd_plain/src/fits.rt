@@ -156,7 +156,8 @@ fn in_two_parts(
     Ok(false)
 }
 
-/// Whether the document is empty, or some split's front has an item and fits the type and its back fits the repetition.
+/// Whether the document is empty, or some split's front has an item and fits the type and its back
+/// fits the repetition.
 #[cycle(fits)]
 fn in_turns(
     alloc: Global,

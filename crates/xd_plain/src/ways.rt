@@ -168,7 +168,8 @@ fn defined(
     ways_within(alloc, definitions, unfoldings - 1, body, document)
 }
 
-/// The ways that take an element with a label of the class, one for each way that takes its content whole.
+/// The ways that take an element with a label of the class, one for each way that takes its content
+/// whole.
 #[cycle(ways)]
 fn one_element(
     alloc: Global,
@@ -193,7 +194,8 @@ fn one_element(
     }
 }
 
-/// The bindings of the first way that takes the whole document, where names may be unfolded so many times.
+/// The bindings of the first way that takes the whole document, where names may be unfolded so many
+/// times.
 ///
 /// In a sound program the first match needs no more unfoldings than the document's size plus one
 /// times the number of definitions plus one, `Any` among them. Fails only where memory is refused.
@@ -317,8 +319,8 @@ fn one_more_turn(
     both(turned, stop)
 }
 
-/// Each of the ways that leaves fewer items than the document has, followed by those of a repetition on its rest, with
-/// at most as many turns as the counter has items.
+/// Each of the ways that leaves fewer items than the document has, followed by those of a
+/// repetition on its rest, with at most as many turns as the counter has items.
 #[cycle(ways)]
 fn each_turned(
     alloc: Global,
@@ -348,7 +350,8 @@ fn each_turned(
     Ok(made)
 }
 
-/// Appends the way, followed by each of a repetition on its rest, with at most as many turns as the counter has items.
+/// Appends the way, followed by each of a repetition on its rest, with at most as many turns as the
+/// counter has items.
 #[cycle(ways)]
 fn push_turns(
     alloc: Global,

@@ -82,7 +82,8 @@ pub enum Frames {
     Within(Label, PlainDocument, Box<Frames>),
 }
 
-/// What tokens leave open: what may come next, the items of the innermost open element, and the open elements.
+/// What tokens leave open: what may come next, the items of the innermost open element, and the
+/// open elements.
 #[derive(Drop)]
 pub struct Opened {
     pub coming: Coming,

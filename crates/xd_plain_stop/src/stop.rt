@@ -73,7 +73,8 @@ fn valid_len(bytes: &[u8]) -> usize
     }
 }
 
-/// The first stop at one of these tokens, the open one of which is broken at the place `behind`, if there is one.
+/// The first stop at one of these tokens, the open one of which is broken at the place `behind`, if
+/// there is one.
 fn first_stop(
     alloc: Global,
     of: &PlainType<'_>,

@@ -15,7 +15,8 @@ pub enum Tail {
     Anything,
     /// An item, and then anything.
     Something,
-    /// An element with this label that isn't closed: its items so far, and what may stand behind these. Anything follows it.
+    /// An element with this label that isn't closed: its items so far, and what may stand behind
+    /// these. Anything follows it.
     Open(Label, PlainDocument, Box<Tail>),
 }
 

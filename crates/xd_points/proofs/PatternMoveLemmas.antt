@@ -50,7 +50,8 @@ passes_item t [] k x lt at = absurd (omega arith)
 passes_item t (y ∷ xs) zero x lt at = ap t (sym at)
 passes_item t (y ∷ xs) (suc k) x lt at = passes_item t xs k x (omega arith) at
 
--- a move of a pattern's state, and the moves of the left that may share a name with it: these tell what all moves of the left do
+-- a move of a pattern's state, and the moves of the left that may share a name with it: these tell
+-- what all moves of the left do
 pub met_tell : {M : Type 0} (has : M → List ℕ → Bool) (t : M → Bool) (step : M) (moves : List M) (numbers : List ℕ) (x : List ℕ) (k r : Bool) → AreMatching has step moves numbers
     → (list_any (passes_at (λ m. has m x && t m) moves) numbers && ((has step x && k) && not r)) ≡ (list_any (λ m. has m x && t m) moves && ((has step x && k) && not r))
 met_tell {M} has t step moves numbers x k r are = go (has step x) refl

@@ -1,4 +1,5 @@
--- Runs of a pattern through points: by which moves of the points' states, and where they come to a point that means what an old state accepts.
+-- Runs of a pattern through points: by which moves of the points' states, and where they come to a
+-- point that means what an old state accepts.
 use Rattle.std.specs.Prelude.{◌≡◌, ℕ, ◌<◌, ◌⊎◌, ◌↔◌, true, false, List, Some, length, slice_get}
 use Rattle.xd_doc.specs.Document.{Document, empty, text, element}
 use Rattle.xd_doc.specs.Classes.{class_has}
@@ -14,7 +15,8 @@ use Rattle.xd_points.specs.Points.{AreExpanded, RowView, is_old, meaning, point_
 abbrev pub IsRunAt : Automaton → PatternStates → Points → ℕ → Document → Run → Type 0
 IsRunAt a t p i d run = (meaning a t p i d ≡ true) × IsAcceptingRun t.auto d (point_at p.points.items i).pattern run
 
--- at each item the point's state has a move on its name that stands for the run's, up to points that mean what old states accept
+-- at each item the point's state has a move on its name that stands for the run's, up to points
+-- that mean what old states accept
 abbrev pub Follows : Automaton → PatternStates → Points → List RowView → Document → ℕ → Run → Type 0
 Follows a t p rows empty i run = IsRunAt a t p i empty run
 Follows a t p rows (text c d) i ends = ⊥

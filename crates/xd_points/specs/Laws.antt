@@ -7,7 +7,8 @@ use Rattle.xd_points.specs.declared.points.Points.{Points}
 use Rattle.xd_points.specs.Meaning.{IsPointOf, PointView, ServePoints, means}
 use Rattle.xd_points.specs.Points.{AreExpanded, RowView}
 
--- patterns that serve points with lefts in an automaton serve those with lefts in each that extends it
+-- patterns that serve points with lefts in an automaton serve those with lefts in each that extends
+-- it
 abbrev pub ServingStays : Type 0
 ServingStays = (old new : Automaton) (t : PatternStates) → IsClosed old → Extends old new → ServePoints old t → ServePoints new t
 

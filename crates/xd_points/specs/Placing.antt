@@ -25,7 +25,8 @@ state_of Nowhere = None
 abbrev pub place_at : List Place → ℕ → Place
 place_at places i = slice_index_or places i Nowhere
 
--- the left where the point means what it accepts, a state that came since, or nowhere, where no document of the point's state is known
+-- the left where the point means what it accepts, a state that came since, or nowhere, where no
+-- document of the point's state is known
 abbrev pub IsPlaceOf : PatternStates → Automaton → Automaton → Points → List (Option Seq) → ℕ → Place → Type 0
 IsPlaceOf b old new p known i (Old s) = (is_old b p i ≡ true) × (s ≡ (point_at p.points.items i).left)
 IsPlaceOf b old new p known i (New s) = (is_old b p i ≡ false) × (length old ≤ s.number) × IsState new s

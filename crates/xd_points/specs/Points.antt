@@ -1,4 +1,5 @@
--- How the points of an automaton are made, and what their states and moves stand for. Of this only private contracts speak.
+-- How the points of an automaton are made, and what their states and moves stand for. Of this only
+-- private contracts speak.
 use Rattle.std.specs.Prelude.{nat_eq, not, ◌≡◌, ℕ, ◌<◌, ◌≤◌, Bool, true, false, cond, ◌&&◌, ◌||◌, List, [], ◌∷◌, map, take, length, Option, Some, slice_get, slice_index_or}
 use Rattle.std.specs.List.{AllByRecursion, AllZip, list_any}
 use Rattle.std.specs.Ordering.{nat_cmp}
@@ -47,7 +48,8 @@ is_old b p i = is_old_point b (point_at p.points.items i)
 abbrev pub point_last : Automaton → PatternStates → PointView → Bool
 point_last a b p = is_old_point b p || means a b p empty
 
--- one state for each point, which accepts the empty document where the point says so; and numbers that lead to their points
+-- one state for each point, which accepts the empty document where the point says so; and numbers
+-- that lead to their points
 pub record ArePoints (a : Automaton) (b : PatternStates) (p : Points) : Type 0 where
   pub count : length p.made ≡ length p.points.items
   pub points : (i : ℕ) → i < length p.points.items → IsPointOf a b (point_at p.points.items i)
@@ -84,7 +86,8 @@ pub record LabelLeads (part : MoveSide) (p : Points) (m : LabelMove) : Type 0 wh
 pub record TextLeads (rest : State) (p : Points) (m : TextMove) : Type 0 where
   pub leads : LeadsTo p rest m.rest
 
--- where two moves lead, one of a left and one of a pattern's state: states of the automaton, and of the patterns
+-- where two moves lead, one of a left and one of a pattern's state: states of the automaton, and of
+-- the patterns
 pub record ArePartsOf (a : Automaton) (b : PatternStates) (parts : Parts) : Type 0 where
   pub left : is_side a parts.left ≡ true
   pub pattern : is_side b.auto parts.pattern ≡ true
@@ -143,7 +146,8 @@ any_for p n [] ks = false
 any_for p n (m ∷ ms) [] = false
 any_for p n (m ∷ ms) (k ∷ ks) = (nat_eq k n && p m) || any_for p n ms ks
 
--- before which number the pattern's moves must fail, where each must that is more preferred, or none must
+-- before which number the pattern's moves must fail, where each must that is more preferred, or
+-- none must
 abbrev pub place_before : Bool → ℕ → ℕ
 place_before first n = cond first n 0
 
@@ -156,7 +160,8 @@ abbrev pub text_takes_by : Bool → Automaton → PatternStates → PointView �
 text_takes_by first a b p n q = accepts a (text_of q) p.left
     && (passes_at (text_takes b.auto q) (moves_at b.auto p.pattern).texts n && not (any_accepts b.taken.auto p.rights (text_of q) || any_text_before b.auto p.pattern (place_before first n) q))
 
--- points were found, and the moves of a state made, with the numbers of the moves that they stand for; of each number they take what `takes` says
+-- points were found, and the moves of a state made, with the numbers of the moves that they stand
+-- for; of each number they take what `takes` says
 pub record MakesMoves {M Q : Type 0} (IsStep : Points → M → ℕ → Type 0) (by_move : Points → Q → M → Bool) (a : Automaton) (b : PatternStates) (old new : Points) (moves : List M) (numbers : List ℕ) (takes : ℕ → Q → Bool) : Type 0 where
   pub whole : ArePoints a b new
   pub grows : Grows old new
@@ -180,14 +185,16 @@ no_row = record { labels = []; texts = [] }
 abbrev pub row_at : List RowView → ℕ → RowView
 row_at rows i = slice_index_or rows i no_row
 
--- the state of this number has its moves: for each move of the pattern's state those that take, with it, what the point means
+-- the state of this number has its moves: for each move of the pattern's state those that take,
+-- with it, what the point means
 pub record HasMoves (first : Bool) (a : Automaton) (b : PatternStates) (p : Points) (i : ℕ) (row : RowView) : Type 0 where
   pub labels : (n : ℕ) (q : ElementFirst) → any_for (label_means a b p q) n (moves_at p.made (state_at i)).labels row.labels ≡ label_takes first a b (point_at p.points.items i) n q
   pub texts : (n : ℕ) (q : TextFirst) → any_for (text_means a b p q) n (moves_at p.made (state_at i)).texts row.texts ≡ text_takes_by first a b (point_at p.points.items i) n q
   pub label_steps : AllZip (IsLabelStep b.auto (point_at p.points.items i).pattern p) (moves_at p.made (state_at i)).labels row.labels
   pub text_steps : AllZip (IsTextStep b.auto (point_at p.points.items i).pattern p) (moves_at p.made (state_at i)).texts row.texts
 
--- the states that there are rows for have their moves, but for those that are old ones, and the others have none
+-- the states that there are rows for have their moves, but for those that are old ones, and the
+-- others have none
 pub record AreExpanded (first : Bool) (a : Automaton) (b : PatternStates) (p : Points) (rows : List RowView) : Type 0 where
   pub whole : ArePoints a b p
   pub within : length rows ≤ length p.points.items

@@ -59,8 +59,8 @@ label_origin t s n = number_or (slice_get (labels_in (slice_get t.rows.items s.n
 abbrev pub text_origin : PointTable → State → ℕ → ℕ
 text_origin t s n = number_or (slice_get (texts_in (slice_get t.rows.items s.number)) n)
 
--- Each point of the table has its moves and a place, where it is accepted what the point means; and of which of them any document is
--- known is known.
+-- Each point of the table has its moves and a place, where it is accepted what the point means; and
+-- of which of them any document is known is known.
 pub record IsTableOf (a : Automaton) (b : PatternStates) (t : PointTable) : Type 0 where
   pub expanded : AreExpanded false a b t.points t.rows.items
   pub every : length t.rows.items ≡ length t.points.points.items

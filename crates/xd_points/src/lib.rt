@@ -1,4 +1,5 @@
-//! Points: what a state of an automaton and a state of a pattern accept together, and earlier states refuse.
+//! Points: what a state of an automaton and a state of a pattern accept together, and earlier
+//! states refuse.
 #![tactic(auto)]
 
 pub mod laws;

@@ -45,7 +45,8 @@ fn leads_nowhere(pattern: MoveSide, choice: &SideChoice) -> bool
     is_refused(pattern.content, &choice.contents) || is_refused(pattern.rest, &choice.rests)
 }
 
-/// The move on these labels by which the parts go on as the choice says; none where nothing is left of a part.
+/// The move on these labels by which the parts go on as the choice says; none where nothing is left
+/// of a part.
 fn add_move(
     alloc: Global,
     auto: &Auto,
@@ -124,8 +125,9 @@ fn add_group(
     Ok(())
 }
 
-/// The moves for the labels that two moves share, one of the left and one of the pattern's state, on what no state of the point's
-/// rights takes, and none of the first moves of the pattern's state.
+/// The moves for the labels that two moves share, one of the left and one of the pattern's state,
+/// on what no state of the point's rights takes, and none of the first moves of the pattern's
+/// state.
 fn add_meet(
     alloc: Global,
     auto: &Auto,
@@ -201,7 +203,8 @@ pub(crate) fn label_steps(
     Ok(labels)
 }
 
-/// The move for the texts of a group; none where one of its states is known to accept everything, or is the pattern's.
+/// The move for the texts of a group; none where one of its states is known to accept everything,
+/// or is the pattern's.
 fn add_text_group(
     alloc: Global,
     auto: &Auto,

@@ -11,7 +11,8 @@ use xd_auto::Auto;
 use xd_boole::{Taken, taken_from};
 use xd_doc::NoMemory;
 
-/// An automaton with the states of patterns, and the same with like states made one, for those that must refuse.
+/// An automaton with the states of patterns, and the same with like states made one, for those that
+/// must refuse.
 #[derive(Drop)]
 pub struct PatternStates {
     /// The states as they are: by their moves it is known what belongs to variables.
@@ -19,7 +20,8 @@ pub struct PatternStates {
     pub(crate) taken: Taken,
     /// So many of the first states are states of the automaton of the lefts, too.
     pub(crate) shared: usize,
-    /// Of each state whether it may be left out, where nothing must refuse and it takes everything, or is the left itself.
+    /// Of each state whether it may be left out, where nothing must refuse and it takes everything,
+    /// or is the left itself.
     pub(crate) left_out: Vec<bool>,
 }
 
@@ -42,8 +44,8 @@ impl PatternStates {
         })
     }
 
-    /// States of patterns that are the first states of the automaton of the lefts, which has the same moves for them. Each may be left
-    /// out.
+    /// States of patterns that are the first states of the automaton of the lefts, which has the
+    /// same moves for them. Each may be left out.
     ///
     /// Fails only where memory is refused.
     pub fn shared(alloc: Global, auto: Auto) -> Result<Self, NoMemory>
@@ -64,8 +66,8 @@ impl PatternStates {
 
     /// The same, but that only marked states may be left out.
     ///
-    /// Where a table is asked what variables are given, it is to leave out no state by whose moves this is told: only states that give
-    /// nothing, or give some variables all that they take.
+    /// Where a table is asked what variables are given, it is to leave out no state by whose moves
+    /// this is told: only states that give nothing, or give some variables all that they take.
     pub fn leaving_out(self, marks: Vec<bool>) -> Self
         ensures auto { result.auto ≡ self.auto }
         ensures serve { (a : Automaton) → ServePoints a self → ServePoints a result }

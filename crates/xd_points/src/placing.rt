@@ -16,8 +16,8 @@ use xd_auto::{Auto, LabelMove, State, TextMove};
 use xd_doc::NoMemory;
 use xd_empty::Inhabitants;
 
-/// Where a point stands in the automaton: at its left, where it means what that accepts, at a new state, or nowhere, since it accepts
-/// nothing.
+/// Where a point stands in the automaton: at its left, where it means what that accepts, at a new
+/// state, or nowhere, since it accepts nothing.
 #[derive(Clone, Copy)]
 pub(crate) enum Place {
     Old(State),

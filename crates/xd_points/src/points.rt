@@ -17,8 +17,8 @@ use xd_auto::{Auto, State, StateKey};
 use xd_boole::{any_last, is_marked};
 use xd_doc::NoMemory;
 
-/// A state that must accept, a state of a pattern that must accept too, and states that must refuse: what a state of the new automaton
-/// stands for.
+/// A state that must accept, a state of a pattern that must accept too, and states that must
+/// refuse: what a state of the new automaton stands for.
 #[derive(Drop)]
 pub(crate) struct Point {
     pub(crate) left: State,
@@ -79,8 +79,9 @@ fn key_of(
     Ok(StateKey::new(alloc, left, &others)?)
 }
 
-/// Whether a point means what its left accepts: nothing must refuse, and the state of the pattern, which may be left out, is known to
-/// take everything, or is the left itself, a state that both automata share.
+/// Whether a point means what its left accepts: nothing must refuse, and the state of the pattern,
+/// which may be left out, is known to take everything, or is the left itself, a state that both
+/// automata share.
 pub(crate) fn is_old(
     patterns: &PatternStates,
     left: State,
@@ -107,7 +108,8 @@ pub(crate) fn is_refused(pattern: State, rights: &[State]) -> bool
     false
 }
 
-/// Whether the state of a point accepts the empty document. One that means what an old state accepts is taken to.
+/// Whether the state of a point accepts the empty document. One that means what an old state
+/// accepts is taken to.
 fn is_last(
     auto: &Auto,
     patterns: &PatternStates,

@@ -14,7 +14,8 @@ use std::marker::Model;
 use xd_auto::{Auto, LabelMove, TextMove};
 use xd_doc::NoMemory;
 
-/// For each move of a state, by its kind and number, the number of the pattern's move that it stands for.
+/// For each move of a state, by its kind and number, the number of the pattern's move that it
+/// stands for.
 #[derive(Drop)]
 pub(crate) struct Row {
     pub(crate) labels: Vec<usize>,
@@ -70,8 +71,9 @@ fn place_of(first: bool, number: usize) -> usize
     if first { number } else { 0 }
 }
 
-/// The moves of a point's state on an element, with the numbers of the pattern's moves that they stand for. With `first`, where the
-/// pattern's state goes by a move each more preferred one must fail.
+/// The moves of a point's state on an element, with the numbers of the pattern's moves that they
+/// stand for. With `first`, where the pattern's state goes by a move each more preferred one must
+/// fail.
 fn label_moves(
     alloc: Global,
     auto: &Auto,
@@ -130,8 +132,8 @@ fn add_bare(alloc: Global, rows: &mut Vec<Row>) -> Result<(), NoMemory>
     Ok(())
 }
 
-/// Gives the state of a point its moves, and the row of those of the pattern that they stand for; none where the point means what an
-/// old state accepts.
+/// Gives the state of a point its moves, and the row of those of the pattern that they stand for;
+/// none where the point means what an old state accepts.
 pub(crate) fn expand(
     alloc: Global,
     auto: &Auto,

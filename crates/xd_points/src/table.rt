@@ -19,7 +19,8 @@ use xd_empty::Inhabitants;
 
 /// Points, their moves, and where they stand in the automaton that has their lefts.
 ///
-/// It serves one automaton that only grows, and the same patterns at each call: a point that was met before is not made again.
+/// It serves one automaton that only grows, and the same patterns at each call: a point that was
+/// met before is not made again.
 #[derive(Drop)]
 pub struct PointTable {
     points: Points,
@@ -30,7 +31,8 @@ pub struct PointTable {
     store: Store,
 }
 
-/// Gives the states of points that have none yet their moves. New points that are met on the way wait in the order of their numbers.
+/// Gives the states of points that have none yet their moves. New points that are met on the way
+/// wait in the order of their numbers.
 fn expand_all(
     alloc: Global,
     auto: &Auto,
@@ -86,13 +88,14 @@ impl PointTable {
         }
     }
 
-    /// A state that accepts what a state of the automaton and a state of the patterns accept, and no one of some further states of the
-    /// patterns does. `None` only where that is nothing; a state that is answered may accept nothing, too, where the automaton had
-    /// states that do.
+    /// A state that accepts what a state of the automaton and a state of the patterns accept, and
+    /// no one of some further states of the patterns does. `None` only where that is nothing; a
+    /// state that is answered may accept nothing, too, where the automaton had states that do.
     ///
-    /// States are added for points that were not met before, and mean something; none where the point means what the left accepts, since
-    /// the pattern's state takes everything and nothing must refuse. After `NoMemory` the table serves no further calls; the automaton
-    /// keeps its states, and may have more.
+    /// States are added for points that were not met before, and mean something; none where the
+    /// point means what the left accepts, since the pattern's state takes everything and nothing
+    /// must refuse. After `NoMemory` the table serves no further calls; the automaton keeps its
+    /// states, and may have more.
     pub fn accept(
         &mut self,
         alloc: Global,
@@ -116,8 +119,9 @@ impl PointTable {
         Ok(self.place(point))
     }
 
-    /// The point of a state of the automaton, a state of the patterns and further ones, with all that it leads to: a state of
-    /// [`points`](Self::points). States are added to the automaton where [`accept`](Self::accept) says.
+    /// The point of a state of the automaton, a state of the patterns and further ones, with all
+    /// that it leads to: a state of [`points`](Self::points). States are added to the automaton
+    /// where [`accept`](Self::accept) says.
     pub fn find(
         &mut self,
         alloc: Global,
@@ -155,7 +159,8 @@ impl PointTable {
         Ok(start)
     }
 
-    /// The automaton of the points. Where [`is_left`](Self::is_left) says so, a state's moves there mean nothing.
+    /// The automaton of the points. Where [`is_left`](Self::is_left) says so, a state's moves there
+    /// mean nothing.
     pub fn points(&self) -> &Auto
         ensures { result.now ≡ points_of self.now }
     {

@@ -47,8 +47,9 @@ impl<H: Holds> Holds for Inherited<'_, H> {
     }
 }
 
-/// For each variable of a pattern, in their order, a state of `auto` that accepts exactly the documents that a first run of the
-/// pattern gives it, on some document that `state` accepts; `None` where the pattern and `state` share no document.
+/// For each variable of a pattern, in their order, a state of `auto` that accepts exactly the
+/// documents that a first run of the pattern gives it, on some document that `state` accepts;
+/// `None` where the pattern and `state` share no document.
 ///
 /// It does what `cases` of `xd_bind` does, with the automaton of the pattern's first runs in the
 /// place of the pattern's. After want of memory old states keep their moves, the store its

@@ -25,8 +25,9 @@ use xd_least::LeastInhabitants;
 use xd_sound::SoundProgram;
 use xd_syntax::PatternId;
 
-/// For each variable of the pattern, in order of first occurrence, a state that accepts exactly what the first match gives it on a
-/// document that comes to the clause, one that the state accepts; `None` where the pattern takes none of these.
+/// For each variable of the pattern, in order of first occurrence, a state that accepts exactly
+/// what the first match gives it on a document that comes to the clause, one that the state
+/// accepts; `None` where the pattern takes none of these.
 ///
 /// It is to first matches what [`ClausePattern::bindings`] is to all whole ways. After want of
 /// memory old states keep their moves, the store its documents, and what is known stays true.
@@ -70,8 +71,8 @@ pub fn first_bindings(
     Ok(found)
 }
 
-/// What the variables of a pattern are given by first matches, on documents that the state accepts: nothing where it takes none of
-/// these.
+/// What the variables of a pattern are given by first matches, on documents that the state accepts:
+/// nothing where it takes none of these.
 fn first_givens(
     alloc: Global,
     clause: &ClausePattern,
@@ -92,8 +93,9 @@ fn first_givens(
     }
 }
 
-/// For each variable of a pattern, in order of first occurrence and once, what the first match gives it: an automaton whose state
-/// accepts exactly this, on a document that the state accepts and no earlier pattern takes.
+/// For each variable of a pattern, in order of first occurrence and once, what the first match
+/// gives it: an automaton whose state accepts exactly this, on a document that the state accepts
+/// and no earlier pattern takes.
 ///
 /// Fails only where memory is refused. The program may have more types then.
 pub fn preferred_types(

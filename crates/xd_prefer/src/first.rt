@@ -15,7 +15,8 @@ use xd_boole::{Taken, taken_from};
 use xd_doc::NoMemory;
 use xd_empty::{inhabited, kept_part};
 
-/// An automaton whose accepting runs stand for the first runs of another, and what its states and moves stand for.
+/// An automaton whose accepting runs stand for the first runs of another, and what its states and
+/// moves stand for.
 #[derive(Drop)]
 pub struct FirstRuns {
     pub(crate) auto: Auto,
@@ -78,13 +79,15 @@ fn universal_row(alloc: Global) -> Result<Row, NoMemory>
     Ok(Row { labels, texts })
 }
 
-/// An automaton that accepts what the state accepts, and of whose runs has the first ones alone: those that go at each item, at every
-/// depth, by the first move of its state that leads over the document.
+/// An automaton that accepts what the state accepts, and of whose runs has the first ones alone:
+/// those that go at each item, at every depth, by the first move of its state that leads over the
+/// document.
 ///
-/// A state of it stands for a state, the left, and a set of states that are to refuse what it takes. Where it goes by a move of the
-/// left, each earlier move of the left must fail, and each move of a state of the set, if it can take the same item: so for each
-/// either its content refuses the item's content, or its rest what follows. These are the choices of `xd_boole`'s differences. Moves
-/// that lead to states that accept nothing are left out at the end.
+/// A state of it stands for a state, the left, and a set of states that are to refuse what it
+/// takes. Where it goes by a move of the left, each earlier move of the left must fail, and each
+/// move of a state of the set, if it can take the same item: so for each either its content refuses
+/// the item's content, or its rest what follows. These are the choices of `xd_boole`'s differences.
+/// Moves that lead to states that accept nothing are left out at the end.
 ///
 /// Fails only where memory is refused.
 pub fn first_runs(

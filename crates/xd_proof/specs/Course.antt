@@ -4,7 +4,8 @@ use Rattle.xd_meaning.specs.Consistent.{Case}
 use Rattle.xd_proof.specs.Parts.{Part, goal_count, goal_part, left_part, right_part, empty_part, case_part, end_part}
 use Rattle.xd_proof.specs.Form.{Block}
 
--- `count` is the number of goals to come in all, `ended` are those before the one that is being read.
+-- `count` is the number of goals to come in all, `ended` are those before the one that is being
+-- read.
 pub data Course (A : Type 0) : Type 0 where
   at_count : Course A
   at_first_goal : (count : ℕ) → Course A

@@ -1,4 +1,5 @@
--- The words of several choice trees, one tree after the other: what a reader that counts the trees to come has before it.
+-- The words of several choice trees, one tree after the other: what a reader that counts the trees
+-- to come has before it.
 use Rattle.std.specs.Prelude.{◌≡◌, ◌↔◌, ◌⊎◌, ℕ, suc, codes, List, [], ◌∷◌, flat_map, length}
 use Rattle.std.specs.List.{AllByRecursion}
 use Rattle.xd_meaning.specs.Consistent.{ChoiceTree}

@@ -102,8 +102,9 @@ module _ (TypeReads : List ℕ → Tree → Type 0) where
     pub goals : List Lined
     pub read : AreProof (lines ++ more) goals
 
-  -- The bytes are no proof text, and this is the number of the first line with which none goes on. Where the text ends early, or
-  -- its last line has no line feed, that is the number of its ended lines and one.
+  -- The bytes are no proof text, and this is the number of the first line with which none goes on.
+  -- Where the text ends early, or its last line has no line feed, that is the number of its ended
+  -- lines and one.
   pub record IsFirstBadLine (bytes : List ℕ) (n : ℕ) : Type 0 where
     pub lines : List (List ℕ)
     pub left : List ℕ

@@ -32,7 +32,8 @@ FrontsBegin = (known : List (List ℕ)) (lines more : List (List ℕ)) → CanBe
 abbrev pub FirstBadLineIsOne : Type 0
 FirstBadLineIsOne = (known : List (List ℕ)) (bytes : List ℕ) (n m : ℕ) → IsFirstBadLine (SpellsType known) bytes n → IsFirstBadLine (SpellsType known) bytes m → n ≡ m
 
--- Where some type has a text: lines begin a proof text of the first format exactly where each spells a part that may stand there.
+-- Where some type has a text: lines begin a proof text of the first format exactly where each
+-- spells a part that may stand there.
 abbrev pub FirstFormatBegins : Type 0
 FirstFormatBegins = (known : List (List ℕ)) (bytes : List ℕ) (T : Tree) → SpellsType known bytes T → (lines : List (List ℕ)) →
     CanBegin (SpellsType known) (codes "xduce-proof 1" ∷ lines)

@@ -1,13 +1,15 @@
 -- Lines of a text, words of a line, and numbers.
 use Rattle.std.specs.Prelude.{◌≡◌, ℕ, ◌<◌, ◌^◌, List, [], ◌∷◌, ◌++◌}
 use Rattle.std.specs.List.{AllByRecursion}
+use Rattle.std.specs.Str.{byte}
 use Rattle.std.specs.Fmt.{decimal}
+use Rattle.xd_proof.specs.declared.numbers.TheConstants.{MOST_DIGITS}
 
 abbrev pub line_feed : ℕ
-line_feed = 10
+line_feed = byte "\n"
 
 abbrev pub space : ℕ
-space = 32
+space = byte " "
 
 -- the byte doesn't stand in the text
 abbrev pub IsFreeOf : ℕ → List ℕ → Type 0
@@ -18,8 +20,8 @@ abbrev pub each_ended : ℕ → List (List ℕ) → List ℕ
 each_ended c [] = []
 each_ended c (l ∷ ls) = l ++ c ∷ each_ended c ls
 
--- The text is these lines, each ended by a line feed, and then a last one without, which is empty where nothing follows the
--- last line feed.
+-- The text is these lines, each ended by a line feed, and then a last one without, which is empty
+-- where nothing follows the last line feed.
 pub record IsCut (bytes : List ℕ) (lines : List (List ℕ)) (left : List ℕ) : Type 0 where
   pub whole : bytes ≡ each_ended line_feed lines ++ left
   pub free : AllByRecursion (IsFreeOf line_feed) lines
@@ -31,10 +33,14 @@ spaced [] = []
 spaced (w ∷ []) = w
 spaced (w ∷ (v ∷ vs)) = w ++ space ∷ spaced (v ∷ vs)
 
--- a number, from 1, of at most 18 digits: its decimal digits without a zero before them
+-- how many digits a number has at most
+abbrev pub most_digits : ℕ
+most_digits = MOST_DIGITS
+
+-- a number, from 1: its decimal digits without a zero before them
 pub record IsNumber (n : ℕ) : Type 0 where
   pub least : 0 < n
-  pub most : n < 10 ^ 18
+  pub most : n < 10 ^ most_digits
 
 pub record SpellsNumber (bytes : List ℕ) (n : ℕ) : Type 0 where
   pub digits : bytes ≡ decimal n

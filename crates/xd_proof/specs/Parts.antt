@@ -8,7 +8,8 @@ use Rattle.xd_syntax.specs.TypeText.{quoted}
 use Rattle.xd_meaning.specs.Consistent.{Atom, this_label, other_label, this_text, other_text, ChoiceTree, settles_content, settles_rest, split_on, Case}
 use Rattle.xd_proof.specs.Lines.{spaced, space, IsNumber, SpellsNumber}
 
--- A line of a proof text. `A` is what stands for a type in a goal: the type itself in the first format, its number in the second.
+-- A line of a proof text. `A` is what stands for a type in a goal: the type itself in the first
+-- format, its number in the second.
 pub data Part (A : Type 0) : Type 0 where
   first_title : Part A
   second_title : Part A
@@ -22,7 +23,8 @@ pub data Part (A : Type 0) : Type 0 where
   case_part : (there : Case) → Part A
   end_part : Part A
 
--- the spelling of an atom: a label is its own, and a text stands in quotes, where it may have spaces in it
+-- the spelling of an atom: a label is its own, and a text stands in quotes, where it may have
+-- spaces in it
 abbrev pub atom_word : Atom → List ℕ
 atom_word (this_label l) = l
 atom_word other_label = codes "~"
@@ -62,7 +64,8 @@ pub record Follows {A : Type 0} (word : List ℕ) (R : List ℕ → A → Type 0
   pub whole : bytes ≡ word ++ space ∷ behind
   pub reads : R behind x
 
--- A number, and after one space a type. The bytes behind the space are the type's, spaces among them.
+-- A number, and after one space a type. The bytes behind the space are the type's, spaces among
+-- them.
 pub record SpellsTypePart (R : List ℕ → Tree → Type 0) (bytes : List ℕ) (n : ℕ) (T : Tree) : Type 0 where
   pub number : IsNumber n
   pub reads : Follows (decimal n) R bytes T

@@ -100,7 +100,8 @@ fn quoted_atom<'a>(
     }
 }
 
-/// The atom at the front, and what stands behind the space behind it. Takes time linear in its spelling.
+/// The atom at the front, and what stands behind the space behind it. Takes time linear in its
+/// spelling.
 pub fn read_atom<'a>(
     alloc: Global,
     bytes: &'a [u8],

@@ -40,7 +40,8 @@ pub fn cut_lines(alloc: Global, bytes: &[u8]) -> Result<Lines<'_>, NoMemory>
     Ok(Lines { lines, left })
 }
 
-/// The words of a line, with single spaces between them. `NoMemory` where there is no room for the list.
+/// The words of a line, with single spaces between them. `NoMemory` where there is no room for the
+/// list.
 pub fn split_words(alloc: Global, line: &[u8]) -> Result<Vec<&[u8]>, NoMemory>
     ensures { IfOk result (λ made. AreWords line.now (map (λ word. word.now) made.items)) }
 {

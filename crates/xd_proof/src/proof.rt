@@ -13,12 +13,12 @@ use crate::cases::ReadCase;
 use std::marker::Model;
 use xd_syntax::TypeId;
 
-/// A goal: every document that fits the left fits one of the rights, which are types of the program that the proof was read
-/// for.
+/// A goal: every document that fits the left fits one of the rights, which are types of the program
+/// that the proof was read for.
 #[derive(Drop)]
 pub struct ProofGoal {
-    /// The number of its first line, from 1. Its left stands on the next line, then come its rights, the line on being empty
-    /// if there is one, and its cases.
+    /// The number of its first line, from 1. Its left stands on the next line, then come its
+    /// rights, the line on being empty if there is one, and its cases.
     pub line: u64,
     pub left: TypeId,
     pub rights: Vec<TypeId>,
@@ -27,8 +27,9 @@ pub struct ProofGoal {
     pub cases: Vec<ReadCase>,
 }
 
-/// The goals of a proof, one at least. The first is its claim; others are named by their numbers, from 1. Each of their lines, and
-/// the line behind a goal, has a number below 2^64; and the steps of each case are those of a choice tree.
+/// The goals of a proof, one at least. The first is its claim; others are named by their numbers,
+/// from 1. Each of their lines, and the line behind a goal, has a number below 2^64; and the steps
+/// of each case are those of a choice tree.
 #[derive(Drop)]
 pub struct Proof {
     goals: Vec<ProofGoal>,
@@ -47,8 +48,9 @@ impl Model for Proof {
 }
 
 impl Proof {
-    /// One of these goals, of which there is one at least. Their lines must have numbers, since a checker tells the line at which a
-    /// rule is broken, and the steps of each case must be those of a choice tree.
+    /// One of these goals, of which there is one at least. Their lines must have numbers, since a
+    /// checker tells the line at which a rule is broken, and the steps of each case must be those
+    /// of a choice tree.
     pub fn new(goals: Vec<ProofGoal>) -> Self
         requires some { 0 < length goals.items }
         requires lines { AllByRecursion LinesFit goals.items }

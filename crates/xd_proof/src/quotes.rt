@@ -50,8 +50,8 @@ pub fn behind_quote(bytes: &[u8]) -> Option<&[u8]>
     if *first == b'"' { Some(rest) } else { None }
 }
 
-/// The text whose inside and closing quote stand at the front, and what stands behind it. Each character stands as the canonical
-/// text has it. Takes time linear in the text.
+/// The text whose inside and closing quote stand at the front, and what stands behind it. Each
+/// character stands as the canonical text has it. Takes time linear in the text.
 pub fn read_quoted<'a>(alloc: Global, bytes: &'a [u8]) -> Result<Option<(Text, &'a [u8])>, NoMemory>
     ensures { IfOk result (λ made. MatchOption made ((s r : List ℕ) → is_utf8 s ≡ true → bytes.now ≡ escaped_all s ++ 34 ∷ r → ⊥) (λ m. (is_utf8 m.0 ≡ true) × (bytes.now ≡ escaped_all m.0 ++ 34 ∷ m.1.now))) }
 {

@@ -8,8 +8,8 @@ use crate::numbers::read_number;
 use std::alloc::Global;
 use xd_doc::NoMemory;
 
-/// The goal of this number settles the content, or the rest; or the right head of this number is split on, and the steps of
-/// its two trees follow.
+/// The goal of this number settles the content, or the rest; or the right head of this number is
+/// split on, and the steps of its two trees follow.
 #[derive(Clone, Copy)]
 pub enum Step {
     /// The goal of this number settles the content.

@@ -95,7 +95,8 @@ pub goal_refused : (types : List Row) (E : Definitions) (marks : List Bool) → 
     empty_marked marks made ≡ false → (l : Lined) → IsLinedAt types made l → Some (line, bad_empty) ≡ wrong_goal E gs l
 goal_refused types E marks known gs made line e f l i = goal_wrong types E marks known gs made l line i e f
 
--- what is wrong first in the cases of a goal, where the rule on the empty document holds, is what is wrong with the goal
+-- what is wrong first in the cases of a goal, where the rule on the empty document holds, is what
+-- is wrong with the goal
 pub goal_found : {X : Type 0} (types : List Row) (cells : List Cell) (E : Definitions) (goals : List ProofGoal) (marks : List Bool) (numbers : List ℕ) (made : ProofGoal) (h : GoalHeads) (line first : ℕ)
     (r : Result (Option Breach) X) → MarksDecide types E marks →
     ((gs : List Goal) → AllZip (IsClaimAt types) goals gs → Stands types cells gs (record { goals = goals; numbers = numbers })) →

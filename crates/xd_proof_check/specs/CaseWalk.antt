@@ -50,7 +50,8 @@ pub record Meets (types : List Row) (cells : List Cell) (E : Definitions) (gs : 
   pub left : AllZip (IsHeadIn types cells) v.left (heads E g.left)
   pub rights : AllZip (IsHeadIn types cells) v.rights (right_heads E g)
 
--- All types and right heads have their places in the marks of a path, the steps are those of trees, and contents and rests are the right heads' numbers.
+-- All types and right heads have their places in the marks of a path, the steps are those of trees,
+-- and contents and rests are the right heads' numbers.
 pub record CasesFit (v : CasesView) (p : Path) : Type 0 where
   pub belong : GoalsBelong (length v.numbers) v.goals
   pub trees : AllByRecursion IsTree v.cases

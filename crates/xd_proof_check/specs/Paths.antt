@@ -14,7 +14,8 @@ count_of m (n ∷ ns) = cond (nat_eq n m) (count_of m ns + 1) (count_of m ns)
 abbrev pub AreCounts : List ℕ → List ℕ → Type 0
 AreCounts counts ns = (m : ℕ) → number_at counts m ≡ count_of m ns
 
--- the numbers of the contents of the right heads that the turns have put on the content side, and of the rests of the others
+-- the numbers of the contents of the right heads that the turns have put on the content side, and
+-- of the rests of the others
 abbrev pub content_side : List ℕ → List Turn → List ℕ
 content_side contents [] = []
 content_side contents (t ∷ ts) = cond t.on_rest (content_side contents ts) (number_at contents t.right ∷ content_side contents ts)
@@ -27,7 +28,8 @@ rest_side rests (t ∷ ts) = cond t.on_rest (number_at rests t.right ∷ rest_si
 abbrev pub heads_split : List Turn → List ℕ
 heads_split ts = map (λ (t : Turn). t.right) ts
 
--- the next branch: the newest head on the content side goes to the rest side, and the newer ones are left
+-- the next branch: the newest head on the content side goes to the rest side, and the newer ones
+-- are left
 abbrev pub turned : List Turn → List Turn
 turned [] = []
 turned (t ∷ ts) = cond t.on_rest (turned ts) (record { right = t.right; on_rest = true } ∷ ts)

@@ -16,8 +16,9 @@ use Rattle.xd_proof_check.specs.declared.path.Turn.{Turn}
 use Rattle.xd_proof_check.specs.declared.path.Path.{Path}
 use Rattle.xd_proof_check.specs.declared.walk.Setting.{Setting}
 
--- what the steps of a case are looked at in: the numbers of types, the goals, the atom, the kinds of the right heads, and the numbers
--- of the contents and of the rests, of the left head and of the right heads
+-- what the steps of a case are looked at in: the numbers of types, the goals, the atom, the kinds
+-- of the right heads, and the numbers of the contents and of the rests, of the left head and of the
+-- right heads
 pub record SettingView : Type 0 where
   pub numbers : List ℕ
   pub goals : List ProofGoal

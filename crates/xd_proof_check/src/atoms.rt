@@ -61,7 +61,8 @@ pub(crate) fn are_same(one: &ProofAtom, other: &ProofAtom) -> bool
     }
 }
 
-/// All labels and texts that are named in the classes of these heads. Each is held once, however many heads name it.
+/// All labels and texts that are named in the classes of these heads. Each is held once, however
+/// many heads name it.
 pub(crate) fn named_in(
     alloc: Global,
     left: &[NumberedHead],
@@ -162,8 +163,8 @@ fn put_text(texts: &mut BTreeSet<Text>, text: &Text) -> Result<(), NoMemory>
     Ok(())
 }
 
-/// The atoms of a head among what is named, in order. Takes time linear in the head's own names and its atoms, but for the
-/// search of each name in its class.
+/// The atoms of a head among what is named, in order. Takes time linear in the head's own names and
+/// its atoms, but for the search of each name in its class.
 pub(crate) fn atoms_of(
     alloc: Global,
     kind: &HeadKind,

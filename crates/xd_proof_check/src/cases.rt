@@ -47,8 +47,8 @@ pub(crate) enum Progress {
     Broken(usize, Reason),
 }
 
-/// The position of the first case that is wrong, and what is wrong with it. Where one is missing it is the position behind
-/// the last one.
+/// The position of the first case that is wrong, and what is wrong with it. Where one is missing it
+/// is the position behind the last one.
 pub(crate) fn check_cases(
     alloc: Global,
     cases: &Cases,
@@ -104,7 +104,8 @@ fn head_cases(
     Ok(Progress::Behind(at))
 }
 
-/// What is wrong with the case at this position, which is to be that of this left head and this atom.
+/// What is wrong with the case at this position, which is to be that of this left head and this
+/// atom.
 fn check_case(
     cases: &Cases,
     at: usize,

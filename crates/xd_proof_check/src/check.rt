@@ -49,7 +49,8 @@ pub(crate) struct Sheet<'a> {
     pub numbers: &'a [usize],
 }
 
-/// The first breach in a proof, if there is one. The heads of a goal are held while it is looked at.
+/// The first breach in a proof, if there is one. The heads of a goal are held while it is looked
+/// at.
 pub(crate) fn check_goals(
     alloc: Global,
     program: &Program,
@@ -119,8 +120,8 @@ fn empty_lines(goal: &ProofGoal) -> u64
     }
 }
 
-/// Whether the right that the goal names for the empty document is there and can be empty, and so can its left; or where it
-/// names none, its left can't be.
+/// Whether the right that the goal names for the empty document is there and can be empty, and so
+/// can its left; or where it names none, its left can't be.
 fn empty_stands(goal: &ProofGoal, marks: &[bool]) -> bool
     requires left { goal.now.left.at < length marks.now }
     requires rights { AllByRecursion (λ (id : TypeId). id.at < length marks.now) goal.now.rights.items }

@@ -21,13 +21,14 @@ use xd_heads::HeadLister;
 use xd_proof::Proof;
 use xd_sound::SoundProgram;
 
-/// Whether a proof, whose types are types of the program, is consistent; if not, its first bad line and the reason.
+/// Whether a proof, whose types are types of the program, is consistent; if not, its first bad line
+/// and the reason.
 ///
-/// It uses types and their heads, and neither automata nor a table of goals. What `Any` stands for is added to the program, and
-/// stays there after `NoMemory`, too.
+/// It uses types and their heads, and neither automata nor a table of goals. What `Any` stands for
+/// is added to the program, and stays there after `NoMemory`, too.
 ///
-/// (The rules are those of Hosoya, Vouillon and Pierce, TOPLAS 2005, by which inclusion is decided; proofs as texts, and the order in
-/// which their lines are looked at, are this project's own.)
+/// (The rules are those of Hosoya, Vouillon and Pierce, TOPLAS 2005, by which inclusion is decided;
+/// proofs as texts, and the order in which their lines are looked at, are this project's own.)
 pub fn accepts(
     alloc: Global,
     sound: &mut SoundProgram,

@@ -22,7 +22,8 @@ pub(crate) fn numbered<T>(items: &[T], number: u64) -> Option<&T>
     items.get((number - 1) as usize)
 }
 
-/// Whether the goal with this number settles what has the number `left`, by types of which each is counted.
+/// Whether the goal with this number settles what has the number `left`, by types of which each is
+/// counted.
 ///
 /// Takes time linear in the goal's rights.
 pub(crate) fn leaf_stands(

@@ -13,8 +13,9 @@ pub(crate) struct Turn {
     pub on_rest: bool,
 }
 
-/// The splits above a place of a choice tree, the newest last. Beside them stands how often each type is a content on the
-/// content side and a rest on the rest side, by its number, and how often each right head is split on.
+/// The splits above a place of a choice tree, the newest last. Beside them stands how often each
+/// type is a content on the content side and a rest on the rest side, by its number, and how often
+/// each right head is split on.
 #[derive(Drop)]
 pub(crate) struct Path {
     pub turns: Vec<Turn>,
@@ -125,7 +126,8 @@ impl Path {
         }
     }
 
-    /// Goes to the next branch: the rest side of the newest split that is on its content side. Newer splits are left.
+    /// Goes to the next branch: the rest side of the newest split that is on its content side.
+    /// Newer splits are left.
     pub(crate) fn next_branch(
         &mut self,
         contents: &[usize],

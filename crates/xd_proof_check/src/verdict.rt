@@ -9,7 +9,8 @@ pub enum Reason {
     Empty,
     /// Another case than the one that is wanted there, or that it is missing.
     Case,
-    /// A split of a right head that doesn't match or is split on already, or another step than the one that a text may have.
+    /// A split of a right head that doesn't match or is split on already, or another step than the
+    /// one that a text may have.
     Split,
     /// A leaf whose goal doesn't settle it.
     Leaf,

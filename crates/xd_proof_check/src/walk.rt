@@ -41,10 +41,11 @@ pub(crate) struct Setting<'a> {
     pub left_rest: usize,
 }
 
-/// What is wrong first in the tree of a case. The path is clear before, and again where nothing is wrong.
+/// What is wrong first in the tree of a case. The path is clear before, and again where nothing is
+/// wrong.
 ///
-/// Takes time linear in the steps and in the rights of the goals that the leaves name; the tree of a text besides in the
-/// right heads.
+/// Takes time linear in the steps and in the rights of the goals that the leaves name; the tree of
+/// a text besides in the right heads.
 pub(crate) fn check_tree(
     setting: &Setting,
     steps: &[Step],
@@ -143,7 +144,8 @@ fn split_step(setting: &Setting, number: u64, path: &mut Path) -> Result<Option<
     Ok(None)
 }
 
-/// The position of the right head with this number, where it matches the atom and is not split on yet.
+/// The position of the right head with this number, where it matches the atom and is not split on
+/// yet.
 fn head_to_split(setting: &Setting, number: u64, path: &Path) -> Option<usize>
     requires setting { IsSetting (setting_of setting.now) path.now }
     requires path { IsPath setting.now.contents.now setting.now.rests.now path.now }
@@ -162,8 +164,8 @@ fn head_to_split(setting: &Setting, number: u64, path: &Path) -> Option<usize>
     Some(right)
 }
 
-/// What is wrong first in the tree of a text: it is to be one leaf on the rest, where all right heads that match count as put
-/// on the rest side.
+/// What is wrong first in the tree of a text: it is to be one leaf on the rest, where all right
+/// heads that match count as put on the rest side.
 fn text_leaf(setting: &Setting, steps: &[Step], path: &mut Path) -> Result<Option<Reason>, NoMemory>
     requires setting { IsSetting (setting_of setting.now) path.old }
     requires clear { IsClear path.old }

@@ -1,4 +1,5 @@
--- In a sound program, contents and rests of the heads of a type that uses defined names alone do so too.
+-- In a sound program, contents and rests of the heads of a type that uses defined names alone do so
+-- too.
 use Rattle.std.proofs.Common.{◌≡◌, ℕ, zero, suc, Bool, true, false, ◌&&◌, not, cond, List, [], ◌∷◌, ◌++◌, map, flat_map, length, Option, Some, None, refl, subst}
 use Rattle.std.specs.Str.{bytes_eq}
 use Rattle.std.specs.List.{AllByRecursion}

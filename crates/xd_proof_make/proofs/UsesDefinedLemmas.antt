@@ -1,4 +1,5 @@
--- A test on types that the contents and rests of heads pass where the type does: rows whose types pass lead to such rows.
+-- A test on types that the contents and rests of heads pass where the type does: rows whose types
+-- pass lead to such rows.
 use Rattle.std.proofs.Common.{◌≡◌, ℕ, Bool, true, false, ◌&&◌, cond, List, [], ◌∷◌, map, Option, Some, None, refl, sym, ap, subst, ◌∙◌}
 use Rattle.std.specs.List.{AllByRecursion, filter, flat_map, list_all}
 use Rattle.std.proofs.lemmas.Bool.{and_parts, and_from}

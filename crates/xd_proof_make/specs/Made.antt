@@ -46,9 +46,9 @@ pub record IsBetween (C : State → Option Tree) (row : GoalRow) (g : Goal) : Ty
 abbrev pub UsesDefined : ProgramTree → Tree → Type 0
 UsesDefined P T = uses_only (known_types P) T ≡ true
 
--- The goals of a proof keep its rules. They are those that a goal of the table leads to through leaves, itself first, each once,
--- between the types of their states. Each begins on line 1. A text can spell them: no number is too long, that of the goals and of
--- their types included.
+-- The goals of a proof keep its rules. They are those that a goal of the table leads to through
+-- leaves, itself first, each once, between the types of their states. Each begins on line 1. A text
+-- can spell them: no number is too long, that of the goals and of their types included.
 pub record IsProofOf (p : ProgramTable) (c : CellsView) (t : TableView) (goal : ℕ) (proof : List ProofGoal) : Type 0 where
   pub lined : List Lined
   pub goals : AreGoalsAt p.types proof lined

@@ -1,4 +1,5 @@
--- Goals that are met, in order, and the number of each: its place among them, from 1. Only private contracts speak of them.
+-- Goals that are met, in order, and the number of each: its place among them, from 1. Only private
+-- contracts speak of them.
 use Rattle.std.specs.Prelude.{◌≡◌, ℕ, zero, suc, ◌+◌, Bool, true, List, [], ◌∷◌, length, Some, slice_get, slice_index_or}
 use Rattle.std.specs.List.{AllByRecursion}
 use Rattle.xd_rules.specs.Rules.{ChoiceTree, AllLeaves}
@@ -52,7 +53,8 @@ IsStepTo P (Content g) = P g
 IsStepTo P (Rest g) = P g
 IsStepTo P (Split j) = Unit {0}
 
--- Those that a goal leads to through leaves were met, and no others: they are in each set that the goal is in and that no leaf leads out of.
+-- Those that a goal leads to through leaves were met, and no others: they are in each set that the
+-- goal is in and that no leaf leads out of.
 pub record AreReached (t : TableView) (start : ℕ) (order numbers : List ℕ) : Type 0 where
   pub first : slice_get order 0 ≡ Some start
   pub sized : length numbers ≡ length t.rows

@@ -33,8 +33,8 @@ pub record IsCaseOf (nodes : List ChoiceNode) (places numbers : List ℕ) (n : �
   pub stands : StandsAt nodes k.root tree
   pub choice : c.choice ≡ written_tree (place_in places) (number_in numbers) tree
 
--- Cases of heads of these sorts, of which the first has the number n: of the elements, whose numbers in the table go on
--- from l, with those choices, and of the texts, from t.
+-- Cases of heads of these sorts, of which the first has the number n: of the elements, whose
+-- numbers in the table go on from l, with those choices, and of the texts, from t.
 abbrev pub AreOrdered : List ChoiceNode → List ℕ → List ℕ → List Bool → (n l t : ℕ) → (elements texts : List Choice) → List Case → Type 0
 AreOrdered nodes places numbers [] n l t ls ts cs = cs ≡ []
 AreOrdered nodes places numbers (false ∷ ss) n l t ls ts cs =

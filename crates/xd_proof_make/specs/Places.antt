@@ -1,4 +1,5 @@
--- Numbers of heads: a table counts a state's moves on elements first and then those on texts, a proof counts the heads of a type in order.
+-- Numbers of heads: a table counts a state's moves on elements first and then those on texts, a
+-- proof counts the heads of a type in order.
 use Rattle.std.specs.Prelude.{ℕ, zero, suc, ◌+◌, Bool, true, false, cond, not, List, [], ◌∷◌, ◌++◌, map, length, slice_index_or}
 use Rattle.xd_meaning.specs.Heads.{Head, HeadKind, element_in, text_in}
 use Rattle.xd_proof_make.specs.declared.places.Place.{Place}

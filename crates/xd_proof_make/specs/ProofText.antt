@@ -19,8 +19,8 @@ pub record UsesKnownNames (P : ProgramTree) (C : State → Option Tree) (row : G
   pub left : IsOfKnownNames P C row.left
   pub rights : AllByRecursion (IsOfKnownNames P C) row.rights
 
--- The text is a proof text over the types of the program; its goals keep the rules, and the first is between the types of
--- the row's states.
+-- The text is a proof text over the types of the program; its goals keep the rules, and the first
+-- is between the types of the row's states.
 pub record ProvesRow (P : ProgramTree) (C : State → Option Tree) (row : GoalRow) (text : List ℕ) : Type 0 where
   pub goals : List Goal
   pub spelled : SpellsGoals (known_types P) text goals

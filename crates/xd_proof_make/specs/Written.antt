@@ -69,7 +69,8 @@ pub record IsCaseFor (C : State → Option Tree) (nodes : List ChoiceNode) (plac
   pub stands : StandsAt nodes k.root tree
   pub choice : c.choice ≡ written_tree place number tree
 
--- a row as a goal between types: its left and its rights are those of the states, and its cases are those of its choices
+-- a row as a goal between types: its left and its rights are those of the states, and its cases are
+-- those of its choices
 pub record IsWritten (E : Definitions) (a : Automaton) (C : State → Option Tree) (nodes : List ChoiceNode) (number : ℕ → ℕ) (row : GoalRow) (g : Goal) : Type 0 where
   pub left : C row.left ≡ Some g.left
   pub rights : AreTypes C row.rights g.rights

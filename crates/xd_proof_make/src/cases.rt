@@ -119,7 +119,8 @@ fn see_few(cases: &[ReadCase])
     ensures { AreFew cases.now }
 {}
 
-/// The choices of a goal as cases: in the order of its left's heads, of which these are texts and the others elements, so many.
+/// The choices of a goal as cases: in the order of its left's heads, of which these are texts and
+/// the others elements, so many.
 pub(crate) fn write_cases(
     alloc: Global,
     table: &Table,

@@ -21,10 +21,12 @@ use xd_heads::Cells;
 use xd_proof::Proof;
 use xd_sound::SoundProgram;
 
-/// A proof of what a goal claims: its goals are those that the goal leads to through leaves, itself first, each once, between the
-/// types of their states. Types are added to the program for them, and stay after `NoMemory`, too; each goal begins on line 1.
+/// A proof of what a goal claims: its goals are those that the goal leads to through leaves, itself
+/// first, each once, between the types of their states. Types are added to the program for them,
+/// and stay after `NoMemory`, too; each goal begins on line 1.
 ///
-/// The goal holds and leads through leaves to goals alone that hold, the table stands on the automaton, and the cells mirror it.
+/// The goal holds and leads through leaves to goals alone that hold, the table stands on the
+/// automaton, and the cells mirror it.
 pub fn proof_of(
     alloc: Global,
     sound: &mut SoundProgram,

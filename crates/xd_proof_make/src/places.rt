@@ -11,8 +11,8 @@ use std::alloc::Global;
 use xd_auto::State;
 use xd_doc::NoMemory;
 
-/// A right head: its number in a proof, and whether it is a text. It takes two words, so that fewer fit into memory than there
-/// are numbers that a proof text can spell.
+/// A right head: its number in a proof, and whether it is a text. It takes two words, so that fewer
+/// fit into memory than there are numbers that a proof text can spell.
 #[derive(Clone, Copy)]
 pub(crate) struct Place {
     pub(crate) number: usize,
@@ -63,8 +63,8 @@ pub(crate) fn all_sorts<'a>(
     Ok(made)
 }
 
-/// All heads of rights with heads of these sorts, by the number that a table gives to each: of each right its elements, and then
-/// its texts.
+/// All heads of rights with heads of these sorts, by the number that a table gives to each: of each
+/// right its elements, and then its texts.
 pub(crate) fn right_places(alloc: Global, rights: &[&[bool]]) -> Result<Vec<Place>, NoMemory>
     ensures places { IfOk result (λ places. new_numbers places.items ≡ all_places 1 (map (λ sorts. sorts.now) rights.now)) }
     ensures few { AreFew rights.now }

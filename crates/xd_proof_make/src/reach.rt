@@ -12,8 +12,8 @@ use xd_doc::NoMemory;
 use xd_goals::{Choice, GoalId, Table};
 use xd_proof::Step;
 
-/// Goals in the order in which they were met, by their numbers in the table, and for each goal of the table its place among
-/// them, from 1, or 0.
+/// Goals in the order in which they were met, by their numbers in the table, and for each goal of
+/// the table its place among them, from 1, or 0.
 #[derive(Drop)]
 pub(crate) struct Met {
     pub(crate) order: Vec<usize>,

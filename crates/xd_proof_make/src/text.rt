@@ -19,12 +19,15 @@ use xd_heads::Cells;
 use xd_proof_write::second_text;
 use xd_sound::SoundProgram;
 
-/// Appends a proof text, in the second format, of what a goal claims: the goals are those that the goal leads to through leaves,
-/// itself first, between the types of their states. Types are added to the program for that.
+/// Appends a proof text, in the second format, of what a goal claims: the goals are those that the
+/// goal leads to through leaves, itself first, between the types of their states. Types are added
+/// to the program for that.
 ///
-/// The goal holds and leads through leaves to goals alone that hold, as one does with which `decide` answers; the table stands on the
-/// automaton, which the cells mirror; no type of the program is nested deeper than a text may be. The types of the goal's states use names that the program defines, since a proof text that uses others is no proof text of
-/// the program; then the types of all the goals do. After `NoMemory` `out` is as it was.
+/// The goal holds and leads through leaves to goals alone that hold, as one does with which
+/// `decide` answers; the table stands on the automaton, which the cells mirror; no type of the
+/// program is nested deeper than a text may be. The types of the goal's states use names that the
+/// program defines, since a proof text that uses others is no proof text of the program; then the
+/// types of all the goals do. After `NoMemory` `out` is as it was.
 pub fn proof_text(
     alloc: Global,
     sound: &mut SoundProgram,

@@ -72,7 +72,8 @@ module _ (p : ProgramTable) where
       subst (λ l. IsFirstBad (ProofLines (SpellsTypeOf p)) (codes "xduce-proof 2" ∷ texts l) 2) (sym e)
       (bad_count (SpellsTypeOf p) one empty x.now (texts rest) (λ n t. never n (subst (λ w. Follows w SpellsNumber x.now n) (sym f) t)))
 
--- The lines behind the title: the number of types, so many lines of types as there are, and the rest.
+-- The lines behind the title: the number of types, so many lines of types as there are, and the
+-- rest.
 pub record IsCutInto (xs : List (Bor (List ℕ))) (line : List ℕ) (m many : ℕ) (typed goals : List (List ℕ)) : Type 0 where
   pub lines : texts xs ≡ line ∷ (typed ++ goals)
   pub count : Follows (codes "types") SpellsNumber line m

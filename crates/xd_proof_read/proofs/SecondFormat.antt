@@ -1,4 +1,5 @@
--- How lines begin a text of the second format: its goals name types by numbers, and otherwise are lists of goals.
+-- How lines begin a text of the second format: its goals name types by numbers, and otherwise are
+-- lists of goals.
 use Rattle.std.proofs.Common.{◌≡◌, ℕ, suc, ◌+◌, List, [], ◌∷◌, ◌++◌, map, length, Option, Some, None, refl, ap, sym, subst, ◌∙◌}
 use Rattle.std.specs.Prelude.{codes}
 use Rattle.std.specs.List.{AllZip, AllByRecursion}

@@ -23,7 +23,8 @@ module _ (AreWhole : List (List ℕ) → Type 0) where
   abbrev pub CanGoOn : List (List ℕ) → Type 0
   CanGoOn lines = (more : List (List ℕ)) × AreWhole (lines ++ more)
 
-  -- The lines are none, and this is the number of the first with which none goes on; where they end early, how many there are and one.
+  -- The lines are none, and this is the number of the first with which none goes on; where they end
+  -- early, how many there are and one.
   pub record IsFirstBad (lines : List (List ℕ)) (n : ℕ) : Type 0 where
     pub unread : AreWhole lines → ⊥
     pub number : (0 < n) × (n ≤ length lines + 1)

@@ -1,4 +1,5 @@
--- How the goals of a proof text name their types: by the text of the type itself, or by its number among the types before.
+-- How the goals of a proof text name their types: by the text of the type itself, or by its number
+-- among the types before.
 use Rattle.std.specs.Prelude.{◌≡◌, ℕ, ◌<◌, List, map, length, Option, Some, MatchOption}
 use Rattle.std.specs.List.{AllByRecursion}
 use Rattle.xd_syntax.specs.Tree.{Tree}
@@ -40,7 +41,8 @@ abbrev pub NamingStands : List Row → Naming → Type 0
 NamingStands types Spelled = Unit {0}
 NamingStands types (Numbered ids) = AllByRecursion (BelongsTo types) ids.items × (0 < length ids.items)
 
--- Types alone are added, none deeper than a text may be nested, and the program means what it meant.
+-- Types alone are added, none deeper than a text may be nested, and the program means what it
+-- meant.
 pub record GrowsTypes (old new : ProgramTable) : Type 0 where
   pub adds : AddsTypes old new
   pub same : program_tree new ≡ program_tree old

@@ -20,7 +20,8 @@ abbrev pub lines_of : List (Block Tree) → ℕ
 lines_of [] = 0
 lines_of (b ∷ bs) = block_length b + lines_of bs
 
--- the goal, with the number of its first line: behind these, the first of which begins on the line `first`
+-- the goal, with the number of its first line: behind these, the first of which begins on the line
+-- `first`
 abbrev pub lined_behind : (first : ℕ) → List (Block Tree) → Block Tree → Lined
 lined_behind first bs b = record { line = first + lines_of bs; goal = record { left = b.left; rights = b.rights; empty_right = b.empty_right; cases = b.cases } }
 
@@ -63,7 +64,8 @@ pub record GoesTo (p : ProgramTable) (naming : Naming) (line : List ℕ) (c d : 
   pub says : Says p naming line part
   pub goes : next c part ≡ Some d
 
--- Wherever this line, which has this number, stands behind this stage: what is made is the stage behind it, if it may stand there.
+-- Wherever this line, which has this number, stands behind this stage: what is made is the stage
+-- behind it, if it may stand there.
 abbrev pub IsLineTaken : ProgramTable → Naming → List ℕ → Stage → (number : ℕ) → List Row → Option Stage → Type 0
 IsLineTaken p naming line stage number types made =
     (first : ℕ) (c : Course Tree) → IsStage p.types first stage c → number + 1 ≡ first + passed c →

@@ -10,7 +10,8 @@ use xd_doc::NoMemory;
 /// Why a proof isn't read.
 #[derive(Clone, Copy, Debug, PartialEq, Eq, Error)]
 pub enum ProofError {
-    /// The bytes are a proof text of neither format. The number is that of the first line with which none goes on, from 1.
+    /// The bytes are a proof text of neither format. The number is that of the first line with
+    /// which none goes on, from 1.
     #[error("line {0} has not the form of a proof")]
     Form(u64),
     #[error("out of memory")]

@@ -21,8 +21,8 @@ use xd_sound::SoundProgram;
 
 /// Reads a proof text of either format; its types become types of the program.
 ///
-/// `ProofError::Form` comes exactly where the bytes are no proof text, with the first line with which none goes on. After a refusal
-/// the program has more types at most.
+/// `ProofError::Form` comes exactly where the bytes are no proof text, with the first line with
+/// which none goes on. After a refusal the program has more types at most.
 pub fn read_proof(
     alloc: Global,
     sound: &mut SoundProgram,

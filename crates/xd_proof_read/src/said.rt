@@ -60,7 +60,8 @@ fn keyword_of(word: &[u8]) -> Option<Keyword>
     None
 }
 
-/// What the line says, if it says something that a list of goals may have. Takes n log n steps for n bytes.
+/// What the line says, if it says something that a list of goals may have. Takes n log n steps for
+/// n bytes.
 pub(crate) fn read_line(
     alloc: Global,
     sound: &mut SoundProgram,

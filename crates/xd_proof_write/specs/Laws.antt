@@ -38,7 +38,8 @@ pub record IsWritableGoal (g : Goal) : Type 0 where
   pub empty_right : IsWritableNumber g.empty_right
   pub cases : AllByRecursion IsWritableCase g.cases
 
--- goals that a proof text can spell: one or more, and no number that is too long, that of the goals and of their types included
+-- goals that a proof text can spell: one or more, and no number that is too long, that of the goals
+-- and of their types included
 pub record AreWritable (known : List (List ℕ)) (gs : List Goal) : Type 0 where
   pub types : AllByRecursion (IsWritable known) (types_of gs)
   pub goals : AllByRecursion IsWritableGoal gs

@@ -1,4 +1,5 @@
--- What is written of a proof as it is kept, where the texts of the types are known. Only private contracts speak of it.
+-- What is written of a proof as it is kept, where the texts of the types are known. Only private
+-- contracts speak of it.
 use Rattle.std.specs.Prelude.{◌≡◌, ℕ, ◌+◌, true, cond, nat_eq, codes, List, [], ◌∷◌, ◌++◌, map, flat_map, length, Option, Some, None}
 use Rattle.std.specs.List.{list_any, fold}
 use Rattle.std.specs.Fmt.{decimal}
@@ -73,7 +74,8 @@ goal_texts rows g = text_at rows g.left ∷ map (text_at rows) (g.rights).items
 abbrev pub texts_in : Numbers → List (List ℕ)
 texts_in n = map (λ text. text.items) (n.texts).keys
 
--- each node that a number is kept for has its type's text there, and that number, whatever types are added
+-- each node that a number is kept for has its type's text there, and that number, whatever types
+-- are added
 pub record KnowsNumbers (rows : List Row) (n : Numbers) : Type 0 where
   pub there : (i m : ℕ) → get nat_eq n.known i ≡ Some m → list_any (bytes_eq (type_text (tree_at rows i))) (texts_in n) ≡ true
   pub known : (i m : ℕ) → get nat_eq n.known i ≡ Some m → (more : List (List ℕ)) → number_among bytes_eq (texts_in n ++ more) (type_text (tree_at rows i)) ≡ m

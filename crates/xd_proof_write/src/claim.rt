@@ -15,8 +15,8 @@ use xd_sound::SoundProgram;
 use xd_syntax::{TypeId, Types};
 use xd_type_text::type_text;
 
-/// Appends the line by which a verifier says that it accepted the claim of a proof, whose types are types of the program, without the
-/// line end.
+/// Appends the line by which a verifier says that it accepted the claim of a proof, whose types are
+/// types of the program, without the line end.
 ///
 /// After `NoMemory` `out` is as it was.
 pub fn claim_line(

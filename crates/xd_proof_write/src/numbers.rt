@@ -15,7 +15,8 @@ use xd_doc::NoMemory;
 use xd_syntax::{TypeId, Types};
 use xd_type_text::type_text;
 
-/// The canonical texts of types, each once, in order of first occurrence: a type's number is that of its text, from 1.
+/// The canonical texts of types, each once, in order of first occurrence: a type's number is that
+/// of its text, from 1.
 #[derive(Drop)]
 pub(crate) struct Numbers {
     alloc: Global,

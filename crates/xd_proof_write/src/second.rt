@@ -18,8 +18,8 @@ use xd_proof::{Proof, ProofGoal};
 use xd_sound::SoundProgram;
 use xd_syntax::{TypeId, Types};
 
-/// Appends the goals of a proof, whose types are types of the program, in the second format, where each type is listed once, as it
-/// first comes up, and goals name it by its number.
+/// Appends the goals of a proof, whose types are types of the program, in the second format, where
+/// each type is listed once, as it first comes up, and goals name it by its number.
 ///
 /// After `NoMemory` `out` is as it was.
 pub fn second_text(

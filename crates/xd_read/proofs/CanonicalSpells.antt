@@ -46,7 +46,8 @@ text_parts s r rest = append_assoc (34 ∷ escaped_all s ++ 34 ∷ []) (behind_t
 element_parts : (l : List ℕ) (c r : Document) (rest : List ℕ) → items_text (element l c r) ++ rest ≡ (l ++ 91 ∷ []) ++ (items_text c ++ (93 ∷ (behind_text r ++ rest)))
 element_parts l c r rest = simp append_assoc
 
--- the items are spelled as a content, and then the terminals of what is left follow from some place on
+-- the items are spelled as a content, and then the terminals of what is left follow from some place
+-- on
 record ReadAt (s : Context) (d : Document) (ts : List Terminal) (rest : List ℕ) : Type 0 where
   next : Place
   items : Items s d ts (terminals_at next rest)

@@ -1,4 +1,5 @@
--- A machine with a stack that reads the terminals of a document one by one, and its agreement with the grammar.
+-- A machine with a stack that reads the terminals of a document one by one, and its agreement with
+-- the grammar.
 use Rattle.std.proofs.Common.{◌≡◌, ℕ, List, [], ◌∷◌, ◌++◌, Option, Some, None, refl, sym, ap, subst, ◌∙◌, inl, inr}
 use Rattle.std.proofs.lemmas.List.{append-nil}
 use Rattle.xd_doc.specs.Document.{Document, empty, text, element, join}

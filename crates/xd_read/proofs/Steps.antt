@@ -4,7 +4,8 @@ use Rattle.std.specs.List.{AllByRecursion}
 use Rattle.std.proofs.Math.Seq.{take-length}
 use Rattle.std.proofs.lemmas.List.{take-append-le, take-append-drop, drop-append-le, reverse-append, length-take-le}
 use Rattle.xd_doc.specs.Document.{Document, empty, text, element, join}
-use Rattle.xd_doc.specs.Stored.{document_at, BelongsTo}
+use Rattle.xd_doc.specs.Stored.{document_at}
+use Rattle.xd_doc.specs.StoredSeq.{BelongsTo}
 use Rattle.xd_doc.specs.StoreNodes.{Keeps}
 use Rattle.xd_doc.specs.declared.store.Seq.{Seq}
 use Rattle.xd_lex.specs.declared.Kind.{Kind}
@@ -57,7 +58,8 @@ acts expects.Closed k t front [] = refl
 acts expects.Closed kinds.Word t front (f ∷ fs) = refl
 acts expects.Closed k t front (f ∷ fs) = refl
 
--- the kinds of tokens at which the reader moves so: only a move that ends or refuses comes at a last token
+-- the kinds of tokens at which the reader moves so: only a move that ends or refuses comes at a
+-- last token
 abbrev MovesAt : Move → Kind → Type 0
 MovesAt moves.Text k = k ≡ kinds.Text
 MovesAt moves.Open k = k ≡ kinds.Label

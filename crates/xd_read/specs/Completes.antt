@@ -1,4 +1,5 @@
--- What terminals complete a document from where the reader stands. Only private contracts speak of it.
+-- What terminals complete a document from where the reader stands. Only private contracts speak of
+-- it.
 use Rattle.std.specs.Prelude.{◌≡◌, ℕ, List, [], ◌∷◌}
 use Rattle.xd_doc.specs.Document.{Document, empty, text, element, join}
 use Rattle.xd_read.specs.Grammar.{Terminal, ParenR, BracketR, End, Whole, Content, Behind, Items}
@@ -10,7 +11,8 @@ pub record Frame : Type 0 where
   pub label : List ℕ
   pub before : Document
 
--- the terminals ts spell the items that are left where these are expected, and then the terminals us follow
+-- the terminals ts spell the items that are left where these are expected, and then the terminals
+-- us follow
 abbrev pub Rest : Expect → Document → List Terminal → List Terminal → Type 0
 Rest expects.Document r ts us = Items Whole r ts us
 Rest expects.Content r ts us = Items Content r ts us

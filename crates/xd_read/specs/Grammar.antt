@@ -6,7 +6,8 @@
 use Rattle.std.specs.Prelude.{◌≡◌, ℕ, ◌⊎◌, List, [], ◌∷◌, ◌++◌}
 use Rattle.xd_doc.specs.Document.{Document, empty, text, element}
 
--- What a token is to the grammar: a text stands with the text that it spells, a label without its bracket.
+-- What a token is to the grammar: a text stands with the text that it spells, a label without its
+-- bracket.
 pub data Terminal : Type 0 where
   Text : (characters : List ℕ) → Terminal
   Label : (word : List ℕ) → Terminal

@@ -2,7 +2,8 @@
 use Rattle.std.specs.Prelude.{◌≡◌, ℕ, ◌^◌, ◌<◌, ◌≤◌, ◌↔◌, List, [], ◌∷◌, ◌++◌, length, take, drop, reverse, IsUtf8}
 use Rattle.std.specs.List.{AllByRecursion}
 use Rattle.xd_doc.specs.Document.{Document, empty, text, element}
-use Rattle.xd_doc.specs.Stored.{document_at, BelongsTo}
+use Rattle.xd_doc.specs.Stored.{document_at}
+use Rattle.xd_doc.specs.StoredSeq.{BelongsTo}
 use Rattle.xd_doc.specs.declared.store.Seq.{Seq}
 use Rattle.xd_read.specs.declared.moves.Expect.{Expect}
 use Rattle.xd_read.specs.declared.reader.Finished.{Finished}
@@ -27,7 +28,8 @@ items_of ds [] = empty
 items_of ds (Text s ∷ fs) = text s (items_of ds fs)
 items_of ds (Element l seq ∷ fs) = element l (document_at ds seq) (items_of ds fs)
 
--- the items so far of the innermost open element, or of the document; the open elements come innermost first
+-- the items so far of the innermost open element, or of the document; the open elements come
+-- innermost first
 abbrev pub front_of : List Document → List Finished → List OpenElement → Document
 front_of ds fs [] = items_of ds fs
 front_of ds fs (o ∷ os) = items_of ds (drop o.start fs)

@@ -44,7 +44,8 @@ pub record IsFirstFault (tokens : List Lexeme) (place : Place) : Type 0 where
   pub stops : ¬ (Begins (terminals_of (before ++ fault ∷ [])))
   pub here : place ≡ fault.place
 
--- where the bytes are malformed: at the first that aren't UTF-8, else at the first token that no document continues
+-- where the bytes are malformed: at the first that aren't UTF-8, else at the first token that no
+-- document continues
 abbrev pub IsMalformedAt : List ℕ → Place → Type 0
 IsMalformedAt bytes place = IsNotUtf8At bytes place ⊎ (IsUtf8 bytes × IsFirstFault (tokens_of bytes) place)
 

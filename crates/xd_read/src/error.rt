@@ -10,8 +10,8 @@ use xd_doc::NoMemory;
 /// Why a document isn't read.
 #[derive(Clone, Copy, Debug, PartialEq, Eq, Error)]
 pub enum ReadError {
-    /// The bytes spell no document. The place is that of the first bytes that aren't UTF-8, else of the first token that
-    /// no document continues.
+    /// The bytes spell no document. The place is that of the first bytes that aren't UTF-8, else of
+    /// the first token that no document continues.
     #[error("malformed document")]
     Malformed(Place),
     #[error("out of memory")]

@@ -11,8 +11,8 @@ use std::alloc::Global;
 use xd_doc::{Label, NoMemory, Text};
 use xd_lex::{is_plain, unescape};
 
-/// The text that this token spells, which stands at byte `at` of the source. It shares the source's memory, unless
-/// there are escapes in it.
+/// The text that this token spells, which stands at byte `at` of the source. It shares the source's
+/// memory, unless there are escapes in it.
 pub fn text_at(alloc: Global, source: &Text, at: usize, token: &str) -> Result<Text, NoMemory>
     requires spelled { IsSpelling kinds.Text token.now }
     requires stands { StandsAt source.now at token.now }

@@ -1,7 +1,8 @@
 //! Reading of documents.
 
 ghost use Rattle.std.specs.Prelude.{◌≡◌, ◌≤◌, length, take, IfOk, IfErr};
-ghost use Rattle.xd_doc.specs.Stored.{document_at, BelongsTo};
+ghost use Rattle.xd_doc.specs.Stored.{document_at};
+ghost use Rattle.xd_doc.specs.StoredSeq.{BelongsTo};
 ghost use Rattle.xd_doc.specs.StoreNodes.{Keeps};
 ghost use Rattle.xd_lex.specs.Tokens.{past, start};
 ghost use Rattle.xd_read.specs.Reading.{BytesSpell, SpellsNothing, IsMalformedAt};
@@ -24,12 +25,14 @@ use xd_lex::{cut_token, past, text_of};
 ///
 /// `()` is read where a whole document or a whole content is expected, and nowhere else.
 ///
-/// `ReadError::Malformed` comes exactly where the bytes spell no document. After a refusal the store has more documents at most.
+/// `ReadError::Malformed` comes exactly where the bytes spell no document. After a refusal the
+/// store has more documents at most.
 pub fn read_document(alloc: Global, store: &mut Store, bytes: &[u8]) -> Result<Seq, ReadError>
     ensures ok { IfOk result (λ seq. BytesSpell bytes.now (document_at store.new seq)) }
     ensures belongs { IfOk result (BelongsTo store.new) }
 
-    // The place is that of the first bytes that aren't UTF-8, else of the first token that no document continues.
+    // The place is that of the first bytes that aren't UTF-8, else of the first token that no
+    // document continues.
     ensures malformed { IfErr result (λ e. IfMalformed e (λ place. IsMalformedAt bytes.now place)) }
     ensures nothing { IfErr result (λ e. IfMalformed e (λ place. SpellsNothing bytes.now)) }
     ensures keeps { Keeps store.old store.new }

@@ -53,7 +53,8 @@ unseen (Done c ∷ st) = unseen st
 abbrev pub NoneBetween : List Segment → ℕ → ℕ → Type 0
 NoneBetween segs p q = (k : ℕ) → k < length segs → (path_from segs k ≤ p) ⊎ (q < path_from segs k)
 
--- An edge from place p of the path to the node w: w is done; or w is on the path, no segment before; or the edge is still to be followed.
+-- An edge from place p of the path to the node w: w is done; or w is on the path, no segment
+-- before; or the edge is still to be followed.
 abbrev pub IsSettled : List Standing → List ℕ → List Segment → ℕ → ℕ → Type 0
 IsSettled st todo segs p w =
     ((c : ℕ) × (standing_of st w ≡ Done c))
@@ -71,7 +72,8 @@ HasSource g path todo segs j =
     × ((k : ℕ) → k < length segs → todo_from segs k ≤ j → path_from segs k ≤ s)
     × ((k : ℕ) → k < length segs → j < todo_from segs k → s < path_from segs k)
 
--- what a search knows: the path, of segments whose nodes reach each other, and the nodes that are done
+-- what a search knows: the path, of segments whose nodes reach each other, and the nodes that are
+-- done
 pub record IsSearched (g : List (List ℕ)) (st : List Standing) (path todo : List ℕ) (segs : List Segment) (fin : ℕ) : Type 0 where
   pub count : length st ≡ length g
   pub numbers : fin + length path + unseen st ≤ length st
@@ -104,7 +106,8 @@ work_left st todo segs = 2 ^ 65 * unseen st + length todo + length segs
 abbrev pub StaySeen : List Standing → List Standing → Type 0
 StaySeen old new = (v : ℕ) → (standing_of old v ≡ Unseen → ⊥) → standing_of new v ≡ Unseen → ⊥
 
--- the nodes of the path from this place on are done with this number, and the others stand as they did
+-- the nodes of the path from this place on are done with this number, and the others stand as they
+-- did
 pub record IsDoneFrom (old new : List Standing) (from fin : ℕ) : Type 0 where
   pub count : length new ≡ length old
   pub unseen_still : unseen new ≡ unseen old

@@ -53,7 +53,8 @@ abbrev pub is_none : List ℕ → Bool
 is_none [] = true
 is_none (i ∷ is) = false
 
--- the parts of a sequence: the last alone may be a tail, and those behind a part that can't be empty aren't in front
+-- the parts of a sequence: the last alone may be a tail, and those behind a part that can't be
+-- empty aren't in front
 abbrev pub sequence : (Tree → Bool) → List Row → (owner : ℕ) (tail front : Bool) → List ℕ → List Part
 sequence Z types k t f [] = []
 sequence Z types k t f (i ∷ is) = record { owner = k; at = i; is_tail = t && is_none is; is_front = f } ∷ sequence Z types k t (f && Z (tree_at types i)) is

@@ -34,11 +34,12 @@ struct Search {
     finished: usize,
 }
 
-/// The number of each node's component. Nodes have the same number exactly where each reaches the other.
+/// The number of each node's component. Nodes have the same number exactly where each reaches the
+/// other.
 ///
-/// One search along a path of components, each contracted as soon as an edge leads back into the path
-/// (Gabow, Path-based depth-first search for strong and biconnected components, Information Processing
-/// Letters 74, 2000). Its time and memory are linear in the nodes and edges.
+/// One search along a path of components, each contracted as soon as an edge leads back into the
+/// path (Gabow, Path-based depth-first search for strong and biconnected components, Information
+/// Processing Letters 74, 2000). Its time and memory are linear in the nodes and edges.
 pub(crate) fn components(alloc: Global, graph: &Graph) -> Result<Vec<Standing>, NoMemory>
     ensures { IfOk result (λ standing. AreComponents graph.now standing.items) }
 {

@@ -19,8 +19,8 @@ pub(crate) enum Recursion {
     Unguarded,
 }
 
-/// An edge for each use, or for each front use, from the definition that it stands in to the one that
-/// it names.
+/// An edge for each use, or for each front use, from the definition that it stands in to the one
+/// that it names.
 pub(crate) fn use_graph(
     alloc: Global,
     defs: &[TypeDef],

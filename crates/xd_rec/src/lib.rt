@@ -33,11 +33,11 @@ pub enum Soundness {
     Faults(Vec<Fault>),
 }
 
-/// The program, where no type recurs outside tail position or unguarded; else the whole list of the uses that do,
-/// in order of place, then of number.
+/// The program, where no type recurs outside tail position or unguarded; else the whole list of the
+/// uses that do, in order of place, then of number.
 ///
-/// The program has no faults of names, of numbers of arguments and of linearity: `resolve` of `xd_names` found none. It is given up
-/// with the faults, and with `NoMemory`.
+/// The program has no faults of names, of numbers of arguments and of linearity: `resolve` of
+/// `xd_names` found none. It is given up with the faults, and with `NoMemory`.
 ///
 /// (Uses that reach each other are found by strongly connected components, after Gabow 2000.)
 pub fn well_formed(alloc: Global, program: Program) -> Result<Soundness, NoMemory>

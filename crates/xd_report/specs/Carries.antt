@@ -1,7 +1,7 @@
 -- Documents that faults carry stand in the store.
 use Rattle.std.specs.Prelude.{List}
 use Rattle.xd_doc.specs.Document.{Document}
-use Rattle.xd_doc.specs.Stored.{BelongsTo}
+use Rattle.xd_doc.specs.StoredSeq.{BelongsTo}
 use Rattle.xd_syntax.specs.declared.fault.FaultKind.{FaultKind}
 use Rattle.xd_syntax.specs.declared.fault.FaultKind.TheVariants.{NotExhaustive, Argument, Result}
 

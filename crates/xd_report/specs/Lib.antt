@@ -1,3 +1,4 @@
 pub mod Report
+pub mod WarningText
 pub mod Carries
 pub mod Kept

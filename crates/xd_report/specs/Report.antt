@@ -7,7 +7,6 @@ use Rattle.xd_syntax.specs.Order.{number_of}
 use Rattle.xd_syntax.specs.declared.fault.Fault.{Fault}
 use Rattle.xd_syntax.specs.declared.fault.FaultKind.{FaultKind}
 use Rattle.xd_syntax.specs.declared.fault.FaultKind.TheVariants.{NotUtf8, Syntax, TooDeep, DuplicateName, UnknownType, UnknownFunction, UnknownVariable, Arity, NotLinear, NotTail, Unguarded, NotExhaustive, Argument, Result, NoSuchName, NoMain}
-use Rattle.xd_syntax.specs.declared.fault.Warning.{Warning}
 
 -- what stands in front of a line with a place
 abbrev pub place_front : Place → List ℕ
@@ -40,7 +39,3 @@ kind_text ds NoMain = codes "no function main with one parameter"
 -- the line of a fault
 abbrev pub fault_text : List Document → Fault → List ℕ
 fault_text ds f = fault_front f.place ++ codes "fault " ++ decimal (number_of f.kind) ++ codes ": " ++ kind_text ds f.kind ++ codes "\n"
-
--- the line of a warning; there is one kind
-abbrev pub warning_text : Warning → List ℕ
-warning_text w = place_front w.place ++ codes "warning 1: clause is never reached\n"

@@ -2,7 +2,8 @@
 
 ghost use Rattle.std.specs.Prelude.{◌≡◌, ◌++◌, OnOk, codes, decimal};
 ghost use Rattle.xd_doc.specs.Document.{canonical_text};
-ghost use Rattle.xd_doc.specs.Stored.{document_at, BelongsTo};
+ghost use Rattle.xd_doc.specs.Stored.{document_at};
+ghost use Rattle.xd_doc.specs.StoredSeq.{BelongsTo};
 ghost use Rattle.xd_report.specs.Report.{kind_text};
 ghost use Rattle.xd_report.specs.Carries.{CarriesFrom};
 ghost use Rattle.xd_report.specs.Kept.{IsKept};

@@ -1,7 +1,8 @@
 //! The lines of faults and warnings.
 
 ghost use Rattle.std.specs.Prelude.{◌≡◌, ◌++◌, OnOk, OnErr};
-ghost use Rattle.xd_report.specs.Report.{fault_front, fault_text, warning_text};
+ghost use Rattle.xd_report.specs.Report.{fault_front, fault_text};
+ghost use Rattle.xd_report.specs.WarningText.{warning_text};
 ghost use Rattle.xd_report.specs.Carries.{CarriesFrom};
 ghost use Rattle.xd_report.specs.Kept.{IsKept};
 
@@ -15,7 +16,8 @@ use xd_syntax::{Fault, Warning};
 
 /// Appends the line of a fault, its line feed included.
 ///
-/// The documents that the fault carries are documents of the store. After `NoMemory` `out` holds what it held.
+/// The documents that the fault carries are documents of the store. After `NoMemory` `out` holds
+/// what it held.
 pub fn fault_line(
     alloc: Global,
     store: &Store,

@@ -20,7 +20,8 @@ pub fn write_texts(texts: &[&str], out: &mut Vec<u8>) -> Result<(), NoMemory>
     Ok(())
 }
 
-/// Appends the front of a line with this place, as `1:12: `. After `NoMemory` a part of it may stand in `out`.
+/// Appends the front of a line with this place, as `1:12: `. After `NoMemory` a part of it may
+/// stand in `out`.
 pub fn write_place_front(place: Place, out: &mut Vec<u8>) -> Result<(), NoMemory>
     ensures ok { OnOk result (out.new.items ≡ out.old.items ++ place_front place) }
     ensures kept { IsKept out.old.items out.new.items }

@@ -71,7 +71,8 @@ kept_names c all e s t among = same_test c.except e ∙ kept_all all c.names s t
     same_test : (b : Bool) → b ≡ false → filter (class_has c) all ≡ filter (is_named c.names) all
     same_test b p = subst (λ (x : Bool). filter (class_has (record { names = c.names; except = x })) all ≡ filter (is_named c.names) all) (sym e) refl
 
--- a class that names what it has was asked of its own names, and one that excepts names of all of them
+-- a class that names what it has was asked of its own names, and one that excepts names of all of
+-- them
 module _ (this : List ℕ → Atom) (other : Atom) (c : NameClass) (all names : List (List ℕ)) (empty made : List Atom) where
   pub own_atoms : empty ≡ [] → c.except ≡ false → IsStrictlySortedBy (slice_cmp nat_cmp) c.names → IsStrictlySortedBy (slice_cmp nat_cmp) all → AreAmong c.names all → names ≡ c.names
       → made ≡ empty ++ map this (filter (class_has c) names) → made ≡ map this (filter (class_has c) all) ++ others_of c.except other

@@ -1,4 +1,5 @@
--- Which atom a label or a text is, and that heads match it exactly where they take the label or the text.
+-- Which atom a label or a text is, and that heads match it exactly where they take the label or the
+-- text.
 use Rattle.std.proofs.Common.{ℕ, ◌≡◌, Bool, true, false, cond, List, [], ◌∷◌, ◌++◌, map, inl, refl, ◌∙◌, subst, nat_eq}
 use Rattle.std.specs.List.{flat_map}
 use Rattle.std.specs.Cmp.Lexicographic.{pointwise}

@@ -47,7 +47,8 @@ kept_named p (x ∷ xs) l = go (p x) refl (kept_named p xs l)
     go true e h = rw h (or_same (pointwise nat_eq x l) (p l) (is_named xs l) (λ q. subst (λ (w : List ℕ). p w ≡ true) (same_is x l q) e))
     go false e h = h ∙ or_none (pointwise nat_eq x l) (p l) (is_named xs l) (λ q. subst (λ (w : List ℕ). p w ≡ false) (same_is x l q) e)
 
--- of names in order, those that are among others in order, all of which are among the first, are these
+-- of names in order, those that are among others in order, all of which are among the first, are
+-- these
 pub kept_all : (xs ys : List (List ℕ)) → IsStrictlySortedBy R xs → IsStrictlySortedBy R ys → ((l : List ℕ) → is_named ys l ≡ true → is_named xs l ≡ true) → filter (is_named ys) xs ≡ ys
 kept_all xs ys s t h =
     same_words (filter (is_named ys) xs) ys (kept_sorted (is_named ys) xs s) t (λ l. kept_named (is_named ys) xs l ∙ go (is_named ys l) (is_named xs l) (h l))

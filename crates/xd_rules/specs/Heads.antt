@@ -1,4 +1,5 @@
--- Heads: the ways in which the documents of a state, or of a type, may begin; and atoms: the first items that heads tell apart.
+-- Heads: the ways in which the documents of a state, or of a type, may begin; and atoms: the first
+-- items that heads tell apart.
 use Rattle.std.specs.Prelude.{◌≡◌, ℕ, Bool, true, false, List, [], ◌∷◌, ◌++◌, map}
 use Rattle.std.specs.List.{filter, flat_map}
 use Rattle.std.specs.List.Sorted.{IsStrictlySortedBy}

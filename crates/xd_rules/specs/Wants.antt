@@ -1,4 +1,5 @@
--- The heads of states as a goal sees them: the cases of its left, and the right heads that match an atom.
+-- The heads of states as a goal sees them: the cases of its left, and the right heads that match an
+-- atom.
 use Rattle.std.specs.Prelude.{◌≡◌, ℕ, suc, true, cond, List, [], ◌∷◌, ◌++◌, map, Some}
 use Rattle.std.specs.List.{AllByRecursion}
 use Rattle.xd_doc.specs.Classes.{NameClass}

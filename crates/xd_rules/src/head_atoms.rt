@@ -11,7 +11,8 @@ use crate::atom::Atom;
 use std::alloc::Global;
 use xd_doc::{Class, Label, NoMemory, Text, Words};
 
-/// The atoms of a class of labels, in order. The other class has all labels but those that the claim names.
+/// The atoms of a class of labels, in order. The other class has all labels but those that the
+/// claim names.
 ///
 /// Only of a class that excepts labels are all these names tried. Fails only where memory is
 /// refused.

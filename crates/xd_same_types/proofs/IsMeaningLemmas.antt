@@ -1,5 +1,6 @@
--- Where each name means what its definition does, and no definition uses a name outside of every label but `Any`, the documents that
--- fit a type are those that fit it where names have these meanings.
+-- Where each name means what its definition does, and no definition uses a name outside of every
+-- label but `Any`, the documents that fit a type are those that fit it where names have these
+-- meanings.
 use Rattle.std.proofs.Common.{◌≡◌, inl, inr, ℕ, zero, suc, ◌+◌, ◌<◌, arith, Bool, true, false, ◌&&◌, refl, sym, ap, subst, List, [], Some}
 use Rattle.xd_doc.specs.Document.{Document, empty, text, element, join, size}
 use Rattle.xd_doc.specs.Classes.{LabelClass, TextClass}

@@ -19,8 +19,8 @@ AreGuarded E known = (x : List ℕ) (T : Tree) → body E x ≡ Some T → tops_
 abbrev pub AreClosed : Definitions → List (List ℕ) → Type 0
 AreClosed E known = (x : List ℕ) → has_word known x ≡ true → (T : Tree) → body E x ≡ Some T → tops_only [] T ≡ true
 
--- Where each name means what its definition does, and the definitions use but few names outside of labels, the same documents fit a
--- type by definitions and by meanings.
+-- Where each name means what its definition does, and the definitions use but few names outside of
+-- labels, the same documents fit a type by definitions and by meanings.
 abbrev pub NamesSettle : Type 0
 NamesSettle =
     (E : Definitions) (N : Meaning) (known : List (List ℕ)) → IsMeaning E N → AreGuarded E known → AreClosed E known → (T : Tree) (d : Document) → Fits E T d ↔ FitsAs N T d

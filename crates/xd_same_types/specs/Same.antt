@@ -76,7 +76,8 @@ pub record CanBeEmpty (T : Tree) : Type 0 where
 abbrev pub ChoiceFits : Meaning → Document → List Tree → Bool → Type 0
 ChoiceFits N d Ts e = SomeFits N d Ts ⊎ ((e ≡ true) × (d ≡ empty))
 
--- what fits the first type fits the second, and what fits the second is a repetition of what fits the first
+-- what fits the first type fits the second, and what fits the second is a repetition of what fits
+-- the first
 pub record RepeatSame (T U : Tree) : Type 0 where
   pub once : (N : Meaning) (d : Document) → FitsAs N T d → FitsAs N U d
   pub again : (N : Meaning) (d : Document) → FitsAs N U d → Repeats (FitsAs N T) d

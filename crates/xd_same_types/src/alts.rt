@@ -225,7 +225,8 @@ fn common(
     Ok(Some(TypeForm::Elem(both, *content)))
 }
 
-/// One type for two alternatives, where there is one: `a[T]|b[T]` is `(a|b)[T]`, and `x|x*` is `x*`.
+/// One type for two alternatives, where there is one: `a[T]|b[T]` is `(a|b)[T]`, and `x|x*` is
+/// `x*`.
 fn joined(
     alloc: Global,
     pool: &mut Pool,
@@ -473,7 +474,8 @@ fn choice_of_all(
     })
 }
 
-/// The type of what fits one of two types. Alternatives that end in the same parts stay as they are.
+/// The type of what fits one of two types. Alternatives that end in the same parts stay as they
+/// are.
 pub(crate) fn plain_alt(
     alloc: Global,
     pool: &mut Pool,

@@ -89,7 +89,8 @@ fn one_before(
     Ok(Some(made))
 }
 
-/// One type for two that end in the same parts, if they do: `x,z|y,z` is `(x|y),z`, and `x,z|z` is `x?,z`.
+/// One type for two that end in the same parts, if they do: `x,z|y,z` is `(x|y),z`, and `x,z|z` is
+/// `x?,z`.
 fn joined_end(
     alloc: Global,
     pool: &mut Pool,

@@ -17,7 +17,8 @@ use xd_syntax::{TypeForm, TypeId, Types};
 
 /// A table of types in which each form is made once, so that equal types have one number.
 ///
-/// Types of the table stay where they are while it grows. After want of memory it may have types that nothing uses.
+/// Types of the table stay where they are while it grows. After want of memory it may have types
+/// that nothing uses.
 #[derive(Drop)]
 pub struct Pool {
     pub types: Types,

@@ -142,7 +142,8 @@ fn once_and_again(pool: &Pool, one: TypeId, two: TypeId) -> Option<TypeId>
     None
 }
 
-/// One type for two that stand one behind the other, where there is one: `x,x*` is `x+`, and `x*,x*` is `x*`.
+/// One type for two that stand one behind the other, where there is one: `x,x*` is `x+`, and
+/// `x*,x*` is `x*`.
 fn fused(pool: &mut Pool, one: TypeId, two: TypeId) -> Result<Option<TypeId>, NoMemory>
     requires one { IsSeqPart pool.old.types one.at }
     requires two { IsSeqPart pool.old.types two.at }
@@ -170,7 +171,8 @@ fn ends_with(parts: &[TypeId], end: &[TypeId]) -> bool
     are_same_parts(&parts[parts.len() - end.len()..], end)
 }
 
-/// Takes what a star repeats from the end of the parts, and gives the plus of it; else the type itself.
+/// Takes what a star repeats from the end of the parts, and gives the plus of it; else the type
+/// itself.
 fn gather(
     alloc: Global,
     pool: &mut Pool,
@@ -238,7 +240,8 @@ fn is_repeated(pool: &Pool, parts: &[TypeId], place: usize) -> bool
 /// How far back a star is looked for.
 const REACH: usize = 32;
 
-/// The star at whose place all parts up to the end are its plus, if there is one among the last parts.
+/// The star at whose place all parts up to the end are its plus, if there is one among the last
+/// parts.
 fn repeated_place(pool: &Pool, parts: &[TypeId]) -> Option<usize>
     requires { AreSeqParts pool.now.types parts.now }
     ensures { IfSome result (EndsRepeated pool.now.types parts.now) }

@@ -63,7 +63,8 @@ pub record AreFirst (a : Automaton) (types : List Row) (written : List (Option T
   pub right : (N : Meaning) → MeansAny N → AreContents a N types written
   pub belong : WrittenBelong types written
 
--- What is written for the contents of an automaton, where words stand for states: no name is used but these words and `Any`.
+-- What is written for the contents of an automaton, where words stand for states: no name is used
+-- but these words and `Any`.
 pub record AreContentsBy (a : Automaton) (words : List (List ℕ)) (named : List State) (types : List Row) (written : List (Option TypeId)) : Type 0 where
   pub count : length written ≡ length a
   pub right : (N : Meaning) → MeansAnyAndStates a words named N → AreContents a N types written

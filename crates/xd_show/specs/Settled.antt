@@ -8,7 +8,8 @@ use Rattle.xd_shown.specs.Shown.{AreNamedFrom}
 use Rattle.xd_show.specs.Contents.{AreContentsBy}
 use Rattle.xd_show.specs.declared.states.Settled.{Settled}
 
--- new names, one for each of the states, the start's the first, and what is written for contents where these names stand for the states
+-- new names, one for each of the states, the start's the first, and what is written for contents
+-- where these names stand for the states
 pub record IsSettled (a : Automaton) (start : State) (taken : List (List ℕ)) (s : Settled) : Type 0 where
   pub named : AllByRecursion (IsState a) s.named.items
   pub some : 0 < length s.named.items

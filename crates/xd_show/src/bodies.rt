@@ -18,7 +18,8 @@ use xd_show_solve::{level_of, state_type};
 use xd_shown::none_around;
 use xd_syntax::TypeId;
 
-/// What the name of a state stands for; where the state accepts nothing, the label `none` around the name.
+/// What the name of a state stands for; where the state accepts nothing, the label `none` around
+/// the name.
 fn body_of(
     alloc: Global,
     pool: &mut Pool,

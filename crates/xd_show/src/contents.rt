@@ -214,7 +214,8 @@ fn first_contents(
     Ok(made)
 }
 
-/// What is written for the contents of an automaton by a plan: a name for each state that has one, and types in place.
+/// What is written for the contents of an automaton by a plan: a name for each state that has one,
+/// and types in place.
 pub(crate) fn contents_by(
     alloc: Global,
     pool: &mut Pool,

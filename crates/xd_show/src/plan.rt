@@ -12,9 +12,11 @@ use std::alloc::Global;
 use xd_auto::{Auto, State};
 use xd_doc::NoMemory;
 
-/// The states that are to have names, in order, and those that are to be written in place, those within others first.
+/// The states that are to have names, in order, and those that are to be written in place, those
+/// within others first.
 ///
-/// Nothing is known of a plan but that it speaks of states: what is shown by it is right or isn't shown.
+/// Nothing is known of a plan but that it speaks of states: what is shown by it is right or isn't
+/// shown.
 #[derive(Drop)]
 pub(crate) struct Plan {
     pub(crate) named: Vec<State>,
@@ -27,7 +29,8 @@ const SHORT: usize = 3;
 /// What stands in one place has so many.
 const LONG: usize = 24;
 
-/// What was chosen so far: which contents are written in place, and how many moves are written for each of these.
+/// What was chosen so far: which contents are written in place, and how many moves are written for
+/// each of these.
 #[derive(Drop)]
 struct Choice {
     placed: Vec<bool>,
@@ -59,7 +62,8 @@ fn choose_one(uses: &Uses, choice: &mut Choice, content: usize) {
     }
 }
 
-/// Which contents are written in place: those that don't stand within themselves and are short or stand in one place.
+/// Which contents are written in place: those that don't stand within themselves and are short or
+/// stand in one place.
 fn choose(alloc: Global, uses: &Uses, order: &Order, start: usize) -> Result<Vec<bool>, NoMemory> {
     let count = uses.within.len();
     let mut choice = Choice {
@@ -74,7 +78,8 @@ fn choose(alloc: Global, uses: &Uses, order: &Order, start: usize) -> Result<Vec
     Ok(choice.placed)
 }
 
-/// Puts the contents that a definition uses behind those that have names, in the order in which a reader meets them.
+/// Puts the contents that a definition uses behind those that have names, in the order in which a
+/// reader meets them.
 fn add_used(
     alloc: Global,
     uses: &Uses,
@@ -164,10 +169,11 @@ fn placed_states(
     Ok(made)
 }
 
-/// Which contents that a state leads to have names, itself the first, and which are written in place.
+/// Which contents that a state leads to have names, itself the first, and which are written in
+/// place.
 ///
-/// A content is written in place where it doesn't stand within itself, and is short or stands in one place. Those that are marked
-/// to accept every document are none: they are written as `Any`.
+/// A content is written in place where it doesn't stand within itself, and is short or stands in
+/// one place. Those that are marked to accept every document are none: they are written as `Any`.
 pub(crate) fn plan_of(
     alloc: Global,
     auto: &Auto,

@@ -58,7 +58,8 @@ fn settle_by(
     })
 }
 
-/// What is written for all contents: by the plan that reads well, or else by one in which each state has a name.
+/// What is written for all contents: by the plan that reads well, or else by one in which each
+/// state has a name.
 fn settle(
     alloc: Global,
     auto: &Auto,
@@ -97,15 +98,17 @@ fn show_some(alloc: Global, auto: &Auto, start: State, taken: &[Label]) -> Resul
     Shown::new(alloc, pool.into_types(), &names, &bodies)
 }
 
-/// What a state accepts as definitions of types: a sound program of definitions `S1`, `S2` and so on, without names that are
-/// taken, whose first is fitted by exactly the documents that the state accepts.
+/// What a state accepts as definitions of types: a sound program of definitions `S1`, `S2` and so
+/// on, without names that are taken, whose first is fitted by exactly the documents that the state
+/// accepts.
 ///
-/// States that accept nothing are left out, and like ones made one. A content has a name where it stands within itself, or
-/// where it is neither short nor stands in one place; other contents are written in place under their label. Names come in
-/// the order in which a reader meets them. Where the state accepts nothing, the one definition is `type S1 = none[S1]`.
+/// States that accept nothing are left out, and like ones made one. A content has a name where it
+/// stands within itself, or where it is neither short nor stands in one place; other contents are
+/// written in place under their label. Names come in the order in which a reader meets them. Where
+/// the state accepts nothing, the one definition is `type S1 = none[S1]`.
 ///
-/// The types may be exponentially long in the states, as regular expressions for automata may be. `NoMemory` where there is
-/// no room for them.
+/// The types may be exponentially long in the states, as regular expressions for automata may be.
+/// `NoMemory` where there is no room for them.
 pub fn show(alloc: Global, auto: &Auto, state: State, taken: &[Label]) -> Result<Shown, NoMemory>
     requires { IsState auto.now state }
     ensures { IfOk result (λ shown. IsShown (λ d. accepts auto.now d state ≡ true) taken.now (program_tree shown.sound) shown.start) }

@@ -5,13 +5,15 @@ use std::alloc::Global;
 use xd_auto::{Auto, LabelMove, State, TextMove};
 use xd_doc::{Class, NoMemory};
 
-/// What is known of contents, by the numbers of their states. Of it nothing is proved: it serves the choice of names alone.
+/// What is known of contents, by the numbers of their states. Of it nothing is proved: it serves
+/// the choice of names alone.
 #[derive(Drop)]
 pub(crate) struct Uses {
-    /// The contents that stand right within a content, in the order in which its moves are met, one for each move.
+    /// The contents that stand right within a content, in the order in which its moves are met, one
+    /// for each move.
     pub(crate) within: Vec<Vec<usize>>,
-    /// In how many places a content stands within others. Under the same label within the same content it counts once, since
-    /// what comes again is mostly written once.
+    /// In how many places a content stands within others. Under the same label within the same
+    /// content it counts once, since what comes again is mostly written once.
     pub(crate) counts: Vec<usize>,
     /// How many moves are written for a content.
     pub(crate) weights: Vec<usize>,
@@ -100,7 +102,8 @@ fn meet_texts(walk: &mut LevelWalk, walker: usize, moves: &[TextMove]) -> Result
     Ok(())
 }
 
-/// Walks over the states that a content leads to behind items. Each walk has a number of its own, above 0.
+/// Walks over the states that a content leads to behind items. Each walk has a number of its own,
+/// above 0.
 fn walk_level(
     auto: &Auto,
     universal: &[bool],
@@ -174,7 +177,8 @@ fn nothing_under(alloc: Global, count: usize) -> Result<Vec<Option<Class>>, NoMe
     Ok(made)
 }
 
-/// The uses of all contents that a state leads to, but for those that are marked to accept every document.
+/// The uses of all contents that a state leads to, but for those that are marked to accept every
+/// document.
 ///
 /// The time is linear in the moves of the levels of these contents.
 pub(crate) fn uses_of(

@@ -12,9 +12,11 @@ pub(crate) struct Step {
     pub(crate) done: usize,
 }
 
-/// The contents in the order in which a walk leaves them, and which of them stand within themselves.
+/// The contents in the order in which a walk leaves them, and which of them stand within
+/// themselves.
 ///
-/// Of contents that lead to each other one at least is among the second: where a walk meets a content that it hasn't left.
+/// Of contents that lead to each other one at least is among the second: where a walk meets a
+/// content that it hasn't left.
 #[derive(Drop)]
 pub(crate) struct Order {
     pub(crate) left: Vec<usize>,

@@ -71,12 +71,13 @@ fn blocks_of(alloc: Global, bound: &Bound, taken: &[Label]) -> Result<Vec<u8>, N
     Ok(text)
 }
 
-/// What each variable of the clauses of the program's matches may be, by all whole ways of patterns or by first matches.
+/// What each variable of the clauses of the program's matches may be, by all whole ways of patterns
+/// or by first matches.
 ///
-/// A block for each, in order of place: a line `LINE:COLUMN: variable WORD as START`, and behind it a line for each
-/// definition of the types that show what the variable may be, by names that no type of the program has. Without a
-/// variable the text is the line `no variables`.
-/// Fails only where memory is refused.
+/// A block for each, in order of place: a line `LINE:COLUMN: variable WORD as START`, and behind it
+/// a line for each definition of the types that show what the variable may be, by names that no
+/// type of the program has. Without a variable the text is the line `no variables`. Fails only
+/// where memory is refused.
 pub fn variable_blocks(alloc: Global, checked: &Checked, ways: Ways) -> Result<Vec<u8>, NoMemory>
     ensures { IfOk result (λ text. AreBlocks (reading_of ways) (program_tree checked.now) text.items) }
 {

@@ -28,7 +28,8 @@ pub fn type_names(alloc: Global, sound: &SoundProgram) -> Result<Vec<Label>, NoM
     Ok(names)
 }
 
-/// Appends a line `type NAME = TYPE` for each type that the program defines, in the order of its text.
+/// Appends a line `type NAME = TYPE` for each type that the program defines, in the order of its
+/// text.
 ///
 /// After `NoMemory` some of the lines may stand in `out`.
 pub fn write_definitions(

@@ -11,8 +11,8 @@ use xd_auto::{Auto, State};
 use xd_doc::{Label, NoMemory};
 use xd_show::show;
 
-/// The text of definitions of types that show what the state accepts, by names that aren't taken: a line for each, of
-/// which the first is that of the set.
+/// The text of definitions of types that show what the state accepts, by names that aren't taken: a
+/// line for each, of which the first is that of the set.
 ///
 /// States that the given one doesn't lead to cost time and change nothing.
 /// Fails only where memory is refused.

@@ -1,4 +1,5 @@
--- The rule of Arden (Delayed logic and finite-state machines, 1961): where `L` takes an item, `X = L,X | R` has the solution `L*,R` alone.
+-- The rule of Arden (Delayed logic and finite-state machines, 1961): where `L` takes an item, `X =
+-- L,X | R` has the solution `L*,R` alone.
 use Rattle.std.proofs.Common.{◌≡◌, ◌⊎◌, inl, inr, true, refl, sym, ap, ◌∙◌, subst, ℕ, zero, suc, ◌<◌, arith}
 use Rattle.xd_doc.specs.Document.{Document, empty, join, has_item}
 use Rattle.xd_doc.specs.DocumentCode.{breadth}

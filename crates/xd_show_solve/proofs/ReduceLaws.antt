@@ -37,7 +37,8 @@ alive_same [] (t ∷ ts) l = absurd (omega arith)
 alive_same (s ∷ ss) [] l = absurd (omega arith)
 alive_same (s ∷ ss) (t ∷ ts) l = let m : length ss ≡ length ts = omega arith in ap (λ bs. true ∷ bs) (alive_same ss ts m)
 
--- The rank of an unknown: by how many summands its right side has, and then by its place. There are n places.
+-- The rank of an unknown: by how many summands its right side has, and then by its place. There are
+-- n places.
 ranks_from : ℕ → ℕ → List Sum → List ℕ
 ranks_from n i [] = []
 ranks_from n i (s ∷ ss) = (summand_count s * n + i) ∷ ranks_from n (i + 1) ss

@@ -108,7 +108,8 @@ fine_above allowed ranks low high (p ∷ ps) l h =
     up (inl t) = inl t
     up (inr k) = inr (omega arith)
 
--- Arden's rule for one equation: where the unknown stands with `L` in front of it, and else there is `R`
+-- Arden's rule for one equation: where the unknown stands with `L` in front of it, and else there
+-- is `R`
 pub solves : (N : Meaning) (X : Unknowns) (i : ℕ) (L : Tree) (R : Document → Type 0) → TakesItem L →
     ((d : Document) → (X i d ≡ true) ↔ (ProductTakes N X d (record { by = L; to = i }) ⊎ R d)) →
     (d : Document) → (X i d ≡ true) ↔ Split (FitsAs N (Star L)) R d

@@ -1,4 +1,5 @@
--- Equations between sets of documents: an unknown is a sum of types, each in front of an unknown, and of one type alone.
+-- Equations between sets of documents: an unknown is a sum of types, each in front of an unknown,
+-- and of one type alone.
 use Rattle.std.specs.Prelude.{◌≡◌, ◌↔◌, ◌⊎◌, ◌<◌, ℕ, nat_eq, Bool, true, not, ◌&&◌, List, [], ◌∷◌, map, get_or, Option, Some, None}
 use Rattle.xd_syntax.specs.declared.types.TypeId.{TypeId}
 use Rattle.std.specs.List.{AllByRecursion}
@@ -46,7 +47,8 @@ SideTakes N X d s = SomeTakes N X d s.products ⊎ ConstantTakes N d s.constant
 abbrev pub Equals : Meaning → Unknowns → ℕ → Side → Type 0
 Equals N X i s = (d : Document) → (X i d ≡ true) ↔ SideTakes N X d s
 
--- The unknown may be used: it is allowed, and the type in front of it takes an item, or its rank is below a bound.
+-- The unknown may be used: it is allowed, and the type in front of it takes an item, or its rank is
+-- below a bound.
 pub record IsFine (allowed : ℕ → Bool) (ranks : List ℕ) (bound : ℕ) (p : Product) : Type 0 where
   pub use_allowed : allowed p.to ≡ true
   pub guarded : TakesItem p.by ⊎ (get_or ranks p.to 0 < bound)
@@ -119,7 +121,8 @@ pub record IsSolved (i : ℕ) (s new : Side) : Type 0 where
   pub fine : (allowed : ℕ → Bool) (ranks : List ℕ) (bound : ℕ) → IsFineSide allowed ranks bound s → IsFineSide (allowed_but allowed i) ranks bound new
   pub tops : (known : List (List ℕ)) → SideTops known s → SideTops known new
 
--- the new side is the old one with the right side of an unknown's equation in the place of the unknown
+-- the new side is the old one with the right side of an unknown's equation in the place of the
+-- unknown
 pub record IsReplaced (i : ℕ) (by s new : Side) : Type 0 where
   pub takes : (N : Meaning) (X : Unknowns) → Equals N X i by → (d : Document) → SideTakes N X d new ↔ SideTakes N X d s
   pub fine : (allowed : ℕ → Bool) (ranks : List ℕ) (bound : ℕ) → IsFineSide allowed ranks bound s → IsFineSide (allowed_but allowed i) ranks (get_or ranks i 0) by → IsFineSide (allowed_but allowed i) ranks bound new

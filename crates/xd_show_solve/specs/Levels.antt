@@ -154,8 +154,9 @@ AreWritten a written states = (i : ℕ) (s : State) → i < length states → s 
 abbrev pub AreStateSums : Automaton → List Row → List (Option TypeId) → List (Option ℕ) → List State → List Row → List Sum → Type 0
 AreStateSums a old written places states new sums = (i : ℕ) (s : State) (t : Sum) → i < length sums → s ≡ get_or states i s → t ≡ get_or sums i t → IsStateSide a old written places s (side_in new t)
 
--- Whatever names stand for, but that `Any` stands for every document: where what is written for the contents is right, just the
--- documents that the state accepts fit the type; without a type it accepts none. The type uses no name outside of labels but `Any`.
+-- Whatever names stand for, but that `Any` stands for every document: where what is written for the
+-- contents is right, just the documents that the state accepts fit the type; without a type it
+-- accepts none. The type uses no name outside of labels but `Any`.
 pub record IsStateType (a : Automaton) (old : List Row) (written : List (Option TypeId)) (s : State) (new : List Row) (o : Option TypeId) : Type 0 where
   pub exact : (N : Meaning) → MeansAny N → AreContents a N old written → (d : Document) → (accepts a d s ≡ true) ↔ ConstantTakes N d (own_in new o)
   pub tops : IfSome (own_in new o) (HasTops (any_word ∷ []))

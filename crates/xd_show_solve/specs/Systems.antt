@@ -19,7 +19,8 @@ is_alive alive i = get_or alive i false
 abbrev pub AreEquations : Meaning → Unknowns → List Row → List Bool → List Sum → Type 0
 AreEquations N X types alive sums = (i : ℕ) (s : Sum) → i < length sums → is_alive alive i ≡ true → s ≡ get_or sums i s → Equals N X i (side_in types s)
 
--- the right sides of unknowns that are left use only such, which take an item before or have a smaller rank
+-- the right sides of unknowns that are left use only such, which take an item before or have a
+-- smaller rank
 abbrev pub AreFineSums : List Row → List Bool → List ℕ → List Sum → Type 0
 AreFineSums types alive ranks sums = (i : ℕ) (s : Sum) → i < length sums → is_alive alive i ≡ true → s ≡ get_or sums i s → IsFineSide (is_alive alive) ranks (get_or ranks i 0) (side_in types s)
 
@@ -93,7 +94,8 @@ pub record UsesEarlier (types : List Row) (sums : List Sum) (at : ℕ) (s : Sum)
 abbrev pub Rewrites : List Row → List Sum → ℕ → Side → Type 0
 Rewrites types sums at new = (s : Sum) → s ≡ get_or sums at s → SameSide (side_in types s) new ⊎ UsesEarlier types sums at s new
 
--- the equations were written anew: where they held they hold, and where each term took an item they are fine by some ranks
+-- the equations were written anew: where they held they hold, and where each term took an item they
+-- are fine by some ranks
 pub record Reduces (old new : List Row) (before after : List Sum) : Type 0 where
   pub count : length after ≡ length before
   pub equations : (N : Meaning) (X : Unknowns) → AreEquations N X old (all_alive before) before → AreEquations N X new (all_alive after) after

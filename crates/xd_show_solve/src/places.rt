@@ -10,8 +10,8 @@ use std::alloc::Global;
 use xd_auto::{Auto, LabelMove, State, TextMove};
 use xd_doc::NoMemory;
 
-/// The states that a state leads to behind items, itself the first, each once; and by the number of each state of the
-/// automaton its place among them, if it has one.
+/// The states that a state leads to behind items, itself the first, each once; and by the number of
+/// each state of the automaton its place among them, if it has one.
 #[derive(Drop)]
 pub struct Level {
     pub states: Vec<State>,
@@ -108,7 +108,8 @@ fn see_number(auto: &Auto, level: &mut Level, number: usize) -> Result<(), NoMem
     see_rests(auto, level, state)
 }
 
-/// The level of a state: the state, and all that it leads to behind items, in the order in which they are met.
+/// The level of a state: the state, and all that it leads to behind items, in the order in which
+/// they are met.
 ///
 /// The time is linear in the moves of the level and in the states of the automaton. Fails only
 /// where memory is refused.

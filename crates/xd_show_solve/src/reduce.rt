@@ -64,7 +64,8 @@ fn covers(one: &Sum, two: &Sum) -> bool
     has_terms(&one.terms, &two.terms)
 }
 
-/// Whether the terms lead to several unknowns, or to one that leads on. Others are put together by alternatives alone.
+/// Whether the terms lead to several unknowns, or to one that leads on. Others are put together by
+/// alternatives alone.
 fn lead_on(sums: &[Sum], terms: &[Term]) -> bool {
     let Some(first) = terms.first() else {
         return false;
@@ -90,7 +91,8 @@ fn summand_count(sum: &Sum) -> usize
     }
 }
 
-/// Whether the sum at one place has fewer summands than that at the other place, or as many and stands before it.
+/// Whether the sum at one place has fewer summands than that at the other place, or as many and
+/// stands before it.
 fn comes_before(sums: &[Sum], other: usize, number: usize) -> bool
     requires other { other < length sums.now }
     requires number { number < length sums.now }
@@ -101,8 +103,8 @@ fn comes_before(sums: &[Sum], other: usize, number: usize) -> bool
     count < most || (count == most && other < number)
 }
 
-/// Of the sums that come before, all of whose summands this one has too, the one with most; none where this one leads to
-/// the end alone.
+/// Of the sums that come before, all of whose summands this one has too, the one with most; none
+/// where this one leads to the end alone.
 fn covered(sums: &[Sum], number: usize) -> Option<usize>
     requires { number < length sums.now }
     ensures { IfSome result (IsCovered sums.now number) }

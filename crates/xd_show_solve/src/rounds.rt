@@ -46,7 +46,8 @@ fn is_asked(alive: &[bool], chosen: &[bool], number: usize) -> bool
     number > 0 && alive[number] && chosen.get(number).copied().unwrap_or(false)
 }
 
-/// The right sides of the chosen unknowns' equations, each without the unknown itself, by the number of the unknown.
+/// The right sides of the chosen unknowns' equations, each without the unknown itself, by the
+/// number of the unknown.
 fn owns_of(
     alloc: Global,
     pool: &mut Pool,
@@ -105,7 +106,8 @@ fn are_apart(owns: &[Option<Sum>]) -> bool
     true
 }
 
-/// Puts a term to others, or, in the place of an unknown that is taken out, the right side of its equation.
+/// Puts a term to others, or, in the place of an unknown that is taken out, the right side of its
+/// equation.
 fn push_taken(
     alloc: Global,
     pool: &mut Pool,

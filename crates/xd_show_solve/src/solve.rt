@@ -85,7 +85,8 @@ fn part_by(alloc: Global, pool: &mut Pool, sum: &Sum, of: usize) -> Result<Parte
     Ok(parts)
 }
 
-/// The right side of an unknown's equation without the unknown itself: of `X = L,X | R` it is `L*,R`.
+/// The right side of an unknown's equation without the unknown itself: of `X = L,X | R` it is
+/// `L*,R`.
 pub(crate) fn solved(alloc: Global, pool: &mut Pool, sum: &Sum, of: usize) -> Result<Sum, NoMemory>
     requires { SumStands pool.old.types sum.now }
     ensures solved { IfOk result (λ made. IsSolved of (side_in pool.old.types sum.now) (side_in pool.new.types made)) }
@@ -169,7 +170,8 @@ fn uses(sum: &Sum, of: usize) -> bool
     false
 }
 
-/// Puts the right side of an unknown's equation in the place of the unknown, in the sum of this number.
+/// Puts the right side of an unknown's equation in the place of the unknown, in the sum of this
+/// number.
 fn replace_at(
     alloc: Global,
     pool: &mut Pool,

@@ -48,9 +48,10 @@ fn level_sums(
 
 /// The type of what the first state of a level accepts; `None` where it accepts nothing.
 ///
-/// `written` has, by the number of a state, the type that stands for it as the content of a label: a name, or a type that
-/// was made before. `universal` marks states that accept every document, as `universal_states` of `xd_boole` does; these
-/// are written as `Any`. What is in the table stays, and no name is added but `Any`.
+/// `written` has, by the number of a state, the type that stands for it as the content of a label:
+/// a name, or a type that was made before. `universal` marks states that accept every document, as
+/// `universal_states` of `xd_boole` does; these are written as `Any`. What is in the table stays,
+/// and no name is added but `Any`.
 ///
 /// The states of the level are unknowns of equations, which are solved for one after the other (J.
 /// A. Brzozowski and E. J. McCluskey, Signal flow graph techniques for sequential circuit state

@@ -16,7 +16,8 @@ use xd_doc::NoMemory;
 use xd_same_types::{Pool, alt_of_all, seq};
 use xd_syntax::TypeId;
 
-/// Types in front of unknowns, and types alone, the first and more, none of them put together with another yet.
+/// Types in front of unknowns, and types alone, the first and more, none of them put together with
+/// another yet.
 #[derive(Drop)]
 pub(crate) struct Summands {
     pub(crate) terms: Vec<Term>,

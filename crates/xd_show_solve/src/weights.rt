@@ -9,7 +9,8 @@ use std::alloc::Global;
 use xd_doc::NoMemory;
 use xd_same_types::{Pool, size_of};
 
-/// How many terms the sum has for other unknowns and alone, how long these are, and what stands in front of this one.
+/// How many terms the sum has for other unknowns and alone, how long these are, and what stands in
+/// front of this one.
 fn weight_of(pool: &Pool, sum: &Sum, of: usize) -> (u64, u64, u64) {
     let mut count = 0u64;
     let mut size = 0u64;
@@ -56,8 +57,8 @@ fn add_weights(pool: &Pool, sum: &Sum, number: usize, weights: &mut [(u64, u64)]
     }
 }
 
-/// What is written more often than before, where an unknown is taken out (M. Delgado and J. Morais, Approximation to the
-/// smallest regular expression for a given regular language, 2004).
+/// What is written more often than before, where an unknown is taken out (M. Delgado and J. Morais,
+/// Approximation to the smallest regular expression for a given regular language, 2004).
 fn growth(count: u64, size: u64, own: u64, sources: u64, ahead: u64) -> u64 {
     let out = size.saturating_mul(sources.saturating_sub(1));
     let inner = ahead.saturating_mul(count.saturating_sub(1));
@@ -158,8 +159,8 @@ fn choose(choice: &mut Choice, sum: &Sum, number: usize) {
     }
 }
 
-/// Unknowns that are left, but for the first, that make no type longer and don't lead to each other: a flag for each; `None` where there
-/// are fewer than two. Nothing is proved of them.
+/// Unknowns that are left, but for the first, that make no type longer and don't lead to each
+/// other: a flag for each; `None` where there are fewer than two. Nothing is proved of them.
 pub(crate) fn cheap(
     alloc: Global,
     pool: &Pool,

@@ -88,7 +88,8 @@ all_added words place keys a l w =
     sym (or_false (has_key keys w)) ∙ subst (λ ws. (has_key keys w || has_word ws w) ≡ has_word words w) (drop_of_length-le words {i = place} l) (a.all w)
 
 -- ---- the search
--- So many numbers were tried, and these words found. Of the names of the other numbers, just those that are left are taken.
+-- So many numbers were tried, and these words found. Of the names of the other numbers, just those
+-- that are left are taken.
 pub record IsSearch (taken : List (List ℕ)) (number : ℕ) (left words : List (List ℕ)) : Type 0 where
   pub found : (rest : List (List ℕ)) → NamedFrom taken (number + 1) rest → NamedFrom taken 1 (words ++ rest)
   pub ahead : (m : ℕ) → number < m → m < 2 ^ 64 → has_key left (shown_name m) ≡ has_word taken (shown_name m)
@@ -130,7 +131,8 @@ search_finds taken number left less words s h u t =
 pub search_ends : (taken : List (List ℕ)) (number : ℕ) (left words : List (List ℕ)) → IsSearch taken number left words → NamedFrom taken 1 words
 search_ends taken number left words s = subst (NamedFrom taken 1) (append-nil words) (s.found [] ends)
 
--- So many names are wanted, and so many are found. Each number that was tried gave a name, or took one off those that were taken.
+-- So many names are wanted, and so many are found. Each number that was tried gave a name, or took
+-- one off those that were taken.
 pub record IsNaming (taken : List (List ℕ)) (number count found most : ℕ) (left words : List (List ℕ)) : Type 0 where
   pub so_far : IsSearch taken number left words
   pub tried : number + length left ≡ found + most

@@ -14,7 +14,8 @@ use Rattle.xd_same_types.specs.Grown.{NamesAmong}
 use Rattle.xd_same_types.specs.Same.{Meaning, FitsAs, tops_only}
 use Rattle.xd_shown.specs.Shown.{AreNamedFrom, IsShown}
 
--- A type for each name. Outside of labels it uses no name but `Any`, and the whole table uses no name but these and `Any`.
+-- A type for each name. Outside of labels it uses no name but `Any`, and the whole table uses no
+-- name but these and `Any`.
 pub record AreBodies (types : List Row) (words : List (List ℕ)) (bodies : List TypeId) : Type 0 where
   pub some : 0 < length words
   pub each : length bodies ≡ length words
@@ -22,7 +23,8 @@ pub record AreBodies (types : List Row) (words : List (List ℕ)) (bodies : List
   pub guarded : AllByRecursion (λ id. tops_only (any_word ∷ []) (tree types id) ≡ true) bodies
   pub known : NamesAmong (any_word ∷ words) types
 
--- The meanings of these names are those of their types, and `Any` means every document. What other names mean is of no account.
+-- The meanings of these names are those of their types, and `Any` means every document. What other
+-- names mean is of no account.
 pub record AreMeant (N : Meaning) (types : List Row) (words : List (List ℕ)) (bodies : List TypeId) : Type 0 where
   pub any : (d : Document) → N any_word d ≡ true
   pub each : (k : ℕ) (id : TypeId) → k < length words → id ≡ get_or bodies k id → (d : Document) → (N (get_or words k []) d ≡ true) ↔ FitsAs N (tree types id) d
@@ -31,7 +33,8 @@ pub record AreMeant (N : Meaning) (types : List Row) (words : List (List ℕ)) (
 abbrev pub HasProper : (Document → Bool) → Type 0
 HasProper D = (d : Document) × (is_proper d ≡ true) × (D d ≡ true)
 
--- The program shows what the first name means, whatever meanings of names are those of their types, unless it means nothing.
+-- The program shows what the first name means, whatever meanings of names are those of their types,
+-- unless it means nothing.
 abbrev pub ShowsMeanings : List Row → List (List ℕ) → List TypeId → ProgramTree → List ℕ → Type 0
 ShowsMeanings types words bodies P start =
     (taken : List (List ℕ)) (N : Meaning) → AreNamedFrom taken 1 words → AreMeant N types words bodies → HasProper (N start) → IsShown (λ d. N start d ≡ true) taken P start

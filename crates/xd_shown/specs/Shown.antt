@@ -31,8 +31,9 @@ UsesUnderLabels P = (u : UseIn) → Among u (all_top_uses P.types) → has_word 
 abbrev pub none_type : List ℕ → Tree
 none_type start = Elem (record { names = codes "none" ∷ []; except = false }) (Name start)
 
--- A sound program of definitions of types alone, `S1`, `S2` and so on, shows a set of documents: of proper documents, just those of the
--- set fit the first name. Where the set has none, there is one definition, `type S1 = none[S1]`.
+-- A sound program of definitions of types alone, `S1`, `S2` and so on, shows a set of documents: of
+-- proper documents, just those of the set fit the first name. Where the set has none, there is one
+-- definition, `type S1 = none[S1]`.
 pub record IsShown (D : Document → Type 0) (taken : List (List ℕ)) (P : ProgramTree) (start : List ℕ) : Type 0 where
   pub exact : (d : Document) → is_proper d ≡ true → Fits (names_of P) (Name start) d ↔ D d
   pub sound : IsSound P

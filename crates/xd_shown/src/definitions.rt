@@ -88,9 +88,8 @@ pub fn none_around(alloc: Global, pool: &mut Pool, word: &Label) -> Result<TypeI
 impl Shown {
     /// The definitions of these names by types of a table, the first one's name at the head.
     ///
-    /// Whatever meanings of the names are those of their types, the first name's meaning is shown. A set of no document is shown by
-    /// [`Self::nothing`].
-    /// Fails only where memory is refused.
+    /// Whatever meanings of the names are those of their types, the first name's meaning is shown.
+    /// A set of no document is shown by [`Self::nothing`]. Fails only where memory is refused.
     pub fn new(
         alloc: Global,
         types: Types,

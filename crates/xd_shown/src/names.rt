@@ -33,8 +33,8 @@ fn set_of(alloc: Global, words: &[Label]) -> Result<BTreeSet<Label>, NoMemory>
 
 /// The first names `S1`, `S2` and so on that are not taken, so many of them.
 ///
-/// Each may name a type, and none stands twice. `NoMemory` where there is no room for them or for a copy of those that are
-/// taken. It tries no more numbers than there are names in both lists.
+/// Each may name a type, and none stands twice. `NoMemory` where there is no room for them or for a
+/// copy of those that are taken. It tries no more numbers than there are names in both lists.
 pub fn free_names(alloc: Global, taken: &[Label], count: usize) -> Result<Vec<Label>, NoMemory>
     ensures named { IfOk result (λ words. AreNamedFrom taken.now 1 words.items) }
     ensures new { IfOk result (λ words. AreNewNames words.items) }

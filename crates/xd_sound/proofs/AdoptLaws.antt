@@ -157,7 +157,8 @@ pub copy_inside : (from : List Row) (root : ℕ) (is : List ℕ) (k : ℕ) → A
 copy_inside from root is k built h reached l =
     let o = reached_older false from root built h (get_or is k 0) ((reached.exact (get_or is k 0)).0 (Contains-get_or is k 0 l)) in omega arith
 
--- its form may follow, over the copies of its parts, and stands for the same type, which is no deeper than the whole
+-- its form may follow, over the copies of its parts, and stands for the same type, which is no
+-- deeper than the whole
 pub record IsReady (from : List Row) (root p : ℕ) (f : Form) (into : List Row) (copy : ℕ → TypeId) : Type 0 where
   pub follows : CanFollow false into (copied_form copy f)
   pub same : form_tree (tree_at into) (copied_form copy f) ≡ tree_at from p

@@ -9,7 +9,8 @@ use Rattle.xd_sound.specs.Emptiness.{AreEmptyMarks, AreEmptySoFar}
 use Rattle.xd_syntax.specs.declared.types.TypeDef.{TypeDef}
 use Rattle.xd_sound.specs.declared.known.KnownTypes.{KnownTypes}
 
--- the names of these definitions are numbered, and of each node it is marked whether the empty document fits it
+-- the names of these definitions are numbered, and of each node it is marked whether the empty
+-- document fits it
 pub record AreKnownTypes (types : List Row) (ds : List TypeDef) (k : KnownTypes) : Type 0 where
   pub numbered : AreNumbered k.names ds
   pub marked : AreEmptyMarks types ds k.empty_marks.items

@@ -11,9 +11,9 @@ use xd_syntax::{Nodes, TypeForm, TypeId, Types};
 
 /// The numbers of the nodes that a type reaches, each once, the oldest first.
 ///
-/// Parts are older nodes, so the greatest number that still waits is met for the last time. It takes n steps for n parts of
-/// these nodes where the parts of each node were made in their order, one after the other, and n log n steps otherwise,
-/// whatever else the table holds.
+/// Parts are older nodes, so the greatest number that still waits is met for the last time. It
+/// takes n steps for n parts of these nodes where the parts of each node were made in their order,
+/// one after the other, and n log n steps otherwise, whatever else the table holds.
 pub(crate) fn reached_from(alloc: Global, types: &Types, id: TypeId) -> Result<Vec<usize>, NoMemory>
     requires { BelongsTo types.now id }
     ensures { IfOk result (λ reached. AreReached types.now id.at reached.items) }

@@ -16,11 +16,12 @@ use std::alloc::Global;
 use xd_doc::{Label, NoMemory};
 use xd_syntax::{TypeDef, TypeForm, TypeId, Types};
 
-/// For each node whether the empty document fits it: the least solution, also where definitions are not sound.
+/// For each node whether the empty document fits it: the least solution, also where definitions are
+/// not sound.
 ///
 /// A node is visited once at first and again for each node that it depends on, once that is marked
-/// (Dowling and Gallier, Linear-time algorithms for testing the satisfiability of propositional Horn
-/// formulae, Journal of Logic Programming 1, 1984).
+/// (Dowling and Gallier, Linear-time algorithms for testing the satisfiability of propositional
+/// Horn formulae, Journal of Logic Programming 1, 1984).
 pub(crate) fn empty_types(
     alloc: Global,
     types: &Types,
@@ -43,7 +44,8 @@ pub(crate) fn empty_types(
     Ok(marks)
 }
 
-/// Marks the nodes behind those that are marked. Their parts are older nodes, so each is looked at once.
+/// Marks the nodes behind those that are marked. Their parts are older nodes, so each is looked at
+/// once.
 pub(crate) fn mark_more(
     types: &Types,
     defs: &[TypeDef],

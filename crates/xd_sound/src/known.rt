@@ -11,7 +11,8 @@ use std::alloc::Global;
 use xd_doc::NoMemory;
 use xd_syntax::{TypeDef, Types};
 
-/// The number of each name's first definition, and for each node of a type whether the empty document fits it.
+/// The number of each name's first definition, and for each node of a type whether the empty
+/// document fits it.
 #[derive(Drop)]
 pub struct KnownTypes {
     pub names: TypeNames,

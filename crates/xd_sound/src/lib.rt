@@ -1,4 +1,5 @@
-//! Programs without faults: what is known of their names and types, and types that are added to them.
+//! Programs without faults: what is known of their names and types, and types that are added to
+//! them.
 #![tactic(auto)]
 
 mod adopt;

@@ -1,4 +1,5 @@
-//! Programs without faults of names, arity, linearity and recursion, and those that are checked besides.
+//! Programs without faults of names, arity, linearity and recursion, and those that are checked
+//! besides.
 
 ghost use Rattle.std.specs.Prelude.{◌≡◌, ◌+◌, ◌^◌, ◌<◌, ◌≤◌, true, false, length, IfOk, is_some, IsTrue};
 ghost use Rattle.std.specs.List.{AllByRecursion, list_all};
@@ -95,8 +96,8 @@ impl SoundProgram {
         &self.program
     }
 
-    /// An equal program, with the same ids. What is known of its types is found anew when it is first needed.
-    /// `NoMemory` where there is no room for the copy.
+    /// An equal program, with the same ids. What is known of its types is found anew when it is
+    /// first needed. `NoMemory` where there is no room for the copy.
     pub fn copy(&self, alloc: Global) -> Result<Self, NoMemory>
         ensures { IfOk result (λ made. made ≡ self.now) }
     {
@@ -108,8 +109,8 @@ impl SoundProgram {
         })
     }
 
-    /// The type that is this name, `String` and `Any` included; `None` exactly where it is not defined. After `NoMemory` the program has
-    /// more types at most.
+    /// The type that is this name, `String` and `Any` included; `None` exactly where it is not
+    /// defined. After `NoMemory` the program has more types at most.
     pub fn find_type(&mut self, word: &str) -> Result<Option<TypeId>, NoMemory>
         ensures defined { IfOk result (λ found. is_some found ≡ is_defined (program_tree self.old) word.now) }
         ensures found { IfOk result (λ found. IfSome found (IsTypeAt self.new.types (type_named word.now))) }
@@ -157,11 +158,11 @@ impl SoundProgram {
         Ok(None)
     }
 
-    /// A type of another table, taken into the program; `None` exactly where it uses a name that is not defined, and then
-    /// nothing is added.
+    /// A type of another table, taken into the program; `None` exactly where it uses a name that is
+    /// not defined, and then nothing is added.
     ///
-    /// It copies the nodes that the type reaches, each once, and each name once, whatever else the other table holds. After `NoMemory`
-    /// the program has more types at most.
+    /// It copies the nodes that the type reaches, each once, and each name once, whatever else the
+    /// other table holds. After `NoMemory` the program has more types at most.
     pub fn adopt(&mut self, types: &Types, id: TypeId) -> Result<Option<TypeId>, NoMemory>
         requires { BelongsTo types.now id }
         ensures defined { IfOk result (λ adopted. is_some adopted ≡ uses_only (known_types (program_tree self.old)) (tree types.now id)) }
@@ -227,7 +228,8 @@ impl SoundProgram {
         names.find(word).is_some()
     }
 
-    /// Copies the nodes that a type reaches, the oldest first. Each name is copied once, however often it stands there.
+    /// Copies the nodes that a type reaches, the oldest first. Each name is copied once, however
+    /// often it stands there.
     fn copy_in(&mut self, types: &Types, id: TypeId, reached: &[usize]) -> Result<TypeId, NoMemory>
         requires belongs { BelongsTo types.now id }
         requires reached { AreReached types.now id.at reached.now }
@@ -291,7 +293,8 @@ impl SoundProgram {
         Ok(id)
     }
 
-    /// One more type, of parts that the program has. After `NoMemory` the program has the types that it had.
+    /// One more type, of parts that the program has. After `NoMemory` the program has the types
+    /// that it had.
     pub fn add_type(&mut self, form: TypeForm) -> Result<TypeId, NoMemory>
         requires { CanFollow false self.old.types (form_of form) }
         ensures ok { IfOk result (IsTypeAt self.new.types (form_tree (tree_at self.old.types) (form_of form))) }
@@ -304,8 +307,9 @@ impl SoundProgram {
         self.program.add_type(form)
     }
 
-    /// What is known of its types: found at the first call, and then only for the types that were added since it was given back
-    /// ([`Self::give_back`]). After `NoMemory` the program is as it was, and all is found anew at the next call.
+    /// What is known of its types: found at the first call, and then only for the types that were
+    /// added since it was given back ([`Self::give_back`]). After `NoMemory` the program is as it
+    /// was, and all is found anew at the next call.
     pub fn take_known(&mut self) -> Result<KnownTypes, NoMemory>
         ensures known { IfOk result (AreKnown self.old) }
         ensures same { self.new ≡ self.old }
@@ -354,7 +358,8 @@ impl Checked {
         Self { sound }
     }
 
-    /// The program as a sound one. What follows for its runs is the law `accepted_programs_are_safe` of the crate `xd_laws`.
+    /// The program as a sound one. What follows for its runs is the law
+    /// `accepted_programs_are_safe` of the crate `xd_laws`.
     pub fn sound(&self) -> &SoundProgram
         ensures sound { result.now ≡ self.now }
         ensures proper { IsProperProgram (program_tree self.now) }

@@ -173,7 +173,8 @@ module _ (v : Validator) (ts : List Terminal) (h : StandsAfter v ts) where
       let w : Validator = record v { position = e } in
       told_by (list_any (is_alive_at v.automaton v.with_items.items e) v.pairs.items) (begins_alive w (ts ++ t ∷ []) (g.stands ts h)) (begins_dead w (ts ++ t ∷ []) (g.stands ts h))
 
-  -- where the position takes a terminal, some pair is alive behind it; where it doesn't, no document goes on
+  -- where the position takes a terminal, some pair is alive behind it; where it doesn't, no
+  -- document goes on
   at_position : (t : Terminal) (takes : Bool) (alive : Bool) → (takes ≡ true → (alive ≡ true) ↔ GoesOnWith v.automaton v.start ts t) → (takes ≡ false → Refuses v t refusals.Malformed) → ((takes && alive) ≡ true) ↔ GoesOnWith v.automaton v.start ts t
   at_position t true alive told refuses = told refl
   at_position t false alive told refuses = told_by false (λ x. absurd (cc)) (λ x p. not_begun v ts t h (refuses refl) p)

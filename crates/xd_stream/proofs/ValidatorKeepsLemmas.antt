@@ -112,7 +112,8 @@ module _ (a : Automaton) (s : State) (marks : List Bool) (m : AreMarks a marks) 
       (unmarked a marks v.content r m (is_marked marks v.content) refl) (unmarked a marks v.rest r0 m (is_marked marks v.rest) refl))
       (moves_at a p.present).labels
 
-  -- of moves whose content is one of a group, and a test of each of the group: it is enough to look at one
+  -- of moves whose content is one of a group, and a test of each of the group: it is enough to look
+  -- at one
   one_group : (h : State → Bool) (k : Waiting → Bool) (ws : List Waiting)
       → list_any (λ w. h w.content && list_any (λ v. same_state v.content w.content && k v) ws) ws ≡ list_any (λ w. h w.content && k w) ws
   one_group h k ws = same_truth (list_any (λ w. h w.content && list_any (λ v. same_state v.content w.content && k v) ws) ws) (list_any (λ w. h w.content && k w) ws) there back

@@ -39,7 +39,8 @@ pub record AreWhole (bytes : List ℕ) (tokens : List Lexeme) : Type 0 where
   pub settled : AreSettled bytes tokens
   pub most : (others : List Lexeme) → AreSettled bytes others → length others ≤ length tokens
 
--- the bytes behind the last whole token are at least these, and the token that they belong to begins among them
+-- the bytes behind the last whole token are at least these, and the token that they belong to
+-- begins among them
 pub record AreBehindWhole (bytes rest : List ℕ) (tokens : List Lexeme) : Type 0 where
   pub front : List ℕ
   pub from : Place

@@ -28,8 +28,8 @@ cut_off p x = cond (is_open x.kind) (record { kind = kinds.Broken BadCharacter; 
 abbrev pub cut_off_unless : Bool → Place → List Lexeme → List Lexeme
 cut_off_unless whole p xs = cond whole xs (map (cut_off p) xs)
 
--- The tokens of bytes that begin at a place: those of the longest front that is UTF-8. Where it isn't all, the one that is open
--- is broken at the place behind it.
+-- The tokens of bytes that begin at a place: those of the longest front that is UTF-8. Where it
+-- isn't all, the one that is open is broken at the place behind it.
 abbrev pub tokens_at : Place → List ℕ → List Lexeme
 tokens_at p bytes = let front = text_front bytes in cut_off_unless (utf8_valid_len bytes == length bytes) (past p front) (tokens_from 0 p front)
 
@@ -47,7 +47,8 @@ pub record BeginsOneOf (In : Document → Type 0) (ts : List Terminal) : Type 0 
 abbrev pub told : Place → Place
 told p = record { line = min p.line (2 ^ 64 - 1); column = min p.column (2 ^ 64 - 1) }
 
--- the first token such that the tokens up to it begin no document of the set, and its place as it is told
+-- the first token such that the tokens up to it begin no document of the set, and its place as it
+-- is told
 pub record IsFirstStop (In : Document → Type 0) (tokens : List Lexeme) (before : List Lexeme) (x : Lexeme) (place : Place) : Type 0 where
   pub after : List Lexeme
   pub split : tokens ≡ before ++ x ∷ after

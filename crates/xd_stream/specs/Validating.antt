@@ -55,7 +55,8 @@ pub record IsSameFor (v w : Validator) : Type 0 where
   pub automaton : w.automaton ≡ v.automaton
   pub start : w.start ≡ v.start
 
--- it has gone over the terminal, which a document goes on with; whether an accepted one does isn't known yet
+-- it has gone over the terminal, which a document goes on with; whether an accepted one does isn't
+-- known yet
 pub record Goes (v : Validator) (t : Terminal) (w : Validator) : Type 0 where
   pub same : IsSameFor v w
   pub stands : (ts : List Terminal) → StandsAfter v ts → StandsAfter w (ts ++ t ∷ [])

@@ -188,8 +188,8 @@ impl Machine {
         Ok(1)
     }
 
-    /// How many bytes at the front go on with the word or the text that is begun, each as a character of its line that stands
-    /// for itself.
+    /// How many bytes at the front go on with the word or the text that is begun, each as a
+    /// character of its line that stands for itself.
     fn run_len(&self, bytes: &[u8]) -> usize
         ensures within { result ≤ length bytes.now }
         ensures run { 0 < result → IsRun self.now (take result bytes.now) }

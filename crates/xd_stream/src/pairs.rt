@@ -17,8 +17,8 @@ pub struct Pair {
     pub present: State,
 }
 
-/// A move on an open element, from a pair: the state that the pair's content began with, that of the
-/// element's content, and the one behind the element.
+/// A move on an open element, from a pair: the state that the pair's content began with, that of
+/// the element's content, and the one behind the element.
 #[derive(Clone, Copy, Debug)]
 pub struct Waiting {
     pub first: State,

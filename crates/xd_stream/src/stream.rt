@@ -77,8 +77,8 @@ impl Stream {
 
     /// Ends the bytes.
     ///
-    /// `Malformed` where the bytes spell no document, `Outside` where they spell one that the state doesn't
-    /// accept, each with its place; `OutOfMemory` where memory is refused.
+    /// `Malformed` where the bytes spell no document, `Outside` where they spell one that the state
+    /// doesn't accept, each with its place; `OutOfMemory` where memory is refused.
     pub fn finish(self) -> Result<(), StreamError>
         ensures ok { OnOk result ((bytes : List ℕ) → StandsFor self bytes → SpellsAccepted (automaton_of self) (start_of self) bytes) }
         ensures err { IfErr result (λ e. (bytes : List ℕ) → StandsFor self bytes → StopsAs (automaton_of self) (start_of self) bytes e) }
@@ -100,7 +100,8 @@ impl Stream {
         self.machine.validator.open_elements() + 1
     }
 
-    /// What may come behind the whole tokens, by which the token that isn't complete could be another.
+    /// What may come behind the whole tokens, by which the token that isn't complete could be
+    /// another.
     ///
     /// At a stop: feed a stream the bytes before its place and a blank, which ends a `(`. What may
     /// come then is what could have stood there.

@@ -10,5 +10,6 @@ pub mod Members
 pub mod NodeParts
 pub mod SameClass
 pub mod Words
+pub mod NotLinear
 pub mod OrderedLemmas
 pub mod Ranks

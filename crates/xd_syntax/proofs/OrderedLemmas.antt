@@ -1,4 +1,5 @@
--- A list in order with the same elements at each rank is one list, and putting elements in one by one gives it.
+-- A list in order with the same elements at each rank is one list, and putting elements in one by
+-- one gives it.
 use Rattle.xd_syntax.specs.Order.{put_in, ordered_after}
 use Rattle.std.proofs.Common.{◌≡◌, ℕ, suc, ◌<◌, ◌≤◌, arith, Bool, true, false, not, cond, ◌&&◌, List, [], ◌∷◌, ◌++◌, length, get_or, refl, ap, sym, ◌∙◌, subst, append-nil, append_assoc}
 use Rattle.std.specs.List.{filter}

@@ -16,19 +16,21 @@ pub data LineKind : Type 0 where
   wrong_result : LineKind
   dead_clause : LineKind
 
--- a line of the report: its place, what it says, and the document that it carries; a dead clause carries none
+-- a line of the report: its place, what it says, and the document that it carries; a dead clause
+-- carries none
 pub record Line : Type 0 where
   pub place : Place
   pub kind : LineKind
   pub document : Option Document
 
+-- the order of lines of one place: faults by their numbers, then a warning
 abbrev pub rank : LineKind → ℕ
-rank not_exhaustive = 12
-rank wrong_argument = 13
-rank wrong_result = 14
-rank dead_clause = 17
+rank not_exhaustive = 0
+rank wrong_argument = 1
+rank wrong_result = 2
+rank dead_clause = 3
 
--- the earlier place comes first; of one place the smaller number, and a warning behind the faults
+-- the earlier place comes first
 abbrev pub line_precedes : Line → Line → Bool
 line_precedes l m = is_earlier l.place m.place || (is_same_place l.place m.place && nat_lt (rank l.kind) (rank m.kind))
 
@@ -60,8 +62,8 @@ pub record IsProperWith (A : Document → Type 0) (d : Document) : Type 0 where
   pub proper : is_proper d ≡ true
   pub meets : A d
 
--- Of the documents that it may carry, a fault carries a least one by this measure. That of the faults is the size of documents;
--- another tells less of them apart, as sizes up to a limit do.
+-- Of the documents that it may carry, a fault carries a least one by this measure. That of the
+-- faults is the size of documents; another tells less of them apart, as sizes up to a limit do.
 module _ (measure : Document → ℕ) where
   -- one line with a least document of those that meet the fact, or no line where none does
   abbrev pub LineWhere : Place → LineKind → (Document → Type 0) → List Line → Type 0
@@ -86,8 +88,9 @@ module _ (measure : Document → ℕ) where
         Both (LinesOf P S e)
         (Both (LineWhere (place_of_expression e) wrong_argument (Misfits P S e q.declared)) (LinesOfArguments P S qs es)) ls
 
-    -- Clauses of a match at a place of a scrutinee, behind these patterns. A clause that is live has the lines of its body;
-    -- one that is not has a warning and nothing else. Behind the last a document that comes there has a line at the match.
+    -- Clauses of a match at a place of a scrutinee, behind these patterns. A clause that is live
+    -- has the lines of its body; one that is not has a warning and nothing else. Behind the last a
+    -- document that comes there has a line at the match.
     pub LinesOfClauses : ProgramTree → Scope → Place → Expression → List PlacedTree → Clauses → List Line → Type 0
     LinesOfClauses P S p e earlier no_clause ls = LineWhere p not_exhaustive (Comes P S e earlier) ls
     LinesOfClauses P S p e earlier (clause Q f cs) ls =
@@ -113,8 +116,8 @@ module _ (measure : Document → ℕ) where
     pub all : LinesOfFunctions P P.functions found
     pub ordered : ls ≡ lines_in_order found
 
--- These are all the faults of matches, arguments and results, and all warnings, in order. Each fault carries a least document of
--- those that it may carry.
+-- These are all the faults of matches, arguments and results, and all warnings, in order. Each
+-- fault carries a least document of those that it may carry.
 abbrev pub AreLines : ProgramTree → List Line → Type 0
 AreLines = AreLinesBy size
 

@@ -7,7 +7,8 @@ use Rattle.xd_syntax.specs.PlacedTable.{placed_at, the_start}
 use Rattle.xd_syntax.specs.Table.{Row}
 use Rattle.xd_syntax.specs.Expression.{Called, Clauses, Expression, Matched, Nothing, Quoted, Tagged, Variable, arguments_of, clause, joined, no_clause}
 
--- what a node is; its parts are numbers of nodes, and a clause is the numbers of its pattern and its body
+-- what a node is; its parts are numbers of nodes, and a clause is the numbers of its pattern and
+-- its body
 pub data ExprShape : Type 0 where
   empty_shape : ExprShape
   text_shape : (characters : List ℕ) → ExprShape

@@ -39,7 +39,8 @@ pub record ProgramStands (p : ProgramTable) : Type 0 where
   pub type_defs : AllByRecursion (TypeDefStands p.types) p.type_defs
   pub functions : AllByRecursion (FunctionStands p.types p.exprs) p.functions
 
--- its words are words, its texts have characters that UTF-8 can spell, and its classes are as they are built
+-- its words are words, its texts have characters that UTF-8 can spell, and its classes are as they
+-- are built
 pub record IsProperTable (p : ProgramTable) : Type 0 where
   pub types : IsTable false p.types
   pub patterns : IsTable true p.patterns

@@ -18,6 +18,7 @@ pub mod Shallow
 pub mod ShallowTables
 pub mod Order
 pub mod NameFaults
+pub mod NotLinear
 pub mod RecursionFaults
 pub mod May
 pub mod CheckFaults

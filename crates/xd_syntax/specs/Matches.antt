@@ -1,4 +1,5 @@
--- The matches of a program, each with what is in scope there, and the variables of their clauses. (This project's own rule.)
+-- The matches of a program, each with what is in scope there, and the variables of their clauses.
+-- (This project's own rule.)
 use Rattle.std.specs.Prelude.{◌≡◌, ℕ, Bool, not, ◌⊎◌, List, [], ◌∷◌, ◌++◌, filter}
 use Rattle.std.specs.Str.{bytes_eq}
 use Rattle.xd_base.specs.declared.Place.{Place}
@@ -56,7 +57,8 @@ MatchesOfFunctions P (f ∷ fs) ms = InTurn (MatchesOfFunction P f) (MatchesOfFu
 abbrev pub match_precedes : SeenMatch → SeenMatch → Bool
 match_precedes m n = is_earlier m.place n.place
 
--- these are the matches of the program that don't stand inside the body of a clause that isn't live, in order of place
+-- these are the matches of the program that don't stand inside the body of a clause that isn't
+-- live, in order of place
 pub record AreMatches (P : ProgramTree) (ms : List SeenMatch) : Type 0 where
   pub found : List SeenMatch
   pub all : MatchesOfFunctions P P.functions found

@@ -1,5 +1,6 @@
--- What an expression may be: the documents that its declared types and its matches let it be. (This project's own rule.)
--- Between the clauses of a match the first that takes a document counts; inside a pattern every whole way counts.
+-- What an expression may be: the documents that its declared types and its matches let it be. (This
+-- project's own rule.) Between the clauses of a match the first that takes a document counts;
+-- inside a pattern every whole way counts.
 use Rattle.std.specs.Prelude.{◌≡◌, ℕ, Bool, true, false, ◌⊎◌, List, [], ◌∷◌, map, Option, Some, None}
 use Rattle.std.specs.Str.{bytes_eq}
 use Rattle.xd_doc.specs.Document.{Document, empty, text, element, is_proper}
@@ -11,8 +12,8 @@ use Rattle.xd_syntax.specs.Ways.{Way, Among, IsWholeWay, Takes}
 use Rattle.xd_syntax.specs.Expression.{Expression, Nothing, Quoted, Variable, Tagged, Joined, Called, Matched, Clauses, no_clause, clause}
 use Rattle.xd_syntax.specs.Program.{Parameter, FunctionDefinition, ProgramTree, names_of, function_of}
 
--- What is in scope: a parameter with its declared type, or the variables of a clause, which has the scrutinee of its
--- match, the patterns before it, the last one first, and its own.
+-- What is in scope: a parameter with its declared type, or the variables of a clause, which has the
+-- scrutinee of its match, the patterns before it, the last one first, and its own.
 pub data Entry : Type 0 where
   parameter_entry : (name : List ℕ) (declared : PlacedTree) → Entry
   clause_entry : (scrutinee : Expression) (earlier : List PlacedTree) (pattern : PlacedTree) → Entry
@@ -44,7 +45,8 @@ Arrives E A earlier d = (is_proper d ≡ true) × A d × NoneTakes E earlier d
 abbrev pub IsLive : Definitions → (Document → Type 0) → List PlacedTree → PlacedTree → Type 0
 IsLive E A earlier P = (d : Document) × Arrives E A earlier d × Takes E (unplaced P) d
 
--- some whole way of the pattern, on a document that comes to the clause, binds the variable to the document
+-- some whole way of the pattern, on a document that comes to the clause, binds the variable to the
+-- document
 abbrev pub MayBind : Definitions → (Document → Type 0) → List PlacedTree → PlacedTree → List ℕ → Document → Type 0
 MayBind E A earlier P x d =
     (whole : Document) × (way : Way) × Arrives E A earlier whole × IsWholeWay E (unplaced P) whole way × Among (x, d) way.bindings
@@ -72,7 +74,8 @@ abbrev mutual
   MayBy P V (Called p f es) d = FitsResult (names_of P) (function_of P.functions f) d
   MayBy P V (Matched p e cs) d = MayByClauses P V (MayBy P V e) [] cs d
 
-  -- what the body of a live clause may be, where the scrutinee may be A and these patterns stand before
+  -- what the body of a live clause may be, where the scrutinee may be A and these patterns stand
+  -- before
   pub MayByClauses : ProgramTree → Allowance → (Document → Type 0) → List PlacedTree → Clauses → Document → Type 0
   MayByClauses P V A earlier no_clause d = ⊥
   MayByClauses P V A earlier (clause Q e cs) d =

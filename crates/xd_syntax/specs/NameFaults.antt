@@ -32,7 +32,8 @@ duplicates seen (s ∷ ss) = fault_if (has_word seen s.word) s.place (DuplicateN
 abbrev pub parameter_spots : List Parameter → List Spot
 parameter_spots ps = map (λ (p : Parameter). let s : Spot = record { word = p.name; place = p.place } in s) ps
 
--- Names of types, of functions and of parameters are separate. `String` and `Any` count as seen among types.
+-- Names of types, of functions and of parameters are separate. `String` and `Any` count as seen
+-- among types.
 abbrev pub duplicate_names : ProgramTree → List Fault
 duplicate_names p =
     duplicates (string_word ∷ (any_word ∷ [])) (map (λ (t : TypeDefinition). let s : Spot = record { word = t.name; place = t.place } in s) p.types)
@@ -68,33 +69,60 @@ lacking_somewhere A = filter (λ x. not (in_each_branch x A)) (variables A)
 abbrev pub without : List (List ℕ) → List (List ℕ) → List (List ℕ)
 without gone xs = filter (λ x. not (has_word gone x)) xs
 
--- Occurrences of variables that are not linear. `repeated`: a repetition or an option stands around. `earlier`: the
--- variables that occurred before and not in another branch of an alternative around both. `partial`: the variables whose
--- first occurrence in an alternative around comes now or later, and that a branch of that alternative lacks.
--- `inner`: an alternative is the rest of the one around it.
-abbrev pub not_linear : (repeated : Bool) (earlier partial : List (List ℕ)) (inner : Bool) → PlacedTree → List Fault
-not_linear r earlier partial inner (Elem_at p c T) = not_linear r earlier partial false T
-not_linear r earlier partial inner (Seq_at p T U) =
-    not_linear r earlier partial false T ++ not_linear r (variables T ++ earlier) (without (variables T) partial) false U
-not_linear r earlier partial inner (Alt_at p T U) =
-    let lacked : List (List ℕ) = cond inner partial (lacking_somewhere (Alt_at p T U) ++ partial) in
-    not_linear r earlier lacked false T ++ not_linear r earlier (without (variables T) lacked) true U
-not_linear r earlier partial inner (Star_at p T) = not_linear true earlier partial false T
-not_linear r earlier partial inner (Plus_at p T) = not_linear true earlier partial false T
-not_linear r earlier partial inner (Opt_at p T) = not_linear true earlier partial false T
-not_linear r earlier partial inner (Val_at p x q T) =
-    fault_if (r || (has_word earlier x || has_word partial x)) q (NotLinear x)
-    ++ not_linear r (x ∷ earlier) (without (x ∷ []) partial) false T
-not_linear r earlier partial inner _ = []
+-- an occurrence of a variable, and whether it is wrong by what was looked at
+pub record Occurrence : Type 0 where
+  pub word : List ℕ
+  pub place : Place
+  pub is_wrong : Bool
+
+abbrev pub occurrence : List ℕ → Place → Occurrence
+occurrence x p = record { word = x; place = p; is_wrong = false }
+
+abbrev pub wrong_if : Bool → Occurrence → Occurrence
+wrong_if b o = record o { is_wrong = o.is_wrong || b }
+
+-- the occurrences of these variables are wrong
+abbrev pub wrong_among : List (List ℕ) → List Occurrence → List Occurrence
+wrong_among xs os = map (λ (o : Occurrence). wrong_if (has_word xs o.word) o) os
+
+-- the first occurrence of each of these variables is wrong
+abbrev pub first_wrong : List (List ℕ) → List Occurrence → List Occurrence
+first_wrong xs [] = []
+first_wrong xs (o ∷ os) = wrong_if (has_word xs o.word) o ∷ first_wrong (without (o.word ∷ []) xs) os
+
+-- in an alternative the first occurrence of each variable that a branch lacks is wrong
+abbrev pub by_branches : PlacedTree → List Occurrence → List Occurrence
+by_branches (Alt_at p T U) os = first_wrong (lacking_somewhere (Alt_at p T U)) os
+by_branches T os = os
+
+-- The occurrences of variables in a pattern, in order, wrong where they stand under a repetition or
+-- an option, after another of the same variable but in another branch, or within an alternative as
+-- `by_branches` says. What an alternative lacks itself is left to the caller: its rest is an
+-- alternative, too, but not one of its own.
+abbrev pub occurrences_in : PlacedTree → List Occurrence
+occurrences_in (Elem_at p c T) = by_branches T (occurrences_in T)
+occurrences_in (Seq_at p T U) =
+    by_branches T (occurrences_in T) ++ wrong_among (variables T) (by_branches U (occurrences_in U))
+occurrences_in (Alt_at p T U) = by_branches T (occurrences_in T) ++ occurrences_in U
+occurrences_in (Star_at p T) = map (wrong_if true) (by_branches T (occurrences_in T))
+occurrences_in (Plus_at p T) = map (wrong_if true) (by_branches T (occurrences_in T))
+occurrences_in (Opt_at p T) = map (wrong_if true) (by_branches T (occurrences_in T))
+occurrences_in (Val_at p x q T) = occurrence x q ∷ wrong_among (x ∷ []) (by_branches T (occurrences_in T))
+occurrences_in _ = []
+
+-- the occurrences of variables that are not linear
+abbrev pub linearity_faults : PlacedTree → List Fault
+linearity_faults P = flat_map (λ (o : Occurrence). fault_if o.is_wrong o.place (NotLinear o.word)) (by_branches P (occurrences_in P))
 
 abbrev pub pattern_faults : List (List ℕ) → PlacedTree → List Fault
-pattern_faults known P = unknown_types known P ++ not_linear false [] [] false P
+pattern_faults known P = unknown_types known P ++ linearity_faults P
 
 abbrev pub argument_count : Arguments → ℕ
 argument_count no_argument = 0
 argument_count (argument e es) = argument_count es + 1
 
--- a call of no function, or with another number of arguments than the first function of the name wants
+-- a call of no function, or with another number of arguments than the first function of the name
+-- wants
 abbrev pub call_faults : Option FunctionDefinition → Place → List ℕ → ℕ → List Fault
 call_faults None p f given = fault_at p (UnknownFunction f) ∷ []
 call_faults (Some g) p f given = fault_if (not (nat_eq given (length g.parameters))) p (Arity f given (length g.parameters))

@@ -1,5 +1,5 @@
--- Types, patterns and programs whose words are spelled as words, whose texts have characters that UTF-8 can spell, and
--- whose classes are as they are built. Where a law needs that, it says so.
+-- Types, patterns and programs whose words are spelled as words, whose texts have characters that
+-- UTF-8 can spell, and whose classes are as they are built. Where a law needs that, it says so.
 use Rattle.std.specs.Prelude.{◌≡◌, Bool, true, false}
 use Rattle.std.specs.Str.{is_utf8}
 use Rattle.std.specs.List.{AllByRecursion}

@@ -1,5 +1,5 @@
--- Tables of nodes whose words are words, whose texts have characters that UTF-8 can spell, and whose classes are as they
--- are built.
+-- Tables of nodes whose words are words, whose texts have characters that UTF-8 can spell, and
+-- whose classes are as they are built.
 use Rattle.std.specs.Prelude.{◌≡◌, Bool, true, List}
 use Rattle.std.specs.Str.{is_utf8}
 use Rattle.std.specs.List.{AllByRecursion}

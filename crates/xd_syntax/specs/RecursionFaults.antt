@@ -13,7 +13,8 @@ use Rattle.xd_syntax.specs.NameFaults.{fault_at, name_faults}
 use Rattle.xd_syntax.specs.declared.fault.Fault.{Fault}
 use Rattle.xd_syntax.specs.declared.fault.FaultKind.TheVariants.{NotTail, Unguarded}
 
--- a use outside every label: the name, its place, whether it is a tail use, and the types that stand before it
+-- a use outside every label: the name, its place, whether it is a tail use, and the types that
+-- stand before it
 pub record Use : Type 0 where
   pub name : List ℕ
   pub place : Place
@@ -51,7 +52,8 @@ abbrev pub placed_body : List TypeDefinition → List ℕ → Option PlacedTree
 placed_body [] x = None
 placed_body (t ∷ ts) x = cond (bytes_eq t.name x) (Some t.body) (placed_body ts x)
 
--- a use of the second name outside every label of the definition of the first, which the fact allows
+-- a use of the second name outside every label of the definition of the first, which the fact
+-- allows
 abbrev pub UsesAtTop : ProgramTree → (Use → Type 0) → List ℕ → List ℕ → Type 0
 UsesAtTop P A x y = (T : PlacedTree) × (u : Use) × (placed_body P.types x ≡ Some T) × Among u (top_uses T) × (u.name ≡ y) × A u
 

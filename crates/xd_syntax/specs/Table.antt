@@ -51,7 +51,8 @@ trees_after ts (r ∷ rs) = trees_after (ts ++ form_tree (tree_in ts) r.form ∷
 unfoldable pub tree_at : List Row → ℕ → Tree
 tree_at rs i = tree_in (trees_after [] rs) i
 
--- A part is an older node. Nodes are merged: a sequence has no part that is a sequence or empty, an alternative none that is an alternative.
+-- A part is an older node. Nodes are merged: a sequence has no part that is a sequence or empty, an
+-- alternative none that is an alternative.
 abbrev pub IsSeqPart : List Row → ℕ → Type 0
 IsSeqPart rs i = (i < length rs) × ((is_seq (tree_at rs i) || is_empty (tree_at rs i)) ≡ false)
 

@@ -5,7 +5,8 @@ use Rattle.xd_doc.specs.Classes.{LabelClass, TextClass}
 use Rattle.xd_syntax.specs.Words.{any_word, has_word}
 
 -- A type or a pattern. A sequence or an alternative of more than two parts leans to the right.
--- `Text` is the type `String`, `Words` a class of texts; `Val` binds a variable, and stands in patterns alone.
+-- `Text` is the type `String`, `Words` a class of texts; `Val` binds a variable, and stands in
+-- patterns alone.
 pub data Tree : Type 0 where
   Empty : Tree
   Text : Tree

@@ -5,7 +5,8 @@ use Rattle.xd_doc.specs.Classes.{LabelClass, TextClass}
 use Rattle.xd_syntax.specs.Tree.{Tree, Empty, Text, Words, Name, Elem, Seq, Alt, Star, Plus, Opt, Val, is_empty}
 use Rattle.xd_syntax.specs.Words.{string_word}
 
--- what may stand without parentheses: any type; no alternative; no sequence besides; no postfix operator besides
+-- what may stand without parentheses: any type; no alternative; no sequence besides; no postfix
+-- operator besides
 pub data Level : Type 0 where
   any_type_level : Level
   sequence_level : Level

@@ -1,5 +1,6 @@
 -- The ways in which a pattern takes a prefix of a document, in order of preference
--- (Hosoya and Pierce, JFP 2003: first match; that a turn of a repetition takes something is this project's own).
+-- (Hosoya and Pierce, JFP 2003: first match; that a turn of a repetition takes something is this
+-- project's own).
 use Rattle.std.specs.Prelude.{◌≡◌, ℕ, suc, zero, ◌+◌, ◌*◌, nat_lt, Bool, true, not, cond, ◌⊎◌, List, [], ◌∷◌, ◌++◌, map, flat_map, Option, Some, None, length}
 use Rattle.xd_doc.specs.Document.{Document, empty, text, element, join, size, has_item}
 use Rattle.xd_doc.specs.Classes.{LabelClass, TextClass, class_has}
@@ -29,7 +30,8 @@ item_count empty = 0
 item_count (text s r) = item_count r + 1
 item_count (element l c r) = item_count r + 1
 
--- for each way that leaves a shorter rest, in order, those of the repetition on that rest; then that which takes nothing
+-- for each way that leaves a shorter rest, in order, those of the repetition on that rest; then
+-- that which takes nothing
 abbrev pub turns : (Document → List Way) → ℕ → Document → List Way
 turns V zero d = no_item_way d ∷ []
 turns V (suc k) d =
@@ -85,7 +87,8 @@ abbrev pub ways_of_definition : (Tree → Document → List Way) → Option Tree
 ways_of_definition F None d = []
 ways_of_definition F (Some T) d = F T d
 
--- those of a name are those of its definition with one unfolding fewer, and none without an unfolding
+-- those of a name are those of its definition with one unfolding fewer, and none without an
+-- unfolding
 abbrev pub ways_of_name : Definitions → ℕ → List ℕ → Document → List Way
 ways_of_name E zero x d = []
 ways_of_name E (suc n) x d = ways_of_definition (ways_by (ways_of_name E n)) (body E x) d

@@ -1,4 +1,5 @@
-//! Copies of what programs are made of, under the same numbers. Words, texts and classes are shared.
+//! Copies of what programs are made of, under the same numbers. Words, texts and classes are
+//! shared.
 
 ghost use Rattle.std.specs.Prelude.{◌≡◌, IfOk};
 ghost use Rattle.xd_syntax.specs.Types.{form_of};

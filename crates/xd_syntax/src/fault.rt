@@ -32,9 +32,11 @@ pub enum FaultKind {
     Unguarded(Label),
     /// Fault 12: a match, and a document that it may be given and that no clause takes.
     NotExhaustive(Seq),
-    /// Fault 13: an argument, and a document that it may be and that doesn't fit the parameter's type.
+    /// Fault 13: an argument, and a document that it may be and that doesn't fit the parameter's
+    /// type.
     Argument(Seq),
-    /// Fault 14: a function's body, and a document that it may be and that doesn't fit the result's type.
+    /// Fault 14: a function's body, and a document that it may be and that doesn't fit the result's
+    /// type.
     Result(Seq),
     /// Fault 15: a type's name, as a word of a command, that isn't defined.
     NoSuchName(Text),
@@ -49,7 +51,8 @@ pub struct Fault {
     pub kind: FaultKind,
 }
 
-/// A clause that is never reached, at the first token of its pattern, but for parentheses around it.
+/// A clause that is never reached, at the first token of its pattern, but for parentheses around
+/// it.
 #[derive(Clone, Copy, Debug, PartialEq, Eq)]
 pub struct Warning {
     pub place: Place,

@@ -37,7 +37,8 @@ pub enum FormView<'a, I: Copy> {
     Val(&'a Label, Place, I),
 }
 
-/// A node of a type or of a pattern, borrowed from its table: the place of its first token, what it is, and its parts in order.
+/// A node of a type or of a pattern, borrowed from its table: the place of its first token, what it
+/// is, and its parts in order.
 #[derive(Drop)]
 pub struct NodeView<'a, I: Copy> {
     pub place: Place,
@@ -47,8 +48,8 @@ pub struct NodeView<'a, I: Copy> {
 
 /// A table of nodes that can be read: types or patterns.
 ///
-/// A walker that treats both alike is written once, over this trait: it takes `nodes: &N` and an `id: N::Id`, looks at
-/// `nodes.view(id)`, and goes on with the `parts`, which are older nodes.
+/// A walker that treats both alike is written once, over this trait: it takes `nodes: &N` and an
+/// `id: N::Id`, looks at `nodes.view(id)`, and goes on with the `parts`, which are older nodes.
 pub trait Nodes {
     /// The number of a node.
     type Id: Copy;

@@ -32,8 +32,8 @@ impl FaultKind {
     }
 }
 
-/// Sorts faults by place, then by number; equal ones stay in their order. `NoMemory` where there is no room to sort
-/// them, and then nothing is said of their order.
+/// Sorts faults by place, then by number; equal ones stay in their order. `NoMemory` where there is
+/// no room to sort them, and then nothing is said of their order.
 pub fn sort_faults(faults: &mut Vec<Fault>) -> Result<(), NoMemory>
     ensures { OnOk result (faults.new.items ≡ in_order faults.old.items) }
 {

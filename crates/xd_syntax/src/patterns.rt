@@ -31,7 +31,8 @@ pub enum PatternForm {
     Name(Label),
     /// One element: the class of its label, and what its content fits.
     Elem(Class, PatternId),
-    /// `T,U`: its parts, one after the other. There are at least two, and none is a sequence or `()`.
+    /// `T,U`: its parts, one after the other. There are at least two, and none is a sequence or
+    /// `()`.
     Seq(Vec<PatternId>),
     /// `T|U`: one of its branches. There are at least two, and none is an alternative.
     Alt(Vec<PatternId>),
@@ -96,7 +97,8 @@ impl PatternId {
 }
 
 impl PatternForm {
-    /// Its words are words, and its class is as classes are built: what its parts say, for the proof alone.
+    /// Its words are words, and its class is as classes are built: what its parts say, for the
+    /// proof alone.
     fn see_words(&self)
         ensures { IsProperForm (form_of_pattern self.now) }
     {

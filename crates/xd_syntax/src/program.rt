@@ -162,8 +162,8 @@ impl Copied for Function {
 }
 
 impl Program {
-    /// A program of these tables. Each number in a definition, a function or an expression is that of a
-    /// node there, and no definition's name is a keyword.
+    /// A program of these tables. Each number in a definition, a function or an expression is that
+    /// of a node there, and no definition's name is a keyword.
     pub fn new(
         types: Types,
         patterns: Patterns,
@@ -188,8 +188,8 @@ impl Program {
         }
     }
 
-    /// Its words are words, its texts have characters that UTF-8 can spell, and its classes are as they are built. The call does nothing; its
-    /// contract is the law.
+    /// Its words are words, its texts have characters that UTF-8 can spell, and its classes are as
+    /// they are built. The call does nothing; its contract is the law.
     pub fn see_program(&self)
         ensures { IsProperProgram (program_tree self.now) }
     {

@@ -31,7 +31,8 @@ pub enum TypeForm {
     Name(Label),
     /// One element: the class of its label, and what its content fits.
     Elem(Class, TypeId),
-    /// `T,U`: its parts, one after the other. There are at least two, and none is a sequence or `()`.
+    /// `T,U`: its parts, one after the other. There are at least two, and none is a sequence or
+    /// `()`.
     Seq(Vec<TypeId>),
     /// `T|U`: one of its branches. There are at least two, and none is an alternative.
     Alt(Vec<TypeId>),
@@ -102,7 +103,8 @@ impl TypeId {
 }
 
 impl TypeForm {
-    /// Its words are words, and its class is as classes are built: what its parts say, for the proof alone.
+    /// Its words are words, and its class is as classes are built: what its parts say, for the
+    /// proof alone.
     fn see_words(&self)
         ensures { IsProperForm (form_of self.now) }
     {

@@ -30,7 +30,7 @@ use Rattle.xd_grammar.specs.declared.grammar.Terminal.TheVariants as t
 use Rattle.xd_grammar.specs.Grammar.{rules, IsOneOf}
 use Rattle.xd_grammar.specs.Text.{word_terminal}
 use Rattle.xd_parse_trees.specs.Merged.{class_of}
-use Rattle.xd_parse_trees.specs.Values.{quoted as a_quoted, mark, a_tree, names, texts, labels, class, labelled, token_of, any_word_value, named}
+use Rattle.xd_parse_trees.specs.Values.{quoted as a_quoted, mark, a_tree, names, texts, labels, class, labelled, token_of, value_of, named}
 use Rattle.xd_parse_trees.proofs.ByteOrder.{class_made}
 use Rattle.xd_type_laws.proofs.RowsReadLemmas.{Reads, read_end, read_token, read_opening, read_closed, read_alone, read_then, read_unless, same_bytes, starts_token}
 use Rattle.xd_type_laws.proofs.Levels.{Spells, prim, alt, behind_prim, behind_any}
@@ -86,9 +86,9 @@ all_texts_read = record { some = omega arith; front = refl; read = λ l d p rest
 -- ---- lists of labels, keywords among them
 record IsAnyWord (k : Terminal) (w : List ℕ) : Type 0 where
   one : IsOneOf (Token k ∷ []) (rules n.AnyWord)
-  value : (p : Place) → any_word_value (token_of k w p ∷ []) ≡ names (w ∷ [])
+  value : (p : Place) → value_of n.AnyWord (token_of k w p ∷ []) ≡ names (w ∷ [])
 
-keyword : (k : Terminal) (s w : List ℕ) → IsOneOf (Token k ∷ []) (rules n.AnyWord) → ((v : List ℕ) (p : Place) → any_word_value (token_of k v p ∷ []) ≡ names (s ∷ [])) → bytes_eq w s ≡ true → IsAnyWord k w
+keyword : (k : Terminal) (s w : List ℕ) → IsOneOf (Token k ∷ []) (rules n.AnyWord) → ((v : List ℕ) (p : Place) → value_of n.AnyWord (token_of k v p ∷ []) ≡ names (s ∷ [])) → bytes_eq w s ≡ true → IsAnyWord k w
 keyword k s w one v e = let f : w ≡ s = (bytes_eq-Decides w s).0 e in record { one = one; value = λ p. v w p ∙ ap (λ x. names (x ∷ [])) (sym f) }
 
 chosen : (b : Bool) (j k : Terminal) (w : List ℕ) → (b ≡ true → IsAnyWord j w) → IsAnyWord k w → IsAnyWord (cond b j k) w

@@ -16,7 +16,8 @@ past_joined : (p : Place) (s r : List ℕ) → past p (s ++ r) ≡ past (past p 
 past_joined p [] r = refl
 past_joined p (b ∷ bs) r = past_joined (after p b) bs r
 
--- before `rest`, the bytes s are read by the row from the place p on, where d levels are open before it and e behind
+-- before `rest`, the bytes s are read by the row from the place p on, where d levels are open
+-- before it and e behind
 abbrev pub Reads : (l d : ℕ) → Row → (e : ℕ) → Place → (s rest : List ℕ) → List Value → Type 0
 Reads l d row e p s rest vs = MeansAt l d row (tokens_from 0 p (s ++ rest)) (tokens_from 0 (past p s) rest) e vs
 

@@ -19,8 +19,9 @@ use Rattle.xd_grammar.specs.Text.{SpellsText}
 use Rattle.xd_parse_trees.specs.Means.{BytesSpellType}
 use Rattle.xd_type_laws.specs.ReadsBack.{AreReadBack}
 
--- Parts are merged: a sequence is of two or more, of which none is empty and only what leans to the right is a sequence; an
--- alternative likewise. No name is a keyword or `String`, and there are no binders.
+-- Parts are merged: a sequence is of two or more, of which none is empty and only what leans to the
+-- right is a sequence; an alternative likewise. No name is a keyword or `String`, and there are no
+-- binders.
 abbrev pub IsMerged : Tree → Type 0
 IsMerged Empty = Unit {0}
 IsMerged Text = Unit {0}
@@ -34,8 +35,8 @@ IsMerged (Plus T) = IsMerged T
 IsMerged (Opt T) = IsMerged T
 IsMerged (Val x T) = ⊥
 
--- The canonical text of this type spells a type that is this one, places aside. Where the type is no deeper than a text may
--- be nested, so it does within the limit.
+-- The canonical text of this type spells a type that is this one, places aside. Where the type is
+-- no deeper than a text may be nested, so it does within the limit.
 pub record IsReadBack (T : Tree) : Type 0 where
   pub placed : PlacedTree
   pub spelled : BytesSpellType (type_text T) placed

@@ -10,8 +10,8 @@ use Rattle.xd_grammar.specs.declared.grammar.Nonterminal.TheVariants as n
 use Rattle.xd_grammar.specs.Text.{SpellsText}
 use Rattle.xd_parse_trees.specs.Means.{BytesSpellProgram}
 
--- The text of these definitions spells a program of just these definitions, in order, places aside. Where none of the types
--- is deeper than a text may be nested, so it does within the limit.
+-- The text of these definitions spells a program of just these definitions, in order, places aside.
+-- Where none of the types is deeper than a text may be nested, so it does within the limit.
 pub record AreReadBack (ds : Definitions) : Type 0 where
   pub program : ProgramTree
   pub spelled : BytesSpellProgram (definitions_text ds) program

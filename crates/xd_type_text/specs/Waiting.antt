@@ -72,7 +72,8 @@ abbrev pub work : List Row → List Waiting → ℕ
 work rows [] = 0
 work rows (w ∷ ws) = piece_work rows w + work rows ws
 
--- A text is to be written: its front is appended, what is left of it waits before what waited, and that is less work than so much.
+-- A text is to be written: its front is appended, what is left of it waits before what waited, and
+-- that is less work than so much.
 pub record IsOpened (rows : List Row) (all : List ℕ) (most : ℕ) (old_out new_out : List ℕ) (old new : List Waiting) : Type 0 where
   pub written : new_out ++ waiting_text rows new ≡ old_out ++ (all ++ waiting_text rows old)
   pub belong : AllByRecursion (PieceBelongs rows) new

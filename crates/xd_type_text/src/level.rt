@@ -4,7 +4,8 @@ ghost use Rattle.std.specs.Prelude.{◌≡◌};
 ghost use Rattle.xd_syntax.specs.TypeText.{alternative_wants, sequence_wants, postfix_wants};
 ghost use Rattle.xd_type_text.specs.Waiting.{level_of, inner_level, last_level, mark_of};
 
-/// What may stand without parentheses: any type; no alternative; no sequence besides; no postfix operator besides.
+/// What may stand without parentheses: any type; no alternative; no sequence besides; no postfix
+/// operator besides.
 #[derive(Clone, Copy)]
 pub enum Level {
     Any,

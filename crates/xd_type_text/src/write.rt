@@ -19,7 +19,8 @@ use xd_syntax::{TypeForm, TypeId, Types};
 
 /// Appends the canonical text of a type: the shortest one, without spaces.
 ///
-/// Parts that are open stand on a stack of their own, so a type may nest to any depth. After `NoMemory` `out` is as it was.
+/// Parts that are open stand on a stack of their own, so a type may nest to any depth. After
+/// `NoMemory` `out` is as it was.
 pub fn type_text(
     alloc: Global,
     types: &Types,

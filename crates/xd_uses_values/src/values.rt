@@ -1,7 +1,8 @@
 //! From a program and a document to a value.
 
 ghost use Rattle.std.specs.Prelude.{◌≡◌, ◌≤◌, true, IfOk};
-ghost use Rattle.xd_doc.specs.Stored.{BelongsTo, document_at};
+ghost use Rattle.xd_doc.specs.Stored.{document_at};
+ghost use Rattle.xd_doc.specs.StoredSeq.{BelongsTo};
 ghost use Rattle.xd_doc.specs.StoreNodes.{Keeps};
 ghost use Rattle.xd_eval.specs.Evaluation.{IsEvaluated, IsInput};
 ghost use Rattle.xd_read.specs.Reading.{BytesSpell};

@@ -1,4 +1,5 @@
--- What a reading gives depends on the documents that come to the clause alone, and is nothing where none does.
+-- What a reading gives depends on the documents that come to the clause alone, and is nothing where
+-- none does.
 use Rattle.std.proofs.Common.{◌≡◌, ◌↔◌, ℕ, Bool, true, false, arith, List, [], ◌∷◌, ◌++◌, map, length, refl, ap, sym, subst, ◌∙◌, append-nil, append_assoc}
 use Rattle.std.specs.List.{All, AllZip}
 use Rattle.std.proofs.lemmas.List.Elements.{All-head, All-tail}

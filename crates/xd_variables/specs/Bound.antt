@@ -17,7 +17,8 @@ abbrev pub reading_of : Ways → Reading
 reading_of Whole = MayBind
 reading_of First = Prefers
 
--- the variable with its place, and a state that accepts exactly the proper documents that the reading gives it
+-- the variable with its place, and a state that accepts exactly the proper documents that the
+-- reading gives it
 pub record IsBound (B : Reading) (P : ProgramTree) (a : Automaton) (v : SeenVariable) (x : BoundVariable) : Type 0 where
   pub place : x.place ≡ v.place
   pub word : x.word ≡ v.variable

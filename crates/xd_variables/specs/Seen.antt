@@ -1,4 +1,5 @@
--- The variables of a program's clauses, each with what it takes to say what it may be. (This project's own rule.)
+-- The variables of a program's clauses, each with what it takes to say what it may be. (This
+-- project's own rule.)
 use Rattle.std.specs.Prelude.{◌≡◌, ℕ, Bool, List, [], ◌∷◌, ◌++◌, flat_map, map}
 use Rattle.xd_base.specs.declared.Place.{Place}
 use Rattle.xd_doc.specs.Document.{Document}
@@ -10,8 +11,9 @@ use Rattle.xd_syntax.specs.Order.{is_earlier, ordered}
 use Rattle.xd_syntax.specs.May.{May, Scope}
 use Rattle.xd_syntax.specs.Matches.{AreMatches, Occurrence, SeenMatch, first_occurrences, occurrences_in}
 
--- A variable of a clause: the place of its word where it stands first in the clause's pattern, what is in scope where the match
--- stands, the match's scrutinee, the patterns of the clauses before, the last one first, and the clause's own.
+-- A variable of a clause: the place of its word where it stands first in the clause's pattern, what
+-- is in scope where the match stands, the match's scrutinee, the patterns of the clauses before,
+-- the last one first, and the clause's own.
 pub record SeenVariable : Type 0 where
   pub place : Place
   pub variable : List ℕ
@@ -38,15 +40,15 @@ variables_of_match m = variables_of_clauses m.scope m.scrutinee [] m.clauses
 abbrev pub variable_precedes : SeenVariable → SeenVariable → Bool
 variable_precedes v w = is_earlier v.place w.place
 
--- These are the variables of all clauses of the program's matches, in order of place. Matches inside the bodies of clauses that
--- aren't live are left out.
+-- These are the variables of all clauses of the program's matches, in order of place. Matches
+-- inside the bodies of clauses that aren't live are left out.
 pub record AreSeenVariables (P : ProgramTree) (vs : List SeenVariable) : Type 0 where
   pub matches : List SeenMatch
   pub seen : AreMatches P matches
   pub ordered : vs ≡ ordered variable_precedes (flat_map variables_of_match matches)
 
--- What a pattern gives a variable, where the scrutinee may be so and these patterns stand before: `MayBind`, by any whole way, and
--- `Prefers`, by the first one, are such readings.
+-- What a pattern gives a variable, where the scrutinee may be so and these patterns stand before:
+-- `MayBind`, by any whole way, and `Prefers`, by the first one, are such readings.
 abbrev pub Reading : Type 1
 Reading = Definitions → (Document → Type 0) → List PlacedTree → PlacedTree → List ℕ → Document → Type 0
 

@@ -168,8 +168,8 @@ impl Reader {
         Ok(read.is_live)
     }
 
-    /// What the variables of a pattern may be, on documents that the state accepts: nothing where it
-    /// takes none of these.
+    /// What the variables of a pattern may be, on documents that the state accepts: nothing where
+    /// it takes none of these.
     fn givens(
         &self,
         pattern: &ClausePattern,

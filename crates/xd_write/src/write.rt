@@ -2,7 +2,8 @@
 
 ghost use Rattle.std.specs.Prelude.{◌≡◌, ◌++◌, ◌∷◌, [], OnOk, OnErr};
 ghost use Rattle.xd_doc.specs.Document.{canonical_text, items_text, comma_before};
-ghost use Rattle.xd_doc.specs.Stored.{document_at, BelongsTo};
+ghost use Rattle.xd_doc.specs.Stored.{document_at};
+ghost use Rattle.xd_doc.specs.StoredSeq.{BelongsTo};
 ghost use Rattle.xd_write.specs.Written.{AppendsPrefix};
 
 use crate::text::write_text;

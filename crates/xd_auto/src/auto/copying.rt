@@ -98,11 +98,11 @@ impl Reach {
     }
 }
 
-/// Finds the states that moves lead to from the first one on; contents count where `contents` is true.
-/// Copies are to stand from `base` on, in the order of the answer.
+/// Finds the states that moves lead to from the first one on; contents count where `contents` is
+/// true. Copies are to stand from `base` on, in the order of the answer.
 ///
-/// A worklist: the states that were found wait in the order of the answer. It costs what is reached,
-/// however many states the automaton has.
+/// A worklist: the states that were found wait in the order of the answer. It costs what is
+/// reached, however many states the automaton has.
 pub fn reach_from(
     alloc: Global,
     auto: &Auto,

@@ -56,15 +56,15 @@ pub trait Step<N: Name> {
         ensures { has_others self.now ≡ false → (x : N) → takes_name self.now x ≡ true → list_any (λ name. is_eq (N.cmp name x)) result.now ≡ true };
 }
 
-/// A state with fewer moves on an element, or on a text, has none of them in its index: to walk them is
-/// faster.
+/// A state with fewer moves on an element, or on a text, has none of them in its index: to walk
+/// them is faster.
 const LEAST_INDEXED: usize = 8;
 
 /// The first moves of a state, so many, by the names of their classes.
 ///
-/// The moves whose class names a label or text stand under it, and `others` has those whose class has
-/// all but some; both in their order. A list may also have numbers of moves that don't belong there,
-/// where memory was wanting before.
+/// The moves whose class names a label or text stand under it, and `others` has those whose class
+/// has all but some; both in their order. A list may also have numbers of moves that don't belong
+/// there, where memory was wanting before.
 #[derive(Debug, Drop)]
 pub struct Index<N: Ord> {
     pub count: usize,

@@ -10,7 +10,8 @@ use super::{Auto, LabelMove, State, TextMove};
 use std::alloc::Global;
 use xd_doc::NoMemory;
 
-/// A move of one of the two kinds: on an element, which takes labels, or on a text, which takes texts.
+/// A move of one of the two kinds: on an element, which takes labels, or on a text, which takes
+/// texts.
 pub trait Move {
     /// Those of this kind among a state's moves.
     ghost moves_in: { StateMoves → List Self };
@@ -24,8 +25,9 @@ pub trait Move {
         ensures value { result.now ≡ moves_in (moves_at auto.now state) }
         ensures closed { LeadsBelow (length auto.now) (moves_at auto.now state) };
 
-    /// The numbers, in order, of those of a state's moves that may share a name with this one: of those
-    /// that take one of the names of its class, or of all where its class has all names but some.
+    /// The numbers, in order, of those of a state's moves that may share a name with this one: of
+    /// those that take one of the names of its class, or of all where its class has all names but
+    /// some.
     ///
     /// Moves on the names of the class are found as [`Auto::next_label_move`] finds them.
     fn matching(&self, alloc: Global, auto: &Auto, state: State) -> Result<Vec<usize>, NoMemory>
@@ -63,8 +65,8 @@ impl Move for TextMove {
     }
 }
 
-/// The numbers, in order, of the moves that may share a name with a move: of those that take one of the
-/// names of its class, or of all where its class has all but some.
+/// The numbers, in order, of the moves that may share a name with a move: of those that take one of
+/// the names of its class, or of all where its class has all but some.
 pub fn matching_numbers<N: Name, M: Step<N>>(
     alloc: Global,
     index: &Index<N>,

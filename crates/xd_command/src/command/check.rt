@@ -46,7 +46,8 @@ fn verdict(alloc: Global, store: &Store, outcome: &CheckOutcome) -> Result<Outpu
 
 /// The faults and warnings of a program that isn't accepted, in order.
 ///
-/// What is written has fewer than 2^63 bytes, since it stands in a vector; so the documents that faults carry are least ones.
+/// What is written has fewer than 2^63 bytes, since it stands in a vector; so the documents that
+/// faults carry are least ones.
 pub fn refusal(
     alloc: Global,
     store: &Store,

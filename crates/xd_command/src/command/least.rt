@@ -21,7 +21,8 @@ use xd_sound::SoundProgram;
 
 /// A least document of the state, or that it accepts none.
 ///
-/// What is written has fewer than 2^63 items, since it stands in a vector; so it is a least document.
+/// What is written has fewer than 2^63 items, since it stands in a vector; so it is a least
+/// document.
 fn least_of(alloc: Global, auto: &Auto, state: State) -> Result<Output, NoMemory>
     requires { IsState auto.now state }
     ensures { IfOk result (TellsLeast auto.now state) }

@@ -72,7 +72,8 @@ fn minus_named(
     Ok(show_difference(alloc, sound, one, other)?)
 }
 
-/// Definitions of types that show the documents of the one type of the program of this file that aren't of the other.
+/// Definitions of types that show the documents of the one type of the program of this file that
+/// aren't of the other.
 pub fn minus<H: Shelf>(
     alloc: Global,
     file: &str,

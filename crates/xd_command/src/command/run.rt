@@ -2,7 +2,8 @@
 
 ghost use Rattle.std.specs.Prelude.{◌≡◌, ◌≤◌, Some, IfOk};
 ghost use Rattle.xd_base.specs.Outside.{HasRisen};
-ghost use Rattle.xd_doc.specs.Stored.{BelongsTo, document_at};
+ghost use Rattle.xd_doc.specs.Stored.{document_at};
+ghost use Rattle.xd_doc.specs.StoredSeq.{BelongsTo};
 ghost use Rattle.xd_doc.specs.StoreNodes.{Keeps};
 ghost use Rattle.xd_syntax.specs.Kept.{AddsTypes, program_tree};
 ghost use Rattle.xd_syntax.specs.CheckFaults.{IsAccepted};
@@ -51,7 +52,8 @@ pub fn accept(alloc: Global, sound: SoundProgram) -> Result<(Option<(Auto, State
 
 /// The program, where it is accepted; else its faults.
 ///
-/// What is written has fewer than 2^63 bytes, since it stands in a vector; so the documents that faults carry are least ones.
+/// What is written has fewer than 2^63 bytes, since it stands in a vector; so the documents that
+/// faults carry are least ones.
 fn accepted(alloc: Global, sound: SoundProgram) -> Result<Checked, Stop>
     ensures { DoesStep result (EndsAtLines (program_tree sound)) (λ checked. program_tree checked ≡ program_tree sound) }
 {
@@ -67,8 +69,8 @@ fn accepted(alloc: Global, sound: SoundProgram) -> Result<Checked, Stop>
     }
 }
 
-/// The value of the accepted program on a document, and the calls that it took, where the state accepts exactly what fits its
-/// input type.
+/// The value of the accepted program on a document, and the calls that it took, where the state
+/// accepts exactly what fits its input type.
 pub fn value_on(
     alloc: Global,
     checked: &Checked,

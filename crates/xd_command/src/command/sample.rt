@@ -2,7 +2,8 @@
 
 ghost use Rattle.std.specs.Prelude.{◌≡◌, ◌≤◌, ◌++◌, true, length, Some, IfOk, decimal};
 ghost use Rattle.xd_doc.specs.Document.{canonical_text, empty};
-ghost use Rattle.xd_doc.specs.Stored.{BelongsTo, document_at};
+ghost use Rattle.xd_doc.specs.Stored.{document_at};
+ghost use Rattle.xd_doc.specs.StoredSeq.{BelongsTo};
 ghost use Rattle.xd_doc.specs.StoreNodes.{Keeps};
 ghost use Rattle.xd_doc.specs.Word.{is_word};
 ghost use Rattle.xd_syntax.specs.Kept.{program_tree};
@@ -135,8 +136,8 @@ fn sample_program(alloc: Global, sound: SoundProgram, persons: u64) -> Result<Ou
 
 /// Makes a document of so many persons, checks the telephone program, and runs it on them.
 ///
-/// None of the answers of `check` and `run` to other programs or documents comes: no fault, no document outside the input
-/// type, and no spent fuel.
+/// None of the answers of `check` and `run` to other programs or documents comes: no fault, no
+/// document outside the input type, and no spent fuel.
 pub fn sample(alloc: Global, persons: u64) -> Result<Output, Stop>
     requires { persons ≤ sample_limit }
     ensures { DoesAll result (AnswersSample persons) }

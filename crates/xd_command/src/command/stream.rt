@@ -22,7 +22,8 @@ use xd_doc::NoMemory;
 use xd_sound::SoundProgram;
 use xd_stream::{Stream, StreamError};
 
-/// Whether the bytes spell a document that the state accepts, fed in pieces of this length; else where they stop.
+/// Whether the bytes spell a document that the state accepts, fed in pieces of this length; else
+/// where they stop.
 fn feed_all(
     alloc: Global,
     auto: Auto,
@@ -98,8 +99,8 @@ fn stream_program<H: Shelf>(
     stream_file(alloc, auto, state, document, piece, shelf)
 }
 
-/// Whether the bytes of this file spell a document of the type of this name in the program of that file, fed in pieces of
-/// this length; else where they stop.
+/// Whether the bytes of this file spell a document of the type of this name in the program of that
+/// file, fed in pieces of this length; else where they stop.
 pub fn stream<H: Shelf>(
     alloc: Global,
     file: &str,

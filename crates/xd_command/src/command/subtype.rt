@@ -3,7 +3,8 @@
 ghost use Rattle.std.specs.Prelude.{◌≡◌, IfOk, OnOk};
 ghost use Rattle.xd_auto.specs.Automaton.{IsState};
 ghost use Rattle.xd_base.specs.Outside.{HasRisen};
-ghost use Rattle.xd_doc.specs.Stored.{BelongsTo, document_at};
+ghost use Rattle.xd_doc.specs.Stored.{document_at};
+ghost use Rattle.xd_doc.specs.StoredSeq.{BelongsTo};
 ghost use Rattle.xd_goals.specs.Reached.{IsSettled};
 ghost use Rattle.xd_goals.specs.Rows.{row_at};
 ghost use Rattle.xd_goals.specs.Standing.{StandsOnAutomaton};
@@ -100,10 +101,11 @@ fn prove_goal(
     Ok(Output::success(text))
 }
 
-/// A least document of those that the one state accepts and the other doesn't, where one of these is
-/// known.
+/// A least document of those that the one state accepts and the other doesn't, where one of these
+/// is known.
 ///
-/// What is written has fewer than 2^63 items, since it stands in a vector; so it is a least document.
+/// What is written has fewer than 2^63 items, since it stands in a vector; so it is a least
+/// document.
 fn separate(
     alloc: Global,
     auto: &Auto,
@@ -124,7 +126,8 @@ fn separate(
     Ok(output)
 }
 
-/// Whether every document that the one state accepts is accepted by the other: a proof, or a least document that the one alone accepts.
+/// Whether every document that the one state accepts is accepted by the other: a proof, or a least
+/// document that the one alone accepts.
 fn compare_states(
     alloc: Global,
     sound: &mut SoundProgram,
@@ -148,8 +151,8 @@ fn compare_states(
     }
 }
 
-/// Whether every document of the one type is one of the other: a proof, or a document of the one alone. The cells and the
-/// automaton get the states of both.
+/// Whether every document of the one type is one of the other: a proof, or a document of the one
+/// alone. The cells and the automaton get the states of both.
 fn compare_in(
     alloc: Global,
     sound: &mut SoundProgram,

@@ -44,8 +44,8 @@ fn types_of(alloc: Global, sound: SoundProgram, ways: Ways) -> Result<Output, St
     Ok(Output::success(text))
 }
 
-/// What each variable of the clauses of the program of this file may be, in blocks, where the program is accepted; else its
-/// faults and warnings.
+/// What each variable of the clauses of the program of this file may be, in blocks, where the
+/// program is accepted; else its faults and warnings.
 pub fn types<H: Shelf>(alloc: Global, file: &str, ways: Ways, shelf: &mut H) -> Result<Output, Stop>
     ensures { DoesAll result (Step (EndsAtProgram (H.holds shelf.old) (HasRisen (H.faults shelf.old) (H.faults shelf.new)) file.now) (IsProgram (H.holds shelf.old) file.now) (AnswersTypes (reading_of ways))) }
 {

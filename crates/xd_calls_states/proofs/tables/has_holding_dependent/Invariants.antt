@@ -1,5 +1,5 @@
 use Rattle.std.proofs.Common.{length}
-use Rattle.xd_doc.specs.Stored.{IsBelow}
+use Rattle.xd_doc.specs.StoredSeq.{IsBelow}
 use Rattle.xd_goals.proofs.IsWokenRowLemmas.{steps_left}
 use Rattle.xd_calls_states.proofs.tables.has_holding_dependent.Given as goal
 

@@ -1,11 +1,13 @@
 use Rattle.xd_check.specs.declared.lines.Finding.TheVariants.{NotExhaustive}
 use Rattle.xd_doc.specs.declared.store.Seq.{Seq}
-use Rattle.xd_doc.specs.Stored.{BelongsTo, document_at}
+use Rattle.xd_doc.specs.Stored.{document_at}
+use Rattle.xd_doc.specs.StoredSeq.{BelongsTo}
 use Rattle.xd_doc.specs.Document.{Document}
 use Rattle.xd_check.proofs.Lists.{if_some}
 use Rattle.std.proofs.lemmas.Result.{IfOk-from_err}
-use Rattle.std.proofs.Common.{◌^◌, Ok, ap, refl, List}
+use Rattle.std.proofs.Common.{Ok, ap, refl, List}
 use Rattle.xd_doc.specs.LeastUpTo.{IsLeastUpTo}
+use Rattle.xd_least.specs.Least.{size_limit}
 use Rattle.xd_syntax.specs.CheckFaults.{not_exhaustive}
 use Rattle.xd_clauses.specs.Clauses.{Accepted}
 use Rattle.xd_check.proofs.GrowsLemmas.{grows_none}
@@ -21,7 +23,7 @@ returns-in_ok-push c =
           let seq : Seq = c.in-Some.document in
           let f = c.in_ok-found.ensures in
           let there : BelongsTo ds seq = if_some (BelongsTo ds) c.in_ok-found.found seq c.in-Some.is f.belongs in
-          let taken = if_some (λ q. IsLeastUpTo (2 ^ 63) (Accepted c.args.auto.now c.args.arriving) (document_at ds q)) c.in_ok-found.found seq c.in-Some.is f.least in
+          let taken = if_some (λ q. IsLeastUpTo size_limit (Accepted c.args.auto.now c.args.arriving) (document_at ds q)) c.in_ok-found.found seq c.in-Some.is f.least in
           adds_where ds c.args.place (Accepted c.args.auto.now c.args.arriving) c.args.lines.now.items c.push.new.self.items (NotExhaustive seq) seq c.in_ok-push.ensures.items there refl there taken;
       known =
           let e = c.in_ok-found.ensures in

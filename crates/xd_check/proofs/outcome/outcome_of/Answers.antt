@@ -1,6 +1,7 @@
-use Rattle.std.proofs.Common.{◌≡◌, ◌^◌, [], ap, sym, subst, ◌∙◌, vec_len, arith, rules}
+use Rattle.std.proofs.Common.{◌≡◌, [], ap, sym, subst, ◌∙◌, vec_len, arith, rules}
 use Rattle.std.proofs.lemmas.List.{nil_from_length}
 use Rattle.std.proofs.lemmas.Bool.Decides.{nat_tests}
+use Rattle.xd_least.specs.Least.{size_limit}
 use Rattle.xd_syntax.specs.Kept.{AddsTypes, ProgramTable, program_tree}
 use Rattle.xd_laws.proofs.LeastLines.{lines_without_fault}
 use Rattle.xd_check.proofs.Outcomes.{no_fault, some_fault}
@@ -16,11 +17,11 @@ new-requires c =
     let none : v.items ≡ [] = nil_from_length v.items (let t = sym c.is_empty.ensures ∙ c.if-not-is_empty.false in let z : vec_len v ≡ 0 = grind (arith, nat_tests) in search rules) in
     let t = c.requires.1 in
     let accepted = no_fault c.requires.0 t.0 v.items t.2 none in
-    (t.0, lines_without_fault (2 ^ 63) (program_tree c.args.sound) t.0 accepted t.1, accepted)
+    (t.0, lines_without_fault size_limit (program_tree c.args.sound) t.0 accepted t.1, accepted)
 
 pub returns : goal.returns
 returns c = λ given ds t adds same.
     let v = c.args.told.faults in
     let none : v.items ≡ [] = nil_from_length v.items (let t = sym c.is_empty.ensures ∙ c.if-not-is_empty.false in let z : vec_len v ≡ 0 = grind (arith, nat_tests) in search rules) in
     let accepted = no_fault ds t.0 v.items t.2 none in
-    (t.0, lines_without_fault (2 ^ 63) (program_tree given) t.0 accepted t.1, accepted, t.3, subst (λ (p : ProgramTable). AddsTypes given p) (sym c.new.ensures) adds, ap program_tree c.new.ensures ∙ same)
+    (t.0, lines_without_fault size_limit (program_tree given) t.0 accepted t.1, accepted, t.3, subst (λ (p : ProgramTable). AddsTypes given p) (sym c.new.ensures) adds, ap program_tree c.new.ensures ∙ same)

@@ -6,8 +6,9 @@ use Rattle.xd_auto.specs.declared.auto.State.{State}
 use Rattle.std.specs.Result.{IsErr}
 use Rattle.xd_rules.specs.Members.{SomeOf}
 use Rattle.xd_goals.specs.Verdicts.{IsVerdict}
-use Rattle.std.proofs.Common.{[], ◌∷◌, inl, inr, refl, subst, ◌≡◌, ◌^◌, ◌∙◌, Bool, Ok, Err, Some, None, Option, Result, true, false, sym}
+use Rattle.std.proofs.Common.{[], ◌∷◌, inl, inr, refl, subst, ◌≡◌, ◌∙◌, Bool, Ok, Err, Some, None, Option, Result, true, false, sym}
 use Rattle.std.proofs.lemmas.Result.{IfOk-from_err}
+use Rattle.xd_least.specs.Least.{size_limit}
 use Rattle.xd_apart.specs.Apart.{IsApart}
 use Rattle.xd_apart.proofs.ApartLemmas.{up_to_equal}
 use Rattle.xd_check.specs.Walked.{IsMisfit}
@@ -53,8 +54,8 @@ returns-in-Included c =
     }
 
 -- what separates the states, as the checker says it
-misfit_least : (a : Automaton) (s t : State) (d : Document) → IsLeastUpTo (2 ^ 63) (IsApart a s t) d → IsLeastUpTo (2 ^ 63) (IsMisfit a s t) d
-misfit_least a s t d h = up_to_equal (2 ^ 63) (IsApart a s t) (IsMisfit a s t) d (λ e k. (k.accepted, λ y. not_both (accepts a e t) y k.refused)) (λ e m. record { accepted = m.0; refused = false_if (accepts a e t) m.1 }) h
+misfit_least : (a : Automaton) (s t : State) (d : Document) → IsLeastUpTo size_limit (IsApart a s t) d → IsLeastUpTo size_limit (IsMisfit a s t) d
+misfit_least a s t d h = up_to_equal size_limit (IsApart a s t) (IsMisfit a s t) d (λ e k. (k.accepted, λ y. not_both (accepts a e t) y k.refused)) (λ e m. record { accepted = m.0; refused = false_if (accepts a e t) m.1 }) h
   where
     not_both : (b : Bool) → b ≡ true → b ≡ false → ⊥
     not_both b x y = (let no : true ≡ false = sym x ∙ y in cc)

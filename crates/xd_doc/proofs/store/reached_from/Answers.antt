@@ -5,7 +5,7 @@ use Rattle.std.proofs.lemmas.Bool.{cases_lt}
 use Rattle.std.proofs.lemmas.List.{get_or_default}
 use Rattle.std.proofs.lemmas.List.Elements.{All-contains, Contains-push, Contains-append_left}
 use Rattle.std.proofs.lemmas.List.Sorted.{le_from_greatest}
-use Rattle.xd_doc.specs.Stored.{IsBelow}
+use Rattle.xd_doc.specs.StoredSeq.{IsBelow}
 use Rattle.xd_doc.specs.StoreNodes.{documents}
 use Rattle.xd_doc.proofs.StoredLemmas.{stands_in}
 use Rattle.xd_doc.proofs.CopyLemmas.{IsLast, none_contained, closed_push, closed_still, closed_twice, last_contained, last_length, met_still, size_node, size_some, takes, waits}

@@ -1,6 +1,6 @@
 use Rattle.std.proofs.Common.{◌≡◌, ◌+◌, ◌-◌, [], ◌∷◌, ◌++◌, ap, sym, subst, ◌∙◌}
 use Rattle.std.specs.List.{AllByRecursion}
-use Rattle.xd_doc.specs.Stored.{BelongsTo}
+use Rattle.xd_doc.specs.StoredSeq.{BelongsTo}
 use Rattle.xd_syntax.specs.ExpressionTable.{shape_at}
 use Rattle.xd_syntax.specs.Kept.{ProgramTable}
 use Rattle.xd_eval.specs.Functions.{row_of}

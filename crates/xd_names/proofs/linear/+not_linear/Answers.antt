@@ -6,7 +6,8 @@ use Rattle.xd_syntax.specs.Patterns.{pattern_numbers}
 use Rattle.xd_syntax.specs.Nodes.{view_form}
 use Rattle.xd_syntax.specs.Placed.{PlacedTree, variables}
 use Rattle.xd_syntax.specs.PlacedTable.{placed_at}
-use Rattle.xd_syntax.specs.NameFaults.{fault_if, not_linear}
+use Rattle.xd_syntax.specs.NameFaults.{fault_if}
+use Rattle.xd_syntax.specs.NotLinear.{not_linear}
 use Rattle.xd_syntax.specs.declared.patterns.PatternId.{PatternId}
 use Rattle.xd_syntax.specs.declared.fault.Fault.{Fault}
 use Rattle.xd_syntax.specs.declared.fault.FaultKind.TheVariants.{NotLinear}

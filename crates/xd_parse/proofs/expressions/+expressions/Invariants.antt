@@ -3,7 +3,8 @@ use Rattle.xd_syntax.specs.Exprs.{expr_numbers, clause_numbers}
 use Rattle.xd_parse.proofs.Readers.{ReadItems, ReadArguments, ReadClauses}
 use Rattle.xd_parse.proofs.expressions.+expressions.Given as goal
 
--- the tokens that are left, and then the order in which the functions call one another on the same tokens
+-- the tokens that are left, and then the order in which the functions call one another on the same
+-- tokens
 abbrev pub decreases-read_expr : goal.decreases-read_expr
 decreases-read_expr l = length l.cursor.now * 8 + 4
 

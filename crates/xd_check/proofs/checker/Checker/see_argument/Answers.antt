@@ -1,13 +1,15 @@
 use Rattle.xd_check.proofs.GrowsLemmas.{keeps_same}
 use Rattle.std.proofs.lemmas.Result.{IfOk-from_err}
-use Rattle.std.proofs.Common.{◌≡◌, ◌^◌, List, [], ◌∷◌, ◌++◌, get_or, Ok, refl, ap, sym, subst, ◌∙◌}
+use Rattle.std.proofs.Common.{◌≡◌, List, [], ◌∷◌, ◌++◌, get_or, Ok, refl, ap, sym, subst, ◌∙◌}
 use Rattle.std.specs.Option.{IfSome}
 use Rattle.xd_base.specs.declared.Place.{Place}
 use Rattle.xd_doc.specs.Document.{Document}
 use Rattle.xd_doc.specs.LeastUpTo.{IsLeastUpTo}
-use Rattle.xd_doc.specs.Stored.{BelongsTo, document_at}
+use Rattle.xd_doc.specs.Stored.{document_at}
+use Rattle.xd_doc.specs.StoredSeq.{BelongsTo}
 use Rattle.xd_doc.specs.declared.store.Seq.{Seq}
 use Rattle.xd_auto.specs.Automaton.{IsState}
+use Rattle.xd_least.specs.Least.{size_limit}
 use Rattle.xd_syntax.specs.Expression.{place_of_expression}
 use Rattle.xd_syntax.specs.CheckFaults.{wrong_argument}
 use Rattle.xd_check.specs.declared.lines.Finding.TheVariants.{Argument}
@@ -27,8 +29,8 @@ returns-in_ok-push c =
           let seq : Seq = c.in-Some.document in
           let old : List FoundLine = c.args.lines.now.items in
           let e = c.in_ok-document.ensures in
-          let taken : IsLeastUpTo (2 ^ 63) (IsMisfit c.args.auto.now c.args.state (get_or c.args.parameters.now c.args.number (record { number = 0 }))) (document_at ds seq)
-          = subst (λ o. IfSome o (λ q. IsLeastUpTo (2 ^ 63) (IsMisfit c.args.auto.now c.args.state (get_or c.args.parameters.now c.args.number (record { number = 0 }))) (document_at ds q))) c.in-Some.is e.least in
+          let taken : IsLeastUpTo size_limit (IsMisfit c.args.auto.now c.args.state (get_or c.args.parameters.now c.args.number (record { number = 0 }))) (document_at ds seq)
+          = subst (λ o. IfSome o (λ q. IsLeastUpTo size_limit (IsMisfit c.args.auto.now c.args.state (get_or c.args.parameters.now c.args.number (record { number = 0 }))) (document_at ds q))) c.in-Some.is e.least in
           let there : BelongsTo ds seq = subst (λ o. IfSome o (BelongsTo ds)) c.in-Some.is e.belongs in
           subst (λ o. AddsLines ds (LinesOfArgument c.args.auto.now (place_of_expression (expr_at c.args.self.now.sound c.args.argument.at)) c.args.state o) old c.push.new.self.items)
           (sym (got_at c.args.parameters.now c.args.number (record { number = 0 }) c.if-number-parameters.false))

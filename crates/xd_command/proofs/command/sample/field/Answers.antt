@@ -2,7 +2,8 @@ use Rattle.std.proofs.Common.{◌≡◌, ◌++◌, refl, sym, ap, subst, ◌∙�
 use Rattle.std.proofs.lemmas.Result.{IfOk-from_err, IfOk-weaker}
 use Rattle.std.specs.Fmt.{decimal}
 use Rattle.xd_doc.specs.Document.{empty, text, element}
-use Rattle.xd_doc.specs.Stored.{BelongsTo, document_at}
+use Rattle.xd_doc.specs.Stored.{document_at}
+use Rattle.xd_doc.specs.StoredSeq.{BelongsTo}
 use Rattle.xd_check.proofs.GrowsLemmas.{keeps_same, keeps_then}
 use Rattle.xd_command.proofs.command.sample.field.Goals as goal
 

@@ -1,6 +1,7 @@
 use Rattle.std.proofs.Common.{◌≡◌}
 use Rattle.xd_doc.specs.Document.{empty}
-use Rattle.xd_doc.specs.Stored.{BelongsTo, document_at}
+use Rattle.xd_doc.specs.Stored.{document_at}
+use Rattle.xd_doc.specs.StoredSeq.{BelongsTo}
 use Rattle.xd_doc.specs.StoreNodes.{Keeps}
 use Rattle.xd_command_sample.specs.Persons.{persons_to}
 use Rattle.xd_command.proofs.command.sample.sample_document.Given as goal

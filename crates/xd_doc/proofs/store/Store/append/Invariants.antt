@@ -2,7 +2,8 @@ use Rattle.std.proofs.Common.{◌≡◌, ◌+◌, ◌≤◌, length, vec_len}
 use Rattle.std.specs.List.{AllByRecursion}
 use Rattle.xd_doc.specs.Document.{join}
 use Rattle.xd_doc.specs.DocumentCode.{breadth}
-use Rattle.xd_doc.specs.Stored.{document_at, BelongsTo}
+use Rattle.xd_doc.specs.Stored.{document_at}
+use Rattle.xd_doc.specs.StoredSeq.{BelongsTo}
 use Rattle.xd_doc.specs.StoreNodes.{Keeps, firsts_then}
 use Rattle.xd_doc.proofs.store.Store.append.Given as goal
 

@@ -1,7 +1,8 @@
 use Rattle.std.proofs.Common.{◌≡◌, ◌+◌, ◌-◌, ◌<◌, ℕ, suc, drop, length, arith, rules, ap, subst, refl, get_or}
 use Rattle.xd_doc.specs.Document.{join}
 use Rattle.xd_doc.specs.DocumentCode.{breadth}
-use Rattle.xd_doc.specs.Stored.{BelongsTo, document_at}
+use Rattle.xd_doc.specs.Stored.{document_at}
+use Rattle.xd_doc.specs.StoredSeq.{BelongsTo}
 use Rattle.xd_doc.specs.StoreNodes.{breadth_before_last, joined_at, no_items}
 use Rattle.xd_doc.proofs.StoredLemmas.{Keeps-same, Keeps-trans, belongs_in, breadth_drop, breadth_more, joined_last, joined_more}
 use Rattle.xd_doc.proofs.store.Store.join.Goals as goal

@@ -1,5 +1,6 @@
 use Rattle.std.proofs.Common.{◌≡◌, ◌+◌, ◌<◌, ◌≤◌, drop, length}
-use Rattle.xd_doc.specs.Stored.{document_at, BelongsTo}
+use Rattle.xd_doc.specs.Stored.{document_at}
+use Rattle.xd_doc.specs.StoredSeq.{BelongsTo}
 use Rattle.xd_doc.specs.StoreNodes.{Keeps, joined_at, breadth_before_last}
 use Rattle.xd_doc.proofs.store.Store.join.Given as goal
 
