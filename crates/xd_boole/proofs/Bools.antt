@@ -189,3 +189,7 @@ part_class true true k = refl
 part_class true false k = refl
 part_class false true k = refl
 part_class false false k = refl
+
+pub and_where : (x y z : Bool) → (x ≡ true → y ≡ z) → (x && y) ≡ (x && z)
+and_where true y z e = e refl
+and_where false y z e = refl

@@ -18,3 +18,4 @@ pub mod IsRedirectedLemmas
 pub mod TwinLemmas
 pub mod ClassLemmas
 pub mod RefusalLemmas
+pub mod DisjointLemmas

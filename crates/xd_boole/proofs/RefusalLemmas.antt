@@ -261,8 +261,3 @@ module _ (a : Automaton) (universal : List Bool) (u : MarkUniversal a universal)
           (λ has there. parts.inside a u q there ∙ narrows.refused a u q has) (λ has there. parts.outside a u q there ∙ narrows.refused a u q has);
       states = λ h. second.states (first.states h);
     }
-
--- where no move was refused yet
-pub refused_where : (h x y : Bool) → (h ≡ true → x ≡ y) → (h && (true && not x)) ≡ (h && not y)
-refused_where true x y e = ap not (e refl)
-refused_where false x y e = refl

@@ -6,3 +6,4 @@ pub mod Points
 pub mod Placing
 pub mod Merging
 pub mod Refusals
+pub mod Disjoint

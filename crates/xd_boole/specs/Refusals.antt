@@ -78,9 +78,7 @@ pub record AddsRefusals (a : Automaton) (class : LabelClass) (choices : List Sid
   pub taken : (q : ElementFirst) → any_refused a q new ≡ (any_refused a q old || (class_has class q.label && is_refused_by a q choices moves))
   pub states : AllRefusals a old → AllRefusals a new
 
--- the labels of the class in groups, with the choices by which these states refuse, and the first
--- moves of one more
-pub record AreLabelRefusals (a : Automaton) (class : LabelClass) (rights : List State) (own : State) (place : ℕ) (groups : List LabelRefusal) : Type 0 where
-  pub taken : (q : ElementFirst) → any_refused a q groups
-      ≡ (class_has class q.label && not (any_accepts a rights (element_of q) || list_any (move_takes a q) (take place (moves_at a own).labels)))
+-- the labels of the class in groups, with the choices by which these moves are refused
+pub record AreLabelRefusals (a : Automaton) (class : LabelClass) (moves : List LabelMove) (groups : List LabelRefusal) : Type 0 where
+  pub taken : (q : ElementFirst) → any_refused a q groups ≡ (class_has class q.label && not (list_any (move_takes a q) moves))
   pub states : AllRefusals a groups

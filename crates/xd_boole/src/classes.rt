@@ -3,7 +3,7 @@
 ghost use Rattle.std.specs.Prelude.{◌≡◌, ◌&&◌, not, true, false, List, ℕ};
 ghost use Rattle.xd_doc.specs.Classes.{class_has, is_named};
 
-use xd_doc::{Class, Label};
+use xd_doc::{Class, Label, Text, Words};
 
 /// Whether none of the labels is in the class.
 fn has_none(class: &Class, names: &[Label]) -> bool
@@ -51,4 +51,29 @@ pub(crate) fn has_all_of(one: &Class, two: &Class) -> bool
         return has_each(one, two.names());
     }
     one.takes_others() && has_none(two, one.names())
+}
+
+/// Whether none of the texts is in the class.
+fn has_no_text(words: &Words, texts: &[Text]) -> bool
+    ensures { result ≡ true → (x : List ℕ) → is_named texts.now x ≡ true → class_has words.now x ≡ false }
+{
+    for text in texts {
+        if words.has(text) {
+            return false;
+        }
+    }
+    true
+}
+
+/// The same as [`are_apart`] of classes of texts.
+pub(crate) fn are_texts_apart(one: &Words, two: &Words) -> bool
+    ensures { result ≡ true → (x : List ℕ) → (class_has one.now x && class_has two.now x) ≡ false }
+{
+    if !two.takes_others() {
+        return has_no_text(one, two.texts());
+    }
+    if !one.takes_others() {
+        return has_no_text(two, one.texts());
+    }
+    false
 }

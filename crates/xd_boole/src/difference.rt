@@ -14,6 +14,7 @@ ghost use Rattle.xd_boole.specs.Choices.{IsChoiceOf, choice_refuses};
 ghost use Rattle.xd_boole.specs.Points.{AddsLabels, AddsTexts, AreExpanded, ArePoints, IsStateFor, KeepsPoints, MoveBelow, TextBelow};
 
 use crate::choices::{SideChoice, choices_of};
+use crate::disjoint::near_sides;
 use crate::groups::{Group, MoveSide, Step, label_groups, text_groups};
 use crate::merging::merged;
 use crate::placing::place_points;
@@ -67,7 +68,8 @@ fn add_move(
     Ok(())
 }
 
-/// The moves for the labels of a group: one for each choice.
+/// The moves for the labels of a group: one for each choice. Sides that are disjoint from the part
+/// refuse nothing of it, so no choice is made for them.
 fn add_group(
     alloc: Global,
     auto: &Auto,
@@ -84,7 +86,8 @@ fn add_group(
     requires universal { MarkUniversal taken.now.auto taken.now.universal.items }
     ensures { OnOk result (AddsLabels auto.now taken.now.auto points.old points.new labels.old.items labels.new.items (λ q. side_accepts auto.now q.content q.rest part && group_refuses class_has (side_accepts taken.now.auto q.content q.rest) q.label group.now)) }
 {
-    let choices = choices_of(alloc, &group.sides, &taken.universal)?;
+    let sides = near_sides(alloc, auto, part, &taken.auto, &group.sides)?;
+    let choices = choices_of(alloc, &sides, &taken.universal)?;
     for choice in &choices {
         add_move(
             alloc,
@@ -317,11 +320,12 @@ fn subtract_taken(
 /// refused by all of the set where, for each of their moves that match it, one state refuses its
 /// content or one refuses what follows: so a move is made for each choice of these, but where one
 /// choice asks for all that another asks for, or asks it of a state that plainly accepts
-/// everything, as that of `Any` does. The labels of a move are divided only where moves tell them
-/// apart. Of the new states those are left out that accept nothing, whatever the old ones accept.
-/// The number of states may be exponential in that of the other automaton; it is about the product
-/// of both where few moves of a state match the same label. (Hosoya, Vouillon and Pierce, *Regular
-/// expression types for XML*, 2005, section 4, whose subtyping divides goals by the same choices.)
+/// everything, as that of `Any` does. A move that plainly takes nothing of what the left's move
+/// takes needs no choice. The labels of a move are divided only where moves tell them apart. Of the
+/// new states those are left out that accept nothing, whatever the old ones accept. The number of
+/// states may be exponential in that of the other automaton; it is about the product of both where
+/// few moves of a state match the same label. (Hosoya, Vouillon and Pierce, *Regular expression
+/// types for XML*, 2005, section 4, whose subtyping divides goals by the same choices.)
 ///
 /// Fails only where memory is refused. The automaton keeps its states, and may have more.
 pub fn subtract(

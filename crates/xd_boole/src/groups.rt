@@ -316,6 +316,17 @@ pub(crate) fn text_groups(
     Ok(groups)
 }
 
+/// An equal move.
+pub(crate) fn share_move(step: &LabelMove) -> Result<LabelMove, NoMemory>
+    ensures { IfOk result (λ copy. copy ≡ step.now) }
+{
+    Ok(LabelMove {
+        class: step.class.share()?,
+        content: step.content,
+        rest: step.rest,
+    })
+}
+
 /// What a move says of the content and of what follows the element.
 pub fn side_of(step: &LabelMove) -> MoveSide
     ensures { result ≡ label_side step.now }

@@ -11,7 +11,7 @@ ghost use Rattle.xd_boole.specs.Universal.{MarkUniversal};
 use crate::choices::{SideChoice, copy_choices, extend_all, no_choice};
 use crate::classes::{are_apart, has_all_of};
 use crate::difference::Taken;
-use crate::groups::{below, side_of};
+use crate::groups::{below, share_move, side_of};
 use std::alloc::Global;
 use xd_auto::{Auto, LabelMove, Move, State};
 use xd_doc::{Class, NoMemory};
@@ -42,17 +42,6 @@ struct Parted {
     choices: Vec<SideChoice>,
     moves: Vec<LabelMove>,
     depth: usize,
-}
-
-/// An equal move.
-fn share_move(step: &LabelMove) -> Result<LabelMove, NoMemory>
-    ensures { IfOk result (λ copy. copy ≡ step.now) }
-{
-    Ok(LabelMove {
-        class: step.class.share()?,
-        content: step.content,
-        rest: step.rest,
-    })
 }
 
 /// Puts the moves of these numbers behind others.
@@ -89,8 +78,8 @@ fn moves_of(
 }
 
 /// The moves of these states that match a move, and those of one more state that stand before a
-/// place.
-fn moves_before(
+/// place. Fails only where memory is refused.
+pub fn moves_before(
     alloc: Global,
     auto: &Auto,
     step: &LabelMove,
@@ -266,8 +255,8 @@ fn refuse(
     refuse(alloc, taken, outside, choices, &parted.moves, depth, groups)
 }
 
-/// The labels of a move's class in groups, with the choices by which an element is refused by all
-/// moves of these states, and by those of one more state that stand before a place.
+/// The labels of a class in groups, with the choices by which an element is refused by all of these
+/// moves.
 ///
 /// What moves say that match a whole class is the same in all groups of it, so the choices for it
 /// are made once. Labels that no move tells apart stay in one group. Fails only where memory is
@@ -275,26 +264,22 @@ fn refuse(
 pub fn label_refusals(
     alloc: Global,
     taken: &Taken,
-    step: &LabelMove,
-    states: &[State],
-    own: State,
-    place: usize,
+    class: &Class,
+    moves: &[LabelMove],
 ) -> Result<Vec<LabelRefusal>, NoMemory>
-    requires states { AllByRecursion (IsState taken.now.auto) states.now }
-    requires own { IsState taken.now.auto own }
+    requires moves { LeadInside taken.now.auto moves.now }
     requires universal { MarkUniversal taken.now.auto taken.now.universal.items }
-    ensures { IfOk result (λ made. AreLabelRefusals taken.now.auto step.now.class states.now own place made.items) }
+    ensures { IfOk result (λ made. AreLabelRefusals taken.now.auto class.now moves.now made.items) }
 {
-    let moves = moves_before(alloc, &taken.auto, step, states, own, place)?;
     let choices = no_choice(alloc)?;
-    let class = step.class.share()?;
+    let class = class.share()?;
     let mut groups = Vec::new(alloc);
     refuse(
         alloc,
         taken,
         class,
         choices,
-        &moves,
+        moves,
         MOST_HALVES,
         &mut groups,
     )?;

@@ -6,7 +6,7 @@ use Rattle.std.specs.Ordering.{nat_cmp}
 use Rattle.std.specs.Cmp.Lexicographic.{slice_cmp}
 use Rattle.std.specs.BTreeMap.{BTreeMap, get}
 use Rattle.xd_doc.specs.Document.{Document, empty}
-use Rattle.xd_doc.specs.Classes.{class_has}
+use Rattle.xd_doc.specs.Classes.{LabelClass, class_has}
 use Rattle.xd_auto.specs.declared.auto.State.{State}
 use Rattle.xd_auto.specs.declared.auto.LabelMove.{LabelMove}
 use Rattle.xd_auto.specs.declared.auto.TextMove.{TextMove}
@@ -16,6 +16,7 @@ use Rattle.xd_points.specs.declared.patterns.PatternStates.{PatternStates}
 use Rattle.xd_boole.specs.Meaning.{ElementFirst, TextFirst, any_accepts, element_of, text_of, move_takes, text_takes}
 use Rattle.xd_points.specs.Meaning.{IsPointOf, PointView, point, is_old_point, means}
 use Rattle.xd_boole.specs.Groups.{is_side, label_side, passes_at, side_accepts}
+use Rattle.xd_boole.specs.Refusals.{LeadInside}
 use Rattle.xd_points.specs.declared.points.Points.{Points}
 use Rattle.xd_points.specs.declared.moves.Parts.{Parts}
 use Rattle.xd_points.specs.declared.moves.Rests.{Rests}
@@ -128,6 +129,13 @@ any_before a s n q = list_any (move_takes a q) (take n (moves_at a s).labels)
 
 abbrev pub any_text_before : Automaton → State → ℕ → TextFirst → Bool
 any_text_before a s n q = list_any (text_takes a q) (take n (moves_at a s).texts)
+
+-- moves that on the labels of a class take, of what the parts accept, what the rights of the point
+-- do, and the moves of its pattern's state before one
+pub record AreRefusing (a : Automaton) (b : PatternStates) (p : PointView) (class : LabelClass) (parts : Parts) (place : ℕ) (moves : List LabelMove) : Type 0 where
+  pub taken : (q : ElementFirst) → class_has class q.label ≡ true → parts_accept a b q.content q.rest parts ≡ true
+      → list_any (move_takes b.taken.auto q) moves ≡ (any_accepts b.taken.auto p.rights (element_of q) || any_before b.auto p.pattern place q)
+  pub inside : LeadInside b.taken.auto moves
 
 -- the move leads where the one of this number of the pattern's state does
 pub record IsLabelStep (a : Automaton) (s : State) (p : Points) (m : LabelMove) (n : ℕ) : Type 0 where

@@ -12,15 +12,15 @@ ghost use Rattle.xd_boole.specs.Choices.{AllChoices, IsChoiceOf, choice_refuses}
 ghost use Rattle.xd_boole.specs.Refusals.{label_refused};
 ghost use Rattle.xd_boole.specs.Points.{MoveBelow, TextBelow};
 ghost use Rattle.xd_points.specs.Meaning.{IsPointOf, ServePoints};
-ghost use Rattle.xd_points.specs.Points.{AddsLabels, AddsTexts, ArePoints, ArePartsOf, AreRestsOf, LabelLeads, TextLeads, any_before, any_text_before, parts_accept, rests_accept};
+ghost use Rattle.xd_points.specs.Points.{AddsLabels, AddsTexts, ArePoints, ArePartsOf, AreRefusing, AreRestsOf, LabelLeads, TextLeads, any_before, any_text_before, parts_accept, rests_accept};
 
 use crate::patterns::PatternStates;
 use crate::points::{Point, Points, find_or_add, is_refused};
 use std::alloc::Global;
 use xd_auto::{Auto, LabelMove, Move, State, TextMove};
 use xd_boole::{
-    Group, LabelRefusal, MoveSide, SideChoice, any_marked, label_refusals, set_of, side_of,
-    text_groups_before,
+    Group, LabelRefusal, MoveSide, SideChoice, any_marked, label_refusals, moves_before,
+    near_moves, set_of, side_of, text_groups_before,
 };
 use xd_doc::{Class, NoMemory, Words};
 
@@ -125,6 +125,30 @@ fn add_group(
     Ok(())
 }
 
+/// The moves that must refuse an element which a move and these parts take: those of the point's
+/// rights, and those of the pattern's state that stand before a place. Moves that are seen to take
+/// nothing of what a part accepts are left out.
+fn refusing_moves(
+    alloc: Global,
+    auto: &Auto,
+    patterns: &PatternStates,
+    of: &Point,
+    step: &LabelMove,
+    parts: Parts,
+    place: usize,
+) -> Result<Vec<LabelMove>, NoMemory>
+    requires patterns { ServePoints auto.now patterns.now }
+    requires of { IsPointOf auto.now patterns.now of.now }
+    requires parts { ArePartsOf auto.now patterns.now parts }
+    ensures { IfOk result (λ moves. AreRefusing auto.now patterns.now of.now step.now.class parts place moves.items) }
+{
+    let taken = &patterns.taken.auto;
+    let moves = moves_before(alloc, taken, step, &of.rights, of.pattern, place)?;
+    let moves = near_moves(alloc, &patterns.auto, parts.pattern, taken, &moves)?;
+    let moves = near_moves(alloc, auto, parts.left, taken, &moves)?;
+    Ok(moves)
+}
+
 /// The moves for the labels that two moves share, one of the left and one of the pattern's state,
 /// on what no state of the point's rights takes, and none of the first moves of the pattern's
 /// state.
@@ -159,7 +183,8 @@ fn add_meet(
         left: side_of(one),
         pattern: side_of(two),
     };
-    let groups = label_refusals(alloc, &patterns.taken, &step, &of.rights, of.pattern, place)?;
+    let moves = refusing_moves(alloc, auto, patterns, of, &step, parts, place)?;
+    let groups = label_refusals(alloc, &patterns.taken, &step.class, &moves)?;
     for group in &groups {
         add_group(alloc, auto, patterns, points, labels, parts, group)?;
     }

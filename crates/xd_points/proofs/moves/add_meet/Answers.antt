@@ -1,23 +1,22 @@
-use Rattle.std.proofs.Common.{◌≡◌, ◌&&◌, ◌||◌, not, true, take, List, Option, Some, ap, arith, subst, sym, ◌∙◌}
+use Rattle.std.proofs.Common.{◌≡◌, Bool, ◌&&◌, ◌||◌, not, true, List, Option, Some, ap, subst, ◌∙◌}
 use Rattle.std.specs.List.{list_any}
 use Rattle.xd_doc.specs.ClassForms.{IsPart}
 use Rattle.xd_doc.specs.Classes.{LabelClass, class_has}
 use Rattle.xd_auto.specs.declared.auto.State.{State}
-use Rattle.xd_auto.specs.Automaton.{IsState, moves_at}
-use Rattle.xd_boole.specs.Meaning.{any_accepts, element_of, move_takes}
+use Rattle.xd_auto.specs.declared.auto.LabelMove.{LabelMove}
+use Rattle.xd_boole.specs.Meaning.{ElementFirst, any_accepts, element_of, move_takes}
 use Rattle.xd_boole.specs.declared.groups.MoveSide.{MoveSide}
 use Rattle.xd_boole.specs.declared.refusals.LabelRefusal.{LabelRefusal}
 use Rattle.xd_boole.specs.Groups.{label_side, side_accepts}
 use Rattle.xd_boole.specs.Choices.{AllChoices}
 use Rattle.xd_boole.specs.Refusals.{label_refused}
+use Rattle.xd_boole.proofs.Bools.{and_where}
 use Rattle.xd_boole.proofs.DifferenceLemmas.{right_more}
 use Rattle.xd_boole.proofs.Lists.{all_step, any_walked}
 use Rattle.xd_points.specs.declared.moves.Parts.{Parts}
-use Rattle.xd_points.specs.Meaning.{PointView}
-use Rattle.xd_points.specs.Points.{AddsLabels, LabelLeads, any_before, label_means, parts_accept}
+use Rattle.xd_points.specs.Points.{AddsLabels, AreRefusing, LabelLeads, any_before, label_means, parts_accept}
 use Rattle.xd_points.proofs.MeetLemmas.{met}
 use Rattle.xd_points.proofs.GrowsLemmas.{adds_like, adds_then, label_stays, labels_more}
-use Rattle.xd_points.proofs.PatternMoveLemmas.{before_same}
 use Rattle.xd_points.proofs.moves.add_meet.Goals as goal
 
 pub loop-group-preserved : goal.loop-group-preserved
@@ -49,25 +48,22 @@ returns c =
     let two = label_side c.args.two.now in
     let parts : Parts = record { left = one; pattern = two } in
     let items = c.deref-group-items.result.now in
+    let made : Parts = record { left = c.side_of.result; pattern = c.side_of-2.result } in
+    let same : made ≡ parts = ap (λ (l : MoveSide). let k : Parts = record { left = l; pattern = c.side_of-2.result } in k) c.side_of.ensures ∙ ap (λ (r : MoveSide). let k : Parts = record { left = one; pattern = r } in k) c.side_of-2.ensures in
     let rights : List State = c.args.of.now.rights in
     let pattern : State = c.args.of.now.pattern in
-    let rights_are : c.deref.result.now ≡ rights = c.deref.ensures.value ∙ ap (λ (p : PointView). p.rights) c.of.view_is in
-    let pattern_is : c.of.inside.pattern ≡ pattern = ap (λ (p : PointView). p.pattern) c.of.view_is in
     let class : LabelClass = c.in-Some.class in
+    let moves : List LabelMove = c.in_ok-moves.moves.items in
+    let refused : ElementFirst → Bool = λ q. any_accepts b.taken.auto rights (element_of q) || any_before b.auto pattern c.args.place q in
+    let refusing = subst (λ (k : Parts). AreRefusing a b c.args.of.now class k c.args.place moves) same c.in_ok-moves.ensures in
     let part : IsPart true c.args.one.now.class c.args.two.now.class (Some class) = subst (λ (o : Option LabelClass). IsPart true c.args.one.now.class c.args.two.now.class o) c.in-Some.is c.in_ok-class.ensures.part in
     adds_like (LabelLeads two) (label_means a b) a b (label_stays a b two) (labels_more two) c.args.points.now c.loop-group.points c.args.labels.now.items c.loop-group.labels.items _ _ c.loop-group.invariant.adds
     (λ q.
     ap (λ w. parts_accept a b q.content q.rest parts && w)
     (any_walked (label_refused b.taken.auto q) items c.loop-group.group-index c.loop-group-test.false ∙ ap (list_any (label_refused b.taken.auto q)) c.deref-group-items.ensures.value
     ∙ c.in_ok-groups.ensures.taken q
-    ∙ ap (λ (rs : List State). class_has class q.label && not (any_accepts b.taken.auto rs (element_of q) || list_any (move_takes b.taken.auto q) (take c.args.place (moves_at b.taken.auto c.of.inside.pattern).labels))) rights_are
-    ∙ ap (λ (s : State). class_has class q.label && not (any_accepts b.taken.auto rights (element_of q) || list_any (move_takes b.taken.auto q) (take c.args.place (moves_at b.taken.auto s).labels))) pattern_is
-    ∙ ap (λ w. class_has class q.label && not (any_accepts b.taken.auto rights (element_of q) || w)) (before_same a b c.requires.patterns pattern c.args.place q)
-    ∙ ap (λ w. w && not (any_accepts b.taken.auto rights (element_of q) || any_before b.auto pattern c.args.place q)) (part q.label))
+    ∙ ap (λ (ms : List LabelMove). class_has class q.label && not (list_any (move_takes b.taken.auto q) ms)) c.deref.ensures.value)
+    ∙ and_where (parts_accept a b q.content q.rest parts) (class_has class q.label && not (list_any (move_takes b.taken.auto q) moves)) (class_has class q.label && not (refused q))
+    (λ e. and_where (class_has class q.label) (not (list_any (move_takes b.taken.auto q) moves)) (not (refused q)) (λ has. ap not (refusing.taken q has e)))
+    ∙ ap (λ w. parts_accept a b q.content q.rest parts && (w && not (refused q))) (part q.label)
     ∙ met (class_has c.args.one.now.class q.label) (class_has c.args.two.now.class q.label) (side_accepts a q.content q.rest one) (side_accepts b.auto q.content q.rest two) (not (any_accepts b.taken.auto rights (element_of q) || any_before b.auto pattern c.args.place q)))
-
-pub label_refusals-requires-clause-own : goal.label_refusals-requires-clause-own
-label_refusals-requires-clause-own c =
-    let b = c.args.patterns.now in
-    let here : IsState b.auto c.of.inside.pattern = subst (λ (p : PointView). IsState b.auto p.pattern) (sym c.of.view_is) c.requires.of.pattern in
-    omega (arith, here, c.requires.patterns.count)

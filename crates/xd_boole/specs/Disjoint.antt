@@ -1,0 +1,38 @@
+-- States and moves that have nothing in common. Of this only private contracts speak.
+use Rattle.std.specs.Prelude.{◌≡◌, Bool, true, false, ◌&&◌, List}
+use Rattle.std.specs.List.{list_any}
+use Rattle.xd_doc.specs.Document.{Document}
+use Rattle.xd_auto.specs.declared.auto.State.{State}
+use Rattle.xd_auto.specs.declared.auto.LabelMove.{LabelMove}
+use Rattle.xd_auto.specs.declared.auto.TextMove.{TextMove}
+use Rattle.xd_auto.specs.Automaton.{Automaton, accepts}
+use Rattle.xd_boole.specs.declared.groups.MoveSide.{MoveSide}
+use Rattle.xd_boole.specs.Meaning.{ElementFirst, TextFirst, move_takes, text_takes}
+use Rattle.xd_boole.specs.Groups.{AllPass, side_accepts}
+
+-- no document is accepted by a state of one automaton and a state of another
+abbrev pub AreDisjoint : Automaton → Automaton → State → State → Type 0
+AreDisjoint a b s t = (d : Document) → (accepts a d s && accepts b d t) ≡ false
+
+-- no content and what follows are accepted by both sides
+abbrev pub AreDisjointSides : Automaton → Automaton → MoveSide → MoveSide → Type 0
+AreDisjointSides a b s t = (c d : Document) → (side_accepts a c d s && side_accepts b c d t) ≡ false
+
+-- no element is taken by the move and by one of the others
+abbrev pub IsDisjointMove : Automaton → Automaton → LabelMove → List LabelMove → Type 0
+IsDisjointMove a b m others = (q : ElementFirst) → (move_takes a q m && list_any (move_takes b q) others) ≡ false
+
+-- the same of a text
+abbrev pub IsDisjointText : Automaton → Automaton → TextMove → List TextMove → Type 0
+IsDisjointText a b m others = (q : TextFirst) → (text_takes a q m && list_any (text_takes b q) others) ≡ false
+
+-- of these some, which take the same of the elements whose content and rest a part accepts
+pub record AreNear {X : Type 0} (a : Automaton) (part : MoveSide) (takes : ElementFirst → X → Bool) (items near : List X) : Type 0 where
+  pub taken : (q : ElementFirst) → side_accepts a q.content q.rest part ≡ true → list_any (takes q) near ≡ list_any (takes q) items
+  pub all : (p : X → Bool) → AllPass p items → AllPass p near
+
+abbrev pub AreNearSides : Automaton → Automaton → MoveSide → List MoveSide → List MoveSide → Type 0
+AreNearSides a b part = AreNear a part (λ q. side_accepts b q.content q.rest)
+
+abbrev pub AreNearMoves : Automaton → Automaton → MoveSide → List LabelMove → List LabelMove → Type 0
+AreNearMoves a b part = AreNear a part (move_takes b)
