@@ -36,15 +36,15 @@ pub(crate) struct Told {
 }
 
 impl Finding {
-    /// The number of the fault in reports; a warning stands behind all faults.
+    /// The order of lines of one place: faults by their numbers in reports, then a warning.
     fn rank(self) -> u64
         ensures { result ≡ rank (kind_of self) }
     {
         match self {
-            Finding::NotExhaustive(_) => 12,
-            Finding::Argument(_) => 13,
-            Finding::Result(_) => 14,
-            Finding::DeadClause => 17,
+            Finding::NotExhaustive(_) => 0,
+            Finding::Argument(_) => 1,
+            Finding::Result(_) => 2,
+            Finding::DeadClause => 3,
         }
     }
 

@@ -1,4 +1,4 @@
--- What `check` answers, behind the faults of names and of recursion.
+-- What `check` answers, after the faults of names and of recursion.
 use Rattle.std.specs.Prelude.{◌≡◌, ℕ, List, [], ◌∷◌, ◌++◌, codes}
 use Rattle.xd_syntax.specs.Program.{ProgramTree}
 use Rattle.xd_syntax.specs.CheckFaults.{Line, AreLines, IsAccepted, faults_among}

@@ -29,7 +29,7 @@ number_within limit word =
     let n : ℕ = digits_value 10 word in
     cond (bytes_eq (decimal n) word && (nat_lt 0 n && nat_lt n (limit + 1))) (Some n) None
 
--- the commands of one word behind their name, of two, of three and of four
+-- the commands of one word after their name, of two, of three and of four
 abbrev pub of_one : (command first : List ℕ) → Option Command
 of_one command first =
     if bytes_eq command (codes "check") then Some (Check first)

@@ -1,4 +1,4 @@
--- What `fits` answers, behind the faults of the program.
+-- What `fits` answers, after the faults of the program.
 use Rattle.std.specs.Prelude.{◌≡◌, ◌⊎◌, ℕ, true, false, List, [], ◌∷◌, None}
 use Rattle.xd_doc.specs.Document.{Document, is_proper}
 use Rattle.xd_syntax.specs.Tree.{Tree, Definitions}

@@ -1,4 +1,4 @@
--- What `least` answers, behind the faults of the program.
+-- What `least` answers, after the faults of the program.
 use Rattle.std.specs.Prelude.{◌≡◌, ◌⊎◌, ℕ, true, List}
 use Rattle.xd_doc.specs.Document.{Document}
 use Rattle.xd_doc.specs.Least.{IsLeast}

@@ -1,4 +1,4 @@
--- What `minus` answers, behind the faults of the program.
+-- What `minus` answers, after the faults of the program.
 use Rattle.std.specs.Prelude.{◌≡◌, ◌⊎◌, ℕ, List, []}
 use Rattle.xd_show_blocks.specs.Blocks.{IsShownText}
 use Rattle.xd_shown.specs.Shown.{defined_names}

@@ -1,4 +1,4 @@
--- What `run` answers, behind the faults of names and of recursion.
+-- What `run` answers, after the faults of names and of recursion.
 use Rattle.std.specs.Prelude.{◌≡◌, ◌≢◌, ◌⊎◌, ◌≤◌, ◌-◌, ℕ, List, [], ◌∷◌, Option, Some, None}
 use Rattle.xd_doc.specs.Document.{Document}
 use Rattle.xd_syntax.specs.Words.{main_word}

@@ -1,4 +1,4 @@
--- What `stream` answers, behind the faults of the program.
+-- What `stream` answers, after the faults of the program.
 use Rattle.std.specs.Prelude.{◌≡◌, ◌⊎◌, ℕ, true, List}
 use Rattle.xd_base.specs.declared.Place.{Place}
 use Rattle.xd_doc.specs.Document.{Document}

@@ -1,4 +1,4 @@
--- What `subtype` answers, behind the faults of the program.
+-- What `subtype` answers, after the faults of the program.
 use Rattle.std.specs.Prelude.{◌≡◌, ◌≢◌, ◌⊎◌, ℕ, cond, true, List, [], ◌∷◌, ◌++◌, None, Some}
 use Rattle.xd_doc.specs.Document.{Document, is_proper}
 use Rattle.xd_doc.specs.Least.{IsLeast}

@@ -1,4 +1,4 @@
--- What `types` and `precise` answer, behind the faults of names and of recursion.
+-- What `types` and `precise` answer, after the faults of names and of recursion.
 use Rattle.std.specs.Prelude.{◌≡◌, ◌⊎◌}
 use Rattle.xd_show_blocks.specs.Blocks.{AreBlocks}
 use Rattle.xd_syntax.specs.CheckFaults.{IsAccepted}

@@ -1,4 +1,4 @@
--- What `verify` and `upgrade` answer, behind the faults of the program.
+-- What `verify` and `upgrade` answer, after the faults of the program.
 use Rattle.std.specs.Prelude.{◌≡◌, ◌⊎◌, ℕ, List, ◌∷◌, ◌++◌, codes}
 use Rattle.xd_syntax.specs.Program.{ProgramTree, names_of}
 use Rattle.xd_meaning.specs.Consistent.{Claim, IsConsistent}

@@ -11,7 +11,7 @@ pub data Refusal : Type 0 where
   no_text : Refusal
   too_deep : Refusal
 
--- No text goes on with the token n behind those before it: without a limit of nesting, or else
+-- No text goes on with the token n after those before it: without a limit of nesting, or else
 -- within it.
 abbrev pub IsRefusedAt : Nonterminal → List Terminal → ℕ → Refusal → Type 0
 IsRefusedAt part ts n no_text = (limit : ℕ) → ¬ (Begins limit part (take (n + 1) ts))

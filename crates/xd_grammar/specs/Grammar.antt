@@ -11,11 +11,12 @@ use Rattle.xd_grammar.specs.declared.grammar.Terminal.TheVariants as t
 abbrev pub Row : Type 0
 Row = List Symbol
 
--- The rows that a nonterminal stands for, each with its rule above it. Types and patterns have the
--- same rows, but for the variables of patterns. `Opening` opens a level of nesting with its
--- terminal and `Closed` closes one. `Unless` says which terminal doesn't come next: a repetition or
--- an option is left out only there, so each takes as many tokens as it can, and parentheses with a
--- `[` after them are the list of a class. After a `^` stand labels or texts, one or a list of them.
+-- The rows that a nonterminal stands for, with its rule above them, in which `label "["` is one
+-- token. Types and patterns have the same rows, but for the variables of patterns. `Opening` opens
+-- a level of nesting with its terminal and `Closed` closes one. `Unless` says which terminal
+-- doesn't come next: a repetition ends, and an option is left out, only there, so each takes as
+-- many tokens as it can, and parentheses with a `[` after them are the list of a class. After a `^`
+-- stand labels or texts, one or a list of them.
 abbrev pub rules : Nonterminal → List Row
 -- definitions  = { "type" word "=" alternative
 --              | "fun" word parameter { parameter } ":" alternative "=" expression } End
@@ -117,8 +118,8 @@ rules n.Expr = (Part n.Item ∷ Part n.MoreItems ∷ []) ∷ []
 rules n.MoreItems =
     (Token t.Comma ∷ Part n.Item ∷ Part n.MoreItems ∷ [])
     ∷ (Unless t.Comma ∷ []) ∷ []
--- part         = text | word { parentheses } | label "[" expression content | parentheses
---              | "match" expression "with" clause { "|" clause }
+-- part         = text | word { parentheses } | label "[" expression content
+--              | "match" expression "with" clause { "|" clause } | parentheses
 rules n.Item =
     (Token t.Text ∷ [])
     ∷ (Token t.Word ∷ Part n.MoreParens ∷ [])
@@ -156,7 +157,7 @@ pub data Extent : Type 0 where
   Whole : Extent
   Front : Extent
 
--- what may be left of a row behind the last token
+-- what may be left of a row after the last token
 abbrev pub MayEnd : Extent → Row → Type 0
 MayEnd Whole [] = Unit {0}
 MayEnd Whole (symbol ∷ row) = ⊥
@@ -172,7 +173,7 @@ pub data Derives (extent : Extent) (limit : ℕ) : ℕ → Row → List Terminal
   unless : {depth : ℕ} {j k : Terminal} {row : Row} {ts : List Terminal} → j ≢ k → Derives extent limit depth row (k ∷ ts) → Derives extent limit depth (Unless j ∷ row) (k ∷ ts)
   by : {depth : ℕ} {part : Nonterminal} (made : Row) {row : Row} {ts : List Terminal} → IsOneOf made (rules part) → Derives extent limit depth (made ++ row) ts → Derives extent limit depth (Part part ∷ row) ts
 
--- the tokens are a whole text of this nonterminal
+-- the tokens are a whole text of this nonterminal, which ends with `End`
 abbrev pub Spells : ℕ → Nonterminal → List Terminal → Type 0
 Spells limit part ts = Derives Whole limit 0 (Part part ∷ []) ts
 

@@ -14,7 +14,7 @@ use Rattle.xd_lex.specs.declared.Front.TheVariants as fronts
 abbrev pub is_blank : ℕ → Bool
 is_blank b = ((b == byte " ") || (b == byte "\t")) || ((b == byte "\n") || (b == byte "\r"))
 
--- one of the characters that make an escape behind a `\`
+-- one of the characters that make an escape after a `\`
 abbrev pub is_escape : ℕ → Bool
 is_escape b = ((b == byte "\"") || (b == byte "\\")) || ((b == byte "n") || (b == byte "t"))
 
@@ -26,20 +26,20 @@ abbrev pub option_more : Option ℕ → Option ℕ
 option_more (Some n) = Some (n + 1)
 option_more None = None
 
--- Behind the opening quote of a text: how many bytes its pieces and its closing quote have. The
+-- After the opening quote of a text: how many bytes its pieces and its closing quote have. The
 -- flag says that a `\` which begins an escape stands directly before.
 abbrev pub quoted : Bool → List ℕ → Result ℕ LexFault
 quoted escaped [] = Err OpenText
 quoted true (b ∷ bs) = if is_escape b then one_more (quoted false bs) else Err BadCharacter
 quoted false (b ∷ bs) = if b == byte "\"" then Ok 1 else one_more (quoted (b == byte "\\") bs)
 
--- Behind the `(*` of a comment: how many bytes there are up to the end of the first `*)`. The flag
+-- After the `(*` of a comment: how many bytes there are up to the end of the first `*)`. The flag
 -- says that a `*` stands directly before, other than that of the `(*`.
 abbrev pub commented : Bool → List ℕ → Option ℕ
 commented starred [] = None
 commented starred (b ∷ bs) = if starred && (b == byte ")") then Some 1 else option_more (commented (b == byte "*") bs)
 
--- the symbols of one character
+-- the kind of a symbol of one character, if it is one
 unfoldable pub symbol : ℕ → Option Kind
 symbol b =
     if b == byte "(" then Some kinds.ParenL
@@ -69,7 +69,7 @@ abbrev pub of_symbol : Option Kind → Front
 of_symbol (Some k) = fronts.Token k 1
 of_symbol None = fronts.Fault BadCharacter
 
--- a word, with the `[` that stands directly behind it
+-- a label where a `[` stands directly after the word, else the word
 abbrev pub of_word : List ℕ → ℕ → Front
 of_word bs n = if slice_index bs n == byte "[" then fronts.Token kinds.Label (n + 1) else fronts.Token kinds.Word n
 

@@ -1,13 +1,13 @@
--- How each kind of token is spelled, and what a quoted text stands for.
+-- What a quoted text stands for.
 use Rattle.std.specs.Prelude.{ℕ, ◌==◌, Bool, true, false, List, [], ◌∷◌, drop, if◌then◌else◌}
 use Rattle.std.specs.Str.{byte}
 
--- the character that stands behind a `\` for another: `n` for a line feed, `t` for a tab, else
+-- the character that stands after a `\` for another: `n` for a line feed, `t` for a tab, else
 -- itself
 abbrev pub escape_meaning : ℕ → ℕ
 escape_meaning b = if b == byte "n" then byte "\n" else (if b == byte "t" then byte "\t" else b)
 
--- Behind the opening quote: the characters that the pieces stand for, up to the closing quote. The
+-- After the opening quote: the characters that the pieces stand for, up to the closing quote. The
 -- flag says that a `\` which begins an escape stands directly before.
 abbrev pub characters : Bool → List ℕ → List ℕ
 characters escaped [] = []

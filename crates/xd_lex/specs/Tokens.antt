@@ -6,7 +6,6 @@ use Rattle.xd_base.specs.declared.Place.{Place}
 use Rattle.xd_lex.specs.declared.Kind.{Kind}
 use Rattle.xd_lex.specs.declared.Kind.TheVariants as kinds
 use Rattle.xd_lex.specs.declared.Front.TheVariants as fronts
-use Rattle.xd_lex.specs.declared.lexer.Token.{Token}
 use Rattle.xd_lex.specs.Scan.{front_of}
 
 -- a token without where it lies in memory
@@ -19,7 +18,7 @@ pub record Lexeme : Type 0 where
 abbrev pub start : Place
 start = record { line = 1; column = 1 }
 
--- the place after a byte: a byte that continues a character counts nothing
+-- the place after a byte: a byte that continues a character doesn't count
 abbrev pub after : Place → ℕ → Place
 after p b =
     if b == byte "\n" then record { line = p.line + 1; column = 1 }
@@ -45,7 +44,7 @@ tokens_from zero p (b ∷ bs) = elim (front_of b bs) [
 abbrev pub tokens_of : List ℕ → List Lexeme
 tokens_of bytes = tokens_from 0 start bytes
 
--- the bytes are no UTF-8, and the place is the one after their longest front that is
+-- the bytes aren't UTF-8, and the place is the one after their longest front that is UTF-8
 pub record IsNotUtf8At (bytes : List ℕ) (p : Place) : Type 0 where
   pub refused : ¬ (IsUtf8 bytes)
   pub place : p ≡ past start (take (utf8_valid_len bytes) bytes)

@@ -41,7 +41,7 @@ ChoiceBreach gs (this_text s) left hs t r = TextBreach gs (this_text s) left hs 
 ChoiceBreach gs other_text left hs t r = TextBreach gs other_text left hs t r
 
 -- Where the cases from line n on are to be these: one too many is wrong where it stands, one too
--- few at the line behind the last case. A case of another head or atom is looked at before its
+-- few at the line after the last case. A case of another head or atom is looked at before its
 -- tree.
 pub data CasesBreach (E : Definitions) (gs : List Goal) (g : Goal) : (n : ℕ) → List HeadAtom → List Case → (line : ℕ) → Reason → Type 0 where
   too_many : {n : ℕ} {c : Case} {cs : List Case} → CasesBreach E gs g n [] (c ∷ cs) n bad_case
@@ -58,7 +58,7 @@ abbrev pub empty_lines : Option ℕ → ℕ
 empty_lines None = 0
 empty_lines (Some n) = 1
 
--- the line behind the rights: that on being empty, or where it would stand
+-- the line after the rights: that on being empty, or where it would stand
 abbrev pub line_behind : Lined → ℕ
 line_behind l = l.line + 2 + length (l.goal).rights
 

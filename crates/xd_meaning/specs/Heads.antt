@@ -12,7 +12,7 @@ pieces Empty = []
 pieces (Seq T U) = T ∷ pieces U
 pieces T = T ∷ []
 
--- the first type and behind it the second, merged
+-- the first type and after it the second, merged
 abbrev pub followed_by : Tree → Tree → Tree
 followed_by R U = seq_of (pieces R ++ pieces U)
 

@@ -11,7 +11,7 @@ use Rattle.xd_grammar.specs.Grammar.{Row, rules, IsOneOf}
 use Rattle.xd_grammar.specs.Text.{terminal_at, SpellsText}
 use Rattle.xd_parse_trees.specs.Values.{Value, a_tree, definitions, token_value, value_of}
 
--- The tokens of the first list up to those of the second spell the row, whose tokens and
+-- The tokens of the first list, up to where the second begins, spell the row, whose tokens and
 -- nonterminals stand for the values.
 pub data Means : Row → (from to : List Lexeme) → List Value → Type 0 where
   ends : {ls : List Lexeme} → Means [] ls ls []

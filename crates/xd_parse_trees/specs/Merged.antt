@@ -27,12 +27,12 @@ abbrev pub merged_seq : Place → List PlacedTree → PlacedTree
 merged_seq p [] = Empty_at p
 merged_seq p (T ∷ Ts) = placed_seq (place_of T) (T ∷ Ts)
 
--- one part and those behind it; one part alone stays what it is
+-- one part and those after it; one part alone stays what it is
 abbrev pub sequence : PlacedTree → List PlacedTree → PlacedTree
 sequence T [] = T
 sequence T (U ∷ Us) = merged_seq (place_of T) (flat_map parts_of_seq (T ∷ (U ∷ Us)))
 
--- one branch and those behind it; one branch alone stays what it is
+-- one branch and those after it; one branch alone stays what it is
 abbrev pub alternative : PlacedTree → List PlacedTree → PlacedTree
 alternative T [] = T
 alternative T (U ∷ Us) = placed_alt (place_of T) (flat_map parts_of_alt (T ∷ (U ∷ Us)))
@@ -46,12 +46,12 @@ abbrev pub merged_expression : Place → List Expression → Expression
 merged_expression p [] = Nothing p
 merged_expression p (e ∷ es) = joined (place_of_expression e) (e ∷ es)
 
--- one expression and those behind it; one alone stays what it is
+-- one expression and those after it; one alone stays what it is
 abbrev pub sequence_of_expressions : Expression → List Expression → Expression
 sequence_of_expressions e [] = e
 sequence_of_expressions e (f ∷ fs) = merged_expression (place_of_expression e) (flat_map parts_of_expression (e ∷ (f ∷ fs)))
 
--- a word before a first word, as it, or with what comes of those behind it
+-- a word before a first word, as it, or with what comes of those after it
 abbrev pub put_by : Ordering → (word first : List ℕ) (behind put : List (List ℕ)) → List (List ℕ)
 put_by orders.Less w x xs put = w ∷ (x ∷ xs)
 put_by orders.Equal w x xs put = x ∷ xs

@@ -1,8 +1,8 @@
 -- What the symbols of the grammar stand for in the syntax tree: each token for itself, and each
 -- nonterminal for what its row makes of what the row's symbols stand for (an attribute grammar,
--- Knuth 1968). The row stands above each equation, in the words of the grammar's rules. Parts of
--- rows that only say what doesn't come next, or where a level of nesting begins and ends, stand for
--- nothing.
+-- Knuth 1968). The row stands above each equation, in the words of the grammar's rules. Symbols
+-- that are no token, those that say what doesn't come next or that a level of nesting ends, stand
+-- for nothing.
 use Rattle.std.specs.Prelude.{ℕ, ◌-◌, true, false, cond, List, [], ◌∷◌, ◌++◌, length, take, codes}
 use Rattle.std.specs.Str.{bytes_eq}
 use Rattle.xd_base.specs.declared.Place.{Place}
@@ -20,8 +20,8 @@ use Rattle.xd_grammar.specs.declared.grammar.Terminal.TheVariants as t
 use Rattle.xd_grammar.specs.Text.{terminal_of}
 use Rattle.xd_parse_trees.specs.Merged.{class_of, sequence, alternative, sequence_of_expressions}
 
--- What a symbol stands for. A mark is a token of which no more counts than which terminal it is,
--- and its place; keywords are marks.
+-- What a symbol stands for. A mark is a token of which only the terminal and the place count;
+-- keywords are marks.
 pub data Value : Type 0 where
   mark : Terminal → Place → Value
   word : (characters : List ℕ) → Place → Value
@@ -88,8 +88,8 @@ with_function x p qs T e P = record P { functions = record { name = x; place = p
 
 -- What a nonterminal stands for, by what the symbols of its row stand for, in the order of the
 -- grammar. `val x` alone is `val x as Any`, with `Any` at the place of the word. `()` is empty at
--- its `(`, and an empty content at its `]`; other parentheses make no node. A class has the place of
--- its first token. A keyword is a word where any word may stand.
+-- its `(`, and an empty content at its `]`; other parentheses make no node. A class has the place
+-- of its first token. A keyword is a word where any word may stand.
 abbrev pub value_of : Nonterminal → List Value → Value
 -- "type" word "=" alternative definitions
 value_of n.Definitions (mark i p ∷ word x q ∷ mark j r ∷ a_tree T ∷ definitions P ∷ []) = definitions (with_type x q T P)
@@ -131,7 +131,7 @@ value_of (n.Prim _) (word x p ∷ []) = a_tree (named x p)
 value_of (n.Prim _) (quoted s p ∷ []) = a_tree (Words_at p (class_of false (s ∷ [])))
 -- "^" text, "^" "(" text { "|" text } ")"
 value_of (n.Prim _) (mark k p ∷ texts ss ∷ []) = a_tree (Words_at p (class_of true ss))
--- "^" labels "[" content
+-- "^" label "[" content, "^" "(" any word { "|" any word } ")" "[" content
 value_of (n.Prim _) (mark k p ∷ labelled ws T ∷ []) = a_tree (Elem_at p (class_of true ws) T)
 -- "(" ")"
 value_of (n.Prim _) (mark k p ∷ absent ∷ []) = a_tree (Empty_at p)
@@ -151,14 +151,20 @@ value_of (n.Excepted _) (mark k p ∷ labelled ws T ∷ []) = labelled ws T
 value_of (n.ExceptedList _) (quoted s p ∷ texts ss ∷ mark k q ∷ []) = texts (s ∷ ss)
 -- any word { "|" any word } ")" "[" content
 value_of (n.ExceptedList _) (names vs ∷ names ws ∷ mark j p ∷ mark k q ∷ a_tree T ∷ []) = labelled (vs ++ ws) T
+-- ")"
+value_of (n.Group _) (mark k p ∷ []) = absent
 -- alternative ")"
 value_of (n.Group _) (a_tree T ∷ mark k p ∷ []) = a_tree T
 -- "]"
 value_of (n.Content _) (mark k p ∷ []) = a_tree (Empty_at p)
 -- alternative "]"
 value_of (n.Content _) (a_tree T ∷ mark k p ∷ []) = a_tree T
+-- nothing more
+value_of n.Bound [] = absent
 -- "as" repetition
 value_of n.Bound (mark k p ∷ a_tree T ∷ []) = a_tree T
+-- nothing more
+value_of n.Operator [] = absent
 -- "*" | "+" | "?"
 value_of n.Operator (mark k p ∷ []) = mark k p
 -- "~" "["
@@ -207,6 +213,8 @@ value_of n.ExprContent (an_expression e ∷ mark k p ∷ []) = an_expression e
 value_of n.Paren (mark k p ∷ absent ∷ []) = an_expression (Nothing p)
 -- "(" expression ")"
 value_of n.Paren (mark k p ∷ an_expression e ∷ []) = an_expression e
+-- ")"
+value_of n.ParenContent (mark k p ∷ []) = absent
 -- expression ")"
 value_of n.ParenContent (an_expression e ∷ mark k p ∷ []) = an_expression e
 -- nothing more
@@ -219,5 +227,5 @@ value_of n.Clause (a_tree P ∷ mark k p ∷ an_expression e ∷ []) = a_clause 
 value_of n.MoreClauses [] = clauses no_clause
 -- "|" clause and more clauses
 value_of n.MoreClauses (mark k p ∷ a_clause P e ∷ clauses cs ∷ []) = clauses (clause P e cs)
--- no row has such parts
+-- no other row has such parts
 value_of part vs = absent

@@ -15,7 +15,7 @@ space = byte " "
 abbrev pub IsFreeOf : ℕ → List ℕ → Type 0
 IsFreeOf c bytes = AllByRecursion (λ b. b ≡ c → ⊥) bytes
 
--- these, each with the mark behind it
+-- these, each with the mark after it
 abbrev pub each_ended : ℕ → List (List ℕ) → List ℕ
 each_ended c [] = []
 each_ended c (l ∷ ls) = l ++ c ∷ each_ended c ls

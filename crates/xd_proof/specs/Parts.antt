@@ -64,7 +64,7 @@ pub record Follows {A : Type 0} (word : List ℕ) (R : List ℕ → A → Type 0
   pub whole : bytes ≡ word ++ space ∷ behind
   pub reads : R behind x
 
--- A number, and after one space a type. The bytes behind the space are the type's, spaces among
+-- A number, and after one space a type. The bytes after the space are the type's, spaces among
 -- them.
 pub record SpellsTypePart (R : List ℕ → Tree → Type 0) (bytes : List ℕ) (n : ℕ) (T : Tree) : Type 0 where
   pub number : IsNumber n

@@ -1,5 +1,5 @@
 -- Goals in the second format, written in the one way that is this project's own: a type is listed
--- where it first comes up, and no equal one behind it, and each is spelled canonically.
+-- where it first comes up, and no equal one after it, and each is spelled canonically.
 use Rattle.std.specs.Prelude.{ℕ, ◌+◌, Bool, not, codes, List, [], ◌∷◌, map, filter, flat_map}
 use Rattle.std.specs.List.{position_or_len}
 use Rattle.std.specs.Fmt.{decimal}

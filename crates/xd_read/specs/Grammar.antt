@@ -18,7 +18,7 @@ pub data Terminal : Type 0 where
   End : Terminal
   Other : Terminal
 
--- where items stand: as a whole document, as the content of an element, or behind another item
+-- where items stand: as a whole document, as the content of an element, or after another item
 pub data Context : Type 0 where
   Whole : Context
   Content : Context
@@ -30,7 +30,7 @@ Nothing Whole ts rest = ts ≡ ParenL ∷ ParenR ∷ rest
 Nothing Content ts rest = (ts ≡ rest) ⊎ (ts ≡ ParenL ∷ ParenR ∷ rest)
 Nothing Behind ts rest = ts ≡ rest
 
--- an item behind another has a comma before it
+-- an item after another has a comma before it
 abbrev pub Lead : Context → List Terminal → List Terminal → Type 0
 Lead Whole ts item = ts ≡ item
 Lead Content ts item = ts ≡ item

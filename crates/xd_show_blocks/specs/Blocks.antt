@@ -37,7 +37,7 @@ pub record Block : Type 0 where
 abbrev pub block_text : Block → List ℕ
 block_text b = place_front b.place ++ codes "variable " ++ b.variable ++ codes " as " ++ b.start ++ codes "\n" ++ shown_text b.program
 
--- one block behind the other, or the line `no variables`
+-- one block after the other, or the line `no variables`
 abbrev pub blocks_text : List Block → List ℕ
 blocks_text [] = codes "no variables\n"
 blocks_text (b ∷ bs) = flat_map block_text (b ∷ bs)

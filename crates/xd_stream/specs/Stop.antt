@@ -29,7 +29,7 @@ abbrev pub cut_off_unless : Bool → Place → List Lexeme → List Lexeme
 cut_off_unless whole p xs = cond whole xs (map (cut_off p) xs)
 
 -- The tokens of bytes that begin at a place: those of the longest front that is UTF-8. Where it
--- isn't all, the one that is open is broken at the place behind it.
+-- isn't all, the one that is open is broken at the place after it.
 abbrev pub tokens_at : Place → List ℕ → List Lexeme
 tokens_at p bytes = let front = text_front bytes in cut_off_unless (utf8_valid_len bytes == length bytes) (past p front) (tokens_from 0 p front)
 

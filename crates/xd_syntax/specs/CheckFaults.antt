@@ -30,7 +30,7 @@ rank wrong_argument = 1
 rank wrong_result = 2
 rank dead_clause = 3
 
--- the earlier place comes first
+-- the earlier place comes first, and at one place the lower rank
 abbrev pub line_precedes : Line → Line → Bool
 line_precedes l m = is_earlier l.place m.place || (is_same_place l.place m.place && nat_lt (rank l.kind) (rank m.kind))
 
@@ -49,7 +49,7 @@ abbrev pub parameters_of : Option FunctionDefinition → List Parameter
 parameters_of None = []
 parameters_of (Some f) = f.parameters
 
--- a document that the scrutinee may be comes behind these patterns
+-- the scrutinee may be this document, and none of these patterns takes it
 abbrev pub Comes : ProgramTree → Scope → Expression → List PlacedTree → Document → Type 0
 Comes P S e earlier d = Arrives (names_of P) (May P S e) earlier d
 
@@ -63,7 +63,7 @@ pub record IsProperWith (A : Document → Type 0) (d : Document) : Type 0 where
   pub meets : A d
 
 -- Of the documents that it may carry, a fault carries a least one by this measure. That of the
--- faults is the size of documents; another tells less of them apart, as sizes up to a limit do.
+-- faults is the size of documents; another tells fewer of them apart, as sizes up to a limit do.
 module _ (measure : Document → ℕ) where
   -- one line with a least document of those that meet the fact, or no line where none does
   abbrev pub LineWhere : Place → LineKind → (Document → Type 0) → List Line → Type 0
@@ -88,9 +88,9 @@ module _ (measure : Document → ℕ) where
         Both (LinesOf P S e)
         (Both (LineWhere (place_of_expression e) wrong_argument (Misfits P S e q.declared)) (LinesOfArguments P S qs es)) ls
 
-    -- Clauses of a match at a place of a scrutinee, behind these patterns. A clause that is live
-    -- has the lines of its body; one that is not has a warning and nothing else. Behind the last a
-    -- document that comes there has a line at the match.
+    -- The lines of clauses of a match at this place, with this scrutinee, after these patterns. A
+    -- clause that is live has the lines of its body; one that is not has a warning and nothing
+    -- else. After the last a document that comes there has a line at the match.
     pub LinesOfClauses : ProgramTree → Scope → Place → Expression → List PlacedTree → Clauses → List Line → Type 0
     LinesOfClauses P S p e earlier no_clause ls = LineWhere p not_exhaustive (Comes P S e earlier) ls
     LinesOfClauses P S p e earlier (clause Q f cs) ls =
@@ -100,7 +100,8 @@ module _ (measure : Document → ℕ) where
         ⊎ ((IsLiveIn P S e earlier Q → ⊥) × (ms ≡ record { place = place_of Q; kind = dead_clause; document = None } ∷ [])))
         (LinesOfClauses P S p e (Q ∷ earlier) cs) ls
 
-  -- the lines of a function are those of its body, where its parameters are in scope
+  -- the lines of a function are those inside its body, where its parameters are in scope, and that
+  -- of its result
   abbrev pub LinesOfFunction : ProgramTree → FunctionDefinition → List Line → Type 0
   LinesOfFunction P f ls =
       let S : Scope = parameters_scope f.parameters in

@@ -36,7 +36,7 @@ abbrev mutual
   MatchesOfArguments P S no_argument ms = ms ≡ []
   MatchesOfArguments P S (argument e es) ms = InTurn (MatchesOf P S e) (MatchesOfArguments P S es) ms
 
-  -- those in the bodies of clauses of a scrutinee, behind these patterns
+  -- those in the bodies of clauses of a scrutinee, after these patterns
   pub MatchesOfClauses : ProgramTree → Scope → Expression → List PlacedTree → Clauses → List SeenMatch → Type 0
   MatchesOfClauses P S e earlier no_clause ms = ms ≡ []
   MatchesOfClauses P S e earlier (clause Q f cs) ms =

@@ -37,7 +37,7 @@ abbrev pub NoneTakes : Definitions → List PlacedTree → Document → Type 0
 NoneTakes E [] d = Unit {0}
 NoneTakes E (P ∷ Ps) d = (Takes E (unplaced P) d → ⊥) × NoneTakes E Ps d
 
--- a document that the scrutinee may be comes to a clause behind these patterns
+-- a document that the scrutinee may be comes to a clause after these patterns
 abbrev pub Arrives : Definitions → (Document → Type 0) → List PlacedTree → Document → Type 0
 Arrives E A earlier d = (is_proper d ≡ true) × A d × NoneTakes E earlier d
 

@@ -28,7 +28,7 @@ abbrev pub duplicates : List (List ℕ) → List Spot → List Fault
 duplicates seen [] = []
 duplicates seen (s ∷ ss) = fault_if (has_word seen s.word) s.place (DuplicateName s.word) ++ duplicates (s.word ∷ seen) ss
 
--- the names of parameters, those of one function at a time
+-- the words and places of the parameters of one function
 abbrev pub parameter_spots : List Parameter → List Spot
 parameter_spots ps = map (λ (p : Parameter). let s : Spot = record { word = p.name; place = p.place } in s) ps
 
@@ -44,7 +44,7 @@ duplicate_names p =
 abbrev pub known_types : ProgramTree → List (List ℕ)
 known_types p = any_word ∷ map (λ (t : TypeDefinition). t.name) p.types
 
--- uses of names of types that are not among these
+-- a fault at each use of a name of a type that is not among these
 abbrev pub unknown_types : List (List ℕ) → PlacedTree → List Fault
 unknown_types known (Name_at p x) = fault_if (not (has_word known x)) p (UnknownType x)
 unknown_types known (Elem_at p c T) = unknown_types known T
@@ -56,7 +56,7 @@ unknown_types known (Opt_at p T) = unknown_types known T
 unknown_types known (Val_at p x q T) = unknown_types known T
 unknown_types known _ = []
 
--- a variable is in every branch of an alternative
+-- a variable is in every branch of an alternative; a tree that is none is one branch
 abbrev pub in_each_branch : List ℕ → PlacedTree → Bool
 in_each_branch x (Alt_at p T U) = has_word (variables T) x && in_each_branch x U
 in_each_branch x T = has_word (variables T) x
@@ -69,7 +69,7 @@ lacking_somewhere A = filter (λ x. not (in_each_branch x A)) (variables A)
 abbrev pub without : List (List ℕ) → List (List ℕ) → List (List ℕ)
 without gone xs = filter (λ x. not (has_word gone x)) xs
 
--- an occurrence of a variable, and whether it is wrong by what was looked at
+-- an occurrence of a variable, and whether a rule that was looked at makes it wrong
 pub record Occurrence : Type 0 where
   pub word : List ℕ
   pub place : Place
@@ -81,24 +81,25 @@ occurrence x p = record { word = x; place = p; is_wrong = false }
 abbrev pub wrong_if : Bool → Occurrence → Occurrence
 wrong_if b o = record o { is_wrong = o.is_wrong || b }
 
--- the occurrences of these variables are wrong
+-- marks the occurrences of these variables as wrong
 abbrev pub wrong_among : List (List ℕ) → List Occurrence → List Occurrence
 wrong_among xs os = map (λ (o : Occurrence). wrong_if (has_word xs o.word) o) os
 
--- the first occurrence of each of these variables is wrong
+-- marks the first occurrence of each of these variables as wrong
 abbrev pub first_wrong : List (List ℕ) → List Occurrence → List Occurrence
 first_wrong xs [] = []
 first_wrong xs (o ∷ os) = wrong_if (has_word xs o.word) o ∷ first_wrong (without (o.word ∷ []) xs) os
 
--- in an alternative the first occurrence of each variable that a branch lacks is wrong
+-- marks in an alternative the first occurrence of each variable that some branch lacks as wrong
 abbrev pub by_branches : PlacedTree → List Occurrence → List Occurrence
 by_branches (Alt_at p T U) os = first_wrong (lacking_somewhere (Alt_at p T U)) os
 by_branches T os = os
 
--- The occurrences of variables in a pattern, in order, wrong where they stand under a repetition or
--- an option, after another of the same variable but in another branch, or within an alternative as
--- `by_branches` says. What an alternative lacks itself is left to the caller: its rest is an
--- alternative, too, but not one of its own.
+-- The occurrences of variables in a pattern, in order. One is wrong where it stands under a
+-- repetition or an option; where an earlier one of the same variable stands before it, and the two
+-- aren't in different branches of an alternative; or, for an alternative inside, as `by_branches`
+-- says. For an alternative itself the caller asks `by_branches`: the rest of an alternative has the
+-- form of one, and isn't one.
 abbrev pub occurrences_in : PlacedTree → List Occurrence
 occurrences_in (Elem_at p c T) = by_branches T (occurrences_in T)
 occurrences_in (Seq_at p T U) =

@@ -8,10 +8,10 @@ use Rattle.xd_syntax.specs.declared.fault.FaultKind.{FaultKind}
 use Rattle.xd_syntax.specs.declared.fault.FaultKind.TheVariants.{NotLinear}
 
 -- Occurrences of variables that are not linear. `repeated`: a repetition or an option stands
--- around. `earlier`: the variables that occurred before and not in another branch of an alternative
--- around both. `partial`: the variables whose first occurrence in an alternative around comes now
--- or later, and that a branch of that alternative lacks. `inner`: an alternative is the rest of the
--- one around it.
+-- around. `earlier`: the variables with an earlier occurrence that isn't in another branch of an
+-- alternative around both. `partial`: the variables whose first occurrence in an alternative around
+-- comes now or later, and that a branch of that alternative lacks. `inner`: an alternative is the
+-- rest of the one around it.
 abbrev pub not_linear : (repeated : Bool) (earlier partial : List (List ℕ)) (inner : Bool) → PlacedTree → List Fault
 not_linear r earlier partial inner (Elem_at p c T) = not_linear r earlier partial false T
 not_linear r earlier partial inner (Seq_at p T U) =

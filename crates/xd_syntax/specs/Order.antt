@@ -40,7 +40,7 @@ comes_before (Some p) m (Some q) n = is_earlier p q || (is_same_place p q && nat
 abbrev pub precedes : Fault → Fault → Bool
 precedes f g = comes_before f.place (number_of f.kind) g.place (number_of g.kind)
 
--- an item among items in order, in front of those that it precedes and behind the others
+-- an item among items in order, in front of those that it precedes and after the others
 abbrev pub put_in : {A : Type 0} → (A → A → Bool) → A → List A → List A
 put_in before x [] = x ∷ []
 put_in before x (y ∷ ys) = cond (before x y) (x ∷ (y ∷ ys)) (y ∷ put_in before x ys)

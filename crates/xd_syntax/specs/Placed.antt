@@ -46,7 +46,7 @@ unplaced (Plus_at p T) = Plus (unplaced T)
 unplaced (Opt_at p T) = Opt (unplaced T)
 unplaced (Val_at p x q T) = Val x (unplaced T)
 
--- The node of a list of parts. What stands behind the first part has the place of the second.
+-- The node of a list of parts. What stands after the first part has the place of the second.
 abbrev pub placed_seq : Place → List PlacedTree → PlacedTree
 placed_seq p [] = Empty_at p
 placed_seq p (t ∷ []) = t

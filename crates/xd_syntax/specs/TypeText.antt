@@ -57,7 +57,7 @@ class_text c = cond c.except (excepted_text c.names) (labels_text c.names)
 abbrev pub quoted : List ℕ → List ℕ
 quoted s = codes "\"" ++ escaped_all s ++ codes "\""
 
--- one text stands alone, or behind `^`; more stand behind `^` in parentheses
+-- one text stands alone, or after `^`; more stand after `^` in parentheses
 abbrev pub words_text : TextClass → List ℕ
 words_text w = cond w.except (codes "^") [] ++ labels_text (map quoted w.names)
 

@@ -29,7 +29,7 @@ variable_at S e earlier Q o = record { place = o.place; variable = o.variable; s
 abbrev pub variables_of_clause : Scope → Expression → List PlacedTree → PlacedTree → List SeenVariable
 variables_of_clause S e earlier Q = map (variable_at S e earlier Q) (first_occurrences (occurrences_in Q))
 
--- those of clauses behind these patterns, whether or not the clauses are live
+-- those of clauses after these patterns, whether or not the clauses are live
 abbrev pub variables_of_clauses : Scope → Expression → List PlacedTree → Clauses → List SeenVariable
 variables_of_clauses S e earlier no_clause = []
 variables_of_clauses S e earlier (clause Q f cs) = variables_of_clause S e earlier Q ++ variables_of_clauses S e (Q ∷ earlier) cs
