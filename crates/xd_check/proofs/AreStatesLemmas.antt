@@ -20,7 +20,7 @@ use Rattle.xd_clauses.specs.Clauses.{AreMayGivens, IsMayGiven}
 use Rattle.xd_check.specs.declared.variables.Variable.{Variable}
 use Rattle.xd_check.specs.InScope.{AcceptedBy, AreStates, ScopeStands, given_variables, parameters_in_scope, state_of}
 use Rattle.xd_check.specs.Signed.{AreParameters}
-use Rattle.xd_check.specs.Walked.{ComesBehind, Grows}
+use Rattle.xd_check.specs.Walked.{ComesTo, Grows}
 use Rattle.xd_check.proofs.ClauseLemmas.{bound_stands}
 use Rattle.xd_check.proofs.GrowsLemmas.{scope_kept, states_kept}
 
@@ -46,11 +46,11 @@ module _ (E : Definitions) (C : Document → Type 0) (Q : PlacedTree) (a : Autom
       (let one : IsMayGiven E C [] Q a g = All-head (IsMayGiven E C [] Q a) g gs h in one.exact, given_bound gs (All-tail (IsMayGiven E C [] Q a) g gs h))
 
 -- the scope of a clause
-pub clause_scope : (P : ProgramTree) (S : Scope) (e : Expression) (earlier : List PlacedTree) (C : Document → Type 0) → ComesBehind P S e earlier C → (Q : PlacedTree) (a b : Automaton) (vs ws : List Variable) (gs : List Given) →
+pub clause_scope : (P : ProgramTree) (S : Scope) (e : Expression) (earlier : List PlacedTree) (C : Document → Type 0) (Q : PlacedTree) → ComesTo P S e earlier Q C → (a b : Automaton) (vs ws : List Variable) (gs : List Given) →
     Grows a b → AreStates a vs → ScopeStands P S a vs → AreMayGivens (names_of P) C [] Q b gs → ws ≡ given_variables gs ++ vs → ScopeStands P (clause_entry e earlier Q ∷ S) b ws
-clause_scope P S e earlier C comes Q a b vs ws gs g h stands k m =
+clause_scope P S e earlier C Q comes a b vs ws gs g h stands k m =
     subst (ScopeStands P (clause_entry e earlier Q ∷ S) b) (sym m)
-    (bound_stands P S e earlier C comes Q b vs (scope_kept P S a b g vs h stands) (given_variables gs)
+    (bound_stands P S e earlier C Q comes b vs (scope_kept P S a b g vs h stands) (given_variables gs)
     (given_bound (names_of P) C Q b gs k.each) (given_names (names_of P) C Q b gs ∙ k.variables))
 
 pub clause_states : (E : Definitions) (C : Document → Type 0) (Q : PlacedTree) (a b : Automaton) (vs ws : List Variable) (gs : List Given) → Grows a b → AreStates a vs → AreMayGivens E C [] Q b gs → ws ≡ given_variables gs ++ vs → AreStates b ws

@@ -28,7 +28,7 @@ use Rattle.xd_check.specs.declared.variables.Variable.{Variable}
 use Rattle.xd_laws.proofs.SameScopes.{line_within}
 use Rattle.xd_check.specs.FoundLines.{AddsLines, told_size}
 use Rattle.xd_check.specs.InScope.{AcceptedBy, ScopeStands, state_of}
-use Rattle.xd_check.specs.Walked.{AcceptedBySome, AcceptsJust, AreClausesWalked, ComesBehind, Grows, IsClauseWalked, IsWalked, LinesOfClause, with_found}
+use Rattle.xd_check.specs.Walked.{AcceptedBySome, AcceptsJust, AreClausesWalked, ComesBehind, ComesTo, Grows, IsClauseWalked, IsWalked, LinesOfClause, with_found}
 use Rattle.xd_check.proofs.LineLists.{adds_as, adds_both}
 use Rattle.xd_check.proofs.AddsLinesLemmas.{Goes, goes_begin, goes_end, goes_more}
 
@@ -43,30 +43,21 @@ once_has (y ∷ ys) x h =
           (left_without (y ∷ []) (each_once ys) x (once_has ys x b.1) (rw b.0 refl))
     ]
 
+-- what comes behind the earlier patterns comes to a further one
+pub comes_on : (P : ProgramTree) (S : Scope) (e : Expression) (earlier : List PlacedTree) (C : Document → Type 0) → ComesBehind P S e earlier C → (Q : PlacedTree) → ComesTo P S e earlier Q C
+comes_on P S e earlier C comes Q d p t = comes d p
+
+-- the same documents come
+pub comes_like : (P : ProgramTree) (S : Scope) (e : Expression) (earlier : List PlacedTree) (C D : Document → Type 0) → ((d : Document) → D d ↔ C d) → ComesBehind P S e earlier C → ComesBehind P S e earlier D
+comes_like P S e earlier C D same comes d p = let x = same d in let y = comes d p in (λ m. y.0 (x.0 m), λ m. x.1 (y.1 m))
+
+-- so does what is the same among the documents that it takes
+pub comes_among : (P : ProgramTree) (S : Scope) (e : Expression) (earlier : List PlacedTree) (B C : Document → Type 0) (Q : PlacedTree) → ComesBehind P S e earlier B → ((d : Document) → Takes (names_of P) (unplaced Q) d → C d ↔ B d) → ComesTo P S e earlier Q C
+comes_among P S e earlier B C Q comes among d p t = let i = among d t in let j = comes d p in (λ m. j.0 (i.0 m), λ m. i.1 (j.1 m))
+
 module _ (P : ProgramTree) (S : Scope) (e : Expression) (earlier : List PlacedTree) (C : Document → Type 0) (comes : ComesBehind P S e earlier C) where
-  abbrev E : Definitions
-  E = names_of P
-
-  arrives_from : (d : Document) → Arrives E C [] d → Arrives E (May P S e) earlier d
-  arrives_from d h = let i = (comes d h.0).0 h.1 in (h.0, i.0, i.1)
-
-  arrives_to : (d : Document) → Arrives E (May P S e) earlier d → Arrives E C [] d
-  arrives_to d h = (h.0, (comes d h.0).1 (h.1, h.2), tt)
-
-  pub live_from : (Q : PlacedTree) → IsLive E C [] Q → IsLiveIn P S e earlier Q
-  live_from Q h = (h.0, arrives_from h.0 h.1, h.2)
-
-  pub live_to : (Q : PlacedTree) → IsLiveIn P S e earlier Q → IsLive E C [] Q
-  live_to Q h = (h.0, arrives_to h.0 h.1, h.2)
-
-  pub bind_from : (Q : PlacedTree) (x : List ℕ) (d : Document) → MayBind E C [] Q x d → MayBind E (May P S e) earlier Q x d
-  bind_from Q x d h = (h.0, h.1, arrives_from h.0 h.2, h.3, h.4)
-
-  pub bind_to : (Q : PlacedTree) (x : List ℕ) (d : Document) → MayBind E (May P S e) earlier Q x d → MayBind E C [] Q x d
-  bind_to Q x d h = (h.0, h.1, arrives_to h.0 h.2, h.3, h.4)
-
   -- what is left comes behind the pattern too, where nothing was taken away for a dead clause
-  pub passed : (Q : PlacedTree) (o : Option State) (D : Document → Type 0) → (o ≡ None → IsLiveIn P S e earlier Q → ⊥) → ((d : Document) → D d ↔ (C d × (o ≢ None → Takes E (unplaced Q) d → ⊥))) → ComesBehind P S e (Q ∷ earlier) D
+  pub passed : (Q : PlacedTree) (o : Option State) (D : Document → Type 0) → (o ≡ None → IsLiveIn P S e earlier Q → ⊥) → ((d : Document) → D d ↔ (C d × (o ≢ None → Takes (names_of P) (unplaced Q) d → ⊥))) → ComesBehind P S e (Q ∷ earlier) D
   passed Q None D dead h d p = (
     (λ m. (let j = (comes d p).0 ((h d).0 m).0 in (j.0, ((λ t. dead refl (d, (p, j.0, j.1), t)), j.1)))),
     (λ m. (h d).1 ((comes d p).1 (m.0, (m.1).1), (λ x. (m.1).0))),
@@ -83,8 +74,30 @@ module _ (P : ProgramTree) (S : Scope) (e : Expression) (earlier : List PlacedTr
   pub comes_from : (d : Document) → is_proper d ≡ true → C d → Comes P S e earlier d
   comes_from d p h = let i = (comes d p).0 h in (p, i.0, i.1)
 
+module _ (P : ProgramTree) (S : Scope) (e : Expression) (earlier : List PlacedTree) (C : Document → Type 0) (Q : PlacedTree) (comes : ComesTo P S e earlier Q C) where
+  abbrev E : Definitions
+  E = names_of P
+
+  arrives_from : (d : Document) → Takes E (unplaced Q) d → Arrives E C [] d → Arrives E (May P S e) earlier d
+  arrives_from d t h = let i = (comes d h.0 t).0 h.1 in (h.0, i.0, i.1)
+
+  arrives_to : (d : Document) → Takes E (unplaced Q) d → Arrives E (May P S e) earlier d → Arrives E C [] d
+  arrives_to d t h = (h.0, (comes d h.0 t).1 (h.1, h.2), tt)
+
+  pub live_from : IsLive E C [] Q → IsLiveIn P S e earlier Q
+  live_from h = (h.0, arrives_from h.0 h.2 h.1, h.2)
+
+  pub live_to : IsLiveIn P S e earlier Q → IsLive E C [] Q
+  live_to h = (h.0, arrives_to h.0 h.2 h.1, h.2)
+
+  pub bind_from : (x : List ℕ) (d : Document) → MayBind E C [] Q x d → MayBind E (May P S e) earlier Q x d
+  bind_from x d h = (h.0, h.1, arrives_from h.0 (h.1, h.3) h.2, h.3, h.4)
+
+  pub bind_to : (x : List ℕ) (d : Document) → MayBind E (May P S e) earlier Q x d → MayBind E C [] Q x d
+  bind_to x d h = (h.0, h.1, arrives_to h.0 (h.1, h.3) h.2, h.3, h.4)
+
   -- variables with states that accept what the pattern may bind them to, in front of a scope
-  module _ (Q : PlacedTree) (a : Automaton) (vs : List Variable) (stands : ScopeStands P S a vs) where
+  module _ (a : Automaton) (vs : List Variable) (stands : ScopeStands P S a vs) where
     abbrev pub IsBound : Variable → Type 0
     IsBound v = (d : Document) → is_proper d ≡ true → (accepts a d v.state ≡ true) ↔ MayBind E C [] Q v.name d
 
@@ -102,8 +115,8 @@ module _ (P : ProgramTree) (S : Scope) (e : Expression) (earlier : List PlacedTr
             AcceptedBy a (cond t (Some v.state) (state_of (us ++ vs) x)) d ↔ WhereTrue (t || has_word (names us) x) (MayBind E (May P S e) earlier Q x d) (Allows P S x d)
         go true q r =
             (let s : v.name ≡ x = same_word_eq v.name x q in (
-              (λ m. bind_from Q x d (subst (λ y. MayBind E C [] Q y d) s ((b.0 d p).0 m))),
-              (λ m. (b.0 d p).1 (subst (λ y. MayBind E C [] Q y d) (sym s) (bind_to Q x d m))),
+              (λ m. bind_from x d (subst (λ y. MayBind E C [] Q y d) s ((b.0 d p).0 m))),
+              (λ m. (b.0 d p).1 (subst (λ y. MayBind E C [] Q y d) (sym s) (bind_to x d m))),
             ))
         go false q r = r
 
@@ -141,18 +154,6 @@ clause_live P S e earlier Q f a ds old new s l w = record {
   dead = λ r. absurd (cc);
 }
 
--- the automaton may grow behind a clause
-pub clause_kept : (P : ProgramTree) (S : Scope) (e : Expression) (earlier : List PlacedTree) (Q : PlacedTree) (f : Expression) (a b : Automaton) (ds : List Document) (old new : List FoundLine) (o : Option State) →
-    Grows a b → IfSome o (IsState a) → IsClauseWalked P S e earlier Q f a ds old new o → IsClauseWalked P S e earlier Q f b ds old new o
-clause_kept P S e earlier Q f a b ds old new None g i w = record { may = w.may; lines = w.lines; dead = w.dead }
-clause_kept P S e earlier Q f a b ds old new (Some s) g i w = record {
-  may = λ d p.
-      (let same : accepts b d s ≡ accepts a d s = g.keeps d s i in
-      ((λ m. (w.may d p).0 (sym same ∙ m)), (λ m. same ∙ (w.may d p).1 m)));
-  lines = w.lines;
-  dead = w.dead;
-}
-
 -- clauses from some on are still to be walked
 pub record AreClausesGoing (P : ProgramTree) (S : Scope) (p : Place) (e : Expression) (all left : Clauses) (C : Document → Type 0) (a : Automaton) (ds : List Document) (old new : List FoundLine) (ss : List State) : Type 0 where
   pub earlier : List PlacedTree
@@ -187,6 +188,21 @@ some_push a (t ∷ ts) s d =
 some_either : (a : Automaton) (ss us : List State) (o : Option State) → us ≡ with_found ss o → (d : Document) → AcceptedBySome a us d ↔ (AcceptedBySome a ss d ⊎ AcceptedBy a o d)
 some_either a ss us None e d = subst (λ vs. AcceptedBySome a vs d ↔ (AcceptedBySome a ss d ⊎ ⊥)) (sym e) ((λ m. inl m), (λ m. elim m [ inl x ↦ x | inr x ↦ absurd x ]))
 some_either a ss us (Some s) e d = subst (λ vs. AcceptedBySome a vs d ↔ (AcceptedBySome a ss d ⊎ (accepts a d s ≡ true))) (sym e) (some_push a ss s d)
+
+-- the automaton grows, and what comes is told in another way
+pub going_on : (P : ProgramTree) (S : Scope) (p : Place) (e : Expression) (all left : Clauses) (C D : Document → Type 0) (a b : Automaton) (ds : List Document) (old new : List FoundLine) (ss : List State) →
+    Grows a b → AllByRecursion (IsState a) ss → ((d : Document) → D d ↔ C d) → AreClausesGoing P S p e all left C a ds old new ss → AreClausesGoing P S p e all left D b ds old new ss
+going_on P S p e all left C D a b ds old new ss grows there same g = record {
+  earlier = g.earlier;
+  comes = comes_like P S e g.earlier C D same g.comes;
+  may = λ d q.
+      (let x = g.may d q in
+      let k = some_kept a b grows ss there d in (
+        (λ m. elim (x.0 m) [ inl y ↦ inl (k.1 y) | inr y ↦ inr y ]),
+        (λ m. elim m [ inl y ↦ x.1 (inl (k.0 y)) | inr y ↦ x.1 (inr y) ]),
+      ));
+  lines = g.lines;
+}
 
 -- one more clause is walked
 pub clauses_more : (P : ProgramTree) (S : Scope) (p : Place) (e : Expression) (all left : Clauses) (Q : PlacedTree) (f : Expression) (C D : Document → Type 0) (a b : Automaton) (ds es : List Document) (old mid new : List FoundLine) (ss us : List State) (o : Option State) →

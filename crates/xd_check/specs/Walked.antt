@@ -4,8 +4,9 @@ use Rattle.xd_base.specs.declared.Place.{Place}
 use Rattle.xd_doc.specs.Document.{Document, empty, is_proper}
 use Rattle.xd_auto.specs.declared.auto.State.{State}
 use Rattle.xd_auto.specs.Automaton.{Automaton, Extends, KeepsAccepting, accepts}
-use Rattle.xd_syntax.specs.Placed.{PlacedTree, place_of}
+use Rattle.xd_syntax.specs.Placed.{PlacedTree, place_of, unplaced}
 use Rattle.xd_syntax.specs.Fits.{Split}
+use Rattle.xd_syntax.specs.Ways.{Takes}
 use Rattle.xd_syntax.specs.Expression.{Expression, Clauses}
 use Rattle.xd_syntax.specs.Program.{ProgramTree, names_of}
 use Rattle.xd_syntax.specs.May.{Scope, May, NoneTakes, clause_entry}
@@ -53,6 +54,10 @@ pub record ArePartsWalked (P : ProgramTree) (S : Scope) (es : List Expression) (
 -- takes
 abbrev pub ComesBehind : ProgramTree → Scope → Expression → List PlacedTree → (Document → Type 0) → Type 0
 ComesBehind P S e earlier C = (d : Document) → is_proper d ≡ true → C d ↔ (May P S e d × NoneTakes (names_of P) earlier d)
+
+-- of the proper documents that a further pattern takes those of C are just these
+abbrev pub ComesTo : ProgramTree → Scope → Expression → List PlacedTree → PlacedTree → (Document → Type 0) → Type 0
+ComesTo P S e earlier Q C = (d : Document) → is_proper d ≡ true → Takes (names_of P) (unplaced Q) d → C d ↔ (May P S e d × NoneTakes (names_of P) earlier d)
 
 -- the lines of a clause, its body's where it is live, else its warning
 abbrev pub LinesOfClause : ProgramTree → Scope → Expression → List PlacedTree → PlacedTree → Expression → List Line → Type 0

@@ -4,16 +4,17 @@
 ghost use Rattle.std.specs.Prelude.{◌≡◌, ◌≢◌, ◌↔◌, ◌++◌, None, IfOk, OnOk};
 ghost use Rattle.xd_doc.specs.Document.{Document};
 ghost use Rattle.xd_doc.specs.StoreNodes.{Keeps};
-ghost use Rattle.xd_auto.specs.Automaton.{IsState};
+ghost use Rattle.xd_auto.specs.Automaton.{Automaton, IsState};
 ghost use Rattle.xd_syntax.specs.CheckFaults.{LineWhere, not_exhaustive};
 ghost use Rattle.xd_syntax.specs.Placed.{PlacedTree, unplaced};
 ghost use Rattle.xd_syntax.specs.Tree.{Definitions};
 ghost use Rattle.xd_syntax.specs.Ways.{Takes};
+ghost use Rattle.xd_clauses.specs.Behind.{AreWaiting, Remains, StandsIn};
 ghost use Rattle.xd_clauses.specs.Clauses.{Accepted, IsPatternOf};
 ghost use Rattle.xd_check.specs.FoundLines.{AddsLines, told_size};
 ghost use Rattle.xd_check.specs.InScope.{given_variables};
 ghost use Rattle.xd_check.specs.Known.{IsKnown};
-ghost use Rattle.xd_check.specs.Walked.{Grows, with_found};
+ghost use Rattle.xd_check.specs.Walked.{with_found};
 
 use crate::known::Known;
 use crate::lines::{Finding, FoundLine};
@@ -22,7 +23,7 @@ use std::alloc::Global;
 use xd_auto::{Auto, State};
 use xd_base::Place;
 use xd_bind::Given;
-use xd_clauses::{ClausePattern, accepted_document};
+use xd_clauses::{ClausePattern, Remaining, accepted_document};
 use xd_doc::{NoMemory, Store};
 
 /// Brings the variables of a pattern into scope, the first one as the newest.
@@ -40,29 +41,25 @@ pub(crate) fn bring_in(givens: Vec<Given>, variables: &mut Variables) -> Result<
     Ok(())
 }
 
-/// A state for what goes on to the next clause: what the pattern doesn't take, where a state was
-/// found since the clause is live. A dead clause takes nothing, so all that came to it goes on, as
-/// the state that it was. The state that was found is put behind the others.
+/// What remains behind a clause: what its pattern doesn't take, where a state was found since the
+/// clause is live. A dead clause takes nothing. The state that was found is put behind the others.
 pub(crate) fn pass_on(
-    alloc: Global,
     pattern: &ClausePattern,
     found: Option<State>,
-    auto: &mut Auto,
-    arriving: State,
+    remaining: Remaining,
     states: &mut Vec<State>,
-) -> Result<State, NoMemory>
-    requires { IsState auto.old arriving }
-    ensures belongs { IfOk result (IsState auto.new) }
-    ensures exact { IfOk result (λ left. (E : Definitions) (P : PlacedTree) → IsPatternOf E (unplaced P) pattern.now → (d : Document) → Accepted auto.new left d ↔ (Accepted auto.old arriving d × (found ≢ None → Takes E (unplaced P) d → ⊥))) }
-    ensures grows { OnOk result (Grows auto.old auto.new) }
+) -> Result<Remaining, NoMemory>
+    requires { AreWaiting remaining.waiting }
+    ensures stands { IfOk result (λ left. (a : Automaton) → StandsIn a remaining → StandsIn a left) }
+    ensures remains { IfOk result (λ left. (E : Definitions) (P : PlacedTree) → IsPatternOf E (unplaced P) pattern.now → (a : Automaton) (d : Document) → Remains a left d ↔ (Remains a remaining d × (found ≢ None → Takes E (unplaced P) d → ⊥))) }
     ensures states { OnOk result (states.new.items ≡ with_found states.old.items found) }
 {
     match found {
         Some(state) => {
             states.push(state)?;
-            Ok(pattern.pass(alloc, auto, arriving)?)
+            Ok(remaining.without(pattern)?)
         }
-        None => Ok(arriving),
+        None => Ok(remaining),
     }
 }
 

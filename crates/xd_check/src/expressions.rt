@@ -24,7 +24,7 @@ ghost use Rattle.xd_check.specs.InScope.{AreStates, ScopeStands};
 ghost use Rattle.xd_check.specs.Known.{IsKnown};
 ghost use Rattle.xd_check.specs.Signed.{AreParameters};
 ghost use Rattle.xd_check.specs.Ready.{CanBeWalked, ClauseCanBeWalked, IsReady, expr_at};
-ghost use Rattle.xd_check.specs.Walked.{AreClausesWalked, ArePartsWalked, ComesBehind, Grows, IsClauseWalked, IsWalked, LinesOfArgument};
+ghost use Rattle.xd_check.specs.Walked.{AreClausesWalked, ArePartsWalked, ComesBehind, ComesTo, Grows, IsClauseWalked, IsWalked, LinesOfArgument};
 
 use crate::checker::Checker;
 use crate::clauses::{bring_in, pass_on, see_uncovered};
@@ -34,7 +34,7 @@ use crate::states::{join_states, misfit, text_state, unite_states, variable_stat
 use crate::variables::Variables;
 use xd_auto::{Auto, State};
 use xd_base::Place;
-use xd_clauses::ClausePattern;
+use xd_clauses::{ClausePattern, Remaining};
 use xd_doc::{Label, NoMemory, Store};
 use xd_syntax::{Clause, ExprForm, ExprId};
 
@@ -224,7 +224,7 @@ impl Checker {
         &self,
         place: Place,
         clauses: &[Clause],
-        arriving: State,
+        scrutinee: State,
         variables: &mut Variables,
         auto: &mut Auto,
         known: &mut Known,
@@ -233,17 +233,17 @@ impl Checker {
     ) -> Result<State, NoMemory>
         requires ready { IsReady self.now auto.old }
         requires clauses { AllByRecursion (ClauseCanBeWalked self.now.sound) (clause_numbers clauses.now) }
-        requires arriving { IsState auto.old arriving }
+        requires scrutinee { IsState auto.old scrutinee }
         requires variables { AreStates auto.old variables.old }
         requires known { IsKnown auto.old store.old known.old }
         ensures belongs { IfOk result (IsState auto.new) }
-        ensures walked { IfOk result (λ state. (S : Scope) (e : Expression) → ScopeStands (program_tree self.now.sound) S auto.old variables.old → ComesBehind (program_tree self.now.sound) S e [] (Accepted auto.old arriving) → AreClausesWalked (program_tree self.now.sound) S place e (clauses_of (placed_at self.now.sound.patterns) (expr_at self.now.sound) (clause_numbers clauses.now)) auto.new store.new lines.old.items lines.new.items state) }
+        ensures walked { IfOk result (λ state. (S : Scope) (e : Expression) → ScopeStands (program_tree self.now.sound) S auto.old variables.old → ComesBehind (program_tree self.now.sound) S e [] (Accepted auto.old scrutinee) → AreClausesWalked (program_tree self.now.sound) S place e (clauses_of (placed_at self.now.sound.patterns) (expr_at self.now.sound) (clause_numbers clauses.now)) auto.new store.new lines.old.items lines.new.items state) }
         ensures variables { OnOk result (variables.new ≡ variables.old) }
         ensures grows { OnOk result (Grows auto.old auto.new) }
         ensures known { OnOk result (IsKnown auto.new store.new known.new) }
         ensures keeps { Keeps store.old store.new }
     {
-        let mut arriving = arriving;
+        let mut remaining = Remaining::new(self.alloc, scrutinee)?;
         let mut states = Vec::new(self.alloc);
         for clause in clauses {
             let pattern = ClausePattern::new(
@@ -252,13 +252,14 @@ impl Checker {
                 &self.sound,
                 clause.pattern,
             )?;
+            let (coming, arriving) = remaining.coming_to(self.alloc, auto, &pattern)?;
             let found = self.in_clause(
                 *clause, &pattern, arriving, variables, auto, known, lines, store,
             )?;
-            let left = pass_on(self.alloc, &pattern, found, auto, arriving, &mut states)?;
-            arriving = left;
+            remaining = pass_on(&pattern, found, coming, &mut states)?;
         }
-        see_uncovered(self.alloc, place, auto, arriving, known, lines, store)?;
+        let left = remaining.left_over(self.alloc, auto)?;
+        see_uncovered(self.alloc, place, auto, left, known, lines, store)?;
         Ok(unite_states(states, auto)?)
     }
 
@@ -282,7 +283,7 @@ impl Checker {
         requires variables { AreStates auto.old variables.old }
         requires known { IsKnown auto.old store.old known.old }
         ensures belongs { IfOk result (λ found. IfSome found (IsState auto.new)) }
-        ensures walked { IfOk result (λ found. (S : Scope) (e : Expression) (earlier : List PlacedTree) → ScopeStands (program_tree self.now.sound) S auto.old variables.old → ComesBehind (program_tree self.now.sound) S e earlier (Accepted auto.old arriving) → IsClauseWalked (program_tree self.now.sound) S e earlier (placed_at self.now.sound.patterns clause.pattern.at) (expr_at self.now.sound clause.body.at) auto.new store.new lines.old.items lines.new.items found) }
+        ensures walked { IfOk result (λ found. (S : Scope) (e : Expression) (earlier : List PlacedTree) → ScopeStands (program_tree self.now.sound) S auto.old variables.old → ComesTo (program_tree self.now.sound) S e earlier (placed_at self.now.sound.patterns clause.pattern.at) (Accepted auto.old arriving) → IsClauseWalked (program_tree self.now.sound) S e earlier (placed_at self.now.sound.patterns clause.pattern.at) (expr_at self.now.sound clause.body.at) auto.new store.new lines.old.items lines.new.items found) }
         ensures variables { OnOk result (variables.new ≡ variables.old) }
         ensures grows { OnOk result (Grows auto.old auto.new) }
         ensures known { OnOk result (IsKnown auto.new store.new known.new) }

@@ -7,5 +7,5 @@ pub mod OwnedLemmas
 pub mod AreMayGivensLemmas
 pub mod NoneTakesLemmas
 pub mod Givens
+pub mod BeginsLemmas
 pub mod Leaving
-pub mod Unions

@@ -4,4 +4,5 @@ pub mod OfPatterns
 pub mod Clauses
 pub mod Cases
 pub mod Laws
+pub mod Begins
 pub mod Behind

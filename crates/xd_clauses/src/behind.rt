@@ -1,141 +1,37 @@
-//! The patterns of a match's clauses together, and what comes to each of them.
+//! What the clauses of a match leave, and what comes to the next one.
 
-ghost use Rattle.std.specs.Prelude.{◌≡◌, true, List, IfOk, IfSome, OnOk};
-ghost use Rattle.std.specs.List.{AllByRecursion};
+ghost use Rattle.std.specs.Prelude.{◌≡◌, ◌↔◌, ◌&&◌, ◌||◌, not, true, false, IfOk, IfSome, OnOk};
 ghost use Rattle.xd_doc.specs.Document.{Document};
-ghost use Rattle.xd_auto.specs.declared.auto.State.{State as StateView};
 ghost use Rattle.xd_auto.specs.Automaton.{Automaton, Extends, IsState, accepts};
-ghost use Rattle.xd_boole.specs.Universal.{AcceptsAll};
 ghost use Rattle.xd_points.specs.Placing.{accepts_at};
-ghost use Rattle.xd_meaning.specs.KeptFaults.{AllPaired};
-ghost use Rattle.xd_clauses.specs.Behind.{AreUnions, IsStartIn, IsUnionOf};
+ghost use Rattle.xd_clauses.specs.Behind.{AreWaiting, any_waiting};
 
-use crate::laws::clauses_stay;
+use crate::begins::Begins;
 use crate::pattern::ClausePattern;
 use std::alloc::Global;
 use xd_auto::{Auto, State};
 use xd_auto_pairs::add_universal;
-use xd_boole::merged;
 use xd_doc::NoMemory;
 use xd_points::{PatternStates, PointTable};
 
-/// The patterns of a match's clauses as states of one automaton, and what was found out about what
-/// they take of one other automaton, which only grows.
+/// What the patterns of a match's clauses so far leave of what its scrutinee may be.
+///
+/// Some patterns wait, and are taken away together. As long as documents of each further pattern
+/// begin otherwise, as those of `a[Any]` and `b[Any]` do, what the waiting ones take is nothing to
+/// it. So nothing is to be made for it, and n such patterns cost about n.
 #[derive(Drop)]
-pub struct MatchClauses {
-    patterns: PatternStates,
+pub struct Remaining {
+    /// A state for what those leave that were taken away.
+    state: State,
+    waiting: Waiting,
+}
+
+/// Patterns that are still to be taken away: states of one automaton that accept what they take.
+#[derive(Drop)]
+struct Waiting {
+    auto: Auto,
     starts: Vec<State>,
-    unions: Unions,
-    /// A state that accepts everything.
-    all: State,
-    table: PointTable,
-}
-
-/// States that together accept what the patterns of some clauses take: no more than the logarithm
-/// of how many clauses there are.
-#[derive(Drop)]
-struct Unions {
-    /// For each clause those of the earlier ones.
-    earlier: Vec<Vec<State>>,
-    /// Those of all clauses.
-    whole: Vec<State>,
-}
-
-/// Adds a state for each pattern, which accepts what the pattern takes.
-fn starts_of(
-    alloc: Global,
-    patterns: &[ClausePattern],
-    auto: &mut Auto,
-) -> Result<Vec<State>, NoMemory>
-    ensures { IfOk result (λ starts. AllPaired (IsStartIn auto.new) patterns.now starts.items) }
-{
-    let mut starts = Vec::new(alloc);
-    for pattern in patterns {
-        let start = auto.absorb(&pattern.auto, pattern.marked.start())?;
-        starts.push(start)?;
-    }
-    Ok(starts)
-}
-
-/// Puts one state in the place of the last two, where there are two, which accepts what they do.
-fn unite_last(auto: &mut Auto, blocks: &mut Vec<State>) -> Result<(), NoMemory>
-    requires { AllByRecursion (IsState auto.old) blocks.old.items }
-    ensures block { OnOk result ((a : Automaton) (ss : List StateView) → IsUnionOf a ss auto.old blocks.old.items → IsUnionOf a ss auto.new blocks.new.items) }
-    ensures extends { Extends auto.old auto.new }
-{
-    let Some(two) = blocks.pop() else {
-        return Ok(());
-    };
-    let Some(one) = blocks.pop() else {
-        blocks.push(two)?;
-        return Ok(());
-    };
-    let made = auto.union(one, two)?;
-    blocks.push(made)?;
-    Ok(())
-}
-
-/// Unites the last blocks of states of the first clauses, so many, as long as they have the same
-/// size. The sizes are those of the number in binary.
-fn unite_blocks(auto: &mut Auto, blocks: &mut Vec<State>, count: usize) -> Result<(), NoMemory>
-    requires { AllByRecursion (IsState auto.old) blocks.old.items }
-    ensures block { OnOk result ((a : Automaton) (ss : List StateView) → IsUnionOf a ss auto.old blocks.old.items → IsUnionOf a ss auto.new blocks.new.items) }
-    ensures extends { Extends auto.old auto.new }
-{
-    let mut count = count;
-    while count > 0 && count % 2 == 0 {
-        unite_last(auto, blocks)?;
-        count /= 2;
-    }
-    Ok(())
-}
-
-/// Adds states that accept what states of first clauses do: in all as many moves as the states
-/// have, times the logarithm of their number.
-fn unions_of(alloc: Global, auto: &mut Auto, starts: &[State]) -> Result<Unions, NoMemory>
-    requires { AllByRecursion (IsState auto.old) starts.now }
-    ensures unions { IfOk result (λ made. AreUnions auto.new starts.now made) }
-    ensures extends { Extends auto.old auto.new }
-{
-    let mut earlier = Vec::new(alloc);
-    let mut whole = Vec::new(alloc);
-    for (number, start) in starts.iter().enumerate() {
-        let _states = auto.len();
-        let copy = whole.to_vec(alloc)?;
-        earlier.push(copy)?;
-        whole.push(*start)?;
-        unite_blocks(auto, &mut whole, number + 1)?;
-    }
-    Ok(Unions { earlier, whole })
-}
-
-/// Whether the state goes on over labels that its moves name alone.
-fn names_labels(auto: &Auto, state: State) -> bool
-    requires { IsState auto.now state }
-{
-    for step in auto.label_moves(state) {
-        if step.class.takes_others() {
-            return false;
-        }
-    }
-    true
-}
-
-/// The state by which what comes to a clause is made less: that of its pattern, if it names labels,
-/// so that the other labels are left out. Else it is a state that accepts everything, since what
-/// the pattern looks at is looked at once more when its variables are bound.
-fn wider_of(auto: &Auto, start: State, all: State) -> State
-    requires start { IsState auto.now start }
-    requires all { IsState auto.now all }
-    requires everything { AcceptsAll auto.now all }
-    ensures belongs { IsState auto.now result }
-    ensures wider { (d : Document) → accepts auto.now d start ≡ true → accepts auto.now d result ≡ true }
-{
-    if names_labels(auto, start) {
-        start
-    } else {
-        all
-    }
+    begins: Begins,
 }
 
 /// The state that was found, or one that accepts nothing.
@@ -151,111 +47,169 @@ fn found_or_nothing(auto: &mut Auto, found: Option<State>) -> Result<State, NoMe
     }
 }
 
-impl MatchClauses {
-    ghost use Rattle.std.specs.Prelude.{◌↔◌, ◌<◌, length, get_or, take};
-    ghost use Rattle.xd_auto.specs.Automaton.{KeepsAccepting};
-    ghost use Rattle.xd_syntax.specs.May.{NoneTakes};
-    ghost use Rattle.xd_syntax.specs.Table.{Row};
-    ghost use Rattle.xd_syntax.specs.Tree.{Definitions};
-    ghost use Rattle.xd_syntax.specs.declared.patterns.PatternId.{PatternId as IdView};
-    ghost use Rattle.xd_clauses.specs.Behind.{AreClausesOf, ArePatternsOf, ComesToClause, KeepsClauses, ServesClauses};
-    ghost use Rattle.xd_clauses.specs.Cases.{placed_patterns};
-    ghost use Rattle.xd_clauses.specs.Clauses.{Accepted};
+/// Adds a state that accepts what a state accepts and a state of another automaton doesn't.
+fn take_away(
+    alloc: Global,
+    auto: &mut Auto,
+    state: State,
+    other: Auto,
+    right: State,
+) -> Result<State, NoMemory>
+    requires state { IsState auto.old state }
+    requires right { IsState other right }
+    ensures belongs { IfOk result (IsState auto.new) }
+    ensures exact { IfOk result (λ made. (d : Document) → accepts auto.new d made ≡ (accepts auto.old d state && not (accepts other d right))) }
+    ensures extends { Extends auto.old auto.new }
+{
+    let mut other = other;
+    let _states = other.len();
+    let all = add_universal(alloc, &mut other)?;
+    let patterns = PatternStates::new(alloc, other)?;
+    let mut table = PointTable::new(alloc);
+    let found = table.accept(alloc, auto, &patterns, state, all, &[right])?;
+    let made = found_or_nothing(auto, found)?;
+    Ok(made)
+}
 
-    /// Those with these patterns.
-    ///
-    /// Fails only where memory is refused.
-    pub fn new(alloc: Global, patterns: &[ClausePattern]) -> Result<Self, NoMemory>
-        ensures serves { IfOk result (λ made. (a : Automaton) → ServesClauses a made) }
-        ensures clauses { IfOk result (λ made. (E : Definitions) (rows : List Row) (ids : List IdView) → ArePatternsOf E rows ids patterns.now → AreClausesOf E rows ids made) }
+impl Waiting {
+    /// None.
+    fn new(alloc: Global) -> Result<Self, NoMemory>
+        ensures waiting { IfOk result AreWaiting }
+        ensures none { IfOk result (λ made. (d : Document) → any_waiting made d ≡ false) }
     {
-        let mut own = Auto::new(alloc);
-        let starts = starts_of(alloc, patterns, &mut own)?;
-        let _states = own.len();
-        let all = add_universal(alloc, &mut own)?;
-        let mut like = merged(alloc, &own)?;
-        let _more = like.len();
-        let unions = unions_of(alloc, &mut like, &starts)?;
-        let patterns = PatternStates::new(alloc, like)?;
+        let auto = Auto::new(alloc);
+        let starts = Vec::new(alloc);
+        let begins = Begins::new(alloc)?;
         Ok(Self {
-            patterns,
+            auto,
             starts,
-            unions,
-            all,
-            table: PointTable::new(alloc),
+            begins,
         })
     }
 
-    /// A state for what comes to the clause of this number: of the documents that the scrutinee's
-    /// state accepts ones that no earlier pattern takes, and of these at least those that its own
-    /// pattern takes.
-    ///
-    /// After `NoMemory` nothing more can be asked; the automaton keeps its states, and may have
-    /// more.
-    pub fn coming_to(
-        &mut self,
-        alloc: Global,
-        auto: &mut Auto,
-        scrutinee: State,
-        number: usize,
-    ) -> Result<State, NoMemory>
-        requires serves { ServesClauses auto.old self.old }
-        requires scrutinee { IsState auto.old scrutinee }
-        requires number { number < length self.old.starts.items }
-        ensures serves { OnOk result (ServesClauses auto.new self.new) }
-        ensures keeps { KeepsClauses self.old self.new }
-        ensures belongs { IfOk result (IsState auto.new) }
-        ensures comes { IfOk result (λ made. (E : Definitions) (rows : List Row) (ids : List IdView) (id : IdView) → AreClausesOf E rows ids self.old → id ≡ get_or ids number id → ComesToClause E rows (take number ids) id (Accepted auto.old scrutinee) (Accepted auto.new made)) }
-        ensures extends { Extends auto.old auto.new }
-        ensures accepting { KeepsAccepting auto.old auto.new }
+    /// One more.
+    fn add(self, pattern: &Auto, start: State) -> Result<Self, NoMemory>
+        requires waiting { AreWaiting self }
+        requires start { IsState pattern.now start }
+        ensures waiting { IfOk result AreWaiting }
+        ensures adds { IfOk result (λ made. (d : Document) → any_waiting made d ≡ (any_waiting self d || accepts pattern.now d start)) }
     {
-        clauses_stay();
-        let _states = auto.len();
-        if number == 0 {
-            return Ok(scrutinee);
-        }
-        let start = self.starts[number];
-        let wide = wider_of(&self.patterns.auto, start, self.all);
-        let earlier = &self.unions.earlier[number];
-        let found = self
-            .table
-            .accept(alloc, auto, &self.patterns, scrutinee, wide, earlier)?;
-        let _more = auto.len();
-        let made = found_or_nothing(auto, found)?;
-        Ok(made)
+        let Self {
+            auto,
+            starts,
+            begins,
+        } = self;
+        let mut auto = auto;
+        let mut starts = starts;
+        let state = auto.absorb(pattern, start)?;
+        starts.push(state)?;
+        let begins = begins.add(pattern, start)?;
+        Ok(Self {
+            auto,
+            starts,
+            begins,
+        })
     }
 
-    /// Adds a state for those of the documents that a state accepts that no pattern takes.
+    /// Adds a state for what a state accepts and none of them takes.
+    fn take_away(self, alloc: Global, auto: &mut Auto, state: State) -> Result<State, NoMemory>
+        requires waiting { AreWaiting self }
+        requires state { IsState auto.old state }
+        ensures belongs { IfOk result (IsState auto.new) }
+        ensures exact { IfOk result (λ made. (d : Document) → accepts auto.new d made ≡ (accepts auto.old d state && not (any_waiting self d))) }
+        ensures extends { Extends auto.old auto.new }
+    {
+        if self.starts.is_empty() {
+            return Ok(state);
+        }
+        let Self {
+            auto: own,
+            starts,
+            begins: _,
+        } = self;
+        let mut own = own;
+        let _states = own.len();
+        let right = own.unite(&starts)?;
+        let left = take_away(alloc, auto, state, own, right)?;
+        Ok(left)
+    }
+}
+
+impl Remaining {
+    ghost use Rattle.xd_auto.specs.Automaton.{KeepsAccepting};
+    ghost use Rattle.xd_syntax.specs.Placed.{PlacedTree, unplaced};
+    ghost use Rattle.xd_syntax.specs.Tree.{Definitions};
+    ghost use Rattle.xd_syntax.specs.Ways.{Takes};
+    ghost use Rattle.xd_clauses.specs.Behind.{Remains, StandsIn};
+    ghost use Rattle.xd_clauses.specs.Clauses.{Accepted, IsPatternOf};
+
+    /// All that a state accepts, of an automaton that only grows. Fails only where memory is
+    /// refused.
+    pub fn new(alloc: Global, scrutinee: State) -> Result<Self, NoMemory>
+        ensures stands { IfOk result (λ made. (a : Automaton) → IsState a scrutinee → StandsIn a made) }
+        ensures remains { IfOk result (λ made. (a : Automaton) (d : Document) → Remains a made d ↔ Accepted a scrutinee d) }
+    {
+        let waiting = Waiting::new(alloc)?;
+        Ok(Self {
+            state: scrutinee,
+            waiting,
+        })
+    }
+
+    /// A state for what comes to a clause with this pattern: of the documents that the pattern
+    /// takes it accepts just those that remain.
     ///
-    /// After `NoMemory` nothing more can be asked; the automaton keeps its states, and may have
-    /// more.
-    pub fn left_over(
-        &mut self,
+    /// Fails only where memory is refused; the automaton keeps its states then, and may have more.
+    pub fn coming_to(
+        self,
         alloc: Global,
         auto: &mut Auto,
-        scrutinee: State,
-    ) -> Result<State, NoMemory>
-        requires serves { ServesClauses auto.old self.old }
-        requires scrutinee { IsState auto.old scrutinee }
-        ensures serves { OnOk result (ServesClauses auto.new self.new) }
-        ensures keeps { KeepsClauses self.old self.new }
-        ensures belongs { IfOk result (IsState auto.new) }
-        ensures exact { IfOk result (λ made. (E : Definitions) (rows : List Row) (ids : List IdView) → AreClausesOf E rows ids self.old → (d : Document) → Accepted auto.new made d ↔ (Accepted auto.old scrutinee d × NoneTakes E (placed_patterns rows ids) d)) }
+        pattern: &ClausePattern,
+    ) -> Result<(Self, State), NoMemory>
+        requires stands { StandsIn auto.old self }
+        ensures stands { IfOk result (λ made. StandsIn auto.new made.0) }
+        ensures remains { IfOk result (λ made. (d : Document) → Remains auto.new made.0 d ↔ Remains auto.old self d) }
+        ensures belongs { IfOk result (λ made. IsState auto.new made.1) }
+        ensures comes { IfOk result (λ made. (E : Definitions) (P : PlacedTree) → IsPatternOf E (unplaced P) pattern.now → (d : Document) → Takes E (unplaced P) d → Accepted auto.new made.1 d ↔ Remains auto.old self d) }
         ensures extends { Extends auto.old auto.new }
         ensures accepting { KeepsAccepting auto.old auto.new }
     {
-        clauses_stay();
+        let start = pattern.marked.start();
+        let begins = &self.waiting.begins;
+        let is_apart = begins.is_apart(alloc, &pattern.auto, start)?;
+        if is_apart {
+            let state = self.state;
+            return Ok((self, state));
+        }
+        let state = self.left_over(alloc, auto)?;
+        let waiting = Waiting::new(alloc)?;
+        Ok((Self { state, waiting }, state))
+    }
+
+    /// The same without what the pattern takes. Fails only where memory is refused.
+    pub fn without(self, pattern: &ClausePattern) -> Result<Self, NoMemory>
+        requires { AreWaiting self.waiting }
+        ensures stands { IfOk result (λ made. (a : Automaton) → StandsIn a self → StandsIn a made) }
+        ensures remains { IfOk result (λ made. (E : Definitions) (P : PlacedTree) → IsPatternOf E (unplaced P) pattern.now → (a : Automaton) (d : Document) → Remains a made d ↔ (Remains a self d × (Takes E (unplaced P) d → ⊥))) }
+    {
+        let Self { state, waiting } = self;
+        let waiting = waiting.add(&pattern.auto, pattern.marked.start())?;
+        Ok(Self { state, waiting })
+    }
+
+    /// Adds a state for all that remains.
+    ///
+    /// Fails only where memory is refused; the automaton keeps its states then, and may have more.
+    pub fn left_over(self, alloc: Global, auto: &mut Auto) -> Result<State, NoMemory>
+        requires { StandsIn auto.old self }
+        ensures belongs { IfOk result (IsState auto.new) }
+        ensures exact { IfOk result (λ made. (d : Document) → Accepted auto.new made d ↔ Remains auto.old self d) }
+        ensures extends { Extends auto.old auto.new }
+        ensures accepting { KeepsAccepting auto.old auto.new }
+    {
         let _states = auto.len();
-        let found = self.table.accept(
-            alloc,
-            auto,
-            &self.patterns,
-            scrutinee,
-            self.all,
-            &self.unions.whole,
-        )?;
-        let _more = auto.len();
-        let made = found_or_nothing(auto, found)?;
-        Ok(made)
+        let Self { state, waiting } = self;
+        let left = waiting.take_away(alloc, auto, state)?;
+        Ok(left)
     }
 }

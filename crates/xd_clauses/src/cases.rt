@@ -17,11 +17,10 @@ ghost use Rattle.xd_syntax.specs.ShallowTables.{IsShallow};
 ghost use Rattle.xd_syntax.specs.Tree.{Definitions};
 ghost use Rattle.xd_meaning.specs.KeptFaults.{AllPaired};
 ghost use Rattle.xd_patterns.specs.Compiler.{Serves};
-ghost use Rattle.xd_clauses.specs.Behind.{ArePatternsOf};
 ghost use Rattle.xd_clauses.specs.Cases.{HasOwnAutomaton, IsGivenNothing, IsLinearPattern, placed_pattern, placed_patterns};
 ghost use Rattle.xd_clauses.specs.Clauses.{Accepted, AreMayBindings, AreMayGivens, IsPatternOf};
 
-use crate::behind::MatchClauses;
+use crate::behind::Remaining;
 use crate::pattern::ClausePattern;
 use std::alloc::Global;
 use xd_auto::{Auto, State};
@@ -60,25 +59,6 @@ pub fn accepted_document(
     }
 }
 
-/// The patterns as automata of their own.
-fn compiled(
-    alloc: Global,
-    compiler: &PatternCompiler,
-    sound: &SoundProgram,
-    patterns: &[PatternId],
-) -> Result<Vec<ClausePattern>, NoMemory>
-    requires serves { Serves sound.now compiler.now }
-    requires patterns { All (IsLinearPattern sound.now.patterns) patterns.now }
-    ensures { IfOk result (λ made. ArePatternsOf (names_of (program_tree sound.now)) sound.now.patterns patterns.now made.items) }
-{
-    let mut made = Vec::new(alloc);
-    for id in patterns {
-        let pattern = ClausePattern::new(alloc, compiler, sound, *id)?;
-        made.push(pattern)?;
-    }
-    Ok(made)
-}
-
 /// Adds a state that accepts what the state accepts and none of the patterns takes.
 fn left_over(
     alloc: Global,
@@ -94,9 +74,13 @@ fn left_over(
     ensures belongs { IfOk result (IsState auto.new) }
     ensures exact { IfOk result (λ left. (d : Document) → Accepted auto.new left d ↔ (Accepted auto.old state d × NoneTakes (names_of (program_tree sound.now)) (placed_patterns sound.now.patterns patterns.now) d)) }
 {
-    let patterns = compiled(alloc, compiler, sound, patterns)?;
-    let mut clauses = MatchClauses::new(alloc, &patterns)?;
-    let left = clauses.left_over(alloc, auto, state)?;
+    let mut remaining = Remaining::new(alloc, state)?;
+    for id in patterns {
+        let pattern = ClausePattern::new(alloc, compiler, sound, *id)?;
+        let (coming, _state) = remaining.coming_to(alloc, auto, &pattern)?;
+        remaining = coming.without(&pattern)?;
+    }
+    let left = remaining.left_over(alloc, auto)?;
     Ok(left)
 }
 

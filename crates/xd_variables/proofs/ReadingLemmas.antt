@@ -16,7 +16,7 @@ use Rattle.xd_bind.specs.declared.tracks.Given.{Given}
 use Rattle.xd_clauses.specs.Clauses.{AreGivensOf, IsGivenOf}
 use Rattle.xd_check.specs.Scrutinees.{TellsLive}
 use Rattle.xd_check.specs.Walked.{ComesBehind, Grows}
-use Rattle.xd_check.proofs.ClauseLemmas.{bind_from, bind_to, live_from, live_to}
+use Rattle.xd_check.proofs.ClauseLemmas.{bind_from, bind_to, comes_on, live_from, live_to}
 use Rattle.xd_prefer.proofs.PrefersLemmas.{nothing_preferred, prefers_same}
 use Rattle.xd_variables.specs.Binders.{place_of_occurrence}
 use Rattle.xd_variables.specs.Bound.{IsBound, reading_of}
@@ -29,7 +29,7 @@ use Rattle.xd_variables.proofs.BinderLemmas.{first_words, words_of}
 
 pub gives_same : (w : Ways) (P : ProgramTree) (S : Scope) (e : Expression) (earlier : List PlacedTree) (C : Document → Type 0) → ComesBehind P S e earlier C → (Q : PlacedTree) (x : List ℕ) (d : Document) →
     reading_of w (names_of P) C [] Q x d ↔ reading_of w (names_of P) (May P S e) earlier Q x d
-gives_same Whole P S e earlier C comes Q x d = (bind_from P S e earlier C comes Q x d, bind_to P S e earlier C comes Q x d)
+gives_same Whole P S e earlier C comes Q x d = let on = comes_on P S e earlier C comes Q in (bind_from P S e earlier C Q on x d, bind_to P S e earlier C Q on x d)
 gives_same First P S e earlier C comes Q x d = prefers_same (names_of P) (May P S e) C earlier Q comes x d
 
 pub gives_nothing : (w : Ways) (E : Definitions) (A : Document → Type 0) (P : PlacedTree) → (IsLive E A [] P → ⊥) → (x : List ℕ) (d : Document) → reading_of w E A [] P x d → ⊥
@@ -114,8 +114,8 @@ as_many place (o ∷ os) (g ∷ gs) w =
     let n = as_many place os gs rest in omega arith
 
 tells_live : (P : ProgramTree) (S : Scope) (e : Expression) (earlier : List PlacedTree) (C : Document → Type 0) → ComesBehind P S e earlier C → (Q : PlacedTree) (live : Bool) → ((live ≡ true) ↔ IsLive (names_of P) C [] Q) → TellsLive P S e earlier Q live
-tells_live P S e earlier C comes Q true h = live_from P S e earlier C comes Q (h.0 refl)
-tells_live P S e earlier C comes Q false h = λ l. absurd (let t : false ≡ true = h.1 (live_to P S e earlier C comes Q l) in cc)
+tells_live P S e earlier C comes Q true h = live_from P S e earlier C Q (comes_on P S e earlier C comes Q) (h.0 refl)
+tells_live P S e earlier C comes Q false h = λ l. absurd (let t : false ≡ true = h.1 (live_to P S e earlier C Q (comes_on P S e earlier C comes Q) l) in cc)
 
 pub clause_read : (w : Ways) (P : ProgramTree) (S : Scope) (e : Expression) (earlier : List PlacedTree) (C : Document → Type 0) → ComesBehind P S e earlier C → (Q : PlacedTree) (a : Automaton) (qs : List Place) (gs : List Given) (old new : List BoundVariable) (live : Bool) →
     qs ≡ map place_of_occurrence (first_occurrences (occurrences_in Q)) → AreGivensOf (reading_of w (names_of P) C [] Q) Q a gs → new ≡ old ++ placed_givens qs gs → ((live ≡ true) ↔ IsLive (names_of P) C [] Q) →

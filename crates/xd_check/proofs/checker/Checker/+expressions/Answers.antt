@@ -30,7 +30,7 @@ use Rattle.xd_check.proofs.ClauseLemmas.{clause_dead, clause_live, comes_first, 
 use Rattle.xd_check.proofs.Arguments.{walked_called}
 use Rattle.xd_check.proofs.GrowsLemmas.{grows_then, keeps_same, keeps_then, scope_kept}
 use Rattle.xd_check.proofs.IsKnownLemmas.{known_kept, known_learnt}
-use Rattle.xd_check.proofs.ClauseLoop.{ClausesLoop, clause_here, clauses_loop_begin, clauses_loop_end, clauses_loop_more}
+use Rattle.xd_check.proofs.ClauseLoop.{ClausesLoop, clause_here, clauses_loop_begin, clauses_loop_end, clauses_loop_more, stands_on}
 use Rattle.xd_check.proofs.AreStatesLemmas.{clause_left, clause_scope, clause_states, parameter_states}
 use Rattle.xd_check.proofs.Loops.{PartsLoop, argument_here, arguments_begin, arguments_end, arguments_more, bodies, bodies_below, ceiling, ceiling_again, ceiling_within, part_here, parts_begin, parts_end, parts_more}
 use Rattle.xd_check.proofs.Lists.{all_as, if_some}
@@ -408,50 +408,47 @@ in_call-returns-in_ok-add_state-in-None t c =
 
 pub in_clauses-returns : goal.in_clauses-returns
 in_clauses-returns t c =
+    let h = c.loop-clause.invariant in
+    let left = c.in_ok-left.ensures in
+    let over : Grows c.loop-clause.auto' c.left_over.new.auto = record { extends = left.extends; keeps = left.accepting } in
+    let g = grows_then c.loop-clause.auto' c.left_over.new.auto c.unite_states.new.auto over c.in_ok-unite_states.ensures.grows in
     record {
       belongs = c.in_ok-unite_states.ensures.belongs;
       walked =
-          clauses_loop_end c.args.self.now.sound c.args.place c.args.auto.now c.loop-clause.auto' c.unite_states.new.auto c.args.variables.now c.loop-clause.variables c.args.store.now c.loop-clause.store c.see_uncovered.new.store
-          c.args.lines.now.items c.loop-clause.lines.items c.see_uncovered.new.lines.items c.args.clauses.now c.loop-clause.clause-index c.loop-clause.states.items c.args.arriving c.loop-clause.arriving c.in_ok-unite_states.field-0
-          (drop_all c.loop-clause.clause-index c.args.clauses.now c.loop-clause-test.false) c.loop-clause.invariant.walk c.in_ok-see_uncovered.ensures.keeps c.in_ok-see_uncovered.ensures.lines c.in_ok-unite_states.ensures.accepts;
-      variables = c.loop-clause.invariant.walk.stays.variables;
-      grows = grows_then c.args.auto.now c.loop-clause.auto' c.unite_states.new.auto c.loop-clause.invariant.walk.stays.grows c.in_ok-unite_states.ensures.grows;
-      known = known_kept c.loop-clause.auto' c.unite_states.new.auto c.see_uncovered.new.store c.see_uncovered.new.store c.see_uncovered.new.known c.in_ok-unite_states.ensures.grows (keeps_same c.see_uncovered.new.store) c.in_ok-see_uncovered.ensures.known;
-      keeps = keeps_then c.args.store.now c.loop-clause.store c.see_uncovered.new.store c.loop-clause.invariant.walk.stays.keeps c.in_ok-see_uncovered.ensures.keeps;
+          clauses_loop_end c.args.self.now.sound c.args.place c.args.auto.now c.loop-clause.auto' c.left_over.new.auto c.unite_states.new.auto c.args.variables.now c.loop-clause.variables c.args.store.now c.loop-clause.store c.see_uncovered.new.store
+          c.args.lines.now.items c.loop-clause.lines.items c.see_uncovered.new.lines.items c.args.clauses.now c.loop-clause.clause-index c.loop-clause.states.items c.args.scrutinee c.in_ok-left.left c.in_ok-unite_states.field-0 c.loop-clause.remaining
+          (drop_all c.loop-clause.clause-index c.args.clauses.now c.loop-clause-test.false) h.walk over left.exact c.in_ok-see_uncovered.ensures.keeps c.in_ok-see_uncovered.ensures.lines c.in_ok-unite_states.ensures.accepts;
+      variables = h.walk.stays.variables;
+      grows = grows_then c.args.auto.now c.loop-clause.auto' c.unite_states.new.auto h.walk.stays.grows g;
+      known = known_kept c.left_over.new.auto c.unite_states.new.auto c.see_uncovered.new.store c.see_uncovered.new.store c.see_uncovered.new.known c.in_ok-unite_states.ensures.grows (keeps_same c.see_uncovered.new.store) c.in_ok-see_uncovered.ensures.known;
+      keeps = keeps_then c.args.store.now c.loop-clause.store c.see_uncovered.new.store h.walk.stays.keeps c.in_ok-see_uncovered.ensures.keeps;
     }
 
 pub in_clauses-loop-clause-init : goal.in_clauses-loop-clause-init
 in_clauses-loop-clause-init t c =
+    let a = c.args.auto.now in
+    let made = c.in_ok-remaining.ensures in
     record {
-      walk = subst (λ ss. ClausesLoop c.args.self.now.sound c.args.place c.args.auto.now c.args.auto.now c.args.variables.now c.args.variables.now c.args.store.now c.args.store.now c.args.lines.now.items c.args.lines.now.items c.args.clauses.now 0 ss c.args.arriving c.args.arriving)
+      walk = subst (λ ss. ClausesLoop c.args.self.now.sound c.args.place a a c.args.variables.now c.args.variables.now c.args.store.now c.args.store.now c.args.lines.now.items c.args.lines.now.items c.args.clauses.now 0 ss c.args.scrutinee c.in_ok-remaining.remaining)
           (sym c.new-states.ensures.items)
-          (clauses_loop_begin c.args.self.now.sound c.args.place c.args.auto.now c.args.variables.now c.args.store.now c.args.lines.now.items c.args.clauses.now c.args.arriving c.requires.clauses c.requires.arriving);
+          (clauses_loop_begin c.args.self.now.sound c.args.place a c.args.variables.now c.args.store.now c.args.lines.now.items c.args.clauses.now c.args.scrutinee c.in_ok-remaining.remaining c.requires.clauses (made.stands a c.requires.scrutinee)
+          (λ d. made.remains a d));
       known = c.requires.known;
     }
 
-pub in_clauses-new-requires : goal.in_clauses-new-requires
-in_clauses-new-requires t c =
-    record {
-      serves = c.requires.ready.serves;
-      pattern =
-          let n : ℕ = c.loop-clause.clause-index in
-          let none : Clause = record { pattern = record { at = 0 }; body = record { at = 0 } } in
-          let k : Clause = get_or c.args.clauses.now n none in
-          let e : k ≡ get_or c.args.clauses.now n k = get_or_default c.args.clauses.now n none k c.loop-clause-test.true in
-          let h = clause_here c.args.self.now.sound c.args.place c.args.auto.now c.loop-clause.auto' c.args.variables.now c.loop-clause.variables c.args.store.now c.loop-clause.store c.args.lines.now.items c.loop-clause.lines.items
-          c.args.clauses.now n c.loop-clause.states.items c.args.arriving c.loop-clause.arriving k c.loop-clause.invariant.walk c.loop-clause-test.true e in
-          let w = h.0 in
-          w.there;
-      linear =
-          let n : ℕ = c.loop-clause.clause-index in
-          let none : Clause = record { pattern = record { at = 0 }; body = record { at = 0 } } in
-          let k : Clause = get_or c.args.clauses.now n none in
-          let e : k ≡ get_or c.args.clauses.now n k = get_or_default c.args.clauses.now n none k c.loop-clause-test.true in
-          let h = clause_here c.args.self.now.sound c.args.place c.args.auto.now c.loop-clause.auto' c.args.variables.now c.loop-clause.variables c.args.store.now c.loop-clause.store c.args.lines.now.items c.loop-clause.lines.items
-          c.args.clauses.now n c.loop-clause.states.items c.args.arriving c.loop-clause.arriving k c.loop-clause.invariant.walk c.loop-clause-test.true e in
-          let w = h.0 in
-          w.linear;
-    }
+pub in_clauses-new-requires-in-loop-clause : goal.in_clauses-new-requires-in-loop-clause
+in_clauses-new-requires-in-loop-clause t c =
+    let n : ℕ = c.loop-clause.clause-index in
+    let none : Clause = record { pattern = record { at = 0 }; body = record { at = 0 } } in
+    let k : Clause = get_or c.args.clauses.now n none in
+    let e : k ≡ get_or c.args.clauses.now n k = get_or_default c.args.clauses.now n none k c.loop-clause-test.true in
+    let h = clause_here c.args.self.now.sound c.args.place c.args.auto.now c.loop-clause.auto' c.args.variables.now c.loop-clause.variables c.args.store.now c.loop-clause.store c.args.lines.now.items c.loop-clause.lines.items
+    c.args.clauses.now n c.loop-clause.states.items c.args.scrutinee c.loop-clause.remaining k c.loop-clause.invariant.walk c.loop-clause-test.true e in
+    let w = h.0 in
+    record { serves = c.requires.ready.serves; pattern = w.there; linear = w.linear }
+
+pub in_clauses-coming_to-requires : goal.in_clauses-coming_to-requires
+in_clauses-coming_to-requires t c = record { stands = c.loop-clause.invariant.walk.stands }
 
 pub in_clauses-in_clause-requires : goal.in_clauses-in_clause-requires
 in_clauses-in_clause-requires t c =
@@ -460,21 +457,27 @@ in_clauses-in_clause-requires t c =
     let k : Clause = get_or c.args.clauses.now n none in
     let e : k ≡ get_or c.args.clauses.now n k = get_or_default c.args.clauses.now n none k c.loop-clause-test.true in
     let h = clause_here c.args.self.now.sound c.args.place c.args.auto.now c.loop-clause.auto' c.args.variables.now c.loop-clause.variables c.args.store.now c.loop-clause.store c.args.lines.now.items c.loop-clause.lines.items
-    c.args.clauses.now n c.loop-clause.states.items c.args.arriving c.loop-clause.arriving k c.loop-clause.invariant.walk c.loop-clause-test.true e in
+    c.args.clauses.now n c.loop-clause.states.items c.args.scrutinee c.loop-clause.remaining k c.loop-clause.invariant.walk c.loop-clause-test.true e in
     let w = h.0 in
     let st = c.loop-clause.invariant.walk.stays in
+    let a = c.in_ok-coming.ensures in
+    let one : Grows c.loop-clause.auto' c.coming_to.new.auto = record { extends = a.extends; keeps = a.accepting } in
+    let g : Grows c.args.auto.now c.coming_to.new.auto = grows_then c.args.auto.now c.loop-clause.auto' c.coming_to.new.auto st.grows one in
     let top = h.1 in
     let fallen : 4 * (k.body).at + 4 < t = omega arith in (
       fallen,
       (
-        ready_kept c.args.self.now c.args.auto.now c.loop-clause.auto' st.grows c.requires.ready,
+        ready_kept c.args.self.now c.args.auto.now c.coming_to.new.auto g c.requires.ready,
         (
           w,
           (
             c.in_ok-pattern.ensures,
             (
-              c.loop-clause.invariant.walk.arriving,
-              (states_again c.args.auto.now c.loop-clause.auto' st.grows c.args.variables.now c.loop-clause.variables st.variables c.requires.variables, c.loop-clause.invariant.known),
+              a.belongs,
+              (
+                states_again c.args.auto.now c.coming_to.new.auto g c.args.variables.now c.loop-clause.variables st.variables c.requires.variables,
+                known_kept c.loop-clause.auto' c.coming_to.new.auto c.loop-clause.store c.loop-clause.store c.loop-clause.known one (keeps_same c.loop-clause.store) c.loop-clause.invariant.known,
+              ),
             ),
           ),
         ),
@@ -482,31 +485,46 @@ in_clauses-in_clause-requires t c =
     )
 
 pub in_clauses-pass_on-requires : goal.in_clauses-pass_on-requires
-in_clauses-pass_on-requires t c = (c.in_ok-found.ensures.grows.extends).states c.loop-clause.arriving c.loop-clause.invariant.walk.arriving
+in_clauses-pass_on-requires t c = c.in_ok-coming.ensures.stands.waiting
 
 pub in_clauses-loop-clause-preserved : goal.in_clauses-loop-clause-preserved
 in_clauses-loop-clause-preserved t c =
     let p : ProgramTable = c.args.self.now.sound in
+    let E = names_of (program_tree p) in
     let n : ℕ = c.loop-clause.clause-index in
     let none : Clause = record { pattern = record { at = 0 }; body = record { at = 0 } } in
     let k : Clause = get_or c.args.clauses.now n none in
+    let a = c.in_ok-coming.ensures in
     let f = c.in_ok-found.ensures in
-    let w = c.in_ok-left.ensures in
+    let w = c.in_ok-remaining-2.ensures in
+    let b = c.coming_to.new.auto in
+    let m = c.in_clause.new.auto in
+    let one : Grows c.loop-clause.auto' b = record { extends = a.extends; keeps = a.accepting } in
     let Q : PlacedTree = placed_at p.patterns (k.pattern).at in
-    let made : IsPatternOf (names_of (program_tree p)) (unplaced Q) c.in_ok-pattern.pattern = subst (λ T. IsPatternOf (names_of (program_tree p)) T c.in_ok-pattern.pattern) (sym (unplaced_at p.patterns (k.pattern).at)) c.in_ok-pattern.ensures in
+    let made : IsPatternOf E (unplaced Q) c.in_ok-pattern.pattern = subst (λ T. IsPatternOf E T c.in_ok-pattern.pattern) (sym (unplaced_at p.patterns (k.pattern).at)) c.in_ok-pattern.ensures in
     record {
-      walk = clauses_loop_more p c.args.place c.args.auto.now c.loop-clause.auto' c.in_clause.new.auto c.pass_on.new.auto c.args.variables.now c.loop-clause.variables c.in_clause.new.variables c.args.store.now c.loop-clause.store c.in_clause.new.store
-          c.args.lines.now.items c.loop-clause.lines.items c.in_clause.new.lines.items c.args.clauses.now n c.loop-clause.states.items c.pass_on.new.states.items c.args.arriving c.loop-clause.arriving c.in_ok-left.left k c.in_ok-found.found
-          c.requires.variables c.loop-clause.invariant.walk c.loop-clause-test.true (get_or_default c.args.clauses.now n none k c.loop-clause-test.true) f.walked f.variables f.grows w.grows f.keeps c.in_ok-left.ensures.states f.belongs
-          w.belongs (w.exact (names_of (program_tree p)) Q made);
-      known = known_kept c.in_clause.new.auto c.pass_on.new.auto c.in_clause.new.store c.in_clause.new.store c.in_clause.new.known w.grows (keeps_same c.in_clause.new.store) f.known;
+      walk = clauses_loop_more p c.args.place c.args.auto.now c.loop-clause.auto' b m c.args.variables.now c.loop-clause.variables c.in_clause.new.variables c.args.store.now c.loop-clause.store c.in_clause.new.store
+          c.args.lines.now.items c.loop-clause.lines.items c.in_clause.new.lines.items c.args.clauses.now n c.loop-clause.states.items c.pass_on.new.states.items c.args.scrutinee c.in_ok-coming.arriving c.loop-clause.remaining c.in_ok-coming.coming c.in_ok-remaining-2.remaining k c.in_ok-found.found
+          c.requires.variables c.loop-clause.invariant.walk c.loop-clause-test.true (get_or_default c.args.clauses.now n none k c.loop-clause-test.true) one a.stands a.remains (a.comes E Q made) f.walked f.variables f.grows f.keeps w.states f.belongs
+          (w.stands m (stands_on b m c.in_ok-coming.coming f.grows a.stands)) (w.remains E Q made m);
+      known = f.known;
     }
 
+pub in_clauses-left_over-requires : goal.in_clauses-left_over-requires
+in_clauses-left_over-requires t c = c.loop-clause.invariant.walk.stands
+
 pub in_clauses-see_uncovered-requires : goal.in_clauses-see_uncovered-requires
-in_clauses-see_uncovered-requires t c = record { arriving = c.loop-clause.invariant.walk.arriving; known = c.loop-clause.invariant.known }
+in_clauses-see_uncovered-requires t c =
+    let f = c.in_ok-left.ensures in
+    record {
+      arriving = f.belongs;
+      known = known_kept c.loop-clause.auto' c.left_over.new.auto c.loop-clause.store c.loop-clause.store c.loop-clause.known (record { extends = f.extends; keeps = f.accepting }) (keeps_same c.loop-clause.store) c.loop-clause.invariant.known;
+    }
 
 pub in_clauses-unite_states-requires : goal.in_clauses-unite_states-requires
-in_clauses-unite_states-requires t c = c.loop-clause.invariant.walk.there
+in_clauses-unite_states-requires t c =
+    let f = c.in_ok-left.ensures in
+    all_as (IsState c.loop-clause.auto') (IsState c.left_over.new.auto) (λ s h. (f.extends).states s h) c.loop-clause.states.items c.loop-clause.invariant.walk.there
 
 pub in_clause-bindings-requires : goal.in_clause-bindings-requires
 in_clause-bindings-requires t c = record { arriving = c.requires.arriving; known = c.requires.known.inhabitants }
@@ -524,7 +542,7 @@ in_clause-returns-in_default t c =
           let Q : PlacedTree = placed_at p.patterns c.args.clause.pattern.at in
           let C = Accepted c.args.auto.now c.args.arriving in
           let made : IsPatternOf (names_of P) (unplaced Q) c.args.pattern.now = subst (λ T. IsPatternOf (names_of P) T c.args.pattern.now) (sym (unplaced_at p.patterns c.args.clause.pattern.at)) c.requires.pattern in
-          let dead : IsLiveIn P S e earlier Q → ⊥ = λ l. c.in_ok-found.ensures.dead (ap (λ o. Ok o) c.in_default.is) (names_of P) Q made (live_to P S e earlier C comes Q l) in
+          let dead : IsLiveIn P S e earlier Q → ⊥ = λ l. c.in_ok-found.ensures.dead (ap (λ o. Ok o) c.in_default.is) (names_of P) Q made (live_to P S e earlier C Q comes l) in
           clause_dead P S e earlier Q (expr_at p c.args.clause.body.at) c.bindings.new.auto c.bindings.new.store c.args.lines.now.items c.push.new.self.items dead
           (record {
             more = record { place = c.pattern_place.result; finding = DeadClause } ∷ [];
@@ -579,8 +597,8 @@ in_clause-returns t c =
           let grows : Grows c.args.auto.now c.bindings.new.auto = record { extends = f.extends; keeps = f.accepting } in
           let gs = c.in-Some.givens.items in
           let bound : AreMayGivens (names_of P) C [] Q c.bindings.new.auto gs = if_some (λ hs. (D : Definitions) (R : PlacedTree) → IsPatternOf D (unplaced R) c.args.pattern.now → AreMayGivens D C [] R c.bindings.new.auto hs.items) c.in_ok-found.found c.in-Some.givens c.in-Some.is f.bindings (names_of P) Q made in
-          let live : IsLiveIn P S e earlier Q = live_from P S e earlier C comes Q (if_some (λ hs. (D : Definitions) (R : PlacedTree) → IsPatternOf D (unplaced R) c.args.pattern.now → IsLive D C [] R) c.in_ok-found.found c.in-Some.givens c.in-Some.is f.live (names_of P) Q made) in
-          let inside = clause_scope P S e earlier C comes Q c.args.auto.now c.bindings.new.auto c.args.variables.now c.bring_in.new.variables gs grows c.requires.variables stands bound c.in_ok-bring_in.ensures in
+          let live : IsLiveIn P S e earlier Q = live_from P S e earlier C Q comes (if_some (λ hs. (D : Definitions) (R : PlacedTree) → IsPatternOf D (unplaced R) c.args.pattern.now → IsLive D C [] R) c.in_ok-found.found c.in-Some.givens c.in-Some.is f.live (names_of P) Q made) in
+          let inside = clause_scope P S e earlier C Q comes c.args.auto.now c.bindings.new.auto c.args.variables.now c.bring_in.new.variables gs grows c.requires.variables stands bound c.in_ok-bring_in.ensures in
           clause_live P S e earlier Q (expr_at p c.args.clause.body.at) c.in_expression.new.auto c.in_expression.new.store c.args.lines.now.items c.in_expression.new.lines.items c.in_ok-state.state live
           (c.in_ok-state.ensures.walked (clause_entry e earlier Q ∷ S) inside);
       variables =
@@ -671,11 +689,29 @@ in_clauses-returns-in_err-found t c =
     let r = c.from_residual-in_err-found.result in
     record { belongs = IfOk-from_err r _ e; walked = IfOk-from_err r _ e; variables = IfOk-from_err r _ e; grows = IfOk-from_err r _ e; known = IfOk-from_err r _ e; keeps = keeps_then c.args.store.now c.loop-clause.store c.in_clause.new.store c.loop-clause.invariant.walk.stays.keeps c.in_clause.ensures.keeps }
 
+pub in_clauses-returns-in_err-remaining : goal.in_clauses-returns-in_err-remaining
+in_clauses-returns-in_err-remaining t c =
+    let e = c.from_residual.ensures.0 in
+    let r = c.from_residual.result in
+    record { belongs = IfOk-from_err r _ e; walked = IfOk-from_err r _ e; variables = IfOk-from_err r _ e; grows = IfOk-from_err r _ e; known = IfOk-from_err r _ e; keeps = keeps_same c.args.store.now }
+
+pub in_clauses-returns-in_err-coming : goal.in_clauses-returns-in_err-coming
+in_clauses-returns-in_err-coming t c =
+    let e = c.from_residual-in_err-coming.ensures.0 in
+    let r = c.from_residual-in_err-coming.result in
+    record { belongs = IfOk-from_err r _ e; walked = IfOk-from_err r _ e; variables = IfOk-from_err r _ e; grows = IfOk-from_err r _ e; known = IfOk-from_err r _ e; keeps = c.loop-clause.invariant.walk.stays.keeps }
+
+pub in_clauses-returns-in_err-remaining-2 : goal.in_clauses-returns-in_err-remaining-2
+in_clauses-returns-in_err-remaining-2 t c =
+    let e = c.from_residual-in_err-remaining-2.ensures.0 in
+    let r = c.from_residual-in_err-remaining-2.result in
+    record { belongs = IfOk-from_err r _ e; walked = IfOk-from_err r _ e; variables = IfOk-from_err r _ e; grows = IfOk-from_err r _ e; known = IfOk-from_err r _ e; keeps = keeps_then c.args.store.now c.loop-clause.store c.in_clause.new.store c.loop-clause.invariant.walk.stays.keeps c.in_clause.ensures.keeps }
+
 pub in_clauses-returns-in_err-left : goal.in_clauses-returns-in_err-left
 in_clauses-returns-in_err-left t c =
     let e = c.from_residual-in_err-left.ensures.0 in
     let r = c.from_residual-in_err-left.result in
-    record { belongs = IfOk-from_err r _ e; walked = IfOk-from_err r _ e; variables = IfOk-from_err r _ e; grows = IfOk-from_err r _ e; known = IfOk-from_err r _ e; keeps = keeps_then c.args.store.now c.loop-clause.store c.in_clause.new.store c.loop-clause.invariant.walk.stays.keeps c.in_clause.ensures.keeps }
+    record { belongs = IfOk-from_err r _ e; walked = IfOk-from_err r _ e; variables = IfOk-from_err r _ e; grows = IfOk-from_err r _ e; known = IfOk-from_err r _ e; keeps = c.loop-clause.invariant.walk.stays.keeps }
 
 pub in_clauses-returns-in_err-see_uncovered : goal.in_clauses-returns-in_err-see_uncovered
 in_clauses-returns-in_err-see_uncovered t c =
@@ -697,8 +733,8 @@ in_arguments-returns-in_err-see_argument t c =
 
 pub in_clauses-returns-in_err-pattern : goal.in_clauses-returns-in_err-pattern
 in_clauses-returns-in_err-pattern t c =
-    let e = c.from_residual.ensures.0 in
-    let r = c.from_residual.result in
+    let e = c.from_residual-in_err-pattern.ensures.0 in
+    let r = c.from_residual-in_err-pattern.result in
     record { belongs = IfOk-from_err r _ e; walked = IfOk-from_err r _ e; variables = IfOk-from_err r _ e; grows = IfOk-from_err r _ e; known = IfOk-from_err r _ e; keeps = c.loop-clause.invariant.walk.stays.keeps }
 
 pub in_expression-returns-in_err-add_state-in-Empty : goal.in_expression-returns-in_err-add_state-in-Empty

@@ -37,6 +37,6 @@ invariant-in_arguments-loop-number l = record {
 
 abbrev pub invariant-in_clauses-loop-clause : goal.invariant-in_clauses-loop-clause
 invariant-in_clauses-loop-clause l = record {
-  walk : ClausesLoop l.self.sound l.place l.initial.auto' l.auto' l.initial.variables l.variables l.initial.store l.store l.initial.lines.items l.lines.items l.clauses l.clause-index l.states.items l.initial.arriving l.arriving;
+  walk : ClausesLoop l.self.sound l.place l.initial.auto' l.auto' l.initial.variables l.variables l.initial.store l.store l.initial.lines.items l.lines.items l.clauses l.clause-index l.states.items l.fn.scrutinee l.remaining;
   known : IsKnown l.auto' l.store l.known;
 }

@@ -24,7 +24,7 @@ use Rattle.xd_check.specs.Ready.{CanBeWalked, expr_at}
 use Rattle.xd_check.specs.Scrutinees.{AddsMatches, MatchesOfBody}
 use Rattle.xd_check.specs.Walked.{Grows}
 use Rattle.xd_check.specs.declared.matches.MetMatch.{MetMatch}
-use Rattle.xd_check.proofs.ClauseLemmas.{comes_first, live_from, live_to}
+use Rattle.xd_check.proofs.ClauseLemmas.{comes_first, comes_on, live_from, live_to}
 use Rattle.xd_check.proofs.GrowsLemmas.{grows_then, just_kept, keeps_same, scope_kept}
 use Rattle.xd_check.proofs.IsKnownLemmas.{known_kept, known_learnt}
 use Rattle.xd_check.proofs.Lists.{if_some}
@@ -265,7 +265,7 @@ meet_clause-returns-in_default-clause-met t c =
     let f = c.in_ok-found.ensures in
     let grows : Grows c.args.auto.now c.bindings.new.auto = record { extends = f.extends; keeps = f.accepting } in
     λ S e earlier stands comes.
-    let dead : IsLiveIn P S e earlier Q → ⊥ = λ l. f.dead (ap (λ o. Ok o) c.in_default.is) (names_of P) Q made (live_to P S e earlier C comes Q l) in
+    let dead : IsLiveIn P S e earlier Q → ⊥ = λ l. f.dead (ap (λ o. Ok o) c.in_default.is) (names_of P) Q made (live_to P S e earlier C Q (comes_on P S e earlier C comes Q) l) in
     record {
       tells = dead;
       matches = adds_none p c.bindings.new.auto (MatchesOfBody P S e earlier Q (expr_at p c.args.clause.body.at)) (inr (dead, refl)) c.args.meeting.now.met.items;
@@ -319,8 +319,8 @@ meet_clause-returns-clause-met t c =
     let gs = c.in-Some.givens.items in
     let bound : AreMayGivens (names_of P) C [] Q c.bindings.new.auto gs = if_some (λ hs. (D : Definitions) (R : PlacedTree) → IsPatternOf D (unplaced R) c.args.pattern.now → AreMayGivens D C [] R c.bindings.new.auto hs.items) c.in_ok-found.found c.in-Some.givens c.in-Some.is f.bindings (names_of P) Q made in
     λ S e earlier stands comes.
-    let live : IsLiveIn P S e earlier Q = live_from P S e earlier C comes Q (if_some (λ hs. (D : Definitions) (R : PlacedTree) → IsPatternOf D (unplaced R) c.args.pattern.now → IsLive D C [] R) c.in_ok-found.found c.in-Some.givens c.in-Some.is f.live (names_of P) Q made) in
-    let inside = clause_scope P S e earlier C comes Q c.args.auto.now c.bindings.new.auto c.args.variables.now c.bring_in.new.variables gs grows c.requires.variables stands bound c.in_ok-bring_in.ensures in
+    let live : IsLiveIn P S e earlier Q = live_from P S e earlier C Q (comes_on P S e earlier C comes Q) (if_some (λ hs. (D : Definitions) (R : PlacedTree) → IsPatternOf D (unplaced R) c.args.pattern.now → IsLive D C [] R) c.in_ok-found.found c.in-Some.givens c.in-Some.is f.live (names_of P) Q made) in
+    let inside = clause_scope P S e earlier C Q (comes_on P S e earlier C comes Q) c.args.auto.now c.bindings.new.auto c.args.variables.now c.bring_in.new.variables gs grows c.requires.variables stands bound c.in_ok-bring_in.ensures in
     let F : Expression = expr_at p c.args.clause.body.at in
     record {
       tells = live;
