@@ -65,7 +65,7 @@ fn key_of(form: &TypeForm) -> u64 {
         }
         TypeForm::Name(word) => mixed_text(4, word.as_str()),
         TypeForm::Elem(class, content) => {
-            let mut key = mixed(5, content.at());
+            let mut key = mixed(if class.takes_others() { 11 } else { 5 }, content.at());
             for label in class.names() {
                 key = mixed_text(key, label.as_str());
             }

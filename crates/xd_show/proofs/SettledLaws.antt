@@ -1,5 +1,5 @@
 -- What is made over what is settled.
-use Rattle.std.proofs.Common.{◌≡◌, ℕ, true, refl, subst, List, ◌∷◌, Option, Some, Result, Ok, Err}
+use Rattle.std.proofs.Common.{◌≡◌, ℕ, true, refl, sym, subst, List, ◌∷◌, Option, Some, Result, Ok, Err}
 use Rattle.std.specs.Prelude.{slice_get}
 use Rattle.std.specs.Result.{IfOk}
 use Rattle.xd_auto.specs.declared.auto.State.{State}
@@ -9,7 +9,9 @@ use Rattle.xd_syntax.specs.Words.{any_word}
 use Rattle.xd_syntax.specs.Program.{ProgramTree}
 use Rattle.xd_syntax.specs.Table.{Row}
 use Rattle.xd_syntax.specs.declared.types.TypeId.{TypeId}
-use Rattle.xd_shown.specs.Bodies.{AreBodies, ShowsMeanings}
+use Rattle.xd_shown.specs.Bodies.{AreBodies, AreMeant}
+use Rattle.xd_named_parts.specs.Shorter.{ShowsDefinitions}
+use Rattle.xd_named_parts.specs.declared.parts.Definitions.{Definitions}
 use Rattle.xd_shown.specs.Shown.{IsShown}
 use Rattle.xd_show.specs.declared.states.Settled.{Settled}
 use Rattle.xd_show.specs.Contents.{AreBodiesBy, GrowsNames}
@@ -28,9 +30,11 @@ settled_bodies a start taken s new bodies h by grows =
     (grows.names (any_word ∷ s.names.items) (refl, words_known s.names.items) h.contents.names)
 
 pub settled_shown : (a : Automaton) (start : State) (taken : List (List ℕ)) (s : Settled) (new : List Row) (bodies : List TypeId) → IsSettled a start taken s → AreBodiesBy a s.names.items s.named.items s.pool.types s.written.items new bodies → HasDocument a start →
-    (P : ProgramTree) (w : List ℕ) → slice_get s.names.items 0 ≡ Some w → ShowsMeanings new s.names.items bodies P w → IsShown (λ d. accepts a d start ≡ true) taken P w
-settled_shown a start taken s new bodies h by has P w e shows =
-    shown_law a s.names.items s.named.items start s.pool.types new s.written.items bodies h.new h.count h.contents by taken P w h.some h.first h.in_order has e shows
+    (P : ProgramTree) (w : List ℕ) (D : Definitions) → D.pool.types ≡ new → D.names.items ≡ s.names.items → D.bodies.items ≡ bodies → ShowsDefinitions taken D P w → IsShown (λ d. accepts a d start ≡ true) taken P w
+settled_shown a start taken s new bodies h by has P w D e f g shows =
+    shown_law a s.names.items s.named.items start s.pool.types new s.written.items bodies h.new h.count h.contents by taken P w h.some h.first has
+    (λ N x m k proper. shows N x (subst (λ rows. AreMeant N rows D.names.items D.bodies.items) (sym e) (subst (λ ws. AreMeant N new ws D.bodies.items) (sym f) (subst (AreMeant N new s.names.items) (sym g) m)))
+    (subst (λ ws. slice_get ws 0 ≡ Some x) (sym f) k) proper)
 
 pub ok_both : {T E : Type 0} (r : Result T E) (P Q R : T → Type 0) → ((x : T) → P x → Q x → R x) → IfOk r P → IfOk r Q → IfOk r R
 ok_both (Ok x) P Q R f p q = f x p q

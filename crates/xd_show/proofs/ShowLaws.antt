@@ -14,9 +14,9 @@ use Rattle.xd_syntax.specs.declared.types.TypeId.{TypeId}
 use Rattle.xd_same_types.specs.Grown.{NamesAmong}
 use Rattle.xd_same_types.specs.Same.{Meaning, FitsAs, HasTops}
 use Rattle.xd_same_types.proofs.Ids.{got}
-use Rattle.xd_shown.specs.Bodies.{AreBodies, AreMeant, ShowsMeanings}
+use Rattle.xd_shown.specs.Bodies.{AreBodies, AreMeant, HasProper}
 use Rattle.xd_shown.specs.FreeNames.{AreDistinct, AreNewNames}
-use Rattle.xd_shown.specs.Shown.{AreNamedFrom, IsShown}
+use Rattle.xd_shown.specs.Shown.{IsShown}
 use Rattle.xd_empty.specs.Parts.{HasDocument}
 use Rattle.xd_show_solve.specs.Levels.{MeansAny}
 use Rattle.xd_show.proofs.ContentLaws.{all_of_each, has_there, same_word}
@@ -89,6 +89,10 @@ pub first_word : (words : List (List ℕ)) (w : List ℕ) → slice_get words 0 
 first_word [] w e = cc
 first_word (x ∷ xs) w e = cc
 
+first_of : (words : List (List ℕ)) → 0 < length words → (w : List ℕ) × (slice_get words 0 ≡ Some w)
+first_of [] l = absurd (omega arith)
+first_of (x ∷ xs) l = (x, refl)
+
 -- definitions that are made over what is written for contents
 
 module _ (a : Automaton) (words : List (List ℕ)) (named : List State) (start : State) (old new : List Row) (written : List (Option TypeId)) (bodies : List TypeId) (names : AreNewNames words) (count : length words ≡ length named) (contents : AreContentsBy a words named old written) (by : AreBodiesBy a words named old written new bodies) where
@@ -131,12 +135,14 @@ module _ (a : Automaton) (words : List (List ℕ)) (named : List State) (start :
   pub first_means : 0 < length named → get_or named 0 start ≡ start → (w : List ℕ) → slice_get words 0 ≡ Some w → (d : Document) → meaning_of a words named w d ≡ accepts a d start
   first_means some first w e d = states_mean a words named names count 0 w start some (first_word words w e) (sym first) d
 
-  pub shown_law : (taken : List (List ℕ)) (P : ProgramTree) (w : List ℕ) → 0 < length named → get_or named 0 start ≡ start → AreNamedFrom taken 1 words → HasDocument a start → slice_get words 0 ≡ Some w → ShowsMeanings new words bodies P w →
+  pub shown_law : (taken : List (List ℕ)) (P : ProgramTree) (w : List ℕ) → 0 < length named → get_or named 0 start ≡ start → HasDocument a start →
+      ((N : Meaning) (x : List ℕ) → AreMeant N new words bodies → slice_get words 0 ≡ Some x → HasProper (N x) → IsShown (λ d. N x d ≡ true) taken P w) →
       IsShown (λ d. accepts a d start ≡ true) taken P w
-  shown_law taken P w some first in_order has e shows =
-      let means = first_means some first w e in
-      shown_same (λ d. meaning_of a words named w d ≡ true) (λ d. accepts a d start ≡ true) taken P w (λ d. (λ h. sym (means d) ∙ h, λ h. means d ∙ h))
-      (shows taken (meaning_of a words named) in_order are_meant (has.document, has.proper, means has.document ∙ has.accepted))
+  shown_law taken P w some first has shows =
+      let x = first_of words (omega arith) in
+      let means = first_means some first x.0 x.1 in
+      shown_same (λ d. meaning_of a words named x.0 d ≡ true) (λ d. accepts a d start ≡ true) taken P w (λ d. (λ h. sym (means d) ∙ h, λ h. means d ∙ h))
+      (shows (meaning_of a words named) x.0 are_meant x.1 (has.document, has.proper, means has.document ∙ has.accepted))
 
 -- a set of no document
 pub nothing_shown : (D : Document → Type 0) (taken : List (List ℕ)) (P : ProgramTree) (start : List ℕ) → ((d : Document) → D d → ⊥) → IsShown (λ d. ⊥) taken P start → IsShown D taken P start

@@ -3,6 +3,7 @@
 ghost use Rattle.std.specs.Prelude.{◌≡◌, true, IfOk};
 ghost use Rattle.xd_auto.specs.Automaton.{IsState, accepts};
 ghost use Rattle.xd_boole.specs.Universal.{MarkUniversal};
+ghost use Rattle.xd_doc.specs.Document.{Document};
 ghost use Rattle.xd_empty.specs.Parts.{HasDocument};
 ghost use Rattle.xd_syntax.specs.Kept.{program_tree};
 ghost use Rattle.xd_shown.specs.Shown.{IsShown};
@@ -18,6 +19,7 @@ use xd_auto::{Auto, State, trim};
 use xd_boole::{merged_at, universal_states};
 use xd_doc::{Label, NoMemory};
 use xd_empty::{inhabited, inhabited_part};
+use xd_named_parts::{Definitions, shown};
 use xd_same_types::Pool;
 use xd_shown::{Shown, free_names};
 use xd_syntax::TypeId;
@@ -95,7 +97,27 @@ fn show_some(alloc: Global, auto: &Auto, start: State, taken: &[Label]) -> Resul
         written,
     } = settle(alloc, auto, &universal, start, taken)?;
     let bodies = bodies_by(alloc, &mut pool, auto, &universal, &written, &named, &names)?;
-    Shown::new(alloc, pool.into_types(), &names, &bodies)
+    let definitions = Definitions {
+        pool,
+        names,
+        bodies,
+    };
+    shown(alloc, definitions, taken)
+}
+
+/// The state in an automaton in which like states are one, and all are reached from it.
+///
+/// Some states plainly accept every document only after others have been made one, so it is done
+/// twice.
+fn like_as_one(alloc: Global, auto: &Auto, state: State) -> Result<(Auto, State), NoMemory>
+    requires { IsState auto.now state }
+    ensures same { IfOk result (λ made. (d : Document) → accepts made.0 d made.1 ≡ accepts auto.now d state) }
+    ensures belongs { IfOk result (λ made. IsState made.0 made.1) }
+{
+    let (once, start) = merged_at(alloc, auto, state)?;
+    let (like, start) = merged_at(alloc, &once, start)?;
+    let (part, start) = trim(alloc, &like, start)?;
+    Ok((part, start))
 }
 
 /// What a state accepts as definitions of types: a sound program of definitions `S1`, `S2` and so
@@ -104,8 +126,9 @@ fn show_some(alloc: Global, auto: &Auto, start: State, taken: &[Label]) -> Resul
 ///
 /// States that accept nothing are left out, and like ones made one. A content has a name where it
 /// stands within itself, or where it is neither short nor stands in one place; other contents are
-/// written in place under their label. Names come in the order in which a reader meets them. Where
-/// the state accepts nothing, the one definition is `type S1 = none[S1]`.
+/// written in place under their label. If long choices come again and again, they have names in the
+/// place of some contents. Names come in the order in which a reader meets them. Where the state
+/// accepts nothing, the one definition is `type S1 = none[S1]`.
 ///
 /// The types may be exponentially long in the states, as regular expressions for automata may be.
 /// `NoMemory` where there is no room for them.
@@ -118,7 +141,6 @@ pub fn show(alloc: Global, auto: &Auto, state: State, taken: &[Label]) -> Result
     if !marks[start.number()] {
         return Shown::nothing(alloc, taken);
     }
-    let (like, start) = merged_at(alloc, &part, start)?;
-    let (part, start) = trim(alloc, &like, start)?;
+    let (part, start) = like_as_one(alloc, &part, start)?;
     show_some(alloc, &part, start, taken)
 }

@@ -1,0 +1,4 @@
+pub mod FitTests
+pub mod AlikeLaws
+pub mod CopyLaws
+pub mod NamedLaws
