@@ -1,14 +1,17 @@
 //! The desks and their names.
 
 use std::alloc::Global;
+use xd_calls_checked::CheckedDesk;
 use xd_calls_clauses::ClauseDesk;
 use xd_calls_documents::DocumentDesk;
 use xd_calls_lines::{Call, CallError, Desk, NamedDesk};
 use xd_calls_parts::PartDesk;
 use xd_calls_plain::PlainDesk;
+use xd_calls_proofs::ProofDesk;
 use xd_calls_states::StateDesk;
 use xd_calls_steps::StepDesk;
 use xd_calls_texts::ProgramDesk;
+use xd_calls_values::ValueDesk;
 
 /// The desk that a line of the input chose.
 #[derive(Drop)]
@@ -18,6 +21,9 @@ pub enum AnyDesk {
     Plain(PlainDesk),
     Clauses(ClauseDesk),
     States(StateDesk),
+    Checked(CheckedDesk),
+    Values(ValueDesk),
+    Proofs(ProofDesk),
     Parts(PartDesk),
     Steps(StepDesk),
 }
@@ -30,6 +36,9 @@ impl Desk for AnyDesk {
             Self::Plain(desk) => desk.answer(call, out),
             Self::Clauses(desk) => desk.answer(call, out),
             Self::States(desk) => desk.answer(call, out),
+            Self::Checked(desk) => desk.answer(call, out),
+            Self::Values(desk) => desk.answer(call, out),
+            Self::Proofs(desk) => desk.answer(call, out),
             Self::Parts(desk) => desk.answer(call, out),
             Self::Steps(desk) => desk.answer(call, out),
         }
@@ -44,6 +53,9 @@ impl NamedDesk for AnyDesk {
             "plain" => Ok(Self::Plain(PlainDesk::new(alloc))),
             "clauses" => Ok(Self::Clauses(ClauseDesk::new(alloc))),
             "states" => Ok(Self::States(StateDesk::new(alloc))),
+            "checked" => Ok(Self::Checked(CheckedDesk::new(alloc))),
+            "values" => Ok(Self::Values(ValueDesk::new(alloc))),
+            "proofs" => Ok(Self::Proofs(ProofDesk::new(alloc))),
             "parts" => Ok(Self::Parts(PartDesk::new(alloc))),
             "steps" => Ok(Self::Steps(StepDesk::new(alloc))),
             _ => Err(CallError::Unknown),

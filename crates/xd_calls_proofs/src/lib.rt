@@ -1,0 +1,8 @@
+//! Calls that make proofs of inclusions.
+#![tactic(auto)]
+
+mod desk;
+mod made;
+mod states;
+
+pub use crate::desk::ProofDesk;
