@@ -11,7 +11,7 @@ use Rattle.xd_pattern_runs.specs.Runs.{Continuation}
 use Rattle.xd_pattern_runs.specs.Steps.{marked, part_steps, body_steps}
 use Rattle.xd_patterns.specs.Work.{Cost, times, cost_by, cost_of_definition, cost_of_name, cost, steps_of, work_left}
 
--- what is come to behind a part that can't be empty is not looked at
+-- what is come to after a part that can't be empty is not looked at
 
 times_some : (a b n : ℕ) → times a b ≡ suc n → ((k : ℕ) × (a ≡ suc k)) × ((k : ℕ) × (b ≡ suc k))
 times_some zero b n e = cc

@@ -37,7 +37,7 @@ names_nothing w items e h x =
     let n : w.names ≡ [] = nothing_named w.names (λ y. h y ∙ ap (λ xs. is_named xs y) e) in
     ap (λ (ns : List (List ℕ)). let c : NameClass = record { names = ns; except = w.except } in c) n ∙ ap (λ (b : Bool). let c : NameClass = record { names = []; except = b } in c) x
 
--- moves of states that are behind the others
+-- moves of states that are after the others
 
 pub new_moves : (a : Automaton) (s : State) → moves_at (a ++ no_moves false ∷ []) s ≡ moves_at a s
 new_moves a s = go a (state_number s)

@@ -54,7 +54,7 @@ module _ (t : Tables) (E : Definitions) (m : List (Link ℕ)) (c : List (Link Pi
     items = λ F u l i p. subst (λ U. Collects t m' c' fs gs (part_choice (words_at t m q.marks) U (pieces_at t m F) (option_map (pieces_at t m) u))) (sym e) (g F u l i p);
   }
 
-  -- a piece that was put before what stands behind
+  -- a piece that was put before what stands after
   put_stands : (d : List (Link Piece)) → KeepsLinks c d → (r : Piece) (n : ℕ) → n ≤ length d → list_at d n ≡ r ∷ list_at c behind → (F : List Piece) (u : Option (List Piece)) → list_at c behind ≡ F ++ or_none u → IsTurn c o u →
       StandsFor t m d (task_at n o) (ahead (piece_at t m r ∷ pieces_at t m F) (option_map (pieces_at t m) u))
   put_stands d k r n w e F u l i = record { within = w; front = r ∷ F; turn = u; list = e ∙ ap (λ z. r ∷ z) l; turned = turn_kept c d k o u i; is = refl }
@@ -122,7 +122,7 @@ module _ (t : Tables) (E : Definitions) (m : List (Link ℕ)) (c : List (Link Pi
           (puts_one t m c' xs ys (record { cell = h.number; turn = o }) _ h.pushed (put_stands c' a.cells r h.number h.within h.list F u l i)))
           (λ F u l i p. collects_none t m c' fs)
 
-  -- two pieces before what stands behind
+  -- two pieces before what stands after
   two_stand : (d d' : List (Link Piece)) → KeepsLinks c d' → (r s : Piece) (n k : ℕ) → k ≤ length d' → list_at d n ≡ s ∷ list_at c behind → list_at d' k ≡ r ∷ list_at d n → (F : List Piece) (u : Option (List Piece)) →
       list_at c behind ≡ F ++ or_none u → IsTurn c o u → StandsFor t m d' (task_at k o) (ahead (piece_at t m r ∷ (piece_at t m s ∷ pieces_at t m F)) (option_map (pieces_at t m) u))
   two_stand d d' kept r s n k w e f F u l i =

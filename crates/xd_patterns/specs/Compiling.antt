@@ -42,12 +42,12 @@ pub record AddsStates (base : ℕ) (old new : List ℕ) (old_auto new_auto : Aut
   pub longer : length old_auto ≤ length new_auto
   pub moves : (s : State) → moves_at new_auto s ≡ moves_at old_auto s
 
--- states come behind the others, and those below the base stay as they were
+-- states come after the others, and those below the base stay as they were
 pub record Spares (base : ℕ) (old new : Automaton) : Type 0 where
   pub states : (s : State) → IsState old s → IsState new s
   pub stay : (s : State) → state_number s < base → moves_at new s ≡ moves_at old s
 
--- a move on a text is added to a state, behind its others, with its marks
+-- a move on a text is added to a state, after its others, with its marks
 pub record AddsText (marks number : ℕ) (words : TextClass) (from : State) (base : ℕ) (old new : List ℕ) (old_auto new_auto : Automaton) (texts texts' labels labels' : List ℕ) : Type 0 where
   pub made : Automaton
   pub states : AddsStates base old new old_auto made

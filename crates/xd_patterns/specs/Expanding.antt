@@ -41,7 +41,7 @@ abbrev pub all_steps : Definitions → Tables → List (Link ℕ) → List (Link
 all_steps E t m c [] = 0
 all_steps E t m c (x ∷ xs) = task_steps E t m c x + all_steps E t m c xs
 
--- the task is put behind the others, or stands among them
+-- the task is put after the others, or stands among them
 abbrev pub Enters : List Task → Task → List Task → Bool → Type 0
 Enters old x new true = new ≡ old ++ x ∷ []
 Enters old x new false = Among x old × (new ≡ old)

@@ -78,7 +78,7 @@ pub record IsLike (rows : List Row) (of_pattern : Bool) (marks : ℕ) (q : Piece
 abbrev pub node_piece : Bool → ℕ → ℕ → Piece
 node_piece of_pattern i marks = record { of_pattern = of_pattern; node = i; from = 0; is_turns = false; marks = marks }
 
--- the parts behind the first of those that the piece has, where the node has so many, the last of
+-- the parts after the first of those that the piece has, where the node has so many, the last of
 -- them with this number
 abbrev pub rest_piece : Piece → ℕ → ℕ → Piece
 rest_piece p count last =

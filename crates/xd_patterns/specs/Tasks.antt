@@ -67,14 +67,14 @@ abbrev pub or_none : Option (List Piece) → List Piece
 or_none None = []
 or_none (Some qs) = qs
 
--- the list behind a turn, by its number
+-- the list after a turn, by its number
 abbrev pub IsTurn : List (Link Piece) → Option ℕ → Option (List Piece) → Type 0
 IsTurn cells None None = Unit {0}
 IsTurn cells (Some n) (Some qs) = (n ≤ length cells) × (list_at cells n ≡ qs)
 IsTurn cells None (Some qs) = ⊥
 IsTurn cells (Some n) None = ⊥
 
--- the task is for what stands ahead: up to the end of the turn, and behind it
+-- the task is for what stands ahead: up to the end of the turn, and after it
 pub record StandsFor (t : Tables) (marks : List (Link ℕ)) (cells : List (Link Piece)) (task : Task) (a : Ahead) : Type 0 where
   pub within : task.cell ≤ length cells
   pub front : List Piece
@@ -113,7 +113,7 @@ pub record IsFound (t : Tables) (marks : List (Link ℕ)) (cells : List (Link Pi
 abbrev pub StandFound : Tables → List (Link ℕ) → List (Link Piece) → List Found → Type 0
 StandFound t marks cells fs = AllByRecursion (λ (f : Found). (f.is_stop ≡ true) ⊎ IsFound t marks cells f) fs
 
--- these choices are found behind the others, where a choice that was found before need not stand
+-- these choices are found after the others, where a choice that was found before need not stand
 -- again
 pub record Collects (t : Tables) (marks : List (Link ℕ)) (cells : List (Link Piece)) (old new : List Found) (cs : List Choice) : Type 0 where
   pub stand : StandFound t marks cells old → StandFound t marks cells new
@@ -159,7 +159,7 @@ pub record IsBound (old new : List (Link ℕ)) (binder part bound : Piece) : Typ
 abbrev pub HasFound : List Found → Found → List Found → Type 0
 HasFound old f new = (Among f old × (new ≡ old)) ⊎ (new ≡ old ++ f ∷ [])
 
--- the step of a piece that stands first, before F and what is behind a turn
+-- the step of a piece that stands first, before F and what is after a turn
 pub record IsStep (t : Tables) (E : Definitions) (m m' : List (Link ℕ)) (c c' : List (Link Piece)) (old new : List Task) (found found' : List Found) (q : Piece) (behind : ℕ) (turn : Option ℕ) : Type 0 where
   pub adds : Adds t m m' c c'
   pub tasks : (F : List Piece) (u : Option (List Piece)) → list_at c behind ≡ F ++ or_none u → IsTurn c turn u → ArePieces t m c →

@@ -21,7 +21,7 @@ abbrev pub with_position : List ℕ → Option ℕ → List ℕ
 with_position ns None = ns
 with_position ns (Some i) = if list_any (λ n. nat_eq n i) ns then ns else ns ++ i ∷ []
 
--- the numbers, and that of the word behind them, if it has one and is not among them
+-- the numbers, and that of the word after them, if it has one and is not among them
 abbrev pub with_number : List (List ℕ) → List ℕ → List ℕ → List ℕ
 with_number vs ns w = with_position ns (position (bytes_eq w) vs)
 
@@ -38,7 +38,7 @@ pub record AreNumbered (patterns : List Row) (vs : List (List ℕ)) (marks : Lis
   pub count : length lists ≡ done
   pub have : (n : ℕ) → n < done → HasVariables patterns vs marks n (get_or lists n [])
 
--- words are put behind others, each where it first stands
+-- words are put after others, each where it first stands
 abbrev pub put_each : List (List ℕ) → List (List ℕ) → List (List ℕ)
 put_each ks [] = ks
 put_each ks (x ∷ xs) = put_each (if list_any (bytes_eq x) ks then ks else ks ++ x ∷ []) xs

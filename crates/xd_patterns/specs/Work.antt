@@ -4,7 +4,7 @@ use Rattle.xd_syntax.specs.Tree.{Tree, Empty, Text, Words, Name, Elem, Seq, Alt,
 use Rattle.xd_pattern_runs.specs.Runs.{Continuation}
 use Rattle.xd_pattern_runs.specs.Steps.{Ahead}
 
--- the steps of a part itself, and how often what stands behind it is come to
+-- the steps of a part itself, and how often what stands after it is come to
 pub record Cost : Type 0 where
   pub steps : ℕ
   pub stops : ℕ

@@ -1,7 +1,8 @@
 //! Types and patterns of a program as states of one automaton.
 
 ghost use Rattle.std.specs.Prelude.{◌≡◌, ◌<◌, ◌++◌, [], IfOk, OnOk, get_or, length, map};
-ghost use Rattle.std.specs.List.{AllByRecursion};
+ghost use Rattle.std.specs.List.{AllByRecursion, IsDistinct};
+ghost use Rattle.std.specs.Str.{bytes_eq};
 ghost use Rattle.xd_auto.specs.Automaton.{Extends, KeepsAccepting};
 ghost use Rattle.xd_laws.specs.Guarded.{Guarded};
 ghost use Rattle.xd_meaning.specs.KeptFaults.{AllPaired};
@@ -68,9 +69,10 @@ impl CompiledProgram {
         self.variables[pattern].words.as_slice()
     }
 
-    /// The variables of all patterns, by their numbers.
+    /// The variables of all patterns, each once, by their numbers.
     pub fn words(&self) -> &[Label]
-        ensures { result.now ≡ words_of_program self.now }
+        ensures value { result.now ≡ words_of_program self.now }
+        ensures distinct { IsDistinct bytes_eq (words_of_program self.now) }
     {
         self.moves.words.as_slice()
     }
@@ -100,6 +102,13 @@ impl CompiledProgram {
         self.moves.marks(state, kind, number)
     }
 
+    /// Whether the item taken by a move belongs to this variable.
+    pub fn has(&self, state: State, kind: MoveKind, number: usize, word: &Label) -> bool
+        ensures { result ≡ has_word (marks_at (marking_of_program self.now state) kind number) word.now }
+    {
+        self.moves.has(state, kind, number, word)
+    }
+
     /// Whether the item taken by a move belongs to the variable of this number of a pattern, in
     /// order of first occurrence.
     pub fn holds(
@@ -119,7 +128,7 @@ impl CompiledProgram {
     }
 }
 
-/// The types, and behind them the patterns, as pieces outside of all binders.
+/// The types, and after them the patterns, as pieces outside of all binders.
 fn pieces_of(
     alloc: Global,
     types: &[TypeId],
@@ -137,7 +146,7 @@ fn pieces_of(
     Ok(pieces)
 }
 
-/// Puts the variables behind the others, but those that are there.
+/// Puts the variables after the others, but those that are there.
 fn put_words(found: &IndexSet<Label>, words: &mut IndexSet<Label>) -> Result<(), NoMemory>
     ensures { OnOk result (words.new.keys ≡ put_each words.old.keys found.now.keys) }
 {
@@ -190,6 +199,7 @@ fn compile_marked_together(
     ensures types { IfOk result (λ made. AllPaired (IsTypeState (meanings types.now defs.now) types.now auto.new (marking_of_program made)) type_ids.now (type_states made)) }
     ensures patterns { IfOk result (λ made. AllPaired (IsPatternState (meanings types.now defs.now) patterns.now auto.new (marking_of_program made)) pattern_ids.now (pattern_states made)) }
     ensures variables { IfOk result (λ made. pattern_variables made ≡ variables_of_patterns patterns.now pattern_ids.now) }
+    ensures words { IfOk result (λ made. AllByRecursion (AreWithin (words_of_program made)) (pattern_variables made)) }
 {
     types.see_table();
     let base = auto.len();
@@ -235,6 +245,7 @@ pub(crate) fn compile_together(
     ensures types { IfOk result (λ made. AllPaired (IsTypeState (meanings types.now defs.now) types.now auto.new (marking_of_program made)) type_ids.now (type_states made)) }
     ensures patterns { IfOk result (λ made. AllPaired (IsPatternState (meanings types.now defs.now) patterns.now auto.new (marking_of_program made)) pattern_ids.now (pattern_states made)) }
     ensures variables { IfOk result (λ made. pattern_variables made ≡ variables_of_patterns patterns.now pattern_ids.now) }
+    ensures words { IfOk result (λ made. AllByRecursion (AreWithin (words_of_program made)) (pattern_variables made)) }
 {
     let mut marks = Marks::new(alloc);
     compile_marked_together(

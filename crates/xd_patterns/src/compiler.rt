@@ -13,7 +13,7 @@ ghost use Rattle.xd_syntax.specs.Kept.{AddsTypes, program_tree};
 ghost use Rattle.xd_syntax.specs.Patterns.{IsPattern, pattern_tree};
 ghost use Rattle.xd_syntax.specs.Program.{names_of};
 ghost use Rattle.xd_syntax.specs.ShallowTables.{IsShallow};
-ghost use Rattle.xd_patterns.specs.CompiledProgram.{AcceptsType, IsLinearPattern, IsPatternState, marking_of_program, pattern_states, pattern_variables, type_states, variables_of_patterns};
+ghost use Rattle.xd_patterns.specs.CompiledProgram.{AcceptsType, AreWithin, IsLinearPattern, IsPatternState, marking_of_program, pattern_states, pattern_variables, type_states, variables_of_patterns, words_of_program};
 ghost use Rattle.xd_patterns.specs.Compiler.{Serves, ServesStays};
 ghost use Rattle.xd_patterns.specs.Held.{marking_of, variables_in};
 ghost use Rattle.xd_patterns.specs.Marked.{IsCompiled};
@@ -109,6 +109,7 @@ impl PatternCompiler {
         ensures types { IfOk result (λ made. AllPaired (AcceptsType (names_of (program_tree sound.now)) sound.now.types auto.new) types.now (type_states made)) }
         ensures patterns { IfOk result (λ made. AllPaired (IsPatternState (names_of (program_tree sound.now)) sound.now.patterns auto.new (marking_of_program made)) patterns.now (pattern_states made)) }
         ensures variables { IfOk result (λ made. pattern_variables made ≡ variables_of_patterns sound.now.patterns patterns.now) }
+        ensures words { IfOk result (λ made. AllByRecursion (AreWithin (words_of_program made)) (pattern_variables made)) }
     {
         let program = sound.program();
         let table = program.types();

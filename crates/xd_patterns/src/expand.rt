@@ -19,7 +19,7 @@ use xd_continuations::Link;
 use xd_doc::{Label, NoMemory};
 use xd_syntax::{Patterns, TypeDef, Types};
 
-/// A list of pieces that stands ahead; in a turn of a repetition, the list that stands behind the
+/// A list of pieces that stands ahead; in a turn of a repetition, the list that stands after the
 /// turn.
 #[derive(Clone, Copy, PartialEq, Eq, Hash)]
 pub(crate) struct Task {
@@ -27,7 +27,7 @@ pub(crate) struct Task {
     pub turn: Option<usize>,
 }
 
-/// What can come next: nothing, or an item of the piece, and what stands ahead behind it.
+/// What can come next: nothing, or an item of the piece, and what stands ahead after it.
 #[derive(Clone, Copy, PartialEq, Eq, Hash)]
 pub(crate) struct Found {
     pub is_stop: bool,
@@ -174,7 +174,7 @@ fn step_view(
     }
 }
 
-/// The item of the first piece of a list, with what stands behind it.
+/// The item of the first piece of a list, with what stands after it.
 fn keep_item(first: Link<Piece>, found: &mut IndexSet<Found>) -> Result<(), NoMemory>
     ensures { OnOk result (HasFound found.old.keys (record { is_stop = false; piece = first.item; rest = first.behind }) found.new.keys) }
 {

@@ -81,7 +81,7 @@ fn content_like(piece: Piece, node: usize) -> Piece
     }
 }
 
-/// The parts behind the first of those that the piece has, where the node has so many, the last of
+/// The parts after the first of those that the piece has, where the node has so many, the last of
 /// them with this number.
 fn others(piece: Piece, count: usize, last: usize) -> Piece
     requires { piece.from + 2 ≤ count }

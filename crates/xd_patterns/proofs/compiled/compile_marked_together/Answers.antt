@@ -4,7 +4,7 @@ use Rattle.xd_auto.specs.declared.auto.State.{State}
 use Rattle.xd_meaning.specs.KeptFaults.{AllPaired}
 use Rattle.xd_patterns.specs.declared.chains.Piece.{Piece}
 use Rattle.xd_patterns.specs.declared.mark_table.MarkTable.{MarkTable}
-use Rattle.xd_patterns.specs.CompiledProgram.{IsPatternState, IsTypeState}
+use Rattle.xd_patterns.specs.CompiledProgram.{AreWithin, IsPatternState, IsTypeState}
 use Rattle.xd_patterns.specs.Compiling.{labels_from, marking, rows_in, texts_from}
 use Rattle.xd_patterns.specs.Held.{marking_in}
 use Rattle.xd_patterns.specs.Marked.{Marking}
@@ -78,3 +78,6 @@ returns-clause-patterns c =
 
 pub returns-clause-variables : goal.returns-clause-variables
 returns-clause-variables c = c.in_ok-variables.ensures.each
+
+pub returns-clause-words : goal.returns-clause-words
+returns-clause-words c = subst (AllByRecursion (AreWithin c.in_ok-variables.words.keys)) (sym c.in_ok-variables.ensures.each) c.in_ok-variables.ensures.all

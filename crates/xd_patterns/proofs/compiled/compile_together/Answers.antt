@@ -17,4 +17,5 @@ returns c = record {
   types = c.compile_marked_together.ensures.types;
   patterns = c.compile_marked_together.ensures.patterns;
   variables = c.compile_marked_together.ensures.variables;
+  words = c.compile_marked_together.ensures.words;
 }

@@ -71,3 +71,6 @@ returns-clause-patterns c =
 pub returns-clause-variables : goal.returns-clause-variables
 returns-clause-variables c =
     c.in_ok-compiled.ensures.variables ∙ ap (λ rows. variables_of_patterns rows c.args.patterns.now) (c.patterns.ensures.patterns ∙ ap (λ (r : ProgramTable). r.patterns) c.program-program.ensures.program)
+
+pub returns-clause-words : goal.returns-clause-words
+returns-clause-words c = c.in_ok-compiled.ensures.words
