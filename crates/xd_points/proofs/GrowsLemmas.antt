@@ -12,10 +12,10 @@ use Rattle.xd_auto.specs.Automaton.{Automaton}
 use Rattle.xd_points.specs.declared.points.Points.{Points}
 use Rattle.xd_points.specs.declared.patterns.PatternStates.{PatternStates}
 use Rattle.xd_boole.specs.Meaning.{ElementFirst, TextFirst}
-use Rattle.xd_points.specs.Meaning.{PointView, means, point}
+use Rattle.xd_points.specs.Meaning.{PointView, means}
 use Rattle.xd_boole.specs.declared.groups.MoveSide.{MoveSide}
 use Rattle.xd_boole.proofs.GrowsLemmas.{any_agree}
-use Rattle.xd_points.specs.Points.{AddsMoves, ArePoints, Grows, IsBare, IsStateFor, KeepsPoints, LabelLeads, LeadsTo, TextLeads, meaning, label_means, text_means}
+use Rattle.xd_points.specs.Points.{AddsMoves, ArePoints, Grows, IsBare, KeepsPoints, LabelLeads, LeadsTo, StandsFor, TextLeads, meaning, label_means, text_means}
 use Rattle.xd_boole.proofs.Lists.{all_push, all_map}
 use Rattle.xd_boole.proofs.Bools.{or_nothing, or_join}
 
@@ -47,8 +47,8 @@ pub texts_more : (rest : State) (p q : Points) → KeepsPoints p q → (m : Text
 texts_more rest p q grows m l = record { leads = leads_more p q rest m.rest grows l.leads }
 
 -- the state of a point stands for the point's state of the pattern
-pub leads_here : (p q : Points) (left pattern : State) (rights : List State) (s : State) → IsStateFor p left pattern rights s → KeepsPoints p q → LeadsTo q pattern s
-leads_here p q left pattern rights s is grows = leads_more p q pattern s grows (record { within = is.within; pattern_is = ap (λ (w : PointView). w.pattern) is.is })
+pub leads_here : (a : Automaton) (b : PatternStates) (p q : Points) (of : PointView) (s : State) → StandsFor a b p of s → KeepsPoints p q → LeadsTo q of.pattern s
+leads_here a b p q of s is grows = leads_more p q of.pattern s grows is.leads
 
 module _ (a : Automaton) (b : PatternStates) where
   pub meaning_stays : (old new : Points) → KeepsPoints old new → (i : ℕ) → i < length old.points.items → (d : Document) → meaning a b new i d ≡ meaning a b old i d
@@ -63,8 +63,8 @@ module _ (a : Automaton) (b : PatternStates) where
   text_stays rest old new grows q m leads = ap (λ w. class_has m.words q.characters && w) (meaning_stays old new grows m.rest.number leads.leads.within q.rest)
 
   -- the state of a point means what the point says, then and later
-  pub state_means : (p q : Points) (left pattern : State) (rights : List State) (s : State) → IsStateFor p left pattern rights s → KeepsPoints p q → (d : Document) → meaning a b q s.number d ≡ means a b (point left pattern rights) d
-  state_means p q left pattern rights s is grows d = meaning_stays p q grows s.number is.within d ∙ ap (λ w. means a b w d) is.is
+  pub state_means : (p q : Points) (of : PointView) (s : State) → StandsFor a b p of s → KeepsPoints p q → (d : Document) → meaning a b q s.number d ≡ means a b of d
+  state_means p q of s is grows d = meaning_stays p q grows s.number is.leads.within d ∙ is.means d
 
 -- moves on elements and moves on texts alike
 module _ {M Q : Type 0} (Leads : Points → M → Type 0) (by_move : Points → Q → M → Bool) (a : Automaton) (b : PatternStates)

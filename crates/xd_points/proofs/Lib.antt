@@ -1,5 +1,6 @@
 mod ArePointsLemmas
 mod MeetLemmas
+mod NarrowLemmas
 mod HasMovesLemmas
 mod GrowsLemmas
 mod PlaceLemmas

@@ -83,7 +83,7 @@ places_none tk a p known places = record { each = λ i from lt. absurd (omega ar
 pub keeps_none : (places : List Place) → KeepsPlaces places places
 keeps_none places = record { longer = omega arith; same = λ i lt. refl }
 
--- the places that there were stay where one more is put behind them
+-- the places that there were stay where one more is put after them
 pub keeps_more : (start places after : List Place) (w : Place) → after ≡ places ++ w ∷ [] → KeepsPlaces start places → KeepsPlaces start after
 keeps_more start places after w is kept = record {
   longer = let e = ap length is in omega (arith, kept.longer, e, length-append places (w ∷ []));

@@ -9,9 +9,9 @@ use Rattle.xd_auto.proofs.ExtendsLemmas.{keeps}
 use Rattle.xd_boole.specs.Meaning.{any_accepts}
 use Rattle.xd_points.specs.declared.patterns.PatternStates.{PatternStates}
 use Rattle.xd_points.specs.declared.points.Points.{Points}
-use Rattle.xd_points.specs.Meaning.{ServePoints, means, point}
+use Rattle.xd_points.specs.Meaning.{PointView, ServePoints, means, point}
 use Rattle.xd_points.specs.Placing.{AreIn, accepts_at, place_at, state_of}
-use Rattle.xd_points.specs.Points.{AreExpanded, ArePoints, Grows, IsStateFor, KeepMoves, KeepsPoints, RowView, meaning, point_at}
+use Rattle.xd_points.specs.Points.{AreExpanded, ArePoints, Grows, KeepMoves, KeepsPoints, RowView, StandsFor, meaning, point_at}
 use Rattle.xd_points.specs.Tables.{TablesStay, takes_alone}
 use Rattle.xd_points.proofs.GrowsLemmas.{meaning_stays}
 use Rattle.xd_points.proofs.PlaceLemmas.{there_still}
@@ -70,7 +70,7 @@ no_states a i = tt
 -- ---- a call
 
 module _ (a : Automaton) (b : PatternStates) (serve : ServePoints a b) (old mid new : Points) (left pattern : State) (rights : List State) (start : State)
-    (grows : Grows old mid) (is : IsStateFor mid left pattern rights start) (stay : KeepsPoints mid new) where
+    (grows : Grows old mid) (is : StandsFor a b mid (point left pattern rights) start) (stay : KeepsPoints mid new) where
   all_stay : KeepsPoints old new
   all_stay = record {
     longer = omega (arith, grows.longer, stay.longer);
@@ -86,13 +86,13 @@ module _ (a : Automaton) (b : PatternStates) (serve : ServePoints a b) (old mid 
 
   -- the point that was asked for
   pub within : start.number < length new.points.items
-  within = omega (arith, is.within, stay.longer)
+  within = omega (arith, is.leads.within, stay.longer)
 
-  pub start_is : point_at new.points.items start.number ≡ point left pattern rights
-  start_is = stay.points start.number is.within ∙ is.is
+  pub start_is : (point_at new.points.items start.number).pattern ≡ pattern
+  start_is = ap (λ (p : PointView). p.pattern) (stay.points start.number is.leads.within) ∙ is.leads.pattern_is
 
   pub start_means : (d : Document) → meaning a b new start.number d ≡ takes_alone a b left pattern rights d
-  start_means d = meaning_stays a b mid new stay start.number is.within d ∙ ap (λ w. means a b w d) is.is ∙ means_alone a b serve left pattern rights d
+  start_means d = meaning_stays a b mid new stay start.number is.leads.within d ∙ is.means d ∙ means_alone a b serve left pattern rights d
 
 -- the points in an automaton that extends the one of their lefts
 module _ (a n : Automaton) (b : PatternStates) (closed : IsClosed a) (extends : Extends a n) (new : Points) (rows : List RowView) (expanded : AreExpanded false a b new rows) where

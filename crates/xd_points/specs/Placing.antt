@@ -1,4 +1,4 @@
--- Where points stand in the automaton that has their lefts. Of this only private contracts speak.
+-- Where points stand in the automaton that has their lefts.
 use Rattle.std.specs.Prelude.{◌≡◌, ℕ, ◌<◌, ◌≤◌, Bool, true, false, ◌||◌, List, length, Option, Some, None, IfSome, slice_index_or}
 use Rattle.std.specs.List.{list_any}
 use Rattle.xd_doc.specs.Document.{Document}

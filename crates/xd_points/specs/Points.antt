@@ -1,5 +1,4 @@
--- How the points of an automaton are made, and what their states and moves stand for. Of this only
--- private contracts speak.
+-- How the points of an automaton are made, and what their states and moves stand for.
 use Rattle.std.specs.Prelude.{nat_eq, not, ◌≡◌, ℕ, ◌<◌, ◌≤◌, Bool, true, false, cond, ◌&&◌, ◌||◌, List, [], ◌∷◌, map, take, length, Option, Some, slice_get, slice_index_or}
 use Rattle.std.specs.List.{AllByRecursion, AllZip, list_any}
 use Rattle.std.specs.Ordering.{nat_cmp}
@@ -78,6 +77,11 @@ pub record IsStateFor (p : Points) (left pattern : State) (rights : List State) 
 pub record LeadsTo (p : Points) (pattern : State) (s : State) : Type 0 where
   pub within : s.number < length p.points.items
   pub pattern_is : (point_at p.points.items s.number).pattern ≡ pattern
+
+-- the state has this point's state of the pattern, and means what the point does
+pub record StandsFor (a : Automaton) (b : PatternStates) (p : Points) (of : PointView) (s : State) : Type 0 where
+  pub leads : LeadsTo p of.pattern s
+  pub means : (d : Document) → meaning a b p s.number d ≡ means a b of d
 
 -- where new moves lead
 pub record LabelLeads (part : MoveSide) (p : Points) (m : LabelMove) : Type 0 where

@@ -6,16 +6,17 @@ ghost use Rattle.xd_doc.specs.Classes.{class_has};
 ghost use Rattle.xd_auto.specs.declared.auto.LabelMove.{LabelMove};
 ghost use Rattle.xd_auto.specs.declared.auto.TextMove.{TextMove};
 ghost use Rattle.xd_auto.specs.Automaton.{IsState, accepts, moves_at};
-ghost use Rattle.xd_boole.specs.Meaning.{any_accepts, element_of, has_state, is_state, move_takes, text_of, text_takes};
+ghost use Rattle.xd_boole.specs.Meaning.{any_accepts, element_of, is_state, move_takes, text_of, text_takes};
 ghost use Rattle.xd_boole.specs.Groups.{AllPass, group_refuses, label_side};
 ghost use Rattle.xd_boole.specs.Choices.{AllChoices, IsChoiceOf, choice_refuses};
 ghost use Rattle.xd_boole.specs.Refusals.{label_refused};
 ghost use Rattle.xd_boole.specs.Points.{MoveBelow, TextBelow};
-ghost use Rattle.xd_points.specs.Meaning.{IsPointOf, ServePoints};
+ghost use Rattle.xd_points.specs.Meaning.{IsPointOf, ServePoints, point};
+ghost use Rattle.xd_points.specs.Narrowing.{leaves_nothing};
 ghost use Rattle.xd_points.specs.Points.{AddsLabels, AddsTexts, ArePoints, ArePartsOf, AreRefusing, AreRestsOf, LabelLeads, TextLeads, any_before, any_text_before, parts_accept, rests_accept};
 
 use crate::patterns::PatternStates;
-use crate::points::{Point, Points, find_or_add, is_refused};
+use crate::points::{Point, Points, leaves_nothing, stand_for};
 use std::alloc::Global;
 use xd_auto::{Auto, LabelMove, Move, State, TextMove};
 use xd_boole::{
@@ -38,11 +39,13 @@ pub(crate) struct Rests {
     pub(crate) pattern: State,
 }
 
-/// Whether a part of the pattern is one of those that must refuse.
-fn leads_nowhere(pattern: MoveSide, choice: &SideChoice) -> bool
-    ensures { result ≡ (has_state pattern.content choice.now.contents.items || has_state pattern.rest choice.now.rests.items) }
+/// Whether nothing is left of the contents, or of what follows.
+fn leads_nowhere(patterns: &PatternStates, parts: Parts, choice: &SideChoice) -> bool
+    ensures { result ≡ (leaves_nothing patterns.now (point parts.left.content parts.pattern.content choice.now.contents.items) || leaves_nothing patterns.now (point parts.left.rest parts.pattern.rest choice.now.rests.items)) }
 {
-    is_refused(pattern.content, &choice.contents) || is_refused(pattern.rest, &choice.rests)
+    let Parts { left, pattern } = parts;
+    leaves_nothing(patterns, left.content, pattern.content, &choice.contents)
+        || leaves_nothing(patterns, left.rest, pattern.rest, &choice.rests)
 }
 
 /// The move on these labels by which the parts go on as the choice says; none where nothing is left
@@ -64,10 +67,10 @@ fn add_move(
     requires choice { IsChoiceOf patterns.now.taken.auto choice.now }
     ensures { OnOk result (AddsLabels parts.pattern auto.now patterns.now points.old points.new labels.old.items labels.new.items (λ q. class_has class.now q.label && (parts_accept auto.now patterns.now q.content q.rest parts && choice_refuses patterns.now.taken.auto q.content q.rest choice.now))) }
 {
-    if leads_nowhere(parts.pattern, choice) {
+    if leads_nowhere(patterns, parts, choice) {
         return Ok(());
     }
-    let content = find_or_add(
+    let content = stand_for(
         alloc,
         auto,
         patterns,
@@ -76,7 +79,7 @@ fn add_move(
         parts.pattern.content,
         &choice.contents,
     )?;
-    let rest = find_or_add(
+    let rest = stand_for(
         alloc,
         auto,
         patterns,
@@ -229,7 +232,7 @@ pub(crate) fn label_steps(
 }
 
 /// The move for the texts of a group; none where one of its states is known to accept everything,
-/// or is the pattern's.
+/// or nothing is left of what follows.
 fn add_text_group(
     alloc: Global,
     auto: &Auto,
@@ -250,10 +253,10 @@ fn add_text_group(
         return Ok(());
     }
     let rights = set_of(alloc, &group.sides)?;
-    if is_refused(rests.pattern, &rights) {
+    if leaves_nothing(patterns, rests.left, rests.pattern, &rights) {
         return Ok(());
     }
-    let rest = find_or_add(
+    let rest = stand_for(
         alloc,
         auto,
         patterns,

@@ -73,7 +73,7 @@ fn place_of(
     Ok(Place::New(state))
 }
 
-/// Puts the places of further points behind those that there are.
+/// Puts the places of further points after those that there are.
 fn add_places(
     auto: &mut Auto,
     patterns: &PatternStates,

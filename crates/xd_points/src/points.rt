@@ -7,7 +7,8 @@ ghost use Rattle.xd_auto.specs.Automaton.{Automaton, IsState};
 ghost use Rattle.xd_points.specs.declared.patterns.PatternStates.{PatternStates as PatternsView};
 ghost use Rattle.xd_boole.specs.Meaning.{has_state};
 ghost use Rattle.xd_points.specs.Meaning.{IsPointOf, ServePoints, is_old_point, point};
-ghost use Rattle.xd_points.specs.Points.{ArePoints, Grows, IsStateFor, found_at, point_at, point_key, point_last};
+ghost use Rattle.xd_points.specs.Narrowing.{leaves_nothing, narrowed_left};
+ghost use Rattle.xd_points.specs.Points.{ArePoints, Grows, IsStateFor, StandsFor, found_at, point_at, point_key, point_last};
 
 use crate::patterns::PatternStates;
 use std::alloc::Global;
@@ -90,22 +91,52 @@ pub(crate) fn is_old(
 ) -> bool
     ensures { result ≡ is_old_point patterns.now (point left pattern rights.now) }
 {
-    rights.is_empty()
+    let alone = rights.is_empty();
+    alone
         && (is_marked(&patterns.left_out, pattern)
             && (is_marked(&patterns.taken.universal, pattern)
                 || (pattern.number() < patterns.shared && left.number() == pattern.number())))
 }
 
-/// Whether the state of a pattern is one of those that must refuse: then nothing is left of it.
-pub(crate) fn is_refused(pattern: State, rights: &[State]) -> bool
-    ensures { result ≡ has_state pattern rights.now }
+/// Whether a state is one of those that must refuse.
+fn is_refused(state: State, rights: &[State]) -> bool
+    ensures { result ≡ has_state state rights.now }
 {
     for right in rights {
-        if *right == pattern {
+        if *right == state {
             return true;
         }
     }
     false
+}
+
+/// Whether nothing is left of a point, since the pattern's state is one of those that must refuse,
+/// or its left is, a state that both automata share.
+pub(crate) fn leaves_nothing(
+    patterns: &PatternStates,
+    left: State,
+    pattern: State,
+    rights: &[State],
+) -> bool
+    ensures { result ≡ leaves_nothing patterns.now (point left pattern rights.now) }
+{
+    is_refused(pattern, rights) || (left.number() < patterns.shared && is_refused(left, rights))
+}
+
+/// The left of a point, or the pattern's state in its place.
+///
+/// That is where nothing must refuse, the left takes everything, and the pattern's state may be
+/// left out and belongs to both automata: with that for its left the point means what an old state
+/// accepts.
+fn narrowed_left(patterns: &PatternStates, left: State, pattern: State, rights: &[State]) -> State
+    ensures { result ≡ narrowed_left patterns.now (point left pattern rights.now) }
+{
+    let (shared, left_out) = (patterns.shared, &patterns.left_out);
+    let narrows = rights.is_empty()
+        && (is_marked(left_out, pattern)
+            && (pattern.number() < shared
+                && (left.number() < shared && is_marked(&patterns.taken.universal, left))));
+    if narrows { pattern } else { left }
 }
 
 /// Whether the state of a point accepts the empty document. One that means what an old state
@@ -161,7 +192,7 @@ fn add_point(
 }
 
 /// The state of a point, which is made where it isn't there.
-pub(crate) fn find_or_add(
+fn find_or_add(
     alloc: Global,
     auto: &Auto,
     patterns: &PatternStates,
@@ -182,6 +213,28 @@ pub(crate) fn find_or_add(
         Some(number) => Ok(points.made.state(*number)),
         None => add_point(alloc, auto, patterns, points, key, left, pattern, rights),
     }
+}
+
+/// The state of a point that means what this one does, and has its state of the pattern.
+pub(crate) fn stand_for(
+    alloc: Global,
+    auto: &Auto,
+    patterns: &PatternStates,
+    points: &mut Points,
+    left: State,
+    pattern: State,
+    rights: &[State],
+) -> Result<State, NoMemory>
+    requires patterns { ServePoints auto.now patterns.now }
+    requires whole { ArePoints auto.now patterns.now points.old }
+    requires states { IsPointOf auto.now patterns.now (point left pattern rights.now) }
+    ensures whole { OnOk result (ArePoints auto.now patterns.now points.new) }
+    ensures grows { OnOk result (Grows points.old points.new) }
+    ensures state { IfOk result (StandsFor auto.now patterns.now points.new (point left pattern rights.now)) }
+{
+    let left = narrowed_left(patterns, left, pattern, rights);
+    let state = find_or_add(alloc, auto, patterns, points, left, pattern, rights)?;
+    Ok(state)
 }
 
 /// The point of this number.

@@ -30,7 +30,7 @@ impl Model for Row {
     ghost view = { λ r. record { labels = r.labels.items; texts = r.texts.items } };
 }
 
-/// Puts moves behind others, and for each the number of the move that it stands for.
+/// Puts moves after others, and for each the number of the move that it stands for.
 fn append_labels(
     moves: &mut Vec<LabelMove>,
     numbers: &mut Vec<usize>,
@@ -121,7 +121,7 @@ fn text_moves(
     Ok((texts, numbers))
 }
 
-/// Puts a row without moves behind the others.
+/// Puts a row without moves after the others.
 fn add_bare(alloc: Global, rows: &mut Vec<Row>) -> Result<(), NoMemory>
     ensures { OnOk result (rows.new.items ≡ rows.old.items ++ no_row ∷ []) }
 {

@@ -10,7 +10,7 @@ ghost use Rattle.xd_points.specs.Tables.{number_or};
 
 use crate::patterns::PatternStates;
 use crate::placing::{Place, place_points};
-use crate::points::{Points, find_or_add, is_old};
+use crate::points::{Points, is_old, stand_for};
 use crate::steps::{Row, expand};
 use std::alloc::Global;
 use xd_auto::{Auto, State};
@@ -93,8 +93,8 @@ impl PointTable {
     /// state that is answered may accept nothing, too, where the automaton had states that do.
     ///
     /// States are added for points that were not met before, and mean something; none where the
-    /// point means what the left accepts, since the pattern's state takes everything and nothing
-    /// must refuse. After `NoMemory` the table serves no further calls; the automaton keeps its
+    /// point means what an old state accepts: the left, where the pattern's state takes everything
+    /// and nothing must refuse, or the pattern's state, where the left does. After `NoMemory` the table serves no further calls; the automaton keeps its
     /// states, and may have more.
     pub fn accept(
         &mut self,
@@ -144,7 +144,7 @@ impl PointTable {
     {
         let _states = auto.len();
         self.known.stays_known();
-        let start = find_or_add(
+        let start = stand_for(
             alloc,
             auto,
             patterns,

@@ -1,15 +1,17 @@
 use Rattle.std.proofs.Common.{◌≡◌, ◌++◌, ◌∷◌, [], List, ap, sym, ◌∙◌, subst}
 use Rattle.std.specs.List.{AllByRecursion}
 use Rattle.xd_auto.specs.Automaton.{IsState, accepts}
-use Rattle.xd_boole.specs.Meaning.{any_accepts, has_state, is_state}
+use Rattle.xd_boole.specs.Meaning.{any_accepts, is_state}
 use Rattle.xd_boole.proofs.Bools.{and_left, and_right}
 use Rattle.xd_boole.proofs.AnyAcceptsLemmas.{state_is, states_are}
 use Rattle.xd_doc.specs.Classes.{LabelClass, class_has}
 use Rattle.xd_auto.specs.declared.auto.LabelMove.{LabelMove}
 use Rattle.xd_auto.specs.declared.auto.State.{State}
-use Rattle.xd_points.specs.Points.{IsStateFor, LabelLeads, label_means}
+use Rattle.xd_points.specs.Meaning.{point}
+use Rattle.xd_points.specs.Narrowing.{leaves_nothing}
+use Rattle.xd_points.specs.Points.{LabelLeads, StandsFor, label_means}
 use Rattle.xd_points.proofs.ArePointsLemmas.{grows_same}
-use Rattle.xd_points.proofs.MeetLemmas.{move_added, nothing_left, part_none}
+use Rattle.xd_points.proofs.MeetLemmas.{move_added, nothing_meant, part_none}
 use Rattle.xd_points.proofs.GrowsLemmas.{adds_none, label_stays, labels_more}
 use Rattle.xd_points.proofs.moves.add_move.Goals as goal
 
@@ -20,13 +22,13 @@ returns c =
     let parts = c.args.parts in
     let items : c.push.new.self.items ≡ c.args.labels.now.items ++ record { class = c.args.class.now; content = content; rest = rest } ∷ [] =
     c.in_ok-push.ensures.items ∙ ap (λ (k : LabelClass). let m : LabelMove = record { class = k; content = content; rest = rest } in c.args.labels.now.items ++ m ∷ []) c.in_ok-share.ensures.same in
-    move_added c.args.auto.now c.args.patterns.now c.args.points.now c.find_or_add.new.points c.find_or_add-2.new.points c.args.labels.now.items c.push.new.self.items parts c.args.choice.now c.args.class.now content rest
+    move_added c.args.auto.now c.args.patterns.now c.args.points.now c.stand_for.new.points c.stand_for-2.new.points c.args.labels.now.items c.push.new.self.items parts c.args.choice.now c.args.class.now content rest
     items c.requires.leads c.in_ok-content.ensures.grows c.in_ok-rest.ensures.grows c.in_ok-rest.ensures.whole
-    (subst (λ (rs : List State). IsStateFor c.find_or_add.new.points parts.left.content parts.pattern.content rs content) c.deref.ensures.value c.in_ok-content.ensures.state)
-    (subst (λ (rs : List State). IsStateFor c.find_or_add-2.new.points parts.left.rest parts.pattern.rest rs rest) c.deref-2.ensures.value c.in_ok-rest.ensures.state)
+    (subst (λ (rs : List State). StandsFor c.args.auto.now c.args.patterns.now c.stand_for.new.points (point parts.left.content parts.pattern.content rs) content) c.deref.ensures.value c.in_ok-content.ensures.state)
+    (subst (λ (rs : List State). StandsFor c.args.auto.now c.args.patterns.now c.stand_for-2.new.points (point parts.left.rest parts.pattern.rest rs) rest) c.deref-2.ensures.value c.in_ok-rest.ensures.state)
 
-pub find_or_add-requires-clause-states : goal.find_or_add-requires-clause-states
-find_or_add-requires-clause-states c =
+pub stand_for-requires-clause-states : goal.stand_for-requires-clause-states
+stand_for-requires-clause-states c =
     let a = c.args.auto.now in
     let b = c.args.patterns.now in
     let parts = c.args.parts in
@@ -36,8 +38,8 @@ find_or_add-requires-clause-states c =
       rights = subst (AllByRecursion (IsState b.taken.auto)) (sym c.deref.ensures.value) (states_are b.taken.auto c.args.choice.now.contents.items c.requires.choice.0);
     }
 
-pub find_or_add-requires-2-clause-states : goal.find_or_add-requires-2-clause-states
-find_or_add-requires-2-clause-states c =
+pub stand_for-requires-2-clause-states : goal.stand_for-requires-2-clause-states
+stand_for-requires-2-clause-states c =
     let a = c.args.auto.now in
     let b = c.args.patterns.now in
     let parts = c.args.parts in
@@ -53,9 +55,11 @@ returns-then-leads_nowhere c =
     let b = c.args.patterns.now in
     let parts = c.args.parts in
     let choice = c.args.choice.now in
+    let inside = point parts.left.content parts.pattern.content choice.contents.items in
+    let behind = point parts.left.rest parts.pattern.rest choice.rests.items in
     adds_none (LabelLeads parts.pattern) (label_means a b) a b (label_stays a b parts.pattern) (labels_more parts.pattern) c.args.points.now c.args.labels.now.items _ c.requires.whole c.requires.leads (grows_same c.args.points.now)
     (λ q.
     part_none (class_has c.args.class.now q.label) (accepts a q.content parts.left.content) (accepts a q.rest parts.left.rest) (accepts b.auto q.content parts.pattern.content) (accepts b.auto q.rest parts.pattern.rest)
-    (any_accepts b.taken.auto choice.contents.items q.content) (any_accepts b.taken.auto choice.rests.items q.rest) (has_state parts.pattern.content choice.contents.items) (has_state parts.pattern.rest choice.rests.items)
-    (nothing_left a b c.requires.patterns parts.pattern.content choice.contents.items q.content) (nothing_left a b c.requires.patterns parts.pattern.rest choice.rests.items q.rest)
+    (any_accepts b.taken.auto choice.contents.items q.content) (any_accepts b.taken.auto choice.rests.items q.rest) (leaves_nothing b inside) (leaves_nothing b behind)
+    (nothing_meant a b c.requires.patterns inside q.content) (nothing_meant a b c.requires.patterns behind q.rest)
     (sym c.leads_nowhere.ensures ∙ c.if-leads_nowhere.true))

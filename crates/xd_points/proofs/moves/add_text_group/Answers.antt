@@ -6,18 +6,20 @@ use Rattle.xd_doc.specs.Classes.{class_has}
 use Rattle.xd_auto.specs.declared.auto.State.{State}
 use Rattle.xd_auto.specs.Automaton.{IsState, accepts}
 use Rattle.xd_empty.specs.Parts.{is_marked}
+use Rattle.xd_points.specs.Meaning.{point}
+use Rattle.xd_points.specs.Narrowing.{leaves_nothing}
 use Rattle.xd_points.specs.Points.{TextLeads, rests_accept, text_means}
-use Rattle.xd_boole.specs.Meaning.{any_accepts, has_state, with_states}
+use Rattle.xd_boole.specs.Meaning.{any_accepts, with_states}
 use Rattle.xd_points.proofs.ArePointsLemmas.{grows_same}
 use Rattle.xd_boole.proofs.DifferenceLemmas.{none_taken}
-use Rattle.xd_points.proofs.MeetLemmas.{nothing_left, text_added, text_none}
+use Rattle.xd_points.proofs.MeetLemmas.{nothing_meant, text_added, text_none}
 use Rattle.xd_points.proofs.GrowsLemmas.{adds_none, text_stays, texts_more}
 use Rattle.xd_boole.proofs.UniversalLemmas.{marked_accepts}
 use Rattle.xd_boole.proofs.AnyAcceptsLemmas.{set_accepts, states_are, with_states_all}
 use Rattle.xd_points.proofs.moves.add_text_group.Goals as goal
 
-pub find_or_add-requires-clause-states : goal.find_or_add-requires-clause-states
-find_or_add-requires-clause-states c =
+pub stand_for-requires-clause-states : goal.stand_for-requires-clause-states
+stand_for-requires-clause-states c =
     let b = c.args.patterns.now in
     let sides = c.args.group.now.sides.items in
     let is : c.deref-5.result.now ≡ with_states sides [] = c.deref-5.ensures.value ∙ c.in_ok-rights.ensures ∙ ap (λ ss. with_states ss []) c.deref-3.ensures.value in
@@ -39,19 +41,19 @@ returns-then-any_marked c =
     adds_none (TextLeads c.args.rests.pattern) (text_means a b) a b (text_stays a b c.args.rests.pattern) (texts_more c.args.rests.pattern) c.args.points.now c.args.texts.now.items _ c.requires.whole c.requires.leads (grows_same c.args.points.now)
     (λ q. none_taken (rests_accept a b q.rest c.args.rests) (class_has c.args.group.now.class q.characters) (any_accepts b.taken.auto sides q.rest) (marked_accepts b.taken.auto marks sides q.rest c.requires.patterns.universal marked))
 
-pub returns-then-is_refused : goal.returns-then-is_refused
-returns-then-is_refused c =
+pub returns-then-leaves_nothing : goal.returns-then-leaves_nothing
+returns-then-leaves_nothing c =
     let a = c.args.auto.now in
     let b = c.args.patterns.now in
     let rests = c.args.rests in
     let sides = c.args.group.now.sides.items in
     let is : c.deref-4.result.now ≡ with_states sides [] = c.deref-4.ensures.value ∙ c.in_ok-rights.ensures ∙ ap (λ ss. with_states ss []) c.deref-3.ensures.value in
-    let refused : has_state rests.pattern c.deref-4.result.now ≡ true = sym c.is_refused.ensures ∙ c.if-is_refused.true in
+    let none : leaves_nothing b (point rests.left rests.pattern c.deref-4.result.now) ≡ true = sym c.leaves_nothing.ensures ∙ c.if-leaves_nothing.true in
     adds_none (TextLeads rests.pattern) (text_means a b) a b (text_stays a b rests.pattern) (texts_more rests.pattern) c.args.points.now c.args.texts.now.items _ c.requires.whole c.requires.leads (grows_same c.args.points.now)
     (λ q.
     ap (λ w. rests_accept a b q.rest rests && (class_has c.args.group.now.class q.characters && not w)) (sym (set_accepts b.taken.auto sides q.rest) ∙ sym (ap (λ (ss : List State). any_accepts b.taken.auto ss q.rest) is))
     ∙ text_none (accepts a q.rest rests.left) (accepts b.auto q.rest rests.pattern) (class_has c.args.group.now.class q.characters) (not (any_accepts b.taken.auto c.deref-4.result.now q.rest))
-    (nothing_left a b c.requires.patterns rests.pattern c.deref-4.result.now q.rest refused))
+    (nothing_meant a b c.requires.patterns (point rests.left rests.pattern c.deref-4.result.now) q.rest none))
 
 pub returns : goal.returns
 returns c =
@@ -61,6 +63,6 @@ returns c =
     let is : c.deref-5.result.now ≡ with_states sides [] = c.deref-5.ensures.value ∙ c.in_ok-rights.ensures ∙ ap (λ ss. with_states ss []) c.deref-3.ensures.value in
     let items : c.push.new.self.items ≡ c.args.texts.now.items ++ record { words = c.args.group.now.class; rest = rest } ∷ [] =
     c.in_ok-push.ensures.items ∙ ap (λ (k : TextClass). let m : TextMove = record { words = k; rest = rest } in c.args.texts.now.items ++ m ∷ []) c.in_ok-share.ensures.same in
-    text_added a b c.args.points.now c.find_or_add.new.points c.args.texts.now.items c.push.new.self.items c.args.rests rest c.args.group.now c.deref-5.result.now
+    text_added a b c.args.points.now c.stand_for.new.points c.args.texts.now.items c.push.new.self.items c.args.rests rest c.args.group.now c.deref-5.result.now
     items c.requires.leads c.in_ok-rest.ensures.grows c.in_ok-rest.ensures.whole c.in_ok-rest.ensures.state
     (λ w. ap (λ ss. any_accepts b.taken.auto ss w.rest) is ∙ set_accepts b.taken.auto sides w.rest)

@@ -1,12 +1,11 @@
-use Rattle.std.proofs.Common.{◌<◌, false, length, arith, ap, sym, ◌∙◌}
-use Rattle.xd_points.specs.Meaning.{PointView}
+use Rattle.std.proofs.Common.{◌<◌, false, length, arith, sym, ◌∙◌}
 use Rattle.xd_points.specs.Points.{state_at}
 use Rattle.xd_points.proofs.HasMovesLemmas.{expanded_grown}
 use Rattle.xd_points.proofs.TableLemmas.{documents_stay, expanded_after, first_mean, made_extends, mean_after, rights_belong, start_is, start_means, within}
 use Rattle.xd_points.proofs.table.PointTable.find.Goals as goal
 
-pub find_or_add-requires-clause-states : goal.find_or_add-requires-clause-states
-find_or_add-requires-clause-states c = record {
+pub stand_for-requires-clause-states : goal.stand_for-requires-clause-states
+stand_for-requires-clause-states c = record {
   left = c.requires.left;
   pattern = c.requires.pattern;
   rights = rights_belong c.args.auto.now c.args.patterns.now c.requires.patterns c.args.rights.now c.requires.rights;
@@ -14,7 +13,7 @@ find_or_add-requires-clause-states c = record {
 
 pub expand_all-requires-clause-expanded : goal.expand_all-requires-clause-expanded
 expand_all-requires-clause-expanded c =
-    expanded_grown false c.args.auto.now c.args.patterns.now c.args.self.now.points c.find_or_add.new.points c.args.self.now.rows.items c.requires.table.expanded c.in_ok-start.ensures.grows c.in_ok-start.ensures.whole
+    expanded_grown false c.args.auto.now c.args.patterns.now c.args.self.now.points c.stand_for.new.points c.args.self.now.rows.items c.requires.table.expanded c.in_ok-start.ensures.grows c.in_ok-start.ensures.whole
 
 pub learn-requires : goal.learn-requires
 learn-requires c =
@@ -24,7 +23,7 @@ learn-requires c =
     let store = c.args.self.now.store in
     let now = c.in_ok-expand_all.ensures in
     c.stays_known.ensures old.made new.made store store
-    (made_extends c.args.auto.now c.args.patterns.now old c.find_or_add.new.points new t.expanded.whole.count now.expanded.whole c.in_ok-start.ensures.grows now.keeps.longer (λ i lt. now.moves i (omega (arith, lt, t.every))))
+    (made_extends c.args.auto.now c.args.patterns.now old c.stand_for.new.points new t.expanded.whole.count now.expanded.whole c.in_ok-start.ensures.grows now.keeps.longer (λ i lt. now.moves i (omega (arith, lt, t.every))))
     (documents_stay store) t.known
 
 pub place_points-requires-clause-expanded : goal.place_points-requires-clause-expanded
@@ -45,7 +44,7 @@ place_points-requires-clause-stands c = λ d i lt.
     let t = c.requires.table in
     let there : i < length c.args.self.now.points.points.items = omega (arith, lt, t.count) in
     t.stands d i there
-    ∙ sym (first_mean c.args.auto.now c.args.patterns.now c.requires.patterns c.args.self.now.points c.find_or_add.new.points c.expand_all.new.points c.args.left c.args.pattern c.args.rights.now c.in_ok-start.start
+    ∙ sym (first_mean c.args.auto.now c.args.patterns.now c.requires.patterns c.args.self.now.points c.stand_for.new.points c.expand_all.new.points c.args.left c.args.pattern c.args.rights.now c.in_ok-start.start
     c.in_ok-start.ensures.grows c.in_ok-start.ensures.state c.in_ok-expand_all.ensures.keeps d i there)
 
 pub returns-clause-table : goal.returns-clause-table
@@ -68,15 +67,14 @@ returns-clause-table c =
 
 pub returns-clause-belongs : goal.returns-clause-belongs
 returns-clause-belongs c =
-    let here = within c.args.auto.now c.args.patterns.now c.requires.patterns c.args.self.now.points c.find_or_add.new.points c.expand_all.new.points c.args.left c.args.pattern c.args.rights.now c.in_ok-start.start
+    let here = within c.args.auto.now c.args.patterns.now c.requires.patterns c.args.self.now.points c.stand_for.new.points c.expand_all.new.points c.args.left c.args.pattern c.args.rights.now c.in_ok-start.start
     c.in_ok-start.ensures.grows c.in_ok-start.ensures.state c.in_ok-expand_all.ensures.keeps in
     omega (arith, here, c.in_ok-expand_all.ensures.expanded.whole.count)
 
 pub returns-clause-pattern : goal.returns-clause-pattern
 returns-clause-pattern c =
-    ap (λ (q : PointView). q.pattern)
-    (start_is c.args.auto.now c.args.patterns.now c.requires.patterns c.args.self.now.points c.find_or_add.new.points c.expand_all.new.points c.args.left c.args.pattern c.args.rights.now c.in_ok-start.start
-    c.in_ok-start.ensures.grows c.in_ok-start.ensures.state c.in_ok-expand_all.ensures.keeps)
+    start_is c.args.auto.now c.args.patterns.now c.requires.patterns c.args.self.now.points c.stand_for.new.points c.expand_all.new.points c.args.left c.args.pattern c.args.rights.now c.in_ok-start.start
+    c.in_ok-start.ensures.grows c.in_ok-start.ensures.state c.in_ok-expand_all.ensures.keeps
 
 pub returns-clause-means : goal.returns-clause-means
 returns-clause-means c = λ d.
@@ -85,8 +83,8 @@ returns-clause-means c = λ d.
     let n = c.place_points.new.auto in
     let new = c.expand_all.new.points in
     let start = c.in_ok-start.start in
-    let here = within a b c.requires.patterns c.args.self.now.points c.find_or_add.new.points new c.args.left c.args.pattern c.args.rights.now start
+    let here = within a b c.requires.patterns c.args.self.now.points c.stand_for.new.points new c.args.left c.args.pattern c.args.rights.now start
     c.in_ok-start.ensures.grows c.in_ok-start.ensures.state c.in_ok-expand_all.ensures.keeps in
     sym (mean_after a n b c.len-states.ensures.closed c.place_points.ensures.extends new c.expand_all.new.rows.items c.in_ok-expand_all.ensures.expanded d start.number here)
-    ∙ start_means a b c.requires.patterns c.args.self.now.points c.find_or_add.new.points new c.args.left c.args.pattern c.args.rights.now start
+    ∙ start_means a b c.requires.patterns c.args.self.now.points c.stand_for.new.points new c.args.left c.args.pattern c.args.rights.now start
     c.in_ok-start.ensures.grows c.in_ok-start.ensures.state c.in_ok-expand_all.ensures.keeps d
