@@ -3,7 +3,6 @@ use Rattle.std.proofs.Common.{◌≡◌, ℕ, ◌<◌, nat_lt, true, ◌&&◌, L
 use Rattle.std.proofs.lemmas.Bool.Decides.{nat_tests}
 use Rattle.xd_doc.specs.Document.{Document}
 use Rattle.xd_doc.specs.Stored.{document_at}
-use Rattle.xd_doc.specs.declared.store.Seq.{Seq}
 use Rattle.xd_auto.specs.declared.auto.State.{State}
 use Rattle.xd_auto.specs.Automaton.{Automaton, Extends, IsClosed, LeadsBelow, accepts, moves_at}
 use Rattle.xd_auto.proofs.Anys.{and_left, and_right}
@@ -30,7 +29,7 @@ module _ (p q made : Automaton) (o : Origins) (s start other : State) (runs : Pa
     λ y. (g e).1 ((runs.given b e).1 (subst (λ t. IsGivenWhere p q b t (o.right s) e) (sym left) (subst (λ t. IsGivenWhere p q b start t e) (sym right) y))),
   )
 
--- a pairing stands behind the states of the second automaton, and is a layer
+-- a pairing stands after the states of the second automaton, and is a layer
 module _ (p q made : Automaton) (one two all : State) (pairs : Pairs) (w : ArePairs p q made one two all pairs) where
   whole : take (length made) made ≡ made
   whole = take_all (length made) made (omega arith)

@@ -1,7 +1,8 @@
 -- The parts of the automaton of a variable make up its projection.
-use Rattle.std.proofs.Common.{◌≡◌, ℕ, suc, ◌+◌, ◌-◌, ◌<◌, ◌≤◌, Bool, true, false, not, is_some, List, [], ◌∷◌, ◌++◌, map, length, take, get_or, Option, Some, None, refl, sym, ap, ◌∙◌, subst, arith, ⊎_elim, append_assoc, length-append}
+use Rattle.std.proofs.Common.{◌≡◌, ℕ, suc, ◌+◌, ◌-◌, ◌<◌, ◌≤◌, Bool, true, false, not, cond, nat_lt, is_some, List, [], ◌∷◌, ◌++◌, map, length, take, get_or, Option, Some, None, refl, sym, ap, ◌∙◌, subst, arith, ⊎_elim, append_assoc, length-append}
 use Rattle.std.specs.List.{All, flat_map, slice_get}
 use Rattle.std.proofs.lemmas.Bool.{cases_eq, cases_lt}
+use Rattle.std.proofs.lemmas.Bool.Decides.{nat_tests}
 use Rattle.std.proofs.lemmas.List.{get_or_append_left, get_or-append_right}
 use Rattle.std.proofs.lemmas.List.Elements.{All-head, All-tail}
 use Rattle.std.proofs.lemmas.Option.{slice_get-get_or}
@@ -19,11 +20,12 @@ use Rattle.xd_bind.specs.declared.tracks.Given.{Given}
 use Rattle.xd_bind.specs.Marks.{mark_of}
 use Rattle.xd_bind.specs.Cases.{OwnsNone}
 use Rattle.xd_bind.specs.Projection.{AreGivens, IsGivenOf}
-use Rattle.xd_bind.specs.Shifts.{IsLayer, LandsBelow, OwnsNoneBelow, free_by, shifted}
+use Rattle.xd_bind.specs.Shifts.{IsLayer, LandsBelow, OwnsNoneBelow, free_at, free_by, shifted}
 use Rattle.xd_bind.specs.Blocks.{IsChange, IsPart, HasFirst, HasSide, IsProjection, with_side, chosen, first_moves, is_side, label_onto, labels_of_side, side_moves, text_onto, texts_of_side}
 use Rattle.xd_bind.specs.Search.{IsSearched}
 use Rattle.xd_bind.specs.Adding.{IsAlone, IsAside}
 use Rattle.xd_bind.proofs.Changes.{extends_changed}
+use Rattle.xd_bind.proofs.IsSearchLemmas.{searched_as}
 use Rattle.xd_bind.proofs.SameOwned.{SameOwned, given_same}
 use Rattle.xd_bind.proofs.ShiftLemmas.{extends_longer, front_extends, front_moves, layer_count, layer_lands, layer_stays, shifted_below, shifted_lands}
 
@@ -111,6 +113,26 @@ module _ (a : Automaton) (layer : Layer) (is : IsLayer a layer) (b : Owned) wher
 
   old_state : (s : State) → s.number < layer.end → IsState a s
   old_state s below = omega (arith, is.within)
+
+  -- the states ahead, found by marks of the layer's copies that can be completed
+  pub found_by : (marks : List Bool) (known : List (Option LeastDocument)) (aside : Shift) (ahead : List State) → aside.base ≡ layer.base
+      → ((s : State) → layer.base ≤ s.number → s.number < layer.end → mark_of layer.base marks s ≡ free_by known aside s)
+      → IsSearched (take layer.end a) b layer.base layer.start (free_at known layer.base marks) ahead → IsSearched (take layer.end a) b layer.base layer.start (free_by known aside) ahead
+  found_by marks known aside ahead same_base same searched =
+      searched_as (take layer.end a) b layer.base layer.start is.layered.closed here (free_at known layer.base marks) (free_by known aside) ahead (λ s there. agrees s (state_there s there)) searched
+    where
+      here : IsState (take layer.end a) layer.start
+      here = let e = layer_count a layer is in omega (arith, is.start)
+
+      agrees : (s : State) → s.number < layer.end → free_at known layer.base marks s ≡ free_by known aside s
+      agrees s lt = ⊎_elim
+          (λ (low : s.number < layer.base).
+          let below : nat_lt s.number layer.base ≡ true = grind (arith, nat_tests) in
+          ap (λ v. cond v (is_some (known_of known s)) (mark_of layer.base marks s)) below ∙ ap (λ (q : State). is_some (known_of known q)) (sym (shifted_below aside s (omega arith))))
+          (λ (up : layer.base ≤ s.number).
+          let above : nat_lt s.number layer.base ≡ false = grind (arith, nat_tests) in
+          ap (λ v. cond v (is_some (known_of known s)) (mark_of layer.base marks s)) above ∙ same s up lt)
+          (cases_lt s.number layer.base)
 
   -- the copies without the moves of the variable
   pub aside_of : (aside : Shift) (variable : ℕ) (lasts : List Bool) (one : Automaton) → OwnsNoneBelow b layer.base → aside.base ≡ layer.base → aside.end ≡ layer.end

@@ -8,7 +8,7 @@ use Rattle.std.proofs.lemmas.List.{length-take-le}
 use Rattle.xd_auto.specs.declared.auto.State.{State}
 use Rattle.xd_auto.specs.declared.auto.LabelMove.{LabelMove}
 use Rattle.xd_auto.specs.declared.auto.TextMove.{TextMove}
-use Rattle.xd_auto.specs.Automaton.{Automaton, StateMoves, IsState, LeadsBelow, moves_at}
+use Rattle.xd_auto.specs.Automaton.{Automaton, StateMoves, IsClosed, IsState, LeadsBelow, moves_at}
 use Rattle.xd_bind.specs.Marks.{mark_of}
 use Rattle.xd_bind.proofs.ShiftLemmas.{front_moves}
 use Rattle.xd_bind.proofs.MarkLemmas.{unmarked-set}
@@ -114,10 +114,10 @@ module _ {M : Type 0} (base : ℕ) (Kind : State → Type 0) (owned : ℕ → Bo
       (λ ne. h i t (omega arith) at own)
       (cases_eq i count)
 
-  -- it belongs to the variable
-  pub visit_past : (p : List State) (n : List Bool) (count : ℕ) (w : M) → slice_get moves count ≡ Some w → owned count ≡ true → IsVisiting base Kind owned Has moves order marks p n count
+  -- it belongs to the variable, or was followed before
+  pub visit_past : (p : List State) (n : List Bool) (count : ℕ) (w : M) → slice_get moves count ≡ Some w → (owned count ≡ false → Has n w) → IsVisiting base Kind owned Has moves order marks p n count
       → IsVisiting base Kind owned Has moves order marks p n (count + 1)
-  visit_past p n count w there own h = record { grows = h.grows; marked = others_more n count w there h.marked (λ o. absurd (let e : true ≡ false = sym own ∙ o in cc)) }
+  visit_past p n count w there has h = record { grows = h.grows; marked = others_more n count w there h.marked has }
 
   -- it is followed
   pub visit_more : (K : State → Type 0) (p : List State) (n : List Bool) (q : List State) (r : List Bool) (count : ℕ) (w : M) → slice_get moves count ≡ Some w → ((v : M) → Has n v → Has r v) → ((s : State) → K s → Kind s)
@@ -264,3 +264,33 @@ pub side_leads : (b : Owned) (base : ℕ) (free : State → Bool) (s : State) (m
     → (t : State) → IsSideOf base free m t → LeadsAhead b base free s moves t
 side_leads b base free s moves n m there own t (is_rest e f) = over_element n m there own e f
 side_leads b base free s moves n m there own t (is_content e up f) = into_element n m there own e up f
+
+-- the states ahead are the same where the same states of the automaton can be completed
+module _ (a : Automaton) (b : Owned) (base : ℕ) (start : State) (closed : IsClosed a) (here : IsState a start) where
+  ahead_as : (one two : State → Bool) → ((s : State) → IsState a s → one s ≡ two s) → (s : State) → IsAhead a b base one start s → IsState a s × IsAhead a b base two start s
+  ahead_as one two same s is_start = (here, is_start)
+  ahead_as one two same s (past_text p m n h there own) =
+      let before = ahead_as one two same p h in
+      (closed_text a p n m closed before.0 there, past_text p m n before.1 there own)
+  ahead_as one two same s (past_element p m n h there own free) =
+      let before = ahead_as one two same p h in
+      let below = closed_element a p n m closed before.0 there in
+      (below.1, past_element p m n before.1 there own (sym (same m.content below.0) ∙ free))
+  ahead_as one two same s (in_content p m n h there own free up) =
+      let before = ahead_as one two same p h in
+      let below = closed_element a p n m closed before.0 there in
+      (below.0, in_content p m n before.1 there own (sym (same m.rest below.1) ∙ free) up)
+
+  pub searched_as : (one two : State → Bool) (order : List State) → ((s : State) → IsState a s → one s ≡ two s) → IsSearched a b base start one order → IsSearched a b base start two order
+  searched_as one two order same h = record {
+    states = h.states;
+    lists = record {
+      sound = λ s i e. (ahead_as one two same s (h.lists.sound s i e)).1;
+      complete = λ s p. h.lists.complete s (back s p);
+    };
+    filled = λ s m n p there own. h.filled s m n (back s p) there own;
+    filled_texts = λ s m n p there own. h.filled_texts s m n (back s p) there own;
+  }
+    where
+      back : (s : State) → IsAhead a b base two start s → IsAhead a b base one start s
+      back s p = (ahead_as two one (λ t k. sym (same t k)) s p).1

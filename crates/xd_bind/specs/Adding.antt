@@ -1,4 +1,4 @@
--- What is added for a variable, in two steps. Of it only private contracts speak.
+-- What is added for a variable, in two steps.
 use Rattle.std.specs.Prelude.{◌≡◌, ◌+◌, ◌≤◌, Bool, true, false, List, length, take}
 use Rattle.xd_auto.specs.declared.auto.State.{State}
 use Rattle.xd_auto.specs.Automaton.{Automaton, IsState, moves_at}

@@ -1,4 +1,4 @@
--- The automaton of what one variable may be. Of it only private contracts speak.
+-- The automaton of what one variable may be.
 use Rattle.std.specs.Prelude.{◌≡◌, ℕ, suc, ◌+◌, ◌<◌, ◌≤◌, ◌≢◌, Bool, true, false, not, cond, List, [], ◌∷◌, ◌++◌, map, flat_map, length, slice_get, Some}
 use Rattle.xd_doc.specs.Document.{Document}
 use Rattle.xd_doc.specs.ClassForms.{HasLabel, HasText}
@@ -35,7 +35,7 @@ labels_of_side b own contents rests s moves = map (label_onto contents rests) (c
 abbrev pub texts_of_side : Owned → Bool → (State → State) → State → StateMoves → List TextMove
 texts_of_side b own rests s moves = map (text_onto rests) (chosen (λ n. is_side own (b.text s n)) moves.texts)
 
--- these behind old moves
+-- these after old moves
 abbrev pub with_labels : List LabelMove → StateMoves → StateMoves
 with_labels more old = record { last = old.last; labels = old.labels ++ more; texts = old.texts }
 

@@ -1,4 +1,4 @@
--- Marks by their states and numbers. Of these only private contracts speak.
+-- Marks by their states and numbers.
 use Rattle.std.specs.Prelude.{ℕ, nat_eq, List, [], Option, Some, None, Vec, slice_get}
 use Rattle.std.specs.HashMap.{HashMap, get}
 use Rattle.xd_auto.specs.declared.auto.State.{State}

@@ -1,4 +1,4 @@
--- States from a base on that are marked. Of it only private contracts speak.
+-- States from a base on that are marked.
 use Rattle.std.specs.Prelude.{ℕ, ◌+◌, ◌-◌, Bool, false, cond, List, [], ◌∷◌, slice_index_or}
 use Rattle.xd_auto.specs.declared.auto.State.{State}
 

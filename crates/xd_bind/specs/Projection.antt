@@ -46,8 +46,6 @@ pub record AreBindings (tracks : Tracks) (bindings : List Binding) : Type 0 wher
   pub count : length bindings ≡ length tracks.variables.items
   pub each : (x : ℕ) (d : Binding) → x < length bindings → IsBindingOf tracks x (slice_index_or bindings x d)
 
--- Of what follows only private contracts speak.
-
 -- the same, where the states are those of one automaton, and `owned` are the moves that belong to
 -- the variable of a number
 pub record IsGivenOf (a : Automaton) (owned : ℕ → Owned) (start : State) (variables : List (List ℕ)) (made : Automaton) (x : ℕ) (one : Given) : Type 0 where

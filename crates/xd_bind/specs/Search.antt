@@ -1,4 +1,4 @@
--- How the states ahead of the start are found. Of this only private contracts speak.
+-- How the states ahead of the start are found.
 use Rattle.std.specs.Prelude.{◌≡◌, ◌⊎◌, ℕ, ◌+◌, ◌<◌, ◌≤◌, Bool, true, false, List, length, slice_get, Some}
 use Rattle.xd_doc.specs.ClassForms.{HasLabel, HasText}
 use Rattle.xd_auto.specs.declared.auto.State.{State}

@@ -1,5 +1,4 @@
--- Where the copies of states stand, and of which states there are copies. Of it only private
--- contracts speak.
+-- Where the copies of states stand, and of which states there are copies.
 use Rattle.std.specs.Prelude.{◌≡◌, ℕ, ◌+◌, ◌<◌, ◌≤◌, Bool, cond, nat_lt, is_some, List, Option, length, slice_get, Some, take}
 use Rattle.std.specs.List.{All}
 use Rattle.xd_auto.specs.declared.auto.State.{State}
@@ -12,6 +11,7 @@ use Rattle.xd_auto_pairs.specs.Traces.{Owned}
 use Rattle.xd_bind.specs.declared.shift.Layer.{Layer}
 use Rattle.xd_bind.specs.declared.shift.Shift.{Shift}
 use Rattle.xd_bind.specs.Cases.{OwnsNone}
+use Rattle.xd_bind.specs.Marks.{mark_of}
 
 -- the state so many further on
 abbrev pub onward : ℕ → State → State
@@ -24,6 +24,11 @@ shifted shift s = cond (nat_lt s.number shift.base) s (onward shift.by s)
 -- whether a document is known of the copy
 abbrev pub free_by : List (Option LeastDocument) → Shift → State → Bool
 free_by known shift s = is_some (known_of known (shifted shift s))
+
+-- whether a state can be completed: from the base on its mark says so, and below it whether a
+-- document is known
+abbrev pub free_at : List (Option LeastDocument) → ℕ → List Bool → State → Bool
+free_at known base marks s = cond (nat_lt s.number base) (is_some (known_of known s)) (mark_of base marks s)
 
 -- of an automaton, what lies below the base leads to states below it, and moves of the others are
 -- followed by states that lie at or above it

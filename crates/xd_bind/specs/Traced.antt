@@ -1,4 +1,4 @@
--- Traces of accepting runs, step by step. Of these only proofs speak.
+-- Traces of accepting runs, step by step.
 use Rattle.std.specs.Prelude.{◌≡◌, ℕ, Bool, true, slice_get, Some, List}
 use Rattle.xd_doc.specs.Document.{Document, empty, text, element}
 use Rattle.xd_doc.specs.Classes.{class_has}

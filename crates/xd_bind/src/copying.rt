@@ -24,7 +24,7 @@ impl Holds for Nobody {
     }
 }
 
-/// An automaton with the same states and moves.
+/// An automaton with the same states and moves. Fails only where memory is refused.
 pub fn copied(alloc: Global, auto: &Auto) -> Result<Auto, NoMemory>
     ensures { IfOk result (λ made. made ≡ auto.now) }
 {

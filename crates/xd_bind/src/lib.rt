@@ -11,11 +11,11 @@ mod restricted;
 mod shift;
 mod tracks;
 
-pub use ahead::states_ahead;
+pub use ahead::{FreeStates, states_ahead};
 pub use copying::copied;
 pub use holds::Holds;
 pub use parts::{add_states, put_labels, put_texts};
-pub use projecting::{add_without, free_of, project};
+pub use projecting::project;
 pub use restricted::cases;
 pub use shift::{Layer, Shift};
 pub use tracks::{Binding, Given, Track, Tracks};

@@ -35,7 +35,7 @@ impl Track {
     }
 }
 
-/// Puts a mark behind those of its number.
+/// Puts a mark after those of its number.
 fn put(row: &mut HashMap<usize, Vec<Track>>, alloc: Global, track: Track) -> Result<(), NoMemory>
     ensures { OnOk result ((n : ℕ) → tracks_at row.new n ≡ cond (nat_eq track.number n) (tracks_at row.old n ++ track ∷ []) (tracks_at row.old n)) }
 {
@@ -52,7 +52,7 @@ fn put(row: &mut HashMap<usize, Vec<Track>>, alloc: Global, track: Track) -> Res
     }
 }
 
-/// Puts a mark behind those of its state and number.
+/// Puts a mark after those of its state and number.
 fn put_in(
     rows: &mut Vec<HashMap<usize, Vec<Track>>>,
     alloc: Global,

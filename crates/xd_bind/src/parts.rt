@@ -109,7 +109,7 @@ pub fn side_of<H: Holds>(
     Ok(Side { labels, texts })
 }
 
-/// Gives a state more moves on an element.
+/// Gives a state more moves on an element. Where memory is refused, it may have some of them.
 pub fn put_labels(auto: &mut Auto, at: State, labels: Vec<LabelMove>) -> Result<(), NoMemory>
     requires at { IsState auto.old at }
     requires lead { All (λ m. IsState auto.old m.content × IsState auto.old m.rest) labels.items }
@@ -122,7 +122,7 @@ pub fn put_labels(auto: &mut Auto, at: State, labels: Vec<LabelMove>) -> Result<
     Ok(())
 }
 
-/// Gives a state more moves on a text.
+/// Gives a state more moves on a text. Where memory is refused, it may have some of them.
 pub fn put_texts(auto: &mut Auto, at: State, texts: Vec<TextMove>) -> Result<(), NoMemory>
     requires at { IsState auto.old at }
     requires lead { All (λ m. IsState auto.old m.rest) texts.items }
@@ -168,7 +168,7 @@ pub fn add_side<H: Holds>(
     Ok(())
 }
 
-/// Adds states without moves.
+/// Adds states without moves. Where memory is refused, some of them may be there.
 pub fn add_states(auto: &mut Auto, lasts: &[bool]) -> Result<(), NoMemory>
     ensures ok { OnOk result (auto.new ≡ auto.old ++ map no_moves lasts.now) }
     ensures extends { Extends auto.old auto.new }

@@ -15,7 +15,7 @@ ghost use Rattle.xd_bind.specs.Blocks.{HasFirst};
 ghost use Rattle.xd_bind.specs.Marks.{mark_of};
 ghost use Rattle.xd_bind.specs.Shifts.{IsLayer, LandsBelow, OwnsNoneBelow, free_by, shifted};
 
-use crate::ahead::states_ahead;
+use crate::ahead::{FreeStates, states_ahead};
 use crate::copying::copied;
 use crate::holds::Holds;
 use crate::marks::Marks;
@@ -29,8 +29,8 @@ use xd_empty::inhabited_part;
 use xd_least::LeastInhabitants;
 
 /// For each state of a layer whether it can be completed without the variable, where `aside` has
-/// the copies without the variable's moves.
-pub fn free_of(
+/// the copies without the variable's moves. Fails only where memory is refused.
+fn free_of(
     alloc: Global,
     auto: &Auto,
     layer: Layer,
@@ -74,8 +74,8 @@ fn add_first<H: Holds>(
 }
 
 /// Adds copies of a layer's states without the moves of the variable, and says where they stand.
-/// What they accept becomes known.
-pub fn add_without<H: Holds>(
+/// What they accept becomes known. Where memory is refused, states may have been added.
+fn add_without<H: Holds>(
     alloc: Global,
     auto: &mut Auto,
     layer: Layer,
@@ -128,7 +128,12 @@ fn add_alone<H: Holds>(
     ensures extends { Extends auto.old auto.new }
 {
     let free = free_of(alloc, auto, layer, aside, known)?;
-    let ahead = states_ahead(alloc, auto, layer, owner, variable, aside, known)?;
+    let marked = FreeStates {
+        base: layer.base,
+        marks: &free,
+        known,
+    };
+    let ahead = states_ahead(alloc, auto, layer, owner, variable, &marked)?;
     let last = aside.is_free(auto, known, layer.start);
     let onto = Shift {
         base: layer.base,

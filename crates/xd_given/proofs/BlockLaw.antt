@@ -18,14 +18,13 @@ use Rattle.xd_points.specs.declared.patterns.PatternStates.{PatternStates}
 use Rattle.xd_points.specs.declared.table.PointTable.{PointTable}
 use Rattle.xd_points.specs.Meaning.{ServePoints}
 use Rattle.xd_points.specs.Tables.{IsTableOf, is_left, left_of, pattern_of, point_count, point_means, points_of}
-use Rattle.xd_given.specs.declared.outline.PointOutline.{PointOutline}
 use Rattle.xd_given.specs.Blocks.{AreBlocks, is_tail, there}
-use Rattle.xd_given.specs.Outline.{IsOutline}
+use Rattle.xd_given.specs.Outline.{IsDrawing, IsOutline}
 use Rattle.xd_given.specs.Owning.{LeavesOutAlike, owns_first, point_moves}
 use Rattle.xd_given.specs.Traced.{AcceptsGivenAt, AtLeft, FreeFrom, HasRunAt, IsGivenAt, Traced}
 use Rattle.xd_given.proofs.TraceLemmas.{Fits, fits, front, front_free, front_held, front_whole, whole_block, whole_held}
 use Rattle.xd_given.proofs.PointTraces.{content_within, rest_within, run_of, run_on, text_within, traced, traced_means}
-use Rattle.xd_given.proofs.FreeLaw.{free_run, free_some, label_drawn, left_means, on_left, run_free, run_whole, text_drawn, true_false}
+use Rattle.xd_given.proofs.FreeLaw.{finishes, free_run, label_drawn, left_means, on_left, run_free, run_whole, text_drawn, true_false}
 
 -- a trace of the empty document is free
 fits_empty : (t : Trace) → Fits empty t → IsFree t
@@ -50,7 +49,7 @@ no_item empty n = refl
 no_item (text c x) n = absurd (cc)
 no_item (element l c x) n = absurd (cc)
 
--- what stands behind, or in, an item that doesn't belong to the variable
+-- what stands after, or in, an item that doesn't belong to the variable
 text_back : (r : Trace) → IsTogether (at_text false r) → IsTogether r
 text_back r (inl k) = absurd (let e : false ≡ true = k.0 in cc)
 text_back r (inr k) = k.1
@@ -68,23 +67,23 @@ content_back i r some (inr (e, inr k)) = k.0
 module _ (a : Automaton) (p : PatternStates) (t : PointTable) (b : Owned) (is : IsTableOf a p t) (serve : ServePoints a p) (alike : LeavesOutAlike p b) (leaf : State → Bool)
     (leaf_some : (s : State) → s.number < point_count t → is_left p t s ≡ true → leaf s ≡ true → FreeFrom a p t b s)
     (leaf_none : (s : State) (d : Document) (trace : Trace) → s.number < point_count t → is_left p t s ≡ true → leaf s ≡ false → Traced a p t b d s trace → IsFree trace → ⊥)
-    (start : State) (begins : start.number < point_count t) (o : PointOutline) (w : IsOutline p t b leaf start o) where
-  text_of : (s : State) (k : ℕ) (m : TextMove) → s.number < point_count t → slice_get (moves_at w.drawing s).texts k ≡ Some m → (is_left p t s ≡ false) × (slice_get (moves_at (points_of t) s).texts k ≡ Some m)
-  text_of = text_drawn a p t b is leaf leaf_some leaf_none w.drawing w.drawn
+    (start : State) (begins : start.number < point_count t) (drawing : Automaton) (drawn : IsDrawing p t drawing) (marked : State → Bool) (order : List State) (w : IsOutline p t b leaf drawing start marked order) where
+  text_of : (s : State) (k : ℕ) (m : TextMove) → s.number < point_count t → slice_get (moves_at drawing s).texts k ≡ Some m → (is_left p t s ≡ false) × (slice_get (moves_at (points_of t) s).texts k ≡ Some m)
+  text_of = text_drawn a p t b is leaf leaf_some leaf_none drawing drawn
 
-  label_of : (s : State) (k : ℕ) (m : LabelMove) → s.number < point_count t → slice_get (moves_at w.drawing s).labels k ≡ Some m → (is_left p t s ≡ false) × (slice_get (moves_at (points_of t) s).labels k ≡ Some m)
-  label_of = label_drawn a p t b is leaf leaf_some leaf_none w.drawing w.drawn
+  label_of : (s : State) (k : ℕ) (m : LabelMove) → s.number < point_count t → slice_get (moves_at drawing s).labels k ≡ Some m → (is_left p t s ≡ false) × (slice_get (moves_at (points_of t) s).labels k ≡ Some m)
+  label_of = label_drawn a p t b is leaf leaf_some leaf_none drawing drawn
 
-  free_at : (s : State) → s.number < point_count t → w.free s ≡ true → FreeFrom a p t b s
-  free_at = free_some a p t b is leaf leaf_some leaf_none start o w
+  free_at : (s : State) → s.number < point_count t → marked s ≡ true → FreeFrom a p t b s
+  free_at s lt e = finishes a p t b is leaf leaf_some leaf_none drawing drawn s lt (w.complete.sound s e)
 
-  is_free_at : (d : Document) (s : State) (trace : Trace) → s.number < point_count t → Traced a p t b d s trace → IsFree trace → w.free s ≡ true
-  is_free_at = free_run a p t b is leaf leaf_some leaf_none start o w
+  is_free_at : (d : Document) (s : State) (trace : Trace) → s.number < point_count t → Traced a p t b d s trace → IsFree trace → marked s ≡ true
+  is_free_at = free_run a p t b is leaf leaf_some leaf_none drawing drawn marked w.complete
 
   abbrev Ahead : State → Type 0
-  Ahead s = IsAhead w.drawing (point_moves t b) 0 w.free start s
+  Ahead s = IsAhead drawing (point_moves t b) 0 marked start s
 
-  pub ahead_within : (s : State) → IsAhead w.drawing (point_moves t b) 0 w.free start s → s.number < point_count t
+  pub ahead_within : (s : State) → IsAhead drawing (point_moves t b) 0 marked start s → s.number < point_count t
   ahead_within s is_start = begins
   ahead_within s (past_text q m n h there own) = let here = text_of q n m (ahead_within q h) there in text_within a p t b is q n m (ahead_within q h) here.0 here.1
   ahead_within s (past_element q m n h there own other) = let here = label_of q n m (ahead_within q h) there in rest_within a p t b is q n m (ahead_within q h) here.0 here.1
@@ -99,7 +98,7 @@ module _ (a : Automaton) (p : PatternStates) (t : PointTable) (b : Owned) (is : 
     same : held document trace ≡ held d t'
     back : (IsFree t' → ⊥) → IsTogether trace → IsTogether t'
 
-  from_start : (d : Document) (s : State) (r : Trace) → IsAhead w.drawing (point_moves t b) 0 w.free start s → Traced a p t b d s r → FromStart d r
+  from_start : (d : Document) (s : State) (r : Trace) → IsAhead drawing (point_moves t b) 0 marked start s → Traced a p t b d s r → FromStart d r
   from_start d s r is_start h = record { document = d; trace = r; traced = h; proper = λ e. e; same = refl; back = λ some k. k }
   from_start d s r (past_text q m n before there own) h =
       let here = text_of q n m (ahead_within q before) there in
@@ -153,7 +152,7 @@ module _ (a : Automaton) (p : PatternStates) (t : PointTable) (b : Owned) (is : 
   -- the block of a trace, from a state ahead of the start
   record BlockOf (e : Document) : Type 0 where
     state : State
-    lies : IsAhead w.drawing (point_moves t b) 0 w.free start state
+    lies : IsAhead drawing (point_moves t b) 0 marked start state
     document : Document
     trace : Trace
     traced : Traced a p t b document state trace
@@ -164,13 +163,13 @@ module _ (a : Automaton) (p : PatternStates) (t : PointTable) (b : Owned) (is : 
   block_as e f same k =
       record { state = k.state; lies = k.lies; document = k.document; trace = k.trace; traced = k.traced; block = k.block; gives = k.gives ∙ same }
 
-  text_there : (s : State) (k : ℕ) (m : TextMove) → s.number < point_count t → is_left p t s ≡ false → slice_get (moves_at (points_of t) s).texts k ≡ Some m → slice_get (moves_at w.drawing s).texts k ≡ Some m
-  text_there s k m lt yet e = ap (λ (v : StateMoves). slice_get v.texts k) (w.drawn.other s lt yet) ∙ e
+  text_there : (s : State) (k : ℕ) (m : TextMove) → s.number < point_count t → is_left p t s ≡ false → slice_get (moves_at (points_of t) s).texts k ≡ Some m → slice_get (moves_at drawing s).texts k ≡ Some m
+  text_there s k m lt yet e = ap (λ (v : StateMoves). slice_get v.texts k) (drawn.other s lt yet) ∙ e
 
-  label_there : (s : State) (k : ℕ) (m : LabelMove) → s.number < point_count t → is_left p t s ≡ false → slice_get (moves_at (points_of t) s).labels k ≡ Some m → slice_get (moves_at w.drawing s).labels k ≡ Some m
-  label_there s k m lt yet e = ap (λ (v : StateMoves). slice_get v.labels k) (w.drawn.other s lt yet) ∙ e
+  label_there : (s : State) (k : ℕ) (m : LabelMove) → s.number < point_count t → is_left p t s ≡ false → slice_get (moves_at (points_of t) s).labels k ≡ Some m → slice_get (moves_at drawing s).labels k ≡ Some m
+  label_there s k m lt yet e = ap (λ (v : StateMoves). slice_get v.labels k) (drawn.other s lt yet) ∙ e
 
-  block_of : (d : Document) (s : State) (r : Trace) → IsAhead w.drawing (point_moves t b) 0 w.free start s → Traced a p t b d s r → IsTogether r → BlockOf (held d r)
+  block_of : (d : Document) (s : State) (r : Trace) → IsAhead drawing (point_moves t b) 0 marked start s → Traced a p t b d s r → IsTogether r → BlockOf (held d r)
   block_of empty s at_end q h k = record { state = s; lies = q; document = empty; trace = at_end; traced = h; block = tt; gives = refl }
   block_of empty s (at_text own r) q h k = absurd h
   block_of empty s (at_element own i r) q h k = absurd h
@@ -201,8 +200,8 @@ module _ (a : Automaton) (p : PatternStates) (t : PointTable) (b : Owned) (is : 
 
   module _ (places blocks : List State) (base : ℕ) (new : Automaton) (means : (s : State) (d : Document) → s.number < point_count t → accepts new d (there places s) ≡ point_means a p t s d)
       (lefts : (s : State) (d : Document) → s.number < point_count t → accepts new d (left_of t s) ≡ accepts a d (left_of t s)) (are : AreBlocks p t b base blocks)
-      (filled : (s : State) → s.number < point_count t → moves_at new (onward base s) ≡ side_moves (point_moves t b) true (there places) (there blocks) s (moves_at w.drawing s) (w.free s)) where
-    moves_there : (s : State) → s.number < point_count t → is_tail p t b s ≡ false → moves_at new (there blocks s) ≡ side_moves (point_moves t b) true (there places) (there blocks) s (moves_at w.drawing s) (w.free s)
+      (filled : (s : State) → s.number < point_count t → moves_at new (onward base s) ≡ side_moves (point_moves t b) true (there places) (there blocks) s (moves_at drawing s) (marked s)) where
+    moves_there : (s : State) → s.number < point_count t → is_tail p t b s ≡ false → moves_at new (there blocks s) ≡ side_moves (point_moves t b) true (there places) (there blocks) s (moves_at drawing s) (marked s)
     moves_there s lt other = ap (moves_at new) (are.other s lt other) ∙ filled s lt
 
     -- a run from the point whose front is the document
@@ -245,7 +244,7 @@ module _ (a : Automaton) (p : PatternStates) (t : PointTable) (b : Owned) (is : 
         go true tail more = tail_front (text c e) s lt tail h
         go false other more =
             let any = ap (λ (m : StateMoves). list_any (leads_past new c e) m.texts) (sym (moves_there s lt other)) ∙ h in
-            let one = choice (text_onto (there blocks)) (leads_past new c e) (λ n. is_side true ((point_moves t b).text s n)) (moves_at w.drawing s).texts any in
+            let one = choice (text_onto (there blocks)) (leads_past new c e) (λ n. is_side true ((point_moves t b).text s n)) (moves_at drawing s).texts any in
             let here = text_of s one.number one.item lt one.there in
             let f = more one.item.rest (text_within a p t b is s one.number one.item lt here.0 here.1) (and_right (class_has one.item.words c) _ one.passes) in
             record {
@@ -262,7 +261,7 @@ module _ (a : Automaton) (p : PatternStates) (t : PointTable) (b : Owned) (is : 
         go true tail more = tail_front (element l c e) s lt tail h
         go false other more =
             let any = ap (λ (m : StateMoves). list_any (leads_over new l c e) m.labels) (sym (moves_there s lt other)) ∙ h in
-            let one = choice (label_onto (there places) (there blocks)) (leads_over new l c e) (λ n. is_side true ((point_moves t b).element s n)) (moves_at w.drawing s).labels any in
+            let one = choice (label_onto (there places) (there blocks)) (leads_over new l c e) (λ n. is_side true ((point_moves t b).element s n)) (moves_at drawing s).labels any in
             let here = label_of s one.number one.item lt one.there in
             let both = and_right (class_has one.item.class l) _ one.passes in
             let inner = content_within a p t b is s one.number one.item lt here.0 here.1 in
@@ -293,7 +292,7 @@ module _ (a : Automaton) (p : PatternStates) (t : PointTable) (b : Owned) (is : 
             }
 
     -- what the state of a point ahead of the start accepts is given
-    pub given_ahead : KeepsTogether p.auto b (pattern_of t start) → (e : Document) (s : State) → IsAhead w.drawing (point_moves t b) 0 w.free start s → accepts new e (there blocks s) ≡ true → IsGivenAt a p t b start e
+    pub given_ahead : KeepsTogether p.auto b (pattern_of t start) → (e : Document) (s : State) → IsAhead drawing (point_moves t b) 0 marked start s → accepts new e (there blocks s) ≡ true → IsGivenAt a p t b start e
     given_ahead keeps e s ahead h = go (has_item e) refl
       where
         f : FrontFrom s e
@@ -355,7 +354,7 @@ module _ (a : Automaton) (p : PatternStates) (t : PointTable) (b : Owned) (is : 
         let more = accepts_block d h.step.rest r (text_within a p t b is s h.number h.step lt yet h.there) h.rest k in
         by_tail (text c d) s (at_text true r) lt (inr (yet, h)) (λ other.
         ap (λ (m : StateMoves). list_any (leads_past new c (held d r)) m.texts) (moves_there s lt other)
-        ∙ any_choice (text_onto (there blocks)) (leads_past new c (held d r)) (λ n. is_side true ((point_moves t b).text s n)) (moves_at w.drawing s).texts h.number h.step (text_there s h.number h.step lt yet h.there) h.owned
+        ∙ any_choice (text_onto (there blocks)) (leads_past new c (held d r)) (λ n. is_side true ((point_moves t b).text s n)) (moves_at drawing s).texts h.number h.step (text_there s h.number h.step lt yet h.there) h.owned
         (and_both (class_has h.step.words c) _ h.has more))
     accepts_block (text c d) s (at_text false r) lt (inr (yet, h)) (inl (e, k)) = absurd (let no : false ≡ true = e in cc)
     accepts_block (text c d) s (at_text own r) lt (inr (yet, h)) (inr f) = stops (text c d) s (at_text own r) lt (inr (yet, h)) f
@@ -370,7 +369,7 @@ module _ (a : Automaton) (p : PatternStates) (t : PointTable) (b : Owned) (is : 
         by_tail (element l c d) s (at_element true i r) lt (inr (yet, h)) (λ other.
         ap (λ x. accepts new (element l c (join x (held d r))) (there blocks s)) (held_free c i f)
         ∙ ap (λ (m : StateMoves). list_any (leads_over new l c (held d r)) m.labels) (moves_there s lt other)
-        ∙ any_choice (label_onto (there places) (there blocks)) (leads_over new l c (held d r)) (λ n. is_side true ((point_moves t b).element s n)) (moves_at w.drawing s).labels h.number h.step
+        ∙ any_choice (label_onto (there places) (there blocks)) (leads_over new l c (held d r)) (λ n. is_side true ((point_moves t b).element s n)) (moves_at drawing s).labels h.number h.step
         (label_there s h.number h.step lt yet h.there) h.owned
         (and_both (class_has h.step.class l) _ h.has (and_both (accepts new c (there places h.step.content)) _ inside more)))
     accepts_block (element l c d) s (at_element false i r) lt (inr (yet, h)) (inl (e, f, k)) = absurd (let no : false ≡ true = e in cc)
@@ -380,7 +379,7 @@ module _ (a : Automaton) (p : PatternStates) (t : PointTable) (b : Owned) (is : 
     record FoundAhead (e : Document) : Type 0 where
       state : State
       place : ℕ
-      there_is : slice_get o.ahead.items place ≡ Some state
+      there_is : slice_get order place ≡ Some state
       accepted : accepts new e (there blocks state) ≡ true
 
     found_ahead : KeepsTogether p.auto b (pattern_of t start) → (e : Document) → IsGivenAt a p t b start e → FoundAhead e
@@ -396,13 +395,13 @@ module _ (a : Automaton) (p : PatternStates) (t : PointTable) (b : Owned) (is : 
         }
 
     -- a state that accepts what those of the points ahead do accepts exactly what is given
-    pub given_law : KeepsTogether p.auto b (pattern_of t start) → (made : Automaton) (first : State) → ((e : Document) → accepts made e first ≡ list_any (λ s. accepts new e (there blocks s)) o.ahead.items)
+    pub given_law : KeepsTogether p.auto b (pattern_of t start) → (made : Automaton) (first : State) → ((e : Document) → accepts made e first ≡ list_any (λ s. accepts new e (there blocks s)) order)
         → AcceptsGivenAt a p t b start made first
     given_law keeps made first united e = (
       λ h.
-          let f = found (λ s. accepts new e (there blocks s)) o.ahead.items (sym (united e) ∙ h) in
+          let f = found (λ s. accepts new e (there blocks s)) order (sym (united e) ∙ h) in
           given_ahead keeps e f.item (w.searched.lists.sound f.item f.place f.there) f.passes,
       λ g.
           let f = found_ahead keeps e g in
-          united e ∙ any_at (λ s. accepts new e (there blocks s)) o.ahead.items f.place f.state f.there_is f.accepted,
+          united e ∙ any_at (λ s. accepts new e (there blocks s)) order f.place f.state f.there_is f.accepted,
     )

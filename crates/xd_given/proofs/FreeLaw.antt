@@ -1,5 +1,5 @@
 -- Which points can be completed without the variable.
-use Rattle.std.proofs.Common.{ℕ, ◌<◌, ◌≡◌, inl, inr, Bool, true, false, ◌&&◌, ◌||◌, cond, List, length, Option, Some, None, refl, sym, ap, ◌∙◌, subst, arith}
+use Rattle.std.proofs.Common.{ℕ, ◌<◌, ◌≡◌, inl, inr, Bool, true, false, not, ◌&&◌, ◌||◌, cond, List, length, Option, Some, None, refl, sym, ap, ◌∙◌, subst, arith}
 use Rattle.std.specs.List.{slice_get}
 use Rattle.std.specs.Option.{is_some}
 use Rattle.xd_doc.specs.Document.{Document, empty, text, element, is_proper}
@@ -12,16 +12,14 @@ use Rattle.xd_auto.proofs.Anys.{and_both, and_left, and_right}
 use Rattle.xd_auto_pairs.specs.Traces.{Owned, Trace, at_end, at_text, at_element, trace_of, IsFree}
 use Rattle.xd_least.specs.Least.{Knows, known_of}
 use Rattle.xd_least.specs.declared.document.LeastDocument.{LeastDocument}
-use Rattle.xd_bind.specs.Traced as B
-use Rattle.xd_bind.proofs.FreePart.{accepts_free, free_trace}
 use Rattle.xd_points.specs.declared.patterns.PatternStates.{PatternStates}
 use Rattle.xd_points.specs.declared.table.PointTable.{PointTable}
 use Rattle.xd_points.specs.Meaning.{ServePoints, may_leave_out}
 use Rattle.xd_points.specs.Points.{point_at}
 use Rattle.xd_points.specs.Tables.{IsTableOf, is_left, left_of, pattern_of, point_count, point_means, points_of}
 use Rattle.xd_points.proofs.MeaningLaw.{old_means}
-use Rattle.xd_given.specs.declared.outline.PointOutline.{PointOutline}
-use Rattle.xd_given.specs.Outline.{IsDrawing, IsOutline, leaf_free}
+use Rattle.xd_given.specs.Free.{AreFree, CanFinish, at_once, by_element, by_text, label_goes, text_goes}
+use Rattle.xd_given.specs.Outline.{IsDrawing, can_stop, leaf_free}
 use Rattle.xd_given.specs.Owning.{GivesAlike, IsWhole, LeavesOutAlike, owns_first, point_moves}
 use Rattle.xd_given.specs.Traced.{FreeFrom, HasRunAt, Traced}
 use Rattle.xd_given.proofs.TraceLemmas.{Fits, fits, whole_free}
@@ -95,7 +93,7 @@ module _ (a : Automaton) (p : PatternStates) (t : PointTable) (b : Owned) (is : 
 module _ (a : Automaton) (p : PatternStates) (t : PointTable) (b : Owned) (is : IsTableOf a p t) (leaf : State → Bool)
     (leaf_some : (s : State) → s.number < point_count t → is_left p t s ≡ true → leaf s ≡ true → FreeFrom a p t b s)
     (leaf_none : (s : State) (d : Document) (trace : Trace) → s.number < point_count t → is_left p t s ≡ true → leaf s ≡ false → Traced a p t b d s trace → IsFree trace → ⊥)
-    (drawing : Automaton) (drawn : IsDrawing p t leaf drawing) where
+    (drawing : Automaton) (drawn : IsDrawing p t drawing) where
   text_here : (s : State) (k : ℕ) (m : TextMove) → s.number < point_count t → is_left p t s ≡ false → slice_get (moves_at drawing s).texts k ≡ Some m → slice_get (moves_at (points_of t) s).texts k ≡ Some m
   text_here s k m lt yet e = ap (λ (w : StateMoves). slice_get w.texts k) (sym (drawn.other s lt yet)) ∙ e
 
@@ -126,120 +124,85 @@ module _ (a : Automaton) (p : PatternStates) (t : PointTable) (b : Owned) (is : 
   last_means : (s : State) → s.number < point_count t → is_left p t s ≡ false → (moves_at drawing s).last ≡ point_means a p t s empty
   last_means s lt yet = ap (λ (w : StateMoves). w.last) (drawn.other s lt yet) ∙ is.expanded.whole.last s.number lt ∙ ap (λ v. v || point_means a p t s empty) yet
 
-  -- a free run of the drawing tells of one through the points
-  pub real : (d : Document) (s : State) (trace : Trace) → s.number < point_count t → B.Traced drawing (point_moves t b) d s trace → IsFree trace → is_proper d ≡ true → FreeFrom a p t b s
-  real empty s at_end lt h f proper = go (is_left p t s) refl
+  -- a point that can be completed without the variable has a run that gives it nothing
+  pub finishes : (s : State) → s.number < point_count t → CanFinish drawing (point_moves t b) (can_stop p t leaf drawing) s → FreeFrom a p t b s
+  finishes s lt (at_once q e) = go (is_left p t q) refl e
     where
-      go : (v : Bool) → is_left p t s ≡ v → FreeFrom a p t b s
-      go true left = leaf_some s lt left (ap (λ (w : StateMoves). w.last) (sym (drawn.left s lt left)) ∙ h)
-      go false yet = record { document = empty; trace = at_end; proper = refl; traced = sym (last_means s lt yet) ∙ h; free = tt }
-  real empty s (at_text own r) lt h f proper = absurd h
-  real empty s (at_element own k r) lt h f proper = absurd h
-  real (text c d) s at_end lt h f proper = absurd h
-  real (text c d) s (at_text own r) lt h f proper =
-      let here = text_drawn s h.number h.step lt h.there in
-      let more = real d h.step.rest r (text_within a p t b is s h.number h.step lt here.0 here.1) h.rest f.1 (and_right _ (is_proper d) proper) in
+      go : (v : Bool) → is_left p t q ≡ v → cond v (leaf q) (moves_at drawing q).last ≡ true → FreeFrom a p t b q
+      go true left h = leaf_some q lt left h
+      go false yet h = record { document = empty; trace = at_end; proper = refl; traced = sym (last_means q lt yet) ∙ h; free = tt }
+  finishes s lt (by_text q m n there own some h) =
+      let here = text_drawn q n m lt there in
+      let more = finishes m.rest (text_within a p t b is q n m lt here.0 here.1) h in
       record {
-        document = text c more.document;
-        trace = at_text own more.trace;
-        proper = and_both _ (is_proper more.document) (and_left _ (is_proper d) proper) more.proper;
-        traced = inr (here.0, record { number = h.number; step = h.step; there = here.1; has = h.has; owned = h.owned; rest = more.traced });
-        free = (f.0, more.free);
+        document = text some.name more.document;
+        trace = at_text false more.trace;
+        proper = and_both _ (is_proper more.document) some.proper more.proper;
+        traced = inr (here.0, record { number = n; step = m; there = here.1; has = some.has; owned = own; rest = more.traced });
+        free = (refl, more.free);
       }
-  real (text c d) s (at_element own k r) lt h f proper = absurd h
-  real (element l c d) s at_end lt h f proper = absurd h
-  real (element l c d) s (at_text own r) lt h f proper = absurd h
-  real (element l c d) s (at_element own k r) lt h f proper =
-      let here = label_drawn s h.number h.step lt h.there in
-      let parts = and_right _ (is_proper c && is_proper d) proper in
-      let inside = real c h.step.content k (content_within a p t b is s h.number h.step lt here.0 here.1) h.content f.1 (and_left (is_proper c) (is_proper d) parts) in
-      let more = real d h.step.rest r (rest_within a p t b is s h.number h.step lt here.0 here.1) h.rest f.2 (and_right (is_proper c) (is_proper d) parts) in
+  finishes s lt (by_element q m n there own some h k) =
+      let here = label_drawn q n m lt there in
+      let inside = finishes m.content (content_within a p t b is q n m lt here.0 here.1) h in
+      let more = finishes m.rest (rest_within a p t b is q n m lt here.0 here.1) k in
       record {
-        document = element l inside.document more.document;
-        trace = at_element own inside.trace more.trace;
-        proper = and_both _ (is_proper inside.document && is_proper more.document) (and_left _ (is_proper c && is_proper d) proper) (and_both (is_proper inside.document) (is_proper more.document) inside.proper more.proper);
-        traced = inr (here.0, record { number = h.number; step = h.step; there = here.1; has = h.has; owned = h.owned; content = inside.traced; rest = more.traced });
-        free = (f.0, inside.free, more.free);
+        document = element some.name inside.document more.document;
+        trace = at_element false inside.trace more.trace;
+        proper = and_both _ (is_proper inside.document && is_proper more.document) some.proper (and_both (is_proper inside.document) (is_proper more.document) inside.proper more.proper);
+        traced = inr (here.0, record { number = n; step = m; there = here.1; has = some.has; owned = own; content = inside.traced; rest = more.traced });
+        free = (refl, inside.free, more.free);
       }
 
-  -- a free run of the drawing
-  record Drawn (s : State) : Type 0 where
-    document : Document
-    trace : Trace
-    traced : B.Traced drawing (point_moves t b) document s trace
-    free : IsFree trace
+  module _ (set : State → Bool) (are : AreFree drawing (point_moves t b) (can_stop p t leaf drawing) set) where
+    point_there : (s : State) → s.number < point_count t → IsState drawing s
+    point_there s lt = omega (arith, lt, drawn.sized, is.expanded.whole.count)
 
-  drawn_end : (s : State) → (moves_at drawing s).last ≡ true → Drawn s
-  drawn_end s h = record { document = empty; trace = at_end; traced = h; free = tt }
+    -- moves of others lead back to what can be completed
+    text_back : (s : State) (n : ℕ) (m : TextMove) → s.number < point_count t → slice_get (moves_at drawing s).texts n ≡ Some m → (point_moves t b).text s n ≡ false → set m.rest ≡ true → set s ≡ true
+    text_back s n m lt there own rest = decide (set s) refl
+      where
+        decide : (v : Bool) → set s ≡ v → set s ≡ true
+        decide true e = e
+        decide false e = true_false (text_goes (point_moves t b) set s n m) (and_both (set m.rest) (not ((point_moves t b).text s n)) rest (ap not own)) ((are.settled s (point_there s lt) e).texts n m there)
 
-  -- a free run through the points tells of one of the drawing
-  drawn_left : (d : Document) (s : State) (trace : Trace) → s.number < point_count t → is_left p t s ≡ true → Traced a p t b d s trace → IsFree trace → Drawn s
-  drawn_left d s trace lt left h f = go (leaf s) refl
-    where
-      go : (v : Bool) → leaf s ≡ v → Drawn s
-      go true e = drawn_end s (ap (λ (w : StateMoves). w.last) (drawn.left s lt left) ∙ e)
-      go false e = absurd (leaf_none s d trace lt left e h f)
+    label_back : (s : State) (n : ℕ) (m : LabelMove) → s.number < point_count t → slice_get (moves_at drawing s).labels n ≡ Some m → (point_moves t b).element s n ≡ false → set m.content ≡ true → set m.rest ≡ true → set s ≡ true
+    label_back s n m lt there own content rest = decide (set s) refl
+      where
+        decide : (v : Bool) → set s ≡ v → set s ≡ true
+        decide true e = e
+        decide false e =
+            let behind = and_both (set m.rest) (not ((point_moves t b).element s n)) rest (ap not own) in
+            true_false (label_goes (point_moves t b) set s n m) (and_both (set m.content) (set m.rest && not ((point_moves t b).element s n)) content behind) ((are.settled s (point_there s lt) e).labels n m there)
 
-  drawn_run : (d : Document) (s : State) (trace : Trace) → s.number < point_count t → Traced a p t b d s trace → IsFree trace → Drawn s
-  drawn_run empty s at_end lt h f = go (is_left p t s) refl
-    where
-      go : (v : Bool) → is_left p t s ≡ v → Drawn s
-      go true left = drawn_left empty s at_end lt left h f
-      go false yet = drawn_end s (last_means s lt yet ∙ h)
-  drawn_run empty s (at_text own r) lt h f = absurd h
-  drawn_run empty s (at_element own k r) lt h f = absurd h
-  drawn_run (text c d) s at_end lt h f = absurd h
-  drawn_run (text c d) s (at_text own r) lt (inl h) f = drawn_left (text c d) s (at_text own r) lt h.left (inl h) f
-  drawn_run (text c d) s (at_text own r) lt (inr (yet, h)) f =
-      let more = drawn_run d h.step.rest r (text_within a p t b is s h.number h.step lt yet h.there) h.rest f.1 in
-      record {
-        document = text c more.document;
-        trace = at_text own more.trace;
-        traced = record { number = h.number; step = h.step; there = ap (λ (w : StateMoves). slice_get w.texts h.number) (drawn.other s lt yet) ∙ h.there; has = h.has; owned = h.owned; rest = more.traced };
-        free = (f.0, more.free);
-      }
-  drawn_run (text c d) s (at_element own k r) lt h f = absurd h
-  drawn_run (element l c d) s at_end lt h f = absurd h
-  drawn_run (element l c d) s (at_text own r) lt h f = absurd h
-  drawn_run (element l c d) s (at_element own k r) lt (inl h) f = drawn_left (element l c d) s (at_element own k r) lt h.left (inl h) f
-  drawn_run (element l c d) s (at_element own k r) lt (inr (yet, h)) f =
-      let inside = drawn_run c h.step.content k (content_within a p t b is s h.number h.step lt yet h.there) h.content f.1 in
-      let more = drawn_run d h.step.rest r (rest_within a p t b is s h.number h.step lt yet h.there) h.rest f.2 in
-      record {
-        document = element l inside.document more.document;
-        trace = at_element own inside.trace more.trace;
-        traced = record {
-          number = h.number;
-          step = h.step;
-          there = ap (λ (w : StateMoves). slice_get w.labels h.number) (drawn.other s lt yet) ∙ h.there;
-          has = h.has;
-          owned = h.owned;
-          content = inside.traced;
-          rest = more.traced;
-        };
-        free = (f.0, inside.free, more.free);
-      }
+    stops : (s : State) (v : Bool) → s.number < point_count t → is_left p t s ≡ v → cond v (leaf s) (moves_at drawing s).last ≡ true → set s ≡ true
+    stops s v lt left e = are.stop s (point_there s lt) (ap (λ w. cond w (leaf s) (moves_at drawing s).last) left ∙ e)
 
--- what an outline says of points
-module _ (a : Automaton) (p : PatternStates) (t : PointTable) (b : Owned) (is : IsTableOf a p t) (leaf : State → Bool)
-    (leaf_some : (s : State) → s.number < point_count t → is_left p t s ≡ true → leaf s ≡ true → FreeFrom a p t b s)
-    (leaf_none : (s : State) (d : Document) (trace : Trace) → s.number < point_count t → is_left p t s ≡ true → leaf s ≡ false → Traced a p t b d s trace → IsFree trace → ⊥)
-    (start : State) (o : PointOutline) (w : IsOutline p t b leaf start o) where
-  drawn_state : (s : State) → s.number < point_count t → IsState w.drawing s
-  drawn_state s lt = omega (arith, lt, w.drawn.sized, is.expanded.whole.count)
+    left_goes : (d : Document) (s : State) (trace : Trace) → s.number < point_count t → is_left p t s ≡ true → Traced a p t b d s trace → IsFree trace → set s ≡ true
+    left_goes d s trace lt left h f = go (leaf s) refl
+      where
+        go : (v : Bool) → leaf s ≡ v → set s ≡ true
+        go true e = stops s true lt left e
+        go false e = absurd (leaf_none s d trace lt left e h f)
 
-  pub free_some : (s : State) → s.number < point_count t → w.free s ≡ true → FreeFrom a p t b s
-  free_some s lt e =
-      let some = w.some s (drawn_state s lt) e in
-      let f = free_trace w.drawing (point_moves t b) w.closed o.drawing w.inner w.without some.document s (drawn_state s lt) some.accepted in
-      real a p t b is leaf leaf_some leaf_none w.drawing w.drawn some.document s f.trace lt f.traced f.free some.proper
-
-  pub free_run : (d : Document) (s : State) (trace : Trace) → s.number < point_count t → Traced a p t b d s trace → IsFree trace → w.free s ≡ true
-  free_run d s trace lt h f = decide (w.free s) refl
-    where
-      decide : (v : Bool) → w.free s ≡ v → w.free s ≡ true
-      decide true e = e
-      decide false e =
-          let r = drawn_run a p t b is leaf leaf_some leaf_none w.drawing w.drawn d s trace lt h f in
-          let yes = accepts_free w.drawing (point_moves t b) w.closed o.drawing w.inner w.without r.document s r.trace (drawn_state s lt) r.traced r.free in
-          true_false _ yes (w.none s (drawn_state s lt) e r.document)
+    -- a point with a run that gives the variable nothing can be completed without it
+    pub free_run : (d : Document) (s : State) (trace : Trace) → s.number < point_count t → Traced a p t b d s trace → IsFree trace → set s ≡ true
+    free_run empty s at_end lt h f = go (is_left p t s) refl
+      where
+        go : (v : Bool) → is_left p t s ≡ v → set s ≡ true
+        go true left = left_goes empty s at_end lt left h f
+        go false yet = stops s false lt yet (last_means s lt yet ∙ h)
+    free_run empty s (at_text own r) lt h f = absurd h
+    free_run empty s (at_element own k r) lt h f = absurd h
+    free_run (text c d) s at_end lt h f = absurd h
+    free_run (text c d) s (at_text own r) lt (inl h) f = left_goes (text c d) s (at_text own r) lt h.left (inl h) f
+    free_run (text c d) s (at_text own r) lt (inr (yet, h)) f =
+        text_back s h.number h.step lt (ap (λ (w : StateMoves). slice_get w.texts h.number) (drawn.other s lt yet) ∙ h.there) (h.owned ∙ f.0)
+        (free_run d h.step.rest r (text_within a p t b is s h.number h.step lt yet h.there) h.rest f.1)
+    free_run (text c d) s (at_element own k r) lt h f = absurd h
+    free_run (element l c d) s at_end lt h f = absurd h
+    free_run (element l c d) s (at_text own r) lt h f = absurd h
+    free_run (element l c d) s (at_element own k r) lt (inl h) f = left_goes (element l c d) s (at_element own k r) lt h.left (inl h) f
+    free_run (element l c d) s (at_element own k r) lt (inr (yet, h)) f =
+        label_back s h.number h.step lt (ap (λ (w : StateMoves). slice_get w.labels h.number) (drawn.other s lt yet) ∙ h.there) (h.owned ∙ f.0)
+        (free_run c h.step.content k (content_within a p t b is s h.number h.step lt yet h.there) h.content f.1)
+        (free_run d h.step.rest r (rest_within a p t b is s h.number h.step lt yet h.there) h.rest f.2)

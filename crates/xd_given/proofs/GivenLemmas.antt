@@ -1,5 +1,5 @@
 -- What one variable is given, from the parts that are made for it.
-use Rattle.std.proofs.Common.{ℕ, zero, suc, IfSome, ◌+◌, ◌<◌, ◌≤◌, ◌≡◌, Bool, true, false, ◌||◌, List, [], ◌∷◌, ◌++◌, Option, Some, None, length, get_or, map, refl, sym, ap, ◌∙◌, subst, arith}
+use Rattle.std.proofs.Common.{ℕ, IfSome, ◌+◌, ◌<◌, ◌≤◌, ◌≡◌, Bool, true, false, ◌||◌, List, [], ◌∷◌, ◌++◌, Option, Some, None, length, get_or, map, refl, sym, ap, ◌∙◌, subst, arith}
 use Rattle.std.specs.List.{All, list_any}
 use Rattle.std.proofs.lemmas.List.{get_or_default}
 use Rattle.std.proofs.lemmas.List.Elements.{All-map}
@@ -12,19 +12,17 @@ use Rattle.xd_auto.proofs.ExtendsLemmas.{keeps}
 use Rattle.xd_auto_pairs.specs.Traces.{KeepsTogether, Owned}
 use Rattle.xd_least.specs.Least.{Knows, known_of}
 use Rattle.xd_least.specs.declared.document.LeastDocument.{LeastDocument}
-use Rattle.xd_bind.specs.Blocks.{side_moves}
-use Rattle.xd_bind.specs.Marks.{mark_of}
+use Rattle.xd_empty.specs.Parts.{is_marked}
 use Rattle.xd_bind.proofs.IsProjectionLemmas.{all_states, first_begun}
 use Rattle.xd_points.specs.declared.patterns.PatternStates.{PatternStates}
 use Rattle.xd_points.specs.declared.table.PointTable.{PointTable}
 use Rattle.xd_points.specs.Meaning.{ServePoints}
 use Rattle.xd_points.specs.Placing.{accepts_at}
 use Rattle.xd_points.specs.Tables.{IsTableOf, left_of, pattern_of, place_of, point_count, point_means, points_of, takes_alone}
-use Rattle.xd_given.specs.declared.outline.PointOutline.{PointOutline}
 use Rattle.xd_given.specs.Blocks.{AreBlocks, AreFilled, ArePlaces, is_tail, state_or, there}
 use Rattle.xd_given.specs.Given.{IsSharedAlone}
 use Rattle.xd_given.specs.Known.{KnowsLefts}
-use Rattle.xd_given.specs.Outline.{IsOutline, leaf_free}
+use Rattle.xd_given.specs.Outline.{IsDrawing, IsOutline, leaf_free}
 use Rattle.xd_given.specs.Owning.{LeavesOutAlike, point_moves}
 use Rattle.xd_given.specs.Traced.{AcceptsGivenAt}
 use Rattle.xd_given.proofs.BlockLaw.{given_law}
@@ -75,48 +73,30 @@ blocks_belong a p t b base blocks room lefts h i d lt =
     go s here true e = subst (IsState a) (sym (h.tail s here e)) (lefts s here)
     go s here false e = subst (IsState a) (sym (h.other s here e)) (omega arith)
 
--- an outline's drawing
-module _ (a : Automaton) (p : PatternStates) (t : PointTable) (b : Owned) (is : IsTableOf a p t) (leaf : State → Bool) (start : State) (o : PointOutline) (w : IsOutline p t b leaf start o) where
-  pub drawn_longer : point_count t ≤ length o.drawing
-  drawn_longer = decide (point_count t) refl
-    where
-      decide : (n : ℕ) → n ≡ point_count t → point_count t ≤ length o.drawing
-      decide zero e = omega arith
-      decide (suc n) e =
-          let s : State = record { number = n } in
-          let last : IsState o.drawing s = w.grows.states s (omega (arith, w.drawn.sized, is.expanded.whole.count)) in
-          omega arith
+-- a drawing of the points
+module _ (a : Automaton) (p : PatternStates) (t : PointTable) (is : IsTableOf a p t) (drawing : Automaton) (drawn : IsDrawing p t drawing) where
+  pub drawn_count : length drawing ≡ point_count t
+  drawn_count = omega (arith, drawn.sized, is.expanded.whole.count)
 
-  pub drawn_leads : (s : State) → s.number < point_count t → LeadsBelow (point_count t) (moves_at o.drawing s)
-  drawn_leads s lt =
-      let here : IsState w.drawing s = omega (arith, lt, w.drawn.sized, is.expanded.whole.count) in
-      let count : length w.drawing ≡ point_count t = omega (arith, w.drawn.sized, is.expanded.whole.count) in
-      subst (λ (m : StateMoves). LeadsBelow (point_count t) m) (sym (w.grows.moves s here)) (subst (λ n. LeadsBelow n (moves_at w.drawing s)) count (moves_at-closed w.drawing s w.closed here))
+  pub drawn_leads : IsClosed drawing → (s : State) → s.number < point_count t → LeadsBelow (point_count t) (moves_at drawing s)
+  drawn_leads closed s lt = subst (λ n. LeadsBelow n (moves_at drawing s)) drawn_count (moves_at-closed drawing s closed (omega (arith, lt, drawn_count)))
 
-  pub ahead_points : All (λ s. s.number < point_count t) o.ahead.items
-  ahead_points i d lt =
-      let here = all_states w.drawing o.ahead.items w.searched.states i d lt in
-      omega (arith, here, w.drawn.sized, is.expanded.whole.count)
+  pub ahead_points : (b : Owned) (leaf : State → Bool) (start : State) (free : State → Bool) (ahead : List State) → IsOutline p t b leaf drawing start free ahead → All (λ s. s.number < point_count t) ahead
+  ahead_points b leaf start free ahead w i d lt = let here = all_states drawing ahead w.searched.states i d lt in omega (arith, here, drawn_count)
 
 -- the state that accepts what those of the points ahead do
-pub given_here : (a mid new : Automaton) (p : PatternStates) (t : PointTable) (b : Owned) (known : List (Option LeastDocument)) (start : State) (o : PointOutline) (places blocks states : List State) (first : State)
+pub given_here : (a mid new : Automaton) (p : PatternStates) (t : PointTable) (b : Owned) (known : List (Option LeastDocument)) (start : State) (drawing : Automaton) (free : List Bool) (ahead places blocks states : List State) (first : State)
     → IsTableOf a p t → ServePoints a p → LeavesOutAlike p b → KnowsLefts a t known → start.number < point_count t → KeepsTogether p.auto b (pattern_of t start)
-    → IsOutline p t b (leaf_free a t b known) start o → ArePlaces a p t places → AreBlocks p t b (length a) blocks → IsClosed a → Extends a mid
-    → AreFilled (point_moves t b) o.drawing places blocks (mark_of 0 o.free.items) (length a) (point_count t) mid → states ≡ map (there blocks) o.ahead.items
+    → IsDrawing p t drawing → IsOutline p t b (leaf_free a t b known) drawing start (is_marked free) ahead → ArePlaces a p t places → AreBlocks p t b (length a) blocks → IsClosed a → Extends a mid
+    → AreFilled (point_moves t b) drawing places blocks (is_marked free) (length a) (point_count t) mid → states ≡ map (there blocks) ahead
     → ((d : Document) → accepts new d first ≡ list_any (accepts mid d) states) → AcceptsGivenAt a p t b start new first
-given_here a mid new p t b known start o places blocks states first is serve alike knows begins together w at are closed more filled states_are united =
+given_here a mid new p t b known start drawing free ahead places blocks states first is serve alike knows begins together drawn w at are closed more filled states_are united =
     given_law a p t b is serve alike (leaf_free a t b known) (leaf_some a p t b is serve alike known knows.documents knows.knows knows.lefts) (leaf_none a p t b is serve alike known knows.documents knows.knows knows.lefts)
-    start begins o w places blocks (length a) mid
+    start begins drawing drawn (is_marked free) ahead w places blocks (length a) mid
     (λ s d lt. keeps a mid closed more d (there places s) (at.belong s lt) ∙ at.means s d lt)
     (λ s d lt. keeps a mid closed more d (left_of t s) (left_state a p t s is lt))
-    are
-    (λ s lt.
-    let here : IsState w.drawing s = omega (arith, lt, w.drawn.sized, is.expanded.whole.count) in
-    filled s lt
-    ∙ ap (λ (m : StateMoves). side_moves (point_moves t b) true (there places) (there blocks) s m (mark_of 0 o.free.items s)) (w.grows.moves s here)
-    ∙ ap (λ v. side_moves (point_moves t b) true (there places) (there blocks) s (moves_at w.drawing s) v) (w.marks s lt))
-    together new first
-    (λ d. united d ∙ ap (λ (ss : List State). list_any (accepts mid d) ss) states_are ∙ any_of_map (there blocks) (accepts mid d) o.ahead.items)
+    are filled together new first
+    (λ d. united d ∙ ap (λ (ss : List State). list_any (accepts mid d) ss) states_are ∙ any_of_map (there blocks) (accepts mid d) ahead)
 
 -- a state that was added without moves accepts nothing
 pub nothing_accepted : (old new : Automaton) (s : State) → s.number ≡ length old → new ≡ old ++ no_moves false ∷ [] → (d : Document) → accepts new d s ≡ false

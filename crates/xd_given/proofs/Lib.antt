@@ -2,7 +2,8 @@ pub mod TraceLemmas
 pub mod PointTraces
 pub mod FreeLaw
 pub mod BlockLaw
-pub mod OutlineLemmas
+pub mod DrawingLemmas
+pub mod FreeLemmas
 pub mod FillLemmas
 pub mod StayLemmas
 pub mod GivenLemmas

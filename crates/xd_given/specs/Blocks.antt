@@ -1,4 +1,4 @@
--- States of the blocks of a variable. Of these only private contracts and proofs speak.
+-- States of the blocks of a variable.
 use Rattle.std.specs.Prelude.{◌≡◌, ℕ, ◌<◌, ◌≤◌, ◌&&◌, Bool, true, false, List, length, slice_index_or, Option, Some, None}
 use Rattle.xd_doc.specs.Document.{Document}
 use Rattle.xd_auto.specs.declared.auto.State.{State}

@@ -1,4 +1,4 @@
--- What is known of the lefts of points. Of this only private contracts speak.
+-- What is known of the lefts of points.
 use Rattle.std.specs.Prelude.{◌<◌, List, Option, length}
 use Rattle.xd_doc.specs.Document.{Document}
 use Rattle.xd_auto.specs.declared.auto.State.{State}

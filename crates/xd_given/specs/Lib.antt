@@ -1,7 +1,9 @@
 pub mod Owning
 pub mod Given
 pub mod Traced
+pub mod Free
 pub mod Outline
 pub mod Blocks
 pub mod Known
 pub mod Alike
+pub mod Belonging

@@ -1,5 +1,4 @@
--- Runs of a pattern through points, by their traces. Of these only private contracts and proofs
--- speak.
+-- Runs of a pattern through points, by their traces.
 use Rattle.std.specs.Prelude.{◌≡◌, ◌⊎◌, ◌↔◌, ℕ, ◌<◌, true, false, List, length, slice_get, slice_index_or, Some}
 use Rattle.xd_doc.specs.Document.{Document, empty, text, element, is_proper}
 use Rattle.xd_auto.specs.declared.auto.State.{State}

@@ -3,95 +3,162 @@
 ghost use Rattle.std.specs.Prelude.{◌≡◌, ◌<◌, ℕ, ◌+◌, ◌≤◌, Bool, false, true, IfOk, length};
 ghost use Rattle.xd_auto.specs.declared.auto.State.{State as StateView};
 ghost use Rattle.xd_auto.specs.Automaton.{IsState, state_number};
-ghost use Rattle.xd_bind.specs.Blocks.{is_side};
 ghost use Rattle.xd_empty.specs.Parts.{is_marked};
-ghost use Rattle.xd_given.specs.Alike.{IsAlike, IsAlikeFor, IsAlikeSet, IsIn, alike_label, alike_text, begins, marked_count};
+ghost use Rattle.xd_given.specs.Alike.{IsAlikeFor, IsAlikeSet, IsIn, marked_count};
+ghost use Rattle.xd_given.specs.Belonging.{BelongAlike, IsAlikeLabel, IsAlikeText, TheseBelongAlike, owns};
 ghost use Rattle.xd_given.specs.Owning.{GivesAlike};
 
 use crate::owner::owns_first;
+use crate::tells::TellsVariables;
 use std::alloc::Global;
 use xd_auto::{Auto, LabelMove, State, TextMove};
 use xd_bind::{Holds, MoveKind};
 use xd_boole::is_marked;
 use xd_doc::NoMemory;
 
-/// Whether a move belongs to a variable where it is to, and doesn't where it is not to.
-fn agrees(own: bool, holds: bool) -> bool
-    ensures { result ≡ is_side own holds }
-{
-    if own { holds } else { !holds }
+/// Moves of a state that may belong to variables.
+#[derive(Clone, Copy)]
+enum Moves {
+    /// The first on an element, and the first on a text.
+    First(State),
+    /// The one of this kind and number.
+    One(State, MoveKind, usize),
+    /// None at all.
+    Nothing,
 }
 
-/// Whether a marked state begins with moves of the variable, or with none.
-fn begins<H: Holds>(owner: &H, variable: usize, marks: &[bool], first: bool, state: State) -> bool
-    ensures { result ≡ begins (H.owned owner.now variable) (is_marked marks.now) first state }
+/// Whether one of the moves belongs to the variable.
+fn owns<H: Holds>(owner: &H, variable: usize, moves: Moves) -> bool
+    ensures { result ≡ owns (H.owned owner.now variable) moves }
 {
-    is_marked(marks, state) && agrees(first, owns_first(owner, variable, state))
-}
-
-/// Whether a move on an element is the variable's where the state's first one is, and the marked
-/// states that it leads to go on so.
-fn is_alike_label<H: Holds>(
-    owner: &H,
-    variable: usize,
-    marks: &[bool],
-    state: State,
-    number: usize,
-    step: &LabelMove,
-) -> bool
-    ensures { result ≡ alike_label (H.owned owner.now variable) (is_marked marks.now) state number step.now }
-{
-    let first = owns_first(owner, variable, state);
-    agrees(first, owner.holds(state, MoveKind::Label, number, variable))
-        && (begins(owner, variable, marks, false, step.content)
-            && begins(owner, variable, marks, first, step.rest))
-}
-
-/// The same on a text.
-fn is_alike_text<H: Holds>(
-    owner: &H,
-    variable: usize,
-    marks: &[bool],
-    state: State,
-    number: usize,
-    step: &TextMove,
-) -> bool
-    ensures { result ≡ alike_text (H.owned owner.now variable) (is_marked marks.now) state number step.now }
-{
-    let first = owns_first(owner, variable, state);
-    agrees(first, owner.holds(state, MoveKind::Text, number, variable))
-        && begins(owner, variable, marks, first, step.rest)
-}
-
-/// Whether all moves of a state are such.
-fn is_alike<H: Holds>(auto: &Auto, owner: &H, variable: usize, marks: &[bool], state: State) -> bool
-    requires { IsState auto.now state }
-    ensures alike { result ≡ true → IsAlike auto.now (H.owned owner.now variable) (is_marked marks.now) state }
-    ensures all { IsAlike auto.now (H.owned owner.now variable) (is_marked marks.now) state → result ≡ true }
-{
-    let labels = auto.label_moves(state);
-    for number in 0..labels.len() {
-        if !is_alike_label(owner, variable, marks, state, number, &labels[number]) {
-            return false;
-        }
+    match moves {
+        Moves::First(state) => owns_first(owner, variable, state),
+        Moves::One(state, kind, number) => owner.holds(state, kind, number, variable),
+        Moves::Nothing => false,
     }
-    let texts = auto.text_moves(state);
-    for place in 0..texts.len() {
-        if !is_alike_text(owner, variable, marks, state, place, &texts[place]) {
+}
+
+/// Whether each of these variables that is one of so many has one of both moves, or of neither.
+fn these_belong_alike<H: Holds>(
+    owner: &H,
+    variables: &[usize],
+    count: usize,
+    one: Moves,
+    two: Moves,
+) -> bool
+    ensures alike { result ≡ true → TheseBelongAlike (H.owned owner.now) variables.now count one two }
+    ensures all { TheseBelongAlike (H.owned owner.now) variables.now count one two → result ≡ true }
+{
+    for variable in variables {
+        if *variable < count && owns(owner, *variable, one) != owns(owner, *variable, two) {
             return false;
         }
     }
     true
 }
 
-/// Whether they are for each variable.
-fn are_alike<H: Holds>(auto: &Auto, owner: &H, count: usize, marks: &[bool], state: State) -> bool
+/// Whether each variable does that is listed at some moves.
+fn listed_belong_alike<H: TellsVariables>(
+    owner: &H,
+    count: usize,
+    listed: Moves,
+    one: Moves,
+    two: Moves,
+) -> bool
+    ensures alike { result ≡ true → (x : ℕ) → x < count → owns (H.owned owner.now x) listed ≡ true → owns (H.owned owner.now x) one ≡ owns (H.owned owner.now x) two }
+    ensures all { BelongAlike (H.owned owner.now) count one two → result ≡ true }
+{
+    match listed {
+        Moves::First(state) => {
+            let labels = owner.variables(state, MoveKind::Label, 0);
+            let texts = owner.variables(state, MoveKind::Text, 0);
+            these_belong_alike(owner, labels, count, one, two)
+                && these_belong_alike(owner, texts, count, one, two)
+        }
+        Moves::One(state, kind, number) => {
+            let variables = owner.variables(state, kind, number);
+            these_belong_alike(owner, variables, count, one, two)
+        }
+        Moves::Nothing => true,
+    }
+}
+
+/// Whether each of so many variables has one of both moves, or of neither. Only those are looked at
+/// that are listed at the moves, since others have none of them.
+fn belong_alike<H: TellsVariables>(owner: &H, count: usize, one: Moves, two: Moves) -> bool
+    ensures alike { result ≡ true → BelongAlike (H.owned owner.now) count one two }
+    ensures all { BelongAlike (H.owned owner.now) count one two → result ≡ true }
+{
+    listed_belong_alike(owner, count, one, one, two)
+        && listed_belong_alike(owner, count, two, one, two)
+}
+
+/// Whether for each of so many variables a move on an element is the variable's where the state's
+/// first one is, and the marked states that it leads to go on so, with nothing of it in contents.
+fn is_alike_label<H: TellsVariables>(
+    owner: &H,
+    count: usize,
+    marks: &[bool],
+    state: State,
+    number: usize,
+    step: &LabelMove,
+) -> bool
+    ensures alike { result ≡ true → IsAlikeLabel (H.owned owner.now) count (is_marked marks.now) state number step.now }
+    ensures all { 0 < count → IsAlikeLabel (H.owned owner.now) count (is_marked marks.now) state number step.now → result ≡ true }
+{
+    if !is_marked(marks, step.content) || !is_marked(marks, step.rest) {
+        return false;
+    }
+    let first = Moves::First(state);
+    let own = Moves::One(state, MoveKind::Label, number);
+    belong_alike(owner, count, first, own)
+        && belong_alike(owner, count, first, Moves::First(step.rest))
+        && belong_alike(owner, count, Moves::Nothing, Moves::First(step.content))
+}
+
+/// The same on a text.
+fn is_alike_text<H: TellsVariables>(
+    owner: &H,
+    count: usize,
+    marks: &[bool],
+    state: State,
+    number: usize,
+    step: &TextMove,
+) -> bool
+    ensures alike { result ≡ true → IsAlikeText (H.owned owner.now) count (is_marked marks.now) state number step.now }
+    ensures all { 0 < count → IsAlikeText (H.owned owner.now) count (is_marked marks.now) state number step.now → result ≡ true }
+{
+    let first = Moves::First(state);
+    let own = Moves::One(state, MoveKind::Text, number);
+    is_marked(marks, step.rest)
+        && belong_alike(owner, count, first, own)
+        && belong_alike(owner, count, first, Moves::First(step.rest))
+}
+
+/// Whether all moves of a state are such.
+fn are_alike<H: TellsVariables>(
+    auto: &Auto,
+    owner: &H,
+    count: usize,
+    marks: &[bool],
+    state: State,
+) -> bool
     requires { IsState auto.now state }
     ensures alike { result ≡ true → IsAlikeFor auto.now (H.owned owner.now) count (is_marked marks.now) state }
     ensures all { IsAlikeFor auto.now (H.owned owner.now) count (is_marked marks.now) state → result ≡ true }
 {
-    for variable in 0..count {
-        if !is_alike(auto, owner, variable, marks, state) {
+    if count == 0 {
+        return true;
+    }
+    let labels = auto.label_moves(state);
+    for number in 0..labels.len() {
+        if !is_alike_label(owner, count, marks, state, number, &labels[number]) {
+            return false;
+        }
+    }
+    let texts = auto.text_moves(state);
+    for place in 0..texts.len() {
+        if !is_alike_text(owner, count, marks, state, place, &texts[place]) {
             return false;
         }
     }
@@ -99,7 +166,7 @@ fn are_alike<H: Holds>(auto: &Auto, owner: &H, count: usize, marks: &[bool], sta
 }
 
 /// Takes the mark of a state away whose moves aren't such, and says whether it did.
-fn unmark_state<H: Holds>(
+fn unmark_state<H: TellsVariables>(
     auto: &Auto,
     owner: &H,
     count: usize,
@@ -122,8 +189,8 @@ fn unmark_state<H: Holds>(
     true
 }
 
-/// Does so for each state, and says whether any mark is gone.
-fn unmark<H: Holds>(auto: &Auto, owner: &H, count: usize, marks: &mut Vec<bool>) -> bool
+/// Does so for each state, from the last one on, and says whether any mark is gone.
+fn unmark<H: TellsVariables>(auto: &Auto, owner: &H, count: usize, marks: &mut Vec<bool>) -> bool
     requires { length marks.old.items ≡ length auto.now }
     ensures sized { length marks.new.items ≡ length auto.now }
     ensures kept { (set : StateView → Bool) → IsAlikeSet auto.now (H.owned owner.now) count set → IsIn set (is_marked marks.old.items) → IsIn set (is_marked marks.new.items) }
@@ -131,8 +198,9 @@ fn unmark<H: Holds>(auto: &Auto, owner: &H, count: usize, marks: &mut Vec<bool>)
     ensures counted { result ≡ true → marked_count marks.new.items < marked_count marks.old.items }
 {
     let mut changed = false;
-    for number in 0..auto.len() {
-        let state = auto.state(number);
+    let states = auto.len();
+    for done in 0..states {
+        let state = auto.state(states - 1 - done);
         if unmark_state(auto, owner, count, marks, state) {
             changed = true;
         }
@@ -146,9 +214,11 @@ fn unmark<H: Holds>(auto: &Auto, owner: &H, count: usize, marks: &mut Vec<bool>)
 ///
 /// Where such states accept everything they may be left out of points
 /// ([`bindings`](crate::bindings)). Each pass over the marked states takes the time of their moves
-/// for each variable; there are as many passes as states that lead one after another to one that
-/// isn't such, and mostly few.
-pub fn alike_states<H: Holds>(
+/// for the variables that are listed at a move and at the first moves before and after it, however
+/// many others there are. A pass goes from the last state to the first. What a state leads to mostly
+/// has a higher number, so few passes mostly do; at most there are as many as states that lead one
+/// after another to one that isn't such.
+pub fn alike_states<H: TellsVariables>(
     alloc: Global,
     auto: &Auto,
     owner: &H,

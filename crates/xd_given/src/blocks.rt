@@ -5,12 +5,11 @@ ghost use Rattle.std.specs.List.{All};
 ghost use Rattle.xd_auto.specs.declared.auto.State.{State as StateView};
 ghost use Rattle.xd_auto.specs.Automaton.{Extends, IsState, LeadsBelow, moves_at, state_number};
 ghost use Rattle.xd_bind.specs.Blocks.{StaysBelow, labels_of_side, texts_of_side};
-ghost use Rattle.xd_bind.specs.Marks.{mark_of};
+ghost use Rattle.xd_empty.specs.Parts.{is_marked};
 ghost use Rattle.xd_points.specs.Tables.{left_of, point_count};
 ghost use Rattle.xd_given.specs.Blocks.{AreBlocks, AreFilled, IsFilledTo, there};
 ghost use Rattle.xd_given.specs.Owning.{point_moves};
 
-use crate::outline::PointOutline;
 use crate::owner::{PointOwner, is_tail};
 use std::alloc::Global;
 use xd_auto::{Auto, LabelMove, State, TextMove};
@@ -140,32 +139,23 @@ pub(crate) fn add_blocks<H: Holds>(
     auto: &mut Auto,
     of: &PointOwner<H>,
     variable: usize,
-    outline: &PointOutline,
+    free: &[bool],
     places: &[State],
 ) -> Result<Vec<State>, NoMemory>
-    requires count { length outline.now.free.items ≡ point_count of.now.table.now }
-    requires drawing { point_count of.now.table.now ≤ length outline.now.drawing }
+    requires count { length free.now ≡ point_count of.now.table.now }
+    requires drawing { point_count of.now.table.now ≤ length of.now.drawing.now }
     requires room { length places.now ≡ point_count of.now.table.now }
     requires places { All (IsState auto.old) places.now }
     requires lefts { (s : StateView) → state_number s < point_count of.now.table.now → IsState auto.old (left_of of.now.table.now s) }
-    requires leads { (s : StateView) → state_number s < point_count of.now.table.now → LeadsBelow (point_count of.now.table.now) (moves_at outline.now.drawing s) }
+    requires leads { (s : StateView) → state_number s < point_count of.now.table.now → LeadsBelow (point_count of.now.table.now) (moves_at of.now.drawing.now s) }
     ensures blocks { IfOk result (λ blocks. AreBlocks of.now.patterns.now of.now.table.now (H.owned of.now.owner.now variable) (length auto.old) blocks.items) }
     ensures belong { IfOk result (λ blocks. All (IsState auto.new) blocks.items) }
-    ensures filled { IfOk result (λ blocks. AreFilled (point_moves of.now.table.now (H.owned of.now.owner.now variable)) outline.now.drawing places.now blocks.items (mark_of 0 outline.now.free.items) (length auto.old) (point_count of.now.table.now) auto.new) }
+    ensures filled { IfOk result (λ blocks. AreFilled (point_moves of.now.table.now (H.owned of.now.owner.now variable)) of.now.drawing.now places.now blocks.items (is_marked free.now) (length auto.old) (point_count of.now.table.now) auto.new) }
     ensures extends { Extends auto.old auto.new }
 {
     let base = auto.len();
-    add_states(auto, &outline.free)?;
+    add_states(auto, free)?;
     let blocks = blocks_of(alloc, auto, of, variable, base)?;
-    fill_blocks(
-        alloc,
-        auto,
-        &outline.drawing,
-        of,
-        variable,
-        places,
-        &blocks,
-        base,
-    )?;
+    fill_blocks(alloc, auto, of.drawing, of, variable, places, &blocks, base)?;
     Ok(blocks)
 }

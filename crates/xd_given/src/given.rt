@@ -14,11 +14,12 @@ ghost use Rattle.xd_points.specs.Tables.{IsTableOf, pattern_of, point_count, tak
 ghost use Rattle.xd_given.specs.Blocks.{ArePlaces, there};
 ghost use Rattle.xd_given.specs.Given.{AreGivensAlone, IsSharedAlone};
 ghost use Rattle.xd_given.specs.Known.{KnowsLefts};
+ghost use Rattle.xd_given.specs.Outline.{IsDrawing};
 ghost use Rattle.xd_given.specs.Owning.{LeavesOutAlike};
 ghost use Rattle.xd_given.specs.Traced.{AcceptsGivenAt, AreGivensAt};
 
 use crate::blocks::add_blocks;
-use crate::outline::outline;
+use crate::outline::{draw, outline};
 use crate::owner::PointOwner;
 use crate::union::union_of;
 use std::alloc::Global;
@@ -72,6 +73,7 @@ fn given_of<H: Holds>(
 ) -> Result<State, NoMemory>
     requires table { IsTableOf auto.old of.now.patterns.now of.now.table.now }
     requires patterns { ServePoints auto.old of.now.patterns.now }
+    requires drawing { IsDrawing of.now.patterns.now of.now.table.now of.now.drawing.now }
     requires known { KnowsLefts auto.old of.now.table.now known.now }
     requires places { ArePlaces auto.old of.now.patterns.now of.now.table.now places.now }
     requires start { state_number start < point_count of.now.table.now }
@@ -82,8 +84,9 @@ fn given_of<H: Holds>(
     ensures extends { Extends auto.old auto.new }
 {
     let _states = auto.len();
+    let _points = of.drawing.len();
     let outline = outline(alloc, auto, of, known, variable, start)?;
-    let blocks = add_blocks(alloc, auto, of, variable, &outline, places)?;
+    let blocks = add_blocks(alloc, auto, of, variable, &outline.free, places)?;
     let _length = auto.len();
     let states = states_of(alloc, &outline.ahead, &blocks)?;
     let first = union_of(auto, &states)?;
@@ -102,6 +105,7 @@ fn add_givens<H: Holds>(
 ) -> Result<Vec<Given>, NoMemory>
     requires table { IsTableOf auto.old of.now.patterns.now of.now.table.now }
     requires patterns { ServePoints auto.old of.now.patterns.now }
+    requires drawing { IsDrawing of.now.patterns.now of.now.table.now of.now.drawing.now }
     requires known { KnowsLefts auto.old of.now.table.now known.now }
     requires places { ArePlaces auto.old of.now.patterns.now of.now.table.now places.now }
     requires start { state_number start < point_count of.now.table.now }
@@ -172,11 +176,13 @@ pub fn bindings<H: Holds>(
         return Ok(None);
     };
     known.stays_known();
+    let drawing = draw(alloc, &table, patterns)?;
     let places = places_of(alloc, auto, &table)?;
     let _more = auto.len();
     let of = PointOwner {
         table: &table,
         patterns,
+        drawing: &drawing,
         owner,
     };
     let givens = add_givens(alloc, auto, &of, known, &places, variables, start)?;

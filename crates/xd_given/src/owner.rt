@@ -12,10 +12,12 @@ use xd_bind::{Holds, MoveKind};
 use xd_least::LeastInhabitants;
 use xd_points::{PatternStates, PointTable};
 
-/// Points, and what says which moves of their pattern belong to which variables.
+/// Points and their moves, and what says which moves of their pattern belong to which variables.
 pub(crate) struct PointOwner<'a, H: Holds> {
     pub(crate) table: &'a PointTable,
     pub(crate) patterns: &'a PatternStates,
+    /// The points' moves; none where a point means what its left accepts.
+    pub(crate) drawing: &'a Auto,
     pub(crate) owner: &'a H,
 }
 
@@ -24,6 +26,7 @@ impl<H: Holds> Drop for PointOwner<'_, H> {
         let PointOwner {
             table: _,
             patterns: _,
+            drawing: _,
             owner: _,
         } = self;
     }

@@ -2,9 +2,9 @@ use Rattle.std.proofs.Common.{◌≡◌, ◌<◌, ◌-◌, ◌∙◌, ap, subst,
 use Rattle.std.proofs.lemmas.Option.{slice_get_read, slice_get_within}
 use Rattle.xd_auto.specs.Automaton.{IsState, moves_at}
 use Rattle.xd_bind.specs.Marks.{mark_of}
-use Rattle.xd_bind.specs.Shifts.{IsLayered, free_by}
+use Rattle.xd_bind.specs.Shifts.{IsLayered, free_at}
 use Rattle.xd_bind.specs.Search.{AreFollowed, Grows, HasMark, IsSearched, LeadsAhead}
-use Rattle.xd_bind.proofs.ShiftLemmas.{front_moves, layer_count, layer_lands, layer_leads}
+use Rattle.xd_bind.proofs.ShiftLemmas.{front_moves, layer_count, layer_leads}
 use Rattle.xd_bind.proofs.IsSearchLemmas.{Grows-trans, contents_marked, length-replicate, listed_within, none_marked, rests_marked, search_begun, search_more, searched, text_rests_marked, texts_kept}
 use Rattle.xd_bind.proofs.ahead.states_ahead.Goals as goal
 
@@ -18,7 +18,7 @@ pub loop-done-init : goal.loop-done-init
 loop-done-init g c =
     let a = take c.args.layer.end c.args.auto.now in
     let b = g.H.Holds.owned c.args.owner.now c.args.variable in
-    let base = c.args.aside.base in
+    let base = c.args.free.now.base in
     let size = c.args.layer.end - c.args.layer.base in
     let none = c.in_ok-vec.field-0.items in
     let layered = subst (λ n. IsLayered n a) (sym c.requires.base) c.requires.layer.layered in
@@ -28,7 +28,7 @@ loop-done-init g c =
     let has : HasMark base none c.args.layer.start =
     record { above = omega (arith, c.requires.base, c.requires.layer.above); below = omega (arith, long, c.requires.base, c.requires.layer.above, c.requires.layer.start) } in
     record {
-      search = search_begun a b base c.args.layer.start (free_by c.args.known.now c.args.aside) layered none _ _ has (omega (arith, long, count, c.requires.base, c.requires.layer.above, c.requires.layer.start))
+      search = search_begun a b base c.args.layer.start (free_at c.args.free.now.known.now c.args.free.now.base c.args.free.now.marks.now) layered none _ _ has (omega (arith, long, count, c.requires.base, c.requires.layer.above, c.requires.layer.start))
           (λ s. ap (λ ms. mark_of base ms s) zeros ∙ none_marked size (s.number - base))
           (rw c.new.ensures.items at c.in_ok-visit.ensures.grows) c.in_ok-visit.ensures.marked;
       within = omega arith;
@@ -47,7 +47,7 @@ visit_texts-requires-clause-rests g c =
     let v : vec_len c.loop-done.search.order ≡ length c.loop-done.search.order.items = search rules in
     let listed = listed_within _ _ _ _ _ _ _ _ _ c.loop-done.invariant.search (layer_count c.args.auto.now c.args.layer c.requires.layer) c.loop-done.done c.index-state.result.now (omega arith) c.index-state.ensures in
     let count = layer_count c.args.auto.now c.args.layer c.requires.layer in
-    text_rests_marked c.args.auto.now c.args.aside.base c.args.layer.end c.loop-done.search.marks.items s (subst (λ n. IsLayered n a) (sym c.requires.base) c.requires.layer.layered) c.requires.layer.within
+    text_rests_marked c.args.auto.now c.args.free.now.base c.args.layer.end c.loop-done.search.marks.items s (subst (λ n. IsLayered n a) (sym c.requires.base) c.requires.layer.layered) c.requires.layer.within
     (c.loop-done.invariant.search.sized ∙ count) listed.0.above listed.1 (layer_leads c.args.auto.now c.args.layer c.requires.layer s listed.1)
 
 pub visit_elements-requires-clause-state : goal.visit_elements-requires-clause-state
@@ -56,12 +56,10 @@ visit_elements-requires-clause-state g c =
     let listed = listed_within _ _ _ _ _ _ _ _ _ c.loop-done.invariant.search (layer_count c.args.auto.now c.args.layer c.requires.layer) c.loop-done.done c.index-state.result.now (omega arith) c.index-state.ensures in
     omega (arith, listed.1, c.requires.layer.within)
 
-pub visit_elements-requires-clause-lands : goal.visit_elements-requires-clause-lands
-visit_elements-requires-clause-lands g c =
-    let s = c.index-state.result.now in
-    let v : vec_len c.loop-done.search.order ≡ length c.loop-done.search.order.items = search rules in
-    let listed = listed_within _ _ _ _ _ _ _ _ _ c.loop-done.invariant.search (layer_count c.args.auto.now c.args.layer c.requires.layer) c.loop-done.done c.index-state.result.now (omega arith) c.index-state.ensures in
-    layer_lands c.args.auto.now c.args.layer c.requires.layer c.args.aside c.args.aside (length c.args.auto.now) s listed.1 c.requires.layer.within c.requires.room c.requires.room
+pub visit_elements-requires-clause-room : goal.visit_elements-requires-clause-room
+visit_elements-requires-clause-room g c =
+    let free = free_at c.args.free.now.known.now c.args.free.now.base c.args.free.now.marks.now in
+    omega (arith, c.loop-done.invariant.search.sized, layer_count c.args.auto.now c.args.layer c.requires.layer, (c.in_ok-visit_texts.ensures.grows free).sized, c.requires.base, c.requires.marks)
 
 pub visit_elements-requires-clause-contents : goal.visit_elements-requires-clause-contents
 visit_elements-requires-clause-contents g c =
@@ -70,8 +68,8 @@ visit_elements-requires-clause-contents g c =
     let v : vec_len c.loop-done.search.order ≡ length c.loop-done.search.order.items = search rules in
     let listed = listed_within _ _ _ _ _ _ _ _ _ c.loop-done.invariant.search (layer_count c.args.auto.now c.args.layer c.requires.layer) c.loop-done.done c.index-state.result.now (omega arith) c.index-state.ensures in
     let count = layer_count c.args.auto.now c.args.layer c.requires.layer in
-    contents_marked c.args.auto.now c.args.aside.base c.args.layer.end _ s (subst (λ n. IsLayered n a) (sym c.requires.base) c.requires.layer.layered) c.requires.layer.within
-    (omega (arith, c.in_ok-visit_texts.ensures.grows.sized, c.loop-done.invariant.search.sized, count)) listed.0.above listed.1 (layer_leads c.args.auto.now c.args.layer c.requires.layer s listed.1)
+    contents_marked c.args.auto.now c.args.free.now.base c.args.layer.end _ s (subst (λ n. IsLayered n a) (sym c.requires.base) c.requires.layer.layered) c.requires.layer.within
+    (omega (arith, (c.in_ok-visit_texts.ensures.grows (free_at c.args.free.now.known.now c.args.free.now.base c.args.free.now.marks.now)).sized, c.loop-done.invariant.search.sized, count)) listed.0.above listed.1 (layer_leads c.args.auto.now c.args.layer c.requires.layer s listed.1)
 
 pub visit_elements-requires-clause-rests : goal.visit_elements-requires-clause-rests
 visit_elements-requires-clause-rests g c =
@@ -80,16 +78,16 @@ visit_elements-requires-clause-rests g c =
     let v : vec_len c.loop-done.search.order ≡ length c.loop-done.search.order.items = search rules in
     let listed = listed_within _ _ _ _ _ _ _ _ _ c.loop-done.invariant.search (layer_count c.args.auto.now c.args.layer c.requires.layer) c.loop-done.done c.index-state.result.now (omega arith) c.index-state.ensures in
     let count = layer_count c.args.auto.now c.args.layer c.requires.layer in
-    rests_marked c.args.auto.now c.args.aside.base c.args.layer.end _ s (subst (λ n. IsLayered n a) (sym c.requires.base) c.requires.layer.layered) c.requires.layer.within
-    (omega (arith, c.in_ok-visit_texts.ensures.grows.sized, c.loop-done.invariant.search.sized, count)) listed.0.above listed.1 (layer_leads c.args.auto.now c.args.layer c.requires.layer s listed.1)
+    rests_marked c.args.auto.now c.args.free.now.base c.args.layer.end _ s (subst (λ n. IsLayered n a) (sym c.requires.base) c.requires.layer.layered) c.requires.layer.within
+    (omega (arith, (c.in_ok-visit_texts.ensures.grows (free_at c.args.free.now.known.now c.args.free.now.base c.args.free.now.marks.now)).sized, c.loop-done.invariant.search.sized, count)) listed.0.above listed.1 (layer_leads c.args.auto.now c.args.layer c.requires.layer s listed.1)
 
 pub loop-done-preserved : goal.loop-done-preserved
 loop-done-preserved g c =
     let a = take c.args.layer.end c.args.auto.now in
     let b = g.H.Holds.owned c.args.owner.now c.args.variable in
-    let base = c.args.aside.base in
+    let base = c.args.free.now.base in
     let s = c.index-state.result.now in
-    let free = free_by c.args.known.now c.args.aside in
+    let free = free_at c.args.free.now.known.now c.args.free.now.base c.args.free.now.marks.now in
     let moves = moves_at c.args.auto.now s in
     let v : vec_len c.loop-done.search.order ≡ length c.loop-done.search.order.items = search rules in
     let within : c.loop-done.done < length c.loop-done.search.order.items = omega arith in
@@ -98,7 +96,7 @@ loop-done-preserved g c =
     let below : s.number < c.args.layer.end = omega (arith, has.below, c.loop-done.invariant.search.sized, layer_count c.args.auto.now c.args.layer c.requires.layer) in
     let same = sym (front_moves c.args.layer.end c.args.auto.now s below) in
     let layered = subst (λ n. IsLayered n a) (sym c.requires.base) c.requires.layer.layered in
-    let g = Grows-trans base (LeadsAhead b base free s moves) _ _ _ _ _ _ c.in_ok-visit_texts.ensures.grows c.in_ok-visit_elements.ensures.grows in
+    let g = Grows-trans base (LeadsAhead b base free s moves) _ _ _ _ _ _ (c.in_ok-visit_texts.ensures.grows free) c.in_ok-visit_elements.ensures.grows in
     let f : AreFollowed b base free s moves c.visit_elements.new.self.marks.items = record {
       texts = texts_kept b base free s moves _ _ _ _ _ c.in_ok-visit_elements.ensures.grows _ c.in_ok-visit_texts.ensures.marked;
       elements = c.in_ok-visit_elements.ensures.marked;
@@ -115,9 +113,15 @@ pub returns : goal.returns
 returns g c =
     let a = take c.args.layer.end c.args.auto.now in
     let b = g.H.Holds.owned c.args.owner.now c.args.variable in
-    let free = free_by c.args.known.now c.args.aside in
+    let free = free_at c.args.free.now.known.now c.args.free.now.base c.args.free.now.marks.now in
     let layered = subst (λ n. IsLayered n a) (sym c.requires.base) c.requires.layer.layered in
     let here : IsState a c.args.layer.start = omega (arith, layer_count c.args.auto.now c.args.layer c.requires.layer, c.requires.layer.start) in
-    subst (λ n. IsSearched a b n c.args.layer.start free c.loop-done.search.order.items) c.requires.base
-    (searched a b c.args.aside.base c.args.layer.start free layered c.loop-done.search.order.items c.loop-done.search.marks.items c.loop-done.done here (omega (arith, c.requires.base, c.requires.layer.above))
+    subst (λ n. IsSearched a b n c.args.layer.start (free_at c.args.free.now.known.now n c.args.free.now.marks.now) c.loop-done.search.order.items) c.requires.base
+    (searched a b c.args.free.now.base c.args.layer.start free layered c.loop-done.search.order.items c.loop-done.search.marks.items c.loop-done.done here (omega (arith, c.requires.base, c.requires.layer.above))
     (omega (arith, c.len.ensures)) c.loop-done.invariant.search)
+
+pub loop-done-smaller : goal.loop-done-smaller
+loop-done-smaller g c =
+    let free = free_at c.args.free.now.known.now c.args.free.now.base c.args.free.now.marks.now in
+    let v : vec_len c.loop-done.search.order ≡ length c.loop-done.search.order.items = search rules in
+    omega (arith, (c.in_ok-visit_texts.ensures.grows free).counted, c.in_ok-visit_elements.ensures.grows.counted, c.loop-done-test.true)

@@ -1,7 +1,7 @@
 use Rattle.std.proofs.Common.{◌+◌, ◌-◌, refl, arith, length}
 use Rattle.xd_bind.specs.declared.shift.Shift.{Shift}
 use Rattle.xd_bind.specs.Shifts.{free_by}
-use Rattle.xd_bind.proofs.IsProjectionLemmas.{ahead_lands, ahead_states, alone_of}
+use Rattle.xd_bind.proofs.IsProjectionLemmas.{ahead_lands, ahead_states, alone_of, found_by}
 use Rattle.xd_bind.proofs.ShiftLemmas.{extends_longer, extends_trans, layer_lands, shifted_lands}
 use Rattle.xd_bind.proofs.projecting.add_alone.Goals as goal
 
@@ -17,17 +17,19 @@ is_free-last-requires g c =
 pub add_first-requires-clause-ahead : goal.add_first-requires-clause-ahead
 add_first-requires-clause-ahead g c =
     let b = g.H.Holds.owned c.args.owner.now c.args.variable in
-    rw c.deref-2.ensures.value
-    (ahead_states c.args.auto.now c.args.layer c.requires.layer b (free_by c.args.known.now c.args.aside) c.in_ok-ahead.ahead.items c.add_part.new.auto c.in_ok-add_part.ensures.extends c.in_ok-ahead.ensures)
+    let found = found_by c.args.auto.now c.args.layer c.requires.layer b c.in_ok-free.free.items c.args.known.now c.args.aside c.in_ok-ahead.ahead.items c.requires.base c.in_ok-free.ensures.free (rw c.deref.ensures.value at c.in_ok-ahead.ensures) in
+    rw c.deref-3.ensures.value
+    (ahead_states c.args.auto.now c.args.layer c.requires.layer b (free_by c.args.known.now c.args.aside) c.in_ok-ahead.ahead.items c.add_part.new.auto c.in_ok-add_part.ensures.extends found)
 
 pub add_first-requires-clause-lands : goal.add_first-requires-clause-lands
 add_first-requires-clause-lands g c =
     let b = g.H.Holds.owned c.args.owner.now c.args.variable in
     let onto : Shift = record { base = c.args.layer.base; end = c.args.layer.end; by = c.len.result - c.args.layer.base } in
     let longer = extends_longer c.args.auto.now c.add_part.new.auto c.in_ok-add_part.ensures.extends in
-    rw c.deref-2.ensures.value
+    let found = found_by c.args.auto.now c.args.layer c.requires.layer b c.in_ok-free.free.items c.args.known.now c.args.aside c.in_ok-ahead.ahead.items c.requires.base c.in_ok-free.ensures.free (rw c.deref.ensures.value at c.in_ok-ahead.ensures) in
+    rw c.deref-3.ensures.value
     (ahead_lands c.args.auto.now c.args.layer c.requires.layer b (free_by c.args.known.now c.args.aside) c.in_ok-ahead.ahead.items c.args.aside onto c.add_part.new.auto c.in_ok-add_part.ensures.extends
-    (omega (arith, c.requires.room)) (omega (arith, c.in_ok-add_part.ensures.ok.states)) c.in_ok-ahead.ensures)
+    (omega (arith, c.requires.room)) (omega (arith, c.in_ok-add_part.ensures.ok.states)) found)
 
 pub returns-in_err-first-clause-extends : goal.returns-in_err-first-clause-extends
 returns-in_err-first-clause-extends g c = extends_trans c.args.auto.now c.add_part.new.auto c.add_first.new.auto c.in_ok-add_part.ensures.extends c.in_err-first.ensures.extends
@@ -39,7 +41,8 @@ pub returns-clause-alone : goal.returns-clause-alone
 returns-clause-alone g c =
     let b = g.H.Holds.owned c.args.owner.now c.args.variable in
     let onto : Shift = record { base = c.args.layer.base; end = c.args.layer.end; by = c.len.result - c.args.layer.base } in
+    let found = found_by c.args.auto.now c.args.layer c.requires.layer b c.in_ok-free.free.items c.args.known.now c.args.aside c.in_ok-ahead.ahead.items c.requires.base c.in_ok-free.ensures.free (rw c.deref.ensures.value at c.in_ok-ahead.ensures) in
     alone_of c.args.auto.now c.args.layer c.requires.layer b c.args.aside onto c.args.variable c.in_ok-free.free.items (free_by c.args.known.now c.args.aside) c.in_ok-ahead.ahead.items c.is_free-last.result
     c.add_part.new.auto c.add_first.new.auto c.in_ok-first.first refl refl
-    (rw c.deref.ensures.value at c.in_ok-add_part.ensures.ok) c.in_ok-free.ensures.free c.in_ok-ahead.ensures
-    (rw c.deref-2.ensures.value at c.in_ok-first.ensures.first) c.is_free-last.ensures
+    (rw c.deref-2.ensures.value at c.in_ok-add_part.ensures.ok) c.in_ok-free.ensures.free found
+    (rw c.deref-3.ensures.value at c.in_ok-first.ensures.first) c.is_free-last.ensures

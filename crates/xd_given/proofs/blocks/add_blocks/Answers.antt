@@ -13,8 +13,8 @@ fill_blocks-requires-clause-blocks g c =
     let b = g.H.Holds.owned c.args.of.now.owner.now c.args.variable in
     let more = c.in_ok-add_states.ensures in
     let room : c.len-base.result + point_count t ≤ length c.add_states.new.auto =
-    omega (arith, ap length more.ok, length-append c.args.auto.now (map no_moves c.deref.result.now), length-map c.deref.result.now no_moves, ap length c.deref.ensures.value, c.requires.count, c.len-base.ensures.value) in
-    rw c.deref-2.ensures.value
+    omega (arith, ap length more.ok, length-append c.args.auto.now (map no_moves c.args.free.now), length-map c.args.free.now no_moves, c.requires.count, c.len-base.ensures.value) in
+    rw c.deref.ensures.value
     (blocks_belong c.add_states.new.auto p t b c.len-base.result c.in_ok-blocks.blocks.items room (λ s lt. more.extends.states _ (c.requires.lefts s lt)) c.in_ok-blocks.ensures)
 
 pub returns-clause-belong : goal.returns-clause-belong
@@ -24,6 +24,6 @@ returns-clause-belong g c =
     let b = g.H.Holds.owned c.args.of.now.owner.now c.args.variable in
     let more = c.in_ok-add_states.ensures in
     let room : c.len-base.result + point_count t ≤ length c.add_states.new.auto =
-    omega (arith, ap length more.ok, length-append c.args.auto.now (map no_moves c.deref.result.now), length-map c.deref.result.now no_moves, ap length c.deref.ensures.value, c.requires.count, c.len-base.ensures.value) in
+    omega (arith, ap length more.ok, length-append c.args.auto.now (map no_moves c.args.free.now), length-map c.args.free.now no_moves, c.requires.count, c.len-base.ensures.value) in
     states_of_same c.add_states.new.auto c.fill_blocks.new.auto c.in_ok-blocks.blocks.items c.in_ok-fill_blocks.ensures.filled.states
     (blocks_belong c.add_states.new.auto p t b c.len-base.result c.in_ok-blocks.blocks.items room (λ s lt. more.extends.states _ (c.requires.lefts s lt)) c.in_ok-blocks.ensures)

@@ -1,49 +1,58 @@
-use Rattle.std.proofs.Common.{◌≡◌, ◌∙◌, ap, sym, refl, true, false, Some, get_or, [], length, arith}
+use Rattle.std.proofs.Common.{◌≡◌, ◌∙◌, ap, sym, refl, Bool, true, false, Some, length, arith}
 use Rattle.std.specs.List.{slice_get}
-use Rattle.std.proofs.lemmas.Option.{slice_get-get_or, slice_get_read}
+use Rattle.std.proofs.lemmas.Option.{slice_get_read}
+use Rattle.xd_auto.specs.declared.auto.State.{State}
 use Rattle.xd_auto.specs.declared.auto.TextMove.{TextMove}
 use Rattle.xd_auto.specs.Automaton.{moves_at}
-use Rattle.xd_bind.specs.Shifts.{free_by}
 use Rattle.xd_bind.specs.Search.{HasMark, IsTextFollowed, LeadsAhead, over_text}
 use Rattle.xd_bind.proofs.IsSearchLemmas.{IsTextFollowed-kept, mark_kept, of_read, visit_more, visit_past}
 use Rattle.xd_bind.proofs.ahead.Search.visit_texts.Goals as goal
-use Rattle.xd_bind.proofs.ahead.Search.visit_texts.Goals.{then-not-holds+in_ok-visit_text_move, else-not-holds}
+use Rattle.xd_bind.proofs.ahead.Search.visit_texts.Goals.{then-not-has_text_move+then-not-holds+in_ok-visit_text_move, then-not-has_text_move+else-not-holds, else-not-has_text_move}
 
--- any move
-abbrev some_move : TextMove
-some_move = record { words = record { names = []; except = true }; rest = record { number = 0 } }
+-- no state is free
+abbrev no_free : State → Bool
+no_free s = false
 
 pub loop-number-preserved : goal.loop-number-preserved
-loop-number-preserved g c =
+loop-number-preserved g c free =
     let moves = moves_at c.args.auto.now c.args.state in
-    let base = c.args.aside.base in
+    let base = c.args.base in
     let b = g.H.Holds.owned c.args.owner.now c.args.variable in
     let s = c.args.state in
-    let free = free_by c.args.known.now c.args.aside in
     let i = c.loop-number.number in
     let xs = c.text_moves-moves.result.now in
-    let same = ap (λ ls. slice_get ls i) (sym c.text_moves-moves.ensures.value) in
-    elim c.if-not-holds.branch [
-      | then-not-holds+in_ok-visit_text_move w ↦
-          let m = w.index-moves-number.result in
-          let there : slice_get moves.texts i ≡ Some m = same ∙ slice_get_read xs (length xs) i m refl c.loop-number-test.true w.index-moves-number.is in
-          let own : b.text s i ≡ false = sym c.holds.ensures ∙ w.if-not-holds.true in
+    let m = c.index-moves-number.result in
+    let there : slice_get moves.texts i ≡ Some m = ap (λ ls. slice_get ls i) (sym c.text_moves-moves.ensures.value) ∙ slice_get_read xs (length xs) i m refl c.loop-number-test.true c.index-moves-number.is in
+    elim c.if-not-has_text_move.branch [
+      | then-not-has_text_move+then-not-holds+in_ok-visit_text_move w ↦
+          let own : b.text s i ≡ false = sym w.holds.ensures ∙ w.if-not-holds.true in
           let grows = w.in_ok-visit_text_move.ensures.grows in
           rw w.self-is (visit_more base (LeadsAhead b base free s moves) (b.text s) (λ ms. IsTextFollowed base ms) moves.texts _ _ _ _ _ _ _ i m there (λ v. IsTextFollowed-kept base _ _ _ _ _ v grows)
-          (λ t e. over_text i m there own (sym e)) grows w.in_ok-visit_text_move.ensures.marked c.loop-number.invariant)
-      | else-not-holds w ↦
-          let m : TextMove = get_or xs i some_move in
-          let there : slice_get moves.texts i ≡ Some m = same ∙ slice_get-get_or xs i some_move c.loop-number-test.true in
-          rw w.self-is (visit_past base (LeadsAhead b base free s moves) (b.text s) (λ ms. IsTextFollowed base ms) moves.texts _ _ _ _ i m there (sym c.holds.ensures ∙ w.if-not-holds.false) c.loop-number.invariant)
+          (λ t e. over_text i m there own (sym e)) grows w.in_ok-visit_text_move.ensures.marked (c.loop-number.invariant free))
+      | then-not-has_text_move+else-not-holds w ↦
+          rw w.self-is (visit_past base (LeadsAhead b base free s moves) (b.text s) (λ ms. IsTextFollowed base ms) moves.texts _ _ _ _ i m there
+          (λ own. absurd (let both : true ≡ false = sym w.if-not-holds.false ∙ w.holds.ensures ∙ own in cc)) (c.loop-number.invariant free))
+      | else-not-has_text_move w ↦
+          rw w.self-is
+          (visit_past base (LeadsAhead b base free s moves) (b.text s) (λ ms. IsTextFollowed base ms) moves.texts _ _ _ _ i m there (λ own. c.has_text_move.ensures w.if-not-has_text_move.false) (c.loop-number.invariant free))
     ]
+
+pub has_text_move-requires : goal.has_text_move-requires
+has_text_move-requires g c =
+    mark_kept c.args.base _ _ _ (c.loop-number.invariant no_free).grows.sized
+    (of_read (λ (w : TextMove). HasMark c.args.base c.args.self.now.marks.items w.rest) c.text_moves-moves.result.now _ c.loop-number.number c.index-moves-number.result c.text_moves-moves.ensures.value c.loop-number-test.true
+    c.index-moves-number.is c.requires.rests)
 
 pub visit_text_move-requires : goal.visit_text_move-requires
 visit_text_move-requires g c =
-    mark_kept c.args.aside.base _ _ _ c.loop-number.invariant.grows.sized
-    (of_read (λ (w : TextMove). HasMark c.args.aside.base c.args.self.now.marks.items w.rest) c.text_moves-moves.result.now _ c.loop-number.number c.index-moves-number.result c.text_moves-moves.ensures.value
-    c.loop-number-test.true c.index-moves-number.is c.requires.rests)
+    mark_kept c.args.base _ _ _ (c.loop-number.invariant no_free).grows.sized
+    (of_read (λ (w : TextMove). HasMark c.args.base c.args.self.now.marks.items w.rest) c.text_moves-moves.result.now _ c.loop-number.number c.index-moves-number.result c.text_moves-moves.ensures.value c.loop-number-test.true
+    c.index-moves-number.is c.requires.rests)
+
+pub returns-clause-grows : goal.returns-clause-grows
+returns-clause-grows g c free = (c.loop-number.invariant free).grows
 
 pub returns-clause-marked : goal.returns-clause-marked
 returns-clause-marked g c n m l there own =
     let e = ap length c.text_moves-moves.ensures.value in
-    c.loop-number.invariant.marked n m (omega arith) there own
+    (c.loop-number.invariant no_free).marked n m (omega arith) there own

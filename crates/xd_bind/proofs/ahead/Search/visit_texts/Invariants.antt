@@ -1,5 +1,6 @@
+use Rattle.std.proofs.Common.{Bool}
+use Rattle.xd_auto.specs.declared.auto.State.{State}
 use Rattle.xd_auto.specs.Automaton.{moves_at}
-use Rattle.xd_bind.specs.Shifts.{free_by}
 use Rattle.xd_bind.specs.Search.{IsTextFollowed, IsVisiting, LeadsAhead}
 use Rattle.xd_bind.proofs.ahead.Search.visit_texts.Given as goal
 
@@ -7,5 +8,5 @@ abbrev pub invariant-loop-number : goal.invariant-loop-number
 invariant-loop-number g l =
     let b = g.H.Holds.owned l.owner l.variable in
     let moves = moves_at l.auto' l.state in
-    IsVisiting l.aside.base (LeadsAhead b l.aside.base (free_by l.known l.aside) l.state moves) (b.text l.state) (λ ms. IsTextFollowed l.aside.base ms) moves.texts l.initial.self.order.items l.initial.self.marks.items
-    l.self.order.items l.self.marks.items l.number
+    (free : State → Bool)
+    → IsVisiting l.base (LeadsAhead b l.base free l.state moves) (b.text l.state) (λ ms. IsTextFollowed l.base ms) moves.texts l.initial.self.order.items l.initial.self.marks.items l.self.order.items l.self.marks.items l.number
