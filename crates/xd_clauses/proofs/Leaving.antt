@@ -4,14 +4,14 @@ use Rattle.std.specs.List.{AllByRecursion}
 use Rattle.std.proofs.lemmas.List.Folds.{list_any-append}
 use Rattle.xd_doc.specs.Document.{Document}
 use Rattle.xd_auto.specs.declared.auto.State.{State}
-use Rattle.xd_auto.specs.Automaton.{Automaton, Extends, IsState, KeepsAccepting, accepts, moves_at}
+use Rattle.xd_auto.specs.Automaton.{Automaton, Extends, IsState, accepts, moves_at}
 use Rattle.xd_boole.proofs.Bools.{or_nothing}
-use Rattle.xd_boole.proofs.Lists.{all_map, all_push}
+use Rattle.xd_boole.proofs.Lists.{all_push}
 use Rattle.xd_boole.specs.Meaning.{any_accepts}
 use Rattle.xd_clauses.specs.Begins.{begins_so, may_begin}
 use Rattle.xd_clauses.specs.Behind.{AreWaiting, any_waiting}
-use Rattle.xd_clauses.specs.declared.begins.Begins.{Begins}
 use Rattle.xd_clauses.specs.declared.behind.Waiting.{Waiting}
+use Rattle.xd_clauses.specs.declared.compiled.CompiledPatterns.{CompiledPatterns}
 use Rattle.xd_clauses.proofs.BeginsLemmas.{accepts_begins}
 
 pub extends_then : (a b c : Automaton) → Extends a b → Extends b c → Extends a c
@@ -19,11 +19,6 @@ extends_then a b c f g = record {
   states = λ s h. g.states s (f.states s h);
   moves = λ s h. g.moves s (f.states s h) ∙ f.moves s h;
 }
-
--- states of an automaton that grew accept what they did
-pub any_kept : (a b : Automaton) → KeepsAccepting a b → (us : List State) → AllByRecursion (IsState a) us → (d : Document) → any_accepts b us d ≡ any_accepts a us d
-any_kept a b keeps [] h d = refl
-any_kept a b keeps (s ∷ us) h d = ap (λ w. w || any_accepts b us d) (keeps d s h.0) ∙ ap (λ w. accepts a d s || w) (any_kept a b keeps us h.1 d)
 
 pub any_push : (a : Automaton) (us : List State) (s : State) (d : Document) → any_accepts a (us ++ s ∷ []) d ≡ (any_accepts a us d || accepts a d s)
 any_push a us s d = list_any-append (λ w. accepts a d w) us (s ∷ []) ∙ ap (λ w. any_accepts a us d || w) (or_nothing (accepts a d s))
@@ -38,27 +33,24 @@ or_both false b true d f g h = refl
 or_both false b false d f g h = g h
 
 -- one pattern more waits
-module _ (old new : Waiting) (pattern : Automaton) (start s : State) (extends : Extends old.auto new.auto) (keeps : KeepsAccepting old.auto new.auto) (there : IsState new.auto s)
-    (same : (d : Document) → accepts new.auto d s ≡ accepts pattern d start) (starts : new.starts.items ≡ old.starts.items ++ s ∷ []) (waiting : AreWaiting old) where
-  pub waits_more : (d : Document) → any_waiting new d ≡ (any_waiting old d || accepts pattern d start)
-  waits_more d =
-      ap (λ us. any_accepts new.auto us d) starts ∙ any_push new.auto old.starts.items s d ∙ ap (λ w. w || accepts new.auto d s) (any_kept old.auto new.auto keeps old.starts.items waiting.starts d)
-      ∙ ap (λ w. any_waiting old d || w) (same d)
+module _ (m : CompiledPatterns) (old new : Waiting) (start : State) (there : IsState m.states.auto start) (starts : new.starts.items ≡ old.starts.items ++ start ∷ []) (waiting : AreWaiting m old) where
+  pub waits_more : (d : Document) → any_waiting m new d ≡ (any_waiting m old d || accepts m.states.auto d start)
+  waits_more d = ap (λ us. any_accepts m.states.auto us d) starts ∙ any_push m.states.auto old.starts.items start d
 
-  pub waiting_more : IsState new.begins.auto new.begins.state → ((d : Document) → begins_so new.begins d ≡ (begins_so old.begins d || may_begin (moves_at pattern start) d)) → AreWaiting new
+  pub waiting_more : IsState new.begins.auto new.begins.state → ((d : Document) → begins_so new.begins d ≡ (begins_so old.begins d || may_begin (moves_at m.states.auto start) d)) → AreWaiting m new
   waiting_more own begins = record {
-    starts = subst (AllByRecursion (IsState new.auto)) (sym starts) (all_push (IsState new.auto) old.starts.items s (all_map (IsState old.auto) (IsState new.auto) old.starts.items extends.states waiting.starts) there);
+    starts = subst (AllByRecursion (IsState m.states.auto)) (sym starts) (all_push (IsState m.states.auto) old.starts.items start waiting.starts there);
     own = own;
     begins = λ d h.
         begins d
-        ∙ or_both (any_waiting old d) (accepts pattern d start) (begins_so old.begins d) (may_begin (moves_at pattern start) d) (waiting.begins d) (accepts_begins pattern d start) (sym (waits_more d) ∙ h);
+        ∙ or_both (any_waiting m old d) (accepts m.states.auto d start) (begins_so old.begins d) (may_begin (moves_at m.states.auto start) d) (waiting.begins d) (accepts_begins m.states.auto d start) (sym (waits_more d) ∙ h);
   }
 
 -- a document that begins otherwise is taken by none
-pub waits_not : (w : Waiting) → AreWaiting w → (d : Document) → begins_so w.begins d ≡ false → any_waiting w d ≡ false
-waits_not w h d other = go (any_waiting w d) refl
+pub waits_not : (m : CompiledPatterns) (w : Waiting) → AreWaiting m w → (d : Document) → begins_so w.begins d ≡ false → any_waiting m w d ≡ false
+waits_not m w h d other = go (any_waiting m w d) refl
   where
-    go : (b : Bool) → any_waiting w d ≡ b → b ≡ false
+    go : (b : Bool) → any_waiting m w d ≡ b → b ≡ false
     go false e = refl
     go true e = absurd (let t = h.begins d e in let q : true ≡ false = sym t ∙ other in cc)
 

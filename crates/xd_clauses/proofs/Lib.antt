@@ -4,8 +4,10 @@ pub mod StableLemmas
 pub mod Alike
 pub mod HasUniversalLemmas
 pub mod OwnedLemmas
+pub mod ListedLemmas
 pub mod AreMayGivensLemmas
 pub mod NoneTakesLemmas
 pub mod Givens
 pub mod BeginsLemmas
 pub mod Leaving
+pub mod NumberedLemmas

@@ -1,4 +1,4 @@
--- What is left behind patterns.
+-- What is left after patterns.
 use Rattle.std.proofs.Common.{◌≡◌, ◌↔◌, ℕ, true, List, [], ◌∷◌, ◌++◌, refl, ap, sym, subst}
 use Rattle.xd_doc.specs.Document.{Document, is_proper}
 use Rattle.xd_syntax.specs.Tree.{Tree, Definitions}
@@ -39,7 +39,7 @@ passed_more E rows ids id A B C f g d =
 pub of_placed : (E : Definitions) (rows : List Row) (id : PatternId) (made : ClausePattern) → IsPatternOf E (pattern_tree rows id) made → IsPatternOf E (unplaced (placed_pattern rows id)) made
 of_placed E rows id made p = subst (λ (T : Tree). IsPatternOf E T made) (sym (unplaced_at rows id.at)) p
 
--- ---- where B is what is left of A behind the earlier patterns
+-- ---- where B is what is left of A after the earlier patterns
 
 module _ (E : Definitions) (A B : Document → Type 0) (earlier : List PlacedTree) (P : PlacedTree) (left : (d : Document) → B d ↔ (A d × NoneTakes E earlier d)) where
   arrives_on : (d : Document) → Arrives E B [] d → Arrives E A earlier d

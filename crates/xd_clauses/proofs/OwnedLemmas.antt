@@ -17,7 +17,7 @@ use Rattle.xd_clauses.specs.Owning.{moves_of, moves_of_number}
 use Rattle.xd_clauses.specs.Whole.{without}
 use Rattle.xd_clauses.proofs.HasUniversalLemmas.{without_here}
 
-tested : (x n : ℕ) (b : Bool) → x < n → (nat_lt x n && b) ≡ b
+pub tested : (x n : ℕ) (b : Bool) → x < n → (nat_lt x n && b) ≡ b
 tested x n b h = let t : nat_lt x n ≡ true = grind (arith, nat_tests) in ap (λ v. v && b) t
 
 pub same_moves : (m : Marked) (all : State) (x : ℕ) → x < length (variables_in m) → SameOwned (moves_of_number m all x) (moves_of (without all (marking_of m)) (get_or (variables_in m) x []))

@@ -21,8 +21,6 @@ begins_so b d = may_begin (moves_at b.auto b.state) d
 abbrev pub ShareNoName : {M N : Type 0} → (M → N → Bool) → List M → List M → Type 0
 ShareNoName has ones twos = (n : _) → list_any (λ m. has m n) ones ≡ true → list_any (λ m. has m n) twos ≡ false
 
--- Of what follows only private contracts speak.
-
 -- the moves take the names that they took, and those of these moves
 pub record AddsNames (last : Bool) (labels : List LabelMove) (texts : List TextMove) (old new : StateMoves) : Type 0 where
   pub last_of : new.last ≡ (old.last || last)

@@ -5,16 +5,9 @@ use Rattle.xd_auto.specs.Automaton.{Automaton, IsState, accepts}
 use Rattle.xd_syntax.specs.Table.{Row}
 use Rattle.xd_syntax.specs.Placed.{PlacedTree}
 use Rattle.xd_syntax.specs.PlacedTable.{placed_at}
-use Rattle.xd_syntax.specs.Patterns.{IsPattern, pattern_tree}
 use Rattle.xd_syntax.specs.declared.patterns.PatternId.{PatternId}
 use Rattle.xd_bind.specs.declared.tracks.Binding.{Binding}
 use Rattle.xd_bind.specs.declared.tracks.Given.{Given}
-use Rattle.xd_pattern_runs.specs.Linear.{IsLinear}
-
--- the id is that of a pattern in which each way binds each variable once
-pub record IsLinearPattern (patterns : List Row) (id : PatternId) : Type 0 where
-  pub there : IsPattern patterns id
-  pub linear : IsLinear (pattern_tree patterns id)
 
 abbrev pub placed_pattern : List Row → PatternId → PlacedTree
 placed_pattern patterns id = placed_at patterns id.at

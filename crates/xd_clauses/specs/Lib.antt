@@ -4,5 +4,6 @@ pub mod OfPatterns
 pub mod Clauses
 pub mod Cases
 pub mod Laws
+pub mod Compiled
 pub mod Begins
 pub mod Behind

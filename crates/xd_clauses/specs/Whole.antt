@@ -38,7 +38,7 @@ pub record AreTurned (a : Automaton) (k : Marking) (all : State) (moves made : S
   pub labels : AllPaired (IsTurned a k all) moves.labels made.labels
   pub texts : made.texts ≡ moves.texts
 
--- each state has its moves, with contents that are taken whole turned to a universal state behind
+-- each state has its moves, with contents that are taken whole turned to a universal state after
 -- them
 pub record HasUniversal (a : Automaton) (k : Marking) (made : Automaton) (all : State) : Type 0 where
   pub universal : IsUniversal made all

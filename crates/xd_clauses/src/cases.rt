@@ -17,10 +17,11 @@ ghost use Rattle.xd_syntax.specs.ShallowTables.{IsShallow};
 ghost use Rattle.xd_syntax.specs.Tree.{Definitions};
 ghost use Rattle.xd_meaning.specs.KeptFaults.{AllPaired};
 ghost use Rattle.xd_patterns.specs.Compiler.{Serves};
-ghost use Rattle.xd_clauses.specs.Cases.{HasOwnAutomaton, IsGivenNothing, IsLinearPattern, placed_pattern, placed_patterns};
+ghost use Rattle.xd_clauses.specs.Cases.{HasOwnAutomaton, IsGivenNothing, placed_pattern, placed_patterns};
+ghost use Rattle.xd_patterns.specs.CompiledProgram.{IsLinearPattern};
 ghost use Rattle.xd_clauses.specs.Clauses.{Accepted, AreMayBindings, AreMayGivens, IsPatternOf};
 
-use crate::behind::Remaining;
+use crate::compiled::CompiledPatterns;
 use crate::pattern::ClausePattern;
 use std::alloc::Global;
 use xd_auto::{Auto, State};
@@ -35,7 +36,7 @@ use xd_syntax::PatternId;
 /// states on the way is known from then on.
 ///
 /// Where each document that the state accepts has 2^63 items or more, it is one of these. What is
-/// known stays true after want of memory, and the store keeps its documents.
+/// known stays true after `NoMemory`, and the store keeps its documents.
 pub fn accepted_document(
     alloc: Global,
     auto: &Auto,
@@ -74,13 +75,9 @@ fn left_over(
     ensures belongs { IfOk result (IsState auto.new) }
     ensures exact { IfOk result (λ left. (d : Document) → Accepted auto.new left d ↔ (Accepted auto.old state d × NoneTakes (names_of (program_tree sound.now)) (placed_patterns sound.now.patterns patterns.now) d)) }
 {
-    let mut remaining = Remaining::new(alloc, state)?;
-    for id in patterns {
-        let pattern = ClausePattern::new(alloc, compiler, sound, *id)?;
-        let (coming, _state) = remaining.coming_to(alloc, auto, &pattern)?;
-        remaining = coming.without(&pattern)?;
-    }
-    let left = remaining.left_over(alloc, auto)?;
+    let ids = patterns.to_vec(alloc)?;
+    let compiled = CompiledPatterns::alone(alloc, compiler, sound, ids)?;
+    let left = compiled.take_all_away(alloc, auto, state)?;
     Ok(left)
 }
 
@@ -201,7 +198,7 @@ impl Arrival {
     }
 }
 
-/// What the state accepts, at a clause with this pattern behind the earlier ones. The patterns are
+/// What the state accepts, at a clause with this pattern after the earlier ones. The patterns are
 /// linear, as those of clauses are, and belong to the program. Fails only where memory is refused;
 /// the program may have more types then, and nothing else in it changes.
 pub fn arriving(

@@ -4,8 +4,11 @@
 mod begins;
 mod behind;
 mod cases;
+mod compiled;
 mod held;
 mod laws;
+mod numbered;
+mod owner;
 mod pattern;
 mod whole;
 
@@ -13,6 +16,8 @@ pub use behind::Remaining;
 pub use cases::{
     Arrival, accepted_document, apart, arriving, case_types, given_nothing, live, uncovered,
 };
+pub use compiled::CompiledPatterns;
 pub use held::Held;
 pub use laws::patterns_tell_variables;
+pub use numbered::NumberedPattern;
 pub use pattern::ClausePattern;

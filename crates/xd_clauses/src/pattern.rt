@@ -1,4 +1,4 @@
-//! Patterns of clauses as automata, and what comes to them.
+//! Patterns of clauses as automata of their own.
 
 ghost use Rattle.xd_clauses.specs.OfPatterns.{IsOfSomePattern};
 
@@ -7,7 +7,6 @@ use crate::whole::with_universal;
 use std::alloc::Global;
 use xd_auto::{Auto, State};
 use xd_bind::{Given, cases};
-use xd_boole::subtract;
 use xd_doc::{NoMemory, Store};
 use xd_least::LeastInhabitants;
 use xd_patterns::{Marked, PatternCompiler};
@@ -25,8 +24,7 @@ pub struct ClausePattern {
 }
 
 impl ClausePattern {
-    ghost use Rattle.std.specs.Prelude.{◌≡◌, ◌↔◌, [], Ok, None, IfOk, IfSome, OnOk};
-    ghost use Rattle.xd_doc.specs.Document.{Document};
+    ghost use Rattle.std.specs.Prelude.{◌≡◌, [], Ok, None, IfOk, IfSome, OnOk};
     ghost use Rattle.xd_doc.specs.StoreNodes.{Keeps};
     ghost use Rattle.xd_auto.specs.Automaton.{Extends, IsState, KeepsAccepting};
     ghost use Rattle.xd_least.specs.Least.{Knows};
@@ -36,7 +34,6 @@ impl ClausePattern {
     ghost use Rattle.xd_syntax.specs.Placed.{PlacedTree, unplaced};
     ghost use Rattle.xd_syntax.specs.Program.{names_of};
     ghost use Rattle.xd_syntax.specs.Tree.{Definitions};
-    ghost use Rattle.xd_syntax.specs.Ways.{Takes};
     ghost use Rattle.xd_pattern_runs.specs.Linear.{IsLinear};
     ghost use Rattle.xd_patterns.specs.Compiler.{Serves};
     ghost use Rattle.xd_clauses.specs.Clauses.{Accepted, AreMayGivens, IsPatternOf};
@@ -62,7 +59,7 @@ impl ClausePattern {
 
     /// For each variable of the pattern, in order of first occurrence, a state that accepts exactly
     /// what some whole way gives it on a document that comes to the clause, one that the state
-    /// accepts; `None` where the pattern takes none of these. After want of memory old states keep
+    /// accepts; `None` where the pattern takes none of these. After `NoMemory` old states keep
     /// their moves, the store its documents, and what is known stays true.
     pub fn bindings(
         &self,
@@ -93,21 +90,5 @@ impl ClausePattern {
             alloc, &self.auto, start, self.all, variables, &held, auto, arriving, known, store,
         )?;
         Ok(found)
-    }
-
-    /// A state that accepts those of the documents that come to the clause that the pattern doesn't
-    /// take: they come to the next clause. Fails only where memory is refused; old states keep
-    /// their moves then, and there may be new ones.
-    pub fn pass(&self, alloc: Global, auto: &mut Auto, arriving: State) -> Result<State, NoMemory>
-        requires { IsState auto.old arriving }
-        ensures belongs { IfOk result (IsState auto.new) }
-        ensures exact { IfOk result (λ left. (E : Definitions) (P : PlacedTree) → IsPatternOf E (unplaced P) self.now → (d : Document) → Accepted auto.new left d ↔ (Accepted auto.old arriving d × (Takes E (unplaced P) d → ⊥))) }
-        ensures extends { Extends auto.old auto.new }
-        ensures accepting { OnOk result (KeepsAccepting auto.old auto.new) }
-    {
-        let _states = auto.len();
-        let start = self.marked.start();
-        let left = subtract(alloc, auto, arriving, &self.auto, start)?;
-        Ok(left)
     }
 }

@@ -139,7 +139,7 @@ fn add_states(auto: &Auto, made: &mut Auto) -> Result<(), NoMemory>
     Ok(())
 }
 
-/// The same automaton, with a universal state behind its states, to which contents that are taken
+/// The same automaton, with a universal state after its states, to which contents that are taken
 /// whole are turned.
 ///
 /// A content that is taken whole, as that of `Any` is, needs to be followed no further: whoever

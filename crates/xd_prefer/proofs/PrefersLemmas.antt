@@ -7,6 +7,7 @@ use Rattle.xd_syntax.specs.Words.{has_word}
 use Rattle.xd_syntax.specs.Tree.{Definitions}
 use Rattle.xd_syntax.specs.Placed.{PlacedTree, unplaced}
 use Rattle.xd_syntax.specs.May.{IsLive, NoneTakes}
+use Rattle.xd_syntax.specs.Ways.{Takes}
 use Rattle.xd_meaning.specs.Bindings.{variables_of}
 use Rattle.xd_meaning.specs.FirstMatch.{first}
 use Rattle.xd_meaning.specs.Meaning.{Environment, looked_up}
@@ -66,18 +67,22 @@ module _ (E : Definitions) (P : PlacedTree) (a : Automaton) (all : State) (m : M
 
 -- ---- a pattern that takes nothing that comes
 
-pub nothing_preferred : (E : Definitions) (A : Document → Type 0) (P : PlacedTree) → (IsLive E A [] P → ⊥) → (x : List ℕ) (d : Document) → Prefers E A [] P x d → ⊥
-nothing_preferred E A P dead x d m = go (first E (unplaced P) m.0) refl m.2
+-- the pattern takes what its first match is on
+first_takes : (E : Definitions) (P : PlacedTree) (x : List ℕ) (d whole : Document) → IsSomeAnd (first E (unplaced P) whole) (λ bs. looked_up bs x ≡ Some d) → Takes E (unplaced P) whole
+first_takes E P x d whole h = go (first E (unplaced P) whole) refl h
   where
-    go : (o : Option Environment) → first E (unplaced P) m.0 ≡ o → IsSomeAnd o (λ bs. looked_up bs x ≡ Some d) → ⊥
-    go None e h = h
-    go (Some bs) e h = let w = first_way E (unplaced P) m.0 bs e in dead (m.0, m.1, (w.0, w.1))
+    go : (o : Option Environment) → first E (unplaced P) whole ≡ o → IsSomeAnd o (λ bs. looked_up bs x ≡ Some d) → Takes E (unplaced P) whole
+    go None e k = absurd k
+    go (Some bs) e k = let w = first_way E (unplaced P) whole bs e in (w.0, w.1)
 
--- ---- where B is what is left of A behind the earlier patterns
+pub nothing_preferred : (E : Definitions) (A : Document → Type 0) (P : PlacedTree) → (IsLive E A [] P → ⊥) → (x : List ℕ) (d : Document) → Prefers E A [] P x d → ⊥
+nothing_preferred E A P dead x d m = dead (m.0, m.1, first_takes E P x d m.0 m.2)
 
-pub prefers_same : (E : Definitions) (A B : Document → Type 0) (earlier : List PlacedTree) (P : PlacedTree) → ((d : Document) → is_proper d ≡ true → B d ↔ (A d × NoneTakes E earlier d)) →
+-- ---- where of what the pattern takes B is what is left of A after the earlier patterns
+
+pub prefers_same : (E : Definitions) (A B : Document → Type 0) (earlier : List PlacedTree) (P : PlacedTree) → ((d : Document) → is_proper d ≡ true → Takes E (unplaced P) d → B d ↔ (A d × NoneTakes E earlier d)) →
     (x : List ℕ) (e : Document) → Prefers E B [] P x e ↔ Prefers E A earlier P x e
 prefers_same E A B earlier P left x e = (
-  λ m. let r = (left m.0 (m.1).0).0 (m.1).1 in (m.0, ((m.1).0, r.0, r.1), m.2),
-  λ m. (m.0, ((m.1).0, (left m.0 (m.1).0).1 ((m.1).1, (m.1).2), tt), m.2),
+  λ m. let r = (left m.0 (m.1).0 (first_takes E P x e m.0 m.2)).0 (m.1).1 in (m.0, ((m.1).0, r.0, r.1), m.2),
+  λ m. (m.0, ((m.1).0, (left m.0 (m.1).0 (first_takes E P x e m.0 m.2)).1 ((m.1).1, (m.1).2), tt), m.2),
 )

@@ -52,7 +52,7 @@ impl<H: Holds> Holds for Inherited<'_, H> {
 /// `None` where the pattern and `state` share no document.
 ///
 /// It does what `cases` of `xd_bind` does, with the automaton of the pattern's first runs in the
-/// place of the pattern's. After want of memory old states keep their moves, the store its
+/// place of the pattern's. After `NoMemory` old states keep their moves, the store its
 /// documents, and what is known stays true.
 pub fn first_cases<H: Holds>(
     alloc: Global,

@@ -11,7 +11,8 @@ ghost use Rattle.xd_syntax.specs.Placed.{PlacedTree, unplaced};
 ghost use Rattle.xd_syntax.specs.Program.{names_of};
 ghost use Rattle.xd_syntax.specs.ShallowTables.{IsShallow};
 ghost use Rattle.xd_syntax.specs.Tree.{Definitions};
-ghost use Rattle.xd_clauses.specs.Cases.{IsLinearPattern, placed_pattern, placed_patterns};
+ghost use Rattle.xd_clauses.specs.Cases.{placed_pattern, placed_patterns};
+ghost use Rattle.xd_patterns.specs.CompiledProgram.{IsLinearPattern};
 ghost use Rattle.xd_clauses.specs.Clauses.{Accepted, AreBindingsOf, AreGivensOf, IsPatternOf};
 ghost use Rattle.xd_prefer.specs.Preferred.{Prefers};
 

@@ -58,7 +58,7 @@ impl FirstRuns {
     }
 }
 
-/// The number at a place, or 0 behind the last.
+/// The number at a place, or 0 after the last.
 fn number_at(numbers: &[usize], place: usize) -> usize
     ensures { result ≡ slice_index_or numbers.now place 0 }
 {

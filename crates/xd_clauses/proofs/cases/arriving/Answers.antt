@@ -7,7 +7,8 @@ use Rattle.xd_syntax.specs.Kept.{program_tree}
 use Rattle.xd_syntax.specs.May.{NoneTakes}
 use Rattle.xd_syntax.specs.Placed.{unplaced}
 use Rattle.xd_syntax.specs.Program.{names_of}
-use Rattle.xd_clauses.specs.Cases.{IsLinearPattern, placed_pattern, placed_patterns}
+use Rattle.xd_clauses.specs.Cases.{placed_pattern, placed_patterns}
+use Rattle.xd_patterns.specs.CompiledProgram.{IsLinearPattern}
 use Rattle.xd_clauses.specs.Clauses.{Accepted, IsPatternOf}
 use Rattle.xd_clauses.proofs.NoneTakesLemmas.{of_placed, to_old}
 use Rattle.xd_clauses.proofs.cases.arriving.Goals as goal
