@@ -8,7 +8,7 @@ use Rattle.xd_check.specs.declared.lines.FoundLine.{FoundLine}
 use Rattle.xd_check.specs.FoundLines.{AddsLines, line_of, lines_of}
 use Rattle.xd_check.proofs.LineLists.{adds_kept, belong_joined}
 
--- with lines of the rest behind them they are lines of the whole
+-- with lines of the rest after them they are lines of the whole
 abbrev pub Goes : (List Line → Type 0) → (List Line → Type 0) → List Line → Type 0
 Goes R W done = (ms : List Line) → R ms → W (done ++ ms)
 

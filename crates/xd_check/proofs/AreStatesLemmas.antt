@@ -56,7 +56,7 @@ clause_scope P S e earlier C Q comes a b vs ws gs g h stands k m =
 pub clause_states : (E : Definitions) (C : Document → Type 0) (Q : PlacedTree) (a b : Automaton) (vs ws : List Variable) (gs : List Given) → Grows a b → AreStates a vs → AreMayGivens E C [] Q b gs → ws ≡ given_variables gs ++ vs → AreStates b ws
 clause_states E C Q a b vs ws gs g h k m = subst (AreStates b) (sym m) (states_joined b (given_variables gs) vs (given_states E C Q b gs k.each) (states_kept a b g vs h))
 
--- behind the clause the old variables are left
+-- after the clause the old variables are left
 pub clause_left : (vs ws us : List Variable) (n : ℕ) (gs : List Given) → ws ≡ given_variables gs ++ vs → n ≡ length vs → us ≡ drop (length ws - n) ws → us ≡ vs
 clause_left vs ws us n gs m e k =
     let l : length ws ≡ length (given_variables gs) + length vs = ap length m ∙ length-append (given_variables gs) vs in

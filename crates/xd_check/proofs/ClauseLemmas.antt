@@ -1,7 +1,6 @@
 -- Clauses of a match: what comes to each, and what its variables may be.
 use Rattle.std.proofs.Common.{◌≡◌, ◌≢◌, ◌↔◌, ℕ, true, false, ◌||◌, ◌⊎◌, List, [], ◌∷◌, ◌++◌, map, Bool, cond, inl, inr, Option, Some, None, refl, ap, sym, subst, ◌∙◌}
 use Rattle.std.specs.List.{AllByRecursion}
-use Rattle.std.specs.Option.{IfSome}
 use Rattle.std.specs.Str.{bytes_eq}
 use Rattle.xd_base.specs.declared.Place.{Place}
 use Rattle.xd_doc.specs.Document.{Document, is_proper}
@@ -43,20 +42,16 @@ once_has (y ∷ ys) x h =
           (left_without (y ∷ []) (each_once ys) x (once_has ys x b.1) (rw b.0 refl))
     ]
 
--- what comes behind the earlier patterns comes to a further one
-pub comes_on : (P : ProgramTree) (S : Scope) (e : Expression) (earlier : List PlacedTree) (C : Document → Type 0) → ComesBehind P S e earlier C → (Q : PlacedTree) → ComesTo P S e earlier Q C
-comes_on P S e earlier C comes Q d p t = comes d p
-
 -- the same documents come
 pub comes_like : (P : ProgramTree) (S : Scope) (e : Expression) (earlier : List PlacedTree) (C D : Document → Type 0) → ((d : Document) → D d ↔ C d) → ComesBehind P S e earlier C → ComesBehind P S e earlier D
 comes_like P S e earlier C D same comes d p = let x = same d in let y = comes d p in (λ m. y.0 (x.0 m), λ m. x.1 (y.1 m))
 
--- so does what is the same among the documents that it takes
+-- what is the same among the documents that a further pattern takes comes to that
 pub comes_among : (P : ProgramTree) (S : Scope) (e : Expression) (earlier : List PlacedTree) (B C : Document → Type 0) (Q : PlacedTree) → ComesBehind P S e earlier B → ((d : Document) → Takes (names_of P) (unplaced Q) d → C d ↔ B d) → ComesTo P S e earlier Q C
 comes_among P S e earlier B C Q comes among d p t = let i = among d t in let j = comes d p in (λ m. j.0 (i.0 m), λ m. i.1 (j.1 m))
 
 module _ (P : ProgramTree) (S : Scope) (e : Expression) (earlier : List PlacedTree) (C : Document → Type 0) (comes : ComesBehind P S e earlier C) where
-  -- what is left comes behind the pattern too, where nothing was taken away for a dead clause
+  -- what is left comes after the pattern too, where nothing was taken away for a dead clause
   pub passed : (Q : PlacedTree) (o : Option State) (D : Document → Type 0) → (o ≡ None → IsLiveIn P S e earlier Q → ⊥) → ((d : Document) → D d ↔ (C d × (o ≢ None → Takes (names_of P) (unplaced Q) d → ⊥))) → ComesBehind P S e (Q ∷ earlier) D
   passed Q None D dead h d p = (
     (λ m. (let j = (comes d p).0 ((h d).0 m).0 in (j.0, ((λ t. dead refl (d, (p, j.0, j.1), t)), j.1)))),
@@ -67,7 +62,7 @@ module _ (P : ProgramTree) (S : Scope) (e : Expression) (earlier : List PlacedTr
     (λ m. (h d).1 ((comes d p).1 (m.0, (m.1).1), (λ x. (m.1).0))),
   )
 
-  -- what comes behind all patterns
+  -- what comes after all patterns
   pub comes_to : (d : Document) → is_proper d ≡ true → Comes P S e earlier d → C d
   comes_to d p h = (comes d p).1 (h.1, h.2)
 
@@ -229,7 +224,7 @@ clauses_more P S p e all left Q f C D a b ds es old mid new ss us o grows keeps 
       g.lines w.lines (λ xs ms x m. (xs, ms, x, m, refl));
 }
 
--- behind the last clause stands the line of what no clause takes
+-- after the last clause stands the line of what no clause takes
 pub clauses_end : (P : ProgramTree) (S : Scope) (p : Place) (e : Expression) (all left : Clauses) (C : Document → Type 0) (a b : Automaton) (ds es : List Document) (old mid new : List FoundLine) (ss : List State) (made : State) →
     left ≡ no_clause → Keeps ds es → (g : AreClausesGoing P S p e all left C a ds old mid ss) → AddsLines es (LineWhere told_size p not_exhaustive C) mid new →
     ((d : Document) → (accepts b d made ≡ true) ↔ AcceptedBySome a ss d) → AreClausesWalked P S p e all b es old new made

@@ -22,6 +22,7 @@ use Rattle.xd_syntax.specs.declared.exprs.Clause.{Clause}
 use Rattle.xd_clauses.specs.Behind.{Remains, StandsIn}
 use Rattle.xd_clauses.specs.Clauses.{Accepted}
 use Rattle.xd_clauses.specs.declared.behind.Remaining.{Remaining}
+use Rattle.xd_clauses.specs.declared.compiled.CompiledPatterns.{CompiledPatterns}
 use Rattle.xd_check.specs.declared.lines.FoundLine.{FoundLine}
 use Rattle.xd_check.specs.declared.variables.Variable.{Variable}
 use Rattle.xd_check.specs.FoundLines.{AddsLines, told_size}
@@ -37,83 +38,98 @@ use Rattle.xd_check.proofs.Loops.{Stays, bodies, ceiling, stays_begin, stays_mor
 abbrev pub clauses_in : ProgramTable → List Clause → Clauses
 clauses_in p cs = clauses_of (placed_at p.patterns) (expr_at p) (clause_numbers cs)
 
--- The clauses from the n-th on are still to be walked: `first` is the scrutinee's state, and r what the others leave of it.
-pub record ClausesLoop (p : ProgramTable) (place : Place) (a b : Automaton) (vs ws : List Variable) (ds es : List Document) (old new : List FoundLine) (cs : List Clause) (n : ℕ) (ss : List State) (first : State) (r : Remaining) : Type 0 where
-  pub stays : Stays a b vs ws ds es
-  pub there : AllByRecursion (IsState b) ss
+-- the same while the automaton grows
+pub stands_on : (a b : Automaton) (patterns : CompiledPatterns) (r : Remaining) → Grows a b → StandsIn a patterns r → StandsIn b patterns r
+stands_on a b patterns r g h = record { state = (g.extends).states r.state h.state; waiting = h.waiting }
+
+remains_on : (a b : Automaton) (patterns : CompiledPatterns) (r : Remaining) → Grows a b → StandsIn a patterns r → (d : Document) → Remains b patterns r d ↔ Remains a patterns r d
+remains_on a b patterns r g h d =
+    let same : accepts b d r.state ≡ accepts a d r.state = g.keeps d r.state h.state in
+    (λ m. (sym same ∙ m.0, m.1), λ m. (same ∙ m.0, m.1))
+
+-- what remained as r remains as s
+pub still_behind : (P : ProgramTree) (S : Scope) (e : Expression) (earlier : List PlacedTree) (b m c : Automaton) (patterns : CompiledPatterns) (r s : Remaining) → StandsIn m patterns s → ((d : Document) → Remains m patterns s d ↔ Remains b patterns r d) → Grows m c →
+    ComesBehind P S e earlier (Remains b patterns r) → ComesBehind P S e earlier (Remains c patterns s)
+still_behind P S e earlier b m c patterns r s there same g comes =
+    comes_like P S e earlier (Remains b patterns r) (Remains c patterns s) (λ d. let y = remains_on m c patterns s g there d in let z = same d in (λ w. z.0 (y.0 w), λ w. y.1 (z.1 w))) comes
+
+-- The clauses from the n-th on are still to come, and r is what the others, which have some of the
+-- patterns, leave.
+pub record AreAhead (p : ProgramTable) (patterns : CompiledPatterns) (a : Automaton) (cs : List Clause) (n : ℕ) (r : Remaining) : Type 0 where
   pub rest : AllByRecursion (ClauseCanBeWalked p) (clause_numbers (drop n cs))
   pub below : ceiling (bodies (clause_numbers (drop n cs))) ≤ ceiling (bodies (clause_numbers cs))
-  pub stands : StandsIn b r
-  pub walked : (S : Scope) (e : Expression) → ScopeStands (program_tree p) S a vs → ComesBehind (program_tree p) S e [] (Accepted a first) →
-      AreClausesGoing (program_tree p) S place e (clauses_in p cs) (clauses_in p (drop n cs)) (Remains b r) b es old new ss
+  pub stands : StandsIn a patterns r
 
-pub clauses_loop_begin : (p : ProgramTable) (place : Place) (a : Automaton) (vs : List Variable) (ds : List Document) (ls : List FoundLine) (cs : List Clause) (first : State) (r : Remaining) → AllByRecursion (ClauseCanBeWalked p) (clause_numbers cs) → StandsIn a r →
-    ((d : Document) → Remains a r d ↔ Accepted a first d) → ClausesLoop p place a a vs vs ds ds ls ls cs 0 [] first r
-clauses_loop_begin p place a vs ds ls cs first r h i same = record {
-  stays = stays_begin a vs ds;
-  there = tt;
-  rest = h;
-  below = omega arith;
-  stands = i;
-  walked = λ S e s c. clauses_begin (program_tree p) S place e (clauses_in p cs) (Remains a r) a ds ls (comes_like (program_tree p) S e [] (Accepted a first) (Remains a r) same c);
-}
+pub ahead_begin : (p : ProgramTable) (patterns : CompiledPatterns) (a : Automaton) (cs : List Clause) (r : Remaining) → AllByRecursion (ClauseCanBeWalked p) (clause_numbers cs) → StandsIn a patterns r → AreAhead p patterns a cs 0 r
+ahead_begin p patterns a cs r h i = record { rest = h; below = omega arith; stands = i }
 
-clause_front : (cs : List Clause) (n : ℕ) (k : Clause) → n < length cs → k ≡ get_or cs n k → drop n cs ≡ k ∷ drop (n + 1) cs
+pub clause_front : (cs : List Clause) (n : ℕ) (k : Clause) → n < length cs → k ≡ get_or cs n k → drop n cs ≡ k ∷ drop (n + 1) cs
 clause_front cs n k l e = drop_more cs n k l ∙ ap (λ x. x ∷ drop (n + 1) cs) (sym e)
 
-pub clause_here : (p : ProgramTable) (place : Place) (a b : Automaton) (vs ws : List Variable) (ds es : List Document) (old new : List FoundLine) (cs : List Clause) (n : ℕ) (ss : List State) (first : State) (r : Remaining) (k : Clause) →
-    ClausesLoop p place a b vs ws ds es old new cs n ss first r → n < length cs → k ≡ get_or cs n k → ClauseCanBeWalked p ((k.pattern).at, (k.body).at) × ((k.body).at + 1 ≤ ceiling (bodies (clause_numbers cs)))
-clause_here p place a b vs ws ds es old new cs n ss first r k h l e =
+pub clause_here : (p : ProgramTable) (patterns : CompiledPatterns) (a : Automaton) (cs : List Clause) (n : ℕ) (r : Remaining) (k : Clause) → AreAhead p patterns a cs n r → n < length cs → k ≡ get_or cs n k →
+    ClauseCanBeWalked p ((k.pattern).at, (k.body).at) × ((k.body).at + 1 ≤ ceiling (bodies (clause_numbers cs)))
+clause_here p patterns a cs n r k h l e =
     let f = clause_front cs n k l e in
     let there : AllByRecursion (ClauseCanBeWalked p) (clause_numbers (k ∷ drop (n + 1) cs)) = subst (λ (xs : List Clause). AllByRecursion (ClauseCanBeWalked p) (clause_numbers xs)) f h.rest in
     let c : ceiling (bodies (clause_numbers (k ∷ drop (n + 1) cs))) ≤ ceiling (bodies (clause_numbers cs)) = subst (λ (xs : List Clause). ceiling (bodies (clause_numbers xs)) ≤ ceiling (bodies (clause_numbers cs))) f h.below in
     (there.0, omega arith)
 
--- what remains is the same while the automaton grows
-pub stands_on : (a b : Automaton) (r : Remaining) → Grows a b → StandsIn a r → StandsIn b r
-stands_on a b r g h = record { state = (g.extends).states r.state h.state; waiting = h.waiting }
+pub ahead_more : (p : ProgramTable) (patterns : CompiledPatterns) (a b : Automaton) (cs : List Clause) (n : ℕ) (r t : Remaining) (k : Clause) → AreAhead p patterns a cs n r → n < length cs → k ≡ get_or cs n k → StandsIn b patterns t → AreAhead p patterns b cs (n + 1) t
+ahead_more p patterns a b cs n r t k h l e i =
+    let f = clause_front cs n k l e in
+    let left : AllByRecursion (ClauseCanBeWalked p) (clause_numbers (k ∷ drop (n + 1) cs)) = subst (λ (ys : List Clause). AllByRecursion (ClauseCanBeWalked p) (clause_numbers ys)) f h.rest in
+    let top : ceiling (bodies (clause_numbers (k ∷ drop (n + 1) cs))) ≤ ceiling (bodies (clause_numbers cs)) = subst (λ (ys : List Clause). ceiling (bodies (clause_numbers ys)) ≤ ceiling (bodies (clause_numbers cs))) f h.below in
+    record { rest = left.1; below = omega arith; stands = i }
 
-remains_on : (a b : Automaton) (r : Remaining) → Grows a b → StandsIn a r → (d : Document) → Remains b r d ↔ Remains a r d
-remains_on a b r g h d =
-    let same : accepts b d r.state ≡ accepts a d r.state = g.keeps d r.state h.state in
-    (λ m. (sym same ∙ m.0, m.1), λ m. (same ∙ m.0, m.1))
+-- The clauses from the n-th on are still to be walked: `first` is the scrutinee's state, and r what
+-- the others leave of it.
+pub record ClausesLoop (p : ProgramTable) (patterns : CompiledPatterns) (place : Place) (a b : Automaton) (vs ws : List Variable) (ds es : List Document) (old new : List FoundLine) (cs : List Clause) (n : ℕ) (ss : List State) (first : State) (r : Remaining) : Type 0 where
+  pub stays : Stays a b vs ws ds es
+  pub there : AllByRecursion (IsState b) ss
+  pub ahead : AreAhead p patterns b cs n r
+  pub walked : (S : Scope) (e : Expression) → ScopeStands (program_tree p) S a vs → ComesBehind (program_tree p) S e [] (Accepted a first) →
+      AreClausesGoing (program_tree p) S place e (clauses_in p cs) (clauses_in p (drop n cs)) (Remains b patterns r) b es old new ss
+
+pub clauses_loop_begin : (p : ProgramTable) (patterns : CompiledPatterns) (place : Place) (a : Automaton) (vs : List Variable) (ds : List Document) (ls : List FoundLine) (cs : List Clause) (first : State) (r : Remaining) → AllByRecursion (ClauseCanBeWalked p) (clause_numbers cs) → StandsIn a patterns r →
+    ((d : Document) → Remains a patterns r d ↔ Accepted a first d) → ClausesLoop p patterns place a a vs vs ds ds ls ls cs 0 [] first r
+clauses_loop_begin p patterns place a vs ds ls cs first r h i same = record {
+  stays = stays_begin a vs ds;
+  there = tt;
+  ahead = ahead_begin p patterns a cs r h i;
+  walked = λ S e s c. clauses_begin (program_tree p) S place e (clauses_in p cs) (Remains a patterns r) a ds ls (comes_like (program_tree p) S e [] (Accepted a first) (Remains a patterns r) same c);
+}
 
 -- One more clause is walked. What comes to it is the state v, and then r remains as s, and without what it takes as t.
-pub clauses_loop_more : (p : ProgramTable) (place : Place) (a b m c : Automaton) (vs ws xs : List Variable) (ds es fs : List Document) (old mid new : List FoundLine) (cs : List Clause) (n : ℕ) (ss us : List State) (first v : State) (r s t : Remaining) (k : Clause) (o : Option State) →
-    AreStates a vs → ClausesLoop p place a b vs ws ds es old mid cs n ss first r → n < length cs → k ≡ get_or cs n k →
-    Grows b m → StandsIn m s → ((d : Document) → Remains m s d ↔ Remains b r d) → ((d : Document) → Takes (names_of (program_tree p)) (unplaced (placed_at p.patterns (k.pattern).at)) d → Accepted m v d ↔ Remains b r d) →
+pub clauses_loop_more : (p : ProgramTable) (patterns : CompiledPatterns) (place : Place) (a b m c : Automaton) (vs ws xs : List Variable) (ds es fs : List Document) (old mid new : List FoundLine) (cs : List Clause) (n : ℕ) (ss us : List State) (first v : State) (r s t : Remaining) (k : Clause) (o : Option State) →
+    AreStates a vs → ClausesLoop p patterns place a b vs ws ds es old mid cs n ss first r → n < length cs → k ≡ get_or cs n k →
+    Grows b m → StandsIn m patterns s → ((d : Document) → Remains m patterns s d ↔ Remains b patterns r d) → ((d : Document) → Takes (names_of (program_tree p)) (unplaced (placed_at p.patterns (k.pattern).at)) d → Accepted m v d ↔ Remains b patterns r d) →
     ((S : Scope) (e : Expression) (earlier : List PlacedTree) → ScopeStands (program_tree p) S m ws → ComesTo (program_tree p) S e earlier (placed_at p.patterns (k.pattern).at) (Accepted m v) →
     IsClauseWalked (program_tree p) S e earlier (placed_at p.patterns (k.pattern).at) (expr_at p (k.body).at) c fs mid new o) → xs ≡ ws → Grows m c → Keeps es fs → us ≡ with_found ss o → IfSome o (IsState c) →
-    StandsIn c t → ((d : Document) → Remains c t d ↔ (Remains c s d × (o ≢ None → Takes (names_of (program_tree p)) (unplaced (placed_at p.patterns (k.pattern).at)) d → ⊥))) →
-    ClausesLoop p place a c vs xs ds fs old new cs (n + 1) us first t
-clauses_loop_more p place a b m c vs ws xs ds es fs old mid new cs n ss us first v r s t k o av h l e gb there same among f x gm q u i after pass =
+    StandsIn c patterns t → ((d : Document) → Remains c patterns t d ↔ (Remains c patterns s d × (o ≢ None → Takes (names_of (program_tree p)) (unplaced (placed_at p.patterns (k.pattern).at)) d → ⊥))) →
+    ClausesLoop p patterns place a c vs xs ds fs old new cs (n + 1) us first t
+clauses_loop_more p patterns place a b m c vs ws xs ds es fs old mid new cs n ss us first v r s t k o av h l e gb there same among f x gm q u i after pass =
     let P : ProgramTree = program_tree p in
     let fr = clause_front cs n k l e in
     let Q : PlacedTree = placed_at p.patterns (k.pattern).at in
-    let left : AllByRecursion (ClauseCanBeWalked p) (clause_numbers (k ∷ drop (n + 1) cs)) = subst (λ (ys : List Clause). AllByRecursion (ClauseCanBeWalked p) (clause_numbers ys)) fr h.rest in
-    let top : ceiling (bodies (clause_numbers (k ∷ drop (n + 1) cs))) ≤ ceiling (bodies (clause_numbers cs)) = subst (λ (ys : List Clause). ceiling (bodies (clause_numbers ys)) ≤ ceiling (bodies (clause_numbers cs))) fr h.below in
     let st = h.stays in
     let g : Grows b c = grows_then b m c gb gm in
-    let on : (d : Document) → Remains c s d ↔ Remains b r d = λ d. let y = remains_on m c s gm there d in let z = same d in (λ w. z.0 (y.0 w), λ w. y.1 (z.1 w)) in
     record {
       stays = stays_more a b c vs ws xs ds es fs h.stays x g q;
       there = found_there b c g ss us o h.there i u;
-      rest = left.1;
-      below = omega arith;
-      stands = after;
+      ahead = ahead_more p patterns b c cs n r t k h.ahead l e after;
       walked = λ S z stands comes.
-          (let y : AreClausesGoing P S place z (clauses_in p cs) (clauses_in p (k ∷ drop (n + 1) cs)) (Remains b r) b es old mid ss
-          = subst (λ (ys : List Clause). AreClausesGoing P S place z (clauses_in p cs) (clauses_in p ys) (Remains b r) b es old mid ss) fr (h.walked S z stands comes) in
-          let w = f S z y.earlier (subst (ScopeStands P S m) (sym st.variables) (scope_kept P S a m (grows_then a b m st.grows gb) vs av stands)) (comes_among P S z y.earlier (Remains b r) (Accepted m v) Q y.comes among) in
-          clauses_more P S place z (clauses_in p cs) (clauses_in p (drop (n + 1) cs)) Q (expr_at p (k.body).at) (Remains b r) (Remains c t) b c es fs old mid new ss us o g q h.there y w
-          (passed P S z y.earlier (Remains c s) (comes_like P S z y.earlier (Remains b r) (Remains c s) on y.comes) Q o (Remains c t) w.dead pass) u);
+          (let y : AreClausesGoing P S place z (clauses_in p cs) (clauses_in p (k ∷ drop (n + 1) cs)) (Remains b patterns r) b es old mid ss
+          = subst (λ (ys : List Clause). AreClausesGoing P S place z (clauses_in p cs) (clauses_in p ys) (Remains b patterns r) b es old mid ss) fr (h.walked S z stands comes) in
+          let w = f S z y.earlier (subst (ScopeStands P S m) (sym st.variables) (scope_kept P S a m (grows_then a b m st.grows gb) vs av stands)) (comes_among P S z y.earlier (Remains b patterns r) (Accepted m v) Q y.comes among) in
+          clauses_more P S place z (clauses_in p cs) (clauses_in p (drop (n + 1) cs)) Q (expr_at p (k.body).at) (Remains b patterns r) (Remains c patterns t) b c es fs old mid new ss us o g q h.there y w
+          (passed P S z y.earlier (Remains c patterns s) (still_behind P S z y.earlier b m c patterns r s there same gm y.comes) Q o (Remains c patterns t) w.dead pass) u);
     }
 
-pub clauses_loop_end : (p : ProgramTable) (place : Place) (a b m c : Automaton) (vs ws : List Variable) (ds es fs : List Document) (old mid new : List FoundLine) (cs : List Clause) (n : ℕ) (ss : List State) (first left made : State) (r : Remaining) → drop n cs ≡ [] →
-    ClausesLoop p place a b vs ws ds es old mid cs n ss first r → Grows b m → ((d : Document) → Accepted m left d ↔ Remains b r d) → Keeps es fs → AddsLines fs (LineWhere told_size place not_exhaustive (Accepted m left)) mid new →
+pub clauses_loop_end : (p : ProgramTable) (patterns : CompiledPatterns) (place : Place) (a b m c : Automaton) (vs ws : List Variable) (ds es fs : List Document) (old mid new : List FoundLine) (cs : List Clause) (n : ℕ) (ss : List State) (first left made : State) (r : Remaining) → drop n cs ≡ [] →
+    ClausesLoop p patterns place a b vs ws ds es old mid cs n ss first r → Grows b m → ((d : Document) → Accepted m left d ↔ Remains b patterns r d) → Keeps es fs → AddsLines fs (LineWhere told_size place not_exhaustive (Accepted m left)) mid new →
     ((d : Document) → (accepts c d made ≡ true) ↔ AcceptedBySome m ss d) →
     (S : Scope) (e : Expression) → ScopeStands (program_tree p) S a vs → ComesBehind (program_tree p) S e [] (Accepted a first) → AreClausesWalked (program_tree p) S place e (clauses_in p cs) c fs old new made
-clauses_loop_end p place a b m c vs ws ds es fs old mid new cs n ss first left made r none h g exact k adds united S e stands comes =
+clauses_loop_end p patterns place a b m c vs ws ds es fs old mid new cs n ss first left made r none h g exact k adds united S e stands comes =
     let P : ProgramTree = program_tree p in
-    let y = going_on P S place e (clauses_in p cs) (clauses_in p (drop n cs)) (Remains b r) (Accepted m left) b m es old mid ss g h.there exact (h.walked S e stands comes) in
+    let y = going_on P S place e (clauses_in p cs) (clauses_in p (drop n cs)) (Remains b patterns r) (Accepted m left) b m es old mid ss g h.there exact (h.walked S e stands comes) in
     clauses_end P S place e (clauses_in p cs) (clauses_in p (drop n cs)) (Accepted m left) m c es fs old mid new ss made (ap (clauses_in p) none) k y adds united

@@ -24,12 +24,15 @@ grows_none a = record {
   keeps = λ d s h. refl;
 }
 
+pub extends_then : (a b c : Automaton) → Extends a b → Extends b c → Extends a c
+extends_then a b c g h = record {
+  states = λ s i. h.states s (g.states s i);
+  moves = λ s i. h.moves s (g.states s i) ∙ g.moves s i;
+}
+
 pub grows_then : (a b c : Automaton) → Grows a b → Grows b c → Grows a c
 grows_then a b c g h = record {
-  extends = record {
-    states = λ s i. (h.extends).states s ((g.extends).states s i);
-    moves = λ s i. (h.extends).moves s ((g.extends).states s i) ∙ (g.extends).moves s i;
-  };
+  extends = extends_then a b c g.extends h.extends;
   keeps = λ d s i. h.keeps d s ((g.extends).states s i) ∙ g.keeps d s i;
 }
 

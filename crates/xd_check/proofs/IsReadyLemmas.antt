@@ -4,7 +4,7 @@ use Rattle.std.specs.List.{AllByRecursion}
 use Rattle.std.specs.Option.{IfSome}
 use Rattle.xd_doc.specs.Document.{Document}
 use Rattle.xd_auto.specs.declared.auto.State.{State}
-use Rattle.xd_auto.specs.Automaton.{Automaton, IsState, accepts}
+use Rattle.xd_auto.specs.Automaton.{Automaton, Extends, IsState, accepts}
 use Rattle.xd_syntax.specs.Tree.{Definitions}
 use Rattle.xd_syntax.specs.May.{FitsResult}
 use Rattle.xd_syntax.specs.CheckFaults.{parameters_of}
@@ -16,13 +16,22 @@ use Rattle.xd_syntax.specs.Kept.{program_tree}
 use Rattle.xd_check.specs.declared.checker.Checker.{Checker}
 use Rattle.xd_check.specs.declared.variables.Variable.{Variable}
 use Rattle.xd_check.specs.InScope.{AreStates}
-use Rattle.xd_check.specs.Ready.{IsReady}
+use Rattle.xd_clauses.specs.declared.compiled.CompiledPatterns.{CompiledPatterns}
+use Rattle.xd_check.specs.Ready.{IsReady, ServesOn}
 use Rattle.xd_check.specs.Walked.{Grows, with_found}
-use Rattle.xd_check.proofs.GrowsLemmas.{states_kept}
+use Rattle.xd_check.proofs.GrowsLemmas.{extends_then, states_kept}
 use Rattle.xd_check.proofs.IsSignatureLemmas.{signatures_kept}
 
+pub serves_kept : (a b : Automaton) (m : CompiledPatterns) → Extends a b → ServesOn a m → ServesOn b m
+serves_kept a b m g h c x = h c (extends_then a b c g x)
+
 pub ready_kept : (c : Checker) (a b : Automaton) → Grows a b → IsReady c a → IsReady c b
-ready_kept c a b g h = record { serves = h.serves; signatures = signatures_kept (program_tree c.sound) a b g c.signatures h.signatures }
+ready_kept c a b g h = record {
+  serves = h.serves;
+  patterns = h.patterns;
+  points = serves_kept a b c.patterns g.extends h.points;
+  signatures = signatures_kept (program_tree c.sound) a b g c.signatures h.signatures;
+}
 
 pub states_again : (a b : Automaton) → Grows a b → (vs ws : List Variable) → ws ≡ vs → AreStates a vs → AreStates b ws
 states_again a b g vs ws e h = subst (AreStates b) (sym e) (states_kept a b g vs h)

@@ -14,6 +14,8 @@ pub mod Lists
 pub mod IsSignatureLemmas
 pub mod AreTypeStatesLemmas
 pub mod Places
+pub mod Collecting
+pub mod Numbered
 pub mod Loops
 pub mod AreStatesLemmas
 pub mod ClauseLoop

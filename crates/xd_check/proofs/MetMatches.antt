@@ -1,34 +1,25 @@
 -- Lists of matches that were met.
-use Rattle.std.proofs.Common.{◌≡◌, ◌↔◌, ℕ, ◌+◌, ◌<◌, ◌≤◌, arith, true, false, Bool, inl, inr, Result, Ok, Err, List, [], ◌∷◌, ◌++◌, map, length, get_or, drop, refl, ap, sym, subst, ◌∙◌, append-nil, append_assoc}
+use Rattle.std.proofs.Common.{◌≡◌, ℕ, ◌+◌, ◌<◌, ◌≤◌, arith, Result, Ok, Err, List, [], ◌∷◌, ◌++◌, map, length, get_or, drop, refl, ap, sym, subst, ◌∙◌, append-nil, append_assoc}
 use Rattle.std.specs.List.{AllByRecursion, AllZip}
 use Rattle.std.specs.Result.{OnOk}
 use Rattle.std.proofs.lemmas.List.{drop_more}
 use Rattle.xd_base.specs.declared.Place.{Place}
-use Rattle.xd_doc.specs.Document.{Document, is_proper}
-use Rattle.xd_auto.specs.declared.auto.State.{State}
-use Rattle.xd_auto.specs.Automaton.{Automaton, IsState, accepts}
-use Rattle.xd_syntax.specs.CheckFaults.{IsLiveIn}
-use Rattle.xd_syntax.specs.Expression.{Arguments, Clauses, Expression, Matched, arguments_of, joined, place_of_expression}
-use Rattle.xd_syntax.specs.ExpressionTable.{clauses_of}
-use Rattle.xd_syntax.specs.Exprs.{clause_numbers, expr_numbers}
+use Rattle.xd_auto.specs.Automaton.{Automaton}
+use Rattle.xd_syntax.specs.Expression.{Expression, arguments_of, joined, place_of_expression}
+use Rattle.xd_syntax.specs.Exprs.{expr_numbers}
 use Rattle.xd_syntax.specs.Kept.{ProgramTable, program_tree}
-use Rattle.xd_syntax.specs.Matches.{InTurn, MatchesOf, MatchesOfArguments, MatchesOfClauses, SeenMatch}
-use Rattle.xd_syntax.specs.May.{May, Scope, clause_entry}
-use Rattle.xd_syntax.specs.Placed.{PlacedTree, unplaced}
-use Rattle.xd_syntax.specs.PlacedTable.{placed_at}
-use Rattle.xd_syntax.specs.Program.{ProgramTree, names_of}
-use Rattle.xd_syntax.specs.Ways.{Takes}
-use Rattle.xd_syntax.specs.declared.exprs.Clause.{Clause}
+use Rattle.xd_syntax.specs.Matches.{InTurn, MatchesOf, MatchesOfArguments, SeenMatch}
+use Rattle.xd_syntax.specs.May.{May, Scope}
+use Rattle.xd_syntax.specs.Program.{ProgramTree}
 use Rattle.xd_syntax.specs.declared.exprs.ExprId.{ExprId}
-use Rattle.xd_clauses.specs.Clauses.{Accepted}
 use Rattle.xd_check.specs.InScope.{AreStates, ScopeStands}
-use Rattle.xd_check.specs.Ready.{CanBeWalked, ClauseCanBeWalked, expr_at}
-use Rattle.xd_check.specs.Scrutinees.{AddsMatches, IsClauseMet, IsMet, MatchesOfBody, TellsLive}
-use Rattle.xd_check.specs.Walked.{AcceptsJust, ComesBehind, Grows}
+use Rattle.xd_check.specs.Ready.{CanBeWalked, expr_at}
+use Rattle.xd_check.specs.Scrutinees.{AddsMatches, IsMet}
+use Rattle.xd_check.specs.Walked.{Grows}
 use Rattle.xd_check.specs.declared.matches.MetMatch.{MetMatch}
 use Rattle.xd_check.specs.declared.variables.Variable.{Variable}
 use Rattle.xd_check.proofs.GrowsLemmas.{grows_none, grows_then, just_kept, scope_kept}
-use Rattle.xd_check.proofs.Loops.{bodies, ceiling}
+use Rattle.xd_check.proofs.Loops.{ceiling}
 
 pub met_kept : (p : ProgramTable) (a b : Automaton) → Grows a b → (ms : List SeenMatch) (xs : List MetMatch) → AllZip (IsMet p a) ms xs → AllZip (IsMet p b) ms xs
 met_kept p a b g [] [] h = h
@@ -50,9 +41,6 @@ met_joined p a [] ns [] ys h k = k
 met_joined p a [] ns (x ∷ xs) ys h k = absurd h
 met_joined p a (m ∷ ms) ns [] ys h k = absurd h
 met_joined p a (m ∷ ms) ns (x ∷ xs) ys h k = (h.0, met_joined p a ms ns xs ys h.1 k)
-
-pub adds_kept : (p : ProgramTable) (a b : Automaton) → Grows a b → (A : List SeenMatch → Type 0) (old new : List MetMatch) → AddsMatches p a A old new → AddsMatches p b A old new
-adds_kept p a b g A old new h = record { more = h.more; grown = h.grown; seen = h.seen; each = met_kept p a b g h.seen h.more h.each; meet = h.meet }
 
 pub adds_none : (p : ProgramTable) (a : Automaton) (A : List SeenMatch → Type 0) → A [] → (xs : List MetMatch) → AddsMatches p a A xs xs
 adds_none p a A h xs = record { more = []; grown = sym (append-nil xs); seen = []; each = tt; meet = h }
@@ -90,7 +78,7 @@ rests_begin a vs = record { variables = refl; grows = grows_none a }
 pub rests_more : (a b c : Automaton) (vs ws us : List Variable) → Rests a b vs ws → us ≡ ws → Grows b c → Rests a c vs us
 rests_more a b c vs ws us r e g = record { variables = e ∙ r.variables; grows = grows_then a b c r.grows g }
 
--- whatever the parts that are left have, the whole has it behind what was met
+-- whatever the parts that are left have, the whole has it after what was met
 abbrev pub Goes : (List SeenMatch → Type 0) → (List SeenMatch → Type 0) → List SeenMatch → Type 0
 Goes Left Whole ms = (ns : List SeenMatch) → Left ns → Whole (ms ++ ns)
 

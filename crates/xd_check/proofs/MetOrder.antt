@@ -6,16 +6,16 @@ use Rattle.xd_base.specs.declared.Place.{Place}
 use Rattle.xd_auto.specs.Automaton.{Automaton, IsState}
 use Rattle.xd_syntax.specs.FunctionRow.{FunctionRow}
 use Rattle.xd_syntax.specs.Kept.{AddsTypes, ProgramTable, function_definition, program_tree}
-use Rattle.xd_syntax.specs.Expression.{Expression, Matched}
 use Rattle.xd_syntax.specs.ExpressionTable.{expression_at}
-use Rattle.xd_syntax.specs.Program.{ProgramTree}
+use Rattle.xd_syntax.specs.Program.{ProgramTree, names_of}
 use Rattle.xd_syntax.specs.May.{May}
 use Rattle.xd_check.specs.Walked.{AcceptsJust}
 use Rattle.xd_syntax.specs.Matches.{AreMatches, MatchesOfFunction, MatchesOfFunctions, SeenMatch, match_precedes}
 use Rattle.xd_syntax.specs.declared.exprs.ExprId.{ExprId}
 use Rattle.xd_least.specs.Least.{Knows}
 use Rattle.xd_patterns.specs.Compiler.{Serves}
-use Rattle.xd_check.specs.Ready.{expr_at}
+use Rattle.xd_clauses.specs.Compiled.{ArePatterns}
+use Rattle.xd_check.specs.Ready.{ServesOn, expr_at}
 use Rattle.xd_syntax.specs.Order.{is_earlier, ordered}
 use Rattle.xd_check.specs.Scrutinees.{AddsMatches, AddsMatchesOfFunction, AreMatchStates, AreScrutinees, StandsAlone, IsMet, IsScrutineeOf, met_precedes}
 use Rattle.xd_check.specs.Walked.{Grows}
@@ -122,14 +122,17 @@ pub scrutinees_met : (p : ProgramTable) (a : Automaton) (met : MatchStates) (ys 
 scrutinees_met p a met ys h k =
     record { matches = h.found; seen = h.seen; each = back_each p met.sound h.adds h.same h.found ys (apart_each met.sound a h.found met.matches.items ys h.each k) }
 
-pub met_all : (p : ProgramTable) (a : Automaton) (met : MatchStates) (xs : List MetMatch) → AddsTypes p met.sound → program_tree met.sound ≡ program_tree p → Serves met.sound met.compiler → Knows a met.store met.inhabitants →
+pub met_all : (p : ProgramTable) (a : Automaton) (met : MatchStates) (xs : List MetMatch) → AddsTypes p met.sound → program_tree met.sound ≡ program_tree p → Serves met.sound met.compiler →
+    ArePatterns (names_of (program_tree met.sound)) met.sound.patterns met.patterns → ServesOn a met.patterns → Knows a met.store met.inhabitants →
     AddsMatches met.sound a (MatchesOfFunctions (program_tree met.sound) (program_tree met.sound).functions) [] xs → met.matches.items ≡ ordered met_precedes xs → AreMatchStates p a met
-met_all p a met xs adds same serves known h e =
+met_all p a met xs adds same serves patterns points known h e =
     let m = met_in_order met.sound a xs h in
     record {
       adds = adds;
       same = same;
       serves = serves;
+      patterns = patterns;
+      points = points;
       known = known;
       found = m.0;
       seen = subst (λ (P : ProgramTree). AreMatches P m.0) same m.1;

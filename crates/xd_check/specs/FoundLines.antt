@@ -54,7 +54,7 @@ pub record AddsLines (ds : List Document) (A : List Line → Type 0) (old new : 
   pub belong : LinesBelong ds more
   pub meet : A (lines_of ds more)
 
--- the earlier place comes first; of one place the smaller number, and a warning behind the faults
+-- the earlier place comes first; of one place the smaller number, and a warning after the faults
 abbrev pub found_precedes : FoundLine → FoundLine → Bool
 found_precedes l m = is_earlier l.place m.place || (is_same_place l.place m.place && nat_lt (rank (kind_of l.finding)) (rank (kind_of m.finding)))
 

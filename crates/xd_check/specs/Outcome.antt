@@ -1,5 +1,5 @@
 -- What a check gives.
-use Rattle.std.specs.Prelude.{◌≡◌, ◌^◌, List, []}
+use Rattle.std.specs.Prelude.{◌≡◌, List, []}
 use Rattle.xd_doc.specs.Document.{Document}
 use Rattle.xd_doc.specs.LeastUpTo.{size_up_to}
 use Rattle.xd_least.specs.Least.{size_limit}

@@ -6,7 +6,7 @@ use Rattle.xd_doc.specs.Document.{Document}
 use Rattle.xd_syntax.specs.CheckFaults.{IsLiveIn}
 use Rattle.xd_syntax.specs.Expression.{Expression, Matched}
 use Rattle.xd_syntax.specs.Kept.{AddsTypes, ProgramTable, function_definition, program_tree}
-use Rattle.xd_syntax.specs.Program.{ProgramTree}
+use Rattle.xd_syntax.specs.Program.{ProgramTree, names_of}
 use Rattle.xd_syntax.specs.FunctionRow.{FunctionRow}
 use Rattle.xd_syntax.specs.Matches.{AreMatches, MatchesOf, MatchesOfFunction, SeenMatch}
 use Rattle.xd_syntax.specs.Order.{is_earlier}
@@ -14,7 +14,8 @@ use Rattle.xd_syntax.specs.May.{May, Scope, clause_entry}
 use Rattle.xd_syntax.specs.Placed.{PlacedTree}
 use Rattle.xd_least.specs.Least.{Knows}
 use Rattle.xd_patterns.specs.Compiler.{Serves}
-use Rattle.xd_check.specs.Ready.{CanBeWalked, expr_at}
+use Rattle.xd_clauses.specs.Compiled.{ArePatterns}
+use Rattle.xd_check.specs.Ready.{CanBeWalked, ServesOn, expr_at}
 use Rattle.xd_check.specs.Walked.{AcceptsJust}
 use Rattle.xd_check.specs.declared.matches.MetMatch.{MetMatch}
 use Rattle.xd_check.specs.declared.matches.MatchStates.{MatchStates}
@@ -43,18 +44,18 @@ pub record IsMet (p : ProgramTable) (a : Automaton) (m : SeenMatch) (x : MetMatc
   pub belongs : IsState a x.state
   pub exact : AcceptsJust a x.state (May (program_tree p) m.scope m.scrutinee)
 
--- The same matches, in an automaton of which something is known; the compiler serves the program,
--- to which types were added.
+-- The same matches, in an automaton of which something is known; the compiler and the compiled
+-- patterns serve the program, to which types were added.
 pub record AreMatchStates (p : ProgramTable) (a : Automaton) (met : MatchStates) : Type 0 where
   pub adds : AddsTypes p met.sound
   pub same : program_tree met.sound ≡ program_tree p
   pub serves : Serves met.sound met.compiler
+  pub patterns : ArePatterns (names_of (program_tree met.sound)) met.sound.patterns met.patterns
+  pub points : ServesOn a met.patterns
   pub known : Knows a met.store met.inhabitants
   pub found : List SeenMatch
   pub seen : AreMatches (program_tree p) found
   pub each : AllZip (IsMet met.sound a) found met.matches.items
-
--- ---- of what follows only private contracts speak
 
 -- matches that meet the fact were added
 pub record AddsMatches (p : ProgramTable) (a : Automaton) (A : List SeenMatch → Type 0) (old new : List MetMatch) : Type 0 where

@@ -1,6 +1,6 @@
 -- The declared types of functions as states.
-use Rattle.std.specs.Prelude.{◌≡◌, ℕ, suc, true, ◌↔◌, cond, List, [], ◌∷◌, map, get_or, Option, Some, None}
-use Rattle.std.specs.List.{AllByRecursion, slice_get}
+use Rattle.std.specs.Prelude.{◌≡◌, ℕ, suc, true, ◌↔◌, cond, List, [], ◌∷◌, ◌++◌, length, map, Option, Some, None}
+use Rattle.std.specs.List.{slice_get}
 use Rattle.std.specs.Ordering.{nat_cmp}
 use Rattle.std.specs.Cmp.Lexicographic.{slice_cmp}
 use Rattle.std.specs.Str.{bytes_eq}
@@ -10,15 +10,12 @@ use Rattle.xd_auto.specs.declared.auto.State.{State}
 use Rattle.xd_auto.specs.Automaton.{Automaton, IsState, accepts}
 use Rattle.xd_syntax.specs.Tree.{Definitions}
 use Rattle.xd_syntax.specs.Placed.{PlacedTree, unplaced}
-use Rattle.xd_syntax.specs.PlacedTable.{placed_at}
 use Rattle.xd_syntax.specs.Fits.{Fits}
 use Rattle.xd_syntax.specs.Program.{Parameter, FunctionDefinition, ProgramTree, names_of, function_of}
 use Rattle.xd_syntax.specs.Kept.{ProgramTable, function_definition, program_tree}
 use Rattle.xd_syntax.specs.FunctionRow.{FunctionRow}
-use Rattle.xd_syntax.specs.Types.{BelongsTo}
 use Rattle.xd_syntax.specs.declared.program.Param.{Param}
 use Rattle.xd_syntax.specs.declared.types.TypeId.{TypeId}
-use Rattle.xd_check.specs.declared.signatures.Declared.{Declared}
 use Rattle.xd_meaning.specs.KeptFaults.{AllPaired}
 use Rattle.xd_check.specs.declared.signatures.Signature.{Signature}
 use Rattle.xd_check.specs.declared.signatures.Signatures.{Signatures}
@@ -64,15 +61,18 @@ pub record AreSignatures (P : ProgramTree) (a : Automaton) (g : Signatures) : Ty
 abbrev pub IsSignatureOfRow : ProgramTable → Automaton → FunctionRow → Signature → Type 0
 IsSignatureOfRow p a f g = IsSignature (names_of (program_tree p)) a (function_definition p f) g
 
--- the types are those that the function of this number declares, and belong to the program
-pub record IsDeclaredAt (p : ProgramTable) (n : ℕ) (d : Declared) : Type 0 where
-  pub function : FunctionRow
-  pub stands : function ≡ get_or p.functions n function
-  pub parameters : d.parameters.items ≡ map (λ (q : Param). q.body) function.params
-  pub result : d.result ≡ function.declared
-  pub parameters_there : AllByRecursion (BelongsTo p.types) d.parameters.items
-  pub result_there : BelongsTo p.types d.result
+-- the types that functions declare, those of the parameters and then that of the result
+abbrev pub types_of : FunctionRow → List TypeId
+types_of f = map (λ (q : Param). q.body) f.params ++ f.declared ∷ []
 
--- the states are those of the types, in their order
-abbrev pub AreTypeStates : ProgramTable → Automaton → List TypeId → List State → Type 0
-AreTypeStates p a ids ss = AllPaired (λ (id : TypeId) (s : State). IsTypeState (names_of (program_tree p)) a (placed_at p.types id.at) s) ids ss
+abbrev pub types_declared : List FunctionRow → List TypeId
+types_declared [] = []
+types_declared (f ∷ fs) = types_of f ++ types_declared fs
+
+-- their states, in the same order
+abbrev pub states_signed : List Signature → List State
+states_signed [] = []
+states_signed (g ∷ gs) = (g.parameters.items ++ g.declared ∷ []) ++ states_signed gs
+
+abbrev pub HasParameters : FunctionRow → Signature → Type 0
+HasParameters f g = length g.parameters.items ≡ length f.params

@@ -1,6 +1,6 @@
 //! What the walk over a program's functions knows, and the walk over functions.
 
-ghost use Rattle.std.specs.Prelude.{◌≡◌, ◌<◌, [], length, IfOk, OnOk};
+ghost use Rattle.std.specs.Prelude.{◌≡◌, ◌<◌, length, IfOk, OnOk};
 ghost use Rattle.xd_doc.specs.StoreNodes.{Keeps};
 ghost use Rattle.xd_syntax.specs.Kept.{AddsTypes, function_definition, program_tree};
 ghost use Rattle.xd_auto.specs.Automaton.{IsState};
@@ -10,31 +10,40 @@ ghost use Rattle.xd_syntax.specs.Patterns.{IsPattern};
 ghost use Rattle.xd_syntax.specs.Exprs.{IsExpr};
 ghost use Rattle.xd_syntax.specs.Expression.{place_of_expression};
 ghost use Rattle.xd_syntax.specs.CheckFaults.{LineWhere, LinesOfFunction, LinesOfFunctions, wrong_result};
+ghost use Rattle.xd_syntax.specs.Program.{names_of};
+ghost use Rattle.xd_patterns.specs.Compiler.{Serves};
+ghost use Rattle.xd_clauses.specs.Compiled.{ArePatterns};
 ghost use Rattle.xd_check.specs.FoundLines.{AddsLines, told_size};
 ghost use Rattle.xd_check.specs.InScope.{parameters_in_scope};
 ghost use Rattle.xd_check.specs.Known.{IsKnown};
+ghost use Rattle.xd_check.specs.Ready.{ServesOn};
+ghost use Rattle.xd_check.specs.Signed.{AreSignatures};
 
+use crate::collect::patterns_of;
 use crate::known::Known;
 use crate::lines::{Finding, FoundLine};
-use crate::signatures::{Signature, Signatures};
+use crate::signatures::{Signature, Signatures, declared_types};
 use crate::states::misfit;
 use crate::variables::{Variable, Variables};
 use std::alloc::Global;
 use xd_auto::{Auto, State};
 use xd_base::Place;
+use xd_clauses::CompiledPatterns;
 use xd_doc::{NoMemory, Store};
 use xd_pattern_runs::laws::programs_are_linear;
 use xd_patterns::PatternCompiler;
+use xd_points::laws::serving_stays;
 use xd_sound::SoundProgram;
 use xd_syntax::{ExprId, Function, Param, PatternId};
 
-/// The program, what compiles its patterns, and its functions' declared types as states of an
-/// automaton.
+/// The program, what compiles its patterns, and its clauses' patterns and its functions' declared
+/// types as states of an automaton.
 #[derive(Drop)]
 pub(crate) struct Checker {
     pub alloc: Global,
     pub sound: SoundProgram,
     pub compiler: PatternCompiler,
+    pub patterns: CompiledPatterns,
     pub signatures: Signatures,
 }
 
@@ -43,20 +52,20 @@ impl Checker {
     ghost use Rattle.xd_check.specs.Signed.{IsSignatureOfRow};
     ghost use Rattle.xd_check.specs.Walked.{Grows, IsMisfit};
 
-    /// The states of declared types are added to the automaton.
+    /// The states of declared types and of the clauses' patterns are added to the automaton.
     pub(crate) fn new(alloc: Global, sound: SoundProgram, auto: &mut Auto) -> Result<Self, NoMemory>
-        requires { auto.old ≡ [] }
         ensures ready { IfOk result (λ made. IsReady made auto.new) }
         ensures adds { IfOk result (λ made. AddsTypes sound made.sound) }
         ensures same { IfOk result (λ made. program_tree made.sound ≡ program_tree sound) }
     {
         let mut sound = sound;
-        let signatures = Signatures::new(alloc, &mut sound, auto)?;
         let compiler = PatternCompiler::new(alloc, &mut sound)?;
+        let (patterns, signatures) = compile(alloc, &compiler, &sound, auto)?;
         Ok(Self {
             alloc,
             sound,
             compiler,
+            patterns,
             signatures,
         })
     }
@@ -181,6 +190,28 @@ impl Checker {
         }
         Ok(())
     }
+}
+
+/// Adds the states of the types that a program's functions declare, and of the patterns of its
+/// clauses.
+fn compile(
+    alloc: Global,
+    compiler: &PatternCompiler,
+    sound: &SoundProgram,
+    auto: &mut Auto,
+) -> Result<(CompiledPatterns, Signatures), NoMemory>
+    requires { Serves sound.now compiler.now }
+    ensures patterns { IfOk result (λ made. ArePatterns (names_of (program_tree sound.now)) sound.now.patterns made.0) }
+    ensures points { IfOk result (λ made. ServesOn auto.new made.0) }
+    ensures signatures { IfOk result (λ made. AreSignatures (program_tree sound.now) auto.new made.1) }
+{
+    let types = declared_types(alloc, sound.program().functions())?;
+    let ids = patterns_of(alloc, sound)?;
+    let patterns = CompiledPatterns::with_types(alloc, compiler, sound, &types, ids, auto)?;
+    let signatures = Signatures::new(alloc, sound, patterns.types())?;
+    let _states = auto.len();
+    serving_stays();
+    Ok((patterns, signatures))
 }
 
 /// The parameters of a function in scope, the first one as the newest.

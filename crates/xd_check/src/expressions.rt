@@ -18,23 +18,25 @@ ghost use Rattle.xd_syntax.specs.CheckFaults.{LinesOfArguments, parameters_of};
 ghost use Rattle.xd_syntax.specs.Expression.{Expression, arguments_of, place_of_expression};
 ghost use Rattle.xd_syntax.specs.ExpressionTable.{clauses_of};
 ghost use Rattle.xd_syntax.specs.Exprs.{IsExpr, clause_numbers, expr_numbers};
-ghost use Rattle.xd_clauses.specs.Clauses.{Accepted, IsPatternOf};
+ghost use Rattle.xd_points.specs.Meaning.{ServePoints};
+ghost use Rattle.xd_clauses.specs.Clauses.{Accepted};
+ghost use Rattle.xd_clauses.specs.Compiled.{IsNumbered};
 ghost use Rattle.xd_check.specs.FoundLines.{AddsLines, told_size};
 ghost use Rattle.xd_check.specs.InScope.{AreStates, ScopeStands};
 ghost use Rattle.xd_check.specs.Known.{IsKnown};
 ghost use Rattle.xd_check.specs.Signed.{AreParameters};
-ghost use Rattle.xd_check.specs.Ready.{CanBeWalked, ClauseCanBeWalked, IsReady, expr_at};
+ghost use Rattle.xd_check.specs.Ready.{CanBeWalked, ClauseCanBeWalked, IsCompiledMatch, IsReady, expr_at};
 ghost use Rattle.xd_check.specs.Walked.{AreClausesWalked, ArePartsWalked, ComesBehind, ComesTo, Grows, IsClauseWalked, IsWalked, LinesOfArgument};
 
 use crate::checker::Checker;
-use crate::clauses::{bring_in, pass_on, see_uncovered};
+use crate::clauses::{CompiledMatch, MatchPatterns, bring_in, pass_found, see_uncovered};
 use crate::known::Known;
 use crate::lines::{Finding, FoundLine};
 use crate::states::{join_states, misfit, text_state, unite_states, variable_state};
 use crate::variables::Variables;
 use xd_auto::{Auto, State};
 use xd_base::Place;
-use xd_clauses::{ClausePattern, Remaining};
+use xd_clauses::{NumberedPattern, Remaining};
 use xd_doc::{Label, NoMemory, Store};
 use xd_syntax::{Clause, ExprForm, ExprId};
 
@@ -243,23 +245,61 @@ impl Checker {
         ensures known { OnOk result (IsKnown auto.new store.new known.new) }
         ensures keeps { Keeps store.old store.new }
     {
+        let own = MatchPatterns::new(
+            self.alloc,
+            &self.patterns,
+            &self.compiler,
+            &self.sound,
+            clauses,
+        )?;
+        let compiled = CompiledMatch {
+            place,
+            clauses,
+            numbers: own.numbers(),
+            patterns: own.among(&self.patterns),
+        };
+        self.in_match(compiled, scrutinee, variables, auto, known, lines, store)
+    }
+
+    /// The same where the patterns of the clauses are compiled.
+    #[cycle(expressions)]
+    fn in_match(
+        &self,
+        compiled: CompiledMatch<'_>,
+        scrutinee: State,
+        variables: &mut Variables,
+        auto: &mut Auto,
+        known: &mut Known,
+        lines: &mut Vec<FoundLine>,
+        store: &mut Store,
+    ) -> Result<State, NoMemory>
+        requires ready { IsReady self.now auto.old }
+        requires compiled { IsCompiledMatch self.now.sound auto.old compiled }
+        requires clauses { AllByRecursion (ClauseCanBeWalked self.now.sound) (clause_numbers compiled.clauses.now) }
+        requires scrutinee { IsState auto.old scrutinee }
+        requires variables { AreStates auto.old variables.old }
+        requires known { IsKnown auto.old store.old known.old }
+        ensures belongs { IfOk result (IsState auto.new) }
+        ensures walked { IfOk result (λ state. (S : Scope) (e : Expression) → ScopeStands (program_tree self.now.sound) S auto.old variables.old → ComesBehind (program_tree self.now.sound) S e [] (Accepted auto.old scrutinee) → AreClausesWalked (program_tree self.now.sound) S compiled.entry.place e (clauses_of (placed_at self.now.sound.patterns) (expr_at self.now.sound) (clause_numbers compiled.entry.clauses.now)) auto.new store.new lines.old.items lines.new.items state) }
+        ensures variables { OnOk result (variables.new ≡ variables.old) }
+        ensures grows { OnOk result (Grows auto.old auto.new) }
+        ensures known { OnOk result (IsKnown auto.new store.new known.new) }
+        ensures keeps { Keeps store.old store.new }
+    {
+        let clauses = compiled.clauses;
+        let patterns = compiled.patterns;
         let mut remaining = Remaining::new(self.alloc, scrutinee)?;
         let mut states = Vec::new(self.alloc);
-        for clause in clauses {
-            let pattern = ClausePattern::new(
-                self.alloc,
-                &self.compiler,
-                &self.sound,
-                clause.pattern,
-            )?;
-            let (coming, arriving) = remaining.coming_to(self.alloc, auto, &pattern)?;
+        for (number, clause) in clauses.iter().enumerate() {
+            let pattern = patterns.pattern(compiled.numbers[number]);
+            let (coming, arriving) = remaining.coming_to(self.alloc, auto, pattern)?;
             let found = self.in_clause(
-                *clause, &pattern, arriving, variables, auto, known, lines, store,
+                *clause, pattern, arriving, variables, auto, known, lines, store,
             )?;
-            remaining = pass_on(&pattern, found, coming, &mut states)?;
+            remaining = pass_found(pattern, found, coming, &mut states)?;
         }
-        let left = remaining.left_over(self.alloc, auto)?;
-        see_uncovered(self.alloc, place, auto, left, known, lines, store)?;
+        let left = remaining.left_over(self.alloc, auto, patterns)?;
+        see_uncovered(self.alloc, compiled.place, auto, left, known, lines, store)?;
         Ok(unite_states(states, auto)?)
     }
 
@@ -268,7 +308,7 @@ impl Checker {
     fn in_clause(
         &self,
         clause: Clause,
-        pattern: &ClausePattern,
+        pattern: NumberedPattern<'_>,
         arriving: State,
         variables: &mut Variables,
         auto: &mut Auto,
@@ -278,7 +318,8 @@ impl Checker {
     ) -> Result<Option<State>, NoMemory>
         requires ready { IsReady self.now auto.old }
         requires clause { ClauseCanBeWalked self.now.sound (clause.pattern.at, clause.body.at) }
-        requires pattern { IsPatternOf (names_of (program_tree self.now.sound)) (tree_at self.now.sound.patterns clause.pattern.at) pattern.now }
+        requires pattern { IsNumbered (names_of (program_tree self.now.sound)) (tree_at self.now.sound.patterns clause.pattern.at) pattern.patterns.now pattern.number }
+        requires points { ServePoints auto.old pattern.patterns.now.states }
         requires arriving { IsState auto.old arriving }
         requires variables { AreStates auto.old variables.old }
         requires known { IsKnown auto.old store.old known.old }

@@ -3,6 +3,7 @@
 
 mod checker;
 mod clauses;
+mod collect;
 mod expressions;
 mod known;
 mod lines;
@@ -12,5 +13,6 @@ mod signatures;
 mod states;
 mod variables;
 
-pub use matches::{MatchStates, MetMatch, Scrutinee, left_behind, met_matches, scrutinees};
+pub use clauses::{CompiledMatch, MatchPatterns, pass_on};
+pub use matches::{MatchStates, MetMatch, Scrutinee, met_matches, scrutinees};
 pub use outcome::{CheckOutcome, check};

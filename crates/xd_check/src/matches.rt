@@ -3,10 +3,7 @@
 //! The matches are walked by recursion, no deeper than expressions stand in one another. The state
 //! of a scrutinee is the one that the check has for it.
 
-ghost use Rattle.std.specs.Prelude.{◌≡◌, ◌<◌, ◌↔◌, true, List, [], length, map, IfOk, OnOk};
-ghost use Rattle.xd_doc.specs.Document.{Document};
-ghost use Rattle.xd_syntax.specs.Tree.{Definitions};
-ghost use Rattle.xd_syntax.specs.Ways.{Takes};
+ghost use Rattle.std.specs.Prelude.{◌≡◌, ◌<◌, List, [], length, map, IfOk, OnOk};
 ghost use Rattle.std.specs.List.{AllByRecursion, AllZip};
 ghost use Rattle.xd_auto.specs.Automaton.{IsState};
 ghost use Rattle.xd_syntax.specs.Expression.{Expression, arguments_of};
@@ -17,27 +14,29 @@ ghost use Rattle.xd_syntax.specs.Order.{ordered};
 ghost use Rattle.xd_check.specs.Signed.{IsSignatureOfRow};
 ghost use Rattle.xd_syntax.specs.Matches.{MatchesOf, MatchesOfArguments, MatchesOfClauses, MatchesOfFunction, MatchesOfFunctions};
 ghost use Rattle.xd_syntax.specs.May.{Scope};
-ghost use Rattle.xd_syntax.specs.Placed.{PlacedTree, unplaced};
+ghost use Rattle.xd_syntax.specs.Placed.{PlacedTree};
 ghost use Rattle.xd_syntax.specs.PlacedTable.{placed_at};
 ghost use Rattle.xd_syntax.specs.Program.{names_of};
 ghost use Rattle.xd_syntax.specs.Table.{tree_at};
-ghost use Rattle.xd_clauses.specs.Clauses.{Accepted, IsPatternOf};
+ghost use Rattle.xd_points.specs.Meaning.{ServePoints};
+ghost use Rattle.xd_clauses.specs.Clauses.{Accepted};
+ghost use Rattle.xd_clauses.specs.Compiled.{IsNumbered};
 ghost use Rattle.xd_check.specs.InScope.{AreStates, ScopeStands};
 ghost use Rattle.xd_check.specs.Known.{IsKnown};
-ghost use Rattle.xd_check.specs.Ready.{CanBeWalked, ClauseCanBeWalked, IsReady, expr_at};
+ghost use Rattle.xd_check.specs.Ready.{CanBeWalked, ClauseCanBeWalked, IsCompiledMatch, IsReady, expr_at};
 ghost use Rattle.xd_check.specs.Scrutinees.{AddsMatches, AddsMatchesOfFunction, AreMatchStates, AreScrutinees, StandsAlone, IsClauseMet, met_precedes};
 ghost use Rattle.xd_check.specs.declared.matches.MetMatch.{MetMatch};
-ghost use Rattle.xd_check.specs.Walked.{ComesBehind, Grows};
+ghost use Rattle.xd_check.specs.Walked.{ComesBehind, ComesTo, Grows};
 
 use crate::checker::{Checker, parameters};
-use crate::clauses::{bring_in, pass_on};
+use crate::clauses::{CompiledMatch, MatchPatterns, bring_in, pass_on};
 use crate::known::Known;
 use crate::signatures::Signature;
 use crate::variables::Variables;
 use std::alloc::Global;
 use xd_auto::{Auto, State, trim};
 use xd_base::Place;
-use xd_clauses::ClausePattern;
+use xd_clauses::{CompiledPatterns, NumberedPattern, Remaining};
 use xd_doc::{NoMemory, Store};
 use xd_least::LeastInhabitants;
 use xd_pattern_runs::laws::programs_are_linear;
@@ -75,6 +74,8 @@ pub struct MatchStates {
     pub sound: SoundProgram,
     /// What compiles the program's patterns.
     pub compiler: PatternCompiler,
+    /// The patterns of its clauses.
+    pub patterns: CompiledPatterns,
     /// What is known of the automaton's states, with documents of the store.
     pub inhabitants: LeastInhabitants,
     pub store: Store,
@@ -119,11 +120,13 @@ pub fn met_matches(
     let Checker {
         sound,
         compiler,
+        patterns,
         ..
     } = checker;
     Ok(MatchStates {
         sound,
         compiler,
+        patterns,
         inhabitants,
         store,
         matches: met,
@@ -155,29 +158,6 @@ fn apart(alloc: Global, auto: &Auto, met: &[MetMatch]) -> Result<Vec<Scrutinee>,
     Ok(made)
 }
 
-/// A state for what goes on to the next clause: what the pattern doesn't take, or all that came, as
-/// the state that it was, where the clause isn't live.
-///
-/// Fails only where memory is refused: then old states are what they were.
-pub fn left_behind(
-    alloc: Global,
-    pattern: &ClausePattern,
-    is_live: bool,
-    auto: &mut Auto,
-    arriving: State,
-) -> Result<State, NoMemory>
-    requires { IsState auto.old arriving }
-    ensures belongs { IfOk result (IsState auto.new) }
-    ensures exact { IfOk result (λ left. (E : Definitions) (P : PlacedTree) → IsPatternOf E (unplaced P) pattern.now → (d : Document) → Accepted auto.new left d ↔ (Accepted auto.old arriving d × (is_live ≡ true → Takes E (unplaced P) d → ⊥))) }
-    ensures grows { OnOk result (Grows auto.old auto.new) }
-{
-    if is_live {
-        Ok(pattern.pass(alloc, auto, arriving)?)
-    } else {
-        Ok(arriving)
-    }
-}
-
 /// What a walk over matches has met, and what it knows of the states.
 #[derive(Drop)]
 pub(crate) struct Meeting {
@@ -191,6 +171,7 @@ impl Checker {
     fn meet_all(&self, auto: &mut Auto) -> Result<Meeting, NoMemory>
         requires { IsReady self.now auto.old }
         ensures met { IfOk result (λ meeting. AddsMatches self.now.sound auto.new (MatchesOfFunctions (program_tree self.now.sound) (program_tree self.now.sound).functions) [] meeting.met.items) }
+        ensures grows { OnOk result (Grows auto.old auto.new) }
         ensures known { IfOk result (λ meeting. IsKnown auto.new meeting.store meeting.known) }
     {
         let store = Store::new(self.alloc);
@@ -208,6 +189,7 @@ impl Checker {
         requires ready { IsReady self.now auto.old }
         requires known { IsKnown auto.old meeting.old.store meeting.old.known }
         ensures met { OnOk result (AddsMatches self.now.sound auto.new (MatchesOfFunctions (program_tree self.now.sound) (program_tree self.now.sound).functions) meeting.old.met.items meeting.new.met.items) }
+        ensures grows { OnOk result (Grows auto.old auto.new) }
         ensures known { OnOk result (IsKnown auto.new meeting.new.store meeting.new.known) }
     {
         let functions = self.sound.program().functions();
@@ -285,6 +267,7 @@ impl Checker {
             ExprForm::Seq(parts) => self.meet_each(parts, variables, auto, meeting),
             ExprForm::Call(_, arguments) => self.meet_each(arguments, variables, auto, meeting),
             ExprForm::Match(scrutinee, clauses) => {
+                let place = node.place();
                 let mut lines = Vec::new(self.alloc);
                 let state = self.in_expression(
                     *scrutinee,
@@ -296,11 +279,11 @@ impl Checker {
                 )?;
                 meeting.met.push(MetMatch {
                     expr: id,
-                    place: node.place(),
+                    place,
                     state,
                 })?;
                 self.meet(*scrutinee, variables, auto, meeting)?;
-                self.meet_clauses(clauses, state, variables, auto, meeting)
+                self.meet_clauses(place, clauses, state, variables, auto, meeting)
             }
         }
     }
@@ -329,37 +312,72 @@ impl Checker {
         Ok(())
     }
 
-    /// Those in the bodies of a match's clauses.
+    /// Those in the bodies of the clauses of a match at this place.
     #[cycle(matches)]
     fn meet_clauses(
         &self,
+        place: Place,
         clauses: &[Clause],
-        arriving: State,
+        scrutinee: State,
         variables: &mut Variables,
         auto: &mut Auto,
         meeting: &mut Meeting,
     ) -> Result<(), NoMemory>
         requires ready { IsReady self.now auto.old }
         requires clauses { AllByRecursion (ClauseCanBeWalked self.now.sound) (clause_numbers clauses.now) }
-        requires arriving { IsState auto.old arriving }
+        requires scrutinee { IsState auto.old scrutinee }
         requires variables { AreStates auto.old variables.old }
         requires known { IsKnown auto.old meeting.old.store meeting.old.known }
-        ensures met { OnOk result ((S : Scope) (e : Expression) → ScopeStands (program_tree self.now.sound) S auto.old variables.old → ComesBehind (program_tree self.now.sound) S e [] (Accepted auto.old arriving) → AddsMatches self.now.sound auto.new (MatchesOfClauses (program_tree self.now.sound) S e [] (clauses_of (placed_at self.now.sound.patterns) (expr_at self.now.sound) (clause_numbers clauses.now))) meeting.old.met.items meeting.new.met.items) }
+        ensures met { OnOk result ((S : Scope) (e : Expression) → ScopeStands (program_tree self.now.sound) S auto.old variables.old → ComesBehind (program_tree self.now.sound) S e [] (Accepted auto.old scrutinee) → AddsMatches self.now.sound auto.new (MatchesOfClauses (program_tree self.now.sound) S e [] (clauses_of (placed_at self.now.sound.patterns) (expr_at self.now.sound) (clause_numbers clauses.now))) meeting.old.met.items meeting.new.met.items) }
         ensures variables { OnOk result (variables.new ≡ variables.old) }
         ensures grows { OnOk result (Grows auto.old auto.new) }
         ensures known { OnOk result (IsKnown auto.new meeting.new.store meeting.new.known) }
     {
-        let mut arriving = arriving;
-        for clause in clauses {
-            let pattern = ClausePattern::new(
-                self.alloc,
-                &self.compiler,
-                &self.sound,
-                clause.pattern,
-            )?;
-            let is_live = self.meet_clause(*clause, &pattern, arriving, variables, auto, meeting)?;
-            let left = left_behind(self.alloc, &pattern, is_live, auto, arriving)?;
-            arriving = left;
+        let own = MatchPatterns::new(
+            self.alloc,
+            &self.patterns,
+            &self.compiler,
+            &self.sound,
+            clauses,
+        )?;
+        let compiled = CompiledMatch {
+            place,
+            clauses,
+            numbers: own.numbers(),
+            patterns: own.among(&self.patterns),
+        };
+        self.meet_match(compiled, scrutinee, variables, auto, meeting)
+    }
+
+    /// The same where the patterns of the clauses are compiled.
+    #[cycle(matches)]
+    fn meet_match(
+        &self,
+        compiled: CompiledMatch<'_>,
+        scrutinee: State,
+        variables: &mut Variables,
+        auto: &mut Auto,
+        meeting: &mut Meeting,
+    ) -> Result<(), NoMemory>
+        requires ready { IsReady self.now auto.old }
+        requires compiled { IsCompiledMatch self.now.sound auto.old compiled }
+        requires clauses { AllByRecursion (ClauseCanBeWalked self.now.sound) (clause_numbers compiled.clauses.now) }
+        requires scrutinee { IsState auto.old scrutinee }
+        requires variables { AreStates auto.old variables.old }
+        requires known { IsKnown auto.old meeting.old.store meeting.old.known }
+        ensures met { OnOk result ((S : Scope) (e : Expression) → ScopeStands (program_tree self.now.sound) S auto.old variables.old → ComesBehind (program_tree self.now.sound) S e [] (Accepted auto.old scrutinee) → AddsMatches self.now.sound auto.new (MatchesOfClauses (program_tree self.now.sound) S e [] (clauses_of (placed_at self.now.sound.patterns) (expr_at self.now.sound) (clause_numbers compiled.entry.clauses.now))) meeting.old.met.items meeting.new.met.items) }
+        ensures variables { OnOk result (variables.new ≡ variables.old) }
+        ensures grows { OnOk result (Grows auto.old auto.new) }
+        ensures known { OnOk result (IsKnown auto.new meeting.new.store meeting.new.known) }
+    {
+        let clauses = compiled.clauses;
+        let patterns = compiled.patterns;
+        let mut remaining = Remaining::new(self.alloc, scrutinee)?;
+        for (number, clause) in clauses.iter().enumerate() {
+            let pattern = patterns.pattern(compiled.numbers[number]);
+            let (coming, arriving) = remaining.coming_to(self.alloc, auto, pattern)?;
+            let is_live = self.meet_clause(*clause, pattern, arriving, variables, auto, meeting)?;
+            remaining = pass_on(pattern, is_live, coming)?;
         }
         Ok(())
     }
@@ -369,7 +387,7 @@ impl Checker {
     fn meet_clause(
         &self,
         clause: Clause,
-        pattern: &ClausePattern,
+        pattern: NumberedPattern<'_>,
         arriving: State,
         variables: &mut Variables,
         auto: &mut Auto,
@@ -377,11 +395,12 @@ impl Checker {
     ) -> Result<bool, NoMemory>
         requires ready { IsReady self.now auto.old }
         requires clause { ClauseCanBeWalked self.now.sound (clause.pattern.at, clause.body.at) }
-        requires pattern { IsPatternOf (names_of (program_tree self.now.sound)) (tree_at self.now.sound.patterns clause.pattern.at) pattern.now }
+        requires pattern { IsNumbered (names_of (program_tree self.now.sound)) (tree_at self.now.sound.patterns clause.pattern.at) pattern.patterns.now pattern.number }
+        requires points { ServePoints auto.old pattern.patterns.now.states }
         requires arriving { IsState auto.old arriving }
         requires variables { AreStates auto.old variables.old }
         requires known { IsKnown auto.old meeting.old.store meeting.old.known }
-        ensures met { IfOk result (λ live. (S : Scope) (e : Expression) (earlier : List PlacedTree) → ScopeStands (program_tree self.now.sound) S auto.old variables.old → ComesBehind (program_tree self.now.sound) S e earlier (Accepted auto.old arriving) → IsClauseMet self.now.sound S e earlier (placed_at self.now.sound.patterns clause.pattern.at) (expr_at self.now.sound clause.body.at) auto.new meeting.old.met.items meeting.new.met.items live) }
+        ensures met { IfOk result (λ live. (S : Scope) (e : Expression) (earlier : List PlacedTree) → ScopeStands (program_tree self.now.sound) S auto.old variables.old → ComesTo (program_tree self.now.sound) S e earlier (placed_at self.now.sound.patterns clause.pattern.at) (Accepted auto.old arriving) → IsClauseMet self.now.sound S e earlier (placed_at self.now.sound.patterns clause.pattern.at) (expr_at self.now.sound clause.body.at) auto.new meeting.old.met.items meeting.new.met.items live) }
         ensures variables { OnOk result (variables.new ≡ variables.old) }
         ensures grows { OnOk result (Grows auto.old auto.new) }
         ensures known { OnOk result (IsKnown auto.new meeting.new.store meeting.new.known) }

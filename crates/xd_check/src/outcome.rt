@@ -36,7 +36,7 @@ pub enum CheckOutcome {
 /// are never reached; the body of such a clause isn't looked at.
 ///
 /// The documents that faults carry are put into the store. The program is given up where it is
-/// refused, and for want of memory.
+/// refused, and where memory runs out.
 pub fn check(
     alloc: Global,
     sound: SoundProgram,
@@ -49,14 +49,13 @@ pub fn check(
     check_in(alloc, sound, &mut auto, store)
 }
 
-/// The same by an automaton that has no states yet.
+/// The same by states of this automaton.
 fn check_in(
     alloc: Global,
     sound: SoundProgram,
     auto: &mut Auto,
     store: &mut Store,
 ) -> Result<CheckOutcome, NoMemory>
-    requires { auto.old ≡ [] }
     ensures outcome { IfOk result (IsOutcome sound store.new) }
     ensures keeps { Keeps store.old store.new }
 {

@@ -1,35 +1,23 @@
 //! The declared types of functions as states.
 
-ghost use Rattle.std.specs.Prelude.{◌≡◌, ◌<◌, ℕ, List, [], length, map, IfOk, OnOk};
-ghost use Rattle.std.specs.List.{AllByRecursion};
+ghost use Rattle.std.specs.Prelude.{◌≡◌, ◌<◌, ◌≤◌, ◌+◌, ◌∷◌, ◌++◌, ℕ, List, length, drop, IfOk, OnOk};
 ghost use Rattle.std.specs.Option.{option_copied};
 ghost use Rattle.std.specs.Ordering.{nat_cmp};
 ghost use Rattle.std.specs.Cmp.Lexicographic.{slice_cmp};
 ghost use Rattle.std.specs.BTreeMap.{get};
+ghost use Rattle.xd_auto.specs.Automaton.{Automaton};
 ghost use Rattle.xd_syntax.specs.Kept.{program_tree};
-ghost use Rattle.xd_syntax.specs.PlacedTable.{placed_at};
 ghost use Rattle.xd_syntax.specs.Program.{names_of};
-ghost use Rattle.xd_syntax.specs.Types.{BelongsTo};
-ghost use Rattle.xd_heads.specs.Growing.{GrowsTypes};
-ghost use Rattle.xd_heads.specs.Mirrors.{Mirrors};
 ghost use Rattle.xd_meaning.specs.KeptFaults.{AllPaired};
-ghost use Rattle.xd_check.specs.Walked.{Grows};
-ghost use Rattle.xd_check.specs.Signed.{AreSignatures, AreTypeStates, IsDeclaredAt, IsSignatureOfRow, IsTypeState, number_from, signature_of};
+ghost use Rattle.xd_patterns.specs.CompiledProgram.{AcceptsType};
+ghost use Rattle.xd_check.specs.Signed.{AreSignatures, HasParameters, number_from, signature_of, states_signed, types_declared, types_of};
 
 use std::alloc::Global;
 use std::collections::BTreeMap;
-use xd_auto::{Auto, State};
+use xd_auto::State;
 use xd_doc::{Label, NoMemory};
-use xd_heads::{Cells, compile_type};
 use xd_sound::SoundProgram;
-use xd_syntax::{Function, Param, TypeId};
-
-/// The types that a function declares.
-#[derive(Drop)]
-pub(crate) struct Declared {
-    pub parameters: Vec<TypeId>,
-    pub result: TypeId,
-}
+use xd_syntax::{Function, TypeId};
 
 /// A function's declared types as states.
 #[derive(Drop)]
@@ -46,19 +34,18 @@ pub(crate) struct Signatures {
 }
 
 impl Signatures {
-    /// Those of a program's functions. Their states are added to the automaton, and types to the
-    /// program.
+    /// Those of a program's functions, whose declared types have these states.
     pub(crate) fn new(
         alloc: Global,
-        sound: &mut SoundProgram,
-        auto: &mut Auto,
+        sound: &SoundProgram,
+        states: &[State],
     ) -> Result<Self, NoMemory>
-        requires { auto.old ≡ [] }
-        ensures signatures { IfOk result (AreSignatures (program_tree sound.old) auto.new) }
-        ensures types { OnOk result (GrowsTypes sound.old sound.new) }
+        requires { length states.now ≡ length (types_declared sound.now.functions) }
+        ensures { IfOk result (λ made. (a : Automaton) → AllPaired (AcceptsType (names_of (program_tree sound.now)) sound.now.types a) (types_declared sound.now.functions) states.now → AreSignatures (program_tree sound.now) a made) }
     {
-        let numbers = numbers(alloc, sound.program().functions())?;
-        let rows = compile_functions(alloc, sound, auto)?;
+        let functions = sound.program().functions();
+        let numbers = numbers(alloc, functions)?;
+        let rows = signatures_of(alloc, functions, states)?;
         Ok(Self { rows, numbers })
     }
 
@@ -91,100 +78,67 @@ fn numbers(alloc: Global, functions: &[Function]) -> Result<BTreeMap<Label, usiz
     Ok(numbers)
 }
 
-/// The signatures of all functions, in their order.
-fn compile_functions(
+/// The signatures of all functions, in their order, whose declared types have these states.
+fn signatures_of(
     alloc: Global,
-    sound: &mut SoundProgram,
-    auto: &mut Auto,
+    functions: &[Function],
+    states: &[State],
 ) -> Result<Vec<Signature>, NoMemory>
-    requires { auto.old ≡ [] }
-    ensures rows { IfOk result (λ rows. AllPaired (IsSignatureOfRow sound.old auto.new) sound.old.functions rows.items) }
-    ensures types { OnOk result (GrowsTypes sound.old sound.new) }
-{
-    let mut cells = Cells::new(alloc);
-    compile_each(alloc, sound, &mut cells, auto)
-}
-
-/// The same over these cells.
-fn compile_each(
-    alloc: Global,
-    sound: &mut SoundProgram,
-    cells: &mut Cells,
-    auto: &mut Auto,
-) -> Result<Vec<Signature>, NoMemory>
-    requires { Mirrors sound.old cells.old auto.old }
-    ensures rows { IfOk result (λ rows. AllPaired (IsSignatureOfRow sound.old auto.new) sound.old.functions rows.items) }
-    ensures types { OnOk result (GrowsTypes sound.old sound.new) }
+    requires { length states.now ≡ length (types_declared functions.now) }
+    ensures states { IfOk result (λ rows. states.now ≡ states_signed rows.items) }
+    ensures parameters { IfOk result (λ rows. AllPaired HasParameters functions.now rows.items) }
 {
     let mut rows = Vec::new(alloc);
-    for number in 0..sound.program().functions().len() {
-        let declared = declared_types(alloc, sound, number)?;
-        rows.push(compile_declared(alloc, sound, cells, auto, &declared)?)?;
+    let mut left = states;
+    for function in functions {
+        let count = function.params().len();
+        rows.push(first_signature(alloc, left, count)?)?;
+        left = behind(left, count + 1);
     }
     Ok(rows)
 }
 
-/// The types that the function of this number declares.
-fn declared_types(alloc: Global, sound: &SoundProgram, number: usize) -> Result<Declared, NoMemory>
-    requires { number < length sound.now.functions }
-    ensures { IfOk result (IsDeclaredAt sound.now number) }
+/// All but the first so many states.
+fn behind(states: &[State], count: usize) -> &[State]
+    requires { count ≤ length states.now }
+    ensures { result.now ≡ drop count states.now }
 {
-    let function = &sound.program().functions()[number];
-    let parameters = parameter_types(alloc, function.params())?;
-    Ok(Declared {
-        parameters,
-        result: function.result_type(),
-    })
+    &states[count..]
 }
 
-fn parameter_types(alloc: Global, params: &[Param]) -> Result<Vec<TypeId>, NoMemory>
-    ensures { IfOk result (λ types. types.items ≡ map (λ q. q.body) params.now) }
+/// The signature of a function with so many parameters, whose declared types have the first of
+/// these states.
+fn first_signature(alloc: Global, states: &[State], count: usize) -> Result<Signature, NoMemory>
+    requires { count < length states.now }
+    ensures parameters { IfOk result (λ made. length made.parameters.items ≡ count) }
+    ensures states { IfOk result (λ made. states.now ≡ made.parameters.items ++ made.declared ∷ drop (count + 1) states.now) }
 {
-    Ok(params.iter().map(|param| param.body).collect(alloc)?)
-}
-
-fn compile_declared(
-    alloc: Global,
-    sound: &mut SoundProgram,
-    cells: &mut Cells,
-    auto: &mut Auto,
-    declared: &Declared,
-) -> Result<Signature, NoMemory>
-    requires parameters { AllByRecursion (BelongsTo sound.old.types) declared.now.parameters.items }
-    requires declared_type { BelongsTo sound.old.types declared.now.result }
-    requires mirrors { Mirrors sound.old cells.old auto.old }
-    ensures parameters { IfOk result (λ made. AreTypeStates sound.old auto.new declared.now.parameters.items made.parameters.items) }
-    ensures declared_type { IfOk result (λ made. IsTypeState (names_of (program_tree sound.old)) auto.new (placed_at sound.old.types declared.now.result.at) made.declared) }
-    ensures mirrors { OnOk result (Mirrors sound.new cells.new auto.new) }
-    ensures grows { OnOk result (Grows auto.old auto.new) }
-    ensures types { OnOk result (GrowsTypes sound.old sound.new) }
-{
-    let parameters = compile_types(alloc, sound, cells, auto, &declared.parameters)?;
-    let result = compile_type(alloc, sound, cells, auto, declared.result)?;
+    let parameters = states[..count].to_vec(alloc)?;
     Ok(Signature {
         parameters,
-        declared: result,
+        declared: states[count],
     })
 }
 
-/// States of types, in their order.
-fn compile_types(
-    alloc: Global,
-    sound: &mut SoundProgram,
-    cells: &mut Cells,
-    auto: &mut Auto,
-    ids: &[TypeId],
-) -> Result<Vec<State>, NoMemory>
-    requires belong { AllByRecursion (BelongsTo sound.old.types) ids.now }
-    requires mirrors { Mirrors sound.old cells.old auto.old }
-    ensures states { IfOk result (λ made. AreTypeStates sound.old auto.new ids.now made.items) }
-    ensures mirrors { OnOk result (Mirrors sound.new cells.new auto.new) }
-    ensures grows { OnOk result (Grows auto.old auto.new) }
-    ensures types { OnOk result (GrowsTypes sound.old sound.new) }
+/// The declared types of functions: those of the parameters and then that of the result, function
+/// after function.
+pub(crate) fn declared_types(alloc: Global, functions: &[Function]) -> Result<Vec<TypeId>, NoMemory>
+    ensures { IfOk result (λ types. types.items ≡ types_declared functions.now) }
 {
-    let mut states = Vec::new(alloc);
-    for id in ids {
-        states.push(compile_type(alloc, sound, cells, auto, *id)?)?;
+    let mut types = Vec::new(alloc);
+    for function in functions {
+        push_declared(function, &mut types)?;
     }
-    Ok(states)
+    Ok(types)
+}
+
+/// Adds those of a function.
+fn push_declared(function: &Function, types: &mut Vec<TypeId>) -> Result<(), NoMemory>
+    ensures { OnOk result (types.new.items ≡ types.old.items ++ types_of function.now) }
+{
+    for param in function.params() {
+        types.push(param.body)?;
+    }
+    types.push(function.result_type())?;
+    Ok(())
 }

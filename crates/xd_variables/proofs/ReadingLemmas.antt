@@ -1,40 +1,71 @@
 -- What a reading gives depends on the documents that come to the clause alone, and is nothing where
 -- none does.
-use Rattle.std.proofs.Common.{◌≡◌, ◌↔◌, ℕ, Bool, true, false, arith, List, [], ◌∷◌, ◌++◌, map, length, refl, ap, sym, subst, ◌∙◌, append-nil, append_assoc}
+use Rattle.std.proofs.Common.{◌≡◌, ◌↔◌, ℕ, Bool, true, false, arith, List, [], ◌∷◌, ◌++◌, map, length, Option, Result, IfOk, refl, ap, sym, subst, ◌∙◌, append-nil, append_assoc}
 use Rattle.std.specs.List.{All, AllZip}
+use Rattle.std.specs.Option.{IfSome}
+use Rattle.std.proofs.lemmas.Result.{IfOk-weaker}
 use Rattle.std.proofs.lemmas.List.Elements.{All-head, All-tail}
 use Rattle.xd_base.specs.declared.Place.{Place}
 use Rattle.xd_doc.specs.Document.{Document}
 use Rattle.xd_auto.specs.Automaton.{Automaton, accepts}
-use Rattle.xd_syntax.specs.Tree.{Definitions}
+use Rattle.xd_syntax.specs.Tree.{Definitions, Tree}
 use Rattle.xd_syntax.specs.Expression.{Expression}
 use Rattle.xd_syntax.specs.Matches.{Occurrence, first_occurrences, occurrences_in}
 use Rattle.xd_syntax.specs.May.{IsLive, May, Scope}
-use Rattle.xd_syntax.specs.Placed.{PlacedTree}
+use Rattle.xd_syntax.specs.Patterns.{pattern_tree}
+use Rattle.xd_syntax.specs.Placed.{PlacedTree, unplaced}
 use Rattle.xd_syntax.specs.Program.{ProgramTree, names_of}
+use Rattle.xd_syntax.specs.Table.{Row}
+use Rattle.xd_syntax.specs.declared.patterns.PatternId.{PatternId}
+use Rattle.xd_syntax.proofs.PlacedTrees.{unplaced_at}
 use Rattle.xd_bind.specs.declared.tracks.Given.{Given}
+use Rattle.xd_clauses.specs.Cases.{placed_pattern}
 use Rattle.xd_clauses.specs.Clauses.{AreGivensOf, IsGivenOf}
+use Rattle.xd_clauses.proofs.AreMayGivensLemmas.{if_some_map}
 use Rattle.xd_check.specs.Scrutinees.{TellsLive}
-use Rattle.xd_check.specs.Walked.{ComesBehind, Grows}
-use Rattle.xd_check.proofs.ClauseLemmas.{bind_from, bind_to, comes_on, live_from, live_to}
+use Rattle.xd_check.specs.Walked.{ComesTo, Grows}
+use Rattle.xd_check.proofs.ClauseLemmas.{bind_from, bind_to, live_from, live_to}
+use Rattle.xd_check.proofs.IsReadyLemmas.{serves_kept}
 use Rattle.xd_prefer.proofs.PrefersLemmas.{nothing_preferred, prefers_same}
 use Rattle.xd_variables.specs.Binders.{place_of_occurrence}
 use Rattle.xd_variables.specs.Bound.{IsBound, reading_of}
-use Rattle.xd_variables.specs.Read.{AddsVariables, IsClauseRead, placed_givens}
+use Rattle.xd_variables.specs.Read.{AddsVariables, IsClauseRead, IsReader, placed_givens}
 use Rattle.xd_variables.specs.Seen.{Reading, SeenVariable, variable_at}
+use Rattle.xd_variables.specs.declared.reader.Reader.{Reader}
 use Rattle.xd_variables.specs.declared.variables.BoundVariable.{BoundVariable}
 use Rattle.xd_variables.specs.declared.variables.Ways.{Ways}
 use Rattle.xd_variables.specs.declared.variables.Ways.TheVariants.{First, Whole}
 use Rattle.xd_variables.proofs.BinderLemmas.{first_words, words_of}
 
-pub gives_same : (w : Ways) (P : ProgramTree) (S : Scope) (e : Expression) (earlier : List PlacedTree) (C : Document → Type 0) → ComesBehind P S e earlier C → (Q : PlacedTree) (x : List ℕ) (d : Document) →
+-- what clauses are read with, while the automaton grows
+pub reader_kept : (r : Reader) (a b : Automaton) → Grows a b → IsReader r a → IsReader r b
+reader_kept r a b g h = record { serves = h.serves; patterns = h.patterns; points = serves_kept a b r.patterns g.extends h.points }
+
+-- ---- what a reading gives
+
+pub gives_same : (w : Ways) (P : ProgramTree) (S : Scope) (e : Expression) (earlier : List PlacedTree) (C : Document → Type 0) (Q : PlacedTree) → ComesTo P S e earlier Q C → (x : List ℕ) (d : Document) →
     reading_of w (names_of P) C [] Q x d ↔ reading_of w (names_of P) (May P S e) earlier Q x d
-gives_same Whole P S e earlier C comes Q x d = let on = comes_on P S e earlier C comes Q in (bind_from P S e earlier C Q on x d, bind_to P S e earlier C Q on x d)
-gives_same First P S e earlier C comes Q x d = prefers_same (names_of P) (May P S e) C earlier Q comes x d
+gives_same Whole P S e earlier C Q comes x d = (bind_from P S e earlier C Q comes x d, bind_to P S e earlier C Q comes x d)
+gives_same First P S e earlier C Q comes x d = prefers_same (names_of P) (May P S e) C earlier Q comes x d
 
 pub gives_nothing : (w : Ways) (E : Definitions) (A : Document → Type 0) (P : PlacedTree) → (IsLive E A [] P → ⊥) → (x : List ℕ) (d : Document) → reading_of w E A [] P x d → ⊥
 gives_nothing Whole E A P dead x d m = dead (m.0, m.2, (m.1, m.3))
 gives_nothing First E A P dead x d m = nothing_preferred E A P dead x d m
+
+-- ---- the pattern of an id
+
+-- what is made of a pattern's tree is what is made of it as it is placed
+module _ (Made : Definitions → Tree → Type 0) (E : Definitions) (rows : List Row) (id : PatternId) (made : Made E (pattern_tree rows id)) where
+  pub placed : Made E (unplaced (placed_pattern rows id))
+  placed = subst (Made E) (sym (unplaced_at rows id.at)) made
+
+  -- so it tells of that pattern what it tells of all
+  pub told_of : {X Y : Type 0} (r : Result (Option X) Y) (A : X → Definitions → PlacedTree → Type 0) → IfOk r (λ o. IfSome o (λ x. (D : Definitions) (R : PlacedTree) → Made D (unplaced R) → A x D R)) →
+      IfOk r (λ o. IfSome o (λ x. A x E (placed_pattern rows id)))
+  told_of {X} {Y} r A h =
+      let All : X → Type 0 = λ x. (D : Definitions) (R : PlacedTree) → Made D (unplaced R) → A x D R in
+      let One : X → Type 0 = λ x. A x E (placed_pattern rows id) in
+      IfOk-weaker r (λ o. IfSome o All) (λ o. IfSome o One) (λ o t. if_some_map All One o (λ x f. f E (placed_pattern rows id) placed) t) h
 
 -- ---- variables of one clause
 
@@ -87,9 +118,6 @@ module _ (B : Reading) (P : ProgramTree) where
   bound_joined a (v ∷ vs) ws [] ys h k = absurd h
   bound_joined a (v ∷ vs) ws (x ∷ xs) ys h k = (h.0, bound_joined a vs ws xs ys h.1 k)
 
-  pub adds_kept : (a b : Automaton) → Grows a b → (vs : List SeenVariable) (old new : List BoundVariable) → AddsVariables B P a vs old new → AddsVariables B P b vs old new
-  adds_kept a b g vs old new h = record { more = h.more; grown = h.grown; each = bound_kept a b g vs h.more h.each }
-
   pub adds_none : (a : Automaton) (xs : List BoundVariable) → AddsVariables B P a [] xs xs
   adds_none a xs = record { more = []; grown = sym (append-nil xs); each = tt }
 
@@ -113,20 +141,20 @@ as_many place (o ∷ os) (g ∷ gs) w =
     let rest : map (λ (k : Given). k.variable) gs ≡ words_of os = cc in
     let n = as_many place os gs rest in omega arith
 
-tells_live : (P : ProgramTree) (S : Scope) (e : Expression) (earlier : List PlacedTree) (C : Document → Type 0) → ComesBehind P S e earlier C → (Q : PlacedTree) (live : Bool) → ((live ≡ true) ↔ IsLive (names_of P) C [] Q) → TellsLive P S e earlier Q live
-tells_live P S e earlier C comes Q true h = live_from P S e earlier C Q (comes_on P S e earlier C comes Q) (h.0 refl)
-tells_live P S e earlier C comes Q false h = λ l. absurd (let t : false ≡ true = h.1 (live_to P S e earlier C Q (comes_on P S e earlier C comes Q) l) in cc)
+tells_live : (P : ProgramTree) (S : Scope) (e : Expression) (earlier : List PlacedTree) (C : Document → Type 0) (Q : PlacedTree) → ComesTo P S e earlier Q C → (live : Bool) → ((live ≡ true) ↔ IsLive (names_of P) C [] Q) → TellsLive P S e earlier Q live
+tells_live P S e earlier C Q comes true h = live_from P S e earlier C Q comes (h.0 refl)
+tells_live P S e earlier C Q comes false h = λ l. absurd (let t : false ≡ true = h.1 (live_to P S e earlier C Q comes l) in cc)
 
-pub clause_read : (w : Ways) (P : ProgramTree) (S : Scope) (e : Expression) (earlier : List PlacedTree) (C : Document → Type 0) → ComesBehind P S e earlier C → (Q : PlacedTree) (a : Automaton) (qs : List Place) (gs : List Given) (old new : List BoundVariable) (live : Bool) →
+pub clause_read : (w : Ways) (P : ProgramTree) (S : Scope) (e : Expression) (earlier : List PlacedTree) (C : Document → Type 0) (Q : PlacedTree) → ComesTo P S e earlier Q C → (a : Automaton) (qs : List Place) (gs : List Given) (old new : List BoundVariable) (live : Bool) →
     qs ≡ map place_of_occurrence (first_occurrences (occurrences_in Q)) → AreGivensOf (reading_of w (names_of P) C [] Q) Q a gs → new ≡ old ++ placed_givens qs gs → ((live ≡ true) ↔ IsLive (names_of P) C [] Q) →
     IsClauseRead (reading_of w) P S e earlier Q a old new live
-clause_read w P S e earlier C comes Q a qs gs old new live places given grown tells =
+clause_read w P S e earlier C Q comes a qs gs old new live places given grown tells =
     let os : List Occurrence = first_occurrences (occurrences_in Q) in
     record {
-      tells = tells_live P S e earlier C comes Q live tells;
+      tells = tells_live P S e earlier C Q comes live tells;
       adds = record {
         more = placed_givens (map place_of_occurrence os) gs;
         grown = grown ∙ ap (λ ps. old ++ placed_givens ps gs) places;
-        each = clause_bound (reading_of w) P S e earlier Q C a (λ x d. gives_same w P S e earlier C comes Q x d) os gs (given.variables ∙ sym (first_words Q)) given.each;
+        each = clause_bound (reading_of w) P S e earlier Q C a (λ x d. gives_same w P S e earlier C Q comes x d) os gs (given.variables ∙ sym (first_words Q)) given.each;
       };
     }

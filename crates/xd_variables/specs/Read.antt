@@ -4,16 +4,19 @@ use Rattle.std.specs.List.{AllZip}
 use Rattle.xd_base.specs.declared.Place.{Place}
 use Rattle.xd_auto.specs.Automaton.{Automaton, IsState}
 use Rattle.xd_syntax.specs.Expression.{Expression}
-use Rattle.xd_syntax.specs.Kept.{ProgramTable}
+use Rattle.xd_syntax.specs.Kept.{ProgramTable, program_tree}
 use Rattle.xd_syntax.specs.May.{Scope}
 use Rattle.xd_syntax.specs.Placed.{PlacedTree}
-use Rattle.xd_syntax.specs.Program.{ProgramTree}
+use Rattle.xd_syntax.specs.Program.{ProgramTree, names_of}
 use Rattle.xd_bind.specs.declared.tracks.Given.{Given}
-use Rattle.xd_check.specs.Ready.{CanBeWalked}
+use Rattle.xd_patterns.specs.Compiler.{Serves}
+use Rattle.xd_clauses.specs.Compiled.{ArePatterns}
+use Rattle.xd_check.specs.Ready.{CanBeWalked, ServesOn}
 use Rattle.xd_check.specs.Scrutinees.{TellsLive}
 use Rattle.xd_check.specs.declared.matches.MetMatch.{MetMatch}
 use Rattle.xd_variables.specs.Bound.{IsBound}
 use Rattle.xd_variables.specs.Seen.{Reading, SeenVariable, variables_of_clause}
+use Rattle.xd_variables.specs.declared.reader.Reader.{Reader}
 use Rattle.xd_variables.specs.declared.variables.BoundVariable.{BoundVariable}
 
 -- these variables were added, each with a state
@@ -21,6 +24,12 @@ pub record AddsVariables (B : Reading) (P : ProgramTree) (a : Automaton) (vs : L
   pub more : List BoundVariable
   pub grown : new ≡ old ++ more
   pub each : AllZip (IsBound B P a) vs more
+
+-- what clauses are read with serves the program, and states of the automaton
+pub record IsReader (r : Reader) (a : Automaton) : Type 0 where
+  pub serves : Serves r.sound r.compiler
+  pub patterns : ArePatterns (names_of (program_tree r.sound)) r.sound.patterns r.patterns
+  pub points : ServesOn a r.patterns
 
 -- the match's node is there, its patterns are linear, and the scrutinee has a state
 pub record CanBeRead (p : ProgramTable) (a : Automaton) (x : MetMatch) : Type 0 where

@@ -10,19 +10,20 @@ ghost use Rattle.xd_syntax.specs.Exprs.{clause_numbers};
 ghost use Rattle.xd_syntax.specs.Kept.{program_tree};
 ghost use Rattle.xd_syntax.specs.Matches.{SeenMatch};
 ghost use Rattle.xd_syntax.specs.May.{IsLive, Scope};
-ghost use Rattle.xd_syntax.specs.Patterns.{IsPattern};
-ghost use Rattle.xd_syntax.specs.Placed.{PlacedTree, unplaced};
+ghost use Rattle.xd_syntax.specs.Patterns.{pattern_tree};
+ghost use Rattle.xd_syntax.specs.Placed.{PlacedTree};
 ghost use Rattle.xd_syntax.specs.PlacedTable.{placed_at};
 ghost use Rattle.xd_syntax.specs.Program.{names_of};
-ghost use Rattle.xd_syntax.specs.Table.{tree_at};
-ghost use Rattle.xd_syntax.specs.Tree.{Definitions};
 ghost use Rattle.xd_patterns.specs.Compiler.{Serves};
-ghost use Rattle.xd_clauses.specs.Clauses.{Accepted, AreGivensOf, IsPatternOf};
-ghost use Rattle.xd_check.specs.Ready.{ClauseCanBeWalked, expr_at};
+ghost use Rattle.xd_patterns.specs.CompiledProgram.{IsLinearPattern};
+ghost use Rattle.xd_clauses.specs.Cases.{placed_pattern};
+ghost use Rattle.xd_clauses.specs.Clauses.{Accepted, AreGivensOf};
+ghost use Rattle.xd_clauses.specs.Compiled.{IsNumbered};
+ghost use Rattle.xd_check.specs.Ready.{ClauseCanBeWalked, IsCompiledMatch, ServesOn, expr_at};
 ghost use Rattle.xd_check.specs.Scrutinees.{IsMet};
-ghost use Rattle.xd_check.specs.Walked.{ComesBehind, Grows};
+ghost use Rattle.xd_check.specs.Walked.{ComesBehind, ComesTo, Grows};
 ghost use Rattle.xd_variables.specs.Bound.{reading_of};
-ghost use Rattle.xd_variables.specs.Read.{AddsVariables, CanBeRead, IsClauseRead, placed_givens};
+ghost use Rattle.xd_variables.specs.Read.{AddsVariables, CanBeRead, IsClauseRead, IsReader, placed_givens};
 ghost use Rattle.xd_variables.specs.Seen.{variables_of_clauses, variables_of_match};
 
 use crate::binders::first_places;
@@ -31,8 +32,8 @@ use std::alloc::Global;
 use xd_auto::{Auto, State};
 use xd_base::Place;
 use xd_bind::Given;
-use xd_check::{MetMatch, left_behind};
-use xd_clauses::{ClausePattern, given_nothing};
+use xd_check::{CompiledMatch, MatchPatterns, MetMatch, pass_on};
+use xd_clauses::{ClausePattern, CompiledPatterns, NumberedPattern, Remaining, given_nothing};
 use xd_doc::{NoMemory, Store};
 use xd_least::LeastInhabitants;
 use xd_patterns::PatternCompiler;
@@ -47,6 +48,7 @@ pub(crate) struct Reader {
     pub ways: Ways,
     pub sound: SoundProgram,
     pub compiler: PatternCompiler,
+    pub patterns: CompiledPatterns,
 }
 
 /// What was found: the variables, and what is known of the states.
@@ -91,7 +93,7 @@ impl Reader {
         auto: &mut Auto,
         found: &mut Found,
     ) -> Result<(), NoMemory>
-        requires serves { Serves self.now.sound self.now.compiler }
+        requires ready { IsReader self.now auto.old }
         requires matches { AllByRecursion (CanBeRead self.now.sound auto.old) matches.now }
         requires known { Knows auto.old found.old.store found.old.inhabitants }
         ensures { OnOk result ((ms : List SeenMatch) → AllZip (IsMet self.now.sound auto.old) ms matches.now → AddsVariables (reading_of self.now.ways) (program_tree self.now.sound) auto.new (flat_map variables_of_match ms) found.old.variables.items found.new.variables.items) }
@@ -104,7 +106,7 @@ impl Reader {
 
     /// Those of the clauses of a match.
     fn read_match(&self, met: MetMatch, auto: &mut Auto, found: &mut Found) -> Result<(), NoMemory>
-        requires serves { Serves self.now.sound self.now.compiler }
+        requires ready { IsReader self.now auto.old }
         requires met { CanBeRead self.now.sound auto.old met }
         requires known { Knows auto.old found.old.store found.old.inhabitants }
         ensures variables { OnOk result ((m : SeenMatch) → IsMet self.now.sound auto.old m met → AddsVariables (reading_of self.now.ways) (program_tree self.now.sound) auto.new (variables_of_match m) found.old.variables.items found.new.variables.items) }
@@ -113,57 +115,97 @@ impl Reader {
     {
         let node = self.sound.program().exprs().node(met.expr);
         match node.form() {
-            ExprForm::Match(_, clauses) => self.read_clauses(clauses, met.state, auto, found),
+            ExprForm::Match(_, clauses) => {
+                self.read_clauses(met.place, clauses, met.state, auto, found)
+            }
             _ => Ok(()),
         }
     }
 
-    /// Those of clauses, where the first one is reached by what the state accepts.
+    /// Those of the clauses of a match at this place, whose scrutinee may be what the state
+    /// accepts.
     fn read_clauses(
         &self,
+        place: Place,
         clauses: &[Clause],
-        coming: State,
+        scrutinee: State,
+        auto: &mut Auto,
+        found: &mut Found,
+    ) -> Result<(), NoMemory>
+        requires ready { IsReader self.now auto.old }
+        requires clauses { AllByRecursion (ClauseCanBeWalked self.now.sound) (clause_numbers clauses.now) }
+        requires scrutinee { IsState auto.old scrutinee }
+        requires known { Knows auto.old found.old.store found.old.inhabitants }
+        ensures variables { OnOk result ((S : Scope) (e : Expression) → ComesBehind (program_tree self.now.sound) S e [] (Accepted auto.old scrutinee) → AddsVariables (reading_of self.now.ways) (program_tree self.now.sound) auto.new (variables_of_clauses S e [] (clauses_of (placed_at self.now.sound.patterns) (expr_at self.now.sound) (clause_numbers clauses.now))) found.old.variables.items found.new.variables.items) }
+        ensures grows { OnOk result (Grows auto.old auto.new) }
+        ensures known { OnOk result (Knows auto.new found.new.store found.new.inhabitants) }
+    {
+        let own = MatchPatterns::new(
+            self.alloc,
+            &self.patterns,
+            &self.compiler,
+            &self.sound,
+            clauses,
+        )?;
+        let compiled = CompiledMatch {
+            place,
+            clauses,
+            numbers: own.numbers(),
+            patterns: own.among(&self.patterns),
+        };
+        self.read_compiled(compiled, scrutinee, auto, found)
+    }
+
+    /// The same where the patterns of the clauses are compiled.
+    fn read_compiled(
+        &self,
+        compiled: CompiledMatch<'_>,
+        scrutinee: State,
         auto: &mut Auto,
         found: &mut Found,
     ) -> Result<(), NoMemory>
         requires serves { Serves self.now.sound self.now.compiler }
-        requires clauses { AllByRecursion (ClauseCanBeWalked self.now.sound) (clause_numbers clauses.now) }
-        requires coming { IsState auto.old coming }
+        requires compiled { IsCompiledMatch self.now.sound auto.old compiled }
+        requires clauses { AllByRecursion (ClauseCanBeWalked self.now.sound) (clause_numbers compiled.clauses.now) }
+        requires scrutinee { IsState auto.old scrutinee }
         requires known { Knows auto.old found.old.store found.old.inhabitants }
-        ensures variables { OnOk result ((S : Scope) (e : Expression) → ComesBehind (program_tree self.now.sound) S e [] (Accepted auto.old coming) → AddsVariables (reading_of self.now.ways) (program_tree self.now.sound) auto.new (variables_of_clauses S e [] (clauses_of (placed_at self.now.sound.patterns) (expr_at self.now.sound) (clause_numbers clauses.now))) found.old.variables.items found.new.variables.items) }
+        ensures variables { OnOk result ((S : Scope) (e : Expression) → ComesBehind (program_tree self.now.sound) S e [] (Accepted auto.old scrutinee) → AddsVariables (reading_of self.now.ways) (program_tree self.now.sound) auto.new (variables_of_clauses S e [] (clauses_of (placed_at self.now.sound.patterns) (expr_at self.now.sound) (clause_numbers compiled.entry.clauses.now))) found.old.variables.items found.new.variables.items) }
         ensures grows { OnOk result (Grows auto.old auto.new) }
         ensures known { OnOk result (Knows auto.new found.new.store found.new.inhabitants) }
     {
-        let mut coming = coming;
-        for clause in clauses {
-            let id = clause.pattern;
-            let pattern = ClausePattern::new(self.alloc, &self.compiler, &self.sound, id)?;
-            let is_live = self.read_clause(id, &pattern, coming, auto, found)?;
-            let left = left_behind(self.alloc, &pattern, is_live, auto, coming)?;
-            coming = left;
+        let clauses = compiled.clauses;
+        let patterns = compiled.patterns;
+        let mut remaining = Remaining::new(self.alloc, scrutinee)?;
+        for (number, clause) in clauses.iter().enumerate() {
+            let pattern = patterns.pattern(compiled.numbers[number]);
+            let (left, coming) = remaining.coming_to(self.alloc, auto, pattern)?;
+            let is_live = self.read_clause(clause.pattern, pattern, coming, auto, found)?;
+            remaining = pass_on(pattern, is_live, left)?;
         }
         Ok(())
     }
 
-    /// Those of a clause with this pattern, and whether it is live.
+    /// Those of a clause with this pattern, which is compiled, and whether it is live.
     fn read_clause(
         &self,
         id: PatternId,
-        pattern: &ClausePattern,
+        pattern: NumberedPattern<'_>,
         coming: State,
         auto: &mut Auto,
         found: &mut Found,
     ) -> Result<bool, NoMemory>
-        requires there { IsPattern self.now.sound.patterns id }
-        requires pattern { IsPatternOf (names_of (program_tree self.now.sound)) (tree_at self.now.sound.patterns id.at) pattern.now }
+        requires serves { Serves self.now.sound self.now.compiler }
+        requires linear { IsLinearPattern self.now.sound.patterns id }
+        requires pattern { IsNumbered (names_of (program_tree self.now.sound)) (pattern_tree self.now.sound.patterns id) pattern.patterns.now pattern.number }
+        requires points { ServesOn auto.old pattern.patterns.now }
         requires coming { IsState auto.old coming }
         requires known { Knows auto.old found.old.store found.old.inhabitants }
-        ensures variables { IfOk result (λ live. (S : Scope) (e : Expression) (earlier : List PlacedTree) → ComesBehind (program_tree self.now.sound) S e earlier (Accepted auto.old coming) → IsClauseRead (reading_of self.now.ways) (program_tree self.now.sound) S e earlier (placed_at self.now.sound.patterns id.at) auto.new found.old.variables.items found.new.variables.items live) }
+        ensures variables { IfOk result (λ live. (S : Scope) (e : Expression) (earlier : List PlacedTree) → ComesTo (program_tree self.now.sound) S e earlier (placed_pattern self.now.sound.patterns id) (Accepted auto.old coming) → IsClauseRead (reading_of self.now.ways) (program_tree self.now.sound) S e earlier (placed_pattern self.now.sound.patterns id) auto.new found.old.variables.items found.new.variables.items live) }
         ensures grows { OnOk result (Grows auto.old auto.new) }
         ensures known { OnOk result (Knows auto.new found.new.store found.new.inhabitants) }
     {
         let places = first_places(self.alloc, self.sound.program().patterns(), id)?;
-        let read = self.givens(pattern, coming, auto, found)?;
+        let read = self.givens(id, pattern, coming, auto, found)?;
         push_variables(&places, &read.givens, &mut found.variables)?;
         Ok(read.is_live)
     }
@@ -172,27 +214,32 @@ impl Reader {
     /// it takes none of these.
     fn givens(
         &self,
-        pattern: &ClausePattern,
+        id: PatternId,
+        pattern: NumberedPattern<'_>,
         coming: State,
         auto: &mut Auto,
         found: &mut Found,
     ) -> Result<ClauseGivens, NoMemory>
+        requires serves { Serves self.now.sound self.now.compiler }
+        requires linear { IsLinearPattern self.now.sound.patterns id }
+        requires pattern { IsNumbered (names_of (program_tree self.now.sound)) (pattern_tree self.now.sound.patterns id) pattern.patterns.now pattern.number }
+        requires points { ServesOn auto.old pattern.patterns.now }
         requires coming { IsState auto.old coming }
         requires known { Knows auto.old found.old.store found.old.inhabitants }
-        ensures live { IfOk result (λ read. (E : Definitions) (P : PlacedTree) → IsPatternOf E (unplaced P) pattern.now → (read.is_live ≡ true) ↔ IsLive E (Accepted auto.old coming) [] P) }
-        ensures givens { IfOk result (λ read. (E : Definitions) (P : PlacedTree) → IsPatternOf E (unplaced P) pattern.now → AreGivensOf (reading_of self.now.ways E (Accepted auto.old coming) [] P) P auto.new read.givens.items) }
+        ensures live { IfOk result (λ read. (read.is_live ≡ true) ↔ IsLive (names_of (program_tree self.now.sound)) (Accepted auto.old coming) [] (placed_pattern self.now.sound.patterns id)) }
+        ensures givens { IfOk result (λ read. AreGivensOf (reading_of self.now.ways (names_of (program_tree self.now.sound)) (Accepted auto.old coming) [] (placed_pattern self.now.sound.patterns id)) (placed_pattern self.now.sound.patterns id) auto.new read.givens.items) }
         ensures grows { OnOk result (Grows auto.old auto.new) }
         ensures known { OnOk result (Knows auto.new found.new.store found.new.inhabitants) }
         ensures variables { found.new.variables ≡ found.old.variables }
     {
-        let bound = self.bindings(pattern, coming, auto, found)?;
+        let bound = self.bindings(id, pattern, coming, auto, found)?;
         match bound {
             Some(givens) => Ok(ClauseGivens {
                 is_live: true,
                 givens,
             }),
             None => {
-                let givens = given_nothing(self.alloc, pattern.marked.variables(), auto)?;
+                let givens = given_nothing(self.alloc, pattern.variables(), auto)?;
                 Ok(ClauseGivens {
                     is_live: false,
                     givens,
@@ -202,18 +249,26 @@ impl Reader {
     }
 
     /// The same where the pattern takes some of these; else `None`.
+    ///
+    /// What a first match gives is found in an automaton of the pattern's own, which is compiled
+    /// for it here.
     fn bindings(
         &self,
-        pattern: &ClausePattern,
+        id: PatternId,
+        pattern: NumberedPattern<'_>,
         coming: State,
         auto: &mut Auto,
         found: &mut Found,
     ) -> Result<Option<Vec<Given>>, NoMemory>
+        requires serves { Serves self.now.sound self.now.compiler }
+        requires linear { IsLinearPattern self.now.sound.patterns id }
+        requires pattern { IsNumbered (names_of (program_tree self.now.sound)) (pattern_tree self.now.sound.patterns id) pattern.patterns.now pattern.number }
+        requires points { ServesOn auto.old pattern.patterns.now }
         requires coming { IsState auto.old coming }
         requires known { Knows auto.old found.old.store found.old.inhabitants }
-        ensures dead { result ≡ Ok None → (E : Definitions) (P : PlacedTree) → IsPatternOf E (unplaced P) pattern.now → IsLive E (Accepted auto.old coming) [] P → ⊥ }
-        ensures live { IfOk result (λ read. IfSome read (λ givens. (E : Definitions) (P : PlacedTree) → IsPatternOf E (unplaced P) pattern.now → IsLive E (Accepted auto.old coming) [] P)) }
-        ensures givens { IfOk result (λ read. IfSome read (λ givens. (E : Definitions) (P : PlacedTree) → IsPatternOf E (unplaced P) pattern.now → AreGivensOf (reading_of self.now.ways E (Accepted auto.old coming) [] P) P auto.new givens.items)) }
+        ensures dead { result ≡ Ok None → IsLive (names_of (program_tree self.now.sound)) (Accepted auto.old coming) [] (placed_pattern self.now.sound.patterns id) → ⊥ }
+        ensures live { IfOk result (λ read. IfSome read (λ givens. IsLive (names_of (program_tree self.now.sound)) (Accepted auto.old coming) [] (placed_pattern self.now.sound.patterns id))) }
+        ensures givens { IfOk result (λ read. IfSome read (λ givens. AreGivensOf (reading_of self.now.ways (names_of (program_tree self.now.sound)) (Accepted auto.old coming) [] (placed_pattern self.now.sound.patterns id)) (placed_pattern self.now.sound.patterns id) auto.new givens.items)) }
         ensures grows { OnOk result (Grows auto.old auto.new) }
         ensures known { Knows auto.new found.new.store found.new.inhabitants }
         ensures variables { found.new.variables ≡ found.old.variables }
@@ -222,7 +277,10 @@ impl Reader {
         let store = &mut found.store;
         match self.ways {
             Ways::Whole => pattern.bindings(self.alloc, auto, coming, inhabitants, store),
-            Ways::First => first_bindings(self.alloc, pattern, auto, coming, inhabitants, store),
+            Ways::First => {
+                let own = ClausePattern::new(self.alloc, &self.compiler, &self.sound, id)?;
+                first_bindings(self.alloc, &own, auto, coming, inhabitants, store)
+            }
         }
     }
 }

@@ -69,6 +69,7 @@ fn variables_in(
     let MatchStates {
         sound,
         compiler,
+        patterns,
         inhabitants,
         store,
         matches,
@@ -78,6 +79,7 @@ fn variables_in(
         ways,
         sound,
         compiler,
+        patterns,
     };
     let mut found = Found {
         inhabitants,

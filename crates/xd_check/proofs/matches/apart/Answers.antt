@@ -1,4 +1,4 @@
-use Rattle.std.proofs.Common.{◌≡◌, ℕ, ◌+◌, List, [], ◌∷◌, ◌++◌, get_or, take, refl, sym, subst}
+use Rattle.std.proofs.Common.{ℕ, [], ◌∷◌, ◌++◌, get_or, take, refl, sym, subst}
 use Rattle.std.specs.List.{AllZip}
 use Rattle.std.proofs.lemmas.List.{take_more}
 use Rattle.xd_check.specs.Scrutinees.{StandsAlone}

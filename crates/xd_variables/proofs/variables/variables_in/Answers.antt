@@ -9,6 +9,10 @@ use Rattle.xd_variables.specs.declared.variables.BoundVariable.{BoundVariable}
 use Rattle.xd_variables.proofs.InOrder.{bound_in_order, readable}
 use Rattle.xd_variables.proofs.variables.variables_in.Goals as goal
 
+pub read_matches-requires-clause-ready : goal.read_matches-requires-clause-ready
+read_matches-requires-clause-ready c =
+    let h = c.in_ok-met.ensures in record { serves = h.serves; patterns = h.patterns; points = h.points }
+
 pub read_matches-requires-clause-matches : goal.read_matches-requires-clause-matches
 read_matches-requires-clause-matches c =
     let m = c.in_ok-met.met in

@@ -15,9 +15,14 @@ use Rattle.xd_syntax.specs.ExpressionTable.{ExprPartsBelow, ExprRow, PatternsBel
 use Rattle.xd_syntax.specs.Exprs.{clause_numbers, expr_numbers, shape_of}
 use Rattle.xd_syntax.specs.declared.exprs.ExprId.{ExprId}
 use Rattle.xd_syntax.specs.declared.exprs.Clause.{Clause}
-use Rattle.xd_clauses.specs.Clauses.{Accepted, AreMayGivens, IsPatternOf}
+use Rattle.xd_clauses.specs.Clauses.{Accepted, AreMayGivens}
+use Rattle.xd_clauses.specs.Compiled.{IsNumbered}
+use Rattle.xd_clauses.specs.Behind.{StandsIn}
+use Rattle.xd_clauses.specs.declared.compiled.CompiledPatterns.{CompiledPatterns}
+use Rattle.xd_points.specs.Meaning.{ServePoints}
 use Rattle.xd_check.specs.InScope.{ScopeStands}
-use Rattle.xd_check.specs.Ready.{CanBeWalked, expr_at}
+use Rattle.xd_check.specs.Ready.{CanBeWalked, HasNumber, expr_at, patterns_among}
+use Rattle.xd_check.proofs.Numbered.{compiled_as, numbered_here, some_here, some_numbered}
 use Rattle.xd_syntax.specs.May.{FitsResult, IsLive, clause_entry}
 use Rattle.xd_syntax.specs.Tree.{Definitions}
 use Rattle.xd_syntax.specs.CheckFaults.{IsLiveIn, dead_clause, parameters_of}
@@ -33,7 +38,7 @@ use Rattle.xd_check.proofs.IsKnownLemmas.{known_kept, known_learnt}
 use Rattle.xd_check.proofs.ClauseLoop.{ClausesLoop, clause_here, clauses_loop_begin, clauses_loop_end, clauses_loop_more, stands_on}
 use Rattle.xd_check.proofs.AreStatesLemmas.{clause_left, clause_scope, clause_states, parameter_states}
 use Rattle.xd_check.proofs.Loops.{PartsLoop, argument_here, arguments_begin, arguments_end, arguments_more, bodies, bodies_below, ceiling, ceiling_again, ceiling_within, part_here, parts_begin, parts_end, parts_more}
-use Rattle.xd_check.proofs.Lists.{all_as, if_some}
+use Rattle.xd_check.proofs.Lists.{all_as, if_some, paired_count}
 use Rattle.xd_check.proofs.AcceptedInTurnLemmas.{joined_none, never, new_moves}
 use Rattle.xd_check.proofs.IsReadyLemmas.{ready_kept, signed_none, signed_some, states_again}
 use Rattle.xd_check.proofs.Walkable.{expr_is, walk_arguments, walk_clauses, walk_content, walk_parts, walk_scrutinee}
@@ -337,7 +342,7 @@ in_expression-in_clauses-requires t c =
     (subst (PatternsBelong (length c.program.result.now.patterns)) (sym c.exprs.ensures.exprs) c.exprs.ensures.stands.clauses) in
     let patterns : AllByRecursion (λ (k : ℕ × ℕ). k.0 < m) cs = subst (ShapePatternsBelong m) form (c.node-node.ensures.clauses m stands) in
     let top = ceiling_within c.args.id.at (bodies cs) (bodies_below c.args.id.at cs older.1) in
-    let fallen : 4 * ceiling (bodies cs) + 1 < t = omega arith in
+    let fallen : 4 * ceiling (bodies cs) + 2 < t = omega arith in
     let v = c.in_ok-value-in-Match.ensures in (
       fallen,
       (
@@ -406,128 +411,21 @@ in_call-returns-in_ok-add_state-in-None t c =
       keeps = c.in_arguments-in-None.ensures.keeps;
     }
 
-pub in_clauses-returns : goal.in_clauses-returns
-in_clauses-returns t c =
-    let h = c.loop-clause.invariant in
-    let left = c.in_ok-left.ensures in
-    let over : Grows c.loop-clause.auto' c.left_over.new.auto = record { extends = left.extends; keeps = left.accepting } in
-    let g = grows_then c.loop-clause.auto' c.left_over.new.auto c.unite_states.new.auto over c.in_ok-unite_states.ensures.grows in
-    record {
-      belongs = c.in_ok-unite_states.ensures.belongs;
-      walked =
-          clauses_loop_end c.args.self.now.sound c.args.place c.args.auto.now c.loop-clause.auto' c.left_over.new.auto c.unite_states.new.auto c.args.variables.now c.loop-clause.variables c.args.store.now c.loop-clause.store c.see_uncovered.new.store
-          c.args.lines.now.items c.loop-clause.lines.items c.see_uncovered.new.lines.items c.args.clauses.now c.loop-clause.clause-index c.loop-clause.states.items c.args.scrutinee c.in_ok-left.left c.in_ok-unite_states.field-0 c.loop-clause.remaining
-          (drop_all c.loop-clause.clause-index c.args.clauses.now c.loop-clause-test.false) h.walk over left.exact c.in_ok-see_uncovered.ensures.keeps c.in_ok-see_uncovered.ensures.lines c.in_ok-unite_states.ensures.accepts;
-      variables = h.walk.stays.variables;
-      grows = grows_then c.args.auto.now c.loop-clause.auto' c.unite_states.new.auto h.walk.stays.grows g;
-      known = known_kept c.left_over.new.auto c.unite_states.new.auto c.see_uncovered.new.store c.see_uncovered.new.store c.see_uncovered.new.known c.in_ok-unite_states.ensures.grows (keeps_same c.see_uncovered.new.store) c.in_ok-see_uncovered.ensures.known;
-      keeps = keeps_then c.args.store.now c.loop-clause.store c.see_uncovered.new.store h.walk.stays.keeps c.in_ok-see_uncovered.ensures.keeps;
-    }
-
-pub in_clauses-loop-clause-init : goal.in_clauses-loop-clause-init
-in_clauses-loop-clause-init t c =
-    let a = c.args.auto.now in
-    let made = c.in_ok-remaining.ensures in
-    record {
-      walk = subst (λ ss. ClausesLoop c.args.self.now.sound c.args.place a a c.args.variables.now c.args.variables.now c.args.store.now c.args.store.now c.args.lines.now.items c.args.lines.now.items c.args.clauses.now 0 ss c.args.scrutinee c.in_ok-remaining.remaining)
-          (sym c.new-states.ensures.items)
-          (clauses_loop_begin c.args.self.now.sound c.args.place a c.args.variables.now c.args.store.now c.args.lines.now.items c.args.clauses.now c.args.scrutinee c.in_ok-remaining.remaining c.requires.clauses (made.stands a c.requires.scrutinee)
-          (λ d. made.remains a d));
-      known = c.requires.known;
-    }
-
-pub in_clauses-new-requires-in-loop-clause : goal.in_clauses-new-requires-in-loop-clause
-in_clauses-new-requires-in-loop-clause t c =
-    let n : ℕ = c.loop-clause.clause-index in
-    let none : Clause = record { pattern = record { at = 0 }; body = record { at = 0 } } in
-    let k : Clause = get_or c.args.clauses.now n none in
-    let e : k ≡ get_or c.args.clauses.now n k = get_or_default c.args.clauses.now n none k c.loop-clause-test.true in
-    let h = clause_here c.args.self.now.sound c.args.place c.args.auto.now c.loop-clause.auto' c.args.variables.now c.loop-clause.variables c.args.store.now c.loop-clause.store c.args.lines.now.items c.loop-clause.lines.items
-    c.args.clauses.now n c.loop-clause.states.items c.args.scrutinee c.loop-clause.remaining k c.loop-clause.invariant.walk c.loop-clause-test.true e in
-    let w = h.0 in
-    record { serves = c.requires.ready.serves; pattern = w.there; linear = w.linear }
-
-pub in_clauses-coming_to-requires : goal.in_clauses-coming_to-requires
-in_clauses-coming_to-requires t c = record { stands = c.loop-clause.invariant.walk.stands }
-
-pub in_clauses-in_clause-requires : goal.in_clauses-in_clause-requires
-in_clauses-in_clause-requires t c =
-    let n : ℕ = c.loop-clause.clause-index in
-    let none : Clause = record { pattern = record { at = 0 }; body = record { at = 0 } } in
-    let k : Clause = get_or c.args.clauses.now n none in
-    let e : k ≡ get_or c.args.clauses.now n k = get_or_default c.args.clauses.now n none k c.loop-clause-test.true in
-    let h = clause_here c.args.self.now.sound c.args.place c.args.auto.now c.loop-clause.auto' c.args.variables.now c.loop-clause.variables c.args.store.now c.loop-clause.store c.args.lines.now.items c.loop-clause.lines.items
-    c.args.clauses.now n c.loop-clause.states.items c.args.scrutinee c.loop-clause.remaining k c.loop-clause.invariant.walk c.loop-clause-test.true e in
-    let w = h.0 in
-    let st = c.loop-clause.invariant.walk.stays in
-    let a = c.in_ok-coming.ensures in
-    let one : Grows c.loop-clause.auto' c.coming_to.new.auto = record { extends = a.extends; keeps = a.accepting } in
-    let g : Grows c.args.auto.now c.coming_to.new.auto = grows_then c.args.auto.now c.loop-clause.auto' c.coming_to.new.auto st.grows one in
-    let top = h.1 in
-    let fallen : 4 * (k.body).at + 4 < t = omega arith in (
-      fallen,
-      (
-        ready_kept c.args.self.now c.args.auto.now c.coming_to.new.auto g c.requires.ready,
-        (
-          w,
-          (
-            c.in_ok-pattern.ensures,
-            (
-              a.belongs,
-              (
-                states_again c.args.auto.now c.coming_to.new.auto g c.args.variables.now c.loop-clause.variables st.variables c.requires.variables,
-                known_kept c.loop-clause.auto' c.coming_to.new.auto c.loop-clause.store c.loop-clause.store c.loop-clause.known one (keeps_same c.loop-clause.store) c.loop-clause.invariant.known,
-              ),
-            ),
-          ),
-        ),
-      ),
-    )
-
-pub in_clauses-pass_on-requires : goal.in_clauses-pass_on-requires
-in_clauses-pass_on-requires t c = c.in_ok-coming.ensures.stands.waiting
-
-pub in_clauses-loop-clause-preserved : goal.in_clauses-loop-clause-preserved
-in_clauses-loop-clause-preserved t c =
-    let p : ProgramTable = c.args.self.now.sound in
-    let E = names_of (program_tree p) in
-    let n : ℕ = c.loop-clause.clause-index in
-    let none : Clause = record { pattern = record { at = 0 }; body = record { at = 0 } } in
-    let k : Clause = get_or c.args.clauses.now n none in
-    let a = c.in_ok-coming.ensures in
-    let f = c.in_ok-found.ensures in
-    let w = c.in_ok-remaining-2.ensures in
-    let b = c.coming_to.new.auto in
-    let m = c.in_clause.new.auto in
-    let one : Grows c.loop-clause.auto' b = record { extends = a.extends; keeps = a.accepting } in
-    let Q : PlacedTree = placed_at p.patterns (k.pattern).at in
-    let made : IsPatternOf E (unplaced Q) c.in_ok-pattern.pattern = subst (λ T. IsPatternOf E T c.in_ok-pattern.pattern) (sym (unplaced_at p.patterns (k.pattern).at)) c.in_ok-pattern.ensures in
-    record {
-      walk = clauses_loop_more p c.args.place c.args.auto.now c.loop-clause.auto' b m c.args.variables.now c.loop-clause.variables c.in_clause.new.variables c.args.store.now c.loop-clause.store c.in_clause.new.store
-          c.args.lines.now.items c.loop-clause.lines.items c.in_clause.new.lines.items c.args.clauses.now n c.loop-clause.states.items c.pass_on.new.states.items c.args.scrutinee c.in_ok-coming.arriving c.loop-clause.remaining c.in_ok-coming.coming c.in_ok-remaining-2.remaining k c.in_ok-found.found
-          c.requires.variables c.loop-clause.invariant.walk c.loop-clause-test.true (get_or_default c.args.clauses.now n none k c.loop-clause-test.true) one a.stands a.remains (a.comes E Q made) f.walked f.variables f.grows f.keeps w.states f.belongs
-          (w.stands m (stands_on b m c.in_ok-coming.coming f.grows a.stands)) (w.remains E Q made m);
-      known = f.known;
-    }
-
-pub in_clauses-left_over-requires : goal.in_clauses-left_over-requires
-in_clauses-left_over-requires t c = c.loop-clause.invariant.walk.stands
-
-pub in_clauses-see_uncovered-requires : goal.in_clauses-see_uncovered-requires
-in_clauses-see_uncovered-requires t c =
+pub in_match-see_uncovered-requires : goal.in_match-see_uncovered-requires
+in_match-see_uncovered-requires t c =
     let f = c.in_ok-left.ensures in
     record {
       arriving = f.belongs;
-      known = known_kept c.loop-clause.auto' c.left_over.new.auto c.loop-clause.store c.loop-clause.store c.loop-clause.known (record { extends = f.extends; keeps = f.accepting }) (keeps_same c.loop-clause.store) c.loop-clause.invariant.known;
+      known = known_kept c.loop-number.auto' c.left_over.new.auto c.loop-number.store c.loop-number.store c.loop-number.known (record { extends = f.extends; keeps = f.accepting }) (keeps_same c.loop-number.store) c.loop-number.invariant.known;
     }
 
-pub in_clauses-unite_states-requires : goal.in_clauses-unite_states-requires
-in_clauses-unite_states-requires t c =
+pub in_match-unite_states-requires : goal.in_match-unite_states-requires
+in_match-unite_states-requires t c =
     let f = c.in_ok-left.ensures in
-    all_as (IsState c.loop-clause.auto') (IsState c.left_over.new.auto) (λ s h. (f.extends).states s h) c.loop-clause.states.items c.loop-clause.invariant.walk.there
+    all_as (IsState c.loop-number.auto') (IsState c.left_over.new.auto) (λ s h. (f.extends).states s h) c.loop-number.states.items c.loop-number.invariant.walk.there
 
 pub in_clause-bindings-requires : goal.in_clause-bindings-requires
-in_clause-bindings-requires t c = record { arriving = c.requires.arriving; known = c.requires.known.inhabitants }
+in_clause-bindings-requires t c = record { pattern = some_numbered _ _ _ _ c.requires.pattern; serve = c.requires.points; arriving = c.requires.arriving; known = c.requires.known.inhabitants }
 
 pub in_clause-pattern_place-requires : goal.in_clause-pattern_place-requires
 in_clause-pattern_place-requires t c = c.requires.clause.there
@@ -541,7 +439,7 @@ in_clause-returns-in_default t c =
           let P : ProgramTree = program_tree p in
           let Q : PlacedTree = placed_at p.patterns c.args.clause.pattern.at in
           let C = Accepted c.args.auto.now c.args.arriving in
-          let made : IsPatternOf (names_of P) (unplaced Q) c.args.pattern.now = subst (λ T. IsPatternOf (names_of P) T c.args.pattern.now) (sym (unplaced_at p.patterns c.args.clause.pattern.at)) c.requires.pattern in
+          let made : IsNumbered (names_of P) (unplaced Q) c.args.pattern.patterns.now c.args.pattern.number = subst (λ T. IsNumbered (names_of P) T c.args.pattern.patterns.now c.args.pattern.number) (sym (unplaced_at p.patterns c.args.clause.pattern.at)) c.requires.pattern in
           let dead : IsLiveIn P S e earlier Q → ⊥ = λ l. c.in_ok-found.ensures.dead (ap (λ o. Ok o) c.in_default.is) (names_of P) Q made (live_to P S e earlier C Q comes l) in
           clause_dead P S e earlier Q (expr_at p c.args.clause.body.at) c.bindings.new.auto c.bindings.new.store c.args.lines.now.items c.push.new.self.items dead
           (record {
@@ -564,11 +462,11 @@ in_clause-in_expression-requires t c =
     let P : ProgramTree = program_tree p in
     let Q : PlacedTree = placed_at p.patterns c.args.clause.pattern.at in
     let C = Accepted c.args.auto.now c.args.arriving in
-    let made : IsPatternOf (names_of P) (unplaced Q) c.args.pattern.now = subst (λ T. IsPatternOf (names_of P) T c.args.pattern.now) (sym (unplaced_at p.patterns c.args.clause.pattern.at)) c.requires.pattern in
+    let made : IsNumbered (names_of P) (unplaced Q) c.args.pattern.patterns.now c.args.pattern.number = subst (λ T. IsNumbered (names_of P) T c.args.pattern.patterns.now c.args.pattern.number) (sym (unplaced_at p.patterns c.args.clause.pattern.at)) c.requires.pattern in
     let f = c.in_ok-found.ensures in
     let grows : Grows c.args.auto.now c.bindings.new.auto = record { extends = f.extends; keeps = f.accepting } in
     let gs = c.in-Some.givens.items in
-    let bound : AreMayGivens (names_of P) C [] Q c.bindings.new.auto gs = if_some (λ hs. (D : Definitions) (R : PlacedTree) → IsPatternOf D (unplaced R) c.args.pattern.now → AreMayGivens D C [] R c.bindings.new.auto hs.items) c.in_ok-found.found c.in-Some.givens c.in-Some.is f.bindings (names_of P) Q made in
+    let bound : AreMayGivens (names_of P) C [] Q c.bindings.new.auto gs = if_some (λ hs. (D : Definitions) (R : PlacedTree) → IsNumbered D (unplaced R) c.args.pattern.patterns.now c.args.pattern.number → AreMayGivens D C [] R c.bindings.new.auto hs.items) c.in_ok-found.found c.in-Some.givens c.in-Some.is f.bindings (names_of P) Q made in
     let fallen : 4 * c.args.clause.body.at + 3 < t = omega arith in (
       fallen,
       (
@@ -592,12 +490,12 @@ in_clause-returns t c =
           let P : ProgramTree = program_tree p in
           let Q : PlacedTree = placed_at p.patterns c.args.clause.pattern.at in
           let C = Accepted c.args.auto.now c.args.arriving in
-          let made : IsPatternOf (names_of P) (unplaced Q) c.args.pattern.now = subst (λ T. IsPatternOf (names_of P) T c.args.pattern.now) (sym (unplaced_at p.patterns c.args.clause.pattern.at)) c.requires.pattern in
+          let made : IsNumbered (names_of P) (unplaced Q) c.args.pattern.patterns.now c.args.pattern.number = subst (λ T. IsNumbered (names_of P) T c.args.pattern.patterns.now c.args.pattern.number) (sym (unplaced_at p.patterns c.args.clause.pattern.at)) c.requires.pattern in
           let f = c.in_ok-found.ensures in
           let grows : Grows c.args.auto.now c.bindings.new.auto = record { extends = f.extends; keeps = f.accepting } in
           let gs = c.in-Some.givens.items in
-          let bound : AreMayGivens (names_of P) C [] Q c.bindings.new.auto gs = if_some (λ hs. (D : Definitions) (R : PlacedTree) → IsPatternOf D (unplaced R) c.args.pattern.now → AreMayGivens D C [] R c.bindings.new.auto hs.items) c.in_ok-found.found c.in-Some.givens c.in-Some.is f.bindings (names_of P) Q made in
-          let live : IsLiveIn P S e earlier Q = live_from P S e earlier C Q comes (if_some (λ hs. (D : Definitions) (R : PlacedTree) → IsPatternOf D (unplaced R) c.args.pattern.now → IsLive D C [] R) c.in_ok-found.found c.in-Some.givens c.in-Some.is f.live (names_of P) Q made) in
+          let bound : AreMayGivens (names_of P) C [] Q c.bindings.new.auto gs = if_some (λ hs. (D : Definitions) (R : PlacedTree) → IsNumbered D (unplaced R) c.args.pattern.patterns.now c.args.pattern.number → AreMayGivens D C [] R c.bindings.new.auto hs.items) c.in_ok-found.found c.in-Some.givens c.in-Some.is f.bindings (names_of P) Q made in
+          let live : IsLiveIn P S e earlier Q = live_from P S e earlier C Q comes (if_some (λ hs. (D : Definitions) (R : PlacedTree) → IsNumbered D (unplaced R) c.args.pattern.patterns.now c.args.pattern.number → IsLive D C [] R) c.in_ok-found.found c.in-Some.givens c.in-Some.is f.live (names_of P) Q made) in
           let inside = clause_scope P S e earlier C Q comes c.args.auto.now c.bindings.new.auto c.args.variables.now c.bring_in.new.variables gs grows c.requires.variables stands bound c.in_ok-bring_in.ensures in
           clause_live P S e earlier Q (expr_at p c.args.clause.body.at) c.in_expression.new.auto c.in_expression.new.store c.args.lines.now.items c.in_expression.new.lines.items c.in_ok-state.state live
           (c.in_ok-state.ensures.walked (clause_entry e earlier Q ∷ S) inside);
@@ -683,59 +581,53 @@ in_arguments-returns-in_err-state t c =
     let r = c.from_residual.result in
     record { lines = IfOk-from_err r _ e; variables = IfOk-from_err r _ e; grows = IfOk-from_err r _ e; known = IfOk-from_err r _ e; keeps = keeps_then c.args.store.now c.loop-number.store c.in_expression.new.store c.loop-number.invariant.walk.stays.keeps c.in_expression.ensures.keeps }
 
-pub in_clauses-returns-in_err-found : goal.in_clauses-returns-in_err-found
-in_clauses-returns-in_err-found t c =
+pub in_match-returns-in_err-found : goal.in_match-returns-in_err-found
+in_match-returns-in_err-found t c =
     let e = c.from_residual-in_err-found.ensures.0 in
     let r = c.from_residual-in_err-found.result in
-    record { belongs = IfOk-from_err r _ e; walked = IfOk-from_err r _ e; variables = IfOk-from_err r _ e; grows = IfOk-from_err r _ e; known = IfOk-from_err r _ e; keeps = keeps_then c.args.store.now c.loop-clause.store c.in_clause.new.store c.loop-clause.invariant.walk.stays.keeps c.in_clause.ensures.keeps }
+    record { belongs = IfOk-from_err r _ e; walked = IfOk-from_err r _ e; variables = IfOk-from_err r _ e; grows = IfOk-from_err r _ e; known = IfOk-from_err r _ e; keeps = keeps_then c.args.store.now c.loop-number.store c.in_clause.new.store c.loop-number.invariant.walk.stays.keeps c.in_clause.ensures.keeps }
 
-pub in_clauses-returns-in_err-remaining : goal.in_clauses-returns-in_err-remaining
-in_clauses-returns-in_err-remaining t c =
+pub in_match-returns-in_err-remaining : goal.in_match-returns-in_err-remaining
+in_match-returns-in_err-remaining t c =
     let e = c.from_residual.ensures.0 in
     let r = c.from_residual.result in
     record { belongs = IfOk-from_err r _ e; walked = IfOk-from_err r _ e; variables = IfOk-from_err r _ e; grows = IfOk-from_err r _ e; known = IfOk-from_err r _ e; keeps = keeps_same c.args.store.now }
 
-pub in_clauses-returns-in_err-coming : goal.in_clauses-returns-in_err-coming
-in_clauses-returns-in_err-coming t c =
+pub in_match-returns-in_err-coming : goal.in_match-returns-in_err-coming
+in_match-returns-in_err-coming t c =
     let e = c.from_residual-in_err-coming.ensures.0 in
     let r = c.from_residual-in_err-coming.result in
-    record { belongs = IfOk-from_err r _ e; walked = IfOk-from_err r _ e; variables = IfOk-from_err r _ e; grows = IfOk-from_err r _ e; known = IfOk-from_err r _ e; keeps = c.loop-clause.invariant.walk.stays.keeps }
+    record { belongs = IfOk-from_err r _ e; walked = IfOk-from_err r _ e; variables = IfOk-from_err r _ e; grows = IfOk-from_err r _ e; known = IfOk-from_err r _ e; keeps = c.loop-number.invariant.walk.stays.keeps }
 
-pub in_clauses-returns-in_err-remaining-2 : goal.in_clauses-returns-in_err-remaining-2
-in_clauses-returns-in_err-remaining-2 t c =
+pub in_match-returns-in_err-remaining-2 : goal.in_match-returns-in_err-remaining-2
+in_match-returns-in_err-remaining-2 t c =
     let e = c.from_residual-in_err-remaining-2.ensures.0 in
     let r = c.from_residual-in_err-remaining-2.result in
-    record { belongs = IfOk-from_err r _ e; walked = IfOk-from_err r _ e; variables = IfOk-from_err r _ e; grows = IfOk-from_err r _ e; known = IfOk-from_err r _ e; keeps = keeps_then c.args.store.now c.loop-clause.store c.in_clause.new.store c.loop-clause.invariant.walk.stays.keeps c.in_clause.ensures.keeps }
+    record { belongs = IfOk-from_err r _ e; walked = IfOk-from_err r _ e; variables = IfOk-from_err r _ e; grows = IfOk-from_err r _ e; known = IfOk-from_err r _ e; keeps = keeps_then c.args.store.now c.loop-number.store c.in_clause.new.store c.loop-number.invariant.walk.stays.keeps c.in_clause.ensures.keeps }
 
-pub in_clauses-returns-in_err-left : goal.in_clauses-returns-in_err-left
-in_clauses-returns-in_err-left t c =
+pub in_match-returns-in_err-left : goal.in_match-returns-in_err-left
+in_match-returns-in_err-left t c =
     let e = c.from_residual-in_err-left.ensures.0 in
     let r = c.from_residual-in_err-left.result in
-    record { belongs = IfOk-from_err r _ e; walked = IfOk-from_err r _ e; variables = IfOk-from_err r _ e; grows = IfOk-from_err r _ e; known = IfOk-from_err r _ e; keeps = c.loop-clause.invariant.walk.stays.keeps }
+    record { belongs = IfOk-from_err r _ e; walked = IfOk-from_err r _ e; variables = IfOk-from_err r _ e; grows = IfOk-from_err r _ e; known = IfOk-from_err r _ e; keeps = c.loop-number.invariant.walk.stays.keeps }
 
-pub in_clauses-returns-in_err-see_uncovered : goal.in_clauses-returns-in_err-see_uncovered
-in_clauses-returns-in_err-see_uncovered t c =
+pub in_match-returns-in_err-see_uncovered : goal.in_match-returns-in_err-see_uncovered
+in_match-returns-in_err-see_uncovered t c =
     let e = c.from_residual-in_err-see_uncovered.ensures.0 in
     let r = c.from_residual-in_err-see_uncovered.result in
-    record { belongs = IfOk-from_err r _ e; walked = IfOk-from_err r _ e; variables = IfOk-from_err r _ e; grows = IfOk-from_err r _ e; known = IfOk-from_err r _ e; keeps = keeps_then c.args.store.now c.loop-clause.store c.see_uncovered.new.store c.loop-clause.invariant.walk.stays.keeps c.see_uncovered.ensures.keeps }
+    record { belongs = IfOk-from_err r _ e; walked = IfOk-from_err r _ e; variables = IfOk-from_err r _ e; grows = IfOk-from_err r _ e; known = IfOk-from_err r _ e; keeps = keeps_then c.args.store.now c.loop-number.store c.see_uncovered.new.store c.loop-number.invariant.walk.stays.keeps c.see_uncovered.ensures.keeps }
 
-pub in_clauses-returns-in_err-unite_states : goal.in_clauses-returns-in_err-unite_states
-in_clauses-returns-in_err-unite_states t c =
+pub in_match-returns-in_err-unite_states : goal.in_match-returns-in_err-unite_states
+in_match-returns-in_err-unite_states t c =
     let e = c.from_residual-in_err-unite_states.ensures.0 in
     let r = c.from_residual-in_err-unite_states.result in
-    record { belongs = IfOk-from_err r _ e; walked = IfOk-from_err r _ e; variables = IfOk-from_err r _ e; grows = IfOk-from_err r _ e; known = IfOk-from_err r _ e; keeps = keeps_then c.args.store.now c.loop-clause.store c.see_uncovered.new.store c.loop-clause.invariant.walk.stays.keeps c.see_uncovered.ensures.keeps }
+    record { belongs = IfOk-from_err r _ e; walked = IfOk-from_err r _ e; variables = IfOk-from_err r _ e; grows = IfOk-from_err r _ e; known = IfOk-from_err r _ e; keeps = keeps_then c.args.store.now c.loop-number.store c.see_uncovered.new.store c.loop-number.invariant.walk.stays.keeps c.see_uncovered.ensures.keeps }
 
 pub in_arguments-returns-in_err-see_argument : goal.in_arguments-returns-in_err-see_argument
 in_arguments-returns-in_err-see_argument t c =
     let e = c.from_residual-in_err-see_argument.ensures.0 in
     let r = c.from_residual-in_err-see_argument.result in
     record { lines = IfOk-from_err r _ e; variables = IfOk-from_err r _ e; grows = IfOk-from_err r _ e; known = IfOk-from_err r _ e; keeps = keeps_then c.args.store.now c.loop-number.store c.see_argument.new.store c.loop-number.invariant.walk.stays.keeps (keeps_then c.loop-number.store c.in_expression.new.store c.see_argument.new.store c.in_expression.ensures.keeps c.see_argument.ensures.keeps) }
-
-pub in_clauses-returns-in_err-pattern : goal.in_clauses-returns-in_err-pattern
-in_clauses-returns-in_err-pattern t c =
-    let e = c.from_residual-in_err-pattern.ensures.0 in
-    let r = c.from_residual-in_err-pattern.result in
-    record { belongs = IfOk-from_err r _ e; walked = IfOk-from_err r _ e; variables = IfOk-from_err r _ e; grows = IfOk-from_err r _ e; known = IfOk-from_err r _ e; keeps = c.loop-clause.invariant.walk.stays.keeps }
 
 pub in_expression-returns-in_err-add_state-in-Empty : goal.in_expression-returns-in_err-add_state-in-Empty
 in_expression-returns-in_err-add_state-in-Empty t c =
@@ -833,5 +725,170 @@ in_parts-loop-part-smaller t c = falls (length c.args.parts.now) c.loop-part.par
 pub in_arguments-loop-number-smaller : goal.in_arguments-loop-number-smaller
 in_arguments-loop-number-smaller t c = falls (length c.args.arguments.now) c.loop-number.number c.loop-number-test.true
 
-pub in_clauses-loop-clause-smaller : goal.in_clauses-loop-clause-smaller
-in_clauses-loop-clause-smaller t c = falls (length c.args.clauses.now) c.loop-clause.clause-index c.loop-clause-test.true
+pub in_match-loop-number-smaller : goal.in_match-loop-number-smaller
+in_match-loop-number-smaller t c = falls (length c.args.compiled.clauses.now) c.loop-number.number c.loop-number-test.true
+
+pub in_clauses-in_match-requires : goal.in_clauses-in_match-requires
+in_clauses-in_match-requires t c =
+    let p : ProgramTable = c.args.self.now.sound in
+    let a = c.args.auto.now in
+    let own = c.in_ok-own.own in
+    let fallen : 4 * ceiling (bodies (clause_numbers c.args.clauses.now)) + 1 < t = omega arith in (
+      fallen,
+      (
+        c.requires.ready,
+        (
+          compiled_as p a c.args.clauses.now (patterns_among c.args.self.now.patterns own.own) c.among.result.now own.numbers.items c.numbers.result.now c.among.ensures c.numbers.ensures (c.in_ok-own.ensures a c.requires.ready.points),
+          (c.requires.clauses, (c.requires.scrutinee, (c.requires.variables, c.requires.known))),
+        ),
+      ),
+    )
+
+pub in_clauses-returns-in_err-own : goal.in_clauses-returns-in_err-own
+in_clauses-returns-in_err-own t c =
+    let e = c.from_residual.ensures.0 in
+    let r = c.from_residual.result in
+    record { belongs = IfOk-from_err r _ e; walked = IfOk-from_err r _ e; variables = IfOk-from_err r _ e; grows = IfOk-from_err r _ e; known = IfOk-from_err r _ e; keeps = keeps_same c.args.store.now }
+
+pub in_match-loop-number-init : goal.in_match-loop-number-init
+in_match-loop-number-init t c =
+    let a = c.args.auto.now in
+    let m : CompiledPatterns = c.args.compiled.patterns.now in
+    let made = c.in_ok-remaining.ensures in
+    record {
+      walk = subst (λ ss. ClausesLoop c.args.self.now.sound m c.args.compiled.place a a c.args.variables.now c.args.variables.now c.args.store.now c.args.store.now c.args.lines.now.items c.args.lines.now.items c.args.compiled.clauses.now 0 ss c.args.scrutinee c.in_ok-remaining.remaining)
+          (sym c.new-states.ensures.items)
+          (clauses_loop_begin c.args.self.now.sound m c.args.compiled.place a c.args.variables.now c.args.store.now c.args.lines.now.items c.args.compiled.clauses.now c.args.scrutinee c.in_ok-remaining.remaining c.requires.clauses (made.stands a m c.requires.scrutinee)
+          (λ d. made.remains a m d));
+      known = c.requires.known;
+    }
+
+pub in_match-bounds-compiled-number : goal.in_match-bounds-compiled-number
+in_match-bounds-compiled-number t c =
+    subst (λ n. c.loop-number.number < n) (paired_count (HasNumber c.args.compiled.patterns.now) c.args.compiled.clauses.now c.args.compiled.numbers.now c.requires.compiled.numbers) c.loop-number-test.true
+
+pub in_match-coming_to-requires : goal.in_match-coming_to-requires
+in_match-coming_to-requires t c =
+    let m : CompiledPatterns = c.args.compiled.patterns.now in
+    let x = c.pattern-pattern.result in
+    let is : x.patterns.now ≡ m = c.pattern-pattern.ensures.patterns in
+    let cs : List Clause = c.args.compiled.clauses.now in
+    let n : ℕ = c.loop-number.number in
+    let none : Clause = record { pattern = record { at = 0 }; body = record { at = 0 } } in
+    let k : Clause = get_or cs n none in
+    record {
+      pattern = some_here c.args.self.now.sound c.args.auto.now cs m c.args.compiled.numbers.now c.requires.compiled n k x.patterns.now x.number c.loop-number-test.true (get_or_default cs n none k c.loop-number-test.true) is c.pattern-pattern.ensures.number;
+      serve = subst (λ (y : CompiledPatterns). ServePoints c.loop-number.auto' y.states) (sym is) (c.requires.compiled.points c.loop-number.auto' c.loop-number.invariant.walk.stays.grows.extends);
+      stands = subst (λ (y : CompiledPatterns). StandsIn c.loop-number.auto' y c.loop-number.remaining) (sym is) c.loop-number.invariant.walk.ahead.stands;
+    }
+
+pub in_match-in_clause-requires : goal.in_match-in_clause-requires
+in_match-in_clause-requires t c =
+    let p : ProgramTable = c.args.self.now.sound in
+    let m : CompiledPatterns = c.args.compiled.patterns.now in
+    let x = c.pattern-pattern.result in
+    let is : x.patterns.now ≡ m = c.pattern-pattern.ensures.patterns in
+    let cs : List Clause = c.args.compiled.clauses.now in
+    let n : ℕ = c.loop-number.number in
+    let none : Clause = record { pattern = record { at = 0 }; body = record { at = 0 } } in
+    let k : Clause = get_or cs n none in
+    let e : k ≡ get_or cs n k = get_or_default cs n none k c.loop-number-test.true in
+    let h = clause_here p m c.loop-number.auto' cs n c.loop-number.remaining k c.loop-number.invariant.walk.ahead c.loop-number-test.true e in
+    let w = h.0 in
+    let st = c.loop-number.invariant.walk.stays in
+    let a = c.in_ok-coming.ensures in
+    let one : Grows c.loop-number.auto' c.coming_to.new.auto = record { extends = a.extends; keeps = a.accepting } in
+    let g : Grows c.args.auto.now c.coming_to.new.auto = grows_then c.args.auto.now c.loop-number.auto' c.coming_to.new.auto st.grows one in
+    let top = h.1 in
+    let fallen : 4 * (k.body).at + 4 < t = omega arith in (
+      fallen,
+      (
+        ready_kept c.args.self.now c.args.auto.now c.coming_to.new.auto g c.requires.ready,
+        (
+          w,
+          (
+            numbered_here p c.args.auto.now cs m c.args.compiled.numbers.now c.requires.compiled n k x.patterns.now x.number c.loop-number-test.true e is c.pattern-pattern.ensures.number,
+            (
+              subst (λ (y : CompiledPatterns). ServePoints c.coming_to.new.auto y.states) (sym is) (c.requires.compiled.points c.coming_to.new.auto g.extends),
+              (
+                a.belongs,
+                (
+                  states_again c.args.auto.now c.coming_to.new.auto g c.args.variables.now c.loop-number.variables st.variables c.requires.variables,
+                  known_kept c.loop-number.auto' c.coming_to.new.auto c.loop-number.store c.loop-number.store c.loop-number.known one (keeps_same c.loop-number.store) c.loop-number.invariant.known,
+                ),
+              ),
+            ),
+          ),
+        ),
+      ),
+    )
+
+pub in_match-pass_found-requires : goal.in_match-pass_found-requires
+in_match-pass_found-requires t c =
+    let m : CompiledPatterns = c.args.compiled.patterns.now in
+    let x = c.pattern-pattern.result in
+    let is : x.patterns.now ≡ m = c.pattern-pattern.ensures.patterns in
+    let cs : List Clause = c.args.compiled.clauses.now in
+    let n : ℕ = c.loop-number.number in
+    let none : Clause = record { pattern = record { at = 0 }; body = record { at = 0 } } in
+    let k : Clause = get_or cs n none in
+    record {
+      pattern = some_here c.args.self.now.sound c.args.auto.now cs m c.args.compiled.numbers.now c.requires.compiled n k x.patterns.now x.number c.loop-number-test.true (get_or_default cs n none k c.loop-number-test.true) is c.pattern-pattern.ensures.number;
+      waiting = c.in_ok-coming.ensures.stands.waiting;
+    }
+
+pub in_match-loop-number-preserved : goal.in_match-loop-number-preserved
+in_match-loop-number-preserved t c =
+    let p : ProgramTable = c.args.self.now.sound in
+    let E = names_of (program_tree p) in
+    let x = c.pattern-pattern.result in
+    let is : x.patterns.now ≡ c.args.compiled.patterns.now = c.pattern-pattern.ensures.patterns in
+    let m : CompiledPatterns = x.patterns.now in
+    let cs : List Clause = c.args.compiled.clauses.now in
+    let n : ℕ = c.loop-number.number in
+    let none : Clause = record { pattern = record { at = 0 }; body = record { at = 0 } } in
+    let k : Clause = get_or cs n none in
+    let a = c.in_ok-coming.ensures in
+    let f = c.in_ok-found.ensures in
+    let w = c.in_ok-remaining-2.ensures in
+    let b = c.coming_to.new.auto in
+    let d = c.in_clause.new.auto in
+    let one : Grows c.loop-number.auto' b = record { extends = a.extends; keeps = a.accepting } in
+    let Q : PlacedTree = placed_at p.patterns (k.pattern).at in
+    let made : IsNumbered E (unplaced Q) m x.number = subst (λ T. IsNumbered E T m x.number) (sym (unplaced_at p.patterns (k.pattern).at))
+    (numbered_here p c.args.auto.now cs c.args.compiled.patterns.now c.args.compiled.numbers.now c.requires.compiled n k m x.number c.loop-number-test.true (get_or_default cs n none k c.loop-number-test.true) is c.pattern-pattern.ensures.number) in
+    let before : ClausesLoop p m c.args.compiled.place c.args.auto.now c.loop-number.auto' c.args.variables.now c.loop-number.variables c.args.store.now c.loop-number.store c.args.lines.now.items c.loop-number.lines.items cs n c.loop-number.states.items c.args.scrutinee c.loop-number.remaining
+    = subst (λ (y : CompiledPatterns). ClausesLoop p y c.args.compiled.place c.args.auto.now c.loop-number.auto' c.args.variables.now c.loop-number.variables c.args.store.now c.loop-number.store c.args.lines.now.items c.loop-number.lines.items cs n c.loop-number.states.items c.args.scrutinee c.loop-number.remaining) (sym is) c.loop-number.invariant.walk in
+    record {
+      walk = subst (λ (y : CompiledPatterns). ClausesLoop p y c.args.compiled.place c.args.auto.now d c.args.variables.now c.in_clause.new.variables c.args.store.now c.in_clause.new.store c.args.lines.now.items c.in_clause.new.lines.items cs (n + 1) c.pass_found.new.states.items c.args.scrutinee c.in_ok-remaining-2.remaining) is
+          (clauses_loop_more p m c.args.compiled.place c.args.auto.now c.loop-number.auto' b d c.args.variables.now c.loop-number.variables c.in_clause.new.variables c.args.store.now c.loop-number.store c.in_clause.new.store
+          c.args.lines.now.items c.loop-number.lines.items c.in_clause.new.lines.items cs n c.loop-number.states.items c.pass_found.new.states.items c.args.scrutinee c.in_ok-coming.arriving c.loop-number.remaining c.in_ok-coming.coming c.in_ok-remaining-2.remaining k c.in_ok-found.found
+          c.requires.variables before c.loop-number-test.true (get_or_default cs n none k c.loop-number-test.true) one a.stands a.remains (a.comes E Q made) f.walked f.variables f.grows f.keeps w.states f.belongs
+          (w.stands d (stands_on b d m c.in_ok-coming.coming f.grows a.stands)) (w.remains E Q made d));
+      known = f.known;
+    }
+
+pub in_match-left_over-requires : goal.in_match-left_over-requires
+in_match-left_over-requires t c = record {
+  universal = c.requires.compiled.patterns.universal;
+  serve = c.requires.compiled.points c.loop-number.auto' c.loop-number.invariant.walk.stays.grows.extends;
+  stands = c.loop-number.invariant.walk.ahead.stands;
+}
+
+pub in_match-returns : goal.in_match-returns
+in_match-returns t c =
+    let h = c.loop-number.invariant in
+    let left = c.in_ok-left.ensures in
+    let over : Grows c.loop-number.auto' c.left_over.new.auto = record { extends = left.extends; keeps = left.accepting } in
+    let g = grows_then c.loop-number.auto' c.left_over.new.auto c.unite_states.new.auto over c.in_ok-unite_states.ensures.grows in
+    record {
+      belongs = c.in_ok-unite_states.ensures.belongs;
+      walked =
+          clauses_loop_end c.args.self.now.sound c.args.compiled.patterns.now c.args.compiled.place c.args.auto.now c.loop-number.auto' c.left_over.new.auto c.unite_states.new.auto c.args.variables.now c.loop-number.variables c.args.store.now c.loop-number.store c.see_uncovered.new.store
+          c.args.lines.now.items c.loop-number.lines.items c.see_uncovered.new.lines.items c.args.compiled.clauses.now c.loop-number.number c.loop-number.states.items c.args.scrutinee c.in_ok-left.left c.in_ok-unite_states.field-0 c.loop-number.remaining
+          (drop_all c.loop-number.number c.args.compiled.clauses.now c.loop-number-test.false) h.walk over left.exact c.in_ok-see_uncovered.ensures.keeps c.in_ok-see_uncovered.ensures.lines c.in_ok-unite_states.ensures.accepts;
+      variables = h.walk.stays.variables;
+      grows = grows_then c.args.auto.now c.loop-number.auto' c.unite_states.new.auto h.walk.stays.grows g;
+      known = known_kept c.left_over.new.auto c.unite_states.new.auto c.see_uncovered.new.store c.see_uncovered.new.store c.see_uncovered.new.known c.in_ok-unite_states.ensures.grows (keeps_same c.see_uncovered.new.store) c.in_ok-see_uncovered.ensures.known;
+      keeps = keeps_then c.args.store.now c.loop-number.store c.see_uncovered.new.store h.walk.stays.keeps c.in_ok-see_uncovered.ensures.keeps;
+    }

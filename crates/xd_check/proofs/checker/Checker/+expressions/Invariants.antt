@@ -18,7 +18,10 @@ abbrev pub decreases-in_arguments : goal.decreases-in_arguments
 decreases-in_arguments l = 4 * ceiling (expr_numbers l.arguments.now) + 1
 
 abbrev pub decreases-in_clauses : goal.decreases-in_clauses
-decreases-in_clauses l = 4 * ceiling (bodies (clause_numbers l.clauses.now)) + 1
+decreases-in_clauses l = 4 * ceiling (bodies (clause_numbers l.clauses.now)) + 2
+
+abbrev pub decreases-in_match : goal.decreases-in_match
+decreases-in_match l = 4 * ceiling (bodies (clause_numbers l.compiled.clauses.now)) + 1
 
 abbrev pub decreases-in_clause : goal.decreases-in_clause
 decreases-in_clause l = 4 * l.clause.body.at + 4
@@ -35,8 +38,8 @@ invariant-in_arguments-loop-number l = record {
   known : IsKnown l.auto' l.store l.known;
 }
 
-abbrev pub invariant-in_clauses-loop-clause : goal.invariant-in_clauses-loop-clause
-invariant-in_clauses-loop-clause l = record {
-  walk : ClausesLoop l.self.sound l.place l.initial.auto' l.auto' l.initial.variables l.variables l.initial.store l.store l.initial.lines.items l.lines.items l.clauses l.clause-index l.states.items l.fn.scrutinee l.remaining;
+abbrev pub invariant-in_match-loop-number : goal.invariant-in_match-loop-number
+invariant-in_match-loop-number l = record {
+  walk : ClausesLoop l.self.sound l.compiled.patterns.now l.compiled.place l.initial.auto' l.auto' l.initial.variables l.variables l.initial.store l.store l.initial.lines.items l.lines.items l.compiled.clauses.now l.number l.states.items l.fn.scrutinee l.remaining;
   known : IsKnown l.auto' l.store l.known;
 }

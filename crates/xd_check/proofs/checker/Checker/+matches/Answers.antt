@@ -1,12 +1,11 @@
-use Rattle.std.proofs.Common.{◌≡◌, ◌↔◌, ℕ, ◌+◌, ◌*◌, ◌<◌, ◌≤◌, arith, true, false, Bool, Ok, None, inl, inr, List, [], ◌∷◌, map, length, get_or, drop, refl, ap, sym, subst, ◌∙◌}
+use borrow.Author.Count.{falls}
+use Rattle.std.proofs.Common.{◌≡◌, ℕ, ◌+◌, ◌*◌, ◌<◌, arith, Ok, inl, inr, List, [], ◌∷◌, map, length, get_or, refl, ap, sym, subst, ◌∙◌}
 use Rattle.std.specs.List.{AllByRecursion}
 use Rattle.std.proofs.lemmas.List.{drop_all, get_or_default}
 use Rattle.std.proofs.lemmas.Result.{on_ok_weaker}
-use Rattle.xd_doc.specs.Document.{Document}
-use Rattle.xd_auto.specs.Automaton.{IsState}
 use Rattle.xd_syntax.specs.CheckFaults.{IsLiveIn}
 use Rattle.xd_syntax.specs.Expression.{Clauses, Expression, Matched, arguments_of, joined}
-use Rattle.xd_syntax.specs.ExpressionTable.{ExprPartsBelow, ExprRow, PatternsBelong, ShapePatternsBelong, call_shape, clauses_of, elem_shape, empty_shape, match_shape, seq_shape, text_shape, var_shape}
+use Rattle.xd_syntax.specs.ExpressionTable.{ExprPartsBelow, PatternsBelong, ShapePatternsBelong, call_shape, clauses_of, elem_shape, empty_shape, match_shape, seq_shape, text_shape, var_shape}
 use Rattle.xd_syntax.specs.Exprs.{clause_numbers, expr_numbers, shape_of}
 use Rattle.xd_syntax.specs.Kept.{ProgramTable, program_tree}
 use Rattle.xd_syntax.specs.Matches.{InTurn, MatchesOf, MatchesOfArguments, MatchesOfClauses, SeenMatch}
@@ -18,22 +17,28 @@ use Rattle.xd_syntax.specs.Tree.{Definitions}
 use Rattle.xd_syntax.specs.declared.exprs.Clause.{Clause}
 use Rattle.xd_syntax.specs.declared.exprs.ExprId.{ExprId}
 use Rattle.xd_syntax.proofs.PlacedTrees.{unplaced_at}
-use Rattle.xd_clauses.specs.Clauses.{Accepted, AreMayGivens, IsPatternOf}
+use Rattle.xd_points.specs.Meaning.{ServePoints}
+use Rattle.xd_clauses.specs.Behind.{StandsIn}
+use Rattle.xd_clauses.specs.Clauses.{Accepted, AreMayGivens}
+use Rattle.xd_clauses.specs.Compiled.{IsNumbered}
+use Rattle.xd_clauses.specs.declared.compiled.CompiledPatterns.{CompiledPatterns}
 use Rattle.xd_check.specs.InScope.{ScopeStands}
-use Rattle.xd_check.specs.Ready.{CanBeWalked, expr_at}
+use Rattle.xd_check.specs.Ready.{CanBeWalked, HasNumber, expr_at, patterns_among}
 use Rattle.xd_check.specs.Scrutinees.{AddsMatches, MatchesOfBody}
 use Rattle.xd_check.specs.Walked.{Grows}
 use Rattle.xd_check.specs.declared.matches.MetMatch.{MetMatch}
-use Rattle.xd_check.proofs.ClauseLemmas.{comes_first, comes_on, live_from, live_to}
+use Rattle.xd_check.proofs.ClauseLemmas.{comes_first, live_from, live_to}
+use Rattle.xd_check.proofs.ClauseLoop.{clause_here, stands_on}
 use Rattle.xd_check.proofs.GrowsLemmas.{grows_then, just_kept, keeps_same, scope_kept}
 use Rattle.xd_check.proofs.IsKnownLemmas.{known_kept, known_learnt}
-use Rattle.xd_check.proofs.Lists.{if_some}
+use Rattle.xd_check.proofs.Lists.{if_some, paired_count}
+use Rattle.xd_check.proofs.Numbered.{compiled_as, numbered_here, some_here, some_numbered}
 use Rattle.xd_check.proofs.Loops.{bodies, bodies_below, ceiling, ceiling_again, ceiling_within}
-use Rattle.xd_check.proofs.MetClauses.{clause_here, clauses_begin, clauses_end, clauses_more}
-use Rattle.xd_check.proofs.MetMatches.{adds_as, adds_both, adds_kept, adds_none, adds_one, matches_joined, on_ok_both, part_here, parts_begin, parts_end, parts_more}
+use Rattle.xd_check.proofs.MetClauses.{ClausesMet, clauses_begin, clauses_end, clauses_more}
+use Rattle.xd_check.proofs.MetMatches.{adds_as, adds_both, adds_none, adds_one, matches_joined, on_ok_both, part_here, parts_begin, parts_end, parts_more}
 use Rattle.xd_check.proofs.IsReadyLemmas.{ready_kept, states_again}
 use Rattle.xd_check.proofs.AreStatesLemmas.{clause_scope, clause_states}
-use Rattle.xd_check.proofs.Walkable.{expr_is, walk_arguments, walk_clauses, walk_content, walk_parts, walk_scrutinee}
+use Rattle.xd_check.proofs.Walkable.{expr_is, walk_arguments, walk_clauses, walk_parts, walk_scrutinee}
 use Rattle.xd_check.proofs.checker.Checker.+matches.Goals as goal
 
 pub meet-meet_each-requires : goal.meet-meet_each-requires
@@ -109,7 +114,7 @@ meet-meet_clauses-requires t c =
     (subst (PatternsBelong (length c.program.result.now.patterns)) (sym c.exprs.ensures.exprs) c.exprs.ensures.stands.clauses) in
     let patterns : AllByRecursion (λ (k : ℕ × ℕ). k.0 < m) cs = subst (ShapePatternsBelong m) form (c.node-node.ensures.clauses m stands) in
     let top = ceiling_within c.args.id.at (bodies cs) (bodies_below c.args.id.at cs older.1) in
-    let fallen : 4 * ceiling (bodies cs) + 1 < t = omega arith in
+    let fallen : 4 * ceiling (bodies cs) + 2 < t = omega arith in
     let v = c.in_ok-state-in-Match.ensures in
     let w = c.in_ok-meet-in-Match.ensures in
     let g = grows_then c.args.auto.now c.in_expression.new.auto c.meet-in-Match.new.auto v.grows w.grows in (
@@ -173,8 +178,8 @@ meet-returns-in_ok-meet-in-Match-clause-met t c =
     let form = sym c.form.ensures ∙ ap shape_of c.in-Match.is ∙ ap (λ (ks : List Clause). match_shape c.in-Match.scrutinee.at (clause_numbers ks)) (sym c.deref-in-Match.ensures.value) in
     let x : Expression = expr_at p c.in-Match.scrutinee.at in
     let ks : Clauses = clauses_of (placed_at p.patterns) (expr_at p) cs in
-    let tree : expr_at p c.args.id.at ≡ Matched c.place.result x ks = expr_is p c.exprs.result.now c.args.id n.place n.form (match_shape c.in-Match.scrutinee.at cs) e (c.node-node.ensures.expression p.patterns) form
-    ∙ ap (λ q. Matched q x ks) (sym c.place.ensures) in
+    let tree : expr_at p c.args.id.at ≡ Matched c.place-place.result x ks = expr_is p c.exprs.result.now c.args.id n.place n.form (match_shape c.in-Match.scrutinee.at cs) e (c.node-node.ensures.expression p.patterns) form
+    ∙ ap (λ q. Matched q x ks) (sym c.place-place.ensures) in
     let v = c.in_ok-state-in-Match.ensures in
     let w = c.in_ok-meet-in-Match.ensures in
     let s = c.in_ok-state-in-Match.state in
@@ -185,13 +190,13 @@ meet-returns-in_ok-meet-in-Match-clause-met t c =
     let second = c.push.new.self.items in
     let third = c.meet-in-Match.new.meeting.met.items in
     let last = c.meet_clauses.new.meeting.met.items in
-    let found : MetMatch = record { expr = c.args.id; place = c.place.result; state = s } in
+    let found : MetMatch = record { expr = c.args.id; place = c.place-place.result; state = s } in
     on_ok_weaker c.meet_clauses.result
     (λ hg S stands.
     let h = hg.0 in
     let g = hg.1 in
     let k = v.walked S stands in
-    let m : SeenMatch = record { place = c.place.result; scope = S; scrutinee = x; clauses = ks } in
+    let m : SeenMatch = record { place = c.place-place.result; scope = S; scrutinee = x; clauses = ks } in
     let there : ScopeStands P S a1 c.in_expression.new.variables = subst (ScopeStands P S a1) (sym v.variables) (scope_kept P S c.args.auto.now a1 v.grows c.args.variables.now c.requires.variables stands) in
     let after : ScopeStands P S a2 c.meet-in-Match.new.variables = subst (ScopeStands P S a2) (sym (w.variables ∙ v.variables)) (scope_kept P S c.args.auto.now a2 (grows_then c.args.auto.now a1 a2 v.grows w.grows) c.args.variables.now c.requires.variables stands) in
     let may = just_kept a1 a2 w.grows s (May P S x) v.belongs k.may in
@@ -255,17 +260,20 @@ meet-returns-in-Empty-3-clause-met t c =
     ] in
     adds_none p c.args.auto.now (MatchesOf P S (expr_at p c.args.id.at)) none c.args.meeting.now.met.items
 
+pub meet_clause-bindings-requires : goal.meet_clause-bindings-requires
+meet_clause-bindings-requires t c = record { pattern = some_numbered _ _ _ _ c.requires.pattern; serve = c.requires.points; arriving = c.requires.arriving; known = c.requires.known.inhabitants }
+
 pub meet_clause-returns-in_default-clause-met : goal.meet_clause-returns-in_default-clause-met
 meet_clause-returns-in_default-clause-met t c =
     let p : ProgramTable = c.args.self.now.sound in
     let P : ProgramTree = program_tree p in
     let Q : PlacedTree = placed_at p.patterns c.args.clause.pattern.at in
     let C = Accepted c.args.auto.now c.args.arriving in
-    let made : IsPatternOf (names_of P) (unplaced Q) c.args.pattern.now = subst (λ T. IsPatternOf (names_of P) T c.args.pattern.now) (sym (unplaced_at p.patterns c.args.clause.pattern.at)) c.requires.pattern in
+    let made : IsNumbered (names_of P) (unplaced Q) c.args.pattern.patterns.now c.args.pattern.number = subst (λ T. IsNumbered (names_of P) T c.args.pattern.patterns.now c.args.pattern.number) (sym (unplaced_at p.patterns c.args.clause.pattern.at)) c.requires.pattern in
     let f = c.in_ok-found.ensures in
     let grows : Grows c.args.auto.now c.bindings.new.auto = record { extends = f.extends; keeps = f.accepting } in
     λ S e earlier stands comes.
-    let dead : IsLiveIn P S e earlier Q → ⊥ = λ l. f.dead (ap (λ o. Ok o) c.in_default.is) (names_of P) Q made (live_to P S e earlier C Q (comes_on P S e earlier C comes Q) l) in
+    let dead : IsLiveIn P S e earlier Q → ⊥ = λ l. f.dead (ap (λ o. Ok o) c.in_default.is) (names_of P) Q made (live_to P S e earlier C Q comes l) in
     record {
       tells = dead;
       matches = adds_none p c.bindings.new.auto (MatchesOfBody P S e earlier Q (expr_at p c.args.clause.body.at)) (inr (dead, refl)) c.args.meeting.now.met.items;
@@ -277,7 +285,7 @@ meet_clause-returns-in_default-clause-known t c =
     let P : ProgramTree = program_tree p in
     let Q : PlacedTree = placed_at p.patterns c.args.clause.pattern.at in
     let C = Accepted c.args.auto.now c.args.arriving in
-    let made : IsPatternOf (names_of P) (unplaced Q) c.args.pattern.now = subst (λ T. IsPatternOf (names_of P) T c.args.pattern.now) (sym (unplaced_at p.patterns c.args.clause.pattern.at)) c.requires.pattern in
+    let made : IsNumbered (names_of P) (unplaced Q) c.args.pattern.patterns.now c.args.pattern.number = subst (λ T. IsNumbered (names_of P) T c.args.pattern.patterns.now c.args.pattern.number) (sym (unplaced_at p.patterns c.args.clause.pattern.at)) c.requires.pattern in
     let f = c.in_ok-found.ensures in
     let grows : Grows c.args.auto.now c.bindings.new.auto = record { extends = f.extends; keeps = f.accepting } in
     known_learnt c.args.auto.now c.bindings.new.auto c.args.meeting.now.store c.bindings.new.store c.args.meeting.now.known c.bindings.new.known grows f.keeps c.requires.known f.known
@@ -288,11 +296,11 @@ meet_clause-meet-requires t c =
     let P : ProgramTree = program_tree p in
     let Q : PlacedTree = placed_at p.patterns c.args.clause.pattern.at in
     let C = Accepted c.args.auto.now c.args.arriving in
-    let made : IsPatternOf (names_of P) (unplaced Q) c.args.pattern.now = subst (λ T. IsPatternOf (names_of P) T c.args.pattern.now) (sym (unplaced_at p.patterns c.args.clause.pattern.at)) c.requires.pattern in
+    let made : IsNumbered (names_of P) (unplaced Q) c.args.pattern.patterns.now c.args.pattern.number = subst (λ T. IsNumbered (names_of P) T c.args.pattern.patterns.now c.args.pattern.number) (sym (unplaced_at p.patterns c.args.clause.pattern.at)) c.requires.pattern in
     let f = c.in_ok-found.ensures in
     let grows : Grows c.args.auto.now c.bindings.new.auto = record { extends = f.extends; keeps = f.accepting } in
     let gs = c.in-Some.givens.items in
-    let bound : AreMayGivens (names_of P) C [] Q c.bindings.new.auto gs = if_some (λ hs. (D : Definitions) (R : PlacedTree) → IsPatternOf D (unplaced R) c.args.pattern.now → AreMayGivens D C [] R c.bindings.new.auto hs.items) c.in_ok-found.found c.in-Some.givens c.in-Some.is f.bindings (names_of P) Q made in
+    let bound : AreMayGivens (names_of P) C [] Q c.bindings.new.auto gs = if_some (λ hs. (D : Definitions) (R : PlacedTree) → IsNumbered D (unplaced R) c.args.pattern.patterns.now c.args.pattern.number → AreMayGivens D C [] R c.bindings.new.auto hs.items) c.in_ok-found.found c.in-Some.givens c.in-Some.is f.bindings (names_of P) Q made in
     let fallen : 4 * c.args.clause.body.at + 3 < t = omega arith in (
       fallen,
       (
@@ -313,14 +321,14 @@ meet_clause-returns-clause-met t c =
     let P : ProgramTree = program_tree p in
     let Q : PlacedTree = placed_at p.patterns c.args.clause.pattern.at in
     let C = Accepted c.args.auto.now c.args.arriving in
-    let made : IsPatternOf (names_of P) (unplaced Q) c.args.pattern.now = subst (λ T. IsPatternOf (names_of P) T c.args.pattern.now) (sym (unplaced_at p.patterns c.args.clause.pattern.at)) c.requires.pattern in
+    let made : IsNumbered (names_of P) (unplaced Q) c.args.pattern.patterns.now c.args.pattern.number = subst (λ T. IsNumbered (names_of P) T c.args.pattern.patterns.now c.args.pattern.number) (sym (unplaced_at p.patterns c.args.clause.pattern.at)) c.requires.pattern in
     let f = c.in_ok-found.ensures in
     let grows : Grows c.args.auto.now c.bindings.new.auto = record { extends = f.extends; keeps = f.accepting } in
     let gs = c.in-Some.givens.items in
-    let bound : AreMayGivens (names_of P) C [] Q c.bindings.new.auto gs = if_some (λ hs. (D : Definitions) (R : PlacedTree) → IsPatternOf D (unplaced R) c.args.pattern.now → AreMayGivens D C [] R c.bindings.new.auto hs.items) c.in_ok-found.found c.in-Some.givens c.in-Some.is f.bindings (names_of P) Q made in
+    let bound : AreMayGivens (names_of P) C [] Q c.bindings.new.auto gs = if_some (λ hs. (D : Definitions) (R : PlacedTree) → IsNumbered D (unplaced R) c.args.pattern.patterns.now c.args.pattern.number → AreMayGivens D C [] R c.bindings.new.auto hs.items) c.in_ok-found.found c.in-Some.givens c.in-Some.is f.bindings (names_of P) Q made in
     λ S e earlier stands comes.
-    let live : IsLiveIn P S e earlier Q = live_from P S e earlier C Q (comes_on P S e earlier C comes Q) (if_some (λ hs. (D : Definitions) (R : PlacedTree) → IsPatternOf D (unplaced R) c.args.pattern.now → IsLive D C [] R) c.in_ok-found.found c.in-Some.givens c.in-Some.is f.live (names_of P) Q made) in
-    let inside = clause_scope P S e earlier C Q (comes_on P S e earlier C comes Q) c.args.auto.now c.bindings.new.auto c.args.variables.now c.bring_in.new.variables gs grows c.requires.variables stands bound c.in_ok-bring_in.ensures in
+    let live : IsLiveIn P S e earlier Q = live_from P S e earlier C Q comes (if_some (λ hs. (D : Definitions) (R : PlacedTree) → IsNumbered D (unplaced R) c.args.pattern.patterns.now c.args.pattern.number → IsLive D C [] R) c.in_ok-found.found c.in-Some.givens c.in-Some.is f.live (names_of P) Q made) in
+    let inside = clause_scope P S e earlier C Q comes c.args.auto.now c.bindings.new.auto c.args.variables.now c.bring_in.new.variables gs grows c.requires.variables stands bound c.in_ok-bring_in.ensures in
     let F : Expression = expr_at p c.args.clause.body.at in
     record {
       tells = live;
@@ -334,68 +342,152 @@ meet_clause-returns-clause-grows t c =
     let P : ProgramTree = program_tree p in
     let Q : PlacedTree = placed_at p.patterns c.args.clause.pattern.at in
     let C = Accepted c.args.auto.now c.args.arriving in
-    let made : IsPatternOf (names_of P) (unplaced Q) c.args.pattern.now = subst (λ T. IsPatternOf (names_of P) T c.args.pattern.now) (sym (unplaced_at p.patterns c.args.clause.pattern.at)) c.requires.pattern in
+    let made : IsNumbered (names_of P) (unplaced Q) c.args.pattern.patterns.now c.args.pattern.number = subst (λ T. IsNumbered (names_of P) T c.args.pattern.patterns.now c.args.pattern.number) (sym (unplaced_at p.patterns c.args.clause.pattern.at)) c.requires.pattern in
     let f = c.in_ok-found.ensures in
     let grows : Grows c.args.auto.now c.bindings.new.auto = record { extends = f.extends; keeps = f.accepting } in
     grows_then c.args.auto.now c.bindings.new.auto c.meet.new.auto grows c.in_ok-meet.ensures.grows
 
-pub meet_clauses-loop-clause-init : goal.meet_clauses-loop-clause-init
-meet_clauses-loop-clause-init t c = record {
-  walk = clauses_begin c.args.self.now.sound c.args.auto.now c.args.variables.now c.args.meeting.now.met.items c.args.clauses.now c.args.arriving c.requires.clauses c.requires.arriving;
-  known = c.requires.known;
-}
-
-pub meet_clauses-meet_clause-requires : goal.meet_clauses-meet_clause-requires
-meet_clauses-meet_clause-requires t c =
+pub meet_clauses-meet_match-requires : goal.meet_clauses-meet_match-requires
+meet_clauses-meet_match-requires t c =
     let p : ProgramTable = c.args.self.now.sound in
-    let n : ℕ = c.loop-clause.clause-index in
+    let a = c.args.auto.now in
+    let own = c.in_ok-own.own in
+    let fallen : 4 * ceiling (bodies (clause_numbers c.args.clauses.now)) + 1 < t = omega arith in (
+      fallen,
+      (
+        c.requires.ready,
+        (
+          compiled_as p a c.args.clauses.now (patterns_among c.args.self.now.patterns own.own) c.among.result.now own.numbers.items c.numbers.result.now c.among.ensures c.numbers.ensures (c.in_ok-own.ensures a c.requires.ready.points),
+          (c.requires.clauses, (c.requires.scrutinee, (c.requires.variables, c.requires.known))),
+        ),
+      ),
+    )
+
+pub meet_match-loop-number-smaller : goal.meet_match-loop-number-smaller
+meet_match-loop-number-smaller t c = falls (length c.args.compiled.clauses.now) c.loop-number.number c.loop-number-test.true
+
+pub meet_match-loop-number-init : goal.meet_match-loop-number-init
+meet_match-loop-number-init t c =
+    let a = c.args.auto.now in
+    let m : CompiledPatterns = c.args.compiled.patterns.now in
+    let made = c.in_ok-remaining.ensures in
+    record {
+      walk = clauses_begin c.args.self.now.sound m a c.args.variables.now c.args.meeting.now.met.items c.args.compiled.clauses.now c.args.scrutinee c.in_ok-remaining.remaining c.requires.clauses (made.stands a m c.requires.scrutinee) (λ d. made.remains a m d);
+      known = c.requires.known;
+    }
+
+pub meet_match-bounds-compiled-number : goal.meet_match-bounds-compiled-number
+meet_match-bounds-compiled-number t c =
+    subst (λ n. c.loop-number.number < n) (paired_count (HasNumber c.args.compiled.patterns.now) c.args.compiled.clauses.now c.args.compiled.numbers.now c.requires.compiled.numbers) c.loop-number-test.true
+
+pub meet_match-coming_to-requires : goal.meet_match-coming_to-requires
+meet_match-coming_to-requires t c =
+    let m : CompiledPatterns = c.args.compiled.patterns.now in
+    let x = c.pattern-pattern.result in
+    let is : x.patterns.now ≡ m = c.pattern-pattern.ensures.patterns in
+    let cs : List Clause = c.args.compiled.clauses.now in
+    let n : ℕ = c.loop-number.number in
     let none : Clause = record { pattern = record { at = 0 }; body = record { at = 0 } } in
-    let k : Clause = get_or c.args.clauses.now n none in
-    let e : k ≡ get_or c.args.clauses.now n k = get_or_default c.args.clauses.now n none k c.loop-clause-test.true in
-    let h = clause_here p c.args.auto.now c.loop-clause.auto' c.args.variables.now c.loop-clause.variables c.args.meeting.now.met.items c.loop-clause.meeting.met.items
-    c.args.clauses.now n c.args.arriving c.loop-clause.arriving k c.loop-clause.invariant.walk c.loop-clause-test.true e in
+    let k : Clause = get_or cs n none in
+    record {
+      pattern = some_here c.args.self.now.sound c.args.auto.now cs m c.args.compiled.numbers.now c.requires.compiled n k x.patterns.now x.number c.loop-number-test.true (get_or_default cs n none k c.loop-number-test.true) is c.pattern-pattern.ensures.number;
+      serve = subst (λ (y : CompiledPatterns). ServePoints c.loop-number.auto' y.states) (sym is) (c.requires.compiled.points c.loop-number.auto' c.loop-number.invariant.walk.rests.grows.extends);
+      stands = subst (λ (y : CompiledPatterns). StandsIn c.loop-number.auto' y c.loop-number.remaining) (sym is) c.loop-number.invariant.walk.ahead.stands;
+    }
+
+pub meet_match-meet_clause-requires : goal.meet_match-meet_clause-requires
+meet_match-meet_clause-requires t c =
+    let p : ProgramTable = c.args.self.now.sound in
+    let m : CompiledPatterns = c.args.compiled.patterns.now in
+    let x = c.pattern-pattern.result in
+    let is : x.patterns.now ≡ m = c.pattern-pattern.ensures.patterns in
+    let cs : List Clause = c.args.compiled.clauses.now in
+    let n : ℕ = c.loop-number.number in
+    let none : Clause = record { pattern = record { at = 0 }; body = record { at = 0 } } in
+    let k : Clause = get_or cs n none in
+    let e : k ≡ get_or cs n k = get_or_default cs n none k c.loop-number-test.true in
+    let h = clause_here p m c.loop-number.auto' cs n c.loop-number.remaining k c.loop-number.invariant.walk.ahead c.loop-number-test.true e in
     let w = h.0 in
-    let st = c.loop-clause.invariant.walk.rests in
+    let st = c.loop-number.invariant.walk.rests in
+    let a = c.in_ok-coming.ensures in
+    let one : Grows c.loop-number.auto' c.coming_to.new.auto = record { extends = a.extends; keeps = a.accepting } in
+    let g : Grows c.args.auto.now c.coming_to.new.auto = grows_then c.args.auto.now c.loop-number.auto' c.coming_to.new.auto st.grows one in
     let top = h.1 in
     let fallen : 4 * (k.body).at + 4 < t = omega arith in (
       fallen,
       (
-        ready_kept c.args.self.now c.args.auto.now c.loop-clause.auto' st.grows c.requires.ready,
+        ready_kept c.args.self.now c.args.auto.now c.coming_to.new.auto g c.requires.ready,
         (
           w,
           (
-            c.in_ok-pattern.ensures,
+            numbered_here p c.args.auto.now cs m c.args.compiled.numbers.now c.requires.compiled n k x.patterns.now x.number c.loop-number-test.true e is c.pattern-pattern.ensures.number,
             (
-              c.loop-clause.invariant.walk.arriving,
-              (states_again c.args.auto.now c.loop-clause.auto' st.grows c.args.variables.now c.loop-clause.variables st.variables c.requires.variables, c.loop-clause.invariant.known),
+              subst (λ (y : CompiledPatterns). ServePoints c.coming_to.new.auto y.states) (sym is) (c.requires.compiled.points c.coming_to.new.auto g.extends),
+              (
+                a.belongs,
+                (
+                  states_again c.args.auto.now c.coming_to.new.auto g c.args.variables.now c.loop-number.variables st.variables c.requires.variables,
+                  known_kept c.loop-number.auto' c.coming_to.new.auto c.loop-number.meeting.store c.loop-number.meeting.store c.loop-number.meeting.known one (keeps_same c.loop-number.meeting.store) c.loop-number.invariant.known,
+                ),
+              ),
             ),
           ),
         ),
       ),
     )
 
-pub meet_clauses-loop-clause-preserved : goal.meet_clauses-loop-clause-preserved
-meet_clauses-loop-clause-preserved t c =
-    let p : ProgramTable = c.args.self.now.sound in
-    let n : ℕ = c.loop-clause.clause-index in
+pub meet_match-pass_on-requires : goal.meet_match-pass_on-requires
+meet_match-pass_on-requires t c =
+    let m : CompiledPatterns = c.args.compiled.patterns.now in
+    let x = c.pattern-pattern.result in
+    let is : x.patterns.now ≡ m = c.pattern-pattern.ensures.patterns in
+    let cs : List Clause = c.args.compiled.clauses.now in
+    let n : ℕ = c.loop-number.number in
     let none : Clause = record { pattern = record { at = 0 }; body = record { at = 0 } } in
-    let k : Clause = get_or c.args.clauses.now n none in
-    let f = c.in_ok-is_live.ensures in
-    let w = c.in_ok-left.ensures in
-    let Q : PlacedTree = placed_at p.patterns (k.pattern).at in
-    let made : IsPatternOf (names_of (program_tree p)) (unplaced Q) c.in_ok-pattern.pattern = subst (λ T. IsPatternOf (names_of (program_tree p)) T c.in_ok-pattern.pattern) (sym (unplaced_at p.patterns (k.pattern).at)) c.in_ok-pattern.ensures in
+    let k : Clause = get_or cs n none in
     record {
-      walk = clauses_more p c.args.auto.now c.loop-clause.auto' c.meet_clause.new.auto c.left_behind.new.auto c.args.variables.now c.loop-clause.variables c.meet_clause.new.variables
-          c.args.meeting.now.met.items c.loop-clause.meeting.met.items c.meet_clause.new.meeting.met.items c.args.clauses.now n c.args.arriving c.loop-clause.arriving c.in_ok-left.left k c.in_ok-is_live.is_live
-          c.requires.variables c.loop-clause.invariant.walk c.loop-clause-test.true (get_or_default c.args.clauses.now n none k c.loop-clause-test.true) f.met f.variables f.grows w.grows
-          w.belongs (w.exact (names_of (program_tree p)) Q made);
-      known = known_kept c.meet_clause.new.auto c.left_behind.new.auto c.meet_clause.new.meeting.store c.meet_clause.new.meeting.store c.meet_clause.new.meeting.known w.grows (keeps_same c.meet_clause.new.meeting.store) f.known;
+      pattern = some_here c.args.self.now.sound c.args.auto.now cs m c.args.compiled.numbers.now c.requires.compiled n k x.patterns.now x.number c.loop-number-test.true (get_or_default cs n none k c.loop-number-test.true) is c.pattern-pattern.ensures.number;
+      waiting = c.in_ok-coming.ensures.stands.waiting;
     }
 
-pub meet_clauses-returns-clause-met : goal.meet_clauses-returns-clause-met
-meet_clauses-returns-clause-met t c =
-    clauses_end c.args.self.now.sound c.args.auto.now c.loop-clause.auto' c.args.variables.now c.loop-clause.variables c.args.meeting.now.met.items c.loop-clause.meeting.met.items c.args.clauses.now c.loop-clause.clause-index c.args.arriving c.loop-clause.arriving
-    (drop_all c.loop-clause.clause-index c.args.clauses.now c.loop-clause-test.false) c.loop-clause.invariant.walk
+pub meet_match-loop-number-preserved : goal.meet_match-loop-number-preserved
+meet_match-loop-number-preserved t c =
+    let p : ProgramTable = c.args.self.now.sound in
+    let E = names_of (program_tree p) in
+    let x = c.pattern-pattern.result in
+    let is : x.patterns.now ≡ c.args.compiled.patterns.now = c.pattern-pattern.ensures.patterns in
+    let m : CompiledPatterns = x.patterns.now in
+    let cs : List Clause = c.args.compiled.clauses.now in
+    let n : ℕ = c.loop-number.number in
+    let none : Clause = record { pattern = record { at = 0 }; body = record { at = 0 } } in
+    let k : Clause = get_or cs n none in
+    let here : k ≡ get_or cs n k = get_or_default cs n none k c.loop-number-test.true in
+    let a = c.in_ok-coming.ensures in
+    let f = c.in_ok-is_live.ensures in
+    let w = c.in_ok-remaining-2.ensures in
+    let b = c.coming_to.new.auto in
+    let d = c.meet_clause.new.auto in
+    let old : List MetMatch = c.args.meeting.now.met.items in
+    let mid : List MetMatch = c.loop-number.meeting.met.items in
+    let new : List MetMatch = c.meet_clause.new.meeting.met.items in
+    let one : Grows c.loop-number.auto' b = record { extends = a.extends; keeps = a.accepting } in
+    let Q : PlacedTree = placed_at p.patterns (k.pattern).at in
+    let made : IsNumbered E (unplaced Q) m x.number = subst (λ T. IsNumbered E T m x.number) (sym (unplaced_at p.patterns (k.pattern).at))
+    (numbered_here p c.args.auto.now cs c.args.compiled.patterns.now c.args.compiled.numbers.now c.requires.compiled n k m x.number c.loop-number-test.true here is c.pattern-pattern.ensures.number) in
+    let before : ClausesMet p m c.args.auto.now c.loop-number.auto' c.args.variables.now c.loop-number.variables old mid cs n c.args.scrutinee c.loop-number.remaining
+    = subst (λ (y : CompiledPatterns). ClausesMet p y c.args.auto.now c.loop-number.auto' c.args.variables.now c.loop-number.variables old mid cs n c.args.scrutinee c.loop-number.remaining) (sym is) c.loop-number.invariant.walk in
+    record {
+      walk = subst (λ (y : CompiledPatterns). ClausesMet p y c.args.auto.now d c.args.variables.now c.meet_clause.new.variables old new cs (n + 1) c.args.scrutinee c.in_ok-remaining-2.remaining) is
+          (clauses_more p m c.args.auto.now c.loop-number.auto' b d c.args.variables.now c.loop-number.variables c.meet_clause.new.variables old mid new cs n c.args.scrutinee c.in_ok-coming.arriving
+          c.loop-number.remaining c.in_ok-coming.coming c.in_ok-remaining-2.remaining k c.in_ok-is_live.is_live c.requires.variables before c.loop-number-test.true here one a.stands a.remains (a.comes E Q made)
+          f.met f.variables f.grows (w.stands d (stands_on b d m c.in_ok-coming.coming f.grows a.stands)) (w.remains E Q made d));
+      known = f.known;
+    }
+
+pub meet_match-returns-clause-met : goal.meet_match-returns-clause-met
+meet_match-returns-clause-met t c =
+    clauses_end c.args.self.now.sound c.args.compiled.patterns.now c.args.auto.now c.loop-number.auto' c.args.variables.now c.loop-number.variables c.args.meeting.now.met.items c.loop-number.meeting.met.items c.args.compiled.clauses.now c.loop-number.number c.args.scrutinee
+    c.loop-number.remaining (drop_all c.loop-number.number c.args.compiled.clauses.now c.loop-number-test.false) c.loop-number.invariant.walk
 
 pub meet_each-loop-part-init : goal.meet_each-loop-part-init
 meet_each-loop-part-init t c = record {

@@ -13,7 +13,10 @@ abbrev pub decreases-meet_each : goal.decreases-meet_each
 decreases-meet_each l = 4 * ceiling (expr_numbers l.parts.now) + 1
 
 abbrev pub decreases-meet_clauses : goal.decreases-meet_clauses
-decreases-meet_clauses l = 4 * ceiling (bodies (clause_numbers l.clauses.now)) + 1
+decreases-meet_clauses l = 4 * ceiling (bodies (clause_numbers l.clauses.now)) + 2
+
+abbrev pub decreases-meet_match : goal.decreases-meet_match
+decreases-meet_match l = 4 * ceiling (bodies (clause_numbers l.compiled.clauses.now)) + 1
 
 abbrev pub decreases-meet_clause : goal.decreases-meet_clause
 decreases-meet_clause l = 4 * l.clause.body.at + 4
@@ -24,8 +27,8 @@ invariant-meet_each-loop-part l = record {
   known : IsKnown l.auto' l.meeting.store l.meeting.known;
 }
 
-abbrev pub invariant-meet_clauses-loop-clause : goal.invariant-meet_clauses-loop-clause
-invariant-meet_clauses-loop-clause l = record {
-  walk : ClausesMet l.self.sound l.initial.auto' l.auto' l.initial.variables l.variables l.initial.meeting.met.items l.meeting.met.items l.clauses l.clause-index l.initial.arriving l.arriving;
+abbrev pub invariant-meet_match-loop-number : goal.invariant-meet_match-loop-number
+invariant-meet_match-loop-number l = record {
+  walk : ClausesMet l.self.sound l.compiled.patterns.now l.initial.auto' l.auto' l.initial.variables l.variables l.initial.meeting.met.items l.meeting.met.items l.compiled.clauses.now l.number l.fn.scrutinee l.remaining;
   known : IsKnown l.auto' l.meeting.store l.meeting.known;
 }

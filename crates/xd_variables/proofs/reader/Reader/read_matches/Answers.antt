@@ -3,6 +3,7 @@ use Rattle.std.proofs.lemmas.List.{drop_all, get_or_default}
 use Rattle.xd_check.specs.declared.matches.MetMatch.{MetMatch}
 use Rattle.xd_variables.specs.Bound.{reading_of}
 use Rattle.xd_variables.proofs.MatchLoop.{match_here, matches_begin, matches_end, matches_more}
+use Rattle.xd_variables.proofs.ReadingLemmas.{reader_kept}
 use Rattle.xd_variables.proofs.reader.Reader.read_matches.Goals as goal
 
 pub loop-met-init : goal.loop-met-init
@@ -10,6 +11,9 @@ loop-met-init c = record {
   read = matches_begin (reading_of c.args.self.now.ways) c.args.self.now.sound c.args.auto.now c.args.found.now.variables.items c.args.matches.now c.requires.matches;
   known = c.requires.known;
 }
+
+pub read_match-requires-clause-ready : goal.read_match-requires-clause-ready
+read_match-requires-clause-ready c = reader_kept c.args.self.now c.args.auto.now c.loop-met.auto' c.loop-met.invariant.read.grows c.requires.ready
 
 pub read_match-requires-clause-met : goal.read_match-requires-clause-met
 read_match-requires-clause-met c =
