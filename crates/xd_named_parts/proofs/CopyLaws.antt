@@ -1,22 +1,22 @@
 -- Laws of copies.
-use Rattle.std.proofs.Common.{◌≡◌, ◌≢◌, ◌⊎◌, ◌↔◌, inl, inr, ℕ, zero, suc, ◌+◌, ◌<◌, ◌≤◌, arith, refl, sym, ap, ◌∙◌, subst, true, false, List, [], ◌∷◌, ◌++◌, map, length, take, get_or, set, length-append, append_assoc, Option, Some, None, Result, Ok, Err}
+use Rattle.std.proofs.Common.{◌≡◌, ◌≢◌, ◌⊎◌, ◌↔◌, inl, inr, ℕ, zero, suc, ◌+◌, ◌<◌, ◌≤◌, arith, refl, sym, ap, ◌∙◌, subst, true, List, [], ◌∷◌, ◌++◌, map, length, take, get_or, set, length-append, append_assoc, Option, Some, None, Result, Ok, Err}
 use Rattle.std.specs.Option.{IfSome}
 use Rattle.std.specs.Result.{IfOk}
 use Rattle.std.specs.List.{AllByRecursion}
 use Rattle.std.proofs.lemmas.List.{length-set, get_or-set_same, get_or-set_other}
-use Rattle.xd_doc.specs.Document.{Document}
 use Rattle.xd_doc.specs.Classes.{LabelClass}
-use Rattle.xd_syntax.specs.Words.{any_word, has_word}
-use Rattle.xd_syntax.specs.Tree.{Tree, Empty, Text, Words, Elem, Seq, Alt, Star, Plus, Opt, Name}
+use Rattle.xd_syntax.specs.Words.{any_word}
+use Rattle.xd_syntax.specs.Tree.{Tree, Elem, Star, Plus, Opt, Name}
+use Rattle.xd_syntax.specs.TreeForms.{alt_of}
 use Rattle.xd_syntax.specs.Table.{Row, Form, KeepsRows, form_tree, elem_form, star_form, plus_form, opt_form, seq_form, alt_form, tree_at}
 use Rattle.xd_syntax.specs.Types.{BelongsTo, type_numbers}
 use Rattle.xd_syntax.specs.declared.types.TypeId.{TypeId}
 use Rattle.xd_syntax.proofs.Trees.{tree_kept}
-use Rattle.xd_same_types.specs.Same.{Meaning, FitsAs, HasTops}
+use Rattle.xd_same_types.specs.Same.{Meaning, FitsAs, HasTops, trees}
 use Rattle.xd_same_types.proofs.Ids.{default_free, take_read}
-use Rattle.xd_same_types.proofs.Tables.{all_with}
+use Rattle.xd_same_types.proofs.Tables.{all_with, map_numbers}
 use Rattle.xd_shown.specs.Bodies.{AreMeant}
-use Rattle.xd_named_parts.specs.Copies.{Alike, AllCopied, AreBare, AreCopies, AreGiven, AreNoCopies, CopiesBelong, GrowsCopies, IsFormCopy, IsMeantCopy, IsNodeCopy, MeansEach, StandForNodes, StandsForNode, copy_in}
+use Rattle.xd_named_parts.specs.Copies.{Alike, AllCopied, AreBare, AreCopies, AreNoCopies, CopiesBelong, GrowsCopies, IsFormCopy, IsMeantCopy, IsNodeCopy, MeansEach, StandForNodes, StandsForNode, TakesAll, copy_in}
 use Rattle.xd_named_parts.proofs.AlikeLaws.{alike_elem, alike_seqs, alike_alts, alike_star, alike_plus, alike_opt, bare_seqs, bare_alts}
 
 -- ---- tables that grow
@@ -119,7 +119,7 @@ copied_belong mid table (x ∷ ps) (y ∷ qs) b h = (b x.at y h.0, copied_belong
 module _ (tops inner : List (Option TypeId)) (mid new : List Row) (id : TypeId) (b : BelongsTo new id) where
   pub seq_is : (ps qs : List TypeId) → AllCopied tops ps qs → tree_at new id.at ≡ form_tree (tree_at mid) (seq_form (type_numbers qs)) → IsFormCopy (seq_form (type_numbers ps)) tops inner mid new id
   seq_is ps qs c e = record {
-    same = λ old N M h i. subst (λ T. Alike N M (form_tree (tree_at old) (seq_form (type_numbers ps))) T) (sym e) (alike_seqs N M old mid tops h ps qs c);
+    same = λ old N M a h i. subst (λ T. Alike N M (form_tree (tree_at old) (seq_form (type_numbers ps))) T) (sym e) (alike_seqs N M old mid tops h ps qs c);
     bare = λ h. subst (λ T. HasTops (any_word ∷ []) T) (sym e) (bare_seqs mid tops h ps qs c);
     belongs = b;
   }
@@ -128,43 +128,63 @@ module _ (tops inner : List (Option TypeId)) (mid new : List Row) (id : TypeId) 
   alt_is ps qs l c e =
       let n = copied_count tops ps qs c in
       record {
-        same = λ old N M h i. subst (λ T. Alike N M (form_tree (tree_at old) (alt_form (type_numbers ps))) T) (sym e) (alike_alts N M old mid tops h ps qs (omega arith) c);
+        same = λ old N M a h i. subst (λ T. Alike N M (form_tree (tree_at old) (alt_form (type_numbers ps))) T) (sym e) (alike_alts N M old mid tops h ps qs (omega arith) c);
         bare = λ h. subst (λ T. HasTops (any_word ∷ []) T) (sym e) (bare_alts mid tops h ps qs l c);
         belongs = b;
       }
 
   pub elem_is : (k : LabelClass) (p : ℕ) (q : TypeId) → copy_in inner p ≡ Some q → tree_at new id.at ≡ form_tree (tree_at mid) (elem_form k q.at) → IsFormCopy (elem_form k p) tops inner mid new id
   elem_is k p q c e = record {
-    same = λ old N M h i. subst (λ T. Alike N M (Elem k (tree_at old p)) T) (sym e) (alike_elem N M k (tree_at old p) (tree_at mid q.at) (i p q c));
+    same = λ old N M a h i. subst (λ T. Alike N M (Elem k (tree_at old p)) T) (sym e) (alike_elem N M k (tree_at old p) (tree_at mid q.at) (i p q c));
     bare = λ h. subst (λ T. HasTops (any_word ∷ []) T) (sym e) refl;
     belongs = b;
   }
 
   pub star_is : (p : ℕ) (q : TypeId) → copy_in tops p ≡ Some q → tree_at new id.at ≡ form_tree (tree_at mid) (star_form q.at) → IsFormCopy (star_form p) tops inner mid new id
   star_is p q c e = record {
-    same = λ old N M h i. subst (λ T. Alike N M (Star (tree_at old p)) T) (sym e) (alike_star N M (tree_at old p) (tree_at mid q.at) (h p q c));
+    same = λ old N M a h i. subst (λ T. Alike N M (Star (tree_at old p)) T) (sym e) (alike_star N M (tree_at old p) (tree_at mid q.at) (h p q c));
     bare = λ h. subst (λ T. HasTops (any_word ∷ []) T) (sym e) (h p q c);
     belongs = b;
   }
 
   pub plus_is : (p : ℕ) (q : TypeId) → copy_in tops p ≡ Some q → tree_at new id.at ≡ form_tree (tree_at mid) (plus_form q.at) → IsFormCopy (plus_form p) tops inner mid new id
   plus_is p q c e = record {
-    same = λ old N M h i. subst (λ T. Alike N M (Plus (tree_at old p)) T) (sym e) (alike_plus N M (tree_at old p) (tree_at mid q.at) (h p q c));
+    same = λ old N M a h i. subst (λ T. Alike N M (Plus (tree_at old p)) T) (sym e) (alike_plus N M (tree_at old p) (tree_at mid q.at) (h p q c));
     bare = λ h. subst (λ T. HasTops (any_word ∷ []) T) (sym e) (h p q c);
     belongs = b;
   }
 
   pub opt_is : (p : ℕ) (q : TypeId) → copy_in tops p ≡ Some q → tree_at new id.at ≡ form_tree (tree_at mid) (opt_form q.at) → IsFormCopy (opt_form p) tops inner mid new id
   opt_is p q c e = record {
-    same = λ old N M h i. subst (λ T. Alike N M (Opt (tree_at old p)) T) (sym e) (alike_opt N M (tree_at old p) (tree_at mid q.at) (h p q c));
+    same = λ old N M a h i. subst (λ T. Alike N M (Opt (tree_at old p)) T) (sym e) (alike_opt N M (tree_at old p) (tree_at mid q.at) (h p q c));
     bare = λ h. subst (λ T. HasTops (any_word ∷ []) T) (sym e) (h p q c);
     belongs = b;
   }
 
+  -- `Any` for a form that would become a type that every document fits
+  pub any_is : (T : Tree) (f : Form) → ((old : List Row) (N M : Meaning) → AreCopies N M old mid tops → Alike N M (form_tree (tree_at old) f) T) → TakesAll T → tree_at new id.at ≡ Name any_word → IsFormCopy f tops inner mid new id
+  any_is T f like t e = record {
+    same = λ old N M a h i d. subst (λ U. FitsAs N (form_tree (tree_at old) f) d ↔ FitsAs M U d) (sym e) (λ g. a d, λ g. (like old N M h d).1 (t.fits M a d));
+    bare = λ h. subst (λ T. HasTops (any_word ∷ []) T) (sym e) refl;
+    belongs = b;
+  }
+
+  pub star_any : (p : ℕ) (q : TypeId) → copy_in tops p ≡ Some q → TakesAll (Star (tree_at mid q.at)) → tree_at new id.at ≡ Name any_word → IsFormCopy (star_form p) tops inner mid new id
+  star_any p q c t e = any_is (Star (tree_at mid q.at)) (star_form p) (λ old N M h. alike_star N M (tree_at old p) (tree_at mid q.at) (h p q c)) t e
+
+  pub opt_any : (p : ℕ) (q : TypeId) → copy_in tops p ≡ Some q → TakesAll (Opt (tree_at mid q.at)) → tree_at new id.at ≡ Name any_word → IsFormCopy (opt_form p) tops inner mid new id
+  opt_any p q c t e = any_is (Opt (tree_at mid q.at)) (opt_form p) (λ old N M h. alike_opt N M (tree_at old p) (tree_at mid q.at) (h p q c)) t e
+
+  pub alt_any : (ps qs : List TypeId) → 0 < length qs → AllCopied tops ps qs → TakesAll (alt_of (trees mid qs)) → tree_at new id.at ≡ Name any_word → IsFormCopy (alt_form (type_numbers ps)) tops inner mid new id
+  alt_any ps qs l c t e =
+      let n = copied_count tops ps qs c in
+      any_is (alt_of (map (tree_at mid) (type_numbers qs))) (alt_form (type_numbers ps)) (λ old N M h. alike_alts N M old mid tops h ps qs (omega arith) c)
+      (subst (λ Ts. TakesAll (alt_of Ts)) (sym (map_numbers (tree_at mid) qs)) t) e
+
   -- a form without parts stays what it is
   pub leaf_is : (T : Tree) (f : Form) → ((old : List Row) → form_tree (tree_at old) f ≡ T) → ((N M : Meaning) → Alike N M T T) → HasTops (any_word ∷ []) T → tree_at new id.at ≡ T → IsFormCopy f tops inner mid new id
   leaf_is T f g same t e = record {
-    same = λ old N M h i. subst (λ U. Alike N M (form_tree (tree_at old) f) U) (sym e) (subst (λ U. Alike N M U T) (sym (g old)) (same N M));
+    same = λ old N M a h i. subst (λ U. Alike N M (form_tree (tree_at old) f) U) (sym e) (subst (λ U. Alike N M U T) (sym (g old)) (same N M));
     bare = λ h. subst (λ U. HasTops (any_word ∷ []) U) (sym e) t;
     belongs = b;
   }
@@ -173,7 +193,7 @@ module _ (tops inner : List (Option TypeId)) (mid new : List Row) (id : TypeId) 
 pub node_by_form : (old : List Row) (words : List (List ℕ)) (bodies : List TypeId) (i : ℕ) (tops inner : List (Option TypeId)) (mid new : List Row) (f : Form) (id : TypeId) →
     tree_at old i ≡ form_tree (tree_at old) f → IsFormCopy f tops inner mid new id → IsNodeCopy old words bodies i tops inner mid new id
 node_by_form old words bodies i tops inner mid new f id e h = record {
-  same = λ N M m a t k. subst (λ T. Alike N M T (tree_at new id.at)) (sym e) (h.same old N M t k);
+  same = λ N M m a t k. subst (λ T. Alike N M T (tree_at new id.at)) (sym e) (h.same old N M a t k);
   belongs = h.belongs;
 }
 

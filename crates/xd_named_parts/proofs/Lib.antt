@@ -1,4 +1,5 @@
 pub mod FitTests
 pub mod AlikeLaws
+pub mod AnyLaws
 pub mod CopyLaws
 pub mod NamedLaws

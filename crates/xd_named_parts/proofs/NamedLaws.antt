@@ -8,7 +8,6 @@ use Rattle.std.proofs.lemmas.Slice.Eq.{bytes_eq-Decides}
 use Rattle.xd_doc.specs.Document.{Document}
 use Rattle.xd_syntax.specs.Words.{any_word, has_word}
 use Rattle.xd_syntax.specs.Table.{Row, tree_at}
-use Rattle.xd_syntax.specs.Types.{BelongsTo}
 use Rattle.xd_syntax.specs.declared.types.TypeId.{TypeId}
 use Rattle.xd_same_types.specs.Grown.{NamesAmong}
 use Rattle.xd_same_types.specs.Same.{Meaning, FitsAs, HasTops}
@@ -18,7 +17,7 @@ use Rattle.xd_shown.specs.Bodies.{AreBodies, AreMeant, HasProper, ShowsMeanings}
 use Rattle.xd_shown.proofs.AreMeantLemmas.{same_set}
 use Rattle.xd_shown.specs.FreeNames.{AreDistinct, AreNewNames}
 use Rattle.xd_shown.specs.Shown.{AreNamedFrom, IsShown}
-use Rattle.xd_named_parts.specs.Copies.{Alike, AllCopied, AreBare, AreCopies, AreGiven, AreGivenWith, AreNoCopies, CopiesBelong, GrowsCopies, StandForNodes, copy_in}
+use Rattle.xd_named_parts.specs.Copies.{AllCopied, AreBare, AreCopies, AreGiven, AreGivenWith, AreNoCopies, CopiesBelong, GrowsCopies, StandForNodes, copy_in}
 use Rattle.xd_named_parts.specs.Plans.{IsPlan}
 use Rattle.xd_named_parts.specs.Shorter.{AreDefinitions, AreShorter, ShowsDefinitions}
 use Rattle.xd_named_parts.specs.declared.parts.Definitions.{Definitions}

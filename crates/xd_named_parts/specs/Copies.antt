@@ -1,9 +1,8 @@
--- Types copied to another table, with names in the places of some. Of this only private contracts
--- speak.
-use Rattle.std.specs.Prelude.{◌≡◌, ◌↔◌, ◌<◌, ℕ, true, List, [], ◌∷◌, length, get_or, Option, Some, None}
+-- Types copied to another table, with names in the places of some.
+use Rattle.std.specs.Prelude.{◌≡◌, ◌↔◌, ◌<◌, ◌&&◌, ◌==◌, ℕ, Bool, true, List, [], ◌∷◌, length, get_or, Option, Some, None}
 use Rattle.std.specs.List.{AllByRecursion}
-use Rattle.xd_doc.specs.Classes.{TextClass}
-use Rattle.xd_doc.specs.Document.{Document}
+use Rattle.xd_doc.specs.Classes.{LabelClass, TextClass}
+use Rattle.xd_doc.specs.Document.{Document, empty, text, element, has_item}
 use Rattle.xd_syntax.specs.Words.{any_word}
 use Rattle.xd_syntax.specs.Tree.{Tree}
 use Rattle.xd_syntax.specs.Table.{Form, Row, IsWordsNode, words_form, form_tree, tree_at}
@@ -20,6 +19,26 @@ Alike N M T U = (d : Document) → FitsAs N T d ↔ FitsAs M U d
 -- `Any` stands for every document
 abbrev pub MeansEach : Meaning → Type 0
 MeansEach N = (d : Document) → N any_word d ≡ true
+
+-- every document fits the type, where `Any` stands for each
+pub record TakesAll (T : Tree) : Type 0 where
+  pub fits : (M : Meaning) → MeansEach M → (d : Document) → FitsAs M T d
+
+-- so does every document that has an item
+pub record TakesMore (T : Tree) : Type 0 where
+  pub fits : (M : Meaning) → MeansEach M → (d : Document) → has_item d ≡ true → FitsAs M T d
+
+-- each text fits the type
+pub record TakesTexts (T : Tree) : Type 0 where
+  pub fits : (M : Meaning) (s : List ℕ) → FitsAs M T (text s empty)
+
+-- each element fits the type, where `Any` stands for every document
+pub record TakesElements (T : Tree) : Type 0 where
+  pub fits : (M : Meaning) → MeansEach M → (l : List ℕ) (c : Document) → FitsAs M T (element l c empty)
+
+-- the class has each label
+abbrev pub has_each : LabelClass → Bool
+has_each k = k.except && (length k.names == 0)
 
 -- the copy of the node with this number, if it has one
 abbrev pub copy_in : List (Option TypeId) → ℕ → Option TypeId
@@ -50,7 +69,7 @@ HasWords f = (w : TextClass) → f ≡ words_form w → IsWordsNode w
 -- A type for a form, where some copies stand for the types that it has outside of labels, and
 -- others for those under labels.
 pub record IsFormCopy (form : Form) (tops inner : List (Option TypeId)) (mid new : List Row) (id : TypeId) : Type 0 where
-  pub same : (old : List Row) (N M : Meaning) → AreCopies N M old mid tops → AreCopies N M old mid inner → Alike N M (form_tree (tree_at old) form) (tree_at new id.at)
+  pub same : (old : List Row) (N M : Meaning) → MeansEach M → AreCopies N M old mid tops → AreCopies N M old mid inner → Alike N M (form_tree (tree_at old) form) (tree_at new id.at)
   pub bare : AreBare mid tops → HasTops (any_word ∷ []) (tree_at new id.at)
   pub belongs : BelongsTo new id
 

@@ -1,5 +1,5 @@
--- Plans of names. Of this only private contracts speak.
-use Rattle.std.specs.Prelude.{◌≡◌, ◌<◌, ℕ, List, length, get_or}
+-- Plans of names.
+use Rattle.std.specs.Prelude.{◌≡◌, ◌<◌, List, length, get_or}
 use Rattle.std.specs.List.{AllByRecursion}
 use Rattle.xd_syntax.specs.Table.{Row}
 use Rattle.xd_syntax.specs.Types.{BelongsTo}

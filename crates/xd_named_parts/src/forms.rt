@@ -10,9 +10,10 @@ ghost use Rattle.xd_same_types.specs.Grown.{GrowsTypes};
 ghost use Rattle.xd_same_types.specs.Same.{AreAltParts, AreSeqParts};
 ghost use Rattle.xd_named_parts.specs.Copies.{AllCopied, CopiesBelong, HasWords, IsFormCopy, copy_in};
 
+use crate::any::{some_any, takes_items, takes_more};
 use std::alloc::Global;
 use xd_doc::{Class, NoMemory};
-use xd_same_types::{Pool, node};
+use xd_same_types::{Pool, any_type, node};
 use xd_syntax::{TypeForm, TypeId};
 
 /// The copy of the node with this number, if it has one.
@@ -130,6 +131,9 @@ fn alt_copy(
     if made.len() < 2 || !are_alt_parts(pool, &made) {
         return Ok(None);
     }
+    if some_any(pool, &made) {
+        return Ok(Some(any_type(alloc, pool)?));
+    }
     Ok(Some(node(pool, TypeForm::Alt(made))?))
 }
 
@@ -152,6 +156,7 @@ fn elem_copy(
 
 /// The copy of a part again and again, if it has one.
 fn star_copy(
+    alloc: Global,
     pool: &mut Pool,
     tops: &[Option<TypeId>],
     part: TypeId,
@@ -160,10 +165,13 @@ fn star_copy(
     ensures copy { IfOk result (λ found. IfSome found (λ id. (inner : List (Option TypeId)) → IsFormCopy (star_form part.at) tops.now inner pool.old.types pool.new.types id)) }
     ensures keeps { GrowsTypes pool.old.types pool.new.types }
 {
-    match copy_at(tops, part.at()) {
-        Some(id) => Ok(Some(node(pool, TypeForm::Star(id))?)),
-        None => Ok(None),
+    let Some(id) = copy_at(tops, part.at()) else {
+        return Ok(None);
+    };
+    if takes_items(pool, id) {
+        return Ok(Some(any_type(alloc, pool)?));
     }
+    Ok(Some(node(pool, TypeForm::Star(id))?))
 }
 
 /// The same, once at least.
@@ -184,6 +192,7 @@ fn plus_copy(
 
 /// The copy of a part or nothing, if it has one.
 fn opt_copy(
+    alloc: Global,
     pool: &mut Pool,
     tops: &[Option<TypeId>],
     part: TypeId,
@@ -192,10 +201,13 @@ fn opt_copy(
     ensures copy { IfOk result (λ found. IfSome found (λ id. (inner : List (Option TypeId)) → IsFormCopy (opt_form part.at) tops.now inner pool.old.types pool.new.types id)) }
     ensures keeps { GrowsTypes pool.old.types pool.new.types }
 {
-    match copy_at(tops, part.at()) {
-        Some(id) => Ok(Some(node(pool, TypeForm::Opt(id))?)),
-        None => Ok(None),
+    let Some(id) = copy_at(tops, part.at()) else {
+        return Ok(None);
+    };
+    if takes_more(pool, id) {
+        return Ok(Some(any_type(alloc, pool)?));
     }
+    Ok(Some(node(pool, TypeForm::Opt(id))?))
 }
 
 /// The copy of a form, if its parts have copies: those in `tops` stand outside of labels, and those
@@ -221,8 +233,8 @@ pub(crate) fn form_copy(
         TypeForm::Elem(class, content) => elem_copy(pool, inner, class, *content),
         TypeForm::Seq(parts) => seq_copy(alloc, pool, tops, parts),
         TypeForm::Alt(parts) => alt_copy(alloc, pool, tops, parts),
-        TypeForm::Star(part) => star_copy(pool, tops, *part),
+        TypeForm::Star(part) => star_copy(alloc, pool, tops, *part),
         TypeForm::Plus(part) => plus_copy(pool, tops, *part),
-        TypeForm::Opt(part) => opt_copy(pool, tops, *part),
+        TypeForm::Opt(part) => opt_copy(alloc, pool, tops, *part),
     }
 }

@@ -1,6 +1,7 @@
 //! Definitions of types written shorter, with names for parts that come again.
 #![tactic(auto)]
 
+mod any;
 mod copies;
 mod flags;
 mod forms;

@@ -20,6 +20,8 @@ pub(crate) struct Nodes {
     pub(crate) bodies: Vec<usize>,
     /// For each definition the long choices that it has outside of labels.
     pub(crate) long: Vec<Vec<usize>>,
+    /// For each definition whether it has the node of another one outside of labels.
+    pub(crate) parted: Vec<bool>,
     /// The long choices, and the definitions that have them.
     pub(crate) choices: Vec<Held>,
 }
@@ -89,7 +91,7 @@ fn place_of(names: &[Label], word: &Label, from: usize) -> usize {
     names.len()
 }
 
-/// How long the labels of a class are with the brackets behind them.
+/// How long the labels of a class are with the brackets after them.
 fn length_of_class(class: &Class) -> u64 {
     let mut sum = 4u64;
     for label in class.names() {
@@ -145,11 +147,12 @@ pub(crate) fn nodes_of(alloc: Global, given: &Definitions) -> Result<Nodes, NoMe
         own,
         bodies,
         long: Vec::new(alloc),
+        parted: Vec::new(alloc),
         choices: Vec::new(alloc),
     })
 }
 
-/// Puts the parts of a form that stand outside of labels behind others.
+/// Puts the parts of a form that stand outside of labels after others.
 fn push_tops(form: &TypeForm, waiting: &mut Vec<usize>) -> Result<(), NoMemory> {
     match form {
         TypeForm::Star(part) | TypeForm::Plus(part) | TypeForm::Opt(part) => {
@@ -201,6 +204,58 @@ fn long_in(
         }
     }
     Ok(found)
+}
+
+/// Whether a node has one of those that are marked as a part outside of labels. `seen` and `search`
+/// are as those of `long_in`.
+fn has_marked(
+    alloc: Global,
+    given: &Definitions,
+    marks: &[bool],
+    body: usize,
+    seen: &mut [usize],
+    search: usize,
+) -> Result<bool, NoMemory> {
+    let mut waiting = Vec::new(alloc);
+    waiting.push(body)?;
+    for _turn in 0..u64::MAX {
+        let Some(number) = waiting.pop() else {
+            break;
+        };
+        if number < seen.len() && seen[number] != search && number < given.pool.types.len() {
+            seen[number] = search;
+            if number != body && is_set(marks, number) {
+                return Ok(true);
+            }
+            push_tops(
+                given.pool.types.node(TypeId::of(number)).form(),
+                &mut waiting,
+            )?;
+        }
+    }
+    Ok(false)
+}
+
+/// Notes which definitions have the node of another one outside of labels. The first definition
+/// counts as none of these, since it has to keep its name.
+pub(crate) fn parted_bodies(
+    alloc: Global,
+    given: &Definitions,
+    nodes: &mut Nodes,
+) -> Result<(), NoMemory> {
+    let count = given.pool.types.len();
+    let mut seen = vec![in alloc; 0; count]?;
+    let mut marks = vec![in alloc; false; count]?;
+    for body in &given.bodies {
+        set_new(&mut marks, body.at());
+    }
+    nodes.parted.push(false)?;
+    for place in 1..given.bodies.len() {
+        let body = given.bodies[place].at();
+        let has = has_marked(alloc, given, &marks, body, &mut seen, place)?;
+        nodes.parted.push(has)?;
+    }
+    Ok(())
 }
 
 /// No definitions for any node.

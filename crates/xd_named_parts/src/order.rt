@@ -24,7 +24,7 @@ struct Met {
     named: Vec<usize>,
 }
 
-/// Puts the parts of a form behind others, the first one last.
+/// Puts the parts of a form after others, the first one last.
 fn push_parts(form: &TypeForm, is_inner: bool, waiting: &mut Vec<Waiting>) -> Result<(), NoMemory> {
     match form {
         TypeForm::Elem(_, part) => waiting.push(Waiting {

@@ -74,7 +74,8 @@ fn named_by(
     }
 }
 
-/// The same definitions with names for parts that come again, if the text gets shorter by them.
+/// The same definitions with `Any` for what every document fits, and with names for parts that come
+/// again where the text gets shorter by them, if contents don't stand too deep in one another.
 pub(crate) fn with_named_parts(
     alloc: Global,
     given: &Definitions,
@@ -103,8 +104,9 @@ fn program_of(alloc: Global, given: Definitions) -> Result<Shown, NoMemory>
     Shown::new(alloc, pool.into_types(), &names, &bodies)
 }
 
-/// A program that shows what the first of the names means, as these definitions do, and written
-/// shorter where names for parts that come again make it so.
+/// A program that shows what the first of the names means, as these definitions do. It has `Any`
+/// for what every document plainly fits, and is written shorter where names for parts that come
+/// again make it so.
 ///
 /// Under labels a long choice then has a name of its own, and contents that are short by that are
 /// written in place. Names are those that are not taken, in the order in which a reader meets them.

@@ -8,7 +8,7 @@ ghost use Rattle.xd_named_parts.specs.Plans.{IsPlan};
 
 use crate::flags::{is_set, set_new};
 use crate::lengths::{Lengths, evaluate, no_lengths};
-use crate::nodes::{Nodes, long_choices, nodes_of};
+use crate::nodes::{Nodes, long_choices, nodes_of, parted_bodies};
 use crate::order::in_order_of_use;
 use crate::parts::Definitions;
 use std::alloc::Global;
@@ -32,6 +32,9 @@ pub(crate) struct Plan {
 
 /// How many nodes are looked at for all lengths together.
 const PATIENCE: u64 = 40_000_000;
+
+/// Of so many definitions at most it is tried to write one in place that has another one's node.
+const FEW: usize = 64;
 
 /// What has a name so far, by the numbers of nodes, and how long the text is then.
 #[derive(Drop)]
@@ -163,7 +166,7 @@ fn shorten(given: &Definitions, nodes: &Nodes, choice: &mut Choice) -> Result<()
         }
     }
     for content in 1..nodes.bodies.len() {
-        if choice.left > 0 && has_long(nodes, content) {
+        if choice.left > 0 && (has_long(nodes, content) || is_set(&nodes.parted, content)) {
             try_content(given, nodes, choice, content)?;
         }
     }
@@ -206,12 +209,12 @@ fn named_types(
     Ok(made)
 }
 
-/// Names that make the text shorter, if there are some.
+/// A plan of names, if contents don't stand too deep in one another.
 ///
 /// At first what the given names stand for has a name. Then steps are tried, and each that makes
 /// the text shorter is kept: all contents that have one long choice outside of labels are written
-/// in place, if they are several, and their long choices get names; one content with long choices
-/// is; a long choice loses its name.
+/// in place, if they are several, and their long choices get names; one content is that has long
+/// choices, or has the type of another one among its parts; a long choice loses its name.
 /// What is looked at is bounded, and so is how deep contents stand in one another.
 pub(crate) fn plan_of(alloc: Global, given: &Definitions) -> Result<Option<Plan>, NoMemory>
     requires some { 0 < length given.now.bodies.items }
@@ -224,11 +227,10 @@ pub(crate) fn plan_of(alloc: Global, given: &Definitions) -> Result<Option<Plan>
         return Ok(None);
     };
     long_choices(alloc, given, &choice.lengths.plain, &mut nodes)?;
-    let before = choice.length;
-    shorten(given, &nodes, &mut choice)?;
-    if choice.length >= before {
-        return Ok(None);
+    if given.bodies.len() <= FEW {
+        parted_bodies(alloc, given, &mut nodes)?;
     }
+    shorten(given, &nodes, &mut choice)?;
     let _length = evaluate(given, &nodes, &choice.named, &mut choice.lengths)?;
     let numbers = in_order_of_use(alloc, given, &nodes, &choice.named, first.at())?;
     let named = named_types(alloc, given, first, &numbers)?;

@@ -36,7 +36,7 @@ fn common_end(ones: &[TypeId], twos: &[TypeId]) -> usize {
     ones.len()
 }
 
-/// A type as two, one behind the other: the second has the last parts, as many as are asked for.
+/// A type as two, one after the other: the second has the last parts, as many as are asked for.
 fn split_end(
     alloc: Global,
     pool: &mut Pool,

@@ -17,7 +17,7 @@ use xd_syntax::{TypeForm, TypeId, Types};
 
 /// A table of types in which each form is made once, so that equal types have one number.
 ///
-/// Types of the table stay where they are while it grows. After want of memory it may have types
+/// Types of the table stay where they are while it grows. After `NoMemory` it may have types
 /// that nothing uses.
 #[derive(Drop)]
 pub struct Pool {

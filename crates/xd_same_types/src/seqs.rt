@@ -1,4 +1,4 @@
-//! Types one behind the other.
+//! Types one after the other.
 
 ghost use Rattle.std.specs.Prelude.{◌≡◌, ◌<◌, ◌≤◌, ◌-◌, ◌++◌, ◌∷◌, [], IfOk, OnOk, true, length, take};
 ghost use Rattle.std.specs.Option.{IfSome};
@@ -97,7 +97,7 @@ fn is_opt(pool: &Pool, id: TypeId, of: TypeId) -> bool
     }
 }
 
-/// The type of two that stand one behind the other which stands for both: `x*,x*` is `x*`.
+/// The type of two that stand one after the other which stands for both: `x*,x*` is `x*`.
 fn absorbed(pool: &Pool, one: TypeId, two: TypeId) -> Option<TypeId>
     requires one { IsSeqPart pool.now.types one.at }
     requires two { IsSeqPart pool.now.types two.at }
@@ -142,7 +142,7 @@ fn once_and_again(pool: &Pool, one: TypeId, two: TypeId) -> Option<TypeId>
     None
 }
 
-/// One type for two that stand one behind the other, where there is one: `x,x*` is `x+`, and
+/// One type for two that stand one after the other, where there is one: `x,x*` is `x+`, and
 /// `x*,x*` is `x*`.
 fn fused(pool: &mut Pool, one: TypeId, two: TypeId) -> Result<Option<TypeId>, NoMemory>
     requires one { IsSeqPart pool.old.types one.at }
@@ -198,7 +198,7 @@ fn gather(
     Ok(plus)
 }
 
-/// Puts a part behind the others, or one for it and the last of them.
+/// Puts a part after the others, or one for it and the last of them.
 fn push_fused(pool: &mut Pool, parts: &mut Vec<TypeId>, next: TypeId) -> Result<(), NoMemory>
     requires parts { AreSeqParts pool.old.types parts.old.items }
     requires next { IsSeqPart pool.old.types next.at }
@@ -274,7 +274,7 @@ fn gather_back(pool: &mut Pool, parts: &mut Vec<TypeId>) -> Result<(), NoMemory>
     Ok(())
 }
 
-/// Puts one more part behind the others.
+/// Puts one more part after the others.
 fn push_part(
     alloc: Global,
     pool: &mut Pool,

@@ -1,4 +1,4 @@
--- Plans of names. Of this only private contracts speak.
+-- Plans of names.
 use Rattle.std.specs.Prelude.{◌≡◌, ◌<◌, ℕ, List, length, get_or}
 use Rattle.std.specs.List.{AllByRecursion}
 use Rattle.xd_auto.specs.declared.auto.State.{State}

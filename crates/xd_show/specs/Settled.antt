@@ -1,4 +1,4 @@
--- States with names, and what is written for contents. Of this only private contracts speak.
+-- States with names, and what is written for contents.
 use Rattle.std.specs.Prelude.{◌≡◌, ◌<◌, ℕ, List, length, get_or}
 use Rattle.std.specs.List.{AllByRecursion}
 use Rattle.xd_auto.specs.declared.auto.State.{State}

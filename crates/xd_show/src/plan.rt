@@ -78,7 +78,7 @@ fn choose(alloc: Global, uses: &Uses, order: &Order, start: usize) -> Result<Vec
     Ok(choice.placed)
 }
 
-/// Puts the contents that a definition uses behind those that have names, in the order in which a
+/// Puts the contents that a definition uses after those that have names, in the order in which a
 /// reader meets them.
 fn add_used(
     alloc: Global,
@@ -129,7 +129,7 @@ fn in_order_of_use(
     Ok(named)
 }
 
-/// A state, and those of these numbers behind it.
+/// A state, and those of these numbers after it.
 fn states_behind(
     alloc: Global,
     auto: &Auto,

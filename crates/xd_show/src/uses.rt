@@ -19,7 +19,7 @@ pub(crate) struct Uses {
     pub(crate) weights: Vec<usize>,
 }
 
-/// A walk over the states that a content leads to behind items.
+/// A walk over the states that a content leads to after items.
 #[derive(Drop)]
 struct LevelWalk {
     /// For each state the last walk that met it.
@@ -102,7 +102,7 @@ fn meet_texts(walk: &mut LevelWalk, walker: usize, moves: &[TextMove]) -> Result
     Ok(())
 }
 
-/// Walks over the states that a content leads to behind items. Each walk has a number of its own,
+/// Walks over the states that a content leads to after items. Each walk has a number of its own,
 /// above 0.
 fn walk_level(
     auto: &Auto,

@@ -40,7 +40,7 @@ pub(crate) struct Next {
     pub(crate) found: Option<usize>,
 }
 
-/// Goes on behind a content that was looked at.
+/// Goes on after a content that was looked at.
 pub(crate) fn go_on(way: &mut Vec<Step>, step: Step) -> Result<(), NoMemory> {
     way.push(Step {
         content: step.content,

@@ -72,7 +72,7 @@ module _ (a : Automaton) (taken : List (List ℕ)) where
     blocks_told (v ∷ vs) (x ∷ xs) [] e z w = absurd w
     blocks_told (v ∷ vs) (x ∷ xs) (b ∷ bs) e z w = (block_told v x b e z.0 w.0, blocks_told vs xs bs e z.1 w.1)
 
--- the text of some blocks is that of all of them, one behind the other
+-- the text of some blocks is that of all of them, one after the other
 some_blocks : (a : Automaton) (taken : List (List ℕ)) (xs : List BoundVariable) (bs : List Block) → AllZip (IsBlockAt a taken) xs bs → (xs ≡ [] → ⊥) → blocks_text bs ≡ flat_map block_text bs
 some_blocks a taken [] [] z some = absurd (some refl)
 some_blocks a taken (x ∷ xs) [] z some = absurd z

@@ -1,5 +1,4 @@
--- Blocks of variables by the states that accept what they may be. Of these only private contracts
--- speak.
+-- Blocks of variables by the states that accept what they may be.
 use Rattle.std.specs.Prelude.{◌≡◌, ℕ, true, List, ◌++◌, flat_map}
 use Rattle.std.specs.List.{AllZip}
 use Rattle.xd_auto.specs.Automaton.{Automaton, accepts}

@@ -74,7 +74,7 @@ fn blocks_of(alloc: Global, bound: &Bound, taken: &[Label]) -> Result<Vec<u8>, N
 /// What each variable of the clauses of the program's matches may be, by all whole ways of patterns
 /// or by first matches.
 ///
-/// A block for each, in order of place: a line `LINE:COLUMN: variable WORD as START`, and behind it
+/// A block for each, in order of place: a line `LINE:COLUMN: variable WORD as START`, and after it
 /// a line for each definition of the types that show what the variable may be, by names that no
 /// type of the program has. Without a variable the text is the line `no variables`. Fails only
 /// where memory is refused.

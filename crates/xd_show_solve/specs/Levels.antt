@@ -1,4 +1,4 @@
--- The states that a state leads to behind items, as equations.
+-- The states that a state leads to after items, as equations.
 use Rattle.std.specs.Prelude.{◌≡◌, ◌↔◌, ◌<◌, ◌≤◌, ◌+◌, ℕ, Bool, true, false, List, [], ◌∷◌, length, get_or, Option, Some, None}
 use Rattle.std.specs.List.{AllByRecursion, list_any}
 use Rattle.std.specs.Option.{IfSome}
@@ -106,11 +106,11 @@ pub record GrowsStates (old new : List State) : Type 0 where
   pub count : length old ≤ length new
   pub stay : (i : ℕ) (s : State) → i < length old → get_or new i s ≡ get_or old i s
 
--- all that the state leads to behind items has a place
+-- all that the state leads to after items has a place
 abbrev pub IsClosedAt : Automaton → List (Option ℕ) → State → Type 0
 IsClosedAt a places s = ArePlaced places (moves_at a s).labels × TextsArePlaced places (moves_at a s).texts
 
--- all that these states lead to behind items has a place
+-- all that these states lead to after items has a place
 pub record IsWholeLevel (a : Automaton) (states : List State) (places : List (Option ℕ)) : Type 0 where
   pub level : IsLevel a states places
   pub closed : (i : ℕ) (s : State) → i < length states → s ≡ get_or states i s → IsClosedAt a places s

@@ -1,4 +1,4 @@
-//! The states that a state leads to behind items, each with a place.
+//! The states that a state leads to after items, each with a place.
 
 ghost use Rattle.std.specs.Prelude.{◌≡◌, ◌<◌, ◌≤◌, ◌++◌, ◌∷◌, [], None, IfOk, OnOk, length, get_or};
 ghost use Rattle.std.specs.List.{All};
@@ -10,7 +10,7 @@ use std::alloc::Global;
 use xd_auto::{Auto, LabelMove, State, TextMove};
 use xd_doc::NoMemory;
 
-/// The states that a state leads to behind items, itself the first, each once; and by the number of
+/// The states that a state leads to after items, itself the first, each once; and by the number of
 /// each state of the automaton its place among them, if it has one.
 #[derive(Drop)]
 pub struct Level {
@@ -37,7 +37,7 @@ fn see(auto: &Auto, level: &mut Level, state: State) -> Result<(), NoMemory>
     Ok(())
 }
 
-/// Gives the states behind these moves places.
+/// Gives the states after these moves places.
 fn see_labels(auto: &Auto, level: &mut Level, moves: &[LabelMove]) -> Result<(), NoMemory>
     requires moves { All (λ m. IsState auto.now m.rest) moves.now }
     requires level { IsLevel auto.now level.old.states.items level.old.places.items }
@@ -67,7 +67,7 @@ fn see_texts(auto: &Auto, level: &mut Level, moves: &[TextMove]) -> Result<(), N
     Ok(())
 }
 
-/// Gives all states behind the moves of a state places.
+/// Gives all states after the moves of a state places.
 fn see_rests(auto: &Auto, level: &mut Level, state: State) -> Result<(), NoMemory>
     requires state { IsState auto.now state }
     requires level { IsLevel auto.now level.old.states.items level.old.places.items }
@@ -92,7 +92,7 @@ fn no_places(alloc: Global, auto: &Auto) -> Result<Vec<Option<usize>>, NoMemory>
     Ok(made)
 }
 
-/// Gives all states behind the moves of the state at a place places, if there is one.
+/// Gives all states after the moves of the state at a place places, if there is one.
 fn see_number(auto: &Auto, level: &mut Level, number: usize) -> Result<(), NoMemory>
     requires { IsLevel auto.now level.old.states.items level.old.places.items }
     ensures level { OnOk result (IsLevel auto.now level.new.states.items level.new.places.items) }
@@ -108,7 +108,7 @@ fn see_number(auto: &Auto, level: &mut Level, number: usize) -> Result<(), NoMem
     see_rests(auto, level, state)
 }
 
-/// The level of a state: the state, and all that it leads to behind items, in the order in which
+/// The level of a state: the state, and all that it leads to after items, in the order in which
 /// they are met.
 ///
 /// The time is linear in the moves of the level and in the states of the automaton. Fails only

@@ -125,7 +125,7 @@ fn covered(sums: &[Sum], number: usize) -> Option<usize>
     best
 }
 
-/// Puts a term behind the others.
+/// Puts a term after the others.
 fn push_term(made: &mut Sum, term: Term) -> Result<(), NoMemory>
     ensures adds { OnOk result ((types : List Row) → SumStands types made.old → BelongsTo types term.by → AddsProduct (side_in types made.old) (product_in types term) (side_in types made.new)) }
     ensures stands { OnOk result ((types : List Row) → SumStands types made.old → BelongsTo types term.by → SumStands types made.new) }
@@ -134,7 +134,7 @@ fn push_term(made: &mut Sum, term: Term) -> Result<(), NoMemory>
     Ok(())
 }
 
-/// Puts a term behind the others, unless another sum has it.
+/// Puts a term after the others, unless another sum has it.
 fn push_unless(made: &mut Sum, term: Term, other: &Sum) -> Result<(), NoMemory>
     ensures adds { OnOk result ((types : List Row) → SumStands types made.old → BelongsTo types term.by → AddsUnless (side_in types other.now) (side_in types made.old) (product_in types term) (side_in types made.new)) }
     ensures stands { OnOk result ((types : List Row) → SumStands types made.old → BelongsTo types term.by → SumStands types made.new) }

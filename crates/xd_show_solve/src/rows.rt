@@ -119,7 +119,7 @@ fn text_terms(
     Ok(terms)
 }
 
-/// Puts terms behind others.
+/// Puts terms after others.
 fn add_terms(terms: &mut Vec<Term>, more: &[Term]) -> Result<(), NoMemory>
     ensures { OnOk result (terms.new.items ≡ terms.old.items ++ more.now) }
 {

@@ -1,4 +1,4 @@
-use Rattle.std.proofs.Common.{◌≡◌, ◌≤◌, ◌<◌, length, arith, refl, sym, ap, subst}
+use Rattle.std.proofs.Common.{arith, refl, sym, subst}
 use Rattle.std.specs.List.{AllByRecursion}
 use Rattle.xd_syntax.specs.Types.{BelongsTo}
 use Rattle.xd_same_types.specs.Same.{AreSeqParts}

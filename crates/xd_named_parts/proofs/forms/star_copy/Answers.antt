@@ -1,10 +1,18 @@
 use Rattle.std.proofs.Common.{◌≡◌, Some}
 use Rattle.xd_named_parts.specs.Copies.{copy_in}
-use Rattle.xd_named_parts.proofs.CopyLaws.{star_is}
+use Rattle.xd_named_parts.proofs.AnyLaws.{star_all}
+use Rattle.xd_named_parts.proofs.CopyLaws.{star_any, star_is}
 use Rattle.xd_named_parts.proofs.forms.star_copy.Goals as goal
 
-pub returns-in_ok-node-in-Some-clause-copy : goal.returns-in_ok-node-in-Some-clause-copy
-returns-in_ok-node-in-Some-clause-copy c = λ inner.
+pub returns-then-takes_items-clause-copy : goal.returns-then-takes_items-clause-copy
+returns-then-takes_items-clause-copy c = λ inner.
     let id = c.in-Some.id in
     let e : copy_in c.args.tops.now c.args.part.at ≡ Some id = cc in
-    star_is c.args.tops.now inner c.args.pool.now.types c.node.new.pool.types c.in_ok-node-in-Some.field-0 c.in_ok-node-in-Some.ensures.belongs c.args.part.at id e c.in_ok-node-in-Some.ensures.tree
+    star_any c.args.tops.now inner c.args.pool.now.types c.any_type.new.pool.types c.in_ok-any_type.field-0 c.in_ok-any_type.ensures.belongs c.args.part.at id e
+    (star_all _ (c.takes_items.ensures.texts c.if-takes_items.true) (c.takes_items.ensures.elements c.if-takes_items.true)) c.in_ok-any_type.ensures.tree
+
+pub returns-clause-copy : goal.returns-clause-copy
+returns-clause-copy c = λ inner.
+    let id = c.in-Some.id in
+    let e : copy_in c.args.tops.now c.args.part.at ≡ Some id = cc in
+    star_is c.args.tops.now inner c.args.pool.now.types c.node.new.pool.types c.in_ok-node.field-0 c.in_ok-node.ensures.belongs c.args.part.at id e c.in_ok-node.ensures.tree

@@ -1,0 +1,16 @@
+use Rattle.std.proofs.Common.{◌<◌, get_or, sym, subst}
+use Rattle.xd_syntax.specs.Types.{tree}
+use Rattle.xd_same_types.specs.Same.{trees}
+use Rattle.xd_same_types.proofs.Ids.{got}
+use Rattle.xd_same_types.proofs.Tables.{tree_got, trees_count}
+use Rattle.xd_named_parts.proofs.AnyLaws.{alt_elements}
+use Rattle.xd_named_parts.proofs.any.some_takes_elements.Goals as goal
+
+pub returns-then-takes_elements : goal.returns-then-takes_elements
+returns-then-takes_elements c = λ _.
+    let rows = c.args.pool.now.types in
+    let parts = c.args.parts.now in
+    let k = c.loop-part.part-index in
+    let part = get_or parts k (record { at = 0 }) in
+    let l = subst (λ n. k < n) (sym (trees_count rows parts)) c.loop-part-test.true in
+    alt_elements (trees rows parts) k (tree rows part) l (tree_got rows parts k part c.loop-part-test.true (got parts k _ c.loop-part-test.true)) (c.takes_elements.ensures c.if-takes_elements.true)
