@@ -11,9 +11,5 @@ pub mod VerifyLemmas
 pub mod LeastDocuments
 pub mod Differences
 pub mod SameFaults
-pub mod OneRow
-pub mod OneAnswer
-pub mod ReadingBack
 pub mod Streams
 pub mod SmallFaults
-pub mod SayingYes

@@ -62,7 +62,7 @@ least_warning l m (k ∷ ks) ms u e = by (is_warning k.kind) e (λ f. least_warn
     by false f r = r f
 
 -- no fault before a warning that stands in front of it, and no warning before a fault that doesn't
--- stand behind it
+-- stand after it
 not_warning : (ds : List Document) (l : Line) (ls : List Line) (f : Fault) (w : Warning) (ws : List Warning) → IsLeast line_precedes l ls → IsFaultOf ds l f →
     AllPaired IsWarningOf (warnings_among ls) (w ∷ ws) → stands_behind f w ≡ true → ⊥
 not_warning ds l ls f w ws u h a b = by (warnings_among ls) refl a
@@ -122,7 +122,7 @@ next_line : {s t : List ℕ} (l : Line) (ls : List Line) → s ≡ line_text l �
 next_line {s = s} {t = t} l ls a b = ap (λ z. z ++ t) a ∙ ap (λ z. line_text l ++ z) b
 
 module _ (ds : List Document) where
-  -- the lines behind the first are written
+  -- the lines after the first are written
   abbrev Behind : List Line → Type 0
   Behind ls = (fs : List Fault) (ws : List Warning) (t : List ℕ) → AllPaired (IsFaultOf ds) (faults_among ls) fs → AllPaired IsWarningOf (warnings_among ls) ws → IsMerged ds fs ws t → t ≡ lines_text ls
 

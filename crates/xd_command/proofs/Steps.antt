@@ -29,7 +29,7 @@ ends-returned ends ends' finds finds' s r e f h =
     let p = err_from_is_err_and r e in
     subst (λ x. DoesStep x ends' finds') (sym (p.1 ∙ ap (λ t. Err t) p.2)) (ends-map ends ends' finds finds' s f h)
 
--- want of memory, as its `?` returns it, is no end of a step
+-- running out of memory, as its `?` returns it, is no end of a step
 pub no-memory : {A : Type 0} (ends : Output → Type 0) (finds : A → Type 0) (r : Result A Stop) → IsErrAnd r (λ t. t ≡ NoMemory) → DoesStep r ends finds
 no-memory ends finds r e =
     let p = err_from_is_err_and r e in

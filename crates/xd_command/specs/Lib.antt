@@ -20,6 +20,3 @@ pub mod Running
 pub mod Sample
 pub mod Answer
 pub mod Outcome
-pub mod OneAnswer
-pub mod ReadBack
-pub mod SayingYes

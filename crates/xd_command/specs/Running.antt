@@ -1,4 +1,4 @@
--- The test of a program's input. Of this only private contracts speak.
+-- The test of a program's input.
 use Rattle.std.specs.Prelude.{Option, Some, None}
 use Rattle.xd_auto.specs.Automaton.{Automaton}
 use Rattle.xd_auto.specs.declared.auto.State.{State}

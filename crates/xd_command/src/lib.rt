@@ -14,9 +14,7 @@ use std::alloc::Global;
 use xd_base::{Shelf, Sink};
 use xd_command_steps::{Output, Stop};
 
-pub mod agreement;
 mod command;
-pub mod laws;
 mod membership;
 
 pub use command::sample_document;

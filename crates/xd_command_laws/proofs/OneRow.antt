@@ -1,4 +1,4 @@
--- The rows of the answers, behind the program: outputs of the same program and the same texts are
+-- The rows of the answers, after the program: outputs of the same program and the same texts are
 -- alike.
 use Rattle.std.proofs.Common.{◌≡◌, ◌≤◌, ◌⊎◌, ◌-◌, ℕ, Bool, true, false, cond, inl, inr, List, [], ◌∷◌, ◌++◌, Option, Some, None, refl, sym, ap, subst, ◌∙◌, arith}
 use Rattle.std.specs.Prelude.{codes}
@@ -37,7 +37,7 @@ use Rattle.xd_command.specs.Run.{EndsAtLines, EndsAtValue, IsValue, AnswersInput
 use Rattle.xd_command.specs.Report.{line_text, lines_text, said}
 use Rattle.xd_command.specs.Minus.{AnswersDifference, AnswersMinus}
 use Rattle.xd_command.specs.Types.{AnswersTypes}
-use Rattle.xd_command.specs.OneAnswer.{ProveAlike, CarryAlike, FaultsAlike, ShowTheSame, ShowAlike, IsSameBlock, BlocksAlike}
+use Rattle.xd_command_laws.specs.OneAnswer.{ProveAlike, CarryAlike, FaultsAlike, ShowTheSame, ShowAlike, IsSameBlock, BlocksAlike}
 use Rattle.xd_variables.proofs.SeenOnce.{variables_once}
 use Rattle.xd_command.proofs.SameFaults.{Same, faults_same, not_accepted}
 
@@ -66,7 +66,7 @@ step_settled A ends settled finds next after o f g (inr a) = inr (a.0, a.1, g a.
 undefined_yet : (b : Bool) → b ≡ false → b ≡ true → ⊥
 undefined_yet b e f = let z : false ≡ true = sym e ∙ f in cc
 
--- behind the test of a name
+-- after the test of a name
 named_alike : (Differ : Output → Output → Type 0) (P : ProgramTree) (name : List ℕ) (row : Output → Type 0) → IsOneRow Differ row → IsOneRow Differ (λ o. EndsAtName P name o ⊎ ((is_defined P name ≡ true) × row o))
 named_alike Differ P name row one o p (inl a) (inl b) = inl (a.1 ∙ sym b.1)
 named_alike Differ P name row one o p (inl a) (inr b) = absurd (undefined_yet (is_defined P name) a.0 b.0)

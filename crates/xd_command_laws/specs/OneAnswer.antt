@@ -119,7 +119,7 @@ pub record IsPlainOutcome (command : Option Command) (texts : Texts) (before aft
   pub shelf_well : HasRisen shelf_before shelf_after → ⊥
   pub sink_well : HasRisen sink_before sink_after → ⊥
 
--- nothing is written, for want of memory
+-- nothing is written: memory ran out
 abbrev pub WritesNothing : (before after : List ℕ) → (code : ℕ) → Type 0
 WritesNothing before after code = (code ≡ 5) × (after ≡ before)
 

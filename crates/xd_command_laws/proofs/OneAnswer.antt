@@ -21,10 +21,10 @@ use Rattle.xd_command.specs.Check.{AnswersCheck}
 use Rattle.xd_command.specs.Types.{AnswersTypes}
 use Rattle.xd_command.specs.Run.{AnswersRun}
 use Rattle.xd_command.specs.Answer.{Answers, IsAnswer}
-use Rattle.xd_command.specs.OneAnswer.{ProveAlike, CarryAlike, FaultsAlike, ShowAlike, BlocksAlike, MayDiffer, AreOneAnswer, AnswersAreOne, CountsHideAnswers, IsPlainOutcome, WritesNothing, WritesWhole, OutcomesAreOne}
-use Rattle.xd_command.proofs.OneRow.{IsOneRow, Never, step_alike, step_settled, fits_alike, fits_settled, stream_alike, stream_settled, subtype_alike, minus_alike, least_alike, verify_alike, verify_settled, upgrade_alike, upgrade_settled, check_alike, types_alike, run_alike, run_settled}
+use Rattle.xd_command_laws.specs.OneAnswer.{ProveAlike, CarryAlike, FaultsAlike, ShowAlike, BlocksAlike, MayDiffer, AreOneAnswer, AnswersAreOne, CountsHideAnswers, IsPlainOutcome, WritesNothing, WritesWhole, OutcomesAreOne}
+use Rattle.xd_command_laws.proofs.OneRow.{IsOneRow, Never, step_alike, step_settled, fits_alike, fits_settled, stream_alike, stream_settled, subtype_alike, minus_alike, least_alike, verify_alike, verify_settled, upgrade_alike, upgrade_settled, check_alike, types_alike, run_alike, run_settled}
 
--- ---- a row behind the step that reads the program
+-- ---- a row after the step that reads the program
 module _ (texts : Texts) (file : List ℕ) (row : ProgramTree → Output → Type 0) where
   behind_program : (Differ : Output → Output → Type 0) → ((P : ProgramTree) → IsOneRow Differ (row P)) → IsOneRow Differ (Step (EndsAtProgram (Some texts) ⊥ file) (IsProgram (Some texts) file) row)
   behind_program Differ one = step_alike Differ ProgramTree (EndsAtProgram (Some texts) ⊥ file) (IsProgram (Some texts) file) row (steps_are_one.programs texts file) one

@@ -19,7 +19,7 @@ use Rattle.xd_command_steps.specs.Laws.{IsOneStep, Texts}
 use Rattle.xd_command_steps.proofs.OneStep.{steps_are_one}
 use Rattle.xd_command.specs.Fits.{AnswersFits, AnswersMembership, EndsAtName, FitsType}
 use Rattle.xd_command.specs.Stream.{AnswersBytes, AnswersStream, TellsStop}
-use Rattle.xd_command.specs.SayingYes.{SayYesAlike}
+use Rattle.xd_command_laws.specs.SayingYes.{SayYesAlike}
 
 abbrev Alike : Output → Output → Type 0
 Alike o p = (o ≡ yes) ↔ (p ≡ yes)
@@ -48,7 +48,7 @@ never : (P : ProgramTree) (name bytes : List ℕ) (o : Output) (p : Place) → S
 never P name bytes o p d (inl s) = never_malformed (FitsType (names_of P) (type_named name)) bytes p d s.0
 never P name bytes o p d (inr s) = never_outside (FitsType (names_of P) (type_named name)) bytes p d s.0
 
--- ---- behind the text
+-- ---- after the text
 malformed : (P : ProgramTree) (name bytes : List ℕ) (o p : Output) → TellsStop (FitsType (names_of P) (type_named name)) bytes o → EndsAtMalformed bytes p → Alike o p
 malformed P name bytes o p (inl s) m = absurd (m.1 s.0.document s.0.spells)
 malformed P name bytes o p (inr s) m = neither o p (stops_otherwise P name bytes o s.0 s.1) (other p (malformed_document m.0) m.3 (λ e. absurd (omega (arith, e))))

@@ -1,7 +1,9 @@
-//! Laws of the answers, as the contracts of functions that do nothing.
+//! Laws of the commands' answers, as the contracts of functions that do nothing.
+#![tactic(auto)]
 
-ghost use Rattle.xd_command.specs.OneAnswer.{AnswersAreOne, CountsHideAnswers, OutcomesAreOne};
-ghost use Rattle.xd_command.specs.ReadBack.{BlocksReadBack, DifferencesReadBack};
+ghost use Rattle.xd_command_laws.specs.OneAnswer.{AnswersAreOne, CountsHideAnswers, OutcomesAreOne};
+ghost use Rattle.xd_command_laws.specs.ReadBack.{BlocksReadBack, DifferencesReadBack};
+ghost use Rattle.xd_command_laws.specs.SayingYes.{SayYesAlike};
 
 /// Where the shelf tells what it holds, the same words have one answer, but for what the
 /// definitions leave open: which proof text is written, which document of its size a separation, a
@@ -19,4 +21,9 @@ pub fn answers_are_one()
 pub fn shown_types_read_back()
     ensures differences { DifferencesReadBack }
     ensures blocks { BlocksReadBack }
+{}
+
+/// Of the same texts `stream` says yes exactly where `fits` does, whatever the pieces.
+pub fn stream_agrees_with_fits()
+    ensures { SayYesAlike }
 {}

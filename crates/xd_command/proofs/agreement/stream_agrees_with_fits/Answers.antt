@@ -1,5 +1,0 @@
-use Rattle.xd_command.proofs.SayingYes.{say_yes_alike}
-use Rattle.xd_command.proofs.agreement.stream_agrees_with_fits.Goals as goal
-
-pub returns : goal.returns
-returns c = say_yes_alike

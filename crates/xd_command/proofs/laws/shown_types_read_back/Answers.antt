@@ -1,5 +1,0 @@
-use Rattle.xd_command.proofs.ReadingBack.{blocks_read_back, differences_read_back}
-use Rattle.xd_command.proofs.laws.shown_types_read_back.Goals as goal
-
-pub returns : goal.returns
-returns c = record { differences = differences_read_back; blocks = blocks_read_back }

@@ -1,0 +1,4 @@
+mod OneRow
+mod OneAnswer
+mod ReadingBack
+mod SayingYes
