@@ -13,6 +13,7 @@ pub struct CheckedDesk {
 }
 
 impl CheckedDesk {
+    /// With no program yet.
     pub fn new(alloc: Global) -> CheckedDesk {
         CheckedDesk {
             case: Case::new(alloc),

@@ -19,7 +19,7 @@ use Rattle.xd_syntax.proofs.Members.{append_right}
 use Rattle.xd_syntax.proofs.PlacedTrees.{unplaced_at}
 use Rattle.xd_pattern_runs.specs.Linear.{IsLinear}
 use Rattle.xd_pattern_runs.specs.Clauses.{patterns_in, patterns_in_clauses}
-use Rattle.xd_clauses.specs.Cases.{IsLinearPattern}
+use Rattle.xd_patterns.specs.CompiledProgram.{IsLinearPattern}
 use Rattle.xd_match.specs.Matches.{AreBindings}
 use Rattle.xd_meaning.specs.Meaning.{Environment}
 

@@ -1,7 +1,7 @@
 -- What calls about clauses ask.
 use Rattle.std.specs.List.{All}
 use Rattle.xd_auto.specs.Automaton.{IsState}
-use Rattle.xd_clauses.specs.Cases.{IsLinearPattern}
+use Rattle.xd_patterns.specs.CompiledProgram.{IsLinearPattern}
 use Rattle.xd_calls_clauses.specs.declared.clauses.Question.{Question}
 
 -- the state is one of the automaton's, and the patterns are linear ones of the program

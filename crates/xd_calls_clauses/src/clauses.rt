@@ -7,7 +7,7 @@ ghost use Rattle.xd_doc.specs.StoredSeq.{BelongsTo};
 ghost use Rattle.xd_auto.specs.Automaton.{IsState};
 ghost use Rattle.xd_syntax.specs.declared.exprs.Clause.{Clause};
 ghost use Rattle.xd_syntax.specs.Table.{Row};
-ghost use Rattle.xd_clauses.specs.Cases.{IsLinearPattern};
+ghost use Rattle.xd_patterns.specs.CompiledProgram.{IsLinearPattern};
 ghost use Rattle.xd_calls_clauses.specs.Posed.{IsPosed};
 
 use std::alloc::Global;

@@ -13,6 +13,7 @@ pub struct ClauseDesk {
 }
 
 impl ClauseDesk {
+    /// With no program yet.
     pub fn new(alloc: Global) -> ClauseDesk {
         ClauseDesk {
             case: Case::new(alloc),

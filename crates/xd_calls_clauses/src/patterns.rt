@@ -3,7 +3,7 @@
 
 ghost use Rattle.std.specs.Prelude.{IfOk, OnOk};
 ghost use Rattle.xd_auto.specs.Automaton.{IsState};
-ghost use Rattle.xd_clauses.specs.Cases.{IsLinearPattern};
+ghost use Rattle.xd_patterns.specs.CompiledProgram.{IsLinearPattern};
 ghost use Rattle.xd_match.specs.Serving.{Serves};
 ghost use Rattle.xd_syntax.specs.Types.{BelongsTo};
 

@@ -5,7 +5,7 @@ ghost use Rattle.std.specs.Prelude.{◌<◌, [], IfOk, OnOk, length};
 ghost use Rattle.std.specs.List.{All};
 ghost use Rattle.xd_auto.specs.Automaton.{Automaton, IsState};
 ghost use Rattle.xd_bind.specs.Projection.{CanProject};
-ghost use Rattle.xd_clauses.specs.Cases.{IsLinearPattern};
+ghost use Rattle.xd_patterns.specs.CompiledProgram.{IsLinearPattern};
 ghost use Rattle.xd_patterns.specs.Held.{variables_in};
 ghost use Rattle.xd_calls_clauses.specs.Tracked.{IsOfMove, IsOfMoves, IsOfStates, KeepTogether, MoreTracks};
 

@@ -20,6 +20,7 @@ pub struct DocumentDesk {
 }
 
 impl DocumentDesk {
+    /// With no document and no state.
     pub fn new(alloc: Global) -> DocumentDesk {
         DocumentDesk {
             store: Store::new(alloc),

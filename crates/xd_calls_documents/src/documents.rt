@@ -69,7 +69,7 @@ fn give(
     show(call.alloc, &desk.store, seq, out)
 }
 
-/// The document, behind the number of the store's nodes.
+/// The document, after the number of the store's nodes.
 fn show(alloc: Global, store: &Store, seq: Seq, out: &mut Vec<u8>) -> Result<(), CallError>
     requires { BelongsTo store.now seq }
 {

@@ -23,6 +23,7 @@ pub struct Names {
 }
 
 impl Names {
+    /// With no name.
     pub fn new(alloc: Global) -> Names {
         Names {
             alloc,

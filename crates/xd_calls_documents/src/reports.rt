@@ -13,7 +13,7 @@ use xd_report::{fault_line, warning_line};
 use xd_syntax::{Fault, FaultKind, Warning};
 
 /// `warning LINE COLUMN`, and lines of faults: `fault LINE COLUMN KIND`, with the document, the
-/// name or the numbers that the kind carries behind it; LINE 0 for none.
+/// name or the numbers that the kind carries after it; LINE 0 for none.
 pub fn report(desk: &DocumentDesk, call: &Call<'_>, out: &mut Vec<u8>) -> Result<(), CallError> {
     match call.name {
         "warning" => {

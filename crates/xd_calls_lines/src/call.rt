@@ -4,7 +4,7 @@ use crate::error::CallError;
 use std::alloc::Global;
 use std::str::FromStr;
 
-/// A call: its name, what stands behind that, and its text.
+/// A call: its name, what stands after that, and its text.
 #[derive(Clone, Copy)]
 pub struct Call<'a> {
     pub alloc: Global,
@@ -25,7 +25,7 @@ impl<'a> Call<'a> {
         }
     }
 
-    /// The call that stands behind a subject, as `SUBJECT NAME WORDS`.
+    /// The call that stands after a subject, as `SUBJECT NAME WORDS`.
     pub fn of_subject(&self) -> Call<'a> {
         Call::new(self.alloc, self.behind, self.text)
     }
@@ -40,7 +40,7 @@ impl<'a> Call<'a> {
         }
     }
 
-    /// The word of this number, from 0, behind the name.
+    /// The word of this number, from 0, after the name.
     pub fn word(&self, number: usize) -> Result<&'a str, CallError> {
         let word = self.behind.split_whitespace().nth(number);
         word.ok_or(CallError::Missing)

@@ -1,4 +1,4 @@
-//! Calls that stand one a line, and the run that writes them again with what came behind each.
+//! Calls that stand one a line, and the run that writes them again with what came after each.
 #![tactic(auto)]
 
 mod call;

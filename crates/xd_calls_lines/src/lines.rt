@@ -19,7 +19,7 @@ pub trait NamedDesk: Desk + Sized {
     fn named(alloc: Global, name: &str) -> Result<Self, CallError>;
 }
 
-/// Appends what came, a line behind each `>`.
+/// Appends what came, a line after each `>`.
 fn show(answer: &[u8], out: &mut Vec<u8>) -> Result<(), CallError> {
     let mut begins = true;
     for byte in answer {
@@ -80,7 +80,7 @@ impl<'a, D: NamedDesk> Reading<'a, D> {
         }
     }
 
-    /// Chooses the desk for what comes behind.
+    /// Chooses the desk for what comes after.
     fn choose(&mut self, name: &'a str) -> Result<(), CallError> {
         self.name = name;
         self.begin_case()
@@ -93,7 +93,7 @@ impl<'a, D: NamedDesk> Reading<'a, D> {
         Ok(())
     }
 
-    /// Makes the call of a line, which takes the text that was gathered and what stands behind a
+    /// Makes the call of a line, which takes the text that was gathered and what stands after a
     /// colon, and appends what came.
     fn make_call(&mut self, line: &str, out: &mut Vec<u8>) -> Result<(), CallError> {
         let Some(desk) = &mut self.desk else {
@@ -125,7 +125,7 @@ impl<'a, D: NamedDesk> Reading<'a, D> {
     }
 }
 
-/// The input with what came behind each call.
+/// The input with what came after each call.
 fn answered<D: NamedDesk>(alloc: Global, input: &str) -> Result<Vec<u8>> {
     let mut out = Vec::new(alloc);
     let mut reading = Reading::<D>::new(alloc);
@@ -138,7 +138,7 @@ fn answered<D: NamedDesk>(alloc: Global, input: &str) -> Result<Vec<u8>> {
     Ok(out)
 }
 
-/// Reads calls from the standard input, and writes them again with what came behind each.
+/// Reads calls from the standard input, and writes them again with what came after each.
 pub fn run<D: NamedDesk>(rt: &(impl Input + Print + AllocGlobal)) -> Result<()> {
     let input = io::read_to_string(rt.alloc(), rt.reader())?;
     let out = answered::<D>(rt.alloc(), input.as_str())?;

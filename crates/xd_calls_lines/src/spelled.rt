@@ -100,7 +100,7 @@ pub fn show_answer(is: bool, out: &mut Vec<u8>) -> Result<(), CallError> {
     Ok(())
 }
 
-/// `yes` or `no`, and behind it what it is said of.
+/// `yes` or `no`, and after it what it is said of.
 pub fn show_answer_on(is: bool, asked: &str, out: &mut Vec<u8>) -> Result<(), CallError> {
     let answer = if is { "yes " } else { "no " };
     out.extend_from_slice(answer.as_bytes())?;

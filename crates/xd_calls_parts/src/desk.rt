@@ -17,6 +17,7 @@ pub struct PartDesk {
 }
 
 impl PartDesk {
+    /// With no program yet.
     pub fn new(alloc: Global) -> PartDesk {
         PartDesk {
             case: Case::new(alloc),

@@ -19,7 +19,7 @@ use xd_show_solve::level_of;
 /// `set_of NUMBERS`; `keys ONE TWO`, whether the key of the one before the other comes before that
 /// of the other before the one; `choices CONTENT REST`, in how many ways an element is refused that
 /// a move with this content and this rest would take; `level TYPE`, to how many states the type's
-/// state leads behind items, itself included; `cases TYPE`, each head that the type's state begins
+/// state leads after items, itself included; `cases TYPE`, each head that the type's state begins
 /// with, at each of its atoms, and how many heads match there; `unnamed TYPE`; `kept TYPE MARK
 /// DOCUMENTS`, with `all` states marked or `none`; `merged TYPE DOCUMENTS`; `taken TYPE DOCUMENTS`;
 /// `solved TYPE`, the type of what the type's state accepts, with `Any` for each content; `uses

@@ -13,6 +13,7 @@ pub struct PlainDesk {
 }
 
 impl PlainDesk {
+    /// With no program yet.
     pub fn new(alloc: Global) -> PlainDesk {
         PlainDesk {
             programs: Programs::new(alloc),

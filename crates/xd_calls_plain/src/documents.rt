@@ -9,8 +9,8 @@ use xd_doc::{Item, Store};
 use xd_plain::{PlainDocument, all_splits};
 use xd_read::read_document;
 
-/// About the documents of its text, a line each: `joined`, all of them one behind the other;
-/// `splits`, each front of each of them, with what is behind it.
+/// About the documents of its text, a line each: `joined`, all of them one after the other;
+/// `splits`, each front of each of them, with what is after it.
 pub fn documents(call: &Call<'_>, out: &mut Vec<u8>) -> Result<(), CallError> {
     match call.name {
         "joined" => show_joined(call, out),

@@ -21,7 +21,7 @@ use xd_syntax::{
     Types,
 };
 
-/// Two trees, one behind the other or one beside the other.
+/// Two trees, one after the other or one beside the other.
 fn pair(
     alloc: Global,
     first: PlainTree,

@@ -11,6 +11,7 @@ pub struct Case {
 }
 
 impl Case {
+    /// With no program yet.
     pub fn new(alloc: Global) -> Case {
         Case {
             alloc,
@@ -26,6 +27,7 @@ impl Case {
         Ok(())
     }
 
+    /// The text that was taken last, or an empty one.
     pub fn program(&self) -> &str {
         self.program.as_str()
     }

@@ -24,6 +24,7 @@ pub struct Programs {
 }
 
 impl Programs {
+    /// With no program yet.
     pub fn new(alloc: Global) -> Programs {
         Programs {
             alloc,
@@ -35,7 +36,7 @@ impl Programs {
     }
 }
 
-/// The number of a fault, behind its place.
+/// The number of a fault, after its place.
 fn show_fault(fault: &Fault, out: &mut Vec<u8>) -> Result<(), CallError> {
     if let Some(place) = fault.place {
         show_place(place, out)?;

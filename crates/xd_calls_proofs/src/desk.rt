@@ -12,6 +12,7 @@ pub struct ProofDesk {
 }
 
 impl ProofDesk {
+    /// With no program yet.
     pub fn new(alloc: Global) -> ProofDesk {
         ProofDesk {
             case: Case::new(alloc),

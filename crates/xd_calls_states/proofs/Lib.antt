@@ -1,1 +1,2 @@
+mod NamedStates
 mod StatesOfTypes

@@ -1,14 +1,16 @@
 //! The program that the calls are about, and where each is made.
 
-use crate::cases::{show_case, show_lines, show_words};
-use crate::least::{show_apart, show_learned, show_least, show_sizes};
+use crate::inclusions::{
+    answer_apart, answer_decide, answer_learned, answer_least, answer_moved, answer_questions,
+    answer_sizes,
+};
 use crate::states::{
     Operation, PairShown, show_made, show_merged, show_paired, show_subtracted, show_universal,
 };
 use crate::streams::show_stream;
-use crate::tables::{show_decided, show_moved, show_questions};
 use crate::types::{TypeShown, show_inhabitant, show_type};
 use std::alloc::Global;
+use xd_calls_goals::{show_cut_lines, show_read_case, show_split_words};
 use xd_calls_lines::{Call, CallError, Desk};
 use xd_calls_programs::Case;
 
@@ -19,6 +21,7 @@ pub struct StateDesk {
 }
 
 impl StateDesk {
+    /// With no program yet.
     pub fn new(alloc: Global) -> StateDesk {
         StateDesk {
             case: Case::new(alloc),
@@ -41,13 +44,13 @@ fn answer(call: &Call<'_>, out: &mut Vec<u8>) -> Result<(), CallError> {
         "moves" => show_type(call, TypeShown::Moves, out),
         "state_type" => show_type(call, TypeShown::State, out),
         "inhabitant" => show_inhabitant(call, out),
-        "least" => show_least(call, out),
-        "sizes" => show_sizes(call, out),
-        "learned" => show_learned(call, out),
-        "apart" => show_apart(call, out),
-        "decide" => show_decided(call, out),
-        "moved" => show_moved(call, out),
-        "questions" => show_questions(call, out),
+        "least" => answer_least(call, out),
+        "sizes" => answer_sizes(call, out),
+        "learned" => answer_learned(call, out),
+        "apart" => answer_apart(call, out),
+        "decide" => answer_decide(call, out),
+        "moved" => answer_moved(call, out),
+        "questions" => answer_questions(call, out),
         "product" => show_made(call, Operation::Product, out),
         "minus" => show_made(call, Operation::Minus, out),
         "subtract" => show_subtracted(call, out),
@@ -56,9 +59,9 @@ fn answer(call: &Call<'_>, out: &mut Vec<u8>) -> Result<(), CallError> {
         "pair_up" => show_paired(call, PairShown::Pairs, out),
         "shares" => show_paired(call, PairShown::Shared, out),
         "stream" => show_stream(call, out),
-        "read_case" => show_case(call, out),
-        "cut_lines" => show_lines(call, out),
-        "split_words" => show_words(call, out),
+        "read_case" => show_read_case(call, out),
+        "cut_lines" => show_cut_lines(call, out),
+        "split_words" => show_split_words(call, out),
         _ => Err(CallError::Call),
     }
 }

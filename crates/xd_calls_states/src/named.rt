@@ -5,10 +5,11 @@ ghost use Rattle.std.specs.List.{AllByRecursion};
 ghost use Rattle.xd_auto.specs.Automaton.{IsState};
 ghost use Rattle.xd_heads.specs.Mirrors.{Mirrors};
 ghost use Rattle.xd_syntax.specs.Types.{BelongsTo};
-ghost use Rattle.xd_calls_states.specs.declared.named.Named.{Named};
+ghost use Rattle.xd_calls_goals.specs.declared.named.NamedState.{NamedState};
 
 use std::alloc::Global;
 use xd_auto::{Auto, State};
+use xd_calls_goals::NamedState;
 use xd_calls_lines::{Call, CallError};
 use xd_calls_programs::{find_type, program_of};
 use xd_heads::{Cells, compile_type};
@@ -98,16 +99,9 @@ fn compile_both(
     Ok((first, second))
 }
 
-/// A type's name, and a state for it.
-#[derive(Drop)]
-pub struct Named<'a> {
-    pub name: &'a str,
-    pub state: State,
-}
-
 /// States for the types that the call's words name, in one automaton.
-pub fn named_states<'a>(call: &Call<'a>) -> Result<(Auto, Vec<Named<'a>>), CallError>
-    ensures { IfOk result (λ made. AllByRecursion (λ (n : Named). IsState made.0 n.state) made.1.items) }
+pub fn named_states<'a>(call: &Call<'a>) -> Result<(Auto, Vec<NamedState<'a>>), CallError>
+    ensures { IfOk result (λ made. AllByRecursion (λ (n : NamedState). IsState made.0 n.state) made.1.items) }
 {
     let mut sound = program_of(call)?;
     named_states_of(call, &mut sound)
@@ -117,8 +111,8 @@ pub fn named_states<'a>(call: &Call<'a>) -> Result<(Auto, Vec<Named<'a>>), CallE
 fn named_states_of<'a>(
     call: &Call<'a>,
     sound: &mut SoundProgram,
-) -> Result<(Auto, Vec<Named<'a>>), CallError>
-    ensures { IfOk result (λ made. AllByRecursion (λ (n : Named). IsState made.0 n.state) made.1.items) }
+) -> Result<(Auto, Vec<NamedState<'a>>), CallError>
+    ensures { IfOk result (λ made. AllByRecursion (λ (n : NamedState). IsState made.0 n.state) made.1.items) }
 {
     let mut auto = Auto::new(call.alloc);
     let states = name_states(call, sound, &mut auto)?;
@@ -130,9 +124,9 @@ fn name_states<'a>(
     call: &Call<'a>,
     sound: &mut SoundProgram,
     auto: &mut Auto,
-) -> Result<Vec<Named<'a>>, CallError>
+) -> Result<Vec<NamedState<'a>>, CallError>
     requires { auto.old ≡ [] }
-    ensures { IfOk result (λ states. AllByRecursion (λ (n : Named). IsState auto.new n.state) states.items) }
+    ensures { IfOk result (λ states. AllByRecursion (λ (n : NamedState). IsState auto.new n.state) states.items) }
 {
     let mut cells = Cells::new(call.alloc);
     let mut states = Vec::new(call.alloc);
@@ -140,17 +134,17 @@ fn name_states<'a>(
     Ok(states)
 }
 
-/// Puts a state for each of the types behind the others.
+/// Puts a state for each of the types after the others.
 fn name_each<'a>(
     call: &Call<'a>,
     sound: &mut SoundProgram,
     cells: &mut Cells,
     auto: &mut Auto,
-    states: &mut Vec<Named<'a>>,
+    states: &mut Vec<NamedState<'a>>,
 ) -> Result<(), CallError>
     requires mirrors { Mirrors sound.old cells.old auto.old }
-    requires states { AllByRecursion (λ (n : Named). IsState auto.old n.state) states.old.items }
-    ensures { OnOk result (AllByRecursion (λ (n : Named). IsState auto.new n.state) states.new.items) }
+    requires states { AllByRecursion (λ (n : NamedState). IsState auto.old n.state) states.old.items }
+    ensures { OnOk result (AllByRecursion (λ (n : NamedState). IsState auto.new n.state) states.new.items) }
 {
     for name in call.behind.split_whitespace() {
         name_state(call.alloc, sound, cells, auto, states, name)?;
@@ -158,22 +152,22 @@ fn name_each<'a>(
     Ok(())
 }
 
-/// Puts a state for the type of this name behind the others.
+/// Puts a state for the type of this name after the others.
 fn name_state<'a>(
     alloc: Global,
     sound: &mut SoundProgram,
     cells: &mut Cells,
     auto: &mut Auto,
-    states: &mut Vec<Named<'a>>,
+    states: &mut Vec<NamedState<'a>>,
     name: &'a str,
 ) -> Result<(), CallError>
     requires mirrors { Mirrors sound.old cells.old auto.old }
-    requires states { AllByRecursion (λ (n : Named). IsState auto.old n.state) states.old.items }
+    requires states { AllByRecursion (λ (n : NamedState). IsState auto.old n.state) states.old.items }
     ensures mirrors { OnOk result (Mirrors sound.new cells.new auto.new) }
-    ensures states { OnOk result (AllByRecursion (λ (n : Named). IsState auto.new n.state) states.new.items) }
+    ensures states { OnOk result (AllByRecursion (λ (n : NamedState). IsState auto.new n.state) states.new.items) }
 {
     let id = find_type(sound, name)?;
     let state = compile_type(alloc, sound, cells, auto, id)?;
-    states.push(Named { name, state })?;
+    states.push(NamedState { name, state })?;
     Ok(())
 }

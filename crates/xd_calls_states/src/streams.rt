@@ -9,7 +9,7 @@ use xd_calls_programs::state_of;
 use xd_doc::NoMemory;
 use xd_stream::{Expected, Stream, StreamError};
 
-/// `stream TYPE PIECES`: what is open behind each piece, then what may come, and whether the bytes
+/// `stream TYPE PIECES`: what is open after each piece, then what may come, and whether the bytes
 /// may end there.
 pub fn show_stream(call: &Call<'_>, out: &mut Vec<u8>) -> Result<(), CallError> {
     let (auto, state) = state_of(call, 0)?;
@@ -39,7 +39,7 @@ fn show_stream_of(
     Ok(())
 }
 
-/// How many frames there are behind a piece, and how many bytes are held; or where the bytes stop.
+/// How many frames there are after a piece, and how many bytes are held; or where the bytes stop.
 fn show_piece(stream: &mut Stream, piece: &str, out: &mut Vec<u8>) -> Result<(), CallError> {
     if let Err(error) = stream.feed(piece.as_bytes()) {
         return show_stop(error, out);

@@ -13,6 +13,7 @@ pub struct StepDesk {
 }
 
 impl StepDesk {
+    /// With no program yet.
     pub fn new(alloc: Global) -> StepDesk {
         StepDesk {
             shelf: MemoryShelf::new(alloc),

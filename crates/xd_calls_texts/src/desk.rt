@@ -18,6 +18,7 @@ pub struct ProgramDesk {
 }
 
 impl ProgramDesk {
+    /// With no program yet.
     pub fn new(alloc: Global) -> ProgramDesk {
         ProgramDesk {
             shelf: MemoryShelf::new(alloc),

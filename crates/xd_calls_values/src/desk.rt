@@ -12,6 +12,7 @@ pub struct ValueDesk {
 }
 
 impl ValueDesk {
+    /// With no program yet.
     pub fn new(alloc: Global) -> ValueDesk {
         ValueDesk {
             case: Case::new(alloc),

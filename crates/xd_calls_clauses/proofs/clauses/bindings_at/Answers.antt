@@ -1,6 +1,6 @@
 use Rattle.std.proofs.Common.{sym, subst}
 use Rattle.std.specs.List.{All}
-use Rattle.xd_clauses.specs.Cases.{IsLinearPattern}
+use Rattle.xd_patterns.specs.CompiledProgram.{IsLinearPattern}
 use Rattle.xd_calls_clauses.proofs.clauses.bindings_at.Goals as goal
 
 pub case_types-requires-clause-earlier : goal.case_types-requires-clause-earlier

@@ -14,7 +14,7 @@ use Rattle.xd_syntax.specs.declared.exprs.Clause.{Clause}
 use Rattle.xd_syntax.specs.declared.exprs.ExprId.{ExprId}
 use Rattle.xd_syntax.proofs.Members.{append_right, map_mem}
 use Rattle.xd_pattern_runs.specs.Clauses.{patterns_in, patterns_in_clauses}
-use Rattle.xd_clauses.specs.Cases.{IsLinearPattern}
+use Rattle.xd_patterns.specs.CompiledProgram.{IsLinearPattern}
 use Rattle.xd_calls_clauses.proofs.ClausePatterns.{AreLinear, first_among, if_ok_then, linear_in_clauses}
 use Rattle.xd_calls_clauses.proofs.clauses.clause_patterns.Goals as goal
 

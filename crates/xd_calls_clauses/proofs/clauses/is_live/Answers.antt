@@ -1,6 +1,6 @@
 use Rattle.std.proofs.Common.{sym, subst}
 use Rattle.std.specs.List.{All}
-use Rattle.xd_clauses.specs.Cases.{IsLinearPattern}
+use Rattle.xd_patterns.specs.CompiledProgram.{IsLinearPattern}
 use Rattle.xd_calls_clauses.proofs.clauses.is_live.Goals as goal
 
 pub live-requires-clause-earlier : goal.live-requires-clause-earlier

@@ -1,5 +1,5 @@
 use Rattle.xd_heads.proofs.Mirrored.{mirrors_stay}
-use Rattle.xd_calls_states.proofs.StatesOfTypes.{named_more}
+use Rattle.xd_calls_states.proofs.NamedStates.{named_more}
 use Rattle.xd_calls_states.proofs.named.name_state.Goals as goal
 
 pub compile_type-requires-clause-mirrors : goal.compile_type-requires-clause-mirrors

@@ -1,73 +1,24 @@
-//! Calls about tables of goals.
+//! What tables of goals say.
 
 ghost use Rattle.std.specs.Prelude.{◌<◌, length, OnOk};
 ghost use Rattle.std.specs.List.{AllByRecursion};
 ghost use Rattle.xd_auto.specs.Automaton.{IsState};
 ghost use Rattle.xd_goals.specs.Rows.{HasRoot};
 ghost use Rattle.xd_goals.specs.Standing.{StandsOn};
-ghost use Rattle.xd_calls_states.specs.declared.named.Named.{Named};
+ghost use Rattle.xd_calls_goals.specs.declared.named.NamedState.{NamedState};
 
-use crate::named::{Named, named_states, states_of};
+use crate::named::NamedState;
 use std::alloc::Global;
 use std::io::Write;
 use xd_auto::{Auto, State};
-use xd_calls_lines::{Call, CallError};
+use xd_calls_lines::CallError;
 use xd_calls_programs::{show_both_ways, show_verdict};
 use xd_doc::Store;
 use xd_goals::{Choice, ChoiceNode, GoalId, Standing, Table, Verdict, decide, new_tables_stand};
 
-/// What is shown of two states of an automaton.
-#[derive(Clone, Copy)]
-enum StatesShown {
-    /// Whether the one is included in the two, then the other way round, by one table; and whether
-    /// this has at most so many goals then.
-    Decided(usize),
-    /// Whether the one is included in the two; and for each goal that was refuted for it whether a
-    /// goal that holds is among its dependents, and whether a leaf of one that holds names it.
-    Moved,
-}
-
-/// `decide MOST ONE TWO`.
-pub fn show_decided(call: &Call<'_>, out: &mut Vec<u8>) -> Result<(), CallError> {
-    let most = call.size(0)?;
-    show_states(call, StatesShown::Decided(most), 1, 2, out)
-}
-
-/// `moved ONE TWO`.
-pub fn show_moved(call: &Call<'_>, out: &mut Vec<u8>) -> Result<(), CallError> {
-    show_states(call, StatesShown::Moved, 0, 1, out)
-}
-
-/// Shows this of the types that the call's words of these numbers name.
-fn show_states(
-    call: &Call<'_>,
-    shown: StatesShown,
-    one: usize,
-    two: usize,
-    out: &mut Vec<u8>,
-) -> Result<(), CallError> {
-    let (auto, first, second) = states_of(call, one, two)?;
-    show_states_of(call.alloc, shown, &auto, first, second, out)
-}
-
-fn show_states_of(
-    alloc: Global,
-    shown: StatesShown,
-    auto: &Auto,
-    one: State,
-    two: State,
-    out: &mut Vec<u8>,
-) -> Result<(), CallError>
-    requires one { IsState auto.now one }
-    requires two { IsState auto.now two }
-{
-    match shown {
-        StatesShown::Decided(most) => show_decided_of(alloc, auto, one, two, most, out),
-        StatesShown::Moved => show_moved_of(alloc, auto, one, two, out),
-    }
-}
-
-fn show_decided_of(
+/// Whether the one is included in the two, then the other way round, by one table; and whether this
+/// has at most so many goals then.
+pub fn show_decided(
     alloc: Global,
     auto: &Auto,
     one: State,
@@ -88,7 +39,9 @@ fn show_bound(rows: usize, most: usize, out: &mut Vec<u8>) -> Result<(), CallErr
     Ok(())
 }
 
-fn show_moved_of(
+/// Whether the one is included in the two; and for each goal that was refuted for it whether a goal
+/// that holds is among its dependents, and whether a leaf of one that holds names it.
+pub fn show_moved(
     alloc: Global,
     auto: &Auto,
     one: State,
@@ -204,21 +157,15 @@ fn is_named_in(table: &Table, node: usize, goal: GoalId) -> bool
     }
 }
 
-/// `questions TYPES`: for each of the types, in the order of the words, which of them it is
-/// included in: each of all these questions is asked of one table, and then of a new one, which
-/// must say the same.
-pub fn show_questions(call: &Call<'_>, out: &mut Vec<u8>) -> Result<(), CallError> {
-    let (auto, states) = named_states(call)?;
-    show_all_questions(call.alloc, &auto, &states, out)
-}
-
-fn show_all_questions(
+/// For each of the states, in order, which of them it is included in. Each of these questions is
+/// asked of one table, and then of a new one, which must say the same.
+pub fn show_questions(
     alloc: Global,
     auto: &Auto,
-    states: &[Named<'_>],
+    states: &[NamedState<'_>],
     out: &mut Vec<u8>,
 ) -> Result<(), CallError>
-    requires { AllByRecursion (λ (n : Named). IsState auto.now n.state) states.now }
+    requires { AllByRecursion (λ (n : NamedState). IsState auto.now n.state) states.now }
 {
     let mut store = Store::new(alloc);
     let mut table = Table::new(alloc);
@@ -231,12 +178,12 @@ fn show_questions_in(
     alloc: Global,
     auto: &Auto,
     table: &mut Table,
-    states: &[Named<'_>],
+    states: &[NamedState<'_>],
     store: &mut Store,
     out: &mut Vec<u8>,
 ) -> Result<(), CallError>
     requires stands { StandsOn auto.now store.old table.old }
-    requires states { AllByRecursion (λ (n : Named). IsState auto.now n.state) states.now }
+    requires states { AllByRecursion (λ (n : NamedState). IsState auto.now n.state) states.now }
 {
     for left in states {
         show_questions_on(alloc, auto, table, left, states, store, out)?;
@@ -249,14 +196,14 @@ fn show_questions_on(
     alloc: Global,
     auto: &Auto,
     table: &mut Table,
-    left: &Named<'_>,
-    rights: &[Named<'_>],
+    left: &NamedState<'_>,
+    rights: &[NamedState<'_>],
     store: &mut Store,
     out: &mut Vec<u8>,
 ) -> Result<(), CallError>
     requires stands { StandsOn auto.now store.old table.old }
     requires left { IsState auto.now left.now.state }
-    requires rights { AllByRecursion (λ (n : Named). IsState auto.now n.state) rights.now }
+    requires rights { AllByRecursion (λ (n : NamedState). IsState auto.now n.state) rights.now }
     ensures { OnOk result (StandsOn auto.now store.new table.new) }
 {
     write!(out, "{} is in", left.name)?;

@@ -5,7 +5,7 @@ use xd_calls_lines::{Call, CallError};
 use xd_proof::{ProofAtom, ReadCase, Step, cut_lines, read_case, split_words};
 
 /// `read_case LINE`: the number of the head, the atom, and the steps of the choice tree; or `none`.
-pub fn show_case(call: &Call<'_>, out: &mut Vec<u8>) -> Result<(), CallError> {
+pub fn show_read_case(call: &Call<'_>, out: &mut Vec<u8>) -> Result<(), CallError> {
     match read_case(call.alloc, call.behind.as_bytes())? {
         Some(read) => show_read(&read, out),
         None => Ok(out.extend_from_slice(b"none\n")?),
@@ -47,7 +47,7 @@ fn show_step(step: Step, out: &mut Vec<u8>) -> Result<(), CallError> {
 
 /// `cut_lines`: how many bytes each line of the text has, and how many stand after the last line
 /// feed.
-pub fn show_lines(call: &Call<'_>, out: &mut Vec<u8>) -> Result<(), CallError> {
+pub fn show_cut_lines(call: &Call<'_>, out: &mut Vec<u8>) -> Result<(), CallError> {
     let cut = cut_lines(call.alloc, call.text.as_bytes())?;
     for line in &cut.lines {
         writeln!(out, "{} bytes", line.len())?;
@@ -57,7 +57,7 @@ pub fn show_lines(call: &Call<'_>, out: &mut Vec<u8>) -> Result<(), CallError> {
 }
 
 /// `split_words LINE`: the words, which single spaces separate, one a line in brackets.
-pub fn show_words(call: &Call<'_>, out: &mut Vec<u8>) -> Result<(), CallError> {
+pub fn show_split_words(call: &Call<'_>, out: &mut Vec<u8>) -> Result<(), CallError> {
     for word in split_words(call.alloc, call.behind.as_bytes())?.iter() {
         out.push(b'[')?;
         out.extend_from_slice(word)?;

@@ -3,7 +3,7 @@ use Rattle.xd_auto.specs.Automaton.{accepts}
 use Rattle.xd_doc.specs.Stored.{document_at}
 use Rattle.xd_goals.specs.Verdicts.{IsVerdict}
 use Rattle.xd_apart.proofs.ApartLemmas.{false_if}
-use Rattle.xd_calls_states.proofs.least.show_apart_in.Goals as goal
+use Rattle.xd_calls_goals.proofs.least.show_apart_in.Goals as goal
 
 pub least_apart-requires-clause-belongs : goal.least_apart-requires-clause-belongs
 least_apart-requires-clause-belongs c =

@@ -1,16 +1,15 @@
-//! Calls about least documents.
+//! Least documents of states.
 
 ghost use Rattle.xd_auto.specs.Automaton.{IsState};
 ghost use Rattle.xd_doc.specs.StoredSeq.{BelongsTo};
 ghost use Rattle.xd_goals.specs.Standing.{StandsOn};
 
-use crate::named::{Named, named_states, states_of};
+use crate::named::NamedState;
 use std::alloc::Global;
 use std::io::Write;
 use xd_apart::least_apart;
 use xd_auto::{Auto, State};
-use xd_calls_lines::{Call, CallError};
-use xd_calls_programs::state_of;
+use xd_calls_lines::CallError;
 use xd_doc::{Seq, Store};
 use xd_goals::{Table, Verdict, decide, new_tables_stand};
 use xd_least::{
@@ -18,13 +17,8 @@ use xd_least::{
 };
 use xd_write::write_document;
 
-/// `least TYPE`: a least document of the type's state and its size, or `none`.
-pub fn show_least(call: &Call<'_>, out: &mut Vec<u8>) -> Result<(), CallError> {
-    let (auto, state) = state_of(call, 0)?;
-    show_least_of(call.alloc, &auto, state, out)
-}
-
-fn show_least_of(
+/// A least document of the state and its size, or `none`.
+pub fn show_least(
     alloc: Global,
     auto: &Auto,
     state: State,
@@ -50,12 +44,16 @@ fn show_sized(alloc: Global, store: &Store, seq: Seq, out: &mut Vec<u8>) -> Resu
     Ok(())
 }
 
-/// `sizes TYPES`: the size of a least document of each of these types, or `none`.
-pub fn show_sizes(call: &Call<'_>, out: &mut Vec<u8>) -> Result<(), CallError> {
-    let (auto, states) = named_states(call)?;
-    let mut store = Store::new(call.alloc);
-    let found = least_inhabitants(call.alloc, &auto, &mut store)?;
-    for named in &states {
+/// The size of a least document of each of the states, or `none`.
+pub fn show_sizes(
+    alloc: Global,
+    auto: &Auto,
+    states: &[NamedState<'_>],
+    out: &mut Vec<u8>,
+) -> Result<(), CallError> {
+    let mut store = Store::new(alloc);
+    let found = least_inhabitants(alloc, auto, &mut store)?;
+    for named in states {
         show_size(
             named,
             found.get(named.state.number()).copied().flatten(),
@@ -65,22 +63,25 @@ pub fn show_sizes(call: &Call<'_>, out: &mut Vec<u8>) -> Result<(), CallError> {
     Ok(())
 }
 
-/// `learned TYPES`: the same, as it is learnt of an automaton that grows; it is learnt once more
-/// behind that.
-pub fn show_learned(call: &Call<'_>, out: &mut Vec<u8>) -> Result<(), CallError> {
-    let (auto, states) = named_states(call)?;
-    let mut store = Store::new(call.alloc);
-    let mut known = LeastInhabitants::new(call.alloc);
-    known.learn(call.alloc, &auto, &mut store)?;
-    known.learn(call.alloc, &auto, &mut store)?;
-    for named in &states {
+/// The same, as it is learnt of an automaton that grows; it is learnt once more after that.
+pub fn show_learned(
+    alloc: Global,
+    auto: &Auto,
+    states: &[NamedState<'_>],
+    out: &mut Vec<u8>,
+) -> Result<(), CallError> {
+    let mut store = Store::new(alloc);
+    let mut known = LeastInhabitants::new(alloc);
+    known.learn(alloc, auto, &mut store)?;
+    known.learn(alloc, auto, &mut store)?;
+    for named in states {
         show_size(named, known.document(named.state), out)?;
     }
     Ok(())
 }
 
 fn show_size(
-    named: &Named<'_>,
+    named: &NamedState<'_>,
     least: Option<LeastDocument>,
     out: &mut Vec<u8>,
 ) -> Result<(), CallError> {
@@ -91,14 +92,8 @@ fn show_size(
     Ok(())
 }
 
-/// `apart ONE TWO`: a least document that the first type's state alone accepts, with its size, or
-/// `included`.
-pub fn show_apart(call: &Call<'_>, out: &mut Vec<u8>) -> Result<(), CallError> {
-    let (auto, one, two) = states_of(call, 0, 1)?;
-    show_apart_of(call.alloc, &auto, one, two, out)
-}
-
-fn show_apart_of(
+/// A least document that the one alone accepts, with its size, or `included`.
+pub fn show_apart(
     alloc: Global,
     auto: &Auto,
     one: State,

@@ -1,5 +1,5 @@
 use Rattle.std.proofs.Common.{arith}
-use Rattle.xd_calls_states.proofs.tables.+is_named_in.Goals as goal
+use Rattle.xd_calls_goals.proofs.tables.+is_named_in.Goals as goal
 
 pub is_named_in-requires : goal.is_named_in-requires
 is_named_in-requires t c =

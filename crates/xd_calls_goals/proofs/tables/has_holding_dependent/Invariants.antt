@@ -1,7 +1,7 @@
 use Rattle.std.proofs.Common.{length}
 use Rattle.xd_doc.specs.StoredSeq.{IsBelow}
 use Rattle.xd_goals.proofs.IsWokenRowLemmas.{steps_left}
-use Rattle.xd_calls_states.proofs.tables.has_holding_dependent.Given as goal
+use Rattle.xd_calls_goals.proofs.tables.has_holding_dependent.Given as goal
 
 abbrev pub invariant-loop-at : goal.invariant-loop-at
 invariant-loop-at l = IsBelow (length l.table.links) l.at
