@@ -56,7 +56,7 @@ module _ (w m : TextMove) where
     outside = two.outside;
   }
 
--- what was put behind a list is exchanged
+-- what was put after a list is exchanged
 pub set_at_end : {X : Type 0} (xs : List X) (x y : X) (i : ℕ) → i ≡ length xs → set (xs ++ x ∷ []) i y ≡ xs ++ y ∷ []
 set_at_end xs x y i e =
     ap (λ (k : ℕ). set (xs ++ x ∷ []) k y) e ∙ set-append_right xs (x ∷ []) (length xs) (length xs) y refl (omega arith)
@@ -68,7 +68,7 @@ with_fields m n last labels texts e f g =
     ∙ ap (λ (xs : List LabelMove). let v : StateMoves = record { last = last; labels = xs; texts = texts } in v) f
     ∙ ap (λ (xs : List TextMove). let v : StateMoves = record { last = last; labels = n.labels; texts = xs } in v) g
 
--- a state that was put behind the others got the moves of another one
+-- a state that was put after the others got the moves of another one
 pub copied_at_end : (old made after : Automaton) (s : State) (last : Bool) (labels : List LabelMove) (texts : List TextMove) (n : StateMoves) → state_number s ≡ length old → made ≡ old ++ no_moves last ∷ [] → labels ≡ n.labels → texts ≡ n.texts
     → after ≡ with_moves made s (record (moves_at made s) { labels = labels; texts = texts }) → after ≡ old ++ copied last n ∷ []
 copied_at_end old made after s last labels texts n at added f g is =

@@ -35,7 +35,7 @@ extends_lefts l within = record {
 pub knows_over : (l : Loose) (ds : List Document) (known : List (Option LeastDocument)) → l.lefts ≤ length l.over → KnowsLefts l ds known → Knows l.over ds (take l.lefts known)
 knows_over l ds known within k = stays_known (take l.lefts known) (left_states l) l.over ds ds (extends_lefts l within) (keeps_same ds) k.knows
 
--- and it is still known where more was learnt behind it
+-- and it is still known where more was learnt after it
 pub knows_after : (l : Loose) (ds es : List Document) (known first after : List (Option LeastDocument)) → l.lefts ≤ length l.over → KnowsLefts l ds known → first ≡ take l.lefts known → Keeps ds es → length after ≡ length l.over → take (length first) after ≡ first → KnowsLefts l es after
 knows_after l ds es known first after within k is keeps all remembers =
     let count : length first ≡ l.lefts = ap length is ∙ length-take-le l.lefts known k.count in

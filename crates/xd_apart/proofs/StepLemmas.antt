@@ -185,7 +185,7 @@ text_kept b points more s m k lt r = record { right = r.right; among = subst (λ
 moves_kept : (l m : Loose) (s : State) → Grows l m → state_number s < length l.points.items → moves_at m.over s ≡ moves_at l.over s
 moves_kept l m s g lt = subst (λ (t : State). moves_at m.over t ≡ moves_at l.over t) (same_state (state_at (state_number s)) s refl) (g.moves (state_number s) lt)
 
--- an element's move is divided, behind the points that its parts lead to
+-- an element's move is divided, after the points that its parts lead to
 module _ (b : Automaton) (first second third : Loose) (after : Automaton) (s : State) (number : ℕ) (w m : LabelMove) (by_content by_rest : State) (h : IsLooseOver b third) (one : Grows first second) (two : Grows second third) (there : state_number s < length first.points.items)
     (below : MoveBelow (length first.points.items) w) (right : IsRightMove b first.points.items s m) (at : w ≡ get_or (moves_at first.over s).labels number w)
     (content_narrows : Narrows (left_states first) b second.points.items w.content by_content m.content) (rest_narrows : Narrows (left_states second) b third.points.items w.rest by_rest m.rest) (r : ReplacesLabel third.over after s number m by_content by_rest) where

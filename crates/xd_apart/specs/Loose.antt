@@ -1,5 +1,4 @@
--- Automata that accept at least what some states accept and others don't. Of these only private
--- contracts speak.
+-- Automata that accept at least what some states accept and others don't.
 use Rattle.std.specs.Prelude.{◌≡◌, ℕ, ◌<◌, ◌≤◌, Bool, true, false, not, ◌&&◌, ◌⊎◌, List, [], length, take, slice_index_or, Some, Contains}
 use Rattle.xd_doc.specs.Document.{Document, empty}
 use Rattle.xd_doc.specs.Classes.{class_has}

@@ -1,5 +1,4 @@
--- What is known in the search for a least document that separates two states. Of these only private
--- contracts speak.
+-- What is known in the search for a least document that separates two states.
 use Rattle.std.specs.Prelude.{◌≡◌, ℕ, ◌<◌, ◌≤◌, List, [], ◌∷◌, Option, length, take, Contains}
 use Rattle.xd_doc.specs.Document.{Document, size}
 use Rattle.xd_doc.specs.Stored.{document_at}

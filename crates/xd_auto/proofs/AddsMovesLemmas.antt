@@ -84,7 +84,7 @@ united_more a ss i d old new lt is u h =
           accepts_more a b more keep s old new is h t ∙ ap (λ w. w || accepts a t s) (u.accepted b more keep t) ∙ sym (list_any_more (accepts a t) ss i d lt);
     }
 
--- the state behind an automaton
+-- the state after an automaton
 pub moves_behind : (a more : Automaton) (i : ℕ) (d : StateMoves) → i < length more → moves_at (a ++ more) (state_at (length a + i)) ≡ get_or more i (no_moves false)
 moves_behind a more i d lt = get_or-append-add a more i (no_moves false)
 

@@ -18,7 +18,7 @@ use Rattle.xd_auto.specs.Membership.{FailsBefore, IsFrame, MayWait, Walk, bottom
 abbrev pub frame : ℕ → State → ℕ → Frame
 frame node state tried = record { node = node; state = state; tried = tried }
 
--- what holds at each place of a list and at the one behind it
+-- what holds at each place of a list and at the one after it
 pub places_push : {X : Type 0} (P : ℕ → X → Type 0) (xs : List X) (y : X)
     → ((i : ℕ) (d : X) → i < length xs → P i (get_or xs i d)) → P (length xs) y
     → (i : ℕ) (d : X) → i < length (xs ++ y ∷ []) → P i (get_or (xs ++ y ∷ []) i d)

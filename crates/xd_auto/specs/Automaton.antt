@@ -78,7 +78,7 @@ with_moves a s moves = slice_set a (state_number s) moves
 abbrev pub with_last : Automaton → State → Bool → Automaton
 with_last a s last = with_moves a s (record (moves_at a s) { last = last })
 
--- the automaton with one more move of a state, behind its others
+-- the automaton with one more move of a state, after its others
 abbrev pub with_label_move : Automaton → State → LabelMove → Automaton
 with_label_move a s move = with_moves a s (record (moves_at a s) { labels = (moves_at a s).labels ++ move ∷ [] })
 

@@ -1,5 +1,4 @@
--- Which states are reached from another; and how states are copied, of which only private contracts
--- speak.
+-- Which states are reached from another, and how states are copied.
 use Rattle.std.specs.Prelude.{◌≡◌, ◌≢◌, ℕ, ◌+◌, ◌<◌, ◌≤◌, Bool, true, false, nat_eq, ◌&&◌, is_some, List, [], ◌∷◌, ◌++◌, length, map, slice_index_or, Option, Some, None}
 use Rattle.std.specs.List.{All, AllZip, Contains, list_any}
 use Rattle.std.specs.HashMap.{HashMap, get}

@@ -1,4 +1,4 @@
--- How a state's moves are found by what their classes name. Of this only private contracts speak.
+-- How a state's moves are found by what their classes name.
 use Rattle.std.specs.Prelude.{◌≡◌, ℕ, ◌<◌, ◌≤◌, ◌⊎◌, Bool, true, List, [], length, slice_index_or, Option, Some, None, Vec, Contains}
 use Rattle.std.specs.List.{All}
 use Rattle.std.specs.List.Sorted.{IsNonDecreasing}

@@ -43,8 +43,6 @@ StayRightForStore rows = (a : Automaton) (old new : List Document) → Keeps old
 abbrev pub StayRightForAutomaton : Answers → Type 0
 StayRightForAutomaton rows = (old new : Automaton) (ds : List Document) → Extends old new → KeepsAccepting old new → AreRight old ds rows → AreRight new ds rows
 
--- Of what follows only private contracts speak.
-
 -- no answer changed
 abbrev pub SameAnswers : Answers → Answers → Type 0
 SameAnswers old new = (node state : ℕ) → kept_at new node state ≡ kept_at old node state

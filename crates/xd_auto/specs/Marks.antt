@@ -2,7 +2,7 @@
 use Rattle.std.specs.Prelude.{◌≡◌, ◌≢◌, ℕ, ◌/◌, ◌%◌, Bool, List, nat_eq, slice_index_or}
 use Rattle.std.specs.Int.{bit_at}
 
--- bit i of the words; false behind them
+-- bit i of the words; false after them
 abbrev pub bit_of : List ℕ → ℕ → Bool
 bit_of words i = nat_eq (bit_at (slice_index_or words (i / 64) 0) (i % 64)) 1
 

@@ -9,8 +9,6 @@ pub record AreMatching {M N : Type 0} (has : M → N → Bool) (step : M) (moves
   pub within : All (λ k. k < length moves) numbers
   pub cover : (k : ℕ) (d : M) (name : N) → k < length moves → has step name ≡ true → has (slice_index_or moves k d) name ≡ true → Contains numbers k
 
--- Of what follows only private contracts speak.
-
 -- the numbers of the moves that have the name were added
 pub record AddsMatching {M N : Type 0} (has : M → N → Bool) (moves : List M) (name : N) (old new : List ℕ) : Type 0 where
   pub keeps : (k : ℕ) → Contains old k → Contains new k

@@ -1,6 +1,5 @@
 -- The room of a scratch; and how it is found out whether a state accepts a document: pairs of a
 -- node and a state, the answers that are known, and a stack of pairs that wait. Of all but the room
--- only private contracts speak.
 use Rattle.std.specs.Prelude.{◌≡◌, ℕ, ◌+◌, ◌-◌, ◌*◌, ◌<◌, ◌≤◌, ◌⊎◌, Bool, false, is_some, List, [], ◌∷◌, length, take, slice_index_or, Option, Some, None}
 use Rattle.std.specs.List.{AllPairs, list_any}
 use Rattle.xd_doc.specs.Document.{Document, empty, text, element}

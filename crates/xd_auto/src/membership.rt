@@ -191,7 +191,7 @@ fn advance(auto: &Auto, store: &Store, known: &KnownAnswers, frame: Frame) -> Pr
 /// Settles the pair and all that it needs.
 ///
 /// Of the pairs on the stack each waits for the one above it, whose node is older. So the stack is
-/// never higher than there are nodes. After want of memory all that was settled stays.
+/// never higher than there are nodes. After `NoMemory` all that was settled stays.
 fn walk(
     auto: &Auto,
     store: &Store,
@@ -366,7 +366,7 @@ impl Answers {
 ///
 /// Its work is that of the pairs of a node and a state that it needs and that aren't known yet:
 /// each is settled once, by its moves in their order, until one leads on. It does no recursion.
-/// After want of memory the answers that it has found are kept.
+/// After `NoMemory` the answers that it has found are kept.
 pub fn accepts_kept(
     answers: &mut Answers,
     auto: &Auto,

@@ -1,4 +1,4 @@
--- How an automaton of pairs is made. Of this only private contracts speak.
+-- How an automaton of pairs is made.
 use Rattle.std.specs.Prelude.{◌≡◌, ◌≢◌, ◌⊎◌, ℕ, ◌+◌, ◌-◌, ◌<◌, ◌≤◌, ◌&&◌, ◌++◌, ◌∷◌, nat_eq, List, [], Option, Some, None, Vec, length, map, slice_get}
 use Rattle.std.specs.HashMap.{HashMap, get}
 use Rattle.xd_auto.specs.declared.auto.State.{State}

@@ -63,7 +63,7 @@ IsFree at_end = Unit {0}
 IsFree (at_text own r) = (own ≡ false) × IsFree r
 IsFree (at_element own k r) = (own ≡ false) × IsFree k × IsFree r
 
--- items of the variable, with nothing of it in their contents, and behind them none
+-- items of the variable, with nothing of it in their contents, and after them none
 abbrev pub IsBlock : Trace → Type 0
 IsBlock at_end = Unit {0}
 IsBlock (at_text own r) = ((own ≡ true) × IsBlock r) ⊎ ((own ≡ false) × IsFree r)

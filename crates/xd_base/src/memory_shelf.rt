@@ -47,8 +47,8 @@ impl MemoryShelf {
         }
     }
 
-    /// Puts a text onto the shelf, in place of an earlier one of the same name.
-    /// After `NoRoom` the shelf is as it was.
+    /// Puts a text onto the shelf, in place of an earlier one of the same name. `NoRoom` where
+    /// memory is refused; then the shelf is as it was.
     pub fn add(&mut self, name: &str, bytes: &[u8]) -> Result<(), NoRoom>
         ensures held { OnOk result ((n : List ℕ) → text_of self.new.texts n ≡ (if bytes_eq name.now n then Some bytes.now else text_of self.old.texts n)) }
         ensures others { self.new ≡ record self.old { texts = self.new.texts } }
@@ -68,7 +68,7 @@ impl MemoryShelf {
     }
 
     /// Makes the call of `fetch` with this number fail, counted from 1 since the shelf was made.
-    /// After `NoRoom` the shelf is as it was.
+    /// `NoRoom` where memory is refused; then the shelf is as it was.
     pub fn fail_at(&mut self, call: u64) -> Result<(), NoRoom>
         ensures ok { OnOk result (self.new ≡ record self.old { failing = self.old.failing ++ call ∷ [] }) }
         ensures err { OnErr result (self.new ≡ self.old) }

@@ -55,7 +55,7 @@ impl MemorySink {
     }
 
     /// Makes the call of `put` with this number fail, counted from 1 since the sink was made.
-    /// After `NoRoom` the sink is as it was.
+    /// `NoRoom` where memory is refused; then the sink is as it was.
     pub fn fail_at(&mut self, call: u64) -> Result<(), NoRoom>
         ensures ok { OnOk result (self.new ≡ record self.old { failing = self.old.failing ++ call ∷ [] }) }
         ensures err { OnErr result (self.new ≡ self.old) }

@@ -108,7 +108,7 @@ module _ {C S : Type 0} (has : C → List ℕ → Bool) (class : C) (side : S) w
       or_first true y = refl
       or_first false y = refl
 
-  -- the names that it matches stand behind the groups, and then those that it doesn't
+  -- the names that it matches stand after the groups, and then those that it doesn't
   pub divides : (g : Group C S) (inside : C) (old mid new : List (Group C S)) → IsPartBy has true g.class class (Some inside)
       → AddsInside inside g.sides.items side old mid → AddsOutside has class g mid new → Divides has class side g old new
   divides g inside old mid new is first second = divides_in second.part second.is second.items

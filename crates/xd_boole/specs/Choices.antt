@@ -1,4 +1,4 @@
--- Choices of sides, by which an element is refused. Of this only private contracts speak.
+-- Choices of sides, by which an element is refused.
 use Rattle.std.specs.Prelude.{◌≡◌, Bool, true, not, ◌&&◌, ◌||◌, List}
 use Rattle.std.specs.List.{AllByRecursion, list_any}
 use Rattle.xd_doc.specs.Document.{Document}
@@ -23,7 +23,7 @@ IsChoiceOf a k = AllPass (is_state a) k.contents.items × AllPass (is_state a) k
 abbrev pub AllChoices : Automaton → List SideChoice → Type 0
 AllChoices a choices = AllByRecursion (IsChoiceOf a) choices
 
--- a choice was put behind the others, or what it refuses the new one refuses
+-- a choice was put after the others, or what it refuses the new one refuses
 pub record KeepsChoice (k other : SideChoice) (old new : List SideChoice) : Type 0 where
   pub refused : (a : Automaton) (c d : Document) → (any_choice a c d new || choice_refuses a c d k) ≡ ((any_choice a c d old || choice_refuses a c d other) || choice_refuses a c d k)
   pub states : (a : Automaton) → AllChoices a old → IsChoiceOf a other → AllChoices a new

@@ -1,4 +1,4 @@
--- States and moves that have nothing in common. Of this only private contracts speak.
+-- States and moves that have nothing in common.
 use Rattle.std.specs.Prelude.{◌≡◌, Bool, true, false, ◌&&◌, List}
 use Rattle.std.specs.List.{list_any}
 use Rattle.xd_doc.specs.Document.{Document}

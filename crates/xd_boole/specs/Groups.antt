@@ -1,4 +1,4 @@
--- Names in groups that the same moves match. Of this only private contracts speak.
+-- Names in groups that the same moves match.
 use Rattle.std.specs.Prelude.{◌≡◌, ℕ, zero, suc, Bool, true, false, not, cond, ◌&&◌, ◌||◌, List, [], ◌∷◌, ◌++◌, take, Option, Some, None}
 use Rattle.std.specs.List.{AllByRecursion, list_any}
 use Rattle.xd_doc.specs.Document.{Document}
@@ -34,25 +34,25 @@ pub record HasSide {S : Type 0} (sides : List S) (side : S) (made : List S) : Ty
   pub taken : (p : S → Bool) → list_any p made ≡ (list_any p sides || p side)
   pub all : (p : S → Bool) → AllPass p sides → p side ≡ true → AllPass p made
 
--- the names that a move matches were put behind the groups, with the move's side
+-- the names that a move matches were put after the groups, with the move's side
 pub record AddsInside {C S : Type 0} (inside : C) (sides : List S) (side : S) (old new : List (Group C S)) : Type 0 where
   pub group : Group C S
   pub items : new ≡ old ++ group ∷ []
   pub class_is : group.class ≡ inside
   pub sides_are : HasSide sides side group.sides.items
 
--- the names of the group that make up this part were put behind the groups, if there is one
+-- the names of the group that make up this part were put after the groups, if there is one
 abbrev pub IsPartAdded : {C S : Type 0} → Group C S → List (Group C S) → List (Group C S) → Option C → Type 0
 IsPartAdded {C = C} {S = S} g old new None = new ≡ old
 IsPartAdded {C = C} {S = S} g old new (Some part) = new ≡ old ++ record g { class = part } ∷ []
 
--- the names of the group that a move on this class doesn't match were put behind the groups
+-- the names of the group that a move on this class doesn't match were put after the groups
 pub record AddsOutside {C S : Type 0} (has : C → List ℕ → Bool) (class : C) (g : Group C S) (old new : List (Group C S)) : Type 0 where
   pub part : Option C
   pub is : IsPartBy has false g.class class part
   pub items : IsPartAdded g old new part
 
--- a group was put behind the others, divided by a move on this class
+-- a group was put after the others, divided by a move on this class
 pub record Divides {C S : Type 0} (has : C → List ℕ → Bool) (class : C) (side : S) (g : Group C S) (old new : List (Group C S)) : Type 0 where
   pub taken : (p : S → Bool) (x : List ℕ) → any_group has p x new ≡ (any_group has p x old || (group_refuses has p x g && not (has class x && p side)))
   pub sides : (p : S → Bool) → AllSides p old → AllPass p g.sides.items → p side ≡ true → AllSides p new
@@ -73,7 +73,7 @@ pub record DividesBy {C S M : Type 0} (has : C → List ℕ → Bool) (class_of 
   pub taken : (p : S → Bool) (x : List ℕ) → any_group has p x new ≡ (any_group has p x old && not (list_any (passes_at (λ m. has (class_of m) x && p (side_of m)) moves) numbers))
   pub sides : (p : S → Bool) → AllSides p old → AllByRecursion (λ m. p (side_of m) ≡ true) moves → AllSides p new
 
--- the moves of these numbers were put behind others
+-- the moves of these numbers were put after others
 pub record AddsThose {M : Type 0} (moves : List M) (numbers : List ℕ) (old new : List M) : Type 0 where
   pub taken : (t : M → Bool) → list_any t new ≡ (list_any t old || list_any (passes_at t moves) numbers)
   pub all : (t : M → Bool) → AllPass t old → AllPass t moves → AllPass t new

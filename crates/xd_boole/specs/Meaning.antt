@@ -1,5 +1,5 @@
 -- What a state of a difference stands for: a state of one automaton, the left, and states of
--- another that are taken away from it, the rights. Of this only private contracts speak.
+-- another that are taken away from it, the rights.
 use Rattle.std.specs.Prelude.{◌≡◌, ℕ, Bool, true, not, cond, ◌&&◌, ◌==◌, List, [], ◌∷◌, map, nat_lt, nat_eq, length}
 use Rattle.std.specs.List.{list_any}
 use Rattle.xd_doc.specs.Document.{Document, text, element}

@@ -1,4 +1,4 @@
--- States that accept the same, made one. Of this only private contracts speak.
+-- States that accept the same, made one.
 use Rattle.std.specs.Prelude.{◌≡◌, ℕ, ◌<◌, ◌≤◌, ◌⊎◌, List, ◌++◌, map, length, nat_eq, Option, Some, slice_index_or}
 use Rattle.std.specs.HashMap.{HashMap, get}
 use Rattle.std.specs.List.{AllByRecursion, AllZip}

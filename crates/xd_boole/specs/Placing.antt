@@ -1,5 +1,4 @@
--- Where the points of a difference stand in the automaton that has their lefts. Of this only
--- private contracts speak.
+-- Where the points of a difference stand in the automaton that has their lefts.
 use Rattle.std.specs.Prelude.{◌≡◌, ℕ, ◌<◌, ◌≤◌, Bool, true, false, ◌||◌, List, length, Option, Some, None, IfSome, slice_index_or}
 use Rattle.std.specs.List.{list_any}
 use Rattle.xd_doc.specs.Document.{Document}

@@ -1,5 +1,4 @@
--- Labels in groups, with the choices by which what they stand before is refused. Of this only
--- private contracts speak.
+-- Labels in groups, with the choices by which what they stand before is refused.
 use Rattle.std.specs.Prelude.{◌≡◌, ℕ, ◌+◌, ◌<◌, ◌≤◌, Bool, true, false, not, ◌&&◌, ◌||◌, List, length, take}
 use Rattle.std.specs.List.{AllByRecursion, list_any}
 use Rattle.xd_doc.specs.Classes.{LabelClass, class_has}
@@ -73,7 +72,7 @@ any_refused a q groups = list_any (label_refused a q) groups
 abbrev pub AllRefusals : Automaton → List LabelRefusal → Type 0
 AllRefusals a groups = AllByRecursion (λ (g : LabelRefusal). AllChoices a g.choices.items) groups
 
--- the labels of the class were put behind the groups, with what refuses by these choices and moves
+-- the labels of the class were put after the groups, with what refuses by these choices and moves
 pub record AddsRefusals (a : Automaton) (class : LabelClass) (choices : List SideChoice) (moves : List LabelMove) (old new : List LabelRefusal) : Type 0 where
   pub taken : (q : ElementFirst) → any_refused a q new ≡ (any_refused a q old || (class_has class q.label && is_refused_by a q choices moves))
   pub states : AllRefusals a old → AllRefusals a new

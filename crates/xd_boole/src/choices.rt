@@ -32,7 +32,7 @@ fn contains(choice: &SideChoice, other: &SideChoice) -> bool
     is_within(&other.contents, &choice.contents) && is_within(&other.rests, &choice.rests)
 }
 
-/// Puts a choice behind the others, unless its sets contain those of a new one.
+/// Puts a choice after the others, unless its sets contain those of a new one.
 fn keep_choice(
     kept: &mut Vec<SideChoice>,
     other: SideChoice,

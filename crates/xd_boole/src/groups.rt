@@ -158,7 +158,7 @@ fn with_side<S: Copy>(alloc: Global, sides: &[S], side: S) -> Result<Vec<S>, NoM
     Ok(made)
 }
 
-/// Puts the names of a group that a move matches behind the groups, with a copy of the group's
+/// Puts the names of a group that a move matches after the groups, with a copy of the group's
 /// sides and the move's.
 fn add_inside<C: Drop, S: Copy>(
     alloc: Global,

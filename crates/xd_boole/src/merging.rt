@@ -242,7 +242,7 @@ fn see_state(
     Ok(())
 }
 
-/// One look at all states, the newest first: those that others lead to mostly stand behind them.
+/// One look at all states, the newest first: those that others lead to mostly stand after them.
 fn see_states(alloc: Global, auto: &Auto, same: &mut Vec<State>) -> Result<(), NoMemory>
     requires { AreStandIns auto.now same.old.items }
     ensures { OnOk result (AreStandIns auto.now same.new.items) }

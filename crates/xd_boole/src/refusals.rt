@@ -44,7 +44,7 @@ struct Parted {
     depth: usize,
 }
 
-/// Puts the moves of these numbers behind others.
+/// Puts the moves of these numbers after others.
 fn add_moves(
     made: &mut Vec<LabelMove>,
     moves: &[LabelMove],
@@ -203,7 +203,7 @@ fn part_of(
     })
 }
 
-/// Puts the labels of a class behind the groups, with the choices by which an element is refused
+/// Puts the labels of a class after the groups, with the choices by which an element is refused
 /// that some choices are for and some moves.
 fn refuse(
     alloc: Global,

@@ -211,7 +211,7 @@ fn merged_from(alloc: Global, auto: &Auto, state: State) -> Result<(Auto, State)
     Ok((made, stand_in(&same, state)))
 }
 
-/// The part that a state leads to and the state in it, and behind it a state that accepts
+/// The part that a state leads to and the state in it, and after it a state that accepts
 /// everything.
 fn with_universal(alloc: Global, auto: &Auto, state: State) -> Result<(Auto, State), NoMemory>
     requires { IsState auto.now state }

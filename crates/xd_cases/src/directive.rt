@@ -47,7 +47,7 @@ pub enum Shown {
 /// What is different from one run to the next.
 #[derive(Clone, Copy)]
 pub enum Variation<'a> {
-    /// The text of this name is cut behind each of its bytes but the last.
+    /// The text of this name is cut after each of its bytes but the last.
     Prefix(&'a str),
     /// Each number of the text of this name is one up, then one down.
     Number(&'a str),
@@ -132,7 +132,7 @@ fn varied(line: &str, shown: Shown) -> Result<Directive<'_>, CaseError> {
     Ok(Directive::Vary(variation, shown, words))
 }
 
-/// A text's name, with the first line behind it where one is given.
+/// A text's name, with the first line after it where one is given.
 fn file(line: &str) -> Directive<'_> {
     match line.split_once(' ') {
         Some((name, line)) => Directive::File(name, Some(line)),

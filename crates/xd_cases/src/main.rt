@@ -1,5 +1,5 @@
 //! Runs the command `xduce` on worked cases, over the shelf and the sink in memory: reads the cases
-//! from the standard input, and writes them again with the status and the output behind each run.
+//! from the standard input, and writes them again with the status and the output after each run.
 #![tactic(auto)]
 
 mod case;
@@ -95,7 +95,7 @@ fn obey<'a>(
     }
 }
 
-/// Appends each line of the input, with an answer behind each run.
+/// Appends each line of the input, with an answer after each run.
 fn answer_lines<'a>(
     alloc: Global,
     input: &'a str,
@@ -109,7 +109,7 @@ fn answer_lines<'a>(
     Ok(())
 }
 
-/// The input with an answer behind each of its runs.
+/// The input with an answer after each of its runs.
 fn answered(alloc: Global, input: &str) -> Result<Vec<u8>> {
     let mut out = Vec::new(alloc);
     let mut case = Case::new(alloc);

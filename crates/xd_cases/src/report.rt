@@ -8,7 +8,7 @@ use std::io::Write;
 /// Of a longer output only so many bytes are written.
 const LONGEST: usize = 1000;
 
-/// Appends the lines of an output, each behind a `>`.
+/// Appends the lines of an output, each after a `>`.
 ///
 /// A line `.. N bytes` follows where it is cut to its first bytes, and `no line end` where it lacks
 /// one.
@@ -29,7 +29,7 @@ pub fn show_output(out: &mut Vec<u8>, output: &[u8]) -> Result<(), CaseError> {
     Ok(())
 }
 
-/// Appends the line of a run's status, and behind it its output.
+/// Appends the line of a run's status, and after it its output.
 pub fn show_run(out: &mut Vec<u8>, status: u8, output: &[u8]) -> Result<(), CaseError> {
     writeln!(out, "status {status}")?;
     show_output(out, output)
@@ -39,7 +39,7 @@ pub fn show_run(out: &mut Vec<u8>, status: u8, output: &[u8]) -> Result<(), Case
 /// x 1`.
 ///
 /// Where outputs are shown, runs in a row have to write the same too, and what they write stands
-/// behind the line.
+/// after the line.
 pub fn show_runs(out: &mut Vec<u8>, runs: &[Ended], shown: Shown) -> Result<(), CaseError> {
     let has_outputs = matches!(shown, Shown::Outputs);
     for row in runs.chunk_by(|one, next| {

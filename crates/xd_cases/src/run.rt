@@ -141,7 +141,7 @@ fn run_varied(
     Ok(Ended { status, output })
 }
 
-/// Runs the command once for each variation, and puts how the runs ended behind the others.
+/// Runs the command once for each variation, and puts how the runs ended after the others.
 fn add_runs(
     alloc: Global,
     case: &Case<'_>,

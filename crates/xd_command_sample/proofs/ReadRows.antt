@@ -48,7 +48,7 @@ read_row (suc f) d (Part part ∷ row) (l ∷ ls) =
     (λ made. and_then (read_row f d made (l ∷ ls)) (λ r. with_value (value_of part r.values) (read_row f r.level row r.to)))
 
 -- The row stands for the values, and its tokens are derived, where what is left is of more rows
--- behind it.
+-- after it.
 pub record IsRead (level : ℕ) (row : Row) (ls : List Lexeme) (r : Read) : Type 0 where
   pub means : Means row ls r.to r.values
   pub derives : (more : Row) → Derives Whole nesting_limit r.level more (terminals_of r.to) → Derives Whole nesting_limit level (row ++ more) (terminals_of ls)

@@ -12,7 +12,7 @@ use Rattle.xd_command_steps.specs.Merging.{IsMerged, no_more, a_fault, a_warning
 abbrev pub Carry : List Document → List Fault → Type 0
 Carry ds fs = AllByRecursion (λ f. CarriesFrom ds f.kind) fs
 
--- what is still to come, behind what is written
+-- what is still to come, after what is written
 abbrev pub Leaves : List Document → List Fault → List Warning → List ℕ → List Fault → List Warning → Type 0
 Leaves ds fs0 ws0 text fs ws = (t : List ℕ) → IsMerged ds fs ws t → IsMerged ds fs0 ws0 (text ++ t)
 

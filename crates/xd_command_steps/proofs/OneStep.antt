@@ -53,7 +53,7 @@ module _ (texts : Texts) (name : List ℕ) (limit : ℕ) where
   text_settled rose o h (inl (inr l, e)) = inl (inr l, e)
   text_settled rose o h (inr a) = inr a
 
-  -- what is behind the text, by the text
+  -- what is after the text, by the text
   module _ (A : Type 0) (E : List ℕ → Output → Type 0) (F : List ℕ → A → Type 0) where
     abbrev Ends : (rose : Type 0) → Output → Type 0
     Ends rose o = EndsAtText (Some texts) rose name limit o ⊎ ((x : List ℕ) × IsText (Some texts) name limit x × E x o)

@@ -4,7 +4,7 @@ use Rattle.xd_command_steps.specs.Output.{Output}
 use Rattle.xd_command_steps.specs.declared.output.Stop.{Stop}
 use Rattle.xd_command_steps.specs.declared.output.Stop.TheVariants as stops
 
--- what a call that does a step gives; want of memory tells nothing
+-- what a call that does a step gives; running out of memory tells nothing
 abbrev pub DoesStep : {A : Type 0} → Result A Stop → (ends : Output → Type 0) → (finds : A → Type 0) → Type 0
 DoesStep (Ok x) ends finds = finds x
 DoesStep (Err (stops.Refused o)) ends finds = ends o

@@ -18,11 +18,11 @@ is_placed_behind p (Some q) = is_earlier p q
 abbrev pub stands_behind : Fault → Warning → Bool
 stands_behind f w = is_placed_behind w.place f.place
 
--- the fault stands behind no first warning
+-- the fault stands after no first warning
 abbrev pub FaultIsNext : Fault → List Warning → Type 0
 FaultIsNext f ws = (w : Warning) (vs : List Warning) → ws ≡ w ∷ vs → stands_behind f w ≡ false
 
--- a first fault stands behind the warning
+-- a first fault stands after the warning
 abbrev pub WarningIsNext : Warning → List Fault → Type 0
 WarningIsNext w fs = (f : Fault) (gs : List Fault) → fs ≡ f ∷ gs → stands_behind f w ≡ true
 

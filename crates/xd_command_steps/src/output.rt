@@ -101,7 +101,7 @@ impl Output {
         Output::fixed(alloc, Status::NO, "no\n")
     }
 
-    /// That the program is accepted, behind these lines.
+    /// That the program is accepted, after these lines.
     ///
     /// Fails only where memory is refused.
     pub fn accepted(lines: Vec<u8>) -> Result<Output, NoMemory>

@@ -34,7 +34,7 @@ fn stands_behind(fault: &Fault, warning: &Warning) -> bool
     }
 }
 
-/// The line that comes next, where faults and warnings each stand in order: a warning stands behind
+/// The line that comes next, where faults and warnings each stand in order: a warning stands after
 /// the faults of its place.
 fn next_line<'a>(faults: &'a [Fault], warnings: &'a [Warning]) -> Option<NextLine<'a>>
     ensures { IsNextLine faults.now warnings.now result }

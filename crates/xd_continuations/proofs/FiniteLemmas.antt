@@ -61,7 +61,7 @@ pub record Keeps (E : Definitions) (m : ℕ) (Q : Tree → Type 0) (K : List Tre
   pub rest_kept : AllByRecursion Q v.rest
 
 module _ (E : Definitions) (m : ℕ) (Q : Tree → Type 0) (kept : KeptByParts E Q) (few : (T : Tree) → Q T → node_count T ≤ m) where
-  -- behind a continuation that is put behind
+  -- after a continuation that is put after
   followed_keeps : (P K : List Tree) → AllByRecursion Q P → (vs : List Move) → AllByRecursion (Keeps E m Q (P ++ K)) vs → AllByRecursion (Keeps E m Q K) (map (followed P) vs)
   followed_keeps P K p vs a =
       all_map (Keeps E m Q (P ++ K)) (Keeps E m Q K) (followed P) vs

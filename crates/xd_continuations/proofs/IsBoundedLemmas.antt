@@ -1,4 +1,4 @@
--- A type puts at most so many pieces before what stands behind it, where no use outside tail
+-- A type puts at most so many pieces before what stands after it, where no use outside tail
 -- position leads back.
 use Rattle.std.proofs.Common.{◌≡◌, ℕ, ◌+◌, ◌*◌, ◌-◌, ◌≤◌, max, arith, Bool, true, false, cond, List, [], ◌∷◌, ◌++◌, length, length-append, Some, refl, subst, inl}
 use Rattle.std.proofs.Math.Nat.{mul-le-mul_left}

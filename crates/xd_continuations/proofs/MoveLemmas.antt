@@ -117,7 +117,7 @@ followed_stands K k m i = record { content = i.content; rest = all_append IsPiec
 pub all_followed : (K : List Tree) → IsContinuation K → (ms : List Move) → AllByRecursion IsMove ms → AllByRecursion IsMove (map (followed K) ms)
 all_followed K k ms a = all_map IsMove IsMove (followed K) ms (followed_stands K k) a
 
--- what stands behind a head, as what stands behind a move
+-- what stands after a head, as what stands after a move
 head_of-followed : (K : List Tree) (U : Tree) → pieces U ≡ K → (m : Move) → IsMove m → with_behind U (head_of m) ≡ head_of (followed K m)
 head_of-followed K U e m i =
     let a = pieces-seq_of m.rest i.rest in

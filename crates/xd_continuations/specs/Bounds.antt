@@ -88,7 +88,7 @@ count_named P (p ∷ ps) = cond (P p.0) (count_named P ps + 1) (count_named P ps
 unfoldable pub rank : Definitions → List ℕ → ℕ
 rank E x = count_named (leads E x) E
 
--- how many pieces at most are put before what stands behind a type, where N says it of names
+-- how many pieces at most are put before what stands after a type, where N says it of names
 abbrev pub above_by : (List ℕ → ℕ) → Tree → ℕ
 above_by N Empty = 0
 above_by N Text = 0

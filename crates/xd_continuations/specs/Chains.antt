@@ -4,7 +4,7 @@ use Rattle.xd_syntax.specs.Ways.{Among}
 use Rattle.xd_continuations.specs.Bounds.{lists_within}
 use Rattle.xd_continuations.specs.declared.links.Link.{Link}
 
--- the lists of links, behind those of older ones
+-- the lists of links, after those of older ones
 abbrev pub lists_after : {A : Type 0} → List (List A) → List (Link A) → List (List A)
 lists_after Ks [] = Ks
 lists_after Ks (c ∷ cs) = lists_after (Ks ++ (c.item ∷ get_or Ks c.behind []) ∷ []) cs

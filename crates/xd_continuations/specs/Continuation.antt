@@ -1,4 +1,4 @@
--- Continuations of types: lists of pieces, of which each stands behind the one before it, and their
+-- Continuations of types: lists of pieces, of which each stands after the one before it, and their
 -- heads.
 use Rattle.std.specs.Prelude.{◌≡◌, ℕ, zero, suc, Bool, true, false, cond, List, [], ◌∷◌, ◌++◌, map, length, Option, Some, None}
 use Rattle.std.specs.List.{AllByRecursion}
@@ -13,7 +13,7 @@ pub record Move : Type 0 where
   pub content : List Tree
   pub rest : List Tree
 
--- the continuation behind the rest
+-- the continuation after the rest
 abbrev pub followed : List Tree → Move → Move
 followed K m = record m { rest = m.rest ++ K }
 

@@ -1,4 +1,4 @@
--- The moves of a continuation by a stack of tasks: in each a type, and the continuation behind it.
+-- The moves of a continuation by a stack of tasks: in each a type, and the continuation after it.
 use Rattle.std.specs.Prelude.{ℕ, ◌+◌, Bool, cond, List, [], ◌∷◌, ◌++◌, map, flat_map, length, Option, Some, None}
 use Rattle.xd_syntax.specs.Tree.{Tree, Empty, Text, Words, Name, Elem, Seq, Alt, Star, Plus, Opt, Val, Definitions, body}
 use Rattle.xd_meaning.specs.Heads.{pieces, all_texts}
@@ -10,7 +10,7 @@ pub record Task : Type 0 where
   pub behind : List Tree
 
 -- the pieces of a list, one after the other, as long as those before can be empty, with a
--- continuation behind them
+-- continuation after them
 abbrev pub in_front : (Tree → Bool) → List Tree → List Tree → List Task
 in_front Z [] K = []
 in_front Z (T ∷ Ts) K = record { part = T; behind = Ts ++ K } ∷ cond (Z T) (in_front Z Ts K) []

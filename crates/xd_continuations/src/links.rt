@@ -14,7 +14,7 @@ use std::hash::{Hash, Hasher};
 use std::marker::Model;
 use xd_doc::NoMemory;
 
-/// An item, and the number of the list behind it.
+/// An item, and the number of the list after it.
 #[derive(Clone, Copy, Debug, PartialEq, Eq)]
 pub struct Link<T> {
     pub item: T,
@@ -102,7 +102,7 @@ impl<T: Internable> Interned<T> {
         Ok(at + 1)
     }
 
-    /// The first item of a list, and the list behind it.
+    /// The first item of a list, and the list after it.
     pub fn link(&self, number: usize) -> Link<T>
         requires some { 0 < number }
         requires within { number ≤ length self.now }

@@ -78,7 +78,7 @@ module _ {N : Type 0} {R : N → N → Ordering} (o : IsTotalOrder R) where
   rest_sorted [] true s = tt
   rest_sorted (n ∷ ns) true s = s.1
 
-  -- behind the name that is ahead stand those above it
+  -- after the name that is ahead stand those above it
   rest_above : (name : N) (ns : List N) (p : Bool) → IsStrictlySortedBy R ns → IsAhead R name ns p → AllAbove R name (cond p (drop 1 ns) ns)
   unfolding IsStrictlySortedBy
   rest_above name ns false s h = h
@@ -159,7 +159,7 @@ module _ {N : Type 0} {R : N → N → Ordering} (o : IsTotalOrder R) where
     unfolding IsStrictlySortedBy
     merged_none P ex ex2 = record { words = tt; sorted = tt; above = λ name h k. tt; named = λ x. sym (keeps_none ex ex2) }
 
-    -- a name was put behind those that are kept, or not
+    -- a name was put after those that are kept, or not
     pub kept_append : (k : Bool) (kept now more : List N) (name : N) → now ≡ cond k (kept ++ name ∷ []) kept → now ++ more ≡ kept ++ cond k (name ∷ more) more
     kept_append true kept now more name e = ap (λ ns. ns ++ more) e ∙ append_assoc kept (name ∷ []) more
     kept_append false kept now more name e = ap (λ ns. ns ++ more) e

@@ -37,7 +37,7 @@ is_proper_item (Elem l) = is_word l
 abbrev pub node_document : List Document → Node → Document
 node_document ds n = item_before n.item (document_at ds n.content) (document_at ds n.next)
 
--- the nodes' documents, behind those of older nodes
+-- the nodes' documents, after those of older nodes
 abbrev pub documents_after : List Document → List Node → List Document
 documents_after ds [] = ds
 documents_after ds (n ∷ ns) = documents_after (ds ++ node_document ds n ∷ []) ns
@@ -108,7 +108,7 @@ abbrev pub IsMet : (ℕ → Type 0) → List ℕ → Option ℕ → Type 0
 IsMet settled places None = Unit {0}
 IsMet settled places (Some i) = Contains places i ⊎ settled i
 
--- each is the place of a node whose links stand behind it or are settled
+-- each is the place of a node whose links stand after it or are settled
 abbrev pub AreClosed : List Node → (ℕ → Type 0) → List ℕ → Type 0
 AreClosed ns settled [] = Unit {0}
 AreClosed ns settled (i ∷ is) = (i < length ns) × ((n : Node) → n ≡ slice_index_or ns i n → IsMet settled is n.content.node × IsMet settled is n.next.node) × AreClosed ns settled is

@@ -165,7 +165,7 @@ fn is_kept(except: bool, other_except: bool, in_one: bool, in_two: bool) -> bool
     in_both != (except && other_except)
 }
 
-/// The names behind the first, or all of them where that isn't taken.
+/// The names after the first, or all of them where that isn't taken.
 fn rest<N>(names: &[N], taken: bool) -> &[N]
     requires { taken ≡ true → 0 < length names.now }
     ensures { result.now ≡ cond taken (drop 1 names.now) names.now }

@@ -267,7 +267,7 @@ impl Item {
 }
 
 impl Store {
-    /// The first document, and behind it the second, whose nodes it shares. It makes at most as
+    /// The first document, and after it the second, whose nodes it shares. It makes at most as
     /// many nodes as the first one has items of its own. After `NoMemory` all documents of the
     /// store are as they were.
     pub fn append(&mut self, front: Seq, back: Seq) -> Result<Seq, NoMemory>

@@ -32,7 +32,7 @@ pub record AreInhabitants (a : Automaton) (ds : List Document) (fs : List (Optio
   pub witnesses : AreWitnesses a ds fs
   pub none : (s : State) → IsUnknown fs s → (d : Document) → accepts a d s ≡ false
 
--- Of what follows only private contracts speak. New states are those from the number `first` on.
+-- New states are those from the number `first` on.
 
 -- for one of the states none was found
 abbrev pub LacksOne : List (Option Seq) → List State → Type 0

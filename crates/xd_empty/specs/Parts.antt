@@ -27,8 +27,6 @@ pub record IsInhabitedPart (a : Automaton) (start : State) : Type 0 where
   pub reached : (s : State) → IsState a s → IsReached a start s
   pub inhabited : (s : State) → IsState a s → s ≢ start → HasDocument a s
 
--- Of what follows only private contracts speak.
-
 -- the move leads to marked states
 abbrev pub leads_on : List Bool → LabelMove → Bool
 leads_on marks m = is_marked marks m.content && is_marked marks m.rest

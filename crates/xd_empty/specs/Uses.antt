@@ -1,4 +1,4 @@
--- The moves that lead to each state. Of these only private contracts speak.
+-- The moves that lead to each state.
 use Rattle.std.specs.Prelude.{◌≡◌, ℕ, ◌<◌, ◌≤◌, ◌⊎◌, List, [], ◌∷◌, ◌++◌, length, map, replicate, slice_get, slice_index_or, Option, Some, None, Vec, Contains}
 use Rattle.xd_auto.specs.declared.auto.State.{State}
 use Rattle.xd_auto.specs.declared.auto.LabelMove.{LabelMove}
@@ -35,7 +35,7 @@ parts_of a (Text s n) = text_parts (slice_get (moves_at a s).texts n)
 abbrev pub IsNewUse : Automaton → ℕ → Use → Type 0
 IsNewUse a first u = IsUse a u × (first ≤ state_number (user u))
 
--- the lists of the states from this number on, behind empty ones for the states before
+-- the lists of the states from this number on, after empty ones for the states before
 abbrev pub lists_from : {A : Type 0} → ℕ → List (Vec Use A) → List (List Use)
 lists_from first uses = replicate first [] ++ map (λ list. list.items) uses
 

@@ -23,7 +23,7 @@ MatchAlike None (Some ws) = ⊥
 abbrev pub MatchersAgree : Matcher → Matcher → Type 0
 MatchersAgree M N = (T : Tree) (d : Document) → MatchAlike (M T d) (N T d)
 
--- what is found in front, and else behind
+-- what is found in front, and else after
 abbrev or_behind : Option Document → Option Document → Option Document
 or_behind (Some d) o = Some d
 or_behind None o = o

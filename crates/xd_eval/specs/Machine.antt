@@ -78,7 +78,7 @@ PartsAreRunnable p _ = Unit {0}
 abbrev pub clauses_in : ProgramTable → List (ℕ × ℕ) → Clauses
 clauses_in p cs = clauses_of (placed_at p.patterns) (expression_in p) cs
 
--- a sequence or a call waits for the value of the part behind those that have one
+-- a sequence or a call waits for the value of the part after those that have one
 abbrev pub after : ProgramTable → Parts → List Expression
 after p parts = map (expression_in p) (drop (length parts.values.items + 1) (parts_of (shape_at p.exprs parts.expr.at)))
 
@@ -127,7 +127,7 @@ pub record HasOneMore (old new : Parts) (seq : Seq) : Type 0 where
 abbrev pub HasNoneLeft : ProgramTable → Parts → Type 0
 HasNoneLeft p parts = length (part_numbers p parts) ≤ length parts.values.items + 1
 
--- the part behind the one that is waited for, and the variables for it
+-- the part after the one that is waited for, and the variables for it
 pub record IsNextPart (p : ProgramTable) (parts : Parts) (next : ExprId) (scope : Scope) : Type 0 where
   pub waits : length parts.values.items + 1 < length (part_numbers p parts)
   pub part : next.at ≡ slice_index_or (part_numbers p parts) (length parts.values.items + 1) next.at

@@ -1,4 +1,4 @@
--- What is left to do behind the value of an expression.
+-- What is left to do after the value of an expression.
 use Rattle.std.specs.Prelude.{ℕ, ◌+◌, List, [], ◌∷◌, ◌++◌}
 use Rattle.xd_doc.specs.Document.{Document, empty, element, join}
 use Rattle.xd_syntax.specs.Expression.{Expression, Nothing, Quoted, Variable, Tagged, Joined, Called, Matched, Arguments, no_argument, argument, Clauses, no_clause, clause, arguments_of}

@@ -32,7 +32,7 @@ pub enum Outcome {
 /// Calls `main` on a document, where so many calls are allowed, that of `main` included.
 ///
 /// Pending elements, sequences, calls and matches wait on a stack of the machine's own, so neither
-/// calls nor documents nest too deep for it. A call that nothing is left to do behind leaves no
+/// calls nor documents nest too deep for it. A call that nothing is left to do after leaves no
 /// frame. After `NoMemory` the store has more documents at most.
 pub fn evaluate_with<M: Matching>(
     alloc: Global,

@@ -239,7 +239,7 @@ fn choose<M: Matching>(
     Ok(Step::Stuck)
 }
 
-/// The bindings, and the outer ones behind them.
+/// The bindings, and the outer ones after them.
 fn inner_scope(alloc: Global, bindings: Vec<(Label, Seq)>, outer: &Scope) -> Result<Scope, NoMemory>
     ensures { IfOk result (λ scope. scope.bindings.value.items ≡ bindings.items ++ outer.now.bindings.value.items) }
 {

@@ -164,7 +164,7 @@ module _ (a : Automaton) (ds : List Document) (t : TableView) (goal : ℕ) (lt :
       })
       stands
 
--- a step behind repairs
+-- a step after repairs
 pub lowers-mended : (goal : ℕ) (s t : TableView) (rows : List GoalRow) → IsMending goal s t → Lowers t.rows rows → Lowers s.rows rows
 lowers-mended goal s t rows h l n le = omega (arith, h.level n, l n le)
 

@@ -211,7 +211,7 @@ fits_below (suc n) (suc m) p b d = omega (arith, fits_below n m moved moved_belo
         (moved_cases j))
         (moved_cases i)
 
--- a table has as many goals at most as there are possible claims behind the first ones
+-- a table has as many goals at most as there are possible claims after the first ones
 pub rows_bound : (n first : ℕ) (rows : List GoalRow) → RowsBelow n rows → ((i j : ℕ) → i < length rows → j < length rows → claim_of (row_at rows i) ≡ claim_of (row_at rows j) → i ≡ j) → AreMadeFrom first rows
     → first ≤ length rows → length rows ≤ first + length (possible n)
 rows_bound n first rows below unlike made le =

@@ -1,4 +1,4 @@
--- The cases of a goal as work on it sees them. Only private contracts speak of them.
+-- The cases of a goal as work on it sees them.
 use Rattle.std.specs.Prelude.{◌≡◌, ℕ, ◌≤◌, true, false, List, ◌++◌, length, map, Option, None, Some, slice_get}
 use Rattle.std.specs.List.{list_any}
 use Rattle.xd_doc.specs.Document.{Document, text, element}

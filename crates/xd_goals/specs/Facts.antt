@@ -47,8 +47,7 @@ pub record IsKept (g : Goals) : Type 0 where
   pub whole : IsWhole g
   pub lists : KeepsLists (view_of g)
 
--- Of what follows only private contracts speak: both together, as work on a goal needs and leaves
--- them.
+-- Both together, as work on a goal needs and leaves them.
 
 -- a choice of a goal, whose tree's leaves name goals with the case among their dependents
 pub record ChoiceStands (a : Automaton) (t : TableView) (owner : GoalCase) (c : Claim State) (k : Choice) : Type 0 where

@@ -1,4 +1,4 @@
--- What a table keeps about itself, and how it grows. Of what follows only private contracts speak.
+-- What a table keeps about itself, and how it grows.
 use Rattle.std.specs.Prelude.{◌≡◌, ℕ, ◌<◌, ◌≤◌, ◌⊎◌, Bool, true, false, List, [], length, Option, Some, slice_get, slice_set}
 use Rattle.std.specs.Ordering.{nat_cmp}
 use Rattle.std.specs.Cmp.Lexicographic.{slice_cmp}

@@ -1,4 +1,4 @@
--- A number that each step of work lowers. Only private contracts speak of it.
+-- A number that each step of work lowers.
 use Rattle.std.specs.Prelude.{ℕ, zero, suc, ◌+◌, ◌<◌, ◌≤◌, List, [], ◌∷◌, ◌++◌, map, length, Option, Some, None, slice_get}
 use Rattle.std.specs.List.{flat_map}
 use Rattle.xd_auto.specs.declared.auto.State.{State}

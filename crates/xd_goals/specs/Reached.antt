@@ -64,7 +64,7 @@ unmarked [] = 0
 unmarked (true ∷ ms) = unmarked ms
 unmarked (false ∷ ms) = suc (unmarked ms)
 
--- more goals are marked, and stand in the order behind those that stood there
+-- more goals are marked, and stand in the order after those that stood there
 pub record ReachesMore (marks : List Bool) (order : List ℕ) (marks2 : List Bool) (order2 : List ℕ) : Type 0 where
   pub sized : length marks2 ≡ length marks
   pub kept : (g : ℕ) → is_marked marks g ≡ true → is_marked marks2 g ≡ true

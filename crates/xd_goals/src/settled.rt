@@ -93,7 +93,7 @@ struct Walked {
     waiting: Vec<GoalId>,
 }
 
-/// Walks from a goal through leaves, and goes on behind goals that hold and aren't settled yet.
+/// Walks from a goal through leaves, and goes on after goals that hold and aren't settled yet.
 fn walk(alloc: Global, goals: &Goals, start: GoalId) -> Result<Walked, NoMemory>
     requires start { start.number < length goals.now.rows.items }
     requires open_start { ¬ (IsRefuted goals.now.rows.items start.number) }
@@ -145,7 +145,7 @@ fn is_settled(rows: &[Row], goal: GoalId) -> bool
 
 /// The goals that wait among those that a goal leads to through leaves, as far as they are known.
 /// Where none does, the goal and those that it leads to are settled from now on, and no later walk
-/// goes on behind them.
+/// goes on after them.
 pub(crate) fn unsettled(
     alloc: Global,
     goals: &mut Goals,

@@ -220,7 +220,7 @@ impl Table {
         row.dependents
     }
 
-    /// Where the list goes on behind a link; `None` exactly at its end.
+    /// Where the list goes on after a link; `None` exactly at its end.
     pub fn next_dependent(&self, link: usize) -> Option<usize>
         requires { link < length self.now.links }
         ensures value { IfSome (slice_get self.now.links link) (λ found. found.next ≡ result) }

@@ -103,7 +103,7 @@ abbrev pub none_may : List Row → Terminal → Bool
 none_may [] k = true
 none_may (r ∷ rs) k = cond (may 8 r k) false (none_may rs k)
 
--- the rules behind the first that fits can't begin with the token
+-- the rules after the first that fits can't begin with the token
 abbrev pub decided : List Row → Terminal → Bool
 decided [] k = true
 decided (r ∷ rs) k = cond (fits r k) (none_may rs k) (decided rs k)

@@ -16,7 +16,7 @@ abbrev is_nil : Row → Bool
 is_nil [] = true
 is_nil (x ∷ row) = false
 
--- where `End` stands, nothing stands behind it; and `Broken` stands nowhere
+-- where `End` stands, nothing stands after it; and `Broken` stands nowhere
 abbrev seal_token : Terminal → Bool → Bool → Bool
 seal_token t.End nil rest = nil
 seal_token t.Broken nil rest = false

@@ -1,7 +1,7 @@
 -- The rules of longest match leave which tokens begin a symbol as it is.
 --
 -- One direction drops conditions. For the other a derivation that minds no next token is followed
--- token by token. A row that forbids a token may be taken where nothing behind it begins with that
+-- token by token. A row that forbids a token may be taken where nothing after it begins with that
 -- token, which a test of the grammar tells (`is_right`). Only items and clauses of a match in
 -- another's body are left: where the inner repetition was left out before a comma or a bar and an
 -- outer one takes it, the inner one can take it too, since all that stands between them can be left
@@ -46,7 +46,7 @@ loose_view (closes {row = row} l) k ts q = subst (Loose row) q l
 loose_view (passes {row = row} l) k ts q = subst (Loose row) q l
 loose_view (becomes made {row = row} one l) k ts q = (made, one, subst (Loose (made ++ row)) q l)
 
--- what stands behind a front may be another row
+-- what stands after a front may be another row
 
 instead : (x y : Row) → ((ts : List Terminal) → Loose x ts → Loose y ts) → {row : Row} {ts : List Terminal} → Loose row ts → (front : Row) → row ≡ front ++ x → Loose (front ++ y) ts
 instead x y f {ts = ts} l [] e = f ts (subst (λ (z : Row). Loose z ts) e l)
@@ -68,7 +68,7 @@ abbrev has : Terminal → List Terminal → Bool
 has j [] = false
 has j (k ∷ ks) = cond (same j k) true (has j ks)
 
--- The tokens that do not come directly behind a symbol: by each a text of the symbol goes on, or
+-- The tokens that do not come directly after a symbol: by each a text of the symbol goes on, or
 -- could not end.
 abbrev behind_post : List Terminal
 behind_post = t.As ∷ t.Star ∷ t.Plus ∷ t.Query ∷ t.BracketL ∷ []
@@ -100,7 +100,7 @@ Avoids j row = (ts : List Terminal) → Loose row (j ∷ ts) → ⊥
 abbrev Guarded : List Terminal → Row → Type 0
 Guarded ks row = (j : Terminal) → has j ks ≡ true → Avoids j row
 
--- whether a row with guarded tokens behind it avoids this one
+-- whether a row with guarded tokens after it avoids this one
 abbrev avoids : ℕ → List Terminal → Terminal → Row → Bool
 avoids zero ks j row = false
 avoids (suc f) ks j [] = has j ks
@@ -230,7 +230,7 @@ absorbs_row ks b (Unless k ∷ row) behind h g a = absorbs_avoided ks (Unless k 
 absorbs_row ks b (Part part ∷ row) behind h g a =
     by_test (is_more part) (absorbs ks b row) (avoid_all ks (t.Comma ∷ t.Bar ∷ []) (Part part ∷ row)) (λ is m. absorbs_more_both part is (row ++ behind) (absorbs_row ks b row behind m g a)) (λ m. absorbs_avoided ks (Part part ∷ row) behind m g) h
 
--- ---- a row whose symbols each stand before what may come behind them
+-- ---- a row whose symbols each stand before what may come after them
 abbrev Fine : Row → Type 0
 Fine [] = Unit {0}
 Fine (Token k ∷ row) = Fine row
@@ -296,7 +296,8 @@ kind (n.Post sorts.Type) = settled refl
 kind (n.Post sorts.Pattern) = settled refl
 kind part = settled refl
 
--- ---- levels of nesting: a row closes no level that is not open, unless nothing comes behind; an inner one begins in an open level
+-- ---- levels of nesting: a row closes no level that is not open, unless nothing comes after; an
+-- inner one begins in an open level
 data Turn : Type 0 where
   Up : Turn
   Down : Turn
@@ -385,7 +386,7 @@ walks_turned Down last test none deep d a f m h = walks_lower last test none dee
 walks_turned Inner last test none deep d a f m h = walks_lower false test ⊥ deep d (λ e. absurd (false≢true e)) f m h
 walks_turned Level last test none deep d a f m h = f m h
 
--- what is known of the row behind
+-- what is known of the row after
 record Ground (test : ℕ → Bool) (sinks : Bool) (behind : Row) (d : ℕ) : Type 0 where
   above : (m : ℕ) → test m ≡ true → Deep behind (raised m d)
   below : sinks ≡ true → (d ≡ 0) × Bare behind

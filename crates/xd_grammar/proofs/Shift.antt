@@ -103,7 +103,7 @@ part_turns d r part k made single is = record {
 
 -- ---- and the work falls
 
--- how much work a row is, and whether what stands behind it counts too
+-- how much work a row is, and whether what stands after it counts too
 abbrev weight : Row → ℕ
 weight [] = 0
 weight (Token j ∷ row) = 1

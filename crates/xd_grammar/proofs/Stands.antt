@@ -16,7 +16,7 @@ use Rattle.xd_grammar.specs.Machine.{Reads, Passes, Stops, Sinks}
 use Rattle.xd_grammar.specs.Text.{IsFaultAt, IsPlaceAt, terminals_of, terminal_at}
 use Rattle.xd_syntax.specs.Shallow.{nesting_limit}
 
--- behind these tokens the text of the nonterminal goes on as the machine's state says
+-- after these tokens the text of the nonterminal goes on as the machine's state says
 pub record Stands (part : Nonterminal) (read : List Terminal) (reading : Reading) (depth : ℕ) (row : Row) : Type 0 where
   pub on : (e : Extent) (l : ℕ) (us : List Terminal) → nesting_limit ≤ l → Derives e l 0 (Part part ∷ []) (read ++ us) → Reads reading e l depth row us
   pub back : (e : Extent) (l : ℕ) (us : List Terminal) → nesting_limit ≤ l → Reads reading e l depth row us → Derives e l 0 (Part part ∷ []) (read ++ us)
@@ -57,7 +57,7 @@ wider (closed d) m le = closed (wider d m le)
 wider (unless ne d) m le = unless ne (wider d m le)
 wider (by made one d) m le = by made one (wider d m le)
 
--- ---- the token k behind those that were read
+-- ---- the token k after those that were read
 up_to_read : (ts read more : List Terminal) (k : Terminal) → ts ≡ read ++ k ∷ more → take (length read) ts ≡ read
 up_to_read ts read more k is = ap (take (length read)) is ∙ take-append_seam read (k ∷ more)
 
@@ -82,7 +82,7 @@ sinks part ts read more k reading depth row is s p = record {
 }
 
 -- ---- the tokens of a lexer
--- the machine stands behind the first of all tokens, and these are left
+-- the machine stands after the first of all tokens, and these are left
 pub record ReadsTo (part : Nonterminal) (all left : List Lexeme) (reading : Reading) (depth : ℕ) (row : Row) : Type 0 where
   pub read : List Lexeme
   pub parts : all ≡ read ++ left
@@ -108,7 +108,7 @@ token_at : (read left : List Lexeme) (l : Lexeme) → IsPlaceAt (read ++ l ∷ l
 token_at [] left l = record { lexeme = l; stands = refl; at = refl }
 token_at (x ∷ read) left l = let more = token_at read left l in record { lexeme = more.lexeme; stands = more.stands; at = more.at }
 
--- the fault at the token behind those that were read
+-- the fault at the token after those that were read
 fault_there : (part : Nonterminal) (all read left : List Lexeme) (l : Lexeme) (refusal : Refusal) → all ≡ read ++ l ∷ left → IsFirstFault part (terminals_of all) (length (terminals_of read)) refusal → IsFaultAt part all refusal l.place
 fault_there part all read left l refusal is f = record { index = length (terminals_of read); first = f; placed = subst (λ (ls : List Lexeme). IsPlaceAt ls (length (terminals_of read)) l.place) (sym is) (token_at read left l) }
 

@@ -1,4 +1,4 @@
--- A row that lets a token come next: the tests at its front are passed, and a token behind them is
+-- A row that lets a token come next: the tests at its front are passed, and a token after them is
 -- this one.
 use Rattle.std.proofs.Common.{◌≡◌, ◌<◌, ◌≤◌, ℕ, ◌++◌, Bool, true, false, cond, List, [], ◌∷◌, Option, Some, None, refl, subst, arith}
 use Rattle.xd_grammar.specs.declared.grammar.Nonterminal.{Nonterminal}

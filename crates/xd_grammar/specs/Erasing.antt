@@ -25,7 +25,7 @@ pub data Starts : Row → List Terminal → Type 0 where
   choice : {part : Nonterminal} (made : Row) {row : Row} {ts : List Terminal} → IsOneOf made (productions part) → Starts (made ++ row) ts → Starts (Part part ∷ row) ts
 
 -- the levels that are open where a symbol begins: that of its parenthesis, for the rest of a list
--- behind `^(`
+-- after `^(`
 abbrev pub opened : Nonterminal → ℕ
 opened (n.ExceptedList s) = 1
 opened part = 0

@@ -76,7 +76,7 @@ entered depth reading (Next next) new = (next ≡ reading) × (depth < nesting_l
 entered depth reading TooDeep new = nesting_limit ≤ depth
 entered depth reading Syntax new = ⊥
 
--- whatever comes behind the token k, one is spelled exactly where the other is
+-- whatever comes after the token k, one is spelled exactly where the other is
 pub record Turns (depth : ℕ) (row : Row) (k : Terminal) (new : ℕ) (rest : Row) : Type 0 where
   pub on : (extent : Extent) (limit : ℕ) (ts : List Terminal) → nesting_limit ≤ limit → Derives extent limit depth row (k ∷ ts) → Derives extent limit new rest (k ∷ ts)
   pub back : (extent : Extent) (limit : ℕ) (ts : List Terminal) → nesting_limit ≤ limit → Derives extent limit new rest (k ∷ ts) → Derives extent limit depth row (k ∷ ts)

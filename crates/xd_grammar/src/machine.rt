@@ -17,20 +17,20 @@ use crate::grammar::{Nonterminal, Sort, Symbol, Terminal, rules};
 use xd_doc::NoMemory;
 use xd_syntax::NESTING_LIMIT;
 
-/// How the tokens behind the last `(` may still be read.
+/// How the tokens after the last `(` may still be read.
 #[derive(Clone, Copy)]
 pub enum Reading {
     /// In one way: the stack says all.
     Plain,
-    /// As labels or as what is in parentheses, directly behind the `(`.
+    /// As labels or as what is in parentheses, directly after the `(`.
     Opened(Sort),
-    /// Behind one of the words.
+    /// After one of the words.
     Named(Sort),
-    /// Behind a `|`.
+    /// After a `|`.
     Barred(Sort),
-    /// Behind the word `val`.
+    /// After the word `val`.
     AfterVal,
-    /// Behind the `)`.
+    /// After the `)`.
     Shut(Sort),
 }
 
@@ -334,7 +334,7 @@ fn push_main(stack: &mut Vec<Symbol>, reading: Reading) -> Result<(), NoMemory>
     }
 }
 
-/// Puts on the stack what is to come behind one of the words of a class.
+/// Puts on the stack what is to come after one of the words of a class.
 fn push_more_names(stack: &mut Vec<Symbol>, sort: Sort) -> Result<(), NoMemory>
     ensures { OnOk result (reverse stack.new.items ≡ listed_row (readings.Named sort) ++ reverse stack.old.items) }
 {
@@ -383,7 +383,7 @@ pub struct Machine {
 }
 
 /// What the next token does. The reading of the `Step` is not put in its place yet. After `Syntax`,
-/// `TooDeep` and want of memory the machine has no use.
+/// `TooDeep` and `NoMemory` the machine has no use.
 pub fn advance(machine: &mut Machine, kind: Terminal) -> Result<Step, NoMemory>
     ensures { IfOk result (λ step. Advances machine.old.reading machine.old.depth (reverse machine.old.stack.items) kind step machine.new.depth (reverse machine.new.stack.items)) }
 {

@@ -42,7 +42,7 @@ use Rattle.xd_heads.proofs.KeepsStatesLemmas.{bodies_stand, are_merged}
 
 -- ---- one head
 
--- what stands behind a move is no part of its kind and its content
+-- what stands after a move is no part of its kind and its content
 pub record StandsBefore (T : Tree) (K : List Tree) : Type 0 where
   pub kind : (move_of T K).kind ≡ (move_of T []).kind
   pub content : (move_of T K).content ≡ (move_of T []).content

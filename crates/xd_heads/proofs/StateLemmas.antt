@@ -300,7 +300,7 @@ number_front [] more i k e = cc
 number_front (o ∷ os) more zero k e = e
 number_front (o ∷ os) more (suc i) k e = number_front os more i k e
 
--- a number behind one more state is an old one's, or its own
+-- a number after one more state is an old one's, or its own
 pub number_pushed : (states : List ℕ) (o : ℕ) (i k : ℕ) → number_at (states ++ o ∷ []) i ≡ Some k → (number_at states i ≡ Some k) ⊎ ((i ≡ length states) × (o ≡ k))
 number_pushed [] o zero k e = inr (refl, cc)
 number_pushed [] o (suc i) k e = cc

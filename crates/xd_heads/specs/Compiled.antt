@@ -42,12 +42,12 @@ IsOfState types K = IsContinuation K × (IsShallow types → depth (seq_of K) �
 abbrev pub state_at : Automaton → ℕ → StateMoves
 state_at a n = get_or a n (no_moves false)
 
--- states come behind the others, and those below the first stay as they were
+-- states come after the others, and those below the first stay as they were
 pub record Spares (first : ℕ) (old new : Automaton) : Type 0 where
   pub longer : length old ≤ length new
   pub stay : (n : ℕ) → n < first → state_at new n ≡ state_at old n
 
--- states come behind the others, and none stays otherwise but this one
+-- states come after the others, and none stays otherwise but this one
 pub record SparesOthers (from : State) (old new : Automaton) : Type 0 where
   pub longer : length old ≤ length new
   pub stay : (n : ℕ) → n < length old → (n ≡ state_number from → ⊥) → state_at new n ≡ state_at old n
@@ -64,7 +64,7 @@ pub record AreCompiled (types : List Row) (ds : List TypeDef) (cells : List Cell
   pub current : AreMirrored (continuations_of types cells states) known (state_at auto done).labels (state_at auto done).texts
   pub fresh : (n : ℕ) → done < n → ((state_at auto n).labels ≡ []) × ((state_at auto n).texts ≡ [])
 
--- these moves are added to a state, behind those that it has; states that they lead to are made
+-- these moves are added to a state, after those that it has; states that they lead to are made
 pub record AddsMoves (types : List Row) (ds : List TypeDef) (old_cells new_cells : List Cell) (old new : List ℕ) (old_auto new_auto : Automaton) (from : State) (ms : List Move) : Type 0 where
   pub cells_added : AddsCells types old_cells new_cells
   pub states_added : AddsStates old_cells new_cells old new

@@ -18,7 +18,7 @@ EachOnce (k ∷ ks) = (Among k ks → ⊥) × EachOnce ks
 abbrev pub number_at : List ℕ → ℕ → Option ℕ
 number_at states i = slice_get states i
 
--- the number is there, behind the others if it was not there
+-- the number is there, after the others if it was not there
 abbrev pub AddsNumber : List ℕ → ℕ → List ℕ → Type 0
 AddsNumber old k new = (Among k old × (new ≡ old)) ⊎ ((Among k old → ⊥) × (new ≡ old ++ k ∷ []))
 
@@ -26,7 +26,7 @@ AddsNumber old k new = (Among k old × (new ≡ old)) ⊎ ((Among k old → ⊥)
 abbrev pub IsOfCell : ℕ → ℕ → Type 0
 IsOfCell n k = k ≤ n
 
--- states are added behind the others
+-- states are added after the others
 pub record AddsStates (old_cells new_cells : List Cell) (old new : List ℕ) : Type 0 where
   pub more : List ℕ
   pub grown : new ≡ old ++ more

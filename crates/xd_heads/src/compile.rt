@@ -76,7 +76,7 @@ fn state_of(
     Ok(state)
 }
 
-/// A move on an element: its class, its content, and the number of the continuation behind it.
+/// A move on an element: its class, its content, and the number of the continuation after it.
 fn add_label(
     types: &Types,
     defs: &[TypeDef],
@@ -115,7 +115,7 @@ pub(crate) fn every_text(alloc: Global) -> Result<Words, NoMemory>
     Ok(all)
 }
 
-/// A move on a text: its class, and the number of the continuation behind it.
+/// A move on a text: its class, and the number of the continuation after it.
 fn add_text(
     types: &Types,
     defs: &[TypeDef],

@@ -36,7 +36,7 @@ pub struct NumberedHead {
 ///
 /// A number is that of a continuation, a list of pieces that is kept once, as a piece and an older
 /// continuation. So the rests of a long sequence cost no more than the sequence, and no type is
-/// added to the program for them. After want of memory a lister has no use.
+/// added to the program for them. After `NoMemory` a lister has no use.
 #[derive(Drop)]
 pub struct HeadLister {
     alloc: Global,

@@ -110,7 +110,7 @@ pub fn compile_type(
     ensures accepts { IfOk result (λ state. (d : Document) → (accepts auto.new d state ≡ true) ↔ Fits (names_of (program_tree sound.old)) (tree sound.old.types id) d) }
     ensures continuation { IfOk result (λ state. continuation_of sound.new.types cells.new state ≡ Some (tree sound.old.types id)) }
 
-    // after want of memory too
+    // after `NoMemory` too
     ensures keeps { KeepsAccepting auto.old auto.new }
     ensures extends { Extends auto.old auto.new }
 

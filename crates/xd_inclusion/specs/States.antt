@@ -1,4 +1,4 @@
--- The states of types that are compared; private contracts alone speak of them.
+-- The states of types that are compared.
 use Rattle.std.specs.Prelude.{◌≡◌, ◌↔◌, true, Some}
 use Rattle.xd_auto.specs.Automaton.{Automaton, IsState, accepts}
 use Rattle.xd_auto.specs.declared.auto.State.{State}

@@ -35,7 +35,7 @@ pub enum Inclusion {
 ///
 /// Both types use names alone that the program defines, and stand in it, as after
 /// `SoundProgram::find_type` or `SoundProgram::adopt`. What separates them is put into the store.
-/// Inclusion of types may take time and memory exponential in them. After want of memory the
+/// Inclusion of types may take time and memory exponential in them. After `NoMemory` the
 /// program may have more types, and the store more documents; all old ones stay.
 pub fn compare_types(
     alloc: Global,
@@ -51,7 +51,7 @@ pub fn compare_types(
     requires right_names { UsesDefined (program_tree sound.old) (types.tree sound.old.types right) }
     ensures inclusion { IfOk result (IsInclusion (program_tree sound.old) (types.tree sound.old.types left) (types.tree sound.old.types right) store.new) }
 
-    // after want of memory too
+    // after `NoMemory` too
     ensures keeps { Keeps store.old store.new }
     ensures adds { AddsTypes sound.old sound.new }
     ensures same { program_tree sound.new ≡ program_tree sound.old }

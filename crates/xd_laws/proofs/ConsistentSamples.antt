@@ -32,7 +32,7 @@ text_case n t = record { head = n; atom = other_text; choice = t }
 abbrev goal_at : ℕ → Tree → List Tree → List Case → Lined
 goal_at n T Us cs = record { line = n; goal = record { left = T; rights = Us; empty_right = None; cases = cs } }
 
--- `()` is within `()`; the line on being empty is the third behind the goal's first
+-- `()` is within `()`; the line on being empty is the third after the goal's first
 abbrev empty_goal : ℕ → Lined
 empty_goal n = record { line = n; goal = record { left = Empty; rights = Empty ∷ []; empty_right = Some 1; cases = [] } }
 

@@ -18,7 +18,7 @@ name_step : (E : Definitions) (x : List ℕ) (T : Tree) (d : Document) → body 
 name_step E x T d q zero l f = absurd (omega arith)
 name_step E x T d q (suc k) l f = subst (λ o. fits_definition (fits_by (fits_name_within E k)) o d) (sym q) (f k refl)
 
--- what stands behind a part: the names on the way stay where the part is empty, else there is room
+-- what stands after a part: the names on the way stay where the part is empty, else there is room
 -- for all
 next_part : {X : Type 0} (L n v : ℕ) → v ≤ L → (a b d : Document) → join a b ≡ d → size d * L + L ≤ n + v →
     (a ≡ empty → size b * L + L ≤ n + v → X) → (size b * L + L ≤ n + 0 → X) → X

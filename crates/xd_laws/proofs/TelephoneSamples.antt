@@ -80,7 +80,7 @@ person s u r = element name (text s empty) (element addr (text u empty) r)
 abbrev with_number : List ℕ → Document → Document
 with_number v r = element tel (text v empty) r
 
--- a person, and behind it persons, or a telephone number and persons
+-- a person, and after it persons, or a telephone number and persons
 abbrev IsPerson : Document → Type 0
 IsPerson d =
     (s : List ℕ) × (u : List ℕ) × (r : Document) × (d ≡ person s u r)
@@ -300,7 +300,7 @@ t_of_three a b q d (inr (inl e)) = same_document t b d e
 t_of_three a b q d (inr (inr (inl e))) = absurd (other_word rest t q d (λ f. t_not_rest (sym f)) e)
 t_of_three a b q d (inr (inr (inr h))) = absurd h
 
--- What is behind a person that is one of persons.
+-- What is after a person that is one of persons.
 
 behind_number : (d : Document) → Fits names persons d → (s u v : List ℕ) (q : Document) → d ≡ person s u (with_number v q) → Fits names persons q
 behind_number d f s u v q e =
@@ -423,7 +423,7 @@ first_two_lines cs tail ls h = (
   refl,
 )
 
--- what comes behind them is empty
+-- what comes after them is empty
 only_empty_comes : (d : Document) → Arrives names Persons first_two d → d ≡ empty
 only_empty_comes d c =
     elim (persons_shape d c.1)

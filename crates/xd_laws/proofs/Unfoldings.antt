@@ -107,7 +107,7 @@ module _ (E : Definitions) (n : ℕ) (N M : List ℕ → Document → List Way)
     (good : (x : List ℕ) (d : Document) (w : Way) → Among w (N x d) → Good E (Name x) d w)
     (same : (V : List (List ℕ)) (x : List ℕ) → (Defined E x → Trail E (x ∷ V)) → length V ≤ length E → (d : Document) →
     size d * length E + length E ≤ n + length V → N x d ≡ M x d) where
-  -- what stands behind T, on the rest of a way of T
+  -- what stands after T, on the rest of a way of T
   next_same : (T U : Tree) (V : List (List ℕ)) → ((y : List ℕ) → Front E (Seq T U) y → Defined E y → Trail E (y ∷ V)) → length V ≤ length E → (d : Document) →
       size d * length E + length E ≤ n + length V →
       ((V' : List (List ℕ)) → ((y : List ℕ) → Front E U y → Defined E y → Trail E (y ∷ V')) → length V' ≤ length E → (d' : Document) →

@@ -33,7 +33,7 @@ impl Model for LeastInhabitants {
 }
 
 impl LeastInhabitants {
-    /// Nothing is known. It takes no memory.
+    /// Nothing is known.
     pub fn new(alloc: Global) -> Self
         ensures { (a : Automaton) (ds : List Document) → Knows a ds result }
     {
@@ -42,10 +42,8 @@ impl LeastInhabitants {
         }
     }
 
-    /// Learns of the states of the automaton that were added since. After want of memory no less is
+    /// Learns of the states of the automaton that were added since. After `NoMemory` no less is
     /// known than before.
-    ///
-    /// The time is n log n in these states and their moves, and the memory linear.
     pub fn learn(&mut self, alloc: Global, auto: &Auto, store: &mut Store) -> Result<(), NoMemory>
         requires { Knows auto.now store.old self.old }
         ensures knows { Knows auto.now store.new self.new }

@@ -60,7 +60,7 @@ quoted-escaped_one c n bs h = at_quote (c == 34) refl
     at_quote true e = two
     at_quote false e = at_slash (c == 92) refl e
 
--- the quoted text ends at the quote that is put behind
+-- the quoted text ends at the quote that is put after
 pub quoted-escaped : (s rest : List ℕ) → quoted false (escaped_all s ++ 34 ∷ rest) ≡ Ok (length (escaped_all s) + 1)
 quoted-escaped [] rest = refl
 quoted-escaped (c ∷ cs) rest =

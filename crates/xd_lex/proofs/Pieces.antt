@@ -13,7 +13,7 @@ use Rattle.xd_lex.specs.Spellings.{are_pieces}
 use Rattle.xd_lex.specs.Spelled.{characters, escape_meaning, unescaped}
 use Rattle.std.proofs.lemmas.Bool.{and_parts, not-true, ne_eqb}
 
--- pieces may be cut behind their first n bytes, and the first n stand for themselves
+-- pieces may be cut after their first n bytes, and the first n stand for themselves
 pub record IsPlain (pieces : List ℕ) (n : ℕ) : Type 0 where
   pub behind : are_pieces false (drop n pieces) ≡ true
   pub same : characters false (pieces ++ 34 ∷ []) ≡ take n pieces ++ characters false (drop n pieces ++ 34 ∷ [])
@@ -63,7 +63,7 @@ finished made rest all n r e h =
     let same : characters false (rest ++ 34 ∷ []) ≡ rest = r.same ∙ rw (full, none) (append-nil rest) in
     ap (λ (xs : List ℕ). made ++ xs) (sym same) ∙ h
 
--- the characters so far, behind a plain part and an escape
+-- the characters so far, after a plain part and an escape
 pub went_on : (made rest all front back character behind : List ℕ) (n : ℕ) → IsPlain rest n → front ≡ take n rest → back ≡ drop n rest → characters false (back ++ 34 ∷ []) ≡ character ++ characters false (behind ++ 34 ∷ [])
     → made ++ characters false (rest ++ 34 ∷ []) ≡ all → ((made ++ front) ++ character) ++ characters false (behind ++ 34 ∷ []) ≡ all
 went_on made rest all front back character behind n r front_is back_is escape h =

@@ -28,7 +28,7 @@ Stands (fronts.Gap n) bs = IsGap (take n bs)
 Stands (fronts.Token k n) bs = EndsBefore k (drop n bs)
 Stands (fronts.Fault f) bs = IsFault f bs
 
--- the bytes of a comment behind c, up to the first `*)`
+-- the bytes of a comment after c, up to the first `*)`
 abbrev IfEnd : ℕ → Option ℕ → List ℕ → Type 0
 IfEnd c (Some n) bs = (inside : List ℕ) × HasNoEnd (inside ++ 42 ∷ []) × (c ∷ take n bs ≡ inside ++ 42 ∷ 41 ∷ [])
 IfEnd c None bs = Unit {0}
@@ -83,7 +83,7 @@ no_end c (b ∷ bs) h = at_test ((c == 42) && (b == 41)) refl (λ e. no_end b bs
     at_test true e more = absurd (let x : cond true (Some 1) (option_more (commented (b == 42) bs)) ≡ None = (ap (λ (t : Bool). cond t (Some 1) (option_more (commented (b == 42) bs))) (sym e) ∙ h) in cc)
     at_test false e more = one_before c b (b ∷ bs) e refl (more (none_of (commented (b == 42) bs) (ap (λ (t : Bool). cond t (Some 1) (option_more (commented (b == 42) bs))) (sym e) ∙ h)))
 
--- behind the opening quote, or behind a `\\` where the flag says so
+-- after the opening quote, or after a `\\` where the flag says so
 abbrev WrongEscape : Bool → List ℕ → Type 0
 WrongEscape true bs = ((c : ℕ) × (rest : List ℕ) × (is_escape c ≡ false) × (bs ≡ c ∷ rest)) ⊎ ((pieces : List ℕ) × (c : ℕ) × (rest : List ℕ) × (are_pieces true pieces ≡ true) × (is_escape c ≡ false) × (bs ≡ pieces ++ 92 ∷ c ∷ rest))
 WrongEscape false bs = (pieces : List ℕ) × (c : ℕ) × (rest : List ℕ) × (are_pieces false pieces ≡ true) × (is_escape c ≡ false) × (bs ≡ pieces ++ 92 ∷ c ∷ rest)
@@ -188,7 +188,7 @@ no_token_there b bs n (kinds.Broken f) t r s l e = absurd (omega (arith, ap leng
 strange_stands : (b : ℕ) (bs : List ℕ) → Strange b bs → BeginsNothing (b ∷ bs)
 strange_stands b bs n = record { some = omega arith; no_blank = n.blank_no; no_quote = eqb-false b 34 n.quote_no; no_token = no_token_there b bs n }
 
--- behind the `(*`
+-- after the `(*`
 comment_stands : (b c : ℕ) (bs : List ℕ) (r : Option ℕ) → b ≡ 40 → c ≡ 42 → IfEnd 0 r bs → (r ≡ None → HasNoEnd (0 ∷ bs)) → Stands (of_comment r) (b ∷ c ∷ bs)
 comment_stands b c bs None p q i none = (bs, (λ k f g. none refl (suc k) f (let s : suc k + 1 ≡ suc (k + 1) = omega arith in (ap (λ (m : ℕ). slice_index (0 ∷ bs) m) s ∙ g))), ap (λ (x : ℕ). x ∷ c ∷ bs) p ∙ ap (λ (x : ℕ). 40 ∷ x ∷ bs) q)
 comment_stands b c bs (Some n) p q i _ = comment (of_inside i.0 i.1 i.2)
@@ -271,7 +271,7 @@ stands b bs =
     choose_stands (b ∷ bs) ((b == 45) && (slice_index bs 0 == 62)) (fronts.Token kinds.Arrow 2) (of_symbol (symbol b)) (λ _. tt) (λ arrow_no.
     symbol_stands b bs (symbol b) (symbol_ends b bs none) (λ e. strange_stands b bs (record { blank_no = blank_no; word_no = word_no; quote_no = quote_no; arrow_no = arrow_no; symbol_no = e })))))))
 
--- one gap, token or fault, and what is read behind it
+-- one gap, token or fault, and what is read after it
 read_front : (f : Front) (p : Place) (bs : List ℕ) → 0 < length bs → first bs ≡ f → Fits f bs → Stands f bs → ((n : ℕ) → 0 < n → n ≤ length bs → Reads (past p (take n bs)) (drop n bs) (tokens_from 0 (past p (take n bs)) (drop n bs))) → Reads p bs (tokens_from 0 p bs)
 read_front (fronts.Gap n) p bs l e fit stand more =
     let r : Reads p (take n bs ++ drop n bs) (tokens_from 0 (past p (take n bs)) (drop n bs)) = gap stand (more n fit.positive fit.within) in

@@ -34,7 +34,7 @@ pub past-append : (p : Place) (xs ys : List ℕ) → past p (xs ++ ys) ≡ past 
 past-append p [] ys = refl
 past-append p (x ∷ xs) ys = past-append (after p x) xs ys
 
--- the first n bytes, and what stands behind them
+-- the first n bytes, and what stands after them
 parted : (rest front behind : List ℕ) (n : ℕ) → front ≡ take n rest → behind ≡ drop n rest → rest ≡ front ++ behind
 parted rest front behind n f b = rw (f, b) (sym (take-append-drop n rest))
 
@@ -49,7 +49,7 @@ skipped_more text rest front behind n s l e front_is behind_is =
       utf8 = rw behind_is (IsUtf8-drop rest n s.utf8 (boundary rest n s.utf8 r));
     }
 
--- the token behind the gaps
+-- the token after the gaps
 pub token_found : (text rest front behind : List ℕ) (k : Kind) (n : ℕ) → Skipped text rest → 0 < length rest → first rest ≡ fronts.Token k n → front ≡ take n rest → behind ≡ drop n rest → IsFirstToken text k front behind
 token_found text rest front behind k n s l e front_is behind_is =
     let f : Fits (fronts.Token k n) rest = reached rest (fronts.Token k n) l e in

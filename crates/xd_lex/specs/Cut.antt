@@ -7,7 +7,7 @@ use Rattle.xd_lex.specs.Tokens.{past, tokens_from}
 use Rattle.xd_lex.specs.Left.{tokens_left}
 
 -- A text is a gap, a token, and a rest: wherever it begins, its tokens are this one, which stands
--- behind the gap, and those of the rest.
+-- after the gap, and those of the rest.
 pub record IsFirstToken (text : List ℕ) (kind : Kind) (token rest : List ℕ) : Type 0 where
   pub gap : List ℕ
   pub parts : text ≡ gap ++ (token ++ rest)

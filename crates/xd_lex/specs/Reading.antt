@@ -1,5 +1,6 @@
 -- The tokens of a text in the words of a grammar: what stands before what.
-use Rattle.std.specs.Prelude.{◌≡◌, ◌≢◌, ◌⊎◌, ℕ, ◌+◌, ◌<◌, true, false, List, [], ◌∷◌, ◌++◌, length, slice_index}
+use Rattle.std.specs.Prelude.{◌≡◌, ◌≢◌, ◌⊎◌, ℕ, ◌+◌, ◌<◌, true, false, List, [], ◌∷◌, ◌++◌, length, slice_index, codes}
+use Rattle.std.specs.Str.{byte}
 use Rattle.xd_base.specs.declared.Place.{Place}
 use Rattle.xd_doc.specs.Word.{is_word_part}
 use Rattle.xd_lex.specs.declared.Kind.{Kind}
@@ -13,43 +14,43 @@ use Rattle.xd_lex.specs.LexedTokens.{is_last}
 
 -- no `*)` stands in these bytes
 abbrev pub HasNoEnd : List ℕ → Type 0
-HasNoEnd bytes = (k : ℕ) → slice_index bytes k ≡ 42 → slice_index bytes (k + 1) ≢ 41
+HasNoEnd bytes = (k : ℕ) → slice_index bytes k ≡ byte "*" → slice_index bytes (k + 1) ≢ byte ")"
 
--- a comment: `(*`, and then the first `*)` that begins behind these two bytes
+-- a comment: `(*`, and then the first `*)` that begins after these two bytes
 abbrev pub IsComment : List ℕ → Type 0
-IsComment gap = (inside : List ℕ) × HasNoEnd (inside ++ 42 ∷ []) × (gap ≡ (40 ∷ 42 ∷ inside) ++ 42 ∷ 41 ∷ [])
+IsComment gap = (inside : List ℕ) × HasNoEnd (inside ++ codes "*") × (gap ≡ (codes "(*" ++ inside) ++ codes "*)")
 
 -- what may stand between tokens: a blank or a comment
 pub data IsGap : List ℕ → Type 0 where
   blank : {b : ℕ} → is_blank b ≡ true → IsGap (b ∷ [])
   comment : {gap : List ℕ} → IsComment gap → IsGap gap
 
--- what may stand behind a token: a word takes as many characters as there are, and a bracket behind
+-- what may stand after a token: a word takes as many characters as there are, and a bracket after
 -- it makes it a label; a `(` before a `*` opens a comment
 abbrev pub EndsBefore : Kind → List ℕ → Type 0
-EndsBefore kinds.Word rest = (is_word_part (slice_index rest 0) ≡ false) × (slice_index rest 0 ≢ 91)
-EndsBefore kinds.ParenL rest = slice_index rest 0 ≢ 42
+EndsBefore kinds.Word rest = (is_word_part (slice_index rest 0) ≡ false) × (slice_index rest 0 ≢ byte "[")
+EndsBefore kinds.ParenL rest = slice_index rest 0 ≢ byte "*"
 EndsBefore kind rest = Unit {0}
 
 -- a quoted text with a `\` before a character that makes no escape
 abbrev pub HasBadEscape : List ℕ → Type 0
-HasBadEscape bytes = (pieces : List ℕ) × (c : ℕ) × (rest : List ℕ) × (are_pieces false pieces ≡ true) × (is_escape c ≡ false) × (bytes ≡ (34 ∷ pieces) ++ 92 ∷ c ∷ rest)
+HasBadEscape bytes = (pieces : List ℕ) × (c : ℕ) × (rest : List ℕ) × (are_pieces false pieces ≡ true) × (is_escape c ≡ false) × (bytes ≡ (byte "\"" ∷ pieces) ++ byte "\\" ∷ c ∷ rest)
 
 -- there is a byte, and no gap, token or quoted text begins with it
 pub record BeginsNothing (bytes : List ℕ) : Type 0 where
   pub some : 0 < length bytes
   pub no_blank : is_blank (slice_index bytes 0) ≡ false
-  pub no_quote : slice_index bytes 0 ≢ 34
+  pub no_quote : slice_index bytes 0 ≢ byte "\""
   pub no_token : (kind : Kind) (text rest : List ℕ) → IsSpelling kind text → 0 < length text → bytes ≡ text ++ rest → ⊥
 
--- Why a token is broken: a comment has no end; a quoted text has no end, though with more behind it
+-- Why a token is broken: a comment has no end; a quoted text has no end, though with more after it
 -- it would be one; a quoted text has a wrong escape, or no token begins.
 abbrev pub IsFault : LexFault → List ℕ → Type 0
-IsFault OpenComment bytes = (inside : List ℕ) × HasNoEnd inside × (bytes ≡ 40 ∷ 42 ∷ inside)
-IsFault OpenText bytes = (begun more : List ℕ) × (are_pieces false (begun ++ more) ≡ true) × (bytes ≡ 34 ∷ begun)
+IsFault OpenComment bytes = (inside : List ℕ) × HasNoEnd inside × (bytes ≡ codes "(*" ++ inside)
+IsFault OpenText bytes = (begun more : List ℕ) × (are_pieces false (begun ++ more) ≡ true) × (bytes ≡ byte "\"" ∷ begun)
 IsFault BadCharacter bytes = HasBadEscape bytes ⊎ BeginsNothing bytes
 
--- A text is read from this place on as these tokens: gaps and tokens stand one behind the other up
+-- A text is read from this place on as these tokens: gaps and tokens stand one after the other up
 -- to the end of the text or to a token that is broken, and each token has the place where it
 -- begins.
 pub data Reads : Place → List ℕ → List Lexeme → Type 0 where

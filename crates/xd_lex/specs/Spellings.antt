@@ -1,5 +1,6 @@
 -- How each kind of token is spelled.
 use Rattle.std.specs.Prelude.{◌≡◌, ℕ, ◌==◌, ◌&&◌, Bool, true, false, not, List, [], ◌∷◌, ◌++◌, codes}
+use Rattle.std.specs.Str.{byte}
 use Rattle.xd_doc.specs.Word.{is_word}
 use Rattle.xd_lex.specs.declared.Kind.{Kind}
 use Rattle.xd_lex.specs.declared.Kind.TheVariants as kinds
@@ -10,13 +11,13 @@ use Rattle.xd_lex.specs.Scan.{is_escape}
 abbrev pub are_pieces : Bool → List ℕ → Bool
 are_pieces escaped [] = not escaped
 are_pieces true (b ∷ bs) = is_escape b && are_pieces false bs
-are_pieces false (b ∷ bs) = not (b == 34) && are_pieces (b == 92) bs
+are_pieces false (b ∷ bs) = not (b == byte "\"") && are_pieces (b == byte "\\") bs
 
 -- this text spells a token of this kind
 abbrev pub IsSpelling : Kind → List ℕ → Type 0
 IsSpelling kinds.Word t = is_word t ≡ true
-IsSpelling kinds.Label t = (word : List ℕ) × (is_word word ≡ true) × (t ≡ word ++ 91 ∷ [])
-IsSpelling kinds.Text t = (pieces : List ℕ) × (are_pieces false pieces ≡ true) × (t ≡ 34 ∷ pieces ++ 34 ∷ [])
+IsSpelling kinds.Label t = (word : List ℕ) × (is_word word ≡ true) × (t ≡ word ++ codes "[")
+IsSpelling kinds.Text t = (pieces : List ℕ) × (are_pieces false pieces ≡ true) × (t ≡ byte "\"" ∷ pieces ++ codes "\"")
 IsSpelling kinds.ParenL t = t ≡ codes "("
 IsSpelling kinds.ParenR t = t ≡ codes ")"
 IsSpelling kinds.BracketL t = t ≡ codes "["

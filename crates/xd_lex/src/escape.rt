@@ -10,7 +10,7 @@ ghost use Rattle.xd_lex.specs.Spelled.{characters, escape_meaning, unescaped};
 use std::alloc::Global;
 use xd_doc::{NoMemory, Text};
 
-/// The character that stands behind a `\` for another.
+/// The character that stands after a `\` for another.
 fn escape_meaning(b: u8) -> &'static str
     requires { is_escape b ≡ true }
     ensures { result.now ≡ escape_meaning b ∷ [] }
@@ -23,7 +23,7 @@ fn escape_meaning(b: u8) -> &'static str
     }
 }
 
-/// The character that an escape at the front stands for, and the pieces behind it.
+/// The character that an escape at the front stands for, and the pieces after it.
 fn first_escape<'a>(pieces: &'a str) -> (&'static str, &'a str)
     requires pieces { are_pieces false pieces.now ≡ true }
     requires some { 0 < length pieces.now }

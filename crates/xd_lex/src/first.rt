@@ -35,7 +35,7 @@ pub fn text_of(bytes: &[u8]) -> Result<&str, NotUtf8>
     }
 }
 
-/// The first token of a text, without its place, and what stands behind it.
+/// The first token of a text, without its place, and what stands after it.
 #[derive(Clone, Copy, Debug)]
 pub struct Cut<'a> {
     pub kind: Kind,

@@ -54,7 +54,7 @@ impl Kind {
     }
 }
 
-/// A token, what stands behind it, and the place there.
+/// A token, what stands after it, and the place there.
 #[derive(Clone, Copy)]
 struct Placed<'a> {
     token: Token<'a>,

@@ -31,7 +31,7 @@ pub enum LexFault {
 pub enum Kind {
     /// A letter or `_`, and then as many letters, digits and `_` as there are.
     Word,
-    /// A word and the `[` directly behind it.
+    /// A word and the `[` directly after it.
     Label,
     /// `"`, pieces, `"`.
     Text,
@@ -51,7 +51,7 @@ pub enum Kind {
     Arrow,
     /// The end of the text.
     End,
-    /// No token begins here, and none is looked for behind this place.
+    /// No token begins here, and none is looked for after this place.
     Broken(LexFault),
 }
 

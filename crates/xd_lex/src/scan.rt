@@ -38,7 +38,7 @@ fn word_len(bytes: &[u8]) -> usize
     bytes.iter().take_while(|b| is_word_part(**b)).count()
 }
 
-/// Behind the opening quote: the bytes of the pieces and of the closing quote.
+/// After the opening quote: the bytes of the pieces and of the closing quote.
 fn text_len(bytes: &[u8]) -> Result<usize, LexFault>
     ensures is { result ≡ quoted false bytes.now }
     ensures within { IfOk result (λ n. n ≤ length bytes.now) }
@@ -63,7 +63,7 @@ fn text_len(bytes: &[u8]) -> Result<usize, LexFault>
     Err(LexFault::OpenText)
 }
 
-/// Behind the `(*`: the bytes up to the end of the first `*)`.
+/// After the `(*`: the bytes up to the end of the first `*)`.
 fn comment_len(bytes: &[u8]) -> Option<usize>
     ensures is { result ≡ commented false bytes.now }
     ensures within { IfSome result (λ n. n ≤ length bytes.now) }

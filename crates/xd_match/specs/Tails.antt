@@ -31,7 +31,7 @@ is_mixed mixed s = is_marked mixed (state_number s)
 abbrev pub GoesOnWith : Automaton → Marking → List (List ℕ) → State → Type 0
 GoesOnWith a k marks s = IsBare a s ⊎ (tail_marks a k s ≡ marks)
 
--- the items of the moves on a text belong to these variables, as do the first items behind them
+-- the items of the moves on a text belong to these variables, as do the first items after them
 abbrev pub HasEvenTexts : Automaton → Marking → List (List ℕ) → State → Type 0
 HasEvenTexts a k marks s = (n : ℕ) (e : TextMove) → n < length (moves_at a s).texts
     → (get_or (k s).texts n [] ≡ marks) × GoesOnWith a k marks (get_or (moves_at a s).texts n e).rest
@@ -57,8 +57,6 @@ pub record LeadsFrom (a : Automaton) (R : State → Type 0) (s : State) : Type 0
 pub record AreTails (a : Automaton) (k : Marking) (mixed : List Bool) : Type 0 where
   pub count : length mixed ≡ length a
   pub even : (s : State) → IsState a s → is_mixed mixed s ≡ false → IsEven a k s × LeadsFrom a (λ t. IsState a t × (is_mixed mixed t ≡ false)) s
-
--- Of what follows only private contracts speak.
 
 -- an edge leads to each state from those that its moves lead to
 pub record AreBehind (a : Automaton) (g : List (List ℕ)) : Type 0 where

@@ -1,5 +1,4 @@
--- How the first run is followed: the first move that can succeed, and the items that wait. Only
--- private contracts speak of it.
+-- How the first run is followed: the first move that can succeed, and the items that wait.
 use Rattle.std.specs.Prelude.{◌≡◌, ℕ, nat_eq, ◌+◌, ◌*◌, ◌<◌, Bool, true, false, cond, List, [], ◌∷◌, ◌++◌, length, slice_index_or, get_or, Vec}
 use Rattle.std.specs.List.{AllByRecursion, list_any}
 use Rattle.xd_doc.specs.Document.{Document, empty, join, size}

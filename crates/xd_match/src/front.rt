@@ -125,7 +125,7 @@ fn note(items: &mut Vec<Vec<Piece>>, marks: &[usize], piece: Piece) -> Result<()
     Ok(())
 }
 
-/// Takes the first item, a text, and gives what waits behind it.
+/// Takes the first item, a text, and gives what waits after it.
 fn take_text(
     answers: &mut Answers,
     auto: &Auto,
@@ -154,7 +154,7 @@ fn take_text(
     })
 }
 
-/// Takes the first item, an element, and gives what waits behind it and in it.
+/// Takes the first item, an element, and gives what waits after it and in it.
 fn take_element(
     answers: &mut Answers,
     auto: &Auto,
@@ -190,7 +190,7 @@ fn take_element(
 }
 
 /// Takes the first item of a document that was the last to wait, or all of its own where they
-/// belong to the same variables, and adds what waits behind it and in it.
+/// belong to the same variables, and adds what waits after it and in it.
 fn take_task(
     answers: &mut Answers,
     auto: &Auto,

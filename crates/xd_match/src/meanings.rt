@@ -31,7 +31,7 @@ impl Meanings {
     }
 }
 
-/// The type that `Any` stands for, behind the others.
+/// The type that `Any` stands for, after the others.
 fn add_any(alloc: Global, types: &mut Types) -> Result<TypeId, NoMemory>
     ensures keeps { OnOk result (KeepsRows types.old types.new) }
     ensures belongs { IfOk result (BelongsTo types.new) }

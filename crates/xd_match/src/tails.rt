@@ -111,7 +111,7 @@ fn add_labels(auto: &Auto, state: State, behind: &mut Graph) -> Result<(), NoMem
     Ok(())
 }
 
-/// Whether the items of all moves belong to the same variables, as do the first items behind them,
+/// Whether the items of all moves belong to the same variables, as do the first items after them,
 /// and the first ones in them to none.
 fn is_even(auto: &Auto, marked: &Marked, state: State) -> bool
     requires { IsState auto.now state }

@@ -217,7 +217,7 @@ firsts_more rows numbers m n lists new firsts firsts' piece number a k f l w h i
 cases_below : (j n : ℕ) → j < n + 1 → (j < n) ⊎ (j ≡ n)
 cases_below j n h = elim (cases_lt j n) [ inl l ↦ inl l | inr l ↦ inr (omega arith) ]
 
--- lists of numbers are kept while one more number is put behind
+-- lists of numbers are kept while one more number is put after
 module _ (rows : List Row) (built : AreBuilt false rows) (numbers : List ℕ) (n k : ℕ) (l : length numbers ≡ n) (h : n < length rows) where
   abbrev more : List ℕ
   more = numbers ++ k ∷ []

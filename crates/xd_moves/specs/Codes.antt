@@ -6,7 +6,7 @@ use Rattle.xd_syntax.specs.Table.{Form, empty_form, text_form, words_form, name_
 abbrev pub number_at : List ℕ → ℕ → ℕ
 number_at numbers i = get_or numbers i 0
 
--- names one after the other, each behind its length
+-- names one after the other, each after its length
 abbrev pub code_names : List (List ℕ) → List ℕ
 code_names [] = []
 code_names (w ∷ ws) = length w ∷ (w ++ code_names ws)

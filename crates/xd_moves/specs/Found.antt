@@ -22,7 +22,7 @@ use Rattle.xd_moves.specs.declared.expansion.Found.{Found}
 abbrev pub continuation : List Row → List Cell → ℕ → List Tree
 continuation types cells n = map (piece_tree types) (list_at cells n)
 
--- a cell as a task: its piece is to be worked off, before what is behind it
+-- a cell as a task: its piece is to be worked off, before what is after it
 abbrev pub task_at : List Row → List Cell → Cell → Task
 task_at types cells c = record { part = piece_tree types c.item; behind = continuation types cells c.behind }
 
@@ -43,7 +43,7 @@ move_at types cells f = move_of (tree_at types f.node) (continuation types cells
 abbrev pub AreOfTypes : List Row → List Cell → Type 0
 AreOfTypes types cells = AllByRecursion (λ (c : Cell). c.item.node < length types) cells
 
--- the node is there, and what is behind it
+-- the node is there, and what is after it
 abbrev pub IsTask : List Row → List Cell → Cell → Type 0
 IsTask types cells c = (c.item.node < length types) × (c.behind ≤ length cells)
 
@@ -70,7 +70,7 @@ pub record PutsTasks (types : List Row) (cells : List Cell) (old new : List Cell
   pub stand : AllByRecursion (IsTask types cells) put
   pub same : waiting_at types cells put ≡ ts
 
--- moves are found behind the others: these, in order
+-- moves are found after the others: these, in order
 pub record Finds (types : List Row) (cells : List Cell) (old new : List Found) (ms : List Move) : Type 0 where
   pub found : List Found
   pub grown : new ≡ old ++ found

@@ -1,4 +1,4 @@
--- Nodes that are numbered one after the other. Of this only private contracts speak.
+-- Nodes that are numbered one after the other.
 use Rattle.std.specs.Prelude.{◌≡◌, ℕ, ◌<◌, ◌⊎◌, cond, List, [], ◌∷◌, ◌++◌, length, Some}
 use Rattle.std.specs.List.{slice_get}
 use Rattle.xd_syntax.specs.Nodes.{row_at}
@@ -12,7 +12,7 @@ use Rattle.xd_moves.specs.declared.piece.Piece.{Piece}
 abbrev pub piece_form : List Row → Piece → Form
 piece_form types p = cond p.is_turns (turn_form (row_at types p.node).form) (row_at types p.node).form
 
--- There are as many first pieces as lists: either none came, or this one came behind the others,
+-- There are as many first pieces as lists: either none came, or this one came after the others,
 -- and its position is its number.
 pub record AddsFirst (old new : List Piece) (lists : ℕ) (piece : Piece) (number : ℕ) : Type 0 where
   pub added : (new ≡ old) ⊎ ((new ≡ old ++ piece ∷ []) × (number ≡ length old))

@@ -128,7 +128,7 @@ fn push_bytes(code: &mut Vec<usize>, name: &str) -> Result<(), NoMemory>
     Ok(())
 }
 
-/// A name behind its length.
+/// A name after its length.
 fn push_name(code: &mut Vec<usize>, name: &str) -> Result<(), NoMemory>
     ensures { OnOk result (code.new.items ≡ code.old.items ++ (length name.now ∷ name.now)) }
 {

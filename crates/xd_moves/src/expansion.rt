@@ -22,7 +22,7 @@ use xd_continuations::Link;
 use xd_doc::{Label, NoMemory};
 use xd_syntax::{TypeDef, TypeForm, TypeId, Types};
 
-/// An element or a text that a document can begin with, and the number of the continuation behind
+/// An element or a text that a document can begin with, and the number of the continuation after
 /// it.
 #[derive(Clone, Copy)]
 pub struct Found {
@@ -30,7 +30,7 @@ pub struct Found {
     pub rest: usize,
 }
 
-/// Puts the tasks of a repetition on the others: one turn, and more turns behind it.
+/// Puts the tasks of a repetition on the others: one turn, and more turns after it.
 fn push_turn<S: StandIns>(
     types: &Types,
     part: TypeId,
@@ -68,7 +68,7 @@ fn whole(part: TypeId) -> Piece
     }
 }
 
-/// Puts the tasks of a sequence on the others: each part, with the parts after it behind it, as
+/// Puts the tasks of a sequence on the others: each part, with the parts after it after it, as
 /// long as those before it can be empty.
 fn push_sequence<S: StandIns>(
     types: &Types,

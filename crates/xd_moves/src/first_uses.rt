@@ -26,7 +26,7 @@ impl FirstUses {
         }
     }
 
-    /// Looks at the nodes that came behind those that were looked at. Fails only where memory is
+    /// Looks at the nodes that came after those that were looked at. Fails only where memory is
     /// refused.
     pub fn cover(&mut self, types: &Types) -> Result<(), NoMemory> {
         for at in self.seen..types.len() {

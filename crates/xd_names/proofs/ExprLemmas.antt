@@ -55,7 +55,7 @@ count_arguments (e ∷ es) = let i = count_arguments es in omega arith
 pub arguments_given : (t : ℕ → Expression) (is : List ℕ) → argument_count (arguments_of (map t is)) ≡ length is
 arguments_given t is = count_arguments (map t is) ∙ length-map is t
 
--- a clause's variables stand behind those in scope
+-- a clause's variables stand after those in scope
 pub body_faults : (P : ProgramTree) (s vs : List (List ℕ)) (e : Expression) → expression_faults P (s ++ vs) e ≡ expression_faults P (vs ++ s) e
 body_faults P s vs e = expression_faults-same P (s ++ vs) (vs ++ s) e (same_turned s vs)
 

@@ -119,7 +119,7 @@ part_step n g xs i d made all h e =
     ∙ ap (λ ys. made ++ flat_map g (map n ys)) (sym (drop_at xs i d h))
     ∙ e
 
--- what is so of all from here on is so of this one and of those behind it
+-- what is so of all from here on is so of this one and of those after it
 pub parts_step : {X Z : Type 0} (P : Z → Type 0) (n : X → Z) (xs : List X) (i : ℕ) (d : X) → i < length xs → AllByRecursion P (map n (drop i xs)) →
     P (n (get_or xs i d)) × AllByRecursion P (map n (drop (i + 1) xs))
 parts_step P n xs i d h a = subst (λ ys. AllByRecursion P (map n ys)) (drop_at xs i d h) a

@@ -37,12 +37,14 @@ impl Scope {
         }
     }
 
+    /// How many variables are in scope, each as often as it was brought there.
     pub fn len(&self) -> usize
         ensures { result ≡ length self.now }
     {
         self.variables.len()
     }
 
+    /// Whether the variable is in scope.
     pub fn has(&self, word: &Label) -> bool
         ensures { result ≡ has_word self.now word.now }
     {
@@ -52,12 +54,14 @@ impl Scope {
         }
     }
 
+    /// The variables in scope, the innermost last.
     pub fn variables(&self) -> &[Label]
         ensures { result.now ≡ self.now }
     {
         self.variables.as_slice()
     }
 
+    /// Brings a variable into scope, as the innermost.
     pub fn push(&mut self, word: &Label) -> Result<(), NoMemory>
         ensures { OnOk result (self.new ≡ self.old ++ word.now ∷ []) }
     {
@@ -83,7 +87,7 @@ impl Scope {
         }
     }
 
-    /// Drops the variables behind the first so many.
+    /// Drops the variables after the first so many.
     pub fn truncate(&mut self, count: usize)
         ensures { self.new ≡ take count self.old }
     {

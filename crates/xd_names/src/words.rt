@@ -34,6 +34,7 @@ impl Words {
         }
     }
 
+    /// Whether the word is among them.
     pub fn has(&self, word: &Label) -> bool
         ensures { result ≡ has_word self.now word.now }
     {
@@ -59,6 +60,7 @@ impl Words {
         Ok(())
     }
 
+    /// Takes the word away, if it is among them.
     pub fn remove(&mut self, word: &Label)
         ensures { (w : List ℕ) → has_word self.new w ≡ (not (bytes_eq word.now w) && has_word self.old w) }
     {

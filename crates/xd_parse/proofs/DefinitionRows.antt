@@ -32,7 +32,7 @@ use Rattle.xd_parse.proofs.Grown.{IsExpr-more, same_pattern, same_expression, Gr
 use Rattle.xd_parse_trees.proofs.AddedDepth.{deeper_both}
 use Rattle.xd_parse_trees.proofs.Rows.{MeansView, means_view, ReadsRow, row_end, row_token, row_opening, row_closed, row_unless, row_part, part_one, part_fit, part_none}
 
--- ---- what is left behind a token
+-- ---- what is left after a token
 pub behind_less : (from next : List Lexeme) → next ≡ behind from → length next ≤ length from
 behind_less [] next e = let f = ap length e in omega arith
 behind_less (l ∷ ls) next e = let f = ap length e in omega arith
@@ -87,8 +87,8 @@ one_more_parameter from middle to q qs h r more =
 pub no_more_parameters : (from : List Lexeme) → same t.ParenL (front_terminal from) ≡ false → Reads n.MoreParams from from (parameters [])
 no_more_parameters from h = part_fit n.MoreParams (Unless t.ParenL ∷ []) from from [] refl (rw h refl) (row_unless t.ParenL [] from from [] (row_end from))
 
--- what the first parameters have read, and those behind them: whatever those there stand for, it
--- stands behind them
+-- what the first parameters have read, and those after them: whatever those there stand for, it
+-- stands after them
 abbrev pub ReadsMoreInFront : List Parameter → (here there : List Lexeme) → Type 0
 ReadsMoreInFront qs here there = (to : List Lexeme) (rs : List Parameter) → Reads n.MoreParams there to (parameters rs) → Reads n.MoreParams here to (parameters (qs ++ rs))
 
@@ -212,7 +212,7 @@ end_by true from next e f g h =
     (along_token t.End [] from next next [] f (row_end next))
 end_by false from next e f g h = part_none n.Definitions from next (definitions nothing) (rw (g, h, e) refl)
 
--- behind the last definition
+-- after the last definition
 pub end_reads : (from next : List Lexeme) → next ≡ behind from → same t.Type (front_terminal from) ≡ false → same t.Fun (front_terminal from) ≡ false → Reads n.Definitions from next (definitions nothing)
 end_reads from next f g h = end_by (same t.End (front_terminal from)) from next refl f g h
 
@@ -229,7 +229,7 @@ function_deeper old middle new ps T k b c d =
     deeper_both (ParametersWithin (map (parameter middle) ps)) (TreeWithin T) (λ limit. ParametersWithin (map (parameter new) ps) limit × TreeWithin T limit) old middle new k
     (λ limit o w. subst (λ (qs : List Parameter). ParametersWithin qs limit) (same_params middle new ps k b) w.0) (λ limit o w. w.1) c d
 
--- the definitions in front, and those behind them
+-- the definitions in front, and those after them
 definitions_front : (P Q : ProgramTree) (limit : ℕ) → DefinitionsWithin (in_front P Q) limit → DefinitionsWithin P limit
 definitions_front P Q limit w = (all_front _ P.types Q.types w.0, all_front _ P.functions Q.functions w.1)
 

@@ -107,7 +107,7 @@ paren_full c m e h r =
     (part_fit n.ParenContent (Part n.Expr ∷ Token t.ParenR ∷ Closed ∷ []) (behind c) (behind m) (an_expression e ∷ as_token t.ParenR m ∷ []) refl (paren_content_first (front_terminal (behind c)) h)
     (row_part n.Expr (Token t.ParenR ∷ Closed ∷ []) (behind c) m (behind m) (an_expression e) (as_token t.ParenR m ∷ []) r (token_closed t.ParenR m)))
 
--- ---- a first part and those behind it
+-- ---- a first part and those after it
 pub expr_reads : (c m to : List Lexeme) (e : Expression) (es : List Expression) → Reads n.Item c m (an_expression e) → Reads n.MoreItems m to (expressions es) → Reads n.Expr c to (an_expression (sequence_of_expressions e es))
 expr_reads c m to e es r s =
     part_one n.Expr (Part n.Item ∷ Part n.MoreItems ∷ []) c to (an_expression e ∷ expressions es ∷ []) refl

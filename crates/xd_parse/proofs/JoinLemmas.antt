@@ -103,7 +103,7 @@ all_alone_append : (es fs : List Expression) → AllByRecursion (λ (e : Express
 all_alone_append [] fs a b = b
 all_alone_append (e ∷ es) fs a b = (a.0, all_alone_append es fs a.1 b)
 
--- the sequence of two that are merged, and of those behind them
+-- the sequence of two that are merged, and of those after them
 pub sequence_merged : (p q : Place) (es fs : List Expression) → AllByRecursion (λ (e : Expression). parts_of_expression e ≡ e ∷ []) es → AllByRecursion (λ (e : Expression). parts_of_expression e ≡ e ∷ []) fs →
     (later : List Expression) → sequence_of_expressions (merged_expression p (es ++ fs)) later ≡ sequence_of_expressions (merged_expression p es) (merged_expression q fs ∷ later)
 sequence_merged p q es fs a b [] =

@@ -50,7 +50,7 @@ items_start start here ps0 es0 ps es read r a g l = record {
 pub items_stay : (ps : List Row) (es : List ExprRow) (qs : List Row) (fs : List ExprRow) (read : Items) → Grows ps es qs fs → PatternsBelong (length ps) es → AreItems es read → expression_of qs fs read ≡ expression_of ps es read
 items_stay ps es qs fs read g b a = ap (merged_expression read.place) (same_expressions ps es qs fs (expr_numbers read.parts.items) g b (joined_there es (expr_numbers read.parts.items) a))
 
--- items, and others behind them
+-- items, and others after them
 items_are : (ps : List Row) (es : List ExprRow) (front back all : Items) → all.place ≡ front.place → all.parts.items ≡ front.parts.items ++ back.parts.items →
     expression_of ps es all ≡ merged_expression front.place (map (expression_at ps es) (expr_numbers front.parts.items) ++ map (expression_at ps es) (expr_numbers back.parts.items))
 items_are ps es front back all p e =

@@ -11,7 +11,7 @@ use Rattle.xd_parse_trees.specs.Values.{Value, token_value, value_of}
 use Rattle.xd_parse_trees.specs.Means.{Means, MeansAll, ends, a_token, an_opening, a_closing, a_bar, a_part}
 use Rattle.xd_parse_trees.specs.Reading.{Reads}
 
--- what a row stands for, where so many levels are open before it and so many behind it, and no more
+-- what a row stands for, where so many levels are open before it and so many after it, and no more
 -- than the limit ever
 pub data MeansAt (limit : ℕ) : (before : ℕ) → Row → (from to : List Lexeme) → (after : ℕ) → List Value → Type 0 where
   ends_at : {d : ℕ} {ls : List Lexeme} → MeansAt limit d [] ls ls d []

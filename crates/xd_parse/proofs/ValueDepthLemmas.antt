@@ -21,7 +21,7 @@ use Rattle.xd_parse_trees.specs.Values.{Value, mark, word, label, quoted, absent
 use Rattle.xd_parse_trees.proofs.Depth.{plain, any_depth, AnyWithin, SeqWithin, PostWithin, PrimWithin, prim_post, any_prim, sequence_within, alternative_within, repeated_within, named_within}
 use Rattle.xd_parse.proofs.Spelled.{MeansAt, ends_at, token_at, opening_at, closing_at, bar_at, part_at, MeansWithin}
 
--- ---- levels behind a row
+-- ---- levels after a row
 abbrev before_one : ℕ → ℕ
 before_one zero = zero
 before_one (suc d) = d
@@ -299,7 +299,7 @@ element_of_row l d ps r =
     let s = r.4 in let q : ps ≡ r.0 ∷ (s.0 ∷ []) = then_values ps r.1 (s.0 ∷ []) r.0 r.2 (one_value r.1 s.1 s.0 s.2 s.4.0) in
     subst (λ (x : List Value). Within l (n.Prim sorts.Type) d (value_of (n.Prim sorts.Type) x)) (sym q) (prim_two l d r.0 s.0 r.3 s.3)
 
--- behind a `^`
+-- after a `^`
 prim_except : (l d : ℕ) (v w : Value) → Within l (n.Excepted sorts.Type) d w → Within l (n.Prim sorts.Type) d (value_of (n.Prim sorts.Type) (v ∷ (w ∷ [])))
 prim_except l d (mark k p) (texts ss) a = (tt, a)
 prim_except l d (mark k p) (labelled ws T) a = in_element l d p (class_of true ws) T a.0 a.1

@@ -1,7 +1,7 @@
 //! Expressions from tokens, by recursive descent.
 //!
 //! The tokens are known to spell what is read. Where no item begins with the next token, any node
-//! is answered. A match takes each clause that stands behind it, and a name all parentheses, so the
+//! is answered. A match takes each clause that stands after it, and a name all parentheses, so the
 //! innermost match has a `|`.
 
 ghost use Rattle.std.specs.Prelude.{◌≡◌, ◌<◌, ◌≤◌, length, IfOk};
@@ -94,7 +94,7 @@ fn read_item(
     }
 }
 
-/// Reads a variable, or a call with all the parentheses that stand behind its name.
+/// Reads a variable, or a call with all the parentheses that stand after its name.
 #[cycle(expressions)]
 fn read_named(
     alloc: Global,
@@ -219,7 +219,7 @@ fn read_paren(
     Ok(inner)
 }
 
-/// Reads a match with all the clauses that stand behind it.
+/// Reads a match with all the clauses that stand after it.
 #[cycle(expressions)]
 fn read_match(
     alloc: Global,

@@ -55,7 +55,7 @@ pub(crate) fn add_item(
     Ok(Items { place, parts })
 }
 
-/// What was read in front, and behind it what was read then.
+/// What was read in front, and after it what was read then.
 pub(crate) fn in_row(front: Items, back: Items) -> Result<Items, NoMemory>
     ensures place { IfOk result (λ items. items.place ≡ front.place) }
     ensures parts { IfOk result (λ items. items.parts.items ≡ front.parts.items ++ back.parts.items) }

@@ -35,7 +35,7 @@ turned part made row l ls rest ws g f m =
     let e : v.0 ≡ made = chosen_only (rules part) (terminal_at l) (rules_decided part (terminal_at l) g) made f v.0 v.4 (means_fits v.0 l ls v.1 v.2 (terminal_at l) refl v.5) (means_may 8 v.0 l ls v.1 v.2 (terminal_at l) refl v.5) in
     (v.2 ++ v.3, append_means (subst (λ (r : Row). Means r (l ∷ ls) v.1 v.2) e v.5) row rest v.3 v.6)
 
--- what is left of a row behind its first token, as far as it computes
+-- what is left of a row after its first token, as far as it computes
 abbrev After : Out → (ls rest : List Lexeme) → Type 0
 After Dead ls rest = ⊥
 After (Behind row) ls rest = Some_means row ls rest
@@ -71,7 +71,7 @@ after_go (suc f) (Part part ∷ row) l ls rest ws m =
     after_plain (is_group part (terminal_at l)) (out_of (first_fit (rules part) (terminal_at l)) (λ (made : Row). go f (made ++ row) (terminal_at l))) ls rest
     (λ g. after_part f part row l ls rest ws (first_fit (rules part) (terminal_at l)) refl g m (λ made s. after_go f (made ++ row) l ls rest s.0 s.1))
 
--- ---- the two readings of the tokens behind the parenthesis
+-- ---- the two readings of the tokens after the parenthesis
 
 -- What either reading of the parenthesis has left.
 pub record BothReadings (sort : Sort) (reading : Reading) (from now : List Lexeme) : Type 0 where

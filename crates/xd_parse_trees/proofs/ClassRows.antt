@@ -36,7 +36,7 @@ any_word_reads k from s e h = part_none n.AnyWord from (behind from) _ (rw e ref
 -- ---- lists, with bars between what they name
 
 -- What was read of a list, from its first part on: what the nonterminal of its rest reads from here
--- it reads from the start, behind that.
+-- it reads from the start, after that.
 pub record SoFar (rest : Nonterminal) (made : List (List ℕ) → Value) (from now : List Lexeme) (first all : List (List ℕ)) : Type 0 where
   pub more : List (List ℕ)
   pub split : all ≡ first ++ more
@@ -118,7 +118,7 @@ texts_done start from now x first all h g f s e = record {
   are = s.split ∙ ap (λ xs. xs ++ s.more) (f ∙ ap (λ (y : List ℕ). y ∷ []) h);
 }
 
--- ---- behind a `^`
+-- ---- after a `^`
 pub excepted_text_reads : (s : Sort) (from : List Lexeme) (x : List ℕ) → same t.Text (front_terminal from) ≡ true → (front_terminal from ≡ t.Text → x ≡ unescaped (front_text from)) → Reads (n.Excepted s) from (behind from) (texts (x ∷ []))
 excepted_text_reads s from x e h =
     rw (h (front_same t.Text from e)) (part_fit (n.Excepted s) (Token t.Text ∷ []) from (behind from) _ refl (rw e refl) (row_token t.Text [] from (behind from) [] (row_end (behind from))))

@@ -80,7 +80,7 @@ alternative_branches limit T [] h = (h, tt)
 alternative_branches limit T (U ∷ Us) h = alt_each limit (T ∷ (U ∷ Us)) (same_le _ _ limit (sym (alt_is (place_of T) (flat_map parts_of_alt (T ∷ (U ∷ Us))))) h)
 
 -- ---- sequences
--- how deep the sequence of these parts is behind a part, and where it stands alone
+-- how deep the sequence of these parts is after a part, and where it stands alone
 abbrev seq_list : List PlacedTree → ℕ
 seq_list [] = 1
 seq_list (T ∷ []) = seq_depth T
@@ -129,7 +129,7 @@ any_behind : (Vs Us : List PlacedTree) → (Us ≡ [] → ⊥) → any_list Us �
 any_behind [] Us ne = le_refl (any_list Us)
 any_behind (V ∷ Vs) Us ne = le_trans (any_list Us) (any_list (Vs ++ Us)) (any_list (V ∷ (Vs ++ Us))) (any_behind Vs Us ne) (any_tail V (Vs ++ Us) (append_some Vs Us ne))
 
--- in front and behind, within a limit; where nothing stands there, it is 1
+-- in front and after, within a limit; where nothing stands there, it is 1
 front_within : (limit : ℕ) (Ts Us : List PlacedTree) → 1 ≤ limit → any_list (Ts ++ Us) ≤ limit → any_list Ts ≤ limit
 front_within limit [] Us o h = o
 front_within limit (T ∷ Ts) Us o h = le_trans (any_list (T ∷ Ts)) (any_list (T ∷ (Ts ++ Us))) limit (any_front T Ts Us) h

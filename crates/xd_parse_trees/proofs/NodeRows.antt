@@ -208,7 +208,7 @@ primary_element s from middle to p c T b r q =
     by_row (n.Prim s) (element_row s) from to _ b.only
     (row_part n.Class _ from middle to _ _ r (row_part (n.Content s) _ middle to to _ _ q (row_end to)))
 
--- a text, and what stands behind a `^`
+-- a text, and what stands after a `^`
 primary_text : (s : Sort) (from : List Lexeme) → front_terminal from ≡ t.Text → Reads (n.Prim s) from (behind from) (a_tree (Words_at (front_place from) (class_of false (unescaped (front_text from) ∷ []))))
 primary_text s from e = fit_at (n.Prim s) _ t.Text from (behind from) _ e refl refl (row_token t.Text _ from _ _ (row_end (behind from)))
 
@@ -465,7 +465,7 @@ text_read s from to old new made x p h f q e a =
     (subst (λ (y : List ℕ). Reads (n.Prim s) from (behind from) (a_tree (Words_at (front_place from) (class_of false (y ∷ []))))) (sym (f h)) (primary_text s from h))))
     (same_behind from to e) (none_deeper (TreeWithin (Words_at p (class_of false (x ∷ [])))) old)
 
--- what stands behind a `^`, with its place
+-- what stands after a `^`, with its place
 except_reads : (s : Sort) (from next to : List Lexeme) (p : Place) (v : Value) (U : PlacedTree) → front_terminal from ≡ t.Caret → p ≡ front_place from → next ≡ behind from → Reads (n.Excepted s) next to v →
     value_of (n.Prim s) (mark t.Caret p ∷ (v ∷ [])) ≡ a_tree U → Reads (n.Prim s) from to (a_tree U)
 except_reads s from next to p v U h q e r m =

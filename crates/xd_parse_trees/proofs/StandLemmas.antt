@@ -213,7 +213,7 @@ merged_again rs ps Us s e =
     ap (λ xs. merged_seq (place_of T) (parts_of_seq T ++ (xs ++ []))) e ∙ ap (merged_seq (place_of T)) (append-nil (parts_of_seq T)) ∙ merged_is_placed (place_of T) (parts_of_seq T)
     ∙ ap (λ p. placed_seq p (parts_of_seq T)) (ap (λ p. first_place p (parts_of_seq T)) (place_is rs ps s) ∙ first_is rs ps s ∙ sym (place_is rs ps s)) ∙ is_whole rs ps s
 
--- ---- behind others
+-- ---- after others
 numbers_added : {I : Type 0} (at : I → ℕ) (old more all : List I) → all ≡ old ++ more → map at all ≡ map at old ++ map at more
 numbers_added at old more all e = ap (map at) e ∙ map-append at old more
 

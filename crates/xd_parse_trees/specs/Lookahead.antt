@@ -1,4 +1,4 @@
--- The tokens that a cursor has left: the next one, and those of a lexer behind it.
+-- The tokens that a cursor has left: the next one, and those of a lexer after it.
 use Rattle.std.specs.Prelude.{◌≡◌, ◌<◌, true, false, List, [], ◌∷◌, Option, Some, None, length}
 use Rattle.xd_lex.specs.Tokens.{Lexeme}
 use Rattle.xd_lex.specs.LexedTokens.{lexeme_of, is_last}
@@ -10,7 +10,7 @@ abbrev pub lexemes_left : Option Lookahead → List Lexeme → List Lexeme
 lexemes_left None ls = []
 lexemes_left (Some next) ls = lexeme_of next.token ∷ ls
 
--- it is known what the token is to the grammar, and tokens stand behind it just where it isn't the
+-- it is known what the token is to the grammar, and tokens stand after it just where it isn't the
 -- last
 pub record IsAhead (next : Lookahead) (ls : List Lexeme) : Type 0 where
   pub terminal : next.terminal ≡ terminal_of next.token.kind next.token.text.now

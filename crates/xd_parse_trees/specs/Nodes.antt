@@ -64,7 +64,7 @@ IsNothing p (One q i) = ⊥
 IsNothing p (Sequence q parts) = (q ≡ p) × (parts.items ≡ [])
 IsNothing p (Alternative q parts) = ⊥
 
--- the tokens that stand behind a part, and the node of a part with one
+-- the tokens that stand after a part, and the node of a part with one
 abbrev pub is_operator : Terminal → Bool
 is_operator t.Star = true
 is_operator t.Plus = true
@@ -84,7 +84,7 @@ pub record IsAdded (old new : List Row) (T : PlacedTree) (i : ℕ) : Type 0 wher
   pub placed : placed_at new i ≡ T
   pub only : (j : ℕ) → length old ≤ j → j < length new → placed_at new j ≡ T
 
--- Numbers of nodes are added behind others: of what this tree is in the list. Each old node stands
+-- Numbers of nodes are added after others: of what this tree is in the list. Each old node stands
 -- where it stood, and a new one has this tree.
 pub record Extends (fit : List Row → ℕ → Type 0) (parts_of : PlacedTree → List PlacedTree) (old new : List Row) (T : PlacedTree) (before after : List ℕ) : Type 0 where
   pub more : List ℕ
@@ -124,7 +124,7 @@ pub record ReadsNode (part : Nonterminal) (from to : List Lexeme) (old new : Lis
   pub fewer : length to ≤ length from
   pub no_deeper : NoDeeper (TreeWithin (tree_of new made)) old new
 
--- The nonterminal is read; behind what stood before it, it completes the outer nonterminal, which
+-- The nonterminal is read; after what stood before it, it completes the outer nonterminal, which
 -- is these pieces.
 pub record ReadsInto (outer : Nonterminal) (before : List Value) (part : Nonterminal) (from to : List Lexeme) (old new : List Row) (made : Pieces) : Type 0 where
   pub value : Value

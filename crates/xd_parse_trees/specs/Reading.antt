@@ -31,7 +31,7 @@ abbrev pub front_text : List Lexeme → List ℕ
 front_text [] = []
 front_text (l ∷ ls) = l.text
 
--- the tokens behind the next one
+-- the tokens after the next one
 abbrev pub behind : List Lexeme → List Lexeme
 behind [] = []
 behind (l ∷ ls) = ls
@@ -66,7 +66,7 @@ pub record ReadsTexts (from to : List Lexeme) (all : List (List ℕ)) : Type 0 w
   pub others : Reads n.MoreTexts (behind from) to (texts more)
   pub are : all ≡ unescaped (front_text from) ∷ more
 
--- Behind a `^` these are read; where they are labels, a content is read next.
+-- After a `^` these are read; where they are labels, a content is read next.
 abbrev pub ReadsExcepted : (Sort → Nonterminal) → (from here : List Lexeme) → Excepted → Type 0
 ReadsExcepted part from here (Texts ts) = (s : Sort) → Reads (part s) from here (texts ts.items)
 ReadsExcepted part from here (Labels ws) = (s : Sort) (to : List Lexeme) (T : PlacedTree) → Reads (n.Content s) here to (a_tree T) → Reads (part s) from to (labelled ws.items T)

@@ -27,11 +27,11 @@ struct PlacedLabels {
     names: Vec<Label>,
 }
 
-/// What stands behind a `^`.
+/// What stands after a `^`.
 #[derive(Drop)]
 pub(crate) enum Excepted {
     Texts(Vec<Text>),
-    /// Labels, with the bracket behind them.
+    /// Labels, with the bracket after them.
     Labels(Vec<Label>),
 }
 
@@ -108,7 +108,7 @@ fn read_names(alloc: Global, cursor: &mut Cursor<'_>) -> Result<PlacedLabels, No
     Ok(PlacedLabels { place, names })
 }
 
-/// The labels of a class and the bracket behind them.
+/// The labels of a class and the bracket after them.
 fn read_labels(alloc: Global, cursor: &mut Cursor<'_>) -> Result<PlacedLabels, NoMemory>
     ensures reads { IfOk result (λ l. Reads nonterminals.Labels cursor.old cursor.new (labels l.place l.names.items)) }
     ensures some { IfOk result (λ l. 0 < vec_len l.names) }
@@ -128,7 +128,7 @@ fn read_labels(alloc: Global, cursor: &mut Cursor<'_>) -> Result<PlacedLabels, N
     Ok(labels)
 }
 
-/// A class and the bracket behind it.
+/// A class and the bracket after it.
 pub(crate) fn read_class(alloc: Global, cursor: &mut Cursor<'_>) -> Result<PlacedClass, NoMemory>
     ensures reads { IfOk result (λ c. Reads nonterminals.Class cursor.old cursor.new (class c.place c.class)) }
     ensures fewer { IfOk result (λ c. length cursor.new ≤ length (behind cursor.old)) }
@@ -147,7 +147,7 @@ pub(crate) fn read_class(alloc: Global, cursor: &mut Cursor<'_>) -> Result<Place
     })
 }
 
-/// What stands behind a `^`, up to the bracket behind labels.
+/// What stands after a `^`, up to the bracket after labels.
 pub(crate) fn read_excepted(alloc: Global, cursor: &mut Cursor<'_>) -> Result<Excepted, NoMemory>
     ensures reads { IfOk result (λ e. ReadsExcepted nonterminals.Excepted cursor.old cursor.new e) }
     ensures some { IfOk result (λ e. 0 < count_excepted e) }
@@ -169,7 +169,7 @@ pub(crate) fn read_excepted(alloc: Global, cursor: &mut Cursor<'_>) -> Result<Ex
     read_excepted_list(alloc, cursor)
 }
 
-/// A list behind a `^`, from behind its parenthesis on.
+/// A list after a `^`, from after its parenthesis on.
 fn read_excepted_list(alloc: Global, cursor: &mut Cursor<'_>) -> Result<Excepted, NoMemory>
     ensures reads { IfOk result (λ e. ReadsExcepted nonterminals.ExceptedList cursor.old cursor.new e) }
     ensures some { IfOk result (λ e. 0 < count_excepted e) }

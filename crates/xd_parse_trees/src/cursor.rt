@@ -54,7 +54,7 @@ fn take_next<'a>(lexer: &mut Lexer<'a>) -> Lookahead<'a>
     }
 }
 
-/// Takes the token behind one of this kind, if one is left.
+/// Takes the token after one of this kind, if one is left.
 fn take_behind<'a>(kind: Kind, lexer: &mut Lexer<'a>) -> Option<Lookahead<'a>>
     requires last { is_last kind ≡ true → lexer.old ≡ [] }
     requires more { is_last kind ≡ false → 0 < length lexer.old }
@@ -67,7 +67,7 @@ fn take_behind<'a>(kind: Kind, lexer: &mut Lexer<'a>) -> Option<Lookahead<'a>>
     Some(take_next(lexer))
 }
 
-/// The tokens that are left of a text: the next one, and a lexer that has those behind it.
+/// The tokens that are left of a text: the next one, and a lexer that has those after it.
 ///
 /// Keeps the last label that it made, so that a word that comes many times in a row is one block of
 /// memory.
@@ -121,7 +121,7 @@ impl<'a> Cursor<'a> {
         same(kind, self.peek())
     }
 
-    /// Goes behind the next token, and gives its place.
+    /// Goes after the next token, and gives its place.
     pub fn step(&mut self) -> Place
         ensures place { result ≡ front_place self.old }
         ensures left { self.new ≡ behind self.old }
@@ -183,7 +183,7 @@ impl<'a> Cursor<'a> {
     /// Whether the parenthesis that comes next opens the labels of a class, and no type or pattern
     /// in parentheses.
     ///
-    /// Looks at the words and bars behind it, up to the first token that tells: so no token is
+    /// Looks at the words and bars after it, up to the first token that tells: so no token is
     /// looked at for more than one parenthesis.
     pub fn opens_class(&self, sort: Sort) -> bool
         requires { front_terminal self.now ≡ terminals.ParenL }

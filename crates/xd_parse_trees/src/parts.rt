@@ -100,7 +100,7 @@ pub(crate) fn place_of<I>(parts: &Parts<I>) -> Place
     }
 }
 
-/// A row, and behind it what was read as parts of a sequence.
+/// A row, and after it what was read as parts of a sequence.
 fn with_parts<N: Nodes>(
     nodes: &mut N,
     mut row: VecDeque<N::Id>,
@@ -148,7 +148,7 @@ fn with_branches<N: Nodes>(
     }
 }
 
-/// What was read in front, and behind it what was read then, as one sequence: what is empty is left
+/// What was read in front, and after it what was read then, as one sequence: what is empty is left
 /// out of it.
 pub(crate) fn in_sequence<N: Nodes>(
     alloc: Global,

@@ -15,7 +15,7 @@ pub fn queue_of<T: Copy>(alloc: Global, item: T) -> Result<VecDeque<T>, NoMemory
     Ok(queue)
 }
 
-/// One queue behind the other. Takes as many steps as the shorter one has items. Fails only where
+/// One queue after the other. Takes as many steps as the shorter one has items. Fails only where
 /// memory is refused.
 pub fn join<T: Copy>(mut front: VecDeque<T>, mut back: VecDeque<T>) -> Result<VecDeque<T>, NoMemory>
     ensures { IfOk result (λ all. all.items ≡ front.items ++ back.items) }

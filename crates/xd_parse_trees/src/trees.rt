@@ -90,7 +90,7 @@ fn repeated<I: Copy>(operator: Terminal, part: I) -> NodeForm<I>
     }
 }
 
-/// The operator behind a part, if one comes.
+/// The operator after a part, if one comes.
 fn read_operator<N: Nodes>(
     cursor: &mut Cursor<'_>,
     nodes: &mut N,
@@ -125,7 +125,7 @@ fn add_element<N: Nodes>(
     add_part(nodes, place, NodeForm::Elem(class, inside))
 }
 
-/// A variable around what was read behind its `as`.
+/// A variable around what was read after its `as`.
 fn add_bound<N: Nodes>(
     nodes: &mut N,
     place: Place,
@@ -197,7 +197,7 @@ pub(crate) fn read_branch<N: Nodes>(
     Ok(read)
 }
 
-/// A part, with the operator behind it.
+/// A part, with the operator after it.
 #[cycle(trees)]
 fn read_part<N: Nodes>(
     alloc: Global,
@@ -235,7 +235,7 @@ fn read_variable<N: Nodes>(
     }
 }
 
-/// What a variable behind a `val` at this place is bound to; where no `as` comes it is `Any`.
+/// What a variable after a `val` at this place is bound to; where no `as` comes it is `Any`.
 #[cycle(trees)]
 fn read_bound<N: Nodes>(
     alloc: Global,
@@ -256,7 +256,7 @@ fn read_bound<N: Nodes>(
     add_unbound(alloc, nodes, place, variable)
 }
 
-/// A word, a text, a group in parentheses, what stands behind a `^`, or an element: a class of
+/// A word, a text, a group in parentheses, what stands after a `^`, or an element: a class of
 /// labels and its content.
 #[cycle(trees)]
 fn read_primary<N: Nodes>(
@@ -325,7 +325,7 @@ fn read_exception<N: Nodes>(
     }
 }
 
-/// What stands behind a `(` at this place that begins no class.
+/// What stands after a `(` at this place that begins no class.
 #[cycle(trees)]
 fn read_group<N: Nodes>(
     alloc: Global,
@@ -345,7 +345,7 @@ fn read_group<N: Nodes>(
     Ok(inside)
 }
 
-/// The content of an element, and the bracket behind it.
+/// The content of an element, and the bracket after it.
 #[cycle(trees)]
 fn read_content<N: Nodes>(
     alloc: Global,

@@ -75,7 +75,7 @@ module _ (E : Definitions) (guarded : Guarded E) where
   pub named : (xs : List (List ℕ)) (y : List ℕ) (T : Tree) → body E y ≡ Some T → choices_of_name E (length E) xs y ≡ choices_by (choices_of_name E (length E)) xs T
   named xs y T e = same_at (length E) (suc (length E)) (omega arith) [] y (λ def. def) (omega arith) (body E y) refl xs ∙ some_at (length E) xs y T e
 
--- choices behind choices
+-- choices after choices
 
 then_then : (K F : Continuation) (ds es cs : List Choice) → then_choices (then_choices cs K ds) F es ≡ then_choices cs (K ++ F) (then_choices ds F es)
 then_then K F ds es [] = refl
@@ -94,7 +94,7 @@ two_steps E a b = ap (λ z. choices_ahead E a ++ z) (append_none (choices_ahead 
 abbrev by_parts : Definitions → List (List ℕ) → Tree → List Choice
 by_parts E xs T = choices_by (choices_of_name E (length E)) xs T
 
--- of stops behind one that was there already none counts
+-- of stops after one that was there already none counts
 known_stops : (before cs : List Choice) → Among stop before → Alike (before ++ without_stops cs) (before ++ cs)
 known_stops before [] m = alike_refl (before ++ [])
 known_stops before (stop ∷ cs) m =
@@ -116,7 +116,7 @@ one_stop_alike (stop ∷ cs) = known_stops (stop ∷ []) cs (inl refl)
 one_stop_alike (take_text w xs R ∷ cs) = alike_append (alike_refl (take_text w xs R ∷ [])) (one_stop_alike cs)
 one_stop_alike (take_element c C xs R ∷ cs) = alike_append (alike_refl (take_element c C xs R ∷ [])) (one_stop_alike cs)
 
--- one stop, and then what stands behind
+-- one stop, and then what stands after
 stop_then : (F : Continuation) (cs : List Choice) → then_choices (stop ∷ []) F cs ≡ cs
 stop_then F cs = append_none cs
 

@@ -11,7 +11,7 @@ use Rattle.xd_laws.proofs.FitsWays.{turns_fuel, cond_same}
 use Rattle.xd_laws.proofs.WaysFit.{sound}
 use Rattle.xd_laws.proofs.Unfoldings.{stable, rest_within}
 
--- the ways of a repetition: a turn that leaves less, and the repetition behind it; then no turn
+-- the ways of a repetition: a turn that leaves less, and the repetition after it; then no turn
 abbrev pub turn_ways : (Document → List Way) → Document → Way → List Way
 turn_ways W d v = cond (ltb (item_count v.rest) (item_count d)) (map (then_way v) (W v.rest)) []
 

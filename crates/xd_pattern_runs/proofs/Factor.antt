@@ -137,7 +137,7 @@ share_turn xs W L =
     (λ v m. share_each xs W v)
     ∙ sym (flat_of_map (then_each (λ d. map (share xs) (W d))) (share xs) L)
 
--- a turn that leaves less, and what comes behind it
+-- a turn that leaves less, and what comes after it
 abbrev fewer_each : (Document → List Partial) → Document → Partial → List Partial
 fewer_each W d p = cond (ltb (item_count p.rest) (item_count d)) (then_each W p) []
 
@@ -236,7 +236,7 @@ turns_alike E guarded xs T d cs h =
         (λ c m. sym (turn_one E (piece xs (Star T)) d c))
         ∙ sym (flat_flat (fewer_each (piece_means E (piece xs (Star T))) d) (does E d) cs)
 
--- A turn that is made behind the stop of another does what a turn alone does: the choices before
+-- A turn that is made after the stop of another does what a turn alone does: the choices before
 -- the stop come again.
 
 stopless : (p : Piece) (T cs : List Choice) → has_stop cs ≡ false → then_choices cs (p ∷ []) T ≡ then_choices cs (p ∷ []) []

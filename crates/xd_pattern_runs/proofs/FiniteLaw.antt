@@ -202,7 +202,7 @@ module _ (E : Definitions) (H : List ℕ → ℕ) (heights : HaveHeights E H) (B
   abbrev IsGood : List (List ℕ) → Tree → Type 0
   IsGood xs T = PiecesIn Q G xs T × LowInside H B T
 
-  -- no more than b pieces, and those that come in the place of one with those behind it no more
+  -- no more than b pieces, and those that come in the place of one with those after it no more
   -- either
   abbrev IsStack : ℕ → Continuation → Type 0
   IsStack b [] = Unit {0}

@@ -136,7 +136,7 @@ place_one E K cs d stop h = alike_trans (h refl) (alike_same (sym (bind_nothing 
 place_one E K cs d (take_text w xs R) h = alike_same (behind E R K (text_parts w xs d))
 place_one E K cs d (take_element c C xs R) h = alike_same (behind E R K (element_parts E c C xs d))
 
--- the choices with pieces behind them do what the pieces do behind the choices
+-- the choices with pieces after them do what the pieces do after the choices
 pub place : (E : Definitions) (K : Continuation) (cs : List Choice) (d : Document) (bs : List Choice) → (Among stop bs → Alike (all_do E d cs) (means E K d)) →
     Alike (all_do E d (then_choices bs K cs)) (bind (means E K) (all_do E d bs))
 place E K cs d bs h =

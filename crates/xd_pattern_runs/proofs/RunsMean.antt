@@ -119,7 +119,7 @@ done_after v (w ∷ L) = go (nothing_left w) (done_after v L)
     go true e = ap (λ z. after v w.holds ∷ z) e
     go false e = e
 
--- what is held behind parts that all leave the same document
+-- what is held after parts that all leave the same document
 done_bind : (E : Definitions) (K : Continuation) (L : List Partial) → done (bind (means E K) L) ≡ flat_map (λ v. map (after v) (done (means E K v.rest))) L
 done_bind E K L =
     flat_flat (λ v. cond (nothing_left v) (v.holds ∷ []) []) (then_each (means E K)) L

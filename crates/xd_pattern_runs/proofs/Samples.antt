@@ -47,7 +47,7 @@ shares = refl
 others : map (λ r. held (121 ∷ []) two_items r) (runs no_types two_items (start two_variables)) ≡ two_items ∷ element (97 ∷ []) empty empty ∷ []
 others = refl
 
--- An automaton that mirrors `val x as a[]*`: the pattern, what stands ahead behind an item, and the
+-- An automaton that mirrors `val x as a[]*`: the pattern, what stands ahead after an item, and the
 -- content of an item.
 
 abbrev repeated : Tree

@@ -155,26 +155,26 @@ inside_stays x stop q = tt
 inside_stays x (take_text w xs R) q = inr (q.0, inside_is_open x R q.1)
 inside_stays x (take_element c C xs R) q = inr (inl (q.0, q.1, inside_is_open x R q.2))
 
--- pieces and choices behind a choice
+-- pieces and choices after a choice
 
 placed_behind : (b : Bool) (x : List ℕ) (K : Continuation) (cs : List Choice) → ArePlaced b x K → AllHave (StayPlaced b x) cs → (d : Choice) → StayPlaced b x d → AllHave (StayPlaced b x) (in_place K cs d)
 placed_behind b x K cs f g stop q = g
 placed_behind b x K cs f g (take_text w xs R) q = have_one (StayPlaced b x) (take_text w xs (R ++ K)) (q.0, placed_append b x R K q.1 f)
 placed_behind b x K cs f g (take_element c C xs R) q = have_one (StayPlaced b x) (take_element c C xs (R ++ K)) (q.0, q.1, placed_append b x R K q.2 f)
 
--- inside, with something open behind
+-- inside, with something open after
 opens_place : (x : List ℕ) (K : Continuation) (cs : List Choice) → IsOpen x K → AllHave (StayOpen x) cs → (b : Choice) → StayInside x b → AllHave (StayOpen x) (in_place K cs b)
 opens_place x K cs f g stop q = g
 opens_place x K cs f g (take_text w xs R) q = have_one (StayOpen x) (take_text w xs (R ++ K)) (inl (q.0, inside_open x R K q.1 f))
 opens_place x K cs f g (take_element c C xs R) q = have_one (StayOpen x) (take_element c C xs (R ++ K)) (inl (q.0, q.1, inside_open x R K q.2 f))
 
--- clear, with something ahead behind
+-- clear, with something ahead after
 before_place : (x : List ℕ) (K : Continuation) (cs : List Choice) → IsAhead x K → AllHave (StayAhead x) cs → (b : Choice) → StayClear x b → AllHave (StayAhead x) (in_place K cs b)
 before_place x K cs f g stop q = g
 before_place x K cs f g (take_text w xs R) q = have_one (StayAhead x) (take_text w xs (R ++ K)) (inl (q.0, clear_then x R K q.1 f))
 before_place x K cs f g (take_element c C xs R) q = have_one (StayAhead x) (take_element c C xs (R ++ K)) (inl (q.0, q.1, clear_then x R K q.2 f))
 
--- ahead, with nothing behind
+-- ahead, with nothing after
 ahead_place : (x : List ℕ) (K : Continuation) (cs : List Choice) → IsClear x K → AllHave (StayAhead x) cs → (b : Choice) → StayAhead x b → AllHave (StayAhead x) (in_place K cs b)
 ahead_place x K cs f g stop q = g
 ahead_place x K cs f g (take_text w xs R) (inl q) = have_one (StayAhead x) (take_text w xs (R ++ K)) (inl (q.0, ahead_append x R K q.1 f))

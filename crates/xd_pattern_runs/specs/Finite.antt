@@ -9,8 +9,8 @@ use Rattle.xd_syntax.specs.RecursionFaults.{IsSound}
 use Rattle.xd_pattern_runs.specs.Runs.{Continuation, start, Choice, stop, take_text, take_element, has_stop, choices}
 use Rattle.xd_pattern_runs.specs.Linear.{BindNothing}
 
--- No more than so many pieces come to stand behind one another in the place of the type, where H
--- gives what comes in the place of a name. Behind what is last nothing stands, so that a name may
+-- No more than so many pieces come to stand after one another in the place of the type, where H
+-- gives what comes in the place of a name. After what is last nothing stands, so that a name may
 -- lead back to itself there.
 abbrev pub IsLow : (List ℕ → ℕ) → ℕ → Tree → Type 0
 IsLow H b Empty = Unit {0}
@@ -29,7 +29,7 @@ IsLow H b (Val x T) = IsLow H b T
 abbrev pub HaveHeights : Definitions → (List ℕ → ℕ) → Type 0
 HaveHeights E H = (y : List ℕ) (T : Tree) → body E y ≡ Some T → IsLow H (H y) T
 
--- choices lead there from the pattern, to what stands ahead behind an item or in its content
+-- choices lead there from the pattern, to what stands ahead after an item or in its content
 pub data IsReached (E : Definitions) (P : Tree) : Continuation → Type 0 where
   from_start : IsReached E P (start P)
   behind_text : (K R : Continuation) (w : TextClass) (xs : List (List ℕ)) → IsReached E P K → Among (take_text w xs R) (choices E K) → IsReached E P R

@@ -29,7 +29,7 @@ pub data Choice : Type 0 where
   take_text : (words : TextClass) (marks : List (List ℕ)) (rest : List Piece) → Choice
   take_element : (class : LabelClass) (content : List Piece) (marks : List (List ℕ)) (rest : List Piece) → Choice
 
--- these pieces behind the choice, and these choices in the place of a stop
+-- these pieces after the choice, and these choices in the place of a stop
 abbrev pub in_place : Continuation → List Choice → Choice → List Choice
 in_place K behind stop = behind
 in_place K behind (take_text w xs R) = take_text w xs (R ++ K) ∷ []

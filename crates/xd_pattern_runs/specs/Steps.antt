@@ -9,7 +9,7 @@ use Rattle.xd_pattern_runs.specs.Alike.{Alike}
 use Rattle.xd_pattern_runs.specs.Runs.{Piece, Continuation, Choice, take_text, take_element, start, in_place, choices}
 
 -- What stands ahead, up to the end of a turn of a repetition where it stands in one. A turn that
--- takes nothing isn't made, so at its end there is nothing to choose; behind it stands the
+-- takes nothing isn't made, so at its end there is nothing to choose; after it stands the
 -- repetition again, with what follows it.
 pub record Ahead : Type 0 where
   pub front : Continuation
@@ -22,7 +22,7 @@ abbrev pub behind_turn : Option Continuation → Continuation
 behind_turn None = []
 behind_turn (Some K) = K
 
--- the choice in a turn: it takes something, and what stands behind the turn comes behind it
+-- the choice in a turn: it takes something, and what stands after the turn comes after it
 abbrev pub in_turn_of : Option Continuation → Choice → List Choice
 in_turn_of None c = c ∷ []
 in_turn_of (Some K) c = in_place K [] c

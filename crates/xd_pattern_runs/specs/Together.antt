@@ -13,7 +13,7 @@ pub data IsFree (x : List ℕ) : Run → Type 0 where
   free_text : {xs : List (List ℕ)} {r : Run} → has_word xs x ≡ false → IsFree x r → IsFree x (over_text xs r)
   free_element : {xs : List (List ℕ)} {k r : Run} → has_word xs x ≡ false → IsFree x k → IsFree x r → IsFree x (over_element xs k r)
 
--- items of the variable, with nothing of it in their contents, and behind them none
+-- items of the variable, with nothing of it in their contents, and after them none
 pub data IsBlock (x : List ℕ) : Run → Type 0 where
   block_end : {r : Run} → IsFree x r → IsBlock x r
   block_text : {xs : List (List ℕ)} {r : Run} → has_word xs x ≡ true → IsBlock x r → IsBlock x (over_text xs r)

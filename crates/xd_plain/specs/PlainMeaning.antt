@@ -21,13 +21,13 @@ use Rattle.xd_plain.specs.declared.evaluate.AllValued.{AllValued}
 use Rattle.xd_plain.specs.declared.evaluate.NoValue.{NoValue}
 use Rattle.xd_plain.specs.declared.evaluate.NoValue.TheVariants.{Spent, Stuck, NoMemory}
 
--- the outcome is this one; a want of memory tells nothing
+-- the outcome is this one; running out of memory tells nothing
 abbrev pub IsWithout : {A : Type 0} → NoValue → Outcome A → Type 0
 IsWithout Spent o = o ≡ M.Spent
 IsWithout Stuck o = o ≡ M.Stuck
 IsWithout NoMemory o = Unit {0}
 
--- the answer is the outcome, where what is found stands for this one; a want of memory tells
+-- the answer is the outcome, where what is found stands for this one; running out of memory tells
 -- nothing
 abbrev pub Tells : {T A : Type 0} → (T → Outcome A) → Result T NoValue → Outcome A → Type 0
 Tells stands_for r o = MatchResult r (λ found. o ≡ stands_for found) (λ why. IsWithout why o)

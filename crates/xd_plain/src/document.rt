@@ -18,7 +18,7 @@ pub enum PlainDocument {
 }
 
 impl PlainDocument {
-    /// The text, and the rest behind it. Fails only where memory is refused.
+    /// The text, and the rest after it. Fails only where memory is refused.
     pub fn with_text(
         alloc: Global,
         characters: &Text,
@@ -30,7 +30,7 @@ impl PlainDocument {
         Ok(PlainDocument::Text(characters.share()?, rest))
     }
 
-    /// The element, and the rest behind it. Fails only where memory is refused.
+    /// The element, and the rest after it. Fails only where memory is refused.
     pub fn with_element(
         alloc: Global,
         label: &Label,

@@ -397,7 +397,7 @@ fn parameters_bound(
     Ok(made)
 }
 
-/// The bindings, and the outer ones behind them.
+/// The bindings, and the outer ones after them.
 fn with_outer(
     alloc: Global,
     bindings: Vec<PlainBinding>,

@@ -27,7 +27,7 @@ pub enum PlainExpression {
     Match(Box<PlainExpression>, Box<PlainClauses>),
 }
 
-/// The arguments of a call: the first, and those behind it.
+/// The arguments of a call: the first, and those after it.
 #[derive(Drop)]
 #[cycle(expressions)]
 pub enum PlainArguments {
@@ -35,7 +35,7 @@ pub enum PlainArguments {
     Argument(Box<PlainExpression>, Box<PlainArguments>),
 }
 
-/// The clauses of a match: the first one's pattern and body, and those behind it.
+/// The clauses of a match: the first one's pattern and body, and those after it.
 #[derive(Drop)]
 #[cycle(expressions)]
 pub enum PlainClauses {

@@ -487,7 +487,7 @@ fn one_bound(alloc: Global, variable: &Label, way: &PlainWay) -> Result<PlainWay
     leaving(alloc, bindings, taken, &way.rest)
 }
 
-/// The variable bound to what the way takes, and the way's bindings behind it.
+/// The variable bound to what the way takes, and the way's bindings after it.
 fn with_variable(
     alloc: Global,
     variable: &Label,

@@ -192,7 +192,7 @@ word_here w some b f t e k = item_here (IsOneOf w) (λ u. word_comes w u some) (
 
 -- ---- an element that is open
 
--- the same of what may stand behind the items
+-- the same of what may stand after the items
 abbrev pub HasCompletionBy : (Document → Type 0) → Document → (Document → Type 0) → Type 0
 HasCompletionBy P front T = (r : Document) × T r × P (join front r)
 

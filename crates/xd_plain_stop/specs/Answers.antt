@@ -1,5 +1,4 @@
--- The documents of a type, and tokens of bytes that break off. Only private contracts speak of
--- them.
+-- The documents of a type, and tokens of bytes that break off.
 use Rattle.std.specs.Prelude.{Option, Some, None}
 use Rattle.xd_base.specs.declared.Place.{Place}
 use Rattle.xd_doc.specs.Document.{Document}

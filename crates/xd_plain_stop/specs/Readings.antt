@@ -1,4 +1,4 @@
--- What tokens leave open. Only private contracts speak of it.
+-- What tokens leave open.
 use Rattle.std.specs.Prelude.{Bool, List, [], ◌∷◌, Option, Some, None}
 use Rattle.xd_read.specs.Grammar as G
 use Rattle.xd_read.specs.Grammar.{Terminal}

@@ -1,4 +1,4 @@
--- What may stand behind items, and what goes on from them.
+-- What may stand after items, and what goes on from them.
 use Rattle.std.specs.Prelude.{◌≡◌, ℕ, Bool, true, false, List}
 use Rattle.xd_doc.specs.Document.{Document, empty, text, element, join, has_item}
 use Rattle.xd_plain.specs.PlainDocuments.{document_of}
@@ -22,9 +22,7 @@ IsTail (Open' l c p t) r = IsOpen l (document_of c) (IsTail t) r
 abbrev pub HasCompletion : (Document → Type 0) → Document → Tail → Type 0
 HasCompletion P front t = (r : Document) × IsTail t r × P (join front r)
 
--- ---- of what follows only private contracts speak
-
--- anything may come behind what must
+-- anything may come after what must
 abbrev pub goes_on : Tail → Bool
 goes_on Nothing = false
 goes_on t = true

@@ -26,7 +26,7 @@ pub enum Coming {
     Content,
     /// What follows an item.
     More,
-    /// The item behind a comma.
+    /// The item after a comma.
     Item,
     /// The `)` of `()`.
     Closing,
@@ -53,7 +53,7 @@ impl Coming {
         }
     }
 
-    /// What may stand behind the items that are there.
+    /// What may stand after the items that are there.
     fn tail(self) -> Tail
         ensures { result ≡ tail_of self }
     {
@@ -189,7 +189,7 @@ fn goes(coming: Coming, items: PlainDocument, frames: Frames) -> Step
     })
 }
 
-/// With a text behind the items.
+/// With a text after the items.
 fn with_text(
     alloc: Global,
     text: &Text,
@@ -203,7 +203,7 @@ fn with_text(
     Ok(goes(Coming::More, items, frames))
 }
 
-/// With an element that is opened behind the items.
+/// With an element that is opened after the items.
 fn with_open(
     alloc: Global,
     label: Label,
@@ -267,7 +267,7 @@ fn label_of(alloc: Global, token: &str) -> Result<Label, NoMemory>
     Label::new(alloc, word)
 }
 
-/// The items of the whole document, and what may stand behind them.
+/// The items of the whole document, and what may stand after them.
 #[derive(Drop)]
 pub struct Begun {
     pub front: PlainDocument,

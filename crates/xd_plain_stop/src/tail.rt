@@ -1,4 +1,4 @@
-//! What may stand behind the items that are there.
+//! What may stand after the items that are there.
 
 ghost use Rattle.std.specs.Prelude.{◌≡◌, ◌↔◌, IsTrue};
 ghost use Rattle.xd_doc.specs.Document.{empty};
@@ -7,7 +7,7 @@ ghost use Rattle.xd_plain_stop.specs.Tails.{IsTail, goes_on, takes_item};
 use xd_doc::Label;
 use xd_plain::PlainDocument;
 
-/// What may stand behind the items that are there.
+/// What may stand after the items that are there.
 #[derive(Drop)]
 pub enum Tail {
     /// No item.
@@ -15,7 +15,7 @@ pub enum Tail {
     Anything,
     /// An item, and then anything.
     Something,
-    /// An element with this label that isn't closed: its items so far, and what may stand behind
+    /// An element with this label that isn't closed: its items so far, and what may stand after
     /// these. Anything follows it.
     Open(Label, PlainDocument, Box<Tail>),
 }
@@ -43,7 +43,7 @@ impl Tail {
         }
     }
 
-    /// Whether anything may come behind what must.
+    /// Whether anything may come after what must.
     pub(crate) fn goes_on(&self) -> bool
         ensures { result ≡ goes_on self.now }
     {

@@ -26,7 +26,7 @@ map_joined f [] ys = refl
 map_joined f (x ∷ xs) ys = ap (λ l. f x ∷ l) (map_joined f xs ys)
 
 module _ {A : Type 0} where
-  -- the lines that a course has behind it
+  -- the lines that a course has after it
   abbrev pub seen : Course A → List (Part A)
   seen at_count = []
   seen (at_first_goal n) = goal_count n ∷ []
@@ -56,7 +56,7 @@ module _ {A : Type 0} where
       ∙ ap (λ l. blocks_from 1 bs ++ l) (append-nil (block_parts (1 + length bs) b))
       ∙ ap (λ j. blocks_from 1 bs ++ block_parts j b) (omega arith)
 
-  -- what stands behind the blocks grows by a line
+  -- what stands after the blocks grows by a line
   grown : (n : ℕ) (B X Y : List (Part A)) (p : Part A) → Y ≡ X ++ p ∷ [] → goal_count n ∷ (B ++ Y) ≡ (goal_count n ∷ (B ++ X)) ++ p ∷ []
   grown n B X Y p e = ap (λ l. goal_count n ∷ l) (ap (λ l. B ++ l) e ∙ sym (append_assoc B X (p ∷ [])))
 
@@ -152,7 +152,7 @@ module _ {A : Type 0} where
   abbrev has_cases : Block A → List Case → Block A
   has_cases b cs = record b { cases = cs }
 
-  -- behind the cases, a line that ends the goal
+  -- after the cases, a line that ends the goal
   cases_end : (n : ℕ) (bs : List (Block A)) (b : Block A) (cs : List Case) (q : Part A) (rest : List (Part A)) →
       along (Some (in_cases n bs b)) (map case_part cs ++ q ∷ rest) ≡ along (after_goal n bs (has_cases b (b.cases ++ cs)) q) rest
   cases_end n bs b [] q rest = ap (λ l. along (after_goal n bs (has_cases b l) q) rest) (sym (append-nil b.cases))
@@ -184,7 +184,7 @@ module _ {A : Type 0} where
   rights_end n bs T Us None (c ∷ cs) q rest e = cases_end n bs (with_case (plain_block T Us) c) cs q rest
   rights_end n bs T Us (Some m) cs q rest e = cases_end n bs (with_empty T Us m) cs q rest
 
-  -- the lines of a goal behind its first one
+  -- the lines of a goal after its first one
   abbrev inner : Block A → List (Part A)
   inner b = left_part b.left ∷ (map right_part b.rights ++ (empty_parts b.empty_right ++ map case_part b.cases))
 

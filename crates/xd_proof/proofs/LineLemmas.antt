@@ -93,7 +93,7 @@ pub cut_free : (c : ℕ) (ls : List (Bor (List ℕ))) (l : Bor (List ℕ)) → A
     AllByRecursion (IsFreeOf c) (map (λ w. w.now) (ls ++ l ∷ []))
 cut_free c ls l a f = subst (AllByRecursion (IsFreeOf c)) (sym (map_push (λ (w : Bor (List ℕ)). w.now) ls l)) (free_more c (map (λ w. w.now) ls) l.now a f)
 
--- words, and the last one behind them
+-- words, and the last one after them
 last_word : (ls : List (List ℕ)) (l : List ℕ) → each_ended space ls ++ l ≡ spaced (ls ++ l ∷ [])
 last_word [] l = refl
 last_word (x ∷ []) l = append_assoc x (space ∷ []) l

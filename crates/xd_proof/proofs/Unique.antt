@@ -103,7 +103,7 @@ no_word : (l w : List ℕ) → l ≡ w → is_word l ≡ true → is_word w ≡ 
 no_word l w e h k = let z : is_word w ≡ true = subst (λ x. is_word x ≡ true) e h in let y : false ≡ true = sym k ∙ z in cc
 
 -- ---- atoms
--- a text in quotes, with something behind it
+-- a text in quotes, with something after it
 pub quoted_one : (s t r q : List ℕ) → quoted s ++ r ≡ quoted t ++ q → (s ≡ t) × (r ≡ q)
 quoted_one s t r q e =
     let a : escaped_all s ++ 34 ∷ r ≡ escaped_all t ++ 34 ∷ q =
@@ -147,7 +147,7 @@ plain_apart a b r q h k p s e =
     let w = same_front space (atom_word a) (atom_word b) r q (plain_free a h p) (plain_free b k s) e in
     (plain_one a b h k p s w.0, w.1)
 
--- an atom, and what stands behind the space behind it
+-- an atom, and what stands after the space after it
 pub atom_one : (a b : Atom) (r q : List ℕ) → IsAtom a → IsAtom b → atom_word a ++ space ∷ r ≡ atom_word b ++ space ∷ q → (a ≡ b) × (r ≡ q)
 atom_one (this_text s) (this_text t) r q h k e = let w = quoted_one s t (space ∷ r) (space ∷ q) e in (ap this_text w.0, ap (λ l. drop 1 l) w.1)
 atom_one (this_text s) (this_label m) r q h k e = absurd (plain_no_quote (this_label m) q s r k refl (sym e))

@@ -30,13 +30,13 @@ pub record SpellsSteps (count : ℕ) (words : List (List ℕ)) (steps : List Ste
   pub spelled : flat_map tree_words trees ≡ words
   pub taken : flat_map steps_of trees ≡ steps
 
--- the first two words are this step, and these stand behind it
+-- the first two words are this step, and these stand after it
 pub record IsStep (words : List (List ℕ)) (step : Step) (rest : List (List ℕ)) : Type 0 where
   pub word : List ℕ
   pub stands : words ≡ step_letter step ∷ (word ∷ rest)
   pub number : SpellsNumber word (step_number step)
 
--- how many trees are to come behind it, where besides the step's own tree so many were
+-- how many trees are to come after it, where besides the step's own tree so many were
 abbrev pub wanted_after : Step → ℕ → ℕ
 wanted_after (Content n) m = m
 wanted_after (Rest n) m = m

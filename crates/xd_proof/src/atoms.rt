@@ -73,7 +73,7 @@ fn plain_atom(alloc: Global, word: &[u8]) -> Result<Option<ProofAtom>, NoMemory>
     Ok(Some(ProofAtom::Label(Label::new(alloc, text)?)))
 }
 
-/// What stands behind a space at the front.
+/// What stands after a space at the front.
 fn behind_space(bytes: &[u8]) -> Option<&[u8]>
     ensures { MatchOption result ((rest : List ℕ) → bytes.now ≡ space ∷ rest → ⊥) (λ r. bytes.now ≡ space ∷ r.now) }
 {
@@ -83,7 +83,7 @@ fn behind_space(bytes: &[u8]) -> Option<&[u8]>
     if *first == b' ' { Some(rest) } else { None }
 }
 
-/// The atom in quotes whose inside stands at the front, and what stands behind the space behind it.
+/// The atom in quotes whose inside stands at the front, and what stands after the space after it.
 fn quoted_atom<'a>(
     alloc: Global,
     inside: &'a [u8],
@@ -100,7 +100,7 @@ fn quoted_atom<'a>(
     }
 }
 
-/// The atom at the front, and what stands behind the space behind it. Takes time linear in its
+/// The atom at the front, and what stands after the space after it. Takes time linear in its
 /// spelling.
 pub fn read_atom<'a>(
     alloc: Global,

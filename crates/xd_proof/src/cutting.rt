@@ -7,14 +7,14 @@ ghost use Rattle.xd_proof.specs.LineWords.{AreWords};
 use std::alloc::Global;
 use xd_doc::NoMemory;
 
-/// The lines that a line feed ends, without it, and what stands behind the last line feed.
+/// The lines that a line feed ends, without it, and what stands after the last line feed.
 #[derive(Drop)]
 pub struct Lines<'a> {
     pub lines: Vec<&'a [u8]>,
     pub left: &'a [u8],
 }
 
-/// The text up to the first byte that is the mark, and what stands behind that.
+/// The text up to the first byte that is the mark, and what stands after that.
 pub fn before_mark(mark: u8, bytes: &[u8]) -> Option<(&[u8], &[u8])>
     ensures { MatchOption result (IsFreeOf mark bytes.now) (λ r. (bytes.now ≡ r.0.now ++ mark ∷ r.1.now) × IsFreeOf mark r.0.now) }
 {

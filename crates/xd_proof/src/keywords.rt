@@ -7,7 +7,7 @@ ghost use Rattle.xd_proof.specs.Parts.{Follows};
 use crate::cutting::before_mark;
 use crate::numbers::read_number;
 
-/// What stands behind the first word, where that is the wanted one.
+/// What stands after the first word, where that is the wanted one.
 fn behind_same<'a>(first: &[u8], wanted: &[u8], behind: &'a [u8]) -> Option<&'a [u8]>
     ensures { MatchOption result (first.now ≢ wanted.now) (λ r. (first.now ≡ wanted.now) × (r.now ≡ behind.now)) }
 {
@@ -17,7 +17,7 @@ fn behind_same<'a>(first: &[u8], wanted: &[u8], behind: &'a [u8]) -> Option<&'a 
     None
 }
 
-/// What stands behind this word and the space behind it, where the line begins so.
+/// What stands after this word and the space after it, where the line begins so.
 pub fn behind_word<'a>(word: &[u8], line: &'a [u8]) -> Option<&'a [u8]>
     requires { IsFreeOf space word.now }
     ensures { MatchOption result ((rest : List ℕ) → line.now ≡ word.now ++ space ∷ rest → ⊥) (λ r. line.now ≡ word.now ++ space ∷ r.now) }

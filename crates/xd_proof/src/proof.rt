@@ -28,7 +28,7 @@ pub struct ProofGoal {
 }
 
 /// The goals of a proof, one at least. The first is its claim; others are named by their numbers,
-/// from 1. Each of their lines, and the line behind a goal, has a number below 2^64; and the steps
+/// from 1. Each of their lines, and the line after a goal, has a number below 2^64; and the steps
 /// of each case are those of a choice tree.
 #[derive(Drop)]
 pub struct Proof {

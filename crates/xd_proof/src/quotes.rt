@@ -7,7 +7,7 @@ ghost use Rattle.xd_doc.specs.Document.{escaped, escaped_all};
 use std::alloc::Global;
 use xd_doc::{NoMemory, Text};
 
-/// The character that stands at the front as the canonical text has it, and what stands behind it.
+/// The character that stands at the front as the canonical text has it, and what stands after it.
 fn first_character(bytes: &[u8]) -> Option<(u8, &[u8])>
     ensures { MatchOption result ((c : ℕ) (rest : List ℕ) → bytes.now ≡ escaped c ++ rest → ⊥) (λ r. bytes.now ≡ escaped r.0 ++ r.1.now) }
 {
@@ -23,7 +23,7 @@ fn first_character(bytes: &[u8]) -> Option<(u8, &[u8])>
     }
 }
 
-/// The character that an escape at the front stands for: these bytes stand behind its `\`.
+/// The character that an escape at the front stands for: these bytes stand after its `\`.
 fn escape<'a>(bytes: &'a [u8], behind: &'a [u8]) -> Option<(u8, &'a [u8])>
     requires { bytes.now ≡ 92 ∷ behind.now }
     ensures { MatchOption result ((c : ℕ) (rest : List ℕ) → bytes.now ≡ escaped c ++ rest → ⊥) (λ r. bytes.now ≡ escaped r.0 ++ r.1.now) }
@@ -40,7 +40,7 @@ fn escape<'a>(bytes: &'a [u8], behind: &'a [u8]) -> Option<(u8, &'a [u8])>
     }
 }
 
-/// What stands behind a quote at the front.
+/// What stands after a quote at the front.
 pub fn behind_quote(bytes: &[u8]) -> Option<&[u8]>
     ensures { MatchOption result ((rest : List ℕ) → bytes.now ≡ 34 ∷ rest → ⊥) (λ r. bytes.now ≡ 34 ∷ r.now) }
 {
@@ -50,7 +50,7 @@ pub fn behind_quote(bytes: &[u8]) -> Option<&[u8]>
     if *first == b'"' { Some(rest) } else { None }
 }
 
-/// The text whose inside and closing quote stand at the front, and what stands behind it. Each
+/// The text whose inside and closing quote stand at the front, and what stands after it. Each
 /// character stands as the canonical text has it. Takes time linear in the text.
 pub fn read_quoted<'a>(alloc: Global, bytes: &'a [u8]) -> Result<Option<(Text, &'a [u8])>, NoMemory>
     ensures { IfOk result (λ made. MatchOption made ((s r : List ℕ) → is_utf8 s ≡ true → bytes.now ≡ escaped_all s ++ 34 ∷ r → ⊥) (λ m. (is_utf8 m.0 ≡ true) × (bytes.now ≡ escaped_all m.0 ++ 34 ∷ m.1.now))) }

@@ -64,7 +64,7 @@ fn next_step(wanted: usize, words: &[&[u8]], at: usize) -> Option<Step>
     first_step(left)
 }
 
-/// How many trees are to come behind the step.
+/// How many trees are to come after the step.
 fn wanted_after(step: Step, wanted: usize) -> usize
     requires some { 0 < wanted }
     requires small { wanted + 1 < 2 ^ 64 }

@@ -316,7 +316,7 @@ wanted_next n items i a ws l e =
     ap (λ xs. wanted_of n xs ++ ws) (drop-cons items i a l) ∙ ap (λ (x : read.ProofAtom). (n, atom_of x) ∷ (wanted_of n (drop (suc i) items) ++ ws)) (sym e)
 
 module _ (types : List Row) (cells : List Cell) (E : Definitions) (gs : List Goal) (g : Goal) (v : CasesView) (p : Path) (f : CasesFit v p) (m : Meets types cells E gs g v) where
-  -- the cases that a head wants, and those behind them
+  -- the cases that a head wants, and those after them
   pub head_start : (n : Named) → AreNamed (kinds_of v.left ++ kinds_of v.rights) n → (left : ℕ) (d : NumberedHead) → left < length v.left → (atoms items : List read.ProofAtom) →
       map atom_of atoms ≡ atoms_of (record { labels = n.labels.names; texts = n.texts.names }) (kind_at (get_or v.left left d).kind) → items ≡ atoms →
       atoms_from (named E g) (left + 1) (drop left (laws.heads E g.left)) ≡ wanted_of (left + 1) items ++ atoms_from (named E g) (left + 1 + 1) (drop (left + 1) (laws.heads E g.left))

@@ -116,7 +116,7 @@ zip_drop P (v ∷ xs) [] z i x h e = absurd z
 zip_drop P (v ∷ xs) (w ∷ ys) z zero x h e = (w, refl, subst (λ a. P a w) (sym e) z.0)
 zip_drop P (v ∷ xs) (w ∷ ys) z (suc i) x h e = zip_drop P xs ys z.1 i x (omega arith) e
 
--- a goal that was looked at, and those behind it
+-- a goal that was looked at, and those after it
 pub goals_step : (types : List Row) (E : Definitions) (gs : List Goal) (goals : List ProofGoal) (ls : List Lined) (at : ℕ) (g : ProofGoal) (found : Option Breach) →
     AllZip (IsLinedAt types) goals ls → at < length goals → g ≡ get_or goals at g → ((l : Lined) → IsLinedAt types g l → option_map breach_of found ≡ wrong_goal E gs l) →
     wrong_goals E gs (drop at ls) ≡ or_next (option_map breach_of found) (wrong_goals E gs (drop (at + 1) ls))

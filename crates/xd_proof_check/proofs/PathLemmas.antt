@@ -80,7 +80,7 @@ path_clear contents rests p i e =
 
 -- ---- room stays
 
--- counts of nothing, and more zeros behind them
+-- counts of nothing, and more zeros after them
 pub counts_longer : (cs zs : List ℕ) → AreCounts cs [] → AreCounts zs [] → AreCounts (cs ++ zs) []
 counts_longer [] zs a b m = b m
 counts_longer (c ∷ cs) zs a b zero = a zero

@@ -63,12 +63,12 @@ pub record CasesFit (v : CasesView) (p : Path) : Type 0 where
   pub rests : v.rests ≡ map (λ (h : NumberedHead). h.rest) v.rights
   pub split : length v.rights ≤ length p.split.items
 
--- what is wrong first on a line, or else behind it
+-- what is wrong first on a line, or else after it
 abbrev pub wrong_after : ℕ → Option Reason → Option Refusal → Option Refusal
 wrong_after line None behind = behind
 wrong_after line (Some r) behind = Some (line, reason_of r)
 
--- what is wrong first, where these cases are wanted behind those that were looked at
+-- what is wrong first, where these cases are wanted after those that were looked at
 abbrev pub wrong_behind : Definitions → List Goal → Goal → ℕ → Progress → List HeadAtom → Option Refusal
 wrong_behind E gs g line (Behind next) ws = wrong_cases E gs g (line + next) ws (drop next g.cases)
 wrong_behind E gs g line (Broken bad r) ws = Some (line + bad, reason_of r)

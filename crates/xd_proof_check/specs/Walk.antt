@@ -49,7 +49,7 @@ kind_matches a (Some k) = matches_atom a k
 abbrev pub split_fits : SettingView → List Turn → ℕ → Bool
 split_fits b ts n = kind_matches b.atom (numbered b.kinds n) && not (is_among (heads_split ts) (n - 1))
 
--- the path behind a step, the newest turn first
+-- the path after a step, the newest turn first
 abbrev pub turns_behind : List Turn → Step → List Turn
 turns_behind ts (Content n) = turned ts
 turns_behind ts (Rest n) = turned ts

@@ -48,7 +48,7 @@ pub(crate) enum Progress {
 }
 
 /// The position of the first case that is wrong, and what is wrong with it. Where one is missing it
-/// is the position behind the last one.
+/// is the position after the last one.
 pub(crate) fn check_cases(
     alloc: Global,
     cases: &Cases,

@@ -41,7 +41,7 @@ pub fn accepts(
     // the inclusions that it claims hold
     ensures holds { IfOk result (λ verdict. (goals : List Lined) → AreGoalsAt sound.old.types proof.now goals → verdict ≡ verdicts.Accepted → AllByRecursion (Claim (names_of (program_tree sound.old))) (goals_of goals)) }
 
-    // after want of memory too
+    // after `NoMemory` too
     ensures adds { AddsTypes sound.old sound.new }
     ensures same { program_tree sound.new ≡ program_tree sound.old }
     ensures shallow { IsShallow sound.old.types → IsShallow sound.new.types }

@@ -81,7 +81,7 @@ fn walk(setting: &Setting, steps: &[Step], path: &mut Path) -> Result<Option<Rea
     Ok(None)
 }
 
-/// What is wrong with a step; where nothing is, the path goes on behind it.
+/// What is wrong with a step; where nothing is, the path goes on after it.
 fn take_step(setting: &Setting, step: Step, path: &mut Path) -> Result<Option<Reason>, NoMemory>
     requires setting { IsSetting (setting_of setting.now) path.old }
     requires path { IsPath setting.now.contents.now setting.now.rests.now path.old }

@@ -82,7 +82,7 @@ all_append : {X : Type 0} (P : X → Type 0) (xs ys : List X) → AllByRecursion
 all_append P [] ys h k = k
 all_append P (x ∷ xs) ys h k = (h.0, all_append P xs ys h.1 k)
 
--- the keys of a head, and those of the heads behind it
+-- the keys of a head, and those of the heads after it
 keyed_all : (P : ℕ → Type 0) (n : ℕ) (atoms : List TableAtom) → P n → AllByRecursion (λ (k : rules.CaseKey). P k.head) (map (rules.keyed n) atoms)
 keyed_all P n [] p = tt
 keyed_all P n (a ∷ atoms) p = (p, keyed_all P n atoms p)

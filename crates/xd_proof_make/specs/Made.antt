@@ -69,8 +69,6 @@ pub record IsProofOf (p : ProgramTable) (c : CellsView) (t : TableView) (goal : 
   pub named : AllByRecursion (UsesDefined (program_tree p)) (claim.left ∷ claim.rights) → AllByRecursion (UsesDefined (program_tree p)) (types_of (goals_of lined))
   pub between : IsBetween (continuation_of p.types c) (row_at t.rows goal) claim
 
--- ---- of what follows only private contracts speak
-
 -- the left cannot be empty; or it can, and so can the right of this number
 abbrev pub IsEmptyRight : Automaton → State → List State → Option ℕ → Type 0
 IsEmptyRight a left rights None = is_last_in a left ≡ false

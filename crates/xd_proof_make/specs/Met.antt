@@ -1,5 +1,4 @@
--- Goals that are met, in order, and the number of each: its place among them, from 1. Only private
--- contracts speak of them.
+-- Goals that are met, in order, and the number of each: its place among them, from 1.
 use Rattle.std.specs.Prelude.{◌≡◌, ℕ, zero, suc, ◌+◌, Bool, true, List, [], ◌∷◌, length, Some, slice_get, slice_index_or}
 use Rattle.std.specs.List.{AllByRecursion}
 use Rattle.xd_rules.specs.Rules.{ChoiceTree, AllLeaves}
@@ -31,7 +30,7 @@ unmet [] = 0
 unmet (zero ∷ ns) = suc (unmet ns)
 unmet (suc n ∷ ns) = unmet ns
 
--- more goals are met, behind those that were
+-- more goals are met, after those that were
 pub record MeetsMore (order numbers order2 numbers2 : List ℕ) : Type 0 where
   pub sized : length numbers2 ≡ length numbers
   pub kept : (g k : ℕ) → slice_get numbers g ≡ Some (suc k) → slice_get numbers2 g ≡ Some (suc k)

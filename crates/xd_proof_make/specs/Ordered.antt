@@ -1,4 +1,4 @@
--- Cases in the order of the heads of a type. Only private contracts speak of them.
+-- Cases in the order of the heads of a type.
 use Rattle.std.specs.Prelude.{◌≡◌, ℕ, ◌+◌, ◌<◌, ◌≤◌, Bool, true, false, List, [], ◌∷◌, ◌++◌}
 use Rattle.std.specs.List.{AllByRecursion, AllZip}
 use Rattle.xd_meaning.specs.Consistent.{Case}

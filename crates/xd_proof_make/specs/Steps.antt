@@ -1,5 +1,4 @@
--- Choice trees of a table as steps, each tree before its parts, with the table's numbers. Only
--- private contracts speak of them.
+-- Choice trees of a table as steps, each tree before its parts, with the table's numbers.
 use Rattle.std.specs.Prelude.{◌≡◌, ℕ, List, [], ◌∷◌, ◌++◌, Some, slice_get}
 use Rattle.xd_rules.specs.Rules.{ChoiceTree, ContentLeaf, RestLeaf, SplitOn}
 use Rattle.xd_goals.specs.Trees.{StandsAt}

@@ -1,4 +1,4 @@
--- Goals of a table as goals between types. Only private contracts speak of most of this.
+-- Goals of a table as goals between types.
 use Rattle.std.specs.Prelude.{◌≡◌, ℕ, List, map, Option, Some}
 use Rattle.std.specs.List.{AllByRecursion, AllZip}
 use Rattle.xd_doc.specs.Classes.{LabelClass}

@@ -41,7 +41,7 @@ pub fn proof_of(
     requires types { IsOfTypes cells.now (row_at table.now.rows goal.number) }
     ensures proof { IfOk result (IsProofOf sound.new cells.now table.now goal.number) }
 
-    // after want of memory too
+    // after `NoMemory` too
     ensures adds { AddsTypes sound.old sound.new }
     ensures same { program_tree sound.new ≡ program_tree sound.old }
     ensures shallow { IsShallow sound.old.types → IsShallow sound.new.types }

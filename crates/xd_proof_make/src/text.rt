@@ -46,7 +46,7 @@ pub fn proof_text(
     ensures text { OnOk result ((text : List ℕ) × (out.new.items ≡ out.old.items ++ text) × ProvesRow (program_tree sound.old) (continuation_of sound.old.types cells.now) (row_at table.now.rows goal.number) text) }
     ensures err { OnErr result (out.new.items ≡ out.old.items) }
 
-    // after want of memory too
+    // after `NoMemory` too
     ensures adds { AddsTypes sound.old sound.new }
     ensures same { program_tree sound.new ≡ program_tree sound.old }
     ensures stays_shallow { IsShallow sound.new.types }

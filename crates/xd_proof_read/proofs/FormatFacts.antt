@@ -72,7 +72,7 @@ module _ (p : ProgramTable) where
       subst (λ l. IsFirstBad (ProofLines (SpellsTypeOf p)) (codes "xduce-proof 2" ∷ texts l) 2) (sym e)
       (bad_count (SpellsTypeOf p) one empty x.now (texts rest) (λ n t. never n (subst (λ w. Follows w SpellsNumber x.now n) (sym f) t)))
 
--- The lines behind the title: the number of types, so many lines of types as there are, and the
+-- The lines after the title: the number of types, so many lines of types as there are, and the
 -- rest.
 pub record IsCutInto (xs : List (Bor (List ℕ))) (line : List ℕ) (m many : ℕ) (typed goals : List (List ℕ)) : Type 0 where
   pub lines : texts xs ≡ line ∷ (typed ++ goals)
@@ -116,7 +116,7 @@ module _ (p : ProgramTable) (xs : List (Bor (List ℕ))) (line : List ℕ) (m ma
       subst (λ l. IsFirstBad (ProofLines (SpellsTypeOf p)) l (many + 3)) (ap (λ l. codes "xduce-proof 2" ∷ line ∷ l) (sym (append-nil typed) ∙ ap (λ l. typed ++ l) (sym (c.all h))) ∙ whole_is)
       (bad_short (SpellsTypeOf p) (one p) (empty p) line typed Ts m (many + 3) c.count s (let l = c.length_typed in omega (arith, l, h)) (let l = c.length_typed in omega (arith, l)))
 
-  -- ---- and behind its types
+  -- ---- and after its types
   module _ (q : ProgramTable) (g : GrowsTypes p q) (ids : Vec TypeId Global) (Ts : List Tree) (s : SpellParts (SpellsTypeOf p) SpellsNumber typed (types_from 1 Ts)) (a : AllZip (λ id T. IsTypeAt q.types T id) ids.items Ts) (h : m ≤ many) where
     so_many : length Ts ≡ m
     so_many = let k = many_types (SpellsTypeOf p) typed 1 Ts s in let l = c.length_typed in let f = c.few in omega (arith, k, l, f, h)

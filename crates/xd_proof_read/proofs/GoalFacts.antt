@@ -47,7 +47,7 @@ module _ (L : List (List ℕ) → Type 0) where
     here = inl e;
   }
 
--- what stands behind some lines decides, also about them and it
+-- what stands after some lines decides, also about them and it
 pub record Behind (L M : List (List ℕ) → Type 0) (front : List (List ℕ)) : Type 0 where
   pub on : (ls : List (List ℕ)) → CanGoOn M ls → CanGoOn L (front ++ ls)
   pub back : (ls : List (List ℕ)) → CanGoOn L (front ++ ls) → CanGoOn M ls

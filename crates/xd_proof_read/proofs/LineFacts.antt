@@ -21,7 +21,7 @@ use Rattle.xd_proof_read.specs.declared.said.Keyword.TheVariants as keywords
 use Rattle.xd_proof_read.specs.Naming.{SpellsTypeOf, Names}
 use Rattle.xd_proof_read.specs.Said.{keyword_text, IsOfGoals, IsPart, Says}
 
--- what a line says, behind a word
+-- what a line says, after a word
 behind_is : {A : Type 0} (R : List ℕ → A → Type 0) (word line behind : List ℕ) (x : A) → line ≡ word ++ space ∷ behind → Follows word R line x → R behind x
 behind_is R word line behind x e f = subst (λ b. R b x) (ap (λ l. drop 1 l) (append_cancel_left word (space ∷ f.behind) (space ∷ behind) (sym f.whole ∙ e))) f.reads
 

@@ -144,7 +144,7 @@ module _ (R : List ℕ → Tree → Type 0) (Ts : List Tree) where
   cases_from (c ∷ cs) (case_part d ∷ ps) z = ap (λ k. case_part k ∷ ps) z.0 ∙ ap (λ l. case_part c ∷ l) (cases_from cs ps z.1)
   cases_from (c ∷ cs) (_ ∷ ps) z = absurd z.0
 
-  -- what stands behind the left
+  -- what stands after the left
   rest_from : (m : Block Tree) (k n : ℕ) (ps : List (Part ℕ)) → numbered Ts n ≡ Some m.left → AllZip (PartNames Ts) ps (map right_part m.rights ++ (empty_parts m.empty_right ++ map case_part m.cases)) →
       (b : Block ℕ) × NamesTypes Ts b m × (goal_part k ∷ left_part n ∷ ps ≡ block_parts k b)
   rest_from m k n ps h z =

@@ -139,7 +139,7 @@ empty_next ended goal new k line a b r m d types first (in_rights n bs T Us) (em
 empty_next ended goal new k line a b r m d types first (in_rights n bs T Us) p s q e = absurd q
 empty_next ended goal new k line a b r m d types first c p s q e = absurd s
 
--- other lines stand behind the rights as they stand behind cases
+-- other lines stand after the rights as they stand after cases
 right_other : (ended : Ended) (goal : ProofGoal) (s : Said) (line : ℕ) (o : Option Stage) → Never said.Right s → Never said.Empty s → LeadsTo (stages.InCases ended goal) s line o → LeadsTo (stages.InRights ended goal) s line o
 right_other ended goal s line o h k f types first (in_rights n bs T Us) (right_part U) i q e = absurd (no_right types s U h q)
 right_other ended goal s line o h k f types first (in_rights n bs T Us) (empty_part j) i q e = absurd (no_empty types s j k q)

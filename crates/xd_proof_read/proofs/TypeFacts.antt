@@ -26,7 +26,7 @@ use Rattle.xd_proof_read.proofs.NamingFacts.{spelled_kept}
 use Rattle.xd_proof_read.proofs.GoalFacts.{texts, length-texts, text_at, one_more_line}
 
 module _ (R : List ℕ → Tree → Type 0) where
-  -- what stands behind the word
+  -- what stands after the word
   behind_type : (line behind : List ℕ) (k : ℕ) (T : Tree) → line ≡ codes "type" ++ space ∷ behind → IsTypeLine R line k T → SpellsTypePart R behind k T
   behind_type line behind k T e f =
       subst (λ b. SpellsTypePart R b k T) (ap (λ l. drop 1 l) (append_cancel_left (codes "type") (space ∷ f.behind) (space ∷ behind) (sym f.whole ∙ e))) f.reads
@@ -118,7 +118,7 @@ module _ (R : List ℕ → Tree → Type 0) where
         ),
       )
 
-  -- lines of types, and others behind them
+  -- lines of types, and others after them
   pub types_split : {A : Type 0} (S : List ℕ → A → Type 0) (k : ℕ) (xs ys : List (List ℕ)) (Ts : List Tree) (qs : List (Part A)) → length xs ≡ length Ts → SpellParts R S (xs ++ ys) (types_from k Ts ++ qs) →
       SpellParts {A = ℕ} R SpellsNumber xs (types_from k Ts) × SpellParts R S ys qs
   types_split S k [] ys [] qs l s = (tt, s)

@@ -20,7 +20,7 @@ abbrev pub lines_of : List (Block Tree) → ℕ
 lines_of [] = 0
 lines_of (b ∷ bs) = block_length b + lines_of bs
 
--- the goal, with the number of its first line: behind these, the first of which begins on the line
+-- the goal, with the number of its first line: after these, the first of which begins on the line
 -- `first`
 abbrev pub lined_behind : (first : ℕ) → List (Block Tree) → Block Tree → Lined
 lined_behind first bs b = record { line = first + lines_of bs; goal = record { left = b.left; rights = b.rights; empty_right = b.empty_right; cases = b.cases } }
@@ -40,7 +40,7 @@ IsStage types first (stages.InCases ended goal) (in_cases n bs b) = AreEnded typ
 IsStage types first (stages.AtEnd made) (at_end bs) = AreGoalsAt types made.items (goals_from first bs)
 IsStage types first _ _ = ⊥
 
--- how many lines are behind a course
+-- how many lines are after a course
 abbrev pub passed : Course Tree → ℕ
 passed at_count = 0
 passed (at_first_goal n) = 1
@@ -49,23 +49,23 @@ passed (in_rights n bs T Us) = lines_of bs + block_length (plain_block T Us) + 1
 passed (in_cases n bs b) = lines_of bs + block_length b + 1
 passed (at_end bs) = lines_of bs + 2
 
--- the stage behind a line, where it may stand there
+-- the stage after a line, where it may stand there
 abbrev pub IsNext : List Row → (first : ℕ) → Course Tree → Part Tree → Option Stage → Type 0
 IsNext types first c p after = MatchOption after (next c p ≡ None) (λ s. (d : Course Tree) × (next c p ≡ Some d) × IsStage types first s d)
 
--- Wherever this line with this number is read at this stage, what is made is the stage behind it.
+-- Wherever this line with this number is read at this stage, what is made is the stage after it.
 abbrev pub LeadsTo : Stage → Said → (line : ℕ) → Option Stage → Type 0
 LeadsTo stage said line after =
     (types : List Row) (first : ℕ) (c : Course Tree) (p : Part Tree) → IsStage types first stage c → IsPart types said p → line + 1 ≡ first + passed c → IsNext types first c p after
 
--- the line says what may stand here, and the course behind it is this
+-- the line says what may stand here, and the course after it is this
 pub record GoesTo (p : ProgramTable) (naming : Naming) (line : List ℕ) (c d : Course Tree) : Type 0 where
   pub part : Part Tree
   pub says : Says p naming line part
   pub goes : next c part ≡ Some d
 
--- Wherever this line, which has this number, stands behind this stage: what is made is the stage
--- behind it, if it may stand there.
+-- Wherever this line, which has this number, stands after this stage: what is made is the stage
+-- after it, if it may stand there.
 abbrev pub IsLineTaken : ProgramTable → Naming → List ℕ → Stage → (number : ℕ) → List Row → Option Stage → Type 0
 IsLineTaken p naming line stage number types made =
     (first : ℕ) (c : Course Tree) → IsStage p.types first stage c → number + 1 ≡ first + passed c →

@@ -62,7 +62,7 @@ fn format_of(title: &[u8]) -> Option<Format>
     None
 }
 
-/// Reads the lines behind the title of the first format.
+/// Reads the lines after the title of the first format.
 fn read_first(alloc: Global, sound: &mut SoundProgram, lines: &[&[u8]]) -> Result<Proof, ProofError>
     requires { length lines.now + 2 < 2 ^ 64 }
     ensures ok { IfOk result (λ proof. (goals : List Lined) × AreProof (SpellsTypeOf sound.old) (codes "xduce-proof 1" ∷ map (λ line. line.now) lines.now) goals × AreGoalsAt sound.new.types proof goals) }
@@ -72,7 +72,7 @@ fn read_first(alloc: Global, sound: &mut SoundProgram, lines: &[&[u8]]) -> Resul
     read_goals(alloc, sound, &Naming::Spelled, lines, 1)
 }
 
-/// Reads the lines behind the title of the second format.
+/// Reads the lines after the title of the second format.
 fn read_second(
     alloc: Global,
     sound: &mut SoundProgram,

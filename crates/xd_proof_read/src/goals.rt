@@ -47,7 +47,7 @@ pub(crate) fn read_goals(
     }
 }
 
-/// The stage behind a line, if the line may stand there.
+/// The stage after a line, if the line may stand there.
 fn take_line(
     alloc: Global,
     sound: &mut SoundProgram,

@@ -84,7 +84,7 @@ pub(crate) fn read_line(
     read_behind(alloc, sound, naming, line, keyword, behind)
 }
 
-/// The same of a line that is a keyword and what stands behind it.
+/// The same of a line that is a keyword and what stands after it.
 fn read_behind(
     alloc: Global,
     sound: &mut SoundProgram,

@@ -25,16 +25,16 @@ pub(crate) enum Stage {
     AtFirstGoal(u64),
     /// The left of a goal that began on this line.
     AtLeft(Ended, u64),
-    /// More rights of this goal, and what may stand behind them.
+    /// More rights of this goal, and what may stand after them.
     InRights(Ended, ProofGoal),
-    /// More cases of this goal, and what may stand behind them.
+    /// More cases of this goal, and what may stand after them.
     InCases(Ended, ProofGoal),
     /// Nothing.
     AtEnd(Vec<ProofGoal>),
 }
 
 impl Stage {
-    /// The stage behind what this line says, if it may stand there.
+    /// The stage after what this line says, if it may stand there.
     pub(crate) fn next(self, alloc: Global, said: Said, line: u64) -> Result<Option<Self>, NoMemory>
         ensures { IfOk result (LeadsTo self said line) }
     {

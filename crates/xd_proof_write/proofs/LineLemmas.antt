@@ -29,7 +29,7 @@ pub lines-append : (ps qs : List (Part ℕ)) → lines (ps ++ qs) ≡ lines ps +
 lines-append [] qs = refl
 lines-append (p ∷ ps) qs = ap (λ r. line_of p ++ line_feed ∷ r) (lines-append ps qs) ∙ sym (append_assoc (line_of p) (line_feed ∷ lines ps) (lines qs))
 
--- a word and a number, and what stands behind their line
+-- a word and a number, and what stands after their line
 pub behind_number : (word : List ℕ) (n : ℕ) (rest : List ℕ) → number_line word n ++ rest ≡ (word ++ space ∷ decimal n) ++ line_feed ∷ rest
 behind_number word n rest =
     append_assoc word (space ∷ (decimal n ++ line_feed ∷ [])) rest

@@ -45,7 +45,7 @@ module _ {A : Type 0} (p : A → Bool) where
       by true more = refl
       by false more = more
 
--- ---- an item that may be new, behind the others
+-- ---- an item that may be new, after the others
 module _ {A : Type 0} (same : A → A → Bool) where
   abbrev pub with_item : List A → A → List A
   with_item xs x = cond (list_any (same x) xs) xs (xs ++ x ∷ [])

@@ -1,5 +1,4 @@
--- What is written of a proof as it is kept, where the texts of the types are known. Only private
--- contracts speak of it.
+-- What is written of a proof as it is kept, where the texts of the types are known.
 use Rattle.std.specs.Prelude.{◌≡◌, ℕ, ◌+◌, true, cond, nat_eq, codes, List, [], ◌∷◌, ◌++◌, map, flat_map, length, Option, Some, None}
 use Rattle.std.specs.List.{list_any, fold}
 use Rattle.std.specs.Fmt.{decimal}

@@ -71,7 +71,7 @@ fn write_rights(
     Ok(())
 }
 
-/// Each right behind an `or`.
+/// Each right after an `or`.
 fn write_more_rights(
     alloc: Global,
     types: &Types,

@@ -17,7 +17,7 @@ at_seam (x ∷ pre) c cs = at_seam pre c cs
 boundary_before : (pre : List ℕ) (c : ℕ) (cs : List ℕ) → c < 128 → IsCharBoundary (pre ++ c ∷ cs) (length pre)
 boundary_before pre c cs lt = (omega (arith, length-append pre (c ∷ cs)), λ h k. absurd (omega (arith, at_seam pre c cs)))
 
--- a text is cut before and behind an ASCII character
+-- a text is cut before and after an ASCII character
 before_ascii : (pre : List ℕ) (c : ℕ) (cs : List ℕ) → c < 128 → IsUtf8 (pre ++ c ∷ cs) → IsUtf8 pre
 before_ascii pre c cs lt u = subst IsUtf8 (take-append_seam pre (c ∷ cs)) (IsUtf8-take (pre ++ c ∷ cs) (length pre) u (boundary_before pre c cs lt))
 
@@ -40,7 +40,7 @@ cons_ascii c cs h u = IsUtf8-append (c ∷ []) cs (ascii_one c h) u
 is_ascii_at : (c k : ℕ) → k < 128 → nat_eq c k ≡ true → c < 128
 is_ascii_at c k lt h = grind (arith, nat_tests)
 
--- an escape behind a text and before another
+-- an escape after a text and before another
 escape_between : (pre : List ℕ) (c : ℕ) (cs : List ℕ) (a b : ℕ) (rest : List ℕ) → c < 128 → a < 128 → b < 128 → IsUtf8 (pre ++ c ∷ cs) → IsUtf8 rest → IsUtf8 (pre ++ ((a ∷ b ∷ []) ++ rest))
 escape_between pre c cs a b rest lc la lb u r = IsUtf8-append pre ((a ∷ b ∷ []) ++ rest) (before_ascii pre c cs lc u) (cons_ascii a (b ∷ rest) la (cons_ascii b rest lb r))
 

@@ -36,7 +36,7 @@ comma_at p rest = ap terminals_of (tokens-comma p rest)
 bracket_at : (p : Place) (rest : List ℕ) → terminals_at p (93 ∷ rest) ≡ BracketR ∷ terminals_at (past p (93 ∷ [])) rest
 bracket_at p rest = ap terminals_of (tokens-bracket_r p rest)
 
--- what is written behind an item
+-- what is written after an item
 abbrev behind_text : Document → List ℕ
 behind_text d = comma_before d ++ items_text d
 
@@ -52,7 +52,7 @@ record ReadAt (s : Context) (d : Document) (ts : List Terminal) (rest : List ℕ
   next : Place
   items : Items s d ts (terminals_at next rest)
 
--- behind an item, where each place lets the items be read as a content
+-- after an item, where each place lets the items be read as a content
 behind_by : (d : Document) (rest : List ℕ) → ((p : Place) → ReadAt Content d (terminals_at p (items_text d ++ rest)) rest) → (p : Place) → ReadAt Behind d (terminals_at p (behind_text d ++ rest)) rest
 behind_by empty rest f p = record { next = p; items = refl }
 behind_by (text s r) rest f p =

@@ -7,7 +7,7 @@ use Rattle.xd_read.specs.Grammar.{Terminal, Spells, Begins}
 use Rattle.xd_read.specs.Reading.{terminal_of, terminals_of, IsFirstFault, IsMalformedAt}
 use Rattle.xd_doc.proofs.Lists.{same_first, same_rest}
 
--- of two fronts of one list, each with the token behind it, one lies within the other
+-- of two fronts of one list, each with the token after it, one lies within the other
 fronts : (b c : List Lexeme) (f g : Lexeme) (xs ys : List Lexeme) → b ++ f ∷ xs ≡ c ++ g ∷ ys → (f ≡ g) ⊎ (((rest : List Lexeme) × (c ≡ (b ++ f ∷ []) ++ rest)) ⊎ ((rest : List Lexeme) × (b ≡ (c ++ g ∷ []) ++ rest)))
 fronts [] [] f g xs ys e = inl (same_first _ _ _ _ e)
 fronts [] (y ∷ c) f g xs ys e = inr (inl (c, ap (λ (x : Lexeme). x ∷ c) (sym (same_first _ _ _ _ e))))

@@ -29,7 +29,7 @@ range_there whole at part from to s h l =
 byte_there : (whole : List ℕ) (at : ℕ) (part : List ℕ) (k : ℕ) → StandsAt whole at part → k < length part → get_or whole (at + k) 0 ≡ get_or part k 0
 byte_there whole at part k s h = sym (get_or-drop at whole k 0) ∙ ap (λ (xs : List ℕ). get_or xs k 0) (from_there whole at part s) ∙ get_or_append_left part s.behind 0 k h
 
--- the whole may be cut before an ASCII byte of the part, and behind it
+-- the whole may be cut before an ASCII byte of the part, and after it
 before_byte : (whole : List ℕ) (at : ℕ) (part : List ℕ) (k : ℕ) → StandsAt whole at part → k < length part → get_or part k 0 < 128 → IsCharBoundary whole (at + k)
 before_byte whole at part k s h lt =
     let same : get_or whole (at + k) 0 ≡ get_or part k 0 = byte_there whole at part k s h in

@@ -22,7 +22,7 @@ use Rattle.xd_read.proofs.Machine.{At, completion, spelled_completes, completes_
 abbrev pub ReaderCompletes : List Document → Reader → List Terminal → Document → Type 0
 ReaderCompletes ds r ts d = CanComplete ds r.expect r.finished.items r.elements.items ts d
 
--- the reader stands behind tokens of the list, before those that are left
+-- the reader stands after tokens of the list, before those that are left
 pub record StandsBefore (all left : List Lexeme) (old ds : List Document) (r : Reader) : Type 0 where
   pub keeps : Keeps old ds
   pub ready : IsReaderReady ds r

@@ -28,7 +28,7 @@ in_store-kept ds es [] k h = tt
 in_store-kept ds es (Text s ∷ xs) k h = (tt, in_store-kept ds es xs k h.1)
 in_store-kept ds es (Element l seq ∷ xs) k h = (k.belongs seq h.0, in_store-kept ds es xs k h.1)
 
--- the items behind those that are left are stored
+-- the items after those that are left are stored
 pub record StoredSoFar (ds es : List Document) (all left : List Finished) (start : ℕ) (seq : Seq) : Type 0 where
   pub keeps : Keeps ds es
   pub belongs : BelongsTo es seq

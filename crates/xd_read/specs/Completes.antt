@@ -1,5 +1,4 @@
--- What terminals complete a document from where the reader stands. Only private contracts speak of
--- it.
+-- What terminals complete a document from where the reader stands.
 use Rattle.std.specs.Prelude.{◌≡◌, ℕ, List, [], ◌∷◌}
 use Rattle.xd_doc.specs.Document.{Document, empty, text, element, join}
 use Rattle.xd_read.specs.Grammar.{Terminal, ParenR, BracketR, End, Whole, Content, Behind, Items}
@@ -27,11 +26,11 @@ Rest expects.Closed empty ts us = ts ≡ us
 Rest expects.Closed (text s r) ts us = ⊥
 Rest expects.Closed (element l c r) ts us = ⊥
 
--- behind the items of the innermost open element, the terminals us complete the document d
+-- after the items of the innermost open element, the terminals us complete the document d
 abbrev pub Up : List Frame → Document → List Terminal → Document → Type 0
 Up [] items us d = (us ≡ End ∷ []) × (items ≡ d)
 Up (f ∷ fs) items us d = (vs : List Terminal) × (r : Document) × (ws : List Terminal) × (us ≡ BracketR ∷ vs) × Items Behind r vs ws × Up fs (join (join f.before (element f.label items empty)) r) ws d
 
--- behind these items of the innermost open element, the terminals ts complete the document d
+-- after these items of the innermost open element, the terminals ts complete the document d
 abbrev pub Completes : Expect → Document → List Frame → List Terminal → Document → Type 0
 Completes e front fs ts d = (r : Document) × (us : List Terminal) × Rest e r ts us × Up fs (join front r) us d

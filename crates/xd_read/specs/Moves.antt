@@ -1,4 +1,4 @@
--- What the reader does at a token. Only private contracts speak of it.
+-- What the reader does at a token.
 use Rattle.xd_lex.specs.declared.Kind.{Kind}
 use Rattle.xd_lex.specs.declared.Kind.TheVariants as kinds
 use Rattle.xd_read.specs.declared.moves.Expect.{Expect}

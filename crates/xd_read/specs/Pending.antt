@@ -1,4 +1,4 @@
--- What the reader keeps while elements are open. Only private contracts speak of it.
+-- What the reader keeps while elements are open.
 use Rattle.std.specs.Prelude.{◌≡◌, ℕ, ◌^◌, ◌<◌, ◌≤◌, ◌↔◌, List, [], ◌∷◌, ◌++◌, length, take, drop, reverse, IsUtf8}
 use Rattle.std.specs.List.{AllByRecursion}
 use Rattle.xd_doc.specs.Document.{Document, empty, text, element}

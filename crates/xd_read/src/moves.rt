@@ -14,7 +14,7 @@ pub enum Expect {
     Content,
     /// What follows an item.
     More,
-    /// The item behind a comma.
+    /// The item after a comma.
     Item,
     /// The `)` of `()`.
     Closing,

@@ -34,7 +34,7 @@ pub done_same_number : (c d : ℕ) → Done c ≡ Done d → c ≡ d
 unfolding number_of_done
 done_same_number c d e = ap number_of_done e
 
--- the last segment begins behind each
+-- the last segment begins after each
 pub last_of : (g : List (List ℕ)) (st : List Standing) (path todo : List ℕ) (segs : List Segment) (fin m : ℕ) → IsSearched g st path todo segs fin → length segs ≡ m + 1 →
     (k : ℕ) → k < length segs → (path_from segs k ≤ path_from segs m) × (todo_from segs k ≤ todo_from segs m)
 last_of g st path todo segs fin m i e k l = elim (cases_eq k m) [
@@ -148,7 +148,7 @@ merged g st path todo segs top fin t q i e lt o lq =
     narrower : (p r s : ℕ) → NoneBetween segs p r → s ≤ r → NoneBetween segs p s
     narrower p r s h l k m = elim (h k m) [ inl a ↦ inl a | inr b ↦ inr (omega arith) ]
 
-    -- from behind the last segment's start back to the place that the edge leads to
+    -- from after the last segment's start back to the place that the edge leads to
     to_target : (r : ℕ) → top.path_from ≤ r → r < length path → Path g (node_at path r) (node_at path q)
     to_target r a l =
         let s = i.sources t (omega arith) in

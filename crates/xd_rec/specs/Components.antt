@@ -49,7 +49,7 @@ unseen (Unseen ∷ st) = unseen st + 1
 unseen (Open p ∷ st) = unseen st
 unseen (Done c ∷ st) = unseen st
 
--- no segment begins behind p and not behind q
+-- no segment begins after p and not after q
 abbrev pub NoneBetween : List Segment → ℕ → ℕ → Type 0
 NoneBetween segs p q = (k : ℕ) → k < length segs → (path_from segs k ≤ p) ⊎ (q < path_from segs k)
 

@@ -53,7 +53,7 @@ abbrev pub is_none : List ℕ → Bool
 is_none [] = true
 is_none (i ∷ is) = false
 
--- the parts of a sequence: the last alone may be a tail, and those behind a part that can't be
+-- the parts of a sequence: the last alone may be a tail, and those after a part that can't be
 -- empty aren't in front
 abbrev pub sequence : (Tree → Bool) → List Row → (owner : ℕ) (tail front : Bool) → List ℕ → List Part
 sequence Z types k t f [] = []

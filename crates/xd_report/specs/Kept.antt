@@ -1,4 +1,4 @@
--- What is kept while a line is appended. Only private contracts speak of it.
+-- What is kept while a line is appended.
 use Rattle.std.specs.Prelude.{◌≡◌, ℕ, List, ◌++◌}
 
 -- `new` begins with `old`

@@ -67,7 +67,7 @@ fn write_fault_front(place: Option<Place>, out: &mut Vec<u8>) -> Result<(), NoMe
 
 /// Appends the line of a warning, its line feed included.
 ///
-/// After want of memory `out` holds what it held.
+/// After `NoMemory` `out` holds what it held.
 pub fn warning_line(_alloc: Global, warning: &Warning, out: &mut Vec<u8>) -> Result<(), NoMemory>
     ensures ok { OnOk result (out.new.items ≡ out.old.items ++ warning_text warning.now) }
     ensures err { OnErr result (out.new.items ≡ out.old.items) }

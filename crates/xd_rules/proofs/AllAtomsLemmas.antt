@@ -32,7 +32,7 @@ filter-none : {X : Type 0} (xs : List X) → filter (λ (x : X). false) xs ≡ [
 filter-none [] = refl
 filter-none (x ∷ xs) = filter-none xs
 
--- what stands behind the names of a class
+-- what stands after the names of a class
 abbrev pub others_of : {X : Type 0} → Bool → X → List X
 others_of true x = x ∷ []
 others_of false x = []

@@ -31,7 +31,7 @@ pub fn label_atoms(alloc: Global, class: &Class, unnamed: &Class) -> Result<Vec<
     Ok(atoms)
 }
 
-/// Puts those of some labels that are in a class behind the others.
+/// Puts those of some labels that are in a class after the others.
 fn add_labels(atoms: &mut Vec<Atom>, class: &Class, labels: &[Label]) -> Result<(), NoMemory>
     ensures { OnOk result (atoms.new.items ≡ atoms.old.items ++ map atom.Label (filter (class_has class.now) labels.now)) }
 {
@@ -59,7 +59,7 @@ pub fn text_atoms(alloc: Global, words: &Words, unnamed: &Words) -> Result<Vec<A
     Ok(atoms)
 }
 
-/// Puts those of some texts that are in a class behind the others.
+/// Puts those of some texts that are in a class after the others.
 fn add_texts(atoms: &mut Vec<Atom>, words: &Words, texts: &[Text]) -> Result<(), NoMemory>
     ensures { OnOk result (atoms.new.items ≡ atoms.old.items ++ map atom.Text (filter (class_has words.now) texts.now)) }
 {

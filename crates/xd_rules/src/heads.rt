@@ -162,7 +162,7 @@ impl Headed for TextMove {
     }
 }
 
-/// Puts the heads of a state that take a name behind the others, where so many heads stand before
+/// Puts the heads of a state that take a name after the others, where so many heads stand before
 /// them.
 fn add_with_name<M: Headed>(
     sides: &mut Vec<Side>,
@@ -206,7 +206,7 @@ fn add_with_others<M: Headed>(
     Ok(())
 }
 
-/// Puts the heads of a state that match an atom behind the others, where so many heads stand before
+/// Puts the heads of a state that match an atom after the others, where so many heads stand before
 /// them.
 fn add_sides(
     sides: &mut Vec<Side>,
@@ -250,7 +250,7 @@ fn state_at(states: &[State], place: usize) -> State
 }
 
 /// The right heads that match an atom, in order. Their numbers count over the rights in order. A
-/// number that fits no `usize` is answered as want of memory.
+/// number that fits no `usize` is answered as `NoMemory`.
 pub fn sides_of(
     alloc: Global,
     auto: &Auto,
@@ -271,7 +271,7 @@ pub fn sides_of(
     Ok(sides)
 }
 
-/// Puts labels behind the others.
+/// Puts labels after the others.
 fn add_labels(names: &mut Vec<Label>, labels: &[Label]) -> Result<(), NoMemory>
     ensures { OnOk result (names.new.items ≡ names.old.items ++ labels.now) }
 {
@@ -281,7 +281,7 @@ fn add_labels(names: &mut Vec<Label>, labels: &[Label]) -> Result<(), NoMemory>
     Ok(())
 }
 
-/// Puts texts behind the others.
+/// Puts texts after the others.
 fn add_texts(names: &mut Vec<Text>, texts: &[Text]) -> Result<(), NoMemory>
     ensures { OnOk result (names.new.items ≡ names.old.items ++ texts.now) }
 {
@@ -291,7 +291,7 @@ fn add_texts(names: &mut Vec<Text>, texts: &[Text]) -> Result<(), NoMemory>
     Ok(())
 }
 
-/// Puts the labels that a state's heads name behind the others.
+/// Puts the labels that a state's heads name after the others.
 fn add_state_labels(names: &mut Vec<Label>, auto: &Auto, state: State) -> Result<(), NoMemory>
     requires { IsState auto.now state }
     ensures { OnOk result (names.new.items ≡ names.old.items ++ flat_map head_labels (heads_of auto.now state)) }
@@ -303,7 +303,7 @@ fn add_state_labels(names: &mut Vec<Label>, auto: &Auto, state: State) -> Result
     Ok(())
 }
 
-/// Puts the texts that a state's heads name behind the others.
+/// Puts the texts that a state's heads name after the others.
 fn add_state_texts(names: &mut Vec<Text>, auto: &Auto, state: State) -> Result<(), NoMemory>
     requires { IsState auto.now state }
     ensures { OnOk result (names.new.items ≡ names.old.items ++ flat_map head_texts (heads_of auto.now state)) }
@@ -374,7 +374,7 @@ pub fn unnamed_of(
     Ok(Unnamed { labels, texts })
 }
 
-/// Puts the cases of a head at these atoms behind the others.
+/// Puts the cases of a head at these atoms after the others.
 fn add_at_atoms(
     cases: &mut Vec<Want>,
     atoms: &[Atom],
@@ -395,7 +395,7 @@ fn add_at_atoms(
     Ok(())
 }
 
-/// Puts the cases of a move on an element behind the others.
+/// Puts the cases of a move on an element after the others.
 fn add_label_cases(
     alloc: Global,
     cases: &mut Vec<Want>,
@@ -412,7 +412,7 @@ fn add_label_cases(
     add_at_atoms(cases, &atoms, head, content, rest)
 }
 
-/// Puts the cases of a move on a text behind the others.
+/// Puts the cases of a move on a text after the others.
 fn add_text_cases(
     alloc: Global,
     cases: &mut Vec<Want>,
@@ -428,7 +428,7 @@ fn add_text_cases(
     add_at_atoms(cases, &atoms, head, rest, rest)
 }
 
-/// Puts the cases of a state's moves on an element behind the others.
+/// Puts the cases of a state's moves on an element after the others.
 fn add_state_label_cases(
     alloc: Global,
     cases: &mut Vec<Want>,
@@ -456,7 +456,7 @@ fn add_state_label_cases(
     Ok(())
 }
 
-/// Puts the cases of a state's moves on a text behind the others.
+/// Puts the cases of a state's moves on a text after the others.
 fn add_state_text_cases(
     alloc: Global,
     cases: &mut Vec<Want>,
@@ -502,7 +502,7 @@ fn cases_of(
 }
 
 /// The cases of a claim: each head of the left at each of its atoms. A number that fits no `usize`
-/// is answered as want of memory.
+/// is answered as `NoMemory`.
 pub fn goal_cases(
     alloc: Global,
     auto: &Auto,

@@ -49,7 +49,7 @@ pub edge_made : (g : List (List ℕ)) (from to : ℕ) → from < length g → Ha
 edge_made g from to l =
     subst (Among to) (sym (get_or-set_same g from (successors g from ++ to ∷ []) [] l)) (append_right to (successors g from) (to ∷ []) (inl refl))
 
--- the list behind a list that is written anew
+-- the list after a list that is written anew
 pub view_set : {A : Type 0} (f : A → List ℕ) (ts : List A) (i : ℕ) (v : A) (xs : List ℕ) → f v ≡ xs → map f (set ts i v) ≡ set (map f ts) i xs
 view_set f ts i v xs e = map-set f ts i v ∙ ap (set (map f ts) i) e
 

@@ -359,7 +359,7 @@ takes old new p h =
       total = λ f. sum_by_popped f p old new h;
     }
 
--- each is greater than those behind it
+-- each is greater than those after it
 abbrev pub AreFalling : List ℕ → Type 0
 AreFalling [] = Unit {0}
 AreFalling (i ∷ is) = AllByRecursion (λ j. j < i) is × AreFalling is

@@ -13,7 +13,7 @@ pub data Reaches (rows : List Row) (from : ℕ) : ℕ → Type 0 where
   itself : Reaches rows from from
   part : {j : ℕ} (i : ℕ) → Reaches rows from i → Contains (parts_of rows i) j → Reaches rows from j
 
--- each is smaller than those behind it
+-- each is smaller than those after it
 abbrev pub AreRising : List ℕ → Type 0
 AreRising is = (m n : ℕ) → m < n → n < length is → get_or is m 0 < get_or is n 0
 

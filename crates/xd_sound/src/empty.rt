@@ -44,7 +44,7 @@ pub(crate) fn empty_types(
     Ok(marks)
 }
 
-/// Marks the nodes behind those that are marked. Their parts are older nodes, so each is looked at
+/// Marks the nodes after those that are marked. Their parts are older nodes, so each is looked at
 /// once.
 pub(crate) fn mark_more(
     types: &Types,

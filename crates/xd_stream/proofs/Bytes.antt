@@ -45,7 +45,7 @@ column_after p b n lt = rw (ne_eqb b 10 n, low) refl
     low : (nat_le 128 b && nat_lt b 192) ≡ false
     low = grind (arith, nat_tests)
 
--- the place of a byte behind others
+-- the place of a byte after others
 pub place_more : (b : ℕ) (old new from : Place) (front : List ℕ) → IsPlaceAfter b old new → old ≡ told (past from front) → new ≡ told (past from (front ++ b ∷ []))
 place_more b old new from front h e = h (past from front) e ∙ ap told (sym (past-append from front (b ∷ [])))
 

@@ -71,7 +71,7 @@ and_true : (x : Bool) → (x && true) ≡ x
 and_true true = refl
 and_true false = refl
 
--- ---- the pairs behind a text, and the moves that an element would wait with
+-- ---- the pairs after a text, and the moves that an element would wait with
 
 abbrev pairs_over : Automaton → List Bool → List ℕ → List Pair → List Pair
 pairs_over a marks t now = flat_map (λ p. flat_map (λ m. cond (class_has m.words t && is_marked marks m.rest) (record { first = p.first; present = m.rest } ∷ []) []) (moves_at a p.present).texts) now
@@ -173,7 +173,7 @@ module _ (v : Validator) (ts : List Terminal) (h : StandsAfter v ts) where
       let w : Validator = record v { position = e } in
       told_by (list_any (is_alive_at v.automaton v.with_items.items e) v.pairs.items) (begins_alive w (ts ++ t ∷ []) (g.stands ts h)) (begins_dead w (ts ++ t ∷ []) (g.stands ts h))
 
-  -- where the position takes a terminal, some pair is alive behind it; where it doesn't, no
+  -- where the position takes a terminal, some pair is alive after it; where it doesn't, no
   -- document goes on
   at_position : (t : Terminal) (takes : Bool) (alive : Bool) → (takes ≡ true → (alive ≡ true) ↔ GoesOnWith v.automaton v.start ts t) → (takes ≡ false → Refuses v t refusals.Malformed) → ((takes && alive) ≡ true) ↔ GoesOnWith v.automaton v.start ts t
   at_position t true alive told refuses = told refl
@@ -241,7 +241,7 @@ module _ (v : Validator) (ts : List Terminal) (h : StandsAfter v ts) where
 
   -- ---- the end of an element
 
-  -- the pairs behind it
+  -- the pairs after it
   behind : List Waiting → List Pair
   behind ws = flat_map (λ (w : Waiting). cond (list_any (ends_in v.automaton w.content) v.pairs.items) (record { first = w.first; present = w.rest } ∷ []) []) ws
 

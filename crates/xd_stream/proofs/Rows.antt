@@ -89,7 +89,7 @@ refuses_both m k xs ys e same f g bytes h =
     subst (λ (zs : List ℕ). AreRefused m zs e) (append_assoc bytes xs ys)
     (refused_same m k ((bytes ++ xs) ++ ys) e same (g (bytes ++ xs) (f bytes h)))
 
--- what is taken behind a front
+-- what is taken after a front
 pub takes_further : (m k n : Machine) (piece : List ℕ) (i j : ℕ) → TakesAll m (take i piece) k → TakesAll k (take j (drop i piece)) n → TakesAll m (take (i + j) piece) n
 takes_further m k n piece i j f g = subst (λ (xs : List ℕ). TakesAll m xs n) (sym (take-add i j piece)) (takes_both m k n (take i piece) (take j (drop i piece)) f g)
 

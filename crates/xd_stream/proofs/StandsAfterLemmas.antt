@@ -337,6 +337,6 @@ refuses_paren_l v h = refuses_none v ParenL (λ front fs. paren_none front fs v.
 pub refuses_paren_r : (v : Validator) → (v.position ≡ positions.Closing → ⊥) → Refuses v ParenR refusals.Malformed
 refuses_paren_r v h = refuses_none v ParenR (λ front fs. paren_r_none front fs v.position (λ m. h (is_closing v.position m)))
 
--- what has been gone over, it stands behind
+-- what has been gone over, it stands after
 pub ready_behind : (v w : Validator) (t : Terminal) → Goes v t w → (ts : List Terminal) × StandsAfter v ts → (ts : List Terminal) × StandsAfter w ts
 ready_behind v w t g r = (r.0 ++ t ∷ [], g.stands r.0 r.1)

@@ -31,7 +31,7 @@ whole_same t x u =
     ∙ ap (λ n. length t + utf8_valid_len x == n) (length-append t x)
     ∙ same_more (length t) (utf8_valid_len x) (length x)
 
--- the tokens behind a text, by those of the text and of what is UTF-8 behind it
+-- the tokens after a text, by those of the text and of what is UTF-8 after it
 pub tokens_behind : (p : Place) (t x : List ℕ) → IsUtf8 t → tokens_at p (t ++ x) ≡ cut_off_unless (utf8_valid_len x == length x) (past (past p t) (text_front x)) (tokens_from 0 p (t ++ text_front x))
 tokens_behind p t x u =
     ap (λ b. cut_off_unless b (past p (text_front (t ++ x))) (tokens_from 0 p (text_front (t ++ x)))) (whole_same t x u)

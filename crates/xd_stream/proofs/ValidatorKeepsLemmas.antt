@@ -202,7 +202,7 @@ module _ (a : Automaton) (s : State) (marks : List Bool) (m : AreMarks a marks) 
           ap (λ d. is_proper (whole k.frames d rests)) (join_assoc k.front (element l r empty) r0)
           ∙ k.proper (element l r r0) rests (and_from (is_word l) (is_proper r && is_proper r0) proper (and_from (is_proper r) (is_proper r0) p q.0)) q.1
 
-  -- behind an element
+  -- after an element
   turned : (l x y k : Bool) → x ≡ y → (l && (x && k)) ≡ ((y && l) && k)
   turned true x y true e = by x y e
     where

@@ -57,7 +57,7 @@ not_marked f now new x false e h = ap (list_any f) h ∙ or_false (list_any f no
     or_false false = refl
 not_marked f now new x true e h = absurd (cc)
 
--- one more move behind an element
+-- one more move after an element
 pub behind_one : (a : Automaton) (now : List Pair) (ws : List Waiting) (f : Pair → Bool) (base mid new : List Pair) (i : ℕ) (w : Waiting) → i < length ws
     → list_any f mid ≡ (list_any f base || list_any (leads_behind a now f) (take i ws))
     → list_any f new ≡ (list_any f mid || leads_behind a now f (get_or ws i w))
@@ -68,7 +68,7 @@ behind_one a now ws f base mid new i w lt old more =
     ∙ or_assoc (list_any f base) (list_any (leads_behind a now f) (take i ws)) (leads_behind a now f (get_or ws i w))
     ∙ ap (λ b. list_any f base || b) (sym (list_any_more (leads_behind a now f) ws i w lt))
 
--- moves that wait, behind those that were there
+-- moves that wait, after those that were there
 pub record Waits (marks : List Bool) (l : List ℕ) (first : State) (moves : List LabelMove) (base now : List Waiting) (from : ℕ) : Type 0 where
   pub added : List Waiting
   pub behind : now ≡ base ++ added

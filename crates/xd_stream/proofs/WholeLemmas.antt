@@ -57,7 +57,7 @@ left_may positions.Closed empty ts us h = refl
 left_may positions.Closed (text s r) ts us h = absurd h
 left_may positions.Closed (element l c r) ts us h = absurd h
 
--- the terminals behind the innermost items, for each choice of what follows the open elements
+-- the terminals after the innermost items, for each choice of what follows the open elements
 pub up_of : (fs : List Frame) (inner : Document) (rests : List Document) → length rests ≡ length fs → (us : List Terminal) × Up fs inner us (whole fs inner rests)
 up_of [] inner [] e = (End ∷ [], (refl, refl))
 up_of [] inner (r ∷ rests) e = absurd (omega arith)

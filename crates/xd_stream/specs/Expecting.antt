@@ -1,4 +1,4 @@
--- What may come behind terminals.
+-- What may come after terminals.
 use Rattle.std.specs.Prelude.{◌≡◌, ◌↔◌, ◌&&◌, ℕ, Bool, true, List, [], ◌∷◌, ◌++◌}
 use Rattle.std.specs.List.{list_any}
 use Rattle.std.specs.Str.{is_utf8}
@@ -29,8 +29,6 @@ pub record IsExpected (a : Automaton) (s : State) (ts : List Terminal) (e : Expe
   pub paren_l : (e.paren_l ≡ true) ↔ GoesOnWith a s ts ParenL
   pub paren_r : (e.paren_r ≡ true) ↔ GoesOnWith a s ts ParenR
   pub end : (e.end ≡ true) ↔ GoesOnWith a s ts End
-
--- ---- of what follows only private contracts speak
 
 -- some move of the state on the label, or on the text, leads to states that accept something
 abbrev pub goes_by_label : Automaton → List Bool → List ℕ → State → Bool

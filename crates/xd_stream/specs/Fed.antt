@@ -39,7 +39,7 @@ pub record AreWhole (bytes : List ℕ) (tokens : List Lexeme) : Type 0 where
   pub settled : AreSettled bytes tokens
   pub most : (others : List Lexeme) → AreSettled bytes others → length others ≤ length tokens
 
--- the bytes behind the last whole token are at least these, and the token that they belong to
+-- the bytes after the last whole token are at least these, and the token that they belong to
 -- begins among them
 pub record AreBehindWhole (bytes rest : List ℕ) (tokens : List Lexeme) : Type 0 where
   pub front : List ℕ
@@ -47,7 +47,7 @@ pub record AreBehindWhole (bytes rest : List ℕ) (tokens : List Lexeme) : Type 
   pub split : bytes ≡ front ++ rest
   pub behind : (more : List ℕ) → stream_tokens (bytes ++ more) ≡ tokens ++ tokens_at from (rest ++ more)
 
--- how many elements are open behind a terminal, where so many were
+-- how many elements are open after a terminal, where so many were
 abbrev pub open_behind : ℕ → Terminal → ℕ
 open_behind n (Label l) = n + 1
 open_behind n BracketR = n - 1

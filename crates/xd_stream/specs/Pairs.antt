@@ -1,4 +1,4 @@
--- Pairs of states and what they lead to, as tests. Only private contracts speak of them.
+-- Pairs of states and what they lead to, as tests.
 use Rattle.std.specs.Prelude.{◌≡◌, ℕ, ◌<◌, Bool, false, not, ◌&&◌, ◌==◌, List, ◌++◌, length, slice_index_or}
 use Rattle.std.specs.List.{list_any}
 use Rattle.xd_doc.specs.Classes.{class_has}
@@ -59,13 +59,13 @@ HasEnded a now numbers = (content : State) → list_any (λ n. n == state_number
 abbrev pub AreStates : Automaton → List Pair → Type 0
 AreStates a now = (k : ℕ) (d : Pair) → k < length now → IsState a (slice_index_or now k d).present
 
--- behind what was there stand the moves of a pair on an element with the label
+-- after what was there stand the moves of a pair on an element with the label
 pub record AddsMoves (a : Automaton) (marks : List Bool) (l : List ℕ) (p : Pair) (old new : List Waiting) : Type 0 where
   pub added : List Waiting
   pub behind : new ≡ old ++ added
   pub same : (f : Waiting → Bool) → list_any f added ≡ list_any (leads_label marks l f p.first) (moves_at a p.present).labels
 
--- behind what was there stand the moves of these pairs on an element with the label
+-- after what was there stand the moves of these pairs on an element with the label
 pub record AddsWaiting (a : Automaton) (marks : List Bool) (l : List ℕ) (now : List Pair) (old new : List Waiting) : Type 0 where
   pub added : List Waiting
   pub behind : new ≡ old ++ added

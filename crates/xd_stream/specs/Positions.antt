@@ -1,4 +1,4 @@
--- Positions in the grammar of documents. Only private contracts speak of them.
+-- Positions in the grammar of documents.
 use Rattle.std.specs.Prelude.{Bool, true, false}
 use Rattle.xd_read.specs.declared.moves.Expect.{Expect}
 use Rattle.xd_read.specs.declared.moves.Expect.TheVariants as expects

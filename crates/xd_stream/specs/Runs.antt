@@ -1,4 +1,4 @@
--- Bytes in a row that go on with a word or a quoted text. Only private contracts speak of them.
+-- Bytes in a row that go on with a word or a quoted text.
 use Rattle.std.specs.Prelude.{◌≡◌, ◌==◌, ◌&&◌, ℕ, ◌+◌, Bool, true, false, not, List, [], ◌∷◌, ◌++◌, nat_lt}
 use Rattle.xd_base.specs.declared.Place.{Place}
 use Rattle.xd_doc.specs.Word.{are_word_parts}

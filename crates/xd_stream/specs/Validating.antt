@@ -1,4 +1,4 @@
--- What a validator stands for. Only private contracts speak of it.
+-- What a validator stands for.
 use Rattle.std.specs.Prelude.{ℕ, ◌≡◌, ◌==◌, ◌&&◌, Bool, true, not, List, [], ◌∷◌, ◌++◌, length, reverse}
 use Rattle.xd_auto.specs.declared.auto.State.{State}
 use Rattle.xd_auto.specs.Automaton.{Automaton, accepts, moves_at}
@@ -38,7 +38,7 @@ pairs_of v = v.pairs.items
 abbrev pub some_last : Validator → Bool
 some_last v = list_any (λ p. (moves_at v.automaton p.present).last) v.pairs.items
 
--- the validator stands behind these terminals
+-- the validator stands after these terminals
 pub record StandsAfter (v : Validator) (ts : List Terminal) : Type 0 where
   pub keeps : Keeps v.automaton v.start v.marks.items v.position v.pairs.items (groups v.waiting.items (reverse v.places.items)) ts
   pub marks : AreMarks v.automaton v.marks.items
@@ -46,7 +46,7 @@ pub record StandsAfter (v : Validator) (ts : List Terminal) : Type 0 where
   pub places : ArePlaces (length v.waiting.items) (reverse v.places.items)
   pub nesting : open_elements 0 ts ≡ length v.places.items
 
--- it stands behind some
+-- it stands after some
 abbrev pub IsReady : Validator → Type 0
 IsReady v = (ts : List Terminal) × StandsAfter v ts
 

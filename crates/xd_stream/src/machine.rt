@@ -28,7 +28,7 @@ use xd_base::Place;
 use xd_doc::NoMemory;
 use xd_lex::unescape;
 
-/// What the bytes behind the last token begin.
+/// What the bytes after the last token begin.
 #[derive(Clone, Copy, Debug)]
 pub enum Mode {
     /// Nothing.
@@ -51,7 +51,7 @@ pub struct Machine {
     mode: Mode,
     /// Where the token begins whose bytes come.
     begun: Place,
-    /// The place behind the complete characters.
+    /// The place after the complete characters.
     place: Place,
     /// The bytes of the word or the text that isn't complete.
     pub held: Vec<u8>,
@@ -148,7 +148,7 @@ impl Machine {
         })
     }
 
-    /// What may come behind the whole tokens.
+    /// What may come after the whole tokens.
     pub fn expected(&self) -> Result<Expected, NoMemory>
         requires { IsStanding self.now }
         ensures { IfOk result (λ e. (bytes : List ℕ) → StandsBehind self.now bytes → (tokens : List Lexeme) → AreWhole bytes tokens → IsExpected (tested self.now.validator) (tested_from self.now.validator) (terminals_of tokens) e) }
@@ -339,7 +339,7 @@ impl Machine {
         Ok(())
     }
 
-    /// Takes a byte behind a `(`.
+    /// Takes a byte after a `(`.
     #[inline(never)]
     fn behind_paren(&mut self, b: u8) -> Result<(), StreamError>
         requires stands { IsStanding self.old }
@@ -382,7 +382,7 @@ impl Machine {
         Ok(())
     }
 
-    /// Takes a byte behind those of a word.
+    /// Takes a byte after those of a word.
     fn in_word(&mut self, b: u8) -> Result<(), StreamError>
         requires stands { IsStanding self.old }
         requires mode { self.old.mode ≡ Mode.Word }

@@ -18,7 +18,7 @@ pub struct Pair {
 }
 
 /// A move on an open element, from a pair: the state that the pair's content began with, that of
-/// the element's content, and the one behind the element.
+/// the element's content, and the one after the element.
 #[derive(Clone, Copy, Debug)]
 pub struct Waiting {
     pub first: State,
@@ -236,7 +236,7 @@ pub fn begin_pairs(waiting: &[Waiting], into: &mut Vec<Pair>) -> Result<(), NoMe
     Ok(())
 }
 
-/// Adds the pairs behind an element, whose content may end as the pairs say. `ended` is room.
+/// Adds the pairs after an element, whose content may end as the pairs say. `ended` is room.
 pub fn pairs_behind(
     auto: &Auto,
     waiting: &[Waiting],

@@ -4,12 +4,14 @@ ghost use Rattle.std.specs.Prelude.{◌≡◌, ◌≤◌, ◌<◌, true, false, 
 ghost use Rattle.xd_doc.specs.Word.{are_word_parts, is_word_part, is_word_start};
 ghost use Rattle.xd_stream.specs.Runs.{are_plain, is_plain};
 
+/// Whether a word may begin with the byte.
 pub fn is_word_start(b: u8) -> bool
     ensures { result ≡ is_word_start b }
 {
     b.is_ascii_lowercase() || b.is_ascii_uppercase() || b == b'_'
 }
 
+/// Whether a word may go on with the byte.
 pub fn is_word_part(b: u8) -> bool
     ensures { result ≡ is_word_part b }
 {

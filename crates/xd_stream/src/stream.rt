@@ -100,7 +100,7 @@ impl Stream {
         self.machine.validator.open_elements() + 1
     }
 
-    /// What may come behind the whole tokens, by which the token that isn't complete could be
+    /// What may come after the whole tokens, by which the token that isn't complete could be
     /// another.
     ///
     /// At a stop: feed a stream the bytes before its place and a blank, which ends a `(`. What may

@@ -9,7 +9,7 @@ use Rattle.std.proofs.lemmas.List.Elements.{filter-append}
 use Rattle.std.proofs.lemmas.List.Sorted.{sorted_far}
 
 module _ {X : Type 0} (lt : X → X → Bool) where
-  -- x behind those that it isn't less than
+  -- x after those that it isn't less than
   -- no element is less than x
   abbrev pub IsLeast : X → List X → Type 0
   IsLeast x [] = Unit {0}

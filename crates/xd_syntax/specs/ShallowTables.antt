@@ -5,7 +5,7 @@ use Rattle.xd_syntax.specs.Table.{Row, tree_at}
 use Rattle.xd_syntax.specs.TypeText.{depth}
 use Rattle.xd_syntax.specs.Shallow.{nesting_limit}
 
--- no node behind the old ones is deeper than this
+-- no node after the old ones is deeper than this
 abbrev pub AddsWithin : (limit : ℕ) → (old new : List Row) → Type 0
 AddsWithin limit old new = (i : ℕ) → length old ≤ i → i < length new → depth (tree_at new i) ≤ limit
 

@@ -42,7 +42,7 @@ form_tree t (val_form x p i) = Val x (t i)
 abbrev pub tree_in : List Tree → ℕ → Tree
 tree_in ts i = get_or ts i Empty
 
--- the trees of nodes, behind those of older nodes
+-- the trees of nodes, after those of older nodes
 abbrev pub trees_after : List Tree → List Row → List Tree
 trees_after ts [] = ts
 trees_after ts (r ∷ rs) = trees_after (ts ++ form_tree (tree_in ts) r.form ∷ []) rs

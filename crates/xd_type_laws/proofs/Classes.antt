@@ -113,7 +113,7 @@ any_word_read l d p w rest h e =
     (same_bytes l d d (Token (word_terminal w) ∷ []) p (w ++ []) w rest _ (append-nil w)
     (read_token l d d [] p kinds.Word (word_terminal w) w [] rest [] (a_word w rest h e) refl (read_end l d _ rest))))
 
--- each behind a bar
+-- each after a bar
 abbrev bars : List (List ℕ) → List ℕ
 bars [] = []
 bars (w ∷ ws) = 124 ∷ (w ++ bars ws)
@@ -177,7 +177,7 @@ one_text s c e = record {
   );
 }
 
--- behind a `^`
+-- after a `^`
 pub but_one_text : (s : List ℕ) (c : NameClass) → class_of true (s ∷ []) ≡ c → Spells prim behind_prim (94 ∷ quoted s) (Words c) 0
 but_one_text s c e = record {
   some = omega arith;

@@ -97,7 +97,7 @@ definition_read l p x s rest U w k m =
     let f = blank_first l 0 0 (Token t.Word ∷ Token t.Equals ∷ Part alt ∷ []) (past p the_word) (x ++ 32 ∷ (61 ∷ 32 ∷ s)) rest _ e in
     read_token l 0 0 (Token t.Word ∷ Token t.Equals ∷ Part alt ∷ []) p kinds.Word t.Type the_word (32 ∷ (x ++ 32 ∷ (61 ∷ 32 ∷ s))) rest _ (type_first ((x ++ 32 ∷ (61 ∷ 32 ∷ s)) ++ rest)) refl f
 
--- ---- behind a line stands another, or the end
+-- ---- after a line stands another, or the end
 starts_line : (d : List ℕ × Tree) (rest : List ℕ) → Starts (10 ∷ (definition_line d ++ rest)) t.Type
 starts_line d rest =
     let more = d.0 ++ 32 ∷ (61 ∷ 32 ∷ type_text d.1) in

@@ -24,7 +24,7 @@ use Rattle.xd_grammar.specs.Text.{terminal_of}
 use Rattle.xd_parse_trees.specs.Values.{Value, absent, a_tree, token_of, trees, value_of}
 use Rattle.xd_type_laws.proofs.RowsReadLemmas.{Reads, read_end, read_token, read_opening, read_closed, read_alone, read_then, read_unless, same_bytes, Starts, starts_token}
 
--- ---- what may stand behind
+-- ---- what may stand after
 abbrev pub closes : Terminal → Bool
 closes t.ParenR = true
 closes t.BracketR = true

@@ -17,7 +17,7 @@ past_joined p [] r = refl
 past_joined p (b ∷ bs) r = past_joined (after p b) bs r
 
 -- before `rest`, the bytes s are read by the row from the place p on, where d levels are open
--- before it and e behind
+-- before it and e after
 abbrev pub Reads : (l d : ℕ) → Row → (e : ℕ) → Place → (s rest : List ℕ) → List Value → Type 0
 Reads l d row e p s rest vs = MeansAt l d row (tokens_from 0 p (s ++ rest)) (tokens_from 0 (past p s) rest) e vs
 
@@ -64,7 +64,7 @@ same_bytes l d e row p s r rest vs f m = subst (λ x. Reads l d row e p x rest v
 pub read_alone : (l d m : ℕ) (part : Nonterminal) (made : Row) (p : Place) (s rest : List ℕ) (vs : List Value) → IsOneOf made (rules part) → Reads l d made m p s rest vs → Reads l d (Part part ∷ []) m p s rest (value_of part vs ∷ [])
 read_alone l d m part made p s rest vs one a = part_at made one a ends_at
 
--- a row, and behind it another
+-- a row, and after it another
 pub rows_joined : {l d m e : ℕ} {row other : Row} {from mid to : List Lexeme} {vs us : List Value} → MeansAt l d row from mid m vs → MeansAt l m other mid to e us → MeansAt l d (row ++ other) from to e (vs ++ us)
 rows_joined ends_at b = b
 rows_joined (token_at a) b = token_at (rows_joined a b)
@@ -73,7 +73,7 @@ rows_joined (closing_at a) b = closing_at (rows_joined a b)
 rows_joined (bar_at ne a) b = bar_at ne (rows_joined a b)
 rows_joined (part_at made one a c) b = part_at made one a (rows_joined c b)
 
--- a part, and behind it more of the row
+-- a part, and after it more of the row
 pub read_then : (l d m e : ℕ) (part : Nonterminal) (row : Row) (p : Place) (s r rest : List ℕ) (v : Value) (us : List Value) → Reads l d (Part part ∷ []) m p s (r ++ rest) (v ∷ []) → Reads l m row e (past p s) r rest us →
     Reads l d (Part part ∷ row) e p (s ++ r) rest (v ∷ us)
 read_then l d m e part row p s r rest v us a b = joined l d e (Part part ∷ row) p s r rest (v ∷ us) (rows_joined a b)

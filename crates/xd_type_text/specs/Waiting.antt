@@ -32,7 +32,7 @@ abbrev pub mark_of : Joined → ℕ
 mark_of joined.Sequence = 44
 mark_of joined.Alternative = 124
 
--- words, each behind a `|`
+-- words, each after a `|`
 abbrev pub each_behind_bar : List (List ℕ) → List ℕ
 each_behind_bar [] = []
 each_behind_bar (w ∷ ws) = (124 ∷ w) ++ each_behind_bar ws

@@ -7,7 +7,7 @@ ghost use Rattle.xd_type_text.specs.Waiting.{each_behind_bar};
 use xd_doc::{Class, Label, NoMemory, Text, Words};
 use xd_write::write_text;
 
-/// Labels, each behind a `|`.
+/// Labels, each after a `|`.
 fn write_more_labels(labels: &[Label], out: &mut Vec<u8>) -> Result<(), NoMemory>
     ensures { OnOk result (out.new.items ≡ out.old.items ++ each_behind_bar labels.now) }
 {
@@ -18,7 +18,7 @@ fn write_more_labels(labels: &[Label], out: &mut Vec<u8>) -> Result<(), NoMemory
     Ok(())
 }
 
-/// Texts in quotes, each behind a `|`.
+/// Texts in quotes, each after a `|`.
 fn write_more_texts(texts: &[Text], out: &mut Vec<u8>) -> Result<(), NoMemory>
     ensures { OnOk result (out.new.items ≡ out.old.items ++ each_behind_bar (map quoted texts.now)) }
 {

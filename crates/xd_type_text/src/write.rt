@@ -53,7 +53,7 @@ fn text_of(alloc: Global, types: &Types, id: TypeId) -> Result<Vec<u8>, NoMemory
     Ok(made)
 }
 
-/// The first part is to be written next, and behind it the others.
+/// The first part is to be written next, and after it the others.
 fn push_parts<'a>(
     joined: Joined,
     parts: &'a [TypeId],
@@ -112,7 +112,7 @@ fn write_part<'a>(
     Ok(())
 }
 
-/// The part is to be written next, and behind it its operator.
+/// The part is to be written next, and after it its operator.
 fn push_postfix<'a>(
     level: Level,
     part: TypeId,
@@ -129,7 +129,7 @@ fn push_postfix<'a>(
     Ok(())
 }
 
-/// Opens parentheses where they are wanted, which are closed behind what is pushed next.
+/// Opens parentheses where they are wanted, which are closed after what is pushed next.
 fn open<'a>(wanted: bool, out: &mut Vec<u8>, stack: &mut Vec<Waiting<'a>>) -> Result<(), NoMemory>
     ensures out { OnOk result (out.new.items ≡ out.old.items ++ cond wanted (40 ∷ []) []) }
     ensures stack { OnOk result (stack.new.items ≡ stack.old.items ++ cond wanted (waits.Mark 41 ∷ []) []) }

@@ -21,7 +21,7 @@ abbrev pub closing : List Document → List Seq → List ℕ
 closing ds [] = []
 closing ds (seq ∷ seqs) = closing ds seqs ++ after_content (document_at ds seq)
 
--- the work that is left behind open contents
+-- the work that is left after open contents
 abbrev pub weight : List Document → List Seq → ℕ
 weight ds [] = 0
 weight ds (seq ∷ seqs) = (size (document_at ds seq) + size (document_at ds seq) + 1) + weight ds seqs
@@ -82,7 +82,7 @@ run_more s start i w h plain e =
     let b : escaped_all (drop i s) ≡ get_or s i 0 ∷ [] ++ escaped_all (drop (i + 1) s) = escaped_all-drop s i h ∙ ap (λ xs. xs ++ escaped_all (drop (i + 1) s)) plain in
     e ∙ ap (λ xs. slice_range s start i ++ xs) b ∙ sym (append_assoc (slice_range s start i) (get_or s i 0 ∷ []) (escaped_all (drop (i + 1) s))) ∙ ap (λ xs. xs ++ escaped_all (drop (i + 1) s)) (sym t)
 
--- a piece of a document's text, and what may stand behind it
+-- a piece of a document's text, and what may stand after it
 piece_split : (q k i cl : List ℕ) → (q ++ (k ++ i)) ++ cl ≡ q ++ (k ++ (i ++ cl))
 piece_split q k i cl = append_assoc q (k ++ i) cl ∙ ap (λ xs. q ++ xs) (append_assoc k i cl)
 

@@ -1,4 +1,4 @@
-//! Documents as text, with a stack of what stands behind the contents that are open.
+//! Documents as text, with a stack of what stands after the contents that are open.
 
 ghost use Rattle.std.specs.Prelude.{◌≡◌, ◌++◌, ◌∷◌, [], OnOk, OnErr};
 ghost use Rattle.xd_doc.specs.Document.{canonical_text, items_text, comma_before};

@@ -29,7 +29,7 @@ pub struct Reach {
 }
 
 impl Reach {
-    /// Finds a state; its copy stands behind those of the states that were found before.
+    /// Finds a state; its copy stands after those of the states that were found before.
     fn visit(&mut self, base: usize, state: State) -> Result<(), NoMemory>
         requires base { base < 2 ^ 63 }
         requires placed { ArePlaced base self.old.order.items (copies_in self.old.copies) }

@@ -72,7 +72,7 @@ pub struct Index<N: Ord> {
     pub others: Vec<usize>,
 }
 
-/// Puts a number behind those that stand under the name.
+/// Puts a number after those that stand under the name.
 fn put<N: Name>(
     named: &mut BTreeMap<N, Vec<usize>>,
     alloc: Global,
@@ -95,7 +95,7 @@ fn put<N: Name>(
     }
 }
 
-/// Puts a number behind those that stand under the names.
+/// Puts a number after those that stand under the names.
 fn put_each<N: Name>(
     named: &mut BTreeMap<N, Vec<usize>>,
     alloc: Global,
