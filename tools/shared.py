@@ -50,7 +50,7 @@ def fail(text):
 
 
 def words(form):
-    """The words behind the script's name, where there are as many as its form has."""
+    """The words after the script's name, where there are as many as its form has."""
     if len(sys.argv) != len(form.split()) + 1 or sys.argv[1] in ("-h", "--help"):
         print(f"usage: {os.path.basename(sys.argv[0])} {form}", file=sys.stderr)
         sys.exit(2)
