@@ -13,9 +13,9 @@ ghost use Rattle.xd_apart.specs.Apart.{IsApart};
 use crate::search::{Found, search};
 use std::alloc::Global;
 use xd_auto::{Auto, State};
-use xd_boole::minus;
 use xd_doc::{NoMemory, Seq, Store};
 use xd_least::{document_size, least_inhabitant};
+use xd_points::minus;
 
 /// A least document of those that the left state accepts and the right one doesn't, in this store,
 /// where one of these is known.

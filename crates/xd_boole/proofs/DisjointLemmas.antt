@@ -11,7 +11,7 @@ use Rattle.xd_auto.specs.Automaton.{Automaton, moves_at}
 use Rattle.xd_boole.specs.declared.groups.MoveSide.{MoveSide}
 use Rattle.xd_boole.specs.Meaning.{ElementFirst, TextFirst, move_takes, text_takes}
 use Rattle.xd_boole.specs.Groups.{AllPass, label_side, side_accepts}
-use Rattle.xd_boole.specs.Disjoint.{AreDisjoint, AreDisjointSides, AreNear}
+use Rattle.xd_boole.specs.Disjoint.{AreDisjoint, AreDisjointSides, AreNearMoves}
 use Rattle.xd_boole.proofs.Bools.{and_false, or_nothing}
 use Rattle.xd_boole.proofs.Lists.{all_at, all_push, any_walked}
 
@@ -48,41 +48,41 @@ module _ (a b : Automaton) where
 
 -- ---- what is near a part
 
--- of the first of these some, which take the same of what a part accepts
-pub record NearFirst {X : Type 0} (a : Automaton) (part : MoveSide) (takes : ElementFirst → X → Bool) (items : List X) (i : ℕ) (near : List X) : Type 0 where
-  pub taken : (q : ElementFirst) → side_accepts a q.content q.rest part ≡ true → list_any (takes q) near ≡ list_any (takes q) (take i items)
-  pub all : (p : X → Bool) → AllPass p items → AllPass p near
+-- of the first of these moves some, which take the same of what a part accepts
+pub record NearFirst (a b : Automaton) (part : MoveSide) (items : List LabelMove) (i : ℕ) (near : List LabelMove) : Type 0 where
+  pub taken : (q : ElementFirst) → side_accepts a q.content q.rest part ≡ true → list_any (move_takes b q) near ≡ list_any (move_takes b q) (take i items)
+  pub all : (p : LabelMove → Bool) → AllPass p items → AllPass p near
 
-module _ {X : Type 0} (a : Automaton) (part : MoveSide) (takes : ElementFirst → X → Bool) (items : List X) where
-  pub near_none : (near : List X) → near ≡ [] → NearFirst a part takes items 0 near
+module _ (a b : Automaton) (part : MoveSide) (items : List LabelMove) where
+  pub near_none : (near : List LabelMove) → near ≡ [] → NearFirst a b part items 0 near
   near_none near none = record {
-    taken = λ q e. ap (list_any (takes q)) none;
+    taken = λ q e. ap (list_any (move_takes b q)) none;
     all = λ p h. subst (AllPass p) (sym none) tt;
   }
 
-  pub near_all : (i : ℕ) (near : List X) → length items ≤ i → NearFirst a part takes items i near → AreNear a part takes items near
+  pub near_all : (i : ℕ) (near : List LabelMove) → length items ≤ i → NearFirst a b part items i near → AreNearMoves a b part items near
   near_all i near le h = record {
-    taken = λ q e. h.taken q e ∙ any_walked (takes q) items i le;
+    taken = λ q e. h.taken q e ∙ any_walked (move_takes b q) items i le;
     all = h.all;
   }
 
-  module _ (i : ℕ) (x : X) (lt : i < length items) (at : x ≡ get_or items i x) (near : List X) (before : NearFirst a part takes items i near) where
-    one_more : (q : ElementFirst) → (list_any (takes q) (take i items) || takes q x) ≡ list_any (takes q) (take (i + 1) items)
-    one_more q = ap (λ w. list_any (takes q) (take i items) || takes q w) at ∙ sym (list_any_more (takes q) items i x lt)
+  module _ (i : ℕ) (x : LabelMove) (lt : i < length items) (at : x ≡ get_or items i x) (near : List LabelMove) (before : NearFirst a b part items i near) where
+    one_more : (q : ElementFirst) → (list_any (move_takes b q) (take i items) || move_takes b q x) ≡ list_any (move_takes b q) (take (i + 1) items)
+    one_more q = ap (λ w. list_any (move_takes b q) (take i items) || move_takes b q w) at ∙ sym (list_any_more (move_takes b q) items i x lt)
 
-    pub near_kept : (new : List X) → new ≡ near ++ x ∷ [] → NearFirst a part takes items (i + 1) new
+    pub near_kept : (new : List LabelMove) → new ≡ near ++ x ∷ [] → NearFirst a b part items (i + 1) new
     near_kept new is = record {
       taken = λ q e.
-          ap (list_any (takes q)) is ∙ list_any-append (takes q) near (x ∷ []) ∙ ap (λ w. list_any (takes q) near || w) (or_nothing (takes q x))
-          ∙ ap (λ w. w || takes q x) (before.taken q e) ∙ one_more q;
+          ap (list_any (move_takes b q)) is ∙ list_any-append (move_takes b q) near (x ∷ []) ∙ ap (λ w. list_any (move_takes b q) near || w) (or_nothing (move_takes b q x))
+          ∙ ap (λ w. w || move_takes b q x) (before.taken q e) ∙ one_more q;
       all = λ p h. subst (AllPass p) (sym is) (all_push (λ w. p w ≡ true) near x (before.all p h) (all_at (λ w. p w ≡ true) items h i x lt at));
     }
 
-    pub near_dropped : ((q : ElementFirst) → (side_accepts a q.content q.rest part && takes q x) ≡ false) → NearFirst a part takes items (i + 1) near
+    pub near_dropped : ((q : ElementFirst) → (side_accepts a q.content q.rest part && move_takes b q x) ≡ false) → NearFirst a b part items (i + 1) near
     near_dropped apart = record {
       taken = λ q e.
-          before.taken q e ∙ sym (or_nothing (list_any (takes q) (take i items)))
-          ∙ ap (λ w. list_any (takes q) (take i items) || w) (sym (ap (λ w. w && takes q x) (sym e) ∙ apart q))
+          before.taken q e ∙ sym (or_nothing (list_any (move_takes b q) (take i items)))
+          ∙ ap (λ w. list_any (move_takes b q) (take i items) || w) (sym (ap (λ w. w && move_takes b q x) (sym e) ∙ apart q))
           ∙ one_more q;
       all = before.all;
     }

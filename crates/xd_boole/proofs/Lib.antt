@@ -10,9 +10,7 @@ pub mod UniversalLemmas
 pub mod ChoiceLemmas
 pub mod GrowsLemmas
 pub mod HasMovesLemmas
-pub mod MeaningLaw
 pub mod DifferenceLemmas
-pub mod PlaceLemmas
 pub mod MergeLemmas
 pub mod IsRedirectedLemmas
 pub mod TwinLemmas

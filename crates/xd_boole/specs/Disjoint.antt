@@ -26,13 +26,7 @@ IsDisjointMove a b m others = (q : ElementFirst) → (move_takes a q m && list_a
 abbrev pub IsDisjointText : Automaton → Automaton → TextMove → List TextMove → Type 0
 IsDisjointText a b m others = (q : TextFirst) → (text_takes a q m && list_any (text_takes b q) others) ≡ false
 
--- of these some, which take the same of the elements whose content and rest a part accepts
-pub record AreNear {X : Type 0} (a : Automaton) (part : MoveSide) (takes : ElementFirst → X → Bool) (items near : List X) : Type 0 where
-  pub taken : (q : ElementFirst) → side_accepts a q.content q.rest part ≡ true → list_any (takes q) near ≡ list_any (takes q) items
-  pub all : (p : X → Bool) → AllPass p items → AllPass p near
-
-abbrev pub AreNearSides : Automaton → Automaton → MoveSide → List MoveSide → List MoveSide → Type 0
-AreNearSides a b part = AreNear a part (λ q. side_accepts b q.content q.rest)
-
-abbrev pub AreNearMoves : Automaton → Automaton → MoveSide → List LabelMove → List LabelMove → Type 0
-AreNearMoves a b part = AreNear a part (move_takes b)
+-- of these moves some, which take the same of the elements whose content and rest a part accepts
+pub record AreNearMoves (a b : Automaton) (part : MoveSide) (items near : List LabelMove) : Type 0 where
+  pub taken : (q : ElementFirst) → side_accepts a q.content q.rest part ≡ true → list_any (move_takes b q) near ≡ list_any (move_takes b q) items
+  pub all : (p : LabelMove → Bool) → AllPass p items → AllPass p near

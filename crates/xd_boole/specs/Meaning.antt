@@ -1,6 +1,6 @@
--- What a state of a difference stands for: a state of one automaton, the left, and states of
+-- What states accept and moves take, and points: a state of one automaton, the left, and states of
 -- another that are taken away from it, the rights.
-use Rattle.std.specs.Prelude.{◌≡◌, ℕ, Bool, true, not, cond, ◌&&◌, ◌==◌, List, [], ◌∷◌, map, nat_lt, nat_eq, length}
+use Rattle.std.specs.Prelude.{◌≡◌, ℕ, Bool, true, not, cond, ◌&&◌, List, [], ◌∷◌, map, nat_lt, nat_eq, length}
 use Rattle.std.specs.List.{list_any}
 use Rattle.xd_doc.specs.Document.{Document, text, element}
 use Rattle.xd_doc.specs.Classes.{class_has}
@@ -27,10 +27,6 @@ means a b p d = accepts a d p.left && not (any_accepts b p.rights d)
 
 abbrev pub less : State → List State → PointView
 less left rights = record { left = left; rights = rights }
-
--- nothing is taken away
-abbrev pub is_whole : PointView → Bool
-is_whole p = length p.rights == 0
 
 -- an element before a document, and a text before a document
 pub record ElementFirst : Type 0 where

@@ -3,8 +3,8 @@
 ghost use Rattle.std.specs.Prelude.{◌≡◌, true, length, IfOk};
 ghost use Rattle.std.specs.List.{AllByRecursion};
 ghost use Rattle.xd_auto.specs.Automaton.{IsState};
-ghost use Rattle.xd_boole.specs.Groups.{AllPass, is_side};
-ghost use Rattle.xd_boole.specs.Disjoint.{AreDisjoint, AreDisjointSides, AreNearMoves, AreNearSides, IsDisjointMove, IsDisjointText};
+ghost use Rattle.xd_boole.specs.Groups.{is_side};
+ghost use Rattle.xd_boole.specs.Disjoint.{AreDisjoint, AreDisjointSides, AreNearMoves, IsDisjointMove, IsDisjointText};
 ghost use Rattle.xd_boole.specs.Points.{MoveBelow, TextBelow};
 ghost use Rattle.xd_boole.specs.Refusals.{LeadInside};
 
@@ -129,34 +129,12 @@ fn are_disjoint_within(one: &Auto, left: State, two: &Auto, right: State, depth:
 ///
 /// It is looked over few moves, and not at states with many. So there are disjoint sides that
 /// aren't seen.
-pub(crate) fn are_sides_disjoint(one: &Auto, side: MoveSide, two: &Auto, other: MoveSide) -> bool
+fn are_sides_disjoint(one: &Auto, side: MoveSide, two: &Auto, other: MoveSide) -> bool
     requires side { is_side one.now side ≡ true }
     requires other { is_side two.now other ≡ true }
     ensures { result ≡ true → AreDisjointSides one.now two.now side other }
 {
     are_sides_disjoint_within(one, side, two, other, MOST_DEPTH)
-}
-
-/// Of these sides those that aren't seen to be disjoint from a part.
-pub(crate) fn near_sides(
-    alloc: Global,
-    one: &Auto,
-    part: MoveSide,
-    two: &Auto,
-    sides: &[MoveSide],
-) -> Result<Vec<MoveSide>, NoMemory>
-    requires part { is_side one.now part ≡ true }
-    requires sides { AllPass (is_side two.now) sides.now }
-    ensures { IfOk result (λ near. AreNearSides one.now two.now part sides.now near.items) }
-{
-    let mut near = Vec::new(alloc);
-    for side in sides {
-        if are_sides_disjoint(one, part, two, *side) {
-            continue;
-        }
-        near.push(*side)?;
-    }
-    Ok(near)
 }
 
 /// Of these moves those that aren't seen to lead to sides that are disjoint from a part: what takes

@@ -10,8 +10,8 @@ ghost use Rattle.xd_boole.specs.Universal.{MarkUniversal};
 
 use crate::choices::{SideChoice, copy_choices, extend_all, no_choice};
 use crate::classes::{are_apart, has_all_of};
-use crate::difference::Taken;
 use crate::groups::{below, share_move, side_of};
+use crate::taken::Taken;
 use std::alloc::Global;
 use xd_auto::{Auto, LabelMove, Move, State};
 use xd_doc::{Class, NoMemory};

@@ -10,11 +10,10 @@ ghost use Rattle.xd_boole.specs.Universal.{MarkUniversal};
 use crate::merging::{
     Compared, are_like, bare_states, mixed, mixed_name, redirect_state, stand_in, stand_ins,
 };
-use crate::universal::{is_marked, universal_states};
+use crate::universal::{is_marked, universal_states, with_universal};
 use std::alloc::Global;
 use std::collections::HashMap;
-use xd_auto::{Auto, State, trim};
-use xd_auto_pairs::add_universal;
+use xd_auto::{Auto, State};
 use xd_doc::NoMemory;
 
 /// The group of a state, by its number.
@@ -211,19 +210,6 @@ fn merged_from(alloc: Global, auto: &Auto, state: State) -> Result<(Auto, State)
     Ok((made, stand_in(&same, state)))
 }
 
-/// The part that a state leads to and the state in it, and after it a state that accepts
-/// everything.
-fn with_universal(alloc: Global, auto: &Auto, state: State) -> Result<(Auto, State), NoMemory>
-    requires { IsState auto.now state }
-    ensures same { IfOk result (λ made. (d : Document) → accepts made.0 d made.1 ≡ accepts auto.now d state) }
-    ensures belongs { IfOk result (λ made. IsState made.0 made.1) }
-{
-    let (mut part, start) = trim(alloc, auto, state)?;
-    let _states = part.len();
-    let _all = add_universal(alloc, &mut part)?;
-    Ok((part, start))
-}
-
 /// A state that accepts the same, in an automaton in which moves lead to one state where many
 /// accept the same.
 ///
@@ -235,6 +221,6 @@ pub fn merged_at(alloc: Global, auto: &Auto, state: State) -> Result<(Auto, Stat
     ensures same { IfOk result (λ made. (d : Document) → accepts made.0 d made.1 ≡ accepts auto.now d state) }
     ensures belongs { IfOk result (λ made. IsState made.0 made.1) }
 {
-    let (part, start) = with_universal(alloc, auto, state)?;
+    let (part, start, _all) = with_universal(alloc, auto, state)?;
     merged_from(alloc, &part, start)
 }

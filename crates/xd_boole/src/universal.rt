@@ -3,13 +3,15 @@
 ghost use Rattle.std.specs.Prelude.{◌≡◌, ◌<◌, true, length, IfOk};
 ghost use Rattle.std.specs.List.{AllByRecursion, list_any};
 ghost use Rattle.std.specs.Option.{IfSome};
-ghost use Rattle.xd_auto.specs.Automaton.{IsState};
+ghost use Rattle.xd_doc.specs.Document.{Document};
+ghost use Rattle.xd_auto.specs.Automaton.{IsState, accepts};
 ghost use Rattle.xd_empty.specs.Parts.{is_marked};
 ghost use Rattle.xd_boole.specs.Universal.{AcceptsAll, MarkUniversal, TakesAll, has_all, leads_all, text_leads_all};
 
 use crate::states::has_state;
 use std::alloc::Global;
-use xd_auto::{Auto, LabelMove, State, TextMove};
+use xd_auto::{Auto, LabelMove, State, TextMove, trim};
+use xd_auto_pairs::add_universal;
 use xd_doc::{Class, NoMemory, Words};
 
 /// Whether the class has all labels.
@@ -169,4 +171,25 @@ pub fn any_marked(marks: &[bool], states: &[State]) -> bool
         }
     }
     false
+}
+
+/// The part that a state leads to and the state in it, and beside it a state that accepts
+/// everything, to which nothing else leads.
+///
+/// Fails only where memory is refused.
+pub fn with_universal(
+    alloc: Global,
+    auto: &Auto,
+    state: State,
+) -> Result<(Auto, State, State), NoMemory>
+    requires { IsState auto.now state }
+    ensures same { IfOk result (λ made. (d : Document) → accepts made.0 d made.1 ≡ accepts auto.now d state) }
+    ensures belongs { IfOk result (λ made. IsState made.0 made.1) }
+    ensures all { IfOk result (λ made. IsState made.0 made.2) }
+    ensures universal { IfOk result (λ made. AcceptsAll made.0 made.2) }
+{
+    let (mut part, start) = trim(alloc, auto, state)?;
+    let _states = part.len();
+    let all = add_universal(alloc, &mut part)?;
+    Ok((part, start, all))
 }

@@ -9,15 +9,16 @@ use Rattle.xd_auto.specs.declared.auto.State.{State}
 use Rattle.xd_auto.specs.declared.auto.LabelMove.{LabelMove}
 use Rattle.xd_auto.specs.declared.auto.TextMove.{TextMove}
 use Rattle.xd_auto.specs.Automaton.{Automaton, accepts, moves_at}
-use Rattle.xd_auto.specs.Runs.{Run, ends, takes_text, takes_element, IsAcceptingRun}
-use Rattle.xd_auto.proofs.RunLaw.{runs_law}
+use Rattle.xd_auto.specs.Runs.{Run, ends, takes_text, takes_element}
+use Rattle.xd_points.specs.FirstRuns.{IsRunBy, place_before}
 use Rattle.xd_points.specs.declared.patterns.PatternStates.{PatternStates}
 use Rattle.xd_boole.specs.Groups.{passes_at}
 use Rattle.xd_boole.specs.Meaning.{ElementFirst, TextFirst, any_accepts, element_of, move_takes, text_of, text_takes}
-use Rattle.xd_boole.proofs.Bools.{and_both, and_left, and_right, or_true}
+use Rattle.xd_boole.proofs.Bools.{and_both, and_left, and_right, or_right, or_true}
 use Rattle.xd_points.specs.declared.points.Points.{Points}
 use Rattle.xd_points.specs.Following.{Follows, FollowsAllRuns, IsRunAt}
-use Rattle.xd_points.specs.Points.{AreExpanded, HasMoves, IsLabelStep, IsTextStep, RowView, any_for, is_old, label_means, meaning, point_at, row_at, state_at, text_means}
+use Rattle.xd_points.specs.Points.{AreExpanded, HasMoves, IsLabelStep, IsTextStep, RowView, any_before, any_for, any_text_before, is_old, label_means, meaning, point_at, row_at, state_at, text_means}
+use Rattle.xd_points.proofs.FirstRunLaw.{by_accepts}
 use Rattle.xd_points.proofs.MakesMovesLemmas.{not_true, or_left, some_passes}
 
 pub zip_there : {A : Type 0} (R : A → ℕ → Type 0) (xs : List A) (ys : List ℕ) (k n : ℕ) (x : A) → AllZip R xs ys → slice_get xs k ≡ Some x → slice_get ys k ≡ Some n → R x n
@@ -74,14 +75,14 @@ origin (Some x) P h = record { item = x; is = refl; holds = h }
 some_same : {X : Type 0} (o : Option X) (x y : X) → o ≡ Some x → o ≡ Some y → x ≡ y
 some_same o x y e f = cc
 
-module _ (a : Automaton) (t : PatternStates) (p : Points) (rows : List RowView) (expanded : AreExpanded false a t p rows) (every : length rows ≡ length p.points.items) where
-  has : (i : ℕ) → i < length p.points.items → is_old t p i ≡ false → HasMoves false a t p i (row_at rows i)
+module _ (first : Bool) (a : Automaton) (t : PatternStates) (p : Points) (rows : List RowView) (expanded : AreExpanded first a t p rows) (every : length rows ≡ length p.points.items) where
+  has : (i : ℕ) → i < length p.points.items → is_old t p i ≡ false → HasMoves first a t p i (row_at rows i)
   has i lt yet = expanded.has i (omega (arith, every)) yet
 
   pattern_at : ℕ → State
   pattern_at i = (point_at p.points.items i).pattern
 
-  pub to : (d : Document) (i : ℕ) (run : Run) → i < length p.points.items → Follows a t p rows d i run → IsRunAt a t p i d run
+  pub to : (d : Document) (i : ℕ) (run : Run) → i < length p.points.items → Follows first a t p rows d i run → IsRunAt first a t p i d run
   to empty i run lt h = h
   to (text c d) i ends lt h = absurd h
   to (text c d) i (takes_element n k r) lt h = absurd h
@@ -98,14 +99,16 @@ module _ (a : Automaton) (t : PatternStates) (p : Points) (rows : List RowView) 
       let xs = (moves_at t.auto v.pattern).texts in
       let there = passes_at (text_takes t.auto q) xs n in
       let right = any_accepts t.taken.auto v.rights (text_of q) in
-      let more = and_right (accepts a (text_of q) v.left) (there && not (right || false)) yes in
-      let takes = and_left there (not (right || false)) more in
-      let none = or_left right false (not_true (right || false) (and_right there (not (right || false)) more)) in
+      let before = any_text_before t.auto v.pattern (place_before first n) q in
+      let more = and_right (accepts a (text_of q) v.left) (there && not (right || before)) yes in
+      let takes = and_left there (not (right || before)) more in
+      let neither = not_true (right || before) (and_right there (not (right || before)) more) in
+      let none = or_left right before neither in
       let one = sym (passes_there (text_takes t.auto q) xs n step.origin step.there) ∙ takes in (
-        and_both (accepts a (text_of q) v.left) (accepts t.auto (text_of q) v.pattern && not right) (and_left (accepts a (text_of q) v.left) (there && not (right || false)) yes)
+        and_both (accepts a (text_of q) v.left) (accepts t.auto (text_of q) v.pattern && not right) (and_left (accepts a (text_of q) v.left) (there && not (right || before)) yes)
             (and_both (accepts t.auto (text_of q) v.pattern) (not right) (some_passes (text_takes t.auto q) xs n takes) (ap not none)),
-        subst (λ (o : Option TextMove). IsSomeAnd o (λ w. (class_has w.words c ≡ true) × IsAcceptingRun t.auto d w.rest r)) (sym step.there)
-            (and_left (class_has step.origin.words c) (accepts t.auto d step.origin.rest) one, subst (λ (s : State). IsAcceptingRun t.auto d s r) step.leads.leads.pattern_is after.1),
+        subst (λ (o : Option TextMove). IsSomeAnd o (λ w. (class_has w.words c ≡ true) × (before ≡ false) × IsRunBy first t.auto d w.rest r)) (sym step.there)
+            (and_left (class_has step.origin.words c) (accepts t.auto d step.origin.rest) one, or_right right before neither, subst (λ (s : State). IsRunBy first t.auto d s r) step.leads.leads.pattern_is after.1),
       )
   to (element l c d) i ends lt h = absurd h
   to (element l c d) i (takes_text n r) lt h = absurd h
@@ -123,29 +126,32 @@ module _ (a : Automaton) (t : PatternStates) (p : Points) (rows : List RowView) 
       let xs = (moves_at t.auto v.pattern).labels in
       let there = passes_at (move_takes t.auto q) xs n in
       let right = any_accepts t.taken.auto v.rights (element_of q) in
-      let more = and_right (accepts a (element_of q) v.left) (there && not (right || false)) yes in
-      let takes = and_left there (not (right || false)) more in
-      let none = or_left right false (not_true (right || false) (and_right there (not (right || false)) more)) in
+      let before = any_before t.auto v.pattern (place_before first n) q in
+      let more = and_right (accepts a (element_of q) v.left) (there && not (right || before)) yes in
+      let takes = and_left there (not (right || before)) more in
+      let neither = not_true (right || before) (and_right there (not (right || before)) more) in
+      let none = or_left right before neither in
       let one = sym (passes_there (move_takes t.auto q) xs n step.origin step.there) ∙ takes in (
-        and_both (accepts a (element_of q) v.left) (accepts t.auto (element_of q) v.pattern && not right) (and_left (accepts a (element_of q) v.left) (there && not (right || false)) yes)
+        and_both (accepts a (element_of q) v.left) (accepts t.auto (element_of q) v.pattern && not right) (and_left (accepts a (element_of q) v.left) (there && not (right || before)) yes)
             (and_both (accepts t.auto (element_of q) v.pattern) (not right) (some_passes (move_takes t.auto q) xs n takes) (ap not none)),
-        subst (λ (o : Option LabelMove). IsSomeAnd o (λ w. (class_has w.class l ≡ true) × IsAcceptingRun t.auto c w.content k × IsAcceptingRun t.auto d w.rest r)) (sym step.there) (
+        subst (λ (o : Option LabelMove). IsSomeAnd o (λ w. (class_has w.class l ≡ true) × (before ≡ false) × IsRunBy first t.auto c w.content k × IsRunBy first t.auto d w.rest r)) (sym step.there) (
           and_left (class_has step.origin.class l) (accepts t.auto c step.origin.content && accepts t.auto d step.origin.rest) one,
-          subst (λ (s : State). IsAcceptingRun t.auto c s k) step.leads.content.pattern_is inside.1,
-          subst (λ (s : State). IsAcceptingRun t.auto d s r) step.leads.rest.pattern_is after.1,
+          or_right right before neither,
+          subst (λ (s : State). IsRunBy first t.auto c s k) step.leads.content.pattern_is inside.1,
+          subst (λ (s : State). IsRunBy first t.auto d s r) step.leads.rest.pattern_is after.1,
         ),
       )
 
-  or_none : (r : Bool) → r ≡ false → not (r || false) ≡ true
-  or_none r e = ap (λ w. not (w || false)) e
+  or_none : (r b : Bool) → r ≡ false → b ≡ false → not (r || b) ≡ true
+  or_none r b e f = ap (λ w. not (w || b)) e ∙ ap not f
 
-  pub back : (d : Document) (i : ℕ) (run : Run) → i < length p.points.items → IsRunAt a t p i d run → Follows a t p rows d i run
+  pub back : (d : Document) (i : ℕ) (run : Run) → i < length p.points.items → IsRunAt first a t p i d run → Follows first a t p rows d i run
   back empty i run lt h = h
   back (text c d) i ends lt h = absurd h.1
   back (text c d) i (takes_element n k r) lt h = absurd h.1
   back (text c d) i (takes_text n r) lt h = go (is_old t p i) refl (λ j there e. back d j r there e)
     where
-      go : (o : Bool) → is_old t p i ≡ o → ((j : ℕ) → j < length p.points.items → IsRunAt a t p j d r → Follows a t p rows d j r) → Follows a t p rows (text c d) i (takes_text n r)
+      go : (o : Bool) → is_old t p i ≡ o → ((j : ℕ) → j < length p.points.items → IsRunAt first a t p j d r → Follows first a t p rows d j r) → Follows first a t p rows (text c d) i (takes_text n r)
       go true o rest = inl (o, h)
       go false o rest =
           let q : TextFirst = record { characters = c; rest = d } in
@@ -153,11 +159,12 @@ module _ (a : Automaton) (t : PatternStates) (p : Points) (rows : List RowView) 
           let v = point_at p.points.items i in
           let xs = (moves_at t.auto v.pattern).texts in
           let right = any_accepts t.taken.auto v.rights (text_of q) in
-          let from = origin (slice_get xs n) (λ w. (class_has w.words c ≡ true) × IsAcceptingRun t.auto d w.rest r) h.1 in
-          let takes = passes_there (text_takes t.auto q) xs n from.item from.is ∙ and_both (class_has from.item.words c) (accepts t.auto d from.item.rest) from.holds.0 ((runs_law t.auto from.item.rest d).1 (r, from.holds.1)) in
+          let before = any_text_before t.auto v.pattern (place_before first n) q in
+          let from = origin (slice_get xs n) (λ w. (class_has w.words c ≡ true) × (before ≡ false) × IsRunBy first t.auto d w.rest r) h.1 in
+          let takes = passes_there (text_takes t.auto q) xs n from.item from.is ∙ and_both (class_has from.item.words c) (accepts t.auto d from.item.rest) from.holds.0 (by_accepts first t.auto d from.item.rest r from.holds.2) in
           let left = and_left (accepts a (text_of q) v.left) (accepts t.auto (text_of q) v.pattern && not right) h.0 in
           let none = not_true right (and_right (accepts t.auto (text_of q) v.pattern) (not right) (and_right (accepts a (text_of q) v.left) (accepts t.auto (text_of q) v.pattern && not right) h.0)) in
-          let yes = moves.texts n q ∙ and_both (accepts a (text_of q) v.left) (passes_at (text_takes t.auto q) xs n && not (right || false)) left (and_both (passes_at (text_takes t.auto q) xs n) (not (right || false)) takes (or_none right none)) in
+          let yes = moves.texts n q ∙ and_both (accepts a (text_of q) v.left) (passes_at (text_takes t.auto q) xs n && not (right || before)) left (and_both (passes_at (text_takes t.auto q) xs n) (not (right || before)) takes (or_none right before none from.holds.1)) in
           let f = found (text_means a t p q) n (moves_at p.made (state_at i)).texts (row_at rows i).texts yes in
           let step = zip_there (IsTextStep t.auto v.pattern p) (moves_at p.made (state_at i)).texts (row_at rows i).texts f.place n f.item moves.text_steps f.there f.number in
           let same = some_same (slice_get xs n) from.item step.origin from.is step.there in
@@ -169,14 +176,14 @@ module _ (a : Automaton) (t : PatternStates) (p : Points) (rows : List RowView) 
             f.there,
             f.number,
             and_left (class_has f.item.words c) (meaning a t p f.item.rest.number d) f.passes,
-            rest f.item.rest.number step.leads.leads.within (and_right (class_has f.item.words c) (meaning a t p f.item.rest.number d) f.passes, subst (λ (s : State). IsAcceptingRun t.auto d s r) to_pattern from.holds.1),
+            rest f.item.rest.number step.leads.leads.within (and_right (class_has f.item.words c) (meaning a t p f.item.rest.number d) f.passes, subst (λ (s : State). IsRunBy first t.auto d s r) to_pattern from.holds.2),
           )
   back (element l c d) i ends lt h = absurd h.1
   back (element l c d) i (takes_text n r) lt h = absurd h.1
   back (element l c d) i (takes_element n k r) lt h = go (is_old t p i) refl (λ j there e. back c j k there e) (λ j there e. back d j r there e)
     where
-      go : (o : Bool) → is_old t p i ≡ o → ((j : ℕ) → j < length p.points.items → IsRunAt a t p j c k → Follows a t p rows c j k)
-          → ((j : ℕ) → j < length p.points.items → IsRunAt a t p j d r → Follows a t p rows d j r) → Follows a t p rows (element l c d) i (takes_element n k r)
+      go : (o : Bool) → is_old t p i ≡ o → ((j : ℕ) → j < length p.points.items → IsRunAt first a t p j c k → Follows first a t p rows c j k)
+          → ((j : ℕ) → j < length p.points.items → IsRunAt first a t p j d r → Follows first a t p rows d j r) → Follows first a t p rows (element l c d) i (takes_element n k r)
       go true o content rest = inl (o, h)
       go false o content rest =
           let q : ElementFirst = record { label = l; content = c; rest = d } in
@@ -184,13 +191,14 @@ module _ (a : Automaton) (t : PatternStates) (p : Points) (rows : List RowView) 
           let v = point_at p.points.items i in
           let xs = (moves_at t.auto v.pattern).labels in
           let right = any_accepts t.taken.auto v.rights (element_of q) in
-          let from = origin (slice_get xs n) (λ w. (class_has w.class l ≡ true) × IsAcceptingRun t.auto c w.content k × IsAcceptingRun t.auto d w.rest r) h.1 in
+          let before = any_before t.auto v.pattern (place_before first n) q in
+          let from = origin (slice_get xs n) (λ w. (class_has w.class l ≡ true) × (before ≡ false) × IsRunBy first t.auto c w.content k × IsRunBy first t.auto d w.rest r) h.1 in
           let takes = passes_there (move_takes t.auto q) xs n from.item from.is
           ∙ and_both (class_has from.item.class l) (accepts t.auto c from.item.content && accepts t.auto d from.item.rest) from.holds.0
-          (and_both (accepts t.auto c from.item.content) (accepts t.auto d from.item.rest) ((runs_law t.auto from.item.content c).1 (k, from.holds.1)) ((runs_law t.auto from.item.rest d).1 (r, from.holds.2))) in
+          (and_both (accepts t.auto c from.item.content) (accepts t.auto d from.item.rest) (by_accepts first t.auto c from.item.content k from.holds.2) (by_accepts first t.auto d from.item.rest r from.holds.3)) in
           let left = and_left (accepts a (element_of q) v.left) (accepts t.auto (element_of q) v.pattern && not right) h.0 in
           let none = not_true right (and_right (accepts t.auto (element_of q) v.pattern) (not right) (and_right (accepts a (element_of q) v.left) (accepts t.auto (element_of q) v.pattern && not right) h.0)) in
-          let yes = moves.labels n q ∙ and_both (accepts a (element_of q) v.left) (passes_at (move_takes t.auto q) xs n && not (right || false)) left (and_both (passes_at (move_takes t.auto q) xs n) (not (right || false)) takes (or_none right none)) in
+          let yes = moves.labels n q ∙ and_both (accepts a (element_of q) v.left) (passes_at (move_takes t.auto q) xs n && not (right || before)) left (and_both (passes_at (move_takes t.auto q) xs n) (not (right || before)) takes (or_none right before none from.holds.1)) in
           let f = found (label_means a t p q) n (moves_at p.made (state_at i)).labels (row_at rows i).labels yes in
           let step = zip_there (IsLabelStep t.auto v.pattern p) (moves_at p.made (state_at i)).labels (row_at rows i).labels f.place n f.item moves.label_steps f.there f.number in
           let same = some_same (slice_get xs n) from.item step.origin from.is step.there in
@@ -205,9 +213,9 @@ module _ (a : Automaton) (t : PatternStates) (p : Points) (rows : List RowView) 
             f.there,
             f.number,
             and_left (class_has f.item.class l) both f.passes,
-            content f.item.content.number step.leads.content.within (and_left (meaning a t p f.item.content.number c) (meaning a t p f.item.rest.number d) parts, subst (λ (s : State). IsAcceptingRun t.auto c s k) in_pattern from.holds.1),
-            rest f.item.rest.number step.leads.rest.within (and_right (meaning a t p f.item.content.number c) (meaning a t p f.item.rest.number d) parts, subst (λ (s : State). IsAcceptingRun t.auto d s r) to_pattern from.holds.2),
+            content f.item.content.number step.leads.content.within (and_left (meaning a t p f.item.content.number c) (meaning a t p f.item.rest.number d) parts, subst (λ (s : State). IsRunBy first t.auto c s k) in_pattern from.holds.2),
+            rest f.item.rest.number step.leads.rest.within (and_right (meaning a t p f.item.content.number c) (meaning a t p f.item.rest.number d) parts, subst (λ (s : State). IsRunBy first t.auto d s r) to_pattern from.holds.3),
           )
 
 pub follows_all_runs : FollowsAllRuns
-follows_all_runs a t p rows expanded every d i run lt = (to a t p rows expanded every d i run lt, back a t p rows expanded every d i run lt)
+follows_all_runs first a t p rows expanded every d i run lt = (to first a t p rows expanded every d i run lt, back first a t p rows expanded every d i run lt)

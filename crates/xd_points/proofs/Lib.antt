@@ -9,4 +9,6 @@ pub mod StayLaws
 mod MakesMovesLemmas
 pub mod TableLemmas
 mod PatternMoveLemmas
+pub mod FirstRunLaw
 pub mod FollowsLaw
+mod OperationLemmas

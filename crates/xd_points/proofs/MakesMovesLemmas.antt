@@ -13,7 +13,8 @@ use Rattle.xd_boole.specs.Groups.{label_side, passes_at}
 use Rattle.xd_boole.specs.Meaning.{ElementFirst, TextFirst}
 use Rattle.xd_boole.proofs.Bools.{and_false, and_left, and_over_right, and_right, or_join, or_nothing, or_true}
 use Rattle.xd_points.specs.declared.points.Points.{Points}
-use Rattle.xd_points.specs.Points.{AddsLabels, AddsTexts, ArePoints, IsLabelStep, IsTextStep, KeepsPoints, LabelLeads, MakesLabels, MakesMoves, MakesTexts, TextLeads, any_for, label_means, place_before, text_means}
+use Rattle.xd_points.specs.FirstRuns.{place_before}
+use Rattle.xd_points.specs.Points.{AddsLabels, AddsTexts, ArePoints, IsLabelStep, IsTextStep, KeepsPoints, LabelLeads, MakesLabels, MakesMoves, MakesTexts, TextLeads, any_for, label_means, text_means}
 use Rattle.xd_points.proofs.ArePointsLemmas.{grows_same}
 use Rattle.xd_points.proofs.GrowsLemmas.{grows_trans, keeps, label_stays, labels_more, text_stays, texts_more}
 

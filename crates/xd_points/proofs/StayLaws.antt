@@ -12,7 +12,8 @@ use Rattle.xd_boole.specs.Meaning.{ElementFirst, TextFirst, any_accepts, element
 use Rattle.xd_points.specs.declared.patterns.PatternStates.{PatternStates}
 use Rattle.xd_points.specs.declared.points.Points.{Points}
 use Rattle.xd_points.specs.Laws.{ExpandedStays, MeaningsStay, ServingStays}
-use Rattle.xd_points.specs.Points.{AreExpanded, HasMoves, IsLabelStep, IsTextStep, RowView, any_before, any_text_before, is_old, label_means, label_takes, meaning, place_before, point_at, row_at, state_at, text_means, text_takes_by}
+use Rattle.xd_points.specs.FirstRuns.{place_before}
+use Rattle.xd_points.specs.Points.{AreExpanded, HasMoves, IsLabelStep, IsTextStep, RowView, any_before, any_text_before, is_old, label_means, label_takes, meaning, point_at, row_at, state_at, text_means, text_takes_by}
 use Rattle.xd_points.proofs.PlaceLemmas.{extends_longer}
 use Rattle.xd_points.proofs.MakesMovesLemmas.{for_agree}
 

@@ -1,5 +1,5 @@
 -- Tables of points, from call to call.
-use Rattle.std.proofs.Common.{ℕ, ◌<◌, ◌≤◌, ◌≡◌, not, ◌&&◌, ◌||◌, false, List, [], ◌∷◌, length, Option, Some, None, IfSome, refl, sym, ap, ◌∙◌, arith}
+use Rattle.std.proofs.Common.{ℕ, ◌<◌, ◌≤◌, ◌≡◌, Bool, not, ◌&&◌, ◌||◌, List, [], ◌∷◌, length, Option, Some, None, IfSome, refl, sym, ap, ◌∙◌, arith}
 use Rattle.std.specs.List.{AllByRecursion}
 use Rattle.xd_doc.specs.Document.{Document}
 use Rattle.xd_doc.specs.StoreNodes.{Keeps}
@@ -46,7 +46,7 @@ same_there old new closed extends d (Some s) is = keeps old new closed extends d
 
 pub tables_stay : TablesStay
 tables_stay old new b t closed extends is = record {
-  expanded = expanded_stays old new b t.points false t.rows.items closed extends is.expanded;
+  expanded = expanded_stays old new b t.points t.first t.rows.items closed extends is.expanded;
   every = is.every;
   known = is.known;
   count = is.count;
@@ -58,8 +58,8 @@ tables_stay old new b t closed extends is = record {
 
 -- ---- no points
 
-pub no_rows : (a : Automaton) (b : PatternStates) (p : Points) (rows : List RowView) → ArePoints a b p → p.points.items ≡ [] → rows ≡ [] → AreExpanded false a b p rows
-no_rows a b p rows whole none is =
+pub no_rows : (first : Bool) (a : Automaton) (b : PatternStates) (p : Points) (rows : List RowView) → ArePoints a b p → p.points.items ≡ [] → rows ≡ [] → AreExpanded first a b p rows
+no_rows first a b p rows whole none is =
     let points = ap length none in
     let count = ap length is in
     record { whole = whole; within = omega (arith, points, count); has = λ i lt yet. absurd (omega (arith, count)); bare = λ i le lt. absurd (omega (arith, points)) }
@@ -95,9 +95,9 @@ module _ (a : Automaton) (b : PatternStates) (serve : ServePoints a b) (old mid 
   start_means d = meaning_stays a b mid new stay start.number is.leads.within d ∙ is.means d ∙ means_alone a b serve left pattern rights d
 
 -- the points in an automaton that extends the one of their lefts
-module _ (a n : Automaton) (b : PatternStates) (closed : IsClosed a) (extends : Extends a n) (new : Points) (rows : List RowView) (expanded : AreExpanded false a b new rows) where
-  pub expanded_after : AreExpanded false n b new rows
-  expanded_after = expanded_stays a n b new false rows closed extends expanded
+module _ (a n : Automaton) (b : PatternStates) (closed : IsClosed a) (extends : Extends a n) (new : Points) (first : Bool) (rows : List RowView) (expanded : AreExpanded first a b new rows) where
+  pub expanded_after : AreExpanded first n b new rows
+  expanded_after = expanded_stays a n b new first rows closed extends expanded
 
   pub mean_after : (d : Document) (i : ℕ) → i < length new.points.items → meaning a b new i d ≡ meaning n b new i d
   mean_after d i lt = sym (meanings_stay a n b (point_at new.points.items i) d closed extends (expanded.whole.points i lt))

@@ -1,3 +1,4 @@
+pub mod FirstRuns
 pub mod Following
 pub mod Laws
 pub mod Meaning

@@ -1,5 +1,5 @@
 -- How the points of an automaton are made, and what their states and moves stand for.
-use Rattle.std.specs.Prelude.{nat_eq, not, ◌≡◌, ℕ, ◌<◌, ◌≤◌, Bool, true, false, cond, ◌&&◌, ◌||◌, List, [], ◌∷◌, map, take, length, Option, Some, slice_get, slice_index_or}
+use Rattle.std.specs.Prelude.{nat_eq, not, ◌≡◌, ℕ, ◌<◌, ◌≤◌, Bool, true, false, ◌&&◌, ◌||◌, List, [], ◌∷◌, map, take, length, Option, Some, slice_get, slice_index_or}
 use Rattle.std.specs.List.{AllByRecursion, AllZip, list_any}
 use Rattle.std.specs.Ordering.{nat_cmp}
 use Rattle.std.specs.Cmp.Lexicographic.{slice_cmp}
@@ -16,6 +16,7 @@ use Rattle.xd_boole.specs.Meaning.{ElementFirst, TextFirst, any_accepts, element
 use Rattle.xd_points.specs.Meaning.{IsPointOf, PointView, point, is_old_point, means}
 use Rattle.xd_boole.specs.Groups.{is_side, label_side, passes_at, side_accepts}
 use Rattle.xd_boole.specs.Refusals.{LeadInside}
+use Rattle.xd_points.specs.FirstRuns.{place_before}
 use Rattle.xd_points.specs.declared.points.Points.{Points}
 use Rattle.xd_points.specs.declared.moves.Parts.{Parts}
 use Rattle.xd_points.specs.declared.moves.Rests.{Rests}
@@ -157,11 +158,6 @@ abbrev pub any_for : {M : Type 0} → (M → Bool) → ℕ → List M → List �
 any_for p n [] ks = false
 any_for p n (m ∷ ms) [] = false
 any_for p n (m ∷ ms) (k ∷ ks) = (nat_eq k n && p m) || any_for p n ms ks
-
--- before which number the pattern's moves must fail, where each must that is more preferred, or
--- none must
-abbrev pub place_before : Bool → ℕ → ℕ
-place_before first n = cond first n 0
 
 -- what is to be taken by the move of this number of the pattern's state
 abbrev pub label_takes : Bool → Automaton → PatternStates → PointView → ℕ → ElementFirst → Bool

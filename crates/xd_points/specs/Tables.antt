@@ -1,5 +1,5 @@
 -- Points that are kept from call to call, with the states that accept what they mean.
-use Rattle.std.specs.Prelude.{◌≡◌, ℕ, ◌<◌, Bool, not, ◌&&◌, false, List, [], length, Option, Some, None, slice_get}
+use Rattle.std.specs.Prelude.{◌≡◌, ℕ, ◌<◌, Bool, not, ◌&&◌, List, [], length, Option, Some, None, slice_get}
 use Rattle.xd_doc.specs.Document.{Document}
 use Rattle.xd_auto.specs.declared.auto.State.{State}
 use Rattle.xd_auto.specs.Automaton.{Automaton, Extends, IsClosed, accepts}
@@ -13,6 +13,10 @@ use Rattle.xd_points.specs.Points.{AreExpanded, RowView, is_old, meaning, point_
 -- the left accepts the document, the pattern's state does, and none of the rights does
 abbrev pub takes_alone : Automaton → PatternStates → State → State → List State → Document → Bool
 takes_alone a b left pattern rights d = accepts a d left && (accepts b.auto d pattern && not (any_accepts b.auto rights d))
+
+-- whether runs through the points are first runs of the pattern alone
+abbrev pub of_first_runs : PointTable → Bool
+of_first_runs t = t.first
 
 -- the automaton of the points: a state for each, with the moves by which its parts go on
 abbrev pub points_of : PointTable → Automaton
@@ -62,7 +66,7 @@ text_origin t s n = number_or (slice_get (texts_in (slice_get t.rows.items s.num
 -- Each point of the table has its moves and a place, where it is accepted what the point means; and
 -- of which of them any document is known is known.
 pub record IsTableOf (a : Automaton) (b : PatternStates) (t : PointTable) : Type 0 where
-  pub expanded : AreExpanded false a b t.points t.rows.items
+  pub expanded : AreExpanded t.first a b t.points t.rows.items
   pub every : length t.rows.items ≡ length t.points.points.items
   pub known : Knows t.points.made t.store t.known
   pub count : length t.places.items ≡ length t.points.points.items

@@ -4,11 +4,13 @@
 
 pub mod laws;
 mod moves;
+mod operations;
 mod patterns;
 mod placing;
 mod points;
 mod steps;
 mod table;
 
+pub use operations::{minus, product};
 pub use patterns::PatternStates;
 pub use table::PointTable;

@@ -4,7 +4,8 @@ ghost use Rattle.std.specs.Prelude.{◌≡◌, ◌<◌, ◌+◌, ◌++◌, ◌�
 ghost use Rattle.xd_auto.specs.declared.auto.LabelMove.{LabelMove};
 ghost use Rattle.xd_auto.specs.declared.auto.TextMove.{TextMove};
 ghost use Rattle.xd_points.specs.Meaning.{IsPointOf, ServePoints};
-ghost use Rattle.xd_points.specs.Points.{AreExpanded, ArePoints, KeepMoves, KeepsPoints, MakesLabels, MakesTexts, RowView, label_takes, no_row, place_before, text_takes_by};
+ghost use Rattle.xd_points.specs.FirstRuns.{place_before};
+ghost use Rattle.xd_points.specs.Points.{AreExpanded, ArePoints, KeepMoves, KeepsPoints, MakesLabels, MakesTexts, RowView, label_takes, no_row, text_takes_by};
 
 use crate::moves::{label_steps, text_steps};
 use crate::patterns::PatternStates;

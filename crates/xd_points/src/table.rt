@@ -1,6 +1,6 @@
 //! Points that are kept from call to call, and states that accept what they mean.
 
-ghost use Rattle.std.specs.Prelude.{◌≡◌, ◌<◌, false, length, slice_get, IfOk, IfSome, OnOk};
+ghost use Rattle.std.specs.Prelude.{◌≡◌, ◌<◌, length, slice_get, IfOk, IfSome, OnOk};
 ghost use Rattle.std.specs.List.{AllByRecursion};
 ghost use Rattle.xd_doc.specs.Document.{Document};
 ghost use Rattle.xd_auto.specs.Automaton.{Automaton, Extends, IsState, state_number};
@@ -23,6 +23,8 @@ use xd_empty::Inhabitants;
 /// met before is not made again.
 #[derive(Drop)]
 pub struct PointTable {
+    /// Whether runs through the points are first runs of the pattern alone.
+    first: bool,
     points: Points,
     rows: Vec<Row>,
     places: Vec<Place>,
@@ -39,17 +41,18 @@ fn expand_all(
     patterns: &PatternStates,
     points: &mut Points,
     rows: &mut Vec<Row>,
+    first: bool,
 ) -> Result<(), NoMemory>
     requires patterns { ServePoints auto.now patterns.now }
-    requires expanded { AreExpanded false auto.now patterns.now points.old rows.old.items }
-    ensures expanded { OnOk result (AreExpanded false auto.now patterns.now points.new rows.new.items) }
+    requires expanded { AreExpanded first auto.now patterns.now points.old rows.old.items }
+    ensures expanded { OnOk result (AreExpanded first auto.now patterns.now points.new rows.new.items) }
     ensures every { OnOk result (length rows.new.items ≡ length points.new.points.items) }
     ensures keeps { OnOk result (KeepsPoints points.old points.new) }
     ensures moves { OnOk result (KeepMoves (length rows.old.items) points.old points.new) }
 {
     let mut number = rows.len();
     while number < points.points.len() {
-        expand(alloc, auto, patterns, points, rows, false)?;
+        expand(alloc, auto, patterns, points, rows, first)?;
         number += 1;
     }
     Ok(())
@@ -68,11 +71,23 @@ fn number_at(numbers: &[usize], place: usize) -> usize
 impl PointTable {
     ghost use Rattle.xd_points.specs.declared.patterns.PatternStates.{PatternStates as PatternsView};
     ghost use Rattle.xd_points.specs.Placing.{accepts_at};
-    ghost use Rattle.xd_points.specs.Tables.{IsTableOf, is_left, label_origin, left_of, pattern_of, point_count, place_of, point_means, points_of, takes_alone, text_origin};
+    ghost use Rattle.xd_points.specs.Tables.{IsTableOf, is_left, label_origin, left_of, of_first_runs, pattern_of, point_count, place_of, point_means, points_of, takes_alone, text_origin};
 
-    /// No points.
+    /// No points. Runs through those that come will be all runs of the pattern on what they mean.
     pub fn new(alloc: Global) -> Self
         ensures { (a : Automaton) (b : PatternsView) → IsTableOf a b result }
+    {
+        Self::of_runs(alloc, false)
+    }
+
+    /// No points. Runs through those that come will be the pattern's runs on what they mean: with
+    /// `first`, the first run of each document alone, and else all.
+    ///
+    /// What a point means doesn't depend on it, so [`accept`](Self::accept) doesn't either. First
+    /// runs take more points, since at an item each move must fail that is more preferred.
+    pub fn of_runs(alloc: Global, first: bool) -> Self
+        ensures table { (a : Automaton) (b : PatternsView) → IsTableOf a b result }
+        ensures runs { of_first_runs result ≡ first }
     {
         let points = Points::new(alloc);
         let rows = Vec::new(alloc);
@@ -80,6 +95,7 @@ impl PointTable {
         let known = Inhabitants::new(alloc);
         let store = Store::new(alloc);
         Self {
+            first,
             points,
             rows,
             places,
@@ -94,8 +110,8 @@ impl PointTable {
     ///
     /// States are added for points that were not met before, and mean something; none where the
     /// point means what an old state accepts: the left, where the pattern's state takes everything
-    /// and nothing must refuse, or the pattern's state, where the left does. After `NoMemory` the table serves no further calls; the automaton keeps its
-    /// states, and may have more.
+    /// and nothing must refuse, or the pattern's state, where the left does. After `NoMemory` the
+    /// table serves no further calls; the automaton keeps its states, and may have more.
     pub fn accept(
         &mut self,
         alloc: Global,
@@ -113,6 +129,7 @@ impl PointTable {
         ensures table { OnOk result (IsTableOf auto.new patterns.now self.new) }
         ensures belongs { IfOk result (λ found. IfSome found (IsState auto.new)) }
         ensures exact { IfOk result (λ found. (d : Document) → accepts_at auto.new d found ≡ takes_alone auto.old patterns.now left pattern rights.now d) }
+        ensures runs { of_first_runs self.new ≡ of_first_runs self.old }
         ensures extends { Extends auto.old auto.new }
     {
         let point = self.find(alloc, auto, patterns, left, pattern, rights)?;
@@ -140,6 +157,7 @@ impl PointTable {
         ensures belongs { IfOk result (IsState (points_of self.new)) }
         ensures pattern { IfOk result (λ point. pattern_of self.new point ≡ pattern) }
         ensures means { IfOk result (λ point. (d : Document) → point_means auto.new patterns.now self.new point d ≡ takes_alone auto.old patterns.now left pattern rights.now d) }
+        ensures runs { of_first_runs self.new ≡ of_first_runs self.old }
         ensures extends { Extends auto.old auto.new }
     {
         let _states = auto.len();
@@ -153,7 +171,14 @@ impl PointTable {
             pattern,
             rights,
         )?;
-        expand_all(alloc, auto, patterns, &mut self.points, &mut self.rows)?;
+        expand_all(
+            alloc,
+            auto,
+            patterns,
+            &mut self.points,
+            &mut self.rows,
+            self.first,
+        )?;
         self.known.learn(alloc, &self.points.made, &mut self.store)?;
         place_points(auto, patterns, &self.points, &self.known, &mut self.places)?;
         Ok(start)

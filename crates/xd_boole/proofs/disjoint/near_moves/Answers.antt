@@ -2,7 +2,6 @@ use Rattle.std.proofs.Common.{◌≡◌, ◌++◌, ◌∷◌, [], true, ap, subs
 use Rattle.xd_auto.specs.declared.auto.LabelMove.{LabelMove}
 use Rattle.xd_boole.specs.declared.groups.MoveSide.{MoveSide}
 use Rattle.xd_boole.specs.Groups.{is_side, label_side}
-use Rattle.xd_boole.specs.Meaning.{move_takes}
 use Rattle.xd_boole.specs.Disjoint.{AreDisjointSides}
 use Rattle.xd_boole.proofs.DisjointLemmas.{move_disjoint, near_all, near_dropped, near_kept, near_none}
 use Rattle.xd_boole.proofs.Lists.{all_step}
@@ -24,7 +23,7 @@ loop-step-preserved-then-are_sides_disjoint c =
     let next = all_step (λ m. is_side b (label_side m) ≡ true) moves i m c.loop-step-test.true c.step-item.is c.loop-step.invariant.left in
     let apart = subst (λ (s : MoveSide). AreDisjointSides a b c.args.part s) c.side_of.ensures (c.are_sides_disjoint.ensures c.if-are_sides_disjoint.true) in
     record {
-      near = near_dropped a c.args.part (move_takes b) moves i m c.loop-step-test.true c.step-item.is c.loop-step.near.items c.loop-step.invariant.near (move_disjoint a b c.args.part m apart);
+      near = near_dropped a b c.args.part moves i m c.loop-step-test.true c.step-item.is c.loop-step.near.items c.loop-step.invariant.near (move_disjoint a b c.args.part m apart);
       left = next.1;
     }
 
@@ -36,16 +35,16 @@ loop-step-preserved c =
     let m = c.step-item.result in
     let next = all_step (λ m. is_side b (label_side m) ≡ true) moves i m c.loop-step-test.true c.step-item.is c.loop-step.invariant.left in
     record {
-      near = near_kept c.args.one.now c.args.part (move_takes b) moves i m c.loop-step-test.true c.step-item.is c.loop-step.near.items c.loop-step.invariant.near c.push.new.self.items
+      near = near_kept c.args.one.now b c.args.part moves i m c.loop-step-test.true c.step-item.is c.loop-step.near.items c.loop-step.invariant.near c.push.new.self.items
           (c.in_ok-push.ensures.items ∙ ap (λ (x : LabelMove). c.loop-step.near.items ++ x ∷ []) c.in_ok-share_move.ensures);
       left = next.1;
     }
 
 pub loop-step-init : goal.loop-step-init
 loop-step-init c = record {
-  near = near_none c.args.one.now c.args.part (move_takes c.args.two.now) c.args.moves.now c.new-near.result.items c.new-near.ensures.items;
+  near = near_none c.args.one.now c.args.two.now c.args.part c.args.moves.now c.new-near.result.items c.new-near.ensures.items;
   left = c.requires.moves;
 }
 
 pub returns : goal.returns
-returns c = near_all c.args.one.now c.args.part (move_takes c.args.two.now) c.args.moves.now c.loop-step.step-index c.loop-step.near.items c.loop-step-test.false c.loop-step.invariant.near
+returns c = near_all c.args.one.now c.args.two.now c.args.part c.args.moves.now c.loop-step.step-index c.loop-step.near.items c.loop-step-test.false c.loop-step.invariant.near

@@ -5,7 +5,8 @@ use Rattle.xd_auto.specs.Automaton.{accepts, moves_at}
 use Rattle.xd_boole.specs.Groups.{label_side, passes_at}
 use Rattle.xd_boole.specs.Meaning.{ElementFirst, any_accepts, element_of, move_takes}
 use Rattle.xd_points.specs.Meaning.{PointView}
-use Rattle.xd_points.specs.Points.{AddsLabels, IsLabelStep, MakesLabels, any_before, label_means, place_before}
+use Rattle.xd_points.specs.FirstRuns.{place_before}
+use Rattle.xd_points.specs.Points.{AddsLabels, IsLabelStep, MakesLabels, any_before, label_means}
 use Rattle.xd_points.proofs.MakesMovesLemmas.{label_step_more, label_step_stays, labels_for, makes_like, makes_none, makes_then, none_taken, one_more, passes_walked}
 use Rattle.xd_points.proofs.PatternMoveLemmas.{place_of}
 use Rattle.xd_points.proofs.steps.label_moves.Goals as goal

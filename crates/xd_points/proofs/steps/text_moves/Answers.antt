@@ -5,7 +5,8 @@ use Rattle.xd_auto.specs.Automaton.{accepts, moves_at}
 use Rattle.xd_boole.specs.Groups.{passes_at}
 use Rattle.xd_boole.specs.Meaning.{TextFirst, any_accepts, text_of, text_takes}
 use Rattle.xd_points.specs.Meaning.{PointView}
-use Rattle.xd_points.specs.Points.{AddsTexts, IsTextStep, MakesTexts, any_text_before, text_means, place_before}
+use Rattle.xd_points.specs.FirstRuns.{place_before}
+use Rattle.xd_points.specs.Points.{AddsTexts, IsTextStep, MakesTexts, any_text_before, text_means}
 use Rattle.xd_points.proofs.MakesMovesLemmas.{text_step_more, text_step_stays, texts_for, makes_like, makes_none, makes_then, none_taken, one_more, passes_walked}
 use Rattle.xd_points.proofs.PatternMoveLemmas.{place_of}
 use Rattle.xd_points.proofs.steps.text_moves.Goals as goal

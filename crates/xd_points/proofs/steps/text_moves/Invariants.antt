@@ -2,7 +2,8 @@ use Rattle.std.proofs.Common.{◌&&◌, ◌||◌, not, take}
 use Rattle.xd_auto.specs.Automaton.{accepts, moves_at}
 use Rattle.xd_boole.specs.Groups.{passes_at}
 use Rattle.xd_boole.specs.Meaning.{any_accepts, text_of, text_takes}
-use Rattle.xd_points.specs.Points.{MakesTexts, any_text_before, place_before}
+use Rattle.xd_points.specs.FirstRuns.{place_before}
+use Rattle.xd_points.specs.Points.{MakesTexts, any_text_before}
 use Rattle.xd_points.proofs.steps.text_moves.Given as goal
 
 abbrev pub invariant-loop-number : goal.invariant-loop-number

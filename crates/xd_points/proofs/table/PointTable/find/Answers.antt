@@ -1,4 +1,4 @@
-use Rattle.std.proofs.Common.{◌<◌, false, length, arith, sym, ◌∙◌}
+use Rattle.std.proofs.Common.{◌<◌, length, arith, sym, ◌∙◌}
 use Rattle.xd_points.specs.Points.{state_at}
 use Rattle.xd_points.proofs.HasMovesLemmas.{expanded_grown}
 use Rattle.xd_points.proofs.TableLemmas.{documents_stay, expanded_after, first_mean, made_extends, mean_after, rights_belong, start_is, start_means, within}
@@ -13,7 +13,7 @@ stand_for-requires-clause-states c = record {
 
 pub expand_all-requires-clause-expanded : goal.expand_all-requires-clause-expanded
 expand_all-requires-clause-expanded c =
-    expanded_grown false c.args.auto.now c.args.patterns.now c.args.self.now.points c.stand_for.new.points c.args.self.now.rows.items c.requires.table.expanded c.in_ok-start.ensures.grows c.in_ok-start.ensures.whole
+    expanded_grown c.args.self.now.first c.args.auto.now c.args.patterns.now c.args.self.now.points c.stand_for.new.points c.args.self.now.rows.items c.requires.table.expanded c.in_ok-start.ensures.grows c.in_ok-start.ensures.whole
 
 pub learn-requires : goal.learn-requires
 learn-requires c =
@@ -27,7 +27,7 @@ learn-requires c =
     (documents_stay store) t.known
 
 pub place_points-requires-clause-expanded : goal.place_points-requires-clause-expanded
-place_points-requires-clause-expanded c = record { first = false; rows = c.expand_all.new.rows.items; are = c.in_ok-expand_all.ensures.expanded; every = c.in_ok-expand_all.ensures.every }
+place_points-requires-clause-expanded c = record { first = c.args.self.now.first; rows = c.expand_all.new.rows.items; are = c.in_ok-expand_all.ensures.expanded; every = c.in_ok-expand_all.ensures.every }
 
 pub place_points-requires-clause-none : goal.place_points-requires-clause-none
 place_points-requires-clause-none c = λ i lt unknown d.
@@ -57,12 +57,12 @@ returns-clause-table c =
     let new = c.expand_all.new.points in
     let rows = c.expand_all.new.rows.items in
     record {
-      expanded = expanded_after a n b c.len-states.ensures.closed c.place_points.ensures.extends new rows now.expanded;
+      expanded = expanded_after a n b c.len-states.ensures.closed c.place_points.ensures.extends new c.args.self.now.first rows now.expanded;
       every = now.every;
       known = c.learn.ensures.knows;
       count = placed.count;
       belong = placed.belong;
-      stands = λ d i lt. placed.stands d i lt ∙ mean_after a n b c.len-states.ensures.closed c.place_points.ensures.extends new rows now.expanded d i lt;
+      stands = λ d i lt. placed.stands d i lt ∙ mean_after a n b c.len-states.ensures.closed c.place_points.ensures.extends new c.args.self.now.first rows now.expanded d i lt;
     }
 
 pub returns-clause-belongs : goal.returns-clause-belongs
@@ -85,6 +85,6 @@ returns-clause-means c = λ d.
     let start = c.in_ok-start.start in
     let here = within a b c.requires.patterns c.args.self.now.points c.stand_for.new.points new c.args.left c.args.pattern c.args.rights.now start
     c.in_ok-start.ensures.grows c.in_ok-start.ensures.state c.in_ok-expand_all.ensures.keeps in
-    sym (mean_after a n b c.len-states.ensures.closed c.place_points.ensures.extends new c.expand_all.new.rows.items c.in_ok-expand_all.ensures.expanded d start.number here)
+    sym (mean_after a n b c.len-states.ensures.closed c.place_points.ensures.extends new c.args.self.now.first c.expand_all.new.rows.items c.in_ok-expand_all.ensures.expanded d start.number here)
     ∙ start_means a b c.requires.patterns c.args.self.now.points c.stand_for.new.points new c.args.left c.args.pattern c.args.rights.now start
     c.in_ok-start.ensures.grows c.in_ok-start.ensures.state c.in_ok-expand_all.ensures.keeps d
