@@ -10,7 +10,7 @@ use Rattle.xd_auto.specs.declared.auto.TextMove.{TextMove}
 use Rattle.xd_auto.specs.Automaton.{Automaton, IsState, IsClosed, moves_at}
 use Rattle.xd_auto.specs.Copying.{LabelBelow}
 use Rattle.xd_auto.specs.Runs.{Run, takes_text, takes_element, IsAcceptingRun}
-use Rattle.xd_auto.proofs.Anys.{IsSomeAnd-at, IsSomeAnd-parts}
+use Rattle.xd_auto.proofs.Anys.{IsSomeAnd-parts}
 use Rattle.xd_auto.proofs.Closed.{moves_at-closed}
 use Rattle.xd_auto_pairs.specs.Traces.{text_rest_or, content_or, rest_or, after_text, in_element, after_element}
 
@@ -58,17 +58,6 @@ takes_element_at a l c d s n k r h =
       content = f.holds.1;
       rest = f.holds.2;
     }
-
-pub takes_text_by : (a : Automaton) (t : List ℕ) (d : Document) (s : State) (n : ℕ) (r : Run) (m : TextMove) → slice_get (moves_at a s).texts n ≡ Some m → class_has m.words t ≡ true → IsAcceptingRun a d m.rest r
-    → IsAcceptingRun a (text t d) s (takes_text n r)
-takes_text_by a t d s n r m there has h =
-    IsSomeAnd-at (slice_get (moves_at a s).texts n) (λ (w : TextMove). (class_has w.words t ≡ true) × IsAcceptingRun a d w.rest r) m there (has, h)
-
-pub takes_element_by : (a : Automaton) (l : List ℕ) (c d : Document) (s : State) (n : ℕ) (k r : Run) (m : LabelMove) → slice_get (moves_at a s).labels n ≡ Some m → class_has m.class l ≡ true
-    → IsAcceptingRun a c m.content k → IsAcceptingRun a d m.rest r → IsAcceptingRun a (element l c d) s (takes_element n k r)
-takes_element_by a l c d s n k r m there has h g =
-    IsSomeAnd-at (slice_get (moves_at a s).labels n)
-    (λ (w : LabelMove). (class_has w.class l ≡ true) × IsAcceptingRun a c w.content k × IsAcceptingRun a d w.rest r) m there (has, h, g)
 
 pub some_same : {X : Type 0} {x y : X} → Some x ≡ Some y → x ≡ y
 some_same e = cc

@@ -1,5 +1,5 @@
 -- The state that accepts every document.
-use Rattle.std.proofs.Common.{◌≡◌, ℕ, Bool, true, false, ◌&&◌, ◌||◌, nat_eq, List, [], ◌∷◌, ◌++◌, refl, sym, ap, ◌∙◌}
+use Rattle.std.proofs.Common.{◌≡◌, ℕ, Bool, true, false, ◌&&◌, ◌||◌, nat_eq, List, [], ◌∷◌, ◌++◌, get_or-set_same, refl, sym, ap, ◌∙◌}
 use Rattle.std.specs.List.{list_any}
 use Rattle.std.specs.Cmp.Lexicographic.{pointwise}
 use Rattle.std.proofs.lemmas.Slice.Eq.{bytes_eq-Decides}
@@ -8,9 +8,8 @@ use Rattle.xd_doc.specs.Classes.{NameClass, class_has, is_named}
 use Rattle.xd_auto.specs.declared.auto.State.{State}
 use Rattle.xd_auto.specs.declared.auto.LabelMove.{LabelMove}
 use Rattle.xd_auto.specs.declared.auto.TextMove.{TextMove}
-use Rattle.xd_auto.specs.Automaton.{Automaton, IsState, StateMoves, accepts, moves_at, no_moves, with_label_move, with_text_move}
+use Rattle.xd_auto.specs.Automaton.{Automaton, IsState, StateMoves, accepts, moves_at, no_moves, with_label_move, with_moves, with_text_move}
 use Rattle.xd_auto_pairs.specs.Universal.{IsUniversal, every_name}
-use Rattle.xd_auto_pairs.proofs.Growths.{moves_changed}
 
 no_names : (names : List (List ℕ)) → ((l : List ℕ) → is_named names l ≡ false) → names ≡ []
 no_names [] h = refl
@@ -31,6 +30,10 @@ more_label s m c = record m { labels = m.labels ++ record { class = c; content =
 
 abbrev more_text : State → StateMoves → NameClass → StateMoves
 more_text s m c = record m { texts = m.texts ++ record { words = c; rest = s } ∷ [] }
+
+-- a state has other moves now
+moves_changed : (at : State) (a b : Automaton) (moves : StateMoves) → IsState a at → b ≡ with_moves a at moves → moves_at b at ≡ moves
+moves_changed at a b moves here e = rw e (get_or-set_same a at.number moves (no_moves false) here)
 
 -- a new state gets its two moves
 pub universal_made : (a b c : Automaton) (s : State) (labels texts : NameClass) → IsState a s → IsState b s → IsState c s → moves_at a s ≡ no_moves true

@@ -1,6 +1,2 @@
 pub mod Traces
-pub mod Pairing
 pub mod Universal
-pub mod Matching
-pub mod Growing
-pub mod Paired

@@ -1,21 +1,13 @@
--- On automata in which one state gets more moves.
-use Rattle.std.proofs.Common.{◌≡◌, ◌≢◌, ℕ, zero, suc, ◌+◌, ◌-◌, ◌<◌, ◌≤◌, ⊎_elim, Bool, true, false, cond, List, [], ◌∷◌, ◌++◌, map, length, take, get_or, refl, sym, ap, ◌∙◌, arith, add-one, append_assoc, get_or-set_same, length-append}
-use mathlib.Core.Bool.{beq}
+-- On moves that are chosen, and on states that get more moves.
+use Rattle.std.proofs.Common.{◌≡◌, ℕ, zero, suc, ◌+◌, ◌<◌, Bool, true, false, cond, List, [], ◌∷◌, ◌++◌, map, length, take, get_or, refl, sym, ap, ◌∙◌, arith, add-one, append_assoc, get_or-set_same}
+use Rattle.std.specs.List.{All}
+use Rattle.std.proofs.lemmas.List.Elements.{All-cons, All-head, All-tail}
+use Rattle.xd_doc.specs.Classes.{LabelClass, TextClass}
 use Rattle.xd_auto.specs.declared.auto.State.{State}
 use Rattle.xd_auto.specs.declared.auto.LabelMove.{LabelMove}
 use Rattle.xd_auto.specs.declared.auto.TextMove.{TextMove}
-use Rattle.xd_auto.specs.Automaton.{Automaton, StateMoves, ChangesOnly, Extends, IsState, moves_at, no_moves, with_label_move, with_moves, with_text_move}
-use Rattle.std.specs.List.{All}
-use Rattle.std.proofs.lemmas.Bool.{cases_eq}
-use Rattle.std.proofs.lemmas.List.Elements.{All-cons, All-head, All-tail}
-use Rattle.std.proofs.lemmas.List.{get_or_append_left, get_or-append_right}
-use Rattle.xd_doc.specs.Classes.{LabelClass, TextClass}
-use Rattle.xd_auto_pairs.specs.Traces.{Owned}
-use Rattle.xd_bind.specs.declared.parts.Part.{Part}
-use Rattle.xd_bind.specs.Marks.{mark_of}
-use Rattle.xd_bind.specs.Shifts.{onward, shifted}
-use Rattle.xd_bind.specs.Blocks.{IsChange, IsFilledTo, IsPart, StaysBelow, chosen, is_side, label_onto, text_onto, with_labels, with_side, with_texts}
-use Rattle.xd_bind.proofs.ShiftLemmas.{shifted_above}
+use Rattle.xd_auto.specs.Automaton.{Automaton, StateMoves, ChangesOnly, IsState, moves_at, no_moves, with_label_move, with_moves, with_text_move}
+use Rattle.xd_bind.specs.Blocks.{IsChange, chosen, label_onto, text_onto, with_labels, with_texts}
 
 append_none : {X : Type 0} (xs : List X) → xs ++ [] ≡ xs
 append_none [] = refl
@@ -40,12 +32,6 @@ chosen_suc f p (y ∷ xs) (suc i) x l e =
 pub chosen_more : {X Y : Type 0} (f : X → Y) (p : ℕ → Bool) (xs : List X) (i : ℕ) (x : X) → i < length xs → x ≡ get_or xs i x
     → map f (chosen p (take (i + 1) xs)) ≡ map f (chosen p (take i xs)) ++ cond (p i) (f x ∷ []) []
 chosen_more f p xs i x l e = rw add-one (chosen_suc f p xs i x l e)
-
-pub same_side : (own v : Bool) → beq v own ≡ is_side own v
-same_side true true = refl
-same_side true false = refl
-same_side false true = refl
-same_side false false = refl
 
 -- of the moves so far, one more was taken or passed over
 pub one_taken : {X Y : Type 0} (f : X → Y) (p : ℕ → Bool) (xs : List X) (i : ℕ) (x : X) (made : List Y) (y : Y) → i < length xs → x ≡ get_or xs i x → p i ≡ true → y ≡ f x
@@ -72,91 +58,6 @@ text_onto_is rests m w rest e f = rw (e, f) refl
 pub label_onto_is : (contents rests : State → State) (m : LabelMove) (c : LabelClass) (content rest : State) → c ≡ m.class → content ≡ contents m.content → rest ≡ rests m.rest
     → record { class = c; content = content; rest = rest } ≡ label_onto contents rests m
 label_onto_is contents rests m c content rest e f g = rw (e, f, g) refl
-
--- what changes in a state that an old automaton doesn't have
-pub extends_changed : (old mid new : Automaton) (at : State) → Extends old mid → length old ≤ at.number → ChangesOnly at mid new → Extends old new
-extends_changed old mid new at more fresh h = record {
-  states = λ s here. let k = more.states s here in omega (arith, h.states);
-  moves = λ s here. let ne : s.number ≢ at.number = omega arith in h.others s ne ∙ more.moves s here;
-}
-
--- old states stay where those below their number do
-pub extends_stays : (old mid new : Automaton) (n : ℕ) → n ≡ length old → Extends old mid → length old ≤ length mid → StaysBelow n mid new → Extends old new
-extends_stays old mid new n e more longer h = record {
-  states = λ s here. omega (arith, h.states);
-  moves = λ s here. h.moves s (omega arith) ∙ more.moves s here;
-}
-
-pub IsFilledTo-none : (b : Owned) (part : Part) (old : Automaton) → IsFilledTo b part old old part.rests.base
-IsFilledTo-none b part old = record { states = refl; below = λ s l. refl; filled = λ s le l. absurd (omega arith); waiting = λ s l. refl }
-
--- one more copy has its moves
-pub IsFilledTo-more : (b : Owned) (part : Part) (old mid new : Automaton) (count : ℕ) (at state : State) → at.number ≡ part.rests.by + count → state.number ≡ count → part.rests.base ≤ count
-    → count < part.rests.by + part.rests.base → IsFilledTo b part old mid count
-    → IsChange mid new at (with_side b part.own (shifted part.contents) (shifted part.rests) state (moves_at mid state) (moves_at mid at)) → IsFilledTo b part old new (count + 1)
-IsFilledTo-more b part old mid new count at state e f from before h k = record {
-  states = k.states ∙ h.states;
-  below = λ s l. let ne : s.number ≢ at.number = omega arith in k.others s ne ∙ h.below s l;
-  filled = λ s le l. ⊎_elim
-      (λ same. let is : state ≡ s = ap (λ (n : ℕ). record { number = n }) (f ∙ sym same) in last s is)
-      (λ other. let ne : by + s.number ≢ at.number = omega arith in k.others (onward by s) ne ∙ h.filled s le (omega arith))
-      (cases_eq s.number count);
-  waiting = λ s l. let ne : by + s.number ≢ at.number = omega arith in k.others (onward by s) ne ∙ h.waiting s (omega arith);
-}
-  where
-    by : ℕ
-    by = part.rests.by
-
-    side : State → StateMoves → StateMoves → StateMoves
-    side = with_side b part.own (shifted part.contents) (shifted part.rests)
-
-    there : (s : State) → state ≡ s → at ≡ onward by s
-    there s is = ap (λ (n : ℕ). record { number = n }) (e ∙ ap (λ n. by + n) (sym f ∙ ap (λ (q : State). q.number) is))
-
-    last : (s : State) → state ≡ s → moves_at new (onward by s) ≡ side s (moves_at old s) (moves_at old (onward by s))
-    last s is =
-        let t = there s is in
-        let here : s.number ≡ count = sym (ap (λ (q : State). q.number) is) ∙ f in
-        let w = h.waiting s (omega (arith, here)) in
-        let same = h.below s (omega (arith, here)) in
-        ap (λ q. moves_at new q) (sym t) ∙ k.here
-        ∙ ap (λ q. side q (moves_at mid q) (moves_at mid at)) is
-        ∙ ap (λ m. side s m (moves_at mid at)) same
-        ∙ ap (λ q. side s (moves_at old s) (moves_at mid q)) t
-        ∙ ap (λ m. side s (moves_at old s) m) w
-
-pub no_moves_read : (lasts : List Bool) (n : ℕ) → n < length lasts → get_or (map no_moves lasts) n (no_moves false) ≡ no_moves (get_or lasts n false)
-no_moves_read [] n l = absurd (omega arith)
-no_moves_read (v ∷ lasts) zero l = refl
-no_moves_read (v ∷ lasts) (suc n) l = no_moves_read lasts n (omega arith)
-
-pub length-map' : (lasts : List Bool) → length (map no_moves lasts) ≡ length lasts
-length-map' [] = refl
-length-map' (v ∷ lasts) = ap suc (length-map' lasts)
-
-pub part_of : (b : Owned) (part : Part) (lasts : List Bool) (old mid new : Automaton) → part.rests.base + length lasts ≡ part.rests.end → part.rests.end ≤ length old → part.rests.by + part.rests.base ≡ length old
-    → mid ≡ old ++ map no_moves lasts → IsFilledTo b part mid new part.rests.end → Extends old new → IsPart b part lasts old new
-part_of b part lasts old mid new long behind by e h more = record {
-  states = h.states ∙ size;
-  extends = more;
-  side = λ s le lt.
-      ap (λ q. moves_at new q) (shifted_above part.rests s le) ∙ h.filled s le lt
-      ∙ ap (λ m. with_side b part.own (shifted part.contents) (shifted part.rests) s m (moves_at mid (onward part.rests.by s))) (stays s (omega arith))
-      ∙ ap (λ m. with_side b part.own (shifted part.contents) (shifted part.rests) s (moves_at old s) m) (added s le lt);
-}
-  where
-    size : length mid ≡ part.rests.by + part.rests.end
-    size = ap (λ (w : Automaton). length w) e ∙ length-append old (map no_moves lasts) ∙ omega (arith, length-map' lasts)
-
-    stays : (s : State) → IsState old s → moves_at mid s ≡ moves_at old s
-    stays s here = ap (λ (w : Automaton). moves_at w s) e ∙ get_or_append_left old (map no_moves lasts) (no_moves false) s.number here
-
-    added : (s : State) → part.rests.base ≤ s.number → s.number < part.rests.end → moves_at mid (onward part.rests.by s) ≡ no_moves (mark_of part.rests.base lasts s)
-    added s le lt =
-        ap (λ (w : Automaton). moves_at w (onward part.rests.by s)) e
-        ∙ get_or-append_right old (map no_moves lasts) (length old) (part.rests.by + s.number) (no_moves false) refl (omega arith)
-        ∙ ap (λ n. get_or (map no_moves lasts) n (no_moves false)) (omega arith)
-        ∙ no_moves_read lasts (s.number - part.rests.base) (omega arith)
 
 put_here : (mid new : Automaton) (at : State) (moves : StateMoves) → at.number < length mid → new ≡ with_moves mid at moves → moves_at new at ≡ moves
 put_here mid new at moves here is = ap (λ (w : Automaton). moves_at w at) is ∙ get_or-set_same mid at.number moves (no_moves false) here

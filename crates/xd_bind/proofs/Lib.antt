@@ -3,11 +3,8 @@ pub mod ShiftLemmas
 pub mod Choices
 pub mod Traced
 pub mod FreePart
-pub mod BlockLaw
 pub mod Changes
 pub mod IsSearchLemmas
 pub mod IsProjectionLemmas
 pub mod CopiedLemmas
 pub mod SameOwned
-pub mod CaseLaw
-pub mod BucketLaw

@@ -5,6 +5,3 @@ pub mod Traced
 pub mod Shifts
 pub mod Blocks
 pub mod Search
-pub mod Adding
-pub mod Cases
-pub mod Buckets

@@ -1,29 +1,17 @@
--- Where the copies of states stand, and of which states there are copies.
+-- States further on, and states of an automaton that follow one another.
 use Rattle.std.specs.Prelude.{◌≡◌, ℕ, ◌+◌, ◌<◌, ◌≤◌, Bool, cond, nat_lt, is_some, List, Option, length, slice_get, Some, take}
-use Rattle.std.specs.List.{All}
 use Rattle.xd_auto.specs.declared.auto.State.{State}
 use Rattle.xd_auto.specs.declared.auto.LabelMove.{LabelMove}
 use Rattle.xd_auto.specs.declared.auto.TextMove.{TextMove}
-use Rattle.xd_auto.specs.Automaton.{Automaton, StateMoves, IsClosed, IsState, LeadsBelow, moves_at, state_number}
+use Rattle.xd_auto.specs.Automaton.{Automaton, IsClosed, IsState, LeadsBelow, moves_at}
 use Rattle.xd_least.specs.Least.{known_of}
 use Rattle.xd_least.specs.declared.document.LeastDocument.{LeastDocument}
-use Rattle.xd_auto_pairs.specs.Traces.{Owned}
-use Rattle.xd_bind.specs.declared.shift.Layer.{Layer}
-use Rattle.xd_bind.specs.declared.shift.Shift.{Shift}
-use Rattle.xd_bind.specs.Cases.{OwnsNone}
+use Rattle.xd_bind.specs.declared.layer.Layer.{Layer}
 use Rattle.xd_bind.specs.Marks.{mark_of}
 
 -- the state so many further on
 abbrev pub onward : ℕ → State → State
 onward by s = record { number = by + s.number }
-
--- the copy of a state; a state below the base is its own
-abbrev pub shifted : Shift → State → State
-shifted shift s = cond (nat_lt s.number shift.base) s (onward shift.by s)
-
--- whether a document is known of the copy
-abbrev pub free_by : List (Option LeastDocument) → Shift → State → Bool
-free_by known shift s = is_some (known_of known (shifted shift s))
 
 -- whether a state can be completed: from the base on its mark says so, and below it whether a
 -- document is known
@@ -44,12 +32,3 @@ pub record IsLayer (a : Automaton) (layer : Layer) : Type 0 where
   pub start : layer.start.number < layer.end
   pub above : layer.base ≤ layer.start.number
   pub layered : IsLayered layer.base (take layer.end a)
-
--- no move of a state below the base belongs to the variable
-abbrev pub OwnsNoneBelow : Owned → ℕ → Type 0
-OwnsNoneBelow b base = (s : State) → s.number < base → OwnsNone b s
-
--- the copies of the states that the moves lead to are states below n
-pub record LandsBelow (contents rests : State → State) (n : ℕ) (moves : StateMoves) : Type 0 where
-  pub labels : All (λ m. (state_number (contents m.content) < n) × (state_number (rests m.rest) < n)) moves.labels
-  pub texts : All (λ m. state_number (rests m.rest) < n) moves.texts

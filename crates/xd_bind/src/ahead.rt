@@ -9,7 +9,7 @@ ghost use Rattle.xd_bind.specs.Shifts.{IsLayer, free_at};
 ghost use Rattle.xd_bind.specs.Search.{ElementsMarked, Grows, HasMark, IsFollowed, IsSearched, IsSideOf, IsTextFollowed, LeadsAhead, TextsMarked};
 
 use crate::holds::Holds;
-use crate::shift::Layer;
+use crate::layer::Layer;
 use std::alloc::Global;
 use xd_auto::{Auto, LabelMove, State, TextMove};
 use xd_auto_pairs::MoveKind;

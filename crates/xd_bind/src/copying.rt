@@ -1,52 +1,59 @@
 //! Copies of whole automata.
 
-ghost use Rattle.std.specs.Prelude.{◌≡◌, IfOk};
+ghost use Rattle.std.specs.Prelude.{◌≡◌, IfOk, OnOk, length};
+ghost use Rattle.xd_auto.specs.declared.auto.State.{State as StateView};
+ghost use Rattle.xd_auto.specs.Automaton.{IsState, moves_at, no_moves};
+ghost use Rattle.xd_bind.specs.Blocks.{IsChange, with_labels, with_texts};
 
-use crate::holds::Holds;
-use crate::parts::{Part, add_states, lasts_of, put_side, side_of};
-use crate::shift::Shift;
 use std::alloc::Global;
 use xd_auto::{Auto, State};
-use xd_auto_pairs::MoveKind;
 use xd_doc::NoMemory;
 
-/// No move belongs to a variable.
-#[derive(Drop)]
-struct Nobody;
-
-impl Holds for Nobody {
-    ghost use Rattle.std.specs.Prelude.{false};
-
-    ghost owned = { λ n x. record { text = λ s k. false; element = λ s k. false } };
-
-    fn holds(&self, _state: State, _kind: MoveKind, _number: usize, _variable: usize) -> bool {
-        false
+/// The states of an automaton without their moves.
+fn bare(alloc: Global, auto: &Auto) -> Result<Auto, NoMemory>
+    ensures count { IfOk result (λ made. length made ≡ length auto.now) }
+    ensures bare { IfOk result (λ made. (s : StateView) → IsState auto.now s → moves_at made s ≡ no_moves (moves_at auto.now s).last) }
+{
+    let mut made = Auto::new(alloc);
+    for number in 0..auto.len() {
+        made.add_state(auto.is_last(auto.state(number)))?;
     }
+    Ok(made)
+}
+
+/// Gives the same state of an automaton with as many states its moves on an element, too.
+fn copy_labels(made: &mut Auto, auto: &Auto, state: State) -> Result<(), NoMemory>
+    requires state { IsState auto.now state }
+    requires count { length made.old ≡ length auto.now }
+    ensures { OnOk result (IsChange made.old made.new state (with_labels (moves_at auto.now state).labels (moves_at made.old state))) }
+{
+    for step in auto.label_moves(state) {
+        made.add_label_move(state, step.class.share()?, step.content, step.rest)?;
+    }
+    Ok(())
+}
+
+/// The same of its moves on a text.
+fn copy_texts(made: &mut Auto, auto: &Auto, state: State) -> Result<(), NoMemory>
+    requires state { IsState auto.now state }
+    requires count { length made.old ≡ length auto.now }
+    ensures { OnOk result (IsChange made.old made.new state (with_texts (moves_at auto.now state).texts (moves_at made.old state))) }
+{
+    for step in auto.text_moves(state) {
+        made.add_text_move(state, step.words.share()?, step.rest)?;
+    }
+    Ok(())
 }
 
 /// An automaton with the same states and moves. Fails only where memory is refused.
 pub fn copied(alloc: Global, auto: &Auto) -> Result<Auto, NoMemory>
     ensures { IfOk result (λ made. made ≡ auto.now) }
 {
-    let count = auto.len();
-    let lasts = lasts_of(alloc, auto, 0, count)?;
-    let mut made = Auto::new(alloc);
-    add_states(&mut made, &lasts)?;
-    let themselves = Shift {
-        base: count,
-        end: count,
-        by: 0,
-    };
-    let part = Part {
-        variable: 0,
-        own: false,
-        contents: themselves,
-        rests: themselves,
-    };
-    for number in 0..count {
+    let mut made = bare(alloc, auto)?;
+    for number in 0..auto.len() {
         let state = auto.state(number);
-        let side = side_of(alloc, &made, auto, &Nobody, state, part)?;
-        put_side(&mut made, state, side)?;
+        copy_labels(&mut made, auto, state)?;
+        copy_texts(&mut made, auto, state)?;
     }
     Ok(made)
 }

@@ -1,22 +1,17 @@
 //! What a variable of a pattern may be.
 #![tactic(auto)]
 
+mod adding;
 mod ahead;
 mod copying;
 mod holds;
-mod marks;
-mod parts;
-mod projecting;
-mod restricted;
-mod shift;
+mod layer;
 mod tracks;
 
+pub use adding::{add_states, put_labels, put_texts};
 pub use ahead::{FreeStates, states_ahead};
 pub use copying::copied;
 pub use holds::Holds;
-pub use parts::{add_states, put_labels, put_texts};
-pub use projecting::project;
-pub use restricted::cases;
-pub use shift::{Layer, Shift};
+pub use layer::Layer;
 pub use tracks::{Binding, Given, Track, Tracks};
 pub use xd_auto_pairs::MoveKind;

@@ -23,7 +23,7 @@ use Rattle.xd_given.specs.Outline.{IsDrawing, IsOutline}
 use Rattle.xd_given.specs.Owning.{LeavesOutAlike, owns_first, point_moves}
 use Rattle.xd_given.specs.Traced.{AcceptsGivenAt, AtLeft, FreeFrom, HasRunAt, IsGivenAt, Traced}
 use Rattle.xd_given.proofs.TraceLemmas.{Fits, fits, front, front_free, front_held, front_whole, whole_block, whole_held}
-use Rattle.xd_given.proofs.PointTraces.{content_within, rest_within, run_of, run_on, text_within, traced, traced_means}
+use Rattle.xd_given.proofs.PointTraces.{accepting, content_within, rest_within, run_of, run_on, text_within, traced, traced_means}
 use Rattle.xd_given.proofs.FreeLaw.{finishes, free_run, label_drawn, left_means, on_left, run_free, run_whole, text_drawn, true_false}
 
 -- a trace of the empty document is free
@@ -220,7 +220,7 @@ module _ (a : Automaton) (p : PatternStates) (t : PointTable) (b : Owned) (is : 
         let accepted = sym (lefts s e lt) ∙ ap (accepts new e) (sym (are.tail s lt tail)) ∙ h in
         let r = on_left a p t b is serve alike e s left accepted in
         let whole = run_whole a p t b is serve alike e s r.0 left first r.1 in
-        let fit : Fits e r.0 = subst (λ (v : Trace). Fits e v) (r.1).is (fits p.auto b e (pattern_of t s) (r.1).run (pattern_of t s) (r.1).at.1) in
+        let fit : Fits e r.0 = subst (λ (v : Trace). Fits e v) (r.1).is (fits p.auto b e (pattern_of t s) (r.1).run (pattern_of t s) (accepting a p t b e s r.0 r.1)) in
         record {
           document = e;
           trace = r.0;
@@ -311,7 +311,7 @@ module _ (a : Automaton) (p : PatternStates) (t : PointTable) (b : Owned) (is : 
         go true some =
             let begun : has_item (front f.document f.trace) ≡ true = ap has_item f.gives ∙ some in
             let not_free : IsFree f.trace → ⊥ = λ free. true_false (has_item (front f.document f.trace)) begun (ap has_item (front_free f.document f.trace free)) in
-            let together : IsTogether up.trace = subst IsTogether run.is (keeps up.document run.run run.at.1) in
+            let together : IsTogether up.trace = subst IsTogether run.is (keeps up.document run.run (accepting a p t b up.document start up.trace run)) in
             with_gives (front_held f.document f.trace (begins_block f.document f.trace (up.back not_free together) begun) ∙ f.gives)
         go false none = with_gives (held_free f.document f.trace (f.free none) ∙ sym (no_item e none))
 
@@ -320,7 +320,7 @@ module _ (a : Automaton) (p : PatternStates) (t : PointTable) (b : Owned) (is : 
         let left = and_left (is_left p t s) (owns_first b (pattern_of t s)) tail in
         let first = and_right (is_left p t s) (owns_first b (pattern_of t s)) tail in
         let run = run_of a p t b is d s r lt h in
-        let fit : Fits d r = subst (λ (v : Trace). Fits d v) run.is (fits p.auto b d (pattern_of t s) run.run (pattern_of t s) run.at.1) in
+        let fit : Fits d r = subst (λ (v : Trace). Fits d v) run.is (fits p.auto b d (pattern_of t s) run.run (pattern_of t s) (accepting a p t b d s r run)) in
         ap (λ x. accepts new x (there blocks s)) (whole_held d r fit (run_whole a p t b is serve alike d s r left first run))
         ∙ ap (accepts new d) (are.tail s lt tail) ∙ lefts s d lt ∙ left_means a p t b is serve alike d s left ∙ run.at.0
 
@@ -384,7 +384,7 @@ module _ (a : Automaton) (p : PatternStates) (t : PointTable) (b : Owned) (is : 
 
     found_ahead : KeepsTogether p.auto b (pattern_of t start) → (e : Document) → IsGivenAt a p t b start e → FoundAhead e
     found_ahead keeps e g =
-        let together : IsTogether g.trace = subst IsTogether g.has.is (keeps g.document g.has.run g.has.at.1) in
+        let together : IsTogether g.trace = subst IsTogether g.has.is (keeps g.document g.has.run (accepting a p t b g.document start g.trace g.has)) in
         let k = block_of g.document start g.trace is_start (traced a p t b is g.document start g.trace begins g.has) together in
         let at = w.searched.lists.complete k.state k.lies in
         record {

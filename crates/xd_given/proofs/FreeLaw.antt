@@ -23,7 +23,7 @@ use Rattle.xd_given.specs.Outline.{IsDrawing, can_stop, leaf_free}
 use Rattle.xd_given.specs.Owning.{GivesAlike, IsWhole, LeavesOutAlike, owns_first, point_moves}
 use Rattle.xd_given.specs.Traced.{FreeFrom, HasRunAt, Traced}
 use Rattle.xd_given.proofs.TraceLemmas.{Fits, fits, whole_free}
-use Rattle.xd_given.proofs.PointTraces.{content_within, rest_within, run_of, run_on, text_within, traced}
+use Rattle.xd_given.proofs.PointTraces.{accepting, content_within, rest_within, run_of, run_on, text_within, traced}
 
 pub true_false : {P : Type 0} (v : Bool) → v ≡ true → v ≡ false → P
 true_false true e f = absurd (cc)
@@ -43,10 +43,10 @@ module _ (a : Automaton) (p : PatternStates) (t : PointTable) (b : Owned) (is : 
   alike_at s e = alike (pattern_of t s) (left_out p t s e)
 
   pub run_whole : (d : Document) (s : State) (trace : Trace) → is_left p t s ≡ true → owns_first b (pattern_of t s) ≡ true → HasRunAt a p t b d s trace → IsWhole trace
-  run_whole d s trace e first h = subst IsWhole h.is ((alike_at s e).all first d h.run h.at.1)
+  run_whole d s trace e first h = subst IsWhole h.is ((alike_at s e).all first d h.run (accepting a p t b d s trace h))
 
   pub run_free : (d : Document) (s : State) (trace : Trace) → is_left p t s ≡ true → owns_first b (pattern_of t s) ≡ false → HasRunAt a p t b d s trace → IsFree trace
-  run_free d s trace e first h = subst IsFree h.is ((alike_at s e).none first d h.run h.at.1)
+  run_free d s trace e first h = subst IsFree h.is ((alike_at s e).none first d h.run (accepting a p t b d s trace h))
 
   pub on_left : (d : Document) (s : State) → is_left p t s ≡ true → accepts a d (left_of t s) ≡ true → (trace : Trace) × HasRunAt a p t b d s trace
   on_left d s e h =
@@ -86,7 +86,7 @@ module _ (a : Automaton) (p : PatternStates) (t : PointTable) (b : Owned) (is : 
 
         go : (v : Bool) → owns_first b (pattern_of t s) ≡ v → cond v (moves_at a (left_of t s)).last (is_some (known_of known (left_of t s))) ≡ false → ⊥
         go true first h =
-            let nothing : d ≡ empty = whole_free d trace (subst (λ (w : Trace). Fits d w) run.is (fits p.auto b d (pattern_of t s) run.run (pattern_of t s) run.at.1)) (run_whole d s trace e first run) f in
+            let nothing : d ≡ empty = whole_free d trace (subst (λ (w : Trace). Fits d w) run.is (fits p.auto b d (pattern_of t s) run.run (pattern_of t s) (accepting a p t b d s trace run))) (run_whole d s trace e first run) f in
             true_false (accepts a empty (left_of t s)) (subst (λ (x : Document). accepts a x (left_of t s) ≡ true) nothing accepted) h
         go false first h = known_none (known_of known (left_of t s)) refl h
 

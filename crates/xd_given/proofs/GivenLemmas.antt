@@ -1,7 +1,7 @@
 -- What one variable is given, from the parts that are made for it.
 use Rattle.std.proofs.Common.{ℕ, IfSome, ◌+◌, ◌<◌, ◌≤◌, ◌≡◌, Bool, true, false, ◌||◌, List, [], ◌∷◌, ◌++◌, Option, Some, None, length, get_or, map, refl, sym, ap, ◌∙◌, subst, arith}
 use Rattle.std.specs.List.{All, list_any}
-use Rattle.std.proofs.lemmas.List.{get_or_default}
+use Rattle.std.proofs.lemmas.List.{get_or_at, get_or_default}
 use Rattle.std.proofs.lemmas.List.Elements.{All-map}
 use Rattle.xd_doc.specs.Document.{Document, empty, text, element}
 use Rattle.xd_doc.specs.Stored.{document_at}
@@ -13,7 +13,7 @@ use Rattle.xd_auto_pairs.specs.Traces.{KeepsTogether, Owned}
 use Rattle.xd_least.specs.Least.{Knows, known_of}
 use Rattle.xd_least.specs.declared.document.LeastDocument.{LeastDocument}
 use Rattle.xd_empty.specs.Parts.{is_marked}
-use Rattle.xd_bind.proofs.IsProjectionLemmas.{all_states, first_begun}
+use Rattle.xd_bind.proofs.IsProjectionLemmas.{all_states}
 use Rattle.xd_points.specs.declared.patterns.PatternStates.{PatternStates}
 use Rattle.xd_points.specs.declared.table.PointTable.{PointTable}
 use Rattle.xd_points.specs.Meaning.{ServePoints}
@@ -103,7 +103,7 @@ pub nothing_accepted : (old new : Automaton) (s : State) → s.number ≡ length
 nothing_accepted old new s number is = none
   where
     bare : moves_at new s ≡ no_moves false
-    bare = (first_begun (record { text = λ q n. false; element = λ q n. false }) (λ q. q) (λ q. q) false old new s number is).opens
+    bare = rw is (get_or_at old (no_moves false) [] (no_moves false) s.number (sym number))
 
     none : (d : Document) → accepts new d s ≡ false
     none empty = ap (λ (m : StateMoves). m.last) bare

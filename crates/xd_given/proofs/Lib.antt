@@ -9,3 +9,5 @@ pub mod StayLemmas
 pub mod GivenLemmas
 pub mod AlikeLaw
 pub mod UnionLemmas
+pub mod BucketLaw
+pub mod ProjectLemmas

@@ -8,15 +8,15 @@ use Rattle.xd_auto.specs.declared.auto.State.{State}
 use Rattle.xd_auto.specs.declared.auto.LabelMove.{LabelMove}
 use Rattle.xd_auto.specs.declared.auto.TextMove.{TextMove}
 use Rattle.xd_auto.specs.Automaton.{Automaton, accepts, moves_at}
-use Rattle.xd_auto.specs.Runs.{Run, ends, takes_text, takes_element}
+use Rattle.xd_auto.specs.Runs.{Run, ends, takes_text, takes_element, IsAcceptingRun}
 use Rattle.xd_auto.proofs.Anys.{and_left, and_right}
-use Rattle.xd_auto.proofs.RunLaw.{runs_law}
 use Rattle.xd_auto_pairs.specs.Traces.{Owned, Trace, at_end, at_text, at_element, trace_of, after_text, after_element, in_element, content_or, rest_or, text_rest_or}
 use Rattle.xd_points.specs.declared.patterns.PatternStates.{PatternStates}
 use Rattle.xd_points.specs.declared.table.PointTable.{PointTable}
 use Rattle.xd_points.specs.Following.{Follows, IsRunAt}
 use Rattle.xd_points.specs.Points.{HasMoves, IsLabelStep, IsTextStep, no_row, point_at, row_at}
 use Rattle.xd_points.specs.Tables.{IsTableOf, is_left, label_origin, labels_in, number_or, pattern_of, point_count, point_means, points_of, text_origin, texts_in}
+use Rattle.xd_points.proofs.FirstRunLaw.{by_accepting, run_by}
 use Rattle.xd_points.proofs.FollowsLaw.{follows_all_runs, zip_there}
 use Rattle.xd_given.specs.Owning.{point_moves}
 use Rattle.xd_given.specs.Traced.{HasRunAt, Traced}
@@ -35,8 +35,12 @@ beside {X} R (z ∷ xs) (y ∷ ys) zero x h e =
     record { number = y; there = refl; related = subst (λ (w : X). R w y) one h.0 }
 beside R (z ∷ xs) (y ∷ ys) (suc k) x h e = let f = beside R xs ys k x h.1 e in record { number = f.number; there = f.there; related = f.related }
 
+-- a run of each kind is an accepting one
+pub accepting : (a : Automaton) (p : PatternStates) (t : PointTable) (b : Owned) (d : Document) (s : State) (trace : Trace) (h : HasRunAt a p t b d s trace) → IsAcceptingRun p.auto d (pattern_of t s) h.run
+accepting a p t b d s trace h = by_accepting t.first p.auto d (pattern_of t s) h.run h.at.1
+
 module _ (a : Automaton) (p : PatternStates) (t : PointTable) (b : Owned) (is : IsTableOf a p t) where
-  has : (s : State) → s.number < point_count t → is_left p t s ≡ false → HasMoves false a p t.points s.number (row_at t.rows.items s.number)
+  has : (s : State) → s.number < point_count t → is_left p t s ≡ false → HasMoves t.first a p t.points s.number (row_at t.rows.items s.number)
   has s lt yet = is.expanded.has s.number (omega (arith, lt, is.every)) yet
 
   -- the run from a point that has moves leads to the points that its moves lead to
@@ -74,7 +78,7 @@ module _ (a : Automaton) (p : PatternStates) (t : PointTable) (b : Owned) (is : 
       let origin : label_origin t s k ≡ n = ap (λ o. number_or (slice_get (labels_in o) k)) (row_there s lt) ∙ ap number_or e in
       ap (λ v. v && b.element (pattern_of t s) (label_origin t s k)) (counted s lt) ∙ ap (b.element (pattern_of t s)) origin
 
-  follows_traced : (d : Document) (s : State) (run : Run) → s.number < point_count t → Follows a p t.points t.rows.items d s.number run → Traced a p t b d s (trace_of p.auto b (pattern_of t s) run)
+  follows_traced : (d : Document) (s : State) (run : Run) → s.number < point_count t → Follows t.first a p t.points t.rows.items d s.number run → Traced a p t b d s (trace_of p.auto b (pattern_of t s) run)
   follows_traced empty s ends lt h = h.0
   follows_traced empty s (takes_text n r) lt h = absurd h.1
   follows_traced empty s (takes_element n k r) lt h = absurd h.1
@@ -120,11 +124,11 @@ module _ (a : Automaton) (p : PatternStates) (t : PointTable) (b : Owned) (is : 
   -- a run through the points with the trace
   record Followed (d : Document) (s : State) (trace : Trace) : Type 0 where
     run : Run
-    follows : Follows a p t.points t.rows.items d s.number run
+    follows : Follows t.first a p t.points t.rows.items d s.number run
     told : trace_of p.auto b (pattern_of t s) run ≡ trace
 
-  back : (d : Document) (s : State) (run : Run) → s.number < point_count t → IsRunAt a p t.points s.number d run → Follows a p t.points t.rows.items d s.number run
-  back d s run lt h = (follows_all_runs a p t.points t.rows.items is.expanded is.every d s.number run lt).1 h
+  back : (d : Document) (s : State) (run : Run) → s.number < point_count t → IsRunAt t.first a p t.points s.number d run → Follows t.first a p t.points t.rows.items d s.number run
+  back d s run lt h = (follows_all_runs t.first a p t.points t.rows.items is.expanded is.every d s.number run lt).1 h
 
   followed_run : (d : Document) (s : State) (trace : Trace) → s.number < point_count t → HasRunAt a p t b d s trace → Followed d s trace
   followed_run d s trace lt h = record { run = h.run; follows = back d s h.run lt h.at; told = h.is }
@@ -175,7 +179,7 @@ module _ (a : Automaton) (p : PatternStates) (t : PointTable) (b : Owned) (is : 
   pub run_of : (d : Document) (s : State) (trace : Trace) → s.number < point_count t → Traced a p t b d s trace → HasRunAt a p t b d s trace
   run_of d s trace lt h =
       let f = followed d s trace lt h in
-      record { run = f.run; at = (follows_all_runs a p t.points t.rows.items is.expanded is.every d s.number f.run lt).0 f.follows; is = f.told }
+      record { run = f.run; at = (follows_all_runs t.first a p t.points t.rows.items is.expanded is.every d s.number f.run lt).0 f.follows; is = f.told }
 
   pub traced : (d : Document) (s : State) (trace : Trace) → s.number < point_count t → HasRunAt a p t b d s trace → Traced a p t b d s trace
   traced d s trace lt h = subst (λ (w : Trace). Traced a p t b d s w) h.is (follows_traced d s h.run lt (back d s h.run lt h.at))
@@ -184,8 +188,8 @@ module _ (a : Automaton) (p : PatternStates) (t : PointTable) (b : Owned) (is : 
   traced_means d s trace lt h = (run_of d s trace lt h).at.0
 
   -- a point has a run on what it means
-  pub run_on : (d : Document) (s : State) → point_means a p t s d ≡ true → (run : Run) × IsRunAt a p t.points s.number d run
+  pub run_on : (d : Document) (s : State) → point_means a p t s d ≡ true → (run : Run) × IsRunAt t.first a p t.points s.number d run
   run_on d s h =
       let both = and_right (accepts a d (point_at t.points.points.items s.number).left) _ h in
-      let r = (runs_law p.auto (pattern_of t s) d).0 (and_left (accepts p.auto d (pattern_of t s)) _ both) in
+      let r = run_by t.first p.auto d (pattern_of t s) (and_left (accepts p.auto d (pattern_of t s)) _ both) in
       (r.0, (h, r.1))

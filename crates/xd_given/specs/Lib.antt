@@ -7,3 +7,4 @@ pub mod Blocks
 pub mod Known
 pub mod Alike
 pub mod Belonging
+pub mod Buckets

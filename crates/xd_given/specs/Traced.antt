@@ -1,8 +1,8 @@
 -- Runs of a pattern through points, by their traces.
-use Rattle.std.specs.Prelude.{◌≡◌, ◌⊎◌, ◌↔◌, ℕ, ◌<◌, true, false, List, length, slice_get, slice_index_or, Some}
+use Rattle.std.specs.Prelude.{◌≡◌, ◌⊎◌, ℕ, true, false, List}
 use Rattle.xd_doc.specs.Document.{Document, empty, text, element, is_proper}
 use Rattle.xd_auto.specs.declared.auto.State.{State}
-use Rattle.xd_auto.specs.Automaton.{Automaton, IsState, accepts}
+use Rattle.xd_auto.specs.Automaton.{Automaton}
 use Rattle.xd_auto.specs.Runs.{Run}
 use Rattle.xd_auto_pairs.specs.Traces.{Owned, Trace, at_end, at_text, at_element, IsFree, held, trace_of}
 use Rattle.xd_bind.specs.declared.tracks.Given.{Given}
@@ -11,12 +11,14 @@ use Rattle.xd_points.specs.declared.patterns.PatternStates.{PatternStates}
 use Rattle.xd_points.specs.declared.table.PointTable.{PointTable}
 use Rattle.xd_points.specs.Following.{IsRunAt}
 use Rattle.xd_points.specs.Tables.{is_left, pattern_of, point_means, points_of}
+use Rattle.xd_given.specs.Given.{AcceptsJust, AreGivensFor, IsGivenFor}
 use Rattle.xd_given.specs.Owning.{point_moves}
 
--- the point means the document, and a run of its pattern's state over it has the trace
+-- the point means the document, and a run of its pattern's state over it, of the kind that the table
+-- is for, has the trace
 pub record HasRunAt (a : Automaton) (p : PatternStates) (t : PointTable) (b : Owned) (d : Document) (s : State) (trace : Trace) : Type 0 where
   pub run : Run
-  pub at : IsRunAt a p t.points s.number d run
+  pub at : IsRunAt t.first a p t.points s.number d run
   pub is : trace_of p.auto b (pattern_of t s) run ≡ trace
 
 -- a run, where the point means what its left accepts
@@ -56,17 +58,12 @@ pub record IsGivenAt (a : Automaton) (p : PatternStates) (t : PointTable) (b : O
   pub has : HasRunAt a p t b document s trace
   pub gives : held document trace ≡ e
 
--- the state accepts exactly these
+-- a state that accepts exactly these, and one for each variable, in their order
 abbrev pub AcceptsGivenAt : Automaton → PatternStates → PointTable → Owned → State → Automaton → State → Type 0
-AcceptsGivenAt a p t b s made state = (e : Document) → (accepts made e state ≡ true) ↔ IsGivenAt a p t b s e
+AcceptsGivenAt a p t b s = AcceptsJust (IsGivenAt a p t b s)
 
--- the variable of this number, and a state that accepts exactly what it is given
-pub record IsGivenAtOf (a : Automaton) (p : PatternStates) (t : PointTable) (owned : ℕ → Owned) (start : State) (variables : List (List ℕ)) (made : Automaton) (x : ℕ) (one : Given) : Type 0 where
-  pub variable : slice_get variables x ≡ Some one.variable
-  pub belongs : IsState made one.state
-  pub given : AcceptsGivenAt a p t (owned x) start made one.state
+abbrev pub IsGivenAtOf : Automaton → PatternStates → PointTable → (ℕ → Owned) → State → List (List ℕ) → Automaton → ℕ → Given → Type 0
+IsGivenAtOf a p t owned start = IsGivenFor (λ b. IsGivenAt a p t b start) owned
 
--- one for each, in their order
-pub record AreGivensAt (a : Automaton) (p : PatternStates) (t : PointTable) (owned : ℕ → Owned) (start : State) (variables : List (List ℕ)) (made : Automaton) (givens : List Given) : Type 0 where
-  pub count : length givens ≡ length variables
-  pub each : (x : ℕ) (d : Given) → x < length givens → IsGivenAtOf a p t owned start variables made x (slice_index_or givens x d)
+abbrev pub AreGivensAt : Automaton → PatternStates → PointTable → (ℕ → Owned) → State → List (List ℕ) → Automaton → List Given → Type 0
+AreGivensAt a p t owned start = AreGivensFor (λ b. IsGivenAt a p t b start) owned

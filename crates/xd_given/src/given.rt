@@ -12,7 +12,7 @@ ghost use Rattle.xd_points.specs.declared.patterns.PatternStates.{PatternStates 
 ghost use Rattle.xd_points.specs.Meaning.{ServePoints};
 ghost use Rattle.xd_points.specs.Tables.{IsTableOf, pattern_of, point_count, takes_alone};
 ghost use Rattle.xd_given.specs.Blocks.{ArePlaces, there};
-ghost use Rattle.xd_given.specs.Given.{AreGivensAlone, IsSharedAlone};
+ghost use Rattle.xd_given.specs.Given.{AreFirstGivensAlone, AreGivensAlone, AreGivensFor, IsGivenAloneBy, IsSharedAlone};
 ghost use Rattle.xd_given.specs.Known.{KnowsLefts};
 ghost use Rattle.xd_given.specs.Outline.{IsDrawing};
 ghost use Rattle.xd_given.specs.Owning.{LeavesOutAlike};
@@ -126,6 +126,62 @@ fn add_givens<H: Holds>(
 }
 
 /// For each variable of a pattern, in their order, a state that accepts exactly the documents that
+/// runs of the pattern's state give it, all of them or first runs alone, on documents that the left
+/// accepts and none of the rights does.
+fn given_alone<H: Holds>(
+    alloc: Global,
+    auto: &mut Auto,
+    first: bool,
+    patterns: &PatternStates,
+    owner: &H,
+    variables: &[Label],
+    left: State,
+    pattern: State,
+    rights: &[State],
+    known: &mut LeastInhabitants,
+    store: &mut Store,
+) -> Result<Option<Vec<Given>>, NoMemory>
+    requires patterns { ServePoints auto.old patterns.now }
+    requires left { IsState auto.old left }
+    requires pattern { IsState patterns.now.auto pattern }
+    requires rights { AllByRecursion (IsState patterns.now.auto) rights.now }
+    requires alike { (x : ℕ) → x < length variables.now → LeavesOutAlike patterns.now (H.owned owner.now x) }
+    requires together { (x : ℕ) → x < length variables.now → KeepsTogether patterns.now.auto (H.owned owner.now x) pattern }
+    requires known { Knows auto.old store.old known.old }
+    ensures none { result ≡ Ok None → (d : Document) → takes_alone auto.old patterns.now left pattern rights.now d ≡ false }
+    ensures shared { IfOk result (λ found. IfSome found (λ givens. IsSharedAlone auto.old patterns.now left pattern rights.now)) }
+    ensures givens { IfOk result (λ found. IfSome found (λ givens. AreGivensFor (IsGivenAloneBy first auto.old patterns.now left pattern rights.now) (H.owned owner.now) variables.now auto.new givens.items)) }
+    ensures extends { Extends auto.old auto.new }
+    ensures keeps { Keeps store.old store.new }
+    ensures known { Knows auto.new store.new known.new }
+{
+    let _states = auto.len();
+    known.stays_known();
+    let mut table = PointTable::of_runs(alloc, first);
+    let start = table.find(alloc, auto, patterns, left, pattern, rights)?;
+    let _length = auto.len();
+    known.learn(alloc, auto, store)?;
+    let Some(place) = table.place(start) else {
+        return Ok(None);
+    };
+    let Some(_document) = known.document(place) else {
+        return Ok(None);
+    };
+    known.stays_known();
+    let drawing = draw(alloc, &table, patterns)?;
+    let places = places_of(alloc, auto, &table)?;
+    let _more = auto.len();
+    let of = PointOwner {
+        table: &table,
+        patterns,
+        drawing: &drawing,
+        owner,
+    };
+    let givens = add_givens(alloc, auto, &of, known, &places, variables, start)?;
+    Ok(Some(givens))
+}
+
+/// For each variable of a pattern, in their order, a state that accepts exactly the documents that
 /// an accepting run of the pattern's state gives it, on some document that the left accepts and
 /// none of the rights does; `None` exactly where no such document is accepted by the pattern's
 /// state.
@@ -163,28 +219,48 @@ pub fn bindings<H: Holds>(
     ensures keeps { Keeps store.old store.new }
     ensures known { Knows auto.new store.new known.new }
 {
-    let _states = auto.len();
-    known.stays_known();
-    let mut table = PointTable::new(alloc);
-    let start = table.find(alloc, auto, patterns, left, pattern, rights)?;
-    let _length = auto.len();
-    known.learn(alloc, auto, store)?;
-    let Some(place) = table.place(start) else {
-        return Ok(None);
-    };
-    let Some(_document) = known.document(place) else {
-        return Ok(None);
-    };
-    known.stays_known();
-    let drawing = draw(alloc, &table, patterns)?;
-    let places = places_of(alloc, auto, &table)?;
-    let _more = auto.len();
-    let of = PointOwner {
-        table: &table,
-        patterns,
-        drawing: &drawing,
-        owner,
-    };
-    let givens = add_givens(alloc, auto, &of, known, &places, variables, start)?;
-    Ok(Some(givens))
+    given_alone(
+        alloc, auto, false, patterns, owner, variables, left, pattern, rights, known, store,
+    )
+}
+
+/// The same of first runs: for each variable a state that accepts exactly the documents that the
+/// first run of the pattern's state gives it, on some document that the left accepts and none of the
+/// rights does; `None` exactly where [`bindings`] answers none.
+///
+/// A run is the first if at each item, at every depth, no move that is more preferred leads over the
+/// document too. These moves are looked at beside the rights, so there are more points than for all
+/// runs.
+///
+/// Fails only where memory is refused. The automaton and the store keep what they have, and may
+/// have more.
+pub fn first_bindings<H: Holds>(
+    alloc: Global,
+    auto: &mut Auto,
+    patterns: &PatternStates,
+    owner: &H,
+    variables: &[Label],
+    left: State,
+    pattern: State,
+    rights: &[State],
+    known: &mut LeastInhabitants,
+    store: &mut Store,
+) -> Result<Option<Vec<Given>>, NoMemory>
+    requires patterns { ServePoints auto.old patterns.now }
+    requires left { IsState auto.old left }
+    requires pattern { IsState patterns.now.auto pattern }
+    requires rights { AllByRecursion (IsState patterns.now.auto) rights.now }
+    requires alike { (x : ℕ) → x < length variables.now → LeavesOutAlike patterns.now (H.owned owner.now x) }
+    requires together { (x : ℕ) → x < length variables.now → KeepsTogether patterns.now.auto (H.owned owner.now x) pattern }
+    requires known { Knows auto.old store.old known.old }
+    ensures none { result ≡ Ok None → (d : Document) → takes_alone auto.old patterns.now left pattern rights.now d ≡ false }
+    ensures shared { IfOk result (λ found. IfSome found (λ givens. IsSharedAlone auto.old patterns.now left pattern rights.now)) }
+    ensures givens { IfOk result (λ found. IfSome found (λ givens. AreFirstGivensAlone auto.old patterns.now (H.owned owner.now) left pattern rights.now variables.now auto.new givens.items)) }
+    ensures extends { Extends auto.old auto.new }
+    ensures keeps { Keeps store.old store.new }
+    ensures known { Knows auto.new store.new known.new }
+{
+    given_alone(
+        alloc, auto, true, patterns, owner, variables, left, pattern, rights, known, store,
+    )
 }

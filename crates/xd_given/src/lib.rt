@@ -5,11 +5,14 @@ mod alike;
 mod blocks;
 mod free;
 mod given;
+mod marks;
 mod outline;
 mod owner;
+mod projecting;
 mod tells;
 mod union;
 
 pub use alike::alike_states;
-pub use given::bindings;
+pub use given::{bindings, first_bindings};
+pub use projecting::project;
 pub use tells::TellsVariables;
