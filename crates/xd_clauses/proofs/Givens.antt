@@ -1,6 +1,7 @@
 -- What variables are given, and states in automata of their own.
-use Rattle.std.proofs.Common.{◌≡◌, ◌↔◌, ℕ, zero, suc, ◌<◌, ◌+◌, Bool, true, false, ◌&&◌, List, [], ◌∷◌, ◌++◌, map, length, take, get_or, refl, sym, ap, ◌∙◌, subst, arith}
-use Rattle.std.specs.List.{All, AllByRecursion, list_any}
+use Rattle.std.proofs.Common.{◌≡◌, ◌↔◌, inl, inr, ℕ, zero, suc, ◌<◌, ◌+◌, Bool, true, false, ◌&&◌, List, [], ◌∷◌, ◌++◌, map, length, take, get_or, Option, Some, None, refl, sym, ap, ◌∙◌, subst, arith}
+use Rattle.std.specs.List.{All, AllByRecursion, list_any, slice_get}
+use Rattle.std.specs.Option.{IfSome, is_some}
 use Rattle.std.proofs.lemmas.List.{take_more}
 use Rattle.xd_doc.specs.Document.{Document, empty, text, element, is_proper}
 use Rattle.xd_doc.specs.Classes.{class_has}
@@ -11,12 +12,13 @@ use Rattle.xd_auto.specs.Automaton.{Automaton, IsState, StateMoves, accepts, mov
 use Rattle.xd_meaning.specs.Bindings.{variables_of}
 use Rattle.xd_syntax.specs.Placed.{PlacedTree, unplaced}
 use Rattle.xd_syntax.specs.May.{Allowance}
+use Rattle.xd_syntax.specs.Ways.{Among}
 use Rattle.xd_meaning.specs.KeptFaults.{AllPaired}
 use Rattle.xd_bind.specs.declared.tracks.Binding.{Binding}
 use Rattle.xd_bind.specs.declared.tracks.Given.{Given}
 use Rattle.xd_clauses.specs.Cases.{HasOwnAutomaton, IsGivenNothing}
 use Rattle.xd_clauses.specs.Clauses.{AreBindingsOf, AreGivensOf, IsBindingOf, IsGivenOf, IsStateOf}
-use Rattle.xd_clauses.proofs.HasUniversalLemmas.{paired_end}
+use Rattle.xd_patterns.proofs.Pairing.{paired_end}
 
 -- ---- a state without moves
 
@@ -121,3 +123,37 @@ module _ (V : Allowance) (a : Automaton) where
 
   pub bindings_apart : (P : PlacedTree) (gs : List Given) (bs : List Binding) → AllPaired (HasOwnAutomaton a) gs bs → AreGivensOf V P a gs → AreBindingsOf V P bs
   bindings_apart P gs bs h m = record { variables = words_apart gs bs h ∙ m.variables; each = each_apart gs bs h m.each }
+
+-- ---- the variables, one for one
+
+pub got_among : (vs : List (List ℕ)) (x : ℕ) (w : List ℕ) → slice_get vs x ≡ Some w → Among w vs
+got_among [] x w e = cc
+got_among (v ∷ vs) zero w e = inl (let q : v ≡ w = cc in q)
+got_among (v ∷ vs) (suc x) w e = inr (got_among vs x w e)
+
+pub got_word : (vs : List (List ℕ)) (x : ℕ) (w : List ℕ) → slice_get vs x ≡ Some w → get_or vs x [] ≡ w
+got_word [] x w e = cc
+got_word (v ∷ vs) zero w e = cc
+got_word (v ∷ vs) (suc x) w e = got_word vs x w e
+
+pub same_words : (bs : List Given) (vs : List (List ℕ)) → length bs ≡ length vs → ((x : ℕ) (d : Given) → x < length bs → slice_get vs x ≡ Some (get_or bs x d).variable) → map (λ (b : Given). b.variable) bs ≡ vs
+same_words [] [] n h = refl
+same_words [] (v ∷ vs) n h = absurd (omega arith)
+same_words (b ∷ bs) [] n h = absurd (omega arith)
+same_words (b ∷ bs) (v ∷ vs) n h =
+    let first : Some v ≡ Some b.variable = h zero b (omega arith) in
+    let others = same_words bs vs (omega arith) (λ x d l. h (suc x) d (omega arith)) in cc
+
+-- ---- a fact of what there is
+
+pub if_some_map : {X : Type 0} (P Q : X → Type 0) (o : Option X) → ((x : X) → P x → Q x) → IfSome o P → IfSome o Q
+if_some_map P Q None f h = h
+if_some_map P Q (Some x) f h = f x h
+
+pub some_holds : {X : Type 0} (P : Type 0) (o : Option X) → IfSome o (λ x. P) → is_some o ≡ true → P
+some_holds P None h e = cc
+some_holds P (Some x) h e = h
+
+pub none_is : {X : Type 0} (o : Option X) → is_some o ≡ false → o ≡ None
+none_is None e = refl
+none_is (Some x) e = cc

@@ -1,11 +1,6 @@
 pub mod Forms
 pub mod CompiledTellLaw
-pub mod StableLemmas
-pub mod Alike
-pub mod HasUniversalLemmas
-pub mod OwnedLemmas
 pub mod ListedLemmas
-pub mod AreMayGivensLemmas
 pub mod NoneTakesLemmas
 pub mod Givens
 pub mod BeginsLemmas

@@ -1,43 +1,12 @@
 -- What is left after patterns.
-use Rattle.std.proofs.Common.{◌≡◌, ◌↔◌, ℕ, true, List, [], ◌∷◌, ◌++◌, refl, ap, sym, subst}
+use Rattle.std.proofs.Common.{◌≡◌, ◌↔◌, ℕ, true, List, [], ap, subst}
 use Rattle.xd_doc.specs.Document.{Document, is_proper}
-use Rattle.xd_syntax.specs.Tree.{Tree, Definitions}
+use Rattle.xd_syntax.specs.Tree.{Definitions}
 use Rattle.xd_syntax.specs.Table.{Row}
-use Rattle.xd_syntax.specs.Placed.{PlacedTree, unplaced}
+use Rattle.xd_syntax.specs.Placed.{PlacedTree}
 use Rattle.xd_syntax.specs.Kept.{ProgramTable, AddsTypes, program_tree}
 use Rattle.xd_syntax.specs.Program.{names_of}
-use Rattle.xd_syntax.specs.Patterns.{pattern_tree}
-use Rattle.xd_syntax.specs.declared.patterns.PatternId.{PatternId}
 use Rattle.xd_syntax.specs.May.{Arrives, IsLive, MayBind, NoneTakes}
-use Rattle.xd_syntax.specs.Ways.{Takes}
-use Rattle.xd_syntax.proofs.PlacedTrees.{unplaced_at}
-use Rattle.xd_clauses.specs.Cases.{placed_pattern, placed_patterns}
-use Rattle.xd_clauses.specs.Clauses.{IsPatternOf}
-use Rattle.xd_clauses.specs.declared.pattern.ClausePattern.{ClausePattern}
-
-none_end : (E : Definitions) (Ps : List PlacedTree) (P : PlacedTree) (d : Document) → NoneTakes E (Ps ++ P ∷ []) d ↔ (NoneTakes E Ps d × (Takes E (unplaced P) d → ⊥))
-none_end E [] P d = (λ h. (tt, h.0), λ h. (h.1, tt))
-none_end E (Q ∷ Ps) P d =
-    let i = none_end E Ps P d in
-    (λ h. ((h.0, (i.0 h.1).0), (i.0 h.1).1), λ h. (h.0.0, i.1 (h.0.1, h.1)))
-
-placed_end : (rows : List Row) (ids : List PatternId) (id : PatternId) → placed_patterns rows (ids ++ id ∷ []) ≡ placed_patterns rows ids ++ placed_pattern rows id ∷ []
-placed_end rows [] id = refl
-placed_end rows (i ∷ ids) id = ap (λ Ps. placed_pattern rows i ∷ Ps) (placed_end rows ids id)
-
--- one pattern more
-pub passed_more : (E : Definitions) (rows : List Row) (ids : List PatternId) (id : PatternId) (A B C : Document → Type 0) → ((d : Document) → B d ↔ (A d × NoneTakes E (placed_patterns rows ids) d)) →
-    ((d : Document) → C d ↔ (B d × (Takes E (unplaced (placed_pattern rows id)) d → ⊥))) → (d : Document) → C d ↔ (A d × NoneTakes E (placed_patterns rows (ids ++ id ∷ [])) d)
-passed_more E rows ids id A B C f g d =
-    subst (λ Ps. C d ↔ (A d × NoneTakes E Ps d)) (sym (placed_end rows ids id))
-    (let n = none_end E (placed_patterns rows ids) (placed_pattern rows id) d in (
-      λ h. let r = (g d).0 h in let b = (f d).0 r.0 in (b.0, n.1 (b.1, r.1)),
-      λ h. let r = n.0 h.1 in (g d).1 ((f d).1 (h.0, r.0), r.1),
-    ))
-
--- a pattern's automaton is that of its tree with places
-pub of_placed : (E : Definitions) (rows : List Row) (id : PatternId) (made : ClausePattern) → IsPatternOf E (pattern_tree rows id) made → IsPatternOf E (unplaced (placed_pattern rows id)) made
-of_placed E rows id made p = subst (λ (T : Tree). IsPatternOf E T made) (sym (unplaced_at rows id.at)) p
 
 -- ---- where B is what is left of A after the earlier patterns
 

@@ -1,20 +1,22 @@
 -- Patterns that are compiled together, by their numbers: their states, their variables, and what
 -- these may be.
-use Rattle.std.proofs.Common.{◌≡◌, ◌↔◌, inl, inr, ℕ, zero, suc, ◌<◌, Bool, true, false, not, ◌&&◌, ◌||◌, List, [], ◌∷◌, map, length, get_or, Some, arith, refl, ap, sym, subst, ◌∙◌}
+use Rattle.std.proofs.Common.{◌≡◌, ◌↔◌, inl, inr, ℕ, zero, suc, ◌<◌, nat_lt, Bool, true, false, not, ◌&&◌, ◌||◌, List, [], ◌∷◌, ◌++◌, map, length, get_or, take, Option, Some, None, arith, refl, ap, sym, subst, ◌∙◌}
 use Rattle.std.specs.List.{AllByRecursion, slice_get}
+use Rattle.std.specs.Option.{IfSome}
 use Rattle.std.specs.Str.{bytes_eq}
+use Rattle.std.proofs.lemmas.Bool.Decides.{nat_tests}
 use Rattle.xd_doc.specs.Document.{Document, is_proper}
 use Rattle.xd_auto.specs.declared.auto.State.{State}
 use Rattle.xd_auto.specs.Automaton.{Automaton, Extends, IsClosed, IsState, KeepsAccepting, accepts}
 use Rattle.xd_auto.proofs.RunLaw.{runs_law}
 use Rattle.xd_syntax.specs.Words.{has_word}
-use Rattle.xd_syntax.specs.Tree.{Definitions, Tree, occurrences}
+use Rattle.xd_syntax.specs.Tree.{Definitions, Tree}
 use Rattle.xd_syntax.specs.Placed.{PlacedTree, unplaced}
 use Rattle.xd_syntax.specs.Table.{Row}
 use Rattle.xd_syntax.specs.Patterns.{pattern_tree}
 use Rattle.xd_syntax.specs.declared.patterns.PatternId.{PatternId}
 use Rattle.xd_syntax.specs.declared.types.TypeId.{TypeId}
-use Rattle.xd_syntax.specs.May.{IsLive, NoneTakes}
+use Rattle.xd_syntax.specs.May.{Allowance, IsLive, MayBind, NoneTakes}
 use Rattle.xd_syntax.specs.Ways.{Among, Takes}
 use Rattle.xd_syntax.proofs.PlacedTrees.{unplaced_at}
 use Rattle.xd_boole.specs.Meaning.{any_accepts}
@@ -23,10 +25,9 @@ use Rattle.xd_meaning.specs.KeptFaults.{AllPaired}
 use Rattle.xd_laws.proofs.Unfoldings.{same_word_eq}
 use Rattle.xd_auto_pairs.specs.declared.kind.MoveKind.TheVariants as M
 use Rattle.xd_auto_pairs.specs.Traces.{IsFree, KeepsTogether, Owned, held}
-use Rattle.xd_auto_pairs.specs.Pairing.{IsGivenWhere}
 use Rattle.xd_bind.specs.declared.tracks.Given.{Given}
 use Rattle.xd_bind.proofs.SameOwned.{SameOwned, same_back, together_same, trace_same}
-use Rattle.xd_given.specs.Given.{AreGivensAlone, IsGivenAlone, IsGivenAloneOf, IsSharedAlone}
+use Rattle.xd_given.specs.Given.{AreGivensFor, IsGivenFor, IsSharedAlone}
 use Rattle.xd_given.specs.Owning.{GivesAlike, IsWhole, LeavesOutAlike, owns_first}
 use Rattle.xd_points.specs.Tables.{takes_alone}
 use Rattle.xd_patterns.specs.CompiledProgram.{AcceptsType, AreWithin, IsPatternState, marking_of_program, pattern_states, pattern_variables, words_of_program}
@@ -36,15 +37,14 @@ use Rattle.xd_patterns.specs.Marked.{Marking}
 use Rattle.xd_patterns.specs.declared.compiled.CompiledProgram.{CompiledProgram}
 use Rattle.xd_patterns.proofs.Pairing.{each_at}
 use Rattle.xd_patterns.proofs.VariableLemmas.{among_word, variables_have}
-use Rattle.xd_clauses.specs.Clauses.{Accepted, AreMayGivens, IsMayGiven}
+use Rattle.xd_clauses.specs.Clauses.{Accepted, AreGivensOf, AreMayGivens, IsGivenOf}
 use Rattle.xd_clauses.specs.Cases.{placed_pattern, placed_patterns}
-use Rattle.xd_clauses.specs.Compiled.{ArePatterns, IsNumbered, LeavesOut, state_of, variables_at, word_moves}
+use Rattle.xd_clauses.specs.Compiled.{ArePatterns, AreRunsGivens, IsNumbered, LeavesOut, RunsGive, state_of, variables_at, word_moves}
 use Rattle.xd_clauses.specs.Owning.{moves_of}
 use Rattle.xd_clauses.specs.declared.compiled.CompiledPatterns.{CompiledPatterns}
-use Rattle.xd_clauses.proofs.AreMayGivensLemmas.{got_among, got_word, same_words}
+use Rattle.xd_clauses.proofs.Givens.{got_among, got_word, same_words}
 use Rattle.xd_clauses.proofs.CompiledTellLaw.{keeps_together, tells}
 use Rattle.xd_clauses.proofs.Leaving.{and_tells}
-use Rattle.xd_clauses.proofs.OwnedLemmas.{tested}
 
 -- ---- items at a place
 
@@ -88,6 +88,9 @@ among_got (v ∷ vs) zero h = inl refl
 among_got (v ∷ vs) (suc x) h = inr (among_got vs x (omega arith))
 
 -- ---- a variable has by its number the moves that it has by its word
+
+tested : (x n : ℕ) (b : Bool) → x < n → (nat_lt x n && b) ≡ b
+tested x n b h = let t : nat_lt x n ≡ true = grind (arith, nat_tests) in ap (λ v. v && b) t
 
 pub word_same : (m : CompiledProgram) (ws : List (List ℕ)) (x : ℕ) → x < length ws → SameOwned (word_moves m ws x) (moves_of (marking_of_program m) (get_or ws x []))
 word_same m ws x h = record {
@@ -149,15 +152,18 @@ module _ (E : Definitions) (P : Tree) (m : CompiledPatterns) (n : ℕ) (i : IsNu
   pub numbered_counted : n < length (pattern_variables m.compiled)
   numbered_counted = subst (λ (vss : List (List (List ℕ))). n < length vss) (sym i.patterns.variables) (within_map (λ id. variables_of (pattern_tree i.rows id)) m.ids.items n i.id i.number)
 
-  pub numbered_alike : (x : ℕ) → x < length (variables_at m n) → LeavesOutAlike m.states (word_moves m.compiled (variables_at m n) x)
-  numbered_alike = leaves_out m (variables_at m n) (each_at (AreWithin (words_of_program m.compiled)) (pattern_variables m.compiled) n [] i.patterns.words numbered_counted) i.patterns.alike
+  pub numbered_alike : (vs : List (List ℕ)) → vs ≡ variables_at m n → (x : ℕ) → x < length vs → LeavesOutAlike m.states (word_moves m.compiled vs x)
+  numbered_alike vs e =
+      subst (λ (ws : List (List ℕ)). (x : ℕ) → x < length ws → LeavesOutAlike m.states (word_moves m.compiled ws x)) (sym e)
+      (leaves_out m (variables_at m n) (each_at (AreWithin (words_of_program m.compiled)) (pattern_variables m.compiled) n [] i.patterns.words numbered_counted) i.patterns.alike)
 
-  pub numbered_together : (x : ℕ) → x < length (variables_at m n) → KeepsTogether m.states.auto (word_moves m.compiled (variables_at m n) x) (state_of m n)
-  numbered_together x h =
+  pub numbered_together : (vs : List (List ℕ)) (s : State) → s ≡ state_of m n → (x : ℕ) → x < length vs → KeepsTogether m.states.auto (word_moves m.compiled vs x) s
+  numbered_together vs s is x h =
       let k = marking_of_program m.compiled in
-      let w = get_or (variables_at m n) x [] in
-      together_same m.states.auto (moves_of k w) (word_moves m.compiled (variables_at m n) x) (same_back (word_moves m.compiled (variables_at m n) x) (moves_of k w) (word_same m.compiled (variables_at m n) x h)) (state_of m n)
-      (keeps_together E P m.states.auto k (state_of m n) numbered_state.compiled w)
+      let w = get_or vs x [] in
+      subst (λ (t : State). KeepsTogether m.states.auto (word_moves m.compiled vs x) t) (sym is)
+      (together_same m.states.auto (moves_of k w) (word_moves m.compiled vs x) (same_back (word_moves m.compiled vs x) (moves_of k w) (word_same m.compiled vs x h)) (state_of m n)
+      (keeps_together E P m.states.auto k (state_of m n) numbered_state.compiled w))
 
 -- ---- which documents none of the patterns takes
 
@@ -195,83 +201,144 @@ none_of E rows a k d (i ∷ ids) (s ∷ ss) h =
       λ n. either_not (accepts a d s) (any_accepts a ss d) (not_true (accepts a d s) (λ y. n.0 (takes.0 y))) (others.1 n.1),
     )
 
-pub left_by_all : (E : Definitions) (rows : List Row) (m : CompiledPatterns) → ArePatterns E rows m → (b x : Bool) (d : Document) (ss : List State) → ss ≡ pattern_states m.compiled → b ≡ (x && not (any_accepts m.states.auto ss d)) →
-    (b ≡ true) ↔ ((x ≡ true) × NoneTakes E (placed_patterns rows m.ids.items) d)
-left_by_all E rows m are b x d ss is e =
-    let v = any_accepts m.states.auto (pattern_states m.compiled) d in
-    let told = and_tells b x v (e ∙ ap (λ (us : List State). x && not (any_accepts m.states.auto us d)) is) in
-    let none = none_of E rows m.states.auto (marking_of_program m.compiled) d m.ids.items (pattern_states m.compiled) are.patterns in
-    (λ y. let r = told.0 y in (r.0, none.0 r.1), λ r. told.1 (r.0, none.1 r.1))
+-- the first of two lists that go together, so many of them, go together
+paired_take : {A B : Type 0} (R : A → B → Type 0) (n : ℕ) (xs : List A) (ys : List B) → AllPaired R xs ys → AllPaired R (take n xs) (take n ys)
+paired_take R zero xs ys h = tt
+paired_take R (suc n) [] [] h = tt
+paired_take R (suc n) [] (y ∷ ys) h = absurd h
+paired_take R (suc n) (x ∷ xs) [] h = absurd h
+paired_take R (suc n) (x ∷ xs) (y ∷ ys) h = (h.0, paired_take R n xs ys h.1)
+
+paired_length : {A B : Type 0} (R : A → B → Type 0) (xs : List A) (ys : List B) → AllPaired R xs ys → length xs ≡ length ys
+paired_length R [] [] h = refl
+paired_length R [] (y ∷ ys) h = absurd h
+paired_length R (x ∷ xs) [] h = absurd h
+paired_length R (x ∷ xs) (y ∷ ys) h = ap suc (paired_length R xs ys h.1)
+
+first_there : {A : Type 0} (P : A → Type 0) (n : ℕ) (xs : List A) → AllByRecursion P xs → AllByRecursion P (take n xs)
+first_there P zero xs h = tt
+first_there P (suc n) [] h = tt
+first_there P (suc n) (x ∷ xs) h = (h.0, first_there P n xs h.1)
+
+module _ (E : Definitions) (rows : List Row) (m : CompiledPatterns) (are : ArePatterns E rows m) (n : ℕ) (ss : List State) (is : ss ≡ take n (pattern_states m.compiled)) where
+  pub firsts_there : AllByRecursion (IsState m.states.auto) ss
+  firsts_there = subst (λ (us : List State). AllByRecursion (IsState m.states.auto) us) (sym is) (first_there (IsState m.states.auto) n (pattern_states m.compiled) (states_there E rows m are))
+
+  pub left_by_firsts : (b x : Bool) (d : Document) → b ≡ (x && not (any_accepts m.states.auto ss d)) → (b ≡ true) ↔ ((x ≡ true) × NoneTakes E (placed_patterns rows (take n m.ids.items)) d)
+  left_by_firsts b x d e =
+      let us = take n (pattern_states m.compiled) in
+      let told = and_tells b x (any_accepts m.states.auto us d) (e ∙ ap (λ (vs : List State). x && not (any_accepts m.states.auto vs d)) is) in
+      let R = IsPatternState E rows m.states.auto (marking_of_program m.compiled) in
+      let none = none_of E rows m.states.auto (marking_of_program m.compiled) d (take n m.ids.items) us (paired_take R n m.ids.items (pattern_states m.compiled) are.patterns) in
+      (λ y. let r = told.0 y in (r.0, none.0 r.1), λ r. told.1 (r.0, none.1 r.1))
+
+pub as_many_states : (E : Definitions) (rows : List Row) (m : CompiledPatterns) → ArePatterns E rows m → length m.ids.items ≡ length (pattern_states m.compiled)
+as_many_states E rows m are = paired_length (IsPatternState E rows m.states.auto (marking_of_program m.compiled)) m.ids.items (pattern_states m.compiled) are.patterns
+
+-- ---- the last of some patterns
+
+last_of : {A : Type 0} (xs : List A) (x : A) → slice_get (xs ++ x ∷ []) (length xs) ≡ Some x
+last_of [] x = refl
+last_of (y ∷ xs) x = last_of xs x
+
+pub last_numbered : (E : Definitions) (rows : List Row) (m : CompiledPatterns) → ArePatterns E rows m → (earlier : List PatternId) (id : PatternId) → m.ids.items ≡ earlier ++ id ∷ [] → IsNumbered E (unplaced (placed_pattern rows id)) m (length earlier)
+last_numbered E rows m are earlier id is = record {
+  rows = rows;
+  id = id;
+  patterns = are;
+  number = ap (λ (ids : List PatternId). slice_get ids (length earlier)) is ∙ last_of earlier id;
+  is = sym (unplaced_at rows id.at);
+}
+
+-- the same by other names of the patterns and of the number
+pub numbered_as : (E : Definitions) (P : Tree) (m o : CompiledPatterns) (n i : ℕ) → o ≡ m → i ≡ n → IsNumbered E P m n → IsNumbered E P o i
+numbered_as E P m o n i e f h = subst (λ (p : CompiledPatterns). IsNumbered E P p i) (sym e) (subst (IsNumbered E P m) (sym f) h)
 
 -- ---- which documents come
 
-alone_parts : (x y : Bool) → (x && (y && true)) ≡ true → (x ≡ true) × (y ≡ true)
+pub alone_parts : (x y : Bool) → (x && (y && true)) ≡ true → (x ≡ true) × (y ≡ true)
 alone_parts true true e = (refl, refl)
 alone_parts true false e = cc
 alone_parts false y e = cc
 
-alone_joined : (x y : Bool) → x ≡ true → y ≡ true → (x && (y && true)) ≡ true
+pub alone_joined : (x y : Bool) → x ≡ true → y ≡ true → (x && (y && true)) ≡ true
 alone_joined true true e f = refl
 alone_joined true false e f = cc
 alone_joined false y e f = cc
 
-module _ (E : Definitions) (P : PlacedTree) (m : CompiledPatterns) (n : ℕ) (i : IsNumbered E (unplaced P) m n) (q : Automaton) (t : State) where
-  pub none_comes : ((d : Document) → takes_alone q m.states t (state_of m n) [] d ≡ false) → IsLive E (Accepted q t) [] P → ⊥
-  none_comes none live =
-      let yes = alone_joined (accepts q live.0 t) (accepts m.states.auto live.0 (state_of m n)) live.1.1 (((numbered_state E (unplaced P) m n i).compiled.accepts live.0).1 live.2) in
-      let no = none live.0 in let c : true ≡ false = sym yes ∙ no in cc
+module _ (E : Definitions) (P : PlacedTree) (m : CompiledPatterns) (n : ℕ) (i : IsNumbered E (unplaced P) m n) where
+  module _ (q : Automaton) (t : State) where
+    pub none_comes : ((d : Document) → takes_alone q m.states t (state_of m n) [] d ≡ false) → IsLive E (Accepted q t) [] P → ⊥
+    none_comes none live =
+        let yes = alone_joined (accepts q live.0 t) (accepts m.states.auto live.0 (state_of m n)) live.1.1 (((numbered_state E (unplaced P) m n i).compiled.accepts live.0).1 live.2) in
+        let no = none live.0 in let c : true ≡ false = sym yes ∙ no in cc
 
-  pub some_comes : IsSharedAlone q m.states t (state_of m n) [] → IsLive E (Accepted q t) [] P
-  some_comes s =
-      let both = alone_parts (accepts q s.document t) (accepts m.states.auto s.document (state_of m n)) s.alone in
-      (s.document, (s.proper, both.0, tt), ((numbered_state E (unplaced P) m n i).compiled.accepts s.document).0 both.1)
+    pub some_comes : IsSharedAlone q m.states t (state_of m n) [] → IsLive E (Accepted q t) [] P
+    some_comes s =
+        let both = alone_parts (accepts q s.document t) (accepts m.states.auto s.document (state_of m n)) s.alone in
+        (s.document, (s.proper, both.0, tt), ((numbered_state E (unplaced P) m n i).compiled.accepts s.document).0 both.1)
 
-  -- ---- what the variables may be
+  -- ---- what the variables are given, where this is known of the moves that belong to a word
 
-  module _ (made : Automaton) where
-    may_bind : (x : ℕ) (b : Given) → x < length (variables_at m n) → IsGivenAloneOf q m.states (word_moves m.compiled (variables_at m n)) t (state_of m n) [] (variables_at m n) made x b → IsMayGiven E (Accepted q t) [] P made b
-    may_bind x b h c =
-        let a = m.states.auto in
-        let s = state_of m n in
+  module _ (V : Allowance) (gives : Owned → Document → Type 0) (same : (b c : Owned) → SameOwned b c → (e : Document) → gives b e → gives c e)
+      (law : (x : List ℕ) → has_word (variables_of (unplaced P)) x ≡ true → (e : Document) → is_proper e ≡ true → gives (moves_of (marking_of_program m.compiled) x) e ↔ V x e) (made : Automaton) where
+    one_given : (x : ℕ) (b : Given) → x < length (variables_at m n) → IsGivenFor gives (word_moves m.compiled (variables_at m n)) (variables_at m n) made x b → IsGivenOf V made b
+    one_given x b h c =
         let vs = variables_at m n in
         let k = marking_of_program m.compiled in
         let w = get_or vs x [] in
         let e : w ≡ b.variable = got_word vs x b.variable c.variable in
-        let there : has_word (occurrences (unplaced P)) b.variable ≡ true =
-        sym (variables_have (unplaced P) b.variable) ∙ sym (ap (λ ws. has_word ws b.variable) (numbered_variables E (unplaced P) m n i)) ∙ among_word vs b.variable (got_among vs x b.variable c.variable) in
-        let same = word_same m.compiled vs x h in
-        let back = same_back (word_moves m.compiled vs x) (moves_of k w) same in
-        let law = λ (d : Document) (proper : is_proper d ≡ true). tells E P a k s (numbered_state E (unplaced P) m n i).compiled b.variable there q t d proper in
-        let on : (d : Document) → IsGivenAlone q m.states (word_moves m.compiled vs x) t s [] d → IsGivenWhere a q (moves_of k w) s t d = λ d g. record {
-          given = record {
-            document = g.given.document;
-            proper = g.given.proper;
-            run = g.given.run;
-            accepting = g.given.accepting;
-            gives = ap (λ r. held g.given.document r) (sym (trace_same a (word_moves m.compiled vs x) (moves_of k w) same s g.given.run)) ∙ g.given.gives;
-          };
-          accepted = (alone_parts (accepts q g.given.document t) (accepts a g.given.document s) g.alone).0;
-        } in
-        let off : (d : Document) → IsGivenWhere a q (moves_of k w) s t d → IsGivenAlone q m.states (word_moves m.compiled vs x) t s [] d = λ d g. record {
-          given = record {
-            document = g.given.document;
-            proper = g.given.proper;
-            run = g.given.run;
-            accepting = g.given.accepting;
-            gives = ap (λ r. held g.given.document r) (sym (trace_same a (moves_of k w) (word_moves m.compiled vs x) back s g.given.run)) ∙ g.given.gives;
-          };
-          alone = alone_joined (accepts q g.given.document t) (accepts a g.given.document s) g.accepted ((runs_law a s g.given.document).1 (g.given.run, g.given.accepting));
-        } in
+        let there : has_word (variables_of (unplaced P)) b.variable ≡ true =
+        sym (ap (λ ws. has_word ws b.variable) (numbered_variables E (unplaced P) m n i)) ∙ among_word vs b.variable (got_among vs x b.variable c.variable) in
+        let own = word_same m.compiled vs x h in
+        let back = same_back (word_moves m.compiled vs x) (moves_of k w) own in
         record {
           belongs = c.belongs;
           exact = λ d proper. (
-            λ y. (law d proper).0 (subst (λ v. IsGivenWhere a q (moves_of k v) s t d) e (on d ((c.given d).0 y))),
-            λ y. (c.given d).1 (off d (subst (λ v. IsGivenWhere a q (moves_of k v) s t d) (sym e) ((law d proper).1 y))),
+            λ y. (law b.variable there d proper).0 (subst (λ v. gives (moves_of k v) d) e (same (word_moves m.compiled vs x) (moves_of k w) own d ((c.given d).0 y))),
+            λ y. (c.given d).1 (same (moves_of k w) (word_moves m.compiled vs x) back d (subst (λ v. gives (moves_of k v) d) (sym e) ((law b.variable there d proper).1 y))),
           );
         }
 
-    pub all_may_bind : (bs : List Given) → AreGivensAlone q m.states (word_moves m.compiled (variables_at m n)) t (state_of m n) [] (variables_at m n) made bs → AreMayGivens E (Accepted q t) [] P made bs
-    all_may_bind bs c = record {
+    pub all_given : (bs : List Given) → AreGivensFor gives (word_moves m.compiled (variables_at m n)) (variables_at m n) made bs → AreGivensOf V P made bs
+    all_given bs c = record {
       variables = same_words bs (variables_at m n) c.count (λ x d l. (c.each x d l).variable) ∙ numbered_variables E (unplaced P) m n i;
-      each = λ x d l. may_bind x (get_or bs x d) (let n = c.count in omega arith) (c.each x d l);
+      each = λ x d l. one_given x (get_or bs x d) (let k = c.count in omega arith) (c.each x d l);
     }
+
+  -- ---- what they may be
+
+  module _ (q : Automaton) (t : State) where
+    same_given : (b c : Owned) → SameOwned b c → (e : Document) → RunsGive false q m n t b e → RunsGive false q m n t c e
+    same_given b c h e g = record {
+      given = record {
+        document = g.given.document;
+        proper = g.given.proper;
+        run = g.given.run;
+        accepting = g.given.accepting;
+        gives = ap (λ r. held g.given.document r) (sym (trace_same m.states.auto b c h (state_of m n) g.given.run)) ∙ g.given.gives;
+      };
+      alone = g.alone;
+    }
+
+    tells_alone : (x : List ℕ) → has_word (variables_of (unplaced P)) x ≡ true → (e : Document) → is_proper e ≡ true → RunsGive false q m n t (moves_of (marking_of_program m.compiled) x) e ↔ MayBind E (Accepted q t) [] P x e
+    tells_alone x there e proper =
+        let a = m.states.auto in
+        let s = state_of m n in
+        let k = marking_of_program m.compiled in
+        let law = tells E P a k s (numbered_state E (unplaced P) m n i).compiled x (sym (variables_have (unplaced P) x) ∙ there) q t e proper in (
+          λ g. law.0 (record { given = g.given; accepted = (alone_parts (accepts q g.given.document t) (accepts a g.given.document s) g.alone).0 }),
+          λ y. let g = law.1 y in record {
+            given = g.given;
+            alone = alone_joined (accepts q g.given.document t) (accepts a g.given.document s) g.accepted ((runs_law a s g.given.document).1 (g.given.run, g.given.accepting));
+          },
+        )
+
+    pub all_may_bind : (made : Automaton) (bs : List Given) → AreRunsGivens false q m n t made bs → AreMayGivens E (Accepted q t) [] P made bs
+    all_may_bind made bs c = all_given (MayBind E (Accepted q t) [] P) (RunsGive false q m n t) same_given tells_alone made bs c
+
+-- what is found tells that the clause is live
+pub found_live : {X : Type 0} (m : CompiledPatterns) (n : ℕ) (q : Automaton) (t : State) (o : Option X) → IfSome o (λ gs. IsSharedAlone q m.states t (state_of m n) []) →
+    IfSome o (λ gs. (E : Definitions) (P : PlacedTree) → IsNumbered E (unplaced P) m n → IsLive E (Accepted q t) [] P)
+found_live m n q t None h = h
+found_live m n q t (Some gs) h = λ E P i. some_comes E P m n i q t h

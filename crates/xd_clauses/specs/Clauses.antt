@@ -1,21 +1,15 @@
--- Patterns of clauses as automata, and what their variables may be.
+-- What states accept, and what the variables of clauses may be.
 use Rattle.std.specs.Prelude.{◌≡◌, ◌↔◌, ℕ, true, List, map}
 use Rattle.std.specs.List.{All}
 use Rattle.xd_doc.specs.Document.{Document, is_proper}
 use Rattle.xd_auto.specs.declared.auto.State.{State}
 use Rattle.xd_auto.specs.Automaton.{Automaton, IsState, accepts}
-use Rattle.xd_syntax.specs.Tree.{Tree, Definitions}
+use Rattle.xd_syntax.specs.Tree.{Definitions}
 use Rattle.xd_syntax.specs.Placed.{PlacedTree, unplaced}
 use Rattle.xd_meaning.specs.Bindings.{variables_of}
 use Rattle.xd_syntax.specs.May.{Allowance, MayBind}
 use Rattle.xd_bind.specs.declared.tracks.Binding.{Binding}
 use Rattle.xd_bind.specs.declared.tracks.Given.{Given}
-use Rattle.xd_clauses.specs.OfPatterns.{IsOfPattern}
-use Rattle.xd_clauses.specs.declared.pattern.ClausePattern.{ClausePattern}
-
--- the automaton is that of the pattern
-abbrev pub IsPatternOf : Definitions → Tree → ClausePattern → Type 0
-IsPatternOf E P made = IsOfPattern E P made.auto made.all made.marked
 
 -- what the state accepts
 abbrev pub Accepted : Automaton → State → Document → Type 0

@@ -1,11 +1,14 @@
 -- Patterns of a program that are compiled together.
 use Rattle.std.specs.Prelude.{◌≡◌, ℕ, ◌<◌, ◌&&◌, nat_lt, Bool, true, List, [], Some, length, get_or}
 use Rattle.std.specs.List.{AllByRecursion, slice_get}
+use Rattle.xd_doc.specs.Document.{Document}
 use Rattle.xd_auto.specs.declared.auto.State.{State}
 use Rattle.xd_auto.specs.Automaton.{Automaton}
 use Rattle.xd_auto_pairs.specs.declared.kind.MoveKind.TheVariants.{Label, Text}
 use Rattle.xd_auto_pairs.specs.Traces.{Owned}
 use Rattle.xd_auto_pairs.specs.Universal.{IsUniversal}
+use Rattle.xd_bind.specs.declared.tracks.Given.{Given}
+use Rattle.xd_given.specs.Given.{AreGivensFor, IsGivenAloneBy}
 use Rattle.xd_given.specs.Owning.{GivesAlike}
 use Rattle.xd_meaning.specs.KeptFaults.{AllPaired}
 use Rattle.xd_syntax.specs.Words.{has_word}
@@ -66,3 +69,12 @@ pub record IsSomePattern (m : CompiledPatterns) (n : ℕ) : Type 0 where
   pub names : Definitions
   pub tree : Tree
   pub numbered : IsNumbered names tree m n
+
+-- runs of the pattern's state, all runs or the first alone, give the owner of these moves this
+-- document, on one that another state accepts
+abbrev pub RunsGive : Bool → Automaton → CompiledPatterns → ℕ → State → Owned → Document → Type 0
+RunsGive first a m n arriving = IsGivenAloneBy first a m.states arriving (state_of m n) []
+
+-- for each variable of the pattern a state that accepts exactly what runs give it
+abbrev pub AreRunsGivens : Bool → Automaton → CompiledPatterns → ℕ → State → Automaton → List Given → Type 0
+AreRunsGivens first a m n arriving = AreGivensFor (RunsGive first a m n arriving) (word_moves m.compiled (variables_at m n)) (variables_at m n)

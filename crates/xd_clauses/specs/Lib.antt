@@ -1,6 +1,4 @@
-pub mod Whole
 pub mod Owning
-pub mod OfPatterns
 pub mod Clauses
 pub mod Cases
 pub mod Laws

@@ -1,6 +1,6 @@
 //! What a state accepts, at the clauses of a match.
 
-ghost use Rattle.std.specs.Prelude.{◌≡◌, ◌↔◌, ◌^◌, List, true, false, [], Ok, None, IfOk, IfSome, map};
+ghost use Rattle.std.specs.Prelude.{◌≡◌, ◌↔◌, ◌≤◌, ◌^◌, List, true, false, [], Ok, None, IfOk, IfSome, length, map, take};
 ghost use Rattle.std.specs.List.{All, AllByRecursion};
 ghost use Rattle.xd_doc.specs.Document.{Document};
 ghost use Rattle.xd_doc.specs.LeastUpTo.{IsLeastUpTo};
@@ -9,20 +9,22 @@ ghost use Rattle.xd_doc.specs.StoredSeq.{BelongsTo};
 ghost use Rattle.xd_doc.specs.StoreNodes.{Keeps};
 ghost use Rattle.xd_auto.specs.Automaton.{Automaton, Extends, IsState, KeepsAccepting};
 ghost use Rattle.xd_least.specs.Least.{Knows, size_limit};
+ghost use Rattle.xd_points.specs.Meaning.{ServePoints};
 ghost use Rattle.xd_syntax.specs.Kept.{AddsTypes, program_tree};
 ghost use Rattle.xd_syntax.specs.May.{IsLive, NoneTakes};
 ghost use Rattle.xd_syntax.specs.Placed.{PlacedTree, unplaced};
 ghost use Rattle.xd_syntax.specs.Program.{names_of};
 ghost use Rattle.xd_syntax.specs.ShallowTables.{IsShallow};
+ghost use Rattle.xd_syntax.specs.Table.{Row};
 ghost use Rattle.xd_syntax.specs.Tree.{Definitions};
 ghost use Rattle.xd_meaning.specs.KeptFaults.{AllPaired};
-ghost use Rattle.xd_patterns.specs.Compiler.{Serves};
 ghost use Rattle.xd_clauses.specs.Cases.{HasOwnAutomaton, IsGivenNothing, placed_pattern, placed_patterns};
 ghost use Rattle.xd_patterns.specs.CompiledProgram.{IsLinearPattern};
-ghost use Rattle.xd_clauses.specs.Clauses.{Accepted, AreMayBindings, AreMayGivens, IsPatternOf};
+ghost use Rattle.xd_clauses.specs.Clauses.{Accepted, AreMayBindings, AreMayGivens};
+ghost use Rattle.xd_clauses.specs.Compiled.{ArePatterns, IsNumbered, IsSomePattern};
 
 use crate::compiled::CompiledPatterns;
-use crate::pattern::ClausePattern;
+use crate::numbered::NumberedPattern;
 use std::alloc::Global;
 use xd_auto::{Auto, State};
 use xd_bind::{Binding, Given};
@@ -60,45 +62,45 @@ pub fn accepted_document(
     }
 }
 
-/// Adds a state that accepts what the state accepts and none of the patterns takes.
-fn left_over(
+/// These patterns, compiled together. Fails only where memory is refused; the program may have more
+/// types then, and nothing else in it changes.
+fn compiled_of(
     alloc: Global,
-    compiler: &PatternCompiler,
-    sound: &SoundProgram,
-    patterns: &[PatternId],
-    auto: &mut Auto,
-    state: State,
-) -> Result<State, NoMemory>
-    requires serves { Serves sound.now compiler.now }
-    requires patterns { All (IsLinearPattern sound.now.patterns) patterns.now }
-    requires state { IsState auto.old state }
-    ensures belongs { IfOk result (IsState auto.new) }
-    ensures exact { IfOk result (λ left. (d : Document) → Accepted auto.new left d ↔ (Accepted auto.old state d × NoneTakes (names_of (program_tree sound.now)) (placed_patterns sound.now.patterns patterns.now) d)) }
+    sound: &mut SoundProgram,
+    ids: Vec<PatternId>,
+) -> Result<CompiledPatterns, NoMemory>
+    requires { AllByRecursion (IsLinearPattern sound.old.patterns) ids.items }
+    ensures patterns { IfOk result (ArePatterns (names_of (program_tree sound.old)) sound.old.patterns) }
+    ensures ids { IfOk result (λ made. made.ids ≡ ids) }
+    ensures serve { IfOk result (λ made. (a : Automaton) → ServePoints a made.states) }
+    ensures adds { AddsTypes sound.old sound.new }
+    ensures same { program_tree sound.new ≡ program_tree sound.old }
+    ensures shallow { IsShallow sound.old.types → IsShallow sound.new.types }
 {
-    let ids = patterns.to_vec(alloc)?;
-    let compiled = CompiledPatterns::alone(alloc, compiler, sound, ids)?;
-    let left = compiled.take_all_away(alloc, auto, state)?;
-    Ok(left)
+    let compiler = PatternCompiler::new(alloc, sound)?;
+    let made = CompiledPatterns::alone(alloc, &compiler, sound, ids)?;
+    Ok(made)
 }
 
-/// The same in an automaton of its own.
+/// A state, in an automaton of its own, for what the state accepts and none of the first patterns
+/// takes, so many of them.
 fn left_behind(
     alloc: Global,
-    compiler: &PatternCompiler,
-    sound: &SoundProgram,
-    patterns: &[PatternId],
+    patterns: &CompiledPatterns,
+    count: usize,
     auto: &Auto,
     state: State,
 ) -> Result<(Auto, State), NoMemory>
-    requires serves { Serves sound.now compiler.now }
-    requires patterns { All (IsLinearPattern sound.now.patterns) patterns.now }
+    requires patterns { (E : Definitions) × (rows : List Row) × ArePatterns E rows patterns.now }
+    requires count { count ≤ length patterns.now.ids.items }
+    requires serve { (a : Automaton) → ServePoints a patterns.now.states }
     requires state { IsState auto.now state }
     ensures belongs { IfOk result (λ left. IsState left.0 left.1) }
-    ensures exact { IfOk result (λ left. (d : Document) → Accepted left.0 left.1 d ↔ (Accepted auto.now state d × NoneTakes (names_of (program_tree sound.now)) (placed_patterns sound.now.patterns patterns.now) d)) }
+    ensures exact { IfOk result (λ left. (E : Definitions) (rows : List Row) → ArePatterns E rows patterns.now → (d : Document) → Accepted left.0 left.1 d ↔ (Accepted auto.now state d × NoneTakes E (placed_patterns rows (take count patterns.now.ids.items)) d)) }
 {
     let mut own = Auto::new(alloc);
     let start = own.absorb(auto, state)?;
-    let left = left_over(alloc, compiler, sound, patterns, &mut own, start)?;
+    let left = patterns.take_first_away(alloc, &mut own, start, count)?;
     Ok((own, left))
 }
 
@@ -127,19 +129,21 @@ pub fn given_nothing(
 /// takes none of these.
 fn givens_of(
     alloc: Global,
-    clause: &ClausePattern,
+    pattern: NumberedPattern<'_>,
     auto: &mut Auto,
     arriving: State,
 ) -> Result<Vec<Given>, NoMemory>
-    requires { IsState auto.old arriving }
-    ensures { IfOk result (λ givens. (E : Definitions) (P : PlacedTree) → IsPatternOf E (unplaced P) clause.now → AreMayGivens E (Accepted auto.old arriving) [] P auto.new givens.items) }
+    requires pattern { IsSomePattern pattern.patterns.now pattern.number }
+    requires serve { ServePoints auto.old pattern.patterns.now.states }
+    requires arriving { IsState auto.old arriving }
+    ensures { IfOk result (λ givens. (E : Definitions) (P : PlacedTree) → IsNumbered E (unplaced P) pattern.entry.patterns.now pattern.entry.number → AreMayGivens E (Accepted auto.old arriving) [] P auto.new givens.items) }
 {
     let mut known = LeastInhabitants::new(alloc);
     let mut store = Store::new(alloc);
-    match clause.bindings(alloc, auto, arriving, &mut known, &mut store)? {
+    match pattern.bindings(alloc, auto, arriving, &mut known, &mut store)? {
         Some(givens) => Ok(givens),
         None => {
-            let givens = given_nothing(alloc, clause.marked.variables(), auto)?;
+            let givens = given_nothing(alloc, pattern.variables(), auto)?;
             Ok(givens)
         }
     }
@@ -164,36 +168,41 @@ pub fn apart(alloc: Global, auto: &Auto, givens: &[Given]) -> Result<Vec<Binding
 }
 
 /// What comes to a clause: a state of an automaton of its own for the documents that no earlier
-/// pattern takes, and the clause's pattern.
+/// pattern takes, and the clause's pattern, by its number among compiled ones.
 #[derive(Drop)]
 pub struct Arrival {
     pub auto: Auto,
     pub state: State,
-    pub clause: ClausePattern,
+    pub patterns: CompiledPatterns,
+    pub number: usize,
 }
 
 impl Arrival {
     /// What the variables of the pattern may be.
     fn bindings(&mut self, alloc: Global) -> Result<Vec<Binding>, NoMemory>
         requires state { IsState self.old.auto self.old.state }
-        requires clause { (E : Definitions) × (P : PlacedTree) × IsPatternOf E (unplaced P) self.old.clause }
-        ensures { (E : Definitions) (b : Automaton) (s : State) (Ps : List PlacedTree) (P : PlacedTree) → IsPatternOf E (unplaced P) self.old.clause → ((d : Document) → Accepted self.old.auto self.old.state d ↔ (Accepted b s d × NoneTakes E Ps d)) → IfOk result (λ bindings. AreMayBindings E (Accepted b s) Ps P bindings.items) }
+        requires serve { ServePoints self.old.auto self.old.patterns.states }
+        requires pattern { (E : Definitions) × (P : PlacedTree) × IsNumbered E (unplaced P) self.old.patterns self.old.number }
+        ensures { (E : Definitions) (b : Automaton) (s : State) (Ps : List PlacedTree) (P : PlacedTree) → IsNumbered E (unplaced P) self.old.patterns self.old.number → ((d : Document) → Accepted self.old.auto self.old.state d ↔ (Accepted b s d × NoneTakes E Ps d)) → IfOk result (λ bindings. AreMayBindings E (Accepted b s) Ps P bindings.items) }
     {
-        let givens = givens_of(alloc, &self.clause, &mut self.auto, self.state)?;
+        let pattern = self.patterns.pattern(self.number);
+        let givens = givens_of(alloc, pattern, &mut self.auto, self.state)?;
         let bindings = apart(alloc, &self.auto, &givens)?;
         Ok(bindings)
     }
 
     /// Whether the pattern takes some document that comes.
     fn is_live(&mut self, alloc: Global) -> Result<bool, NoMemory>
-        requires { IsState self.old.auto self.old.state }
-        ensures live { (E : Definitions) (b : Automaton) (s : State) (Ps : List PlacedTree) (P : PlacedTree) → IsPatternOf E (unplaced P) self.old.clause → ((d : Document) → Accepted self.old.auto self.old.state d ↔ (Accepted b s d × NoneTakes E Ps d)) → result ≡ Ok true → IsLive E (Accepted b s) Ps P }
-        ensures dead { (E : Definitions) (b : Automaton) (s : State) (Ps : List PlacedTree) (P : PlacedTree) → IsPatternOf E (unplaced P) self.old.clause → ((d : Document) → Accepted self.old.auto self.old.state d ↔ (Accepted b s d × NoneTakes E Ps d)) → result ≡ Ok false → IsLive E (Accepted b s) Ps P → ⊥ }
+        requires state { IsState self.old.auto self.old.state }
+        requires serve { ServePoints self.old.auto self.old.patterns.states }
+        requires pattern { IsSomePattern self.old.patterns self.old.number }
+        ensures live { (E : Definitions) (b : Automaton) (s : State) (Ps : List PlacedTree) (P : PlacedTree) → IsNumbered E (unplaced P) self.old.patterns self.old.number → ((d : Document) → Accepted self.old.auto self.old.state d ↔ (Accepted b s d × NoneTakes E Ps d)) → result ≡ Ok true → IsLive E (Accepted b s) Ps P }
+        ensures dead { (E : Definitions) (b : Automaton) (s : State) (Ps : List PlacedTree) (P : PlacedTree) → IsNumbered E (unplaced P) self.old.patterns self.old.number → ((d : Document) → Accepted self.old.auto self.old.state d ↔ (Accepted b s d × NoneTakes E Ps d)) → result ≡ Ok false → IsLive E (Accepted b s) Ps P → ⊥ }
     {
         let mut known = LeastInhabitants::new(alloc);
         let mut store = Store::new(alloc);
-        let clause = &self.clause;
-        let found = clause.bindings(alloc, &mut self.auto, self.state, &mut known, &mut store)?;
+        let pattern = self.patterns.pattern(self.number);
+        let found = pattern.bindings(alloc, &mut self.auto, self.state, &mut known, &mut store)?;
         Ok(found.is_some())
     }
 }
@@ -213,19 +222,23 @@ pub fn arriving(
     requires earlier { All (IsLinearPattern sound.old.patterns) earlier.now }
     requires pattern { IsLinearPattern sound.old.patterns pattern }
     ensures belongs { IfOk result (λ arrival. IsState arrival.auto arrival.state) }
+    ensures serve { IfOk result (λ arrival. ServePoints arrival.auto arrival.patterns.states) }
     ensures exact { IfOk result (λ arrival. (d : Document) → Accepted arrival.auto arrival.state d ↔ (Accepted auto.now state d × NoneTakes (names_of (program_tree sound.old)) (placed_patterns sound.old.patterns earlier.now) d)) }
-    ensures clause { IfOk result (λ arrival. IsPatternOf (names_of (program_tree sound.old)) (unplaced (placed_pattern sound.old.patterns pattern)) arrival.clause) }
+    ensures pattern { IfOk result (λ arrival. IsNumbered (names_of (program_tree sound.old)) (unplaced (placed_pattern sound.old.patterns pattern)) arrival.patterns arrival.number) }
     ensures adds { AddsTypes sound.old sound.new }
     ensures same { program_tree sound.new ≡ program_tree sound.old }
     ensures shallow { IsShallow sound.old.types → IsShallow sound.new.types }
 {
-    let compiler = PatternCompiler::new(alloc, sound)?;
-    let clause = ClausePattern::new(alloc, &compiler, sound, pattern)?;
-    let (auto, state) = left_behind(alloc, &compiler, sound, earlier, auto, state)?;
+    let number = earlier.len();
+    let mut ids = earlier.to_vec(alloc)?;
+    ids.push(pattern)?;
+    let patterns = compiled_of(alloc, sound, ids)?;
+    let (auto, state) = left_behind(alloc, &patterns, number, auto, state)?;
     Ok(Arrival {
         auto,
         state,
-        clause,
+        patterns,
+        number,
     })
 }
 
@@ -254,6 +267,28 @@ pub fn case_types(
     arrival.bindings(alloc)
 }
 
+/// A state, in an automaton of its own, for what the state accepts and no pattern takes.
+fn left_over(
+    alloc: Global,
+    sound: &mut SoundProgram,
+    auto: &Auto,
+    state: State,
+    patterns: &[PatternId],
+) -> Result<(Auto, State), NoMemory>
+    requires state { IsState auto.now state }
+    requires patterns { All (IsLinearPattern sound.old.patterns) patterns.now }
+    ensures belongs { IfOk result (λ left. IsState left.0 left.1) }
+    ensures exact { IfOk result (λ left. (d : Document) → Accepted left.0 left.1 d ↔ (Accepted auto.now state d × NoneTakes (names_of (program_tree sound.old)) (placed_patterns sound.old.patterns patterns.now) d)) }
+    ensures adds { AddsTypes sound.old sound.new }
+    ensures same { program_tree sound.new ≡ program_tree sound.old }
+    ensures shallow { IsShallow sound.old.types → IsShallow sound.new.types }
+{
+    let ids = patterns.to_vec(alloc)?;
+    let compiled = compiled_of(alloc, sound, ids)?;
+    let (own, left) = left_behind(alloc, &compiled, patterns.len(), auto, state)?;
+    Ok((own, left))
+}
+
 /// A document that the state accepts and no pattern takes, a least one, where there is one.
 ///
 /// Where each such document has 2^63 items or more, it is one of these. The patterns are linear, as
@@ -277,8 +312,7 @@ pub fn uncovered(
     ensures same { program_tree sound.new ≡ program_tree sound.old }
     ensures shallow { IsShallow sound.old.types → IsShallow sound.new.types }
 {
-    let compiler = PatternCompiler::new(alloc, sound)?;
-    let (own, left) = left_behind(alloc, &compiler, sound, patterns, auto, state)?;
+    let (own, left) = left_over(alloc, sound, auto, state, patterns)?;
     let mut known = LeastInhabitants::new(alloc);
     let found = accepted_document(alloc, &own, left, &mut known, store)?;
     Ok(found)

@@ -1,6 +1,6 @@
 //! The patterns of clauses, compiled together.
 
-ghost use Rattle.std.specs.Prelude.{◌≡◌, ◌↔◌, ◌&&◌, not, List, Some, IfOk, IfSome};
+ghost use Rattle.std.specs.Prelude.{◌≡◌, ◌↔◌, ◌≤◌, ◌&&◌, not, List, Some, length, take, IfOk, IfSome};
 ghost use Rattle.std.specs.List.{AllByRecursion, slice_get};
 ghost use Rattle.xd_doc.specs.Document.{Document};
 ghost use Rattle.xd_auto.specs.Automaton.{Automaton, Extends, IsState, accepts};
@@ -227,21 +227,24 @@ impl CompiledPatterns {
         Ok(made)
     }
 
-    /// Adds a state for what a state accepts and none of the patterns takes.
-    pub(crate) fn take_all_away(
+    /// Adds a state for what a state accepts and none of the first patterns takes, so many of them.
+    pub(crate) fn take_first_away(
         &self,
         alloc: Global,
         auto: &mut Auto,
         state: State,
+        count: usize,
     ) -> Result<State, NoMemory>
         requires patterns { (E : Definitions) × (rows : List Row) × ArePatterns E rows self.now }
+        requires count { count ≤ length self.now.ids.items }
         requires serve { ServePoints auto.old self.now.states }
         requires state { IsState auto.old state }
         ensures belongs { IfOk result (IsState auto.new) }
-        ensures exact { IfOk result (λ made. (E : Definitions) (rows : List Row) → ArePatterns E rows self.now → (d : Document) → Accepted auto.new made d ↔ (Accepted auto.old state d × NoneTakes E (placed_patterns rows self.now.ids.items) d)) }
+        ensures exact { IfOk result (λ made. (E : Definitions) (rows : List Row) → ArePatterns E rows self.now → (d : Document) → Accepted auto.new made d ↔ (Accepted auto.old state d × NoneTakes E (placed_patterns rows (take count self.now.ids.items)) d)) }
         ensures extends { Extends auto.old auto.new }
     {
-        let left = self.take_away(alloc, auto, state, self.compiled.patterns())?;
+        let firsts = &self.compiled.patterns()[..count];
+        let left = self.take_away(alloc, auto, state, firsts)?;
         Ok(left)
     }
 

@@ -5,19 +5,14 @@ mod begins;
 mod behind;
 mod cases;
 mod compiled;
-mod held;
 mod laws;
 mod numbered;
 mod owner;
-mod pattern;
-mod whole;
 
 pub use behind::Remaining;
 pub use cases::{
     Arrival, accepted_document, apart, arriving, case_types, given_nothing, live, uncovered,
 };
 pub use compiled::CompiledPatterns;
-pub use held::Held;
 pub use laws::patterns_tell_variables;
 pub use numbered::NumberedPattern;
-pub use pattern::ClausePattern;

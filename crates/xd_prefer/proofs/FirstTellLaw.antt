@@ -13,14 +13,18 @@ use Rattle.xd_syntax.specs.Placed.{PlacedTree, unplaced}
 use Rattle.xd_meaning.specs.Bindings.{variables_of, bound_to, bindings_in}
 use Rattle.xd_meaning.specs.FirstMatch.{first}
 use Rattle.xd_meaning.specs.Meaning.{Environment, looked_up}
+use Rattle.xd_laws.proofs.DecisionLemmas.{first_way}
 use Rattle.xd_pattern_runs.specs.Runs as runs
 use Rattle.xd_pattern_runs.specs.Runs.{Run}
 use Rattle.xd_pattern_runs.specs.Laws.{first_of, run_bindings}
 use Rattle.xd_auto_pairs.specs.Traces.{held, trace_of}
+use Rattle.xd_points.specs.declared.patterns.PatternStates.{PatternStates}
+use Rattle.xd_given.specs.Given.{IsFirstGivenAlone}
 use Rattle.xd_patterns.specs.Marked.{Marking, IsCompiled, with_marks}
+use Rattle.xd_clauses.specs.Clauses.{Accepted}
 use Rattle.xd_clauses.specs.Owning.{moves_of}
 use Rattle.xd_clauses.proofs.Forms.{same_trace, held_same}
-use Rattle.xd_prefer.specs.FirstRuns.{IsGivenFirst}
+use Rattle.xd_clauses.proofs.NumberedLemmas.{alone_joined, alone_parts}
 use Rattle.xd_prefer.specs.Preferred.{Prefers}
 
 same_word : (x y : List ℕ) → bytes_eq x y ≡ true → x ≡ y
@@ -73,48 +77,50 @@ mapped_some : {A B : Type 0} (f : A → B) (o : Option A) (b : B) → option_map
 mapped_some f None b e = absurd (cc)
 mapped_some f (Some a) b e = (a, refl, let same : f a ≡ b = cc in same)
 
-module _ (E : Definitions) (P : PlacedTree) (a : Automaton) (k : Marking) (s : State) (c : IsCompiled E (unplaced P) a k s) (x : List ℕ) (there : has_word (variables_of (unplaced P)) x ≡ true) where
-  held_is : (d : Document) (run : Numbered.Run) → runs.held x d (with_marks a k s run) ≡ held d (trace_of a (moves_of k x) s run)
-  held_is d run = held_same x d (with_marks a k s run) ∙ ap (held d) (sym (same_trace a k x s run))
+module _ (E : Definitions) (P : PlacedTree) (p : PatternStates) (k : Marking) (s : State) (c : IsCompiled E (unplaced P) p.auto k s) (x : List ℕ) (there : has_word (variables_of (unplaced P)) x ≡ true) where
+  held_is : (d : Document) (run : Numbered.Run) → runs.held x d (with_marks p.auto k s run) ≡ held d (trace_of p.auto (moves_of k x) s run)
+  held_is d run = held_same x d (with_marks p.auto k s run) ∙ ap (held d) (sym (same_trace p.auto k x s run))
 
   -- the first run and the first match give the variable the same
-  both_give : (d : Document) (run : Numbered.Run) (bs : Environment) → run_bindings (variables_of (unplaced P)) d (with_marks a k s run) ≡ bindings_in (variables_of (unplaced P)) bs
-      → looked_up bs x ≡ Some (held d (trace_of a (moves_of k x) s run))
+  both_give : (d : Document) (run : Numbered.Run) (bs : Environment) → run_bindings (variables_of (unplaced P)) d (with_marks p.auto k s run) ≡ bindings_in (variables_of (unplaced P)) bs
+      → looked_up bs x ≡ Some (held d (trace_of p.auto (moves_of k x) s run))
   both_give d run bs same =
       sym (looked_up-in bs (variables_of (unplaced P)) x there) ∙ ap (λ (vs : Environment). looked_up vs x) (sym same)
-      ∙ looked_up-run (variables_of (unplaced P)) d (with_marks a k s run) x there ∙ ap (λ e. Some e) (held_is d run)
+      ∙ looked_up-run (variables_of (unplaced P)) d (with_marks p.auto k s run) x there ∙ ap (λ e. Some e) (held_is d run)
 
-  pub prefers : (other : Automaton) (t : State) (e : Document) → is_proper e ≡ true → IsGivenFirst a other (moves_of k x) s t e → Prefers E (λ d. accepts other d t ≡ true) [] P x e
-  prefers other t e proper g =
+  pub prefers : (q : Automaton) (t : State) (e : Document) → is_proper e ≡ true → IsFirstGivenAlone q p (moves_of k x) t s [] e → Prefers E (Accepted q t) [] P x e
+  prefers q t e proper g =
       let d = g.document in
       let vars = variables_of (unplaced P) in
-      let given : option_map (bindings_in vars) (first E (unplaced P) d) ≡ Some (run_bindings vars d (with_marks a k s g.run)) =
-      sym (c.first_match d) ∙ ap (option_map (run_bindings vars d)) (first_marked (with_marks a k s) (Numbered.runs a d s) g.run g.first) in
-      let m = mapped_some (bindings_in vars) (first E (unplaced P) d) (run_bindings vars d (with_marks a k s g.run)) given in
+      let given : option_map (bindings_in vars) (first E (unplaced P) d) ≡ Some (run_bindings vars d (with_marks p.auto k s g.run)) =
+      sym (c.first_match d) ∙ ap (option_map (run_bindings vars d)) (first_marked (with_marks p.auto k s) (Numbered.runs p.auto d s) g.run g.first) in
+      let m = mapped_some (bindings_in vars) (first E (unplaced P) d) (run_bindings vars d (with_marks p.auto k s g.run)) given in
       let is : looked_up m.0 x ≡ Some e = both_give d g.run m.0 (sym m.2) ∙ ap (λ w. Some w) g.gives in
-      (d, (g.proper proper, g.accepted, tt), subst (λ (o : Option Environment). IsSomeAnd o (λ bs. looked_up bs x ≡ Some e)) (sym m.1) is)
+      let comes : accepts q d t ≡ true = (alone_parts (accepts q d t) (accepts p.auto d s) g.alone).0 in
+      (d, (g.proper proper, comes, tt), subst (λ (o : Option Environment). IsSomeAnd o (λ bs. looked_up bs x ≡ Some e)) (sym m.1) is)
 
-  pub preferred : (other : Automaton) (t : State) (e : Document) → Prefers E (λ d. accepts other d t ≡ true) [] P x e → IsGivenFirst a other (moves_of k x) s t e
-  preferred other t e p = go (first E (unplaced P) p.0) refl p.2
+  pub preferred : (q : Automaton) (t : State) (e : Document) → Prefers E (Accepted q t) [] P x e → IsFirstGivenAlone q p (moves_of k x) t s [] e
+  preferred q t e w = go (first E (unplaced P) w.0) refl w.2
     where
-      go : (o : Option Environment) → first E (unplaced P) p.0 ≡ o → IsSomeAnd o (λ bs. looked_up bs x ≡ Some e) → IsGivenFirst a other (moves_of k x) s t e
+      go : (o : Option Environment) → first E (unplaced P) w.0 ≡ o → IsSomeAnd o (λ bs. looked_up bs x ≡ Some e) → IsFirstGivenAlone q p (moves_of k x) t s [] e
       go None f h = absurd h
       go (Some bs) f h =
-          let d = p.0 in
+          let d = w.0 in
           let vars = variables_of (unplaced P) in
-          let given : option_map (run_bindings vars d) (first_of (map (with_marks a k s) (Numbered.runs a d s))) ≡ Some (bindings_in vars bs) =
+          let given : option_map (run_bindings vars d) (first_of (map (with_marks p.auto k s) (Numbered.runs p.auto d s))) ≡ Some (bindings_in vars bs) =
           c.first_match d ∙ ap (option_map (bindings_in vars)) f in
-          let m = mapped_some (run_bindings vars d) (first_of (map (with_marks a k s) (Numbered.runs a d s))) (bindings_in vars bs) given in
-          let z = some_first (with_marks a k s) (Numbered.runs a d s) m.0 m.1 in
-          let same : run_bindings vars d (with_marks a k s z.0) ≡ bindings_in vars bs = ap (run_bindings vars d) z.2 ∙ m.2 in
-          let found : Some (held d (trace_of a (moves_of k x) s z.0)) ≡ Some e = sym (both_give d z.0 bs same) ∙ h in
+          let m = mapped_some (run_bindings vars d) (first_of (map (with_marks p.auto k s) (Numbered.runs p.auto d s))) (bindings_in vars bs) given in
+          let z = some_first (with_marks p.auto k s) (Numbered.runs p.auto d s) m.0 m.1 in
+          let same : run_bindings vars d (with_marks p.auto k s z.0) ≡ bindings_in vars bs = ap (run_bindings vars d) z.2 ∙ m.2 in
+          let found : Some (held d (trace_of p.auto (moves_of k x) s z.0)) ≡ Some e = sym (both_give d z.0 bs same) ∙ h in
+          let way = first_way E (unplaced P) d bs f in
           record {
             document = d;
-            proper = λ _. (p.1).0;
+            proper = λ _. (w.1).0;
             run = z.0;
             first = z.1;
-            gives = one_some (held d (trace_of a (moves_of k x) s z.0)) e found;
-            accepted = (p.1).1;
+            gives = one_some (held d (trace_of p.auto (moves_of k x) s z.0)) e found;
+            alone = alone_joined (accepts q d t) (accepts p.auto d s) (w.1).1 ((c.accepts d).1 (way.0, way.1));
           }
         where
           one_some : (u v : Document) → ◌≡◌ {A = Option Document} (Some u) (Some v) → u ≡ v

@@ -1,5 +1,5 @@
 -- What the variables of a clause are given by first matches.
-use Rattle.std.proofs.Common.{◌≡◌, ◌↔◌, ℕ, ◌<◌, true, List, [], length, get_or, Option, Some, None, IsSomeAnd, arith, refl, ap, sym, subst, ◌∙◌}
+use Rattle.std.proofs.Common.{◌≡◌, ◌↔◌, ℕ, true, List, [], Option, Some, None, IsSomeAnd, refl, ap, sym, ◌∙◌}
 use Rattle.xd_doc.specs.Document.{Document, is_proper}
 use Rattle.xd_auto.specs.declared.auto.State.{State}
 use Rattle.xd_auto.specs.Automaton.{Automaton}
@@ -14,56 +14,37 @@ use Rattle.xd_meaning.specs.Meaning.{Environment, looked_up}
 use Rattle.xd_laws.proofs.DecisionLemmas.{first_way}
 use Rattle.xd_auto_pairs.specs.Traces.{Owned, held}
 use Rattle.xd_bind.specs.declared.tracks.Given.{Given}
-use Rattle.xd_bind.proofs.SameOwned.{SameOwned, same_back, trace_same}
-use Rattle.xd_patterns.specs.Held.{marking_of, variables_in}
-use Rattle.xd_patterns.specs.declared.marked.Marked.{Marked}
-use Rattle.xd_patterns.proofs.VariableLemmas.{among_word}
-use Rattle.xd_clauses.specs.Clauses.{Accepted, AreGivensOf, IsGivenOf}
-use Rattle.xd_clauses.specs.OfPatterns.{IsOfPattern}
-use Rattle.xd_clauses.specs.Owning.{moves_of, moves_of_number}
-use Rattle.xd_clauses.specs.Whole.{without}
-use Rattle.xd_clauses.proofs.AreMayGivensLemmas.{got_among, got_word, same_words}
-use Rattle.xd_clauses.proofs.OwnedLemmas.{same_moves}
-use Rattle.xd_prefer.specs.FirstCases.{AreFirstCases, IsFirstCaseOf}
-use Rattle.xd_prefer.specs.FirstRuns.{IsGivenFirst}
+use Rattle.xd_bind.proofs.SameOwned.{SameOwned, trace_same}
+use Rattle.xd_patterns.specs.CompiledProgram.{marking_of_program}
+use Rattle.xd_clauses.specs.Clauses.{Accepted, AreGivensOf}
+use Rattle.xd_clauses.specs.Compiled.{AreRunsGivens, IsNumbered, RunsGive, state_of}
+use Rattle.xd_clauses.specs.Owning.{moves_of}
+use Rattle.xd_clauses.specs.declared.compiled.CompiledPatterns.{CompiledPatterns}
+use Rattle.xd_clauses.proofs.NumberedLemmas.{all_given, numbered_state}
 use Rattle.xd_prefer.specs.Preferred.{Prefers}
 use Rattle.xd_prefer.proofs.FirstTellLaw.{preferred, prefers}
 
--- what the same moves give
-first_same : (p q : Automaton) (b c : Owned) (h : SameOwned b c) (one two : State) (e : Document) → IsGivenFirst p q b one two e → IsGivenFirst p q c one two e
-first_same p q b c h one two e g = record {
-  document = g.document;
-  proper = g.proper;
-  run = g.run;
-  first = g.first;
-  gives = ap (λ t. held g.document t) (sym (trace_same p b c h one g.run)) ∙ g.gives;
-  accepted = g.accepted;
-}
-
-module _ (E : Definitions) (P : PlacedTree) (a : Automaton) (all : State) (m : Marked) (p : IsOfPattern E (unplaced P) a all m) (q : Automaton) (t : State) (made : Automaton) where
-  is_preferred : (x : ℕ) (b : Given) → x < length (variables_in m) → IsFirstCaseOf a (moves_of_number m all) m.start (variables_in m) q t made x b → IsGivenOf (Prefers E (Accepted q t) [] P) made b
-  is_preferred x b h c =
-      let vs = variables_in m in
-      let w = get_or vs x [] in
-      let k = without all (marking_of m) in
-      let e : w ≡ b.variable = got_word vs x b.variable c.variable in
-      let there : has_word (variables_of (unplaced P)) b.variable ≡ true = sym (ap (λ ws. has_word ws b.variable) p.variables) ∙ among_word vs b.variable (got_among vs x b.variable c.variable) in
-      let same = same_moves m all x h in
-      record {
-        belongs = c.belongs;
-        exact = λ d proper. (
-          λ y. prefers E P a k m.start p.compiled b.variable there q t d proper
-              (subst (λ v. IsGivenFirst a q (moves_of k v) m.start t d) e (first_same a q (moves_of_number m all x) (moves_of k w) same m.start t d ((c.cases d).0 y))),
-          λ y. (c.cases d).1 (first_same a q (moves_of k w) (moves_of_number m all x) (same_back (moves_of_number m all x) (moves_of k w) same) m.start t d
-              (subst (λ v. IsGivenFirst a q (moves_of k v) m.start t d) (sym e) (preferred E P a k m.start p.compiled b.variable there q t d y))),
-        );
-      }
-
-  pub all_preferred : (bs : List Given) → AreFirstCases a (moves_of_number m all) m.start (variables_in m) q t made bs → AreGivensOf (Prefers E (Accepted q t) [] P) P made bs
-  all_preferred bs c = record {
-    variables = same_words bs (variables_in m) c.count (λ x d l. (c.each x d l).variable) ∙ p.variables;
-    each = λ x d l. is_preferred x (get_or bs x d) (let n = c.count in omega arith) (c.each x d l);
+module _ (E : Definitions) (P : PlacedTree) (m : CompiledPatterns) (n : ℕ) (i : IsNumbered E (unplaced P) m n) (q : Automaton) (t : State) where
+  -- what the same moves give
+  same_first : (b c : Owned) → SameOwned b c → (e : Document) → RunsGive true q m n t b e → RunsGive true q m n t c e
+  same_first b c h e g = record {
+    document = g.document;
+    proper = g.proper;
+    run = g.run;
+    first = g.first;
+    gives = ap (λ r. held g.document r) (sym (trace_same m.states.auto b c h (state_of m n) g.run)) ∙ g.gives;
+    alone = g.alone;
   }
+
+  tells_first : (x : List ℕ) → has_word (variables_of (unplaced P)) x ≡ true → (e : Document) → is_proper e ≡ true → RunsGive true q m n t (moves_of (marking_of_program m.compiled) x) e ↔ Prefers E (Accepted q t) [] P x e
+  tells_first x there e proper =
+      let k = marking_of_program m.compiled in
+      let s = state_of m n in
+      let c = (numbered_state E (unplaced P) m n i).compiled in
+      (λ g. prefers E P m.states k s c x there q t e proper g, λ w. preferred E P m.states k s c x there q t e w)
+
+  pub all_preferred : (made : Automaton) (bs : List Given) → AreRunsGivens true q m n t made bs → AreGivensOf (Prefers E (Accepted q t) [] P) P made bs
+  all_preferred made bs c = all_given E P m n i (Prefers E (Accepted q t) [] P) (RunsGive true q m n t) same_first tells_first made bs c
 
 -- ---- a pattern that takes nothing that comes
 

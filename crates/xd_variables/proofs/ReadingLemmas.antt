@@ -1,9 +1,7 @@
 -- What a reading gives depends on the documents that come to the clause alone, and is nothing where
 -- none does.
-use Rattle.std.proofs.Common.{◌≡◌, ◌↔◌, ℕ, Bool, true, false, arith, List, [], ◌∷◌, ◌++◌, map, length, Option, Result, IfOk, refl, ap, sym, subst, ◌∙◌, append-nil, append_assoc}
+use Rattle.std.proofs.Common.{◌≡◌, ◌↔◌, ℕ, Bool, true, false, arith, List, [], ◌∷◌, ◌++◌, map, length, refl, ap, sym, subst, ◌∙◌, append-nil, append_assoc}
 use Rattle.std.specs.List.{All, AllZip}
-use Rattle.std.specs.Option.{IfSome}
-use Rattle.std.proofs.lemmas.Result.{IfOk-weaker}
 use Rattle.std.proofs.lemmas.List.Elements.{All-head, All-tail}
 use Rattle.xd_base.specs.declared.Place.{Place}
 use Rattle.xd_doc.specs.Document.{Document}
@@ -21,7 +19,8 @@ use Rattle.xd_syntax.proofs.PlacedTrees.{unplaced_at}
 use Rattle.xd_bind.specs.declared.tracks.Given.{Given}
 use Rattle.xd_clauses.specs.Cases.{placed_pattern}
 use Rattle.xd_clauses.specs.Clauses.{AreGivensOf, IsGivenOf}
-use Rattle.xd_clauses.proofs.AreMayGivensLemmas.{if_some_map}
+use Rattle.xd_clauses.specs.Compiled.{IsNumbered}
+use Rattle.xd_clauses.specs.declared.compiled.CompiledPatterns.{CompiledPatterns}
 use Rattle.xd_check.specs.Scrutinees.{TellsLive}
 use Rattle.xd_check.specs.Walked.{ComesTo, Grows}
 use Rattle.xd_check.proofs.ClauseLemmas.{bind_from, bind_to, live_from, live_to}
@@ -54,18 +53,9 @@ gives_nothing First E A P dead x d m = nothing_preferred E A P dead x d m
 
 -- ---- the pattern of an id
 
--- what is made of a pattern's tree is what is made of it as it is placed
-module _ (Made : Definitions → Tree → Type 0) (E : Definitions) (rows : List Row) (id : PatternId) (made : Made E (pattern_tree rows id)) where
-  pub placed : Made E (unplaced (placed_pattern rows id))
-  placed = subst (Made E) (sym (unplaced_at rows id.at)) made
-
-  -- so it tells of that pattern what it tells of all
-  pub told_of : {X Y : Type 0} (r : Result (Option X) Y) (A : X → Definitions → PlacedTree → Type 0) → IfOk r (λ o. IfSome o (λ x. (D : Definitions) (R : PlacedTree) → Made D (unplaced R) → A x D R)) →
-      IfOk r (λ o. IfSome o (λ x. A x E (placed_pattern rows id)))
-  told_of {X} {Y} r A h =
-      let All : X → Type 0 = λ x. (D : Definitions) (R : PlacedTree) → Made D (unplaced R) → A x D R in
-      let One : X → Type 0 = λ x. A x E (placed_pattern rows id) in
-      IfOk-weaker r (λ o. IfSome o All) (λ o. IfSome o One) (λ o t. if_some_map All One o (λ x f. f E (placed_pattern rows id) placed) t) h
+-- the pattern of a number is that of its tree as it is placed
+pub placed : (E : Definitions) (rows : List Row) (id : PatternId) (m : CompiledPatterns) (n : ℕ) → IsNumbered E (pattern_tree rows id) m n → IsNumbered E (unplaced (placed_pattern rows id)) m n
+placed E rows id m n made = subst (λ (T : Tree). IsNumbered E T m n) (sym (unplaced_at rows id.at)) made
 
 -- ---- variables of one clause
 

@@ -11,14 +11,14 @@ ghost use Rattle.xd_syntax.specs.Kept.{program_tree};
 ghost use Rattle.xd_syntax.specs.Matches.{SeenMatch};
 ghost use Rattle.xd_syntax.specs.May.{IsLive, Scope};
 ghost use Rattle.xd_syntax.specs.Patterns.{pattern_tree};
-ghost use Rattle.xd_syntax.specs.Placed.{PlacedTree};
+ghost use Rattle.xd_syntax.specs.Placed.{PlacedTree, unplaced};
 ghost use Rattle.xd_syntax.specs.PlacedTable.{placed_at};
 ghost use Rattle.xd_syntax.specs.Program.{names_of};
-ghost use Rattle.xd_patterns.specs.Compiler.{Serves};
+ghost use Rattle.xd_syntax.specs.Tree.{Definitions};
 ghost use Rattle.xd_patterns.specs.CompiledProgram.{IsLinearPattern};
 ghost use Rattle.xd_clauses.specs.Cases.{placed_pattern};
 ghost use Rattle.xd_clauses.specs.Clauses.{Accepted, AreGivensOf};
-ghost use Rattle.xd_clauses.specs.Compiled.{IsNumbered};
+ghost use Rattle.xd_clauses.specs.Compiled.{IsNumbered, IsSomePattern};
 ghost use Rattle.xd_check.specs.Ready.{ClauseCanBeWalked, IsCompiledMatch, ServesOn, expr_at};
 ghost use Rattle.xd_check.specs.Scrutinees.{IsMet};
 ghost use Rattle.xd_check.specs.Walked.{ComesBehind, ComesTo, Grows};
@@ -33,7 +33,7 @@ use xd_auto::{Auto, State};
 use xd_base::Place;
 use xd_bind::Given;
 use xd_check::{CompiledMatch, MatchPatterns, MetMatch, pass_on};
-use xd_clauses::{ClausePattern, CompiledPatterns, NumberedPattern, Remaining, given_nothing};
+use xd_clauses::{CompiledPatterns, NumberedPattern, Remaining, given_nothing};
 use xd_doc::{NoMemory, Store};
 use xd_least::LeastInhabitants;
 use xd_patterns::PatternCompiler;
@@ -164,7 +164,6 @@ impl Reader {
         auto: &mut Auto,
         found: &mut Found,
     ) -> Result<(), NoMemory>
-        requires serves { Serves self.now.sound self.now.compiler }
         requires compiled { IsCompiledMatch self.now.sound auto.old compiled }
         requires clauses { AllByRecursion (ClauseCanBeWalked self.now.sound) (clause_numbers compiled.clauses.now) }
         requires scrutinee { IsState auto.old scrutinee }
@@ -194,7 +193,6 @@ impl Reader {
         auto: &mut Auto,
         found: &mut Found,
     ) -> Result<bool, NoMemory>
-        requires serves { Serves self.now.sound self.now.compiler }
         requires linear { IsLinearPattern self.now.sound.patterns id }
         requires pattern { IsNumbered (names_of (program_tree self.now.sound)) (pattern_tree self.now.sound.patterns id) pattern.patterns.now pattern.number }
         requires points { ServesOn auto.old pattern.patterns.now }
@@ -205,7 +203,7 @@ impl Reader {
         ensures known { OnOk result (Knows auto.new found.new.store found.new.inhabitants) }
     {
         let places = first_places(self.alloc, self.sound.program().patterns(), id)?;
-        let read = self.givens(id, pattern, coming, auto, found)?;
+        let read = self.givens(pattern, coming, auto, found)?;
         push_variables(&places, &read.givens, &mut found.variables)?;
         Ok(read.is_live)
     }
@@ -214,25 +212,22 @@ impl Reader {
     /// it takes none of these.
     fn givens(
         &self,
-        id: PatternId,
         pattern: NumberedPattern<'_>,
         coming: State,
         auto: &mut Auto,
         found: &mut Found,
     ) -> Result<ClauseGivens, NoMemory>
-        requires serves { Serves self.now.sound self.now.compiler }
-        requires linear { IsLinearPattern self.now.sound.patterns id }
-        requires pattern { IsNumbered (names_of (program_tree self.now.sound)) (pattern_tree self.now.sound.patterns id) pattern.patterns.now pattern.number }
+        requires pattern { IsSomePattern pattern.patterns.now pattern.number }
         requires points { ServesOn auto.old pattern.patterns.now }
         requires coming { IsState auto.old coming }
         requires known { Knows auto.old found.old.store found.old.inhabitants }
-        ensures live { IfOk result (λ read. (read.is_live ≡ true) ↔ IsLive (names_of (program_tree self.now.sound)) (Accepted auto.old coming) [] (placed_pattern self.now.sound.patterns id)) }
-        ensures givens { IfOk result (λ read. AreGivensOf (reading_of self.now.ways (names_of (program_tree self.now.sound)) (Accepted auto.old coming) [] (placed_pattern self.now.sound.patterns id)) (placed_pattern self.now.sound.patterns id) auto.new read.givens.items) }
+        ensures live { IfOk result (λ read. (E : Definitions) (P : PlacedTree) → IsNumbered E (unplaced P) pattern.entry.patterns.now pattern.entry.number → (read.is_live ≡ true) ↔ IsLive E (Accepted auto.old coming) [] P) }
+        ensures givens { IfOk result (λ read. (E : Definitions) (P : PlacedTree) → IsNumbered E (unplaced P) pattern.entry.patterns.now pattern.entry.number → AreGivensOf (reading_of self.now.ways E (Accepted auto.old coming) [] P) P auto.new read.givens.items) }
         ensures grows { OnOk result (Grows auto.old auto.new) }
         ensures known { OnOk result (Knows auto.new found.new.store found.new.inhabitants) }
         ensures variables { found.new.variables ≡ found.old.variables }
     {
-        let bound = self.bindings(id, pattern, coming, auto, found)?;
+        let bound = self.bindings(pattern, coming, auto, found)?;
         match bound {
             Some(givens) => Ok(ClauseGivens {
                 is_live: true,
@@ -249,26 +244,20 @@ impl Reader {
     }
 
     /// The same where the pattern takes some of these; else `None`.
-    ///
-    /// What a first match gives is found in an automaton of the pattern's own, which is compiled
-    /// for it here.
     fn bindings(
         &self,
-        id: PatternId,
         pattern: NumberedPattern<'_>,
         coming: State,
         auto: &mut Auto,
         found: &mut Found,
     ) -> Result<Option<Vec<Given>>, NoMemory>
-        requires serves { Serves self.now.sound self.now.compiler }
-        requires linear { IsLinearPattern self.now.sound.patterns id }
-        requires pattern { IsNumbered (names_of (program_tree self.now.sound)) (pattern_tree self.now.sound.patterns id) pattern.patterns.now pattern.number }
+        requires pattern { IsSomePattern pattern.patterns.now pattern.number }
         requires points { ServesOn auto.old pattern.patterns.now }
         requires coming { IsState auto.old coming }
         requires known { Knows auto.old found.old.store found.old.inhabitants }
-        ensures dead { result ≡ Ok None → IsLive (names_of (program_tree self.now.sound)) (Accepted auto.old coming) [] (placed_pattern self.now.sound.patterns id) → ⊥ }
-        ensures live { IfOk result (λ read. IfSome read (λ givens. IsLive (names_of (program_tree self.now.sound)) (Accepted auto.old coming) [] (placed_pattern self.now.sound.patterns id))) }
-        ensures givens { IfOk result (λ read. IfSome read (λ givens. AreGivensOf (reading_of self.now.ways (names_of (program_tree self.now.sound)) (Accepted auto.old coming) [] (placed_pattern self.now.sound.patterns id)) (placed_pattern self.now.sound.patterns id) auto.new givens.items)) }
+        ensures dead { result ≡ Ok None → (E : Definitions) (P : PlacedTree) → IsNumbered E (unplaced P) pattern.entry.patterns.now pattern.entry.number → IsLive E (Accepted auto.old coming) [] P → ⊥ }
+        ensures live { IfOk result (λ read. IfSome read (λ givens. (E : Definitions) (P : PlacedTree) → IsNumbered E (unplaced P) pattern.entry.patterns.now pattern.entry.number → IsLive E (Accepted auto.old coming) [] P)) }
+        ensures givens { IfOk result (λ read. IfSome read (λ givens. (E : Definitions) (P : PlacedTree) → IsNumbered E (unplaced P) pattern.entry.patterns.now pattern.entry.number → AreGivensOf (reading_of self.now.ways E (Accepted auto.old coming) [] P) P auto.new givens.items)) }
         ensures grows { OnOk result (Grows auto.old auto.new) }
         ensures known { Knows auto.new found.new.store found.new.inhabitants }
         ensures variables { found.new.variables ≡ found.old.variables }
@@ -277,10 +266,7 @@ impl Reader {
         let store = &mut found.store;
         match self.ways {
             Ways::Whole => pattern.bindings(self.alloc, auto, coming, inhabitants, store),
-            Ways::First => {
-                let own = ClausePattern::new(self.alloc, &self.compiler, &self.sound, id)?;
-                first_bindings(self.alloc, &own, auto, coming, inhabitants, store)
-            }
+            Ways::First => first_bindings(self.alloc, pattern, auto, coming, inhabitants, store),
         }
     }
 }

@@ -71,7 +71,6 @@ read_clause-requires c =
     let one : Grows c.loop-number.auto' b = record { extends = a.extends; keeps = a.accepting } in
     let g : Grows c.args.auto.now b = grows_then c.args.auto.now c.loop-number.auto' b c.loop-number.invariant.read.grows one in
     record {
-      serves = c.requires.serves;
       linear = record { there = w.there; linear = w.linear };
       pattern = numbered_here p c.args.auto.now cs m c.args.compiled.numbers.now c.requires.compiled n k x.patterns.now x.number c.loop-number-test.true e is c.pattern-pattern.ensures.number;
       points = subst (ServesOn b) (sym is) (serves_kept c.args.auto.now b m g.extends c.requires.compiled.points);
