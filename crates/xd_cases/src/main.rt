@@ -16,7 +16,7 @@ use anyhow::{Context, Result};
 use std::alloc::Global;
 use std::io;
 use std::io::Write;
-use xd_command::sample_document;
+use xd_command_programs::sample_document;
 use xd_doc::Store;
 use xd_write::write_document;
 

@@ -1,15 +1,1 @@
-pub mod Steps
-pub mod Inclusions
-pub mod LineOrder
-pub mod Merged
 pub mod Numbers
-pub mod Verdicts
-pub mod Inputs
-pub mod RunLemmas
-pub mod Telephones
-pub mod VerifyLemmas
-pub mod LeastDocuments
-pub mod Differences
-pub mod SameFaults
-pub mod Streams
-pub mod SmallFaults

@@ -2,7 +2,8 @@
 use Rattle.std.specs.Prelude.{◌≤◌}
 use Rattle.xd_command.specs.declared.command.Command.{Command}
 use Rattle.xd_command.specs.declared.command.Command.TheVariants.{Stream, Run, Sample}
-use Rattle.xd_command.specs.Command.{piece_limit, sample_limit}
+use Rattle.xd_command_documents.specs.Stream.{piece_limit}
+use Rattle.xd_command_programs.specs.Sample.{sample_limit}
 
 -- some call may be made, where the command is a run; the pieces of a stream have some byte; and a
 -- sample is within its limit

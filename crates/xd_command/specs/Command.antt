@@ -3,9 +3,11 @@ use Rattle.std.specs.Prelude.{ℕ, ◌+◌, List, [], ◌∷◌, Option, Some, N
 use Rattle.std.specs.Str.{bytes_eq}
 use Rattle.std.specs.Str.Parse.{digits_value}
 use Rattle.std.specs.Fmt.{decimal}
-use Rattle.xd_command.specs.declared.command.TheConstants.{DEFAULT_FUEL, FUEL_LIMIT, PIECE_LIMIT, SAMPLE_LIMIT}
+use Rattle.xd_command.specs.declared.command.TheConstants.{DEFAULT_FUEL, FUEL_LIMIT}
 use Rattle.xd_command.specs.declared.command.Command.{Command}
 use Rattle.xd_command.specs.declared.command.Command.TheVariants.{Fits, Stream, Subtype, Minus, Verify, Upgrade, Least, Check, Types, Precise, Run, Sample}
+use Rattle.xd_command_documents.specs.Stream.{piece_limit}
+use Rattle.xd_command_programs.specs.Sample.{sample_limit}
 
 -- how many calls a run may make
 abbrev pub fuel_limit : ℕ
@@ -13,14 +15,6 @@ fuel_limit = FUEL_LIMIT
 
 abbrev pub default_fuel : ℕ
 default_fuel = DEFAULT_FUEL
-
--- how many bytes a piece of a stream may have
-abbrev pub piece_limit : ℕ
-piece_limit = PIECE_LIMIT
-
--- how many persons a sample may have
-abbrev pub sample_limit : ℕ
-sample_limit = SAMPLE_LIMIT
 
 -- the number, from 1 to the limit, whose decimal digits the word is, without a sign or a leading
 -- zero

@@ -5,30 +5,21 @@ ghost use Rattle.std.specs.String.{string_bytes};
 ghost use Rattle.xd_base.specs.Outside.{HasRisen};
 ghost use Rattle.xd_command.specs.Answer.{Answers};
 ghost use Rattle.xd_command.specs.CanRun.{CanRun};
-ghost use Rattle.xd_command.specs.Command.{command_of, fuel_limit, number_within, of_four, of_one, of_three, of_two, piece_limit, sample_limit};
+ghost use Rattle.xd_command.specs.Command.{command_of, fuel_limit, number_within, of_four, of_one, of_three, of_two};
 ghost use Rattle.xd_command.specs.declared.command.Command.TheVariants as commands;
+ghost use Rattle.xd_command_documents.specs.Stream.{piece_limit};
+ghost use Rattle.xd_command_programs.specs.Sample.{sample_limit};
 ghost use Rattle.xd_command_steps.specs.DoneSteps.{DoesAll};
 
 use std::alloc::Global;
 use std::marker::Model;
 use xd_base::Shelf;
+use xd_command_documents::{PIECE_LIMIT, fits, least, stream};
+use xd_command_inclusions::{minus, subtype, upgrade, verify};
+use xd_command_programs::{SAMPLE_LIMIT, check, run, sample, types};
 use xd_command_steps::{Output, Stop};
 use xd_proof::read_number;
 use xd_variables::Ways;
-
-mod check;
-mod fits;
-mod least;
-mod minus;
-mod run;
-mod sample;
-mod stream;
-mod subtype;
-mod types;
-mod upgrade;
-mod verify;
-
-pub use sample::sample_document;
 
 /// One of the command's words, which contracts see as its bytes.
 #[derive(Drop)]
@@ -132,12 +123,6 @@ pub const FUEL_LIMIT: u64 = 10_000_000;
 
 /// How many calls a run may make where its words don't say.
 pub const DEFAULT_FUEL: u64 = 1_000_000;
-
-/// How many bytes a piece of a stream may have.
-pub const PIECE_LIMIT: u64 = 65_536;
-
-/// How many persons a sample may have.
-pub const SAMPLE_LIMIT: u64 = 2_000;
 
 /// The number that the word spells, where it is from 1 to the limit.
 fn number_within(limit: u64, word: &str) -> Option<u64>
@@ -332,7 +317,7 @@ impl<'a> Command<'a> {
                 file,
                 name,
                 document,
-            } => fits::fits(
+            } => fits(
                 alloc,
                 file.as_str(),
                 name.as_str(),
@@ -344,7 +329,7 @@ impl<'a> Command<'a> {
                 name,
                 document,
                 piece,
-            } => stream::stream(
+            } => stream(
                 alloc,
                 file.as_str(),
                 name.as_str(),
@@ -352,14 +337,14 @@ impl<'a> Command<'a> {
                 *piece,
                 shelf,
             ),
-            Command::Subtype { file, left, right } => subtype::subtype(
+            Command::Subtype { file, left, right } => subtype(
                 alloc,
                 file.as_str(),
                 left.as_str(),
                 right.as_str(),
                 shelf,
             ),
-            Command::Minus { file, left, right } => minus::minus(
+            Command::Minus { file, left, right } => minus(
                 alloc,
                 file.as_str(),
                 left.as_str(),
@@ -367,23 +352,21 @@ impl<'a> Command<'a> {
                 shelf,
             ),
             Command::Verify { file, proof } => {
-                verify::verify(alloc, file.as_str(), proof.as_str(), shelf)
+                verify(alloc, file.as_str(), proof.as_str(), shelf)
             }
             Command::Upgrade { file, proof } => {
-                upgrade::upgrade(alloc, file.as_str(), proof.as_str(), shelf)
+                upgrade(alloc, file.as_str(), proof.as_str(), shelf)
             }
-            Command::Least { file, name } => {
-                least::least(alloc, file.as_str(), name.as_str(), shelf)
-            }
-            Command::Check { file } => check::check(alloc, file.as_str(), shelf),
-            Command::Types { file } => types::types(alloc, file.as_str(), Ways::Whole, shelf),
-            Command::Precise { file } => types::types(alloc, file.as_str(), Ways::First, shelf),
+            Command::Least { file, name } => { least(alloc, file.as_str(), name.as_str(), shelf) }
+            Command::Check { file } => check(alloc, file.as_str(), shelf),
+            Command::Types { file } => types(alloc, file.as_str(), Ways::Whole, shelf),
+            Command::Precise { file } => types(alloc, file.as_str(), Ways::First, shelf),
             Command::Run {
                 file,
                 document,
                 fuel,
-            } => run::run(alloc, file.as_str(), document.as_str(), *fuel, shelf),
-            Command::Sample { persons } => sample::sample(alloc, *persons),
+            } => run(alloc, file.as_str(), document.as_str(), *fuel, shelf),
+            Command::Sample { persons } => sample(alloc, *persons),
         }
     }
 }

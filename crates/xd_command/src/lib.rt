@@ -15,9 +15,7 @@ use xd_base::{Shelf, Sink};
 use xd_command_steps::{Output, Stop};
 
 mod command;
-mod membership;
 
-pub use command::sample_document;
 pub use xd_command_steps::Status;
 
 /// What the words ask for, made in memory.

@@ -11,15 +11,15 @@ use Rattle.xd_command_steps.specs.Laws.{Texts, IsRead}
 use Rattle.xd_command_steps.specs.Programs.{EndsAtProgram, IsProgram}
 use Rattle.xd_command_steps.specs.Step.{Step}
 use Rattle.xd_command_steps.proofs.OneStep.{steps_are_one, counts_tell_nothing}
-use Rattle.xd_command.specs.Fits.{AnswersFits}
-use Rattle.xd_command.specs.Stream.{AnswersStream}
-use Rattle.xd_command.specs.Subtype.{AnswersSubtype}
-use Rattle.xd_command.specs.Minus.{AnswersMinus}
-use Rattle.xd_command.specs.Verify.{AnswersVerify, AnswersUpgrade}
-use Rattle.xd_command.specs.Least.{AnswersLeast}
-use Rattle.xd_command.specs.Check.{AnswersCheck}
-use Rattle.xd_command.specs.Types.{AnswersTypes}
-use Rattle.xd_command.specs.Run.{AnswersRun}
+use Rattle.xd_command_documents.specs.Fits.{AnswersFits}
+use Rattle.xd_command_documents.specs.Stream.{AnswersStream}
+use Rattle.xd_command_inclusions.specs.Subtype.{AnswersSubtype}
+use Rattle.xd_command_inclusions.specs.Minus.{AnswersMinus}
+use Rattle.xd_command_inclusions.specs.Verify.{AnswersVerify, AnswersUpgrade}
+use Rattle.xd_command_documents.specs.Least.{AnswersLeast}
+use Rattle.xd_command_programs.specs.Check.{AnswersCheck}
+use Rattle.xd_command_programs.specs.Types.{AnswersTypes}
+use Rattle.xd_command_programs.specs.Run.{AnswersRun}
 use Rattle.xd_command.specs.Answer.{Answers, IsAnswer}
 use Rattle.xd_command_laws.specs.OneAnswer.{ProveAlike, CarryAlike, FaultsAlike, ShowAlike, BlocksAlike, MayDiffer, AreOneAnswer, AnswersAreOne, CountsHideAnswers, IsPlainOutcome, WritesNothing, WritesWhole, OutcomesAreOne}
 use Rattle.xd_command_laws.proofs.OneRow.{IsOneRow, Never, step_alike, step_settled, fits_alike, fits_settled, stream_alike, stream_settled, subtype_alike, minus_alike, least_alike, verify_alike, verify_settled, upgrade_alike, upgrade_settled, check_alike, types_alike, run_alike, run_settled}

@@ -27,19 +27,19 @@ use Rattle.xd_command_steps.specs.Documents.{EndsAtDocument, IsDocument}
 use Rattle.xd_command_steps.specs.Proofs.{EndsAtProof, IsProof, bad_line}
 use Rattle.xd_command_steps.specs.Step.{Step}
 use Rattle.xd_command_steps.proofs.OneStep.{steps_are_one, counts_tell_nothing}
-use Rattle.xd_command.specs.Fits.{EndsAtName, AnswersMembership, AnswersFits, FitsType}
-use Rattle.xd_command.specs.Stream.{TellsStop, AnswersBytes, AnswersStream}
-use Rattle.xd_command.specs.Subtype.{AnswersInclusion, AnswersSubtype, FitsAlone}
-use Rattle.xd_command.specs.Least.{AnswersLeastOf, AnswersLeast}
-use Rattle.xd_command.specs.Verify.{Judges, AnswersVerify, AnswersUpgrade, Upgrades}
-use Rattle.xd_command.specs.Check.{with_verdict, AnswersCheck}
-use Rattle.xd_command.specs.Run.{EndsAtLines, EndsAtValue, IsValue, AnswersInput, AnswersMain, AnswersRun, input_type}
-use Rattle.xd_command.specs.Report.{line_text, lines_text, said}
-use Rattle.xd_command.specs.Minus.{AnswersDifference, AnswersMinus}
-use Rattle.xd_command.specs.Types.{AnswersTypes}
+use Rattle.xd_command_documents.specs.Fits.{EndsAtName, AnswersMembership, AnswersFits, FitsType}
+use Rattle.xd_command_documents.specs.Stream.{TellsStop, AnswersBytes, AnswersStream}
+use Rattle.xd_command_inclusions.specs.Subtype.{AnswersInclusion, AnswersSubtype, FitsAlone}
+use Rattle.xd_command_documents.specs.Least.{AnswersLeastOf, AnswersLeast}
+use Rattle.xd_command_inclusions.specs.Verify.{Judges, AnswersVerify, AnswersUpgrade, Upgrades}
+use Rattle.xd_command_programs.specs.Check.{with_verdict, AnswersCheck}
+use Rattle.xd_command_programs.specs.Run.{EndsAtLines, EndsAtValue, IsValue, AnswersInput, AnswersMain, AnswersRun, input_type}
+use Rattle.xd_command_programs.specs.Report.{line_text, lines_text, said}
+use Rattle.xd_command_inclusions.specs.Minus.{AnswersDifference, AnswersMinus}
+use Rattle.xd_command_programs.specs.Types.{AnswersTypes}
 use Rattle.xd_command_laws.specs.OneAnswer.{ProveAlike, CarryAlike, FaultsAlike, ShowTheSame, ShowAlike, IsSameBlock, BlocksAlike}
 use Rattle.xd_variables.proofs.SeenOnce.{variables_once}
-use Rattle.xd_command.proofs.SameFaults.{Same, faults_same, not_accepted}
+use Rattle.xd_command_programs.proofs.SameFaults.{Same, faults_same, not_accepted}
 
 -- ---- what every row has
 -- any two outputs of a row are the same, or differ as they may

@@ -17,8 +17,8 @@ use Rattle.xd_command_steps.specs.Documents.{EndsAtDocument, EndsAtMalformed, Is
 use Rattle.xd_command_steps.specs.Programs.{EndsAtProgram, IsProgram}
 use Rattle.xd_command_steps.specs.Laws.{IsOneStep, Texts}
 use Rattle.xd_command_steps.proofs.OneStep.{steps_are_one}
-use Rattle.xd_command.specs.Fits.{AnswersFits, AnswersMembership, EndsAtName, FitsType}
-use Rattle.xd_command.specs.Stream.{AnswersBytes, AnswersStream, TellsStop}
+use Rattle.xd_command_documents.specs.Fits.{AnswersFits, AnswersMembership, EndsAtName, FitsType}
+use Rattle.xd_command_documents.specs.Stream.{AnswersBytes, AnswersStream, TellsStop}
 use Rattle.xd_command_laws.specs.SayingYes.{SayYesAlike}
 
 abbrev Alike : Output → Output → Type 0

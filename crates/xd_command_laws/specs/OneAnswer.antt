@@ -15,7 +15,7 @@ use Rattle.xd_command.specs.declared.command.Command.{Command}
 use Rattle.xd_command.specs.declared.command.Command.TheVariants.{Subtype, Minus, Least, Check, Types, Precise, Run}
 use Rattle.xd_command.specs.Answer.{IsAnswer}
 use Rattle.xd_command.specs.Outcome.{IsOutcome}
-use Rattle.xd_command.specs.Report.{lines_text}
+use Rattle.xd_command_programs.specs.Report.{lines_text}
 use Rattle.xd_command_steps.specs.Output.{Output, canonical, separated}
 use Rattle.xd_command_steps.specs.Laws.{Texts, IsRead}
 

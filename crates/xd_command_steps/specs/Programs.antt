@@ -8,6 +8,7 @@ use Rattle.xd_grammar.specs.declared.grammar.Nonterminal.TheVariants as nontermi
 use Rattle.xd_parse.specs.Faults.{IsFirstTextFault}
 use Rattle.xd_parse_trees.specs.Means.{IsProgramText}
 use Rattle.xd_command_steps.specs.Output.{Output, fault_lines}
+use Rattle.xd_command_steps.specs.Step.{Step}
 use Rattle.xd_command_steps.specs.Texts.{Holding, EndsAtText, IsText, program_limit}
 
 -- The faults of the first level that has any: the first fault of the text; all faults of names,
@@ -35,3 +36,8 @@ EndsAtProgram holds rose file o =
 -- the file has the text of this program
 abbrev pub IsProgram : Holding → (file : List ℕ) → ProgramTree → Type 0
 IsProgram holds file P = (text : List ℕ) × IsText holds file program_limit text × IsSoundText text P
+
+-- how a command on the program of the file answers: by the faults of its text, or as `next` says of
+-- the program
+abbrev pub AnswersOn : Holding → (rose : Type 0) → (file : List ℕ) → (next : ProgramTree → Output → Type 0) → Output → Type 0
+AnswersOn holds rose file next = Step (EndsAtProgram holds rose file) (IsProgram holds file) next

@@ -1,0 +1,5 @@
+//! A module for each command.
+
+pub mod fits;
+pub mod least;
+pub mod stream;

@@ -1,0 +1,4 @@
+pub mod Inclusions
+pub mod Differences
+pub mod Separations
+pub mod VerifyLemmas

@@ -1,0 +1,26 @@
+use Rattle.std.proofs.Common.{inl, inr}
+use Rattle.xd_base.specs.Outside.{HasRisen}
+use Rattle.xd_syntax.specs.Kept.{ProgramTable, program_tree}
+use Rattle.xd_command_steps.specs.Output.{Output}
+use Rattle.xd_command_steps.specs.Programs.{AnswersOn, EndsAtProgram, IsProgram}
+use Rattle.xd_command_inclusions.specs.Subtype.{AnswersSubtype}
+use Rattle.xd_command_documents.proofs.Steps.{does-map, ends-returned}
+use Rattle.xd_command_inclusions.proofs.command.subtype.subtype.Goals as goal
+
+pub returns-in_err-sound : goal.returns-in_err-sound
+returns-in_err-sound g c =
+    let holds = g.H.Shelf.holds c.args.shelf.now in
+    let rose = HasRisen (g.H.Shelf.faults c.args.shelf.now) (g.H.Shelf.faults c.load_program.new.shelf) in
+    let ends = EndsAtProgram holds rose c.args.file.now in
+    let answers = AnswersOn holds rose c.args.file.now (AnswersSubtype c.args.left.now c.args.right.now) in
+    let finds : ProgramTable → Type 0 = λ p. IsProgram holds c.args.file.now (program_tree p) in
+    ends-returned ends answers finds answers c.in_err-sound.field-0.0 c.from_residual.result c.from_residual.ensures.1 (λ o e. inl e) c.in_err-sound.ensures.step
+
+pub returns : goal.returns
+returns g c =
+    let P = program_tree c.in_ok-sound.sound in
+    let rose = HasRisen (g.H.Shelf.faults c.args.shelf.now) (g.H.Shelf.faults c.load_program.new.shelf) in
+    let later = AnswersSubtype c.args.left.now c.args.right.now P in
+    let answers = AnswersOn (g.H.Shelf.holds c.args.shelf.now) rose c.args.file.now (AnswersSubtype c.args.left.now c.args.right.now) in
+    let step : (o : Output) → later o → answers o = λ o a. inr (P, c.in_ok-sound.ensures.step, a) in
+    does-map later answers later answers c.compare_named.result step step c.compare_named.ensures

@@ -1,0 +1,5 @@
+pub mod Subtype
+pub mod SubtypeByState
+pub mod Minus
+pub mod MinusAlone
+pub mod Verify

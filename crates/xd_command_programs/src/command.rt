@@ -1,0 +1,6 @@
+//! A module for each command.
+
+pub mod check;
+pub mod run;
+pub mod sample;
+pub mod types;
