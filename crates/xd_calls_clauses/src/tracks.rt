@@ -12,10 +12,11 @@ ghost use Rattle.xd_calls_clauses.specs.Tracked.{IsOfMove, IsOfMoves, IsOfStates
 use crate::clauses::{binding_of, pattern_at};
 use std::alloc::Global;
 use xd_auto::{Auto, State};
-use xd_bind::{Binding, MoveKind, Track, Tracks, project};
+use xd_bind::{Binding, MoveKind, Track, Tracks};
 use xd_calls_lines::{Call, CallError};
 use xd_calls_programs::{program_of, show_members};
 use xd_clauses::patterns_tell_variables;
+use xd_given::project;
 use xd_patterns::{Marked, PatternCompiler};
 use xd_sound::SoundProgram;
 use xd_syntax::PatternId;

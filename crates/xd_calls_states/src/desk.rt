@@ -4,9 +4,7 @@ use crate::inclusions::{
     answer_apart, answer_decide, answer_learned, answer_least, answer_moved, answer_questions,
     answer_sizes,
 };
-use crate::states::{
-    Operation, PairShown, show_made, show_merged, show_paired, show_subtracted, show_universal,
-};
+use crate::states::{Operation, show_made, show_merged, show_universal};
 use crate::streams::show_stream;
 use crate::types::{TypeShown, show_inhabitant, show_type};
 use std::alloc::Global;
@@ -53,11 +51,8 @@ fn answer(call: &Call<'_>, out: &mut Vec<u8>) -> Result<(), CallError> {
         "questions" => answer_questions(call, out),
         "product" => show_made(call, Operation::Product, out),
         "minus" => show_made(call, Operation::Minus, out),
-        "subtract" => show_subtracted(call, out),
         "merged" => show_merged(call, out),
         "universal" => show_universal(call, out),
-        "pair_up" => show_paired(call, PairShown::Pairs, out),
-        "shares" => show_paired(call, PairShown::Shared, out),
         "stream" => show_stream(call, out),
         "read_case" => show_read_case(call, out),
         "cut_lines" => show_cut_lines(call, out),
