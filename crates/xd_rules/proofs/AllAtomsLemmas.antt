@@ -71,19 +71,13 @@ kept_names c all e s t among = same_test c.except e ∙ kept_all all c.names s t
     same_test : (b : Bool) → b ≡ false → filter (class_has c) all ≡ filter (is_named c.names) all
     same_test b p = subst (λ (x : Bool). filter (class_has (record { names = c.names; except = x })) all ≡ filter (is_named c.names) all) (sym e) refl
 
--- a class that names what it has was asked of its own names, and one that excepts names of all of
--- them
-module _ (this : List ℕ → Atom) (other : Atom) (c : NameClass) (all names : List (List ℕ)) (empty made : List Atom) where
-  pub own_atoms : empty ≡ [] → c.except ≡ false → IsStrictlySortedBy (slice_cmp nat_cmp) c.names → IsStrictlySortedBy (slice_cmp nat_cmp) all → AreAmong c.names all → names ≡ c.names
-      → made ≡ empty ++ map this (filter (class_has c) names) → made ≡ map this (filter (class_has c) all) ++ others_of c.except other
-  own_atoms none e s t among same h =
-      h ∙ ap (λ (as' : List Atom). as' ++ map this (filter (class_has c) names)) none
-      ∙ ap (map this) (ap (filter (class_has c)) same ∙ kept_names c c.names e s s (λ n m. m) ∙ sym (kept_names c all e t s among))
-      ∙ sym (append-nil (map this (filter (class_has c) all)))
-      ∙ ap (λ (b : Bool). map this (filter (class_has c) all) ++ others_of b other) (sym e)
-
-  pub other_atoms : empty ≡ [] → c.except ≡ true → names ≡ all → made ≡ empty ++ map this (filter (class_has c) names) → (new : List Atom) → new ≡ made ++ other ∷ []
-      → new ≡ map this (filter (class_has c) all) ++ others_of c.except other
-  other_atoms none e same h new k =
-      k ∙ ap (λ (as' : List Atom). as' ++ other ∷ []) (h ∙ ap (λ (as' : List Atom). as' ++ map this (filter (class_has c) names)) none ∙ ap (λ (ns : List (List ℕ)). map this (filter (class_has c) ns)) same)
-      ∙ ap (λ (b : Bool). map this (filter (class_has c) all) ++ others_of b other) (sym e)
+-- the atoms of a class, made of its own names where it excepts none
+pub class_atoms_are : (this : List ℕ → Atom) (other : Atom) (c all : NameClass) (made : List Atom) → IsStrictlySortedBy (slice_cmp nat_cmp) c.names → IsStrictlySortedBy (slice_cmp nat_cmp) all.names → AreAmong c.names all.names
+    → (c.except ≡ false → made ≡ map this (filter (class_has c) c.names)) → (c.except ≡ true → made ≡ map this (filter (class_has c) all.names) ++ other ∷ []) → made ≡ map this (filter (class_has c) all.names) ++ others_of c.except other
+class_atoms_are this other c all made s t among own others = go c.except refl
+  where
+    go : (b : Bool) → c.except ≡ b → made ≡ map this (filter (class_has c) all.names) ++ others_of b other
+    go true e = others e
+    go false e =
+        own e ∙ ap (map this) (kept_names c c.names e s s (λ n m. m) ∙ sym (kept_names c all.names e t s among))
+        ∙ sym (append-nil (map this (filter (class_has c) all.names)))

@@ -1,12 +1,12 @@
 -- The cases of a goal, and the names of its heads.
-use Rattle.std.proofs.Common.{ℕ, zero, suc, ◌+◌, ◌-◌, ◌<◌, ◌≤◌, ◌≡◌, Bool, true, false, cond, List, [], ◌∷◌, ◌++◌, length, take, map, get_or, Some, refl, sym, ap, ◌∙◌, subst, inl, inr, arith, append_assoc, Result, Ok, Err, IfOk}
+use Rattle.std.proofs.Common.{ℕ, zero, suc, ◌+◌, ◌-◌, ◌<◌, ◌≤◌, ◌≡◌, Bool, true, false, cond, List, [], ◌∷◌, ◌++◌, length, take, map, get_or, Some, refl, sym, ap, ◌∙◌, subst, inl, inr, arith, append_assoc}
 use Rattle.std.specs.List.{filter, flat_map, AllByRecursion, slice_get}
 use Rattle.std.specs.List.Sorted.{IsStrictlySortedBy}
 use Rattle.std.specs.Ordering.{nat_cmp}
 use Rattle.std.specs.Cmp.Lexicographic.{slice_cmp}
 use Rattle.std.proofs.lemmas.List.{take_more, append-nil, map-append, length-take-le}
 use Rattle.std.proofs.lemmas.Grind.{flat_map-append}
-use Rattle.xd_doc.specs.Classes.{NameClass, is_named}
+use Rattle.xd_doc.specs.Classes.{is_named}
 use Rattle.xd_auto.specs.declared.auto.State.{State}
 use Rattle.xd_auto.specs.declared.auto.LabelMove.{LabelMove}
 use Rattle.xd_auto.specs.declared.auto.TextMove.{TextMove}
@@ -17,11 +17,9 @@ use Rattle.xd_rules.specs.Heads.{Head, Named, AreNames, IsSorted, matches, atoms
 use Rattle.xd_rules.specs.Rules.{CaseKey, keyed, wanted_cases}
 use Rattle.xd_rules.proofs.Members.{one_of-append_left}
 use Rattle.xd_rules.proofs.Atoms.{labels_are_named, texts_are_named, one_of_names}
-use Rattle.xd_rules.specs.Listed.{AreAmong}
 use Rattle.xd_rules.specs.Moves.{label_head, text_head, heads_of}
 use Rattle.xd_rules.specs.Wants.{HasHead, IsCaseOf, IsHeadNamed, want_of, want_key, wants_at, wants_of, head_labels, head_texts}
 use Rattle.xd_rules.specs.declared.heads.Want.{Want}
-use Rattle.xd_rules.proofs.Lists.{all_at}
 
 pub take_all : {X : Type 0} (xs : List X) (i : ℕ) → length xs ≤ i → take i xs ≡ xs
 take_all [] zero le = refl
@@ -64,35 +62,34 @@ both_kinds named a s mid new e f =
     ∙ ap (λ (n : ℕ). wants_of named 1 (map label_head (moves_at a s).labels) ++ wants_of named (1 + n) (map text_head (moves_at a s).texts)) (sym (length-mapped label_head (moves_at a s).labels))
     ∙ sym (wants_of-append named 1 (map label_head (moves_at a s).labels) (map text_head (moves_at a s).texts))
 
--- names of heads: texts name no labels, and elements no texts
-no_labels : (ms : List TextMove) → flat_map head_labels (map text_head ms) ≡ []
-no_labels [] = refl
-no_labels (m ∷ ms) = no_labels ms
+-- names of heads are those of moves: texts name no labels, and elements no texts
+none_named : {M : Type 0} (f : Head State → List (List ℕ)) (g : M → Head State) → ((m : M) → f (g m) ≡ []) → (ms : List M) → flat_map f (map g ms) ≡ []
+none_named f g none [] = refl
+none_named f g none (m ∷ ms) = rw (none m) (none_named f g none ms)
 
-no_texts : (ms : List LabelMove) → flat_map head_texts (map label_head ms) ≡ []
-no_texts [] = refl
-no_texts (m ∷ ms) = no_texts ms
+flat_map-map : {M : Type 0} (f : Head State → List (List ℕ)) (g : M → Head State) (ms : List M) → flat_map f (map g ms) ≡ flat_map (λ m. f (g m)) ms
+flat_map-map f g [] = refl
+flat_map-map f g (m ∷ ms) = ap (λ (ns : List (List ℕ)). f (g m) ++ ns) (flat_map-map f g ms)
 
-pub state_labels : (a : Automaton) (s : State) → flat_map head_labels (heads_of a s) ≡ flat_map head_labels (map label_head (moves_at a s).labels)
+pub state_labels : (a : Automaton) (s : State) → flat_map head_labels (heads_of a s) ≡ flat_map (λ (m : LabelMove). m.class.names) (moves_at a s).labels
 state_labels a s = flat_map-append head_labels (map label_head (moves_at a s).labels) (map text_head (moves_at a s).texts)
-    ∙ ap (λ (ns : List (List ℕ)). flat_map head_labels (map label_head (moves_at a s).labels) ++ ns) (no_labels (moves_at a s).texts)
-    ∙ append-nil (flat_map head_labels (map label_head (moves_at a s).labels))
+    ∙ ap (λ (ns : List (List ℕ)). flat_map head_labels (map label_head (moves_at a s).labels) ++ ns) (none_named head_labels text_head (λ m. refl) (moves_at a s).texts)
+    ∙ append-nil (flat_map head_labels (map label_head (moves_at a s).labels)) ∙ flat_map-map head_labels label_head (moves_at a s).labels
 
-pub state_texts : (a : Automaton) (s : State) → flat_map head_texts (heads_of a s) ≡ flat_map head_texts (map text_head (moves_at a s).texts)
+pub state_texts : (a : Automaton) (s : State) → flat_map head_texts (heads_of a s) ≡ flat_map (λ (m : TextMove). m.words.names) (moves_at a s).texts
 state_texts a s = flat_map-append head_texts (map label_head (moves_at a s).labels) (map text_head (moves_at a s).texts)
-    ∙ ap (λ (ns : List (List ℕ)). ns ++ flat_map head_texts (map text_head (moves_at a s).texts)) (no_texts (moves_at a s).labels)
+    ∙ ap (λ (ns : List (List ℕ)). ns ++ flat_map head_texts (map text_head (moves_at a s).texts)) (none_named head_texts label_head (λ m. refl) (moves_at a s).labels)
+    ∙ flat_map-map head_texts text_head (moves_at a s).texts
 
 -- a class that was made of all names
-pub names_sorted : {E : Type 0} (f : Head State → List (List ℕ)) (r : Result NameClass E) (IsValid : NameClass → Type 0) (a : Automaton) (left : State) (rights : List State) (names : List (List ℕ)) (i : ℕ) → length rights ≤ i
-    → names ≡ flat_map f (heads_of a left) ++ flat_map f (flat_map (heads_of a) (take i rights))
-    → ((c : NameClass) → IsValid c → IsStrictlySortedBy (slice_cmp nat_cmp) c.names)
-    → IfOk r (λ c. (l : List ℕ) → is_named c.names l ≡ is_named names l) → IfOk r IsValid → IfOk r (λ c. IsSorted (flat_map f (heads_of a left ++ flat_map (heads_of a) rights)) c.names)
-names_sorted f (Ok c) IsValid a left rights names i le e order same valid = record {
-  order = order c valid;
-  same = λ l. same l ∙ ap (λ (ns : List (List ℕ)). is_named ns l)
-      (e ∙ ap (λ (ss : List State). flat_map f (heads_of a left) ++ flat_map f (flat_map (heads_of a) ss)) (take_all rights i le) ∙ sym (flat_map-append f (heads_of a left) (flat_map (heads_of a) rights)));
-}
-names_sorted f (Err x) IsValid a left rights names i le e order same valid = tt
+module _ (f : Head State → List (List ℕ)) (g : State → List (List ℕ)) (a : Automaton) (same_names : (s : State) → flat_map f (heads_of a s) ≡ g s) where
+  states_names : (ss : List State) → flat_map f (flat_map (heads_of a) ss) ≡ flat_map g ss
+  states_names [] = refl
+  states_names (s ∷ ss) = flat_map-append f (heads_of a s) (flat_map (heads_of a) ss) ∙ rw (same_names s, states_names ss) refl
+
+  pub names_sorted : (left : State) (rights : List State) (names made : List (List ℕ)) → names ≡ flat_map g (left ∷ rights) → ((l : List ℕ) → is_named made l ≡ is_named names l) → IsStrictlySortedBy (slice_cmp nat_cmp) made
+      → IsSorted (flat_map f (heads_of a left ++ flat_map (heads_of a) rights)) made
+  names_sorted left rights names made e same order = record { order = order; same = λ l. same l ∙ ap (λ (ns : List (List ℕ)). is_named ns l) (e ∙ sym (states_names (left ∷ rights))) }
 
 -- each head's names are among all
 pub heads_named : (hs gs : List (Head State)) (named : Named) → AreNames (hs ++ gs) named → AllByRecursion (IsHeadNamed named) hs
@@ -177,16 +174,3 @@ text_head_at a s before ms number m same count past lt e =
     head_by a s number (text_head m) m.rest m.rest (omega arith)
     (subst (λ (i : ℕ). slice_get (heads_of a s) i ≡ Some (text_head m)) place (behind_at (map label_head (moves_at a s).labels) (map text_head (moves_at a s).texts) (number - 1 - before) (text_head m) at))
     refl refl
-
--- the names of a head of a move are among all
-pub label_named_at : (named : Named) (a : Automaton) (s : State) (ms : List LabelMove) (i : ℕ) (m : LabelMove) → ms ≡ (moves_at a s).labels → i < length ms → m ≡ get_or ms i m → AllByRecursion (IsHeadNamed named) (heads_of a s) → AreAmong m.class.names named.labels
-label_named_at named a s ms i m same lt e all =
-    let at = mapped_at label_head ms i m (map text_head (moves_at a s).texts) lt e in
-    (all_at (IsHeadNamed named) (heads_of a s) i (label_head m) all (subst (λ (xs : List LabelMove). slice_get (map label_head xs ++ map text_head (moves_at a s).texts) i ≡ Some (label_head m)) same at)).labels
-
-pub text_named_at : (named : Named) (a : Automaton) (s : State) (ms : List TextMove) (i : ℕ) (m : TextMove) → ms ≡ (moves_at a s).texts → i < length ms → m ≡ get_or ms i m → AllByRecursion (IsHeadNamed named) (heads_of a s) → AreAmong m.words.names named.texts
-text_named_at named a s ms i m same lt e all =
-    let there = mapped_at text_head ms i m [] lt e in
-    let at : slice_get (map text_head (moves_at a s).texts) i ≡ Some (text_head m) =
-    subst (λ (hs : List (Head State)). slice_get hs i ≡ Some (text_head m)) (append-nil (map text_head ms) ∙ ap (map text_head) same) there in
-    (all_at (IsHeadNamed named) (heads_of a s) (length (map label_head (moves_at a s).labels) + i) (text_head m) all (behind_at (map label_head (moves_at a s).labels) (map text_head (moves_at a s).texts) i (text_head m) at)).texts

@@ -39,6 +39,16 @@ all_get P [] i d h lt = absurd (omega arith)
 all_get P (y ∷ xs) zero d h lt = h.0
 all_get P (y ∷ xs) (suc i) d h lt = all_get P xs i d h.1 (omega arith)
 
+pub all_mapped : {X Y : Type 0} (P : Y → Type 0) (f : X → Y) (xs : List X) (i : ℕ) (x : X) → AllByRecursion P (map f xs) → i < length xs → x ≡ get_or xs i x → P (f x)
+all_mapped P f [] i x h lt e = absurd (omega arith)
+all_mapped P f (y ∷ xs) zero x h lt e = rw e h.0
+all_mapped P f (y ∷ xs) (suc i) x h lt e = all_mapped P f xs i x h.1 (omega arith) e
+
+-- what holds in both parts of a list
+pub all_parts : {X : Type 0} (P : X → Type 0) (xs ys : List X) → AllByRecursion P (xs ++ ys) → AllByRecursion P xs × AllByRecursion P ys
+all_parts P [] ys h = (tt, h)
+all_parts P (x ∷ xs) ys h = let parts = all_parts P xs ys h.1 in ((h.0, parts.0), parts.1)
+
 -- one more element of a mapped front
 pub map-take_more : {X Y : Type 0} (f : X → Y) (xs : List X) (i : ℕ) (x : X) → i < length xs → x ≡ get_or xs i x → map f (take (i + 1) xs) ≡ map f (take i xs) ++ f x ∷ []
 map-take_more {X} {Y} f xs i x lt e = ap (map f) (take_more xs i x lt) ∙ map-append f (take i xs) (get_or xs i x ∷ []) ∙ ap (λ (y : X). map f (take i xs) ++ f y ∷ []) (sym e)

@@ -136,13 +136,6 @@ flat_map_at a ss i d lt = ap (flat_map (heads_of a)) (take_more ss i d lt) ∙ f
 flat_map_more : (a : Automaton) (ss : List State) (i : ℕ) (s : State) → i < length ss → s ≡ get_or ss i s → flat_map (heads_of a) (take (i + 1) ss) ≡ flat_map (heads_of a) (take i ss) ++ heads_of a s
 flat_map_more a ss i s lt e = flat_map_at a ss i s lt ∙ ap (λ (x : State). flat_map (heads_of a) (take i ss) ++ heads_of a x) (sym e)
 
--- one more right's names
-pub names_more : (f : Head State → List (List ℕ)) (a : Automaton) (ss : List State) (i : ℕ) (d : State) (front names new : List (List ℕ)) → i < length ss → names ≡ front ++ flat_map f (flat_map (heads_of a) (take i ss))
-    → new ≡ names ++ flat_map f (heads_of a (get_or ss i d)) → new ≡ front ++ flat_map f (flat_map (heads_of a) (take (i + 1) ss))
-names_more f a ss i d front names new lt inv step =
-    step ∙ ap (λ (ns : List (List ℕ)). ns ++ flat_map f (heads_of a (get_or ss i d))) inv ∙ append_assoc front (flat_map f (flat_map (heads_of a) (take i ss))) (flat_map f (heads_of a (get_or ss i d)))
-    ∙ ap (λ (ns : List (List ℕ)). front ++ ns) (sym (flat_map-append f (flat_map (heads_of a) (take i ss)) (heads_of a (get_or ss i d))) ∙ ap (flat_map f) (sym (flat_map_at a ss i d lt)))
-
 -- one more right
 pub rights_more : (a : Automaton) (atom : Atom) (ss : List State) (i : ℕ) (s : State) (before : ℕ) (items new : List Side) → i < length ss → s ≡ get_or ss i s → before ≡ length (flat_map (heads_of a) (take i ss))
     → items ≡ matching_sides atom 1 (flat_map (heads_of a) (take i ss)) → new ≡ items ++ matching_sides atom (before + 1) (heads_of a s) → new ≡ matching_sides atom 1 (flat_map (heads_of a) (take (i + 1) ss))

@@ -1,18 +1,16 @@
 //! Heads of states, as a case of a goal sees them.
 
-ghost use Rattle.std.specs.Prelude.{◌≡◌, ◌+◌, ◌<◌, ◌≤◌, ◌^◌, ◌++◌, Bool, length, map, refl, slice_index_or, IfOk, OnOk, true};
+ghost use Rattle.std.specs.Prelude.{◌≡◌, ◌+◌, ◌<◌, ◌≤◌, ◌^◌, ◌++◌, ◌∷◌, length, map, refl, slice_index_or, IfOk, OnOk, true};
 ghost use Rattle.std.specs.List.{AllByRecursion, flat_map};
 ghost use Rattle.std.specs.Option.{IfSome, unwrap_or};
-ghost use Rattle.xd_auto.specs.Automaton.{IsNext, IsState, has_label, has_text, moves_at};
+ghost use Rattle.xd_auto.specs.Automaton.{IsNext, IsState, moves_at};
 ghost use Rattle.xd_auto.specs.declared.auto.State.{State};
-ghost use Rattle.xd_rules.specs.declared.atom.Atom.{Atom};
-ghost use Rattle.xd_rules.specs.Heads.{AreNames, Head, IsSorted, element_in, is_text_atom, matches, text_in};
+ghost use Rattle.xd_rules.specs.Heads.{AreNames, Head, atoms_of, is_text_atom, matches};
 ghost use Rattle.xd_rules.specs.Moves.{claim_with, heads_of, label_head, text_head};
-ghost use Rattle.xd_rules.specs.Wants.{matching_sides, side_at, AreCases, HasHead, IsHeadNamed, head_labels, head_texts, names_in, want_at, wants_at, wants_of};
-ghost use Rattle.xd_rules.specs.Listed.{AreAmong};
+ghost use Rattle.xd_rules.specs.Wants.{matching_sides, side_at, AreCases, HasHead, IsHeadNamed, names_in, want_at, wants_of};
 
 use crate::atom::Atom;
-use crate::head_atoms::{label_atoms, text_atoms};
+use crate::head_atoms::{Names, label_atoms, text_atoms};
 use std::alloc::Global;
 use xd_auto::{Auto, LabelMove, Move, State, TextMove};
 use xd_doc::{Class, Label, NoMemory, Text, Words};
@@ -66,61 +64,55 @@ pub fn share(atom: &Atom) -> Result<Atom, NoMemory>
     }
 }
 
-/// A move as a head, and the atoms of its kind.
-trait Headed: Move {
-    /// What its class names: labels or texts.
-    type Name;
-
+/// A move as a head.
+trait Headed<C: Names>: Move {
     /// Its head.
     ghost head: { Self → Head State };
 
-    /// The atom of a name.
-    ghost named: { Self.Name → Atom };
+    /// Its class.
+    ghost class_of: { Self → C };
 
-    /// The atom of those that nothing names.
-    ghost others: { Atom };
-
-    /// Whether it takes the name.
-    ghost takes: { Self → Self.Name → Bool };
+    fn class(&self) -> &C
+        ensures { result.now ≡ class_of self.now };
 
     /// The number of the first of the state's moves, from this number on, that takes the name.
-    fn next(auto: &Auto, state: State, name: &Self::Name, from: usize) -> Option<usize>
+    fn next(auto: &Auto, state: State, name: &C::Name, from: usize) -> Option<usize>
         requires state { IsState auto.now state }
         requires from { from ≤ length (Self.moves_in (moves_at auto.now state)) }
-        ensures next { IsNext takes (Self.moves_in (moves_at auto.now state)) name.now from (unwrap_or result (length (Self.moves_in (moves_at auto.now state)))) }
+        ensures next { IsNext (λ step. C.has_name (class_of step)) (Self.moves_in (moves_at auto.now state)) name.now from (unwrap_or result (length (Self.moves_in (moves_at auto.now state)))) }
         ensures some { IfSome result (λ number. number < length (Self.moves_in (moves_at auto.now state))) };
-
-    /// Whether it takes what nothing names.
-    fn takes_others(&self) -> bool
-        ensures { result ≡ matches (head self.now).kind others };
 
     /// Its head as a right one of this number.
     fn side(&self, number: usize) -> Side
         ensures { result ≡ side_at number (head self.now) };
 
+    /// The atoms of its head.
+    fn atoms(&self, alloc: Global, unnamed: &Unnamed) -> Result<Vec<Atom>, NoMemory>
+        requires { IsHeadNamed (names_in unnamed.now.labels unnamed.now.texts) (head self.now) }
+        ensures { IfOk result (λ atoms. atoms.items ≡ atoms_of (names_in unnamed.now.labels unnamed.now.texts) (head self.now)) };
+
     /// It takes a name where its head matches the atom.
-    ghost matches_named: { (step : Self) (name : Self.Name) → takes step name ≡ matches (head step).kind (named name) };
+    ghost matches_named: { (step : Self) (name : C.Name) → C.has_name (class_of step) name ≡ matches (head step).kind (C.named name) };
+
+    /// It takes what nothing names where its head matches that atom.
+    ghost matches_others: { (step : Self) → C.excepts (class_of step) ≡ matches (head step).kind C.others };
 }
 
-impl Headed for LabelMove {
-    type Name = Label;
-
+impl Headed<Class> for LabelMove {
     ghost head = { label_head };
 
-    ghost named = { λ label. Atom.Label label };
-
-    ghost others = { Atom.OtherLabel };
-
-    ghost takes = { has_label };
+    ghost class_of = { λ step. step.class };
 
     ghost matches_named = { λ step label. refl };
 
-    fn next(auto: &Auto, state: State, label: &Label, from: usize) -> Option<usize> {
-        auto.next_label_move(state, label, from)
+    ghost matches_others = { λ step. refl };
+
+    fn class(&self) -> &Class {
+        &self.class
     }
 
-    fn takes_others(&self) -> bool {
-        self.class.takes_others()
+    fn next(auto: &Auto, state: State, label: &Label, from: usize) -> Option<usize> {
+        auto.next_label_move(state, label, from)
     }
 
     fn side(&self, number: usize) -> Side {
@@ -130,27 +122,27 @@ impl Headed for LabelMove {
             rest: self.rest,
         }
     }
+
+    fn atoms(&self, alloc: Global, unnamed: &Unnamed) -> Result<Vec<Atom>, NoMemory> {
+        label_atoms(alloc, &self.class, &unnamed.labels)
+    }
 }
 
-impl Headed for TextMove {
-    type Name = Text;
-
+impl Headed<Words> for TextMove {
     ghost head = { text_head };
 
-    ghost named = { λ text. Atom.Text text };
-
-    ghost others = { Atom.OtherText };
-
-    ghost takes = { has_text };
+    ghost class_of = { λ step. step.words };
 
     ghost matches_named = { λ step text. refl };
 
-    fn next(auto: &Auto, state: State, text: &Text, from: usize) -> Option<usize> {
-        auto.next_text_move(state, text, from)
+    ghost matches_others = { λ step. refl };
+
+    fn class(&self) -> &Words {
+        &self.words
     }
 
-    fn takes_others(&self) -> bool {
-        self.words.takes_others()
+    fn next(auto: &Auto, state: State, text: &Text, from: usize) -> Option<usize> {
+        auto.next_text_move(state, text, from)
     }
 
     fn side(&self, number: usize) -> Side {
@@ -160,20 +152,24 @@ impl Headed for TextMove {
             rest: self.rest,
         }
     }
+
+    fn atoms(&self, alloc: Global, unnamed: &Unnamed) -> Result<Vec<Atom>, NoMemory> {
+        text_atoms(alloc, &self.words, &unnamed.texts)
+    }
 }
 
 /// Puts the heads of a state that take a name after the others, where so many heads stand before
 /// them.
-fn add_with_name<M: Headed>(
+fn add_with_name<C: Names, M: Headed<C>>(
     sides: &mut Vec<Side>,
     auto: &Auto,
     state: State,
-    name: &M::Name,
+    name: &C::Name,
     before: usize,
 ) -> Result<(), NoMemory>
     requires state { IsState auto.now state }
     requires room { before + length (M.moves_in (moves_at auto.now state)) < 2 ^ 64 }
-    ensures { OnOk result (sides.new.items ≡ sides.old.items ++ matching_sides (M.named name.now) (before + 1) (map M.head (M.moves_in (moves_at auto.now state)))) }
+    ensures { OnOk result (sides.new.items ≡ sides.old.items ++ matching_sides (C.named name.now) (before + 1) (map M.head (M.moves_in (moves_at auto.now state)))) }
 {
     let moves = M::moves(auto, state);
     let mut from = 0;
@@ -185,7 +181,7 @@ fn add_with_name<M: Headed>(
 }
 
 /// The same for the heads that take what nothing names.
-fn add_with_others<M: Headed>(
+fn add_with_others<C: Names, M: Headed<C>>(
     sides: &mut Vec<Side>,
     auto: &Auto,
     state: State,
@@ -193,12 +189,12 @@ fn add_with_others<M: Headed>(
 ) -> Result<(), NoMemory>
     requires state { IsState auto.now state }
     requires room { before + length (M.moves_in (moves_at auto.now state)) < 2 ^ 64 }
-    ensures { OnOk result (sides.new.items ≡ sides.old.items ++ matching_sides M.others (before + 1) (map M.head (M.moves_in (moves_at auto.now state)))) }
+    ensures { OnOk result (sides.new.items ≡ sides.old.items ++ matching_sides C.others (before + 1) (map M.head (M.moves_in (moves_at auto.now state)))) }
 {
     let moves = M::moves(auto, state);
     for number in 0..moves.len() {
         let step = &moves[number];
-        if !step.takes_others() {
+        if !step.class().takes_others() {
             continue;
         }
         sides.push(step.side(before + number + 1))?;
@@ -223,10 +219,10 @@ fn add_sides(
     let _texts = auto.text_moves(state);
     let behind = before + labels.len();
     match atom {
-        Atom::Label(label) => add_with_name::<LabelMove>(sides, auto, state, label, before),
-        Atom::OtherLabel => add_with_others::<LabelMove>(sides, auto, state, before),
-        Atom::Text(text) => add_with_name::<TextMove>(sides, auto, state, text, behind),
-        Atom::OtherText => add_with_others::<TextMove>(sides, auto, state, behind),
+        Atom::Label(label) => add_with_name::<Class, LabelMove>(sides, auto, state, label, before),
+        Atom::OtherLabel => add_with_others::<Class, LabelMove>(sides, auto, state, before),
+        Atom::Text(text) => add_with_name::<Words, TextMove>(sides, auto, state, text, behind),
+        Atom::OtherText => add_with_others::<Words, TextMove>(sides, auto, state, behind),
     }
 }
 
@@ -271,88 +267,49 @@ pub fn sides_of(
     Ok(sides)
 }
 
-/// Puts labels after the others.
-fn add_labels(names: &mut Vec<Label>, labels: &[Label]) -> Result<(), NoMemory>
-    ensures { OnOk result (names.new.items ≡ names.old.items ++ labels.now) }
+/// Puts names after the others.
+fn add_names<C: Names>(names: &mut Vec<C::Name>, more: &[C::Name]) -> Result<(), NoMemory>
+    ensures { OnOk result (names.new.items ≡ names.old.items ++ more.now) }
 {
-    for label in labels {
-        names.push(label.share()?)?;
+    for name in more {
+        names.push(C::share_name(name)?)?;
     }
     Ok(())
 }
 
-/// Puts texts after the others.
-fn add_texts(names: &mut Vec<Text>, texts: &[Text]) -> Result<(), NoMemory>
-    ensures { OnOk result (names.new.items ≡ names.old.items ++ texts.now) }
-{
-    for text in texts {
-        names.push(text.share()?)?;
-    }
-    Ok(())
-}
-
-/// Puts the labels that a state's heads name after the others.
-fn add_state_labels(names: &mut Vec<Label>, auto: &Auto, state: State) -> Result<(), NoMemory>
+/// Puts the names of a state's moves after the others.
+fn add_state_names<C: Names, M: Headed<C>>(
+    names: &mut Vec<C::Name>,
+    auto: &Auto,
+    state: State,
+) -> Result<(), NoMemory>
     requires { IsState auto.now state }
-    ensures { OnOk result (names.new.items ≡ names.old.items ++ flat_map head_labels (heads_of auto.now state)) }
+    ensures { OnOk result (names.new.items ≡ names.old.items ++ flat_map (λ step. C.names_of (M.class_of step)) (M.moves_in (moves_at auto.now state))) }
 {
-    let moves = auto.label_moves(state);
+    let moves = M::moves(auto, state);
     for step in moves {
-        add_labels(names, step.class.names())?;
+        add_names::<C>(names, step.class().names())?;
     }
     Ok(())
 }
 
-/// Puts the texts that a state's heads name after the others.
-fn add_state_texts(names: &mut Vec<Text>, auto: &Auto, state: State) -> Result<(), NoMemory>
-    requires { IsState auto.now state }
-    ensures { OnOk result (names.new.items ≡ names.old.items ++ flat_map head_texts (heads_of auto.now state)) }
-{
-    let moves = auto.text_moves(state);
-    for step in moves {
-        add_texts(names, step.words.texts())?;
-    }
-    Ok(())
-}
-
-/// All labels but those that the heads of these states name.
-fn unnamed_labels(
+/// The names of the moves of these states.
+fn names_of<C: Names, M: Headed<C>>(
     alloc: Global,
     auto: &Auto,
     left: State,
     rights: &[State],
-) -> Result<Class, NoMemory>
+) -> Result<Vec<C::Name>, NoMemory>
     requires left { IsState auto.now left }
     requires rights { AllByRecursion (IsState auto.now) rights.now }
-    ensures names { IfOk result (λ class. IsSorted (flat_map head_labels (heads_of auto.now left ++ flat_map (heads_of auto.now) rights.now)) class.names) }
-    ensures except { IfOk result (λ class. class.except ≡ true) }
+    ensures { IfOk result (λ names. names.items ≡ flat_map (λ state. flat_map (λ step. C.names_of (M.class_of step)) (M.moves_in (moves_at auto.now state))) (left ∷ rights.now)) }
 {
     let mut names = Vec::new(alloc);
-    add_state_labels(&mut names, auto, left)?;
+    add_state_names::<C, M>(&mut names, auto, left)?;
     for state in rights {
-        add_state_labels(&mut names, auto, *state)?;
+        add_state_names::<C, M>(&mut names, auto, *state)?;
     }
-    Class::new(alloc, names, true)
-}
-
-/// All texts but those that the heads of these states name.
-fn unnamed_texts(
-    alloc: Global,
-    auto: &Auto,
-    left: State,
-    rights: &[State],
-) -> Result<Words, NoMemory>
-    requires left { IsState auto.now left }
-    requires rights { AllByRecursion (IsState auto.now) rights.now }
-    ensures names { IfOk result (λ words. IsSorted (flat_map head_texts (heads_of auto.now left ++ flat_map (heads_of auto.now) rights.now)) words.names) }
-    ensures except { IfOk result (λ words. words.except ≡ true) }
-{
-    let mut names = Vec::new(alloc);
-    add_state_texts(&mut names, auto, left)?;
-    for state in rights {
-        add_state_texts(&mut names, auto, *state)?;
-    }
-    Words::new(alloc, names, true)
+    Ok(names)
 }
 
 /// All labels and all texts but those that the heads of these states name. Fails only where memory
@@ -369,117 +326,47 @@ pub fn unnamed_of(
     ensures labels { IfOk result (λ made. made.labels.except ≡ true) }
     ensures texts { IfOk result (λ made. made.texts.except ≡ true) }
 {
-    let labels = unnamed_labels(alloc, auto, left, rights)?;
-    let texts = unnamed_texts(alloc, auto, left, rights)?;
+    let names = names_of::<Class, LabelMove>(alloc, auto, left, rights)?;
+    let labels = Class::new(alloc, names, true)?;
+    let names = names_of::<Words, TextMove>(alloc, auto, left, rights)?;
+    let texts = Words::new(alloc, names, true)?;
     Ok(Unnamed { labels, texts })
 }
 
 /// Puts the cases of a head at these atoms after the others.
-fn add_at_atoms(
-    cases: &mut Vec<Want>,
-    atoms: &[Atom],
-    head: usize,
-    content: State,
-    rest: State,
-) -> Result<(), NoMemory>
-    ensures { OnOk result (cases.new.items ≡ cases.old.items ++ map (want_at head content rest) atoms.now) }
+fn add_at_atoms(cases: &mut Vec<Want>, atoms: &[Atom], head: Side) -> Result<(), NoMemory>
+    ensures { OnOk result (cases.new.items ≡ cases.old.items ++ map (want_at head.number head.content head.rest) atoms.now) }
 {
     for atom in atoms {
         cases.push(Want {
-            head,
+            head: head.number,
             atom: share(atom)?,
-            content,
-            rest,
+            content: head.content,
+            rest: head.rest,
         })?;
     }
     Ok(())
 }
 
-/// Puts the cases of a move on an element after the others.
-fn add_label_cases(
-    alloc: Global,
-    cases: &mut Vec<Want>,
-    unnamed: &Unnamed,
-    class: &Class,
-    head: usize,
-    content: State,
-    rest: State,
-) -> Result<(), NoMemory>
-    requires { AreAmong class.now.names unnamed.now.labels.names }
-    ensures { OnOk result (cases.new.items ≡ cases.old.items ++ wants_at (names_in unnamed.now.labels unnamed.now.texts) head (record { kind = element_in class.now; content = content; rest = rest })) }
-{
-    let atoms = label_atoms(alloc, class, &unnamed.labels)?;
-    add_at_atoms(cases, &atoms, head, content, rest)
-}
-
-/// Puts the cases of a move on a text after the others.
-fn add_text_cases(
-    alloc: Global,
-    cases: &mut Vec<Want>,
-    unnamed: &Unnamed,
-    words: &Words,
-    head: usize,
-    rest: State,
-) -> Result<(), NoMemory>
-    requires { AreAmong words.now.names unnamed.now.texts.names }
-    ensures { OnOk result (cases.new.items ≡ cases.old.items ++ wants_at (names_in unnamed.now.labels unnamed.now.texts) head (record { kind = text_in words.now; content = rest; rest = rest })) }
-{
-    let atoms = text_atoms(alloc, words, &unnamed.texts)?;
-    add_at_atoms(cases, &atoms, head, rest, rest)
-}
-
-/// Puts the cases of a state's moves on an element after the others.
-fn add_state_label_cases(
+/// Puts the cases of a state's moves after the others, where so many heads stand before them.
+fn add_cases<C: Names, M: Headed<C>>(
     alloc: Global,
     cases: &mut Vec<Want>,
     auto: &Auto,
     left: State,
     unnamed: &Unnamed,
+    before: usize,
 ) -> Result<(), NoMemory>
     requires left { IsState auto.now left }
-    requires named { AllByRecursion (IsHeadNamed (names_in unnamed.now.labels unnamed.now.texts)) (heads_of auto.now left) }
-    ensures { OnOk result (cases.new.items ≡ cases.old.items ++ wants_of (names_in unnamed.now.labels unnamed.now.texts) 1 (map label_head (moves_at auto.now left).labels)) }
+    requires named { AllByRecursion (IsHeadNamed (names_in unnamed.now.labels unnamed.now.texts)) (map M.head (M.moves_in (moves_at auto.now left))) }
+    requires room { before + length (M.moves_in (moves_at auto.now left)) < 2 ^ 64 }
+    ensures { OnOk result (cases.new.items ≡ cases.old.items ++ wants_of (names_in unnamed.now.labels unnamed.now.texts) (1 + before) (map M.head (M.moves_in (moves_at auto.now left)))) }
 {
-    let moves = auto.label_moves(left);
+    let moves = M::moves(auto, left);
     for number in 0..moves.len() {
         let step = &moves[number];
-        add_label_cases(
-            alloc,
-            cases,
-            unnamed,
-            &step.class,
-            number + 1,
-            step.content,
-            step.rest,
-        )?;
-    }
-    Ok(())
-}
-
-/// Puts the cases of a state's moves on a text after the others.
-fn add_state_text_cases(
-    alloc: Global,
-    cases: &mut Vec<Want>,
-    auto: &Auto,
-    left: State,
-    unnamed: &Unnamed,
-) -> Result<(), NoMemory>
-    requires left { IsState auto.now left }
-    requires named { AllByRecursion (IsHeadNamed (names_in unnamed.now.labels unnamed.now.texts)) (heads_of auto.now left) }
-    ensures { OnOk result (cases.new.items ≡ cases.old.items ++ wants_of (names_in unnamed.now.labels unnamed.now.texts) (1 + length (moves_at auto.now left).labels) (map text_head (moves_at auto.now left).texts)) }
-{
-    let before = auto.label_moves(left).len();
-    let moves = auto.text_moves(left);
-    for number in 0..moves.len() {
-        let step = &moves[number];
-        add_text_cases(
-            alloc,
-            cases,
-            unnamed,
-            &step.words,
-            before + number + 1,
-            step.rest,
-        )?;
+        let atoms = step.atoms(alloc, unnamed)?;
+        add_at_atoms(cases, &atoms, step.side(before + number + 1))?;
     }
     Ok(())
 }
@@ -496,8 +383,10 @@ fn cases_of(
     ensures { IfOk result (λ cases. cases.items ≡ wants_of (names_in unnamed.now.labels unnamed.now.texts) 1 (heads_of auto.now left)) }
 {
     let mut cases = Vec::new(alloc);
-    add_state_label_cases(alloc, &mut cases, auto, left, unnamed)?;
-    add_state_text_cases(alloc, &mut cases, auto, left, unnamed)?;
+    let labels = auto.label_moves(left);
+    let _texts = auto.text_moves(left);
+    add_cases::<Class, LabelMove>(alloc, &mut cases, auto, left, unnamed, 0)?;
+    add_cases::<Words, TextMove>(alloc, &mut cases, auto, left, unnamed, labels.len())?;
     Ok(cases)
 }
 

@@ -7,7 +7,6 @@ use Rattle.xd_rules.proofs.heads.add_with_name.Goals as goal
 pub loop-number-preserved : goal.loop-number-preserved
 loop-number-preserved g c =
     let head = g.M.Headed.head in
-    let takes = g.M.Headed.takes in
     let name = c.args.name.now in
     let ms = c.moves-moves.result.now in
     let m = c.index-moves-number.result in
@@ -16,9 +15,9 @@ loop-number-preserved g c =
     let next = rw (← c.moves-moves.ensures.value) at c.in-Some.ensures.next in
     record {
       within = omega arith;
-      made = sides_hit head (g.M.Headed.named name) c.args.before ms c.in-Some.number m c.args.sides.now.items c.loop-number.sides.items c.push.new.self.items below c.index-moves-number.is
-          (sym (g.met.M.Headed.matches_named m name) ∙ ap (λ step. takes step name) c.index-moves-number.is ∙ next.here m below)
-          (sides_next head (g.M.Headed.named name) c.args.before ms takes name (λ step. g.met.M.Headed.matches_named step name) c.loop-number.from c.in-Some.number next c.args.sides.now.items c.loop-number.sides.items c.loop-number.invariant.made)
+      made = sides_hit head (g.C.Names.named name) c.args.before ms c.in-Some.number m c.args.sides.now.items c.loop-number.sides.items c.push.new.self.items below c.index-moves-number.is
+          (sym (g.met.M.Headed.matches_named m name) ∙ ap (λ step. g.C.Names.has_name (g.M.Headed.class_of step) name) c.index-moves-number.is ∙ next.here m below)
+          (sides_next head (g.C.Names.named name) c.args.before ms (λ step. g.C.Names.has_name (g.M.Headed.class_of step)) name (λ step. g.met.M.Headed.matches_named step name) c.loop-number.from c.in-Some.number next c.args.sides.now.items c.loop-number.sides.items c.loop-number.invariant.made)
           (rw c.side.ensures at c.in_ok-push.ensures.items);
     }
 
@@ -27,8 +26,8 @@ returns g c =
     let head = g.M.Headed.head in
     let name = c.args.name.now in
     let ms = c.moves-moves.result.now in
-    sides_done head (g.M.Headed.named name) c.args.before ms (g.M.Move.moves_in (moves_at c.args.auto.now c.args.state)) (length ms) c.args.sides.now.items c.loop-number.sides.items c.moves-moves.ensures.value (omega arith)
-    (sides_next head (g.M.Headed.named name) c.args.before ms g.M.Headed.takes name (λ step. g.met.M.Headed.matches_named step name) c.loop-number.from (length ms) (rw (← c.moves-moves.ensures.value) at c.in_default.ensures.next)
+    sides_done head (g.C.Names.named name) c.args.before ms (g.M.Move.moves_in (moves_at c.args.auto.now c.args.state)) (length ms) c.args.sides.now.items c.loop-number.sides.items c.moves-moves.ensures.value (omega arith)
+    (sides_next head (g.C.Names.named name) c.args.before ms (λ step. g.C.Names.has_name (g.M.Headed.class_of step)) name (λ step. g.met.M.Headed.matches_named step name) c.loop-number.from (length ms) (rw (← c.moves-moves.ensures.value) at c.in_default.ensures.next)
     c.args.sides.now.items c.loop-number.sides.items c.loop-number.invariant.made)
 
 pub loop-number-init : goal.loop-number-init
