@@ -17,6 +17,7 @@ use Rattle.xd_goals.specs.Standing.{IsBegun, IsOpen, IsSeparatedBy, KeepsGoals}
 use Rattle.xd_goals.specs.Facts.{ChoiceStands, RowHolds, FactsOn, FactsOnAutomaton, StaySettled}
 use Rattle.xd_goals.specs.Cases.{AreSettled}
 use Rattle.xd_goals.specs.Measure.{AreMadeFrom, Lowers, possible}
+use Rattle.xd_goals.specs.Progress.{Progresses}
 use Rattle.xd_goals.specs.Reached.{HasTreeWithin, HaveTreesWithin, IsSettled, IsWaitingIn}
 use Rattle.xd_goals.specs.Truth.{IsIncluded}
 use Rattle.xd_goals.specs.Verdicts.{IsGoalBelow, IsProved}
@@ -290,18 +291,12 @@ module _ (g h : Goals) (m : IsMarking g h) where
         was : (i place : ℕ) (k : Choice) → slice_get (row_at h.rows.items i).choices place ≡ Some k → slice_get (row_at g.rows.items i).choices place ≡ Some k
         was i place k e = subst (λ (ks : List Choice). slice_get ks place ≡ Some k) (choices_are i) e
 
--- what stands after at most marks have changed, in a table that came from a first one
-pub record StandsMarked (a : Automaton) (ds : List Document) (first : TableView) (h : Goals) : Type 0 where
-  pub whole : IsWhole h
-  pub stands : FactsOn a ds (view_of h)
-  pub kept : KeepsGoals first (view_of h)
-  pub made : AreMadeFrom (length first.rows) h.rows.items
-
-pub after_marks : (a : Automaton) (ds : List Document) (first : TableView) (g h : Goals) → IsWhole g → FactsOn a ds (view_of g) → KeepsGoals first (view_of g) → AreMadeFrom (length first.rows) g.rows.items → IsMarking g h → StaySettled (view_of h)
-    → StandsMarked a ds first h
-after_marks a ds first g h whole stands kept made m settled = record {
-  whole = marking_whole g h m whole;
-  stands = marking_stands g h m a ds settled stands;
-  kept = keeps_goals-then first (view_of g) (view_of h) kept (marking_kept g h m);
-  made = marking_made g h m (length first.rows) made;
+-- what stands after at most marks have changed
+pub after_marks : (a : Automaton) (ds es : List Document) (first g h : Goals) → Progresses a ds es first g → IsMarking g h → StaySettled (view_of h) → Progresses a ds es first h
+after_marks a ds es first g h p m settled = record {
+  whole = marking_whole g h m p.whole;
+  stands = marking_stands g h m a es settled p.stands;
+  kept = keeps_goals-then (view_of first) (view_of g) (view_of h) p.kept (marking_kept g h m);
+  keeps = p.keeps;
+  made = marking_made g h m (length first.rows.items) p.made;
 }

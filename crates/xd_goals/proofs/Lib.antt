@@ -18,3 +18,5 @@ pub mod IsTreeBySortLemmas
 pub mod PotentialLemmas
 pub mod FactsOnLemmas
 pub mod IsMendingLemmas
+pub mod HasGrownLemmas
+pub mod ProgressesLemmas

@@ -8,3 +8,4 @@ pub mod Reached
 pub mod Truth
 pub mod Verdicts
 pub mod Measure
+pub mod Progress

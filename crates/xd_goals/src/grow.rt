@@ -2,11 +2,10 @@
 
 ghost use Rattle.std.specs.Prelude.{◌≡◌, ◌<◌, [], length, Some, slice_get, IfOk};
 ghost use Rattle.xd_auto.specs.Automaton.{state_number};
-ghost use Rattle.xd_auto.specs.Kept.{AreRight};
 ghost use Rattle.xd_rules.specs.Moves.{AreBelow, IsInOrder, claim_with, with_state};
 ghost use Rattle.xd_goals.specs.Rows.{IsRefuted, claim_at};
 ghost use Rattle.xd_goals.specs.Kept.{Grows, IsConsistent, view_of};
-ghost use Rattle.xd_goals.specs.Standing.{AreSeparated};
+ghost use Rattle.xd_goals.specs.Progress.{CanGrow, HasGrown, IsGrownFrom};
 ghost use Rattle.xd_goals.specs.Trees.{GoesOnAs, GrownAs, HasOpenTree, HasTree, IsFailure, IsFree, IsGrown, IsLeafFor, IsNumbered, IsPathBelow, IsSplitAt, IsTextFailure, IsTextTree, gathered};
 ghost use Rattle.xd_rules.specs.declared.heads.Side.{Side};
 
@@ -32,6 +31,7 @@ pub(crate) struct Task {
 /// task, and the right heads that match.
 #[derive(Clone, Copy)]
 pub(crate) struct Setting<'a> {
+    pub(crate) alloc: Global,
     pub(crate) auto: &'a Auto,
     pub(crate) store: &'a Store,
     pub(crate) task: Task,
@@ -146,33 +146,31 @@ enum Growth {
 /// made of these can help: the tree splits on such a one. No head on the path is such a one, and
 /// where there is none, the element separates.
 fn next_growth(
-    alloc: Global,
     setting: &Setting,
     answers: &mut Answers,
     goals: &mut Goals,
     contents: &[State],
     rests: &[State],
 ) -> Result<Growth, NoMemory>
-    requires consistent { IsConsistent setting.now.task.states goals.old }
-    requires owner { setting.now.task.owner.goal.number < length goals.old.rows.items }
-    requires path { IsPathBelow setting.now.task.states setting.now.task setting.now.sides.now contents.now rests.now }
-    requires states { setting.now.task.states ≡ length setting.now.auto.now }
-    requires separated { AreSeparated setting.now.auto.now setting.now.store.now goals.old.rows.items }
-    requires right { AreRight setting.now.auto.now setting.now.store.now answers.old }
-    ensures consistent { IsConsistent setting.now.task.states goals.new }
-    ensures grows { Grows (view_of goals.old) (view_of goals.new) }
+    requires { CanGrow setting.now.auto.now setting.now.store.now setting.now.task setting.now.sides.now contents.now rests.now goals.old answers.old }
+    ensures grows { HasGrown setting.now.task.states setting.now.auto.now setting.now.store.now goals.old goals.new answers.new }
     ensures growth { IfOk result (GoesOnAs
         (HasOpenTree (view_of goals.new) (λ tree. IsGrown goals.new.rows.items setting.now.task setting.now.sides.now tree contents.now rests.now) setting.now.task.owner)
         (IsFailure setting.now.auto.now setting.now.store.now setting.now.task setting.now.sides.now)
         (IsFree setting.now.sides.now contents.now rests.now)) }
-    ensures right { AreRight setting.now.auto.now setting.now.store.now answers.new }
 {
-    let content = leaf(alloc, goals, setting.task, setting.task.content, contents)?;
+    let content = leaf(
+        setting.alloc,
+        goals,
+        setting.task,
+        setting.task.content,
+        contents,
+    )?;
     let Standing::Refuted(inside) = goals.standing(content) else {
         let leaf = add_node(goals, setting.task.states, ChoiceNode::Content(content))?;
         return Ok(Growth::Ends(Grown::Stands(leaf)));
     };
-    let rest = leaf(alloc, goals, setting.task, setting.task.rest, rests)?;
+    let rest = leaf(setting.alloc, goals, setting.task, setting.task.rest, rests)?;
     let Standing::Refuted(behind) = goals.standing(rest) else {
         let leaf = add_node(goals, setting.task.states, ChoiceNode::Rest(rest))?;
         return Ok(Growth::Ends(Grown::Stands(leaf)));
@@ -186,36 +184,26 @@ fn next_growth(
 /// A tree for an element, from a path on which some of the matching right heads are on the two
 /// sides.
 pub(crate) fn grow(
-    alloc: Global,
     setting: &Setting,
     answers: &mut Answers,
     goals: &mut Goals,
     contents: &[State],
     rests: &[State],
 ) -> Result<Grown, NoMemory>
-    requires consistent { IsConsistent setting.now.task.states goals.old }
-    requires owner { setting.now.task.owner.goal.number < length goals.old.rows.items }
-    requires path { IsPathBelow setting.now.task.states setting.now.task setting.now.sides.now contents.now rests.now }
-    requires states { setting.now.task.states ≡ length setting.now.auto.now }
-    requires separated { AreSeparated setting.now.auto.now setting.now.store.now goals.old.rows.items }
-    requires right { AreRight setting.now.auto.now setting.now.store.now answers.old }
-    ensures consistent { IsConsistent setting.now.task.states goals.new }
-    ensures grows { Grows (view_of goals.old) (view_of goals.new) }
-    ensures grown { IfOk result (GrownAs
-        (HasOpenTree (view_of goals.new) (λ tree. IsGrown goals.new.rows.items setting.now.task setting.now.sides.now tree contents.now rests.now) setting.now.task.owner)
-        (IsFailure setting.now.auto.now setting.now.store.now setting.now.task setting.now.sides.now)) }
-    ensures right { AreRight setting.now.auto.now setting.now.store.now answers.new }
+    requires { CanGrow setting.now.auto.now setting.now.store.now setting.now.task setting.now.sides.now contents.now rests.now goals.old answers.old }
+    ensures grows { HasGrown setting.now.task.states setting.now.auto.now setting.now.store.now goals.old goals.new answers.new }
+    ensures grown { IfOk result (IsGrownFrom setting.now.auto.now setting.now.store.now setting.now.task setting.now.sides.now contents.now rests.now goals.new) }
 {
-    let side = match next_growth(alloc, setting, answers, goals, contents, rests)? {
+    let side = match next_growth(setting, answers, goals, contents, rests)? {
         Growth::Ends(grown) => return Ok(grown),
         Growth::Splits(side) => side,
     };
-    let more = with_state(alloc, contents, side.content)?;
-    match grow(alloc, setting, answers, goals, &more, rests)? {
+    let more = with_state(setting.alloc, contents, side.content)?;
+    match grow(setting, answers, goals, &more, rests)? {
         Grown::Fails(inside, behind) => Ok(Grown::Fails(inside, behind)),
         Grown::Stands(one) => {
-            let more = with_state(alloc, rests, side.rest)?;
-            match grow(alloc, setting, answers, goals, contents, &more)? {
+            let more = with_state(setting.alloc, rests, side.rest)?;
+            match grow(setting, answers, goals, contents, &more)? {
                 Grown::Fails(inside, behind) => Ok(Grown::Fails(inside, behind)),
                 Grown::Stands(two) => {
                     let root = add_split(goals, setting.task, side.number, one, two)?;
@@ -234,25 +222,25 @@ pub(crate) fn node_at(nodes: &[ChoiceNode], number: usize) -> ChoiceNode
     nodes[number]
 }
 
-/// The node that splits between these two trees: the one that is there, where they are its own.
+/// The node that splits between mended trees: the one that is there, where they are its own.
 fn split_again(
     goals: &mut Goals,
     task: Task,
     root: usize,
     right: usize,
-    content: usize,
-    rest: usize,
-    one: usize,
-    two: usize,
+    parts: (usize, usize),
+    mended: (usize, usize),
 ) -> Result<usize, NoMemory>
     requires consistent { IsConsistent task.states goals.old }
-    requires there { IsSplitAt goals.old.nodes.items right content rest root }
-    requires one { one < length goals.old.nodes.items }
-    requires two { two < length goals.old.nodes.items }
+    requires there { IsSplitAt goals.old.nodes.items right parts.0 parts.1 root }
+    requires one { mended.0 < length goals.old.nodes.items }
+    requires two { mended.1 < length goals.old.nodes.items }
     ensures consistent { IsConsistent task.states goals.new }
     ensures grows { Grows (view_of goals.old) (view_of goals.new) }
-    ensures split { IfOk result (IsSplitAt goals.new.nodes.items right one two) }
+    ensures split { IfOk result (IsSplitAt goals.new.nodes.items right mended.0 mended.1) }
 {
+    let (content, rest) = parts;
+    let (one, two) = mended;
     if one == content && two == rest {
         return Ok(root);
     }
@@ -261,7 +249,6 @@ fn split_again(
 
 /// A leaf that names this goal: as it is, or grown anew where the goal is refuted.
 fn repair_leaf(
-    alloc: Global,
     setting: &Setting,
     answers: &mut Answers,
     goals: &mut Goals,
@@ -270,23 +257,14 @@ fn repair_leaf(
     contents: &[State],
     rests: &[State],
 ) -> Result<Grown, NoMemory>
-    requires consistent { IsConsistent setting.now.task.states goals.old }
-    requires owner { setting.now.task.owner.goal.number < length goals.old.rows.items }
-    requires path { IsPathBelow setting.now.task.states setting.now.task setting.now.sides.now contents.now rests.now }
-    requires states { setting.now.task.states ≡ length setting.now.auto.now }
-    requires separated { AreSeparated setting.now.auto.now setting.now.store.now goals.old.rows.items }
-    requires right { AreRight setting.now.auto.now setting.now.store.now answers.old }
+    requires can { CanGrow setting.now.auto.now setting.now.store.now setting.now.task setting.now.sides.now contents.now rests.now goals.old answers.old }
     requires there { goal.number < length goals.old.rows.items }
     requires opens { ¬ (IsRefuted goals.old.rows.items goal.number) → HasOpenTree (view_of goals.old) (λ tree. IsGrown goals.old.rows.items setting.now.task setting.now.sides.now tree contents.now rests.now) setting.now.task.owner root }
-    ensures consistent { IsConsistent setting.now.task.states goals.new }
-    ensures grows { Grows (view_of goals.old) (view_of goals.new) }
-    ensures grown { IfOk result (GrownAs
-        (HasOpenTree (view_of goals.new) (λ tree. IsGrown goals.new.rows.items setting.now.task setting.now.sides.now tree contents.now rests.now) setting.now.task.owner)
-        (IsFailure setting.now.auto.now setting.now.store.now setting.now.task setting.now.sides.now)) }
-    ensures right { AreRight setting.now.auto.now setting.now.store.now answers.new }
+    ensures grows { HasGrown setting.now.task.states setting.now.auto.now setting.now.store.now goals.old goals.new answers.new }
+    ensures grown { IfOk result (IsGrownFrom setting.now.auto.now setting.now.store.now setting.now.task setting.now.sides.now contents.now rests.now goals.new) }
 {
     if goals.is_refuted(goal) {
-        grow(alloc, setting, answers, goals, contents, rests)
+        grow(setting, answers, goals, contents, rests)
     } else {
         Ok(Grown::Stands(root))
     }
@@ -294,7 +272,6 @@ fn repair_leaf(
 
 /// The tree of this root with each leaf that names a refuted goal grown anew.
 pub(crate) fn repair(
-    alloc: Global,
     setting: &Setting,
     answers: &mut Answers,
     goals: &mut Goals,
@@ -302,39 +279,28 @@ pub(crate) fn repair(
     contents: &[State],
     rests: &[State],
 ) -> Result<Grown, NoMemory>
-    requires consistent { IsConsistent setting.now.task.states goals.old }
-    requires owner { setting.now.task.owner.goal.number < length goals.old.rows.items }
-    requires path { IsPathBelow setting.now.task.states setting.now.task setting.now.sides.now contents.now rests.now }
-    requires states { setting.now.task.states ≡ length setting.now.auto.now }
-    requires separated { AreSeparated setting.now.auto.now setting.now.store.now goals.old.rows.items }
-    requires right { AreRight setting.now.auto.now setting.now.store.now answers.old }
+    requires can { CanGrow setting.now.auto.now setting.now.store.now setting.now.task setting.now.sides.now contents.now rests.now goals.old answers.old }
     requires tree { HasTree (view_of goals.old) (λ tree. IsGrown goals.old.rows.items setting.now.task setting.now.sides.now tree contents.now rests.now) setting.now.task.owner root }
-    ensures consistent { IsConsistent setting.now.task.states goals.new }
-    ensures grows { Grows (view_of goals.old) (view_of goals.new) }
-    ensures grown { IfOk result (GrownAs
-        (HasOpenTree (view_of goals.new) (λ tree. IsGrown goals.new.rows.items setting.now.task setting.now.sides.now tree contents.now rests.now) setting.now.task.owner)
-        (IsFailure setting.now.auto.now setting.now.store.now setting.now.task setting.now.sides.now)) }
-    ensures right { AreRight setting.now.auto.now setting.now.store.now answers.new }
+    ensures grows { HasGrown setting.now.task.states setting.now.auto.now setting.now.store.now goals.old goals.new answers.new }
+    ensures grown { IfOk result (IsGrownFrom setting.now.auto.now setting.now.store.now setting.now.task setting.now.sides.now contents.now rests.now goals.new) }
 {
     match node_at(&goals.nodes, root) {
         ChoiceNode::Content(goal) => repair_leaf(
-            alloc, setting, answers, goals, root, goal, contents, rests,
+            setting, answers, goals, root, goal, contents, rests,
         ),
-        ChoiceNode::Rest(goal) => repair_leaf(
-            alloc, setting, answers, goals, root, goal, contents, rests,
-        ),
+        ChoiceNode::Rest(goal) => repair_leaf(setting, answers, goals, root, goal, contents, rests),
         ChoiceNode::Split {
             right,
             content,
             rest,
         } => {
             let side = side_numbered(setting.sides, right);
-            let more = with_state(alloc, contents, side.content)?;
-            match repair(alloc, setting, answers, goals, content, &more, rests)? {
+            let more = with_state(setting.alloc, contents, side.content)?;
+            match repair(setting, answers, goals, content, &more, rests)? {
                 Grown::Fails(inside, behind) => Ok(Grown::Fails(inside, behind)),
                 Grown::Stands(one) => {
-                    let more = with_state(alloc, rests, side.rest)?;
-                    match repair(alloc, setting, answers, goals, rest, contents, &more)? {
+                    let more = with_state(setting.alloc, rests, side.rest)?;
+                    match repair(setting, answers, goals, rest, contents, &more)? {
                         Grown::Fails(inside, behind) => Ok(Grown::Fails(inside, behind)),
                         Grown::Stands(two) => {
                             let root = split_again(
@@ -342,10 +308,8 @@ pub(crate) fn repair(
                                 setting.task,
                                 root,
                                 right,
-                                content,
-                                rest,
-                                one,
-                                two,
+                                (content, rest),
+                                (one, two),
                             )?;
                             Ok(Grown::Stands(root))
                         }

@@ -6,14 +6,13 @@ ghost use Rattle.std.specs.List.{AllByRecursion};
 ghost use Rattle.xd_doc.specs.StoreNodes.{Keeps};
 ghost use Rattle.xd_auto.specs.declared.auto.State.{State};
 ghost use Rattle.xd_auto.specs.Automaton.{IsState};
-ghost use Rattle.xd_auto.specs.Kept.{AreRight};
 ghost use Rattle.xd_rules.specs.Moves.{claim_with};
 ghost use Rattle.xd_goals.specs.Rows.{claim_at};
 ghost use Rattle.xd_goals.specs.Kept.{IsWhole, view_of};
 ghost use Rattle.xd_goals.specs.Standing.{KeepsGoals, StandsOn};
 ghost use Rattle.xd_goals.specs.Facts.{FactsOn};
 ghost use Rattle.xd_goals.specs.Reached.{IsWaitingIn};
-ghost use Rattle.xd_goals.specs.Measure.{AreMadeFrom, Lowers};
+ghost use Rattle.xd_goals.specs.Progress.{CanWork, Progresses, Settles};
 ghost use Rattle.xd_goals.specs.Verdicts.{IsGoalBelow, IsVerdict};
 
 use crate::goals::{Goals, find_or_add};
@@ -103,15 +102,10 @@ fn settle(
     store: &mut Store,
     answers: &mut Answers,
 ) -> Result<Verdict, NoMemory>
-    requires whole { IsWhole goals.old }
+    requires can { CanWork auto.now store.old goals.old answers.old }
     requires asked { asked.number < length goals.old.rows.items }
-    requires stands { FactsOn auto.now store.old (view_of goals.old) }
-    requires right { AreRight auto.now store.old answers.old }
-    ensures whole { IsWhole goals.new }
     ensures verdict { (left : State) (rights : List State) → claim_at goals.old.rows.items asked.number ≡ Some (claim_with left rights) → IfOk result (IsVerdict auto.now store.new (view_of goals.new) left rights) }
-    ensures stands { FactsOn auto.now store.new (view_of goals.new) }
-    ensures goals { KeepsGoals (view_of goals.old) (view_of goals.new) }
-    ensures keeps { Keeps store.old store.new }
+    ensures progresses { Progresses auto.now store.old store.new goals.old goals.new }
 {
     loop {
         if let Standing::Refuted(document) = goals.standing(asked) {
@@ -120,7 +114,7 @@ fn settle(
         let mut agenda = unsettled(alloc, goals, asked)?;
         match agenda.pop() {
             None => return Ok(Verdict::Included(asked)),
-            Some(goal) => run(alloc, auto, goals, asked, goal, &mut agenda, store, answers)?,
+            Some(goal) => run(auto, goals, asked, goal, &mut agenda, store, answers)?,
         }
     }
 }
@@ -129,7 +123,6 @@ fn settle(
 /// that wait again because of a refutation, until none is left or the goal that was asked is
 /// refuted.
 fn run(
-    alloc: Global,
     auto: &Auto,
     goals: &mut Goals,
     asked: GoalId,
@@ -138,26 +131,19 @@ fn run(
     store: &mut Store,
     answers: &mut Answers,
 ) -> Result<(), NoMemory>
-    requires whole { IsWhole goals.old }
+    requires can { CanWork auto.now store.old goals.old answers.old }
     requires asked { asked.number < length goals.old.rows.items }
     requires goal { IsWaitingIn goals.old.rows.items goal }
     requires agenda { AllByRecursion (IsGoalBelow (length goals.old.rows.items)) agenda.old.items }
-    requires stands { FactsOn auto.now store.old (view_of goals.old) }
-    requires right { AreRight auto.now store.old answers.old }
-    ensures whole { IsWhole goals.new }
-    ensures stands { FactsOn auto.now store.new (view_of goals.new) }
-    ensures goals { KeepsGoals (view_of goals.old) (view_of goals.new) }
-    ensures keeps { Keeps store.old store.new }
-    ensures made { AreMadeFrom (length goals.old.rows.items) goals.new.rows.items }
-    ensures lowers { OnOk result (Lowers goals.old.rows.items goals.new.rows.items) }
-    ensures right { OnOk result (AreRight auto.now store.new answers.new) }
+    ensures progresses { Progresses auto.now store.old store.new goals.old goals.new }
+    ensures settles { OnOk result (Settles auto.now store.new goals.old goals.new answers.new) }
 {
-    step(alloc, auto, goals, goal, agenda, store, answers)?;
+    step(auto, goals, goal, agenda, store, answers)?;
     while let Some(goal) = next_waiting(goals, agenda) {
         if let Standing::Refuted(_) = goals.standing(asked) {
             return Ok(());
         }
-        step(alloc, auto, goals, goal, agenda, store, answers)?;
+        step(auto, goals, goal, agenda, store, answers)?;
     }
     Ok(())
 }
@@ -165,7 +151,6 @@ fn run(
 /// Works on a goal that waits, and puts those that have to be worked on because of it on the
 /// agenda.
 fn step(
-    alloc: Global,
     auto: &Auto,
     goals: &mut Goals,
     goal: GoalId,
@@ -173,22 +158,15 @@ fn step(
     store: &mut Store,
     answers: &mut Answers,
 ) -> Result<(), NoMemory>
-    requires whole { IsWhole goals.old }
+    requires can { CanWork auto.now store.old goals.old answers.old }
     requires goal { IsWaitingIn goals.old.rows.items goal }
     requires agenda { AllByRecursion (IsGoalBelow (length goals.old.rows.items)) agenda.old.items }
-    requires stands { FactsOn auto.now store.old (view_of goals.old) }
-    requires right { AreRight auto.now store.old answers.old }
-    ensures whole { IsWhole goals.new }
-    ensures stands { FactsOn auto.now store.new (view_of goals.new) }
-    ensures goals { KeepsGoals (view_of goals.old) (view_of goals.new) }
-    ensures keeps { Keeps store.old store.new }
-    ensures made { AreMadeFrom (length goals.old.rows.items) goals.new.rows.items }
+    ensures progresses { Progresses auto.now store.old store.new goals.old goals.new }
     ensures agenda { OnOk result (AllByRecursion (IsGoalBelow (length goals.new.rows.items)) agenda.new.items) }
-    ensures lowers { OnOk result (Lowers goals.old.rows.items goals.new.rows.items) }
-    ensures right { OnOk result (AreRight auto.now store.new answers.new) }
+    ensures settles { OnOk result (Settles auto.now store.new goals.old goals.new answers.new) }
 {
     let count = goals.rows.len();
-    work(alloc, auto, goals, goal, store, answers)?;
+    work(*agenda.allocator(), auto, goals, goal, store, answers)?;
     list_woken(goals, goal, agenda)?;
     list_new(&goals.rows, count, agenda)?;
     Ok(())

@@ -6,18 +6,16 @@ ghost use Rattle.xd_doc.specs.Stored.{document_at};
 ghost use Rattle.xd_doc.specs.StoredSeq.{BelongsTo};
 ghost use Rattle.xd_doc.specs.StoreNodes.{Keeps};
 ghost use Rattle.xd_auto.specs.Automaton.{IsState};
-ghost use Rattle.xd_auto.specs.Kept.{AreRight};
 ghost use Rattle.xd_rules.specs.Heads.{is_text_atom};
 ghost use Rattle.xd_rules.specs.Moves.{claim_with, is_last_in};
 ghost use Rattle.xd_goals.specs.Rows.{IsRefuted, IsUnbroken, claim_of, row_at};
-ghost use Rattle.xd_goals.specs.Kept.{Grows, IsConsistent, IsWhole, view_of};
+ghost use Rattle.xd_goals.specs.Kept.{view_of};
 ghost use Rattle.xd_goals.specs.Cases.{BeginsAs, FailsAt, IsCaseGrown, IsMended, IsMending, IsSettling, IsUncovered, case_end_of};
 ghost use Rattle.xd_rules.specs.Wants.{IsCaseOf};
-ghost use Rattle.xd_goals.specs.Standing.{AreSeparated, IsSeparatedBy, KeepsGoals};
+ghost use Rattle.xd_goals.specs.Standing.{IsSeparatedBy};
 ghost use Rattle.xd_goals.specs.Facts.{ChoiceStands, FactsOn};
-ghost use Rattle.xd_goals.specs.Reached.{HasTreeWithin, IsOpenAt};
-ghost use Rattle.xd_goals.specs.Measure.{AreMadeFrom, Lowers};
-ghost use Rattle.xd_goals.specs.declared.table.Standing.TheVariants.{Waiting};
+ghost use Rattle.xd_goals.specs.Reached.{HasTreeWithin, IsOpenAt, IsWaitingIn};
+ghost use Rattle.xd_goals.specs.Progress.{CanBegin, CanWork, HasGrown, Progresses, Settles};
 
 use crate::goals::{Goals, hold, refute, set_root, set_standing};
 use crate::grow::{Grown, Setting, Task, grow, grow_text, node_at, repair};
@@ -65,70 +63,74 @@ fn begin_with(
     }
 }
 
-/// A document that the left accepts and no right does, where a case at this atom fails.
+/// A document that the left accepts and no right does, where a case fails.
 fn separate(
     alloc: Global,
     auto: &Auto,
     goals: &Goals,
     owner: GoalId,
     store: &mut Store,
-    atom: &Atom,
-    inside: Seq,
-    behind: Seq,
+    failure: &Failure,
 ) -> Result<Seq, NoMemory>
     requires owner { owner.number < length goals.now.rows.items }
     requires stands { FactsOn auto.now store.old (view_of goals.now) }
-    requires fails { FailsAt auto.now store.old (view_of goals.now) (claim_of (row_at goals.now.rows.items owner.number)) atom.now inside behind }
+    requires fails { FailsAt auto.now store.old (view_of goals.now) (claim_of (row_at goals.now.rows.items owner.number)) failure.now.atom failure.now.inside failure.now.behind }
     ensures keeps { Keeps store.old store.new }
     ensures separated { IfOk result (IsSeparatedBy auto.now store.new (claim_of (row_at goals.now.rows.items owner.number))) }
 {
     let row = &goals.rows[owner.number];
     let unnamed = unnamed_of(alloc, auto, row.left, &row.rights)?;
-    begin_with(alloc, store, &unnamed, atom, inside, behind)
+    begin_with(
+        alloc,
+        store,
+        &unnamed,
+        &failure.atom,
+        failure.inside,
+        failure.behind,
+    )
+}
+
+/// What work on a goal goes by: the automaton, and what was asked of it.
+#[derive(Clone, Copy)]
+struct Asked<'a> {
+    alloc: Global,
+    auto: &'a Auto,
+    left: State,
+    rights: &'a [State],
 }
 
 /// A tree for a case of a goal.
 fn begin_case(
-    alloc: Global,
-    auto: &Auto,
+    asked: &Asked,
     store: &Store,
     answers: &mut Answers,
     goals: &mut Goals,
     owner: GoalCase,
-    left: State,
-    rights: &[State],
     case: &Want,
 ) -> Result<Grown, NoMemory>
-    requires consistent { IsConsistent (length auto.now) goals.old }
-    requires owner { owner.goal.number < length goals.old.rows.items }
-    requires left { IsState auto.now left }
-    requires rights { AllByRecursion (IsState auto.now) rights.now }
-    requires case { IsCaseOf auto.now left case.now }
-    requires separated { AreSeparated auto.now store.now goals.old.rows.items }
-    requires right { AreRight auto.now store.now answers.old }
-    ensures consistent { IsConsistent (length auto.now) goals.new }
-    ensures grows { Grows (view_of goals.old) (view_of goals.new) }
-    ensures grown { IfOk result (IsCaseGrown auto.now store.now (view_of goals.new) owner (claim_with left rights.now) case.now.head case.now.atom) }
-    ensures right { AreRight auto.now store.now answers.new }
+    requires can { CanBegin asked.now.auto.now store.now (claim_with asked.now.left asked.now.rights.now) owner.goal.number goals.old answers.old }
+    requires case { IsCaseOf asked.now.auto.now asked.now.left case.now }
+    ensures grows { HasGrown (length asked.now.auto.now) asked.now.auto.now store.now goals.old goals.new answers.new }
+    ensures grown { IfOk result (IsCaseGrown asked.now.auto.now store.now (view_of goals.new) owner (claim_with asked.now.left asked.now.rights.now) case.now.head case.now.atom) }
 {
-    let _left = left;
-    let sides = sides_of(alloc, auto, rights, &case.atom)?;
+    let sides = sides_of(asked.alloc, asked.auto, asked.rights, &case.atom)?;
     let task = Task {
         owner,
         content: case.content,
         rest: case.rest,
-        states: auto.len(),
+        states: asked.auto.len(),
     };
     if is_text(&case.atom) {
-        grow_text(alloc, goals, task, &sides)
+        grow_text(asked.alloc, goals, task, &sides)
     } else {
         let setting = Setting {
-            auto,
+            alloc: asked.alloc,
+            auto: asked.auto,
             store,
             task,
             sides: &sides,
         };
-        grow(alloc, &setting, answers, goals, &[], &[])
+        grow(&setting, answers, goals, &[], &[])
     }
 }
 
@@ -173,37 +175,25 @@ enum Settled {
 
 /// Trees for the cases of a goal that has none yet.
 fn begin(
-    alloc: Global,
-    auto: &Auto,
+    asked: &Asked,
     store: &Store,
     answers: &mut Answers,
     goals: &mut Goals,
     owner: GoalId,
-    left: State,
-    rights: &[State],
 ) -> Result<Settled, NoMemory>
-    requires consistent { IsConsistent (length auto.now) goals.old }
-    requires owner { owner.number < length goals.old.rows.items }
-    requires left { IsState auto.now left }
-    requires rights { AllByRecursion (IsState auto.now) rights.now }
-    requires separated { AreSeparated auto.now store.now goals.old.rows.items }
-    requires right { AreRight auto.now store.now answers.old }
-    ensures consistent { IsConsistent (length auto.now) goals.new }
-    ensures grows { Grows (view_of goals.old) (view_of goals.new) }
-    ensures settled { IfOk result (IsSettling auto.now store.now (view_of goals.new) owner.number (claim_with left rights.now)) }
-    ensures right { AreRight auto.now store.now answers.new }
+    requires { CanBegin asked.now.auto.now store.now (claim_with asked.now.left asked.now.rights.now) owner.number goals.old answers.old }
+    ensures grows { HasGrown (length asked.now.auto.now) asked.now.auto.now store.now goals.old goals.new answers.new }
+    ensures settled { IfOk result (IsSettling asked.now.auto.now store.now (view_of goals.new) owner.number (claim_with asked.now.left asked.now.rights.now)) }
 {
-    let cases = goal_cases(alloc, auto, left, rights)?;
-    let mut made = Vec::new(alloc);
+    let cases = goal_cases(asked.alloc, asked.auto, asked.left, asked.rights)?;
+    let mut made = Vec::new(asked.alloc);
     for number in 0..cases.len() {
         let case = &cases[number];
         let owner = GoalCase {
             goal: owner,
             place: number,
         };
-        let grown = begin_case(
-            alloc, auto, store, answers, goals, owner, left, rights, case,
-        )?;
+        let grown = begin_case(asked, store, answers, goals, owner, case)?;
         match case_end(case.head, &case.atom, grown)? {
             CaseEnd::Chosen(choice) => made.push(choice)?,
             CaseEnd::Failed(failure) => return Ok(Settled::Separates(failure)),
@@ -237,49 +227,40 @@ fn is_refuted(rows: &[Row], goal: GoalId) -> bool
 
 /// A tree for a choice of a goal: the one that is there, unless a leaf names a refuted goal.
 fn mend_choice(
-    alloc: Global,
-    auto: &Auto,
+    asked: &Asked,
     store: &Store,
     answers: &mut Answers,
     goals: &mut Goals,
     owner: GoalCase,
-    left: State,
-    rights: &[State],
     choice: &Choice,
 ) -> Result<Grown, NoMemory>
-    requires consistent { IsConsistent (length auto.now) goals.old }
-    requires owner { owner.goal.number < length goals.old.rows.items }
-    requires left { IsState auto.now left }
-    requires rights { AllByRecursion (IsState auto.now) rights.now }
-    requires choice { ChoiceStands auto.now (view_of goals.old) owner (claim_with left rights.now) choice.now }
-    requires separated { AreSeparated auto.now store.now goals.old.rows.items }
-    requires right { AreRight auto.now store.now answers.old }
-    ensures consistent { IsConsistent (length auto.now) goals.new }
-    ensures grows { Grows (view_of goals.old) (view_of goals.new) }
-    ensures grown { IfOk result (IsCaseGrown auto.now store.now (view_of goals.new) owner (claim_with left rights.now) choice.now.head choice.now.atom) }
-    ensures right { AreRight auto.now store.now answers.new }
+    requires can { CanBegin asked.now.auto.now store.now (claim_with asked.now.left asked.now.rights.now) owner.goal.number goals.old answers.old }
+    requires choice { ChoiceStands asked.now.auto.now (view_of goals.old) owner (claim_with asked.now.left asked.now.rights.now) choice.now }
+    ensures grows { HasGrown (length asked.now.auto.now) asked.now.auto.now store.now goals.old goals.new answers.new }
+    ensures grown { IfOk result (IsCaseGrown asked.now.auto.now store.now (view_of goals.new) owner (claim_with asked.now.left asked.now.rights.now) choice.now.head choice.now.atom) }
 {
     if !is_broken(&goals.nodes, &goals.rows, choice.root) {
         return Ok(Grown::Stands(choice.root));
     }
-    let sides = sides_of(alloc, auto, rights, &choice.atom)?;
-    let (content, rest) = head_of(auto, left, choice.head);
+    let sides = sides_of(asked.alloc, asked.auto, asked.rights, &choice.atom)?;
+    let (content, rest) = head_of(asked.auto, asked.left, choice.head);
     let task = Task {
         owner,
         content,
         rest,
-        states: auto.len(),
+        states: asked.auto.len(),
     };
     if is_text(&choice.atom) {
-        grow_text(alloc, goals, task, &sides)
+        grow_text(asked.alloc, goals, task, &sides)
     } else {
         let setting = Setting {
-            auto,
+            alloc: asked.alloc,
+            auto: asked.auto,
             store,
             task,
             sides: &sides,
         };
-        repair(alloc, &setting, answers, goals, choice.root, &[], &[])
+        repair(&setting, answers, goals, choice.root, &[], &[])
     }
 }
 
@@ -316,32 +297,22 @@ fn is_flagged(rows: &[Row], case: GoalCase) -> bool
 
 /// Repairs the choice tree of a case, or says how the case fails.
 fn mend_case(
-    alloc: Global,
-    auto: &Auto,
+    asked: &Asked,
     store: &Store,
     answers: &mut Answers,
     goals: &mut Goals,
     owner: GoalCase,
-    left: State,
-    rights: &[State],
 ) -> Result<Option<Failure>, NoMemory>
-    requires whole { IsWhole goals.old }
-    requires owner { owner.goal.number < length goals.old.rows.items }
-    requires waits { (row_at goals.old.rows.items owner.goal.number).standing ≡ Waiting }
+    requires can { CanWork asked.now.auto.now store.now goals.old answers.old }
+    requires waits { IsWaitingIn goals.old.rows.items owner.goal }
     requires place { owner.place < length (row_at goals.old.rows.items owner.goal.number).choices }
-    requires stands { FactsOn auto.now store.now (view_of goals.old) }
-    requires claim { claim_of (row_at goals.old.rows.items owner.goal.number) ≡ claim_with left rights.now }
-    requires right { AreRight auto.now store.now answers.old }
-    ensures whole { IsWhole goals.new }
-    ensures stands { FactsOn auto.now store.now (view_of goals.new) }
+    requires claim { claim_of (row_at goals.old.rows.items owner.goal.number) ≡ claim_with asked.now.left asked.now.rights.now }
+    ensures can { CanWork asked.now.auto.now store.now goals.new answers.new }
     ensures mending { IsMending owner.goal.number (view_of goals.old) (view_of goals.new) }
-    ensures mended { IfOk result (IsMended auto.now store.now (view_of goals.new) owner) }
-    ensures right { AreRight auto.now store.now answers.new }
+    ensures mended { IfOk result (IsMended asked.now.auto.now store.now (view_of goals.new) owner) }
 {
     let choice = choice_of(&goals.rows, owner)?;
-    match mend_choice(
-        alloc, auto, store, answers, goals, owner, left, rights, &choice,
-    )? {
+    match mend_choice(asked, store, answers, goals, owner, &choice)? {
         Grown::Stands(root) => {
             set_root(&mut goals.rows, owner, root);
             Ok(None)
@@ -367,30 +338,13 @@ fn refute_at(
     answers: &Answers,
     failure: &Failure,
 ) -> Result<(), NoMemory>
-    requires whole { IsWhole goals.old }
-    requires owner { owner.number < length goals.old.rows.items }
-    requires waits { (row_at goals.old.rows.items owner.number).standing ≡ Waiting }
-    requires stands { FactsOn auto.now store.old (view_of goals.old) }
+    requires can { CanWork auto.now store.old goals.old answers.now }
+    requires waits { IsWaitingIn goals.old.rows.items owner }
     requires fails { FailsAt auto.now store.old (view_of goals.old) (claim_of (row_at goals.old.rows.items owner.number)) failure.now.atom failure.now.inside failure.now.behind }
-    requires right { AreRight auto.now store.old answers.now }
-    ensures whole { IsWhole goals.new }
-    ensures stands { FactsOn auto.now store.new (view_of goals.new) }
-    ensures goals { KeepsGoals (view_of goals.old) (view_of goals.new) }
-    ensures keeps { Keeps store.old store.new }
-    ensures made { AreMadeFrom (length goals.old.rows.items) goals.new.rows.items }
-    ensures lowers { OnOk result (Lowers goals.old.rows.items goals.new.rows.items) }
-    ensures right { OnOk result (AreRight auto.now store.new answers.now) }
+    ensures progresses { Progresses auto.now store.old store.new goals.old goals.new }
+    ensures settles { OnOk result (Settles auto.now store.new goals.old goals.new answers.now) }
 {
-    let document = separate(
-        alloc,
-        auto,
-        goals,
-        owner,
-        store,
-        &failure.atom,
-        failure.inside,
-        failure.behind,
-    )?;
+    let document = separate(alloc, auto, goals, owner, store, failure)?;
     answers.stay_right();
     refute(&mut goals.rows, &goals.links, owner, document);
     Ok(())
@@ -398,38 +352,35 @@ fn refute_at(
 
 /// Brings a goal that has no choices yet to hold, or to be refuted where a case of it fails.
 fn begin_goal(
-    alloc: Global,
-    auto: &Auto,
+    asked: &Asked,
     goals: &mut Goals,
     owner: GoalId,
     store: &mut Store,
     answers: &mut Answers,
-    left: State,
-    rights: &[State],
 ) -> Result<(), NoMemory>
-    requires whole { IsWhole goals.old }
-    requires owner { owner.number < length goals.old.rows.items }
-    requires waits { (row_at goals.old.rows.items owner.number).standing ≡ Waiting }
-    requires stands { FactsOn auto.now store.old (view_of goals.old) }
-    requires claim { claim_of (row_at goals.old.rows.items owner.number) ≡ claim_with left rights.now }
-    requires last { is_last_in auto.now left ≡ true → list_any (is_last_in auto.now) rights.now ≡ true }
-    requires right { AreRight auto.now store.old answers.old }
-    ensures whole { IsWhole goals.new }
-    ensures stands { FactsOn auto.now store.new (view_of goals.new) }
-    ensures goals { KeepsGoals (view_of goals.old) (view_of goals.new) }
-    ensures keeps { Keeps store.old store.new }
-    ensures made { AreMadeFrom (length goals.old.rows.items) goals.new.rows.items }
-    ensures lowers { OnOk result (Lowers goals.old.rows.items goals.new.rows.items) }
-    ensures right { OnOk result (AreRight auto.now store.new answers.new) }
+    requires can { CanWork asked.now.auto.now store.old goals.old answers.old }
+    requires waits { IsWaitingIn goals.old.rows.items owner }
+    requires claim { claim_of (row_at goals.old.rows.items owner.number) ≡ claim_with asked.now.left asked.now.rights.now }
+    requires last { is_last_in asked.now.auto.now asked.now.left ≡ true → list_any (is_last_in asked.now.auto.now) asked.now.rights.now ≡ true }
+    ensures progresses { Progresses asked.now.auto.now store.old store.new goals.old goals.new }
+    ensures settles { OnOk result (Settles asked.now.auto.now store.new goals.old goals.new answers.new) }
 {
-    match begin(alloc, auto, store, answers, goals, owner, left, rights)? {
+    match begin(asked, store, answers, goals, owner)? {
         Settled::Holds(made) => {
-            let broken = no_marks(alloc, made.len())?;
+            let broken = no_marks(asked.alloc, made.len())?;
             hold(&mut goals.rows, owner, made, broken);
             Ok(())
         }
         Settled::Separates(failure) => {
-            refute_at(alloc, auto, goals, owner, store, answers, &failure)
+            refute_at(
+                asked.alloc,
+                asked.auto,
+                goals,
+                owner,
+                store,
+                answers,
+                &failure,
+            )
         }
     }
 }
@@ -437,37 +388,34 @@ fn begin_goal(
 /// Brings a goal that waits again to hold, or to be refuted where a case of it fails. It looks at
 /// the cases alone whose flags are set.
 fn mend_goal(
-    alloc: Global,
-    auto: &Auto,
+    asked: &Asked,
     goals: &mut Goals,
     owner: GoalId,
     store: &mut Store,
     answers: &mut Answers,
-    left: State,
-    rights: &[State],
 ) -> Result<(), NoMemory>
-    requires whole { IsWhole goals.old }
-    requires owner { owner.number < length goals.old.rows.items }
-    requires waits { (row_at goals.old.rows.items owner.number).standing ≡ Waiting }
+    requires can { CanWork asked.now.auto.now store.old goals.old answers.old }
+    requires waits { IsWaitingIn goals.old.rows.items owner }
+    requires claim { claim_of (row_at goals.old.rows.items owner.number) ≡ claim_with asked.now.left asked.now.rights.now }
     requires begun { ¬ ((row_at goals.old.rows.items owner.number).choices ≡ []) }
-    requires stands { FactsOn auto.now store.old (view_of goals.old) }
-    requires claim { claim_of (row_at goals.old.rows.items owner.number) ≡ claim_with left rights.now }
-    requires right { AreRight auto.now store.old answers.old }
-    ensures whole { IsWhole goals.new }
-    ensures stands { FactsOn auto.now store.new (view_of goals.new) }
-    ensures goals { KeepsGoals (view_of goals.old) (view_of goals.new) }
-    ensures keeps { Keeps store.old store.new }
-    ensures made { AreMadeFrom (length goals.old.rows.items) goals.new.rows.items }
-    ensures lowers { OnOk result (Lowers goals.old.rows.items goals.new.rows.items) }
-    ensures right { OnOk result (AreRight auto.now store.new answers.new) }
+    ensures progresses { Progresses asked.now.auto.now store.old store.new goals.old goals.new }
+    ensures settles { OnOk result (Settles asked.now.auto.now store.new goals.old goals.new answers.new) }
 {
     let row = &goals.rows[owner.number];
     for place in 0..row.broken.len() {
         let case = GoalCase { goal: owner, place };
         if is_flagged(&goals.rows, case) {
-            let failure = mend_case(alloc, auto, store, answers, goals, case, left, rights)?;
+            let failure = mend_case(asked, store, answers, goals, case)?;
             if let Some(failure) = failure {
-                return refute_at(alloc, auto, goals, owner, store, answers, &failure);
+                return refute_at(
+                    asked.alloc,
+                    asked.auto,
+                    goals,
+                    owner,
+                    store,
+                    answers,
+                    &failure,
+                );
             }
         }
     }
@@ -477,35 +425,24 @@ fn mend_goal(
 
 /// Brings a goal that waits to hold, or to be refuted where a case of it fails.
 fn work_on_cases(
-    alloc: Global,
-    auto: &Auto,
+    asked: &Asked,
     goals: &mut Goals,
     owner: GoalId,
     store: &mut Store,
     answers: &mut Answers,
-    left: State,
-    rights: &[State],
 ) -> Result<(), NoMemory>
-    requires whole { IsWhole goals.old }
-    requires owner { owner.number < length goals.old.rows.items }
-    requires waits { (row_at goals.old.rows.items owner.number).standing ≡ Waiting }
-    requires stands { FactsOn auto.now store.old (view_of goals.old) }
-    requires claim { claim_of (row_at goals.old.rows.items owner.number) ≡ claim_with left rights.now }
-    requires last { is_last_in auto.now left ≡ true → list_any (is_last_in auto.now) rights.now ≡ true }
-    requires right { AreRight auto.now store.old answers.old }
-    ensures whole { IsWhole goals.new }
-    ensures stands { FactsOn auto.now store.new (view_of goals.new) }
-    ensures goals { KeepsGoals (view_of goals.old) (view_of goals.new) }
-    ensures keeps { Keeps store.old store.new }
-    ensures made { AreMadeFrom (length goals.old.rows.items) goals.new.rows.items }
-    ensures lowers { OnOk result (Lowers goals.old.rows.items goals.new.rows.items) }
-    ensures right { OnOk result (AreRight auto.now store.new answers.new) }
+    requires can { CanWork asked.now.auto.now store.old goals.old answers.old }
+    requires waits { IsWaitingIn goals.old.rows.items owner }
+    requires claim { claim_of (row_at goals.old.rows.items owner.number) ≡ claim_with asked.now.left asked.now.rights.now }
+    requires last { is_last_in asked.now.auto.now asked.now.left ≡ true → list_any (is_last_in asked.now.auto.now) asked.now.rights.now ≡ true }
+    ensures progresses { Progresses asked.now.auto.now store.old store.new goals.old goals.new }
+    ensures settles { OnOk result (Settles asked.now.auto.now store.new goals.old goals.new answers.new) }
 {
     let row = &goals.rows[owner.number];
     if row.choices.is_empty() {
-        begin_goal(alloc, auto, goals, owner, store, answers, left, rights)
+        begin_goal(asked, goals, owner, store, answers)
     } else {
-        mend_goal(alloc, auto, goals, owner, store, answers, left, rights)
+        mend_goal(asked, goals, owner, store, answers)
     }
 }
 
@@ -518,18 +455,10 @@ pub(crate) fn work(
     store: &mut Store,
     answers: &mut Answers,
 ) -> Result<(), NoMemory>
-    requires whole { IsWhole goals.old }
-    requires owner { owner.number < length goals.old.rows.items }
-    requires waits { (row_at goals.old.rows.items owner.number).standing ≡ Waiting }
-    requires stands { FactsOn auto.now store.old (view_of goals.old) }
-    requires right { AreRight auto.now store.old answers.old }
-    ensures whole { IsWhole goals.new }
-    ensures stands { FactsOn auto.now store.new (view_of goals.new) }
-    ensures goals { KeepsGoals (view_of goals.old) (view_of goals.new) }
-    ensures keeps { Keeps store.old store.new }
-    ensures made { AreMadeFrom (length goals.old.rows.items) goals.new.rows.items }
-    ensures lowers { OnOk result (Lowers goals.old.rows.items goals.new.rows.items) }
-    ensures right { OnOk result (AreRight auto.now store.new answers.new) }
+    requires can { CanWork auto.now store.old goals.old answers.old }
+    requires waits { IsWaitingIn goals.old.rows.items owner }
+    ensures progresses { Progresses auto.now store.old store.new goals.old goals.new }
+    ensures settles { OnOk result (Settles auto.now store.new goals.old goals.new answers.new) }
 {
     let row = &goals.rows[owner.number];
     let left = row.left;
@@ -538,7 +467,13 @@ pub(crate) fn work(
         refute(&mut goals.rows, &goals.links, owner, Seq::empty());
         return Ok(());
     }
-    work_on_cases(alloc, auto, goals, owner, store, answers, left, &rights)
+    let asked = Asked {
+        alloc,
+        auto,
+        left,
+        rights: &rights,
+    };
+    work_on_cases(&asked, goals, owner, store, answers)
 }
 
 /// Whether the left accepts the empty document and no right does.

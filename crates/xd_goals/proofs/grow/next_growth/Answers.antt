@@ -4,34 +4,24 @@ use Rattle.xd_goals.specs.Kept.{view_of}
 use Rattle.xd_rules.specs.Moves.{claim_with}
 use Rattle.xd_goals.specs.Standing.{IsSeparatedBy}
 use Rattle.xd_goals.proofs.GrowsByLemmas.{Grows-then}
+use Rattle.xd_goals.proofs.HasGrownLemmas.{grown-same, grown-step, grown-then}
 use Rattle.xd_goals.proofs.IsSeparatedByLemmas.{leaf_separated, taker_free}
 use Rattle.xd_goals.proofs.Trees.{content_leaf, read_open, rest_leaf}
 use Rattle.xd_goals.proofs.grow.next_growth.Goals as goal
 use Rattle.xd_goals.proofs.grow.next_growth.Goals.{In-Refuted-standing}
 
-pub returns-in_err-leaf-clause-grows : goal.returns-in_err-leaf-clause-grows
-returns-in_err-leaf-clause-grows c = Grows-then (view_of c.args.goals.now) (view_of c.leaf.new.goals) (view_of c.add_node.new.goals) c.in_ok-content.ensures.grows c.add_node.ensures.grows
-
 pub returns-in_default : goal.returns-in_default
 returns-in_default c = record {
-  consistent = c.in_ok-leaf.ensures.consistent;
-  grows = Grows-then (view_of c.args.goals.now) (view_of c.leaf.new.goals) (view_of c.add_node.new.goals) c.in_ok-content.ensures.grows c.in_ok-leaf.ensures.grows;
+  grows = grown-step (grown-step (grown-same c.requires.consistent c.requires.right) c.leaf.ensures.consistent c.leaf.ensures.grows) c.in_ok-leaf.ensures.consistent c.in_ok-leaf.ensures.grows;
   growth = content_leaf c.args.setting.now.task c.args.setting.now.sides.now c.args.contents.now c.args.rests.now (view_of c.leaf.new.goals) (view_of c.add_node.new.goals) c.in_ok-content.content c.in_ok-leaf.leaf
       c.in_ok-content.ensures.ok (read_open c.leaf.new.goals.rows.items c.in_ok-content.content.number c.standing.result c.standing.ensures c.in_default.not-Refuted) c.in_ok-leaf.ensures.grows c.in_ok-leaf.ensures.found;
-  right = c.requires.right;
 }
-
-pub returns-in_err-rest-clause-grows : goal.returns-in_err-rest-clause-grows
-returns-in_err-rest-clause-grows c = Grows-then (view_of c.args.goals.now) (view_of c.leaf.new.goals) (view_of c.leaf-2.new.goals) c.in_ok-content.ensures.grows c.leaf-2.ensures.grows
 
 pub returns-in_default-standing : goal.returns-in_default-standing
 returns-in_default-standing c = record {
-  consistent = c.in_ok-leaf-2.ensures.consistent;
-  grows = Grows-then (view_of c.args.goals.now) (view_of c.leaf.new.goals) (view_of c.add_node-in_default-standing.new.goals) c.in_ok-content.ensures.grows
-      (Grows-then (view_of c.leaf.new.goals) (view_of c.leaf-2.new.goals) (view_of c.add_node-in_default-standing.new.goals) c.in_ok-rest.ensures.grows c.in_ok-leaf-2.ensures.grows);
+  grows = grown-step (grown-step (grown-step (grown-same c.requires.consistent c.requires.right) c.leaf.ensures.consistent c.leaf.ensures.grows) c.leaf-2.ensures.consistent c.leaf-2.ensures.grows) c.in_ok-leaf-2.ensures.consistent c.in_ok-leaf-2.ensures.grows;
   growth = rest_leaf c.args.setting.now.task c.args.setting.now.sides.now c.args.contents.now c.args.rests.now (view_of c.leaf-2.new.goals) (view_of c.add_node-in_default-standing.new.goals) c.in_ok-rest.rest c.in_ok-leaf-2.leaf
       c.in_ok-rest.ensures.ok (read_open c.leaf-2.new.goals.rows.items c.in_ok-rest.rest.number c.standing-2.result c.standing-2.ensures c.in_default-standing.not-Refuted) c.in_ok-leaf-2.ensures.grows c.in_ok-leaf-2.ensures.found;
-  right = c.requires.right;
 }
 
 pub taker-requires-clause-content : goal.taker-requires-clause-content
@@ -64,15 +54,6 @@ taker-requires-clause-inside c = (inside_separates (goal.at.taker-requires-claus
 pub taker-requires-clause-behind : goal.taker-requires-clause-behind
 taker-requires-clause-behind c = (behind_separates (goal.at.taker-requires-clause-behind c).In-Refuted-standing).belongs
 
-pub returns-in_err-side-clause-grows : goal.returns-in_err-side-clause-grows
-returns-in_err-side-clause-grows c = Grows-then (view_of c.args.goals.now) (view_of c.leaf.new.goals) (view_of c.leaf-2.new.goals) c.in_ok-content.ensures.grows c.in_ok-rest.ensures.grows
-
-pub returns-in-Some-clause-grows : goal.returns-in-Some-clause-grows
-returns-in-Some-clause-grows c = Grows-then (view_of c.args.goals.now) (view_of c.leaf.new.goals) (view_of c.leaf-2.new.goals) c.in_ok-content.ensures.grows c.in_ok-rest.ensures.grows
-
-pub returns-in-None-clause-grows : goal.returns-in-None-clause-grows
-returns-in-None-clause-grows c = Grows-then (view_of c.args.goals.now) (view_of c.leaf.new.goals) (view_of c.leaf-2.new.goals) c.in_ok-content.ensures.grows c.in_ok-rest.ensures.grows
-
 pub returns-in-Some-clause-growth : goal.returns-in-Some-clause-growth
 returns-in-Some-clause-growth c =
     let at = (goal.at.returns-in-Some-clause-growth c).In-Refuted-standing in
@@ -95,64 +76,22 @@ returns-in-None-clause-growth c =
 pub taker-requires-clause-sides : goal.taker-requires-clause-sides
 taker-requires-clause-sides c = rw c.requires.states at c.requires.path.sides_below
 
-pub returns-in_err-content-clause-consistent : goal.returns-in_err-content-clause-consistent
-returns-in_err-content-clause-consistent c = c.leaf.ensures.consistent
-
-pub returns-in_err-content-clause-grows : goal.returns-in_err-content-clause-grows
-returns-in_err-content-clause-grows c = c.leaf.ensures.grows
-
 pub returns-in_err-content-clause-growth : goal.returns-in_err-content-clause-growth
 returns-in_err-content-clause-growth c = IfOk-from_err c.from_residual.result _ c.from_residual.ensures.0
-
-pub returns-in_err-content-clause-right : goal.returns-in_err-content-clause-right
-returns-in_err-content-clause-right c = c.requires.right
-
-pub returns-in_err-leaf-clause-consistent : goal.returns-in_err-leaf-clause-consistent
-returns-in_err-leaf-clause-consistent c = c.add_node.ensures.consistent
 
 pub returns-in_err-leaf-clause-growth : goal.returns-in_err-leaf-clause-growth
 returns-in_err-leaf-clause-growth c = IfOk-from_err c.from_residual-in_err-leaf.result _ c.from_residual-in_err-leaf.ensures.0
 
-pub returns-in_err-leaf-clause-right : goal.returns-in_err-leaf-clause-right
-returns-in_err-leaf-clause-right c = c.requires.right
-
-pub returns-in_err-rest-clause-consistent : goal.returns-in_err-rest-clause-consistent
-returns-in_err-rest-clause-consistent c = c.leaf-2.ensures.consistent
-
 pub returns-in_err-rest-clause-growth : goal.returns-in_err-rest-clause-growth
 returns-in_err-rest-clause-growth c = IfOk-from_err c.from_residual-in_err-rest.result _ c.from_residual-in_err-rest.ensures.0
-
-pub returns-in_err-rest-clause-right : goal.returns-in_err-rest-clause-right
-returns-in_err-rest-clause-right c = c.requires.right
-
-pub returns-in_err-side-clause-consistent : goal.returns-in_err-side-clause-consistent
-returns-in_err-side-clause-consistent c = c.leaf-2.ensures.consistent
 
 pub returns-in_err-side-clause-growth : goal.returns-in_err-side-clause-growth
 returns-in_err-side-clause-growth c = IfOk-from_err c.from_residual-in_err-side.result _ c.from_residual-in_err-side.ensures.0
 
-pub returns-in_err-side-clause-right : goal.returns-in_err-side-clause-right
-returns-in_err-side-clause-right c = c.taker.ensures.right
-
-pub returns-in-Some-clause-consistent : goal.returns-in-Some-clause-consistent
-returns-in-Some-clause-consistent c = c.leaf-2.ensures.consistent
-
-pub returns-in-Some-clause-right : goal.returns-in-Some-clause-right
-returns-in-Some-clause-right c = c.taker.ensures.right
-
-pub returns-in-None-clause-consistent : goal.returns-in-None-clause-consistent
-returns-in-None-clause-consistent c = c.leaf-2.ensures.consistent
-
-pub returns-in-None-clause-right : goal.returns-in-None-clause-right
-returns-in-None-clause-right c = c.taker.ensures.right
-
 pub returns-in_err-leaf-2 : goal.returns-in_err-leaf-2
 returns-in_err-leaf-2 c = record {
-  consistent = c.add_node-in_default-standing.ensures.consistent;
-  grows = Grows-then (view_of c.args.goals.now) (view_of c.leaf.new.goals) (view_of c.add_node-in_default-standing.new.goals) c.in_ok-content.ensures.grows
-      (Grows-then (view_of c.leaf.new.goals) (view_of c.leaf-2.new.goals) (view_of c.add_node-in_default-standing.new.goals) c.in_ok-rest.ensures.grows c.add_node-in_default-standing.ensures.grows);
+  grows = grown-step (grown-step (grown-step (grown-same c.requires.consistent c.requires.right) c.leaf.ensures.consistent c.leaf.ensures.grows) c.leaf-2.ensures.consistent c.leaf-2.ensures.grows) c.add_node-in_default-standing.ensures.consistent c.add_node-in_default-standing.ensures.grows;
   growth = IfOk-from_err c.from_residual-in_err-leaf-2.result _ c.from_residual-in_err-leaf-2.ensures.0;
-  right = c.requires.right;
 }
 
 pub leaf-requires-clause-consistent : goal.leaf-requires-clause-consistent
@@ -193,3 +132,21 @@ standing-requires c = c.in_ok-content.ensures.there
 
 pub standing-requires-2 : goal.standing-requires-2
 standing-requires-2 c = c.in_ok-rest.ensures.there
+
+pub returns-in_err-content-clause-grows : goal.returns-in_err-content-clause-grows
+returns-in_err-content-clause-grows c = grown-step (grown-same c.requires.consistent c.requires.right) c.leaf.ensures.consistent c.leaf.ensures.grows
+
+pub returns-in_err-leaf-clause-grows : goal.returns-in_err-leaf-clause-grows
+returns-in_err-leaf-clause-grows c = grown-step (grown-step (grown-same c.requires.consistent c.requires.right) c.leaf.ensures.consistent c.leaf.ensures.grows) c.add_node.ensures.consistent c.add_node.ensures.grows
+
+pub returns-in_err-rest-clause-grows : goal.returns-in_err-rest-clause-grows
+returns-in_err-rest-clause-grows c = grown-step (grown-step (grown-same c.requires.consistent c.requires.right) c.leaf.ensures.consistent c.leaf.ensures.grows) c.leaf-2.ensures.consistent c.leaf-2.ensures.grows
+
+pub returns-in_err-side-clause-grows : goal.returns-in_err-side-clause-grows
+returns-in_err-side-clause-grows c = grown-then (grown-step (grown-step (grown-same c.requires.consistent c.requires.right) c.leaf.ensures.consistent c.leaf.ensures.grows) c.leaf-2.ensures.consistent c.leaf-2.ensures.grows) (grown-same c.leaf-2.ensures.consistent c.taker.ensures.right)
+
+pub returns-in-Some-clause-grows : goal.returns-in-Some-clause-grows
+returns-in-Some-clause-grows c = grown-then (grown-step (grown-step (grown-same c.requires.consistent c.requires.right) c.leaf.ensures.consistent c.leaf.ensures.grows) c.leaf-2.ensures.consistent c.leaf-2.ensures.grows) (grown-same c.leaf-2.ensures.consistent c.taker.ensures.right)
+
+pub returns-in-None-clause-grows : goal.returns-in-None-clause-grows
+returns-in-None-clause-grows c = grown-then (grown-step (grown-step (grown-same c.requires.consistent c.requires.right) c.leaf.ensures.consistent c.leaf.ensures.grows) c.leaf-2.ensures.consistent c.leaf-2.ensures.grows) (grown-same c.leaf-2.ensures.consistent c.taker.ensures.right)

@@ -9,5 +9,5 @@ returns-then-two-rest-clause-grows c = Grows-same (view_of c.args.goals.now)
 
 pub returns-then-two-rest-clause-split : goal.returns-then-two-rest-clause-split
 returns-then-two-rest-clause-split c =
-    subst (λ (x : ℕ). IsSplitAt c.args.goals.now.nodes.items c.args.right x c.args.two c.args.root) (sym c.if-one-content.true)
-    (subst (λ (y : ℕ). IsSplitAt c.args.goals.now.nodes.items c.args.right c.args.content y c.args.root) (sym c.if-two-rest.true) c.requires.there)
+    subst (λ (x : ℕ). IsSplitAt c.args.goals.now.nodes.items c.args.right x c.args.mended.1 c.args.root) (sym c.if-one-content.true)
+    (subst (λ (y : ℕ). IsSplitAt c.args.goals.now.nodes.items c.args.right c.args.parts.0 y c.args.root) (sym c.if-two-rest.true) c.requires.there)

@@ -23,18 +23,20 @@ returns-in_err-asked-clause-keeps c = keeps-same c.args.store.now
 
 pub settle-requires : goal.settle-requires
 settle-requires c = record {
-  whole = whole_of c.len.result c.find_or_add.new.goals c.find_or_add.ensures.consistent;
+  can = record {
+    whole = whole_of c.len.result c.find_or_add.new.goals c.find_or_add.ensures.consistent;
+    stands = asked_stands c.args.auto.now c.args.store.now c.args.goals.now c.find_or_add.new.goals c.find_or_add.ensures.grows (rw c.len.ensures.value at c.find_or_add.ensures.consistent) c.requires.stands;
+    right = c.new-answers.ensures.right c.args.auto.now c.args.store.now;
+  };
   asked = c.in_ok-asked.ensures.there;
-  stands = asked_stands c.args.auto.now c.args.store.now c.args.goals.now c.find_or_add.new.goals c.find_or_add.ensures.grows (rw c.len.ensures.value at c.find_or_add.ensures.consistent) c.requires.stands;
-  right = c.new-answers.ensures.right c.args.auto.now c.args.store.now;
 }
 
 pub returns : goal.returns
 returns c = record {
-  whole = c.settle.ensures.whole;
+  whole = c.settle.ensures.progresses.whole;
   verdict = c.settle.ensures.verdict c.args.left c.args.rights.now c.in_ok-asked.ensures.found;
-  stands = c.settle.ensures.stands;
+  stands = c.settle.ensures.progresses.stands;
   goals = keeps_goals-then (view_of c.args.goals.now) (view_of c.find_or_add.new.goals) (view_of c.settle.new.goals)
-      (asked_kept c.args.auto.now c.args.store.now c.args.goals.now c.find_or_add.new.goals c.find_or_add.ensures.grows (rw c.len.ensures.value at c.find_or_add.ensures.consistent) c.requires.stands) c.settle.ensures.goals;
-  keeps = c.settle.ensures.keeps;
+      (asked_kept c.args.auto.now c.args.store.now c.args.goals.now c.find_or_add.new.goals c.find_or_add.ensures.grows (rw c.len.ensures.value at c.find_or_add.ensures.consistent) c.requires.stands) c.settle.ensures.progresses.kept;
+  keeps = c.settle.ensures.progresses.keeps;
 }

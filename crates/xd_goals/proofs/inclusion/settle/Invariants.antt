@@ -1,20 +1,13 @@
 use Rattle.std.proofs.Common.{◌+◌, length}
-use Rattle.xd_doc.specs.StoreNodes.{Keeps}
 use Rattle.xd_auto.specs.Kept.{AreRight}
-use Rattle.xd_goals.specs.Kept.{IsWhole, view_of}
-use Rattle.xd_goals.specs.Measure.{AreMadeFrom, possible, potential}
-use Rattle.xd_goals.specs.Standing.{KeepsGoals}
-use Rattle.xd_goals.specs.Facts.{FactsOn}
+use Rattle.xd_goals.specs.Measure.{possible, potential}
+use Rattle.xd_goals.specs.Progress.{Progresses}
 use Rattle.xd_goals.proofs.inclusion.settle.Given as goal
 
 abbrev pub invariant-loop-document : goal.invariant-loop-document
 invariant-loop-document l = record {
-  whole : IsWhole l.goals;
-  stands : FactsOn l.auto' l.store (view_of l.goals);
-  kept : KeepsGoals (view_of l.fn.goals) (view_of l.goals);
-  keeps : Keeps l.fn.store l.store;
+  progresses : Progresses l.auto' l.fn.store l.store l.fn.goals l.goals;
   right : AreRight l.auto' l.store l.answers;
-  made : AreMadeFrom (length l.fn.goals.rows.items) l.goals.rows.items;
 }
 
 abbrev pub decreases-loop-document : goal.decreases-loop-document

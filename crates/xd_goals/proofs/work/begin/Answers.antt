@@ -5,45 +5,30 @@ use Rattle.xd_goals.specs.Kept.{view_of}
 use Rattle.xd_rules.specs.Wants.{IsCaseOf, want_key}
 use Rattle.xd_rules.specs.declared.heads.Want.{Want}
 use Rattle.xd_rules.proofs.Lists.{all_get}
-use Rattle.xd_goals.proofs.GrowsByLemmas.{Grows-same, Grows-then}
+use Rattle.xd_goals.proofs.HasGrownLemmas.{can_begin-then, grown-same, grown-then}
 use Rattle.xd_rules.proofs.IsHeadNamedLemmas.{take_all}
-use Rattle.xd_goals.proofs.Facts.{separated-grows}
 use Rattle.xd_goals.proofs.IsTreeBySortLemmas.{begun_more, end_chosen, end_failed}
 use Rattle.xd_goals.proofs.work.begin.Goals as goal
 
-pub loop-number-init : goal.loop-number-init
-loop-number-init c = record {
-  consistent = c.requires.consistent;
-  grows = Grows-same (view_of c.args.goals.now);
-  begun = rw c.new-made.ensures.items (record { keys_are = refl; open_choices = λ place k e. absurd (cc) });
-  right = c.requires.right;
-  end_is = search rules;
-}
-
 pub begin_case-requires-clause-case : goal.begin_case-requires-clause-case
 begin_case-requires-clause-case c =
-    subst (IsCaseOf c.args.auto.now c.args.left) (sym c.index-case.ensures)
-    (all_get (IsCaseOf c.args.auto.now c.args.left) c.in_ok-cases.cases.items c.loop-number.number c.index-case.result.now c.in_ok-cases.ensures.each (omega (arith, c.loop-number-test.true, c.loop-number.invariant.end_is)))
-
-pub begin_case-requires-clause-separated : goal.begin_case-requires-clause-separated
-begin_case-requires-clause-separated c = separated-grows c.args.auto.now c.args.store.now (view_of c.args.goals.now) (view_of c.loop-number.goals) c.loop-number.invariant.grows c.requires.separated
+    subst (IsCaseOf c.args.asked.now.auto.now c.args.asked.now.left) (sym c.index-case.ensures)
+    (all_get (IsCaseOf c.args.asked.now.auto.now c.args.asked.now.left) c.in_ok-cases.cases.items c.loop-number.number c.index-case.result.now c.in_ok-cases.ensures.each (omega (arith, c.loop-number-test.true, c.loop-number.invariant.end_is)))
 
 pub loop-number-preserved : goal.loop-number-preserved
 loop-number-preserved c =
-    let ended = end_chosen c.args.auto.now c.args.store.now (view_of c.begin_case.new.goals) (record { goal = c.args.owner; place = c.loop-number.number }) (claim_with c.args.left c.args.rights.now) c.index-case.result.now.head c.index-case.result.now.atom
+    let ended = end_chosen c.args.asked.now.auto.now c.args.store.now (view_of c.begin_case.new.goals) (record { goal = c.args.owner; place = c.loop-number.number }) (claim_with c.args.asked.now.left c.args.asked.now.rights.now) c.index-case.result.now.head c.index-case.result.now.atom
     c.in_ok-grown.grown c.in_ok-choice.field-0 c.in-Chosen.choice c.in_ok-choice.ensures c.in-Chosen.is c.in_ok-grown.ensures.grown in
     record {
-      consistent = c.begin_case.ensures.consistent;
-      grows = Grows-then (view_of c.args.goals.now) (view_of c.loop-number.goals) (view_of c.begin_case.new.goals) c.loop-number.invariant.grows c.begin_case.ensures.grows;
-      begun = begun_more c.args.auto.now (view_of c.loop-number.goals) (view_of c.begin_case.new.goals) c.begin_case.ensures.grows c.args.owner.number (claim_with c.args.left c.args.rights.now) want_key c.in_ok-cases.cases.items c.loop-number.number c.index-case.result.now
+      grows = grown-then c.loop-number.invariant.grows c.begin_case.ensures.grows;
+      begun = begun_more c.args.asked.now.auto.now (view_of c.loop-number.goals) (view_of c.begin_case.new.goals) c.begin_case.ensures.grows.grows c.args.owner.number (claim_with c.args.asked.now.left c.args.asked.now.rights.now) want_key c.in_ok-cases.cases.items c.loop-number.number c.index-case.result.now
           c.loop-number.made.items c.push.new.self.items c.in-Chosen.choice (omega (arith, c.loop-number-test.true, c.loop-number.invariant.end_is)) c.index-case.ensures ended.0 c.loop-number.invariant.begun ended.1 c.in_ok-push-in-Chosen.ensures.items;
-      right = c.begin_case.ensures.right;
       end_is = c.loop-number.invariant.end_is;
     }
 
 pub returns-in-Failed-clause-settled : goal.returns-in-Failed-clause-settled
 returns-in-Failed-clause-settled c =
-    end_failed c.args.auto.now c.args.store.now (view_of c.begin_case.new.goals) (record { goal = c.args.owner; place = c.loop-number.number }) (claim_with c.args.left c.args.rights.now) c.index-case.result.now.head c.index-case.result.now.atom
+    end_failed c.args.asked.now.auto.now c.args.store.now (view_of c.begin_case.new.goals) (record { goal = c.args.owner; place = c.loop-number.number }) (claim_with c.args.asked.now.left c.args.asked.now.rights.now) c.index-case.result.now.head c.index-case.result.now.atom
     c.in_ok-grown.grown c.in_ok-choice.field-0 c.in-Failed.failure c.in_ok-choice.ensures c.in-Failed.is c.in_ok-grown.ensures.grown
 
 pub returns-clause-settled : goal.returns-clause-settled
@@ -56,89 +41,48 @@ returns-clause-settled c = record {
   open_choices = c.loop-number.invariant.begun.open_choices;
 }
 
-pub returns-in_err-cases-clause-grows : goal.returns-in_err-cases-clause-grows
-returns-in_err-cases-clause-grows c = Grows-same (view_of c.args.goals.now)
-
-pub begin_case-requires-clause-owner : goal.begin_case-requires-clause-owner
-begin_case-requires-clause-owner c = omega (arith, c.loop-number.invariant.grows.longer, c.requires.owner)
-
-pub returns-in_err-grown-clause-grows : goal.returns-in_err-grown-clause-grows
-returns-in_err-grown-clause-grows c = Grows-then (view_of c.args.goals.now) (view_of c.loop-number.goals) (view_of c.begin_case.new.goals) c.loop-number.invariant.grows c.begin_case.ensures.grows
-
-pub returns-in_err-choice-clause-grows : goal.returns-in_err-choice-clause-grows
-returns-in_err-choice-clause-grows c = Grows-then (view_of c.args.goals.now) (view_of c.loop-number.goals) (view_of c.begin_case.new.goals) c.loop-number.invariant.grows c.begin_case.ensures.grows
-
-pub returns-in_err-push-in-Chosen-clause-grows : goal.returns-in_err-push-in-Chosen-clause-grows
-returns-in_err-push-in-Chosen-clause-grows c = Grows-then (view_of c.args.goals.now) (view_of c.loop-number.goals) (view_of c.begin_case.new.goals) c.loop-number.invariant.grows c.begin_case.ensures.grows
-
-pub returns-in-Failed-clause-grows : goal.returns-in-Failed-clause-grows
-returns-in-Failed-clause-grows c = Grows-then (view_of c.args.goals.now) (view_of c.loop-number.goals) (view_of c.begin_case.new.goals) c.loop-number.invariant.grows c.begin_case.ensures.grows
-
-pub returns-in-Failed-clause-consistent : goal.returns-in-Failed-clause-consistent
-returns-in-Failed-clause-consistent c = c.begin_case.ensures.consistent
-
-pub returns-in-Failed-clause-right : goal.returns-in-Failed-clause-right
-returns-in-Failed-clause-right c = c.begin_case.ensures.right
-
-pub returns-in_err-push-in-Chosen-clause-consistent : goal.returns-in_err-push-in-Chosen-clause-consistent
-returns-in_err-push-in-Chosen-clause-consistent c = c.begin_case.ensures.consistent
-
-pub returns-in_err-push-in-Chosen-clause-right : goal.returns-in_err-push-in-Chosen-clause-right
-returns-in_err-push-in-Chosen-clause-right c = c.begin_case.ensures.right
-
 pub returns-in_err-push-in-Chosen-clause-settled : goal.returns-in_err-push-in-Chosen-clause-settled
 returns-in_err-push-in-Chosen-clause-settled c = IfOk-from_err c.from_residual-in_err-push-in-Chosen.result _ c.from_residual-in_err-push-in-Chosen.ensures.0
-
-pub returns-in_err-choice-clause-consistent : goal.returns-in_err-choice-clause-consistent
-returns-in_err-choice-clause-consistent c = c.begin_case.ensures.consistent
-
-pub returns-in_err-choice-clause-right : goal.returns-in_err-choice-clause-right
-returns-in_err-choice-clause-right c = c.begin_case.ensures.right
 
 pub returns-in_err-choice-clause-settled : goal.returns-in_err-choice-clause-settled
 returns-in_err-choice-clause-settled c = IfOk-from_err c.from_residual-in_err-choice.result _ c.from_residual-in_err-choice.ensures.0
 
-pub returns-in_err-grown-clause-consistent : goal.returns-in_err-grown-clause-consistent
-returns-in_err-grown-clause-consistent c = c.begin_case.ensures.consistent
-
-pub returns-in_err-grown-clause-right : goal.returns-in_err-grown-clause-right
-returns-in_err-grown-clause-right c = c.begin_case.ensures.right
-
 pub returns-in_err-grown-clause-settled : goal.returns-in_err-grown-clause-settled
 returns-in_err-grown-clause-settled c = IfOk-from_err c.from_residual-in_err-grown.result _ c.from_residual-in_err-grown.ensures.0
 
-pub returns-in_err-cases-clause-consistent : goal.returns-in_err-cases-clause-consistent
-returns-in_err-cases-clause-consistent c = c.requires.consistent
-
-pub returns-in_err-cases-clause-right : goal.returns-in_err-cases-clause-right
-returns-in_err-cases-clause-right c = c.requires.right
-
 pub returns-in_err-cases-clause-settled : goal.returns-in_err-cases-clause-settled
 returns-in_err-cases-clause-settled c = IfOk-from_err c.from_residual.result _ c.from_residual.ensures.0
-
-pub returns-clause-consistent : goal.returns-clause-consistent
-returns-clause-consistent c = c.loop-number.invariant.consistent
-
-pub returns-clause-grows : goal.returns-clause-grows
-returns-clause-grows c = c.loop-number.invariant.grows
-
-pub returns-clause-right : goal.returns-clause-right
-returns-clause-right c = c.loop-number.invariant.right
-
-pub begin_case-requires-clause-consistent : goal.begin_case-requires-clause-consistent
-begin_case-requires-clause-consistent c = c.loop-number.invariant.consistent
-
-pub begin_case-requires-clause-right : goal.begin_case-requires-clause-right
-begin_case-requires-clause-right c = c.loop-number.invariant.right
-
-pub begin_case-requires-clause-left : goal.begin_case-requires-clause-left
-begin_case-requires-clause-left c = c.requires.left
-
-pub begin_case-requires-clause-rights : goal.begin_case-requires-clause-rights
-begin_case-requires-clause-rights c = c.requires.rights
 
 pub goal_cases-requires-clause-left : goal.goal_cases-requires-clause-left
 goal_cases-requires-clause-left c = c.requires.left
 
 pub goal_cases-requires-clause-rights : goal.goal_cases-requires-clause-rights
 goal_cases-requires-clause-rights c = c.requires.rights
+
+pub loop-number-init : goal.loop-number-init
+loop-number-init c = record {
+  grows = grown-same c.requires.consistent c.requires.right;
+  begun = rw c.new-made.ensures.items (record { keys_are = refl; open_choices = λ place k e. absurd (cc) });
+  end_is = search rules;
+}
+
+pub begin_case-requires-clause-can : goal.begin_case-requires-clause-can
+begin_case-requires-clause-can c = can_begin-then c.requires c.loop-number.invariant.grows
+
+pub returns-in_err-cases-clause-grows : goal.returns-in_err-cases-clause-grows
+returns-in_err-cases-clause-grows c = grown-same c.requires.consistent c.requires.right
+
+pub returns-in_err-grown-clause-grows : goal.returns-in_err-grown-clause-grows
+returns-in_err-grown-clause-grows c = grown-then c.loop-number.invariant.grows c.begin_case.ensures.grows
+
+pub returns-in_err-choice-clause-grows : goal.returns-in_err-choice-clause-grows
+returns-in_err-choice-clause-grows c = grown-then c.loop-number.invariant.grows c.begin_case.ensures.grows
+
+pub returns-in_err-push-in-Chosen-clause-grows : goal.returns-in_err-push-in-Chosen-clause-grows
+returns-in_err-push-in-Chosen-clause-grows c = grown-then c.loop-number.invariant.grows c.begin_case.ensures.grows
+
+pub returns-in-Failed-clause-grows : goal.returns-in-Failed-clause-grows
+returns-in-Failed-clause-grows c = grown-then c.loop-number.invariant.grows c.begin_case.ensures.grows
+
+pub returns-clause-grows : goal.returns-clause-grows
+returns-clause-grows c = c.loop-number.invariant.grows

@@ -1,19 +1,16 @@
 use Rattle.std.proofs.Common.{ℕ, ◌≡◌, ◌<◌, length}
 use Rattle.xd_doc.specs.StoreNodes.{Keeps}
-use Rattle.xd_auto.specs.Kept.{AreRight}
 use Rattle.xd_goals.specs.Rows.{row_at, IsUnbroken}
-use Rattle.xd_goals.specs.Kept.{IsWhole, view_of}
-use Rattle.xd_goals.specs.Facts.{FactsOn}
+use Rattle.xd_goals.specs.Kept.{view_of}
 use Rattle.xd_goals.specs.Cases.{IsMending}
+use Rattle.xd_goals.specs.Progress.{CanWork}
 use Rattle.xd_goals.proofs.work.mend_goal.Given as goal
 
 abbrev pub invariant-loop-place : goal.invariant-loop-place
 invariant-loop-place l = record {
-  whole : IsWhole l.goals;
-  stands : FactsOn l.auto' l.store (view_of l.goals);
+  can : CanWork l.asked.auto.now l.store l.goals l.answers;
   mending : IsMending l.owner.number (view_of l.initial.goals) (view_of l.goals);
   keeps : Keeps l.initial.store l.store;
-  right : AreRight l.auto' l.store l.answers;
   unbroken : (k : ℕ) → k < l.place → IsUnbroken (row_at l.goals.rows.items l.owner.number) k;
   end_is : l.place-end ≡ length (row_at l.goals.rows.items l.owner.number).broken;
 }

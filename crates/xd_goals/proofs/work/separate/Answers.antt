@@ -13,11 +13,11 @@ use Rattle.xd_goals.proofs.work.separate.Goals as goal
 
 pub begin_with-requires-clause-inside : goal.begin_with-requires-clause-inside
 begin_with-requires-clause-inside c e =
-    content_belongs c.args.auto.now c.args.store.now (view_of c.args.goals.now) c.requires.stands (claim_of (row_at c.args.goals.now.rows.items c.args.owner.number)) c.args.atom.now c.args.inside c.args.behind c.requires.fails e
+    content_belongs c.args.auto.now c.args.store.now (view_of c.args.goals.now) c.requires.stands (claim_of (row_at c.args.goals.now.rows.items c.args.owner.number)) c.args.failure.now.atom c.args.failure.now.inside c.args.failure.now.behind c.requires.fails e
 
 pub begin_with-requires-clause-behind : goal.begin_with-requires-clause-behind
 begin_with-requires-clause-behind c =
-    rest_belongs c.args.auto.now c.args.store.now (view_of c.args.goals.now) c.requires.stands (claim_of (row_at c.args.goals.now.rows.items c.args.owner.number)) c.args.atom.now c.args.inside c.args.behind c.requires.fails
+    rest_belongs c.args.auto.now c.args.store.now (view_of c.args.goals.now) c.requires.stands (claim_of (row_at c.args.goals.now.rows.items c.args.owner.number)) c.args.failure.now.atom c.args.failure.now.inside c.args.failure.now.behind c.requires.fails
 
 pub returns-clause-separated : goal.returns-clause-separated
 returns-clause-separated c =
@@ -25,7 +25,7 @@ returns-clause-separated c =
     separated_by c.args.auto.now c.args.store.now c.begin_with.new.store (view_of c.args.goals.now) c.requires.stands (claim_of (row_at c.args.goals.now.rows.items c.args.owner.number))
     c.in_ok-unnamed.unnamed.labels c.in_ok-unnamed.unnamed.texts
     (subst (λ (r : GoalRow). AreNames (heads_of c.args.auto.now r.left ++ flat_map (heads_of c.args.auto.now) r.rights) (names_in c.in_ok-unnamed.unnamed.labels c.in_ok-unnamed.unnamed.texts)) row (rw c.deref.ensures.value at c.in_ok-unnamed.ensures.names)) c.in_ok-unnamed.ensures.labels c.in_ok-unnamed.ensures.texts
-    c.args.atom.now c.args.inside c.args.behind c.requires.fails c.begin_with.result c.begin_with.ensures.belongs c.begin_with.ensures.begins
+    c.args.failure.now.atom c.args.failure.now.inside c.args.failure.now.behind c.requires.fails c.begin_with.result c.begin_with.ensures.belongs c.begin_with.ensures.begins
 
 pub unnamed_of-requires-clause-left : goal.unnamed_of-requires-clause-left
 unnamed_of-requires-clause-left c =
