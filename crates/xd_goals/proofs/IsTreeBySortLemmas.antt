@@ -16,6 +16,9 @@ use Rattle.xd_rules.specs.Heads.{Head, matches, is_text_atom}
 use Rattle.xd_rules.specs.Rules.{Claim, CaseKey, ChoiceTree, ContentLeaf, RestLeaf, SplitOn, AllLeaves, head_number, keyed}
 use Rattle.xd_rules.proofs.Members.{get-one_of, one_of-all, one_of-append_cases, one_of-from_map, one_of-from_flat_map, one_of-head_number}
 use Rattle.xd_rules.specs.Moves.{claim_with, heads_of, is_last_in, label_head, text_head, with_state}
+use Rattle.xd_auto.specs.Kept.{Answers}
+use Rattle.xd_goals.specs.Progress.{CanBegin, CanGrow}
+use Rattle.xd_goals.specs.declared.goals.Goals.{Goals}
 use Rattle.xd_goals.specs.Rows.{GoalRow, TableView, IsRefuted, choice_key, goal_case}
 use Rattle.xd_goals.specs.Kept.{Grows}
 use Rattle.xd_goals.specs.Trees.{HasTree, HasOpenTree, IsGrown, IsTextTree, gathered, IsTreeBySort, IsFailureBySort, IsPathBelow, GrownAs}
@@ -100,6 +103,16 @@ module _ (a : Automaton) (owner : GoalCase) (c : Claim State) (number : ℕ) (at
         contents_order = tt;
         rests_order = tt;
       }
+
+  pub case_can_grow : {ds : List Document} {g : Goals} {xs : Answers} → IsClosed a → CanBegin a ds c owner.goal.number g xs → CanGrow a ds task_of sides [] [] g xs
+  case_can_grow closed can = record {
+    consistent = rw count can.consistent;
+    owner = can.owner;
+    path = case_path closed can.left can.rights;
+    states = count;
+    separated = can.separated;
+    right = can.right;
+  }
 
   tree_to : (text : Bool) → is_text_atom atom ≡ text → (rows : List GoalRow) (tree : ChoiceTree) → IsTreeBySort text rows task_of sides tree → IsCaseTree a rows owner c has.of_head atom tree
   tree_to text is rows tree k =

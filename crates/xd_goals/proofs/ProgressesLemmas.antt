@@ -15,8 +15,9 @@ use Rattle.xd_goals.specs.Reached.{IsWaitingIn}
 use Rattle.xd_goals.specs.declared.goals.Goals.{Goals}
 use Rattle.xd_goals.specs.declared.table.GoalId.{GoalId}
 use Rattle.xd_goals.proofs.Facts.{keeps_goals-grows, keeps_goals-then, keeps-then}
-use Rattle.xd_goals.proofs.FactsOnLemmas.{keeps-same, keeps_goals-same, none_added, stands_grown, whole_of}
+use Rattle.xd_goals.proofs.FactsOnLemmas.{IsStep, keeps-same, keeps_goals-same, none_added, stands_grown, whole_of, whole_same}
 use Rattle.xd_goals.proofs.PotentialLemmas.{made-grows, made-then}
+use Rattle.xd_goals.proofs.ChoiceStandsLemmas.{SameGoals}
 use Rattle.xd_goals.proofs.Trees.{standing-grows}
 
 pub progresses-same : {a : Automaton} {ds : List Document} {g : Goals} → IsWhole g → FactsOn a ds (view_of g) → Progresses a ds ds g g
@@ -40,6 +41,13 @@ progresses-grown {a} {ds} {s} {t} stands h = record {
   keeps = keeps-same ds;
   made = made-grows (view_of s) (view_of t) h.grows;
 }
+
+-- a goal was settled, in a table whose goals are the same otherwise
+pub progresses-settled : {a : Automaton} {ds es : List Document} {s t u : Goals} → IsWhole t → IsStep a es (view_of s) (view_of u) → Keeps ds es → SameGoals t.rows.items u.rows.items
+    → u.found ≡ t.found → u.nodes.items ≡ t.nodes.items → u.links.items ≡ t.links.items → Progresses a ds es s u
+progresses-settled {a} {ds} {es} {s} {t} {u} whole step keeps same found nodes links =
+    let w = whole_same t.rows.items u.rows.items t.nodes.items t.links.items t.found same whole.index whole.links whole.nodes in
+    record { whole = record { index = rw found w.0; links = rw links w.1; nodes = rw nodes w.2 }; stands = step.stands; kept = step.kept; keeps = keeps; made = step.made }
 
 -- cases of a goal were repaired
 pub progresses-mending : {a : Automaton} {ds es : List Document} {s t : Goals} {xs : Answers} {goal : ℕ} → CanWork a es t xs → IsMending goal (view_of s) (view_of t) → Keeps ds es → Progresses a ds es s t

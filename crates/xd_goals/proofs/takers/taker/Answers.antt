@@ -4,7 +4,7 @@ use Rattle.xd_auto.specs.Automaton.{IsState}
 use Rattle.xd_goals.specs.Trees.{IsTaker, takes}
 use Rattle.xd_rules.specs.declared.heads.Side.{Side}
 use Rattle.xd_rules.proofs.Lists.{all_at}
-use Rattle.xd_rules.proofs.IsHeadNamedLemmas.{take_all}
+use Rattle.std.proofs.lemmas.List.{take_all}
 use Rattle.xd_goals.proofs.IsSeparatedByLemmas.{none_more, none_to, or_found}
 use Rattle.xd_goals.proofs.takers.taker.Goals as goal
 
@@ -40,7 +40,7 @@ returns-clause-found c =
     (AllByRecursion (λ (s : Side). takes c.args.setting.now.auto.now c.args.setting.now.store.now c.args.inside c.args.behind s ≡ false) c.args.setting.now.sides.now)
     (IsTaker c.args.setting.now.auto.now c.args.setting.now.store.now c.args.setting.now.sides.now c.args.inside c.args.behind) c.loop-place.first
     (λ h. subst (AllByRecursion (λ (s : Side). takes c.args.setting.now.auto.now c.args.setting.now.store.now c.args.inside c.args.behind s ≡ false))
-    (take_all c.args.setting.now.sides.now c.loop-place.place (omega (arith, c.loop-place-test.false, c.loop-place.invariant.end_is))) h)
+    (take_all c.loop-place.place c.args.setting.now.sides.now (omega (arith, c.loop-place-test.false, c.loop-place.invariant.end_is))) h)
     c.loop-place.invariant.found
 
 pub is_taker-requires-clause-content : goal.is_taker-requires-clause-content

@@ -6,7 +6,7 @@ use Rattle.xd_rules.specs.Wants.{IsCaseOf, want_key}
 use Rattle.xd_rules.specs.declared.heads.Want.{Want}
 use Rattle.xd_rules.proofs.Lists.{all_get}
 use Rattle.xd_goals.proofs.HasGrownLemmas.{can_begin-then, grown-same, grown-then}
-use Rattle.xd_rules.proofs.IsHeadNamedLemmas.{take_all}
+use Rattle.std.proofs.lemmas.List.{take_all}
 use Rattle.xd_goals.proofs.IsTreeBySortLemmas.{begun_more, end_chosen, end_failed}
 use Rattle.xd_goals.proofs.work.begin.Goals as goal
 
@@ -36,7 +36,7 @@ returns-clause-settled c = record {
   named = c.in_ok-cases.ensures.named;
   names = c.in_ok-cases.ensures.names;
   complete = c.loop-number.invariant.begun.keys_are
-      ∙ ap (λ (ws : List Want). map want_key ws) (take_all c.in_ok-cases.cases.items c.loop-number.number (omega (arith, c.loop-number-test.false, c.loop-number.invariant.end_is)))
+      ∙ ap (λ (ws : List Want). map want_key ws) (take_all c.loop-number.number c.in_ok-cases.cases.items (omega (arith, c.loop-number-test.false, c.loop-number.invariant.end_is)))
       ∙ c.in_ok-cases.ensures.complete;
   open_choices = c.loop-number.invariant.begun.open_choices;
 }

@@ -3,7 +3,7 @@ use Rattle.std.proofs.Common.{sym, true, false, ◌∙◌}
 use Rattle.xd_rules.specs.Moves.{claim_with}
 use Rattle.xd_goals.specs.Kept.{view_of}
 use Rattle.xd_goals.proofs.HasGrownLemmas.{grown-same}
-use Rattle.xd_goals.proofs.IsTreeBySortLemmas.{case_path, case_grown}
+use Rattle.xd_goals.proofs.IsTreeBySortLemmas.{case_can_grow, case_path, case_grown}
 use Rattle.xd_goals.proofs.work.begin_case.Goals as goal
 
 pub grow_text-requires-clause-path : goal.grow_text-requires-clause-path
@@ -28,15 +28,9 @@ pub sides_of-requires : goal.sides_of-requires
 sides_of-requires c = c.requires.can.rights
 
 pub grow-requires : goal.grow-requires
-grow-requires c = record {
-  consistent = rw c.len.ensures.value c.requires.can.consistent;
-  owner = c.requires.can.owner;
-  path = case_path c.args.asked.now.auto.now c.args.owner (claim_with c.args.asked.now.left c.args.asked.now.rights.now) c.args.case.now.head c.args.case.now.atom c.args.case.now.content c.args.case.now.rest c.requires.case.has c.len.result c.len.ensures.value c.deref-else-is_text.result.now (c.deref-else-is_text.ensures.value ∙ c.in_ok-sides.ensures)
-      c.len.ensures.closed c.requires.can.left c.requires.can.rights;
-  states = c.len.ensures.value;
-  separated = c.requires.can.separated;
-  right = c.requires.can.right;
-}
+grow-requires c =
+    case_can_grow c.args.asked.now.auto.now c.args.owner (claim_with c.args.asked.now.left c.args.asked.now.rights.now) c.args.case.now.head c.args.case.now.atom c.args.case.now.content c.args.case.now.rest c.requires.case.has c.len.result c.len.ensures.value c.deref-else-is_text.result.now (c.deref-else-is_text.ensures.value ∙ c.in_ok-sides.ensures)
+    c.len.ensures.closed c.requires.can
 
 pub returns-clause-grows : goal.returns-clause-grows
 returns-clause-grows c = rw c.len.ensures.value at c.grow.ensures.grows

@@ -1,4 +1,4 @@
-use Rattle.std.proofs.Common.{◌<◌, ◌≡◌, length, sym, subst, ◌∙◌, arith, rules}
+use Rattle.std.proofs.Common.{◌<◌, ◌≡◌, length, sym, subst, ◌∙◌, arith, rules, refl}
 use Rattle.xd_rules.specs.Rules.{Claim}
 use Rattle.xd_auto.specs.declared.auto.State.{State}
 use Rattle.xd_rules.specs.Moves.{claim_with}
@@ -7,8 +7,8 @@ use Rattle.xd_goals.specs.Cases.{FailsAt}
 use Rattle.xd_goals.proofs.Trees.{standing-grows}
 use Rattle.xd_goals.proofs.PotentialLemmas.{lowers-grown}
 use Rattle.xd_rules.proofs.Results.{OnOk-map, OnOk-from_err}
-use Rattle.xd_goals.proofs.FactsOnLemmas.{IsStep, held_by, keeps-same, owner_claim, same_held_by, stands_grown, step_grown, whole_same}
-use Rattle.xd_goals.proofs.ProgressesLemmas.{can_begin, progresses-grown, progresses-then, waits_grown}
+use Rattle.xd_goals.proofs.FactsOnLemmas.{IsStep, held_by, keeps-same, owner_claim, same_held_by, stands_grown, step_grown, whole_of}
+use Rattle.xd_goals.proofs.ProgressesLemmas.{can_begin, progresses-grown, progresses-settled, progresses-then, waits_grown}
 use Rattle.xd_goals.proofs.work.begin_goal.Goals as goal
 
 pub refute_at-requires-clause-fails : goal.refute_at-requires-clause-fails
@@ -32,16 +32,8 @@ hold-requires c = omega (arith, c.begin.ensures.grows.grows.longer, c.requires.w
 
 pub returns-in_ok-broken-in-Holds-clause-progresses : goal.returns-in_ok-broken-in-Holds-clause-progresses
 returns-in_ok-broken-in-Holds-clause-progresses c =
-    let same = same_held_by c.args.asked.now.auto.now c.args.store.now (view_of c.begin.new.goals) c.args.owner.number c.in-Holds.made.items c.in_ok-broken-in-Holds.broken.items (omega (arith, c.begin.ensures.grows.grows.longer, c.requires.waits.there)) (standing-grows (view_of c.args.goals.now) (view_of c.begin.new.goals) c.begin.ensures.grows.grows c.args.owner.number ∙ c.requires.waits.waits) in
-    let w = whole_same c.begin.new.goals.rows.items _ c.begin.new.goals.nodes.items c.begin.new.goals.links.items c.begin.new.goals.found same c.begin.ensures.grows.consistent.index c.begin.ensures.grows.consistent.links c.begin.ensures.grows.consistent.nodes in
-    let step = held c in
-    record {
-      whole = record { index = rw c.hold.ensures w.0; links = rw c.hold.ensures w.1; nodes = rw c.hold.ensures w.2 };
-      stands = step.stands;
-      kept = step.kept;
-      keeps = keeps-same c.args.store.now;
-      made = step.made;
-    }
+    progresses-settled (whole_of (length c.args.asked.now.auto.now) c.begin.new.goals c.begin.ensures.grows.consistent) (held c) (keeps-same c.args.store.now)
+    (rw c.hold.ensures (same_held_by c.args.asked.now.auto.now c.args.store.now (view_of c.begin.new.goals) c.args.owner.number c.in-Holds.made.items c.in_ok-broken-in-Holds.broken.items (omega (arith, c.begin.ensures.grows.grows.longer, c.requires.waits.there)) (standing-grows (view_of c.args.goals.now) (view_of c.begin.new.goals) c.begin.ensures.grows.grows c.args.owner.number ∙ c.requires.waits.waits))) refl refl refl
 
 pub returns-in_ok-broken-in-Holds-clause-settles : goal.returns-in_ok-broken-in-Holds-clause-settles
 returns-in_ok-broken-in-Holds-clause-settles c = record { lowers = (held c).lowers; right = c.begin.ensures.grows.right }

@@ -1,12 +1,12 @@
-use Rattle.std.proofs.Common.{ℕ, ◌≡◌, length, ⊎_elim, sym, subst, ◌∙◌, rules, arith}
+use Rattle.std.proofs.Common.{ℕ, ◌≡◌, length, ⊎_elim, sym, subst, ◌∙◌, rules, arith, refl}
 use Rattle.std.proofs.lemmas.Bool.{cases_lt}
 use Rattle.xd_goals.specs.Kept.{view_of}
 use Rattle.xd_goals.specs.Rows.{GoalRow, row_at, IsUnbroken}
 use Rattle.xd_goals.proofs.AreLinkedLemmas.{row_read}
 use Rattle.xd_rules.proofs.Results.{OnOk-map, OnOk-from_err}
-use Rattle.xd_goals.proofs.FactsOnLemmas.{IsStep, keeps-same, whole_same}
+use Rattle.xd_goals.proofs.FactsOnLemmas.{IsStep, keeps-same}
 use Rattle.xd_goals.proofs.IsMendingLemmas.{lowers-mended, mended_none, mending-same, mending-then, repaired_same, repaired_step}
-use Rattle.xd_goals.proofs.ProgressesLemmas.{progresses-mending, progresses-then}
+use Rattle.xd_goals.proofs.ProgressesLemmas.{progresses-mending, progresses-settled, progresses-then}
 use Rattle.xd_goals.proofs.work.mend_goal.Goals as goal
 use Rattle.xd_goals.proofs.work.mend_goal.Goals.{then-is_flagged+in_ok-failure+in_default, else-is_flagged}
 
@@ -77,17 +77,9 @@ set_standing-requires c = omega (arith, c.loop-place.invariant.mending.kept.long
 
 pub returns-clause-progresses : goal.returns-clause-progresses
 returns-clause-progresses c =
-    let same = repaired_same c.args.asked.now.auto.now c.loop-place.store c.args.owner.number (view_of c.args.goals.now) (view_of c.loop-place.goals) c.requires.waits.there c.requires.waits.waits c.requires.begun c.requires.can.stands.facts c.loop-place.invariant.can.stands
-    c.loop-place.invariant.mending (λ k lt. c.loop-place.invariant.unbroken k (omega (arith, c.loop-place-test.false, c.loop-place.invariant.end_is, lt))) in
-    let w = whole_same c.loop-place.goals.rows.items _ c.loop-place.goals.nodes.items c.loop-place.goals.links.items c.loop-place.goals.found same c.loop-place.invariant.can.whole.index c.loop-place.invariant.can.whole.links c.loop-place.invariant.can.whole.nodes in
-    let step = held c in
-    record {
-      whole = record { index = rw c.set_standing.ensures w.0; links = rw c.set_standing.ensures w.1; nodes = rw c.set_standing.ensures w.2 };
-      stands = step.stands;
-      kept = step.kept;
-      keeps = c.loop-place.invariant.keeps;
-      made = step.made;
-    }
+    progresses-settled c.loop-place.invariant.can.whole (held c) c.loop-place.invariant.keeps
+    (rw c.set_standing.ensures (repaired_same c.args.asked.now.auto.now c.loop-place.store c.args.owner.number (view_of c.args.goals.now) (view_of c.loop-place.goals) c.requires.waits.there c.requires.waits.waits c.requires.begun c.requires.can.stands.facts c.loop-place.invariant.can.stands
+    c.loop-place.invariant.mending (λ k lt. c.loop-place.invariant.unbroken k (omega (arith, c.loop-place-test.false, c.loop-place.invariant.end_is, lt))))) refl refl refl
 
 pub returns-clause-settles : goal.returns-clause-settles
 returns-clause-settles c = record { lowers = (held c).lowers; right = c.loop-place.invariant.can.right }

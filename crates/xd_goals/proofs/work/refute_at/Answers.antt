@@ -1,7 +1,9 @@
+use Rattle.std.proofs.Common.{refl}
 use Rattle.xd_rules.proofs.Results.{OnOk-from_err}
 use Rattle.xd_goals.specs.Kept.{view_of}
 use Rattle.xd_goals.proofs.Facts.{stands-keeps}
-use Rattle.xd_goals.proofs.FactsOnLemmas.{IsStep, keeps_goals-same, none_added, step_refuted, same_refuted, whole_same}
+use Rattle.xd_goals.proofs.FactsOnLemmas.{IsStep, keeps_goals-same, none_added, step_refuted, same_refuted}
+use Rattle.xd_goals.proofs.ProgressesLemmas.{progresses-settled}
 use Rattle.xd_goals.proofs.work.refute_at.Goals as goal
 
 refuted : (c : goal.After-refute) → IsStep c.args.auto.now c.separate.new.store (view_of c.args.goals.now) (record { rows = c.refute.new.rows.items; nodes = c.args.goals.now.nodes.items; links = c.args.goals.now.links.items })
@@ -14,11 +16,9 @@ refute-requires-clause-goal c = c.requires.waits.there
 
 pub returns-clause-progresses : goal.returns-clause-progresses
 returns-clause-progresses c =
-    let same = same_refuted c.args.auto.now c.separate.new.store c.args.goals.now.rows.items c.refute.new.rows.items c.args.goals.now.nodes.items c.args.goals.now.links.items c.args.owner.number c.in_ok-document.document c.requires.waits.there c.requires.waits.waits
-    (rw c.deref.ensures.value at c.refute.ensures) in
-    let w = whole_same c.args.goals.now.rows.items c.refute.new.rows.items c.args.goals.now.nodes.items c.args.goals.now.links.items c.args.goals.now.found same c.requires.can.whole.index c.requires.can.whole.links c.requires.can.whole.nodes in
-    let step = refuted c in
-    record { whole = record { index = w.0; links = w.1; nodes = w.2 }; stands = step.stands; kept = step.kept; keeps = c.separate.ensures.keeps; made = step.made }
+    progresses-settled c.requires.can.whole (refuted c) c.separate.ensures.keeps
+    (same_refuted c.args.auto.now c.separate.new.store c.args.goals.now.rows.items c.refute.new.rows.items c.args.goals.now.nodes.items c.args.goals.now.links.items c.args.owner.number c.in_ok-document.document c.requires.waits.there c.requires.waits.waits
+    (rw c.deref.ensures.value at c.refute.ensures)) refl refl refl
 
 pub returns-clause-settles : goal.returns-clause-settles
 returns-clause-settles c = record { lowers = (refuted c).lowers; right = c.stay_right.ensures.store c.args.auto.now c.args.store.now c.separate.new.store c.separate.ensures.keeps c.requires.can.right }

@@ -7,8 +7,8 @@ use Rattle.xd_goals.specs.Rows.{GoalRow, claim_of, row_at}
 use Rattle.xd_goals.specs.Kept.{view_of}
 use Rattle.xd_goals.proofs.AreLinkedLemmas.{row_read}
 use Rattle.xd_goals.proofs.Verdicts.{empty_separated}
-use Rattle.xd_goals.proofs.FactsOnLemmas.{IsStep, keeps-same, same_refuted, step_refuted, whole_same}
-use Rattle.xd_goals.proofs.ProgressesLemmas.{progresses-same}
+use Rattle.xd_goals.proofs.FactsOnLemmas.{IsStep, keeps-same, same_refuted, step_refuted}
+use Rattle.xd_goals.proofs.ProgressesLemmas.{progresses-same, progresses-settled}
 use Rattle.xd_goals.proofs.work.work.Goals as goal
 
 refuted : (c : goal.After-drop-rights) → IsStep c.args.auto.now c.args.store.now (view_of c.args.goals.now) (record { rows = c.refute.new.rows.items; nodes = c.args.goals.now.nodes.items; links = c.args.goals.now.links.items })
@@ -47,11 +47,9 @@ refute-requires-clause-goal c = c.requires.waits.there
 
 pub returns-then-is_uncovered-clause-progresses : goal.returns-then-is_uncovered-clause-progresses
 returns-then-is_uncovered-clause-progresses c =
-    let same = same_refuted c.args.auto.now c.args.store.now c.args.goals.now.rows.items c.refute.new.rows.items c.args.goals.now.nodes.items c.args.goals.now.links.items c.args.owner.number c.empty.result c.requires.waits.there c.requires.waits.waits
-    (rw c.deref-then-is_uncovered.ensures.value at c.refute.ensures) in
-    let w = whole_same c.args.goals.now.rows.items c.refute.new.rows.items c.args.goals.now.nodes.items c.args.goals.now.links.items c.args.goals.now.found same c.requires.can.whole.index c.requires.can.whole.links c.requires.can.whole.nodes in
-    let step = refuted c in
-    record { whole = record { index = w.0; links = w.1; nodes = w.2 }; stands = step.stands; kept = step.kept; keeps = keeps-same c.args.store.now; made = step.made }
+    progresses-settled c.requires.can.whole (refuted c) (keeps-same c.args.store.now)
+    (same_refuted c.args.auto.now c.args.store.now c.args.goals.now.rows.items c.refute.new.rows.items c.args.goals.now.nodes.items c.args.goals.now.links.items c.args.owner.number c.empty.result c.requires.waits.there c.requires.waits.waits
+    (rw c.deref-then-is_uncovered.ensures.value at c.refute.ensures)) refl refl refl
 
 pub returns-then-is_uncovered-clause-settles : goal.returns-then-is_uncovered-clause-settles
 returns-then-is_uncovered-clause-settles c = record { lowers = (refuted c).lowers; right = c.requires.can.right }
