@@ -4,7 +4,8 @@ use Rattle.std.specs.List.{filter, flat_map, AllByRecursion, slice_get}
 use Rattle.std.specs.List.Sorted.{IsStrictlySortedBy}
 use Rattle.std.specs.Ordering.{nat_cmp}
 use Rattle.std.specs.Cmp.Lexicographic.{slice_cmp}
-use Rattle.std.proofs.lemmas.List.{take_more, append-nil, map-append, length-take-le}
+use Rattle.std.proofs.lemmas.List.{take_more, take_all, append-nil, map-append, length-map, length-take-le}
+use Rattle.std.proofs.lemmas.List.Folds.{flat_map-map}
 use Rattle.std.proofs.lemmas.Grind.{flat_map-append}
 use Rattle.xd_doc.specs.Classes.{is_named}
 use Rattle.xd_auto.specs.declared.auto.State.{State}
@@ -18,14 +19,8 @@ use Rattle.xd_rules.specs.Rules.{CaseKey, keyed, wanted_cases}
 use Rattle.xd_rules.proofs.Members.{one_of-append_left}
 use Rattle.xd_rules.proofs.Atoms.{labels_are_named, texts_are_named, one_of_names}
 use Rattle.xd_rules.specs.Moves.{label_head, text_head, heads_of}
-use Rattle.xd_rules.specs.Wants.{HasHead, IsCaseOf, IsHeadNamed, want_of, want_key, wants_at, wants_of, head_labels, head_texts}
+use Rattle.xd_rules.specs.Wants.{HasHead, IsCaseOf, IsHeadNamed, want_of, want_key, wants_at, wants_of}
 use Rattle.xd_rules.specs.declared.heads.Want.{Want}
-
-pub take_all : {X : Type 0} (xs : List X) (i : ℕ) → length xs ≤ i → take i xs ≡ xs
-take_all [] zero le = refl
-take_all [] (suc i) le = refl
-take_all (x ∷ xs) zero le = absurd (omega arith)
-take_all {X} (x ∷ xs) (suc i) le = ap (λ (ys : List X). x ∷ ys) (take_all xs i (omega arith))
 
 pub wants_of-append : (named : Named) (k : ℕ) (hs gs : List (Head State)) → wants_of named k (hs ++ gs) ≡ wants_of named k hs ++ wants_of named (k + length hs) gs
 wants_of-append named k [] gs = let e : k ≡ k + 0 = omega arith in ap (λ (n : ℕ). wants_of named n gs) e
@@ -34,15 +29,11 @@ wants_of-append named k (h ∷ hs) gs =
     ap (λ (ws : List Want). wants_at named k h ++ ws) (wants_of-append named (suc k) hs gs ∙ ap (λ (n : ℕ). wants_of named (suc k) hs ++ wants_of named n gs) e)
     ∙ sym (append_assoc (wants_at named k h) (wants_of named (suc k) hs) (wants_of named (k + suc (length hs)) gs))
 
-length-mapped : {X Y : Type 0} (f : X → Y) (xs : List X) → length (map f xs) ≡ length xs
-length-mapped f [] = refl
-length-mapped f (x ∷ xs) = ap suc (length-mapped f xs)
-
 -- a loop over moves, as heads
 pub heads_step : {M : Type 0} (f : M → Head State) (named : Named) (k : ℕ) (ms : List M) (i : ℕ) (m : M) (old items new : List Want) (number : ℕ) (h : Head State) → i < length ms → m ≡ get_or ms i m → number ≡ k + i → h ≡ f m
     → items ≡ old ++ wants_of named k (map f (take i ms)) → new ≡ items ++ wants_at named number h → new ≡ old ++ wants_of named k (map f (take (i + 1) ms))
 heads_step {M} f named k ms i m old items new number h lt e count is inv step =
-    let place : number ≡ k + length (map f (take i ms)) = omega (arith, length-mapped f (take i ms), length-take-le i ms (omega arith)) in
+    let place : number ≡ k + length (map f (take i ms)) = omega (arith, length-map (take i ms) f, length-take-le i ms (omega arith)) in
     step ∙ ap (λ (ws : List Want). ws ++ wants_at named number h) inv ∙ append_assoc old (wants_of named k (map f (take i ms))) (wants_at named number h)
     ∙ ap (λ (ws : List Want). old ++ ws)
     (ap (λ (j : ℕ). wants_of named k (map f (take i ms)) ++ wants_at named j h) place
@@ -52,24 +43,26 @@ heads_step {M} f named k ms i m old items new number h lt e count is inv step =
     ∙ ap (wants_of named k) (sym (map-append f (take i ms) (get_or ms i m ∷ [])) ∙ ap (map f) (sym (take_more ms i m lt))))
 
 pub heads_done : {M : Type 0} (f : M → Head State) (named : Named) (k : ℕ) (ms ns : List M) (i : ℕ) (old items : List Want) → ms ≡ ns → length ms ≤ i → items ≡ old ++ wants_of named k (map f (take i ms)) → items ≡ old ++ wants_of named k (map f ns)
-heads_done {M} f named k ms ns i old items e le h = h ∙ ap (λ (xs : List M). old ++ wants_of named k (map f xs)) (take_all ms i le ∙ e)
+heads_done {M} f named k ms ns i old items e le h = h ∙ ap (λ (xs : List M). old ++ wants_of named k (map f xs)) (take_all i ms le ∙ e)
 
 -- the cases of both kinds of moves
 pub both_kinds : (named : Named) (a : Automaton) (s : State) (mid new : List Want) → mid ≡ wants_of named 1 (map label_head (moves_at a s).labels)
     → new ≡ mid ++ wants_of named (1 + length (moves_at a s).labels) (map text_head (moves_at a s).texts) → new ≡ wants_of named 1 (heads_of a s)
 both_kinds named a s mid new e f =
     f ∙ ap (λ (ws : List Want). ws ++ wants_of named (1 + length (moves_at a s).labels) (map text_head (moves_at a s).texts)) e
-    ∙ ap (λ (n : ℕ). wants_of named 1 (map label_head (moves_at a s).labels) ++ wants_of named (1 + n) (map text_head (moves_at a s).texts)) (sym (length-mapped label_head (moves_at a s).labels))
+    ∙ ap (λ (n : ℕ). wants_of named 1 (map label_head (moves_at a s).labels) ++ wants_of named (1 + n) (map text_head (moves_at a s).texts)) (sym (length-map (moves_at a s).labels label_head))
     ∙ sym (wants_of-append named 1 (map label_head (moves_at a s).labels) (map text_head (moves_at a s).texts))
+
+abbrev pub head_labels : Head State → List (List ℕ)
+head_labels h = label_names h.kind
+
+abbrev pub head_texts : Head State → List (List ℕ)
+head_texts h = text_names h.kind
 
 -- names of heads are those of moves: texts name no labels, and elements no texts
 none_named : {M : Type 0} (f : Head State → List (List ℕ)) (g : M → Head State) → ((m : M) → f (g m) ≡ []) → (ms : List M) → flat_map f (map g ms) ≡ []
 none_named f g none [] = refl
 none_named f g none (m ∷ ms) = rw (none m) (none_named f g none ms)
-
-flat_map-map : {M : Type 0} (f : Head State → List (List ℕ)) (g : M → Head State) (ms : List M) → flat_map f (map g ms) ≡ flat_map (λ m. f (g m)) ms
-flat_map-map f g [] = refl
-flat_map-map f g (m ∷ ms) = ap (λ (ns : List (List ℕ)). f (g m) ++ ns) (flat_map-map f g ms)
 
 pub state_labels : (a : Automaton) (s : State) → flat_map head_labels (heads_of a s) ≡ flat_map (λ (m : LabelMove). m.class.names) (moves_at a s).labels
 state_labels a s = flat_map-append head_labels (map label_head (moves_at a s).labels) (map text_head (moves_at a s).texts)
@@ -170,7 +163,7 @@ text_head_at a s before ms number m same count past lt e =
     let there = mapped_at text_head ms (number - 1 - before) m [] lt e in
     let at : slice_get (map text_head (moves_at a s).texts) (number - 1 - before) ≡ Some (text_head m) =
     subst (λ (hs : List (Head State)). slice_get hs (number - 1 - before) ≡ Some (text_head m)) (append-nil (map text_head ms) ∙ ap (map text_head) same) there in
-    let place : length (map label_head (moves_at a s).labels) + (number - 1 - before) ≡ number - 1 = omega (arith, length-mapped label_head (moves_at a s).labels) in
+    let place : length (map label_head (moves_at a s).labels) + (number - 1 - before) ≡ number - 1 = omega (arith, length-map (moves_at a s).labels label_head) in
     head_by a s number (text_head m) m.rest m.rest (omega arith)
     (subst (λ (i : ℕ). slice_get (heads_of a s) i ≡ Some (text_head m)) place (behind_at (map label_head (moves_at a s).labels) (map text_head (moves_at a s).texts) (number - 1 - before) (text_head m) at))
     refl refl

@@ -1,7 +1,7 @@
 -- The right heads that match an atom, found move by move.
 use Rattle.std.proofs.Common.{ℕ, zero, suc, ◌+◌, ◌<◌, ◌≤◌, ◌≡◌, Bool, true, false, cond, List, [], ◌∷◌, ◌++◌, length, take, map, get_or, refl, sym, ap, ◌∙◌, subst, arith, append_assoc, length-append}
 use Rattle.std.specs.List.{flat_map}
-use Rattle.std.proofs.lemmas.List.{take_more, append-nil, map-append, length-take-le}
+use Rattle.std.proofs.lemmas.List.{take_more, take_all, append-nil, map-append, length-map, length-take-le}
 use Rattle.std.proofs.lemmas.Grind.{flat_map-append}
 use Rattle.xd_auto.specs.declared.auto.State.{State}
 use Rattle.xd_auto.specs.declared.auto.LabelMove.{LabelMove}
@@ -12,7 +12,6 @@ use Rattle.xd_rules.specs.Heads.{Head, matches}
 use Rattle.xd_rules.specs.Moves.{heads_of, label_head, text_head}
 use Rattle.xd_rules.specs.Wants.{matching_sides, side_at}
 use Rattle.xd_rules.specs.declared.heads.Side.{Side}
-use Rattle.xd_rules.proofs.IsHeadNamedLemmas.{take_all}
 
 pub matching-append : (atom : Atom) (k : ℕ) (xs ys : List (Head State)) → matching_sides atom k (xs ++ ys) ≡ matching_sides atom k xs ++ matching_sides atom (k + length xs) ys
 matching-append atom k [] ys = let e : k ≡ k + 0 = omega arith in ap (λ (n : ℕ). matching_sides atom n ys) e
@@ -32,10 +31,6 @@ elem_at [] i lt = absurd (omega arith)
 elem_at (x ∷ xs) zero lt = x
 elem_at (x ∷ xs) (suc i) lt = elem_at xs i (omega arith)
 
-length-mapped : {X Y : Type 0} (f : X → Y) (xs : List X) → length (map f xs) ≡ length xs
-length-mapped f [] = refl
-length-mapped f (x ∷ xs) = ap suc (length-mapped f xs)
-
 -- heads of moves, of which each has a number
 module _ {M : Type 0} (f : M → Head State) (atom : Atom) (before : ℕ) (ms : List M) where
   abbrev Sides : ℕ → List Side
@@ -43,7 +38,7 @@ module _ {M : Type 0} (f : M → Head State) (atom : Atom) (before : ℕ) (ms : 
 
   sides_more : (i : ℕ) (d : M) → i < length ms → matching_sides atom (before + 1) (map f (take (i + 1) ms)) ≡ matching_sides atom (before + 1) (map f (take i ms)) ++ matching_sides atom (before + i + 1) (f (get_or ms i d) ∷ [])
   sides_more i d lt =
-      let n : before + 1 + length (map f (take i ms)) ≡ before + i + 1 = omega (arith, length-mapped f (take i ms), length-take-le i ms (omega arith)) in
+      let n : before + 1 + length (map f (take i ms)) ≡ before + i + 1 = omega (arith, length-map (take i ms) f, length-take-le i ms (omega arith)) in
       ap (λ (xs : List M). matching_sides atom (before + 1) (map f xs)) (take_more ms i d lt) ∙ ap (matching_sides atom (before + 1)) (map-append f (take i ms) (get_or ms i d ∷ []))
       ∙ matching-append atom (before + 1) (map f (take i ms)) (f (get_or ms i d) ∷ [])
       ∙ ap (λ (k : ℕ). matching_sides atom (before + 1) (map f (take i ms)) ++ matching_sides atom k (f (get_or ms i d) ∷ [])) n
@@ -91,16 +86,12 @@ module _ {M : Type 0} (f : M → Head State) (atom : Atom) (before : ℕ) (ms : 
       gap (suc m) (suc n) le = let g = gap m n (omega arith) in (g.0, (let e = g.1 in omega arith))
 
   pub sides_done : (ns : List M) (i : ℕ) (old items : List Side) → ms ≡ ns → length ms ≤ i → items ≡ old ++ matching_sides atom (before + 1) (map f (take i ms)) → items ≡ old ++ matching_sides atom (before + 1) (map f ns)
-  sides_done ns i old items e le inv = inv ∙ ap (λ (xs : List M). old ++ matching_sides atom (before + 1) (map f xs)) (take_all ms i le ∙ e)
+  sides_done ns i old items e le inv = inv ∙ ap (λ (xs : List M). old ++ matching_sides atom (before + 1) (map f xs)) (take_all i ms le ∙ e)
 
--- moves on elements don't match texts, and moves on texts no labels
-no_text_moves : (atom : Atom) → ((m : TextMove) → matches (text_head m).kind atom ≡ false) → (k : ℕ) (ms : List TextMove) → matching_sides atom k (map text_head ms) ≡ []
-no_text_moves atom lacks k [] = refl
-no_text_moves atom lacks k (m ∷ ms) = ap (λ (b : Bool). cond b (side_at k (text_head m) ∷ matching_sides atom (suc k) (map text_head ms)) (matching_sides atom (suc k) (map text_head ms))) (lacks m) ∙ no_text_moves atom lacks (suc k) ms
-
-no_label_moves : (atom : Atom) → ((m : LabelMove) → matches (label_head m).kind atom ≡ false) → (k : ℕ) (ms : List LabelMove) → matching_sides atom k (map label_head ms) ≡ []
-no_label_moves atom lacks k [] = refl
-no_label_moves atom lacks k (m ∷ ms) = ap (λ (b : Bool). cond b (side_at k (label_head m) ∷ matching_sides atom (suc k) (map label_head ms)) (matching_sides atom (suc k) (map label_head ms))) (lacks m) ∙ no_label_moves atom lacks (suc k) ms
+-- moves of which none matches
+none_match : {M : Type 0} (f : M → Head State) (atom : Atom) → ((m : M) → matches (f m).kind atom ≡ false) → (k : ℕ) (ms : List M) → matching_sides atom k (map f ms) ≡ []
+none_match f atom lacks k [] = refl
+none_match f atom lacks k (m ∷ ms) = ap (λ (b : Bool). cond b (side_at k (f m) ∷ matching_sides atom (suc k) (map f ms)) (matching_sides atom (suc k) (map f ms))) (lacks m) ∙ none_match f atom lacks (suc k) ms
 
 -- the right heads of a state at a label, and at a text
 module _ (a : Automaton) (s : State) (atom : Atom) (before : ℕ) (old new : List Side) where
@@ -113,21 +104,21 @@ module _ (a : Automaton) (s : State) (atom : Atom) (before : ℕ) (old new : Lis
   pub at_label : ((m : TextMove) → matches (text_head m).kind atom ≡ false) → new ≡ old ++ matching_sides atom (before + 1) (map label_head (moves_at a s).labels) → new ≡ old ++ matching_sides atom (before + 1) (heads_of a s)
   at_label lacks h = h ∙ ap (λ (ss : List Side). old ++ ss)
       (sym (matching-append atom (before + 1) (map label_head ls) (map text_head ts)
-      ∙ ap (λ (ss : List Side). matching_sides atom (before + 1) (map label_head ls) ++ ss) (no_text_moves atom lacks (before + 1 + length (map label_head ls)) ts)
+      ∙ ap (λ (ss : List Side). matching_sides atom (before + 1) (map label_head ls) ++ ss) (none_match text_head atom lacks (before + 1 + length (map label_head ls)) ts)
       ∙ append-nil (matching_sides atom (before + 1) (map label_head ls))))
 
   pub at_text : (behind : ℕ) → behind ≡ before + length (moves_at a s).labels → ((m : LabelMove) → matches (label_head m).kind atom ≡ false) → new ≡ old ++ matching_sides atom (behind + 1) (map text_head (moves_at a s).texts)
       → new ≡ old ++ matching_sides atom (before + 1) (heads_of a s)
   at_text behind e lacks h =
-      let n : before + 1 + length (map label_head ls) ≡ behind + 1 = omega (arith, length-mapped label_head ls) in
+      let n : before + 1 + length (map label_head ls) ≡ behind + 1 = omega (arith, length-map ls label_head) in
       h ∙ ap (λ (ss : List Side). old ++ ss)
       (sym (matching-append atom (before + 1) (map label_head ls) (map text_head ts)
-      ∙ ap (λ (ss : List Side). ss ++ matching_sides atom (before + 1 + length (map label_head ls)) (map text_head ts)) (no_label_moves atom lacks (before + 1) ls)
+      ∙ ap (λ (ss : List Side). ss ++ matching_sides atom (before + 1 + length (map label_head ls)) (map text_head ts)) (none_match label_head atom lacks (before + 1) ls)
       ∙ ap (λ (k : ℕ). matching_sides atom k (map text_head ts)) n))
 
 pub count_heads_of : (a : Automaton) (s : State) → length (heads_of a s) ≡ length (moves_at a s).labels + length (moves_at a s).texts
-count_heads_of a s = length-append (map label_head (moves_at a s).labels) (map text_head (moves_at a s).texts) ∙ ap (λ (n : ℕ). n + length (map text_head (moves_at a s).texts)) (length-mapped label_head (moves_at a s).labels)
-    ∙ ap (λ (n : ℕ). length (moves_at a s).labels + n) (length-mapped text_head (moves_at a s).texts)
+count_heads_of a s = length-append (map label_head (moves_at a s).labels) (map text_head (moves_at a s).texts) ∙ ap (λ (n : ℕ). n + length (map text_head (moves_at a s).texts)) (length-map (moves_at a s).labels label_head)
+    ∙ ap (λ (n : ℕ). length (moves_at a s).labels + n) (length-map (moves_at a s).texts text_head)
 
 flat_map_at : (a : Automaton) (ss : List State) (i : ℕ) (d : State) → i < length ss → flat_map (heads_of a) (take (i + 1) ss) ≡ flat_map (heads_of a) (take i ss) ++ heads_of a (get_or ss i d)
 flat_map_at a ss i d lt = ap (flat_map (heads_of a)) (take_more ss i d lt) ∙ flat_map-append (heads_of a) (take i ss) (get_or ss i d ∷ [])

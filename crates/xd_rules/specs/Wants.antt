@@ -29,12 +29,6 @@ wants_of named k (h ∷ hs) = wants_at named k h ++ wants_of named (suc k) hs
 abbrev pub want_key : Want → CaseKey
 want_key w = keyed w.head w.atom
 
-abbrev pub head_labels : Head State → List (List ℕ)
-head_labels h = label_names h.kind
-
-abbrev pub head_texts : Head State → List (List ℕ)
-head_texts h = text_names h.kind
-
 -- the names of two classes
 abbrev pub names_in : NameClass → NameClass → Named
 names_in labels texts = record { labels = labels.names; texts = texts.names }

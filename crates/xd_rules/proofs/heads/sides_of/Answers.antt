@@ -5,7 +5,7 @@ use Rattle.xd_auto.specs.declared.auto.State.{State}
 use Rattle.xd_rules.specs.Moves.{heads_of}
 use Rattle.xd_rules.specs.Wants.{matching_sides}
 use Rattle.xd_rules.proofs.Lists.{all_get}
-use Rattle.xd_rules.proofs.IsHeadNamedLemmas.{take_all}
+use Rattle.std.proofs.lemmas.List.{take_all}
 use Rattle.xd_rules.proofs.Sides.{rights_more, count_more}
 use Rattle.xd_rules.proofs.heads.sides_of.Goals as goal
 
@@ -29,4 +29,4 @@ add_sides-requires-clause-state c = subst (IsState c.args.auto.now) (sym c.state
 pub returns : goal.returns
 returns c =
     c.loop-place.invariant.made
-    ∙ ap (λ (ss : List State). matching_sides c.args.atom.now 1 (flat_map (heads_of c.args.auto.now) ss)) (take_all c.args.rights.now c.loop-place.place c.loop-place-test.false)
+    ∙ ap (λ (ss : List State). matching_sides c.args.atom.now 1 (flat_map (heads_of c.args.auto.now) ss)) (take_all c.loop-place.place c.args.rights.now c.loop-place-test.false)

@@ -1,5 +1,4 @@
-use Rattle.xd_rules.specs.Wants.{head_labels, head_texts}
-use Rattle.xd_rules.proofs.IsHeadNamedLemmas.{names_sorted, state_labels, state_texts}
+use Rattle.xd_rules.proofs.IsHeadNamedLemmas.{head_labels, head_texts, names_sorted, state_labels, state_texts}
 use Rattle.xd_rules.proofs.heads.unnamed_of.Goals as goal
 
 pub returns-clause-names : goal.returns-clause-names
