@@ -330,21 +330,20 @@ fn mend_case(
 
 /// Refutes a goal of which a case fails, by a document that is made of a content and a rest.
 fn refute_at(
-    alloc: Global,
-    auto: &Auto,
+    asked: &Asked,
     goals: &mut Goals,
     owner: GoalId,
     store: &mut Store,
     answers: &Answers,
     failure: &Failure,
 ) -> Result<(), NoMemory>
-    requires can { CanWork auto.now store.old goals.old answers.now }
+    requires can { CanWork asked.now.auto.now store.old goals.old answers.now }
     requires waits { IsWaitingIn goals.old.rows.items owner }
-    requires fails { FailsAt auto.now store.old (view_of goals.old) (claim_of (row_at goals.old.rows.items owner.number)) failure.now.atom failure.now.inside failure.now.behind }
-    ensures progresses { Progresses auto.now store.old store.new goals.old goals.new }
-    ensures settles { OnOk result (Settles auto.now store.new goals.old goals.new answers.now) }
+    requires fails { FailsAt asked.now.auto.now store.old (view_of goals.old) (claim_of (row_at goals.old.rows.items owner.number)) failure.now.atom failure.now.inside failure.now.behind }
+    ensures progresses { Progresses asked.now.auto.now store.old store.new goals.old goals.new }
+    ensures settles { OnOk result (Settles asked.now.auto.now store.new goals.old goals.new answers.now) }
 {
-    let document = separate(alloc, auto, goals, owner, store, failure)?;
+    let document = separate(asked.alloc, asked.auto, goals, owner, store, failure)?;
     answers.stay_right();
     refute(&mut goals.rows, &goals.links, owner, document);
     Ok(())
@@ -371,17 +370,7 @@ fn begin_goal(
             hold(&mut goals.rows, owner, made, broken);
             Ok(())
         }
-        Settled::Separates(failure) => {
-            refute_at(
-                asked.alloc,
-                asked.auto,
-                goals,
-                owner,
-                store,
-                answers,
-                &failure,
-            )
-        }
+        Settled::Separates(failure) => { refute_at(asked, goals, owner, store, answers, &failure) }
     }
 }
 
@@ -407,15 +396,7 @@ fn mend_goal(
         if is_flagged(&goals.rows, case) {
             let failure = mend_case(asked, store, answers, goals, case)?;
             if let Some(failure) = failure {
-                return refute_at(
-                    asked.alloc,
-                    asked.auto,
-                    goals,
-                    owner,
-                    store,
-                    answers,
-                    &failure,
-                );
+                return refute_at(asked, goals, owner, store, answers, &failure);
             }
         }
     }
