@@ -1,6 +1,6 @@
 -- How sets of states refuse a document.
 use Rattle.std.proofs.Common.{ℕ, ◌≡◌, Bool, true, false, ◌||◌, cond, nat_eq, nat_lt, List, [], ◌∷◌, length, refl, sym, ap, ◌∙◌, arith}
-use Rattle.std.specs.List.{AllByRecursion}
+use Rattle.std.specs.List.{AllByRecursion, list_any}
 use Rattle.std.proofs.lemmas.Bool.Decides.{nat_tests}
 use Rattle.xd_doc.specs.Document.{Document}
 use Rattle.xd_auto.specs.declared.auto.State.{State}
@@ -15,16 +15,18 @@ use Rattle.xd_boole.proofs.Bools.{and_left, and_right, and_both, or_left, or_rig
 pub same_number : (m n : ℕ) → nat_eq m n ≡ true → m ≡ n
 same_number m n e = grind (arith, nat_tests)
 
+-- what all states of a set fail a state of it fails
+pub has_fails : (p : State → Bool) (s : State) (states : List State) → has_state s states ≡ true → list_any p states ≡ false → p s ≡ false
+has_fails p s [] h e = absurd (cc)
+has_fails p s (t ∷ ts) h e = go (nat_eq t.number s.number) refl h (λ k. has_fails p s ts k (or_right (p t) (list_any p ts) e))
+  where
+    go : (b : Bool) → nat_eq t.number s.number ≡ b → (b || has_state s ts) ≡ true → (has_state s ts ≡ true → p s ≡ false) → p s ≡ false
+    go true same k more = ap (λ (n : ℕ). p (record { number = n })) (sym (same_number t.number s.number same)) ∙ or_left (p t) (list_any p ts) e
+    go false other k more = more k
+
 -- a state of a set that refuses the document refuses it
 pub has_refuses : (a : Automaton) (s : State) (states : List State) (d : Document) → has_state s states ≡ true → any_accepts a states d ≡ false → accepts a d s ≡ false
-has_refuses a s [] d h e = absurd (cc)
-has_refuses a s (t ∷ ts) d h e = go (nat_eq t.number s.number) refl h (λ k. has_refuses a s ts d k (or_right (accepts a d t) (any_accepts a ts d) e))
-  where
-    go : (b : Bool) → nat_eq t.number s.number ≡ b → (b || has_state s ts) ≡ true → (has_state s ts ≡ true → accepts a d s ≡ false) → accepts a d s ≡ false
-    go true same k more =
-        let number = same_number t.number s.number same in
-        ap (λ (n : ℕ). accepts a d (record { number = n })) (sym number) ∙ or_left (accepts a d t) (any_accepts a ts d) e
-    go false other k more = more k
+has_refuses a s states d h e = has_fails (accepts a d) s states h e
 
 -- a set within another refuses what that refuses
 pub within_refuses : (a : Automaton) (states others : List State) (d : Document) → is_within others states ≡ true → any_accepts a others d ≡ false → any_accepts a states d ≡ false

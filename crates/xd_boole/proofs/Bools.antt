@@ -1,5 +1,5 @@
 -- Equations of tests.
-use Rattle.std.proofs.Common.{◌≡◌, Bool, true, false, not, ◌&&◌, ◌||◌, refl, ap, sym, ◌∙◌}
+use Rattle.std.proofs.Common.{◌≡◌, Bool, true, false, not, ◌&&◌, ◌||◌, refl, ap, ◌∙◌}
 
 pub divided_inside : (x y s t : Bool) → (x && not y) ≡ false → (((x && y) && not (s || t)) || false) ≡ ((x && not s) && not (y && t))
 divided_inside true true true true h0 = refl
@@ -160,12 +160,6 @@ implied_by true k h = refl
 implied_by false true h = h refl
 implied_by false false h = refl
 
--- one more state's moves were taken from what is left of a class
-pub divided_state : (h old new l s t u : Bool) → old ≡ (h && not t) → new ≡ (old && not l) → (h ≡ true → l ≡ s) → u ≡ (t || s) → new ≡ (h && not u)
-divided_state false old new l s t u before step same all = step ∙ ap (λ w. w && not l) before
-divided_state true old new l s t u before step same all =
-    step ∙ ap (λ w. w && not l) before ∙ ap (λ w. not t && not w) (same refl) ∙ and_more true t s ∙ ap not (sym all)
-
 pub part_chosen : (h x y u v : Bool) → (h && ((x && not u) && (y && not v))) ≡ (h && ((x && y) && (not u && not v)))
 part_chosen false x y u v = refl
 part_chosen true false y u v = refl
@@ -182,13 +176,6 @@ part_group false false k = refl
 pub or_true : (b : Bool) → (b || true) ≡ true
 or_true true = refl
 or_true false = refl
-
--- what a part takes of a class
-pub part_class : (p h k : Bool) → (p && (h && k)) ≡ ((h && p) && k)
-part_class true true k = refl
-part_class true false k = refl
-part_class false true k = refl
-part_class false false k = refl
 
 pub and_where : (x y z : Bool) → (x ≡ true → y ≡ z) → (x && y) ≡ (x && z)
 and_where true y z e = e refl

@@ -1,6 +1,5 @@
 -- On choices of sides.
 use Rattle.std.proofs.Common.{◌≡◌, ℕ, ◌+◌, ◌<◌, ◌≤◌, Bool, true, false, not, ◌&&◌, ◌||◌, List, [], ◌∷◌, ◌++◌, take, length, get_or, refl, ap, sym, ◌∙◌, subst}
-use Rattle.std.specs.List.{list_any}
 use Rattle.std.proofs.lemmas.List.Folds.{list_any_at, list_any-append, list_any_more}
 use Rattle.xd_doc.specs.Document.{Document}
 use Rattle.xd_auto.specs.Automaton.{Automaton, accepts}
@@ -10,7 +9,7 @@ use Rattle.xd_boole.specs.Meaning.{any_accepts, has_state, is_state, is_within, 
 use Rattle.xd_empty.specs.Parts.{is_marked}
 use Rattle.xd_boole.specs.Groups.{AllPass, is_side, side_accepts}
 use Rattle.xd_boole.specs.Universal.{MarkUniversal}
-use Rattle.xd_boole.specs.Choices.{AddsChoice, AddsContent, AddsRest, AddsSide, AllChoices, CopiesChoices, ExtendsAll, IsChoiceOf, IsNoChoice, KeepsChoice, any_choice, choice_refuses}
+use Rattle.xd_boole.specs.Choices.{AddsChoice, AddsContent, AddsRest, AddsSide, AllChoices, CopiesChoices, IsChoiceOf, IsNoChoice, KeepsChoice, any_choice, choice_refuses}
 use Rattle.xd_boole.proofs.Lists.{all_at, all_front, all_last, all_push, any_walked}
 use Rattle.xd_boole.proofs.Bools.{and_false, and_left, and_right, drop_implied, either_side, implied_by, next_one, or_nothing, other_content, other_rest}
 use Rattle.xd_boole.proofs.AnyAcceptsLemmas.{has_refuses, with_state_accepts, with_state_all, within_refuses}
@@ -185,27 +184,6 @@ pub content_copied : (universal : List Bool) (side : MoveSide) (k copy : SideCho
 content_copied universal side k copy old new contents rests adds = record {
   refused = λ a u c d. adds.refused a u c d ∙ ap (λ w. any_choice a c d old || (w && not (accepts a c side.content))) (copy_refuses a c d k copy contents rests);
   states = λ a h e s. adds.states a h (copy_states a k copy contents rests e) s;
-}
-
--- the choices for the first of these moves
-pub record AreFirstChoices (universal : List Bool) (sides : List MoveSide) (i : ℕ) (choices : List SideChoice) : Type 0 where
-  pub refused : (a : Automaton) → MarkUniversal a universal → (c d : Document) → any_choice a c d choices ≡ not (list_any (side_accepts a c d) (take i sides))
-  pub states : (a : Automaton) → AllPass (is_side a) sides → AllChoices a choices
-
-not_or : (t s : Bool) → (not t && not s) ≡ not (t || s)
-not_or true s = refl
-not_or false s = refl
-
-pub choices_begin : (universal : List Bool) (sides : List MoveSide) (choices : List SideChoice) → IsNoChoice choices → AreFirstChoices universal sides 0 choices
-choices_begin universal sides choices none = record { refused = λ a u c d. none.refused a c d; states = λ a h. none.states a }
-
-pub choices_more : (universal : List Bool) (sides : List MoveSide) (i : ℕ) (side : MoveSide) (old new : List SideChoice) → i < length sides → side ≡ get_or sides i side → ExtendsAll universal side old new → AreFirstChoices universal sides i old → AreFirstChoices universal sides (i + 1) new
-choices_more universal sides i side old new lt at extends before = record {
-  refused = λ a u c d.
-      extends.refused a u c d ∙ ap (λ w. w && not (side_accepts a c d side)) (before.refused a u c d)
-      ∙ not_or (list_any (side_accepts a c d) (take i sides)) (side_accepts a c d side)
-      ∙ ap not (ap (λ w. list_any (side_accepts a c d) (take i sides) || side_accepts a c d w) at ∙ sym (list_any_more (side_accepts a c d) sides i side lt));
-  states = λ a h. extends.states a (before.states a h) (all_at (λ w. is_side a w ≡ true) sides h i side lt at);
 }
 
 -- no state need refuse

@@ -1,11 +1,11 @@
 -- How a group is divided by a move.
-use Rattle.std.proofs.Common.{◌≡◌, ℕ, zero, suc, ◌+◌, ◌<◌, length, take, get_or, Bool, true, false, not, ◌&&◌, ◌||◌, List, [], ◌∷◌, ◌++◌, Option, Some, None, refl, sym, ap, ◌∙◌, subst, arith}
-use Rattle.std.specs.List.{Contains, list_any}
-use Rattle.std.proofs.lemmas.List.Folds.{list_any-append, list_any_at, list_any_more}
+use Rattle.std.proofs.Common.{◌≡◌, ℕ, ◌+◌, ◌<◌, length, take, get_or, Bool, true, false, not, ◌&&◌, ◌||◌, List, [], ◌∷◌, ◌++◌, Option, Some, None, refl, sym, ap, ◌∙◌, subst}
+use Rattle.std.specs.List.{list_any}
+use Rattle.std.proofs.lemmas.List.Folds.{list_any-append, list_any_more}
 use Rattle.xd_boole.specs.declared.groups.Group.{Group}
-use Rattle.xd_boole.specs.Groups.{AddsInside, AddsOutside, AllPass, AllSides, Divides, HasSide, IsPartAdded, IsPartBy, any_group, group_refuses, passes_at}
+use Rattle.xd_boole.specs.Groups.{AddsInside, AddsOutside, AllPass, AllSides, Divides, HasSide, IsPartAdded, IsPartBy, any_group, group_refuses}
 use Rattle.xd_boole.proofs.Lists.{all_push, all_front, all_last}
-use Rattle.xd_boole.proofs.Bools.{and_more, divided_inside, divided_both, implied_by, next_one, or_join, or_nothing}
+use Rattle.xd_boole.proofs.Bools.{and_more, divided_inside, divided_both, next_one, or_join, or_nothing}
 
 or_false : (x y : Bool) → (x || (y || false)) ≡ (x || y)
 or_false true y = refl
@@ -25,26 +25,20 @@ side_added sides made side is = record {
   all = λ p h s. subst (AllPass p) (sym is) (all_push (λ w. p w ≡ true) sides side h s);
 }
 
-pub side_there : {S : Type 0} (sides made : List S) (side : S) → made ≡ sides → Contains sides side → HasSide sides side made
-side_there sides made side is among = record {
-  taken = λ p. ap (list_any p) is ∙ implied_by (list_any p sides) (p side) (λ e. list_any_at p sides among.0 side among.1 (ap p among.2 ∙ e));
-  all = λ p h s. subst (AllPass p) (sym is) h;
-}
-
-said_already : (h a c s : Bool) → (s ≡ true → a ≡ true) → ((h && not a) || false) ≡ ((h && not a) && not (c && s))
+said_already : (h a c s : Bool) → (a ≡ false → s ≡ false) → ((h && not a) || false) ≡ ((h && not a) && not (c && s))
 said_already false a c s e = refl
 said_already true true c s e = refl
-said_already true false true true e = let no : false ≡ true = e refl in absurd (cc)
+said_already true false true true e = let no : true ≡ false = e refl in absurd (cc)
 said_already true false true false e = refl
 said_already true false false s e = refl
 
 module _ {C S : Type 0} (has : C → List ℕ → Bool) (class : C) (side : S) where
   -- another move said the same of all names of the group
-  pub divides_there : (g : Group C S) (old new : List (Group C S)) → new ≡ old ++ g ∷ [] → Contains g.sides.items side → Divides has class side g old new
+  pub divides_there : (g : Group C S) (old new : List (Group C S)) → new ≡ old ++ g ∷ [] → ((p : S → Bool) → list_any p g.sides.items ≡ false → p side ≡ false) → Divides has class side g old new
   divides_there g old new is among = record {
     taken = λ p x.
         ap (any_group has p x) is ∙ list_any-append (group_refuses has p x) old (g ∷ [])
-        ∙ ap (λ w. any_group has p x old || w) (said_already (has g.class x) (list_any p g.sides.items) (has class x) (p side) (λ e. list_any_at p g.sides.items among.0 side among.1 (ap p among.2 ∙ e)));
+        ∙ ap (λ w. any_group has p x old || w) (said_already (has g.class x) (list_any p g.sides.items) (has class x) (p side) (among p));
     sides = λ p h k s. subst (AllSides p) (sym is) (all_push (λ (w : Group C S). AllPass p w.sides.items) old g h k);
   }
 
@@ -144,9 +138,3 @@ pub divided_by_more : {X : Type 0} (p : X → Bool) (xs : List X) (i : ℕ) (x :
 divided_by_more {X} p xs i x now next initial lt at step before =
     step ∙ ap (λ w. w && not (p x)) before ∙ and_more initial (list_any p (take i xs)) (p x)
     ∙ ap (λ w. initial && not w) (ap (λ w. list_any p (take i xs) || p w) at ∙ sym (list_any_more p xs i x lt))
-
--- the test of a number is that of the element there
-pub passes_there : {M : Type 0} (t : M → Bool) (ms : List M) (k : ℕ) (m : M) → k < length ms → m ≡ get_or ms k m → passes_at t ms k ≡ t m
-passes_there {M} t [] k m lt at = absurd (omega arith)
-passes_there {M} t (n ∷ ms) zero m lt at = ap t (sym at)
-passes_there {M} t (n ∷ ms) (suc k) m lt at = passes_there t ms k m (omega arith) at

@@ -1,12 +1,14 @@
 -- Which moves match names of a class.
-use Rattle.std.proofs.Common.{◌≡◌, ℕ, zero, suc, ◌<◌, Bool, true, false, ◌&&◌, ◌||◌, List, [], ◌∷◌, length, get_or, take, filter, nat_lt, cond, refl, sym, ap, ◌∙◌, arith}
+use Rattle.std.proofs.Common.{◌≡◌, ℕ, zero, suc, ◌<◌, Bool, true, false, ◌&&◌, ◌||◌, List, [], ◌∷◌, ◌++◌, ◌+◌, length, get_or, take, filter, nat_lt, cond, refl, sym, ap, subst, ◌∙◌, arith}
 use Rattle.std.specs.Cmp.{both_ways}
 use Rattle.std.specs.List.{list_any}
 use Rattle.std.proofs.lemmas.Bool.Decides.{nat_tests}
-use Rattle.std.proofs.lemmas.List.Folds.{list_any_at}
+use Rattle.std.proofs.lemmas.List.Folds.{list_any-append, list_any_at, list_any_more}
 use Rattle.xd_auto.specs.Matching.{AreMatching}
-use Rattle.xd_boole.specs.Groups.{passes_at}
-use Rattle.xd_boole.proofs.Bools.{and_left, or_true}
+use Rattle.xd_boole.specs.Groups.{AllPass, passes_at}
+use Rattle.xd_boole.specs.Matching.{AddsThose}
+use Rattle.xd_boole.proofs.Lists.{all_at, all_push}
+use Rattle.xd_boole.proofs.Bools.{and_left, or_join, or_nothing, or_true}
 
 passes_any : {M : Type 0} (t : M → Bool) (ms : List M) (k : ℕ) → passes_at t ms k ≡ true → list_any t ms ≡ true
 passes_any t [] k e = absurd (cc)
@@ -115,3 +117,32 @@ matching_before {M} has t step moves numbers n are x takes =
     first : {n : ℕ} (ms : List M) → n < length ms → M
     first [] lt = absurd (omega arith)
     first (m ∷ ms) lt = m
+
+-- ---- moves by their numbers
+
+-- the test of a number is that of the element there
+pub passes_there : {M : Type 0} (t : M → Bool) (ms : List M) (k : ℕ) (m : M) → k < length ms → m ≡ get_or ms k m → passes_at t ms k ≡ t m
+passes_there {M} t [] k m lt at = absurd (omega arith)
+passes_there {M} t (n ∷ ms) zero m lt at = ap t (sym at)
+passes_there {M} t (n ∷ ms) (suc k) m lt at = passes_there t ms k m (omega arith) at
+
+-- one of the moves by their numbers was added
+pub adds_none : {M : Type 0} (moves : List M) (numbers : List ℕ) (old : List M) → AddsThose moves (take 0 numbers) old old
+adds_none moves numbers old = record { taken = λ t. sym (or_nothing (list_any t old)); all = λ t h k. h }
+
+pub adds_more : {M : Type 0} (moves : List M) (numbers : List ℕ) (i k : ℕ) (m : M) (initial old new : List M) → i < length numbers → k ≡ get_or numbers i k → k < length moves → m ≡ get_or moves k m
+    → new ≡ old ++ m ∷ [] → AddsThose moves (take i numbers) initial old → AddsThose moves (take (i + 1) numbers) initial new
+adds_more {M} moves numbers i k m initial old new lt at within is added before = record {
+  taken = λ t.
+      ap (list_any t) added ∙ list_any-append t old (m ∷ []) ∙ ap (λ w. list_any t old || w) (or_nothing (t m))
+      ∙ ap (λ w. w || t m) (before.taken t) ∙ or_join (list_any t initial) (list_any (passes_at t moves) (take i numbers)) (t m)
+      ∙ ap (λ w. list_any t initial || w)
+      (ap (λ w. list_any (passes_at t moves) (take i numbers) || w) (sym (passes_there t moves k m within is)) ∙ number_more (passes_at t moves) numbers i k lt at);
+  all = λ t h all. subst (AllPass t) (sym added) (all_push (λ w. t w ≡ true) old m (before.all t h all) (all_at (λ w. t w ≡ true) moves all k m within is));
+}
+  where
+    number_more : (p : ℕ → Bool) (ks : List ℕ) (n j : ℕ) → n < length ks → j ≡ get_or ks n j → (list_any p (take n ks) || p j) ≡ list_any p (take (n + 1) ks)
+    number_more p ks n j l e = ap (λ w. list_any p (take n ks) || p w) e ∙ sym (list_any_more p ks n j l)
+
+pub adds_all : {M : Type 0} (moves : List M) (numbers : List ℕ) (i : ℕ) (old new : List M) → take i numbers ≡ numbers → AddsThose moves (take i numbers) old new → AddsThose moves numbers old new
+adds_all moves numbers i old new whole h = subst (λ ks. AddsThose moves ks old new) whole h

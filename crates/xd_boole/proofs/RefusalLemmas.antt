@@ -1,7 +1,7 @@
 -- How a class is put into groups, with the choices by which what stands before a label is refused.
 use Rattle.std.proofs.Common.{◌≡◌, ℕ, ◌+◌, ◌<◌, ◌≤◌, length, length-append, take, get_or, Bool, true, false, not, ◌&&◌, ◌||◌, List, [], ◌∷◌, ◌++◌, Some, None, refl, sym, ap, ◌∙◌, subst, arith}
 use Rattle.std.specs.List.{list_any}
-use Rattle.std.proofs.lemmas.List.Folds.{list_any-append, list_any_more}
+use Rattle.std.proofs.lemmas.List.Folds.{list_any-append}
 use Rattle.xd_doc.specs.ClassForms.{IsPart}
 use Rattle.xd_doc.specs.Classes.{LabelClass, class_has}
 use Rattle.xd_auto.specs.declared.auto.LabelMove.{LabelMove}
@@ -11,34 +11,13 @@ use Rattle.xd_boole.specs.declared.refusals.Narrowed.{Narrowed}
 use Rattle.xd_boole.specs.declared.refusals.Parted.{Parted}
 use Rattle.xd_boole.specs.declared.refusals.LabelRefusal.{LabelRefusal}
 use Rattle.xd_boole.specs.Meaning.{ElementFirst, move_takes}
-use Rattle.xd_boole.specs.Groups.{AddsThose, AllPass, is_side, label_side, passes_at, side_accepts}
+use Rattle.xd_boole.specs.Groups.{is_side, label_side, side_accepts}
 use Rattle.xd_boole.specs.Choices.{AllChoices, CopiesChoices, ExtendsAll, any_choice}
 use Rattle.xd_boole.specs.Refusals.{AddsRefusals, AllRefusals, LeadInside, Narrows, NarrowsMore, Parts, any_refused, is_refused_by, label_refused}
 use Rattle.xd_boole.specs.Universal.{MarkUniversal}
 use Rattle.xd_boole.proofs.Lists.{all_at, all_front, all_last, all_push, any_walked}
-use Rattle.xd_boole.proofs.Bools.{or_join, or_nothing}
-use Rattle.xd_boole.proofs.DividesLemmas.{divided_by_more, passes_there}
-
--- one of the moves by their numbers was added
-pub adds_none : {M : Type 0} (moves : List M) (numbers : List ℕ) (old : List M) → AddsThose moves (take 0 numbers) old old
-adds_none moves numbers old = record { taken = λ t. sym (or_nothing (list_any t old)); all = λ t h k. h }
-
-pub adds_more : {M : Type 0} (moves : List M) (numbers : List ℕ) (i k : ℕ) (m : M) (initial old new : List M) → i < length numbers → k ≡ get_or numbers i k → k < length moves → m ≡ get_or moves k m
-    → new ≡ old ++ m ∷ [] → AddsThose moves (take i numbers) initial old → AddsThose moves (take (i + 1) numbers) initial new
-adds_more {M} moves numbers i k m initial old new lt at within is added before = record {
-  taken = λ t.
-      ap (list_any t) added ∙ list_any-append t old (m ∷ []) ∙ ap (λ w. list_any t old || w) (or_nothing (t m))
-      ∙ ap (λ w. w || t m) (before.taken t) ∙ or_join (list_any t initial) (list_any (passes_at t moves) (take i numbers)) (t m)
-      ∙ ap (λ w. list_any t initial || w)
-      (ap (λ w. list_any (passes_at t moves) (take i numbers) || w) (sym (passes_there t moves k m within is)) ∙ number_more (passes_at t moves) numbers i k lt at);
-  all = λ t h all. subst (AllPass t) (sym added) (all_push (λ w. t w ≡ true) old m (before.all t h all) (all_at (λ w. t w ≡ true) moves all k m within is));
-}
-  where
-    number_more : (p : ℕ → Bool) (ks : List ℕ) (n j : ℕ) → n < length ks → j ≡ get_or ks n j → (list_any p (take n ks) || p j) ≡ list_any p (take (n + 1) ks)
-    number_more p ks n j l e = ap (λ w. list_any p (take n ks) || p w) e ∙ sym (list_any_more p ks n j l)
-
-pub adds_all : {M : Type 0} (moves : List M) (numbers : List ℕ) (i : ℕ) (old new : List M) → take i numbers ≡ numbers → AddsThose moves (take i numbers) old new → AddsThose moves numbers old new
-adds_all moves numbers i old new whole h = subst (λ ks. AddsThose moves ks old new) whole h
+use Rattle.xd_boole.proofs.Bools.{or_nothing}
+use Rattle.xd_boole.proofs.DividesLemmas.{divided_by_more}
 
 -- on the labels of the class one move more is to be refused
 less_none : (c s n : Bool) → n ≡ false → c ≡ (c && not n)

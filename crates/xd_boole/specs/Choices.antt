@@ -63,8 +63,3 @@ pub record IsNoChoice (choices : List SideChoice) : Type 0 where
 pub record CopiesChoices (choices copies : List SideChoice) : Type 0 where
   pub refused : (a : Automaton) (c d : Document) → any_choice a c d copies ≡ any_choice a c d choices
   pub states : (a : Automaton) → AllChoices a choices → AllChoices a copies
-
--- the choices for these moves
-pub record AreChoices (universal : List Bool) (sides : List MoveSide) (choices : List SideChoice) : Type 0 where
-  pub refused : (a : Automaton) → MarkUniversal a universal → (c d : Document) → any_choice a c d choices ≡ not (list_any (side_accepts a c d) sides)
-  pub states : (a : Automaton) → AllPass (is_side a) sides → AllChoices a choices

@@ -2,13 +2,13 @@
 use Rattle.std.specs.Prelude.{◌≡◌, ℕ, zero, suc, Bool, true, false, not, cond, ◌&&◌, ◌||◌, List, [], ◌∷◌, ◌++◌, take, Option, Some, None}
 use Rattle.std.specs.List.{AllByRecursion, list_any}
 use Rattle.xd_doc.specs.Document.{Document}
-use Rattle.xd_doc.specs.Classes.{LabelClass, TextClass, class_has}
+use Rattle.xd_doc.specs.Classes.{TextClass, class_has}
 use Rattle.xd_auto.specs.declared.auto.State.{State}
 use Rattle.xd_auto.specs.declared.auto.LabelMove.{LabelMove}
 use Rattle.xd_auto.specs.Automaton.{Automaton, accepts, moves_at}
 use Rattle.xd_boole.specs.declared.groups.MoveSide.{MoveSide}
 use Rattle.xd_boole.specs.declared.groups.Group.{Group}
-use Rattle.xd_boole.specs.Meaning.{ElementFirst, TextFirst, any_accepts, element_of, move_takes, text_of, text_takes, is_state}
+use Rattle.xd_boole.specs.Meaning.{TextFirst, any_accepts, text_of, text_takes, is_state}
 
 -- what the first class has that is in the second, or outside of it; no class where that is nothing
 abbrev pub IsPartBy : {C : Type 0} → (C → List ℕ → Bool) → Bool → C → C → Option C → Type 0
@@ -68,16 +68,6 @@ passes_at t [] k = false
 passes_at t (m ∷ ms) zero = t m
 passes_at t (m ∷ ms) (suc k) = passes_at t ms k
 
--- each group was divided by the moves of these numbers
-pub record DividesBy {C S M : Type 0} (has : C → List ℕ → Bool) (class_of : M → C) (side_of : M → S) (moves : List M) (numbers : List ℕ) (old new : List (Group C S)) : Type 0 where
-  pub taken : (p : S → Bool) (x : List ℕ) → any_group has p x new ≡ (any_group has p x old && not (list_any (passes_at (λ m. has (class_of m) x && p (side_of m)) moves) numbers))
-  pub sides : (p : S → Bool) → AllSides p old → AllByRecursion (λ m. p (side_of m) ≡ true) moves → AllSides p new
-
--- the moves of these numbers were put after others
-pub record AddsThose {M : Type 0} (moves : List M) (numbers : List ℕ) (old new : List M) : Type 0 where
-  pub taken : (t : M → Bool) → list_any t new ≡ (list_any t old || list_any (passes_at t moves) numbers)
-  pub all : (t : M → Bool) → AllPass t old → AllPass t moves → AllPass t new
-
 abbrev pub label_side : LabelMove → MoveSide
 label_side m = record { content = m.content; rest = m.rest }
 
@@ -88,22 +78,7 @@ side_accepts a c d s = accepts a c s.content && accepts a d s.rest
 abbrev pub is_side : Automaton → MoveSide → Bool
 is_side a s = is_state a s.content && is_state a s.rest
 
--- the labels of the class in groups, by the moves of these states
-pub record AreLabelGroups (a : Automaton) (class : LabelClass) (states : List State) (groups : List (Group LabelClass MoveSide)) : Type 0 where
-  pub taken : (q : ElementFirst) → any_group class_has (side_accepts a q.content q.rest) q.label groups ≡ (class_has class q.label && not (any_accepts a states (element_of q)))
-  pub sides : AllSides (is_side a) groups
-
--- the texts of the class in groups, by the moves of these states
-pub record AreTextGroups (a : Automaton) (class : TextClass) (states : List State) (groups : List (Group TextClass State)) : Type 0 where
-  pub taken : (q : TextFirst) → any_group class_has (λ s. accepts a q.rest s) q.characters groups ≡ (class_has class q.characters && not (any_accepts a states (text_of q)))
-  pub sides : AllSides (is_state a) groups
-
--- the same, by the moves of these states and by the first moves of one more
-pub record AreLabelGroupsBefore (a : Automaton) (class : LabelClass) (states : List State) (own : State) (place : ℕ) (groups : List (Group LabelClass MoveSide)) : Type 0 where
-  pub taken : (q : ElementFirst) → any_group class_has (side_accepts a q.content q.rest) q.label groups
-      ≡ (class_has class q.label && not (any_accepts a states (element_of q) || list_any (move_takes a q) (take place (moves_at a own).labels)))
-  pub sides : AllSides (is_side a) groups
-
+-- the texts of the class in groups, by the moves of these states and by the first moves of one more
 pub record AreTextGroupsBefore (a : Automaton) (class : TextClass) (states : List State) (own : State) (place : ℕ) (groups : List (Group TextClass State)) : Type 0 where
   pub taken : (q : TextFirst) → any_group class_has (λ s. accepts a q.rest s) q.characters groups
       ≡ (class_has class q.characters && not (any_accepts a states (text_of q) || list_any (text_takes a q) (take place (moves_at a own).texts)))

@@ -1,5 +1,6 @@
 pub mod Meaning
 pub mod Groups
+pub mod Matching
 pub mod Universal
 pub mod Choices
 pub mod Points

@@ -18,11 +18,6 @@ use Rattle.xd_boole.specs.Universal.{MarkUniversal}
 abbrev pub LeadInside : Automaton → List LabelMove → Type 0
 LeadInside a moves = AllPass (λ m. is_side a (label_side m)) moves
 
--- moves that on the labels of a class take what the moves of these states do
-pub record AreMovesOf (a : Automaton) (class : LabelClass) (states : List State) (moves : List LabelMove) : Type 0 where
-  pub taken : (q : ElementFirst) → class_has class q.label ≡ true → list_any (move_takes a q) moves ≡ any_accepts a states (element_of q)
-  pub inside : LeadInside a moves
-
 -- moves that on the labels of a class take what the moves of these states do, and the first moves
 -- of one more
 pub record AreMovesOn (a : Automaton) (class : LabelClass) (states : List State) (own : State) (place : ℕ) (moves : List LabelMove) : Type 0 where

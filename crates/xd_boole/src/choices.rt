@@ -2,7 +2,7 @@
 
 ghost use Rattle.std.specs.Prelude.{◌≡◌, ◌||◌, ◌&&◌, Bool, List, IfOk, OnOk};
 ghost use Rattle.xd_boole.specs.Meaning.{has_state, is_within};
-ghost use Rattle.xd_boole.specs.Choices.{AddsChoice, AddsContent, AddsRest, AddsSide, AreChoices, CopiesChoices, ExtendsAll, IsNoChoice, KeepsChoice};
+ghost use Rattle.xd_boole.specs.Choices.{AddsChoice, AddsContent, AddsRest, AddsSide, CopiesChoices, ExtendsAll, IsNoChoice, KeepsChoice};
 
 use crate::groups::MoveSide;
 use crate::states::{has_state, is_within, put_state};
@@ -170,22 +170,6 @@ pub(crate) fn no_choice(alloc: Global) -> Result<Vec<SideChoice>, NoMemory>
         contents: Vec::new(alloc),
         rests: Vec::new(alloc),
     })?;
-    Ok(choices)
-}
-
-/// The choices by which an element is refused by all matching moves, without those that would have
-/// a state refuse that is known to accept everything. Fails only where memory is refused.
-pub fn choices_of(
-    alloc: Global,
-    sides: &[MoveSide],
-    universal: &[bool],
-) -> Result<Vec<SideChoice>, NoMemory>
-    ensures { IfOk result (λ made. AreChoices universal.now sides.now made.items) }
-{
-    let mut choices = no_choice(alloc)?;
-    for side in sides {
-        choices = extend_all(alloc, choices, *side, universal)?;
-    }
     Ok(choices)
 }
 

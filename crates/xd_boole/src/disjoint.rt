@@ -9,7 +9,8 @@ ghost use Rattle.xd_boole.specs.Points.{MoveBelow, TextBelow};
 ghost use Rattle.xd_boole.specs.Refusals.{LeadInside};
 
 use crate::classes::{are_apart, are_texts_apart};
-use crate::groups::{MoveSide, share_move, side_of};
+use crate::groups::{MoveSide, side_of};
+use crate::matching::Step;
 use std::alloc::Global;
 use xd_auto::{Auto, LabelMove, State, TextMove};
 use xd_doc::NoMemory;
@@ -155,7 +156,7 @@ pub fn near_moves(
         if are_sides_disjoint(one, part, two, side_of(step)) {
             continue;
         }
-        near.push(share_move(step)?)?;
+        near.push(step.share()?)?;
     }
     Ok(near)
 }

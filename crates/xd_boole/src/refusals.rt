@@ -1,19 +1,17 @@
 //! The labels of a class in groups, with the choices by which what they stand before is refused.
 
-ghost use Rattle.std.specs.Prelude.{◌≡◌, ◌<◌, length, OnOk, IfOk};
-ghost use Rattle.std.specs.List.{All, AllByRecursion};
-ghost use Rattle.xd_auto.specs.Automaton.{IsState};
+ghost use Rattle.std.specs.Prelude.{◌<◌, length, OnOk, IfOk};
 ghost use Rattle.xd_boole.specs.Choices.{AllChoices};
-ghost use Rattle.xd_boole.specs.Groups.{AddsThose};
-ghost use Rattle.xd_boole.specs.Refusals.{AddsRefusals, AreLabelRefusals, AreMovesOf, AreMovesOn, LeadInside, Narrows, NarrowsMore, Parts};
+ghost use Rattle.xd_boole.specs.Refusals.{AddsRefusals, AreLabelRefusals, LeadInside, Narrows, NarrowsMore, Parts};
 ghost use Rattle.xd_boole.specs.Universal.{MarkUniversal};
 
 use crate::choices::{SideChoice, copy_choices, extend_all, no_choice};
 use crate::classes::{are_apart, has_all_of};
-use crate::groups::{below, share_move, side_of};
+use crate::groups::side_of;
+use crate::matching::Step;
 use crate::taken::Taken;
 use std::alloc::Global;
-use xd_auto::{Auto, LabelMove, Move, State};
+use xd_auto::LabelMove;
 use xd_doc::{Class, NoMemory};
 
 /// How often a class is divided in halves at most, before it is divided by one move after the
@@ -44,63 +42,6 @@ struct Parted {
     depth: usize,
 }
 
-/// Puts the moves of these numbers after others.
-fn add_moves(
-    made: &mut Vec<LabelMove>,
-    moves: &[LabelMove],
-    numbers: &[usize],
-) -> Result<(), NoMemory>
-    requires { All (λ k. k < length moves.now) numbers.now }
-    ensures { OnOk result (AddsThose moves.now numbers.now made.old.items made.new.items) }
-{
-    for number in numbers {
-        made.push(share_move(&moves[*number])?)?;
-    }
-    Ok(())
-}
-
-/// The moves of these states that match a move.
-fn moves_of(
-    alloc: Global,
-    auto: &Auto,
-    step: &LabelMove,
-    states: &[State],
-) -> Result<Vec<LabelMove>, NoMemory>
-    requires { AllByRecursion (IsState auto.now) states.now }
-    ensures { IfOk result (λ made. AreMovesOf auto.now step.now.class states.now made.items) }
-{
-    let mut made = Vec::new(alloc);
-    for state in states {
-        let numbers = step.matching(alloc, auto, *state)?;
-        add_moves(&mut made, auto.label_moves(*state), &numbers)?;
-    }
-    Ok(made)
-}
-
-/// The moves of these states that match a move, and those of one more state that stand before a
-/// place. Fails only where memory is refused.
-pub fn moves_before(
-    alloc: Global,
-    auto: &Auto,
-    step: &LabelMove,
-    states: &[State],
-    own: State,
-    place: usize,
-) -> Result<Vec<LabelMove>, NoMemory>
-    requires states { AllByRecursion (IsState auto.now) states.now }
-    requires own { IsState auto.now own }
-    ensures { IfOk result (λ made. AreMovesOn auto.now step.now.class states.now own place made.items) }
-{
-    let mut made = moves_of(alloc, auto, step, states)?;
-    if place == 0 {
-        return Ok(made);
-    }
-    let numbers = step.matching(alloc, auto, own)?;
-    let earlier = below(alloc, &numbers, place)?;
-    add_moves(&mut made, auto.label_moves(own), &earlier)?;
-    Ok(made)
-}
-
 /// One move more is to be refused: where it matches the whole class the choices are extended by it,
 /// and where it matches none of it nothing is to be done.
 fn narrow_more(
@@ -121,7 +62,7 @@ fn narrow_more(
         return Ok(Narrowed { choices, moves });
     }
     let mut moves = moves;
-    moves.push(share_move(step)?)?;
+    moves.push(step.share()?)?;
     Ok(Narrowed { choices, moves })
 }
 

@@ -7,9 +7,7 @@ use crate::solved::show_solved;
 use std::alloc::Global;
 use std::io::Write;
 use xd_auto::{Auto, State, StateKey};
-use xd_boole::{
-    MoveSide, choices_of, label_groups_before, merged, set_of, taken_from, text_groups_before,
-};
+use xd_boole::{merged, set_of, taken_from, text_groups_before};
 use xd_calls_lines::{Call, CallError, class, show_answer, show_class, show_words, words};
 use xd_calls_programs::{show_members, state_of};
 use xd_empty::{Uses, kept_part};
@@ -17,20 +15,18 @@ use xd_rules::{Atom, goal_cases, label_atoms, share, sides_of, text_atoms, unnam
 use xd_show_solve::level_of;
 
 /// `set_of NUMBERS`; `keys ONE TWO`, whether the key of the one before the other comes before that
-/// of the other before the one; `choices CONTENT REST`, in how many ways an element is refused that
-/// a move with this content and this rest would take; `level TYPE`, to how many states the type's
-/// state leads after items, itself included; `cases TYPE`, each head that the type's state begins
-/// with, at each of its atoms, and how many heads match there; `unnamed TYPE`; `kept TYPE MARK
-/// DOCUMENTS`, with `all` states marked or `none`; `merged TYPE DOCUMENTS`; `taken TYPE DOCUMENTS`;
-/// `solved TYPE`, the type of what the type's state accepts, with `Any` for each content; `uses
-/// TYPE`, whether moves wait at first, and whether they do once the type's state is found; `groups
-/// TYPE PLACE`, in how many groups the names of its first moves fall by its moves before this
-/// place; `label_atoms CLASS` and `text_atoms CLASS`, the atoms of a class where it alone is named.
+/// of the other before the one; `level TYPE`, to how many states the type's state leads after items,
+/// itself included; `cases TYPE`, each head that the type's state begins with, at each of its atoms,
+/// and how many heads match there; `unnamed TYPE`; `kept TYPE MARK DOCUMENTS`, with `all` states
+/// marked or `none`; `merged TYPE DOCUMENTS`; `taken TYPE DOCUMENTS`; `solved TYPE`, the type of what
+/// the type's state accepts, with `Any` for each content; `uses TYPE`, whether moves wait at first,
+/// and whether they do once the type's state is found; `groups TYPE PLACE`, in how many groups the
+/// texts of its first move on a text fall by its moves before this place; `label_atoms CLASS` and
+/// `text_atoms CLASS`, the atoms of a class where it alone is named.
 pub fn states(call: &Call<'_>, out: &mut Vec<u8>) -> Result<(), CallError> {
     match call.name {
         "set_of" => show_set(call, out),
         "keys" => show_keys(call, out),
-        "choices" => show_choices(call, out),
         "label_atoms" => show_label_atoms(call, out),
         "text_atoms" => show_text_atoms(call, out),
         _ => {
@@ -99,17 +95,6 @@ fn show_keys(call: &Call<'_>, out: &mut Vec<u8>) -> Result<(), CallError> {
     let second = StateKey::new(call.alloc, two, &[one])?;
     let answer = if first < second { "yes\n" } else { "no\n" };
     out.extend_from_slice(answer.as_bytes())?;
-    Ok(())
-}
-
-fn show_choices(call: &Call<'_>, out: &mut Vec<u8>) -> Result<(), CallError> {
-    let auto = ten_states(call.alloc)?;
-    let one = MoveSide {
-        content: numbered(&auto, call.size(0)?)?,
-        rest: numbered(&auto, call.size(1)?)?,
-    };
-    let choices = choices_of(call.alloc, &[one], &[])?;
-    writeln!(out, "{} choices", choices.len())?;
     Ok(())
 }
 
@@ -211,10 +196,6 @@ fn show_groups(
     requires { IsState auto.now state }
 {
     let place = call.size(1)?;
-    if let Some(step) = auto.label_moves(state).first() {
-        let groups = label_groups_before(call.alloc, auto, step, &[], state, place)?;
-        writeln!(out, "{} groups of labels", groups.len())?;
-    }
     if let Some(step) = auto.text_moves(state).first() {
         let groups = text_groups_before(call.alloc, auto, step, &[], state, place)?;
         writeln!(out, "{} groups of texts", groups.len())?;

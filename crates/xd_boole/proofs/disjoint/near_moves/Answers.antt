@@ -36,7 +36,7 @@ loop-step-preserved c =
     let next = all_step (λ m. is_side b (label_side m) ≡ true) moves i m c.loop-step-test.true c.step-item.is c.loop-step.invariant.left in
     record {
       near = near_kept c.args.one.now b c.args.part moves i m c.loop-step-test.true c.step-item.is c.loop-step.near.items c.loop-step.invariant.near c.push.new.self.items
-          (c.in_ok-push.ensures.items ∙ ap (λ (x : LabelMove). c.loop-step.near.items ++ x ∷ []) c.in_ok-share_move.ensures);
+          (c.in_ok-push.ensures.items ∙ ap (λ (x : LabelMove). c.loop-step.near.items ++ x ∷ []) c.in_ok-share.ensures);
       left = next.1;
     }
 

@@ -16,4 +16,4 @@ pub returns : goal.returns
 returns c =
     let made : Narrowed = record { choices = c.args.narrowed.choices; moves = c.push.new.self } in
     narrows_part c.args.universal.now c.args.class.now c.args.step.now c.args.narrowed made refl
-    (c.in_ok-push.ensures.items ∙ ap (λ (x : LabelMove). c.args.narrowed.moves.items ++ x ∷ []) c.in_ok-share_move.ensures)
+    (c.in_ok-push.ensures.items ∙ ap (λ (x : LabelMove). c.args.narrowed.moves.items ++ x ∷ []) c.in_ok-share.ensures)

@@ -1,6 +1,0 @@
-use Rattle.std.proofs.Common.{take}
-use Rattle.xd_boole.specs.Groups.{AddsThose}
-use Rattle.xd_boole.proofs.refusals.add_moves.Given as goal
-
-abbrev pub invariant-loop-number : goal.invariant-loop-number
-invariant-loop-number l = AddsThose l.moves (take l.number-index l.numbers) l.initial.made.items l.made.items
